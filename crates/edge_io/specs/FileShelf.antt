@@ -1,0 +1,11 @@
+-- What a shelf over the files of the system is.
+use Rattle.std.specs.Prelude.{ℕ}
+use Rattle.edge_io.specs.declared.file_shelf.FileShelf.{FileShelf}
+
+-- its count of faults
+abbrev pub faults_of : {R : Type 0} → FileShelf R → ℕ
+faults_of shelf = shelf.faults
+
+-- its count of files found too long
+abbrev pub long_files_of : {R : Type 0} → FileShelf R → ℕ
+long_files_of shelf = shelf.long_files

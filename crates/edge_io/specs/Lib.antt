@@ -1,0 +1,9 @@
+pub mod Contents
+pub mod Count
+pub mod Cuts
+pub mod FileShelf
+pub mod Files
+pub mod MemoryShelf
+pub mod MemorySink
+pub mod StreamSink
+pub mod Written

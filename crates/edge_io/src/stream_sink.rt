@@ -1,0 +1,155 @@
+// The sinks over the standard streams.
+ghost use Rattle.std.specs.Prelude.{◌≡◌, ℕ, None, OnOk, OnErr, IsErr, take};
+ghost use Rattle.std.specs.Io.KnownBytes.{Appends};
+ghost use Rattle.edge_io.specs.Count.{Rose, NeverFalls, Counts};
+
+use crate::{PutFailed, Sink};
+use std::io::{ErrorKind, Stderr, Stdout, Write};
+
+/// A stream of the system, such as standard output. It doesn't tell its bytes.
+#[derive(Drop)]
+pub struct StreamSink<W> {
+    stream: W,
+    faults: u64,
+}
+
+impl StreamSink<Stdout> {
+    ghost use Rattle.edge_io.specs.StreamSink.{faults_of};
+
+    /// Standard output. The count of faults is 0.
+    pub fn out(stream: Stdout) -> StreamSink<Stdout>
+        ensures { faults_of result ≡ 0 }
+    {
+        StreamSink { stream, faults: 0 }
+    }
+}
+
+impl StreamSink<Stderr> {
+    ghost use Rattle.edge_io.specs.StreamSink.{faults_of};
+
+    /// Standard error. The count of faults is 0.
+    pub fn err(stream: Stderr) -> StreamSink<Stderr>
+        ensures { faults_of result ≡ 0 }
+    {
+        StreamSink { stream, faults: 0 }
+    }
+}
+
+impl<W: Write + Drop> Sink for StreamSink<W> {
+    ghost use Rattle.edge_io.specs.StreamSink.{stream_of, faults_of};
+
+    ghost faults = { faults_of };
+
+    ghost written = { λ _. None };
+
+    fn put(&mut self, piece: &[u8]) -> Result<(), PutFailed>
+        // What every sink ensures, of one that tells no bytes.
+        ensures faults { NeverFalls (faults_of self.old) (faults_of self.new) }
+        ensures failed { OnErr result (Rose (faults_of self.old) (faults_of self.new)) }
+
+        ensures faults_count { Counts (IsErr result) (faults_of self.old) (faults_of self.new) }
+
+        // Where the stream itself tells its bytes, the piece is behind them, or at a fault a prefix of it.
+        ensures taken { OnOk result
+            (Appends (W.contents (stream_of self.old)) (W.contents (stream_of self.new)) piece.now) }
+        ensures front { OnErr result ((n : ℕ)
+            × Appends (W.contents (stream_of self.old)) (W.contents (stream_of self.new)) (take n piece.now)) }
+    {
+        let outcome = write_whole(&mut self.stream, piece);
+        if outcome.is_err() {
+            self.faults = self.faults.saturating_add(1);
+        }
+        outcome
+    }
+}
+
+// Writes the piece, or a prefix of it where the stream fails.
+fn write_whole<W: Write>(stream: &mut W, piece: &[u8]) -> Result<(), PutFailed>
+    ensures ok { OnOk result (Appends (W.contents stream.old) (W.contents stream.new) piece.now) }
+    ensures front { OnErr result ((n : ℕ) × Appends (W.contents stream.old) (W.contents stream.new) (take n piece.now)) }
+{
+    let mut rest = piece;
+    for _ in 0..u64::MAX {
+        if rest.is_empty() {
+            return Ok(());
+        }
+        match stream.write(rest) {
+            Ok(0) => return Err(PutFailed),
+            Ok(count) => rest = &rest[count..],
+            Err(error) => {
+                if error.kind() != ErrorKind::Interrupted {
+                    return Err(PutFailed);
+                }
+            }
+        }
+    }
+    Err(PutFailed)
+}
+
+#[cfg(test)]
+mod tests {
+    use super::*;
+    use std::io;
+    use std::test::Fail;
+
+    // A stream that takes three bytes at a time, stops to be called again at its second call,
+    // and takes no more once `room` is used up.
+    #[derive(Drop)]
+    struct Narrow {
+        taken: Vec<u8>,
+        room: usize,
+        calls: u8,
+    }
+
+    impl Write for Narrow {
+        fn write(&mut self, buf: &[u8]) -> io::Result<usize> {
+            self.calls = self.calls.saturating_add(1);
+            if self.calls == 2 {
+                return Err(io::Error::from(ErrorKind::Interrupted));
+            }
+            let count = buf.len().min(self.room).min(3);
+            self.taken.extend_from_slice(&buf[..count])?;
+            self.room -= count;
+            Ok(count)
+        }
+
+        fn flush(&mut self) -> io::Result<()> {
+            Ok(())
+        }
+    }
+
+    #[test]
+    fn a_piece_is_written_whole_or_a_fault_is_counted(rt: HostRuntime) -> Result<(), Fail> {
+        // The room, whether the piece "abcdefgh" is taken, the bytes that are, and the faults.
+        let rows = [
+            (20, true, "abcdefgh", 0),
+            (8, true, "abcdefgh", 0),
+            (7, false, "abcdefg", 1),
+            (3, false, "abc", 1),
+            (0, false, "", 1),
+        ];
+        for (room, taken, bytes, faults) in rows {
+            let stream = Narrow {
+                taken: Vec::new(rt.alloc()),
+                room,
+                calls: 0,
+            };
+            let mut sink = StreamSink { stream, faults: 0 };
+            assert_eq!(rt; sink.put(b"abcdefgh").is_ok(), taken, "{room}");
+            assert_eq!(rt; sink.stream.taken.as_slice(), bytes.as_bytes(), "{room}");
+            assert_eq!(rt; sink.faults, faults, "{room}");
+        }
+        Ok(())
+    }
+
+    #[test]
+    fn one_piece_is_put_to_each_stream(rt: HostRuntime) -> Result<(), Fail> {
+        let mut out = StreamSink::out(rt.stdout());
+        let mut err = StreamSink::err(rt.stderr());
+        out.put(b"one piece\n")?;
+        err.put(b"another piece\n")?;
+        out.put(b"")?;
+        assert_eq!(rt; (out.faults, err.faults), (0, 0));
+        Ok(())
+    }
+}
