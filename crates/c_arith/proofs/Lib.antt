@@ -1,0 +1,4 @@
+pub mod IntTypeLaws
+pub mod Machine
+pub mod OperatorLaws
+pub mod Wrapping

@@ -1,0 +1,2 @@
+pub mod IntType
+pub mod Operators
