@@ -1,0 +1,15 @@
+use Rattle.std.proofs.Common.{◌-◌, ◌%◌, ◌≡◌, ℕ, ◌<◌, ◌≤◌, ◌↔◌, IsFalse, get_or, length}
+use Rattle.std.specs.Int.Bits.{bit_or}
+use Rattle.bit_rows.proofs.kernel.join_vectors.Given as goal
+
+abbrev pub invariant-loop-at : goal.invariant-loop-at
+invariant-loop-at l = record {
+  aligned : l.at % 8 ≡ 0;
+  within : l.at ≤ length l.to;
+  joined : (k : ℕ) → k < l.at → get_or l.to k 0 ≡ bit_or (get_or l.fn.to k 0) (get_or l.from k 0);
+  rest : (k : ℕ) → l.at ≤ k → get_or l.to k 0 ≡ get_or l.fn.to k 0;
+  told : IsFalse l.changed ↔ (l.to ≡ l.fn.to);
+}
+
+abbrev pub decreases-loop-at : goal.decreases-loop-at
+decreases-loop-at l = length l.to - l.at
