@@ -1,0 +1,16 @@
+use Rattle.std.proofs.Common.{◌≡◌, ◌++◌, map, take}
+use Rattle.c_language.specs.Layout.{body_lines, arms_lines}
+use Rattle.c_print.specs.Arms.{arm_laid}
+use Rattle.c_print.proofs.statements.+statement.Given as goal
+
+abbrev pub invariant-arms-loop-one : goal.invariant-arms-loop-one
+invariant-arms-loop-one l = record {
+  lines : l.out ≡ l.initial.out ++ arms_lines (map (arm_laid l.program) (take l.one-index l.all)) l.initial.margin;
+  level : l.margin ≡ l.initial.margin;
+}
+
+abbrev pub invariant-statements-loop-one : goal.invariant-statements-loop-one
+invariant-statements-loop-one l = record {
+  lines : l.out ≡ l.initial.out ++ body_lines l.program l.initial.margin (take l.one-index l.all);
+  level : l.margin ≡ l.initial.margin;
+}

@@ -1,0 +1,4 @@
+pub mod Signs
+pub mod Lists
+pub mod Levels
+pub mod Arms

@@ -1,0 +1,4 @@
+pub mod LayerLemmas
+pub mod NumberedLemmas
+pub mod SearchLemmas
+pub mod UnlinedLemmas
