@@ -1,0 +1,9 @@
+pub mod Completion
+pub mod Effects
+pub mod Follows
+pub mod Links
+pub mod Plain
+pub mod Rules
+pub mod Sets
+pub mod SystemGraph
+pub mod Words

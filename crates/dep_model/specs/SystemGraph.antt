@@ -1,0 +1,50 @@
+-- The system dependence graph of a program (Horwitz, Reps and Binkley 1990).
+use Rattle.std.specs.Prelude.{◌≡◌, ◌↔◌, ℕ, zero, suc, ◌⊎◌, List, [], ◌∷◌, ◌++◌, map, Contains, slice_get, Option, Some, None, Bool, true, false}
+use Rattle.c_tree.specs.declared.program.Program.{Program}
+use Rattle.c_language.specs.Code.{Code}
+use Rattle.dep_model.specs.declared.edge.Edge.{Edge}
+use Rattle.dep_model.specs.declared.edge.Label.{Label}
+use Rattle.dep_model.specs.declared.edge.Label.TheVariants.{Control, Flow, Call, In, Out}
+use Rattle.dep_model.specs.declared.vertex.Vertex.{Vertex}
+use Rattle.dep_model.specs.declared.vertex.VertexKind.{VertexKind}
+use Rattle.dep_model.specs.declared.vertex.VertexKind.TheVariants.{Entry, Statement}
+use Rattle.dep_model.specs.Follows.{Step, FlowEdge, AtTop}
+
+-- the numbers from i on, so many
+abbrev pub from : ℕ → ℕ → List ℕ
+from i zero = []
+from i (suc n) = i ∷ from (suc i) n
+
+abbrev pub vertex : ℕ → VertexKind → Vertex
+vertex f kind = record { function = f; kind = kind }
+
+-- the vertices in their order: so far the entry of main and its statements, by number
+abbrev pub vertices : Program → List Vertex
+vertices p = vertex 0 Entry ∷ map (λ i. vertex 0 (Statement i)) (from 0 p.statements)
+
+-- an edge joins two vertices of these kinds in main
+pub record Joins (p : Program) (e : Edge) (a b : VertexKind) : Type 0 where
+  pub from_is : slice_get (vertices p) e.from ≡ Some (vertex 0 a)
+  pub to_is : slice_get (vertices p) e.to ≡ Some (vertex 0 b)
+
+-- a statement of the outermost block has the entry as its controller
+pub record IsControlEdge (p : Program) (c : Code) (e : Edge) : Type 0 where
+  pub statement : ℕ
+  pub labelled : e.label ≡ Control
+  pub joins : Joins p e Entry (Statement statement)
+  pub at_top : AtTop c statement
+
+pub record IsFlowEdge (p : Program) (c : Code) (e : Edge) : Type 0 where
+  pub before : Step
+  pub after : Step
+  pub labelled : e.label ≡ Flow
+  pub joins : Joins p e (Statement before.id) (Statement after.id)
+  pub flows : FlowEdge c before after
+
+-- the edges of a program whose main is c
+abbrev pub IsEdge : Program → Code → Edge → Type 0
+IsEdge p c e = IsControlEdge p c e ⊎ IsFlowEdge p c e
+
+-- a list of exactly these edges
+abbrev pub AreEdges : Program → Code → List Edge → Type 0
+AreEdges p c edges = (e : Edge) → Contains edges e ↔ IsEdge p c e

@@ -1,0 +1,20 @@
+/// What kind of dependence an edge is. The number of the last three is the call's vertex.
+#[derive(Clone, Copy, Debug, PartialEq, Eq)]
+pub enum Label {
+    Control,
+    Flow,
+    /// From a call vertex to the entry of the function called.
+    Call(u32),
+    /// From an actual-in to its formal-in.
+    In(u32),
+    /// From a formal-out to its actual-out.
+    Out(u32),
+}
+
+/// An edge of a system dependence graph, between two vertices by their numbers.
+#[derive(Clone, Copy, Debug, PartialEq, Eq)]
+pub struct Edge {
+    pub from: u32,
+    pub to: u32,
+    pub label: Label,
+}
