@@ -1,0 +1,193 @@
+-- The set that was marked is the criterion, and the lines that were found are those of its statements.
+use Rattle.std.proofs.Common.{◌≡◌, ◌↔◌, ℕ, zero, suc, ◌+◌, ◌<◌, ◌≤◌, ◌==◌, List, [], ◌∷◌, ◌++◌, length, get_or, set, replicate, map, slice_get, Bool, true, false, ◌&&◌, ◌||◌, ◌⊎◌, inl, inr, Option, Some, None, refl, sym, ap, ◌∙◌, subst, arith, add-one, eq-eqb}
+use Rattle.std.specs.Prelude.{Contains, All, AllPairs}
+use Rattle.std.specs.List.{list_any}
+use Rattle.std.specs.Option.{option_map_or}
+use Rattle.std.proofs.lemmas.Bool.{eqb-true, cases_lt}
+use Rattle.std.proofs.Common.{get_or-set_other, get_or-set_same}
+use Rattle.bit_rows.specs.Sets.{has}
+use Rattle.c_tree.specs.declared.program.Program.{Program}
+use Rattle.c_tree.specs.declared.program.Function.{Function}
+use Rattle.c_tree.specs.declared.statement.Statement.{Statement}
+use Rattle.c_tree.specs.Numbered.{Start, Starts, start, starts, body_starts, function_starts, program_starts}
+use Rattle.c_language.specs.Code.{code}
+use Rattle.c_language.specs.StraightLine.{IsStraightLine, main_of}
+use Rattle.dep_model.specs.declared.vertex.Vertex.{Vertex}
+use Rattle.dep_model.specs.SystemGraph.{vertices}
+use Rattle.slice_engine.specs.Projection.{is_kept}
+use Rattle.slice_engine.specs.Slice.{starts_on, HasStart, IsCriterion}
+use Rattle.slice_engine.specs.Criterion.{marked_if, with_starts}
+use Rattle.slice_engine.proofs.GraphLemmas.{length-vertices}
+use Rattle.slice_engine.proofs.Vertices.{kept_vertex}
+use Rattle.slice_engine.specs.Slice.{main_body}
+use Rattle.c_tree.proofs.NumberedLemmas.{starts-Declare, starts-Assign, starts-Print}
+use Rattle.c_language.specs.StraightLine.{IsBody, done, declare, begin, assign, print, int_format}
+use Rattle.c_tree.specs.declared.program.Init.TheVariants as init
+use Rattle.c_tree.specs.declared.expr.Expr.TheVariants as e
+use Rattle.dep_model.specs.SystemGraph.{from, vertex}
+use Rattle.dep_model.specs.declared.vertex.VertexKind.TheVariants.{Entry, Statement as AtStatement}
+use Rattle.std.proofs.lemmas.List.{append-nil}
+use Rattle.slice_engine.proofs.CriterionLemmas.{length-marked_if, length-with_starts}
+
+-- each number is below n
+abbrev pub AreNumbers : ℕ → Starts → Type 0
+AreNumbers n [] = Unit {0}
+AreNumbers n (s ∷ ss) = (s.id < n) × AreNumbers n ss
+
+abbrev pub starts_in : ℕ → Starts → ℕ → Bool
+starts_in line ss i = list_any (λ (s : Start). (s.id == i) && (s.line == line)) ss
+
+or_swap : (a b c : Bool) → ((a || b) || c) ≡ (b || (a || c))
+or_swap true true c = refl
+or_swap true false c = refl
+or_swap false true c = refl
+or_swap false false c = refl
+
+same_id : (id i : ℕ) (x : List Bool) → (id == i) ≡ true → id + 1 < length x → has (set x (id + 1) true) (i + 1) ≡ true
+same_id id i x e lt =
+    let same : id ≡ i = eqb-true id i e in
+    subst (λ j. has (set x (id + 1) true) (j + 1) ≡ true) same (get_or-set_same x (id + 1) true false lt)
+
+other_id : (id i : ℕ) (x : List Bool) → (id == i) ≡ false → has (set x (id + 1) true) (i + 1) ≡ has x (i + 1)
+other_id id i x e =
+    let ne : (i + 1 ≡ id + 1) → ⊥ = (λ q. let same : id ≡ i = omega (arith, q) in let t = eq-eqb id i same in cc) in
+    get_or-set_other x (id + 1) (i + 1) true false ne
+
+-- marking one statement adds it where it starts on the line
+has-marked : (b e : Bool) (id i : ℕ) (x : List Bool) → (id == i) ≡ e → id + 1 < length x → has (marked_if b (id + 1) x) (i + 1) ≡ ((e && b) || has x (i + 1))
+has-marked true true id i x q lt = same_id id i x q lt
+has-marked true false id i x q lt = other_id id i x q
+has-marked false true id i x q lt = refl
+has-marked false false id i x q lt = refl
+
+pub has-with_starts : (line : ℕ) (ss : Starts) (i n : ℕ) (x : List Bool) → AreNumbers n ss → length x ≡ n + 1 → has (with_starts line ss x) (i + 1) ≡ (starts_in line ss i || has x (i + 1))
+has-with_starts line [] i n x below long = refl
+has-with_starts line (s ∷ ss) i n x below long =
+    let lt : s.id + 1 < length x = omega (arith, below.0, long) in
+    has-with_starts line ss i n (marked_if (s.line == line) (s.id + 1) x) below.1 (length-marked_if (s.line == line) (s.id + 1) x ∙ long) ∙ ap (λ b. starts_in line ss i || b) (has-marked (s.line == line) (s.id == i) s.id i x refl lt) ∙ sym (or_swap ((s.id == i) && (s.line == line)) (starts_in line ss i) (has x (i + 1)))
+
+marked_past : (line : ℕ) (ss : Starts) (i n : ℕ) → AreNumbers n ss → n ≤ i → starts_in line ss i ≡ false
+marked_past line [] i n below le = refl
+marked_past line (s ∷ ss) i n below le =
+    let ne : (s.id == i) ≡ false = apart s.id i (omega (arith, below.0, le)) in
+    ap (λ b. (b && (s.line == line)) || starts_in line ss i) ne ∙ marked_past line ss i n below.1 le
+  where
+    apart : (a b : ℕ) → a < b → (a == b) ≡ false
+    apart a b lt = grind (arith)
+
+entry_stays : (line : ℕ) (ss : Starts) (x : List Bool) → has (with_starts line ss x) 0 ≡ has x 0
+entry_stays line [] x = refl
+entry_stays line (s ∷ ss) x = entry_stays line ss (marked_if (s.line == line) (s.id + 1) x) ∙ entry_marked (s.line == line) s.id x
+  where
+    entry_marked : (b : Bool) (id : ℕ) (x : List Bool) → has (marked_if b (id + 1) x) 0 ≡ has x 0
+    entry_marked true id x = let ne : (0 ≡ id + 1) → ⊥ = (λ q. omega (arith, q)) in get_or-set_other x (id + 1) 0 true false ne
+    entry_marked false id x = refl
+
+-- ---- the numbers of a straight-line body
+
+append_numbers : (n : ℕ) (xs ys : Starts) → AreNumbers n xs → AreNumbers n ys → AreNumbers n (xs ++ ys)
+append_numbers n [] ys h k = k
+append_numbers n (x ∷ xs) ys h k = (h.0, append_numbers n xs ys h.1 k)
+
+numbers_of : (n : ℕ) (t : Statement) (ss : List Statement) (found : Starts) → starts t ≡ found → AreNumbers n found → AreNumbers n (body_starts ss) → AreNumbers n (body_starts (t ∷ ss))
+numbers_of n t ss found is h k = append_numbers n (starts t) (body_starts ss) (subst (AreNumbers n) (sym is) h) k
+
+pub body_numbers : {n i m j : ℕ} (ss : List Statement) → IsBody n i ss m j → (i ≤ j) × AreNumbers j (body_starts ss)
+body_numbers ss done = (omega arith, tt)
+body_numbers ss (declare {n} {i} {m} {j} {l} {ss = tl} h) =
+    let w = body_numbers tl h in (w.0, numbers_of j _ tl [] (starts-Declare None l n init.None) tt w.1)
+body_numbers ss (begin {n} {i} {m} {j} {l} {a} {ss = tl} s h) =
+    let w = body_numbers tl h in (omega (arith, w.0), numbers_of j _ tl (start i l ∷ []) (starts-Declare (Some i) l n (init.One a)) (omega (arith, w.0), tt) w.1)
+body_numbers ss (assign {n} {i} {m} {j} {l} {x} {a} {ss = tl} lt s h) =
+    let w = body_numbers tl h in (omega (arith, w.0), numbers_of j _ tl (start i l ∷ []) (starts-Assign i l (e.Variable x) None a) (omega (arith, w.0), tt) w.1)
+body_numbers ss (print {n} {i} {m} {j} {l} {a} {ss = tl} s h) =
+    let w = body_numbers tl h in (omega (arith, w.0), numbers_of j _ tl (start i l ∷ []) (starts-Print i l int_format (a ∷ [])) (omega (arith, w.0), tt) w.1)
+
+pub main_body_is : (p : Program) (h : IsStraightLine p) → main_body p ≡ h.body
+main_body_is p h = ap (λ fs. option_map_or (λ (f : Function). f.body) (slice_get fs 0) []) h.functions_are
+
+pub program_starts_are : (p : Program) (h : IsStraightLine p) → program_starts p ≡ body_starts (main_body p)
+program_starts_are p h =
+    ap function_starts h.functions_are ∙ append-nil (body_starts h.body) ∙ ap body_starts (sym (main_body_is p h))
+
+pub numbers_are : (p : Program) (h : IsStraightLine p) → AreNumbers p.statements (body_starts (main_body p))
+numbers_are p h =
+    subst (λ ss. AreNumbers p.statements (body_starts ss)) (sym (main_body_is p h)) (body_numbers h.body h.in_form).1
+
+-- ---- the criterion
+
+kept_nowhere : (s n i : ℕ) (bs : List Bool) → s + n ≤ i → is_kept (map (λ j. vertex 0 (AtStatement j)) (from s n)) bs i ≡ false
+kept_nowhere s zero i bs le = refl
+kept_nowhere s (suc n) i [] le = refl
+kept_nowhere s (suc n) i (b ∷ bs) le =
+    let ne : (s == i) ≡ false = apart s i (omega (arith, le)) in
+    ap (λ q. (q && b) || is_kept (map (λ j. vertex 0 (AtStatement j)) (from (suc s) n)) bs i) ne ∙ kept_nowhere (suc s) n i bs (omega (arith, le))
+  where
+    apart : (a b : ℕ) → a < b → (a == b) ≡ false
+    apart a b lt = grind (arith)
+
+pub kept_past : (p : Program) (bs : List Bool) (i : ℕ) → p.statements ≤ i → is_kept (vertices p) bs i ≡ false
+kept_past p [] i le = refl
+kept_past p (b ∷ bs) i le = kept_nowhere 0 p.statements i bs (omega (arith, le))
+
+empty_has : (n v : ℕ) → has (replicate n false) v ≡ false
+empty_has zero v = refl
+empty_has (suc n) zero = refl
+empty_has (suc n) (suc v) = empty_has n v
+
+pub empty_long : (n : ℕ) → length (replicate n false) ≡ n
+empty_long zero = refl
+empty_long (suc n) = ap suc (empty_long n)
+
+or_none : (b : Bool) → (b || false) ≡ b
+or_none true = refl
+or_none false = refl
+
+pub criterion_is : (p : Program) (line : ℕ) → IsStraightLine p → IsCriterion p line (with_starts line (body_starts (main_body p)) (replicate (p.statements + 1) false))
+criterion_is p line h =
+    let found = body_starts (main_body p) in
+    let none = replicate (p.statements + 1) false in
+    record {
+      size = length-with_starts line found none ∙ empty_long (p.statements + 1) ∙ sym (length-vertices p ∙ sym (add-one p.statements));
+      members = λ i. elim (cases_lt i p.statements) [
+        | inl lt ↦ kept_vertex p (with_starts line found none) i lt ∙ ap (has (with_starts line found none)) (sym (add-one i)) ∙ has-with_starts line found i p.statements none (numbers_are p h) (empty_long (p.statements + 1)) ∙ ap (λ b. starts_in line found i || b) (empty_has (p.statements + 1) (i + 1)) ∙ or_none (starts_in line found i) ∙ ap (λ ss. starts_in line ss i) (sym (program_starts_are p h))
+        | inr ge ↦ kept_past p (with_starts line found none) i ge ∙ sym (ap (λ ss. starts_in line ss i) (program_starts_are p h) ∙ marked_past line found i p.statements (numbers_are p h) ge)
+      ];
+      no_entry = entry_stays line found none ∙ empty_has (p.statements + 1) 0;
+    }
+
+-- ---- whether some statement starts on a line
+
+and_parts : (a b : Bool) → (a && b) ≡ true → (a ≡ true) × (b ≡ true)
+and_parts true b h = (refl, h)
+and_parts false b h = cc
+
+or_parts : (a b : Bool) → (a || b) ≡ true → (a ≡ true) ⊎ (b ≡ true)
+or_parts true b h = inl refl
+or_parts false b h = inr h
+
+or_l : (a b : Bool) → a ≡ true → (a || b) ≡ true
+or_l true b h = refl
+or_l false b h = cc
+
+or_r : (a b : Bool) → b ≡ true → (a || b) ≡ true
+or_r true b h = refl
+or_r false b h = h
+
+and_both : (a b : Bool) → a ≡ true → b ≡ true → (a && b) ≡ true
+and_both true b h k = k
+and_both false b h k = cc
+
+pub some_start : (line : ℕ) (ss : Starts) → list_any (λ (s : Start). s.line == line) ss ≡ true → (i : ℕ) × (starts_in line ss i ≡ true)
+some_start line [] h = cc
+some_start line (s ∷ ss) h = elim (or_parts (s.line == line) (list_any (λ (s : Start). s.line == line) ss) h) [
+  | inl here ↦ (s.id, or_l _ _ (and_both (s.id == s.id) (s.line == line) (eq-eqb s.id s.id refl) here))
+  | inr later ↦ let w = some_start line ss later in (w.0, or_r _ _ w.1)
+]
+
+pub start_some : (line : ℕ) (ss : Starts) (i : ℕ) → starts_in line ss i ≡ true → list_any (λ (s : Start). s.line == line) ss ≡ true
+start_some line [] i h = cc
+start_some line (s ∷ ss) i h = elim (or_parts ((s.id == i) && (s.line == line)) (starts_in line ss i) h) [
+  | inl here ↦ or_l _ _ (and_parts (s.id == i) (s.line == line) here).1
+  | inr later ↦ or_r (s.line == line) _ (start_some line ss i later)
+]

@@ -1,0 +1,127 @@
+-- The numbers of statements as vertices, and the numbers that stand in a list.
+use Rattle.std.proofs.Common.{◌≡◌, ℕ, zero, suc, ◌+◌, ◌<◌, ◌≤◌, List, [], ◌∷◌, map, get_or, slice_get, Option, Some, None, Bool, true, false, ◌&&◌, inl, inr, refl, sym, ap, ◌∙◌, subst, eq-eqb, IsTrue, arith}
+use Rattle.std.proofs.lemmas.Option.{slice_get-map}
+use Rattle.std.specs.Option.{option_map}
+use Rattle.bit_rows.specs.Sets.{has}
+use Rattle.c_tree.specs.declared.expr.Expr.TheVariants as e
+use Rattle.c_tree.specs.declared.program.Program.{Program}
+use Rattle.c_tree.specs.declared.statement.Statement.{Statement}
+use Rattle.c_tree.specs.declared.program.Init.TheVariants as init
+use Rattle.c_language.specs.Code.{Code, End, Opens, Plain, code}
+use Rattle.c_language.specs.StraightLine.{int_format, IsBody, done, declare, begin, assign, print}
+use Rattle.dep_model.specs.declared.location.Location.{Location}
+use Rattle.dep_model.specs.declared.vertex.Vertex.{Vertex}
+use Rattle.dep_model.specs.declared.vertex.VertexKind.TheVariants.{Statement as AtStatement}
+use Rattle.dep_model.specs.Follows.{Step, start, Follows, Chain, last, more}
+use Rattle.dep_model.specs.SystemGraph.{from, vertex, vertices}
+use Rattle.slice_engine.specs.Projection.{is_of, is_kept}
+use Rattle.std.proofs.lemmas.Bool.{or_left, or_right, or_cases, and_from, and_parts, ne_eqb}
+use Rattle.slice_engine.proofs.Bools.{or_false}
+use Rattle.slice_engine.proofs.Codes.{code_of-Declare, code_of-Assign, code_of-Print}
+
+-- ---- the numbers in a list
+
+-- each statement's number is below n
+abbrev pub AreBelow : ℕ → Code → Type 0
+AreBelow n End = Unit {0}
+AreBelow n (Opens x r) = AreBelow n r
+AreBelow n (Plain i a r) = (i < n) × AreBelow n r
+
+abbrev pub IsBelow : ℕ → Option Step → Type 0
+IsBelow n None = Unit {0}
+IsBelow n (Some v) = v.id < n
+
+-- a body's statements are numbered from its first number up to its last
+pub body_below : (n i : ℕ) (ss : List Statement) (m j : ℕ) → IsBody n i ss m j → (i ≤ j) × AreBelow j (code ss)
+body_below n i ss m j done = (omega arith, tt)
+body_below n i ss m j (declare {l = l} {ss = rest} h) =
+    let r = body_below (n + 1) i rest m j h in
+    (r.0, subst (AreBelow j) (sym (code_of-Declare None l n init.None (code rest))) r.1)
+body_below n i ss m j (begin {l = l} {a = a} {ss = rest} sum h) =
+    let r = body_below (n + 1) (i + 1) rest m j h in
+    (omega (arith, r.0), subst (AreBelow j) (sym (code_of-Declare (Some i) l n (init.One a) (code rest))) (omega (arith, r.0), r.1))
+body_below n i ss m j (assign {l = l} {x = x} {a = a} {ss = rest} lt sum h) =
+    let r = body_below n (i + 1) rest m j h in
+    (omega (arith, r.0), subst (AreBelow j) (sym (code_of-Assign i l (e.Variable x) None a (code rest))) (omega (arith, r.0), r.1))
+body_below n i ss m j (print {l = l} {a = a} {ss = rest} sum h) =
+    let r = body_below n (i + 1) rest m j h in
+    (omega (arith, r.0), subst (AreBelow j) (sym (code_of-Print i l int_format (a ∷ []) (code rest))) (omega (arith, r.0), r.1))
+
+start_below : (n : ℕ) (c : Code) (k : Option Step) → AreBelow n c → IsBelow n k → IsBelow n (start c k)
+start_below n End k h b = b
+start_below n (Opens x r) k h b = start_below n r k h b
+start_below n (Plain i a r) k h b = h.0
+
+follows_below : (n : ℕ) (c : Code) (k : Option Step) (v : Step) (w : Option Step) → AreBelow n c → IsBelow n k → Follows c k v w → (v.id < n) × IsBelow n w
+follows_below n End k v w h b f = elim f [ ]
+follows_below n (Opens x r) k v w h b f = follows_below n r k v w h b f
+follows_below n (Plain i a r) k v w h b (inl f) =
+    (subst (λ (u : Step). u.id < n) (sym f.0) h.0, subst (IsBelow n) (sym f.1) (start_below n r k h.1 b))
+follows_below n (Plain i a r) k v w h b (inr f) = follows_below n r k v w h.1 b f
+
+pub chain_below : (n : ℕ) (c : Code) (l : Location) (v w : Step) → AreBelow n c → Chain c l v w → (v.id < n) × (w.id < n)
+chain_below n c l v w h (last f) = follows_below n c None v (Some w) h tt f
+chain_below n c l v w h (more {u = u} f k rest) =
+    ((follows_below n c None v (Some u) h tt f).0, (chain_below n c l u w h rest).1)
+
+-- ---- the vertex of a statement
+
+abbrev at_statement : ℕ → Vertex
+at_statement i = vertex 0 (AtStatement i)
+
+get_from : (s n i : ℕ) → i < n → slice_get (from s n) i ≡ Some (s + i)
+get_from s zero i lt = absurd (omega arith)
+get_from s (suc n) zero lt = let e : s ≡ s + 0 = omega arith in ap Some e
+get_from s (suc n) (suc i) lt = let e : suc s + i ≡ s + suc i = omega arith in get_from (suc s) n i (omega arith) ∙ ap Some e
+
+-- it comes behind the entry of main
+pub vertex_of : (p : Program) (i : ℕ) → i < p.statements → slice_get (vertices p) (suc i) ≡ Some (vertex 0 (AtStatement i))
+vertex_of p i lt =
+    let e : 0 + i ≡ i = omega arith in
+    slice_get-map at_statement (from 0 p.statements) i ∙ (ap (option_map at_statement) (get_from 0 p.statements i lt) ∙ ap (λ n. Some (at_statement n)) e)
+
+kept_before : (s n j : ℕ) (bs : List Bool) → j < s → is_kept (map at_statement (from s n)) bs j ≡ false
+kept_before s zero j bs lt = refl
+kept_before s (suc n) j [] lt = refl
+kept_before s (suc n) j (b ∷ bs) lt =
+    let e = ne_eqb s j (λ p. omega arith) in
+    rw e (kept_before (suc s) n j bs (omega arith))
+
+kept_from : (s n i : ℕ) (bs : List Bool) → i < n → is_kept (map at_statement (from s n)) bs (s + i) ≡ get_or bs i false
+kept_from s zero i bs lt = absurd (omega arith)
+kept_from s (suc n) zero [] lt = refl
+kept_from s (suc n) (suc i) [] lt = refl
+kept_from s (suc n) zero (b ∷ bs) lt =
+    let e : s ≡ s + 0 = omega arith in
+    rw (eq-eqb s (s + 0) e) (or_false b _ (kept_before (suc s) n (s + 0) bs (omega arith)))
+kept_from s (suc n) (suc i) (b ∷ bs) lt =
+    let e : suc s + i ≡ s + suc i = omega arith in
+    rw (ne_eqb s (s + suc i) (λ p. omega arith)) (subst (λ j. is_kept (map at_statement (from (suc s) n)) bs j ≡ get_or bs i false) e (kept_from (suc s) n i bs (omega arith)))
+
+-- a statement is kept where its vertex is in the set
+pub kept_vertex : (p : Program) (bs : List Bool) (i : ℕ) → i < p.statements → is_kept (vertices p) bs i ≡ has bs (suc i)
+kept_vertex p [] i lt = refl
+kept_vertex p (b ∷ bs) i lt =
+    let e : 0 + i ≡ i = omega arith in
+    subst (λ j. is_kept (map at_statement (from 0 p.statements)) bs j ≡ get_or bs i false) e (kept_from 0 p.statements i bs lt)
+
+-- ---- sets of vertices
+
+kept_none : (vs : List Vertex) (i : ℕ) → is_kept vs [] i ≡ false
+kept_none [] i = refl
+kept_none (v ∷ vs) i = refl
+
+-- a larger set keeps more
+pub kept_grows : (vs : List Vertex) (a b : List Bool) (i : ℕ) → ((v : ℕ) → IsTrue (has a v) → IsTrue (has b v)) → is_kept vs a i ≡ true → is_kept vs b i ≡ true
+kept_grows [] a b i h k = k
+kept_grows (v ∷ vs) [] b i h k = cc
+kept_grows (v ∷ vs) (x ∷ xs) [] i h k =
+    elim (or_cases (is_of i v.kind && x) (is_kept vs xs i) k) [
+      | inl p ↦ h 0 (and_parts (is_of i v.kind) x p).1
+      | inr q ↦ let c = kept_grows vs xs [] i (λ w. h (suc w)) q in let d = kept_none vs i in cc
+    ]
+kept_grows (v ∷ vs) (x ∷ xs) (y ∷ ys) i h k =
+    elim (or_cases (is_of i v.kind && x) (is_kept vs xs i) k) [
+      | inl p ↦ or_left (is_of i v.kind && y) (is_kept vs ys i) (and_from (is_of i v.kind) y (and_parts (is_of i v.kind) x p).0 (h 0 (and_parts (is_of i v.kind) x p).1))
+      | inr q ↦ or_right (is_of i v.kind && y) (is_kept vs ys i) (kept_grows vs xs ys i (λ w. h (suc w)) q)
+    ]

@@ -1,0 +1,9 @@
+pub mod Criterion
+pub mod Projection
+pub mod Slice
+pub mod Edges
+pub mod Engine
+pub mod Forms
+pub mod Reading
+pub mod Marks
+pub mod OwnWords

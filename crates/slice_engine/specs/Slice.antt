@@ -1,0 +1,120 @@
+-- The slice of a program at a line: the vertices that it keeps, its program and its text.
+use Rattle.std.specs.Prelude.{◌≡◌, ◌↔◌, ℕ, suc, ◌+◌, ◌^◌, ◌<◌, ◌==◌, ◌&&◌, List, [], ◌∷◌, ◌++◌, length, Bool, true, false, if◌then◌else◌, Contains, AllPairs, IsTrue, codes, map, slice_get, All}
+use Rattle.std.specs.List.{list_any}
+use Rattle.std.specs.Option.{option_map_or}
+use Rattle.std.specs.Fmt.{decimal}
+use Rattle.bit_rows.specs.Sets.{has}
+use Rattle.c_tree.specs.declared.program.Program.{Program}
+use Rattle.c_tree.specs.declared.program.Function.{Function}
+use Rattle.c_tree.specs.declared.statement.Statement.{Statement}
+use Rattle.c_tree.specs.Numbered.{Start, start, starts, program_starts}
+use Rattle.c_tree.specs.Unlined.{SameButLines}
+use Rattle.c_language.specs.Words.{Bytes}
+use Rattle.c_language.specs.Layout.{layout, statement_lines}
+use Rattle.c_language.specs.StraightLine.{IsTextOf}
+use Rattle.c_meaning.specs.declared.event.Event.{Event}
+use Rattle.c_meaning.specs.Meaning.{Trace, Ended, meaning, main_code, at}
+use Rattle.dep_model.specs.declared.edge.Edge.{Edge}
+use Rattle.dep_model.specs.Words.{ReachesAny}
+use Rattle.dep_model.specs.Completion.{IsCompletion, NamesNone}
+use Rattle.dep_model.specs.SystemGraph.{vertices, AreEdges}
+use Rattle.slice_engine.specs.Projection.{is_kept, rank, project}
+use Rattle.slice_engine.specs.OwnWords.{OwnWords}
+
+-- a program of some text
+abbrev pub IsSomeText : Program → Type 0
+IsSomeText p = (text : Bytes) × (length text < 2 ^ 32) × IsTextOf text p
+
+-- whether a statement starts on a line
+abbrev pub starts_on : Program → ℕ → ℕ → Bool
+starts_on p line i = list_any (λ (s : Start). (s.id == i) && (s.line == line)) (program_starts p)
+
+-- some statement starts on a line
+abbrev pub HasStart : Program → ℕ → Type 0
+HasStart p line = (i : ℕ) × (starts_on p line i ≡ true)
+
+-- a set of exactly the vertices of the statements that start on a line
+pub record IsCriterion (p : Program) (line : ℕ) (x : List Bool) : Type 0 where
+  pub size : length x ≡ length (vertices p)
+  pub members : (i : ℕ) → is_kept (vertices p) x i ≡ starts_on p line i
+  pub no_entry : has x 0 ≡ false
+
+-- a set of exactly the vertices that reach a set by matched words
+pub record IsReached (edges : List Edge) (x r : List Bool) : Type 0 where
+  pub size : length r ≡ length x
+  pub members : (v : ℕ) → IsTrue (has r v) ↔ ReachesAny edges x v
+
+-- the vertices that a slice keeps: the completion of what reaches the criterion
+pub record IsKept (p : Program) (line : ℕ) (kept : List Bool) : Type 0 where
+  pub edges : List Edge
+  pub are_edges : AreEdges p (main_code p) edges
+  pub criterion : List Bool
+  pub is_criterion : IsCriterion p line criterion
+  pub reached : List Bool
+  pub is_reached : IsReached edges criterion reached
+  pub completes : IsCompletion edges NamesNone 0 reached kept
+
+-- which statements a set of vertices keeps
+abbrev pub keeps : Program → List Bool → ℕ → Bool
+keeps p kept = is_kept (vertices p) kept
+
+-- the program of the slice that keeps these vertices
+abbrev pub sliced : Program → List Bool → Program
+sliced p kept = project p (main_code p) (keeps p kept)
+
+abbrev pub line_feeds : Bytes → ℕ
+line_feeds [] = 0
+line_feeds (b ∷ bs) = if b == 10 then suc (line_feeds bs) else line_feeds bs
+
+-- a statement stands on a line, where the first of the list stands on line n
+pub data StandsOn (p : Program) (i : ℕ) : ℕ → List Statement → ℕ → Type 0 where
+  here : {n l : ℕ} {s : Statement} {ss : List Statement} → Contains (starts s) (start i l) → StandsOn p i n (s ∷ ss) n
+  later : {n m : ℕ} {s : Statement} {ss : List Statement} → StandsOn p i (n + line_feeds (statement_lines p 1 s)) ss m → StandsOn p i n (s ∷ ss) m
+
+abbrev pub main_body : Program → List Statement
+main_body p = option_map_or (λ (f : Function). f.body) (slice_get p.functions 0) []
+
+-- the lines of the criterion's statements in the slice's text, whose header is line 1
+pub record AreLines (p : Program) (line : ℕ) (kept : List Bool) (lines : List ℕ) : Type 0 where
+  pub ascending : AllPairs (λ a b. a < b) lines
+  pub members : (k : ℕ) → Contains lines k ↔ ((i : ℕ) × (starts_on p line i ≡ true) × StandsOn (sliced p kept) (rank (keeps p kept) i) 4 (main_body (sliced p kept)) k)
+
+abbrev pub spaced : List ℕ → Bytes
+spaced [] = []
+spaced (k ∷ ks) = codes " " ++ (decimal k ++ spaced ks)
+
+-- the header of a slice at a line, with the lines of its criterion
+abbrev pub header : ℕ → List ℕ → Bytes
+header line lines = codes "/* slice " ++ (decimal line ++ (codes ":" ++ (spaced lines ++ codes " */\n")))
+
+-- the text of the slice of a program at a line
+pub record IsSlice (p : Program) (line : ℕ) (text : Bytes) : Type 0 where
+  pub kept : List Bool
+  pub is_kept : IsKept p line kept
+  pub lines : List ℕ
+  pub are_lines : AreLines p line kept lines
+  pub text_is : text ≡ header line lines ++ layout (sliced p kept)
+
+-- an event with the rank of its statement
+abbrev pub ranked : (ℕ → Bool) → Event → Event
+ranked kept e = record { statement = rank kept e.statement; values = e.values }
+
+-- whether a statement of the slice is one of the criterion
+abbrev pub is_criterion : Program → ℕ → List Bool → ℕ → Bool
+is_criterion p line kept j =
+    list_any (λ (s : Start). (s.line == line) && (rank (keeps p kept) s.id == j)) (program_starts p)
+
+-- where a program ends within n acts, so does its slice, with the same values at the criterion
+abbrev pub HasSameValues : Program → ℕ → List Bool → Program → Type 0
+HasSameValues p line kept q =
+    (n : ℕ) (input : List ℕ) (t : Trace) → meaning n p input ≡ Ended t → (u : Trace) × (meaning n q input ≡ Ended u) × (at (is_criterion p line kept) u.events ≡ map (ranked (keeps p kept)) (at (starts_on p line) t.events))
+
+-- a text is read again: its program is the slice but for line numbers, each kept statement has its own words in it, and it gives the same values
+pub record IsFaithful (p : Program) (line : ℕ) (text : Bytes) : Type 0 where
+  pub kept : List Bool
+  pub is_kept : IsKept p line kept
+  pub program : Program
+  pub reads : IsTextOf text program
+  pub same_program : SameButLines program (sliced p kept)
+  pub own_words : All (OwnWords p (keeps p kept)) (main_body p)
+  pub same_values : HasSameValues p line kept program

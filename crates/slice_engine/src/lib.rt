@@ -1,0 +1,14 @@
+//! One slice of a program: what it reads, what it keeps, and the text that it writes.
+#![tactic(auto)]
+
+mod criterion;
+mod edges;
+mod engine;
+mod form;
+mod projection;
+mod reading;
+mod text;
+
+pub use c_tree::{Program, Text};
+pub use engine::{Criterion, Engine};
+pub use reading::{ReadRefusal, read_program};
