@@ -1,0 +1,63 @@
+-- What is told of a file, and what its causes rule out.
+use Rattle.std.proofs.Common.{◌≡◌, ◌⊎◌, inl, inr, ℕ, ◌≤◌, ◌<◌, List, length, refl, sym, ap, subst, ◌∙◌, arith}
+use Rattle.std.specs.Prelude.{Option, Some, None, IsSome, IsSomeAnd}
+use Rattle.edge_io.specs.Contents.{Told, Lacks, HoldsMoreThan}
+use Rattle.c_language.specs.Words.{Bytes}
+use Rattle.slice_engine.specs.Slice.{HasStart}
+use Rattle.slicer_top.specs.declared.refusal.Refusal.{Refusal}
+use Rattle.slicer_top.specs.declared.refusal.Refusal.TheVariants.{Unreadable, TooLong, NotYet, NoStart, NoMemory}
+use Rattle.slicer_top.specs.declared.status.Status.{Status}
+use Rattle.slicer_top.specs.declared.status.Status.TheVariants as status
+use Rattle.slicer_top.specs.Files.{Holds, OfFile}
+use Rattle.slicer_top.specs.Slices.{StartsOn, StartsNone, IsSliceOf}
+use Rattle.slicer_top.specs.Statuses.{NoFault}
+use Rattle.slicer_top.specs.Reports.{IsCause, IsReported}
+
+-- what is told under a name is what stands under it
+pub of_file : (told : Told) (name text : Bytes) (P : Bytes → Type 0) → Holds told name text → OfFile told name P → P text
+of_file None name text P holds of = absurd holds
+of_file (Some under) name text P holds of = let of_text : IsSomeAnd (Some text) P = subst (λ found. IsSomeAnd found P) holds of in of_text
+
+told_some : (told : Told) (name text : Bytes) → Holds told name text → IsSome told
+told_some None name text holds = absurd holds
+told_some (Some under) name text holds = refl
+
+not_lacking : (told : Told) (name text : Bytes) → Holds told name text → Lacks told name → ⊥
+not_lacking None name text holds lacks = holds
+not_lacking (Some under) name text holds lacks = cc
+
+not_longer : (told : Told) (name text : Bytes) (most : ℕ) → Holds told name text → length text ≤ most → HoldsMoreThan told name most → ⊥
+not_longer None name text most holds le more = holds
+not_longer (Some under) name text most holds le more =
+    let longer : IsSomeAnd (Some text) (λ bytes. most < length bytes) = subst (λ found. IsSomeAnd found (λ bytes. most < length bytes)) holds more in
+    absurd (omega (arith, le, longer))
+
+-- a text that is there, not too long and with a statement on the line is refused for want of memory alone
+pub no_cause : (told : Told) (file : Bytes) (at f f' l l' : ℕ) (text : Bytes) (refusal : Refusal) → Holds told file text → length text ≤ 1048576 → StartsOn text at → NoFault f f' → IsCause told file at f f' l l' refusal → refusal ≡ NoMemory
+no_cause told file at f f' l l' text Unreadable holds le starts calm (inl rose) = absurd (calm rose)
+no_cause told file at f f' l l' text Unreadable holds le starts calm (inr lacks) = absurd (not_lacking told file text holds lacks)
+no_cause told file at f f' l l' text TooLong holds le starts calm cause =
+    absurd (not_longer told file text 1048576 holds le (cause.1 (told_some told file text holds)))
+no_cause told file at f f' l l' text NotYet holds le starts calm cause = absurd ((of_file told file text _ holds cause).1 starts.accepted)
+no_cause told file at f f' l l' text NoStart holds le starts calm cause =
+    let lacks = (of_file told file text _ holds cause).1 in absurd (lacks.2 (starts.starts lacks.0 lacks.1))
+no_cause told file at f f' l l' text NoMemory holds le starts calm cause = refl
+
+-- want of memory is told, or a fault of err comes
+pub memory_told : (faults faults' : ℕ) (before after : Option Bytes) (file : Bytes) (at : ℕ) (result : Status) → NoFault faults faults' → IsReported faults faults' before after file at NoMemory result → result ≡ status.NoMemory
+memory_told faults faults' before after file at result calm (inl (inl put)) = put.0
+memory_told faults faults' before after file at result calm (inl (inr cut)) = absurd (calm cut.1)
+memory_told faults faults' before after file at result calm (inr (inl put)) = put.0
+memory_told faults faults' before after file at result calm (inr (inr cut)) = absurd (calm cut.1)
+
+-- where a slice was made of the text, a statement starts on the line
+pub not_sliced : (told : Told) (name file text written : Bytes) (at line : ℕ) → name ≡ file → at ≡ line → Holds told file text → OfFile told name (λ found. (length found ≤ 1048576) × IsSliceOf found at written) → StartsNone text line → ⊥
+not_sliced told name file text written at line same_name same_line holds sliced none =
+    let of_text = (of_file told name text _ (subst (λ n. Holds told n text) (sym same_name) holds) sliced).1 in
+    none of_text.program of_text.reads (subst (HasStart of_text.program) same_line of_text.starts)
+
+-- a refusal of a text that is there, not too long and with a statement on the line
+pub refused_for_memory : (told : Told) (name file text : Bytes) (at line f f' l l' e e' : ℕ) (before after : Option Bytes) (refusal : Refusal) (result : Status) → name ≡ file → at ≡ line → Holds told file text → length text ≤ 1048576 → StartsOn text line → NoFault f f' → NoFault e e' → IsCause told name at f f' l l' refusal → IsReported e e' before after name at refusal result → result ≡ status.NoMemory
+refused_for_memory told name file text at line f f' l l' e e' before after refusal result same_name same_line holds le starts calm quiet cause reported =
+    let memory : refusal ≡ NoMemory = no_cause told name at f f' l l' text refusal (subst (λ n. Holds told n text) (sym same_name) holds) le (subst (StartsOn text) (sym same_line) starts) calm cause in
+    memory_told e e' before after name at result quiet (subst (λ r. IsReported e e' before after name at r result) memory reported)

@@ -1,0 +1,4 @@
+pub mod Files
+pub mod LateLines
+pub mod Lines
+pub mod Numbers

@@ -1,0 +1,65 @@
+-- The lines that a call puts on err.
+use Rattle.std.specs.Prelude.{◌≡◌, ◌⊎◌, ℕ, ◌++◌, Option, codes}
+use Rattle.std.specs.Fmt.{decimal}
+use Rattle.edge_io.specs.Written.{Gains, GainsFront}
+use Rattle.c_language.specs.Words.{Bytes}
+use Rattle.slicer_top.specs.Slices.{IsAccepted, LacksStart}
+use Rattle.slicer_top.specs.declared.status.Status.{Status}
+use Rattle.slicer_top.specs.declared.status.Status.TheVariants.{Done, Refused, Usage, ReadFault, WriteFault, NoMemory, TooLong}
+
+-- the words aren't `slice FILE LINE`
+abbrev pub usage : Bytes
+usage = codes "usage: slicer slice FILE LINE\n"
+
+-- the file couldn't be read
+abbrev pub cannot_read : Bytes → Bytes
+cannot_read file = codes "cannot read " ++ (file ++ codes "\n")
+
+-- the file is too long
+abbrev pub too_long : Bytes → Bytes
+too_long file = file ++ codes " is longer than 1048576 bytes\n"
+
+-- the text isn't accepted
+abbrev pub not_yet : Bytes
+not_yet = codes "not yet\n"
+
+-- no statement starts on the line
+abbrev pub no_start : ℕ → Bytes
+no_start line = decimal line ++ codes ": no statement starts here\n"
+
+-- the slice couldn't be written
+abbrev pub cannot_write : Bytes
+cannot_write = codes "cannot write\n"
+
+-- memory was wanting
+abbrev pub out_of_memory : Bytes
+out_of_memory = codes "out of memory\n"
+
+-- the line of a status, for this file and this line of it
+pub data IsLineOf (file : Bytes) (line : ℕ) : Status → Bytes → Type 0 where
+  of_usage : IsLineOf file line Usage usage
+  of_file : IsLineOf file line ReadFault (cannot_read file)
+  of_length : IsLineOf file line TooLong (too_long file)
+  of_text : IsLineOf file line Refused not_yet
+  of_line : IsLineOf file line Refused (no_start line)
+  of_out : IsLineOf file line WriteFault cannot_write
+  of_memory : IsLineOf file line NoMemory out_of_memory
+
+-- the line of this status was put
+abbrev pub Puts : Bytes → ℕ → Status → Option Bytes → Option Bytes → Type 0
+Puts file line status before after = (words : Bytes) × IsLineOf file line status words × Gains before after words
+
+-- what err has gained when a call ends: nothing after Done, a front of one line after WriteFault, else the line of the status
+abbrev pub Tells : Bytes → ℕ → Status → Option Bytes → Option Bytes → Type 0
+Tells file line Done before after = after ≡ before
+Tells file line Refused before after = Puts file line Refused before after
+Tells file line Usage before after = Puts file line Usage before after
+Tells file line ReadFault before after = Puts file line ReadFault before after
+Tells file line WriteFault before after = (status : Status) × (words : Bytes) × IsLineOf file line status words × GainsFront before after words
+Tells file line NoMemory before after = Puts file line NoMemory before after
+Tells file line TooLong before after = Puts file line TooLong before after
+
+-- err tells why: the text isn't accepted, or on the line starts no statement of its program
+abbrev pub TellsWhy : Bytes → ℕ → Option Bytes → Option Bytes → Type 0
+TellsWhy text line before after =
+    ((IsAccepted text → ⊥) × Gains before after not_yet) ⊎ (LacksStart text line × Gains before after (no_start line))

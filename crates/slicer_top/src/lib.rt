@@ -1,0 +1,19 @@
+//! The top call of the slicer: from the words of a command line to the bytes of a slice.
+//!
+//! [`run_slicer`] works over any shelf and any sinks. The program gives it [`FileShelf`] and
+//! [`StreamSink`], tests give it files in memory and sinks that fail.
+#![tactic(auto)]
+
+mod refusal;
+mod report;
+mod run;
+mod slicing;
+mod status;
+mod words;
+
+pub use edge_io::{FileShelf, StreamSink, Text};
+pub use run::run_slicer;
+pub use status::Status;
+
+#[cfg(test)]
+mod tests;

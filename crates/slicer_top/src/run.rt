@@ -1,0 +1,96 @@
+// The top call.
+ghost use Rattle.std.specs.Prelude.{◌≡◌, ◌≢◌, ◌⊎◌, ℕ, IsSome};
+ghost use Rattle.edge_io.specs.Count.{Rose};
+ghost use Rattle.edge_io.specs.Contents.{Lacks, HoldsMoreThan};
+ghost use Rattle.edge_io.specs.Written.{Gains, GainsFront};
+ghost use Rattle.c_language.specs.Words.{Bytes};
+ghost use Rattle.slicer_top.specs.Words.{IsInForm, file_of, line_of};
+ghost use Rattle.slicer_top.specs.Files.{OfFile, NamesText};
+ghost use Rattle.slicer_top.specs.Slices.{StartsNone, StartsOn, WritesSlice, WritesFront};
+ghost use Rattle.slicer_top.specs.Statuses.{IsOrYields, IsOrYieldsToFault, NoFault};
+ghost use Rattle.slicer_top.specs.Lines.{Tells, TellsWhy};
+
+use crate::report::{report, tell};
+use crate::slicing::slice_file;
+use crate::status::Status;
+use crate::words::read_words;
+use edge_io::{PutFailed, Shelf, Sink, Text};
+use std::alloc::Global;
+
+/// Does what the words ask for: `slice FILE LINE` writes to `out` the slice of the program in FILE at LINE.
+///
+/// FILE is the name of a file: a word of UTF-8 that isn't empty and doesn't begin with `-`. LINE is one to ten
+/// decimal digits, a number of a line counted from 1. The file is fetched from `shelf`. Where the status isn't
+/// `Done`, its line is put on `err`; where that fails, the status is `WriteFault`, and `err` gets no more.
+pub fn run_slicer<F: Shelf, O: Sink, E: Sink>(
+    alloc: Global,
+    words: &[Text],
+    shelf: &mut F,
+    out: &mut O,
+    err: &mut E,
+) -> Status
+    // The words: Usage comes exactly where they are others.
+    ensures usage { result ≡ Status.Usage → IsInForm words.now → ⊥ }
+    ensures other_words { (IsInForm words.now → ⊥) → IsOrYields result Status.Usage }
+
+    // The file: it is read, or the shelf had a fault, lacks it or found it too long.
+    ensures read_fault { result ≡ Status.ReadFault
+        → Rose (F.faults shelf.old) (F.faults shelf.new) ⊎ Lacks (F.contents shelf.old) (file_of words.now) }
+    ensures lacking { IsInForm words.now → Lacks (F.contents shelf.old) (file_of words.now)
+        → IsOrYields result Status.ReadFault }
+    ensures too_long { result ≡ Status.TooLong → Rose (F.long_files shelf.old) (F.long_files shelf.new) }
+    ensures longer { result ≡ Status.TooLong → IsSome (F.contents shelf.old)
+        → HoldsMoreThan (F.contents shelf.old) (file_of words.now) 1048576 }
+    ensures longer_file { IsInForm words.now → HoldsMoreThan (F.contents shelf.old) (file_of words.now) 1048576
+        → IsOrYieldsToFault result Status.TooLong (F.faults shelf.old) (F.faults shelf.new) }
+
+    // The text: Refused comes exactly where it isn't accepted or no statement starts on the line.
+    ensures refused { result ≡ Status.Refused → OfFile (F.contents shelf.old) (file_of words.now)
+        (λ text. TellsWhy text (line_of words.now) (E.written err.old) (E.written err.new)) }
+    ensures no_slice { (text : Bytes) → NamesText words.now (F.contents shelf.old) text
+        → StartsNone text (line_of words.now)
+        → IsOrYieldsToFault result Status.Refused (F.faults shelf.old) (F.faults shelf.new) }
+
+    // The slice: after Done it is written, and where no fault came and memory sufficed, Done comes.
+    ensures done { result ≡ Status.Done → OfFile (F.contents shelf.old) (file_of words.now)
+        (λ text. WritesSlice text (line_of words.now) (O.written out.old) (O.written out.new)) }
+    ensures complete { (text : Bytes) → NamesText words.now (F.contents shelf.old) text
+        → StartsOn text (line_of words.now)
+        → NoFault (F.faults shelf.old) (F.faults shelf.new)
+        → NoFault (O.faults out.old) (O.faults out.new)
+        → NoFault (E.faults err.old) (E.faults err.new)
+        → (result ≡ Status.Done) ⊎ (result ≡ Status.NoMemory) }
+
+    // The sinks: `out` is as it was but after Done and WriteFault, and `err` has gained the line of the status.
+    ensures write_fault { result ≡ Status.WriteFault
+        → Rose (O.faults out.old) (O.faults out.new) ⊎ Rose (E.faults err.old) (E.faults err.new) }
+    ensures unwritten { result ≢ Status.Done → result ≢ Status.WriteFault → out.new ≡ out.old }
+    ensures cut { result ≡ Status.WriteFault → (out.new ≡ out.old) ⊎ OfFile (F.contents shelf.old) (file_of words.now)
+        (λ text. WritesFront text (line_of words.now) (O.written out.old) (O.written out.new)) }
+    ensures tells { Tells (file_of words.now) (line_of words.now) result (E.written err.old) (E.written err.new) }
+
+    // The shelf holds what it held.
+    ensures contents { F.contents shelf.new ≡ F.contents shelf.old }
+{
+    let Some(request) = read_words(words) else {
+        return tell(b"usage: slicer slice FILE LINE\n", Status::Usage, err);
+    };
+    match slice_file(alloc, request, shelf) {
+        Ok(written) => write_slice(&written, out, err),
+        Err(refusal) => report(alloc, refusal, request, err),
+    }
+}
+
+// Puts the text of a slice.
+fn write_slice<O: Sink, E: Sink>(written: &Text, out: &mut O, err: &mut E) -> Status
+    ensures done { result ≢ Status.WriteFault → result ≡ Status.Done }
+    ensures ok { result ≡ Status.Done → Gains (O.written out.old) (O.written out.new) written.now }
+    ensures failed { result ≡ Status.WriteFault → Rose (O.faults out.old) (O.faults out.new) }
+    ensures front { result ≡ Status.WriteFault → GainsFront (O.written out.old) (O.written out.new) written.now }
+    ensures tells { (file : Bytes) (line : ℕ) → Tells file line result (E.written err.old) (E.written err.new) }
+{
+    match out.put(written.bytes()) {
+        Ok(()) => Status::Done,
+        Err(PutFailed) => tell(b"cannot write\n", Status::WriteFault, err),
+    }
+}

@@ -1,0 +1,40 @@
+// How a call ends.
+ghost use Rattle.std.specs.Prelude.{◌≡◌};
+
+/// How a call ends. Each status has its exit code, and all but `Done` have a line on err.
+#[derive(Clone, Copy, Debug, PartialEq, Eq)]
+pub enum Status {
+    /// The slice is written. Code 0.
+    Done,
+    /// The text isn't accepted, or no statement starts on the line. Code 1.
+    Refused,
+    /// The words aren't `slice FILE LINE`. Code 2.
+    Usage,
+    /// The file couldn't be read. Code 3.
+    ReadFault,
+    /// The slice, or the line of another status on err, couldn't be written. Code 4.
+    WriteFault,
+    /// There was no memory for the work. Code 5.
+    NoMemory,
+    /// The file is longer than 1,048,576 bytes. Code 9.
+    TooLong,
+}
+
+impl Status {
+    ghost use Rattle.slicer_top.specs.Statuses.{code_of};
+
+    /// The exit code.
+    pub fn code(self) -> u8
+        ensures { result ≡ code_of self }
+    {
+        match self {
+            Status::Done => 0,
+            Status::Refused => 1,
+            Status::Usage => 2,
+            Status::ReadFault => 3,
+            Status::WriteFault => 4,
+            Status::NoMemory => 5,
+            Status::TooLong => 9,
+        }
+    }
+}

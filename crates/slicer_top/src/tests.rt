@@ -1,0 +1,568 @@
+// Runs over files and sinks in memory.
+use super::*;
+use edge_io::{MemoryShelf, MemorySink};
+use std::alloc::{AllocError, Global};
+use std::test::Fail;
+
+const TWO: &str = r#"#include <stdio.h>
+int main(void) {
+    int a = 1;
+    int b = 2;
+    a = a + 3;
+    b = b + 4;
+    printf("%d\n", a);
+    printf("%d\n", b);
+}
+"#;
+
+const TWO_AT_7: &str = r#"/* slice 7: 6 */
+#include <stdio.h>
+int main(void) {
+    int a = 1;
+    a = a + 3;
+    printf("%d\n", a);
+}
+"#;
+
+const TWO_AT_4: &str = r#"/* slice 4: 4 */
+#include <stdio.h>
+int main(void) {
+    int b = 2;
+}
+"#;
+
+// The slice of that text again, at its own line.
+const TWO_AT_7_AT_6: &str = r#"/* slice 6: 6 */
+#include <stdio.h>
+int main(void) {
+    int a = 1;
+    a = a + 3;
+    printf("%d\n", a);
+}
+"#;
+
+const USAGE: &str = "usage: slicer slice FILE LINE\n";
+
+const MAX_FILE_BYTES: usize = 1_048_576;
+
+// How a call ended, and what the sinks have gained.
+#[derive(Drop)]
+struct Ended {
+    status: Status,
+    out: Text,
+    err: Text,
+}
+
+// Which calls fail: the numbers of fetches, and of puts with the bytes that each takes before.
+#[derive(Clone, Copy)]
+struct Failing<'a> {
+    fetches: &'a [u64],
+    out: &'a [(u64, usize)],
+    err: &'a [(u64, usize)],
+}
+
+const NONE_FAILING: Failing<'static> = Failing {
+    fetches: &[],
+    out: &[],
+    err: &[],
+};
+
+fn run(
+    alloc: Global,
+    words: &[Text],
+    files: Vec<(Text, Text)>,
+    failing: &Failing<'_>,
+) -> Result<Ended, AllocError> {
+    let mut shelf = MemoryShelf::new(files, failing.fetches.to_vec(alloc)?);
+    let mut out = MemorySink::new(alloc, 4096, failing.out.to_vec(alloc)?)?;
+    let mut err = MemorySink::new(alloc, 4096, failing.err.to_vec(alloc)?)?;
+    let status = run_slicer(alloc, words, &mut shelf, &mut out, &mut err);
+    Ok(Ended {
+        status,
+        out: Text::from_slice(alloc, out.bytes())?,
+        err: Text::from_slice(alloc, err.bytes())?,
+    })
+}
+
+// The words of a line, one blank between each two. An empty line has none.
+fn words_of(alloc: Global, line: &str) -> Result<Vec<Text>, AllocError> {
+    let mut words = Vec::new(alloc);
+    if line.is_empty() {
+        return Ok(words);
+    }
+    for word in line.split(' ') {
+        words.push(Text::from_slice(alloc, word.as_bytes())?)?;
+    }
+    Ok(words)
+}
+
+// One file.
+fn file(alloc: Global, name: &str, bytes: &str) -> Result<Vec<(Text, Text)>, AllocError> {
+    let mut files = Vec::new(alloc);
+    let name = Text::from_slice(alloc, name.as_bytes())?;
+    let bytes = Text::from_slice(alloc, bytes.as_bytes())?;
+    files.push((name, bytes))?;
+    Ok(files)
+}
+
+fn run_on_two(alloc: Global, line: &str, failing: &Failing<'_>) -> Result<Ended, AllocError> {
+    let words = words_of(alloc, line)?;
+    run(alloc, &words, file(alloc, "two.c", TWO)?, failing)
+}
+
+#[test]
+fn two_is_sliced_or_refused(rt: HostRuntime) -> Result<(), Fail> {
+    // The words, the status, and what out and err have gained.
+    let rows = [
+        ("slice two.c 7", Status::Done, TWO_AT_7, ""),
+        ("slice two.c 007", Status::Done, TWO_AT_7, ""),
+        ("slice two.c 0000000004", Status::Done, TWO_AT_4, ""),
+        ("slice two.c 4", Status::Done, TWO_AT_4, ""),
+        (
+            "slice two.c 2",
+            Status::Refused,
+            "",
+            "2: no statement starts here\n",
+        ),
+        (
+            "slice two.c 0",
+            Status::Refused,
+            "",
+            "0: no statement starts here\n",
+        ),
+        (
+            "slice two.c 99",
+            Status::Refused,
+            "",
+            "99: no statement starts here\n",
+        ),
+        (
+            "slice two.c 0099",
+            Status::Refused,
+            "",
+            "99: no statement starts here\n",
+        ),
+        (
+            "slice two.c 9",
+            Status::Refused,
+            "",
+            "9: no statement starts here\n",
+        ),
+        (
+            "slice two.c 4294967295",
+            Status::Refused,
+            "",
+            "4294967295: no statement starts here\n",
+        ),
+        (
+            "slice two.c 4294967303",
+            Status::Refused,
+            "",
+            "4294967303: no statement starts here\n",
+        ),
+        (
+            "slice two.c 9999999999",
+            Status::Refused,
+            "",
+            "9999999999: no statement starts here\n",
+        ),
+        ("slice no.c 1", Status::ReadFault, "", "cannot read no.c\n"),
+        (
+            "slice two.c/ 7",
+            Status::ReadFault,
+            "",
+            "cannot read two.c/\n",
+        ),
+    ];
+    for (line, status, out, err) in rows {
+        let ended = run_on_two(rt.alloc(), line, &NONE_FAILING)?;
+        assert_eq!(rt; ended.status, status, "{line}");
+        assert_eq!(rt; ended.out.bytes(), out.as_bytes(), "{line}");
+        assert_eq!(rt; ended.err.bytes(), err.as_bytes(), "{line}");
+    }
+    Ok(())
+}
+
+#[test]
+fn other_words_are_told_the_usage(rt: HostRuntime) -> Result<(), Fail> {
+    let rows = [
+        "",
+        "slice",
+        "slice two.c",
+        "slice two.c x",
+        "slice two.c 7x",
+        "slice two.c -7",
+        "slice two.c +7",
+        "slice two.c 00000000007",
+        "slice two.c ",
+        "slice  7",
+        "slice -two.c 7",
+        "slice - 7",
+        "slice two.c 7 4",
+        "Slice two.c 7",
+        "slices two.c 7",
+        "run two.c",
+        "two.c 7",
+        "--help",
+        "help",
+        "slice --workers=4 two.c 7",
+    ];
+    for line in rows {
+        let ended = run_on_two(rt.alloc(), line, &NONE_FAILING)?;
+        assert_eq!(rt; ended.status, Status::Usage, "{line}");
+        assert_eq!(rt; ended.out.bytes(), b"".as_slice(), "{line}");
+        assert_eq!(rt; ended.err.bytes(), USAGE.as_bytes(), "{line}");
+    }
+    Ok(())
+}
+
+#[test]
+fn a_name_is_utf8(rt: HostRuntime) -> Result<(), Fail> {
+    let alloc = rt.alloc();
+    // The bytes of the name, and whether they are a name.
+    let rows: [(&[u8], bool); 4] = [
+        (b"\xc3\xa9.c", true),
+        (b"\xc3", false),
+        (b"a\xff.c", false),
+        (b" ", true),
+    ];
+    for (name, is_name) in rows {
+        let mut words = words_of(alloc, "slice")?;
+        words.push(Text::from_slice(alloc, name)?)?;
+        words.push(Text::from_slice(alloc, b"7")?)?;
+        let ended = run(alloc, &words, file(alloc, "two.c", TWO)?, &NONE_FAILING)?;
+        let status = if is_name {
+            Status::ReadFault
+        } else {
+            Status::Usage
+        };
+        assert_eq!(rt; ended.status, status, "{name:?}");
+    }
+    Ok(())
+}
+
+#[test]
+fn a_fault_of_the_outside_is_told(rt: HostRuntime) -> Result<(), Fail> {
+    // The words, what fails, the status, and what out and err have gained.
+    let rows = [
+        (
+            "slice two.c 7",
+            Failing {
+                fetches: &[0],
+                out: &[],
+                err: &[],
+            },
+            Status::ReadFault,
+            "",
+            "cannot read two.c\n",
+        ),
+        (
+            "slice two.c 7",
+            Failing {
+                fetches: &[1],
+                out: &[],
+                err: &[],
+            },
+            Status::Done,
+            TWO_AT_7,
+            "",
+        ),
+        (
+            "slice two.c 7",
+            Failing {
+                fetches: &[],
+                out: &[(0, 10)],
+                err: &[],
+            },
+            Status::WriteFault,
+            "/* slice 7",
+            "cannot write\n",
+        ),
+        (
+            "slice two.c 7",
+            Failing {
+                fetches: &[],
+                out: &[(0, 0)],
+                err: &[(0, 3)],
+            },
+            Status::WriteFault,
+            "",
+            "can",
+        ),
+        (
+            "slice two.c 7",
+            Failing {
+                fetches: &[],
+                out: &[],
+                err: &[(0, 0)],
+            },
+            Status::Done,
+            TWO_AT_7,
+            "",
+        ),
+        (
+            "slice two.c 2",
+            Failing {
+                fetches: &[],
+                out: &[],
+                err: &[(0, 4)],
+            },
+            Status::WriteFault,
+            "",
+            "2: n",
+        ),
+        (
+            "slice two.c",
+            Failing {
+                fetches: &[],
+                out: &[],
+                err: &[(0, 0)],
+            },
+            Status::WriteFault,
+            "",
+            "",
+        ),
+        (
+            "slice no.c 7",
+            Failing {
+                fetches: &[],
+                out: &[],
+                err: &[(0, 99)],
+            },
+            Status::WriteFault,
+            "",
+            "cannot read no.c\n",
+        ),
+    ];
+    for (line, failing, status, out, err) in rows {
+        let ended = run_on_two(rt.alloc(), line, &failing)?;
+        assert_eq!(rt; ended.status, status, "{line}");
+        assert_eq!(rt; ended.out.bytes(), out.as_bytes(), "{line}");
+        assert_eq!(rt; ended.err.bytes(), err.as_bytes(), "{line}");
+    }
+    Ok(())
+}
+
+#[test]
+fn a_long_file_is_told(rt: HostRuntime) -> Result<(), Fail> {
+    let alloc = rt.alloc();
+    // The length of a.c, the status and what err has gained.
+    let rows = [
+        (
+            MAX_FILE_BYTES + 1,
+            Status::TooLong,
+            "a.c is longer than 1048576 bytes\n",
+        ),
+        (MAX_FILE_BYTES, Status::Refused, "not yet\n"),
+        (0, Status::Refused, "not yet\n"),
+    ];
+    for (length, status, err) in rows {
+        let bytes = vec![in alloc; b'x'; length]?;
+        let mut files = Vec::new(alloc);
+        files.push((
+            Text::from_slice(alloc, b"a.c")?,
+            Text::from_slice(alloc, bytes.as_slice())?,
+        ))?;
+        let words = words_of(alloc, "slice a.c 7")?;
+        let ended = run(alloc, &words, files, &NONE_FAILING)?;
+        assert_eq!(rt; ended.status, status, "{length}");
+        assert_eq!(rt; ended.out.bytes(), b"".as_slice(), "{length}");
+        assert_eq!(rt; ended.err.bytes(), err.as_bytes(), "{length}");
+    }
+    Ok(())
+}
+
+#[test]
+fn a_slice_is_sliced(rt: HostRuntime) -> Result<(), Fail> {
+    let alloc = rt.alloc();
+    // A text, a line and what is written.
+    let rows = [
+        (TWO_AT_7, "slice t.c 6", TWO_AT_7_AT_6),
+        (TWO_AT_4, "slice t.c 4", TWO_AT_4),
+    ];
+    for (text, line, out) in rows {
+        let words = words_of(alloc, line)?;
+        let ended = run(alloc, &words, file(alloc, "t.c", text)?, &NONE_FAILING)?;
+        assert_eq!(rt; ended.status, Status::Done, "{line}");
+        assert_eq!(rt; ended.out.bytes(), out.as_bytes(), "{line}");
+    }
+    Ok(())
+}
+
+// A program: the include, and main with these lines, between each two of which stands a `|`.
+fn program(alloc: Global, head: &str, lines: &str) -> Result<String, AllocError> {
+    let mut text = String::from_str(alloc, head)?;
+    text.push_str("#include <stdio.h>\nint main(void) {\n")?;
+    if !lines.is_empty() {
+        for line in lines.split('|') {
+            text.push_str("    ")?;
+            text.push_str(line)?;
+            text.push_str("\n")?;
+        }
+    }
+    text.push_str("}\n")?;
+    Ok(text)
+}
+
+#[test]
+fn a_slice_keeps_what_its_line_depends_on(rt: HostRuntime) -> Result<(), Fail> {
+    let alloc = rt.alloc();
+    // The lines of main, the first of which is line 3; the words; the header; the lines of the slice's main.
+    let rows = [
+        // A chain of uses: what comes after the line goes.
+        (
+            r#"int x = 1;|int y = x + 2;|int z = y - 3;|printf("%d\n", z);"#,
+            "slice t.c 5",
+            "/* slice 5: 6 */\n",
+            "int x = 1;|int y = x + 2;|int z = y - 3;",
+        ),
+        (
+            r#"int x = 1;|int y = x + 2;|int z = y - 3;|printf("%d\n", z);"#,
+            "slice t.c 3",
+            "/* slice 3: 4 */\n",
+            "int x = 1;",
+        ),
+        // A value that is overwritten goes; the declaration stays without it.
+        (
+            r#"int a = 1;|a = 2;|printf("%d\n", a);"#,
+            "slice t.c 5",
+            "/* slice 5: 6 */\n",
+            r#"int a;|a = 2;|printf("%d\n", a);"#,
+        ),
+        // A value that is overwritten by one made of it stays.
+        (
+            r#"int a = 1;|a = a - a;|a = a + 1;|printf("%d\n", a);"#,
+            "slice t.c 6",
+            "/* slice 6: 7 */\n",
+            r#"int a = 1;|a = a - a;|a = a + 1;|printf("%d\n", a);"#,
+        ),
+        // A declaration without a value stays where kept text names its variable.
+        (
+            r#"int a;|int b;|a = 3;|b = a + a;|printf("%d\n", b);|printf("%d\n", a);"#,
+            "slice t.c 8",
+            "/* slice 8: 6 */\n",
+            r#"int a;|a = 3;|printf("%d\n", a);"#,
+        ),
+        (
+            r#"int a;|int b;|a = 3;|b = a + a;|printf("%d\n", b);|printf("%d\n", a);"#,
+            "slice t.c 7",
+            "/* slice 7: 8 */\n",
+            r#"int a;|int b;|a = 3;|b = a + a;|printf("%d\n", b);"#,
+        ),
+        // A constant depends on nothing.
+        (
+            r#"int a = 1;|printf("%d\n", 5);|printf("%d\n", a);"#,
+            "slice t.c 4",
+            "/* slice 4: 4 */\n",
+            r#"printf("%d\n", 5);"#,
+        ),
+        // Both operands are used.
+        (
+            r#"int a = 1;|int b = 2;|int c = 3;|a = b - c;|b = a + 1;|printf("%d\n", b);"#,
+            "slice t.c 8",
+            "/* slice 8: 9 */\n",
+            r#"int a;|int b = 2;|int c = 3;|a = b - c;|b = a + 1;|printf("%d\n", b);"#,
+        ),
+        (
+            r#"int a = 1;|int b = 2;|int c = 3;|a = b - c;|b = a + 1;|printf("%d\n", b);"#,
+            "slice t.c 6",
+            "/* slice 6: 7 */\n",
+            "int a;|int b = 2;|int c = 3;|a = b - c;",
+        ),
+        // A variable that never got a value.
+        (
+            "int u;|int v = u + 1;|int w = 2;",
+            "slice t.c 4",
+            "/* slice 4: 5 */\n",
+            "int u;|int v = u + 1;",
+        ),
+        // Names and constants at their limits.
+        (
+            r#"int _x9 = 2147483647;|int Y_ = 0;|Y_ = Y_ - _x9;|printf("%d\n", Y_);"#,
+            "slice t.c 6",
+            "/* slice 6: 7 */\n",
+            r#"int _x9 = 2147483647;|int Y_ = 0;|Y_ = Y_ - _x9;|printf("%d\n", Y_);"#,
+        ),
+        // What is printed before doesn't count.
+        (
+            r#"int a = 1;|printf("%d\n", a);|printf("%d\n", a);|a = 2;"#,
+            "slice t.c 5",
+            "/* slice 5: 5 */\n",
+            r#"int a = 1;|printf("%d\n", a);"#,
+        ),
+        // An assignment that nothing uses, as the line itself.
+        (
+            r#"int a = 1;|int b = a;|b = 7;|a = b;"#,
+            "slice t.c 6",
+            "/* slice 6: 7 */\n",
+            "int a;|int b;|b = 7;|a = b;",
+        ),
+    ];
+    for (lines, line, header, kept) in rows {
+        let text = program(alloc, "", lines)?;
+        let want = program(alloc, header, kept)?;
+        let words = words_of(alloc, line)?;
+        let ended = run(alloc, &words, file(alloc, "t.c", &text)?, &NONE_FAILING)?;
+        assert_eq!(rt; ended.status, Status::Done, "{line} of {lines}");
+        assert_eq!(rt; ended.out.bytes(), want.as_bytes(), "{line} of {lines}");
+        assert_eq!(rt; ended.err.bytes(), b"".as_slice(), "{line} of {lines}");
+    }
+    Ok(())
+}
+
+#[test]
+fn a_text_of_another_form_is_refused(rt: HostRuntime) -> Result<(), Fail> {
+    let alloc = rt.alloc();
+    // What stands before the include, the lines of main, and what is told of line 3.
+    let rows = [
+        ("", "", "3: no statement starts here\n"),
+        ("", "int a;", "3: no statement starts here\n"),
+        ("/**/\n", "int a = 1;", "3: no statement starts here\n"),
+        ("/*/\n", "int a = 1;", "not yet\n"),
+        ("/* */ */\n", "int a = 1;", "not yet\n"),
+        ("/* a */\n/* b */\n", "int a = 1;", "not yet\n"),
+        ("\n", "int a = 1;", "not yet\n"),
+        ("", "int a = 01;", "not yet\n"),
+        ("", "int a = 2147483648;", "not yet\n"),
+        ("", "int a = a;", "not yet\n"),
+        ("", "a = 1;|int a;", "not yet\n"),
+        ("", "int a = 1;|int a = 2;", "not yet\n"),
+        ("", "int while = 1;", "not yet\n"),
+        ("", "int EOF = 1;", "not yet\n"),
+        ("", "int 9a = 1;", "not yet\n"),
+        ("", "int a = 1 * 2;", "not yet\n"),
+        ("", "int a = 1 + 2 + 3;", "not yet\n"),
+        ("", "int a = 1+2;", "not yet\n"),
+        ("", "int a = -1;", "not yet\n"),
+        ("", "int a = 1; ", "not yet\n"),
+        ("", "long a = 1;", "not yet\n"),
+        ("", "printf(\"%d\", 1);", "not yet\n"),
+        ("", "return 0;", "not yet\n"),
+        ("", "}", "not yet\n"),
+    ];
+    for (head, lines, err) in rows {
+        let text = program(alloc, head, lines)?;
+        let words = words_of(alloc, "slice t.c 3")?;
+        let ended = run(alloc, &words, file(alloc, "t.c", &text)?, &NONE_FAILING)?;
+        assert_eq!(rt; ended.status, Status::Refused, "{lines}");
+        assert_eq!(rt; ended.out.bytes(), b"".as_slice(), "{lines}");
+        assert_eq!(rt; ended.err.bytes(), err.as_bytes(), "{lines}");
+    }
+    Ok(())
+}
+
+#[test]
+fn each_status_has_its_code(rt: HostRuntime) {
+    let rows = [
+        (Status::Done, 0),
+        (Status::Refused, 1),
+        (Status::Usage, 2),
+        (Status::ReadFault, 3),
+        (Status::WriteFault, 4),
+        (Status::NoMemory, 5),
+        (Status::TooLong, 9),
+    ];
+    for (status, code) in rows {
+        assert_eq!(rt; status.code(), code, "{status:?}");
+    }
+}
