@@ -1,5 +1,5 @@
 -- What a shelf in memory is.
-use Rattle.std.specs.Prelude.{ℕ, List, Some}
+use Rattle.std.specs.Prelude.{◌≡◌, ℕ, List, [], Some}
 use Rattle.edge_io.specs.Contents.{Told}
 use Rattle.edge_io.specs.Files.{bytes_under}
 use Rattle.edge_io.specs.declared.memory_shelf.MemoryShelf.{MemoryShelf}
@@ -27,3 +27,7 @@ long_files_of shelf = shelf.long_files
 -- it tells its contents
 abbrev pub contents_of : MemoryShelf → Told
 contents_of shelf = Some (bytes_under (files_of shelf))
+
+-- no fetch is to fail
+abbrev pub NeverFails : MemoryShelf → Type 0
+NeverFails shelf = failing_of shelf ≡ []

@@ -1,5 +1,5 @@
 -- What a sink in memory is.
-use Rattle.std.specs.Prelude.{ℕ, List, Option, Some}
+use Rattle.std.specs.Prelude.{◌≡◌, ℕ, ◌+◌, ◌≤◌, List, [], length, Option, Some}
 use Rattle.edge_io.specs.declared.memory_sink.MemorySink.{MemorySink}
 
 -- the bytes written so far
@@ -25,3 +25,8 @@ faults_of sink = sink.faults
 -- it tells its bytes
 abbrev pub written_of : MemorySink → Option (List ℕ)
 written_of sink = Some (bytes_of sink)
+
+-- no put is to fail, and there is room left for so many bytes
+pub record Takes (sink : MemorySink) (count : ℕ) : Type 0 where
+  pub none_failing : failing_of sink ≡ []
+  pub room : length (bytes_of sink) + count ≤ room_of sink

@@ -44,10 +44,12 @@ impl<R: Files + Drop> Shelf for FileShelf<R> {
 
     ghost contents = { λ _. None };
 
+    ghost never_fails = { λ _. ⊥ };
+
     fn fetch(&mut self, alloc: Global, name: &str, most: usize) -> Result<Vec<u8>, FetchFault>
         requires { most ≤ 2 ^ 30 }
 
-        // What every shelf ensures, of one that tells no contents.
+        // What every shelf ensures, of one that tells no contents and may fail at any time.
         ensures faults { NeverFalls (faults_of self.old) (faults_of self.new) }
         ensures long_files { NeverFalls (long_files_of self.old) (long_files_of self.new) }
         ensures at_most { IfOk result (λ bytes. vec_len bytes ≤ most) }

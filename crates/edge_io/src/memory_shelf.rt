@@ -52,13 +52,15 @@ impl MemoryShelf {
 }
 
 impl Shelf for MemoryShelf {
-    ghost use Rattle.edge_io.specs.MemoryShelf.{files_of, failing_of, fetches_of, faults_of, long_files_of, contents_of};
+    ghost use Rattle.edge_io.specs.MemoryShelf.{files_of, failing_of, fetches_of, faults_of, long_files_of, contents_of, NeverFails};
 
     ghost faults = { faults_of };
 
     ghost long_files = { long_files_of };
 
     ghost contents = { contents_of };
+
+    ghost never_fails = { NeverFails };
 
     /// Fails with `Failed` exactly where this fetch's number is among the failing ones or no file has the name,
     /// and with `TooLong` exactly where the number isn't among them and the first file of the name has more bytes.
@@ -78,6 +80,10 @@ impl Shelf for MemoryShelf {
         ensures longer { IfErr result (λ fault. fault ≡ FetchFault.TooLong → IsSome (contents_of self.old)
             → HoldsMoreThan (contents_of self.old) name.now most) }
         ensures no_longer { OnOk result (¬ HoldsMoreThan (contents_of self.old) name.now most) }
+        ensures never_fails { NeverFails self.old → NeverFails self.new }
+        ensures no_fault { NeverFails self.old → faults_of self.new ≡ faults_of self.old }
+        ensures missing { NeverFails self.old → IfErr result (λ fault. fault ≡ FetchFault.Failed
+            → Lacks (contents_of self.old) name.now) }
 
         // The next fetch has the next number. The files and the failing numbers stay.
         ensures fetches { fetches_of self.new ≡ one_more (fetches_of self.old) }

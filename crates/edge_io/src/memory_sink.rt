@@ -1,5 +1,5 @@
 // A sink in memory, for tests: it has limited room and fails at chosen puts.
-ghost use Rattle.std.specs.Prelude.{◌≡◌, ◌⊎◌, ◌↔◌, ◌+◌, ◌-◌, ◌<◌, ◌≤◌, ◌++◌, [], IsSome, IfSome, IfOk, OnOk, OnErr, IsErr, length, take, vec_len, vec_capacity};
+ghost use Rattle.std.specs.Prelude.{◌≡◌, ◌⊎◌, ◌↔◌, ◌+◌, ◌-◌, ◌<◌, ◌≤◌, ◌++◌, [], ℕ, IsSome, IfSome, IfOk, IsOk, OnOk, OnErr, IsErr, length, take, vec_len, vec_capacity};
 ghost use Rattle.edge_io.specs.Count.{Rose, NeverFalls, Counts, one_more};
 ghost use Rattle.edge_io.specs.Written.{Gains, GainsFront};
 ghost use Rattle.edge_io.specs.Cuts.{taken_before_fault};
@@ -79,11 +79,13 @@ impl MemorySink {
 }
 
 impl Sink for MemorySink {
-    ghost use Rattle.edge_io.specs.MemorySink.{bytes_of, room_of, failing_of, puts_of, faults_of, written_of};
+    ghost use Rattle.edge_io.specs.MemorySink.{bytes_of, room_of, failing_of, puts_of, faults_of, written_of, Takes};
 
     ghost faults = { faults_of };
 
     ghost written = { written_of };
+
+    ghost takes = { Takes };
 
     /// Fails exactly where the piece is longer than the room left, and then writes nothing,
     /// or where this put's number has a pair, and then writes as many bytes as the first such pair says.
@@ -93,6 +95,10 @@ impl Sink for MemorySink {
         ensures ok { OnOk result (Gains (written_of self.old) (written_of self.new) piece.now) }
         ensures failed { OnErr result (Rose (faults_of self.old) (faults_of self.new)) }
         ensures front { OnErr result (GainsFront (written_of self.old) (written_of self.new) piece.now) }
+        ensures taken { (more : ℕ) → Takes self.old (length piece.now + more) → IsOk result }
+        ensures no_fault { (more : ℕ) → Takes self.old (length piece.now + more)
+            → faults_of self.new ≡ faults_of self.old }
+        ensures takes { (more : ℕ) → Takes self.old (length piece.now + more) → Takes self.new more }
 
         // The next put has the next number. The room and the failing numbers stay.
         ensures puts { puts_of self.new ≡ one_more (puts_of self.old) }

@@ -40,6 +40,9 @@ pub trait Shelf {
     /// The bytes under each name, of a shelf that tells them.
     ghost contents: { Self → Option (List ℕ → Option (List ℕ)) };
 
+    /// It meets no fault from here on. A shelf that can't promise that never has this.
+    ghost never_fails: { Self → Type 0 };
+
     /// The bytes of the file with this name, at most `most` of them.
     ///
     /// `Failed` where the shelf met a fault or lacks the file, `TooLong` where the file has more than `most` bytes,
@@ -62,5 +65,11 @@ pub trait Shelf {
         // Where contents are told, `TooLong` comes exactly where they are longer, but where `Failed` or `NoMemory` comes.
         ensures longer { IfErr result (λ fault. fault ≡ FetchFault.TooLong → IsSome (contents self.old)
             → HoldsMoreThan (contents self.old) name.now most) }
-        ensures no_longer { OnOk result (¬ HoldsMoreThan (contents self.old) name.now most) };
+        ensures no_longer { OnOk result (¬ HoldsMoreThan (contents self.old) name.now most) }
+
+        // A shelf that never fails has no fault in this call, and fails for no name that is there.
+        ensures never_fails { never_fails self.old → never_fails self.new }
+        ensures no_fault { never_fails self.old → faults self.new ≡ faults self.old }
+        ensures missing { never_fails self.old → IfErr result (λ fault. fault ≡ FetchFault.Failed
+            → Lacks (contents self.old) name.now) };
 }

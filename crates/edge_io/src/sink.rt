@@ -1,5 +1,5 @@
 // A sink: something that takes bytes in order.
-ghost use Rattle.std.specs.Prelude.{ℕ, List, Option, OnOk, OnErr};
+ghost use Rattle.std.specs.Prelude.{◌≡◌, ◌+◌, ℕ, List, Option, IsOk, OnOk, OnErr, length};
 ghost use Rattle.edge_io.specs.Count.{Rose, NeverFalls};
 ghost use Rattle.edge_io.specs.Written.{Gains, GainsFront};
 
@@ -18,6 +18,9 @@ pub trait Sink {
     /// The bytes written so far, of a sink that tells them.
     ghost written: { Self → Option (List ℕ) };
 
+    /// It takes any pieces of so many bytes in all without a fault. A sink that can't promise that never has this.
+    ghost takes: { Self → ℕ → Type 0 };
+
     /// Writes the piece behind what is written. It takes no memory.
     ///
     /// `PutFailed` where the sink met a fault: a prefix of the piece is then written.
@@ -25,5 +28,11 @@ pub trait Sink {
         ensures faults { NeverFalls (faults self.old) (faults self.new) }
         ensures ok { OnOk result (Gains (written self.old) (written self.new) piece.now) }
         ensures failed { OnErr result (Rose (faults self.old) (faults self.new)) }
-        ensures front { OnErr result (GainsFront (written self.old) (written self.new) piece.now) };
+        ensures front { OnErr result (GainsFront (written self.old) (written self.new) piece.now) }
+
+        // A sink that takes the piece and so many bytes more has no fault in this call, and takes those bytes then.
+        ensures taken { (more : ℕ) → takes self.old (length piece.now + more) → IsOk result }
+        ensures no_fault { (more : ℕ) → takes self.old (length piece.now + more)
+            → faults self.new ≡ faults self.old }
+        ensures takes { (more : ℕ) → takes self.old (length piece.now + more) → takes self.new more };
 }

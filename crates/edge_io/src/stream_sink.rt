@@ -42,8 +42,10 @@ impl<W: Write + Drop> Sink for StreamSink<W> {
 
     ghost written = { λ _. None };
 
+    ghost takes = { λ _ _. ⊥ };
+
     fn put(&mut self, piece: &[u8]) -> Result<(), PutFailed>
-        // What every sink ensures, of one that tells no bytes.
+        // What every sink ensures, of one that tells no bytes and may fail at any time.
         ensures faults { NeverFalls (faults_of self.old) (faults_of self.new) }
         ensures failed { OnErr result (Rose (faults_of self.old) (faults_of self.new)) }
 

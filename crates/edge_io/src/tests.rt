@@ -1,5 +1,5 @@
 // Shelves and sinks by their traits, and the answers of those in memory.
-ghost use Rattle.std.specs.Prelude.{◌≡◌, ◌⊎◌, ◌+◌, ◌≤◌, ◌++◌, IsTrue, [], IsSome, IfSome, IsOk, IsErrOf, OnOk, OnErr, None, length};
+ghost use Rattle.std.specs.Prelude.{◌≡◌, ◌⊎◌, ◌+◌, ◌≤◌, ◌++◌, ℕ, IsTrue, [], IsSome, IfSome, IsOk, IsErrOf, OnOk, OnErr, None, length};
 ghost use Rattle.edge_io.specs.Count.{Rose};
 ghost use Rattle.edge_io.specs.Contents.{Lacks, HoldsMoreThan};
 ghost use Rattle.edge_io.specs.Files.{bytes_under};
@@ -234,8 +234,11 @@ fn a_file_is_copied_by_the_system(rt: HostRuntime) -> Result<(), Fail> {
 
 // Whether one of two fetches fails.
 fn fails_at_one<F: Shelf>(alloc: Global, shelf: &mut F, first: &str, second: &str) -> bool
-    ensures { IsTrue result → Rose (F.faults shelf.old) (F.faults shelf.new)
+    ensures failed { IsTrue result → Rose (F.faults shelf.old) (F.faults shelf.new)
         ⊎ Lacks (F.contents shelf.old) first.now ⊎ Lacks (F.contents shelf.old) second.now }
+    ensures missing { F.never_fails shelf.old → IsTrue result
+        → Lacks (F.contents shelf.old) first.now ⊎ Lacks (F.contents shelf.old) second.now }
+    ensures never_fails { F.never_fails shelf.old → F.never_fails shelf.new }
 {
     match shelf.fetch(alloc, first, 4) {
         Err(FetchFault::Failed) => {
@@ -252,6 +255,8 @@ fn put_both<O: Sink>(out: &mut O, first: &[u8], second: &[u8]) -> Result<(), Put
     ensures ok { OnOk result (Gains (O.written out.old) (O.written out.new) (first.now ++ second.now)) }
     ensures err { OnErr result (Rose (O.faults out.old) (O.faults out.new)) }
     ensures front { OnErr result (GainsFront (O.written out.old) (O.written out.new) (first.now ++ second.now)) }
+    ensures taken { (more : ℕ) → O.takes out.old (length first.now + (length second.now + more)) → IsOk result }
+    ensures takes { (more : ℕ) → O.takes out.old (length first.now + (length second.now + more)) → O.takes out.new more }
 {
     out.put(first)?;
     out.put(second)?;
