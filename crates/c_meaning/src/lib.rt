@@ -6,3 +6,6 @@ mod value;
 
 pub use event::{Event, Shown, ShownList};
 pub use value::{Hop, Path, Place, Pointer, Value};
+
+#[cfg(test)]
+mod tests;
