@@ -50,3 +50,4 @@ pub mod ProjectionLaws
 pub mod HeaderLemmas
 pub mod EngineLaws
 pub mod SliceLaws
+pub mod OneSlice
