@@ -2,3 +2,4 @@ pub mod Files
 pub mod LateLines
 pub mod Lines
 pub mod Numbers
+pub mod Slices

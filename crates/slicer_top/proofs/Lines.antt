@@ -1,27 +1,24 @@
 -- What err gains by a line that is put whole, or in part.
-use Rattle.std.proofs.Common.{◌≡◌, ◌⊎◌, inl, inr, ℕ, List, length, take, refl, sym, ap, subst, ◌∙◌, arith}
-use Rattle.std.proofs.lemmas.List.{take_all}
+use Rattle.std.proofs.Common.{◌≡◌, ◌⊎◌, inl, inr, ℕ, ◌+◌, sym, subst, arith}
 use Rattle.std.specs.Prelude.{Option, Result, Ok, Err, IfOk, MatchResult}
-use Rattle.std.specs.Io.KnownBytes.{append_known}
-use Rattle.edge_io.specs.Written.{Gains, GainsFront}
+use Rattle.edge_io.specs.Written.{Gains}
 use Rattle.c_language.specs.Words.{Bytes}
 use Rattle.slicer_top.specs.declared.refusal.Refusal.{Refusal}
 use Rattle.slicer_top.specs.declared.refusal.Refusal.TheVariants.{Unreadable, TooLong, NotYet, NoStart, NoMemory}
 use Rattle.slicer_top.specs.declared.status.Status.{Status}
 use Rattle.slicer_top.specs.declared.status.Status.TheVariants as status
-use Rattle.slicer_top.specs.Lines.{IsLineOf, of_usage, of_file, of_length, of_text, of_line, of_out, of_memory, Tells, out_of_memory}
+use Rattle.slicer_top.specs.Lines.{IsLineOf, of_usage, of_file, of_length, of_text, of_line, of_out, of_memory, Tells, PutOrCutOff, out_of_memory}
 use Rattle.slicer_top.specs.Reports.{IsTold, IsReported, status_of, line_of}
 
--- the whole of a piece is a front of it
-whole_front : (before after : Option Bytes) (piece : Bytes) → Gains before after piece → GainsFront before after piece
-whole_front before after piece gained =
-    record { count = length piece; front = gained ∙ ap (append_known before) (sym (take_all (length piece) piece (omega arith))) }
+-- all that a sink takes, and nothing more
+pub and_no_more : (T : ℕ → Type 0) (n : ℕ) → T n → T (n + 0)
+and_no_more T n h = let same : n ≡ n + 0 = omega arith in subst T same h
 
 module _ (faults faults' : ℕ) (before after : Option Bytes) where
-  -- a line that was told was put, or a front of it
-  pub told_front : (answer : Status) (words : Bytes) (result : Status) → IsTold faults faults' before after answer words result → GainsFront before after words
-  told_front answer words result (inl put) = whole_front before after words put.1
-  told_front answer words result (inr cut) = cut.2
+  -- a line that was told was put, or the put of it failed
+  pub told_or_cut_off : (answer : Status) (words : Bytes) (result : Status) → IsTold faults faults' before after answer words result → PutOrCutOff faults faults' before after words
+  told_or_cut_off answer words result (inl put) = inl put.1
+  told_or_cut_off answer words result (inr cut) = inr (cut.1, cut.2)
 
   -- a line that was made was told, or else that there was no memory for it
   pub made_told : {S E : Type 0} (bytes : S → Bytes) (answer : Status) (words : Bytes) (made : Result S E) (result : Status) → MatchResult made (λ line. IsTold faults faults' before after answer (bytes line) result) (λ _. IsTold faults faults' before after status.NoMemory out_of_memory result) → IfOk made (λ line. bytes line ≡ words) → IsTold faults faults' before after answer words result ⊎ IsTold faults faults' before after status.NoMemory out_of_memory result
@@ -29,19 +26,19 @@ module _ (faults faults' : ℕ) (before after : Option Bytes) where
   made_told bytes answer words (Err e) result told is = inr told
 
   module _ (file : Bytes) (at : ℕ) where
-    put_tells : (answer : Status) (words : Bytes) → IsLineOf file at answer words → Gains before after words → Tells file at answer before after
+    put_tells : (answer : Status) (words : Bytes) → IsLineOf file at answer words → Gains before after words → Tells faults faults' before after file at answer
     put_tells answer words (of_usage) gained = (_, of_usage, gained)
     put_tells answer words (of_file) gained = (_, of_file, gained)
     put_tells answer words (of_length) gained = (_, of_length, gained)
     put_tells answer words (of_text) gained = (_, of_text, gained)
     put_tells answer words (of_line) gained = (_, of_line, gained)
-    put_tells answer words (of_out) gained = (_, _, of_out, whole_front before after _ gained)
+    put_tells answer words (of_out) gained = inl gained
     put_tells answer words (of_memory) gained = (_, of_memory, gained)
 
     -- the line of a status tells it
-    pub told_tells : (answer : Status) (words : Bytes) (result : Status) → IsLineOf file at answer words → IsTold faults faults' before after answer words result → Tells file at result before after
-    told_tells answer words result line (inl put) = subst (λ s. Tells file at s before after) (sym put.0) (put_tells answer words line put.1)
-    told_tells answer words result line (inr cut) = subst (λ s. Tells file at s before after) (sym cut.0) (answer, words, line, cut.2)
+    pub told_tells : (answer : Status) (words : Bytes) (result : Status) → IsLineOf file at answer words → IsTold faults faults' before after answer words result → Tells faults faults' before after file at result
+    told_tells answer words result line (inl put) = subst (Tells faults faults' before after file at) (sym put.0) (put_tells answer words line put.1)
+    told_tells answer words result line (inr cut) = subst (Tells faults faults' before after file at) (sym cut.0) (inr (answer, words, line, (cut.1, cut.2)))
 
     refusal_line : (refusal : Refusal) → IsLineOf file at (status_of refusal) (line_of file at refusal)
     refusal_line Unreadable = of_file
@@ -51,6 +48,6 @@ module _ (faults faults' : ℕ) (before after : Option Bytes) where
     refusal_line NoMemory = of_memory
 
     -- a report tells the status
-    pub report_tells : (refusal : Refusal) (result : Status) → IsReported faults faults' before after file at refusal result → Tells file at result before after
+    pub report_tells : (refusal : Refusal) (result : Status) → IsReported faults faults' before after file at refusal result → Tells faults faults' before after file at result
     report_tells refusal result (inl told) = told_tells _ _ result (refusal_line refusal) told
     report_tells refusal result (inr told) = told_tells _ _ result of_memory told

@@ -1,6 +1,7 @@
 -- The lines that a call puts on err.
 use Rattle.std.specs.Prelude.{◌≡◌, ◌⊎◌, ℕ, ◌++◌, Option, codes}
 use Rattle.std.specs.Fmt.{decimal}
+use Rattle.edge_io.specs.Count.{Rose}
 use Rattle.edge_io.specs.Written.{Gains, GainsFront}
 use Rattle.c_language.specs.Words.{Bytes}
 use Rattle.slicer_top.specs.Slices.{IsAccepted, LacksStart}
@@ -49,15 +50,29 @@ pub data IsLineOf (file : Bytes) (line : ℕ) : Status → Bytes → Type 0 wher
 abbrev pub Puts : Bytes → ℕ → Status → Option Bytes → Option Bytes → Type 0
 Puts file line status before after = (words : Bytes) × IsLineOf file line status words × Gains before after words
 
--- what err has gained when a call ends: nothing after Done, a front of one line after WriteFault, else the line of the status
-abbrev pub Tells : Bytes → ℕ → Status → Option Bytes → Option Bytes → Type 0
-Tells file line Done before after = after ≡ before
-Tells file line Refused before after = Puts file line Refused before after
-Tells file line Usage before after = Puts file line Usage before after
-Tells file line ReadFault before after = Puts file line ReadFault before after
-Tells file line WriteFault before after = (status : Status) × (words : Bytes) × IsLineOf file line status words × GainsFront before after words
-Tells file line NoMemory before after = Puts file line NoMemory before after
-Tells file line TooLong before after = Puts file line TooLong before after
+-- err has these counts of faults and tells these bytes, before and after
+module _ (faults faults' : ℕ) (before after : Option Bytes) where
+  -- a put on err failed, which has gained a front of this line
+  abbrev pub CutOff : Bytes → Type 0
+  CutOff words = Rose faults faults' × GainsFront before after words
+
+  -- the line was put, or the put of it failed
+  abbrev pub PutOrCutOff : Bytes → Type 0
+  PutOrCutOff words = Gains before after words ⊎ CutOff words
+
+  -- `cannot write` was put, or the put of the line of one status failed
+  abbrev pub TellsFault : Bytes → ℕ → Type 0
+  TellsFault file line = Gains before after cannot_write ⊎ ((status : Status) × (words : Bytes) × IsLineOf file line status words × CutOff words)
+
+  -- what err has gained when a call ends: nothing after Done, the line of the status after others, and after WriteFault that or a front of a line
+  abbrev pub Tells : Bytes → ℕ → Status → Type 0
+  Tells file line Done = after ≡ before
+  Tells file line Refused = Puts file line Refused before after
+  Tells file line Usage = Puts file line Usage before after
+  Tells file line ReadFault = Puts file line ReadFault before after
+  Tells file line WriteFault = TellsFault file line
+  Tells file line NoMemory = Puts file line NoMemory before after
+  Tells file line TooLong = Puts file line TooLong before after
 
 -- err tells why: the text isn't accepted, or on the line starts no statement of its program
 abbrev pub TellsWhy : Bytes → ℕ → Option Bytes → Option Bytes → Type 0

@@ -14,14 +14,23 @@ code_of WriteFault = 4
 code_of NoMemory = 5
 code_of TooLong = 9
 
--- the status is this answer, or one of those to which each answer yields: memory was wanting, or a line couldn't be put on err
-abbrev pub IsOrYields : Status → Status → Type 0
-IsOrYields status answer = (status ≡ answer) ⊎ (status ≡ NoMemory) ⊎ (status ≡ WriteFault)
+-- err had these counts of faults
+module _ (err err' : ℕ) where
+  -- the status is this answer, or one of those to which each answer yields: memory was wanting, or a put on err failed
+  abbrev pub IsOrYields : Status → Status → Type 0
+  IsOrYields status answer = (status ≡ answer) ⊎ (status ≡ NoMemory) ⊎ ((status ≡ WriteFault) × Rose err err')
 
--- likewise for an answer that follows from the bytes of the file, where the shelf had these counts of faults: it also yields to a fault
-abbrev pub IsOrYieldsToFault : Status → Status → ℕ → ℕ → Type 0
-IsOrYieldsToFault status answer before after = IsOrYields status answer ⊎ ((status ≡ ReadFault) × Rose before after)
+  -- likewise for an answer that follows from the bytes of the file, where the shelf had these counts: it also yields to a fault
+  abbrev pub IsOrYieldsToFault : ℕ → ℕ → Status → Status → Type 0
+  IsOrYieldsToFault shelf shelf' status answer = IsOrYields status answer ⊎ ((status ≡ ReadFault) × Rose shelf shelf')
 
 -- no fault came between the moments that have these counts
 abbrev pub NoFault : ℕ → ℕ → Type 0
 NoFault before after = Rose before after → ⊥
+
+-- the slice was written or memory was wanting, and the counts of faults of the shelf, of out and of err stayed
+pub record IsFaultless (shelf shelf' out out' err err' : ℕ) (status : Status) : Type 0 where
+  pub ends : (status ≡ Done) ⊎ (status ≡ NoMemory)
+  pub shelf_stays : shelf' ≡ shelf
+  pub out_stays : out' ≡ out
+  pub err_stays : err' ≡ err

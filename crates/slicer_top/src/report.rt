@@ -1,5 +1,5 @@
 // The lines on err.
-ghost use Rattle.std.specs.Prelude.{◌≡◌, IfOk, MatchResult};
+ghost use Rattle.std.specs.Prelude.{◌≡◌, IfOk, MatchResult, length};
 ghost use Rattle.std.specs.String.{string_bytes};
 ghost use Rattle.slicer_top.specs.Lines.{cannot_read, too_long, no_start, out_of_memory};
 ghost use Rattle.slicer_top.specs.Reports.{IsTold, IsReported};
@@ -17,8 +17,10 @@ pub(crate) fn report<E: Sink>(
     request: Request<'_>,
     err: &mut E,
 ) -> Status
-    ensures { IsReported (E.faults err.old) (E.faults err.new) (E.written err.old) (E.written err.new)
+    ensures told { IsReported (E.faults err.old) (E.faults err.new) (E.written err.old) (E.written err.new)
         request.entry.file.now request.entry.line refusal result }
+    ensures taken { refusal ≡ Refusal.NoMemory → E.takes err.old 14
+        → (result ≡ Status.NoMemory) × (E.faults err.new ≡ E.faults err.old) }
 {
     let Request { file, line } = request;
     match refusal {
@@ -62,7 +64,8 @@ fn tell_made<E: Sink>(made: Result<String, AllocError>, status: Status, err: &mu
 
 /// Puts one line, and answers this status, or `WriteFault` where the put fails.
 pub(crate) fn tell<E: Sink>(line: &[u8], status: Status, err: &mut E) -> Status
-    ensures { IsTold (E.faults err.old) (E.faults err.new) (E.written err.old) (E.written err.new) status line.now result }
+    ensures told { IsTold (E.faults err.old) (E.faults err.new) (E.written err.old) (E.written err.new) status line.now result }
+    ensures taken { E.takes err.old (length line.now) → (result ≡ status) × (E.faults err.new ≡ E.faults err.old) }
 {
     match err.put(line) {
         Ok(()) => status,

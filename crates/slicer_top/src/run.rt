@@ -1,14 +1,14 @@
 // The top call.
-ghost use Rattle.std.specs.Prelude.{◌≡◌, ◌≢◌, ◌⊎◌, ℕ, IsSome};
+ghost use Rattle.std.specs.Prelude.{◌≡◌, ◌≢◌, ◌⊎◌, ℕ, IsSome, length};
 ghost use Rattle.edge_io.specs.Count.{Rose};
 ghost use Rattle.edge_io.specs.Contents.{Lacks, HoldsMoreThan};
 ghost use Rattle.edge_io.specs.Written.{Gains, GainsFront};
 ghost use Rattle.c_language.specs.Words.{Bytes};
 ghost use Rattle.slicer_top.specs.Words.{IsInForm, file_of, line_of};
 ghost use Rattle.slicer_top.specs.Files.{OfFile, NamesText};
-ghost use Rattle.slicer_top.specs.Slices.{StartsNone, StartsOn, WritesSlice, WritesFront};
-ghost use Rattle.slicer_top.specs.Statuses.{IsOrYields, IsOrYieldsToFault, NoFault};
-ghost use Rattle.slicer_top.specs.Lines.{Tells, TellsWhy};
+ghost use Rattle.slicer_top.specs.Slices.{StartsNone, StartsOn, IsSliceOf, WritesSlice, WritesFront};
+ghost use Rattle.slicer_top.specs.Statuses.{IsOrYields, IsOrYieldsToFault, NoFault, IsFaultless};
+ghost use Rattle.slicer_top.specs.Lines.{Tells, TellsWhy, PutOrCutOff, cannot_write};
 
 use crate::report::{report, tell};
 use crate::slicing::slice_file;
@@ -31,25 +31,27 @@ pub fn run_slicer<F: Shelf, O: Sink, E: Sink>(
 ) -> Status
     // The words: Usage comes exactly where they are others.
     ensures usage { result ≡ Status.Usage → IsInForm words.now → ⊥ }
-    ensures other_words { (IsInForm words.now → ⊥) → IsOrYields result Status.Usage }
+    ensures other_words { (IsInForm words.now → ⊥) → IsOrYields (E.faults err.old) (E.faults err.new) result Status.Usage }
 
     // The file: it is read, or the shelf had a fault, lacks it or found it too long.
     ensures read_fault { result ≡ Status.ReadFault
         → Rose (F.faults shelf.old) (F.faults shelf.new) ⊎ Lacks (F.contents shelf.old) (file_of words.now) }
     ensures lacking { IsInForm words.now → Lacks (F.contents shelf.old) (file_of words.now)
-        → IsOrYields result Status.ReadFault }
+        → IsOrYields (E.faults err.old) (E.faults err.new) result Status.ReadFault }
     ensures too_long { result ≡ Status.TooLong → Rose (F.long_files shelf.old) (F.long_files shelf.new) }
     ensures longer { result ≡ Status.TooLong → IsSome (F.contents shelf.old)
         → HoldsMoreThan (F.contents shelf.old) (file_of words.now) 1048576 }
     ensures longer_file { IsInForm words.now → HoldsMoreThan (F.contents shelf.old) (file_of words.now) 1048576
-        → IsOrYieldsToFault result Status.TooLong (F.faults shelf.old) (F.faults shelf.new) }
+        → IsOrYieldsToFault (E.faults err.old) (E.faults err.new) (F.faults shelf.old) (F.faults shelf.new)
+        result Status.TooLong }
 
     // The text: Refused comes exactly where it isn't accepted or no statement starts on the line.
     ensures refused { result ≡ Status.Refused → OfFile (F.contents shelf.old) (file_of words.now)
         (λ text. TellsWhy text (line_of words.now) (E.written err.old) (E.written err.new)) }
     ensures no_slice { (text : Bytes) → NamesText words.now (F.contents shelf.old) text
         → StartsNone text (line_of words.now)
-        → IsOrYieldsToFault result Status.Refused (F.faults shelf.old) (F.faults shelf.new) }
+        → IsOrYieldsToFault (E.faults err.old) (E.faults err.new) (F.faults shelf.old) (F.faults shelf.new)
+        result Status.Refused }
 
     // The slice: after Done it is written, and where no fault came and memory sufficed, Done comes.
     ensures done { result ≡ Status.Done → OfFile (F.contents shelf.old) (file_of words.now)
@@ -61,13 +63,27 @@ pub fn run_slicer<F: Shelf, O: Sink, E: Sink>(
         → NoFault (E.faults err.old) (E.faults err.new)
         → (result ≡ Status.Done) ⊎ (result ≡ Status.NoMemory) }
 
+    // No fault comes where the shelf never fails, `out` has room for the slice and `err` for `out of memory`.
+    ensures faultless { (text : Bytes) → NamesText words.now (F.contents shelf.old) text
+        → StartsOn text (line_of words.now)
+        → F.never_fails shelf.old
+        → ((written : Bytes) → IsSliceOf text (line_of words.now) written → O.takes out.old (length written))
+        → E.takes err.old 14
+        → IsFaultless (F.faults shelf.old) (F.faults shelf.new) (O.faults out.old) (O.faults out.new)
+        (E.faults err.old) (E.faults err.new) result }
+
     // The sinks: `out` is as it was but after Done and WriteFault, and `err` has gained the line of the status.
     ensures write_fault { result ≡ Status.WriteFault
         → Rose (O.faults out.old) (O.faults out.new) ⊎ Rose (E.faults err.old) (E.faults err.new) }
     ensures unwritten { result ≢ Status.Done → result ≢ Status.WriteFault → out.new ≡ out.old }
-    ensures cut { result ≡ Status.WriteFault → (out.new ≡ out.old) ⊎ OfFile (F.contents shelf.old) (file_of words.now)
-        (λ text. WritesFront text (line_of words.now) (O.written out.old) (O.written out.new)) }
-    ensures tells { Tells (file_of words.now) (line_of words.now) result (E.written err.old) (E.written err.new) }
+    ensures cut { result ≡ Status.WriteFault
+        → ((out.new ≡ out.old) × Rose (E.faults err.old) (E.faults err.new))
+        ⊎ (Rose (O.faults out.old) (O.faults out.new)
+        × OfFile (F.contents shelf.old) (file_of words.now)
+        (λ text. WritesFront text (line_of words.now) (O.written out.old) (O.written out.new))
+        × PutOrCutOff (E.faults err.old) (E.faults err.new) (E.written err.old) (E.written err.new) cannot_write) }
+    ensures tells { Tells (E.faults err.old) (E.faults err.new) (E.written err.old) (E.written err.new)
+        (file_of words.now) (line_of words.now) result }
 
     // The shelf holds what it held.
     ensures contents { F.contents shelf.new ≡ F.contents shelf.old }
@@ -87,7 +103,12 @@ fn write_slice<O: Sink, E: Sink>(written: &Text, out: &mut O, err: &mut E) -> St
     ensures ok { result ≡ Status.Done → Gains (O.written out.old) (O.written out.new) written.now }
     ensures failed { result ≡ Status.WriteFault → Rose (O.faults out.old) (O.faults out.new) }
     ensures front { result ≡ Status.WriteFault → GainsFront (O.written out.old) (O.written out.new) written.now }
-    ensures tells { (file : Bytes) (line : ℕ) → Tells file line result (E.written err.old) (E.written err.new) }
+    ensures line { result ≡ Status.WriteFault
+        → PutOrCutOff (E.faults err.old) (E.faults err.new) (E.written err.old) (E.written err.new) cannot_write }
+    ensures tells { (file : Bytes) (line : ℕ) → Tells (E.faults err.old) (E.faults err.new)
+        (E.written err.old) (E.written err.new) file line result }
+    ensures taken { O.takes out.old (length written.now)
+        → (result ≡ Status.Done) × (O.faults out.new ≡ O.faults out.old) × (E.faults err.new ≡ E.faults err.old) }
 {
     match out.put(written.bytes()) {
         Ok(()) => Status::Done,

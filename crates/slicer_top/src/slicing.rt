@@ -1,5 +1,6 @@
 // From the name of a file to the text of a slice.
 ghost use Rattle.std.specs.Prelude.{◌≡◌, ◌<◌, ◌≤◌, ◌^◌, IfOk, IfErr, MatchOption, length};
+ghost use Rattle.edge_io.specs.Contents.{Lacks};
 ghost use Rattle.slice_engine.specs.Slice.{HasStart, IsSomeText};
 ghost use Rattle.slicer_top.specs.Files.{OfFile};
 ghost use Rattle.slicer_top.specs.Slices.{IsAccepted, LacksStart, IsSliceOf};
@@ -25,6 +26,9 @@ pub(crate) fn slice_file<F: Shelf>(
         (λ text. (length text ≤ 1048576) × IsSliceOf text request.entry.line written)) }
     ensures err { IfErr result (IsCause (F.contents shelf.old) request.entry.file.now request.entry.line
         (F.faults shelf.old) (F.faults shelf.new) (F.long_files shelf.old) (F.long_files shelf.new)) }
+    ensures no_fault { F.never_fails shelf.old → F.faults shelf.new ≡ F.faults shelf.old }
+    ensures missing { F.never_fails shelf.old → IfErr result (λ refusal. refusal ≡ Refusal.Unreadable
+        → Lacks (F.contents shelf.old) request.entry.file.now) }
 {
     match shelf.fetch(alloc, request.file, MAX_FILE_BYTES) {
         Ok(bytes) => slice_text_at(alloc, bytes.as_slice(), request.line),

@@ -1,4 +1,9 @@
 // Runs over files and sinks in memory.
+ghost use Rattle.std.specs.Prelude.{◌≡◌, ◌⊎◌, ◌≤◌, IfOk, length};
+ghost use Rattle.c_language.specs.Words.{Bytes};
+ghost use Rattle.slicer_top.specs.Words.{IsInForm, file_of, line_of};
+ghost use Rattle.slicer_top.specs.Slices.{StartsOn, IsSliceOf};
+
 use super::*;
 use edge_io::{MemoryShelf, MemorySink};
 use std::alloc::{AllocError, Global};
@@ -82,6 +87,29 @@ fn run(
         out: Text::from_slice(alloc, out.bytes())?,
         err: Text::from_slice(alloc, err.bytes())?,
     })
+}
+
+// Over one file and sinks in memory without failing numbers, with room for the slice and for `out of memory`:
+// the slice is written, or memory was wanting.
+fn run_without_failing(
+    alloc: Global,
+    words: &[Text],
+    name: Text,
+    text: Text,
+    room: usize,
+) -> Result<Status, AllocError>
+    ensures { IfOk result (λ status. IsInForm words.now → name ≡ file_of words.now → length text ≤ 1048576
+        → StartsOn text (line_of words.now)
+        → ((written : Bytes) → IsSliceOf text (line_of words.now) written → length written ≤ room)
+        → (status ≡ Status.Done) ⊎ (status ≡ Status.NoMemory)) }
+{
+    let mut files = Vec::new(alloc);
+    files.push((name, text))?;
+    let mut shelf = MemoryShelf::new(files, Vec::new(alloc));
+    let mut out = MemorySink::new(alloc, room, Vec::new(alloc))?;
+    let mut err = MemorySink::new(alloc, 14, Vec::new(alloc))?;
+    let status = run_slicer(alloc, words, &mut shelf, &mut out, &mut err);
+    Ok(status)
 }
 
 // The words of a line, one blank between each two. An empty line has none.
@@ -179,6 +207,26 @@ fn two_is_sliced_or_refused(rt: HostRuntime) -> Result<(), Fail> {
         assert_eq!(rt; ended.status, status, "{line}");
         assert_eq!(rt; ended.out.bytes(), out.as_bytes(), "{line}");
         assert_eq!(rt; ended.err.bytes(), err.as_bytes(), "{line}");
+    }
+    Ok(())
+}
+
+#[test]
+fn without_failing_numbers_no_fault_comes(rt: HostRuntime) -> Result<(), Fail> {
+    let alloc = rt.alloc();
+    // The words, the room, and the status.
+    let rows = [
+        ("slice two.c 7", TWO_AT_7.len(), Status::Done),
+        ("slice two.c 4", TWO_AT_4.len(), Status::Done),
+        ("slice two.c 4", TWO_AT_7.len(), Status::Done),
+        ("slice two.c 7", TWO_AT_7.len() - 1, Status::WriteFault),
+    ];
+    for (line, room, status) in rows {
+        let words = words_of(alloc, line)?;
+        let name = Text::from_slice(alloc, b"two.c")?;
+        let text = Text::from_slice(alloc, TWO.as_bytes())?;
+        let ended = run_without_failing(alloc, &words, name, text, room)?;
+        assert_eq!(rt; ended, status, "{line}");
     }
     Ok(())
 }

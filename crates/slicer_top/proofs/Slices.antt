@@ -1,0 +1,13 @@
+-- A text has one slice at a line.
+use Rattle.std.proofs.Common.{◌≡◌, ℕ, subst}
+use Rattle.c_tree.specs.declared.program.Program.{Program}
+use Rattle.c_language.specs.Words.{Bytes}
+use Rattle.slice_engine.specs.Slice.{IsSlice}
+use Rattle.slice_engine.proofs.OneSlice.{slice_one}
+use Rattle.slice_engine.proofs.ReadLaws.{text_unique}
+use Rattle.slicer_top.specs.Slices.{IsSliceOf}
+
+pub slice_of_one : (text : Bytes) (line : ℕ) (t u : Bytes) → IsSliceOf text line t → IsSliceOf text line u → t ≡ u
+slice_of_one text line t u a b =
+    let same : a.program ≡ b.program = text_unique text a.program b.program a.reads b.reads in
+    slice_one b.program line t u (subst (λ (p : Program). IsSlice p line t) same a.slice) b.slice
