@@ -9,6 +9,7 @@ mod expr;
 mod limits;
 pub mod numbered;
 mod program;
+mod raw;
 mod statement;
 mod types;
 
@@ -17,6 +18,10 @@ pub use edge_io::Text;
 pub use expr::{Expr, MemberId};
 pub use limits::LimitName;
 pub use program::{Function, Init, Item, Member, Program, StructDef, Var};
+pub use raw::{
+    RawAmount, RawArg, RawArm, RawExpr, RawHead, RawInit, RawItem, RawLabel, RawLength, RawMember,
+    RawParam, RawProgram, RawSize, RawStatement, RawTarget, RawType, RawVar,
+};
 pub use sqlite_items::{Boxed, Items};
 pub use statement::{Amount, Arm, Label, Size, Statement, Target};
 pub use types::{CType, FunctionId, StatementId, StructId, VarId};

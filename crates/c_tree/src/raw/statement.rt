@@ -1,0 +1,130 @@
+use crate::raw::expr::{RawExpr, RawType, RawVar};
+use crate::raw::program::RawInit;
+use c_arith::BinaryOp;
+use edge_io::Text;
+use sqlite_items::{Boxed, Items};
+
+/// Where a value that a call gives is stored.
+#[derive(Debug, Drop)]
+pub enum RawTarget {
+    None,
+    Place(RawExpr),
+    /// The variable that the statement declares.
+    Declared(RawVar),
+}
+
+/// An argument of a call: a value, or the spelling of a string literal with its quotes.
+#[derive(Debug, Drop)]
+pub enum RawArg {
+    Value(RawExpr),
+    Literal(Text),
+}
+
+/// The words of a size: `sizeof(T)`, or `sizeof(*p)` and `sizeof *p`.
+#[derive(Debug, Drop)]
+pub enum RawSize {
+    Type(RawType),
+    /// What a variable points to, and whether it stands in parentheses.
+    Pointee(Text, bool),
+}
+
+/// How much memory an allocation asks for.
+#[derive(Debug, Drop)]
+pub enum RawAmount {
+    Size(RawSize),
+    /// `n * sizeof(T)`
+    CountSize(RawExpr, RawSize),
+    /// `sizeof(T) * n`
+    SizeCount(RawSize, RawExpr),
+    Count(RawExpr),
+}
+
+/// A label of a switch.
+#[derive(Debug, Drop)]
+pub enum RawLabel {
+    Case(RawExpr),
+    Default,
+}
+
+/// An arm of a switch: its labels, and what is done up to its break.
+#[cycle(raw_tree)]
+#[derive(Debug, Drop)]
+pub struct RawArm {
+    pub labels: Items<RawLabel>,
+    pub body: Items<RawStatement>,
+}
+
+/// A statement or a declaration (ISO C99 6.7, 6.8).
+#[cycle(raw_tree)]
+#[derive(Debug, Drop)]
+pub enum RawStatement {
+    Declare {
+        line: u32,
+        var: RawVar,
+        init: RawInit,
+    },
+    /// `=`, or a compound assignment with its operator.
+    Assign {
+        line: u32,
+        left: RawExpr,
+        op: Option<BinaryOp>,
+        right: RawExpr,
+    },
+    /// `++` or else `--`, written before its place or behind it.
+    Bump {
+        line: u32,
+        left: RawExpr,
+        up: bool,
+        before: bool,
+    },
+    /// A call of a function by its name, other than `malloc`.
+    Call {
+        line: u32,
+        target: RawTarget,
+        function: Text,
+        args: Items<RawArg>,
+    },
+    /// A call of `malloc` (7.20.3.3), with the type that it is cast to.
+    Heap {
+        line: u32,
+        target: RawTarget,
+        cast: Option<RawType>,
+        amount: RawAmount,
+    },
+    If {
+        line: u32,
+        test: RawExpr,
+        then: Items<RawStatement>,
+        other: Items<RawStatement>,
+    },
+    While {
+        line: u32,
+        test: RawExpr,
+        body: Items<RawStatement>,
+    },
+    Do {
+        line: u32,
+        test: RawExpr,
+        body: Items<RawStatement>,
+    },
+    For {
+        line: u32,
+        init: Option<Boxed<RawStatement>>,
+        test: RawExpr,
+        step: Option<Boxed<RawStatement>>,
+        body: Items<RawStatement>,
+    },
+    Switch {
+        line: u32,
+        test: RawExpr,
+        arms: Items<RawArm>,
+    },
+    Block {
+        line: u32,
+        body: Items<RawStatement>,
+    },
+    Return {
+        line: u32,
+        value: Option<RawExpr>,
+    },
+}
