@@ -1,0 +1,12 @@
+pub mod Turns
+pub mod Loops
+pub mod Places
+pub mod CommentLemmas
+pub mod WordLemmas
+pub mod LineLemmas
+pub mod PieceLaws
+pub mod FrontLaws
+pub mod ScanLaws
+pub mod ConstantLaws
+pub mod TokenLaws
+pub mod FaultLaws

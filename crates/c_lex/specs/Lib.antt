@@ -1,0 +1,4 @@
+pub mod Faults
+pub mod Scanning
+pub mod Sought
+pub mod Numbers

@@ -1,0 +1,23 @@
+//! The tokens of a text, by one scan of its bytes.
+//!
+//! [`lex`] is proved to answer exactly the tokens that the text has by the definition of c_language,
+//! or a fault that the bytes show.
+#![tactic(auto)]
+
+mod bytes;
+mod fault;
+mod lexer;
+mod line;
+mod literal;
+mod mark;
+mod number;
+mod piece;
+mod place;
+#[cfg(test)]
+mod tests;
+mod word;
+
+pub use c_language::{Token, TokenKind};
+pub use edge_io::Text;
+pub use fault::LexFault;
+pub use lexer::lex;
