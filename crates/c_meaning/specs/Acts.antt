@@ -1,77 +1,118 @@
--- Acts: the values that one makes, what it writes, and what it puts out.
-use Rattle.std.specs.Prelude.{◌≡◌, ℕ, ◌==◌, ℤ, List, [], ◌∷◌, ◌++◌, Bool, if◌then◌else◌, Option, Some, None, map}
-use Rattle.std.specs.Option.{option_map}
-use Rattle.std.specs.Fmt.{signed_decimal}
+-- Acts: what one makes of a state, and the state after it.
+use Rattle.std.specs.Prelude.{ℕ, ℤ, pos, List, [], ◌∷◌, Bool, true, false, if◌then◌else◌, Option, Some, None, option_map, option_and_then, map, unsigned_abs}
+use Rattle.c_arith.specs.declared.int_type.IntType.TheVariants.{Int, UChar}
 use Rattle.c_arith.specs.declared.operators.BinaryOp.{BinaryOp}
+use Rattle.c_arith.specs.declared.operators.BinaryOp.TheVariants.{Add, Sub}
+use Rattle.c_arith.specs.IntType.{convert}
 use Rattle.c_tree.specs.declared.expr.Expr.{Expr}
 use Rattle.c_tree.specs.declared.program.Init.{Init}
 use Rattle.c_tree.specs.declared.program.Init.TheVariants as init
+use Rattle.c_language.specs.declared.expr_type.ExprType.{ExprType}
+use Rattle.c_language.specs.DeclaredTypes.{integer}
 use Rattle.c_language.specs.Words.{Bytes}
-use Rattle.c_language.specs.Code.{Act, Begins, Sets, Prints}
+use Rattle.c_language.specs.Code.{Act, Begins, Sets, Bumps, Fetches, Writes, Prints, Allocates, Frees, Returns, Tests}
+use Rattle.c_meaning.specs.declared.value.Place.{Place}
 use Rattle.c_meaning.specs.declared.value.Value.{Value}
-use Rattle.c_meaning.specs.declared.value.Value.TheVariants.{Number, Null, To}
-use Rattle.c_meaning.specs.Values.{Cells, put, eval, eval_all, place}
+use Rattle.c_meaning.specs.declared.value.Value.TheVariants.{Number}
+use Rattle.c_meaning.specs.Memory.{Memory, is_live, write}
+use Rattle.c_meaning.specs.Values.{Types, State, variable_place, tested, as_type, binary_value, type_of, place, eval, eval_all}
+use Rattle.c_meaning.specs.Formats.{Piece, format_pieces, converted, written}
 
-abbrev pub single : Value → List Value
-single v = v ∷ []
+pub record Store : Type 0 where
+  pub place : Place
+  pub value : Value
 
-abbrev pub init_values : Init → Cells → Option (List Value)
-init_values init.None cells = None
-init_values (init.One e) cells = option_map single (eval e cells)
-init_values (init.Items es) cells = None
+-- what an act makes: the values that its event shows, what it stores, and what it puts out
+pub record Made : Type 0 where
+  pub values : List Value
+  pub stores : List Store
+  pub output : Bytes
 
-abbrev pub set_values : Option BinaryOp → Expr → Cells → Option (List Value)
-set_values None e cells = option_map single (eval e cells)
-set_values (Some op) e cells = None
+abbrev pub shows : List Value → Bytes → Made
+shows values output = record { values = values; stores = []; output = output }
 
--- the values that an act makes, or None where it is undefined: what it stores or prints
-abbrev pub act_values : Act → Cells → Option (List Value)
-act_values (Begins x i) cells = init_values i cells
-act_values (Sets left op right) cells = set_values op right cells
-act_values (Prints format args) cells = eval_all args cells
+-- a value, stored at a place
+abbrev pub storing : Place → Value → Made
+storing p v = record { values = v ∷ []; stores = (record { place = p; value = v }) ∷ []; output = [] }
 
-abbrev pub stored : Option ℕ → List Value → Cells → Cells
-stored None vs cells = cells
-stored (Some x) [] cells = cells
-stored (Some x) (v ∷ vs) cells = put cells x (Some v)
+abbrev pub if_live : Memory → Place → Option Place
+if_live m p = if is_live m p.block then Some p else None
 
--- the cells after an act that made these values
-abbrev pub cells_after : Act → List Value → Cells → Cells
-cells_after (Begins x i) vs cells = stored (Some x) vs cells
-cells_after (Sets left op right) vs cells = stored (place left) vs cells
-cells_after (Prints format args) vs cells = cells
+-- the place that a left side designates, where it can be written
+abbrev pub writable : State → Option Place → Option Place
+writable s o = option_and_then (if_live s.memory) o
 
--- a value, as `%d` writes it
-abbrev pub value_text : Value → Bytes
-value_text (Number z) = signed_decimal z
-value_text Null = []
-value_text (To p) = []
+-- an assignment: the value, converted to the type of the left side, goes to its place (ISO C99 6.5.16.1)
+abbrev pub assigned : ExprType → Option Place → Option Value → Option Made
+assigned t o v = option_and_then (λ (p : Place). option_map (λ (x : Value). storing p (as_type t x)) v) o
 
-abbrev pub first_text : List Value → Bytes
-first_text [] = []
-first_text (v ∷ vs) = value_text v
+-- initialisers by lists are not built yet, and a declaration without one is no act
+abbrev pub begun_with : Types → ℕ → Init → State → Option Made
+begun_with types x init.None s = None
+begun_with types x (init.One e) s = assigned (types.variable x) (writable s (variable_place x s)) (eval types e s)
+begun_with types x (init.Items es) s = None
 
-abbrev pub others : List Value → List Value
-others [] = []
-others (v ∷ vs) = vs
+-- what is assigned: the right side, or what the operator gives at both (6.5.16.2)
+abbrev pub right_of : Types → Option BinaryOp → Expr → Expr → State → Option Value
+right_of types None left right s = eval types right s
+right_of types (Some op) left right s =
+    binary_value op (type_of types left) (type_of types right) (eval types left s) (eval types right s)
 
--- the byte of an escape (ISO C99 6.4.4.4); so far `\n` and the characters that stand for themselves
-abbrev pub escaped : ℕ → ℕ
-escaped b = if b == 110 then 10 else b
+abbrev pub set_by : Types → Expr → Option Value → State → Option Made
+set_by types left v s = assigned (type_of types left) (writable s (place types left s)) v
 
--- what printf writes by a format's spelling behind its first quote (7.19.6.3): bytes and escapes as they stand, and at each `%d` the next value
-abbrev pub written : Bytes → List Value → Bytes
-written [] vs = []
-written (b ∷ []) vs = []
-written (b ∷ (c ∷ bs)) vs =
-    if b == 92 then escaped c ∷ written bs vs else (if b == 37 then first_text vs ++ written bs (others vs) else b ∷ written (c ∷ bs) vs)
+-- `++` adds 1, and `--` takes it away (6.5.2.4, 6.5.3.1)
+abbrev pub bump : Bool → BinaryOp
+bump true = Add
+bump false = Sub
 
-abbrev pub unquoted : Bytes → Bytes
-unquoted [] = []
-unquoted (quote ∷ bs) = bs
+abbrev pub bumped : Types → Expr → Bool → State → Option Value
+bumped types left up s =
+    binary_value (bump up) (type_of types left) (integer Int) (eval types left s) (Some (Number (pos 1)))
 
--- what an act that made these values adds to the output
-abbrev pub output_of : Act → List Value → Bytes
-output_of (Begins x i) vs = []
-output_of (Sets left op right) vs = []
-output_of (Prints format args) vs = written (unquoted format) vs
+abbrev pub put_out : ℤ → Made
+put_out z = shows (Number z ∷ []) (unsigned_abs z ∷ [])
+
+abbrev pub printed : List Piece → List ℤ → Made
+printed ps zs = shows (map Number zs) (written ps zs)
+
+-- a call of printf with its arguments
+abbrev pub printed_all : Bytes → List Value → Made
+printed_all format vs = printed (format_pieces format) (converted (format_pieces format) (map tested vs))
+
+abbrev pub as_result : Option ExprType → Value → Value
+as_result None v = v
+as_result (Some t) v = as_type t v
+
+abbrev pub shown_result : Types → Option Expr → State → Option Made
+shown_result types None s = Some (shows [] [])
+shown_result types (Some e) s = option_map (λ (v : Value). shows (as_result types.result v ∷ []) []) (eval types e s)
+
+-- what an act makes, or None where it is undefined; calls of getchar, malloc and free are not built yet
+abbrev pub made : Types → Act → State → Option Made
+made types (Begins x i) s = begun_with types x i s
+made types (Sets left op right) s = set_by types left (right_of types op left right s) s
+made types (Bumps left up) s = set_by types left (bumped types left up s) s
+made types (Fetches to) s = None
+made types (Writes e) s = option_map (λ (v : Value). put_out (convert (tested v) UChar)) (eval types e s)
+made types (Prints format args) s = option_map (printed_all format) (eval_all types args s)
+made types (Allocates to n) s = None
+made types (Frees e) s = None
+made types (Returns e) s = shown_result types e s
+made types (Tests e) s = option_map (λ (v : Value). shows (Number (tested v) ∷ []) []) (eval types e s)
+
+abbrev pub stored : List Store → Memory → Memory
+stored [] m = m
+stored (w ∷ ws) m = stored ws (write w.place w.value m)
+
+-- the state after an act that made this
+abbrev pub after : Made → State → State
+after x s = record s { memory = stored x.stores s.memory }
+
+abbrev pub first_number : List Value → ℤ
+first_number [] = pos 0
+first_number (v ∷ vs) = tested v
+
+-- the value of a test
+abbrev pub picked : Made → ℤ
+picked x = first_number x.values

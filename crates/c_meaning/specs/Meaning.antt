@@ -1,14 +1,17 @@
 -- What a program does, as a recursion over whole statements with a number of acts.
-use Rattle.std.specs.Prelude.{ℕ, zero, suc, List, [], ◌∷◌, ◌++◌, Option, Some, None, map, slice_get, Bool, true, false}
+use Rattle.std.specs.Prelude.{ℕ, zero, suc, List, [], ◌∷◌, ◌++◌, Option, Some, None, option_map, map, slice_get, Bool, true, false}
 use Rattle.std.specs.Option.{option_map_or}
+use Rattle.c_arith.specs.declared.int_type.IntType.TheVariants.{Int}
 use Rattle.c_tree.specs.declared.program.Program.{Program}
 use Rattle.c_tree.specs.declared.program.Function.{Function}
+use Rattle.c_tree.specs.declared.program.Var.{Var}
+use Rattle.c_language.specs.declared.expr_type.ExprType.{ExprType}
+use Rattle.c_language.specs.DeclaredTypes.{integer}
 use Rattle.c_language.specs.Words.{Bytes}
-use Rattle.c_language.specs.Code.{Act, Code, End, Opens, Plain, code}
-use Rattle.c_meaning.specs.declared.value.Value.{Value}
+use Rattle.c_language.specs.Code.{Act, Tests, Code, End, Opens, Plain, Fork, Loop, Leaves, Call, code, is_true, either}
 use Rattle.c_meaning.specs.declared.event.Event.{Event}
-use Rattle.c_meaning.specs.Values.{Cells, put, shown_of}
-use Rattle.c_meaning.specs.Acts.{act_values, cells_after, output_of}
+use Rattle.c_meaning.specs.Values.{shape_of, Types, State, opened, all_closed, shown_of}
+use Rattle.c_meaning.specs.Acts.{Made, made, after, picked}
 
 -- the events and the output of a run so far
 pub record Trace : Type 0 where
@@ -23,60 +26,86 @@ pub data Answer : Type 0 where
 
 -- what a statement list comes to: done, with the acts that are left, or the run is over
 pub data Outcome : Type 0 where
-  Done : (left : ℕ) → Cells → Trace → Outcome
+  Done : (left : ℕ) → State → Trace → Outcome
   Over : Answer → Outcome
 
 abbrev pub Go : Type 0
-Go = ℕ → Cells → Trace → Outcome
+Go = ℕ → State → Trace → Outcome
 
--- the trace after an act of a statement that made these values
-abbrev pub told : ℕ → Act → List Value → Trace → Trace
-told i a vs t = record {
-  events = t.events ++ (record { statement = i; values = map shown_of vs }) ∷ [];
-  output = t.output ++ output_of a vs;
+abbrev pub then_do : Outcome → Go → Outcome
+then_do (Done n s t) go = go n s t
+then_do (Over a) go = Over a
+
+-- the trace after an act of a statement that made this
+abbrev pub told : ℕ → Made → Trace → Trace
+told i x t = record {
+  events = t.events ++ (record { statement = i; values = map shown_of x.values }) ∷ [];
+  output = t.output ++ x.output;
 }
 
-abbrev pub after_values : ℕ → Act → Option (List Value) → Go → Go
-after_values i a None go n cells t = Over (Undefined i t)
-after_values i a (Some vs) go n cells t = go n (cells_after a vs cells) (told i a vs t)
+abbrev pub after_made : ℕ → Option Made → (Made → Go) → Go
+after_made i None go n s t = Over (Undefined i t)
+after_made i (Some x) go n s t = go x n (after x s) (told i x t)
 
 -- the act of a statement, if one is left, and what follows it
-abbrev pub take_act : ℕ → Act → Go → Go
-take_act i a go zero cells t = Over (More t)
-take_act i a go (suc n) cells t = after_values i a (act_values a cells) go n cells t
+abbrev pub take_act : Types → ℕ → Act → (Made → Go) → Go
+take_act types i a go zero s t = Over (More t)
+take_act types i a go (suc n) s t = after_made i (made types a s) go n s t
 
--- a statement list; `again` is what a list does that is begun once more, after at least one act
-abbrev pub exec : (Code → Go) → Code → Go
-exec again End n cells t = Done n cells t
-exec again (Opens x r) n cells t = exec again r n (put cells x None) t
-exec again (Plain i a r) n cells t = take_act i a (exec again r) n cells t
+-- calls are not built yet: they give nothing
+abbrev pub not_built : ℕ → Go
+not_built i zero s t = Over (More t)
+not_built i (suc n) s t = Over (Undefined i t)
 
--- lists begun once more at most so many times deep; each time costs an act
-abbrev pub deep : ℕ → Code → Go
-deep zero c n cells t = Over (More t)
-deep (suc d) c n cells t = exec (deep d) c n cells t
+module _ (types : Types) where
+  -- a statement list; `again` is what a list does that is begun once more, after at least one act
+  abbrev pub exec : (Code → Go) → Code → Go
+  exec again End n s t = Done n s t
+  exec again (Opens x r) n s t = exec again r n (opened types x s) t
+  exec again (Plain i a r) n s t = take_act types i a (λ x. exec again r) n s t
+  exec again (Fork i e c r) n s t = take_act types i (Tests e) (λ x n s t. then_do (exec again (c (picked x)) n s t) (exec again r)) n s t
+  exec again (Loop i e b r) n s t =
+      take_act types i (Tests e) (λ x n s t. either (is_true (picked x)) (then_do (exec again b n s t) (again (Loop i e b r))) (exec again r n s t)) n s t
+  exec again (Leaves xs r) n s t = exec again r n (all_closed xs s) t
+  exec again (Call i to f args r) n s t = not_built i n s t
+
+  -- lists begun once more at most so many times deep; each time costs an act
+  abbrev pub deep : ℕ → Code → Go
+  deep zero c n s t = Over (More t)
+  deep (suc d) c n s t = exec (deep d) c n s t
 
 abbrev pub answer : Outcome → Answer
-answer (Done left cells t) = Ended t
+answer (Done left s t) = Ended t
 answer (Over a) = a
 
 abbrev pub nothing : Trace
 nothing = record { events = []; output = [] }
 
-abbrev pub unwritten : Cells
-unwritten x = None
+-- before main: no variable has begun; globals are not built yet
+abbrev pub opening : List ℕ → State
+opening input = record { frame = λ x. None; memory = []; unread = input }
+
+abbrev pub variable_type : Program → ℕ → ExprType
+variable_type p x = option_map_or (λ (v : Var). shape_of v.shape) (slice_get p.vars x) (integer Int)
+
+abbrev pub main_result : Program → Option ExprType
+main_result p = option_map_or (λ (f : Function). option_map shape_of f.result) (slice_get p.functions 0) None
+
+-- the types in main
+abbrev pub types_of : Program → Types
+types_of p = record { variable = variable_type p; result = main_result p }
 
 -- the code of function main; a program of the built forms has no other function
 abbrev pub main_code : Program → Code
 main_code p = option_map_or (λ (f : Function). code f.body) (slice_get p.functions 0) End
 
 -- a list from its beginning, with at most n acts
-abbrev pub code_meaning : ℕ → Code → Answer
-code_meaning n c = answer (deep (suc n) c n unwritten nothing)
+abbrev pub code_meaning : Types → ℕ → Code → List ℕ → Answer
+code_meaning types n c input = answer (deep types (suc n) c n (opening input) nothing)
 
 -- a program with at most n acts on an input, the bytes that getchar reads
 abbrev pub meaning : ℕ → Program → List ℕ → Answer
-meaning n p input = code_meaning n (main_code p)
+meaning n p input = code_meaning (types_of p) n (main_code p) input
 
 abbrev pub if_in : Bool → Event → List Event → List Event
 if_in true e es = e ∷ es

@@ -1,30 +1,121 @@
--- Values, cells, and what an expression gives.
-use Rattle.std.specs.Prelude.{◌≡◌, ℕ, ◌==◌, ℤ, pos, List, [], ◌∷◌, Bool, if◌then◌else◌, Option, Some, None, map}
-use Rattle.std.specs.Option.{option_map, option_and_then}
+-- What an expression gives (ISO C99 6.5).
+use Rattle.std.specs.Prelude.{ℕ, ◌==◌, ℤ, pos, negsuc, List, [], ◌∷◌, length, Bool, not, if◌then◌else◌, Option, Some, None, option_map, option_and_then, unwrap_or}
+use Rattle.c_arith.specs.declared.int_type.IntType.{IntType}
 use Rattle.c_arith.specs.declared.int_type.IntType.TheVariants.{Int}
+use Rattle.c_arith.specs.declared.operators.UnaryOp.{UnaryOp}
 use Rattle.c_arith.specs.declared.operators.BinaryOp.{BinaryOp}
-use Rattle.c_arith.specs.declared.operators.BinaryOp.TheVariants.{Add, Sub}
-use Rattle.c_arith.specs.Operators.{binary}
+use Rattle.c_arith.specs.IntType.{promote, common, convert}
+use Rattle.c_arith.specs.Operators.{truth, unary, unary_type, binary, binary_type}
+use Rattle.c_tree.specs.declared.types.CType.{CType, fold-CType}
+use Rattle.c_tree.specs.declared.types.CType.TheOpen.{CType-F}
 use Rattle.c_tree.specs.declared.expr.Expr.{Expr, fold-Expr}
 use Rattle.c_tree.specs.declared.expr.Expr.TheOpen.{Expr-F}
+use Rattle.c_language.specs.declared.expr_type.Base.TheVariants.{Struct}
+use Rattle.c_language.specs.declared.expr_type.Layer.TheVariants.{Array}
+use Rattle.c_language.specs.declared.expr_type.ExprType.{ExprType}
+use Rattle.c_language.specs.DeclaredTypes.{of_base, with_layer, integer, pointer_to}
+use Rattle.c_language.specs.ExprTypes.{integer_of}
+use Rattle.c_language.specs.ConstantEvaluation.{operand_type, right_value, is_zero, and_value, or_value}
+use Rattle.c_meaning.specs.declared.value.Place.{Place}
 use Rattle.c_meaning.specs.declared.value.Value.{Value}
 use Rattle.c_meaning.specs.declared.value.Value.TheVariants.{Number, Null, To}
 use Rattle.c_meaning.specs.declared.event.Shown.{Shown}
 use Rattle.c_meaning.specs.declared.event.Shown.TheVariants as shown
+use Rattle.c_meaning.specs.Memory.{Memory, read, enter, leave}
 
--- what each variable holds: a value, or nothing where none was written
-abbrev pub Cells : Type 0
-Cells = ℕ → Option Value
+-- a type of the tree, as expressions have it
+abbrev pub shape_step : CType-F ExprType → ExprType
+shape_step (CType-F.Integer t) = integer t
+shape_step (CType-F.PointerTo t) = pointer_to t
+shape_step (CType-F.Array t n words) = with_layer (Array n) t
+shape_step (CType-F.Struct s) = of_base (Struct s)
 
--- the cells after a write
-abbrev pub put : Cells → ℕ → Option Value → Cells
-put cells x v y = if x == y then v else cells y
+abbrev pub shape_of : CType → ExprType
+shape_of = fold-CType ExprType shape_step
 
--- an operator at two numbers
+-- the types of a program's variables, and of the result of the function that runs
+pub record Types : Type 0 where
+  pub variable : ℕ → ExprType
+  pub result : Option ExprType
+
+-- the blocks of the variables that have begun, the memory, and what is left of the input
+pub record State : Type 0 where
+  pub frame : ℕ → Option ℕ
+  pub memory : Memory
+  pub unread : List ℕ
+
+-- the whole of a block
+abbrev pub whole : ℕ → Place
+whole b = record { block = b; path = [] }
+
+-- the place of a variable
+abbrev pub variable_place : ℕ → State → Option Place
+variable_place x s = option_map whole (s.frame x)
+
+abbrev pub bound : (ℕ → Option ℕ) → ℕ → Option ℕ → ℕ → Option ℕ
+bound frame x b y = if x == y then b else frame y
+
+-- the state once a variable has begun, in a block of its own
+abbrev pub opened : Types → ℕ → State → State
+opened types x s = record s {
+  frame = bound s.frame x (Some (length s.memory));
+  memory = enter (types.variable x) s.memory;
+}
+
+abbrev pub leave_block : Option ℕ → Memory → Memory
+leave_block None m = m
+leave_block (Some b) m = leave b m
+
+-- the state once a variable is gone
+abbrev pub closed : ℕ → State → State
+closed x s = record s { frame = bound s.frame x None; memory = leave_block (s.frame x) s.memory }
+
+abbrev pub all_closed : List ℕ → State → State
+all_closed [] s = s
+all_closed (x ∷ xs) s = all_closed xs (closed x s)
+
+-- an expression in a program: its type, the place that it designates, and the value that it gives; None where that is undefined
+pub record Meant : Type 0 where
+  pub type : ExprType
+  pub place : State → Option Place
+  pub value : State → Option Value
+
+-- the integer type of an operand; the operators at pointers are not built yet
+abbrev pub int_type : ExprType → IntType
+int_type t = unwrap_or (integer_of t) Int
+
+-- a value as a test sees it: a number, or whether a pointer isn't null
+abbrev pub tested : Value → ℤ
+tested (Number z) = z
+tested Null = pos 0
+tested (To p) = pos 1
+
+abbrev pub number_as : Option IntType → ℤ → Value
+number_as None z = Null
+number_as (Some t) z = Number (convert z t)
+
+-- a value converted to a type (6.3.1.3, 6.3.2.3): an integer wraps, and 0 becomes a null pointer
+abbrev pub as_type : ExprType → Value → Value
+as_type t (Number z) = number_as (integer_of t) z
+as_type t Null = Null
+as_type t (To p) = To p
+
+-- what gives a value of an integer type and designates nothing
+abbrev pub gives : IntType → (State → Option Value) → Meant
+gives t value = record { type = integer t; place = λ s. None; value = value }
+
+-- pointers, arrays and structs are not built yet: their expressions give nothing
+abbrev pub not_built : Meant
+not_built = gives Int (λ s. None)
+
+-- an operator at a number; the operators at pointers are not built yet
+abbrev pub at_number : (ℤ → Option ℤ) → Value → Option Value
+at_number f (Number x) = option_map Number (f x)
+at_number f Null = None
+at_number f (To p) = None
+
 abbrev pub at_numbers : (ℤ → ℤ → Option ℤ) → Value → Value → Option Value
-at_numbers f (Number x) (Number y) = option_map Number (f x y)
-at_numbers f (Number x) Null = None
-at_numbers f (Number x) (To q) = None
+at_numbers f (Number x) v = at_number (f x) v
 at_numbers f Null v = None
 at_numbers f (To p) v = None
 
@@ -34,27 +125,86 @@ both f None o = None
 both f (Some x) None = None
 both f (Some x) (Some y) = f x y
 
--- what an expression gives, or None where that is undefined or its form isn't built yet
-abbrev pub expr_step : Expr-F (Cells → Option Value) → Cells → Option Value
-expr_step (Expr-F.Constant text t v) cells = Some (Number (pos v))
-expr_step Expr-F.Null cells = None
-expr_step Expr-F.Eof cells = None
-expr_step (Expr-F.Variable x) cells = cells x
-expr_step (Expr-F.Unary op a) cells = None
-expr_step (Expr-F.Deref a) cells = None
-expr_step (Expr-F.AddressOf a) cells = None
-expr_step (Expr-F.Binary op a b) cells = both (at_numbers (binary op Int)) (a cells) (b cells)
-expr_step (Expr-F.AndAlso a b) cells = None
-expr_step (Expr-F.OrElse a b) cells = None
-expr_step (Expr-F.Choose c a b) cells = None
-expr_step (Expr-F.Cast t a) cells = None
-expr_step (Expr-F.Index a i) cells = None
-expr_step (Expr-F.Member a m) cells = None
-expr_step (Expr-F.Arrow a m) cells = None
-expr_step (Expr-F.Paren a) cells = a cells
+-- an operator at operands of two types, which are converted first (6.3.1.8)
+abbrev pub converted_binary : BinaryOp → IntType → ℤ → ℤ → Option ℤ
+converted_binary op t x y = binary op t (convert x t) (right_value op t y)
 
-abbrev pub eval : Expr → Cells → Option Value
-eval = fold-Expr (Cells → Option Value) expr_step
+abbrev pub binary_value : BinaryOp → ExprType → ExprType → Option Value → Option Value → Option Value
+binary_value op s t = both (at_numbers (converted_binary op (operand_type op (int_type s) (int_type t))))
+
+abbrev pub unary_value : UnaryOp → ExprType → Option Value → Option Value
+unary_value op t o = option_and_then (at_number (unary op (promote (int_type t)))) o
+
+-- the right operand of `&&` and of `||` is evaluated where the left one doesn't decide (6.5.13, 6.5.14)
+abbrev pub and_both : Option Value → Option Value → Option Value
+and_both a b = option_map Number (option_and_then (λ (v : Value). and_value (tested v) (option_map tested b)) a)
+
+abbrev pub or_both : Option Value → Option Value → Option Value
+or_both a b = option_map Number (option_and_then (λ (v : Value). or_value (tested v) (option_map tested b)) a)
+
+abbrev pub chosen_of : Option IntType → Option IntType → ExprType → ExprType → ExprType
+chosen_of (Some i) (Some j) s t = integer (common i j)
+chosen_of (Some i) None s t = t
+chosen_of None j s t = s
+
+-- the type of `c ? a : b`: the common type of two integers, and else that of the pointer (6.5.15)
+abbrev pub chosen_type : ExprType → ExprType → ExprType
+chosen_type s t = chosen_of (integer_of s) (integer_of t) s t
+
+-- one of two operands is evaluated
+abbrev pub chosen_value : ExprType → Option Value → Option Value → Option Value → Option Value
+chosen_value t c a b = option_map (as_type t) (option_and_then (λ (v : Value). if is_zero (tested v) then b else a) c)
+
+abbrev pub of_variable : Types → ℕ → Meant
+of_variable types x = record {
+  type = types.variable x;
+  place = variable_place x;
+  value = λ s. option_and_then (read s.memory) (variable_place x s);
+}
+
+abbrev pub unary_meant : UnaryOp → Meant → Meant
+unary_meant op a = gives (unary_type op (promote (int_type a.type))) (λ s. unary_value op a.type (a.value s))
+
+abbrev pub binary_meant : BinaryOp → Meant → Meant → Meant
+binary_meant op a b =
+    gives (binary_type op (operand_type op (int_type a.type) (int_type b.type))) (λ s. binary_value op a.type b.type (a.value s) (b.value s))
+
+abbrev pub choose_meant : Meant → Meant → Meant → Meant
+choose_meant c a b = record {
+  type = chosen_type a.type b.type;
+  place = λ s. None;
+  value = λ s. chosen_value (chosen_type a.type b.type) (c.value s) (a.value s) (b.value s);
+}
+
+abbrev pub meant_step : Types → Expr-F Meant → Meant
+meant_step types (Expr-F.Constant text t v) = gives t (λ s. Some (Number (pos v)))
+meant_step types Expr-F.Null = not_built
+meant_step types Expr-F.Eof = gives Int (λ s. Some (Number (negsuc 0)))
+meant_step types (Expr-F.Variable x) = of_variable types x
+meant_step types (Expr-F.Unary op a) = unary_meant op a
+meant_step types (Expr-F.Deref a) = not_built
+meant_step types (Expr-F.AddressOf a) = not_built
+meant_step types (Expr-F.Binary op a b) = binary_meant op a b
+meant_step types (Expr-F.AndAlso a b) = gives Int (λ s. and_both (a.value s) (b.value s))
+meant_step types (Expr-F.OrElse a b) = gives Int (λ s. or_both (a.value s) (b.value s))
+meant_step types (Expr-F.Choose c a b) = choose_meant c a b
+meant_step types (Expr-F.Cast t a) = gives t (λ s. option_map (as_type (integer t)) (a.value s))
+meant_step types (Expr-F.Index a i) = not_built
+meant_step types (Expr-F.Member a m) = not_built
+meant_step types (Expr-F.Arrow a m) = not_built
+meant_step types (Expr-F.Paren a) = a
+
+abbrev pub meant : Types → Expr → Meant
+meant types = fold-Expr Meant (meant_step types)
+
+abbrev pub type_of : Types → Expr → ExprType
+type_of types e = (meant types e).type
+
+abbrev pub place : Types → Expr → State → Option Place
+place types e = (meant types e).place
+
+abbrev pub eval : Types → Expr → State → Option Value
+eval types e = (meant types e).value
 
 abbrev pub beside : Option Value → Option (List Value) → Option (List Value)
 beside None vs = None
@@ -62,31 +212,9 @@ beside (Some v) None = None
 beside (Some v) (Some vs) = Some (v ∷ vs)
 
 -- what several expressions give, from left to right
-abbrev pub eval_all : List Expr → Cells → Option (List Value)
-eval_all [] cells = Some []
-eval_all (e ∷ es) cells = beside (eval e cells) (eval_all es cells)
-
--- the variable that a left side names
-abbrev pub place_step : Expr-F (Option ℕ) → Option ℕ
-place_step (Expr-F.Constant text t v) = None
-place_step Expr-F.Null = None
-place_step Expr-F.Eof = None
-place_step (Expr-F.Variable x) = Some x
-place_step (Expr-F.Unary op a) = None
-place_step (Expr-F.Deref a) = None
-place_step (Expr-F.AddressOf a) = None
-place_step (Expr-F.Binary op a b) = None
-place_step (Expr-F.AndAlso a b) = None
-place_step (Expr-F.OrElse a b) = None
-place_step (Expr-F.Choose c a b) = None
-place_step (Expr-F.Cast t a) = None
-place_step (Expr-F.Index a i) = None
-place_step (Expr-F.Member a m) = None
-place_step (Expr-F.Arrow a m) = None
-place_step (Expr-F.Paren a) = a
-
-abbrev pub place : Expr → Option ℕ
-place = fold-Expr (Option ℕ) place_step
+abbrev pub eval_all : Types → List Expr → State → Option (List Value)
+eval_all types [] s = Some []
+eval_all types (e ∷ es) s = beside (eval types e s) (eval_all types es s)
 
 -- a value as an event shows it
 abbrev pub shown_of : Value → Shown

@@ -4,3 +4,4 @@ mod Marking
 pub mod RuleLemmas
 pub mod SetLemmas
 pub mod WordLemmas
+pub mod FollowsLemmas

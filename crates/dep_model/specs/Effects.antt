@@ -5,7 +5,11 @@ use Rattle.c_tree.specs.declared.expr.Expr.{Expr, fold-Expr}
 use Rattle.c_tree.specs.declared.expr.Expr.TheOpen.{Expr-F}
 use Rattle.c_tree.specs.declared.program.Init.{Init}
 use Rattle.c_tree.specs.declared.program.Init.TheVariants as init
-use Rattle.c_language.specs.Code.{Act, Begins, Sets, Prints}
+use Rattle.c_tree.specs.declared.statement.Amount.{Amount}
+use Rattle.c_tree.specs.declared.statement.Amount.TheVariants as amount
+use Rattle.c_tree.specs.declared.statement.Target.{Target}
+use Rattle.c_tree.specs.declared.statement.Target.TheVariants as target
+use Rattle.c_language.specs.Code.{Act, Begins, Sets, Bumps, Fetches, Writes, Prints, Allocates, Frees, Returns, Tests}
 use Rattle.dep_model.specs.declared.location.Location.{Location}
 use Rattle.dep_model.specs.declared.location.Root.{Root}
 use Rattle.dep_model.specs.declared.location.Root.TheVariants.{Input, Variable, Site, Result}
@@ -109,18 +113,81 @@ abbrev pub compound_reads : Option BinaryOp → Expr → Location → Bool
 compound_reads None left l = false
 compound_reads (Some op) left l = reads left l
 
+abbrev pub amount_reads : Amount → Location → Bool
+amount_reads (amount.Size t) l = false
+amount_reads (amount.CountSize e t) l = reads e l
+amount_reads (amount.SizeCount t e) l = reads e l
+amount_reads (amount.Count e) l = reads e l
+
+abbrev pub value_reads : Option Expr → Location → Bool
+value_reads None l = false
+value_reads (Some e) l = reads e l
+
+abbrev pub is_input_root : Root → Bool
+is_input_root Input = true
+is_input_root (Variable x) = false
+is_input_root (Site i) = false
+is_input_root (Result f) = false
+
+-- whether a location is what is left to be read of the input
+abbrev pub is_input : Location → Bool
+is_input l = is_whole l.path (is_input_root l.root)
+
+abbrev pub is_result_root : Root → Bool
+is_result_root Input = false
+is_result_root (Variable x) = false
+is_result_root (Site i) = false
+is_result_root (Result f) = f == 0
+
+-- whether a location is what main returns; other functions aren't built yet
+abbrev pub is_result : Location → Bool
+is_result l = is_whole l.path (is_result_root l.root)
+
+-- the locations that a target may be
+abbrev pub target_places : Target → Location → Bool
+target_places target.None l = false
+target_places (target.Place e) l = places e l
+target_places (target.Declared x) l = is_variable x l
+
+-- the locations of a target that is a name alone
+abbrev pub target_names : Target → Location → Bool
+target_names target.None l = false
+target_names (target.Place e) l = names e l
+target_names (target.Declared x) l = is_variable x l
+
 abbrev pub uses : Act → Location → Bool
 uses (Begins x i) l = init_reads i l
 uses (Sets left op right) l = compound_reads op left l || reads right l
+uses (Bumps left up) l = reads left l
+uses (Fetches to) l = is_input l
+uses (Writes e) l = reads e l
 uses (Prints format args) l = any_reads args l
+uses (Allocates to n) l = amount_reads n l
+uses (Frees e) l = reads e l
+uses (Returns e) l = value_reads e l
+uses (Tests e) l = reads e l
 
 abbrev pub defines : Act → Location → Bool
 defines (Begins x i) l = is_variable x l
 defines (Sets left op right) l = places left l
+defines (Bumps left up) l = places left l
+defines (Fetches to) l = is_input l || target_places to l
+defines (Writes e) l = false
 defines (Prints format args) l = false
+defines (Allocates to n) l = target_places to l
+defines (Frees e) l = false
+defines (Returns e) l = is_result l
+defines (Tests e) l = false
 
 -- an assignment to a name kills what it held
 abbrev pub kills : Act → Location → Bool
 kills (Begins x i) l = is_variable x l
 kills (Sets left op right) l = names left l
+kills (Bumps left up) l = names left l
+kills (Fetches to) l = is_input l || target_names to l
+kills (Writes e) l = false
 kills (Prints format args) l = false
+kills (Allocates to n) l = target_names to l
+kills (Frees e) l = false
+kills (Returns e) l = is_result l
+kills (Tests e) l = false

@@ -1,9 +1,12 @@
 pub mod Completion
+pub mod Controls
 pub mod Effects
 pub mod Follows
+pub mod FunctionVertices
 pub mod Links
 pub mod Plain
 pub mod Rules
 pub mod Sets
+pub mod Steps
 pub mod SystemGraph
 pub mod Words

@@ -8,7 +8,8 @@ use Rattle.dep_model.specs.declared.edge.Label.TheVariants.{Control, Flow, Call,
 use Rattle.dep_model.specs.declared.vertex.Vertex.{Vertex}
 use Rattle.dep_model.specs.declared.vertex.VertexKind.{VertexKind}
 use Rattle.dep_model.specs.declared.vertex.VertexKind.TheVariants.{Entry, Statement}
-use Rattle.dep_model.specs.Follows.{Step, FlowEdge, AtTop}
+use Rattle.dep_model.specs.Steps.{Step, FlowEdge}
+use Rattle.dep_model.specs.Controls.{Controller, Controls}
 
 -- the numbers from i on, so many
 abbrev pub from : ℕ → ℕ → List ℕ
@@ -27,12 +28,18 @@ pub record Joins (p : Program) (e : Edge) (a b : VertexKind) : Type 0 where
   pub from_is : slice_get (vertices p) e.from ≡ Some (vertex 0 a)
   pub to_is : slice_get (vertices p) e.to ≡ Some (vertex 0 b)
 
--- a statement of the outermost block has the entry as its controller
+-- what stands for a controller
+abbrev pub controller_kind : Controller → VertexKind
+controller_kind None = Entry
+controller_kind (Some i) = Statement i
+
+-- from a controller to its statement
 pub record IsControlEdge (p : Program) (c : Code) (e : Edge) : Type 0 where
+  pub controller : Controller
   pub statement : ℕ
   pub labelled : e.label ≡ Control
-  pub joins : Joins p e Entry (Statement statement)
-  pub at_top : AtTop c statement
+  pub joins : Joins p e (controller_kind controller) (Statement statement)
+  pub controls : Controls c None controller statement
 
 pub record IsFlowEdge (p : Program) (c : Code) (e : Edge) : Type 0 where
   pub before : Step

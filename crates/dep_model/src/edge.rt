@@ -1,5 +1,5 @@
 /// What kind of dependence an edge is. The number of the last three is the call's vertex.
-#[derive(Clone, Copy, Debug, PartialEq, Eq)]
+#[derive(Clone, Copy, Debug, PartialEq, Eq, PartialOrd, Ord)]
 pub enum Label {
     Control,
     Flow,
@@ -12,7 +12,7 @@ pub enum Label {
 }
 
 /// An edge of a system dependence graph, between two vertices by their numbers.
-#[derive(Clone, Copy, Debug, PartialEq, Eq)]
+#[derive(Clone, Copy, Debug, PartialEq, Eq, PartialOrd, Ord)]
 pub struct Edge {
     pub from: u32,
     pub to: u32,

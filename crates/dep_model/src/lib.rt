@@ -7,6 +7,7 @@ mod edge;
 mod engine;
 mod location;
 mod plain_graph;
+mod skeleton;
 mod vertex;
 mod vertex_set;
 
@@ -15,6 +16,7 @@ pub use closure::{Closure, Rule};
 pub use edge::{Edge, Label};
 pub use location::{Location, LocationId, LocationPath, Part, Root};
 pub use plain_graph::PlainGraph;
+pub use skeleton::{FlowGraph, Pair, PairList, Skeleton, VertexList};
 pub use vertex::{Slot, Vertex, VertexKind};
 pub use vertex_set::VertexSet;
 

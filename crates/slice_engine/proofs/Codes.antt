@@ -8,14 +8,25 @@ use Rattle.c_tree.specs.declared.statement.Statement.TheOpen.{Statement-F}
 use Rattle.c_tree.specs.declared.statement.Statement.TheVariants as s
 use Rattle.c_tree.specs.declared.statement.Arm.{Arm, fold-Arm}
 use Rattle.c_language.specs.Words.{Bytes}
-use Rattle.c_language.specs.Code.{Sets, Prints, Code, Opens, Plain, begun, code_step, arm_step, code_of}
+use Rattle.c_language.specs.Code.{Sets, Prints, Code, Opens, Plain, begun, Part, ArmPart, part_step, arm_step, part, code_of}
+
+-- an arm of a switch
+abbrev pub arm_part : Arm → ArmPart
+arm_part = fold-Arm Part ArmPart part_step arm_step
+
+-- the part that a layer is
+abbrev pub layer_part : Statement-F Statement Arm → Part
+layer_part z = part_step (map-Statement Statement Arm Part ArmPart part arm_part z)
+
+pub part-roll : (z : Statement-F Statement Arm) → part (roll-Statement z) ≡ layer_part z
+part-roll z = fold-roll-Statement Part ArmPart part_step arm_step z
 
 -- the code of a layer
 abbrev pub layer_code : Statement-F Statement Arm → Code → Code
-layer_code z = code_step (map-Statement Statement Arm (Code → Code) (Code → Code) code_of (fold-Arm (Code → Code) (Code → Code) code_step arm_step) z)
+layer_code z = (layer_part z).before
 
 pub code_of-roll : (z : Statement-F Statement Arm) → code_of (roll-Statement z) ≡ layer_code z
-code_of-roll z = fold-roll-Statement (Code → Code) (Code → Code) code_step arm_step z
+code_of-roll z = ap (λ (q : Part). q.before) (part-roll z)
 
 -- the same at a statement that is a layer rolled up
 code_of_form : (x : Statement) (z : Statement-F Statement Arm) (r : Code) → roll-Statement z ≡ x → code_of x r ≡ layer_code z r

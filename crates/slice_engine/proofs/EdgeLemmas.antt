@@ -14,16 +14,21 @@ use Rattle.dep_model.specs.declared.location.Root.{Root}
 use Rattle.dep_model.specs.declared.location.Root.TheVariants.{Input, Variable, Site, Result}
 use Rattle.dep_model.specs.declared.location.Part.{Part}
 use Rattle.dep_model.specs.Effects.{is_variable, is_whole, is_root_of, uses, defines, kills}
-use Rattle.dep_model.specs.Follows.{Step, step, start, Follows, Chain, last, more, FlowEdge, AtTop}
-use Rattle.c_language.specs.Code.{Act, Code, End, Opens, Plain}
+use Rattle.dep_model.specs.Follows.{last, more}
+use Rattle.dep_model.specs.Steps.{Step, step, start, Follows, Chain, FlowEdge}
+use Rattle.c_language.specs.Code.{Act, Code, End, Opens, Plain, Fork, Loop, Leaves, Call}
 use Rattle.slice_engine.specs.Edges.{act_operands, act_target, control_edge, flow_edge, edge_from, read_edges, noted, edges_of}
 use Rattle.slice_engine.proofs.Straight.{ActsPlainly, AreActs, end, opens, act, both_ways}
 
--- a step of a list
+-- a step of a list of acts
 abbrev pub Has : Code → Step → Type 0
 Has End v = ⊥
 Has (Opens x r) v = Has r v
 Has (Plain i a r) v = (v ≡ step i a) ⊎ Has r v
+Has (Fork i e c r) v = ⊥
+Has (Loop i e b r) v = ⊥
+Has (Leaves xs r) v = ⊥
+Has (Call i to f args r) v = ⊥
 
 -- a step of a numbered list has a number in its range, and acts plainly
 pub record IsStepOf (m i j : ℕ) (v : Step) : Type 0 where
@@ -57,7 +62,8 @@ start_some (act {i} {a} p r) w h = (step i a, refl)
 pub follows_next : {m i j : ℕ} {c : Code} → AreActs m i c j → (v w : Step) → Follows c None v (Some w) → Has c v × Has c w × (w.id ≡ suc v.id)
 follows_next end v w f = absurd f
 follows_next (opens r) v w f = follows_next r v w f
-follows_next (act {i} p r) v w (inl f) =
+follows_next (act p r) v w (inl (inr f)) = absurd f
+follows_next (act {i} p r) v w (inl (inl f)) =
     let s = start_first r w (sym f.1) in
     (inl f.0, inr s.0, s.1 ∙ add-one i ∙ ap suc (sym (ap (λ (s : Step). s.id) f.0)))
 follows_next (act p r) v w (inr f) = let s = follows_next r v w f in (inr s.0, inr s.1, s.2)
@@ -86,7 +92,7 @@ next_step (act p r) v w (inl h) (inl k) lt = absurd (omega (arith, ap (λ (s : S
 next_step (act {i} p r) v w (inl h) (inr k) lt =
     let u = start_some r w k in
     let s = start_first r u.0 u.1 in
-    record { to = u.0; follows = inl (h, sym u.1); inside = inr s.0; number = s.1 ∙ add-one i ∙ ap suc (sym (ap (λ (s : Step). s.id) h)) }
+    record { to = u.0; follows = inl (inl (h, sym u.1)); inside = inr s.0; number = s.1 ∙ add-one i ∙ ap suc (sym (ap (λ (s : Step). s.id) h)) }
 next_step (act p r) v w (inr h) (inl k) lt =
     let low = (step_in r v h).low in let at = ap (λ (s : Step). s.id) k in absurd (omega (arith, low, at, lt))
 next_step (act p r) v w (inr h) (inr k) lt =

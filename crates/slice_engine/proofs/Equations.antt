@@ -10,23 +10,22 @@ use Rattle.c_tree.specs.declared.statement.Statement.{Statement, fold-roll-State
 use Rattle.c_tree.specs.declared.statement.Statement.TheOpen.{Statement-F}
 use Rattle.c_tree.specs.declared.statement.Statement.TheVariants as s
 use Rattle.c_language.specs.Words.{Bytes}
-use Rattle.c_language.specs.Code.{Code, Plain, Opens, Begins, Sets, Prints, begun, code_of, code_step, arm_step}
-use Rattle.c_meaning.specs.Values.{place, place_step}
+use Rattle.c_language.specs.Code.{Code, Plain, Opens, Begins, Sets, Prints, begun, Part, ArmPart, part_step, arm_step, code_of}
 use Rattle.dep_model.specs.declared.location.Location.{Location}
 use Rattle.dep_model.specs.Effects.{reads, reads_step, places, places_step, names, names_step, is_variable}
-use Rattle.slice_engine.specs.Edges.{operands, operands_step}
+use Rattle.slice_engine.specs.Edges.{operands, operands_step, place, place_step}
 
 pub code_of-Declare : (id : Option ℕ) (l x : ℕ) (i : Init) (r : Code) → code_of (s.Declare id l x i) r ≡ Opens x (begun id x i r)
 code_of-Declare id l x i r =
-    ap (λ t. code_of t r) (sym (s.rolls-Declare id l x i)) ∙ ap (λ f. f r) (fold-roll-Statement (Code → Code) (Code → Code) code_step arm_step (Statement-F.Declare id l x i))
+    ap (λ t. code_of t r) (sym (s.rolls-Declare id l x i)) ∙ ap (λ (q : Part). q.before r) (fold-roll-Statement Part ArmPart part_step arm_step (Statement-F.Declare id l x i))
 
 pub code_of-Assign : (id l : ℕ) (a : Expr) (op : Option BinaryOp) (b : Expr) (r : Code) → code_of (s.Assign id l a op b) r ≡ Plain id (Sets a op b) r
 code_of-Assign id l a op b r =
-    ap (λ t. code_of t r) (sym (s.rolls-Assign id l a op b)) ∙ ap (λ f. f r) (fold-roll-Statement (Code → Code) (Code → Code) code_step arm_step (Statement-F.Assign id l a op b))
+    ap (λ t. code_of t r) (sym (s.rolls-Assign id l a op b)) ∙ ap (λ (q : Part). q.before r) (fold-roll-Statement Part ArmPart part_step arm_step (Statement-F.Assign id l a op b))
 
 pub code_of-Print : (id l : ℕ) (format : Bytes) (args : List Expr) (r : Code) → code_of (s.Print id l format args) r ≡ Plain id (Prints format args) r
 code_of-Print id l format args r =
-    ap (λ t. code_of t r) (sym (s.rolls-Print id l format args)) ∙ ap (λ f. f r) (fold-roll-Statement (Code → Code) (Code → Code) code_step arm_step (Statement-F.Print id l format args))
+    ap (λ t. code_of t r) (sym (s.rolls-Print id l format args)) ∙ ap (λ (q : Part). q.before r) (fold-roll-Statement Part ArmPart part_step arm_step (Statement-F.Print id l format args))
 
 pub operands-Constant : (t : Bytes) (k : IntType) (v : ℕ) → operands (e.Constant t k v) ≡ []
 operands-Constant t k v = ap operands (sym (e.rolls-Constant t k v)) ∙ fold-roll-Expr (List ℕ) operands_step (Expr-F.Constant t k v)

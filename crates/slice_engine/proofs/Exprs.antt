@@ -3,13 +3,22 @@ use Rattle.std.proofs.Common.{◌≡◌, ℕ, ◌==◌, List, [], ◌∷◌, Opt
 use mathlib.Core.Path.{subst₂}
 use Rattle.std.proofs.lemmas.Bool.{eqb-true}
 use Rattle.std.specs.Option.{option_map}
-use Rattle.c_arith.specs.declared.int_type.IntType.TheVariants.{Int}
-use Rattle.c_arith.specs.Operators.{binary}
+use Rattle.c_arith.specs.declared.operators.BinaryOp.{BinaryOp}
+use Rattle.c_arith.specs.IntType.{promote}
+use Rattle.c_arith.specs.Operators.{unary_type, binary_type}
+use Rattle.c_language.specs.declared.expr_type.ExprType.{ExprType}
+use Rattle.c_language.specs.DeclaredTypes.{integer}
+use Rattle.c_language.specs.ConstantEvaluation.{operand_type}
 use Rattle.c_tree.specs.declared.expr.Expr.{Expr, fold-Expr, fold-roll-Expr, roll-Expr, map-Expr}
 use Rattle.c_tree.specs.declared.expr.Expr.TheOpen.{Expr-F}
 use Rattle.c_tree.specs.declared.expr.Expr.TheVariants as e
 use Rattle.c_meaning.specs.declared.value.Value.{Value}
-use Rattle.c_meaning.specs.Values.{Cells, at_numbers, both, expr_step, eval, place_step, place}
+use Rattle.c_meaning.specs.declared.value.Place.{Place}
+use Rattle.c_meaning.specs.Values as meaning
+use Rattle.c_meaning.specs.Values.{Types, State, Meant, variable_place, int_type, as_type, unary_value, binary_value, and_both, or_both, chosen_type, chosen_value, meant_step, meant}
+use Rattle.c_meaning.proofs.Frames.{variable_value}
+use Rattle.slice_engine.specs.Edges.{place_step, place}
+use Rattle.slice_engine.proofs.Bools.{two}
 use Rattle.dep_model.specs.declared.location.Location.{Location}
 use Rattle.dep_model.specs.declared.location.Root.{Root}
 use Rattle.dep_model.specs.declared.location.Root.TheVariants.{Input, Variable, Site, Result}
@@ -77,41 +86,98 @@ fold_renamed A step f z =
 
 -- ---- what an expression gives
 
-both_same : (f : Value → Value → Option Value) (a b c d : Option Value) → a ≡ c → b ≡ d → both f a b ≡ both f c d
-both_same f a b c d p q = cc
+-- g here is h by other numbers: it has the same type where the variables that are named have the same types, and gives the same where the variables that are read hold the same
+abbrev pub IsLike : (ℕ → ℕ) → Types → Types → (ℕ → Bool) → (Location → Bool) → Meant → Meant → Type 0
+IsLike f here there named read g h =
+    ((x : ℕ) → named x ≡ true → here.variable x ≡ there.variable (f x)) → (g.type ≡ h.type) × ((m n : State) → ((x : ℕ) → read (variable x) ≡ true → variable_value x m ≡ variable_value (f x) n) → g.value m ≡ h.value n)
 
--- g at one memory is h at another, where they agree on the variables that are read
-abbrev GivesSame : (ℕ → ℕ) → (Cells → Option Value) → (Location → Bool) → (Cells → Option Value) → Type 0
-GivesSame f g read h = (m n : Cells) → ((x : ℕ) → read (variable x) ≡ true → m x ≡ n (f x)) → g m ≡ h n
+module _ (f : ℕ → ℕ) (here there : Types) where
+  abbrev pub Evaluated : Expr → Type 0
+  Evaluated a = IsLike f here there (names a) (reads a) (meant here a) (meant there (renamed f a))
 
-module _ (f : ℕ → ℕ) where
-  abbrev Evaluated : Expr → Type 0
-  Evaluated a = GivesSame f (eval a) (reads a) (eval (renamed f a))
+  abbrev likeness : (ℕ → Bool) → (Location → Bool) → Meant → Meant → Type 0
+  likeness = IsLike f here there
 
-  -- what a layer gives here and there
-  abbrev gives_here : Expr-F Expr → Cells → Option Value
-  gives_here z = expr_step (map-Expr Expr (Cells → Option Value) eval z)
+  -- what a layer is here and there
+  abbrev means_here : Expr-F Expr → Meant
+  means_here z = meant_step here (map-Expr Expr Meant (meant here) z)
 
-  abbrev gives_there : Expr-F Expr → Cells → Option Value
-  gives_there z = expr_step (map-Expr Expr (Cells → Option Value) eval (renamed_layer f (map-Expr Expr Expr (renamed f) z)))
+  abbrev means_there : Expr-F Expr → Meant
+  means_there z = meant_step there (map-Expr Expr Meant (meant there) (renamed_layer f (map-Expr Expr Expr (renamed f) z)))
 
   abbrev layer_reads : Expr-F Expr → Location → Bool
   layer_reads z = reads_step (map-Expr Expr (Location → Bool) reads z)
 
-  evaluated_roll : (z : Expr-F Expr) → GivesSame f (gives_here z) (layer_reads z) (gives_there z) → Evaluated (roll-Expr z)
+  abbrev layer_named : Expr-F Expr → ℕ → Bool
+  layer_named z = names_step (map-Expr Expr (ℕ → Bool) names z)
+
+  evaluated_roll : (z : Expr-F Expr) → likeness (layer_named z) (layer_reads z) (means_here z) (means_there z) → Evaluated (roll-Expr z)
   evaluated_roll z h =
-      subst₂ (λ g u. GivesSame f g u (eval (renamed f (roll-Expr z)))) (sym (fold-roll-Expr (Cells → Option Value) expr_step z)) (sym (fold-roll-Expr (Location → Bool) reads_step z)) (subst (GivesSame f (gives_here z) (layer_reads z)) (sym (fold_renamed (Cells → Option Value) expr_step f z)) h)
+      subst₂ (λ u g. likeness u (reads (roll-Expr z)) g (meant there (renamed f (roll-Expr z)))) (sym (fold-roll-Expr (ℕ → Bool) names_step z)) (sym (fold-roll-Expr Meant (meant_step here) z)) (subst₂ (λ r k. likeness (layer_named z) r (means_here z) k) (sym (fold-roll-Expr (Location → Bool) reads_step z)) (sym (fold_renamed Meant (meant_step there) f z)) h)
 
-  evaluated_layer : (y : ExprParts Evaluated) → GivesSame f (gives_here (expr_layer Evaluated y)) (layer_reads (expr_layer Evaluated y)) (gives_there (expr_layer Evaluated y))
-  evaluated_layer (Expr-F.Variable x) = λ m n h. h x (is_its_variable x)
-  evaluated_layer (Expr-F.Binary op a b) =
-      λ m n h. both_same (at_numbers (binary op Int)) (eval a.0 m) (eval b.0 m) (eval (renamed f a.0) n) (eval (renamed f b.0) n) (a.1 m n (λ x r. h x (or_left (reads a.0 (variable x)) (reads b.0 (variable x)) r))) (b.1 m n (λ x r. h x (or_right (reads a.0 (variable x)) (reads b.0 (variable x)) r)))
+  -- two operands
+  both_like : (op : BinaryOp) (a b c d : Meant) (m n : State) → a.type ≡ c.type → b.type ≡ d.type → a.value m ≡ c.value n → b.value m ≡ d.value n → binary_value op a.type b.type (a.value m) (b.value m) ≡ binary_value op c.type d.type (c.value n) (d.value n)
+  both_like op a b c d m n p q u v =
+      two (λ s t. binary_value op s t (a.value m) (b.value m)) p q ∙ two (binary_value op c.type d.type) u v
+
+  chosen_three : (t u : ExprType) (a b c d e g : Option Value) → t ≡ u → a ≡ b → c ≡ d → e ≡ g → chosen_value t a c e ≡ chosen_value u b d g
+  chosen_three t u a b c d e g p q r w =
+      two (λ s x. chosen_value s x c e) p q ∙ two (chosen_value u b) r w
+
+  evaluated_layer : (y : ExprParts Evaluated) → likeness (layer_named (expr_layer Evaluated y)) (layer_reads (expr_layer Evaluated y)) (means_here (expr_layer Evaluated y)) (means_there (expr_layer Evaluated y))
+  evaluated_layer (Expr-F.Variable x) = λ types. (types x (eq-eqb x x refl), λ m n h. h x (is_its_variable x))
+  evaluated_layer (Expr-F.Unary op a) = λ types.
+      let like = a.1 types in
+      (ap (λ t. integer (unary_type op (promote (int_type t)))) like.0, λ m n h. two (unary_value op) like.0 (like.1 m n h))
+  evaluated_layer (Expr-F.Binary op a b) = λ types.
+      let left = a.1 (λ x n. types x (or_left (names a.0 x) (names b.0 x) n)) in
+      let right = b.1 (λ x n. types x (or_right (names a.0 x) (names b.0 x) n)) in
+      (two (λ s t. integer (binary_type op (operand_type op (int_type s) (int_type t)))) left.0 right.0, λ m n h. both_like op (meant here a.0) (meant here b.0) (meant there (renamed f a.0)) (meant there (renamed f b.0)) m n left.0 right.0 (left.1 m n (λ x r. h x (or_left (reads a.0 (variable x)) (reads b.0 (variable x)) r))) (right.1 m n (λ x r. h x (or_right (reads a.0 (variable x)) (reads b.0 (variable x)) r))))
+  evaluated_layer (Expr-F.AndAlso a b) = λ types.
+      let left = a.1 (λ x n. types x (or_left (names a.0 x) (names b.0 x) n)) in
+      let right = b.1 (λ x n. types x (or_right (names a.0 x) (names b.0 x) n)) in
+      (refl, λ m n h. two and_both (left.1 m n (λ x r. h x (or_left (reads a.0 (variable x)) (reads b.0 (variable x)) r))) (right.1 m n (λ x r. h x (or_right (reads a.0 (variable x)) (reads b.0 (variable x)) r))))
+  evaluated_layer (Expr-F.OrElse a b) = λ types.
+      let left = a.1 (λ x n. types x (or_left (names a.0 x) (names b.0 x) n)) in
+      let right = b.1 (λ x n. types x (or_right (names a.0 x) (names b.0 x) n)) in
+      (refl, λ m n h. two or_both (left.1 m n (λ x r. h x (or_left (reads a.0 (variable x)) (reads b.0 (variable x)) r))) (right.1 m n (λ x r. h x (or_right (reads a.0 (variable x)) (reads b.0 (variable x)) r))))
+  evaluated_layer (Expr-F.Choose c a b) = λ types.
+      let test = c.1 (λ x n. types x (or_left (names c.0 x) (names a.0 x || names b.0 x) n)) in
+      let left = a.1 (λ x n. types x (or_right (names c.0 x) (names a.0 x || names b.0 x) (or_left (names a.0 x) (names b.0 x) n))) in
+      let right = b.1 (λ x n. types x (or_right (names c.0 x) (names a.0 x || names b.0 x) (or_right (names a.0 x) (names b.0 x) n))) in
+      let same : chosen_type (meant here a.0).type (meant here b.0).type ≡ chosen_type (meant there (renamed f a.0)).type (meant there (renamed f b.0)).type = two chosen_type left.0 right.0 in
+      (same, λ m n h. chosen_three _ _ _ _ _ _ _ _ same (test.1 m n (λ x r. h x (or_left (reads c.0 (variable x)) (reads a.0 (variable x) || reads b.0 (variable x)) r))) (left.1 m n (λ x r. h x (or_right (reads c.0 (variable x)) (reads a.0 (variable x) || reads b.0 (variable x)) (or_left (reads a.0 (variable x)) (reads b.0 (variable x)) r)))) (right.1 m n (λ x r. h x (or_right (reads c.0 (variable x)) (reads a.0 (variable x) || reads b.0 (variable x)) (or_right (reads a.0 (variable x)) (reads b.0 (variable x)) r)))))
+  evaluated_layer (Expr-F.Cast t a) = λ types.
+      let like = a.1 types in
+      (refl, λ m n h. ap (option_map (as_type (integer t))) (like.1 m n h))
   evaluated_layer (Expr-F.Paren a) = a.1
-  evaluated_layer _ = λ m n h. refl
+  evaluated_layer _ = λ types. (refl, λ m n h. refl)
 
-  -- an expression gives the same by other numbers, where the memories agree on what it reads
+  -- an expression is the same by other numbers
   pub eval_same : (a : Expr) → Evaluated a
   eval_same = of_every_expr Evaluated (λ y. evaluated_roll (expr_layer Evaluated y) (evaluated_layer y))
+
+-- ---- the place that a left side designates
+
+-- the place of the variable that is named, if one is
+abbrev pub place_of : Option ℕ → State → Option Place
+place_of None s = None
+place_of (Some x) s = variable_place x s
+
+module _ (types : Types) where
+  abbrev Designates : Expr → Type 0
+  Designates a = (s : State) → meaning.place types a s ≡ place_of (place a) s
+
+  designates_roll : (z : Expr-F Expr) → ((s : State) → (meant_step types (map-Expr Expr Meant (meant types) z)).place s ≡ place_of (place_step (map-Expr Expr (Option ℕ) place z)) s) → Designates (roll-Expr z)
+  designates_roll z h s =
+      ap (λ (g : Meant). g.place s) (fold-roll-Expr Meant (meant_step types) z) ∙ (h s ∙ ap (λ o. place_of o s) (sym (fold-roll-Expr (Option ℕ) place_step z)))
+
+  designates_layer : (y : ExprParts Designates) → (s : State) → (meant_step types (map-Expr Expr Meant (meant types) (expr_layer Designates y))).place s ≡ place_of (place_step (map-Expr Expr (Option ℕ) place (expr_layer Designates y))) s
+  designates_layer (Expr-F.Paren a) = a.1
+  designates_layer _ = λ s. refl
+
+  pub designates : (a : Expr) → Designates a
+  designates = of_every_expr Designates (λ y. designates_roll (expr_layer Designates y) (designates_layer y))
 
 -- ---- what an expression reads, it names
 

@@ -14,8 +14,9 @@ use Rattle.dep_model.specs.declared.edge.Label.TheVariants.{Control, Flow}
 use Rattle.dep_model.specs.declared.vertex.Vertex.{Vertex}
 use Rattle.dep_model.specs.declared.vertex.VertexKind.{VertexKind}
 use Rattle.dep_model.specs.declared.vertex.VertexKind.TheVariants.{Entry, Statement}
-use Rattle.dep_model.specs.Follows.{Step, step, AtTop}
-use Rattle.dep_model.specs.SystemGraph.{from, vertex, vertices, Joins, IsControlEdge, IsFlowEdge, IsEdge, AreEdges}
+use Rattle.dep_model.specs.Steps.{Step, step}
+use Rattle.dep_model.specs.Controls.{Controller, Controls}
+use Rattle.dep_model.specs.SystemGraph.{from, vertex, vertices, Joins, controller_kind, IsControlEdge, IsFlowEdge, IsEdge, AreEdges}
 use Rattle.slice_engine.specs.Edges.{control_edge, flow_edge, edges_of}
 use Rattle.slice_engine.proofs.Straight.{AreActs, end, opens, act, body_acts}
 use Rattle.slice_engine.proofs.EdgeLemmas.{Has, IsEdgeOf, control, flow, step_in, chain_between, table_begins, edges_sound, controls_found, flows_found}
@@ -94,17 +95,18 @@ main_acts p h =
 
 -- ---- the edges
 
-top_has : (c : Code) (i : ℕ) → AtTop c i → (v : Step) × Has c v × (v.id ≡ i)
-top_has End i h = absurd h
-top_has (Opens x r) i h = top_has r i h
-top_has (Plain j a r) i (inl e) = (step j a, inl refl, sym e)
-top_has (Plain j a r) i (inr h) = let w = top_has r i h in (w.0, inr w.1, w.2)
+-- the controls of a list of acts: each act has the list's controller
+controls_has : {m i j : ℕ} {c : Code} → AreActs m i c j → (k v : Controller) (n : ℕ) → Controls c k v n → (v ≡ k) × ((s : Step) × Has c s × (s.id ≡ n))
+controls_has end k v n h = absurd h
+controls_has (opens r) k v n h = controls_has r k v n h
+controls_has (act {i} {a = a} p r) k v n (inl e) = (e.0, (step i a, inl refl, sym e.1))
+controls_has (act p r) k v n (inr h) = let w = controls_has r k v n h in (w.0, (w.1.0, inr w.1.1, w.1.2))
 
-has_top : (c : Code) (v : Step) → Has c v → AtTop c v.id
-has_top End v h = absurd h
-has_top (Opens x r) v h = has_top r v h
-has_top (Plain j a r) v (inl e) = inl (ap (λ (s : Step). s.id) e)
-has_top (Plain j a r) v (inr h) = inr (has_top r v h)
+has_controls : {m i j : ℕ} {c : Code} → AreActs m i c j → (k : Controller) (v : Step) → Has c v → Controls c k k v.id
+has_controls end k v h = absurd h
+has_controls (opens r) k v h = has_controls r k v h
+has_controls (act p r) k v (inl e) = inl (refl, ap (λ (s : Step). s.id) e)
+has_controls (act p r) k v (inr h) = inr (has_controls r k v h)
 
 module _ (p : Program) (c : Code) (m : ℕ) (acts : AreActs m 0 c p.statements) where
   number_in : (v : Step) → Has c v → v.id < p.statements
@@ -112,10 +114,11 @@ module _ (p : Program) (c : Code) (m : ℕ) (acts : AreActs m 0 c p.statements) 
 
   edge_is : (e : Edge) → IsEdgeOf c e → IsEdge p c e
   edge_is e (control v h is) = inl (subst (IsControlEdge p c) (sym is) (record {
+    controller = None;
     statement = v.id;
     labelled = refl;
     joins = record { from_is = refl; to_is = vertex_of p v.id (number_in v h) };
-    at_top = has_top c v h;
+    controls = has_controls acts None v h;
   }))
   edge_is e (flow v w h k f is) = inr (subst (IsFlowEdge p c) (sym is) (record {
     before = v;
@@ -131,9 +134,10 @@ module _ (p : Program) (c : Code) (m : ℕ) (acts : AreActs m 0 c p.statements) 
 
   edge_found : (e : Edge) → IsEdge p c e → Contains (edges_of (replicate m 0) c) e
   edge_found e (inl k) =
-      let w = top_has c k.statement k.at_top in
+      let found = controls_has acts None k.controller k.statement k.controls in
+      let w = found.1 in
       let to = vertex_only p e.to k.statement k.joins.to_is in
-      let from = entry_only p e.from k.joins.from_is in
+      let from = entry_only p e.from (subst (λ (v : Controller). slice_get (vertices p) e.from ≡ Some (vertex 0 (controller_kind v))) found.0 k.joins.from_is) in
       subst (Contains (edges_of (replicate m 0) c)) (sym (edge_same e 0 (w.0.id + 1) Control from (to.0 ∙ ap (λ i. i + 1) (sym w.2)) k.labelled)) (controls_found acts (replicate m 0) w.0 w.1)
   edge_found e (inr f) =
       let b = chain_between acts f.flows.location f.before f.after f.flows.chain in

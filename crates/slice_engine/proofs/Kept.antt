@@ -5,7 +5,7 @@ use Rattle.c_tree.specs.declared.program.Program.{Program}
 use Rattle.c_meaning.specs.Meaning.{main_code}
 use Rattle.dep_model.specs.declared.edge.Edge.{Edge}
 use Rattle.dep_model.specs.declared.edge.Label.TheVariants.{Flow}
-use Rattle.dep_model.specs.Follows.{Step, FlowEdge}
+use Rattle.dep_model.specs.Steps.{Step, FlowEdge}
 use Rattle.dep_model.specs.Words.{Rises, Falls, ReachesAny}
 use Rattle.dep_model.specs.SystemGraph.{vertices, IsFlowEdge}
 use Rattle.slice_engine.specs.Slice.{starts_on, IsKept, keeps}

@@ -1,23 +1,54 @@
 -- The projection of a program, as one of its code.
-use Rattle.std.proofs.Common.{◌≡◌, ℕ, List, [], ◌∷◌, ◌++◌, map, Bool, true, false, Option, Some, None, ◌==◌, eq-eqb, refl, sym, ap, ◌∙◌}
-use mathlib.Core.Path.{subst₂}
+use Rattle.std.proofs.Common.{◌≡◌, ℕ, ◌+◌, List, [], ◌∷◌, ◌++◌, map, Bool, true, false, Option, Some, None, ◌==◌, eq-eqb, refl, sym, ap, ◌∙◌, subst}
+use Rattle.c_arith.specs.declared.operators.BinaryOp.{BinaryOp}
+use Rattle.c_language.specs.Words.{Bytes}
 use Rattle.c_tree.specs.declared.program.Init.{Init}
 use Rattle.c_tree.specs.declared.program.Init.TheVariants as init
-use Rattle.c_tree.specs.declared.statement.Statement.{Statement, fold-roll-Statement, roll-Statement, map-Statement}
-use Rattle.c_tree.specs.declared.statement.Statement.TheOpen.{Statement-F}
+use Rattle.c_tree.specs.declared.statement.Statement.{Statement}
 use Rattle.c_tree.specs.declared.statement.Statement.TheVariants as s
-use Rattle.c_tree.specs.declared.statement.Arm.{Arm, fold-Arm}
-use Rattle.c_language.specs.Code.{Act, Begins, Sets, Prints, Code, End, Opens, Plain, begun, code_of, code}
-use Rattle.slice_engine.specs.Projection.{rank, act_names, init_names, renamed, renamed_init, if_so, bare, declaration, statement_step, arm_step, projected, body_projected}
+use Rattle.std.specs.Prelude.{option_map}
+use Rattle.c_tree.specs.declared.expr.Expr.TheVariants as e
+use Rattle.c_tree.specs.declared.statement.Amount.{Amount}
+use Rattle.c_tree.specs.declared.statement.Amount.TheVariants as amount
+use Rattle.c_tree.specs.declared.statement.Size.{Size}
+use Rattle.c_tree.specs.declared.statement.Size.TheVariants as size
+use Rattle.c_tree.specs.declared.statement.Target.{Target}
+use Rattle.c_tree.specs.declared.statement.Target.TheVariants as target
+use Rattle.c_language.specs.Code.{Act, Begins, Sets, Bumps, Fetches, Writes, Prints, Allocates, Frees, Returns, Tests, Code, End, Opens, Plain, Fork, Loop, Leaves, Call, begun, code_of, code}
+use Rattle.c_language.specs.StraightLine.{int_format, IsBody, done, declare, begin, assign, print}
+use Rattle.slice_engine.specs.Projection.{rank, act_names, init_names, renamed, renamed_init, if_so, bare, declaration, projected, body_projected}
 use Rattle.std.proofs.lemmas.Bool.{or_left}
-use Rattle.slice_engine.proofs.Trees.{StatementParts, statement_layer, of_every_statement}
-use Rattle.slice_engine.proofs.Codes.{layer_code, code_of-roll, code_of-Declare, code_of-Assign, code_of-Print}
+use Rattle.slice_engine.proofs.Codes.{code_of-Declare, code_of-Assign, code_of-Print}
+use Rattle.slice_engine.proofs.ProjectedTrees.{projected-Declare, projected-Assign, projected-Print}
+use Rattle.c_tree.specs.declared.expr.Expr.{Expr}
+
+abbrev pub renamed_target : (ℕ → ℕ) → Target → Target
+renamed_target f target.None = target.None
+renamed_target f (target.Place a) = target.Place (renamed f a)
+renamed_target f (target.Declared x) = target.Declared (f x)
+
+abbrev pub renamed_size : (ℕ → ℕ) → Size → Size
+renamed_size f (size.Type t) = size.Type t
+renamed_size f (size.Pointee x in_parentheses) = size.Pointee (f x) in_parentheses
+
+abbrev pub renamed_amount : (ℕ → ℕ) → Amount → Amount
+renamed_amount f (amount.Size t) = amount.Size (renamed_size f t)
+renamed_amount f (amount.CountSize a t) = amount.CountSize (renamed f a) (renamed_size f t)
+renamed_amount f (amount.SizeCount t a) = amount.SizeCount (renamed_size f t) (renamed f a)
+renamed_amount f (amount.Count a) = amount.Count (renamed f a)
 
 -- other numbers for the variables of an act
 abbrev pub renamed_act : (ℕ → ℕ) → Act → Act
 renamed_act f (Begins x i) = Begins (f x) (renamed_init f i)
 renamed_act f (Sets left op right) = Sets (renamed f left) op (renamed f right)
+renamed_act f (Bumps left up) = Bumps (renamed f left) up
+renamed_act f (Fetches to) = Fetches (renamed_target f to)
+renamed_act f (Writes a) = Writes (renamed f a)
 renamed_act f (Prints format args) = Prints format (map (renamed f) args)
+renamed_act f (Allocates to n) = Allocates (renamed_target f to) (renamed_amount f n)
+renamed_act f (Frees a) = Frees (renamed f a)
+renamed_act f (Returns a) = Returns (option_map (renamed f) a)
+renamed_act f (Tests a) = Tests (renamed f a)
 
 -- a choice of lists
 abbrev pub choose : Bool → Code → Code → Code
@@ -25,30 +56,37 @@ choose true a b = a
 choose false a b = b
 
 module _ (keeps stays : ℕ → Bool) where
+  -- the variables of a block that stay
+  abbrev pub renamed_all : List ℕ → List ℕ
+  renamed_all [] = []
+  renamed_all (x ∷ xs) = if_so (stays x) (rank stays x ∷ renamed_all xs) (renamed_all xs)
+
   -- the variables that stay are declared, the kept acts are done, by their ranks
   abbrev pub project_code : Code → Code
   project_code End = End
   project_code (Opens x r) = choose (stays x) (Opens (rank stays x) (project_code r)) (project_code r)
   project_code (Plain i a r) = choose (keeps i) (Plain (rank keeps i) (renamed_act (rank stays) a) (project_code r)) (project_code r)
+  project_code (Fork i e c r) =
+      choose (keeps i) (Fork (rank keeps i) (renamed (rank stays) e) (λ v. project_code (c v)) (project_code r)) (project_code r)
+  project_code (Loop i e b r) =
+      choose (keeps i) (Loop (rank keeps i) (renamed (rank stays) e) (project_code b) (project_code r)) (project_code r)
+  project_code (Leaves xs r) = Leaves (renamed_all xs) (project_code r)
+  project_code (Call i to f args r) =
+      choose (keeps i) (Call (rank keeps i) (renamed_target (rank stays) to) f (map (renamed (rank stays)) args) (project_code r)) (project_code r)
 
   -- kept acts name variables that stay
   abbrev pub NamesStay : Code → Type 0
   NamesStay End = Unit {0}
   NamesStay (Opens x r) = NamesStay r
   NamesStay (Plain i a r) = (keeps i ≡ true → (x : ℕ) → act_names a x ≡ true → stays x ≡ true) × NamesStay r
+  NamesStay (Fork i e c r) = NamesStay r
+  NamesStay (Loop i e b r) = NamesStay r
+  NamesStay (Leaves xs r) = NamesStay r
+  NamesStay (Call i to f args r) = NamesStay r
 
   -- statements that make the projection of what f puts before a list
   abbrev Projects : (Code → Code) → List Statement → Type 0
   Projects f xs = (r : Code) (rest : List Statement) → NamesStay (f r) → (NamesStay r → code rest ≡ project_code r) → code (xs ++ rest) ≡ project_code (f r)
-
-  abbrev layer_projected : Statement-F Statement Arm → List Statement
-  layer_projected z =
-      statement_step keeps stays (map-Statement Statement Arm (List Statement) (List Statement) (projected keeps stays) (fold-Arm (List Statement) (List Statement) (statement_step keeps stays) (arm_step keeps stays)) z)
-
-  at_layer : (z : Statement-F Statement Arm) → Projects (layer_code z) (layer_projected z) → Projects (code_of (roll-Statement z)) (projected keeps stays (roll-Statement z))
-  at_layer z h =
-      let xs : projected keeps stays (roll-Statement z) ≡ layer_projected z = fold-roll-Statement (List Statement) (List Statement) (statement_step keeps stays) (arm_step keeps stays) z in
-      subst₂ Projects (sym (code_of-roll z)) (sym xs) h
 
   -- one statement or none, before a list
   one_or_none : (b : Bool) (x : Statement) (rest : List Statement) → code (if_so b (x ∷ []) [] ++ rest) ≡ choose b (code_of x (code rest)) (code rest)
@@ -74,26 +112,28 @@ module _ (keeps stays : ℕ → Bool) where
   declare_projects (Some id) l x init r rest named e =
       begun_projects (keeps id) id l x init rest (project_code r) (λ k. named.0 k x (or_left (x == x) (init_names init x) (eq-eqb x x refl))) (e named.1)
 
-  -- each statement makes its own projection
-  abbrev ProjectsItself : Statement → Type 0
-  ProjectsItself x = Projects (code_of x) (projected keeps stays x)
+  assign_projects : (i l : ℕ) (left : Expr) (op : Option BinaryOp) (right : Expr) → Projects (Plain i (Sets left op right)) (if_so (keeps i) (s.Assign (rank keeps i) l (renamed (rank stays) left) op (renamed (rank stays) right) ∷ []) [])
+  assign_projects i l left op right r rest named e =
+      one_projects (keeps i) (s.Assign (rank keeps i) l (renamed (rank stays) left) op (renamed (rank stays) right)) (Plain (rank keeps i) (Sets (renamed (rank stays) left) op (renamed (rank stays) right))) rest (project_code r) (code_of-Assign (rank keeps i) l (renamed (rank stays) left) op (renamed (rank stays) right) (code rest)) (e named.1)
 
-  abbrev OfArms : Arm → Type 0
-  OfArms a = Unit {0}
+  print_projects : (i l : ℕ) (format : Bytes) (args : List Expr) → Projects (Plain i (Prints format args)) (if_so (keeps i) (s.Print (rank keeps i) l format (map (renamed (rank stays)) args) ∷ []) [])
+  print_projects i l format args r rest named e =
+      one_projects (keeps i) (s.Print (rank keeps i) l format (map (renamed (rank stays)) args)) (Plain (rank keeps i) (Prints format (map (renamed (rank stays)) args))) rest (project_code r) (code_of-Print (rank keeps i) l format (map (renamed (rank stays)) args) (code rest)) (e named.1)
 
-  layer : (y : StatementParts ProjectsItself OfArms) → Projects (layer_code (statement_layer ProjectsItself OfArms y)) (layer_projected (statement_layer ProjectsItself OfArms y))
-  layer (Statement-F.Declare id l x init) = declare_projects id l x init
-  layer (Statement-F.Assign id l left op right) =
-      λ r rest named e. one_projects (keeps id) (s.Assign (rank keeps id) l (renamed (rank stays) left) op (renamed (rank stays) right)) (Plain (rank keeps id) (Sets (renamed (rank stays) left) op (renamed (rank stays) right))) rest (project_code r) (code_of-Assign (rank keeps id) l (renamed (rank stays) left) op (renamed (rank stays) right) (code rest)) (e named.1)
-  layer (Statement-F.Print id l format args) =
-      λ r rest named e. one_projects (keeps id) (s.Print (rank keeps id) l format (map (renamed (rank stays)) args)) (Plain (rank keeps id) (Prints format (map (renamed (rank stays)) args))) rest (project_code r) (code_of-Print (rank keeps id) l format (map (renamed (rank stays)) args) (code rest)) (e named.1)
-  layer _ = λ r rest named e. e named
+  -- a statement makes its own projection before that of a list
+  before : (x : Statement) (f : Code → Code) (xs : List Statement) (rest : List Statement) → projected keeps stays x ≡ xs → ((r : Code) → code_of x r ≡ f r) → Projects f xs → (NamesStay (code rest) → code (body_projected keeps stays rest) ≡ project_code (code rest)) → NamesStay (code (x ∷ rest)) → code (body_projected keeps stays (x ∷ rest)) ≡ project_code (code (x ∷ rest))
+  before x f xs rest is form projects h named =
+      let form_here = form (code rest) in
+      ap (λ ys. code (ys ++ body_projected keeps stays rest)) is ∙ (projects (code rest) (body_projected keeps stays rest) (subst NamesStay form_here named) h ∙ ap project_code (sym form_here))
 
-  pub statement_projects : (x : Statement) → Projects (code_of x) (projected keeps stays x)
-  statement_projects =
-      of_every_statement ProjectsItself OfArms (λ y. at_layer (statement_layer ProjectsItself OfArms y) (layer y)) (λ y. tt)
-
-  -- the code of a projected body is the projection of the body's code
-  pub body_projects : (xs : List Statement) → NamesStay (code xs) → code (body_projected keeps stays xs) ≡ project_code (code xs)
-  body_projects [] named = refl
-  body_projects (x ∷ xs) named = statement_projects x (code xs) (body_projected keeps stays xs) named (body_projects xs)
+  -- the code of a projected straight-line body is the projection of the body's code
+  pub body_projects : (n i : ℕ) (ss : List Statement) (m j : ℕ) → IsBody n i ss m j → NamesStay (code ss) → code (body_projected keeps stays ss) ≡ project_code (code ss)
+  body_projects n i ss m j done named = refl
+  body_projects n i ss m j (declare {l = l} {ss = rest} h) named =
+      before (s.Declare None l n init.None) _ _ rest (projected-Declare keeps stays None l n init.None) (code_of-Declare None l n init.None) (declare_projects None l n init.None) (body_projects (n + 1) i rest m j h) named
+  body_projects n i ss m j (begin {l = l} {a = a} {ss = rest} sum h) named =
+      before (s.Declare (Some i) l n (init.One a)) _ _ rest (projected-Declare keeps stays (Some i) l n (init.One a)) (code_of-Declare (Some i) l n (init.One a)) (declare_projects (Some i) l n (init.One a)) (body_projects (n + 1) (i + 1) rest m j h) named
+  body_projects n i ss m j (assign {l = l} {x = x} {a = a} {ss = rest} lt sum h) named =
+      before (s.Assign i l (e.Variable x) None a) _ _ rest (projected-Assign keeps stays i l (e.Variable x) None a) (code_of-Assign i l (e.Variable x) None a) (assign_projects i l (e.Variable x) None a) (body_projects n (i + 1) rest m j h) named
+  body_projects n i ss m j (print {l = l} {a = a} {ss = rest} sum h) named =
+      before (s.Print i l int_format (a ∷ [])) _ _ rest (projected-Print keeps stays i l int_format (a ∷ [])) (code_of-Print i l int_format (a ∷ [])) (print_projects i l int_format (a ∷ [])) (body_projects n (i + 1) rest m j h) named

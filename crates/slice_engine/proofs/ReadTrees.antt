@@ -94,15 +94,15 @@ parts-Print id l format args = ap parts (sym (s.rolls-Print id l format args)) �
 
 pub code_of-Declare : (id : Option ℕ) (l x : ℕ) (i : Init) (r : Code) → code_of (s.Declare id l x i) r ≡ Opens x (begun id x i r)
 code_of-Declare id l x i r =
-    ap (λ t. code_of t r) (sym (s.rolls-Declare id l x i)) ∙ ap (λ f. f r) (fold-roll-Statement (Code → Code) (Code → Code) code.code_step code.arm_step (Statement-F.Declare id l x i))
+    ap (λ t. code_of t r) (sym (s.rolls-Declare id l x i)) ∙ ap (λ (q : code.Part). q.before r) (fold-roll-Statement code.Part code.ArmPart code.part_step code.arm_step (Statement-F.Declare id l x i))
 
 pub code_of-Assign : (id l : ℕ) (a : Expr) (op : Option BinaryOp) (b : Expr) (r : Code) → code_of (s.Assign id l a op b) r ≡ Plain id (Sets a op b) r
 code_of-Assign id l a op b r =
-    ap (λ t. code_of t r) (sym (s.rolls-Assign id l a op b)) ∙ ap (λ f. f r) (fold-roll-Statement (Code → Code) (Code → Code) code.code_step code.arm_step (Statement-F.Assign id l a op b))
+    ap (λ t. code_of t r) (sym (s.rolls-Assign id l a op b)) ∙ ap (λ (q : code.Part). q.before r) (fold-roll-Statement code.Part code.ArmPart code.part_step code.arm_step (Statement-F.Assign id l a op b))
 
 pub code_of-Print : (id l : ℕ) (format : Bytes) (args : List Expr) (r : Code) → code_of (s.Print id l format args) r ≡ Plain id (code.Prints format args) r
 code_of-Print id l format args r =
-    ap (λ t. code_of t r) (sym (s.rolls-Print id l format args)) ∙ ap (λ f. f r) (fold-roll-Statement (Code → Code) (Code → Code) code.code_step code.arm_step (Statement-F.Print id l format args))
+    ap (λ t. code_of t r) (sym (s.rolls-Print id l format args)) ∙ ap (λ (q : code.Part). q.before r) (fold-roll-Statement code.Part code.ArmPart code.part_step code.arm_step (Statement-F.Print id l format args))
 
 pub unlined-Declare : (id : Option ℕ) (l x : ℕ) (i : Init) → unlined (s.Declare id l x i) ≡ s.Declare id 0 x i
 unlined-Declare id l x i = ap unlined (sym (s.rolls-Declare id l x i)) ∙ fold-roll-Statement Statement Arm unlined_step unlined_arm (Statement-F.Declare id l x i)

@@ -40,6 +40,7 @@ use Rattle.slice_engine.proofs.ProjectionLaws.{straight, one_line, own_words}
 use Rattle.slice_engine.proofs.HeaderLemmas.{AreShort, header_comment}
 use Rattle.slice_engine.proofs.ReadAgain.{Reread, reread}
 use Rattle.slice_engine.proofs.SameValues.{same_values}
+use Rattle.slice_engine.proofs.Lines.{same_types}
 
 -- ---- marks
 
@@ -153,7 +154,7 @@ module _ (p : Program) (edges : List Edge) (line : ℕ) (wanted marks : List Boo
         reads = subst (λ t. IsTextOf t again.program) (sym same) again.reads;
         same_program = again.same_program;
         own_words = subst (All (OwnWords p (keeps p m.kept))) (sym (main_body_is p g.straight)) (own_words p (keeps p m.kept) g.straight);
-        same_values = same_values p again.program line m.kept g.straight m.is_kept again.same_code;
+        same_values = same_values p again.program line m.kept g.straight m.is_kept again.same_code (same_types again.program (sliced p m.kept) again.same_program);
       }
 
 -- ---- what the last steps ask

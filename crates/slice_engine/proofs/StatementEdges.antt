@@ -7,9 +7,8 @@ use Rattle.c_tree.specs.declared.statement.Statement.{Statement}
 use Rattle.c_tree.specs.declared.statement.Statement.TheVariants as s
 use Rattle.c_language.specs.Words.{Bytes}
 use Rattle.c_language.specs.Code.{Code, code, code_of}
-use Rattle.c_meaning.specs.Values.{place}
 use Rattle.dep_model.specs.declared.edge.Edge.{Edge}
-use Rattle.slice_engine.specs.Edges.{operands, all_operands, control_edge, read_edges, written, noted, edges_of}
+use Rattle.slice_engine.specs.Edges.{place, operands, all_operands, control_edge, read_edges, written, noted, edges_of}
 use Rattle.slice_engine.proofs.Equations.{code_of-Declare, code_of-Assign, code_of-Print}
 use Rattle.slice_engine.proofs.ReadLemmas.{drop_item, drop_none}
 

@@ -10,7 +10,13 @@ use Rattle.c_tree.specs.declared.program.Init.TheVariants as init
 use Rattle.c_tree.specs.declared.statement.Statement.{Statement, fold-Statement}
 use Rattle.c_tree.specs.declared.statement.Statement.TheOpen.{Statement-F, Arm-F}
 use Rattle.c_tree.specs.declared.statement.Statement.TheVariants as s
-use Rattle.c_language.specs.Code.{Act, Begins, Sets, Prints, Code, End, Opens, Plain}
+use Rattle.c_tree.specs.declared.statement.Amount.{Amount}
+use Rattle.c_tree.specs.declared.statement.Amount.TheVariants as amount
+use Rattle.c_tree.specs.declared.statement.Size.{Size}
+use Rattle.c_tree.specs.declared.statement.Size.TheVariants as size
+use Rattle.c_tree.specs.declared.statement.Target.{Target}
+use Rattle.c_tree.specs.declared.statement.Target.TheVariants as target
+use Rattle.c_language.specs.Code.{Act, Begins, Sets, Bumps, Fetches, Writes, Prints, Allocates, Frees, Returns, Tests, Code, End, Opens, Plain, Fork, Loop, Leaves, Call}
 use Rattle.dep_model.specs.declared.vertex.Vertex.{Vertex}
 use Rattle.dep_model.specs.declared.vertex.VertexKind.{VertexKind}
 use Rattle.dep_model.specs.declared.vertex.VertexKind.TheVariants.{Entry, FormalIn, FormalOut, Statement as AtStatement, Call, ActualIn, ActualOut}
@@ -67,17 +73,47 @@ init_names init.None x = false
 init_names (init.One a) x = names a x
 init_names (init.Items as_) x = any_names as_ x
 
+abbrev pub target_names : Target → ℕ → Bool
+target_names target.None x = false
+target_names (target.Place a) x = names a x
+target_names (target.Declared y) x = y == x
+
+abbrev pub size_names : Size → ℕ → Bool
+size_names (size.Type t) x = false
+size_names (size.Pointee y in_parentheses) x = y == x
+
+abbrev pub amount_names : Amount → ℕ → Bool
+amount_names (amount.Size t) x = size_names t x
+amount_names (amount.CountSize a t) x = names a x || size_names t x
+amount_names (amount.SizeCount t a) x = size_names t x || names a x
+amount_names (amount.Count a) x = names a x
+
+abbrev pub value_names : Option Expr → ℕ → Bool
+value_names None x = false
+value_names (Some a) x = names a x
+
 -- whether the words of an act name a variable
 abbrev pub act_names : Act → ℕ → Bool
 act_names (Begins y i) x = (y == x) || init_names i x
 act_names (Sets left op right) x = names left x || names right x
+act_names (Bumps left up) x = names left x
+act_names (Fetches to) x = target_names to x
+act_names (Writes a) x = names a x
 act_names (Prints format args) x = any_names args x
+act_names (Allocates to n) x = target_names to x || amount_names n x
+act_names (Frees a) x = names a x
+act_names (Returns a) x = value_names a x
+act_names (Tests a) x = names a x
 
--- whether the words of some kept statement name a variable: its declaration stays exactly then
+-- whether the words of some kept statement name a variable: its declaration stays exactly then; control flow and calls are not built yet
 abbrev pub stays : (ℕ → Bool) → Code → ℕ → Bool
 stays keeps End x = false
 stays keeps (Opens y r) x = stays keeps r x
 stays keeps (Plain i a r) x = (keeps i && act_names a x) || stays keeps r x
+stays keeps (Fork i e c r) x = stays keeps r x
+stays keeps (Loop i e b r) x = stays keeps r x
+stays keeps (Leaves xs r) x = stays keeps r x
+stays keeps (Call i to f args r) x = stays keeps r x
 
 -- other numbers for the variables of an expression
 abbrev pub renamed_step : (ℕ → ℕ) → Expr-F Expr → Expr

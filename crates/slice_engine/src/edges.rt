@@ -1,6 +1,6 @@
 ghost use Rattle.std.specs.Prelude.{◌≡◌, ◌+◌, ◌^◌, ◌<◌, ◌++◌, [], ◌∷◌, All, IfOk, OnOk, length, replicate, true};
 ghost use Rattle.c_language.specs.Code.{Code, code, code_of};
-ghost use Rattle.c_meaning.specs.Values.{place as place_of};
+ghost use Rattle.slice_engine.specs.Edges.{place as place_of};
 ghost use Rattle.slice_engine.specs.Edges as spec;
 ghost use Rattle.slice_engine.specs.Forms.{is_built, vertex_of};
 
