@@ -4,3 +4,15 @@ pub mod Loops
 pub mod StatementWords
 pub mod StatementLines
 pub mod Rules
+pub mod RawWordLemmas
+pub mod TokenPrint
+pub mod ExprPrint
+pub mod RawTypeLemmas
+pub mod TypePrint
+pub mod RawStatementLemmas
+pub mod SimplePrint
+pub mod DecimalPrint
+pub mod DeclaredPrint
+pub mod StatementPrint
+pub mod ItemPrint
+pub mod TextPrint

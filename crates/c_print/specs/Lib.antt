@@ -2,3 +2,6 @@ pub mod Signs
 pub mod Lists
 pub mod Levels
 pub mod Arms
+pub mod Written
+pub mod RawLayout
+pub mod Settled

@@ -1,0 +1,239 @@
+-- What is printed of a declaration has its tokens again.
+use Rattle.std.proofs.Common.{◌≡◌, ℕ, ◌≤◌, ◌<◌, ◌^◌, List, [], ◌∷◌, ◌++◌, length, map, append_assoc, append-nil, refl, sym, ap, ◌∙◌, subst, true, false, codes, decimal, arith}
+use Rattle.c_arith.specs.declared.int_type.IntType.{IntType}
+use Rattle.c_tree.specs.declared.raw.expr.RawExpr.{RawExpr}
+use Rattle.c_tree.specs.declared.raw.expr.RawType.{RawType}
+use Rattle.c_tree.specs.declared.raw.expr.RawVar.{RawVar}
+use Rattle.c_tree.specs.declared.raw.program.RawInit.TheVariants as init
+use Rattle.c_tree.specs.declared.raw.statement.RawTarget.TheVariants as target
+use Rattle.c_tree.specs.declared.raw.statement.RawStatement.{RawStatement}
+use Rattle.c_tree.specs.declared.raw.statement.RawStatement.TheVariants as s
+use Rattle.c_language.specs.Words.{Bytes, joined}
+use Rattle.c_language.specs.Layout.{Laid, call_words}
+use Rattle.c_language.specs.ProgramOf.{raw_words}
+use Rattle.c_language.specs.TokenForms.{Tokens, mark, line_of}
+use Rattle.c_language.specs.Sees.{sees}
+use Rattle.c_language.specs.IntWords.{IsIntType, words, AreWords, none, some}
+use Rattle.c_language.specs.ExprGrammar.{IsExpr, number_constant, character_constant, null, eof, variable, paren, index, member, unary, cast, binary, choose}
+use Rattle.c_language.specs.TypeGrammar.{IsBase, IsDeclarator, is_listed}
+use Rattle.c_language.specs.StatementGrammar.{IsList, trailing, IsDeclared, plain, value, list, call, heap}
+use Rattle.c_language.specs.Tokens.{name_goes_on, number_goes_on, IsTokens}
+use Rattle.c_language.specs.declared.token.TokenKind.TheVariants.{Name, Number, Mark}
+use Rattle.c_language.specs.declared.token.Before.{Before}
+use Rattle.c_language.specs.declared.token.Before.TheVariants.{Token}
+use Rattle.c_print.specs.Written.{HasForm, AreWritten}
+use Rattle.c_print.specs.RawLayout.{raw_base, raw_stars, raw_lengths, raw_declared, raw_arg_words, raw_cast_words, raw_laid}
+use Rattle.c_print.specs.Settled.{settled_var, settled}
+use Rattle.c_print.proofs.RawStatementLemmas.{raw_laid-Declare, raw_laid-Call, raw_laid-Heap, settled-Declare, settled-Call, settled-Heap}
+use Rattle.c_print.proofs.DecimalPrint.{decimal_form}
+use Rattle.c_print.proofs.TokenPrint.{print_blank, print_mark, Stops, stops_name}
+use Rattle.c_print.proofs.ExprPrint.{expr_rest, stops_expr, print_expr}
+use Rattle.c_print.proofs.TypePrint.{base_plain, Counts, declarator_rest, print_base, print_declarator, declared_base, settled_twice, settled_unlisted, unlisted_stays}
+use Rattle.c_print.proofs.SimplePrint.{Has, has_as, call_rest, heap_rest, print_call, print_heap, print_equals, malloc_words}
+
+-- ---- what follows is written too
+
+pub list_rest : {ts rest : Tokens} {all : List RawExpr} → IsList ts all rest → AreWritten ts → AreWritten rest
+list_rest (IsList.last h) w = (expr_rest h w).4
+list_rest (trailing h) w = (expr_rest h w).4.4
+list_rest (IsList.more h k) w = list_rest k (expr_rest h w).4
+
+pub declared_rest : {line : ℕ} {base : RawType} {ts rest : Tokens} {a : RawStatement} → IsDeclared line base ts a rest → AreWritten ts → AreWritten rest
+declared_rest (plain h p) w = declarator_rest h w
+declared_rest (value h p k) w = expr_rest k (declarator_rest h w).4
+declared_rest (list h k) w = list_rest k (declarator_rest h w).4.4
+declared_rest (call h p k) w = call_rest k (declarator_rest h w).4
+declared_rest (heap h p k) w = heap_rest k (declarator_rest h w).4
+
+-- ---- lists of initialisers
+
+some_items : {ts rest : Tokens} {all : List RawExpr} → IsList ts all rest → (x : Bytes) → joined (codes ", ") (x ∷ map raw_words all) ≡ x ++ (44 ∷ 32 ∷ joined (codes ", ") (map raw_words all))
+some_items (IsList.last h) x = refl
+some_items (trailing h) x = refl
+some_items (IsList.more h k) x = refl
+
+pub print_list : {ts rest : Tokens} {all : List RawExpr} → IsList ts all rest → AreWritten ts → (line : ℕ) (more : Bytes) (after : Tokens) → IsTokens Token line more after
+    → Has line (joined (codes ", ") (map raw_words all) ++ (125 ∷ more)) (λ ts. IsList ts all after)
+print_list (IsList.last h) w line more after t =
+    let x = print_expr h w line (125 ∷ more) (mark (codes "}") line ∷ after) (stops_expr h _ (λ b. refl)) (print_mark (codes "}") refl refl t) in
+    record { tokens = x.tokens; lexed = x.lexed; is = IsList.last x.is }
+print_list (trailing h) w line more after t =
+    let x = print_expr h w line (125 ∷ more) (mark (codes "}") line ∷ after) (stops_expr h _ (λ b. refl)) (print_mark (codes "}") refl refl t) in
+    record { tokens = x.tokens; lexed = x.lexed; is = IsList.last x.is }
+print_list (IsList.more {a} {all} h k) w line more after t =
+    let y = print_list k (expr_rest h w).4 line more after t in
+    let x = print_expr h w line (44 ∷ 32 ∷ (joined (codes ", ") (map raw_words all) ++ (125 ∷ more))) (mark (codes ",") line ∷ y.tokens) (stops_expr h _ (λ b. refl)) (print_mark (codes ",") refl refl (print_blank (y.lexed Token))) in
+    has_as (ap (λ (z : Bytes). z ++ (125 ∷ more)) (some_items k (raw_words a)) ∙ append_assoc (raw_words a) _ (125 ∷ more))
+    (record { tokens = x.tokens; lexed = x.lexed; is = IsList.more x.is y.is })
+
+words_short : {ts rest : Tokens} {ws : List Bytes} → AreWords ts ws rest → length rest ≤ length ts
+words_short none = omega arith
+words_short (some h) = omega (arith, words_short h)
+
+int_short : {ts rest : Tokens} {t : IntType} → IsIntType ts t rest → length rest ≤ length ts
+int_short (words h s k) = words_short h
+
+expr_short : {n : ℕ} {ts rest : Tokens} {a : RawExpr} → IsExpr n ts a rest → length rest < length ts
+expr_short number_constant = omega arith
+expr_short character_constant = omega arith
+expr_short null = omega arith
+expr_short eof = omega arith
+expr_short (variable h) = omega arith
+expr_short (paren h) = omega (arith, expr_short h)
+expr_short (index p h k) = omega (arith, expr_short h, expr_short k)
+expr_short (member by p h k) = omega (arith, expr_short h)
+expr_short (unary op p h) = omega (arith, expr_short h)
+expr_short (cast p h k) = omega (arith, int_short h, expr_short k)
+expr_short (binary op p h k) = omega (arith, expr_short h, expr_short k)
+expr_short (choose p h k j) = omega (arith, expr_short h, expr_short k, expr_short j)
+
+-- a list has an item at least, and a token for each item
+list_counts : {ts rest : Tokens} {all : List RawExpr} → IsList ts all rest → (0 < length all) × (length all ≤ length ts)
+list_counts (IsList.last h) = (omega arith, omega (arith, expr_short h))
+list_counts (trailing h) = (omega arith, omega (arith, expr_short h))
+list_counts (IsList.more h k) = (omega arith, omega (arith, expr_short h, (list_counts k).1))
+
+pub list_form : {ts rest : Tokens} {all : List RawExpr} → IsList ts all rest → length ts < 2 ^ 32 → HasForm Number (decimal (length all))
+list_form {all = all} h few = let c = list_counts h in decimal_form (length all) c.0 (omega (arith, c.1, few))
+
+-- ---- declarators with their base
+
+-- tokens of a declared name, behind its base
+pub record PrintedNamed (items line : ℕ) (bytes : Bytes) (v : RawVar) (after : Tokens) : Type 0 where
+  pub tokens : Tokens
+  pub mid : Tokens
+  pub base : RawType
+  pub lexed : (before : Before) → IsTokens before line bytes tokens
+  pub is_base : IsBase tokens base mid
+  pub is : IsDeclarator mid base (settled_var items v) after
+  pub no_else : sees Name (codes "else") tokens ≡ false
+
+named_join : (base x y z more : Bytes) → (base ++ (32 ∷ (x ++ (y ++ z)))) ++ more ≡ base ++ (32 ∷ (x ++ (y ++ (z ++ more))))
+named_join base x y z more = append_assoc base _ more ∙ ap (λ (u : Bytes). base ++ (32 ∷ u)) (append_assoc x (y ++ z) more ∙ ap (λ (u : Bytes). x ++ u) (append_assoc y z more))
+
+pub print_named : {bs ms ts rest : Tokens} {base : RawType} {v : RawVar} (items : ℕ) → IsBase bs base ms → AreWritten bs → IsDeclarator ts base v rest → AreWritten ts → Counts items v.shape → (line : ℕ) (more : Bytes) (after : Tokens) → Stops name_goes_on more → sees Mark (codes "[") after ≡ false → IsTokens Token line more after
+    → PrintedNamed items line (raw_declared items v.shape v.name ++ more) v after
+print_named {base = base} {v} items b wb h w c line more after s f t =
+    let x = print_declarator items h w (base_plain b) c line more after s f t in
+    let y = print_base b wb line (32 ∷ (raw_stars v.shape ++ (v.name ++ (raw_lengths items v.shape ++ more)))) x.tokens (λ d. refl) x.no_int (print_blank x.lexed) in
+    subst (λ (z : Bytes). PrintedNamed items line z v after)
+    (sym (ap (λ (z : Bytes). (z ++ (32 ∷ (raw_stars v.shape ++ (v.name ++ raw_lengths items v.shape)))) ++ more) (declared_base h) ∙ named_join (raw_base base) (raw_stars v.shape) v.name (raw_lengths items v.shape) more))
+    (record { tokens = y.tokens; mid = x.tokens; base = base; lexed = y.lexed; is_base = y.is; is = x.is; no_else = y.no_else })
+
+-- ---- declarations of one name
+
+-- tokens of a declaration that is the same in all that the layout keeps, and then these
+pub record PrintedDeclared (line : ℕ) (bytes : Bytes) (a : RawStatement) (after : Tokens) : Type 0 where
+  pub tokens : Tokens
+  pub mid : Tokens
+  pub base : RawType
+  pub lexed : (before : Before) → IsTokens before line bytes tokens
+  pub is_base : IsBase tokens base mid
+  pub found : RawStatement
+  pub is : IsDeclared (line_of tokens) base mid found after
+  pub same : settled found ≡ settled a
+  pub no_else : sees Name (codes "else") tokens ≡ false
+
+declared_as : {line : ℕ} {a : RawStatement} {after : Tokens} {x y : Bytes} → x ≡ y → PrintedDeclared line y a after → PrintedDeclared line x a after
+declared_as {line} {a} {after} e p = subst (λ (z : Bytes). PrintedDeclared line z a after) (sym e) p
+
+words_of : {x y : Laid} (more : Bytes) → x ≡ y → x.words ++ more ≡ y.words ++ more
+words_of more e = ap (λ (l : Laid). l.words ++ more) e
+
+pub no_counts : (v : RawVar) (items : ℕ) → is_listed v.shape ≡ false → Counts items v.shape
+no_counts v items p = λ h. let x : true ≡ false = sym h ∙ p in absurd cc
+
+pub equals_no_length : (l : ℕ) (ts : Tokens) → sees Mark (codes "[") (mark (codes "=") l ∷ ts) ≡ false
+unfolding sees
+equals_no_length l ts = refl
+
+equals_join : (x y more : Bytes) → (x ++ (codes " = " ++ y)) ++ more ≡ x ++ (codes " = " ++ (y ++ more))
+equals_join x y more = append_assoc x (codes " = " ++ y) more
+
+store_join : (x y more : Bytes) → ((x ++ codes " = ") ++ y) ++ more ≡ x ++ (codes " = " ++ (y ++ more))
+store_join x y more = ap (λ (z : Bytes). z ++ more) (append_assoc x (codes " = ") y) ∙ append_assoc x (codes " = " ++ y) more
+
+list_join : (x y more : Bytes) → (x ++ (codes " = {" ++ (y ++ codes "}"))) ++ more ≡ x ++ (codes " = {" ++ (y ++ (125 ∷ more)))
+list_join x y more = append_assoc x _ more ∙ ap (λ (z : Bytes). x ++ (codes " = {" ++ z)) (append_assoc y (codes "}") more)
+
+plain_join : (x more : Bytes) → (x ++ []) ++ more ≡ x ++ more
+plain_join x more = ap (λ (z : Bytes). z ++ more) (append-nil x)
+
+pub print_declared : {l : ℕ} {bs ms ts rest : Tokens} {base : RawType} {a : RawStatement} → IsBase bs base ms → AreWritten bs → IsDeclared l base ts a rest → AreWritten ts
+    → (line : ℕ) (more : Bytes) (after : Tokens) → Stops number_goes_on more → sees Mark (codes "[") after ≡ false → IsTokens Token line more after → PrintedDeclared line ((raw_laid a).words ++ more) a after
+print_declared {l} b wb (plain {v = v} h p) w line more after stop f t =
+    let x = print_named 0 b wb h w (no_counts v 0 p) line more after (stops_name more stop) f t in
+    declared_as (words_of more (raw_laid-Declare l v init.None) ∙ plain_join (raw_declared 0 v.shape v.name) more)
+    (record {
+      tokens = x.tokens;
+      mid = x.mid;
+      base = x.base;
+      lexed = x.lexed;
+      is_base = x.is_base;
+      no_else = x.no_else;
+      found = s.Declare (line_of x.tokens) (settled_var 0 v) init.None;
+      is = plain x.is (settled_unlisted 0 h (base_plain b) p);
+      same = settled-Declare (line_of x.tokens) (settled_var 0 v) init.None ∙ ap (λ (z : RawVar). s.Declare 0 z init.None) (settled_twice 0 h (base_plain b)) ∙ sym (settled-Declare l v init.None);
+    })
+print_declared {l} b wb (value {v = v} {a} h p k) w line more after stop f t =
+    let y = print_expr k (declarator_rest h w).4 line more after (stops_expr k more stop) t in
+    let x = print_named 0 b wb h w (no_counts v 0 p) line (codes " = " ++ (raw_words a ++ more)) (mark (codes "=") line ∷ y.tokens) (λ d. refl) (equals_no_length line y.tokens) (print_equals (y.lexed Token)) in
+    declared_as (words_of more (raw_laid-Declare l v (init.One a)) ∙ equals_join (raw_declared 0 v.shape v.name) (raw_words a) more)
+    (record {
+      tokens = x.tokens;
+      mid = x.mid;
+      base = x.base;
+      lexed = x.lexed;
+      is_base = x.is_base;
+      no_else = x.no_else;
+      found = s.Declare (line_of x.tokens) (settled_var 0 v) (init.One a);
+      is = value x.is (settled_unlisted 0 h (base_plain b) p) y.is;
+      same = settled-Declare (line_of x.tokens) (settled_var 0 v) (init.One a) ∙ ap (λ (z : RawVar). s.Declare 0 z (init.One a)) (settled_twice 0 h (base_plain b)) ∙ sym (settled-Declare l v (init.One a));
+    })
+print_declared {l} b wb (list {v = v} {all} h k) w line more after stop f t =
+    let n = length all in
+    let wl = (declarator_rest h w).4 in
+    let y = print_list k wl.4 line more after t in
+    let x = print_named n b wb h w (λ _. list_form k wl.3) line (codes " = {" ++ (joined (codes ", ") (map raw_words all) ++ (125 ∷ more))) (mark (codes "=") line ∷ mark (codes "{") line ∷ y.tokens) (λ d. refl) (equals_no_length line _) (print_equals (print_mark (codes "{") refl refl (y.lexed Token))) in
+    declared_as (words_of more (raw_laid-Declare l v (init.Items all)) ∙ list_join (raw_declared n v.shape v.name) (joined (codes ", ") (map raw_words all)) more)
+    (record {
+      tokens = x.tokens;
+      mid = x.mid;
+      base = x.base;
+      lexed = x.lexed;
+      is_base = x.is_base;
+      no_else = x.no_else;
+      found = s.Declare (line_of x.tokens) (settled_var n v) (init.Items all);
+      is = list x.is y.is;
+      same = settled-Declare (line_of x.tokens) (settled_var n v) (init.Items all) ∙ ap (λ (z : RawVar). s.Declare 0 z (init.Items all)) (settled_twice n h (base_plain b)) ∙ sym (settled-Declare l v (init.Items all));
+    })
+print_declared {l} b wb (call {v = v} {w = g} {all} h p k) w line more after stop f t =
+    let y = print_call k (declarator_rest h w).4 line more after t in
+    let x = print_named 0 b wb h w (no_counts v 0 p) line (codes " = " ++ (call_words g (map raw_arg_words all) ++ more)) (mark (codes "=") line ∷ y.tokens) (λ d. refl) (equals_no_length line y.tokens) (print_equals (y.lexed Token)) in
+    declared_as (words_of more (raw_laid-Call l (target.Declared v) g all) ∙ store_join (raw_declared 0 v.shape v.name) (call_words g (map raw_arg_words all)) more)
+    (record {
+      tokens = x.tokens;
+      mid = x.mid;
+      base = x.base;
+      lexed = x.lexed;
+      is_base = x.is_base;
+      no_else = x.no_else;
+      found = s.Call (line_of x.tokens) (target.Declared v) g all;
+      is = call (subst (λ (z : RawVar). IsDeclarator x.mid x.base z (mark (codes "=") line ∷ y.tokens)) (unlisted_stays 0 h (base_plain b) p) x.is) p y.is;
+      same = settled-Call (line_of x.tokens) (target.Declared v) g all ∙ sym (settled-Call l (target.Declared v) g all);
+    })
+print_declared {l} b wb (heap {v = v} {t = c} {n} h p k) w line more after stop f t =
+    let y = print_heap k (declarator_rest h w).4 line more after t in
+    let x = print_named 0 b wb h w (no_counts v 0 p) line (codes " = " ++ ((raw_cast_words c ++ malloc_words n) ++ more)) (mark (codes "=") line ∷ y.tokens) (λ d. refl) (equals_no_length line y.tokens) (print_equals (y.lexed Token)) in
+    declared_as (words_of more (raw_laid-Heap l (target.Declared v) c n) ∙ store_join (raw_declared 0 v.shape v.name) (raw_cast_words c ++ malloc_words n) more)
+    (record {
+      tokens = x.tokens;
+      mid = x.mid;
+      base = x.base;
+      lexed = x.lexed;
+      is_base = x.is_base;
+      no_else = x.no_else;
+      found = s.Heap (line_of x.tokens) (target.Declared v) c n;
+      is = heap (subst (λ (z : RawVar). IsDeclarator x.mid x.base z (mark (codes "=") line ∷ y.tokens)) (unlisted_stays 0 h (base_plain b) p) x.is) p y.is;
+      same = settled-Heap (line_of x.tokens) (target.Declared v) c n ∙ sym (settled-Heap l (target.Declared v) c n);
+    })
