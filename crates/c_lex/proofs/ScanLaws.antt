@@ -15,7 +15,8 @@ use Rattle.c_lex.specs.declared.fault.LexFault.{LexFault}
 use Rattle.c_lex.specs.declared.fault.LexFault.TheVariants.{BadByte, BadNumber, OpenComment, NoMemory}
 use Rattle.c_lex.specs.declared.piece.Piece.{Piece}
 use Rattle.c_lex.specs.declared.piece.Piece.TheVariants as piece
-use Rattle.c_lex.specs.Scanning.{piece_of, after_space, Scan, turn, scan, Gives, Finds, IsLexed}
+use Rattle.c_lex.specs.Lexed.{Finds, IsLexed}
+use Rattle.c_lex.specs.Scanning.{piece_of, after_space, Scan, turn, scan, Gives}
 use Rattle.c_lex.proofs.Turns.{one_more, no_more}
 use Rattle.c_lex.proofs.PieceLaws.{piece_space, space_leads, space_some, TokenLens, piece_token}
 use Rattle.c_lex.proofs.FrontLaws.{Front, front_at}

@@ -1,4 +1,5 @@
 pub mod Faults
+pub mod Lexed
 pub mod Scanning
 pub mod Sought
 pub mod Numbers

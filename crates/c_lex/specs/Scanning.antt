@@ -7,7 +7,7 @@ use Rattle.c_language.specs.Words.{Bytes}
 use Rattle.c_language.specs.StraightLine.{is_digit, is_letter}
 use Rattle.c_language.specs.TokenForms.{Tokens, of_kind}
 use Rattle.c_language.specs.Constants.{is_one_of, is_escape, constant_type}
-use Rattle.c_language.specs.Tokens.{is_blank, is_plain, is_feed, line_feeds, joins_next, behind_comment, name_goes_on, number_goes_on, AreTokensOf}
+use Rattle.c_language.specs.Tokens.{is_blank, is_plain, is_feed, line_feeds, joins_next, behind_comment, name_goes_on, number_goes_on}
 use Rattle.c_language.specs.declared.token.TokenKind.{TokenKind}
 use Rattle.c_language.specs.declared.token.TokenKind.TheVariants.{Name, Number, Character, Str, Mark, Include, Directive}
 use Rattle.c_language.specs.declared.token.Before.{Before}
@@ -19,7 +19,6 @@ use Rattle.c_lex.specs.declared.piece.Piece.TheVariants as piece
 use Rattle.c_lex.specs.declared.literal.Stage.{Stage}
 use Rattle.c_lex.specs.declared.literal.Stage.TheVariants as stage
 use Rattle.c_language.specs.declared.token.Token as token
-use Rattle.c_lex.specs.Faults.{IsFault}
 
 -- ---- places
 
@@ -266,19 +265,3 @@ Gives outcome (Err NoMemory) = Unit {0}
 Gives outcome (Err (BadByte line)) = outcome ≡ Err (BadByte line)
 Gives outcome (Err (BadNumber line)) = outcome ≡ Err (BadNumber line)
 Gives outcome (Err (OpenComment line)) = outcome ≡ Err (OpenComment line)
-
--- The answer is the tokens of the text, or a fault that its bytes show, or memory ran out.
-abbrev pub IsLexed : Bytes → Result (Vec token.Token Global) LexFault → Type 0
-IsLexed text (Ok v) = AreTokensOf text v.items
-IsLexed text (Err NoMemory) = Unit {0}
-IsLexed text (Err (BadByte line)) = IsFault Blank 1 text (BadByte line)
-IsLexed text (Err (BadNumber line)) = IsFault Blank 1 text (BadNumber line)
-IsLexed text (Err (OpenComment line)) = IsFault Blank 1 text (OpenComment line)
-
--- What is answered of a text that has these tokens: them, or that memory ran out.
-abbrev pub Finds : Tokens → Result (Vec token.Token Global) LexFault → Type 0
-Finds ts (Ok v) = v.items ≡ ts
-Finds ts (Err NoMemory) = Unit {0}
-Finds ts (Err (BadByte line)) = ⊥
-Finds ts (Err (BadNumber line)) = ⊥
-Finds ts (Err (OpenComment line)) = ⊥

@@ -3,7 +3,8 @@ ghost use Rattle.c_language.specs.TokenForms.{Tokens, of_kind};
 ghost use Rattle.c_language.specs.Tokens.{AreTokensOf};
 ghost use Rattle.c_language.specs.declared.token.Before.TheVariants.{Blank};
 ghost use Rattle.c_lex.specs.Scanning as spec;
-ghost use Rattle.c_lex.specs.Scanning.{Gives, IsLexed, Finds};
+ghost use Rattle.c_lex.specs.Lexed.{IsLexed, Finds};
+ghost use Rattle.c_lex.specs.Scanning.{Gives};
 
 use crate::bytes::{behind, byte_at, front, has_feed, line_feeds};
 use crate::fault::LexFault;
@@ -59,8 +60,13 @@ fn scan(alloc: Global, text: &[u8]) -> Result<Vec<Token>, LexFault>
                 feeds += line_feeds(some);
                 bytes = behind(bytes, len);
             }
-            Piece::Token(kind, len, at, text_len) => {
-                let text = front(behind(bytes, at), text_len);
+            Piece::Token {
+                kind,
+                len,
+                text_at,
+                text_len,
+            } => {
+                let text = front(behind(bytes, text_at), text_len);
                 push_token(alloc, &mut found, kind, text, feeds + 1)?;
                 before = Before::Token;
                 bytes = behind(bytes, len);

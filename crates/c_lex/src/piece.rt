@@ -17,9 +17,13 @@ use c_language::{Before, TokenKind};
 pub enum Piece {
     /// White space or a comment of so many bytes.
     Space(usize),
-    /// A token: its kind, how many bytes it has of its own, and where among them its text begins and
-    /// how long that is.
-    Token(TokenKind, usize, usize, usize),
+    /// A token of so many bytes of its own. Its text begins at a place among them.
+    Token {
+        kind: TokenKind,
+        len: usize,
+        text_at: usize,
+        text_len: usize,
+    },
     /// A comment in which a `*` and a `/` are split; the `*` stands at this place.
     SplitEnd(usize),
     /// A comment that isn't closed.
@@ -34,7 +38,12 @@ pub enum Piece {
 fn whole(kind: TokenKind, len: usize) -> Piece
     ensures { result ≡ spec.whole kind len }
 {
-    Piece::Token(kind, len, 0, len)
+    Piece::Token {
+        kind,
+        len,
+        text_at: 0,
+        text_len: len,
+    }
 }
 
 /// The same, where it has any bytes.
@@ -113,7 +122,12 @@ fn string_piece(bytes: &[u8]) -> Piece
 fn directive_piece(bytes: &[u8]) -> Piece
     ensures { result ≡ spec.directive_piece bytes.now }
 {
-    Piece::Token(TokenKind::Directive, line_len(bytes), 0, 1)
+    Piece::Token {
+        kind: TokenKind::Directive,
+        len: line_len(bytes),
+        text_at: 0,
+        text_len: 1,
+    }
 }
 
 /// An include, or another line that begins with `#`.
@@ -125,9 +139,14 @@ fn hash_piece(bytes: &[u8]) -> Piece
     let Some(named) = header_from(behind_gap(behind(bytes, 1))) else {
         return directive_piece(bytes);
     };
-    let at = bytes.len() - named.len();
-    let len = header_len(named);
-    Piece::Token(TokenKind::Include, at + len, at, len)
+    let text_at = bytes.len() - named.len();
+    let text_len = header_len(named);
+    Piece::Token {
+        kind: TokenKind::Include,
+        len: text_at + text_len,
+        text_at,
+        text_len,
+    }
 }
 
 /// A line that begins with `#`.

@@ -27,7 +27,7 @@ pub front-text-requires : goal.front-text-requires
 front-text-requires c =
     let some : length c.loop-turn.bytes.now ≡ 0 → ⊥ = eqb-false _ _ (sym c.is_empty.ensures ∙ c.if-is_empty.false) in
     let w = piece_within c.loop-turn.before c.loop-turn.bytes.now _ (omega (arith, some)) c.in-Token.ensures in
-    omega (arith, w.0, w.1, ap length c.behind.ensures, length-drop c.in-Token.at c.loop-turn.bytes.now)
+    omega (arith, w.0, w.1, ap length c.behind.ensures, length-drop c.in-Token.text_at c.loop-turn.bytes.now)
 
 pub behind-bytes-requires-in-Token : goal.behind-bytes-requires-in-Token
 behind-bytes-requires-in-Token c =
@@ -85,10 +85,10 @@ loop-turn-preserved c =
           }
       | in-Token+in_ok-push_token-in-Token w ↦
           let left : c.match-piece_of.bytes.now ≡ drop w.in-Token.len c.loop-turn.bytes.now = ap (λ b. b.now) w.bytes-is ∙ w.behind-bytes-in-Token.ensures in
-          let text : w.front-text.result.now ≡ take w.in-Token.text_len (drop w.in-Token.at c.loop-turn.bytes.now) = w.front-text.ensures.value ∙ ap (take w.in-Token.text_len) w.behind.ensures in
+          let text : w.front-text.result.now ≡ take w.in-Token.text_len (drop w.in-Token.text_at c.loop-turn.bytes.now) = w.front-text.ensures.value ∙ ap (take w.in-Token.text_len) w.behind.ensures in
           record {
             same = rw (w.before-is, w.feeds-is)
-                (token_kept _ c.loop-turn._turn c.loop-turn.before (c.loop-turn.feeds + 1) c.loop-turn.found.items c.loop-turn.bytes.now c.loop-turn-test.true some c.loop-turn.invariant.same w.in-Token.kind w.in-Token.len w.in-Token.at w.in-Token.text_len _ _ w.in-Token.ensures
+                (token_kept _ c.loop-turn._turn c.loop-turn.before (c.loop-turn.feeds + 1) c.loop-turn.found.items c.loop-turn.bytes.now c.loop-turn-test.true some c.loop-turn.invariant.same w.in-Token.kind w.in-Token.len w.in-Token.text_at w.in-Token.text_len _ _ w.in-Token.ensures
                 (ap (λ v. v.items) w.found-is ∙ w.in_ok-push_token-in-Token.ensures ∙ ap (λ t. c.loop-turn.found.items ++ of_kind w.in-Token.kind t (c.loop-turn.feeds + 1) ∷ []) text) left);
             fits = rw w.feeds-is
                 (feeds_still c.loop-turn.feeds w.in-Token.len (length c.args.text.now) c.loop-turn.bytes.now _ c.loop-turn.invariant.fits (piece_within c.loop-turn.before c.loop-turn.bytes.now _ (omega (arith, some)) w.in-Token.ensures).0 left);
