@@ -1,0 +1,10 @@
+pub mod LiteralLemmas
+pub mod Rulesets
+pub mod JudgingLaws
+pub mod NameLemmas
+pub mod MemberLaws
+pub mod JudgedLemmas
+pub mod PhraseLemmas
+pub mod KeptPhrases
+pub mod KeptDeclarations
+pub mod CheckLaws

@@ -1,0 +1,7 @@
+-- The sets of equations that the functions of this crate are proved by.
+use Rattle.c_language.proofs.ConstantLemmas.{constants_of}
+use Rattle.c_types.proofs.JudgedLemmas.{judgements_of}
+
+pub ruleset constants = (constants_of)
+
+pub ruleset judgements = (judgements_of)

@@ -1,0 +1,6 @@
+pub mod Literals
+pub mod Values
+pub mod Judging
+pub mod Names
+pub mod Tables
+pub mod Checking
