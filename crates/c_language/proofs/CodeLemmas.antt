@@ -1,18 +1,17 @@
 -- What each form of statement is as code.
-use Rattle.std.proofs.Common.{◌≡◌, ℕ, ℤ, List, [], ◌∷◌, map, Option, Some, None, Bool, refl, sym, ap, ◌∙◌}
+use Rattle.std.proofs.Common.{◌≡◌, ℕ, List, [], ◌∷◌, map, Option, Some, None, Bool, refl, sym, ap, ◌∙◌}
 use Rattle.c_arith.specs.declared.operators.BinaryOp.{BinaryOp}
 use Rattle.c_tree.specs.declared.types.CType.{CType}
 use Rattle.c_tree.specs.declared.expr.Expr.{Expr}
 use Rattle.c_tree.specs.declared.program.Init.{Init}
 use Rattle.c_tree.specs.declared.statement.Amount.{Amount}
 use Rattle.c_tree.specs.declared.statement.Target.{Target}
-use Rattle.c_tree.specs.declared.statement.Target.TheVariants as target
 use Rattle.c_tree.specs.declared.statement.Statement.{Statement, fold-roll-Statement}
 use Rattle.c_tree.specs.declared.statement.Statement.TheOpen.{Statement-F}
 use Rattle.c_tree.specs.declared.statement.Statement.TheVariants as s
 use Rattle.c_tree.specs.declared.statement.Arm.{Arm, fold-Arm}
 use Rattle.c_language.specs.Words.{Bytes}
-use Rattle.c_language.specs.Code.{Act, Begins, Sets, Bumps, Fetches, Writes, Prints, Allocates, Frees, Returns, Tests, Code, End, Opens, Plain, Fork, Loop, Call, ◌⨟◌, is_true, either, leave, Part, declared, in_turn, list_of, block, ArmPart, taken_arm, begun, optional, given_to, part_step, arm_step, part, code_of, code}
+use Rattle.c_language.specs.Code.{Fetches, Allocates, Code, Plain, Fork, Loop, Call, ◌⨟◌, is_true, either, leave, Part, declared, list_of, block, ArmPart, taken_arm, given_to, part_step, arm_step, part, code_of, code}
 
 abbrev pub arm_part : Arm → ArmPart
 arm_part = fold-Arm Part ArmPart part_step arm_step

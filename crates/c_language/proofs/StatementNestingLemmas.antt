@@ -1,23 +1,22 @@
 -- The nesting of each statement, as an equation.
 use Rattle.std.proofs.Common.{◌≡◌, ℕ, ◌+◌, max, List, map, Option, Some, None, Bool, sym, ap, ◌∙◌}
-use Rattle.std.specs.Option.{option_map}
 use Rattle.c_arith.specs.declared.operators.BinaryOp.{BinaryOp}
 use Rattle.c_tree.specs.declared.raw.expr.RawExpr.{RawExpr}
-use Rattle.c_tree.specs.declared.raw.expr.RawType.{RawType}
 use Rattle.c_tree.specs.declared.raw.expr.RawVar.{RawVar}
 use Rattle.c_tree.specs.declared.raw.program.RawInit.{RawInit}
 use Rattle.c_tree.specs.declared.raw.statement.RawTarget.{RawTarget}
 use Rattle.c_tree.specs.declared.raw.statement.RawArg.{RawArg}
+use Rattle.c_tree.specs.declared.raw.statement.RawTypeName.{RawTypeName}
 use Rattle.c_tree.specs.declared.raw.statement.RawAmount.{RawAmount}
 use Rattle.c_tree.specs.declared.raw.statement.RawLabel.{RawLabel}
-use Rattle.c_tree.specs.declared.raw.statement.RawArm.{RawArm, roll-RawArm, fold-roll-RawArm}
+use Rattle.c_tree.specs.declared.raw.statement.RawArm.{RawArm, fold-roll-RawArm}
 use Rattle.c_tree.specs.declared.raw.statement.RawStatement.{RawStatement, fold-roll-RawStatement}
 use Rattle.c_tree.specs.declared.raw.statement.RawStatement.TheOpen.{RawStatement-F}
 use Rattle.c_tree.specs.declared.raw.statement.RawStatement.TheVariants as s
 use Rattle.c_language.specs.Words.{Bytes}
 use Rattle.c_language.specs.Nesting.{nesting, type_nesting, greatest}
 use Rattle.c_language.specs.StatementGrammar.{arm}
-use Rattle.c_language.specs.StatementNesting.{call_nesting, heap_nesting, stored_nesting, init_nesting, label_nesting, of_value, of_option, statement_step, arm_step, statement_nesting, arm_nesting, body_nesting, arms_nesting}
+use Rattle.c_language.specs.StatementNesting.{call_nesting, heap_nesting, stored_nesting, init_nesting, label_nesting, of_value, statement_step, arm_step, statement_nesting, arm_nesting, body_nesting, arms_nesting}
 
 pub nesting-Declare : (l : ℕ) (v : RawVar) (i : RawInit) → statement_nesting (s.Declare l v i) ≡ max (type_nesting v.shape) (init_nesting i)
 nesting-Declare l v i = ap statement_nesting (sym (s.rolls-Declare l v i)) ∙ fold-roll-RawStatement ℕ ℕ statement_step arm_step (RawStatement-F.Declare l v i)
@@ -31,7 +30,7 @@ nesting-Bump l a up before = ap statement_nesting (sym (s.rolls-Bump l a up befo
 pub nesting-Call : (l : ℕ) (t : RawTarget) (w : Bytes) (args : List RawArg) → statement_nesting (s.Call l t w args) ≡ stored_nesting t (call_nesting args)
 nesting-Call l t w args = ap statement_nesting (sym (s.rolls-Call l t w args)) ∙ fold-roll-RawStatement ℕ ℕ statement_step arm_step (RawStatement-F.Call l t w args)
 
-pub nesting-Heap : (l : ℕ) (t : RawTarget) (cast : Option RawType) (n : RawAmount) → statement_nesting (s.Heap l t cast n) ≡ stored_nesting t (heap_nesting cast n)
+pub nesting-Heap : (l : ℕ) (t : RawTarget) (cast : Option RawTypeName) (n : RawAmount) → statement_nesting (s.Heap l t cast n) ≡ stored_nesting t (heap_nesting cast n)
 nesting-Heap l t cast n = ap statement_nesting (sym (s.rolls-Heap l t cast n)) ∙ fold-roll-RawStatement ℕ ℕ statement_step arm_step (RawStatement-F.Heap l t cast n)
 
 pub nesting-If : (l : ℕ) (a : RawExpr) (all other : List RawStatement) → statement_nesting (s.If l a all other) ≡ 1 + max (nesting a) (max (body_nesting all) (body_nesting other))

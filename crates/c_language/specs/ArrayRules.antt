@@ -1,7 +1,6 @@
 -- What breaks a rule on arrays, their lengths and initialisers (ISO C99 6.6, 6.7.5.2, 6.7.8).
 use Rattle.std.specs.Prelude.{◌≡◌, ℕ, ◌<◌, ℤ, Bool, false, List, [], ◌∷◌, length, Option, Some, None, Contains}
 use Rattle.c_tree.specs.declared.raw.expr.RawExpr.{RawExpr}
-use Rattle.c_tree.specs.declared.raw.expr.RawType.{RawType}
 use Rattle.c_tree.specs.declared.raw.expr.RawVar.{RawVar}
 use Rattle.c_tree.specs.declared.raw.program.RawInit.TheVariants as init
 use Rattle.c_tree.specs.declared.raw.program.RawProgram.{RawProgram}
@@ -9,6 +8,7 @@ use Rattle.c_tree.specs.declared.raw.statement.RawTarget.TheVariants as target
 use Rattle.c_tree.specs.declared.raw.statement.RawArg.{RawArg}
 use Rattle.c_tree.specs.declared.raw.statement.RawAmount.{RawAmount}
 use Rattle.c_tree.specs.declared.raw.statement.RawLabel.{RawLabel}
+use Rattle.c_tree.specs.declared.raw.statement.RawTypeName.{RawTypeName}
 use Rattle.c_language.specs.Words.{Bytes}
 use Rattle.c_language.specs.ConstantEvaluation.{value_of_constant}
 use Rattle.c_language.specs.DeclaredTypes.{positive, variable_type}
@@ -82,5 +82,5 @@ pub data MisusesInitialiser (raw : RawProgram) (scope : Scope) : Part → Type 0
       → variable_type raw var (init.One e) ≡ Some t → is_scalar t ≡ false → MisusesInitialiser raw scope (Begins stand var (init.One e))
   by_call : {stand : Stand} {var : RawVar} {f : Bytes} {args : List RawArg} {t : ExprType}
       → variable_type raw var init.None ≡ Some t → is_scalar t ≡ false → MisusesInitialiser raw scope (Calls stand (target.Declared var) f args)
-  by_allocation : {var : RawVar} {cast : Option RawType} {n : RawAmount} {t : ExprType}
+  by_allocation : {var : RawVar} {cast : Option RawTypeName} {n : RawAmount} {t : ExprType}
       → variable_type raw var init.None ≡ Some t → is_scalar t ≡ false → MisusesInitialiser raw scope (Allocates (target.Declared var) cast n)

@@ -4,7 +4,6 @@ use Rattle.c_arith.specs.declared.int_type.IntType.{IntType}
 use Rattle.c_arith.specs.declared.int_type.IntType.TheVariants.{Int, Char, UChar}
 use Rattle.c_arith.specs.IntType.{width, promote}
 use Rattle.c_tree.specs.declared.raw.expr.RawExpr.{RawExpr}
-use Rattle.c_tree.specs.declared.raw.expr.RawType.{RawType}
 use Rattle.c_tree.specs.declared.raw.program.RawInit.TheVariants as init
 use Rattle.c_tree.specs.declared.raw.program.RawHead.{RawHead}
 use Rattle.c_tree.specs.declared.raw.program.RawProgram.{RawProgram}
@@ -12,6 +11,7 @@ use Rattle.c_tree.specs.declared.raw.statement.RawTarget.{RawTarget}
 use Rattle.c_tree.specs.declared.raw.statement.RawTarget.TheVariants as target
 use Rattle.c_tree.specs.declared.raw.statement.RawArg.{RawArg}
 use Rattle.c_tree.specs.declared.raw.statement.RawArg.TheVariants as arg
+use Rattle.c_tree.specs.declared.raw.statement.RawTypeName.{RawTypeName}
 use Rattle.c_tree.specs.declared.raw.statement.RawSize.{RawSize}
 use Rattle.c_tree.specs.declared.raw.statement.RawSize.TheVariants as size
 use Rattle.c_tree.specs.declared.raw.statement.RawAmount.{RawAmount}
@@ -27,6 +27,7 @@ use Rattle.c_language.specs.Formats.{Conversion, Piece, format_pieces, conversio
 use Rattle.c_language.specs.NameRules.{main_name}
 use Rattle.c_language.specs.Phrases.{Stand, Part, EndsFunction, Calls, Allocates, Returns}
 use Rattle.c_language.specs.Uses.{is_library_function, is_one_of, counts, sizes}
+use Rattle.c_language.specs.TypeGrammar.{named_type}
 use Rattle.c_language.specs.declared.expr_type.ExprType.{ExprType}
 use Rattle.c_language.specs.declared.expr_type.Operand.{Operand}
 
@@ -141,7 +142,7 @@ is_char _ = false
 
 -- a size isn't that of the objects that are allocated
 pub data HasOtherSize (raw : RawProgram) (scope : Scope) (object : ExprType) : RawSize → Type 0 where
-  of_type : {t : RawType} {u : ExprType} → written_type raw t ≡ Some u → same_type u object ≡ false → HasOtherSize raw scope object (size.Type t)
+  of_type : {t : RawTypeName} {u : ExprType} → written_type raw (named_type t) ≡ Some u → same_type u object ≡ false → HasOtherSize raw scope object (size.Type t)
   of_target : {name : Bytes} {closed : Bool} {id : ℕ} {t u : ExprType}
       → meaning_in scope name ≡ Some (Meaning.Variable id (Some t)) → target_of (value_type t) ≡ Some u → same_type u object ≡ false
       → HasOtherSize raw scope object (size.Pointee name closed)
@@ -153,18 +154,18 @@ pub data HasOtherSize (raw : RawProgram) (scope : Scope) (object : ExprType) : R
 
 -- malloc's result goes to no pointer, is cast to another type, or has a size or a count that doesn't fit (7.20.3.3)
 pub data MisusesAllocation (raw : RawProgram) (scope : Scope) : Part → Type 0 where
-  no_pointer : {to : RawTarget} {cast : Option RawType} {n : RawAmount} {t : ExprType}
+  no_pointer : {to : RawTarget} {cast : Option RawTypeName} {n : RawAmount} {t : ExprType}
       → target_type raw scope to ≡ Some t → is_pointer t ≡ false → MisusesAllocation raw scope (Allocates to cast n)
-  cast : {to : RawTarget} {c : RawType} {n : RawAmount} {t u : ExprType}
-      → target_type raw scope to ≡ Some t → written_type raw c ≡ Some u → same_type t u ≡ false
+  cast : {to : RawTarget} {c : RawTypeName} {n : RawAmount} {t u : ExprType}
+      → target_type raw scope to ≡ Some t → written_type raw (named_type c) ≡ Some u → same_type t u ≡ false
       → MisusesAllocation raw scope (Allocates to (Some c) n)
-  other_size : {to : RawTarget} {cast : Option RawType} {n : RawAmount} {t object : ExprType} {measured : RawSize}
+  other_size : {to : RawTarget} {cast : Option RawTypeName} {n : RawAmount} {t object : ExprType} {measured : RawSize}
       → target_type raw scope to ≡ Some t → target_of t ≡ Some object → Contains (sizes n) measured → HasOtherSize raw scope object measured
       → MisusesAllocation raw scope (Allocates to cast n)
-  no_size : {to : RawTarget} {cast : Option RawType} {e : RawExpr} {t object : ExprType}
+  no_size : {to : RawTarget} {cast : Option RawTypeName} {e : RawExpr} {t object : ExprType}
       → target_type raw scope to ≡ Some t → target_of t ≡ Some object → is_char (integer_of object) ≡ false
       → MisusesAllocation raw scope (Allocates to cast (amount.Count e))
-  no_count : {to : RawTarget} {cast : Option RawType} {n : RawAmount} {e : RawExpr} {x : Operand}
+  no_count : {to : RawTarget} {cast : Option RawTypeName} {n : RawAmount} {e : RawExpr} {x : Operand}
       → Contains (counts n) e → operand raw scope e ≡ Some x → is_integer x.shape ≡ false → MisusesAllocation raw scope (Allocates to cast n)
 
 -- the one argument of a call, where there is one

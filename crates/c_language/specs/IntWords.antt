@@ -1,5 +1,5 @@
 -- The words of the integer types (ISO C99 6.7.2).
-use Rattle.std.specs.Prelude.{◌≡◌, ℕ, ◌+◌, Bool, true, false, ◌||◌, List, [], ◌∷◌, codes, Contains, if◌then◌else◌, slice_get, Option, Some, None, ◌&&◌}
+use Rattle.std.specs.Prelude.{◌≡◌, ℕ, ◌+◌, Bool, false, ◌||◌, List, [], ◌∷◌, codes, Contains, if◌then◌else◌, slice_get, Option, Some, None, ◌&&◌}
 use Rattle.std.specs.Str.{bytes_eq}
 use Rattle.c_arith.specs.declared.int_type.IntType.{IntType}
 use Rattle.c_arith.specs.declared.int_type.IntType.TheVariants.{Char, UChar, Short, UShort, Int, UInt, Long, ULong}

@@ -2,7 +2,6 @@
 use Rattle.std.specs.Prelude.{◌≡◌, ◌≢◌, ℕ, ◌&&◌, Bool, true, false, List, [], ◌∷◌, Option, Some, None, Contains, codes, take}
 use Rattle.c_arith.specs.declared.int_type.IntType.TheVariants.{Int}
 use Rattle.c_tree.specs.declared.raw.expr.RawExpr.{RawExpr}
-use Rattle.c_tree.specs.declared.raw.expr.RawType.{RawType}
 use Rattle.c_tree.specs.declared.raw.expr.RawType.TheVariants as type
 use Rattle.c_tree.specs.declared.raw.expr.RawVar.{RawVar}
 use Rattle.c_tree.specs.declared.raw.program.RawInit.{RawInit}
@@ -11,6 +10,7 @@ use Rattle.c_tree.specs.declared.raw.program.RawHead.{RawHead}
 use Rattle.c_tree.specs.declared.raw.program.RawProgram.{RawProgram}
 use Rattle.c_tree.specs.declared.raw.statement.RawTarget.{RawTarget}
 use Rattle.c_tree.specs.declared.raw.statement.RawArg.{RawArg}
+use Rattle.c_tree.specs.declared.raw.statement.RawTypeName.{RawTypeName}
 use Rattle.c_tree.specs.declared.raw.statement.RawSize.TheVariants as size
 use Rattle.c_tree.specs.declared.raw.statement.RawAmount.{RawAmount}
 use Rattle.c_language.specs.Words.{Bytes}
@@ -36,7 +36,7 @@ pub data UsesUndeclared (raw : RawProgram) (scope : Scope) : Part → Type 0 whe
   called : {stand : Stand} {to : RawTarget} {f : Bytes} {args : List RawArg}
       → is_library_function f ≡ false → meaning_in scope f ≢ Some Meaning.Function → UsesUndeclared raw scope (Calls stand to f args)
   -- `sizeof *p`
-  measured : {to : RawTarget} {cast : Option RawType} {n : RawAmount} {name : Bytes} {closed : Bool}
+  measured : {to : RawTarget} {cast : Option RawTypeName} {n : RawAmount} {name : Bytes} {closed : Bool}
       → Contains (sizes n) (size.Pointee name closed) → meaning_in scope name ≡ None → UsesUndeclared raw scope (Allocates to cast n)
 
 -- a name is declared twice in one scope (6.7, paragraph 3); prototypes may repeat, and be followed by the one definition (6.9, paragraph 5)
@@ -93,7 +93,7 @@ pub data LacksDefinition (raw : RawProgram) (scope : Scope) : Part → Type 0 wh
 -- a name of the library is used without its header (7.1.2)
 pub data LacksHeader (raw : RawProgram) (scope : Scope) : Part → Type 0 where
   in_expression : {part : Part} {inner : RawExpr} → Holds part inner → lacks_header raw (seen raw scope inner) ≡ true → LacksHeader raw scope part
-  allocation : {to : RawTarget} {cast : Option RawType} {n : RawAmount} → has_stdlib raw ≡ false → LacksHeader raw scope (Allocates to cast n)
+  allocation : {to : RawTarget} {cast : Option RawTypeName} {n : RawAmount} → has_stdlib raw ≡ false → LacksHeader raw scope (Allocates to cast n)
   release : {stand : Stand} {to : RawTarget} {args : List RawArg} → has_stdlib raw ≡ false → LacksHeader raw scope (Calls stand to (codes "free") args)
   input : {stand : Stand} {to : RawTarget} {args : List RawArg} → has_stdio raw ≡ false → LacksHeader raw scope (Calls stand to (codes "getchar") args)
   output : {stand : Stand} {to : RawTarget} {args : List RawArg} → has_stdio raw ≡ false → LacksHeader raw scope (Calls stand to (codes "putchar") args)

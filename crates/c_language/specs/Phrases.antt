@@ -2,7 +2,6 @@
 use Rattle.std.specs.Prelude.{ℕ, ◌+◌, Bool, true, false, List, [], ◌∷◌, ◌++◌, Option, Some, None}
 use Rattle.c_arith.specs.declared.operators.BinaryOp.{BinaryOp}
 use Rattle.c_tree.specs.declared.raw.expr.RawExpr.{RawExpr}
-use Rattle.c_tree.specs.declared.raw.expr.RawType.{RawType}
 use Rattle.c_tree.specs.declared.raw.expr.RawVar.{RawVar}
 use Rattle.c_tree.specs.declared.raw.program.RawInit.{RawInit}
 use Rattle.c_tree.specs.declared.raw.program.RawInit.TheVariants as init
@@ -15,6 +14,7 @@ use Rattle.c_tree.specs.declared.raw.program.RawProgram.{RawProgram}
 use Rattle.c_tree.specs.declared.raw.statement.RawTarget.{RawTarget}
 use Rattle.c_tree.specs.declared.raw.statement.RawTarget.TheVariants as target
 use Rattle.c_tree.specs.declared.raw.statement.RawArg.{RawArg}
+use Rattle.c_tree.specs.declared.raw.statement.RawTypeName.{RawTypeName}
 use Rattle.c_tree.specs.declared.raw.statement.RawAmount.{RawAmount}
 use Rattle.c_tree.specs.declared.raw.statement.RawLabel.{RawLabel}
 use Rattle.c_tree.specs.declared.raw.statement.RawStatement.{RawStatement, fold-RawStatement}
@@ -53,7 +53,7 @@ pub data Part : Type 0 where
   Assigns : (left : RawExpr) → (op : Option BinaryOp) → (right : RawExpr) → Part
   Bumps : (left : RawExpr) → Part
   Calls : (stand : Stand) → (to : RawTarget) → (function : Bytes) → (args : List RawArg) → Part
-  Allocates : (to : RawTarget) → (cast : Option RawType) → (amount : RawAmount) → Part
+  Allocates : (to : RawTarget) → (cast : Option RawTypeName) → (amount : RawAmount) → Part
   -- the test of an if, a while, a do or a for
   Tests : (test : RawExpr) → Part
   Switches : (test : RawExpr) → (labels : List RawLabel) → Part

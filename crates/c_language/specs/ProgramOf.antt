@@ -47,6 +47,7 @@ use Rattle.c_tree.specs.declared.raw.statement.RawTarget.{RawTarget}
 use Rattle.c_tree.specs.declared.raw.statement.RawTarget.TheVariants as target
 use Rattle.c_tree.specs.declared.raw.statement.RawArg.{RawArg}
 use Rattle.c_tree.specs.declared.raw.statement.RawArg.TheVariants as arg
+use Rattle.c_tree.specs.declared.raw.statement.RawTypeName.{RawTypeName}
 use Rattle.c_tree.specs.declared.raw.statement.RawSize.{RawSize}
 use Rattle.c_tree.specs.declared.raw.statement.RawSize.TheVariants as size
 use Rattle.c_tree.specs.declared.raw.statement.RawAmount.{RawAmount}
@@ -63,6 +64,7 @@ use Rattle.c_language.specs.ExprTypes.{operand_step, type_of, pointed, struct_of
 use Rattle.c_language.specs.declared.expr_type.Operand.{Operand}
 use Rattle.c_language.specs.Phrases.{Stand, InFile, InHead, InBlock, InArm, InFor, Part, Declares, Phrases, phrases, after_item, scope_at_end}
 use Rattle.c_language.specs.CallRules.{format_in, later_args, only_arg}
+use Rattle.c_language.specs.TypeGrammar.{named_type}
 
 -- all members of a list, where each is there
 abbrev pub collected : {A : Type 0} → List (Option A) → Option (List A)
@@ -225,7 +227,7 @@ call_tree raw scope id line to f args =
     else invoke_tree raw scope id line to f args)))
 
 abbrev pub size_tree : RawProgram → Scope → RawSize → Option Size
-size_tree raw scope (size.Type t) = option_map measure.Type (ctype raw t)
+size_tree raw scope (size.Type t) = option_map measure.Type (ctype raw (named_type t))
 size_tree raw scope (size.Pointee name closed) = option_map (λ (x : ℕ). measure.Pointee x closed) (variable_number (meaning_in scope name))
 
 abbrev pub amount_tree : RawProgram → Scope → RawAmount → Option Amount
@@ -236,9 +238,9 @@ amount_tree raw scope (amount.SizeCount m a) =
     option_and_then (λ (x : Size). option_map (quantity.SizeCount x) (expr_of raw scope a)) (size_tree raw scope m)
 amount_tree raw scope (amount.Count a) = option_map quantity.Count (expr_of raw scope a)
 
-abbrev pub heap_tree : RawProgram → Scope → ℕ → ℕ → Option Target → Option RawType → RawAmount → Option Statement
+abbrev pub heap_tree : RawProgram → Scope → ℕ → ℕ → Option Target → Option RawTypeName → RawAmount → Option Statement
 heap_tree raw scope id line to cast n =
-    option_and_then (λ (t : Target). option_and_then (λ (c : Option CType). option_map (s.Heap id line t c) (amount_tree raw scope n)) (ctype_if raw cast)) to
+    option_and_then (λ (t : Target). option_and_then (λ (c : Option CType). option_map (s.Heap id line t c) (amount_tree raw scope n)) (ctype_if raw (option_map named_type cast))) to
 
 -- the value of a case, converted to the promoted type of the switch (6.8.4.2, paragraph 5)
 abbrev pub case_tree : RawProgram → Scope → IntType → RawExpr → Option Label

@@ -1,5 +1,5 @@
 -- What the next tokens are.
-use Rattle.std.specs.Prelude.{ℕ, Bool, true, false, ◌&&◌, not, slice_get, Option, Some, None}
+use Rattle.std.specs.Prelude.{Bool, true, false, ◌&&◌, not, slice_get, Option, Some, None}
 use Rattle.std.specs.Str.{bytes_eq}
 use Rattle.std.specs.List.{list_any}
 use Rattle.c_language.specs.Words.{Bytes}

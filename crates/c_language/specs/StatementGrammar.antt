@@ -1,5 +1,5 @@
 -- Which tokens a statement has (ISO C99 6.7, 6.8). The relations hold between the tokens from a place on, a tree, and the tokens behind that tree.
-use Rattle.std.specs.Prelude.{◌≡◌, ℕ, ◌≤◌, Bool, true, false, ◌&&◌, not, List, [], ◌∷◌, ◌++◌, codes, Option, Some, None}
+use Rattle.std.specs.Prelude.{◌≡◌, ℕ, Bool, true, false, ◌&&◌, not, List, [], ◌∷◌, ◌++◌, codes, Option, Some, None}
 use Rattle.std.specs.Str.{bytes_eq}
 use Rattle.c_arith.specs.declared.operators.BinaryOp.{BinaryOp}
 use Rattle.c_arith.specs.declared.operators.BinaryOp.TheVariants.{Mul, Div, Rem, Add, Sub, Shl, Shr, Less, Greater, AtMost, AtLeast, Equal, Unequal, And, Xor, Or}
@@ -10,6 +10,7 @@ use Rattle.c_tree.specs.declared.raw.program.RawInit.TheVariants as init
 use Rattle.c_tree.specs.declared.raw.statement.RawTarget.TheVariants as target
 use Rattle.c_tree.specs.declared.raw.statement.RawArg.{RawArg}
 use Rattle.c_tree.specs.declared.raw.statement.RawArg.TheVariants.{Value, Literal}
+use Rattle.c_tree.specs.declared.raw.statement.RawTypeName.{RawTypeName}
 use Rattle.c_tree.specs.declared.raw.statement.RawSize.{RawSize}
 use Rattle.c_tree.specs.declared.raw.statement.RawSize.TheVariants as size
 use Rattle.c_tree.specs.declared.raw.statement.RawAmount.{RawAmount}
@@ -22,8 +23,8 @@ use Rattle.c_tree.specs.declared.raw.statement.RawStatement.TheVariants as s
 use Rattle.c_language.specs.Words.{Bytes, assign_sign}
 use Rattle.c_language.specs.TokenForms.{Tokens, name, mark, string, line_of}
 use Rattle.c_language.specs.Sees.{sees, is_keyword}
-use Rattle.c_language.specs.ExprGrammar.{IsExpr, is_place, tightness, conditional_level, multiplicative_level, cast_level, postfix_level}
-use Rattle.c_language.specs.TypeGrammar.{IsBase, IsTypeName, IsDeclarator, is_pointer, is_listed}
+use Rattle.c_language.specs.ExprGrammar.{IsExpr, is_place, conditional_level, multiplicative_level, cast_level, postfix_level}
+use Rattle.c_language.specs.TypeGrammar.{IsBase, NamesType, has_star, IsDeclarator, is_listed}
 use Rattle.c_language.specs.declared.token.TokenKind.TheVariants.{Name, Mark}
 
 -- one or more, with a comma between each two, and a mark behind the last
@@ -61,8 +62,8 @@ pub data IsCall : Tokens → Bytes → List RawArg → Tokens → Type 0 where
 -- a size: that of a type, or of what a variable points to, in parentheses or without
 pub data IsSize : Tokens → RawSize → Tokens → Type 0 where
   -- `sizeof(T)`
-  of_type : {l m k : ℕ} {ts rest : Tokens} {t : RawType}
-      → IsTypeName ts t (mark (codes ")") k ∷ rest) → IsSize (name (codes "sizeof") l ∷ mark (codes "(") m ∷ ts) (size.Type t) rest
+  of_type : {l m k : ℕ} {ts rest : Tokens} {t : RawTypeName}
+      → NamesType ts t (mark (codes ")") k ∷ rest) → IsSize (name (codes "sizeof") l ∷ mark (codes "(") m ∷ ts) (size.Type t) rest
   -- `sizeof(*p)`
   of_pointee : {l m k j i : ℕ} {w : Bytes} {rest : Tokens} → is_keyword w ≡ false
       → IsSize (name (codes "sizeof") l ∷ mark (codes "(") m ∷ mark (codes "*") k ∷ name w j ∷ mark (codes ")") i ∷ rest) (size.Pointee w true) rest
@@ -90,12 +91,12 @@ pub data IsMalloc : Tokens → RawAmount → Tokens → Type 0 where
       → IsAmount ts n (mark (codes ")") k ∷ rest) → IsMalloc (name (codes "malloc") l ∷ mark (codes "(") m ∷ ts) n rest
 
 -- a call of malloc with the pointer type that it is cast to, or without one
-pub data IsHeap : Tokens → Option RawType → RawAmount → Tokens → Type 0 where
+pub data IsHeap : Tokens → Option RawTypeName → RawAmount → Tokens → Type 0 where
   -- `malloc(n)` alone
   uncast : {ts rest : Tokens} {n : RawAmount} → IsMalloc ts n rest → IsHeap ts None n rest
   -- `(T *)malloc(n)`
-  cast : {l m : ℕ} {ts mid rest : Tokens} {t : RawType} {n : RawAmount}
-      → IsTypeName ts t (mark (codes ")") m ∷ mid) → is_pointer t ≡ true → IsMalloc mid n rest → IsHeap (mark (codes "(") l ∷ ts) (Some t) n rest
+  cast : {l m : ℕ} {ts mid rest : Tokens} {t : RawTypeName} {n : RawAmount}
+      → NamesType ts t (mark (codes ")") m ∷ mid) → has_star t ≡ true → IsMalloc mid n rest → IsHeap (mark (codes "(") l ∷ ts) (Some t) n rest
 
 -- ---- simple statements (6.5.16, 6.5.3.1, 6.5.2.4)
 
@@ -139,7 +140,7 @@ pub data IsSimple : Tokens → RawStatement → Tokens → Type 0 where
       → IsExpr conditional_level ts a (mark (codes "=") l ∷ mid) → is_place a ≡ true → IsCall mid w all rest
       → IsSimple ts (s.Call (line_of ts) (target.Place a) w all) rest
   -- `p = malloc(n)`
-  store_heap : {l : ℕ} {ts mid rest : Tokens} {a : RawExpr} {t : Option RawType} {n : RawAmount}
+  store_heap : {l : ℕ} {ts mid rest : Tokens} {a : RawExpr} {t : Option RawTypeName} {n : RawAmount}
       → IsExpr conditional_level ts a (mark (codes "=") l ∷ mid) → is_place a ≡ true → IsHeap mid t n rest
       → IsSimple ts (s.Heap (line_of ts) (target.Place a) t n) rest
   -- what is written before `++` binds as tightly as a postfix expression: `*p++` would move p
@@ -184,7 +185,7 @@ pub data IsDeclared (line : ℕ) (base : RawType) : Tokens → RawStatement → 
       → IsDeclarator ts base v (mark (codes "=") l ∷ mid) → is_listed v.shape ≡ false → IsCall mid w all rest
       → IsDeclared line base ts (s.Call line (target.Declared v) w all) rest
   -- `T *p = malloc(n)`
-  heap : {l : ℕ} {ts mid rest : Tokens} {v : RawVar} {t : Option RawType} {n : RawAmount}
+  heap : {l : ℕ} {ts mid rest : Tokens} {v : RawVar} {t : Option RawTypeName} {n : RawAmount}
       → IsDeclarator ts base v (mark (codes "=") l ∷ mid) → is_listed v.shape ≡ false → IsHeap mid t n rest
       → IsDeclared line base ts (s.Heap line (target.Declared v) t n) rest
 

@@ -1,5 +1,5 @@
 -- How deep statements and items nest: for each place the nodes above or at it are counted, and the nesting is the largest count.
-use Rattle.std.specs.Prelude.{◌≡◌, ℕ, ◌+◌, max, List, [], ◌∷◌, map, Option, Some, None}
+use Rattle.std.specs.Prelude.{ℕ, ◌+◌, max, List, map, Option, Some, None}
 use Rattle.c_tree.specs.declared.raw.expr.RawExpr.{RawExpr}
 use Rattle.c_tree.specs.declared.raw.expr.RawType.{RawType}
 use Rattle.c_tree.specs.declared.raw.program.RawInit.{RawInit}
@@ -13,6 +13,7 @@ use Rattle.c_tree.specs.declared.raw.statement.RawTarget.{RawTarget}
 use Rattle.c_tree.specs.declared.raw.statement.RawTarget.TheVariants as target
 use Rattle.c_tree.specs.declared.raw.statement.RawArg.{RawArg}
 use Rattle.c_tree.specs.declared.raw.statement.RawArg.TheVariants.{Value, Literal}
+use Rattle.c_tree.specs.declared.raw.statement.RawTypeName.{RawTypeName}
 use Rattle.c_tree.specs.declared.raw.statement.RawAmount.{RawAmount}
 use Rattle.c_tree.specs.declared.raw.statement.RawAmount.TheVariants as amount
 use Rattle.c_tree.specs.declared.raw.statement.RawLabel.{RawLabel}
@@ -38,7 +39,7 @@ amount_nesting (amount.SizeCount z a) = 1 + max 1 (nesting a)
 amount_nesting (amount.Count a) = nesting a
 
 -- the call of malloc stands above its amount, and its cast above the call
-abbrev pub heap_nesting : Option RawType → RawAmount → ℕ
+abbrev pub heap_nesting : Option RawTypeName → RawAmount → ℕ
 heap_nesting None n = 1 + amount_nesting n
 heap_nesting (Some t) n = 1 + (1 + amount_nesting n)
 

@@ -1,5 +1,5 @@
 -- Lists of tokens, and a token of each kind.
-use Rattle.std.specs.Prelude.{ℕ, List, [], ◌∷◌, Option, Some, None, slice_get}
+use Rattle.std.specs.Prelude.{ℕ, List, slice_get}
 use Rattle.std.specs.Option.{option_map_or}
 use Rattle.c_language.specs.Words.{Bytes}
 use Rattle.c_language.specs.declared.token.Token.{Token}

@@ -1,5 +1,5 @@
 -- Which tokens a type, a declarator and the parameters of a function have (ISO C99 6.7.2, 6.7.5, 6.7.6).
-use Rattle.std.specs.Prelude.{◌≡◌, ℕ, Bool, true, false, List, [], ◌∷◌, codes, Option, Some, None}
+use Rattle.std.specs.Prelude.{◌≡◌, ℕ, zero, suc, nat_lt, Bool, true, false, List, [], ◌∷◌, codes, Option, Some, None}
 use Rattle.c_arith.specs.declared.int_type.IntType.{IntType}
 use Rattle.c_tree.specs.declared.raw.expr.RawExpr.{RawExpr}
 use Rattle.c_tree.specs.declared.raw.expr.RawLength.{RawLength}
@@ -9,12 +9,13 @@ use Rattle.c_tree.specs.declared.raw.expr.RawType.TheOpen.{RawType-F}
 use Rattle.c_tree.specs.declared.raw.expr.RawType.TheVariants as type
 use Rattle.c_tree.specs.declared.raw.expr.RawVar.{RawVar}
 use Rattle.c_tree.specs.declared.raw.program.RawParam.{RawParam}
+use Rattle.c_tree.specs.declared.raw.statement.RawTypeName.{RawTypeName}
 use Rattle.c_language.specs.Words.{Bytes}
 use Rattle.c_language.specs.TokenForms.{Tokens, name, mark, line_of}
 use Rattle.c_language.specs.Sees.{sees, sees_name, is_keyword}
 use Rattle.c_language.specs.IntWords.{IsIntType}
 use Rattle.c_language.specs.ExprGrammar.{IsExpr}
-use Rattle.c_language.specs.declared.token.TokenKind.TheVariants.{Name, Mark}
+use Rattle.c_language.specs.declared.token.TokenKind.TheVariants.{Mark}
 
 -- the type that stands before declarators: a struct by its tag, or an integer type by all of its words
 pub data IsBase : Tokens → RawType → Tokens → Type 0 where
@@ -34,6 +35,25 @@ pub data IsStars : Tokens → RawType → RawType → Tokens → Type 0 where
 pub data IsTypeName : Tokens → RawType → Tokens → Type 0 where
   -- a base and stars
   pointed : {ts mid rest : Tokens} {base a : RawType} → IsBase ts base mid → IsStars mid base a rest → IsTypeName ts a rest
+
+-- so many stars upon a type
+abbrev pub pointed_n : ℕ → RawType → RawType
+pointed_n zero a = a
+pointed_n (suc n) a = pointed_n n (type.PointerTo a)
+
+-- the type that a type name is of
+abbrev pub named_type : RawTypeName → RawType
+named_type t = pointed_n t.stars t.base
+
+-- it is that of a pointer
+abbrev pub has_star : RawTypeName → Bool
+has_star t = nat_lt 0 t.stars
+
+-- a type name (6.7.6), whose stars are counted
+pub data NamesType : Tokens → RawTypeName → Tokens → Type 0 where
+  -- a base and stars
+  starred : {n : ℕ} {ts mid rest : Tokens} {base : RawType}
+      → IsBase ts base mid → IsStars mid base (pointed_n n base) rest → NamesType ts (record { base = base; stars = n }) rest
 
 -- IsLengths ts element shape rest: the tokens are all the lengths at a place and then rest, the outermost first, and make arrays of the element.
 pub data IsLengths : Tokens → RawType → RawType → Tokens → Type 0 where

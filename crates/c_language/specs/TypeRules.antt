@@ -1,22 +1,19 @@
 -- What breaks a rule on the types of operands and of what is assigned (ISO C99 6.5, 6.8.4, 6.8.5).
 use Rattle.std.specs.Prelude.{◌≡◌, true, false, List, Option, Some, None}
-use Rattle.c_arith.specs.declared.int_type.IntType.{IntType}
 use Rattle.c_arith.specs.declared.int_type.IntType.TheVariants.{Int}
-use Rattle.c_arith.specs.declared.operators.UnaryOp.{UnaryOp}
 use Rattle.c_arith.specs.declared.operators.BinaryOp.{BinaryOp}
 use Rattle.c_arith.specs.declared.operators.BinaryOp.TheVariants.{Add}
 use Rattle.c_tree.specs.declared.raw.expr.RawExpr.{RawExpr}
-use Rattle.c_tree.specs.declared.raw.expr.RawExpr.TheVariants as e
-use Rattle.c_tree.specs.declared.raw.expr.RawType.{RawType}
 use Rattle.c_tree.specs.declared.raw.expr.RawVar.{RawVar}
 use Rattle.c_tree.specs.declared.raw.program.RawInit.TheVariants as init
 use Rattle.c_tree.specs.declared.raw.program.RawProgram.{RawProgram}
 use Rattle.c_tree.specs.declared.raw.statement.RawTarget.TheVariants as target
 use Rattle.c_tree.specs.declared.raw.statement.RawArg.{RawArg}
+use Rattle.c_tree.specs.declared.raw.statement.RawTypeName.{RawTypeName}
 use Rattle.c_tree.specs.declared.raw.statement.RawAmount.{RawAmount}
 use Rattle.c_language.specs.Words.{Bytes}
 use Rattle.c_language.specs.DeclaredTypes.{integer, variable_type}
-use Rattle.c_language.specs.Scopes.{Scope, Meaning, meaning_in}
+use Rattle.c_language.specs.Scopes.{Scope}
 use Rattle.c_language.specs.ExprTypes.{a_value, operand, value_type, is_scalar, binary_result, is_assignable}
 use Rattle.c_language.specs.ExprRules.{seen, has_bad_operand, has_no_address}
 use Rattle.c_language.specs.Phrases.{Stand, Part, Begins, Assigns, Bumps, Calls, Allocates, Tests}
@@ -61,7 +58,7 @@ pub data AssignsNoPlace (raw : RawProgram) (scope : Scope) : Part → Type 0 whe
   bump : {left : RawExpr} → IsNoTarget raw scope left → AssignsNoPlace raw scope (Bumps left)
   result : {left : RawExpr} {stand : Stand} {f : Bytes} {args : List RawArg}
       → IsNoTarget raw scope left → AssignsNoPlace raw scope (Calls stand (target.Place left) f args)
-  allocation : {left : RawExpr} {cast : Option RawType} {n : RawAmount}
+  allocation : {left : RawExpr} {cast : Option RawTypeName} {n : RawAmount}
       → IsNoTarget raw scope left → AssignsNoPlace raw scope (Allocates (target.Place left) cast n)
 
 -- the address is taken of what has none

@@ -1,5 +1,5 @@
 -- What a phrase of a text holds: its expressions with their parts, the lengths of its arrays, and the tags that it names.
-use Rattle.std.specs.Prelude.{Bool, true, false, List, [], ◌∷◌, ◌++◌, Option, Some, None, Contains, codes, bytes_eq}
+use Rattle.std.specs.Prelude.{Bool, true, false, List, [], ◌∷◌, ◌++◌, Option, Some, None, option_map, Contains, codes, bytes_eq}
 use Rattle.std.specs.List.{list_any}
 use Rattle.c_tree.specs.declared.raw.expr.RawExpr.{RawExpr, out-RawExpr, fold-RawExpr}
 use Rattle.c_tree.specs.declared.raw.expr.RawExpr.TheOpen.{RawExpr-F}
@@ -13,6 +13,7 @@ use Rattle.c_tree.specs.declared.raw.statement.RawTarget.{RawTarget}
 use Rattle.c_tree.specs.declared.raw.statement.RawTarget.TheVariants as target
 use Rattle.c_tree.specs.declared.raw.statement.RawArg.{RawArg}
 use Rattle.c_tree.specs.declared.raw.statement.RawArg.TheVariants as arg
+use Rattle.c_tree.specs.declared.raw.statement.RawTypeName.{RawTypeName}
 use Rattle.c_tree.specs.declared.raw.statement.RawSize.{RawSize}
 use Rattle.c_tree.specs.declared.raw.statement.RawSize.TheVariants as size
 use Rattle.c_tree.specs.declared.raw.statement.RawAmount.{RawAmount}
@@ -150,7 +151,7 @@ tags_if (Some t) = tags_in t
 
 abbrev pub tags_of_size : List RawSize → List Bytes
 tags_of_size [] = []
-tags_of_size (size.Type t ∷ rest) = tags_in t ++ tags_of_size rest
+tags_of_size (size.Type t ∷ rest) = tags_in t.base ++ tags_of_size rest
 tags_of_size (size.Pointee name closed ∷ rest) = tags_of_size rest
 
 -- the tags that a phrase names
@@ -160,7 +161,7 @@ tags (HasMember before m) = tags_in m.shape
 tags (DeclaresFunction head is_definition) = tags_if head.result
 tags (Takes before p) = tags_in p.shape
 tags (Declares stand var i) = tags_in var.shape
-tags (Allocates to cast n) = tags_if cast ++ tags_of_size (sizes n)
+tags (Allocates to cast n) = tags_if (option_map (λ (t : RawTypeName). t.base) cast) ++ tags_of_size (sizes n)
 tags _ = []
 
 -- the functions of the library that a program calls, but malloc (7.19, 7.20)

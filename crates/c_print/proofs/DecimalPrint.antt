@@ -1,5 +1,5 @@
 -- The decimal digits of a number are a constant.
-use Rattle.std.proofs.Common.{◌≡◌, ℕ, ◌+◌, ◌*◌, ◌/◌, ◌%◌, ◌<◌, ◌≤◌, ◌^◌, [], ◌∷◌, ◌++◌, length, drop, refl, ap, ◌∙◌, true, false, Some, decimal, arith}
+use Rattle.std.proofs.Common.{◌≡◌, ℕ, ◌+◌, ◌*◌, ◌/◌, ◌%◌, ◌<◌, ◌≤◌, ◌^◌, [], ◌∷◌, ◌++◌, length, drop, refl, ap, ap₂, ◌∙◌, true, false, Some, decimal, arith}
 use Rattle.std.proofs.lemmas.Bool.{and_parts}
 use Rattle.std.proofs.lemmas.Bool.Decides.{nat_tests}
 use Rattle.std.proofs.lemmas.Fmt.{decimal_by_steps}
@@ -11,6 +11,7 @@ use Rattle.c_arith.specs.declared.int_type.IntType.TheVariants.{Int, Long}
 use Rattle.c_language.specs.Words.{Bytes}
 use Rattle.c_language.specs.StraightLine.{is_digit, is_letter}
 use Rattle.c_language.specs.Constants.{base, digit_value, unprefixed, leading_digits, digits, value_from, constant_value, Suffix, first_type, constant_type, IsConstant}
+use Rattle.c_language.specs.ConstantEvaluation.{literal_value}
 use Rattle.c_language.specs.Tokens.{number_goes_on}
 use Rattle.c_language.specs.declared.token.TokenKind.TheVariants.{Number}
 use Rattle.c_print.specs.Written.{AreRun, HasForm}
@@ -118,3 +119,27 @@ form_of n (b ∷ ds) some small p = let q = and_parts _ _ p.all in HasForm.numbe
 
 pub decimal_form : (n : ℕ) → 0 < n → n < 2 ^ 32 → HasForm Number (decimal n)
 decimal_form n some small = form_of n (decimal n) some small (decimal_is n small)
+
+-- ---- what they are worth
+
+value_of : (n : ℕ) (ds : Bytes) → 0 < n → IsDecimalOf n ds → constant_value ds ≡ n
+unfolding constant_value
+value_of n ds some p =
+    let lead = p.leads some in
+    let ten : base ds ≡ 10 = rw lead refl in
+    let bare : unprefixed ds ≡ ds = rw lead refl in
+    let all : digits ds ≡ ds = ap (λ (b : ℕ). leading_digits b (unprefixed ds)) ten ∙ ap (leading_digits 10) bare ∙ all_leading ds p.all in
+    ap₂ (λ (b : ℕ) (xs : Bytes). value_from b 0 xs) ten all ∙ p.value
+
+literal_of : (n : ℕ) (ds : Bytes) → 0 < n → n < 2 ^ 32 → IsDecimalOf n ds → literal_value ds ≡ n
+literal_of n [] some small p = absurd (omega (arith, p.some))
+literal_of n (b ∷ ds) some small p =
+    let q = and_parts _ _ p.all in
+    let low : nat_le 48 b ≡ true = (and_parts _ _ q.0).0 in
+    let quote : (b == 39) ≡ false = grind (arith, nat_tests) in
+    let c = constant_of n (b ∷ ds) some small p in
+    rw (quote, c.1) (value_of n (b ∷ ds) some p)
+
+-- the decimal digits of a number are worth the number
+pub decimal_literal : (n : ℕ) → 0 < n → n < 2 ^ 32 → literal_value (decimal n) ≡ n
+decimal_literal n some small = literal_of n (decimal n) some small (decimal_is n small)

@@ -17,7 +17,7 @@ use Rattle.c_language.specs.ProgramOf.{raw_words}
 use Rattle.c_language.specs.DeclaredTypes.{item_count}
 use Rattle.c_language.specs.TokenForms.{Tokens, of_kind, name, mark, line_of}
 use Rattle.c_language.specs.Sees.{sees, is_keyword}
-use Rattle.c_language.specs.TypeGrammar.{IsBase, pointed, IsDeclarator}
+use Rattle.c_language.specs.TypeGrammar.{IsBase, pointed, pointed_n, IsDeclarator}
 use Rattle.c_language.specs.StatementGrammar.{IsSeparated, AreStatements}
 use Rattle.c_language.specs.ItemGrammar.{IsMemberDeclarator, IsMember, member, AreMembers, IsGlobal, AreGlobals, IsStatic, static, external, IsResult, IsHead, head, is_some, are_named, header, IsItem, tag, structure, globals, prototype, definition, AreItems, IsProgram}
 use Rattle.c_language.specs.Tokens.{name_goes_on, number_goes_on, IsGap, IsInclude, IsLineTail, IsToken, IsTokens, AreTokensOf}
@@ -29,7 +29,7 @@ use Rattle.c_print.specs.RawLayout.{raw_base, raw_stars, raw_declared, raw_init_
 use Rattle.c_print.specs.Settled.{settled_var, settled_member, settled_param, settled_head, settled_item, SameInLayout}
 use Rattle.c_print.proofs.TokenPrint.{blank_no_feed, print_blank, print_line, print_mark, Stops, stops_name, print_name, word_form}
 use Rattle.c_print.proofs.ExprPrint.{expr_rest, stops_expr, print_expr}
-use Rattle.c_print.proofs.TypePrint.{base_rest, base_plain, IsPlain, declarator_rest, type_rest, name_no_int, print_base, pointed_n, pointed_base, plain_stars, star_count, print_stars, name_sure, name_no_star, params_rest, print_params, settled_twice, settled_unlisted, unlisted_stays}
+use Rattle.c_print.proofs.TypePrint.{base_rest, base_plain, IsPlain, declarator_rest, type_rest, name_no_int, print_base, pointed_base, plain_stars, star_count, print_stars, name_sure, name_no_star, params_rest, print_params, settled_twice, settled_unlisted, unlisted_stays}
 use Rattle.c_print.proofs.SimplePrint.{Has, has_as, print_equals}
 use Rattle.c_print.proofs.DeclaredPrint.{list_rest, list_form, print_list, print_named, no_counts, equals_no_length}
 use Rattle.c_print.proofs.StatementPrint.{statements_rest, Tails, tails_as, Safe, print_indent, line_join, ended_join, end_line, new_line, semicolon_no_length, Closed, close_tail, print_statements}

@@ -3,6 +3,9 @@ pub mod Indentation
 pub mod Loops
 pub mod StatementWords
 pub mod StatementLines
+pub mod KeptLines
+pub mod PlacedLemmas
+pub mod LayoutLength
 pub mod Rules
 pub mod RawWordLemmas
 pub mod TokenPrint

@@ -3,7 +3,7 @@ use Rattle.std.proofs.Common.{◌≡◌, ℕ, Bool, List, map, Option, Some, Non
 use Rattle.std.specs.Option.{option_map}
 use Rattle.c_arith.specs.declared.operators.BinaryOp.{BinaryOp}
 use Rattle.c_tree.specs.declared.raw.expr.RawExpr.{RawExpr}
-use Rattle.c_tree.specs.declared.raw.expr.RawType.{RawType}
+use Rattle.c_tree.specs.declared.raw.statement.RawTypeName.{RawTypeName}
 use Rattle.c_tree.specs.declared.raw.expr.RawVar.{RawVar}
 use Rattle.c_tree.specs.declared.raw.program.RawInit.{RawInit}
 use Rattle.c_tree.specs.declared.raw.statement.RawTarget.{RawTarget}
@@ -32,7 +32,7 @@ raw_laid-Bump l a up before = ap raw_laid (sym (s.rolls-Bump l a up before)) ∙
 pub raw_laid-Call : (l : ℕ) (to : RawTarget) (f : Bytes) (args : List RawArg) → raw_laid (s.Call l to f args) ≡ raw_statement_step (RawStatement-F.Call l to f args)
 raw_laid-Call l to f args = ap raw_laid (sym (s.rolls-Call l to f args)) ∙ fold-roll-RawStatement Laid (ℕ → Bytes) raw_statement_step raw_arm_step (RawStatement-F.Call l to f args)
 
-pub raw_laid-Heap : (l : ℕ) (to : RawTarget) (t : Option RawType) (n : RawAmount) → raw_laid (s.Heap l to t n) ≡ raw_statement_step (RawStatement-F.Heap l to t n)
+pub raw_laid-Heap : (l : ℕ) (to : RawTarget) (t : Option RawTypeName) (n : RawAmount) → raw_laid (s.Heap l to t n) ≡ raw_statement_step (RawStatement-F.Heap l to t n)
 raw_laid-Heap l to t n = ap raw_laid (sym (s.rolls-Heap l to t n)) ∙ fold-roll-RawStatement Laid (ℕ → Bytes) raw_statement_step raw_arm_step (RawStatement-F.Heap l to t n)
 
 pub raw_laid-If : (l : ℕ) (a : RawExpr) (body other : List RawStatement) → raw_laid (s.If l a body other) ≡ raw_statement_step (RawStatement-F.If l a (map raw_laid body) (map raw_laid other))
@@ -71,7 +71,7 @@ settled-Bump l a up before = ap settled (sym (s.rolls-Bump l a up before)) ∙ f
 pub settled-Call : (l : ℕ) (to : RawTarget) (f : Bytes) (args : List RawArg) → settled (s.Call l to f args) ≡ s.Call 0 to f args
 settled-Call l to f args = ap settled (sym (s.rolls-Call l to f args)) ∙ fold-roll-RawStatement RawStatement RawArm settled_step settled_arm_step (RawStatement-F.Call l to f args)
 
-pub settled-Heap : (l : ℕ) (to : RawTarget) (t : Option RawType) (n : RawAmount) → settled (s.Heap l to t n) ≡ s.Heap 0 to t n
+pub settled-Heap : (l : ℕ) (to : RawTarget) (t : Option RawTypeName) (n : RawAmount) → settled (s.Heap l to t n) ≡ s.Heap 0 to t n
 settled-Heap l to t n = ap settled (sym (s.rolls-Heap l to t n)) ∙ fold-roll-RawStatement RawStatement RawArm settled_step settled_arm_step (RawStatement-F.Heap l to t n)
 
 pub settled-If : (l : ℕ) (a : RawExpr) (body other : List RawStatement) → settled (s.If l a body other) ≡ s.If 0 a (map settled body) (map settled other)

@@ -4,6 +4,8 @@ use Rattle.c_language.proofs.WordLemmas.{types_of as types, expressions_of as ex
 use Rattle.c_print.proofs.FirstByte.{first_bytes as firsts, signs_of as signs}
 use Rattle.c_print.proofs.Loops.{joined-commas}
 use Rattle.c_print.proofs.StatementLines.{lines_of}
+use Rattle.c_print.proofs.KeptLines.{keep_nothing}
+use Rattle.c_print.proofs.PlacedLemmas.{placed_of as placed}
 
 pub ruleset types_of = (types, append_assoc, append-nil)
 
@@ -20,3 +22,7 @@ pub ruleset texts_of = (append_assoc, append-nil)
 pub ruleset loops_of = (append_assoc, append-nil)
 
 pub ruleset statements_of = (lines_of, append_assoc, append-nil)
+
+pub ruleset kept_of = (keep_nothing, append-nil)
+
+pub ruleset placed_of = (placed, keep_nothing)

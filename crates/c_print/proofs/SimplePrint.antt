@@ -5,7 +5,7 @@ use Rattle.c_arith.specs.declared.operators.BinaryOp.TheVariants.{Mul, Div, Rem,
 use Rattle.c_tree.specs.declared.raw.expr.RawExpr.{RawExpr, fold-roll-RawExpr}
 use Rattle.c_tree.specs.declared.raw.expr.RawExpr.TheOpen.{RawExpr-F}
 use Rattle.c_tree.specs.declared.raw.expr.RawExpr.TheVariants as e
-use Rattle.c_tree.specs.declared.raw.expr.RawType.{RawType}
+use Rattle.c_tree.specs.declared.raw.statement.RawTypeName.{RawTypeName}
 use Rattle.c_tree.specs.declared.raw.statement.RawTarget.TheVariants as target
 use Rattle.c_tree.specs.declared.raw.statement.RawArg.{RawArg}
 use Rattle.c_tree.specs.declared.raw.statement.RawSize.{RawSize}
@@ -29,7 +29,8 @@ use Rattle.c_print.specs.Settled.{settled}
 use Rattle.c_print.proofs.RawStatementLemmas.{raw_laid-Assign, raw_laid-Bump, raw_laid-Call, raw_laid-Heap, settled-Assign, settled-Bump, settled-Call, settled-Heap}
 use Rattle.c_print.proofs.TokenPrint.{print_blank, is_sure, print_mark, Stops, stops_name, print_name, print_string, other_class}
 use Rattle.c_print.proofs.ExprPrint.{expr_rest, Follows, stops_expr, level_low, print_expr}
-use Rattle.c_print.proofs.TypePrint.{type_rest, closes_paren, print_type}
+use Rattle.c_language.specs.TypeGrammar.{named_type}
+use Rattle.c_print.proofs.TypePrint.{named_rest, closes_paren, print_type_name}
 
 -- ---- what follows is written too
 
@@ -46,7 +47,7 @@ call_rest (bare h) w = w.4.4.4
 call_rest (with_args h k) w = args_rest k w.4.4
 
 size_rest : {ts rest : Tokens} {z : RawSize} → IsSize ts z rest → AreWritten ts → AreWritten rest
-size_rest (of_type h) w = (type_rest h w.4.4).4
+size_rest (of_type h) w = (named_rest h w.4.4).4
 size_rest (of_pointee h) w = w.4.4.4.4.4
 size_rest (of_bare_pointee h) w = w.4.4.4
 
@@ -59,9 +60,9 @@ amount_rest (IsAmount.bytes h) w = expr_rest h w
 malloc_rest : {ts rest : Tokens} {n : RawAmount} → IsMalloc ts n rest → AreWritten ts → AreWritten rest
 malloc_rest (IsMalloc.malloc h) w = (amount_rest h w.4.4).4
 
-pub heap_rest : {ts rest : Tokens} {t : Option RawType} {n : RawAmount} → IsHeap ts t n rest → AreWritten ts → AreWritten rest
+pub heap_rest : {ts rest : Tokens} {t : Option RawTypeName} {n : RawAmount} → IsHeap ts t n rest → AreWritten ts → AreWritten rest
 heap_rest (uncast h) w = malloc_rest h w
-heap_rest (IsHeap.cast h p k) w = malloc_rest k (type_rest h w.4).4
+heap_rest (IsHeap.cast h p k) w = malloc_rest k (named_rest h w.4).4
 
 pub simple_rest : {ts rest : Tokens} {a : RawStatement} → IsSimple ts a rest → AreWritten ts → AreWritten rest
 simple_rest (assign op q h p k) w = expr_rest k (expr_rest h w).4
@@ -127,8 +128,8 @@ pointee_sure f rest (HasForm.name {b} {run} h r) = rw (other_class is_letter b 6
 print_size : {ts rest : Tokens} {z : RawSize} → IsSize ts z rest → AreWritten ts → (line : ℕ) (more : Bytes) (after : Tokens) → Stops name_goes_on more → IsTokens Token line more after
     → Has line (raw_size_words z ++ more) (λ ts. IsSize ts z after)
 print_size (of_type {t = a} h) w line more after s t =
-    let x = print_type h w.4.4 line (41 ∷ more) (mark (codes ")") line ∷ after) (closes_paren more line after) (print_mark (codes ")") refl refl t) in
-    has_as (ap (λ (z : Bytes). codes "sizeof(" ++ z) (append_assoc (raw_type_words a) (codes ")") more))
+    let x = print_type_name h w.4.4 line (41 ∷ more) (mark (codes ")") line ∷ after) (closes_paren more line after) (print_mark (codes ")") refl refl t) in
+    has_as (ap (λ (z : Bytes). codes "sizeof(" ++ z) (append_assoc (raw_type_words (named_type a)) (codes ")") more))
     (record { tokens = name (codes "sizeof") line ∷ mark (codes "(") line ∷ x.tokens; lexed = λ before. print_name (codes "sizeof") w.0 (λ b. refl) (print_mark (codes "(") refl refl (x.lexed Token)); is = of_type x.is })
 print_size (of_pointee {w = f} h) w line more after s t =
     let ws = w.4.4.4.0 in
@@ -179,15 +180,15 @@ print_malloc (IsMalloc.malloc {n = n} h) w line more after t =
 cast_join : (x y more : Bytes) → ((40 ∷ (x ++ codes ")")) ++ y) ++ more ≡ 40 ∷ (x ++ (41 ∷ (y ++ more)))
 cast_join x y more = ap (λ (z : Bytes). 40 ∷ z) (ap (λ (z : Bytes). z ++ more) (append_assoc x (codes ")") y) ∙ append_assoc x (41 ∷ y) more)
 
-pub print_heap : {ts rest : Tokens} {c : Option RawType} {n : RawAmount} → IsHeap ts c n rest → AreWritten ts → (line : ℕ) (more : Bytes) (after : Tokens) → IsTokens Token line more after
+pub print_heap : {ts rest : Tokens} {c : Option RawTypeName} {n : RawAmount} → IsHeap ts c n rest → AreWritten ts → (line : ℕ) (more : Bytes) (after : Tokens) → IsTokens Token line more after
     → Has line ((raw_cast_words c ++ malloc_words n) ++ more) (λ ts. IsHeap ts c n after)
 print_heap (uncast h) w line more after t =
     let x = print_malloc h w line more after t in
     record { tokens = x.tokens; lexed = x.lexed; is = uncast x.is }
 print_heap (IsHeap.cast {t = a} {n} h p k) w line more after t =
-    let y = print_malloc k (type_rest h w.4).4 line more after t in
-    let x = print_type h w.4 line (41 ∷ (malloc_words n ++ more)) (mark (codes ")") line ∷ y.tokens) (closes_paren (malloc_words n ++ more) line y.tokens) (print_mark (codes ")") refl refl (y.lexed Token)) in
-    has_as (cast_join (raw_type_words a) (malloc_words n) more)
+    let y = print_malloc k (named_rest h w.4).4 line more after t in
+    let x = print_type_name h w.4 line (41 ∷ (malloc_words n ++ more)) (mark (codes ")") line ∷ y.tokens) (closes_paren (malloc_words n ++ more) line y.tokens) (print_mark (codes ")") refl refl (y.lexed Token)) in
+    has_as (cast_join (raw_type_words (named_type a)) (malloc_words n) more)
     (record { tokens = mark (codes "(") line ∷ x.tokens; lexed = λ before. print_mark (codes "(") refl refl (x.lexed Token); is = IsHeap.cast x.is p y.is })
 
 -- ---- places and the operators behind them

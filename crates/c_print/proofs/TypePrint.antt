@@ -9,6 +9,7 @@ use Rattle.c_tree.specs.declared.raw.expr.RawType.{RawType}
 use Rattle.c_tree.specs.declared.raw.expr.RawType.TheVariants as type
 use Rattle.c_tree.specs.declared.raw.expr.RawVar.{RawVar}
 use Rattle.c_tree.specs.declared.raw.program.RawParam.{RawParam}
+use Rattle.c_tree.specs.declared.raw.statement.RawTypeName.{RawTypeName}
 use Rattle.c_language.specs.Words.{Bytes, spaced_stars}
 use Rattle.c_language.specs.Layout.{params_words}
 use Rattle.c_language.specs.ProgramOf.{raw_words}
@@ -17,7 +18,7 @@ use Rattle.c_language.specs.TokenForms.{Tokens, name, number, mark, line_of}
 use Rattle.c_language.specs.Sees.{sees, sees_name, is_keyword}
 use Rattle.c_language.specs.IntWords.{is_int_word, sees_int_word}
 use Rattle.c_language.specs.ExprGrammar.{number_constant}
-use Rattle.c_language.specs.TypeGrammar.{IsBase, structure, integer, IsStars, IsTypeName, pointed, IsLengths, IsOuterLengths, written, empty, IsDeclarator, IsParamName, unnamed, IsParam, plain, unsized, sized, IsMoreParams, closed, IsParams, nothing, is_listed}
+use Rattle.c_language.specs.TypeGrammar.{IsBase, structure, integer, IsStars, IsTypeName, pointed, pointed_n, named_type, NamesType, starred, IsLengths, IsOuterLengths, written, empty, IsDeclarator, IsParamName, unnamed, IsParam, plain, unsized, sized, IsMoreParams, closed, IsParams, nothing, is_listed}
 use Rattle.c_language.specs.Tokens.{name_goes_on, IsTokens}
 use Rattle.c_language.specs.declared.token.TokenKind.TheVariants.{Name, Number, Mark}
 use Rattle.c_language.specs.declared.token.Before.{Before}
@@ -43,6 +44,9 @@ stars_rest (IsStars.star h) w = stars_rest h w.4
 
 pub type_rest : {ts rest : Tokens} {a : RawType} → IsTypeName ts a rest → AreWritten ts → AreWritten rest
 type_rest (pointed h k) w = stars_rest k (base_rest h w)
+
+pub named_rest : {ts rest : Tokens} {t : RawTypeName} → NamesType ts t rest → AreWritten ts → AreWritten rest
+named_rest (starred h k) w = stars_rest k (base_rest h w)
 
 lengths_rest : {ts rest : Tokens} {a b : RawType} → IsLengths ts a b rest → AreWritten ts → AreWritten rest
 lengths_rest (IsLengths.done h) w = w
@@ -105,11 +109,6 @@ base_plain (structure {tag} h) = record { no_stars = raw_stars-Struct tag; no_le
 base_plain (integer {t} h) = record { no_stars = raw_stars-Integer t; no_lengths = λ n. raw_lengths-Integer n t; stays = λ n. settled_type-Integer n t }
 
 -- ---- stars
-
--- a type behind so many stars
-abbrev pub pointed_n : ℕ → RawType → RawType
-pointed_n zero a = a
-pointed_n (suc k) a = pointed_n k (type.PointerTo a)
 
 star_moves : (k : ℕ) (x : Bytes) → replicate {A = ℕ} k 42 ++ (42 ∷ x) ≡ 42 ∷ (replicate {A = ℕ} k 42 ++ x)
 star_moves zero x = refl
@@ -347,19 +346,45 @@ type_join k base more p =
     ap (λ (z : Bytes). (z ++ spaced_stars (raw_stars (pointed_n k base))) ++ more) (pointed_base k base)
     ∙ ap (λ (z : Bytes). (raw_base base ++ spaced_stars z) ++ more) (plain_stars k base p) ∙ append_assoc (raw_base base) _ more
 
-print_pointed : {ts rest : Tokens} {base : RawType} (k : ℕ) → IsBase ts base rest → AreWritten ts → (line : ℕ) (more : Bytes) (after : Tokens) → Closes more after → IsTokens Token line more after
-    → PrintedType line (raw_type_words (pointed_n k base) ++ more) (pointed_n k base) after
-print_pointed {base = base} k h w line more after c t =
+-- tokens of the bytes that are those of a base and so many stars, and then these
+record PrintedStarred (line : ℕ) (bytes : Bytes) (base : RawType) (k : ℕ) (after : Tokens) : Type 0 where
+  tokens : Tokens
+  mid : Tokens
+  lexed : (before : Before) → IsTokens before line bytes tokens
+  begins : IsBase tokens base mid
+  stars : IsStars mid base (pointed_n k base) after
+
+print_starred : {ts rest : Tokens} {base : RawType} (k : ℕ) → IsBase ts base rest → AreWritten ts → (line : ℕ) (more : Bytes) (after : Tokens) → Closes more after → IsTokens Token line more after
+    → PrintedStarred line (raw_type_words (pointed_n k base) ++ more) base k after
+print_starred {base = base} k h w line more after c t =
     let x = print_stars k base line more after c.sure c.no_star t in
     let y = print_base h w line (spaced_stars (replicate {A = ℕ} k 42) ++ more) x.tokens (spaced_stops k more c.stops) (x.no_int c.no_int) (print_spaced k line more x.tokens x.lexed) in
-    subst (λ (z : Bytes). PrintedType line z (pointed_n k base) after) (sym (type_join k base more (base_plain h)))
-    (record { tokens = y.tokens; lexed = y.lexed; is = pointed y.is x.is })
+    subst (λ (z : Bytes). PrintedStarred line z base k after) (sym (type_join k base more (base_plain h)))
+    (record { tokens = y.tokens; mid = x.tokens; lexed = y.lexed; begins = y.is; stars = x.is })
+
+print_pointed : {ts rest : Tokens} {base : RawType} (k : ℕ) → IsBase ts base rest → AreWritten ts → (line : ℕ) (more : Bytes) (after : Tokens) → Closes more after → IsTokens Token line more after
+    → PrintedType line (raw_type_words (pointed_n k base) ++ more) (pointed_n k base) after
+print_pointed k h w line more after c t =
+    let x = print_starred k h w line more after c t in
+    record { tokens = x.tokens; lexed = x.lexed; is = pointed x.begins x.stars }
 
 pub print_type : {ts rest : Tokens} {a : RawType} → IsTypeName ts a rest → AreWritten ts → (line : ℕ) (more : Bytes) (after : Tokens) → Closes more after → IsTokens Token line more after
     → PrintedType line (raw_type_words a ++ more) a after
 print_type (pointed {base} h k) w line more after c t =
     let made = star_count k in
     subst (λ (z : RawType). PrintedType line (raw_type_words z ++ more) z after) (sym made.1) (print_pointed made.0 h w line more after c t)
+
+-- tokens of the bytes that name this type, and then these
+pub record PrintedName (line : ℕ) (bytes : Bytes) (t : RawTypeName) (after : Tokens) : Type 0 where
+  pub tokens : Tokens
+  pub lexed : (before : Before) → IsTokens before line bytes tokens
+  pub is : NamesType tokens t after
+
+pub print_type_name : {ts rest : Tokens} {a : RawTypeName} → NamesType ts a rest → AreWritten ts → (line : ℕ) (more : Bytes) (after : Tokens) → Closes more after → IsTokens Token line more after
+    → PrintedName line (raw_type_words (named_type a) ++ more) a after
+print_type_name (starred {n} h k) w line more after c t =
+    let x = print_starred n h w line more after c t in
+    record { tokens = x.tokens; lexed = x.lexed; is = starred x.begins x.stars }
 
 -- ---- parameters
 

@@ -5,3 +5,4 @@ pub mod Arms
 pub mod Written
 pub mod RawLayout
 pub mod Settled
+pub mod Lines

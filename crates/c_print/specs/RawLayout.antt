@@ -15,6 +15,7 @@ use Rattle.c_tree.specs.declared.raw.statement.RawTarget.{RawTarget}
 use Rattle.c_tree.specs.declared.raw.statement.RawTarget.TheVariants as target
 use Rattle.c_tree.specs.declared.raw.statement.RawArg.{RawArg}
 use Rattle.c_tree.specs.declared.raw.statement.RawArg.TheVariants.{Value, Literal}
+use Rattle.c_tree.specs.declared.raw.statement.RawTypeName.{RawTypeName}
 use Rattle.c_tree.specs.declared.raw.statement.RawSize.{RawSize}
 use Rattle.c_tree.specs.declared.raw.statement.RawSize.TheVariants as size
 use Rattle.c_tree.specs.declared.raw.statement.RawAmount.{RawAmount}
@@ -26,6 +27,7 @@ use Rattle.c_tree.specs.declared.raw.statement.RawStatement.TheOpen.{RawStatemen
 use Rattle.c_tree.specs.declared.raw.statement.RawArm.{RawArm, fold-RawArm}
 use Rattle.c_language.specs.Words.{Bytes, joined, int_words, assign_sign, spaced_stars}
 use Rattle.c_language.specs.Layout.{line, call_words, bump_words, Laid, plain, block_lines, else_lines, init_part, step_part, arms_lines, braced, static_words, params_words, include_words}
+use Rattle.c_language.specs.TypeGrammar.{named_type}
 use Rattle.c_language.specs.ProgramOf.{raw_words, length_words}
 use Rattle.c_language.specs.DeclaredTypes.{item_count}
 
@@ -90,7 +92,7 @@ raw_pointee_words name true = codes "sizeof(*" ++ (name ++ codes ")")
 raw_pointee_words name false = codes "sizeof *" ++ name
 
 abbrev pub raw_size_words : RawSize → Bytes
-raw_size_words (size.Type t) = codes "sizeof(" ++ (raw_type_words t ++ codes ")")
+raw_size_words (size.Type t) = codes "sizeof(" ++ (raw_type_words (named_type t) ++ codes ")")
 raw_size_words (size.Pointee name closed) = raw_pointee_words name closed
 
 abbrev pub raw_amount_words : RawAmount → Bytes
@@ -99,9 +101,9 @@ raw_amount_words (amount.CountSize a z) = raw_words a ++ (codes " * " ++ raw_siz
 raw_amount_words (amount.SizeCount z a) = raw_size_words z ++ (codes " * " ++ raw_words a)
 raw_amount_words (amount.Count a) = raw_words a
 
-abbrev pub raw_cast_words : Option RawType → Bytes
+abbrev pub raw_cast_words : Option RawTypeName → Bytes
 raw_cast_words None = []
-raw_cast_words (Some t) = codes "(" ++ (raw_type_words t ++ codes ")")
+raw_cast_words (Some t) = codes "(" ++ (raw_type_words (named_type t) ++ codes ")")
 
 -- ---- statements
 

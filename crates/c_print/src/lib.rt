@@ -8,6 +8,7 @@
 mod expressions;
 mod heads;
 mod items;
+mod lines;
 mod margin;
 mod names;
 mod parts;
@@ -18,3 +19,4 @@ mod types;
 mod words;
 
 pub use items::print;
+pub use lines::{line_of, lines_of};

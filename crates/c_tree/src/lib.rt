@@ -20,7 +20,7 @@ pub use limits::LimitName;
 pub use program::{Function, Init, Item, Member, Program, StructDef, Var};
 pub use raw::{
     RawAmount, RawArg, RawArm, RawExpr, RawHead, RawInit, RawItem, RawLabel, RawLength, RawMember,
-    RawParam, RawProgram, RawSize, RawStatement, RawTarget, RawType, RawVar,
+    RawParam, RawProgram, RawSize, RawStatement, RawTarget, RawType, RawTypeName, RawVar,
 };
 pub use sqlite_items::{Boxed, Items};
 pub use statement::{Amount, Arm, Label, Size, Statement, Target};

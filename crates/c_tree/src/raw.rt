@@ -8,4 +8,6 @@ mod statement;
 
 pub use expr::{RawExpr, RawLength, RawType, RawVar};
 pub use program::{RawHead, RawInit, RawItem, RawMember, RawParam, RawProgram};
-pub use statement::{RawAmount, RawArg, RawArm, RawLabel, RawSize, RawStatement, RawTarget};
+pub use statement::{
+    RawAmount, RawArg, RawArm, RawLabel, RawSize, RawStatement, RawTarget, RawTypeName,
+};

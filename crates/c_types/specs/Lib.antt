@@ -4,3 +4,9 @@ pub mod Judging
 pub mod Names
 pub mod Tables
 pub mod Checking
+pub mod DeclarationChecks
+pub mod CallChecks
+pub mod PhraseChecks
+pub mod Numbering
+pub mod Definitions
+pub mod Walking

@@ -7,6 +7,7 @@ use Rattle.c_types.specs.declared.names.Meaning.{Meaning}
 use Rattle.c_types.specs.declared.names.Meaning.TheVariants.{Variable, Function}
 use Rattle.c_types.specs.declared.names.Names.{Names}
 use Rattle.c_types.specs.declared.names.StructMembers.{StructMembers}
+use Rattle.c_types.specs.declared.names.Numbers.{Numbers}
 use Rattle.c_language.specs.Words.{Bytes}
 use Rattle.c_language.specs.declared.expr_type.ExprType.{ExprType}
 use Rattle.std.specs.Map.{lookup}
@@ -25,3 +26,7 @@ names_of n = map entry_of n.entries.entries
 -- the type of a member, in the table of its struct type
 abbrev pub listed_type : Bytes → StructMembers → Option ExprType
 listed_type name s = lookup (λ (k : Bor (List ℕ)). bytes_eq name k.now) s.entries.entries
+
+-- the number of what has the name
+abbrev pub number_of : Bytes → Numbers → Option ℕ
+number_of name n = lookup (λ (k : Bor (List ℕ)). bytes_eq name k.now) n.entries.entries

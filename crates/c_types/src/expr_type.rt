@@ -178,3 +178,36 @@ pub fn pointer_to(alloc: Global, t: ExprType) -> Result<ExprType, AllocError>
         base: t.base,
     })
 }
+
+/// The type of arrays of a type, with a length. Err: no memory was left.
+pub fn array_of(alloc: Global, t: ExprType, length: u64) -> Result<ExprType, AllocError>
+    ensures { IfOk result (λ a. a ≡ types.with_layer (Layer.Array length) t) }
+{
+    let mut layers = Items::new(alloc);
+    layers.push(Layer::Array(length))?;
+    layers.append(t.layers)?;
+    Ok(ExprType {
+        layers,
+        base: t.base,
+    })
+}
+
+/// The struct type with a number.
+pub fn struct_type(alloc: Global, s: u32) -> ExprType
+    ensures { result ≡ types.of_base (Base.Struct s) }
+{
+    ExprType {
+        layers: Items::new(alloc),
+        base: Base::Struct(s),
+    }
+}
+
+/// The type of what a function without a result gives.
+pub fn void(alloc: Global) -> ExprType
+    ensures { result ≡ types.void }
+{
+    ExprType {
+        layers: Items::new(alloc),
+        base: Base::Void,
+    }
+}

@@ -20,7 +20,7 @@ use c_tree::RawExpr;
 use sqlite_items::Items;
 use std::alloc::Global;
 
-fn a_value(shape: ExprType) -> Operand
+pub fn a_value(shape: ExprType) -> Operand
     ensures { result ≡ types.a_value shape }
 {
     Operand {
@@ -129,7 +129,7 @@ fn complete_base(tables: &Tables<'_>, base: Base) -> bool
 }
 
 /// Whether a type of these layers and this base is complete.
-fn complete_in(tables: &Tables<'_>, layers: &[Layer], base: Base) -> bool
+pub fn complete_in(tables: &Tables<'_>, layers: &[Layer], base: Base) -> bool
     ensures { result ≡ rules.complete_in (scope_of tables.now) layers.now base }
 {
     let Some((first, rest)) = layers.split_first() else {
@@ -142,7 +142,7 @@ fn complete_in(tables: &Tables<'_>, layers: &[Layer], base: Base) -> bool
 }
 
 /// Whether an operand is a pointer to objects whose size isn't known.
-fn points_to_incomplete(tables: &Tables<'_>, a: &Operand) -> bool
+pub fn points_to_incomplete(tables: &Tables<'_>, a: &Operand) -> bool
     ensures { result ≡ rules.points_to_incomplete (scope_of tables.now) a.now }
 {
     match a.shape.layers.as_slice().split_first() {
@@ -152,7 +152,7 @@ fn points_to_incomplete(tables: &Tables<'_>, a: &Operand) -> bool
 }
 
 /// Whether one of two operands is a pointer that the operator moves, to objects of unknown size.
-fn moves_incomplete(tables: &Tables<'_>, op: BinaryOp, a: &Operand, b: &Operand) -> bool
+pub fn moves_incomplete(tables: &Tables<'_>, op: BinaryOp, a: &Operand, b: &Operand) -> bool
     ensures { result ≡ rules.moves_incomplete (scope_of tables.now) op (Some a.now) (Some b.now) }
 {
     match op {

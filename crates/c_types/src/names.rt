@@ -1,7 +1,7 @@
 //! The names that are in scope (ISO C99 6.2.1).
 ghost use Rattle.std.specs.Prelude.{◌≡◌, option_map, option_copied};
 ghost use Rattle.c_language.specs.Scopes.{found_in};
-ghost use Rattle.c_types.specs.Names.{meaning_of, names_of, listed_type};
+ghost use Rattle.c_types.specs.Names.{meaning_of, names_of, listed_type, number_of};
 
 use c_language::ExprType;
 use c_tree::VarId;
@@ -41,5 +41,20 @@ impl<'a> StructMembers<'a> {
         ensures { option_copied result ≡ listed_type name.now self.now }
     {
         self.entries.get(name)
+    }
+}
+
+/// The numbers of what the text defines, by names.
+#[derive(Drop)]
+pub struct Numbers<'a> {
+    pub entries: IndexMap<&'a [u8], u32>,
+}
+
+impl<'a> Numbers<'a> {
+    /// The number of what has the name.
+    pub fn get(&self, name: &[u8]) -> Option<u32>
+        ensures { result ≡ number_of name.now self.now }
+    {
+        self.entries.get(name).copied()
     }
 }

@@ -231,3 +231,13 @@ pub fn indexed(a: Operand, i: &Operand) -> Option<ExprType>
         None
     }
 }
+
+/// Whether an operand can be assigned to an object of the type (6.5.16.1).
+pub fn is_assignable(t: &ExprType, x: Operand) -> bool
+    ensures { result ≡ spec.is_assignable t.now x }
+{
+    if is_integer(t) && is_integer(&x.shape) {
+        return true;
+    }
+    is_pointer(t) && (same_type(t, &value_type(x.shape)) || x.is_null)
+}

@@ -1,5 +1,5 @@
-use crate::names::{Names, StructMembers};
-use c_tree::{FunctionId, RawProgram};
+use crate::names::{Names, Numbers, StructMembers};
+use c_tree::{FunctionId, RawHead, RawProgram};
 
 /// What stands before a place of the text.
 #[derive(Drop)]
@@ -11,6 +11,11 @@ pub struct Tables<'a> {
     pub owner: Option<FunctionId>,
     /// The struct types that are complete.
     pub structs: Vec<StructMembers<'a>>,
+    /// The numbers of all struct types that the text defines, by their tags.
+    pub tags: Numbers<'a>,
+    /// The heads of all functions that the text defines, and their numbers by their names.
+    pub heads: Vec<&'a RawHead>,
+    pub definitions: Numbers<'a>,
     pub functions: u32,
     pub variables: u32,
     pub statements: u32,

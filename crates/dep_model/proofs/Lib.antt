@@ -1,7 +1,25 @@
 pub mod CompletionLemmas
 pub mod ListLemmas
+pub mod NumberedFrom
+pub mod PairLemmas
 mod Marking
+pub mod RowLemmas
 pub mod RuleLemmas
 pub mod SetLemmas
+pub mod SwitchLemmas
+pub mod SwitchLaws
 pub mod WordLemmas
 pub mod FollowsLemmas
+pub mod StraightExprs
+pub mod StraightActs
+pub mod StraightMain
+pub mod StraightVertices
+pub mod MainVertexLemmas
+pub mod VertexNumbers
+pub mod StraightOrder
+pub mod StraightEdges
+pub mod StraightAnalysis
+pub mod PlainEffects
+pub mod PlainSteps
+pub mod MainGraph
+pub mod MayPointLaws

@@ -1,57 +1,78 @@
--- The system dependence graph of a program (Horwitz, Reps and Binkley 1990).
-use Rattle.std.specs.Prelude.{◌≡◌, ◌↔◌, ℕ, zero, suc, ◌⊎◌, List, [], ◌∷◌, ◌++◌, map, Contains, slice_get, Option, Some, None, Bool, true, false}
+-- The edges of the system dependence graph of a program of any form (Horwitz, Reps and Binkley 1990).
+use Rattle.std.specs.Prelude.{◌≡◌, ◌↔◌, ℕ, List, false, Some, Contains, slice_get}
+use Rattle.std.specs.Option.{option_map_or}
+use Rattle.c_tree.specs.declared.expr.Expr.{Expr}
 use Rattle.c_tree.specs.declared.program.Program.{Program}
-use Rattle.c_language.specs.Code.{Code}
+use Rattle.c_tree.specs.declared.statement.Target.{Target}
 use Rattle.dep_model.specs.declared.edge.Edge.{Edge}
-use Rattle.dep_model.specs.declared.edge.Label.{Label}
-use Rattle.dep_model.specs.declared.edge.Label.TheVariants.{Control, Flow, Call, In, Out}
+use Rattle.dep_model.specs.declared.edge.Label.TheVariants as label
+use Rattle.dep_model.specs.declared.location.Location.{Location}
+use Rattle.dep_model.specs.declared.vertex.Slot.{Slot}
 use Rattle.dep_model.specs.declared.vertex.Vertex.{Vertex}
 use Rattle.dep_model.specs.declared.vertex.VertexKind.{VertexKind}
-use Rattle.dep_model.specs.declared.vertex.VertexKind.TheVariants.{Entry, Statement}
-use Rattle.dep_model.specs.Steps.{Step, FlowEdge}
-use Rattle.dep_model.specs.Controls.{Controller, Controls}
+use Rattle.dep_model.specs.declared.vertex.VertexKind.TheVariants.{Entry, FormalIn, FormalOut, Call, ActualIn, ActualOut}
+use Rattle.dep_model.specs.Follows.{EffectsOf, Flows}
+use Rattle.dep_model.specs.FunctionVertices.{FollowsIn, IsControlIn}
+use Rattle.dep_model.specs.Denoted.{Places, PointsTo}
+use Rattle.dep_model.specs.Doings.{Calls, doings_of}
+use Rattle.dep_model.specs.MayPoint.{IsPointsTo}
+use Rattle.dep_model.specs.ModRef.{FunctionEffects, AreFunctionEffects}
+use Rattle.dep_model.specs.VertexOrder.{in_function, program_vertices, vertex_effects}
 
--- the numbers from i on, so many
-abbrev pub from : ℕ → ℕ → List ℕ
-from i zero = []
-from i (suc n) = i ∷ from (suc i) n
+-- what dependence is found from: where each location may point, and what each function may modify and use
+pub record Analysis : Type 0 where
+  pub points : PointsTo
+  pub effects : FunctionEffects
 
-abbrev pub vertex : ℕ → VertexKind → Vertex
-vertex f kind = record { function = f; kind = kind }
+-- that of a program
+pub record IsAnalysis (p : Program) (a : Analysis) : Type 0 where
+  pub points_are : IsPointsTo p a.points
+  pub effects_are : AreFunctionEffects p a.points a.effects
 
--- the vertices in their order: so far the entry of main and its statements, by number
-abbrev pub vertices : Program → List Vertex
-vertices p = vertex 0 Entry ∷ map (λ i. vertex 0 (Statement i)) (from 0 p.statements)
+-- the vertices of a program
+abbrev pub vertices_of : Program → Analysis → List Vertex
+vertices_of p a = program_vertices p a.effects
 
--- an edge joins two vertices of these kinds in main
-pub record Joins (p : Program) (e : Edge) (a b : VertexKind) : Type 0 where
-  pub from_is : slice_get (vertices p) e.from ≡ Some (vertex 0 a)
-  pub to_is : slice_get (vertices p) e.to ≡ Some (vertex 0 b)
+-- the locations of a vertex by its number
+abbrev pub places_at : (Vertex → Places) → List Vertex → ℕ → Places
+places_at places vs v l = option_map_or (λ (x : Vertex). places x l) (slice_get vs v) false
 
--- what stands for a controller
-abbrev pub controller_kind : Controller → VertexKind
-controller_kind None = Entry
-controller_kind (Some i) = Statement i
+abbrev pub numbered_effects : Program → PointsTo → List Vertex → EffectsOf ℕ Location
+numbered_effects p points vs = record {
+  defines = places_at (vertex_effects p points).defines vs;
+  uses = places_at (vertex_effects p points).uses vs;
+  kills = places_at (vertex_effects p points).kills vs;
+}
 
--- from a controller to its statement
-pub record IsControlEdge (p : Program) (c : Code) (e : Edge) : Type 0 where
-  pub controller : Controller
-  pub statement : ℕ
-  pub labelled : e.label ≡ Control
-  pub joins : Joins p e (controller_kind controller) (Statement statement)
-  pub controls : Controls c None controller statement
+-- a flow edge of a function
+pub record IsFlowIn (p : Program) (points : PointsTo) (vs : List Vertex) (f : ℕ) (e : Edge) : Type 0 where
+  pub labelled : e.label ≡ label.Flow
+  pub flows : Flows (λ (v w : ℕ). FollowsIn p vs f v (Some w)) (numbered_effects p points vs) e.from e.to
 
-pub record IsFlowEdge (p : Program) (c : Code) (e : Edge) : Type 0 where
-  pub before : Step
-  pub after : Step
-  pub labelled : e.label ≡ Flow
-  pub joins : Joins p e (Statement before.id) (Statement after.id)
-  pub flows : FlowEdge c before after
+-- vertex number v is of this kind, in the function
+abbrev pub IsVertex : List Vertex → ℕ → VertexKind → ℕ → Type 0
+IsVertex vs f kind v = slice_get vs v ≡ Some (in_function f kind)
 
--- the edges of a program whose main is c
-abbrev pub IsEdge : Program → Code → Edge → Type 0
-IsEdge p c e = IsControlEdge p c e ⊎ IsFlowEdge p c e
+-- statement i of the function is a call of another, or of itself, and c is its call vertex
+pub record IsCall (p : Program) (vs : List Vertex) (f i to c : ℕ) : Type 0 where
+  pub target : Target
+  pub args : List Expr
+  pub member : Contains (doings_of p f) (Calls i target to args)
+  pub at : IsVertex vs f (Call i) c
+
+-- an edge between a call and the function called: to its entry, from an actual-in to the formal-in of its slot, or
+-- from a formal-out to the actual-out of its slot
+pub data IsCallEdge (p : Program) (vs : List Vertex) (e : Edge) : Type 0 where
+  call : (f i to : ℕ) → IsCall p vs f i to e.from → e.label ≡ label.Call e.from → IsVertex vs to Entry e.to → IsCallEdge p vs e
+  in_ : (f i to c : ℕ) (slot : Slot) → IsCall p vs f i to c → e.label ≡ label.In c → IsVertex vs f (ActualIn i slot) e.from → IsVertex vs to (FormalIn slot) e.to → IsCallEdge p vs e
+  out : (f i to c : ℕ) (slot : Slot) → IsCall p vs f i to c → e.label ≡ label.Out c → IsVertex vs to (FormalOut slot) e.from → IsVertex vs f (ActualOut i slot) e.to → IsCallEdge p vs e
+
+-- an edge of the system graph: a control or flow edge of a function, or one between functions
+pub data IsSystemEdge (p : Program) (a : Analysis) (e : Edge) : Type 0 where
+  control : (f : ℕ) → IsControlIn p (vertices_of p a) f e → IsSystemEdge p a e
+  flow : (f : ℕ) → IsFlowIn p a.points (vertices_of p a) f e → IsSystemEdge p a e
+  between : IsCallEdge p (vertices_of p a) e → IsSystemEdge p a e
 
 -- a list of exactly these edges
-abbrev pub AreEdges : Program → Code → List Edge → Type 0
-AreEdges p c edges = (e : Edge) → Contains edges e ↔ IsEdge p c e
+abbrev pub AreSystemEdges : Program → Analysis → List Edge → Type 0
+AreSystemEdges p a edges = (e : Edge) → Contains edges e ↔ IsSystemEdge p a e

@@ -5,18 +5,24 @@
 mod closure;
 mod edge;
 mod engine;
+mod groups;
 mod location;
+mod pair_order;
 mod plain_graph;
 mod skeleton;
+mod switch_arms;
 mod vertex;
 mod vertex_set;
 
 pub use c_tree::Text;
 pub use closure::{Closure, Rule};
 pub use edge::{Edge, Label};
+pub use groups::{Group, StatementVertices, numbers_of};
 pub use location::{Location, LocationId, LocationPath, Part, Root};
+pub use pair_order::ascend;
 pub use plain_graph::PlainGraph;
 pub use skeleton::{FlowGraph, Pair, PairList, Skeleton, VertexList};
+pub use switch_arms::taken_arms;
 pub use vertex::{Slot, Vertex, VertexKind};
 pub use vertex_set::VertexSet;
 

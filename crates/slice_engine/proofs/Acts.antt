@@ -28,8 +28,8 @@ use Rattle.dep_model.specs.declared.location.Location.{Location}
 use Rattle.dep_model.specs.declared.location.Root.{Root}
 use Rattle.dep_model.specs.declared.location.Root.TheVariants.{Input, Variable, Site, Result}
 use Rattle.dep_model.specs.declared.location.Part.{Part}
-use Rattle.dep_model.specs.Effects as effect
-use Rattle.dep_model.specs.Effects.{variable, is_root_of, is_whole, is_variable, is_input_root, is_input, is_result_root, is_result, reads, any_reads, init_reads, compound_reads, amount_reads, value_reads, target_places, uses, defines, kills}
+use Rattle.dep_model.proofs.PlainEffects as effect
+use Rattle.dep_model.proofs.PlainEffects.{variable, is_root_of, is_whole, is_variable, is_input_root, is_input, is_result_root, is_result, reads, any_reads, init_reads, compound_reads, amount_reads, value_reads, target_places, uses, defines, kills}
 use Rattle.slice_engine.specs.Edges.{place, target_place, act_target}
 use Rattle.slice_engine.specs.Projection.{names, any_names, init_names, target_names, size_names, amount_names, value_names, act_names, renamed, renamed_init}
 use Rattle.std.proofs.lemmas.Bool.{or_left, or_right, or_cases, ne_eqb}

@@ -13,7 +13,7 @@ use Rattle.c_tree.specs.Numbered.{Start, Starts, start, starts, body_starts, fun
 use Rattle.c_language.specs.Code.{code}
 use Rattle.c_language.specs.StraightLine.{IsStraightLine, main_of}
 use Rattle.dep_model.specs.declared.vertex.Vertex.{Vertex}
-use Rattle.dep_model.specs.SystemGraph.{vertices}
+use Rattle.dep_model.specs.MainVertices.{vertices}
 use Rattle.slice_engine.specs.Projection.{is_kept}
 use Rattle.slice_engine.specs.Slice.{starts_on, HasStart, IsCriterion}
 use Rattle.slice_engine.specs.Criterion.{marked_if, with_starts}
@@ -24,7 +24,7 @@ use Rattle.c_tree.proofs.NumberedLemmas.{starts-Declare, starts-Assign, starts-P
 use Rattle.c_language.specs.StraightLine.{IsBody, done, declare, begin, assign, print, int_format}
 use Rattle.c_tree.specs.declared.program.Init.TheVariants as init
 use Rattle.c_tree.specs.declared.expr.Expr.TheVariants as e
-use Rattle.dep_model.specs.SystemGraph.{from, vertex}
+use Rattle.dep_model.specs.MainVertices.{from, vertex}
 use Rattle.dep_model.specs.declared.vertex.VertexKind.TheVariants.{Entry, Statement as AtStatement}
 use Rattle.std.proofs.lemmas.List.{append-nil}
 use Rattle.slice_engine.proofs.CriterionLemmas.{length-marked_if, length-with_starts}

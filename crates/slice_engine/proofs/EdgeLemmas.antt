@@ -13,9 +13,9 @@ use Rattle.dep_model.specs.declared.location.Location.{Location}
 use Rattle.dep_model.specs.declared.location.Root.{Root}
 use Rattle.dep_model.specs.declared.location.Root.TheVariants.{Input, Variable, Site, Result}
 use Rattle.dep_model.specs.declared.location.Part.{Part}
-use Rattle.dep_model.specs.Effects.{is_variable, is_whole, is_root_of, uses, defines, kills}
+use Rattle.dep_model.proofs.PlainEffects.{is_variable, is_whole, is_root_of, uses, defines, kills}
 use Rattle.dep_model.specs.Follows.{last, more}
-use Rattle.dep_model.specs.Steps.{Step, step, start, Follows, Chain, FlowEdge}
+use Rattle.dep_model.proofs.PlainSteps.{Step, step, start, Follows, Chain, FlowEdge}
 use Rattle.c_language.specs.Code.{Act, Code, End, Opens, Plain, Fork, Loop, Leaves, Call}
 use Rattle.slice_engine.specs.Edges.{act_operands, act_target, control_edge, flow_edge, edge_from, read_edges, noted, edges_of}
 use Rattle.slice_engine.proofs.Straight.{ActsPlainly, AreActs, end, opens, act, both_ways}

@@ -12,7 +12,7 @@ use Rattle.c_tree.specs.declared.statement.Statement.TheVariants as s
 use Rattle.c_language.specs.Words.{Bytes}
 use Rattle.c_language.specs.Code.{Code, Plain, Opens, Begins, Sets, Prints, begun, Part, ArmPart, part_step, arm_step, code_of}
 use Rattle.dep_model.specs.declared.location.Location.{Location}
-use Rattle.dep_model.specs.Effects.{reads, reads_step, places, places_step, names, names_step, is_variable}
+use Rattle.dep_model.proofs.PlainEffects.{reads, reads_step, places, places_step, names, names_step, is_variable}
 use Rattle.slice_engine.specs.Edges.{operands, operands_step, place, place_step}
 
 pub code_of-Declare : (id : Option ℕ) (l x : ℕ) (i : Init) (r : Code) → code_of (s.Declare id l x i) r ≡ Opens x (begun id x i r)

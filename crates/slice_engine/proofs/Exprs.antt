@@ -23,8 +23,8 @@ use Rattle.dep_model.specs.declared.location.Location.{Location}
 use Rattle.dep_model.specs.declared.location.Root.{Root}
 use Rattle.dep_model.specs.declared.location.Root.TheVariants.{Input, Variable, Site, Result}
 use Rattle.dep_model.specs.declared.location.Part.{Part}
-use Rattle.dep_model.specs.Effects as effect
-use Rattle.dep_model.specs.Effects.{variable, is_root_of, is_whole, is_variable, reads_step, reads, places_step, places}
+use Rattle.dep_model.proofs.PlainEffects as effect
+use Rattle.dep_model.proofs.PlainEffects.{variable, is_root_of, is_whole, is_variable, reads_step, reads, places_step, places}
 use Rattle.slice_engine.specs.Projection.{names_step, names, renamed_step, renamed}
 use Rattle.std.proofs.lemmas.Bool.{or_left, or_right, or_cases}
 use Rattle.slice_engine.proofs.Trees.{ExprParts, expr_layer, of_every_expr}

@@ -14,9 +14,10 @@ use Rattle.dep_model.specs.declared.edge.Label.TheVariants.{Control, Flow}
 use Rattle.dep_model.specs.declared.vertex.Vertex.{Vertex}
 use Rattle.dep_model.specs.declared.vertex.VertexKind.{VertexKind}
 use Rattle.dep_model.specs.declared.vertex.VertexKind.TheVariants.{Entry, Statement}
-use Rattle.dep_model.specs.Steps.{Step, step}
+use Rattle.dep_model.proofs.PlainSteps.{Step, step}
 use Rattle.dep_model.specs.Controls.{Controller, Controls}
-use Rattle.dep_model.specs.SystemGraph.{from, vertex, vertices, Joins, controller_kind, IsControlEdge, IsFlowEdge, IsEdge, AreEdges}
+use Rattle.dep_model.proofs.MainGraph.{Joins, controller_kind, IsControlEdge, IsFlowEdge, IsEdge, AreEdges}
+use Rattle.dep_model.specs.MainVertices.{from, vertex, vertices}
 use Rattle.slice_engine.specs.Edges.{control_edge, flow_edge, edges_of}
 use Rattle.slice_engine.proofs.Straight.{AreActs, end, opens, act, body_acts}
 use Rattle.slice_engine.proofs.EdgeLemmas.{Has, IsEdgeOf, control, flow, step_in, chain_between, table_begins, edges_sound, controls_found, flows_found}

@@ -7,9 +7,9 @@ use Rattle.c_meaning.specs.Values.{Types, State, opened, all_closed}
 use Rattle.c_meaning.specs.Acts.{Made, made, after, picked}
 use Rattle.c_meaning.specs.Meaning.{told}
 use Rattle.dep_model.specs.declared.location.Location.{Location}
-use Rattle.dep_model.specs.Effects.{uses, defines, kills}
-use Rattle.dep_model.specs.Steps as dep
-use Rattle.dep_model.specs.Steps.{Step, step_at, start, Follows, Chain, FlowEdge}
+use Rattle.dep_model.proofs.PlainEffects.{uses, defines, kills}
+use Rattle.dep_model.proofs.PlainSteps as dep
+use Rattle.dep_model.proofs.PlainSteps.{Step, step_at, start, Follows, Chain, FlowEdge}
 use Rattle.dep_model.specs.Follows.{last, more}
 use Rattle.dep_model.proofs.FollowsLemmas.{start-seq, Follows-seq}
 use Rattle.slice_engine.proofs.Law.{Kind, Last, Silent, Active, Places, Effects, Wanted, here, later, past as over}

@@ -108,7 +108,7 @@ result_in : (keeps test : ℕ → Bool) (fs : List Function) → option_map_or (
 result_in keeps test [] = refl
 result_in keeps test (f ∷ fs) = refl
 
-module _ (p : Program) (line : ℕ) (kept : List Bool) (k : IsKept p line kept) (below : AreBelow p.statements (main_code p)) (straight : IsStraight (main_code p)) where
+module _ (p : Program) (line : ℕ) (kept : List Bool) (k : IsKept p line kept) (form : IsStraightLine p) (below : AreBelow p.statements (main_code p)) (straight : IsStraight (main_code p)) where
   abbrev main : Code
   main = main_code p
 
@@ -193,7 +193,7 @@ module _ (p : Program) (line : ℕ) (kept : List Bool) (k : IsKept p line kept) 
   closing : Closing setting
   closing = record {
     killed = λ c l h. kills_defined (act_of c) l h;
-    closed = λ c v l f e want d. wanted_closed keeps_it stays_there here main (flow_closed p line kept below k) c v l (straight_calls c f.0) f.1.0 e want d;
+    closed = λ c v l f e want d. wanted_closed keeps_it stays_there here main (flow_closed p line kept form below k) c v l (straight_calls c f.0) f.1.0 e want d;
   }
 
   abbrev event : Code → List Value → Event
@@ -242,7 +242,7 @@ statements_below p straight =
 -- where a straight-line program ends within n acts, so does each program with its slice's main and types, with the same values at the criterion
 pub same_values : (p q : Program) (line : ℕ) (kept : List Bool) → IsStraightLine p → IsKept p line kept → main_code q ≡ main_code (sliced p kept) → types_of q ≡ types_of (sliced p kept) → HasSameValues p line kept q
 same_values p q line kept straight k same types n input t ends =
-    let r = main_follows p line kept k (statements_below p straight) (straight_acts (main_acts p straight)) n input t ends in
+    let r = main_follows p line kept k straight (statements_below p straight) (straight_acts (main_acts p straight)) n input t ends in
     (r.0, two (λ s c. code_meaning s n c input) types (same ∙ main_projects p (keeps p kept) straight) ∙ r.1, r.2)
 
 -- so does each program that is the slice but for line numbers

@@ -19,7 +19,9 @@ use Rattle.dep_model.specs.declared.edge.Edge.{Edge}
 use Rattle.dep_model.specs.Words.{ReachesAny}
 use Rattle.dep_model.specs.Plain.{PlainEdges}
 use Rattle.dep_model.specs.Completion.{IsCompletion, NamesNone}
-use Rattle.dep_model.specs.SystemGraph.{vertices, AreEdges}
+use Rattle.dep_model.proofs.MainGraph.{AreEdges}
+use Rattle.dep_model.specs.MainVertices.{vertices}
+use Rattle.dep_model.proofs.StraightAnalysis.{straight_analysis, is_straight_analysis, system_edges}
 use Rattle.slice_engine.specs.Projection.{rank, project, stays, if_so, bare, declaration, projected, body_projected, function_projected}
 use Rattle.slice_engine.proofs.ProjectedTrees.{projected-Declare, projected-Assign, projected-Print}
 use Rattle.std.specs.Option.{option_map_or}
@@ -58,8 +60,10 @@ are_marks p edges line body criterion kept wanted marks g is made keeps_from wan
     record {
       kept = kept;
       is_kept = record {
+        analysis = straight_analysis;
+        is_analysis = is_straight_analysis p g.straight;
         edges = edges;
-        are_edges = subst (AreEdges p (main_code p)) (sym g.edges_are) (are_edges p g.straight);
+        are_edges = system_edges p straight_analysis edges g.straight (is_straight_analysis p g.straight) (subst (AreEdges p (main_code p)) (sym g.edges_are) (are_edges p g.straight));
         criterion = criterion;
         is_criterion = c;
         reached = keeps_from.reached;

@@ -12,7 +12,7 @@ use Rattle.c_tree.specs.declared.statement.Statement.{Statement}
 use Rattle.c_language.specs.Code.{Act, Begins, Sets, Prints, Code, End, Opens, Plain, code, begun}
 use Rattle.c_language.specs.StraightLine.{decimal_from, IsOperand, IsSum, name, constant, one, plus, minus, IsBody, done, declare, begin, assign, print, int_format}
 use Rattle.dep_model.specs.declared.location.Location.{Location}
-use Rattle.dep_model.specs.Effects.{reads, any_reads, is_variable, uses, defines, kills}
+use Rattle.dep_model.proofs.PlainEffects.{reads, any_reads, is_variable, uses, defines, kills}
 use Rattle.slice_engine.specs.Edges.{operands, act_operands, act_target}
 use Rattle.slice_engine.proofs.Equations.{code_of-Declare, code_of-Assign, code_of-Print, operands-Constant, operands-Variable, operands-Binary, reads-Constant, reads-Variable, reads-Binary, places-Variable, names-Variable, place-Variable}
 

@@ -13,8 +13,8 @@ use Rattle.dep_model.specs.declared.location.Location.{Location}
 use Rattle.dep_model.specs.declared.vertex.Vertex.{Vertex}
 use Rattle.dep_model.specs.declared.vertex.VertexKind.TheVariants.{Statement as AtStatement}
 use Rattle.dep_model.specs.Follows.{InTurn, last, more}
-use Rattle.dep_model.specs.Steps.{Step, step, start, Follows, Chain}
-use Rattle.dep_model.specs.SystemGraph.{from, vertex, vertices}
+use Rattle.dep_model.proofs.PlainSteps.{Step, step, start, Follows, Chain}
+use Rattle.dep_model.specs.MainVertices.{from, vertex, vertices}
 use Rattle.slice_engine.specs.Projection.{is_of, is_kept}
 use Rattle.std.proofs.lemmas.Bool.{or_left, or_right, or_cases, and_from, and_parts, ne_eqb}
 use Rattle.slice_engine.proofs.Bools.{or_false}

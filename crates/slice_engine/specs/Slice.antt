@@ -17,7 +17,8 @@ use Rattle.c_meaning.specs.Meaning.{Trace, Ended, meaning, main_code, at}
 use Rattle.dep_model.specs.declared.edge.Edge.{Edge}
 use Rattle.dep_model.specs.Words.{ReachesAny}
 use Rattle.dep_model.specs.Completion.{IsCompletion, NamesNone}
-use Rattle.dep_model.specs.SystemGraph.{vertices, AreEdges}
+use Rattle.dep_model.specs.SystemGraph.{Analysis, IsAnalysis, AreSystemEdges}
+use Rattle.dep_model.specs.MainVertices.{vertices}
 use Rattle.slice_engine.specs.Projection.{is_kept, rank, project}
 use Rattle.slice_engine.specs.OwnWords.{OwnWords}
 
@@ -46,8 +47,10 @@ pub record IsReached (edges : List Edge) (x r : List Bool) : Type 0 where
 
 -- the vertices that a slice keeps: the completion of what reaches the criterion
 pub record IsKept (p : Program) (line : ℕ) (kept : List Bool) : Type 0 where
+  pub analysis : Analysis
+  pub is_analysis : IsAnalysis p analysis
   pub edges : List Edge
-  pub are_edges : AreEdges p (main_code p) edges
+  pub are_edges : AreSystemEdges p analysis edges
   pub criterion : List Bool
   pub is_criterion : IsCriterion p line criterion
   pub reached : List Bool

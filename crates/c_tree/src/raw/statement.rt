@@ -20,10 +20,18 @@ pub enum RawArg {
     Literal(Text),
 }
 
+/// A type name (ISO C99 6.7.6): a base with so many stars. Nothing bounds how many are written, so
+/// they are counted, and don't nest.
+#[derive(Debug, Drop)]
+pub struct RawTypeName {
+    pub base: RawType,
+    pub stars: usize,
+}
+
 /// The words of a size: `sizeof(T)`, or `sizeof(*p)` and `sizeof *p`.
 #[derive(Debug, Drop)]
 pub enum RawSize {
-    Type(RawType),
+    Type(RawTypeName),
     /// What a variable points to, and whether it stands in parentheses.
     Pointee(Text, bool),
 }
@@ -88,7 +96,7 @@ pub enum RawStatement {
     Heap {
         line: u32,
         target: RawTarget,
-        cast: Option<RawType>,
+        cast: Option<RawTypeName>,
         amount: RawAmount,
     },
     If {

@@ -1,4 +1,5 @@
--- Which locations an act may define, may use and kills.
+-- Which locations an act may define, may use and kills where all variables are integers whose addresses aren't taken: a working form of
+-- the effects of acts.
 use Rattle.std.specs.Prelude.{ℕ, ◌==◌, List, [], ◌∷◌, Bool, true, false, ◌||◌, Option, Some, None}
 use Rattle.c_arith.specs.declared.operators.BinaryOp.{BinaryOp}
 use Rattle.c_tree.specs.declared.expr.Expr.{Expr, fold-Expr}

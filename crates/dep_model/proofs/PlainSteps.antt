@@ -1,8 +1,8 @@
 -- Statements without calls as vertices: each has one, and its act tells what it may define, may use and kills.
-use Rattle.std.specs.Prelude.{ℕ, List, [], ◌∷◌, Bool, Option, Some, None}
+use Rattle.std.specs.Prelude.{ℕ, [], ◌∷◌, Option, Some, None}
 use Rattle.c_language.specs.Code.{Act, Code}
 use Rattle.dep_model.specs.declared.location.Location.{Location}
-use Rattle.dep_model.specs.Effects.{uses, defines, kills}
+use Rattle.dep_model.proofs.PlainEffects.{uses, defines, kills}
 use Rattle.dep_model.specs.Follows as general
 use Rattle.dep_model.specs.Follows.{VerticesAt, EffectsOf, Flows}
 

@@ -1,0 +1,13 @@
+use Rattle.std.proofs.Common.{ap, ◌∙◌, length, replicate, slice_get}
+use Rattle.std.proofs.lemmas.List.{length-replicate}
+use Rattle.c_print.specs.Lines.{layout_starts}
+use Rattle.c_print.proofs.KeptLines.{all_kept, keep_length}
+use Rattle.c_print.proofs.lines.lines_of.Goals as goal
+
+pub returns-clause-count : goal.returns-clause-count
+returns-clause-count c =
+    let n = c.args.program.now.statements in
+    ap length c.in_ok-lines.ensures ∙ keep_length 0 (layout_starts c.args.program.now) (replicate n 0) ∙ length-replicate n 0
+
+pub returns-clause-lines : goal.returns-clause-lines
+returns-clause-lines c id h = ap (λ y. slice_get y id) c.in_ok-lines.ensures ∙ all_kept (layout_starts c.args.program.now) c.args.program.now.statements id h

@@ -1,0 +1,403 @@
+-- In a text of the grammar a length is left to a list only where a list of initialisers follows.
+use Rattle.std.proofs.Common.{◌≡◌, ℕ, suc, ◌&&◌, ◌||◌, List, [], ◌∷◌, ◌++◌, length, map, Bool, true, false, Option, Some, None, refl, sym, ap, ap₂, ◌∙◌, arith, inl, inr}
+use Rattle.std.specs.Prelude.{nat_lt}
+use Rattle.std.proofs.lemmas.Bool.Decides.{nat_tests}
+use Rattle.c_arith.specs.declared.int_type.IntType.{IntType}
+use Rattle.c_arith.specs.declared.operators.BinaryOp.{BinaryOp}
+use Rattle.c_tree.specs.declared.raw.expr.RawExpr.{RawExpr}
+use Rattle.c_tree.specs.declared.raw.expr.RawLength.TheVariants.{Written, Listed}
+use Rattle.c_tree.specs.declared.raw.expr.RawType.{RawType, fold-roll-RawType}
+use Rattle.c_tree.specs.declared.raw.expr.RawType.TheOpen.{RawType-F}
+use Rattle.c_tree.specs.declared.raw.expr.RawType.TheVariants as type
+use Rattle.c_tree.specs.declared.raw.expr.RawVar.{RawVar}
+use Rattle.c_tree.specs.declared.raw.program.RawInit.{RawInit}
+use Rattle.c_tree.specs.declared.raw.program.RawInit.TheVariants as init
+use Rattle.c_tree.specs.declared.raw.program.RawItem.{RawItem}
+use Rattle.c_tree.specs.declared.raw.program.RawItem.TheVariants as item
+use Rattle.c_tree.specs.declared.raw.program.RawProgram.{RawProgram}
+use Rattle.c_tree.specs.declared.raw.statement.RawTarget.{RawTarget}
+use Rattle.c_tree.specs.declared.raw.statement.RawArg.{RawArg}
+use Rattle.c_tree.specs.declared.raw.statement.RawTypeName.{RawTypeName}
+use Rattle.c_tree.specs.declared.raw.statement.RawAmount.{RawAmount}
+use Rattle.c_tree.specs.declared.raw.statement.RawLabel.{RawLabel}
+use Rattle.c_tree.specs.declared.raw.statement.RawStatement.{RawStatement, roll-RawStatement, map-RawStatement, fold-roll-RawStatement}
+use Rattle.c_tree.specs.declared.raw.statement.RawStatement.TheOpen.{RawStatement-F, RawArm-F}
+use Rattle.c_tree.specs.declared.raw.statement.RawStatement.TheVariants as s
+use Rattle.c_tree.specs.declared.raw.statement.RawArm.{RawArm, roll-RawArm, map-RawArm, fold-roll-RawArm}
+use Rattle.c_language.specs.Words.{Bytes}
+use Rattle.c_language.specs.TokenForms.{Tokens}
+use Rattle.c_language.specs.DeclaredTypes.{item_count}
+use Rattle.c_language.specs.TypeGrammar.{IsBase, IsStars, IsLengths, IsOuterLengths, IsDeclarator, is_listed}
+use Rattle.c_language.specs.StatementGrammar.{IsSeparated, IsSimple, IsList, IsDeclared, IsDeclaration, IsInit, IsStep, IsStatement, AreStatements, IsBody, IsElse, AreArms, arm}
+use Rattle.c_language.specs.ItemGrammar.{IsGlobal, IsItem, AreItems, IsProgram}
+use Rattle.c_print.specs.Settled.{settled, settled_arm, settled_item}
+use Rattle.c_print.proofs.RawTypeLemmas.{is_listed-Array}
+pub use Rattle.c_print_laws.specs.Declarations.{is_short}
+use Rattle.c_print_laws.proofs.Trees.{StatementParts, statement_layer, arm_layer, of_every_statement}
+use Rattle.c_print_laws.proofs.Definitions.{false_true, and_parts}
+use Rattle.c_print_laws.proofs.Settling.{written_step, is_written, IsCounted}
+use Rattle.c_print_laws.proofs.PhraseAgreement.{all_true, declares_step, arm_declares, declarations_pass, arm_passes, Fine, kept_layer, settled_layer, settled_arm_layer}
+use Rattle.c_print_laws.proofs.RulesKept.{item_passes, items_pass}
+
+-- ---- tests of declarations
+
+-- no length is left to a list, or there is one with an item
+abbrev pub is_counted : RawVar → RawInit → Bool
+is_counted v i = is_written v.shape || nat_lt 0 (item_count i)
+
+abbrev pub is_fine : RawVar → RawInit → Bool
+is_fine v i = is_counted v i && is_short v i
+
+some_list : (b : Bool) (n : ℕ) → (b || nat_lt 0 n) ≡ true → nat_lt n 4294967296 ≡ true → IsCounted n b
+some_list true n h k = inl refl
+some_list false n h k = inr (grind (arith, nat_tests), grind (arith, nat_tests))
+
+pub fine : Fine is_fine
+fine v i h = let p = and_parts (is_counted v i) (is_short v i) h in some_list (is_written v.shape) (item_count i) p.0 p.1
+
+-- ---- tests at each form
+
+module _ (test : RawVar → RawInit → Bool) where
+  passes : (y : RawStatement-F RawStatement RawArm) → declarations_pass test (roll-RawStatement y) ≡ declares_step test (map-RawStatement RawStatement RawArm Bool Bool (declarations_pass test) (arm_passes test) y)
+  passes y = fold-roll-RawStatement Bool Bool (declares_step test) arm_declares y
+
+  pub pass-Declare : (l : ℕ) (v : RawVar) (i : RawInit) → declarations_pass test (s.Declare l v i) ≡ test v i
+  pass-Declare l v i = ap (declarations_pass test) (sym (s.rolls-Declare l v i)) ∙ passes (RawStatement-F.Declare l v i)
+
+  pub pass-Assign : (l : ℕ) (a : RawExpr) (op : Option BinaryOp) (b : RawExpr) → declarations_pass test (s.Assign l a op b) ≡ true
+  pass-Assign l a op b = ap (declarations_pass test) (sym (s.rolls-Assign l a op b)) ∙ passes (RawStatement-F.Assign l a op b)
+
+  pub pass-Bump : (l : ℕ) (a : RawExpr) (up before : Bool) → declarations_pass test (s.Bump l a up before) ≡ true
+  pass-Bump l a up before = ap (declarations_pass test) (sym (s.rolls-Bump l a up before)) ∙ passes (RawStatement-F.Bump l a up before)
+
+  pub pass-Call : (l : ℕ) (to : RawTarget) (f : Bytes) (args : List RawArg) → declarations_pass test (s.Call l to f args) ≡ true
+  pass-Call l to f args = ap (declarations_pass test) (sym (s.rolls-Call l to f args)) ∙ passes (RawStatement-F.Call l to f args)
+
+  pub pass-Heap : (l : ℕ) (to : RawTarget) (t : Option RawTypeName) (n : RawAmount) → declarations_pass test (s.Heap l to t n) ≡ true
+  pass-Heap l to t n = ap (declarations_pass test) (sym (s.rolls-Heap l to t n)) ∙ passes (RawStatement-F.Heap l to t n)
+
+  pub pass-Return : (l : ℕ) (a : Option RawExpr) → declarations_pass test (s.Return l a) ≡ true
+  pass-Return l a = ap (declarations_pass test) (sym (s.rolls-Return l a)) ∙ passes (RawStatement-F.Return l a)
+
+  abbrev pub list_passes : List RawStatement → Bool
+  list_passes xs = all_true (map (declarations_pass test) xs)
+
+  pub pass-If : (l : ℕ) (a : RawExpr) (b c : List RawStatement) → declarations_pass test (s.If l a b c) ≡ (list_passes b && list_passes c)
+  pass-If l a b c = ap (declarations_pass test) (sym (s.rolls-If l a b c)) ∙ passes (RawStatement-F.If l a b c)
+
+  pub pass-While : (l : ℕ) (a : RawExpr) (b : List RawStatement) → declarations_pass test (s.While l a b) ≡ list_passes b
+  pass-While l a b = ap (declarations_pass test) (sym (s.rolls-While l a b)) ∙ passes (RawStatement-F.While l a b)
+
+  pub pass-Do : (l : ℕ) (a : RawExpr) (b : List RawStatement) → declarations_pass test (s.Do l a b) ≡ list_passes b
+  pass-Do l a b = ap (declarations_pass test) (sym (s.rolls-Do l a b)) ∙ passes (RawStatement-F.Do l a b)
+
+  abbrev pub part_passes : Option RawStatement → Bool
+  part_passes None = true
+  part_passes (Some x) = declarations_pass test x
+
+  pub pass-For : (l : ℕ) (i : Option RawStatement) (a : RawExpr) (step : Option RawStatement) (b : List RawStatement) → declarations_pass test (s.For l i a step b) ≡ (part_passes i && (part_passes step && list_passes b))
+  pass-For l None a None b = ap (declarations_pass test) (sym (s.rolls-For l None a None b)) ∙ passes (RawStatement-F.For l None a None b)
+  pass-For l None a (Some x) b = ap (declarations_pass test) (sym (s.rolls-For l None a (Some x) b)) ∙ passes (RawStatement-F.For l None a (Some x) b)
+  pass-For l (Some i) a None b = ap (declarations_pass test) (sym (s.rolls-For l (Some i) a None b)) ∙ passes (RawStatement-F.For l (Some i) a None b)
+  pass-For l (Some i) a (Some x) b = ap (declarations_pass test) (sym (s.rolls-For l (Some i) a (Some x) b)) ∙ passes (RawStatement-F.For l (Some i) a (Some x) b)
+
+  pub pass-Switch : (l : ℕ) (a : RawExpr) (arms : List RawArm) → declarations_pass test (s.Switch l a arms) ≡ all_true (map (arm_passes test) arms)
+  pass-Switch l a arms = ap (declarations_pass test) (sym (s.rolls-Switch l a arms)) ∙ passes (RawStatement-F.Switch l a arms)
+
+  pub pass-Block : (l : ℕ) (b : List RawStatement) → declarations_pass test (s.Block l b) ≡ list_passes b
+  pass-Block l b = ap (declarations_pass test) (sym (s.rolls-Block l b)) ∙ passes (RawStatement-F.Block l b)
+
+  pub pass-arm : (labels : List RawLabel) (body : List RawStatement) → arm_passes test (arm labels body) ≡ list_passes body
+  pass-arm labels body = fold-roll-RawArm Bool Bool (declares_step test) arm_declares (record { labels = labels; body = body })
+
+  pub both_true : {a b : Bool} → a ≡ true → b ≡ true → (a && b) ≡ true
+  both_true h k = ap₂ (λ (x y : Bool). x && y) h k
+
+  pub lists_append : (xs ys : List RawStatement) → list_passes xs ≡ true → list_passes ys ≡ true → list_passes (xs ++ ys) ≡ true
+  lists_append [] ys h k = k
+  lists_append (x ∷ xs) ys h k = let p = and_parts (declarations_pass test x) (list_passes xs) h in both_true p.0 (lists_append xs ys p.1 k)
+
+  pub items_append : (xs ys : List RawItem) → items_pass test xs ≡ true → items_pass test ys ≡ true → items_pass test (xs ++ ys) ≡ true
+  items_append [] ys h k = k
+  items_append (x ∷ xs) ys h k = let p = and_parts (item_passes test x) (items_pass test xs) h in both_true p.0 (items_append xs ys p.1 k)
+
+-- ---- what the grammar says
+
+written-Integer : (t : IntType) → is_written (type.Integer t) ≡ true
+written-Integer t = ap is_written (sym (type.rolls-Integer t)) ∙ fold-roll-RawType Bool written_step (RawType-F.Integer t)
+
+written-Struct : (w : Bytes) → is_written (type.Struct w) ≡ true
+written-Struct w = ap is_written (sym (type.rolls-Struct w)) ∙ fold-roll-RawType Bool written_step (RawType-F.Struct w)
+
+written-PointerTo : (a : RawType) → is_written (type.PointerTo a) ≡ is_written a
+written-PointerTo a = ap is_written (sym (type.rolls-PointerTo a)) ∙ fold-roll-RawType Bool written_step (RawType-F.PointerTo a)
+
+written-Array : (a : RawType) (n : RawExpr) → is_written (type.Array a (Written n)) ≡ is_written a
+written-Array a n = ap is_written (sym (type.rolls-Array a (Written n))) ∙ fold-roll-RawType Bool written_step (RawType-F.Array a (Written n))
+
+base_written : {ts rest : Tokens} {a : RawType} → IsBase ts a rest → is_written a ≡ true
+base_written (IsBase.structure {tag = w} key) = written-Struct w
+base_written (IsBase.integer {t} h) = written-Integer t
+
+stars_written : {ts rest : Tokens} {a b : RawType} → IsStars ts a b rest → is_written a ≡ true → is_written b ≡ true
+stars_written (IsStars.done h) k = k
+stars_written (IsStars.star {a} h) k = stars_written h (written-PointerTo a ∙ k)
+
+lengths_written : {ts rest : Tokens} {a b : RawType} → IsLengths ts a b rest → is_written a ≡ true → is_written b ≡ true
+lengths_written (IsLengths.done h) k = k
+lengths_written (IsLengths.length {n} {b} h j) k = written-Array b n ∙ lengths_written j k
+
+outer_written : {ts rest : Tokens} {a b : RawType} → IsOuterLengths ts a b rest → is_listed b ≡ false → is_written a ≡ true → is_written b ≡ true
+outer_written (IsOuterLengths.written h) none k = lengths_written h k
+outer_written (IsOuterLengths.empty {b} h) none k = false_true (sym none ∙ is_listed-Array b Listed)
+
+declarator_written : {ts rest : Tokens} {base : RawType} {v : RawVar} → IsDeclarator ts base v rest → is_listed v.shape ≡ false → is_written base ≡ true → is_written v.shape ≡ true
+declarator_written (IsDeclarator.named h key j) none k = outer_written j none (stars_written h k)
+
+or_left : {a : Bool} (b : Bool) → a ≡ true → (a || b) ≡ true
+or_left b h = ap (λ (x : Bool). x || b) h
+
+or_right : (a b : Bool) → b ≡ true → (a || b) ≡ true
+or_right true b h = refl
+or_right false b h = h
+
+list_some : {ts rest : Tokens} {all : List RawExpr} → IsList ts all rest → nat_lt 0 (length all) ≡ true
+list_some (IsList.last h) = refl
+list_some (IsList.trailing h) = refl
+list_some (IsList.more {all} h k) = some_cons (length all)
+  where
+    some_cons : (n : ℕ) → nat_lt 0 (suc n) ≡ true
+    some_cons n = grind (arith, nat_tests)
+
+declared_counts : {l : ℕ} {base : RawType} {ts rest : Tokens} {a : RawStatement} → IsDeclared l base ts a rest → is_written base ≡ true → declarations_pass is_counted a ≡ true
+declared_counts {l} (IsDeclared.plain {v} h none) k = pass-Declare is_counted l v init.None ∙ or_left (nat_lt 0 0) (declarator_written h none k)
+declared_counts {l} (IsDeclared.value {v} {a} h none j) k = pass-Declare is_counted l v (init.One a) ∙ or_left (nat_lt 0 0) (declarator_written h none k)
+declared_counts {l} (IsDeclared.list {v} {all} h j) k = pass-Declare is_counted l v (init.Items all) ∙ or_right (is_written v.shape) (nat_lt 0 (length all)) (list_some j)
+declared_counts {l} (IsDeclared.call h none j) k = pass-Call is_counted l _ _ _
+declared_counts {l} (IsDeclared.heap h none j) k = pass-Heap is_counted l _ _ _
+
+separated_counts : {l : ℕ} {base : RawType} {close : Bytes} {ts rest : Tokens} {all : List RawStatement} → IsSeparated (IsDeclared l base) close ts all rest → is_written base ≡ true → list_passes is_counted all ≡ true
+separated_counts (IsSeparated.last h) k = both_true is_counted (declared_counts h k) refl
+separated_counts (IsSeparated.more h j) k = both_true is_counted (declared_counts h k) (separated_counts j k)
+
+declaration_counts : {ts rest : Tokens} {all : List RawStatement} → IsDeclaration ts all rest → list_passes is_counted all ≡ true
+declaration_counts (IsDeclaration.declaration h k) = separated_counts k (base_written h)
+
+simple_counts : {ts rest : Tokens} {a : RawStatement} → IsSimple ts a rest → declarations_pass is_counted a ≡ true
+simple_counts (IsSimple.assign op by h p k) = pass-Assign is_counted _ _ op _
+simple_counts (IsSimple.store_call h p k) = pass-Call is_counted _ _ _ _
+simple_counts (IsSimple.store_heap h p k) = pass-Heap is_counted _ _ _ _
+simple_counts (IsSimple.bump_after up h p) = pass-Bump is_counted _ _ up false
+simple_counts (IsSimple.bump_before up h p) = pass-Bump is_counted _ _ up true
+simple_counts (IsSimple.call h) = pass-Call is_counted _ _ _ _
+
+init_counts : {ts rest : Tokens} {a : Option RawStatement} → IsInit ts a rest → part_passes is_counted a ≡ true
+init_counts IsInit.nothing = refl
+init_counts (IsInit.simple h) = simple_counts h
+init_counts (IsInit.declared h k) = declared_counts k (base_written h)
+
+step_counts : {ts rest : Tokens} {a : Option RawStatement} → IsStep ts a rest → part_passes is_counted a ≡ true
+step_counts IsStep.nothing = refl
+step_counts (IsStep.simple h) = simple_counts h
+
+mutual
+  statement_counts : {ts rest : Tokens} {a : RawStatement} → IsStatement ts a rest → declarations_pass is_counted a ≡ true
+  statement_counts (IsStatement.simple h) = simple_counts h
+  statement_counts (IsStatement.returns {l}) = pass-Return is_counted l None
+  statement_counts (IsStatement.returns_value {l} {a} h) = pass-Return is_counted l (Some a)
+  statement_counts (IsStatement.block {l} {all} h) = pass-Block is_counted l all ∙ statements_count h
+  statement_counts (IsStatement.conditional {l} {a} {yes = met} {other} h k j) = pass-If is_counted l a met other ∙ both_true is_counted (body_counts k) (else_counts j)
+  statement_counts (IsStatement.while_loop {l} {a} {all} h k) = pass-While is_counted l a all ∙ body_counts k
+  statement_counts (IsStatement.do_loop {l} {a} {all} h k) = pass-Do is_counted l a all ∙ body_counts h
+  statement_counts (IsStatement.for_loop {l} {first} {step} {a} {all} h e k j) = pass-For is_counted l first a step all ∙ both_true is_counted (init_counts h) (both_true is_counted (step_counts k) (body_counts j))
+  statement_counts (IsStatement.switch {l} {a} {arms} h k) = pass-Switch is_counted l a arms ∙ arms_count k
+
+  statements_count : {ts rest : Tokens} {all : List RawStatement} → AreStatements ts all rest → list_passes is_counted all ≡ true
+  statements_count AreStatements.done = refl
+  statements_count (AreStatements.empty h) = statements_count h
+  statements_count (AreStatements.declared {some} {all} h k) = lists_append is_counted some all (declaration_counts h) (statements_count k)
+  statements_count (AreStatements.more h k) = both_true is_counted (statement_counts h) (statements_count k)
+
+  body_counts : {ts rest : Tokens} {all : List RawStatement} → IsBody ts all rest → list_passes is_counted all ≡ true
+  body_counts (IsBody.braces h) = statements_count h
+  body_counts IsBody.nothing = refl
+  body_counts (IsBody.single b h) = both_true is_counted (statement_counts h) refl
+
+  else_counts : {ts rest : Tokens} {all : List RawStatement} → IsElse ts all rest → list_passes is_counted all ≡ true
+  else_counts (IsElse.otherwise h) = body_counts h
+  else_counts (IsElse.without h) = refl
+
+  arms_count : {ts rest : Tokens} {all : List RawArm} → AreArms ts all rest → all_true (map (arm_passes is_counted) all) ≡ true
+  arms_count AreArms.none = refl
+  arms_count (AreArms.broken {labels} {body} h k j) = both_true is_counted (pass-arm is_counted labels body ∙ statements_count k) (arms_count j)
+  arms_count (AreArms.unbroken {labels} {body} h b k) = both_true is_counted (pass-arm is_counted labels body ∙ statements_count k) refl
+
+global_counts : {l : ℕ} {b : Bool} {base : RawType} {ts rest : Tokens} {x : RawItem} → IsGlobal l b base ts x rest → is_written base ≡ true → item_passes is_counted x ≡ true
+global_counts (IsGlobal.plain h none) k = or_left (nat_lt 0 0) (declarator_written h none k)
+global_counts (IsGlobal.value h none j) k = or_left (nat_lt 0 0) (declarator_written h none k)
+global_counts (IsGlobal.list {v} {all} h j) k = or_right (is_written v.shape) (nat_lt 0 (length all)) (list_some j)
+
+globals_count : {l : ℕ} {b : Bool} {base : RawType} {close : Bytes} {ts rest : Tokens} {all : List RawItem} → IsSeparated (IsGlobal l b base) close ts all rest → is_written base ≡ true → items_pass is_counted all ≡ true
+globals_count (IsSeparated.last h) k = both_true is_counted (global_counts h k) refl
+globals_count (IsSeparated.more h j) k = both_true is_counted (global_counts h k) (globals_count j k)
+
+item_counts : {ts rest : Tokens} {some : List RawItem} → IsItem ts some rest → items_pass is_counted some ≡ true
+item_counts (IsItem.include b) = refl
+item_counts (IsItem.tag key) = refl
+item_counts (IsItem.structure key h) = refl
+item_counts (IsItem.globals s b h) = globals_count h (base_written b)
+item_counts (IsItem.prototype h) = refl
+item_counts (IsItem.definition h named k) = both_true is_counted (statements_count k) refl
+
+items_count : {ts rest : Tokens} {all : List RawItem} → AreItems ts all rest → items_pass is_counted all ≡ true
+items_count AreItems.done = refl
+items_count (AreItems.more {some} {all} h k) = items_append is_counted some all (item_counts h) (items_count k)
+
+-- In a text of the grammar a length is left to a list only where one with an item follows.
+pub lists_counted : {ts : Tokens} (raw : RawProgram) → IsProgram ts raw → items_pass is_counted raw.items ≡ true
+lists_counted raw h = items_count h
+
+-- ---- two tests
+
+abbrev BothPass : RawStatement → Type 0
+BothPass x = declarations_pass is_counted x ≡ true → declarations_pass is_short x ≡ true → declarations_pass is_fine x ≡ true
+
+abbrev ArmBothPass : RawArm → Type 0
+ArmBothPass x = arm_passes is_counted x ≡ true → arm_passes is_short x ≡ true → arm_passes is_fine x ≡ true
+
+lists_both : (xs : List ((x : RawStatement) × BothPass x)) → list_passes is_counted (map (λ (x : (y : RawStatement) × BothPass y). x.0) xs) ≡ true → list_passes is_short (map (λ (x : (y : RawStatement) × BothPass y). x.0) xs) ≡ true
+    → list_passes is_fine (map (λ (x : (y : RawStatement) × BothPass y). x.0) xs) ≡ true
+lists_both [] h k = refl
+lists_both (x ∷ xs) h k =
+    let p = and_parts (declarations_pass is_counted x.0) _ h in
+    let q = and_parts (declarations_pass is_short x.0) _ k in
+    both_true is_fine (x.1 p.0 q.0) (lists_both xs p.1 q.1)
+
+arms_both : (xs : List ((x : RawArm) × ArmBothPass x)) → all_true (map (arm_passes is_counted) (map (λ (x : (y : RawArm) × ArmBothPass y). x.0) xs)) ≡ true → all_true (map (arm_passes is_short) (map (λ (x : (y : RawArm) × ArmBothPass y). x.0) xs)) ≡ true
+    → all_true (map (arm_passes is_fine) (map (λ (x : (y : RawArm) × ArmBothPass y). x.0) xs)) ≡ true
+arms_both [] h k = refl
+arms_both (x ∷ xs) h k =
+    let p = and_parts (arm_passes is_counted x.0) _ h in
+    let q = and_parts (arm_passes is_short x.0) _ k in
+    both_true is_fine (x.1 p.0 q.0) (arms_both xs p.1 q.1)
+
+abbrev step_passes : (RawVar → RawInit → Bool) → RawStatement-F RawStatement RawArm → Bool
+step_passes test y = declares_step test (map-RawStatement RawStatement RawArm Bool Bool (declarations_pass test) (arm_passes test) y)
+
+layer_both : (y : StatementParts BothPass ArmBothPass) → step_passes is_counted (statement_layer BothPass ArmBothPass y) ≡ true → step_passes is_short (statement_layer BothPass ArmBothPass y) ≡ true → step_passes is_fine (statement_layer BothPass ArmBothPass y) ≡ true
+layer_both (RawStatement-F.Declare l v i) h k = both_true is_fine h k
+layer_both (RawStatement-F.Assign l a op b) h k = refl
+layer_both (RawStatement-F.Bump l a up before) h k = refl
+layer_both (RawStatement-F.Call l to f args) h k = refl
+layer_both (RawStatement-F.Heap l to cast n) h k = refl
+layer_both (RawStatement-F.If l a b c) h k =
+    let p = and_parts (list_passes is_counted (map (λ (x : (y : RawStatement) × BothPass y). x.0) b)) _ h in
+    let q = and_parts (list_passes is_short (map (λ (x : (y : RawStatement) × BothPass y). x.0) b)) _ k in
+    both_true is_fine (lists_both b p.0 q.0) (lists_both c p.1 q.1)
+layer_both (RawStatement-F.While l a b) h k = lists_both b h k
+layer_both (RawStatement-F.Do l a b) h k = lists_both b h k
+layer_both (RawStatement-F.For l None a None b) h k = lists_both b h k
+layer_both (RawStatement-F.For l None a (Some x) b) h k =
+    let p = and_parts (declarations_pass is_counted x.0) _ h in
+    let q = and_parts (declarations_pass is_short x.0) _ k in
+    both_true is_fine (x.1 p.0 q.0) (lists_both b p.1 q.1)
+layer_both (RawStatement-F.For l (Some i) a None b) h k =
+    let p = and_parts (declarations_pass is_counted i.0) _ h in
+    let q = and_parts (declarations_pass is_short i.0) _ k in
+    both_true is_fine (i.1 p.0 q.0) (lists_both b p.1 q.1)
+layer_both (RawStatement-F.For l (Some i) a (Some x) b) h k =
+    let p = and_parts (declarations_pass is_counted i.0) _ h in
+    let q = and_parts (declarations_pass is_short i.0) _ k in
+    let r = and_parts (declarations_pass is_counted x.0) _ p.1 in
+    let t = and_parts (declarations_pass is_short x.0) _ q.1 in
+    both_true is_fine (i.1 p.0 q.0) (both_true is_fine (x.1 r.0 t.0) (lists_both b r.1 t.1))
+layer_both (RawStatement-F.Switch l a arms) h k = arms_both arms h k
+layer_both (RawStatement-F.Block l b) h k = lists_both b h k
+layer_both (RawStatement-F.Return l a) h k = refl
+
+both_pass : (x : RawStatement) → BothPass x
+both_pass = of_every_statement BothPass ArmBothPass
+    (λ y h k. passes is_fine (statement_layer BothPass ArmBothPass y) ∙ layer_both y (sym (passes is_counted (statement_layer BothPass ArmBothPass y)) ∙ h) (sym (passes is_short (statement_layer BothPass ArmBothPass y)) ∙ k))
+    (λ y h k. arm_rolled is_fine (arm_layer BothPass ArmBothPass y) ∙ lists_both y.body (sym (arm_rolled is_counted (arm_layer BothPass ArmBothPass y)) ∙ h) (sym (arm_rolled is_short (arm_layer BothPass ArmBothPass y)) ∙ k))
+  where
+    arm_rolled : (test : RawVar → RawInit → Bool) (y : RawArm-F RawStatement RawArm) → arm_passes test (roll-RawArm y) ≡ list_passes test y.body
+    arm_rolled test y = fold-roll-RawArm Bool Bool (declares_step test) arm_declares y
+
+bodies_both : (xs : List RawStatement) → list_passes is_counted xs ≡ true → list_passes is_short xs ≡ true → list_passes is_fine xs ≡ true
+bodies_both [] h k = refl
+bodies_both (x ∷ xs) h k =
+    let p = and_parts (declarations_pass is_counted x) _ h in
+    let q = and_parts (declarations_pass is_short x) _ k in
+    both_true is_fine (both_pass x p.0 q.0) (bodies_both xs p.1 q.1)
+
+item_both : (x : RawItem) → item_passes is_counted x ≡ true → item_passes is_short x ≡ true → item_passes is_fine x ≡ true
+item_both (item.Include b) h k = refl
+item_both (item.Tag l w) h k = refl
+item_both (item.Struct l w members) h k = refl
+item_both (item.Global l v i b) h k = both_true is_fine h k
+item_both (item.Prototype l hd) h k = refl
+item_both (item.Define l hd body) h k = bodies_both body h k
+
+pub items_both : (xs : List RawItem) → items_pass is_counted xs ≡ true → items_pass is_short xs ≡ true → items_pass is_fine xs ≡ true
+items_both [] h k = refl
+items_both (x ∷ xs) h k =
+    let p = and_parts (item_passes is_counted x) _ h in
+    let q = and_parts (item_passes is_short x) _ k in
+    both_true is_fine (item_both x p.0 q.0) (items_both xs p.1 q.1)
+
+-- ---- the layout keeps how many items a list has
+
+abbrev ShortKept : RawStatement → Type 0
+ShortKept x = declarations_pass is_short (settled x) ≡ declarations_pass is_short x
+
+abbrev ArmShortKept : RawArm → Type 0
+ArmShortKept x = arm_passes is_short (settled_arm x) ≡ arm_passes is_short x
+
+lists_kept : (xs : List ((x : RawStatement) × ShortKept x)) → list_passes is_short (map settled (map (λ (x : (y : RawStatement) × ShortKept y). x.0) xs)) ≡ list_passes is_short (map (λ (x : (y : RawStatement) × ShortKept y). x.0) xs)
+lists_kept [] = refl
+lists_kept (x ∷ xs) = ap₂ (λ (a b : Bool). a && b) x.1 (lists_kept xs)
+
+arms_kept : (xs : List ((x : RawArm) × ArmShortKept x)) → all_true (map (arm_passes is_short) (map settled_arm (map (λ (x : (y : RawArm) × ArmShortKept y). x.0) xs))) ≡ all_true (map (arm_passes is_short) (map (λ (x : (y : RawArm) × ArmShortKept y). x.0) xs))
+arms_kept [] = refl
+arms_kept (x ∷ xs) = ap₂ (λ (a b : Bool). a && b) x.1 (arms_kept xs)
+
+layer_kept : (y : StatementParts ShortKept ArmShortKept) → step_passes is_short (kept_layer (statement_layer ShortKept ArmShortKept y)) ≡ step_passes is_short (statement_layer ShortKept ArmShortKept y)
+layer_kept (RawStatement-F.Declare l v i) = refl
+layer_kept (RawStatement-F.Assign l a op b) = refl
+layer_kept (RawStatement-F.Bump l a up before) = refl
+layer_kept (RawStatement-F.Call l to f args) = refl
+layer_kept (RawStatement-F.Heap l to cast n) = refl
+layer_kept (RawStatement-F.If l a b c) = ap₂ (λ (x y : Bool). x && y) (lists_kept b) (lists_kept c)
+layer_kept (RawStatement-F.While l a b) = lists_kept b
+layer_kept (RawStatement-F.Do l a b) = lists_kept b
+layer_kept (RawStatement-F.For l None a None b) = lists_kept b
+layer_kept (RawStatement-F.For l None a (Some x) b) = ap₂ (λ (x y : Bool). x && y) x.1 (lists_kept b)
+layer_kept (RawStatement-F.For l (Some i) a None b) = ap₂ (λ (x y : Bool). x && y) i.1 (lists_kept b)
+layer_kept (RawStatement-F.For l (Some i) a (Some x) b) = ap₂ (λ (x y : Bool). x && y) i.1 (ap₂ (λ (x y : Bool). x && y) x.1 (lists_kept b))
+layer_kept (RawStatement-F.Switch l a arms) = arms_kept arms
+layer_kept (RawStatement-F.Block l b) = lists_kept b
+layer_kept (RawStatement-F.Return l a) = refl
+
+short_kept : (x : RawStatement) → ShortKept x
+short_kept = of_every_statement ShortKept ArmShortKept
+    (λ y. let l = statement_layer ShortKept ArmShortKept y in
+    ap (declarations_pass is_short) (settled_layer l) ∙ passes is_short (kept_layer l) ∙ layer_kept y ∙ sym (passes is_short l))
+    (λ y. let l = arm_layer ShortKept ArmShortKept y in
+    ap (arm_passes is_short) (settled_arm_layer l) ∙ fold-roll-RawArm Bool Bool (declares_step is_short) arm_declares (map-RawArm RawStatement RawArm RawStatement RawArm settled settled_arm l) ∙ lists_kept y.body
+    ∙ sym (fold-roll-RawArm Bool Bool (declares_step is_short) arm_declares l))
+
+bodies_kept : (xs : List RawStatement) → list_passes is_short (map settled xs) ≡ list_passes is_short xs
+bodies_kept [] = refl
+bodies_kept (x ∷ xs) = ap₂ (λ (a b : Bool). a && b) (short_kept x) (bodies_kept xs)
+
+item_kept : (x : RawItem) → item_passes is_short (settled_item x) ≡ item_passes is_short x
+item_kept (item.Include b) = refl
+item_kept (item.Tag l w) = refl
+item_kept (item.Struct l w members) = refl
+item_kept (item.Global l v i b) = refl
+item_kept (item.Prototype l hd) = refl
+item_kept (item.Define l hd body) = bodies_kept body
+
+pub items_kept : (xs : List RawItem) → items_pass is_short (map settled_item xs) ≡ items_pass is_short xs
+items_kept [] = refl
+items_kept (x ∷ xs) = ap₂ (λ (a b : Bool). a && b) (item_kept x) (items_kept xs)

@@ -1,0 +1,87 @@
+-- Where a value that is computed from options is there, the options are.
+use Rattle.std.proofs.Common.{◌≡◌, ℕ, zero, suc, List, [], ◌∷◌, Option, Some, None, refl, sym, ap, ap₂, subst, ◌∙◌, map, slice_get}
+use Rattle.std.specs.Prelude.{option_map, option_and_then}
+use Rattle.std.specs.Option.{unwrap_or}
+use Rattle.c_language.specs.ConstantEvaluation.{both}
+use Rattle.c_language.specs.ProgramOf.{collected}
+
+abbrev pub IsThere : {A : Type 0} → Option A → Type 0
+IsThere None = ⊥
+IsThere (Some x) = Unit {0}
+
+pub none_there : {A B : Type 0} {x : A} → ◌≡◌ {A = Option A} None (Some x) → B
+none_there h = absurd (subst IsThere (sym h) tt)
+
+pub some_same : {A : Type 0} {x y : A} → ◌≡◌ {A = Option A} (Some x) (Some y) → x ≡ y
+some_same {x} h = ap (λ (o : Option _). unwrap_or o x) h
+
+-- a value with what it gives
+pub record Gives {A B : Type 0} (x : Option A) (f : A → B) (y : B) : Type 0 where
+  pub value : A
+  pub there : x ≡ Some value
+  pub same : f value ≡ y
+
+pub map_there : {A B : Type 0} (f : A → B) (x : Option A) (y : B) → option_map f x ≡ Some y → Gives x f y
+map_there f None y h = none_there h
+map_there f (Some a) y h = record { value = a; there = refl; same = some_same h }
+
+pub then_there : {A B : Type 0} (f : A → Option B) (x : Option A) (y : B) → option_and_then f x ≡ Some y → Gives x f (Some y)
+then_there f None y h = none_there h
+then_there f (Some a) y h = record { value = a; there = refl; same = h }
+
+-- two values with what they give
+pub record GivesBoth {A B C : Type 0} (x : Option A) (y : Option B) (f : A → B → C) (z : C) : Type 0 where
+  pub left : A
+  pub right : B
+  pub left_there : x ≡ Some left
+  pub right_there : y ≡ Some right
+  pub same : f left right ≡ z
+
+pub both_there : {A B C : Type 0} (f : A → B → C) (x : Option A) (y : Option B) (z : C) → both f x y ≡ Some z → GivesBoth x y f z
+both_there f None y z h = none_there h
+both_there f (Some a) None z h = none_there h
+both_there f (Some a) (Some b) z h = record { left = a; right = b; left_there = refl; right_there = refl; same = some_same h }
+
+-- ---- lists
+
+pub collected_are : {A : Type 0} (xs : List (Option A)) (ys : List A) → collected xs ≡ Some ys → xs ≡ map Some ys
+collected_are [] ys h = ap (map Some) (some_same h)
+collected_are (None ∷ xs) ys h = none_there h
+collected_are (Some x ∷ xs) ys h =
+    let g = map_there (λ (zs : List _). x ∷ zs) (collected xs) ys h in
+    ap (λ (zs : List (Option _)). Some x ∷ zs) (collected_are xs g.value g.there) ∙ ap (map Some) g.same
+
+abbrev pub IsCons : {A : Type 0} → List A → Type 0
+IsCons [] = ⊥
+IsCons (a ∷ all) = Unit {0}
+
+pub cons_nil : {A B : Type 0} (a : A) (all : List A) → ◌≡◌ {A = List A} (a ∷ all) [] → B
+cons_nil a all h = absurd (subst IsCons h tt)
+
+abbrev pub first_or : {A : Type 0} → A → List A → A
+first_or d [] = d
+first_or d (a ∷ all) = a
+
+abbrev pub behind_first : {A : Type 0} → List A → List A
+behind_first [] = []
+behind_first (a ∷ all) = all
+
+pub first_same : {A : Type 0} {a b : A} {as_ bs : List A} → ◌≡◌ {A = List A} (a ∷ as_) (b ∷ bs) → a ≡ b
+first_same {a} h = ap (first_or a) h
+
+pub rest_same : {A : Type 0} {a b : A} {as_ bs : List A} → ◌≡◌ {A = List A} (a ∷ as_) (b ∷ bs) → as_ ≡ bs
+rest_same h = ap behind_first h
+
+-- what stands at a place of one list stands there in the other
+pub place_of : {A B : Type 0} (f : A → Option B) (xs : List A) (ys : List B) (i : ℕ) (x : A) → map f xs ≡ map Some ys → slice_get xs i ≡ Some x → Gives (f x) Some (slice_get ys i)
+place_of f [] ys i x h g = none_there g
+place_of f (a ∷ xs) [] i x h g = cons_nil (f a) (map f xs) h
+place_of f (a ∷ xs) (y ∷ ys) zero x h g = record { value = y; there = ap f (sym (some_same g)) ∙ first_same h; same = refl }
+place_of f (a ∷ xs) (y ∷ ys) (suc i) x h g = place_of f xs ys i x (rest_same h) g
+
+-- two lists are the same to functions that agree where a third one is there
+pub alike : {A B C : Type 0} (f : A → Option B) (g : A → C) (k : B → C) (xs : List A) (ys : List B) → ((x : A) (y : B) → f x ≡ Some y → k y ≡ g x) → map f xs ≡ map Some ys → map k ys ≡ map g xs
+alike f g k [] [] same h = refl
+alike f g k [] (y ∷ ys) same h = cons_nil (Some y) (map Some ys) (sym h)
+alike f g k (x ∷ xs) [] same h = cons_nil (f x) (map f xs) h
+alike f g k (x ∷ xs) (y ∷ ys) same h = ap₂ (λ (c : _) (cs : List _). c ∷ cs) (same x y (first_same h)) (alike f g k xs ys same (rest_same h))

@@ -1,0 +1,7 @@
+use Rattle.std.proofs.Common.{List, ap}
+use Rattle.c_tree.specs.declared.raw.program.RawItem.{RawItem}
+use Rattle.c_print_laws.proofs.ReadAgain.{same_in_layout}
+use Rattle.c_print_laws.proofs.layout_keeps_programs.Goals as goal
+
+pub returns : goal.returns
+returns c = λ ts next raw found p g k same short keeps is. same_in_layout raw found p g k (ap (λ (xs : List RawItem). record { items = xs }) same) short keeps is

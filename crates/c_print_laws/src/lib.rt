@@ -1,0 +1,34 @@
+//! What is printed of a program is read again: laws over the layout of programs.
+//!
+//! Each function is a law, and holds no code: its contract is the law, over the definitions of
+//! `specs/ReadAgain`.
+#![tactic(auto)]
+
+ghost use Rattle.c_print_laws.specs.ReadAgain.{LayoutIsOfText, LayoutKeepsPrograms, LayoutIsReadAgain, LayoutHasNoLines, LimitsAreSame};
+
+/// A law: the layout of the program of a text is that of the text's tree.
+pub fn layout_is_of_text()
+    ensures { LayoutIsOfText }
+{}
+
+/// A law: of two trees that are the same in all that the layout keeps, one keeps the rules where
+/// the other does, and they have one program but for lines.
+pub fn layout_keeps_programs()
+    ensures { LayoutKeepsPrograms }
+{}
+
+/// A law: the layout of a program that is that of a text but for lines is read again as the
+/// program but for lines.
+pub fn layout_is_read_again()
+    ensures { LayoutIsReadAgain }
+{}
+
+/// A law: limits on arrays and objects don't depend on lines.
+pub fn limits_are_same()
+    ensures { LimitsAreSame }
+{}
+
+/// A law: programs that are the same but for lines have one layout.
+pub fn layout_has_no_lines()
+    ensures { LayoutHasNoLines }
+{}

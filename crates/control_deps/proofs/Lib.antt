@@ -1,0 +1,9 @@
+pub mod Grown
+pub mod WalkLemmas
+pub mod Rules
+pub mod AttachedLemmas
+pub mod Membership
+pub mod CodeLaws
+pub mod StatementLaws
+pub mod AttachedLaws
+pub mod ControlLaws

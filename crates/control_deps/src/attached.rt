@@ -1,0 +1,57 @@
+//! The control edges of formals and actuals, as pairs of vertices.
+ghost use Rattle.std.specs.Prelude.{◌≡◌, ◌++◌, ◌<◌, ◌^◌, OnOk, length};
+ghost use Rattle.dep_model.specs.Groups.{row};
+ghost use Rattle.control_deps.specs.Attached.{keepers_of, keepers, attached_from};
+ghost use Rattle.control_deps.specs.Walk as spec;
+
+use crate::walk::join_one;
+use c_tree::FunctionId;
+use dep_model::{Pair, StatementVertices, Vertex, VertexKind};
+use std::alloc::AllocError;
+
+// The vertices that a vertex hangs on.
+fn keepers_of<'a>(entry: &'a [u32], own: &'a StatementVertices, kind: VertexKind) -> &'a [u32]
+    ensures { result.now ≡ keepers_of entry.now (row own.now) kind }
+{
+    match kind {
+        VertexKind::FormalIn(_) | VertexKind::FormalOut(_) => entry,
+        VertexKind::ActualIn(id, _) | VertexKind::ActualOut(id, _) => own.row(id),
+        VertexKind::Entry | VertexKind::Statement(_) | VertexKind::Call(_) => &[],
+    }
+}
+
+// Appends the edges to one vertex.
+fn attach_one(
+    out: &mut Vec<Pair>,
+    entry: &[u32],
+    own: &StatementVertices,
+    function: FunctionId,
+    number: u32,
+    vertex: &Vertex,
+) -> Result<(), AllocError>
+    ensures { OnOk result (out.new.items ≡ out.old.items ++ spec.from_all (keepers entry.now (row own.now) function vertex.now) number) }
+{
+    if vertex.function == function {
+        join_one(out, keepers_of(entry, own, vertex.kind), number)?;
+    }
+    Ok(())
+}
+
+/// Appends the edges to the formals and actuals of a function.
+pub(crate) fn attach(
+    out: &mut Vec<Pair>,
+    entry: &[u32],
+    own: &StatementVertices,
+    function: FunctionId,
+    vertices: &[Vertex],
+) -> Result<(), AllocError>
+    requires few { length vertices.now < 2 ^ 32 }
+    ensures { OnOk result (out.new.items ≡ out.old.items ++ attached_from (keepers entry.now (row own.now) function) 0 vertices.now) }
+{
+    let mut number = 0u32;
+    for vertex in vertices {
+        attach_one(out, entry, own, function, number, vertex)?;
+        number += 1;
+    }
+    Ok(())
+}
