@@ -1,0 +1,3 @@
+pub mod StatementReading
+pub mod ItemReading
+pub mod Verdict

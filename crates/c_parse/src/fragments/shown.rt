@@ -1,0 +1,95 @@
+//! Tokens of a text, and what is read of them as texts.
+use crate::statement::braced;
+use c_language::{Token, TokenKind};
+use c_parse_expr::cursor::Cursor;
+use c_parse_expr::fault::Stop;
+use c_tree::{Items, RawExpr, RawStatement, RawType, Text};
+use std::alloc::{AllocError, Global};
+
+fn kind_of(word: &[u8]) -> TokenKind {
+    match word.first() {
+        Some(b'0'..=b'9') => TokenKind::Number,
+        Some(b'\'') => TokenKind::Character,
+        Some(b'"') => TokenKind::Str,
+        Some(b'#') => TokenKind::Directive,
+        Some(b'a'..=b'z') | Some(b'A'..=b'Z') | Some(b'_') => TokenKind::Name,
+        _ => {
+            if word.starts_with(b"<std".as_slice()) {
+                TokenKind::Include
+            } else {
+                TokenKind::Mark
+            }
+        }
+    }
+}
+
+/// The tokens of a text with a blank or a line feed behind each.
+pub fn tokens_of(alloc: Global, text: &[u8]) -> Result<Vec<Token>, AllocError> {
+    let mut tokens = Vec::new(alloc);
+    let mut word = Text::new(alloc);
+    let mut line: u32 = 1;
+    for byte in text {
+        if *byte == b' ' || *byte == b'\n' {
+            let kind = kind_of(word.bytes());
+            tokens.push(Token {
+                kind,
+                text: word,
+                line,
+            })?;
+            word = Text::new(alloc);
+        } else {
+            word.append(&[*byte])?;
+        }
+        if *byte == b'\n' {
+            line = line.saturating_add(1);
+        }
+    }
+    Ok(tokens)
+}
+
+/// The text of the token before which so many are left, or `end`.
+pub fn text_at(tokens: &[Token], left: usize) -> &[u8] {
+    let at = tokens.len().saturating_sub(left);
+    match tokens.get(at) {
+        Some(token) => token.text.bytes(),
+        None => b"end".as_slice(),
+    }
+}
+
+/// The statements behind an opening brace, and how many tokens are left behind them.
+pub fn read(alloc: Global, tokens: &[Token]) -> (Result<Items<RawStatement>, Stop>, usize) {
+    let mut cursor = Cursor::new(tokens);
+    let outcome = braced(alloc, &mut cursor, 100);
+    (outcome, cursor.left())
+}
+
+/// A name or a constant as it is written, and else the form.
+pub fn short(expr: &RawExpr) -> &[u8] {
+    match expr {
+        RawExpr::Constant(text) | RawExpr::Variable(text) => text.bytes(),
+        RawExpr::Null => b"null".as_slice(),
+        RawExpr::Eof => b"eof".as_slice(),
+        RawExpr::Paren(_) => b"paren".as_slice(),
+        RawExpr::Index(_, _) => b"index".as_slice(),
+        RawExpr::Member(_, _) => b"member".as_slice(),
+        RawExpr::Arrow(_, _) => b"arrow".as_slice(),
+        RawExpr::Unary(_, _) => b"unary".as_slice(),
+        RawExpr::Deref(_) => b"deref".as_slice(),
+        RawExpr::AddressOf(_) => b"address".as_slice(),
+        RawExpr::Cast(_, _) => b"cast".as_slice(),
+        RawExpr::Binary(_, _, _) => b"binary".as_slice(),
+        RawExpr::AndAlso(_, _) => b"and".as_slice(),
+        RawExpr::OrElse(_, _) => b"or".as_slice(),
+        RawExpr::Choose(_, _, _) => b"choose".as_slice(),
+    }
+}
+
+/// The form of a type, or the tag of a struct type.
+pub fn short_type(shape: &RawType) -> &[u8] {
+    match shape {
+        RawType::Integer(_) => b"integer".as_slice(),
+        RawType::Struct(tag) => tag.bytes(),
+        RawType::PointerTo(_) => b"pointer".as_slice(),
+        RawType::Array(_, _) => b"array".as_slice(),
+    }
+}

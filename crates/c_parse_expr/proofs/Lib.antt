@@ -1,0 +1,10 @@
+pub mod Tests
+pub mod Turns
+pub mod IntLaws
+pub mod ExprLaws
+pub mod ExprSound
+pub mod ExprDeep
+pub mod TypeLaws
+pub mod TypeSound
+pub mod TypeDeep
+pub mod TightLaws

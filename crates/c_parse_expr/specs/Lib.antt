@@ -1,0 +1,4 @@
+pub mod Outcome
+pub mod IntReading
+pub mod ExprReading
+pub mod TypeReading

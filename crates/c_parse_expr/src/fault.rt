@@ -1,0 +1,23 @@
+ghost use Rattle.std.specs.Prelude.{◌≡◌};
+ghost use Rattle.c_parse_expr.specs.declared.fault.Stop.TheVariants.{Memory};
+
+use std::alloc::AllocError;
+
+/// Why nothing is read, with how many tokens were left there.
+#[derive(Debug, Drop)]
+pub enum Stop {
+    Memory,
+    Syntax(usize),
+    /// A construct that the language leaves out begins there.
+    LeftOut(usize),
+    /// The tokens nest deeper than allowed.
+    Deep(usize),
+}
+
+impl From<AllocError> for Stop {
+    ghost from_gives = { λ _ e. e ≡ Memory };
+
+    fn from(_error: AllocError) -> Stop {
+        Stop::Memory
+    }
+}

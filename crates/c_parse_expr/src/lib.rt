@@ -1,0 +1,15 @@
+//! Reading expressions, types and declarators from left to right (ISO C99 6.5, 6.7), with one token in hand, or two.
+#![tactic(auto)]
+
+pub mod cursor;
+pub mod expr;
+pub mod fault;
+pub mod forms;
+#[cfg(test)]
+mod fragments;
+pub mod int_words;
+pub mod nested;
+pub mod params;
+pub mod shape;
+pub mod suffix;
+pub mod types;

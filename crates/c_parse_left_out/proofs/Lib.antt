@@ -1,0 +1,4 @@
+pub mod PlaceLemmas
+pub mod TellingLaws
+pub mod NamingLaws
+pub mod AroundLemmas

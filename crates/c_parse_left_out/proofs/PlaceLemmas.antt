@@ -1,0 +1,95 @@
+-- Tokens at a place of a list, those before it, the nearest first, and those behind it.
+use Rattle.std.proofs.Common.{◌≡◌, ℕ, zero, suc, ◌+◌, ◌-◌, ◌≤◌, ◌<◌, List, [], ◌∷◌, ◌++◌, length, take, drop, reverse, refl, sym, ap, ◌∙◌, arith, true, false, Some, None, codes, slice_get}
+use Rattle.std.proofs.lemmas.Option.{slice_get_past, slice_get-get_or}
+use Rattle.std.proofs.lemmas.List.{get_or-reverse, length-reverse, reverse-append}
+use Rattle.c_language.specs.Words.{Bytes}
+use Rattle.c_language.specs.TokenForms.{Tokens}
+use Rattle.c_language.specs.Sees.{is_token, is_some_token}
+use Rattle.c_language.specs.LeftOut.{open_braces, behind_semicolon}
+use Rattle.c_language.specs.declared.token.Token.{Token}
+use Rattle.c_language.specs.declared.token.TokenKind.{TokenKind}
+use Rattle.c_language.specs.declared.token.TokenKind.TheVariants.{Mark}
+use Rattle.c_parse_left_out.specs.Telling.{told, first_told, braces_behind}
+
+-- ---- counted back
+
+pub back_get : (ts : Tokens) (k : ℕ) → k < length ts → slice_get (reverse ts) k ≡ slice_get ts (length ts - 1 - k)
+back_get [] k p = absurd (omega (arith, p))
+back_get (t ∷ ts) k p =
+    let e = length-reverse (t ∷ ts) in
+    slice_get-get_or (reverse (t ∷ ts)) k t (omega (arith, p, e)) ∙ (ap (λ x. Some x) (get_or-reverse (t ∷ ts) k t p) ∙ sym (slice_get-get_or (t ∷ ts) (length (t ∷ ts) - 1 - k) t (omega (arith, p))))
+
+pub back_none : (ts : Tokens) (k : ℕ) → length ts ≤ k → slice_get (reverse ts) k ≡ None
+back_none ts k p = let e = length-reverse ts in slice_get_past (reverse ts) k (omega (arith, p, e))
+
+pub back_token : (kind : TokenKind) (text : Bytes) (ts : Tokens) (k : ℕ) → k < length ts → is_some_token kind text (slice_get ts (length ts - 1 - k)) ≡ is_some_token kind text (slice_get (reverse ts) k)
+back_token kind text ts k p = ap (is_some_token kind text) (sym (back_get ts k p))
+
+pub back_nothing : (kind : TokenKind) (text : Bytes) (ts : Tokens) (k : ℕ) → length ts ≤ k → false ≡ is_some_token kind text (slice_get (reverse ts) k)
+back_nothing kind text ts k p = sym (ap (is_some_token kind text) (back_none ts k p))
+
+-- ---- one token further
+
+record Next (at : ℕ) (ts : Tokens) (t : Token) (behind : Tokens) : Type 0 where
+  taken : take (suc at) ts ≡ take at ts ++ t ∷ []
+  left : drop (suc at) ts ≡ behind
+
+next : (at : ℕ) (ts : Tokens) (t : Token) (behind : Tokens) → drop at ts ≡ t ∷ behind → Next at ts t behind
+next zero [] t behind h = absurd cc
+next zero (u ∷ ts) t behind h = record { taken = (let e : u ≡ t = cc in ap (λ x. x ∷ []) e); left = (let e : ts ≡ behind = cc in e) }
+next (suc at) [] t behind h = absurd cc
+next (suc at) (u ∷ ts) t behind h = let x = next at ts t behind h in record { taken = ap (λ r. u ∷ r) x.taken; left = x.left }
+
+pub before_next : (at : ℕ) (ts : Tokens) (t : Token) (behind : Tokens) → drop at ts ≡ t ∷ behind → reverse (take (at + 1) ts) ≡ t ∷ reverse (take at ts)
+before_next at ts t behind h =
+    let x = next at ts t behind h in
+    let e : at + 1 ≡ suc at = omega arith in
+    ap (λ n. reverse (take n ts)) e ∙ (ap reverse x.taken ∙ reverse-append (take at ts) (t ∷ []))
+
+pub behind_next : (at : ℕ) (ts : Tokens) (t : Token) (behind : Tokens) → drop at ts ≡ t ∷ behind → drop (at + 1) ts ≡ behind
+behind_next at ts t behind h =
+    let x = next at ts t behind h in
+    let e : at + 1 ≡ suc at = omega arith in
+    ap (λ n. drop n ts) e ∙ x.left
+
+-- ---- looking for a construct
+
+pub told_here : (at : ℕ) (ts : Tokens) (t : Token) (behind : Tokens) → drop at ts ≡ t ∷ behind → told (reverse (take at ts)) t behind ≡ true → first_told at (reverse (take at ts)) (drop at ts) ≡ Some at
+unfolding first_told
+told_here at ts t behind h is = ap (first_told at (reverse (take at ts))) h ∙ rw is refl
+
+pub told_later : (at : ℕ) (ts : Tokens) (t : Token) (behind : Tokens) → drop at ts ≡ t ∷ behind → told (reverse (take at ts)) t behind ≡ false
+    → first_told at (reverse (take at ts)) (drop at ts) ≡ first_told (at + 1) (reverse (take (at + 1) ts)) (drop (at + 1) ts)
+unfolding first_told
+told_later at ts t behind h isnt =
+    ap (first_told at (reverse (take at ts))) h ∙ (rw isnt refl ∙ (ap (λ b. first_told (at + 1) b behind) (sym (before_next at ts t behind h)) ∙ ap (first_told (at + 1) (reverse (take (at + 1) ts))) (sym (behind_next at ts t behind h))))
+
+pub open_next : (at : ℕ) (ts : Tokens) (t : Token) (behind : Tokens) (n : ℕ) → drop at ts ≡ t ∷ behind → n ≡ open_braces (reverse (take at ts)) → braces_behind t n ≡ open_braces (reverse (take (at + 1) ts))
+unfolding open_braces
+open_next at ts t behind n h e = ap (braces_behind t) e ∙ ap open_braces (sym (before_next at ts t behind h))
+
+pub nowhere : (ts : Tokens) (at : ℕ) (before : Tokens) → drop at ts ≡ [] → first_told at before (drop at ts) ≡ None
+unfolding first_told
+nowhere ts at before h = ap (first_told at before) h
+
+-- ---- behind the first semicolon
+
+pub semicolon_here : (at : ℕ) (ts : Tokens) (t : Token) (behind : Tokens) → drop at ts ≡ t ∷ behind → is_token Mark (codes ";") t ≡ true → behind_semicolon (drop at ts) ≡ behind
+unfolding behind_semicolon
+semicolon_here at ts t behind h is = ap behind_semicolon h ∙ rw is refl
+
+pub semicolon_later : (at : ℕ) (ts : Tokens) (t : Token) (behind : Tokens) → drop at ts ≡ t ∷ behind → is_token Mark (codes ";") t ≡ false → behind_semicolon (drop at ts) ≡ behind_semicolon behind
+unfolding behind_semicolon
+semicolon_later at ts t behind h isnt = ap behind_semicolon h ∙ rw isnt refl
+
+-- ---- at the end
+
+pub drop_all : {A : Type 0} (n : ℕ) (xs : List A) → length xs ≤ n → drop n xs ≡ []
+drop_all zero [] p = refl
+drop_all zero (x ∷ xs) p = absurd (omega (arith, p))
+drop_all (suc n) [] p = refl
+drop_all (suc n) (x ∷ xs) p = drop_all n xs (omega (arith, p))
+
+pub no_semicolon : (at : ℕ) (ts : Tokens) → length ts ≤ at → behind_semicolon (drop at ts) ≡ []
+unfolding behind_semicolon
+no_semicolon at ts p = ap behind_semicolon (drop_all at ts p)

@@ -1,0 +1,15 @@
+use Rattle.std.proofs.Common.{arith, ◌≡◌, ◌<◌, ◌-◌, length, ap, sym, ◌∙◌, slice_get, Some}
+use Rattle.std.specs.Option.{option_copied}
+use Rattle.c_parse_left_out.proofs.AroundLemmas.{colons_nearer}
+use Rattle.c_parse_left_out.proofs.around.owes_no_colon.Goals as goal
+
+pub owed_behind-owed-requires : goal.owed_behind-owed-requires
+owed_behind-owed-requires c = let few = c.loop-turn.invariant.1 in omega (arith, few, c.loop-turn-test.true, c.loop-turn.auto.turn-end)
+
+pub loop-turn-preserved : goal.loop-turn-preserved
+loop-turn-preserved c =
+    let here : slice_get c.args.before.now (length c.args.before.now - 1 - c.loop-turn.turn) ≡ Some c.in-Some.token.now = sym c.far.ensures ∙ ap option_copied c.in-Some.is in
+    let few = c.loop-turn.invariant.1 in
+    let one = c.owed_behind-owed.ensures.few in
+    let below : c.loop-turn.turn < length c.args.before.now = omega (arith, c.loop-turn-test.true, c.len-turn-end.ensures) in
+    (c.owed_behind-owed.ensures.value ∙ colons_nearer c.loop-turn.turn c.loop-turn.owed c.args.before.now c.in-Some.token.now below here c.loop-turn.invariant.0, omega (arith, few, one))
