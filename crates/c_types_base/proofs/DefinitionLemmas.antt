@@ -1,0 +1,96 @@
+-- The tables of what a text defines grow item by item.
+use Rattle.std.proofs.Common.{◌≡◌, ℕ, zero, suc, List, [], ◌∷◌, ◌++◌, map, Bool, true, false, cond, Option, Some, None, option_map, position, bytes_eq, refl, sym, ap, subst, ◌∙◌}
+use Rattle.std.specs.Borrow.{Bor}
+use Rattle.std.proofs.lemmas.List.{append-nil}
+use Rattle.c_tree.specs.declared.raw.program.RawMember.{RawMember}
+use Rattle.c_tree.specs.declared.raw.program.RawHead.{RawHead}
+use Rattle.c_tree.specs.declared.raw.statement.RawStatement.{RawStatement}
+use Rattle.c_language.specs.Words.{Bytes}
+use Rattle.c_types_base.specs.declared.definitions.Definitions.{Definitions}
+use Rattle.c_tree.specs.declared.raw.program.RawItem.{RawItem}
+use Rattle.c_tree.specs.declared.raw.program.RawItem.TheVariants.{Include, Tag, Struct, Global, Prototype, Define}
+use Rattle.c_language.specs.DeclaredTypes.{StructText, structs_of, functions_of}
+use Rattle.c_types_base.specs.declared.numbering.Numbering.{Numbering}
+use Rattle.c_types_base.specs.Numbering.{Numbers}
+use Rattle.c_types_base.specs.Definitions.{names_of_members, tags_of, names_of_functions, NumberMembers, Defines}
+use Rattle.c_types_base.proofs.NumberingLemmas.{position-cons}
+
+pub structs-append : (xs ys : List RawItem) → structs_of (xs ++ ys) ≡ structs_of xs ++ structs_of ys
+structs-append [] ys = refl
+structs-append (Include s ∷ xs) ys = structs-append xs ys
+structs-append (Tag l t ∷ xs) ys = structs-append xs ys
+structs-append (Struct l t ms ∷ xs) ys = ap (λ r. record { tag = t; members = ms } ∷ r) (structs-append xs ys)
+structs-append (Global l v i s ∷ xs) ys = structs-append xs ys
+structs-append (Prototype l h ∷ xs) ys = structs-append xs ys
+structs-append (Define l h b ∷ xs) ys = structs-append xs ys
+
+pub functions-append : (xs ys : List RawItem) → functions_of (xs ++ ys) ≡ functions_of xs ++ functions_of ys
+functions-append [] ys = refl
+functions-append (Include s ∷ xs) ys = functions-append xs ys
+functions-append (Tag l t ∷ xs) ys = functions-append xs ys
+functions-append (Struct l t ms ∷ xs) ys = functions-append xs ys
+functions-append (Global l v i s ∷ xs) ys = functions-append xs ys
+functions-append (Prototype l h ∷ xs) ys = functions-append xs ys
+functions-append (Define l h b ∷ xs) ys = ap (λ r. h ∷ r) (functions-append xs ys)
+
+pub map-append : {A B : Type 0} (f : A → B) (xs ys : List A) → map f (xs ++ ys) ≡ map f xs ++ map f ys
+map-append f [] ys = refl
+map-append f (x ∷ xs) ys = ap (λ r. f x ∷ r) (map-append f xs ys)
+
+pub members-push : (ss : List StructText) (s : StructText) (ns : List Numbering) (n : Numbering)
+    → NumberMembers ss ns → Numbers (names_of_members s.members) n → NumberMembers (ss ++ s ∷ []) (ns ++ n ∷ [])
+members-push [] s [] n h is = (is, tt)
+members-push [] s (m ∷ ns) n h is = absurd h
+members-push (t ∷ ss) s [] n h is = absurd h
+members-push (t ∷ ss) s (m ∷ ns) n (first, rest) is = (first, members-push ss s ns n rest is)
+
+-- the place of a name among those of some things
+pub position-map : {A : Type 0} (name : A → List ℕ) (q : List ℕ) (xs : List A) → position (λ (x : A). bytes_eq (name x) q) xs ≡ position (λ (y : List ℕ). bytes_eq y q) (map name xs)
+position-map name q [] = refl
+position-map name q (x ∷ xs) =
+    position-cons (λ y. bytes_eq (name y) q) x xs ∙ ap (λ o. cond (bytes_eq (name x) q) (Some 0) (option_map suc o)) (position-map name q xs)
+    ∙ sym (position-cons (λ y. bytes_eq y q) (name x) (map name xs))
+
+-- a table once a thing with the name is added
+names-push : {A : Type 0} (name : A → List ℕ) (xs ys : List A) (x : A) (n : Numbering) → ys ≡ xs ++ x ∷ [] → Numbers (map name xs ++ name x ∷ []) n → Numbers (map name ys) n
+names-push name xs ys x n e is = subst (λ zs. Numbers zs n) (sym (ap (map name) e ∙ map-append name xs (x ∷ []))) is
+
+module _ (items : List RawItem) (line : ℕ) (old new : Definitions) (is : Defines items old) where
+  -- a struct type is added
+  pub struct_added : (tag : Bytes) (members : List RawMember) (places : Numbering) → Numbers (names_of_members members) places
+      → ((names : List Bytes) → Numbers names old.tags → Numbers (names ++ tag ∷ []) new.tags) → new.members ≡ old.members ++ places ∷ []
+      → new.functions ≡ old.functions → new.heads.items ≡ old.heads.items → Defines (items ++ Struct line tag members ∷ []) new
+  struct_added tag members places placed tagged pushed functions heads = record {
+    tags = names-push (λ (s : StructText). s.tag) (structs_of items) (structs_of (items ++ Struct line tag members ∷ [])) (record { tag = tag; members = members }) new.tags (structs-append items (Struct line tag members ∷ [])) (tagged _ is.tags);
+    members = subst (λ ns. NumberMembers (structs_of (items ++ Struct line tag members ∷ [])) ns) (sym pushed)
+        (subst (λ ss. NumberMembers ss (old.members ++ places ∷ [])) (sym (structs-append items (Struct line tag members ∷ []))) (members-push (structs_of items) (record { tag = tag; members = members }) old.members places is.members placed));
+    functions = subst (λ n. Numbers (names_of_functions (functions_of (items ++ Struct line tag members ∷ []))) n) (sym functions)
+        (subst (λ fs. Numbers (names_of_functions fs) old.functions) (sym (functions-append items (Struct line tag members ∷ []) ∙ append-nil (functions_of items))) is.functions);
+    heads = ap (map (λ (h : Bor RawHead). h.now)) heads ∙ is.heads ∙ sym (functions-append items (Struct line tag members ∷ []) ∙ append-nil (functions_of items));
+  }
+
+  -- a function is added
+  pub function_added : (head : Bor RawHead) (body : List RawStatement)
+      → ((names : List Bytes) → Numbers names old.functions → Numbers (names ++ head.now.name ∷ []) new.functions) → new.heads.items ≡ old.heads.items ++ head ∷ []
+      → new.tags ≡ old.tags → new.members ≡ old.members → Defines (items ++ Define line head.now body ∷ []) new
+  function_added head body named pushed tags members = record {
+    tags = subst (λ n. Numbers (tags_of (structs_of (items ++ Define line head.now body ∷ []))) n) (sym tags)
+        (subst (λ ss. Numbers (tags_of ss) old.tags) (sym (structs-append items (Define line head.now body ∷ []) ∙ append-nil (structs_of items))) is.tags);
+    members = subst (λ ns. NumberMembers (structs_of (items ++ Define line head.now body ∷ [])) ns) (sym members)
+        (subst (λ ss. NumberMembers ss old.members) (sym (structs-append items (Define line head.now body ∷ []) ∙ append-nil (structs_of items))) is.members);
+    functions = names-push (λ (f : RawHead). f.name) (functions_of items) (functions_of (items ++ Define line head.now body ∷ [])) head.now new.functions (functions-append items (Define line head.now body ∷ [])) (named _ is.functions);
+    heads = ap (map (λ (h : Bor RawHead). h.now)) pushed ∙ map-append (λ (h : Bor RawHead). h.now) old.heads.items (head ∷ []) ∙ ap (λ fs. fs ++ head.now ∷ []) is.heads
+        ∙ sym (functions-append items (Define line head.now body ∷ []));
+  }
+
+-- an item that defines nothing is added
+pub nothing_added : (items : List RawItem) (x : RawItem) (d : Definitions) → structs_of (x ∷ []) ≡ [] → functions_of (x ∷ []) ≡ [] → Defines items d → Defines (items ++ x ∷ []) d
+nothing_added items x d structs functions is =
+    let same : structs_of (items ++ x ∷ []) ≡ structs_of items = structs-append items (x ∷ []) ∙ ap (λ r. structs_of items ++ r) structs ∙ append-nil (structs_of items) in
+    let also : functions_of (items ++ x ∷ []) ≡ functions_of items = functions-append items (x ∷ []) ∙ ap (λ r. functions_of items ++ r) functions ∙ append-nil (functions_of items) in
+    record {
+      tags = subst (λ ss. Numbers (tags_of ss) d.tags) (sym same) is.tags;
+      members = subst (λ ss. NumberMembers ss d.members) (sym same) is.members;
+      functions = subst (λ fs. Numbers (names_of_functions fs) d.functions) (sym also) is.functions;
+      heads = is.heads ∙ sym also;
+    }

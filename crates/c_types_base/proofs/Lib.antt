@@ -1,0 +1,17 @@
+pub mod DefinitionLemmas
+pub mod JudgedLemmas
+pub mod JudgingLaws
+pub mod LiteralLemmas
+pub mod MemberLaws
+pub mod MemberTrees
+pub mod NameLemmas
+pub mod NameSteps
+pub mod NumberingLemmas
+pub mod OptionLemmas
+pub mod PhraseLemmas
+pub mod Rulesets
+pub mod ScopeLaws
+pub mod TableLaws
+pub mod TreeLemmas
+pub mod TypeLemmas
+pub mod TypedLaws

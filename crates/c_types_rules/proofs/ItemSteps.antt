@@ -1,0 +1,283 @@
+-- Members, parameters and items, as steps of the walk.
+use Rattle.std.proofs.Common.{◌≡◌, ℕ, ◌+◌, ◌<◌, ◌≤◌, List, [], ◌∷◌, ◌++◌, length, take, drop, get_or, Bool, true, false, Option, Some, None, option_and_then, is_some, slice_get, Result, Ok, Err, refl, sym, ap, subst, ◌∙◌, append_assoc, append-nil}
+use Rattle.std.specs.Prelude.{vec_len, if◌then◌else◌}
+use Rattle.std.specs.List.{list_any}
+use Rattle.std.specs.Result.{IsErrAnd}
+use Rattle.std.proofs.lemmas.List.{take_more, drop_all}
+use Rattle.c_tree.specs.declared.raw.program.RawHead.{RawHead}
+use Rattle.c_tree.specs.declared.raw.program.RawItem.{RawItem}
+use Rattle.c_tree.specs.declared.raw.program.RawItem.TheVariants.{Struct, Prototype, Define}
+use Rattle.c_tree.specs.declared.raw.program.RawMember.{RawMember}
+use Rattle.c_tree.specs.declared.raw.program.RawParam.{RawParam}
+use Rattle.c_tree.specs.declared.raw.program.RawProgram.{RawProgram}
+use Rattle.c_tree.specs.declared.raw.statement.RawStatement.{RawStatement}
+use Rattle.c_language.specs.Words.{Bytes}
+use Rattle.c_language.specs.DeclaredTypes.{StructText, defined_structs, written_type}
+use Rattle.c_language.specs.ExprTypes.{member_named}
+use Rattle.c_language.specs.Phrases.{InBlock, DefinesStruct, HasMember, DeclaresFunction, Takes, EndsFunction, Phrases, phrase, member_phrases, taken_phrases, head_phrases, body_phrases, item_phrases, after_item}
+use Rattle.c_language.specs.Scopes.{Scope, Meaning, meaning_here, opened, closed, with_entry, with_function, with_parameters, scope_of_parameters, entered}
+use Rattle.c_types_base.specs.Numbering.{Numbers, number_in}
+use Rattle.c_types_base.specs.Tables.{scope_of, AreRight, IsAt, Lists}
+use Rattle.c_types_base.specs.declared.fault.Fault.{Fault}
+use Rattle.c_types_base.specs.declared.names.StructMembers.{StructMembers}
+use Rattle.c_types_base.specs.declared.numbering.Numbering.{Numbering}
+use Rattle.c_types_base.specs.declared.tables.Before.{Before}
+use Rattle.c_types_base.specs.declared.tables.Tables.{Tables}
+use Rattle.c_types_base.proofs.ScopeLaws.{Extends, then_extends}
+use Rattle.c_types_base.proofs.TableLaws.{tables_typed}
+use Rattle.c_types_rules.specs.Checking.{Decides}
+use Rattle.c_types_rules.specs.DeclarationChecks.{has_name, check_struct, check_prototype, check_definition, check_end}
+use Rattle.c_types_rules.specs.Listing.{HasMembers, HasPlace, name_before, names_given, IsGiven}
+use Rattle.c_types_rules.specs.Stretches.{Stretch, then_comes, nothing, one_phrase, of_statements, of_members, of_taken, of_parameter, of_parameters, of_function, inside_function, of_item, of_items}
+use Rattle.c_types_rules.specs.Walks.{AreKept, Tells, Answers, Walks, on_line}
+use Rattle.c_types_rules.specs.declared.rule_fault.RuleFault.{RuleFault}
+use Rattle.c_types_rules.proofs.Checked.{check_answers, walks_phrase}
+use Rattle.c_types_rules.proofs.ListingLaws.{given_push, all_given}
+use Rattle.c_types_rules.proofs.Stretching.{here, parameters_grow, statements_grow, body_is, after_body_is}
+use Rattle.c_types_rules.proofs.WalkSteps.{Outcome, two, first_stops, kept_both, told_before, told_behind, cut}
+
+-- what holds of a fault holds of any answer that passes it on
+pub passes_fault : {A : Type 0} (P : Result A RuleFault → Type 0) (e : RuleFault) (r : Result A RuleFault) → IsErrAnd r (λ y. y ≡ e) → P (Err e) → P r
+passes_fault P e (Ok x) h k = absurd h
+passes_fault P e (Err y) h k = subst (λ (f : RuleFault). P (Err f)) (sym h) k
+
+-- parts of lists from an element on
+pub members_here : (ms : List RawMember) (i : ℕ) (m : RawMember) (raw : RawProgram) → i < length ms → m ≡ get_or ms i m
+    → of_members (take i ms) (drop i ms) raw ≡ then_comes (one_phrase m.line (HasMember (take i ms) m)) (of_members (take (i + 1) ms) (drop (i + 1) ms)) raw
+members_here ms i m raw within is =
+    ap (λ rest. of_members (take i ms) rest raw) (here ms i m within is)
+    ∙ ap (λ before. then_comes (one_phrase m.line (HasMember (take i ms) m)) (of_members before (drop (i + 1) ms)) raw) (ap (λ x. take i ms ++ x ∷ []) is ∙ sym (take_more ms i m within))
+
+pub members_end : (ms : List RawMember) (i : ℕ) (raw : RawProgram) → length ms ≤ i → of_members (take i ms) (drop i ms) raw ≡ nothing raw
+members_end ms i raw all = ap (λ rest. of_members (take i ms) rest raw) (drop_all i ms all)
+
+pub taken_here : (ps : List RawParam) (i : ℕ) (p : RawParam) (raw : RawProgram) → i < length ps → p ≡ get_or ps i p
+    → of_taken (take i ps) (drop i ps) raw ≡ then_comes (one_phrase p.line (Takes (take i ps) p)) (of_taken (take (i + 1) ps) (drop (i + 1) ps)) raw
+taken_here ps i p raw within is =
+    ap (λ rest. of_taken (take i ps) rest raw) (here ps i p within is)
+    ∙ ap (λ before. then_comes (one_phrase p.line (Takes (take i ps) p)) (of_taken before (drop (i + 1) ps)) raw) (ap (λ x. take i ps ++ x ∷ []) is ∙ sym (take_more ps i p within))
+
+pub taken_end : (ps : List RawParam) (i : ℕ) (raw : RawProgram) → length ps ≤ i → of_taken (take i ps) (drop i ps) raw ≡ nothing raw
+taken_end ps i raw all = ap (λ rest. of_taken (take i ps) rest raw) (drop_all i ps all)
+
+pub parameters_here : (ps : List RawParam) (i : ℕ) (p : RawParam) (raw : RawProgram) → i < length ps → p ≡ get_or ps i p
+    → of_parameters (drop i ps) raw ≡ then_comes (of_parameter p) (of_parameters (drop (i + 1) ps)) raw
+parameters_here ps i p raw within is = ap (λ rest. of_parameters rest raw) (here ps i p within is)
+
+pub items_here : (xs : List RawItem) (i : ℕ) (x : RawItem) (raw : RawProgram) → i < length xs → x ≡ get_or xs i x
+    → of_items (drop i xs) raw ≡ then_comes (of_item x) (of_items (drop (i + 1) xs)) raw
+items_here xs i x raw within is = ap (λ rest. of_items rest raw) (here xs i x within is)
+
+-- the names of parameters
+some_same : {A : Type 0} {x y : A} → ◌≡◌ {A = Option A} (Some x) (Some y) → x ≡ y
+some_same {A} {x} {y} h = ap (λ (o : Option A). or_that o) h
+  where
+    or_that : Option A → A
+    or_that None = x
+    or_that (Some z) = z
+
+pub given_is : (before : List RawParam) (p : RawParam) (names : Numbering) (own : Bytes) (b : Bool) → Numbers (names_given before) names → p.name ≡ Some own → b ≡ is_some (number_in names own)
+    → IsGiven before p b
+given_is before p names own b numbers has is = λ name same.
+    let e : own ≡ name = some_same (sym has ∙ same) in
+    is ∙ ap is_some (numbers.numbered own) ∙ all_given before own ∙ ap (λ w. list_any (λ (q : RawParam). has_name w q.name) before) e
+
+pub given_none : (before : List RawParam) (p : RawParam) (b : Bool) → p.name ≡ None → IsGiven before p b
+given_none before p b none = λ name same. absurd (nothing_some (sym none ∙ same))
+  where
+    nothing_some : {name : Bytes} → ◌≡◌ {A = Option Bytes} None (Some name) → ⊥
+    nothing_some h = subst (λ (o : Option Bytes). is_none o) h tt
+      where
+        is_none : Option Bytes → Type 0
+        is_none None = Unit {0}
+        is_none (Some x) = ⊥
+
+pub gives_none : (before : List RawParam) (p : RawParam) (names : Numbering) → p.name ≡ None → Numbers (names_given before) names → Numbers (names_given (before ++ p ∷ [])) names
+gives_none before p names none numbers =
+    subst (λ ws. Numbers ws names) (sym (given_push before p ∙ ap (λ o. names_given before ++ name_before o []) none ∙ append-nil (names_given before))) numbers
+
+pub gives_name : (before : List RawParam) (p : RawParam) (old new : Numbering) (name given : Bytes) → p.name ≡ Some name → given ≡ name
+    → ((ws : List Bytes) → Numbers ws old → Numbers (ws ++ given ∷ []) new) → Numbers (names_given before) old → Numbers (names_given (before ++ p ∷ [])) new
+gives_name before p old new name given has same adds numbers =
+    subst (λ ws. Numbers ws new) (ap (λ w. names_given before ++ w ∷ []) same ∙ sym (given_push before p ∙ ap (λ o. names_given before ++ name_before o []) has)) (adds (names_given before) numbers)
+
+-- a struct type
+abbrev of_listed : List RawMember → Stretch
+of_listed ms raw = record { gives = λ (scope : Scope). member_phrases scope [] ms; after = λ (scope : Scope). record scope { structs = scope.structs + 1 } }
+
+module _ (t : Tables) (right : AreRight t) (line : ℕ) (tag : Bytes) (ms : List RawMember) (d : Result (Unit {0}) Fault) (h : Decides (check_struct t.raw.now (scope_of t) tag) d) where
+  pub struct_stops : (new : Tables) (e : RuleFault) → Err e ≡ on_line line d → Walks (of_item (Struct line tag ms)) t new (Err e)
+  struct_stops new e is = first_stops (one_phrase line (DefinesStruct tag)) (of_listed ms) t new e (walks_phrase t right line (DefinesStruct tag) d h (Err e) is)
+
+  module _ (is : Ok tt ≡ on_line line d) where
+    pub struct_members_stop : (e : RuleFault) → Tells t.raw.now (member_phrases (scope_of t) [] ms) e → Walks (of_item (Struct line tag ms)) t t (Err e)
+    struct_members_stop e k = two (one_phrase line (DefinesStruct tag)) (of_listed ms) t t t (Err e) (walks_phrase t right line (DefinesStruct tag) d h (Ok tt) is) k
+
+    pub struct_walks : (new : Tables) → AreKept t.raw.now (member_phrases (scope_of t) [] ms) → IsAt t new (record (scope_of t) { structs = vec_len t.structs + 1 }) → Walks (of_item (Struct line tag ms)) t new (Ok tt)
+    struct_walks new k at = two (one_phrase line (DefinesStruct tag)) (of_listed ms) t t new (Ok tt) (walks_phrase t right line (DefinesStruct tag) d h (Ok tt) is) (k, at)
+
+pub lists_members : (t : Tables) (tag : Bytes) (ms : List RawMember) (listed : StructMembers)
+    → slice_get (defined_structs t.raw.now) (vec_len t.structs) ≡ Some (record { tag = tag; members = ms }) → HasMembers t.raw.now ms listed → Lists t listed
+lists_members t tag ms listed place has =
+    let named = λ (name : Bytes). ap (option_and_then (λ (d : StructText). member_named d.members name)) place in
+    record {
+      there = λ name. has.there name ∙ ap is_some (sym (named name));
+      types = λ name. has.types name ∙ ap (option_and_then (λ (m : RawMember). written_type t.raw.now m.shape)) (sym (named name));
+    }
+
+-- a prototype
+abbrev of_signature : RawHead → Stretch
+of_signature head raw = record { gives = λ (scope : Scope). taken_phrases scope [] head.params; after = with_function head.name }
+
+module _ (t : Tables) (right : AreRight t) (line : ℕ) (head : RawHead) (d : Result (Unit {0}) Fault) (h : Decides (check_prototype t.raw.now (scope_of t) head) d) where
+  pub prototype_stops : (new : Tables) (e : RuleFault) → Err e ≡ on_line line d → Walks (of_item (Prototype line head)) t new (Err e)
+  prototype_stops new e is = first_stops (one_phrase line (DeclaresFunction head false)) (of_signature head) t new e (walks_phrase t right line (DeclaresFunction head false) d h (Err e) is)
+
+  module _ (is : Ok tt ≡ on_line line d) where
+    pub taken_stop : (e : RuleFault) (ps : List RawParam) → ps ≡ head.params → Tells t.raw.now (taken_phrases (scope_of t) [] ps) e → Walks (of_item (Prototype line head)) t t (Err e)
+    taken_stop e ps same k =
+        two (one_phrase line (DeclaresFunction head false)) (of_signature head) t t t (Err e) (walks_phrase t right line (DeclaresFunction head false) d h (Ok tt) is)
+        (subst (λ qs. Tells t.raw.now (taken_phrases (scope_of t) [] qs) e) same k)
+
+    pub prototype_walks : (new : Tables) (ps : List RawParam) (name : Bytes) → ps ≡ head.params → name ≡ head.name → AreKept t.raw.now (taken_phrases (scope_of t) [] ps)
+        → IsAt t new (with_function name (scope_of t)) → Walks (of_item (Prototype line head)) t new (Ok tt)
+    prototype_walks new ps name same also k at =
+        two (one_phrase line (DeclaresFunction head false)) (of_signature head) t t new (Ok tt) (walks_phrase t right line (DeclaresFunction head false) d h (Ok tt) is)
+        (subst (λ qs. AreKept t.raw.now (taken_phrases (scope_of t) [] qs)) same k, subst (λ w. IsAt t new (with_function w (scope_of t))) also at)
+
+-- the parameters and the body of a function
+abbrev pub of_inside : RawHead → List RawStatement → Stretch
+of_inside head body = then_comes (of_parameters head.params) (of_statements InBlock body)
+
+inside_grows : (raw : RawProgram) (head : RawHead) (body : List RawStatement) (x : Scope) → Extends x ((of_inside head body raw).after x)
+inside_grows raw head body x =
+    let y = with_parameters raw head.params x in
+    then_extends x y ((of_statements InBlock body raw).after y) (parameters_grow raw head.params x) (statements_grow raw InBlock body y)
+
+module _ (head : RawHead) (body : List RawStatement) (old opens : Tables) (enters : IsAt old opens (inside_function (scope_of old))) where
+  pub function_stops : (new : Tables) (e : RuleFault) → Walks (of_inside head body) opens new (Err e) → Walks (of_function head body) old new (Err e)
+  function_stops new e h =
+      subst (λ (r : RawProgram). Tells r ((of_inside head body r).gives (inside_function (scope_of old))) e) enters.text
+      (subst (λ (x : Scope). Tells opens.raw.now ((of_inside head body opens.raw.now).gives x) e) enters.scope_is h)
+
+  pub function_walks : (inside closes : Tables) (b : Before) → b.names ≡ length (scope_of old).names → b.outer ≡ (scope_of old).outer → b.owner ≡ (scope_of old).owner
+      → Walks (of_inside head body) opens inside (Ok tt)
+      → IsAt inside closes (record (scope_of inside) { names = take b.names (scope_of inside).names; outer = b.outer; owner = b.owner })
+      → Walks (of_function head body) old closes (Ok tt)
+  function_walks inside closes b names outer owner (kept, within) closing =
+      let w = of_inside head body in
+      let raw = old.raw.now in
+      let begun = inside_function (scope_of old) in
+      let at : scope_of inside ≡ (w raw).after begun = within.scope_is ∙ ap (w opens.raw.now).after enters.scope_is ∙ ap (λ (r : RawProgram). (w r).after begun) enters.text in
+      let cuts : record (scope_of inside) { names = take b.names (scope_of inside).names; outer = b.outer; owner = b.owner } ≡ closed (scope_of old) (scope_of inside) = cut (scope_of old) begun (scope_of inside) b (subst (Extends begun) (sym at) (inside_grows raw head body begun)) refl names outer owner in (
+        subst (λ (r : RawProgram). AreKept r ((w r).gives begun)) enters.text (subst (λ (x : Scope). AreKept opens.raw.now ((w opens.raw.now).gives x)) enters.scope_is kept),
+        record {
+          scope_is = closing.scope_is ∙ cuts ∙ ap (closed (scope_of old)) at;
+          text = closing.text ∙ within.text ∙ enters.text;
+          right = λ r. closing.right (within.right (enters.right r));
+        },
+      )
+
+-- the definition of a function
+functions_same : (found : Bool) (name : Bytes) (scope : Scope) → (if found then scope else with_entry name Meaning.Function scope).functions ≡ scope.functions
+functions_same true name scope = refl
+functions_same false name scope = refl
+
+module _ (raw : RawProgram) (line : ℕ) (head : RawHead) (body : List RawStatement) (scope : Scope) where
+  abbrev declared : Scope
+  declared = with_function head.name scope
+
+  enters_same : inside_function declared ≡ scope_of_parameters head scope
+  enters_same = ap (λ (n : ℕ). record (opened declared) { owner = Some n; functions = n + 1 }) (functions_same (is_some (meaning_here scope head.name)) head.name scope)
+
+  abbrev inside : Phrases
+  inside = (of_function head body raw).gives declared
+
+  abbrev begin_phrase : Phrases
+  begin_phrase = phrase line scope (DeclaresFunction head true) ∷ []
+
+  abbrev end_phrase : Phrases
+  end_phrase = phrase line scope (EndsFunction head body) ∷ []
+
+  inside_is : inside ≡ head_phrases raw head.params (scope_of_parameters head scope) ++ body_phrases raw body (entered raw head scope)
+  inside_is =
+      ap (of_inside head body raw).gives enters_same
+      ∙ ap (λ ps. head_phrases raw head.params (scope_of_parameters head scope) ++ ps) (sym (body_is raw body (entered raw head scope)))
+
+  pub define_phrases : begin_phrase ++ (inside ++ end_phrase) ≡ item_phrases raw (Define line head body) scope
+  define_phrases =
+      ap (λ ps. begin_phrase ++ (ps ++ end_phrase)) inside_is
+      ∙ ap (λ ps. begin_phrase ++ ps) (append_assoc (head_phrases raw head.params (scope_of_parameters head scope)) (body_phrases raw body (entered raw head scope)) end_phrase)
+
+  pub define_after : (of_function head body raw).after declared ≡ after_item raw (Define line head body) scope
+  define_after = ap (closed declared) (ap (of_inside head body raw).after enters_same ∙ sym (after_body_is raw body (entered raw head scope)))
+
+module _ (t : Tables) (right : AreRight t) (line : ℕ) (head : RawHead) (body : List RawStatement) where
+  abbrev whole : Phrases
+  whole = item_phrases t.raw.now (Define line head body) (scope_of t)
+
+  abbrev parts : Phrases
+  parts = begin_phrase t.raw.now line head body (scope_of t) ++ (inside t.raw.now line head body (scope_of t) ++ end_phrase t.raw.now line head body (scope_of t))
+
+  tells_whole : (e : RuleFault) → Tells t.raw.now parts e → Tells t.raw.now whole e
+  tells_whole e k = subst (λ ps. Tells t.raw.now ps e) (define_phrases t.raw.now line head body (scope_of t)) k
+
+  module _ (d : Result (Unit {0}) Fault) (h : Decides (check_definition t.raw.now (scope_of t) head) d) where
+    first : (r : Outcome) → r ≡ on_line line d → Answers t.raw.now (begin_phrase t.raw.now line head body (scope_of t)) r
+    first r is = check_answers t.raw.now (scope_of t) (tables_typed t right) line (DeclaresFunction head true) d r h is
+
+    pub define_stops : (new : Tables) (e : RuleFault) → Err e ≡ on_line line d → Walks (of_item (Define line head body)) t new (Err e)
+    define_stops new e is = tells_whole e (told_before t.raw.now e (begin_phrase t.raw.now line head body (scope_of t)) _ (first (Err e) is))
+
+    module _ (is : Ok tt ≡ on_line line d) (mid : Tables) (name : Bytes) (same : name ≡ head.name) (at : IsAt t mid (with_function name (scope_of t))) where
+      at_declared : scope_of mid ≡ with_function head.name (scope_of t)
+      at_declared = at.scope_is ∙ ap (λ w. with_function w (scope_of t)) same
+
+      tells_inside : (e : RuleFault) → Tells mid.raw.now ((of_function head body mid.raw.now).gives (scope_of mid)) e → Tells t.raw.now (inside t.raw.now line head body (scope_of t)) e
+      tells_inside e k =
+          subst (λ (x : Scope). Tells t.raw.now ((of_function head body t.raw.now).gives x) e) at_declared
+          (subst (λ (r : RawProgram). Tells r ((of_function head body r).gives (scope_of mid)) e) at.text k)
+
+      pub inside_stops : (new : Tables) (e : RuleFault) → Walks (of_function head body) mid new (Err e) → Walks (of_item (Define line head body)) t new (Err e)
+      inside_stops new e k =
+          tells_whole e (told_behind t.raw.now e (begin_phrase t.raw.now line head body (scope_of t)) _
+          (told_before t.raw.now e (inside t.raw.now line head body (scope_of t)) (end_phrase t.raw.now line head body (scope_of t)) (tells_inside e k)))
+
+      kept_inside : AreKept mid.raw.now ((of_function head body mid.raw.now).gives (scope_of mid)) → AreKept t.raw.now (inside t.raw.now line head body (scope_of t))
+      kept_inside k =
+          subst (λ (x : Scope). AreKept t.raw.now ((of_function head body t.raw.now).gives x)) at_declared
+          (subst (λ (r : RawProgram). AreKept r ((of_function head body r).gives (scope_of mid))) at.text k)
+
+      module _ (new : Tables) (k : Walks (of_function head body) mid new (Ok tt)) (f : Result (Unit {0}) Fault) (g : Decides (check_end t.raw.now (scope_of t) head body) f) where
+        last : (r : Outcome) → r ≡ on_line line f → Answers t.raw.now (end_phrase t.raw.now line head body (scope_of t)) r
+        last r ends_so = check_answers t.raw.now (scope_of t) (tables_typed t right) line (EndsFunction head body) f r g ends_so
+
+        after_all_of : scope_of new ≡ after_item t.raw.now (Define line head body) (scope_of t)
+        after_all_of =
+            k.1.scope_is ∙ ap (of_function head body mid.raw.now).after at_declared
+            ∙ ap (λ (r : RawProgram). (of_function head body r).after (with_function head.name (scope_of t))) at.text
+            ∙ define_after t.raw.now line head body (scope_of t)
+
+        finish : (r : Outcome) → Answers t.raw.now (end_phrase t.raw.now line head body (scope_of t)) r → Walks (of_item (Define line head body)) t new r
+        finish (Ok x) e = (
+          subst (AreKept t.raw.now) (define_phrases t.raw.now line head body (scope_of t))
+              (kept_both t.raw.now (begin_phrase t.raw.now line head body (scope_of t)) _ (first (Ok tt) is) (kept_both t.raw.now (inside t.raw.now line head body (scope_of t)) _ (kept_inside k.0) e)),
+          record { scope_is = after_all_of; text = k.1.text ∙ at.text; right = λ r. k.1.right (at.right r) },
+        )
+        finish (Err x) e =
+            tells_whole x (told_behind t.raw.now x (begin_phrase t.raw.now line head body (scope_of t)) _
+            (told_behind t.raw.now x (inside t.raw.now line head body (scope_of t)) (end_phrase t.raw.now line head body (scope_of t)) e))
+
+        pub define_walks : (r : Outcome) → r ≡ on_line line f → Walks (of_item (Define line head body)) t new r
+        define_walks r ends_so = finish r (last r ends_so)
+
+-- an item by its form
+pub item_walks : (one x : RawItem) (old new : Tables) (r : Outcome) → one ≡ x → Walks (of_item x) old new r → Walks (of_item one) old new r
+item_walks one x old new r is h = subst (λ y. Walks (of_item y) old new r) (sym is) h
+
+pub has_place : (raw : RawProgram) (count : ℕ) (one x : RawItem) → one ≡ x → HasPlace raw count one → HasPlace raw count x
+has_place raw count one x is h = subst (HasPlace raw count) is h
+
+-- one element more
+pub with_next : {A : Type 0} (xs : List A) (i : ℕ) (x : A) → i < length xs → x ≡ get_or xs i x → take i xs ++ x ∷ [] ≡ take (i + 1) xs
+with_next xs i x within is = ap (λ y. take i xs ++ y ∷ []) is ∙ sym (take_more xs i x within)

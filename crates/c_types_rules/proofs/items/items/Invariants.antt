@@ -1,0 +1,12 @@
+use Rattle.std.proofs.Common.{◌≡◌, drop, take, length, vec_len}
+use Rattle.c_language.specs.DeclaredTypes.{structs_of}
+use Rattle.c_types_rules.specs.Stretches.{of_items}
+use Rattle.c_types_rules.proofs.WalkSteps.{Passed}
+use Rattle.c_types_rules.proofs.items.items.Given as goal
+
+abbrev pub invariant-loop-one : goal.invariant-loop-one
+invariant-loop-one l = record {
+  passed : Passed (of_items l.list) (of_items (drop l.one-index l.list)) l.initial.tables l.tables;
+  counted : vec_len l.tables.structs ≡ length (structs_of (take l.one-index l.list));
+  outside : l.tables.outer ≡ 0;
+}

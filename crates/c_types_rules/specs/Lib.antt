@@ -1,0 +1,12 @@
+pub mod CallChecks
+pub mod Checking
+pub mod Conversions
+pub mod DeclarationChecks
+pub mod Labels
+pub mod Listing
+pub mod PhraseChecks
+pub mod Pointers
+pub mod Stands
+pub mod Stretches
+pub mod Targets
+pub mod Walks
