@@ -1,6 +1,7 @@
 -- What is printed of a declaration has its tokens again.
-use Rattle.std.proofs.Common.{◌≡◌, ℕ, ◌≤◌, ◌<◌, ◌^◌, List, [], ◌∷◌, ◌++◌, length, map, append_assoc, append-nil, refl, sym, ap, ◌∙◌, subst, true, false, codes, decimal, arith}
-use Rattle.c_arith.specs.declared.int_type.IntType.{IntType}
+use Rattle.std.proofs.Common.{◌≡◌, ℕ, ◌<◌, List, [], ◌∷◌, ◌++◌, length, map, append_assoc, append-nil, refl, sym, ap, ◌∙◌, subst, true, false, codes, decimal, arith}
+use Rattle.std.proofs.lemmas.Bool.Decides.{nat_tests}
+use Rattle.std.specs.Prelude.{nat_lt}
 use Rattle.c_tree.specs.declared.raw.expr.RawExpr.{RawExpr}
 use Rattle.c_tree.specs.declared.raw.expr.RawType.{RawType}
 use Rattle.c_tree.specs.declared.raw.expr.RawVar.{RawVar}
@@ -10,11 +11,9 @@ use Rattle.c_tree.specs.declared.raw.statement.RawStatement.{RawStatement}
 use Rattle.c_tree.specs.declared.raw.statement.RawStatement.TheVariants as s
 use Rattle.c_language.specs.Words.{Bytes, joined}
 use Rattle.c_language.specs.Layout.{Laid, call_words}
-use Rattle.c_language.specs.ProgramOf.{raw_words}
+use Rattle.c_print.specs.SpacedWords.{spaced_words}
 use Rattle.c_language.specs.TokenForms.{Tokens, mark, line_of}
 use Rattle.c_language.specs.Sees.{sees}
-use Rattle.c_language.specs.IntWords.{IsIntType, words, AreWords, none, some}
-use Rattle.c_language.specs.ExprGrammar.{IsExpr, number_constant, character_constant, null, eof, variable, paren, index, member, unary, cast, binary, choose}
 use Rattle.c_language.specs.TypeGrammar.{IsBase, IsDeclarator, is_listed}
 use Rattle.c_language.specs.StatementGrammar.{IsList, trailing, IsDeclared, plain, value, list, call, heap}
 use Rattle.c_language.specs.Tokens.{name_goes_on, number_goes_on, IsTokens}
@@ -34,26 +33,26 @@ use Rattle.c_print.proofs.SimplePrint.{Has, has_as, call_rest, heap_rest, print_
 -- ---- what follows is written too
 
 pub list_rest : {ts rest : Tokens} {all : List RawExpr} → IsList ts all rest → AreWritten ts → AreWritten rest
-list_rest (IsList.last h) w = (expr_rest h w).4
-list_rest (trailing h) w = (expr_rest h w).4.4
-list_rest (IsList.more h k) w = list_rest k (expr_rest h w).4
+list_rest (IsList.last h) w = (expr_rest h w).1
+list_rest (trailing h) w = (expr_rest h w).1.1
+list_rest (IsList.more h k) w = list_rest k (expr_rest h w).1
 
 pub declared_rest : {line : ℕ} {base : RawType} {ts rest : Tokens} {a : RawStatement} → IsDeclared line base ts a rest → AreWritten ts → AreWritten rest
 declared_rest (plain h p) w = declarator_rest h w
-declared_rest (value h p k) w = expr_rest k (declarator_rest h w).4
-declared_rest (list h k) w = list_rest k (declarator_rest h w).4.4
-declared_rest (call h p k) w = call_rest k (declarator_rest h w).4
-declared_rest (heap h p k) w = heap_rest k (declarator_rest h w).4
+declared_rest (value h p k) w = expr_rest k (declarator_rest h w).1
+declared_rest (list h k) w = list_rest k (declarator_rest h w).1.1
+declared_rest (call h p k) w = call_rest k (declarator_rest h w).1
+declared_rest (heap h p k) w = heap_rest k (declarator_rest h w).1
 
 -- ---- lists of initialisers
 
-some_items : {ts rest : Tokens} {all : List RawExpr} → IsList ts all rest → (x : Bytes) → joined (codes ", ") (x ∷ map raw_words all) ≡ x ++ (44 ∷ 32 ∷ joined (codes ", ") (map raw_words all))
+some_items : {ts rest : Tokens} {all : List RawExpr} → IsList ts all rest → (x : Bytes) → joined (codes ", ") (x ∷ map spaced_words all) ≡ x ++ (44 ∷ 32 ∷ joined (codes ", ") (map spaced_words all))
 some_items (IsList.last h) x = refl
 some_items (trailing h) x = refl
 some_items (IsList.more h k) x = refl
 
 pub print_list : {ts rest : Tokens} {all : List RawExpr} → IsList ts all rest → AreWritten ts → (line : ℕ) (more : Bytes) (after : Tokens) → IsTokens Token line more after
-    → Has line (joined (codes ", ") (map raw_words all) ++ (125 ∷ more)) (λ ts. IsList ts all after)
+    → Has line (joined (codes ", ") (map spaced_words all) ++ (125 ∷ more)) (λ ts. IsList ts all after)
 print_list (IsList.last h) w line more after t =
     let x = print_expr h w line (125 ∷ more) (mark (codes "}") line ∷ after) (stops_expr h _ (λ b. refl)) (print_mark (codes "}") refl refl t) in
     record { tokens = x.tokens; lexed = x.lexed; is = IsList.last x.is }
@@ -61,40 +60,19 @@ print_list (trailing h) w line more after t =
     let x = print_expr h w line (125 ∷ more) (mark (codes "}") line ∷ after) (stops_expr h _ (λ b. refl)) (print_mark (codes "}") refl refl t) in
     record { tokens = x.tokens; lexed = x.lexed; is = IsList.last x.is }
 print_list (IsList.more {a} {all} h k) w line more after t =
-    let y = print_list k (expr_rest h w).4 line more after t in
-    let x = print_expr h w line (44 ∷ 32 ∷ (joined (codes ", ") (map raw_words all) ++ (125 ∷ more))) (mark (codes ",") line ∷ y.tokens) (stops_expr h _ (λ b. refl)) (print_mark (codes ",") refl refl (print_blank (y.lexed Token))) in
-    has_as (ap (λ (z : Bytes). z ++ (125 ∷ more)) (some_items k (raw_words a)) ∙ append_assoc (raw_words a) _ (125 ∷ more))
+    let y = print_list k (expr_rest h w).1 line more after t in
+    let x = print_expr h w line (44 ∷ 32 ∷ (joined (codes ", ") (map spaced_words all) ++ (125 ∷ more))) (mark (codes ",") line ∷ y.tokens) (stops_expr h _ (λ b. refl)) (print_mark (codes ",") refl refl (print_blank (y.lexed Token))) in
+    has_as (ap (λ (z : Bytes). z ++ (125 ∷ more)) (some_items k (spaced_words a)) ∙ append_assoc (spaced_words a) _ (125 ∷ more))
     (record { tokens = x.tokens; lexed = x.lexed; is = IsList.more x.is y.is })
 
-words_short : {ts rest : Tokens} {ws : List Bytes} → AreWords ts ws rest → length rest ≤ length ts
-words_short none = omega arith
-words_short (some h) = omega (arith, words_short h)
+-- a list has an item at least
+list_some : {ts rest : Tokens} {all : List RawExpr} → IsList ts all rest → 0 < length all
+list_some (IsList.last h) = omega arith
+list_some (trailing h) = omega arith
+list_some (IsList.more h k) = omega arith
 
-int_short : {ts rest : Tokens} {t : IntType} → IsIntType ts t rest → length rest ≤ length ts
-int_short (words h s k) = words_short h
-
-expr_short : {n : ℕ} {ts rest : Tokens} {a : RawExpr} → IsExpr n ts a rest → length rest < length ts
-expr_short number_constant = omega arith
-expr_short character_constant = omega arith
-expr_short null = omega arith
-expr_short eof = omega arith
-expr_short (variable h) = omega arith
-expr_short (paren h) = omega (arith, expr_short h)
-expr_short (index p h k) = omega (arith, expr_short h, expr_short k)
-expr_short (member by p h k) = omega (arith, expr_short h)
-expr_short (unary op p h) = omega (arith, expr_short h)
-expr_short (cast p h k) = omega (arith, int_short h, expr_short k)
-expr_short (binary op p h k) = omega (arith, expr_short h, expr_short k)
-expr_short (choose p h k j) = omega (arith, expr_short h, expr_short k, expr_short j)
-
--- a list has an item at least, and a token for each item
-list_counts : {ts rest : Tokens} {all : List RawExpr} → IsList ts all rest → (0 < length all) × (length all ≤ length ts)
-list_counts (IsList.last h) = (omega arith, omega (arith, expr_short h))
-list_counts (trailing h) = (omega arith, omega (arith, expr_short h))
-list_counts (IsList.more h k) = (omega arith, omega (arith, expr_short h, (list_counts k).1))
-
-pub list_form : {ts rest : Tokens} {all : List RawExpr} → IsList ts all rest → length ts < 2 ^ 32 → HasForm Number (decimal (length all))
-list_form {all = all} h few = let c = list_counts h in decimal_form (length all) c.0 (omega (arith, c.1, few))
+pub list_form : {ts rest : Tokens} {all : List RawExpr} → IsList ts all rest → nat_lt (length all) 4294967296 ≡ true → HasForm Number (decimal (length all))
+list_form {all = all} h few = decimal_form (length all) (list_some h) (grind (arith, nat_tests))
 
 -- ---- declarators with their base
 
@@ -141,7 +119,7 @@ words_of : {x y : Laid} (more : Bytes) → x ≡ y → x.words ++ more ≡ y.wor
 words_of more e = ap (λ (l : Laid). l.words ++ more) e
 
 pub no_counts : (v : RawVar) (items : ℕ) → is_listed v.shape ≡ false → Counts items v.shape
-no_counts v items p = λ h. let x : true ≡ false = sym h ∙ p in absurd cc
+no_counts v items p = λ h few. let x : true ≡ false = sym h ∙ p in absurd cc
 
 pub equals_no_length : (l : ℕ) (ts : Tokens) → sees Mark (codes "[") (mark (codes "=") l ∷ ts) ≡ false
 unfolding sees
@@ -176,9 +154,9 @@ print_declared {l} b wb (plain {v = v} h p) w line more after stop f t =
       same = settled-Declare (line_of x.tokens) (settled_var 0 v) init.None ∙ ap (λ (z : RawVar). s.Declare 0 z init.None) (settled_twice 0 h (base_plain b)) ∙ sym (settled-Declare l v init.None);
     })
 print_declared {l} b wb (value {v = v} {a} h p k) w line more after stop f t =
-    let y = print_expr k (declarator_rest h w).4 line more after (stops_expr k more stop) t in
-    let x = print_named 0 b wb h w (no_counts v 0 p) line (codes " = " ++ (raw_words a ++ more)) (mark (codes "=") line ∷ y.tokens) (λ d. refl) (equals_no_length line y.tokens) (print_equals (y.lexed Token)) in
-    declared_as (words_of more (raw_laid-Declare l v (init.One a)) ∙ equals_join (raw_declared 0 v.shape v.name) (raw_words a) more)
+    let y = print_expr k (declarator_rest h w).1 line more after (stops_expr k more stop) t in
+    let x = print_named 0 b wb h w (no_counts v 0 p) line (codes " = " ++ (spaced_words a ++ more)) (mark (codes "=") line ∷ y.tokens) (λ d. refl) (equals_no_length line y.tokens) (print_equals (y.lexed Token)) in
+    declared_as (words_of more (raw_laid-Declare l v (init.One a)) ∙ equals_join (raw_declared 0 v.shape v.name) (spaced_words a) more)
     (record {
       tokens = x.tokens;
       mid = x.mid;
@@ -192,10 +170,10 @@ print_declared {l} b wb (value {v = v} {a} h p k) w line more after stop f t =
     })
 print_declared {l} b wb (list {v = v} {all} h k) w line more after stop f t =
     let n = length all in
-    let wl = (declarator_rest h w).4 in
-    let y = print_list k wl.4 line more after t in
-    let x = print_named n b wb h w (λ _. list_form k wl.3) line (codes " = {" ++ (joined (codes ", ") (map raw_words all) ++ (125 ∷ more))) (mark (codes "=") line ∷ mark (codes "{") line ∷ y.tokens) (λ d. refl) (equals_no_length line _) (print_equals (print_mark (codes "{") refl refl (y.lexed Token))) in
-    declared_as (words_of more (raw_laid-Declare l v (init.Items all)) ∙ list_join (raw_declared n v.shape v.name) (joined (codes ", ") (map raw_words all)) more)
+    let wl = (declarator_rest h w).1 in
+    let y = print_list k wl.1 line more after t in
+    let x = print_named n b wb h w (λ _ few. list_form k few) line (codes " = {" ++ (joined (codes ", ") (map spaced_words all) ++ (125 ∷ more))) (mark (codes "=") line ∷ mark (codes "{") line ∷ y.tokens) (λ d. refl) (equals_no_length line _) (print_equals (print_mark (codes "{") refl refl (y.lexed Token))) in
+    declared_as (words_of more (raw_laid-Declare l v (init.Items all)) ∙ list_join (raw_declared n v.shape v.name) (joined (codes ", ") (map spaced_words all)) more)
     (record {
       tokens = x.tokens;
       mid = x.mid;
@@ -208,7 +186,7 @@ print_declared {l} b wb (list {v = v} {all} h k) w line more after stop f t =
       same = settled-Declare (line_of x.tokens) (settled_var n v) (init.Items all) ∙ ap (λ (z : RawVar). s.Declare 0 z (init.Items all)) (settled_twice n h (base_plain b)) ∙ sym (settled-Declare l v (init.Items all));
     })
 print_declared {l} b wb (call {v = v} {w = g} {all} h p k) w line more after stop f t =
-    let y = print_call k (declarator_rest h w).4 line more after t in
+    let y = print_call k (declarator_rest h w).1 line more after t in
     let x = print_named 0 b wb h w (no_counts v 0 p) line (codes " = " ++ (call_words g (map raw_arg_words all) ++ more)) (mark (codes "=") line ∷ y.tokens) (λ d. refl) (equals_no_length line y.tokens) (print_equals (y.lexed Token)) in
     declared_as (words_of more (raw_laid-Call l (target.Declared v) g all) ∙ store_join (raw_declared 0 v.shape v.name) (call_words g (map raw_arg_words all)) more)
     (record {
@@ -223,7 +201,7 @@ print_declared {l} b wb (call {v = v} {w = g} {all} h p k) w line more after sto
       same = settled-Call (line_of x.tokens) (target.Declared v) g all ∙ sym (settled-Call l (target.Declared v) g all);
     })
 print_declared {l} b wb (heap {v = v} {t = c} {n} h p k) w line more after stop f t =
-    let y = print_heap k (declarator_rest h w).4 line more after t in
+    let y = print_heap k (declarator_rest h w).1 line more after t in
     let x = print_named 0 b wb h w (no_counts v 0 p) line (codes " = " ++ ((raw_cast_words c ++ malloc_words n) ++ more)) (mark (codes "=") line ∷ y.tokens) (λ d. refl) (equals_no_length line y.tokens) (print_equals (y.lexed Token)) in
     declared_as (words_of more (raw_laid-Heap l (target.Declared v) c n) ∙ store_join (raw_declared 0 v.shape v.name) (raw_cast_words c ++ malloc_words n) more)
     (record {

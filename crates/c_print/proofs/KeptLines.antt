@@ -1,7 +1,7 @@
 -- Lines that are written down by their numbers.
-use Rattle.std.proofs.Common.{◌≡◌, ◌≢◌, ℕ, zero, suc, ◌+◌, ◌-◌, ◌<◌, ◌≤◌, ◌==◌, List, [], ◌∷◌, ◌++◌, length, map, take, get_or, append_assoc, append-nil, replicate, set, slice_get, Option, Some, arith, refl, sym, ap, ◌∙◌}
+use Rattle.std.proofs.Common.{◌≡◌, ◌≢◌, ℕ, zero, suc, ◌+◌, ◌-◌, ◌<◌, ◌≤◌, ◌==◌, List, [], ◌∷◌, ◌++◌, length, map, take, get_or, append_assoc, append-nil, replicate, set, slice_get, Some, arith, refl, sym, ap, ◌∙◌}
 use Rattle.std.proofs.lemmas.Bool.{eq-eqb, ne_eqb}
-use Rattle.c_tree.specs.Numbered.{Start, Starts, start}
+use Rattle.c_tree.specs.Numbered.{Starts, start}
 use Rattle.c_print.specs.Lines.{Placed, heights, starts_from, block_starts, line_if, line_among, kept}
 
 -- the number itself, and another one

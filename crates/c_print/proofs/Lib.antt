@@ -6,6 +6,10 @@ pub mod StatementLines
 pub mod KeptLines
 pub mod PlacedLemmas
 pub mod LayoutLength
+pub mod FeedLemmas
+pub mod StartLemmas
+pub mod OpeningLemmas
+pub mod LineLaws
 pub mod Rules
 pub mod RawWordLemmas
 pub mod TokenPrint

@@ -1,17 +1,17 @@
 -- Lines of each form of statement, as equations.
-use Rattle.std.proofs.Common.{◌≡◌, ℕ, zero, suc, ◌+◌, ◌<◌, ◌≤◌, Bool, List, [], ◌∷◌, ◌++◌, length, map, take, get_or, slice_get, true, ◌==◌, Option, Some, None, option_map, refl, sym, ap, ◌∙◌, append_assoc, append-nil, arith}
+use Rattle.std.proofs.Common.{◌≡◌, ℕ, ◌+◌, Bool, List, [], ◌∷◌, ◌++◌, length, map, slice_get, true, ◌==◌, Option, Some, None, option_map, refl, sym, ap, ◌∙◌, arith}
 use Rattle.c_arith.specs.declared.operators.BinaryOp.{BinaryOp}
 use Rattle.c_tree.specs.declared.types.CType.{CType}
 use Rattle.c_tree.specs.declared.expr.Expr.{Expr}
 use Rattle.c_tree.specs.declared.program.Init.{Init}
 use Rattle.c_tree.specs.declared.statement.Target.{Target}
 use Rattle.c_tree.specs.declared.statement.Amount.{Amount}
-use Rattle.c_tree.specs.declared.statement.Arm.{Arm, out-Arm, fold_out-Arm}
+use Rattle.c_tree.specs.declared.statement.Arm.{Arm, fold_out-Arm}
 use Rattle.c_tree.specs.declared.statement.Statement.{Statement, out-Statement, fold-roll-Statement}
-use Rattle.c_tree.specs.declared.statement.Statement.TheViews.{roll-Statement, out-roll-Statement, roll-out-Statement}
+use Rattle.c_tree.specs.declared.statement.Statement.TheViews.{roll-Statement, roll-out-Statement}
 use Rattle.c_tree.specs.declared.statement.Statement.TheOpen.{Statement-F}
 use Rattle.c_tree.specs.declared.statement.Statement.TheVariants as s
-use Rattle.c_tree.specs.Numbered.{Starts, start, own_id, layer_start, Start}
+use Rattle.c_tree.specs.Numbered.{Starts, own_id, layer_start, Start}
 use Rattle.std.proofs.lemmas.Bool.{eqb-true}
 use Rattle.std.specs.Option.{option_map_or}
 use Rattle.c_tree.specs.declared.program.Program.{Program}

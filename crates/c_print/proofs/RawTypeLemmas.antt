@@ -6,9 +6,8 @@ use Rattle.c_tree.specs.declared.raw.expr.RawType.{RawType, fold-roll-RawType}
 use Rattle.c_tree.specs.declared.raw.expr.RawType.TheOpen.{RawType-F}
 use Rattle.c_tree.specs.declared.raw.expr.RawType.TheVariants as type
 use Rattle.c_language.specs.Words.{Bytes, int_words}
-use Rattle.c_language.specs.ProgramOf.{length_words}
 use Rattle.c_language.specs.TypeGrammar.{is_empty_length, is_listed, listed_step}
-use Rattle.c_print.specs.RawLayout.{raw_base_step, raw_base, raw_stars_step, raw_stars, raw_lengths_step, raw_lengths}
+use Rattle.c_print.specs.RawLayout.{raw_base_step, raw_base, raw_stars_step, raw_stars, raw_length_words, raw_lengths_step, raw_lengths}
 use Rattle.c_print.specs.Settled.{settled_length, settled_type_step, settled_type}
 
 pub raw_base-Integer : (t : IntType) → raw_base (type.Integer t) ≡ int_words t
@@ -41,7 +40,7 @@ raw_lengths-Integer items t = ap (raw_lengths items) (sym (type.rolls-Integer t)
 pub raw_lengths-PointerTo : (items : ℕ) (a : RawType) → raw_lengths items (type.PointerTo a) ≡ []
 raw_lengths-PointerTo items a = ap (raw_lengths items) (sym (type.rolls-PointerTo a)) ∙ fold-roll-RawType Bytes (raw_lengths_step items) (RawType-F.PointerTo a)
 
-pub raw_lengths-Array : (items : ℕ) (a : RawType) (n : RawLength) → raw_lengths items (type.Array a n) ≡ 91 ∷ (length_words items n ++ (93 ∷ raw_lengths items a))
+pub raw_lengths-Array : (items : ℕ) (a : RawType) (n : RawLength) → raw_lengths items (type.Array a n) ≡ 91 ∷ (raw_length_words items n ++ (93 ∷ raw_lengths items a))
 raw_lengths-Array items a n = ap (raw_lengths items) (sym (type.rolls-Array a n)) ∙ fold-roll-RawType Bytes (raw_lengths_step items) (RawType-F.Array a n)
 
 pub raw_lengths-Struct : (items : ℕ) (tag : Bytes) → raw_lengths items (type.Struct tag) ≡ []

@@ -14,7 +14,7 @@ use Rattle.c_tree.specs.declared.raw.statement.RawStatement.{RawStatement}
 use Rattle.c_tree.specs.declared.raw.statement.RawStatement.TheVariants as s
 use Rattle.c_language.specs.Words.{Bytes, joined, assign_sign}
 use Rattle.c_language.specs.Layout.{call_words, Laid}
-use Rattle.c_language.specs.ProgramOf.{raw_words}
+use Rattle.c_print.specs.SpacedWords.{spaced_words}
 use Rattle.c_language.specs.StraightLine.{is_letter}
 use Rattle.c_language.specs.TokenForms.{Tokens, name, string, mark, line_of}
 use Rattle.c_language.specs.ExprGrammar.{IsExpr, number_constant, character_constant, null, eof, variable, paren, index, member, unary, binary, choose, place_step, is_place, postfix_level}
@@ -36,40 +36,40 @@ use Rattle.c_print.proofs.TypePrint.{named_rest, closes_paren, print_type_name}
 
 arg_rest : {ts rest : Tokens} {a : RawArg} → IsArg ts a rest → AreWritten ts → AreWritten rest
 arg_rest (IsArg.value h) w = expr_rest h w
-arg_rest literal w = w.4
+arg_rest literal w = w.1
 
 args_rest : {ts rest : Tokens} {all : List RawArg} → IsArgs ts all rest → AreWritten ts → AreWritten rest
-args_rest (IsSeparated.last h) w = (arg_rest h w).4
-args_rest (IsSeparated.more h k) w = args_rest k (arg_rest h w).4
+args_rest (IsSeparated.last h) w = (arg_rest h w).1
+args_rest (IsSeparated.more h k) w = args_rest k (arg_rest h w).1
 
 pub call_rest : {ts rest : Tokens} {f : Bytes} {all : List RawArg} → IsCall ts f all rest → AreWritten ts → AreWritten rest
-call_rest (bare h) w = w.4.4.4
-call_rest (with_args h k) w = args_rest k w.4.4
+call_rest (bare h) w = w.1.1.1
+call_rest (with_args h k) w = args_rest k w.1.1
 
 size_rest : {ts rest : Tokens} {z : RawSize} → IsSize ts z rest → AreWritten ts → AreWritten rest
-size_rest (of_type h) w = (named_rest h w.4.4).4
-size_rest (of_pointee h) w = w.4.4.4.4.4
-size_rest (of_bare_pointee h) w = w.4.4.4
+size_rest (of_type h) w = (named_rest h w.1.1).1
+size_rest (of_pointee h) w = w.1.1.1.1.1
+size_rest (of_bare_pointee h) w = w.1.1.1
 
 amount_rest : {ts rest : Tokens} {n : RawAmount} → IsAmount ts n rest → AreWritten ts → AreWritten rest
 amount_rest (IsAmount.one h) w = size_rest h w
-amount_rest (counted h k) w = size_rest k (expr_rest h w).4
-amount_rest (multiplied h k) w = expr_rest k (size_rest h w).4
+amount_rest (counted h k) w = size_rest k (expr_rest h w).1
+amount_rest (multiplied h k) w = expr_rest k (size_rest h w).1
 amount_rest (IsAmount.bytes h) w = expr_rest h w
 
 malloc_rest : {ts rest : Tokens} {n : RawAmount} → IsMalloc ts n rest → AreWritten ts → AreWritten rest
-malloc_rest (IsMalloc.malloc h) w = (amount_rest h w.4.4).4
+malloc_rest (IsMalloc.malloc h) w = (amount_rest h w.1.1).1
 
 pub heap_rest : {ts rest : Tokens} {t : Option RawTypeName} {n : RawAmount} → IsHeap ts t n rest → AreWritten ts → AreWritten rest
 heap_rest (uncast h) w = malloc_rest h w
-heap_rest (IsHeap.cast h p k) w = malloc_rest k (named_rest h w.4).4
+heap_rest (IsHeap.cast h p k) w = malloc_rest k (named_rest h w.1).1
 
 pub simple_rest : {ts rest : Tokens} {a : RawStatement} → IsSimple ts a rest → AreWritten ts → AreWritten rest
-simple_rest (assign op q h p k) w = expr_rest k (expr_rest h w).4
-simple_rest (store_call h p k) w = call_rest k (expr_rest h w).4
-simple_rest (store_heap h p k) w = heap_rest k (expr_rest h w).4
-simple_rest (bump_after up h p) w = (expr_rest h w).4
-simple_rest (bump_before up h p) w = expr_rest h w.4
+simple_rest (assign op q h p k) w = expr_rest k (expr_rest h w).1
+simple_rest (store_call h p k) w = call_rest k (expr_rest h w).1
+simple_rest (store_heap h p k) w = heap_rest k (expr_rest h w).1
+simple_rest (bump_after up h p) w = (expr_rest h w).1
+simple_rest (bump_before up h p) w = expr_rest h w.1
 simple_rest (IsSimple.call h) w = call_rest h w
 
 -- ---- arguments
@@ -102,7 +102,7 @@ print_args (IsSeparated.last h) w line more after t =
     let x = print_arg h w line (41 ∷ more) (mark (codes ")") line ∷ after) (λ b. refl) (print_mark (codes ")") refl refl t) in
     record { tokens = x.tokens; lexed = x.lexed; is = IsSeparated.last x.is }
 print_args (IsSeparated.more {a} {all} h k) w line more after t =
-    let y = print_args k (arg_rest h w).4 line more after t in
+    let y = print_args k (arg_rest h w).1 line more after t in
     let x = print_arg h w line (44 ∷ 32 ∷ (joined (codes ", ") (map raw_arg_words all) ++ (41 ∷ more))) (mark (codes ",") line ∷ y.tokens) (λ b. refl) (print_mark (codes ",") refl refl (print_blank (y.lexed Token))) in
     has_as (ap (λ (z : Bytes). z ++ (41 ∷ more)) (some_args k (raw_arg_words a)) ∙ append_assoc (raw_arg_words a) _ (41 ∷ more))
     (record { tokens = x.tokens; lexed = x.lexed; is = IsSeparated.more x.is y.is })
@@ -116,7 +116,7 @@ print_call {f = f} (bare h) w line more after t =
     has_as (call_join f [] more)
     (record { tokens = name f line ∷ mark (codes "(") line ∷ mark (codes ")") line ∷ after; lexed = λ before. print_name f w.0 (λ b. refl) (print_mark (codes "(") refl refl (print_mark (codes ")") refl refl t)); is = bare h })
 print_call {f = f} {all} (with_args h k) w line more after t =
-    let x = print_args k w.4.4 line more after t in
+    let x = print_args k w.1.1 line more after t in
     has_as (call_join f (joined (codes ", ") (map raw_arg_words all)) more)
     (record { tokens = name f line ∷ mark (codes "(") line ∷ x.tokens; lexed = λ before. print_name f w.0 (λ b. refl) (print_mark (codes "(") refl refl (x.lexed Token)); is = with_args h x.is })
 
@@ -128,11 +128,11 @@ pointee_sure f rest (HasForm.name {b} {run} h r) = rw (other_class is_letter b 6
 print_size : {ts rest : Tokens} {z : RawSize} → IsSize ts z rest → AreWritten ts → (line : ℕ) (more : Bytes) (after : Tokens) → Stops name_goes_on more → IsTokens Token line more after
     → Has line (raw_size_words z ++ more) (λ ts. IsSize ts z after)
 print_size (of_type {t = a} h) w line more after s t =
-    let x = print_type_name h w.4.4 line (41 ∷ more) (mark (codes ")") line ∷ after) (closes_paren more line after) (print_mark (codes ")") refl refl t) in
+    let x = print_type_name h w.1.1 line (41 ∷ more) (mark (codes ")") line ∷ after) (closes_paren more line after) (print_mark (codes ")") refl refl t) in
     has_as (ap (λ (z : Bytes). codes "sizeof(" ++ z) (append_assoc (raw_type_words (named_type a)) (codes ")") more))
     (record { tokens = name (codes "sizeof") line ∷ mark (codes "(") line ∷ x.tokens; lexed = λ before. print_name (codes "sizeof") w.0 (λ b. refl) (print_mark (codes "(") refl refl (x.lexed Token)); is = of_type x.is })
 print_size (of_pointee {w = f} h) w line more after s t =
-    let ws = w.4.4.4.0 in
+    let ws = w.1.1.1.0 in
     has_as (ap (λ (z : Bytes). codes "sizeof(*" ++ z) (append_assoc f (codes ")") more))
     (record {
       tokens = name (codes "sizeof") line ∷ mark (codes "(") line ∷ mark (codes "*") line ∷ name f line ∷ mark (codes ")") line ∷ after;
@@ -140,7 +140,7 @@ print_size (of_pointee {w = f} h) w line more after s t =
       is = of_pointee h;
     })
 print_size (of_bare_pointee {w = f} h) w line more after s t =
-    let ws = w.4.4.0 in
+    let ws = w.1.1.0 in
     record {
       tokens = name (codes "sizeof") line ∷ mark (codes "*") line ∷ name f line ∷ after;
       lexed = λ before. print_name (codes "sizeof") w.0 (λ b. refl) (print_blank (print_mark (codes "*") refl (pointee_sure f more ws) (print_name f ws s t)));
@@ -156,12 +156,12 @@ print_amount (IsAmount.one h) w line more after s t =
     let x = print_size h w line more after (stops_name more s) t in
     record { tokens = x.tokens; lexed = x.lexed; is = IsAmount.one x.is }
 print_amount (counted {a = a} {z} h k) w line more after s t =
-    let y = print_size k (expr_rest h w).4 line more after (stops_name more s) t in
+    let y = print_size k (expr_rest h w).1 line more after (stops_name more s) t in
     let x = print_expr h w line (codes " * " ++ (raw_size_words z ++ more)) (mark (codes "*") line ∷ y.tokens) (stops_expr h _ (λ b. refl)) (print_times (y.lexed Token)) in
-    has_as (append_assoc (raw_words a) _ more) (record { tokens = x.tokens; lexed = x.lexed; is = counted x.is y.is })
+    has_as (append_assoc (spaced_words a) _ more) (record { tokens = x.tokens; lexed = x.lexed; is = counted x.is y.is })
 print_amount (multiplied {a = a} {z} h k) w line more after s t =
-    let y = print_expr k (size_rest h w).4 line more after (stops_expr k more s) t in
-    let x = print_size h w line (codes " * " ++ (raw_words a ++ more)) (mark (codes "*") line ∷ y.tokens) (λ b. refl) (print_times (y.lexed Token)) in
+    let y = print_expr k (size_rest h w).1 line more after (stops_expr k more s) t in
+    let x = print_size h w line (codes " * " ++ (spaced_words a ++ more)) (mark (codes "*") line ∷ y.tokens) (λ b. refl) (print_times (y.lexed Token)) in
     has_as (append_assoc (raw_size_words z) _ more) (record { tokens = x.tokens; lexed = x.lexed; is = multiplied x.is y.is })
 print_amount (IsAmount.bytes h) w line more after s t =
     let x = print_expr h w line more after (stops_expr h more s) t in
@@ -173,7 +173,7 @@ malloc_words n = call_words (codes "malloc") (raw_amount_words n ∷ [])
 print_malloc : {ts rest : Tokens} {n : RawAmount} → IsMalloc ts n rest → AreWritten ts → (line : ℕ) (more : Bytes) (after : Tokens) → IsTokens Token line more after
     → Has line (malloc_words n ++ more) (λ ts. IsMalloc ts n after)
 print_malloc (IsMalloc.malloc {n = n} h) w line more after t =
-    let x = print_amount h w.4.4 line (41 ∷ more) (mark (codes ")") line ∷ after) (λ b. refl) (print_mark (codes ")") refl refl t) in
+    let x = print_amount h w.1.1 line (41 ∷ more) (mark (codes ")") line ∷ after) (λ b. refl) (print_mark (codes ")") refl refl t) in
     has_as (call_join (codes "malloc") (raw_amount_words n) more)
     (record { tokens = name (codes "malloc") line ∷ mark (codes "(") line ∷ x.tokens; lexed = λ before. print_name (codes "malloc") w.0 (λ b. refl) (print_mark (codes "(") refl refl (x.lexed Token)); is = IsMalloc.malloc x.is })
 
@@ -186,8 +186,8 @@ print_heap (uncast h) w line more after t =
     let x = print_malloc h w line more after t in
     record { tokens = x.tokens; lexed = x.lexed; is = uncast x.is }
 print_heap (IsHeap.cast {t = a} {n} h p k) w line more after t =
-    let y = print_malloc k (named_rest h w.4).4 line more after t in
-    let x = print_type_name h w.4 line (41 ∷ (malloc_words n ++ more)) (mark (codes ")") line ∷ y.tokens) (closes_paren (malloc_words n ++ more) line y.tokens) (print_mark (codes ")") refl refl (y.lexed Token)) in
+    let y = print_malloc k (named_rest h w.1).1 line more after t in
+    let x = print_type_name h w.1 line (41 ∷ (malloc_words n ++ more)) (mark (codes ")") line ∷ y.tokens) (closes_paren (malloc_words n ++ more) line y.tokens) (print_mark (codes ")") refl refl (y.lexed Token)) in
     has_as (cast_join (raw_type_words (named_type a)) (malloc_words n) more)
     (record { tokens = mark (codes "(") line ∷ x.tokens; lexed = λ before. print_mark (codes "(") refl refl (x.lexed Token); is = IsHeap.cast x.is p y.is })
 
@@ -286,28 +286,28 @@ words_of more e = ap (λ (l : Laid). l.words ++ more) e
 pub print_simple : {ts rest : Tokens} {a : RawStatement} → IsSimple ts a rest → AreWritten ts → (line : ℕ) (more : Bytes) (after : Tokens) → Stops number_goes_on more → IsTokens Token line more after
     → PrintedSimple line ((raw_laid a).words ++ more) a after
 print_simple (assign {ts = ts} {a = a} {b} op q h p k) w line more after stop t =
-    let y = print_expr k (expr_rest h w).4 line more after (stops_expr k more stop) t in
-    let x = print_expr h w line (32 ∷ (assign_sign op ++ (32 ∷ (raw_words b ++ more)))) (mark (assign_sign op) line ∷ y.tokens) (stops_expr h _ (λ b. refl))
-    (print_blank (print_mark (assign_sign op) (assign_mark op q) (assign_sure op (raw_words b ++ more) q) (print_blank (y.lexed Token)))) in
-    simple_as (words_of more (raw_laid-Assign (line_of ts) a op b) ∙ assign_join (raw_words a) (raw_words b) more op)
+    let y = print_expr k (expr_rest h w).1 line more after (stops_expr k more stop) t in
+    let x = print_expr h w line (32 ∷ (assign_sign op ++ (32 ∷ (spaced_words b ++ more)))) (mark (assign_sign op) line ∷ y.tokens) (stops_expr h _ (λ b. refl))
+    (print_blank (print_mark (assign_sign op) (assign_mark op q) (assign_sure op (spaced_words b ++ more) q) (print_blank (y.lexed Token)))) in
+    simple_as (words_of more (raw_laid-Assign (line_of ts) a op b) ∙ assign_join (spaced_words a) (spaced_words b) more op)
     (record { tokens = x.tokens; lexed = x.lexed; found = s.Assign (line_of x.tokens) a op b; is = assign op q x.is p y.is; same = settled-Assign (line_of x.tokens) a op b ∙ sym (settled-Assign (line_of ts) a op b) })
 print_simple (store_call {ts = ts} {a = a} {w = f} {all} h p k) w line more after stop t =
-    let y = print_call k (expr_rest h w).4 line more after t in
+    let y = print_call k (expr_rest h w).1 line more after t in
     let x = print_expr h w line (codes " = " ++ (call_words f (map raw_arg_words all) ++ more)) (mark (codes "=") line ∷ y.tokens) (stops_expr h _ (λ b. refl)) (print_equals (y.lexed Token)) in
-    simple_as (words_of more (raw_laid-Call (line_of ts) (target.Place a) f all) ∙ store_join (raw_words a) (call_words f (map raw_arg_words all)) more)
+    simple_as (words_of more (raw_laid-Call (line_of ts) (target.Place a) f all) ∙ store_join (spaced_words a) (call_words f (map raw_arg_words all)) more)
     (record { tokens = x.tokens; lexed = x.lexed; found = s.Call (line_of x.tokens) (target.Place a) f all; is = store_call x.is p y.is; same = settled-Call (line_of x.tokens) (target.Place a) f all ∙ sym (settled-Call (line_of ts) (target.Place a) f all) })
 print_simple (store_heap {ts = ts} {a = a} {t = c} {n} h p k) w line more after stop t =
-    let y = print_heap k (expr_rest h w).4 line more after t in
+    let y = print_heap k (expr_rest h w).1 line more after t in
     let x = print_expr h w line (codes " = " ++ ((raw_cast_words c ++ malloc_words n) ++ more)) (mark (codes "=") line ∷ y.tokens) (stops_expr h _ (λ b. refl)) (print_equals (y.lexed Token)) in
-    simple_as (words_of more (raw_laid-Heap (line_of ts) (target.Place a) c n) ∙ store_join (raw_words a) (raw_cast_words c ++ malloc_words n) more)
+    simple_as (words_of more (raw_laid-Heap (line_of ts) (target.Place a) c n) ∙ store_join (spaced_words a) (raw_cast_words c ++ malloc_words n) more)
     (record { tokens = x.tokens; lexed = x.lexed; found = s.Heap (line_of x.tokens) (target.Place a) c n; is = store_heap x.is p y.is; same = settled-Heap (line_of x.tokens) (target.Place a) c n ∙ sym (settled-Heap (line_of ts) (target.Place a) c n) })
 print_simple (bump_after {ts = ts} {a = a} up h p) w line more after stop t =
     let x = print_expr h w line (bump_sign up ++ more) (mark (bump_sign up) line ∷ after) (bumps up more h (omega arith) p) (print_bump up t) in
-    simple_as (words_of more (raw_laid-Bump (line_of ts) a up false) ∙ append_assoc (raw_words a) (bump_sign up) more)
+    simple_as (words_of more (raw_laid-Bump (line_of ts) a up false) ∙ append_assoc (spaced_words a) (bump_sign up) more)
     (record { tokens = x.tokens; lexed = x.lexed; found = s.Bump (line_of x.tokens) a up false; is = bump_after up x.is p; same = settled-Bump (line_of x.tokens) a up false ∙ sym (settled-Bump (line_of ts) a up false) })
 print_simple (bump_before {l = l} {a = a} up h p) w line more after stop t =
-    let x = print_expr h w.4 line more after (stops_expr h more stop) t in
-    simple_as (words_of more (raw_laid-Bump l a up true) ∙ append_assoc (bump_sign up) (raw_words a) more)
+    let x = print_expr h w.1 line more after (stops_expr h more stop) t in
+    simple_as (words_of more (raw_laid-Bump l a up true) ∙ append_assoc (bump_sign up) (spaced_words a) more)
     (record { tokens = mark (bump_sign up) line ∷ x.tokens; lexed = λ before. print_bump up (x.lexed Token); found = s.Bump line a up true; is = bump_before up x.is p; same = settled-Bump line a up true ∙ sym (settled-Bump l a up true) })
 print_simple (IsSimple.call {ts = ts} {w = f} {all} h) w line more after stop t =
     let x = print_call h w line more after t in

@@ -17,7 +17,7 @@ use Rattle.c_language.specs.Words.{Bytes}
 use Rattle.c_language.specs.Layout.{indent, Laid, block_lines, else_lines, init_part, step_part, arms_lines, braced}
 use Rattle.c_language.specs.Layout.{plain as laid_plain}
 use Rattle.c_language.specs.Layout.{line as whole_line}
-use Rattle.c_language.specs.ProgramOf.{raw_words}
+use Rattle.c_print.specs.SpacedWords.{spaced_words}
 use Rattle.c_language.specs.TokenForms.{Tokens, name, mark, line_of}
 use Rattle.c_language.specs.Sees.{sees, is_keyword}
 use Rattle.c_language.specs.ExprGrammar.{IsExpr, number_constant, character_constant, null, eof, variable, paren, index, member, unary, cast, binary, choose, is_plain_name}
@@ -40,27 +40,27 @@ use Rattle.c_print.proofs.DeclaredPrint.{declared_rest, print_declared}
 -- ---- what follows is written too
 
 declared_all_rest : {l : ℕ} {base : RawType} {ts rest : Tokens} {all : List RawStatement} → AreDeclared l base ts all rest → AreWritten ts → AreWritten rest
-declared_all_rest (IsSeparated.last h) w = (declared_rest h w).4
-declared_all_rest (IsSeparated.more h k) w = declared_all_rest k (declared_rest h w).4
+declared_all_rest (IsSeparated.last h) w = (declared_rest h w).1
+declared_all_rest (IsSeparated.more h k) w = declared_all_rest k (declared_rest h w).1
 
 declaration_rest : {ts rest : Tokens} {all : List RawStatement} → IsDeclaration ts all rest → AreWritten ts → AreWritten rest
 declaration_rest (declaration h k) w = declared_all_rest k (base_rest h w)
 
 init_rest : {ts rest : Tokens} {a : Option RawStatement} → IsInit ts a rest → AreWritten ts → AreWritten rest
-init_rest IsInit.nothing w = w.4
-init_rest (IsInit.simple h) w = (simple_rest h w).4
-init_rest (IsInit.declared h k) w = (declared_rest k (base_rest h w)).4
+init_rest IsInit.nothing w = w.1
+init_rest (IsInit.simple h) w = (simple_rest h w).1
+init_rest (IsInit.declared h k) w = (declared_rest k (base_rest h w)).1
 
 step_rest : {ts rest : Tokens} {a : Option RawStatement} → IsStep ts a rest → AreWritten ts → AreWritten rest
-step_rest IsStep.nothing w = w.4
-step_rest (IsStep.simple h) w = (simple_rest h w).4
+step_rest IsStep.nothing w = w.1
+step_rest (IsStep.simple h) w = (simple_rest h w).1
 
 test_rest : {ts rest : Tokens} {a : RawExpr} → IsTest ts a rest → AreWritten ts → AreWritten rest
-test_rest (test h) w = (expr_rest h w.4).4
+test_rest (test h) w = (expr_rest h w.1).1
 
 label_rest : {ts rest : Tokens} {a : RawLabel} → IsLabel ts a rest → AreWritten ts → AreWritten rest
-label_rest (case h) w = (expr_rest h w.4).4
-label_rest default w = w.4.4
+label_rest (case h) w = (expr_rest h w.1).1
+label_rest default w = w.1.1
 
 labels_rest : {ts rest : Tokens} {all : List RawLabel} → AreLabels ts all rest → AreWritten ts → AreWritten rest
 labels_rest (AreLabels.last h) w = label_rest h w
@@ -68,35 +68,35 @@ labels_rest (AreLabels.more h k) w = labels_rest k (label_rest h w)
 
 mutual
   pub statement_rest : {ts rest : Tokens} {a : RawStatement} → IsStatement ts a rest → AreWritten ts → AreWritten rest
-  statement_rest (IsStatement.simple h) w = (simple_rest h w).4
-  statement_rest returns w = w.4.4
-  statement_rest (returns_value h) w = (expr_rest h w.4).4
-  statement_rest (block h) w = (statements_rest h w.4).4
-  statement_rest (conditional h k j) w = else_rest j (body_rest k (test_rest h w.4))
-  statement_rest (while_loop h k) w = body_rest k (test_rest h w.4)
-  statement_rest (do_loop h k) w = (test_rest k (body_rest h w.4).4).4
-  statement_rest (for_loop h k j i) w = body_rest i (step_rest j (expr_rest k (init_rest h w.4.4)).4)
-  statement_rest (switch h k) w = arms_rest k (test_rest h w.4).4
+  statement_rest (IsStatement.simple h) w = (simple_rest h w).1
+  statement_rest returns w = w.1.1
+  statement_rest (returns_value h) w = (expr_rest h w.1).1
+  statement_rest (block h) w = (statements_rest h w.1).1
+  statement_rest (conditional h k j) w = else_rest j (body_rest k (test_rest h w.1))
+  statement_rest (while_loop h k) w = body_rest k (test_rest h w.1)
+  statement_rest (do_loop h k) w = (test_rest k (body_rest h w.1).1).1
+  statement_rest (for_loop h k j i) w = body_rest i (step_rest j (expr_rest k (init_rest h w.1.1)).1)
+  statement_rest (switch h k) w = arms_rest k (test_rest h w.1).1
 
   pub statements_rest : {ts rest : Tokens} {all : List RawStatement} → AreStatements ts all rest → AreWritten ts → AreWritten rest
   statements_rest AreStatements.done w = w
-  statements_rest (AreStatements.empty h) w = statements_rest h w.4
+  statements_rest (AreStatements.empty h) w = statements_rest h w.1
   statements_rest (AreStatements.declared h k) w = statements_rest k (declaration_rest h w)
   statements_rest (AreStatements.more h k) w = statements_rest k (statement_rest h w)
 
   body_rest : {ts rest : Tokens} {all : List RawStatement} → IsBody ts all rest → AreWritten ts → AreWritten rest
-  body_rest (IsBody.braces h) w = (statements_rest h w.4).4
-  body_rest IsBody.nothing w = w.4
+  body_rest (IsBody.braces h) w = (statements_rest h w.1).1
+  body_rest IsBody.nothing w = w.1
   body_rest (single p h) w = statement_rest h w
 
   else_rest : {ts rest : Tokens} {all : List RawStatement} → IsElse ts all rest → AreWritten ts → AreWritten rest
-  else_rest (otherwise h) w = body_rest h w.4
+  else_rest (otherwise h) w = body_rest h w.1
   else_rest (without p) w = w
 
   arms_rest : {ts rest : Tokens} {all : List RawArm} → AreArms ts all rest → AreWritten ts → AreWritten rest
-  arms_rest AreArms.none w = w.4
-  arms_rest (broken h k j) w = arms_rest j (statements_rest k (labels_rest h w)).4.4
-  arms_rest (unbroken h p k) w = (statements_rest k (labels_rest h w)).4
+  arms_rest AreArms.none w = w.1
+  arms_rest (broken h k j) w = arms_rest j (statements_rest k (labels_rest h w)).1.1
+  arms_rest (unbroken h p k) w = (statements_rest k (labels_rest h w)).1
 
 -- ---- no simple statement begins with an else
 
@@ -190,10 +190,18 @@ pub record One (a : RawStatement) (R : Tokens → Type 0) (ts : Tokens) : Type 0
   pub no_else : sees Name (codes "else") ts ≡ false
   pub has : Safe R rest
 
+-- no `;` alone stands among the statements of the list
+abbrev pub IsLean : {ts rest : Tokens} {all : List RawStatement} → AreStatements ts all rest → Type 0
+IsLean AreStatements.done = Unit {0}
+IsLean (AreStatements.empty h) = ⊥
+IsLean (AreStatements.declared h k) = IsLean k
+IsLean (AreStatements.more h k) = IsLean k
+
 pub record Many (all : List RawStatement) (R : Tokens → Type 0) (ts : Tokens) : Type 0 where
   pub found : List RawStatement
   pub rest : Tokens
   pub is : AreStatements ts found rest
+  pub lean : IsLean is
   pub same : map settled found ≡ map settled all
   pub no_else : sees Name (codes "else") ts ≡ false
   pub has : Safe R rest
@@ -307,17 +315,17 @@ print_separated b wb (IsSeparated.last {a} h) w n tl all R t =
     record {
       tokens = p.tokens;
       lexed = print_indent n (p.lexed Blank);
-      has = record { found = p.found ∷ q.found; rest = q.rest; is = AreStatements.declared (declaration p.is_base (IsSeparated.last p.is)) q.is; same = ap₂ (λ (c : RawStatement) (cs : List RawStatement). c ∷ cs) p.same q.same; no_else = p.no_else; has = q.has };
+      has = record { found = p.found ∷ q.found; rest = q.rest; is = AreStatements.declared (declaration p.is_base (IsSeparated.last p.is)) q.is; lean = q.lean; same = ap₂ (λ (c : RawStatement) (cs : List RawStatement). c ∷ cs) p.same q.same; no_else = p.no_else; has = q.has };
     })
 print_separated b wb (IsSeparated.more {a} {all = some} h k) w n tl all R t =
     tails_as (ap (λ (z : Bytes). (z ++ block_lines (map raw_laid some) n) ++ tl) (declared_lines n h) ∙ append_assoc (whole_line n ((raw_laid a).words ++ codes ";")) (block_lines (map raw_laid some) n) tl ∙ ended_join n (raw_laid a).words (block_lines (map raw_laid some) n ++ tl)) (λ line.
-    let x = print_separated b wb k (declared_rest h w).4 n tl all R t (line + 1) in
+    let x = print_separated b wb k (declared_rest h w).1 n tl all R t (line + 1) in
     let q = x.has in
     let p = print_declared b wb h w line (59 ∷ 10 ∷ (block_lines (map raw_laid some) n ++ tl)) (mark (codes ";") line ∷ x.tokens) (λ c. refl) (semicolon_no_length line x.tokens) (end_line line x) in
     record {
       tokens = p.tokens;
       lexed = print_indent n (p.lexed Blank);
-      has = record { found = p.found ∷ q.found; rest = q.rest; is = AreStatements.declared (declaration p.is_base (IsSeparated.last p.is)) q.is; same = ap₂ (λ (c : RawStatement) (cs : List RawStatement). c ∷ cs) p.same q.same; no_else = p.no_else; has = q.has };
+      has = record { found = p.found ∷ q.found; rest = q.rest; is = AreStatements.declared (declaration p.is_base (IsSeparated.last p.is)) q.is; lean = q.lean; same = ap₂ (λ (c : RawStatement) (cs : List RawStatement). c ∷ cs) p.same q.same; no_else = p.no_else; has = q.has };
     })
 
 lines_append : (some all : List RawStatement) (n : ℕ) (tl : Bytes) → block_lines (map raw_laid (some ++ all)) n ++ tl ≡ block_lines (map raw_laid some) n ++ (block_lines (map raw_laid all) n ++ tl)
@@ -329,9 +337,9 @@ lines_append (a ∷ some) all n tl =
 -- ---- heads of statements
 
 print_test : {ts rest : Tokens} {a : RawExpr} → IsTest ts a rest → AreWritten ts → (line : ℕ) (more : Bytes) (after : Tokens) → IsTokens Token line more after
-    → Has line (40 ∷ (raw_words a ++ (41 ∷ more))) (λ ts. IsTest ts a after)
+    → Has line (40 ∷ (spaced_words a ++ (41 ∷ more))) (λ ts. IsTest ts a after)
 print_test (test h) w line more after t =
-    let x = print_expr h w.4 line (41 ∷ more) (mark (codes ")") line ∷ after) (stops_expr h _ (λ b. refl)) (print_mark (codes ")") refl refl t) in
+    let x = print_expr h w.1 line (41 ∷ more) (mark (codes ")") line ∷ after) (stops_expr h _ (λ b. refl)) (print_mark (codes ")") refl refl t) in
     record { tokens = mark (codes "(") line ∷ x.tokens; lexed = λ before. print_mark (codes "(") refl refl (x.lexed Token); is = test x.is }
 
 record PrintedInit (line : ℕ) (bytes : Bytes) (a : Option RawStatement) (after : Tokens) : Type 0 where
@@ -373,8 +381,8 @@ label_join w tl = ap (λ (z : Bytes). codes "case " ++ z) (append_assoc w (codes
 print_label : {ts rest : Tokens} {a : RawLabel} → IsLabel ts a rest → AreWritten ts → (n : ℕ) (tl : Bytes) (line : ℕ) (after : Tokens) → IsTokens Blank (line + 1) tl after
     → Tail line (indent n ++ (raw_label_words a ++ (10 ∷ tl))) (λ ts. IsLabel ts a after)
 print_label (case {a = a} h) w n tl line after t =
-    let x = print_expr h w.4 line (58 ∷ 10 ∷ tl) (mark (codes ":") line ∷ after) (stops_expr h _ (λ b. refl)) (print_mark (codes ":") refl refl (print_line t)) in
-    subst (λ (z : Bytes). Tail line (indent n ++ z) (λ ts. IsLabel ts (label.Case a) after)) (sym (label_join (raw_words a) tl))
+    let x = print_expr h w.1 line (58 ∷ 10 ∷ tl) (mark (codes ":") line ∷ after) (stops_expr h _ (λ b. refl)) (print_mark (codes ":") refl refl (print_line t)) in
+    subst (λ (z : Bytes). Tail line (indent n ++ z) (λ ts. IsLabel ts (label.Case a) after)) (sym (label_join (spaced_words a) tl))
     (record { tokens = name (codes "case") line ∷ x.tokens; lexed = print_indent n (print_name (codes "case") w.0 (λ b. refl) (print_blank (x.lexed Token))); has = case x.is })
 print_label default w n tl line after t =
     record { tokens = name (codes "default") line ∷ mark (codes ":") line ∷ after; lexed = print_indent n (print_name (codes "default") w.0 (λ b. refl) (print_mark (codes ":") refl refl (print_line t))); has = default }
@@ -491,9 +499,9 @@ mutual
         has = record { found = s.Return line None; rest = x.tokens; is = returns; same = settled-Return line None ∙ sym (settled-Return l None); no_else = name_no_else (codes "return") line (mark (codes ";") line ∷ x.tokens) refl; has = x.has };
       })
   print_statement (returns_value {l} {a = a} h) w n tl R t =
-      tails_as (lines_as n tl (raw_laid-Return l (Some a)) ∙ return_join n (raw_words a) tl) (λ line.
+      tails_as (lines_as n tl (raw_laid-Return l (Some a)) ∙ return_join n (spaced_words a) tl) (λ line.
       let x = t (line + 1) in
-      let p = print_expr h w.4 line (59 ∷ 10 ∷ tl) (mark (codes ";") line ∷ x.tokens) (stops_expr h _ (λ b. refl)) (end_line line x) in
+      let p = print_expr h w.1 line (59 ∷ 10 ∷ tl) (mark (codes ";") line ∷ x.tokens) (stops_expr h _ (λ b. refl)) (end_line line x) in
       record {
         tokens = name (codes "return") line ∷ p.tokens;
         lexed = print_indent n (print_name (codes "return") w.0 (λ b. refl) (print_blank (p.lexed Token)));
@@ -501,7 +509,7 @@ mutual
       })
   print_statement (block {l} {all = all} h) w n tl R t =
       tails_as (lines_as n tl (raw_laid-Block l all) ∙ braced_join (codes "{") (block_lines (map raw_laid all) (suc n)) (codes "}") n tl) (λ line.
-      let x = print_statements h w.4 (suc n) (indent n ++ (125 ∷ 10 ∷ tl)) (Closed (Safe R)) (close_tail n (10 ∷ tl) (Safe R) (new_line t)) (line + 1) in
+      let x = print_statements h w.1 (suc n) (indent n ++ (125 ∷ 10 ∷ tl)) (Closed (Safe R)) (close_tail n (10 ∷ tl) (Safe R) (new_line t)) (line + 1) in
       let q = x.has in
       let c = q.has.1 in
       record {
@@ -510,11 +518,11 @@ mutual
         has = record { found = s.Block line q.found; rest = c.rest; is = block (subst (λ (r : Tokens). AreStatements x.tokens q.found r) c.at q.is); same = settled-Block line q.found ∙ ap (s.Block 0) q.same ∙ sym (settled-Block l all); no_else = mark_no_else (codes "{") line x.tokens; has = c.has };
       })
   print_statement (conditional {l} {a = a} {yes = body} {other} h k j) w n tl R t =
-      tails_as (lines_as n tl (raw_laid-If l a body other) ∙ if_join n (raw_words a) (block_lines (map raw_laid body) (suc n)) tl (else_lines (map raw_laid other) n ++ whole_line n (codes "}"))) (λ line.
-      let wk = test_rest h w.4 in
+      tails_as (lines_as n tl (raw_laid-If l a body other) ∙ if_join n (spaced_words a) (block_lines (map raw_laid body) (suc n)) tl (else_lines (map raw_laid other) n ++ whole_line n (codes "}"))) (λ line.
+      let wk = test_rest h w.1 in
       let x = print_statements_of_body k wk (suc n) ((else_lines (map raw_laid other) n ++ whole_line n (codes "}")) ++ tl) (Closed (Others other (Safe R))) (print_else j (body_rest k wk) n tl R t) in
       let b = brace_body body (Others other (Safe R)) x line in
-      let p = print_test h w.4 line (32 ∷ 123 ∷ 10 ∷ (block_lines (map raw_laid body) (suc n) ++ ((else_lines (map raw_laid other) n ++ whole_line n (codes "}")) ++ tl))) b.tokens (print_blank (b.lexed Token)) in
+      let p = print_test h w.1 line (32 ∷ 123 ∷ 10 ∷ (block_lines (map raw_laid body) (suc n) ++ ((else_lines (map raw_laid other) n ++ whole_line n (codes "}")) ++ tl))) b.tokens (print_blank (b.lexed Token)) in
       let q = b.is in
       let r = q.has in
       record {
@@ -530,9 +538,9 @@ mutual
         };
       })
   print_statement (while_loop {l} {a = a} {all} h k) w n tl R t =
-      tails_as (lines_as n tl (raw_laid-While l a all) ∙ while_join n (raw_words a) (block_lines (map raw_laid all) (suc n)) tl) (λ line.
-      let b = brace_body all (Safe R) (print_statements_of_body k (test_rest h w.4) (suc n) (indent n ++ (125 ∷ 10 ∷ tl)) (Closed (Safe R)) (close_tail n (10 ∷ tl) (Safe R) (new_line t))) line in
-      let p = print_test h w.4 line (32 ∷ 123 ∷ 10 ∷ (block_lines (map raw_laid all) (suc n) ++ (indent n ++ (125 ∷ 10 ∷ tl)))) b.tokens (print_blank (b.lexed Token)) in
+      tails_as (lines_as n tl (raw_laid-While l a all) ∙ while_join n (spaced_words a) (block_lines (map raw_laid all) (suc n)) tl) (λ line.
+      let b = brace_body all (Safe R) (print_statements_of_body k (test_rest h w.1) (suc n) (indent n ++ (125 ∷ 10 ∷ tl)) (Closed (Safe R)) (close_tail n (10 ∷ tl) (Safe R) (new_line t))) line in
+      let p = print_test h w.1 line (32 ∷ 123 ∷ 10 ∷ (block_lines (map raw_laid all) (suc n) ++ (indent n ++ (125 ∷ 10 ∷ tl)))) b.tokens (print_blank (b.lexed Token)) in
       let q = b.is in
       record {
         tokens = name (codes "while") line ∷ p.tokens;
@@ -540,12 +548,12 @@ mutual
         has = record { found = s.While line a q.found; rest = q.rest; is = while_loop p.is q.is; same = settled-While line a q.found ∙ ap (s.While 0 a) q.same ∙ sym (settled-While l a all); no_else = name_no_else (codes "while") line p.tokens refl; has = q.has };
       })
   print_statement (do_loop {l} {a = a} {all} h k) w n tl R t =
-      tails_as (lines_as n tl (raw_laid-Do l a all) ∙ do_join n (raw_words a) (block_lines (map raw_laid all) (suc n)) tl) (λ line.
-      let wk = body_rest h w.4 in
-      let after : Bytes = 32 ∷ (codes "while" ++ (32 ∷ 40 ∷ (raw_words a ++ (41 ∷ 59 ∷ 10 ∷ tl)))) in
-      let b = brace_body all (Tested a (Safe R)) (print_statements_of_body h w.4 (suc n) (indent n ++ (125 ∷ after)) (Closed (Tested a (Safe R))) (close_tail n after (Tested a (Safe R)) (λ l.
+      tails_as (lines_as n tl (raw_laid-Do l a all) ∙ do_join n (spaced_words a) (block_lines (map raw_laid all) (suc n)) tl) (λ line.
+      let wk = body_rest h w.1 in
+      let after : Bytes = 32 ∷ (codes "while" ++ (32 ∷ 40 ∷ (spaced_words a ++ (41 ∷ 59 ∷ 10 ∷ tl)))) in
+      let b = brace_body all (Tested a (Safe R)) (print_statements_of_body h w.1 (suc n) (indent n ++ (125 ∷ after)) (Closed (Tested a (Safe R))) (close_tail n after (Tested a (Safe R)) (λ l.
       let x = t (l + 1) in
-      let p = print_test k wk.4 l (59 ∷ 10 ∷ tl) (mark (codes ";") l ∷ x.tokens) (end_line l x) in
+      let p = print_test k wk.1 l (59 ∷ 10 ∷ tl) (mark (codes ";") l ∷ x.tokens) (end_line l x) in
       record {
         tokens = name (codes "while") l ∷ p.tokens;
         lexed = λ before. print_blank (print_name (codes "while") wk.0 (λ c. refl) (print_blank (p.lexed Token)));
@@ -566,16 +574,16 @@ mutual
         };
       })
   print_statement (for_loop {l} {first = i} {step} {a} {all} h k j c) w n tl R t =
-      tails_as (lines_as n tl (raw_laid-For l i a step all) ∙ for_join n (init_part (option_map raw_laid i)) (raw_words a) (step_part (option_map raw_laid step)) (block_lines (map raw_laid all) (suc n)) tl) (λ line.
-      let wk = init_rest h w.4.4 in
-      let wj = (expr_rest k wk).4 in
+      tails_as (lines_as n tl (raw_laid-For l i a step all) ∙ for_join n (init_part (option_map raw_laid i)) (spaced_words a) (step_part (option_map raw_laid step)) (block_lines (map raw_laid all) (suc n)) tl) (λ line.
+      let wk = init_rest h w.1.1 in
+      let wj = (expr_rest k wk).1 in
       let b = brace_body all (Safe R) (print_statements_of_body c (step_rest j wj) (suc n) (indent n ++ (125 ∷ 10 ∷ tl)) (Closed (Safe R)) (close_tail n (10 ∷ tl) (Safe R) (new_line t))) line in
       let q = b.is in
       let behind : Bytes = 32 ∷ 123 ∷ 10 ∷ (block_lines (map raw_laid all) (suc n) ++ (indent n ++ (125 ∷ 10 ∷ tl))) in
       let z = print_step j wj line behind b.tokens (print_blank (b.lexed Token)) in
       let between : Bytes = 59 ∷ (step_part (option_map raw_laid step) ++ (41 ∷ behind)) in
       let y = print_expr k wk line between (mark (codes ";") line ∷ z.tokens) (stops_expr k between (λ d. refl)) (print_mark (codes ";") refl refl (z.lexed Token)) in
-      let x = print_init h w.4.4 line (32 ∷ (raw_words a ++ between)) y.tokens (print_blank (y.lexed Token)) in
+      let x = print_init h w.1.1 line (32 ∷ (spaced_words a ++ between)) y.tokens (print_blank (y.lexed Token)) in
       record {
         tokens = name (codes "for") line ∷ mark (codes "(") line ∷ x.tokens;
         lexed = print_indent n (print_name (codes "for") w.0 (λ d. refl) (print_blank (print_mark (codes "(") refl refl (x.lexed Token))));
@@ -589,10 +597,10 @@ mutual
         };
       })
   print_statement (switch {l} {a = a} {arms} h k) w n tl R t =
-      tails_as (lines_as n tl (raw_laid-Switch l a arms) ∙ switch_join n (raw_words a) (arms_lines (map raw_arm_laid arms) (suc n)) tl) (λ line.
-      let x = print_arms k (test_rest h w.4).4 (suc n) (indent n ++ (125 ∷ 10 ∷ tl)) (Safe R) (no_arm n tl (Safe R) t) (line + 1) in
+      tails_as (lines_as n tl (raw_laid-Switch l a arms) ∙ switch_join n (spaced_words a) (arms_lines (map raw_arm_laid arms) (suc n)) tl) (λ line.
+      let x = print_arms k (test_rest h w.1).1 (suc n) (indent n ++ (125 ∷ 10 ∷ tl)) (Safe R) (no_arm n tl (Safe R) t) (line + 1) in
       let q = x.has in
-      let p = print_test h w.4 line (32 ∷ 123 ∷ 10 ∷ (arms_lines (map raw_arm_laid arms) (suc n) ++ (indent n ++ (125 ∷ 10 ∷ tl)))) (mark (codes "{") line ∷ x.tokens) (print_blank (print_mark (codes "{") refl refl (print_line x.lexed))) in
+      let p = print_test h w.1 line (32 ∷ 123 ∷ 10 ∷ (arms_lines (map raw_arm_laid arms) (suc n) ++ (indent n ++ (125 ∷ 10 ∷ tl)))) (mark (codes "{") line ∷ x.tokens) (print_blank (print_mark (codes "{") refl refl (print_line x.lexed))) in
       record {
         tokens = name (codes "switch") line ∷ p.tokens;
         lexed = print_indent n (print_name (codes "switch") w.0 (λ c. refl) (print_blank (p.lexed Token)));
@@ -601,8 +609,8 @@ mutual
 
   pub print_statements : {ts rest : Tokens} {all : List RawStatement} → AreStatements ts all rest → AreWritten ts → (n : ℕ) (tl : Bytes) (R : Tokens → Type 0) → Tails tl (Safe R)
       → Tails (block_lines (map raw_laid all) n ++ tl) (Many all R)
-  print_statements AreStatements.done w n tl R t = λ line. let x = t line in record { tokens = x.tokens; lexed = x.lexed; has = record { found = []; rest = x.tokens; is = AreStatements.done; same = refl; no_else = x.has.0; has = x.has } }
-  print_statements (AreStatements.empty h) w n tl R t = print_statements h w.4 n tl R t
+  print_statements AreStatements.done w n tl R t = λ line. let x = t line in record { tokens = x.tokens; lexed = x.lexed; has = record { found = []; rest = x.tokens; is = AreStatements.done; lean = tt; same = refl; no_else = x.has.0; has = x.has } }
+  print_statements (AreStatements.empty h) w n tl R t = print_statements h w.1 n tl R t
   print_statements (AreStatements.declared {some} {all} (declaration h j) k) w n tl R t =
       tails_as (lines_append some all n tl)
       (print_separated h w j (base_rest h w) n (block_lines (map raw_laid all) n ++ tl) all R (print_statements k (declared_all_rest j (base_rest h w)) n tl R t))
@@ -614,13 +622,13 @@ mutual
       record {
         tokens = x.tokens;
         lexed = x.lexed;
-        has = record { found = q.found ∷ r.found; rest = r.rest; is = AreStatements.more q.is r.is; same = ap₂ (λ (c : RawStatement) (cs : List RawStatement). c ∷ cs) q.same r.same; no_else = q.no_else; has = r.has };
+        has = record { found = q.found ∷ r.found; rest = r.rest; is = AreStatements.more q.is r.is; lean = r.lean; same = ap₂ (λ (c : RawStatement) (cs : List RawStatement). c ∷ cs) q.same r.same; no_else = q.no_else; has = r.has };
       })
 
   print_statements_of_body : {ts rest : Tokens} {all : List RawStatement} → IsBody ts all rest → AreWritten ts → (n : ℕ) (tl : Bytes) (R : Tokens → Type 0) → Tails tl (Safe R)
       → Tails (block_lines (map raw_laid all) n ++ tl) (Many all R)
-  print_statements_of_body (IsBody.braces h) w n tl R t = print_statements h w.4 n tl R t
-  print_statements_of_body IsBody.nothing w n tl R t = λ line. let x = t line in record { tokens = x.tokens; lexed = x.lexed; has = record { found = []; rest = x.tokens; is = AreStatements.done; same = refl; no_else = x.has.0; has = x.has } }
+  print_statements_of_body (IsBody.braces h) w n tl R t = print_statements h w.1 n tl R t
+  print_statements_of_body IsBody.nothing w n tl R t = λ line. let x = t line in record { tokens = x.tokens; lexed = x.lexed; has = record { found = []; rest = x.tokens; is = AreStatements.done; lean = tt; same = refl; no_else = x.has.0; has = x.has } }
   print_statements_of_body (single {only = a} p h) w n tl R t =
       tails_as (ap (λ (z : Bytes). z ++ tl) (append-nil ((raw_laid a).lines n))) (λ line.
       let x = print_statement h w n tl R t line in
@@ -628,7 +636,7 @@ mutual
       record {
         tokens = x.tokens;
         lexed = x.lexed;
-        has = record { found = q.found ∷ []; rest = q.rest; is = AreStatements.more q.is AreStatements.done; same = ap (λ (c : RawStatement). c ∷ []) q.same; no_else = q.no_else; has = q.has };
+        has = record { found = q.found ∷ []; rest = q.rest; is = AreStatements.more q.is AreStatements.done; lean = tt; same = ap (λ (c : RawStatement). c ∷ []) q.same; no_else = q.no_else; has = q.has };
       })
 
   print_else : {ts rest : Tokens} {other : List RawStatement} → IsElse ts other rest → AreWritten ts → (n : ℕ) (tl : Bytes) (R : Tokens → Type 0) → Tails tl (Safe R)
@@ -638,7 +646,7 @@ mutual
   print_else (otherwise {all = a ∷ all} h) w n tl R t =
       tails_as (else_join n (block_lines (map raw_laid (a ∷ all)) (suc n)) tl)
       (close_tail n (32 ∷ (codes "else" ++ (32 ∷ 123 ∷ 10 ∷ (block_lines (map raw_laid (a ∷ all)) (suc n) ++ (indent n ++ (125 ∷ 10 ∷ tl)))))) (Others (a ∷ all) (Safe R)) (λ line.
-      let b = brace_body (a ∷ all) (Safe R) (print_statements_of_body h w.4 (suc n) (indent n ++ (125 ∷ 10 ∷ tl)) (Closed (Safe R)) (close_tail n (10 ∷ tl) (Safe R) (new_line t))) line in
+      let b = brace_body (a ∷ all) (Safe R) (print_statements_of_body h w.1 (suc n) (indent n ++ (125 ∷ 10 ∷ tl)) (Closed (Safe R)) (close_tail n (10 ∷ tl) (Safe R) (new_line t))) line in
       let q = b.is in
       record {
         tokens = name (codes "else") line ∷ b.tokens;
@@ -651,7 +659,7 @@ mutual
   print_arms AreArms.none w m tl R t = t
   print_arms (broken {labels = labels} {body} {arms} h k j) w m tl R t =
       let wk = labels_rest h w in
-      let next = print_arms j (statements_rest k wk).4.4 m tl R t in
+      let next = print_arms j (statements_rest k wk).1.1 m tl R t in
       tails_as (ap (λ (f : ℕ → Bytes). (f m ++ arms_lines (map raw_arm_laid arms) m) ++ tl) (raw_arm_laid-roll labels body) ∙ arm_join m (raw_label_lines labels m) (block_lines (map raw_laid body) (suc m)) (arms_lines (map raw_arm_laid arms) m) tl)
       (arm_tail m body arms R h w (print_statements k wk (suc m) (indent (suc m) ++ (codes "break" ++ (59 ∷ 10 ∷ (arms_lines (map raw_arm_laid arms) m ++ tl)))) (Broken (Arms arms R)) (break_tail (suc m) (arms_lines (map raw_arm_laid arms) m ++ tl) (Arms arms R) next)))
   print_arms (unbroken {labels = labels} {body} h p k) w m tl R t =

@@ -1,13 +1,16 @@
--- The tokens of a text can be written, where none joins with the next one: what is printed of the tree of a text is read again.
-use Rattle.std.proofs.Common.{ℕ, ◌<◌, ◌^◌, length, Bool, arith}
+-- The tokens of a text can be written: what is printed of the tree of a text is read again.
+use Rattle.std.proofs.Common.{ℕ, [], ◌∷◌, Bool}
+use Rattle.std.specs.List.{All}
+use Rattle.std.proofs.lemmas.List.Elements.{All-nil, All-cons, All-head, All-tail}
 use Rattle.c_tree.specs.declared.raw.program.RawProgram.{RawProgram}
 use Rattle.c_language.specs.Words.{Bytes}
 use Rattle.c_language.specs.TokenForms.{Tokens}
 use Rattle.c_language.specs.ItemGrammar.{IsProgram}
+use Rattle.c_language.specs.Programs.{IsFormed}
 use Rattle.c_language.specs.Tokens.{IsRun, IsTokenText, IsToken, IsTokens, AreTokensOf}
 use Rattle.c_language.specs.declared.token.TokenKind.{TokenKind}
 use Rattle.c_language.specs.declared.token.Before.{Before}
-use Rattle.c_print.specs.Written.{AreRun, HasForm, AreApart, AreWritten}
+use Rattle.c_print.specs.Written.{AreRun, HasForm, AreWritten}
 use Rattle.c_print.specs.RawLayout.{raw_layout}
 use Rattle.c_print.proofs.ItemPrint.{ReadsAs, printed_is_read}
 
@@ -29,11 +32,23 @@ token_form (IsToken.include h e) = HasForm.include
 token_form (IsToken.directive h e l) = HasForm.directive
 token_form (IsToken.directive_behind h e) = HasForm.directive
 
-pub text_written : {before : Before} {line : ℕ} {bytes : Bytes} {ts : Tokens} → IsTokens before line bytes ts → AreApart ts → length ts < 2 ^ 32 → AreWritten ts
-text_written IsTokens.done a few = tt
-text_written (IsTokens.space s h) a few = text_written h a few
-text_written (IsTokens.token t h) a few = (token_form t, a.0, a.1, omega (arith, few), text_written h a.2 (omega (arith, few)))
+-- tokens of a text have the forms of their kinds
+pub text_written : {before : Before} {line : ℕ} {bytes : Bytes} {ts : Tokens} → IsTokens before line bytes ts → AreWritten ts
+text_written IsTokens.done = tt
+text_written (IsTokens.space s h) = text_written h
+text_written (IsTokens.token t h) = (token_form t, text_written h)
 
--- What is printed of the tree of a text has tokens of that tree again, where no `&` stands before another and no number before a selector.
-pub text_is_read_again : {text : Bytes} {ts : Tokens} (raw : RawProgram) → AreTokensOf text ts → AreApart ts → length ts < 2 ^ 32 → IsProgram ts raw → ReadsAs (raw_layout raw) raw
-text_is_read_again raw h a few p = printed_is_read raw p (text_written h a few)
+-- each of the tokens of a text is a token of some bytes
+pub text_formed : {before : Before} {line : ℕ} {bytes : Bytes} {ts : Tokens} → IsTokens before line bytes ts → All IsFormed ts
+text_formed IsTokens.done = All-nil IsFormed
+text_formed (IsTokens.space s h) = text_formed h
+text_formed (IsTokens.token {before} {own = own} {rest} t h) = All-cons IsFormed _ _ (record { before = before; own = own; rest = rest; is = t }) (text_formed h)
+
+-- tokens that are tokens of some bytes have the forms of their kinds
+pub formed_written : (ts : Tokens) → All IsFormed ts → AreWritten ts
+formed_written [] h = tt
+formed_written (t ∷ ts) h = let c = All-head IsFormed t ts h in (token_form c.is, formed_written ts (All-tail IsFormed t ts h))
+
+-- What is printed of the tree of a text has tokens of that tree again.
+pub text_is_read_again : {text : Bytes} {ts : Tokens} (raw : RawProgram) → AreTokensOf text ts → IsProgram ts raw → ReadsAs (raw_layout raw) raw
+text_is_read_again raw h p = printed_is_read raw p (text_written h)

@@ -1,9 +1,9 @@
 -- What is printed of a type, a declarator and parameters has their tokens again.
-use Rattle.std.proofs.Common.{◌≡◌, ℕ, zero, suc, List, [], ◌∷◌, ◌++◌, map, replicate, append_assoc, append-nil, refl, sym, ap, ap₂, ◌∙◌, subst, true, false, codes, decimal, Option, Some, None}
+use Rattle.std.proofs.Common.{◌≡◌, ℕ, zero, suc, List, [], ◌∷◌, ◌++◌, map, replicate, append_assoc, append-nil, refl, sym, ap, ap₂, ◌∙◌, subst, Bool, true, false, ◌&&◌, codes, decimal, Option, Some, None}
 use Rattle.std.proofs.lemmas.Bool.{both_ways}
-use Rattle.std.specs.Prelude.{bytes_eq}
+use Rattle.std.specs.Prelude.{bytes_eq, is_none, nat_lt}
 use Rattle.std.proofs.lemmas.Slice.Eq.{bytes_eq-Decides}
-use Rattle.c_tree.specs.declared.raw.expr.RawExpr.TheVariants as e
+use Rattle.c_tree.specs.declared.raw.expr.RawLength.{RawLength}
 use Rattle.c_tree.specs.declared.raw.expr.RawLength.TheVariants.{Written, Listed}
 use Rattle.c_tree.specs.declared.raw.expr.RawType.{RawType}
 use Rattle.c_tree.specs.declared.raw.expr.RawType.TheVariants as type
@@ -12,7 +12,7 @@ use Rattle.c_tree.specs.declared.raw.program.RawParam.{RawParam}
 use Rattle.c_tree.specs.declared.raw.statement.RawTypeName.{RawTypeName}
 use Rattle.c_language.specs.Words.{Bytes, spaced_stars}
 use Rattle.c_language.specs.Layout.{params_words}
-use Rattle.c_language.specs.ProgramOf.{raw_words}
+use Rattle.c_print.specs.SpacedWords.{spaced_words}
 use Rattle.c_language.specs.StraightLine.{is_letter}
 use Rattle.c_language.specs.TokenForms.{Tokens, name, number, mark, line_of}
 use Rattle.c_language.specs.Sees.{sees, sees_name, is_keyword}
@@ -25,22 +25,22 @@ use Rattle.c_language.specs.declared.token.Before.{Before}
 use Rattle.c_language.specs.declared.token.Before.TheVariants.{Token}
 use Rattle.c_print.specs.Lists.{behind_commas}
 use Rattle.c_print.specs.Written.{HasForm, AreWritten}
-use Rattle.c_print.specs.RawLayout.{raw_base, raw_stars, raw_lengths, raw_declared, raw_type_words, raw_named_words, raw_param_words}
-use Rattle.c_print.specs.Settled.{settled_type, settled_var, settled_param}
+use Rattle.c_print.specs.RawLayout.{raw_base, raw_stars, raw_length_words, raw_lengths, raw_declared, raw_type_words, raw_named_words, raw_param_words}
+use Rattle.c_print.specs.Settled.{settled_length, settled_type, settled_var, settled_param, lack_lengths}
 use Rattle.c_print.proofs.RawTypeLemmas.{raw_base-Integer, raw_base-PointerTo, raw_base-Array, raw_base-Struct, raw_stars-Integer, raw_stars-PointerTo, raw_stars-Array, raw_stars-Struct, raw_lengths-Integer, raw_lengths-PointerTo, raw_lengths-Array, raw_lengths-Struct, settled_type-Integer, settled_type-PointerTo, settled_type-Array, settled_type-Struct, is_listed-Array}
 use Rattle.c_print.proofs.Loops.{joined-commas}
-use Rattle.c_print.proofs.TokenPrint.{fails, other_class, print_blank, is_sure, print_mark, Stops, print_name, print_number, word_form}
+use Rattle.c_print.proofs.TokenPrint.{by_answer, fails, other_class, print_blank, is_sure, print_mark, Stops, print_name, print_number, word_form}
 use Rattle.c_print.proofs.ExprPrint.{int_rest, expr_rest, print_int, stops_expr, print_expr}
 
 -- ---- what follows is written too
 
 pub base_rest : {ts rest : Tokens} {a : RawType} → IsBase ts a rest → AreWritten ts → AreWritten rest
-base_rest (structure h) w = w.4.4
+base_rest (structure h) w = w.1.1
 base_rest (integer h) w = int_rest h w
 
 pub stars_rest : {ts rest : Tokens} {a b : RawType} → IsStars ts a b rest → AreWritten ts → AreWritten rest
 stars_rest (IsStars.done h) w = w
-stars_rest (IsStars.star h) w = stars_rest h w.4
+stars_rest (IsStars.star h) w = stars_rest h w.1
 
 pub type_rest : {ts rest : Tokens} {a : RawType} → IsTypeName ts a rest → AreWritten ts → AreWritten rest
 type_rest (pointed h k) w = stars_rest k (base_rest h w)
@@ -50,14 +50,14 @@ named_rest (starred h k) w = stars_rest k (base_rest h w)
 
 lengths_rest : {ts rest : Tokens} {a b : RawType} → IsLengths ts a b rest → AreWritten ts → AreWritten rest
 lengths_rest (IsLengths.done h) w = w
-lengths_rest (IsLengths.length h k) w = lengths_rest k (expr_rest h w.4).4
+lengths_rest (IsLengths.length h k) w = lengths_rest k (expr_rest h w.1).1
 
 outer_rest : {ts rest : Tokens} {a b : RawType} → IsOuterLengths ts a b rest → AreWritten ts → AreWritten rest
 outer_rest (written h) w = lengths_rest h w
-outer_rest (empty h) w = lengths_rest h w.4.4
+outer_rest (empty h) w = lengths_rest h w.1.1
 
 pub declarator_rest : {ts rest : Tokens} {base : RawType} {v : RawVar} → IsDeclarator ts base v rest → AreWritten ts → AreWritten rest
-declarator_rest (IsDeclarator.named h k j) w = outer_rest j (stars_rest h w).4
+declarator_rest (IsDeclarator.named h k j) w = outer_rest j (stars_rest h w).1
 
 -- ---- words that begin no type
 
@@ -92,7 +92,7 @@ pub print_base : {ts rest : Tokens} {base : RawType} → IsBase ts base rest →
 unfolding sees
 print_base (structure {tag} k) w line more after s f h =
     subst (λ (y : Bytes). PrintedBase line (y ++ more) (type.Struct tag) after) (sym (raw_base-Struct tag))
-    (record { tokens = name (codes "struct") line ∷ name tag line ∷ after; lexed = λ before. print_name (codes "struct") w.0 (λ b. refl) (print_blank (print_name tag w.4.0 s h)); is = structure k; no_else = refl })
+    (record { tokens = name (codes "struct") line ∷ name tag line ∷ after; lexed = λ before. print_name (codes "struct") w.0 (λ b. refl) (print_blank (print_name tag w.1.0 s h)); is = structure k; no_else = refl })
 print_base (integer {t} k) w line more after s f h =
     let x = print_int t line more after s f h in
     subst (λ (y : Bytes). PrintedBase line (y ++ more) (type.Integer t) after) (sym (raw_base-Integer t))
@@ -180,10 +180,10 @@ print_lengths : {ts rest : Tokens} {a b : RawType} (items : ℕ) → IsLengths t
 print_lengths {a = a} items (IsLengths.done h) w p line more after f k =
     subst (λ (y : Bytes). PrintedLengths line (y ++ more) a a after) (sym p) (record { tokens = after; lexed = k; is = IsLengths.done f })
 print_lengths {a = a} items (IsLengths.length {n} {b} h j) w p line more after f k =
-    let y = print_lengths items j (expr_rest h w.4).4 p line more after f k in
-    let x = print_expr h w.4 line (93 ∷ (raw_lengths items b ++ more)) (mark (codes "]") line ∷ y.tokens) (stops_expr h _ (λ c. refl)) (print_mark (codes "]") refl refl y.lexed) in
+    let y = print_lengths items j (expr_rest h w.1).1 p line more after f k in
+    let x = print_expr h w.1 line (93 ∷ (raw_lengths items b ++ more)) (mark (codes "]") line ∷ y.tokens) (stops_expr h _ (λ c. refl)) (print_mark (codes "]") refl refl y.lexed) in
     subst (λ (z : Bytes). PrintedLengths line z a (type.Array b (Written n)) after)
-    (sym (ap (λ (z : Bytes). z ++ more) (raw_lengths-Array items b (Written n)) ∙ length_join (raw_words n) (raw_lengths items b) more))
+    (sym (ap (λ (z : Bytes). z ++ more) (raw_lengths-Array items b (Written n)) ∙ length_join (spaced_words n) (raw_lengths items b) more))
     (record { tokens = mark (codes "[") line ∷ x.tokens; lexed = print_mark (codes "[") refl refl (x.lexed Token); is = IsLengths.length x.is y.is })
 
 -- arrays of an element with its stars and its base
@@ -210,10 +210,33 @@ record PrintedOuter (items line : ℕ) (bytes : Bytes) (a b : RawType) (after : 
 
 -- the number of items can be written where a list gives the first length
 abbrev pub Counts : ℕ → RawType → Type 0
-Counts items b = is_listed b ≡ true → HasForm Number (decimal items)
+Counts items b = is_listed b ≡ true → nat_lt items 4294967296 ≡ true → HasForm Number (decimal items)
 
-listed_settled : {ts rest : Tokens} {a b : RawType} (items : ℕ) → IsLengths ts a b rest → settled_type items a ≡ a → settled_type items (type.Array b Listed) ≡ type.Array b (Written (e.Constant (decimal items)))
-listed_settled {b = b} items h q = settled_type-Array items b Listed ∙ ap (λ (z : RawType). type.Array z (Written (e.Constant (decimal items)))) ((arrayed_by items h).stays q)
+listed_settled : {ts rest : Tokens} {a b : RawType} (items : ℕ) → IsLengths ts a b rest → settled_type items a ≡ a → settled_type items (type.Array b Listed) ≡ type.Array b (settled_length items Listed)
+listed_settled {b = b} items h q = settled_type-Array items b Listed ∙ ap (λ (z : RawType). type.Array z (settled_length items Listed)) ((arrayed_by items h).stays q)
+
+-- a first length that a list gives
+record PrintedFirst (line : ℕ) (bytes : Bytes) (a b : RawType) (after : Tokens) : Type 0 where
+  tokens : Tokens
+  lexed : IsTokens Token line bytes tokens
+  is : IsOuterLengths tokens a b after
+
+print_listed : {ts : Tokens} (items : ℕ) (a b : RawType) (line : ℕ) (more : Bytes) (after : Tokens) → (nat_lt items 4294967296 ≡ true → HasForm Number (decimal items)) → IsLengths ts a b after → IsTokens Token line more ts
+    → PrintedFirst line (91 ∷ (raw_length_words items Listed ++ (93 ∷ more))) a (type.Array b (settled_length items Listed)) after
+print_listed {ts} items a b line more after c h k = by_answer (nat_lt items 4294967296)
+    (λ t. let d = c t in rw t (record {
+      tokens = mark (codes "[") line ∷ number (decimal items) line ∷ mark (codes "]") line ∷ ts;
+      lexed = print_mark (codes "[") refl refl (print_number (decimal items) d (λ g. refl) (print_mark (codes "]") refl refl k));
+      is = written (IsLengths.length number_constant h);
+    }))
+    (λ n. rw n (record {
+      tokens = mark (codes "[") line ∷ mark (codes "]") line ∷ ts;
+      lexed = print_mark (codes "[") refl refl (print_mark (codes "]") refl refl k);
+      is = empty h;
+    }))
+
+outer_as : {items line : ℕ} {bytes : Bytes} {a b c : RawType} {after : Tokens} → c ≡ settled_type items b → PrintedFirst line bytes a c after → PrintedOuter items line bytes a b after
+outer_as {a = a} {after = after} e x = record { tokens = x.tokens; lexed = x.lexed; is = subst (λ (z : RawType). IsOuterLengths x.tokens a z after) e x.is }
 
 print_outer : {ts rest : Tokens} {a b : RawType} (items : ℕ) → IsOuterLengths ts a b rest → AreWritten ts → settled_type items a ≡ a → raw_lengths items a ≡ [] → Counts items b → (line : ℕ) (more : Bytes) (after : Tokens) → sees Mark (codes "[") after ≡ false → IsTokens Token line more after
     → PrintedOuter items line (raw_lengths items b ++ more) a b after
@@ -221,16 +244,10 @@ print_outer {a = a} items (written {b} h) w q p c line more after f k =
     let x = print_lengths items h w p line more after f k in
     record { tokens = x.tokens; lexed = x.lexed; is = written (subst (λ (t : RawType). IsLengths x.tokens a t after) (sym ((arrayed_by items h).stays q)) x.is) }
 print_outer {a = a} items (empty {b} h) w q p c line more after f k =
-    let y = print_lengths items h w.4.4 p line more after f k in
-    let t : settled_type items (type.Array b Listed) ≡ type.Array b (Written (e.Constant (decimal items))) = listed_settled items h q in
-    let d = c (is_listed-Array b Listed) in
+    let y = print_lengths items h w.1.1 p line more after f k in
     subst (λ (z : Bytes). PrintedOuter items line z a (type.Array b Listed) after)
-    (sym (ap (λ (z : Bytes). z ++ more) (raw_lengths-Array items b Listed) ∙ length_join (decimal items) (raw_lengths items b) more))
-    (record {
-      tokens = mark (codes "[") line ∷ number (decimal items) line ∷ mark (codes "]") line ∷ y.tokens;
-      lexed = print_mark (codes "[") refl refl (print_number (decimal items) d (λ g. refl) (print_mark (codes "]") refl refl y.lexed));
-      is = subst (λ (z : RawType). IsOuterLengths (mark (codes "[") line ∷ number (decimal items) line ∷ mark (codes "]") line ∷ y.tokens) a z after) (sym t) (written (IsLengths.length number_constant y.is));
-    })
+    (sym (ap (λ (z : Bytes). z ++ more) (raw_lengths-Array items b Listed) ∙ length_join (raw_length_words items Listed) (raw_lengths items b) more))
+    (outer_as (sym (listed_settled items h q)) (print_listed items a b line (raw_lengths items b ++ more) after (c (is_listed-Array b Listed)) y.is y.lexed))
 
 lengths_stop : {ts rest : Tokens} {a b : RawType} (items : ℕ) → IsLengths ts a b rest → (more : Bytes) → raw_lengths items a ≡ [] → Stops name_goes_on more → Stops name_goes_on (raw_lengths items b ++ more)
 lengths_stop items (IsLengths.done h) more p s = subst (λ (z : Bytes). Stops name_goes_on (z ++ more)) (sym p) s
@@ -267,7 +284,7 @@ print_declarator {base = base} items (IsDeclarator.named {a = a} {b} {text} h k 
     let made = star_count h in
     let stays : settled_type items a ≡ a = ap (settled_type items) made.1 ∙ pointed_stays items made.0 base (p.stays items) ∙ sym made.1 in
     let bare : raw_lengths items a ≡ [] = ap (raw_lengths items) made.1 ∙ pointed_lengths items made.0 base (p.no_lengths items) in
-    let y = print_outer items j ws.4 stays bare c line more after f t in
+    let y = print_outer items j ws.1 stays bare c line more after f t in
     let n = print_name {before = Token} text ws.0 (outer_stops items j more bare s) y.lexed in
     let x = print_stars made.0 base line (text ++ (raw_lengths items b ++ more)) (name text line ∷ y.tokens) (name_sure text (raw_lengths items b ++ more) ws.0) (name_no_star text (codes "*") line y.tokens) n in
     let stars_are : raw_stars b ≡ replicate {A = ℕ} made.0 42 = (outer_arrays j).0 ∙ ap raw_stars made.1 ∙ plain_stars made.0 base p in
@@ -280,11 +297,15 @@ var_of text a = record { name = text; shape = a }
 declarator_stays : {ts rest : Tokens} {base a : RawType} (items : ℕ) → IsStars ts base a rest → IsPlain base → settled_type items a ≡ a
 declarator_stays {base = base} items h p = let made = star_count h in ap (settled_type items) made.1 ∙ pointed_stays items made.0 base (p.stays items) ∙ sym made.1
 
+length_twice : (items : ℕ) → settled_length items (settled_length items Listed) ≡ settled_length items Listed
+length_twice items = by_answer (nat_lt items 4294967296) (λ t. rw t refl) (λ n. rw (n, n) refl)
+
 outer_twice : {ts rest : Tokens} {a b : RawType} (items : ℕ) → IsOuterLengths ts a b rest → settled_type items a ≡ a → settled_type items (settled_type items b) ≡ settled_type items b
 outer_twice items (written h) q = ap (settled_type items) ((arrayed_by items h).stays q)
 outer_twice items (empty {b} h) q =
     let t = listed_settled items h q in
-    ap (settled_type items) t ∙ settled_type-Array items b (Written (e.Constant (decimal items))) ∙ ap (λ (z : RawType). type.Array z (Written (e.Constant (decimal items)))) ((arrayed_by items h).stays q) ∙ sym t
+    ap (settled_type items) t ∙ settled_type-Array items b (settled_length items Listed)
+    ∙ ap₂ (λ (z : RawType) (n : RawLength). type.Array z n) ((arrayed_by items h).stays q) (length_twice items) ∙ sym t
 
 -- what is settled stays so
 pub settled_twice : {ts rest : Tokens} {base : RawType} {v : RawVar} (items : ℕ) → IsDeclarator ts base v rest → IsPlain base → settled_var items (settled_var items v) ≡ settled_var items v
@@ -395,6 +416,7 @@ pub record PrintedParam (line : ℕ) (bytes : Bytes) (p : RawParam) (after : Tok
   pub found : RawParam
   pub is : IsParam tokens found after
   pub same : settled_param found ≡ settled_param p
+  pub bare : is_none found.length ≡ true
 
 -- a name that can be written
 IsNamed : Option Bytes → Type 0
@@ -423,6 +445,7 @@ print_called {base = base} k None p h w named a b line more after c t =
       found = record { line = line_of x.tokens; name = None; shape = pointed_n k base; length = None };
       is = plain x.is (unnamed c.no_name) c.no_length;
       same = ap₂ param_of (sym a) (sym b);
+      bare = refl;
     }
 print_called {base = base} k (Some text) p h w named a b line more after c t =
     let n = print_name {before = Token} text named.0 c.stops t in
@@ -435,6 +458,7 @@ print_called {base = base} k (Some text) p h w named a b line more after c t =
       found = record { line = line_of y.tokens; name = Some text; shape = pointed_n k base; length = None };
       is = plain (pointed y.is x.is) (IsParamName.named named.1) c.no_length;
       same = ap₂ param_of (sym a) (sym b);
+      bare = refl;
     })
 
 called_form : {ts rest : Tokens} {called : Option Bytes} → IsParamName ts called rest → AreWritten ts → IsNamed called
@@ -443,21 +467,21 @@ called_form (IsParamName.named k) w = (w.0, k)
 called_form (unnamed k) w = tt
 
 called_rest : {ts rest : Tokens} {called : Option Bytes} → IsParamName ts called rest → AreWritten ts → AreWritten rest
-called_rest (IsParamName.named k) w = w.4
+called_rest (IsParamName.named k) w = w.1
 called_rest (unnamed k) w = w
 
 param_rest : {ts rest : Tokens} {p : RawParam} → IsParam ts p rest → AreWritten ts → AreWritten rest
 param_rest (plain h k f) w = called_rest k (type_rest h w)
-param_rest (unsized h k) w = (called_rest k (type_rest h w)).4.4
-param_rest (sized h k j) w = (expr_rest j (called_rest k (type_rest h w)).4).4
+param_rest (unsized h k) w = (called_rest k (type_rest h w)).1.1
+param_rest (sized h k j) w = (expr_rest j (called_rest k (type_rest h w)).1).1
 
 more_params_rest : {ts rest : Tokens} {ps : List RawParam} → IsMoreParams ts ps rest → AreWritten ts → AreWritten rest
-more_params_rest closed w = w.4
-more_params_rest (IsMoreParams.more h k) w = more_params_rest k (param_rest h w.4)
+more_params_rest closed w = w.1
+more_params_rest (IsMoreParams.more h k) w = more_params_rest k (param_rest h w.1)
 
 pub params_rest : {ts rest : Tokens} {ps : List RawParam} → IsParams ts ps rest → AreWritten ts → AreWritten rest
-params_rest IsParams.empty w = w.4
-params_rest nothing w = w.4.4
+params_rest IsParams.empty w = w.1
+params_rest nothing w = w.1.1
 params_rest (IsParams.some h k) w = more_params_rest k (param_rest h w)
 
 -- a parameter of a pointer type, however it was written
@@ -481,6 +505,7 @@ pub record PrintedMore (line : ℕ) (bytes : Bytes) (ps : List RawParam) (after 
   pub found : List RawParam
   pub is : IsMoreParams tokens found after
   pub same : map settled_param found ≡ map settled_param ps
+  pub bare : lack_lengths found ≡ true
   pub closes : Closes bytes tokens
 
 pub record PrintedParams (line : ℕ) (bytes : Bytes) (ps : List RawParam) (after : Tokens) : Type 0 where
@@ -489,6 +514,7 @@ pub record PrintedParams (line : ℕ) (bytes : Bytes) (ps : List RawParam) (afte
   pub found : List RawParam
   pub is : IsParams tokens found after
   pub same : map settled_param found ≡ map settled_param ps
+  pub bare : lack_lengths found ≡ true
 
 comma_join : (x y more : Bytes) → (codes ", " ++ (x ++ y)) ++ more ≡ 44 ∷ 32 ∷ (x ++ (y ++ more))
 comma_join x y more = ap (λ (z : Bytes). 44 ∷ 32 ∷ z) (append_assoc x y more)
@@ -496,10 +522,10 @@ comma_join x y more = ap (λ (z : Bytes). 44 ∷ 32 ∷ z) (append_assoc x y mor
 print_more : {ts rest : Tokens} {ps : List RawParam} → IsMoreParams ts ps rest → AreWritten ts → (line : ℕ) (more : Bytes) (after : Tokens) → IsTokens Token line more after
     → PrintedMore line (behind_commas (map raw_param_words ps) ++ (41 ∷ more)) ps after
 print_more closed w line more after t =
-    record { tokens = mark (codes ")") line ∷ after; lexed = print_mark (codes ")") refl refl t; found = []; is = closed; same = refl; closes = closes_paren more line after }
+    record { tokens = mark (codes ")") line ∷ after; lexed = print_mark (codes ")") refl refl t; found = []; is = closed; same = refl; bare = refl; closes = closes_paren more line after }
 print_more (IsMoreParams.more {p} {ps} h k) w line more after t =
-    let y = print_more k (param_rest h w.4) line more after t in
-    let x = print_param h w.4 line (behind_commas (map raw_param_words ps) ++ (41 ∷ more)) y.tokens y.closes y.lexed in
+    let y = print_more k (param_rest h w.1) line more after t in
+    let x = print_param h w.1 line (behind_commas (map raw_param_words ps) ++ (41 ∷ more)) y.tokens y.closes y.lexed in
     subst (λ (z : Bytes). PrintedMore line z (p ∷ ps) after) (sym (comma_join (raw_param_words p) (behind_commas (map raw_param_words ps)) (41 ∷ more)))
     (record {
       tokens = mark (codes ",") line ∷ x.tokens;
@@ -507,6 +533,7 @@ print_more (IsMoreParams.more {p} {ps} h k) w line more after t =
       found = x.found ∷ y.found;
       is = IsMoreParams.more x.is y.is;
       same = ap₂ (λ (q : RawParam) (qs : List RawParam). q ∷ qs) x.same y.same;
+      bare = ap₂ (λ (b c : Bool). b && c) x.bare y.bare;
       closes = closes_comma _ line x.tokens;
     })
 
@@ -517,6 +544,7 @@ print_void line more after t = record {
   found = [];
   is = nothing;
   same = refl;
+  bare = refl;
 }
 
 pub print_params : {ts rest : Tokens} {ps : List RawParam} → IsParams ts ps rest → AreWritten ts → (line : ℕ) (more : Bytes) (after : Tokens) → IsTokens Token line more after
@@ -528,4 +556,4 @@ print_params (IsParams.some {p} {ps} h k) w line more after t =
     let x = print_param h w line (behind_commas (map raw_param_words ps) ++ (41 ∷ more)) y.tokens y.closes y.lexed in
     subst (λ (z : Bytes). PrintedParams line z (p ∷ ps) after)
     (sym (ap (λ (z : Bytes). z ++ (41 ∷ more)) (joined-commas (raw_param_words p) (map raw_param_words ps)) ∙ append_assoc (raw_param_words p) (behind_commas (map raw_param_words ps)) (41 ∷ more)))
-    (record { tokens = x.tokens; lexed = x.lexed; found = x.found ∷ y.found; is = IsParams.some x.is y.is; same = ap₂ (λ (q : RawParam) (qs : List RawParam). q ∷ qs) x.same y.same })
+    (record { tokens = x.tokens; lexed = x.lexed; found = x.found ∷ y.found; is = IsParams.some x.is y.is; same = ap₂ (λ (q : RawParam) (qs : List RawParam). q ∷ qs) x.same y.same; bare = ap₂ (λ (b c : Bool). b && c) x.bare y.bare })

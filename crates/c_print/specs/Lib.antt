@@ -3,6 +3,10 @@ pub mod Lists
 pub mod Levels
 pub mod Arms
 pub mod Written
+pub mod SpacedWords
 pub mod RawLayout
 pub mod Settled
 pub mod Lines
+pub mod Feedless
+pub mod StartsOn
+pub mod FewLines

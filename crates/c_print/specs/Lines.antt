@@ -1,5 +1,5 @@
 -- The line on which each statement begins in the layout of a program.
-use Rattle.std.specs.Prelude.{◌≡◌, ℕ, suc, ◌+◌, ◌==◌, List, [], ◌∷◌, ◌++◌, Bool, true, false, Option, Some, None, length, map, slice_get}
+use Rattle.std.specs.Prelude.{ℕ, suc, ◌+◌, ◌==◌, List, [], ◌∷◌, ◌++◌, Bool, true, false, Option, Some, None, length, map, slice_get}
 use Rattle.std.specs.Option.{option_map_or}
 use Rattle.c_tree.specs.Numbered.{Starts, start}
 use Rattle.c_tree.specs.declared.program.Program.{Program}

@@ -1,6 +1,9 @@
--- The layout of the tree of a text, with names as they stand there. It is the layout of the text's program.
-use Rattle.std.specs.Prelude.{ℕ, suc, List, [], ◌∷◌, ◌++◌, Bool, true, false, Option, Some, None, codes, map}
+-- The layout of the tree of a text, with names as they stand there. It is the layout of the text's program, where the text
+-- keeps all rules and limits; any other text has one, too.
+use Rattle.std.specs.Prelude.{ℕ, suc, List, [], ◌∷◌, ◌++◌, Bool, true, false, Option, Some, None, codes, map, decimal, nat_lt, if◌then◌else◌}
 use Rattle.c_tree.specs.declared.raw.expr.RawExpr.{RawExpr}
+use Rattle.c_tree.specs.declared.raw.expr.RawLength.{RawLength}
+use Rattle.c_tree.specs.declared.raw.expr.RawLength.TheVariants.{Written, Listed}
 use Rattle.c_tree.specs.declared.raw.expr.RawType.{RawType, fold-RawType}
 use Rattle.c_tree.specs.declared.raw.expr.RawType.TheOpen.{RawType-F}
 use Rattle.c_tree.specs.declared.raw.program.RawInit.{RawInit}
@@ -28,8 +31,8 @@ use Rattle.c_tree.specs.declared.raw.statement.RawArm.{RawArm, fold-RawArm}
 use Rattle.c_language.specs.Words.{Bytes, joined, int_words, assign_sign, spaced_stars}
 use Rattle.c_language.specs.Layout.{line, call_words, bump_words, Laid, plain, block_lines, else_lines, init_part, step_part, arms_lines, braced, static_words, params_words, include_words}
 use Rattle.c_language.specs.TypeGrammar.{named_type}
-use Rattle.c_language.specs.ProgramOf.{raw_words, length_words}
 use Rattle.c_language.specs.DeclaredTypes.{item_count}
+use Rattle.c_print.specs.SpacedWords.{spaced_words}
 
 -- ---- types and declarators
 
@@ -53,10 +56,15 @@ raw_stars_step (RawType-F.Struct tag) = []
 abbrev pub raw_stars : RawType → Bytes
 raw_stars = fold-RawType Bytes raw_stars_step
 
+-- a length: its own words, or the number of items where a list gives it; a list of 2 to the 32 items or more keeps it
+abbrev pub raw_length_words : ℕ → RawLength → Bytes
+raw_length_words items (Written a) = spaced_words a
+raw_length_words items Listed = if nat_lt items 4294967296 then decimal items else []
+
 abbrev pub raw_lengths_step : ℕ → RawType-F Bytes → Bytes
 raw_lengths_step items (RawType-F.Integer t) = []
 raw_lengths_step items (RawType-F.PointerTo a) = []
-raw_lengths_step items (RawType-F.Array a n) = codes "[" ++ (length_words items n ++ (codes "]" ++ a))
+raw_lengths_step items (RawType-F.Array a n) = codes "[" ++ (raw_length_words items n ++ (codes "]" ++ a))
 raw_lengths_step items (RawType-F.Struct tag) = []
 
 -- the lengths of a declarator whose list of initialisers has so many items, outermost first
@@ -73,18 +81,18 @@ raw_type_words t = raw_base t ++ spaced_stars (raw_stars t)
 
 abbrev pub raw_init_words : RawInit → Bytes
 raw_init_words init.None = []
-raw_init_words (init.One a) = codes " = " ++ raw_words a
-raw_init_words (init.Items all) = codes " = {" ++ (joined (codes ", ") (map raw_words all) ++ codes "}")
+raw_init_words (init.One a) = codes " = " ++ spaced_words a
+raw_init_words (init.Items all) = codes " = {" ++ (joined (codes ", ") (map spaced_words all) ++ codes "}")
 
 -- ---- calls
 
 abbrev pub raw_target_words : RawTarget → Bytes
 raw_target_words target.None = []
-raw_target_words (target.Place a) = raw_words a ++ codes " = "
+raw_target_words (target.Place a) = spaced_words a ++ codes " = "
 raw_target_words (target.Declared v) = raw_declared 0 v.shape v.name ++ codes " = "
 
 abbrev pub raw_arg_words : RawArg → Bytes
-raw_arg_words (Value a) = raw_words a
+raw_arg_words (Value a) = spaced_words a
 raw_arg_words (Literal text) = text
 
 abbrev pub raw_pointee_words : Bytes → Bool → Bytes
@@ -97,9 +105,9 @@ raw_size_words (size.Pointee name closed) = raw_pointee_words name closed
 
 abbrev pub raw_amount_words : RawAmount → Bytes
 raw_amount_words (amount.Size z) = raw_size_words z
-raw_amount_words (amount.CountSize a z) = raw_words a ++ (codes " * " ++ raw_size_words z)
-raw_amount_words (amount.SizeCount z a) = raw_size_words z ++ (codes " * " ++ raw_words a)
-raw_amount_words (amount.Count a) = raw_words a
+raw_amount_words (amount.CountSize a z) = spaced_words a ++ (codes " * " ++ raw_size_words z)
+raw_amount_words (amount.SizeCount z a) = raw_size_words z ++ (codes " * " ++ spaced_words a)
+raw_amount_words (amount.Count a) = spaced_words a
 
 abbrev pub raw_cast_words : Option RawTypeName → Bytes
 raw_cast_words None = []
@@ -109,10 +117,10 @@ raw_cast_words (Some t) = codes "(" ++ (raw_type_words (named_type t) ++ codes "
 
 abbrev pub raw_return_words : Option RawExpr → Bytes
 raw_return_words None = codes "return"
-raw_return_words (Some a) = codes "return " ++ raw_words a
+raw_return_words (Some a) = codes "return " ++ spaced_words a
 
 abbrev pub raw_label_words : RawLabel → Bytes
-raw_label_words (Case a) = codes "case " ++ (raw_words a ++ codes ":")
+raw_label_words (Case a) = codes "case " ++ (spaced_words a ++ codes ":")
 raw_label_words Default = codes "default:"
 
 abbrev pub raw_label_lines : List RawLabel → ℕ → Bytes
@@ -121,30 +129,30 @@ raw_label_lines (l ∷ ls) n = line n (raw_label_words l) ++ raw_label_lines ls 
 
 abbrev pub raw_statement_step : RawStatement-F Laid (ℕ → Bytes) → Laid
 raw_statement_step (RawStatement-F.Declare l v i) = plain (raw_declared (item_count i) v.shape v.name ++ raw_init_words i)
-raw_statement_step (RawStatement-F.Assign l a op b) = plain (raw_words a ++ (codes " " ++ (assign_sign op ++ (codes " " ++ raw_words b))))
-raw_statement_step (RawStatement-F.Bump l a up before) = plain (bump_words (raw_words a) up before)
+raw_statement_step (RawStatement-F.Assign l a op b) = plain (spaced_words a ++ (codes " " ++ (assign_sign op ++ (codes " " ++ spaced_words b))))
+raw_statement_step (RawStatement-F.Bump l a up before) = plain (bump_words (spaced_words a) up before)
 raw_statement_step (RawStatement-F.Call l to f args) = plain (raw_target_words to ++ call_words f (map raw_arg_words args))
 raw_statement_step (RawStatement-F.Heap l to cast n) =
     plain (raw_target_words to ++ (raw_cast_words cast ++ call_words (codes "malloc") (raw_amount_words n ∷ [])))
 raw_statement_step (RawStatement-F.If l a body other) = record {
-  words = codes "if (" ++ (raw_words a ++ codes ")");
-  lines = λ n. line n (codes "if (" ++ (raw_words a ++ codes ") {")) ++ (block_lines body (suc n) ++ (else_lines other n ++ line n (codes "}")));
+  words = codes "if (" ++ (spaced_words a ++ codes ")");
+  lines = λ n. line n (codes "if (" ++ (spaced_words a ++ codes ") {")) ++ (block_lines body (suc n) ++ (else_lines other n ++ line n (codes "}")));
 }
 raw_statement_step (RawStatement-F.While l a b) = record {
-  words = codes "while (" ++ (raw_words a ++ codes ")");
-  lines = λ n. braced (codes "while (" ++ (raw_words a ++ codes ") {")) (block_lines b (suc n)) (codes "}") n;
+  words = codes "while (" ++ (spaced_words a ++ codes ")");
+  lines = λ n. braced (codes "while (" ++ (spaced_words a ++ codes ") {")) (block_lines b (suc n)) (codes "}") n;
 }
 raw_statement_step (RawStatement-F.Do l a b) = record {
-  words = codes "do while (" ++ (raw_words a ++ codes ")");
-  lines = λ n. braced (codes "do {") (block_lines b (suc n)) (codes "} while (" ++ (raw_words a ++ codes ");")) n;
+  words = codes "do while (" ++ (spaced_words a ++ codes ")");
+  lines = λ n. braced (codes "do {") (block_lines b (suc n)) (codes "} while (" ++ (spaced_words a ++ codes ");")) n;
 }
 raw_statement_step (RawStatement-F.For l i a step b) = record {
-  words = codes "for (" ++ (init_part i ++ (codes "; " ++ (raw_words a ++ (codes ";" ++ (step_part step ++ codes ")")))));
-  lines = λ n. braced (codes "for (" ++ (init_part i ++ (codes "; " ++ (raw_words a ++ (codes ";" ++ (step_part step ++ codes ") {")))))) (block_lines b (suc n)) (codes "}") n;
+  words = codes "for (" ++ (init_part i ++ (codes "; " ++ (spaced_words a ++ (codes ";" ++ (step_part step ++ codes ")")))));
+  lines = λ n. braced (codes "for (" ++ (init_part i ++ (codes "; " ++ (spaced_words a ++ (codes ";" ++ (step_part step ++ codes ") {")))))) (block_lines b (suc n)) (codes "}") n;
 }
 raw_statement_step (RawStatement-F.Switch l a arms) = record {
-  words = codes "switch (" ++ (raw_words a ++ codes ")");
-  lines = λ n. braced (codes "switch (" ++ (raw_words a ++ codes ") {")) (arms_lines arms (suc n)) (codes "}") n;
+  words = codes "switch (" ++ (spaced_words a ++ codes ")");
+  lines = λ n. braced (codes "switch (" ++ (spaced_words a ++ codes ") {")) (arms_lines arms (suc n)) (codes "}") n;
 }
 raw_statement_step (RawStatement-F.Block l b) = record {
   words = [];

@@ -1,5 +1,6 @@
 -- What the layout keeps of the tree of a text: all but lines, lengths of parameters, and whether a length was left to a list.
-use Rattle.std.specs.Prelude.{◌≡◌, ℕ, None, map, decimal}
+use Rattle.std.specs.Prelude.{◌≡◌, ℕ, ◌&&◌, nat_lt, is_none, if◌then◌else◌, Bool, true, List, [], ◌∷◌, None, map, decimal}
+use Rattle.std.specs.List.{list_all}
 use Rattle.c_tree.specs.declared.raw.expr.RawExpr.TheVariants as e
 use Rattle.c_tree.specs.declared.raw.expr.RawLength.{RawLength}
 use Rattle.c_tree.specs.declared.raw.expr.RawLength.TheVariants.{Written, Listed}
@@ -19,10 +20,10 @@ use Rattle.c_tree.specs.declared.raw.statement.RawStatement.TheVariants as s
 use Rattle.c_tree.specs.declared.raw.statement.RawArm.{RawArm, roll-RawArm, fold-RawArm}
 use Rattle.c_language.specs.DeclaredTypes.{item_count}
 
--- a length that a list gives is its decimal number
+-- a length that a list gives is its decimal number, where the list has fewer than 2 to the 32 items
 abbrev pub settled_length : ℕ → RawLength → RawLength
 settled_length items (Written a) = Written a
-settled_length items Listed = Written (e.Constant (decimal items))
+settled_length items Listed = if nat_lt items 4294967296 then Written (e.Constant (decimal items)) else Listed
 
 abbrev pub settled_type_step : ℕ → RawType-F RawType → RawType
 settled_type_step items (RawType-F.Integer t) = type.Integer t
@@ -82,3 +83,22 @@ settled_item (item.Define l h body) = item.Define 0 (settled_head h) (map settle
 -- two trees are the same in all that the layout keeps
 abbrev pub SameInLayout : RawProgram → RawProgram → Type 0
 SameInLayout a b = map settled_item a.items ≡ map settled_item b.items
+
+-- ---- what the layout drops and adds nowhere
+
+-- no parameter has a length
+abbrev pub lack_lengths : List RawParam → Bool
+lack_lengths ps = list_all (λ (p : RawParam). is_none p.length) ps
+
+abbrev pub item_lacks_lengths : RawItem → Bool
+item_lacks_lengths (item.Include is_stdlib) = true
+item_lacks_lengths (item.Tag l name) = true
+item_lacks_lengths (item.Struct l name members) = true
+item_lacks_lengths (item.Global l v i is_static) = true
+item_lacks_lengths (item.Prototype l h) = lack_lengths h.params
+item_lacks_lengths (item.Define l h body) = lack_lengths h.params
+
+-- no parameter of the items has a length
+abbrev pub items_lack_lengths : List RawItem → Bool
+items_lack_lengths [] = true
+items_lack_lengths (x ∷ xs) = item_lacks_lengths x && items_lack_lengths xs

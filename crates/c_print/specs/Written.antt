@@ -1,12 +1,10 @@
--- Tokens that can be written one after another: each has a text of its kind, and none joins with the next one when nothing stands between them.
-use Rattle.std.specs.Prelude.{◌≡◌, ℕ, ◌<◌, ◌^◌, Bool, true, false, ◌&&◌, ◌||◌, [], ◌∷◌, ◌++◌, length, codes}
+-- Tokens that can be written: each has a text of its kind.
+use Rattle.std.specs.Prelude.{◌≡◌, ℕ, Bool, true, [], ◌∷◌, ◌++◌, codes}
 use Rattle.c_language.specs.Words.{Bytes}
 use Rattle.c_language.specs.StraightLine.{is_digit, is_letter}
 use Rattle.c_language.specs.Constants.{IsConstant}
 use Rattle.c_language.specs.TokenForms.{Tokens}
-use Rattle.c_language.specs.Sees.{is_kind, is_token, sees}
 use Rattle.c_language.specs.Tokens.{name_goes_on, number_goes_on, IsCharacter, IsLiteral, LacksTrigraph}
-use Rattle.c_language.specs.declared.token.Token.{Token}
 use Rattle.c_language.specs.declared.token.TokenKind.{TokenKind}
 use Rattle.c_language.specs.declared.token.TokenKind.TheVariants.{Name, Number, Character, Str, Mark, Include, Directive}
 
@@ -25,20 +23,7 @@ pub data HasForm : TokenKind → Bytes → Type 0 where
   include : {text : Bytes} → HasForm Include text
   directive : {text : Bytes} → HasForm Directive text
 
--- a `&` directly before another: `&&` would be one mark
-abbrev pub joins_and : Token → Tokens → Bool
-joins_and t ts = is_token Mark (codes "&") t && sees Mark (codes "&") ts
-
--- a number directly before a selector: `1.m` would be one number
-abbrev pub joins_number : Token → Tokens → Bool
-joins_number t ts = is_kind Number t && (sees Mark (codes ".") ts || sees Mark (codes "->") ts)
-
--- no token joins with the next one in these two ways
-abbrev pub AreApart : Tokens → Type 0
-AreApart [] = Unit {0}
-AreApart (t ∷ ts) = (joins_and t ts ≡ false) × (joins_number t ts ≡ false) × AreApart ts
-
--- each token has its form, neither a `&` nor a number joins with the next one, and fewer than 2 to the 32 tokens follow
+-- each token has the form of its kind
 abbrev pub AreWritten : Tokens → Type 0
 AreWritten [] = Unit {0}
-AreWritten (t ∷ ts) = HasForm t.kind t.text × (joins_and t ts ≡ false) × (joins_number t ts ≡ false) × (length ts < 2 ^ 32) × AreWritten ts
+AreWritten (t ∷ ts) = HasForm t.kind t.text × AreWritten ts

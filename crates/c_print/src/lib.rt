@@ -19,4 +19,4 @@ mod types;
 mod words;
 
 pub use items::print;
-pub use lines::{line_of, lines_of};
+pub use lines::{layouts_have_few_lines, line_of, lines_of};

@@ -3,6 +3,9 @@ ghost use Rattle.std.specs.Prelude.{◌≡◌, ◌∷◌, [], ℕ, ◌+◌, ◌<
 ghost use Rattle.c_tree.specs.declared.program.Item.TheVariants as Item;
 ghost use Rattle.std.specs.Option.{option_map};
 ghost use Rattle.c_tree.specs.Numbered.{start, own_id};
+ghost use Rattle.c_print.specs.Feedless.{IsFeedless};
+ghost use Rattle.c_print.specs.FewLines.{HaveFewLines};
+ghost use Rattle.c_print.specs.StartsOn.{HasPlace, StartsOn};
 ghost use Rattle.c_print.specs.Lines as spec;
 ghost use Rattle.c_print.specs.Lines.{own_starts, starts_from, placed, arm_placed, item_placed, heights, body_height, line_count, kept};
 
@@ -208,11 +211,18 @@ fn write_lines(lines: &mut [u32], first: StatementId, program: &Program)
     }
 }
 
-/// The line, counted from 1, on which the statement with this number begins in the layout; it is
-/// 0 where the program has no such statement.
+/// A law: a layout of at most 2 to the 32 bytes has few enough lines for [`line_of`].
+pub fn layouts_have_few_lines()
+    ensures { HaveFewLines }
+{}
+
+/// The line, counted from 1, on which the first token of the statement with this number stands in
+/// the layout; it is 0 where the layout has no such statement.
 pub fn line_of(program: &Program, id: StatementId) -> u32
     requires fits { line_count program.now + 1 < 2 ^ 32 }
-    ensures { result ≡ spec.line_of program.now id }
+    ensures line { result ≡ spec.line_of program.now id }
+    ensures starts { IsFeedless program.now → HasPlace program.now id → StartsOn program.now id result }
+    ensures none { IsFeedless program.now → (HasPlace program.now id → ⊥) → result ≡ 0 }
 {
     let mut lines = [0; 1];
     write_lines(&mut lines, id, program);
@@ -238,6 +248,7 @@ pub fn lines_of(alloc: Global, program: &Program) -> Result<Vec<u32>, AllocError
     requires fits { line_count program.now + 1 < 2 ^ 32 }
     ensures count { IfOk result (λ lines. length lines.items ≡ program.now.statements) }
     ensures lines { IfOk result (λ lines. (id : ℕ) → id < program.now.statements → slice_get lines.items id ≡ Some (spec.line_of program.now id)) }
+    ensures starts { IfOk result (λ lines. IsFeedless program.now → (id : ℕ) → id < program.now.statements → HasPlace program.now id → (n : ℕ) × (slice_get lines.items id ≡ Some n) × StartsOn program.now id n) }
 {
     let lines = written(alloc, program)?;
     Ok(lines)

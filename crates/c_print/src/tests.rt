@@ -2,12 +2,12 @@
 use crate::expressions::expression;
 use crate::margin::Margin;
 use crate::names::{binary_sign, int_words};
-use crate::print;
 use crate::statements::statements;
 use crate::types::{declared, type_words};
+use crate::{line_of, lines_of, print};
 use c_tree::{
     Amount, Arm, BinaryOp, Boxed, CType, Expr, Function, Init, IntType, Item, Items, Label, Member,
-    MemberId, Program, Size, Statement, StructDef, Target, Text, UnaryOp, Var, VarId,
+    MemberId, Program, Size, Statement, StatementId, StructDef, Target, Text, UnaryOp, Var, VarId,
 };
 use std::process::Abort;
 
@@ -666,4 +666,308 @@ fn the_items_of_a_program(rt: HostRuntime) {
     let want = b"static int *f(int a, int *p) {\n    return p;\n}\nvoid g(void) {\n}\n";
     expect_items(rt, two(rt, Item::Define(0), Item::Define(1)), want);
     expect_items(rt, two(rt, Item::Define(7), Item::Struct(7)), b"");
+}
+
+/// `a = b;` with this number.
+fn numbered<R: AllocGlobal>(_rt: &R, id: StatementId) -> Statement {
+    let left = Expr::Variable(A);
+    let right = Expr::Variable(B);
+    Statement::Assign {
+        id,
+        line: 1,
+        left,
+        op: None,
+        right,
+    }
+}
+
+/// An if with an else, and one without.
+fn branches<R: Abort + AllocGlobal>(rt: &R) -> Items<Statement> {
+    let then = one(rt, numbered(rt, 1));
+    let other = one(rt, numbered(rt, 2));
+    let with_else = Statement::If {
+        id: 0,
+        line: 1,
+        test: Expr::Variable(A),
+        then,
+        other,
+    };
+    let then = one(rt, numbered(rt, 4));
+    let without = Statement::If {
+        id: 3,
+        line: 1,
+        test: Expr::Variable(A),
+        then,
+        other: none(rt),
+    };
+    two(rt, with_else, without)
+}
+
+/// A while and a do.
+fn repetitions<R: Abort + AllocGlobal>(rt: &R) -> Items<Statement> {
+    let body = one(rt, numbered(rt, 6));
+    let first = Statement::While {
+        id: 5,
+        line: 1,
+        test: Expr::Variable(A),
+        body,
+    };
+    let body = one(rt, numbered(rt, 8));
+    let second = Statement::Do {
+        id: 7,
+        line: 1,
+        test: Expr::Variable(A),
+        body,
+    };
+    two(rt, first, second)
+}
+
+/// A for whose first part and step have numbers of their own.
+fn counting<R: Abort + AllocGlobal>(rt: &R) -> Statement {
+    let init = boxed(rt, numbered(rt, 10));
+    let step = boxed(rt, numbered(rt, 11));
+    let body = one(rt, numbered(rt, 12));
+    Statement::For {
+        id: 9,
+        line: 1,
+        init: Some(init),
+        test: Expr::Variable(A),
+        step: Some(step),
+        body,
+    }
+}
+
+/// A switch whose first arm has two labels.
+fn choice<R: Abort + AllocGlobal>(rt: &R) -> Statement {
+    let labels = two(rt, Label::Default, Label::Default);
+    let body = one(rt, numbered(rt, 14));
+    let first = Arm { labels, body };
+    let labels = one(rt, Label::Default);
+    let body = one(rt, numbered(rt, 15));
+    let last = Arm { labels, body };
+    Statement::Switch {
+        id: 13,
+        line: 1,
+        test: Expr::Variable(A),
+        arms: two(rt, first, last),
+    }
+}
+
+/// A bare block, and a declaration without initialiser.
+fn unnumbered<R: Abort + AllocGlobal>(rt: &R) -> Items<Statement> {
+    let body = one(rt, numbered(rt, 16));
+    let block = Statement::Block { line: 1, body };
+    let declaration = Statement::Declare {
+        id: None,
+        line: 1,
+        var: B,
+        init: Init::None,
+    };
+    two(rt, block, declaration)
+}
+
+/// A function whose body has every form with a line of its own.
+fn of_every_form<R: Abort + AllocGlobal>(rt: &R) -> Function {
+    let mut body = branches(rt);
+    body.append(repetitions(rt)).expect(rt, "memory");
+    body.append(two(rt, counting(rt), choice(rt)))
+        .expect(rt, "memory");
+    body.append(unnumbered(rt)).expect(rt, "memory");
+    body.push(numbered(rt, 17)).expect(rt, "memory");
+    Function {
+        name: text(rt, b"h"),
+        result: None,
+        params: none(rt),
+        body,
+        is_static: false,
+        line: 1,
+    }
+}
+
+/// An include, a struct, a global, a prototype and the function of every form.
+fn program_of_every_form<R: Abort + AllocGlobal>(rt: &R) -> Program {
+    let mut items = two(rt, Item::Include { is_stdlib: false }, Item::Struct(0));
+    let prototype = Item::Prototype {
+        function: 0,
+        names: none(rt),
+        is_static: false,
+    };
+    let before = two(rt, Item::Global(A, Init::None), prototype);
+    items.append(before).expect(rt, "memory");
+    items.push(Item::Define(0)).expect(rt, "memory");
+    let vars = vars(rt);
+    let structs = structs(rt);
+    let functions = one(rt, of_every_form(rt));
+    Program {
+        items,
+        vars,
+        structs,
+        functions,
+        statements: 18,
+    }
+}
+
+#[tactic(auto, using(crate::proofs::LayoutLength::few_lines))]
+fn expect_starts<R: Abort + AllocGlobal>(rt: &R, program: &Program, want: &[u32]) {
+    let text = print(rt.alloc(), program).expect(rt, "memory");
+    assert!(rt; text.bytes().len() < 4096);
+    let lines = lines_of(rt.alloc(), program).expect(rt, "memory");
+    assert_eq!(rt; lines.as_slice(), want);
+    assert_eq!(rt; line_of(program, 3), 14);
+    assert_eq!(rt; line_of(program, 17), 39);
+    assert_eq!(rt; line_of(program, 18), 0);
+}
+
+#[test]
+fn each_statement_has_its_line(rt: HostRuntime) {
+    let rt = &rt;
+    let program = program_of_every_form(rt);
+    let want = [
+        9, 10, 12, 14, 15, 17, 18, 20, 21, 23, 23, 23, 24, 26, 29, 32, 36, 39,
+    ];
+    expect_starts(rt, &program, want.as_slice());
+}
+
+#[test]
+fn spellings_are_kept(rt: HostRuntime) {
+    let rt = &rt;
+    for spelling in [
+        b"0".as_slice(),
+        b"017".as_slice(),
+        b"0X1fuL".as_slice(),
+        b"42Lu".as_slice(),
+        b"'a'".as_slice(),
+        b"'\\''".as_slice(),
+        b"'\\\"'".as_slice(),
+        b"'\\?'".as_slice(),
+        b"'\\\\'".as_slice(),
+        b"'\\a'".as_slice(),
+        b"'\\b'".as_slice(),
+        b"'\\f'".as_slice(),
+        b"'\\n'".as_slice(),
+        b"'\\r'".as_slice(),
+        b"'\\t'".as_slice(),
+        b"'\\v'".as_slice(),
+        b"'\\0'".as_slice(),
+        b"'\\177'".as_slice(),
+        b"'\\x7F'".as_slice(),
+    ] {
+        expect_expression(rt, number(rt, spelling), spelling);
+    }
+}
+
+#[test]
+fn an_if_in_an_else_stands_on_its_own_line(rt: HostRuntime) {
+    let rt = &rt;
+    let inner = Statement::If {
+        id: 1,
+        line: 1,
+        test: Expr::Variable(A),
+        then: copying(rt),
+        other: none(rt),
+    };
+    let then = copying(rt);
+    let other = one(rt, inner);
+    let outer = Statement::If {
+        id: 0,
+        line: 1,
+        test: Expr::Variable(B),
+        then,
+        other,
+    };
+    let want = b"if (b) {
+    a = b;
+} else {
+    if (a) {
+        a = b;
+    }
+}
+";
+    expect_lines(rt, outer, want);
+}
+
+/// `i = 0`, `++i` and `x += i`, where `x` is the first variable and `i` the second.
+fn assigned(id: StatementId, left: VarId, op: Option<BinaryOp>, right: Expr) -> Statement {
+    let left = Expr::Variable(left);
+    Statement::Assign {
+        id,
+        line: 1,
+        left,
+        op,
+        right,
+    }
+}
+
+/// `for (i = 0; i < 3; ++i) x += i;`.
+fn sum_of_three<R: Abort + AllocGlobal>(rt: &R) -> Statement {
+    let init = boxed(rt, assigned(2, B, None, number(rt, b"0")));
+    let stepped = Statement::Bump {
+        id: 3,
+        line: 1,
+        left: Expr::Variable(B),
+        up: true,
+        before: true,
+    };
+    let step = boxed(rt, stepped);
+    let test = binary(rt, Expr::Variable(B), BinaryOp::Less, number(rt, b"3"));
+    let summed = assigned(4, A, Some(BinaryOp::Add), Expr::Variable(B));
+    let body = one(rt, summed);
+    Statement::For {
+        id: 1,
+        line: 1,
+        init: Some(init),
+        test,
+        step: Some(step),
+        body,
+    }
+}
+
+/// `int main(void){int x=0,i;for(i=0;i<3;++i)x+=i;}`.
+fn program_on_one_line<R: Abort + AllocGlobal>(rt: &R) -> Program {
+    let init = Init::One(number(rt, b"0"));
+    let first = Statement::Declare {
+        id: Some(0),
+        line: 1,
+        var: A,
+        init,
+    };
+    let second = Statement::Declare {
+        id: None,
+        line: 1,
+        var: B,
+        init: Init::None,
+    };
+    let mut body = two(rt, first, second);
+    body.push(sum_of_three(rt)).expect(rt, "memory");
+    let main = Function {
+        name: text(rt, b"main"),
+        result: Some(int()),
+        params: none(rt),
+        body,
+        is_static: false,
+        line: 1,
+    };
+    let vars = two(rt, var(rt, b"x", int(), false), var(rt, b"i", int(), false));
+    Program {
+        items: one(rt, Item::Define(0)),
+        vars,
+        structs: none(rt),
+        functions: one(rt, main),
+        statements: 5,
+    }
+}
+
+#[test]
+fn a_program_on_one_line_is_laid_out(rt: HostRuntime) {
+    let rt = &rt;
+    let out = print(rt.alloc(), &program_on_one_line(rt)).expect(rt, "memory");
+    let want = b"int main(void) {
+    int x = 0;
+    int i;
+    for (i = 0; i < 3; ++i) {
+        x += i;
+    }
+}
+";
+    assert_eq!(rt; out.bytes(), want.as_slice());
 }

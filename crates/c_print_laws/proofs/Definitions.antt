@@ -1,5 +1,5 @@
 -- The functions that a text defines are those of its program.
-use Rattle.std.proofs.Common.{◌≡◌, ℕ, zero, suc, ◌+◌, ◌&&◌, List, [], ◌∷◌, ◌++◌, map, Bool, true, false, Option, Some, None, refl, sym, ap, subst, ◌∙◌, arith, slice_get}
+use Rattle.std.proofs.Common.{◌≡◌, ℕ, zero, suc, ◌+◌, List, [], ◌∷◌, ◌++◌, map, true, Option, Some, None, refl, sym, ap, subst, ◌∙◌, arith, slice_get}
 use Rattle.std.specs.Prelude.{is_some, if◌then◌else◌, bytes_eq}
 use Rattle.std.specs.Option.{option_map_or}
 use Rattle.std.proofs.lemmas.Slice.Eq.{bytes_eq-Decides}
@@ -24,6 +24,7 @@ use Rattle.c_language.specs.ProgramOf.{collected, ctype, ctype_with, ctype_if, v
 use Rattle.c_language.specs.ProgramOf as tree
 use Rattle.c_language.specs.DeclaredTypes.{defined_structs}
 use Rattle.c_language.specs.Phrases.{scope_at_end}
+pub use Rattle.c_print_laws.proofs.Options.{false_true, and_parts}
 use Rattle.c_print_laws.proofs.Options.{none_there, some_same, map_there, then_there, both_there, collected_are, cons_nil, first_same, rest_same}
 use Rattle.c_print_laws.proofs.Named.{positioned}
 use Rattle.c_print_laws.proofs.Told.{AreTold, told_first, told_rest, told_later}
@@ -67,17 +68,6 @@ pub behind_at : {A : Type 0} (all : List A) (n m : ℕ) (some : List A) → m �
 behind_at all n m some is h = subst (λ (k : ℕ). Behind all k some) (sym is) h
 
 -- ---- functions
-
-abbrev is_false : Bool → Type 0
-is_false false = Unit {0}
-is_false true = ⊥
-
-pub false_true : {A : Type 0} → ◌≡◌ {A = Bool} false true → A
-false_true h = absurd (subst is_false h tt)
-
-pub and_parts : (a b : Bool) → (a && b) ≡ true → (a ≡ true) × (b ≡ true)
-and_parts true b h = (refl, h)
-and_parts false b h = false_true h
 
 -- a type that no length stands in: a base with stars
 pub data IsPlain : RawType → Type 0 where

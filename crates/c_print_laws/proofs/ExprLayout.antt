@@ -1,6 +1,6 @@
 -- The words of an expression of a program are those of the text's expression.
-use Rattle.std.proofs.Common.{◌≡◌, ℕ, List, ◌++◌, Option, Some, None, codes, refl, sym, ap, ap₂, subst, ◌∙◌, map}
-use Rattle.std.specs.Prelude.{option_map, option_and_then}
+use Rattle.std.proofs.Common.{◌≡◌, ℕ, suc, List, [], ◌∷◌, ◌++◌, arith, Option, Some, None, codes, refl, sym, ap, ap₂, subst, ◌∙◌, map}
+use Rattle.std.specs.Prelude.{Contains, option_map, option_and_then}
 use Rattle.c_tree.specs.declared.expr.Expr.{Expr}
 use Rattle.c_tree.specs.declared.expr.Expr.TheVariants as e
 use Rattle.c_tree.specs.declared.expr.MemberId.{MemberId}
@@ -8,27 +8,30 @@ use Rattle.c_tree.specs.declared.program.Program.{Program}
 use Rattle.c_tree.specs.declared.raw.expr.RawExpr.{RawExpr, map-RawExpr, fold-RawExpr, fold-roll-RawExpr}
 use Rattle.c_tree.specs.declared.raw.expr.RawExpr.TheOpen.{RawExpr-F}
 use Rattle.c_tree.specs.declared.raw.program.RawProgram.{RawProgram}
-use Rattle.c_language.specs.Words.{Bytes, signed, binary_sign, int_words, expr_words}
-use Rattle.c_language.specs.ConstantEvaluation.{both, literal_type, literal_value}
+use Rattle.c_language.specs.Words.{Bytes, signed, binary_sign, int_words, expr_words, name_of_var}
+use Rattle.c_language.specs.ConstantEvaluation.{both, constant, literal_type, literal_value}
 use Rattle.c_language.specs.Scopes.{Meaning, Scope, meaning_in}
 use Rattle.c_language.specs.ExprTypes.{pointed, struct_of}
-use Rattle.c_language.specs.ProgramOf.{Told, told_step, expr_of, exprs_of, variable_number, of_operand, of_pointed, member_id, raw_words_step, raw_words}
+use Rattle.c_language.specs.ProgramOf.{Told, told_step, expr_of, variable_number, of_operand, of_pointed, member_id, raw_words_step, raw_words}
 use Rattle.c_language.specs.declared.expr_type.Operand.{Operand}
 use Rattle.c_language.specs.declared.expr_type.ExprType.{ExprType}
 use Rattle.c_language.proofs.WordLemmas.{expr_words-Constant, expr_words-Null, expr_words-Eof, expr_words-Variable, expr_words-Unary, expr_words-Deref, expr_words-AddressOf, expr_words-Binary, expr_words-AndAlso, expr_words-OrElse, expr_words-Choose, expr_words-Cast, expr_words-Index, expr_words-Member, expr_words-Arrow, expr_words-Paren}
-use Rattle.c_print_laws.proofs.Options.{none_there, some_same, map_there, then_there, both_there, collected_are, alike}
+use Rattle.c_print.specs.SpacedWords.{spaced_words}
+use Rattle.c_print_laws.proofs.Options.{IsThere, none_there, some_same, map_there, then_there, both_there, cons_nil, first_same, rest_same}
+use Rattle.c_print_laws.proofs.Operands.{KeepsAll}
+use Rattle.c_print_laws.proofs.SpacedWords.{constant_spaced, words_spaced}
 use Rattle.c_print_laws.proofs.Trees.{ExprParts, expr_layer, of_every_expr}
-use Rattle.c_print_laws.proofs.Named.{IsNamed, Fits, MeaningFits, fits_found}
+use Rattle.c_print_laws.proofs.Named.{IsNamed, Fits, fits_found, fits_typed}
 
 module _ (raw : RawProgram) (p : Program) (named : IsNamed raw p) (scope : Scope) (fits : Fits p scope) where
   abbrev HasWords : RawExpr → Type 0
   HasWords a = (x : Expr) → expr_of raw scope a ≡ Some x → expr_words p x ≡ raw_words a
 
-  pub variable_named : (name : Bytes) (m : Option Meaning) → meaning_in scope name ≡ m → (k : ℕ) → variable_number m ≡ Some k → MeaningFits p name (Meaning.Variable k None)
+  pub variable_named : (name : Bytes) (m : Option Meaning) → meaning_in scope name ≡ m → (k : ℕ) → variable_number m ≡ Some k → name_of_var p k ≡ name
   variable_named name None is k h = none_there h
   variable_named name (Some Meaning.Function) is k h = none_there h
   variable_named name (Some (Meaning.Variable id t)) is k h =
-      subst (λ (n : ℕ). MeaningFits p name (Meaning.Variable n None)) (some_same h) (fits_found p scope.names name (Meaning.Variable id t) fits is)
+      subst (λ (n : ℕ). name_of_var p n ≡ name) (some_same h) (fits_found p scope.names name (Meaning.Variable id t) fits is).0
 
   member_of_operand : (name : Bytes) (a : Option Operand) (m : MemberId) → of_operand raw name a ≡ Some m → (k : ℕ) × (member_id raw name k ≡ Some m)
   member_of_operand name a m h =
@@ -100,11 +103,24 @@ module _ (raw : RawProgram) (p : Program) (named : IsNamed raw p) (scope : Scope
       (λ k is x. let s = member_of_pointed m (told_of a.0).operand k is in expr_words-Arrow p x k ∙ ap (λ (w : Bytes). expr_words p x ++ (codes "->" ++ w)) (named.members m s.0 k s.1)) x h
   layered (RawExpr-F.Paren a) x h = one e.Paren (λ (w : Bytes). codes "(" ++ (w ++ codes ")")) a.0 a.1 (expr_words-Paren p) x h
 
-  pub expr_layout : (a : RawExpr) (x : Expr) → expr_of raw scope a ≡ Some x → expr_words p x ≡ raw_words a
-  expr_layout = of_every_expr HasWords (λ y x h.
+  plain_layout : (a : RawExpr) (x : Expr) → expr_of raw scope a ≡ Some x → expr_words p x ≡ raw_words a
+  plain_layout = of_every_expr HasWords (λ y x h.
       layered y x (ap (λ (t : Told). t.tree) (sym (fold-roll-RawExpr Told (told_step raw scope) (layer_of y))) ∙ h)
       ∙ sym (fold-roll-RawExpr Bytes raw_words_step (layer_of y)))
 
+  -- an expression that breaks no rule has the words of the text's layout
+  pub expr_layout : (a : RawExpr) → KeepsAll raw scope a → (x : Expr) → expr_of raw scope a ≡ Some x → expr_words p x ≡ spaced_words a
+  expr_layout a keeps x h = plain_layout a x h ∙ sym (words_spaced raw scope named.complete (λ name. fits_typed p scope.names name fits) a keeps)
+
+  -- so has a constant expression
+  pub constant_layout : (a : RawExpr) → IsThere (constant a) → (x : Expr) → expr_of raw scope a ≡ Some x → expr_words p x ≡ spaced_words a
+  constant_layout a there x h = plain_layout a x h ∙ sym (constant_spaced a there)
+
   -- a list of expressions
-  pub exprs_layout : (all : List RawExpr) (xs : List Expr) → exprs_of raw scope all ≡ Some xs → map (expr_words p) xs ≡ map raw_words all
-  exprs_layout all xs h = alike (expr_of raw scope) raw_words (expr_words p) all xs expr_layout (collected_are (map (expr_of raw scope) all) xs h)
+  pub exprs_layout : (all : List RawExpr) → ((a : RawExpr) → Contains all a → KeepsAll raw scope a) → (xs : List Expr) → map (expr_of raw scope) all ≡ map Some xs → map (expr_words p) xs ≡ map spaced_words all
+  exprs_layout [] keeps [] h = refl
+  exprs_layout [] keeps (x ∷ xs) h = cons_nil (Some x) (map Some xs) (sym h)
+  exprs_layout (a ∷ all) keeps [] h = cons_nil (expr_of raw scope a) (map (expr_of raw scope) all) h
+  exprs_layout (a ∷ all) keeps (x ∷ xs) h =
+      ap₂ (λ (w : Bytes) (ws : List Bytes). w ∷ ws) (expr_layout a (keeps a (0, omega arith, refl)) x (first_same h))
+      (exprs_layout all (λ b c. keeps b (suc c.0, omega (arith, c.1), c.2)) xs (rest_same h))

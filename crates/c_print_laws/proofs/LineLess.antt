@@ -35,7 +35,7 @@ mapped_or : {A B : Type 0} (g : A → A) (f h : A → B) (d : B) → ((a : A) �
 mapped_or g f h d same None = refl
 mapped_or g f h d same (Some a) = same a
 
-got_or : {A B : Type 0} (g : A → A) (f h : A → B) (d : B) → ((a : A) → f (g a) ≡ h a) → (xs : List A) (k : ℕ) → option_map_or f (slice_get (map g xs) k) d ≡ option_map_or h (slice_get xs k) d
+pub got_or : {A B : Type 0} (g : A → A) (f h : A → B) (d : B) → ((a : A) → f (g a) ≡ h a) → (xs : List A) (k : ℕ) → option_map_or f (slice_get (map g xs) k) d ≡ option_map_or h (slice_get xs k) d
 got_or g f h d same xs k = ap (λ (o : Option _). option_map_or f o d) (slice_get-map g xs k) ∙ mapped_or g f h d same (slice_get xs k)
 
 -- ---- expressions, by steps that agree
@@ -71,7 +71,7 @@ module _ {A : Type 0} (f g : Expr-F A → A) (same : (y : Expr-F A) → f y ≡ 
 
 -- ---- a layer with line 0
 
-abbrev zero_line : {S A : Type 0} → Statement-F S A → Statement-F S A
+abbrev pub zero_line : {S A : Type 0} → Statement-F S A → Statement-F S A
 zero_line (Statement-F.Declare id l x i) = Statement-F.Declare id 0 x i
 zero_line (Statement-F.Assign id l a op b) = Statement-F.Assign id 0 a op b
 zero_line (Statement-F.Bump id l a up before) = Statement-F.Bump id 0 a up before
@@ -89,7 +89,7 @@ zero_line (Statement-F.Switch id l e arms) = Statement-F.Switch id 0 e arms
 zero_line (Statement-F.Block l b) = Statement-F.Block 0 b
 zero_line (Statement-F.Return id l e) = Statement-F.Return id 0 e
 
-unlined_rolls : (y : Statement-F Statement Arm) → unlined_step y ≡ roll-Statement (zero_line y)
+pub unlined_rolls : (y : Statement-F Statement Arm) → unlined_step y ≡ roll-Statement (zero_line y)
 unlined_rolls (Statement-F.Declare id l x i) = sym (s.rolls-Declare id 0 x i)
 unlined_rolls (Statement-F.Assign id l a op b) = sym (s.rolls-Assign id 0 a op b)
 unlined_rolls (Statement-F.Bump id l a up before) = sym (s.rolls-Bump id 0 a up before)

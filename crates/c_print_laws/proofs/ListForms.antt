@@ -13,7 +13,6 @@ use Rattle.c_tree.specs.declared.raw.expr.RawVar.{RawVar}
 use Rattle.c_tree.specs.declared.raw.program.RawInit.{RawInit}
 use Rattle.c_tree.specs.declared.raw.program.RawInit.TheVariants as init
 use Rattle.c_tree.specs.declared.raw.program.RawItem.{RawItem}
-use Rattle.c_tree.specs.declared.raw.program.RawItem.TheVariants as item
 use Rattle.c_tree.specs.declared.raw.program.RawProgram.{RawProgram}
 use Rattle.c_tree.specs.declared.raw.statement.RawTarget.{RawTarget}
 use Rattle.c_tree.specs.declared.raw.statement.RawArg.{RawArg}
@@ -21,22 +20,19 @@ use Rattle.c_tree.specs.declared.raw.statement.RawTypeName.{RawTypeName}
 use Rattle.c_tree.specs.declared.raw.statement.RawAmount.{RawAmount}
 use Rattle.c_tree.specs.declared.raw.statement.RawLabel.{RawLabel}
 use Rattle.c_tree.specs.declared.raw.statement.RawStatement.{RawStatement, roll-RawStatement, map-RawStatement, fold-roll-RawStatement}
-use Rattle.c_tree.specs.declared.raw.statement.RawStatement.TheOpen.{RawStatement-F, RawArm-F}
+use Rattle.c_tree.specs.declared.raw.statement.RawStatement.TheOpen.{RawStatement-F}
 use Rattle.c_tree.specs.declared.raw.statement.RawStatement.TheVariants as s
-use Rattle.c_tree.specs.declared.raw.statement.RawArm.{RawArm, roll-RawArm, map-RawArm, fold-roll-RawArm}
+use Rattle.c_tree.specs.declared.raw.statement.RawArm.{RawArm, fold-roll-RawArm}
 use Rattle.c_language.specs.Words.{Bytes}
 use Rattle.c_language.specs.TokenForms.{Tokens}
 use Rattle.c_language.specs.DeclaredTypes.{item_count}
 use Rattle.c_language.specs.TypeGrammar.{IsBase, IsStars, IsLengths, IsOuterLengths, IsDeclarator, is_listed}
 use Rattle.c_language.specs.StatementGrammar.{IsSeparated, IsSimple, IsList, IsDeclared, IsDeclaration, IsInit, IsStep, IsStatement, AreStatements, IsBody, IsElse, AreArms, arm}
 use Rattle.c_language.specs.ItemGrammar.{IsGlobal, IsItem, AreItems, IsProgram}
-use Rattle.c_print.specs.Settled.{settled, settled_arm, settled_item}
 use Rattle.c_print.proofs.RawTypeLemmas.{is_listed-Array}
-pub use Rattle.c_print_laws.specs.Declarations.{is_short}
-use Rattle.c_print_laws.proofs.Trees.{StatementParts, statement_layer, arm_layer, of_every_statement}
 use Rattle.c_print_laws.proofs.Definitions.{false_true, and_parts}
 use Rattle.c_print_laws.proofs.Settling.{written_step, is_written, IsCounted}
-use Rattle.c_print_laws.proofs.PhraseAgreement.{all_true, declares_step, arm_declares, declarations_pass, arm_passes, Fine, kept_layer, settled_layer, settled_arm_layer}
+use Rattle.c_print_laws.proofs.PhraseAgreement.{all_true, declares_step, arm_declares, declarations_pass, arm_passes, Fine}
 use Rattle.c_print_laws.proofs.RulesKept.{item_passes, items_pass}
 
 -- ---- tests of declarations
@@ -45,15 +41,12 @@ use Rattle.c_print_laws.proofs.RulesKept.{item_passes, items_pass}
 abbrev pub is_counted : RawVar → RawInit → Bool
 is_counted v i = is_written v.shape || nat_lt 0 (item_count i)
 
-abbrev pub is_fine : RawVar → RawInit → Bool
-is_fine v i = is_counted v i && is_short v i
+some_list : (b : Bool) (n : ℕ) → (b || nat_lt 0 n) ≡ true → IsCounted n b
+some_list true n h = inl refl
+some_list false n h = inr (grind (arith, nat_tests))
 
-some_list : (b : Bool) (n : ℕ) → (b || nat_lt 0 n) ≡ true → nat_lt n 4294967296 ≡ true → IsCounted n b
-some_list true n h k = inl refl
-some_list false n h k = inr (grind (arith, nat_tests), grind (arith, nat_tests))
-
-pub fine : Fine is_fine
-fine v i h = let p = and_parts (is_counted v i) (is_short v i) h in some_list (is_written v.shape) (item_count i) p.0 p.1
+pub fine : Fine is_counted
+fine v i h = some_list (is_written v.shape) (item_count i) h
 
 -- ---- tests at each form
 
@@ -256,148 +249,3 @@ items_count (AreItems.more {some} {all} h k) = items_append is_counted some all 
 -- In a text of the grammar a length is left to a list only where one with an item follows.
 pub lists_counted : {ts : Tokens} (raw : RawProgram) → IsProgram ts raw → items_pass is_counted raw.items ≡ true
 lists_counted raw h = items_count h
-
--- ---- two tests
-
-abbrev BothPass : RawStatement → Type 0
-BothPass x = declarations_pass is_counted x ≡ true → declarations_pass is_short x ≡ true → declarations_pass is_fine x ≡ true
-
-abbrev ArmBothPass : RawArm → Type 0
-ArmBothPass x = arm_passes is_counted x ≡ true → arm_passes is_short x ≡ true → arm_passes is_fine x ≡ true
-
-lists_both : (xs : List ((x : RawStatement) × BothPass x)) → list_passes is_counted (map (λ (x : (y : RawStatement) × BothPass y). x.0) xs) ≡ true → list_passes is_short (map (λ (x : (y : RawStatement) × BothPass y). x.0) xs) ≡ true
-    → list_passes is_fine (map (λ (x : (y : RawStatement) × BothPass y). x.0) xs) ≡ true
-lists_both [] h k = refl
-lists_both (x ∷ xs) h k =
-    let p = and_parts (declarations_pass is_counted x.0) _ h in
-    let q = and_parts (declarations_pass is_short x.0) _ k in
-    both_true is_fine (x.1 p.0 q.0) (lists_both xs p.1 q.1)
-
-arms_both : (xs : List ((x : RawArm) × ArmBothPass x)) → all_true (map (arm_passes is_counted) (map (λ (x : (y : RawArm) × ArmBothPass y). x.0) xs)) ≡ true → all_true (map (arm_passes is_short) (map (λ (x : (y : RawArm) × ArmBothPass y). x.0) xs)) ≡ true
-    → all_true (map (arm_passes is_fine) (map (λ (x : (y : RawArm) × ArmBothPass y). x.0) xs)) ≡ true
-arms_both [] h k = refl
-arms_both (x ∷ xs) h k =
-    let p = and_parts (arm_passes is_counted x.0) _ h in
-    let q = and_parts (arm_passes is_short x.0) _ k in
-    both_true is_fine (x.1 p.0 q.0) (arms_both xs p.1 q.1)
-
-abbrev step_passes : (RawVar → RawInit → Bool) → RawStatement-F RawStatement RawArm → Bool
-step_passes test y = declares_step test (map-RawStatement RawStatement RawArm Bool Bool (declarations_pass test) (arm_passes test) y)
-
-layer_both : (y : StatementParts BothPass ArmBothPass) → step_passes is_counted (statement_layer BothPass ArmBothPass y) ≡ true → step_passes is_short (statement_layer BothPass ArmBothPass y) ≡ true → step_passes is_fine (statement_layer BothPass ArmBothPass y) ≡ true
-layer_both (RawStatement-F.Declare l v i) h k = both_true is_fine h k
-layer_both (RawStatement-F.Assign l a op b) h k = refl
-layer_both (RawStatement-F.Bump l a up before) h k = refl
-layer_both (RawStatement-F.Call l to f args) h k = refl
-layer_both (RawStatement-F.Heap l to cast n) h k = refl
-layer_both (RawStatement-F.If l a b c) h k =
-    let p = and_parts (list_passes is_counted (map (λ (x : (y : RawStatement) × BothPass y). x.0) b)) _ h in
-    let q = and_parts (list_passes is_short (map (λ (x : (y : RawStatement) × BothPass y). x.0) b)) _ k in
-    both_true is_fine (lists_both b p.0 q.0) (lists_both c p.1 q.1)
-layer_both (RawStatement-F.While l a b) h k = lists_both b h k
-layer_both (RawStatement-F.Do l a b) h k = lists_both b h k
-layer_both (RawStatement-F.For l None a None b) h k = lists_both b h k
-layer_both (RawStatement-F.For l None a (Some x) b) h k =
-    let p = and_parts (declarations_pass is_counted x.0) _ h in
-    let q = and_parts (declarations_pass is_short x.0) _ k in
-    both_true is_fine (x.1 p.0 q.0) (lists_both b p.1 q.1)
-layer_both (RawStatement-F.For l (Some i) a None b) h k =
-    let p = and_parts (declarations_pass is_counted i.0) _ h in
-    let q = and_parts (declarations_pass is_short i.0) _ k in
-    both_true is_fine (i.1 p.0 q.0) (lists_both b p.1 q.1)
-layer_both (RawStatement-F.For l (Some i) a (Some x) b) h k =
-    let p = and_parts (declarations_pass is_counted i.0) _ h in
-    let q = and_parts (declarations_pass is_short i.0) _ k in
-    let r = and_parts (declarations_pass is_counted x.0) _ p.1 in
-    let t = and_parts (declarations_pass is_short x.0) _ q.1 in
-    both_true is_fine (i.1 p.0 q.0) (both_true is_fine (x.1 r.0 t.0) (lists_both b r.1 t.1))
-layer_both (RawStatement-F.Switch l a arms) h k = arms_both arms h k
-layer_both (RawStatement-F.Block l b) h k = lists_both b h k
-layer_both (RawStatement-F.Return l a) h k = refl
-
-both_pass : (x : RawStatement) → BothPass x
-both_pass = of_every_statement BothPass ArmBothPass
-    (λ y h k. passes is_fine (statement_layer BothPass ArmBothPass y) ∙ layer_both y (sym (passes is_counted (statement_layer BothPass ArmBothPass y)) ∙ h) (sym (passes is_short (statement_layer BothPass ArmBothPass y)) ∙ k))
-    (λ y h k. arm_rolled is_fine (arm_layer BothPass ArmBothPass y) ∙ lists_both y.body (sym (arm_rolled is_counted (arm_layer BothPass ArmBothPass y)) ∙ h) (sym (arm_rolled is_short (arm_layer BothPass ArmBothPass y)) ∙ k))
-  where
-    arm_rolled : (test : RawVar → RawInit → Bool) (y : RawArm-F RawStatement RawArm) → arm_passes test (roll-RawArm y) ≡ list_passes test y.body
-    arm_rolled test y = fold-roll-RawArm Bool Bool (declares_step test) arm_declares y
-
-bodies_both : (xs : List RawStatement) → list_passes is_counted xs ≡ true → list_passes is_short xs ≡ true → list_passes is_fine xs ≡ true
-bodies_both [] h k = refl
-bodies_both (x ∷ xs) h k =
-    let p = and_parts (declarations_pass is_counted x) _ h in
-    let q = and_parts (declarations_pass is_short x) _ k in
-    both_true is_fine (both_pass x p.0 q.0) (bodies_both xs p.1 q.1)
-
-item_both : (x : RawItem) → item_passes is_counted x ≡ true → item_passes is_short x ≡ true → item_passes is_fine x ≡ true
-item_both (item.Include b) h k = refl
-item_both (item.Tag l w) h k = refl
-item_both (item.Struct l w members) h k = refl
-item_both (item.Global l v i b) h k = both_true is_fine h k
-item_both (item.Prototype l hd) h k = refl
-item_both (item.Define l hd body) h k = bodies_both body h k
-
-pub items_both : (xs : List RawItem) → items_pass is_counted xs ≡ true → items_pass is_short xs ≡ true → items_pass is_fine xs ≡ true
-items_both [] h k = refl
-items_both (x ∷ xs) h k =
-    let p = and_parts (item_passes is_counted x) _ h in
-    let q = and_parts (item_passes is_short x) _ k in
-    both_true is_fine (item_both x p.0 q.0) (items_both xs p.1 q.1)
-
--- ---- the layout keeps how many items a list has
-
-abbrev ShortKept : RawStatement → Type 0
-ShortKept x = declarations_pass is_short (settled x) ≡ declarations_pass is_short x
-
-abbrev ArmShortKept : RawArm → Type 0
-ArmShortKept x = arm_passes is_short (settled_arm x) ≡ arm_passes is_short x
-
-lists_kept : (xs : List ((x : RawStatement) × ShortKept x)) → list_passes is_short (map settled (map (λ (x : (y : RawStatement) × ShortKept y). x.0) xs)) ≡ list_passes is_short (map (λ (x : (y : RawStatement) × ShortKept y). x.0) xs)
-lists_kept [] = refl
-lists_kept (x ∷ xs) = ap₂ (λ (a b : Bool). a && b) x.1 (lists_kept xs)
-
-arms_kept : (xs : List ((x : RawArm) × ArmShortKept x)) → all_true (map (arm_passes is_short) (map settled_arm (map (λ (x : (y : RawArm) × ArmShortKept y). x.0) xs))) ≡ all_true (map (arm_passes is_short) (map (λ (x : (y : RawArm) × ArmShortKept y). x.0) xs))
-arms_kept [] = refl
-arms_kept (x ∷ xs) = ap₂ (λ (a b : Bool). a && b) x.1 (arms_kept xs)
-
-layer_kept : (y : StatementParts ShortKept ArmShortKept) → step_passes is_short (kept_layer (statement_layer ShortKept ArmShortKept y)) ≡ step_passes is_short (statement_layer ShortKept ArmShortKept y)
-layer_kept (RawStatement-F.Declare l v i) = refl
-layer_kept (RawStatement-F.Assign l a op b) = refl
-layer_kept (RawStatement-F.Bump l a up before) = refl
-layer_kept (RawStatement-F.Call l to f args) = refl
-layer_kept (RawStatement-F.Heap l to cast n) = refl
-layer_kept (RawStatement-F.If l a b c) = ap₂ (λ (x y : Bool). x && y) (lists_kept b) (lists_kept c)
-layer_kept (RawStatement-F.While l a b) = lists_kept b
-layer_kept (RawStatement-F.Do l a b) = lists_kept b
-layer_kept (RawStatement-F.For l None a None b) = lists_kept b
-layer_kept (RawStatement-F.For l None a (Some x) b) = ap₂ (λ (x y : Bool). x && y) x.1 (lists_kept b)
-layer_kept (RawStatement-F.For l (Some i) a None b) = ap₂ (λ (x y : Bool). x && y) i.1 (lists_kept b)
-layer_kept (RawStatement-F.For l (Some i) a (Some x) b) = ap₂ (λ (x y : Bool). x && y) i.1 (ap₂ (λ (x y : Bool). x && y) x.1 (lists_kept b))
-layer_kept (RawStatement-F.Switch l a arms) = arms_kept arms
-layer_kept (RawStatement-F.Block l b) = lists_kept b
-layer_kept (RawStatement-F.Return l a) = refl
-
-short_kept : (x : RawStatement) → ShortKept x
-short_kept = of_every_statement ShortKept ArmShortKept
-    (λ y. let l = statement_layer ShortKept ArmShortKept y in
-    ap (declarations_pass is_short) (settled_layer l) ∙ passes is_short (kept_layer l) ∙ layer_kept y ∙ sym (passes is_short l))
-    (λ y. let l = arm_layer ShortKept ArmShortKept y in
-    ap (arm_passes is_short) (settled_arm_layer l) ∙ fold-roll-RawArm Bool Bool (declares_step is_short) arm_declares (map-RawArm RawStatement RawArm RawStatement RawArm settled settled_arm l) ∙ lists_kept y.body
-    ∙ sym (fold-roll-RawArm Bool Bool (declares_step is_short) arm_declares l))
-
-bodies_kept : (xs : List RawStatement) → list_passes is_short (map settled xs) ≡ list_passes is_short xs
-bodies_kept [] = refl
-bodies_kept (x ∷ xs) = ap₂ (λ (a b : Bool). a && b) (short_kept x) (bodies_kept xs)
-
-item_kept : (x : RawItem) → item_passes is_short (settled_item x) ≡ item_passes is_short x
-item_kept (item.Include b) = refl
-item_kept (item.Tag l w) = refl
-item_kept (item.Struct l w members) = refl
-item_kept (item.Global l v i b) = refl
-item_kept (item.Prototype l hd) = refl
-item_kept (item.Define l hd body) = bodies_kept body
-
-pub items_kept : (xs : List RawItem) → items_pass is_short (map settled_item xs) ≡ items_pass is_short xs
-items_kept [] = refl
-items_kept (x ∷ xs) = ap₂ (λ (a b : Bool). a && b) (item_kept x) (items_kept xs)

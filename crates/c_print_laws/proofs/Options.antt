@@ -1,13 +1,39 @@
 -- Where a value that is computed from options is there, the options are.
-use Rattle.std.proofs.Common.{◌≡◌, ℕ, zero, suc, List, [], ◌∷◌, Option, Some, None, refl, sym, ap, ap₂, subst, ◌∙◌, map, slice_get}
-use Rattle.std.specs.Prelude.{option_map, option_and_then}
+use Rattle.std.proofs.Common.{arith, Bool, true, false, ◌&&◌, ◌≡◌, ℕ, zero, suc, List, [], ◌∷◌, Option, Some, None, refl, sym, ap, subst, ◌∙◌, map, slice_get}
+use Rattle.std.specs.Prelude.{Contains, option_map, option_and_then}
 use Rattle.std.specs.Option.{unwrap_or}
 use Rattle.c_language.specs.ConstantEvaluation.{both}
 use Rattle.c_language.specs.ProgramOf.{collected}
 
+abbrev is_false : Bool → Type 0
+is_false false = Unit {0}
+is_false true = ⊥
+
+pub false_true : {A : Type 0} → ◌≡◌ {A = Bool} false true → A
+false_true h = absurd (subst is_false h tt)
+
+pub and_parts : (a b : Bool) → (a && b) ≡ true → (a ≡ true) × (b ≡ true)
+and_parts true b h = (refl, h)
+and_parts false b h = false_true h
+
+pub contains_first : {A : Type 0} (a : A) (rest : List A) → Contains (a ∷ rest) a
+contains_first a rest = (0, omega arith, refl)
+
+pub contains_later : {A : Type 0} (a b : A) (rest : List A) → Contains rest b → Contains (a ∷ rest) b
+contains_later a b rest (k, within, is) = (suc k, omega (arith, within), is)
+
 abbrev pub IsThere : {A : Type 0} → Option A → Type 0
 IsThere None = ⊥
 IsThere (Some x) = Unit {0}
+
+pub there_map : {A B : Type 0} (f : A → B) (o : Option A) → IsThere o → IsThere (option_map f o)
+there_map f None h = h
+there_map f (Some x) h = tt
+
+-- the value that is there
+pub value_there : {A : Type 0} (o : Option A) → IsThere o → (x : A) × (o ≡ Some x)
+value_there None h = absurd h
+value_there (Some x) h = (x, refl)
 
 pub none_there : {A B : Type 0} {x : A} → ◌≡◌ {A = Option A} None (Some x) → B
 none_there h = absurd (subst IsThere (sym h) tt)
@@ -78,10 +104,3 @@ place_of f [] ys i x h g = none_there g
 place_of f (a ∷ xs) [] i x h g = cons_nil (f a) (map f xs) h
 place_of f (a ∷ xs) (y ∷ ys) zero x h g = record { value = y; there = ap f (sym (some_same g)) ∙ first_same h; same = refl }
 place_of f (a ∷ xs) (y ∷ ys) (suc i) x h g = place_of f xs ys i x (rest_same h) g
-
--- two lists are the same to functions that agree where a third one is there
-pub alike : {A B C : Type 0} (f : A → Option B) (g : A → C) (k : B → C) (xs : List A) (ys : List B) → ((x : A) (y : B) → f x ≡ Some y → k y ≡ g x) → map f xs ≡ map Some ys → map k ys ≡ map g xs
-alike f g k [] [] same h = refl
-alike f g k [] (y ∷ ys) same h = cons_nil (Some y) (map Some ys) (sym h)
-alike f g k (x ∷ xs) [] same h = cons_nil (f x) (map f xs) h
-alike f g k (x ∷ xs) (y ∷ ys) same h = ap₂ (λ (c : _) (cs : List _). c ∷ cs) (same x y (first_same h)) (alike f g k xs ys same (rest_same h))

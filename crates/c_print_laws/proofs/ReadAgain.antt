@@ -1,5 +1,5 @@
 -- What is printed of the program of a text is read again as the same program but for lines.
-use Rattle.std.proofs.Common.{◌≡◌, ℕ, max, List, [], ◌∷◌, map, true, Some, refl, sym, ap, subst, ◌∙◌}
+use Rattle.std.proofs.Common.{◌≡◌, ◌≤◌, true, arith, ℕ, max, List, [], ◌∷◌, ◌++◌, append-nil, reverse, map, Some, refl, sym, ap, subst, ◌∙◌}
 use Rattle.c_tree.specs.declared.program.Program.{Program}
 use Rattle.c_tree.specs.declared.program.Var.{Var}
 use Rattle.c_tree.specs.Unlined.{unlined_var, SameButLines}
@@ -8,26 +8,35 @@ use Rattle.c_tree.specs.declared.raw.program.RawProgram.{RawProgram}
 use Rattle.c_language.specs.Words.{Bytes}
 use Rattle.c_language.specs.TokenForms.{Tokens}
 use Rattle.c_language.specs.Tokens.{AreTokensOf}
+use Rattle.c_language.specs.LeftOut.{IsTold, BeginsLeftOut, IsLeftOut}
+use Rattle.c_language.specs.declared.token.Token.{Token}
 use Rattle.c_language.specs.ItemGrammar.{IsProgram}
 use Rattle.c_language.specs.Rules.{KeepsRules}
 use Rattle.c_language.specs.ProgramOf.{program_of}
 use Rattle.c_language.specs.Layout.{layout}
 use Rattle.c_language.specs.Limits.{longest, longest_in_structs, longest_in_variables, array_length, cells, struct_cells, greatest, greatest_variable, object_cells}
-use Rattle.c_print.specs.Written.{AreWritten}
+use Rattle.c_language.specs.Programs.{IsWithinLimits, IsWellFormed}
 use Rattle.c_print.specs.RawLayout.{raw_layout}
+use Rattle.c_print.specs.Settled.{SameInLayout, items_lack_lengths}
 use Rattle.c_print.proofs.ItemPrint.{printed_is_read}
+use Rattle.c_print.proofs.TextPrint.{text_formed, formed_written}
 use Rattle.c_print_laws.specs.ReadAgain.{IsReadAgain}
 use Rattle.c_print_laws.proofs.ItemLayout.{layout_of_tree}
 use Rattle.c_print_laws.proofs.HeadForms.{heads_formed}
 use Rattle.c_print_laws.proofs.Settling.{settled_program}
-use Rattle.c_print_laws.proofs.RulesKept.{items_pass, settled_keeps, kept_by_settled}
+use Rattle.c_print_laws.proofs.RulesKept.{settled_keeps, kept_by_settled}
 use Rattle.c_print_laws.proofs.SameProgram.{settled_has, has_settled}
 use Rattle.c_print_laws.proofs.LineLess.{layouts_same}
-use Rattle.c_print_laws.proofs.ListForms.{is_short, is_fine, fine, lists_counted, items_both, items_kept}
+use Rattle.c_print_laws.proofs.NestingKept.{nesting_kept}
+use Rattle.c_print_laws.proofs.CalmTokens.{AreUntold, told_all, untold_at}
+use Rattle.c_print_laws.proofs.ToldItems.{tree_fits}
+use Rattle.c_print_laws.proofs.UntoldItems.{fitting_untold}
+use Rattle.c_print_laws.proofs.FittingKept.{fitting_kept}
+use Rattle.c_print_laws.proofs.ListForms.{is_counted, fine, lists_counted}
 
 -- The layout of a program of the text's tree is that of the tree.
-pub layout_of_text : {ts : Tokens} (raw : RawProgram) (p : Program) → IsProgram ts raw → KeepsRules raw → program_of raw ≡ Some p → layout p ≡ raw_layout raw
-layout_of_text raw p g keeps is = layout_of_tree raw p is keeps (heads_formed raw g)
+pub layout_of_text : {ts : Tokens} (raw : RawProgram) (p : Program) → IsProgram ts raw → KeepsRules raw → array_length p ≤ 65536 → program_of raw ≡ Some p → layout p ≡ raw_layout raw
+layout_of_text raw p g keeps long is = layout_of_tree raw p is keeps long (heads_formed raw g)
 
 -- ---- quantities that have no lines
 
@@ -54,32 +63,64 @@ cells_same p q same =
 
 -- A tree that is the same in all that the layout keeps keeps the rules too, and has the same program but for lines.
 pub same_in_layout : {ts next : Tokens} (raw found : RawProgram) (p : Program) → IsProgram ts raw → IsProgram next found → settled_program found ≡ settled_program raw
-    → items_pass is_short raw.items ≡ true → KeepsRules raw → program_of raw ≡ Some p
-    → KeepsRules found × ((q : Program) × (program_of found ≡ Some q) × SameButLines p q)
-same_in_layout raw found p g next same short keeps is =
-    let first = items_both raw.items (lists_counted raw g) short in
-    let few = sym (items_kept found.items) ∙ ap (λ (z : RawProgram). items_pass is_short z.items) same ∙ items_kept raw.items ∙ short in
-    let second = items_both found.items (lists_counted found next) few in
-    let middle = settled_has raw is_fine fine first p is in
-    let last = has_settled found is_fine fine second middle.0 (ap program_of same ∙ middle.1) in
-    (kept_by_settled found is_fine fine second (subst KeepsRules (sym same) (settled_keeps raw is_fine fine first keeps)), (last.0, last.1, middle.2 ∙ last.2))
+    → KeepsRules raw → program_of raw ≡ Some p → KeepsRules found × ((q : Program) × (program_of found ≡ Some q) × SameButLines p q)
+same_in_layout raw found p g next same keeps is =
+    let first = lists_counted raw g in
+    let second = lists_counted found next in
+    let middle = settled_has raw is_counted fine first p is in
+    let last = has_settled found is_counted fine second middle.0 (ap program_of same ∙ middle.1) in
+    (kept_by_settled found is_counted fine second (subst KeepsRules (sym same) (settled_keeps raw is_counted fine first keeps)), (last.0, last.1, middle.2 ∙ last.2))
 
-layout_of_same : {ts : Tokens} (raw : RawProgram) (p q : Program) → IsProgram ts raw → KeepsRules raw → program_of raw ≡ Some q → SameButLines p q → layout p ≡ raw_layout raw
-layout_of_same raw p q g keeps is same = layouts_same p q same ∙ layout_of_text raw q g keeps is
+-- A tree that is the same in all that the layout keeps, and has no lengths of parameters, keeps the limits too.
+limits_kept : (raw found : RawProgram) (p q : Program) → SameInLayout found raw → items_lack_lengths found.items ≡ true → SameButLines p q → IsWithinLimits raw p → IsWithinLimits found q
+limits_kept raw found p q same bare but_lines h =
+    let n = nesting_kept raw found same bare in
+    let l = lengths_same p q but_lines in
+    let c = cells_same p q but_lines in
+    record { nesting = omega (arith, n, h.nesting); lengths = omega (arith, l, h.lengths); cells = omega (arith, c, h.cells) }
 
--- What is printed of a program that is that of a text but for lines is read again, where the tokens of the text can be written and no list of initialisers is too long.
-pub layout_is_read_again : {ts : Tokens} (raw : RawProgram) (p q : Program) → IsProgram ts raw → AreWritten ts → items_pass is_short raw.items ≡ true → KeepsRules raw → program_of raw ≡ Some q → SameButLines p q
-    → IsReadAgain (layout p) p
-layout_is_read_again raw p q g written short keeps is same =
-    let r = printed_is_read raw g written in
-    let h = same_in_layout raw r.found q g r.is (ap (λ (xs : List RawItem). record { items = xs }) r.same) short keeps is in
+-- ---- left-out constructs
+
+-- Where no left-out construct begins among the tokens, none is told at one of them.
+untold_tokens : (ts : Tokens) → ((text : Bytes) (line : ℕ) → IsLeftOut ts text line → ⊥) → AreUntold [] ts
+untold_tokens ts whole = told_all [] ts (λ front t behind is told.
+    whole t.text t.line (record {
+      front = front;
+      token = t;
+      behind = behind;
+      split = is;
+      text_is = refl;
+      line_is = refl;
+      begins = BeginsLeftOut.told (subst (λ (x : Tokens). IsTold x t behind) (append-nil (reverse front)) told);
+    }))
+
+none_begins : {ts front behind : Tokens} {t : Token} (all : RawProgram) → IsProgram ts all → AreUntold [] (front ++ t ∷ behind) → BeginsLeftOut ts front t behind → ⊥
+none_begins {front = front} {behind} {t} all is h (BeginsLeftOut.told told) = untold_at front [] t behind h (subst (λ (x : Tokens). IsTold x t behind) (sym (append-nil (reverse front))) told)
+none_begins all is h (BeginsLeftOut.without_tree none k) = none all is
+
+-- Where none is told at tokens in the grammar, no left-out construct begins among them.
+none_left_out : {ts : Tokens} (all : RawProgram) → IsProgram ts all → AreUntold [] ts → (text : Bytes) (line : ℕ) → IsLeftOut ts text line → ⊥
+none_left_out all is h text line x = none_begins all is (subst (AreUntold []) x.split h) x.begins
+
+-- The layout of a well-formed program is read again.
+pub layout_is_read_again : (p : Program) → IsWellFormed p → IsReadAgain (layout p) p
+layout_is_read_again p h =
+    let raw = h.raw in
+    let ts = h.tree.tokens in
+    let g = h.tree.is.grammar in
+    let r = printed_is_read raw g (formed_written ts h.tree.is.formed) in
+    let k = same_in_layout raw r.found h.same g r.is (ap (λ (xs : List RawItem). record { items = xs }) r.same) h.has.rules h.has.program in
+    let laid : layout p ≡ raw_layout raw = layouts_same p h.same h.but_lines ∙ layout_of_text raw h.same g h.has.rules h.within.lengths h.has.program in
+    let untold = fitting_untold r.is r.lean (fitting_kept raw r.found r.same (tree_fits g (untold_tokens ts h.tree.is.whole))) in
     record {
-      tokens = r.tokens;
       found = r.found;
-      again = h.1.0;
-      are = subst (λ (text : Bytes). AreTokensOf text r.tokens) (sym (layout_of_same raw p q g keeps is same)) r.lexed;
-      tree = r.is;
-      rules = h.0;
-      program = h.1.1;
-      same = same ∙ h.1.2;
+      again = k.1.0;
+      accepted = record {
+        tokens = r.tokens;
+        are = subst (λ (text : Bytes). AreTokensOf text r.tokens) (sym laid) r.lexed;
+        tree = record { formed = text_formed r.lexed; grammar = r.is; whole = none_left_out r.found r.is untold };
+        has = record { rules = k.0; program = k.1.1 };
+      };
+      within = limits_kept raw r.found h.same k.1.0 r.same r.bare k.1.2 h.within;
+      same = h.but_lines ∙ k.1.2;
     }

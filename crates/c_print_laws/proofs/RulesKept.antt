@@ -22,7 +22,7 @@ use Rattle.c_language.specs.Rules.{Breaks, IsBroken, KeepsRules}
 use Rattle.c_language.specs.NameRules.{main_name}
 use Rattle.c_language.specs.CallRules.{EndsWithValue}
 use Rattle.c_print.specs.Settled.{settled_var, settled, settled_member, settled_param, settled_head, settled_item}
-pub use Rattle.c_print_laws.specs.Declarations.{item_passes, items_pass}
+pub use Rattle.c_print_laws.proofs.Declarations.{item_passes, items_pass}
 use Rattle.c_print_laws.proofs.Definitions.{and_parts, false_true}
 use Rattle.c_print_laws.proofs.Alike.{Pairwise, pair_of, pairwise_append, pairwise_back}
 use Rattle.c_print_laws.proofs.Resembling.{MembersAgree, ParamsAgree, HeadsAgree, heads_back, members_back, Resembles, resembles_back, definitions_agree}

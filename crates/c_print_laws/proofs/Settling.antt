@@ -1,6 +1,7 @@
 -- What the layout keeps of a text resembles it, and its variables have the same types.
-use Rattle.std.proofs.Common.{◌≡◌, ℕ, zero, suc, pred, ◌<◌, ◌^◌, ◌&&◌, ◌||◌, List, [], ◌∷◌, ◌++◌, map, Bool, true, false, not, Option, Some, pos, decimal, refl, sym, ap, ap₂, subst, ◌∙◌, arith, ◌⊎◌, inl, inr}
-use Rattle.std.specs.Prelude.{Contains, option_map, option_and_then}
+use Rattle.std.proofs.Common.{◌≡◌, ℕ, zero, suc, pred, ◌<◌, ◌&&◌, ◌||◌, List, [], ◌∷◌, ◌++◌, map, Bool, true, false, not, Option, Some, pos, decimal, refl, sym, ap, ap₂, subst, ◌∙◌, arith, ◌⊎◌, inl, inr}
+use Rattle.std.specs.Prelude.{Contains, nat_lt, option_map, option_and_then, if◌then◌else◌}
+use Rattle.std.proofs.lemmas.Bool.Decides.{nat_tests}
 use Rattle.std.specs.List.{list_any}
 use Rattle.c_tree.specs.declared.types.CType.{CType}
 use Rattle.c_tree.specs.declared.types.CType.TheVariants as t
@@ -21,7 +22,7 @@ use Rattle.c_tree.specs.declared.raw.program.RawHead.{RawHead}
 use Rattle.c_tree.specs.declared.raw.program.RawProgram.{RawProgram}
 use Rattle.c_language.specs.Words.{Bytes}
 use Rattle.c_language.specs.TypeGrammar.{is_empty_length}
-use Rattle.c_language.specs.ProgramOf.{length_words, ctype_step, ctype_with}
+use Rattle.c_language.specs.ProgramOf.{raw_words_step, raw_words, length_words, ctype_step, ctype_with}
 use Rattle.c_language.specs.ConstantEvaluation.{both, constant, constant_step, value_of_constant, literal_value}
 use Rattle.c_language.specs.declared.constant.Constant.{Constant}
 use Rattle.c_language.specs.DeclaredTypes.{structs_of, functions_of, positive, length_in, with_layer, type_step, type_with, item_count, is_include}
@@ -30,7 +31,7 @@ use Rattle.c_language.specs.declared.expr_type.Layer.TheVariants.{Array}
 use Rattle.c_language.specs.declared.expr_type.ExprType.{ExprType}
 use Rattle.c_print.specs.Settled.{settled_length, settled_type_step, settled_type, settled_var, settled_member, settled_param, settled_head, settled_item}
 use Rattle.c_print.proofs.DecimalPrint.{decimal_literal}
-use Rattle.c_print.proofs.RawWordLemmas.{raw_words-Constant}
+use Rattle.c_print.proofs.TokenPrint.{by_answer}
 use Rattle.c_print_laws.proofs.Trees.{TypeParts, type_layer, of_every_type}
 use Rattle.c_print_laws.proofs.Definitions.{and_parts, false_true}
 use Rattle.c_print_laws.proofs.Alike.{Pairwise, pairwise_of}
@@ -103,23 +104,26 @@ written_step (RawType-F.Struct tag) = true
 abbrev pub is_written : RawType → Bool
 is_written = fold-RawType Bool written_step
 
--- a list of so many items can give a length
+-- a list with items can give a length
 abbrev pub CanCount : ℕ → Type 0
-CanCount items = (0 < items) × (items < 2 ^ 32)
+CanCount items = 0 < items
+
+words_of_constant : (text : Bytes) → raw_words (e.Constant text) ≡ text
+words_of_constant text = ap raw_words (sym (e.rolls-Constant text)) ∙ fold-roll-RawExpr Bytes raw_words_step (RawExpr-F.Constant text)
 
 constant_value_of : (text : Bytes) → value_of_constant (e.Constant text) ≡ Some (pos (literal_value text))
 constant_value_of text =
     ap (option_and_then (λ (x : Constant). x.value)) (ap constant (sym (e.rolls-Constant text)) ∙ fold-roll-RawExpr (Option Constant) constant_step (RawExpr-F.Constant text))
 
-counted_value : (items : ℕ) → CanCount items → value_of_constant (e.Constant (decimal items)) ≡ Some (pos items)
-counted_value items h = constant_value_of (decimal items) ∙ ap (λ (n : ℕ). Some (pos n)) (decimal_literal items h.0 h.1)
+counted_value : (items : ℕ) → CanCount items → nat_lt items 4294967296 ≡ true → value_of_constant (e.Constant (decimal items)) ≡ Some (pos items)
+counted_value items h few = constant_value_of (decimal items) ∙ ap (λ (n : ℕ). Some (pos n)) (decimal_literal items h (grind (arith, nat_tests)))
 
 counted_positive : (items : ℕ) → 0 < items → positive (pos items) ≡ Some items
 counted_positive zero h = absurd (omega (arith, h))
 counted_positive (suc n) h = refl
 
-counted_length : (items : ℕ) → CanCount items → option_and_then positive (value_of_constant (e.Constant (decimal items))) ≡ Some items
-counted_length items h = ap (option_and_then positive) (counted_value items h) ∙ counted_positive items h.0
+counted_length : (items : ℕ) → CanCount items → nat_lt items 4294967296 ≡ true → option_and_then positive (value_of_constant (e.Constant (decimal items))) ≡ Some items
+counted_length items h few = ap (option_and_then positive) (counted_value items h few) ∙ counted_positive items h
 
 module _ (items : ℕ) where
   -- the lengths of the type are all written, or the list can give one
@@ -129,7 +133,7 @@ module _ (items : ℕ) where
   settled_length_same : (n : RawLength) → IsCounted (not (is_empty_length n)) → length_in items (settled_length items n) ≡ length_in items n
   settled_length_same (Written a) h = refl
   settled_length_same Listed (inl h) = false_true h
-  settled_length_same Listed (inr h) = counted_length items h
+  settled_length_same Listed (inr h) = by_answer (nat_lt items 4294967296) (λ few. rw few (counted_length items h few)) (λ many. rw many refl)
 
   both_counted : (a b : Bool) → IsCounted (a && b) → IsCounted a × IsCounted b
   both_counted a b (inl h) = let p = and_parts a b h in (inl p.0, inl p.1)
@@ -166,7 +170,7 @@ module _ (items : ℕ) where
 
     words_same : (n : RawLength) → length_words items (settled_length items n) ≡ length_words items n
     words_same (Written a) = refl
-    words_same Listed = raw_words-Constant (decimal items)
+    words_same Listed = by_answer (nat_lt items 4294967296) (λ few. rw few (words_of_constant (decimal items))) (λ many. rw many refl)
 
     abbrev IsSameTree : RawType → Type 0
     IsSameTree a = IsCounted (is_written a) → ctype_with raw items (settled_type items a) ≡ ctype_with raw items a
@@ -238,17 +242,24 @@ module _ (items : ℕ) where
     | inr d ↦ elim (k a d) [ inl x ↦ inl (contains_right ys ws a x) | inr x ↦ inr x ]
   ]
 
-  list_length : CanCount items → IsListLength (e.Constant (decimal items))
-  list_length h = record { text = decimal items; is = refl; less = pred items; value = counted_value items h ∙ ap (λ (n : ℕ). Some (pos n)) (omega (arith, h.0)) }
+  list_length : CanCount items → nat_lt items 4294967296 ≡ true → IsListLength (e.Constant (decimal items))
+  list_length h few = record { text = decimal items; is = refl; less = pred items; value = counted_value items h few ∙ ap (λ (n : ℕ). Some (pos n)) (omega (arith, h)) }
 
   length_lists : (n : RawLength) → IsCounted (not (is_empty_length n)) → SameLengths (written_lengths n) (written_lengths (settled_length items n))
   length_lists (Written a) h = record { left = λ b c. inl c; right = λ b c. inl c }
   length_lists Listed (inl h) = false_true h
-  length_lists Listed (inr h) = record { left = λ b c. absurd (omega (arith, c.1)); right = λ b c. inr (subst IsListLength (one_member (e.Constant (decimal items)) b c) (list_length h)) }
+  length_lists Listed (inr h) = record { left = λ b c. absurd (omega (arith, c.1)); right = λ b c. inr (by_length b c) }
     where
       one_member : (x y : RawExpr) → Contains (x ∷ []) y → x ≡ y
       one_member x y (zero, within, is) = is
       one_member x y (suc k, within, is) = absurd (omega (arith, within))
+
+      by_test : (t : Bool) → nat_lt items 4294967296 ≡ t → (b : RawExpr) → Contains (written_lengths (if t then Written (e.Constant (decimal items)) else Listed)) b → IsListLength b
+      by_test true few b c = subst IsListLength (one_member (e.Constant (decimal items)) b c) (list_length h few)
+      by_test false many b c = absurd (omega (arith, c.1))
+
+      by_length : (b : RawExpr) → Contains (written_lengths (settled_length items Listed)) b → IsListLength b
+      by_length = by_test (nat_lt items 4294967296) refl
 
   abbrev HasLengths : RawType → Type 0
   HasLengths a = IsCounted (is_written a) → SameLengths (lengths_in a) (lengths_in (settled_type items a))

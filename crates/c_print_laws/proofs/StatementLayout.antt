@@ -1,6 +1,6 @@
 -- The layout of a statement of a program is that of the text's statement.
-use Rattle.std.proofs.Common.{◌≡◌, ℕ, suc, List, [], ◌∷◌, ◌++◌, Option, Some, None, codes, refl, sym, ap, ap₂, subst, ◌∙◌, map}
-use Rattle.std.specs.Prelude.{option_map, option_and_then, ℤ}
+use Rattle.std.proofs.Common.{◌≡◌, ℕ, zero, suc, ◌≤◌, arith, List, [], ◌∷◌, ◌++◌, Option, Some, None, codes, refl, sym, ap, ap₂, subst, ◌∙◌, map}
+use Rattle.std.specs.Prelude.{Contains, option_map, option_and_then, ℤ}
 use Rattle.c_arith.specs.declared.int_type.IntType.{IntType}
 use Rattle.c_arith.specs.IntType.{convert}
 use Rattle.c_tree.specs.declared.expr.Expr.{Expr}
@@ -26,18 +26,24 @@ use Rattle.c_tree.specs.declared.raw.statement.RawStatement.TheOpen.{RawStatemen
 use Rattle.c_tree.specs.declared.raw.statement.RawArm.{RawArm, roll-RawArm, map-RawArm, fold-roll-RawArm}
 use Rattle.c_language.specs.Words.{Bytes, assign_sign}
 use Rattle.c_language.specs.Layout.{line, bump_words, return_words, Laid, plain, block_lines, else_lines, init_part, step_part, label_words, label_lines, arms_lines, braced, target_words, statement_step, arm_step, laid}
-use Rattle.c_language.specs.ConstantEvaluation.{both, value_of_constant}
+use Rattle.c_language.specs.ConstantEvaluation.{both, constant, value_of_constant}
+use Rattle.c_language.specs.declared.constant.Constant.{Constant}
+use Rattle.c_language.specs.Limits.{array_length}
+use Rattle.c_language.specs.Rules.{Breaks}
+use Rattle.c_language.specs.Uses.{init_exprs, target_exprs, arg_exprs, counts, if_given, expressions}
 use Rattle.c_language.specs.Scopes.{Scope, Scoped, with_variable, with_target, opened, numbered, begun, in_order, after_all, after_block, part_gives, after_part, scope_of_test, scope_of_body}
-use Rattle.c_language.specs.Phrases.{Stand, InBlock, InArm, InFor, Phrases, phrase, Tests, Switches, Calls, target_phrases, joined_at, block_phrases, at_stand, ArmText, phrases_of_arms, labels_of, scoped_step, scoped_arm, scoped, scoped_of_arm}
-use Rattle.c_language.specs.ProgramOf.{raw_words, expr_of, init_of, declaration_id, target_tree, label_tree, arm_tree, ArmTree, arm_tree_step, block_tree, at_type, switch_type, part_tree, for_tree, treed_step, treed, collected, optional}
+use Rattle.c_language.specs.Phrases.{Stand, InBlock, InArm, InFor, Part, Begins, Assigns, Bumps, Calls, Allocates, Tests, Switches, Returns, Phrases, phrase, declaration, target_phrases, joined_at, block_phrases, at_stand, ArmText, phrases_of_arms, labels_of, scoped_step, scoped_arm, scoped, scoped_of_arm}
+use Rattle.c_language.specs.ProgramOf.{expr_of, init_of, declaration_id, target_tree, label_tree, arm_tree, ArmTree, arm_tree_step, block_tree, at_type, switch_type, part_tree, for_tree, treed_step, treed, collected, optional}
 use Rattle.c_language.proofs.LayoutLemmas.{arm_laid, laid-Declare, laid-Assign, laid-Bump, laid-Return, laid-If, laid-While, laid-Do, laid-For, laid-Switch, laid-Block}
 use Rattle.c_print.specs.RawLayout.{raw_target_words, raw_return_words, raw_label_words, raw_label_lines, raw_statement_step, raw_arm_step, raw_laid, raw_arm_laid}
-use Rattle.c_print_laws.proofs.Options.{none_there, some_same, map_there, then_there, both_there, collected_are, cons_nil, first_same, rest_same}
+use Rattle.c_print.specs.SpacedWords.{spaced_words}
+use Rattle.c_print_laws.proofs.Options.{IsThere, none_there, some_same, map_there, then_there, both_there, collected_are, cons_nil, first_same, rest_same}
 use Rattle.c_print_laws.proofs.Trees.{StatementParts, statement_layer, ArmParts, arm_layer, of_every_statement}
+use Rattle.c_print_laws.proofs.Operands.{KeepsAll, keeps_all}
 use Rattle.c_print_laws.proofs.Named.{IsNamed, Fits}
-use Rattle.c_print_laws.proofs.ExprLayout.{expr_layout}
+use Rattle.c_print_laws.proofs.ExprLayout.{expr_layout, constant_layout}
 use Rattle.c_print_laws.proofs.Scoping.{treed_arm, target_count, statement_scoped, arm_scoped, after_block_same, after_block_count, mapped, after_part_same, after_part_count}
-use Rattle.c_print_laws.proofs.Told.{AreTold, told_first, told_rest, told_later, is_declared}
+use Rattle.c_print_laws.proofs.Told.{AreTold, told_first, told_rest, told_later, few_items, is_declared}
 use Rattle.c_print_laws.proofs.CallLayout.{optional_there, init_layout, heap_layout, call_layout}
 
 -- ---- forms of statements, over the words of a test
@@ -81,7 +87,25 @@ arm_form labels body n = labels n ++ (block_lines body (suc n) ++ line (suc n) (
 abbrev labels_form : Bytes → (ℕ → Bytes) → ℕ → Bytes
 labels_form w labels n = line n w ++ labels n
 
-module _ (raw : RawProgram) (p : Program) (named : IsNamed raw p) where
+contained_left : {A : Type 0} (xs ys : List A) (a : A) → Contains xs a → Contains (xs ++ ys) a
+contained_left [] ys a c = absurd (omega (arith, c.1))
+contained_left (x ∷ xs) ys a (zero, within, is) = (0, omega arith, is)
+contained_left (x ∷ xs) ys a (suc k, within, is) = let c = contained_left xs ys a (k, omega (arith, within), is) in (suc c.0, omega (arith, c.1), c.2)
+
+contained_right : {A : Type 0} (xs ys : List A) (a : A) → Contains ys a → Contains (xs ++ ys) a
+contained_right [] ys a c = c
+contained_right (x ∷ xs) ys a c = let d = contained_right xs ys a c in (suc d.0, omega (arith, d.1), d.2)
+
+module _ (raw : RawProgram) (p : Program) (named : IsNamed raw p) (long : array_length p ≤ 65536) where
+  -- the one expression of a phrase that breaks no rule
+  only_kept : (scope : Scope) (part : Part) (a : RawExpr) → ((n : ℕ) → Breaks raw scope part n → ⊥) → Contains (expressions part) a → KeepsAll raw scope a
+  only_kept scope part a kept c = keeps_all raw scope part kept a c
+
+  pub begins_kept : (l : ℕ) (scope : Scope) (stand : Stand) (v : RawVar) (i : RawInit) → AreTold raw p scope.variables (declaration raw l scope stand v i) → (a : RawExpr) → Contains (init_exprs i) a → KeepsAll raw (with_variable raw v i scope) a
+  begins_kept l scope stand v init.None told a c = absurd (omega (arith, c.1))
+  begins_kept l scope stand v (init.One e) told a c = keeps_all raw (with_variable raw v (init.One e) scope) (Begins stand v (init.One e)) told.kept.1.0 a c
+  begins_kept l scope stand v (init.Items es) told a c = keeps_all raw (with_variable raw v (init.Items es) scope) (Begins stand v (init.Items es)) told.kept.1.0 a c
+
   begun_fits : (i : RawInit) (scope : Scope) → Fits p scope → Fits p (begun i scope)
   begun_fits init.None scope fits = fits
   begun_fits (init.One a) scope fits = fits
@@ -192,7 +216,8 @@ module _ (raw : RawProgram) (p : Program) (named : IsNamed raw p) where
   label_lays scope fits t (label.Case a) x h =
       let g = then_there (λ (y : Expr). option_map (λ (z : ℤ). arm_label.Case y (convert z t)) (value_of_constant a)) (expr_of raw scope a) x h in
       let k = map_there (λ (z : ℤ). arm_label.Case g.value (convert z t)) (value_of_constant a) x g.same in
-      ap (label_words p) (sym k.same) ∙ ap (λ (w : Bytes). codes "case " ++ (w ++ codes ":")) (expr_layout raw p named scope fits a g.value g.there)
+      let c = then_there (λ (x : Constant). x.value) (constant a) k.value k.there in
+      ap (label_words p) (sym k.same) ∙ ap (λ (w : Bytes). codes "case " ++ (w ++ codes ":")) (constant_layout raw p named scope fits a (subst IsThere (sym c.there) tt) g.value g.there)
   label_lays scope fits t label.Default x h = ap (label_words p) (sym (some_same h))
 
   labels_lay : (scope : Scope) → Fits p scope → (t : IntType) (as_ : List RawLabel) (xs : List Label) → map (label_tree raw scope t) as_ ≡ map Some xs → label_lines p xs ≡ raw_label_lines as_
@@ -208,16 +233,16 @@ module _ (raw : RawProgram) (p : Program) (named : IsNamed raw p) where
     pub fits : Fits p (with_target raw to scope)
     pub lays : (x : Target) → target_tree raw scope to ≡ Some x → target_words p x ≡ raw_target_words to
 
-  target_laid : (l : ℕ) (scope : Scope) (stand : Stand) (to : RawTarget) → Fits p scope → AreTold raw p scope.variables (target_phrases raw l scope stand to) → IsTargetLaid scope to
-  target_laid l scope stand target.None fits told = record { fits = fits; lays = λ x h. ap (target_words p) (sym (some_same h)) }
-  target_laid l scope stand (target.Place a) fits told = record {
+  target_laid : (l : ℕ) (scope : Scope) (stand : Stand) (to : RawTarget) → ((a : RawExpr) → Contains (target_exprs to) a → KeepsAll raw (with_target raw to scope) a) → Fits p scope → AreTold raw p scope.variables (target_phrases raw l scope stand to) → IsTargetLaid scope to
+  target_laid l scope stand target.None keeps fits told = record { fits = fits; lays = λ x h. ap (target_words p) (sym (some_same h)) }
+  target_laid l scope stand (target.Place a) keeps fits told = record {
     fits = fits;
     lays = λ x h.
         let g = map_there to_place.Place (expr_of raw scope a) x h in
-        ap (target_words p) (sym g.same) ∙ ap (λ (w : Bytes). w ++ codes " = ") (expr_layout raw p named scope fits a g.value g.there);
+        ap (target_words p) (sym g.same) ∙ ap (λ (w : Bytes). w ++ codes " = ") (expr_layout raw p named scope fits a (keeps a (0, omega arith, refl)) g.value g.there);
   }
-  target_laid l scope stand (target.Declared v) fits told =
-      let d = is_declared raw p named l scope.owner stand scope v init.None told.stand.0 in
+  target_laid l scope stand (target.Declared v) keeps fits told =
+      let d = is_declared raw p named l scope.owner stand scope v init.None refl told.stand.0 in
       record { fits = d.fits fits; lays = λ x h. ap (target_words p) (sym (some_same h)) ∙ ap (λ (w : Bytes). w ++ codes " = ") d.words }
 
   -- ---- each form of statement
@@ -239,13 +264,13 @@ module _ (raw : RawProgram) (p : Program) (named : IsNamed raw p) where
 
   declare_lays : (l : ℕ) (v : RawVar) (i : RawInit) → LayerLays (RawStatement-F.Declare l v i)
   declare_lays l v i scope stand fits told =
-      let d = is_declared raw p named l scope.owner stand scope v i told.stand.0 in
+      let d = is_declared raw p named l scope.owner stand scope v i (few_items raw p long l scope stand v i told) told.stand.0 in
       record {
         fits = begun_fits i (with_variable raw v i scope) (d.fits fits);
         lays = λ t h.
             let g = map_there (s.Declare (declaration_id i scope.statements) l scope.variables) (init_of raw (with_variable raw v i scope) i) t h in
             ap (laid p) (sym g.same) ∙ laid-Declare p (declaration_id i scope.statements) l scope.variables g.value
-            ∙ ap₂ (λ (x y : Bytes). plain (x ++ y)) d.words (init_layout raw p named (with_variable raw v i scope) (d.fits fits) i g.value g.there);
+            ∙ ap₂ (λ (x y : Bytes). plain (x ++ y)) d.words (init_layout raw p named (with_variable raw v i scope) (d.fits fits) i (begins_kept l scope stand v i told) g.value g.there);
       }
 
   assign_lays : (l : ℕ) (a : RawExpr) (op : _) (b : RawExpr) → LayerLays (RawStatement-F.Assign l a op b)
@@ -254,7 +279,8 @@ module _ (raw : RawProgram) (p : Program) (named : IsNamed raw p) where
     lays = λ t h.
         let g = both_there (λ (x y : Expr). s.Assign scope.statements l x op y) (expr_of raw scope a) (expr_of raw scope b) t h in
         ap (laid p) (sym g.same) ∙ laid-Assign p scope.statements l g.left op g.right
-        ∙ ap₂ (λ (x y : Bytes). plain (x ++ (codes " " ++ (assign_sign op ++ (codes " " ++ y))))) (expr_layout raw p named scope fits a g.left g.left_there) (expr_layout raw p named scope fits b g.right g.right_there);
+        ∙ ap₂ (λ (x y : Bytes). plain (x ++ (codes " " ++ (assign_sign op ++ (codes " " ++ y))))) (expr_layout raw p named scope fits a (only_kept scope (Assigns a op b) a told.kept.0 (0, omega arith, refl)) g.left g.left_there)
+        (expr_layout raw p named scope fits b (only_kept scope (Assigns a op b) b told.kept.0 (1, omega arith, refl)) g.right g.right_there);
   }
 
   bump_lays : (l : ℕ) (a : RawExpr) (up before : _) → LayerLays (RawStatement-F.Bump l a up before)
@@ -262,7 +288,7 @@ module _ (raw : RawProgram) (p : Program) (named : IsNamed raw p) where
     fits = fits;
     lays = λ t h.
         let g = map_there (λ (x : Expr). s.Bump scope.statements l x up before) (expr_of raw scope a) t h in
-        ap (laid p) (sym g.same) ∙ laid-Bump p scope.statements l g.value up before ∙ ap (λ (w : Bytes). plain (bump_words w up before)) (expr_layout raw p named scope fits a g.value g.there);
+        ap (laid p) (sym g.same) ∙ laid-Bump p scope.statements l g.value up before ∙ ap (λ (w : Bytes). plain (bump_words w up before)) (expr_layout raw p named scope fits a (only_kept scope (Bumps a) a told.kept.0 (0, omega arith, refl)) g.value g.there);
   }
 
   return_lays : (l : ℕ) (a : Option RawExpr) → LayerLays (RawStatement-F.Return l a)
@@ -270,27 +296,31 @@ module _ (raw : RawProgram) (p : Program) (named : IsNamed raw p) where
     fits = fits;
     lays = λ t h.
         let g = map_there (s.Return scope.statements l) (optional (option_map (expr_of raw scope) a)) t h in
-        ap (laid p) (sym g.same) ∙ laid-Return p scope.statements l g.value ∙ ap plain (words a g.value g.there);
+        ap (laid p) (sym g.same) ∙ laid-Return p scope.statements l g.value ∙ ap plain (words a (λ b c. only_kept scope (Returns a) b told.kept.0 c) g.value g.there);
   }
     where
-      words : (a : Option RawExpr) (x : Option Expr) → optional (option_map (expr_of raw scope) a) ≡ Some x → return_words p x ≡ raw_return_words a
-      words None x h = ap (return_words p) (sym (some_same h))
-      words (Some a) None h = none_there (sym (optional_there (Some (expr_of raw scope a)) None h))
-      words (Some a) (Some x) h = ap (λ (w : Bytes). codes "return " ++ w) (expr_layout raw p named scope fits a x (some_same (optional_there (Some (expr_of raw scope a)) (Some x) h)))
+      words : (a : Option RawExpr) → ((b : RawExpr) → Contains (if_given a) b → KeepsAll raw scope b) → (x : Option Expr) → optional (option_map (expr_of raw scope) a) ≡ Some x → return_words p x ≡ raw_return_words a
+      words None keeps x h = ap (return_words p) (sym (some_same h))
+      words (Some a) keeps None h = none_there (sym (optional_there (Some (expr_of raw scope a)) None h))
+      words (Some a) keeps (Some x) h = ap (λ (w : Bytes). codes "return " ++ w) (expr_layout raw p named scope fits a (keeps a (0, omega arith, refl)) x (some_same (optional_there (Some (expr_of raw scope a)) (Some x) h)))
 
   call_lays : (l : ℕ) (to : RawTarget) (f : Bytes) (args : _) → LayerLays (RawStatement-F.Call l to f args)
   call_lays l to f args scope stand fits told =
       let at = with_target raw to scope in
       let last = phrase l at (Calls stand to f args) ∷ [] in
-      let k = target_laid l scope stand to fits (told_first raw p scope.variables (target_phrases raw l scope stand to) last told) in
       let e = told_rest raw p scope.variables at.variables (target_phrases raw l scope stand to) last (target_count raw l scope stand to) told in
-      record { fits = k.fits; lays = λ t h. call_layout raw p named at k.fits stand to (target_tree raw scope to) k.lays args scope.statements l f t e.kept.0 h }
+      let all = keeps_all raw at (Calls stand to f args) e.kept.0 in
+      let k = target_laid l scope stand to (λ a c. all a (contained_left (target_exprs to) (arg_exprs args) a c)) fits (told_first raw p scope.variables (target_phrases raw l scope stand to) last told) in
+      record { fits = k.fits; lays = λ t h. call_layout raw p named at k.fits stand to (target_tree raw scope to) k.lays args (λ a c. all a (contained_right (target_exprs to) (arg_exprs args) a c)) scope.statements l f t e.kept.0 h }
 
   heap_lays : (l : ℕ) (to : RawTarget) (cast : _) (n : _) → LayerLays (RawStatement-F.Heap l to cast n)
   heap_lays l to cast n scope stand fits told =
       let at = with_target raw to scope in
-      let k = target_laid l scope stand to fits (told_first raw p scope.variables (target_phrases raw l scope stand to) _ told) in
-      record { fits = k.fits; lays = λ t h. heap_layout raw p named at k.fits scope.statements l to (target_tree raw scope to) cast n t k.lays h }
+      let last = phrase l at (Allocates to cast n) ∷ [] in
+      let e = told_rest raw p scope.variables at.variables (target_phrases raw l scope stand to) last (target_count raw l scope stand to) told in
+      let all = keeps_all raw at (Allocates to cast n) e.kept.0 in
+      let k = target_laid l scope stand to (λ a c. all a (contained_left (target_exprs to) (counts n) a c)) fits (told_first raw p scope.variables (target_phrases raw l scope stand to) last told) in
+      record { fits = k.fits; lays = λ t h. heap_layout raw p named at k.fits scope.statements l to (target_tree raw scope to) cast n t (λ a c. all a (contained_right (target_exprs to) (counts n) a c)) k.lays h }
 
   if_lays : (l : ℕ) (a : RawExpr) (body other : Statements) → LayerLays (RawStatement-F.If l a (bare body) (bare other))
   if_lays l a body other scope stand fits told = record {
@@ -299,13 +329,14 @@ module _ (raw : RawProgram) (p : Program) (named : IsNamed raw p) where
         let middle = after_block (map (scoped raw) (bare body)) (numbered scope) in
         let ps = block_phrases (map (scoped raw) (bare body)) (numbered scope) in
         let qs = block_phrases (map (scoped raw) (bare other)) middle in
+        let tested = only_kept scope (Tests a) a told.kept.0 (0, omega arith, refl) in
         let told = told_later raw p scope.variables (phrase l scope (Tests a)) (ps ++ qs) refl told in
         let g = then_there (λ (x : Expr). both (s.If scope.statements l x) (block_tree (map (treed raw) (bare body)) (numbered scope)) (block_tree (map (treed raw) (bare other)) (after_block (map (treed raw) (bare body)) (numbered scope)))) (expr_of raw scope a) t h in
         let k = both_there (s.If scope.statements l g.value) _ _ t g.same in
         ap (laid p) (sym k.same) ∙ laid-If p scope.statements l g.value k.left k.right
-        ∙ ap₂ (λ (x : Bytes) (y : List Laid). if_form x y (map (laid p) k.right)) (expr_layout raw p named scope fits a g.value g.there)
+        ∙ ap₂ (λ (x : Bytes) (y : List Laid). if_form x y (map (laid p) k.right)) (expr_layout raw p named scope fits a tested g.value g.there)
         (block_lay body (numbered scope) fits (told_first raw p scope.variables ps qs told) k.left k.left_there)
-        ∙ ap (if_form (raw_words a) (map raw_laid (bare body)))
+        ∙ ap (if_form (spaced_words a) (map raw_laid (bare body)))
         (block_lay other middle fits (told_rest raw p scope.variables middle.variables ps qs (after_block_count raw (bare body) (numbered scope)) told) k.right
         (ap (block_tree (map (treed raw) (bare other))) (sym (after_block_same raw (bare body) (numbered scope))) ∙ k.right_there));
   }
@@ -314,20 +345,22 @@ module _ (raw : RawProgram) (p : Program) (named : IsNamed raw p) where
   while_lays l a b scope stand fits told = record {
     fits = fits;
     lays = λ t h.
+        let tested = only_kept scope (Tests a) a told.kept.0 (0, omega arith, refl) in
         let told = told_later raw p scope.variables (phrase l scope (Tests a)) (block_phrases (map (scoped raw) (bare b)) (numbered scope)) refl told in
         let g = both_there (s.While scope.statements l) (expr_of raw scope a) (block_tree (map (treed raw) (bare b)) (numbered scope)) t h in
         ap (laid p) (sym g.same) ∙ laid-While p scope.statements l g.left g.right
-        ∙ ap₂ while_form (expr_layout raw p named scope fits a g.left g.left_there) (block_lay b (numbered scope) fits told g.right g.right_there);
+        ∙ ap₂ while_form (expr_layout raw p named scope fits a tested g.left g.left_there) (block_lay b (numbered scope) fits told g.right g.right_there);
   }
 
   do_lays : (l : ℕ) (a : RawExpr) (b : Statements) → LayerLays (RawStatement-F.Do l a (bare b))
   do_lays l a b scope stand fits told = record {
     fits = fits;
     lays = λ t h.
+        let tested = only_kept scope (Tests a) a told.kept.0 (0, omega arith, refl) in
         let told = told_later raw p scope.variables (phrase l scope (Tests a)) (block_phrases (map (scoped raw) (bare b)) (numbered scope)) refl told in
         let g = both_there (s.Do scope.statements l) (expr_of raw scope a) (block_tree (map (treed raw) (bare b)) (numbered scope)) t h in
         ap (laid p) (sym g.same) ∙ laid-Do p scope.statements l g.left g.right
-        ∙ ap₂ do_form (expr_layout raw p named scope fits a g.left g.left_there) (block_lay b (numbered scope) fits told g.right g.right_there);
+        ∙ ap₂ do_form (expr_layout raw p named scope fits a tested g.left g.left_there) (block_lay b (numbered scope) fits told g.right g.right_there);
   }
 
   -- a for, over the parts that it has
@@ -339,7 +372,7 @@ module _ (raw : RawProgram) (p : Program) (named : IsNamed raw p) where
       → for_tree scope.statements l (part_tree (mapped raw (treed raw) (bare_part i)) (opened (numbered scope))) (expr_of raw (scope_of_test (mapped raw (treed raw) (bare_part i)) scope) a)
       (part_tree (mapped raw (treed raw) (bare_part step)) (scope_of_test (mapped raw (treed raw) (bare_part i)) scope))
       (block_tree (map (treed raw) (bare b)) (scope_of_body (mapped raw (treed raw) (bare_part i)) (mapped raw (treed raw) (bare_part step)) scope)) ≡ Some t
-      → laid p t ≡ for_form (mapped raw raw_laid (bare_part i)) (raw_words a) (mapped raw raw_laid (bare_part step)) (map raw_laid (bare b))
+      → laid p t ≡ for_form (mapped raw raw_laid (bare_part i)) (spaced_words a) (mapped raw raw_laid (bare_part step)) (map raw_laid (bare b))
   for_lay l i a step b scope fits told t h =
       let begin = opened (numbered scope) in
       let first = after_part (mapped raw (scoped raw) (bare_part i)) begin in
@@ -348,6 +381,7 @@ module _ (raw : RawProgram) (p : Program) (named : IsNamed raw p) where
       let qs = part_phrases step first InBlock in
       let rs = block_phrases (map (scoped raw) (bare b)) second in
       let fit_first = part_fits i begin InFor fits (told_first raw p scope.variables ps (phrase l first (Tests a) ∷ (qs ++ rs)) told) in
+      let tested = only_kept first (Tests a) a (told_rest raw p scope.variables first.variables ps (phrase l first (Tests a) ∷ (qs ++ rs)) (after_part_count raw (bare_part i) begin InFor) told).kept.0 (0, omega arith, refl) in
       let behind = told_later raw p first.variables (phrase l first (Tests a)) (qs ++ rs) refl (told_rest raw p scope.variables first.variables ps (phrase l first (Tests a) ∷ (qs ++ rs)) (after_part_count raw (bare_part i) begin InFor) told) in
       let fit_second = part_fits step first InBlock fit_first (told_first raw p first.variables qs rs behind) in
       let begins = part_tree (mapped raw (treed raw) (bare_part i)) begin in
@@ -361,8 +395,8 @@ module _ (raw : RawProgram) (p : Program) (named : IsNamed raw p) where
       ap (laid p) (sym m.same) ∙ laid-For p scope.statements l g.value k.value m.left m.right
       ∙ ap₂ (λ (x : Option Laid) (w : Bytes). for_form x w (option_map (laid p) m.left) (map (laid p) m.right))
       (part_lays i begin InFor fits (told_first raw p scope.variables ps (phrase l first (Tests a) ∷ (qs ++ rs)) told) g.value g.there)
-      (expr_layout raw p named first fit_first a k.value k.there)
-      ∙ ap₂ (for_form (mapped raw raw_laid (bare_part i)) (raw_words a))
+      (expr_layout raw p named first fit_first a tested k.value k.there)
+      ∙ ap₂ (for_form (mapped raw raw_laid (bare_part i)) (spaced_words a))
       (part_lays step first InBlock fit_first (told_first raw p first.variables qs rs behind) m.left m.left_there)
       (block_lay b second fit_second (told_rest raw p first.variables second.variables qs rs (after_part_count raw (bare_part step) first InBlock) behind) m.right m.right_there)
 
@@ -370,12 +404,13 @@ module _ (raw : RawProgram) (p : Program) (named : IsNamed raw p) where
   switch_lays l a arms scope stand fits told = record {
     fits = fits;
     lays = λ t h.
+        let tested = only_kept scope (Switches a (labels_of (in_order (map (scoped_of_arm raw) (bare_arms arms)) (opened (numbered scope))))) a told.kept.0 (0, omega arith, refl) in
         let told = told_later raw p scope.variables (phrase l scope (Switches a (labels_of (in_order (map (scoped_of_arm raw) (bare_arms arms)) (opened (numbered scope)))))) (arm_phrases arms (opened (numbered scope))) refl told in
         let g = then_there (λ (x : Expr). option_and_then (λ (t : IntType). option_map (s.Switch scope.statements l x) (at_type t (in_order (map (treed_arm raw) (bare_arms arms)) (opened (numbered scope))))) (switch_type raw scope a)) (expr_of raw scope a) t h in
         let k = then_there (λ (t : IntType). option_map (s.Switch scope.statements l g.value) (at_type t (in_order (map (treed_arm raw) (bare_arms arms)) (opened (numbered scope))))) (switch_type raw scope a) t g.same in
         let m = map_there (s.Switch scope.statements l g.value) (at_type k.value (in_order (map (treed_arm raw) (bare_arms arms)) (opened (numbered scope)))) t k.same in
         ap (laid p) (sym m.same) ∙ laid-Switch p scope.statements l g.value m.value
-        ∙ ap₂ switch_form (expr_layout raw p named scope fits a g.value g.there) (arms_lay arms (opened (numbered scope)) fits told k.value m.value (collected_are _ m.value m.there));
+        ∙ ap₂ switch_form (expr_layout raw p named scope fits a tested g.value g.there) (arms_lay arms (opened (numbered scope)) fits told k.value m.value (collected_are _ m.value m.there));
   }
 
   block_lays : (l : ℕ) (b : Statements) → LayerLays (RawStatement-F.Block l (bare b))

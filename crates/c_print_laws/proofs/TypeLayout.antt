@@ -1,17 +1,23 @@
 -- The words of a type of a program are those of the text's type.
-use Rattle.std.proofs.Common.{◌≡◌, ℕ, ◌∷◌, ◌++◌, Option, Some, codes, sym, ap, ap₂, subst, ◌∙◌}
+use Rattle.std.proofs.Common.{◌≡◌, ℕ, [], ◌∷◌, ◌++◌, Bool, true, Option, Some, codes, decimal, sym, ap, ap₂, subst, ◌∙◌, if◌then◌else◌}
+use Rattle.std.specs.Prelude.{nat_lt}
 use Rattle.c_tree.specs.declared.types.CType.{CType}
 use Rattle.c_tree.specs.declared.types.CType.TheVariants as t
 use Rattle.c_tree.specs.declared.program.Program.{Program}
+use Rattle.c_tree.specs.declared.raw.expr.RawLength.{RawLength}
+use Rattle.c_tree.specs.declared.raw.expr.RawLength.TheVariants.{Written, Listed}
 use Rattle.c_tree.specs.declared.raw.expr.RawType.{RawType, map-RawType, fold-roll-RawType}
 use Rattle.c_tree.specs.declared.raw.expr.RawType.TheOpen.{RawType-F}
 use Rattle.c_tree.specs.declared.raw.program.RawProgram.{RawProgram}
 use Rattle.c_language.specs.Words.{Bytes, base_words, stars, lengths, declared, type_words, spaced_stars}
-use Rattle.c_language.specs.DeclaredTypes.{struct_id, length_in}
+use Rattle.c_language.specs.ConstantEvaluation.{constant, value_of_constant}
+use Rattle.c_language.specs.declared.constant.Constant.{Constant}
+use Rattle.c_language.specs.DeclaredTypes.{struct_id, positive, length_in}
 use Rattle.c_language.specs.ProgramOf.{length_words, ctype_step, ctype_with}
 use Rattle.c_language.proofs.WordLemmas.{base_words-Integer, base_words-PointerTo, base_words-Array, base_words-Struct, stars-Integer, stars-PointerTo, stars-Array, stars-Struct, lengths-Integer, lengths-PointerTo, lengths-Array, lengths-Struct}
-use Rattle.c_print.specs.RawLayout.{raw_base_step, raw_base, raw_stars_step, raw_stars, raw_lengths_step, raw_lengths, raw_declared, raw_type_words}
-use Rattle.c_print_laws.proofs.Options.{some_same, map_there, both_there}
+use Rattle.c_print.specs.RawLayout.{raw_base_step, raw_base, raw_stars_step, raw_stars, raw_length_words, raw_lengths_step, raw_lengths, raw_declared, raw_type_words}
+use Rattle.c_print_laws.proofs.Options.{IsThere, some_same, map_there, then_there, both_there}
+use Rattle.c_print_laws.proofs.SpacedWords.{constant_spaced}
 use Rattle.c_print_laws.proofs.Trees.{TypeParts, type_layer, of_every_type}
 use Rattle.c_print_laws.proofs.Named.{IsNamed}
 
@@ -21,7 +27,15 @@ pub record HasTypeWords (p : Program) (c : CType) (front middle back : Bytes) : 
   pub star : stars c ≡ middle
   pub long : lengths c ≡ back
 
-module _ (raw : RawProgram) (p : Program) (named : IsNamed raw p) (items : ℕ) where
+-- a length has the words that the layout of the text has for it
+length_layout : (items : ℕ) → nat_lt items 4294967296 ≡ true → (n : RawLength) (k : ℕ) → length_in items n ≡ Some k → length_words items n ≡ raw_length_words items n
+length_layout items few (Written a) k h =
+    let g = then_there positive (value_of_constant a) k h in
+    let c = then_there (λ (x : Constant). x.value) (constant a) g.value g.there in
+    sym (constant_spaced a (subst IsThere (sym c.there) tt))
+length_layout items few Listed k h = ap (λ (b : Bool). if b then decimal items else []) (sym few)
+
+module _ (raw : RawProgram) (p : Program) (named : IsNamed raw p) (items : ℕ) (few : nat_lt items 4294967296 ≡ true) where
   abbrev IsLaidOut : RawType → Type 0
   IsLaidOut a = (c : CType) → ctype_with raw items a ≡ Some c → HasTypeWords p c (raw_base a) (raw_stars a) (raw_lengths items a)
 
@@ -45,7 +59,9 @@ module _ (raw : RawProgram) (p : Program) (named : IsNamed raw p) (items : ℕ) 
       same_type g.same (record {
         base = base_words-Array p g.left g.right (length_words items n) ∙ k.base;
         star = stars-Array g.left g.right (length_words items n) ∙ k.star;
-        long = lengths-Array g.left g.right (length_words items n) ∙ ap (λ (w : Bytes). codes "[" ++ (length_words items n ++ (codes "]" ++ w))) k.long;
+        long =
+            lengths-Array g.left g.right (length_words items n)
+            ∙ ap₂ (λ (v w : Bytes). codes "[" ++ (v ++ (codes "]" ++ w))) (length_layout items few n g.right g.right_there) k.long;
       })
   layered (RawType-F.Struct tag) c h =
       let g = map_there t.Struct (struct_id raw tag) c h in

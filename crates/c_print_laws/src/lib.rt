@@ -4,9 +4,11 @@
 //! `specs/ReadAgain`.
 #![tactic(auto)]
 
+ghost use Rattle.c_print_laws.specs.Places.{StatementsStart};
 ghost use Rattle.c_print_laws.specs.ReadAgain.{LayoutIsOfText, LayoutKeepsPrograms, LayoutIsReadAgain, LayoutHasNoLines, LimitsAreSame};
 
-/// A law: the layout of the program of a text is that of the text's tree.
+/// A law: the layout of the program of a text is that of the text's tree, where no array is longer
+/// than 65536.
 pub fn layout_is_of_text()
     ensures { LayoutIsOfText }
 {}
@@ -17,8 +19,8 @@ pub fn layout_keeps_programs()
     ensures { LayoutKeepsPrograms }
 {}
 
-/// A law: the layout of a program that is that of a text but for lines is read again as the
-/// program but for lines.
+/// A law: the layout of a well-formed program is an accepted text that keeps all rules and limits,
+/// and its program is the same but for lines.
 pub fn layout_is_read_again()
     ensures { LayoutIsReadAgain }
 {}
@@ -31,4 +33,10 @@ pub fn limits_are_same()
 /// A law: programs that are the same but for lines have one layout.
 pub fn layout_has_no_lines()
     ensures { LayoutHasNoLines }
+{}
+
+/// A law: each statement of a program of a text, in whose texts no line feed stands, starts on the
+/// line of its number in the layout.
+pub fn statements_start()
+    ensures { StatementsStart }
 {}

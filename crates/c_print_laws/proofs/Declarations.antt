@@ -1,5 +1,5 @@
 -- Tests of the declarations of a text.
-use Rattle.std.specs.Prelude.{◌&&◌, nat_lt, List, [], ◌∷◌, map, Bool, true, Option, Some, None}
+use Rattle.std.specs.Prelude.{◌&&◌, List, [], ◌∷◌, map, Bool, true, Option, Some, None}
 use Rattle.std.specs.List.{list_all}
 use Rattle.c_tree.specs.declared.raw.expr.RawVar.{RawVar}
 use Rattle.c_tree.specs.declared.raw.program.RawInit.{RawInit}
@@ -8,7 +8,6 @@ use Rattle.c_tree.specs.declared.raw.program.RawItem.TheVariants.{Include, Tag, 
 use Rattle.c_tree.specs.declared.raw.statement.RawStatement.{RawStatement, fold-RawStatement}
 use Rattle.c_tree.specs.declared.raw.statement.RawStatement.TheOpen.{RawStatement-F, RawArm-F}
 use Rattle.c_tree.specs.declared.raw.statement.RawArm.{RawArm, fold-RawArm}
-use Rattle.c_language.specs.DeclaredTypes.{item_count}
 
 abbrev pub all_true : List Bool → Bool
 all_true bs = list_all (λ (b : Bool). b) bs
@@ -53,7 +52,3 @@ item_passes test (Define l h body) = all_true (map (declarations_pass test) body
 abbrev pub items_pass : (RawVar → RawInit → Bool) → List RawItem → Bool
 items_pass test [] = true
 items_pass test (x ∷ xs) = item_passes test x && items_pass test xs
-
--- the list has fewer than 2 to the 32 items
-abbrev pub is_short : RawVar → RawInit → Bool
-is_short v i = nat_lt (item_count i) 4294967296

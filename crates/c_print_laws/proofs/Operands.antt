@@ -1,0 +1,198 @@
+-- An expression in which no rule is broken is an operand, where each name in scope has a type.
+use Rattle.std.proofs.Common.{◌≡◌, ℕ, [], ◌∷◌, Bool, true, false, Option, Some, None, refl, sym, ap, subst}
+use Rattle.std.specs.Prelude.{Contains, not, ◌||◌, ◌&&◌, nat_lt, is_none, option_and_then, if◌then◌else◌}
+use Rattle.c_tree.specs.declared.raw.expr.RawExpr.{RawExpr, map-RawExpr, roll-RawExpr, fold-roll-RawExpr}
+use Rattle.c_tree.specs.declared.raw.expr.RawExpr.TheOpen.{RawExpr-F}
+use Rattle.c_tree.specs.declared.raw.expr.RawExpr.TheViews.{out-roll-RawExpr}
+use Rattle.c_tree.specs.declared.raw.program.RawMember.{RawMember}
+use Rattle.c_tree.specs.declared.raw.program.RawProgram.{RawProgram}
+use Rattle.c_language.specs.Words.{Bytes}
+use Rattle.c_language.specs.DeclaredTypes.{written_type}
+use Rattle.c_language.specs.Scopes.{Scope, Meaning, meaning_in}
+use Rattle.c_language.specs.ExprTypes.{operand, operand_step, a_value, a_place, variable_in, unary_result, binary_result, logical_result, choose_result, cast_result, pointed, indexed, address_result, given, is_array, value_type, struct_of, selected, member_of, member_type}
+use Rattle.c_language.specs.ExprRules.{Seen, seen, is_undeclared, has_bad_operand, has_no_address, needs_struct, selects_missing, fails, holds_of, is_function, is_incomplete_struct, lacks_member}
+use Rattle.c_language.specs.NameRules.{UsesUndeclared}
+use Rattle.c_language.specs.StructRules.{MisusesTag, MisnamesMember}
+use Rattle.c_language.specs.TypeRules.{MisusesOperator, MisusesAddress}
+use Rattle.c_language.specs.Phrases.{Part}
+use Rattle.c_language.specs.Rules.{Breaks, undeclared, tag, member, operator, address}
+use Rattle.c_language.specs.Uses.{operands_of, expressions, IsWithin, whole, deeper, holds}
+use Rattle.c_language.specs.declared.expr_type.ExprType.{ExprType}
+use Rattle.c_language.specs.declared.expr_type.Operand.{Operand}
+use Rattle.c_print_laws.proofs.Options.{false_true, contains_first, contains_later, IsThere, there_map}
+use Rattle.c_print_laws.proofs.Trees.{ExprParts, expr_layer, of_every_expr}
+
+-- a form of an expression breaks none of these rules
+pub record IsClean (raw : RawProgram) (scope : Scope) (s : Seen) : Type 0 where
+  pub declared : is_undeclared scope s ≡ false
+  pub operands : has_bad_operand scope s ≡ false
+  pub address : has_no_address s ≡ false
+  pub complete : needs_struct scope s ≡ false
+  pub member : selects_missing raw s ≡ false
+
+-- no part of an expression breaks them
+abbrev pub KeepsAll : RawProgram → Scope → RawExpr → Type 0
+KeepsAll raw scope a = (inner : RawExpr) → IsWithin inner a → IsClean raw scope (seen raw scope inner)
+
+not_true : (b : Bool) → (b ≡ true → ⊥) → b ≡ false
+not_true true h = absurd (h refl)
+not_true false h = refl
+
+pub true_false : {A : Type 0} → ◌≡◌ {A = Bool} true false → A
+true_false h = false_true (sym h)
+
+-- a phrase that breaks no rule has expressions that break none
+pub keeps_all : (raw : RawProgram) (scope : Scope) (part : Part) → ((n : ℕ) → Breaks raw scope part n → ⊥) → (a : RawExpr) → Contains (expressions part) a → KeepsAll raw scope a
+keeps_all raw scope part kept a c inner w = record {
+  declared = not_true _ (λ h. kept 1 (undeclared (UsesUndeclared.in_expression (holds c w) h)));
+  operands = not_true _ (λ h. kept 12 (operator (MisusesOperator.in_expression (holds c w) h)));
+  address = not_true _ (λ h. kept 15 (address (MisusesAddress.in_expression (holds c w) h)));
+  complete = not_true _ (λ h. kept 7 (tag (MisusesTag.in_expression (holds c w) h)));
+  member = not_true _ (λ h. kept 8 (member (MisnamesMember.missing (holds c w) h)));
+}
+
+-- what a name stands for has its type
+abbrev pub HasType : Meaning → Type 0
+HasType (Meaning.Variable id t) = IsThere t
+HasType Meaning.Function = Unit {0}
+
+abbrev pub HasTypeIf : Option Meaning → Type 0
+HasTypeIf None = Unit {0}
+HasTypeIf (Some m) = HasType m
+
+abbrev pub IsTypedIf : RawProgram → Option RawMember → Type 0
+IsTypedIf raw None = Unit {0}
+IsTypedIf raw (Some m) = IsThere (written_type raw m.shape)
+
+-- the same of each operand of a form
+abbrev OfParts : {A : Type 0} → (A → Type 0) → RawExpr-F A → Type 0
+OfParts P (RawExpr-F.Constant text) = Unit {0}
+OfParts P RawExpr-F.Null = Unit {0}
+OfParts P RawExpr-F.Eof = Unit {0}
+OfParts P (RawExpr-F.Variable name) = Unit {0}
+OfParts P (RawExpr-F.Unary op a) = P a
+OfParts P (RawExpr-F.Deref a) = P a
+OfParts P (RawExpr-F.AddressOf a) = P a
+OfParts P (RawExpr-F.Binary op a b) = P a × P b
+OfParts P (RawExpr-F.AndAlso a b) = P a × P b
+OfParts P (RawExpr-F.OrElse a b) = P a × P b
+OfParts P (RawExpr-F.Choose c a b) = P c × P a × P b
+OfParts P (RawExpr-F.Cast t a) = P a
+OfParts P (RawExpr-F.Index a i) = P a × P i
+OfParts P (RawExpr-F.Member a m) = P a
+OfParts P (RawExpr-F.Arrow a m) = P a
+OfParts P (RawExpr-F.Paren a) = P a
+
+not_fails : {A : Type 0} (r : Option A) → fails (Some r) ≡ false → IsThere r
+not_fails None h = true_false h
+not_fails (Some x) h = tt
+
+has_address : (is_place is_array : Bool) (t : ExprType) → (not is_place || is_array) ≡ false → IsThere (given (is_place && not is_array) t)
+has_address true true t h = true_false h
+has_address true false t h = tt
+has_address false b t h = true_false h
+
+variable_there : (m : Option Meaning) → HasTypeIf m → is_none m ≡ false → is_function m ≡ false → IsThere (variable_in m)
+variable_there None h none other = true_false none
+variable_there (Some (Meaning.Variable id t)) h none other = there_map a_place t h
+variable_there (Some Meaning.Function) h none other = true_false other
+
+module _ (raw : RawProgram) (scope : Scope) (complete : (s : ℕ) (name : Bytes) → IsTypedIf raw (member_of raw s name)) (typed : (name : Bytes) → HasTypeIf (meaning_in scope name)) where
+  found_member : (m : Option RawMember) → IsTypedIf raw m → is_none m ≡ false → IsThere (option_and_then (λ (m : RawMember). written_type raw m.shape) m)
+  found_member None h none = true_false none
+  found_member (Some m) h none = h
+
+  known_type : (b : Bool) (m : Option RawMember) → IsTypedIf raw m → not b ≡ false → is_none m ≡ false
+      → IsThere (if b then option_and_then (λ (m : RawMember). written_type raw m.shape) m else None)
+  known_type true m h isnt none = found_member m h none
+  known_type false m h isnt none = true_false isnt
+
+  -- a member that a complete struct type has
+  in_struct : (name : Bytes) (s : Option ℕ) → IsThere s → holds_of (λ (k : ℕ). not (nat_lt k scope.structs)) s ≡ false
+      → holds_of (λ (k : ℕ). is_none (member_of raw k name)) s ≡ false → IsThere (option_and_then (member_type raw scope name) s)
+  in_struct name None h before has = absurd h
+  in_struct name (Some s) h before has = known_type (nat_lt s scope.structs) (member_of raw s name) (complete s name) before has
+
+  at_target : (name : Bytes) (t : Option ExprType) → IsThere (option_and_then struct_of t) → holds_of (is_incomplete_struct scope) t ≡ false
+      → holds_of (lacks_member raw name) t ≡ false → IsThere (option_and_then (selected raw scope name) t)
+  at_target name None h before has = absurd h
+  at_target name (Some t) h before has = in_struct name (struct_of t) h before has
+
+  -- a form that breaks no rule is an operand
+  form_there : (s : Seen) → OfParts IsThere s → IsClean raw scope s → IsThere (operand_step raw scope s)
+  form_there (RawExpr-F.Constant text) parts clean = tt
+  form_there RawExpr-F.Null parts clean = tt
+  form_there RawExpr-F.Eof parts clean = tt
+  form_there (RawExpr-F.Variable name) parts clean = variable_there (meaning_in scope name) (typed name) clean.declared clean.operands
+  form_there (RawExpr-F.Unary op None) parts clean = absurd parts
+  form_there (RawExpr-F.Unary op (Some x)) parts clean = there_map a_value (unary_result op (value_type x.shape)) (not_fails _ clean.operands)
+  form_there (RawExpr-F.Deref None) parts clean = absurd parts
+  form_there (RawExpr-F.Deref (Some x)) parts clean = there_map a_place (pointed x) (not_fails _ clean.operands)
+  form_there (RawExpr-F.AddressOf None) parts clean = absurd parts
+  form_there (RawExpr-F.AddressOf (Some x)) parts clean = there_map a_value (address_result x) (has_address x.is_place (is_array x.shape) _ clean.address)
+  form_there (RawExpr-F.Binary op None b) parts clean = absurd parts.0
+  form_there (RawExpr-F.Binary op (Some x) None) parts clean = absurd parts.1
+  form_there (RawExpr-F.Binary op (Some x) (Some y)) parts clean = there_map a_value (binary_result op x y) (not_fails _ clean.operands)
+  form_there (RawExpr-F.AndAlso None b) parts clean = absurd parts.0
+  form_there (RawExpr-F.AndAlso (Some x) None) parts clean = absurd parts.1
+  form_there (RawExpr-F.AndAlso (Some x) (Some y)) parts clean = there_map a_value (logical_result x y) (not_fails _ clean.operands)
+  form_there (RawExpr-F.OrElse None b) parts clean = absurd parts.0
+  form_there (RawExpr-F.OrElse (Some x) None) parts clean = absurd parts.1
+  form_there (RawExpr-F.OrElse (Some x) (Some y)) parts clean = there_map a_value (logical_result x y) (not_fails _ clean.operands)
+  form_there (RawExpr-F.Choose None a b) parts clean = absurd parts.0
+  form_there (RawExpr-F.Choose (Some x) None b) parts clean = absurd parts.1
+  form_there (RawExpr-F.Choose (Some x) (Some y) None) parts clean = absurd parts.2
+  form_there (RawExpr-F.Choose (Some x) (Some y) (Some z)) parts clean = there_map a_value (choose_result x y z) (not_fails _ clean.operands)
+  form_there (RawExpr-F.Cast t None) parts clean = absurd parts
+  form_there (RawExpr-F.Cast t (Some x)) parts clean = there_map a_value (cast_result t x) (not_fails _ clean.operands)
+  form_there (RawExpr-F.Index None i) parts clean = absurd parts.0
+  form_there (RawExpr-F.Index (Some x) None) parts clean = absurd parts.1
+  form_there (RawExpr-F.Index (Some x) (Some y)) parts clean = there_map a_place (indexed x y) (not_fails _ clean.operands)
+  form_there (RawExpr-F.Member None m) parts clean = absurd parts
+  form_there (RawExpr-F.Member (Some x) m) parts clean =
+      there_map a_place (selected raw scope m x.shape) (in_struct m (struct_of x.shape) (not_fails _ clean.operands) clean.complete clean.member)
+  form_there (RawExpr-F.Arrow None m) parts clean = absurd parts
+  form_there (RawExpr-F.Arrow (Some x) m) parts clean =
+      there_map a_place (option_and_then (selected raw scope m) (pointed x)) (at_target m (pointed x) (not_fails _ clean.operands) clean.complete clean.member)
+  form_there (RawExpr-F.Paren a) parts clean = parts
+
+  abbrev IsOperand : RawExpr → Type 0
+  IsOperand a = KeepsAll raw scope a → IsThere (operand raw scope a)
+
+  abbrev seen_layer : RawExpr-F RawExpr → Seen
+  seen_layer = map-RawExpr RawExpr (Option Operand) (operand raw scope)
+
+  parts_there : (y : ExprParts IsOperand) → ((m : RawExpr) → Contains (operands_of (expr_layer IsOperand y)) m → KeepsAll raw scope m) → OfParts IsThere (seen_layer (expr_layer IsOperand y))
+  parts_there (RawExpr-F.Constant text) keeps = tt
+  parts_there RawExpr-F.Null keeps = tt
+  parts_there RawExpr-F.Eof keeps = tt
+  parts_there (RawExpr-F.Variable name) keeps = tt
+  parts_there (RawExpr-F.Unary op a) keeps = a.1 (keeps a.0 (contains_first a.0 []))
+  parts_there (RawExpr-F.Deref a) keeps = a.1 (keeps a.0 (contains_first a.0 []))
+  parts_there (RawExpr-F.AddressOf a) keeps = a.1 (keeps a.0 (contains_first a.0 []))
+  parts_there (RawExpr-F.Binary op a b) keeps = (a.1 (keeps a.0 (contains_first a.0 (b.0 ∷ []))), b.1 (keeps b.0 (contains_later a.0 b.0 (b.0 ∷ []) (contains_first b.0 []))))
+  parts_there (RawExpr-F.AndAlso a b) keeps = (a.1 (keeps a.0 (contains_first a.0 (b.0 ∷ []))), b.1 (keeps b.0 (contains_later a.0 b.0 (b.0 ∷ []) (contains_first b.0 []))))
+  parts_there (RawExpr-F.OrElse a b) keeps = (a.1 (keeps a.0 (contains_first a.0 (b.0 ∷ []))), b.1 (keeps b.0 (contains_later a.0 b.0 (b.0 ∷ []) (contains_first b.0 []))))
+  parts_there (RawExpr-F.Choose c a b) keeps = (
+    c.1 (keeps c.0 (contains_first c.0 (a.0 ∷ b.0 ∷ []))),
+    a.1 (keeps a.0 (contains_later c.0 a.0 (a.0 ∷ b.0 ∷ []) (contains_first a.0 (b.0 ∷ [])))),
+    b.1 (keeps b.0 (contains_later c.0 b.0 (a.0 ∷ b.0 ∷ []) (contains_later a.0 b.0 (b.0 ∷ []) (contains_first b.0 [])))),
+  )
+  parts_there (RawExpr-F.Cast t a) keeps = a.1 (keeps a.0 (contains_first a.0 []))
+  parts_there (RawExpr-F.Index a b) keeps = (a.1 (keeps a.0 (contains_first a.0 (b.0 ∷ []))), b.1 (keeps b.0 (contains_later a.0 b.0 (b.0 ∷ []) (contains_first b.0 []))))
+  parts_there (RawExpr-F.Member a m) keeps = a.1 (keeps a.0 (contains_first a.0 []))
+  parts_there (RawExpr-F.Arrow a m) keeps = a.1 (keeps a.0 (contains_first a.0 []))
+  parts_there (RawExpr-F.Paren a) keeps = a.1 (keeps a.0 (contains_first a.0 []))
+
+  -- the operands of a layer break no rule either
+  pub operands_keep : (layer : RawExpr-F RawExpr) → KeepsAll raw scope (roll-RawExpr layer) → (m : RawExpr) → Contains (operands_of layer) m → KeepsAll raw scope m
+  operands_keep layer keeps m c i w = keeps i (deeper (subst (λ z. Contains (operands_of z) m) (sym (out-roll-RawExpr layer)) c) w)
+
+  -- and the layer is clean
+  pub layer_clean : (layer : RawExpr-F RawExpr) → KeepsAll raw scope (roll-RawExpr layer) → IsClean raw scope (seen_layer layer)
+  layer_clean layer keeps = subst (IsClean raw scope) (ap seen_layer (out-roll-RawExpr layer)) (keeps (roll-RawExpr layer) whole)
+
+  pub operand_there : (a : RawExpr) → IsOperand a
+  operand_there = of_every_expr IsOperand (λ y keeps.
+      let l = expr_layer IsOperand y in
+      subst IsThere (sym (fold-roll-RawExpr (Option Operand) (operand_step raw scope) l)) (form_there (seen_layer l) (parts_there y (operands_keep l keeps)) (layer_clean l keeps)))
