@@ -23,3 +23,4 @@ pub mod PlainEffects
 pub mod PlainSteps
 pub mod MainGraph
 pub mod MayPointLaws
+pub mod OneAnalysis

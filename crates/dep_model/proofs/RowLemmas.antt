@@ -1,8 +1,8 @@
 -- Rows of numbers, where one of them grows.
-use Rattle.std.proofs.Common.{◌≡◌, ℕ, zero, suc, ◌+◌, ◌<◌, List, [], ◌∷◌, ◌++◌, map, length, set, get_or, Vec, Global, append-nil, arith, refl, sym, ap, ◌∙◌}
+use Rattle.std.proofs.Common.{◌≡◌, ℕ, zero, suc, ◌<◌, List, [], ◌∷◌, ◌++◌, map, length, set, get_or, Vec, Global, append-nil, arith, refl, sym, ap, ◌∙◌}
 use Rattle.std.proofs.lemmas.Bool.Decides.{nat_tests}
-use Rattle.std.specs.Prelude.{Bool, true, false, ◌==◌, if◌then◌else◌}
-use Rattle.dep_model.specs.Groups.{if_same, row, rows_of}
+use Rattle.std.specs.Prelude.{Bool, false, ◌==◌, if◌then◌else◌}
+use Rattle.dep_model.specs.Groups.{if_same}
 
 abbrev numbers_in : Vec ℕ Global → List ℕ
 numbers_in r = r.items

@@ -1,5 +1,5 @@
 -- Control by nesting: which test decides, each time, whether a statement is done (Ferrante, Ottenstein and Warren 1987).
-use Rattle.std.specs.Prelude.{◌≡◌, ℕ, ℤ, Option, Some, None, ◌⊎◌}
+use Rattle.std.specs.Prelude.{◌≡◌, ℕ, ℤ, Option, Some, ◌⊎◌}
 use Rattle.c_language.specs.Code.{Code, End, Opens, Plain, Fork, Loop, Leaves, Call}
 
 -- the function's entry, or a test

@@ -8,8 +8,7 @@ use Rattle.c_tree.specs.declared.program.Program.{Program}
 use Rattle.c_language.specs.Words.{Bytes}
 use Rattle.c_language.specs.Layout.{layout}
 use Rattle.dep_model.specs.declared.edge.Edge.{Edge}
-use Rattle.c_language.specs.StraightLine.{IsStraightLine}
-use Rattle.dep_model.proofs.StraightAnalysis.{main_edges}
+use Rattle.dep_model.proofs.OneAnalysis.{same_edges}
 use Rattle.dep_model.specs.Words.{IsPath, ReachesAny}
 use Rattle.dep_model.specs.Completion.{IsClosed, IsCompletion, NamesNone}
 use Rattle.dep_model.specs.MainVertices.{vertices}
@@ -121,12 +120,10 @@ module _ (p : Program) (line : ℕ) where
       same_members x y (a.size ∙ sym b.size) (λ v. (criterion_member x y a b v, criterion_member y x b a v))
 
   -- the vertices that a slice keeps are one set
-  pub kept_one : (k m : List Bool) → IsStraightLine p → IsKept p line k → IsKept p line m → k ≡ m
-  kept_one k m straight a b =
-      let first = main_edges p a.analysis a.edges straight a.is_analysis a.are_edges in
-      let second = main_edges p b.analysis b.edges straight b.is_analysis b.are_edges in
-      let each : (e : Edge) → Contains a.edges e → Contains b.edges e = λ e c. (second e).1 ((first e).0 c) in
-      let back : (e : Edge) → Contains b.edges e → Contains a.edges e = λ e c. (first e).1 ((second e).0 c) in
+  pub kept_one : (k m : List Bool) → IsKept p line k → IsKept p line m → k ≡ m
+  kept_one k m a b =
+      let each : (e : Edge) → Contains a.edges e → Contains b.edges e = same_edges p a.analysis b.analysis a.edges b.edges a.is_analysis b.is_analysis a.are_edges b.are_edges in
+      let back : (e : Edge) → Contains b.edges e → Contains a.edges e = same_edges p b.analysis a.analysis b.edges a.edges b.is_analysis a.is_analysis b.are_edges a.are_edges in
       let from : a.criterion ≡ b.criterion = criterion_one a.criterion b.criterion a.is_criterion b.is_criterion in
       let reached : a.reached ≡ b.reached = same_members a.reached b.reached (a.is_reached.size ∙ ap length from ∙ sym b.is_reached.size) (λ v. (
         λ h. (b.is_reached.members v).1 (reaches_among a.edges b.edges each b.criterion v (subst (λ s. ReachesAny a.edges s v) from ((a.is_reached.members v).0 h))),
@@ -139,8 +136,8 @@ module _ (p : Program) (line : ℕ) where
       ascending_one xs ys a.ascending b.ascending (λ k. (λ c. (b.members k).1 ((a.members k).0 c), λ c. (a.members k).1 ((b.members k).0 c)))
 
   -- two texts that are the slice are equal
-  pub slice_one : (t u : Bytes) → IsStraightLine p → IsSlice p line t → IsSlice p line u → t ≡ u
-  slice_one t u straight a b =
-      let same : a.kept ≡ b.kept = kept_one a.kept b.kept straight a.is_kept b.is_kept in
+  pub slice_one : (t u : Bytes) → IsSlice p line t → IsSlice p line u → t ≡ u
+  slice_one t u a b =
+      let same : a.kept ≡ b.kept = kept_one a.kept b.kept a.is_kept b.is_kept in
       let lines : a.lines ≡ b.lines = lines_one b.kept a.lines b.lines (subst (λ k. AreLines p line k a.lines) same a.are_lines) b.are_lines in
       a.text_is ∙ ap (λ ls. header line ls ++ layout (sliced p a.kept)) lines ∙ ap (λ k. header line b.lines ++ layout (sliced p k)) same ∙ sym b.text_is

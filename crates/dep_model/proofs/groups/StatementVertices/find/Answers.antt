@@ -3,7 +3,7 @@ use Rattle.std.proofs.lemmas.List.{get_or_default}
 use Rattle.dep_model.specs.declared.vertex.VertexKind.TheVariants.{Entry}
 use Rattle.dep_model.specs.FunctionVertices.{passes, numbers}
 use Rattle.dep_model.specs.Groups.{is_at, row, rows_of}
-use Rattle.dep_model.proofs.NumberedFrom.{numbers_turn, numbers_end}
+use Rattle.dep_model.proofs.NumberedFrom.{numbers_turn}
 use Rattle.dep_model.proofs.groups.StatementVertices.find.Goals as goal
 
 pub loop-vertex-preserved : goal.loop-vertex-preserved
