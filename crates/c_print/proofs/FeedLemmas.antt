@@ -71,7 +71,7 @@ line_feeds-line n w h =
 
 -- ---- signs
 
-int_feedless : (t : IntType) → feedless (int_words t) ≡ true
+pub int_feedless : (t : IntType) → feedless (int_words t) ≡ true
 int_feedless Char = refl
 int_feedless UChar = refl
 int_feedless Short = refl
@@ -81,7 +81,7 @@ int_feedless UInt = refl
 int_feedless Long = refl
 int_feedless ULong = refl
 
-sign_feedless : (op : BinaryOp) → feedless (binary_sign op) ≡ true
+pub sign_feedless : (op : BinaryOp) → feedless (binary_sign op) ≡ true
 sign_feedless Mul = refl
 sign_feedless Div = refl
 sign_feedless Rem = refl
@@ -111,7 +111,7 @@ minus_feedless : (joins : Bool) (a : Bytes) → feedless a ≡ true → feedless
 minus_feedless true a h = h
 minus_feedless false a h = h
 
-signed_feedless : (op : UnaryOp) (a : Bytes) → feedless a ≡ true → feedless (signed op a) ≡ true
+pub signed_feedless : (op : UnaryOp) (a : Bytes) → feedless a ≡ true → feedless (signed op a) ≡ true
 signed_feedless Plus a h = plus_feedless (begins_with 43 a) a h
 signed_feedless Minus a h = minus_feedless (begins_with 45 a) a h
 signed_feedless Flip a h = h

@@ -36,15 +36,15 @@ use Rattle.c_print.proofs.StatementPrint.{statements_rest, IsLean, Tails, tails_
 
 -- ---- what follows is written too
 
-static_rest : {b : Bool} {ts rest : Tokens} → IsStatic ts b rest → AreWritten ts → AreWritten rest
+pub static_rest : {b : Bool} {ts rest : Tokens} → IsStatic ts b rest → AreWritten ts → AreWritten rest
 static_rest static w = w.1
 static_rest external w = w
 
-result_rest : {t : Option RawType} {ts rest : Tokens} → IsResult ts t rest → AreWritten ts → AreWritten rest
+pub result_rest : {t : Option RawType} {ts rest : Tokens} → IsResult ts t rest → AreWritten ts → AreWritten rest
 result_rest IsResult.nothing w = w.1
 result_rest (IsResult.some h) w = type_rest h w
 
-head_rest : {h : RawHead} {ts rest : Tokens} → IsHead ts h rest → AreWritten ts → AreWritten rest
+pub head_rest : {h : RawHead} {ts rest : Tokens} → IsHead ts h rest → AreWritten ts → AreWritten rest
 head_rest (head h k p j) w = params_rest j (result_rest k (static_rest h w)).1.1
 
 -- ---- heads of functions
@@ -201,13 +201,13 @@ print_field b wb (IsMemberDeclarator.named {v = v} h p) w tl R t = tails_as (end
       has = record { found = record { line = line_of n.tokens; name = v.name; shape = v.shape }; rest = x.tokens; is = member n.is_base (IsSeparated.last (IsMemberDeclarator.named d p)); same = refl; has = x.has };
     })
 
-member_rest : {l : ℕ} {base : RawType} {ts rest : Tokens} {m : RawMember} → IsMemberDeclarator l base ts m rest → AreWritten ts → AreWritten rest
+pub member_rest : {l : ℕ} {base : RawType} {ts rest : Tokens} {m : RawMember} → IsMemberDeclarator l base ts m rest → AreWritten ts → AreWritten rest
 member_rest (IsMemberDeclarator.named h p) w = declarator_rest h w
 
-abbrev AreFields : ℕ → RawType → Tokens → List RawMember → Tokens → Type 0
+abbrev pub AreFields : ℕ → RawType → Tokens → List RawMember → Tokens → Type 0
 AreFields l base = IsSeparated (IsMemberDeclarator l base) (codes ";")
 
-fields_rest : {l : ℕ} {base : RawType} {ts rest : Tokens} {some : List RawMember} → AreFields l base ts some rest → AreWritten ts → AreWritten rest
+pub fields_rest : {l : ℕ} {base : RawType} {ts rest : Tokens} {some : List RawMember} → AreFields l base ts some rest → AreWritten ts → AreWritten rest
 fields_rest (IsSeparated.last h) w = (member_rest h w).1
 fields_rest (IsSeparated.more h k) w = fields_rest k (member_rest h w).1
 
@@ -341,7 +341,7 @@ print_global {l} {b} hb wb (IsGlobal.list {v = v} {all} h k) w line more after s
       };
     })
 
-global_rest : {l : ℕ} {b : Bool} {base : RawType} {ts rest : Tokens} {x : RawItem} → IsGlobal l b base ts x rest → AreWritten ts → AreWritten rest
+pub global_rest : {l : ℕ} {b : Bool} {base : RawType} {ts rest : Tokens} {x : RawItem} → IsGlobal l b base ts x rest → AreWritten ts → AreWritten rest
 global_rest (IsGlobal.plain h p) w = declarator_rest h w
 global_rest (IsGlobal.value h p k) w = expr_rest k (declarator_rest h w).1
 global_rest (IsGlobal.list h k) w = list_rest k (declarator_rest h w).1.1
@@ -467,7 +467,7 @@ print_item (globals s b h) w tl all R t = let ws = static_rest s w in print_glob
 print_item (prototype {ts = ts} {h = h} k) w tl all R t = only (item.Prototype (line_of ts) h) tl all R (print_prototype (line_of ts) k w tl all R t)
 print_item (definition {ts = ts} {h = h} {body} k p j) w tl all R t = only (item.Define (line_of ts) h body) tl all R (print_definition (line_of ts) k p j w tl all R t)
 
-item_rest : {ts rest : Tokens} {some : List RawItem} → IsItem ts some rest → AreWritten ts → AreWritten rest
+pub item_rest : {ts rest : Tokens} {some : List RawItem} → IsItem ts some rest → AreWritten ts → AreWritten rest
 item_rest (IsItem.include is_stdlib) w = w.1
 item_rest (tag key) w = w.1.1.1
 item_rest (structure key h) w = (members_rest h w.1.1.1).1

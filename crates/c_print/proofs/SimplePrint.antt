@@ -34,7 +34,7 @@ use Rattle.c_print.proofs.TypePrint.{named_rest, closes_paren, print_type_name}
 
 -- ---- what follows is written too
 
-arg_rest : {ts rest : Tokens} {a : RawArg} → IsArg ts a rest → AreWritten ts → AreWritten rest
+pub arg_rest : {ts rest : Tokens} {a : RawArg} → IsArg ts a rest → AreWritten ts → AreWritten rest
 arg_rest (IsArg.value h) w = expr_rest h w
 arg_rest literal w = w.1
 
@@ -46,7 +46,7 @@ pub call_rest : {ts rest : Tokens} {f : Bytes} {all : List RawArg} → IsCall ts
 call_rest (bare h) w = w.1.1.1
 call_rest (with_args h k) w = args_rest k w.1.1
 
-size_rest : {ts rest : Tokens} {z : RawSize} → IsSize ts z rest → AreWritten ts → AreWritten rest
+pub size_rest : {ts rest : Tokens} {z : RawSize} → IsSize ts z rest → AreWritten ts → AreWritten rest
 size_rest (of_type h) w = (named_rest h w.1.1).1
 size_rest (of_pointee h) w = w.1.1.1.1.1
 size_rest (of_bare_pointee h) w = w.1.1.1

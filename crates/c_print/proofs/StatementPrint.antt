@@ -43,26 +43,26 @@ declared_all_rest : {l : ℕ} {base : RawType} {ts rest : Tokens} {all : List Ra
 declared_all_rest (IsSeparated.last h) w = (declared_rest h w).1
 declared_all_rest (IsSeparated.more h k) w = declared_all_rest k (declared_rest h w).1
 
-declaration_rest : {ts rest : Tokens} {all : List RawStatement} → IsDeclaration ts all rest → AreWritten ts → AreWritten rest
+pub declaration_rest : {ts rest : Tokens} {all : List RawStatement} → IsDeclaration ts all rest → AreWritten ts → AreWritten rest
 declaration_rest (declaration h k) w = declared_all_rest k (base_rest h w)
 
-init_rest : {ts rest : Tokens} {a : Option RawStatement} → IsInit ts a rest → AreWritten ts → AreWritten rest
+pub init_rest : {ts rest : Tokens} {a : Option RawStatement} → IsInit ts a rest → AreWritten ts → AreWritten rest
 init_rest IsInit.nothing w = w.1
 init_rest (IsInit.simple h) w = (simple_rest h w).1
 init_rest (IsInit.declared h k) w = (declared_rest k (base_rest h w)).1
 
-step_rest : {ts rest : Tokens} {a : Option RawStatement} → IsStep ts a rest → AreWritten ts → AreWritten rest
+pub step_rest : {ts rest : Tokens} {a : Option RawStatement} → IsStep ts a rest → AreWritten ts → AreWritten rest
 step_rest IsStep.nothing w = w.1
 step_rest (IsStep.simple h) w = (simple_rest h w).1
 
-test_rest : {ts rest : Tokens} {a : RawExpr} → IsTest ts a rest → AreWritten ts → AreWritten rest
+pub test_rest : {ts rest : Tokens} {a : RawExpr} → IsTest ts a rest → AreWritten ts → AreWritten rest
 test_rest (test h) w = (expr_rest h w.1).1
 
-label_rest : {ts rest : Tokens} {a : RawLabel} → IsLabel ts a rest → AreWritten ts → AreWritten rest
+pub label_rest : {ts rest : Tokens} {a : RawLabel} → IsLabel ts a rest → AreWritten ts → AreWritten rest
 label_rest (case h) w = (expr_rest h w.1).1
 label_rest default w = w.1.1
 
-labels_rest : {ts rest : Tokens} {all : List RawLabel} → AreLabels ts all rest → AreWritten ts → AreWritten rest
+pub labels_rest : {ts rest : Tokens} {all : List RawLabel} → AreLabels ts all rest → AreWritten ts → AreWritten rest
 labels_rest (AreLabels.last h) w = label_rest h w
 labels_rest (AreLabels.more h k) w = labels_rest k (label_rest h w)
 
@@ -84,7 +84,7 @@ mutual
   statements_rest (AreStatements.declared h k) w = statements_rest k (declaration_rest h w)
   statements_rest (AreStatements.more h k) w = statements_rest k (statement_rest h w)
 
-  body_rest : {ts rest : Tokens} {all : List RawStatement} → IsBody ts all rest → AreWritten ts → AreWritten rest
+  pub body_rest : {ts rest : Tokens} {all : List RawStatement} → IsBody ts all rest → AreWritten ts → AreWritten rest
   body_rest (IsBody.braces h) w = (statements_rest h w.1).1
   body_rest IsBody.nothing w = w.1
   body_rest (single p h) w = statement_rest h w

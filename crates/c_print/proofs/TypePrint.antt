@@ -470,7 +470,7 @@ called_rest : {ts rest : Tokens} {called : Option Bytes} → IsParamName ts call
 called_rest (IsParamName.named k) w = w.1
 called_rest (unnamed k) w = w
 
-param_rest : {ts rest : Tokens} {p : RawParam} → IsParam ts p rest → AreWritten ts → AreWritten rest
+pub param_rest : {ts rest : Tokens} {p : RawParam} → IsParam ts p rest → AreWritten ts → AreWritten rest
 param_rest (plain h k f) w = called_rest k (type_rest h w)
 param_rest (unsized h k) w = (called_rest k (type_rest h w)).1.1
 param_rest (sized h k j) w = (expr_rest j (called_rest k (type_rest h w)).1).1

@@ -37,4 +37,10 @@ pub mod ReadAgain
 pub mod LineLess
 pub mod ForParts
 pub mod Numbering
+pub mod RawFeedless
+pub mod FeedlessTokens
+pub mod FeedlessTypes
+pub mod FeedlessStatements
+pub mod FeedlessVariables
+pub mod FeedlessPrograms
 pub mod StatementStarts

@@ -17,6 +17,7 @@ use Rattle.c_print_laws.specs.Places.{StatementsStart}
 use Rattle.c_print_laws.proofs.Definitions.{program_parts}
 use Rattle.c_print_laws.proofs.ForParts.{program_tidy}
 use Rattle.c_print_laws.proofs.LineLess.{zero_line, unlined_rolls, got_or}
+use Rattle.c_print_laws.proofs.FeedlessPrograms.{well_formed_feedless}
 use Rattle.c_print_laws.proofs.Numbering.{items_take}
 use Rattle.c_print_laws.proofs.SameTrees.{maps_same}
 
@@ -116,4 +117,4 @@ numbers_listed p ok id low =
     (items_take ok.raw ok.same ok.raw.items (program_tidy ok.raw ok.tree.is.grammar) outset ok.same.items ok.same.functions parts.items parts.functions (λ i. ap (slice_get ok.same.functions) (omega arith)) id 1 (omega arith) (omega (arith, low, count, parts.statements)))
 
 pub statements_start : StatementsStart
-statements_start = λ p ok plain id low. listed_starts p id plain (numbers_listed p ok id low)
+statements_start = λ p ok id low. listed_starts p id (well_formed_feedless p ok) (numbers_listed p ok id low)

@@ -4,7 +4,7 @@
 //! `specs/ReadAgain`.
 #![tactic(auto)]
 
-ghost use Rattle.c_print_laws.specs.Places.{StatementsStart};
+ghost use Rattle.c_print_laws.specs.Places.{StatementsStart, TextsAreFeedless};
 ghost use Rattle.c_print_laws.specs.ReadAgain.{LayoutIsOfText, LayoutKeepsPrograms, LayoutIsReadAgain, LayoutHasNoLines, LimitsAreSame};
 
 /// A law: the layout of the program of a text is that of the text's tree, where no array is longer
@@ -35,8 +35,13 @@ pub fn layout_has_no_lines()
     ensures { LayoutHasNoLines }
 {}
 
-/// A law: each statement of a program of a text, in whose texts no line feed stands, starts on the
-/// line of its number in the layout.
+/// A law: no text of a well-formed program holds a line feed: names, spellings of constants,
+/// formats, and the words of lengths.
+pub fn texts_are_feedless()
+    ensures { TextsAreFeedless }
+{}
+
+/// A law: each statement of a well-formed program starts on the line of its number in the layout.
 pub fn statements_start()
     ensures { StatementsStart }
 {}
