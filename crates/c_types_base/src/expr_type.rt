@@ -18,6 +18,7 @@ pub fn copy(alloc: Global, t: &ExprType) -> Result<ExprType, AllocError>
     })
 }
 
+/// An integer type (ISO C99 6.2.5).
 pub fn integer(alloc: Global, t: IntType) -> ExprType
     ensures { result ≡ types.integer t }
 {
@@ -86,6 +87,7 @@ fn is_void(t: &ExprType) -> bool
     t.layers.is_empty() && t.base == Base::Void
 }
 
+/// Whether the type is an integer type.
 pub fn is_integer(t: &ExprType) -> bool
     ensures { result ≡ spec.is_integer t.now }
 {
@@ -105,6 +107,7 @@ pub fn target_of(mut t: ExprType) -> Option<ExprType>
     }
 }
 
+/// Whether the type is a pointer type.
 pub fn is_pointer(t: &ExprType) -> bool
     ensures { result ≡ spec.is_pointer t.now }
 {
@@ -114,6 +117,7 @@ pub fn is_pointer(t: &ExprType) -> bool
     }
 }
 
+/// Whether the type is an array type.
 pub fn is_array(t: &ExprType) -> bool
     ensures { result ≡ spec.is_array t.now }
 {
@@ -160,6 +164,7 @@ fn same_layers(s: &[Layer], t: &[Layer]) -> bool
     same_layer(*l, *m) && same_layers(ls, ms)
 }
 
+/// Whether two types are the same, with equal lengths.
 pub fn same_type(s: &ExprType, t: &ExprType) -> bool
     ensures { result ≡ spec.same_type s.now t.now }
 {

@@ -20,6 +20,7 @@ use c_tree::RawExpr;
 use sqlite_items::Items;
 use std::alloc::Global;
 
+/// An operand that is no place and no null pointer constant.
 pub fn a_value(shape: ExprType) -> Operand
     ensures { result ≡ types.a_value shape }
 {

@@ -22,6 +22,7 @@ pub struct Names<'a> {
 }
 
 impl<'a> Names<'a> {
+    /// No names.
     pub fn new(alloc: Global) -> Names<'a>
         ensures { names_of result ≡ [] }
     {

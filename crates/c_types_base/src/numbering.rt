@@ -14,6 +14,7 @@ pub struct Numbering<'a> {
 }
 
 impl<'a> Numbering<'a> {
+    /// No names, so that the next one has the number 0.
     pub fn new(alloc: Global) -> Numbering<'a>
         ensures { Numbers [] result }
     {
