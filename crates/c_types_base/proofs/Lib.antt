@@ -1,6 +1,7 @@
 pub mod DefinitionLemmas
 pub mod JudgedLemmas
 pub mod JudgingLaws
+pub mod ListingLaws
 pub mod LiteralLemmas
 pub mod MemberLaws
 pub mod MemberTrees
@@ -8,10 +9,13 @@ pub mod NameLemmas
 pub mod NameSteps
 pub mod NumberingLemmas
 pub mod OptionLemmas
+pub mod PhraseForms
 pub mod PhraseLemmas
 pub mod Rulesets
 pub mod ScopeLaws
+pub mod Stretching
 pub mod TableLaws
+pub mod TextSteps
 pub mod TreeLemmas
 pub mod TypeLemmas
 pub mod TypedLaws

@@ -1,7 +1,7 @@
 -- Where a value is there, and what is made of values that are.
 use Rattle.std.proofs.Common.{◌≡◌, ◌≢◌, ℕ, List, [], ◌∷◌, ◌++◌, Bool, true, false, Option, Some, None, refl, sym, true≢false, arith}
 use Rattle.std.proofs.lemmas.Bool.Decides.{nat_tests}
-use Rattle.std.specs.Prelude.{◌+◌, ◌<◌, suc, not, nat_lt, length, is_none, option_map, option_and_then, cond}
+use Rattle.std.specs.Prelude.{IsSome, ◌+◌, ◌<◌, suc, not, nat_lt, length, is_none, option_map, option_and_then, cond}
 use Rattle.std.specs.List.{find, position, position_or_len}
 use Rattle.c_language.specs.ConstantEvaluation.{both}
 use Rattle.c_language.specs.ProgramOf.{collected, optional}
@@ -15,6 +15,10 @@ IsThere (Some x) = Unit {0}
 pub value_there : {A : Type 0} (o : Option A) → IsThere o → (x : A) × (o ≡ Some x)
 value_there None h = absurd h
 value_there (Some x) h = (x, refl)
+
+pub is_there : {A : Type 0} (o : Option A) → IsThere o → IsSome o
+is_there None h = absurd h
+is_there (Some x) h = refl
 
 pub not_none : {A : Type 0} (o : Option A) → o ≢ None → IsThere o
 not_none None h = h refl

@@ -5,3 +5,5 @@ pub mod Names
 pub mod Tables
 pub mod Numbering
 pub mod Definitions
+pub mod Stretches
+pub mod Listing

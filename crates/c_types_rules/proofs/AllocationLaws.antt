@@ -1,26 +1,23 @@
 -- The check of an allocation tells a rule exactly where it breaks one.
-use Rattle.std.proofs.Common.{◌≡◌, ◌≢◌, ℕ, List, [], ◌∷◌, ◌++◌, Bool, true, false, Option, Some, None, refl, sym, ap, subst, ◌∙◌, ◌⊎◌, inl, inr}
-use Rattle.std.specs.Prelude.{◌||◌, not, is_some, is_none, Contains, option_map, option_and_then}
+use Rattle.std.proofs.Common.{◌≡◌, ◌≢◌, ℕ, Bool, true, false, Option, Some, None, refl, sym, ap, subst, ◌∙◌, inl, inr}
+use Rattle.std.specs.Prelude.{◌||◌, not, is_none, Contains, option_map, option_and_then}
 use Rattle.std.proofs.lemmas.List.Elements.{Contains-append_left, Contains-append_right, Contains-append_cases}
 use Rattle.c_tree.specs.declared.raw.expr.RawExpr.{RawExpr}
-use Rattle.c_tree.specs.declared.raw.expr.RawVar.{RawVar}
-use Rattle.c_tree.specs.declared.raw.program.RawInit.TheVariants as init
 use Rattle.c_tree.specs.declared.raw.program.RawProgram.{RawProgram}
 use Rattle.c_tree.specs.declared.raw.statement.RawTarget.{RawTarget}
-use Rattle.c_tree.specs.declared.raw.statement.RawTarget.TheVariants as place
 use Rattle.c_tree.specs.declared.raw.statement.RawTypeName.{RawTypeName}
 use Rattle.c_tree.specs.declared.raw.statement.RawSize.{RawSize}
 use Rattle.c_tree.specs.declared.raw.statement.RawSize.TheVariants as size
 use Rattle.c_tree.specs.declared.raw.statement.RawAmount.{RawAmount}
 use Rattle.c_tree.specs.declared.raw.statement.RawAmount.TheVariants as amount
 use Rattle.c_language.specs.Words.{Bytes}
-use Rattle.c_language.specs.DeclaredTypes.{struct_id, has_stdlib, written_type, variable_type}
+use Rattle.c_language.specs.DeclaredTypes.{struct_id, has_stdlib, written_type}
 use Rattle.c_language.specs.Scopes.{Scope, Meaning, meaning_in}
-use Rattle.c_language.specs.ExprTypes.{operand, value_type, integer_of, target_of, is_integer, is_pointer, is_scalar, same_type}
+use Rattle.c_language.specs.ExprTypes.{value_type, integer_of, target_of, is_integer, is_pointer, same_type}
 use Rattle.c_language.specs.ExprRules.{is_complete}
-use Rattle.c_language.specs.Phrases.{Part, Allocates}
+use Rattle.c_language.specs.Phrases.{Allocates}
 use Rattle.c_language.specs.TypeGrammar.{named_type}
-use Rattle.c_language.specs.Uses.{expressions, tags, target_exprs, counts, sizes, tags_if, tags_of_size}
+use Rattle.c_language.specs.Uses.{target_exprs, counts, sizes, tags_if, tags_of_size}
 use Rattle.c_language.specs.Rules.{Breaks, undeclared, tag, no_place, allocation, initialiser, no_header}
 use Rattle.c_language.specs.NameRules.{UsesUndeclared, LacksHeader}
 use Rattle.c_language.specs.StructRules.{MisusesTag}
@@ -29,14 +26,14 @@ use Rattle.c_language.specs.TypeRules.{AssignsNoPlace}
 use Rattle.c_language.specs.CallRules.{MisusesAllocation, HasOtherSize, target_type, is_char}
 use Rattle.c_language.specs.declared.expr_type.ExprType.{ExprType}
 use Rattle.c_language.specs.declared.expr_type.Operand.{Operand}
-use Rattle.c_types_rules.specs.Checking.{Verdict, kept, when_given, given_or, then_kept, all_kept}
+use Rattle.c_types_rules.specs.Checking.{kept, when_given}
 use Rattle.c_types_rules.specs.CallChecks.{is_same, is_count, check_object, check_pointed, check_pointee, check_size, check_factor, check_bytes, check_amount, cast_type, check_pointer, check_tags, check_allocation}
 use Rattle.c_types_base.proofs.JudgingLaws.{Keeps}
 use Rattle.c_types_base.proofs.PhraseLemmas.{clash, are_clean}
 use Rattle.c_types_rules.proofs.KeptPhrases.{OfOperand}
 use Rattle.c_types_rules.proofs.KeptDeclarations.{AreNamed}
-use Rattle.c_types_rules.proofs.KeptCalls.{TargetIsRight, keeps-Allocates}
-use Rattle.c_types_rules.proofs.TestLemmas.{same_some, none_some, is_nothing, is_something, is_nothing_too, is_something_too, not_true, not_false, either_false, either_true}
+use Rattle.c_types_rules.proofs.KeptCalls.{keeps-Allocates}
+use Rattle.c_types_rules.proofs.TestLemmas.{same_some, none_some, is_nothing_too}
 use Rattle.c_types_base.proofs.TypedLaws.{IsTyped}
 use Rattle.c_types_rules.proofs.Findings.{Finds, IsTrue, by_test, by_given, by_option, by_both, by_facts, by_all, by_judged}
 use Rattle.c_types_rules.proofs.CheckLaws.{of_operand}

@@ -1,9 +1,7 @@
 -- The check of a call tells a rule exactly where it breaks one.
-use Rattle.std.proofs.Common.{◌≡◌, ◌≢◌, ℕ, List, [], ◌∷◌, ◌++◌, length, Bool, true, false, Option, Some, None, refl, sym, ap, subst, ◌∙◌, ◌⊎◌, inl, inr}
-use Rattle.std.specs.Prelude.{◌==◌, ◌&&◌, ◌||◌, not, is_some, is_none, Contains, bytes_eq, codes, option_map, option_and_then}
-use Rattle.std.specs.List.{list_any}
+use Rattle.std.proofs.Common.{◌≡◌, ◌≢◌, ℕ, List, [], ◌∷◌, length, Bool, true, false, Option, Some, None, refl, sym, ap, subst, ◌∙◌, inl, inr}
+use Rattle.std.specs.Prelude.{◌==◌, ◌&&◌, ◌||◌, not, is_some, Contains, bytes_eq, codes, option_map, option_and_then}
 use Rattle.std.proofs.lemmas.Bool.{eqb-true, eq-eqb}
-use Rattle.std.proofs.lemmas.Slice.Eq.{bytes_eq-Decides}
 use Rattle.std.proofs.lemmas.List.Elements.{Contains-append_left, Contains-append_right, Contains-append_cases}
 use Rattle.c_arith.specs.declared.int_type.IntType.TheVariants.{Int}
 use Rattle.c_tree.specs.declared.raw.expr.RawExpr.{RawExpr}
@@ -19,9 +17,9 @@ use Rattle.c_language.specs.Words.{Bytes}
 use Rattle.c_language.specs.Constants.{literal_bytes}
 use Rattle.c_language.specs.DeclaredTypes.{has_stdio, has_stdlib, definition_of, parameter_types, result_type, variable_type, integer}
 use Rattle.c_language.specs.Scopes.{Scope, Meaning, meaning_in}
-use Rattle.c_language.specs.ExprTypes.{operand, a_value, value_type, integer_of, is_integer, is_pointer, is_scalar, is_assignable}
+use Rattle.c_language.specs.ExprTypes.{operand, a_value, value_type, is_integer, is_pointer, is_scalar, is_assignable}
 use Rattle.c_language.specs.ExprRules.{is_function}
-use Rattle.c_language.specs.Formats.{Conversion, Piece, format_pieces, conversions, conversion_width}
+use Rattle.c_language.specs.Formats.{Conversion, Piece, format_pieces, conversions}
 use Rattle.c_language.specs.Phrases.{Stand, InFile, InHead, InBlock, InArm, InFor, Part, Calls}
 use Rattle.c_language.specs.Uses.{expressions, target_exprs, arg_exprs, is_library_function, is_one_of}
 use Rattle.c_language.specs.Rules.{Breaks, undeclared, main, no_definition, no_place, arguments, result, format, library, initialiser, misplaced, no_header}
@@ -29,17 +27,17 @@ use Rattle.c_language.specs.NameRules.{main_name, UsesUndeclared, MisusesMain, L
 use Rattle.c_language.specs.ArrayRules.{MisusesInitialiser}
 use Rattle.c_language.specs.TypeRules.{AssignsNoPlace, IsNoTarget}
 use Rattle.c_language.specs.SwitchRules.{MisplacesDeclaration}
-use Rattle.c_language.specs.CallRules.{HasUnfitArgument, MisusesArguments, MisusesResult, HasUnfitWidth, MisusesFormat, MisusesLibrary, target_type, without_result, format_in, later_args, pieces_in, has_width, only_arg}
+use Rattle.c_language.specs.CallRules.{HasUnfitArgument, MisusesArguments, MisusesResult, HasUnfitWidth, MisusesFormat, MisusesLibrary, target_type, without_result, format_in, later_args, pieces_in, only_arg}
 use Rattle.c_language.specs.declared.expr_type.ExprType.{ExprType}
 use Rattle.c_language.specs.declared.expr_type.Operand.{Operand}
-use Rattle.c_types_rules.specs.Checking.{Verdict, kept, unless_broken, when_given, given_or, is_target}
+use Rattle.c_types_rules.specs.Checking.{Verdict, kept, is_target}
 use Rattle.c_types_rules.specs.DeclarationChecks.{is_main}
-use Rattle.c_types_rules.specs.CallChecks.{is_no_target, begins_for, fits_parameter, fits_conversion, has_null_byte, check_target, check_each, check_stored_result, check_result, check_against, check_own, check_only, check_free, check_putchar, check_getchar, check_pieces, check_format, check_printf, check_named, check_call}
+use Rattle.c_types_rules.specs.CallChecks.{is_no_target, begins_for, fits_parameter, fits_conversion, has_null_byte, check_target, check_each, check_result, check_own, check_only, check_free, check_putchar, check_getchar, check_printf, check_named, check_call}
 use Rattle.c_types_base.proofs.JudgingLaws.{Keeps, contains_cons, contains_first, contains_later, contains_nil}
-use Rattle.c_types_base.proofs.PhraseLemmas.{clash, AreClean, are_clean}
+use Rattle.c_types_base.proofs.PhraseLemmas.{clash, are_clean}
 use Rattle.c_types_rules.proofs.KeptPhrases.{OfOperand}
-use Rattle.c_types_rules.proofs.KeptCalls.{TargetIsRight, HeaderIsRight, CallIsRight, keeps-Calls}
-use Rattle.c_types_rules.proofs.TestLemmas.{same_some, none_some, is_nothing, is_something, is_nothing_too, is_something_too, not_true, not_false, either_false, either_true, any_passes, none_passes, same_names, other_names}
+use Rattle.c_types_rules.proofs.KeptCalls.{TargetIsRight, CallIsRight, keeps-Calls}
+use Rattle.c_types_rules.proofs.TestLemmas.{same_some, none_some, is_nothing, is_something, not_true, not_false, either_false, either_true, any_passes, none_passes, same_names}
 use Rattle.c_types_rules.proofs.EndLemmas.{is_empty, is_no_empty}
 use Rattle.c_types_base.proofs.TypedLaws.{IsTyped}
 use Rattle.c_types_rules.proofs.Findings.{Finds, IsTrue, by_test, by_given, by_option, by_both, by_facts, by_if, by_judged}

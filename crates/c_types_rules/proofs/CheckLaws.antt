@@ -1,5 +1,5 @@
 -- The check of a test, an assignment or a return tells a rule exactly where it breaks one.
-use Rattle.std.proofs.Common.{◌≡◌, ◌≢◌, ℕ, List, [], ◌∷◌, Bool, true, false, Option, Some, None, refl, sym, subst, ◌⊎◌, inl, inr}
+use Rattle.std.proofs.Common.{◌≡◌, ◌≢◌, [], ◌∷◌, true, false, Option, Some, None, sym, subst, inl, inr}
 use Rattle.std.specs.Prelude.{◌&&◌, not, is_some, is_none, Contains}
 use Rattle.c_arith.specs.declared.operators.BinaryOp.{BinaryOp}
 use Rattle.c_arith.specs.declared.operators.BinaryOp.TheVariants.{Add}
@@ -17,9 +17,9 @@ use Rattle.c_language.specs.CallRules.{MisusesReturn, head_around}
 use Rattle.c_language.specs.TypeRules.{MisusesOperator, AssignsOtherType, AssignsNoPlace, IsNoTarget, one}
 use Rattle.c_language.specs.declared.expr_type.ExprType.{ExprType}
 use Rattle.c_language.specs.declared.expr_type.Operand.{Operand}
-use Rattle.c_types_rules.specs.Checking.{kept, unless_broken, given_or, when_given, check_test, is_target, check_stored, check_compound, check_assignment, check_bump, check_value, check_left, check_return}
+use Rattle.c_types_rules.specs.Checking.{kept, unless_broken, check_test, is_target, check_assignment, check_bump, check_value, check_left, check_return}
 use Rattle.c_types_base.proofs.JudgingLaws.{Keeps, contains_cons, contains_first, contains_later, contains_nil}
-use Rattle.c_types_base.proofs.PhraseLemmas.{clash, AreClean, are_clean}
+use Rattle.c_types_base.proofs.PhraseLemmas.{are_clean}
 use Rattle.c_types_rules.proofs.KeptPhrases.{OfOperand, both_true, keeps-Tests, keeps-Bumps, keeps-Assigns, keeps-Compound, keeps-Returns, keeps-Leaves}
 use Rattle.c_types_rules.proofs.TestLemmas.{same_some, none_some, is_nothing, is_something, is_nothing_too, is_something_too, not_true, not_false, both_false}
 use Rattle.c_types_base.proofs.TypedLaws.{IsTyped}

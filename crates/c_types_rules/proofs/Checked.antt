@@ -11,7 +11,7 @@ use Rattle.c_types_base.proofs.TableLaws.{tables_typed}
 use Rattle.c_types_base.proofs.TypedLaws.{IsTyped}
 use Rattle.c_types_rules.specs.Checking.{Decides}
 use Rattle.c_types_rules.specs.PhraseChecks.{check_part}
-use Rattle.c_types_rules.specs.Stretches.{one_phrase, a_statement}
+use Rattle.c_types_base.specs.Stretches.{one_phrase, a_statement}
 use Rattle.c_types_rules.specs.Walks.{Answers, Walks, on_line}
 use Rattle.c_types_rules.specs.declared.rule_fault.RuleFault.{RuleFault}
 use Rattle.c_types_rules.proofs.PhraseLaws.{kept_breaks_none, told_is_broken}

@@ -1,11 +1,9 @@
 -- The check of a declaration or a definition tells a rule exactly where it breaks one.
-use Rattle.std.proofs.Common.{◌≡◌, ◌≢◌, ℕ, ℤ, List, [], ◌∷◌, length, Bool, true, false, Option, Some, None, refl, sym, ap, subst, ◌∙◌, ◌⊎◌, inl, inr}
+use Rattle.std.proofs.Common.{◌≡◌, ◌≢◌, ℕ, ℤ, List, [], length, Bool, true, false, Option, Some, None, refl, ap, subst, ◌∙◌, inl, inr}
 use Rattle.std.specs.Prelude.{◌==◌, ◌||◌, not, is_some, is_none, Contains, take}
 use Rattle.std.specs.List.{list_any}
-use Rattle.c_arith.specs.declared.int_type.IntType.TheVariants.{Int}
 use Rattle.c_tree.specs.declared.raw.expr.RawExpr.{RawExpr}
 use Rattle.c_tree.specs.declared.raw.expr.RawType.{RawType}
-use Rattle.c_tree.specs.declared.raw.expr.RawType.TheVariants as type
 use Rattle.c_tree.specs.declared.raw.expr.RawVar.{RawVar}
 use Rattle.c_tree.specs.declared.raw.program.RawInit.{RawInit}
 use Rattle.c_tree.specs.declared.raw.program.RawMember.{RawMember}
@@ -15,7 +13,7 @@ use Rattle.c_tree.specs.declared.raw.program.RawProgram.{RawProgram}
 use Rattle.c_tree.specs.declared.raw.statement.RawStatement.{RawStatement}
 use Rattle.c_language.specs.Words.{Bytes}
 use Rattle.c_language.specs.ConstantEvaluation.{value_of_constant}
-use Rattle.c_language.specs.DeclaredTypes.{StructText, defined_structs, defined_functions, struct_id, definition_of, written_type, variable_type, positive}
+use Rattle.c_language.specs.DeclaredTypes.{defined_structs, defined_functions, struct_id, definition_of, written_type, variable_type, positive}
 use Rattle.c_language.specs.Scopes.{Scope, Meaning, meaning_in, meaning_here}
 use Rattle.c_language.specs.ExprRules.{is_complete}
 use Rattle.c_language.specs.Phrases.{Stand, InFile, InHead, InBlock, InArm, InFor, Part, NamesStruct, DefinesStruct, HasMember, DeclaresFunction, Takes, EndsFunction, Declares}
@@ -27,11 +25,12 @@ use Rattle.c_language.specs.ArrayRules.{HasNoElement, LacksConstant}
 use Rattle.c_language.specs.CallRules.{MisusesReturn}
 use Rattle.c_language.specs.SwitchRules.{MisplacesDeclaration}
 use Rattle.c_language.specs.declared.expr_type.ExprType.{ExprType}
-use Rattle.c_types_rules.specs.Checking.{kept, unless_broken, given_or, when_given, all_kept, check_expr}
-use Rattle.c_types_rules.specs.DeclarationChecks.{is_complete_tag, is_defined_before, is_main, is_variable, has_name, gives_int, ends_with_value, stands_in_arm, check_tag, check_count, check_length, check_type, check_complete, check_struct, check_member, check_head, check_prototype, check_main, check_definition, check_taken, check_parameter, check_end, check_fresh, check_declared}
+use Rattle.c_types_rules.specs.Checking.{kept, when_given, all_kept, check_expr}
+use Rattle.c_types_rules.specs.DeclarationChecks.{is_complete_tag, is_defined_before, is_main, is_variable, gives_int, ends_with_value, stands_in_arm, check_tag, check_count, check_length, check_type, check_complete, check_struct, check_member, check_head, check_prototype, check_main, check_definition, check_taken, check_parameter, check_end, check_fresh, check_declared}
+use Rattle.c_types_base.specs.Listing.{has_name}
 use Rattle.c_types_base.proofs.JudgingLaws.{Keeps, contains_cons, contains_first, contains_nil}
 use Rattle.c_types_base.proofs.PhraseLemmas.{clash, AreClean, are_clean}
-use Rattle.c_types_rules.proofs.KeptDeclarations.{AreNamed, keeps-NamesStruct, keeps-DefinesStruct, keeps-HasMember, keeps-Prototype, keeps-Definition, keeps-Takes, keeps-EndsFunction, keeps-Declares}
+use Rattle.c_types_rules.proofs.KeptDeclarations.{keeps-NamesStruct, keeps-DefinesStruct, keeps-HasMember, keeps-Prototype, keeps-Definition, keeps-Takes, keeps-EndsFunction, keeps-Declares}
 use Rattle.c_types_rules.proofs.TestLemmas.{same_some, none_some, is_nothing, is_something, is_nothing_too, is_something_too, not_true, not_false, either_false, either_true, any_passes, none_passes, same_names, other_names}
 use Rattle.c_types_rules.proofs.EndLemmas.{has_name_is, has_name_own, is_empty, is_no_empty, gives_int_only, gives_int_own, ends_so, ends_not}
 use Rattle.c_types_base.proofs.TypedLaws.{IsTyped}

@@ -1,5 +1,5 @@
 -- A declaration of a variable, as steps of the walk.
-use Rattle.std.proofs.Common.{◌≡◌, ℕ, ◌+◌, List, Option, Some, None, Result, Ok, Err, refl, sym, ap, subst, ◌∙◌}
+use Rattle.std.proofs.Common.{◌≡◌, ℕ, ◌+◌, List, Option, Some, None, Result, Ok, Err, sym, ap, subst, ◌∙◌}
 use Rattle.std.specs.Prelude.{IsSome}
 use Rattle.c_tree.specs.declared.raw.expr.RawExpr.{RawExpr}
 use Rattle.c_tree.specs.declared.raw.expr.RawVar.{RawVar}
@@ -15,20 +15,16 @@ use Rattle.c_types_base.specs.Tables.{scope_of, AreRight, IsAt}
 use Rattle.c_types_base.specs.declared.fault.Fault.{Fault}
 use Rattle.c_types_base.specs.declared.fault.Fault.TheVariants as fault
 use Rattle.c_types_base.specs.declared.tables.Tables.{Tables}
-use Rattle.c_types_base.proofs.OptionLemmas.{IsThere}
+use Rattle.c_types_base.proofs.OptionLemmas.{is_there}
 use Rattle.c_types_base.proofs.TableLaws.{tables_typed}
 use Rattle.c_types_rules.specs.Checking.{Verdict, kept, Decides}
 use Rattle.c_types_rules.specs.DeclarationChecks.{check_declared, check_begun}
-use Rattle.c_types_rules.specs.Stretches.{Stretch, one_phrase, of_declaration, of_parameter}
+use Rattle.c_types_base.specs.Stretches.{Stretch, one_phrase, of_declaration, of_parameter}
 use Rattle.c_types_rules.specs.Walks.{Answers, Walks, on_line}
 use Rattle.c_types_rules.specs.declared.rule_fault.RuleFault.{RuleFault}
 use Rattle.c_types_rules.proofs.Checked.{check_answers, walks_phrase}
 use Rattle.c_types_rules.proofs.DeclaredLaws.{declared_there, declared_new}
 use Rattle.c_types_rules.proofs.WalkSteps.{Outcome, two, first_stops, at_scope}
-
-pub is_there : {A : Type 0} (o : Option A) → IsThere o → IsSome o
-is_there None h = absurd h
-is_there (Some x) h = refl
 
 no_fault : {e : RuleFault} {A : Type 0} → ◌≡◌ {A = Outcome} (Err e) (Ok tt) → A
 no_fault h = absurd (subst (λ (r : Outcome). is_fault r) h tt)

@@ -1,6 +1,6 @@
 -- The tests of a function's head and of its last statement.
 use Rattle.std.proofs.Common.{◌≡◌, ◌≢◌, ℕ, List, [], ◌∷◌, length, Bool, true, false, Option, Some, None, refl, sym, ap, subst, ◌∙◌, arith}
-use Rattle.std.specs.Prelude.{◌==◌, bytes_eq}
+use Rattle.std.specs.Prelude.{◌==◌}
 use Rattle.std.proofs.lemmas.Bool.{eqb-true, eq-eqb}
 use Rattle.std.proofs.lemmas.Slice.Eq.{bytes_eq-Decides}
 use Rattle.c_arith.specs.declared.int_type.IntType.{IntType}
@@ -17,7 +17,8 @@ use Rattle.c_tree.specs.declared.raw.statement.RawStatement.TheVariants as s
 use Rattle.c_tree.specs.declared.raw.statement.RawArm.{RawArm}
 use Rattle.c_language.specs.Words.{Bytes}
 use Rattle.c_language.specs.CallRules.{EndsWithValue}
-use Rattle.c_types_rules.specs.DeclarationChecks.{has_name, is_int, int_step, is_int_type, gives_int, is_given, value_layer, returns_value, ends_with_value}
+use Rattle.c_types_rules.specs.DeclarationChecks.{is_int, int_step, is_int_type, gives_int, value_layer, returns_value, ends_with_value}
+use Rattle.c_types_base.specs.Listing.{has_name}
 use Rattle.c_types_base.proofs.PhraseLemmas.{clash}
 
 pub has_name_is : (name : Bytes) (o : Option Bytes) → has_name name o ≡ true → o ≡ Some name

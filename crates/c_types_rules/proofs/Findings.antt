@@ -1,5 +1,5 @@
 -- What a check finds, step by step: a rule that is broken, or that facts hold.
-use Rattle.std.proofs.Common.{◌≡◌, ℕ, zero, suc, ◌<◌, List, [], ◌∷◌, Bool, true, false, Option, Some, None, Result, Ok, Err, refl, subst, ◌⊎◌, inl, inr}
+use Rattle.std.proofs.Common.{◌≡◌, ℕ, List, [], ◌∷◌, Bool, true, false, Option, Some, None, Result, Ok, Err, refl, subst, inl, inr}
 use Rattle.std.specs.Prelude.{Contains, if◌then◌else◌}
 use Rattle.c_tree.specs.declared.raw.expr.RawExpr.{RawExpr}
 use Rattle.c_tree.specs.declared.raw.program.RawProgram.{RawProgram}
@@ -10,7 +10,7 @@ use Rattle.c_language.specs.Phrases.{Part}
 use Rattle.c_language.specs.Rules.{Breaks}
 use Rattle.c_language.specs.declared.expr_type.Operand.{Operand}
 use Rattle.c_types_base.specs.Judging.{then_judge, judged}
-use Rattle.c_types_rules.specs.Checking.{Verdict, kept, unless_broken, given_or, when_given, then_kept, all_kept, judging}
+use Rattle.c_types_rules.specs.Checking.{Verdict, unless_broken, given_or, when_given, then_kept, all_kept, judging}
 use Rattle.c_types_base.proofs.JudgingLaws.{Keeps, Told, judged_truly, contains_first, contains_later, contains_cons, contains_nil}
 use Rattle.c_types_base.proofs.PhraseLemmas.{broken_by}
 use Rattle.c_types_base.proofs.TypedLaws.{IsTyped, NamesRule, judged_names}

@@ -1,6 +1,6 @@
 -- The check of an initialiser or of a switch tells a rule exactly where it breaks one.
-use Rattle.std.proofs.Common.{◌≡◌, ◌≢◌, ℕ, ◌<◌, ◌≤◌, ℤ, List, [], ◌∷◌, length, Bool, true, false, Option, Some, None, refl, sym, ap, subst, ◌∙◌, arith, ◌⊎◌, inl, inr}
-use Rattle.std.specs.Prelude.{◌&&◌, ◌||◌, not, nat_lt, is_some, Contains, option_and_then}
+use Rattle.std.proofs.Common.{◌≡◌, ◌≢◌, ℕ, ◌<◌, ◌≤◌, List, [], ◌∷◌, length, Bool, true, false, Option, Some, None, refl, sym, ap, subst, ◌∙◌, arith, inl, inr}
+use Rattle.std.specs.Prelude.{nat_lt, is_some, Contains, option_and_then}
 use Rattle.std.proofs.lemmas.Bool.{ltb-true, ltb-false}
 use Rattle.c_arith.specs.declared.int_type.IntType.{IntType}
 use Rattle.c_arith.specs.IntType.{promote}
@@ -16,18 +16,18 @@ use Rattle.c_language.specs.DeclaredTypes.{variable_type}
 use Rattle.c_language.specs.Scopes.{Scope}
 use Rattle.c_language.specs.ExprTypes.{operand, integer_of, is_scalar, is_pointer, is_assignable}
 use Rattle.c_language.specs.Phrases.{Stand, InFile, InHead, InBlock, InArm, InFor, Part, Begins, Switches}
-use Rattle.c_language.specs.Uses.{expressions, is_null_name, cases}
+use Rattle.c_language.specs.Uses.{is_null_name, cases}
 use Rattle.c_language.specs.Rules.{Breaks, no_constant, switch, other_type, initialiser}
 use Rattle.c_language.specs.ArrayRules.{LacksConstant, IsNoConstant, HasUnfit, MisusesInitialiser, element_of, count_of}
 use Rattle.c_language.specs.TypeRules.{AssignsOtherType}
 use Rattle.c_language.specs.SwitchRules.{MisusesSwitch}
 use Rattle.c_language.specs.declared.expr_type.ExprType.{ExprType}
 use Rattle.c_language.specs.declared.expr_type.Operand.{Operand}
-use Rattle.c_types_rules.specs.Checking.{kept, when_given, all_kept, check_expr}
+use Rattle.c_types_rules.specs.Checking.{kept}
 use Rattle.c_types_rules.specs.DeclarationChecks.{is_constant_for, are_few, check_constant, check_first, check_item, check_listed, check_items, check_begun}
 use Rattle.c_types_rules.specs.CallChecks.{case_values, are_distinct, default_count, check_label, check_labels, check_switch}
-use Rattle.c_types_base.proofs.JudgingLaws.{Keeps, contains_cons, contains_first, contains_later, contains_nil}
-use Rattle.c_types_base.proofs.PhraseLemmas.{clash, AreClean, are_clean}
+use Rattle.c_types_base.proofs.JudgingLaws.{Keeps, contains_cons, contains_first, contains_later}
+use Rattle.c_types_base.proofs.PhraseLemmas.{clash, are_clean}
 use Rattle.c_types_rules.proofs.KeptPhrases.{OfOperand, both_true}
 use Rattle.c_types_rules.proofs.KeptDeclarations.{keeps-BeginsOne, keeps-BeginsItems}
 use Rattle.c_types_rules.proofs.KeptCalls.{keeps-BeginsNone, keeps-Switches}

@@ -1,9 +1,8 @@
 -- Members, parameters and items, as steps of the walk.
-use Rattle.std.proofs.Common.{◌≡◌, ℕ, ◌+◌, ◌<◌, ◌≤◌, List, [], ◌∷◌, ◌++◌, length, take, drop, get_or, Bool, true, false, Option, Some, None, option_and_then, is_some, slice_get, Result, Ok, Err, refl, sym, ap, subst, ◌∙◌, append_assoc, append-nil}
-use Rattle.std.specs.Prelude.{vec_len, if◌then◌else◌}
+use Rattle.std.proofs.Common.{◌≡◌, ℕ, ◌+◌, List, [], ◌∷◌, ◌++◌, length, take, Bool, true, false, Option, Some, None, is_some, Result, Ok, Err, refl, sym, ap, subst, ◌∙◌, append-nil, true≢false}
+use Rattle.std.specs.Prelude.{vec_len, not}
 use Rattle.std.specs.List.{list_any}
 use Rattle.std.specs.Result.{IsErrAnd}
-use Rattle.std.proofs.lemmas.List.{take_more, drop_all}
 use Rattle.c_tree.specs.declared.raw.program.RawHead.{RawHead}
 use Rattle.c_tree.specs.declared.raw.program.RawItem.{RawItem}
 use Rattle.c_tree.specs.declared.raw.program.RawItem.TheVariants.{Struct, Prototype, Define}
@@ -12,61 +11,35 @@ use Rattle.c_tree.specs.declared.raw.program.RawParam.{RawParam}
 use Rattle.c_tree.specs.declared.raw.program.RawProgram.{RawProgram}
 use Rattle.c_tree.specs.declared.raw.statement.RawStatement.{RawStatement}
 use Rattle.c_language.specs.Words.{Bytes}
-use Rattle.c_language.specs.DeclaredTypes.{StructText, defined_structs, written_type}
-use Rattle.c_language.specs.ExprTypes.{member_named}
-use Rattle.c_language.specs.Phrases.{InBlock, DefinesStruct, HasMember, DeclaresFunction, Takes, EndsFunction, Phrases, phrase, member_phrases, taken_phrases, head_phrases, body_phrases, item_phrases, after_item}
-use Rattle.c_language.specs.Scopes.{Scope, Meaning, meaning_here, opened, closed, with_entry, with_function, with_parameters, scope_of_parameters, entered}
+use Rattle.c_language.specs.DeclaredTypes.{written_type}
+use Rattle.c_language.specs.Phrases.{DefinesStruct, DeclaresFunction, EndsFunction, Phrases, member_phrases, taken_phrases, item_phrases, after_item}
+use Rattle.c_language.specs.Scopes.{Scope, closed, with_function}
+use Rattle.c_types_base.specs.Names.{listed_type}
 use Rattle.c_types_base.specs.Numbering.{Numbers, number_in}
-use Rattle.c_types_base.specs.Tables.{scope_of, AreRight, IsAt, Lists}
+use Rattle.c_types_base.specs.Tables.{scope_of, AreRight, IsAt}
 use Rattle.c_types_base.specs.declared.fault.Fault.{Fault}
 use Rattle.c_types_base.specs.declared.names.StructMembers.{StructMembers}
 use Rattle.c_types_base.specs.declared.numbering.Numbering.{Numbering}
 use Rattle.c_types_base.specs.declared.tables.Before.{Before}
 use Rattle.c_types_base.specs.declared.tables.Tables.{Tables}
-use Rattle.c_types_base.proofs.ScopeLaws.{Extends, then_extends}
+use Rattle.c_types_base.proofs.ScopeLaws.{Extends}
 use Rattle.c_types_base.proofs.TableLaws.{tables_typed}
-use Rattle.c_types_rules.specs.Checking.{Decides}
-use Rattle.c_types_rules.specs.DeclarationChecks.{has_name, check_struct, check_prototype, check_definition, check_end}
-use Rattle.c_types_rules.specs.Listing.{HasMembers, HasPlace, name_before, names_given, IsGiven}
-use Rattle.c_types_rules.specs.Stretches.{Stretch, then_comes, nothing, one_phrase, of_statements, of_members, of_taken, of_parameter, of_parameters, of_function, inside_function, of_item, of_items}
+use Rattle.c_types_rules.specs.Checking.{Decides, kept, when_given}
+use Rattle.c_types_rules.specs.DeclarationChecks.{check_type, check_complete, check_member, check_struct, check_prototype, check_definition, check_end}
+use Rattle.c_types_base.specs.Listing.{has_name, HasMembers, name_before, names_given, IsGiven}
+use Rattle.c_types_base.specs.Stretches.{Stretch, one_phrase, of_function, inside_function, of_item}
 use Rattle.c_types_rules.specs.Walks.{AreKept, Tells, Answers, Walks, on_line}
 use Rattle.c_types_rules.specs.declared.rule_fault.RuleFault.{RuleFault}
 use Rattle.c_types_rules.proofs.Checked.{check_answers, walks_phrase}
-use Rattle.c_types_rules.proofs.ListingLaws.{given_push, all_given}
-use Rattle.c_types_rules.proofs.Stretching.{here, parameters_grow, statements_grow, body_is, after_body_is}
+use Rattle.c_types_base.proofs.ListingLaws.{gone, named_before, given_push, all_given}
+use Rattle.c_types_base.proofs.TextSteps.{of_inside, inside_grows, inside, begin_phrase, end_phrase, define_phrases, define_after}
+use Rattle.c_types_rules.proofs.DeclaredLaws.{second_kept, test_passed}
 use Rattle.c_types_rules.proofs.WalkSteps.{Outcome, two, first_stops, kept_both, told_before, told_behind, cut}
 
 -- what holds of a fault holds of any answer that passes it on
 pub passes_fault : {A : Type 0} (P : Result A RuleFault → Type 0) (e : RuleFault) (r : Result A RuleFault) → IsErrAnd r (λ y. y ≡ e) → P (Err e) → P r
 passes_fault P e (Ok x) h k = absurd h
 passes_fault P e (Err y) h k = subst (λ (f : RuleFault). P (Err f)) (sym h) k
-
--- parts of lists from an element on
-pub members_here : (ms : List RawMember) (i : ℕ) (m : RawMember) (raw : RawProgram) → i < length ms → m ≡ get_or ms i m
-    → of_members (take i ms) (drop i ms) raw ≡ then_comes (one_phrase m.line (HasMember (take i ms) m)) (of_members (take (i + 1) ms) (drop (i + 1) ms)) raw
-members_here ms i m raw within is =
-    ap (λ rest. of_members (take i ms) rest raw) (here ms i m within is)
-    ∙ ap (λ before. then_comes (one_phrase m.line (HasMember (take i ms) m)) (of_members before (drop (i + 1) ms)) raw) (ap (λ x. take i ms ++ x ∷ []) is ∙ sym (take_more ms i m within))
-
-pub members_end : (ms : List RawMember) (i : ℕ) (raw : RawProgram) → length ms ≤ i → of_members (take i ms) (drop i ms) raw ≡ nothing raw
-members_end ms i raw all = ap (λ rest. of_members (take i ms) rest raw) (drop_all i ms all)
-
-pub taken_here : (ps : List RawParam) (i : ℕ) (p : RawParam) (raw : RawProgram) → i < length ps → p ≡ get_or ps i p
-    → of_taken (take i ps) (drop i ps) raw ≡ then_comes (one_phrase p.line (Takes (take i ps) p)) (of_taken (take (i + 1) ps) (drop (i + 1) ps)) raw
-taken_here ps i p raw within is =
-    ap (λ rest. of_taken (take i ps) rest raw) (here ps i p within is)
-    ∙ ap (λ before. then_comes (one_phrase p.line (Takes (take i ps) p)) (of_taken before (drop (i + 1) ps)) raw) (ap (λ x. take i ps ++ x ∷ []) is ∙ sym (take_more ps i p within))
-
-pub taken_end : (ps : List RawParam) (i : ℕ) (raw : RawProgram) → length ps ≤ i → of_taken (take i ps) (drop i ps) raw ≡ nothing raw
-taken_end ps i raw all = ap (λ rest. of_taken (take i ps) rest raw) (drop_all i ps all)
-
-pub parameters_here : (ps : List RawParam) (i : ℕ) (p : RawParam) (raw : RawProgram) → i < length ps → p ≡ get_or ps i p
-    → of_parameters (drop i ps) raw ≡ then_comes (of_parameter p) (of_parameters (drop (i + 1) ps)) raw
-parameters_here ps i p raw within is = ap (λ rest. of_parameters rest raw) (here ps i p within is)
-
-pub items_here : (xs : List RawItem) (i : ℕ) (x : RawItem) (raw : RawProgram) → i < length xs → x ≡ get_or xs i x
-    → of_items (drop i xs) raw ≡ then_comes (of_item x) (of_items (drop (i + 1) xs)) raw
-items_here xs i x raw within is = ap (λ rest. of_items rest raw) (here xs i x within is)
 
 -- the names of parameters
 some_same : {A : Type 0} {x y : A} → ◌≡◌ {A = Option A} (Some x) (Some y) → x ≡ y
@@ -116,15 +89,6 @@ module _ (t : Tables) (right : AreRight t) (line : ℕ) (tag : Bytes) (ms : List
     pub struct_walks : (new : Tables) → AreKept t.raw.now (member_phrases (scope_of t) [] ms) → IsAt t new (record (scope_of t) { structs = vec_len t.structs + 1 }) → Walks (of_item (Struct line tag ms)) t new (Ok tt)
     struct_walks new k at = two (one_phrase line (DefinesStruct tag)) (of_listed ms) t t new (Ok tt) (walks_phrase t right line (DefinesStruct tag) d h (Ok tt) is) (k, at)
 
-pub lists_members : (t : Tables) (tag : Bytes) (ms : List RawMember) (listed : StructMembers)
-    → slice_get (defined_structs t.raw.now) (vec_len t.structs) ≡ Some (record { tag = tag; members = ms }) → HasMembers t.raw.now ms listed → Lists t listed
-lists_members t tag ms listed place has =
-    let named = λ (name : Bytes). ap (option_and_then (λ (d : StructText). member_named d.members name)) place in
-    record {
-      there = λ name. has.there name ∙ ap is_some (sym (named name));
-      types = λ name. has.types name ∙ ap (option_and_then (λ (m : RawMember). written_type t.raw.now m.shape)) (sym (named name));
-    }
-
 -- a prototype
 abbrev of_signature : RawHead → Stretch
 of_signature head raw = record { gives = λ (scope : Scope). taken_phrases scope [] head.params; after = with_function head.name }
@@ -146,14 +110,6 @@ module _ (t : Tables) (right : AreRight t) (line : ℕ) (head : RawHead) (d : Re
         (subst (λ qs. AreKept t.raw.now (taken_phrases (scope_of t) [] qs)) same k, subst (λ w. IsAt t new (with_function w (scope_of t))) also at)
 
 -- the parameters and the body of a function
-abbrev pub of_inside : RawHead → List RawStatement → Stretch
-of_inside head body = then_comes (of_parameters head.params) (of_statements InBlock body)
-
-inside_grows : (raw : RawProgram) (head : RawHead) (body : List RawStatement) (x : Scope) → Extends x ((of_inside head body raw).after x)
-inside_grows raw head body x =
-    let y = with_parameters raw head.params x in
-    then_extends x y ((of_statements InBlock body raw).after y) (parameters_grow raw head.params x) (statements_grow raw InBlock body y)
-
 module _ (head : RawHead) (body : List RawStatement) (old opens : Tables) (enters : IsAt old opens (inside_function (scope_of old))) where
   pub function_stops : (new : Tables) (e : RuleFault) → Walks (of_inside head body) opens new (Err e) → Walks (of_function head body) old new (Err e)
   function_stops new e h =
@@ -179,39 +135,6 @@ module _ (head : RawHead) (body : List RawStatement) (old opens : Tables) (enter
       )
 
 -- the definition of a function
-functions_same : (found : Bool) (name : Bytes) (scope : Scope) → (if found then scope else with_entry name Meaning.Function scope).functions ≡ scope.functions
-functions_same true name scope = refl
-functions_same false name scope = refl
-
-module _ (raw : RawProgram) (line : ℕ) (head : RawHead) (body : List RawStatement) (scope : Scope) where
-  abbrev declared : Scope
-  declared = with_function head.name scope
-
-  enters_same : inside_function declared ≡ scope_of_parameters head scope
-  enters_same = ap (λ (n : ℕ). record (opened declared) { owner = Some n; functions = n + 1 }) (functions_same (is_some (meaning_here scope head.name)) head.name scope)
-
-  abbrev inside : Phrases
-  inside = (of_function head body raw).gives declared
-
-  abbrev begin_phrase : Phrases
-  begin_phrase = phrase line scope (DeclaresFunction head true) ∷ []
-
-  abbrev end_phrase : Phrases
-  end_phrase = phrase line scope (EndsFunction head body) ∷ []
-
-  inside_is : inside ≡ head_phrases raw head.params (scope_of_parameters head scope) ++ body_phrases raw body (entered raw head scope)
-  inside_is =
-      ap (of_inside head body raw).gives enters_same
-      ∙ ap (λ ps. head_phrases raw head.params (scope_of_parameters head scope) ++ ps) (sym (body_is raw body (entered raw head scope)))
-
-  pub define_phrases : begin_phrase ++ (inside ++ end_phrase) ≡ item_phrases raw (Define line head body) scope
-  define_phrases =
-      ap (λ ps. begin_phrase ++ (ps ++ end_phrase)) inside_is
-      ∙ ap (λ ps. begin_phrase ++ ps) (append_assoc (head_phrases raw head.params (scope_of_parameters head scope)) (body_phrases raw body (entered raw head scope)) end_phrase)
-
-  pub define_after : (of_function head body raw).after declared ≡ after_item raw (Define line head body) scope
-  define_after = ap (closed declared) (ap (of_inside head body raw).after enters_same ∙ sym (after_body_is raw body (entered raw head scope)))
-
 module _ (t : Tables) (right : AreRight t) (line : ℕ) (head : RawHead) (body : List RawStatement) where
   abbrev whole : Phrases
   whole = item_phrases t.raw.now (Define line head body) (scope_of t)
@@ -275,9 +198,13 @@ module _ (t : Tables) (right : AreRight t) (line : ℕ) (head : RawHead) (body :
 pub item_walks : (one x : RawItem) (old new : Tables) (r : Outcome) → one ≡ x → Walks (of_item x) old new r → Walks (of_item one) old new r
 item_walks one x old new r is h = subst (λ y. Walks (of_item y) old new r) (sym is) h
 
-pub has_place : (raw : RawProgram) (count : ℕ) (one x : RawItem) → one ≡ x → HasPlace raw count one → HasPlace raw count x
-has_place raw count one x is h = subst (HasPlace raw count) is h
+module _ (raw : RawProgram) (scope : Scope) (before : List RawMember) (m : RawMember) (listed : StructMembers) (is : HasMembers raw before listed) where
+  not_named : (b : Bool) → not b ≡ true → b ≡ false
+  not_named true h = absurd (true≢false (sym h))
+  not_named false h = refl
 
--- one element more
-pub with_next : {A : Type 0} (xs : List A) (i : ℕ) (x : A) → i < length xs → x ≡ get_or xs i x → take i xs ++ x ∷ [] ≡ take (i + 1) xs
-with_next xs i x within is = ap (λ y. take i xs ++ y ∷ []) is ∙ sym (take_more xs i x within)
+  -- a member that passes its check has a new name
+  pub member_fresh : check_member raw scope before m ≡ kept → listed_type m.name listed ≡ None
+  member_fresh h =
+      gone (listed_type m.name listed)
+      (named_before raw scope before m listed is ∙ not_named _ (test_passed _ 8 kept (second_kept (when_given (check_complete raw scope) (written_type raw m.shape)) _ (second_kept (check_type raw scope m.shape) _ h))))

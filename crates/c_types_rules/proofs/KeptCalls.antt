@@ -1,6 +1,6 @@
 -- A call, an allocation or a switch that passes its check breaks no rule.
-use Rattle.std.proofs.Common.{◌≡◌, ◌≢◌, ℕ, List, [], ◌∷◌, Bool, true, false, Option, Some, None, refl}
-use Rattle.std.specs.Prelude.{◌&&◌, Contains, bytes_eq, codes, option_and_then}
+use Rattle.std.proofs.Common.{◌≡◌, ◌≢◌, ℕ, List, Bool, true, false, Option, Some, None, refl}
+use Rattle.std.specs.Prelude.{◌&&◌, Contains, bytes_eq, codes}
 use Rattle.c_tree.specs.declared.raw.expr.RawExpr.{RawExpr}
 use Rattle.c_tree.specs.declared.raw.expr.RawVar.{RawVar}
 use Rattle.c_tree.specs.declared.raw.program.RawInit.TheVariants as init
@@ -9,7 +9,6 @@ use Rattle.c_tree.specs.declared.raw.statement.RawTarget.{RawTarget}
 use Rattle.c_tree.specs.declared.raw.statement.RawTarget.TheVariants as place
 use Rattle.c_tree.specs.declared.raw.statement.RawArg.{RawArg}
 use Rattle.c_tree.specs.declared.raw.statement.RawTypeName.{RawTypeName}
-use Rattle.c_tree.specs.declared.raw.statement.RawSize.{RawSize}
 use Rattle.c_tree.specs.declared.raw.statement.RawSize.TheVariants as size
 use Rattle.c_tree.specs.declared.raw.statement.RawAmount.{RawAmount}
 use Rattle.c_tree.specs.declared.raw.statement.RawLabel.{RawLabel}
@@ -19,16 +18,16 @@ use Rattle.c_language.specs.DeclaredTypes.{has_stdio, has_stdlib, definition_of,
 use Rattle.c_language.specs.Scopes.{Scope, Meaning, meaning_in}
 use Rattle.c_language.specs.ExprTypes.{is_scalar, value_type, target_of}
 use Rattle.c_language.specs.ExprRules.{is_complete}
-use Rattle.c_language.specs.Phrases.{Stand, Part, Begins, Calls, Allocates, Switches}
+use Rattle.c_language.specs.Phrases.{Stand, Begins, Calls, Allocates, Switches}
 use Rattle.c_language.specs.TypeGrammar.{named_type}
-use Rattle.c_language.specs.Uses.{sizes, cases, target_exprs, arg_exprs, is_library_function}
+use Rattle.c_language.specs.Uses.{sizes, cases, arg_exprs, is_library_function}
 use Rattle.c_language.specs.Rules.{Breaks, undeclared, declared_again, shadowing, library_name, main, no_definition, tag, member, no_element, no_constant, switch, operator, other_type, no_place, address, arguments, result, return, format, allocation, library, initialiser, misplaced, no_header}
 use Rattle.c_language.specs.NameRules.{main_name, UsesUndeclared, MisusesMain, LacksDefinition, LacksHeader}
 use Rattle.c_language.specs.StructRules.{MisusesTag, MisnamesMember}
 use Rattle.c_language.specs.ArrayRules.{HasNoElement, LacksConstant, MisusesInitialiser}
 use Rattle.c_language.specs.TypeRules.{MisusesOperator, AssignsNoPlace, IsNoTarget, MisusesAddress}
 use Rattle.c_language.specs.SwitchRules.{MisusesSwitch, MisplacesDeclaration}
-use Rattle.c_language.specs.CallRules.{MisusesArguments, MisusesResult, MisusesFormat, MisusesAllocation, MisusesLibrary, target_type}
+use Rattle.c_language.specs.CallRules.{MisusesArguments, MisusesResult, MisusesFormat, MisusesAllocation, MisusesLibrary}
 use Rattle.c_language.specs.declared.expr_type.ExprType.{ExprType}
 use Rattle.c_types_base.proofs.JudgingLaws.{Keeps, contains_nil}
 use Rattle.c_types_base.proofs.PhraseLemmas.{clash, AreClean}

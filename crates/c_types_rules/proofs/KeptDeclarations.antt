@@ -1,5 +1,5 @@
 -- A declaration or a definition that passes its check breaks no rule.
-use Rattle.std.proofs.Common.{◌≡◌, ◌≢◌, ℕ, ◌<◌, ◌≤◌, ℤ, List, [], ◌∷◌, Bool, true, false, Option, Some, None, refl, sym, subst, arith}
+use Rattle.std.proofs.Common.{◌≡◌, ◌≢◌, ℕ, ◌≤◌, ℤ, List, [], Bool, true, false, Option, Some, None, refl, sym, subst, arith}
 use Rattle.std.specs.Prelude.{Contains, take, length}
 use Rattle.c_arith.specs.declared.int_type.IntType.TheVariants.{Int}
 use Rattle.c_tree.specs.declared.raw.expr.RawExpr.{RawExpr}
@@ -16,7 +16,7 @@ use Rattle.c_language.specs.Words.{Bytes}
 use Rattle.c_language.specs.ConstantEvaluation.{value_of_constant}
 use Rattle.c_language.specs.DeclaredTypes.{StructText, defined_structs, struct_id, definition_of, written_type, variable_type, positive}
 use Rattle.c_language.specs.Scopes.{Scope, Meaning, meaning_in, meaning_here}
-use Rattle.c_language.specs.ExprTypes.{operand, is_scalar, is_assignable}
+use Rattle.c_language.specs.ExprTypes.{is_scalar, is_assignable}
 use Rattle.c_language.specs.ExprRules.{is_complete}
 use Rattle.c_language.specs.Phrases.{Stand, InFile, InArm, Part, NamesStruct, DefinesStruct, HasMember, DeclaresFunction, Takes, EndsFunction, Declares, Begins}
 use Rattle.c_language.specs.Uses.{tags, lengths, is_library_name}
@@ -28,7 +28,6 @@ use Rattle.c_language.specs.TypeRules.{MisusesOperator, AssignsOtherType, Misuse
 use Rattle.c_language.specs.CallRules.{MisusesReturn, EndsWithValue}
 use Rattle.c_language.specs.SwitchRules.{MisplacesDeclaration}
 use Rattle.c_language.specs.declared.expr_type.ExprType.{ExprType}
-use Rattle.c_language.specs.declared.expr_type.Operand.{Operand}
 use Rattle.c_types_base.proofs.JudgingLaws.{contains_nil}
 use Rattle.c_types_base.proofs.PhraseLemmas.{clash, AreClean}
 use Rattle.c_types_rules.proofs.KeptPhrases.{OfOperand}

@@ -1,6 +1,6 @@
 -- A phrase that passes its check breaks no rule.
-use Rattle.std.proofs.Common.{◌≡◌, ◌≢◌, ℕ, List, [], ◌∷◌, Bool, true, false, Option, Some, None, refl}
-use Rattle.std.specs.Prelude.{◌&&◌, Contains}
+use Rattle.std.proofs.Common.{◌≡◌, ◌≢◌, ℕ, Bool, true, false, Some, None, refl}
+use Rattle.std.specs.Prelude.{◌&&◌}
 use Rattle.c_arith.specs.declared.operators.BinaryOp.{BinaryOp}
 use Rattle.c_arith.specs.declared.operators.BinaryOp.TheVariants.{Add}
 use Rattle.c_tree.specs.declared.raw.expr.RawExpr.{RawExpr}
@@ -10,7 +10,7 @@ use Rattle.c_language.specs.DeclaredTypes.{result_type}
 use Rattle.c_language.specs.Scopes.{Scope}
 use Rattle.c_language.specs.ExprTypes.{operand, a_value, value_type, is_scalar, binary_result, is_assignable}
 use Rattle.c_language.specs.ExprRules.{holds_of, points_to_incomplete, moves_incomplete}
-use Rattle.c_language.specs.Phrases.{Part, Assigns, Bumps, Tests, Returns}
+use Rattle.c_language.specs.Phrases.{Assigns, Bumps, Tests, Returns}
 use Rattle.c_language.specs.Rules.{Breaks, undeclared, declared_again, shadowing, library_name, main, no_definition, tag, member, no_element, no_constant, switch, operator, other_type, no_place, address, arguments, result, return, format, allocation, library, initialiser, misplaced, no_header}
 use Rattle.c_language.specs.NameRules.{UsesUndeclared, LacksHeader}
 use Rattle.c_language.specs.StructRules.{MisusesTag, MisnamesMember}

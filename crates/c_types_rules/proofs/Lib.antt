@@ -19,16 +19,13 @@ pub mod KeptCalls
 pub mod KeptDeclarations
 pub mod KeptPhrases
 pub mod LabelLemmas
-pub mod ListingLaws
 pub mod ParameterLemmas
-pub mod PhraseForms
 pub mod PhraseLaws
 pub mod PieceLemmas
 pub mod PlaceLemmas
 pub mod PointerLemmas
 pub mod ReturnLemmas
 pub mod StatementSteps
-pub mod Stretching
 pub mod SwitchLemmas
 pub mod TestLemmas
 pub mod TextLaws

@@ -1,5 +1,5 @@
 -- The check of a phrase of any kind tells a rule exactly where the phrase breaks one.
-use Rattle.std.proofs.Common.{◌≡◌, ℕ, Bool, true, false, Option, Some, None, Result, Ok, Err, refl, sym, subst}
+use Rattle.std.proofs.Common.{◌≡◌, ℕ, Bool, true, false, Ok, Err, refl, subst}
 use Rattle.c_tree.specs.declared.raw.program.RawHead.{RawHead}
 use Rattle.c_tree.specs.declared.raw.program.RawProgram.{RawProgram}
 use Rattle.c_language.specs.Scopes.{Scope}

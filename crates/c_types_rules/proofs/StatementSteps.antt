@@ -17,12 +17,12 @@ use Rattle.c_types_base.specs.declared.fault.Fault.{Fault}
 use Rattle.c_types_base.specs.declared.tables.Before.{Before}
 use Rattle.c_types_base.specs.declared.tables.Tables.{Tables}
 use Rattle.c_types_rules.specs.Checking.{Decides, check_test}
-use Rattle.c_types_rules.specs.Stretches.{Stretch, then_comes, enclosed, a_number, a_statement, one_phrase, standing, of_statement, of_form, of_statements, of_block, of_arm, of_arms, of_part, of_for, labels_in}
+use Rattle.c_types_base.specs.Stretches.{Stretch, then_comes, enclosed, a_number, a_statement, one_phrase, standing, of_statement, of_form, of_statements, of_block, of_arm, of_arms, of_part, of_for, labels_in}
 use Rattle.c_types_rules.specs.Walks.{AreKept, Tells, Walks, on_line}
 use Rattle.c_types_rules.specs.declared.rule_fault.RuleFault.{RuleFault}
 use Rattle.c_types_rules.proofs.Checked.{walks_phrase}
-use Rattle.c_types_rules.proofs.PhraseForms.{scoped-Declare, scoped-If, scoped-While, scoped-Do, scoped-Switch, scoped-Block}
-use Rattle.c_types_rules.proofs.Stretching.{arm_is, for_is, for_grows, labels-arms}
+use Rattle.c_types_base.proofs.PhraseForms.{scoped-Declare, scoped-If, scoped-While, scoped-Do, scoped-Switch, scoped-Block}
+use Rattle.c_types_base.proofs.Stretching.{arm_is, for_is, for_grows, labels-arms}
 use Rattle.c_types_rules.proofs.WalkSteps.{Outcome, Passed, begins, turn, stops, ends, restated, two, first_stops, encloses, enclosed_stops}
 
 labels-append : (xs : List RawArm) (a : RawArm) → labels_in (xs ++ a ∷ []) ≡ labels_in xs ++ a.labels

@@ -1,6 +1,6 @@
 -- The tests of the labels of a switch.
-use Rattle.std.proofs.Common.{◌≡◌, ℕ, zero, suc, ◌<◌, ◌≤◌, ℤ, List, [], ◌∷◌, Bool, true, false, Option, Some, None, refl, sym, ap, subst, ◌∙◌, arith, ◌⊎◌, inl, inr}
-use Rattle.std.specs.Prelude.{◌&&◌, not, Contains}
+use Rattle.std.proofs.Common.{◌≡◌, ◌<◌, ◌≤◌, ℤ, List, [], ◌∷◌, true, false, Option, Some, None, refl, sym, ap, subst, ◌∙◌, arith, inl, inr}
+use Rattle.std.specs.Prelude.{not, Contains}
 use Rattle.std.specs.List.{list_any}
 use Rattle.std.specs.Ordering.{int_eq}
 use Rattle.std.proofs.lemmas.Bool.Decides.{Decides-int_eq}
@@ -16,7 +16,7 @@ use Rattle.c_types_rules.specs.CallChecks.{with_case, case_values, are_distinct,
 use Rattle.c_types_base.proofs.JudgingLaws.{contains_nil, contains_cons, contains_first, contains_later}
 use Rattle.c_types_base.proofs.PhraseLemmas.{clash}
 use Rattle.c_types_rules.proofs.KeptPhrases.{both_true}
-use Rattle.c_types_rules.proofs.TestLemmas.{none_some, same_some, both_false, not_true, not_false, any_passes, none_passes}
+use Rattle.c_types_rules.proofs.TestLemmas.{both_false, not_true, not_false, any_passes, none_passes}
 
 -- ---- cases
 

@@ -11,7 +11,7 @@ use Rattle.c_language.specs.Scopes.{outset}
 use Rattle.c_types_base.specs.Tables.{scope_of}
 use Rattle.c_types_base.specs.declared.tables.Tables.{Tables}
 use Rattle.c_types_base.proofs.JudgingLaws.{contains_first, contains_later, contains_cons, contains_nil}
-use Rattle.c_types_rules.specs.Stretches.{of_items}
+use Rattle.c_types_base.specs.Stretches.{of_items}
 use Rattle.c_types_rules.specs.Walks.{KeepsAll, AreKept, BreaksOn, HasBroken, Tells, Walks, NamesBroken}
 use Rattle.c_types_rules.specs.declared.rule_fault.RuleFault.{RuleFault}
 use Rattle.c_types_rules.specs.declared.rule_fault.RuleFault.TheVariants.{Rule, NoMemory}

@@ -8,7 +8,7 @@ use Rattle.c_types_base.specs.Tables.{scope_of, AreRight, IsAt}
 use Rattle.c_types_base.specs.declared.tables.Tables.{Tables}
 use Rattle.c_types_base.specs.declared.tables.Before.{Before}
 use Rattle.c_types_base.proofs.ScopeLaws.{Extends, front}
-use Rattle.c_types_rules.specs.Stretches.{Stretch, then_comes, nothing, enclosed}
+use Rattle.c_types_base.specs.Stretches.{Stretch, then_comes, nothing, enclosed}
 use Rattle.c_types_rules.specs.Walks.{AreKept, HasBroken, Tells, Walks}
 use Rattle.c_types_rules.specs.declared.rule_fault.RuleFault.{RuleFault}
 use Rattle.c_types_rules.specs.declared.rule_fault.RuleFault.TheVariants.{Rule, NoMemory}

@@ -28,6 +28,7 @@ use Rattle.c_language.specs.NameRules.{main_name, same_signature}
 use Rattle.c_language.specs.ArrayRules.{element_of, count_of}
 use Rattle.c_language.specs.declared.expr_type.ExprType.{ExprType}
 use Rattle.c_language.specs.declared.expr_type.Operand.{Operand}
+use Rattle.c_types_base.specs.Listing.{has_name}
 use Rattle.c_types_rules.specs.Checking.{Verdict, kept, unless_broken, given_or, when_given, then_kept, all_kept, judging, check_expr}
 
 -- one of the struct types that are complete has the tag
@@ -45,10 +46,6 @@ abbrev pub is_variable : Option Meaning → Bool
 is_variable None = false
 is_variable (Some Meaning.Function) = false
 is_variable (Some (Meaning.Variable id t)) = true
-
-abbrev pub has_name : Bytes → Option Bytes → Bool
-has_name name None = false
-has_name name (Some other) = bytes_eq other name
 
 abbrev pub is_int : IntType → Bool
 is_int Int = true

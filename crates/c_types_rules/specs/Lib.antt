@@ -3,10 +3,8 @@ pub mod Checking
 pub mod Conversions
 pub mod DeclarationChecks
 pub mod Labels
-pub mod Listing
 pub mod PhraseChecks
 pub mod Pointers
 pub mod Stands
-pub mod Stretches
 pub mod Targets
 pub mod Walks

@@ -7,7 +7,7 @@ use Rattle.c_types_base.specs.Tables.{scope_of, IsAt}
 use Rattle.c_types_base.specs.declared.fault.Fault.{Fault}
 use Rattle.c_types_base.specs.declared.fault.Fault.TheVariants as fault
 use Rattle.c_types_base.specs.declared.tables.Tables.{Tables}
-use Rattle.c_types_rules.specs.Stretches.{Stretch}
+use Rattle.c_types_base.specs.Stretches.{Stretch}
 use Rattle.c_types_rules.specs.declared.rule_fault.RuleFault.{RuleFault}
 use Rattle.c_types_rules.specs.declared.rule_fault.RuleFault.TheVariants.{Rule, NoMemory}
 

@@ -10,6 +10,7 @@ ghost use Rattle.c_language.specs.Scopes as scopes;
 ghost use Rattle.c_language.specs.Scopes.{Scope};
 ghost use Rattle.c_language.specs.Uses as uses;
 ghost use Rattle.c_language.specs.Words.{Bytes};
+ghost use Rattle.c_types_base.specs.Listing as listing;
 ghost use Rattle.c_types_base.specs.Tables.{scope_of, AreRight};
 ghost use Rattle.c_types_rules.specs.Checking.{Decides, all_kept, given_or, kept, unless_broken};
 ghost use Rattle.c_types_rules.specs.DeclarationChecks as spec;
@@ -201,7 +202,7 @@ pub fn check_parameter(
     parameter: &RawParam,
 ) -> Result<(), Fault>
     requires { AreRight tables.now }
-    ensures { (before : List RawParam) → ((name : Bytes) → parameter.now.name ≡ Some name → is_named ≡ list_any (λ (q : RawParam). spec.has_name name q.name) before) → Decides (spec.check_parameter tables.now.raw.now (scope_of tables.now) before parameter.now) result }
+    ensures { (before : List RawParam) → ((name : Bytes) → parameter.now.name ≡ Some name → is_named ≡ list_any (λ (q : RawParam). listing.has_name name q.name) before) → Decides (spec.check_parameter tables.now.raw.now (scope_of tables.now) before parameter.now) result }
 {
     check_tags(tables, &parameter.shape)?;
     let Some(name) = &parameter.name else {

@@ -9,10 +9,10 @@ ghost use Rattle.c_language.specs.Scopes as scopes;
 ghost use Rattle.c_types_base.specs.Names.{listed_type};
 ghost use Rattle.c_types_base.specs.Numbering.{Numbers};
 ghost use Rattle.c_types_base.specs.Tables.{scope_of, AreRight};
-ghost use Rattle.c_types_rules.specs.Stretches.{of_parameter, of_parameters, of_function, of_item, of_items};
+ghost use Rattle.c_types_base.specs.Stretches.{of_parameter, of_parameters, of_function, of_item, of_items};
 ghost use Rattle.c_types_rules.specs.Walks.{Answers, Walks};
-ghost use Rattle.c_types_rules.specs.Listing as spec;
-ghost use Rattle.c_types_rules.specs.Listing.{HasMembers, HasPlace};
+ghost use Rattle.c_types_base.specs.Listing as spec;
+ghost use Rattle.c_types_base.specs.Listing.{HasMembers, HasPlace};
 
 use crate::declaration_checks::check_tag;
 use crate::declared_checks::{check_declared_parameter, check_member, check_struct};

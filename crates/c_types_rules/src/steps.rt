@@ -7,7 +7,7 @@ ghost use Rattle.c_types_base.specs.Tables.{scope_of, AreRight, IsAt};
 ghost use Rattle.c_types_rules.specs.Checking.{Decides};
 ghost use Rattle.c_types_rules.specs.PhraseChecks.{check_part};
 ghost use Rattle.c_types_rules.specs.Stands.{stand_of};
-ghost use Rattle.c_types_rules.specs.Stretches.{then_comes, a_statement, of_declaration, of_target, of_form};
+ghost use Rattle.c_types_base.specs.Stretches.{then_comes, a_statement, of_declaration, of_target, of_form};
 ghost use Rattle.c_types_rules.specs.Walks as spec;
 ghost use Rattle.c_types_rules.specs.Walks.{Answers, Walks};
 ghost use Rattle.c_tree.specs.declared.raw.statement.RawStatement.TheOpen.{RawStatement-F};

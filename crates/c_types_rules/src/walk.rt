@@ -6,7 +6,7 @@ ghost use Rattle.c_tree.specs.declared.raw.statement.RawStatement.TheOpen.{RawSt
 ghost use Rattle.c_language.specs.Phrases as phrases;
 ghost use Rattle.c_types_base.specs.Tables.{AreRight};
 ghost use Rattle.c_types_rules.specs.Stands.{stand_of};
-ghost use Rattle.c_types_rules.specs.Stretches.{enclosed, a_statement, of_statement, of_statements, of_block, of_arms, of_part, labels_in};
+ghost use Rattle.c_types_base.specs.Stretches.{enclosed, a_statement, of_statement, of_statements, of_block, of_arms, of_part, labels_in};
 ghost use Rattle.c_types_rules.specs.Walks.{Walks};
 
 use crate::checking::check_test;

@@ -1,6 +1,6 @@
 use Rattle.c_tree.specs.declared.raw.program.RawItem.TheVariants as item_of
 use Rattle.c_types_base.specs.Tables.{scope_of}
-use Rattle.c_types_rules.specs.Stretches.{of_item}
+use Rattle.c_types_base.specs.Stretches.{of_item}
 use Rattle.c_types_rules.specs.Walks.{Walks}
 use Rattle.c_types_rules.proofs.ItemSteps.{define_stops, inside_stops, define_walks}
 use Rattle.c_types_rules.proofs.WalkSteps.{passes_on}

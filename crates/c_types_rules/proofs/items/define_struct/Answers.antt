@@ -1,5 +1,5 @@
 use Rattle.c_tree.specs.declared.raw.program.RawItem.TheVariants as item_of
-use Rattle.c_types_rules.specs.Stretches.{of_item}
+use Rattle.c_types_base.specs.Stretches.{of_item}
 use Rattle.c_types_rules.specs.Walks.{Walks}
 use Rattle.c_types_rules.proofs.ItemSteps.{struct_stops, struct_walks}
 use Rattle.c_types_rules.proofs.WalkSteps.{passes_on}

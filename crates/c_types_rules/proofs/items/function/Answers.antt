@@ -1,6 +1,6 @@
 use Rattle.std.proofs.Common.{subst, Ok, Err}
 use Rattle.c_language.specs.Phrases as phrases
-use Rattle.c_types_rules.specs.Stretches.{of_parameters, of_statements, of_function}
+use Rattle.c_types_base.specs.Stretches.{of_parameters, of_statements, of_function}
 use Rattle.c_types_rules.specs.Walks.{Walks}
 use Rattle.c_types_rules.proofs.ItemSteps.{function_stops, function_walks}
 use Rattle.c_types_rules.proofs.WalkSteps.{two, first_stops, passes_on}

@@ -2,11 +2,11 @@ use Rattle.std.proofs.Common.{ap, sym, ◌∙◌, ◌+◌, drop}
 use Rattle.c_tree.specs.declared.raw.program.RawProgram.{RawProgram}
 use Rattle.c_language.specs.Scopes.{Scope}
 use Rattle.c_types_base.specs.Tables.{scope_of}
-use Rattle.c_types_rules.specs.Stretches.{then_comes, of_item, of_items}
+use Rattle.c_types_base.specs.Stretches.{then_comes, of_item, of_items}
 use Rattle.c_types_rules.specs.Walks.{Walks}
-use Rattle.c_types_rules.proofs.ItemSteps.{items_here}
-use Rattle.c_types_rules.proofs.ListingLaws.{item_outer, item_structs, structs_more, placed}
-use Rattle.c_types_rules.proofs.Stretching.{here}
+use Rattle.c_types_base.proofs.TextSteps.{items_here}
+use Rattle.c_types_base.proofs.ListingLaws.{item_outer, item_structs, structs_more, placed}
+use Rattle.c_types_base.proofs.Stretching.{here}
 use Rattle.c_types_rules.proofs.WalkSteps.{left_same, turn, stops, passes_on}
 use Rattle.c_types_rules.proofs.items.items.Goals as goal
 

@@ -1,6 +1,6 @@
 use Rattle.std.proofs.Common.{◌≡◌, drop, take, length, vec_len}
 use Rattle.c_language.specs.DeclaredTypes.{structs_of}
-use Rattle.c_types_rules.specs.Stretches.{of_items}
+use Rattle.c_types_base.specs.Stretches.{of_items}
 use Rattle.c_types_rules.proofs.WalkSteps.{Passed}
 use Rattle.c_types_rules.proofs.items.items.Given as goal
 

@@ -3,7 +3,7 @@ use Rattle.std.specs.Map.{update}
 use Rattle.std.proofs.lemmas.Map.Text.{hash_map_updates_str}
 use Rattle.c_language.specs.DeclaredTypes as types
 use Rattle.c_types_base.specs.Names.{listed_type}
-use Rattle.c_types_rules.proofs.ListingLaws.{member_listed}
+use Rattle.c_types_base.proofs.ListingLaws.{member_listed}
 use Rattle.c_types_rules.proofs.items.list_member.Goals as goal
 
 pub returns : goal.returns

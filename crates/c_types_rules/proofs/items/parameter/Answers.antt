@@ -2,7 +2,7 @@ use Rattle.std.proofs.Common.{ap, sym, ◌∙◌, Some, Ok, Err, refl}
 use Rattle.c_tree.specs.declared.raw.program.RawInit.TheVariants as init
 use Rattle.c_language.specs.Phrases as phrases
 use Rattle.c_language.specs.Scopes.{parameter_of}
-use Rattle.c_types_rules.specs.Stretches.{of_parameter}
+use Rattle.c_types_base.specs.Stretches.{of_parameter}
 use Rattle.c_types_rules.specs.Walks.{Walks}
 use Rattle.c_types_rules.proofs.DeclaredSteps.{declaration_stops, declared_typed, declaration_walks, parameter_walks}
 use Rattle.c_types_rules.proofs.WalkSteps.{passes_on}

@@ -1,7 +1,7 @@
 use Rattle.std.proofs.Common.{drop, ◌+◌}
-use Rattle.c_types_rules.specs.Stretches.{then_comes, of_parameter, of_parameters}
+use Rattle.c_types_base.specs.Stretches.{then_comes, of_parameter, of_parameters}
 use Rattle.c_types_rules.specs.Walks.{Walks}
-use Rattle.c_types_rules.proofs.ItemSteps.{parameters_here}
+use Rattle.c_types_base.proofs.TextSteps.{parameters_here}
 use Rattle.c_types_rules.proofs.WalkSteps.{left_same, turn, stops, passes_on}
 use Rattle.c_types_rules.proofs.items.parameters.Goals as goal
 

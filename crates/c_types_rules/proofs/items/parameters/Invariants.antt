@@ -1,5 +1,5 @@
 use Rattle.std.proofs.Common.{drop}
-use Rattle.c_types_rules.specs.Stretches.{of_parameters}
+use Rattle.c_types_base.specs.Stretches.{of_parameters}
 use Rattle.c_types_rules.proofs.WalkSteps.{Passed}
 use Rattle.c_types_rules.proofs.items.parameters.Given as goal
 

@@ -1,5 +1,5 @@
 use Rattle.std.proofs.Common.{sym}
-use Rattle.c_types_rules.specs.Stretches.{a_statement}
+use Rattle.c_types_base.specs.Stretches.{a_statement}
 use Rattle.c_types_rules.specs.Walks.{Walks}
 use Rattle.c_types_rules.proofs.Checked.{walks_numbered, number_stops}
 use Rattle.c_types_rules.proofs.WalkSteps.{passes_on}

@@ -13,8 +13,8 @@ use Rattle.c_language.specs.Words.{Bytes}
 use Rattle.c_language.specs.Scopes.{Scope, Scoped, opened, with_named, with_parameter, with_parameters, parameter_of, in_order, after_all}
 use Rattle.c_language.specs.Phrases.{Stand, InFor, InBlock, InArm, Phrases, joined_at, ArmText, labels_of, phrases_step, scoped_step, scoped_arm, scoped, scoped_of_arm, body_phrases, after_body}
 use Rattle.c_types_base.proofs.ScopeLaws.{Extends, stays, then_extends, variable_extends, block_extends, statement_grows}
-use Rattle.c_types_rules.specs.Stretches.{then_comes, nothing, enclosed, a_number, standing, of_statement, of_statements, of_block, of_arm, of_arms, of_part, of_for, of_parameters, labels_in}
-use Rattle.c_types_rules.proofs.PhraseForms.{scoped-For}
+use Rattle.c_types_base.specs.Stretches.{then_comes, nothing, enclosed, a_number, standing, of_statement, of_statements, of_block, of_arm, of_arms, of_part, of_for, of_parameters, labels_in}
+use Rattle.c_types_base.proofs.PhraseForms.{scoped-For}
 
 -- what is left of a list from an element on
 pub here : {A : Type 0} (xs : List A) (i : ℕ) (x : A) → i < length xs → x ≡ get_or xs i x → drop i xs ≡ x ∷ drop (i + 1) xs

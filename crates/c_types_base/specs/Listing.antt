@@ -1,5 +1,5 @@
 -- What is listed of members, parameters and items along a text.
-use Rattle.std.specs.Prelude.{◌≡◌, ℕ, Bool, List, [], ◌∷◌, is_some, Option, Some, None, option_and_then, slice_get}
+use Rattle.std.specs.Prelude.{◌≡◌, ℕ, Bool, false, List, [], ◌∷◌, is_some, Option, Some, None, option_and_then, slice_get, bytes_eq}
 use Rattle.std.specs.List.{list_any}
 use Rattle.c_tree.specs.declared.raw.program.RawMember.{RawMember}
 use Rattle.c_tree.specs.declared.raw.program.RawParam.{RawParam}
@@ -11,7 +11,6 @@ use Rattle.c_language.specs.DeclaredTypes.{defined_structs, written_type}
 use Rattle.c_language.specs.ExprTypes.{member_named}
 use Rattle.c_types_base.specs.Names.{listed_type}
 use Rattle.c_types_base.specs.declared.names.StructMembers.{StructMembers}
-use Rattle.c_types_rules.specs.DeclarationChecks.{has_name}
 
 -- the members are listed with their types
 pub record HasMembers (raw : RawProgram) (members : List RawMember) (listed : StructMembers) : Type 0 where
@@ -26,6 +25,11 @@ name_before (Some name) names = name ∷ names
 abbrev pub names_given : List RawParam → List Bytes
 names_given [] = []
 names_given (p ∷ ps) = name_before p.name (names_given ps)
+
+-- whether this is the name
+abbrev pub has_name : Bytes → Option Bytes → Bool
+has_name name None = false
+has_name name (Some other) = bytes_eq other name
 
 -- whether the name of a parameter, where it has one, is that of one before it
 abbrev pub IsGiven : List RawParam → RawParam → Bool → Type 0

@@ -1,6 +1,6 @@
 -- What is listed of members, parameters and items grows one by one.
 use Rattle.std.proofs.Common.{◌≡◌, ℕ, suc, ◌+◌, ◌<◌, List, [], ◌∷◌, ◌++◌, length, take, drop, get_or, Bool, true, false, cond, Option, Some, None, option_map, find, slice_get, option_and_then, bytes_eq, is_some, refl, sym, ap, ◌∙◌, true≢false, arith}
-use Rattle.std.specs.Prelude.{◌||◌, not, if◌then◌else◌}
+use Rattle.std.specs.Prelude.{◌||◌, if◌then◌else◌}
 use Rattle.std.specs.List.{list_any}
 use Rattle.std.specs.Map.{update}
 use Rattle.std.proofs.lemmas.List.{take-append-drop, take_more, length-append}
@@ -23,11 +23,8 @@ use Rattle.c_types_base.specs.Numbering.{number_among}
 use Rattle.c_types_base.specs.declared.names.StructMembers.{StructMembers}
 use Rattle.c_types_base.proofs.DefinitionLemmas.{structs-append}
 use Rattle.c_types_base.proofs.NumberingLemmas.{or_else, position-cons}
-use Rattle.c_types_rules.specs.Checking.{kept, when_given}
-use Rattle.c_types_rules.specs.DeclarationChecks.{has_name, check_type, check_complete, check_member}
-use Rattle.c_types_rules.specs.Listing.{HasMembers, HasPlace, name_before, names_given}
-use Rattle.c_types_rules.proofs.DeclaredLaws.{second_kept, test_passed}
-use Rattle.c_types_rules.proofs.Stretching.{parameters_grow, statements_grow, after_body_is}
+use Rattle.c_types_base.specs.Listing.{has_name, HasMembers, HasPlace, name_before, names_given}
+use Rattle.c_types_base.proofs.Stretching.{parameters_grow, statements_grow, after_body_is}
 
 or_nothing : {A : Type 0} (o : Option A) → or_else o None ≡ o
 or_nothing None = refl
@@ -53,7 +50,7 @@ pub found_any : {A : Type 0} (p : A → Bool) (xs : List A) → is_some (find p 
 found_any p [] = refl
 found_any p (x ∷ xs) = any_found (p x) x (find p xs) (list_any p xs) (found_any p xs)
 
-gone : {A : Type 0} (o : Option A) → is_some o ≡ false → o ≡ None
+pub gone : {A : Type 0} (o : Option A) → is_some o ≡ false → o ≡ None
 gone None h = refl
 gone (Some x) h = absurd (true≢false h)
 
@@ -97,16 +94,6 @@ module _ (raw : RawProgram) (scope : Scope) (before : List RawMember) (m : RawMe
   -- whether a member before has the name, by the list
   pub named_before : is_some (listed_type m.name listed) ≡ list_any (λ (other : RawMember). bytes_eq other.name m.name) before
   named_before = is.there m.name ∙ found_any (λ (other : RawMember). bytes_eq other.name m.name) before
-
-  not_named : (b : Bool) → not b ≡ true → b ≡ false
-  not_named true h = absurd (true≢false (sym h))
-  not_named false h = refl
-
-  -- a member that passes its check has a new name
-  pub member_fresh : check_member raw scope before m ≡ kept → listed_type m.name listed ≡ None
-  member_fresh h =
-      gone (listed_type m.name listed)
-      (named_before ∙ not_named _ (test_passed _ 8 kept (second_kept (when_given (check_complete raw scope) (written_type raw m.shape)) _ (second_kept (check_type raw scope m.shape) _ h))))
 
 -- the names of parameters
 given-append : (o : Option Bytes) (names more : List Bytes) → name_before o (names ++ more) ≡ name_before o names ++ more
