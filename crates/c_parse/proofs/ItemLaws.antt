@@ -25,18 +25,18 @@ use Rattle.c_language.specs.ItemGrammar.{IsMemberDeclarator, IsMember, member, A
 use Rattle.c_language.specs.StatementNesting.{body_nesting, member_nesting, head_nesting, item_nesting, items_nesting, program_nesting}
 use Rattle.c_language.specs.declared.token.TokenKind.TheVariants.{Name, Mark, Include}
 use Rattle.c_parse_expr.specs.Outcome.{expect}
-use Rattle.c_parse.specs.StatementReading.{statements_from, braced, nested_statement}
+use Rattle.c_parse_statements.specs.StatementReading.{statements_from, braced, nested_statement}
 use Rattle.c_parse.specs.ItemReading as r
 use Rattle.c_parse.specs.ItemReading.{member_of, members_from, tagged, sees_tag, global_init, global_of, global, globals, definition, headed, function, array_step, is_array, declares, void_function, external, item_of, none_left, items_from, items, program}
 use Rattle.c_parse_expr.proofs.Tests.{read_name_at}
 use Rattle.c_parse_expr.proofs.IntLaws.{int_type_begins}
 use Rattle.c_parse_expr.proofs.ExprLaws.{Exact, expression_exact, shorter}
 use Rattle.c_parse_expr.proofs.TypeLaws.{base_read, base_flat, base_shorter, stars_shorter, declarator_exact, params_exact, param_shorter}
-use Rattle.c_parse.proofs.Exact.{done, at_depth, same_read, same_tree, seq, after, greatest_append, separated_exact, separated_shorter}
-use Rattle.c_parse.proofs.Begins.{starts, starts_no_mark, is_starter, apart_by}
-use Rattle.c_parse.proofs.CallLaws.{base_no_mark}
-use Rattle.c_parse.proofs.SimpleLaws.{Ends, at_semicolon, at_comma, list_exact, list_shorter, declarator_shorter}
-use Rattle.c_parse.proofs.StatementLaws.{int_word_is, depths, depths_under, statements_exact, statements_shorter, brace_ends_list}
+use Rattle.c_parse_simple.proofs.Exact.{done, at_depth, same_read, same_tree, seq, after, greatest_append, separated_exact, separated_shorter}
+use Rattle.c_parse_simple.proofs.Begins.{starts, starts_no_mark, is_starter, apart_by}
+use Rattle.c_parse_simple.proofs.CallLaws.{base_no_mark}
+use Rattle.c_parse_simple.proofs.SimpleLaws.{Ends, at_semicolon, at_comma, list_exact, list_shorter, declarator_shorter}
+use Rattle.c_parse_statements.proofs.StatementLaws.{int_word_is, depths, depths_under, statements_exact, statements_shorter, brace_ends_list}
 
 -- ---- struct definitions
 

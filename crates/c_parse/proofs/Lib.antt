@@ -1,15 +1,5 @@
-pub mod Exact
-pub mod Begins
-pub mod CallLaws
-pub mod SimpleLaws
-pub mod StatementLaws
-pub mod CallSound
-pub mod SimpleSound
-pub mod StatementSound
 pub mod ItemLaws
 pub mod ItemSound
-pub mod CallDeep
-pub mod StatementDeep
 pub mod ItemDeep
 pub mod NamedLaws
 pub mod ProgramLaws

@@ -19,7 +19,8 @@ use Rattle.c_language.specs.declared.token.TokenKind.TheVariants.{Name, Mark, In
 use Rattle.c_parse_expr.specs.Outcome.{Parser, and_then, Syntax, expect, read_name}
 use Rattle.c_parse_expr.specs.ExprReading.{expression}
 use Rattle.c_parse_expr.specs.TypeReading.{base, declarator, params}
-use Rattle.c_parse.specs.StatementReading.{separated, list, braced, nested_statement}
+use Rattle.c_parse_simple.specs.SimpleReading.{separated, list}
+use Rattle.c_parse_statements.specs.StatementReading.{braced, nested_statement}
 
 -- ---- members
 

@@ -1,3 +1,2 @@
-pub mod StatementReading
 pub mod ItemReading
 pub mod Verdict

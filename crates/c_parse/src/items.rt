@@ -1,11 +1,9 @@
 ghost use Rattle.std.specs.Prelude.{◌≡◌, ◌≤◌, ◌∷◌, [], length, codes, IfOk};
 ghost use Rattle.c_language.specs.ItemGrammar as grammar;
 ghost use Rattle.c_parse_expr.specs.Outcome.{Reads};
-ghost use Rattle.c_parse.specs.StatementReading as statements;
+ghost use Rattle.c_parse_simple.specs.SimpleReading as simple;
 ghost use Rattle.c_parse.specs.ItemReading as spec;
 
-use crate::simple::list;
-use crate::statement::braced;
 use c_language::{Text, TokenKind};
 use c_parse_expr::cursor::Cursor;
 use c_parse_expr::expr::expression;
@@ -15,6 +13,8 @@ use c_parse_expr::params::params;
 use c_parse_expr::shape::Base;
 use c_parse_expr::suffix::CONDITIONAL_LEVEL;
 use c_parse_expr::types::{base, declarator};
+use c_parse_simple::simple::list;
+use c_parse_statements::statement::braced;
 use c_tree::{Items, RawHead, RawInit, RawItem, RawMember, RawParam, RawProgram, RawType, RawVar};
 use std::alloc::{AllocError, Global};
 
@@ -46,7 +46,7 @@ fn member_of(
 }
 
 /// The declarators of members, with a comma between each two, and the semicolon.
-#[tactic(auto, unfolding(crate::specs::StatementReading::separated))]
+#[tactic(auto, unfolding(c_parse_simple::specs::SimpleReading::separated))]
 fn member_declarators(
     alloc: Global,
     tokens: &mut Cursor<'_>,
@@ -54,7 +54,7 @@ fn member_declarators(
     line: u32,
     base: &Base,
 ) -> Result<Items<RawMember>, Stop>
-    ensures { Reads (statements.separated (codes ";") (spec.member_of depth line base.now) (length tokens.old) [] tokens.old) result tokens.new }
+    ensures { Reads (simple.separated (codes ";") (spec.member_of depth line base.now) (length tokens.old) [] tokens.old) result tokens.new }
 {
     let mut found = Items::new(alloc);
     let turns = tokens.left();
@@ -231,7 +231,7 @@ fn global(
 }
 
 /// Globals behind a first one, with a comma between each two, and the semicolon.
-#[tactic(auto, unfolding(crate::specs::StatementReading::separated))]
+#[tactic(auto, unfolding(c_parse_simple::specs::SimpleReading::separated))]
 fn more_globals(
     alloc: Global,
     tokens: &mut Cursor<'_>,
@@ -242,7 +242,7 @@ fn more_globals(
     first: RawItem,
 ) -> Result<Items<RawItem>, Stop>
     requires { depth ≤ 101 }
-    ensures { Reads (statements.separated (codes ";") (spec.global depth line is_static base.now) (length tokens.old) (first ∷ []) tokens.old) result tokens.new }
+    ensures { Reads (simple.separated (codes ";") (spec.global depth line is_static base.now) (length tokens.old) (first ∷ []) tokens.old) result tokens.new }
 {
     let mut found = Items::new(alloc);
     found.push(first)?;

@@ -1,8 +1,8 @@
 //! Tokens of a text, and what is read of them as texts.
-use crate::statement::braced;
 use c_language::{Token, TokenKind};
 use c_parse_expr::cursor::Cursor;
 use c_parse_expr::fault::Stop;
+use c_parse_statements::statement::braced;
 use c_tree::{Items, RawExpr, RawStatement, RawType, Text};
 use std::alloc::{AllocError, Global};
 

@@ -1,5 +1,5 @@
 use Rattle.std.proofs.Common.{◌≡◌, ◌-◌, [], length, codes}
-use Rattle.c_parse.specs.StatementReading.{separated}
+use Rattle.c_parse_simple.specs.SimpleReading.{separated}
 use Rattle.c_parse.specs.ItemReading.{member_of}
 use Rattle.c_parse.proofs.items.member_declarators.Given as goal
 

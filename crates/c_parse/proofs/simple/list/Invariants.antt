@@ -1,6 +1,0 @@
-use Rattle.std.proofs.Common.{◌≡◌, ◌-◌}
-use Rattle.c_parse.specs.StatementReading.{list, list_from}
-use Rattle.c_parse.proofs.simple.list.Given as goal
-
-abbrev pub invariant-loop-turn : goal.invariant-loop-turn
-invariant-loop-turn l = list l.depth l.fn.tokens ≡ list_from l.depth (l.turns - l._turn) l.found l.tokens

@@ -1,8 +1,0 @@
-use Rattle.std.proofs.Common.{arith}
-use Rattle.c_parse.specs.StatementReading.{nested_declaration}
-use Rattle.c_parse_expr.proofs.Turns.{deeper}
-use Rattle.c_parse.proofs.simple.nested_declaration.Goals as goal
-
-pub returns : goal.returns
-unfolding nested_declaration
-returns c = rw (deeper (λ n. nested_declaration n c.args.tokens.now) c.args.depth (omega arith)) c.declaration.ensures

@@ -1,0 +1,3 @@
+pub mod StatementLaws
+pub mod StatementSound
+pub mod StatementDeep
