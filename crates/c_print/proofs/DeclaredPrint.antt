@@ -25,6 +25,7 @@ use Rattle.c_print.specs.RawLayout.{raw_base, raw_stars, raw_lengths, raw_declar
 use Rattle.c_print.specs.Settled.{settled_var, settled}
 use Rattle.c_print.proofs.RawStatementLemmas.{raw_laid-Declare, raw_laid-Call, raw_laid-Heap, settled-Declare, settled-Call, settled-Heap}
 use Rattle.c_print.proofs.DecimalPrint.{decimal_form}
+use Rattle.c_print.proofs.Declarations.{is_short, declarations_pass, pass-Declare}
 use Rattle.c_print.proofs.TokenPrint.{print_blank, print_mark, Stops, stops_name}
 use Rattle.c_print.proofs.ExprPrint.{expr_rest, stops_expr, print_expr}
 use Rattle.c_print.proofs.TypePrint.{base_plain, Counts, declarator_rest, print_base, print_declarator, declared_base, settled_twice, settled_unlisted, unlisted_stays}
@@ -119,7 +120,7 @@ words_of : {x y : Laid} (more : Bytes) → x ≡ y → x.words ++ more ≡ y.wor
 words_of more e = ap (λ (l : Laid). l.words ++ more) e
 
 pub no_counts : (v : RawVar) (items : ℕ) → is_listed v.shape ≡ false → Counts items v.shape
-no_counts v items p = λ h few. let x : true ≡ false = sym h ∙ p in absurd cc
+no_counts v items p = λ h. let x : true ≡ false = sym h ∙ p in absurd cc
 
 pub equals_no_length : (l : ℕ) (ts : Tokens) → sees Mark (codes "[") (mark (codes "=") l ∷ ts) ≡ false
 unfolding sees
@@ -137,9 +138,9 @@ list_join x y more = append_assoc x _ more ∙ ap (λ (z : Bytes). x ++ (codes "
 plain_join : (x more : Bytes) → (x ++ []) ++ more ≡ x ++ more
 plain_join x more = ap (λ (z : Bytes). z ++ more) (append-nil x)
 
-pub print_declared : {l : ℕ} {bs ms ts rest : Tokens} {base : RawType} {a : RawStatement} → IsBase bs base ms → AreWritten bs → IsDeclared l base ts a rest → AreWritten ts
+pub print_declared : {l : ℕ} {bs ms ts rest : Tokens} {base : RawType} {a : RawStatement} → IsBase bs base ms → AreWritten bs → IsDeclared l base ts a rest → AreWritten ts → declarations_pass is_short a ≡ true
     → (line : ℕ) (more : Bytes) (after : Tokens) → Stops number_goes_on more → sees Mark (codes "[") after ≡ false → IsTokens Token line more after → PrintedDeclared line ((raw_laid a).words ++ more) a after
-print_declared {l} b wb (plain {v = v} h p) w line more after stop f t =
+print_declared {l} b wb (plain {v = v} h p) w short line more after stop f t =
     let x = print_named 0 b wb h w (no_counts v 0 p) line more after (stops_name more stop) f t in
     declared_as (words_of more (raw_laid-Declare l v init.None) ∙ plain_join (raw_declared 0 v.shape v.name) more)
     (record {
@@ -153,7 +154,7 @@ print_declared {l} b wb (plain {v = v} h p) w line more after stop f t =
       is = plain x.is (settled_unlisted 0 h (base_plain b) p);
       same = settled-Declare (line_of x.tokens) (settled_var 0 v) init.None ∙ ap (λ (z : RawVar). s.Declare 0 z init.None) (settled_twice 0 h (base_plain b)) ∙ sym (settled-Declare l v init.None);
     })
-print_declared {l} b wb (value {v = v} {a} h p k) w line more after stop f t =
+print_declared {l} b wb (value {v = v} {a} h p k) w short line more after stop f t =
     let y = print_expr k (declarator_rest h w).1 line more after (stops_expr k more stop) t in
     let x = print_named 0 b wb h w (no_counts v 0 p) line (codes " = " ++ (spaced_words a ++ more)) (mark (codes "=") line ∷ y.tokens) (λ d. refl) (equals_no_length line y.tokens) (print_equals (y.lexed Token)) in
     declared_as (words_of more (raw_laid-Declare l v (init.One a)) ∙ equals_join (raw_declared 0 v.shape v.name) (spaced_words a) more)
@@ -168,11 +169,12 @@ print_declared {l} b wb (value {v = v} {a} h p k) w line more after stop f t =
       is = value x.is (settled_unlisted 0 h (base_plain b) p) y.is;
       same = settled-Declare (line_of x.tokens) (settled_var 0 v) (init.One a) ∙ ap (λ (z : RawVar). s.Declare 0 z (init.One a)) (settled_twice 0 h (base_plain b)) ∙ sym (settled-Declare l v (init.One a));
     })
-print_declared {l} b wb (list {v = v} {all} h k) w line more after stop f t =
+print_declared {l} b wb (list {v = v} {all} h k) w short line more after stop f t =
     let n = length all in
+    let few = sym (pass-Declare is_short l v (init.Items all)) ∙ short in
     let wl = (declarator_rest h w).1 in
     let y = print_list k wl.1 line more after t in
-    let x = print_named n b wb h w (λ _ few. list_form k few) line (codes " = {" ++ (joined (codes ", ") (map spaced_words all) ++ (125 ∷ more))) (mark (codes "=") line ∷ mark (codes "{") line ∷ y.tokens) (λ d. refl) (equals_no_length line _) (print_equals (print_mark (codes "{") refl refl (y.lexed Token))) in
+    let x = print_named n b wb h w (λ _. (few, list_form k few)) line (codes " = {" ++ (joined (codes ", ") (map spaced_words all) ++ (125 ∷ more))) (mark (codes "=") line ∷ mark (codes "{") line ∷ y.tokens) (λ d. refl) (equals_no_length line _) (print_equals (print_mark (codes "{") refl refl (y.lexed Token))) in
     declared_as (words_of more (raw_laid-Declare l v (init.Items all)) ∙ list_join (raw_declared n v.shape v.name) (joined (codes ", ") (map spaced_words all)) more)
     (record {
       tokens = x.tokens;
@@ -185,7 +187,7 @@ print_declared {l} b wb (list {v = v} {all} h k) w line more after stop f t =
       is = list x.is y.is;
       same = settled-Declare (line_of x.tokens) (settled_var n v) (init.Items all) ∙ ap (λ (z : RawVar). s.Declare 0 z (init.Items all)) (settled_twice n h (base_plain b)) ∙ sym (settled-Declare l v (init.Items all));
     })
-print_declared {l} b wb (call {v = v} {w = g} {all} h p k) w line more after stop f t =
+print_declared {l} b wb (call {v = v} {w = g} {all} h p k) w short line more after stop f t =
     let y = print_call k (declarator_rest h w).1 line more after t in
     let x = print_named 0 b wb h w (no_counts v 0 p) line (codes " = " ++ (call_words g (map raw_arg_words all) ++ more)) (mark (codes "=") line ∷ y.tokens) (λ d. refl) (equals_no_length line y.tokens) (print_equals (y.lexed Token)) in
     declared_as (words_of more (raw_laid-Call l (target.Declared v) g all) ∙ store_join (raw_declared 0 v.shape v.name) (call_words g (map raw_arg_words all)) more)
@@ -200,7 +202,7 @@ print_declared {l} b wb (call {v = v} {w = g} {all} h p k) w line more after sto
       is = call (subst (λ (z : RawVar). IsDeclarator x.mid x.base z (mark (codes "=") line ∷ y.tokens)) (unlisted_stays 0 h (base_plain b) p) x.is) p y.is;
       same = settled-Call (line_of x.tokens) (target.Declared v) g all ∙ sym (settled-Call l (target.Declared v) g all);
     })
-print_declared {l} b wb (heap {v = v} {t = c} {n} h p k) w line more after stop f t =
+print_declared {l} b wb (heap {v = v} {t = c} {n} h p k) w short line more after stop f t =
     let y = print_heap k (declarator_rest h w).1 line more after t in
     let x = print_named 0 b wb h w (no_counts v 0 p) line (codes " = " ++ ((raw_cast_words c ++ malloc_words n) ++ more)) (mark (codes "=") line ∷ y.tokens) (λ d. refl) (equals_no_length line y.tokens) (print_equals (y.lexed Token)) in
     declared_as (words_of more (raw_laid-Heap l (target.Declared v) c n) ∙ store_join (raw_declared 0 v.shape v.name) (raw_cast_words c ++ malloc_words n) more)

@@ -1,5 +1,6 @@
 -- What is printed of the items of a text has their tokens again: they have the same trees, but for what the layout drops.
 use Rattle.std.proofs.Common.{◌≡◌, ℕ, ◌+◌, List, [], ◌∷◌, ◌++◌, length, map, replicate, append_assoc, append-nil, refl, sym, ap, ap₂, ◌∙◌, subst, Bool, true, false, ◌&&◌, codes, Option, Some}
+use Rattle.std.proofs.lemmas.Bool.{and_parts}
 use Rattle.c_tree.specs.declared.raw.expr.RawType.{RawType}
 use Rattle.c_tree.specs.declared.raw.expr.RawVar.{RawVar}
 use Rattle.c_tree.specs.declared.raw.program.RawInit.TheVariants as init
@@ -31,6 +32,7 @@ use Rattle.c_print.proofs.TokenPrint.{blank_no_feed, print_blank, print_line, pr
 use Rattle.c_print.proofs.ExprPrint.{expr_rest, stops_expr, print_expr}
 use Rattle.c_print.proofs.TypePrint.{base_rest, base_plain, IsPlain, declarator_rest, type_rest, name_no_int, print_base, pointed_base, plain_stars, star_count, print_stars, name_sure, name_no_star, params_rest, print_params, settled_twice, settled_unlisted, unlisted_stays}
 use Rattle.c_print.proofs.SimplePrint.{Has, has_as, print_equals}
+use Rattle.c_print.proofs.Declarations.{is_short, HasShortLists, list_passes, item_passes, items_pass, items_parts}
 use Rattle.c_print.proofs.DeclaredPrint.{list_rest, list_form, print_list, print_named, no_counts, equals_no_length}
 use Rattle.c_print.proofs.StatementPrint.{statements_rest, IsLean, Tails, tails_as, Safe, print_indent, line_join, ended_join, end_line, new_line, semicolon_no_length, Closed, close_tail, print_statements}
 
@@ -286,9 +288,9 @@ equals_join x y more = append_assoc x (codes " = " ++ y) more
 list_join : (x y more : Bytes) → (x ++ (codes " = {" ++ (y ++ codes "}"))) ++ more ≡ x ++ (codes " = {" ++ (y ++ (125 ∷ more)))
 list_join x y more = append_assoc x _ more ∙ ap (λ (z : Bytes). x ++ (codes " = {" ++ z)) (append_assoc y (codes "}") more)
 
-print_global : {l : ℕ} {b : Bool} {base : RawType} {bs ms ts rest : Tokens} {x : RawItem} → IsBase bs base ms → AreWritten bs → IsGlobal l b base ts x rest → AreWritten ts → (line : ℕ) (more : Bytes) (after : Tokens) → Stops number_goes_on more → sees Mark (codes "[") after ≡ false → IsTokens Token line more after
+print_global : {l : ℕ} {b : Bool} {base : RawType} {bs ms ts rest : Tokens} {x : RawItem} → IsBase bs base ms → AreWritten bs → IsGlobal l b base ts x rest → AreWritten ts → item_passes is_short x ≡ true → (line : ℕ) (more : Bytes) (after : Tokens) → Stops number_goes_on more → sees Mark (codes "[") after ≡ false → IsTokens Token line more after
     → Has line (global_words x ++ more) (Global line b x after)
-print_global {l} {b} hb wb (IsGlobal.plain {v = v} h p) w line more after s f t =
+print_global {l} {b} hb wb (IsGlobal.plain {v = v} h p) w short line more after s f t =
     let n = print_named 0 hb wb h w (no_counts v 0 p) line more after (stops_name more s) f t in
     has_as (ap (λ (z : Bytes). z ++ more) (append-nil (raw_declared 0 v.shape v.name)))
     (record {
@@ -304,7 +306,7 @@ print_global {l} {b} hb wb (IsGlobal.plain {v = v} h p) w line more after s f t 
         bare = λ k. refl;
       };
     })
-print_global {l} {b} hb wb (IsGlobal.value {v = v} {a} h p k) w line more after s f t =
+print_global {l} {b} hb wb (IsGlobal.value {v = v} {a} h p k) w short line more after s f t =
     let y = print_expr k (declarator_rest h w).1 line more after (stops_expr k more s) t in
     let n = print_named 0 hb wb h w (no_counts v 0 p) line (codes " = " ++ (spaced_words a ++ more)) (mark (codes "=") line ∷ y.tokens) (λ d. refl) (equals_no_length line y.tokens) (print_equals (y.lexed Token)) in
     has_as (equals_join (raw_declared 0 v.shape v.name) (spaced_words a) more)
@@ -321,11 +323,11 @@ print_global {l} {b} hb wb (IsGlobal.value {v = v} {a} h p k) w line more after 
         bare = λ k. refl;
       };
     })
-print_global {l} {b} hb wb (IsGlobal.list {v = v} {all} h k) w line more after s f t =
+print_global {l} {b} hb wb (IsGlobal.list {v = v} {all} h k) w short line more after s f t =
     let c = length all in
     let wl = (declarator_rest h w).1 in
     let y = print_list k wl.1 line more after t in
-    let n = print_named c hb wb h w (λ _ few. list_form k few) line (codes " = {" ++ (joined (codes ", ") (map spaced_words all) ++ (125 ∷ more))) (mark (codes "=") line ∷ mark (codes "{") line ∷ y.tokens) (λ d. refl) (equals_no_length line (mark (codes "{") line ∷ y.tokens)) (print_equals (print_mark (codes "{") refl refl (y.lexed Token))) in
+    let n = print_named c hb wb h w (λ _. (short, list_form k short)) line (codes " = {" ++ (joined (codes ", ") (map spaced_words all) ++ (125 ∷ more))) (mark (codes "=") line ∷ mark (codes "{") line ∷ y.tokens) (λ d. refl) (equals_no_length line (mark (codes "{") line ∷ y.tokens)) (print_equals (print_mark (codes "{") refl refl (y.lexed Token))) in
     has_as (list_join (raw_declared c v.shape v.name) (joined (codes ", ") (map spaced_words all)) more)
     (record {
       tokens = n.tokens;
@@ -361,11 +363,11 @@ global_line {b = b} tl (IsGlobal.plain {v = v} h p) = global_join (static_words 
 global_line {b = b} tl (IsGlobal.value {v = v} {a} h p k) = global_join (static_words b) (raw_declared 0 v.shape v.name) (codes " = " ++ spaced_words a) tl
 global_line {b = b} tl (IsGlobal.list {v = v} {all} h k) = global_join (static_words b) (raw_declared (length all) v.shape v.name) (codes " = {" ++ (joined (codes ", ") (map spaced_words all) ++ codes "}")) tl
 
-print_one_global : {l : ℕ} {b : Bool} {base : RawType} {bs ms ts rest : Tokens} {x : RawItem} → IsBase bs base ms → AreWritten bs → IsGlobal l b base ts x rest → AreWritten ts → (tl : Bytes) (all : List RawItem) (R : Tokens → Type 0) → Tails tl (Items all R)
+print_one_global : {l : ℕ} {b : Bool} {base : RawType} {bs ms ts rest : Tokens} {x : RawItem} → IsBase bs base ms → AreWritten bs → IsGlobal l b base ts x rest → AreWritten ts → item_passes is_short x ≡ true → (tl : Bytes) (all : List RawItem) (R : Tokens → Type 0) → Tails tl (Items all R)
     → Tails (raw_item_lines x ++ tl) (Items (x ∷ all) R)
-print_one_global {b = b} {x = y} hb wb h w tl all R t = tails_as (global_line tl h) (λ line.
+print_one_global {b = b} {x = y} hb wb h w short tl all R t = tails_as (global_line tl h) (λ line.
     let x = t (line + 1) in
-    let g = print_global hb wb h w line (59 ∷ 10 ∷ tl) (mark (codes ";") line ∷ x.tokens) (λ d. refl) (semicolon_no_length line x.tokens) (end_line line x) in
+    let g = print_global hb wb h w short line (59 ∷ 10 ∷ tl) (mark (codes ";") line ∷ x.tokens) (λ d. refl) (semicolon_no_length line x.tokens) (end_line line x) in
     let p = print_static b g in
     let q = p.is.has in
     let k = line_of p.tokens in
@@ -377,12 +379,12 @@ items_append (x ∷ some) all tl =
     append_assoc (raw_item_lines x) (raw_items_lines (some ++ all)) tl ∙ ap (λ (z : Bytes). raw_item_lines x ++ z) (items_append some all tl)
     ∙ sym (append_assoc (raw_item_lines x) (raw_items_lines some) (raw_items_lines all ++ tl))
 
-print_globals : {l : ℕ} {b : Bool} {base : RawType} {bs ms ts rest : Tokens} {some : List RawItem} → IsBase bs base ms → AreWritten bs → AreGlobals l b base ts some rest → AreWritten ts → (tl : Bytes) (all : List RawItem) (R : Tokens → Type 0) → Tails tl (Items all R)
+print_globals : {l : ℕ} {b : Bool} {base : RawType} {bs ms ts rest : Tokens} {some : List RawItem} → IsBase bs base ms → AreWritten bs → AreGlobals l b base ts some rest → AreWritten ts → items_pass is_short some ≡ true → (tl : Bytes) (all : List RawItem) (R : Tokens → Type 0) → Tails tl (Items all R)
     → Tails (raw_items_lines some ++ tl) (Items (some ++ all) R)
-print_globals hb wb (IsSeparated.last {a} h) w tl all R t = tails_as (ap (λ (z : Bytes). z ++ tl) (append-nil (raw_item_lines a))) (print_one_global hb wb h w tl all R t)
-print_globals hb wb (IsSeparated.more {a} {all = some} h k) w tl all R t =
+print_globals hb wb (IsSeparated.last {a} h) w short tl all R t = tails_as (ap (λ (z : Bytes). z ++ tl) (append-nil (raw_item_lines a))) (print_one_global hb wb h w (and_parts _ _ short).0 tl all R t)
+print_globals hb wb (IsSeparated.more {a} {all = some} h k) w short tl all R t =
     tails_as (append_assoc (raw_item_lines a) (raw_items_lines some) tl)
-    (print_one_global hb wb h w (raw_items_lines some ++ tl) (some ++ all) R (print_globals hb wb k (global_rest h w).1 tl all R t))
+    (print_one_global hb wb h w (and_parts _ _ short).0 (raw_items_lines some ++ tl) (some ++ all) R (print_globals hb wb k (global_rest h w).1 (and_parts _ _ short).1 tl all R t))
 
 -- ---- the other items
 
@@ -442,10 +444,10 @@ definition_join h body tl =
     append_assoc (whole_line 0 (h ++ codes " {")) (body ++ whole_line 0 (codes "}")) tl ∙ line_join 0 (h ++ codes " {") ((body ++ whole_line 0 (codes "}")) ++ tl)
     ∙ append_assoc h (codes " {") (10 ∷ ((body ++ whole_line 0 (codes "}")) ++ tl)) ∙ ap (λ (z : Bytes). h ++ (32 ∷ 123 ∷ 10 ∷ z)) (append_assoc body (whole_line 0 (codes "}")) tl)
 
-print_definition : {h : RawHead} {body : List RawStatement} {ts mid rest : Tokens} {k m : ℕ} (l : ℕ) → IsHead ts h (mark (codes "{") k ∷ mid) → are_named h.params ≡ true → AreStatements mid body (mark (codes "}") m ∷ rest) → AreWritten ts
+print_definition : {h : RawHead} {body : List RawStatement} {ts mid rest : Tokens} {k m : ℕ} (l : ℕ) → IsHead ts h (mark (codes "{") k ∷ mid) → are_named h.params ≡ true → AreStatements mid body (mark (codes "}") m ∷ rest) → AreWritten ts → list_passes is_short body ≡ true
     → (tl : Bytes) (all : List RawItem) (R : Tokens → Type 0) → Tails tl (Items all R) → Tails (raw_item_lines (item.Define l h body) ++ tl) (Items (item.Define l h body ∷ all) R)
-print_definition {h = h} {body} l hh named hb w tl all R t = tails_as (definition_join (raw_head_words h) (raw_body_lines 1 body) tl) (λ line.
-    let x = print_statements hb (head_rest hh w).1 1 (125 ∷ 10 ∷ tl) (Closed (Items all R)) (close_tail 0 (10 ∷ tl) (Items all R) (new_line t)) (line + 1) in
+print_definition {h = h} {body} l hh named hb w short tl all R t = tails_as (definition_join (raw_head_words h) (raw_body_lines 1 body) tl) (λ line.
+    let x = print_statements hb (head_rest hh w).1 short 1 (125 ∷ 10 ∷ tl) (Closed (Items all R)) (close_tail 0 (10 ∷ tl) (Items all R) (new_line t)) (line + 1) in
     let q = x.has in
     let c = q.has.1 in
     let inside : (k : AreStatements x.tokens q.found (mark (codes "}") c.line ∷ c.rest)) × IsLean k = subst (λ (r : Tokens). (k : AreStatements x.tokens q.found r) × IsLean k) c.at (q.is, q.lean) in
@@ -459,13 +461,13 @@ print_definition {h = h} {body} l hh named hb w tl all R t = tails_as (definitio
 only : (x : RawItem) (tl : Bytes) (all : List RawItem) (R : Tokens → Type 0) → Tails (raw_item_lines x ++ tl) (Items (x ∷ all) R) → Tails (raw_items_lines (x ∷ []) ++ tl) (Items (x ∷ all) R)
 only x tl all R t = tails_as (ap (λ (z : Bytes). z ++ tl) (append-nil (raw_item_lines x))) t
 
-print_item : {ts rest : Tokens} {some : List RawItem} → IsItem ts some rest → AreWritten ts → (tl : Bytes) (all : List RawItem) (R : Tokens → Type 0) → Tails tl (Items all R) → Tails (raw_items_lines some ++ tl) (Items (some ++ all) R)
-print_item (IsItem.include is_stdlib) w tl all R t = only (item.Include is_stdlib) tl all R (print_include is_stdlib tl all R t)
-print_item (tag {l} {w = f} key) w tl all R t = only (item.Tag l f) tl all R (print_tag l f key w.1.0 tl all R t)
-print_item (structure {l} {w = f} {all = members} key h) w tl all R t = only (item.Struct l f members) tl all R (print_struct l f key w.1.0 h w.1.1.1 tl all R t)
-print_item (globals s b h) w tl all R t = let ws = static_rest s w in print_globals b ws h (base_rest b ws) tl all R t
-print_item (prototype {ts = ts} {h = h} k) w tl all R t = only (item.Prototype (line_of ts) h) tl all R (print_prototype (line_of ts) k w tl all R t)
-print_item (definition {ts = ts} {h = h} {body} k p j) w tl all R t = only (item.Define (line_of ts) h body) tl all R (print_definition (line_of ts) k p j w tl all R t)
+print_item : {ts rest : Tokens} {some : List RawItem} → IsItem ts some rest → AreWritten ts → items_pass is_short some ≡ true → (tl : Bytes) (all : List RawItem) (R : Tokens → Type 0) → Tails tl (Items all R) → Tails (raw_items_lines some ++ tl) (Items (some ++ all) R)
+print_item (IsItem.include is_stdlib) w short tl all R t = only (item.Include is_stdlib) tl all R (print_include is_stdlib tl all R t)
+print_item (tag {l} {w = f} key) w short tl all R t = only (item.Tag l f) tl all R (print_tag l f key w.1.0 tl all R t)
+print_item (structure {l} {w = f} {all = members} key h) w short tl all R t = only (item.Struct l f members) tl all R (print_struct l f key w.1.0 h w.1.1.1 tl all R t)
+print_item (globals s b h) w short tl all R t = let ws = static_rest s w in print_globals b ws h (base_rest b ws) short tl all R t
+print_item (prototype {ts = ts} {h = h} k) w short tl all R t = only (item.Prototype (line_of ts) h) tl all R (print_prototype (line_of ts) k w tl all R t)
+print_item (definition {ts = ts} {h = h} {body} k p j) w short tl all R t = only (item.Define (line_of ts) h body) tl all R (print_definition (line_of ts) k p j w (and_parts _ _ short).0 tl all R t)
 
 pub item_rest : {ts rest : Tokens} {some : List RawItem} → IsItem ts some rest → AreWritten ts → AreWritten rest
 item_rest (IsItem.include is_stdlib) w = w.1
@@ -475,10 +477,10 @@ item_rest (globals s b h) w = globals_rest h (base_rest b (static_rest s w))
 item_rest (prototype h) w = (head_rest h w).1
 item_rest (definition h p k) w = (statements_rest k (head_rest h w).1).1
 
-pub print_items : {ts rest : Tokens} {all : List RawItem} → AreItems ts all rest → AreWritten ts → (tl : Bytes) (R : Tokens → Type 0) → Tails tl R → Tails (raw_items_lines all ++ tl) (Items all R)
-print_items AreItems.done w tl R t = λ line. let x = t line in record { tokens = x.tokens; lexed = x.lexed; has = record { found = []; rest = x.tokens; is = AreItems.done; same = refl; bare = refl; lean = tt; has = x.has } }
-print_items (AreItems.more {some} {all} h k) w tl R t =
-    tails_as (items_append some all tl) (print_item h w (raw_items_lines all ++ tl) all R (print_items k (item_rest h w) tl R t))
+pub print_items : {ts rest : Tokens} {all : List RawItem} → AreItems ts all rest → AreWritten ts → items_pass is_short all ≡ true → (tl : Bytes) (R : Tokens → Type 0) → Tails tl R → Tails (raw_items_lines all ++ tl) (Items all R)
+print_items AreItems.done w short tl R t = λ line. let x = t line in record { tokens = x.tokens; lexed = x.lexed; has = record { found = []; rest = x.tokens; is = AreItems.done; same = refl; bare = refl; lean = tt; has = x.has } }
+print_items (AreItems.more {some} {all} h k) w short tl R t =
+    tails_as (items_append some all tl) (print_item h w (items_parts is_short some all short).0 (raw_items_lines all ++ tl) all R (print_items k (item_rest h w) (items_parts is_short some all short).1 tl R t))
 
 -- ---- the law
 
@@ -495,10 +497,10 @@ pub record ReadsAs (text : Bytes) (raw : RawProgram) : Type 0 where
 no_tokens : Tails [] (λ ts. ts ≡ [])
 no_tokens line = record { tokens = []; lexed = IsTokens.done; has = refl }
 
--- What is printed of a tree whose tokens can be written has tokens of that tree again.
-pub printed_is_read : {ts : Tokens} (raw : RawProgram) → IsProgram ts raw → AreWritten ts → ReadsAs (raw_layout raw) raw
-printed_is_read raw h w =
-    let x = print_items h w [] (λ ts. ts ≡ []) no_tokens 1 in
+-- What is printed of a tree whose tokens can be written and whose lists are short has tokens of that tree again.
+pub printed_is_read : {ts : Tokens} (raw : RawProgram) → IsProgram ts raw → AreWritten ts → HasShortLists raw → ReadsAs (raw_layout raw) raw
+printed_is_read raw h w short =
+    let x = print_items h w short [] (λ ts. ts ≡ []) no_tokens 1 in
     let q = x.has in
     let all : (k : AreItems x.tokens q.found []) × AreLeanItems k = subst (λ (r : Tokens). (k : AreItems x.tokens q.found r) × AreLeanItems k) q.has (q.is, q.lean) in
     record {

@@ -19,6 +19,7 @@ pub mod TypePrint
 pub mod RawStatementLemmas
 pub mod SimplePrint
 pub mod DecimalPrint
+pub mod Declarations
 pub mod DeclaredPrint
 pub mod StatementPrint
 pub mod ItemPrint

@@ -35,6 +35,7 @@ use Rattle.c_print.proofs.TokenPrint.{fails, print_blank, print_line, print_mark
 use Rattle.c_print.proofs.ExprPrint.{expr_rest, stops_expr, print_expr}
 use Rattle.c_print.proofs.TypePrint.{base_rest}
 use Rattle.c_print.proofs.SimplePrint.{Has, simple_rest, print_simple}
+use Rattle.c_print.proofs.Declarations.{all_true, is_short, declarations_pass, arm_passes, list_passes, part_passes, pass-If, pass-While, pass-Do, pass-For, pass-Switch, pass-Block, pass-arm, lists_parts}
 use Rattle.c_print.proofs.DeclaredPrint.{declared_rest, print_declared}
 
 -- ---- what follows is written too
@@ -305,23 +306,23 @@ pub semicolon_no_length : (l : ℕ) (ts : Tokens) → sees Mark (codes "[") (mar
 unfolding sees
 semicolon_no_length l ts = refl
 
-print_separated : {l : ℕ} {base : RawType} {bs ms ts rest : Tokens} {some : List RawStatement} → IsBase bs base ms → AreWritten bs → AreDeclared l base ts some rest → AreWritten ts
+print_separated : {l : ℕ} {base : RawType} {bs ms ts rest : Tokens} {some : List RawStatement} → IsBase bs base ms → AreWritten bs → AreDeclared l base ts some rest → AreWritten ts → list_passes is_short some ≡ true
     → (n : ℕ) (tl : Bytes) (all : List RawStatement) (R : Tokens → Type 0) → Tails tl (Many all R) → Tails (block_lines (map raw_laid some) n ++ tl) (Many (some ++ all) R)
-print_separated b wb (IsSeparated.last {a} h) w n tl all R t =
+print_separated b wb (IsSeparated.last {a} h) w short n tl all R t =
     tails_as (ap (λ (z : Bytes). z ++ tl) (append-nil ((raw_laid a).lines n) ∙ declared_lines n h) ∙ ended_join n (raw_laid a).words tl) (λ line.
     let x = t (line + 1) in
     let q = x.has in
-    let p = print_declared b wb h w line (59 ∷ 10 ∷ tl) (mark (codes ";") line ∷ x.tokens) (λ c. refl) (semicolon_no_length line x.tokens) (end_line line x) in
+    let p = print_declared b wb h w (and_parts _ _ short).0 line (59 ∷ 10 ∷ tl) (mark (codes ";") line ∷ x.tokens) (λ c. refl) (semicolon_no_length line x.tokens) (end_line line x) in
     record {
       tokens = p.tokens;
       lexed = print_indent n (p.lexed Blank);
       has = record { found = p.found ∷ q.found; rest = q.rest; is = AreStatements.declared (declaration p.is_base (IsSeparated.last p.is)) q.is; lean = q.lean; same = ap₂ (λ (c : RawStatement) (cs : List RawStatement). c ∷ cs) p.same q.same; no_else = p.no_else; has = q.has };
     })
-print_separated b wb (IsSeparated.more {a} {all = some} h k) w n tl all R t =
+print_separated b wb (IsSeparated.more {a} {all = some} h k) w short n tl all R t =
     tails_as (ap (λ (z : Bytes). (z ++ block_lines (map raw_laid some) n) ++ tl) (declared_lines n h) ∙ append_assoc (whole_line n ((raw_laid a).words ++ codes ";")) (block_lines (map raw_laid some) n) tl ∙ ended_join n (raw_laid a).words (block_lines (map raw_laid some) n ++ tl)) (λ line.
-    let x = print_separated b wb k (declared_rest h w).1 n tl all R t (line + 1) in
+    let x = print_separated b wb k (declared_rest h w).1 (and_parts _ _ short).1 n tl all R t (line + 1) in
     let q = x.has in
-    let p = print_declared b wb h w line (59 ∷ 10 ∷ (block_lines (map raw_laid some) n ++ tl)) (mark (codes ";") line ∷ x.tokens) (λ c. refl) (semicolon_no_length line x.tokens) (end_line line x) in
+    let p = print_declared b wb h w (and_parts _ _ short).0 line (59 ∷ 10 ∷ (block_lines (map raw_laid some) n ++ tl)) (mark (codes ";") line ∷ x.tokens) (λ c. refl) (semicolon_no_length line x.tokens) (end_line line x) in
     record {
       tokens = p.tokens;
       lexed = print_indent n (p.lexed Blank);
@@ -349,14 +350,14 @@ record PrintedInit (line : ℕ) (bytes : Bytes) (a : Option RawStatement) (after
   is : IsInit tokens found after
   same : option_map settled found ≡ option_map settled a
 
-print_init : {ts rest : Tokens} {a : Option RawStatement} → IsInit ts a rest → AreWritten ts → (line : ℕ) (more : Bytes) (after : Tokens) → IsTokens Token line more after
+print_init : {ts rest : Tokens} {a : Option RawStatement} → IsInit ts a rest → AreWritten ts → part_passes is_short a ≡ true → (line : ℕ) (more : Bytes) (after : Tokens) → IsTokens Token line more after
     → PrintedInit line (init_part (option_map raw_laid a) ++ (59 ∷ more)) a after
-print_init IsInit.nothing w line more after t = record { tokens = mark (codes ";") line ∷ after; lexed = λ before. print_mark (codes ";") refl refl t; found = None; is = IsInit.nothing; same = refl }
-print_init (IsInit.simple h) w line more after t =
+print_init IsInit.nothing w short line more after t = record { tokens = mark (codes ";") line ∷ after; lexed = λ before. print_mark (codes ";") refl refl t; found = None; is = IsInit.nothing; same = refl }
+print_init (IsInit.simple h) w short line more after t =
     let x = print_simple h w line (59 ∷ more) (mark (codes ";") line ∷ after) (λ b. refl) (print_mark (codes ";") refl refl t) in
     record { tokens = x.tokens; lexed = x.lexed; found = Some x.found; is = IsInit.simple x.is; same = ap Some x.same }
-print_init (IsInit.declared h k) w line more after t =
-    let x = print_declared h w k (base_rest h w) line (59 ∷ more) (mark (codes ";") line ∷ after) (λ b. refl) (semicolon_no_length line after) (print_mark (codes ";") refl refl t) in
+print_init (IsInit.declared h k) w short line more after t =
+    let x = print_declared h w k (base_rest h w) short line (59 ∷ more) (mark (codes ";") line ∷ after) (λ b. refl) (semicolon_no_length line after) (print_mark (codes ";") refl refl t) in
     record { tokens = x.tokens; lexed = x.lexed; found = Some x.found; is = IsInit.declared x.is_base x.is; same = ap Some x.same }
 
 record PrintedStep (line : ℕ) (bytes : Bytes) (a : Option RawStatement) (after : Tokens) : Type 0 where
@@ -483,14 +484,14 @@ no_arm n tl R t line =
     record { tokens = mark (codes "}") line ∷ x.tokens; lexed = print_indent n (print_mark (codes "}") refl refl (x.lexed Token)); has = record { found = []; rest = x.tokens; is = AreArms.none; same = refl; has = x.is } }
 
 mutual
-  pub print_statement : {ts rest : Tokens} {a : RawStatement} → IsStatement ts a rest → AreWritten ts → (n : ℕ) (tl : Bytes) (R : Tokens → Type 0) → Tails tl (Safe R)
+  pub print_statement : {ts rest : Tokens} {a : RawStatement} → IsStatement ts a rest → AreWritten ts → declarations_pass is_short a ≡ true → (n : ℕ) (tl : Bytes) (R : Tokens → Type 0) → Tails tl (Safe R)
       → Tails ((raw_laid a).lines n ++ tl) (One a R)
-  print_statement (IsStatement.simple {a = a} h) w n tl R t =
+  print_statement (IsStatement.simple {a = a} h) w short n tl R t =
       tails_as (ap (λ (z : Bytes). z ++ tl) (simple_lines n h) ∙ ended_join n (raw_laid a).words tl) (λ line.
       let x = t (line + 1) in
       let p = print_simple h w line (59 ∷ 10 ∷ tl) (mark (codes ";") line ∷ x.tokens) (λ c. refl) (end_line line x) in
       record { tokens = p.tokens; lexed = print_indent n (p.lexed Blank); has = record { found = p.found; rest = x.tokens; is = IsStatement.simple p.is; same = p.same; no_else = simple_no_else p.is; has = x.has } })
-  print_statement (returns {l}) w n tl R t =
+  print_statement (returns {l}) w short n tl R t =
       tails_as (lines_as n tl (raw_laid-Return l None) ∙ line_join n (codes "return;") tl) (λ line.
       let x = t (line + 1) in
       record {
@@ -498,7 +499,7 @@ mutual
         lexed = print_indent n (print_name (codes "return") w.0 (λ b. refl) (end_line line x));
         has = record { found = s.Return line None; rest = x.tokens; is = returns; same = settled-Return line None ∙ sym (settled-Return l None); no_else = name_no_else (codes "return") line (mark (codes ";") line ∷ x.tokens) refl; has = x.has };
       })
-  print_statement (returns_value {l} {a = a} h) w n tl R t =
+  print_statement (returns_value {l} {a = a} h) w short n tl R t =
       tails_as (lines_as n tl (raw_laid-Return l (Some a)) ∙ return_join n (spaced_words a) tl) (λ line.
       let x = t (line + 1) in
       let p = print_expr h w.1 line (59 ∷ 10 ∷ tl) (mark (codes ";") line ∷ x.tokens) (stops_expr h _ (λ b. refl)) (end_line line x) in
@@ -507,9 +508,9 @@ mutual
         lexed = print_indent n (print_name (codes "return") w.0 (λ b. refl) (print_blank (p.lexed Token)));
         has = record { found = s.Return line (Some a); rest = x.tokens; is = returns_value p.is; same = settled-Return line (Some a) ∙ sym (settled-Return l (Some a)); no_else = name_no_else (codes "return") line p.tokens refl; has = x.has };
       })
-  print_statement (block {l} {all = all} h) w n tl R t =
+  print_statement (block {l} {all = all} h) w short n tl R t =
       tails_as (lines_as n tl (raw_laid-Block l all) ∙ braced_join (codes "{") (block_lines (map raw_laid all) (suc n)) (codes "}") n tl) (λ line.
-      let x = print_statements h w.1 (suc n) (indent n ++ (125 ∷ 10 ∷ tl)) (Closed (Safe R)) (close_tail n (10 ∷ tl) (Safe R) (new_line t)) (line + 1) in
+      let x = print_statements h w.1 (sym (pass-Block is_short l all) ∙ short) (suc n) (indent n ++ (125 ∷ 10 ∷ tl)) (Closed (Safe R)) (close_tail n (10 ∷ tl) (Safe R) (new_line t)) (line + 1) in
       let q = x.has in
       let c = q.has.1 in
       record {
@@ -517,10 +518,11 @@ mutual
         lexed = print_indent n (print_mark (codes "{") refl refl (print_line x.lexed));
         has = record { found = s.Block line q.found; rest = c.rest; is = block (subst (λ (r : Tokens). AreStatements x.tokens q.found r) c.at q.is); same = settled-Block line q.found ∙ ap (s.Block 0) q.same ∙ sym (settled-Block l all); no_else = mark_no_else (codes "{") line x.tokens; has = c.has };
       })
-  print_statement (conditional {l} {a = a} {yes = body} {other} h k j) w n tl R t =
+  print_statement (conditional {l} {a = a} {yes = body} {other} h k j) w short n tl R t =
       tails_as (lines_as n tl (raw_laid-If l a body other) ∙ if_join n (spaced_words a) (block_lines (map raw_laid body) (suc n)) tl (else_lines (map raw_laid other) n ++ whole_line n (codes "}"))) (λ line.
       let wk = test_rest h w.1 in
-      let x = print_statements_of_body k wk (suc n) ((else_lines (map raw_laid other) n ++ whole_line n (codes "}")) ++ tl) (Closed (Others other (Safe R))) (print_else j (body_rest k wk) n tl R t) in
+      let parts = and_parts _ _ (sym (pass-If is_short l a body other) ∙ short) in
+      let x = print_statements_of_body k wk parts.0 (suc n) ((else_lines (map raw_laid other) n ++ whole_line n (codes "}")) ++ tl) (Closed (Others other (Safe R))) (print_else j (body_rest k wk) parts.1 n tl R t) in
       let b = brace_body body (Others other (Safe R)) x line in
       let p = print_test h w.1 line (32 ∷ 123 ∷ 10 ∷ (block_lines (map raw_laid body) (suc n) ++ ((else_lines (map raw_laid other) n ++ whole_line n (codes "}")) ++ tl))) b.tokens (print_blank (b.lexed Token)) in
       let q = b.is in
@@ -537,9 +539,9 @@ mutual
           has = r.has;
         };
       })
-  print_statement (while_loop {l} {a = a} {all} h k) w n tl R t =
+  print_statement (while_loop {l} {a = a} {all} h k) w short n tl R t =
       tails_as (lines_as n tl (raw_laid-While l a all) ∙ while_join n (spaced_words a) (block_lines (map raw_laid all) (suc n)) tl) (λ line.
-      let b = brace_body all (Safe R) (print_statements_of_body k (test_rest h w.1) (suc n) (indent n ++ (125 ∷ 10 ∷ tl)) (Closed (Safe R)) (close_tail n (10 ∷ tl) (Safe R) (new_line t))) line in
+      let b = brace_body all (Safe R) (print_statements_of_body k (test_rest h w.1) (sym (pass-While is_short l a all) ∙ short) (suc n) (indent n ++ (125 ∷ 10 ∷ tl)) (Closed (Safe R)) (close_tail n (10 ∷ tl) (Safe R) (new_line t))) line in
       let p = print_test h w.1 line (32 ∷ 123 ∷ 10 ∷ (block_lines (map raw_laid all) (suc n) ++ (indent n ++ (125 ∷ 10 ∷ tl)))) b.tokens (print_blank (b.lexed Token)) in
       let q = b.is in
       record {
@@ -547,11 +549,11 @@ mutual
         lexed = print_indent n (print_name (codes "while") w.0 (λ c. refl) (print_blank (p.lexed Token)));
         has = record { found = s.While line a q.found; rest = q.rest; is = while_loop p.is q.is; same = settled-While line a q.found ∙ ap (s.While 0 a) q.same ∙ sym (settled-While l a all); no_else = name_no_else (codes "while") line p.tokens refl; has = q.has };
       })
-  print_statement (do_loop {l} {a = a} {all} h k) w n tl R t =
+  print_statement (do_loop {l} {a = a} {all} h k) w short n tl R t =
       tails_as (lines_as n tl (raw_laid-Do l a all) ∙ do_join n (spaced_words a) (block_lines (map raw_laid all) (suc n)) tl) (λ line.
       let wk = body_rest h w.1 in
       let after : Bytes = 32 ∷ (codes "while" ++ (32 ∷ 40 ∷ (spaced_words a ++ (41 ∷ 59 ∷ 10 ∷ tl)))) in
-      let b = brace_body all (Tested a (Safe R)) (print_statements_of_body h w.1 (suc n) (indent n ++ (125 ∷ after)) (Closed (Tested a (Safe R))) (close_tail n after (Tested a (Safe R)) (λ l.
+      let b = brace_body all (Tested a (Safe R)) (print_statements_of_body h w.1 (sym (pass-Do is_short l a all) ∙ short) (suc n) (indent n ++ (125 ∷ after)) (Closed (Tested a (Safe R))) (close_tail n after (Tested a (Safe R)) (λ l.
       let x = t (l + 1) in
       let p = print_test k wk.1 l (59 ∷ 10 ∷ tl) (mark (codes ";") l ∷ x.tokens) (end_line l x) in
       record {
@@ -573,17 +575,18 @@ mutual
           has = r.has;
         };
       })
-  print_statement (for_loop {l} {first = i} {step} {a} {all} h k j c) w n tl R t =
+  print_statement (for_loop {l} {first = i} {step} {a} {all} h k j c) w short n tl R t =
       tails_as (lines_as n tl (raw_laid-For l i a step all) ∙ for_join n (init_part (option_map raw_laid i)) (spaced_words a) (step_part (option_map raw_laid step)) (block_lines (map raw_laid all) (suc n)) tl) (λ line.
       let wk = init_rest h w.1.1 in
       let wj = (expr_rest k wk).1 in
-      let b = brace_body all (Safe R) (print_statements_of_body c (step_rest j wj) (suc n) (indent n ++ (125 ∷ 10 ∷ tl)) (Closed (Safe R)) (close_tail n (10 ∷ tl) (Safe R) (new_line t))) line in
+      let parts = and_parts _ _ (sym (pass-For is_short l i a step all) ∙ short) in
+      let b = brace_body all (Safe R) (print_statements_of_body c (step_rest j wj) (and_parts _ _ parts.1).1 (suc n) (indent n ++ (125 ∷ 10 ∷ tl)) (Closed (Safe R)) (close_tail n (10 ∷ tl) (Safe R) (new_line t))) line in
       let q = b.is in
       let behind : Bytes = 32 ∷ 123 ∷ 10 ∷ (block_lines (map raw_laid all) (suc n) ++ (indent n ++ (125 ∷ 10 ∷ tl))) in
       let z = print_step j wj line behind b.tokens (print_blank (b.lexed Token)) in
       let between : Bytes = 59 ∷ (step_part (option_map raw_laid step) ++ (41 ∷ behind)) in
       let y = print_expr k wk line between (mark (codes ";") line ∷ z.tokens) (stops_expr k between (λ d. refl)) (print_mark (codes ";") refl refl (z.lexed Token)) in
-      let x = print_init h w.1.1 line (32 ∷ (spaced_words a ++ between)) y.tokens (print_blank (y.lexed Token)) in
+      let x = print_init h w.1.1 parts.0 line (32 ∷ (spaced_words a ++ between)) y.tokens (print_blank (y.lexed Token)) in
       record {
         tokens = name (codes "for") line ∷ mark (codes "(") line ∷ x.tokens;
         lexed = print_indent n (print_name (codes "for") w.0 (λ d. refl) (print_blank (print_mark (codes "(") refl refl (x.lexed Token))));
@@ -596,9 +599,9 @@ mutual
           has = q.has;
         };
       })
-  print_statement (switch {l} {a = a} {arms} h k) w n tl R t =
+  print_statement (switch {l} {a = a} {arms} h k) w short n tl R t =
       tails_as (lines_as n tl (raw_laid-Switch l a arms) ∙ switch_join n (spaced_words a) (arms_lines (map raw_arm_laid arms) (suc n)) tl) (λ line.
-      let x = print_arms k (test_rest h w.1).1 (suc n) (indent n ++ (125 ∷ 10 ∷ tl)) (Safe R) (no_arm n tl (Safe R) t) (line + 1) in
+      let x = print_arms k (test_rest h w.1).1 (sym (pass-Switch is_short l a arms) ∙ short) (suc n) (indent n ++ (125 ∷ 10 ∷ tl)) (Safe R) (no_arm n tl (Safe R) t) (line + 1) in
       let q = x.has in
       let p = print_test h w.1 line (32 ∷ 123 ∷ 10 ∷ (arms_lines (map raw_arm_laid arms) (suc n) ++ (indent n ++ (125 ∷ 10 ∷ tl)))) (mark (codes "{") line ∷ x.tokens) (print_blank (print_mark (codes "{") refl refl (print_line x.lexed))) in
       record {
@@ -607,16 +610,16 @@ mutual
         has = record { found = s.Switch line a q.found; rest = q.rest; is = switch p.is q.is; same = settled-Switch line a q.found ∙ ap (s.Switch 0 a) q.same ∙ sym (settled-Switch l a arms); no_else = name_no_else (codes "switch") line p.tokens refl; has = q.has };
       })
 
-  pub print_statements : {ts rest : Tokens} {all : List RawStatement} → AreStatements ts all rest → AreWritten ts → (n : ℕ) (tl : Bytes) (R : Tokens → Type 0) → Tails tl (Safe R)
+  pub print_statements : {ts rest : Tokens} {all : List RawStatement} → AreStatements ts all rest → AreWritten ts → list_passes is_short all ≡ true → (n : ℕ) (tl : Bytes) (R : Tokens → Type 0) → Tails tl (Safe R)
       → Tails (block_lines (map raw_laid all) n ++ tl) (Many all R)
-  print_statements AreStatements.done w n tl R t = λ line. let x = t line in record { tokens = x.tokens; lexed = x.lexed; has = record { found = []; rest = x.tokens; is = AreStatements.done; lean = tt; same = refl; no_else = x.has.0; has = x.has } }
-  print_statements (AreStatements.empty h) w n tl R t = print_statements h w.1 n tl R t
-  print_statements (AreStatements.declared {some} {all} (declaration h j) k) w n tl R t =
+  print_statements AreStatements.done w short n tl R t = λ line. let x = t line in record { tokens = x.tokens; lexed = x.lexed; has = record { found = []; rest = x.tokens; is = AreStatements.done; lean = tt; same = refl; no_else = x.has.0; has = x.has } }
+  print_statements (AreStatements.empty h) w short n tl R t = print_statements h w.1 short n tl R t
+  print_statements (AreStatements.declared {some} {all} (declaration h j) k) w short n tl R t =
       tails_as (lines_append some all n tl)
-      (print_separated h w j (base_rest h w) n (block_lines (map raw_laid all) n ++ tl) all R (print_statements k (declared_all_rest j (base_rest h w)) n tl R t))
-  print_statements (AreStatements.more {first = a} {all} h k) w n tl R t =
+      (print_separated h w j (base_rest h w) (lists_parts is_short some all short).0 n (block_lines (map raw_laid all) n ++ tl) all R (print_statements k (declared_all_rest j (base_rest h w)) (lists_parts is_short some all short).1 n tl R t))
+  print_statements (AreStatements.more {first = a} {all} h k) w short n tl R t =
       tails_as (append_assoc ((raw_laid a).lines n) (block_lines (map raw_laid all) n) tl) (λ line.
-      let x = print_statement h w n (block_lines (map raw_laid all) n ++ tl) (Many all R) (safe_many (print_statements k (statement_rest h w) n tl R t)) line in
+      let x = print_statement h w (and_parts _ _ short).0 n (block_lines (map raw_laid all) n ++ tl) (Many all R) (safe_many (print_statements k (statement_rest h w) (and_parts _ _ short).1 n tl R t)) line in
       let q = x.has in
       let r = q.has.1 in
       record {
@@ -625,13 +628,13 @@ mutual
         has = record { found = q.found ∷ r.found; rest = r.rest; is = AreStatements.more q.is r.is; lean = r.lean; same = ap₂ (λ (c : RawStatement) (cs : List RawStatement). c ∷ cs) q.same r.same; no_else = q.no_else; has = r.has };
       })
 
-  print_statements_of_body : {ts rest : Tokens} {all : List RawStatement} → IsBody ts all rest → AreWritten ts → (n : ℕ) (tl : Bytes) (R : Tokens → Type 0) → Tails tl (Safe R)
+  print_statements_of_body : {ts rest : Tokens} {all : List RawStatement} → IsBody ts all rest → AreWritten ts → list_passes is_short all ≡ true → (n : ℕ) (tl : Bytes) (R : Tokens → Type 0) → Tails tl (Safe R)
       → Tails (block_lines (map raw_laid all) n ++ tl) (Many all R)
-  print_statements_of_body (IsBody.braces h) w n tl R t = print_statements h w.1 n tl R t
-  print_statements_of_body IsBody.nothing w n tl R t = λ line. let x = t line in record { tokens = x.tokens; lexed = x.lexed; has = record { found = []; rest = x.tokens; is = AreStatements.done; lean = tt; same = refl; no_else = x.has.0; has = x.has } }
-  print_statements_of_body (single {only = a} p h) w n tl R t =
+  print_statements_of_body (IsBody.braces h) w short n tl R t = print_statements h w.1 short n tl R t
+  print_statements_of_body IsBody.nothing w short n tl R t = λ line. let x = t line in record { tokens = x.tokens; lexed = x.lexed; has = record { found = []; rest = x.tokens; is = AreStatements.done; lean = tt; same = refl; no_else = x.has.0; has = x.has } }
+  print_statements_of_body (single {only = a} p h) w short n tl R t =
       tails_as (ap (λ (z : Bytes). z ++ tl) (append-nil ((raw_laid a).lines n))) (λ line.
-      let x = print_statement h w n tl R t line in
+      let x = print_statement h w (and_parts _ _ short).0 n tl R t line in
       let q = x.has in
       record {
         tokens = x.tokens;
@@ -639,14 +642,14 @@ mutual
         has = record { found = q.found ∷ []; rest = q.rest; is = AreStatements.more q.is AreStatements.done; lean = tt; same = ap (λ (c : RawStatement). c ∷ []) q.same; no_else = q.no_else; has = q.has };
       })
 
-  print_else : {ts rest : Tokens} {other : List RawStatement} → IsElse ts other rest → AreWritten ts → (n : ℕ) (tl : Bytes) (R : Tokens → Type 0) → Tails tl (Safe R)
+  print_else : {ts rest : Tokens} {other : List RawStatement} → IsElse ts other rest → AreWritten ts → list_passes is_short other ≡ true → (n : ℕ) (tl : Bytes) (R : Tokens → Type 0) → Tails tl (Safe R)
       → Tails ((else_lines (map raw_laid other) n ++ whole_line n (codes "}")) ++ tl) (Safe (Closed (Others other (Safe R))))
-  print_else (without p) w n tl R t = tails_as (line_join n (codes "}") tl) (close_tail n (10 ∷ tl) (Others [] (Safe R)) (no_other t))
-  print_else (otherwise {all = []} h) w n tl R t = tails_as (line_join n (codes "}") tl) (close_tail n (10 ∷ tl) (Others [] (Safe R)) (no_other t))
-  print_else (otherwise {all = a ∷ all} h) w n tl R t =
+  print_else (without p) w short n tl R t = tails_as (line_join n (codes "}") tl) (close_tail n (10 ∷ tl) (Others [] (Safe R)) (no_other t))
+  print_else (otherwise {all = []} h) w short n tl R t = tails_as (line_join n (codes "}") tl) (close_tail n (10 ∷ tl) (Others [] (Safe R)) (no_other t))
+  print_else (otherwise {all = a ∷ all} h) w short n tl R t =
       tails_as (else_join n (block_lines (map raw_laid (a ∷ all)) (suc n)) tl)
       (close_tail n (32 ∷ (codes "else" ++ (32 ∷ 123 ∷ 10 ∷ (block_lines (map raw_laid (a ∷ all)) (suc n) ++ (indent n ++ (125 ∷ 10 ∷ tl)))))) (Others (a ∷ all) (Safe R)) (λ line.
-      let b = brace_body (a ∷ all) (Safe R) (print_statements_of_body h w.1 (suc n) (indent n ++ (125 ∷ 10 ∷ tl)) (Closed (Safe R)) (close_tail n (10 ∷ tl) (Safe R) (new_line t))) line in
+      let b = brace_body (a ∷ all) (Safe R) (print_statements_of_body h w.1 short (suc n) (indent n ++ (125 ∷ 10 ∷ tl)) (Closed (Safe R)) (close_tail n (10 ∷ tl) (Safe R) (new_line t))) line in
       let q = b.is in
       record {
         tokens = name (codes "else") line ∷ b.tokens;
@@ -654,15 +657,16 @@ mutual
         is = record { found = q.found; rest = q.rest; is = otherwise q.is; same = q.same; has = q.has };
       }))
 
-  print_arms : {ts rest : Tokens} {arms : List RawArm} → AreArms ts arms rest → AreWritten ts → (m : ℕ) (tl : Bytes) (R : Tokens → Type 0) → Tails tl (Arms [] R)
+  print_arms : {ts rest : Tokens} {arms : List RawArm} → AreArms ts arms rest → AreWritten ts → all_true (map (arm_passes is_short) arms) ≡ true → (m : ℕ) (tl : Bytes) (R : Tokens → Type 0) → Tails tl (Arms [] R)
       → Tails (arms_lines (map raw_arm_laid arms) m ++ tl) (Arms arms R)
-  print_arms AreArms.none w m tl R t = t
-  print_arms (broken {labels = labels} {body} {arms} h k j) w m tl R t =
+  print_arms AreArms.none w short m tl R t = t
+  print_arms (broken {labels = labels} {body} {arms} h k j) w short m tl R t =
       let wk = labels_rest h w in
-      let next = print_arms j (statements_rest k wk).1.1 m tl R t in
+      let parts = and_parts _ _ short in
+      let next = print_arms j (statements_rest k wk).1.1 parts.1 m tl R t in
       tails_as (ap (λ (f : ℕ → Bytes). (f m ++ arms_lines (map raw_arm_laid arms) m) ++ tl) (raw_arm_laid-roll labels body) ∙ arm_join m (raw_label_lines labels m) (block_lines (map raw_laid body) (suc m)) (arms_lines (map raw_arm_laid arms) m) tl)
-      (arm_tail m body arms R h w (print_statements k wk (suc m) (indent (suc m) ++ (codes "break" ++ (59 ∷ 10 ∷ (arms_lines (map raw_arm_laid arms) m ++ tl)))) (Broken (Arms arms R)) (break_tail (suc m) (arms_lines (map raw_arm_laid arms) m ++ tl) (Arms arms R) next)))
-  print_arms (unbroken {labels = labels} {body} h p k) w m tl R t =
+      (arm_tail m body arms R h w (print_statements k wk (sym (pass-arm is_short labels body) ∙ parts.0) (suc m) (indent (suc m) ++ (codes "break" ++ (59 ∷ 10 ∷ (arms_lines (map raw_arm_laid arms) m ++ tl)))) (Broken (Arms arms R)) (break_tail (suc m) (arms_lines (map raw_arm_laid arms) m ++ tl) (Arms arms R) next)))
+  print_arms (unbroken {labels = labels} {body} h p k) w short m tl R t =
       let wk = labels_rest h w in
       tails_as (ap (λ (f : ℕ → Bytes). (f m ++ []) ++ tl) (raw_arm_laid-roll labels body) ∙ arm_join m (raw_label_lines labels m) (block_lines (map raw_laid body) (suc m)) [] tl)
-      (arm_tail m body [] R h w (print_statements k wk (suc m) (indent (suc m) ++ (codes "break" ++ (59 ∷ 10 ∷ tl))) (Broken (Arms [] R)) (break_tail (suc m) tl (Arms [] R) t)))
+      (arm_tail m body [] R h w (print_statements k wk (sym (pass-arm is_short labels body) ∙ (and_parts _ _ short).0) (suc m) (indent (suc m) ++ (codes "break" ++ (59 ∷ 10 ∷ tl))) (Broken (Arms [] R)) (break_tail (suc m) tl (Arms [] R) t)))

@@ -12,6 +12,7 @@ use Rattle.c_language.specs.declared.token.TokenKind.{TokenKind}
 use Rattle.c_language.specs.declared.token.Before.{Before}
 use Rattle.c_print.specs.Written.{AreRun, HasForm, AreWritten}
 use Rattle.c_print.specs.RawLayout.{raw_layout}
+use Rattle.c_print.proofs.Declarations.{HasShortLists}
 use Rattle.c_print.proofs.ItemPrint.{ReadsAs, printed_is_read}
 
 run_goes_on : {goes_on : ℕ → ℕ → Bool} {b : ℕ} {run rest : Bytes} → IsRun goes_on b run rest → AreRun goes_on b run
@@ -49,6 +50,6 @@ pub formed_written : (ts : Tokens) → All IsFormed ts → AreWritten ts
 formed_written [] h = tt
 formed_written (t ∷ ts) h = let c = All-head IsFormed t ts h in (token_form c.is, formed_written ts (All-tail IsFormed t ts h))
 
--- What is printed of the tree of a text has tokens of that tree again.
-pub text_is_read_again : {text : Bytes} {ts : Tokens} (raw : RawProgram) → AreTokensOf text ts → IsProgram ts raw → ReadsAs (raw_layout raw) raw
-text_is_read_again raw h p = printed_is_read raw p (text_written h)
+-- What is printed of the tree of a text whose lists of initialisers are short has tokens of that tree again.
+pub text_is_read_again : {text : Bytes} {ts : Tokens} (raw : RawProgram) → AreTokensOf text ts → IsProgram ts raw → HasShortLists raw → ReadsAs (raw_layout raw) raw
+text_is_read_again raw h p short = printed_is_read raw p (text_written h) short

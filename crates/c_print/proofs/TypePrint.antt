@@ -208,9 +208,9 @@ record PrintedOuter (items line : ℕ) (bytes : Bytes) (a b : RawType) (after : 
   lexed : IsTokens Token line bytes tokens
   is : IsOuterLengths tokens a (settled_type items b) after
 
--- the number of items can be written where a list gives the first length
+-- where a list gives the first length, its number of items can be written, and is what the layout keeps
 abbrev pub Counts : ℕ → RawType → Type 0
-Counts items b = is_listed b ≡ true → nat_lt items 4294967296 ≡ true → HasForm Number (decimal items)
+Counts items b = is_listed b ≡ true → (nat_lt items 4294967296 ≡ true) × HasForm Number (decimal items)
 
 listed_settled : {ts rest : Tokens} {a b : RawType} (items : ℕ) → IsLengths ts a b rest → settled_type items a ≡ a → settled_type items (type.Array b Listed) ≡ type.Array b (settled_length items Listed)
 listed_settled {b = b} items h q = settled_type-Array items b Listed ∙ ap (λ (z : RawType). type.Array z (settled_length items Listed)) ((arrayed_by items h).stays q)
@@ -221,19 +221,16 @@ record PrintedFirst (line : ℕ) (bytes : Bytes) (a b : RawType) (after : Tokens
   lexed : IsTokens Token line bytes tokens
   is : IsOuterLengths tokens a b after
 
-print_listed : {ts : Tokens} (items : ℕ) (a b : RawType) (line : ℕ) (more : Bytes) (after : Tokens) → (nat_lt items 4294967296 ≡ true → HasForm Number (decimal items)) → IsLengths ts a b after → IsTokens Token line more ts
+print_listed : {ts : Tokens} (items : ℕ) (a b : RawType) (line : ℕ) (more : Bytes) (after : Tokens) → (nat_lt items 4294967296 ≡ true) × HasForm Number (decimal items) → IsLengths ts a b after → IsTokens Token line more ts
     → PrintedFirst line (91 ∷ (raw_length_words items Listed ++ (93 ∷ more))) a (type.Array b (settled_length items Listed)) after
-print_listed {ts} items a b line more after c h k = by_answer (nat_lt items 4294967296)
-    (λ t. let d = c t in rw t (record {
+print_listed {ts} items a b line more after c h k =
+    let few = c.0 in
+    let d = c.1 in
+    rw few (record {
       tokens = mark (codes "[") line ∷ number (decimal items) line ∷ mark (codes "]") line ∷ ts;
       lexed = print_mark (codes "[") refl refl (print_number (decimal items) d (λ g. refl) (print_mark (codes "]") refl refl k));
       is = written (IsLengths.length number_constant h);
-    }))
-    (λ n. rw n (record {
-      tokens = mark (codes "[") line ∷ mark (codes "]") line ∷ ts;
-      lexed = print_mark (codes "[") refl refl (print_mark (codes "]") refl refl k);
-      is = empty h;
-    }))
+    })
 
 outer_as : {items line : ℕ} {bytes : Bytes} {a b c : RawType} {after : Tokens} → c ≡ settled_type items b → PrintedFirst line bytes a c after → PrintedOuter items line bytes a b after
 outer_as {a = a} {after = after} e x = record { tokens = x.tokens; lexed = x.lexed; is = subst (λ (z : RawType). IsOuterLengths x.tokens a z after) e x.is }

@@ -1,6 +1,6 @@
 -- The layout of the tree of a text, with names as they stand there. It is the layout of the text's program, where the text
--- keeps all rules and limits; any other text has one, too.
-use Rattle.std.specs.Prelude.{ℕ, suc, List, [], ◌∷◌, ◌++◌, Bool, true, false, Option, Some, None, codes, map, decimal, nat_lt, if◌then◌else◌}
+-- keeps all rules; any other text has one, too.
+use Rattle.std.specs.Prelude.{ℕ, suc, List, [], ◌∷◌, ◌++◌, Bool, true, false, Option, Some, None, codes, map, decimal}
 use Rattle.c_tree.specs.declared.raw.expr.RawExpr.{RawExpr}
 use Rattle.c_tree.specs.declared.raw.expr.RawLength.{RawLength}
 use Rattle.c_tree.specs.declared.raw.expr.RawLength.TheVariants.{Written, Listed}
@@ -56,10 +56,10 @@ raw_stars_step (RawType-F.Struct tag) = []
 abbrev pub raw_stars : RawType → Bytes
 raw_stars = fold-RawType Bytes raw_stars_step
 
--- a length: its own words, or the number of items where a list gives it; a list of 2 to the 32 items or more keeps it
+-- a length: its own words, or the number of items where a list gives it
 abbrev pub raw_length_words : ℕ → RawLength → Bytes
 raw_length_words items (Written a) = spaced_words a
-raw_length_words items Listed = if nat_lt items 4294967296 then decimal items else []
+raw_length_words items Listed = decimal items
 
 abbrev pub raw_lengths_step : ℕ → RawType-F Bytes → Bytes
 raw_lengths_step items (RawType-F.Integer t) = []

@@ -20,7 +20,7 @@ use Rattle.c_tree.specs.declared.raw.statement.RawStatement.TheVariants as s
 use Rattle.c_tree.specs.declared.raw.statement.RawArm.{RawArm, roll-RawArm, fold-RawArm}
 use Rattle.c_language.specs.DeclaredTypes.{item_count}
 
--- a length that a list gives is its decimal number, where the list has fewer than 2 to the 32 items
+-- a length that a list gives is the number of its items, where there are fewer than 2 to the 32: a greater number may be no constant
 abbrev pub settled_length : ℕ → RawLength → RawLength
 settled_length items (Written a) = Written a
 settled_length items Listed = if nat_lt items 4294967296 then Written (e.Constant (decimal items)) else Listed

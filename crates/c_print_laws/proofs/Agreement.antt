@@ -248,14 +248,14 @@ module _ (raw : RawProgram) (p : Program) (named : IsNamed raw p) where
 
   pub agreed_declared : (a b : RawType) (c : CType) (name : Bytes) → IsPlain a → IsPlain b → ctype raw b ≡ Some c → SameWords a b → declared p c name ≡ raw_declared 0 a name
   agreed_declared a b c name ha hb is h =
-      declared_layout raw p named 0 refl b c name is
+      declared_layout raw p named 0 b c name is
       ∙ ap₂ (λ (x y : Bytes). x ++ (codes " " ++ (y ++ (name ++ raw_lengths 0 b)))) h.front h.star
       ∙ ap (λ (w : Bytes). raw_base a ++ (codes " " ++ (raw_stars a ++ (name ++ w)))) (plain_lengths hb ∙ sym (plain_lengths ha))
 
   pub agreed_nameless : (a b : RawType) (c : CType) → ctype raw b ≡ Some c → SameWords a b → type_words p c ≡ raw_type_words a
-  agreed_nameless a b c is h = nameless_layout raw p named 0 refl b c is ∙ ap₂ (λ (x y : Bytes). x ++ spaced_stars y) h.front h.star
+  agreed_nameless a b c is h = nameless_layout raw p named 0 b c is ∙ ap₂ (λ (x y : Bytes). x ++ spaced_stars y) h.front h.star
 
   pub agreed_result : (a b : RawType) (c : CType) → ctype raw b ≡ Some c → SameWords a b → base_words p c ++ (codes " " ++ stars c) ≡ raw_base a ++ (codes " " ++ raw_stars a)
   agreed_result a b c is h =
-      let k = type_layout raw p named 0 refl b c is in
+      let k = type_layout raw p named 0 b c is in
       ap₂ (λ (x y : Bytes). x ++ (codes " " ++ y)) (k.base ∙ h.front) (k.star ∙ h.star)

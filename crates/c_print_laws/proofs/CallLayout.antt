@@ -112,7 +112,7 @@ module _ (raw : RawProgram) (p : Program) (named : IsNamed raw p) (scope : Scope
   size_layout : (m : RawSize) (x : Size) → size_tree raw scope m ≡ Some x → size_words p x ≡ raw_size_words m
   size_layout (size.Type t) x h =
       let g = map_there measure.Type (ctype raw (named_type t)) x h in
-      ap (size_words p) (sym g.same) ∙ ap (λ (w : Bytes). codes "sizeof(" ++ (w ++ codes ")")) (nameless_layout raw p named 0 refl (named_type t) g.value g.there)
+      ap (size_words p) (sym g.same) ∙ ap (λ (w : Bytes). codes "sizeof(" ++ (w ++ codes ")")) (nameless_layout raw p named 0 (named_type t) g.value g.there)
   size_layout (size.Pointee name closed) x h =
       let g = map_there (λ (k : ℕ). measure.Pointee k closed) (variable_number (meaning_in scope name)) x h in
       ap (size_words p) (sym g.same) ∙ pointee closed g.value (variable_named raw p named scope fits name (meaning_in scope name) refl g.value g.there)
@@ -144,7 +144,7 @@ module _ (raw : RawProgram) (p : Program) (named : IsNamed raw p) (scope : Scope
       elim_none : {A : Type 0} (o : Option CType) → ◌≡◌ {A = Option (Option CType)} (Some o) None → A
       elim_none o e = none_there (sym e)
   cast_layout (Some c) (Some t) h =
-      ap (λ (w : Bytes). codes "(" ++ (w ++ codes ")")) (nameless_layout raw p named 0 refl (named_type c) t (some_same (optional_there (Some (ctype raw (named_type c))) (Some t) h)))
+      ap (λ (w : Bytes). codes "(" ++ (w ++ codes ")")) (nameless_layout raw p named 0 (named_type c) t (some_same (optional_there (Some (ctype raw (named_type c))) (Some t) h)))
 
   -- a target of the program, in the words of the text
   abbrev pub TargetLaid : RawTarget → Option Target → Type 0

@@ -1,5 +1,5 @@
 -- The layout of a program is that of its text.
-use Rattle.std.proofs.Common.{◌≡◌, ◌≢◌, ℕ, zero, suc, ◌+◌, ◌≤◌, List, [], ◌∷◌, ◌++◌, length, map, Bool, true, false, Option, Some, None, codes, refl, sym, ap, ap₂, subst, ◌∙◌, arith, slice_get}
+use Rattle.std.proofs.Common.{◌≡◌, ◌≢◌, ℕ, zero, suc, ◌+◌, List, [], ◌∷◌, ◌++◌, length, map, Bool, true, false, Option, Some, None, codes, refl, sym, ap, ap₂, subst, ◌∙◌, arith, slice_get}
 use Rattle.std.specs.Prelude.{is_some, nat_lt, if◌then◌else◌, bytes_eq, Contains}
 use Rattle.std.specs.Option.{option_map_or}
 use Rattle.std.specs.List.{find, position, position_or_len}
@@ -40,14 +40,13 @@ use Rattle.c_language.specs.ExprTypes.{same_base}
 use Rattle.c_language.specs.declared.expr_type.Base.{Base}
 use Rattle.c_language.specs.declared.expr_type.Base.TheVariants as base
 use Rattle.c_language.specs.declared.expr_type.ExprType.{ExprType}
-use Rattle.c_language.specs.Limits.{array_length}
 use Rattle.c_language.specs.ProgramOf.{ctype, ctype_with, ctype_if, init_of, member_tree, struct_tree, parameter_ids, function_tree, functions_from, body_of, item_tree, items_from, program_of}
 use Rattle.c_language.proofs.LayoutLemmas.{block_lines-laid}
 use Rattle.c_print.specs.RawLayout.{raw_declared, raw_body_lines, raw_result_words, raw_named_words, raw_param_words, raw_head_words, raw_member_lines, raw_item_lines, raw_items_lines, raw_layout}
 use Rattle.c_print_laws.proofs.Options.{none_there, some_same, map_there, both_there, collected_are, cons_nil, first_same, rest_same}
 use Rattle.c_print_laws.proofs.Named.{IsNamed, Fits, fits_append, positioned, struct_at, struct_named, member_named, members_typed}
 use Rattle.c_print_laws.proofs.TypeLayout.{declared_layout, type_layout}
-use Rattle.c_print_laws.proofs.Told.{AreTold, AreKept, AllStand, stand_all, phrases_kept, told_first, told_rest, few_items, is_declared}
+use Rattle.c_print_laws.proofs.Told.{AreTold, AreKept, AllStand, stand_all, phrases_kept, told_first, told_rest, is_declared}
 use Rattle.c_print_laws.proofs.CallLayout.{optional_there, init_layout}
 use Rattle.c_print_laws.proofs.StatementLayout.{begins_kept, list_laid}
 use Rattle.c_print_laws.proofs.Numbers.{parameter_count, head_count, function_variables, body_in_order, define_structs, prototype_functions, prototype_structs}
@@ -66,7 +65,7 @@ not_false : (b : Bool) → (b ≡ false → ⊥) → b ≡ true
 not_false true other = refl
 not_false false other = absurd (other refl)
 
-module _ (raw : RawProgram) (p : Program) (named : IsNamed raw p) (long : array_length p ≤ 65536) where
+module _ (raw : RawProgram) (p : Program) (named : IsNamed raw p) where
   -- ---- definitions
 
   body_laid : (body : List RawStatement) (scope : Scope) → Fits p scope → AreTold raw p scope.variables (body_phrases raw body scope)
@@ -74,18 +73,18 @@ module _ (raw : RawProgram) (p : Program) (named : IsNamed raw p) (long : array_
   body_laid body scope fits told ts h =
       sym (block_lines-laid p ts 1)
       ∙ ap (λ (all : List Laid). block_lines all 1)
-      (list_laid raw p named long body scope InBlock fits (subst (AreTold raw p scope.variables) (body_in_order raw body scope) told) ts (collected_are _ ts h))
+      (list_laid raw p named body scope InBlock fits (subst (AreTold raw p scope.variables) (body_in_order raw body scope) told) ts (collected_are _ ts h))
 
   result_laid : (t : Option RawType) (c : Option CType) → ctype_if raw t ≡ Some c → result_words p c ≡ raw_result_words t
   result_laid None c h = ap (result_words p) (sym (some_same h))
   result_laid (Some t) None h = none_there (sym (optional_there (Some (ctype raw t)) None h))
   result_laid (Some t) (Some c) h =
-      let k = type_layout raw p named 0 refl t c (some_same (optional_there (Some (ctype raw t)) (Some c) h)) in
+      let k = type_layout raw p named 0 t c (some_same (optional_there (Some (ctype raw t)) (Some c) h)) in
       ap₂ (λ (x y : Bytes). x ++ (codes " " ++ y)) k.base k.star
 
   parameter_fits : (q : RawParam) (name : Option Bytes) (scope : Scope) → Fits p scope → AreTold raw p scope.variables (parameter_phrases raw q name scope) → Fits p (with_named raw q name scope)
   parameter_fits q None scope fits told = fits
-  parameter_fits q (Some name) scope fits told = (is_declared raw p named q.line scope.owner InHead scope (parameter_of q name) init.None refl told.stand.0).fits fits
+  parameter_fits q (Some name) scope fits told = (is_declared raw p named q.line scope.owner InHead scope (parameter_of q name) init.None told.stand.0).fits fits
 
   parameters_fit : (ps : List RawParam) (scope : Scope) → Fits p scope → AreTold raw p scope.variables (head_phrases raw ps scope) → Fits p (with_parameters raw ps scope)
   parameters_fit [] scope fits told = fits
@@ -99,7 +98,7 @@ module _ (raw : RawProgram) (p : Program) (named : IsNamed raw p) (long : array_
       → map (var_words p) (if is_some name then scope.variables ∷ parameter_ids ps (scope.variables + 1) else parameter_ids ps scope.variables) ≡ raw_named_words name q.shape ∷ map raw_param_words ps
   parameter_laid q ps None scope is told rest = false_true is
   parameter_laid q ps (Some name) scope is told rest =
-      ap₂ (λ (w : Bytes) (ws : List Bytes). w ∷ ws) (is_declared raw p named q.line scope.owner InHead scope (parameter_of q name) init.None refl told.stand.0).words rest
+      ap₂ (λ (w : Bytes) (ws : List Bytes). w ∷ ws) (is_declared raw p named q.line scope.owner InHead scope (parameter_of q name) init.None told.stand.0).words rest
 
   parameters_laid : (ps : List RawParam) (scope : Scope) → are_named ps ≡ true → AreTold raw p scope.variables (head_phrases raw ps scope) → map (var_words p) (parameter_ids ps scope.variables) ≡ map raw_param_words ps
   parameters_laid [] scope are told = refl
@@ -144,7 +143,7 @@ module _ (raw : RawProgram) (p : Program) (named : IsNamed raw p) (long : array_
   members_laid (m ∷ ms) (x ∷ xs) h =
       let g = map_there _ (ctype raw m.shape) x (first_same h) in
       ap₂ (λ (w z : Bytes). line 1 (w ++ codes ";") ++ z)
-      (ap (λ (y : Member). declared p y.shape y.name) (sym g.same) ∙ declared_layout raw p named 0 refl m.shape g.value m.name g.there) (members_laid ms xs (rest_same h))
+      (ap (λ (y : Member). declared p y.shape y.name) (sym g.same) ∙ declared_layout raw p named 0 m.shape g.value m.name g.there) (members_laid ms xs (rest_same h))
 
   struct_laid : (are : map (struct_tree raw) (defined_structs raw) ≡ map Some p.structs) (k l : ℕ) (w : Bytes) (members : List RawMember)
       → slice_get (defined_structs raw) k ≡ Some (record { tag = w; members = members }) → item_lines p (item.Struct k) ≡ raw_item_lines (Struct l w members)
@@ -158,12 +157,11 @@ module _ (raw : RawProgram) (p : Program) (named : IsNamed raw p) (long : array_
   global_laid l v i is_static scope x fits told h =
       let at = told.stand.0 in
       let g = map_there _ (ctype_with raw (item_count i) v.shape) at.var at.is in
-      let few = few_items raw p long l scope (InFile is_static) v i told in
-      let d = is_declared raw p named l scope.owner (InFile is_static) scope v i few at in
+      let d = is_declared raw p named l scope.owner (InFile is_static) scope v i at in
       let words : global_words p scope.variables ≡ static_words is_static ++ raw_declared (item_count i) v.shape v.name
       = ap (λ (o : Option Var). option_map_or (λ (y : Var). static_words y.is_static ++ declared p y.shape y.name) o []) (at.at ∙ ap Some (sym g.same))
-      ∙ ap (λ (w : Bytes). static_words is_static ++ w) (declared_layout raw p named (item_count i) few v.shape g.value v.name g.there) in
-      ap₂ (λ (w z : Bytes). line 0 (w ++ (z ++ codes ";"))) words (init_layout raw p named (with_variable raw v i scope) (d.fits fits) i (begins_kept raw p named long l scope (InFile is_static) v i told) x h)
+      ∙ ap (λ (w : Bytes). static_words is_static ++ w) (declared_layout raw p named (item_count i) v.shape g.value v.name g.there) in
+      ap₂ (λ (w z : Bytes). line 0 (w ++ (z ++ codes ";"))) words (init_layout raw p named (with_variable raw v i scope) (d.fits fits) i (begins_kept raw p named l scope (InFile is_static) v i told) x h)
 
   -- ---- prototypes
 
@@ -311,7 +309,7 @@ module _ (raw : RawProgram) (p : Program) (named : IsNamed raw p) (long : array_
         let told = first_told (Global l v j is_static) xs scope k.at.told in
         let next : ItemsAt after xs = record {
           at = same_functions raw p scope after (Global l v j is_static) xs refl refl refl k.at;
-          fits = (is_declared raw p named l scope.owner (InFile is_static) scope v j (few_items raw p long l scope (InFile is_static) v j told) told.stand.0).fits k.fits;
+          fits = (is_declared raw p named l scope.owner (InFile is_static) scope v j told.stand.0).fits k.fits;
           structs = k.structs;
         } in
         let g = map_there (item.Global scope.variables) (init_of raw (with_variable raw v j scope) j) i (first_same h) in
@@ -344,12 +342,12 @@ plain_heads (Define l hd body ∷ xs) formed zero h is = subst HeadPlain (some_s
 plain_heads (Define l hd body ∷ xs) formed (suc k) h is = plain_heads xs formed.1 k h is
 
 -- The layout of the program of a text is that of the text's tree, where the text keeps the rules and is in the grammar as to its heads.
-pub layout_of_tree : (raw : RawProgram) (p : Program) → program_of raw ≡ Some p → KeepsRules raw → array_length p ≤ 65536 → AreFormed raw.items → layout p ≡ raw_layout raw
-layout_of_tree raw p is keeps long formed =
+pub layout_of_tree : (raw : RawProgram) (p : Program) → program_of raw ≡ Some p → KeepsRules raw → AreFormed raw.items → layout p ≡ raw_layout raw
+layout_of_tree raw p is keeps formed =
     let parts = program_parts raw p is in
     let told : AreTold raw p 0 (phrases raw) = record { kept = phrases_kept raw keeps; stand = subst (AllStand p 0) (sym parts.vars) (stand_all p 0 p.vars (λ i. ap (slice_get p.vars) (omega arith))) } in
     let at : FunctionsAt raw p outset raw.items = record { functions = p.functions; are = parts.functions; behind = λ i. ap (slice_get p.functions) (omega arith); told = told; formed = formed } in
     let defined : ((k : ℕ) (h : RawHead) → slice_get (defined_functions raw) k ≡ Some h → IsDefinedAs raw p k h) = λ k h found. subst (λ (n : ℕ). IsDefinedAs raw p n h) (omega arith) (definitions raw p raw.items outset at k h found) in
     let named : IsNamed raw p = record { structs = struct_named raw p parts.structs; members = member_named raw p parts.structs; functions = function_named raw p defined; complete = members_typed raw p parts.structs } in
-    items_laid raw p named long defined (plain_heads raw.items formed) parts.structs raw.items outset p.items
+    items_laid raw p named defined (plain_heads raw.items formed) parts.structs raw.items outset p.items
     (record { at = at; fits = tt; structs = λ i. ap (slice_get (defined_structs raw)) (omega arith) }) parts.items

@@ -12,6 +12,7 @@ pub mod CallLayout
 pub mod StatementLayout
 pub mod Numbers
 pub mod Definitions
+pub mod ShortLists
 pub mod Agreement
 pub mod ItemLayout
 pub mod HeadForms
@@ -19,7 +20,6 @@ pub mod Alike
 pub mod Resembling
 pub mod RuleTransfer
 pub mod Settling
-pub mod Declarations
 pub mod PhraseAgreement
 pub mod RulesKept
 pub mod SameTrees

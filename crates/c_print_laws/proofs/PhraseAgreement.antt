@@ -18,7 +18,7 @@ use Rattle.c_language.specs.Scopes.{Scope, Scoped, Meaning, with_entry, with_var
 use Rattle.c_language.specs.Phrases.{Stand, InBlock, InArm, InFor, Part, Phrase, Phrases, phrase, Tests, Switches, declaration, begun_phrases, target_phrases, joined_at, block_phrases, at_stand, ArmText, labels_of, phrases_of_arms, scoped_step, scoped_arm, scoped, scoped_of_arm}
 use Rattle.c_language.specs.declared.expr_type.ExprType.{ExprType}
 use Rattle.c_print.specs.Settled.{settled_var, settled_step, settled_arm_step, settled, settled_arm}
-pub use Rattle.c_print_laws.proofs.Declarations.{all_true, if_true, declares_step, arm_declares, declarations_pass, arm_passes}
+use Rattle.c_print.proofs.Declarations.{all_true, declares_step, arm_declares, declarations_pass, arm_passes}
 use Rattle.c_print_laws.proofs.Trees.{StatementParts, statement_layer, ArmParts, arm_layer, of_every_statement, of_every_arm}
 use Rattle.c_print_laws.proofs.Definitions.{and_parts}
 use Rattle.c_print_laws.proofs.Alike.{Pairwise, pairwise_append}

@@ -1,5 +1,5 @@
 -- What is printed of the program of a text is read again as the same program but for lines.
-use Rattle.std.proofs.Common.{◌≡◌, ◌≤◌, true, arith, ℕ, max, List, [], ◌∷◌, ◌++◌, append-nil, reverse, map, Some, refl, sym, ap, subst, ◌∙◌}
+use Rattle.std.proofs.Common.{◌≡◌, true, arith, ℕ, max, List, [], ◌∷◌, ◌++◌, append-nil, reverse, map, Some, refl, sym, ap, subst, ◌∙◌}
 use Rattle.c_tree.specs.declared.program.Program.{Program}
 use Rattle.c_tree.specs.declared.program.Var.{Var}
 use Rattle.c_tree.specs.Unlined.{unlined_var, SameButLines}
@@ -22,6 +22,7 @@ use Rattle.c_print.proofs.ItemPrint.{printed_is_read}
 use Rattle.c_print.proofs.TextPrint.{text_formed, formed_written}
 use Rattle.c_print_laws.specs.ReadAgain.{IsReadAgain}
 use Rattle.c_print_laws.proofs.ItemLayout.{layout_of_tree}
+use Rattle.c_print_laws.proofs.ShortLists.{short_lists}
 use Rattle.c_print_laws.proofs.HeadForms.{heads_formed}
 use Rattle.c_print_laws.proofs.Settling.{settled_program}
 use Rattle.c_print_laws.proofs.RulesKept.{settled_keeps, kept_by_settled}
@@ -34,9 +35,9 @@ use Rattle.c_print_laws.proofs.UntoldItems.{fitting_untold}
 use Rattle.c_print_laws.proofs.FittingKept.{fitting_kept}
 use Rattle.c_print_laws.proofs.ListForms.{is_counted, fine, lists_counted}
 
--- The layout of a program of the text's tree is that of the tree.
-pub layout_of_text : {ts : Tokens} (raw : RawProgram) (p : Program) → IsProgram ts raw → KeepsRules raw → array_length p ≤ 65536 → program_of raw ≡ Some p → layout p ≡ raw_layout raw
-layout_of_text raw p g keeps long is = layout_of_tree raw p is keeps long (heads_formed raw g)
+-- The layout of the program of a text that keeps all rules is that of the text's tree.
+pub layout_of_text : {ts : Tokens} (raw : RawProgram) (p : Program) → IsProgram ts raw → KeepsRules raw → program_of raw ≡ Some p → layout p ≡ raw_layout raw
+layout_of_text raw p g keeps is = layout_of_tree raw p is keeps (heads_formed raw g)
 
 -- ---- quantities that have no lines
 
@@ -108,9 +109,9 @@ layout_is_read_again p h =
     let raw = h.raw in
     let ts = h.tree.tokens in
     let g = h.tree.is.grammar in
-    let r = printed_is_read raw g (formed_written ts h.tree.is.formed) in
+    let r = printed_is_read raw g (formed_written ts h.tree.is.formed) (short_lists raw h.same h.has.program h.has.rules h.within.lengths) in
     let k = same_in_layout raw r.found h.same g r.is (ap (λ (xs : List RawItem). record { items = xs }) r.same) h.has.rules h.has.program in
-    let laid : layout p ≡ raw_layout raw = layouts_same p h.same h.but_lines ∙ layout_of_text raw h.same g h.has.rules h.within.lengths h.has.program in
+    let laid : layout p ≡ raw_layout raw = layouts_same p h.same h.but_lines ∙ layout_of_text raw h.same g h.has.rules h.has.program in
     let untold = fitting_untold r.is r.lean (fitting_kept raw r.found r.same (tree_fits g (untold_tokens ts h.tree.is.whole))) in
     record {
       found = r.found;

@@ -143,10 +143,6 @@ module _ (raw other : RawProgram) (like : Resembles raw other) where
 
   -- ---- members
 
-  -- a member's type, where there is one
-  abbrev shape_in : Option RawMember → Option RawType
-  shape_in m = option_map (λ (m : RawMember). m.shape) m
-
   members_found : (a b : Option StructText) (name : Bytes) → BothThere StructsAgree a b
       → BothThere MembersAgree (option_and_then (λ (d : StructText). member_named d.members name) a) (option_and_then (λ (d : StructText). member_named d.members name) b)
   members_found None None name h = tt

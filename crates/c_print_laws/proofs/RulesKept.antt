@@ -22,13 +22,13 @@ use Rattle.c_language.specs.Rules.{Breaks, IsBroken, KeepsRules}
 use Rattle.c_language.specs.NameRules.{main_name}
 use Rattle.c_language.specs.CallRules.{EndsWithValue}
 use Rattle.c_print.specs.Settled.{settled_var, settled, settled_member, settled_param, settled_head, settled_item}
-pub use Rattle.c_print_laws.proofs.Declarations.{item_passes, items_pass}
+use Rattle.c_print.proofs.Declarations.{all_true, declarations_pass, item_passes, items_pass}
 use Rattle.c_print_laws.proofs.Definitions.{and_parts, false_true}
 use Rattle.c_print_laws.proofs.Alike.{Pairwise, pair_of, pairwise_append, pairwise_back}
 use Rattle.c_print_laws.proofs.Resembling.{MembersAgree, ParamsAgree, HeadsAgree, heads_back, members_back, Resembles, resembles_back, definitions_agree}
 use Rattle.c_print_laws.proofs.RuleTransfer.{VarsAgree, PartsAgree, vars_same, breaks_moves, there_none}
 use Rattle.c_print_laws.proofs.Settling.{settled_program, settled_resembles, heads_agree, settled_var_agrees}
-use Rattle.c_print_laws.proofs.PhraseAgreement.{all_true, declarations_pass, Fine, kept_layer, settled_layer, PhraseAgrees, PhrasesAgree, agree_append, same_phrase, variable_same, declaration_agrees, statement_agrees}
+use Rattle.c_print_laws.proofs.PhraseAgreement.{Fine, kept_layer, settled_layer, PhraseAgrees, PhrasesAgree, agree_append, same_phrase, variable_same, declaration_agrees, statement_agrees}
 
 -- ---- the last statement of a function
 

@@ -28,14 +28,15 @@ use Rattle.c_language.specs.Scopes.{Scope, outset, entered, in_order, with_varia
 use Rattle.c_language.specs.Phrases.{Stand, Part, NamesStruct, DefinesStruct, HasMember, DeclaresFunction, Takes, EndsFunction, Declares, Begins, Assigns, Bumps, Calls, Allocates, Tests, Switches, Returns, Phrases, phrases, after_item, after_items, scope_at_end}
 use Rattle.c_language.specs.ProgramOf.{collected, optional, ctype, ctype_with, ctype_if, init_of, treed, body_of, is_static_stand, is_parameter_stand, variable_of, declared_by, variables_in, variables_of, member_tree, struct_tree, structs_of, parameter_ids, function_tree, functions_from, functions_of, item_tree, items_from, items_of, program_with, program_of}
 use Rattle.c_print.specs.Settled.{settled_var, settled, settled_param, settled_head, settled_item}
+use Rattle.c_print.proofs.Declarations.{all_true, declarations_pass, item_passes, items_pass}
 use Rattle.c_print_laws.proofs.Options.{map_there}
 use Rattle.c_print_laws.proofs.Definitions.{and_parts}
 use Rattle.c_print_laws.proofs.Alike.{Pairwise, pairwise_map}
 use Rattle.c_print_laws.proofs.Resembling.{MembersAgree, StructsAgree, Resembles, struct_ids, function_ids, ctypes_same}
 use Rattle.c_print_laws.proofs.RuleTransfer.{VarsAgree, PartsAgree, vars_same}
 use Rattle.c_print_laws.proofs.Settling.{settled_program, settled_resembles, settled_var_agrees}
-use Rattle.c_print_laws.proofs.PhraseAgreement.{all_true, declarations_pass, Fine, variable_same}
-use Rattle.c_print_laws.proofs.RulesKept.{item_passes, items_pass, item_after, entered_same, Meet, settled_meets}
+use Rattle.c_print_laws.proofs.PhraseAgreement.{Fine, variable_same}
+use Rattle.c_print_laws.proofs.RulesKept.{item_after, entered_same, Meet, settled_meets}
 use Rattle.c_print_laws.proofs.SameTrees.{map_twice, map_both, map_then, both_mapped, collected_map, inits_same, bodies_same}
 
 then_mapped : {A B C : Type 0} (h : B → Option C) (f : A → B) (o : Option A) → option_and_then (λ x. h (f x)) o ≡ option_and_then h (option_map f o)

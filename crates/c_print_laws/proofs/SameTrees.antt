@@ -48,12 +48,13 @@ use Rattle.c_language.specs.declared.expr_type.Operand.{Operand}
 use Rattle.c_language.specs.CallRules.{only_arg, later_args, format_in}
 use Rattle.c_language.specs.ProgramOf.{collected, optional, ctype_if, expr_of, exprs_of, init_of, declaration_id, target_tree, arg_tree, args_tree, only_tree, print_tree, invoke_tree, call_tree, size_tree, amount_tree, heap_tree, label_tree, arm_tree, ArmTree, arm_tree_step, block_tree, at_type, switch_type, part_tree, for_tree, treed_step, treed}
 use Rattle.c_print.specs.Settled.{settled_var, settled, settled_arm}
+use Rattle.c_print.proofs.Declarations.{all_true, declares_step, arm_declares, declarations_pass, arm_passes}
 use Rattle.c_print_laws.proofs.Trees.{StatementParts, statement_layer, ArmParts, arm_layer, of_every_statement}
 use Rattle.c_print_laws.proofs.Definitions.{and_parts}
 use Rattle.c_print_laws.proofs.Scoping.{treed_arm, statement_scoped, arm_scoped}
 use Rattle.c_print_laws.proofs.Resembling.{Resembles, function_ids, ctypes_same, operands_same, exprs_same}
 use Rattle.c_print_laws.proofs.Settling.{settled_var_agrees}
-use Rattle.c_print_laws.proofs.PhraseAgreement.{all_true, declares_step, arm_declares, declarations_pass, arm_passes, Fine, kept_layer, settled_layer, settled_arm_layer, variable_same, target_same, statement_agrees, arm_agrees_kept}
+use Rattle.c_print_laws.proofs.PhraseAgreement.{Fine, kept_layer, settled_layer, settled_arm_layer, variable_same, target_same, statement_agrees, arm_agrees_kept}
 
 -- ---- options and lists
 

@@ -1,5 +1,5 @@
 -- The layout of a statement of a program is that of the text's statement.
-use Rattle.std.proofs.Common.{◌≡◌, ℕ, zero, suc, ◌≤◌, arith, List, [], ◌∷◌, ◌++◌, Option, Some, None, codes, refl, sym, ap, ap₂, subst, ◌∙◌, map}
+use Rattle.std.proofs.Common.{◌≡◌, ℕ, zero, suc, arith, List, [], ◌∷◌, ◌++◌, Option, Some, None, codes, refl, sym, ap, ap₂, subst, ◌∙◌, map}
 use Rattle.std.specs.Prelude.{Contains, option_map, option_and_then, ℤ}
 use Rattle.c_arith.specs.declared.int_type.IntType.{IntType}
 use Rattle.c_arith.specs.IntType.{convert}
@@ -28,7 +28,6 @@ use Rattle.c_language.specs.Words.{Bytes, assign_sign}
 use Rattle.c_language.specs.Layout.{line, bump_words, return_words, Laid, plain, block_lines, else_lines, init_part, step_part, label_words, label_lines, arms_lines, braced, target_words, statement_step, arm_step, laid}
 use Rattle.c_language.specs.ConstantEvaluation.{both, constant, value_of_constant}
 use Rattle.c_language.specs.declared.constant.Constant.{Constant}
-use Rattle.c_language.specs.Limits.{array_length}
 use Rattle.c_language.specs.Rules.{Breaks}
 use Rattle.c_language.specs.Uses.{init_exprs, target_exprs, arg_exprs, counts, if_given, expressions}
 use Rattle.c_language.specs.Scopes.{Scope, Scoped, with_variable, with_target, opened, numbered, begun, in_order, after_all, after_block, part_gives, after_part, scope_of_test, scope_of_body}
@@ -43,7 +42,7 @@ use Rattle.c_print_laws.proofs.Operands.{KeepsAll, keeps_all}
 use Rattle.c_print_laws.proofs.Named.{IsNamed, Fits}
 use Rattle.c_print_laws.proofs.ExprLayout.{expr_layout, constant_layout}
 use Rattle.c_print_laws.proofs.Scoping.{treed_arm, target_count, statement_scoped, arm_scoped, after_block_same, after_block_count, mapped, after_part_same, after_part_count}
-use Rattle.c_print_laws.proofs.Told.{AreTold, told_first, told_rest, told_later, few_items, is_declared}
+use Rattle.c_print_laws.proofs.Told.{AreTold, told_first, told_rest, told_later, is_declared}
 use Rattle.c_print_laws.proofs.CallLayout.{optional_there, init_layout, heap_layout, call_layout}
 
 -- ---- forms of statements, over the words of a test
@@ -96,7 +95,7 @@ contained_right : {A : Type 0} (xs ys : List A) (a : A) → Contains ys a → Co
 contained_right [] ys a c = c
 contained_right (x ∷ xs) ys a c = let d = contained_right xs ys a c in (suc d.0, omega (arith, d.1), d.2)
 
-module _ (raw : RawProgram) (p : Program) (named : IsNamed raw p) (long : array_length p ≤ 65536) where
+module _ (raw : RawProgram) (p : Program) (named : IsNamed raw p) where
   -- the one expression of a phrase that breaks no rule
   only_kept : (scope : Scope) (part : Part) (a : RawExpr) → ((n : ℕ) → Breaks raw scope part n → ⊥) → Contains (expressions part) a → KeepsAll raw scope a
   only_kept scope part a kept c = keeps_all raw scope part kept a c
@@ -242,7 +241,7 @@ module _ (raw : RawProgram) (p : Program) (named : IsNamed raw p) (long : array_
         ap (target_words p) (sym g.same) ∙ ap (λ (w : Bytes). w ++ codes " = ") (expr_layout raw p named scope fits a (keeps a (0, omega arith, refl)) g.value g.there);
   }
   target_laid l scope stand (target.Declared v) keeps fits told =
-      let d = is_declared raw p named l scope.owner stand scope v init.None refl told.stand.0 in
+      let d = is_declared raw p named l scope.owner stand scope v init.None told.stand.0 in
       record { fits = d.fits fits; lays = λ x h. ap (target_words p) (sym (some_same h)) ∙ ap (λ (w : Bytes). w ++ codes " = ") d.words }
 
   -- ---- each form of statement
@@ -264,7 +263,7 @@ module _ (raw : RawProgram) (p : Program) (named : IsNamed raw p) (long : array_
 
   declare_lays : (l : ℕ) (v : RawVar) (i : RawInit) → LayerLays (RawStatement-F.Declare l v i)
   declare_lays l v i scope stand fits told =
-      let d = is_declared raw p named l scope.owner stand scope v i (few_items raw p long l scope stand v i told) told.stand.0 in
+      let d = is_declared raw p named l scope.owner stand scope v i told.stand.0 in
       record {
         fits = begun_fits i (with_variable raw v i scope) (d.fits fits);
         lays = λ t h.

@@ -1,26 +1,23 @@
 -- The phrases of a part of a text: the program has the variables that they declare, and they break no rule.
-use Rattle.std.proofs.Common.{◌≡◌, ℕ, suc, ◌+◌, ◌≤◌, ◌<◌, true, List, [], ◌∷◌, ◌++◌, length, map, Option, Some, refl, sym, ap, subst, ◌∙◌, arith, slice_get}
-use Rattle.std.specs.Prelude.{Contains, nat_lt}
-use Rattle.std.proofs.lemmas.Bool.Decides.{nat_tests}
+use Rattle.std.proofs.Common.{◌≡◌, ℕ, suc, ◌+◌, List, [], ◌∷◌, ◌++◌, length, map, Option, Some, refl, sym, ap, subst, ◌∙◌, arith, slice_get}
+use Rattle.std.specs.Prelude.{Contains}
 use Rattle.std.specs.Option.{option_map_or}
 use Rattle.c_tree.specs.declared.types.CType.{CType}
 use Rattle.c_tree.specs.declared.program.Program.{Program}
 use Rattle.c_tree.specs.declared.program.Var.{Var}
 use Rattle.c_tree.specs.declared.raw.expr.RawVar.{RawVar}
 use Rattle.c_tree.specs.declared.raw.program.RawInit.{RawInit}
-use Rattle.c_tree.specs.declared.raw.program.RawInit.TheVariants as init
 use Rattle.c_tree.specs.declared.raw.program.RawProgram.{RawProgram}
 use Rattle.c_language.specs.Words.{Bytes, name_of_var, declared}
 use Rattle.c_language.specs.Layout.{var_words}
 use Rattle.c_language.specs.DeclaredTypes.{item_count, variable_type}
 use Rattle.c_language.specs.Scopes.{Scope, Meaning, with_variable}
-use Rattle.c_language.specs.Limits.{longest, array_length}
-use Rattle.c_language.specs.Phrases.{Stand, Phrase, Phrases, phrases, declaration}
+use Rattle.c_language.specs.Phrases.{Stand, Phrase, Phrases, phrases}
 use Rattle.c_language.specs.ProgramOf.{ctype_with, is_static_stand, is_parameter_stand, variable_of, declared_by, variables_in}
 use Rattle.c_language.specs.Rules.{Breaks, IsBroken, KeepsRules}
 use Rattle.c_print.specs.RawLayout.{raw_declared}
 use Rattle.c_print_laws.proofs.Options.{IsThere, map_there}
-use Rattle.c_print_laws.proofs.Counted.{counted, variable_long, items_within}
+use Rattle.c_print_laws.proofs.Counted.{counted}
 use Rattle.c_print_laws.proofs.Named.{IsNamed, Fits, fits_append}
 use Rattle.c_print_laws.proofs.TypeLayout.{declared_layout}
 use Rattle.c_print_laws.proofs.Scoping.{declared_count, variables_append}
@@ -93,19 +90,6 @@ module _ (raw : RawProgram) where
     pub told_later : (n : ℕ) (x : Phrase) (ps : Phrases) → declared_by raw x.line x.scope x.part ≡ [] → AreTold n (x ∷ ps) → AreTold n ps
     told_later n x ps none h = record { kept = h.kept.1; stand = subst (λ (vs : List (Option Var)). AllStand p n (vs ++ variables_in raw ps)) none h.stand }
 
-    -- a list of initialisers that breaks no rule is short, where the arrays of the program are
-    pub few_items : array_length p ≤ 65536 → (l : ℕ) (scope : Scope) (stand : Stand) (v : RawVar) (i : RawInit) → AreTold scope.variables (declaration raw l scope stand v i) → nat_lt (item_count i) 4294967296 ≡ true
-    few_items long l scope stand v init.None told = refl
-    few_items long l scope stand v (init.One e) told = refl
-    few_items long l scope stand v (init.Items es) told =
-        let at = told.stand.0 in
-        let g = map_there _ (ctype_with raw (length es) v.shape) at.var at.is in
-        let within = items_within raw (with_variable raw v (init.Items es) scope) stand v es g.value g.there told.kept.1.0 in
-        let most = variable_long p scope.variables at.var at.at in
-        let same = ap (λ (x : Var). longest x.shape) g.same in
-        let few : length es < 4294967296 = omega (arith, within, most, same, long) in
-        grind (arith, nat_tests, few)
-
     module _ (named : IsNamed raw p) where
       -- a variable that is declared
       pub record IsDeclared (scope : Scope) (var : RawVar) (i : RawInit) : Type 0 where
@@ -118,8 +102,8 @@ module _ (raw : RawProgram) where
       at_words n name t line is_static owner is_parameter h =
           (ap (λ (o : Option Var). option_map_or (λ (v : Var). declared p v.shape v.name) o []) h, ap (λ (o : Option Var). option_map_or (λ (v : Var). v.name) o []) h)
 
-      pub is_declared : (l : ℕ) (owner : Option ℕ) (stand : Stand) (scope : Scope) (var : RawVar) (i : RawInit) → nat_lt (item_count i) 4294967296 ≡ true → Stands p scope.variables (variable_of raw l owner stand var i) → IsDeclared scope var i
-      is_declared l owner stand scope var i few h =
+      pub is_declared : (l : ℕ) (owner : Option ℕ) (stand : Stand) (scope : Scope) (var : RawVar) (i : RawInit) → Stands p scope.variables (variable_of raw l owner stand var i) → IsDeclared scope var i
+      is_declared l owner stand scope var i h =
           let g = map_there _ (ctype_with raw (item_count i) var.shape) h.var h.is in
           let k = at_words scope.variables var.name g.value l (is_static_stand stand) owner (is_parameter_stand stand) (h.at ∙ ap Some (sym g.same)) in
-          record { words = k.0 ∙ declared_layout raw p named (item_count i) few var.shape g.value var.name g.there; fits = λ fit. fits_append p scope.names (record { name = var.name; meaning = Meaning.Variable scope.variables (variable_type raw var i) }) fit (k.1, subst IsThere (sym (counted raw (item_count i) var.shape g.value g.there).there) tt) }
+          record { words = k.0 ∙ declared_layout raw p named (item_count i) var.shape g.value var.name g.there; fits = λ fit. fits_append p scope.names (record { name = var.name; meaning = Meaning.Variable scope.variables (variable_type raw var i) }) fit (k.1, subst IsThere (sym (counted raw (item_count i) var.shape g.value g.there).there) tt) }

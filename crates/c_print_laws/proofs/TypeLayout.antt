@@ -1,6 +1,5 @@
 -- The words of a type of a program are those of the text's type.
-use Rattle.std.proofs.Common.{◌≡◌, ℕ, [], ◌∷◌, ◌++◌, Bool, true, Option, Some, codes, decimal, sym, ap, ap₂, subst, ◌∙◌, if◌then◌else◌}
-use Rattle.std.specs.Prelude.{nat_lt}
+use Rattle.std.proofs.Common.{◌≡◌, ℕ, ◌∷◌, ◌++◌, Option, Some, codes, refl, sym, ap, ap₂, subst, ◌∙◌}
 use Rattle.c_tree.specs.declared.types.CType.{CType}
 use Rattle.c_tree.specs.declared.types.CType.TheVariants as t
 use Rattle.c_tree.specs.declared.program.Program.{Program}
@@ -28,14 +27,14 @@ pub record HasTypeWords (p : Program) (c : CType) (front middle back : Bytes) : 
   pub long : lengths c ≡ back
 
 -- a length has the words that the layout of the text has for it
-length_layout : (items : ℕ) → nat_lt items 4294967296 ≡ true → (n : RawLength) (k : ℕ) → length_in items n ≡ Some k → length_words items n ≡ raw_length_words items n
-length_layout items few (Written a) k h =
+length_layout : (items : ℕ) (n : RawLength) (k : ℕ) → length_in items n ≡ Some k → length_words items n ≡ raw_length_words items n
+length_layout items (Written a) k h =
     let g = then_there positive (value_of_constant a) k h in
     let c = then_there (λ (x : Constant). x.value) (constant a) g.value g.there in
     sym (constant_spaced a (subst IsThere (sym c.there) tt))
-length_layout items few Listed k h = ap (λ (b : Bool). if b then decimal items else []) (sym few)
+length_layout items Listed k h = refl
 
-module _ (raw : RawProgram) (p : Program) (named : IsNamed raw p) (items : ℕ) (few : nat_lt items 4294967296 ≡ true) where
+module _ (raw : RawProgram) (p : Program) (named : IsNamed raw p) (items : ℕ) where
   abbrev IsLaidOut : RawType → Type 0
   IsLaidOut a = (c : CType) → ctype_with raw items a ≡ Some c → HasTypeWords p c (raw_base a) (raw_stars a) (raw_lengths items a)
 
@@ -61,7 +60,7 @@ module _ (raw : RawProgram) (p : Program) (named : IsNamed raw p) (items : ℕ) 
         star = stars-Array g.left g.right (length_words items n) ∙ k.star;
         long =
             lengths-Array g.left g.right (length_words items n)
-            ∙ ap₂ (λ (v w : Bytes). codes "[" ++ (v ++ (codes "]" ++ w))) (length_layout items few n g.right g.right_there) k.long;
+            ∙ ap₂ (λ (v w : Bytes). codes "[" ++ (v ++ (codes "]" ++ w))) (length_layout items n g.right g.right_there) k.long;
       })
   layered (RawType-F.Struct tag) c h =
       let g = map_there t.Struct (struct_id raw tag) c h in

@@ -1,5 +1,5 @@
 -- What is printed of the program of a text is read again.
-use Rattle.std.specs.Prelude.{◌≡◌, ◌≤◌, Some}
+use Rattle.std.specs.Prelude.{◌≡◌, Some}
 use Rattle.c_tree.specs.declared.program.Program.{Program}
 use Rattle.c_tree.specs.Unlined.{SameButLines}
 use Rattle.c_tree.specs.declared.raw.program.RawProgram.{RawProgram}
@@ -22,9 +22,9 @@ pub record IsReadAgain (text : Bytes) (p : Program) : Type 0 where
   pub within : IsWithinLimits found again
   pub same : SameButLines p again
 
--- the layout of the program of a text is that of the text's tree, where no array is longer than 65,536
+-- the layout of the program of a text that keeps all rules is that of the text's tree
 abbrev pub LayoutIsOfText : Type 0
-LayoutIsOfText = (ts : Tokens) (raw : RawProgram) (p : Program) → IsProgram ts raw → KeepsRules raw → array_length p ≤ 65536 → program_of raw ≡ Some p → layout p ≡ raw_layout raw
+LayoutIsOfText = (ts : Tokens) (raw : RawProgram) (p : Program) → IsProgram ts raw → KeepsRules raw → program_of raw ≡ Some p → layout p ≡ raw_layout raw
 
 -- of two trees that are the same in all that the layout keeps, one keeps the rules where the other does, and they have one program but for lines
 abbrev pub LayoutKeepsPrograms : Type 0

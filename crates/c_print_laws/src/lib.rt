@@ -7,8 +7,7 @@
 ghost use Rattle.c_print_laws.specs.Places.{StatementsStart, TextsAreFeedless};
 ghost use Rattle.c_print_laws.specs.ReadAgain.{LayoutIsOfText, LayoutKeepsPrograms, LayoutIsReadAgain, LayoutHasNoLines, LimitsAreSame};
 
-/// A law: the layout of the program of a text is that of the text's tree, where no array is longer
-/// than 65536.
+/// A law: the layout of the program of a text that keeps all rules is that of the text's tree.
 pub fn layout_is_of_text()
     ensures { LayoutIsOfText }
 {}
