@@ -8,7 +8,7 @@ use Rattle.c_tree.specs.declared.raw.statement.RawStatement.TheOpen.{RawStatemen
 use Rattle.c_language.specs.Scopes.{Scope, Scoped, opened, closed, numbered, after_all, after_block, after_step}
 use Rattle.c_language.specs.Phrases.{Stand, Phrases, ArmText, scoped_step, scoped_arm, scoped, scoped_of_arm, after_body}
 use Rattle.c_language.specs.ProgramOf.{ArmTree, arm_tree_step, treed_step, treed}
-use Rattle.c_types_program.proofs.StatementForms.{treed_arm}
+use Rattle.c_types_program.specs.Making.{treed_arm}
 
 module _ (raw : RawProgram) where
   abbrev IsSame : RawStatement → Type 0

@@ -29,23 +29,10 @@ use Rattle.c_language.specs.declared.expr_type.ExprType.{ExprType}
 use Rattle.c_language.specs.declared.expr_type.Operand.{Operand}
 use Rattle.c_types_base.proofs.JudgingLaws.{contains_first}
 use Rattle.c_types_base.proofs.OptionLemmas.{IsThere, value_there, not_none, there_map, there_then, there_optional}
+use Rattle.c_types_program.specs.Fitting.{IsStored, IsAllocation}
 use Rattle.c_types_program.specs.Keeping.{IsPlainName, IsPlainSize, IsPlainAmount}
 use Rattle.c_types_program.proofs.ScopeLemmas.{IsTyped, AreComplete}
 use Rattle.c_types_program.proofs.PhraseTrees.{KeepsAt, contains_front, contains_back, tag_defined, named_made, IsMadeTarget, phrase_tree, phrase_operand}
-
--- ---- the forms of an allocation
-
--- the result is stored
-abbrev pub IsStored : RawTarget → Type 0
-IsStored target.None = ⊥
-IsStored (target.Place a) = Unit {0}
-IsStored (target.Declared var) = Unit {0}
-
--- the result is stored, and no length stands in a type name
-pub record IsAllocation (to : RawTarget) (cast : Option RawTypeName) (n : RawAmount) : Type 0 where
-  pub stored : IsStored to
-  pub name : IsPlainName cast
-  pub amount : IsPlainAmount n
 
 module _ (raw : RawProgram) (scope : Scope) (to : RawTarget) (cast : Option RawTypeName) (n : RawAmount) (keeps : KeepsAt raw scope (Allocates to cast n))
     (stored_type : IsThere (target_type raw scope to)) where

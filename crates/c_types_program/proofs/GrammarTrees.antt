@@ -33,8 +33,9 @@ use Rattle.c_language.specs.StatementGrammar.{arm, IsSeparated, IsSize, IsAmount
 use Rattle.c_types_program.proofs.ScopeLemmas.{AreComplete}
 use Rattle.c_types_program.specs.Keeping.{HasNoLength, IsPlainName, IsPlainSize, IsPlainAmount}
 use Rattle.c_types_program.proofs.PhraseTrees.{lengths-PointerTo}
-use Rattle.c_types_program.proofs.AllocationTrees.{IsAllocation}
-use Rattle.c_types_program.proofs.StatementForms.{treed_arm, treed_part, scoped_part, treed-Declare, treed-Assign, treed-Bump, treed-Call, treed-Heap, treed-If, treed-While, treed-Do, treed-For, treed-Switch, treed-Block, treed-Return, treed-arm, scoped-Declare, scoped-Assign, scoped-Bump, scoped-Call, scoped-Heap, scoped-If, scoped-While, scoped-Do, scoped-For, scoped-Switch, scoped-Block, scoped-Return, scoped-arm}
+use Rattle.c_types_program.specs.Fitting.{IsAllocation}
+use Rattle.c_types_program.specs.Making.{treed_arm}
+use Rattle.c_types_program.proofs.StatementForms.{treed_part, scoped_part, treed-Declare, treed-Assign, treed-Bump, treed-Call, treed-Heap, treed-If, treed-While, treed-Do, treed-For, treed-Switch, treed-Block, treed-Return, treed-arm, scoped-Declare, scoped-Assign, scoped-Bump, scoped-Call, scoped-Heap, scoped-If, scoped-While, scoped-Do, scoped-For, scoped-Switch, scoped-Block, scoped-Return, scoped-arm}
 use Rattle.c_types_program.proofs.TreedStatements.{IsTreed, AreTreed, IsTreedIf, IsTreedArm, AreTreedArms, is_treed-Declare, is_treed-Assign, is_treed-Bump, is_treed-Call, is_treed-Heap, is_treed-Return, is_treed-If, is_treed-While, is_treed-Do, is_treed-Block, is_treed-For, is_treed-arm, is_treed-Switch}
 
 -- ---- types
@@ -75,7 +76,7 @@ amount_plain (IsAmount.bytes a) = tt
 malloc_plain : {ts rest : Tokens} {n : RawAmount} → IsMalloc ts n rest → IsPlainAmount n
 malloc_plain (IsMalloc.malloc h) = amount_plain h
 
-heap_plain : {ts rest : Tokens} {cast : Option RawTypeName} {n : RawAmount} → IsHeap ts cast n rest → IsPlainName cast × IsPlainAmount n
+pub heap_plain : {ts rest : Tokens} {cast : Option RawTypeName} {n : RawAmount} → IsHeap ts cast n rest → IsPlainName cast × IsPlainAmount n
 heap_plain (IsHeap.uncast h) = (tt, malloc_plain h)
 heap_plain (IsHeap.cast t star h) = (named_plain t, malloc_plain h)
 

@@ -11,7 +11,7 @@ use Rattle.c_tree.specs.declared.raw.statement.RawArg.{RawArg}
 use Rattle.c_tree.specs.declared.raw.statement.RawTypeName.{RawTypeName}
 use Rattle.c_tree.specs.declared.raw.statement.RawAmount.{RawAmount}
 use Rattle.c_tree.specs.declared.raw.statement.RawLabel.{RawLabel}
-use Rattle.c_tree.specs.declared.raw.statement.RawArm.{RawArm, fold-RawArm}
+use Rattle.c_tree.specs.declared.raw.statement.RawArm.{RawArm}
 use Rattle.c_tree.specs.declared.raw.statement.RawStatement.{RawStatement}
 use Rattle.c_tree.specs.declared.raw.statement.RawStatement.TheOpen.{RawStatement-F}
 use Rattle.c_tree.specs.declared.raw.statement.RawStatement.TheVariants as s
@@ -20,13 +20,10 @@ use Rattle.c_language.specs.Scopes.{Scoped}
 use Rattle.c_language.specs.StatementGrammar.{arm}
 use Rattle.c_language.specs.Phrases.{Stand, Phrases, ArmText, scoped_step, scoped_arm, scoped, scoped_of_arm}
 use Rattle.c_language.specs.ProgramOf.{ArmTree, arm_tree_step, treed_step, treed}
+use Rattle.c_types_program.specs.Making.{treed_arm}
 use Rattle.c_types_program.proofs.StatementFolds.{fold-Declare, fold-Assign, fold-Bump, fold-Call, fold-Heap, fold-If, fold-While, fold-Do, fold-For, fold-Switch, fold-Block, fold-Return, fold-arm, folded_part}
 
 module _ (raw : RawProgram) where
-  -- an arm of a switch in the tree
-  abbrev pub treed_arm : RawArm → Scoped ArmTree
-  treed_arm = fold-RawArm (Scoped (Option Statement)) (Scoped ArmTree) (treed_step raw) (arm_tree_step raw)
-
   -- a part of a for, which may be missing
   abbrev pub treed_part : Option RawStatement → Option (Scoped (Option Statement))
   treed_part = folded_part (Scoped (Option Statement)) (Scoped ArmTree) (treed_step raw) (arm_tree_step raw)
@@ -61,7 +58,7 @@ module _ (raw : RawProgram) where
   pub treed-For : (l : ℕ) (first : Option RawStatement) (a : RawExpr) (next : Option RawStatement) (all : List RawStatement) → treed raw (s.For l first a next all) ≡ treed_step raw (RawStatement-F.For l (treed_part first) a (treed_part next) (map (treed raw) all))
   treed-For l first a next all = fold-For (Scoped (Option Statement)) (Scoped ArmTree) (treed_step raw) (arm_tree_step raw) l first a next all
 
-  pub treed-Switch : (l : ℕ) (a : RawExpr) (arms : List RawArm) → treed raw (s.Switch l a arms) ≡ treed_step raw (RawStatement-F.Switch l a (map (treed_arm) arms))
+  pub treed-Switch : (l : ℕ) (a : RawExpr) (arms : List RawArm) → treed raw (s.Switch l a arms) ≡ treed_step raw (RawStatement-F.Switch l a (map (treed_arm raw) arms))
   treed-Switch l a arms = fold-Switch (Scoped (Option Statement)) (Scoped ArmTree) (treed_step raw) (arm_tree_step raw) l a arms
 
   pub treed-Block : (l : ℕ) (all : List RawStatement) → treed raw (s.Block l all) ≡ treed_step raw (RawStatement-F.Block l (map (treed raw) all))
@@ -70,7 +67,7 @@ module _ (raw : RawProgram) where
   pub treed-Return : (l : ℕ) (a : Option RawExpr) → treed raw (s.Return l a) ≡ treed_step raw (RawStatement-F.Return l a)
   treed-Return l a = fold-Return (Scoped (Option Statement)) (Scoped ArmTree) (treed_step raw) (arm_tree_step raw) l a
 
-  pub treed-arm : (labels : List RawLabel) (body : List RawStatement) → treed_arm (arm labels body) ≡ arm_tree_step raw (record { labels = labels; body = map (treed raw) body })
+  pub treed-arm : (labels : List RawLabel) (body : List RawStatement) → treed_arm raw (arm labels body) ≡ arm_tree_step raw (record { labels = labels; body = map (treed raw) body })
   treed-arm labels body = fold-arm (Scoped (Option Statement)) (Scoped ArmTree) (treed_step raw) (arm_tree_step raw) labels body
 
   pub scoped-Declare : (l : ℕ) (v : RawVar) (i : RawInit) → scoped raw (s.Declare l v i) ≡ scoped_step raw (RawStatement-F.Declare l v i)

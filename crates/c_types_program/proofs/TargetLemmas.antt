@@ -19,7 +19,7 @@ use Rattle.c_types_base.specs.Tables.{scope_of, AreRight}
 use Rattle.c_types_base.proofs.JudgingLaws.{contains_first}
 use Rattle.c_types_base.proofs.TreeLemmas.{operand-judged}
 use Rattle.c_types_program.specs.Keeping.{IsKept, IsGiven, IsMeantTarget, IsKeptAllocation}
-use Rattle.c_types_program.proofs.AllocationTrees.{IsStored, IsAllocation}
+use Rattle.c_types_program.specs.Fitting.{IsStored, IsAllocation}
 use Rattle.c_types_program.proofs.KeptLemmas.{kept_operand, judged_value}
 use Rattle.c_types_program.proofs.OptionPaths.{given_there}
 use Rattle.c_types_program.proofs.PhraseTrees.{IsMadeTarget}

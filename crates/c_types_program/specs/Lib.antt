@@ -1,2 +1,5 @@
+pub mod Fitting
 pub mod Keeping
+pub mod Making
 pub mod Shaping
+pub mod Walking

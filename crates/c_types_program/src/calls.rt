@@ -113,7 +113,7 @@ fn print_tree(
 }
 
 /// The number of a function that is defined.
-fn function_of(tables: &Tables<'_>, name: &[u8]) -> FunctionId
+pub fn function_of(tables: &Tables<'_>, name: &[u8]) -> FunctionId
     requires right { AreRight tables.now }
     requires defined { IsGiven (types.function_id tables.now.raw.now name.now) }
     ensures { types.function_id tables.now.raw.now name.now ≡ Some result }

@@ -1,10 +1,21 @@
 //! The program of a text that keeps all rules: its tree with names as numbers and with types.
 #![tactic(auto)]
 
-pub mod allocations;
-pub mod calls;
-pub mod expressions;
-pub mod parts;
-pub mod shapes;
-pub mod stop;
-pub mod words;
+mod allocations;
+mod calls;
+mod expressions;
+mod functions;
+mod items;
+mod parts;
+mod program;
+mod shapes;
+mod simple;
+mod statements;
+mod stop;
+mod structs;
+mod variables;
+mod walk;
+mod words;
+
+pub use program::make_program;
+pub use stop::Stop;

@@ -1,0 +1,7 @@
+use Rattle.std.proofs.Common.{◌≡◌, [], take}
+use Rattle.c_language.specs.Limits.{cells_behind}
+use Rattle.c_types.specs.Capped.{all_capped}
+use Rattle.c_types.proofs.limits.struct_cells.Given as goal
+
+abbrev pub invariant-loop-one : goal.invariant-loop-one
+invariant-loop-one l = l.found.items ≡ all_capped (cells_behind [] (take l.one-index l.structs))

@@ -1,0 +1,81 @@
+//! The check of a text: its rules, then its program, then the limits.
+ghost use Rattle.std.specs.Prelude.{ℕ, ◌≤◌};
+ghost use Rattle.c_tree.specs.declared.limits.LimitName.{LimitName};
+ghost use Rattle.c_tree.specs.declared.program.Program.{Program};
+ghost use Rattle.c_language.specs.Programs.{HasProgram, IsTree};
+ghost use Rattle.c_language.specs.Rules.{IsBroken, KeepsRules};
+ghost use Rattle.c_language.specs.StatementNesting.{program_nesting};
+ghost use Rattle.c_types.specs.Outcome.{IsAbove, IsWithin, Answers, Gives, NamesRule, NamesLimit, Told, Made};
+
+use crate::limits::{array_length, object_cells};
+use crate::rule_fault::RuleFault;
+use c_tree::{LimitName, Program, RawProgram};
+use c_types_program::{Stop, make_program};
+use c_types_rules::{RuleFault as Breach, check_rules};
+use std::alloc::Global;
+
+/// The rules of the text, one by one.
+fn keep_rules(alloc: Global, raw: &RawProgram) -> Result<(), RuleFault>
+    ensures { Told raw.now result }
+{
+    match check_rules(alloc, raw) {
+        Ok(()) => Ok(()),
+        Err(Breach::Rule(number, line)) => Err(RuleFault::Rule(number, line)),
+        Err(Breach::NoMemory) => Err(RuleFault::NoMemory),
+    }
+}
+
+/// The program of the text. Where the tree can't hold a length, it is above its limit.
+#[tactic(auto, using(crate::proofs::AnswerLaws::made, crate::proofs::AnswerLaws::too_long))]
+fn made(alloc: Global, raw: &RawProgram) -> Result<Program, RuleFault>
+    requires tree { IsTree raw.now }
+    requires rules { KeepsRules raw.now }
+    ensures { Made raw.now result }
+{
+    match make_program(alloc, raw) {
+        Ok(program) => Ok(program),
+        Err(Stop::Length) => Err(RuleFault::Limit(LimitName::ArrayLength)),
+        Err(Stop::NoMemory) => Err(RuleFault::NoMemory),
+    }
+}
+
+/// The program, where its quantities are within their numbers.
+#[tactic(auto, using(crate::proofs::AnswerLaws::lengths_above, crate::proofs::AnswerLaws::cells_above, crate::proofs::AnswerLaws::within))]
+fn within(alloc: Global, raw: &RawProgram, program: Program) -> Result<Program, RuleFault>
+    requires { HasProgram raw.now program }
+    ensures { Answers raw.now result }
+{
+    if array_length(&program) > 65_536 {
+        return Err(RuleFault::Limit(LimitName::ArrayLength));
+    }
+    if object_cells(alloc, &program)? > 1_048_576 {
+        return Err(RuleFault::Limit(LimitName::ObjectCells));
+    }
+    Ok(program)
+}
+
+fn checked(alloc: Global, raw: &RawProgram) -> Result<Program, RuleFault>
+    requires { IsTree raw.now }
+    ensures { Answers raw.now result }
+{
+    keep_rules(alloc, raw)?;
+    let program = made(alloc, raw)?;
+    within(alloc, raw, program)
+}
+
+/// The program of a text's tree: its names as numbers, and with types (ISO C99 6.5 to 6.9).
+///
+/// It is given exactly where all rules hold and array lengths and object cells are within their numbers.
+/// `Rule` names a rule that is broken, at a line where it is. `Limit` names the array length where one is above
+/// 65,536, and else the object cells where a variable or a struct type has more than 1,048,576.
+#[tactic(auto, using(crate::proofs::AnswerLaws::accepted, crate::proofs::AnswerLaws::broken, crate::proofs::AnswerLaws::above))]
+pub fn check(alloc: Global, raw: RawProgram) -> Result<Program, RuleFault>
+    requires tree { IsTree raw }
+    requires nesting { program_nesting raw ≤ 100 }
+    ensures right { Answers raw result }
+    ensures accepted { (p : Program) → IsWithin raw p → Gives p result }
+    ensures broken { (number line : ℕ) → IsBroken number line raw → NamesRule result }
+    ensures above { (name : LimitName) → IsAbove raw name → NamesLimit name result }
+{
+    checked(alloc, &raw)
+}

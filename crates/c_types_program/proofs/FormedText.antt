@@ -1,0 +1,310 @@
+-- The phrases of a text of the grammar have the forms that tokens give them; those that keep the rules fit.
+use Rattle.std.proofs.Common.{◌≡◌, ℕ, List, [], ◌∷◌, ◌++◌, map, Bool, true, false, Option, Some, None, sym, subst}
+use Rattle.c_tree.specs.declared.raw.expr.RawExpr.{RawExpr}
+use Rattle.c_tree.specs.declared.raw.expr.RawType.{RawType}
+use Rattle.c_tree.specs.declared.raw.expr.RawVar.{RawVar}
+use Rattle.c_tree.specs.declared.raw.program.RawHead.{RawHead}
+use Rattle.c_tree.specs.declared.raw.program.RawInit.{RawInit}
+use Rattle.c_tree.specs.declared.raw.program.RawInit.TheVariants as init
+use Rattle.c_tree.specs.declared.raw.program.RawItem.{RawItem}
+use Rattle.c_tree.specs.declared.raw.program.RawItem.TheVariants.{Prototype, Define}
+use Rattle.c_tree.specs.declared.raw.program.RawMember.{RawMember}
+use Rattle.c_tree.specs.declared.raw.program.RawParam.{RawParam}
+use Rattle.c_tree.specs.declared.raw.program.RawProgram.{RawProgram}
+use Rattle.c_tree.specs.declared.raw.statement.RawAmount.{RawAmount}
+use Rattle.c_tree.specs.declared.raw.statement.RawArg.{RawArg}
+use Rattle.c_tree.specs.declared.raw.statement.RawArm.{RawArm}
+use Rattle.c_tree.specs.declared.raw.statement.RawLabel.{RawLabel}
+use Rattle.c_tree.specs.declared.raw.statement.RawStatement.{RawStatement}
+use Rattle.c_tree.specs.declared.raw.statement.RawStatement.TheVariants as s
+use Rattle.c_tree.specs.declared.raw.statement.RawTarget.{RawTarget}
+use Rattle.c_tree.specs.declared.raw.statement.RawTarget.TheVariants as target
+use Rattle.c_tree.specs.declared.raw.statement.RawTypeName.{RawTypeName}
+use Rattle.c_language.specs.ItemGrammar.{IsGlobal, AreGlobals, IsResult, IsHead, IsItem, AreItems}
+use Rattle.c_language.specs.Phrases.{Stand, InFile, InHead, InBlock, InArm, InFor, EndsFunction, Calls, Allocates, Tests, Phrases, phrase, ArmText, begun_phrases, declaration, target_phrases, joined_at, block_phrases, at_stand, phrases_of_arms, scoped, scoped_of_arm, body_phrases, member_phrases, taken_phrases, parameter_phrases, head_phrases, item_phrases, items_phrases, after_item, phrases}
+use Rattle.c_language.specs.Programs.{IsTree}
+use Rattle.c_language.specs.Rules.{KeepsRules}
+use Rattle.c_language.specs.Scopes.{Scope, Scoped, opened, numbered, in_order, part_gives, after_block, with_parameter, with_variable, with_target, scope_of_parameters, scope_of_test, scope_of_body, entered, outset, parameter_of}
+use Rattle.c_language.specs.StatementGrammar.{arm, IsSeparated, IsSimple, IsDeclared, AreDeclared, IsDeclaration, IsInit, IsStep, IsStatement, AreStatements, IsBody, IsElse, AreArms}
+use Rattle.c_language.specs.TokenForms.{Tokens, line_of}
+use Rattle.c_language.specs.Words.{Bytes}
+use Rattle.c_types_program.specs.Fitting.{IsAllocation, IsFormed, AreFit}
+use Rattle.c_types_program.specs.Keeping.{HasNoLengthIf}
+use Rattle.c_types_program.proofs.GrammarTrees.{heap_plain, name_plain}
+use Rattle.c_types_program.proofs.PhraseTrees.{AreKept}
+use Rattle.c_types_program.proofs.RuleLaws.{phrases_kept}
+use Rattle.c_types_program.proofs.StatementForms.{scoped_part, scoped-Declare, scoped-Assign, scoped-Bump, scoped-Call, scoped-Heap, scoped-If, scoped-While, scoped-Do, scoped-For, scoped-Switch, scoped-Block, scoped-Return, scoped-arm}
+
+abbrev AreFormed : Phrases → Type 0
+AreFormed [] = Unit {0}
+AreFormed (p ∷ ps) = IsFormed p.part × AreFormed ps
+
+formed_both : (ps qs : Phrases) → AreFormed ps → AreFormed qs → AreFormed (ps ++ qs)
+formed_both [] qs h k = k
+formed_both (p ∷ ps) qs h k = (h.0, formed_both ps qs h.1 k)
+
+-- what keeps the rules and has its form fits
+fit_from : (raw : RawProgram) (ps : Phrases) → AreKept raw ps → AreFormed ps → AreFit raw ps
+fit_from raw [] h k = tt
+fit_from raw (p ∷ ps) h k = (record { kept = h.0; formed = k.0 }, fit_from raw ps h.1 k.1)
+
+-- what a statement gives is formed wherever it stands
+abbrev GivesFormed : Scoped (Stand → Phrases) → Type 0
+GivesFormed x = (scope : Scope) (stand : Stand) → AreFormed (x.gives scope stand)
+
+abbrev GiveFormed : List (Scoped (Stand → Phrases)) → Type 0
+GiveFormed [] = Unit {0}
+GiveFormed (x ∷ xs) = GivesFormed x × GiveFormed xs
+
+abbrev GivesFormedIf : Option (Scoped (Stand → Phrases)) → Type 0
+GivesFormedIf None = Unit {0}
+GivesFormedIf (Some x) = GivesFormed x
+
+abbrev GivesFormedArm : Scoped ArmText → Type 0
+GivesFormedArm a = (scope : Scope) → AreFormed (a.gives scope).phrases
+
+abbrev GiveFormedArms : List (Scoped ArmText) → Type 0
+GiveFormedArms [] = Unit {0}
+GiveFormedArms (a ∷ arms) = GivesFormedArm a × GiveFormedArms arms
+
+joined_formed : (xs : List (Scoped (Stand → Phrases))) → GiveFormed xs → (scope : Scope) (stand : Stand) → AreFormed (joined_at stand (in_order xs scope))
+joined_formed [] h scope stand = tt
+joined_formed (x ∷ xs) h scope stand = formed_both (x.gives scope stand) (joined_at stand (in_order xs (x.after scope))) (h.0 scope stand) (joined_formed xs h.1 (x.after scope) stand)
+
+block_formed : (xs : List (Scoped (Stand → Phrases))) → GiveFormed xs → (scope : Scope) → AreFormed (block_phrases xs scope)
+block_formed xs h scope = joined_formed xs h (opened scope) InBlock
+
+arms_formed : (arms : List (Scoped ArmText)) → GiveFormedArms arms → (scope : Scope) → AreFormed (phrases_of_arms (in_order arms scope))
+arms_formed [] h scope = tt
+arms_formed (a ∷ arms) h scope = formed_both (a.gives scope).phrases (phrases_of_arms (in_order arms (a.after scope))) (h.0 scope) (arms_formed arms h.1 (a.after scope))
+
+part_formed : (x : Option (Scoped (Stand → Phrases))) → GivesFormedIf x → (scope : Scope) (stand : Stand) → AreFormed (at_stand stand (part_gives x scope))
+part_formed None h scope stand = tt
+part_formed (Some x) h scope stand = h scope stand
+
+begun_formed : (l : ℕ) (scope : Scope) (stand : Stand) (v : RawVar) (i : RawInit) → AreFormed (begun_phrases l scope stand v i)
+begun_formed l scope stand v init.None = tt
+begun_formed l scope stand v (init.One a) = (tt, tt)
+begun_formed l scope stand v (init.Items es) = (tt, tt)
+
+declaration_formed : (raw : RawProgram) (l : ℕ) (scope : Scope) (stand : Stand) (v : RawVar) (i : RawInit) → AreFormed (declaration raw l scope stand v i)
+declaration_formed raw l scope stand v i = (tt, begun_formed l (with_variable raw v i scope) stand v i)
+
+target_formed : (raw : RawProgram) (l : ℕ) (scope : Scope) (stand : Stand) (to : RawTarget) → AreFormed (target_phrases raw l scope stand to)
+target_formed raw l scope stand target.None = tt
+target_formed raw l scope stand (target.Place a) = tt
+target_formed raw l scope stand (target.Declared v) = declaration_formed raw l scope stand v init.None
+
+-- ---- statements by their forms
+
+module _ (raw : RawProgram) where
+  abbrev Formed : RawStatement → Type 0
+  Formed a = GivesFormed (scoped raw a)
+
+  abbrev AllFormed : List RawStatement → Type 0
+  AllFormed all = GiveFormed (map (scoped raw) all)
+
+  all_both : (some all : List RawStatement) → AllFormed some → AllFormed all → AllFormed (some ++ all)
+  all_both [] all h k = k
+  all_both (a ∷ some) all h k = (h.0, all_both some all h.1 k)
+
+  as_form : (a : RawStatement) (x : Scoped (Stand → Phrases)) → scoped raw a ≡ x → GivesFormed x → Formed a
+  as_form a x is h = subst GivesFormed (sym is) h
+
+  formed-Declare : (l : ℕ) (v : RawVar) (i : RawInit) → Formed (s.Declare l v i)
+  formed-Declare l v i = as_form (s.Declare l v i) _ (scoped-Declare raw l v i) (λ scope stand. declaration_formed raw l scope stand v i)
+
+  formed-Call : (l : ℕ) (to : RawTarget) (w : Bytes) (args : List RawArg) → Formed (s.Call l to w args)
+  formed-Call l to w args =
+      as_form (s.Call l to w args) _ (scoped-Call raw l to w args) (λ scope stand. formed_both (target_phrases raw l scope stand to) (phrase l (with_target raw to scope) (Calls stand to w args) ∷ []) (target_formed raw l scope stand to) (tt, tt))
+
+  formed-Heap : (l : ℕ) (to : RawTarget) (cast : Option RawTypeName) (n : RawAmount) → IsAllocation to cast n → Formed (s.Heap l to cast n)
+  formed-Heap l to cast n form =
+      as_form (s.Heap l to cast n) _ (scoped-Heap raw l to cast n) (λ scope stand. formed_both (target_phrases raw l scope stand to) (phrase l (with_target raw to scope) (Allocates to cast n) ∷ []) (target_formed raw l scope stand to) (form, tt))
+
+  formed-If : (l : ℕ) (e : RawExpr) (all other : List RawStatement) → AllFormed all → AllFormed other → Formed (s.If l e all other)
+  formed-If l e all other h k =
+      as_form (s.If l e all other) _ (scoped-If raw l e all other) (λ scope stand. (
+        tt,
+        formed_both (block_phrases (map (scoped raw) all) (numbered scope)) (block_phrases (map (scoped raw) other) (after_block (map (scoped raw) all) (numbered scope)))
+            (block_formed (map (scoped raw) all) h (numbered scope)) (block_formed (map (scoped raw) other) k (after_block (map (scoped raw) all) (numbered scope))),
+      ))
+
+  formed-While : (l : ℕ) (e : RawExpr) (all : List RawStatement) → AllFormed all → Formed (s.While l e all)
+  formed-While l e all h = as_form (s.While l e all) _ (scoped-While raw l e all) (λ scope stand. (tt, block_formed (map (scoped raw) all) h (numbered scope)))
+
+  formed-Do : (l : ℕ) (e : RawExpr) (all : List RawStatement) → AllFormed all → Formed (s.Do l e all)
+  formed-Do l e all h = as_form (s.Do l e all) _ (scoped-Do raw l e all) (λ scope stand. (tt, block_formed (map (scoped raw) all) h (numbered scope)))
+
+  formed-Block : (l : ℕ) (all : List RawStatement) → AllFormed all → Formed (s.Block l all)
+  formed-Block l all h = as_form (s.Block l all) _ (scoped-Block raw l all) (λ scope stand. block_formed (map (scoped raw) all) h scope)
+
+  formed-For : (l : ℕ) (first : Option RawStatement) (e : RawExpr) (step : Option RawStatement) (all : List RawStatement)
+      → GivesFormedIf (scoped_part raw first) → GivesFormedIf (scoped_part raw step) → AllFormed all → Formed (s.For l first e step all)
+  formed-For l first e step all h k m =
+      let i = scoped_part raw first in
+      let n = scoped_part raw step in
+      as_form (s.For l first e step all) _ (scoped-For raw l first e step all) (λ scope stand.
+      formed_both (at_stand InFor (part_gives i (opened (numbered scope))))
+      (phrase l (scope_of_test i scope) (Tests e) ∷ (at_stand InBlock (part_gives n (scope_of_test i scope)) ++ block_phrases (map (scoped raw) all) (scope_of_body i n scope))) (part_formed i h (opened (numbered scope)) InFor) (
+        tt,
+        formed_both (at_stand InBlock (part_gives n (scope_of_test i scope))) (block_phrases (map (scoped raw) all) (scope_of_body i n scope))
+            (part_formed n k (scope_of_test i scope) InBlock) (block_formed (map (scoped raw) all) m (scope_of_body i n scope)),
+      ))
+
+  abbrev ArmsFormed : List RawArm → Type 0
+  ArmsFormed arms = GiveFormedArms (map (scoped_of_arm raw) arms)
+
+  formed-arm : (labels : List RawLabel) (body : List RawStatement) → AllFormed body → GivesFormedArm (scoped_of_arm raw (arm labels body))
+  formed-arm labels body h = subst GivesFormedArm (sym (scoped-arm raw labels body)) (λ scope. joined_formed (map (scoped raw) body) h scope InArm)
+
+  formed-Switch : (l : ℕ) (e : RawExpr) (arms : List RawArm) → ArmsFormed arms → Formed (s.Switch l e arms)
+  formed-Switch l e arms h =
+      as_form (s.Switch l e arms) _ (scoped-Switch raw l e arms) (λ scope stand. (tt, arms_formed (map (scoped_of_arm raw) arms) h (opened (numbered scope))))
+
+  -- ---- along the grammar
+
+  formed_simple : {ts rest : Tokens} {a : RawStatement} → IsSimple ts a rest → Formed a
+  formed_simple (IsSimple.assign {ts} {a} {b} op by left place right) = as_form (s.Assign (line_of ts) a op b) _ (scoped-Assign raw (line_of ts) a op b) (λ scope stand. (tt, tt))
+  formed_simple (IsSimple.store_call {ts} {a} {w} {all} left place call) = formed-Call (line_of ts) (target.Place a) w all
+  formed_simple (IsSimple.store_heap {ts} {a} {t} {n} left place heap) =
+      let plain = heap_plain heap in formed-Heap (line_of ts) (target.Place a) t n (record { stored = tt; name = plain.0; amount = plain.1 })
+  formed_simple (IsSimple.bump_after {ts} {a} up left place) = as_form (s.Bump (line_of ts) a up false) _ (scoped-Bump raw (line_of ts) a up false) (λ scope stand. (tt, tt))
+  formed_simple (IsSimple.bump_before {l} {a} up left place) = as_form (s.Bump l a up true) _ (scoped-Bump raw l a up true) (λ scope stand. (tt, tt))
+  formed_simple (IsSimple.call {ts} {w} {all} call) = formed-Call (line_of ts) target.None w all
+
+  formed_declared : {line : ℕ} {base : RawType} {ts rest : Tokens} {a : RawStatement} → IsDeclared line base ts a rest → Formed a
+  formed_declared {line} (IsDeclared.plain {v} declarator listed) = formed-Declare line v init.None
+  formed_declared {line} (IsDeclared.value {v} {a} declarator listed value) = formed-Declare line v (init.One a)
+  formed_declared {line} (IsDeclared.list {v} {all} declarator items) = formed-Declare line v (init.Items all)
+  formed_declared {line} (IsDeclared.call {v} {w} {all} declarator listed call) = formed-Call line (target.Declared v) w all
+  formed_declared {line} (IsDeclared.heap {v} {t} {n} declarator listed heap) =
+      let plain = heap_plain heap in formed-Heap line (target.Declared v) t n (record { stored = tt; name = plain.0; amount = plain.1 })
+
+  formed_separated : {line : ℕ} {base : RawType} {ts rest : Tokens} {all : List RawStatement} → AreDeclared line base ts all rest → AllFormed all
+  formed_separated (IsSeparated.last h) = (formed_declared h, tt)
+  formed_separated (IsSeparated.more h k) = (formed_declared h, formed_separated k)
+
+  formed_declarations : {ts rest : Tokens} {all : List RawStatement} → IsDeclaration ts all rest → AllFormed all
+  formed_declarations (IsDeclaration.declaration base declared) = formed_separated declared
+
+  formed_init : {ts rest : Tokens} {a : Option RawStatement} → IsInit ts a rest → GivesFormedIf (scoped_part raw a)
+  formed_init IsInit.nothing = tt
+  formed_init (IsInit.simple h) = formed_simple h
+  formed_init (IsInit.declared base h) = formed_declared h
+
+  formed_step : {ts rest : Tokens} {a : Option RawStatement} → IsStep ts a rest → GivesFormedIf (scoped_part raw a)
+  formed_step IsStep.nothing = tt
+  formed_step (IsStep.simple h) = formed_simple h
+
+  mutual
+    formed_statement : {ts rest : Tokens} {a : RawStatement} → IsStatement ts a rest → Formed a
+    formed_statement (IsStatement.simple h) = formed_simple h
+    formed_statement (IsStatement.returns {l}) = as_form (s.Return l None) _ (scoped-Return raw l None) (λ scope stand. (tt, tt))
+    formed_statement (IsStatement.returns_value {l} {a} h) = as_form (s.Return l (Some a)) _ (scoped-Return raw l (Some a)) (λ scope stand. (tt, tt))
+    formed_statement (IsStatement.block {l} {all} h) = formed-Block l all (formed_statements h)
+    formed_statement (IsStatement.conditional {l} {a} {yes} {other} test h k) = formed-If l a yes other (formed_body h) (formed_else k)
+    formed_statement (IsStatement.while_loop {l} {a} {all} test h) = formed-While l a all (formed_body h)
+    formed_statement (IsStatement.do_loop {l} {a} {all} h test) = formed-Do l a all (formed_body h)
+    formed_statement (IsStatement.for_loop {l} {first} {step} {a} {all} h test k m) = formed-For l first a step all (formed_init h) (formed_step k) (formed_body m)
+    formed_statement (IsStatement.switch {l} {a} {arms} test h) = formed-Switch l a arms (formed_arms h)
+
+    formed_statements : {ts rest : Tokens} {all : List RawStatement} → AreStatements ts all rest → AllFormed all
+    formed_statements AreStatements.done = tt
+    formed_statements (AreStatements.empty h) = formed_statements h
+    formed_statements (AreStatements.declared {some} {all} h k) = all_both some all (formed_declarations h) (formed_statements k)
+    formed_statements (AreStatements.more h k) = (formed_statement h, formed_statements k)
+
+    formed_body : {ts rest : Tokens} {all : List RawStatement} → IsBody ts all rest → AllFormed all
+    formed_body (IsBody.braces h) = formed_statements h
+    formed_body IsBody.nothing = tt
+    formed_body (IsBody.single brace h) = (formed_statement h, tt)
+
+    formed_else : {ts rest : Tokens} {all : List RawStatement} → IsElse ts all rest → AllFormed all
+    formed_else (IsElse.otherwise h) = formed_body h
+    formed_else (IsElse.without h) = tt
+
+    formed_arms : {ts rest : Tokens} {arms : List RawArm} → AreArms ts arms rest → ArmsFormed arms
+    formed_arms AreArms.none = tt
+    formed_arms (AreArms.broken {labels} {body} h k m) = (formed-arm labels body (formed_statements k), formed_arms m)
+    formed_arms (AreArms.unbroken {labels} {body} h lacks k) = (formed-arm labels body (formed_statements k), tt)
+
+  -- ---- items
+
+  members_formed : (scope : Scope) (before ms : List RawMember) → AreFormed (member_phrases scope before ms)
+  members_formed scope before [] = tt
+  members_formed scope before (m ∷ ms) = (tt, members_formed scope (before ++ m ∷ []) ms)
+
+  taken_formed : (scope : Scope) (before ps : List RawParam) → AreFormed (taken_phrases scope before ps)
+  taken_formed scope before [] = tt
+  taken_formed scope before (p ∷ ps) = (tt, taken_formed scope (before ++ p ∷ []) ps)
+
+  parameter_formed : (p : RawParam) (name : Option Bytes) (scope : Scope) → AreFormed (parameter_phrases raw p name scope)
+  parameter_formed p None scope = tt
+  parameter_formed p (Some name) scope = declaration_formed raw p.line scope InHead (parameter_of p name) init.None
+
+  parameters_formed : (ps : List RawParam) (scope : Scope) → AreFormed (head_phrases raw ps scope)
+  parameters_formed [] scope = tt
+  parameters_formed (p ∷ ps) scope =
+      formed_both (parameter_phrases raw p p.name scope) (head_phrases raw ps (with_parameter raw p scope)) (parameter_formed p p.name scope) (parameters_formed ps (with_parameter raw p scope))
+
+  body_formed : (body : List RawStatement) → AllFormed body → (scope : Scope) → AreFormed (body_phrases raw body scope)
+  body_formed [] h scope = tt
+  body_formed (a ∷ body) h scope = formed_both ((scoped raw a).gives scope InBlock) (body_phrases raw body ((scoped raw a).after scope)) (h.0 scope InBlock) (body_formed body h.1 ((scoped raw a).after scope))
+
+  abbrev ItemFormed : RawItem → Type 0
+  ItemFormed x = (scope : Scope) → AreFormed (item_phrases raw x scope)
+
+  abbrev ItemsFormed : List RawItem → Type 0
+  ItemsFormed [] = Unit {0}
+  ItemsFormed (x ∷ xs) = ItemFormed x × ItemsFormed xs
+
+  items_both : (xs ys : List RawItem) → ItemsFormed xs → ItemsFormed ys → ItemsFormed (xs ++ ys)
+  items_both [] ys h k = k
+  items_both (x ∷ xs) ys h k = (h.0, items_both xs ys h.1 k)
+
+  result_plain : {ts rest : Tokens} {t : Option RawType} → IsResult ts t rest → HasNoLengthIf t
+  result_plain IsResult.nothing = tt
+  result_plain (IsResult.some h) = name_plain h
+
+  head_plain : {ts rest : Tokens} {head : RawHead} → IsHead ts head rest → HasNoLengthIf head.result
+  head_plain (IsHead.head is_static result keyword params) = result_plain result
+
+  formed_global : {line : ℕ} {is_static : Bool} {base : RawType} {ts rest : Tokens} {x : RawItem} → IsGlobal line is_static base ts x rest → ItemFormed x
+  formed_global {line} {is_static} (IsGlobal.plain {v} h listed) = λ scope. declaration_formed raw line scope (InFile is_static) v init.None
+  formed_global {line} {is_static} (IsGlobal.value {v} {a} h listed value) = λ scope. declaration_formed raw line scope (InFile is_static) v (init.One a)
+  formed_global {line} {is_static} (IsGlobal.list {v} {all} h items) = λ scope. declaration_formed raw line scope (InFile is_static) v (init.Items all)
+
+  formed_globals : {line : ℕ} {is_static : Bool} {base : RawType} {ts rest : Tokens} {xs : List RawItem} → AreGlobals line is_static base ts xs rest → ItemsFormed xs
+  formed_globals (IsSeparated.last h) = (formed_global h, tt)
+  formed_globals (IsSeparated.more h k) = (formed_global h, formed_globals k)
+
+  formed_prototype : (line : ℕ) (head : RawHead) → HasNoLengthIf head.result → ItemFormed (Prototype line head)
+  formed_prototype line head plain = λ scope. (plain, taken_formed scope [] head.params)
+
+  formed_definition : (line : ℕ) (head : RawHead) (body : List RawStatement) → HasNoLengthIf head.result → AllFormed body → ItemFormed (Define line head body)
+  formed_definition line head body plain h = λ scope. (
+    plain,
+    formed_both (head_phrases raw head.params (scope_of_parameters head scope)) (body_phrases raw body (entered raw head scope) ++ (phrase line scope (EndsFunction head body) ∷ [])) (parameters_formed head.params (scope_of_parameters head scope))
+        (formed_both (body_phrases raw body (entered raw head scope)) (phrase line scope (EndsFunction head body) ∷ []) (body_formed body h (entered raw head scope)) (tt, tt)),
+  )
+
+  formed_item : {ts rest : Tokens} {xs : List RawItem} → IsItem ts xs rest → ItemsFormed xs
+  formed_item (IsItem.include is_stdlib) = ((λ scope. tt), tt)
+  formed_item (IsItem.tag keyword) = ((λ scope. (tt, tt)), tt)
+  formed_item (IsItem.structure {all} keyword members) = ((λ scope. (tt, members_formed scope [] all)), tt)
+  formed_item (IsItem.globals is_static base h) = formed_globals h
+  formed_item (IsItem.prototype {ts} {h} head) = (formed_prototype (line_of ts) h (head_plain head), tt)
+  formed_item (IsItem.definition {ts} {h} {body} head named inside) = (formed_definition (line_of ts) h body (head_plain head) (formed_statements inside), tt)
+
+  formed_items : {ts rest : Tokens} {xs : List RawItem} → AreItems ts xs rest → ItemsFormed xs
+  formed_items AreItems.done = tt
+  formed_items (AreItems.more {some} {all} h k) = items_both some all (formed_item h) (formed_items k)
+
+  text_formed : (xs : List RawItem) → ItemsFormed xs → (scope : Scope) → AreFormed (items_phrases raw xs scope)
+  text_formed [] h scope = tt
+  text_formed (x ∷ xs) h scope = formed_both (item_phrases raw x scope) (items_phrases raw xs (after_item raw x scope)) (h.0 scope) (text_formed xs h.1 (after_item raw x scope))
+
+-- the phrases of the tree of a text that keeps all rules fit
+pub text_fits : (raw : RawProgram) → IsTree raw → KeepsRules raw → AreFit raw (phrases raw)
+text_fits raw tree keeps = fit_from raw (phrases raw) (phrases_kept raw keeps) (text_formed raw raw.items (formed_items raw tree.is.grammar) outset)

@@ -1,0 +1,76 @@
+//! The variables of a program, as they are made along its text.
+ghost use Rattle.std.specs.Prelude.{◌≡◌, None, [], ◌∷◌, OnOk};
+ghost use Rattle.c_language.specs.ProgramOf as trees;
+ghost use Rattle.c_types_base.specs.Tables.{AreRight};
+ghost use Rattle.c_types_program.specs.Making.{variable_with, AreMade, Grow};
+
+use crate::shapes::ctype_with;
+use crate::stop::Stop;
+use c_tree::{Items, RawType, Text, Var};
+use c_types_base::tables::Tables;
+use std::alloc::{AllocError, Global};
+
+/// The variables that are declared so far, in text order.
+#[derive(Drop)]
+pub struct Variables {
+    pub made: Items<Var>,
+    /// Whether one was left out, since it has an array of 2^32 elements or more.
+    pub is_long: bool,
+}
+
+/// The declaration of a variable.
+#[derive(Clone, Copy)]
+pub struct Declaration<'a> {
+    pub line: u32,
+    pub name: &'a Text,
+    pub shape: &'a RawType,
+    /// How many items its list of initialisers has (ISO C99 6.7.8, paragraph 22).
+    pub items: usize,
+    pub is_static: bool,
+    pub is_parameter: bool,
+}
+
+impl Variables {
+    /// No variables.
+    pub fn new(alloc: Global) -> Variables
+        ensures { AreMade result [] }
+    {
+        Variables {
+            made: Items::new(alloc),
+            is_long: false,
+        }
+    }
+
+    /// Makes the variable of a declaration. Err: no memory was left.
+    pub fn add(
+        &mut self,
+        alloc: Global,
+        tables: &Tables<'_>,
+        one: Declaration<'_>,
+    ) -> Result<(), AllocError>
+        requires right { AreRight tables.now }
+        requires shaped { trees.ctype_with tables.now.raw.now one.items one.shape.now ≡ None → ⊥ }
+        ensures { OnOk result (Grow self.old self.new (variable_with tables.now.raw.now one.entry.line tables.now.owner one.entry.is_static one.entry.is_parameter one.entry.name.now one.entry.shape.now one.entry.items ∷ [])) }
+    {
+        let name = one.name.copy(alloc)?;
+        match ctype_with(alloc, &tables.defined, one.items, one.shape) {
+            Ok(Some(shape)) => {
+                self.made.push(Var {
+                    name,
+                    shape,
+                    line: one.line,
+                    is_static: one.is_static,
+                    owner: tables.owner,
+                    is_parameter: one.is_parameter,
+                })?;
+                Ok(())
+            }
+            Ok(None) => unreachable!(),
+            Err(Stop::Length) => {
+                self.is_long = true;
+                Ok(())
+            }
+            Err(Stop::NoMemory) => Err(AllocError),
+        }
+    }
+}
