@@ -1,0 +1,17 @@
+//! The reader as a whole: from the bytes of a text to its program, or a refusal that the text shows.
+#![tactic(auto)]
+
+#[cfg(test)]
+mod answer_tests;
+#[cfg(test)]
+mod layout_tests;
+mod reader;
+mod refusal;
+#[cfg(test)]
+mod tests;
+
+pub use c_lex::LexFault;
+pub use c_parse::ParseFault;
+pub use c_types::RuleFault;
+pub use reader::read_program;
+pub use refusal::ReadRefusal;

@@ -1,0 +1,80 @@
+//! A text is read in three steps: its tokens, their tree, and the program of the tree.
+ghost use Rattle.std.specs.Prelude.{◌≡◌, ℕ, ◌<◌, ◌≤◌, ◌^◌, All, length};
+ghost use Rattle.c_tree.specs.declared.program.Program.{Program};
+ghost use Rattle.c_tree.specs.declared.raw.program.RawProgram.{RawProgram};
+ghost use Rattle.c_language.specs.Programs.{IsFormed, IsTree};
+ghost use Rattle.c_language.specs.StatementNesting.{program_nesting};
+ghost use Rattle.c_types.specs.declared.rule_fault.RuleFault.{RuleFault};
+ghost use Rattle.c_reader.specs.Reading.{HasProgram, HasTree, IsRuleFault, IsRight, Gives, IsTooDeep, IsChecked, Lexes, Parses, Checks, IsJudgement};
+
+use crate::refusal::ReadRefusal;
+use c_language::Token;
+use c_lex::{LexFault, lex};
+use c_parse::{ParseFault, parse};
+use c_tree::{Program, RawProgram};
+use c_types::{RuleFault, check};
+use std::alloc::Global;
+
+/// The tokens of the text.
+fn lexed(alloc: Global, text: &[u8]) -> Result<Vec<Token>, ReadRefusal>
+    requires { length text.now < 2 ^ 32 }
+    ensures { Lexes text.now result }
+{
+    match lex(alloc, text) {
+        Ok(tokens) => Ok(tokens),
+        Err(LexFault::NoMemory) => Err(ReadRefusal::NoMemory),
+        Err(fault) => Err(ReadRefusal::Lex(fault)),
+    }
+}
+
+/// The tree of the tokens.
+fn parsed(alloc: Global, tokens: &[Token]) -> Result<RawProgram, ReadRefusal>
+    requires { All IsFormed tokens.now }
+    ensures { Parses tokens.now result }
+{
+    match parse(alloc, tokens) {
+        Ok(raw) => Ok(raw),
+        Err(ParseFault::NoMemory) => Err(ReadRefusal::NoMemory),
+        Err(fault) => Err(ReadRefusal::Parse(fault)),
+    }
+}
+
+/// The program of the tree.
+fn checked(alloc: Global, raw: RawProgram) -> Result<Program, ReadRefusal>
+    requires tree { IsTree raw }
+    requires nesting { program_nesting raw ≤ 100 }
+    ensures { Checks raw result }
+{
+    match check(alloc, raw) {
+        Ok(program) => Ok(program),
+        Err(RuleFault::NoMemory) => Err(ReadRefusal::NoMemory),
+        Err(fault) => Err(ReadRefusal::Check(fault)),
+    }
+}
+
+/// What is answered, with the tokens and the tree that it is answered for.
+#[tactic(auto, using(crate::proofs::ReadLaws::tokens_formed))]
+fn judged(alloc: Global, text: &[u8]) -> Result<Program, ReadRefusal>
+    requires { length text.now < 2 ^ 32 }
+    ensures { IsJudgement text.now result }
+{
+    let tokens = lexed(alloc, text)?;
+    let raw = parsed(alloc, tokens.as_slice())?;
+    checked(alloc, raw)
+}
+
+/// The program of a text, where the text is accepted and within the limits.
+///
+/// It is given exactly where the text has tokens, these are in the grammar, nest no deeper than 100 and have a
+/// tree that breaks no rule, no array length is above 65,536, and no object has more than 1,048,576 cells. The
+/// refusals come in this order: `Lex`, `Parse`, `Check`; each is shown by the text.
+#[tactic(auto, using(crate::proofs::ReadLaws::right, crate::proofs::ReadLaws::accepted))]
+pub fn read_program(alloc: Global, text: &[u8]) -> Result<Program, ReadRefusal>
+    requires { length text.now < 2 ^ 32 }
+    ensures right { IsRight text.now result }
+    ensures accepted { (p : Program) → HasProgram text.now p → Gives p result }
+    ensures deep { (raw : RawProgram) → HasTree text.now raw → 100 < program_nesting raw → IsTooDeep result }
+    ensures refused { (raw : RawProgram) (fault : RuleFault) → HasTree text.now raw → program_nesting raw ≤ 100 → IsRuleFault raw fault → IsChecked result }
+{
+    judged(alloc, text)
+}
