@@ -9,7 +9,7 @@ use Rattle.dep_model.specs.FunctionVertices.{is_actual, is_formal_in, is_formal_
 use Rattle.std.proofs.lemmas.Bool.Decides.{nat_tests}
 use Rattle.control_deps.specs.Walk.{from_all}
 use Rattle.control_deps.specs.Attached.{keepers_of, keepers, attached_from}
-use Rattle.control_deps.proofs.Membership.{IsIn, in_first, in_second, in_either}
+use Rattle.dep_model.proofs.Membership.{IsIn, in_first, in_second, in_either}
 use Rattle.control_deps.proofs.CodeLaws.{Joins, in_from_all, of_from_all}
 
 abbrev pub is_formal : VertexKind → Bool

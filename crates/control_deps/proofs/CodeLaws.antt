@@ -4,7 +4,7 @@ use Rattle.c_language.specs.Code.{Code, End, Opens, Plain, Fork, Loop, Leaves, C
 use Rattle.dep_model.specs.declared.skeleton.Pair.{Pair}
 use Rattle.dep_model.specs.Controls.{Controller, Controls}
 use Rattle.control_deps.specs.Walk.{pair, from_all, joined}
-use Rattle.control_deps.proofs.Membership.{IsIn, in_first, in_second, in_either}
+use Rattle.dep_model.proofs.Membership.{IsIn, in_first, in_second, in_either}
 
 -- from one of some vertices to one of others
 abbrev pub Joins : List ℕ → List ℕ → Pair → Type 0

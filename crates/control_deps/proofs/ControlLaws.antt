@@ -16,7 +16,7 @@ use Rattle.dep_model.specs.PairOrder.{AreAscending}
 use Rattle.control_deps.specs.Walk.{walks}
 use Rattle.control_deps.specs.Attached.{keepers, attached_from}
 use Rattle.control_deps.specs.ControlEdges.{control_edge, ends, AreAscendingEdges}
-use Rattle.control_deps.proofs.Membership.{IsIn, in_of_contains, contains_of_in, in_first, in_second, in_either, in_map, of_map}
+use Rattle.dep_model.proofs.Membership.{IsIn, in_of_contains, contains_of_in, in_first, in_second, in_either, in_map, of_map}
 use Rattle.control_deps.proofs.CodeLaws.{Joins, vertices_of, controlled_of, of_controlled}
 use Rattle.control_deps.proofs.StatementLaws.{walks_into, walks_from}
 use Rattle.control_deps.proofs.AttachedLaws.{is_formal, attached_of, formal_attached, actual_attached}

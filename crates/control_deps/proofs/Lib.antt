@@ -1,8 +1,6 @@
-pub mod Grown
 pub mod WalkLemmas
 pub mod Rules
 pub mod AttachedLemmas
-pub mod Membership
 pub mod CodeLaws
 pub mod StatementLaws
 pub mod AttachedLaws

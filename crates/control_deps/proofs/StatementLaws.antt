@@ -15,7 +15,7 @@ use Rattle.dep_model.specs.SwitchArms.{has_first, with_labels}
 use Rattle.dep_model.proofs.SwitchLaws.{HoldsOfTaken, taken_at, value_taken}
 use Rattle.control_deps.specs.Walk.{Walk, ArmWalk, joined, all, if_some, all_taken, walk_step, walk, arm_walk, walks}
 use Rattle.control_deps.specs.Walk as w
-use Rattle.control_deps.proofs.Membership.{IsIn, in_first, in_second, in_either}
+use Rattle.dep_model.proofs.Membership.{IsIn, in_first, in_second, in_either}
 use Rattle.control_deps.proofs.CodeLaws.{Joins, in_joined, of_joined, Under, under_first, under_second, under_seq, under_more, under_either}
 
 module _ (own : ℕ → List ℕ) where

@@ -7,13 +7,14 @@ use Rattle.dep_model.specs.declared.edge.Label.TheVariants.{Control, Flow}
 use Rattle.dep_model.specs.declared.vertex.VertexKind.{VertexKind}
 use Rattle.dep_model.specs.declared.vertex.VertexKind.TheVariants.{Entry, Statement}
 use Rattle.dep_model.proofs.PlainSteps.{Step, FlowEdge}
-use Rattle.dep_model.specs.MainVertices.{vertex, vertices}
+use Rattle.dep_model.specs.MainVertices.{vertices}
 use Rattle.dep_model.specs.Controls.{Controller, Controls}
+use Rattle.dep_model.specs.VertexOrder.{in_function}
 
 -- an edge joins two vertices of these kinds in main
 pub record Joins (p : Program) (e : Edge) (a b : VertexKind) : Type 0 where
-  pub from_is : slice_get (vertices p) e.from ≡ Some (vertex 0 a)
-  pub to_is : slice_get (vertices p) e.to ≡ Some (vertex 0 b)
+  pub from_is : slice_get (vertices p) e.from ≡ Some (in_function 0 a)
+  pub to_is : slice_get (vertices p) e.to ≡ Some (in_function 0 b)
 
 -- what stands for a controller
 abbrev pub controller_kind : Controller → VertexKind

@@ -8,12 +8,13 @@ use Rattle.dep_model.specs.declared.vertex.Vertex.{Vertex}
 use Rattle.dep_model.specs.declared.vertex.VertexKind.{VertexKind}
 use Rattle.dep_model.specs.declared.vertex.VertexKind.TheVariants.{Entry, Statement}
 use Rattle.dep_model.specs.FunctionVertices.{is_own, is_actual, is_entry, is_formal_in, is_formal_out, passes, numbers_from, numbers, vertices_at}
-use Rattle.dep_model.specs.MainVertices.{from, vertex, vertices}
+use Rattle.dep_model.specs.MainVertices.{from, vertices}
 use Rattle.dep_model.proofs.ListLemmas.{contains_head}
 use Rattle.dep_model.proofs.VertexNumbers.{numbers_pass, passes_numbers}
+use Rattle.dep_model.specs.VertexOrder.{in_function}
 
 abbrev statement : ℕ → Vertex
-statement i = vertex 0 (Statement i)
+statement i = in_function 0 (Statement i)
 
 statement_at : (i n k : ℕ) → k < n → slice_get (map statement (from i n)) k ≡ Some (statement (i + k))
 statement_at i zero k lt = absurd (omega (arith, lt))
@@ -34,14 +35,14 @@ statement_only i (suc n) (suc k) v e =
     let q : suc i + k ≡ i + suc k = omega arith in
     (omega (arith, w.0), w.1 ∙ ap statement q)
 
-pub vertex_at : (p : Program) (k : ℕ) → k < p.statements → slice_get (vertices p) (suc k) ≡ Some (vertex 0 (Statement k))
+pub vertex_at : (p : Program) (k : ℕ) → k < p.statements → slice_get (vertices p) (suc k) ≡ Some (in_function 0 (Statement k))
 vertex_at p k lt =
     let e : 0 + k ≡ k = omega arith in statement_at 0 p.statements k lt ∙ ap (λ j. Some (statement j)) e
 
 -- number v is the entry, or a statement
 pub data IsMainVertex (p : Program) : ℕ → Vertex → Type 0 where
-  entry : IsMainVertex p 0 (vertex 0 Entry)
-  numbered : {i : ℕ} → i < p.statements → IsMainVertex p (suc i) (vertex 0 (Statement i))
+  entry : IsMainVertex p 0 (in_function 0 Entry)
+  numbered : {i : ℕ} → i < p.statements → IsMainVertex p (suc i) (in_function 0 (Statement i))
 
 pub vertex_cases : (p : Program) (v : ℕ) (x : Vertex) → slice_get (vertices p) v ≡ Some x → IsMainVertex p v x
 vertex_cases p zero x e = subst (IsMainVertex p 0) (some_inj e) entry
@@ -56,31 +57,31 @@ same_function : (f : ℕ) (b : Bool) → ((0 == f) && b) ≡ true → (f ≡ 0) 
 same_function f b h =
     let w = and_parts (0 == f) b h in (sym (eqb-true 0 f w.0), w.1)
 
-own_case : (p : Program) (i f k : ℕ) (x : Vertex) → IsMainVertex p k x → slice_get (vertices p) k ≡ Some x → passes (is_own i) f x ≡ true → (f ≡ 0) × (slice_get (vertices p) k ≡ Some (vertex 0 (Statement i)))
+own_case : (p : Program) (i f k : ℕ) (x : Vertex) → IsMainVertex p k x → slice_get (vertices p) k ≡ Some x → passes (is_own i) f x ≡ true → (f ≡ 0) × (slice_get (vertices p) k ≡ Some (in_function 0 (Statement i)))
 own_case p i f k x entry at h = absurd (false≢true (same_function f false h).1)
 own_case p i f k x (numbered {i = j} lt) at h =
     let w = same_function f (j == i) h in
     (w.0, at ∙ ap (λ m. Some (statement m)) (eqb-true j i w.1))
 
-pub own_vertex : (p : Program) (i f k : ℕ) → Contains (numbers (is_own i) f (vertices p)) k → (f ≡ 0) × (slice_get (vertices p) k ≡ Some (vertex 0 (Statement i)))
+pub own_vertex : (p : Program) (i f k : ℕ) → Contains (numbers (is_own i) f (vertices p)) k → (f ≡ 0) × (slice_get (vertices p) k ≡ Some (in_function 0 (Statement i)))
 own_vertex p i f k c =
     let w = numbers_pass (is_own i) f (vertices p) k c in own_case p i f k w.one (vertex_cases p k w.one w.at) w.at w.passing
 
-pub vertex_own : (p : Program) (i k : ℕ) → slice_get (vertices p) k ≡ Some (vertex 0 (Statement i)) → Contains (numbers (is_own i) 0 (vertices p)) k
+pub vertex_own : (p : Program) (i k : ℕ) → slice_get (vertices p) k ≡ Some (in_function 0 (Statement i)) → Contains (numbers (is_own i) 0 (vertices p)) k
 vertex_own p i k e =
-    passes_numbers (is_own i) 0 (vertices p) k (record { one = vertex 0 (Statement i); at = e; passing = eq-eqb i i refl })
+    passes_numbers (is_own i) 0 (vertices p) k (record { one = in_function 0 (Statement i); at = e; passing = eq-eqb i i refl })
 
-entry_case : (p : Program) (f k : ℕ) (x : Vertex) → IsMainVertex p k x → slice_get (vertices p) k ≡ Some x → passes is_entry f x ≡ true → (f ≡ 0) × ((k ≡ 0) × (slice_get (vertices p) k ≡ Some (vertex 0 Entry)))
+entry_case : (p : Program) (f k : ℕ) (x : Vertex) → IsMainVertex p k x → slice_get (vertices p) k ≡ Some x → passes is_entry f x ≡ true → (f ≡ 0) × ((k ≡ 0) × (slice_get (vertices p) k ≡ Some (in_function 0 Entry)))
 entry_case p f k x entry at h = ((same_function f true h).0, (refl, at))
 entry_case p f k x (numbered lt) at h = absurd (false≢true (same_function f false h).1)
 
-pub entry_vertex : (p : Program) (f k : ℕ) → Contains (numbers is_entry f (vertices p)) k → (f ≡ 0) × ((k ≡ 0) × (slice_get (vertices p) k ≡ Some (vertex 0 Entry)))
+pub entry_vertex : (p : Program) (f k : ℕ) → Contains (numbers is_entry f (vertices p)) k → (f ≡ 0) × ((k ≡ 0) × (slice_get (vertices p) k ≡ Some (in_function 0 Entry)))
 entry_vertex p f k c =
     let w = numbers_pass is_entry f (vertices p) k c in entry_case p f k w.one (vertex_cases p k w.one w.at) w.at w.passing
 
-pub vertex_entry : (p : Program) (k : ℕ) → slice_get (vertices p) k ≡ Some (vertex 0 Entry) → Contains (numbers is_entry 0 (vertices p)) k
+pub vertex_entry : (p : Program) (k : ℕ) → slice_get (vertices p) k ≡ Some (in_function 0 Entry) → Contains (numbers is_entry 0 (vertices p)) k
 vertex_entry p k e =
-    passes_numbers is_entry 0 (vertices p) k (record { one = vertex 0 Entry; at = e; passing = refl })
+    passes_numbers is_entry 0 (vertices p) k (record { one = in_function 0 Entry; at = e; passing = refl })
 
 -- there are no others
 pub no_others : (p : Program) (test : VertexKind → Bool) → test Entry ≡ false → ((i : ℕ) → test (Statement i) ≡ false) → (f k : ℕ) → Contains (numbers test f (vertices p)) k → ⊥

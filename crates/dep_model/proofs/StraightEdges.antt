@@ -24,8 +24,8 @@ use Rattle.dep_model.specs.ModRef.{AreFunctionEffects}
 use Rattle.dep_model.proofs.PlainSteps.{Step, step, Follows, Chain}
 use Rattle.dep_model.specs.SystemGraph.{Analysis, vertices_of, places_at, numbered_effects, IsFlowIn, IsCallEdge, call, in_, out, IsSystemEdge, control, flow, between}
 use Rattle.dep_model.proofs.MainGraph.{controller_kind, IsControlEdge, IsFlowEdge, IsEdge}
-use Rattle.dep_model.specs.MainVertices.{vertex, vertices}
-use Rattle.dep_model.specs.VertexOrder.{has_number, statement_uses, statement_defines, statement_kills, vertex_effects}
+use Rattle.dep_model.specs.MainVertices.{vertices}
+use Rattle.dep_model.specs.VertexOrder.{in_function, has_number, statement_uses, statement_defines, statement_kills, vertex_effects}
 use Rattle.dep_model.proofs.ListLemmas.{contains_head, contains_cons}
 use Rattle.dep_model.proofs.MainVertexLemmas.{vertex_at, IsMainVertex, entry, numbered, vertex_cases, own_vertex, vertex_own, entry_vertex, vertex_entry, no_others, no_formal_in, no_formal_out, no_tails}
 use Rattle.dep_model.proofs.StraightMain.{main_plain, none_taken, no_calls, other_code}
@@ -40,11 +40,11 @@ in_turn_in (x ∷ xs) k v w (inr f) = contains_cons x xs v (in_turn_in xs k v w 
 module _ (p : Program) (points : PointsTo) (h : IsStraightLine p) where
   -- ---- control
 
-  from_kind : (v : Controller) (k : ℕ) → Contains (controller_vertices (vertices p) 0 v) k → slice_get (vertices p) k ≡ Some (vertex 0 (controller_kind v))
+  from_kind : (v : Controller) (k : ℕ) → Contains (controller_vertices (vertices p) 0 v) k → slice_get (vertices p) k ≡ Some (in_function 0 (controller_kind v))
   from_kind None k c = (entry_vertex p 0 k c).1.1
   from_kind (Some i) k c = (own_vertex p i 0 k c).1
 
-  kind_from : (v : Controller) (k : ℕ) → slice_get (vertices p) k ≡ Some (vertex 0 (controller_kind v)) → Contains (controller_vertices (vertices p) 0 v) k
+  kind_from : (v : Controller) (k : ℕ) → slice_get (vertices p) k ≡ Some (in_function 0 (controller_kind v)) → Contains (controller_vertices (vertices p) 0 v) k
   kind_from None k e = vertex_entry p k e
   kind_from (Some i) k e = vertex_own p i k e
 
@@ -102,7 +102,7 @@ module _ (p : Program) (points : PointsTo) (h : IsStraightLine p) where
   stands_in : (s : Step) → IsIn (code_in p 0) s → Stands p points 0 (doings_of p 0) p.statements s
   stands_in s m = stands p points s (main_plain p points h) m
 
-  at_number : (places : Vertex → Places) (s : Step) (l : Location) → IsIn (code_in p 0) s → places_at places (vertices p) (number s) l ≡ places (vertex 0 (Statement s.id)) l
+  at_number : (places : Vertex → Places) (s : Step) (l : Location) → IsIn (code_in p 0) s → places_at places (vertices p) (number s) l ≡ places (in_function 0 (Statement s.id)) l
   at_number places s l m =
       ap (λ o. option_map_or (λ (x : Vertex). places x l) o false) (vertex_at p s.id (stands_in s m).below)
 
@@ -220,10 +220,10 @@ module _ (p : Program) (points : PointsTo) (h : IsStraightLine p) where
     | inr s ↦ flow_step e w.flows.location s.one w.labelled w.flows.defined w.flows.used s.number_is s.inside w.flows.chain
   ]
 
-  some_kind : (v k : ℕ) (x : Vertex) → IsMainVertex p v x → x ≡ vertex 0 (Statement k) → v ≡ suc k
+  some_kind : (v k : ℕ) (x : Vertex) → IsMainVertex p v x → x ≡ in_function 0 (Statement k) → v ≡ suc k
   some_kind v k x entry e = absurd (entry_apart e)
     where
-      entry_apart : {i : ℕ} → vertex 0 Entry ≡ vertex 0 (Statement i) → ⊥
+      entry_apart : {i : ℕ} → in_function 0 Entry ≡ in_function 0 (Statement i) → ⊥
       entry_apart same = kinds_apart (ap (λ (y : Vertex). y.kind) same)
         where
           kinds_apart : {i : ℕ} → Entry ≡ Statement i → ⊥
@@ -233,11 +233,11 @@ module _ (p : Program) (points : PointsTo) (h : IsStraightLine p) where
       statement_inj : {i j : ℕ} → Statement i ≡ Statement j → i ≡ j
       statement_inj s = cc
 
-      kind_inj : {i j : ℕ} → vertex 0 (Statement i) ≡ vertex 0 (Statement j) → i ≡ j
+      kind_inj : {i j : ℕ} → in_function 0 (Statement i) ≡ in_function 0 (Statement j) → i ≡ j
       kind_inj same = statement_inj (ap (λ (y : Vertex). y.kind) same)
 
-  number_at : (v k : ℕ) → slice_get (vertices p) v ≡ Some (vertex 0 (Statement k)) → v ≡ suc k
-  number_at v k e = some_kind v k (vertex 0 (Statement k)) (vertex_cases p v (vertex 0 (Statement k)) e) refl
+  number_at : (v k : ℕ) → slice_get (vertices p) v ≡ Some (in_function 0 (Statement k)) → v ≡ suc k
+  number_at v k e = some_kind v k (in_function 0 (Statement k)) (vertex_cases p v (in_function 0 (Statement k)) e) refl
 
   main_flow : (e : Edge) → IsFlowEdge p (code_in p 0) e → IsFlowIn p points (vertices p) 0 e
   main_flow e w =

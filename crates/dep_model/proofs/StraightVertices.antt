@@ -15,7 +15,7 @@ use Rattle.dep_model.specs.Denoted.{Places, PointsTo}
 use Rattle.dep_model.specs.Doings.{Doing, doings_of}
 use Rattle.dep_model.specs.MayPoint.{parameters}
 use Rattle.dep_model.specs.ModRef.{FunctionEffects, AreFunctionEffects}
-use Rattle.dep_model.specs.MainVertices.{from, vertex, vertices}
+use Rattle.dep_model.specs.MainVertices.{from, vertices}
 use Rattle.dep_model.specs.VertexOrder.{slots_from, arguments_from, touched, result_slots, formal_ins, formal_outs, all_vertices, function_kinds, in_function, vertices_from, program_vertices}
 use Rattle.dep_model.proofs.StraightExprs.{truth}
 use Rattle.dep_model.proofs.StraightActs.{ArePlain, end, opens, act}
@@ -35,12 +35,12 @@ pub record AreNumbered (ks : List VertexKind) (i j : ℕ) : Type 0 where
   pub ends : j ≡ i + count
   pub kinds_are : ks ≡ map Statement (from i count)
 
-entry_and : (ks : List ℕ) → map (in_function 0) (Entry ∷ map Statement ks) ≡ vertex 0 Entry ∷ map (λ i. vertex 0 (Statement i)) ks
-entry_and ks = ap (λ vs. vertex 0 Entry ∷ vs) (each ks)
+entry_and : (ks : List ℕ) → map (in_function 0) (Entry ∷ map Statement ks) ≡ in_function 0 Entry ∷ map (λ i. in_function 0 (Statement i)) ks
+entry_and ks = ap (λ vs. in_function 0 Entry ∷ vs) (each ks)
   where
-    each : (ks : List ℕ) → map (in_function 0) (map Statement ks) ≡ map (λ i. vertex 0 (Statement i)) ks
+    each : (ks : List ℕ) → map (in_function 0) (map Statement ks) ≡ map (λ i. in_function 0 (Statement i)) ks
     each [] = refl
-    each (k ∷ ks) = ap (λ vs. vertex 0 (Statement k) ∷ vs) (each ks)
+    each (k ∷ ks) = ap (λ vs. in_function 0 (Statement k) ∷ vs) (each ks)
 
 append_none : {A : Type 0} (xs : List A) → xs ++ [] ≡ xs
 append_none [] = refl

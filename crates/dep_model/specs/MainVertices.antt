@@ -4,15 +4,13 @@ use Rattle.c_tree.specs.declared.program.Program.{Program}
 use Rattle.dep_model.specs.declared.vertex.Vertex.{Vertex}
 use Rattle.dep_model.specs.declared.vertex.VertexKind.{VertexKind}
 use Rattle.dep_model.specs.declared.vertex.VertexKind.TheVariants.{Entry, Statement}
+use Rattle.dep_model.specs.VertexOrder.{in_function}
 
 -- the numbers from i on, so many
 abbrev pub from : ℕ → ℕ → List ℕ
 from i zero = []
 from i (suc n) = i ∷ from (suc i) n
 
-abbrev pub vertex : ℕ → VertexKind → Vertex
-vertex f kind = record { function = f; kind = kind }
-
 -- the vertices in their order: so far the entry of main and its statements, by number
 abbrev pub vertices : Program → List Vertex
-vertices p = vertex 0 Entry ∷ map (λ i. vertex 0 (Statement i)) (from 0 p.statements)
+vertices p = in_function 0 Entry ∷ map (λ i. in_function 0 (Statement i)) (from 0 p.statements)

@@ -9,7 +9,7 @@ use Rattle.dep_model.specs.SwitchArms.{taken}
 use Rattle.dep_model.specs.declared.skeleton.Pair.{Pair}
 use Rattle.flow_graph.specs.Walk.{Flow, linked, led_to, looped, past, flow, flows, flow_part, arm_flows, some_default}
 use Rattle.flow_graph.proofs.FlowLemmas.{flow-If, flow-While, flow-Do, flow-For, flow-Block, switch-pairs}
-use Rattle.flow_graph.proofs.Turns.{two, grown_two, grown_three}
+use Rattle.dep_model.proofs.Grown.{two, grown_two, grown_three}
 
 module _ (own : ℕ → List ℕ) (next : Option ℕ) (one : Statement) where
   pub block_form : (l : ℕ) (b b_ : List Statement) (o p : List Pair) → one ≡ s.Block l b → b_ ≡ b → p ≡ o ++ (flows own b_).pairs next → p ≡ o ++ (flow own one).pairs next

@@ -12,7 +12,7 @@ use Rattle.dep_model.specs.declared.vertex.Vertex.{Vertex}
 use Rattle.dep_model.specs.Follows.{enters, InTurn, VerticesAt, start, Follows}
 use Rattle.dep_model.specs.FunctionVertices.{is_own, is_actual, numbers, code_in, heads, tails, vertices_at, FollowsIn}
 use Rattle.flow_graph.specs.Walk.{linked, flows}
-use Rattle.flow_graph.proofs.Membership.{IsIn, in_of_contains, contains_of_in, in_first, in_second, in_either}
+use Rattle.dep_model.proofs.Membership.{IsIn, in_of_contains, contains_of_in, in_first, in_second, in_either}
 use Rattle.flow_graph.proofs.OrderLaws.{Turns, in_linked, of_linked, at, code_is}
 
 pub got : {X : Type 0} (xs : List X) (i : ℕ) (x : X) → i < length xs → x ≡ get_or xs i x → slice_get xs i ≡ Some x

@@ -2,6 +2,5 @@ pub mod FlowLemmas
 pub mod Rules
 pub mod Turns
 pub mod Forms
-pub mod Membership
 pub mod OrderLaws
 pub mod FunctionLaws

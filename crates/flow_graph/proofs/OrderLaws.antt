@@ -17,7 +17,7 @@ use Rattle.dep_model.proofs.FollowsLemmas.{start-seq, Follows-seq, seq-first, se
 use Rattle.dep_model.proofs.SwitchLaws.{HoldsOfTaken, some_arm_default, taken_or_past, value_taken, past_value}
 use Rattle.flow_graph.specs.Walk.{Flow, ArmFlow, pair, to_next, linked, nothing, simple, in_order, if_some, led_to, all_taken, any_default, past, forked, looped, flow_step, flow, arm_flow, flows}
 use Rattle.flow_graph.specs.Walk as w
-use Rattle.flow_graph.proofs.Membership.{IsIn, in_first, in_second, in_either}
+use Rattle.dep_model.proofs.Membership.{IsIn, in_first, in_second, in_either}
 
 -- ---- vertices that follow one another
 

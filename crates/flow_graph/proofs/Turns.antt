@@ -10,16 +10,6 @@ use Rattle.dep_model.specs.declared.skeleton.Pair.{Pair}
 use Rattle.dep_model.proofs.NumberedFrom.{drop_item, drop_none}
 use Rattle.flow_graph.specs.Walk.{to_next, linked, flow, flows, if_taken, arm_flows, some_default}
 
-pub two : {A B C : Type 0} (f : A → B → C) {a b : A} {c d : B} → a ≡ b → c ≡ d → f a c ≡ f b d
-two f {a} {b} {c} {d} p q = ap (λ x. f x c) p ∙ ap (f b) q
-
-pub grown_two : {A : Type 0} (o p q a b w : List A) → p ≡ o ++ a → q ≡ p ++ b → w ≡ a ++ b → q ≡ o ++ w
-grown_two o p q a b w e f g = f ∙ (ap (λ x. x ++ b) e ∙ (append_assoc o a b ∙ ap (λ x. o ++ x) (sym g)))
-
-pub grown_three : {A : Type 0} (o p q r a b c w : List A) → p ≡ o ++ a → q ≡ p ++ b → r ≡ q ++ c → w ≡ a ++ (b ++ c) → r ≡ o ++ w
-grown_three o p q r a b c w e f g h =
-    grown_two o p r a (b ++ c) w e (grown_two p q r b c (b ++ c) f g refl) h
-
 -- vertices that follow one another: those up to one of them, and the rest
 pub link_turn : (vs : List ℕ) (k : Option ℕ) (i v : ℕ) (start out new : List Pair) → i < length vs → get_or vs i v ≡ v → out ++ linked (drop i vs) k ≡ start ++ linked vs k → new ≡ out ++ to_next v (enters (drop (i + 1) vs) k) → new ++ linked (drop (i + 1) vs) k ≡ start ++ linked vs k
 link_turn vs k i v start out new lt is inv now =
