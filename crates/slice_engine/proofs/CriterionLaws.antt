@@ -24,10 +24,11 @@ use Rattle.c_tree.proofs.NumberedLemmas.{starts-Declare, starts-Assign, starts-P
 use Rattle.c_language.specs.StraightLine.{IsBody, done, declare, begin, assign, print, int_format}
 use Rattle.c_tree.specs.declared.program.Init.TheVariants as init
 use Rattle.c_tree.specs.declared.expr.Expr.TheVariants as e
-use Rattle.dep_model.specs.MainVertices.{from, vertex}
+use Rattle.dep_model.specs.MainVertices.{from}
 use Rattle.dep_model.specs.declared.vertex.VertexKind.TheVariants.{Entry, Statement as AtStatement}
 use Rattle.std.proofs.lemmas.List.{append-nil}
 use Rattle.slice_engine.proofs.CriterionLemmas.{length-marked_if, length-with_starts}
+use Rattle.dep_model.specs.VertexOrder.{in_function}
 
 -- each number is below n
 abbrev pub AreNumbers : ℕ → Starts → Type 0
@@ -116,12 +117,12 @@ numbers_are p h =
 
 -- ---- the criterion
 
-kept_nowhere : (s n i : ℕ) (bs : List Bool) → s + n ≤ i → is_kept (map (λ j. vertex 0 (AtStatement j)) (from s n)) bs i ≡ false
+kept_nowhere : (s n i : ℕ) (bs : List Bool) → s + n ≤ i → is_kept (map (λ j. in_function 0 (AtStatement j)) (from s n)) bs i ≡ false
 kept_nowhere s zero i bs le = refl
 kept_nowhere s (suc n) i [] le = refl
 kept_nowhere s (suc n) i (b ∷ bs) le =
     let ne : (s == i) ≡ false = apart s i (omega (arith, le)) in
-    ap (λ q. (q && b) || is_kept (map (λ j. vertex 0 (AtStatement j)) (from (suc s) n)) bs i) ne ∙ kept_nowhere (suc s) n i bs (omega (arith, le))
+    ap (λ q. (q && b) || is_kept (map (λ j. in_function 0 (AtStatement j)) (from (suc s) n)) bs i) ne ∙ kept_nowhere (suc s) n i bs (omega (arith, le))
   where
     apart : (a b : ℕ) → a < b → (a == b) ≡ false
     apart a b lt = grind (arith)

@@ -17,13 +17,14 @@ use Rattle.dep_model.specs.declared.vertex.VertexKind.TheVariants.{Entry, Statem
 use Rattle.dep_model.proofs.PlainSteps.{Step, step}
 use Rattle.dep_model.specs.Controls.{Controller, Controls}
 use Rattle.dep_model.proofs.MainGraph.{Joins, controller_kind, IsControlEdge, IsFlowEdge, IsEdge, AreEdges}
-use Rattle.dep_model.specs.MainVertices.{from, vertex, vertices}
+use Rattle.dep_model.specs.MainVertices.{from, vertices}
 use Rattle.slice_engine.specs.Edges.{control_edge, flow_edge, edges_of}
 use Rattle.slice_engine.proofs.Straight.{AreActs, end, opens, act, body_acts}
 use Rattle.slice_engine.proofs.EdgeLemmas.{Has, IsEdgeOf, control, flow, step_in, chain_between, table_begins, edges_sound, controls_found, flows_found}
+use Rattle.dep_model.specs.VertexOrder.{in_function}
 
 abbrev statement : ℕ → Vertex
-statement i = vertex 0 (Statement i)
+statement i = in_function 0 (Statement i)
 
 statement_at : (i n k : ℕ) → k < n → slice_get (map statement (from i n)) k ≡ Some (statement (i + k))
 statement_at i zero k lt = absurd (omega (arith, lt))
@@ -44,7 +45,7 @@ statement_only i (suc n) (suc k) v e =
     let q : suc i + k ≡ i + suc k = omega arith in
     (omega (arith, w.0), w.1 ∙ ap statement q)
 
-pub vertex_of : (p : Program) (k : ℕ) → k < p.statements → slice_get (vertices p) (k + 1) ≡ Some (vertex 0 (Statement k))
+pub vertex_of : (p : Program) (k : ℕ) → k < p.statements → slice_get (vertices p) (k + 1) ≡ Some (in_function 0 (Statement k))
 vertex_of p k lt = ap (λ j. slice_get (vertices p) j) (add-one k) ∙ statement_at 0 p.statements k lt ∙ ap (λ j. Some (statement j)) (zero_add k)
   where
     zero_add : (k : ℕ) → 0 + k ≡ k
@@ -53,25 +54,25 @@ vertex_of p k lt = ap (λ j. slice_get (vertices p) j) (add-one k) ∙ statement
 statement_inj : {i j : ℕ} → Statement i ≡ Statement j → i ≡ j
 statement_inj h = cc
 
-kind_inj : {i j : ℕ} → vertex 0 (Statement i) ≡ vertex 0 (Statement j) → i ≡ j
+kind_inj : {i j : ℕ} → in_function 0 (Statement i) ≡ in_function 0 (Statement j) → i ≡ j
 kind_inj h = statement_inj (ap (λ (v : Vertex). v.kind) h)
 
-entry_apart : {i : ℕ} → vertex 0 Entry ≡ vertex 0 (Statement i) → ⊥
+entry_apart : {i : ℕ} → in_function 0 Entry ≡ in_function 0 (Statement i) → ⊥
 entry_apart h = kinds_apart (ap (λ (v : Vertex). v.kind) h)
   where
     kinds_apart : {i : ℕ} → Entry ≡ Statement i → ⊥
     kinds_apart h = cc
 
-pub vertex_only : (p : Program) (v k : ℕ) → slice_get (vertices p) v ≡ Some (vertex 0 (Statement k)) → (v ≡ k + 1) × (k < p.statements)
+pub vertex_only : (p : Program) (v k : ℕ) → slice_get (vertices p) v ≡ Some (in_function 0 (Statement k)) → (v ≡ k + 1) × (k < p.statements)
 vertex_only p zero k e = absurd (entry_apart (some_inj e))
 vertex_only p (suc v) k e =
-    let w = statement_only 0 p.statements v (vertex 0 (Statement k)) e in
+    let w = statement_only 0 p.statements v (in_function 0 (Statement k)) e in
     let q : k ≡ 0 + v = kind_inj w.1 in
     (omega (arith, q), omega (arith, q, w.0))
 
-pub entry_only : (p : Program) (v : ℕ) → slice_get (vertices p) v ≡ Some (vertex 0 Entry) → v ≡ 0
+pub entry_only : (p : Program) (v : ℕ) → slice_get (vertices p) v ≡ Some (in_function 0 Entry) → v ≡ 0
 entry_only p zero e = refl
-entry_only p (suc v) e = absurd (entry_apart (statement_only 0 p.statements v (vertex 0 Entry) e).1)
+entry_only p (suc v) e = absurd (entry_apart (statement_only 0 p.statements v (in_function 0 Entry) e).1)
 
 length_from : (i n : ℕ) → length (from i n) ≡ n
 length_from i zero = refl
@@ -138,7 +139,7 @@ module _ (p : Program) (c : Code) (m : ℕ) (acts : AreActs m 0 c p.statements) 
       let found = controls_has acts None k.controller k.statement k.controls in
       let w = found.1 in
       let to = vertex_only p e.to k.statement k.joins.to_is in
-      let from = entry_only p e.from (subst (λ (v : Controller). slice_get (vertices p) e.from ≡ Some (vertex 0 (controller_kind v))) found.0 k.joins.from_is) in
+      let from = entry_only p e.from (subst (λ (v : Controller). slice_get (vertices p) e.from ≡ Some (in_function 0 (controller_kind v))) found.0 k.joins.from_is) in
       subst (Contains (edges_of (replicate m 0) c)) (sym (edge_same e 0 (w.0.id + 1) Control from (to.0 ∙ ap (λ i. i + 1) (sym w.2)) k.labelled)) (controls_found acts (replicate m 0) w.0 w.1)
   edge_found e (inr f) =
       let b = chain_between acts f.flows.location f.before f.after f.flows.chain in

@@ -10,8 +10,8 @@ use Rattle.c_tree.specs.declared.statement.Statement.{Statement}
 use Rattle.c_language.specs.Words.{Bytes}
 use Rattle.c_language.specs.Layout.{layout, items_lines, function_lines, body_lines}
 use Rattle.c_language.specs.StraightLine.{IsLocal, IsBody, HasLines, main_of, IsStraightLine, IsComment, IsTextOf}
-use Rattle.slice_engine.specs.declared.reading.ReadRefusal.{ReadRefusal}
-use Rattle.slice_engine.specs.declared.reading.ReadRefusal.TheVariants.{NotYet, NoMemory}
+use Rattle.slice_engine.specs.declared.reading.StraightLineRefusal.{StraightLineRefusal}
+use Rattle.slice_engine.specs.declared.reading.StraightLineRefusal.TheVariants.{NotYet, NoMemory}
 use Rattle.slice_engine.specs.declared.reading.body.Body.{Body}
 use Rattle.slice_engine.specs.Reading as r
 use Rattle.slice_engine.specs.Reading.{Gives, behind, lines, empty_body, program_of, closing, closed, program, comment, reading}
@@ -162,11 +162,11 @@ refused text h p t = let e : ◌≡◌ {A = Option Program} None (Some p) = sym 
 
 -- ---- what the reader answers
 
-pub read_is : (text : Bytes) (answer : Result Program ReadRefusal) → Gives (reading text) answer → IfOk answer (λ p. IsTextOf text p)
+pub read_is : (text : Bytes) (answer : Result Program StraightLineRefusal) → Gives (reading text) answer → IfOk answer (λ p. IsTextOf text p)
 read_is text (Ok p) h = sound text p h
 read_is text (Err x) h = tt
 
-pub refusal_is : (text : Bytes) (answer : Result Program ReadRefusal) → Gives (reading text) answer → IsErrOf answer NotYet → (p : Program) → IsTextOf text p → ⊥
+pub refusal_is : (text : Bytes) (answer : Result Program StraightLineRefusal) → Gives (reading text) answer → IsErrOf answer NotYet → (p : Program) → IsTextOf text p → ⊥
 refusal_is text (Ok q) h e p t = absurd cc
 refusal_is text (Err NotYet) h e p t = refused text h p t
 refusal_is text (Err NoMemory) h e p t = let x : NoMemory ≡ NotYet = cc in absurd cc

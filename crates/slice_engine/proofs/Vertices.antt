@@ -14,11 +14,12 @@ use Rattle.dep_model.specs.declared.vertex.Vertex.{Vertex}
 use Rattle.dep_model.specs.declared.vertex.VertexKind.TheVariants.{Statement as AtStatement}
 use Rattle.dep_model.specs.Follows.{InTurn, last, more}
 use Rattle.dep_model.proofs.PlainSteps.{Step, step, start, Follows, Chain}
-use Rattle.dep_model.specs.MainVertices.{from, vertex, vertices}
+use Rattle.dep_model.specs.MainVertices.{from, vertices}
 use Rattle.slice_engine.specs.Projection.{is_of, is_kept}
 use Rattle.std.proofs.lemmas.Bool.{or_left, or_right, or_cases, and_from, and_parts, ne_eqb}
 use Rattle.slice_engine.proofs.Bools.{or_false}
 use Rattle.slice_engine.proofs.Codes.{code_of-Declare, code_of-Assign, code_of-Print}
+use Rattle.dep_model.specs.VertexOrder.{in_function}
 
 -- ---- the numbers in a list
 
@@ -95,7 +96,7 @@ chain_below n c l v w h (more {u = u} f k rest) =
 -- ---- the vertex of a statement
 
 abbrev at_statement : ℕ → Vertex
-at_statement i = vertex 0 (AtStatement i)
+at_statement i = in_function 0 (AtStatement i)
 
 get_from : (s n i : ℕ) → i < n → slice_get (from s n) i ≡ Some (s + i)
 get_from s zero i lt = absurd (omega arith)
@@ -103,7 +104,7 @@ get_from s (suc n) zero lt = let e : s ≡ s + 0 = omega arith in ap Some e
 get_from s (suc n) (suc i) lt = let e : suc s + i ≡ s + suc i = omega arith in get_from (suc s) n i (omega arith) ∙ ap Some e
 
 -- it comes behind the entry of main
-pub vertex_of : (p : Program) (i : ℕ) → i < p.statements → slice_get (vertices p) (suc i) ≡ Some (vertex 0 (AtStatement i))
+pub vertex_of : (p : Program) (i : ℕ) → i < p.statements → slice_get (vertices p) (suc i) ≡ Some (in_function 0 (AtStatement i))
 vertex_of p i lt =
     let e : 0 + i ≡ i = omega arith in
     slice_get-map at_statement (from 0 p.statements) i ∙ (ap (option_map at_statement) (get_from 0 p.statements i lt) ∙ ap (λ n. Some (at_statement n)) e)

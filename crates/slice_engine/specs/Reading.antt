@@ -17,8 +17,8 @@ use Rattle.c_tree.specs.declared.statement.Statement.{Statement}
 use Rattle.c_tree.specs.declared.statement.Statement.TheVariants as s
 use Rattle.c_language.specs.Words.{Bytes}
 use Rattle.c_language.specs.StraightLine.{is_digit, is_word_byte, is_name, is_decimal, decimal_from, int_format, main_of}
-use Rattle.slice_engine.specs.declared.reading.ReadRefusal.{ReadRefusal}
-use Rattle.slice_engine.specs.declared.reading.ReadRefusal.TheVariants.{NotYet, NoMemory}
+use Rattle.slice_engine.specs.declared.reading.StraightLineRefusal.{StraightLineRefusal}
+use Rattle.slice_engine.specs.declared.reading.StraightLineRefusal.TheVariants.{NotYet, NoMemory}
 use Rattle.slice_engine.specs.declared.reading.lines.Line.{Line}
 use Rattle.slice_engine.specs.declared.reading.lines.Line.TheVariants.{Declare, Begin, Assign, Print}
 use Rattle.slice_engine.specs.declared.reading.body.Body.{Body}
@@ -260,19 +260,19 @@ reading text =
 -- ---- what functions answer, unless memory runs out
 
 -- what is read, with the rest
-abbrev pub Reads : {A : Type 0} → Outcome A → Result A ReadRefusal → Bytes → Type 0
+abbrev pub Reads : {A : Type 0} → Outcome A → Result A StraightLineRefusal → Bytes → Type 0
 Reads outcome (Ok a) rest = outcome ≡ Some (a, rest)
 Reads outcome (Err NotYet) rest = outcome ≡ None
 Reads outcome (Err NoMemory) rest = Unit {0}
 
 -- what is made of a whole
-abbrev pub Gives : {A : Type 0} → Option A → Result A ReadRefusal → Type 0
+abbrev pub Gives : {A : Type 0} → Option A → Result A StraightLineRefusal → Type 0
 Gives outcome (Ok a) = outcome ≡ Some a
 Gives outcome (Err NotYet) = outcome ≡ None
 Gives outcome (Err NoMemory) = Unit {0}
 
 -- a change of a value
-abbrev pub Becomes : {A B : Type 0} → Option A → Result B ReadRefusal → A → Type 0
+abbrev pub Becomes : {A B : Type 0} → Option A → Result B StraightLineRefusal → A → Type 0
 Becomes outcome (Ok u) new = outcome ≡ Some new
 Becomes outcome (Err NotYet) new = outcome ≡ None
 Becomes outcome (Err NoMemory) new = Unit {0}

@@ -9,6 +9,7 @@ mod projection;
 mod reading;
 mod text;
 
+pub use c_reader::{LexFault, ParseFault, ReadRefusal, RuleFault, read_program};
 pub use c_tree::{Program, Text};
 pub use engine::{Criterion, Engine};
-pub use reading::{ReadRefusal, read_program};
+pub use reading::{StraightLineRefusal, read_straight_line};

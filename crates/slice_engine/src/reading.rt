@@ -19,7 +19,7 @@ use thiserror::Error;
 
 /// Why a text is not read.
 #[derive(Clone, Copy, Debug, PartialEq, Eq, Error)]
-pub enum ReadRefusal {
+pub enum StraightLineRefusal {
     /// The text has not the form that is built.
     #[error("not yet")]
     NotYet,
@@ -28,14 +28,14 @@ pub enum ReadRefusal {
     NoMemory,
 }
 
-impl From<AllocError> for ReadRefusal {
+impl From<AllocError> for StraightLineRefusal {
     ghost use Rattle.std.specs.Prelude.{◌≡◌};
-    ghost use Rattle.slice_engine.specs.declared.reading.ReadRefusal.TheVariants.{NoMemory};
+    ghost use Rattle.slice_engine.specs.declared.reading.StraightLineRefusal.TheVariants.{NoMemory};
 
     ghost from_gives = { λ _ e. e ≡ NoMemory };
 
-    fn from(_error: AllocError) -> ReadRefusal {
-        ReadRefusal::NoMemory
+    fn from(_error: AllocError) -> StraightLineRefusal {
+        StraightLineRefusal::NoMemory
     }
 }
 
@@ -84,24 +84,24 @@ fn program(
     alloc: Global,
     cursor: &mut Cursor<'_>,
     comment_lines: u32,
-) -> Result<Program, ReadRefusal>
+) -> Result<Program, StraightLineRefusal>
     requires few { comment_lines ≤ 1 }
     requires short { length cursor.old < 2 ^ 32 }
     ensures { Gives (spec.program comment_lines cursor.old) result }
 {
     if !cursor.skip(b"#include <stdio.h>\nint main(void) {\n") {
-        return Err(ReadRefusal::NotYet);
+        return Err(StraightLineRefusal::NotYet);
     }
     let body = lines(alloc, cursor, comment_lines + 3)?;
     if !cursor.skip(b"}\n") || !cursor.is_at_end() {
-        return Err(ReadRefusal::NotYet);
+        return Err(StraightLineRefusal::NotYet);
     }
     Ok(program_of(alloc, comment_lines + 2, body)?)
 }
 
 /// The program of a text, behind a comment line or none.
 #[tactic(auto, unfolding(crate::specs::Reading::reading))]
-fn read(alloc: Global, text: &[u8]) -> Result<Program, ReadRefusal>
+fn read(alloc: Global, text: &[u8]) -> Result<Program, StraightLineRefusal>
     requires { length text.now < 2 ^ 32 }
     ensures { Gives (spec.reading text.now) result }
 {
@@ -117,13 +117,10 @@ fn read(alloc: Global, text: &[u8]) -> Result<Program, ReadRefusal>
 /// `stdio.h`, and a main of declarations, assignments and calls of `printf`, a line each.
 ///
 /// `NotYet` says that the text has not this form, and `NoMemory` that memory ran out.
-pub fn read_program(alloc: Global, text: &[u8]) -> Result<Program, ReadRefusal>
+pub fn read_straight_line(alloc: Global, text: &[u8]) -> Result<Program, StraightLineRefusal>
     requires { length text.now < 2 ^ 32 }
     ensures read { IfOk result (λ p. IsTextOf text.now p) }
-    ensures refused { IsErrOf result ReadRefusal.NotYet → (p : Program) → IsTextOf text.now p → ⊥ }
+    ensures refused { IsErrOf result StraightLineRefusal.NotYet → (p : Program) → IsTextOf text.now p → ⊥ }
 {
     read(alloc, text)
 }
-
-#[cfg(test)]
-mod tests;

@@ -14,6 +14,3 @@ mod words;
 pub use edge_io::{FileShelf, StreamSink, Text};
 pub use run::run_slicer;
 pub use status::Status;
-
-#[cfg(test)]
-mod tests;

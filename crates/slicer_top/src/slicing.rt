@@ -9,7 +9,7 @@ ghost use Rattle.slicer_top.specs.Reports.{IsCause};
 use crate::refusal::Refusal;
 use crate::words::Request;
 use edge_io::{FetchFault, Shelf, Text};
-use slice_engine::{Criterion, Engine, ReadRefusal, read_program};
+use slice_engine::{Criterion, Engine, StraightLineRefusal, read_straight_line};
 use std::alloc::Global;
 
 // The most bytes that a file may have.
@@ -47,10 +47,10 @@ fn slice_text_at(alloc: Global, text: &[u8], line: u64) -> Result<Text, Refusal>
     ensures unreadable { result ≡ Err Refusal.Unreadable → ⊥ }
     ensures too_long { result ≡ Err Refusal.TooLong → ⊥ }
 {
-    let program = match read_program(alloc, text) {
+    let program = match read_straight_line(alloc, text) {
         Ok(program) => program,
-        Err(ReadRefusal::NotYet) => return Err(Refusal::NotYet),
-        Err(ReadRefusal::NoMemory) => return Err(Refusal::NoMemory),
+        Err(StraightLineRefusal::NotYet) => return Err(Refusal::NotYet),
+        Err(StraightLineRefusal::NoMemory) => return Err(Refusal::NoMemory),
     };
     let engine = Engine::new(alloc, program)?;
     let Some(criterion) = criterion_at(&engine, line) else {

@@ -3,7 +3,7 @@ ghost use Rattle.c_language.specs.StraightLine.{int_format};
 ghost use Rattle.slice_engine.specs.Reading as spec;
 ghost use Rattle.slice_engine.specs.Reading.{Becomes, Reads};
 
-use crate::reading::ReadRefusal;
+use crate::reading::StraightLineRefusal;
 use crate::reading::cursor::Cursor;
 use crate::reading::lines::{Line, next_line};
 use crate::reading::names::Names;
@@ -53,7 +53,7 @@ impl Body {
 
     /// Declares a variable, where its name is new, and gives its number.
     #[tactic(auto, unfolding(crate::specs::Reading::declared))]
-    fn declare(&mut self, alloc: Global, name: Text) -> Result<VarId, ReadRefusal>
+    fn declare(&mut self, alloc: Global, name: Text) -> Result<VarId, StraightLineRefusal>
         requires { length self.old.vars < 2 ^ 32 }
         ensures named { Becomes (spec.declared self.old name) result self.new }
         ensures number { IfOk result (λ x. x ≡ length self.old.vars) }
@@ -61,7 +61,7 @@ impl Body {
     {
         let var = self.vars.len() as u32;
         if !self.names.add(alloc, name.bytes())? {
-            return Err(ReadRefusal::NotYet);
+            return Err(StraightLineRefusal::NotYet);
         }
         self.vars.push(local(name, self.line))?;
         Ok(var)
@@ -80,7 +80,7 @@ impl Body {
 
     /// Adds a line, where what it declares is new.
     #[tactic(auto, unfolding(crate::specs::Reading::added))]
-    pub fn add(&mut self, alloc: Global, line: Line) -> Result<(), ReadRefusal>
+    pub fn add(&mut self, alloc: Global, line: Line) -> Result<(), StraightLineRefusal>
         requires vars { length self.old.vars < 2 ^ 32 }
         requires lines { self.old.line + 1 < 2 ^ 32 }
         requires count { self.old.count + 1 < 2 ^ 32 }
@@ -149,7 +149,11 @@ fn print(alloc: Global, id: StatementId, line: u32, value: Expr) -> Result<State
 }
 
 /// The lines up to the first one without an indent, where the first stands on this line.
-pub fn lines(alloc: Global, cursor: &mut Cursor<'_>, first: u32) -> Result<Body, ReadRefusal>
+pub fn lines(
+    alloc: Global,
+    cursor: &mut Cursor<'_>,
+    first: u32,
+) -> Result<Body, StraightLineRefusal>
     requires { first + length cursor.old < 2 ^ 32 }
     ensures { Reads (spec.lines (length cursor.old) (spec.empty_body first) cursor.old) result cursor.new }
 {

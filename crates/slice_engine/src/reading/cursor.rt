@@ -3,7 +3,7 @@ ghost use Rattle.std.specs.Option.{option_copied};
 ghost use Rattle.slice_engine.specs.Reading as spec;
 ghost use Rattle.slice_engine.specs.Reading.{Reads, Becomes};
 
-use crate::reading::ReadRefusal;
+use crate::reading::StraightLineRefusal;
 use crate::reading::words::word_len;
 use std::marker::Model;
 
@@ -81,13 +81,13 @@ impl<'a> Cursor<'a> {
 
     /// Passes these words.
     #[tactic(auto, unfolding(crate::specs::Reading::expect))]
-    pub fn expect(&mut self, words: &[u8]) -> Result<(), ReadRefusal>
+    pub fn expect(&mut self, words: &[u8]) -> Result<(), StraightLineRefusal>
         ensures { Reads (spec.expect words.now self.old) result self.new }
     {
         if self.skip(words) {
             Ok(())
         } else {
-            Err(ReadRefusal::NotYet)
+            Err(StraightLineRefusal::NotYet)
         }
     }
 
@@ -105,18 +105,18 @@ impl<'a> Cursor<'a> {
 
     /// Passes a comment behind its opening, with its line feed.
     #[tactic(auto, unfolding(crate::specs::Reading::comment))]
-    pub fn comment(&mut self) -> Result<(), ReadRefusal>
+    pub fn comment(&mut self) -> Result<(), StraightLineRefusal>
         ensures { Becomes (spec.comment self.old) result self.new }
     {
         if self.skip(b"/") {
-            return Err(ReadRefusal::NotYet);
+            return Err(StraightLineRefusal::NotYet);
         }
         match behind_comment(self.text) {
             Some(rest) => {
                 self.text = rest;
                 Ok(())
             }
-            None => Err(ReadRefusal::NotYet),
+            None => Err(StraightLineRefusal::NotYet),
         }
     }
 }

@@ -2,7 +2,7 @@ ghost use Rattle.std.specs.Prelude.{◌≡◌, ◌<◌, ◌^◌, length};
 ghost use Rattle.slice_engine.specs.Reading as spec;
 ghost use Rattle.slice_engine.specs.Reading.{Reads};
 
-use crate::reading::ReadRefusal;
+use crate::reading::StraightLineRefusal;
 use crate::reading::cursor::Cursor;
 use crate::reading::names::Names;
 use crate::reading::sums::sum_before;
@@ -29,7 +29,7 @@ fn begin(
     cursor: &mut Cursor<'_>,
     names: &Names,
     name: &[u8],
-) -> Result<Line, ReadRefusal>
+) -> Result<Line, StraightLineRefusal>
     requires { length names.now < 2 ^ 32 }
     ensures { Reads (spec.begin names.now name.now cursor.old) result cursor.new }
 {
@@ -38,7 +38,7 @@ fn begin(
 }
 
 #[tactic(auto, unfolding(crate::specs::Reading::declare))]
-fn declare(alloc: Global, cursor: &mut Cursor<'_>, name: &[u8]) -> Result<Line, ReadRefusal>
+fn declare(alloc: Global, cursor: &mut Cursor<'_>, name: &[u8]) -> Result<Line, StraightLineRefusal>
     ensures { Reads (spec.declare name.now cursor.old) result cursor.new }
 {
     cursor.expect(b";\n")?;
@@ -47,13 +47,17 @@ fn declare(alloc: Global, cursor: &mut Cursor<'_>, name: &[u8]) -> Result<Line, 
 
 /// What stands behind `int` and a space.
 #[tactic(auto, unfolding(crate::specs::Reading::declaration))]
-fn declaration(alloc: Global, cursor: &mut Cursor<'_>, names: &Names) -> Result<Line, ReadRefusal>
+fn declaration(
+    alloc: Global,
+    cursor: &mut Cursor<'_>,
+    names: &Names,
+) -> Result<Line, StraightLineRefusal>
     requires { length names.now < 2 ^ 32 }
     ensures { Reads (spec.declaration names.now cursor.old) result cursor.new }
 {
     let name = cursor.word();
     if !is_name(name) {
-        return Err(ReadRefusal::NotYet);
+        return Err(StraightLineRefusal::NotYet);
     }
     if cursor.skip(b" = ") {
         begin(alloc, cursor, names, name)
@@ -64,7 +68,7 @@ fn declaration(alloc: Global, cursor: &mut Cursor<'_>, names: &Names) -> Result<
 
 /// What stands behind `printf`.
 #[tactic(auto, unfolding(crate::specs::Reading::print))]
-fn print(alloc: Global, cursor: &mut Cursor<'_>, names: &Names) -> Result<Line, ReadRefusal>
+fn print(alloc: Global, cursor: &mut Cursor<'_>, names: &Names) -> Result<Line, StraightLineRefusal>
     requires { length names.now < 2 ^ 32 }
     ensures { Reads (spec.print names.now cursor.old) result cursor.new }
 {
@@ -79,7 +83,7 @@ fn assign(
     cursor: &mut Cursor<'_>,
     names: &Names,
     var: VarId,
-) -> Result<Line, ReadRefusal>
+) -> Result<Line, StraightLineRefusal>
     requires { length names.now < 2 ^ 32 }
     ensures { Reads (spec.assign names.now var cursor.old) result cursor.new }
 {
@@ -95,19 +99,23 @@ fn assignment(
     cursor: &mut Cursor<'_>,
     names: &Names,
     name: &[u8],
-) -> Result<Line, ReadRefusal>
+) -> Result<Line, StraightLineRefusal>
     requires { length names.now < 2 ^ 32 }
     ensures { Reads (spec.assignment names.now name.now cursor.old) result cursor.new }
 {
     match names.find(name) {
         Some(var) => assign(alloc, cursor, names, var),
-        None => Err(ReadRefusal::NotYet),
+        None => Err(StraightLineRefusal::NotYet),
     }
 }
 
 /// One line behind its indent, with its line feed.
 #[tactic(auto, unfolding(crate::specs::Reading::next_line, crate::specs::Reading::line_from))]
-pub fn next_line(alloc: Global, cursor: &mut Cursor<'_>, names: &Names) -> Result<Line, ReadRefusal>
+pub fn next_line(
+    alloc: Global,
+    cursor: &mut Cursor<'_>,
+    names: &Names,
+) -> Result<Line, StraightLineRefusal>
     requires { length names.now < 2 ^ 32 }
     ensures { Reads (spec.next_line names.now cursor.old) result cursor.new }
 {

@@ -2,7 +2,7 @@ ghost use Rattle.std.specs.Prelude.{◌≡◌, ◌<◌, ◌^◌, length};
 ghost use Rattle.slice_engine.specs.Reading as spec;
 ghost use Rattle.slice_engine.specs.Reading.{Reads, Gives};
 
-use crate::reading::ReadRefusal;
+use crate::reading::StraightLineRefusal;
 use crate::reading::cursor::Cursor;
 use crate::reading::names::Names;
 use crate::reading::words::{begins_with_digit, int_value, is_decimal};
@@ -10,32 +10,36 @@ use c_tree::{BinaryOp, Boxed, Expr, IntType, Text};
 use std::alloc::Global;
 
 #[tactic(auto, unfolding(crate::specs::Reading::constant))]
-fn constant(alloc: Global, word: &[u8]) -> Result<Expr, ReadRefusal>
+fn constant(alloc: Global, word: &[u8]) -> Result<Expr, StraightLineRefusal>
     ensures { Gives (spec.constant word.now) result }
 {
     if !is_decimal(word) {
-        return Err(ReadRefusal::NotYet);
+        return Err(StraightLineRefusal::NotYet);
     }
     match int_value(word) {
         Some(value) => Ok(Expr::Constant(Text::from_slice(alloc, word)?, IntType::Int, value)),
-        None => Err(ReadRefusal::NotYet),
+        None => Err(StraightLineRefusal::NotYet),
     }
 }
 
 #[tactic(auto, unfolding(crate::specs::Reading::variable))]
-fn variable(names: &Names, word: &[u8]) -> Result<Expr, ReadRefusal>
+fn variable(names: &Names, word: &[u8]) -> Result<Expr, StraightLineRefusal>
     requires { length names.now < 2 ^ 32 }
     ensures { Gives (spec.variable names.now word.now) result }
 {
     match names.find(word) {
         Some(var) => Ok(Expr::Variable(var)),
-        None => Err(ReadRefusal::NotYet),
+        None => Err(StraightLineRefusal::NotYet),
     }
 }
 
 /// A declared name, or a decimal constant that an int holds.
 #[tactic(auto, unfolding(crate::specs::Reading::operand))]
-fn operand(alloc: Global, cursor: &mut Cursor<'_>, names: &Names) -> Result<Expr, ReadRefusal>
+fn operand(
+    alloc: Global,
+    cursor: &mut Cursor<'_>,
+    names: &Names,
+) -> Result<Expr, StraightLineRefusal>
     requires { length names.now < 2 ^ 32 }
     ensures { Reads (spec.operand names.now cursor.old) result cursor.new }
 {
@@ -54,7 +58,7 @@ fn second(
     names: &Names,
     op: BinaryOp,
     first: Expr,
-) -> Result<Expr, ReadRefusal>
+) -> Result<Expr, StraightLineRefusal>
     requires { length names.now < 2 ^ 32 }
     ensures { Reads (spec.second names.now op first cursor.old) result cursor.new }
 {
@@ -64,7 +68,7 @@ fn second(
 
 /// An operand, or the sum or the difference of two.
 #[tactic(auto, unfolding(crate::specs::Reading::sum, crate::specs::Reading::sum_from))]
-fn sum(alloc: Global, cursor: &mut Cursor<'_>, names: &Names) -> Result<Expr, ReadRefusal>
+fn sum(alloc: Global, cursor: &mut Cursor<'_>, names: &Names) -> Result<Expr, StraightLineRefusal>
     requires { length names.now < 2 ^ 32 }
     ensures { Reads (spec.sum names.now cursor.old) result cursor.new }
 {
@@ -85,7 +89,7 @@ pub fn sum_before(
     cursor: &mut Cursor<'_>,
     names: &Names,
     ending: &[u8],
-) -> Result<Expr, ReadRefusal>
+) -> Result<Expr, StraightLineRefusal>
     requires { length names.now < 2 ^ 32 }
     ensures { Reads (spec.sum_before names.now ending.now cursor.old) result cursor.new }
 {

@@ -1,11 +1,11 @@
-// Runs over files and sinks in memory.
+//! Runs of the top call over files and sinks in memory.
 ghost use Rattle.std.specs.Prelude.{◌≡◌, ◌⊎◌, ◌≤◌, IfOk, length};
 ghost use Rattle.c_language.specs.Words.{Bytes};
 ghost use Rattle.slicer_top.specs.Words.{IsInForm, file_of, line_of};
 ghost use Rattle.slicer_top.specs.Slices.{StartsOn, IsSliceOf};
 
-use super::*;
 use edge_io::{MemoryShelf, MemorySink};
+use slicer_top::{Status, Text, run_slicer};
 use std::alloc::{AllocError, Global};
 use std::test::Fail;
 

@@ -1,14 +1,17 @@
-use super::*;
+//! Texts of the first built form, and texts that are not.
+use c_tree::{Program, Statement};
+use slice_engine::{StraightLineRefusal, read_straight_line};
+use std::alloc::{AllocError, Global};
 use std::process::Abort;
 use std::test::Fail;
 
 /// Whether a text is read; want of memory ends the test.
 fn is_read(rt: &impl Abort, alloc: Global, text: &[u8]) -> bool {
     assert!(rt; text.len() < 4096);
-    match read_program(alloc, text) {
+    match read_straight_line(alloc, text) {
         Ok(_) => true,
-        Err(ReadRefusal::NotYet) => false,
-        Err(ReadRefusal::NoMemory) => panic!(rt; "no memory"),
+        Err(StraightLineRefusal::NotYet) => false,
+        Err(StraightLineRefusal::NoMemory) => panic!(rt; "no memory"),
     }
 }
 
@@ -95,7 +98,7 @@ fn variable_at(program: &Program, at: usize) -> Option<(u32, &[u8], u32)> {
 fn gives_lines_and_numbers(rt: HostRuntime) -> Result<(), Fail> {
     let text =
         b"/* c */\n#include <stdio.h>\nint main(void) {\n    int a = 1;\n    int b;\n    a = a + 3;\n    printf(\"%d\\n\", a);\n}\n";
-    let program = read_program(rt.alloc(), text)?;
+    let program = read_straight_line(rt.alloc(), text)?;
     assert_eq!(rt; program.statements, 3);
     assert_eq!(rt; program.items.len(), 2);
     assert_eq!(rt; program.vars.len(), 2);
