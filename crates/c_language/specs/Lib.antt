@@ -1,7 +1,8 @@
 pub mod Words
 pub mod Layout
 pub mod Code
-pub mod StraightLine
+pub mod Characters
+pub mod Keywords
 pub mod TokenForms
 pub mod Constants
 pub mod Tokens

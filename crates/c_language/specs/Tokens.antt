@@ -2,7 +2,7 @@
 use Rattle.std.specs.Prelude.{◌≡◌, ◌≢◌, ℕ, ◌+◌, ◌≤◌, ◌==◌, nat_le, nat_eq, List, [], ◌∷◌, ◌++◌, length, Bool, true, false, ◌&&◌, ◌||◌, if◌then◌else◌, not, codes, bytes_eq, count_by}
 use Rattle.std.specs.List.{list_any, ends_with}
 use Rattle.c_language.specs.Words.{Bytes}
-use Rattle.c_language.specs.StraightLine.{is_digit, is_letter, is_word_byte}
+use Rattle.c_language.specs.Characters.{is_digit, is_letter, is_word_byte}
 use Rattle.c_language.specs.TokenForms.{Tokens, of_kind}
 use Rattle.c_language.specs.Constants.{IsConstant, is_escape, is_one_of}
 use Rattle.c_language.specs.declared.token.TokenKind.{TokenKind}

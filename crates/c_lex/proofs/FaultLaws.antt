@@ -6,7 +6,7 @@ use Rattle.std.proofs.Math.Seq.{take-append_seam}
 use Rattle.std.specs.Prelude.{◌==◌, ◌&&◌, nat_lt, is_some}
 use Rattle.c_arith.specs.declared.int_type.IntType.{IntType}
 use Rattle.c_language.specs.Words.{Bytes}
-use Rattle.c_language.specs.StraightLine.{is_digit, is_letter, is_word_byte}
+use Rattle.c_language.specs.Characters.{is_digit, is_letter, is_word_byte}
 use Rattle.c_language.specs.Constants.{is_one_of, IsConstant, constant_type}
 use Rattle.c_language.specs.TokenForms.{Tokens, of_kind}
 use Rattle.c_language.specs.Tokens.{has_feed, line_feeds, joins_next, number_goes_on, AreJoins, LacksEnd, IsRun, IsCharacter, IsLiteral, IsLongest, IsTokens}

@@ -7,7 +7,7 @@ use Rattle.std.specs.Prelude.{◌==◌, ◌&&◌, nat_lt, is_some}
 use Rattle.std.proofs.lemmas.Slice.Eq.{bytes_eq-Decides}
 use Rattle.c_arith.specs.declared.int_type.IntType.{IntType}
 use Rattle.c_language.specs.Words.{Bytes}
-use Rattle.c_language.specs.StraightLine.{is_digit, is_letter}
+use Rattle.c_language.specs.Characters.{is_digit, is_letter}
 use Rattle.c_language.specs.Constants.{constant_type}
 use Rattle.c_language.specs.Tokens.{is_blank, has_feed, line_feeds, joins_next, AtLineEnd, name_goes_on, number_goes_on, IsSpace, IsRun, LacksEnd, LacksInclude, IsCharacter, IsLiteral, LacksComment, IsLongest, IsTokenText, IsToken}
 use Rattle.c_language.specs.declared.token.TokenKind.{TokenKind}

@@ -6,7 +6,7 @@ use Rattle.std.proofs.Math.Seq.{take-append_seam}
 use Rattle.std.specs.Prelude.{◌==◌, ◌||◌, ◌&&◌, not, nat_lt, bytes_eq}
 use Rattle.std.proofs.lemmas.Slice.Eq.{bytes_eq-Decides}
 use Rattle.c_language.specs.Words.{Bytes}
-use Rattle.c_language.specs.StraightLine.{is_digit, is_letter, is_word_byte}
+use Rattle.c_language.specs.Characters.{is_digit, is_letter, is_word_byte}
 use Rattle.c_language.specs.Constants.{IsConstant}
 use Rattle.c_language.specs.Tokens.{is_blank, is_feed, has_feed, joins_next, EndsAlone, AtLineEnd, name_goes_on, number_goes_on, IsSpace, IsRun, LacksEnd, LacksSplitEnd, IsCharacter, IsLiteral, LacksTrigraph, LacksComment, marks, is_mark, IsLongest, IsTokenText, IsToken}
 use Rattle.c_language.specs.declared.token.TokenKind.{TokenKind}

@@ -4,7 +4,7 @@ use Rattle.std.proofs.lemmas.Bool.{eqb-true}
 use Rattle.std.proofs.lemmas.Slice.Eq.{bytes_eq-Decides}
 use Rattle.std.specs.Prelude.{◌⊎◌, not, bytes_eq}
 use Rattle.c_language.specs.Words.{Bytes}
-use Rattle.c_language.specs.StraightLine.{is_digit, is_letter}
+use Rattle.c_language.specs.Characters.{is_digit, is_letter}
 use Rattle.c_language.specs.Constants.{is_escape}
 use Rattle.c_language.specs.TokenForms.{Tokens, of_kind}
 use Rattle.c_language.specs.Tokens.{is_plain, is_feed, has_feed, line_feeds, name_goes_on, number_goes_on, marks, is_mark, headers, is_header, IsGap, IsInclude, IsSpace, IsRun, IsCharacter, IsLiteral, IsTokenText, IsToken, IsTokens, AreTokensOf}

@@ -5,7 +5,7 @@ use Rattle.std.specs.List.{list_any, list_all}
 use Rattle.std.specs.Prelude.{slice_index, ◌==◌, ◌||◌, ◌&&◌, ◌⊎◌, not, bytes_eq}
 use Rattle.std.proofs.lemmas.Slice.Eq.{bytes_eq-Decides}
 use Rattle.c_language.specs.Words.{Bytes}
-use Rattle.c_language.specs.StraightLine.{is_digit}
+use Rattle.c_language.specs.Characters.{is_digit}
 use Rattle.c_language.specs.Constants.{is_one_of, is_escape}
 use Rattle.c_language.specs.Tokens.{is_plain, IsRun, marks, is_mark, IsLongest, IsCharacter, IsLiteral, LacksDigit, LacksTrigraph}
 use Rattle.c_lex.specs.declared.literal.Stage.{Stage}

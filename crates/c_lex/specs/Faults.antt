@@ -1,7 +1,7 @@
 -- What the bytes of a text show where it has no tokens.
 use Rattle.std.specs.Prelude.{◌≡◌, ◌≢◌, ℕ, ◌+◌, ◌<◌, ◌∷◌, ◌++◌, true, false, codes}
 use Rattle.c_language.specs.Words.{Bytes}
-use Rattle.c_language.specs.StraightLine.{is_digit, is_word_byte}
+use Rattle.c_language.specs.Characters.{is_digit, is_word_byte}
 use Rattle.c_language.specs.Constants.{IsConstant, is_one_of}
 use Rattle.c_language.specs.Tokens.{is_blank, has_feed, line_feeds, joins_next, number_goes_on, AreJoins, LacksEnd, IsSpace, IsRun, IsCharacter, IsLiteral, IsLongest, IsToken}
 use Rattle.c_language.specs.declared.token.TokenKind.{TokenKind}

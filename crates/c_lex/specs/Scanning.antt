@@ -4,7 +4,7 @@ use Rattle.std.specs.List.{starts_with, prefix_len}
 use Rattle.std.specs.declared.vec.Vec.{Vec}
 use Rattle.std.specs.declared.alloc.Global.{Global}
 use Rattle.c_language.specs.Words.{Bytes}
-use Rattle.c_language.specs.StraightLine.{is_digit, is_letter}
+use Rattle.c_language.specs.Characters.{is_digit, is_letter}
 use Rattle.c_language.specs.TokenForms.{Tokens, of_kind}
 use Rattle.c_language.specs.Constants.{is_one_of, is_escape, constant_type}
 use Rattle.c_language.specs.Tokens.{is_blank, is_plain, is_feed, line_feeds, joins_next, behind_comment, name_goes_on, number_goes_on}

@@ -1,5 +1,5 @@
 ghost use Rattle.std.specs.Prelude.{◌≡◌, ◌≤◌, ◌<◌, ◌^◌, length, take, drop, slice_index};
-ghost use Rattle.c_language.specs.StraightLine as form;
+ghost use Rattle.c_language.specs.Characters as form;
 ghost use Rattle.c_language.specs.Constants as constants;
 ghost use Rattle.c_language.specs.Tokens as tokens;
 ghost use Rattle.c_lex.specs.Scanning as spec;

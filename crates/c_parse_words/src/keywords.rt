@@ -1,7 +1,7 @@
 ghost use Rattle.std.specs.Prelude.{◌≡◌, take, drop};
 ghost use Rattle.std.specs.List.{list_any};
 ghost use Rattle.std.specs.Str.{bytes_eq};
-ghost use Rattle.c_language.specs.StraightLine.{keywords};
+ghost use Rattle.c_language.specs.Keywords.{keywords};
 ghost use Rattle.c_language.specs.Sees as sees;
 
 fn is_early_keyword(word: &[u8]) -> bool

@@ -9,7 +9,7 @@ use Rattle.std.specs.Prelude.{nat_le, nat_lt, ◌==◌, slice_index}
 use Rattle.c_arith.specs.declared.int_type.IntType.{IntType}
 use Rattle.c_arith.specs.declared.int_type.IntType.TheVariants.{Int, Long}
 use Rattle.c_language.specs.Words.{Bytes}
-use Rattle.c_language.specs.StraightLine.{is_digit, is_letter}
+use Rattle.c_language.specs.Characters.{is_digit, is_letter}
 use Rattle.c_language.specs.Constants.{base, digit_value, unprefixed, leading_digits, digits, value_from, constant_value, Suffix, first_type, constant_type, IsConstant}
 use Rattle.c_language.specs.ConstantEvaluation.{literal_value}
 use Rattle.c_language.specs.Tokens.{number_goes_on}

@@ -8,7 +8,7 @@ use Rattle.c_arith.specs.declared.operators.UnaryOp.TheVariants.{Plus, Minus, Fl
 use Rattle.c_arith.specs.declared.operators.BinaryOp.TheVariants.{Mul, Div, Rem, Add, Sub, Shl, Shr, Less, Greater, AtMost, AtLeast, Equal, Unequal, And, Xor, Or}
 use Rattle.c_tree.specs.declared.raw.expr.RawExpr.{RawExpr}
 use Rattle.c_language.specs.Words.{Bytes, int_words, unary_sign, begins_with, signed}
-use Rattle.c_language.specs.StraightLine.{is_digit, is_letter}
+use Rattle.c_language.specs.Characters.{is_digit, is_letter}
 use Rattle.c_language.specs.Constants.{is_one_of}
 use Rattle.c_language.specs.TokenForms.{Tokens, name, number, character, mark}
 use Rattle.c_language.specs.Sees.{sees}

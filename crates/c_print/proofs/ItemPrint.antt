@@ -484,11 +484,11 @@ print_items (AreItems.more {some} {all} h k) w short tl R t =
 
 -- ---- the law
 
--- the text has tokens of a tree that is the same in all that the layout keeps
-pub record ReadsAs (text : Bytes) (raw : RawProgram) : Type 0 where
+-- from this line on, the text has tokens of a tree that is the same in all that the layout keeps
+pub record ReadsAs (line : ℕ) (text : Bytes) (raw : RawProgram) : Type 0 where
   pub tokens : Tokens
   pub found : RawProgram
-  pub lexed : AreTokensOf text tokens
+  pub lexed : IsTokens Blank line text tokens
   pub is : IsProgram tokens found
   pub same : SameInLayout found raw
   pub bare : items_lack_lengths found.items ≡ true
@@ -498,15 +498,15 @@ no_tokens : Tails [] (λ ts. ts ≡ [])
 no_tokens line = record { tokens = []; lexed = IsTokens.done; has = refl }
 
 -- What is printed of a tree whose tokens can be written and whose lists are short has tokens of that tree again.
-pub printed_is_read : {ts : Tokens} (raw : RawProgram) → IsProgram ts raw → AreWritten ts → HasShortLists raw → ReadsAs (raw_layout raw) raw
-printed_is_read raw h w short =
-    let x = print_items h w short [] (λ ts. ts ≡ []) no_tokens 1 in
+pub printed_is_read : {ts : Tokens} (line : ℕ) (raw : RawProgram) → IsProgram ts raw → AreWritten ts → HasShortLists raw → ReadsAs line (raw_layout raw) raw
+printed_is_read line raw h w short =
+    let x = print_items h w short [] (λ ts. ts ≡ []) no_tokens line in
     let q = x.has in
     let all : (k : AreItems x.tokens q.found []) × AreLeanItems k = subst (λ (r : Tokens). (k : AreItems x.tokens q.found r) × AreLeanItems k) q.has (q.is, q.lean) in
     record {
       tokens = x.tokens;
       found = record { items = q.found };
-      lexed = subst (λ (y : Bytes). AreTokensOf y x.tokens) (append-nil (raw_layout raw)) x.lexed;
+      lexed = subst (λ (y : Bytes). IsTokens Blank line y x.tokens) (append-nil (raw_layout raw)) x.lexed;
       is = all.0;
       same = q.same;
       bare = q.bare;

@@ -51,5 +51,5 @@ formed_written [] h = tt
 formed_written (t ∷ ts) h = let c = All-head IsFormed t ts h in (token_form c.is, formed_written ts (All-tail IsFormed t ts h))
 
 -- What is printed of the tree of a text whose lists of initialisers are short has tokens of that tree again.
-pub text_is_read_again : {text : Bytes} {ts : Tokens} (raw : RawProgram) → AreTokensOf text ts → IsProgram ts raw → HasShortLists raw → ReadsAs (raw_layout raw) raw
-text_is_read_again raw h p short = printed_is_read raw p (text_written h) short
+pub text_is_read_again : {text : Bytes} {ts : Tokens} (raw : RawProgram) → AreTokensOf text ts → IsProgram ts raw → HasShortLists raw → ReadsAs 1 (raw_layout raw) raw
+text_is_read_again raw h p short = printed_is_read 1 raw p (text_written h) short

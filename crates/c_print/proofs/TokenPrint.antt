@@ -5,7 +5,7 @@ use Rattle.std.specs.List.{list_any, list_all}
 use Rattle.std.specs.Prelude.{◌==◌, ◌||◌, ◌&&◌, not, bytes_eq}
 use Rattle.std.proofs.lemmas.Slice.Eq.{bytes_eq-Decides}
 use Rattle.c_language.specs.Words.{Bytes}
-use Rattle.c_language.specs.StraightLine.{is_letter, is_word_byte}
+use Rattle.c_language.specs.Characters.{is_letter, is_word_byte}
 use Rattle.c_language.specs.TokenForms.{Tokens, of_kind, name, number, mark}
 use Rattle.c_language.specs.Tokens.{name_goes_on, number_goes_on, marks, is_mark, IsLongest, IsRun, IsSpace, IsTokenText, IsToken, IsTokens}
 use Rattle.c_language.specs.declared.token.TokenKind.TheVariants.{Name, Number, Character, Str}

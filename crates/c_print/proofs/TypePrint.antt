@@ -13,7 +13,7 @@ use Rattle.c_tree.specs.declared.raw.statement.RawTypeName.{RawTypeName}
 use Rattle.c_language.specs.Words.{Bytes, spaced_stars}
 use Rattle.c_language.specs.Layout.{params_words}
 use Rattle.c_print.specs.SpacedWords.{spaced_words}
-use Rattle.c_language.specs.StraightLine.{is_letter}
+use Rattle.c_language.specs.Characters.{is_letter}
 use Rattle.c_language.specs.TokenForms.{Tokens, name, number, mark, line_of}
 use Rattle.c_language.specs.Sees.{sees, sees_name, is_keyword}
 use Rattle.c_language.specs.IntWords.{is_int_word, sees_int_word}

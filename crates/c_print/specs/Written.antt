@@ -1,7 +1,7 @@
 -- Tokens that can be written: each has a text of its kind.
 use Rattle.std.specs.Prelude.{◌≡◌, ℕ, Bool, true, [], ◌∷◌, ◌++◌, codes}
 use Rattle.c_language.specs.Words.{Bytes}
-use Rattle.c_language.specs.StraightLine.{is_digit, is_letter}
+use Rattle.c_language.specs.Characters.{is_digit, is_letter}
 use Rattle.c_language.specs.Constants.{IsConstant}
 use Rattle.c_language.specs.TokenForms.{Tokens}
 use Rattle.c_language.specs.Tokens.{name_goes_on, number_goes_on, IsCharacter, IsLiteral, LacksTrigraph}

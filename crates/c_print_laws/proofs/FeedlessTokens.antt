@@ -27,7 +27,7 @@ use Rattle.c_tree.specs.declared.raw.statement.RawStatement.TheOpen.{RawStatemen
 use Rattle.c_tree.specs.declared.raw.statement.RawStatement.TheVariants as s
 use Rattle.c_tree.specs.declared.raw.statement.RawArm.{RawArm}
 use Rattle.c_language.specs.Words.{Bytes}
-use Rattle.c_language.specs.StraightLine.{is_digit, is_letter}
+use Rattle.c_language.specs.Characters.{is_digit, is_letter}
 use Rattle.c_language.specs.Constants.{is_escape}
 use Rattle.c_language.specs.TokenForms.{Tokens, line_of}
 use Rattle.c_language.specs.Tokens.{is_feed, is_plain, IsCharacter, IsLiteral}

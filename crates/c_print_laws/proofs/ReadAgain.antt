@@ -7,7 +7,8 @@ use Rattle.c_tree.specs.declared.raw.program.RawItem.{RawItem}
 use Rattle.c_tree.specs.declared.raw.program.RawProgram.{RawProgram}
 use Rattle.c_language.specs.Words.{Bytes}
 use Rattle.c_language.specs.TokenForms.{Tokens}
-use Rattle.c_language.specs.Tokens.{AreTokensOf}
+use Rattle.c_language.specs.Tokens.{IsTokens, AreTokensOf}
+use Rattle.c_language.specs.declared.token.Before.TheVariants.{Blank}
 use Rattle.c_language.specs.LeftOut.{IsTold, BeginsLeftOut, IsLeftOut}
 use Rattle.c_language.specs.declared.token.Token.{Token}
 use Rattle.c_language.specs.ItemGrammar.{IsProgram}
@@ -16,11 +17,13 @@ use Rattle.c_language.specs.ProgramOf.{program_of}
 use Rattle.c_language.specs.Layout.{layout}
 use Rattle.c_language.specs.Limits.{longest, longest_in_structs, longest_in_variables, array_length, cells, struct_cells, greatest, greatest_variable, object_cells}
 use Rattle.c_language.specs.Programs.{IsWithinLimits, IsWellFormed}
+use Rattle.c_print.specs.Feedless.{feedless}
 use Rattle.c_print.specs.RawLayout.{raw_layout}
 use Rattle.c_print.specs.Settled.{SameInLayout, items_lack_lengths}
 use Rattle.c_print.proofs.ItemPrint.{printed_is_read}
 use Rattle.c_print.proofs.TextPrint.{text_formed, formed_written}
-use Rattle.c_print_laws.specs.ReadAgain.{IsReadAgain}
+use Rattle.c_print_laws.specs.ReadAgain.{starless, comment_line, IsReadAgain}
+use Rattle.c_print_laws.proofs.Commented.{behind_comment_line}
 use Rattle.c_print_laws.proofs.ItemLayout.{layout_of_tree}
 use Rattle.c_print_laws.proofs.ShortLists.{short_lists}
 use Rattle.c_print_laws.proofs.HeadForms.{heads_formed}
@@ -103,13 +106,13 @@ none_begins all is h (BeginsLeftOut.without_tree none k) = none all is
 none_left_out : {ts : Tokens} (all : RawProgram) → IsProgram ts all → AreUntold [] ts → (text : Bytes) (line : ℕ) → IsLeftOut ts text line → ⊥
 none_left_out all is h text line x = none_begins all is (subst (AreUntold []) x.split h) x.begins
 
--- The layout of a well-formed program is read again.
-pub layout_is_read_again : (p : Program) → IsWellFormed p → IsReadAgain (layout p) p
-layout_is_read_again p h =
+-- The layout of a well-formed program is read again behind what its tokens stand behind.
+read_behind : (front : Bytes) (line : ℕ) → ((text : Bytes) (ts : Tokens) → IsTokens Blank line text ts → AreTokensOf (front ++ text) ts) → (p : Program) → IsWellFormed p → IsReadAgain (front ++ layout p) p
+read_behind front line behind p h =
     let raw = h.raw in
     let ts = h.tree.tokens in
     let g = h.tree.is.grammar in
-    let r = printed_is_read raw g (formed_written ts h.tree.is.formed) (short_lists raw h.same h.has.program h.has.rules h.within.lengths) in
+    let r = printed_is_read line raw g (formed_written ts h.tree.is.formed) (short_lists raw h.same h.has.program h.has.rules h.within.lengths) in
     let k = same_in_layout raw r.found h.same g r.is (ap (λ (xs : List RawItem). record { items = xs }) r.same) h.has.rules h.has.program in
     let laid : layout p ≡ raw_layout raw = layouts_same p h.same h.but_lines ∙ layout_of_text raw h.same g h.has.rules h.has.program in
     let untold = fitting_untold r.is r.lean (fitting_kept raw r.found r.same (tree_fits g (untold_tokens ts h.tree.is.whole))) in
@@ -118,10 +121,18 @@ layout_is_read_again p h =
       again = k.1.0;
       accepted = record {
         tokens = r.tokens;
-        are = subst (λ (text : Bytes). AreTokensOf text r.tokens) (sym laid) r.lexed;
+        are = subst (λ (text : Bytes). AreTokensOf (front ++ text) r.tokens) (sym laid) (behind (raw_layout raw) r.tokens r.lexed);
         tree = record { formed = text_formed r.lexed; grammar = r.is; whole = none_left_out r.found r.is untold };
         has = record { rules = k.0; program = k.1.1 };
       };
       within = limits_kept raw r.found h.same k.1.0 r.same r.bare k.1.2 h.within;
       same = h.but_lines ∙ k.1.2;
     }
+
+-- The layout of a well-formed program is read again.
+pub layout_is_read_again : (p : Program) → IsWellFormed p → IsReadAgain (layout p) p
+layout_is_read_again p h = read_behind [] 1 (λ text ts lexed. lexed) p h
+
+-- And so is the layout behind a comment of one line.
+pub commented_is_read_again : (inside : Bytes) (p : Program) → feedless inside ≡ true → starless inside ≡ true → IsWellFormed p → IsReadAgain (comment_line inside ++ layout p) p
+commented_is_read_again inside p plain calm h = read_behind (comment_line inside) 2 (behind_comment_line inside plain calm) p h

@@ -1,5 +1,6 @@
 -- What is printed of the program of a text is read again.
-use Rattle.std.specs.Prelude.{◌≡◌, Some}
+use Rattle.std.specs.Prelude.{◌≡◌, ◌==◌, ◌++◌, Bool, true, not, codes, Some}
+use Rattle.std.specs.List.{list_all}
 use Rattle.c_tree.specs.declared.program.Program.{Program}
 use Rattle.c_tree.specs.Unlined.{SameButLines}
 use Rattle.c_tree.specs.declared.raw.program.RawProgram.{RawProgram}
@@ -11,6 +12,7 @@ use Rattle.c_language.specs.ProgramOf.{program_of}
 use Rattle.c_language.specs.Layout.{layout}
 use Rattle.c_language.specs.Limits.{array_length, object_cells}
 use Rattle.c_language.specs.Programs.{IsAccepted, IsWithinLimits, IsWellFormed}
+use Rattle.c_print.specs.Feedless.{feedless}
 use Rattle.c_print.specs.RawLayout.{raw_layout}
 use Rattle.c_print.specs.Settled.{SameInLayout}
 
@@ -35,6 +37,19 @@ LayoutKeepsPrograms =
 -- the layout of a well-formed program is an accepted text, and is read as the program but for lines
 abbrev pub LayoutIsReadAgain : Type 0
 LayoutIsReadAgain = (p : Program) → IsWellFormed p → IsReadAgain (layout p) p
+
+-- no star stands in the bytes
+abbrev pub starless : Bytes → Bool
+starless = list_all (λ b. not (b == 42))
+
+-- a comment on a line of its own
+abbrev pub comment_line : Bytes → Bytes
+comment_line inside = codes "/*" ++ (inside ++ codes "*/\n")
+
+-- so is the layout behind a comment of one line
+abbrev pub CommentedIsReadAgain : Type 0
+CommentedIsReadAgain =
+    (inside : Bytes) (p : Program) → feedless inside ≡ true → starless inside ≡ true → IsWellFormed p → IsReadAgain (comment_line inside ++ layout p) p
 
 -- programs that are the same but for lines have one layout
 abbrev pub LayoutHasNoLines : Type 0

@@ -5,7 +5,7 @@
 #![tactic(auto)]
 
 ghost use Rattle.c_print_laws.specs.Places.{StatementsStart, TextsAreFeedless};
-ghost use Rattle.c_print_laws.specs.ReadAgain.{LayoutIsOfText, LayoutKeepsPrograms, LayoutIsReadAgain, LayoutHasNoLines, LimitsAreSame};
+ghost use Rattle.c_print_laws.specs.ReadAgain.{LayoutIsOfText, LayoutKeepsPrograms, LayoutIsReadAgain, CommentedIsReadAgain, LayoutHasNoLines, LimitsAreSame};
 
 /// A law: the layout of the program of a text that keeps all rules is that of the text's tree.
 pub fn layout_is_of_text()
@@ -22,6 +22,12 @@ pub fn layout_keeps_programs()
 /// and its program is the same but for lines.
 pub fn layout_is_read_again()
     ensures { LayoutIsReadAgain }
+{}
+
+/// A law: so is the layout behind a comment on a line of its own, in which no star and no line feed
+/// stands.
+pub fn commented_is_read_again()
+    ensures { CommentedIsReadAgain }
 {}
 
 /// A law: limits on arrays and objects don't depend on lines.

@@ -1,13 +1,23 @@
 mod Marking
+pub mod BoolLemmas
 pub mod CompletionLemmas
+pub mod DoingForms
+pub mod FollowsBelow
 pub mod FollowsLemmas
 pub mod Grown
+pub mod IntegerActs
+pub mod IntegerExprs
+pub mod IntegerStatements
 pub mod ListLemmas
 pub mod MainGraph
 pub mod MainVertexLemmas
 pub mod MayPointLaws
 pub mod Membership
 pub mod NumberedFrom
+pub mod NumberedEdges
+pub mod NumberedGraph
+pub mod NumberedLocations
+pub mod NumberedMain
 pub mod OneAnalysis
 pub mod PairLemmas
 pub mod PlainEffects
@@ -20,9 +30,11 @@ pub mod StraightAnalysis
 pub mod StraightEdges
 pub mod StraightExprs
 pub mod StraightMain
+pub mod StraightNumbered
 pub mod StraightOrder
-pub mod StraightVertices
 pub mod SwitchLaws
 pub mod SwitchLemmas
+pub mod TextNumbers
 pub mod VertexNumbers
+pub mod WholeVariables
 pub mod WordLemmas

@@ -1,11 +1,9 @@
--- What the effects of all forms say of the acts of straight-line programs: they are those of the built forms.
-use Rattle.std.proofs.Common.{◌≡◌, ℕ, suc, ◌+◌, ◌≤◌, List, [], ◌∷◌, ◌++◌, Bool, true, false, inl, inr, not, ◌&&◌, ◌||◌, Option, Some, None, refl, sym, ap, ◌∙◌, subst, arith, add-one}
-use Rattle.std.proofs.lemmas.Bool.{false≢true}
-use Rattle.std.specs.Prelude.{Contains}
-use Rattle.std.specs.List.{list_any}
+-- The acts of straight-line programs have the effects of the working form, by the definitions for all forms.
+use Rattle.std.proofs.Common.{◌≡◌, ℕ, suc, ◌+◌, List, [], ◌∷◌, ◌++◌, true, false, ◌||◌, Option, Some, None, refl, sym, ap, ◌∙◌, subst, add-one}
+use Rattle.std.proofs.lemmas.List.Elements.{All-head, All-tail}
+use Rattle.std.specs.Prelude.{All}
 use Rattle.c_arith.specs.declared.operators.BinaryOp.{BinaryOp}
 use Rattle.c_tree.specs.declared.expr.Expr.{Expr}
-use Rattle.c_tree.specs.declared.expr.Expr.TheVariants as e
 use Rattle.c_tree.specs.declared.program.Init.{Init}
 use Rattle.c_tree.specs.declared.program.Init.TheVariants as init
 use Rattle.c_tree.specs.declared.program.Program.{Program}
@@ -14,16 +12,20 @@ use Rattle.c_tree.specs.declared.statement.Statement.TheOpen.{Statement-F}
 use Rattle.c_tree.specs.declared.statement.Statement.TheVariants as s
 use Rattle.c_language.specs.Words.{Bytes}
 use Rattle.c_language.specs.Code.{Act, Begins, Sets, Prints, Code, End, Opens, Plain, Part, part, code}
-use Rattle.c_language.specs.StraightLine.{IsBody, done, declare, begin, assign, print, int_format}
+use Rattle.built_forms.specs.IntegerForms.{are_integers}
+use Rattle.built_forms.specs.Straight.{IsTerm, IsPlace, IsBody, done, declare, begin, assign, print}
 use Rattle.c_language.proofs.CodeLemmas.{part-Declare, part-Assign, part-Print}
 use Rattle.dep_model.specs.declared.location.Location.{Location}
-use Rattle.dep_model.specs.Denoted.{PointsTo, whole, expr_reads, expr_points, expr_places}
+use Rattle.dep_model.specs.Denoted.{PointsTo, whole}
 use Rattle.dep_model.specs.Doings.{Doing, Does, doings, doing_step, doing_arm, body_doings}
-use Rattle.dep_model.specs.DoingEffects.{expr_takes, act_takes, doing_takes, is_global, is_taken, is_killable, named_kills, act_uses, act_defines, act_kills}
-use Rattle.dep_model.specs.MayPoint.{Pointing, pointing, act_pointings}
-use Rattle.dep_model.proofs.PlainEffects.{reads, uses, defines, kills}
-use Rattle.dep_model.proofs.ListLemmas.{contains_none, contains_cases}
-use Rattle.dep_model.proofs.StraightExprs.{AreInts, IsInVariable, in_variable, ReadsPlainly, sum_reads, whole_is, left_places, left_reads_none, left_takes_none, left_name, places-Variable, names-Variable}
+use Rattle.dep_model.specs.DoingEffects.{is_taken, act_uses, act_defines, act_kills}
+use Rattle.dep_model.specs.IntegerEffects.{variables_read, variables_set, variables_named, all_read, any_whole}
+use Rattle.dep_model.proofs.BoolLemmas.{or_none, both_true}
+use Rattle.dep_model.proofs.IntegerActs.{integer_act}
+use Rattle.dep_model.proofs.IntegerExprs.{AreIntegers, any_append}
+use Rattle.dep_model.proofs.PlainEffects.{is_variable, reads, any_reads, uses, defines, kills}
+use Rattle.dep_model.proofs.StraightExprs.{built_integer, reads_listed, places_listed, names_listed}
+use Rattle.dep_model.proofs.WholeVariables.{whole_is}
 
 -- ---- equations
 
@@ -41,66 +43,52 @@ with_rest : (P : List Doing → Code → Type 0) (x : Statement) (q : Part) (ds 
 with_rest P x q ds ss h k r =
     subst (λ es. P es (code (x ∷ ss))) (sym (ap (λ es. es ++ body_doings ss) k)) (subst (λ c. P (ds ++ body_doings ss) c) (sym (ap (λ (b : Part). b.before (code ss)) h)) r)
 
+all_listed : (args : List Expr) (l : Location) → any_whole (all_read args) l ≡ any_reads args l
+all_listed [] l = refl
+all_listed (a ∷ args) l =
+    any_append (variables_read a) (all_read args) l ∙ ap (λ b. b || any_whole (all_read args) l) (reads_listed a l) ∙ ap (λ b. reads a l || b) (all_listed args l)
+
+pub terms_integer : {n : ℕ} (args : List Expr) → All (IsTerm n) args → are_integers args ≡ true
+terms_integer [] h = refl
+terms_integer {n} (a ∷ args) h =
+    both_true (built_integer a (All-head (IsTerm n) a args h).built) (terms_integer args (All-tail (IsTerm n) a args h))
+
 module _ (p : Program) (points : PointsTo) where
-  -- an act has the same effects by both definitions, on variables alone; it takes no address, and lets nothing point anywhere
+  -- an act has the same effects by both definitions
   pub record ActsPlainly (a : Act) : Type 0 where
     pub uses_are : (l : Location) → act_uses p points a l ≡ uses a l
     pub defines_are : (l : Location) → act_defines p points 0 a l ≡ defines a l
     pub kills_are : ((x : ℕ) → is_taken p x ≡ false) → (l : Location) → act_kills p points 0 a l ≡ kills a l
-    pub used : (l : Location) → uses a l ≡ true → IsInVariable l
-    pub defined : (l : Location) → defines a l ≡ true → IsInVariable l
-    pub takes : (x : ℕ) → act_takes p a x ≡ false
-    pub points_nowhere : (f i : ℕ) (b : Pointing) (m : Location) → Contains (act_pointings p points f i a) b → b.from m ≡ false
 
-  or_true : (b : Bool) → (b || true) ≡ true
-  or_true true = refl
-  or_true false = refl
+  one_variable : (x : ℕ) (l : Location) → ((whole x l || false) || false) ≡ is_variable x l
+  one_variable x l = or_none (whole x l || false) ∙ or_none (whole x l) ∙ whole_is x l
 
-  or_none : (b : Bool) → (b || false) ≡ b
-  or_none true = refl
-  or_none false = refl
+  begins : {n : ℕ} (x : ℕ) (a : Expr) → AreIntegers p → IsTerm n a → ActsPlainly (Begins x (init.One a))
+  begins x a are term =
+      let h = integer_act p points are (Begins x (init.One a)) (built_integer a term.built) in
+      record {
+        uses_are = λ l. h.uses_are l ∙ reads_listed a l;
+        defines_are = λ l. h.defines_are l ∙ one_variable x l;
+        kills_are = λ none l. h.kills_are none l ∙ one_variable x l;
+      }
 
-  killable : (x : ℕ) → is_taken p x ≡ false → is_killable p x ≡ true
-  killable x h = ap (λ b. is_global p x || not b) h ∙ or_true (is_global p x)
+  sets : {n : ℕ} (left a : Expr) → AreIntegers p → IsPlace n left → IsTerm n a → ActsPlainly (Sets left None a)
+  sets left a are place term =
+      let h = integer_act p points are (Sets left None a) (both_true place.name (built_integer a term.built)) in
+      record {
+        uses_are = λ l. h.uses_are l ∙ reads_listed a l;
+        defines_are = λ l. h.defines_are l ∙ or_none (any_whole (variables_set left) l) ∙ places_listed left l;
+        kills_are = λ none l. h.kills_are none l ∙ or_none (any_whole (variables_named left) l) ∙ names_listed left l;
+      }
 
-  one_pointing : (a b : Pointing) (m : Location) → Contains (a ∷ []) b → a.from m ≡ false → b.from m ≡ false
-  one_pointing a b m c none = elim (contains_cases a [] b c) [
-    | inl same ↦ subst (λ (z : Pointing). z.from m ≡ false) same none
-    | inr more ↦ absurd (contains_none b more)
-  ]
-
-  begins : (x : ℕ) (a : Expr) → ReadsPlainly p points a → ActsPlainly (Begins x (init.One a))
-  begins x a r = record {
-    uses_are = r.reads_are;
-    defines_are = λ l. whole_is x l;
-    kills_are = λ none l. ap (λ b. b && whole x l) (killable x (none x)) ∙ whole_is x l;
-    used = r.variables;
-    defined = λ l h. in_variable x l h;
-    takes = r.takes;
-    points_nowhere = λ f i b m c. one_pointing (pointing (whole x) (expr_points p points a)) b m c (r.points_nowhere m);
-  }
-
-  sets : (x : ℕ) (a : Expr) → ReadsPlainly p points a → ActsPlainly (Sets (e.Variable x) None a)
-  sets x a r = record {
-    uses_are = λ l. ap (λ b. b || (false || expr_reads p points a l)) (left_reads_none p points x l) ∙ r.reads_are l;
-    defines_are = λ l. left_places p points x l ∙ sym (places-Variable x l);
-    kills_are = λ none l. ap (λ n. named_kills p points n (expr_places p points (e.Variable x)) l) (left_name p points x) ∙ ap (λ b. b && expr_places p points (e.Variable x) l) (killable x (none x)) ∙ left_places p points x l ∙ sym (names-Variable x l);
-    used = λ l h. r.variables l h;
-    defined = λ l h. in_variable x l (sym (places-Variable x l) ∙ h);
-    takes = λ y. ap (λ b. b || expr_takes p a y) (left_takes_none p points x y) ∙ r.takes y;
-    points_nowhere = λ f i b m c. one_pointing (pointing (expr_places p points (e.Variable x)) (expr_points p points a)) b m c (r.points_nowhere m);
-  }
-
-  prints : (format : Bytes) (a : Expr) → ReadsPlainly p points a → ActsPlainly (Prints format (a ∷ []))
-  prints format a r = record {
-    uses_are = λ l. ap (λ b. b || false) (r.reads_are l);
-    defines_are = λ l. refl;
-    kills_are = λ none l. refl;
-    used = λ l h. r.variables l (sym (or_none (reads a l)) ∙ h);
-    defined = λ l h. absurd (false≢true h);
-    takes = λ x. or_none (expr_takes p a x) ∙ r.takes x;
-    points_nowhere = λ f i b m c. absurd (contains_none b c);
-  }
+  prints : {n : ℕ} (format : Bytes) (args : List Expr) → AreIntegers p → All (IsTerm n) args → ActsPlainly (Prints format args)
+  prints format args are terms =
+      let h = integer_act p points are (Prints format args) (terms_integer args terms) in
+      record {
+        uses_are = λ l. h.uses_are l ∙ all_listed args l;
+        defines_are = λ l. h.defines_are l;
+        kills_are = λ none l. h.kills_are none l;
+      }
 
   -- the statements of a list and its code, numbered from i up to j: each acts plainly
   pub data ArePlain : ℕ → List Doing → Code → ℕ → Type 0 where
@@ -108,35 +96,16 @@ module _ (p : Program) (points : PointsTo) where
     opens : {i j x : ℕ} {ds : List Doing} {r : Code} → ArePlain i ds r j → ArePlain i ds (Opens x r) j
     act : {i j : ℕ} {a : Act} {ds : List Doing} {r : Code} → ActsPlainly a → ArePlain (suc i) ds r j → ArePlain i (Does i a ∷ ds) (Plain i a r) j
 
-  fewer : (n m : ℕ) → n ≤ m → AreInts p m → AreInts p n
-  fewer n m le ints x lt = ints x (omega (arith, le, lt))
-
-  body_grows : {n i m j : ℕ} (ss : List Statement) → IsBody n i ss m j → n ≤ m
-  body_grows ss done = omega arith
-  body_grows ss (declare {ss = tl} h) = let w = body_grows tl h in omega (arith, w)
-  body_grows ss (begin {ss = tl} a h) = let w = body_grows tl h in omega (arith, w)
-  body_grows ss (assign {ss = tl} lt a h) = body_grows tl h
-  body_grows ss (print {ss = tl} a h) = body_grows tl h
-
   next : {i j : ℕ} {ds : List Doing} {r : Code} → ArePlain (i + 1) ds r j → ArePlain (suc i) ds r j
   next {i} {j} {ds} {r} h = subst (λ k. ArePlain k ds r j) (add-one i) h
 
-  pub body_plain : {n i m j : ℕ} (ss : List Statement) → AreInts p m → IsBody n i ss m j → ArePlain i (body_doings ss) (code ss) j
-  body_plain ss ints done = end
-  body_plain ss ints (declare {n} {i} {m} {j} {l} {ss = tl} h) =
-      with_rest (λ ds c. ArePlain i ds c j) (s.Declare None l n init.None) _ _ tl (part-Declare None l n init.None) (doings-Declare None l n init.None) (opens (body_plain tl ints h))
-  body_plain ss ints (begin {n} {i} {m} {j} {l} {a} {ss = tl} sum h) =
-      let r = sum_reads p points n a (fewer n m (omega (arith, body_grows tl h)) ints) sum in
-      with_rest (λ ds c. ArePlain i ds c j) (s.Declare (Some i) l n (init.One a)) _ _ tl (part-Declare (Some i) l n (init.One a)) (doings-Declare (Some i) l n (init.One a)) (opens (act (begins n a r) (next (body_plain tl ints h))))
-  body_plain ss ints (assign {n} {i} {m} {j} {l} {x} {a} {ss = tl} lt sum h) =
-      let r = sum_reads p points n a (fewer n m (body_grows tl h) ints) sum in
-      with_rest (λ ds c. ArePlain i ds c j) (s.Assign i l (e.Variable x) None a) _ _ tl (part-Assign i l (e.Variable x) None a) (doings-Assign i l (e.Variable x) None a) (act (sets x a r) (next (body_plain tl ints h)))
-  body_plain ss ints (print {n} {i} {m} {j} {l} {a} {ss = tl} sum h) =
-      let r = sum_reads p points n a (fewer n m (body_grows tl h) ints) sum in
-      with_rest (λ ds c. ArePlain i ds c j) (s.Print i l int_format (a ∷ [])) _ _ tl (part-Print i l int_format (a ∷ [])) (doings-Print i l int_format (a ∷ [])) (act (prints int_format a r) (next (body_plain tl ints h)))
-
-  -- no address is taken
-  pub plain_takes : {i j : ℕ} {ds : List Doing} {c : Code} (x : ℕ) → ArePlain i ds c j → list_any (λ (d : Doing). doing_takes p d x) ds ≡ false
-  plain_takes x end = refl
-  plain_takes x (opens h) = plain_takes x h
-  plain_takes x (act {a = a} {ds = ds} q h) = ap (λ b. b || list_any (λ (d : Doing). doing_takes p d x) ds) (q.takes x) ∙ plain_takes x h
+  pub body_plain : {n i m j : ℕ} (ss : List Statement) → AreIntegers p → IsBody n i ss m j → ArePlain i (body_doings ss) (code ss) j
+  body_plain ss are done = end
+  body_plain ss are (declare {n} {i} {m} {j} {l} {ss = tl} h) =
+      with_rest (λ ds c. ArePlain i ds c j) (s.Declare None l n init.None) _ _ tl (part-Declare None l n init.None) (doings-Declare None l n init.None) (opens (body_plain tl are h))
+  body_plain ss are (begin {n} {i} {m} {j} {l} {a} {ss = tl} term h) =
+      with_rest (λ ds c. ArePlain i ds c j) (s.Declare (Some i) l n (init.One a)) _ _ tl (part-Declare (Some i) l n (init.One a)) (doings-Declare (Some i) l n (init.One a)) (opens (act (begins n a are term) (next (body_plain tl are h))))
+  body_plain ss are (assign {n} {i} {m} {j} {l} {a} {b} {ss = tl} place term h) =
+      with_rest (λ ds c. ArePlain i ds c j) (s.Assign i l a None b) _ _ tl (part-Assign i l a None b) (doings-Assign i l a None b) (act (sets a b are place term) (next (body_plain tl are h)))
+  body_plain ss are (print {n} {i} {m} {j} {l} {format} {args} {ss = tl} is terms h) =
+      with_rest (λ ds c. ArePlain i ds c j) (s.Print i l format args) _ _ tl (part-Print i l format args) (doings-Print i l format args) (act (prints format args are terms) (next (body_plain tl are h)))

@@ -1,5 +1,5 @@
 -- The edges of a straight-line program by the definitions for all forms are those of main alone.
-use Rattle.std.proofs.Common.{◌≡◌, ◌↔◌, ℕ, zero, suc, List, [], ◌∷◌, slice_get, Bool, true, false, ◌||◌, ◌⊎◌, inl, inr, Option, Some, None, refl, sym, ap, ◌∙◌, subst, arith}
+use Rattle.std.proofs.Common.{◌≡◌, ◌↔◌, ℕ, suc, slice_get, Bool, true, false, ◌||◌, ◌⊎◌, inl, inr, Some, None, refl, sym, ap, ◌∙◌, subst, arith}
 use Rattle.std.specs.Prelude.{Contains}
 use Rattle.std.specs.List.{find}
 use Rattle.std.specs.Option.{option_map_or}
@@ -7,7 +7,7 @@ use Rattle.std.proofs.lemmas.Bool.{false≢true}
 use Rattle.std.proofs.lemmas.List.Elements.{Contains-append_cases}
 use Rattle.c_tree.specs.declared.program.Program.{Program}
 use Rattle.c_language.specs.Code.{Act}
-use Rattle.c_language.specs.StraightLine.{IsStraightLine}
+use Rattle.built_forms.specs.Straight.{IsStraight}
 use Rattle.dep_model.specs.declared.edge.Edge.{Edge}
 use Rattle.dep_model.specs.declared.edge.Label.TheVariants.{Flow}
 use Rattle.dep_model.specs.declared.location.Location.{Location}
@@ -19,25 +19,21 @@ use Rattle.dep_model.specs.Doings.{Does, doings_of}
 use Rattle.dep_model.proofs.PlainEffects.{uses, defines, kills}
 use Rattle.dep_model.specs.Follows as general
 use Rattle.dep_model.specs.Follows.{InTurn, enters, EffectsOf, Flows, last, more}
-use Rattle.dep_model.specs.FunctionVertices.{is_entry, is_formal_in, is_formal_out, is_actual, numbers, heads, tails, vertices_at, code_in, FollowsIn, controller_vertices, IsControlIn, nested, formal, actual}
-use Rattle.dep_model.specs.ModRef.{AreFunctionEffects}
+use Rattle.dep_model.specs.FunctionVertices.{is_entry, is_formal_in, is_formal_out, is_actual, numbers, heads, tails, code_in, FollowsIn, controller_vertices, IsControlIn, nested, formal, actual}
+use Rattle.dep_model.specs.MainEdges.{IsMainEdge}
 use Rattle.dep_model.proofs.PlainSteps.{Step, step, Follows, Chain}
-use Rattle.dep_model.specs.SystemGraph.{Analysis, vertices_of, places_at, numbered_effects, IsFlowIn, IsCallEdge, call, in_, out, IsSystemEdge, control, flow, between}
+use Rattle.dep_model.specs.SystemGraph.{Analysis, IsAnalysis, vertices_of, places_at, numbered_effects, IsFlowIn, IsSystemEdge}
 use Rattle.dep_model.proofs.MainGraph.{controller_kind, IsControlEdge, IsFlowEdge, IsEdge}
 use Rattle.dep_model.specs.MainVertices.{vertices}
 use Rattle.dep_model.specs.VertexOrder.{in_function, has_number, statement_uses, statement_defines, statement_kills, vertex_effects}
-use Rattle.dep_model.proofs.ListLemmas.{contains_head, contains_cons}
 use Rattle.dep_model.proofs.MainVertexLemmas.{vertex_at, IsMainVertex, entry, numbered, vertex_cases, own_vertex, vertex_own, entry_vertex, vertex_entry, no_others, no_formal_in, no_formal_out, no_tails}
-use Rattle.dep_model.proofs.StraightMain.{main_plain, none_taken, no_calls, other_code}
+use Rattle.dep_model.proofs.NumberedEdges.{in_turn_in, numbered_vertices, numbered_edge}
+use Rattle.dep_model.proofs.NumberedMain.{none_taken}
+use Rattle.dep_model.proofs.StraightMain.{main_plain}
+use Rattle.dep_model.proofs.StraightNumbered.{straight_numbered}
 use Rattle.dep_model.proofs.StraightOrder.{number, IsIn, numbers_at, Stands, stands, before_in, after_in, follows_numbers, numbers_follow, IsPair}
-use Rattle.dep_model.proofs.StraightVertices.{straight_vertices}
 
-in_turn_in : (xs : List ℕ) (k : Option ℕ) (v : ℕ) (w : Option ℕ) → InTurn xs k v w → Contains xs v
-in_turn_in [] k v w f = absurd f
-in_turn_in (x ∷ xs) k v w (inl e) = subst (Contains (x ∷ xs)) (sym e.0) (contains_head x xs)
-in_turn_in (x ∷ xs) k v w (inr f) = contains_cons x xs v (in_turn_in xs k v w f)
-
-module _ (p : Program) (points : PointsTo) (h : IsStraightLine p) where
+module _ (p : Program) (points : PointsTo) (h : IsStraight p) where
   -- ---- control
 
   from_kind : (v : Controller) (k : ℕ) → Contains (controller_vertices (vertices p) 0 v) k → slice_get (vertices p) k ≡ Some (in_function 0 (controller_kind v))
@@ -89,14 +85,6 @@ module _ (p : Program) (points : PointsTo) (h : IsStraightLine p) where
   before_cases v w (inr (inr f)) =
       absurd (no_formal_out p 0 v (in_turn_in (tails (vertices p) 0) None v (Some w) f))
 
-  other_follows : (f v w : ℕ) → FollowsIn p (vertices p) (suc f) v (Some w) → ⊥
-  other_follows f v w (inl t) =
-      let z = (heads_first (suc f) v (in_turn_in (heads (vertices p) (suc f)) _ v (Some w) t)).0 in omega (arith, z)
-  other_follows f v w (inr (inl t)) =
-      subst (λ c. general.Follows (vertices_at (vertices p) (suc f)) c (enters (tails (vertices p) (suc f)) None) v (Some w)) (other_code p points h f) t
-  other_follows f v w (inr (inr t)) =
-      no_formal_out p (suc f) v (in_turn_in (tails (vertices p) (suc f)) None v (Some w) t)
-
   -- ---- effects by number
 
   stands_in : (s : Step) → IsIn (code_in p 0) s → Stands p points 0 (doings_of p 0) p.statements s
@@ -116,7 +104,7 @@ module _ (p : Program) (points : PointsTo) (h : IsStraightLine p) where
 
   kills_at : (s : Step) (l : Location) → IsIn (code_in p 0) s → (numbered_effects p points (vertices p)).kills (number s) l ≡ kills s.act l
   kills_at s l m =
-      at_number (vertex_effects p points).kills s l m ∙ ap (λ d. statement_kills p points 0 d l) (stands_in s m).found ∙ (stands_in s m).plain.kills_are (none_taken p points h) l
+      at_number (vertex_effects p points).kills s l m ∙ ap (λ d. statement_kills p points 0 d l) (stands_in s m).found ∙ (stands_in s m).plain.kills_are (none_taken p (straight_numbered p h).integer) l
 
   -- a number stands for one statement
   does_act : {i j : ℕ} {a b : Act} → Some (Does i a) ≡ Some (Does j b) → a ≡ b
@@ -256,31 +244,19 @@ module _ (p : Program) (points : PointsTo) (h : IsStraightLine p) where
         };
       }
 
-  no_chain : (f : ℕ) (l : Location) (x y : ℕ) → general.Chain (λ (v w : ℕ). FollowsIn p (vertices p) (suc f) v (Some w)) KillsAt l x y → ⊥
-  no_chain f l x y (last o) = other_follows f x y o
-  no_chain f l x y (more {u = u} o k rest) = other_follows f x u o
-
-  flow_any : (f : ℕ) (e : Edge) → IsFlowIn p points (vertices p) f e → IsFlowEdge p (code_in p 0) e
-  flow_any zero e w = flow_main e w
-  flow_any (suc f) e w = absurd (no_chain f w.flows.location e.from e.to w.flows.chain)
-
-  no_call_edge : (vs : List Vertex) (e : Edge) → IsCallEdge p vs e → ⊥
-  no_call_edge vs e (call f i to c labelled at) = no_calls p points h f i to c.target c.args c.member
-  no_call_edge vs e (in_ f i to k slot c labelled from at) = no_calls p points h f i to c.target c.args c.member
-  no_call_edge vs e (out f i to k slot c labelled from at) = no_calls p points h f i to c.target c.args c.member
-
 -- the edges by the definitions for all forms are those of main alone
-pub straight_edges : (p : Program) (a : Analysis) → IsStraightLine p → AreFunctionEffects p a.points a.effects → (e : Edge) → IsSystemEdge p a e ↔ IsEdge p (code_in p 0) e
-straight_edges p a h are e = (there, back)
+pub straight_edges : (p : Program) (a : Analysis) → IsStraight p → IsAnalysis p a → (e : Edge) → IsSystemEdge p a e ↔ IsEdge p (code_in p 0) e
+straight_edges p a h is e =
+    let of_main = numbered_edge p a (straight_numbered p h) is e in
+    (λ c. there (of_main.0 c), λ c. of_main.1 (back c))
   where
     same : vertices_of p a ≡ vertices p
-    same = straight_vertices p a.points a.effects h are
+    same = numbered_vertices p a (straight_numbered p h) is
 
-    there : IsSystemEdge p a e → IsEdge p (code_in p 0) e
-    there (control f c) = inl (control_main p a.points h f e (subst (λ vs. IsControlIn p vs f e) same c))
-    there (flow f c) = inr (flow_any p a.points h f e (subst (λ vs. IsFlowIn p a.points vs f e) same c))
-    there (between c) = absurd (no_call_edge p a.points h (vertices_of p a) e c)
+    there : IsMainEdge p a e → IsEdge p (code_in p 0) e
+    there (inl c) = inl (control_main p a.points h 0 e (subst (λ vs. IsControlIn p vs 0 e) same c))
+    there (inr c) = inr (flow_main p a.points h e (subst (λ vs. IsFlowIn p a.points vs 0 e) same c))
 
-    back : IsEdge p (code_in p 0) e → IsSystemEdge p a e
-    back (inl c) = control 0 (subst (λ vs. IsControlIn p vs 0 e) (sym same) (main_control p a.points h e c))
-    back (inr c) = flow 0 (subst (λ vs. IsFlowIn p a.points vs 0 e) (sym same) (main_flow p a.points h e c))
+    back : IsEdge p (code_in p 0) e → IsMainEdge p a e
+    back (inl c) = inl (subst (λ vs. IsControlIn p vs 0 e) (sym same) (main_control p a.points h e c))
+    back (inr c) = inr (subst (λ vs. IsFlowIn p a.points vs 0 e) (sym same) (main_flow p a.points h e c))

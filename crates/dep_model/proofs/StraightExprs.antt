@@ -1,217 +1,165 @@
--- What the effects of all forms say of the expressions of straight-line programs: their variables are ints, so that they name and
--- read whole variables, and take no address.
-use Rattle.std.proofs.Common.{◌≡◌, ℕ, ◌<◌, ◌==◌, List, [], ◌∷◌, Bool, true, false, ◌&&◌, ◌||◌, ◌⊎◌, inl, inr, Some, refl, sym, ap, ◌∙◌, eq-eqb, eqb-true}
-use Rattle.std.specs.Prelude.{if◌then◌else◌}
-use Rattle.std.proofs.lemmas.Bool.{false≢true, or_cases}
-use Rattle.c_arith.specs.declared.int_type.IntType.{IntType}
-use Rattle.c_arith.specs.declared.int_type.IntType.TheVariants.{Int}
-use Rattle.c_arith.specs.declared.operators.BinaryOp.{BinaryOp}
-use Rattle.c_tree.specs.declared.expr.Expr.{Expr, fold-roll-Expr}
+-- The expressions of straight-line programs are integers; what they read and name is the same as lists of variables and by the working
+-- form of effects.
+use Rattle.std.proofs.Common.{◌≡◌, List, ℕ, ◌++◌, Bool, true, ◌&&◌, ◌||◌, refl, sym, ap, subst, ◌∙◌}
+use Rattle.std.proofs.lemmas.Bool.{false≢true, and_parts}
+use Rattle.c_tree.specs.declared.expr.Expr.{Expr, fold-Expr, map-Expr, ind-Expr, roll-Expr, fold-roll-Expr}
 use Rattle.c_tree.specs.declared.expr.Expr.TheOpen.{Expr-F}
-use Rattle.c_tree.specs.declared.expr.Expr.TheVariants as e
-use Rattle.c_tree.specs.declared.program.Program.{Program}
-use Rattle.c_language.specs.Words.{Bytes}
-use Rattle.c_language.specs.declared.expr_type.ExprType.{ExprType}
-use Rattle.c_language.specs.DeclaredTypes.{integer}
-use Rattle.c_language.specs.ExprTypes.{is_scalar, is_array, is_pointer}
-use Rattle.c_language.specs.StraightLine.{IsOperand, IsSum, name, constant, one, plus, minus}
+use Rattle.built_forms.specs.BuiltForms.{is_sign, is_sum, is_built_expr}
+use Rattle.built_forms.specs.BuiltForms as forms
+use Rattle.built_forms.specs.IntegerForms.{is_integer, integer_step}
 use Rattle.dep_model.specs.declared.location.Location.{Location}
-use Rattle.dep_model.specs.declared.location.Part.{Part}
-use Rattle.dep_model.specs.declared.location.Part.TheVariants as part
-use Rattle.dep_model.specs.declared.location.Root.{Root}
-use Rattle.dep_model.specs.declared.location.Root.TheVariants.{Input, Variable, Site, Result}
-use Rattle.dep_model.specs.Locations.{same_root, same_parts}
-use Rattle.dep_model.specs.TreeTypes.{variable_type, binary_tree_type}
-use Rattle.dep_model.specs.Designated.{Designated, designated, designated_step, value_takes}
-use Rattle.dep_model.specs.Denoted.{PointsTo, Denoted, whole, part_of, targets, denoted, denoted_step, value_reads, value_points, expr_reads, expr_points, expr_places, left_reads}
-use Rattle.dep_model.specs.DoingEffects.{expr_takes, left_takes}
-use Rattle.dep_model.proofs.PlainEffects.{is_root_of, is_whole, is_variable, reads, reads_step, places, places_step, names, names_step}
+use Rattle.dep_model.specs.IntegerEffects.{reads_step, variables_read, place_step, variables_set, name_step, variables_named, any_whole}
+use Rattle.dep_model.proofs.BoolLemmas.{or_none, or_both, both_true}
+use Rattle.dep_model.proofs.IntegerExprs.{any_append}
+use Rattle.dep_model.proofs.PlainEffects as plain
+use Rattle.dep_model.proofs.PlainEffects.{reads, places, names}
+use Rattle.dep_model.proofs.WholeVariables.{whole_is}
 
--- the variables below n are ints
-abbrev pub AreInts : Program → ℕ → Type 0
-AreInts p n = (x : ℕ) → x < n → variable_type p x ≡ integer Int
+-- ---- they are integers
 
--- ---- locations of whole variables
+abbrev IsIntegerWhere : Expr → Type 0
+IsIntegerWhere a = is_built_expr a ≡ true → is_integer a ≡ true
 
-pub truth : (b : Bool) → (b ≡ true) ⊎ (b ≡ false)
-truth true = inl refl
-truth false = inr refl
+abbrev Known : Type 0
+Known = (a : Expr) × IsIntegerWhere a
 
-same_number : (x y : ℕ) → (x == y) ≡ (y == x)
-same_number x y = elim (truth (x == y)) [
-  | inl t ↦ t ∙ sym (eq-eqb y x (sym (eqb-true x y t)))
-  | inr f ↦ elim (truth (y == x)) [
-    | inl t ↦ absurd (false≢true (sym f ∙ eq-eqb x y (sym (eqb-true y x t))))
-    | inr g ↦ f ∙ sym g
-  ]
-]
+abbrev layer : Expr-F Known → Expr-F Expr
+layer = map-Expr Known Expr (λ a. a.0)
 
-and_true : (b : Bool) → (b && true) ≡ b
-and_true true = refl
-and_true false = refl
+layer_integer : (y : Expr-F Known) → forms.expr_step (map-Expr Expr Bool is_built_expr (layer y)) ≡ true → integer_step (map-Expr Expr Bool is_integer (layer y)) ≡ true
+layer_integer (Expr-F.Constant t k v) h = refl
+layer_integer Expr-F.Null h = absurd (false≢true h)
+layer_integer Expr-F.Eof h = absurd (false≢true h)
+layer_integer (Expr-F.Variable x) h = refl
+layer_integer (Expr-F.Unary op a) h = a.1 (and_parts (is_sign op) (is_built_expr a.0) h).1
+layer_integer (Expr-F.Deref a) h = absurd (false≢true h)
+layer_integer (Expr-F.AddressOf a) h = absurd (false≢true h)
+layer_integer (Expr-F.Binary op a b) h =
+    let k = and_parts (is_sum op) (is_built_expr a.0 && is_built_expr b.0) h in
+    let m = and_parts (is_built_expr a.0) (is_built_expr b.0) k.1 in
+    both_true (a.1 m.0) (b.1 m.1)
+layer_integer (Expr-F.AndAlso a b) h = absurd (false≢true h)
+layer_integer (Expr-F.OrElse a b) h = absurd (false≢true h)
+layer_integer (Expr-F.Choose c a b) h = absurd (false≢true h)
+layer_integer (Expr-F.Cast t a) h = absurd (false≢true h)
+layer_integer (Expr-F.Index a i) h = absurd (false≢true h)
+layer_integer (Expr-F.Member a m) h = absurd (false≢true h)
+layer_integer (Expr-F.Arrow a m) h = absurd (false≢true h)
+layer_integer (Expr-F.Paren a) h = a.1 h
 
-and_false : (b : Bool) → (b && false) ≡ false
-and_false true = refl
-and_false false = refl
+rolled_integer : (y : Expr-F Expr) → (forms.expr_step (map-Expr Expr Bool is_built_expr y) ≡ true → integer_step (map-Expr Expr Bool is_integer y) ≡ true) → IsIntegerWhere (roll-Expr y)
+rolled_integer y h is = fold-roll-Expr Bool integer_step y ∙ h (sym (fold-roll-Expr Bool forms.expr_step y) ∙ is)
 
-whole_at : (x : ℕ) (r : Root) (hs : List Part) → (same_root (Variable x) r && same_parts [] hs) ≡ is_whole hs (is_root_of x r)
-whole_at x r (h ∷ hs) = and_false (same_root (Variable x) r)
-whole_at x Input [] = refl
-whole_at x (Variable y) [] = and_true (x == y) ∙ same_number x y
-whole_at x (Site i) [] = refl
-whole_at x (Result f) [] = refl
+pub built_integer : (a : Expr) → IsIntegerWhere a
+built_integer = ind-Expr IsIntegerWhere (λ x y is. subst (λ z. IsIntegerWhere (roll-Expr z)) is (rolled_integer (layer y) (layer_integer y)))
 
-pub whole_is : (x : ℕ) (l : Location) → whole x l ≡ is_variable x l
-whole_is x l = whole_at x l.root l.path
+-- ---- what they read and name
 
--- the location is in some variable
-abbrev pub IsInVariable : Location → Type 0
-IsInVariable l = (y : ℕ) × (l.root ≡ Variable y)
+-- a list of variables and a working form have the same locations
+abbrev AreSame : List ℕ → (Location → Bool) → Type 0
+AreSame xs f = (l : Location) → any_whole xs l ≡ f l
 
-variable_at : (x : ℕ) (r : Root) (hs : List Part) → is_whole hs (is_root_of x r) ≡ true → (y : ℕ) × (r ≡ Variable y)
-variable_at x r (h ∷ hs) is = absurd (false≢true is)
-variable_at x Input [] is = absurd (false≢true is)
-variable_at x (Variable y) [] is = (y, refl)
-variable_at x (Site i) [] is = absurd (false≢true is)
-variable_at x (Result f) [] is = absurd (false≢true is)
+abbrev Places : Type 0
+Places = Location → Bool
 
-pub in_variable : (x : ℕ) (l : Location) → is_variable x l ≡ true → IsInVariable l
-in_variable x l is = variable_at x l.root l.path is
+abbrev ReadsAgree : Expr → Type 0
+ReadsAgree a = AreSame (variables_read a) (reads a)
 
--- ---- equations
+abbrev KnownReads : Type 0
+KnownReads = (a : Expr) × ReadsAgree a
 
-pub reads-Constant : (t : Bytes) (k : IntType) (v : ℕ) (l : Location) → reads (e.Constant t k v) l ≡ false
-reads-Constant t k v l =
-    ap (λ t. reads t l) (sym (e.rolls-Constant t k v)) ∙ ap (λ f. f l) (fold-roll-Expr (Location → Bool) reads_step (Expr-F.Constant t k v))
+abbrev reads_layer : Expr-F KnownReads → Expr-F Expr
+reads_layer = map-Expr KnownReads Expr (λ a. a.0)
 
-pub reads-Variable : (x : ℕ) (l : Location) → reads (e.Variable x) l ≡ is_variable x l
-reads-Variable x l =
-    ap (λ t. reads t l) (sym (e.rolls-Variable x)) ∙ ap (λ f. f l) (fold-roll-Expr (Location → Bool) reads_step (Expr-F.Variable x))
+two_read : (a b : KnownReads) (l : Location) → any_whole (variables_read a.0 ++ variables_read b.0) l ≡ (reads a.0 l || reads b.0 l)
+two_read a b l = any_append (variables_read a.0) (variables_read b.0) l ∙ or_both (a.1 l) (b.1 l)
 
-pub reads-Binary : (op : BinaryOp) (a b : Expr) (l : Location) → reads (e.Binary op a b) l ≡ (reads a l || reads b l)
-reads-Binary op a b l =
-    ap (λ t. reads t l) (sym (e.rolls-Binary op a b)) ∙ ap (λ f. f l) (fold-roll-Expr (Location → Bool) reads_step (Expr-F.Binary op a b))
+layer_reads : (y : Expr-F KnownReads) → AreSame (reads_step (map-Expr Expr (List ℕ) variables_read (reads_layer y))) (plain.reads_step (map-Expr Expr Places reads (reads_layer y)))
+layer_reads (Expr-F.Constant t k v) l = refl
+layer_reads Expr-F.Null l = refl
+layer_reads Expr-F.Eof l = refl
+layer_reads (Expr-F.Variable x) l = or_none _ ∙ whole_is x l
+layer_reads (Expr-F.Unary op a) l = a.1 l
+layer_reads (Expr-F.Deref a) l = refl
+layer_reads (Expr-F.AddressOf a) l = refl
+layer_reads (Expr-F.Binary op a b) l = two_read a b l
+layer_reads (Expr-F.AndAlso a b) l = two_read a b l
+layer_reads (Expr-F.OrElse a b) l = two_read a b l
+layer_reads (Expr-F.Choose c a b) l =
+    any_append (variables_read c.0) (variables_read a.0 ++ variables_read b.0) l ∙ or_both (c.1 l) (two_read a b l)
+layer_reads (Expr-F.Cast t a) l = a.1 l
+layer_reads (Expr-F.Index a i) l = refl
+layer_reads (Expr-F.Member a m) l = refl
+layer_reads (Expr-F.Arrow a m) l = refl
+layer_reads (Expr-F.Paren a) l = a.1 l
 
-pub places-Variable : (x : ℕ) (l : Location) → places (e.Variable x) l ≡ is_variable x l
-places-Variable x l =
-    ap (λ t. places t l) (sym (e.rolls-Variable x)) ∙ ap (λ f. f l) (fold-roll-Expr (Location → Bool) places_step (Expr-F.Variable x))
+-- what two folds give of a layer is the same where their steps are
+rolled_same : (step : Expr-F (List ℕ) → List ℕ) (other : Expr-F Places → Places) (y : Expr-F Expr) → AreSame (step (map-Expr Expr (List ℕ) (fold-Expr (List ℕ) step) y)) (other (map-Expr Expr Places (fold-Expr Places other) y)) → AreSame (fold-Expr (List ℕ) step (roll-Expr y)) (fold-Expr Places other (roll-Expr y))
+rolled_same step other y h l =
+    ap (λ xs. any_whole xs l) (fold-roll-Expr (List ℕ) step y) ∙ h l ∙ sym (ap (λ f. f l) (fold-roll-Expr Places other y))
 
-pub names-Variable : (x : ℕ) (l : Location) → names (e.Variable x) l ≡ is_variable x l
-names-Variable x l =
-    ap (λ t. names t l) (sym (e.rolls-Variable x)) ∙ ap (λ f. f l) (fold-roll-Expr (Location → Bool) names_step (Expr-F.Variable x))
+pub reads_listed : (a : Expr) → ReadsAgree a
+reads_listed =
+    ind-Expr ReadsAgree (λ x y is. subst (λ z. ReadsAgree (roll-Expr z)) is (rolled_same reads_step plain.reads_step (reads_layer y) (layer_reads y)))
 
-module _ (p : Program) where
-  pub designated-Constant : (t : Bytes) (k : IntType) (v : ℕ) → designated p (e.Constant t k v) ≡ designated_step p (Expr-F.Constant t k v)
-  designated-Constant t k v =
-      ap (designated p) (sym (e.rolls-Constant t k v)) ∙ fold-roll-Expr Designated (designated_step p) (Expr-F.Constant t k v)
+abbrev PlacesAgree : Expr → Type 0
+PlacesAgree a = AreSame (variables_set a) (places a)
 
-  pub designated-Variable : (x : ℕ) → designated p (e.Variable x) ≡ designated_step p (Expr-F.Variable x)
-  designated-Variable x =
-      ap (designated p) (sym (e.rolls-Variable x)) ∙ fold-roll-Expr Designated (designated_step p) (Expr-F.Variable x)
+abbrev KnownPlaces : Type 0
+KnownPlaces = (a : Expr) × PlacesAgree a
 
-  pub designated-Binary : (op : BinaryOp) (a b : Expr) → designated p (e.Binary op a b) ≡ designated_step p (Expr-F.Binary op (designated p a) (designated p b))
-  designated-Binary op a b =
-      ap (designated p) (sym (e.rolls-Binary op a b)) ∙ fold-roll-Expr Designated (designated_step p) (Expr-F.Binary op a b)
+abbrev places_layer : Expr-F KnownPlaces → Expr-F Expr
+places_layer = map-Expr KnownPlaces Expr (λ a. a.0)
 
-module _ (p : Program) (points : PointsTo) where
-  pub denoted-Constant : (t : Bytes) (k : IntType) (v : ℕ) → denoted p points (e.Constant t k v) ≡ denoted_step p points (Expr-F.Constant t k v)
-  denoted-Constant t k v =
-      ap (denoted p points) (sym (e.rolls-Constant t k v)) ∙ fold-roll-Expr Denoted (denoted_step p points) (Expr-F.Constant t k v)
+layer_places : (y : Expr-F KnownPlaces) → AreSame (place_step (map-Expr Expr (List ℕ) variables_set (places_layer y))) (plain.places_step (map-Expr Expr Places places (places_layer y)))
+layer_places (Expr-F.Constant t k v) l = refl
+layer_places Expr-F.Null l = refl
+layer_places Expr-F.Eof l = refl
+layer_places (Expr-F.Variable x) l = or_none _ ∙ whole_is x l
+layer_places (Expr-F.Unary op a) l = refl
+layer_places (Expr-F.Deref a) l = refl
+layer_places (Expr-F.AddressOf a) l = refl
+layer_places (Expr-F.Binary op a b) l = refl
+layer_places (Expr-F.AndAlso a b) l = refl
+layer_places (Expr-F.OrElse a b) l = refl
+layer_places (Expr-F.Choose c a b) l = refl
+layer_places (Expr-F.Cast t a) l = refl
+layer_places (Expr-F.Index a i) l = refl
+layer_places (Expr-F.Member a m) l = refl
+layer_places (Expr-F.Arrow a m) l = refl
+layer_places (Expr-F.Paren a) l = a.1 l
 
-  pub denoted-Variable : (x : ℕ) → denoted p points (e.Variable x) ≡ denoted_step p points (Expr-F.Variable x)
-  denoted-Variable x =
-      ap (denoted p points) (sym (e.rolls-Variable x)) ∙ fold-roll-Expr Denoted (denoted_step p points) (Expr-F.Variable x)
+pub places_listed : (a : Expr) → PlacesAgree a
+places_listed =
+    ind-Expr PlacesAgree (λ x y is. subst (λ z. PlacesAgree (roll-Expr z)) is (rolled_same place_step plain.places_step (places_layer y) (layer_places y)))
 
-  pub denoted-Binary : (op : BinaryOp) (a b : Expr) → denoted p points (e.Binary op a b) ≡ denoted_step p points (Expr-F.Binary op (denoted p points a) (denoted p points b))
-  denoted-Binary op a b =
-      ap (denoted p points) (sym (e.rolls-Binary op a b)) ∙ fold-roll-Expr Denoted (denoted_step p points) (Expr-F.Binary op a b)
+abbrev NamesAgree : Expr → Type 0
+NamesAgree a = AreSame (variables_named a) (names a)
 
-  -- ---- expressions
+abbrev KnownNames : Type 0
+KnownNames = (a : Expr) × NamesAgree a
 
-  -- an expression reads the same by both definitions, variables alone; it takes no address, and points nowhere
-  pub record ReadsPlainly (a : Expr) : Type 0 where
-    pub reads_are : (l : Location) → expr_reads p points a l ≡ reads a l
-    pub variables : (l : Location) → reads a l ≡ true → IsInVariable l
-    pub takes : (x : ℕ) → expr_takes p a x ≡ false
-    pub points_nowhere : (m : Location) → expr_points p points a m ≡ false
+abbrev names_layer : Expr-F KnownNames → Expr-F Expr
+names_layer = map-Expr KnownNames Expr (λ a. a.0)
 
-  or_none : (b : Bool) → (b || false) ≡ b
-  or_none true = refl
-  or_none false = refl
+layer_names : (y : Expr-F KnownNames) → AreSame (name_step (map-Expr Expr (List ℕ) variables_named (names_layer y))) (plain.names_step (map-Expr Expr Places names (names_layer y)))
+layer_names (Expr-F.Constant t k v) l = refl
+layer_names Expr-F.Null l = refl
+layer_names Expr-F.Eof l = refl
+layer_names (Expr-F.Variable x) l = or_none _ ∙ whole_is x l
+layer_names (Expr-F.Unary op a) l = refl
+layer_names (Expr-F.Deref a) l = refl
+layer_names (Expr-F.AddressOf a) l = refl
+layer_names (Expr-F.Binary op a b) l = refl
+layer_names (Expr-F.AndAlso a b) l = refl
+layer_names (Expr-F.OrElse a b) l = refl
+layer_names (Expr-F.Choose c a b) l = refl
+layer_names (Expr-F.Cast t a) l = refl
+layer_names (Expr-F.Index a i) l = refl
+layer_names (Expr-F.Member a m) l = refl
+layer_names (Expr-F.Arrow a m) l = refl
+layer_names (Expr-F.Paren a) l = refl
 
-  -- the types of operands
-  constant_type : (t : Bytes) (k : IntType) (v : ℕ) → (denoted p points (e.Constant t k v)).form.type ≡ integer k
-  constant_type t k v = ap (λ (d : Denoted). d.form.type) (denoted-Constant t k v)
-
-  name_type : (x : ℕ) → variable_type p x ≡ integer Int → (denoted p points (e.Variable x)).form.type ≡ integer Int
-  name_type x is = ap (λ (d : Denoted). d.form.type) (denoted-Variable x) ∙ is
-
-  operand_type : (n : ℕ) (a : Expr) → AreInts p n → IsOperand n a → (denoted p points a).form.type ≡ integer Int
-  operand_type n a ints (name {x} lt) = name_type x (ints x lt)
-  operand_type n a ints (constant {text} d f) = constant_type text Int _
-
-  name_points : (x : ℕ) (m : Location) → variable_type p x ≡ integer Int → (if true && is_array (variable_type p x) then part_of p part.Element (whole x) m else (is_pointer (variable_type p x) && targets p points (whole x) m)) ≡ false
-  name_points x m is = ap (λ t. if true && is_array t then part_of p part.Element (whole x) m else (is_pointer t && targets p points (whole x) m)) is
-
-  sum_type : (op : BinaryOp) (s t : ExprType) → s ≡ integer Int → t ≡ integer Int → is_pointer (binary_tree_type op (integer Int) (integer Int)) ≡ false → (b : Bool) → (is_pointer (binary_tree_type op s t) && b) ≡ false
-  sum_type op s t is it int b =
-      ap (λ x. is_pointer (binary_tree_type op x t) && b) is ∙ ap (λ x. is_pointer (binary_tree_type op (integer Int) x) && b) it ∙ ap (λ x. x && b) int
-
-  constant_reads : (t : Bytes) (k : IntType) (v : ℕ) → ReadsPlainly (e.Constant t k v)
-  constant_reads t k v = record {
-    reads_are = λ l. ap (λ d. value_reads p points d l) (denoted-Constant t k v) ∙ sym (reads-Constant t k v l);
-    variables = λ l h. absurd (false≢true (sym (reads-Constant t k v l) ∙ h));
-    takes = λ x. ap (λ d. value_takes d x) (designated-Constant p t k v);
-    points_nowhere = λ m. ap (λ d. value_points p points d m) (denoted-Constant t k v);
-  }
-
-  scalar_places : (x : ℕ) (l : Location) → variable_type p x ≡ integer Int → ((true && is_scalar (variable_type p x)) && whole x l) ≡ whole x l
-  scalar_places x l is = ap (λ t. (true && is_scalar t) && whole x l) is
-
-  no_array : (x y : ℕ) → variable_type p x ≡ integer Int → ((true && is_array (variable_type p x)) && (x == y)) ≡ false
-  no_array x y is = ap (λ t. (true && is_array t) && (x == y)) is
-
-  variable_reads : (x : ℕ) → variable_type p x ≡ integer Int → ReadsPlainly (e.Variable x)
-  variable_reads x is = record {
-    reads_are = λ l. ap (λ d. value_reads p points d l) (denoted-Variable x) ∙ scalar_places x l is ∙ whole_is x l ∙ sym (reads-Variable x l);
-    variables = λ l h. in_variable x l (sym (reads-Variable x l) ∙ h);
-    takes = λ y. ap (λ d. value_takes d y) (designated-Variable p x) ∙ no_array x y is;
-    points_nowhere = λ m. ap (λ d. value_points p points d m) (denoted-Variable x) ∙ name_points x m is;
-  }
-
-  both_read : (op : BinaryOp) (a b : Expr) → (denoted p points a).form.type ≡ integer Int → (denoted p points b).form.type ≡ integer Int → is_pointer (binary_tree_type op (integer Int) (integer Int)) ≡ false → ReadsPlainly a → ReadsPlainly b → ReadsPlainly (e.Binary op a b)
-  both_read op a b s t int q r = record {
-    reads_are = λ l. ap (λ d. value_reads p points d l) (denoted-Binary op a b) ∙ or_none (expr_reads p points a l || expr_reads p points b l) ∙ either l (q.reads_are l) (r.reads_are l) ∙ sym (reads-Binary op a b l);
-    variables = λ l h. elim (or_cases (reads a l) (reads b l) (sym (reads-Binary op a b l) ∙ h)) [ inl x ↦ q.variables l x | inr x ↦ r.variables l x ];
-    takes = λ x. ap (λ d. value_takes d x) (designated-Binary p op a b) ∙ or_none (expr_takes p a x || expr_takes p b x) ∙ neither x (q.takes x) (r.takes x);
-    points_nowhere = λ m. ap (λ d. value_points p points d m) (denoted-Binary op a b) ∙ sum_type op _ _ s t int (expr_points p points a m || expr_points p points b m);
-  }
-    where
-      either : (l : Location) → expr_reads p points a l ≡ reads a l → expr_reads p points b l ≡ reads b l → (expr_reads p points a l || expr_reads p points b l) ≡ (reads a l || reads b l)
-      either l s t = ap (λ x. x || expr_reads p points b l) s ∙ ap (λ x. reads a l || x) t
-
-      neither : (x : ℕ) → expr_takes p a x ≡ false → expr_takes p b x ≡ false → (expr_takes p a x || expr_takes p b x) ≡ false
-      neither x s t = ap (λ y. y || expr_takes p b x) s ∙ t
-
-  operand_reads : (n : ℕ) (a : Expr) → AreInts p n → IsOperand n a → ReadsPlainly a
-  operand_reads n a ints (name {x} lt) = variable_reads x (ints x lt)
-  operand_reads n a ints (constant {text} d f) = constant_reads text Int _
-
-  pub sum_reads : (n : ℕ) (a : Expr) → AreInts p n → IsSum n a → ReadsPlainly a
-  sum_reads n a ints (one h) = operand_reads n a ints h
-  sum_reads n a ints (plus {a = x} {b = y} h k) = both_read _ x y (operand_type n x ints h) (operand_type n y ints k) refl (operand_reads n x ints h) (operand_reads n y ints k)
-  sum_reads n a ints (minus {a = x} {b = y} h k) = both_read _ x y (operand_type n x ints h) (operand_type n y ints k) refl (operand_reads n x ints h) (operand_reads n y ints k)
-
-  -- ---- left sides
-
-  pub left_places : (x : ℕ) (l : Location) → expr_places p points (e.Variable x) l ≡ is_variable x l
-  left_places x l = ap (λ (d : Denoted). d.places l) (denoted-Variable x) ∙ whole_is x l
-
-  pub left_reads_none : (x : ℕ) (l : Location) → left_reads p points (e.Variable x) l ≡ false
-  left_reads_none x l = ap (λ (d : Denoted). d.reads l) (denoted-Variable x)
-
-  pub left_takes_none : (x y : ℕ) → left_takes p (e.Variable x) y ≡ false
-  left_takes_none x y = ap (λ (d : Designated). d.takes y) (designated-Variable p x)
-
-  pub left_name : (x : ℕ) → (designated p (e.Variable x)).name ≡ Some x
-  left_name x = ap (λ (d : Designated). d.name) (designated-Variable p x)
+pub names_listed : (a : Expr) → NamesAgree a
+names_listed =
+    ind-Expr NamesAgree (λ x y is. subst (λ z. NamesAgree (roll-Expr z)) is (rolled_same name_step plain.names_step (names_layer y) (layer_names y)))

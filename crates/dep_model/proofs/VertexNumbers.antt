@@ -5,7 +5,7 @@ use Rattle.dep_model.specs.declared.vertex.Vertex.{Vertex}
 use Rattle.dep_model.specs.declared.vertex.VertexKind.{VertexKind}
 use Rattle.dep_model.specs.FunctionVertices.{passes, numbers_from, numbers}
 use Rattle.dep_model.proofs.ListLemmas.{contains_none, contains_head, contains_cons, contains_cases}
-use Rattle.dep_model.proofs.StraightExprs.{truth}
+use Rattle.dep_model.proofs.WholeVariables.{truth}
 
 -- number k of a list passes a test
 pub record Passes (test : Vertex → Bool) (vs : List Vertex) (k : ℕ) : Type 0 where

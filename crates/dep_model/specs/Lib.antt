@@ -9,10 +9,14 @@ pub mod FunctionVertices
 pub mod Groups
 pub mod Links
 pub mod PairOrder
+pub mod IntegerEffects
 pub mod Locations
+pub mod MainEdges
+pub mod MainLocations
 pub mod MainVertices
 pub mod MayPoint
 pub mod ModRef
+pub mod NumberedMains
 pub mod Plain
 pub mod Rules
 pub mod Sets

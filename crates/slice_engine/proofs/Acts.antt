@@ -1,8 +1,8 @@
 -- Acts: they read what they use, and store into what they define; a kept act does the same by other numbers.
-use Rattle.std.proofs.Common.{◌≡◌, ◌≢◌, ℕ, ◌==◌, ◌||◌, ℤ, pos, List, [], ◌∷◌, map, Option, Some, None, Bool, true, false, ◌⊎◌, inl, inr, refl, sym, ap, ◌∙◌, subst, eq-eqb}
+use Rattle.std.proofs.Common.{◌≡◌, ℕ, ◌==◌, ◌||◌, pos, List, [], ◌∷◌, map, Option, Some, None, Bool, true, false, ◌⊎◌, inl, inr, refl, sym, ap, ◌∙◌, subst, eq-eqb}
 use mathlib.Core.Path.{subst₂}
 use Rattle.std.proofs.lemmas.Bool.Decides.{eqb_tells}
-use Rattle.std.specs.Prelude.{option_map, option_and_then, if◌then◌else◌}
+use Rattle.std.specs.Prelude.{option_map, if◌then◌else◌}
 use Rattle.c_arith.specs.declared.int_type.IntType.TheVariants.{Int, UChar}
 use Rattle.c_arith.specs.declared.operators.BinaryOp.{BinaryOp}
 use Rattle.c_arith.specs.IntType.{convert}
@@ -13,15 +13,13 @@ use Rattle.c_tree.specs.declared.statement.Amount.{Amount}
 use Rattle.c_tree.specs.declared.statement.Amount.TheVariants as amount
 use Rattle.c_tree.specs.declared.statement.Target.{Target}
 use Rattle.c_tree.specs.declared.statement.Target.TheVariants as target
-use Rattle.c_language.specs.Words.{Bytes}
 use Rattle.c_language.specs.declared.expr_type.ExprType.{ExprType}
 use Rattle.c_language.specs.DeclaredTypes.{integer}
 use Rattle.c_language.specs.Code.{Act, Begins, Sets, Bumps, Fetches, Writes, Prints, Allocates, Frees, Returns, Tests}
 use Rattle.c_meaning.specs.declared.value.Value.{Value}
 use Rattle.c_meaning.specs.declared.value.Value.TheVariants.{Number}
 use Rattle.c_meaning.specs.Memory.{is_live}
-use Rattle.c_meaning.specs.Values as meaning
-use Rattle.c_meaning.specs.Values.{Types, State, whole, variable_place, tested, as_type, binary_value, type_of, eval, beside, eval_all}
+use Rattle.c_meaning.specs.Values.{Types, State, whole, tested, as_type, binary_value, type_of, eval, beside, eval_all}
 use Rattle.c_meaning.specs.Acts.{Made, shows, storing, if_live, writable, assigned, begun_with, right_of, set_by, bump, bumped, put_out, printed_all, as_result, shown_result, made, stored, after}
 use Rattle.c_meaning.proofs.Frames.{variable_value, IsFramed, after_write, written_here, written_elsewhere, written_framed}
 use Rattle.dep_model.specs.declared.location.Location.{Location}
@@ -30,12 +28,14 @@ use Rattle.dep_model.specs.declared.location.Root.TheVariants.{Input, Variable, 
 use Rattle.dep_model.specs.declared.location.Part.{Part}
 use Rattle.dep_model.proofs.PlainEffects as effect
 use Rattle.dep_model.proofs.PlainEffects.{variable, is_root_of, is_whole, is_variable, is_input_root, is_input, is_result_root, is_result, reads, any_reads, init_reads, compound_reads, amount_reads, value_reads, target_places, uses, defines, kills}
-use Rattle.slice_engine.specs.Edges.{place, target_place, act_target}
-use Rattle.slice_engine.specs.Projection.{names, any_names, init_names, target_names, size_names, amount_names, value_names, act_names, renamed, renamed_init}
-use Rattle.std.proofs.lemmas.Bool.{or_left, or_right, or_cases, ne_eqb}
-use Rattle.slice_engine.proofs.Bools.{two, by_bool}
+use Rattle.slice_engine.proofs.Targets.{place, target_place, act_target}
+use Rattle.projection.specs.Names.{names, any_names, init_names, target_names, size_names, amount_names, value_names}
+use Rattle.slice_engine.proofs.CodeNames.{act_names}
+use Rattle.projection.specs.Renumbering.{renamed, renamed_init}
+use Rattle.std.proofs.lemmas.Bool.{or_left, or_right, or_cases}
+use Rattle.slice_engine.proofs.Bools.{two}
 use Rattle.slice_engine.proofs.Exprs.{one_variable, is_its_variable, eval_same, place_of, designates, reads_named, some_inj, left_of, place_renamed}
-use Rattle.slice_engine.proofs.Projecting.{renamed_target, renamed_amount, renamed_act}
+use Rattle.slice_engine.proofs.Projecting.{renamed_act}
 
 -- ---- what an act uses, it names; what it kills, it may define
 

@@ -1,31 +1,24 @@
 -- The set that was marked is the criterion, and the lines that were found are those of its statements.
-use Rattle.std.proofs.Common.{◌≡◌, ◌↔◌, ℕ, zero, suc, ◌+◌, ◌<◌, ◌≤◌, ◌==◌, List, [], ◌∷◌, ◌++◌, length, get_or, set, replicate, map, slice_get, Bool, true, false, ◌&&◌, ◌||◌, ◌⊎◌, inl, inr, Option, Some, None, refl, sym, ap, ◌∙◌, subst, arith, add-one, eq-eqb}
-use Rattle.std.specs.Prelude.{Contains, All, AllPairs}
+use Rattle.std.proofs.Common.{◌≡◌, ℕ, zero, suc, ◌+◌, ◌<◌, ◌≤◌, ◌==◌, List, [], ◌∷◌, ◌++◌, length, set, replicate, map, Bool, true, false, ◌&&◌, ◌||◌, ◌⊎◌, inl, inr, Some, None, refl, sym, ap, ◌∙◌, subst, arith, add-one, eq-eqb}
 use Rattle.std.specs.List.{list_any}
-use Rattle.std.specs.Option.{option_map_or}
 use Rattle.std.proofs.lemmas.Bool.{eqb-true, cases_lt}
 use Rattle.std.proofs.Common.{get_or-set_other, get_or-set_same}
 use Rattle.bit_rows.specs.Sets.{has}
 use Rattle.c_tree.specs.declared.program.Program.{Program}
-use Rattle.c_tree.specs.declared.program.Function.{Function}
 use Rattle.c_tree.specs.declared.statement.Statement.{Statement}
 use Rattle.c_tree.specs.Numbered.{Start, Starts, start, starts, body_starts, function_starts, program_starts}
-use Rattle.c_language.specs.Code.{code}
-use Rattle.c_language.specs.StraightLine.{IsStraightLine, main_of}
-use Rattle.dep_model.specs.declared.vertex.Vertex.{Vertex}
 use Rattle.dep_model.specs.MainVertices.{vertices}
-use Rattle.slice_engine.specs.Projection.{is_kept}
-use Rattle.slice_engine.specs.Slice.{starts_on, HasStart, IsCriterion}
+use Rattle.slice_engine.specs.KeptStatements.{is_kept}
+use Rattle.slice_engine.specs.Slice.{IsCriterion}
 use Rattle.slice_engine.specs.Criterion.{marked_if, with_starts}
-use Rattle.slice_engine.proofs.GraphLemmas.{length-vertices}
-use Rattle.slice_engine.proofs.Vertices.{kept_vertex}
+use Rattle.slice_engine.proofs.StraightMain.{main_body_is}
+use Rattle.slice_engine.proofs.Vertices.{length-vertices, kept_vertex}
 use Rattle.slice_engine.specs.Slice.{main_body}
 use Rattle.c_tree.proofs.NumberedLemmas.{starts-Declare, starts-Assign, starts-Print}
-use Rattle.c_language.specs.StraightLine.{IsBody, done, declare, begin, assign, print, int_format}
+use Rattle.built_forms.specs.Straight.{IsStraight, IsBody, done, declare, begin, assign, print}
 use Rattle.c_tree.specs.declared.program.Init.TheVariants as init
-use Rattle.c_tree.specs.declared.expr.Expr.TheVariants as e
 use Rattle.dep_model.specs.MainVertices.{from}
-use Rattle.dep_model.specs.declared.vertex.VertexKind.TheVariants.{Entry, Statement as AtStatement}
+use Rattle.dep_model.specs.declared.vertex.VertexKind.TheVariants.{Statement as AtStatement}
 use Rattle.std.proofs.lemmas.List.{append-nil}
 use Rattle.slice_engine.proofs.CriterionLemmas.{length-marked_if, length-with_starts}
 use Rattle.dep_model.specs.VertexOrder.{in_function}
@@ -99,21 +92,18 @@ body_numbers ss (declare {n} {i} {m} {j} {l} {ss = tl} h) =
     let w = body_numbers tl h in (w.0, numbers_of j _ tl [] (starts-Declare None l n init.None) tt w.1)
 body_numbers ss (begin {n} {i} {m} {j} {l} {a} {ss = tl} s h) =
     let w = body_numbers tl h in (omega (arith, w.0), numbers_of j _ tl (start i l ∷ []) (starts-Declare (Some i) l n (init.One a)) (omega (arith, w.0), tt) w.1)
-body_numbers ss (assign {n} {i} {m} {j} {l} {x} {a} {ss = tl} lt s h) =
-    let w = body_numbers tl h in (omega (arith, w.0), numbers_of j _ tl (start i l ∷ []) (starts-Assign i l (e.Variable x) None a) (omega (arith, w.0), tt) w.1)
-body_numbers ss (print {n} {i} {m} {j} {l} {a} {ss = tl} s h) =
-    let w = body_numbers tl h in (omega (arith, w.0), numbers_of j _ tl (start i l ∷ []) (starts-Print i l int_format (a ∷ [])) (omega (arith, w.0), tt) w.1)
+body_numbers ss (assign {n} {i} {m} {j} {l} {a} {b} {ss = tl} place term h) =
+    let w = body_numbers tl h in (omega (arith, w.0), numbers_of j _ tl (start i l ∷ []) (starts-Assign i l a None b) (omega (arith, w.0), tt) w.1)
+body_numbers ss (print {n} {i} {m} {j} {l} {format} {args} {ss = tl} built terms h) =
+    let w = body_numbers tl h in (omega (arith, w.0), numbers_of j _ tl (start i l ∷ []) (starts-Print i l format args) (omega (arith, w.0), tt) w.1)
 
-pub main_body_is : (p : Program) (h : IsStraightLine p) → main_body p ≡ h.body
-main_body_is p h = ap (λ fs. option_map_or (λ (f : Function). f.body) (slice_get fs 0) []) h.functions_are
-
-pub program_starts_are : (p : Program) (h : IsStraightLine p) → program_starts p ≡ body_starts (main_body p)
+pub program_starts_are : (p : Program) (h : IsStraight p) → program_starts p ≡ body_starts (main_body p)
 program_starts_are p h =
     ap function_starts h.functions_are ∙ append-nil (body_starts h.body) ∙ ap body_starts (sym (main_body_is p h))
 
-pub numbers_are : (p : Program) (h : IsStraightLine p) → AreNumbers p.statements (body_starts (main_body p))
+pub numbers_are : (p : Program) (h : IsStraight p) → AreNumbers p.statements (program_starts p)
 numbers_are p h =
-    subst (λ ss. AreNumbers p.statements (body_starts ss)) (sym (main_body_is p h)) (body_numbers h.body h.in_form).1
+    subst (AreNumbers p.statements) (sym (program_starts_are p h ∙ ap body_starts (main_body_is p h))) (body_numbers h.body h.in_form).1
 
 -- ---- the criterion
 
@@ -144,15 +134,15 @@ or_none : (b : Bool) → (b || false) ≡ b
 or_none true = refl
 or_none false = refl
 
-pub criterion_is : (p : Program) (line : ℕ) → IsStraightLine p → IsCriterion p line (with_starts line (body_starts (main_body p)) (replicate (p.statements + 1) false))
+pub criterion_is : (p : Program) (line : ℕ) → IsStraight p → IsCriterion p line (with_starts line (program_starts p) (replicate (p.statements + 1) false))
 criterion_is p line h =
-    let found = body_starts (main_body p) in
+    let found = program_starts p in
     let none = replicate (p.statements + 1) false in
     record {
       size = length-with_starts line found none ∙ empty_long (p.statements + 1) ∙ sym (length-vertices p ∙ sym (add-one p.statements));
       members = λ i. elim (cases_lt i p.statements) [
-        | inl lt ↦ kept_vertex p (with_starts line found none) i lt ∙ ap (has (with_starts line found none)) (sym (add-one i)) ∙ has-with_starts line found i p.statements none (numbers_are p h) (empty_long (p.statements + 1)) ∙ ap (λ b. starts_in line found i || b) (empty_has (p.statements + 1) (i + 1)) ∙ or_none (starts_in line found i) ∙ ap (λ ss. starts_in line ss i) (sym (program_starts_are p h))
-        | inr ge ↦ kept_past p (with_starts line found none) i ge ∙ sym (ap (λ ss. starts_in line ss i) (program_starts_are p h) ∙ marked_past line found i p.statements (numbers_are p h) ge)
+        | inl lt ↦ kept_vertex p (with_starts line found none) i lt ∙ ap (has (with_starts line found none)) (sym (add-one i)) ∙ has-with_starts line found i p.statements none (numbers_are p h) (empty_long (p.statements + 1)) ∙ ap (λ b. starts_in line found i || b) (empty_has (p.statements + 1) (i + 1)) ∙ or_none (starts_in line found i)
+        | inr ge ↦ kept_past p (with_starts line found none) i ge ∙ sym (marked_past line found i p.statements (numbers_are p h) ge)
       ];
       no_entry = entry_stays line found none ∙ empty_has (p.statements + 1) 0;
     }

@@ -7,7 +7,7 @@ use Rattle.c_tree.specs.declared.program.Program.{Program}
 use Rattle.c_tree.specs.Numbered.{Start, program_starts}
 use Rattle.c_meaning.specs.declared.event.Event.{Event}
 use Rattle.c_meaning.specs.Meaning.{if_in, at}
-use Rattle.slice_engine.specs.Projection.{rank}
+use Rattle.projection.specs.Kept.{rank}
 use Rattle.slice_engine.specs.Slice.{starts_on, IsKept, keeps, ranked, is_criterion}
 use Rattle.std.proofs.lemmas.Bool.{or_left, or_right, or_cases, and_from, and_parts}
 use Rattle.slice_engine.proofs.Bools.{both_or_none, fails_too}

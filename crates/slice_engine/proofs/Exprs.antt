@@ -17,7 +17,7 @@ use Rattle.c_meaning.specs.declared.value.Place.{Place}
 use Rattle.c_meaning.specs.Values as meaning
 use Rattle.c_meaning.specs.Values.{Types, State, Meant, variable_place, int_type, as_type, unary_value, binary_value, and_both, or_both, chosen_type, chosen_value, meant_step, meant}
 use Rattle.c_meaning.proofs.Frames.{variable_value}
-use Rattle.slice_engine.specs.Edges.{place_step, place}
+use Rattle.slice_engine.proofs.Targets.{place_step, place}
 use Rattle.slice_engine.proofs.Bools.{two}
 use Rattle.dep_model.specs.declared.location.Location.{Location}
 use Rattle.dep_model.specs.declared.location.Root.{Root}
@@ -25,7 +25,8 @@ use Rattle.dep_model.specs.declared.location.Root.TheVariants.{Input, Variable, 
 use Rattle.dep_model.specs.declared.location.Part.{Part}
 use Rattle.dep_model.proofs.PlainEffects as effect
 use Rattle.dep_model.proofs.PlainEffects.{variable, is_root_of, is_whole, is_variable, reads_step, reads, places_step, places}
-use Rattle.slice_engine.specs.Projection.{names_step, names, renamed_step, renamed}
+use Rattle.projection.specs.Names.{names_step, names}
+use Rattle.projection.specs.Renumbering.{renamed_step, renamed}
 use Rattle.std.proofs.lemmas.Bool.{or_left, or_right, or_cases}
 use Rattle.slice_engine.proofs.Trees.{ExprParts, expr_layer, of_every_expr}
 
@@ -52,7 +53,7 @@ is_its_variable x = eq-eqb x x refl
 -- ---- other numbers for the variables
 
 -- a layer with another number for its variable
-abbrev renamed_layer : (ℕ → ℕ) → Expr-F Expr → Expr-F Expr
+abbrev pub renamed_layer : (ℕ → ℕ) → Expr-F Expr → Expr-F Expr
 renamed_layer f (Expr-F.Variable x) = Expr-F.Variable (f x)
 renamed_layer f z = z
 
@@ -80,7 +81,7 @@ renamed_roll f z =
     fold-roll-Expr Expr (renamed_step f) z ∙ renamed_rolls f (map-Expr Expr Expr (renamed f) z)
 
 -- a fold of a renamed expression
-fold_renamed : (A : Type 0) (step : Expr-F A → A) (f : ℕ → ℕ) (z : Expr-F Expr) → fold-Expr A step (renamed f (roll-Expr z)) ≡ step (map-Expr Expr A (fold-Expr A step) (renamed_layer f (map-Expr Expr Expr (renamed f) z)))
+pub fold_renamed : (A : Type 0) (step : Expr-F A → A) (f : ℕ → ℕ) (z : Expr-F Expr) → fold-Expr A step (renamed f (roll-Expr z)) ≡ step (map-Expr Expr A (fold-Expr A step) (renamed_layer f (map-Expr Expr Expr (renamed f) z)))
 fold_renamed A step f z =
     ap (fold-Expr A step) (renamed_roll f z) ∙ fold-roll-Expr A step (renamed_layer f (map-Expr Expr Expr (renamed f) z))
 

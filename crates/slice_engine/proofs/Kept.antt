@@ -2,7 +2,7 @@
 use Rattle.std.proofs.Common.{◌≡◌, ℕ, suc, List, [], Bool, true, inr, refl, sym, ◌∙◌, IsTrue}
 use Rattle.bit_rows.specs.Sets.{has}
 use Rattle.c_tree.specs.declared.program.Program.{Program}
-use Rattle.c_language.specs.StraightLine.{IsStraightLine}
+use Rattle.built_forms.specs.Straight.{IsStraight}
 use Rattle.c_meaning.specs.Meaning.{main_code}
 use Rattle.dep_model.specs.declared.edge.Edge.{Edge}
 use Rattle.dep_model.specs.declared.edge.Label.TheVariants.{Flow}
@@ -15,7 +15,7 @@ use Rattle.slice_engine.specs.Slice.{starts_on, IsKept, keeps}
 use Rattle.slice_engine.proofs.Vertices.{AreBelow, chain_below, vertex_of, kept_vertex, kept_grows}
 
 -- the kept statements are closed under flow edges
-pub flow_closed : (p : Program) (line : ℕ) (kept : List Bool) → IsStraightLine p → AreBelow p.statements (main_code p) → IsKept p line kept → (v w : Step) → FlowEdge (main_code p) v w → keeps p kept w.id ≡ true → keeps p kept v.id ≡ true
+pub flow_closed : (p : Program) (line : ℕ) (kept : List Bool) → IsStraight p → AreBelow p.statements (main_code p) → IsKept p line kept → (v w : Step) → FlowEdge (main_code p) v w → keeps p kept w.id ≡ true → keeps p kept v.id ≡ true
 flow_closed p line kept straight below k v w flow kw =
     let b = chain_below p.statements (main_code p) flow.location v w below flow.chain in
     let edge : Edge = record { from = suc v.id; to = suc w.id; label = Flow } in

@@ -8,9 +8,9 @@ use Rattle.c_tree.specs.declared.program.Function.{Function}
 use Rattle.c_tree.specs.declared.statement.Statement.{Statement, fold-roll-Statement, roll-Statement, map-Statement}
 use Rattle.c_tree.specs.declared.statement.Statement.TheOpen.{Statement-F, Arm-F}
 use Rattle.c_tree.specs.declared.statement.Statement.TheVariants as s
-use Rattle.c_tree.specs.declared.statement.Arm.{Arm, fold-Arm, roll-Arm, map-Arm, fold-roll-Arm}
+use Rattle.c_tree.specs.declared.statement.Arm.{Arm, roll-Arm, map-Arm, fold-roll-Arm}
 use Rattle.c_tree.specs.Unlined.{unlined_step, unlined_arm, unlined, unlined_of_arm, unlined_var, unlined_function, unlined_program, SameButLines}
-use Rattle.c_language.specs.Code.{Code, End, Part, ArmPart, part_step, arm_step, part, code_of, code}
+use Rattle.c_language.specs.Code.{End, Part, ArmPart, part_step, arm_step, part, code_of, code}
 use Rattle.c_arith.specs.declared.int_type.IntType.TheVariants.{Int}
 use Rattle.c_tree.specs.declared.program.Var.{Var}
 use Rattle.c_language.specs.DeclaredTypes.{integer}

@@ -1,6 +1,6 @@
 -- A program has one slice at a line: the definitions leave no byte of it open.
 use Rattle.std.proofs.Common.{◌≡◌, ◌↔◌, ℕ, zero, suc, ◌<◌, List, [], ◌∷◌, ◌++◌, length, Bool, inl, inr, refl, sym, ap, ◌∙◌, subst, arith, IsTrue}
-use Rattle.std.specs.Prelude.{Contains, All, AllPairs}
+use Rattle.std.specs.Prelude.{Contains, AllPairs}
 use Rattle.std.proofs.lemmas.Bool.{false≢true}
 use Rattle.std.proofs.lemmas.List.Elements.{All-contains}
 use Rattle.bit_rows.specs.Sets.{has}
@@ -11,13 +11,11 @@ use Rattle.dep_model.specs.declared.edge.Edge.{Edge}
 use Rattle.dep_model.proofs.OneAnalysis.{same_edges}
 use Rattle.dep_model.specs.Words.{IsPath, ReachesAny}
 use Rattle.dep_model.specs.Completion.{IsClosed, IsCompletion, NamesNone}
-use Rattle.dep_model.specs.MainVertices.{vertices}
 use Rattle.dep_model.proofs.ListLemmas.{contains_none, contains_head, contains_cons, contains_cases}
 use Rattle.dep_model.proofs.SetLemmas.{has_in_range, same_members}
 use Rattle.dep_model.proofs.CompletionLemmas.{completion_unique}
 use Rattle.slice_engine.specs.Slice.{IsCriterion, IsKept, sliced, AreLines, header, IsSlice}
-use Rattle.slice_engine.proofs.GraphLemmas.{length-vertices}
-use Rattle.slice_engine.proofs.Vertices.{kept_vertex}
+use Rattle.slice_engine.proofs.Vertices.{length-vertices, kept_vertex}
 
 -- ---- ascending lists
 

@@ -1,5 +1,5 @@
 -- A statement list as a place: what is done next there, and what may follow.
-use Rattle.std.proofs.Common.{◌≡◌, ℕ, ℤ, List, [], Option, Some, None, Bool, true, false, ◌⊎◌, inl, inr, refl, sym, ap, ◌∙◌, subst}
+use Rattle.std.proofs.Common.{◌≡◌, ℕ, ℤ, [], Option, Some, None, Bool, true, false, inl, inr, refl, sym, ◌∙◌, subst}
 use Rattle.c_tree.specs.declared.expr.Expr.{Expr}
 use Rattle.c_tree.specs.declared.statement.Target.TheVariants as target
 use Rattle.c_language.specs.Code.{Act, Fetches, Prints, Tests, Code, End, Opens, Plain, Fork, Loop, Leaves, Call, ◌⨟◌, is_true, either}

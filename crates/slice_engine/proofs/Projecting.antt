@@ -1,41 +1,31 @@
 -- The projection of a program, as one of its code.
 use Rattle.std.proofs.Common.{◌≡◌, ℕ, ◌+◌, List, [], ◌∷◌, ◌++◌, map, Bool, true, false, Option, Some, None, ◌==◌, eq-eqb, refl, sym, ap, ◌∙◌, subst}
+use Rattle.std.specs.Prelude.{option_map}
+use Rattle.std.proofs.lemmas.Bool.{or_left}
 use Rattle.c_arith.specs.declared.operators.BinaryOp.{BinaryOp}
-use Rattle.c_language.specs.Words.{Bytes}
+use Rattle.c_tree.specs.declared.expr.Expr.{Expr}
 use Rattle.c_tree.specs.declared.program.Init.{Init}
 use Rattle.c_tree.specs.declared.program.Init.TheVariants as init
 use Rattle.c_tree.specs.declared.statement.Statement.{Statement}
 use Rattle.c_tree.specs.declared.statement.Statement.TheVariants as s
-use Rattle.std.specs.Prelude.{option_map}
-use Rattle.c_tree.specs.declared.expr.Expr.TheVariants as e
-use Rattle.c_tree.specs.declared.statement.Amount.{Amount}
-use Rattle.c_tree.specs.declared.statement.Amount.TheVariants as amount
-use Rattle.c_tree.specs.declared.statement.Size.{Size}
-use Rattle.c_tree.specs.declared.statement.Size.TheVariants as size
-use Rattle.c_tree.specs.declared.statement.Target.{Target}
-use Rattle.c_tree.specs.declared.statement.Target.TheVariants as target
+use Rattle.c_language.specs.Words.{Bytes}
 use Rattle.c_language.specs.Code.{Act, Begins, Sets, Bumps, Fetches, Writes, Prints, Allocates, Frees, Returns, Tests, Code, End, Opens, Plain, Fork, Loop, Leaves, Call, begun, code_of, code}
-use Rattle.c_language.specs.StraightLine.{int_format, IsBody, done, declare, begin, assign, print}
-use Rattle.slice_engine.specs.Projection.{rank, act_names, init_names, renamed, renamed_init, if_so, bare, declaration, projected, body_projected}
-use Rattle.std.proofs.lemmas.Bool.{or_left}
+use Rattle.built_forms.specs.Straight.{IsBody, done, declare, begin, assign, print}
+use Rattle.projection.specs.Kept.{Kept, rank}
+use Rattle.projection.specs.Names.{init_names}
+use Rattle.projection.specs.Renumbering.{renamed, renamed_init, renamed_target, renamed_amount}
+use Rattle.projection.specs.Projection.{if_so, bare, projected_declaration, projected, projected_all}
+use Rattle.slice_engine.proofs.CodeNames.{act_names}
 use Rattle.slice_engine.proofs.Codes.{code_of-Declare, code_of-Assign, code_of-Print}
 use Rattle.slice_engine.proofs.ProjectedTrees.{projected-Declare, projected-Assign, projected-Print}
-use Rattle.c_tree.specs.declared.expr.Expr.{Expr}
 
-abbrev pub renamed_target : (ℕ → ℕ) → Target → Target
-renamed_target f target.None = target.None
-renamed_target f (target.Place a) = target.Place (renamed f a)
-renamed_target f (target.Declared x) = target.Declared (f x)
+-- these statements and variables are kept, and all functions and results
+abbrev pub kept_by : (ℕ → Bool) → (ℕ → Bool) → Kept
+kept_by keeps stays = record { variable = stays; statement = keeps; result = λ i. true; function = λ name. true }
 
-abbrev pub renamed_size : (ℕ → ℕ) → Size → Size
-renamed_size f (size.Type t) = size.Type t
-renamed_size f (size.Pointee x in_parentheses) = size.Pointee (f x) in_parentheses
-
-abbrev pub renamed_amount : (ℕ → ℕ) → Amount → Amount
-renamed_amount f (amount.Size t) = amount.Size (renamed_size f t)
-renamed_amount f (amount.CountSize a t) = amount.CountSize (renamed f a) (renamed_size f t)
-renamed_amount f (amount.SizeCount t a) = amount.SizeCount (renamed_size f t) (renamed f a)
-renamed_amount f (amount.Count a) = amount.Count (renamed f a)
+-- each function keeps its number
+abbrev pub same_numbers : ℕ → ℕ
+same_numbers = rank (λ f. true)
 
 -- other numbers for the variables of an act
 abbrev pub renamed_act : (ℕ → ℕ) → Act → Act
@@ -97,17 +87,17 @@ module _ (keeps stays : ℕ → Bool) where
   one_projects b x f rest c form e =
       one_or_none b x rest ∙ ap (λ y. choose b y (code rest)) form ∙ ap (λ d. choose b (f d) d) e
 
-  bare_projects : (l x : ℕ) (rest : List Statement) (c : Code) → code rest ≡ c → code (bare keeps stays l x ++ rest) ≡ choose (stays x) (Opens (rank stays x) c) c
+  bare_projects : (l x : ℕ) (rest : List Statement) (c : Code) → code rest ≡ c → code (bare (kept_by keeps stays) same_numbers l x ++ rest) ≡ choose (stays x) (Opens (rank stays x) c) c
   bare_projects l x rest c e =
       one_projects (stays x) (s.Declare None l (rank stays x) init.None) (Opens (rank stays x)) rest c (code_of-Declare None l (rank stays x) init.None (code rest)) e
 
   -- a declaration with an initialiser, where that is kept or not
-  begun_projects : (b : Bool) (id l x : ℕ) (init : Init) (rest : List Statement) (c : Code) → (b ≡ true → stays x ≡ true) → code rest ≡ c → code (if_so b (s.Declare (Some (rank keeps id)) l (rank stays x) (renamed_init (rank stays) init) ∷ []) (bare keeps stays l x) ++ rest) ≡ choose (stays x) (Opens (rank stays x) (choose b (Plain (rank keeps id) (Begins (rank stays x) (renamed_init (rank stays) init)) c) c)) (choose b (Plain (rank keeps id) (Begins (rank stays x) (renamed_init (rank stays) init)) c) c)
+  begun_projects : (b : Bool) (id l x : ℕ) (init : Init) (rest : List Statement) (c : Code) → (b ≡ true → stays x ≡ true) → code rest ≡ c → code (if_so b (s.Declare (Some (rank keeps id)) l (rank stays x) (renamed_init (rank stays) init) ∷ []) (bare (kept_by keeps stays) same_numbers l x) ++ rest) ≡ choose (stays x) (Opens (rank stays x) (choose b (Plain (rank keeps id) (Begins (rank stays x) (renamed_init (rank stays) init)) c) c)) (choose b (Plain (rank keeps id) (Begins (rank stays x) (renamed_init (rank stays) init)) c) c)
   begun_projects true id l x init rest c named e =
       code_of-Declare (Some (rank keeps id)) l (rank stays x) (renamed_init (rank stays) init) (code rest) ∙ ap (λ d. Opens (rank stays x) (Plain (rank keeps id) (Begins (rank stays x) (renamed_init (rank stays) init)) d)) e ∙ rw (named refl) refl
   begun_projects false id l x init rest c named e = bare_projects l x rest c e
 
-  declare_projects : (id : Option ℕ) (l x : ℕ) (init : Init) → Projects (λ r. Opens x (begun id x init r)) (declaration keeps stays id l x init)
+  declare_projects : (id : Option ℕ) (l x : ℕ) (init : Init) → Projects (λ r. Opens x (begun id x init r)) (projected_declaration (kept_by keeps stays) same_numbers id l x init)
   declare_projects None l x init r rest named e = bare_projects l x rest (project_code r) (e named)
   declare_projects (Some id) l x init r rest named e =
       begun_projects (keeps id) id l x init rest (project_code r) (λ k. named.0 k x (or_left (x == x) (init_names init x) (eq-eqb x x refl))) (e named.1)
@@ -121,19 +111,19 @@ module _ (keeps stays : ℕ → Bool) where
       one_projects (keeps i) (s.Print (rank keeps i) l format (map (renamed (rank stays)) args)) (Plain (rank keeps i) (Prints format (map (renamed (rank stays)) args))) rest (project_code r) (code_of-Print (rank keeps i) l format (map (renamed (rank stays)) args) (code rest)) (e named.1)
 
   -- a statement makes its own projection before that of a list
-  before : (x : Statement) (f : Code → Code) (xs : List Statement) (rest : List Statement) → projected keeps stays x ≡ xs → ((r : Code) → code_of x r ≡ f r) → Projects f xs → (NamesStay (code rest) → code (body_projected keeps stays rest) ≡ project_code (code rest)) → NamesStay (code (x ∷ rest)) → code (body_projected keeps stays (x ∷ rest)) ≡ project_code (code (x ∷ rest))
+  before : (x : Statement) (f : Code → Code) (xs : List Statement) (rest : List Statement) → projected (kept_by keeps stays) same_numbers x ≡ xs → ((r : Code) → code_of x r ≡ f r) → Projects f xs → (NamesStay (code rest) → code (projected_all (kept_by keeps stays) same_numbers rest) ≡ project_code (code rest)) → NamesStay (code (x ∷ rest)) → code (projected_all (kept_by keeps stays) same_numbers (x ∷ rest)) ≡ project_code (code (x ∷ rest))
   before x f xs rest is form projects h named =
       let form_here = form (code rest) in
-      ap (λ ys. code (ys ++ body_projected keeps stays rest)) is ∙ (projects (code rest) (body_projected keeps stays rest) (subst NamesStay form_here named) h ∙ ap project_code (sym form_here))
+      ap (λ ys. code (ys ++ projected_all (kept_by keeps stays) same_numbers rest)) is ∙ (projects (code rest) (projected_all (kept_by keeps stays) same_numbers rest) (subst NamesStay form_here named) h ∙ ap project_code (sym form_here))
 
   -- the code of a projected straight-line body is the projection of the body's code
-  pub body_projects : (n i : ℕ) (ss : List Statement) (m j : ℕ) → IsBody n i ss m j → NamesStay (code ss) → code (body_projected keeps stays ss) ≡ project_code (code ss)
+  pub body_projects : (n i : ℕ) (ss : List Statement) (m j : ℕ) → IsBody n i ss m j → NamesStay (code ss) → code (projected_all (kept_by keeps stays) same_numbers ss) ≡ project_code (code ss)
   body_projects n i ss m j done named = refl
   body_projects n i ss m j (declare {l = l} {ss = rest} h) named =
-      before (s.Declare None l n init.None) _ _ rest (projected-Declare keeps stays None l n init.None) (code_of-Declare None l n init.None) (declare_projects None l n init.None) (body_projects (n + 1) i rest m j h) named
+      before (s.Declare None l n init.None) _ _ rest (projected-Declare (kept_by keeps stays) same_numbers None l n init.None) (code_of-Declare None l n init.None) (declare_projects None l n init.None) (body_projects (n + 1) i rest m j h) named
   body_projects n i ss m j (begin {l = l} {a = a} {ss = rest} sum h) named =
-      before (s.Declare (Some i) l n (init.One a)) _ _ rest (projected-Declare keeps stays (Some i) l n (init.One a)) (code_of-Declare (Some i) l n (init.One a)) (declare_projects (Some i) l n (init.One a)) (body_projects (n + 1) (i + 1) rest m j h) named
-  body_projects n i ss m j (assign {l = l} {x = x} {a = a} {ss = rest} lt sum h) named =
-      before (s.Assign i l (e.Variable x) None a) _ _ rest (projected-Assign keeps stays i l (e.Variable x) None a) (code_of-Assign i l (e.Variable x) None a) (assign_projects i l (e.Variable x) None a) (body_projects n (i + 1) rest m j h) named
-  body_projects n i ss m j (print {l = l} {a = a} {ss = rest} sum h) named =
-      before (s.Print i l int_format (a ∷ [])) _ _ rest (projected-Print keeps stays i l int_format (a ∷ [])) (code_of-Print i l int_format (a ∷ [])) (print_projects i l int_format (a ∷ [])) (body_projects n (i + 1) rest m j h) named
+      before (s.Declare (Some i) l n (init.One a)) _ _ rest (projected-Declare (kept_by keeps stays) same_numbers (Some i) l n (init.One a)) (code_of-Declare (Some i) l n (init.One a)) (declare_projects (Some i) l n (init.One a)) (body_projects (n + 1) (i + 1) rest m j h) named
+  body_projects n i ss m j (assign {l = l} {a = a} {b = b} {ss = rest} place term h) named =
+      before (s.Assign i l a None b) _ _ rest (projected-Assign (kept_by keeps stays) same_numbers i l a None b) (code_of-Assign i l a None b) (assign_projects i l a None b) (body_projects n (i + 1) rest m j h) named
+  body_projects n i ss m j (print {l = l} {format = format} {args = args} {ss = rest} built terms h) named =
+      before (s.Print i l format args) _ _ rest (projected-Print (kept_by keeps stays) same_numbers i l format args) (code_of-Print i l format args) (print_projects i l format args) (body_projects n (i + 1) rest m j h) named

@@ -1,7 +1,7 @@
 -- Ranks, number by number, and the ranks of tests that agree.
 use Rattle.std.proofs.Common.{◌≡◌, ℕ, zero, suc, ◌+◌, ◌≤◌, Bool, true, false, inl, inr, refl, ap, ◌∙◌, arith, add-one}
 use Rattle.std.proofs.lemmas.Bool.{cases_lt}
-use Rattle.slice_engine.specs.Projection.{rank}
+use Rattle.projection.specs.Kept.{rank}
 use Rattle.slice_engine.proofs.Bools.{by_bool}
 
 module _ (keeps : ℕ → Bool) where

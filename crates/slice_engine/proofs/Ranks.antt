@@ -1,7 +1,7 @@
 -- Ranks: below each number, how many pass a test. Numbers that pass have ranks of their own.
 use Rattle.std.proofs.Common.{◌≡◌, ℕ, zero, suc, ◌<◌, ◌≤◌, Bool, true, false, if◌then◌else◌, inl, inr, refl, ap, arith}
 use Rattle.std.proofs.lemmas.Bool.{cases_lt}
-use Rattle.slice_engine.specs.Projection.{rank}
+use Rattle.projection.specs.Kept.{rank}
 
 module _ (keeps : ℕ → Bool) where
   rank_step : (b : Bool) (m : ℕ) → m ≤ (if b then suc m else m)

@@ -11,7 +11,7 @@ use Rattle.c_tree.specs.declared.program.Var.{Var}
 use Rattle.c_tree.specs.Unlined.{SameButLines}
 use Rattle.c_language.specs.DeclaredTypes.{integer}
 use Rattle.c_language.specs.Code.{Code, End, Opens, Plain, Fork, Loop, Leaves, Call}
-use Rattle.c_language.specs.StraightLine.{IsStraightLine}
+use Rattle.built_forms.specs.Straight.{IsStraight}
 use Rattle.c_meaning.specs.declared.value.Value.{Value}
 use Rattle.c_meaning.specs.declared.event.Event.{Event}
 use Rattle.c_meaning.specs.Values.{shape_of, Types, State, opened, shown_of}
@@ -19,22 +19,25 @@ use Rattle.c_meaning.specs.Acts.{Made, made}
 use Rattle.c_meaning.specs.Meaning.{Trace, Ended, opening, types_of, main_code, code_meaning, at}
 use Rattle.c_meaning.proofs.Frames.{variable_value, IsFramed, opened_here, opened_other, unwritten_here, opened_elsewhere, opened_framed}
 use Rattle.dep_model.specs.declared.location.Location.{Location}
-use Rattle.slice_engine.specs.Projection.{rank, stays, function_projected}
+use Rattle.projection.specs.Kept.{rank}
+use Rattle.slice_engine.proofs.CodeNames.{stays}
 use Rattle.slice_engine.specs.Slice.{starts_on, IsKept, keeps, sliced, ranked, is_criterion, HasSameValues}
 use Rattle.slice_engine.proofs.Bools.{two}
 use Rattle.slice_engine.proofs.Lines.{same_main, same_types}
 use Rattle.slice_engine.proofs.Ranks.{rank_injective}
-use Rattle.slice_engine.proofs.ChosenLemmas.{get-chosen}
+use Rattle.slice_engine.proofs.ProjectedVars.{get-projected}
+use Rattle.slice_engine.proofs.StraightMain.{main_code_is, same_stays}
+use Rattle.projection.specs.Projection.{projected_functions, projected_var, kept_with}
 use Rattle.slice_engine.proofs.Runs.{Runs}
 use Rattle.slice_engine.proofs.Law.{Silent, Active, Setting, Shaped, Acting, Moving, Closing, Telling, Related, machine, slice_follows}
 use Rattle.slice_engine.proofs.Places.{kind_of, number, act_of, change, places, Within, Within-next, Within-past, kept_at, effects, kept_act, wanted_closed}
 use Rattle.slice_engine.proofs.Steps.{begins, meaning_runs, runs_meaning}
 use Rattle.slice_engine.proofs.Acts.{Same, Fits, act_kept, act_other, kills_defined}
-use Rattle.slice_engine.proofs.Projecting.{renamed_act, project_code, NamesStay}
+use Rattle.slice_engine.proofs.Projecting.{same_numbers, renamed_act, project_code, NamesStay}
+use Rattle.projection.specs.Kept.{Kept}
 use Rattle.slice_engine.proofs.Vertices.{AreBelow, body_below}
 use Rattle.slice_engine.proofs.Kept.{flow_closed}
-use Rattle.slice_engine.proofs.GraphLemmas.{main_acts}
-use Rattle.slice_engine.proofs.Shape.{IsStraight, straight_acts, straight_calls, IsStraight-next, IsStraight-past, shape_last, shape_kind, shape_number, shape_act, shape_next, shape_past, shape_skips_act, shape_skips_move, NamesStay-next, NamesStay-past, stays_here, names_stay, first_code, main_projects}
+use Rattle.slice_engine.proofs.Shape.{IsInLine, body_in_line, straight_calls, InLine-next, InLine-past, shape_last, shape_kind, shape_number, shape_act, shape_next, shape_past, shape_skips_act, shape_skips_move, NamesStay-next, NamesStay-past, stays_here, names_stay, first_code, main_projects}
 use Rattle.slice_engine.proofs.Events.{SameAt, both_tell, one_tells, criterion_rank, not_criterion}
 
 -- a silent move of both, or of the original alone
@@ -66,7 +69,7 @@ module _ (here there : Types) (keeps stays : ℕ → Bool) where
     begun = λ y b sy e. fits.begun y b sy (sym (opened_other here m x fits.here y (other_stays x y sx sy)) ∙ e);
   }
 
-  move_both_fits : (c : Code) (m n : State) → IsStraight c → kind_of c ≡ Silent → kept_at keeps stays c ≡ true → Fits (rank stays) stays m n → Fits (rank stays) stays (change here c m) (change there (project_code keeps stays c) n)
+  move_both_fits : (c : Code) (m n : State) → IsInLine c → kind_of c ≡ Silent → kept_at keeps stays c ≡ true → Fits (rank stays) stays m n → Fits (rank stays) stays (change here c m) (change there (project_code keeps stays c) n)
   move_both_fits End m n s e k fits = cc
   move_both_fits (Opens x r) m n s e k fits = rw k (opened_both x m n k fits)
   move_both_fits (Plain i a r) m n s e k fits = cc
@@ -75,7 +78,7 @@ module _ (here there : Types) (keeps stays : ℕ → Bool) where
   move_both_fits (Leaves xs r) m n s e k fits = absurd s
   move_both_fits (Call i to f args r) m n s e k fits = absurd s
 
-  move_both : (c : Code) (m n : State) → IsStraight c → kind_of c ≡ Silent → kept_at keeps stays c ≡ true → Fits (rank stays) stays m n → (l : Location) → Same (rank stays) stays l m n → Same (rank stays) stays l (change here c m) (change there (project_code keeps stays c) n)
+  move_both : (c : Code) (m n : State) → IsInLine c → kind_of c ≡ Silent → kept_at keeps stays c ≡ true → Fits (rank stays) stays m n → (l : Location) → Same (rank stays) stays l m n → Same (rank stays) stays l (change here c m) (change there (project_code keeps stays c) n)
   move_both End m n s e k fits l h = cc
   move_both (Opens x r) m n s e k fits l h = rw k (opened_same x m n l k fits h)
   move_both (Plain i a r) m n s e k fits l h = cc
@@ -84,7 +87,7 @@ module _ (here there : Types) (keeps stays : ℕ → Bool) where
   move_both (Leaves xs r) m n s e k fits l h = absurd s
   move_both (Call i to f args r) m n s e k fits l h = absurd s
 
-  move_one_fits : (c : Code) (m n : State) → IsStraight c → kind_of c ≡ Silent → kept_at keeps stays c ≡ false → Fits (rank stays) stays m n → Fits (rank stays) stays (change here c m) n
+  move_one_fits : (c : Code) (m n : State) → IsInLine c → kind_of c ≡ Silent → kept_at keeps stays c ≡ false → Fits (rank stays) stays m n → Fits (rank stays) stays (change here c m) n
   move_one_fits End m n s e k fits = cc
   move_one_fits (Opens x r) m n s e k fits = opened_one x m n k fits
   move_one_fits (Plain i a r) m n s e k fits = cc
@@ -93,7 +96,7 @@ module _ (here there : Types) (keeps stays : ℕ → Bool) where
   move_one_fits (Leaves xs r) m n s e k fits = absurd s
   move_one_fits (Call i to f args r) m n s e k fits = absurd s
 
-  move_one : (c : Code) (m n : State) → IsStraight c → kind_of c ≡ Silent → kept_at keeps stays c ≡ false → Fits (rank stays) stays m n → (l : Location) → Same (rank stays) stays l m n → Same (rank stays) stays l (change here c m) n
+  move_one : (c : Code) (m n : State) → IsInLine c → kind_of c ≡ Silent → kept_at keeps stays c ≡ false → Fits (rank stays) stays m n → (l : Location) → Same (rank stays) stays l m n → Same (rank stays) stays l (change here c m) n
   move_one End m n s e k fits l h = cc
   move_one (Opens x r) m n s e k fits l h = λ y isy sy. opened_elsewhere here m x fits.here y (other_stays x y k sy) ∙ h y isy sy
   move_one (Plain i a r) m n s e k fits l h = cc
@@ -104,11 +107,16 @@ module _ (here there : Types) (keeps stays : ℕ → Bool) where
 
 -- ---- the types of a slice
 
-result_in : (keeps test : ℕ → Bool) (fs : List Function) → option_map_or (λ (f : Function). option_map shape_of f.result) (slice_get fs 0) None ≡ option_map_or (λ (f : Function). option_map shape_of f.result) (slice_get (map (function_projected keeps test) fs) 0) None
-result_in keeps test [] = refl
-result_in keeps test (f ∷ fs) = refl
+result_in : (p : Program) (keeps : ℕ → Bool) (fs : List Function) → option_map_or (λ (f : Function). option_map shape_of f.result) (slice_get fs 0) None ≡ option_map_or (λ (f : Function). option_map shape_of f.result) (slice_get (projected_functions (kept_with p keeps) same_numbers fs) 0) None
+result_in p keeps [] = refl
+result_in p keeps (f ∷ fs) = refl
 
-module _ (p : Program) (line : ℕ) (kept : List Bool) (k : IsKept p line kept) (form : IsStraightLine p) (below : AreBelow p.statements (main_code p)) (straight : IsStraight (main_code p)) where
+-- a variable in a function with another number has its type
+shape_stays : (k : Kept) (o : Option Var) → option_map_or (λ (v : Var). shape_of v.shape) (option_map (projected_var k same_numbers) o) (integer Int) ≡ option_map_or (λ (v : Var). shape_of v.shape) o (integer Int)
+shape_stays k None = refl
+shape_stays k (Some v) = refl
+
+module _ (p : Program) (line : ℕ) (kept : List Bool) (k : IsKept p line kept) (form : IsStraight p) (below : AreBelow p.statements (main_code p)) (straight : IsInLine (main_code p)) where
   abbrev main : Code
   main = main_code p
 
@@ -125,12 +133,17 @@ module _ (p : Program) (line : ℕ) (kept : List Bool) (k : IsKept p line kept) 
   there = types_of (sliced p kept)
 
   -- a variable that stays keeps its type, and main its result's
+  agree_with : (test : ℕ → Bool) → (kept_with p keeps_it).variable ≡ test → (x : ℕ) → test x ≡ true → here.variable x ≡ there.variable (rank test x)
+  agree_with test same x sx =
+      let k = kept_with p keeps_it in
+      let kx : k.variable x ≡ true = ap (λ (t : ℕ → Bool). t x) same ∙ sx in
+      sym (shape_stays k (slice_get p.vars x)) ∙ ap (λ o. option_map_or (λ (v : Var). shape_of v.shape) o (integer Int)) (sym (get-projected k same_numbers p.vars x kx)) ∙ ap (λ (t : ℕ → Bool). there.variable (rank t x)) same
+
   agree : (x : ℕ) → stays_there x ≡ true → here.variable x ≡ there.variable (rank stays_there x)
-  agree x sx =
-      ap (λ o. option_map_or (λ (v : Var). shape_of v.shape) o (integer Int)) (sym (get-chosen stays_there p.vars x sx))
+  agree = agree_with stays_there (same_stays p keeps_it form)
 
   results : here.result ≡ there.result
-  results = result_in keeps_it stays_there p.functions
+  results = result_in p keeps_it p.functions
 
   abbrev setting : Setting
   setting = record {
@@ -143,7 +156,7 @@ module _ (p : Program) (line : ℕ) (kept : List Bool) (k : IsKept p line kept) 
     slice = places there;
     effects = effects keeps_it stays_there;
     project = project_code keeps_it stays_there;
-    Fine = λ c. IsStraight c × (Within main c × NamesStay keeps_it stays_there c);
+    Fine = λ c. IsInLine c × (Within main c × NamesStay keeps_it stays_there c);
     Same = λ w. Same (rank stays_there) stays_there;
     Fits = λ w. Fits (rank stays_there) stays_there;
     Alike = λ w v u. v.values ≡ u.values;
@@ -152,8 +165,8 @@ module _ (p : Program) (line : ℕ) (kept : List Bool) (k : IsKept p line kept) 
 
   shaped : Shaped setting
   shaped = record {
-    fine_next = λ c v f e. (IsStraight-next c v f.0, (Within-next main c v f.1.0, NamesStay-next keeps_it stays_there c v f.0 f.1.1));
-    fine_past = λ c f e. (IsStraight-past c f.0, (Within-past main c f.1.0, NamesStay-past keeps_it stays_there c f.1.1));
+    fine_next = λ c v f e. (InLine-next c v f.0, (Within-next main c v f.1.0, NamesStay-next keeps_it stays_there c v f.0 f.1.1));
+    fine_past = λ c f e. (InLine-past c f.0, (Within-past main c f.1.0, NamesStay-past keeps_it stays_there c f.1.1));
     last = λ c f e. shape_last keeps_it stays_there c e;
     kept_kind = λ c f k. shape_kind keeps_it stays_there c k;
     kept_next = λ w c v u f e k alike. shape_next keeps_it stays_there c v u f.0 e k;
@@ -234,18 +247,18 @@ module _ (p : Program) (line : ℕ) (kept : List Bool) (k : IsKept p line kept) 
       (r.second.trace, runs_meaning there n (project_code keeps_it stays_there main) input (Ended r.second.trace) r.runs, r.related.traces ∙ ap (λ (v : Trace). map (ranked keeps_it) (at (starts_on p line) v.events)) r.first_trace)
 
 -- the statements of a straight-line program are numbered below their count
-statements_below : (p : Program) → IsStraightLine p → AreBelow p.statements (main_code p)
+statements_below : (p : Program) → IsStraight p → AreBelow p.statements (main_code p)
 statements_below p straight =
     let h = body_below 0 0 straight.body (length p.vars) p.statements straight.in_form in
     subst (λ fs. AreBelow p.statements (first_code fs)) (sym straight.functions_are) h.1
 
 -- where a straight-line program ends within n acts, so does each program with its slice's main and types, with the same values at the criterion
-pub same_values : (p q : Program) (line : ℕ) (kept : List Bool) → IsStraightLine p → IsKept p line kept → main_code q ≡ main_code (sliced p kept) → types_of q ≡ types_of (sliced p kept) → HasSameValues p line kept q
+pub same_values : (p q : Program) (line : ℕ) (kept : List Bool) → IsStraight p → IsKept p line kept → main_code q ≡ main_code (sliced p kept) → types_of q ≡ types_of (sliced p kept) → HasSameValues p line kept q
 same_values p q line kept straight k same types n input t ends =
-    let r = main_follows p line kept k straight (statements_below p straight) (straight_acts (main_acts p straight)) n input t ends in
+    let r = main_follows p line kept k straight (statements_below p straight) (subst IsInLine (sym (main_code_is p straight)) (body_in_line 0 0 straight.body (length p.vars) p.statements straight.in_form)) n input t ends in
     (r.0, two (λ s c. code_meaning s n c input) types (same ∙ main_projects p (keeps p kept) straight) ∙ r.1, r.2)
 
 -- so does each program that is the slice but for line numbers
-pub same_values_but_lines : (p q : Program) (line : ℕ) (kept : List Bool) → IsStraightLine p → IsKept p line kept → SameButLines q (sliced p kept) → HasSameValues p line kept q
+pub same_values_but_lines : (p q : Program) (line : ℕ) (kept : List Bool) → IsStraight p → IsKept p line kept → SameButLines q (sliced p kept) → HasSameValues p line kept q
 same_values_but_lines p q line kept straight k same =
     same_values p q line kept straight k (same_main q (sliced p kept) same) (same_types q (sliced p kept) same)

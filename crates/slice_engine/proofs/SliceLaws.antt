@@ -1,48 +1,43 @@
 -- From marks to the slice: its text is the defined one, and is read again with the same values.
-use Rattle.std.proofs.Common.{◌≡◌, ◌↔◌, ℕ, zero, suc, ◌+◌, ◌^◌, ◌<◌, ◌≤◌, List, [], ◌∷◌, ◌++◌, length, get_or, replicate, map, slice_get, length-append, Bool, true, false, ◌⊎◌, inl, inr, Option, Some, None, refl, sym, ap, ◌∙◌, subst, arith, add-one, IsTrue}
-use Rattle.std.specs.Prelude.{Contains, All, slice_index_or}
+use Rattle.std.proofs.Common.{◌≡◌, ◌↔◌, ℕ, suc, ◌+◌, ◌^◌, ◌<◌, ◌≤◌, List, [], ◌∷◌, ◌++◌, length, get_or, replicate, slice_get, length-append, Bool, true, false, inl, inr, Some, refl, sym, ap, ◌∙◌, subst, arith, add-one}
+use Rattle.std.specs.Prelude.{Contains, All, AllPairs}
 use Rattle.std.proofs.lemmas.Bool.{cases_lt}
 use Rattle.std.proofs.lemmas.List.{get_or_past}
 use mathlib.Core.Path.{fun_ext}
 use Rattle.bit_rows.specs.Sets.{has}
 use Rattle.c_tree.specs.declared.program.Program.{Program}
-use Rattle.c_tree.specs.declared.statement.Statement.{Statement}
-use Rattle.c_tree.specs.Numbered.{Start, start, starts, body_starts}
+use Rattle.c_tree.specs.Numbered.{program_starts}
 use Rattle.c_language.specs.Words.{Bytes}
-use Rattle.c_language.specs.Layout.{layout, statement_lines}
-use Rattle.c_language.specs.StraightLine.{IsTextOf, IsStraightLine, IsBody, done, declare, begin, assign, print, int_format}
-use Rattle.c_tree.specs.declared.program.Init.TheVariants as init
-use Rattle.c_tree.specs.declared.expr.Expr.TheVariants as e
-use Rattle.c_tree.proofs.NumberedLemmas.{starts-Declare, starts-Assign, starts-Print}
-use Rattle.c_meaning.specs.Meaning.{main_code}
+use Rattle.std.proofs.lemmas.List.Sums.{count_by-le-length}
+use Rattle.c_language.specs.Tokens.{is_feed}
+use Rattle.c_language.specs.Layout.{layout}
+use Rattle.c_language.specs.Programs.{IsAccepted, IsWellFormed}
+use Rattle.c_tree.specs.Unlined.{unlined_program}
+use Rattle.c_print.specs.Lines.{line_of}
+use Rattle.c_print.specs.StartsOn.{StartsOn}
+use Rattle.c_print_laws.specs.ReadAgain.{IsReadAgain}
+use Rattle.c_print_laws.proofs.ReadAgain.{commented_is_read_again}
+use Rattle.c_print_laws.proofs.StatementStarts.{statements_start}
+use Rattle.built_forms.specs.Straight.{IsStraight}
+use Rattle.dep_model.proofs.ListLemmas.{contains_head, contains_cons}
 use Rattle.dep_model.specs.declared.edge.Edge.{Edge}
-use Rattle.dep_model.specs.Words.{ReachesAny}
-use Rattle.dep_model.specs.Plain.{PlainEdges}
-use Rattle.dep_model.specs.Completion.{IsCompletion, NamesNone}
-use Rattle.dep_model.proofs.MainGraph.{AreEdges}
-use Rattle.dep_model.specs.MainVertices.{vertices}
-use Rattle.dep_model.proofs.StraightAnalysis.{straight_analysis, is_straight_analysis, system_edges}
-use Rattle.slice_engine.specs.Projection.{rank, project, stays, if_so, bare, declaration, projected, body_projected, function_projected}
-use Rattle.slice_engine.proofs.ProjectedTrees.{projected-Declare, projected-Assign, projected-Print}
-use Rattle.std.specs.Option.{option_map_or}
-use Rattle.c_tree.specs.declared.program.Function.{Function}
-use Rattle.c_tree.specs.declared.program.Init.{Init}
-use Rattle.c_tree.specs.declared.statement.Statement.TheVariants as s
-use Rattle.slice_engine.specs.Slice.{main_body, line_feeds, starts_on, keeps, sliced, IsCriterion, IsReached, IsKept, StandsOn, AreLines, header, IsSlice, IsFaithful}
-use Rattle.slice_engine.specs.Criterion.{with_starts, by_rank, any_marked, line_if, lines_of}
-use Rattle.slice_engine.specs.Engine.{IsEngine, AreMarks, KeepsFrom}
+use Rattle.projection.specs.Kept.{rank}
+use Rattle.projection.specs.Projection.{projection}
+use Rattle.slice_engine.specs.Slice.{starts_on, keeps, sliced, IsCriterion, IsLineOf, header, IsSlice, IsFaithful}
+use Rattle.slice_engine.specs.Criterion.{starts_of, with_starts, by_rank, shown_lines}
+use Rattle.slice_engine.specs.Engine.{IsEngine, AreMarks, KeepsFrom, IsSlicedAt}
 use Rattle.slice_engine.specs.OwnWords.{OwnWords}
-use Rattle.slice_engine.proofs.CriterionLaws.{criterion_is, kept_past, main_body_is, empty_long}
+use Rattle.slice_engine.proofs.CriterionLaws.{criterion_is, kept_past, empty_long}
 use Rattle.slice_engine.proofs.CriterionLemmas.{length-with_starts}
-use Rattle.slice_engine.proofs.GraphLemmas.{are_edges, length-vertices}
+use Rattle.slice_engine.proofs.StraightMain.{main_body_is}
 use Rattle.slice_engine.proofs.Vertices.{kept_vertex}
 use Rattle.slice_engine.proofs.Kept.{criterion_kept}
-use Rattle.slice_engine.proofs.LineLaws.{at_mark, at_rank, of_rank, OneLineEach, line_stands, stands_line, lines_ascend}
-use Rattle.slice_engine.proofs.ProjectionLaws.{straight, one_line, own_words}
-use Rattle.slice_engine.proofs.HeaderLemmas.{AreShort, header_comment}
-use Rattle.slice_engine.proofs.ReadAgain.{Reread, reread}
-use Rattle.slice_engine.proofs.SameValues.{same_values}
-use Rattle.slice_engine.proofs.Lines.{same_types}
+use Rattle.slice_engine.proofs.RankTests.{at_mark, at_rank, of_rank, length-by_rank}
+use Rattle.slice_engine.proofs.ProjectedWords.{own_words}
+use Rattle.slice_engine.proofs.HeaderLines.{shown_at, at_shown}
+use Rattle.slice_engine.proofs.HeaderLemmas.{AreShort, inside, inside_feedless, inside_starless, header_is_comment}
+use Rattle.slice_engine.proofs.SameValues.{same_values_but_lines}
+use Rattle.slice_engine.proofs.WellFormed.{slice_well_formed}
 
 -- ---- marks
 
@@ -53,17 +48,17 @@ marks_keep p x marks long each i = elim (cases_lt i p.statements) [
   | inr ge ↦ get_or_past marks i false (omega (arith, long, ge)) ∙ sym (kept_past p x i ge)
 ]
 
-pub are_marks : (p : Program) (edges : List Edge) (line : ℕ) (body : List Statement) (criterion kept wanted marks : List Bool) → IsEngine p edges → body ≡ main_body p → criterion ≡ with_starts line (body_starts body) (replicate (p.statements + 1) false) → KeepsFrom edges criterion kept → length wanted ≡ p.statements → ((k : ℕ) → k < p.statements → get_or wanted k false ≡ has criterion (k + 1)) → length marks ≡ p.statements → ((k : ℕ) → k < p.statements → get_or marks k false ≡ has kept (k + 1)) → AreMarks p line wanted marks
-are_marks p edges line body criterion kept wanted marks g is made keeps_from wanted_long wanted_are marks_long marks_are =
-    let same : criterion ≡ with_starts line (body_starts (main_body p)) (replicate (p.statements + 1) false) = made ∙ ap (λ ts. with_starts line (body_starts ts) (replicate (p.statements + 1) false)) is in
+pub are_marks : (p : Program) (edges : List Edge) (starts : List (ℕ × ℕ)) (line : ℕ) (criterion kept wanted marks : List Bool) → IsEngine p edges starts → criterion ≡ with_starts line (starts_of starts) (replicate (p.statements + 1) false) → KeepsFrom edges criterion kept → length wanted ≡ p.statements → ((k : ℕ) → k < p.statements → get_or wanted k false ≡ has criterion (k + 1)) → length marks ≡ p.statements → ((k : ℕ) → k < p.statements → get_or marks k false ≡ has kept (k + 1)) → AreMarks p line wanted marks
+are_marks p edges starts line criterion kept wanted marks g made keeps_from wanted_long wanted_are marks_long marks_are =
+    let same : criterion ≡ with_starts line (program_starts p) (replicate (p.statements + 1) false) = made ∙ ap (λ ss. with_starts line ss (replicate (p.statements + 1) false)) g.starts_are in
     let c : IsCriterion p line criterion = subst (IsCriterion p line) (sym same) (criterion_is p line g.straight) in
     record {
       kept = kept;
       is_kept = record {
-        analysis = straight_analysis;
-        is_analysis = is_straight_analysis p g.straight;
+        analysis = g.has_edges.analysis;
+        is_analysis = g.has_edges.is_analysis;
         edges = edges;
-        are_edges = system_edges p straight_analysis edges g.straight (is_straight_analysis p g.straight) (subst (AreEdges p (main_code p)) (sym g.edges_are) (are_edges p g.straight));
+        are_edges = g.has_edges.are_edges;
         criterion = criterion;
         is_criterion = c;
         reached = keeps_from.reached;
@@ -76,160 +71,131 @@ are_marks p edges line body criterion kept wanted marks g is made keeps_from wan
       marks_are = marks_keep p kept marks marks_long marks_are;
     }
 
-pub criterion_long : (line v : ℕ) (body : List Statement) (x : List Bool) → x ≡ with_starts line (body_starts body) (replicate v false) → length x ≡ v
-criterion_long line v body x e = ap length e ∙ length-with_starts line (body_starts body) (replicate v false) ∙ empty_long v
+pub criterion_long : (line v : ℕ) (starts : List (ℕ × ℕ)) (x : List Bool) → x ≡ with_starts line (starts_of starts) (replicate v false) → length x ≡ v
+criterion_long line v starts x e = ap length e ∙ length-with_starts line (starts_of starts) (replicate v false) ∙ empty_long v
 
-pub keeps_from : (edges : List Edge) (g after : PlainEdges) (n : ℕ) (x r k : List Bool) → g ≡ record { size = n; edges = edges } → after ≡ g → ((v : ℕ) → IsTrue (has r v) ↔ ReachesAny g.edges x v) → length r ≡ length x → IsCompletion after.edges NamesNone 0 r k → KeepsFrom edges x k
-keeps_from edges g after n x r k is same reaches long completes =
-    let here : g.edges ≡ edges = ap (λ (h : PlainEdges). h.edges) is in
-    record {
-      reached = r;
-      is_reached = record { size = long; members = subst (λ es. (v : ℕ) → IsTrue (has r v) ↔ ReachesAny es x v) here reaches };
-      completes = subst (λ es. IsCompletion es NamesNone 0 r k) (ap (λ (h : PlainEdges). h.edges) same ∙ here) completes;
-    }
+-- ---- the program of the slice
 
--- ---- the lines of the criterion
-
-single_start : {n i m j : ℕ} (ss : List Statement) → IsBody n i ss m j → All (λ t. (starts t ≡ []) ⊎ ((s : Start) × (starts t ≡ s ∷ []))) ss
-single_start ss done k d lt = absurd (omega (arith, lt))
-single_start ss (declare {n} {l} {ss = tl} h) zero d lt = inl (starts-Declare None l n init.None)
-single_start ss (declare {n} {l} {ss = tl} h) (suc k) d lt = single_start tl h k d (omega (arith, lt))
-single_start ss (begin {n} {i} {l} {a} {ss = tl} sum h) zero d lt = inr (start i l, starts-Declare (Some i) l n (init.One a))
-single_start ss (begin {n} {i} {l} {a} {ss = tl} sum h) (suc k) d lt = single_start tl h k d (omega (arith, lt))
-single_start ss (assign {i} {l} {x} {a} {ss = tl} low sum h) zero d lt = inr (start i l, starts-Assign i l (e.Variable x) None a)
-single_start ss (assign {i} {l} {x} {a} {ss = tl} low sum h) (suc k) d lt = single_start tl h k d (omega (arith, lt))
-single_start ss (print {i} {l} {a} {ss = tl} sum h) zero d lt = inr (start i l, starts-Print i l int_format (a ∷ []))
-single_start ss (print {i} {l} {a} {ss = tl} sum h) (suc k) d lt = single_start tl h k d (omega (arith, lt))
-
-one_each : (q : Program) (ts : List Statement) → All (λ t. line_feeds (statement_lines q 1 t) ≡ 1) ts → All (λ t. (starts t ≡ []) ⊎ ((s : Start) × (starts t ≡ s ∷ []))) ts → OneLineEach q ts
-one_each q [] f g = tt
-one_each q (t ∷ ts) f g =
-    (f 0 t (omega arith), g 0 t (omega arith), one_each q ts (λ k d lt. f (suc k) d (omega (arith, lt))) (λ k d lt. g (suc k) d (omega (arith, lt))))
-
-body_each : (q : Program) → IsStraightLine q → OneLineEach q (main_body q)
-body_each q f =
-    subst (OneLineEach q) (sym (main_body_is q f)) (one_each q f.body (one_line q f) (single_start f.body f.in_form))
-
-module _ (p : Program) (edges : List Edge) (line : ℕ) (wanted marks : List Bool) (g : IsEngine p edges) (m : AreMarks p line wanted marks) where
+module _ (p : Program) (line : ℕ) (wanted marks : List Bool) (m : AreMarks p line wanted marks) where
   same_keeps : keeps p m.kept ≡ at_mark marks
   same_keeps = fun_ext (λ i. sym (m.marks_are i))
-
-  pub slice_program : sliced p m.kept ≡ project p (main_code p) (at_mark marks)
-  slice_program = ap (project p (main_code p)) same_keeps
-
-  slice_straight : IsStraightLine (sliced p m.kept)
-  slice_straight = straight p (keeps p m.kept) g.straight
-
-  wanted_kept : (i : ℕ) → at_mark wanted i ≡ true → at_mark marks i ≡ true
-  wanted_kept i h = m.marks_are i ∙ criterion_kept p line m.kept m.is_kept i (sym (m.wanted_are i) ∙ h)
 
   long : length wanted ≡ length marks
   long = m.wanted_long ∙ sym m.marks_long
 
-  pub lines_found : (k : ℕ) → Contains (lines_of (by_rank marks wanted) 4 (main_body (sliced p m.kept))) k → (i : ℕ) × (starts_on p line i ≡ true) × StandsOn (sliced p m.kept) (rank (keeps p m.kept) i) 4 (main_body (sliced p m.kept)) k
-  lines_found k h =
-      let r = line_stands (sliced p m.kept) (by_rank marks wanted) (main_body (sliced p m.kept)) 4 k (body_each (sliced p m.kept) slice_straight) h in
-      let w = of_rank marks wanted r.0 r.1 in
-      let at : rank (keeps p m.kept) w.0 ≡ r.0 = ap (λ f. rank f w.0) same_keeps ∙ w.2 in
-      (w.0, sym (m.wanted_are w.0) ∙ w.3, subst (λ j. StandsOn (sliced p m.kept) j 4 (main_body (sliced p m.kept)) k) (sym at) r.2)
-
-  pub found_lines : (k i : ℕ) → starts_on p line i ≡ true → StandsOn (sliced p m.kept) (rank (keeps p m.kept) i) 4 (main_body (sliced p m.kept)) k → Contains (lines_of (by_rank marks wanted) 4 (main_body (sliced p m.kept))) k
-  found_lines k i on stands =
-      let want : at_mark wanted i ≡ true = m.wanted_are i ∙ on in
-      let mark : at_mark (by_rank marks wanted) (rank (at_mark marks) i) ≡ true = at_rank marks wanted i long (wanted_kept i want) ∙ want in
-      stands_line (sliced p m.kept) (by_rank marks wanted) (main_body (sliced p m.kept)) (rank (keeps p m.kept) i) 4 k (body_each (sliced p m.kept) slice_straight) (ap (λ f. at_mark (by_rank marks wanted) (rank f i)) same_keeps ∙ mark) stands
-
-  pub are_lines : AreLines p line m.kept (lines_of (by_rank marks wanted) 4 (main_body (sliced p m.kept)))
-  are_lines = record {
-    ascending = lines_ascend (sliced p m.kept) (by_rank marks wanted) (main_body (sliced p m.kept)) 4;
-    members = λ k. (λ h. lines_found k h, λ h. found_lines k h.0 h.1 h.2);
+  pub is_sliced : (q : Program) (ranks : List Bool) → q ≡ projection p (at_mark marks) → ranks ≡ by_rank marks wanted → IsSlicedAt p line q ranks
+  is_sliced q ranks is ranks_are = record {
+    kept = m.kept;
+    is_kept = m.is_kept;
+    program_is = is ∙ ap (projection p) (sym same_keeps);
+    wanted_long = ap length ranks_are ∙ length-by_rank marks wanted long ∙ ap (rank (at_mark marks)) m.marks_long ∙ sym (ap (λ (x : Program). x.statements) is);
+    wanted_are = λ i k. ap (λ (f : ℕ → Bool). at_mark ranks (rank f i)) same_keeps ∙ ap (λ xs. at_mark xs (rank (at_mark marks) i)) ranks_are ∙ at_rank marks wanted i long (m.marks_are i ∙ k) ∙ m.wanted_are i;
+    wanted_only = λ r h.
+        let w = of_rank marks wanted r (ap (λ xs. at_mark xs r) (sym ranks_are) ∙ h) in
+        (w.0, sym (m.marks_are w.0) ∙ w.1, ap (λ f. rank f w.0) same_keeps ∙ w.2);
   }
 
-  pub is_slice : (lines : List ℕ) (text : Bytes) → lines ≡ lines_of (by_rank marks wanted) 4 (main_body (sliced p m.kept)) → text ≡ header line lines ++ layout (sliced p m.kept) → IsSlice p line text
-  is_slice lines text is same = record { kept = m.kept; is_kept = m.is_kept; lines = lines; are_lines = subst (AreLines p line m.kept) (sym is) are_lines; text_is = same }
+-- ---- its text
 
-  pub is_faithful : (lines : List ℕ) (text : Bytes) → line < 2 ^ 64 → AreShort lines → text ≡ header line lines ++ layout (sliced p m.kept) → IsFaithful p line text
-  is_faithful lines text lt short same =
-      let again = reread (sliced p m.kept) slice_straight 1 (header line lines) (header_comment line lines lt short) in
+-- a line of a layout is at most one more than the number of its bytes
+line_fits : (q : Program) (id n : ℕ) → StartsOn q id n → n ≤ 1 + length (layout q)
+line_fits q id n h =
+    let feeds = count_by-le-length is_feed h.front in
+    let line = h.line in
+    let size = ap length h.text ∙ length-append h.front (h.words ++ h.rest) in
+    omega (arith, feeds, line, size)
+
+short_each : (ks : List ℕ) → ((k : ℕ) → Contains ks k → k < 2 ^ 64) → AreShort ks
+short_each [] h = tt
+short_each (k ∷ ks) h = (h k (contains_head k ks), short_each ks (λ x c. h x (contains_cons k ks x c)))
+
+module _ (p : Program) (line : ℕ) (q : Program) (wanted : List Bool) (well : IsWellFormed p) (straight : IsStraight p) (s : IsSlicedAt p line q wanted) where
+  there : Program
+  there = sliced p s.kept
+
+  abbrev at : ℕ → ℕ
+  at i = rank (keeps p s.kept) i
+
+  well_there : IsWellFormed (sliced p s.kept)
+  well_there = slice_well_formed p (keeps p s.kept) straight well
+
+  well_q : IsWellFormed q
+  well_q = subst IsWellFormed (sym s.program_is) well_there
+
+  -- the wanted ranks and the lines of their statements
+  abbrev Shown : List ℕ → List ℕ → Type 0
+  Shown lines shown = (k : ℕ) → Contains shown k ↔ Contains (shown_lines wanted lines) k
+
+  abbrev AreAll : List ℕ → Type 0
+  AreAll lines = (id : ℕ) → id < q.statements → slice_get lines id ≡ Some (line_of q id)
+
+  rank_low : (r : ℕ) → get_or wanted r false ≡ true → r < q.statements
+  rank_low r h = elim (cases_lt r q.statements) [
+    | inl lt ↦ lt
+    | inr ge ↦ let none : get_or wanted r false ≡ false = get_or_past wanted r false (omega (arith, s.wanted_long, ge)) in cc
+  ]
+
+  some_line : (lines : List ℕ) → AreAll lines → (r n : ℕ) → r < q.statements → slice_get lines r ≡ Some n → n ≡ line_of q r
+  some_line lines all r n lt e = some_same (sym e ∙ all r lt)
+    where
+      some_same : {a b : ℕ} → Some a ≡ Some b → a ≡ b
+      some_same h = cc
+
+  line_there : (i r : ℕ) → at i ≡ r → line_of q r ≡ line_of (sliced p s.kept) (at i)
+  line_there i r e = ap (line_of q) (sym e) ∙ ap (λ x. line_of x (at i)) s.program_is
+
+  line_is : (i k : ℕ) → at i < q.statements → k ≡ suc (line_of (sliced p s.kept) (at i)) → IsLineOf p s.kept i k
+  line_is i k lt e = record {
+    starts = statements_start (sliced p s.kept) well_there (at i) (subst (λ (x : Program). at i < x.statements) s.program_is lt);
+    behind_header = e;
+  }
+
+  lines_found : (lines shown : List ℕ) → AreAll lines → Shown lines shown → (k : ℕ) → Contains shown k → (i : ℕ) × (starts_on p line i ≡ true) × IsLineOf p s.kept i k
+  lines_found lines shown all exact k h =
+      let f = shown_at wanted lines k ((exact k).0 h) in
+      let w = s.wanted_only f.rank f.is_wanted in
+      let lt = rank_low f.rank f.is_wanted in
+      let on : starts_on p line w.0 ≡ true = sym (s.wanted_are w.0 w.1) ∙ ap (λ r. get_or wanted r false) w.2 ∙ f.is_wanted in
+      let is : k ≡ suc (line_of (sliced p s.kept) (at w.0)) = f.behind ∙ ap suc (some_line lines all f.rank f.line lt f.line_is ∙ line_there w.0 f.rank w.2) in
+      (w.0, on, line_is w.0 k (subst (λ r. r < q.statements) (sym w.2) lt) is)
+
+  found_lines : (lines shown : List ℕ) → AreAll lines → Shown lines shown → (k i : ℕ) → starts_on p line i ≡ true → IsLineOf p s.kept i k → Contains shown k
+  found_lines lines shown all exact k i on l =
+      let want : get_or wanted (at i) false ≡ true = s.wanted_are i (criterion_kept p line s.kept s.is_kept i on) ∙ on in
+      let lt = rank_low (at i) want in
+      (exact k).1 (subst (Contains (shown_lines wanted lines)) (sym (l.behind_header ∙ ap suc (sym (line_there i (at i) refl)))) (at_shown wanted lines (at i) (line_of q (at i)) want (all (at i) lt)))
+
+  pub is_slice : (lines shown : List ℕ) (text : Bytes) → AreAll lines → AllPairs (λ a b. a < b) shown → Shown lines shown → text ≡ header line shown ++ layout q → IsSlice p line text
+  is_slice lines shown text all ascending exact is = record {
+    kept = s.kept;
+    is_kept = s.is_kept;
+    lines = shown;
+    are_lines = record {
+      ascending = ascending;
+      members = λ k. (λ h. lines_found lines shown all exact k h, λ h. found_lines lines shown all exact k h.0 h.1 h.2);
+    };
+    text_is = is ∙ ap (λ x. header line shown ++ layout x) s.program_is;
+  }
+
+  shown_short : (lines shown : List ℕ) → AreAll lines → Shown lines shown → length (layout q) ≤ 2 ^ 32 → AreShort shown
+  shown_short lines shown all exact fits = short_each shown (λ k h.
+      let f = shown_at wanted lines k ((exact k).0 h) in
+      let lt = rank_low f.rank f.is_wanted in
+      let is = f.behind in
+      let low = line_fits q f.rank (line_of q f.rank) (statements_start q well_q f.rank lt) in
+      let same = some_line lines all f.rank f.line lt f.line_is in
+      omega (arith, is, low, same, fits))
+
+  pub is_faithful : (lines shown : List ℕ) (text : Bytes) → AreAll lines → Shown lines shown → line < 2 ^ 64 → length (layout q) ≤ 2 ^ 32 → text ≡ header line shown ++ layout q → IsFaithful p line text
+  is_faithful lines shown text all exact low fits is =
+      let short = shown_short lines shown all exact fits in
+      let again : IsReadAgain (header line shown ++ layout q) q = subst (λ front. IsReadAgain (front ++ layout q) q) (header_is_comment line shown) (commented_is_read_again (inside line shown) q (inside_feedless line shown low short) (inside_starless line shown low short) well_q) in
       record {
-        kept = m.kept;
-        is_kept = m.is_kept;
-        program = again.program;
-        reads = subst (λ t. IsTextOf t again.program) (sym same) again.reads;
-        same_program = again.same_program;
-        own_words = subst (All (OwnWords p (keeps p m.kept))) (sym (main_body_is p g.straight)) (own_words p (keeps p m.kept) g.straight);
-        same_values = same_values p again.program line m.kept g.straight m.is_kept again.same_code (same_types again.program (sliced p m.kept) again.same_program);
+        kept = s.kept;
+        is_kept = s.is_kept;
+        program = again.again;
+        reads = record { raw = again.found; accepted = subst (λ t. IsAccepted t again.found again.again) (sym is) again.accepted; within = again.within };
+        same_program = sym again.same ∙ ap unlined_program s.program_is;
+        own_words = subst (All (OwnWords p (keeps p s.kept))) (sym (main_body_is p straight)) (own_words p (keeps p s.kept) straight);
+        same_values = same_values_but_lines p again.again line s.kept straight s.is_kept (sym again.same ∙ ap unlined_program s.program_is);
       }
-
--- ---- what the last steps ask
-
-short_if_so : {A : Type 0} (b : Bool) (x : A) (ys : List A) → length ys ≤ 1 → length (if_so b (x ∷ []) ys) ≤ 1
-short_if_so true x ys le = omega arith
-short_if_so false x ys le = le
-
-module _ (k s' : ℕ → Bool) where
-  short_bare : (l x : ℕ) → length (bare k s' l x) ≤ 1
-  short_bare l x = short_if_so (s' x) (s.Declare None l (rank s' x) init.None) [] (omega arith)
-
-  short_declaration : (id : Option ℕ) (l x : ℕ) (i : Init) → length (declaration k s' id l x i) ≤ 1
-  short_declaration None l x i = short_bare l x
-  short_declaration (Some id) l x i = short_if_so (k id) _ (bare k s' l x) (short_bare l x)
-
-  one_more : (t : Statement) (ts : List Statement) (found : List Statement) → projected k s' t ≡ found → length found ≤ 1 → length (body_projected k s' ts) ≤ length ts → length (body_projected k s' (t ∷ ts)) ≤ length (t ∷ ts)
-  one_more t ts found is le rest =
-      let same = ap length is in omega (arith, same, le, rest, length-append (projected k s' t) (body_projected k s' ts))
-
-  shorter : {n i m j : ℕ} (ss : List Statement) → IsBody n i ss m j → length (body_projected k s' ss) ≤ length ss
-  shorter ss done = omega arith
-  shorter ss (declare {n} {l} {ss = tl} h) = one_more _ tl _ (projected-Declare k s' None l n init.None) (short_declaration None l n init.None) (shorter tl h)
-  shorter ss (begin {n} {i} {l} {a} {ss = tl} sum h) = one_more _ tl _ (projected-Declare k s' (Some i) l n (init.One a)) (short_declaration (Some i) l n (init.One a)) (shorter tl h)
-  shorter ss (assign {i} {l} {x} {a} {ss = tl} lt sum h) = one_more _ tl _ (projected-Assign k s' i l (e.Variable x) None a) (short_if_so (k i) _ [] (omega arith)) (shorter tl h)
-  shorter ss (print {i} {l} {a} {ss = tl} sum h) = one_more _ tl _ (projected-Print k s' i l int_format (a ∷ [])) (short_if_so (k i) _ [] (omega arith)) (shorter tl h)
-
-projected_main : (p : Program) (k : ℕ → Bool) (f : IsStraightLine p) → main_body (project p (main_code p) k) ≡ body_projected k (stays k (main_code p)) f.body
-projected_main p k f =
-    ap (λ gs. option_map_or (λ (g : Function). g.body) (slice_get (map (function_projected k (stays k (main_code p))) gs) 0) []) f.functions_are
-
-pub few_lines : (p : Program) (edges : List Edge) (k : ℕ → Bool) → IsEngine p edges → length (main_body (project p (main_code p) k)) + 4 < 2 ^ 32
-few_lines p edges k g =
-    let f = g.straight in
-    let same = ap length (main_body_is p f) in
-    let few = g.few in
-    let le = shorter k (stays k (main_code p)) f.body f.in_form in
-    let there = ap length (projected_main p k f) in
-    omega (arith, same, few, le, there)
-
-short_lines : (w : List Bool) (ts : List Statement) (n : ℕ) → length ts + n < 2 ^ 64 → AreShort (lines_of w n ts)
-short_lines w [] n lt = tt
-short_lines w (t ∷ ts) n lt = by_test (lines_of w (n + 1) ts) (any_marked w (starts t)) (short_lines w ts (n + 1) (omega (arith, lt)))
-  where
-    by_test : (ls : List ℕ) (b : Bool) → AreShort ls → AreShort (line_if b n ls)
-    by_test ls true h = (omega (arith, lt), h)
-    by_test ls false h = h
-
--- the text that was put together is the slice, and is read again with the same values
-module _ (p q : Program) (edges : List Edge) (line : ℕ) (wanted marks ranks : List Bool) (body : List Statement) (lines : List ℕ) (front behind text : Bytes) (g : IsEngine p edges) (m : AreMarks p line wanted marks) (q_is : q ≡ project p (main_code p) (at_mark marks)) (body_is : body ≡ main_body q) where
-  pub kept_straight : IsStraightLine q
-  kept_straight = subst IsStraightLine (sym q_is) (straight p (at_mark marks) g.straight)
-
-  pub kept_few : length body + 4 < 2 ^ 32
-  kept_few = let few = few_lines p edges (at_mark marks) g in let same = ap length (body_is ∙ ap main_body q_is) in omega (arith, few, same)
-
-  q_sliced : sliced p m.kept ≡ q
-  q_sliced = slice_program p edges line wanted marks g m ∙ sym q_is
-
-  module _ (ranks_are : ranks ≡ by_rank marks wanted) (lines_are : lines ≡ lines_of ranks 4 body) (front_is : front ≡ header line lines) (behind_is : behind ≡ layout q) (text_is : text ≡ front ++ behind) where
-    lines_there : lines ≡ lines_of (by_rank marks wanted) 4 (main_body (sliced p m.kept))
-    lines_there = lines_are ∙ ap (λ r. lines_of r 4 body) ranks_are ∙ ap (lines_of (by_rank marks wanted) 4) (body_is ∙ ap main_body (sym q_sliced))
-
-    text_there : text ≡ header line lines ++ layout (sliced p m.kept)
-    text_there = text_is ∙ ap (λ b. b ++ behind) front_is ∙ ap (λ b. header line lines ++ b) (behind_is ∙ ap layout (sym q_sliced))
-
-    pub text_is_slice : IsSlice p line text
-    text_is_slice = is_slice p edges line wanted marks g m lines text lines_there text_there
-
-    short : AreShort lines
-    short = let few = kept_few in subst AreShort (sym lines_are) (short_lines ranks body 4 (omega (arith, few)))
-
-    pub text_is_faithful : line < 2 ^ 32 → IsFaithful p line text
-    text_is_faithful lt = is_faithful p edges line wanted marks g m lines text (omega (arith, lt)) short text_there

@@ -1,7 +1,6 @@
 -- The meaning, a recursion over whole lists, is what the small steps come to, for every number of acts.
-use Rattle.std.proofs.Common.{◌≡◌, ℕ, zero, suc, ◌<◌, ◌≤◌, ℤ, List, Option, Some, None, Bool, true, false, refl, ap, subst, arith}
-use Rattle.c_tree.specs.declared.expr.Expr.{Expr}
-use Rattle.c_language.specs.Code.{Tests, Code, End, Opens, Plain, Fork, Loop, Leaves, Call, ◌⨟◌, is_true, either}
+use Rattle.std.proofs.Common.{◌≡◌, ℕ, zero, suc, ◌<◌, ◌≤◌, List, Option, Some, None, Bool, true, false, refl, ap, subst, arith}
+use Rattle.c_language.specs.Code.{Code, End, Opens, Plain, Fork, Loop, Leaves, Call, ◌⨟◌, is_true, either}
 use Rattle.c_meaning.specs.Values.{Types, State, opened, all_closed}
 use Rattle.c_meaning.specs.Acts.{Made, made, after, picked}
 use Rattle.c_meaning.specs.Meaning.{Trace, Answer, Ended, More, Outcome, Done, Over, Go, told, then_do, after_made, take_act, not_built, exec, deep, answer, nothing, opening, code_meaning}

@@ -1,21 +1,20 @@
 -- The numbers of statements as vertices, and the numbers that stand in a list.
-use Rattle.std.proofs.Common.{◌≡◌, ℤ, ℕ, zero, suc, ◌+◌, ◌<◌, ◌≤◌, List, [], ◌∷◌, map, get_or, slice_get, Option, Some, None, Bool, true, false, ◌&&◌, inl, inr, refl, sym, ap, ◌∙◌, subst, eq-eqb, IsTrue, arith}
+use Rattle.std.proofs.Common.{◌≡◌, ℤ, ℕ, zero, suc, ◌+◌, ◌<◌, ◌≤◌, List, [], ◌∷◌, length, map, get_or, slice_get, Option, Some, None, Bool, true, false, ◌&&◌, inl, inr, refl, sym, ap, ◌∙◌, subst, eq-eqb, IsTrue, arith}
 use Rattle.std.proofs.lemmas.Option.{slice_get-map}
 use Rattle.std.specs.Option.{option_map}
 use Rattle.bit_rows.specs.Sets.{has}
-use Rattle.c_tree.specs.declared.expr.Expr.TheVariants as e
 use Rattle.c_tree.specs.declared.program.Program.{Program}
 use Rattle.c_tree.specs.declared.statement.Statement.{Statement}
 use Rattle.c_tree.specs.declared.program.Init.TheVariants as init
 use Rattle.c_language.specs.Code.{Tests, Code, End, Opens, Plain, Fork, Loop, Leaves, Call, code}
-use Rattle.c_language.specs.StraightLine.{int_format, IsBody, done, declare, begin, assign, print}
+use Rattle.built_forms.specs.Straight.{IsBody, done, declare, begin, assign, print}
 use Rattle.dep_model.specs.declared.location.Location.{Location}
 use Rattle.dep_model.specs.declared.vertex.Vertex.{Vertex}
 use Rattle.dep_model.specs.declared.vertex.VertexKind.TheVariants.{Statement as AtStatement}
 use Rattle.dep_model.specs.Follows.{InTurn, last, more}
 use Rattle.dep_model.proofs.PlainSteps.{Step, step, start, Follows, Chain}
 use Rattle.dep_model.specs.MainVertices.{from, vertices}
-use Rattle.slice_engine.specs.Projection.{is_of, is_kept}
+use Rattle.slice_engine.specs.KeptStatements.{is_of, is_kept}
 use Rattle.std.proofs.lemmas.Bool.{or_left, or_right, or_cases, and_from, and_parts, ne_eqb}
 use Rattle.slice_engine.proofs.Bools.{or_false}
 use Rattle.slice_engine.proofs.Codes.{code_of-Declare, code_of-Assign, code_of-Print}
@@ -46,12 +45,12 @@ body_below n i ss m j (declare {l = l} {ss = rest} h) =
 body_below n i ss m j (begin {l = l} {a = a} {ss = rest} sum h) =
     let r = body_below (n + 1) (i + 1) rest m j h in
     (omega (arith, r.0), subst (AreBelow j) (sym (code_of-Declare (Some i) l n (init.One a) (code rest))) (omega (arith, r.0), r.1))
-body_below n i ss m j (assign {l = l} {x = x} {a = a} {ss = rest} lt sum h) =
+body_below n i ss m j (assign {l = l} {a = a} {b = b} {ss = rest} place term h) =
     let r = body_below n (i + 1) rest m j h in
-    (omega (arith, r.0), subst (AreBelow j) (sym (code_of-Assign i l (e.Variable x) None a (code rest))) (omega (arith, r.0), r.1))
-body_below n i ss m j (print {l = l} {a = a} {ss = rest} sum h) =
+    (omega (arith, r.0), subst (AreBelow j) (sym (code_of-Assign i l a None b (code rest))) (omega (arith, r.0), r.1))
+body_below n i ss m j (print {l = l} {format = format} {args = args} {ss = rest} built terms h) =
     let r = body_below n (i + 1) rest m j h in
-    (omega (arith, r.0), subst (AreBelow j) (sym (code_of-Print i l int_format (a ∷ []) (code rest))) (omega (arith, r.0), r.1))
+    (omega (arith, r.0), subst (AreBelow j) (sym (code_of-Print i l format args (code rest))) (omega (arith, r.0), r.1))
 
 start_below : (n : ℕ) (c : Code) (k : Option Step) → AreBelow n c → IsBelow n k → IsBelow n (start c k)
 start_below n End k h b = b
@@ -133,6 +132,17 @@ kept_vertex p [] i lt = refl
 kept_vertex p (b ∷ bs) i lt =
     let e : 0 + i ≡ i = omega arith in
     subst (λ j. is_kept (map at_statement (from 0 p.statements)) bs j ≡ get_or bs i false) e (kept_from 0 p.statements i bs lt)
+
+length_from : (i n : ℕ) → length (from i n) ≡ n
+length_from i zero = refl
+length_from i (suc n) = ap suc (length_from (suc i) n)
+
+length_map : (xs : List ℕ) → length (map at_statement xs) ≡ length xs
+length_map [] = refl
+length_map (x ∷ xs) = ap suc (length_map xs)
+
+pub length-vertices : (p : Program) → length (vertices p) ≡ suc p.statements
+length-vertices p = ap suc (length_map (from 0 p.statements) ∙ length_from 0 p.statements)
 
 -- ---- sets of vertices
 

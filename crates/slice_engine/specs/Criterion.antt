@@ -1,12 +1,10 @@
--- Sets of statements as lists of tests, and the lines of a criterion's statements, as they are found in one pass.
-use Rattle.std.specs.Prelude.{ℕ, suc, ◌+◌, ◌==◌, List, [], ◌∷◌, ◌++◌, Bool, true, false, slice_set, slice_index_or, Option, Some, None}
-use Rattle.c_tree.specs.Numbered.{Start, Starts, starts}
-use Rattle.c_tree.specs.declared.statement.Statement.{Statement}
+-- Sets of statements as lists of tests, as they are found in one pass.
+use Rattle.std.specs.Prelude.{ℕ, suc, ◌+◌, ◌==◌, List, [], ◌∷◌, map, Bool, true, false, slice_set}
+use Rattle.c_tree.specs.Numbered.{Starts, start}
 
--- what a number and a line say of a statement's start
-abbrev pub start_list : Option (ℕ × ℕ) → Starts
-start_list None = []
-start_list (Some s) = (record { id = s.0; line = s.1 }) ∷ []
+-- the starts that pairs of a number and a line stand for
+abbrev pub starts_of : List (ℕ × ℕ) → Starts
+starts_of = map (λ s. start s.0 s.1)
 
 abbrev pub marked_if : Bool → ℕ → List Bool → List Bool
 marked_if true v x = slice_set x v true
@@ -27,15 +25,12 @@ by_rank [] bs = []
 by_rank (m ∷ ms) [] = []
 by_rank (m ∷ ms) (b ∷ bs) = if_mark m b (by_rank ms bs)
 
-abbrev pub any_marked : List Bool → Starts → Bool
-any_marked wanted [] = false
-any_marked wanted (s ∷ ss) = slice_index_or wanted s.id false
-
 abbrev pub line_if : Bool → ℕ → List ℕ → List ℕ
 line_if true n ls = n ∷ ls
 line_if false n ls = ls
 
--- the lines of the wanted statements, where each statement stands on a line of its own from line n on
-abbrev pub lines_of : List Bool → ℕ → List Statement → List ℕ
-lines_of wanted n [] = []
-lines_of wanted n (t ∷ ts) = line_if (any_marked wanted (starts t)) n (lines_of wanted (n + 1) ts)
+-- the lines where the first list's test holds, each behind a header of one line
+abbrev pub shown_lines : List Bool → List ℕ → List ℕ
+shown_lines [] ls = []
+shown_lines (b ∷ bs) [] = []
+shown_lines (b ∷ bs) (l ∷ ls) = line_if b (suc l) (shown_lines bs ls)

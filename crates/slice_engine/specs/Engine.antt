@@ -1,19 +1,32 @@
 -- What an engine holds, and what its marks say of a line.
-use Rattle.std.specs.Prelude.{◌≡◌, ℕ, ◌+◌, ◌^◌, ◌<◌, List, Bool, false, length, replicate, slice_index_or}
+use Rattle.std.specs.Prelude.{◌≡◌, ℕ, ◌+◌, ◌^◌, ◌<◌, List, Bool, true, false, length, All, slice_index_or}
 use Rattle.c_tree.specs.declared.program.Program.{Program}
-use Rattle.c_language.specs.StraightLine.{IsStraightLine}
-use Rattle.c_meaning.specs.Meaning.{main_code}
+use Rattle.c_tree.specs.Numbered.{program_starts}
+use Rattle.c_language.specs.Programs.{IsWellFormed}
+use Rattle.built_forms.specs.Straight.{IsStraight}
 use Rattle.dep_model.specs.declared.edge.Edge.{Edge}
-use Rattle.slice_engine.specs.Slice.{main_body, starts_on, keeps, IsReached, IsKept}
+use Rattle.dep_model.specs.SystemGraph.{Analysis, IsAnalysis, AreSystemEdges}
+use Rattle.dep_model.specs.Words.{IsPlain, IsEdgeWithin}
 use Rattle.dep_model.specs.Completion.{IsCompletion, NamesNone}
-use Rattle.slice_engine.specs.Edges.{edges_of}
+use Rattle.slice_engine.specs.Criterion.{starts_of}
+use Rattle.projection.specs.Kept.{rank}
+use Rattle.slice_engine.specs.Slice.{starts_on, keeps, sliced, IsReached, IsKept}
 
--- a program of the form with its edges, small enough that its statements and lines have numbers of 32 bits
-pub record IsEngine (p : Program) (edges : List Edge) : Type 0 where
-  pub straight : IsStraightLine p
-  pub few : length (main_body p) + 4 < 2 ^ 32
-  pub statements : p.statements + 1 < 2 ^ 32
-  pub edges_are : edges ≡ edges_of (replicate (length p.vars) 0) (main_code p)
+-- the edges of a program's system graph
+pub record HasEdges (p : Program) (edges : List Edge) : Type 0 where
+  pub analysis : Analysis
+  pub is_analysis : IsAnalysis p analysis
+  pub are_edges : AreSystemEdges p analysis edges
+  pub plain : IsPlain edges
+  pub within : All (IsEdgeWithin (p.statements + 1)) edges
+
+-- a well-formed program of the built forms with its edges and its statements' starts, small enough that its vertices have numbers of 32 bits
+pub record IsEngine (p : Program) (edges : List Edge) (starts : List (ℕ × ℕ)) : Type 0 where
+  pub well_formed : IsWellFormed p
+  pub straight : IsStraight p
+  pub few : p.statements + 1 < 2 ^ 32
+  pub has_edges : HasEdges p edges
+  pub starts_are : starts_of starts ≡ program_starts p
 
 -- a set is the completion of what reaches another one
 pub record KeepsFrom (edges : List Edge) (criterion kept : List Bool) : Type 0 where
@@ -29,3 +42,13 @@ pub record AreMarks (p : Program) (line : ℕ) (wanted marks : List Bool) : Type
   pub marks_long : length marks ≡ p.statements
   pub wanted_are : (i : ℕ) → slice_index_or wanted i false ≡ starts_on p line i
   pub marks_are : (i : ℕ) → slice_index_or marks i false ≡ keeps p kept i
+
+-- a program is that of the slice at a line, and these of its statements are the criterion's
+pub record IsSlicedAt (p : Program) (line : ℕ) (q : Program) (wanted : List Bool) : Type 0 where
+  pub kept : List Bool
+  pub is_kept : IsKept p line kept
+  pub program_is : q ≡ sliced p kept
+  pub wanted_long : length wanted ≡ q.statements
+  -- each kept statement stands at its rank
+  pub wanted_are : (i : ℕ) → keeps p kept i ≡ true → slice_index_or wanted (rank (keeps p kept) i) false ≡ starts_on p line i
+  pub wanted_only : (r : ℕ) → slice_index_or wanted r false ≡ true → (i : ℕ) × (keeps p kept i ≡ true) × (rank (keeps p kept) i ≡ r)

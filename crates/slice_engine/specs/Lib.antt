@@ -1,9 +1,5 @@
 pub mod Criterion
-pub mod Projection
+pub mod KeptStatements
 pub mod Slice
-pub mod Edges
 pub mod Engine
-pub mod Forms
-pub mod Reading
-pub mod Marks
 pub mod OwnWords

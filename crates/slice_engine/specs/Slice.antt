@@ -1,5 +1,5 @@
 -- The slice of a program at a line: the vertices that it keeps, its program and its text.
-use Rattle.std.specs.Prelude.{◌≡◌, ◌↔◌, ℕ, suc, ◌+◌, ◌^◌, ◌<◌, ◌==◌, ◌&&◌, List, [], ◌∷◌, ◌++◌, length, Bool, true, false, if◌then◌else◌, Contains, AllPairs, IsTrue, codes, map, slice_get, All}
+use Rattle.std.specs.Prelude.{◌≡◌, ◌↔◌, ℕ, suc, ◌<◌, ◌==◌, ◌&&◌, List, [], ◌∷◌, ◌++◌, length, Bool, true, false, Contains, AllPairs, IsTrue, codes, map, slice_get, All}
 use Rattle.std.specs.List.{list_any}
 use Rattle.std.specs.Option.{option_map_or}
 use Rattle.std.specs.Fmt.{decimal}
@@ -7,24 +7,24 @@ use Rattle.bit_rows.specs.Sets.{has}
 use Rattle.c_tree.specs.declared.program.Program.{Program}
 use Rattle.c_tree.specs.declared.program.Function.{Function}
 use Rattle.c_tree.specs.declared.statement.Statement.{Statement}
-use Rattle.c_tree.specs.Numbered.{Start, start, starts, program_starts}
+use Rattle.c_tree.specs.Numbered.{Start, program_starts}
 use Rattle.c_tree.specs.Unlined.{SameButLines}
 use Rattle.c_language.specs.Words.{Bytes}
-use Rattle.c_language.specs.Layout.{layout, statement_lines}
-use Rattle.c_language.specs.StraightLine.{IsTextOf}
+use Rattle.c_language.specs.Layout.{layout}
+use Rattle.c_print.specs.Lines.{line_of}
+use Rattle.c_print.specs.StartsOn.{StartsOn}
+use Rattle.c_reader.specs.Reading.{HasProgram}
 use Rattle.c_meaning.specs.declared.event.Event.{Event}
-use Rattle.c_meaning.specs.Meaning.{Trace, Ended, meaning, main_code, at}
+use Rattle.c_meaning.specs.Meaning.{Trace, Ended, meaning, at}
 use Rattle.dep_model.specs.declared.edge.Edge.{Edge}
 use Rattle.dep_model.specs.Words.{ReachesAny}
 use Rattle.dep_model.specs.Completion.{IsCompletion, NamesNone}
 use Rattle.dep_model.specs.SystemGraph.{Analysis, IsAnalysis, AreSystemEdges}
 use Rattle.dep_model.specs.MainVertices.{vertices}
-use Rattle.slice_engine.specs.Projection.{is_kept, rank, project}
+use Rattle.projection.specs.Kept.{rank}
+use Rattle.projection.specs.Projection.{projection}
+use Rattle.slice_engine.specs.KeptStatements.{is_kept}
 use Rattle.slice_engine.specs.OwnWords.{OwnWords}
-
--- a program of some text
-abbrev pub IsSomeText : Program → Type 0
-IsSomeText p = (text : Bytes) × (length text < 2 ^ 32) × IsTextOf text p
 
 -- whether a statement starts on a line
 abbrev pub starts_on : Program → ℕ → ℕ → Bool
@@ -63,24 +63,20 @@ keeps p kept = is_kept (vertices p) kept
 
 -- the program of the slice that keeps these vertices
 abbrev pub sliced : Program → List Bool → Program
-sliced p kept = project p (main_code p) (keeps p kept)
-
-abbrev pub line_feeds : Bytes → ℕ
-line_feeds [] = 0
-line_feeds (b ∷ bs) = if b == 10 then suc (line_feeds bs) else line_feeds bs
-
--- a statement stands on a line, where the first of the list stands on line n
-pub data StandsOn (p : Program) (i : ℕ) : ℕ → List Statement → ℕ → Type 0 where
-  here : {n l : ℕ} {s : Statement} {ss : List Statement} → Contains (starts s) (start i l) → StandsOn p i n (s ∷ ss) n
-  later : {n m : ℕ} {s : Statement} {ss : List Statement} → StandsOn p i (n + line_feeds (statement_lines p 1 s)) ss m → StandsOn p i n (s ∷ ss) m
+sliced p kept = projection p (keeps p kept)
 
 abbrev pub main_body : Program → List Statement
 main_body p = option_map_or (λ (f : Function). f.body) (slice_get p.functions 0) []
 
--- the lines of the criterion's statements in the slice's text, whose header is line 1
+-- in the slice's text, whose first line is the header, a line is the one on which a statement of the program starts
+pub record IsLineOf (p : Program) (kept : List Bool) (i k : ℕ) : Type 0 where
+  pub starts : StartsOn (sliced p kept) (rank (keeps p kept) i) (line_of (sliced p kept) (rank (keeps p kept) i))
+  pub behind_header : k ≡ suc (line_of (sliced p kept) (rank (keeps p kept) i))
+
+-- the lines of the criterion's statements in the slice's text
 pub record AreLines (p : Program) (line : ℕ) (kept : List Bool) (lines : List ℕ) : Type 0 where
   pub ascending : AllPairs (λ a b. a < b) lines
-  pub members : (k : ℕ) → Contains lines k ↔ ((i : ℕ) × (starts_on p line i ≡ true) × StandsOn (sliced p kept) (rank (keeps p kept) i) 4 (main_body (sliced p kept)) k)
+  pub members : (k : ℕ) → Contains lines k ↔ ((i : ℕ) × (starts_on p line i ≡ true) × IsLineOf p kept i k)
 
 abbrev pub spaced : List ℕ → Bytes
 spaced [] = []
@@ -112,12 +108,12 @@ abbrev pub HasSameValues : Program → ℕ → List Bool → Program → Type 0
 HasSameValues p line kept q =
     (n : ℕ) (input : List ℕ) (t : Trace) → meaning n p input ≡ Ended t → (u : Trace) × (meaning n q input ≡ Ended u) × (at (is_criterion p line kept) u.events ≡ map (ranked (keeps p kept)) (at (starts_on p line) t.events))
 
--- a text is read again: its program is the slice but for line numbers, each kept statement has its own words in it, and it gives the same values
+-- a text is accepted: its program is the slice but for line numbers, each kept statement has its own words in it, and it gives the same values
 pub record IsFaithful (p : Program) (line : ℕ) (text : Bytes) : Type 0 where
   pub kept : List Bool
   pub is_kept : IsKept p line kept
   pub program : Program
-  pub reads : IsTextOf text program
+  pub reads : HasProgram text program
   pub same_program : SameButLines program (sliced p kept)
   pub own_words : All (OwnWords p (keeps p kept)) (main_body p)
   pub same_values : HasSameValues p line kept program

@@ -1,19 +1,33 @@
-ghost use Rattle.std.specs.Prelude.{◌≡◌, ◌+◌, ◌^◌, ◌<◌, ◌++◌, All, IfOk, OnOk, IsTrue, ◌↔◌, MatchOption, length, replicate, true};
+ghost use Rattle.std.specs.Prelude.{◌≡◌, ◌≤◌, ◌+◌, ◌^◌, ◌<◌, ◌++◌, ℕ, All, IfOk, IsTrue, ◌↔◌, MatchOption, None, length};
+ghost use Rattle.bit_rows.specs.Sets.{has};
+ghost use Rattle.built_forms.specs.BuiltForms.{not_yet};
+ghost use Rattle.built_forms.specs.Straight.{IsStraight};
+ghost use Rattle.c_language.specs.Programs.{IsWellFormed};
 ghost use Rattle.c_language.specs.Layout.{layout};
-ghost use Rattle.c_meaning.specs.Meaning.{main_code};
-ghost use Rattle.slice_engine.specs.Slice.{IsSomeText, HasStart, IsSlice, IsFaithful, main_body};
-ghost use Rattle.slice_engine.specs.Engine.{IsEngine, AreMarks, KeepsFrom};
-ghost use Rattle.dep_model.specs.Words.{IsPlain, IsEdgeWithin};
+ghost use Rattle.projection.specs.Projection.{projection};
+ghost use Rattle.slice_engine.specs.Criterion as marks;
+ghost use Rattle.slice_engine.specs.Slice.{HasStart, IsSlice, IsFaithful};
+ghost use Rattle.slice_engine.specs.Engine.{IsEngine, AreMarks, IsSlicedAt};
 
-use crate::criterion::{any_starts_on, by_rank, criterion_set, lines_of, marks_of};
-use crate::edges::edges_of;
-use crate::projection::project;
-use crate::text::header;
-use c_print::print;
-use c_tree::{Program, Statement, Text};
-use dep_model::{Edge, PlainGraph, VertexSet};
+use crate::criterion::{any_starts_on, by_rank, criterion_set, marks_of};
+use crate::graph::{edges_of, keep};
+use crate::header::{header, header_lines};
+use crate::starts::{Start, starts_in};
+use c_print::{lines_of, print};
+use c_tree::{Program, Text};
+use dep_model::Edge;
+use projection::project;
 use std::alloc::{AllocError, Global};
 use std::marker::Model;
+
+// The most bytes that the layout of a slice may have, so that its lines have numbers of 32 bits.
+const MAX_LAYOUT_BYTES: usize = 4_294_967_296;
+
+// The most statements and variables that a program may have, so that vertices and locations have numbers of
+// 32 bits.
+const MAX_STATEMENTS: u32 = 4_294_967_293;
+
+const MAX_VARIABLES: usize = 4_294_967_293;
 
 /// What a slice is made for: the statements that start on a line, counted from 1.
 #[derive(Clone, Copy, Debug, PartialEq, Eq)]
@@ -21,11 +35,13 @@ pub struct Criterion {
     pub line: u32,
 }
 
-/// A program with its dependence graph, from which slices are made. Contracts see the program.
+/// A program with its system dependence graph (Horwitz, Reps and Binkley 1990), from which slices are
+/// made. Contracts see the program.
 #[derive(Drop)]
 pub struct Engine {
     program: Program,
     edges: Vec<Edge>,
+    starts: Vec<Start>,
 }
 
 impl Model for Engine {
@@ -40,24 +56,38 @@ impl Model for Engine {
 
     ghost view = { λ e. e.program };
 
-    ghost invariant = { λ e. IsEngine e.program e.edges.items };
+    ghost invariant = { λ e. IsEngine e.program e.edges.items e.starts.items };
 }
 
 impl Engine {
-    /// The engine of a program that was read from a text.
+    /// The engine of a program of which nothing is outside the built forms, as [`not_yet`](crate::not_yet) tells.
+    ///
+    /// # Errors
+    ///
+    /// `AllocError` where memory runs out, also for a program of more than 4,294,967,293 statements or
+    /// variables, whose graph would have more vertices or locations than its numbers can tell apart.
     pub fn new(alloc: Global, p: Program) -> Result<Engine, AllocError>
-        requires { IsSomeText p }
+        requires well_formed { IsWellFormed p }
+        requires built { not_yet p ≡ None }
         ensures { IfOk result (λ e. e ≡ p) }
     {
-        let edges = program_edges(alloc, &p)?;
-        Ok(Engine { program: p, edges })
+        if p.statements > MAX_STATEMENTS || p.vars.len() > MAX_VARIABLES {
+            return Err(AllocError);
+        }
+        let edges = edges_of(alloc, &p)?;
+        let starts = starts_in(alloc, &p)?;
+        Ok(Engine {
+            program: p,
+            edges,
+            starts,
+        })
     }
 
     /// The criterion of a line, or None exactly where no statement starts on it.
     pub fn criterion(&self, line: u32) -> Option<Criterion>
         ensures { MatchOption result (HasStart self.now line → ⊥) (λ c. (c.line ≡ line) × HasStart self.now line) }
     {
-        if has_start(&self.program, &self.edges, line) {
+        if has_start(&self.program, &self.edges, &self.starts, line) {
             Some(Criterion { line })
         } else {
             None
@@ -67,42 +97,24 @@ impl Engine {
     /// The text of the slice: a header, and the layout of the program that the kept statements
     /// make (Binkley 1993). Each input on which the program ends gives the same values at the
     /// criterion in both.
+    ///
+    /// # Errors
+    ///
+    /// `AllocError` where memory runs out, also for a slice whose layout has more than 4,294,967,296 bytes.
     pub fn slice_text(&self, alloc: Global, c: Criterion) -> Result<Text, AllocError>
         requires { HasStart self.now c.line }
         ensures slice { IfOk result (λ t. IsSlice self.now c.line t) }
         ensures faithful { IfOk result (λ t. IsFaithful self.now c.line t) }
     {
-        text_of(alloc, &self.program, &self.edges, c.line)
+        text_of(alloc, &self.program, &self.edges, &self.starts, c.line)
     }
 }
 
-// The statements of main.
-fn body_of(p: &Program) -> &[Statement]
-    ensures { result.now ≡ main_body p.now }
-{
-    match p.functions.as_slice() {
-        [main, ..] => main.body.as_slice(),
-        [] => &[],
-    }
-}
-
-// The edges of the program's dependence graph.
-fn program_edges(alloc: Global, p: &Program) -> Result<Vec<Edge>, AllocError>
-    requires { IsSomeText p.now }
-    ensures { IfOk result (λ edges. IsEngine p.now edges.items) }
-{
-    let body = body_of(p);
-    let variables = p.vars.len();
-    let edges = edges_of(alloc, body, variables)?;
-    Ok(edges)
-}
-
-fn has_start(p: &Program, edges: &[Edge], line: u32) -> bool
-    requires { IsEngine p.now edges.now }
+fn has_start(p: &Program, edges: &[Edge], starts: &[Start], line: u32) -> bool
+    requires { IsEngine p.now edges.now starts.now }
     ensures { IsTrue result ↔ HasStart p.now line }
 {
-    let body = body_of(p);
-    any_starts_on(body, line)
+    any_starts_on(starts, line)
 }
 
 /// For each statement whether it starts on the line, and whether the slice keeps it.
@@ -112,47 +124,67 @@ struct Marks {
     kept: Vec<bool>,
 }
 
-fn marks_at(alloc: Global, p: &Program, edges: &[Edge], line: u32) -> Result<Marks, AllocError>
-    requires { IsEngine p.now edges.now }
+fn marks_at(
+    alloc: Global,
+    p: &Program,
+    edges: &[Edge],
+    starts: &[Start],
+    line: u32,
+) -> Result<Marks, AllocError>
+    requires { IsEngine p.now edges.now starts.now }
     ensures { IfOk result (λ m. AreMarks p.now line m.wanted.items m.kept.items) }
 {
-    let body = body_of(p);
     let vertices = p.statements + 1;
-    let mut set = criterion_set(alloc, body, line, vertices)?;
+    let mut set = criterion_set(alloc, starts, line, vertices)?;
     let wanted = marks_of(alloc, &set, p.statements)?;
     keep(alloc, edges, vertices, &mut set)?;
     let kept = marks_of(alloc, &set, p.statements)?;
     Ok(Marks { wanted, kept })
 }
 
-// Makes the set the completion of what reaches it.
-fn keep(alloc: Global, edges: &[Edge], vertices: u32, set: &mut VertexSet) -> Result<(), AllocError>
-    requires plain { IsPlain edges.now }
-    requires ends { All (IsEdgeWithin vertices) edges.now }
-    requires size { length set.old ≡ vertices }
-    requires main { 0 < vertices }
-    ensures kept { OnOk result (KeepsFrom edges.now set.old set.new) }
-    ensures size { OnOk result (length set.new ≡ length set.old) }
+/// The program of a slice, and for each of its statements whether it is one of the criterion.
+#[derive(Drop)]
+struct Sliced {
+    program: Program,
+    wanted: Vec<bool>,
+}
+
+fn sliced_at(
+    alloc: Global,
+    p: &Program,
+    edges: &[Edge],
+    starts: &[Start],
+    line: u32,
+) -> Result<Sliced, AllocError>
+    requires { IsEngine p.now edges.now starts.now }
+    ensures { IfOk result (λ s. IsSlicedAt p.now line s.program s.wanted.items) }
 {
-    let mut graph = PlainGraph::prepare(alloc, vertices, edges)?;
-    graph.reach(set);
-    graph.complete(0, set);
-    Ok(())
+    let marks = marks_at(alloc, p, edges, starts, line)?;
+    let program = project(alloc, p, marks.kept.as_slice())?;
+    let wanted = by_rank(alloc, marks.kept.as_slice(), marks.wanted.as_slice())?;
+    Ok(Sliced { program, wanted })
 }
 
 // The text of the slice at a line.
-fn text_of(alloc: Global, p: &Program, edges: &[Edge], line: u32) -> Result<Text, AllocError>
-    requires { IsEngine p.now edges.now }
+fn text_of(
+    alloc: Global,
+    p: &Program,
+    edges: &[Edge],
+    starts: &[Start],
+    line: u32,
+) -> Result<Text, AllocError>
+    requires { IsEngine p.now edges.now starts.now }
     ensures slice { IfOk result (λ t. IsSlice p.now line t) }
     ensures faithful { IfOk result (λ t. IsFaithful p.now line t) }
 {
-    let marks = marks_at(alloc, p, edges, line)?;
-    let kept = project(alloc, p, marks.kept.as_slice())?;
-    let ranks = by_rank(alloc, marks.kept.as_slice(), marks.wanted.as_slice())?;
-    let body = body_of(&kept);
-    let lines = lines_of(alloc, ranks.as_slice(), body)?;
-    let mut text = header(alloc, line, lines.as_slice())?;
-    let layout = print(alloc, &kept)?;
+    let sliced = sliced_at(alloc, p, edges, starts, line)?;
+    let layout = print(alloc, &sliced.program)?;
+    if layout.bytes().len() > MAX_LAYOUT_BYTES {
+        return Err(AllocError);
+    }
+    let lines = lines_of(alloc, &sliced.program)?;
+    let shown = header_lines(alloc, sliced.wanted.as_slice(), lines.as_slice())?;
+    let mut text = header(alloc, line, shown.as_slice())?;
     text.append(layout.bytes())?;
     Ok(text)
 }

@@ -2,14 +2,12 @@
 #![tactic(auto)]
 
 mod criterion;
-mod edges;
 mod engine;
-mod form;
-mod projection;
-mod reading;
-mod text;
+mod graph;
+mod header;
+mod starts;
 
+pub use built_forms::not_yet;
 pub use c_reader::{LexFault, ParseFault, ReadRefusal, RuleFault, read_program};
-pub use c_tree::{Program, Text};
+pub use c_tree::{LimitName, Program, Text};
 pub use engine::{Criterion, Engine};
-pub use reading::{StraightLineRefusal, read_straight_line};

@@ -3,8 +3,14 @@
 #![tactic(auto)]
 
 #[cfg(test)]
+mod built_tests;
+#[cfg(test)]
 mod order_tests;
+#[cfg(test)]
+mod refusal_tests;
 #[cfg(test)]
 mod run_tests;
 #[cfg(test)]
-mod straight_line_tests;
+mod running;
+#[cfg(test)]
+mod spelling_tests;

@@ -4,6 +4,7 @@ ghost use Rattle.c_language.specs.Words.{Bytes};
 ghost use Rattle.slicer_top.specs.Words.{IsInForm, file_of, line_of};
 ghost use Rattle.slicer_top.specs.Slices.{StartsOn, IsSliceOf};
 
+use crate::running::{Ended, Failing, NONE_FAILING, file, program, run, words_of};
 use edge_io::{MemoryShelf, MemorySink};
 use slicer_top::{Status, Text, run_slicer};
 use std::alloc::{AllocError, Global};
@@ -50,45 +51,6 @@ const USAGE: &str = "usage: slicer slice FILE LINE\n";
 
 const MAX_FILE_BYTES: usize = 1_048_576;
 
-// How a call ended, and what the sinks have gained.
-#[derive(Drop)]
-struct Ended {
-    status: Status,
-    out: Text,
-    err: Text,
-}
-
-// Which calls fail: the numbers of fetches, and of puts with the bytes that each takes before.
-#[derive(Clone, Copy)]
-struct Failing<'a> {
-    fetches: &'a [u64],
-    out: &'a [(u64, usize)],
-    err: &'a [(u64, usize)],
-}
-
-const NONE_FAILING: Failing<'static> = Failing {
-    fetches: &[],
-    out: &[],
-    err: &[],
-};
-
-fn run(
-    alloc: Global,
-    words: &[Text],
-    files: Vec<(Text, Text)>,
-    failing: &Failing<'_>,
-) -> Result<Ended, AllocError> {
-    let mut shelf = MemoryShelf::new(files, failing.fetches.to_vec(alloc)?);
-    let mut out = MemorySink::new(alloc, 4096, failing.out.to_vec(alloc)?)?;
-    let mut err = MemorySink::new(alloc, 4096, failing.err.to_vec(alloc)?)?;
-    let status = run_slicer(alloc, words, &mut shelf, &mut out, &mut err);
-    Ok(Ended {
-        status,
-        out: Text::from_slice(alloc, out.bytes())?,
-        err: Text::from_slice(alloc, err.bytes())?,
-    })
-}
-
 // Over one file and sinks in memory without failing numbers, with room for the slice and for `out of memory`:
 // the slice is written, or memory was wanting.
 fn run_without_failing(
@@ -110,27 +72,6 @@ fn run_without_failing(
     let mut err = MemorySink::new(alloc, 14, Vec::new(alloc))?;
     let status = run_slicer(alloc, words, &mut shelf, &mut out, &mut err);
     Ok(status)
-}
-
-// The words of a line, one blank between each two. An empty line has none.
-fn words_of(alloc: Global, line: &str) -> Result<Vec<Text>, AllocError> {
-    let mut words = Vec::new(alloc);
-    if line.is_empty() {
-        return Ok(words);
-    }
-    for word in line.split(' ') {
-        words.push(Text::from_slice(alloc, word.as_bytes())?)?;
-    }
-    Ok(words)
-}
-
-// One file.
-fn file(alloc: Global, name: &str, bytes: &str) -> Result<Vec<(Text, Text)>, AllocError> {
-    let mut files = Vec::new(alloc);
-    let name = Text::from_slice(alloc, name.as_bytes())?;
-    let bytes = Text::from_slice(alloc, bytes.as_bytes())?;
-    files.push((name, bytes))?;
-    Ok(files)
 }
 
 fn run_on_two(alloc: Global, line: &str, failing: &Failing<'_>) -> Result<Ended, AllocError> {
@@ -401,8 +342,8 @@ fn a_long_file_is_told(rt: HostRuntime) -> Result<(), Fail> {
             Status::TooLong,
             "a.c is longer than 1048576 bytes\n",
         ),
-        (MAX_FILE_BYTES, Status::Refused, "not yet\n"),
-        (0, Status::Refused, "not yet\n"),
+        (MAX_FILE_BYTES, Status::Refused, "1: syntax\n"),
+        (0, Status::Refused, "1: rule 5\n"),
     ];
     for (length, status, err) in rows {
         let bytes = vec![in alloc; b'x'; length]?;
@@ -435,21 +376,6 @@ fn a_slice_is_sliced(rt: HostRuntime) -> Result<(), Fail> {
         assert_eq!(rt; ended.out.bytes(), out.as_bytes(), "{line}");
     }
     Ok(())
-}
-
-// A program: the include, and main with these lines, between each two of which stands a `|`.
-fn program(alloc: Global, head: &str, lines: &str) -> Result<String, AllocError> {
-    let mut text = String::from_str(alloc, head)?;
-    text.push_str("#include <stdio.h>\nint main(void) {\n")?;
-    if !lines.is_empty() {
-        for line in lines.split('|') {
-            text.push_str("    ")?;
-            text.push_str(line)?;
-            text.push_str("\n")?;
-        }
-    }
-    text.push_str("}\n")?;
-    Ok(text)
 }
 
 #[test]
@@ -559,47 +485,6 @@ fn a_slice_keeps_what_its_line_depends_on(rt: HostRuntime) -> Result<(), Fail> {
 }
 
 #[test]
-fn a_text_of_another_form_is_refused(rt: HostRuntime) -> Result<(), Fail> {
-    let alloc = rt.alloc();
-    // What stands before the include, the lines of main, and what is told of line 3.
-    let rows = [
-        ("", "", "3: no statement starts here\n"),
-        ("", "int a;", "3: no statement starts here\n"),
-        ("/**/\n", "int a = 1;", "3: no statement starts here\n"),
-        ("/*/\n", "int a = 1;", "not yet\n"),
-        ("/* */ */\n", "int a = 1;", "not yet\n"),
-        ("/* a */\n/* b */\n", "int a = 1;", "not yet\n"),
-        ("\n", "int a = 1;", "not yet\n"),
-        ("", "int a = 01;", "not yet\n"),
-        ("", "int a = 2147483648;", "not yet\n"),
-        ("", "int a = a;", "not yet\n"),
-        ("", "a = 1;|int a;", "not yet\n"),
-        ("", "int a = 1;|int a = 2;", "not yet\n"),
-        ("", "int while = 1;", "not yet\n"),
-        ("", "int EOF = 1;", "not yet\n"),
-        ("", "int 9a = 1;", "not yet\n"),
-        ("", "int a = 1 * 2;", "not yet\n"),
-        ("", "int a = 1 + 2 + 3;", "not yet\n"),
-        ("", "int a = 1+2;", "not yet\n"),
-        ("", "int a = -1;", "not yet\n"),
-        ("", "int a = 1; ", "not yet\n"),
-        ("", "long a = 1;", "not yet\n"),
-        ("", "printf(\"%d\", 1);", "not yet\n"),
-        ("", "return 0;", "not yet\n"),
-        ("", "}", "not yet\n"),
-    ];
-    for (head, lines, err) in rows {
-        let text = program(alloc, head, lines)?;
-        let words = words_of(alloc, "slice t.c 3")?;
-        let ended = run(alloc, &words, file(alloc, "t.c", &text)?, &NONE_FAILING)?;
-        assert_eq!(rt; ended.status, Status::Refused, "{lines}");
-        assert_eq!(rt; ended.out.bytes(), b"".as_slice(), "{lines}");
-        assert_eq!(rt; ended.err.bytes(), err.as_bytes(), "{lines}");
-    }
-    Ok(())
-}
-
-#[test]
 fn each_status_has_its_code(rt: HostRuntime) {
     let rows = [
         (Status::Done, 0),
@@ -608,6 +493,7 @@ fn each_status_has_its_code(rt: HostRuntime) {
         (Status::ReadFault, 3),
         (Status::WriteFault, 4),
         (Status::NoMemory, 5),
+        (Status::Limit, 8),
         (Status::TooLong, 9),
     ];
     for (status, code) in rows {

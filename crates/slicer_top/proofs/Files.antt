@@ -1,22 +1,34 @@
 -- What is told of a file, and what its causes rule out.
-use Rattle.std.proofs.Common.{◌≡◌, ◌⊎◌, inl, inr, ℕ, ◌≤◌, ◌<◌, List, length, refl, sym, ap, subst, ◌∙◌, arith}
-use Rattle.std.specs.Prelude.{Option, Some, None, IsSome, IsSomeAnd}
+use Rattle.std.proofs.Common.{◌≡◌, ◌⊎◌, inl, inr, ℕ, ◌≤◌, ◌<◌, length, refl, sym, ap, subst, ◌∙◌, arith}
+use Rattle.std.specs.Prelude.{Option, Some, None, IsSome, IsSomeAnd, Result, Ok, Err, IfErr, IsErrAnd}
 use Rattle.edge_io.specs.Contents.{Told, Lacks, HoldsMoreThan}
+use Rattle.edge_io.specs.Count.{Rose}
 use Rattle.c_language.specs.Words.{Bytes}
+use Rattle.c_reader.specs.declared.refusal.ReadRefusal.TheVariants as read
 use Rattle.slice_engine.specs.Slice.{HasStart}
 use Rattle.slicer_top.specs.declared.refusal.Refusal.{Refusal}
-use Rattle.slicer_top.specs.declared.refusal.Refusal.TheVariants.{Unreadable, TooLong, NotYet, NoStart, NoMemory}
+use Rattle.slicer_top.specs.declared.refusal.Refusal.TheVariants.{Unreadable, TooLong, Lex, Parse, Check, NotYet, NoStart, NoMemory}
 use Rattle.slicer_top.specs.declared.status.Status.{Status}
 use Rattle.slicer_top.specs.declared.status.Status.TheVariants as status
 use Rattle.slicer_top.specs.Files.{Holds, OfFile}
-use Rattle.slicer_top.specs.Slices.{StartsOn, StartsNone, IsSliceOf}
+use Rattle.slicer_top.specs.Slices.{StartsOn, IsSliceOf}
 use Rattle.slicer_top.specs.Statuses.{NoFault}
-use Rattle.slicer_top.specs.Reports.{IsCause, IsReported}
+use Rattle.slicer_top.specs.Reports.{IsReason, IsCause, IsReported}
+use Rattle.slicer_top.proofs.ReaderLaws.{one_program, only_memory}
 
 -- what is told under a name is what stands under it
 pub of_file : (told : Told) (name text : Bytes) (P : Bytes → Type 0) → Holds told name text → OfFile told name P → P text
 of_file None name text P holds of = absurd holds
 of_file (Some under) name text P holds of = let of_text : IsSomeAnd (Some text) P = subst (λ found. IsSomeAnd found P) holds of in of_text
+
+some_map : (found : Option Bytes) (P Q : Bytes → Type 0) → ((text : Bytes) → P text → Q text) → IsSomeAnd found P → IsSomeAnd found Q
+some_map None P Q f holds = absurd holds
+some_map (Some text) P Q f holds = f text holds
+
+-- what follows from what holds of the file's text holds of it
+pub of_file_map : (told : Told) (name : Bytes) (P Q : Bytes → Type 0) → ((text : Bytes) → P text → Q text) → OfFile told name P → OfFile told name Q
+of_file_map None name P Q f of = tt
+of_file_map (Some under) name P Q f of = some_map (under name) P Q f of
 
 told_some : (told : Told) (name text : Bytes) → Holds told name text → IsSome told
 told_some None name text holds = absurd holds
@@ -32,24 +44,33 @@ not_longer (Some under) name text most holds le more =
     let longer : IsSomeAnd (Some text) (λ bytes. most < length bytes) = subst (λ found. IsSomeAnd found (λ bytes. most < length bytes)) holds more in
     absurd (omega (arith, le, longer))
 
--- a text that is there and could be read, isn't too long and has a statement on the line is refused for want of memory alone
-no_cause : (told : Told) (file : Bytes) (at f f' l l' : ℕ) (text : Bytes) (refusal : Refusal) → Holds told file text → length text ≤ 1048576 → StartsOn text at → (refusal ≡ Unreadable → ⊥) → IsCause told file at f f' l l' refusal → refusal ≡ NoMemory
-no_cause told file at f f' l l' text Unreadable holds le starts readable cause = absurd (readable refl)
-no_cause told file at f f' l l' text TooLong holds le starts readable cause =
+-- a text that is there and isn't too long couldn't be read for a fault, or shows the refusal
+pub fault_or_reason : (told : Told) (file : Bytes) (at f f' l l' : ℕ) (text : Bytes) (refusal : Refusal) → Holds told file text → length text ≤ 1048576 → IsCause told file at f f' l l' refusal → ((refusal ≡ Unreadable) × Rose f f') ⊎ IsReason text at refusal
+fault_or_reason told file at f f' l l' text Unreadable holds le (inl rose) = inl (refl, rose)
+fault_or_reason told file at f f' l l' text Unreadable holds le (inr lacks) = absurd (not_lacking told file text holds lacks)
+fault_or_reason told file at f f' l l' text TooLong holds le cause =
     absurd (not_longer told file text 1048576 holds le (cause.1 (told_some told file text holds)))
-no_cause told file at f f' l l' text NotYet holds le starts readable cause = absurd ((of_file told file text _ holds cause).1 starts.accepted)
-no_cause told file at f f' l l' text NoStart holds le starts readable cause =
-    let lacks = (of_file told file text _ holds cause).1 in absurd (lacks.2 (starts.starts lacks.0 lacks.1))
-no_cause told file at f f' l l' text NoMemory holds le starts readable cause = refl
+fault_or_reason told file at f f' l l' text (Lex fault) holds le cause = inr (of_file told file text _ holds cause).1
+fault_or_reason told file at f f' l l' text (Parse fault) holds le cause = inr (of_file told file text _ holds cause).1
+fault_or_reason told file at f f' l l' text (Check fault) holds le cause = inr (of_file told file text _ holds cause).1
+fault_or_reason told file at f f' l l' text (NotYet first) holds le cause = inr (of_file told file text _ holds cause).1
+fault_or_reason told file at f f' l l' text NoStart holds le cause = inr (of_file told file text _ holds cause).1
+fault_or_reason told file at f f' l l' text NoMemory holds le cause = inr tt
 
--- without a fault, a text that is there can be read
-no_fault_reads : (told : Told) (file : Bytes) (at f f' l l' : ℕ) (text : Bytes) (refusal : Refusal) → Holds told file text → NoFault f f' → IsCause told file at f f' l l' refusal → refusal ≡ Unreadable → ⊥
-no_fault_reads told file at f f' l l' text Unreadable holds calm (inl rose) is = calm rose
-no_fault_reads told file at f f' l l' text Unreadable holds calm (inr lacks) is = not_lacking told file text holds lacks
-no_fault_reads told file at f f' l l' text TooLong holds calm cause is = cc
-no_fault_reads told file at f f' l l' text NotYet holds calm cause is = cc
-no_fault_reads told file at f f' l l' text NoStart holds calm cause is = cc
-no_fault_reads told file at f f' l l' text NoMemory holds calm cause is = cc
+-- a text with a statement on the line shows that memory was wanting alone
+no_reason : (text : Bytes) (at : ℕ) (refusal : Refusal) → StartsOn text at → IsReason text at refusal → refusal ≡ NoMemory
+no_reason text at Unreadable starts reason = absurd reason
+no_reason text at TooLong starts reason = absurd reason
+no_reason text at (Lex fault) starts reason = absurd (only_memory text (read.Lex fault) reason starts.program starts.built.reads)
+no_reason text at (Parse fault) starts reason = absurd (only_memory text (read.Parse fault) reason starts.program starts.built.reads)
+no_reason text at (Check fault) starts reason = absurd (only_memory text (read.Check fault) reason starts.program starts.built.reads)
+no_reason text at (NotYet first) starts (p, has, outside) =
+    let same : p ≡ starts.program = one_program text p starts.program has starts.built.reads in
+    let built = starts.built.built in
+    absurd cc
+no_reason text at NoStart starts (p, built, none) =
+    absurd (none (subst (λ q. HasStart q at) (sym (one_program text p starts.program built.reads starts.built.reads)) starts.starts))
+no_reason text at NoMemory starts reason = refl
 
 -- want of memory is told, or a fault of err comes
 pub memory_told : (faults faults' : ℕ) (before after : Option Bytes) (file : Bytes) (at : ℕ) (result : Status) → NoFault faults faults' → IsReported faults faults' before after file at NoMemory result → result ≡ status.NoMemory
@@ -59,23 +80,38 @@ memory_told faults faults' before after file at result calm (inr (inl put)) = pu
 memory_told faults faults' before after file at result calm (inr (inr cut)) = absurd (calm cut.1)
 
 -- where a slice was made of the text, a statement starts on the line
-pub not_sliced : (told : Told) (name file text written : Bytes) (at line : ℕ) → name ≡ file → at ≡ line → Holds told file text → OfFile told name (λ found. (length found ≤ 1048576) × IsSliceOf found at written) → StartsNone text line → ⊥
-not_sliced told name file text written at line same_name same_line holds sliced none =
+pub sliced_starts : (told : Told) (name file text written : Bytes) (at line : ℕ) → name ≡ file → at ≡ line → Holds told file text → OfFile told name (λ found. (length found ≤ 1048576) × IsSliceOf found at written) → StartsOn text line
+sliced_starts told name file text written at line same_name same_line holds sliced =
     let of_text = (of_file told name text _ (subst (λ n. Holds told n text) (sym same_name) holds) sliced).1 in
-    none of_text.program of_text.reads (subst (HasStart of_text.program) same_line of_text.starts)
+    record { program = of_text.program; built = of_text.built; starts = subst (HasStart of_text.program) same_line of_text.starts }
 
--- a refusal of a text that is there, not too long and with a statement on the line
-pub refused_for_memory : (told : Told) (name file text : Bytes) (at line f f' l l' e e' : ℕ) (before after : Option Bytes) (refusal : Refusal) (result : Status) → name ≡ file → at ≡ line → Holds told file text → length text ≤ 1048576 → StartsOn text line → NoFault f f' → NoFault e e' → IsCause told name at f f' l l' refusal → IsReported e e' before after name at refusal result → result ≡ status.NoMemory
-refused_for_memory told name file text at line f f' l l' e e' before after refusal result same_name same_line holds le starts calm quiet cause reported =
-    let there : Holds told name text = subst (λ n. Holds told n text) (sym same_name) holds in
-    let memory : refusal ≡ NoMemory = no_cause told name at f f' l l' text refusal there le (subst (StartsOn text) (sym same_line) starts) (no_fault_reads told name at f f' l l' text refusal there calm cause) cause in
-    memory_told e e' before after name at result quiet (subst (λ r. IsReported e e' before after name at r result) memory reported)
+-- a refusal that is passed on
+pub passes_on : {A : Type 0} (P : Refusal → Type 0) (refusal : Refusal) (passed : Result A Refusal) → IsErrAnd passed (λ y. y ≡ refusal) → P refusal → IfErr passed P
+passes_on P refusal (Ok x) is holds = absurd is
+passes_on P refusal (Err y) is holds = subst P (sym is) holds
 
--- likewise of a shelf that says `Failed` only of a name that it lacks
-pub refused_without_fault : (told : Told) (name file text : Bytes) (at line f f' l l' : ℕ) (refusal : Refusal) → name ≡ file → at ≡ line → Holds told file text → length text ≤ 1048576 → StartsOn text line → (refusal ≡ Unreadable → Lacks told name) → IsCause told name at f f' l l' refusal → refusal ≡ NoMemory
-refused_without_fault told name file text at line f f' l l' refusal same_name same_line holds le starts missing cause =
-    let there : Holds told name text = subst (λ n. Holds told n text) (sym same_name) holds in
-    no_cause told name at f f' l l' text refusal there le (subst (StartsOn text) (sym same_line) starts) (λ is. not_lacking told name text there (missing is)) cause
+module _ (told : Told) (name file text : Bytes) (f f' l l' : ℕ) (refusal : Refusal) where
+  -- a refusal of a text that is there and not too long
+  pub fault_or_shown : (at : ℕ) → name ≡ file → Holds told file text → length text ≤ 1048576 → IsCause told name at f f' l l' refusal → ((refusal ≡ Unreadable) × Rose f f') ⊎ IsReason text at refusal
+  fault_or_shown at same_name holds le cause = fault_or_reason told name at f f' l l' text refusal (subst (λ n. Holds told n text) (sym same_name) holds) le cause
+
+  module _ (at line : ℕ) where
+    -- where a statement starts on the line, and no fault came, memory was wanting
+    memory_alone : name ≡ file → at ≡ line → Holds told file text → length text ≤ 1048576 → StartsOn text line → (refusal ≡ Unreadable → Rose f f' → ⊥) → IsCause told name at f f' l l' refusal → refusal ≡ NoMemory
+    memory_alone same_name same_line holds le starts calm cause = elim (fault_or_shown at same_name holds le cause) [
+      | inl fault ↦ absurd (calm fault.0 fault.1)
+      | inr reason ↦ no_reason text at refusal (subst (StartsOn text) (sym same_line) starts) reason
+    ]
+
+    pub refused_for_memory : (e e' : ℕ) (before after : Option Bytes) (result : Status) → name ≡ file → at ≡ line → Holds told file text → length text ≤ 1048576 → StartsOn text line → NoFault f f' → NoFault e e' → IsCause told name at f f' l l' refusal → IsReported e e' before after name at refusal result → result ≡ status.NoMemory
+    refused_for_memory e e' before after result same_name same_line holds le starts calm quiet cause reported =
+        let memory : refusal ≡ NoMemory = memory_alone same_name same_line holds le starts (λ _. calm) cause in
+        memory_told e e' before after name at result quiet (subst (λ r. IsReported e e' before after name at r result) memory reported)
+
+    -- likewise of a shelf that says `Failed` only of a name that it lacks
+    pub refused_without_fault : name ≡ file → at ≡ line → Holds told file text → length text ≤ 1048576 → StartsOn text line → (refusal ≡ Unreadable → Lacks told name) → IsCause told name at f f' l l' refusal → refusal ≡ NoMemory
+    refused_without_fault same_name same_line holds le starts missing cause =
+        memory_alone same_name same_line holds le starts (λ is _. not_lacking told name text (subst (λ n. Holds told n text) (sym same_name) holds) (missing is)) cause
 
 -- what was made of the file's text is its slice
 pub slice_made : (told : Told) (name file text written : Bytes) (at line : ℕ) → name ≡ file → at ≡ line → Holds told file text → OfFile told name (λ found. (length found ≤ 1048576) × IsSliceOf found at written) → IsSliceOf text line written

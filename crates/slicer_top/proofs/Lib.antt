@@ -1,5 +1,7 @@
 pub mod Files
-pub mod LateLines
+pub mod LastStarts
 pub mod Lines
 pub mod Numbers
+pub mod ReaderLaws
 pub mod Slices
+pub mod Told

@@ -3,11 +3,15 @@ use Rattle.std.proofs.Common.{◌≡◌, ◌⊎◌, inl, inr, ℕ, ◌+◌, sym,
 use Rattle.std.specs.Prelude.{Option, Result, Ok, Err, IfOk, MatchResult}
 use Rattle.edge_io.specs.Written.{Gains}
 use Rattle.c_language.specs.Words.{Bytes}
+use Rattle.c_tree.specs.declared.limits.LimitName.TheVariants as limit
+use Rattle.c_lex.specs.declared.fault.LexFault.TheVariants as lex
+use Rattle.c_parse.specs.declared.parse_fault.ParseFault.TheVariants as parse
+use Rattle.c_types.specs.declared.rule_fault.RuleFault.TheVariants as rule
 use Rattle.slicer_top.specs.declared.refusal.Refusal.{Refusal}
-use Rattle.slicer_top.specs.declared.refusal.Refusal.TheVariants.{Unreadable, TooLong, NotYet, NoStart, NoMemory}
+use Rattle.slicer_top.specs.declared.refusal.Refusal.TheVariants.{Unreadable, TooLong, Lex, Parse, Check, NotYet, NoStart, NoMemory}
 use Rattle.slicer_top.specs.declared.status.Status.{Status}
 use Rattle.slicer_top.specs.declared.status.Status.TheVariants as status
-use Rattle.slicer_top.specs.Lines.{IsLineOf, of_usage, of_file, of_length, of_text, of_line, of_out, of_memory, Tells, PutOrCutOff, out_of_memory}
+use Rattle.slicer_top.specs.Lines.{IsLineOf, of_usage, of_file, of_length, of_byte, of_number, of_comment, of_token, of_tokens, of_rule, of_form, of_line, of_limit, of_out, of_memory, Tells, PutOrCutOff, out_of_memory}
 use Rattle.slicer_top.specs.Reports.{IsTold, IsReported, status_of, line_of}
 
 -- all that a sink takes, and nothing more
@@ -21,17 +25,24 @@ module _ (faults faults' : ℕ) (before after : Option Bytes) where
   told_or_cut_off answer words result (inr cut) = inr (cut.1, cut.2)
 
   -- a line that was made was told, or else that there was no memory for it
-  pub made_told : {S E : Type 0} (bytes : S → Bytes) (answer : Status) (words : Bytes) (made : Result S E) (result : Status) → MatchResult made (λ line. IsTold faults faults' before after answer (bytes line) result) (λ _. IsTold faults faults' before after status.NoMemory out_of_memory result) → IfOk made (λ line. bytes line ≡ words) → IsTold faults faults' before after answer words result ⊎ IsTold faults faults' before after status.NoMemory out_of_memory result
-  made_told bytes answer words (Ok line) result told is = inl (subst (λ w. IsTold faults faults' before after answer w result) is told)
-  made_told bytes answer words (Err e) result told is = inr told
+  pub made_told : {E : Type 0} (answer : Status) (words : Bytes) (made : Result Bytes E) (result : Status) → MatchResult made (λ line. IsTold faults faults' before after answer line result) (λ _. IsTold faults faults' before after status.NoMemory out_of_memory result) → IfOk made (λ line. line ≡ words) → IsTold faults faults' before after answer words result ⊎ IsTold faults faults' before after status.NoMemory out_of_memory result
+  made_told answer words (Ok line) result told is = inl (subst (λ w. IsTold faults faults' before after answer w result) is told)
+  made_told answer words (Err e) result told is = inr told
 
   module _ (file : Bytes) (at : ℕ) where
     put_tells : (answer : Status) (words : Bytes) → IsLineOf file at answer words → Gains before after words → Tells faults faults' before after file at answer
     put_tells answer words (of_usage) gained = (_, of_usage, gained)
     put_tells answer words (of_file) gained = (_, of_file, gained)
     put_tells answer words (of_length) gained = (_, of_length, gained)
-    put_tells answer words (of_text) gained = (_, of_text, gained)
+    put_tells answer words (of_byte l) gained = (_, of_byte l, gained)
+    put_tells answer words (of_number l) gained = (_, of_number l, gained)
+    put_tells answer words (of_comment l) gained = (_, of_comment l, gained)
+    put_tells answer words (of_token l token) gained = (_, of_token l token, gained)
+    put_tells answer words (of_tokens l) gained = (_, of_tokens l, gained)
+    put_tells answer words (of_rule l number) gained = (_, of_rule l number, gained)
+    put_tells answer words (of_form l) gained = (_, of_form l, gained)
     put_tells answer words (of_line) gained = (_, of_line, gained)
+    put_tells answer words (of_limit name) gained = (_, of_limit name, gained)
     put_tells answer words (of_out) gained = inl gained
     put_tells answer words (of_memory) gained = (_, of_memory, gained)
 
@@ -43,7 +54,18 @@ module _ (faults faults' : ℕ) (before after : Option Bytes) where
     refusal_line : (refusal : Refusal) → IsLineOf file at (status_of refusal) (line_of file at refusal)
     refusal_line Unreadable = of_file
     refusal_line TooLong = of_length
-    refusal_line NotYet = of_text
+    refusal_line (Lex (lex.BadByte l)) = of_byte l
+    refusal_line (Lex (lex.BadNumber l)) = of_number l
+    refusal_line (Lex (lex.OpenComment l)) = of_comment l
+    refusal_line (Lex lex.NoMemory) = of_memory
+    refusal_line (Parse (parse.LeftOut token l)) = of_token l token
+    refusal_line (Parse (parse.Syntax l)) = of_tokens l
+    refusal_line (Parse (parse.Nesting l)) = of_limit limit.Nesting
+    refusal_line (Parse parse.NoMemory) = of_memory
+    refusal_line (Check (rule.Rule number l)) = of_rule l number
+    refusal_line (Check (rule.Limit name)) = of_limit name
+    refusal_line (Check rule.NoMemory) = of_memory
+    refusal_line (NotYet first) = of_form first
     refusal_line NoStart = of_line
     refusal_line NoMemory = of_memory
 

@@ -1,14 +1,13 @@
 -- Decimal digits, one after another.
-use Rattle.std.proofs.Common.{◌≡◌, ℕ, suc, ◌+◌, ◌-◌, ◌*◌, ◌^◌, ◌<◌, ◌≤◌, List, [], ◌∷◌, ◌++◌, length, take, get_or, refl, sym, ap, ◌∙◌, arith, add-one}
+use Rattle.std.proofs.Common.{◌≡◌, ℕ, ◌+◌, ◌-◌, ◌*◌, ◌^◌, ◌<◌, ◌≤◌, List, [], ◌∷◌, ◌++◌, length, take, get_or, refl, sym, ap, ◌∙◌, arith, add-one}
 use Rattle.std.proofs.lemmas.Bool.{eqb-false}
 use Rattle.std.proofs.lemmas.List.{take_all}
 use Rattle.std.proofs.lemmas.List.Elements.{All-from_get_or}
 use Rattle.std.proofs.Math.Seq.{take-suc}
 use Rattle.std.proofs.Math.Nat.{pow-suc}
-use Rattle.std.specs.Prelude.{All, Bool, false, ◌==◌}
+use Rattle.std.specs.Prelude.{false, ◌==◌}
 use Rattle.std.specs.Char.{IsAsciiDigit}
-use Rattle.c_language.specs.StraightLine.{decimal_from}
-use Rattle.slicer_top.specs.Words.{IsNumber}
+use Rattle.slicer_top.specs.Words.{IsNumber, decimal_from}
 
 -- one more digit
 pub decimal_from-last : (n : ℕ) (digits : List ℕ) (b : ℕ) → decimal_from n (digits ++ b ∷ []) ≡ 10 * decimal_from n digits + (b - 48)

@@ -1,6 +1,9 @@
 pub mod Files
+pub mod Limits
 pub mod Lines
 pub mod Reports
 pub mod Slices
+pub mod Starts
 pub mod Statuses
+pub mod Truths
 pub mod Words

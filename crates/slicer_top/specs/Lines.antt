@@ -3,10 +3,11 @@ use Rattle.std.specs.Prelude.{◌≡◌, ◌⊎◌, ℕ, ◌++◌, Option, codes
 use Rattle.std.specs.Fmt.{decimal}
 use Rattle.edge_io.specs.Count.{Rose}
 use Rattle.edge_io.specs.Written.{Gains, GainsFront}
+use Rattle.c_tree.specs.declared.limits.LimitName.{LimitName}
+use Rattle.c_tree.specs.declared.limits.LimitName.TheVariants.{Nesting, ArrayLength, ObjectCells, Locations, Vertices, FactWords, Criteria}
 use Rattle.c_language.specs.Words.{Bytes}
-use Rattle.slicer_top.specs.Slices.{IsAccepted, LacksStart}
 use Rattle.slicer_top.specs.declared.status.Status.{Status}
-use Rattle.slicer_top.specs.declared.status.Status.TheVariants.{Done, Refused, Usage, ReadFault, WriteFault, NoMemory, TooLong}
+use Rattle.slicer_top.specs.declared.status.Status.TheVariants.{Done, Refused, Usage, ReadFault, WriteFault, NoMemory, Limit, TooLong}
 
 -- the words aren't `slice FILE LINE`
 abbrev pub usage : Bytes
@@ -20,13 +21,51 @@ cannot_read file = codes "cannot read " ++ (file ++ codes "\n")
 abbrev pub too_long : Bytes → Bytes
 too_long file = file ++ codes " is longer than 1048576 bytes\n"
 
--- the text isn't accepted
-abbrev pub not_yet : Bytes
-not_yet = codes "not yet\n"
+-- what is told of a line of the text
+abbrev pub numbered : ℕ → Bytes → Bytes
+numbered at words = decimal at ++ (codes ": " ++ (words ++ codes "\n"))
+
+-- a byte that begins no token
+abbrev pub bad_byte : ℕ → Bytes
+bad_byte at = numbered at (codes "bad byte")
+
+-- a number that is no constant
+abbrev pub bad_number : ℕ → Bytes
+bad_number at = numbered at (codes "bad number")
+
+-- a comment that isn't closed
+abbrev pub open_comment : ℕ → Bytes
+open_comment at = numbered at (codes "open comment")
+
+-- a construct that the language leaves out begins with this token
+abbrev pub left_out : ℕ → Bytes → Bytes
+left_out at token = numbered at (codes "left out: " ++ token)
+
+-- the tokens have no tree
+abbrev pub syntax : ℕ → Bytes
+syntax at = numbered at (codes "syntax")
+
+-- a rule is broken
+abbrev pub rule : ℕ → ℕ → Bytes
+rule at number = numbered at (codes "rule " ++ decimal number)
+
+-- something stands there that isn't built
+abbrev pub not_yet : ℕ → Bytes
+not_yet at = numbered at (codes "not yet")
 
 -- no statement starts on the line
 abbrev pub no_start : ℕ → Bytes
-no_start line = decimal line ++ codes ": no statement starts here\n"
+no_start line = numbered line (codes "no statement starts here")
+
+-- a quantity is above its number
+abbrev pub limit : LimitName → Bytes
+limit Nesting = codes "limit: nesting\n"
+limit ArrayLength = codes "limit: array length\n"
+limit ObjectCells = codes "limit: object cells\n"
+limit Locations = codes "limit: locations\n"
+limit Vertices = codes "limit: vertices\n"
+limit FactWords = codes "limit: fact words\n"
+limit Criteria = codes "limit: criteria\n"
 
 -- the slice couldn't be written
 abbrev pub cannot_write : Bytes
@@ -41,8 +80,15 @@ pub data IsLineOf (file : Bytes) (line : ℕ) : Status → Bytes → Type 0 wher
   of_usage : IsLineOf file line Usage usage
   of_file : IsLineOf file line ReadFault (cannot_read file)
   of_length : IsLineOf file line TooLong (too_long file)
-  of_text : IsLineOf file line Refused not_yet
+  of_byte : (at : ℕ) → IsLineOf file line Refused (bad_byte at)
+  of_number : (at : ℕ) → IsLineOf file line Refused (bad_number at)
+  of_comment : (at : ℕ) → IsLineOf file line Refused (open_comment at)
+  of_token : (at : ℕ) (token : Bytes) → IsLineOf file line Refused (left_out at token)
+  of_tokens : (at : ℕ) → IsLineOf file line Refused (syntax at)
+  of_rule : (at number : ℕ) → IsLineOf file line Refused (rule at number)
+  of_form : (at : ℕ) → IsLineOf file line Refused (not_yet at)
   of_line : IsLineOf file line Refused (no_start line)
+  of_limit : (name : LimitName) → IsLineOf file line Limit (limit name)
   of_out : IsLineOf file line WriteFault cannot_write
   of_memory : IsLineOf file line NoMemory out_of_memory
 
@@ -72,9 +118,5 @@ module _ (faults faults' : ℕ) (before after : Option Bytes) where
   Tells file line ReadFault = Puts file line ReadFault before after
   Tells file line WriteFault = TellsFault file line
   Tells file line NoMemory = Puts file line NoMemory before after
+  Tells file line Limit = Puts file line Limit before after
   Tells file line TooLong = Puts file line TooLong before after
-
--- err tells why: the text isn't accepted, or on the line starts no statement of its program
-abbrev pub TellsWhy : Bytes → ℕ → Option Bytes → Option Bytes → Type 0
-TellsWhy text line before after =
-    ((IsAccepted text → ⊥) × Gains before after not_yet) ⊎ (LacksStart text line × Gains before after (no_start line))

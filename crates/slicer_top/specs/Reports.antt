@@ -1,39 +1,107 @@
 -- Why a file gives no slice, and how that is told.
-use Rattle.std.specs.Prelude.{◌≡◌, ◌⊎◌, ℕ, ◌≤◌, length, Option, IsSome}
+use Rattle.std.specs.Prelude.{◌≡◌, ◌⊎◌, ℕ, ◌≤◌, length, Option, Some, IsSome}
 use Rattle.edge_io.specs.Contents.{Told, Lacks, HoldsMoreThan}
 use Rattle.edge_io.specs.Count.{Rose}
 use Rattle.edge_io.specs.Written.{Gains, GainsFront}
+use Rattle.c_tree.specs.declared.limits.LimitName.TheVariants as limit
+use Rattle.c_tree.specs.declared.program.Program.{Program}
 use Rattle.c_language.specs.Words.{Bytes}
+use Rattle.c_lex.specs.declared.fault.LexFault.{LexFault}
+use Rattle.c_lex.specs.declared.fault.LexFault.TheVariants as lex
+use Rattle.c_parse.specs.declared.parse_fault.ParseFault.{ParseFault}
+use Rattle.c_parse.specs.declared.parse_fault.ParseFault.TheVariants as parse
+use Rattle.c_types.specs.declared.rule_fault.RuleFault.{RuleFault}
+use Rattle.c_types.specs.declared.rule_fault.RuleFault.TheVariants as rule
+use Rattle.c_reader.specs.Reading.{HasProgram, IsLexFault, HasParseFault, HasRuleFault}
+use Rattle.built_forms.specs.BuiltForms as forms
 use Rattle.slicer_top.specs.declared.refusal.Refusal.{Refusal}
-use Rattle.slicer_top.specs.declared.refusal.Refusal.TheVariants.{Unreadable, TooLong, NotYet, NoStart, NoMemory}
+use Rattle.slicer_top.specs.declared.refusal.Refusal.TheVariants.{Unreadable, TooLong, Lex, Parse, Check, NotYet, NoStart, NoMemory}
 use Rattle.slicer_top.specs.declared.status.Status.{Status}
 use Rattle.slicer_top.specs.declared.status.Status.TheVariants as status
 use Rattle.slicer_top.specs.Files.{OfFile}
-use Rattle.slicer_top.specs.Slices.{IsAccepted, LacksStart}
+use Rattle.slicer_top.specs.Slices.{LacksStart}
 use Rattle.slicer_top.specs.Lines as line
+
+-- the text shows the refusal, where its statements on a line were asked for
+abbrev pub IsReason : Bytes → ℕ → Refusal → Type 0
+IsReason text at Unreadable = ⊥
+IsReason text at TooLong = ⊥
+IsReason text at (Lex fault) = IsLexFault text fault
+IsReason text at (Parse fault) = HasParseFault text fault
+IsReason text at (Check fault) = HasRuleFault text fault
+IsReason text at (NotYet first) = (p : Program) × HasProgram text p × (forms.not_yet p ≡ Some first)
+IsReason text at NoStart = LacksStart text at
+IsReason text at NoMemory = Unit {0}
+
+-- the file holds a text that shows the refusal
+abbrev pub IsShown : Told → Bytes → ℕ → Refusal → Type 0
+IsShown told file at refusal = OfFile told file (λ text. (length text ≤ 1048576) × IsReason text at refusal)
 
 -- the cause of a refusal: the counts of faults and of long files before and after the fetch, or the bytes of the file
 module _ (told : Told) (file : Bytes) (at faults faults' long_files long_files' : ℕ) where
   abbrev pub IsCause : Refusal → Type 0
   IsCause Unreadable = Rose faults faults' ⊎ Lacks told file
   IsCause TooLong = Rose long_files long_files' × (IsSome told → HoldsMoreThan told file 1048576)
-  IsCause NotYet = OfFile told file (λ text. (length text ≤ 1048576) × (IsAccepted text → ⊥))
-  IsCause NoStart = OfFile told file (λ text. (length text ≤ 1048576) × LacksStart text at)
+  IsCause (Lex fault) = IsShown told file at (Lex fault)
+  IsCause (Parse fault) = IsShown told file at (Parse fault)
+  IsCause (Check fault) = IsShown told file at (Check fault)
+  IsCause (NotYet first) = IsShown told file at (NotYet first)
+  IsCause NoStart = IsShown told file at NoStart
   IsCause NoMemory = Unit {0}
 
 -- the status of a refusal
+abbrev pub lex_status : LexFault → Status
+lex_status (lex.BadByte at) = status.Refused
+lex_status (lex.BadNumber at) = status.Refused
+lex_status (lex.OpenComment at) = status.Refused
+lex_status lex.NoMemory = status.NoMemory
+
+abbrev pub parse_status : ParseFault → Status
+parse_status (parse.LeftOut token at) = status.Refused
+parse_status (parse.Syntax at) = status.Refused
+parse_status (parse.Nesting at) = status.Limit
+parse_status parse.NoMemory = status.NoMemory
+
+abbrev pub rule_status : RuleFault → Status
+rule_status (rule.Rule number at) = status.Refused
+rule_status (rule.Limit name) = status.Limit
+rule_status rule.NoMemory = status.NoMemory
+
 abbrev pub status_of : Refusal → Status
 status_of Unreadable = status.ReadFault
 status_of TooLong = status.TooLong
-status_of NotYet = status.Refused
+status_of (Lex fault) = lex_status fault
+status_of (Parse fault) = parse_status fault
+status_of (Check fault) = rule_status fault
+status_of (NotYet first) = status.Refused
 status_of NoStart = status.Refused
 status_of NoMemory = status.NoMemory
 
 -- its line on err
+abbrev pub lex_line : LexFault → Bytes
+lex_line (lex.BadByte at) = line.bad_byte at
+lex_line (lex.BadNumber at) = line.bad_number at
+lex_line (lex.OpenComment at) = line.open_comment at
+lex_line lex.NoMemory = line.out_of_memory
+
+abbrev pub parse_line : ParseFault → Bytes
+parse_line (parse.LeftOut token at) = line.left_out at token
+parse_line (parse.Syntax at) = line.syntax at
+parse_line (parse.Nesting at) = line.limit limit.Nesting
+parse_line parse.NoMemory = line.out_of_memory
+
+abbrev pub rule_line : RuleFault → Bytes
+rule_line (rule.Rule number at) = line.rule at number
+rule_line (rule.Limit name) = line.limit name
+rule_line rule.NoMemory = line.out_of_memory
+
 abbrev pub line_of : Bytes → ℕ → Refusal → Bytes
 line_of file at Unreadable = line.cannot_read file
 line_of file at TooLong = line.too_long file
-line_of file at NotYet = line.not_yet
+line_of file at (Lex fault) = lex_line fault
+line_of file at (Parse fault) = parse_line fault
+line_of file at (Check fault) = rule_line fault
+line_of file at (NotYet first) = line.not_yet first
 line_of file at NoStart = line.no_start at
 line_of file at NoMemory = line.out_of_memory
 

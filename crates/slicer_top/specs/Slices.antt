@@ -1,32 +1,35 @@
 -- What a text and a line have to do with each other, and with the text that is written for them.
-use Rattle.std.specs.Prelude.{ℕ, Option}
+use Rattle.std.specs.Prelude.{◌≡◌, ℕ, Option, None}
 use Rattle.edge_io.specs.Written.{Gains, GainsFront}
 use Rattle.c_tree.specs.declared.program.Program.{Program}
 use Rattle.c_language.specs.Words.{Bytes}
-use Rattle.c_language.specs.StraightLine.{IsTextOf}
+use Rattle.built_forms.specs.BuiltForms.{not_yet}
+use Rattle.c_reader.specs.Reading.{HasProgram}
 use Rattle.slice_engine.specs.Slice.{HasStart, IsSlice, IsFaithful}
 
--- it is the text of a program of the built form
-abbrev pub IsAccepted : Bytes → Type 0
-IsAccepted text = (p : Program) × IsTextOf text p
+-- the text is accepted and within the limits, and this is its program, of which nothing is outside the built forms
+pub record HasBuilt (text : Bytes) (p : Program) : Type 0 where
+  pub reads : HasProgram text p
+  pub built : not_yet p ≡ None
 
--- the text is accepted, and on the line starts no statement of its program
+-- the text has such a program, and on the line starts no statement of it
 abbrev pub LacksStart : Bytes → ℕ → Type 0
-LacksStart text line = (p : Program) × IsTextOf text p × (HasStart p line → ⊥)
+LacksStart text line = (p : Program) × HasBuilt text p × (HasStart p line → ⊥)
 
--- the text is accepted, and on the line starts a statement of its program
+-- the text has such a program, and on the line starts a statement of it
 pub record StartsOn (text : Bytes) (line : ℕ) : Type 0 where
-  pub accepted : IsAccepted text
-  pub starts : (p : Program) → IsTextOf text p → HasStart p line
+  pub program : Program
+  pub built : HasBuilt text program
+  pub starts : HasStart program line
 
--- the text isn't accepted, or on the line starts no statement of its program
+-- the text has no such program, or on the line starts no statement of it
 abbrev pub StartsNone : Bytes → ℕ → Type 0
-StartsNone text line = (p : Program) → IsTextOf text p → HasStart p line → ⊥
+StartsNone text line = (p : Program) → HasBuilt text p → HasStart p line → ⊥
 
 -- what is written is the slice of the text's program at the line, which is a text again and gives the same values
 pub record IsSliceOf (text : Bytes) (line : ℕ) (written : Bytes) : Type 0 where
   pub program : Program
-  pub reads : IsTextOf text program
+  pub built : HasBuilt text program
   pub starts : HasStart program line
   pub slice : IsSlice program line written
   pub faithful : IsFaithful program line written

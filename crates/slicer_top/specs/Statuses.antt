@@ -2,7 +2,7 @@
 use Rattle.std.specs.Prelude.{◌≡◌, ◌⊎◌, ℕ}
 use Rattle.edge_io.specs.Count.{Rose}
 use Rattle.slicer_top.specs.declared.status.Status.{Status}
-use Rattle.slicer_top.specs.declared.status.Status.TheVariants.{Done, Refused, Usage, ReadFault, WriteFault, NoMemory, TooLong}
+use Rattle.slicer_top.specs.declared.status.Status.TheVariants.{Done, Refused, Usage, ReadFault, WriteFault, NoMemory, Limit, TooLong}
 
 -- the exit code of a status
 abbrev pub code_of : Status → ℕ
@@ -12,6 +12,7 @@ code_of Usage = 2
 code_of ReadFault = 3
 code_of WriteFault = 4
 code_of NoMemory = 5
+code_of Limit = 8
 code_of TooLong = 9
 
 -- err had these counts of faults

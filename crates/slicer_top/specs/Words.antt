@@ -1,9 +1,8 @@
 -- The words of a call: `slice FILE LINE`.
-use Rattle.std.specs.Prelude.{◌≡◌, ◌≢◌, ℕ, ◌<◌, ◌≤◌, List, [], length, All, codes, slice_index, slice_index_or}
+use Rattle.std.specs.Prelude.{◌≡◌, ◌≢◌, ℕ, ◌+◌, ◌-◌, ◌*◌, ◌<◌, ◌≤◌, List, [], ◌∷◌, length, All, codes, slice_index, slice_index_or}
 use Rattle.std.specs.Char.{IsAsciiDigit}
 use Rattle.std.specs.Str.{IsUtf8}
 use Rattle.c_language.specs.Words.{Bytes}
-use Rattle.c_language.specs.StraightLine.{decimal_from}
 
 -- the word at a place
 abbrev pub word : List Bytes → ℕ → Bytes
@@ -20,6 +19,11 @@ pub record IsNumber (digits : Bytes) : Type 0 where
   pub not_empty : 0 < length digits
   pub at_most_ten : length digits ≤ 10
   pub all_digits : All IsAsciiDigit digits
+
+-- the value of decimal digits behind a number
+abbrev pub decimal_from : ℕ → Bytes → ℕ
+decimal_from n [] = n
+decimal_from n (b ∷ bs) = decimal_from (10 * n + (b - 48)) bs
 
 -- the words are `slice FILE LINE`
 pub record IsInForm (words : List Bytes) : Type 0 where

@@ -2,17 +2,24 @@
 ghost use Rattle.std.specs.Prelude.{◌≡◌};
 ghost use Rattle.slicer_top.specs.declared.refusal.Refusal.TheVariants.{NoMemory};
 
+use slice_engine::{LexFault, ParseFault, RuleFault};
 use std::alloc::AllocError;
 
-/// Why a file gives no slice at a line.
-#[derive(Clone, Copy, Debug, PartialEq, Eq)]
+/// Why a file gives no slice at a line. No inner fault is `NoMemory`.
+#[derive(Debug, Drop)]
 pub(crate) enum Refusal {
     /// The file couldn't be read.
     Unreadable,
     /// The file is longer than 1,048,576 bytes.
     TooLong,
-    /// The text has not the form that is built.
-    NotYet,
+    /// The text has no tokens.
+    Lex(LexFault),
+    /// Its tokens aren't in the grammar, or nest deeper than 100.
+    Parse(ParseFault),
+    /// Its tree breaks a rule, or an array or an object is too large.
+    Check(RuleFault),
+    /// What stands first outside the built forms stands at this line.
+    NotYet(u32),
     /// No statement starts on the line.
     NoStart,
     /// There was no memory for the work.

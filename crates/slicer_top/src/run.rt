@@ -3,12 +3,16 @@ ghost use Rattle.std.specs.Prelude.{◌≡◌, ◌≢◌, ◌⊎◌, ℕ, IsSome
 ghost use Rattle.edge_io.specs.Count.{Rose};
 ghost use Rattle.edge_io.specs.Contents.{Lacks, HoldsMoreThan};
 ghost use Rattle.edge_io.specs.Written.{Gains, GainsFront};
+ghost use Rattle.c_tree.specs.declared.limits.LimitName.{LimitName};
+ghost use Rattle.c_tree.specs.declared.limits.LimitName.TheVariants.{Nesting};
 ghost use Rattle.c_language.specs.Words.{Bytes};
 ghost use Rattle.slicer_top.specs.Words.{IsInForm, file_of, line_of};
 ghost use Rattle.slicer_top.specs.Files.{OfFile, NamesText};
+ghost use Rattle.slicer_top.specs.Limits.{IsAboveLimit, IsBelowLimits, IsDeep};
 ghost use Rattle.slicer_top.specs.Slices.{StartsNone, StartsOn, IsSliceOf, WritesSlice, WritesFront};
 ghost use Rattle.slicer_top.specs.Statuses.{IsOrYields, IsOrYieldsToFault, NoFault, IsFaultless};
-ghost use Rattle.slicer_top.specs.Lines.{Tells, TellsWhy, PutOrCutOff, cannot_write};
+ghost use Rattle.slicer_top.specs.Lines.{Tells, PutOrCutOff, cannot_write, limit};
+ghost use Rattle.slicer_top.specs.Truths.{TellsTruth};
 
 use crate::report::{report, tell};
 use crate::slicing::slice_file;
@@ -45,13 +49,27 @@ pub fn run_slicer<F: Shelf, O: Sink, E: Sink>(
         → IsOrYieldsToFault (E.faults err.old) (E.faults err.new) (F.faults shelf.old) (F.faults shelf.new)
         result Status.TooLong }
 
-    // The text: Refused comes exactly where it isn't accepted or no statement starts on the line.
+    // The text: Refused comes exactly where it isn't accepted, something of it isn't built or no statement starts on
+    // the line, but for deep texts, and what is told is true of it.
     ensures refused { result ≡ Status.Refused → OfFile (F.contents shelf.old) (file_of words.now)
-        (λ text. TellsWhy text (line_of words.now) (E.written err.old) (E.written err.new)) }
+        (λ text. TellsTruth Status.Refused text (line_of words.now) (E.written err.old) (E.written err.new)) }
     ensures no_slice { (text : Bytes) → NamesText words.now (F.contents shelf.old) text
+        → IsBelowLimits text
         → StartsNone text (line_of words.now)
         → IsOrYieldsToFault (E.faults err.old) (E.faults err.new) (F.faults shelf.old) (F.faults shelf.new)
-        result Status.Refused }
+        result Status.Refused
+        ⊎ ((result ≡ Status.Limit) × IsDeep text × Gains (E.written err.old) (E.written err.new) (limit Nesting)) }
+
+    // The limits: Limit comes exactly where a quantity of a text in the grammar is above its number, and for deep texts.
+    ensures limit { result ≡ Status.Limit → OfFile (F.contents shelf.old) (file_of words.now)
+        (λ text. TellsTruth Status.Limit text (line_of words.now) (E.written err.old) (E.written err.new)) }
+    ensures above { (text : Bytes) (name : LimitName) → NamesText words.now (F.contents shelf.old) text
+        → IsAboveLimit text name
+        → IsOrYieldsToFault (E.faults err.old) (E.faults err.new) (F.faults shelf.old) (F.faults shelf.new)
+        result Status.Limit }
+    ensures names_limit { (text : Bytes) (name : LimitName) → NamesText words.now (F.contents shelf.old) text
+        → IsAboveLimit text name → result ≡ Status.Limit
+        → Gains (E.written err.old) (E.written err.new) (limit name) }
 
     // The slice: after Done it is written, and where no fault came and memory sufficed, Done comes.
     ensures done { result ≡ Status.Done → OfFile (F.contents shelf.old) (file_of words.now)
@@ -93,7 +111,7 @@ pub fn run_slicer<F: Shelf, O: Sink, E: Sink>(
     };
     match slice_file(alloc, request, shelf) {
         Ok(written) => write_slice(&written, out, err),
-        Err(refusal) => report(alloc, refusal, request, err),
+        Err(refusal) => report(alloc, &refusal, request, err),
     }
 }
 

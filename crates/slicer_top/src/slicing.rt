@@ -1,15 +1,20 @@
 // From the name of a file to the text of a slice.
-ghost use Rattle.std.specs.Prelude.{◌≡◌, ◌<◌, ◌≤◌, ◌^◌, IfOk, IfErr, MatchOption, length};
+ghost use Rattle.std.specs.Prelude.{◌≡◌, ℕ, ◌<◌, ◌≤◌, ◌^◌, All, IfOk, IfErr, MatchOption, length};
 ghost use Rattle.edge_io.specs.Contents.{Lacks};
-ghost use Rattle.slice_engine.specs.Slice.{HasStart, IsSomeText};
+ghost use Rattle.built_forms.specs.Straight.{IsStraight};
+ghost use Rattle.c_reader.specs.Reading.{HasProgram};
+ghost use Rattle.slice_engine.specs.Slice.{HasStart};
 ghost use Rattle.slicer_top.specs.Files.{OfFile};
-ghost use Rattle.slicer_top.specs.Slices.{IsAccepted, LacksStart, IsSliceOf};
-ghost use Rattle.slicer_top.specs.Reports.{IsCause};
+ghost use Rattle.slicer_top.specs.Slices.{HasBuilt, IsSliceOf};
+ghost use Rattle.slicer_top.specs.Starts.{StartsBy, EndsBy};
+ghost use Rattle.slicer_top.specs.Reports.{IsReason, IsCause};
 
 use crate::refusal::Refusal;
 use crate::words::Request;
+use c_tree::numbered::own_start;
+use c_tree::{Program, Statement};
 use edge_io::{FetchFault, Shelf, Text};
-use slice_engine::{Criterion, Engine, StraightLineRefusal, read_straight_line};
+use slice_engine::{Criterion, Engine, ReadRefusal, not_yet, read_program};
 use std::alloc::Global;
 
 // The most bytes that a file may have.
@@ -38,33 +43,97 @@ pub(crate) fn slice_file<F: Shelf>(
     }
 }
 
-// Why this text gives no slice at a line, or the text of the slice.
+// The text of the slice at a line, or why this text gives none.
 fn slice_text_at(alloc: Global, text: &[u8], line: u64) -> Result<Text, Refusal>
     requires { length text.now ≤ 1048576 }
-    ensures ok { IfOk result (λ written. IsSliceOf text.now line written) }
-    ensures not_yet { result ≡ Err Refusal.NotYet → IsAccepted text.now → ⊥ }
-    ensures no_start { result ≡ Err Refusal.NoStart → LacksStart text.now line }
-    ensures unreadable { result ≡ Err Refusal.Unreadable → ⊥ }
-    ensures too_long { result ≡ Err Refusal.TooLong → ⊥ }
+    ensures ok { IfOk result (IsSliceOf text.now line) }
+    ensures err { IfErr result (IsReason text.now line) }
 {
-    let program = match read_straight_line(alloc, text) {
-        Ok(program) => program,
-        Err(StraightLineRefusal::NotYet) => return Err(Refusal::NotYet),
-        Err(StraightLineRefusal::NoMemory) => return Err(Refusal::NoMemory),
-    };
+    let program = built(alloc, text)?;
+    let last = last_start(&program);
     let engine = Engine::new(alloc, program)?;
-    let Some(criterion) = criterion_at(&engine, line) else {
+    let Some(criterion) = criterion_at(&engine, last, line) else {
         return Err(Refusal::NoStart);
     };
     let written = engine.slice_text(alloc, criterion)?;
     Ok(written)
 }
 
+// The program of a text of which nothing is outside the built forms.
+fn built(alloc: Global, text: &[u8]) -> Result<Program, Refusal>
+    requires { length text.now ≤ 1048576 }
+    ensures ok { IfOk result (HasBuilt text.now) }
+    ensures err { (line : ℕ) → IfErr result (IsReason text.now line) }
+{
+    let program = read(alloc, text)?;
+    match not_yet(&program) {
+        Some(line) => Err(Refusal::NotYet(line)),
+        None => Ok(program),
+    }
+}
+
+// The program of a text that is accepted and within the limits.
+fn read(alloc: Global, text: &[u8]) -> Result<Program, Refusal>
+    requires { length text.now ≤ 1048576 }
+    ensures ok { IfOk result (HasProgram text.now) }
+    ensures err { (line : ℕ) → IfErr result (IsReason text.now line) }
+{
+    match read_program(alloc, text) {
+        Ok(program) => Ok(program),
+        Err(ReadRefusal::Lex(fault)) => Err(Refusal::Lex(fault)),
+        Err(ReadRefusal::Parse(fault)) => Err(Refusal::Parse(fault)),
+        Err(ReadRefusal::Check(fault)) => Err(Refusal::Check(fault)),
+        Err(ReadRefusal::NoMemory) => Err(Refusal::NoMemory),
+    }
+}
+
+// The last line on which a statement of main starts, 0 where none does.
+fn last_start(program: &Program) -> u32
+    requires { IsStraight program.now }
+    ensures { EndsBy result program.now }
+{
+    match program.functions.get(0) {
+        Some(main) => last_in(main.body.as_slice()),
+        None => 0,
+    }
+}
+
+// The last line on which one of these statements starts, 0 where none does.
+fn last_in(body: &[Statement]) -> u32
+    ensures { All (StartsBy result) body.now }
+{
+    let mut last = 0;
+    for one in body {
+        last = later(last, line_of(one));
+    }
+    last
+}
+
+fn later(one: u32, other: u32) -> u32
+    ensures one { one ≤ result }
+    ensures other { other ≤ result }
+{
+    if one < other { other } else { one }
+}
+
+// The line on which a statement starts, 0 where it has no number.
+fn line_of(one: &Statement) -> u32
+    ensures { StartsBy result one.now }
+{
+    match own_start(one) {
+        Some((_, line)) => line,
+        None => 0,
+    }
+}
+
 // The criterion of a line, `None` where no statement starts there.
-fn criterion_at(engine: &Engine, line: u64) -> Option<Criterion>
-    requires { IsSomeText engine.now }
+fn criterion_at(engine: &Engine, last: u32, line: u64) -> Option<Criterion>
+    requires { EndsBy last engine.now }
     ensures { MatchOption result (HasStart engine.now line → ⊥) (λ c. (c.line ≡ line) × HasStart engine.now line) }
 {
+    if line > u64::from(last) {
+        return None;
+    }
     match u32::try_from(line) {
         Ok(line) => engine.criterion(line),
         Err(_) => None,

@@ -6,7 +6,7 @@ ghost use Rattle.std.specs.Prelude.{◌≡◌};
 pub enum Status {
     /// The slice is written. Code 0.
     Done,
-    /// The text isn't accepted, or no statement starts on the line. Code 1.
+    /// The text isn't accepted, something of it isn't built, or no statement starts on the line. Code 1.
     Refused,
     /// The words aren't `slice FILE LINE`. Code 2.
     Usage,
@@ -16,6 +16,8 @@ pub enum Status {
     WriteFault,
     /// There was no memory for the work. Code 5.
     NoMemory,
+    /// The program nests too deep, or an array or an object of it is too large. Code 8.
+    Limit,
     /// The file is longer than 1,048,576 bytes. Code 9.
     TooLong,
 }
@@ -34,6 +36,7 @@ impl Status {
             Status::ReadFault => 3,
             Status::WriteFault => 4,
             Status::NoMemory => 5,
+            Status::Limit => 8,
             Status::TooLong => 9,
         }
     }

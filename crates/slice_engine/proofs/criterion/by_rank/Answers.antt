@@ -1,4 +1,4 @@
-use Rattle.std.proofs.Common.{◌≡◌, ◌<◌, length, get_or, Bool, false, arith}
+use Rattle.std.proofs.Common.{◌<◌, length, get_or, Bool, false, arith}
 use Rattle.std.proofs.lemmas.List.{get_or_default}
 use Rattle.slice_engine.proofs.CriterionLemmas.{rank_step}
 use Rattle.slice_engine.proofs.criterion.by_rank.Goals as goal

@@ -1,6 +1,6 @@
-use Rattle.std.proofs.Common.{◌<◌, length, get_or, arith, ap, sym, ◌∙◌, ◌+◌, ◌*◌, below_more, take}
+use Rattle.std.proofs.Common.{get_or, arith, ap, sym, ◌∙◌, ◌+◌, ◌*◌, below_more, take}
 use Rattle.std.specs.Char.{IsAsciiDigit}
-use Rattle.c_language.specs.StraightLine.{decimal_from}
+use Rattle.slicer_top.specs.Words.{decimal_from}
 use Rattle.slicer_top.proofs.Numbers.{decimal_from-next, bound-next, number_read}
 use Rattle.slicer_top.proofs.words.read_number.Goals as goal
 

@@ -1,6 +1,6 @@
-use Rattle.std.proofs.Common.{◌≡◌, ℕ, ◌+◌, ◌^◌, ◌<◌, ◌≤◌, take, get_or}
-use Rattle.c_language.specs.StraightLine.{decimal_from}
+use Rattle.std.proofs.Common.{◌≡◌, ℕ, ◌^◌, ◌<◌, take, get_or}
 use Rattle.std.specs.Char.{IsAsciiDigit}
+use Rattle.slicer_top.specs.Words.{decimal_from}
 use Rattle.slicer_top.proofs.words.read_number.Given as goal
 
 abbrev pub invariant-loop-byte : goal.invariant-loop-byte

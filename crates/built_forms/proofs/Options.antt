@@ -1,0 +1,60 @@
+-- Options that are made of others.
+use Rattle.std.proofs.Common.{◌≡◌, List, ◌∷◌, Option, Some, None, option_map, option_and_then, refl, sym, ap, subst}
+use Rattle.c_language.specs.ConstantEvaluation.{both}
+use Rattle.c_language.specs.ProgramOf.{collected}
+
+pub none_some : {A : Type 0} {x : A} → ◌≡◌ {A = Option A} None (Some x) → ⊥
+none_some {A} e = subst (λ (o : Option A). nothing o) e tt
+  where
+    nothing : {B : Type 0} → Option B → Type 0
+    nothing None = Unit {0}
+    nothing (Some x) = ⊥
+
+pub same_some : {A : Type 0} {x y : A} → ◌≡◌ {A = Option A} (Some x) (Some y) → x ≡ y
+same_some {A} {x} e = ap or_first e
+  where
+    or_first : Option A → A
+    or_first None = x
+    or_first (Some z) = z
+
+-- what a value that is there was made of
+pub then_some : {A B : Type 0} (f : A → Option B) (o : Option A) (y : B) → option_and_then f o ≡ Some y → (x : A) × (o ≡ Some x) × (f x ≡ Some y)
+then_some f None y e = absurd (none_some e)
+then_some f (Some x) y e = (x, refl, e)
+
+pub map_some : {A B : Type 0} (f : A → B) (o : Option A) (y : B) → option_map f o ≡ Some y → (x : A) × (o ≡ Some x) × (y ≡ f x)
+map_some f None y e = absurd (none_some e)
+map_some f (Some x) y e = (x, refl, sym (same_some e))
+
+pub both_some : {A B C : Type 0} (f : A → B → C) (a : Option A) (b : Option B) (z : C) → both f a b ≡ Some z → (x : A) × (y : B) × (a ≡ Some x) × (b ≡ Some y) × (z ≡ f x y)
+both_some f None b z e = absurd (none_some e)
+both_some f (Some x) None z e = absurd (none_some e)
+both_some f (Some x) (Some y) z e = (x, y, refl, refl, sym (same_some e))
+
+-- a value that is there has a property
+abbrev pub Always : {A : Type 0} → (A → Type 0) → Option A → Type 0
+Always P None = Unit {0}
+Always P (Some x) = P x
+
+pub always_map : {A B : Type 0} (P : B → Type 0) (f : A → B) (o : Option A) → ((x : A) → P (f x)) → Always P (option_map f o)
+always_map P f None h = tt
+always_map P f (Some x) h = h x
+
+pub always_then : {A B : Type 0} (P : B → Type 0) (f : A → Option B) (o : Option A) → ((x : A) → Always P (f x)) → Always P (option_and_then f o)
+always_then P f None h = tt
+always_then P f (Some x) h = h x
+
+pub always_both : {A B C : Type 0} (P : C → Type 0) (f : A → B → C) (a : Option A) (b : Option B) → ((x : A) (y : B) → P (f x y)) → Always P (both f a b)
+always_both P f None b h = tt
+always_both P f (Some x) None h = tt
+always_both P f (Some x) (Some y) h = h x y
+
+pub always_is : {A : Type 0} (P : A → Type 0) (o : Option A) (x : A) → Always P o → o ≡ Some x → P x
+always_is P o x h e = subst (Always P) e h
+
+-- a list of values that are there
+pub collected_some : {A : Type 0} (o : Option A) (os : List (Option A)) (ys : List A) → collected (o ∷ os) ≡ Some ys → (x : A) × (xs : List A) × (o ≡ Some x) × (collected os ≡ Some xs) × (ys ≡ x ∷ xs)
+collected_some o os ys e =
+    let a = then_some _ o ys e in
+    let b = map_some _ (collected os) ys a.2 in
+    (a.0, b.0, a.1, b.1, b.2)

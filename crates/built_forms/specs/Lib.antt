@@ -1,0 +1,3 @@
+pub mod BuiltForms
+pub mod Straight
+pub mod IntegerForms

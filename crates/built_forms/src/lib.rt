@@ -1,0 +1,10 @@
+//! The built forms: which programs can be sliced so far.
+#![tactic(auto)]
+
+mod expressions;
+mod items;
+mod laws;
+mod statements;
+
+pub use items::not_yet;
+pub use laws::built_are_straight;

@@ -1,0 +1,498 @@
+-- Going along the items of a text and of a thinner one.
+use Rattle.std.proofs.Common.{◌≡◌, ◌<◌, ℕ, zero, suc, ◌+◌, List, [], ◌∷◌, ◌++◌, length, take, drop, map, Bool, true, false, ◌||◌, Option, Some, None, refl, sym, ap, subst, ◌∙◌, arith, inl, inr, slice_get}
+use Rattle.std.specs.Prelude.{Contains, option_and_then, if◌then◌else◌, bytes_eq}
+use Rattle.std.specs.List.{find, list_any}
+use Rattle.c_tree.specs.declared.raw.program.RawInit.TheVariants as init
+use Rattle.c_tree.specs.declared.raw.program.RawMember.{RawMember}
+use Rattle.c_tree.specs.declared.raw.program.RawParam.{RawParam}
+use Rattle.c_tree.specs.declared.raw.program.RawHead.{RawHead}
+use Rattle.c_tree.specs.declared.raw.program.RawItem.{RawItem}
+use Rattle.c_tree.specs.declared.raw.program.RawItem.TheVariants.{Include, Struct, Global, Prototype, Define}
+use Rattle.c_tree.specs.declared.raw.program.RawProgram.{RawProgram}
+use Rattle.c_tree.specs.declared.raw.statement.RawStatement.{RawStatement}
+use Rattle.c_language.specs.Words.{Bytes}
+use Rattle.c_language.specs.DeclaredTypes.{StructText, structs_of, functions_of, defined_functions, is_include}
+use Rattle.c_language.specs.Scopes.{Scope, outset, meaning_here, with_variable, with_function, with_parameter, with_parameters, with_named, parameter_of, scope_of_parameters, entered, opened, closed, in_order, after_all}
+use Rattle.c_language.specs.Phrases.{InFile, InHead, InBlock, Part, NamesStruct, DefinesStruct, HasMember, DeclaresFunction, Takes, EndsFunction, Declares, Phrase, Phrases, phrase, begun_phrases, joined_at, scoped, body_phrases, after_body, member_phrases, taken_phrases, parameter_phrases, head_phrases, item_phrases, after_item, items_phrases}
+use Rattle.c_language.specs.Uses.{holds}
+use Rattle.c_language.specs.Rules.{Breaks, IsBroken, KeepsRules}
+use Rattle.c_language.specs.NameRules.{main_name, IsDefinedBefore, DeclaresAgain}
+use Rattle.c_scope_laws.specs.Agreement.{Names, NamesFunction, IsVariable, EndsToo, PartsAgree}
+use Rattle.c_scope_laws.specs.Agreement.StandsFor.{there as as_it_is}
+use Rattle.projection.specs.Kept.{Kept}
+use Rattle.c_scope_laws.specs.Thinning.{NamesStay, ThinAll}
+use Rattle.c_scope_laws.specs.ThinTexts.{ParamStays, ParamsStay, ParamGoes, ParamsGo, MembersStay, ItemsThin, IsThinner}
+use Rattle.c_scope_laws.proofs.Options.{false_true}
+use Rattle.c_scope_laws.proofs.Trees.{first_in, later_in, in_left, in_right}
+use Rattle.c_scope_laws.proofs.Outside.{variable_same}
+use Rattle.c_scope_laws.proofs.Scopes.{text_is}
+use Rattle.c_scope_laws.specs.Following.{TextsAgree, Follows}
+use Rattle.c_scope_laws.proofs.Following.{follows_opened, follows_closed, variable_kept, variable_gone, function_kept, function_gone, places_agree}
+use Rattle.c_scope_laws.proofs.Counterparts.{AreCounterparts, in_either, none_stand, one_stands, both_stand, front_gone, counterpart_breaks}
+use Rattle.c_scope_laws.proofs.Walking.{all_walk, same_stands, begun_stand_as_it_is}
+
+-- ---- lists of definitions
+
+pub next_place : (n : ℕ) → n + 1 ≡ suc n
+next_place n = omega arith
+
+abbrev front : {A : Type 0} → A → List A → A
+front d [] = d
+front d (x ∷ xs) = x
+
+abbrev behind : {A : Type 0} → List A → List A
+behind [] = []
+behind (x ∷ xs) = xs
+
+abbrev IsCons : {A : Type 0} → List A → Type 0
+IsCons [] = ⊥
+IsCons (x ∷ xs) = Unit {0}
+
+nil_cons : {A B : Type 0} {x : A} {xs : List A} → ◌≡◌ {A = List A} [] (x ∷ xs) → B
+nil_cons h = absurd (subst IsCons (sym h) tt)
+
+module _ {A : Type 0} where
+  pub drop_next : (n : ℕ) (xs : List A) (h : A) (t : List A) → drop n xs ≡ h ∷ t → drop (suc n) xs ≡ t
+  drop_next zero [] h t is = nil_cons is
+  drop_next zero (x ∷ xs) h t is = ap behind is
+  drop_next (suc n) [] h t is = nil_cons is
+  drop_next (suc n) (x ∷ xs) h t is = drop_next n xs h t is
+
+  take_next : (n : ℕ) (xs : List A) (h : A) (t : List A) → drop n xs ≡ h ∷ t → take (suc n) xs ≡ take n xs ++ (h ∷ [])
+  take_next zero [] h t is = nil_cons is
+  take_next zero (x ∷ xs) h t is = ap (λ (y : A). y ∷ []) (ap (front h) is)
+  take_next (suc n) [] h t is = nil_cons is
+  take_next (suc n) (x ∷ xs) h t is = ap (λ (all : List A). x ∷ all) (take_next n xs h t is)
+
+  pub get_next : (n : ℕ) (xs : List A) (h : A) (t : List A) → drop n xs ≡ h ∷ t → slice_get xs n ≡ Some h
+  get_next zero [] h t is = nil_cons is
+  get_next zero (x ∷ xs) h t is = ap Some (ap (front h) is)
+  get_next (suc n) [] h t is = nil_cons is
+  get_next (suc n) (x ∷ xs) h t is = get_next n xs h t is
+
+  in_next : (n : ℕ) (xs : List A) (x : A) → Contains (take n xs) x → Contains (take (suc n) xs) x
+  in_next zero [] x c = c
+  in_next zero (y ∷ ys) x (i, within, is) = absurd (omega (arith, within))
+  in_next (suc n) [] x c = c
+  in_next (suc n) (y ∷ ys) x (zero, within, is) = (0, omega arith, is)
+  in_next (suc n) (y ∷ ys) x (suc i, within, is) = later_in y x (take (suc n) ys) (in_next n ys x (i, omega (arith, within), is))
+
+-- ---- lists of statements
+
+pub body_joined : (raw : RawProgram) (xs : List RawStatement) (scope : Scope) → joined_at InBlock (in_order (map (scoped raw) xs) scope) ≡ body_phrases raw xs scope
+body_joined raw [] scope = refl
+body_joined raw (x ∷ xs) scope = ap (λ (ps : Phrases). (scoped raw x).gives scope InBlock ++ ps) (body_joined raw xs ((scoped raw x).after scope))
+
+pub body_after : (raw : RawProgram) (xs : List RawStatement) (scope : Scope) → after_all (map (scoped raw) xs) scope ≡ after_body raw xs scope
+body_after raw [] scope = refl
+body_after raw (x ∷ xs) scope = body_after raw xs ((scoped raw x).after scope)
+
+-- ---- texts
+
+module _ (k : Kept) (raw other : RawProgram) where
+  structs_same : {scope : Scope} {xs ys : List RawItem} → ItemsThin k raw other scope xs ys → structs_of ys ≡ structs_of xs
+  structs_same ItemsThin.none = refl
+  structs_same (ItemsThin.include d) = structs_same d
+  structs_same (ItemsThin.tag d) = structs_same d
+  structs_same (ItemsThin.structure {w} {members} stay d) = ap (λ (all : List StructText). record { tag = w; members = members } ∷ all) (structs_same d)
+  structs_same (ItemsThin.global is stay begin d) = structs_same d
+  structs_same (ItemsThin.global_goes is d) = structs_same d
+  structs_same (ItemsThin.prototype is d) = structs_same d
+  structs_same (ItemsThin.prototype_goes is d) = structs_same d
+  structs_same (ItemsThin.define is ps body ends d) = structs_same d
+  structs_same (ItemsThin.define_goes is ps body d) = structs_same d
+
+  stdio_same : {scope : Scope} {xs ys : List RawItem} → ItemsThin k raw other scope xs ys → list_any (is_include false) ys ≡ list_any (is_include false) xs
+  stdio_same ItemsThin.none = refl
+  stdio_same (ItemsThin.include {is_stdlib} d) = ap (λ (b : Bool). is_include false (Include is_stdlib) || b) (stdio_same d)
+  stdio_same (ItemsThin.tag d) = stdio_same d
+  stdio_same (ItemsThin.structure stay d) = stdio_same d
+  stdio_same (ItemsThin.global is stay begin d) = stdio_same d
+  stdio_same (ItemsThin.global_goes is d) = stdio_same d
+  stdio_same (ItemsThin.prototype is d) = stdio_same d
+  stdio_same (ItemsThin.prototype_goes is d) = stdio_same d
+  stdio_same (ItemsThin.define is ps body ends d) = stdio_same d
+  stdio_same (ItemsThin.define_goes is ps body d) = stdio_same d
+
+  stdlib_same : {scope : Scope} {xs ys : List RawItem} → ItemsThin k raw other scope xs ys → list_any (is_include true) ys ≡ list_any (is_include true) xs
+  stdlib_same ItemsThin.none = refl
+  stdlib_same (ItemsThin.include {is_stdlib} d) = ap (λ (b : Bool). is_include true (Include is_stdlib) || b) (stdlib_same d)
+  stdlib_same (ItemsThin.tag d) = stdlib_same d
+  stdlib_same (ItemsThin.structure stay d) = stdlib_same d
+  stdlib_same (ItemsThin.global is stay begin d) = stdlib_same d
+  stdlib_same (ItemsThin.global_goes is d) = stdlib_same d
+  stdlib_same (ItemsThin.prototype is d) = stdlib_same d
+  stdlib_same (ItemsThin.prototype_goes is d) = stdlib_same d
+  stdlib_same (ItemsThin.define is ps body ends d) = stdlib_same d
+  stdlib_same (ItemsThin.define_goes is ps body d) = stdlib_same d
+
+  abbrev head_of : Bytes → List RawHead → Option RawHead
+  head_of x heads = find (λ (h : RawHead). bytes_eq h.name x) heads
+
+  definitions_same : {scope : Scope} {xs ys : List RawItem} (x : Bytes) → k.function x ≡ true → ItemsThin k raw other scope xs ys → head_of x (functions_of ys) ≡ head_of x (functions_of xs)
+  definitions_same x stays ItemsThin.none = refl
+  definitions_same x stays (ItemsThin.include d) = definitions_same x stays d
+  definitions_same x stays (ItemsThin.tag d) = definitions_same x stays d
+  definitions_same x stays (ItemsThin.structure stay d) = definitions_same x stays d
+  definitions_same x stays (ItemsThin.global is stay begin d) = definitions_same x stays d
+  definitions_same x stays (ItemsThin.global_goes is d) = definitions_same x stays d
+  definitions_same x stays (ItemsThin.prototype is d) = definitions_same x stays d
+  definitions_same x stays (ItemsThin.prototype_goes is d) = definitions_same x stays d
+  definitions_same x stays (ItemsThin.define {head} is ps body ends d) = ap (λ (o : Option RawHead). if bytes_eq head.name x then Some head else o) (definitions_same x stays d)
+  definitions_same x stays (ItemsThin.define_goes {head} {rest} is ps body d) = definitions_same x stays d ∙ by_name (bytes_eq head.name x) refl
+    where
+      by_name : (b : Bool) → bytes_eq head.name x ≡ b → head_of x (functions_of rest) ≡ (if b then Some head else head_of x (functions_of rest))
+      by_name true same = false_true (sym is ∙ ap k.function (text_is head.name x same) ∙ stays)
+      by_name false differs = refl
+
+  pub texts_agree : ItemsThin k raw other outset raw.items other.items → TextsAgree k raw other
+  texts_agree d = record {
+    outside = record { structs = structs_same d; stdio = stdio_same d; stdlib = stdlib_same d };
+    definitions = λ x stays. definitions_same x stays d;
+  }
+
+pub same_texts : (k : Kept) (raw : RawProgram) → TextsAgree k raw raw
+same_texts k raw = record { outside = record { structs = refl; stdio = refl; stdlib = refl }; definitions = λ x stays. refl }
+
+module _ (k : Kept) (raw other : RawProgram) (texts : TextsAgree k raw other) where
+  -- ---- phrases of items
+
+  -- a phrase that holds no expression, calls nothing and declares no function names nothing
+  nothing_named : {scope : Scope} (part : Part) → ((x : Bytes) → Names part x → ⊥) → ((x : Bytes) → NamesFunction part x → ⊥) → NamesStay k scope part
+  nothing_named part a b = record { names = λ x n. absurd (a x n); functions = λ x n. absurd (b x n) }
+
+  head_stays : {scope : Scope} (head : RawHead) (is_definition : Bool) → k.function head.name ≡ true → NamesStay k scope (DeclaresFunction head is_definition)
+  head_stays {scope} head is_definition is = record { names = λ x n. absurd (no_name x n); functions = functions }
+    where
+      no_name : (x : Bytes) → Names (DeclaresFunction head is_definition) x → ⊥
+      no_name x (Names.in_expression (holds (i, within, same) w)) = absurd (omega (arith, within))
+
+      functions : (x : Bytes) → NamesFunction (DeclaresFunction head is_definition) x → k.function x ≡ true
+      functions x NamesFunction.declared = is
+
+  tag_stays : {scope : Scope} (w : Bytes) → NamesStay k scope (NamesStruct w)
+  tag_stays w = nothing_named (NamesStruct w) no_name (λ x n. elim n [ ])
+    where
+      no_name : (x : Bytes) → Names (NamesStruct w) x → ⊥
+      no_name x (Names.in_expression (holds (i, within, same) h)) = absurd (omega (arith, within))
+
+  struct_stays : {scope : Scope} (w : Bytes) → NamesStay k scope (DefinesStruct w)
+  struct_stays w = nothing_named (DefinesStruct w) no_name (λ x n. elim n [ ])
+    where
+      no_name : (x : Bytes) → Names (DefinesStruct w) x → ⊥
+      no_name x (Names.in_expression (holds (i, within, same) h)) = absurd (omega (arith, within))
+
+  taken_stays : {scope : Scope} (before : List RawParam) (p : RawParam) → NamesStay k scope (Takes before p)
+  taken_stays before p = nothing_named (Takes before p) no_name (λ x n. elim n [ ])
+    where
+      no_name : (x : Bytes) → Names (Takes before p) x → ⊥
+      no_name x (Names.in_expression (holds (i, within, same) h)) = absurd (omega (arith, within))
+
+  end_stays : {scope : Scope} (head : RawHead) (body : List RawStatement) → NamesStay k scope (EndsFunction head body)
+  end_stays head body = nothing_named (EndsFunction head body) no_name (λ x n. elim n [ ])
+    where
+      no_name : (x : Bytes) → Names (EndsFunction head body) x → ⊥
+      no_name x (Names.in_expression (holds (i, within, same) h)) = absurd (omega (arith, within))
+
+  module _ {here there : ℕ} {mine yours : Option ℕ} {scope next : Scope} (f : Follows k raw other here there mine yours scope next) where
+    stands : (l : ℕ) (part : Part) → NamesStay k scope part → AreCounterparts k raw other (phrase l next part ∷ []) (phrase l scope part ∷ [])
+    stands l part stay = same_stands k raw other texts here there mine yours l part stay f
+
+    members_stand : (before ms : List RawMember) → MembersStay k scope ms → AreCounterparts k raw other (member_phrases next before ms) (member_phrases scope before ms)
+    members_stand before [] stay = none_stand k raw other []
+    members_stand before (m ∷ ms) stay =
+        both_stand k raw other (phrase m.line next (HasMember before m) ∷ []) (member_phrases next (before ++ m ∷ []) ms) (phrase m.line scope (HasMember before m) ∷ []) (member_phrases scope (before ++ m ∷ []) ms)
+        (stands m.line (HasMember before m) (stay before m (first_in m ms))) (members_stand (before ++ m ∷ []) ms (λ b x c. stay b x (later_in m x ms c)))
+
+    taken_stand : (before ps : List RawParam) → AreCounterparts k raw other (taken_phrases next before ps) (taken_phrases scope before ps)
+    taken_stand before [] = none_stand k raw other []
+    taken_stand before (p ∷ ps) =
+        both_stand k raw other (phrase p.line next (Takes before p) ∷ []) (taken_phrases next (before ++ p ∷ []) ps) (phrase p.line scope (Takes before p) ∷ []) (taken_phrases scope (before ++ p ∷ []) ps)
+        (stands p.line (Takes before p) (taken_stays before p)) (taken_stand (before ++ p ∷ []) ps)
+
+    -- with more struct types that are complete
+    pub structs_follow : Follows k raw other here there mine yours (record scope { structs = scope.structs + 1 }) (record next { structs = next.structs + 1 })
+    structs_follow = record {
+      names = f.names;
+      within = f.within;
+      outer = f.outer;
+      variables = f.variables;
+      statements = f.statements;
+      before = f.before;
+      around = f.around;
+      functions = f.functions;
+      others = f.others;
+      structs = ap (λ (n : ℕ). n + 1) f.structs;
+      owner = f.owner;
+      other_owner = f.other_owner;
+    }
+
+    -- in another function
+    placed : (o q : Option ℕ) (a b : ℕ) → ((x : Bytes) → IsDefinedBefore other (record next { owner = q; functions = b }) x → IsDefinedBefore raw (record scope { owner = o; functions = a }) x)
+        → option_and_then (slice_get (defined_functions other)) q ≡ option_and_then (slice_get (defined_functions raw)) o
+        → Follows k raw other a b o q (record scope { owner = o; functions = a }) (record next { owner = q; functions = b })
+    placed o q a b before around = record {
+      names = f.names;
+      within = f.within;
+      outer = f.outer;
+      structs = f.structs;
+      variables = f.variables;
+      statements = f.statements;
+      functions = refl;
+      others = refl;
+      before = before;
+      around = around;
+      owner = refl;
+      other_owner = refl;
+    }
+
+  -- ---- parameters
+
+  pub record ParamsWalk (here there : ℕ) (mine yours : Option ℕ) (scope next : Scope) (ps : List RawParam) : Type 0 where
+    pub phrases : AreCounterparts k raw other (head_phrases other ps next) (head_phrases raw ps scope)
+    pub after : Follows k raw other here there mine yours (with_parameters raw ps scope) (with_parameters other ps next)
+
+  pub param_walks : {here there : ℕ} {mine yours : Option ℕ} {scope next : Scope} (p : RawParam) (name : Option Bytes) → ParamStays k scope p name → Follows k raw other here there mine yours scope next
+      → AreCounterparts k raw other (parameter_phrases other p name next) (parameter_phrases raw p name scope) × Follows k raw other here there mine yours (with_named raw p name scope) (with_named other p name next)
+  param_walks p None h f = (none_stand k raw other [], f)
+  param_walks {scope} {next} p (Some name) h f = (
+    stands f p.line (Declares InHead (parameter_of p name) init.None) h.1,
+    variable_kept k raw other (parameter_of p name) (parameter_of p name) init.None init.None h.0 refl (variable_same raw other texts.outside (parameter_of p name) init.None).type f,
+  )
+
+  pub params_walk : {here there : ℕ} {mine yours : Option ℕ} (ps : List RawParam) (scope next : Scope) → ParamsStay k raw ps scope → Follows k raw other here there mine yours scope next → ParamsWalk here there mine yours scope next ps
+  params_walk [] scope next h f = record { phrases = none_stand k raw other []; after = f }
+  params_walk (p ∷ ps) scope next h f =
+      let w = param_walks p p.name h.0 f in
+      let v = params_walk ps (with_parameter raw p scope) (with_parameter other p next) h.1 w.1 in
+      record { phrases = both_stand k raw other _ _ _ _ w.0 v.phrases; after = v.after }
+
+  param_gone : {here there : ℕ} {mine yours : Option ℕ} {scope next : Scope} (p : RawParam) (name : Option Bytes) → ParamGoes k scope name → Follows k raw other here there mine yours scope next → Follows k raw other here there mine yours (with_named raw p name scope) next
+  param_gone p None h f = f
+  param_gone p (Some name) h f = variable_gone k raw other (parameter_of p name) init.None h f
+
+  pub params_gone : {here there : ℕ} {mine yours : Option ℕ} (ps : List RawParam) (scope next : Scope) → ParamsGo k raw ps scope → Follows k raw other here there mine yours scope next → Follows k raw other here there mine yours (with_parameters raw ps scope) next
+  params_gone [] scope next h f = f
+  params_gone (p ∷ ps) scope next h f = params_gone ps (with_parameter raw p scope) next h.1 (param_gone p p.name h.0 f)
+
+  -- ---- functions
+
+  module _ {here there : ℕ} {mine yours : Option ℕ} {scope next : Scope} (f : Follows k raw other here there mine yours scope next) (head : RawHead) where
+    -- where the functions that are still to come begin with one that stays, its parameters begin at both places
+    pub enters : (rest more : List RawHead) → k.function head.name ≡ true → (IsVariable (meaning_here scope head.name) → ⊥)
+        → drop here (defined_functions raw) ≡ head ∷ rest → drop there (defined_functions other) ≡ head ∷ more
+        → Follows k raw other (suc here) (suc there) (Some here) (Some there) (scope_of_parameters head scope) (scope_of_parameters head next)
+    enters rest more is none at_raw at_other =
+        let g = follows_opened k raw other (function_kept k raw other head.name is none f) in
+        recounted (placed g (Some scope.functions) (Some next.functions) (scope.functions + 1) (next.functions + 1) before
+        (ap (slice_get (defined_functions other)) f.others ∙ get_next there (defined_functions other) head more at_other
+        ∙ sym (ap (slice_get (defined_functions raw)) f.functions ∙ get_next here (defined_functions raw) head rest at_raw)))
+        (ap (λ (n : ℕ). n + 1) f.functions ∙ next_place here) (ap (λ (n : ℕ). n + 1) f.others ∙ next_place there) (ap Some f.functions) (ap Some f.others)
+      where
+        recounted : {a b c d : ℕ} {o q u v : Option ℕ} {x y : Scope} → Follows k raw other a b o q x y → a ≡ c → b ≡ d → o ≡ u → q ≡ v → Follows k raw other c d u v x y
+        recounted {a} {b} {c} {d} {o} {q} {u} {v} {x} {y} g p r t w =
+            subst (λ (m : Option ℕ). Follows k raw other c d u m x y) w (subst (λ (m : Option ℕ). Follows k raw other c d m q x y) t
+            (subst (λ (m : ℕ). Follows k raw other c m o q x y) r (subst (λ (m : ℕ). Follows k raw other m b o q x y) p g)))
+
+        -- the functions that are defined once this one is
+        all_other : take (next.functions + 1) (defined_functions other) ≡ take there (defined_functions other) ++ (head ∷ [])
+        all_other = ap (λ (n : ℕ). take n (defined_functions other)) (ap (λ (n : ℕ). n + 1) f.others ∙ next_place there) ∙ take_next there (defined_functions other) head more at_other
+
+        all_raw : take (scope.functions + 1) (defined_functions raw) ≡ take here (defined_functions raw) ++ (head ∷ [])
+        all_raw = ap (λ (n : ℕ). take n (defined_functions raw)) (ap (λ (n : ℕ). n + 1) f.functions ∙ next_place here) ∙ take_next here (defined_functions raw) head rest at_raw
+
+        from_before : (x : Bytes) (h : RawHead) → h.name ≡ x → Contains (take there (defined_functions other)) h → (g : RawHead) × Contains (take (scope.functions + 1) (defined_functions raw)) g × (g.name ≡ x)
+        from_before x h name c =
+            let earlier = f.before x (h, subst (λ (n : ℕ). Contains (take n (defined_functions other)) h) (sym f.others) c, name) in (
+              earlier.0,
+              subst (λ (all : List RawHead). Contains all earlier.0) (sym all_raw) (in_left (take here (defined_functions raw)) (head ∷ []) earlier.0
+                  (subst (λ (n : ℕ). Contains (take n (defined_functions raw)) earlier.0) f.functions earlier.1)),
+              earlier.2,
+            )
+
+        before : (x : Bytes) → (h : RawHead) × Contains (take (next.functions + 1) (defined_functions other)) h × (h.name ≡ x)
+            → (h : RawHead) × Contains (take (scope.functions + 1) (defined_functions raw)) h × (h.name ≡ x)
+        before x h = elim (in_either (take there (defined_functions other)) (head ∷ []) h.0 (subst (λ (all : List RawHead). Contains all h.0) all_other h.1)) [
+          | inl c ↦ from_before x h.0 h.2 c
+          | inr c ↦ (h.0, subst (λ (all : List RawHead). Contains all h.0) (sym all_raw) (in_right (take here (defined_functions raw)) (head ∷ []) h.0 c), h.2)
+        ]
+
+-- the same place of the text itself, inside a function of which nothing stays, with the names and numbers that stay
+abbrev pub left_base : Scope → Scope → Scope
+left_base next scope = record (opened next) { owner = Some scope.functions; functions = scope.functions + 1 }
+
+pub entered_alone : (k : Kept) (raw other : RawProgram) {here there : ℕ} {mine yours : Option ℕ} {scope next : Scope} → Follows k raw other here there mine yours scope next → (head : RawHead) → k.function head.name ≡ false
+    → ParamsGo k raw head.params (scope_of_parameters head scope)
+    → Follows k raw raw (scope.functions + 1) (scope.functions + 1) (Some scope.functions) (Some scope.functions) (entered raw head scope) (left_base next scope)
+entered_alone k raw other {here} {there} {mine} {yours} {scope} {next} f head is gone =
+    params_gone k raw raw (same_texts k raw) head.params (scope_of_parameters head scope) (left_base next scope) gone
+    (record {
+      names = og.names;
+      within = og.within;
+      outer = og.outer;
+      structs = og.structs;
+      variables = og.variables;
+      statements = og.statements;
+      before = λ x h. h;
+      around = refl;
+      functions = refl;
+      others = refl;
+      owner = refl;
+      other_owner = refl;
+    })
+  where
+    og : Follows k raw other here there mine yours (opened (with_function head.name scope)) (opened next)
+    og = follows_opened k raw other (function_gone k raw other head.name is f)
+
+-- after a function of which nothing stays
+module _ (k : Kept) (raw other : RawProgram) {here there : ℕ} {mine yours : Option ℕ} {scope next : Scope} (f : Follows k raw other here there mine yours scope next) (line : ℕ) (head : RawHead) (body : List RawStatement) where
+  pub leaves : k.function head.name ≡ false → ParamsGo k raw head.params (scope_of_parameters head scope) → ThinAll k raw raw (entered raw head scope) body []
+      → Follows k raw other (suc here) there mine yours (after_item raw (Define line head body) scope) next
+  leaves is gone d = record {
+    names = g.names;
+    within = g.within;
+    outer = g.outer;
+    around = g.around;
+    others = g.others;
+    owner = g.owner;
+    other_owner = g.other_owner;
+    structs = inside.structs;
+    variables = inside.variables;
+    statements = inside.statements;
+    functions = inside.functions ∙ ap (λ (n : ℕ). n + 1) f.functions ∙ next_place here;
+    before = λ x h. inside.before x (later x (f.before x h));
+  }
+    where
+      g : Follows k raw other here there mine yours (with_function head.name scope) next
+      g = function_gone k raw other head.name is f
+
+      base : Scope
+      base = left_base next scope
+
+      inside : Follows k raw raw (scope.functions + 1) (scope.functions + 1) (Some scope.functions) (Some scope.functions) (after_body raw body (entered raw head scope)) base
+      inside =
+          let h = entered_alone k raw other f head is gone in
+          let w = all_walk k raw raw (same_texts k raw) (scope.functions + 1) (scope.functions + 1) (Some scope.functions) (Some scope.functions) d base InBlock InBlock as_it_is h in
+          subst (λ (z : Scope). Follows k raw raw (scope.functions + 1) (scope.functions + 1) (Some scope.functions) (Some scope.functions) z base) (body_after raw body (entered raw head scope)) w.after
+
+      later : (x : Bytes) → IsDefinedBefore raw scope x → IsDefinedBefore raw base x
+      later x h = (h.0, subst (λ (n : ℕ). Contains (take n (defined_functions raw)) h.0) (sym (next_place scope.functions)) (in_next scope.functions (defined_functions raw) h.0 h.1), h.2)
+
+-- ---- the walk
+
+-- no phrase of these breaks a rule
+abbrev pub AreRight : RawProgram → Phrases → Type 0
+AreRight raw ps = (p : Phrase) → Contains ps p → (n : ℕ) → Breaks raw p.scope p.part n → ⊥
+
+module _ (k : Kept) (raw other : RawProgram) (texts : TextsAgree k raw other) where
+  pub no_variable_there : (line : ℕ) (scope : Scope) (head : RawHead) (is_definition : Bool) (rest : Phrases) → AreRight raw (phrase line scope (DeclaresFunction head is_definition) ∷ rest) → IsVariable (meaning_here scope head.name) → ⊥
+  no_variable_there line scope head is_definition rest right v =
+      right (phrase line scope (DeclaresFunction head is_definition)) (first_in _ rest) 2 (Breaks.declared_again (DeclaresAgain.function v.2))
+
+  pub rest_right : (ps qs : Phrases) → AreRight raw (ps ++ qs) → AreRight raw qs
+  rest_right ps qs right p c = right p (in_right ps qs p c)
+
+  abbrev Walk : (scope next : Scope) (xs ys : List RawItem) → Type 0
+  Walk scope next xs ys = AreCounterparts k raw other (items_phrases other ys next) (items_phrases raw xs scope)
+
+  pub define_stands : {here there : ℕ} {mine yours : Option ℕ} {scope next : Scope} (line : ℕ) (head : RawHead) (body some : List RawStatement) (rest more : List RawHead) → Follows k raw other here there mine yours scope next → k.function head.name ≡ true
+      → (IsVariable (meaning_here scope head.name) → ⊥) → ParamsStay k raw head.params (scope_of_parameters head scope) → ThinAll k raw other (entered raw head scope) body some → EndsToo head body some
+      → drop here (defined_functions raw) ≡ head ∷ rest → drop there (defined_functions other) ≡ head ∷ more
+      → AreCounterparts k raw other (item_phrases other (Define line head some) next) (item_phrases raw (Define line head body) scope)
+      × Follows k raw other (suc here) (suc there) mine yours (after_item raw (Define line head body) scope) (after_item other (Define line head some) next)
+  define_stands {here} {there} {mine} {yours} {scope} {next} line head body some rest more f is none stay d ends at_raw at_other =
+      let e = enters k raw other texts f head rest more is none at_raw at_other in
+      let p = params_walk k raw other texts head.params (scope_of_parameters head scope) (scope_of_parameters head next) stay e in
+      let w = all_walk k raw other texts (suc here) (suc there) (Some here) (Some there) d (entered other head next) InBlock InBlock as_it_is p.after in (
+        both_stand k raw other (phrase line next (DeclaresFunction head true) ∷ []) _ (phrase line scope (DeclaresFunction head true) ∷ []) _
+            (stands k raw other texts f line (DeclaresFunction head true) (head_stays k raw other texts head true is))
+            (both_stand k raw other (head_phrases other head.params (scope_of_parameters head next)) _ (head_phrases raw head.params (scope_of_parameters head scope)) _ p.phrases
+            (both_stand k raw other (body_phrases other some (entered other head next)) _ (body_phrases raw body (entered raw head scope)) _
+            (subst (λ (qs : Phrases). AreCounterparts k raw other qs (body_phrases raw body (entered raw head scope))) (body_joined other some (entered other head next))
+            (subst (λ (ps : Phrases). AreCounterparts k raw other (joined_at InBlock (in_order (map (scoped other) some) (entered other head next))) ps) (body_joined raw body (entered raw head scope)) w.phrases))
+            (one_stands k raw other line line scope next (EndsFunction head body) (EndsFunction head some) (PartsAgree.ends ends) (places_agree k raw other texts f (end_stays k raw other texts head some))))),
+        subst (λ (z : Scope). Follows k raw other (suc here) (suc there) mine yours (after_item raw (Define line head body) scope) (closed (with_function head.name next) z)) (body_after other some (entered other head next))
+            (subst (λ (z : Scope). Follows k raw other (suc here) (suc there) mine yours (closed (with_function head.name scope) z) (closed (with_function head.name next) (after_all (map (scoped other) some) (entered other head next))))
+            (body_after raw body (entered raw head scope)) (follows_closed k raw other (function_kept k raw other head.name is none f) w.after)),
+      )
+
+  items_walk : {scope : Scope} {xs ys : List RawItem} → ItemsThin k raw other scope xs ys → (here there : ℕ) (mine yours : Option ℕ) (next : Scope) → Follows k raw other here there mine yours scope next
+      → drop here (defined_functions raw) ≡ functions_of xs → drop there (defined_functions other) ≡ functions_of ys → AreRight raw (items_phrases raw xs scope) → Walk scope next xs ys
+  items_walk ItemsThin.none here there mine yours next f at_raw at_other right = none_stand k raw other []
+  items_walk (ItemsThin.include d) here there mine yours next f at_raw at_other right = items_walk d here there mine yours next f at_raw at_other right
+  items_walk {scope} (ItemsThin.tag {l} {w} {rest} {others} d) here there mine yours next f at_raw at_other right =
+      both_stand k raw other (phrase l next (NamesStruct w) ∷ []) (items_phrases other others next) (phrase l scope (NamesStruct w) ∷ []) (items_phrases raw rest scope)
+      (stands k raw other texts f l (NamesStruct w) (tag_stays k raw other texts w))
+      (items_walk d here there mine yours next f at_raw at_other (rest_right (phrase l scope (NamesStruct w) ∷ []) (items_phrases raw rest scope) right))
+  items_walk {scope} (ItemsThin.structure {l} {w} {members} {rest} {others} stay d) here there mine yours next f at_raw at_other right =
+      both_stand k raw other (item_phrases other (Struct l w members) next) _ (item_phrases raw (Struct l w members) scope) _
+      (both_stand k raw other (phrase l next (DefinesStruct w) ∷ []) (member_phrases next [] members) (phrase l scope (DefinesStruct w) ∷ []) (member_phrases scope [] members)
+      (stands k raw other texts f l (DefinesStruct w) (struct_stays k raw other texts w)) (members_stand k raw other texts f [] members stay))
+      (items_walk d here there mine yours (after_item other (Struct l w members) next) (structs_follow k raw other texts f) at_raw at_other (rest_right (item_phrases raw (Struct l w members) scope) _ right))
+  items_walk {scope} (ItemsThin.global {l} {v} {i} {is_static} {rest} {others} is stay begin d) here there mine yours next f at_raw at_other right =
+      let like = variable_same raw other texts.outside v i in
+      let g = variable_kept k raw other v v i i is like.name like.type f in
+      both_stand k raw other (item_phrases other (Global l v i is_static) next) _ (item_phrases raw (Global l v i is_static) scope) _
+      (both_stand k raw other (phrase l next (Declares (InFile is_static) v i) ∷ []) (begun_phrases l (with_variable other v i next) (InFile is_static) v i)
+      (phrase l scope (Declares (InFile is_static) v i) ∷ []) (begun_phrases l (with_variable raw v i scope) (InFile is_static) v i)
+      (stands k raw other texts f l (Declares (InFile is_static) v i) stay) (begun_stand_as_it_is k raw other texts here there mine yours l (InFile is_static) v i begin g))
+      (items_walk d here there mine yours (with_variable other v i next) g at_raw at_other (rest_right (item_phrases raw (Global l v i is_static) scope) _ right))
+  items_walk {scope} (ItemsThin.global_goes {l} {v} {i} {is_static} is d) here there mine yours next f at_raw at_other right =
+      front_gone k raw other _ (item_phrases raw (Global l v i is_static) scope) _
+      (items_walk d here there mine yours next (variable_gone k raw other v i is f) at_raw at_other (rest_right (item_phrases raw (Global l v i is_static) scope) _ right))
+  items_walk {scope} (ItemsThin.prototype {l} {head} {rest} {others} is d) here there mine yours next f at_raw at_other right =
+      both_stand k raw other (item_phrases other (Prototype l head) next) _ (item_phrases raw (Prototype l head) scope) _
+      (both_stand k raw other (phrase l next (DeclaresFunction head false) ∷ []) (taken_phrases next [] head.params) (phrase l scope (DeclaresFunction head false) ∷ []) (taken_phrases scope [] head.params)
+      (stands k raw other texts f l (DeclaresFunction head false) (head_stays k raw other texts head false is)) (taken_stand k raw other texts f [] head.params))
+      (items_walk d here there mine yours (with_function head.name next) (function_kept k raw other head.name is (no_variable_there l scope head false _ right) f) at_raw at_other
+      (rest_right (item_phrases raw (Prototype l head) scope) _ right))
+  items_walk {scope} (ItemsThin.prototype_goes {l} {head} is d) here there mine yours next f at_raw at_other right =
+      front_gone k raw other _ (item_phrases raw (Prototype l head) scope) _
+      (items_walk d here there mine yours next (function_gone k raw other head.name is f) at_raw at_other (rest_right (item_phrases raw (Prototype l head) scope) _ right))
+  items_walk {scope} (ItemsThin.define {l} {head} {body} {some} {rest} {others} is stay thin ends d) here there mine yours next f at_raw at_other right =
+      let w = define_stands l head body some (functions_of rest) (functions_of others) f is (no_variable_there l scope head true _ right) stay thin ends at_raw at_other in
+      both_stand k raw other (item_phrases other (Define l head some) next) _ (item_phrases raw (Define l head body) scope) _ w.0
+      (items_walk d (suc here) (suc there) mine yours (after_item other (Define l head some) next) w.1 (drop_next here (defined_functions raw) head (functions_of rest) at_raw) (drop_next there (defined_functions other) head (functions_of others) at_other)
+      (rest_right (item_phrases raw (Define l head body) scope) _ right))
+  items_walk {scope} (ItemsThin.define_goes {l} {head} {body} {rest} is gone thin d) here there mine yours next f at_raw at_other right =
+      front_gone k raw other _ (item_phrases raw (Define l head body) scope) _
+      (items_walk d (suc here) there mine yours next (leaves k raw other f l head body is gone thin) (drop_next here (defined_functions raw) head (functions_of rest) at_raw) at_other
+      (rest_right (item_phrases raw (Define l head body) scope) _ right))
+
+-- at the beginning of both texts
+pub begins_follow : (k : Kept) (raw other : RawProgram) → Follows k raw other 0 0 None None outset outset
+begins_follow k raw other = record {
+  names = refl;
+  within = omega arith;
+  outer = refl;
+  structs = refl;
+  variables = refl;
+  statements = refl;
+  around = refl;
+  functions = refl;
+  others = refl;
+  owner = refl;
+  other_owner = refl;
+  before = none_before;
+}
+  where
+    none_before : (x : Bytes) → IsDefinedBefore other outset x → IsDefinedBefore raw outset x
+    none_before x (h, (i, within, is), name) = absurd (no_place (defined_functions other) within)
+      where
+        no_place : (all : List RawHead) → i < length (take 0 all) → ⊥
+        no_place [] within = omega (arith, within)
+        no_place (y ∷ ys) within = omega (arith, within)
+
+pub drop_none : {A : Type 0} (xs : List A) → drop 0 xs ≡ xs
+drop_none [] = refl
+drop_none (x ∷ xs) = refl
+
+-- a thinner text keeps the rules that the text keeps
+pub thinner_keeps : (k : Kept) (raw other : RawProgram) → IsThinner k raw other → KeepsRules raw → KeepsRules other
+thinner_keeps k raw other thin keeps number line (IsBroken.by_phrase {n} {p = q} c breaks) =
+    let texts = texts_agree k raw other thin.items in
+    let p = items_walk k raw other texts thin.items 0 0 None None outset (begins_follow k raw other) (drop_none (defined_functions raw)) (drop_none (defined_functions other)) (λ p c n b. keeps n p.line (IsBroken.by_phrase c b)) q c in
+    keeps n p.phrase.line (IsBroken.by_phrase p.stands (counterpart_breaks k raw other p breaks))
+thinner_keeps k raw other thin keeps number line (IsBroken.no_main none) =
+    let texts = texts_agree k raw other thin.items in
+    keeps 5 1 (IsBroken.no_main (sym (texts.definitions main_name thin.main) ∙ none))

@@ -1,0 +1,158 @@
+-- The tree of each form of statement, and what stays of it, as equations.
+use Rattle.std.proofs.Common.{◌≡◌, ℕ, Bool, List, map, Option, Some, None, option_map, sym, ap, ◌∙◌}
+use Rattle.c_arith.specs.declared.operators.BinaryOp.{BinaryOp}
+use Rattle.c_tree.specs.declared.types.CType.{CType}
+use Rattle.c_tree.specs.declared.expr.Expr.{Expr}
+use Rattle.c_tree.specs.declared.program.Init.{Init}
+use Rattle.c_tree.specs.declared.statement.Target.{Target}
+use Rattle.c_tree.specs.declared.statement.Amount.{Amount}
+use Rattle.c_tree.specs.declared.statement.Label.{Label}
+use Rattle.c_tree.specs.declared.statement.Arm.{Arm, roll-Arm, fold-roll-Arm}
+use Rattle.c_tree.specs.declared.statement.Statement.{Statement, fold-roll-Statement}
+use Rattle.c_tree.specs.declared.statement.Statement.TheOpen.{Statement-F}
+use Rattle.c_tree.specs.declared.statement.Statement.TheVariants as t
+use Rattle.c_tree.specs.declared.raw.expr.RawExpr.{RawExpr}
+use Rattle.c_tree.specs.declared.raw.expr.RawVar.{RawVar}
+use Rattle.c_tree.specs.declared.raw.program.RawInit.{RawInit}
+use Rattle.c_tree.specs.declared.raw.program.RawProgram.{RawProgram}
+use Rattle.c_tree.specs.declared.raw.statement.RawTypeName.{RawTypeName}
+use Rattle.c_tree.specs.declared.raw.statement.RawTarget.{RawTarget}
+use Rattle.c_tree.specs.declared.raw.statement.RawArg.{RawArg}
+use Rattle.c_tree.specs.declared.raw.statement.RawAmount.{RawAmount}
+use Rattle.c_tree.specs.declared.raw.statement.RawLabel.{RawLabel}
+use Rattle.c_tree.specs.declared.raw.statement.RawStatement.{RawStatement, fold-roll-RawStatement}
+use Rattle.c_tree.specs.declared.raw.statement.RawStatement.TheOpen.{RawStatement-F}
+use Rattle.c_tree.specs.declared.raw.statement.RawStatement.TheVariants as s
+use Rattle.c_tree.specs.declared.raw.statement.RawArm.{RawArm, roll-RawArm, fold-RawArm, fold-roll-RawArm}
+use Rattle.c_language.specs.Words.{Bytes}
+use Rattle.c_language.specs.Scopes.{Scoped}
+use Rattle.c_language.specs.ProgramOf.{ArmTree, treed_step, arm_tree_step, treed}
+use Rattle.projection.specs.Renumbering.{renamed_label}
+use Rattle.projection.specs.Kept.{Kept, rank}
+use Rattle.projection.specs.Projection.{flat, declaring_step, declaring_arm, is_declaring, projected_step, projected_arm_step, projected, projected_arm}
+
+module _ (raw : RawProgram) where
+  -- an arm in the tree, by the promoted type of the switch
+  abbrev pub treed_arm : RawArm → Scoped ArmTree
+  treed_arm = fold-RawArm (Scoped (Option Statement)) (Scoped ArmTree) (treed_step raw) (arm_tree_step raw)
+
+  pub treed-Declare : (l : ℕ) (v : RawVar) (i : RawInit) → treed raw (s.Declare l v i) ≡ treed_step raw (RawStatement-F.Declare l v i)
+  treed-Declare l v i = ap (treed raw) (sym (s.rolls-Declare l v i)) ∙ fold-roll-RawStatement (Scoped (Option Statement)) (Scoped ArmTree) (treed_step raw) (arm_tree_step raw) (RawStatement-F.Declare l v i)
+
+  pub treed-Assign : (l : ℕ) (a : RawExpr) (op : Option BinaryOp) (b : RawExpr) → treed raw (s.Assign l a op b) ≡ treed_step raw (RawStatement-F.Assign l a op b)
+  treed-Assign l a op b = ap (treed raw) (sym (s.rolls-Assign l a op b)) ∙ fold-roll-RawStatement (Scoped (Option Statement)) (Scoped ArmTree) (treed_step raw) (arm_tree_step raw) (RawStatement-F.Assign l a op b)
+
+  pub treed-Call : (l : ℕ) (to : RawTarget) (f : Bytes) (args : List RawArg) → treed raw (s.Call l to f args) ≡ treed_step raw (RawStatement-F.Call l to f args)
+  treed-Call l to f args = ap (treed raw) (sym (s.rolls-Call l to f args)) ∙ fold-roll-RawStatement (Scoped (Option Statement)) (Scoped ArmTree) (treed_step raw) (arm_tree_step raw) (RawStatement-F.Call l to f args)
+
+  pub treed-Heap : (l : ℕ) (to : RawTarget) (cast : Option RawTypeName) (n : RawAmount) → treed raw (s.Heap l to cast n) ≡ treed_step raw (RawStatement-F.Heap l to cast n)
+  treed-Heap l to cast n = ap (treed raw) (sym (s.rolls-Heap l to cast n)) ∙ fold-roll-RawStatement (Scoped (Option Statement)) (Scoped ArmTree) (treed_step raw) (arm_tree_step raw) (RawStatement-F.Heap l to cast n)
+
+  pub treed-If : (l : ℕ) (e : RawExpr) (a b : List RawStatement) → treed raw (s.If l e a b) ≡ treed_step raw (RawStatement-F.If l e (map (treed raw) a) (map (treed raw) b))
+  treed-If l e a b = ap (treed raw) (sym (s.rolls-If l e a b)) ∙ fold-roll-RawStatement (Scoped (Option Statement)) (Scoped ArmTree) (treed_step raw) (arm_tree_step raw) (RawStatement-F.If l e a b)
+
+  pub treed-While : (l : ℕ) (e : RawExpr) (b : List RawStatement) → treed raw (s.While l e b) ≡ treed_step raw (RawStatement-F.While l e (map (treed raw) b))
+  treed-While l e b = ap (treed raw) (sym (s.rolls-While l e b)) ∙ fold-roll-RawStatement (Scoped (Option Statement)) (Scoped ArmTree) (treed_step raw) (arm_tree_step raw) (RawStatement-F.While l e b)
+
+  pub treed-Do : (l : ℕ) (e : RawExpr) (b : List RawStatement) → treed raw (s.Do l e b) ≡ treed_step raw (RawStatement-F.Do l e (map (treed raw) b))
+  treed-Do l e b = ap (treed raw) (sym (s.rolls-Do l e b)) ∙ fold-roll-RawStatement (Scoped (Option Statement)) (Scoped ArmTree) (treed_step raw) (arm_tree_step raw) (RawStatement-F.Do l e b)
+
+  pub treed-Switch : (l : ℕ) (e : RawExpr) (arms : List RawArm) → treed raw (s.Switch l e arms) ≡ treed_step raw (RawStatement-F.Switch l e (map treed_arm arms))
+  treed-Switch l e arms = ap (treed raw) (sym (s.rolls-Switch l e arms)) ∙ fold-roll-RawStatement (Scoped (Option Statement)) (Scoped ArmTree) (treed_step raw) (arm_tree_step raw) (RawStatement-F.Switch l e arms)
+
+  pub treed-Block : (l : ℕ) (b : List RawStatement) → treed raw (s.Block l b) ≡ treed_step raw (RawStatement-F.Block l (map (treed raw) b))
+  treed-Block l b = ap (treed raw) (sym (s.rolls-Block l b)) ∙ fold-roll-RawStatement (Scoped (Option Statement)) (Scoped ArmTree) (treed_step raw) (arm_tree_step raw) (RawStatement-F.Block l b)
+
+  pub treed-For : (l : ℕ) (i : Option RawStatement) (e : RawExpr) (step : Option RawStatement) (b : List RawStatement) → treed raw (s.For l i e step b) ≡ treed_step raw (RawStatement-F.For l (option_map (treed raw) i) e (option_map (treed raw) step) (map (treed raw) b))
+  treed-For l None e None b = ap (treed raw) (sym (s.rolls-For l None e None b)) ∙ fold-roll-RawStatement (Scoped (Option Statement)) (Scoped ArmTree) (treed_step raw) (arm_tree_step raw) (RawStatement-F.For l None e None b)
+  treed-For l None e (Some step) b = ap (treed raw) (sym (s.rolls-For l None e (Some step) b)) ∙ fold-roll-RawStatement (Scoped (Option Statement)) (Scoped ArmTree) (treed_step raw) (arm_tree_step raw) (RawStatement-F.For l None e (Some step) b)
+  treed-For l (Some i) e None b = ap (treed raw) (sym (s.rolls-For l (Some i) e None b)) ∙ fold-roll-RawStatement (Scoped (Option Statement)) (Scoped ArmTree) (treed_step raw) (arm_tree_step raw) (RawStatement-F.For l (Some i) e None b)
+  treed-For l (Some i) e (Some step) b = ap (treed raw) (sym (s.rolls-For l (Some i) e (Some step) b)) ∙ fold-roll-RawStatement (Scoped (Option Statement)) (Scoped ArmTree) (treed_step raw) (arm_tree_step raw) (RawStatement-F.For l (Some i) e (Some step) b)
+
+  pub treed_arm-arm : (labels : List RawLabel) (body : List RawStatement) → treed_arm (roll-RawArm (record { labels = labels; body = body })) ≡ arm_tree_step raw (record { labels = labels; body = map (treed raw) body })
+  treed_arm-arm labels body = fold-roll-RawArm (Scoped (Option Statement)) (Scoped ArmTree) (treed_step raw) (arm_tree_step raw) (record { labels = labels; body = body })
+
+module _ (k : Kept) (g : ℕ → ℕ) where
+  pub projected-Declare : (id : Option ℕ) (l x : ℕ) (i : Init) → projected k g (t.Declare id l x i) ≡ projected_step k g (Statement-F.Declare id l x i)
+  projected-Declare id l x i = ap (projected k g) (sym (t.rolls-Declare id l x i)) ∙ fold-roll-Statement (List Statement) Arm (projected_step k g) (projected_arm_step k g) (Statement-F.Declare id l x i)
+
+  pub projected-Assign : (id l : ℕ) (a : Expr) (op : Option BinaryOp) (b : Expr) → projected k g (t.Assign id l a op b) ≡ projected_step k g (Statement-F.Assign id l a op b)
+  projected-Assign id l a op b = ap (projected k g) (sym (t.rolls-Assign id l a op b)) ∙ fold-roll-Statement (List Statement) Arm (projected_step k g) (projected_arm_step k g) (Statement-F.Assign id l a op b)
+
+  pub projected-Bump : (id l : ℕ) (a : Expr) (up before : Bool) → projected k g (t.Bump id l a up before) ≡ projected_step k g (Statement-F.Bump id l a up before)
+  projected-Bump id l a up before = ap (projected k g) (sym (t.rolls-Bump id l a up before)) ∙ fold-roll-Statement (List Statement) Arm (projected_step k g) (projected_arm_step k g) (Statement-F.Bump id l a up before)
+
+  pub projected-Invoke : (id l : ℕ) (to : Target) (f : ℕ) (args : List Expr) → projected k g (t.Invoke id l to f args) ≡ projected_step k g (Statement-F.Invoke id l to f args)
+  projected-Invoke id l to f args = ap (projected k g) (sym (t.rolls-Invoke id l to f args)) ∙ fold-roll-Statement (List Statement) Arm (projected_step k g) (projected_arm_step k g) (Statement-F.Invoke id l to f args)
+
+  pub projected-Fetch : (id l : ℕ) (to : Target) → projected k g (t.Fetch id l to) ≡ projected_step k g (Statement-F.Fetch id l to)
+  projected-Fetch id l to = ap (projected k g) (sym (t.rolls-Fetch id l to)) ∙ fold-roll-Statement (List Statement) Arm (projected_step k g) (projected_arm_step k g) (Statement-F.Fetch id l to)
+
+  pub projected-Write : (id l : ℕ) (a : Expr) → projected k g (t.Write id l a) ≡ projected_step k g (Statement-F.Write id l a)
+  projected-Write id l a = ap (projected k g) (sym (t.rolls-Write id l a)) ∙ fold-roll-Statement (List Statement) Arm (projected_step k g) (projected_arm_step k g) (Statement-F.Write id l a)
+
+  pub projected-Print : (id l : ℕ) (format : Bytes) (args : List Expr) → projected k g (t.Print id l format args) ≡ projected_step k g (Statement-F.Print id l format args)
+  projected-Print id l format args = ap (projected k g) (sym (t.rolls-Print id l format args)) ∙ fold-roll-Statement (List Statement) Arm (projected_step k g) (projected_arm_step k g) (Statement-F.Print id l format args)
+
+  pub projected-Heap : (id l : ℕ) (to : Target) (cast : Option CType) (n : Amount) → projected k g (t.Heap id l to cast n) ≡ projected_step k g (Statement-F.Heap id l to cast n)
+  projected-Heap id l to cast n = ap (projected k g) (sym (t.rolls-Heap id l to cast n)) ∙ fold-roll-Statement (List Statement) Arm (projected_step k g) (projected_arm_step k g) (Statement-F.Heap id l to cast n)
+
+  pub projected-Release : (id l : ℕ) (a : Expr) → projected k g (t.Release id l a) ≡ projected_step k g (Statement-F.Release id l a)
+  projected-Release id l a = ap (projected k g) (sym (t.rolls-Release id l a)) ∙ fold-roll-Statement (List Statement) Arm (projected_step k g) (projected_arm_step k g) (Statement-F.Release id l a)
+
+  pub projected-If : (id l : ℕ) (a : Expr) (b c : List Statement) → projected k g (t.If id l a b c) ≡ projected_step k g (Statement-F.If id l a (map (projected k g) b) (map (projected k g) c))
+  projected-If id l a b c = ap (projected k g) (sym (t.rolls-If id l a b c)) ∙ fold-roll-Statement (List Statement) Arm (projected_step k g) (projected_arm_step k g) (Statement-F.If id l a b c)
+
+  pub projected-While : (id l : ℕ) (a : Expr) (b : List Statement) → projected k g (t.While id l a b) ≡ projected_step k g (Statement-F.While id l a (map (projected k g) b))
+  projected-While id l a b = ap (projected k g) (sym (t.rolls-While id l a b)) ∙ fold-roll-Statement (List Statement) Arm (projected_step k g) (projected_arm_step k g) (Statement-F.While id l a b)
+
+  pub projected-Do : (id l : ℕ) (a : Expr) (b : List Statement) → projected k g (t.Do id l a b) ≡ projected_step k g (Statement-F.Do id l a (map (projected k g) b))
+  projected-Do id l a b = ap (projected k g) (sym (t.rolls-Do id l a b)) ∙ fold-roll-Statement (List Statement) Arm (projected_step k g) (projected_arm_step k g) (Statement-F.Do id l a b)
+
+  pub projected-Switch : (id l : ℕ) (a : Expr) (arms : List Arm) → projected k g (t.Switch id l a arms) ≡ projected_step k g (Statement-F.Switch id l a (map (projected_arm k g) arms))
+  projected-Switch id l a arms = ap (projected k g) (sym (t.rolls-Switch id l a arms)) ∙ fold-roll-Statement (List Statement) Arm (projected_step k g) (projected_arm_step k g) (Statement-F.Switch id l a arms)
+
+  pub projected-Block : (l : ℕ) (b : List Statement) → projected k g (t.Block l b) ≡ projected_step k g (Statement-F.Block l (map (projected k g) b))
+  projected-Block l b = ap (projected k g) (sym (t.rolls-Block l b)) ∙ fold-roll-Statement (List Statement) Arm (projected_step k g) (projected_arm_step k g) (Statement-F.Block l b)
+
+  pub projected-Return : (id l : ℕ) (a : Option Expr) → projected k g (t.Return id l a) ≡ projected_step k g (Statement-F.Return id l a)
+  projected-Return id l a = ap (projected k g) (sym (t.rolls-Return id l a)) ∙ fold-roll-Statement (List Statement) Arm (projected_step k g) (projected_arm_step k g) (Statement-F.Return id l a)
+
+  pub projected-For : (id l : ℕ) (i : Option Statement) (a : Expr) (step : Option Statement) (b : List Statement) → projected k g (t.For id l i a step b) ≡ projected_step k g (Statement-F.For id l (option_map (projected k g) i) a (option_map (projected k g) step) (map (projected k g) b))
+  projected-For id l None a None b = ap (projected k g) (sym (t.rolls-For id l None a None b)) ∙ fold-roll-Statement (List Statement) Arm (projected_step k g) (projected_arm_step k g) (Statement-F.For id l None a None b)
+  projected-For id l None a (Some step) b = ap (projected k g) (sym (t.rolls-For id l None a (Some step) b)) ∙ fold-roll-Statement (List Statement) Arm (projected_step k g) (projected_arm_step k g) (Statement-F.For id l None a (Some step) b)
+  projected-For id l (Some i) a None b = ap (projected k g) (sym (t.rolls-For id l (Some i) a None b)) ∙ fold-roll-Statement (List Statement) Arm (projected_step k g) (projected_arm_step k g) (Statement-F.For id l (Some i) a None b)
+  projected-For id l (Some i) a (Some step) b = ap (projected k g) (sym (t.rolls-For id l (Some i) a (Some step) b)) ∙ fold-roll-Statement (List Statement) Arm (projected_step k g) (projected_arm_step k g) (Statement-F.For id l (Some i) a (Some step) b)
+
+  pub projected_arm-arm : (labels : List Label) (body : List Statement) → projected_arm k g (roll-Arm (record { labels = labels; body = body })) ≡ roll-Arm (record { labels = map (renamed_label (rank k.variable)) labels; body = flat (map (projected k g) body) })
+  projected_arm-arm labels body = fold-roll-Arm (List Statement) Arm (projected_step k g) (projected_arm_step k g) (record { labels = labels; body = body })
+
+pub declaring-Declare : (id : Option ℕ) (l x : ℕ) (i : Init) → is_declaring (t.Declare id l x i) ≡ declaring_step (Statement-F.Declare id l x i)
+declaring-Declare id l x i = ap is_declaring (sym (t.rolls-Declare id l x i)) ∙ fold-roll-Statement Bool Bool declaring_step declaring_arm (Statement-F.Declare id l x i)
+
+pub declaring-Assign : (id l : ℕ) (a : Expr) (op : Option BinaryOp) (b : Expr) → is_declaring (t.Assign id l a op b) ≡ declaring_step (Statement-F.Assign id l a op b)
+declaring-Assign id l a op b = ap is_declaring (sym (t.rolls-Assign id l a op b)) ∙ fold-roll-Statement Bool Bool declaring_step declaring_arm (Statement-F.Assign id l a op b)
+
+pub declaring-Bump : (id l : ℕ) (a : Expr) (up before : Bool) → is_declaring (t.Bump id l a up before) ≡ declaring_step (Statement-F.Bump id l a up before)
+declaring-Bump id l a up before = ap is_declaring (sym (t.rolls-Bump id l a up before)) ∙ fold-roll-Statement Bool Bool declaring_step declaring_arm (Statement-F.Bump id l a up before)
+
+pub declaring-Invoke : (id l : ℕ) (to : Target) (f : ℕ) (args : List Expr) → is_declaring (t.Invoke id l to f args) ≡ declaring_step (Statement-F.Invoke id l to f args)
+declaring-Invoke id l to f args = ap is_declaring (sym (t.rolls-Invoke id l to f args)) ∙ fold-roll-Statement Bool Bool declaring_step declaring_arm (Statement-F.Invoke id l to f args)
+
+pub declaring-Fetch : (id l : ℕ) (to : Target) → is_declaring (t.Fetch id l to) ≡ declaring_step (Statement-F.Fetch id l to)
+declaring-Fetch id l to = ap is_declaring (sym (t.rolls-Fetch id l to)) ∙ fold-roll-Statement Bool Bool declaring_step declaring_arm (Statement-F.Fetch id l to)
+
+pub declaring-Write : (id l : ℕ) (a : Expr) → is_declaring (t.Write id l a) ≡ declaring_step (Statement-F.Write id l a)
+declaring-Write id l a = ap is_declaring (sym (t.rolls-Write id l a)) ∙ fold-roll-Statement Bool Bool declaring_step declaring_arm (Statement-F.Write id l a)
+
+pub declaring-Print : (id l : ℕ) (format : Bytes) (args : List Expr) → is_declaring (t.Print id l format args) ≡ declaring_step (Statement-F.Print id l format args)
+declaring-Print id l format args = ap is_declaring (sym (t.rolls-Print id l format args)) ∙ fold-roll-Statement Bool Bool declaring_step declaring_arm (Statement-F.Print id l format args)
+
+pub declaring-Heap : (id l : ℕ) (to : Target) (cast : Option CType) (n : Amount) → is_declaring (t.Heap id l to cast n) ≡ declaring_step (Statement-F.Heap id l to cast n)
+declaring-Heap id l to cast n = ap is_declaring (sym (t.rolls-Heap id l to cast n)) ∙ fold-roll-Statement Bool Bool declaring_step declaring_arm (Statement-F.Heap id l to cast n)
+
+pub declaring-Release : (id l : ℕ) (a : Expr) → is_declaring (t.Release id l a) ≡ declaring_step (Statement-F.Release id l a)
+declaring-Release id l a = ap is_declaring (sym (t.rolls-Release id l a)) ∙ fold-roll-Statement Bool Bool declaring_step declaring_arm (Statement-F.Release id l a)
+
+pub declaring-Return : (id l : ℕ) (a : Option Expr) → is_declaring (t.Return id l a) ≡ declaring_step (Statement-F.Return id l a)
+declaring-Return id l a = ap is_declaring (sym (t.rolls-Return id l a)) ∙ fold-roll-Statement Bool Bool declaring_step declaring_arm (Statement-F.Return id l a)

@@ -1,0 +1,183 @@
+-- What stays of the tree of a statement without parts.
+use Rattle.std.proofs.Common.{◌≡◌, ℕ, List, [], ◌∷◌, ◌++◌, map, Bool, true, false, ◌||◌, Option, Some, None, codes, refl, sym, ap, ap₂, subst, ◌∙◌}
+use Rattle.std.specs.Prelude.{option_map, option_and_then, if◌then◌else◌, bytes_eq}
+use Rattle.c_arith.specs.declared.operators.BinaryOp.{BinaryOp}
+use Rattle.c_tree.specs.declared.types.CType.{CType}
+use Rattle.c_tree.specs.declared.expr.Expr.{Expr}
+use Rattle.c_tree.specs.declared.statement.Target.{Target}
+use Rattle.c_tree.specs.declared.statement.Target.TheVariants as to_place
+use Rattle.c_tree.specs.declared.statement.Amount.{Amount}
+use Rattle.c_tree.specs.declared.statement.Statement.{Statement}
+use Rattle.c_tree.specs.declared.statement.Statement.TheVariants as s
+use Rattle.c_tree.specs.declared.raw.program.RawProgram.{RawProgram}
+use Rattle.c_tree.specs.declared.raw.statement.RawArg.{RawArg}
+use Rattle.c_language.specs.Words.{Bytes}
+use Rattle.c_language.specs.ConstantEvaluation.{both}
+use Rattle.c_language.specs.DeclaredTypes.{function_id}
+use Rattle.c_language.specs.Scopes.{Scope}
+use Rattle.c_language.specs.CallRules.{format_in, later_args, without_result}
+use Rattle.c_language.specs.Uses.{is_library_function, is_one_of}
+use Rattle.c_language.specs.ProgramOf.{args_tree, only_tree, print_tree, invoke_tree, call_tree}
+use Rattle.projection.specs.Renumbering.{Numbers, renamed, renumbered}
+use Rattle.projection.specs.Kept.{Kept, rank}
+use Rattle.projection.specs.Projection.{numbers_of, bare_target, projected_call, projected}
+use Rattle.c_scope_laws.proofs.Options.{none_there, some_same, false_true}
+use Rattle.c_scope_laws.proofs.RenumberingLemmas.{renumbered-Assign, renumbered-Bump, renumbered-Invoke, renumbered-Fetch, renumbered-Write, renumbered-Print, renumbered-Heap, renumbered-Release, renumbered-Return}
+use Rattle.c_scope_laws.proofs.TreeForms.{projected-Assign, projected-Bump, projected-Invoke, projected-Fetch, projected-Write, projected-Print, projected-Heap, projected-Release, projected-Return}
+use Rattle.c_scope_laws.proofs.TreeLevels.{chosen, unchosen}
+
+-- ---- calls, by what is called
+
+library_false : (a b c d : Bool) → a ≡ false → b ≡ false → c ≡ false → d ≡ false → (a || (b || (c || (d || false)))) ≡ false
+library_false a b c d p q r t = ap₂ (λ (x y : Bool). x || (y || (c || (d || false)))) p q ∙ ap₂ (λ (x y : Bool). x || (y || false)) r t
+
+by_tests : (a b c d : Bool) (x y z w v : Option Statement) → (a || (b || (c || (d || false)))) ≡ false → (if a then x else (if b then y else (if c then z else (if d then w else v)))) ≡ v
+by_tests true b c d x y z w v h = false_true (sym h)
+by_tests false true c d x y z w v h = false_true (sym h)
+by_tests false false true d x y z w v h = false_true (sym h)
+by_tests false false false true x y z w v h = false_true (sym h)
+by_tests false false false false x y z w v h = refl
+
+module _ (raw : RawProgram) (place : Scope) (n l : ℕ) (to : Option Target) (f : Bytes) (args : List RawArg) where
+  -- a fact about each tree that a call can have
+  pub call_by : (P : Statement → Type 0)
+      → ((t : Target) → to ≡ Some t → is_library_function f ≡ true → P (s.Fetch n l t)) → ((a : Expr) → is_one_of without_result f ≡ true → P (s.Write n l a)) → ((text : Bytes) (as_ : List Expr) → is_one_of without_result f ≡ true → P (s.Print n l text as_))
+      → ((a : Expr) → is_one_of without_result f ≡ true → P (s.Release n l a))
+      → ((t : Target) (i : ℕ) (as_ : List Expr) → to ≡ Some t → is_library_function f ≡ false → P (s.Invoke n l t i as_))
+      → (y : Statement) → call_tree raw place n l to f args ≡ Some y → P y
+  call_by P fetch write print release invoke y is =
+      by_getchar (bytes_eq f (codes "getchar")) refl (bytes_eq f (codes "putchar")) refl (bytes_eq f (codes "printf")) refl (bytes_eq f (codes "free")) refl is
+    where
+      moved : {w : Statement} → P w → ◌≡◌ {A = Option Statement} (Some w) (Some y) → P y
+      moved p h = subst P (some_same h) p
+
+      by_fetch : (o : Option Target) → to ≡ o → is_library_function f ≡ true → option_map (s.Fetch n l) o ≡ Some y → P y
+      by_fetch None at h is = none_there is
+      by_fetch (Some t) at h is = moved (fetch t at h) is
+
+      by_value : (form : Expr → Statement) → ((a : Expr) → P (form a)) → (o : Option Expr) → option_map form o ≡ Some y → P y
+      by_value form each None is = none_there is
+      by_value form each (Some a) is = moved (each a) is
+
+      by_print : is_one_of without_result f ≡ true → (o : Option Bytes) (x : Option (List Expr)) → option_and_then (λ (text : Bytes). option_map (s.Print n l text) x) o ≡ Some y → P y
+      by_print h None x is = none_there is
+      by_print h (Some text) None is = none_there is
+      by_print h (Some text) (Some as_) is = moved (print text as_ h) is
+
+      by_invoke : (o : Option Target) (i : Option ℕ) (x : Option (List Expr)) → to ≡ o → is_library_function f ≡ false → option_and_then (λ (t : Target). both (s.Invoke n l t) i x) o ≡ Some y → P y
+      by_invoke None i x at h is = none_there is
+      by_invoke (Some t) None x at h is = none_there is
+      by_invoke (Some t) (Some i) None at h is = none_there is
+      by_invoke (Some t) (Some i) (Some as_) at h is = moved (invoke t i as_ at h) is
+
+      by_getchar : (a : Bool) → bytes_eq f (codes "getchar") ≡ a → (b : Bool) → bytes_eq f (codes "putchar") ≡ b → (c : Bool) → bytes_eq f (codes "printf") ≡ c → (d : Bool) → bytes_eq f (codes "free") ≡ d
+          → (if a then option_map (s.Fetch n l) to else (if b then option_map (s.Write n l) (only_tree raw place args) else (if c then print_tree raw place n l args
+          else (if d then option_map (s.Release n l) (only_tree raw place args) else invoke_tree raw place n l to f args)))) ≡ Some y → P y
+      by_getchar true p b q c r d t is = by_fetch to refl (ap (λ (x : Bool). x || (bytes_eq f (codes "putchar") || (bytes_eq f (codes "printf") || (bytes_eq f (codes "free") || false)))) p) is
+      by_getchar false p true q c r d t is = by_value (s.Write n l) (λ a. write a (ap (λ (x : Bool). x || (bytes_eq f (codes "printf") || (bytes_eq f (codes "free") || false))) q)) (only_tree raw place args) is
+      by_getchar false p false q true r d t is = by_print (ap₂ (λ (x y : Bool). x || (y || (bytes_eq f (codes "free") || false))) q r) (format_in args) (args_tree raw place (later_args args)) is
+      by_getchar false p false q false r true t is = by_value (s.Release n l) (λ a. release a (ap₂ (λ (x y : Bool). x || (y || (bytes_eq f (codes "free") || false))) q r ∙ ap (λ (z : Bool). false || (false || (z || false))) t)) (only_tree raw place args) is
+      by_getchar false p false q false r false t is = by_invoke to (function_id raw f) (args_tree raw place args) refl (library_false _ _ _ _ p q r t) is
+
+  -- what isn't of the library is invoked
+  pub invoked : is_library_function f ≡ false → call_tree raw place n l to f args ≡ invoke_tree raw place n l to f args
+  invoked h = by_tests (bytes_eq f (codes "getchar")) (bytes_eq f (codes "putchar")) (bytes_eq f (codes "printf")) (bytes_eq f (codes "free")) _ _ _ _ (invoke_tree raw place n l to f args) h
+
+module _ (k : Kept) (g : ℕ → ℕ) where
+  abbrev ns : Numbers
+  ns = numbers_of k g
+
+  abbrev f : ℕ → ℕ
+  f = rank k.variable
+
+  -- a statement stays whole, or goes
+  abbrev pub Whole : Statement → Type 0
+  Whole w = projected k g w ≡ renumbered ns w ∷ []
+
+  abbrev pub Gone : Statement → Type 0
+  Gone w = projected k g w ≡ []
+
+  module _ (n l : ℕ) where
+    one : {x y : Statement} → x ≡ y → ◌≡◌ {A = List Statement} (y ∷ []) (x ∷ [])
+    one h = ap (λ (z : Statement). z ∷ []) (sym h)
+
+    pub assign_whole : k.statement n ≡ true → (a : Expr) (op : Option BinaryOp) (b : Expr) → Whole (s.Assign n l a op b)
+    assign_whole kept a op b = projected-Assign k g n l a op b ∙ chosen _ [] kept ∙ one (renumbered-Assign ns n l a op b)
+
+    pub bump_whole : k.statement n ≡ true → (a : Expr) (up before : Bool) → Whole (s.Bump n l a up before)
+    bump_whole kept a up before = projected-Bump k g n l a up before ∙ chosen _ [] kept ∙ one (renumbered-Bump ns n l a up before)
+
+    pub fetch_whole : k.statement n ≡ true → (t : Target) → Whole (s.Fetch n l t)
+    fetch_whole kept t = projected-Fetch k g n l t ∙ chosen _ (bare_target k g l t) kept ∙ one (renumbered-Fetch ns n l t)
+
+    pub write_whole : k.statement n ≡ true → (a : Expr) → Whole (s.Write n l a)
+    write_whole kept a = projected-Write k g n l a ∙ chosen _ [] kept ∙ one (renumbered-Write ns n l a)
+
+    pub print_whole : k.statement n ≡ true → (text : Bytes) (as_ : List Expr) → Whole (s.Print n l text as_)
+    print_whole kept text as_ = projected-Print k g n l text as_ ∙ chosen _ [] kept ∙ one (renumbered-Print ns n l text as_)
+
+    pub release_whole : k.statement n ≡ true → (a : Expr) → Whole (s.Release n l a)
+    release_whole kept a = projected-Release k g n l a ∙ chosen _ [] kept ∙ one (renumbered-Release ns n l a)
+
+    pub heap_whole : k.statement n ≡ true → (t : Target) (cast : Option CType) (m : Amount) → Whole (s.Heap n l t cast m)
+    heap_whole kept t cast m = projected-Heap k g n l t cast m ∙ chosen _ (bare_target k g l t) kept ∙ one (renumbered-Heap ns n l t cast m)
+
+    pub return_whole : k.statement n ≡ true → (a : Option Expr) → Whole (s.Return n l a)
+    return_whole kept a = projected-Return k g n l a ∙ chosen _ [] kept ∙ one (renumbered-Return ns n l a)
+
+    pub invoke_whole : k.statement n ≡ true → (t : Target) (i : ℕ) (as_ : List Expr) → k.result n ≡ true → Whole (s.Invoke n l t i as_)
+    invoke_whole kept to_place.None i as_ result = projected-Invoke k g n l to_place.None i as_ ∙ chosen _ (bare_target k g l to_place.None) kept ∙ one (renumbered-Invoke ns n l to_place.None i as_)
+    invoke_whole kept (to_place.Place a) i as_ result =
+        projected-Invoke k g n l (to_place.Place a) i as_ ∙ chosen _ (bare_target k g l (to_place.Place a)) kept ∙ chosen _ _ result ∙ one (renumbered-Invoke ns n l (to_place.Place a) i as_)
+    invoke_whole kept (to_place.Declared x) i as_ result =
+        projected-Invoke k g n l (to_place.Declared x) i as_ ∙ chosen _ (bare_target k g l (to_place.Declared x)) kept ∙ chosen _ _ result ∙ one (renumbered-Invoke ns n l (to_place.Declared x) i as_)
+
+    pub invoke_none : k.statement n ≡ true → (i : ℕ) (as_ : List Expr) → Whole (s.Invoke n l to_place.None i as_)
+    invoke_none kept i as_ = projected-Invoke k g n l to_place.None i as_ ∙ chosen _ (bare_target k g l to_place.None) kept ∙ one (renumbered-Invoke ns n l to_place.None i as_)
+
+    -- ---- what goes, but for what is declared
+
+    pub assign_gone : k.statement n ≡ false → (a : Expr) (op : Option BinaryOp) (b : Expr) → Gone (s.Assign n l a op b)
+    assign_gone out a op b = projected-Assign k g n l a op b ∙ unchosen _ [] out
+
+    pub bump_gone : k.statement n ≡ false → (a : Expr) (up before : Bool) → Gone (s.Bump n l a up before)
+    bump_gone out a up before = projected-Bump k g n l a up before ∙ unchosen _ [] out
+
+    pub return_gone : k.statement n ≡ false → (a : Option Expr) → Gone (s.Return n l a)
+    return_gone out a = projected-Return k g n l a ∙ unchosen _ [] out
+
+    pub heap_gone : k.statement n ≡ false → (t : Target) (cast : Option CType) (m : Amount) → projected k g (s.Heap n l t cast m) ≡ bare_target k g l t
+    heap_gone out t cast m = projected-Heap k g n l t cast m ∙ unchosen _ (bare_target k g l t) out
+
+  module _ (raw : RawProgram) (place : Scope) (n l : ℕ) (w : Bytes) (args : List RawArg) where
+    -- a call stays whole, where its result is kept or not there
+    pub call_whole : (to : Option Target) → k.statement n ≡ true → ((t : Target) (i : ℕ) (as_ : List Expr) → to ≡ Some t → is_library_function w ≡ false → Whole (s.Invoke n l t i as_))
+        → (y : Statement) → call_tree raw place n l to w args ≡ Some y → Whole y
+    call_whole to kept invoke =
+        call_by raw place n l to w args Whole (λ u at h. fetch_whole n l kept u) (λ a h. write_whole n l kept a) (λ text as_ h. print_whole n l kept text as_) (λ a h. release_whole n l kept a) invoke
+
+    -- what stays of a call that goes is what it declares, where it gives a result
+    pub call_gone : (to : Option Target) (zs : List Statement) → k.statement n ≡ false → ((t : Target) → to ≡ Some t → bare_target k g l t ≡ zs) → (is_one_of without_result w ≡ true → zs ≡ [])
+        → (y : Statement) → call_tree raw place n l to w args ≡ Some y → projected k g y ≡ zs
+    call_gone to zs out each none =
+        call_by raw place n l to w args (λ y. projected k g y ≡ zs)
+        (λ u at h. projected-Fetch k g n l u ∙ unchosen _ (bare_target k g l u) out ∙ each u at)
+        (λ a h. projected-Write k g n l a ∙ unchosen _ [] out ∙ sym (none h)) (λ text as_ h. projected-Print k g n l text as_ ∙ unchosen _ [] out ∙ sym (none h)) (λ a h. projected-Release k g n l a ∙ unchosen _ [] out ∙ sym (none h))
+        (λ u i as_ at h. projected-Invoke k g n l u i as_ ∙ unchosen _ (bare_target k g l u) out ∙ each u at)
+
+  -- a call of a function of the text that loses its result
+  pub call_loses : (n m l : ℕ) (t : Target) → m ≡ rank k.statement n → k.statement n ≡ true → k.result n ≡ false → (i i' : Option ℕ) (x x' : Option (List Expr)) → i' ≡ option_map g i → x' ≡ option_map (map (renamed f)) x
+      → (y : Statement) → both (s.Invoke n l t) i x ≡ Some y
+      → (z : Statement) × (both (s.Invoke m l to_place.None) i' x' ≡ Some z) × (projected k g y ≡ bare_target k g l t ++ (z ∷ []))
+  call_loses n m l t num kept lost None i' x x' p q y is = none_there is
+  call_loses n m l t num kept lost (Some i) i' None x' p q y is = none_there is
+  call_loses n m l t num kept lost (Some i) i' (Some as_) x' p q y is = (
+    s.Invoke (rank k.statement n) l to_place.None (g i) (map (renamed f) as_),
+    ap₂ (both (s.Invoke m l to_place.None)) p q ∙ ap (λ (j : ℕ). Some (s.Invoke j l to_place.None (g i) (map (renamed f) as_))) num,
+    ap (projected k g) (sym (some_same is)) ∙ projected-Invoke k g n l t i as_ ∙ chosen _ (bare_target k g l t) kept ∙ by_target t,
+  )
+    where
+      by_target : (t : Target) → projected_call k g n l t i as_ ≡ bare_target k g l t ++ (s.Invoke (rank k.statement n) l to_place.None (g i) (map (renamed f) as_) ∷ [])
+      by_target to_place.None = refl
+      by_target (to_place.Place a) = unchosen _ _ lost
+      by_target (to_place.Declared v) = unchosen _ _ lost

@@ -1,0 +1,8 @@
+pub mod Agreement
+pub mod Thinning
+pub mod Following
+pub mod ThinTexts
+pub mod ThinnedBodies
+pub mod ThinnedTexts
+pub mod NamedVariables
+pub mod Laws

@@ -1,0 +1,14 @@
+pub mod Pieces
+pub mod Exprs
+pub mod Simples
+pub mod Fixed
+pub mod Written
+pub mod Counted
+pub mod LeftForms
+pub mod SimpleLeft
+pub mod StatementLeft
+pub mod Heads
+pub mod ItemLeft
+pub mod LessLeft
+pub mod ThinnedTrees
+pub mod WellFormed

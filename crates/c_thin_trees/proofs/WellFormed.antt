@@ -1,0 +1,65 @@
+-- What stays of the program of a text is well formed.
+use Rattle.std.proofs.Common.{◌≤◌, ℕ, suc, max, List, [], ◌∷◌, Bool, true, false, refl, arith}
+use Rattle.c_tree.specs.declared.program.Program.{Program}
+use Rattle.c_tree.specs.declared.program.Var.{Var}
+use Rattle.c_tree.specs.declared.raw.program.RawProgram.{RawProgram}
+use Rattle.c_language.specs.Limits.{longest, longest_in_variables, cells, struct_cells, greatest_variable}
+use Rattle.c_language.specs.Programs.{IsTree, HasProgram, IsWithinLimits, IsWellFormed}
+use Rattle.projection.specs.Kept.{Kept, rank}
+use Rattle.projection.specs.Projection.{if_so, projected_var, projected_vars, projected_program}
+use Rattle.c_scope_laws.specs.Following.{kept_functions}
+use Rattle.c_scope_laws.specs.ThinnedTexts.{IsClosed, thinned_text}
+use Rattle.c_scope_laws.proofs.FunctionNumbers.{numbers_kept}
+use Rattle.c_scope_laws.proofs.ItemWalking.{thinner_keeps}
+use Rattle.c_scope_laws.proofs.ProgramThinning.{program_thins}
+use Rattle.c_scope_laws.proofs.ThinnedTexts.{text_left}
+use Rattle.c_thin_trees.proofs.ThinnedTrees.{thinned_tree, thinned_nests}
+
+-- ---- limits
+
+module _ (k : Kept) (g : ℕ → ℕ) where
+  chosen_longest : (b : Bool) (v : Var) (some vs : List Var) → longest_in_variables some ≤ longest_in_variables vs
+      → longest_in_variables (if_so b (projected_var k g v ∷ some) some) ≤ max (longest v.shape) (longest_in_variables vs)
+  chosen_longest true v some vs h = omega (arith, h)
+  chosen_longest false v some vs h = omega (arith, h)
+
+  variables_longest : (n : ℕ) (vs : List Var) → longest_in_variables (projected_vars k g n vs) ≤ longest_in_variables vs
+  variables_longest n [] = omega arith
+  variables_longest n (v ∷ vs) = chosen_longest (k.variable n) v (projected_vars k g (suc n) vs) vs (variables_longest (suc n) vs)
+
+  module _ (structs : List ℕ) where
+    chosen_greatest : (b : Bool) (v : Var) (some vs : List Var) → greatest_variable structs some ≤ greatest_variable structs vs
+        → greatest_variable structs (if_so b (projected_var k g v ∷ some) some) ≤ max (cells structs v.shape) (greatest_variable structs vs)
+    chosen_greatest true v some vs h = omega (arith, h)
+    chosen_greatest false v some vs h = omega (arith, h)
+
+    variables_greatest : (n : ℕ) (vs : List Var) → greatest_variable structs (projected_vars k g n vs) ≤ greatest_variable structs vs
+    variables_greatest n [] = omega arith
+    variables_greatest n (v ∷ vs) = chosen_greatest (k.variable n) v (projected_vars k g (suc n) vs) vs (variables_greatest (suc n) vs)
+
+-- ---- programs
+
+-- what stays of the program of a text that keeps all limits is well formed, where what is kept is a text
+pub thinned_well_formed : (k : Kept) (raw : RawProgram) (p : Program) → IsTree raw → HasProgram raw p → IsWithinLimits raw p → IsClosed k raw → IsWellFormed (projected_program k (kept_functions k raw) p)
+thinned_well_formed k raw p tree has within closed =
+    let other = thinned_text k raw in
+    let q = projected_program k (kept_functions k raw) p in
+    let thin = text_left k raw has.rules closed in
+    let n = thinned_nests k raw in
+    let l = variables_longest k (rank (kept_functions k raw)) 0 p.vars in
+    let c = variables_greatest k (rank (kept_functions k raw)) (struct_cells p) 0 p.vars in
+    record {
+      raw = other;
+      same = q;
+      tree = thinned_tree k raw tree closed;
+      has = record {
+        rules = λ number line broken. thinner_keeps k raw other thin has.rules number line broken;
+        program = program_thins k (kept_functions k raw) raw other p thin (numbers_kept k raw other thin.items) has.rules has.program;
+      };
+      within = record {
+        nesting = omega (arith, n, within.nesting);
+        lengths = omega (arith, l, within.lengths);
+        cells = omega (arith, c, within.cells);
+      };
+      but_lines = refl;
+    }

@@ -1,0 +1,7 @@
+pub mod Standing
+pub mod Controlled
+pub mod TakenForms
+pub mod TakenLabels
+pub mod TakenCases
+pub mod TakenTexts
+pub mod TakenLines

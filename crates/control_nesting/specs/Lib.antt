@@ -1,0 +1,2 @@
+pub mod TakenArms
+pub mod Laws

@@ -1,0 +1,48 @@
+-- Locations of whole variables.
+use Rattle.std.proofs.Common.{◌≡◌, ℕ, ◌==◌, List, [], ◌∷◌, Bool, true, false, ◌&&◌, ◌⊎◌, inl, inr, refl, sym, ◌∙◌, eq-eqb, eqb-true}
+use Rattle.std.proofs.lemmas.Bool.{false≢true}
+use Rattle.dep_model.specs.declared.location.Location.{Location}
+use Rattle.dep_model.specs.declared.location.Part.{Part}
+use Rattle.dep_model.specs.declared.location.Root.{Root}
+use Rattle.dep_model.specs.declared.location.Root.TheVariants.{Input, Variable, Site, Result}
+use Rattle.dep_model.specs.Denoted.{whole}
+use Rattle.dep_model.specs.Locations.{same_root, same_parts}
+use Rattle.dep_model.proofs.BoolLemmas.{and_true, and_false}
+use Rattle.dep_model.proofs.PlainEffects.{is_root_of, is_whole, is_variable}
+
+pub truth : (b : Bool) → (b ≡ true) ⊎ (b ≡ false)
+truth true = inl refl
+truth false = inr refl
+
+same_number : (x y : ℕ) → (x == y) ≡ (y == x)
+same_number x y = elim (truth (x == y)) [
+  | inl t ↦ t ∙ sym (eq-eqb y x (sym (eqb-true x y t)))
+  | inr f ↦ elim (truth (y == x)) [
+    | inl t ↦ absurd (false≢true (sym f ∙ eq-eqb x y (sym (eqb-true y x t))))
+    | inr g ↦ f ∙ sym g
+  ]
+]
+
+whole_at : (x : ℕ) (r : Root) (hs : List Part) → (same_root (Variable x) r && same_parts [] hs) ≡ is_whole hs (is_root_of x r)
+whole_at x r (h ∷ hs) = and_false (same_root (Variable x) r)
+whole_at x Input [] = refl
+whole_at x (Variable y) [] = and_true (x == y) ∙ same_number x y
+whole_at x (Site i) [] = refl
+whole_at x (Result f) [] = refl
+
+pub whole_is : (x : ℕ) (l : Location) → whole x l ≡ is_variable x l
+whole_is x l = whole_at x l.root l.path
+
+-- the location is in some variable
+abbrev pub IsInVariable : Location → Type 0
+IsInVariable l = (y : ℕ) × (l.root ≡ Variable y)
+
+variable_at : (x : ℕ) (r : Root) (hs : List Part) → is_whole hs (is_root_of x r) ≡ true → (y : ℕ) × (r ≡ Variable y)
+variable_at x r (h ∷ hs) is = absurd (false≢true is)
+variable_at x Input [] is = absurd (false≢true is)
+variable_at x (Variable y) [] is = (y, refl)
+variable_at x (Site i) [] is = absurd (false≢true is)
+variable_at x (Result f) [] is = absurd (false≢true is)
+
+pub in_variable : (x : ℕ) (l : Location) → is_variable x l ≡ true → IsInVariable l
+in_variable x l is = variable_at x l.root l.path is

@@ -1,0 +1,70 @@
+-- Programs of main alone over integers as texts give them: their statements and variables are numbered in text order.
+use Rattle.std.specs.Prelude.{◌≡◌, ℕ, nat_lt, Bool, true, ◌&&◌, length, map, Option, Some, None, codes}
+use Rattle.std.specs.List.{list_all}
+use Rattle.c_arith.specs.declared.int_type.IntType.TheVariants.{Int}
+use Rattle.c_tree.specs.declared.expr.Expr.{Expr}
+use Rattle.c_tree.specs.declared.program.Init.{Init}
+use Rattle.c_tree.specs.declared.program.Init.TheVariants as init
+use Rattle.c_tree.specs.declared.program.Program.{Program}
+use Rattle.c_tree.specs.declared.statement.Amount.{Amount}
+use Rattle.c_tree.specs.declared.statement.Amount.TheVariants as amount
+use Rattle.c_tree.specs.declared.statement.Target.{Target}
+use Rattle.c_tree.specs.declared.statement.Target.TheVariants as target
+use Rattle.c_tree.specs.declared.types.CType.TheVariants as type
+use Rattle.c_language.specs.Code.{Act, Begins, Sets, Bumps, Fetches, Writes, Prints, Allocates, Frees, Returns, Tests}
+use Rattle.built_forms.specs.IntegerForms.{IsIntegerMain}
+use Rattle.built_forms.specs.Straight.{names_below}
+use Rattle.dep_model.specs.Doings.{Doing, Does, Calls, doings_of}
+use Rattle.dep_model.specs.MainVertices.{from}
+
+-- the number of a statement
+abbrev pub doing_number : Doing → ℕ
+doing_number (Does i a) = i
+doing_number (Calls i to f args) = i
+
+-- ---- the variables that a statement names have numbers below n
+
+abbrev pub value_below : ℕ → Option Expr → Bool
+value_below n None = true
+value_below n (Some e) = names_below n e
+
+abbrev pub init_below : ℕ → Init → Bool
+init_below n init.None = true
+init_below n (init.One e) = names_below n e
+init_below n (init.Items es) = list_all (names_below n) es
+
+abbrev pub target_below : ℕ → Target → Bool
+target_below n target.None = true
+target_below n (target.Place e) = names_below n e
+target_below n (target.Declared x) = nat_lt x n
+
+abbrev pub amount_below : ℕ → Amount → Bool
+amount_below n (amount.Size t) = true
+amount_below n (amount.CountSize e t) = names_below n e
+amount_below n (amount.SizeCount t e) = names_below n e
+amount_below n (amount.Count e) = names_below n e
+
+abbrev pub act_below : ℕ → Act → Bool
+act_below n (Begins x i) = nat_lt x n && init_below n i
+act_below n (Sets left op right) = names_below n left && names_below n right
+act_below n (Bumps left up) = names_below n left
+act_below n (Fetches to) = target_below n to
+act_below n (Writes e) = names_below n e
+act_below n (Prints format args) = list_all (names_below n) args
+act_below n (Allocates to count) = target_below n to && amount_below n count
+act_below n (Frees e) = names_below n e
+act_below n (Returns e) = value_below n e
+act_below n (Tests e) = names_below n e
+
+abbrev pub doing_below : ℕ → Doing → Bool
+doing_below n (Does i a) = act_below n a
+doing_below n (Calls i to f args) = target_below n to && list_all (names_below n) args
+
+-- main is named so and gives an int; its statements are numbered from 0 on in the order in which they stand, a test before what it
+-- decides; and each variable that is named is one of the program
+pub record IsNumberedMain (p : Program) : Type 0 where
+  pub integer : IsIntegerMain p
+  pub name_is : integer.main.name ≡ codes "main"
+  pub result_is : integer.main.result ≡ Some (type.Integer Int)
+  pub numbers_are : map doing_number (doings_of p 0) ≡ from 0 p.statements
+  pub named_are : list_all (doing_below (length p.vars)) (doings_of p 0) ≡ true

@@ -1,0 +1,281 @@
+-- The functions of a text, item by item: the numbers of their statements, the variables that they name, and main.
+use Rattle.std.proofs.Common.{◌≡◌, ℕ, suc, ◌+◌, ◌≤◌, List, [], ◌∷◌, ◌++◌, map, length, Bool, true, false, Option, Some, None, refl, sym, ap, subst, ◌∙◌, arith}
+use Rattle.std.specs.Prelude.{if◌then◌else◌, is_some}
+use Rattle.std.specs.List.{list_all}
+use Rattle.c_arith.specs.declared.int_type.IntType.TheVariants.{Int}
+use Rattle.c_tree.specs.declared.types.CType.{CType}
+use Rattle.c_tree.specs.declared.types.CType.TheVariants as type
+use Rattle.c_tree.specs.declared.program.Function.{Function}
+use Rattle.c_tree.specs.declared.program.Var.{Var}
+use Rattle.c_tree.specs.declared.raw.expr.RawVar.{RawVar}
+use Rattle.c_tree.specs.declared.raw.program.RawHead.{RawHead}
+use Rattle.c_tree.specs.declared.raw.program.RawInit.{RawInit}
+use Rattle.c_tree.specs.declared.raw.program.RawInit.TheVariants as init
+use Rattle.c_tree.specs.declared.raw.program.RawItem.{RawItem}
+use Rattle.c_tree.specs.declared.raw.program.RawItem.TheVariants.{Include, Tag, Struct, Global, Prototype, Define}
+use Rattle.c_tree.specs.declared.raw.program.RawMember.{RawMember}
+use Rattle.c_tree.specs.declared.raw.program.RawParam.{RawParam}
+use Rattle.c_tree.specs.declared.raw.program.RawProgram.{RawProgram}
+use Rattle.c_tree.specs.declared.raw.statement.RawStatement.{RawStatement}
+use Rattle.c_tree.specs.declared.statement.Statement.{Statement}
+use Rattle.c_language.specs.Words.{Bytes}
+use Rattle.c_language.specs.DeclaredTypes.{functions_of}
+use Rattle.c_language.specs.NameRules.{main_name, no_int}
+use Rattle.c_language.specs.Phrases.{Stand, Phrases, InHead, InBlock, phrase, declaration, scoped, body_phrases, after_body, member_phrases, taken_phrases, parameter_phrases, head_phrases, item_phrases, after_item, items_phrases, after_items, EndsFunction}
+use Rattle.c_language.specs.ProgramOf.{collected, ctype_if, treed, body_of, parameter_ids, function_tree, functions_from, variables_in}
+use Rattle.c_language.specs.Rules.{main}
+use Rattle.c_language.specs.Scopes.{Scope, Meaning, meaning_here, with_variable, with_entry, with_function, after_all, parameter_of, with_named, with_parameter, with_parameters, scope_of_parameters, entered}
+use Rattle.c_print_laws.proofs.Scoping.{count_append, begun_count, statement_scoped, after_same}
+use Rattle.built_forms.proofs.Adding.{AreLow, AreKept}
+use Rattle.built_forms.proofs.Bodies.{kept_second}
+use Rattle.built_forms.proofs.Options.{same_some, both_some, collected_some}
+use Rattle.built_forms.proofs.Programs.{int_result, int_tree}
+use Rattle.dep_model.specs.Doings.{Doing, body_doings}
+use Rattle.dep_model.specs.NumberedMains.{doing_below}
+use Rattle.dep_model.proofs.TextNumbers.{Takes, takes_none, takes_both, body_takes}
+use Rattle.integer_texts.proofs.NamesInScope.{low_more, low_push, all_append, Grows, same_grows, then_grows, variable_grows, body_below, body_grows}
+
+-- the statements of functions, one function after another
+abbrev pub all_doings : List Function → List Doing
+all_doings [] = []
+all_doings (f ∷ fs) = body_doings f.body ++ all_doings fs
+
+module _ (raw : RawProgram) where
+  abbrev count : Phrases → ℕ
+  count ps = length (variables_in raw ps)
+
+  -- ---- scopes
+
+  function_statements : (name : Bytes) (scope : Scope) → (with_function name scope).statements ≡ scope.statements
+  function_statements name scope = by_test (is_some (meaning_here scope name))
+    where
+      by_test : (b : Bool) → (if b then scope else with_entry name Meaning.Function scope).statements ≡ scope.statements
+      by_test true = refl
+      by_test false = refl
+
+  function_variables : (name : Bytes) (scope : Scope) → (with_function name scope).variables ≡ scope.variables
+  function_variables name scope = by_test (is_some (meaning_here scope name))
+    where
+      by_test : (b : Bool) → (if b then scope else with_entry name Meaning.Function scope).variables ≡ scope.variables
+      by_test true = refl
+      by_test false = refl
+
+  function_grows : (name : Bytes) → Grows raw (with_function name)
+  function_grows name = record {
+    more = λ scope. let e = function_variables name scope in omega (arith, e);
+    low = λ scope h. by_test scope h (is_some (meaning_here scope name));
+  }
+    where
+      by_test : (scope : Scope) → AreLow scope.variables scope.names → (b : Bool) → AreLow (if b then scope else with_entry name Meaning.Function scope).variables (if b then scope else with_entry name Meaning.Function scope).names
+      by_test scope h true = h
+      by_test scope h false = low_push scope.variables scope.names (record { name = name; meaning = Meaning.Function }) h tt
+
+  named_statements : (q : RawParam) (name : Option Bytes) (scope : Scope) → (with_named raw q name scope).statements ≡ scope.statements
+  named_statements q None scope = refl
+  named_statements q (Some x) scope = refl
+
+  named_grows : (q : RawParam) (name : Option Bytes) → Grows raw (with_named raw q name)
+  named_grows q None = same_grows raw
+  named_grows q (Some x) = variable_grows raw (parameter_of q x) init.None
+
+  parameters_statements : (ps : List RawParam) (scope : Scope) → (with_parameters raw ps scope).statements ≡ scope.statements
+  parameters_statements [] scope = refl
+  parameters_statements (q ∷ ps) scope = parameters_statements ps (with_parameter raw q scope) ∙ named_statements q q.name scope
+
+  parameters_grow : (ps : List RawParam) → Grows raw (with_parameters raw ps)
+  parameters_grow [] = same_grows raw
+  parameters_grow (q ∷ ps) = then_grows raw (with_parameter raw q) (with_parameters raw ps) (named_grows q q.name) (parameters_grow ps)
+
+  head_grows : (head : RawHead) → Grows raw (scope_of_parameters head)
+  head_grows head = record {
+    more = λ scope. (function_grows head.name).more scope;
+    low = λ scope h. (function_grows head.name).low scope h;
+  }
+
+  entered_grows : (head : RawHead) → Grows raw (entered raw head)
+  entered_grows head = then_grows raw (scope_of_parameters head) (with_parameters raw head.params) (head_grows head) (parameters_grow head.params)
+
+  entered_statements : (head : RawHead) (scope : Scope) → (entered raw head scope).statements ≡ scope.statements
+  entered_statements head scope =
+      parameters_statements head.params (scope_of_parameters head scope) ∙ function_statements head.name scope
+
+  after_scoped : (b : List RawStatement) (scope : Scope) → after_all (map (scoped raw) b) scope ≡ after_body raw b scope
+  after_scoped [] scope = refl
+  after_scoped (x ∷ b) scope = after_scoped b ((scoped raw x).after scope)
+
+  after_trees : (b : List RawStatement) (scope : Scope) → after_all (map (treed raw) b) scope ≡ after_body raw b scope
+  after_trees b scope = after_same raw b scope ∙ after_scoped b scope
+
+  -- ---- variables that are declared
+
+  declared_one : (l : ℕ) (scope : Scope) (stand : Stand) (var : RawVar) (i : RawInit) → count (declaration raw l scope stand var i) ≡ 1
+  declared_one l scope stand var i = ap (λ (vs : List (Option Var)). suc (length vs)) (begun_count raw l (with_variable raw var i scope) stand var i)
+
+  members_none : (scope : Scope) (before ms : List RawMember) → count (member_phrases scope before ms) ≡ 0
+  members_none scope before [] = refl
+  members_none scope before (x ∷ ms) = members_none scope (before ++ x ∷ []) ms
+
+  taken_none : (scope : Scope) (before ps : List RawParam) → count (taken_phrases scope before ps) ≡ 0
+  taken_none scope before [] = refl
+  taken_none scope before (q ∷ ps) = taken_none scope (before ++ q ∷ []) ps
+
+  parameter_count : (q : RawParam) (name : Option Bytes) (scope : Scope) → scope.variables + count (parameter_phrases raw q name scope) ≡ (with_named raw q name scope).variables
+  parameter_count q None scope = omega arith
+  parameter_count q (Some x) scope =
+      let e = declared_one q.line scope InHead (parameter_of q x) init.None in
+      ap (λ n. scope.variables + n) e
+
+  head_count : (ps : List RawParam) (scope : Scope) → scope.variables + count (head_phrases raw ps scope) ≡ (with_parameters raw ps scope).variables
+  head_count [] scope = omega arith
+  head_count (q ∷ ps) scope =
+      let a = parameter_count q q.name scope in
+      let b = head_count ps (with_parameter raw q scope) in
+      let c = count_append raw (parameter_phrases raw q q.name scope) (head_phrases raw ps (with_parameter raw q scope)) in
+      omega (arith, a, b, c)
+
+  body_count : (b : List RawStatement) (scope : Scope) → scope.variables + count (body_phrases raw b scope) ≡ (after_body raw b scope).variables
+  body_count [] scope = omega arith
+  body_count (x ∷ b) scope =
+      let a = (statement_scoped raw x).counts scope InBlock in
+      let c = body_count b ((scoped raw x).after scope) in
+      let d = count_append raw ((scoped raw x).gives scope InBlock) (body_phrases raw b ((scoped raw x).after scope)) in
+      omega (arith, a, c, d)
+
+  item_count_is : (x : RawItem) (scope : Scope) → scope.variables + count (item_phrases raw x scope) ≡ (after_item raw x scope).variables
+  item_count_is (Include b) scope = omega arith
+  item_count_is (Tag line tag) scope = omega arith
+  item_count_is (Struct line tag members) scope = let e = members_none scope [] members in omega (arith, e)
+  item_count_is (Global line var i is_static) scope = ap (λ n. scope.variables + n) (declared_one line scope (Stand.InFile is_static) var i)
+  item_count_is (Prototype line head) scope =
+      let e = taken_none scope [] head.params in
+      let v = function_variables head.name scope in
+      omega (arith, e, v)
+  item_count_is (Define line head body) scope =
+      let start = scope_of_parameters head scope in
+      let inside = entered raw head scope in
+      let ends = phrase line scope (EndsFunction head body) ∷ [] in
+      let a = head_count head.params start in
+      let b = body_count body inside in
+      let c = count_append raw (head_phrases raw head.params start) (body_phrases raw body inside ++ ends) in
+      let d = count_append raw (body_phrases raw body inside) ends in
+      let v : start.variables ≡ scope.variables = function_variables head.name scope in
+      omega (arith, a, b, c, d, v)
+
+  pub items_count : (xs : List RawItem) (scope : Scope) → scope.variables + count (items_phrases raw xs scope) ≡ (after_items raw xs scope).variables
+  items_count [] scope = omega arith
+  items_count (x ∷ xs) scope =
+      let a = item_count_is x scope in
+      let b = items_count xs (after_item raw x scope) in
+      let c = count_append raw (item_phrases raw x scope) (items_phrases raw xs (after_item raw x scope)) in
+      omega (arith, a, b, c)
+
+  -- ---- functions
+
+  abbrev function_with : Bytes → Option CType → List ℕ → List Statement → Bool → ℕ → Function
+  function_with name result params body is_static line = record { name = name; result = result; params = params; body = body; is_static = is_static; line = line }
+
+  abbrev Parts : RawHead → List RawStatement → ℕ → Scope → Function → Type 0
+  Parts head body line scope f =
+      (result : Option CType) × (statements : List Statement) × (ctype_if raw head.result ≡ Some result) × (body_of raw body (entered raw head scope) ≡ Some statements) × (f ≡ function_with head.name result (parameter_ids head.params scope.variables) statements head.is_static line)
+
+  parts_of : (line : ℕ) (head : RawHead) (body : List RawStatement) (scope : Scope) (f : Function) → function_tree raw line head body scope ≡ Some f → Parts head body line scope f
+  parts_of line head body scope f e =
+      both_some (λ (result : Option CType) (statements : List Statement). function_with head.name result (parameter_ids head.params scope.variables) statements head.is_static line) (ctype_if raw head.result) (body_of raw body (entered raw head scope)) f e
+
+  -- where the items from a scope on have these functions
+  abbrev HasFunctions : List RawItem → Scope → List Function → Type 0
+  HasFunctions xs scope fs = collected (functions_from raw xs scope) ≡ Some fs
+
+  same_takes : (ds : List Doing) (i j k : ℕ) → j ≡ i → Takes ds j k → Takes ds i k
+  same_takes ds i j k e h = subst (λ n. Takes ds n k) e h
+
+  pub items_take : (xs : List RawItem) (scope : Scope) (fs : List Function) → HasFunctions xs scope fs → Takes (all_doings fs) scope.statements (after_items raw xs scope).statements
+  items_take [] scope fs e = subst (λ gs. Takes (all_doings gs) scope.statements scope.statements) (same_some e) (takes_none scope.statements)
+  items_take (Include b ∷ xs) scope fs e = items_take xs scope fs e
+  items_take (Tag line tag ∷ xs) scope fs e = items_take xs scope fs e
+  items_take (Struct line tag members ∷ xs) scope fs e = items_take xs (after_item raw (Struct line tag members) scope) fs e
+  items_take (Global line var i is_static ∷ xs) scope fs e = items_take xs (after_item raw (Global line var i is_static) scope) fs e
+  items_take (Prototype line head ∷ xs) scope fs e =
+      same_takes (all_doings fs) scope.statements (with_function head.name scope).statements _ (function_statements head.name scope) (items_take xs (with_function head.name scope) fs e)
+  items_take (Define line head body ∷ xs) scope fs e =
+      let after = after_item raw (Define line head body) scope in
+      let g = collected_some (function_tree raw line head body scope) (functions_from raw xs after) fs e in
+      let q = parts_of line head body scope g.0 g.2 in
+      let inside = entered raw head scope in
+      let here : Takes (body_doings q.1) inside.statements (after_all (map (treed raw) body) inside).statements = body_takes raw body inside q.1 q.3 in
+      let own : Takes (body_doings g.0.body) scope.statements after.statements =
+      subst (λ (f : Function). Takes (body_doings f.body) scope.statements after.statements) (sym q.4) (same_takes (body_doings q.1) scope.statements inside.statements after.statements (entered_statements head scope) (subst (λ (z : Scope). Takes (body_doings q.1) inside.statements z.statements) (after_trees body inside) here)) in
+      subst (λ gs. Takes (all_doings gs) scope.statements (after_items raw xs after).statements) (sym g.4)
+      (takes_both (body_doings g.0.body) (all_doings g.1) scope.statements after.statements (after_items raw xs after).statements own (items_take xs after g.1 g.3))
+
+  item_low : (x : RawItem) (scope : Scope) → AreLow scope.variables scope.names → AreLow (after_item raw x scope).variables (after_item raw x scope).names
+  item_low (Include b) scope h = h
+  item_low (Tag line tag) scope h = h
+  item_low (Struct line tag members) scope h = h
+  item_low (Global line var i is_static) scope h = (variable_grows raw var i).low scope h
+  item_low (Prototype line head) scope h = (function_grows head.name).low scope h
+  item_low (Define line head body) scope h =
+      let before = with_function head.name scope in
+      let inside = entered raw head scope in
+      let g1 : before.variables ≤ inside.variables = (parameters_grow head.params).more (scope_of_parameters head scope) in
+      let g2 : inside.variables ≤ (after_body raw body inside).variables = subst (λ (z : Scope). inside.variables ≤ z.variables) (after_trees body inside) ((body_grows raw body).more inside) in
+      low_more before.variables (after_body raw body inside).variables before.names (omega (arith, g1, g2)) ((function_grows head.name).low scope h)
+
+  pub items_below : (xs : List RawItem) (scope : Scope) (fs : List Function) → AreLow scope.variables scope.names → HasFunctions xs scope fs → (m : ℕ) → (after_items raw xs scope).variables ≤ m → list_all (doing_below m) (all_doings fs) ≡ true
+  items_below [] scope fs low e m le = subst (λ gs. list_all (doing_below m) (all_doings gs) ≡ true) (same_some e) refl
+  items_below (Include b ∷ xs) scope fs low e m le = items_below xs scope fs low e m le
+  items_below (Tag line tag ∷ xs) scope fs low e m le = items_below xs scope fs low e m le
+  items_below (Struct line tag members ∷ xs) scope fs low e m le = items_below xs (after_item raw (Struct line tag members) scope) fs low e m le
+  items_below (Global line var i is_static ∷ xs) scope fs low e m le =
+      items_below xs (after_item raw (Global line var i is_static) scope) fs (item_low (Global line var i is_static) scope low) e m le
+  items_below (Prototype line head ∷ xs) scope fs low e m le =
+      items_below xs (after_item raw (Prototype line head) scope) fs (item_low (Prototype line head) scope low) e m le
+  items_below (Define line head body ∷ xs) scope fs low e m le =
+      let after = after_item raw (Define line head body) scope in
+      let g = collected_some (function_tree raw line head body scope) (functions_from raw xs after) fs e in
+      let q = parts_of line head body scope g.0 g.2 in
+      let inside = entered raw head scope in
+      let more : after.variables ≤ (after_items raw xs after).variables = (let c = items_count xs after in omega (arith, c)) in
+      let bound : (after_all (map (treed raw) body) inside).variables ≤ m = subst (λ (z : Scope). z.variables ≤ m) (sym (after_trees body inside)) (omega (arith, more, le)) in
+      let own : list_all (doing_below m) (body_doings g.0.body) ≡ true =
+      subst (λ (f : Function). list_all (doing_below m) (body_doings f.body) ≡ true) (sym q.4) (body_below raw body inside q.1 ((entered_grows head).low scope low) q.3 m bound) in
+      subst (λ gs. list_all (doing_below m) (all_doings gs) ≡ true) (sym g.4)
+      (all_append (doing_below m) (body_doings g.0.body) (all_doings g.1) own (items_below xs after g.1 (item_low (Define line head body) scope low) g.3 m le))
+
+  -- ---- main
+
+  pub names_are : (xs : List RawItem) (scope : Scope) (fs : List Function) → HasFunctions xs scope fs → map (λ (f : Function). f.name) fs ≡ map (λ (h : RawHead). h.name) (functions_of xs)
+  names_are [] scope fs e = ap (map (λ (f : Function). f.name)) (sym (same_some e))
+  names_are (Include b ∷ xs) scope fs e = names_are xs scope fs e
+  names_are (Tag line tag ∷ xs) scope fs e = names_are xs scope fs e
+  names_are (Struct line tag members ∷ xs) scope fs e = names_are xs (after_item raw (Struct line tag members) scope) fs e
+  names_are (Global line var i is_static ∷ xs) scope fs e = names_are xs (after_item raw (Global line var i is_static) scope) fs e
+  names_are (Prototype line head ∷ xs) scope fs e = names_are xs (with_function head.name scope) fs e
+  names_are (Define line head body ∷ xs) scope fs e =
+      let after = after_item raw (Define line head body) scope in
+      let g = collected_some (function_tree raw line head body scope) (functions_from raw xs after) fs e in
+      let q = parts_of line head body scope g.0 g.2 in
+      ap (map (λ (f : Function). f.name)) g.4 ∙ ap (λ n. n ∷ map (λ (f : Function). f.name) g.1) (ap (λ (f : Function). f.name) q.4) ∙ ap (λ ns. head.name ∷ ns) (names_are xs after g.1 g.3)
+
+  -- a function that is named main gives an int
+  abbrev pub GiveInts : List Function → Type 0
+  GiveInts [] = Unit {0}
+  GiveInts (f ∷ fs) = (f.name ≡ main_name → f.result ≡ Some (type.Integer Int)) × GiveInts fs
+
+  pub give_ints : (xs : List RawItem) (scope : Scope) (fs : List Function) → AreKept raw (items_phrases raw xs scope) → HasFunctions xs scope fs → GiveInts fs
+  give_ints [] scope fs kept e = subst GiveInts (same_some e) tt
+  give_ints (Include b ∷ xs) scope fs kept e = give_ints xs scope fs kept e
+  give_ints (Tag line tag ∷ xs) scope fs kept e = give_ints xs scope fs kept.1 e
+  give_ints (Struct line tag members ∷ xs) scope fs kept e =
+      give_ints xs (after_item raw (Struct line tag members) scope) fs (kept_second raw [] (item_phrases raw (Struct line tag members) scope) (items_phrases raw xs (after_item raw (Struct line tag members) scope)) kept) e
+  give_ints (Global line var i is_static ∷ xs) scope fs kept e =
+      give_ints xs (after_item raw (Global line var i is_static) scope) fs (kept_second raw [] (item_phrases raw (Global line var i is_static) scope) (items_phrases raw xs (after_item raw (Global line var i is_static) scope)) kept) e
+  give_ints (Prototype line head ∷ xs) scope fs kept e =
+      give_ints xs (with_function head.name scope) fs (kept_second raw [] (item_phrases raw (Prototype line head) scope) (items_phrases raw xs (with_function head.name scope)) kept) e
+  give_ints (Define line head body ∷ xs) scope fs kept e =
+      let after = after_item raw (Define line head body) scope in
+      let g = collected_some (function_tree raw line head body scope) (functions_from raw xs after) fs e in
+      let q = parts_of line head body scope g.0 g.2 in
+      let gives : head.name ≡ main_name → q.0 ≡ Some (type.Integer Int) = λ named. same_some (sym q.2 ∙ int_tree raw head.result (int_result head.result (λ ne. kept.0 5 (main (no_int named ne))))) in
+      subst GiveInts (sym g.4)
+      (λ named. ap (λ (f : Function). f.result) q.4 ∙ gives (sym (ap (λ (f : Function). f.name) q.4) ∙ named), give_ints xs after g.1 (kept_second raw [] (item_phrases raw (Define line head body) scope) (items_phrases raw xs after) kept) g.3)

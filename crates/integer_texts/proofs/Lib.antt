@@ -1,0 +1,4 @@
+pub mod Items
+pub mod NamesInScope
+pub mod Texts
+pub mod SameNumbers

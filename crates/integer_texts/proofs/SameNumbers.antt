@@ -1,0 +1,86 @@
+-- A well-formed program of main alone over integers is numbered in text order.
+use Rattle.std.proofs.Common.{◌≡◌, ℕ, List, [], ◌∷◌, ◌++◌, length, map, Option, None, refl, sym, ap, ap₂, ◌∙◌}
+use Rattle.std.specs.Prelude.{slice_get}
+use Rattle.std.specs.List.{list_all}
+use Rattle.std.specs.Option.{option_map_or}
+use Rattle.std.proofs.lemmas.List.{length-map}
+use Rattle.c_tree.specs.declared.program.Function.{Function}
+use Rattle.c_tree.specs.declared.program.Program.{Program}
+use Rattle.c_tree.specs.declared.statement.Statement.{Statement}
+use Rattle.c_tree.specs.declared.statement.Statement.TheOpen.{Statement-F}
+use Rattle.c_tree.specs.declared.types.CType.{CType}
+use Rattle.c_tree.specs.Unlined.{unlined, unlined_function, unlined_var, SameButLines}
+use Rattle.c_language.specs.Words.{Bytes}
+use Rattle.built_forms.specs.IntegerForms.{IsIntegerMain}
+use Rattle.dep_model.specs.Doings.{Doing, doing_step, doing_arm, doings, body_doings, doings_of}
+use Rattle.dep_model.specs.MainVertices.{from}
+use Rattle.dep_model.specs.NumberedMains.{doing_number, doing_below, IsNumberedMain}
+use Rattle.projection_laws.proofs.Unlining.{zeroed, fold_unlined}
+use Rattle.projection_laws.proofs.SamePrograms.{main_same}
+use Rattle.integer_texts.specs.Law.{WellFormedAreNumbered}
+use Rattle.integer_texts.proofs.Texts.{texts_numbered}
+
+doing_free : (x : Statement-F (List Doing) (List Doing)) → doing_step (zeroed x) ≡ doing_step x
+doing_free (Statement-F.Declare id l x i) = refl
+doing_free (Statement-F.Assign id l a op b) = refl
+doing_free (Statement-F.Bump id l a up before) = refl
+doing_free (Statement-F.Invoke id l to f args) = refl
+doing_free (Statement-F.Fetch id l to) = refl
+doing_free (Statement-F.Write id l a) = refl
+doing_free (Statement-F.Print id l format args) = refl
+doing_free (Statement-F.Heap id l to cast n) = refl
+doing_free (Statement-F.Release id l a) = refl
+doing_free (Statement-F.If id l e a b) = refl
+doing_free (Statement-F.While id l e b) = refl
+doing_free (Statement-F.Do id l e b) = refl
+doing_free (Statement-F.For id l i e step b) = refl
+doing_free (Statement-F.Switch id l e arms) = refl
+doing_free (Statement-F.Block l b) = refl
+doing_free (Statement-F.Return id l e) = refl
+
+doings_unlined : (x : Statement) → doings (unlined x) ≡ doings x
+doings_unlined = fold_unlined doing_step doing_arm doing_free
+
+body_unlined : (xs : List Statement) → body_doings (map unlined xs) ≡ body_doings xs
+body_unlined [] = refl
+body_unlined (x ∷ xs) = ap₂ (λ (a b : List Doing). a ++ b) (doings_unlined x) (body_unlined xs)
+
+abbrev first_doings : List Function → List Doing
+first_doings fs = option_map_or (λ (g : Function). body_doings g.body) (slice_get fs 0) []
+
+first_unlined : (fs : List Function) → first_doings (map unlined_function fs) ≡ first_doings fs
+first_unlined [] = refl
+first_unlined (f ∷ fs) = body_unlined f.body
+
+-- the statements of main are the same in programs that are the same but for lines
+doings_same : (p q : Program) → SameButLines p q → doings_of p 0 ≡ doings_of q 0
+doings_same p q same =
+    sym (first_unlined p.functions) ∙ ap (λ (r : Program). first_doings r.functions) same ∙ first_unlined q.functions
+
+count_same : (p q : Program) → SameButLines p q → length p.vars ≡ length q.vars
+count_same p q same =
+    sym (length-map p.vars unlined_var) ∙ ap (λ (r : Program). length r.vars) same ∙ length-map q.vars unlined_var
+
+abbrev first_name : List Function → Bytes
+first_name fs = option_map_or (λ (f : Function). f.name) (slice_get fs 0) []
+
+abbrev first_result : List Function → Option CType
+first_result fs = option_map_or (λ (f : Function). f.result) (slice_get fs 0) None
+
+module _ (p q : Program) (same : SameButLines p q) (h : IsIntegerMain p) (n : IsNumberedMain q) where
+  functions_same : map unlined_function (h.main ∷ []) ≡ map unlined_function (n.integer.main ∷ [])
+  functions_same =
+      ap (map unlined_function) (sym h.functions_are) ∙ ap (λ (r : Program). r.functions) same ∙ ap (map unlined_function) n.integer.functions_are
+
+  numbered_same : IsNumberedMain p
+  numbered_same = record {
+    integer = h;
+    name_is = ap first_name functions_same ∙ n.name_is;
+    result_is = ap first_result functions_same ∙ n.result_is;
+    numbers_are = ap (map doing_number) (doings_same p q same) ∙ n.numbers_are ∙ ap (λ (r : Program). from 0 r.statements) (sym same);
+    named_are = ap₂ (λ (k : ℕ) (ds : List Doing). list_all (doing_below k) ds) (count_same p q same) (doings_same p q same) ∙ n.named_are;
+  }
+
+pub well_formed_numbered : WellFormedAreNumbered
+well_formed_numbered p ok h =
+    numbered_same p ok.same ok.but_lines h (texts_numbered ok.raw ok.same ok.has (main_same p ok.same ok.but_lines h))

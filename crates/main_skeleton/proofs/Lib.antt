@@ -1,0 +1,8 @@
+pub mod DoingLemmas
+pub mod FactLemmas
+pub mod Layers
+pub mod Listed
+pub mod Rules
+pub mod SkeletonLaw
+pub mod Statements
+pub mod Vertices

@@ -1,0 +1,33 @@
+//! Laws of programs of main alone over integers. Each function is a law, and holds no code: its contract is the law.
+ghost use Rattle.main_skeleton.specs.Laws as law;
+
+/// A law: a straight-line program is of main alone over integers, numbered in text order.
+pub fn straight_are_numbered()
+    ensures { law.StraightAreNumbered }
+{}
+
+/// A law: such a program has an analysis, in which nothing points anywhere and main modifies and uses
+/// nothing that is seen outside of it.
+pub fn numbered_have_analyses()
+    ensures { law.NumberedHaveAnalyses }
+{}
+
+/// A law: its vertices are the entry of main and the statements by their numbers.
+pub fn vertices_are_of_main()
+    ensures { law.VerticesAreOfMain }
+{}
+
+/// A law: its locations are the input, one a variable, and main's result.
+pub fn locations_are_of_main()
+    ensures { law.LocationsAreOfMain }
+{}
+
+/// A law: its edges are the control edges and the flow edges of main.
+pub fn edges_are_of_main()
+    ensures { law.EdgesAreOfMain }
+{}
+
+/// A law: each location that a vertex may define and a vertex may use is among the program's.
+pub fn locations_are_listed()
+    ensures { law.LocationsAreListed }
+{}

@@ -1,0 +1,4 @@
+pub mod RankLemmas
+pub mod MarkLemmas
+pub mod NameForms
+pub mod WholeLemmas

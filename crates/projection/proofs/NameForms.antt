@@ -1,0 +1,93 @@
+-- The variables that the forms of expression and of statement refer to, as equations.
+use Rattle.std.proofs.Common.{◌≡◌, ℕ, List, [], ◌∷◌, map, Option, Some, None, Bool, false, ◌&&◌, ◌||◌, ◌⊎◌, inl, inr, refl, sym, ap, ◌∙◌}
+use Rattle.c_arith.specs.declared.operators.BinaryOp.{BinaryOp}
+use Rattle.c_tree.specs.declared.expr.Expr.{Expr, fold-roll-Expr}
+use Rattle.c_tree.specs.declared.expr.Expr.TheOpen.{Expr-F}
+use Rattle.c_tree.specs.declared.expr.Expr.TheVariants as e
+use Rattle.c_tree.specs.declared.statement.Statement.{Statement, fold-roll-Statement}
+use Rattle.c_tree.specs.declared.statement.Statement.TheOpen.{Statement-F}
+use Rattle.c_tree.specs.declared.statement.Statement.TheVariants as s
+use Rattle.c_tree.specs.declared.statement.Arm.{Arm, fold-Arm, fold-roll-Arm}
+use Rattle.projection.specs.Names.{names_step, names, either, refers_step, refers_arm, refers, body_refers}
+use Rattle.projection.specs.Marks.{part_refers, arms_refer}
+
+names-Binary : (op : BinaryOp) (a b : Expr) (x : ℕ) → names (e.Binary op a b) x ≡ (names a x || names b x)
+names-Binary op a b x =
+    ap (λ t. names t x) (sym (e.rolls-Binary op a b)) ∙ ap (λ (f : ℕ → Bool). f x) (fold-roll-Expr (ℕ → Bool) names_step (Expr-F.Binary op a b))
+
+names-AndAlso : (a b : Expr) (x : ℕ) → names (e.AndAlso a b) x ≡ (names a x || names b x)
+names-AndAlso a b x =
+    ap (λ t. names t x) (sym (e.rolls-AndAlso a b)) ∙ ap (λ (f : ℕ → Bool). f x) (fold-roll-Expr (ℕ → Bool) names_step (Expr-F.AndAlso a b))
+
+names-OrElse : (a b : Expr) (x : ℕ) → names (e.OrElse a b) x ≡ (names a x || names b x)
+names-OrElse a b x =
+    ap (λ t. names t x) (sym (e.rolls-OrElse a b)) ∙ ap (λ (f : ℕ → Bool). f x) (fold-roll-Expr (ℕ → Bool) names_step (Expr-F.OrElse a b))
+
+pub names-Choose : (c a b : Expr) (x : ℕ) → names (e.Choose c a b) x ≡ (names c x || (names a x || names b x))
+names-Choose c a b x =
+    ap (λ t. names t x) (sym (e.rolls-Choose c a b)) ∙ ap (λ (f : ℕ → Bool). f x) (fold-roll-Expr (ℕ → Bool) names_step (Expr-F.Choose c a b))
+
+names-Index : (a i : Expr) (x : ℕ) → names (e.Index a i) x ≡ (names a x || names i x)
+names-Index a i x =
+    ap (λ t. names t x) (sym (e.rolls-Index a i)) ∙ ap (λ (f : ℕ → Bool). f x) (fold-roll-Expr (ℕ → Bool) names_step (Expr-F.Index a i))
+
+-- each form of two operands names what one of them names
+pub names_two : (t a b : Expr) → ((op : BinaryOp) × (t ≡ e.Binary op a b)) ⊎ ((t ≡ e.AndAlso a b) ⊎ ((t ≡ e.OrElse a b) ⊎ (t ≡ e.Index a b))) → (x : ℕ) → names t x ≡ (names a x || names b x)
+names_two t a b (inl (op, is)) x = ap (λ z. names z x) is ∙ names-Binary op a b x
+names_two t a b (inr (inl is)) x = ap (λ z. names z x) is ∙ names-AndAlso a b x
+names_two t a b (inr (inr (inl is))) x = ap (λ z. names z x) is ∙ names-OrElse a b x
+names_two t a b (inr (inr (inr is))) x = ap (λ z. names z x) is ∙ names-Index a b x
+
+module _ (keeps : ℕ → Bool) where
+  either-body : (b : List Statement) (x : ℕ) → either (map (refers keeps) b) x ≡ body_refers keeps b x
+  either-body [] x = refl
+  either-body (y ∷ b) x = ap (λ r. refers keeps y x || r) (either-body b x)
+
+  abbrev of_arm : Arm → ℕ → Bool
+  of_arm = fold-Arm (ℕ → Bool) (ℕ → Bool) (refers_step keeps) (refers_arm keeps)
+
+  arm_is : (a : Arm) (x : ℕ) → of_arm a x ≡ body_refers keeps a.body x
+  arm_is a x =
+      ap (λ (f : ℕ → Bool). f x) (fold-roll-Arm (ℕ → Bool) (ℕ → Bool) (refers_step keeps) (refers_arm keeps) (record { labels = a.labels; body = a.body })) ∙ either-body a.body x
+
+  either-arms : (arms : List Arm) (x : ℕ) → either (map of_arm arms) x ≡ arms_refer keeps arms x
+  either-arms [] x = refl
+  either-arms (a ∷ arms) x = ap (λ r. r || either (map of_arm arms) x) (arm_is a x) ∙ ap (λ r. body_refers keeps a.body x || r) (either-arms arms x)
+
+  pub refers-Block : (l : ℕ) (b : List Statement) (x : ℕ) → refers keeps (s.Block l b) x ≡ body_refers keeps b x
+  refers-Block l b x =
+      ap (λ t. refers keeps t x) (sym (s.rolls-Block l b)) ∙ ap (λ (f : ℕ → Bool). f x) (fold-roll-Statement (ℕ → Bool) (ℕ → Bool) (refers_step keeps) (refers_arm keeps) (Statement-F.Block l b)) ∙ either-body b x
+
+  pub refers-If : (id l : ℕ) (e : Expr) (a b : List Statement) (x : ℕ) → refers keeps (s.If id l e a b) x ≡ ((keeps id && names e x) || (body_refers keeps a x || body_refers keeps b x))
+  refers-If id l e a b x =
+      ap (λ t. refers keeps t x) (sym (s.rolls-If id l e a b)) ∙ ap (λ (f : ℕ → Bool). f x) (fold-roll-Statement (ℕ → Bool) (ℕ → Bool) (refers_step keeps) (refers_arm keeps) (Statement-F.If id l e a b)) ∙ (ap (λ r. (keeps id && names e x) || (r || either (map (refers keeps) b) x)) (either-body a x) ∙ ap (λ r. (keeps id && names e x) || (body_refers keeps a x || r)) (either-body b x))
+
+  refers-While : (id l : ℕ) (e : Expr) (b : List Statement) (x : ℕ) → refers keeps (s.While id l e b) x ≡ ((keeps id && names e x) || body_refers keeps b x)
+  refers-While id l e b x =
+      ap (λ t. refers keeps t x) (sym (s.rolls-While id l e b)) ∙ ap (λ (f : ℕ → Bool). f x) (fold-roll-Statement (ℕ → Bool) (ℕ → Bool) (refers_step keeps) (refers_arm keeps) (Statement-F.While id l e b)) ∙ ap (λ r. (keeps id && names e x) || r) (either-body b x)
+
+  refers-Do : (id l : ℕ) (e : Expr) (b : List Statement) (x : ℕ) → refers keeps (s.Do id l e b) x ≡ ((keeps id && names e x) || body_refers keeps b x)
+  refers-Do id l e b x =
+      ap (λ t. refers keeps t x) (sym (s.rolls-Do id l e b)) ∙ ap (λ (f : ℕ → Bool). f x) (fold-roll-Statement (ℕ → Bool) (ℕ → Bool) (refers_step keeps) (refers_arm keeps) (Statement-F.Do id l e b)) ∙ ap (λ r. (keeps id && names e x) || r) (either-body b x)
+
+  -- both loops that test alone refer to what their tests and bodies do
+  pub refers_loop : (t : Statement) (id : ℕ) (e : Expr) (b : List Statement) → ((l : ℕ) × (t ≡ s.While id l e b)) ⊎ ((l : ℕ) × (t ≡ s.Do id l e b)) → (x : ℕ) → refers keeps t x ≡ ((keeps id && names e x) || body_refers keeps b x)
+  refers_loop t id e b (inl (l, is)) x = ap (λ z. refers keeps z x) is ∙ refers-While id l e b x
+  refers_loop t id e b (inr (l, is)) x = ap (λ z. refers keeps z x) is ∙ refers-Do id l e b x
+
+  pub refers-Switch : (id l : ℕ) (e : Expr) (arms : List Arm) (x : ℕ) → refers keeps (s.Switch id l e arms) x ≡ ((keeps id && names e x) || arms_refer keeps arms x)
+  refers-Switch id l e arms x =
+      ap (λ t. refers keeps t x) (sym (s.rolls-Switch id l e arms)) ∙ ap (λ (f : ℕ → Bool). f x) (fold-roll-Statement (ℕ → Bool) (ℕ → Bool) (refers_step keeps) (refers_arm keeps) (Statement-F.Switch id l e arms)) ∙ ap (λ r. (keeps id && names e x) || r) (either-arms arms x)
+
+  for_is : (own : Bool) (i step : Bool) (b : List Statement) (x : ℕ) → (own || (i || (step || either (map (refers keeps) b) x))) ≡ (own || (i || (step || body_refers keeps b x)))
+  for_is own i step b x = ap (λ r. own || (i || (step || r))) (either-body b x)
+
+  pub refers-For : (id l : ℕ) (i : Option Statement) (e : Expr) (step : Option Statement) (b : List Statement) (x : ℕ) → refers keeps (s.For id l i e step b) x ≡ ((keeps id && names e x) || (part_refers keeps i x || (part_refers keeps step x || body_refers keeps b x)))
+  refers-For id l None e None b x =
+      ap (λ t. refers keeps t x) (sym (s.rolls-For id l None e None b)) ∙ (ap (λ (f : ℕ → Bool). f x) (fold-roll-Statement (ℕ → Bool) (ℕ → Bool) (refers_step keeps) (refers_arm keeps) (Statement-F.For id l None e None b)) ∙ for_is (keeps id && names e x) false false b x)
+  refers-For id l None e (Some y) b x =
+      ap (λ t. refers keeps t x) (sym (s.rolls-For id l None e (Some y) b)) ∙ (ap (λ (f : ℕ → Bool). f x) (fold-roll-Statement (ℕ → Bool) (ℕ → Bool) (refers_step keeps) (refers_arm keeps) (Statement-F.For id l None e (Some y) b)) ∙ for_is (keeps id && names e x) false (refers keeps y x) b x)
+  refers-For id l (Some z) e None b x =
+      ap (λ t. refers keeps t x) (sym (s.rolls-For id l (Some z) e None b)) ∙ (ap (λ (f : ℕ → Bool). f x) (fold-roll-Statement (ℕ → Bool) (ℕ → Bool) (refers_step keeps) (refers_arm keeps) (Statement-F.For id l (Some z) e None b)) ∙ for_is (keeps id && names e x) (refers keeps z x) false b x)
+  refers-For id l (Some z) e (Some y) b x =
+      ap (λ t. refers keeps t x) (sym (s.rolls-For id l (Some z) e (Some y) b)) ∙ (ap (λ (f : ℕ → Bool). f x) (fold-roll-Statement (ℕ → Bool) (ℕ → Bool) (refers_step keeps) (refers_arm keeps) (Statement-F.For id l (Some z) e (Some y) b)) ∙ for_is (keeps id && names e x) (refers keeps z x) (refers keeps y x) b x)

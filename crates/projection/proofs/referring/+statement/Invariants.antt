@@ -1,0 +1,13 @@
+use Rattle.std.proofs.Common.{◌≡◌, ℕ, ◌||◌, drop}
+use Rattle.bit_rows.specs.Sets.{has}
+use Rattle.projection.specs.Marks.{arms_refer}
+use Rattle.projection.specs.Names.{body_refers}
+use Rattle.projection.proofs.referring.+statement.Given as goal
+
+abbrev pub invariant-mark_arms-loop-arm : goal.invariant-mark_arms-loop-arm
+invariant-mark_arms-loop-arm l =
+    (x : ℕ) → (has l.used.items x || arms_refer (has l.keeps) (drop l.arm-index l.arms) x) ≡ (has l.initial.used.items x || arms_refer (has l.keeps) l.arms x)
+
+abbrev pub invariant-mark_statements-loop-one : goal.invariant-mark_statements-loop-one
+invariant-mark_statements-loop-one l =
+    (x : ℕ) → (has l.used.items x || body_refers (has l.keeps) (drop l.one-index l.list) x) ≡ (has l.initial.used.items x || body_refers (has l.keeps) l.list x)

@@ -1,0 +1,6 @@
+pub mod Kept
+pub mod Names
+pub mod Renumbering
+pub mod Projection
+pub mod Marks
+pub mod Selected

@@ -1,0 +1,115 @@
+-- The variables that kept text refers to.
+use Rattle.std.specs.Prelude.{ℕ, ◌==◌, List, [], ◌∷◌, Bool, false, ◌&&◌, ◌||◌, Option, Some, None}
+use Rattle.std.specs.List.{list_any}
+use Rattle.c_tree.specs.declared.expr.Expr.{Expr, fold-Expr}
+use Rattle.c_tree.specs.declared.expr.Expr.TheOpen.{Expr-F}
+use Rattle.c_tree.specs.declared.program.Function.{Function}
+use Rattle.c_tree.specs.declared.program.Init.{Init}
+use Rattle.c_tree.specs.declared.program.Init.TheVariants as init
+use Rattle.c_tree.specs.declared.program.Program.{Program}
+use Rattle.c_tree.specs.declared.statement.Amount.{Amount}
+use Rattle.c_tree.specs.declared.statement.Amount.TheVariants as amount
+use Rattle.c_tree.specs.declared.statement.Size.{Size}
+use Rattle.c_tree.specs.declared.statement.Size.TheVariants as size
+use Rattle.c_tree.specs.declared.statement.Target.{Target}
+use Rattle.c_tree.specs.declared.statement.Target.TheVariants as target
+use Rattle.c_tree.specs.declared.statement.Statement.{Statement, fold-Statement}
+use Rattle.c_tree.specs.declared.statement.Statement.TheOpen.{Statement-F, Arm-F}
+
+-- whether the words of an expression name a variable
+abbrev pub names_step : Expr-F (ℕ → Bool) → ℕ → Bool
+names_step (Expr-F.Constant text t v) x = false
+names_step Expr-F.Null x = false
+names_step Expr-F.Eof x = false
+names_step (Expr-F.Variable y) x = y == x
+names_step (Expr-F.Unary op a) x = a x
+names_step (Expr-F.Deref a) x = a x
+names_step (Expr-F.AddressOf a) x = a x
+names_step (Expr-F.Binary op a b) x = a x || b x
+names_step (Expr-F.AndAlso a b) x = a x || b x
+names_step (Expr-F.OrElse a b) x = a x || b x
+names_step (Expr-F.Choose c a b) x = c x || (a x || b x)
+names_step (Expr-F.Cast t a) x = a x
+names_step (Expr-F.Index a i) x = a x || i x
+names_step (Expr-F.Member a m) x = a x
+names_step (Expr-F.Arrow a m) x = a x
+names_step (Expr-F.Paren a) x = a x
+
+abbrev pub names : Expr → ℕ → Bool
+names = fold-Expr (ℕ → Bool) names_step
+
+abbrev pub any_names : List Expr → ℕ → Bool
+any_names es x = list_any (λ (e : Expr). names e x) es
+
+abbrev pub init_names : Init → ℕ → Bool
+init_names init.None x = false
+init_names (init.One e) x = names e x
+init_names (init.Items es) x = any_names es x
+
+abbrev pub target_names : Target → ℕ → Bool
+target_names target.None x = false
+target_names (target.Place e) x = names e x
+target_names (target.Declared y) x = y == x
+
+abbrev pub size_names : Size → ℕ → Bool
+size_names (size.Type t) x = false
+size_names (size.Pointee y in_parentheses) x = y == x
+
+abbrev pub amount_names : Amount → ℕ → Bool
+amount_names (amount.Size t) x = size_names t x
+amount_names (amount.CountSize e t) x = names e x || size_names t x
+amount_names (amount.SizeCount t e) x = size_names t x || names e x
+amount_names (amount.Count e) x = names e x
+
+abbrev pub value_names : Option Expr → ℕ → Bool
+value_names None x = false
+value_names (Some e) x = names e x
+
+-- one of these names it
+abbrev pub either : List (ℕ → Bool) → ℕ → Bool
+either [] x = false
+either (a ∷ as_) x = a x || either as_ x
+
+abbrev pub if_any : Option (ℕ → Bool) → ℕ → Bool
+if_any None x = false
+if_any (Some a) x = a x
+
+module _ (keeps : ℕ → Bool) where
+  -- a declaration without an initialiser is no statement: it refers to nothing
+  abbrev pub begun_names : Option ℕ → ℕ → Init → ℕ → Bool
+  begun_names None y i x = false
+  begun_names (Some id) y i x = keeps id && ((y == x) || init_names i x)
+
+  -- the words of the statement, where it is kept, and the kept statements in it; labels name no variable (ISO C99 6.8.4.2, paragraph 3)
+  abbrev pub refers_step : Statement-F (ℕ → Bool) (ℕ → Bool) → ℕ → Bool
+  refers_step (Statement-F.Declare id l y i) x = begun_names id y i x
+  refers_step (Statement-F.Assign id l left op right) x = keeps id && (names left x || names right x)
+  refers_step (Statement-F.Bump id l a up before) x = keeps id && names a x
+  refers_step (Statement-F.Invoke id l to f args) x = keeps id && (target_names to x || any_names args x)
+  refers_step (Statement-F.Fetch id l to) x = keeps id && target_names to x
+  refers_step (Statement-F.Write id l e) x = keeps id && names e x
+  refers_step (Statement-F.Print id l format args) x = keeps id && any_names args x
+  refers_step (Statement-F.Heap id l to cast n) x = keeps id && (target_names to x || amount_names n x)
+  refers_step (Statement-F.Release id l e) x = keeps id && names e x
+  refers_step (Statement-F.If id l e a b) x = (keeps id && names e x) || (either a x || either b x)
+  refers_step (Statement-F.While id l e b) x = (keeps id && names e x) || either b x
+  refers_step (Statement-F.Do id l e b) x = (keeps id && names e x) || either b x
+  refers_step (Statement-F.For id l i e s b) x = (keeps id && names e x) || (if_any i x || (if_any s x || either b x))
+  refers_step (Statement-F.Switch id l e arms) x = (keeps id && names e x) || either arms x
+  refers_step (Statement-F.Block l b) x = either b x
+  refers_step (Statement-F.Return id l e) x = keeps id && value_names e x
+
+  abbrev pub refers_arm : Arm-F (ℕ → Bool) (ℕ → Bool) → ℕ → Bool
+  refers_arm a x = either a.body x
+
+  -- whether the kept statements of a statement refer to a variable
+  abbrev pub refers : Statement → ℕ → Bool
+  refers = fold-Statement (ℕ → Bool) (ℕ → Bool) refers_step refers_arm
+
+  abbrev pub body_refers : List Statement → ℕ → Bool
+  body_refers [] x = false
+  body_refers (s ∷ ss) x = refers s x || body_refers ss x
+
+  -- whether kept text refers to a variable: its declaration stays exactly then
+  abbrev pub stays : Program → ℕ → Bool
+  stays p x = list_any (λ (f : Function). body_refers f.body x) p.functions

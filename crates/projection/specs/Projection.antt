@@ -1,0 +1,175 @@
+-- The projection of a program to what is kept of it: the smaller program.
+use Rattle.std.specs.Prelude.{ℕ, suc, Bool, true, false, List, [], ◌∷◌, ◌++◌, map, Option, Some, None, option_map}
+use Rattle.c_tree.specs.declared.expr.Expr.{Expr}
+use Rattle.c_tree.specs.declared.program.Init.{Init}
+use Rattle.c_tree.specs.declared.program.Init.TheVariants as init
+use Rattle.c_tree.specs.declared.program.Function.{Function}
+use Rattle.c_tree.specs.declared.program.Var.{Var}
+use Rattle.c_tree.specs.declared.program.Item.{Item}
+use Rattle.c_tree.specs.declared.program.Program.{Program}
+use Rattle.c_tree.specs.declared.program.Item.TheVariants as item
+use Rattle.c_tree.specs.declared.statement.Target.{Target}
+use Rattle.c_tree.specs.declared.statement.Target.TheVariants as target
+use Rattle.c_tree.specs.declared.statement.Arm.{Arm, roll-Arm, fold-Arm}
+use Rattle.c_tree.specs.declared.statement.Statement.{Statement, fold-Statement}
+use Rattle.c_tree.specs.declared.statement.Statement.TheOpen.{Statement-F, Arm-F}
+use Rattle.c_tree.specs.declared.statement.Statement.TheVariants as s
+use Rattle.projection.specs.Renumbering.{Numbers, renamed, renamed_init, renamed_target, renamed_amount, renamed_label}
+use Rattle.projection.specs.Kept.{Kept, rank}
+use Rattle.projection.specs.Names.{stays}
+
+-- a choice of lists
+abbrev pub if_so : {A : Type 0} → Bool → List A → List A → List A
+if_so true xs ys = xs
+if_so false xs ys = ys
+
+abbrev pub flat : {A : Type 0} → List (List A) → List A
+flat [] = []
+flat (xs ∷ rest) = xs ++ flat rest
+
+-- the numbers of what is kept, where functions have these
+abbrev pub numbers_of : Kept → (ℕ → ℕ) → Numbers
+numbers_of k functions = record { variable = rank k.variable; statement = rank k.statement; function = functions }
+
+-- whether a target declares, and whether a statement does
+abbrev pub declares_target : Target → Bool
+declares_target target.None = false
+declares_target (target.Place a) = false
+declares_target (target.Declared x) = true
+
+abbrev pub declaring_step : Statement-F Bool Bool → Bool
+declaring_step (Statement-F.Declare id l x i) = true
+declaring_step (Statement-F.Invoke id l to f args) = declares_target to
+declaring_step (Statement-F.Fetch id l to) = declares_target to
+declaring_step (Statement-F.Heap id l to cast n) = declares_target to
+declaring_step _ = false
+
+abbrev pub declaring_arm : Arm-F Bool Bool → Bool
+declaring_arm a = false
+
+abbrev pub is_declaring : Statement → Bool
+is_declaring = fold-Statement Bool Bool declaring_step declaring_arm
+
+-- the first statement of what stays of a part of a for
+abbrev pub first_of : List Statement → Option Statement
+first_of [] = None
+first_of (x ∷ xs) = Some x
+
+abbrev pub part_of : Option (List Statement) → Option Statement
+part_of None = None
+part_of (Some xs) = first_of xs
+
+module _ (k : Kept) (g : ℕ → ℕ) where
+  -- a declaration without its initialiser, where its variable stays
+  abbrev pub bare : ℕ → ℕ → List Statement
+  bare l x = if_so (k.variable x) (s.Declare None l (rank k.variable x) init.None ∷ []) []
+
+  abbrev pub bare_target : ℕ → Target → List Statement
+  bare_target l target.None = []
+  bare_target l (target.Place a) = []
+  bare_target l (target.Declared x) = bare l x
+
+  abbrev pub projected_declaration : Option ℕ → ℕ → ℕ → Init → List Statement
+  projected_declaration None l x i = bare l x
+  projected_declaration (Some id) l x i =
+      if_so (k.statement id) (s.Declare (Some (rank k.statement id)) l (rank k.variable x) (renamed_init (rank k.variable) i) ∷ []) (bare l x)
+
+  -- a call that is kept, with its result or without it
+  abbrev pub projected_call : ℕ → ℕ → Target → ℕ → List Expr → List Statement
+  projected_call id l target.None f args = s.Invoke (rank k.statement id) l target.None (g f) (map (renamed (rank k.variable)) args) ∷ []
+  projected_call id l to f args =
+      if_so (k.result id) (s.Invoke (rank k.statement id) l (renamed_target (rank k.variable) to) (g f) (map (renamed (rank k.variable)) args) ∷ [])
+      (bare_target l to ++ (s.Invoke (rank k.statement id) l target.None (g f) (map (renamed (rank k.variable)) args) ∷ []))
+
+  -- what a for begins with, without the for: where it declares, in a block of its own
+  abbrev pub alone : ℕ → Option Statement → List Statement
+  alone l None = []
+  alone l (Some x) = if_so (is_declaring x) (s.Block l (x ∷ []) ∷ []) (x ∷ [])
+
+  -- a block that isn't empty
+  abbrev pub block_of : ℕ → List Statement → List Statement
+  block_of l [] = []
+  block_of l (x ∷ xs) = s.Block l (x ∷ xs) ∷ []
+
+  abbrev pub projected_step : Statement-F (List Statement) Arm → List Statement
+  projected_step (Statement-F.Declare id l x i) = projected_declaration id l x i
+  projected_step (Statement-F.Assign id l left op right) =
+      if_so (k.statement id) (s.Assign (rank k.statement id) l (renamed (rank k.variable) left) op (renamed (rank k.variable) right) ∷ []) []
+  projected_step (Statement-F.Bump id l a up before) = if_so (k.statement id) (s.Bump (rank k.statement id) l (renamed (rank k.variable) a) up before ∷ []) []
+  projected_step (Statement-F.Invoke id l to f args) = if_so (k.statement id) (projected_call id l to f args) (bare_target l to)
+  projected_step (Statement-F.Fetch id l to) = if_so (k.statement id) (s.Fetch (rank k.statement id) l (renamed_target (rank k.variable) to) ∷ []) (bare_target l to)
+  projected_step (Statement-F.Write id l a) = if_so (k.statement id) (s.Write (rank k.statement id) l (renamed (rank k.variable) a) ∷ []) []
+  projected_step (Statement-F.Print id l format args) = if_so (k.statement id) (s.Print (rank k.statement id) l format (map (renamed (rank k.variable)) args) ∷ []) []
+  projected_step (Statement-F.Heap id l to cast n) =
+      if_so (k.statement id) (s.Heap (rank k.statement id) l (renamed_target (rank k.variable) to) cast (renamed_amount (rank k.variable) n) ∷ []) (bare_target l to)
+  projected_step (Statement-F.Release id l a) = if_so (k.statement id) (s.Release (rank k.statement id) l (renamed (rank k.variable) a) ∷ []) []
+  projected_step (Statement-F.If id l a b c) = if_so (k.statement id) (s.If (rank k.statement id) l (renamed (rank k.variable) a) (flat b) (flat c) ∷ []) []
+  projected_step (Statement-F.While id l a b) = if_so (k.statement id) (s.While (rank k.statement id) l (renamed (rank k.variable) a) (flat b) ∷ []) []
+  projected_step (Statement-F.Do id l a b) = if_so (k.statement id) (s.Do (rank k.statement id) l (renamed (rank k.variable) a) (flat b) ∷ []) []
+  projected_step (Statement-F.For id l i a step b) =
+      if_so (k.statement id) (s.For (rank k.statement id) l (part_of i) (renamed (rank k.variable) a) (part_of step) (flat b) ∷ []) (alone l (part_of i))
+  projected_step (Statement-F.Switch id l a arms) = if_so (k.statement id) (s.Switch (rank k.statement id) l (renamed (rank k.variable) a) arms ∷ []) []
+  projected_step (Statement-F.Block l b) = block_of l (flat b)
+  projected_step (Statement-F.Return id l a) = if_so (k.statement id) (s.Return (rank k.statement id) l (option_map (renamed (rank k.variable)) a) ∷ []) []
+
+  abbrev pub projected_arm_step : Arm-F (List Statement) Arm → Arm
+  projected_arm_step a = roll-Arm (record { labels = map (renamed_label (rank k.variable)) a.labels; body = flat a.body })
+
+  -- what stays of a statement
+  abbrev pub projected : Statement → List Statement
+  projected = fold-Statement (List Statement) Arm projected_step projected_arm_step
+
+  -- what stays of an arm of a switch that stays
+  abbrev pub projected_arm : Arm → Arm
+  projected_arm = fold-Arm (List Statement) Arm projected_step projected_arm_step
+
+  abbrev pub projected_all : List Statement → List Statement
+  projected_all xs = flat (map projected xs)
+
+  -- what stays of an item, where these are the functions that are kept
+  abbrev pub projected_item : (ℕ → Bool) → Item → List Item
+  projected_item test (item.Include is_stdlib) = item.Include is_stdlib ∷ []
+  projected_item test (item.Tag d) = item.Tag d ∷ []
+  projected_item test (item.Struct d) = item.Struct d ∷ []
+  projected_item test (item.Global x i) = if_so (k.variable x) (item.Global (rank k.variable x) (renamed_init (rank k.variable) i) ∷ []) []
+  projected_item test (item.Prototype c names is_static) = if_so (test c) (item.Prototype (g c) names is_static ∷ []) []
+  projected_item test (item.Define c) = if_so (test c) (item.Define (g c) ∷ []) []
+
+  abbrev pub projected_items : (ℕ → Bool) → List Item → List Item
+  projected_items test xs = flat (map (projected_item test) xs)
+
+  -- what stays of a function that stays
+  abbrev pub projected_function : Function → Function
+  projected_function c = record c { params = map (rank k.variable) c.params; body = projected_all c.body }
+
+  -- the functions that stay
+  abbrev pub projected_functions : List Function → List Function
+  projected_functions [] = []
+  projected_functions (c ∷ rest) = if_so (k.function c.name) (projected_function c ∷ projected_functions rest) (projected_functions rest)
+
+  -- a variable in a function with another number
+  abbrev pub projected_var : Var → Var
+  projected_var v = record v { owner = option_map g v.owner }
+
+  -- the variables that stay, the first of which has this number
+  abbrev pub projected_vars : ℕ → List Var → List Var
+  projected_vars n [] = []
+  projected_vars n (v ∷ vs) = if_so (k.variable n) (projected_var v ∷ projected_vars (suc n) vs) (projected_vars (suc n) vs)
+
+-- what stays of a program, where these are the functions that are kept
+abbrev pub projected_program : Kept → (ℕ → Bool) → Program → Program
+projected_program k test p = record {
+  items = projected_items k (rank test) test p.items;
+  vars = projected_vars k (rank test) 0 p.vars;
+  structs = p.structs;
+  functions = projected_functions k (rank test) p.functions;
+  statements = rank k.statement p.statements;
+}
+
+-- what is kept where these statements are: the variables that they refer to, and so far each function with its parameters, and each result
+abbrev pub kept_with : Program → (ℕ → Bool) → Kept
+kept_with p keeps = record { variable = stays keeps p; statement = keeps; result = λ i. true; function = λ name. true }
+
+-- the projection of a program to these statements
+abbrev pub projection : Program → (ℕ → Bool) → Program
+projection p keeps = projected_program (kept_with p keeps) (λ f. true) p

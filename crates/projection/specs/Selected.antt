@@ -1,0 +1,98 @@
+-- What stays by a selection: the statements that it keeps and the variables that stay, with each function and each result.
+use Rattle.std.specs.Prelude.{ℕ, List, [], ◌∷◌, Bool, true, if◌then◌else◌, Option, Some, None, map}
+use Rattle.bit_rows.specs.Sets.{has}
+use Rattle.c_tree.specs.declared.expr.Expr.{Expr}
+use Rattle.c_tree.specs.declared.program.Function.{Function}
+use Rattle.c_tree.specs.declared.program.Item.{Item}
+use Rattle.c_tree.specs.declared.program.Program.{Program}
+use Rattle.c_tree.specs.declared.program.Var.{Var}
+use Rattle.c_tree.specs.declared.statement.Arm.{Arm}
+use Rattle.c_tree.specs.declared.statement.Statement.{Statement}
+use Rattle.c_tree.specs.declared.statement.Statement.TheVariants as s
+use Rattle.projection.specs.declared.statements.Selection.{Selection}
+use Rattle.projection.specs.Kept.{Kept, rank}
+use Rattle.projection.specs.Renumbering.{renamed}
+use Rattle.projection.specs.Projection.{if_so, first_of, is_declaring, projected, projected_arm, projected_all, projected_item, projected_items, projected_vars, projected_function, projected_functions}
+
+-- the new number of a number that passes the test
+abbrev pub number_of : (ℕ → Bool) → ℕ → Option ℕ
+number_of test n = if test n then Some (rank test n) else None
+
+-- functions keep their numbers
+abbrev pub same : ℕ → ℕ
+same n = n
+
+abbrev pub each : ℕ → Bool
+each n = true
+
+abbrev pub kept_by : Selection → Kept
+kept_by c = record { variable = has c.variables; statement = has c.statements; result = λ i. true; function = λ name. true }
+
+-- what stays of a statement, of a list of them, of a part of a for and of the arms of a switch
+abbrev pub left : Selection → Statement → List Statement
+left c = projected (kept_by c) same
+
+abbrev pub all_left : Selection → List Statement → List Statement
+all_left c = projected_all (kept_by c) same
+
+abbrev pub part_left : Selection → Option Statement → Option Statement
+part_left c None = None
+part_left c (Some x) = first_of (left c x)
+
+abbrev pub arm_left : Selection → Arm → Arm
+arm_left c = projected_arm (kept_by c) same
+
+abbrev pub arms_left : Selection → List Arm → List Arm
+arms_left c = map (arm_left c)
+
+-- a block that isn't empty, and what a for begins with without the for
+abbrev pub block_left : ℕ → List Statement → List Statement
+block_left l [] = []
+block_left l (x ∷ xs) = s.Block l (x ∷ xs) ∷ []
+
+abbrev pub alone_left : ℕ → Option Statement → List Statement
+alone_left l None = []
+alone_left l (Some x) = if_so (is_declaring x) (s.Block l (x ∷ []) ∷ []) (x ∷ [])
+
+-- what stays of statements that hold others, where this stays of these
+module _ (c : Selection) (id l : ℕ) where
+  abbrev pub if_left : Expr → List Statement → List Statement → List Statement
+  if_left a b d = if_so (has c.statements id) (s.If (rank (has c.statements) id) l (renamed (rank (has c.variables)) a) b d ∷ []) []
+
+  abbrev pub while_left : Expr → List Statement → List Statement
+  while_left a b = if_so (has c.statements id) (s.While (rank (has c.statements) id) l (renamed (rank (has c.variables)) a) b ∷ []) []
+
+  abbrev pub do_left : Expr → List Statement → List Statement
+  do_left a b = if_so (has c.statements id) (s.Do (rank (has c.statements) id) l (renamed (rank (has c.variables)) a) b ∷ []) []
+
+  abbrev pub for_left : Option Statement → Expr → Option Statement → List Statement → List Statement
+  for_left i a step b =
+      if_so (has c.statements id) (s.For (rank (has c.statements) id) l i (renamed (rank (has c.variables)) a) step b ∷ []) (alone_left l i)
+
+  abbrev pub switch_left : Expr → List Arm → List Statement
+  switch_left a arms = if_so (has c.statements id) (s.Switch (rank (has c.statements) id) l (renamed (rank (has c.variables)) a) arms ∷ []) []
+
+-- what stays of the parts of a program
+abbrev pub item_left : Selection → Item → List Item
+item_left c = projected_item (kept_by c) same each
+
+abbrev pub items_left : Selection → List Item → List Item
+items_left c = projected_items (kept_by c) same each
+
+abbrev pub vars_left : Selection → ℕ → List Var → List Var
+vars_left c = projected_vars (kept_by c) same
+
+abbrev pub function_left : Selection → Function → Function
+function_left c = projected_function (kept_by c) same
+
+abbrev pub functions_left : Selection → List Function → List Function
+functions_left c = projected_functions (kept_by c) same
+
+abbrev pub program_left : Selection → Program → Program
+program_left c p = record {
+  items = items_left c p.items;
+  vars = vars_left c 0 p.vars;
+  structs = p.structs;
+  functions = functions_left c p.functions;
+  statements = rank (has c.statements) p.statements;
+}

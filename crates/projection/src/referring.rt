@@ -1,0 +1,409 @@
+//! The variables that kept text refers to, by one walk down the tree.
+ghost use Rattle.std.specs.Prelude.{◌≡◌, ℕ, ◌==◌, ◌&&◌, ◌||◌, OnOk, IfOk};
+ghost use Rattle.bit_rows.specs.Sets.{has};
+ghost use Rattle.projection.specs.Marks.{Adds, part_refers, arms_refer, functions_refer};
+ghost use Rattle.projection.specs.Names as spec;
+
+use crate::ranks::is_kept;
+use c_tree::{
+    Amount, Arm, Boxed, Expr, Function, Init, Size, Statement, StatementId, Target, VarId,
+};
+use std::alloc::{AllocError, Global};
+
+/// For each variable, whether kept text of the functions refers to it, where none of those past the
+/// end is referred to. Err: no memory was left.
+pub(crate) fn referred_variables(
+    alloc: Global,
+    list: &[Function],
+    keeps: &[bool],
+) -> Result<Vec<bool>, AllocError>
+    ensures { IfOk result (λ used. (x : ℕ) → has used.items x ≡ functions_refer (has keeps.now) list.now x) }
+{
+    let mut used = Vec::new(alloc);
+    for function in list {
+        mark_statements(&mut used, keeps, function.body.as_slice())?;
+    }
+    Ok(used)
+}
+
+// Marks a variable.
+fn mark(used: &mut Vec<bool>, var: VarId) -> Result<(), AllocError>
+    ensures { OnOk result (Adds used.old.items used.new.items (λ x. var == x)) }
+{
+    let at = var as usize;
+    if used.len() <= at {
+        used.resize(at + 1, false)?;
+    }
+    used[at] = true;
+    Ok(())
+}
+
+// Marks the variables that an expression names.
+fn mark_names(used: &mut Vec<bool>, e: &Expr) -> Result<(), AllocError>
+    ensures { OnOk result (Adds used.old.items used.new.items (spec.names e.now)) }
+{
+    match e {
+        Expr::Constant(_, _, _) => Ok(()),
+        Expr::Null => Ok(()),
+        Expr::Eof => Ok(()),
+        Expr::Variable(x) => {
+            mark(used, *x)?;
+            Ok(())
+        }
+        Expr::Unary(_, a)
+        | Expr::Deref(a)
+        | Expr::AddressOf(a)
+        | Expr::Cast(_, a)
+        | Expr::Member(a, _)
+        | Expr::Arrow(a, _)
+        | Expr::Paren(a) => {
+            mark_names(used, a.get())?;
+            Ok(())
+        }
+        Expr::Binary(_, a, b) | Expr::AndAlso(a, b) | Expr::OrElse(a, b) | Expr::Index(a, b) => {
+            mark_names(used, a.get())?;
+            mark_names(used, b.get())?;
+            Ok(())
+        }
+        Expr::Choose(c, a, b) => {
+            mark_names(used, c.get())?;
+            mark_names(used, a.get())?;
+            mark_names(used, b.get())?;
+            Ok(())
+        }
+    }
+}
+
+fn mark_all(used: &mut Vec<bool>, list: &[Expr]) -> Result<(), AllocError>
+    ensures { OnOk result (Adds used.old.items used.new.items (spec.any_names list.now)) }
+{
+    for e in list {
+        mark_names(used, e)?;
+    }
+    Ok(())
+}
+
+fn mark_init(used: &mut Vec<bool>, init: &Init) -> Result<(), AllocError>
+    ensures { OnOk result (Adds used.old.items used.new.items (spec.init_names init.now)) }
+{
+    match init {
+        Init::None => Ok(()),
+        Init::One(value) => {
+            mark_names(used, value)?;
+            Ok(())
+        }
+        Init::Items(values) => {
+            mark_all(used, values.as_slice())?;
+            Ok(())
+        }
+    }
+}
+
+fn mark_target(used: &mut Vec<bool>, to: &Target) -> Result<(), AllocError>
+    ensures { OnOk result (Adds used.old.items used.new.items (spec.target_names to.now)) }
+{
+    match to {
+        Target::None => Ok(()),
+        Target::Place(place) => {
+            mark_names(used, place)?;
+            Ok(())
+        }
+        Target::Declared(var) => {
+            mark(used, *var)?;
+            Ok(())
+        }
+    }
+}
+
+fn mark_size(used: &mut Vec<bool>, size: &Size) -> Result<(), AllocError>
+    ensures { OnOk result (Adds used.old.items used.new.items (spec.size_names size.now)) }
+{
+    match size {
+        Size::Type(_) => Ok(()),
+        Size::Pointee(var, _) => {
+            mark(used, *var)?;
+            Ok(())
+        }
+    }
+}
+
+fn mark_amount(used: &mut Vec<bool>, amount: &Amount) -> Result<(), AllocError>
+    ensures { OnOk result (Adds used.old.items used.new.items (spec.amount_names amount.now)) }
+{
+    match amount {
+        Amount::Size(size) => {
+            mark_size(used, size)?;
+            Ok(())
+        }
+        Amount::CountSize(count, size) => {
+            mark_names(used, count)?;
+            mark_size(used, size)?;
+            Ok(())
+        }
+        Amount::SizeCount(size, count) => {
+            mark_size(used, size)?;
+            mark_names(used, count)?;
+            Ok(())
+        }
+        Amount::Count(count) => {
+            mark_names(used, count)?;
+            Ok(())
+        }
+    }
+}
+
+// ---- the words of a statement, where it is kept
+
+fn mark_word(used: &mut Vec<bool>, keeps: bool, e: &Expr) -> Result<(), AllocError>
+    ensures { OnOk result (Adds used.old.items used.new.items (λ x. keeps && spec.names e.now x)) }
+{
+    if !keeps {
+        return Ok(());
+    }
+    mark_names(used, e)?;
+    Ok(())
+}
+
+fn mark_begun(
+    used: &mut Vec<bool>,
+    keeps: &[bool],
+    id: Option<StatementId>,
+    var: VarId,
+    init: &Init,
+) -> Result<(), AllocError>
+    ensures { OnOk result (Adds used.old.items used.new.items (spec.begun_names (has keeps.now) id var init.now)) }
+{
+    match id {
+        None => Ok(()),
+        Some(id) => {
+            if !is_kept(keeps, id) {
+                return Ok(());
+            }
+            mark(used, var)?;
+            mark_init(used, init)?;
+            Ok(())
+        }
+    }
+}
+
+fn mark_assigned(
+    used: &mut Vec<bool>,
+    keeps: bool,
+    left: &Expr,
+    right: &Expr,
+) -> Result<(), AllocError>
+    ensures { OnOk result (Adds used.old.items used.new.items (λ x. keeps && (spec.names left.now x || spec.names right.now x))) }
+{
+    if !keeps {
+        return Ok(());
+    }
+    mark_names(used, left)?;
+    mark_names(used, right)?;
+    Ok(())
+}
+
+fn mark_called(
+    used: &mut Vec<bool>,
+    keeps: bool,
+    to: &Target,
+    args: &[Expr],
+) -> Result<(), AllocError>
+    ensures { OnOk result (Adds used.old.items used.new.items (λ x. keeps && (spec.target_names to.now x || spec.any_names args.now x))) }
+{
+    if !keeps {
+        return Ok(());
+    }
+    mark_target(used, to)?;
+    mark_all(used, args)?;
+    Ok(())
+}
+
+fn mark_fetched(used: &mut Vec<bool>, keeps: bool, to: &Target) -> Result<(), AllocError>
+    ensures { OnOk result (Adds used.old.items used.new.items (λ x. keeps && spec.target_names to.now x)) }
+{
+    if !keeps {
+        return Ok(());
+    }
+    mark_target(used, to)?;
+    Ok(())
+}
+
+fn mark_printed(used: &mut Vec<bool>, keeps: bool, args: &[Expr]) -> Result<(), AllocError>
+    ensures { OnOk result (Adds used.old.items used.new.items (λ x. keeps && spec.any_names args.now x)) }
+{
+    if !keeps {
+        return Ok(());
+    }
+    mark_all(used, args)?;
+    Ok(())
+}
+
+fn mark_allocated(
+    used: &mut Vec<bool>,
+    keeps: bool,
+    to: &Target,
+    amount: &Amount,
+) -> Result<(), AllocError>
+    ensures { OnOk result (Adds used.old.items used.new.items (λ x. keeps && (spec.target_names to.now x || spec.amount_names amount.now x))) }
+{
+    if !keeps {
+        return Ok(());
+    }
+    mark_target(used, to)?;
+    mark_amount(used, amount)?;
+    Ok(())
+}
+
+fn mark_returned(used: &mut Vec<bool>, keeps: bool, value: &Option<Expr>) -> Result<(), AllocError>
+    ensures { OnOk result (Adds used.old.items used.new.items (λ x. keeps && spec.value_names value.now x)) }
+{
+    match value {
+        None => Ok(()),
+        Some(e) => {
+            mark_word(used, keeps, e)?;
+            Ok(())
+        }
+    }
+}
+
+// ---- statements
+
+#[cycle(statement)]
+fn mark_statements(
+    used: &mut Vec<bool>,
+    keeps: &[bool],
+    list: &[Statement],
+) -> Result<(), AllocError>
+    ensures { OnOk result (Adds used.old.items used.new.items (spec.body_refers (has keeps.now) list.now)) }
+{
+    for one in list {
+        mark_statement(used, keeps, one)?;
+    }
+    Ok(())
+}
+
+// A part of the head of a for, where it has one.
+#[cycle(statement)]
+fn mark_part(
+    used: &mut Vec<bool>,
+    keeps: &[bool],
+    part: &Option<Boxed<Statement>>,
+) -> Result<(), AllocError>
+    ensures { OnOk result (Adds used.old.items used.new.items (part_refers (has keeps.now) part.now)) }
+{
+    match part {
+        None => Ok(()),
+        Some(one) => {
+            mark_statement(used, keeps, one.get())?;
+            Ok(())
+        }
+    }
+}
+
+#[cycle(statement)]
+fn mark_arms(used: &mut Vec<bool>, keeps: &[bool], arms: &[Arm]) -> Result<(), AllocError>
+    ensures { OnOk result (Adds used.old.items used.new.items (arms_refer (has keeps.now) arms.now)) }
+{
+    for arm in arms {
+        mark_statements(used, keeps, arm.body.as_slice())?;
+    }
+    Ok(())
+}
+
+// Marks the variables that the kept statements of a statement refer to.
+#[cycle(statement)]
+fn mark_statement(used: &mut Vec<bool>, keeps: &[bool], one: &Statement) -> Result<(), AllocError>
+    ensures { OnOk result (Adds used.old.items used.new.items (spec.refers (has keeps.now) one.now)) }
+{
+    match one {
+        Statement::Declare { id, var, init, .. } => {
+            mark_begun(used, keeps, *id, *var, init)?;
+            Ok(())
+        }
+        Statement::Assign {
+            id,
+            left,
+            right,
+            ..
+        } => {
+            mark_assigned(used, is_kept(keeps, *id), left, right)?;
+            Ok(())
+        }
+        Statement::Invoke {
+            id,
+            target,
+            args,
+            ..
+        } => {
+            mark_called(used, is_kept(keeps, *id), target, args.as_slice())?;
+            Ok(())
+        }
+        Statement::Fetch { id, target, .. } => {
+            mark_fetched(used, is_kept(keeps, *id), target)?;
+            Ok(())
+        }
+        Statement::Print { id, args, .. } => {
+            mark_printed(used, is_kept(keeps, *id), args.as_slice())?;
+            Ok(())
+        }
+        Statement::Heap {
+            id,
+            target,
+            amount,
+            ..
+        } => {
+            mark_allocated(used, is_kept(keeps, *id), target, amount)?;
+            Ok(())
+        }
+        Statement::Bump { id, left: e, .. }
+        | Statement::Write { id, value: e, .. }
+        | Statement::Release { id, value: e, .. } => {
+            mark_word(used, is_kept(keeps, *id), e)?;
+            Ok(())
+        }
+        Statement::Return { id, value, .. } => {
+            mark_returned(used, is_kept(keeps, *id), value)?;
+            Ok(())
+        }
+        Statement::Block { body, .. } => {
+            mark_statements(used, keeps, body.as_slice())?;
+            Ok(())
+        }
+        Statement::If {
+            id,
+            test,
+            then,
+            other,
+            ..
+        } => {
+            mark_word(used, is_kept(keeps, *id), test)?;
+            mark_statements(used, keeps, then.as_slice())?;
+            mark_statements(used, keeps, other.as_slice())?;
+            Ok(())
+        }
+        Statement::While { id, test, body, .. } | Statement::Do { id, test, body, .. } => {
+            mark_word(used, is_kept(keeps, *id), test)?;
+            mark_statements(used, keeps, body.as_slice())?;
+            Ok(())
+        }
+        Statement::For {
+            id,
+            init,
+            test,
+            step,
+            body,
+            ..
+        } => {
+            mark_word(used, is_kept(keeps, *id), test)?;
+            mark_part(used, keeps, init)?;
+            mark_part(used, keeps, step)?;
+            mark_statements(used, keeps, body.as_slice())?;
+            Ok(())
+        }
+        Statement::Switch { id, test, arms, .. } => {
+            mark_word(used, is_kept(keeps, *id), test)?;
+            mark_arms(used, keeps, arms.as_slice())?;
+            Ok(())
+        }
+    }
+}

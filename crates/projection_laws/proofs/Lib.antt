@@ -1,0 +1,17 @@
+pub mod Unlining
+pub mod ProjectedLines
+pub mod Options
+pub mod IntegerTexts
+pub mod StatementForms
+pub mod Constants
+pub mod Deriving
+pub mod Reaching
+pub mod LeftScopes
+pub mod Going
+pub mod Meeting
+pub mod ClosedMains
+pub mod SameNumbers
+pub mod SamePrograms
+pub mod StraightMains
+pub mod WellFormedProjections
+pub mod Standing

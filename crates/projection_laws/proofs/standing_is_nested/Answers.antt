@@ -1,0 +1,5 @@
+use Rattle.projection_laws.proofs.Standing.{standing_nested}
+use Rattle.projection_laws.proofs.standing_is_nested.Goals as goal
+
+pub returns : goal.returns
+returns c = λ p keeps h. standing_nested p keeps h

@@ -1,0 +1,44 @@
+//! What stays of a well-formed program of main alone over integers is a well-formed program.
+//!
+//! Each function is a law, and holds no code: its contract is the law, over the definitions of
+//! `specs/Nested` and of the crates below.
+#![tactic(auto)]
+
+ghost use Rattle.projection_laws.specs.Laws.{NestedIsStanding, ProjectionIsWellFormed, ProjectionsAreSame, StandingIsNested, StraightIsInteger, StraightIsNested, StraightProjectionIsWellFormed};
+
+/// A law: the projection of a well-formed main over integers is well-formed, where each if, loop
+/// and switch is kept in which something is.
+pub fn projection_is_well_formed()
+    ensures { ProjectionIsWellFormed }
+{}
+
+/// A law: a list of statements without control flow is a main over integers.
+pub fn straight_is_integer()
+    ensures { StraightIsInteger }
+{}
+
+/// A law: nothing in it stands in a statement.
+pub fn straight_is_nested()
+    ensures { StraightIsNested }
+{}
+
+/// A law: so each projection of it is well-formed.
+pub fn straight_projection_is_well_formed()
+    ensures { StraightProjectionIsWellFormed }
+{}
+
+/// A law: the projections of programs that are the same but for lines are the same but for lines.
+pub fn projections_are_same()
+    ensures { ProjectionsAreSame }
+{}
+
+/// A law: where each if, loop and switch is kept in which a kept statement stands with none between,
+/// each is kept in which something kept stands anyhow.
+pub fn standing_is_nested()
+    ensures { StandingIsNested }
+{}
+
+/// A law: and the other way round.
+pub fn nested_is_standing()
+    ensures { NestedIsStanding }
+{}

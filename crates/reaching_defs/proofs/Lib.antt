@@ -1,0 +1,6 @@
+pub mod SpanLemmas
+pub mod SearchLemmas
+pub mod TargetLemmas
+pub mod EdgeLemmas
+pub mod RowLaws
+pub mod OrderLaws

@@ -1,0 +1,12 @@
+use Rattle.std.proofs.Common.{◌≡◌, length}
+use Rattle.reaching_defs.specs.FlowEdges.{AreAscendingEdges}
+use Rattle.reaching_defs.proofs.EdgeLemmas.{AreFound}
+use Rattle.reaching_defs.proofs.edges.Given as goal
+
+abbrev pub invariant-loop-v : goal.invariant-loop-v
+invariant-loop-v l = record {
+  wide : length l.reached ≡ l.next.span.size;
+  size : length l.targets ≡ l.next.span.size;
+  exact : AreFound l.s l.next.pairs.items l.v l.found.items;
+  ascending : AreAscendingEdges l.found.items;
+}

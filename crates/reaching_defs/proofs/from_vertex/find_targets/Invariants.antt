@@ -1,0 +1,11 @@
+use Rattle.std.proofs.Common.{◌≡◌, ◌*◌, length, replicate, false, IsFalse}
+use Rattle.reaching_defs.proofs.TargetLemmas.{AreTargets}
+use Rattle.reaching_defs.proofs.from_vertex.find_targets.Given as goal
+
+abbrev pub invariant-loop-at : goal.invariant-loop-at
+invariant-loop-at l = record {
+  wide : length l.reached ≡ l.next.span.size;
+  size : length l.targets ≡ l.next.span.size;
+  exact : AreTargets l.next.span.base l.next.span.size 0 (64 * l.at) l.s l.next.pairs.items l.v (replicate l.next.span.size false) l.targets;
+  none : IsFalse l.any → l.targets ≡ replicate l.next.span.size false;
+}

@@ -1,0 +1,4 @@
+pub mod FlowEdges
+pub mod RowFlow
+pub mod Spans
+pub mod Laws

@@ -1,0 +1,40 @@
+-- The starts of statements, list by list.
+use Rattle.std.proofs.Common.{◌≡◌, ℕ, Option, List, [], ◌∷◌, ◌++◌, refl, ap, ◌∙◌}
+use Rattle.std.specs.Option.{option_to_list}
+use Rattle.std.proofs.lemmas.List.{map-append}
+use Rattle.c_tree.specs.declared.expr.Expr.{Expr}
+use Rattle.c_tree.specs.declared.program.Function.{Function}
+use Rattle.c_tree.specs.declared.statement.Arm.{Arm, out-Arm}
+use Rattle.c_tree.specs.declared.statement.Statement.{Statement}
+use Rattle.c_tree.specs.declared.statement.Statement.TheVariants as s
+use Rattle.c_tree.specs.Numbered.{Start, Starts, start, own_start, starts, body_starts, function_starts, inner, arms_inner}
+use Rattle.c_tree.proofs.LayerLemmas.{inner-If, inner-For, body_starts-append, starts-inner}
+use Rattle.dep_model.proofs.Grown.{IsEach, grown_two, grown_three}
+use Rattle.slice_engine.specs.Criterion.{starts_of}
+
+abbrev pub pair_start : ℕ × ℕ → Start
+pair_start s = start s.0 s.1
+
+pub starts_pushed : (xs : List (ℕ × ℕ)) (s : ℕ × ℕ) → starts_of (xs ++ s ∷ []) ≡ starts_of xs ++ start s.0 s.1 ∷ []
+starts_pushed xs s = map-append pair_start xs (s ∷ [])
+
+pub each_statement : IsEach starts body_starts
+each_statement = record { at_nothing = refl; at_more = λ x xs. refl }
+
+pub each_arm : IsEach (λ (a : Arm). body_starts (out-Arm a).body) (λ (as_ : List Arm). body_starts (arms_inner as_))
+each_arm = record { at_nothing = refl; at_more = λ a as_. body_starts-append (out-Arm a).body (arms_inner as_) }
+
+pub each_function : IsEach (λ (f : Function). body_starts f.body) function_starts
+each_function = record { at_nothing = refl; at_more = λ f fs. refl }
+
+-- a statement, and what stands inside it
+pub within_grown : (one : Statement) (o p q : Starts) → p ≡ o ++ option_to_list (own_start one) → q ≡ p ++ body_starts (inner one) → q ≡ o ++ starts one
+within_grown one o p q e f = grown_two o p q (option_to_list (own_start one)) (body_starts (inner one)) (starts one) e f (starts-inner one)
+
+pub if_grown : (id l : ℕ) (e : Expr) (a b : List Statement) (one : Statement) (o p q : Starts) → one ≡ s.If id l e a b → p ≡ o ++ body_starts a → q ≡ p ++ body_starts b → q ≡ o ++ body_starts (inner one)
+if_grown id l e a b one o p q is f g =
+    grown_two o p q (body_starts a) (body_starts b) _ f g (ap (λ x. body_starts (inner x)) is ∙ ap body_starts (inner-If id l e a b) ∙ body_starts-append a b)
+
+pub for_grown : (id l : ℕ) (i : Option Statement) (e : Expr) (step : Option Statement) (b : List Statement) (one : Statement) (o p q r : Starts) → one ≡ s.For id l i e step b → p ≡ o ++ body_starts (option_to_list i) → q ≡ p ++ body_starts (option_to_list step) → r ≡ q ++ body_starts b → r ≡ o ++ body_starts (inner one)
+for_grown id l i e step b one o p q r is f g h =
+    grown_three o p q r _ _ _ _ f g h (ap (λ x. body_starts (inner x)) is ∙ ap body_starts (inner-For id l i e step b) ∙ (body_starts-append (option_to_list i) (option_to_list step ++ b) ∙ ap (λ found. body_starts (option_to_list i) ++ found) (body_starts-append (option_to_list step) b)))

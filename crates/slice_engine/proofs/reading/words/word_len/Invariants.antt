@@ -1,6 +1,0 @@
-use Rattle.std.proofs.Common.{◌≡◌, ◌+◌, drop}
-use Rattle.slice_engine.specs.Reading.{word_len}
-use Rattle.slice_engine.proofs.reading.words.word_len.Given as goal
-
-abbrev pub invariant-loop-i : goal.invariant-loop-i
-invariant-loop-i l = word_len l.text ≡ l.i + word_len (drop l.i l.text)

@@ -1,0 +1,77 @@
+//! The header of a slice.
+ghost use Rattle.std.specs.Prelude.{◌≡◌, ◌<◌, ◌↔◌, ◌++◌, ℕ, suc, [], length, AllPairs, Contains, IfOk, OnOk};
+ghost use Rattle.std.specs.Fmt.{decimal};
+ghost use Rattle.slice_engine.specs.Slice as spec;
+ghost use Rattle.slice_engine.specs.Criterion.{line_if, shown_lines};
+
+use c_tree::Text;
+use std::alloc::{AllocError, Global};
+
+/// The lines of the wanted statements, ascending and each once, behind a header of one line.
+pub(crate) fn header_lines(
+    alloc: Global,
+    wanted: &[bool],
+    lines: &[u32],
+) -> Result<Vec<u64>, AllocError>
+    requires { length wanted.now ≡ length lines.now }
+    ensures ascending { IfOk result (λ found. AllPairs (λ a b. a < b) found.items) }
+    ensures exact { IfOk result (λ found. (k : ℕ) → Contains found.items k ↔ Contains (shown_lines wanted.now lines.now) k) }
+{
+    let mut found = wanted_lines(alloc, wanted, lines)?;
+    found.sort_unstable();
+    found.dedup();
+    Ok(found)
+}
+
+// The lines of the wanted statements, by their ranks.
+fn wanted_lines(alloc: Global, wanted: &[bool], lines: &[u32]) -> Result<Vec<u64>, AllocError>
+    requires { length wanted.now ≡ length lines.now }
+    ensures { IfOk result (λ found. found.items ≡ shown_lines wanted.now lines.now) }
+{
+    let mut found = Vec::new(alloc);
+    for (i, is_wanted) in wanted.iter().enumerate() {
+        push_line(*is_wanted, lines[i], &mut found)?;
+    }
+    Ok(found)
+}
+
+fn push_line(is_wanted: bool, line: u32, found: &mut Vec<u64>) -> Result<(), AllocError>
+    ensures { OnOk result (found.new.items ≡ found.old.items ++ line_if is_wanted (suc line) []) }
+{
+    if is_wanted {
+        found.push(u64::from(line) + 1)?;
+    }
+    Ok(())
+}
+
+/// The header of a slice: a comment with the line that was asked for, and the lines of its
+/// statements in the text of the slice.
+pub(crate) fn header(alloc: Global, line: u32, lines: &[u64]) -> Result<Text, AllocError>
+    ensures { IfOk result (λ text. text ≡ spec.header line lines.now) }
+{
+    let mut text = Text::from_slice(alloc, b"/* slice ")?;
+    append_number(alloc, u64::from(line), &mut text)?;
+    text.append(b":")?;
+    append_lines(alloc, lines, &mut text)?;
+    text.append(b" */\n")?;
+    Ok(text)
+}
+
+fn append_lines(alloc: Global, lines: &[u64], text: &mut Text) -> Result<(), AllocError>
+    ensures { OnOk result (text.new ≡ text.old ++ spec.spaced lines.now) }
+{
+    for line in lines {
+        text.append(b" ")?;
+        append_number(alloc, *line, text)?;
+    }
+    Ok(())
+}
+
+// Appends a number in decimal digits.
+fn append_number(alloc: Global, number: u64, text: &mut Text) -> Result<(), AllocError>
+    ensures { OnOk result (text.new ≡ text.old ++ decimal number) }
+{
+    let digits = number.to_string(alloc)?;
+    text.append(digits.as_bytes())?;
+    Ok(())
+}

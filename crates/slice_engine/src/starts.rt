@@ -1,0 +1,118 @@
+//! The numbered statements of a program with the lines on which they start.
+ghost use Rattle.std.specs.Prelude.{◌≡◌, [], ◌∷◌, ◌++◌, IfOk, OnOk};
+ghost use Rattle.std.specs.Option.{option_to_list};
+ghost use Rattle.c_tree.specs.Numbered.{starts, body_starts, function_starts, program_starts, own_start, inner, arms_inner};
+ghost use Rattle.slice_engine.specs.Criterion.{starts_of};
+
+use c_tree::numbered::own_start;
+use c_tree::{Arm, Boxed, Function, Program, Statement, StatementId};
+use std::alloc::{AllocError, Global};
+
+/// A statement's number, and the line of its first token.
+pub(crate) type Start = (StatementId, u32);
+
+/// The starts of a program's statements.
+pub(crate) fn starts_in(alloc: Global, p: &Program) -> Result<Vec<Start>, AllocError>
+    ensures { IfOk result (λ found. starts_of found.items ≡ program_starts p.now) }
+{
+    let mut found = Vec::new(alloc);
+    in_functions(&mut found, p.functions.as_slice())?;
+    Ok(found)
+}
+
+fn in_functions(found: &mut Vec<Start>, list: &[Function]) -> Result<(), AllocError>
+    ensures { OnOk result (starts_of found.new.items ≡ starts_of found.old.items ++ function_starts list.now) }
+{
+    for function in list {
+        among(found, function.body.as_slice())?;
+    }
+    Ok(())
+}
+
+#[cycle(starts)]
+fn among(found: &mut Vec<Start>, list: &[Statement]) -> Result<(), AllocError>
+    ensures { OnOk result (starts_of found.new.items ≡ starts_of found.old.items ++ body_starts list.now) }
+{
+    for one in list {
+        within(found, one)?;
+    }
+    Ok(())
+}
+
+// The start of a statement itself, where it has a number.
+fn push_own(found: &mut Vec<Start>, one: &Statement) -> Result<(), AllocError>
+    ensures { OnOk result (starts_of found.new.items ≡ starts_of found.old.items ++ option_to_list (own_start one.now)) }
+{
+    if let Some(start) = own_start(one) {
+        found.push(start)?;
+    }
+    Ok(())
+}
+
+#[cycle(starts)]
+fn within(found: &mut Vec<Start>, one: &Statement) -> Result<(), AllocError>
+    ensures { OnOk result (starts_of found.new.items ≡ starts_of found.old.items ++ starts one.now) }
+{
+    push_own(found, one)?;
+    inside(found, one)?;
+    Ok(())
+}
+
+// The starts of what stands right inside a statement, and inside that.
+#[cycle(starts)]
+fn inside(found: &mut Vec<Start>, one: &Statement) -> Result<(), AllocError>
+    ensures { OnOk result (starts_of found.new.items ≡ starts_of found.old.items ++ body_starts (inner one.now)) }
+{
+    match one {
+        Statement::If { then, other, .. } => {
+            among(found, then.as_slice())?;
+            among(found, other.as_slice())?;
+            Ok(())
+        }
+        Statement::While { body, .. } => among(found, body.as_slice()),
+        Statement::Do { body, .. } => among(found, body.as_slice()),
+        Statement::For {
+            init,
+            step,
+            body,
+            ..
+        } => {
+            in_part(found, init)?;
+            in_part(found, step)?;
+            among(found, body.as_slice())?;
+            Ok(())
+        }
+        Statement::Switch { arms, .. } => in_arms(found, arms.as_slice()),
+        Statement::Block { body, .. } => among(found, body.as_slice()),
+        Statement::Declare { .. } => Ok(()),
+        Statement::Assign { .. } => Ok(()),
+        Statement::Bump { .. } => Ok(()),
+        Statement::Invoke { .. } => Ok(()),
+        Statement::Fetch { .. } => Ok(()),
+        Statement::Write { .. } => Ok(()),
+        Statement::Print { .. } => Ok(()),
+        Statement::Heap { .. } => Ok(()),
+        Statement::Release { .. } => Ok(()),
+        Statement::Return { .. } => Ok(()),
+    }
+}
+
+#[cycle(starts)]
+fn in_part(found: &mut Vec<Start>, part: &Option<Boxed<Statement>>) -> Result<(), AllocError>
+    ensures { OnOk result (starts_of found.new.items ≡ starts_of found.old.items ++ body_starts (option_to_list part.now)) }
+{
+    match part {
+        None => Ok(()),
+        Some(one) => within(found, one.get()),
+    }
+}
+
+#[cycle(starts)]
+fn in_arms(found: &mut Vec<Start>, arms: &[Arm]) -> Result<(), AllocError>
+    ensures { OnOk result (starts_of found.new.items ≡ starts_of found.old.items ++ body_starts (arms_inner arms.now)) }
+{
+    for arm in arms {
+        among(found, arm.body.as_slice())?;
+    }
+    Ok(())
+}

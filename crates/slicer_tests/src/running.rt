@@ -1,0 +1,101 @@
+//! Calls of the top call over files and sinks in memory.
+use edge_io::{MemoryShelf, MemorySink};
+use slicer_top::{Status, Text, run_slicer};
+use std::alloc::{AllocError, Global};
+use std::test::Fail;
+
+// How a call ended, and what the sinks have gained.
+#[derive(Drop)]
+pub(crate) struct Ended {
+    pub(crate) status: Status,
+    pub(crate) out: Text,
+    pub(crate) err: Text,
+}
+
+/// Which calls fail: the numbers of fetches, and of puts with the bytes that each takes before.
+#[derive(Clone, Copy)]
+pub(crate) struct Failing<'a> {
+    pub(crate) fetches: &'a [u64],
+    pub(crate) out: &'a [(u64, usize)],
+    pub(crate) err: &'a [(u64, usize)],
+}
+
+pub(crate) const NONE_FAILING: Failing<'static> = Failing {
+    fetches: &[],
+    out: &[],
+    err: &[],
+};
+
+pub(crate) fn run(
+    alloc: Global,
+    words: &[Text],
+    files: Vec<(Text, Text)>,
+    failing: &Failing<'_>,
+) -> Result<Ended, AllocError> {
+    let mut shelf = MemoryShelf::new(files, failing.fetches.to_vec(alloc)?);
+    let mut out = MemorySink::new(alloc, 4096, failing.out.to_vec(alloc)?)?;
+    let mut err = MemorySink::new(alloc, 4096, failing.err.to_vec(alloc)?)?;
+    let status = run_slicer(alloc, words, &mut shelf, &mut out, &mut err);
+    Ok(Ended {
+        status,
+        out: Text::from_slice(alloc, out.bytes())?,
+        err: Text::from_slice(alloc, err.bytes())?,
+    })
+}
+
+/// The words of a line, one blank between each two. An empty line has none.
+pub(crate) fn words_of(alloc: Global, line: &str) -> Result<Vec<Text>, AllocError> {
+    let mut words = Vec::new(alloc);
+    if line.is_empty() {
+        return Ok(words);
+    }
+    for word in line.split(' ') {
+        words.push(Text::from_slice(alloc, word.as_bytes())?)?;
+    }
+    Ok(words)
+}
+
+/// One file.
+pub(crate) fn file(
+    alloc: Global,
+    name: &str,
+    bytes: &str,
+) -> Result<Vec<(Text, Text)>, AllocError> {
+    let mut files = Vec::new(alloc);
+    let name = Text::from_slice(alloc, name.as_bytes())?;
+    let bytes = Text::from_slice(alloc, bytes.as_bytes())?;
+    files.push((name, bytes))?;
+    Ok(files)
+}
+
+/// A program: the include, and main with these lines, between each two of which stands a `|`.
+pub(crate) fn program(alloc: Global, head: &str, lines: &str) -> Result<String, AllocError> {
+    let mut text = String::from_str(alloc, head)?;
+    text.push_str("#include <stdio.h>\nint main(void) {\n")?;
+    if !lines.is_empty() {
+        for line in lines.split('|') {
+            text.push_str("    ")?;
+            text.push_str(line)?;
+            text.push_str("\n")?;
+        }
+    }
+    text.push_str("}\n")?;
+    Ok(text)
+}
+
+/// The words `slice t.c LINE` over this text end with this status, and out and err have gained this.
+pub(crate) fn ends<R: std::process::Abort + AllocGlobal>(
+    rt: &R,
+    text: &str,
+    line: &str,
+    wanted: (Status, &str, &str),
+) -> Result<(), Fail> {
+    let (status, out, err) = wanted;
+    let alloc = rt.alloc();
+    let words = words_of(alloc, line)?;
+    let ended = run(alloc, &words, file(alloc, "t.c", text)?, &NONE_FAILING)?;
+    assert_eq!(rt; ended.status, status, "{line} of {text}");
+    assert_eq!(rt; ended.out.bytes(), out.as_bytes(), "{line} of {text}");
+    assert_eq!(rt; ended.err.bytes(), err.as_bytes(), "{line} of {text}");
+    Ok(())
+}

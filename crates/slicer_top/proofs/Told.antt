@@ -1,0 +1,236 @@
+-- What is told of a text is true of it, and a text that gives no slice is told so.
+use Rattle.std.proofs.Common.{◌≡◌, ◌⊎◌, inl, inr, ℕ, ◌<◌, ◌≤◌, refl, sym, ap, subst, ◌∙◌}
+use Rattle.std.specs.Prelude.{Option}
+use Rattle.edge_io.specs.Contents.{Told}
+use Rattle.edge_io.specs.Count.{Rose}
+use Rattle.edge_io.specs.Written.{Gains}
+use Rattle.c_tree.specs.declared.limits.LimitName.{LimitName}
+use Rattle.c_tree.specs.declared.limits.LimitName.TheVariants as limit
+use Rattle.c_tree.specs.declared.raw.program.RawProgram.{RawProgram}
+use Rattle.c_language.specs.Words.{Bytes}
+use Rattle.c_language.specs.StatementNesting.{program_nesting}
+use Rattle.c_lex.specs.declared.fault.LexFault.TheVariants as lex
+use Rattle.c_parse.specs.declared.parse_fault.ParseFault.{ParseFault}
+use Rattle.c_parse.specs.declared.parse_fault.ParseFault.TheVariants as parse
+use Rattle.c_types.specs.Outcome.{IsAbove}
+use Rattle.c_types.specs.declared.rule_fault.RuleFault.{RuleFault}
+use Rattle.c_types.specs.declared.rule_fault.RuleFault.TheVariants as rule
+use Rattle.c_reader.specs.Reading.{HasTree, HasParseFault, IsNesting}
+use Rattle.c_reader.specs.declared.refusal.ReadRefusal.TheVariants as read
+use Rattle.slicer_top.specs.declared.refusal.Refusal.{Refusal}
+use Rattle.slicer_top.specs.declared.refusal.Refusal.TheVariants.{Unreadable, TooLong, Lex, Parse, Check, NotYet, NoStart, NoMemory}
+use Rattle.slicer_top.specs.declared.status.Status.{Status}
+use Rattle.slicer_top.specs.declared.status.Status.TheVariants as status
+use Rattle.slicer_top.specs.Files.{OfFile}
+use Rattle.slicer_top.specs.Limits.{IsAboveLimit, IsBelowLimits, IsDeep}
+use Rattle.slicer_top.specs.Lines as lines
+use Rattle.slicer_top.specs.Reports.{IsReason, IsShown, IsCause, IsReported, status_of, line_of}
+use Rattle.slicer_top.specs.Statuses.{IsOrYieldsToFault}
+use Rattle.slicer_top.specs.Truths.{IsTrueOf, TellsTruth}
+use Rattle.slicer_top.proofs.Files.{of_file_map}
+use Rattle.slicer_top.proofs.ReaderLaws.{grammar_of, only_nesting, only_check, above_lacks, above_is, limit_is}
+
+-- ---- what is told is true
+
+-- a status whose line speaks of the text
+abbrev IsOfText : Status → Type 0
+IsOfText status.Done = ⊥
+IsOfText status.Refused = Unit {0}
+IsOfText status.Usage = ⊥
+IsOfText status.ReadFault = ⊥
+IsOfText status.WriteFault = ⊥
+IsOfText status.NoMemory = ⊥
+IsOfText status.Limit = Unit {0}
+IsOfText status.TooLong = ⊥
+
+true_limit : (text : Bytes) (asked : ℕ) (name : LimitName) → IsAboveLimit text name → (raw : RawProgram) → IsAbove raw name → IsTrueOf text asked status.Limit (lines.limit name)
+true_limit text asked name above raw (IsAbove.lengths made many) = IsTrueOf.length above
+true_limit text asked name above raw (IsAbove.cells made short many) = IsTrueOf.cells above
+
+module _ (file text : Bytes) (at : ℕ) where
+  -- the line of a refusal that the text shows is true of it
+  is_true : (refusal : Refusal) → IsOfText (status_of refusal) → IsReason text at refusal → IsTrueOf text at (status_of refusal) (line_of file at refusal)
+  is_true Unreadable of reason = absurd of
+  is_true TooLong of reason = absurd of
+  is_true (Lex (lex.BadByte l)) of reason = IsTrueOf.bad_byte l reason
+  is_true (Lex (lex.BadNumber l)) of reason = IsTrueOf.bad_number l reason
+  is_true (Lex (lex.OpenComment l)) of reason = IsTrueOf.open_comment l reason
+  is_true (Lex lex.NoMemory) of reason = absurd of
+  is_true (Parse (parse.LeftOut token l)) of reason = IsTrueOf.left_out l token reason
+  is_true (Parse (parse.Syntax l)) of reason = IsTrueOf.syntax l reason
+  is_true (Parse (parse.Nesting l)) of reason =
+      IsTrueOf.deep (record { tokens = reason.tokens; are = reason.are; many = reason.shows.0; above = reason.shows.1 })
+  is_true (Parse parse.NoMemory) of reason = absurd of
+  is_true (Check (rule.Rule number l)) of reason = IsTrueOf.rule number l reason
+  is_true (Check (rule.Limit name)) of reason = true_limit text at name (limit_is text name reason) reason.raw reason.shows
+  is_true (Check rule.NoMemory) of reason = absurd of
+  is_true (NotYet first) of (p, has, outside) = IsTrueOf.not_yet first has outside
+  is_true NoStart of reason = IsTrueOf.no_start reason
+  is_true NoMemory of reason = absurd of
+
+module _ (told : Told) (file : Bytes) (at f f' l l' : ℕ) where
+  -- what speaks of the text has its cause in the text
+  shown : (refusal : Refusal) → IsOfText (status_of refusal) → IsCause told file at f f' l l' refusal → IsShown told file at refusal
+  shown Unreadable of cause = absurd of
+  shown TooLong of cause = absurd of
+  shown (Lex fault) of cause = cause
+  shown (Parse fault) of cause = cause
+  shown (Check fault) of cause = cause
+  shown (NotYet first) of cause = cause
+  shown NoStart of cause = cause
+  shown NoMemory of cause = absurd of
+
+  -- what is told of the file's text is true
+  told_true : (refusal : Refusal) (wanted : Status) (before after : Option Bytes) → IsOfText wanted → status_of refusal ≡ wanted → IsCause told file at f f' l l' refusal → Gains before after (line_of file at refusal) → OfFile told file (λ text. TellsTruth wanted text at before after)
+  told_true refusal wanted before after of same cause gained =
+      let here : IsOfText (status_of refusal) = subst IsOfText (sym same) of in
+      of_file_map told file _ _ (λ text found. (line_of file at refusal, subst (λ s. IsTrueOf text at s (line_of file at refusal)) same (is_true file text at refusal here found.1), gained)) (shown refusal here cause)
+
+  module _ (e e' : ℕ) (before after : Option Bytes) where
+    report_true : (refusal : Refusal) (wanted result : Status) → IsOfText wanted → result ≡ wanted → IsCause told file at f f' l l' refusal → IsReported e e' before after file at refusal result → OfFile told file (λ text. TellsTruth wanted text at before after)
+    report_true refusal wanted result of is cause (inl (inl put)) = told_true refusal wanted before after of (sym put.0 ∙ is) cause put.1
+    report_true refusal wanted result of is cause (inl (inr cut)) = absurd (subst IsOfText (sym is ∙ cut.0) of)
+    report_true refusal wanted result of is cause (inr (inl put)) = absurd (subst IsOfText (sym is ∙ put.0) of)
+    report_true refusal wanted result of is cause (inr (inr cut)) = absurd (subst IsOfText (sym is ∙ cut.0) of)
+
+    pub refused_true : (refusal : Refusal) (result : Status) → IsCause told file at f f' l l' refusal → IsReported e e' before after file at refusal result → result ≡ status.Refused → OfFile told file (λ text. TellsTruth status.Refused text at before after)
+    refused_true refusal result cause reported is = report_true refusal status.Refused result tt is cause reported
+
+    pub limit_true : (refusal : Refusal) (result : Status) → IsCause told file at f f' l l' refusal → IsReported e e' before after file at refusal result → result ≡ status.Limit → OfFile told file (λ text. TellsTruth status.Limit text at before after)
+    limit_true refusal result cause reported is = report_true refusal status.Limit result tt is cause reported
+
+-- ---- a text that gives no slice
+
+deep_fault : (text : Bytes) (line : ℕ) → IsBelowLimits text → HasParseFault text (parse.Nesting line) → IsDeep text
+deep_fault text line below h = record {
+  tokens = h.tokens;
+  are = h.are;
+  many = h.shows.0;
+  no_tree = λ raw tree. below limit.Nesting (IsAboveLimit.nesting tree (h.shows.1 raw (grammar_of text h.tokens raw h.are tree)));
+}
+
+-- the status of a text of which no quantity is above its number: it is refused, or memory was wanting, or it is deep
+abbrev RefusedOrDeep : Bytes → Bytes → ℕ → Refusal → Type 0
+RefusedOrDeep file text at r =
+    (status_of r ≡ status.Refused) ⊎ (status_of r ≡ status.NoMemory) ⊎ ((status_of r ≡ status.Limit) × IsDeep text × (line_of file at r ≡ lines.limit limit.Nesting))
+
+refused_or_deep : (file text : Bytes) (at : ℕ) (refusal : Refusal) → IsBelowLimits text → IsReason text at refusal → RefusedOrDeep file text at refusal
+refused_or_deep file text at Unreadable below reason = absurd reason
+refused_or_deep file text at TooLong below reason = absurd reason
+refused_or_deep file text at (Lex (lex.BadByte l)) below reason = inl refl
+refused_or_deep file text at (Lex (lex.BadNumber l)) below reason = inl refl
+refused_or_deep file text at (Lex (lex.OpenComment l)) below reason = inl refl
+refused_or_deep file text at (Lex lex.NoMemory) below reason = inr (inl refl)
+refused_or_deep file text at (Parse (parse.LeftOut token l)) below reason = inl refl
+refused_or_deep file text at (Parse (parse.Syntax l)) below reason = inl refl
+refused_or_deep file text at (Parse (parse.Nesting l)) below reason = inr (inr (refl, deep_fault text l below reason, refl))
+refused_or_deep file text at (Parse parse.NoMemory) below reason = inr (inl refl)
+refused_or_deep file text at (Check (rule.Rule number l)) below reason = inl refl
+refused_or_deep file text at (Check (rule.Limit name)) below reason = absurd (below name (limit_is text name reason))
+refused_or_deep file text at (Check rule.NoMemory) below reason = inr (inl refl)
+refused_or_deep file text at (NotYet first) below reason = inl refl
+refused_or_deep file text at NoStart below reason = inl refl
+refused_or_deep file text at NoMemory below reason = inr (inl refl)
+
+-- the status of a text that is above a limit: the limit is told, or memory was wanting
+abbrev LimitOrMemory : Bytes → ℕ → LimitName → Refusal → Type 0
+LimitOrMemory file at name refusal = ((status_of refusal ≡ status.Limit) × (line_of file at refusal ≡ lines.limit name)) ⊎ (status_of refusal ≡ status.NoMemory)
+
+module _ (file text : Bytes) (at : ℕ) where
+  told_nesting : (fault : ParseFault) → IsNesting fault → LimitOrMemory file at limit.Nesting (Parse fault)
+  told_nesting (parse.LeftOut token l) is = absurd is
+  told_nesting (parse.Syntax l) is = absurd is
+  told_nesting (parse.Nesting l) is = inl (refl, refl)
+  told_nesting parse.NoMemory is = absurd is
+
+  nests : (refusal : Refusal) → IsReason text at refusal → (raw : RawProgram) → HasTree text raw → 100 < program_nesting raw → LimitOrMemory file at limit.Nesting refusal
+  nests Unreadable reason raw tree many = absurd reason
+  nests TooLong reason raw tree many = absurd reason
+  nests (Lex fault) reason raw tree many = absurd (only_nesting text (read.Lex fault) reason raw tree many)
+  nests (Parse fault) reason raw tree many = told_nesting fault (only_nesting text (read.Parse fault) reason raw tree many)
+  nests (Check fault) reason raw tree many = absurd (only_nesting text (read.Check fault) reason raw tree many)
+  nests (NotYet first) (p, has, outside) raw tree many = absurd (above_lacks text limit.Nesting (IsAboveLimit.nesting tree many) p has)
+  nests NoStart (p, built, none) raw tree many = absurd (above_lacks text limit.Nesting (IsAboveLimit.nesting tree many) p built.reads)
+  nests NoMemory reason raw tree many = inr refl
+
+  told_limit : (name : LimitName) (fault : RuleFault) → fault ≡ rule.Limit name → LimitOrMemory file at name (Check fault)
+  told_limit name fault is = subst (λ x. LimitOrMemory file at name (Check x)) (sym is) (inl (refl, refl))
+
+  exceeds : (refusal : Refusal) → IsReason text at refusal → (raw : RawProgram) (name : LimitName) → HasTree text raw → program_nesting raw ≤ 100 → IsAbove raw name → IsAboveLimit text name → LimitOrMemory file at name refusal
+  exceeds Unreadable reason raw name tree few above exceeded = absurd reason
+  exceeds TooLong reason raw name tree few above exceeded = absurd reason
+  exceeds (Lex fault) reason raw name tree few above exceeded = absurd (only_check text (read.Lex fault) reason raw (rule.Limit name) tree few above)
+  exceeds (Parse fault) reason raw name tree few above exceeded = absurd (only_check text (read.Parse fault) reason raw (rule.Limit name) tree few above)
+  exceeds (Check fault) reason raw name tree few above exceeded = told_limit name fault (above_is text raw name tree above fault reason)
+  exceeds (NotYet first) (p, has, outside) raw name tree few above exceeded = absurd (above_lacks text name exceeded p has)
+  exceeds NoStart (p, built, none) raw name tree few above exceeded = absurd (above_lacks text name exceeded p built.reads)
+  exceeds NoMemory reason raw name tree few above exceeded = inr refl
+
+  limit_or_memory : (refusal : Refusal) (name : LimitName) → IsAboveLimit text name → IsReason text at refusal → LimitOrMemory file at name refusal
+  limit_or_memory refusal name (IsAboveLimit.nesting {raw} tree many) reason = nests refusal reason raw tree many
+  limit_or_memory refusal name (IsAboveLimit.length {raw} tree few made many) reason =
+      exceeds refusal reason raw limit.ArrayLength tree few (IsAbove.lengths made many) (IsAboveLimit.length tree few made many)
+  limit_or_memory refusal name (IsAboveLimit.cells {raw} tree few made short many) reason =
+      exceeds refusal reason raw limit.ObjectCells tree few (IsAbove.cells made short many) (IsAboveLimit.cells tree few made short many)
+
+-- ---- how such a text ends
+
+module _ (file : Bytes) (at e e' f f' : ℕ) (before after : Option Bytes) where
+  -- what is told is the status of the refusal, or one to which each answer yields
+  abbrev Ends : Refusal → Status → Type 0
+  Ends refusal result = ((result ≡ status_of refusal) × Gains before after (line_of file at refusal)) ⊎ (result ≡ status.NoMemory) ⊎ ((result ≡ status.WriteFault) × Rose e e')
+
+  ends : (refusal : Refusal) (result : Status) → IsReported e e' before after file at refusal result → Ends refusal result
+  ends refusal result (inl (inl put)) = inl put
+  ends refusal result (inl (inr cut)) = inr (inr (cut.0, cut.1))
+  ends refusal result (inr (inl put)) = inr (inl put.0)
+  ends refusal result (inr (inr cut)) = inr (inr (cut.0, cut.1))
+
+  yields : (wanted result : Status) → (result ≡ status.NoMemory) ⊎ ((result ≡ status.WriteFault) × Rose e e') → IsOrYieldsToFault e e' f f' result wanted
+  yields wanted result (inl memory) = inl (inr (inl memory))
+  yields wanted result (inr cut) = inl (inr (inr cut))
+
+  unreadable : (wanted result : Status) (refusal : Refusal) → refusal ≡ Unreadable → Rose f f' → Ends refusal result → IsOrYieldsToFault e e' f f' result wanted
+  unreadable wanted result refusal is rose (inl put) = inr (put.0 ∙ ap status_of is, rose)
+  unreadable wanted result refusal is rose (inr other) = yields wanted result other
+
+  -- a text of which no quantity is above its number, and on whose line no statement starts
+  pub is_refused : (text : Bytes) (refusal : Refusal) (result : Status) → IsBelowLimits text → ((refusal ≡ Unreadable) × Rose f f') ⊎ IsReason text at refusal → IsReported e e' before after file at refusal result → IsOrYieldsToFault e e' f f' result status.Refused ⊎ ((result ≡ status.Limit) × IsDeep text × Gains before after (lines.limit limit.Nesting))
+  is_refused text refusal result below (inl fault) told = inl (unreadable status.Refused result refusal fault.0 fault.1 (ends refusal result told))
+  is_refused text refusal result below (inr reason) told = elim (ends refusal result told) [
+    | inl put ↦ elim (refused_or_deep file text at refusal below reason) [
+      | inl refused ↦ inl (inl (inl (put.0 ∙ refused)))
+      | inr (inl memory) ↦ inl (inl (inr (inl (put.0 ∙ memory))))
+      | inr (inr deep) ↦ inr (put.0 ∙ deep.0, deep.1, subst (Gains before after) deep.2 put.1)
+    ]
+    | inr other ↦ inl (yields status.Refused result other)
+  ]
+
+  -- a text that is above a limit
+  pub is_above : (text : Bytes) (name : LimitName) (refusal : Refusal) (result : Status) → IsAboveLimit text name → ((refusal ≡ Unreadable) × Rose f f') ⊎ IsReason text at refusal → IsReported e e' before after file at refusal result → IsOrYieldsToFault e e' f f' result status.Limit
+  is_above text name refusal result above (inl fault) told = unreadable status.Limit result refusal fault.0 fault.1 (ends refusal result told)
+  is_above text name refusal result above (inr reason) told = elim (ends refusal result told) [
+    | inl put ↦ elim (limit_or_memory file text at refusal name above reason) [
+      | inl told ↦ inl (inl (put.0 ∙ told.0))
+      | inr memory ↦ inl (inr (inl (put.0 ∙ memory)))
+    ]
+    | inr other ↦ yields status.Limit result other
+  ]
+
+  no_limit : (s : Status) {A : Type 0} → s ≡ status.Limit → s ≡ status.NoMemory → A
+  no_limit s is memory = absurd (let e : status.Limit ≡ status.NoMemory = sym is ∙ memory in cc)
+
+  pub names_it : (text : Bytes) (name : LimitName) (refusal : Refusal) (result : Status) → IsAboveLimit text name → ((refusal ≡ Unreadable) × Rose f f') ⊎ IsReason text at refusal → IsReported e e' before after file at refusal result → result ≡ status.Limit → Gains before after (lines.limit name)
+  names_it text name refusal result above (inl fault) told is = elim (ends refusal result told) [
+    | inl put ↦ absurd (let e : status.Limit ≡ status.ReadFault = sym is ∙ put.0 ∙ ap status_of fault.0 in cc)
+    | inr (inl memory) ↦ no_limit result is memory
+    | inr (inr cut) ↦ absurd (let e : status.Limit ≡ status.WriteFault = sym is ∙ cut.0 in cc)
+  ]
+  names_it text name refusal result above (inr reason) told is = elim (ends refusal result told) [
+    | inl put ↦ elim (limit_or_memory file text at refusal name above reason) [
+      | inl told ↦ subst (Gains before after) told.1 put.1
+      | inr memory ↦ no_limit result is (put.0 ∙ memory)
+    ]
+    | inr (inl memory) ↦ no_limit result is memory
+    | inr (inr cut) ↦ absurd (let e : status.Limit ≡ status.WriteFault = sym is ∙ cut.0 in cc)
+  ]

@@ -1,0 +1,42 @@
+-- What the lines of a refusal and of a limit say of the text.
+use Rattle.std.specs.Prelude.{◌≡◌, ℕ, Option, Some}
+use Rattle.edge_io.specs.Written.{Gains}
+use Rattle.c_tree.specs.declared.limits.LimitName.TheVariants as limit
+use Rattle.c_tree.specs.declared.program.Program.{Program}
+use Rattle.c_language.specs.Words.{Bytes}
+use Rattle.c_lex.specs.declared.fault.LexFault.TheVariants as lex
+use Rattle.c_parse.specs.declared.parse_fault.ParseFault.TheVariants as parse
+use Rattle.c_types.specs.declared.rule_fault.RuleFault.TheVariants as fault
+use Rattle.c_reader.specs.Reading.{HasProgram, IsLexFault, HasParseFault, HasRuleFault}
+use Rattle.built_forms.specs.BuiltForms as forms
+use Rattle.slicer_top.specs.Limits.{CanBeDeep, IsAboveLimit}
+use Rattle.slicer_top.specs.Lines as line
+use Rattle.slicer_top.specs.Slices.{LacksStart}
+use Rattle.slicer_top.specs.declared.status.Status.{Status}
+use Rattle.slicer_top.specs.declared.status.Status.TheVariants.{Refused, Limit}
+
+-- what the line of the status says is true of the text, whose statements on a line were asked for
+pub data IsTrueOf (text : Bytes) (asked : ℕ) : Status → Bytes → Type 0 where
+  -- the bytes show the fault at that line
+  bad_byte : (at : ℕ) → IsLexFault text (lex.BadByte at) → IsTrueOf text asked Refused (line.bad_byte at)
+  bad_number : (at : ℕ) → IsLexFault text (lex.BadNumber at) → IsTrueOf text asked Refused (line.bad_number at)
+  open_comment : (at : ℕ) → IsLexFault text (lex.OpenComment at) → IsTrueOf text asked Refused (line.open_comment at)
+  -- that token at that line begins a construct that the language leaves out
+  left_out : (at : ℕ) (token : Bytes) → HasParseFault text (parse.LeftOut token at) → IsTrueOf text asked Refused (line.left_out at token)
+  -- the tokens have no tree, and one stands in that line
+  syntax : (at : ℕ) → HasParseFault text (parse.Syntax at) → IsTrueOf text asked Refused (line.syntax at)
+  -- that rule is broken at that line
+  rule : (number at : ℕ) → HasRuleFault text (fault.Rule number at) → IsTrueOf text asked Refused (line.rule at number)
+  -- what stands first outside the built forms stands at that line
+  not_yet : (at : ℕ) {p : Program} → HasProgram text p → forms.not_yet p ≡ Some at → IsTrueOf text asked Refused (line.not_yet at)
+  -- on the line starts no statement
+  no_start : LacksStart text asked → IsTrueOf text asked Refused (line.no_start asked)
+  -- the text can be deep
+  deep : CanBeDeep text → IsTrueOf text asked Limit (line.limit limit.Nesting)
+  -- the quantity is above its number
+  length : IsAboveLimit text limit.ArrayLength → IsTrueOf text asked Limit (line.limit limit.ArrayLength)
+  cells : IsAboveLimit text limit.ObjectCells → IsTrueOf text asked Limit (line.limit limit.ObjectCells)
+
+-- err has gained a line of the status that is true of the text
+abbrev pub TellsTruth : Status → Bytes → ℕ → Option Bytes → Option Bytes → Type 0
+TellsTruth status text asked before after = (words : Bytes) × IsTrueOf text asked status words × Gains before after words
