@@ -1,25 +1,18 @@
 -- The set that was marked is the criterion, and the lines that were found are those of its statements.
-use Rattle.std.proofs.Common.{◌≡◌, ℕ, zero, suc, ◌+◌, ◌<◌, ◌≤◌, ◌==◌, List, [], ◌∷◌, ◌++◌, length, set, replicate, map, Bool, true, false, ◌&&◌, ◌||◌, ◌⊎◌, inl, inr, Some, None, refl, sym, ap, ◌∙◌, subst, arith, add-one, eq-eqb}
+use Rattle.std.proofs.Common.{◌≡◌, ℕ, zero, suc, ◌+◌, ◌<◌, ◌≤◌, ◌==◌, List, [], ◌∷◌, length, set, replicate, map, Bool, true, false, ◌&&◌, ◌||◌, ◌⊎◌, inl, inr, refl, sym, ap, ◌∙◌, subst, arith, add-one, eq-eqb}
 use Rattle.std.specs.List.{list_any}
 use Rattle.std.proofs.lemmas.Bool.{eqb-true, cases_lt}
 use Rattle.std.proofs.Common.{get_or-set_other, get_or-set_same}
 use Rattle.bit_rows.specs.Sets.{has}
 use Rattle.c_tree.specs.declared.program.Program.{Program}
-use Rattle.c_tree.specs.declared.statement.Statement.{Statement}
-use Rattle.c_tree.specs.Numbered.{Start, Starts, start, starts, body_starts, function_starts, program_starts}
+use Rattle.c_tree.specs.Numbered.{Start, Starts, program_starts}
 use Rattle.dep_model.specs.MainVertices.{vertices}
 use Rattle.slice_engine.specs.KeptStatements.{is_kept}
 use Rattle.slice_engine.specs.Slice.{IsCriterion}
 use Rattle.slice_engine.specs.Criterion.{marked_if, with_starts}
-use Rattle.slice_engine.proofs.StraightMain.{main_body_is}
 use Rattle.slice_engine.proofs.Vertices.{length-vertices, kept_vertex}
-use Rattle.slice_engine.specs.Slice.{main_body}
-use Rattle.c_tree.proofs.NumberedLemmas.{starts-Declare, starts-Assign, starts-Print}
-use Rattle.built_forms.specs.Straight.{IsStraight, IsBody, done, declare, begin, assign, print}
-use Rattle.c_tree.specs.declared.program.Init.TheVariants as init
 use Rattle.dep_model.specs.MainVertices.{from}
 use Rattle.dep_model.specs.declared.vertex.VertexKind.TheVariants.{Statement as AtStatement}
-use Rattle.std.proofs.lemmas.List.{append-nil}
 use Rattle.slice_engine.proofs.CriterionLemmas.{length-marked_if, length-with_starts}
 use Rattle.dep_model.specs.VertexOrder.{in_function}
 
@@ -77,34 +70,6 @@ entry_stays line (s ∷ ss) x = entry_stays line ss (marked_if (s.line == line) 
     entry_marked true id x = let ne : (0 ≡ id + 1) → ⊥ = (λ q. omega (arith, q)) in get_or-set_other x (id + 1) 0 true false ne
     entry_marked false id x = refl
 
--- ---- the numbers of a straight-line body
-
-append_numbers : (n : ℕ) (xs ys : Starts) → AreNumbers n xs → AreNumbers n ys → AreNumbers n (xs ++ ys)
-append_numbers n [] ys h k = k
-append_numbers n (x ∷ xs) ys h k = (h.0, append_numbers n xs ys h.1 k)
-
-numbers_of : (n : ℕ) (t : Statement) (ss : List Statement) (found : Starts) → starts t ≡ found → AreNumbers n found → AreNumbers n (body_starts ss) → AreNumbers n (body_starts (t ∷ ss))
-numbers_of n t ss found is h k = append_numbers n (starts t) (body_starts ss) (subst (AreNumbers n) (sym is) h) k
-
-pub body_numbers : {n i m j : ℕ} (ss : List Statement) → IsBody n i ss m j → (i ≤ j) × AreNumbers j (body_starts ss)
-body_numbers ss done = (omega arith, tt)
-body_numbers ss (declare {n} {i} {m} {j} {l} {ss = tl} h) =
-    let w = body_numbers tl h in (w.0, numbers_of j _ tl [] (starts-Declare None l n init.None) tt w.1)
-body_numbers ss (begin {n} {i} {m} {j} {l} {a} {ss = tl} s h) =
-    let w = body_numbers tl h in (omega (arith, w.0), numbers_of j _ tl (start i l ∷ []) (starts-Declare (Some i) l n (init.One a)) (omega (arith, w.0), tt) w.1)
-body_numbers ss (assign {n} {i} {m} {j} {l} {a} {b} {ss = tl} place term h) =
-    let w = body_numbers tl h in (omega (arith, w.0), numbers_of j _ tl (start i l ∷ []) (starts-Assign i l a None b) (omega (arith, w.0), tt) w.1)
-body_numbers ss (print {n} {i} {m} {j} {l} {format} {args} {ss = tl} built terms h) =
-    let w = body_numbers tl h in (omega (arith, w.0), numbers_of j _ tl (start i l ∷ []) (starts-Print i l format args) (omega (arith, w.0), tt) w.1)
-
-pub program_starts_are : (p : Program) (h : IsStraight p) → program_starts p ≡ body_starts (main_body p)
-program_starts_are p h =
-    ap function_starts h.functions_are ∙ append-nil (body_starts h.body) ∙ ap body_starts (sym (main_body_is p h))
-
-pub numbers_are : (p : Program) (h : IsStraight p) → AreNumbers p.statements (program_starts p)
-numbers_are p h =
-    subst (AreNumbers p.statements) (sym (program_starts_are p h ∙ ap body_starts (main_body_is p h))) (body_numbers h.body h.in_form).1
-
 -- ---- the criterion
 
 kept_nowhere : (s n i : ℕ) (bs : List Bool) → s + n ≤ i → is_kept (map (λ j. in_function 0 (AtStatement j)) (from s n)) bs i ≡ false
@@ -134,15 +99,15 @@ or_none : (b : Bool) → (b || false) ≡ b
 or_none true = refl
 or_none false = refl
 
-pub criterion_is : (p : Program) (line : ℕ) → IsStraight p → IsCriterion p line (with_starts line (program_starts p) (replicate (p.statements + 1) false))
+pub criterion_is : (p : Program) (line : ℕ) → AreNumbers p.statements (program_starts p) → IsCriterion p line (with_starts line (program_starts p) (replicate (p.statements + 1) false))
 criterion_is p line h =
     let found = program_starts p in
     let none = replicate (p.statements + 1) false in
     record {
       size = length-with_starts line found none ∙ empty_long (p.statements + 1) ∙ sym (length-vertices p ∙ sym (add-one p.statements));
       members = λ i. elim (cases_lt i p.statements) [
-        | inl lt ↦ kept_vertex p (with_starts line found none) i lt ∙ ap (has (with_starts line found none)) (sym (add-one i)) ∙ has-with_starts line found i p.statements none (numbers_are p h) (empty_long (p.statements + 1)) ∙ ap (λ b. starts_in line found i || b) (empty_has (p.statements + 1) (i + 1)) ∙ or_none (starts_in line found i)
-        | inr ge ↦ kept_past p (with_starts line found none) i ge ∙ sym (marked_past line found i p.statements (numbers_are p h) ge)
+        | inl lt ↦ kept_vertex p (with_starts line found none) i lt ∙ ap (has (with_starts line found none)) (sym (add-one i)) ∙ has-with_starts line found i p.statements none h (empty_long (p.statements + 1)) ∙ ap (λ b. starts_in line found i || b) (empty_has (p.statements + 1) (i + 1)) ∙ or_none (starts_in line found i)
+        | inr ge ↦ kept_past p (with_starts line found none) i ge ∙ sym (marked_past line found i p.statements h ge)
       ];
       no_entry = entry_stays line found none ∙ empty_has (p.statements + 1) 0;
     }

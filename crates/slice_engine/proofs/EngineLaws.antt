@@ -6,12 +6,13 @@ use Rattle.c_tree.specs.declared.program.Program.{Program}
 use Rattle.c_tree.specs.Numbered.{Start, program_starts}
 use Rattle.dep_model.specs.declared.edge.Edge.{Edge}
 use Rattle.slice_engine.specs.Criterion.{starts_of}
-use Rattle.slice_engine.specs.Engine.{IsEngine}
+use Rattle.slice_engine.specs.Engine.{IsPrepared}
 use Rattle.slice_engine.specs.Slice.{HasStart}
-use Rattle.slice_engine.proofs.CriterionLaws.{AreNumbers, numbers_are, some_start, start_some}
+use Rattle.slice_engine.proofs.CriterionLaws.{AreNumbers, some_start, start_some}
+use Rattle.slice_engine.proofs.StartNumbers.{numbers_are}
 
 -- whether some statement starts on a line
-pub start_decides : (p : Program) (edges : List Edge) (starts : List (ℕ × ℕ)) → IsEngine p edges starts → (line : ℕ) (b : Bool) → b ≡ list_any (λ (s : Start). s.line == line) (starts_of starts) → IsTrue b ↔ HasStart p line
+pub start_decides : (p : Program) (edges : List Edge) (starts : List (ℕ × ℕ)) → IsPrepared p edges starts → (line : ℕ) (b : Bool) → b ≡ list_any (λ (s : Start). s.line == line) (starts_of starts) → IsTrue b ↔ HasStart p line
 start_decides p edges starts g line b e =
     let here : b ≡ list_any (λ (s : Start). s.line == line) (program_starts p) = e ∙ ap (list_any (λ (s : Start). s.line == line)) g.starts_are in
     (λ t. some_start line (program_starts p) (sym here ∙ t), λ h. here ∙ start_some line (program_starts p) h.0 h.1)
@@ -22,6 +23,6 @@ low_starts n (s ∷ ss) h zero d lt = omega (arith, h.0)
 low_starts n (s ∷ ss) h (suc k) d lt = low_starts n ss h.1 k d (omega (arith, lt))
 
 -- each statement's vertex is one of the program's
-pub starts_below : (p : Program) (edges : List Edge) (starts : List (ℕ × ℕ)) → IsEngine p edges starts → All (λ (s : ℕ × ℕ). s.0 + 1 < p.statements + 1) starts
+pub starts_below : (p : Program) (edges : List Edge) (starts : List (ℕ × ℕ)) → IsPrepared p edges starts → All (λ (s : ℕ × ℕ). s.0 + 1 < p.statements + 1) starts
 starts_below p edges starts g =
-    low_starts p.statements starts (subst (AreNumbers p.statements) (sym g.starts_are) (numbers_are p g.straight))
+    low_starts p.statements starts (subst (AreNumbers p.statements) (sym g.starts_are) (numbers_are p g.numbered))

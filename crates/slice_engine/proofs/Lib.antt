@@ -27,7 +27,6 @@ pub mod CriterionLemmas
 pub mod CriterionLaws
 pub mod HeaderLemmas
 pub mod HeaderLines
-pub mod ProjectedWords
 pub mod WellFormed
 pub mod KeptSets
 pub mod LowNumbers
@@ -35,3 +34,5 @@ pub mod GraphLaws
 pub mod EngineLaws
 pub mod SliceLaws
 pub mod OneSlice
+pub mod StartNumbers
+pub mod Nesting

@@ -1,6 +1,6 @@
 -- From marks to the slice: its text is the defined one, and is read again with the same values.
 use Rattle.std.proofs.Common.{◌≡◌, ◌↔◌, ℕ, suc, ◌+◌, ◌^◌, ◌<◌, ◌≤◌, List, [], ◌∷◌, ◌++◌, length, get_or, replicate, slice_get, length-append, Bool, true, false, inl, inr, Some, refl, sym, ap, ◌∙◌, subst, arith, add-one}
-use Rattle.std.specs.Prelude.{Contains, All, AllPairs}
+use Rattle.std.specs.Prelude.{Contains, AllPairs}
 use Rattle.std.proofs.lemmas.Bool.{cases_lt}
 use Rattle.std.proofs.lemmas.List.{get_or_past}
 use mathlib.Core.Path.{fun_ext}
@@ -19,25 +19,25 @@ use Rattle.c_print_laws.specs.ReadAgain.{IsReadAgain}
 use Rattle.c_print_laws.proofs.ReadAgain.{commented_is_read_again}
 use Rattle.c_print_laws.proofs.StatementStarts.{statements_start}
 use Rattle.built_forms.specs.Straight.{IsStraight}
+use Rattle.own_words.proofs.Standing.{has_own_words}
+use Rattle.dep_model.specs.NumberedMains.{IsNumberedMain}
 use Rattle.dep_model.proofs.ListLemmas.{contains_head, contains_cons}
 use Rattle.dep_model.specs.declared.edge.Edge.{Edge}
 use Rattle.projection.specs.Kept.{rank}
 use Rattle.projection.specs.Projection.{projection}
-use Rattle.slice_engine.specs.Slice.{starts_on, keeps, sliced, IsCriterion, IsLineOf, header, IsSlice, IsFaithful}
+use Rattle.slice_engine.specs.Slice.{starts_on, keeps, sliced, IsCriterion, IsLineOf, header, IsSlice, IsReadAs, IsFaithful}
 use Rattle.slice_engine.specs.Criterion.{starts_of, with_starts, by_rank, shown_lines}
-use Rattle.slice_engine.specs.Engine.{IsEngine, AreMarks, KeepsFrom, IsSlicedAt}
-use Rattle.slice_engine.specs.OwnWords.{OwnWords}
+use Rattle.slice_engine.specs.Engine.{IsPrepared, AreMarks, KeepsFrom, IsSlicedAt}
 use Rattle.slice_engine.proofs.CriterionLaws.{criterion_is, kept_past, empty_long}
 use Rattle.slice_engine.proofs.CriterionLemmas.{length-with_starts}
-use Rattle.slice_engine.proofs.StraightMain.{main_body_is}
 use Rattle.slice_engine.proofs.Vertices.{kept_vertex}
 use Rattle.slice_engine.proofs.Kept.{criterion_kept}
 use Rattle.slice_engine.proofs.RankTests.{at_mark, at_rank, of_rank, length-by_rank}
-use Rattle.slice_engine.proofs.ProjectedWords.{own_words}
+use Rattle.slice_engine.proofs.Nesting.{kept_nested, slice_well_formed}
+use Rattle.slice_engine.proofs.StartNumbers.{numbers_are}
 use Rattle.slice_engine.proofs.HeaderLines.{shown_at, at_shown}
 use Rattle.slice_engine.proofs.HeaderLemmas.{AreShort, inside, inside_feedless, inside_starless, header_is_comment}
 use Rattle.slice_engine.proofs.SameValues.{same_values_but_lines}
-use Rattle.slice_engine.proofs.WellFormed.{slice_well_formed}
 
 -- ---- marks
 
@@ -48,10 +48,10 @@ marks_keep p x marks long each i = elim (cases_lt i p.statements) [
   | inr ge ↦ get_or_past marks i false (omega (arith, long, ge)) ∙ sym (kept_past p x i ge)
 ]
 
-pub are_marks : (p : Program) (edges : List Edge) (starts : List (ℕ × ℕ)) (line : ℕ) (criterion kept wanted marks : List Bool) → IsEngine p edges starts → criterion ≡ with_starts line (starts_of starts) (replicate (p.statements + 1) false) → KeepsFrom edges criterion kept → length wanted ≡ p.statements → ((k : ℕ) → k < p.statements → get_or wanted k false ≡ has criterion (k + 1)) → length marks ≡ p.statements → ((k : ℕ) → k < p.statements → get_or marks k false ≡ has kept (k + 1)) → AreMarks p line wanted marks
+pub are_marks : (p : Program) (edges : List Edge) (starts : List (ℕ × ℕ)) (line : ℕ) (criterion kept wanted marks : List Bool) → IsPrepared p edges starts → criterion ≡ with_starts line (starts_of starts) (replicate (p.statements + 1) false) → KeepsFrom edges criterion kept → length wanted ≡ p.statements → ((k : ℕ) → k < p.statements → get_or wanted k false ≡ has criterion (k + 1)) → length marks ≡ p.statements → ((k : ℕ) → k < p.statements → get_or marks k false ≡ has kept (k + 1)) → AreMarks p line wanted marks
 are_marks p edges starts line criterion kept wanted marks g made keeps_from wanted_long wanted_are marks_long marks_are =
     let same : criterion ≡ with_starts line (program_starts p) (replicate (p.statements + 1) false) = made ∙ ap (λ ss. with_starts line ss (replicate (p.statements + 1) false)) g.starts_are in
-    let c : IsCriterion p line criterion = subst (IsCriterion p line) (sym same) (criterion_is p line g.straight) in
+    let c : IsCriterion p line criterion = subst (IsCriterion p line) (sym same) (criterion_is p line (numbers_are p g.numbered)) in
     record {
       kept = kept;
       is_kept = record {
@@ -109,7 +109,7 @@ short_each : (ks : List ℕ) → ((k : ℕ) → Contains ks k → k < 2 ^ 64) �
 short_each [] h = tt
 short_each (k ∷ ks) h = (h k (contains_head k ks), short_each ks (λ x c. h x (contains_cons k ks x c)))
 
-module _ (p : Program) (line : ℕ) (q : Program) (wanted : List Bool) (well : IsWellFormed p) (straight : IsStraight p) (s : IsSlicedAt p line q wanted) where
+module _ (p : Program) (line : ℕ) (q : Program) (wanted : List Bool) (well : IsWellFormed p) (numbered : IsNumberedMain p) (s : IsSlicedAt p line q wanted) where
   there : Program
   there = sliced p s.kept
 
@@ -117,7 +117,7 @@ module _ (p : Program) (line : ℕ) (q : Program) (wanted : List Bool) (well : I
   at i = rank (keeps p s.kept) i
 
   well_there : IsWellFormed (sliced p s.kept)
-  well_there = slice_well_formed p (keeps p s.kept) straight well
+  well_there = slice_well_formed p line s.kept well numbered s.is_kept
 
   well_q : IsWellFormed q
   well_q = subst IsWellFormed (sym s.program_is) well_there
@@ -186,8 +186,8 @@ module _ (p : Program) (line : ℕ) (q : Program) (wanted : List Bool) (well : I
       let same = some_line lines all f.rank f.line lt f.line_is in
       omega (arith, is, low, same, fits))
 
-  pub is_faithful : (lines shown : List ℕ) (text : Bytes) → AreAll lines → Shown lines shown → line < 2 ^ 64 → length (layout q) ≤ 2 ^ 32 → text ≡ header line shown ++ layout q → IsFaithful p line text
-  is_faithful lines shown text all exact low fits is =
+  pub is_read : (lines shown : List ℕ) (text : Bytes) → AreAll lines → Shown lines shown → line < 2 ^ 64 → length (layout q) ≤ 2 ^ 32 → text ≡ header line shown ++ layout q → IsReadAs p line text
+  is_read lines shown text all exact low fits is =
       let short = shown_short lines shown all exact fits in
       let again : IsReadAgain (header line shown ++ layout q) q = subst (λ front. IsReadAgain (front ++ layout q) q) (header_is_comment line shown) (commented_is_read_again (inside line shown) q (inside_feedless line shown low short) (inside_starless line shown low short) well_q) in
       record {
@@ -196,6 +196,17 @@ module _ (p : Program) (line : ℕ) (q : Program) (wanted : List Bool) (well : I
         program = again.again;
         reads = record { raw = again.found; accepted = subst (λ t. IsAccepted t again.found again.again) (sym is) again.accepted; within = again.within };
         same_program = sym again.same ∙ ap unlined_program s.program_is;
-        own_words = subst (All (OwnWords p (keeps p s.kept))) (sym (main_body_is p straight)) (own_words p (keeps p s.kept) straight);
-        same_values = same_values_but_lines p again.again line s.kept straight s.is_kept (sym again.same ∙ ap unlined_program s.program_is);
+        own_words = has_own_words p (keeps p s.kept) (kept_nested p line s.kept well numbered s.is_kept);
       }
+
+-- a straight-line program gives the same values as what is read of its slice
+pub is_faithful : (p : Program) (line : ℕ) (text : Bytes) → IsStraight p → IsReadAs p line text → IsFaithful p line text
+is_faithful p line text straight r = record {
+  kept = r.kept;
+  is_kept = r.is_kept;
+  program = r.program;
+  reads = r.reads;
+  same_program = r.same_program;
+  own_words = r.own_words;
+  same_values = same_values_but_lines p r.program line r.kept straight r.is_kept r.same_program;
+}

@@ -1,5 +1,5 @@
 -- The main of a straight-line program: its code, its statements, and the variables that they refer to.
-use Rattle.std.proofs.Common.{◌≡◌, ℕ, ◌+◌, List, [], ◌∷◌, length, slice_get, Some, None, Bool, false, ◌||◌, refl, sym, ap, ◌∙◌}
+use Rattle.std.proofs.Common.{◌≡◌, ℕ, ◌+◌, List, ◌∷◌, length, slice_get, Some, None, Bool, false, ◌||◌, refl, sym, ap, ◌∙◌}
 use Rattle.std.specs.List.{list_any}
 use Rattle.std.specs.Option.{option_map_or}
 use mathlib.Core.Path.{fun_ext}
@@ -13,7 +13,6 @@ use Rattle.c_meaning.specs.Meaning.{main_code}
 use Rattle.built_forms.specs.Straight.{IsStraight, IsBody, done, declare, begin, assign, print}
 use Rattle.projection.specs.Names as tree
 use Rattle.projection.specs.Names.{refers, body_refers}
-use Rattle.slice_engine.specs.Slice.{main_body}
 use Rattle.slice_engine.proofs.Bools.{or_false, two}
 use Rattle.slice_engine.proofs.CodeNames.{stays}
 use Rattle.slice_engine.proofs.Codes.{code_of-Declare, code_of-Assign, code_of-Print}
@@ -22,9 +21,6 @@ use Rattle.slice_engine.proofs.ProjectedTrees.{refers-Declare, refers-Assign, re
 pub main_code_is : (p : Program) (h : IsStraight p) → main_code p ≡ code h.body
 main_code_is p h =
     ap (λ fs. option_map_or (λ (f : Function). code f.body) (slice_get fs 0) End) h.functions_are
-
-pub main_body_is : (p : Program) (h : IsStraight p) → main_body p ≡ h.body
-main_body_is p h = ap (λ fs. option_map_or (λ (f : Function). f.body) (slice_get fs 0) []) h.functions_are
 
 -- ---- the variables that kept statements refer to
 

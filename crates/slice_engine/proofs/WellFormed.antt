@@ -27,9 +27,7 @@ use Rattle.c_language.specs.Programs.{IsWellFormed}
 use Rattle.built_forms.specs.BuiltForms.{is_built_type, is_built_init, is_built_variable, is_main, unless, or_else, statement_step, arm_step, statement_outside, body_outside, function_outside, function_line, defined_outside, items_outside, not_yet}
 use Rattle.built_forms.specs.Straight.{IsStraight, IsLocal, IsPlainItem, IsBody, main_of, done, declare, begin, assign, print}
 use Rattle.built_forms.proofs.Programs.{built_straight}
-use Rattle.projection.specs.Projection.{projection}
 use Rattle.projection_laws.proofs.Unlining.{zeroed, unlined_roll}
-use Rattle.projection_laws.proofs.WellFormedProjections.{straight_projection_well_formed}
 use Rattle.slice_engine.proofs.Bools.{two}
 
 -- ---- layers without lines
@@ -306,7 +304,3 @@ straight_too p q same h =
 pub straight_of : (p : Program) → IsWellFormed p → not_yet p ≡ None → IsStraight p
 straight_of p w none =
     straight_too p w.same w.but_lines (built_straight w.raw w.same w.has.rules w.has.program (none_too p w.same w.but_lines none))
-
--- so is the program of each slice
-pub slice_well_formed : (p : Program) (keeps : ℕ → Bool) → IsStraight p → IsWellFormed p → IsWellFormed (projection p keeps)
-slice_well_formed = straight_projection_well_formed

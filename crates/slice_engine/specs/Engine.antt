@@ -4,6 +4,7 @@ use Rattle.c_tree.specs.declared.program.Program.{Program}
 use Rattle.c_tree.specs.Numbered.{program_starts}
 use Rattle.c_language.specs.Programs.{IsWellFormed}
 use Rattle.built_forms.specs.Straight.{IsStraight}
+use Rattle.dep_model.specs.NumberedMains.{IsNumberedMain}
 use Rattle.dep_model.specs.declared.edge.Edge.{Edge}
 use Rattle.dep_model.specs.SystemGraph.{Analysis, IsAnalysis, AreSystemEdges}
 use Rattle.dep_model.specs.Words.{IsPlain, IsEdgeWithin}
@@ -20,13 +21,18 @@ pub record HasEdges (p : Program) (edges : List Edge) : Type 0 where
   pub plain : IsPlain edges
   pub within : All (IsEdgeWithin (p.statements + 1)) edges
 
--- a well-formed program of the built forms with its edges and its statements' starts, small enough that its vertices have numbers of 32 bits
-pub record IsEngine (p : Program) (edges : List Edge) (starts : List (ℕ × ℕ)) : Type 0 where
+-- a well-formed program of main alone over integers with its edges and its statements' starts, small enough that its vertices have numbers of 32 bits
+pub record IsPrepared (p : Program) (edges : List Edge) (starts : List (ℕ × ℕ)) : Type 0 where
   pub well_formed : IsWellFormed p
-  pub straight : IsStraight p
+  pub numbered : IsNumberedMain p
   pub few : p.statements + 1 < 2 ^ 32
   pub has_edges : HasEdges p edges
   pub starts_are : starts_of starts ≡ program_starts p
+
+-- and of which nothing is outside the built forms
+pub record IsEngine (p : Program) (edges : List Edge) (starts : List (ℕ × ℕ)) : Type 0 where
+  pub prepared : IsPrepared p edges starts
+  pub straight : IsStraight p
 
 -- a set is the completion of what reaches another one
 pub record KeepsFrom (edges : List Edge) (criterion kept : List Bool) : Type 0 where

@@ -2,4 +2,3 @@ pub mod Criterion
 pub mod KeptStatements
 pub mod Slice
 pub mod Engine
-pub mod OwnWords

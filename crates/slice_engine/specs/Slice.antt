@@ -1,12 +1,9 @@
 -- The slice of a program at a line: the vertices that it keeps, its program and its text.
-use Rattle.std.specs.Prelude.{◌≡◌, ◌↔◌, ℕ, suc, ◌<◌, ◌==◌, ◌&&◌, List, [], ◌∷◌, ◌++◌, length, Bool, true, false, Contains, AllPairs, IsTrue, codes, map, slice_get, All}
+use Rattle.std.specs.Prelude.{◌≡◌, ◌↔◌, ℕ, suc, ◌<◌, ◌==◌, ◌&&◌, List, [], ◌∷◌, ◌++◌, length, Bool, true, false, Contains, AllPairs, IsTrue, codes, map}
 use Rattle.std.specs.List.{list_any}
-use Rattle.std.specs.Option.{option_map_or}
 use Rattle.std.specs.Fmt.{decimal}
 use Rattle.bit_rows.specs.Sets.{has}
 use Rattle.c_tree.specs.declared.program.Program.{Program}
-use Rattle.c_tree.specs.declared.program.Function.{Function}
-use Rattle.c_tree.specs.declared.statement.Statement.{Statement}
 use Rattle.c_tree.specs.Numbered.{Start, program_starts}
 use Rattle.c_tree.specs.Unlined.{SameButLines}
 use Rattle.c_language.specs.Words.{Bytes}
@@ -24,7 +21,7 @@ use Rattle.dep_model.specs.MainVertices.{vertices}
 use Rattle.projection.specs.Kept.{rank}
 use Rattle.projection.specs.Projection.{projection}
 use Rattle.slice_engine.specs.KeptStatements.{is_kept}
-use Rattle.slice_engine.specs.OwnWords.{OwnWords}
+use Rattle.own_words.specs.OwnWords.{OwnWords}
 
 -- whether a statement starts on a line
 abbrev pub starts_on : Program → ℕ → ℕ → Bool
@@ -64,9 +61,6 @@ keeps p kept = is_kept (vertices p) kept
 -- the program of the slice that keeps these vertices
 abbrev pub sliced : Program → List Bool → Program
 sliced p kept = projection p (keeps p kept)
-
-abbrev pub main_body : Program → List Statement
-main_body p = option_map_or (λ (f : Function). f.body) (slice_get p.functions 0) []
 
 -- in the slice's text, whose first line is the header, a line is the one on which a statement of the program starts
 pub record IsLineOf (p : Program) (kept : List Bool) (i k : ℕ) : Type 0 where
@@ -108,12 +102,21 @@ abbrev pub HasSameValues : Program → ℕ → List Bool → Program → Type 0
 HasSameValues p line kept q =
     (n : ℕ) (input : List ℕ) (t : Trace) → meaning n p input ≡ Ended t → (u : Trace) × (meaning n q input ≡ Ended u) × (at (is_criterion p line kept) u.events ≡ map (ranked (keeps p kept)) (at (starts_on p line) t.events))
 
--- a text is accepted: its program is the slice but for line numbers, each kept statement has its own words in it, and it gives the same values
+-- a text is accepted: its program is the slice but for line numbers, and each kept statement has its own words in it
+pub record IsReadAs (p : Program) (line : ℕ) (text : Bytes) : Type 0 where
+  pub kept : List Bool
+  pub is_kept : IsKept p line kept
+  pub program : Program
+  pub reads : HasProgram text program
+  pub same_program : SameButLines program (sliced p kept)
+  pub own_words : OwnWords p (keeps p kept)
+
+-- it is accepted so, and gives the same values
 pub record IsFaithful (p : Program) (line : ℕ) (text : Bytes) : Type 0 where
   pub kept : List Bool
   pub is_kept : IsKept p line kept
   pub program : Program
   pub reads : HasProgram text program
   pub same_program : SameButLines program (sliced p kept)
-  pub own_words : All (OwnWords p (keeps p kept)) (main_body p)
+  pub own_words : OwnWords p (keeps p kept)
   pub same_values : HasSameValues p line kept program

@@ -6,8 +6,8 @@ ghost use Rattle.c_language.specs.Programs.{IsWellFormed};
 ghost use Rattle.c_language.specs.Layout.{layout};
 ghost use Rattle.projection.specs.Projection.{projection};
 ghost use Rattle.slice_engine.specs.Criterion as marks;
-ghost use Rattle.slice_engine.specs.Slice.{HasStart, IsSlice, IsFaithful};
-ghost use Rattle.slice_engine.specs.Engine.{IsEngine, AreMarks, IsSlicedAt};
+ghost use Rattle.slice_engine.specs.Slice.{HasStart, IsSlice, IsReadAs, IsFaithful};
+ghost use Rattle.slice_engine.specs.Engine.{IsPrepared, AreMarks, IsSlicedAt};
 
 use crate::criterion::{any_starts_on, by_rank, criterion_set, marks_of};
 use crate::graph::{edges_of, keep};
@@ -106,12 +106,13 @@ impl Engine {
         ensures slice { IfOk result (λ t. IsSlice self.now c.line t) }
         ensures faithful { IfOk result (λ t. IsFaithful self.now c.line t) }
     {
-        text_of(alloc, &self.program, &self.edges, &self.starts, c.line)
+        let text = text_of(alloc, &self.program, &self.edges, &self.starts, c.line)?;
+        Ok(text)
     }
 }
 
 fn has_start(p: &Program, edges: &[Edge], starts: &[Start], line: u32) -> bool
-    requires { IsEngine p.now edges.now starts.now }
+    requires { IsPrepared p.now edges.now starts.now }
     ensures { IsTrue result ↔ HasStart p.now line }
 {
     any_starts_on(starts, line)
@@ -131,7 +132,7 @@ fn marks_at(
     starts: &[Start],
     line: u32,
 ) -> Result<Marks, AllocError>
-    requires { IsEngine p.now edges.now starts.now }
+    requires { IsPrepared p.now edges.now starts.now }
     ensures { IfOk result (λ m. AreMarks p.now line m.wanted.items m.kept.items) }
 {
     let vertices = p.statements + 1;
@@ -156,7 +157,7 @@ fn sliced_at(
     starts: &[Start],
     line: u32,
 ) -> Result<Sliced, AllocError>
-    requires { IsEngine p.now edges.now starts.now }
+    requires { IsPrepared p.now edges.now starts.now }
     ensures { IfOk result (λ s. IsSlicedAt p.now line s.program s.wanted.items) }
 {
     let marks = marks_at(alloc, p, edges, starts, line)?;
@@ -165,7 +166,7 @@ fn sliced_at(
     Ok(Sliced { program, wanted })
 }
 
-// The text of the slice at a line.
+// The text of the slice at a line, which is accepted again.
 fn text_of(
     alloc: Global,
     p: &Program,
@@ -173,9 +174,9 @@ fn text_of(
     starts: &[Start],
     line: u32,
 ) -> Result<Text, AllocError>
-    requires { IsEngine p.now edges.now starts.now }
+    requires { IsPrepared p.now edges.now starts.now }
     ensures slice { IfOk result (λ t. IsSlice p.now line t) }
-    ensures faithful { IfOk result (λ t. IsFaithful p.now line t) }
+    ensures read { IfOk result (λ t. IsReadAs p.now line t) }
 {
     let sliced = sliced_at(alloc, p, edges, starts, line)?;
     let layout = print(alloc, &sliced.program)?;

@@ -1,6 +1,6 @@
 //! The edges of a program's system dependence graph, and what a slice keeps.
 ghost use Rattle.std.specs.Prelude.{◌≡◌, ◌+◌, ◌^◌, ◌<◌, All, IfOk, OnOk, length};
-ghost use Rattle.built_forms.specs.Straight.{IsStraight};
+ghost use Rattle.dep_model.specs.NumberedMains.{IsNumberedMain};
 ghost use Rattle.dep_model.specs.Words.{IsPlain, IsEdgeWithin};
 ghost use Rattle.slice_engine.specs.Engine.{HasEdges, KeepsFrom};
 
@@ -11,7 +11,7 @@ use std::alloc::{AllocError, Global};
 
 /// The edges of the system graph of a program of main alone: control edges and flow edges.
 pub(crate) fn edges_of(alloc: Global, p: &Program) -> Result<Vec<Edge>, AllocError>
-    requires straight { IsStraight p.now }
+    requires numbered { IsNumberedMain p.now }
     requires few { p.now.statements + 1 < 2 ^ 32 }
     requires narrow { length p.now.vars + 2 < 2 ^ 32 }
     ensures { IfOk result (λ edges. HasEdges p.now edges.items) }

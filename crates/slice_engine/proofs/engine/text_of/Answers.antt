@@ -4,7 +4,7 @@ use Rattle.c_language.specs.Layout.{layout}
 use Rattle.c_print.proofs.LayoutLength.{few_lines}
 use Rattle.slice_engine.specs.Slice.{header}
 use Rattle.slice_engine.specs.Criterion.{shown_lines}
-use Rattle.slice_engine.proofs.SliceLaws.{is_slice, is_faithful}
+use Rattle.slice_engine.proofs.SliceLaws.{is_slice, is_read}
 use Rattle.slice_engine.proofs.engine.text_of.Goals as goal
 
 pub lines_of-requires : goal.lines_of-requires
@@ -21,10 +21,10 @@ returns-clause-slice c =
     let shown = c.in_ok-shown.shown.items in
     let exact : (k : ℕ) → Contains shown k ↔ Contains (shown_lines w lines) k = subst (λ (xs : List Bool). (k : ℕ) → Contains shown k ↔ Contains (shown_lines xs lines) k) c.as_slice.ensures.value (subst (λ (ls : List ℕ). (k : ℕ) → Contains shown k ↔ Contains (shown_lines c.as_slice.result.now ls) k) c.as_slice-2.ensures.value c.in_ok-shown.ensures.exact) in
     let text = c.in_ok-append.ensures.ok ∙ ap (λ b. c.in_ok-text.text ++ b) (c.bytes-2.ensures ∙ c.in_ok-layout.ensures) ∙ ap (λ b. b ++ layout q) (c.in_ok-text.ensures ∙ ap (header c.args.line) c.as_slice-3.ensures.value) in
-    is_slice c.args.p.now c.args.line q w c.requires.well_formed c.requires.straight c.in_ok-sliced.ensures lines shown c.append.new.self c.in_ok-lines.ensures.lines c.in_ok-shown.ensures.ascending exact text
+    is_slice c.args.p.now c.args.line q w c.requires.well_formed c.requires.numbered c.in_ok-sliced.ensures lines shown c.append.new.self c.in_ok-lines.ensures.lines c.in_ok-shown.ensures.ascending exact text
 
-pub returns-clause-faithful : goal.returns-clause-faithful
-returns-clause-faithful c =
+pub returns-clause-read : goal.returns-clause-read
+returns-clause-read c =
     let q = c.in_ok-sliced.sliced.program in
     let w = c.in_ok-sliced.sliced.wanted.items in
     let lines = c.in_ok-lines.lines.items in
@@ -33,4 +33,4 @@ returns-clause-faithful c =
     let text = c.in_ok-append.ensures.ok ∙ ap (λ b. c.in_ok-text.text ++ b) (c.bytes-2.ensures ∙ c.in_ok-layout.ensures) ∙ ap (λ b. b ++ layout q) (c.in_ok-text.ensures ∙ ap (header c.args.line) c.as_slice-3.ensures.value) in
     let low = c.ranges.line.fits in
     let size = ap length c.bytes.ensures ∙ ap length c.in_ok-layout.ensures in
-    is_faithful c.args.p.now c.args.line q w c.requires.well_formed c.requires.straight c.in_ok-sliced.ensures lines shown c.append.new.self c.in_ok-lines.ensures.lines exact (omega (arith, low)) (omega (arith, size, c.if-bytes-gt-MAX_LAYOUT_BYTES.false)) text
+    is_read c.args.p.now c.args.line q w c.requires.well_formed c.requires.numbered c.in_ok-sliced.ensures lines shown c.append.new.self c.in_ok-lines.ensures.lines exact (omega (arith, low)) (omega (arith, size, c.if-bytes-gt-MAX_LAYOUT_BYTES.false)) text
