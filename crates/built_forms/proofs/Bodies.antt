@@ -1,194 +1,378 @@
--- The statements of a body, one after another: a body of the built forms takes its numbers in text order.
-use Rattle.std.proofs.Common.{◌≡◌, ℕ, ◌+◌, ◌<◌, ◌≤◌, inl, inr, List, [], ◌∷◌, ◌++◌, length, map, true, Option, Some, None, option_map, option_and_then, append_assoc, refl, sym, ap, subst, ◌∙◌, arith}
-use Rattle.std.proofs.lemmas.Bool.{cases_lt}
-use Rattle.std.proofs.lemmas.List.{length-append}
+-- The variables that the body of main declares, with all that stands in its statements, are local ones of integer types where nothing of it is outside the built forms.
+use Rattle.std.proofs.Common.{◌≡◌, ℕ, ◌+◌, List, [], ◌∷◌, ◌++◌, length, map, Option, Some, None, option_map, option_and_then, refl, sym, ap, subst, ◌∙◌, arith}
+use Rattle.std.specs.Prelude.{◌&&◌}
+use Rattle.std.specs.List.{list_all}
 use Rattle.c_arith.specs.declared.int_type.IntType.{IntType}
-use Rattle.c_tree.specs.declared.types.CType.{CType}
 use Rattle.c_tree.specs.declared.expr.Expr.{Expr}
-use Rattle.c_tree.specs.declared.statement.Amount.{Amount}
-use Rattle.c_tree.specs.declared.statement.Arm.{Arm}
-use Rattle.c_tree.specs.declared.statement.Target.{Target}
 use Rattle.c_tree.specs.declared.program.Var.{Var}
+use Rattle.c_tree.specs.declared.raw.expr.RawExpr.{RawExpr}
 use Rattle.c_tree.specs.declared.raw.program.RawProgram.{RawProgram}
-use Rattle.c_tree.specs.declared.raw.statement.RawArm.{RawArm, fold-RawArm}
+use Rattle.c_tree.specs.declared.raw.statement.RawArm.{RawArm, fold-RawArm, roll-RawArm, map-RawArm, fold-roll-RawArm}
 use Rattle.c_tree.specs.declared.raw.statement.RawStatement.{RawStatement, ind-RawStatement, roll-RawStatement, map-RawStatement, fold-roll-RawStatement}
-use Rattle.c_tree.specs.declared.raw.statement.RawStatement.TheOpen.{RawStatement-F}
+use Rattle.c_tree.specs.declared.raw.statement.RawStatement.TheOpen.{RawStatement-F, RawArm-F}
+use Rattle.c_tree.specs.declared.raw.statement.RawTarget.{RawTarget}
+use Rattle.c_tree.specs.declared.statement.Arm.{Arm}
 use Rattle.c_tree.specs.declared.statement.Statement.{Statement}
 use Rattle.c_tree.specs.declared.statement.Statement.TheVariants as s
 use Rattle.c_language.specs.ConstantEvaluation.{both}
-use Rattle.c_language.specs.Phrases.{Stand, InBlock, Phrases, ArmText, scoped_step, scoped_arm, scoped, scoped_of_arm, body_phrases, after_body}
-use Rattle.c_language.specs.ProgramOf.{collected, ctype_if, expr_of, target_tree, amount_tree, block_tree, part_tree, for_tree, switch_type, at_type, ArmTree, arm_tree_step, treed_step, treed, declared_by, variables_in}
-use Rattle.c_language.specs.Scopes.{Scope, Scoped, opened, numbered, with_target, after_block, scope_of_test, scope_of_body, in_order}
+use Rattle.c_language.specs.Phrases.{Stand, InBlock, InArm, InFor, Part, Assigns, Bumps, Calls, Allocates, Tests, Switches, Returns, Phrases, phrase, target_phrases, joined_at, block_phrases, ArmText, labels_of, phrases_of_arms, scoped_step, scoped_arm, scoped, scoped_of_arm, body_phrases, after_body}
+use Rattle.c_language.specs.ProgramOf.{collected, optional, ctype_if, expr_of, target_tree, amount_tree, label_tree, arm_tree, ArmTree, arm_tree_step, block_tree, at_type, switch_type, for_tree, treed_step, treed, declared_by, variables_in}
+use Rattle.c_language.specs.Scopes.{Scope, Scoped, opened, closed, numbered, with_target, in_order, after_all, after_block}
 use Rattle.c_language.specs.TypeGrammar.{named_type}
-use Rattle.built_forms.specs.BuiltForms.{is_built_variable, statement_outside, or_else, body_outside}
-use Rattle.built_forms.specs.Straight.{IsBody}
-use Rattle.built_forms.proofs.Layers.{outside-Bump, outside-Heap, outside-If, outside-While, outside-Do, outside-For, outside-Switch, outside-Block, outside-Return}
-use Rattle.built_forms.proofs.Options.{none_some, same_some, Always, always_map, always_both, collected_some}
-use Rattle.built_forms.proofs.Adding.{AreLow, AreOfMain, Adds, AreKept, IsOutside, not_outside, declared, assigned, called}
+use Rattle.built_forms.specs.IntegerForms.{is_integer}
+use Rattle.built_forms.specs.BuiltForms.{unless, or_else, statement_outside, body_outside, part_outside, arms_outside, integer_labels}
+use Rattle.built_forms.proofs.Declaring.{AreIntegers, no_integers, more_integers, declared, called, allocated}
+use Rattle.built_forms.proofs.Kept.{AreKept, kept_first, kept_second}
+use Rattle.built_forms.proofs.Layers.{outside-If, outside-While, outside-Do, outside-For, outside-Switch, outside-Block}
+use Rattle.built_forms.proofs.Lines.{first_none}
+use Rattle.built_forms.proofs.Moves.{AreOfMain, both_of_main, Moves, nothing_moves, number_moves, then_moves, numbered_moves, opened_moves, closed_moves, standing_moves, phrase_moves, declaration_moves, target_moves, variables_both, count_both}
+use Rattle.built_forms.proofs.Options.{none_some, same_some, then_some, map_some, both_some, collected_some}
 
 module _ (raw : RawProgram) (vars : List Var) where
-  -- a statement where it stands, in the tree and as phrases
-  abbrev pub Case : Scoped (Option Statement) → Scoped (Stand → Phrases) → Type 0
-  Case t w =
-      (scope : Scope) → AreLow scope.variables scope.names → scope.owner ≡ Some 0 → (x : Statement) → t.gives scope ≡ Some x → statement_outside vars x ≡ None
-      → AreKept raw (w.gives scope InBlock) → Adds vars scope (w.after scope) (variables_in raw (w.gives scope InBlock)) x × (t.after scope ≡ w.after scope)
+  -- a statement in the tree and as phrases
+  pub record Case (t : Scoped (Option Statement)) (w : Scoped (Stand → Phrases)) : Type 0 where
+    pub moves : Moves raw t.after w.after w.gives
+    pub integers : (scope : Scope) (stand : Stand) (x : Statement) → t.gives scope ≡ Some x → statement_outside vars x ≡ None → AreKept raw (w.gives scope stand) → AreIntegers vars scope.variables (w.after scope).variables
 
-  abbrev IsCase : RawStatement → Type 0
-  IsCase one = Case (treed raw one) (scoped raw one)
+  pub record ArmCase (t : Scoped ArmTree) (w : Scoped ArmText) : Type 0 where
+    pub moves : Moves raw t.after w.after (λ scope stand. (w.gives scope).phrases)
+    pub integers : (scope : Scope) (k : IntType) (a : Arm) → t.gives scope k ≡ Some a → body_outside vars a.body ≡ None → AreKept raw (w.gives scope).phrases → AreIntegers vars scope.variables (w.after scope).variables
 
-  abbrev AnyArm : RawArm → Type 0
-  AnyArm a = Unit {0}
+  abbrev of_arm : RawArm → Scoped ArmTree
+  of_arm = fold-RawArm (Scoped (Option Statement)) (Scoped ArmTree) (treed_step raw) (arm_tree_step raw)
 
   abbrev Known : Type 0
-  Known = (one : RawStatement) × IsCase one
+  Known = (one : RawStatement) × Case (treed raw one) (scoped raw one)
 
   abbrev KnownArm : Type 0
-  KnownArm = (a : RawArm) × AnyArm a
+  KnownArm = (a : RawArm) × ArmCase (of_arm a) (scoped_of_arm raw a)
 
   abbrev layer_of : RawStatement-F Known KnownArm → RawStatement-F RawStatement RawArm
   layer_of = map-RawStatement Known KnownArm RawStatement RawArm (λ p. p.0) (λ p. p.0)
 
-  abbrev of_tree : RawArm → Scoped ArmTree
-  of_tree = fold-RawArm (Scoped (Option Statement)) (Scoped ArmTree) (treed_step raw) (arm_tree_step raw)
+  abbrev arm_layer_of : RawArm-F Known KnownArm → RawArm-F RawStatement RawArm
+  arm_layer_of = map-RawArm Known KnownArm RawStatement RawArm (λ p. p.0) (λ p. p.0)
 
   abbrev as_tree : RawStatement-F RawStatement RawArm → Scoped (Option Statement)
-  as_tree y = treed_step raw (map-RawStatement RawStatement RawArm (Scoped (Option Statement)) (Scoped ArmTree) (treed raw) of_tree y)
+  as_tree y = treed_step raw (map-RawStatement RawStatement RawArm (Scoped (Option Statement)) (Scoped ArmTree) (treed raw) of_arm y)
 
   abbrev as_text : RawStatement-F RawStatement RawArm → Scoped (Stand → Phrases)
   as_text y = scoped_step raw (map-RawStatement RawStatement RawArm (Scoped (Stand → Phrases)) (Scoped ArmText) (scoped raw) (scoped_of_arm raw) y)
 
+  abbrev as_arm_tree : RawArm-F RawStatement RawArm → Scoped ArmTree
+  as_arm_tree y = arm_tree_step raw (map-RawArm RawStatement RawArm (Scoped (Option Statement)) (Scoped ArmTree) (treed raw) of_arm y)
+
+  abbrev as_arm_text : RawArm-F RawStatement RawArm → Scoped ArmText
+  as_arm_text y = scoped_arm (map-RawArm RawStatement RawArm (Scoped (Stand → Phrases)) (Scoped ArmText) (scoped raw) (scoped_of_arm raw) y)
+
   abbrev trees : List Known → List (Scoped (Option Statement))
   trees ks = map (treed raw) (map (λ (p : Known). p.0) ks)
 
-  module _ (id l : ℕ) where
-    heap_outside : (to : Option Target) (c : Option (Option CType)) (n : Option Amount)
-        → Always (IsOutside raw vars l) (option_and_then (λ (t : Target). option_and_then (λ (k : Option CType). option_map (s.Heap id l t k) n) c) to)
-    heap_outside None c n = tt
-    heap_outside (Some t) None n = tt
-    heap_outside (Some t) (Some k) None = tt
-    heap_outside (Some t) (Some k) (Some a) = outside-Heap vars id l t k a
+  abbrev texts : List Known → List (Scoped (Stand → Phrases))
+  texts ks = map (scoped raw) (map (λ (p : Known). p.0) ks)
 
-    if_outside : (o : Option Expr) (a b : Option (List Statement)) → Always (IsOutside raw vars l) (option_and_then (λ (x : Expr). both (s.If id l x) a b) o)
-    if_outside None a b = tt
-    if_outside (Some x) a b = always_both (IsOutside raw vars l) (s.If id l x) a b (λ p q. outside-If vars id l x p q)
+  abbrev arm_trees : List KnownArm → List (Scoped ArmTree)
+  arm_trees ks = map of_arm (map (λ (p : KnownArm). p.0) ks)
 
-    for_outside : (i : Option (Option Statement)) (o : Option Expr) (step : Option (Option Statement)) (b : Option (List Statement)) → Always (IsOutside raw vars l) (for_tree id l i o step b)
-    for_outside None o step b = tt
-    for_outside (Some k) None step b = tt
-    for_outside (Some k) (Some x) step b = always_both (IsOutside raw vars l) (s.For id l k x) step b (λ p q. outside-For vars id l k x p q)
+  abbrev arm_texts : List KnownArm → List (Scoped ArmText)
+  arm_texts ks = map (scoped_of_arm raw) (map (λ (p : KnownArm). p.0) ks)
 
-    switch_outside : (o : Option Expr) (t : Option IntType) (arms : IntType → Option (List Arm))
-        → Always (IsOutside raw vars l) (option_and_then (λ (x : Expr). option_and_then (λ (k : IntType). option_map (s.Switch id l x) (arms k)) t) o)
-    switch_outside None t arms = tt
-    switch_outside (Some x) None arms = tt
-    switch_outside (Some x) (Some k) arms = always_map (IsOutside raw vars l) (s.Switch id l x) (arms k) (λ list. outside-Switch vars id l x list)
+  -- ---- lists of statements
+
+  abbrev list_phrases : List Known → Scope → Stand → Phrases
+  list_phrases ks scope stand = joined_at stand (in_order (texts ks) scope)
+
+  list_moves : (ks : List Known) → Moves raw (after_all (trees ks)) (after_all (texts ks)) (list_phrases ks)
+  list_moves [] = nothing_moves raw
+  list_moves (k ∷ ks) =
+      then_moves raw (treed raw k.0).after (scoped raw k.0).after (scoped raw k.0).gives (after_all (trees ks)) (after_all (texts ks)) (list_phrases ks) k.1.moves (list_moves ks)
+
+  list_integers : (ks : List Known) (scope : Scope) (stand : Stand) (xs : List Statement) → collected (in_order (trees ks) scope) ≡ Some xs → body_outside vars xs ≡ None
+      → AreKept raw (list_phrases ks scope stand) → AreIntegers vars scope.variables (after_all (texts ks) scope).variables
+  list_integers [] scope stand xs e none kept = no_integers vars scope.variables scope.variables refl
+  list_integers (k ∷ ks) scope stand xs e none kept =
+      let next = (scoped raw k.0).after scope in
+      let z = collected_some ((treed raw k.0).gives scope) (in_order (trees ks) ((treed raw k.0).after scope)) xs e in
+      let free = first_none (statement_outside vars z.0) (body_outside vars z.1) (ap (body_outside vars) (sym z.4) ∙ none) in
+      let rest : collected (in_order (trees ks) next) ≡ Some z.1 = ap (λ (y : Scope). collected (in_order (trees ks) y)) (sym (k.1.moves.same scope)) ∙ z.3 in
+      more_integers vars scope.variables next.variables (after_all (texts ks) next).variables
+      (k.1.integers scope stand z.0 z.2 free.0 (kept_first raw ((scoped raw k.0).gives scope stand) (list_phrases ks next stand) kept))
+      (list_integers ks next stand z.1 rest free.1 (kept_second raw ((scoped raw k.0).gives scope stand) (list_phrases ks next stand) kept))
+
+  -- a block of its own
+  block_moves : (ks : List Known) → Moves raw (after_block (trees ks)) (after_block (texts ks)) (λ scope stand. block_phrases (texts ks) scope)
+  block_moves ks =
+      closed_moves raw (λ scope. after_all (trees ks) (opened scope)) (λ scope. after_all (texts ks) (opened scope)) (λ scope stand. list_phrases ks (opened scope) InBlock)
+      (opened_moves raw (after_all (trees ks)) (after_all (texts ks)) (λ scope stand. list_phrases ks scope InBlock) (standing_moves raw (after_all (trees ks)) (after_all (texts ks)) (list_phrases ks) InBlock tt (list_moves ks)))
+
+  -- ---- the arms of a switch
+
+  abbrev arms_phrases : List KnownArm → Scope → Stand → Phrases
+  arms_phrases ks scope stand = phrases_of_arms (in_order (arm_texts ks) scope)
+
+  arms_moves : (ks : List KnownArm) → Moves raw (after_all (arm_trees ks)) (after_all (arm_texts ks)) (arms_phrases ks)
+  arms_moves [] = nothing_moves raw
+  arms_moves (k ∷ ks) =
+      then_moves raw (of_arm k.0).after (scoped_of_arm raw k.0).after (λ scope stand. ((scoped_of_arm raw k.0).gives scope).phrases) (after_all (arm_trees ks)) (after_all (arm_texts ks)) (arms_phrases ks) k.1.moves (arms_moves ks)
+
+  arms_integers : (ks : List KnownArm) (scope : Scope) (t : IntType) (xs : List Arm) → at_type t (in_order (arm_trees ks) scope) ≡ Some xs → arms_outside vars xs ≡ None
+      → AreKept raw (phrases_of_arms (in_order (arm_texts ks) scope)) → AreIntegers vars scope.variables (after_all (arm_texts ks) scope).variables
+  arms_integers [] scope t xs e none kept = no_integers vars scope.variables scope.variables refl
+  arms_integers (k ∷ ks) scope t xs e none kept =
+      let next = (scoped_of_arm raw k.0).after scope in
+      let own = ((scoped_of_arm raw k.0).gives scope).phrases in
+      let z = collected_some ((of_arm k.0).gives scope t) (map (λ (a : ArmTree). a t) (in_order (arm_trees ks) ((of_arm k.0).after scope))) xs e in
+      let free = first_none (body_outside vars z.0.body) (arms_outside vars z.1) (ap (arms_outside vars) (sym z.4) ∙ none) in
+      let rest : at_type t (in_order (arm_trees ks) next) ≡ Some z.1 = ap (λ (y : Scope). at_type t (in_order (arm_trees ks) y)) (sym (k.1.moves.same scope)) ∙ z.3 in
+      more_integers vars scope.variables next.variables (after_all (arm_texts ks) next).variables (k.1.integers scope t z.0 z.2 free.0 (kept_first raw own (arms_phrases ks next InArm) kept))
+      (arms_integers ks next t z.1 rest free.1 (kept_second raw own (arms_phrases ks next InArm) kept))
+
+  arms_block_moves : (ks : List KnownArm) → Moves raw (after_block (arm_trees ks)) (after_block (arm_texts ks)) (λ scope stand. arms_phrases ks (opened scope) stand)
+  arms_block_moves ks =
+      closed_moves raw (λ scope. after_all (arm_trees ks) (opened scope)) (λ scope. after_all (arm_texts ks) (opened scope)) (λ scope stand. arms_phrases ks (opened scope) stand)
+      (opened_moves raw (after_all (arm_trees ks)) (after_all (arm_texts ks)) (arms_phrases ks) (arms_moves ks))
+
+  -- ---- a test in front of blocks
+
+  -- the line of a test is none, and nor is that of what stands behind it
+  behind_test : (x y : Statement) (t : Option ℕ) (o : Option ℕ) → x ≡ y → statement_outside vars y ≡ or_else t o → statement_outside vars x ≡ None → o ≡ None
+  behind_test x y t o is out none = (first_none t o (sym out ∙ ap (statement_outside vars) (sym is) ∙ none)).1
+
+  -- ---- a for
+
+  abbrev part_after : Option Known → Scope → Scope
+  part_after None scope = scope
+  part_after (Some k) scope = (treed raw k.0).after scope
+
+  abbrev part_given : Option Known → Scope → Option (Option Statement)
+  part_given None scope = Some None
+  part_given (Some k) scope = optional (Some ((treed raw k.0).gives scope))
+
+  abbrev text_after : Option Known → Scope → Scope
+  text_after None scope = scope
+  text_after (Some k) scope = (scoped raw k.0).after scope
+
+  abbrev part_phrases : Option Known → Scope → Stand → Phrases
+  part_phrases None scope stand = []
+  part_phrases (Some k) scope stand = (scoped raw k.0).gives scope stand
+
+  part_moves : (o : Option Known) → Moves raw (part_after o) (text_after o) (part_phrases o)
+  part_moves None = nothing_moves raw
+  part_moves (Some k) = k.1.moves
+
+  part_integers : (o : Option Known) (scope : Scope) (stand : Stand) (x : Option Statement) → part_given o scope ≡ Some x → part_outside vars x ≡ None
+      → AreKept raw (part_phrases o scope stand) → AreIntegers vars scope.variables (text_after o scope).variables
+  part_integers None scope stand x e none kept = no_integers vars scope.variables scope.variables refl
+  part_integers (Some k) scope stand x e none kept = given ((treed raw k.0).gives scope) refl e
+    where
+      given : (o : Option Statement) → (treed raw k.0).gives scope ≡ o → optional (Some o) ≡ Some x → AreIntegers vars scope.variables ((scoped raw k.0).after scope).variables
+      given None is h = absurd (none_some h)
+      given (Some y) is h = k.1.integers scope stand y is (ap (part_outside vars) (same_some h) ∙ none) kept
+
+  -- the body of a for, behind its step
+  abbrev turn_phrases : Option Known → List Known → Scope → Stand → Phrases
+  turn_phrases step b scope stand = part_phrases step scope InBlock ++ block_phrases (texts b) (text_after step scope)
+
+  abbrev turn_after : Option Known → List Known → Scope → Scope
+  turn_after step b scope = after_block (trees b) (part_after step scope)
+
+  abbrev turn_text : Option Known → List Known → Scope → Scope
+  turn_text step b scope = after_block (texts b) (text_after step scope)
+
+  turn_moves : (step : Option Known) (b : List Known) → Moves raw (turn_after step b) (turn_text step b) (turn_phrases step b)
+  turn_moves step b =
+      then_moves raw (part_after step) (text_after step) (λ scope stand. part_phrases step scope InBlock) (after_block (trees b)) (after_block (texts b)) (λ scope stand. block_phrases (texts b) scope)
+      (standing_moves raw (part_after step) (text_after step) (part_phrases step) InBlock tt (part_moves step)) (block_moves b)
+
+  abbrev for_phrases : Option Known → ℕ → RawExpr → Option Known → List Known → Scope → Stand → Phrases
+  for_phrases i l test step b scope stand =
+      part_phrases i (opened (numbered scope)) InFor ++ (phrase l (text_after i (opened (numbered scope))) (Tests test) ∷ turn_phrases step b (text_after i (opened (numbered scope))) stand)
+
+  for_moves : (i : Option Known) (l : ℕ) (test : RawExpr) (step : Option Known) (b : List Known)
+      → Moves raw (λ scope. closed scope (turn_after step b (part_after i (opened (numbered scope))))) (λ scope. closed scope (turn_text step b (text_after i (opened (numbered scope))))) (for_phrases i l test step b)
+  for_moves i l test step b =
+      let whole : Scope → Stand → Phrases = λ scope stand. part_phrases i scope InFor ++ (phrase l (text_after i scope) (Tests test) ∷ turn_phrases step b (text_after i scope) stand) in
+      closed_moves raw (λ scope. turn_after step b (part_after i (opened (numbered scope)))) (λ scope. turn_text step b (text_after i (opened (numbered scope)))) (for_phrases i l test step b)
+      (numbered_moves raw (λ scope. turn_after step b (part_after i (opened scope))) (λ scope. turn_text step b (text_after i (opened scope))) (λ scope stand. whole (opened scope) stand)
+      (opened_moves raw (λ scope. turn_after step b (part_after i scope)) (λ scope. turn_text step b (text_after i scope)) whole
+      (then_moves raw (part_after i) (text_after i) (λ scope stand. part_phrases i scope InFor) (turn_after step b) (turn_text step b) (λ scope stand. phrase l scope (Tests test) ∷ turn_phrases step b scope stand)
+      (standing_moves raw (part_after i) (text_after i) (part_phrases i) InFor tt (part_moves i))
+      (phrase_moves raw (turn_after step b) (turn_text step b) (turn_phrases step b) l (λ scope stand. Tests test) (λ scope stand. refl) (turn_moves step b)))))
+
+  for_integers : (i : Option Known) (l : ℕ) (test : RawExpr) (step : Option Known) (b : List Known) (scope : Scope) (stand : Stand) (x : Statement)
+      → for_tree scope.statements l (part_given i (opened (numbered scope))) (expr_of raw (part_after i (opened (numbered scope))) test) (part_given step (part_after i (opened (numbered scope)))) (block_tree (trees b) (part_after step (part_after i (opened (numbered scope))))) ≡ Some x
+      → statement_outside vars x ≡ None → AreKept raw (for_phrases i l test step b scope stand)
+      → AreIntegers vars scope.variables (turn_text step b (text_after i (opened (numbered scope)))).variables
+  for_integers i l test step b scope stand x e none kept =
+      let first = opened (numbered scope) in
+      let second = text_after i first in
+      let third = text_after step second in
+      let body = block_phrases (texts b) third in
+      let t = then_some (λ (y : Option Statement). option_and_then (λ (z : Expr). both (s.For scope.statements l y z) (part_given step (part_after i first)) (block_tree (trees b) (part_after step (part_after i first)))) (expr_of raw (part_after i first) test)) (part_given i first) x e in
+      let u = then_some (λ (z : Expr). both (s.For scope.statements l t.0 z) (part_given step (part_after i first)) (block_tree (trees b) (part_after step (part_after i first)))) (expr_of raw (part_after i first) test) x t.2 in
+      let k = both_some (s.For scope.statements l t.0 u.0) (part_given step (part_after i first)) (block_tree (trees b) (part_after step (part_after i first))) x u.2 in
+      let inside = behind_test x (s.For scope.statements l t.0 u.0 k.0 k.1) (unless (is_integer u.0) l) (or_else (part_outside vars t.0) (or_else (part_outside vars k.0) (body_outside vars k.1))) k.4 (outside-For vars scope.statements l t.0 u.0 k.0 k.1) none in
+      let free = first_none (part_outside vars t.0) (or_else (part_outside vars k.0) (body_outside vars k.1)) inside in
+      let more = first_none (part_outside vars k.0) (body_outside vars k.1) free.1 in
+      let at_step : part_given step second ≡ Some k.0 = ap (part_given step) (sym ((part_moves i).same first)) ∙ k.2 in
+      let at_body : block_tree (trees b) third ≡ Some k.1 = ap (block_tree (trees b)) (sym (ap (part_after step) ((part_moves i).same first) ∙ (part_moves step).same second)) ∙ k.3 in
+      let later = (kept_second raw (part_phrases i first InFor) (phrase l second (Tests test) ∷ turn_phrases step b second stand) kept).1 in
+      more_integers vars scope.variables second.variables (turn_text step b second).variables
+      (part_integers i first InFor t.0 t.1 free.0 (kept_first raw (part_phrases i first InFor) (phrase l second (Tests test) ∷ turn_phrases step b second stand) kept))
+      (more_integers vars second.variables third.variables (turn_text step b second).variables (part_integers step second InBlock k.0 at_step more.0 (kept_first raw (part_phrases step second InBlock) body later))
+      (list_integers b (opened third) InBlock k.1 at_body more.1 (kept_second raw (part_phrases step second InBlock) body later)))
+
+  -- ---- each form
+
+  -- a phrase alone, behind which a statement has its number
+  alone_moves : (l : ℕ) (part : Scope → Stand → Part) → ((scope : Scope) (stand : Stand) → declared_by raw l scope (part scope stand) ≡ []) → Moves raw numbered numbered (λ scope stand. phrase l scope (part scope stand) ∷ [])
+  alone_moves l part none = phrase_moves raw numbered numbered (λ scope stand. []) l part none (number_moves raw)
+
+  -- the same behind a target
+  target_alone : (l : ℕ) (to : RawTarget) (part : Scope → Stand → Part) → ((scope : Scope) (stand : Stand) → declared_by raw l scope (part scope stand) ≡ [])
+      → Moves raw (λ scope. numbered (with_target raw to scope)) (λ scope. numbered (with_target raw to scope)) (λ scope stand. target_phrases raw l scope stand to ++ (phrase l (with_target raw to scope) (part (with_target raw to scope) stand) ∷ []))
+  target_alone l to part none =
+      then_moves raw (with_target raw to) (with_target raw to) (λ scope stand. target_phrases raw l scope stand to) numbered numbered (λ scope stand. phrase l scope (part scope stand) ∷ []) (target_moves raw l to) (alone_moves l part none)
+
+  loop_moves : (l : ℕ) (test : RawExpr) (b : List Known)
+      → Moves raw (λ scope. after_block (trees b) (numbered scope)) (λ scope. after_block (texts b) (numbered scope)) (λ scope stand. phrase l scope (Tests test) ∷ block_phrases (texts b) (numbered scope))
+  loop_moves l test b =
+      phrase_moves raw (λ scope. after_block (trees b) (numbered scope)) (λ scope. after_block (texts b) (numbered scope)) (λ scope stand. block_phrases (texts b) (numbered scope)) l (λ scope stand. Tests test) (λ scope stand. refl)
+      (numbered_moves raw (after_block (trees b)) (after_block (texts b)) (λ scope stand. block_phrases (texts b) scope) (block_moves b))
+
+  if_case : (l : ℕ) (test : RawExpr) (a b : List Known) → Case (as_tree (layer_of (RawStatement-F.If l test a b))) (as_text (layer_of (RawStatement-F.If l test a b)))
+  if_case l test a b = record {
+    moves =
+        phrase_moves raw (λ scope. after_block (trees b) (after_block (trees a) (numbered scope))) (λ scope. after_block (texts b) (after_block (texts a) (numbered scope))) (λ scope stand. block_phrases (texts a) (numbered scope) ++ block_phrases (texts b) (after_block (texts a) (numbered scope)))
+        l (λ scope stand. Tests test) (λ scope stand. refl)
+        (numbered_moves raw (λ scope. after_block (trees b) (after_block (trees a) scope)) (λ scope. after_block (texts b) (after_block (texts a) scope)) (λ scope stand. block_phrases (texts a) scope ++ block_phrases (texts b) (after_block (texts a) scope))
+        (then_moves raw (after_block (trees a)) (after_block (texts a)) (λ scope stand. block_phrases (texts a) scope) (after_block (trees b)) (after_block (texts b)) (λ scope stand. block_phrases (texts b) scope) (block_moves a) (block_moves b)));
+    integers = λ scope stand x e none kept.
+        let n = scope.statements in
+        let middle = after_block (texts a) (numbered scope) in
+        let ps = block_phrases (texts a) (numbered scope) in
+        let qs = block_phrases (texts b) middle in
+        let t = then_some (λ (z : Expr). both (s.If n l z) (block_tree (trees a) (numbered scope)) (block_tree (trees b) (after_block (trees a) (numbered scope)))) (expr_of raw scope test) x e in
+        let k = both_some (s.If n l t.0) (block_tree (trees a) (numbered scope)) (block_tree (trees b) (after_block (trees a) (numbered scope))) x t.2 in
+        let inside = behind_test x (s.If n l t.0 k.0 k.1) (unless (is_integer t.0) l) (or_else (body_outside vars k.0) (body_outside vars k.1)) k.4 (outside-If vars n l t.0 k.0 k.1) none in
+        let free = first_none (body_outside vars k.0) (body_outside vars k.1) inside in
+        let other : block_tree (trees b) middle ≡ Some k.1 = ap (block_tree (trees b)) (sym ((block_moves a).same (numbered scope))) ∙ k.3 in
+        more_integers vars scope.variables middle.variables (after_block (texts b) middle).variables (list_integers a (opened (numbered scope)) InBlock k.0 k.2 free.0 (kept_first raw ps qs kept.1))
+        (list_integers b (opened middle) InBlock k.1 other free.1 (kept_second raw ps qs kept.1));
+  }
+
+  while_case : (l : ℕ) (test : RawExpr) (b : List Known) → Case (as_tree (layer_of (RawStatement-F.While l test b))) (as_text (layer_of (RawStatement-F.While l test b)))
+  while_case l test b = record {
+    moves = loop_moves l test b;
+    integers = λ scope stand x e none kept.
+        let k = both_some (s.While scope.statements l) (expr_of raw scope test) (block_tree (trees b) (numbered scope)) x e in
+        let inside = behind_test x (s.While scope.statements l k.0 k.1) (unless (is_integer k.0) l) (body_outside vars k.1) k.4 (outside-While vars scope.statements l k.0 k.1) none in
+        list_integers b (opened (numbered scope)) InBlock k.1 k.3 inside kept.1;
+  }
+
+  do_case : (l : ℕ) (test : RawExpr) (b : List Known) → Case (as_tree (layer_of (RawStatement-F.Do l test b))) (as_text (layer_of (RawStatement-F.Do l test b)))
+  do_case l test b = record {
+    moves = loop_moves l test b;
+    integers = λ scope stand x e none kept.
+        let k = both_some (s.Do scope.statements l) (expr_of raw scope test) (block_tree (trees b) (numbered scope)) x e in
+        let inside = behind_test x (s.Do scope.statements l k.0 k.1) (unless (is_integer k.0) l) (body_outside vars k.1) k.4 (outside-Do vars scope.statements l k.0 k.1) none in
+        list_integers b (opened (numbered scope)) InBlock k.1 k.3 inside kept.1;
+  }
+
+  switch_case : (l : ℕ) (test : RawExpr) (arms : List KnownArm) → Case (as_tree (layer_of (RawStatement-F.Switch l test arms))) (as_text (layer_of (RawStatement-F.Switch l test arms)))
+  switch_case l test arms = record {
+    moves =
+        phrase_moves raw (λ scope. after_block (arm_trees arms) (numbered scope)) (λ scope. after_block (arm_texts arms) (numbered scope)) (λ scope stand. arms_phrases arms (opened (numbered scope)) stand)
+        l (λ scope stand. Switches test (labels_of (in_order (arm_texts arms) (opened (numbered scope))))) (λ scope stand. refl)
+        (numbered_moves raw (after_block (arm_trees arms)) (after_block (arm_texts arms)) (λ scope stand. arms_phrases arms (opened scope) stand) (arms_block_moves arms));
+    integers = λ scope stand x e none kept.
+        let n = scope.statements in
+        let t = then_some (λ (z : Expr). option_and_then (λ (k : IntType). option_map (s.Switch n l z) (at_type k (in_order (arm_trees arms) (opened (numbered scope))))) (switch_type raw scope test)) (expr_of raw scope test) x e in
+        let u = then_some (λ (k : IntType). option_map (s.Switch n l t.0) (at_type k (in_order (arm_trees arms) (opened (numbered scope))))) (switch_type raw scope test) x t.2 in
+        let k = map_some (s.Switch n l t.0) (at_type u.0 (in_order (arm_trees arms) (opened (numbered scope)))) x u.2 in
+        let inside = behind_test x (s.Switch n l t.0 k.0) (unless (is_integer t.0 && list_all integer_labels k.0) l) (arms_outside vars k.0) k.2 (outside-Switch vars n l t.0 k.0) none in
+        arms_integers arms (opened (numbered scope)) u.0 k.0 k.1 inside kept.1;
+  }
 
   layer_case : (y : RawStatement-F Known KnownArm) → Case (as_tree (layer_of y)) (as_text (layer_of y))
-  layer_case (RawStatement-F.Declare l v i) scope low owned x e none kept = (declared raw vars scope low owned l v i x e none, refl)
-  layer_case (RawStatement-F.Assign l left op right) scope low owned x e none kept = (assigned raw vars scope low owned l left op right x e none, refl)
-  layer_case (RawStatement-F.Bump l left up before) scope low owned x e none kept =
-      not_outside raw vars l _ x (always_map (IsOutside raw vars l) _ _ (λ a. outside-Bump vars scope.statements l a up before)) e none
-  layer_case (RawStatement-F.Call l to f args) scope low owned x e none kept = (called raw vars scope low owned l to f args kept x e none, refl)
-  layer_case (RawStatement-F.Heap l to cast n) scope low owned x e none kept =
-      not_outside raw vars l _ x (heap_outside scope.statements l (target_tree raw scope to) (ctype_if raw (option_map named_type cast)) (amount_tree raw (with_target raw to scope) n)) e none
-  layer_case (RawStatement-F.If l test a b) scope low owned x e none kept =
-      not_outside raw vars l _ x
-      (if_outside scope.statements l (expr_of raw scope test) (block_tree (trees a) (numbered scope)) (block_tree (trees b) (after_block (trees a) (numbered scope)))) e none
-  layer_case (RawStatement-F.While l test b) scope low owned x e none kept =
-      not_outside raw vars l _ x (always_both (IsOutside raw vars l) _ _ _ (λ t p. outside-While vars scope.statements l t p)) e none
-  layer_case (RawStatement-F.Do l test b) scope low owned x e none kept =
-      not_outside raw vars l _ x (always_both (IsOutside raw vars l) _ _ _ (λ t p. outside-Do vars scope.statements l t p)) e none
-  layer_case (RawStatement-F.For l None test None b) scope low owned x e none kept =
-      not_outside raw vars l _ x
-      (for_outside scope.statements l (part_tree None (opened (numbered scope))) (expr_of raw (scope_of_test {R = Option Statement} None scope) test)
-      (part_tree None (scope_of_test {R = Option Statement} None scope)) (block_tree (trees b) (scope_of_body {R = Option Statement} None None scope))) e none
-  layer_case (RawStatement-F.For l None test (Some step) b) scope low owned x e none kept =
-      not_outside raw vars l _ x
-      (for_outside scope.statements l (part_tree None (opened (numbered scope))) (expr_of raw (scope_of_test {R = Option Statement} None scope) test)
-      (part_tree (Some (treed raw step.0)) (scope_of_test {R = Option Statement} None scope)) (block_tree (trees b) (scope_of_body {R = Option Statement} None (Some (treed raw step.0)) scope))) e none
-  layer_case (RawStatement-F.For l (Some i) test None b) scope low owned x e none kept =
-      not_outside raw vars l _ x
-      (for_outside scope.statements l (part_tree (Some (treed raw i.0)) (opened (numbered scope))) (expr_of raw (scope_of_test {R = Option Statement} (Some (treed raw i.0)) scope) test)
-      (part_tree None (scope_of_test {R = Option Statement} (Some (treed raw i.0)) scope)) (block_tree (trees b) (scope_of_body {R = Option Statement} (Some (treed raw i.0)) None scope))) e none
-  layer_case (RawStatement-F.For l (Some i) test (Some step) b) scope low owned x e none kept =
-      not_outside raw vars l _ x
-      (for_outside scope.statements l (part_tree (Some (treed raw i.0)) (opened (numbered scope))) (expr_of raw (scope_of_test {R = Option Statement} (Some (treed raw i.0)) scope) test)
-      (part_tree (Some (treed raw step.0)) (scope_of_test {R = Option Statement} (Some (treed raw i.0)) scope)) (block_tree (trees b) (scope_of_body {R = Option Statement} (Some (treed raw i.0)) (Some (treed raw step.0)) scope))) e none
-  layer_case (RawStatement-F.Switch l test arms) scope low owned x e none kept =
-      not_outside raw vars l _ x
-      (switch_outside scope.statements l (expr_of raw scope test) (switch_type raw scope test)
-      (λ t. at_type t (in_order (map of_tree (map (λ (p : KnownArm). p.0) arms)) (opened (numbered scope))))) e none
-  layer_case (RawStatement-F.Block l b) scope low owned x e none kept = not_outside raw vars l _ x (always_map (IsOutside raw vars l) _ _ (λ p. outside-Block vars l p)) e none
-  layer_case (RawStatement-F.Return l a) scope low owned x e none kept =
-      not_outside raw vars l _ x (always_map (IsOutside raw vars l) _ _ (λ v. outside-Return vars scope.statements l v)) e none
+  layer_case (RawStatement-F.Declare l v i) = record { moves = declaration_moves raw l v i; integers = λ scope stand x e none kept. declared raw vars l v i scope x e none }
+  layer_case (RawStatement-F.Assign l left op right) = record {
+    moves = alone_moves l (λ scope stand. Assigns left op right) (λ scope stand. refl);
+    integers = λ scope stand x e none kept. no_integers vars scope.variables scope.variables refl;
+  }
+  layer_case (RawStatement-F.Bump l left up before) = record {
+    moves = alone_moves l (λ scope stand. Bumps left) (λ scope stand. refl);
+    integers = λ scope stand x e none kept. no_integers vars scope.variables scope.variables refl;
+  }
+  layer_case (RawStatement-F.Call l to f args) = record {
+    moves = target_alone l to (λ scope stand. Calls stand to f args) (λ scope stand. refl);
+    integers = λ scope stand x e none kept. called raw vars l scope stand to f args kept x e none;
+  }
+  layer_case (RawStatement-F.Heap l to cast n) = record {
+    moves = target_alone l to (λ scope stand. Allocates to cast n) (λ scope stand. refl);
+    integers = λ scope stand x e none kept. allocated raw vars scope.statements l (target_tree raw scope to) (ctype_if raw (option_map named_type cast)) (amount_tree raw (with_target raw to scope) n) x e none;
+  }
+  layer_case (RawStatement-F.If l test a b) = if_case l test a b
+  layer_case (RawStatement-F.While l test b) = while_case l test b
+  layer_case (RawStatement-F.Do l test b) = do_case l test b
+  layer_case (RawStatement-F.For l None test None b) = record { moves = for_moves None l test None b; integers = λ scope stand x e none kept. for_integers None l test None b scope stand x e none kept }
+  layer_case (RawStatement-F.For l None test (Some k) b) = record { moves = for_moves None l test (Some k) b; integers = λ scope stand x e none kept. for_integers None l test (Some k) b scope stand x e none kept }
+  layer_case (RawStatement-F.For l (Some i) test None b) = record { moves = for_moves (Some i) l test None b; integers = λ scope stand x e none kept. for_integers (Some i) l test None b scope stand x e none kept }
+  layer_case (RawStatement-F.For l (Some i) test (Some k) b) = record { moves = for_moves (Some i) l test (Some k) b; integers = λ scope stand x e none kept. for_integers (Some i) l test (Some k) b scope stand x e none kept }
+  layer_case (RawStatement-F.Switch l test arms) = switch_case l test arms
+  layer_case (RawStatement-F.Block l b) = record {
+    moves = block_moves b;
+    integers = λ scope stand x e none kept.
+        let k = map_some (s.Block l) (block_tree (trees b) scope) x e in
+        list_integers b (opened scope) InBlock k.0 k.1 (sym (ap (statement_outside vars) k.2 ∙ outside-Block vars l k.0) ∙ none) kept;
+  }
+  layer_case (RawStatement-F.Return l a) = record {
+    moves = alone_moves l (λ scope stand. Returns a) (λ scope stand. refl);
+    integers = λ scope stand x e none kept. no_integers vars scope.variables scope.variables refl;
+  }
 
-  statement_case : (one : RawStatement) → IsCase one
+  arm_case : (y : RawArm-F Known KnownArm) → ArmCase (as_arm_tree (arm_layer_of y)) (as_arm_text (arm_layer_of y))
+  arm_case y = record {
+    moves = standing_moves raw (after_all (trees y.body)) (after_all (texts y.body)) (list_phrases y.body) InArm tt (list_moves y.body);
+    integers = λ scope k a e none kept.
+        let z = both_some arm_tree (collected (map (label_tree raw scope k) y.labels)) (collected (in_order (trees y.body) scope)) a e in
+        list_integers y.body scope InArm z.1 z.3 (ap (λ (w : Arm). body_outside vars w.body) (sym z.4) ∙ none) kept;
+  }
+
+  statement_case : (one : RawStatement) → Case (treed raw one) (scoped raw one)
   statement_case =
-      ind-RawStatement IsCase AnyArm
-      (λ z y is. subst (λ w. IsCase (roll-RawStatement w)) is
+      ind-RawStatement (λ one. Case (treed raw one) (scoped raw one)) (λ a. ArmCase (of_arm a) (scoped_of_arm raw a))
+      (λ z y is. subst (λ w. Case (treed raw (roll-RawStatement w)) (scoped raw (roll-RawStatement w))) is
       (subst (λ t. Case t (scoped raw (roll-RawStatement (layer_of y)))) (sym (fold-roll-RawStatement (Scoped (Option Statement)) (Scoped ArmTree) (treed_step raw) (arm_tree_step raw) (layer_of y)))
       (subst (λ w. Case (as_tree (layer_of y)) w) (sym (fold-roll-RawStatement (Scoped (Stand → Phrases)) (Scoped ArmText) (scoped_step raw) scoped_arm (layer_of y))) (layer_case y))))
-      (λ z y is. tt)
+      (λ z y is. subst (λ w. ArmCase (of_arm (roll-RawArm w)) (scoped_of_arm raw (roll-RawArm w))) is
+      (subst (λ t. ArmCase t (scoped_of_arm raw (roll-RawArm (arm_layer_of y)))) (sym (fold-roll-RawArm (Scoped (Option Statement)) (Scoped ArmTree) (treed_step raw) (arm_tree_step raw) (arm_layer_of y)))
+      (subst (λ w. ArmCase (as_arm_tree (arm_layer_of y)) w) (sym (fold-roll-RawArm (Scoped (Stand → Phrases)) (Scoped ArmText) (scoped_step raw) scoped_arm (arm_layer_of y))) (arm_case y))))
 
   -- ---- a body
 
-  -- statements with these variables, from one scope to another
-  pub record AddsAll (before after : Scope) (found : List (Option Var)) (xs : List Statement) : Type 0 where
-    pub in_form : IsBody before.variables before.statements xs after.variables after.statements
+  -- what a body of main declares
+  pub record Declares (before after : Scope) (found : List (Option Var)) : Type 0 where
     pub of_main : AreOfMain found
     pub count : after.variables ≡ before.variables + length found
     pub functions : after.functions ≡ before.functions
-    pub built : (k : ℕ) → before.variables ≤ k → k < after.variables → is_built_variable vars k ≡ true
+    pub integers : AreIntegers vars before.variables after.variables
 
-  none_first : (a b : Option ℕ) → or_else a b ≡ None → a ≡ None
-  none_first None b e = refl
-  none_first (Some l) b e = absurd (none_some (sym e))
-
-  none_second : (a b : Option ℕ) → or_else a b ≡ None → b ≡ None
-  none_second None b e = e
-  none_second (Some l) b e = absurd (none_some (sym e))
-
-  pub kept_first : (ps qs : Phrases) → AreKept raw (ps ++ qs) → AreKept raw ps
-  kept_first [] qs h = tt
-  kept_first (p ∷ ps) qs h = (h.0, kept_first ps qs h.1)
-
-  pub kept_second : (ps qs : Phrases) → AreKept raw (ps ++ qs) → AreKept raw qs
-  kept_second [] qs h = h
-  kept_second (p ∷ ps) qs h = kept_second ps qs h.1
-
-  both_of_main : (os more : List (Option Var)) → AreOfMain os → AreOfMain more → AreOfMain (os ++ more)
-  both_of_main [] more h k = k
-  both_of_main (o ∷ os) more h k = (h.0, both_of_main os more h.1 k)
-
-  pub variables_both : (ps qs : Phrases) → variables_in raw (ps ++ qs) ≡ variables_in raw ps ++ variables_in raw qs
-  variables_both [] qs = refl
-  variables_both (p ∷ ps) qs = ap (λ os. declared_by raw p.line p.scope p.part ++ os) (variables_both ps qs) ∙ sym (append_assoc (declared_by raw p.line p.scope p.part) (variables_in raw ps) (variables_in raw qs))
-
-  here_or_later : {A : Type 0} (n k : ℕ) → (k < n → A) → (n ≤ k → A) → A
-  here_or_later n k f g = elim (cases_lt k n) [ inl h ↦ f h | inr h ↦ g h ]
-
-  pub body_adds : (ss : List RawStatement) (scope : Scope) → AreLow scope.variables scope.names → scope.owner ≡ Some 0 → (xs : List Statement) → collected (in_order (map (treed raw) ss) scope) ≡ Some xs
-      → body_outside vars xs ≡ None → AreKept raw (body_phrases raw ss scope) → AddsAll scope (after_body raw ss scope) (variables_in raw (body_phrases raw ss scope)) xs
-  body_adds [] scope low owned xs e none kept = record {
-    in_form = subst (λ ys. IsBody scope.variables scope.statements ys scope.variables scope.statements) (same_some e) IsBody.done;
-    of_main = tt;
-    count = omega arith;
-    functions = refl;
-    built = λ k from below. absurd (omega (arith, from, below));
-  }
-  body_adds (one ∷ ss) scope low owned xs e none kept =
+  pub body_declares : (ss : List RawStatement) (scope : Scope) → scope.owner ≡ Some 0 → (xs : List Statement) → collected (in_order (map (treed raw) ss) scope) ≡ Some xs
+      → body_outside vars xs ≡ None → AreKept raw (body_phrases raw ss scope) → Declares scope (after_body raw ss scope) (variables_in raw (body_phrases raw ss scope))
+  body_declares [] scope owned xs e none kept = record { of_main = tt; count = omega arith; functions = refl; integers = no_integers vars scope.variables scope.variables refl }
+  body_declares (one ∷ ss) scope owned xs e none kept =
       let own = (scoped raw one).gives scope InBlock in
       let next = (scoped raw one).after scope in
       let later = body_phrases raw ss next in
+      let c = statement_case one in
       let m = collected_some ((treed raw one).gives scope) (in_order (map (treed raw) ss) ((treed raw one).after scope)) xs e in
-      let free : or_else (statement_outside vars m.0) (body_outside vars m.1) ≡ None = ap (body_outside vars) (sym m.4) ∙ none in
-      let c = statement_case one scope low owned m.0 m.2 (none_first _ _ free) (kept_first own later kept) in
-      let rest : collected (in_order (map (treed raw) ss) next) ≡ Some m.1 = ap (λ (y : Scope). collected (in_order (map (treed raw) ss) y)) (sym c.1) ∙ m.3 in
-      let d = body_adds ss next c.0.low c.0.owner m.1 rest (none_second _ _ free) (kept_second own later kept) in
+      let free = first_none (statement_outside vars m.0) (body_outside vars m.1) (ap (body_outside vars) (sym m.4) ∙ none) in
+      let rest : collected (in_order (map (treed raw) ss) next) ≡ Some m.1 = ap (λ (y : Scope). collected (in_order (map (treed raw) ss) y)) (sym (c.moves.same scope)) ∙ m.3 in
+      let d = body_declares ss next (c.moves.owner scope ∙ owned) m.1 rest free.1 (kept_second raw own later kept) in
       record {
-        in_form = subst (λ ys. IsBody scope.variables scope.statements ys (after_body raw ss next).variables (after_body raw ss next).statements) (sym m.4) (c.0.adds m.1 _ _ d.in_form);
-        of_main = subst AreOfMain (sym (variables_both own later)) (both_of_main _ _ c.0.of_main d.of_main);
-        count = omega (arith, c.0.count, d.count, ap length (variables_both own later), length-append (variables_in raw own) (variables_in raw later));
-        functions = d.functions ∙ c.0.functions;
-        built = λ k from below. here_or_later next.variables k (λ low_k. c.0.built k from low_k) (λ high. d.built k high below);
+        of_main = subst AreOfMain (sym (variables_both raw own later)) (both_of_main (variables_in raw own) (variables_in raw later) (c.moves.of_main scope InBlock tt owned) d.of_main);
+        count = omega (arith, c.moves.count scope InBlock, d.count, count_both raw own later);
+        functions = d.functions ∙ c.moves.functions scope;
+        integers = more_integers vars scope.variables next.variables (after_body raw ss next).variables (c.integers scope InBlock m.0 m.2 free.0 (kept_first raw own later kept)) d.integers;
       }

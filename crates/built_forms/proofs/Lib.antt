@@ -1,6 +1,12 @@
-pub mod Layers
-pub mod Terms
 pub mod Options
-pub mod Adding
+pub mod Layers
+pub mod Lines
+pub mod Terms
+pub mod IntegerLemmas
+pub mod Kept
+pub mod Moves
+pub mod Declaring
 pub mod Bodies
+pub mod MainHeads
+pub mod MainItems
 pub mod Programs

@@ -1,5 +1,5 @@
 -- The expressions of a text name variables that are in scope.
-use Rattle.std.proofs.Common.{◌≡◌, ℕ, ◌<◌, Bool, true, Option, Some, None, option_map, option_and_then, refl, sym, ap, subst, ◌∙◌, arith}
+use Rattle.std.proofs.Common.{◌≡◌, ℕ, ◌<◌, List, [], ◌∷◌, Bool, true, false, cond, Option, Some, None, option_map, option_and_then, find, bytes_eq, refl, sym, ap, subst, ◌∙◌, arith}
 use Rattle.std.proofs.lemmas.Bool.Decides.{nat_tests}
 use Rattle.std.specs.Prelude.{◌&&◌, nat_lt}
 use Rattle.c_arith.specs.declared.int_type.IntType.{IntType}
@@ -14,10 +14,11 @@ use Rattle.c_tree.specs.declared.raw.expr.RawExpr.TheOpen.{RawExpr-F}
 use Rattle.c_tree.specs.declared.raw.program.RawProgram.{RawProgram}
 use Rattle.c_language.specs.Words.{Bytes}
 use Rattle.c_language.specs.ConstantEvaluation.{both}
-use Rattle.c_language.specs.Scopes.{Scope, Meaning, meaning_in}
+use Rattle.c_language.specs.Scopes.{Entry, Scope, Meaning, found_in, meaning_in}
 use Rattle.c_language.specs.ProgramOf.{Told, told_step, expr_of, variable_number}
 use Rattle.c_language.specs.declared.expr_type.ExprType.{ExprType}
-use Rattle.built_forms.specs.Straight.{names_step, names_below}
+use Rattle.built_forms.specs.NamesBelow.{names_step, names_below}
+use Rattle.built_forms.proofs.Options.{none_some, same_some}
 
 module _ (n : ℕ) where
   pub below-Constant : (text : Bytes) (t : IntType) (v : ℕ) → names_below n (e.Constant text t v) ≡ true
@@ -148,3 +149,29 @@ module _ (raw : RawProgram) (scope : Scope) (n : ℕ) (low : AreBelow n scope) w
   -- The variables that the tree of an expression names are in scope.
   pub expr_below : (a : RawExpr) (x : Expr) → expr_of raw scope a ≡ Some x → names_below n x ≡ true
   expr_below a x is = there (expr_of raw scope a) x (raw_low a) is
+
+-- ---- names in scope
+
+abbrev pub IsLowMeaning : ℕ → Meaning → Type 0
+IsLowMeaning n (Meaning.Variable id t) = id < n
+IsLowMeaning n Meaning.Function = Unit {0}
+
+-- the variables among declared names have numbers below n
+abbrev pub AreLow : ℕ → List Entry → Type 0
+AreLow n [] = Unit {0}
+AreLow n (e ∷ es) = IsLowMeaning n e.meaning × AreLow n es
+
+low_meaning : (n : ℕ) (m : Meaning) (id : ℕ) (t : Option ExprType) → IsLowMeaning n m → Some m ≡ Some (Meaning.Variable id t) → id < n
+low_meaning n m id t h e = subst (IsLowMeaning n) (same_some e) h
+
+found_either : (n : ℕ) (x : Entry) (rest : Option Entry) (b : Bool) (id : ℕ) (t : Option ExprType) → IsLowMeaning n x.meaning → (option_map (λ (y : Entry). y.meaning) rest ≡ Some (Meaning.Variable id t) → id < n)
+    → option_map (λ (y : Entry). y.meaning) (cond b (Some x) rest) ≡ Some (Meaning.Variable id t) → id < n
+found_either n x rest true id t h k e = low_meaning n x.meaning id t h e
+found_either n x rest false id t h k e = k e
+
+found_low : (n : ℕ) (es : List Entry) → AreLow n es → (name : Bytes) (id : ℕ) (t : Option ExprType) → found_in name es ≡ Some (Meaning.Variable id t) → id < n
+found_low n [] h name id t e = absurd (none_some e)
+found_low n (x ∷ es) h name id t e = found_either n x (find (λ (y : Entry). bytes_eq name y.name) es) (bytes_eq name x.name) id t h.0 (found_low n es h.1 name id t) e
+
+pub names_low : (n : ℕ) (scope : Scope) → AreLow n scope.names → AreBelow n scope
+names_low n scope h name id t e = found_low n scope.names h name id t e

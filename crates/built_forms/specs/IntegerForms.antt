@@ -8,14 +8,14 @@ use Rattle.c_tree.specs.declared.expr.Expr.TheOpen.{Expr-F}
 use Rattle.c_tree.specs.declared.program.Function.{Function}
 use Rattle.c_tree.specs.declared.program.Init.{Init}
 use Rattle.c_tree.specs.declared.program.Init.TheVariants as init
+use Rattle.c_tree.specs.declared.program.Item.{Item}
+use Rattle.c_tree.specs.declared.program.Item.TheVariants.{Include, Define}
 use Rattle.c_tree.specs.declared.program.Program.{Program}
 use Rattle.c_tree.specs.declared.program.Var.{Var}
 use Rattle.c_tree.specs.declared.statement.Label.{Label}
 use Rattle.c_tree.specs.declared.statement.Label.TheVariants as label
 use Rattle.c_tree.specs.declared.statement.Statement.{Statement, fold-Statement}
 use Rattle.c_tree.specs.declared.statement.Statement.TheOpen.{Statement-F, Arm-F}
-use Rattle.built_forms.specs.BuiltForms.{is_name}
-use Rattle.built_forms.specs.Straight.{IsPlainItem}
 
 -- constants, names, operators and casts
 abbrev pub integer_step : Expr-F Bool → Bool
@@ -41,6 +41,28 @@ is_integer = fold-Expr Bool integer_step
 
 abbrev pub are_integers : List Expr → Bool
 are_integers = list_all is_integer
+
+-- a name, in parentheses or not
+abbrev pub name_step : Expr-F Bool → Bool
+name_step (Expr-F.Constant text t v) = false
+name_step Expr-F.Null = false
+name_step Expr-F.Eof = false
+name_step (Expr-F.Variable x) = true
+name_step (Expr-F.Unary op a) = false
+name_step (Expr-F.Deref a) = false
+name_step (Expr-F.AddressOf a) = false
+name_step (Expr-F.Binary op a b) = false
+name_step (Expr-F.AndAlso a b) = false
+name_step (Expr-F.OrElse a b) = false
+name_step (Expr-F.Choose c a b) = false
+name_step (Expr-F.Cast t a) = false
+name_step (Expr-F.Index a i) = false
+name_step (Expr-F.Member a m) = false
+name_step (Expr-F.Arrow a m) = false
+name_step (Expr-F.Paren a) = a
+
+abbrev pub is_name : Expr → Bool
+is_name = fold-Expr Bool name_step
 
 abbrev pub integer_init : Init → Bool
 integer_init init.None = true
@@ -86,6 +108,11 @@ arm_step a = list_all integer_label a.labels && all_true a.body
 
 abbrev pub is_integer_statement : Statement → Bool
 is_integer_statement = fold-Statement Bool Bool statement_step arm_step
+
+-- an include, or main
+pub data IsPlainItem : Item → Type 0 where
+  include : {is_stdlib : Bool} → IsPlainItem (Include is_stdlib)
+  main : IsPlainItem (Define 0)
 
 -- a local variable of main, of an integer type
 pub record IsIntegerLocal (v : Var) : Type 0 where

@@ -1,3 +1,4 @@
-pub mod BuiltForms
-pub mod Straight
 pub mod IntegerForms
+pub mod NamesBelow
+pub mod BuiltForms
+pub mod BuiltMains

@@ -9,7 +9,7 @@ fn function_outside(vars: &[Var], f: &Function) -> Option<u32>
     ensures { result ≡ forms.function_outside vars.now f.now }
 {
     if f.name.bytes() == b"main".as_slice() {
-        body_outside(vars, f.body.as_slice())
+        body_outside(f.body.as_slice(), vars)
     } else {
         Some(f.line)
     }
@@ -81,9 +81,10 @@ fn items_outside(p: &Program, items: &[Item]) -> Option<u32>
     None
 }
 
-/// The line of the first item, declaration or statement in text order that is outside the built forms, or
-/// `None` where there is none. An item that has no line in the tree (of a struct type, or a prototype) is
-/// told at the line of the next item that has one.
+/// The line of the first item, declaration or statement in text order that is outside the built forms, which
+/// are those of main alone over integers with control flow, or `None` where there is none. A statement is told
+/// before what stands in it. An item that has no line in the tree (of
+/// a struct type, or a prototype) is told at the line of the next item that has one, or else of the first function.
 pub fn not_yet(p: &Program) -> Option<u32>
     ensures { result ≡ forms.not_yet p.now }
 {

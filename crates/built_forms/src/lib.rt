@@ -7,4 +7,4 @@ mod laws;
 mod statements;
 
 pub use items::not_yet;
-pub use laws::built_are_straight;
+pub use laws::built_are_integer_mains;

@@ -28,7 +28,7 @@ get_changed f b [] = refl
 get_changed f zero (k ∷ m) = refl
 get_changed f (suc b) (k ∷ m) = get_changed f b m
 
-get_other : (f : Block → Block) (b c : ℕ) (m : Memory) → b ≢ c → slice_get (changed f b m) c ≡ slice_get m c
+pub get_other : (f : Block → Block) (b c : ℕ) (m : Memory) → b ≢ c → slice_get (changed f b m) c ≡ slice_get m c
 get_other f b c [] ne = refl
 get_other f zero zero (k ∷ m) ne = absurd (ne refl)
 get_other f zero (suc c) (k ∷ m) ne = refl
@@ -84,10 +84,10 @@ written_framed s b v framed =
 
 -- ---- a declaration
 
-bound_here : (frame : ℕ → Option ℕ) (x : ℕ) (b : Option ℕ) → bound frame x b x ≡ b
+pub bound_here : (frame : ℕ → Option ℕ) (x : ℕ) (b : Option ℕ) → bound frame x b x ≡ b
 bound_here frame x b = rw (eq-eqb x x refl) refl
 
-bound_other : (frame : ℕ → Option ℕ) (x y : ℕ) (b : Option ℕ) → x ≢ y → bound frame x b y ≡ frame y
+pub bound_other : (frame : ℕ → Option ℕ) (x y : ℕ) (b : Option ℕ) → x ≢ y → bound frame x b y ≡ frame y
 bound_other frame x y b ne = rw (ne_eqb x y ne) refl
 
 module _ (types : Types) (s : State) (x : ℕ) (framed : IsFramed s) where

@@ -1,3 +1,4 @@
 pub mod Frames
+pub mod Closing
 pub mod Small
 mod SmallPrograms

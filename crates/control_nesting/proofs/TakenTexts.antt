@@ -35,9 +35,8 @@ use Rattle.c_language.specs.TypeGrammar.{named_type}
 use Rattle.c_language.specs.Programs.{IsTree, HasProgram}
 use Rattle.c_language.specs.Rules.{Breaks, IsBroken}
 use Rattle.c_language.specs.SwitchRules.{HasTwo, SameCase, MisusesSwitch}
-use Rattle.built_forms.proofs.Adding.{AreKept}
+use Rattle.built_forms.proofs.Kept.{AreKept, kept_from}
 use Rattle.built_forms.proofs.Options.{Always, always_map, always_then, always_both, always_is}
-use Rattle.built_forms.proofs.Programs.{kept_from}
 use Rattle.c_scope_laws.proofs.Options.{none_there, some_same, false_true}
 use Rattle.c_scope_laws.proofs.TreeForms.{treed_arm}
 use Rattle.c_scope_laws.proofs.TreeScopes.{after_same, list_after, block_after_same, part_after}

@@ -20,8 +20,7 @@ use Rattle.c_tree.specs.declared.types.CType.TheVariants as type
 use Rattle.c_language.specs.declared.expr_type.ExprType.{ExprType}
 use Rattle.c_language.specs.Code.{Act, End, code}
 use Rattle.c_language.specs.DeclaredTypes.{integer}
-use Rattle.built_forms.specs.Straight.{IsPlainItem, include, main}
-use Rattle.built_forms.specs.IntegerForms.{IsIntegerLocal, IsIntegerMain}
+use Rattle.built_forms.specs.IntegerForms.{IsPlainItem, include, main, IsIntegerLocal, IsIntegerMain}
 use Rattle.dep_model.specs.declared.location.Location.{Location}
 use Rattle.dep_model.specs.declared.location.Root.{Root}
 use Rattle.dep_model.specs.declared.location.Root.TheVariants.{Input, Variable, Site, Result}

@@ -1,6 +1,6 @@
 -- Which locations an act may define, may use and kills where all variables are integers whose addresses aren't taken: a working form of
 -- the effects of acts.
-use Rattle.std.specs.Prelude.{ℕ, ◌==◌, List, [], ◌∷◌, Bool, true, false, ◌||◌, Option, Some, None}
+use Rattle.std.specs.Prelude.{ℕ, ◌==◌, List, [], ◌∷◌, Bool, true, false, ◌&&◌, ◌||◌, Option, Some, None}
 use Rattle.c_arith.specs.declared.operators.BinaryOp.{BinaryOp}
 use Rattle.c_tree.specs.declared.expr.Expr.{Expr, fold-Expr}
 use Rattle.c_tree.specs.declared.expr.Expr.TheOpen.{Expr-F}
@@ -15,6 +15,7 @@ use Rattle.dep_model.specs.declared.location.Location.{Location}
 use Rattle.dep_model.specs.declared.location.Root.{Root}
 use Rattle.dep_model.specs.declared.location.Root.TheVariants.{Input, Variable, Site, Result}
 use Rattle.dep_model.specs.declared.location.Part.{Part}
+use Rattle.dep_model.specs.IntegerEffects.{gives_value}
 
 -- the location of a whole variable
 abbrev pub variable : ℕ → Location
@@ -168,8 +169,15 @@ uses (Frees e) l = reads e l
 uses (Returns e) l = value_reads e l
 uses (Tests e) l = reads e l
 
+-- whether a declaration gives its variable a value
+abbrev pub begins : Init → Bool
+begins init.None = false
+begins (init.One e) = true
+begins (init.Items es) = true
+
+-- a declaration without a value defines nothing, and neither does a return without one
 abbrev pub defines : Act → Location → Bool
-defines (Begins x i) l = is_variable x l
+defines (Begins x i) l = begins i && is_variable x l
 defines (Sets left op right) l = places left l
 defines (Bumps left up) l = places left l
 defines (Fetches to) l = is_input l || target_places to l
@@ -177,12 +185,12 @@ defines (Writes e) l = false
 defines (Prints format args) l = false
 defines (Allocates to n) l = target_places to l
 defines (Frees e) l = false
-defines (Returns e) l = is_result l
+defines (Returns e) l = gives_value e && is_result l
 defines (Tests e) l = false
 
 -- an assignment to a name kills what it held
 abbrev pub kills : Act → Location → Bool
-kills (Begins x i) l = is_variable x l
+kills (Begins x i) l = begins i && is_variable x l
 kills (Sets left op right) l = names left l
 kills (Bumps left up) l = names left l
 kills (Fetches to) l = is_input l || target_names to l
@@ -190,5 +198,5 @@ kills (Writes e) l = false
 kills (Prints format args) l = false
 kills (Allocates to n) l = target_names to l
 kills (Frees e) l = false
-kills (Returns e) l = is_result l
+kills (Returns e) l = gives_value e && is_result l
 kills (Tests e) l = false

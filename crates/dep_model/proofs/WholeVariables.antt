@@ -6,9 +6,10 @@ use Rattle.dep_model.specs.declared.location.Part.{Part}
 use Rattle.dep_model.specs.declared.location.Root.{Root}
 use Rattle.dep_model.specs.declared.location.Root.TheVariants.{Input, Variable, Site, Result}
 use Rattle.dep_model.specs.Denoted.{whole}
-use Rattle.dep_model.specs.Locations.{same_root, same_parts}
+use Rattle.dep_model.specs.DoingEffects.{result_of}
+use Rattle.dep_model.specs.Locations.{same_root, same_parts, same_location}
 use Rattle.dep_model.proofs.BoolLemmas.{and_true, and_false}
-use Rattle.dep_model.proofs.PlainEffects.{is_root_of, is_whole, is_variable}
+use Rattle.dep_model.proofs.PlainEffects.{is_root_of, is_whole, is_variable, is_result_root, is_result}
 
 pub truth : (b : Bool) → (b ≡ true) ⊎ (b ≡ false)
 truth true = inl refl
@@ -32,6 +33,17 @@ whole_at x (Result f) [] = refl
 
 pub whole_is : (x : ℕ) (l : Location) → whole x l ≡ is_variable x l
 whole_is x l = whole_at x l.root l.path
+
+result_at : (r : Root) (hs : List Part) → (same_root (Result 0) r && same_parts [] hs) ≡ is_whole hs (is_result_root r)
+result_at r (h ∷ hs) = and_false (same_root (Result 0) r)
+result_at Input [] = refl
+result_at (Variable y) [] = refl
+result_at (Site i) [] = refl
+result_at (Result f) [] = and_true (0 == f) ∙ same_number 0 f
+
+-- what main returns
+pub result_is : (l : Location) → same_location (result_of 0) l ≡ is_result l
+result_is l = result_at l.root l.path
 
 -- the location is in some variable
 abbrev pub IsInVariable : Location → Type 0

@@ -13,7 +13,7 @@ use Rattle.c_tree.specs.declared.statement.Target.TheVariants as target
 use Rattle.c_tree.specs.declared.types.CType.TheVariants as type
 use Rattle.c_language.specs.Code.{Act, Begins, Sets, Bumps, Fetches, Writes, Prints, Allocates, Frees, Returns, Tests}
 use Rattle.built_forms.specs.IntegerForms.{IsIntegerMain}
-use Rattle.built_forms.specs.Straight.{names_below}
+use Rattle.built_forms.specs.NamesBelow.{names_below}
 use Rattle.dep_model.specs.Doings.{Doing, Does, Calls, doings_of}
 use Rattle.dep_model.specs.MainVertices.{from}
 

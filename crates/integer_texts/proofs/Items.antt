@@ -26,10 +26,10 @@ use Rattle.c_language.specs.ProgramOf.{collected, ctype_if, treed, body_of, para
 use Rattle.c_language.specs.Rules.{main}
 use Rattle.c_language.specs.Scopes.{Scope, Meaning, meaning_here, with_variable, with_entry, with_function, after_all, parameter_of, with_named, with_parameter, with_parameters, scope_of_parameters, entered}
 use Rattle.c_print_laws.proofs.Scoping.{count_append, begun_count, statement_scoped, after_same}
-use Rattle.built_forms.proofs.Adding.{AreLow, AreKept}
-use Rattle.built_forms.proofs.Bodies.{kept_second}
+use Rattle.built_forms.proofs.Kept.{AreKept, kept_second}
 use Rattle.built_forms.proofs.Options.{same_some, both_some, collected_some}
-use Rattle.built_forms.proofs.Programs.{int_result, int_tree}
+use Rattle.built_forms.proofs.Terms.{AreLow}
+use Rattle.built_forms.proofs.MainHeads.{int_result, int_tree}
 use Rattle.dep_model.specs.Doings.{Doing, body_doings}
 use Rattle.dep_model.specs.NumberedMains.{doing_below}
 use Rattle.dep_model.proofs.TextNumbers.{Takes, takes_none, takes_both, body_takes}
@@ -267,15 +267,15 @@ module _ (raw : RawProgram) where
   give_ints (Include b ∷ xs) scope fs kept e = give_ints xs scope fs kept e
   give_ints (Tag line tag ∷ xs) scope fs kept e = give_ints xs scope fs kept.1 e
   give_ints (Struct line tag members ∷ xs) scope fs kept e =
-      give_ints xs (after_item raw (Struct line tag members) scope) fs (kept_second raw [] (item_phrases raw (Struct line tag members) scope) (items_phrases raw xs (after_item raw (Struct line tag members) scope)) kept) e
+      give_ints xs (after_item raw (Struct line tag members) scope) fs (kept_second raw (item_phrases raw (Struct line tag members) scope) (items_phrases raw xs (after_item raw (Struct line tag members) scope)) kept) e
   give_ints (Global line var i is_static ∷ xs) scope fs kept e =
-      give_ints xs (after_item raw (Global line var i is_static) scope) fs (kept_second raw [] (item_phrases raw (Global line var i is_static) scope) (items_phrases raw xs (after_item raw (Global line var i is_static) scope)) kept) e
+      give_ints xs (after_item raw (Global line var i is_static) scope) fs (kept_second raw (item_phrases raw (Global line var i is_static) scope) (items_phrases raw xs (after_item raw (Global line var i is_static) scope)) kept) e
   give_ints (Prototype line head ∷ xs) scope fs kept e =
-      give_ints xs (with_function head.name scope) fs (kept_second raw [] (item_phrases raw (Prototype line head) scope) (items_phrases raw xs (with_function head.name scope)) kept) e
+      give_ints xs (with_function head.name scope) fs (kept_second raw (item_phrases raw (Prototype line head) scope) (items_phrases raw xs (with_function head.name scope)) kept) e
   give_ints (Define line head body ∷ xs) scope fs kept e =
       let after = after_item raw (Define line head body) scope in
       let g = collected_some (function_tree raw line head body scope) (functions_from raw xs after) fs e in
       let q = parts_of line head body scope g.0 g.2 in
       let gives : head.name ≡ main_name → q.0 ≡ Some (type.Integer Int) = λ named. same_some (sym q.2 ∙ int_tree raw head.result (int_result head.result (λ ne. kept.0 5 (main (no_int named ne))))) in
       subst GiveInts (sym g.4)
-      (λ named. ap (λ (f : Function). f.result) q.4 ∙ gives (sym (ap (λ (f : Function). f.name) q.4) ∙ named), give_ints xs after g.1 (kept_second raw [] (item_phrases raw (Define line head body) scope) (items_phrases raw xs after) kept) g.3)
+      (λ named. ap (λ (f : Function). f.result) q.4 ∙ gives (sym (ap (λ (f : Function). f.name) q.4) ∙ named), give_ints xs after g.1 (kept_second raw (item_phrases raw (Define line head body) scope) (items_phrases raw xs after) kept) g.3)

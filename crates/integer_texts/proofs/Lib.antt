@@ -2,3 +2,4 @@ pub mod Items
 pub mod NamesInScope
 pub mod Texts
 pub mod SameNumbers
+pub mod BuiltMains

@@ -34,15 +34,14 @@ use Rattle.c_language.specs.DeclaredTypes.{function_id}
 use Rattle.c_language.specs.ProgramOf.{collected, optional, ctype_if, expr_of, exprs_of, init_of, declaration_id, target_tree, arg_tree, args_tree, only_tree, size_tree, amount_tree, call_tree, label_tree, arm_tree, ArmTree, arm_tree_step, block_tree, at_type, switch_type, for_tree, treed_step, treed, body_of}
 use Rattle.c_language.specs.Scopes.{Entry, Scope, Meaning, Scoped, opened, closed, numbered, with_variable, with_target, begun, in_order, after_all, after_block}
 use Rattle.c_language.specs.TypeGrammar.{named_type}
-use Rattle.built_forms.specs.Straight.{names_below}
-use Rattle.built_forms.proofs.Adding.{IsLowMeaning, AreLow, names_low}
+use Rattle.built_forms.specs.NamesBelow.{names_below}
 use Rattle.built_forms.proofs.Options.{none_some, same_some, then_some, map_some, both_some, Always, always_is, collected_some}
-use Rattle.built_forms.proofs.Terms.{expr_below}
 use Rattle.dep_model.specs.Doings.{Doing, Does, doings, body_doings}
 use Rattle.dep_model.specs.NumberedMains.{value_below, init_below, target_below, amount_below, doing_below}
 use Rattle.dep_model.proofs.BoolLemmas.{both_true}
 use Rattle.dep_model.proofs.DoingForms.{arms_doings, part_doings, doings-Declare, doings-Assign, doings-Bump, doings-Invoke, doings-Fetch, doings-Write, doings-Print, doings-Heap, doings-Release, doings-Return, doings-If, doings-While, doings-Do, doings-Switch, doings-Block, doings-For}
-use Rattle.dep_model.proofs.StraightNumbered.{names_more}
+use Rattle.dep_model.proofs.NamesBelow.{names_more}
+use Rattle.built_forms.proofs.Terms.{IsLowMeaning, AreLow, names_low, expr_below}
 
 -- ---- names in scope
 

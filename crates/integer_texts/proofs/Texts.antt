@@ -21,9 +21,9 @@ use Rattle.c_language.specs.Programs.{HasProgram}
 use Rattle.c_language.specs.Rules.{by_phrase, no_main}
 use Rattle.c_language.specs.Scopes.{outset}
 use Rattle.built_forms.specs.IntegerForms.{IsIntegerMain}
-use Rattle.built_forms.proofs.Adding.{AreKept}
+use Rattle.built_forms.proofs.Kept.{AreKept, kept_from}
 use Rattle.built_forms.proofs.Options.{then_some, both_some}
-use Rattle.built_forms.proofs.Programs.{found_length, kept_from}
+use Rattle.built_forms.proofs.Programs.{found_length}
 use Rattle.dep_model.specs.Doings.{body_doings, doings_of}
 use Rattle.dep_model.specs.MainVertices.{from}
 use Rattle.dep_model.specs.NumberedMains.{doing_number, doing_below, IsNumberedMain}

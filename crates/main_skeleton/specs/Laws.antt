@@ -1,7 +1,6 @@
 -- Laws of programs of main alone over integers.
 use Rattle.std.specs.Prelude.{◌≡◌, ◌↔◌, ℕ, List, map, true, Contains}
 use Rattle.c_tree.specs.declared.program.Program.{Program}
-use Rattle.built_forms.specs.Straight.{IsStraight}
 use Rattle.dep_model.specs.declared.edge.Edge.{Edge}
 use Rattle.dep_model.specs.declared.location.Location.{Location}
 use Rattle.dep_model.specs.Locations.{Placed, locations}
@@ -10,10 +9,6 @@ use Rattle.dep_model.specs.MainLocations.{main_locations}
 use Rattle.dep_model.specs.MainVertices.{vertices}
 use Rattle.dep_model.specs.NumberedMains.{IsNumberedMain}
 use Rattle.dep_model.specs.SystemGraph.{Analysis, IsAnalysis, vertices_of, numbered_effects, AreSystemEdges}
-
--- a straight-line program is one of them
-abbrev pub StraightAreNumbered : Type 0
-StraightAreNumbered = (p : Program) → IsStraight p → IsNumberedMain p
 
 abbrev pub NumberedHaveAnalyses : Type 0
 NumberedHaveAnalyses = (p : Program) → IsNumberedMain p → (a : Analysis) × IsAnalysis p a

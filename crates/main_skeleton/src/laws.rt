@@ -1,12 +1,7 @@
 //! Laws of programs of main alone over integers. Each function is a law, and holds no code: its contract is the law.
 ghost use Rattle.main_skeleton.specs.Laws as law;
 
-/// A law: a straight-line program is of main alone over integers, numbered in text order.
-pub fn straight_are_numbered()
-    ensures { law.StraightAreNumbered }
-{}
-
-/// A law: such a program has an analysis, in which nothing points anywhere and main modifies and uses
+/// A law: a numbered main over integers has an analysis, in which nothing points anywhere and main modifies and uses
 /// nothing that is seen outside of it.
 pub fn numbered_have_analyses()
     ensures { law.NumberedHaveAnalyses }

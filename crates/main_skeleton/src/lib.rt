@@ -18,7 +18,7 @@ use c_tree::{Function, Items, Program, Statement};
 use dep_model::{Skeleton, Vertex, VertexKind};
 pub use laws::{
     edges_are_of_main, locations_are_listed, locations_are_of_main, numbered_have_analyses,
-    straight_are_numbered, vertices_are_of_main,
+    vertices_are_of_main,
 };
 use std::alloc::{AllocError, Global};
 

@@ -32,8 +32,7 @@ use Rattle.c_language.specs.Programs.{HasProgram}
 use Rattle.c_language.specs.ProgramOf.{ctype_step, ctype_with, ctype_if, init_of, body_of, declared_by, variables_in, parameter_ids, function_tree, functions_from, item_tree, items_from, length_words}
 use Rattle.projection.specs.Kept.{Kept}
 use Rattle.projection.specs.Names.{either, refers, body_refers}
-use Rattle.built_forms.specs.Straight.{IsPlainItem}
-use Rattle.built_forms.specs.IntegerForms.{all_true, is_integer_statement, IsIntegerLocal}
+use Rattle.built_forms.specs.IntegerForms.{IsPlainItem, all_true, is_integer_statement, IsIntegerLocal}
 use Rattle.c_scope_laws.specs.ThinTexts.{ParamStays, ParamsStay}
 use Rattle.c_scope_laws.specs.ThinnedBodies.{AreMet, body_left}
 use Rattle.c_scope_laws.specs.ThinnedTexts.{FunctionStays, ItemsAreClosed, IsClosed}
@@ -45,6 +44,7 @@ use Rattle.c_print_laws.proofs.ForParts.{are_tidy, AreTidy}
 use Rattle.projection_laws.specs.Nested.{all_fit, nest, is_nested}
 use Rattle.projection_laws.proofs.Options.{map_there, both_there, both_true}
 use Rattle.projection_laws.proofs.ProjectedLines.{nil_cons, first_same, rest_same}
+use Rattle.projection_laws.proofs.IntegerTexts.{Are}
 use Rattle.projection_laws.proofs.Deriving.{IntegerPart, AreGood, good_later, good_left, good_right, all_derived}
 use Rattle.projection_laws.proofs.Reaching.{Spans}
 use Rattle.projection_laws.proofs.Going.{kept_of}
@@ -165,8 +165,15 @@ module _ (raw : RawProgram) where
     either_all [] id = refl
     either_all (x ∷ xs) id = ap (λ (c : Bool). refers keeps x id || c) (either_all xs id)
 
+    -- a text of statements with these trees, of which what is kept has what it needs
+    pub record IsMetMain (zs : List Statement) : Type 0 where
+      pub start : Scope
+      pub body : List RawStatement
+      pub are : Are raw start body zs
+      pub met : AreMet k (body_left k raw body start).needs
+
     function_stays : (l : ℕ) (head : RawHead) (body : List RawStatement) (f : Function) → function_tree raw l head body outset ≡ Some f → IsFine f → head.name ≡ main_name → are_tidy body ≡ true
-        → AreGood raw (body_phrases raw body (entered raw head outset)) → FunctionStays k raw head body outset
+        → AreGood raw (body_phrases raw body (entered raw head outset)) → FunctionStays k raw head body outset × IsMetMain f.body
     function_stays l head body f at fine name tidy good =
         let m = both_there _ (ctype_if raw head.result) (body_of raw body (entered raw head outset)) f at in
         let start = scope_of_parameters head outset in
@@ -179,12 +186,14 @@ module _ (raw : RawProgram) where
         let spans : Spans Any start = record { names = (tt, tt); fresh = λ id h. tt } in
         let met = all_meet raw vars keeps are spans (fit_all zs (ap (list_all (is_nested keeps)) (sym body_is) ∙ fine.nested))
         (λ id h. fine.kept id (ap (λ (xs : List Statement). body_refers keeps xs id) body_is ∙ sym (either_all zs id) ∙ h))
-        (λ id v p q. either_all zs id ∙ sym (ap (λ (xs : List Statement). body_refers keeps xs id) body_is) ∙ fine.only id v) in
-        record {
-          parameters = params_stay k head.params start outset.variables none;
-          statements = subst (λ (z : Scope). AreMet k (body_left k raw body z).needs) (sym scope_is) met;
-          result = λ other q. absurd (other name);
-        }
+        (λ id v p q. either_all zs id ∙ sym (ap (λ (xs : List Statement). body_refers keeps xs id) body_is) ∙ fine.only id v) in (
+          record {
+            parameters = params_stay k head.params start outset.variables none;
+            statements = subst (λ (z : Scope). AreMet k (body_left k raw body z).needs) (sym scope_is) met;
+            result = λ other q. absurd (other name);
+          },
+          record { start = start; body = body; are = subst (Are raw start body) (sym body_is) are; met = met },
+        )
 
     -- an item of the program, and those behind it
     record PlainMore (o : Option Item) (os : List (Option Item)) : Type 0 where
@@ -239,10 +248,11 @@ module _ (raw : RawProgram) where
         by_test false h there = absurd (there (ap (λ (b : Bool). if b then Some head else None) h))
 
     one_function : (xs : List RawItem) (all : List Item) (f : Function) → AreTidy xs → items_from raw xs outset ≡ map Some all → AllByRecursion IsPlainItem all → functions_from raw xs outset ≡ Some f ∷ [] → IsFine f
-        → AreGood raw (items_phrases raw xs outset) → (find (λ (h : RawHead). bytes_eq h.name main_name) (functions_of xs) ≡ None → ⊥) → ItemsAreClosed k raw xs outset
+        → AreGood raw (items_phrases raw xs outset) → (find (λ (h : RawHead). bytes_eq h.name main_name) (functions_of xs) ≡ None → ⊥) → ItemsAreClosed k raw xs outset × IsMetMain f.body
     one_function [] all f tidy h g one fine good main = nil_cons one
     one_function (Include b ∷ xs) all f tidy h g one fine good main =
-        let m = plain_more (Some (item.Include b)) (items_from raw xs outset) all h g in (tt, one_function xs m.rest f tidy.1 m.are m.plains one fine good main)
+        let m = plain_more (Some (item.Include b)) (items_from raw xs outset) all h g in
+        let r = one_function xs m.rest f tidy.1 m.are m.plains one fine good main in ((tt, r.0), r.1)
     one_function (Tag l w ∷ xs) all f tidy h g one fine good main =
         let m = plain_more (option_map item.Tag (struct_id raw w)) (items_from raw xs outset) all h g in
         let o = map_there item.Tag (struct_id raw w) m.first m.is in no_tag o.0 (subst IsPlainItem (sym o.1.1) m.plain)
@@ -265,14 +275,17 @@ module _ (raw : RawProgram) where
         let here = good_left raw (first ∷ (params ++ (inside ++ end))) (items_phrases raw xs next) good in
         let statements = good_left raw inside end (good_right raw params (inside ++ end) (good_later raw first (params ++ (inside ++ end)) here)) in
         let stays = function_stays l head body f (first_same one) fine (main_is head (functions_of xs) behind.1 main) tidy.0 statements in
-        (((λ q. stays), (λ q. false_true (sym q))), behind.0)
+        ((((λ q. stays.0), (λ q. false_true (sym q))), behind.0), stays.1)
+
+    main_closes : (p : Program) (f : Function) → HasProgram raw p → AreTidy raw.items → AllByRecursion IsPlainItem p.items → AllByRecursion IsIntegerLocal p.vars → p.functions ≡ f ∷ [] → IsFine f
+        → ItemsAreClosed k raw raw.items outset × IsMetMain f.body
+    main_closes p f has tidy plain locals one fine =
+        let parts = program_parts raw p has.program in
+        one_function raw.items p.items f tidy parts.items plain (parts.functions ∙ ap (map Some) one) fine
+        (λ q c. record { rules = λ number b. has.rules number q.line (IsBroken.by_phrase c b); integer = phrases_integer (phrases raw) p.vars parts.vars locals q c }) (λ h. has.rules 5 1 (IsBroken.no_main h))
 
     pub main_closed : (p : Program) (f : Function) → HasProgram raw p → AreTidy raw.items → AllByRecursion IsPlainItem p.items → AllByRecursion IsIntegerLocal p.vars → p.functions ≡ f ∷ [] → IsFine f → IsClosed k raw
-    main_closed p f has tidy plain locals one fine =
-        let parts = program_parts raw p has.program in
-        record {
-          items = one_function raw.items p.items f tidy parts.items plain (parts.functions ∙ ap (map Some) one) fine
-              (λ q c. record { rules = λ number b. has.rules number q.line (IsBroken.by_phrase c b); integer = phrases_integer (phrases raw) p.vars parts.vars locals q c })
-              (λ h. has.rules 5 1 (IsBroken.no_main h));
-          main = refl;
-        }
+    main_closed p f has tidy plain locals one fine = record { items = (main_closes p f has tidy plain locals one fine).0; main = refl }
+
+    pub main_met : (p : Program) (f : Function) → HasProgram raw p → AreTidy raw.items → AllByRecursion IsPlainItem p.items → AllByRecursion IsIntegerLocal p.vars → p.functions ≡ f ∷ [] → IsFine f → IsMetMain f.body
+    main_met p f has tidy plain locals one fine = (main_closes p f has tidy plain locals one fine).1

@@ -12,6 +12,6 @@ pub mod Meeting
 pub mod ClosedMains
 pub mod SameNumbers
 pub mod SamePrograms
-pub mod StraightMains
 pub mod WellFormedProjections
+pub mod Clearing
 pub mod Standing

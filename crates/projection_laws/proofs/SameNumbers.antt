@@ -17,8 +17,7 @@ use Rattle.c_language.specs.NameRules.{main_name}
 use Rattle.projection.specs.Kept.{Kept, rank}
 use Rattle.projection.specs.Renumbering.{renamed_label}
 use Rattle.projection.specs.Projection.{if_so, flat, projected_step, projected_arm_step, projected, projected_arm, projected_all, projected_item, projected_items, projected_function, projected_functions, projected_var, projected_vars, projected_program}
-use Rattle.built_forms.specs.IntegerForms.{integer_label, all_true, statement_step, arm_step, is_integer_statement, IsIntegerLocal}
-use Rattle.built_forms.specs.Straight.{IsPlainItem}
+use Rattle.built_forms.specs.IntegerForms.{IsPlainItem, integer_label, all_true, statement_step, arm_step, is_integer_statement, IsIntegerLocal}
 use Rattle.c_scope_laws.specs.Following.{kept_head, kept_functions}
 use Rattle.c_scope_laws.proofs.Options.{false_true}
 use Rattle.projection_laws.proofs.Options.{both_true}

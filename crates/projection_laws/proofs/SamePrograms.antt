@@ -12,10 +12,9 @@ use Rattle.c_tree.specs.declared.program.Program.{Program}
 use Rattle.c_tree.specs.declared.statement.Statement.{Statement}
 use Rattle.c_tree.specs.declared.statement.Statement.TheOpen.{Statement-F}
 use Rattle.projection.specs.Kept.{Kept, rank}
-use Rattle.projection.specs.Names.{refers_step, refers_arm, refers, body_refers}
+use Rattle.projection.specs.Names.{refers_step, refers_arm, refers, body_refers, stays}
 use Rattle.projection.specs.Projection.{if_so, projected_function, projected_functions, projected_var, projected_vars, projected_program, kept_with, projection}
-use Rattle.built_forms.specs.IntegerForms.{statement_step, arm_step, is_integer_statement, IsIntegerLocal, IsIntegerMain}
-use Rattle.built_forms.specs.Straight.{IsPlainItem}
+use Rattle.built_forms.specs.IntegerForms.{IsPlainItem, statement_step, arm_step, is_integer_statement, IsIntegerLocal, IsIntegerMain}
 use Rattle.projection_laws.specs.Nested.{Nest, nest_step, nest_arm, is_nested, IsNested}
 use Rattle.projection_laws.proofs.Unlining.{zeroed, fold_unlined}
 use Rattle.projection_laws.proofs.ProjectedLines.{all_projected_unlined, nil_cons, first_same, rest_same}
@@ -99,6 +98,10 @@ body_unlined keeps (x ∷ xs) id = ap₂ (λ (a b : Bool). a || b) (ap (λ (f : 
 functions_refer : (keeps : ℕ → Bool) (fs : List Function) (id : ℕ) → list_any (λ (f : Function). body_refers keeps f.body id) (map unlined_function fs) ≡ list_any (λ (f : Function). body_refers keeps f.body id) fs
 functions_refer keeps [] id = refl
 functions_refer keeps (f ∷ fs) id = ap₂ (λ (a b : Bool). a || b) (body_unlined keeps f.body id) (functions_refer keeps fs id)
+
+-- the same variables stay
+pub stays_same : (p q : Program) (keeps : ℕ → Bool) → SameButLines p q → stays keeps p ≡ stays keeps q
+stays_same p q keeps h = sym (fun_ext (functions_refer keeps p.functions)) ∙ ap (stays keeps) h ∙ fun_ext (functions_refer keeps q.functions)
 
 kept_unlined : (p : Program) (keeps : ℕ → Bool) → kept_with (unlined_program p) keeps ≡ kept_with p keeps
 kept_unlined p keeps = ap (λ (vars : ℕ → Bool). record { variable = vars; statement = keeps; result = λ i. true; function = λ name. true }) (fun_ext (functions_refer keeps p.functions))
@@ -184,10 +187,16 @@ main_same p q h m =
       statements_are = sym (list_unlined is_integer_statement integer_unlined o.other.body) ∙ sym (ap (λ (f : Function). list_all is_integer_statement f.body) o.same) ∙ list_unlined is_integer_statement integer_unlined m.main.body ∙ m.statements_are;
     }
 
-functions_nested : (keeps : ℕ → Bool) (fs : List Function) → list_all (λ (f : Function). list_all (is_nested keeps) f.body) (map unlined_function fs) ≡ list_all (λ (f : Function). list_all (is_nested keeps) f.body) fs
-functions_nested keeps [] = refl
-functions_nested keeps (f ∷ fs) = ap₂ (λ (a b : Bool). a && b) (list_unlined (is_nested keeps) (nested_unlined keeps) f.body) (functions_nested keeps fs)
+-- a test of statements that reads no line
+tests_unlined : (test : Statement → Bool) → ((x : Statement) → test (unlined x) ≡ test x) → (fs : List Function)
+    → list_all (λ (f : Function). list_all test f.body) (map unlined_function fs) ≡ list_all (λ (f : Function). list_all test f.body) fs
+tests_unlined test same [] = refl
+tests_unlined test same (f ∷ fs) = ap₂ (λ (a b : Bool). a && b) (list_unlined test same f.body) (tests_unlined test same fs)
+
+pub tests_same : (test : Statement → Bool) → ((x : Statement) → test (unlined x) ≡ test x) → (p q : Program) → SameButLines p q
+    → list_all (λ (f : Function). list_all test f.body) p.functions ≡ list_all (λ (f : Function). list_all test f.body) q.functions
+tests_same test same p q h =
+    sym (tests_unlined test same p.functions) ∙ ap (λ (r : Program). list_all (λ (f : Function). list_all test f.body) r.functions) h ∙ tests_unlined test same q.functions
 
 pub nested_same : (p q : Program) (keeps : ℕ → Bool) → SameButLines p q → IsNested keeps p → IsNested keeps q
-nested_same p q keeps h n =
-    sym (functions_nested keeps q.functions) ∙ sym (ap (λ (r : Program). list_all (λ (f : Function). list_all (is_nested keeps) f.body) r.functions) h) ∙ functions_nested keeps p.functions ∙ n
+nested_same p q keeps h n = sym (tests_same (is_nested keeps) (nested_unlined keeps) p q h) ∙ n

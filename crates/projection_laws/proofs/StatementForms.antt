@@ -15,6 +15,7 @@ use Rattle.c_language.specs.Words.{Bytes}
 use Rattle.projection.specs.Names.{refers_step, refers_arm, refers}
 use Rattle.built_forms.specs.IntegerForms.{statement_step, arm_step, is_integer_statement}
 use Rattle.projection_laws.specs.Nested.{Nest, nest_step, nest_arm, nest}
+use Rattle.projection_laws.specs.Staying.{Rest, rest_step, rest_arm, rest}
 
 abbrev pub is_integer_arm : Arm → Bool
 is_integer_arm = fold-Arm Bool Bool statement_step arm_step
@@ -163,3 +164,49 @@ module _ (keeps : ℕ → Bool) where
 
   pub nest-arm : (labels : List Label) (b : List Statement) → arm_nest (roll-Arm (record { labels = labels; body = b })) ≡ nest_arm keeps (record { labels = labels; body = map (nest keeps) b })
   nest-arm labels b = fold-roll-Arm Nest Nest (nest_step keeps) (nest_arm keeps) (record { labels = labels; body = b })
+
+module _ (keeps vars : ℕ → Bool) where
+  abbrev pub arm_rest : Arm → Rest
+  arm_rest = fold-Arm Rest Rest (rest_step keeps vars) (rest_arm keeps vars)
+
+  pub rest-Declare : (id : Option ℕ) (l : ℕ) (x : ℕ) (i : Init) → (rest keeps vars) (t.Declare id l x i) ≡ (rest_step keeps vars) (Statement-F.Declare id l x i)
+  rest-Declare id l x i = ap (rest keeps vars) (sym (t.rolls-Declare id l x i)) ∙ fold-roll-Statement Rest Rest (rest_step keeps vars) (rest_arm keeps vars) (Statement-F.Declare id l x i)
+
+  pub rest-Assign : (id : ℕ) (l : ℕ) (a : Expr) (op : Option BinaryOp) (b : Expr) → (rest keeps vars) (t.Assign id l a op b) ≡ (rest_step keeps vars) (Statement-F.Assign id l a op b)
+  rest-Assign id l a op b = ap (rest keeps vars) (sym (t.rolls-Assign id l a op b)) ∙ fold-roll-Statement Rest Rest (rest_step keeps vars) (rest_arm keeps vars) (Statement-F.Assign id l a op b)
+
+  pub rest-Bump : (id : ℕ) (l : ℕ) (a : Expr) (up : Bool) (before : Bool) → (rest keeps vars) (t.Bump id l a up before) ≡ (rest_step keeps vars) (Statement-F.Bump id l a up before)
+  rest-Bump id l a up before = ap (rest keeps vars) (sym (t.rolls-Bump id l a up before)) ∙ fold-roll-Statement Rest Rest (rest_step keeps vars) (rest_arm keeps vars) (Statement-F.Bump id l a up before)
+
+  pub rest-Write : (id : ℕ) (l : ℕ) (a : Expr) → (rest keeps vars) (t.Write id l a) ≡ (rest_step keeps vars) (Statement-F.Write id l a)
+  rest-Write id l a = ap (rest keeps vars) (sym (t.rolls-Write id l a)) ∙ fold-roll-Statement Rest Rest (rest_step keeps vars) (rest_arm keeps vars) (Statement-F.Write id l a)
+
+  pub rest-Print : (id : ℕ) (l : ℕ) (format : Bytes) (args : List Expr) → (rest keeps vars) (t.Print id l format args) ≡ (rest_step keeps vars) (Statement-F.Print id l format args)
+  rest-Print id l format args = ap (rest keeps vars) (sym (t.rolls-Print id l format args)) ∙ fold-roll-Statement Rest Rest (rest_step keeps vars) (rest_arm keeps vars) (Statement-F.Print id l format args)
+
+  pub rest-If : (id : ℕ) (l : ℕ) (a : Expr) (b : List Statement) (c : List Statement) → (rest keeps vars) (t.If id l a b c) ≡ (rest_step keeps vars) (Statement-F.If id l a (map (rest keeps vars) b) (map (rest keeps vars) c))
+  rest-If id l a b c = ap (rest keeps vars) (sym (t.rolls-If id l a b c)) ∙ fold-roll-Statement Rest Rest (rest_step keeps vars) (rest_arm keeps vars) (Statement-F.If id l a b c)
+
+  pub rest-While : (id : ℕ) (l : ℕ) (a : Expr) (b : List Statement) → (rest keeps vars) (t.While id l a b) ≡ (rest_step keeps vars) (Statement-F.While id l a (map (rest keeps vars) b))
+  rest-While id l a b = ap (rest keeps vars) (sym (t.rolls-While id l a b)) ∙ fold-roll-Statement Rest Rest (rest_step keeps vars) (rest_arm keeps vars) (Statement-F.While id l a b)
+
+  pub rest-Do : (id : ℕ) (l : ℕ) (a : Expr) (b : List Statement) → (rest keeps vars) (t.Do id l a b) ≡ (rest_step keeps vars) (Statement-F.Do id l a (map (rest keeps vars) b))
+  rest-Do id l a b = ap (rest keeps vars) (sym (t.rolls-Do id l a b)) ∙ fold-roll-Statement Rest Rest (rest_step keeps vars) (rest_arm keeps vars) (Statement-F.Do id l a b)
+
+  pub rest-For : (id : ℕ) (l : ℕ) (i : Option Statement) (a : Expr) (step : Option Statement) (b : List Statement) → (rest keeps vars) (t.For id l i a step b) ≡ (rest_step keeps vars) (Statement-F.For id l (option_map (rest keeps vars) i) a (option_map (rest keeps vars) step) (map (rest keeps vars) b))
+  rest-For id l None a None b = ap (rest keeps vars) (sym (t.rolls-For id l None a None b)) ∙ fold-roll-Statement Rest Rest (rest_step keeps vars) (rest_arm keeps vars) (Statement-F.For id l None a None b)
+  rest-For id l None a (Some step) b = ap (rest keeps vars) (sym (t.rolls-For id l None a (Some step) b)) ∙ fold-roll-Statement Rest Rest (rest_step keeps vars) (rest_arm keeps vars) (Statement-F.For id l None a (Some step) b)
+  rest-For id l (Some i) a None b = ap (rest keeps vars) (sym (t.rolls-For id l (Some i) a None b)) ∙ fold-roll-Statement Rest Rest (rest_step keeps vars) (rest_arm keeps vars) (Statement-F.For id l (Some i) a None b)
+  rest-For id l (Some i) a (Some step) b = ap (rest keeps vars) (sym (t.rolls-For id l (Some i) a (Some step) b)) ∙ fold-roll-Statement Rest Rest (rest_step keeps vars) (rest_arm keeps vars) (Statement-F.For id l (Some i) a (Some step) b)
+
+  pub rest-Switch : (id : ℕ) (l : ℕ) (a : Expr) (arms : List Arm) → (rest keeps vars) (t.Switch id l a arms) ≡ (rest_step keeps vars) (Statement-F.Switch id l a (map arm_rest arms))
+  rest-Switch id l a arms = ap (rest keeps vars) (sym (t.rolls-Switch id l a arms)) ∙ fold-roll-Statement Rest Rest (rest_step keeps vars) (rest_arm keeps vars) (Statement-F.Switch id l a arms)
+
+  pub rest-Block : (l : ℕ) (b : List Statement) → (rest keeps vars) (t.Block l b) ≡ (rest_step keeps vars) (Statement-F.Block l (map (rest keeps vars) b))
+  rest-Block l b = ap (rest keeps vars) (sym (t.rolls-Block l b)) ∙ fold-roll-Statement Rest Rest (rest_step keeps vars) (rest_arm keeps vars) (Statement-F.Block l b)
+
+  pub rest-Return : (id : ℕ) (l : ℕ) (value : Option Expr) → (rest keeps vars) (t.Return id l value) ≡ (rest_step keeps vars) (Statement-F.Return id l value)
+  rest-Return id l value = ap (rest keeps vars) (sym (t.rolls-Return id l value)) ∙ fold-roll-Statement Rest Rest (rest_step keeps vars) (rest_arm keeps vars) (Statement-F.Return id l value)
+
+  pub rest-arm : (labels : List Label) (b : List Statement) → arm_rest (roll-Arm (record { labels = labels; body = b })) ≡ rest_arm keeps vars (record { labels = labels; body = map (rest keeps vars) b })
+  rest-arm labels b = fold-roll-Arm Rest Rest (rest_step keeps vars) (rest_arm keeps vars) (record { labels = labels; body = b })

@@ -9,18 +9,16 @@ use Rattle.c_language.specs.Rules.{IsBroken}
 use Rattle.c_language.specs.Programs.{IsTree, HasProgram, IsWithinLimits, IsWellFormed}
 use Rattle.projection.specs.Names.{body_refers, stays}
 use Rattle.projection.specs.Projection.{projection}
-use Rattle.built_forms.specs.Straight.{IsPlainItem, IsStraight}
-use Rattle.built_forms.specs.IntegerForms.{IsIntegerLocal, IsIntegerMain}
+use Rattle.built_forms.specs.IntegerForms.{IsPlainItem, IsIntegerLocal, IsIntegerMain}
 use Rattle.c_scope_laws.specs.Following.{kept_functions}
 use Rattle.c_print_laws.proofs.ForParts.{program_tidy}
 use Rattle.c_thin_trees.proofs.WellFormed.{thinned_well_formed}
 use Rattle.projection_laws.specs.Nested.{is_nested, IsNested}
 use Rattle.projection_laws.proofs.Options.{both_true, left_or}
 use Rattle.projection_laws.proofs.Going.{kept_of}
-use Rattle.projection_laws.proofs.ClosedMains.{IsFine, main_closed}
+use Rattle.projection_laws.proofs.ClosedMains.{IsFine, IsMetMain, main_closed, main_met}
 use Rattle.projection_laws.proofs.SameNumbers.{program_same, first_kept}
 use Rattle.projection_laws.proofs.SamePrograms.{projections_same, main_same, nested_same}
-use Rattle.projection_laws.proofs.StraightMains.{straight_integer, straight_nested}
 
 or_false : (b : Bool) → (b || false) ≡ true → b ≡ true
 or_false true h = refl
@@ -49,6 +47,10 @@ module _ (raw : RawProgram) (q : Program) (keeps : ℕ → Bool) (m : IsIntegerM
   abbrev locals : AllByRecursion IsIntegerLocal q.vars
   locals = recursion_from_All IsIntegerLocal q.vars m.locals
 
+  -- what is kept of its main has what it needs
+  pub text_met : IsTree raw → HasProgram raw q → IsMetMain raw vars keeps m.main.body
+  text_met tree has = main_met raw vars keeps q m.main has (program_tidy raw tree.is.grammar) plain locals m.functions_are fine
+
   text_projects : IsTree raw → HasProgram raw q → IsWithinLimits raw q → IsWellFormed (projection q keeps)
   text_projects tree has within =
       let closed = main_closed raw vars keeps q m.main has (program_tidy raw tree.is.grammar) plain locals m.functions_are fine in
@@ -60,6 +62,3 @@ pub projection_well_formed : (p : Program) (keeps : ℕ → Bool) → IsIntegerM
 projection_well_formed p keeps main nested ok =
     let w = text_projects ok.raw ok.same keeps (main_same p ok.same ok.but_lines main) (nested_same p ok.same keeps ok.but_lines nested) ok.tree ok.has ok.within in
     record { raw = w.raw; same = w.same; tree = w.tree; has = w.has; within = w.within; but_lines = projections_same p ok.same keeps ok.but_lines ∙ w.but_lines }
-
-pub straight_projection_well_formed : (p : Program) (keeps : ℕ → Bool) → IsStraight p → IsWellFormed p → IsWellFormed (projection p keeps)
-straight_projection_well_formed p keeps h ok = projection_well_formed p keeps (straight_integer p h) (straight_nested p keeps h) ok

@@ -4,25 +4,14 @@ use Rattle.c_tree.specs.declared.program.Program.{Program}
 use Rattle.c_tree.specs.Unlined.{SameButLines}
 use Rattle.c_language.specs.Programs.{IsWellFormed}
 use Rattle.projection.specs.Projection.{projection}
-use Rattle.built_forms.specs.Straight.{IsStraight}
 use Rattle.built_forms.specs.IntegerForms.{IsIntegerMain}
+use Rattle.projection.specs.Names.{stays}
 use Rattle.projection_laws.specs.Nested.{IsNested, stands_in}
+use Rattle.projection_laws.specs.Staying.{IsClear}
 
 -- the projection to statements that stand in kept ones is well-formed
 abbrev pub ProjectionIsWellFormed : Type 0
 ProjectionIsWellFormed = (p : Program) (keeps : ℕ → Bool) → IsIntegerMain p → IsNested keeps p → IsWellFormed p → IsWellFormed (projection p keeps)
-
--- a list of statements without control flow is a main over integers
-abbrev pub StraightIsInteger : Type 0
-StraightIsInteger = (p : Program) → IsStraight p → IsIntegerMain p
-
--- nothing in it stands in a statement
-abbrev pub StraightIsNested : Type 0
-StraightIsNested = (p : Program) (keeps : ℕ → Bool) → IsStraight p → IsNested keeps p
-
--- so each projection of it is well-formed
-abbrev pub StraightProjectionIsWellFormed : Type 0
-StraightProjectionIsWellFormed = (p : Program) (keeps : ℕ → Bool) → IsStraight p → IsWellFormed p → IsWellFormed (projection p keeps)
 
 -- the projections of programs that are the same but for lines are the same but for lines
 abbrev pub ProjectionsAreSame : Type 0
@@ -37,3 +26,7 @@ StandingIsNested =
 abbrev pub NestedIsStanding : Type 0
 NestedIsStanding =
     (p : Program) (keeps : ℕ → Bool) → IsNested keeps p → (outer inner : ℕ) → stands_in p outer inner ≡ true → keeps inner ≡ true → keeps outer ≡ true
+
+-- nothing stays in an if, loop or switch of a well-formed main that isn't kept, of declarations neither, but for what a for begins with
+abbrev pub NestedIsClear : Type 0
+NestedIsClear = (p : Program) (keeps : ℕ → Bool) → IsIntegerMain p → IsNested keeps p → IsWellFormed p → IsClear keeps (stays keeps p) p

@@ -4,27 +4,12 @@
 //! `specs/Nested` and of the crates below.
 #![tactic(auto)]
 
-ghost use Rattle.projection_laws.specs.Laws.{NestedIsStanding, ProjectionIsWellFormed, ProjectionsAreSame, StandingIsNested, StraightIsInteger, StraightIsNested, StraightProjectionIsWellFormed};
+ghost use Rattle.projection_laws.specs.Laws.{NestedIsClear, NestedIsStanding, ProjectionIsWellFormed, ProjectionsAreSame, StandingIsNested};
 
 /// A law: the projection of a well-formed main over integers is well-formed, where each if, loop
 /// and switch is kept in which something is.
 pub fn projection_is_well_formed()
     ensures { ProjectionIsWellFormed }
-{}
-
-/// A law: a list of statements without control flow is a main over integers.
-pub fn straight_is_integer()
-    ensures { StraightIsInteger }
-{}
-
-/// A law: nothing in it stands in a statement.
-pub fn straight_is_nested()
-    ensures { StraightIsNested }
-{}
-
-/// A law: so each projection of it is well-formed.
-pub fn straight_projection_is_well_formed()
-    ensures { StraightProjectionIsWellFormed }
 {}
 
 /// A law: the projections of programs that are the same but for lines are the same but for lines.
@@ -41,4 +26,10 @@ pub fn standing_is_nested()
 /// A law: and the other way round.
 pub fn nested_is_standing()
     ensures { NestedIsStanding }
+{}
+
+/// A law: in a well-formed main over integers nothing stays in an if, loop or switch that isn't
+/// kept, also no declaration whose variable kept text refers to, but for what a `for` begins with.
+pub fn nested_is_clear()
+    ensures { NestedIsClear }
 {}

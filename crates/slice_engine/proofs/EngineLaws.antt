@@ -1,7 +1,9 @@
 -- What the calls of an engine ask of each other.
-use Rattle.std.proofs.Common.{◌≡◌, ◌↔◌, ℕ, zero, suc, ◌+◌, ◌<◌, ◌==◌, List, [], ◌∷◌, Bool, IsTrue, sym, ap, ◌∙◌, subst, arith}
+use Rattle.std.proofs.Common.{◌≡◌, ◌↔◌, ℕ, zero, suc, ◌+◌, ◌<◌, ◌==◌, List, [], ◌∷◌, ◌≤◌, Bool, true, IsTrue, inl, inr, sym, ap, ◌∙◌, subst, arith}
 use Rattle.std.specs.Prelude.{All}
 use Rattle.std.specs.List.{list_any}
+use Rattle.std.proofs.lemmas.Bool.{eqb-true, or_cases}
+use Rattle.std.proofs.lemmas.List.Elements.{All-head, All-tail}
 use Rattle.c_tree.specs.declared.program.Program.{Program}
 use Rattle.c_tree.specs.Numbered.{Start, program_starts}
 use Rattle.dep_model.specs.declared.edge.Edge.{Edge}
@@ -26,3 +28,17 @@ low_starts n (s ∷ ss) h (suc k) d lt = low_starts n ss h.1 k d (omega (arith, 
 pub starts_below : (p : Program) (edges : List Edge) (starts : List (ℕ × ℕ)) → IsPrepared p edges starts → All (λ (s : ℕ × ℕ). s.0 + 1 < p.statements + 1) starts
 starts_below p edges starts g =
     low_starts p.statements starts (subst (AreNumbers p.statements) (sym g.starts_are) (numbers_are p g.numbered))
+
+-- ---- the last line
+
+-- none of the starts is behind the last line
+pub ends_by : (p : Program) (edges : List Edge) (starts : List (ℕ × ℕ)) → IsPrepared p edges starts → (last : ℕ) → All (λ (s : ℕ × ℕ). s.1 ≤ last) starts → (line : ℕ) → HasStart p line → line ≤ last
+ends_by p edges starts g last all line h =
+    start_low line last starts all (subst (λ (ss : List Start). list_any (λ (s : Start). s.line == line) ss ≡ true) (sym g.starts_are) (start_some line (program_starts p) h.0 h.1))
+  where
+    start_low : (line last : ℕ) (starts : List (ℕ × ℕ)) → All (λ (s : ℕ × ℕ). s.1 ≤ last) starts → list_any (λ (s : Start). s.line == line) (starts_of starts) ≡ true → line ≤ last
+    start_low line last [] all h = cc
+    start_low line last (s ∷ ss) all h = elim (or_cases (s.1 == line) (list_any (λ (x : Start). x.line == line) (starts_of ss)) h) [
+      | inl here ↦ let le = All-head (λ (x : ℕ × ℕ). x.1 ≤ last) s ss all in let is = eqb-true s.1 line here in omega (arith, le, is)
+      | inr later ↦ start_low line last ss (All-tail (λ (x : ℕ × ℕ). x.1 ≤ last) s ss all) later
+    ]

@@ -1,32 +1,22 @@
 -- What a slice keeps: the criterion's statements, and all that may define what a kept statement may use.
-use Rattle.std.proofs.Common.{◌≡◌, ℕ, suc, List, [], Bool, true, inr, refl, sym, ◌∙◌, IsTrue}
+use Rattle.std.proofs.Common.{◌≡◌, ℕ, List, [], Bool, true, inr, refl, sym, ◌∙◌, subst, IsTrue}
 use Rattle.bit_rows.specs.Sets.{has}
 use Rattle.c_tree.specs.declared.program.Program.{Program}
-use Rattle.built_forms.specs.Straight.{IsStraight}
-use Rattle.c_meaning.specs.Meaning.{main_code}
 use Rattle.dep_model.specs.declared.edge.Edge.{Edge}
-use Rattle.dep_model.specs.declared.edge.Label.TheVariants.{Flow}
-use Rattle.dep_model.proofs.PlainSteps.{Step, FlowEdge}
-use Rattle.dep_model.specs.Words.{Rises, Falls, ReachesAny}
-use Rattle.dep_model.proofs.MainGraph.{IsFlowEdge}
 use Rattle.dep_model.specs.MainVertices.{vertices}
-use Rattle.dep_model.proofs.StraightAnalysis.{main_edges}
+use Rattle.dep_model.specs.NumberedMains.{IsNumberedMain}
+use Rattle.dep_model.specs.Words.{Rises, Falls, ReachesAny}
+use Rattle.dep_model.specs.SystemGraph.{IsFlowIn}
+use Rattle.dep_model.proofs.NumberedEdges.{numbered_vertices, system_main_edges}
+use Rattle.projection_meaning.specs.Laws.{IsFlowClosed}
 use Rattle.slice_engine.specs.Slice.{starts_on, IsKept, keeps}
-use Rattle.slice_engine.proofs.Vertices.{AreBelow, chain_below, vertex_of, kept_vertex, kept_grows}
+use Rattle.slice_engine.proofs.Vertices.{kept_grows}
 
--- the kept statements are closed under flow edges
-pub flow_closed : (p : Program) (line : ℕ) (kept : List Bool) → IsStraight p → AreBelow p.statements (main_code p) → IsKept p line kept → (v w : Step) → FlowEdge (main_code p) v w → keeps p kept w.id ≡ true → keeps p kept v.id ≡ true
-flow_closed p line kept straight below k v w flow kw =
-    let b = chain_below p.statements (main_code p) flow.location v w below flow.chain in
-    let edge : Edge = record { from = suc v.id; to = suc w.id; label = Flow } in
-    let is : IsFlowEdge p (main_code p) edge = record {
-      before = v;
-      after = w;
-      labelled = refl;
-      joins = record { from_is = vertex_of p v.id b.0; to_is = vertex_of p w.id b.1 };
-      flows = flow;
-    } in
-    kept_vertex p kept v.id b.0 ∙ k.completes.closed.flows edge ((main_edges p k.analysis k.edges straight k.is_analysis k.are_edges edge).1 (inr is)) refl (sym (kept_vertex p kept w.id b.1) ∙ kw)
+-- the kept vertices have what may define a location that one of them may use
+pub flow_closed : (p : Program) (line : ℕ) (kept : List Bool) → IsNumberedMain p → (k : IsKept p line kept) → IsFlowClosed p k.analysis kept
+flow_closed p line kept n k e f h =
+    let here = subst (λ vs. IsFlowIn p k.analysis.points vs 0 e) (sym (numbered_vertices p k.analysis n k.is_analysis)) f in
+    k.completes.closed.flows e ((system_main_edges p k.analysis k.edges n k.is_analysis k.are_edges e).1 (inr here)) f.labelled h
 
 -- a vertex reaches itself
 reaches_itself : (edges : List Edge) (x : List Bool) (v : ℕ) → IsTrue (has x v) → ReachesAny edges x v

@@ -32,7 +32,7 @@ module _ (p : Program) (line : ℕ) (kept : List Bool) (well : IsWellFormed p) (
       k.completes.closed.controls e ((system_main_edges p k.analysis k.edges n k.is_analysis k.are_edges e).1 (inl here)) (labelled_control e c) h
 
   -- a statement is kept where its vertex is
-  same_keeps : (λ i. has kept (suc i)) ≡ keeps p kept
+  pub same_keeps : (λ i. has kept (suc i)) ≡ keeps p kept
   same_keeps = fun_ext (λ i. elim (cases_lt i p.statements) [
     | inl lt ↦ sym (kept_vertex p kept i lt)
     | inr ge ↦

@@ -12,32 +12,36 @@ use Rattle.std.proofs.lemmas.List.Sums.{count_by-le-length}
 use Rattle.c_language.specs.Tokens.{is_feed}
 use Rattle.c_language.specs.Layout.{layout}
 use Rattle.c_language.specs.Programs.{IsAccepted, IsWellFormed}
-use Rattle.c_tree.specs.Unlined.{unlined_program}
+use Rattle.c_tree.specs.Unlined.{unlined_program, SameButLines}
 use Rattle.c_print.specs.Lines.{line_of}
 use Rattle.c_print.specs.StartsOn.{StartsOn}
 use Rattle.c_print_laws.specs.ReadAgain.{IsReadAgain}
 use Rattle.c_print_laws.proofs.ReadAgain.{commented_is_read_again}
 use Rattle.c_print_laws.proofs.StatementStarts.{statements_start}
-use Rattle.built_forms.specs.Straight.{IsStraight}
 use Rattle.own_words.proofs.Standing.{has_own_words}
 use Rattle.dep_model.specs.NumberedMains.{IsNumberedMain}
 use Rattle.dep_model.proofs.ListLemmas.{contains_head, contains_cons}
 use Rattle.dep_model.specs.declared.edge.Edge.{Edge}
 use Rattle.projection.specs.Kept.{rank}
 use Rattle.projection.specs.Projection.{projection}
-use Rattle.slice_engine.specs.Slice.{starts_on, keeps, sliced, IsCriterion, IsLineOf, header, IsSlice, IsReadAs, IsFaithful}
+use Rattle.slice_engine.specs.Slice.{starts_on, keeps, sliced, IsCriterion, IsKept, IsLineOf, header, IsSlice, is_criterion, HasSameValues, IsReadAs, IsFaithful}
 use Rattle.slice_engine.specs.Criterion.{starts_of, with_starts, by_rank, shown_lines}
 use Rattle.slice_engine.specs.Engine.{IsPrepared, AreMarks, KeepsFrom, IsSlicedAt}
 use Rattle.slice_engine.proofs.CriterionLaws.{criterion_is, kept_past, empty_long}
 use Rattle.slice_engine.proofs.CriterionLemmas.{length-with_starts}
 use Rattle.slice_engine.proofs.Vertices.{kept_vertex}
-use Rattle.slice_engine.proofs.Kept.{criterion_kept}
+use Rattle.slice_engine.proofs.Kept.{criterion_kept, flow_closed}
+use Rattle.slice_engine.proofs.CriterionRanks.{criterion_rank}
 use Rattle.slice_engine.proofs.RankTests.{at_mark, at_rank, of_rank, length-by_rank}
-use Rattle.slice_engine.proofs.Nesting.{kept_nested, slice_well_formed}
+use Rattle.slice_engine.proofs.Nesting.{same_keeps, kept_nested, slice_well_formed}
 use Rattle.slice_engine.proofs.StartNumbers.{numbers_are}
 use Rattle.slice_engine.proofs.HeaderLines.{shown_at, at_shown}
 use Rattle.slice_engine.proofs.HeaderLemmas.{AreShort, inside, inside_feedless, inside_starless, header_is_comment}
-use Rattle.slice_engine.proofs.SameValues.{same_values_but_lines}
+use Rattle.projection_meaning.specs.SameValues as values
+use Rattle.projection_meaning.specs.SameValues.{StandFor}
+use Rattle.projection_meaning.specs.Laws.{keeps_of}
+use Rattle.projection_meaning.proofs.SameValues.{same_values}
+use Rattle.projection_laws.specs.Nested.{IsNested}
 
 -- ---- marks
 
@@ -77,8 +81,8 @@ criterion_long line v starts x e = ap length e ∙ length-with_starts line (star
 -- ---- the program of the slice
 
 module _ (p : Program) (line : ℕ) (wanted marks : List Bool) (m : AreMarks p line wanted marks) where
-  same_keeps : keeps p m.kept ≡ at_mark marks
-  same_keeps = fun_ext (λ i. sym (m.marks_are i))
+  keeps_marked : keeps p m.kept ≡ at_mark marks
+  keeps_marked = fun_ext (λ i. sym (m.marks_are i))
 
   long : length wanted ≡ length marks
   long = m.wanted_long ∙ sym m.marks_long
@@ -87,12 +91,12 @@ module _ (p : Program) (line : ℕ) (wanted marks : List Bool) (m : AreMarks p l
   is_sliced q ranks is ranks_are = record {
     kept = m.kept;
     is_kept = m.is_kept;
-    program_is = is ∙ ap (projection p) (sym same_keeps);
+    program_is = is ∙ ap (projection p) (sym keeps_marked);
     wanted_long = ap length ranks_are ∙ length-by_rank marks wanted long ∙ ap (rank (at_mark marks)) m.marks_long ∙ sym (ap (λ (x : Program). x.statements) is);
-    wanted_are = λ i k. ap (λ (f : ℕ → Bool). at_mark ranks (rank f i)) same_keeps ∙ ap (λ xs. at_mark xs (rank (at_mark marks) i)) ranks_are ∙ at_rank marks wanted i long (m.marks_are i ∙ k) ∙ m.wanted_are i;
+    wanted_are = λ i k. ap (λ (f : ℕ → Bool). at_mark ranks (rank f i)) keeps_marked ∙ ap (λ xs. at_mark xs (rank (at_mark marks) i)) ranks_are ∙ at_rank marks wanted i long (m.marks_are i ∙ k) ∙ m.wanted_are i;
     wanted_only = λ r h.
         let w = of_rank marks wanted r (ap (λ xs. at_mark xs r) (sym ranks_are) ∙ h) in
-        (w.0, sym (m.marks_are w.0) ∙ w.1, ap (λ f. rank f w.0) same_keeps ∙ w.2);
+        (w.0, sym (m.marks_are w.0) ∙ w.1, ap (λ f. rank f w.0) keeps_marked ∙ w.2);
   }
 
 -- ---- its text
@@ -199,14 +203,28 @@ module _ (p : Program) (line : ℕ) (q : Program) (wanted : List Bool) (well : I
         own_words = has_own_words p (keeps p s.kept) (kept_nested p line s.kept well numbered s.is_kept);
       }
 
--- a straight-line program gives the same values as what is read of its slice
-pub is_faithful : (p : Program) (line : ℕ) (text : Bytes) → IsStraight p → IsReadAs p line text → IsFaithful p line text
-is_faithful p line text straight r = record {
+-- ---- the same values
+
+-- what is kept gives the values of the program
+same_values_at : (p q : Program) (line : ℕ) (kept : List Bool) → IsWellFormed p → IsNumberedMain p → IsKept p line kept → SameButLines q (sliced p kept) → HasSameValues p line kept q
+same_values_at p q line kept well numbered k =
+    law (keeps p kept) (same_keeps p line kept well numbered k) (kept_nested p line kept well numbered k) (criterion_kept p line kept k) (criterion_rank p line kept k)
+  where
+    set : ℕ → Bool
+    set = starts_on p line
+
+    law : (keeps : ℕ → Bool) → keeps_of kept ≡ keeps → IsNested keeps p → ((i : ℕ) → set i ≡ true → keeps i ≡ true) → StandFor keeps set (is_criterion p line kept) → SameButLines q (projection p keeps) → values.HasSameValues keeps set (is_criterion p line kept) p q
+    law keeps same = subst (λ (test : ℕ → Bool). IsNested test p → ((i : ℕ) → set i ≡ true → test i ≡ true) → StandFor test set (is_criterion p line kept) → SameButLines q (projection p test) → values.HasSameValues test set (is_criterion p line kept) p q) same
+        (λ nested held stand but_lines. same_values p q k.analysis kept set (is_criterion p line kept) well numbered k.is_analysis nested (flow_closed p line kept numbered k) held stand but_lines)
+
+-- a program gives the same values as what is read of its slice
+pub is_faithful : (p : Program) (line : ℕ) (text : Bytes) → IsWellFormed p → IsNumberedMain p → IsReadAs p line text → IsFaithful p line text
+is_faithful p line text well numbered r = record {
   kept = r.kept;
   is_kept = r.is_kept;
   program = r.program;
   reads = r.reads;
   same_program = r.same_program;
   own_words = r.own_words;
-  same_values = same_values_but_lines p r.program line r.kept straight r.is_kept r.same_program;
+  same_values = same_values_at p r.program line r.kept well numbered r.is_kept r.same_program;
 }

@@ -1,5 +1,6 @@
 -- The starts of statements, list by list.
-use Rattle.std.proofs.Common.{◌≡◌, ℕ, Option, List, [], ◌∷◌, ◌++◌, refl, ap, ◌∙◌}
+use Rattle.std.proofs.Common.{◌≡◌, ℕ, ◌+◌, ◌≤◌, ◌<◌, Option, List, [], ◌∷◌, ◌++◌, length, take, get_or, All, refl, ap, ◌∙◌, arith}
+use Rattle.std.proofs.lemmas.List.Elements.{All-nil, All-cons, All-head, All-tail, All-more}
 use Rattle.std.specs.Option.{option_to_list}
 use Rattle.std.proofs.lemmas.List.{map-append}
 use Rattle.c_tree.specs.declared.expr.Expr.{Expr}
@@ -38,3 +39,13 @@ if_grown id l e a b one o p q is f g =
 pub for_grown : (id l : ℕ) (i : Option Statement) (e : Expr) (step : Option Statement) (b : List Statement) (one : Statement) (o p q r : Starts) → one ≡ s.For id l i e step b → p ≡ o ++ body_starts (option_to_list i) → q ≡ p ++ body_starts (option_to_list step) → r ≡ q ++ body_starts b → r ≡ o ++ body_starts (inner one)
 for_grown id l i e step b one o p q r is f g h =
     grown_three o p q r _ _ _ _ f g h (ap (λ x. body_starts (inner x)) is ∙ ap body_starts (inner-For id l i e step b) ∙ (body_starts-append (option_to_list i) (option_to_list step ++ b) ∙ ap (λ found. body_starts (option_to_list i) ++ found) (body_starts-append (option_to_list step) b)))
+
+-- what holds of each element still holds of it in another sense
+each_of : {X : Type 0} (P Q : X → Type 0) → ((x : X) → P x → Q x) → (xs : List X) → All P xs → All Q xs
+each_of P Q f [] all = All-nil Q
+each_of P Q f (x ∷ xs) all = All-cons Q x xs (f x (All-head P x xs all)) (each_of P Q f xs (All-tail P x xs all))
+
+-- one more start, and a line that is as late as it and as those before
+pub latest_more : (starts : List (ℕ × ℕ)) (i last new : ℕ) (none : ℕ × ℕ) → i < length starts → last ≤ new → (get_or starts i none).1 ≤ new → All (λ (s : ℕ × ℕ). s.1 ≤ last) (take i starts) → All (λ (s : ℕ × ℕ). s.1 ≤ new) (take (i + 1) starts)
+latest_more starts i last new none lt after here before =
+    All-more (λ (s : ℕ × ℕ). s.1 ≤ new) starts i none lt (each_of (λ (s : ℕ × ℕ). s.1 ≤ last) (λ (s : ℕ × ℕ). s.1 ≤ new) (λ s le. omega (arith, after, le)) (take i starts) before) here

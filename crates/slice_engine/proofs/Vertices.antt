@@ -1,96 +1,16 @@
--- The numbers of statements as vertices, and the numbers that stand in a list.
+-- The numbers of statements as vertices.
 use Rattle.std.proofs.Common.{◌≡◌, ℤ, ℕ, zero, suc, ◌+◌, ◌<◌, ◌≤◌, List, [], ◌∷◌, length, map, get_or, slice_get, Option, Some, None, Bool, true, false, ◌&&◌, inl, inr, refl, sym, ap, ◌∙◌, subst, eq-eqb, IsTrue, arith}
 use Rattle.std.proofs.lemmas.Option.{slice_get-map}
 use Rattle.std.specs.Option.{option_map}
 use Rattle.bit_rows.specs.Sets.{has}
 use Rattle.c_tree.specs.declared.program.Program.{Program}
-use Rattle.c_tree.specs.declared.statement.Statement.{Statement}
-use Rattle.c_tree.specs.declared.program.Init.TheVariants as init
-use Rattle.c_language.specs.Code.{Tests, Code, End, Opens, Plain, Fork, Loop, Leaves, Call, code}
-use Rattle.built_forms.specs.Straight.{IsBody, done, declare, begin, assign, print}
-use Rattle.dep_model.specs.declared.location.Location.{Location}
 use Rattle.dep_model.specs.declared.vertex.Vertex.{Vertex}
 use Rattle.dep_model.specs.declared.vertex.VertexKind.TheVariants.{Statement as AtStatement}
-use Rattle.dep_model.specs.Follows.{InTurn, last, more}
-use Rattle.dep_model.proofs.PlainSteps.{Step, step, start, Follows, Chain}
 use Rattle.dep_model.specs.MainVertices.{from, vertices}
 use Rattle.slice_engine.specs.KeptStatements.{is_of, is_kept}
 use Rattle.std.proofs.lemmas.Bool.{or_left, or_right, or_cases, and_from, and_parts, ne_eqb}
-use Rattle.slice_engine.proofs.Bools.{or_false}
-use Rattle.slice_engine.proofs.Codes.{code_of-Declare, code_of-Assign, code_of-Print}
+use Rattle.projection_meaning.proofs.Bools.{or_false}
 use Rattle.dep_model.specs.VertexOrder.{in_function}
-
--- ---- the numbers in a list
-
--- each statement's number is below n
-abbrev pub AreBelow : ℕ → Code → Type 0
-AreBelow n End = Unit {0}
-AreBelow n (Opens x r) = AreBelow n r
-AreBelow n (Plain i a r) = (i < n) × AreBelow n r
-AreBelow n (Fork i e c r) = (i < n) × (((v : ℤ) → AreBelow n (c v)) × AreBelow n r)
-AreBelow n (Loop i e b r) = (i < n) × (AreBelow n b × AreBelow n r)
-AreBelow n (Leaves xs r) = AreBelow n r
-AreBelow n (Call i to f args r) = (i < n) × AreBelow n r
-
-abbrev pub IsBelow : ℕ → Option Step → Type 0
-IsBelow n None = Unit {0}
-IsBelow n (Some v) = v.id < n
-
--- a body's statements are numbered from its first number up to its last
-pub body_below : (n i : ℕ) (ss : List Statement) (m j : ℕ) → IsBody n i ss m j → (i ≤ j) × AreBelow j (code ss)
-body_below n i ss m j done = (omega arith, tt)
-body_below n i ss m j (declare {l = l} {ss = rest} h) =
-    let r = body_below (n + 1) i rest m j h in
-    (r.0, subst (AreBelow j) (sym (code_of-Declare None l n init.None (code rest))) r.1)
-body_below n i ss m j (begin {l = l} {a = a} {ss = rest} sum h) =
-    let r = body_below (n + 1) (i + 1) rest m j h in
-    (omega (arith, r.0), subst (AreBelow j) (sym (code_of-Declare (Some i) l n (init.One a) (code rest))) (omega (arith, r.0), r.1))
-body_below n i ss m j (assign {l = l} {a = a} {b = b} {ss = rest} place term h) =
-    let r = body_below n (i + 1) rest m j h in
-    (omega (arith, r.0), subst (AreBelow j) (sym (code_of-Assign i l a None b (code rest))) (omega (arith, r.0), r.1))
-body_below n i ss m j (print {l = l} {format = format} {args = args} {ss = rest} built terms h) =
-    let r = body_below n (i + 1) rest m j h in
-    (omega (arith, r.0), subst (AreBelow j) (sym (code_of-Print i l format args (code rest))) (omega (arith, r.0), r.1))
-
-start_below : (n : ℕ) (c : Code) (k : Option Step) → AreBelow n c → IsBelow n k → IsBelow n (start c k)
-start_below n End k h b = b
-start_below n (Opens x r) k h b = start_below n r k h b
-start_below n (Plain i a r) k h b = h.0
-start_below n (Fork i e c r) k h b = h.0
-start_below n (Loop i e t r) k h b = h.0
-start_below n (Leaves xs r) k h b = start_below n r k h b
-start_below n (Call i to f args r) k h b = start_below n r k h.1 b
-
--- a step and what follows it
-turn_below : (n : ℕ) (s : Step) (k : Option Step) (v : Step) (w : Option Step) → s.id < n → IsBelow n k → InTurn (s ∷ []) k v w → (v.id < n) × IsBelow n w
-turn_below n s k v w lt b (inl f) = (subst (λ (u : Step). u.id < n) (sym f.0) lt, subst (IsBelow n) (sym f.1) b)
-turn_below n s k v w lt b (inr f) = absurd f
-
-follows_below : (n : ℕ) (c : Code) (k : Option Step) (v : Step) (w : Option Step) → AreBelow n c → IsBelow n k → Follows c k v w → (v.id < n) × IsBelow n w
-follows_below n End k v w h b f = elim f [ ]
-follows_below n (Opens x r) k v w h b f = follows_below n r k v w h b f
-follows_below n (Plain i a r) k v w h b (inl f) = turn_below n (step i a) (start r k) v w h.0 (start_below n r k h.1 b) f
-follows_below n (Plain i a r) k v w h b (inr f) = follows_below n r k v w h.1 b f
-follows_below n (Fork i e c r) k v w h b (inl f) =
-    turn_below n (step i (Tests e)) (start (c f.0) (start r k)) v w h.0 (start_below n (c f.0) (start r k) (h.1.0 f.0) (start_below n r k h.1.1 b)) f.1
-follows_below n (Fork i e c r) k v w h b (inr (inl f)) =
-    follows_below n (c f.0) (start r k) v w (h.1.0 f.0) (start_below n r k h.1.1 b) f.1
-follows_below n (Fork i e c r) k v w h b (inr (inr f)) = follows_below n r k v w h.1.1 b f
-follows_below n (Loop i e t r) k v w h b (inl f) =
-    turn_below n (step i (Tests e)) (start t (Some (step i (Tests e)))) v w h.0 (start_below n t (Some (step i (Tests e))) h.1.0 h.0) f
-follows_below n (Loop i e t r) k v w h b (inr (inl f)) =
-    turn_below n (step i (Tests e)) (start r k) v w h.0 (start_below n r k h.1.1 b) f
-follows_below n (Loop i e t r) k v w h b (inr (inr (inl f))) =
-    follows_below n t (Some (step i (Tests e))) v w h.1.0 h.0 f
-follows_below n (Loop i e t r) k v w h b (inr (inr (inr f))) = follows_below n r k v w h.1.1 b f
-follows_below n (Leaves xs r) k v w h b f = follows_below n r k v w h b f
-follows_below n (Call i to g args r) k v w h b (inl f) = absurd f
-follows_below n (Call i to g args r) k v w h b (inr f) = follows_below n r k v w h.1 b f
-
-pub chain_below : (n : ℕ) (c : Code) (l : Location) (v w : Step) → AreBelow n c → Chain c l v w → (v.id < n) × (w.id < n)
-chain_below n c l v w h (last f) = follows_below n c None v (Some w) h tt f
-chain_below n c l v w h (more {u = u} f k rest) =
-    ((follows_below n c None v (Some u) h tt f).0, (chain_below n c l u w h rest).1)
 
 -- ---- the vertex of a statement
 

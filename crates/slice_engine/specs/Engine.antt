@@ -3,7 +3,6 @@ use Rattle.std.specs.Prelude.{◌≡◌, ℕ, ◌+◌, ◌^◌, ◌<◌, List, B
 use Rattle.c_tree.specs.declared.program.Program.{Program}
 use Rattle.c_tree.specs.Numbered.{program_starts}
 use Rattle.c_language.specs.Programs.{IsWellFormed}
-use Rattle.built_forms.specs.Straight.{IsStraight}
 use Rattle.dep_model.specs.NumberedMains.{IsNumberedMain}
 use Rattle.dep_model.specs.declared.edge.Edge.{Edge}
 use Rattle.dep_model.specs.SystemGraph.{Analysis, IsAnalysis, AreSystemEdges}
@@ -28,11 +27,6 @@ pub record IsPrepared (p : Program) (edges : List Edge) (starts : List (ℕ × �
   pub few : p.statements + 1 < 2 ^ 32
   pub has_edges : HasEdges p edges
   pub starts_are : starts_of starts ≡ program_starts p
-
--- and of which nothing is outside the built forms
-pub record IsEngine (p : Program) (edges : List Edge) (starts : List (ℕ × ℕ)) : Type 0 where
-  pub prepared : IsPrepared p edges starts
-  pub straight : IsStraight p
 
 -- a set is the completion of what reaches another one
 pub record KeepsFrom (edges : List Edge) (criterion kept : List Bool) : Type 0 where

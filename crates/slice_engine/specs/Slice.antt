@@ -1,5 +1,5 @@
 -- The slice of a program at a line: the vertices that it keeps, its program and its text.
-use Rattle.std.specs.Prelude.{◌≡◌, ◌↔◌, ℕ, suc, ◌<◌, ◌==◌, ◌&&◌, List, [], ◌∷◌, ◌++◌, length, Bool, true, false, Contains, AllPairs, IsTrue, codes, map}
+use Rattle.std.specs.Prelude.{◌≡◌, ◌↔◌, ℕ, suc, ◌<◌, ◌==◌, ◌&&◌, List, [], ◌∷◌, ◌++◌, length, Bool, true, false, Contains, AllPairs, IsTrue, codes}
 use Rattle.std.specs.List.{list_any}
 use Rattle.std.specs.Fmt.{decimal}
 use Rattle.bit_rows.specs.Sets.{has}
@@ -11,8 +11,6 @@ use Rattle.c_language.specs.Layout.{layout}
 use Rattle.c_print.specs.Lines.{line_of}
 use Rattle.c_print.specs.StartsOn.{StartsOn}
 use Rattle.c_reader.specs.Reading.{HasProgram}
-use Rattle.c_meaning.specs.declared.event.Event.{Event}
-use Rattle.c_meaning.specs.Meaning.{Trace, Ended, meaning, at}
 use Rattle.dep_model.specs.declared.edge.Edge.{Edge}
 use Rattle.dep_model.specs.Words.{ReachesAny}
 use Rattle.dep_model.specs.Completion.{IsCompletion, NamesNone}
@@ -20,6 +18,7 @@ use Rattle.dep_model.specs.SystemGraph.{Analysis, IsAnalysis, AreSystemEdges}
 use Rattle.dep_model.specs.MainVertices.{vertices}
 use Rattle.projection.specs.Kept.{rank}
 use Rattle.projection.specs.Projection.{projection}
+use Rattle.projection_meaning.specs.SameValues as values
 use Rattle.slice_engine.specs.KeptStatements.{is_kept}
 use Rattle.own_words.specs.OwnWords.{OwnWords}
 
@@ -88,19 +87,14 @@ pub record IsSlice (p : Program) (line : ℕ) (text : Bytes) : Type 0 where
   pub are_lines : AreLines p line kept lines
   pub text_is : text ≡ header line lines ++ layout (sliced p kept)
 
--- an event with the rank of its statement
-abbrev pub ranked : (ℕ → Bool) → Event → Event
-ranked kept e = record { statement = rank kept e.statement; values = e.values }
-
 -- whether a statement of the slice is one of the criterion
 abbrev pub is_criterion : Program → ℕ → List Bool → ℕ → Bool
 is_criterion p line kept j =
     list_any (λ (s : Start). (s.line == line) && (rank (keeps p kept) s.id == j)) (program_starts p)
 
--- where a program ends within n acts, so does its slice, with the same values at the criterion
+-- a program gives the values of another at the criterion, where it is that one's slice
 abbrev pub HasSameValues : Program → ℕ → List Bool → Program → Type 0
-HasSameValues p line kept q =
-    (n : ℕ) (input : List ℕ) (t : Trace) → meaning n p input ≡ Ended t → (u : Trace) × (meaning n q input ≡ Ended u) × (at (is_criterion p line kept) u.events ≡ map (ranked (keeps p kept)) (at (starts_on p line) t.events))
+HasSameValues p line kept q = values.HasSameValues (keeps p kept) (starts_on p line) (is_criterion p line kept) p q
 
 -- a text is accepted: its program is the slice but for line numbers, and each kept statement has its own words in it
 pub record IsReadAs (p : Program) (line : ℕ) (text : Bytes) : Type 0 where

@@ -1,7 +1,6 @@
 ghost use Rattle.std.specs.Prelude.{◌≡◌, ◌≤◌, ◌+◌, ◌^◌, ◌<◌, ◌++◌, ℕ, All, IfOk, IsTrue, ◌↔◌, MatchOption, None, length};
 ghost use Rattle.bit_rows.specs.Sets.{has};
 ghost use Rattle.built_forms.specs.BuiltForms.{not_yet};
-ghost use Rattle.built_forms.specs.Straight.{IsStraight};
 ghost use Rattle.c_language.specs.Programs.{IsWellFormed};
 ghost use Rattle.c_language.specs.Layout.{layout};
 ghost use Rattle.projection.specs.Projection.{projection};
@@ -12,7 +11,7 @@ ghost use Rattle.slice_engine.specs.Engine.{IsPrepared, AreMarks, IsSlicedAt};
 use crate::criterion::{any_starts_on, by_rank, criterion_set, marks_of};
 use crate::graph::{edges_of, keep};
 use crate::header::{header, header_lines};
-use crate::starts::{Start, starts_in};
+use crate::starts::{Start, last_line, starts_in};
 use c_print::{lines_of, print};
 use c_tree::{Program, Text};
 use dep_model::Edge;
@@ -48,7 +47,7 @@ impl Model for Engine {
     ghost use Rattle.c_tree.specs.declared.program.Program.{Program};
     ghost use Rattle.c_tree.specs.contracts.program.Program.{the_row};
     ghost use Rattle.std.specs.Coded.{codes};
-    ghost use Rattle.slice_engine.specs.Engine.{IsEngine};
+    ghost use Rattle.slice_engine.specs.Engine.{IsPrepared};
 
     ghost Value = { Program };
 
@@ -56,11 +55,12 @@ impl Model for Engine {
 
     ghost view = { λ e. e.program };
 
-    ghost invariant = { λ e. IsEngine e.program e.edges.items e.starts.items };
+    ghost invariant = { λ e. IsPrepared e.program e.edges.items e.starts.items };
 }
 
 impl Engine {
-    /// The engine of a program of which nothing is outside the built forms, as [`not_yet`](crate::not_yet) tells.
+    /// The engine of a program of which nothing is outside the built forms, as [`not_yet`](crate::not_yet) tells:
+    /// main alone over integers, with any control flow.
     ///
     /// # Errors
     ///
@@ -92,6 +92,13 @@ impl Engine {
         } else {
             None
         }
+    }
+
+    /// A line behind which no statement starts.
+    pub fn last_line(&self) -> u32
+        ensures { (line : ℕ) → HasStart self.now line → line ≤ result }
+    {
+        last_line(&self.starts)
     }
 
     /// The text of the slice: a header, and the layout of the program that the kept statements

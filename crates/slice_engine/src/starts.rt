@@ -1,5 +1,5 @@
 //! The numbered statements of a program with the lines on which they start.
-ghost use Rattle.std.specs.Prelude.{◌≡◌, [], ◌∷◌, ◌++◌, IfOk, OnOk};
+ghost use Rattle.std.specs.Prelude.{◌≡◌, ◌≤◌, [], ◌∷◌, ◌++◌, All, IfOk, OnOk};
 ghost use Rattle.std.specs.Option.{option_to_list};
 ghost use Rattle.c_tree.specs.Numbered.{starts, body_starts, function_starts, program_starts, own_start, inner, arms_inner};
 ghost use Rattle.slice_engine.specs.Criterion.{starts_of};
@@ -37,6 +37,24 @@ fn among(found: &mut Vec<Start>, list: &[Statement]) -> Result<(), AllocError>
         within(found, one)?;
     }
     Ok(())
+}
+
+/// A line behind which none of some statements starts.
+pub(crate) fn last_line(starts: &[Start]) -> u32
+    ensures { All (λ s. s.1 ≤ result) starts.now }
+{
+    let mut last = 0;
+    for (_, at) in starts {
+        last = later(last, *at);
+    }
+    last
+}
+
+fn later(one: u32, other: u32) -> u32
+    ensures one { one ≤ result }
+    ensures other { other ≤ result }
+{
+    if one < other { other } else { one }
 }
 
 // The start of a statement itself, where it has a number.

@@ -3,7 +3,23 @@
 #![tactic(auto)]
 
 #[cfg(test)]
+mod branch_tests;
+#[cfg(test)]
 mod built_tests;
+#[cfg(test)]
+mod carried_tests;
+#[cfg(test)]
+mod choice_tests;
+#[cfg(test)]
+mod control_tests;
+#[cfg(test)]
+mod for_tests;
+#[cfg(test)]
+mod integer_tests;
+#[cfg(test)]
+mod line_tests;
+#[cfg(test)]
+mod nesting_tests;
 #[cfg(test)]
 mod order_tests;
 #[cfg(test)]

@@ -99,3 +99,18 @@ pub(crate) fn ends<R: std::process::Abort + AllocGlobal>(
     assert_eq!(rt; ended.err.bytes(), err.as_bytes(), "{line} of {text}");
     Ok(())
 }
+
+/// A text, the words, and the slice.
+pub(crate) type Row<'a> = (&'a str, &'a str, &'a str);
+
+/// The words over each of these texts end well, and out has gained the slice.
+pub(crate) fn all_end<R: std::process::Abort + AllocGlobal>(
+    rt: &R,
+    rows: &[Row<'_>],
+) -> Result<(), Fail> {
+    for row in rows.iter() {
+        let (text, line, out) = *row;
+        ends(rt, text, line, (Status::Done, out, ""))?;
+    }
+    Ok(())
+}

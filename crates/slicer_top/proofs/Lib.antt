@@ -1,5 +1,4 @@
 pub mod Files
-pub mod LastStarts
 pub mod Lines
 pub mod Numbers
 pub mod ReaderLaws

@@ -3,7 +3,6 @@ pub mod Limits
 pub mod Lines
 pub mod Reports
 pub mod Slices
-pub mod Starts
 pub mod Statuses
 pub mod Truths
 pub mod Words

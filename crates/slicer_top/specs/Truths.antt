@@ -27,7 +27,7 @@ pub data IsTrueOf (text : Bytes) (asked : ℕ) : Status → Bytes → Type 0 whe
   syntax : (at : ℕ) → HasParseFault text (parse.Syntax at) → IsTrueOf text asked Refused (line.syntax at)
   -- that rule is broken at that line
   rule : (number at : ℕ) → HasRuleFault text (fault.Rule number at) → IsTrueOf text asked Refused (line.rule at number)
-  -- what stands first outside the built forms stands at that line
+  -- what stands first outside the built forms stands at that line, or has none in the tree, and what stands for it does
   not_yet : (at : ℕ) {p : Program} → HasProgram text p → forms.not_yet p ≡ Some at → IsTrueOf text asked Refused (line.not_yet at)
   -- on the line starts no statement
   no_start : LacksStart text asked → IsTrueOf text asked Refused (line.no_start asked)

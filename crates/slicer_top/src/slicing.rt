@@ -1,18 +1,15 @@
 // From the name of a file to the text of a slice.
-ghost use Rattle.std.specs.Prelude.{◌≡◌, ℕ, ◌<◌, ◌≤◌, ◌^◌, All, IfOk, IfErr, MatchOption, length};
+ghost use Rattle.std.specs.Prelude.{◌≡◌, ℕ, ◌≤◌, IfOk, IfErr, MatchOption, length};
 ghost use Rattle.edge_io.specs.Contents.{Lacks};
-ghost use Rattle.built_forms.specs.Straight.{IsStraight};
 ghost use Rattle.c_reader.specs.Reading.{HasProgram};
 ghost use Rattle.slice_engine.specs.Slice.{HasStart};
 ghost use Rattle.slicer_top.specs.Files.{OfFile};
 ghost use Rattle.slicer_top.specs.Slices.{HasBuilt, IsSliceOf};
-ghost use Rattle.slicer_top.specs.Starts.{StartsBy, EndsBy};
 ghost use Rattle.slicer_top.specs.Reports.{IsReason, IsCause};
 
 use crate::refusal::Refusal;
 use crate::words::Request;
-use c_tree::numbered::own_start;
-use c_tree::{Program, Statement};
+use c_tree::Program;
 use edge_io::{FetchFault, Shelf, Text};
 use slice_engine::{Criterion, Engine, ReadRefusal, not_yet, read_program};
 use std::alloc::Global;
@@ -50,9 +47,8 @@ fn slice_text_at(alloc: Global, text: &[u8], line: u64) -> Result<Text, Refusal>
     ensures err { IfErr result (IsReason text.now line) }
 {
     let program = built(alloc, text)?;
-    let last = last_start(&program);
     let engine = Engine::new(alloc, program)?;
-    let Some(criterion) = criterion_at(&engine, last, line) else {
+    let Some(criterion) = criterion_at(&engine, line) else {
         return Err(Refusal::NoStart);
     };
     let written = engine.slice_text(alloc, criterion)?;
@@ -87,51 +83,11 @@ fn read(alloc: Global, text: &[u8]) -> Result<Program, Refusal>
     }
 }
 
-// The last line on which a statement of main starts, 0 where none does.
-fn last_start(program: &Program) -> u32
-    requires { IsStraight program.now }
-    ensures { EndsBy result program.now }
-{
-    match program.functions.get(0) {
-        Some(main) => last_in(main.body.as_slice()),
-        None => 0,
-    }
-}
-
-// The last line on which one of these statements starts, 0 where none does.
-fn last_in(body: &[Statement]) -> u32
-    ensures { All (StartsBy result) body.now }
-{
-    let mut last = 0;
-    for one in body {
-        last = later(last, line_of(one));
-    }
-    last
-}
-
-fn later(one: u32, other: u32) -> u32
-    ensures one { one ≤ result }
-    ensures other { other ≤ result }
-{
-    if one < other { other } else { one }
-}
-
-// The line on which a statement starts, 0 where it has no number.
-fn line_of(one: &Statement) -> u32
-    ensures { StartsBy result one.now }
-{
-    match own_start(one) {
-        Some((_, line)) => line,
-        None => 0,
-    }
-}
-
 // The criterion of a line, `None` where no statement starts there.
-fn criterion_at(engine: &Engine, last: u32, line: u64) -> Option<Criterion>
-    requires { EndsBy last engine.now }
+fn criterion_at(engine: &Engine, line: u64) -> Option<Criterion>
     ensures { MatchOption result (HasStart engine.now line → ⊥) (λ c. (c.line ≡ line) × HasStart engine.now line) }
 {
-    if line > u64::from(last) {
+    if line > u64::from(engine.last_line()) {
         return None;
     }
     match u32::try_from(line) {

@@ -1,19 +1,15 @@
 use Rattle.std.proofs.Common.{arith}
-use Rattle.dep_model.proofs.StraightNumbered.{straight_numbered}
-use Rattle.slice_engine.proofs.WellFormed.{straight_of}
+use Rattle.integer_texts.proofs.BuiltMains.{built_numbered}
 use Rattle.slice_engine.proofs.engine.Engine.new.Goals as goal
 
 pub edges_of-requires-clause-numbered : goal.edges_of-requires-clause-numbered
-edges_of-requires-clause-numbered c = straight_numbered c.args.p (straight_of c.args.p c.requires.well_formed c.requires.built)
+edges_of-requires-clause-numbered c = built_numbered c.args.p c.requires.well_formed c.requires.built
 
 pub invariant_of-result : goal.invariant_of-result
 invariant_of-result c = record {
-  prepared = record {
-    well_formed = c.requires.well_formed;
-    numbered = straight_numbered c.args.p (straight_of c.args.p c.requires.well_formed c.requires.built);
-    few = omega (arith, c.if-p-gt-MAX_STATEMENTS.false);
-    has_edges = c.in_ok-edges.ensures;
-    starts_are = c.in_ok-starts.ensures;
-  };
-  straight = straight_of c.args.p c.requires.well_formed c.requires.built;
+  well_formed = c.requires.well_formed;
+  numbered = built_numbered c.args.p c.requires.well_formed c.requires.built;
+  few = omega (arith, c.if-p-gt-MAX_STATEMENTS.false);
+  has_edges = c.in_ok-edges.ensures;
+  starts_are = c.in_ok-starts.ensures;
 }

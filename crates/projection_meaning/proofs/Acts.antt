@@ -1,0 +1,474 @@
+-- Acts: they read what they use, and store into what they define; a kept act does the same by other numbers.
+use Rattle.std.proofs.Common.{◌≡◌, ℕ, ◌==◌, ◌||◌, pos, List, [], ◌∷◌, map, Option, Some, None, Bool, true, false, ◌⊎◌, inl, inr, refl, sym, ap, ◌∙◌, subst, eq-eqb}
+use mathlib.Core.Path.{subst₂}
+use Rattle.std.proofs.lemmas.Bool.Decides.{eqb_tells}
+use Rattle.std.specs.Prelude.{option_map, if◌then◌else◌}
+use Rattle.c_arith.specs.declared.int_type.IntType.TheVariants.{Int, UChar}
+use Rattle.c_arith.specs.declared.operators.BinaryOp.{BinaryOp}
+use Rattle.c_arith.specs.IntType.{convert}
+use Rattle.c_tree.specs.declared.expr.Expr.{Expr}
+use Rattle.c_tree.specs.declared.program.Init.{Init}
+use Rattle.c_tree.specs.declared.program.Init.TheVariants as init
+use Rattle.c_tree.specs.declared.statement.Amount.{Amount}
+use Rattle.c_tree.specs.declared.statement.Amount.TheVariants as amount
+use Rattle.c_tree.specs.declared.statement.Target.{Target}
+use Rattle.c_tree.specs.declared.statement.Target.TheVariants as target
+use Rattle.c_language.specs.declared.expr_type.ExprType.{ExprType}
+use Rattle.c_language.specs.DeclaredTypes.{integer}
+use Rattle.c_language.specs.Code.{Act, Begins, Sets, Bumps, Fetches, Writes, Prints, Allocates, Frees, Returns, Tests}
+use Rattle.c_meaning.specs.declared.value.Value.{Value}
+use Rattle.c_meaning.specs.declared.value.Value.TheVariants.{Number}
+use Rattle.c_meaning.specs.Memory.{is_live}
+use Rattle.c_meaning.specs.Values.{Types, State, whole, tested, as_type, binary_value, type_of, eval, beside, eval_all}
+use Rattle.c_meaning.specs.Acts.{Made, shows, storing, if_live, writable, assigned, begun_with, right_of, set_by, bump, bumped, put_out, printed_all, as_result, shown_result, made, stored, after}
+use Rattle.c_meaning.proofs.Frames.{variable_value, IsFramed, after_write, written_here, written_elsewhere, written_framed}
+use Rattle.dep_model.specs.declared.location.Location.{Location}
+use Rattle.dep_model.specs.declared.location.Root.{Root}
+use Rattle.dep_model.specs.declared.location.Root.TheVariants.{Input, Variable, Site, Result}
+use Rattle.dep_model.specs.declared.location.Part.{Part}
+use Rattle.dep_model.proofs.PlainEffects as effect
+use Rattle.dep_model.proofs.PlainEffects.{variable, is_root_of, is_whole, is_variable, is_input_root, is_input, is_result_root, is_result, reads, any_reads, init_reads, compound_reads, amount_reads, value_reads, target_places, uses, defines, kills}
+use Rattle.projection_meaning.proofs.Targets.{place, target_place, begun_target, act_target}
+use Rattle.projection.specs.Names.{names, any_names, init_names, target_names, size_names, amount_names, value_names}
+use Rattle.projection_meaning.proofs.CodeNames.{act_names}
+use Rattle.projection.specs.Renumbering.{renamed, renamed_init}
+use Rattle.std.proofs.lemmas.Bool.{or_left, or_right, or_cases}
+use Rattle.projection_meaning.proofs.Bools.{two}
+use Rattle.projection_meaning.proofs.Exprs.{one_variable, is_its_variable, eval_same, place_of, designates, reads_named, some_inj, left_of, place_renamed}
+use Rattle.projection_meaning.proofs.Projecting.{renamed_act}
+
+-- ---- what an act uses, it names; what it kills, it may define
+
+any_reads_named : (es : List Expr) (l : Location) (x : ℕ) → any_reads es l ≡ true → is_variable x l ≡ true → any_names es x ≡ true
+any_reads_named [] l x h k = h
+any_reads_named (e ∷ es) l x h k =
+    elim (or_cases (reads e l) (any_reads es l) h) [
+      | inl a ↦ or_left (names e x) (any_names es x) (reads_named e l x a k)
+      | inr b ↦ or_right (names e x) (any_names es x) (any_reads_named es l x b k)
+    ]
+
+init_reads_named : (i : Init) (l : Location) (x : ℕ) → init_reads i l ≡ true → is_variable x l ≡ true → init_names i x ≡ true
+init_reads_named init.None l x h k = h
+init_reads_named (init.One e) l x h k = reads_named e l x h k
+init_reads_named (init.Items es) l x h k = any_reads_named es l x h k
+
+compound_named : (op : Option BinaryOp) (left : Expr) (l : Location) (x : ℕ) → compound_reads op left l ≡ true → is_variable x l ≡ true → names left x ≡ true
+compound_named None left l x h k = cc
+compound_named (Some op) left l x h k = reads_named left l x h k
+
+amount_reads_named : (n : Amount) (l : Location) (x : ℕ) → amount_reads n l ≡ true → is_variable x l ≡ true → amount_names n x ≡ true
+amount_reads_named (amount.Size t) l x h k = cc
+amount_reads_named (amount.CountSize e t) l x h k = or_left (names e x) (size_names t x) (reads_named e l x h k)
+amount_reads_named (amount.SizeCount t e) l x h k = or_right (size_names t x) (names e x) (reads_named e l x h k)
+amount_reads_named (amount.Count e) l x h k = reads_named e l x h k
+
+value_reads_named : (o : Option Expr) (l : Location) (x : ℕ) → value_reads o l ≡ true → is_variable x l ≡ true → value_names o x ≡ true
+value_reads_named None l x h k = cc
+value_reads_named (Some e) l x h k = reads_named e l x h k
+
+-- no variable is the input or a result
+whole_root : (ps : List Part) (b : Bool) → is_whole ps b ≡ true → b ≡ true
+whole_root [] b h = h
+whole_root (p ∷ ps) b h = cc
+
+not_input_root : (r : Root) (x : ℕ) → is_input_root r ≡ true → is_root_of x r ≡ true → ⊥
+not_input_root Input x h k = cc
+not_input_root (Variable y) x h k = cc
+not_input_root (Site i) x h k = cc
+not_input_root (Result f) x h k = cc
+
+not_result_root : (r : Root) (x : ℕ) → is_result_root r ≡ true → is_root_of x r ≡ true → ⊥
+not_result_root Input x h k = cc
+not_result_root (Variable y) x h k = cc
+not_result_root (Site i) x h k = cc
+not_result_root (Result f) x h k = cc
+
+not_input : (l : Location) (x : ℕ) → is_input l ≡ true → is_variable x l ≡ true → ⊥
+not_input l x h k = not_input_root l.root x (whole_root l.path _ h) (whole_root l.path _ k)
+
+not_result : (l : Location) (x : ℕ) → is_result l ≡ true → is_variable x l ≡ true → ⊥
+not_result l x h k = not_result_root l.root x (whole_root l.path _ h) (whole_root l.path _ k)
+
+pub uses_named : (a : Act) (l : Location) (x : ℕ) → uses a l ≡ true → is_variable x l ≡ true → act_names a x ≡ true
+uses_named (Begins y i) l x h k = or_right (y == x) (init_names i x) (init_reads_named i l x h k)
+uses_named (Sets left op right) l x h k =
+    elim (or_cases (compound_reads op left l) (reads right l) h) [
+      | inl a ↦ or_left (names left x) (names right x) (compound_named op left l x a k)
+      | inr b ↦ or_right (names left x) (names right x) (reads_named right l x b k)
+    ]
+uses_named (Bumps left up) l x h k = reads_named left l x h k
+uses_named (Fetches to) l x h k = absurd (not_input l x h k)
+uses_named (Writes e) l x h k = reads_named e l x h k
+uses_named (Prints format args) l x h k = any_reads_named args l x h k
+uses_named (Allocates to n) l x h k = or_right (target_names to x) (amount_names n x) (amount_reads_named n l x h k)
+uses_named (Frees e) l x h k = reads_named e l x h k
+uses_named (Returns e) l x h k = value_reads_named e l x h k
+uses_named (Tests e) l x h k = reads_named e l x h k
+
+target_may_store : (to : Target) (l : Location) → effect.target_names to l ≡ true → target_places to l ≡ true
+target_may_store target.None l h = h
+target_may_store (target.Place e) l h = (left_of e).may_store l h
+target_may_store (target.Declared x) l h = h
+
+pub kills_defined : (a : Act) (l : Location) → kills a l ≡ true → defines a l ≡ true
+kills_defined (Begins x i) l h = h
+kills_defined (Sets left op right) l h = (left_of left).may_store l h
+kills_defined (Bumps left up) l h = (left_of left).may_store l h
+kills_defined (Fetches to) l h =
+    elim (or_cases (is_input l) (effect.target_names to l) h) [
+      | inl a ↦ or_left (is_input l) (target_places to l) a
+      | inr b ↦ or_right (is_input l) (target_places to l) (target_may_store to l b)
+    ]
+kills_defined (Writes e) l h = h
+kills_defined (Prints format args) l h = h
+kills_defined (Allocates to n) l h = target_may_store to l h
+kills_defined (Frees e) l h = h
+kills_defined (Returns e) l h = h
+kills_defined (Tests e) l h = h
+
+-- ---- the variable that an act stores in
+
+target_killed : (to : Target) (x : ℕ) (l : Location) → effect.target_names to l ≡ true → is_variable x l ≡ true → target_place to ≡ Some x
+target_killed target.None x l h k = cc
+target_killed (target.Place e) x l h k = (left_of e).alone_it x l h k
+target_killed (target.Declared y) x l h k = ap Some (one_variable y x l h k)
+
+-- a variable that is killed is the one
+killed_target : (a : Act) (x : ℕ) (l : Location) → kills a l ≡ true → is_variable x l ≡ true → act_target a ≡ Some x
+killed_target (Begins y init.None) x l h k = cc
+killed_target (Begins y (init.One a)) x l h k = ap Some (one_variable y x l h k)
+killed_target (Begins y (init.Items as_)) x l h k = ap Some (one_variable y x l h k)
+killed_target (Sets left op right) x l h k = (left_of left).alone_it x l h k
+killed_target (Bumps left up) x l h k = (left_of left).alone_it x l h k
+killed_target (Fetches to) x l h k =
+    elim (or_cases (is_input l) (effect.target_names to l) h) [
+      | inl a ↦ absurd (not_input l x a k)
+      | inr b ↦ target_killed to x l b k
+    ]
+killed_target (Writes e) x l h k = cc
+killed_target (Prints format args) x l h k = cc
+killed_target (Allocates to n) x l h k = target_killed to x l h k
+killed_target (Frees e) x l h k = cc
+killed_target (Returns None) x l h k = cc
+killed_target (Returns (Some e)) x l h k = absurd (not_result l x h k)
+killed_target (Tests e) x l h k = cc
+
+target_stored : (to : Target) (x : ℕ) (l : Location) → target_place to ≡ Some x → is_variable x l ≡ true → target_places to l ≡ true
+target_stored target.None x l h k = cc
+target_stored (target.Place e) x l h k = (left_of e).stored x l h k
+target_stored (target.Declared y) x l h k = subst (λ z. is_variable z l ≡ true) (sym (some_inj y x h)) k
+
+-- it is one that the act may define
+target_defined : (a : Act) (x : ℕ) (l : Location) → act_target a ≡ Some x → is_variable x l ≡ true → defines a l ≡ true
+target_defined (Begins y init.None) x l h k = cc
+target_defined (Begins y (init.One a)) x l h k = subst (λ z. is_variable z l ≡ true) (sym (some_inj y x h)) k
+target_defined (Begins y (init.Items as_)) x l h k = subst (λ z. is_variable z l ≡ true) (sym (some_inj y x h)) k
+target_defined (Sets left op right) x l h k = (left_of left).stored x l h k
+target_defined (Bumps left up) x l h k = (left_of left).stored x l h k
+target_defined (Fetches to) x l h k = or_right (is_input l) (target_places to l) (target_stored to x l h k)
+target_defined (Writes e) x l h k = cc
+target_defined (Prints format args) x l h k = cc
+target_defined (Allocates to n) x l h k = target_stored to x l h k
+target_defined (Frees e) x l h k = cc
+target_defined (Returns e) x l h k = cc
+target_defined (Tests e) x l h k = cc
+
+target_named : (to : Target) (x : ℕ) → target_place to ≡ Some x → target_names to x ≡ true
+target_named target.None x h = cc
+target_named (target.Place e) x h = (left_of e).named_it x h
+target_named (target.Declared y) x h = eq-eqb y x (some_inj y x h)
+
+act_target_named : (a : Act) (x : ℕ) → act_target a ≡ Some x → act_names a x ≡ true
+act_target_named (Begins y init.None) x h = cc
+act_target_named (Begins y (init.One a)) x h = or_left (y == x) (names a x) (eq-eqb y x (some_inj y x h))
+act_target_named (Begins y (init.Items as_)) x h = or_left (y == x) (any_names as_ x) (eq-eqb y x (some_inj y x h))
+act_target_named (Sets left op right) x h = or_left (names left x) (names right x) ((left_of left).named_it x h)
+act_target_named (Bumps left up) x h = (left_of left).named_it x h
+act_target_named (Fetches to) x h = target_named to x h
+act_target_named (Writes e) x h = cc
+act_target_named (Prints format args) x h = cc
+act_target_named (Allocates to n) x h = or_left (target_names to x) (amount_names n x) (target_named to x h)
+act_target_named (Frees e) x h = cc
+act_target_named (Returns e) x h = cc
+act_target_named (Tests e) x h = cc
+
+-- ---- what an act makes
+
+-- an assignment to a variable, or to nothing
+abbrev stored_in : ExprType → Option ℕ → Option Value → State → Option Made
+stored_in t o v s = assigned t (writable s (place_of o s)) v
+
+-- what was made is a value, stored in the block of the variable
+record IsStored (t : ExprType) (o : Option ℕ) (v : Option Value) (s : State) (x : Made) : Type 0 where
+  pub variable : ℕ
+  pub block : ℕ
+  pub value : Value
+  pub variable_is : o ≡ Some variable
+  pub block_is : s.frame variable ≡ Some block
+  pub value_is : v ≡ Some value
+  pub made_is : x ≡ storing (whole block) (as_type t value)
+
+some_made : (x y : Made) → Some x ≡ Some y → x ≡ y
+some_made x y e = cc
+
+module _ (t : ExprType) (y : ℕ) (s : State) (x : Made) where
+  of_value : (b : ℕ) → s.frame y ≡ Some b → (v : Option Value) → assigned t (Some (whole b)) v ≡ Some x → IsStored t (Some y) v s x
+  of_value b is None e = cc
+  of_value b is (Some v) e = record {
+    variable = y;
+    block = b;
+    value = v;
+    variable_is = refl;
+    block_is = is;
+    value_is = refl;
+    made_is = sym (some_made _ _ e);
+  }
+
+  with_place : (b : ℕ) (v : Option Value) (l : Bool) → is_live s.memory b ≡ l → assigned t (if_live s.memory (whole b)) v ≡ assigned t (if l then Some (whole b) else None) v
+  with_place b v l e = ap (λ (k : Bool). assigned t (if k then Some (whole b) else None) v) e
+
+  of_live : (b : ℕ) → s.frame y ≡ Some b → (v : Option Value) (l : Bool) → is_live s.memory b ≡ l → assigned t (if_live s.memory (whole b)) v ≡ Some x → IsStored t (Some y) v s x
+  of_live b is v true l e = of_value b is v (sym (with_place b v true l) ∙ e)
+  of_live b is v false l e = let none = sym (with_place b v false l) ∙ e in cc
+
+  of_frame : (v : Option Value) (o : Option ℕ) → s.frame y ≡ o → assigned t (writable s (option_map whole o)) v ≡ Some x → IsStored t (Some y) v s x
+  of_frame v None is e = cc
+  of_frame v (Some b) is e = of_live b is v (is_live s.memory b) refl e
+
+is_stored : (t : ExprType) (o : Option ℕ) (v : Option Value) (s : State) (x : Made) → stored_in t o v s ≡ Some x → IsStored t o v s x
+is_stored t None v s x e = cc
+is_stored t (Some y) v s x e = of_frame t y s x v (s.frame y) refl e
+
+-- and it is made where the variable has a live block
+stores : (t : ExprType) (y b : ℕ) (v : Value) (s : State) → s.frame y ≡ Some b → is_live s.memory b ≡ true → stored_in t (Some y) (Some v) s ≡ Some (storing (whole b) (as_type t v))
+stores t y b v s is live =
+    ap (λ o. assigned t (writable s (option_map whole o)) (Some v)) is ∙ ap (λ (l : Bool). assigned t (if l then Some (whole b) else None) (Some v)) live
+
+-- ---- two memories
+
+module _ (f : ℕ → ℕ) (stays : ℕ → Bool) where
+  -- two memories hold the same at a location, where that is a variable that stays, by its new number
+  abbrev pub Same : Location → State → State → Type 0
+  Same l m n = (x : ℕ) → is_variable x l ≡ true → stays x ≡ true → variable_value x m ≡ variable_value (f x) n
+
+  -- each variable has its own block, and what stays and has begun here has begun there
+  pub record Fits (m n : State) : Type 0 where
+    pub here : IsFramed m
+    pub there : IsFramed n
+    pub begun : (x b : ℕ) → stays x ≡ true → m.frame x ≡ Some b → (c : ℕ) × (n.frame (f x) ≡ Some c)
+
+  -- variables that stay have numbers of their own
+  abbrev pub Apart : Type 0
+  Apart = (x y : ℕ) → stays x ≡ true → stays y ≡ true → f x ≡ f y → x ≡ y
+
+  -- ---- an act alone
+
+  -- what an act made is stored in its variable, or it stores nothing
+  pub data Stores (o : Option ℕ) (m : State) (v : Made) : Type 0 where
+    none : v.stores ≡ [] → Stores o m v
+    one : (x b : ℕ) (a : Value) → o ≡ Some x → m.frame x ≡ Some b → v ≡ storing (whole b) a → Stores o m v
+
+  stored_one : (t : ExprType) (o : Option ℕ) (w : Option Value) (m : State) (v : Made) → stored_in t o w m ≡ Some v → Stores o m v
+  stored_one t o w m v e =
+      let h = is_stored t o w m v e in one h.variable h.block (as_type t h.value) h.variable_is h.block_is h.made_is
+
+  -- the result of what makes something or nothing
+  from_some : {A : Type 0} (g : A → Made) (o : Option A) (v : Made) → option_map g o ≡ Some v → (a : A) × (o ≡ Some a) × (g a ≡ v)
+  from_some g None v e = cc
+  from_some g (Some a) v e = (a, refl, some_made (g a) v e)
+
+  quiet : {A : Type 0} (g : A → Made) (p : Option ℕ) (o : Option A) (m : State) (v : Made) → ((a : A) → (g a).stores ≡ []) → option_map g o ≡ Some v → Stores p m v
+  quiet g p o m v none_stored e =
+      let h = from_some g o v e in none (sym (ap (λ (x : Made). x.stores) h.2) ∙ none_stored h.0)
+
+  begun_stores : (types : Types) (x : ℕ) (i : Init) (m : State) (v : Made) → begun_with types x i m ≡ Some v → Stores (begun_target x i) m v
+  begun_stores types x init.None m v e = cc
+  begun_stores types x (init.One a) m v e = stored_one (types.variable x) (Some x) (eval types a m) m v e
+  begun_stores types x (init.Items as_) m v e = cc
+
+  set_stores : (types : Types) (left : Expr) (w : Option Value) (m : State) (v : Made) → set_by types left w m ≡ Some v → Stores (place left) m v
+  set_stores types left w m v e =
+      stored_one (type_of types left) (place left) w m v (sym (ap (λ o. assigned (type_of types left) (writable m o) w) (designates types left m)) ∙ e)
+
+  result_stores : (types : Types) (o : Option Expr) (m : State) (v : Made) → shown_result types o m ≡ Some v → Stores None m v
+  result_stores types None m v e = none (sym (ap (λ (x : Made). x.stores) (some_made _ _ e)))
+  result_stores types (Some a) m v e = quiet _ None (eval types a m) m v (λ a. refl) e
+
+  made_stores : (types : Types) (a : Act) (m : State) (v : Made) → made types a m ≡ Some v → Stores (act_target a) m v
+  made_stores types (Begins x i) m v e = begun_stores types x i m v e
+  made_stores types (Sets left op right) m v e = set_stores types left (right_of types op left right m) m v e
+  made_stores types (Bumps left up) m v e = set_stores types left (bumped types left up m) m v e
+  made_stores types (Fetches to) m v e = cc
+  made_stores types (Writes a) m v e = quiet _ None (eval types a m) m v (λ a. refl) e
+  made_stores types (Prints format args) m v e = quiet _ None (eval_all types args m) m v (λ a. refl) e
+  made_stores types (Allocates to n) m v e = cc
+  made_stores types (Frees a) m v e = cc
+  made_stores types (Returns a) m v e = result_stores types a m v e
+  made_stores types (Tests a) m v e = quiet _ None (eval types a m) m v (λ a. refl) e
+
+  unchanged : (m : State) (v : Made) → v.stores ≡ [] → after v m ≡ m
+  unchanged m v e = ap (λ ws. record m { memory = stored ws m.memory }) e
+
+  after_one : (m : State) (v : Made) (b : ℕ) (a : Value) → v ≡ storing (whole b) a → after v m ≡ after_write b a m
+  after_one m v b a e = ap (λ (x : Made). after x m) e
+
+  -- an act changes only what it may define
+  pub act_other : (types : Types) (a : Act) (m n : State) (v : Made) → made types a m ≡ Some v → Fits m n → Fits (after v m) n × ((l : Location) → defines a l ≡ false → Same l m n → Same l (after v m) n)
+  act_other types a m n v e fits = elim (made_stores types a m v e) [
+    | none e ↦ let same = sym (unchanged m v e) in (subst (λ s. Fits s n) same fits, λ l d h. subst (λ s. Same l s n) same h)
+    | one x b w at block is ↦ let same = sym (after_one m v b w is) in (
+      subst (λ s. Fits s n) same (record { here = written_framed m b w fits.here; there = fits.there; begun = fits.begun }),
+      λ l d h. subst (λ s. Same l s n) same (λ y isy sy. elim (eqb_tells x y) [
+        | inl q ↦ let t = target_defined a x l at (subst (λ z. is_variable z l ≡ true) (sym q.1) isy) in cc
+        | inr q ↦ written_elsewhere m x y b w fits.here block q.1 ∙ h y isy sy
+      ]),
+    )
+  ]
+
+  -- ---- a kept act
+
+  -- both acts store the same, each in the block of its variable, or nothing
+  pub data Both (o : Option ℕ) (m n : State) (v u : Made) : Type 0 where
+    none : o ≡ None → v.stores ≡ [] → u.stores ≡ [] → Both o m n v u
+    one : (x b c : ℕ) (a : Value) → o ≡ Some x → m.frame x ≡ Some b → n.frame (f x) ≡ Some c → v ≡ storing (whole b) a → u ≡ storing (whole c) a → Both o m n v u
+
+  -- what the other act makes, where this one made v
+  pub record Kept (o : Option ℕ) (m n : State) (made_there : Option Made) (v : Made) : Type 0 where
+    pub there : Made
+    pub is : made_there ≡ Some there
+    pub values : v.values ≡ there.values
+    pub output : v.output ≡ there.output
+    pub both : Both o m n v there
+
+  after_both : Apart → (a : Act) (m n : State) (v u : Made) → ((x : ℕ) → act_names a x ≡ true → stays x ≡ true) → Fits m n → Both (act_target a) m n v u → Fits (after v m) (after u n) × ((l : Location) → (kills a l ≡ true) ⊎ Same l m n → Same l (after v m) (after u n))
+  after_both apart a m n v u named fits (none no_target p q) =
+      let here = sym (unchanged m v p) in
+      let there = sym (unchanged n u q) in (
+        subst₂ Fits here there fits,
+        λ l h. subst₂ (Same l) here there (elim h [
+          | inl k ↦ λ y isy sy. let t = killed_target a y l k isy in cc
+          | inr s ↦ s
+        ]),
+      )
+  after_both apart a m n v u named fits (one x b c w at here there p q) =
+      let before = sym (after_one m v b w p) in
+      let behind = sym (after_one n u c w q) in
+      let sx = named x (act_target_named a x at) in (
+        subst₂ Fits before behind (record { here = written_framed m b w fits.here; there = written_framed n c w fits.there; begun = fits.begun }),
+        λ l h. subst₂ (Same l) before behind (λ y isy sy. elim (eqb_tells x y) [
+          | inl e ↦ subst (λ z. variable_value z (after_write b w m) ≡ variable_value (f z) (after_write c w n)) e.1 (written_here m x b w fits.here here ∙ sym (written_here n (f x) c w fits.there there))
+          | inr e ↦ written_elsewhere m x y b w fits.here here e.1 ∙ (elim h [ inl k ↦ absurd (e.1 (some_inj x y (sym at ∙ killed_target a y l k isy))) | inr s ↦ s y isy sy ] ∙ sym (written_elsewhere n (f x) (f y) c w fits.there there (λ same. e.1 (apart x y sx sy same))))
+        ]),
+      )
+
+  -- an assignment to a variable
+  assigned_kept : (t u : ExprType) (o : Option ℕ) (w z : Option Value) (m n : State) (v : Made) → t ≡ u → w ≡ z → ((x : ℕ) → o ≡ Some x → stays x ≡ true) → Fits m n → stored_in t o w m ≡ Some v → Kept o m n (stored_in u (option_map f o) z n) v
+  assigned_kept t u o w z m n v types values named fits e =
+      let h = is_stored t o w m v e in
+      let c = fits.begun h.variable h.block (named h.variable h.variable_is) h.block_is in
+      let stored_there = stores u (f h.variable) c.0 h.value n c.1 (fits.there.alive (f h.variable) c.0 c.1) in
+      let same_type : as_type t h.value ≡ as_type u h.value = ap (λ s. as_type s h.value) types in
+      record {
+        there = storing (whole c.0) (as_type u h.value);
+        is = two (λ p q. stored_in u (option_map f p) q n) h.variable_is (sym values ∙ h.value_is) ∙ stored_there;
+        values = ap (λ (x : Made). x.values) h.made_is ∙ ap (λ a. a ∷ []) same_type;
+        output = ap (λ (x : Made). x.output) h.made_is;
+        both = one h.variable h.block c.0 (as_type t h.value) h.variable_is h.block_is c.1 h.made_is (ap (storing (whole c.0)) (sym same_type));
+      }
+
+  -- an act that stores nothing
+  quiet_kept : (m n : State) (here there : Option Made) (v : Made) → here ≡ there → here ≡ Some v → v.stores ≡ [] → Kept None m n there v
+  quiet_kept m n here there v same e none_stored =
+      record { there = v; is = sym same ∙ e; values = refl; output = refl; both = none refl none_stored none_stored }
+
+  module _ (here there : Types) (m n : State) (agree : (x : ℕ) → stays x ≡ true → here.variable x ≡ there.variable (f x)) (results : here.result ≡ there.result) where
+    -- what is read holds the same
+    abbrev ReadsSame : (Location → Bool) → Type 0
+    ReadsSame r = (x : ℕ) → r (variable x) ≡ true → variable_value x m ≡ variable_value (f x) n
+
+    abbrev AllStay : (ℕ → Bool) → Type 0
+    AllStay named = (x : ℕ) → named x ≡ true → stays x ≡ true
+
+    same_type : (e : Expr) → AllStay (names e) → type_of here e ≡ type_of there (renamed f e)
+    same_type e named = (eval_same f here there e (λ x k. agree x (named x k))).0
+
+    same_value : (e : Expr) → AllStay (names e) → ReadsSame (reads e) → eval here e m ≡ eval there (renamed f e) n
+    same_value e named read = (eval_same f here there e (λ x k. agree x (named x k))).1 m n read
+
+    all_same : (es : List Expr) → AllStay (any_names es) → ReadsSame (any_reads es) → eval_all here es m ≡ eval_all there (map (renamed f) es) n
+    all_same [] named read = refl
+    all_same (e ∷ es) named read =
+        two beside (same_value e (λ x k. named x (or_left (names e x) (any_names es x) k)) (λ x r. read x (or_left (reads e (variable x)) (any_reads es (variable x)) r))) (all_same es (λ x k. named x (or_right (names e x) (any_names es x) k)) (λ x r. read x (or_right (reads e (variable x)) (any_reads es (variable x)) r)))
+
+    right_same : (op : Option BinaryOp) (left right : Expr) → AllStay (λ x. names left x || names right x) → ReadsSame (λ l. compound_reads op left l || reads right l) → right_of here op left right m ≡ right_of there op (renamed f left) (renamed f right) n
+    right_same None left right named read =
+        same_value right (λ x k. named x (or_right (names left x) (names right x) k)) (λ x r. read x (or_right false (reads right (variable x)) r))
+    right_same (Some op) left right named read =
+        let on_left : AllStay (names left) = λ x k. named x (or_left (names left x) (names right x) k) in
+        let on_right : AllStay (names right) = λ x k. named x (or_right (names left x) (names right x) k) in
+        two (λ s t. binary_value op s t (eval here left m) (eval here right m)) (same_type left on_left) (same_type right on_right) ∙ two (binary_value op (type_of there (renamed f left)) (type_of there (renamed f right))) (same_value left on_left (λ x r. read x (or_left (reads left (variable x)) (reads right (variable x)) r))) (same_value right on_right (λ x r. read x (or_right (reads left (variable x)) (reads right (variable x)) r)))
+
+    bumped_same : (left : Expr) (up : Bool) → AllStay (names left) → ReadsSame (reads left) → bumped here left up m ≡ bumped there (renamed f left) up n
+    bumped_same left up named read =
+        two (λ t a. binary_value (bump up) t (integer Int) a (Some (Number (pos 1)))) (same_type left named) (same_value left named read)
+
+    result_same : (o : Option Expr) → AllStay (value_names o) → ReadsSame (value_reads o) → shown_result here o m ≡ shown_result there (option_map (renamed f) o) n
+    result_same None named read = refl
+    result_same (Some e) named read =
+        two (λ t o. option_map (λ (v : Value). shows (as_result t v ∷ []) []) o) results (same_value e named read)
+
+    set_is : (types : Types) (left : Expr) (w : Option Value) (s : State) → set_by types left w s ≡ stored_in (type_of types left) (place left) w s
+    set_is types left w s = ap (λ o. assigned (type_of types left) (writable s o) w) (designates types left s)
+
+    set_kept : (left : Expr) (w z : Option Value) (v : Made) → w ≡ z → AllStay (names left) → Fits m n → set_by here left w m ≡ Some v → Kept (place left) m n (set_by there (renamed f left) z n) v
+    set_kept left w z v values named fits e =
+        let back : stored_in (type_of there (renamed f left)) (option_map f (place left)) z n ≡ set_by there (renamed f left) z n = ap (λ o. stored_in (type_of there (renamed f left)) o z n) (sym (place_renamed f left)) ∙ sym (set_is there (renamed f left) z n) in
+        subst (λ o. Kept (place left) m n o v) back (assigned_kept (type_of here left) (type_of there (renamed f left)) (place left) w z m n v (same_type left named) values (λ x p. named x ((left_of left).named_it x p)) fits (sym (set_is here left w m) ∙ e))
+
+    begun_kept : (x : ℕ) (i : Init) (v : Made) → AllStay (λ y. (x == y) || init_names i y) → ReadsSame (init_reads i) → Fits m n → begun_with here x i m ≡ Some v → Kept (begun_target x i) m n (begun_with there (f x) (renamed_init f i) n) v
+    begun_kept x init.None v named read fits e = cc
+    begun_kept x (init.One a) v named read fits e =
+        let sx = named x (or_left (x == x) (names a x) (eq-eqb x x refl)) in
+        assigned_kept (here.variable x) (there.variable (f x)) (Some x) (eval here a m) (eval there (renamed f a) n) m n v (agree x sx) (same_value a (λ y k. named y (or_right (x == y) (names a y) k)) read) (λ y p. subst (λ z. stays z ≡ true) (some_inj x y p) sx) fits e
+    begun_kept x (init.Items as_) v named read fits e = cc
+
+    -- stores of nothing
+    nothing_stored : {A : Type 0} (g : A → Made) (o : Option A) (v : Made) → ((a : A) → (g a).stores ≡ []) → option_map g o ≡ Some v → v.stores ≡ []
+    nothing_stored g o v none_stored e =
+        let h = from_some g o v e in sym (ap (λ (x : Made). x.stores) h.2) ∙ none_stored h.0
+
+    nothing_returned : (o : Option Expr) (v : Made) → shown_result here o m ≡ Some v → v.stores ≡ []
+    nothing_returned None v e = sym (ap (λ (x : Made). x.stores) (some_made _ _ e))
+    nothing_returned (Some a) v e = nothing_stored _ (eval here a m) v (λ a. refl) e
+
+    made_kept : (a : Act) (v : Made) → AllStay (act_names a) → ReadsSame (uses a) → Fits m n → made here a m ≡ Some v → Kept (act_target a) m n (made there (renamed_act f a) n) v
+    made_kept (Begins x i) v named read fits e = begun_kept x i v named read fits e
+    made_kept (Sets left op right) v named read fits e =
+        set_kept left (right_of here op left right m) (right_of there op (renamed f left) (renamed f right) n) v (right_same op left right named read) (λ x k. named x (or_left (names left x) (names right x) k)) fits e
+    made_kept (Bumps left up) v named read fits e =
+        set_kept left (bumped here left up m) (bumped there (renamed f left) up n) v (bumped_same left up named read) named fits e
+    made_kept (Fetches to) v named read fits e = cc
+    made_kept (Writes a) v named read fits e =
+        quiet_kept m n _ _ v (ap (option_map (λ (z : Value). put_out (convert (tested z) UChar))) (same_value a named read)) e (nothing_stored _ (eval here a m) v (λ a. refl) e)
+    made_kept (Prints format args) v named read fits e =
+        quiet_kept m n _ _ v (ap (option_map (printed_all format)) (all_same args named read)) e (nothing_stored _ (eval_all here args m) v (λ a. refl) e)
+    made_kept (Allocates to k) v named read fits e = cc
+    made_kept (Frees a) v named read fits e = cc
+    made_kept (Returns a) v named read fits e = quiet_kept m n _ _ v (result_same a named read) e (nothing_returned a v e)
+    made_kept (Tests a) v named read fits e =
+        quiet_kept m n _ _ v (ap (option_map (λ (z : Value). shows (Number (tested z) ∷ []) [])) (same_value a named read)) e (nothing_stored _ (eval here a m) v (λ a. refl) e)
+
+  -- an act that a slice keeps makes the same, and leaves the same wherever it kills or the same was there
+  pub record DoneToo (there : Types) (a : Act) (m n : State) (v : Made) : Type 0 where
+    pub made_there : Made
+    pub is : made there (renamed_act f a) n ≡ Some made_there
+    pub values : v.values ≡ made_there.values
+    pub output : v.output ≡ made_there.output
+    pub fits : Fits (after v m) (after made_there n)
+    pub same : (l : Location) → (kills a l ≡ true) ⊎ Same l m n → Same l (after v m) (after made_there n)
+
+  pub act_kept : Apart → (here there : Types) → ((x : ℕ) → stays x ≡ true → here.variable x ≡ there.variable (f x)) → here.result ≡ there.result → (a : Act) (m n : State) (v : Made) → ((x : ℕ) → act_names a x ≡ true → stays x ≡ true) → Fits m n → ((l : Location) → uses a l ≡ true → Same l m n) → made here a m ≡ Some v → DoneToo there a m n v
+  act_kept apart here there agree results a m n v named fits same e =
+      let kept = made_kept here there m n agree results a v named (λ x r. same (variable x) r x (is_its_variable x) (named x (uses_named a (variable x) x r (is_its_variable x)))) fits e in
+      let goes = after_both apart a m n v kept.there named fits kept.both in
+      record { made_there = kept.there; is = kept.is; values = kept.values; output = kept.output; fits = goes.0; same = goes.1 }

@@ -1,0 +1,289 @@
+-- Facts about expressions: what they read they name, and other numbers for their variables change nothing.
+use Rattle.std.proofs.Common.{◌≡◌, ℕ, ◌==◌, List, [], ◌∷◌, Option, Some, None, Bool, true, false, ◌||◌, inl, inr, refl, sym, ap, ◌∙◌, subst, eq-eqb}
+use mathlib.Core.Path.{subst₂}
+use Rattle.std.proofs.lemmas.Bool.{eqb-true}
+use Rattle.std.specs.Option.{option_map}
+use Rattle.c_arith.specs.declared.operators.BinaryOp.{BinaryOp}
+use Rattle.c_arith.specs.IntType.{promote}
+use Rattle.c_arith.specs.Operators.{unary_type, binary_type}
+use Rattle.c_language.specs.declared.expr_type.ExprType.{ExprType}
+use Rattle.c_language.specs.DeclaredTypes.{integer}
+use Rattle.c_language.specs.ConstantEvaluation.{operand_type}
+use Rattle.c_tree.specs.declared.expr.Expr.{Expr, fold-Expr, fold-roll-Expr, roll-Expr, map-Expr}
+use Rattle.c_tree.specs.declared.expr.Expr.TheOpen.{Expr-F}
+use Rattle.c_tree.specs.declared.expr.Expr.TheVariants as e
+use Rattle.c_meaning.specs.declared.value.Value.{Value}
+use Rattle.c_meaning.specs.declared.value.Place.{Place}
+use Rattle.c_meaning.specs.Values as meaning
+use Rattle.c_meaning.specs.Values.{Types, State, Meant, variable_place, int_type, as_type, unary_value, binary_value, and_both, or_both, chosen_type, chosen_value, meant_step, meant}
+use Rattle.c_meaning.proofs.Frames.{variable_value}
+use Rattle.projection_meaning.proofs.Targets.{place_step, place}
+use Rattle.projection_meaning.proofs.Bools.{two}
+use Rattle.dep_model.specs.declared.location.Location.{Location}
+use Rattle.dep_model.specs.declared.location.Root.{Root}
+use Rattle.dep_model.specs.declared.location.Root.TheVariants.{Input, Variable, Site, Result}
+use Rattle.dep_model.specs.declared.location.Part.{Part}
+use Rattle.dep_model.proofs.PlainEffects as effect
+use Rattle.dep_model.proofs.PlainEffects.{variable, is_root_of, is_whole, is_variable, reads_step, reads, places_step, places}
+use Rattle.projection.specs.Names.{names_step, names}
+use Rattle.projection.specs.Renumbering.{renamed_step, renamed}
+use Rattle.std.proofs.lemmas.Bool.{or_left, or_right, or_cases}
+use Rattle.projection_meaning.proofs.Trees.{ExprParts, expr_layer, of_every_expr}
+
+-- ---- locations of variables
+
+whole : (hs : List Part) (b : Bool) → is_whole hs b ≡ true → b ≡ true
+whole [] b h = h
+whole (p ∷ hs) b h = cc
+
+same_root : (x y : ℕ) (r : Root) → is_root_of x r ≡ true → is_root_of y r ≡ true → x ≡ y
+same_root x y Input h k = cc
+same_root x y (Variable z) h k = sym (eqb-true z x h) ∙ eqb-true z y k
+same_root x y (Site i) h k = cc
+same_root x y (Result f) h k = cc
+
+-- a location is that of one variable
+pub one_variable : (x y : ℕ) (l : Location) → is_variable x l ≡ true → is_variable y l ≡ true → x ≡ y
+one_variable x y l h k =
+    same_root x y l.root (whole l.path (is_root_of x l.root) h) (whole l.path (is_root_of y l.root) k)
+
+pub is_its_variable : (x : ℕ) → is_variable x (variable x) ≡ true
+is_its_variable x = eq-eqb x x refl
+
+-- ---- other numbers for the variables
+
+-- a layer with another number for its variable
+abbrev pub renamed_layer : (ℕ → ℕ) → Expr-F Expr → Expr-F Expr
+renamed_layer f (Expr-F.Variable x) = Expr-F.Variable (f x)
+renamed_layer f z = z
+
+renamed_rolls : (f : ℕ → ℕ) (z : Expr-F Expr) → renamed_step f z ≡ roll-Expr (renamed_layer f z)
+renamed_rolls f (Expr-F.Constant text t v) = sym (e.rolls-Constant text t v)
+renamed_rolls f Expr-F.Null = sym e.rolls-Null
+renamed_rolls f Expr-F.Eof = sym e.rolls-Eof
+renamed_rolls f (Expr-F.Variable x) = sym (e.rolls-Variable (f x))
+renamed_rolls f (Expr-F.Unary op a) = sym (e.rolls-Unary op a)
+renamed_rolls f (Expr-F.Deref a) = sym (e.rolls-Deref a)
+renamed_rolls f (Expr-F.AddressOf a) = sym (e.rolls-AddressOf a)
+renamed_rolls f (Expr-F.Binary op a b) = sym (e.rolls-Binary op a b)
+renamed_rolls f (Expr-F.AndAlso a b) = sym (e.rolls-AndAlso a b)
+renamed_rolls f (Expr-F.OrElse a b) = sym (e.rolls-OrElse a b)
+renamed_rolls f (Expr-F.Choose c a b) = sym (e.rolls-Choose c a b)
+renamed_rolls f (Expr-F.Cast t a) = sym (e.rolls-Cast t a)
+renamed_rolls f (Expr-F.Index a i) = sym (e.rolls-Index a i)
+renamed_rolls f (Expr-F.Member a m) = sym (e.rolls-Member a m)
+renamed_rolls f (Expr-F.Arrow a m) = sym (e.rolls-Arrow a m)
+renamed_rolls f (Expr-F.Paren a) = sym (e.rolls-Paren a)
+
+-- a renamed expression is a layer of renamed ones
+pub renamed_roll : (f : ℕ → ℕ) (z : Expr-F Expr) → renamed f (roll-Expr z) ≡ roll-Expr (renamed_layer f (map-Expr Expr Expr (renamed f) z))
+renamed_roll f z =
+    fold-roll-Expr Expr (renamed_step f) z ∙ renamed_rolls f (map-Expr Expr Expr (renamed f) z)
+
+-- a fold of a renamed expression
+pub fold_renamed : (A : Type 0) (step : Expr-F A → A) (f : ℕ → ℕ) (z : Expr-F Expr) → fold-Expr A step (renamed f (roll-Expr z)) ≡ step (map-Expr Expr A (fold-Expr A step) (renamed_layer f (map-Expr Expr Expr (renamed f) z)))
+fold_renamed A step f z =
+    ap (fold-Expr A step) (renamed_roll f z) ∙ fold-roll-Expr A step (renamed_layer f (map-Expr Expr Expr (renamed f) z))
+
+-- ---- what an expression gives
+
+-- g here is h by other numbers: it has the same type where the variables that are named have the same types, and gives the same where the variables that are read hold the same
+abbrev pub IsLike : (ℕ → ℕ) → Types → Types → (ℕ → Bool) → (Location → Bool) → Meant → Meant → Type 0
+IsLike f here there named read g h =
+    ((x : ℕ) → named x ≡ true → here.variable x ≡ there.variable (f x)) → (g.type ≡ h.type) × ((m n : State) → ((x : ℕ) → read (variable x) ≡ true → variable_value x m ≡ variable_value (f x) n) → g.value m ≡ h.value n)
+
+module _ (f : ℕ → ℕ) (here there : Types) where
+  abbrev pub Evaluated : Expr → Type 0
+  Evaluated a = IsLike f here there (names a) (reads a) (meant here a) (meant there (renamed f a))
+
+  abbrev likeness : (ℕ → Bool) → (Location → Bool) → Meant → Meant → Type 0
+  likeness = IsLike f here there
+
+  -- what a layer is here and there
+  abbrev means_here : Expr-F Expr → Meant
+  means_here z = meant_step here (map-Expr Expr Meant (meant here) z)
+
+  abbrev means_there : Expr-F Expr → Meant
+  means_there z = meant_step there (map-Expr Expr Meant (meant there) (renamed_layer f (map-Expr Expr Expr (renamed f) z)))
+
+  abbrev layer_reads : Expr-F Expr → Location → Bool
+  layer_reads z = reads_step (map-Expr Expr (Location → Bool) reads z)
+
+  abbrev layer_named : Expr-F Expr → ℕ → Bool
+  layer_named z = names_step (map-Expr Expr (ℕ → Bool) names z)
+
+  evaluated_roll : (z : Expr-F Expr) → likeness (layer_named z) (layer_reads z) (means_here z) (means_there z) → Evaluated (roll-Expr z)
+  evaluated_roll z h =
+      subst₂ (λ u g. likeness u (reads (roll-Expr z)) g (meant there (renamed f (roll-Expr z)))) (sym (fold-roll-Expr (ℕ → Bool) names_step z)) (sym (fold-roll-Expr Meant (meant_step here) z)) (subst₂ (λ r k. likeness (layer_named z) r (means_here z) k) (sym (fold-roll-Expr (Location → Bool) reads_step z)) (sym (fold_renamed Meant (meant_step there) f z)) h)
+
+  -- two operands
+  both_like : (op : BinaryOp) (a b c d : Meant) (m n : State) → a.type ≡ c.type → b.type ≡ d.type → a.value m ≡ c.value n → b.value m ≡ d.value n → binary_value op a.type b.type (a.value m) (b.value m) ≡ binary_value op c.type d.type (c.value n) (d.value n)
+  both_like op a b c d m n p q u v =
+      two (λ s t. binary_value op s t (a.value m) (b.value m)) p q ∙ two (binary_value op c.type d.type) u v
+
+  chosen_three : (t u : ExprType) (a b c d e g : Option Value) → t ≡ u → a ≡ b → c ≡ d → e ≡ g → chosen_value t a c e ≡ chosen_value u b d g
+  chosen_three t u a b c d e g p q r w =
+      two (λ s x. chosen_value s x c e) p q ∙ two (chosen_value u b) r w
+
+  evaluated_layer : (y : ExprParts Evaluated) → likeness (layer_named (expr_layer Evaluated y)) (layer_reads (expr_layer Evaluated y)) (means_here (expr_layer Evaluated y)) (means_there (expr_layer Evaluated y))
+  evaluated_layer (Expr-F.Variable x) = λ types. (types x (eq-eqb x x refl), λ m n h. h x (is_its_variable x))
+  evaluated_layer (Expr-F.Unary op a) = λ types.
+      let like = a.1 types in
+      (ap (λ t. integer (unary_type op (promote (int_type t)))) like.0, λ m n h. two (unary_value op) like.0 (like.1 m n h))
+  evaluated_layer (Expr-F.Binary op a b) = λ types.
+      let left = a.1 (λ x n. types x (or_left (names a.0 x) (names b.0 x) n)) in
+      let right = b.1 (λ x n. types x (or_right (names a.0 x) (names b.0 x) n)) in
+      (two (λ s t. integer (binary_type op (operand_type op (int_type s) (int_type t)))) left.0 right.0, λ m n h. both_like op (meant here a.0) (meant here b.0) (meant there (renamed f a.0)) (meant there (renamed f b.0)) m n left.0 right.0 (left.1 m n (λ x r. h x (or_left (reads a.0 (variable x)) (reads b.0 (variable x)) r))) (right.1 m n (λ x r. h x (or_right (reads a.0 (variable x)) (reads b.0 (variable x)) r))))
+  evaluated_layer (Expr-F.AndAlso a b) = λ types.
+      let left = a.1 (λ x n. types x (or_left (names a.0 x) (names b.0 x) n)) in
+      let right = b.1 (λ x n. types x (or_right (names a.0 x) (names b.0 x) n)) in
+      (refl, λ m n h. two and_both (left.1 m n (λ x r. h x (or_left (reads a.0 (variable x)) (reads b.0 (variable x)) r))) (right.1 m n (λ x r. h x (or_right (reads a.0 (variable x)) (reads b.0 (variable x)) r))))
+  evaluated_layer (Expr-F.OrElse a b) = λ types.
+      let left = a.1 (λ x n. types x (or_left (names a.0 x) (names b.0 x) n)) in
+      let right = b.1 (λ x n. types x (or_right (names a.0 x) (names b.0 x) n)) in
+      (refl, λ m n h. two or_both (left.1 m n (λ x r. h x (or_left (reads a.0 (variable x)) (reads b.0 (variable x)) r))) (right.1 m n (λ x r. h x (or_right (reads a.0 (variable x)) (reads b.0 (variable x)) r))))
+  evaluated_layer (Expr-F.Choose c a b) = λ types.
+      let test = c.1 (λ x n. types x (or_left (names c.0 x) (names a.0 x || names b.0 x) n)) in
+      let left = a.1 (λ x n. types x (or_right (names c.0 x) (names a.0 x || names b.0 x) (or_left (names a.0 x) (names b.0 x) n))) in
+      let right = b.1 (λ x n. types x (or_right (names c.0 x) (names a.0 x || names b.0 x) (or_right (names a.0 x) (names b.0 x) n))) in
+      let same : chosen_type (meant here a.0).type (meant here b.0).type ≡ chosen_type (meant there (renamed f a.0)).type (meant there (renamed f b.0)).type = two chosen_type left.0 right.0 in
+      (same, λ m n h. chosen_three _ _ _ _ _ _ _ _ same (test.1 m n (λ x r. h x (or_left (reads c.0 (variable x)) (reads a.0 (variable x) || reads b.0 (variable x)) r))) (left.1 m n (λ x r. h x (or_right (reads c.0 (variable x)) (reads a.0 (variable x) || reads b.0 (variable x)) (or_left (reads a.0 (variable x)) (reads b.0 (variable x)) r)))) (right.1 m n (λ x r. h x (or_right (reads c.0 (variable x)) (reads a.0 (variable x) || reads b.0 (variable x)) (or_right (reads a.0 (variable x)) (reads b.0 (variable x)) r)))))
+  evaluated_layer (Expr-F.Cast t a) = λ types.
+      let like = a.1 types in
+      (refl, λ m n h. ap (option_map (as_type (integer t))) (like.1 m n h))
+  evaluated_layer (Expr-F.Paren a) = a.1
+  evaluated_layer _ = λ types. (refl, λ m n h. refl)
+
+  -- an expression is the same by other numbers
+  pub eval_same : (a : Expr) → Evaluated a
+  eval_same = of_every_expr Evaluated (λ y. evaluated_roll (expr_layer Evaluated y) (evaluated_layer y))
+
+-- ---- the place that a left side designates
+
+-- the place of the variable that is named, if one is
+abbrev pub place_of : Option ℕ → State → Option Place
+place_of None s = None
+place_of (Some x) s = variable_place x s
+
+module _ (types : Types) where
+  abbrev Designates : Expr → Type 0
+  Designates a = (s : State) → meaning.place types a s ≡ place_of (place a) s
+
+  designates_roll : (z : Expr-F Expr) → ((s : State) → (meant_step types (map-Expr Expr Meant (meant types) z)).place s ≡ place_of (place_step (map-Expr Expr (Option ℕ) place z)) s) → Designates (roll-Expr z)
+  designates_roll z h s =
+      ap (λ (g : Meant). g.place s) (fold-roll-Expr Meant (meant_step types) z) ∙ (h s ∙ ap (λ o. place_of o s) (sym (fold-roll-Expr (Option ℕ) place_step z)))
+
+  designates_layer : (y : ExprParts Designates) → (s : State) → (meant_step types (map-Expr Expr Meant (meant types) (expr_layer Designates y))).place s ≡ place_of (place_step (map-Expr Expr (Option ℕ) place (expr_layer Designates y))) s
+  designates_layer (Expr-F.Paren a) = a.1
+  designates_layer _ = λ s. refl
+
+  pub designates : (a : Expr) → Designates a
+  designates = of_every_expr Designates (λ y. designates_roll (expr_layer Designates y) (designates_layer y))
+
+-- ---- what an expression reads, it names
+
+-- a location that is read is that of a variable that is named
+abbrev Names : (Location → Bool) → (ℕ → Bool) → Type 0
+Names read named = (l : Location) (x : ℕ) → read l ≡ true → is_variable x l ≡ true → named x ≡ true
+
+abbrev ReadsNamed : Expr → Type 0
+ReadsNamed a = Names (reads a) (names a)
+
+names_either : (r s : Location → Bool) (u v : ℕ → Bool) → Names r u → Names s v → Names (λ l. r l || s l) (λ x. u x || v x)
+names_either r s u v f g l x h k =
+    elim (or_cases (r l) (s l) h) [ inl a ↦ or_left (u x) (v x) (f l x a k) | inr b ↦ or_right (u x) (v x) (g l x b k) ]
+
+abbrev layer_names : Expr-F Expr → ℕ → Bool
+layer_names z = names_step (map-Expr Expr (ℕ → Bool) names z)
+
+named_roll : (z : Expr-F Expr) → Names (reads_step (map-Expr Expr (Location → Bool) reads z)) (layer_names z) → ReadsNamed (roll-Expr z)
+named_roll z h =
+    subst₂ Names (sym (fold-roll-Expr (Location → Bool) reads_step z)) (sym (fold-roll-Expr (ℕ → Bool) names_step z)) h
+
+named_layer : (y : ExprParts ReadsNamed) → Names (reads_step (map-Expr Expr (Location → Bool) reads (expr_layer ReadsNamed y))) (layer_names (expr_layer ReadsNamed y))
+named_layer (Expr-F.Variable y) = λ l x h k. eq-eqb y x (one_variable y x l h k)
+named_layer (Expr-F.Unary op a) = a.1
+named_layer (Expr-F.Binary op a b) = names_either (reads a.0) (reads b.0) (names a.0) (names b.0) a.1 b.1
+named_layer (Expr-F.AndAlso a b) = names_either (reads a.0) (reads b.0) (names a.0) (names b.0) a.1 b.1
+named_layer (Expr-F.OrElse a b) = names_either (reads a.0) (reads b.0) (names a.0) (names b.0) a.1 b.1
+named_layer (Expr-F.Choose c a b) =
+    names_either (reads c.0) (λ l. reads a.0 l || reads b.0 l) (names c.0) (λ x. names a.0 x || names b.0 x) c.1 (names_either (reads a.0) (reads b.0) (names a.0) (names b.0) a.1 b.1)
+named_layer (Expr-F.Cast t a) = a.1
+named_layer (Expr-F.Paren a) = a.1
+named_layer _ = λ l x h k. cc
+
+pub reads_named : (a : Expr) → ReadsNamed a
+reads_named = of_every_expr ReadsNamed (λ y. named_roll (expr_layer ReadsNamed y) (named_layer y))
+
+-- ---- the variable that a left side names
+
+-- a left side stores in the variable o; its words name others too, and it may name the places, or a name alone
+pub record IsLeft (o : Option ℕ) (named : ℕ → Bool) (stores alone : Location → Bool) : Type 0 where
+  pub named_it : (x : ℕ) → o ≡ Some x → named x ≡ true
+  pub stored : (x : ℕ) (l : Location) → o ≡ Some x → is_variable x l ≡ true → stores l ≡ true
+  pub may_store : (l : Location) → alone l ≡ true → stores l ≡ true
+  pub alone_it : (x : ℕ) (l : Location) → alone l ≡ true → is_variable x l ≡ true → o ≡ Some x
+
+abbrev LeftOf : Expr → Type 0
+LeftOf a = IsLeft (place a) (names a) (places a) (effect.names a)
+
+-- the same of a layer
+abbrev LayerLeft : Expr-F Expr → Type 0
+LayerLeft z =
+    IsLeft (place_step (map-Expr Expr (Option ℕ) place z)) (layer_names z) (places_step (map-Expr Expr (Location → Bool) places z)) (effect.names_step (map-Expr Expr (Location → Bool) effect.names z))
+
+left_roll : (z : Expr-F Expr) → LayerLeft z → LeftOf (roll-Expr z)
+left_roll z h =
+    let o = fold-roll-Expr (Option ℕ) place_step z in
+    let named = fold-roll-Expr (ℕ → Bool) names_step z in
+    let stores = fold-roll-Expr (Location → Bool) places_step z in
+    let alone = fold-roll-Expr (Location → Bool) effect.names_step z in
+    subst₂ (λ p n. IsLeft p n (places (roll-Expr z)) (effect.names (roll-Expr z))) (sym o) (sym named) (subst₂ (IsLeft (place_step (map-Expr Expr (Option ℕ) place z)) (layer_names z)) (sym stores) (sym alone) h)
+
+no_left : (named : ℕ → Bool) → IsLeft None named (λ l. false) (λ l. false)
+no_left named =
+    record { named_it = λ x e. cc; stored = λ x l e k. cc; may_store = λ l h. h; alone_it = λ x l h k. cc }
+
+pub some_inj : (x y : ℕ) → Some x ≡ Some y → x ≡ y
+some_inj x y e = cc
+
+a_variable : (y : ℕ) → IsLeft (Some y) (λ x. y == x) (is_variable y) (is_variable y)
+a_variable y = record {
+  named_it = λ x e. eq-eqb y x (some_inj y x e);
+  stored = λ x l e k. subst (λ n. is_variable n l ≡ true) (sym (some_inj y x e)) k;
+  may_store = λ l h. h;
+  alone_it = λ x l h k. ap Some (one_variable y x l h k);
+}
+
+-- parentheses store in the same variable, but are no name alone
+in_parentheses : (o : Option ℕ) (named : ℕ → Bool) (stores alone : Location → Bool) → IsLeft o named stores alone → IsLeft o named stores (λ l. false)
+in_parentheses o named stores alone h =
+    record { named_it = h.named_it; stored = h.stored; may_store = λ l k. cc; alone_it = λ x l k e. cc }
+
+left_layer : (y : ExprParts LeftOf) → LayerLeft (expr_layer LeftOf y)
+left_layer (Expr-F.Variable y) = a_variable y
+left_layer (Expr-F.Paren a) = in_parentheses (place a.0) (names a.0) (places a.0) (effect.names a.0) a.1
+left_layer _ = no_left _
+
+pub left_of : (a : Expr) → LeftOf a
+left_of = of_every_expr LeftOf (λ y. left_roll (expr_layer LeftOf y) (left_layer y))
+
+module _ (f : ℕ → ℕ) where
+  abbrev PlaceRenamed : Expr → Type 0
+  PlaceRenamed a = place (renamed f a) ≡ option_map f (place a)
+
+  abbrev LayerRenamed : Expr-F Expr → Type 0
+  LayerRenamed z =
+      place_step (map-Expr Expr (Option ℕ) place (renamed_layer f (map-Expr Expr Expr (renamed f) z))) ≡ option_map f (place_step (map-Expr Expr (Option ℕ) place z))
+
+  place_roll : (z : Expr-F Expr) → LayerRenamed z → PlaceRenamed (roll-Expr z)
+  place_roll z h =
+      fold_renamed (Option ℕ) place_step f z ∙ (h ∙ ap (option_map f) (sym (fold-roll-Expr (Option ℕ) place_step z)))
+
+  place_layer : (y : ExprParts PlaceRenamed) → LayerRenamed (expr_layer PlaceRenamed y)
+  place_layer (Expr-F.Paren a) = a.1
+  place_layer _ = refl
+
+  -- the left side stores in the variable of the new number
+  pub place_renamed : (a : Expr) → PlaceRenamed a
+  place_renamed = of_every_expr PlaceRenamed (λ y. place_roll (expr_layer PlaceRenamed y) (place_layer y))

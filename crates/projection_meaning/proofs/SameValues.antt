@@ -1,0 +1,187 @@
+-- Where a program of main alone over integers ends, its projection to a closed set ends with the same values at kept statements.
+use Rattle.std.proofs.Common.{◌≡◌, ℕ, suc, List, [], ◌∷◌, ◌++◌, map, Option, Some, None, Bool, true, false, refl, sym, ap, ◌∙◌, subst}
+use mathlib.Core.Path.{subst₂}
+use Rattle.std.specs.Prelude.{slice_get, option_map}
+use Rattle.std.specs.Option.{option_map_or}
+use Rattle.c_arith.specs.declared.int_type.IntType.TheVariants.{Int}
+use Rattle.c_tree.specs.declared.program.Program.{Program}
+use Rattle.c_tree.specs.declared.program.Function.{Function}
+use Rattle.c_tree.specs.declared.program.Var.{Var}
+use Rattle.c_tree.specs.Unlined.{SameButLines}
+use Rattle.c_language.specs.DeclaredTypes.{integer}
+use Rattle.c_language.specs.Code.{Code}
+use Rattle.c_language.specs.Programs.{IsWellFormed}
+use Rattle.c_meaning.specs.declared.value.Value.{Value}
+use Rattle.c_meaning.specs.declared.event.Event.{Event}
+use Rattle.c_meaning.specs.Values.{shape_of, Types, State, shown_of}
+use Rattle.c_meaning.specs.Acts.{Made, made}
+use Rattle.c_meaning.specs.Meaning.{Trace, Ended, opening, types_of, main_code, code_meaning, at}
+use Rattle.c_meaning.proofs.Frames.{IsFramed}
+use Rattle.dep_model.specs.declared.edge.Label.TheVariants.{Flow}
+use Rattle.dep_model.specs.declared.location.Location.{Location}
+use Rattle.dep_model.specs.NumberedMains.{IsNumberedMain}
+use Rattle.dep_model.specs.SystemGraph.{Analysis, IsAnalysis}
+use Rattle.dep_model.proofs.PlainSteps.{Step, FlowEdge, NoCalls}
+use Rattle.dep_model.proofs.PlainFlow.{plain_flow, integer_no_calls}
+use Rattle.own_words.proofs.Names.{get-projected}
+use Rattle.projection.specs.Kept.{Kept, rank}
+use Rattle.projection.specs.Names.{stays}
+use Rattle.projection.specs.Projection.{projected_functions, projected_var, kept_with, projection}
+use Rattle.projection_laws.specs.Nested as laws
+use Rattle.projection_laws.proofs.Clearing.{nested_clear}
+use Rattle.projection_meaning.specs.SameValues.{ranked, StandFor, HasSameValues}
+use Rattle.projection_meaning.specs.Laws.{keeps_of, IsFlowClosed}
+use Rattle.projection_meaning.proofs.Bools.{two, fails_too}
+use Rattle.projection_meaning.proofs.Lines.{same_main, same_types}
+use Rattle.projection_meaning.proofs.Ranks.{rank_injective}
+use Rattle.projection_meaning.proofs.Runs.{Runs}
+use Rattle.projection_meaning.proofs.Law.{Active, Setting, Shaped, Acting, Moving, Closing, Telling, Related, machine, slice_follows}
+use Rattle.projection_meaning.proofs.Places.{kind_of, number, act_of, places, NoCalls-next, NoCalls-past, Within, Within-next, Within-past, kept_at, effects, kept_act, wanted_closed}
+use Rattle.projection_meaning.proofs.Steps.{begins, meaning_runs, runs_meaning}
+use Rattle.projection_meaning.proofs.Acts.{Same, Fits, act_kept, act_other, kills_defined}
+use Rattle.projection_meaning.proofs.Projecting.{same_numbers, renamed_act, project_code, NamesStay, IsNested}
+use Rattle.projection_meaning.proofs.Shape.{shape_last, shape_kind, shape_number, shape_act, shape_next, shape_past, shape_skips_act, shape_skips_move, IsNested-next, IsNested-past, NamesStay-next, NamesStay-past, stays_here}
+use Rattle.projection_meaning.proofs.Moves.{move_both_fits, move_both, move_one_fits, move_one}
+use Rattle.projection_meaning.proofs.StatementsProject.{main_projects}
+use Rattle.projection_meaning.proofs.Events.{SameAt, both_tell, one_tells}
+
+-- ---- the types of a projection
+
+result_in : (p : Program) (keeps : ℕ → Bool) (fs : List Function) → option_map_or (λ (f : Function). option_map shape_of f.result) (slice_get fs 0) None ≡ option_map_or (λ (f : Function). option_map shape_of f.result) (slice_get (projected_functions (kept_with p keeps) same_numbers fs) 0) None
+result_in p keeps [] = refl
+result_in p keeps (f ∷ fs) = refl
+
+-- a variable in a function with another number has its type
+shape_stays : (k : Kept) (o : Option Var) → option_map_or (λ (v : Var). shape_of v.shape) (option_map (projected_var k same_numbers) o) (integer Int) ≡ option_map_or (λ (v : Var). shape_of v.shape) o (integer Int)
+shape_stays k None = refl
+shape_stays k (Some v) = refl
+
+-- kept statements that are closed under flow, and a set of them with its ranks
+module _ (p : Program) (keeps : ℕ → Bool) (closed : (v w : Step) → FlowEdge (main_code p) v w → keeps w.id ≡ true → keeps v.id ≡ true) (set ranks : ℕ → Bool) (held : (i : ℕ) → set i ≡ true → keeps i ≡ true) (stand : StandFor keeps set ranks) where
+  abbrev main : Code
+  main = main_code p
+
+  abbrev staying : ℕ → Bool
+  staying = stays keeps p
+
+  abbrev here : Types
+  here = types_of p
+
+  abbrev there : Types
+  there = types_of (projection p keeps)
+
+  -- a variable that stays keeps its type, and main its result's
+  agree : (x : ℕ) → staying x ≡ true → here.variable x ≡ there.variable (rank staying x)
+  agree x sx =
+      let k = kept_with p keeps in
+      sym (shape_stays k (slice_get p.vars x)) ∙ ap (λ o. option_map_or (λ (v : Var). shape_of v.shape) o (integer Int)) (sym (get-projected k same_numbers p.vars x sx))
+
+  results : here.result ≡ there.result
+  results = result_in p keeps p.functions
+
+  abbrev setting : Setting
+  setting = record {
+    P = Code;
+    M = State;
+    V = Made;
+    L = Location;
+    W = Unit {0};
+    original = places here;
+    slice = places there;
+    effects = effects keeps staying;
+    project = project_code keeps staying;
+    Fine = λ c. (IsNested keeps staying c × NoCalls c) × (Within main c × NamesStay keeps staying c);
+    Same = λ w. Same (rank staying) staying;
+    Fits = λ w. Fits (rank staying) staying;
+    Alike = λ w v u. v.values ≡ u.values;
+    Agree = λ a b. SameAt keeps set ranks a.events b.events;
+  }
+
+  shaped : Shaped setting
+  shaped = record {
+    fine_next = λ c v f e. ((IsNested-next keeps staying c v f.0.0, NoCalls-next c v f.0.1), (Within-next main c v f.1.0, NamesStay-next keeps staying c v f.1.1));
+    fine_past = λ c f e. ((IsNested-past keeps staying c f.0.0, NoCalls-past c f.0.1), (Within-past main c f.1.0, NamesStay-past keeps staying c f.1.1));
+    last = λ c f e. shape_last keeps staying c e;
+    kept_kind = λ c f k. shape_kind keeps staying c k;
+    kept_next = λ w c v u f e k alike. shape_next keeps staying c v u alike e k;
+    kept_past = λ c f e k. shape_past keeps staying c e k;
+    other_next = λ c v f e k. shape_skips_act keeps staying c v f.0.0 e k;
+    other_past = λ c f e k. shape_skips_move keeps staying c e k;
+  }
+
+  acting : Acting setting
+  acting = record {
+    kept = λ w c m n v f e k fits same is.
+        let h = act_kept (rank staying) staying (rank_injective staying) here there agree results (act_of c) m n v (stays_here keeps staying c f.1.1 e k) fits same is in
+        let act : renamed_act (rank staying) (act_of c) ≡ act_of (project_code keeps staying c) = sym (shape_act keeps staying c e k) in
+        record {
+          world = tt;
+          values = h.made_there;
+          made = ap (λ a. made there a n) (sym act) ∙ h.is;
+          alike = h.values;
+          fits = h.fits;
+          same = h.same;
+        };
+    other_fits = λ w c m n v f e k fits is. (act_other (rank staying) staying here (act_of c) m n v is fits).0;
+    other_same = λ w c m n v f e k fits is. (act_other (rank staying) staying here (act_of c) m n v is fits).1;
+  }
+
+  moving : Moving setting
+  moving = record {
+    kept = λ w c m n f e k fits. record { world = tt; fits = move_both_fits here there keeps staying c m n e k fits; same = λ l h. move_both here there keeps staying c m n e k fits l h };
+    other_fits = λ w c m n f e k fits. move_one_fits here there keeps staying c m n e k fits;
+    other_same = λ w c m n f e k fits l want h. move_one here there keeps staying c m n e k fits l h;
+  }
+
+  closing : Closing setting
+  closing = record {
+    killed = λ c l h. kills_defined (act_of c) l h;
+    closed = λ c v l f e want d. wanted_closed keeps staying here main closed c v l f.0.1 f.1.0 e want d;
+  }
+
+  abbrev event : Code → List Value → Event
+  event c vs = record { statement = number c; values = map shown_of vs }
+
+  abbrev Agree : List Event → List Event → Type 0
+  Agree = SameAt keeps set ranks
+
+  keeps_number : (c : Code) (b : Bool) → kind_of c ≡ Active → kept_at keeps staying c ≡ b → keeps (number c) ≡ b
+  keeps_number c b e h = sym (kept_act keeps staying c e) ∙ h
+
+  telling : Telling setting
+  telling = record {
+    both = λ w c v u a b f e h alike agrees.
+        let told_both = both_tell keeps set ranks a.events b.events (event c v.values) (stand (number c) (keeps_number c true e h)) agrees in
+        subst₂ (λ i (xs : List Value). Agree (a.events ++ event c v.values ∷ []) (b.events ++ record { statement = i; values = map shown_of xs } ∷ [])) (sym (shape_number keeps staying c e h)) alike told_both;
+    one = λ c v a b f e h agrees. one_tells keeps set ranks a.events b.events (event c v.values) (fails_too (keeps (number c)) (set (number c)) (keeps_number c false e h) (held (number c))) agrees;
+  }
+
+  none_begun : (input : List ℕ) → IsFramed (opening input)
+  none_begun input = record { alive = λ x b e. cc; apart = λ x y b e f. cc }
+
+  related : IsNested keeps staying main → NoCalls main → NamesStay keeps staying main → (input : List ℕ) → Related setting (begins here main input) (begins there (project_code keeps staying main) input)
+  related nested uncalled named input = record {
+    world = tt;
+    fine = ((nested, uncalled), (λ v w h. h, named));
+    place = refl;
+    fits = record { here = none_begun input; there = none_begun input; begun = λ x b sx e. cc };
+    same = λ l want x isx sx. refl;
+    traces = refl;
+  }
+
+  -- an end of main is an end of its projection, with the same values at the set
+  pub main_follows : IsNested keeps staying main → NoCalls main → NamesStay keeps staying main → (n : ℕ) (input : List ℕ) (t : Trace) → code_meaning here n main input ≡ Ended t → (u : Trace) × (code_meaning there n (project_code keeps staying main) input ≡ Ended u) × (at ranks u.events ≡ map (ranked keeps) (at set t.events))
+  main_follows nested uncalled named n input t ends =
+      let run = subst (Runs (machine (places here)) n (begins here main input)) ends (meaning_runs here n main input) in
+      let r = slice_follows setting shaped acting moving closing telling n (begins here main input) (begins there (project_code keeps staying main) input) t (related nested uncalled named input) run in
+      (r.second.trace, runs_meaning there n (project_code keeps staying main) input (Ended r.second.trace) r.runs, r.related.traces ∙ ap (λ (v : Trace). map (ranked keeps) (at set v.events)) r.first_trace)
+
+-- a program that is the projection but for lines gives the same values
+pub same_values : (p q : Program) (a : Analysis) (kept : List Bool) (set ranks : ℕ → Bool) → IsWellFormed p → IsNumberedMain p → IsAnalysis p a → laws.IsNested (keeps_of kept) p → IsFlowClosed p a kept
+    → ((i : ℕ) → set i ≡ true → keeps_of kept i ≡ true) → StandFor (keeps_of kept) set ranks → SameButLines q (projection p (keeps_of kept)) → HasSameValues (keeps_of kept) set ranks p q
+same_values p q a kept set ranks well numbered is nested closed held stand same n input t ends =
+    let keeps = keeps_of kept in
+    let there = main_projects p keeps numbered.integer (nested_clear p keeps numbered.integer nested well) in
+    let flow = λ (v w : Step) (f : FlowEdge (main_code p) v w) (kw : keeps w.id ≡ true). closed (record { from = suc v.id; to = suc w.id; label = Flow }) (plain_flow p a numbered is v w f) kw in
+    let r = main_follows p keeps flow set ranks held stand there.1.0 (integer_no_calls p numbered.integer) there.1.1 n input t ends in
+    (r.0, two (λ s c. code_meaning s n c input) (same_types q (projection p keeps) same) (same_main q (projection p keeps) same ∙ there.0) ∙ r.1, r.2)

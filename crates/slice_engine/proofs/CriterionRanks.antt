@@ -1,0 +1,46 @@
+-- The criterion's statements by their ranks: each is kept, and its rank stands for it alone.
+use Rattle.std.proofs.Common.{◌≡◌, ℕ, List, [], ◌∷◌, Bool, true, ◌==◌, ◌&&◌, inl, inr, refl, ap, subst, eq-eqb}
+use Rattle.std.specs.List.{list_any}
+use Rattle.std.proofs.lemmas.Bool.{eqb-true, or_left, or_right, or_cases, and_from, and_parts}
+use Rattle.c_tree.specs.declared.program.Program.{Program}
+use Rattle.c_tree.specs.Numbered.{Start, program_starts}
+use Rattle.projection.specs.Kept.{rank}
+use Rattle.projection_meaning.proofs.Bools.{both_or_none}
+use Rattle.projection_meaning.proofs.Ranks.{rank_injective}
+use Rattle.slice_engine.specs.Slice.{starts_on, IsKept, keeps, is_criterion}
+use Rattle.slice_engine.proofs.Kept.{criterion_kept}
+
+-- a test that passes in a list passes at some item, and so does each other test that passes there
+pub record Passes {A : Type 0} (test : A → Bool) (xs : List A) : Type 0 where
+  pub item : A
+  pub here : test item ≡ true
+  pub others : (other : A → Bool) → other item ≡ true → list_any other xs ≡ true
+
+passes : {A : Type 0} (test : A → Bool) (xs : List A) → list_any test xs ≡ true → Passes test xs
+passes test [] h = cc
+passes test (x ∷ xs) h =
+    elim (or_cases (test x) (list_any test xs) h) [
+      | inl a ↦ record { item = x; here = a; others = λ other b. or_left (other x) (list_any other xs) b }
+      | inr b ↦ let r = passes test xs b in record { item = r.item; here = r.here; others = λ other b. or_right (other x) (list_any other xs) (r.others other b) }
+    ]
+
+module _ (p : Program) (line : ℕ) (kept : List Bool) (k : IsKept p line kept) where
+  to_rank : (i : ℕ) → starts_on p line i ≡ true → is_criterion p line kept (rank (keeps p kept) i) ≡ true
+  to_rank i h =
+      let r = passes (λ (s : Start). (s.id == i) && (s.line == line)) (program_starts p) h in
+      let both = and_parts (r.item.id == i) (r.item.line == line) r.here in
+      let same : rank (keeps p kept) r.item.id ≡ rank (keeps p kept) i = ap (rank (keeps p kept)) (eqb-true r.item.id i both.0) in
+      r.others (λ (s : Start). (s.line == line) && (rank (keeps p kept) s.id == rank (keeps p kept) i)) (and_from (r.item.line == line) (rank (keeps p kept) r.item.id == rank (keeps p kept) i) both.1 (eq-eqb _ _ same))
+
+  from_rank : (i : ℕ) → keeps p kept i ≡ true → is_criterion p line kept (rank (keeps p kept) i) ≡ true → starts_on p line i ≡ true
+  from_rank i ki h =
+      let r = passes (λ (s : Start). (s.line == line) && (rank (keeps p kept) s.id == rank (keeps p kept) i)) (program_starts p) h in
+      let both = and_parts (r.item.line == line) (rank (keeps p kept) r.item.id == rank (keeps p kept) i) r.here in
+      let on : starts_on p line r.item.id ≡ true = r.others (λ (s : Start). (s.id == r.item.id) && (s.line == line)) (and_from (r.item.id == r.item.id) (r.item.line == line) (eq-eqb r.item.id r.item.id refl) both.0) in
+      let same : r.item.id ≡ i = rank_injective (keeps p kept) r.item.id i (criterion_kept p line kept k r.item.id on) ki (eqb-true _ _ both.1) in
+      subst (λ j. starts_on p line j ≡ true) same on
+
+  -- a kept statement is one of the criterion where its rank is one of the slice's
+  pub criterion_rank : (i : ℕ) → keeps p kept i ≡ true → is_criterion p line kept (rank (keeps p kept) i) ≡ starts_on p line i
+  criterion_rank i ki =
+      both_or_none (is_criterion p line kept (rank (keeps p kept) i)) (starts_on p line i) (from_rank i ki) (to_rank i)
