@@ -5,6 +5,7 @@ use Rattle.c_tree.specs.declared.raw.expr.RawExpr.{RawExpr}
 use Rattle.c_tree.specs.declared.raw.expr.RawType.TheVariants as type
 use Rattle.c_tree.specs.declared.raw.expr.RawVar.{RawVar}
 use Rattle.c_tree.specs.declared.raw.program.RawInit.{RawInit}
+use Rattle.c_tree.specs.declared.raw.program.RawMember.{RawMember}
 use Rattle.c_tree.specs.declared.raw.program.RawParam.{RawParam}
 use Rattle.c_tree.specs.declared.raw.program.RawHead.{RawHead}
 use Rattle.c_tree.specs.declared.raw.program.RawProgram.{RawProgram}
@@ -18,8 +19,8 @@ use Rattle.c_language.specs.DeclaredTypes.{defined_functions, definition_of, par
 use Rattle.c_language.specs.Scopes.{Scope, Meaning, meaning_in, meaning_here}
 use Rattle.c_language.specs.ExprTypes.{same_type}
 use Rattle.c_language.specs.ExprRules.{seen, is_undeclared, lacks_header}
-use Rattle.c_language.specs.Phrases.{Stand, Part, DeclaresFunction, Takes, Declares, Calls, Allocates}
-use Rattle.c_language.specs.Uses.{Holds, sizes, is_library_function, is_library_name}
+use Rattle.c_language.specs.Phrases.{Stand, Part, DefinesStruct, HasMember, DeclaresFunction, Takes, Declares, Calls, Allocates}
+use Rattle.c_language.specs.Uses.{Holds, sizes, is_library_function, is_library_name, is_library_macro}
 use Rattle.c_language.specs.declared.expr_type.ExprType.{ExprType}
 
 abbrev pub main_name : Bytes
@@ -58,6 +59,9 @@ pub data DeclaresLibraryName (raw : RawProgram) (scope : Scope) : Part → Type 
   function : {head : RawHead} {is_definition : Bool} → is_library_name head.name ≡ true → DeclaresLibraryName raw scope (DeclaresFunction head is_definition)
   parameter : {before : List RawParam} {p : RawParam} {name : Bytes}
       → p.name ≡ Some name → is_library_name name ≡ true → DeclaresLibraryName raw scope (Takes before p)
+  -- tags and members may have the names of functions, and not those of macros (7.1.2)
+  tag : {name : Bytes} → is_library_macro name ≡ true → DeclaresLibraryName raw scope (DefinesStruct name)
+  member : {before : List RawMember} {m : RawMember} → is_library_macro m.name ≡ true → DeclaresLibraryName raw scope (HasMember before m)
 
 -- main has a prototype, a second definition, another type than int main(void), or is called (5.1.2.2.1)
 pub data MisusesMain (raw : RawProgram) (scope : Scope) : Part → Type 0 where

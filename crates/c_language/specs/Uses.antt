@@ -172,6 +172,10 @@ called_library = codes "getchar" ∷ (codes "putchar" ∷ (codes "printf" ∷ (c
 abbrev pub library_names : List Bytes
 library_names = codes "malloc" ∷ (codes "NULL" ∷ (codes "EOF" ∷ called_library))
 
+-- the macros among them, which are replaced wherever their names stand (6.10.3)
+abbrev pub library_macros : List Bytes
+library_macros = codes "NULL" ∷ (codes "EOF" ∷ [])
+
 abbrev pub is_one_of : List Bytes → Bytes → Bool
 is_one_of names name = list_any (bytes_eq name) names
 
@@ -180,3 +184,6 @@ is_library_function = is_one_of called_library
 
 abbrev pub is_library_name : Bytes → Bool
 is_library_name = is_one_of library_names
+
+abbrev pub is_library_macro : Bytes → Bool
+is_library_macro = is_one_of library_macros

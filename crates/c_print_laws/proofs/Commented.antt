@@ -1,13 +1,10 @@
 -- A comment on a line of its own, in front of a text: the tokens of the text stand a line later.
-use Rattle.std.proofs.Common.{◌≡◌, ℕ, ◌+◌, List, [], ◌∷◌, ◌++◌, Bool, true, false, codes, append_assoc, refl, sym, ap, subst, ◌∙◌, true≢false, arith}
-use Rattle.std.specs.List.{list_all}
+use Rattle.std.proofs.Common.{◌≡◌, ℕ, ◌+◌, [], ◌∷◌, ◌++◌, true, codes, append_assoc, refl, sym, ap, subst, ◌∙◌, true≢false, arith}
 use Rattle.std.specs.Prelude.{not, ◌==◌}
 use Rattle.std.proofs.lemmas.Bool.{and_parts}
-use Rattle.std.proofs.lemmas.List.Folds.{list_all-append}
 use Rattle.c_language.specs.Words.{Bytes}
 use Rattle.c_language.specs.TokenForms.{Tokens}
-use Rattle.c_language.specs.Tokens.{line_feeds, has_feed, LacksEnd, LacksSplitEnd, AreJoins, IsJoin, behind_comment, IsSpace, IsTokens, AreTokensOf}
-use Rattle.c_language.specs.declared.token.Before.{Before}
+use Rattle.c_language.specs.Tokens.{line_feeds, LacksEnd, LacksSplitEnd, AreJoins, IsJoin, behind_comment, IsSpace, IsTokens, AreTokensOf}
 use Rattle.c_language.specs.declared.token.Before.TheVariants.{Blank}
 use Rattle.c_print.specs.Feedless.{feedless}
 use Rattle.c_print.proofs.FeedLemmas.{cat, no_feeds}

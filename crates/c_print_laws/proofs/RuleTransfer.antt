@@ -27,7 +27,7 @@ use Rattle.c_language.specs.ExprTypes.{operand, pointed, struct_of, member_of}
 use Rattle.c_language.specs.ExprRules.{Seen, seen, is_undeclared, lacks_header, has_bad_operand, has_no_address, needs_struct, selects_missing, holds_of, lacks_member, points_to_incomplete, moves_incomplete}
 use Rattle.c_language.specs.Formats.{Conversion}
 use Rattle.c_language.specs.Phrases.{Stand, Part, NamesStruct, DefinesStruct, HasMember, DeclaresFunction, Takes, EndsFunction, Declares, Begins, Assigns, Bumps, Calls, Allocates, Tests, Switches, Returns}
-use Rattle.c_language.specs.Uses.{operands_of, operands, IsWithin, whole, deeper, lengths_in, lengths, expressions, Holds, holds, tags_in, tags, tags_if, is_library_name}
+use Rattle.c_language.specs.Uses.{operands_of, operands, IsWithin, whole, deeper, lengths_in, lengths, expressions, Holds, holds, tags_in, tags, tags_if, is_library_name, is_library_macro}
 use Rattle.c_language.specs.Rules.{Breaks}
 use Rattle.c_language.specs.NameRules.{main_name, agree, all_agree, same_signature, IsDefinedBefore, UsesUndeclared, DeclaresAgain, Shadows, DeclaresLibraryName, MisusesMain, LacksDefinition, LacksHeader}
 use Rattle.c_language.specs.StructRules.{MisusesTag, MisnamesMember}
@@ -380,6 +380,9 @@ module _ (raw other : RawProgram) (like : Resembles raw other) where
         let f = function_part a in subst (DeclaresLibraryName raw scope) (sym f.1) (DeclaresLibraryName.function (ap is_library_name f.2.name ∙ h))
     library_name_moves a (DeclaresLibraryName.parameter is h) =
         let t = takes_part a in subst (DeclaresLibraryName raw scope) (sym t.2) (DeclaresLibraryName.parameter (t.4.name ∙ is) h)
+    library_name_moves a (DeclaresLibraryName.tag h) = moved (DeclaresLibraryName raw scope) refl a (DeclaresLibraryName.tag h)
+    library_name_moves a (DeclaresLibraryName.member h) =
+        let m = member_part a in subst (DeclaresLibraryName raw scope) (sym m.2) (DeclaresLibraryName.member (ap is_library_macro m.4.name ∙ h))
 
     main_moves : {part next : Part} → PartsAgree raw other part next → MisusesMain other scope next → MisusesMain raw scope part
     main_moves a (MisusesMain.prototype is) = let f = function_part a in subst (MisusesMain raw scope) (sym f.1) (MisusesMain.prototype (f.2.name ∙ is))

@@ -366,11 +366,21 @@ fn calls_of_the_library(rt: HostRuntime) {
 
 #[test]
 fn names_of_the_library(rt: HostRuntime) {
-    let broken: [Broken<'_>; 13] = [
+    let broken: [Broken<'_>; 15] = [
         (b"int getchar;\nint main(void) {\n}\n", 4, 1),
         (b"int putchar;\nint main(void) {\n}\n", 4, 1),
         (b"int malloc;\nint main(void) {\n}\n", 4, 1),
         (b"int main(void) {\n    int NULL;\n}\n", 4, 2),
+        (
+            b"struct NULL {\n    int a;\n};\nint main(void) {\n}\n",
+            4,
+            1,
+        ),
+        (
+            b"struct s {\n    int a;\n    int EOF;\n};\nint main(void) {\n}\n",
+            4,
+            3,
+        ),
         (
             b"int EOF(void) {\n    return 1;\n}\nint main(void) {\n}\n",
             4,
@@ -394,11 +404,12 @@ fn names_of_the_library(rt: HostRuntime) {
         (b"int a[3 + EOF];\nint main(void) {\n}\n", 24, 1),
     ];
     all_break(&rt, &broken);
-    let kept: [&[u8]; 4] = [
+    let kept: [&[u8]; 5] = [
         b"int getchars;\nint main(void) {\n    int eof;\n    int null;\n}\n",
         b"#include <stdio.h>\nint *p = NULL;\nint a[3 + EOF];\nint main(void) {\n    int c = EOF;\n}\n",
         b"#include <stdlib.h>\nint main(void) {\n    int *p = NULL;\n    free(p);\n}\n",
         b"#include <stdio.h>\nint main(void) {\n    printf(\"a\");\n    getchar();\n}\n",
+        b"struct printf {\n    int malloc;\n};\nint main(void) {\n    struct printf free_one;\n    free_one.malloc = 1;\n}\n",
     ];
     all_keep(&rt, &kept);
 }

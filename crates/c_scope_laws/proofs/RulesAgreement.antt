@@ -296,6 +296,8 @@ module _ (f : ℕ → ℕ) (named functions declared headed : Bytes → Type 0) 
       declared_moves (DeclaresLibraryName raw scope) a (λ spot v i fits like. DeclaresLibraryName.variable (ap is_library_name (sym like.name) ∙ h))
   library_name_moves a (DeclaresLibraryName.function h) = moved (DeclaresLibraryName raw scope) refl a (DeclaresLibraryName.function h)
   library_name_moves a (DeclaresLibraryName.parameter is h) = moved (DeclaresLibraryName raw scope) refl a (DeclaresLibraryName.parameter is h)
+  library_name_moves a (DeclaresLibraryName.tag h) = moved (DeclaresLibraryName raw scope) refl a (DeclaresLibraryName.tag h)
+  library_name_moves a (DeclaresLibraryName.member h) = moved (DeclaresLibraryName raw scope) refl a (DeclaresLibraryName.member h)
 
   main_moves : {part changed : Part} → PartsAgree raw other part changed → MisusesMain other next changed → MisusesMain raw scope part
   main_moves a (MisusesMain.prototype is) = moved (MisusesMain raw scope) refl a (MisusesMain.prototype is)

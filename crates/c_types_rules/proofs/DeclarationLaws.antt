@@ -17,7 +17,7 @@ use Rattle.c_language.specs.DeclaredTypes.{defined_structs, defined_functions, s
 use Rattle.c_language.specs.Scopes.{Scope, Meaning, meaning_in, meaning_here}
 use Rattle.c_language.specs.ExprRules.{is_complete}
 use Rattle.c_language.specs.Phrases.{Stand, InFile, InHead, InBlock, InArm, InFor, Part, NamesStruct, DefinesStruct, HasMember, DeclaresFunction, Takes, EndsFunction, Declares}
-use Rattle.c_language.specs.Uses.{tags, lengths, expressions, tags_in, lengths_in, tags_if, is_library_name}
+use Rattle.c_language.specs.Uses.{tags, lengths, expressions, tags_in, lengths_in, tags_if, is_library_name, is_library_macro}
 use Rattle.c_language.specs.Rules.{Breaks, declared_again, shadowing, library_name, main, no_definition, tag, member, no_element, no_constant, return, misplaced}
 use Rattle.c_language.specs.NameRules.{main_name, IsDefinedBefore, same_signature, DeclaresAgain, Shadows, DeclaresLibraryName, MisusesMain, LacksDefinition}
 use Rattle.c_language.specs.StructRules.{MisusesTag, MisnamesMember}
@@ -85,11 +85,12 @@ module _ (raw : RawProgram) (scope : Scope) where
 
   pub defines_struct_true : (w : Bytes) → IsTrue raw scope (DefinesStruct w) (check_struct raw scope w)
   defines_struct_true w =
-      by_test (Breaks raw scope (DefinesStruct w)) _ (not (is_complete_tag raw scope w)) 7 kept
+      by_test (Breaks raw scope (DefinesStruct w)) _ (not (is_complete_tag raw scope w)) 7 _
       (λ isnt.
       let found = any_passes _ (take scope.structs (defined_structs raw)) (not_false _ isnt) in
       tag (MisusesTag.again found.1 (same_names found.0.tag w found.2))) (λ is.
-      keeps-DefinesStruct raw scope w (are_none raw scope (DefinesStruct w) refl) (λ s c. other_names s.tag w (none_passes _ _ (not_true _ is) s c)))
+      by_test (Breaks raw scope (DefinesStruct w)) _ (not (is_library_macro w)) 4 kept (λ isnt. library_name (DeclaresLibraryName.tag (not_false _ isnt))) (λ allowed.
+      keeps-DefinesStruct raw scope w (are_none raw scope (DefinesStruct w) refl) (λ s c. other_names s.tag w (none_passes _ _ (not_true _ is) s c)) (not_true _ allowed)))
 
   head_true : (head : RawHead) (is_definition : Bool)
       → Finds (Breaks raw scope (DeclaresFunction head is_definition)) (HeadIsRight raw scope head) (check_head raw scope head)
@@ -209,11 +210,12 @@ module _ (raw : RawProgram) (scope : Scope) (typed : IsTyped raw scope) where
       let B = Breaks raw scope (HasMember before m) in
       by_both B (TypeIsRight raw scope m.shape) _ _ _ (type_true (HasMember before m) m.shape (λ w c. c) (λ e c. c) (λ e c. c)) (λ right.
       by_both B _ _ _ _ (complete_true (HasMember before m) (written_type raw m.shape) (λ u is isnt. tag (MisusesTag.member is isnt))) (λ complete.
-      by_test B _ (not (list_any _ before)) 8 kept
+      by_test B _ (not (list_any _ before)) 8 _
       (λ isnt. let found = any_passes _ before (not_false _ isnt) in member (MisnamesMember.again found.1 (same_names found.0.name m.name found.2))) (λ fresh.
+      by_test B _ (not (is_library_macro m.name)) 4 kept (λ isnt. library_name (DeclaresLibraryName.member (not_false _ isnt))) (λ allowed.
       keeps-HasMember raw scope before m (are_clean raw scope (HasMember before m) (λ e c. (right.lengths e c).keeps)) right.named
       (λ e c. (right.lengths e c).constant) (λ e z c. (right.lengths e c).at_least_one z) complete
-      (λ other c. other_names other.name m.name (none_passes _ before (not_true _ fresh) other c)))))
+      (λ other c. other_names other.name m.name (none_passes _ before (not_true _ fresh) other c)) (not_true _ allowed)))))
 
   fresh_true : (stand : Stand) (var : RawVar) (i : RawInit)
       → Finds (Breaks raw scope (Declares stand var i)) (IsFresh scope var.name) (check_fresh raw scope var.name)

@@ -207,4 +207,4 @@ module _ (raw : RawProgram) (scope : Scope) (before : List RawMember) (m : RawMe
   pub member_fresh : check_member raw scope before m ≡ kept → listed_type m.name listed ≡ None
   member_fresh h =
       gone (listed_type m.name listed)
-      (named_before raw scope before m listed is ∙ not_named _ (test_passed _ 8 kept (second_kept (when_given (check_complete raw scope) (written_type raw m.shape)) _ (second_kept (check_type raw scope m.shape) _ h))))
+      (named_before raw scope before m listed is ∙ not_named _ (test_passed _ 8 _ (second_kept (when_given (check_complete raw scope) (written_type raw m.shape)) _ (second_kept (check_type raw scope m.shape) _ h))))

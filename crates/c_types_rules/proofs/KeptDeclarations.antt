@@ -19,7 +19,7 @@ use Rattle.c_language.specs.Scopes.{Scope, Meaning, meaning_in, meaning_here}
 use Rattle.c_language.specs.ExprTypes.{is_scalar, is_assignable}
 use Rattle.c_language.specs.ExprRules.{is_complete}
 use Rattle.c_language.specs.Phrases.{Stand, InFile, InArm, Part, NamesStruct, DefinesStruct, HasMember, DeclaresFunction, Takes, EndsFunction, Declares, Begins}
-use Rattle.c_language.specs.Uses.{tags, lengths, is_library_name}
+use Rattle.c_language.specs.Uses.{tags, lengths, is_library_name, is_library_macro}
 use Rattle.c_language.specs.Rules.{Breaks, undeclared, declared_again, shadowing, library_name, main, no_definition, tag, member, no_element, no_constant, switch, operator, other_type, no_place, address, arguments, result, return, format, allocation, library, initialiser, misplaced, no_header}
 use Rattle.c_language.specs.NameRules.{main_name, IsDefinedBefore, same_signature, UsesUndeclared, DeclaresAgain, Shadows, DeclaresLibraryName, MisusesMain, LacksDefinition, LacksHeader}
 use Rattle.c_language.specs.StructRules.{MisusesTag, MisnamesMember}
@@ -71,62 +71,62 @@ module _ (raw : RawProgram) (scope : Scope) where
   keeps-NamesStruct t clear named n (misplaced h) = elim h [ ]
   keeps-NamesStruct t clear named n (no_header (LacksHeader.in_expression {inner = part} h is)) = clash (clear part h).header is
 
-  pub keeps-DefinesStruct : (t : Bytes) → (clear : AreClean raw scope (DefinesStruct t)) → (fresh : (s : StructText) → Contains (take scope.structs (defined_structs raw)) s → s.tag ≢ t) → (n : ℕ) → Breaks raw scope (DefinesStruct t) n → ⊥
-  keeps-DefinesStruct t clear fresh n (undeclared (UsesUndeclared.in_expression {inner = part} h is)) = clash (clear part h).declared is
-  keeps-DefinesStruct t clear fresh n (declared_again h) = elim h [ ]
-  keeps-DefinesStruct t clear fresh n (shadowing h) = elim h [ ]
-  keeps-DefinesStruct t clear fresh n (library_name h) = elim h [ ]
-  keeps-DefinesStruct t clear fresh n (main h) = elim h [ ]
-  keeps-DefinesStruct t clear fresh n (no_definition h) = elim h [ ]
-  keeps-DefinesStruct t clear fresh n (tag (MisusesTag.undefined {tag = w} c is)) = contains_nil w c
-  keeps-DefinesStruct t clear fresh n (tag (MisusesTag.in_expression {inner = part} h is)) = clash (clear part h).complete is
-  keeps-DefinesStruct t clear fresh n (tag (MisusesTag.again {s} c is)) = fresh s c is
-  keeps-DefinesStruct t clear fresh n (member (MisnamesMember.missing {inner = part} h is)) = clash (clear part h).member is
-  keeps-DefinesStruct t clear fresh n (no_element (HasNoElement.too_short {n = k} c v z)) = contains_nil k c
-  keeps-DefinesStruct t clear fresh n (no_constant (LacksConstant.written_length {n = k} c v)) = contains_nil k c
-  keeps-DefinesStruct t clear fresh n (switch h) = elim h [ ]
-  keeps-DefinesStruct t clear fresh n (operator (MisusesOperator.in_expression {inner = part} h is)) = clash (clear part h).operands is
-  keeps-DefinesStruct t clear fresh n (other_type h) = elim h [ ]
-  keeps-DefinesStruct t clear fresh n (no_place h) = elim h [ ]
-  keeps-DefinesStruct t clear fresh n (address (MisusesAddress.in_expression {inner = part} h is)) = clash (clear part h).address is
-  keeps-DefinesStruct t clear fresh n (arguments h) = elim h [ ]
-  keeps-DefinesStruct t clear fresh n (result h) = elim h [ ]
-  keeps-DefinesStruct t clear fresh n (return h) = elim h [ ]
-  keeps-DefinesStruct t clear fresh n (format h) = elim h [ ]
-  keeps-DefinesStruct t clear fresh n (allocation h) = elim h [ ]
-  keeps-DefinesStruct t clear fresh n (library h) = elim h [ ]
-  keeps-DefinesStruct t clear fresh n (initialiser h) = elim h [ ]
-  keeps-DefinesStruct t clear fresh n (misplaced h) = elim h [ ]
-  keeps-DefinesStruct t clear fresh n (no_header (LacksHeader.in_expression {inner = part} h is)) = clash (clear part h).header is
+  pub keeps-DefinesStruct : (t : Bytes) → (clear : AreClean raw scope (DefinesStruct t)) → (fresh : (s : StructText) → Contains (take scope.structs (defined_structs raw)) s → s.tag ≢ t) → (allowed : is_library_macro t ≡ false) → (n : ℕ) → Breaks raw scope (DefinesStruct t) n → ⊥
+  keeps-DefinesStruct t clear fresh allowed n (undeclared (UsesUndeclared.in_expression {inner = part} h is)) = clash (clear part h).declared is
+  keeps-DefinesStruct t clear fresh allowed n (declared_again h) = elim h [ ]
+  keeps-DefinesStruct t clear fresh allowed n (shadowing h) = elim h [ ]
+  keeps-DefinesStruct t clear fresh allowed n (library_name (DeclaresLibraryName.tag is)) = clash allowed is
+  keeps-DefinesStruct t clear fresh allowed n (main h) = elim h [ ]
+  keeps-DefinesStruct t clear fresh allowed n (no_definition h) = elim h [ ]
+  keeps-DefinesStruct t clear fresh allowed n (tag (MisusesTag.undefined {tag = w} c is)) = contains_nil w c
+  keeps-DefinesStruct t clear fresh allowed n (tag (MisusesTag.in_expression {inner = part} h is)) = clash (clear part h).complete is
+  keeps-DefinesStruct t clear fresh allowed n (tag (MisusesTag.again {s} c is)) = fresh s c is
+  keeps-DefinesStruct t clear fresh allowed n (member (MisnamesMember.missing {inner = part} h is)) = clash (clear part h).member is
+  keeps-DefinesStruct t clear fresh allowed n (no_element (HasNoElement.too_short {n = k} c v z)) = contains_nil k c
+  keeps-DefinesStruct t clear fresh allowed n (no_constant (LacksConstant.written_length {n = k} c v)) = contains_nil k c
+  keeps-DefinesStruct t clear fresh allowed n (switch h) = elim h [ ]
+  keeps-DefinesStruct t clear fresh allowed n (operator (MisusesOperator.in_expression {inner = part} h is)) = clash (clear part h).operands is
+  keeps-DefinesStruct t clear fresh allowed n (other_type h) = elim h [ ]
+  keeps-DefinesStruct t clear fresh allowed n (no_place h) = elim h [ ]
+  keeps-DefinesStruct t clear fresh allowed n (address (MisusesAddress.in_expression {inner = part} h is)) = clash (clear part h).address is
+  keeps-DefinesStruct t clear fresh allowed n (arguments h) = elim h [ ]
+  keeps-DefinesStruct t clear fresh allowed n (result h) = elim h [ ]
+  keeps-DefinesStruct t clear fresh allowed n (return h) = elim h [ ]
+  keeps-DefinesStruct t clear fresh allowed n (format h) = elim h [ ]
+  keeps-DefinesStruct t clear fresh allowed n (allocation h) = elim h [ ]
+  keeps-DefinesStruct t clear fresh allowed n (library h) = elim h [ ]
+  keeps-DefinesStruct t clear fresh allowed n (initialiser h) = elim h [ ]
+  keeps-DefinesStruct t clear fresh allowed n (misplaced h) = elim h [ ]
+  keeps-DefinesStruct t clear fresh allowed n (no_header (LacksHeader.in_expression {inner = part} h is)) = clash (clear part h).header is
 
-  pub keeps-HasMember : (before : List RawMember) → (m : RawMember) → (clear : AreClean raw scope (HasMember before m)) → (named : AreNamed (HasMember before m)) → (constants : AreConstant (HasMember before m)) → (positives : ArePositive (HasMember before m)) → (complete : (t : ExprType) → written_type raw m.shape ≡ Some t → is_complete scope t ≡ true) → (fresh : (other : RawMember) → Contains before other → other.name ≢ m.name) → (n : ℕ) → Breaks raw scope (HasMember before m) n → ⊥
-  keeps-HasMember before m clear named constants positives complete fresh n (undeclared (UsesUndeclared.in_expression {inner = part} h is)) = clash (clear part h).declared is
-  keeps-HasMember before m clear named constants positives complete fresh n (declared_again h) = elim h [ ]
-  keeps-HasMember before m clear named constants positives complete fresh n (shadowing h) = elim h [ ]
-  keeps-HasMember before m clear named constants positives complete fresh n (library_name h) = elim h [ ]
-  keeps-HasMember before m clear named constants positives complete fresh n (main h) = elim h [ ]
-  keeps-HasMember before m clear named constants positives complete fresh n (no_definition h) = elim h [ ]
-  keeps-HasMember before m clear named constants positives complete fresh n (tag (MisusesTag.undefined {tag = w} c is)) = named w c is
-  keeps-HasMember before m clear named constants positives complete fresh n (tag (MisusesTag.in_expression {inner = part} h is)) = clash (clear part h).complete is
-  keeps-HasMember before m clear named constants positives complete fresh n (tag (MisusesTag.member {t} typed isnt)) = clash isnt (complete t typed)
-  keeps-HasMember before m clear named constants positives complete fresh n (member (MisnamesMember.missing {inner = part} h is)) = clash (clear part h).member is
-  keeps-HasMember before m clear named constants positives complete fresh n (member (MisnamesMember.again {other} c is)) = fresh other c is
-  keeps-HasMember before m clear named constants positives complete fresh n (no_element (HasNoElement.too_short {n = k} {z} c v none)) = positives k z c v none
-  keeps-HasMember before m clear named constants positives complete fresh n (no_constant (LacksConstant.written_length {n = k} c v)) = constants k c v
-  keeps-HasMember before m clear named constants positives complete fresh n (switch h) = elim h [ ]
-  keeps-HasMember before m clear named constants positives complete fresh n (operator (MisusesOperator.in_expression {inner = part} h is)) = clash (clear part h).operands is
-  keeps-HasMember before m clear named constants positives complete fresh n (other_type h) = elim h [ ]
-  keeps-HasMember before m clear named constants positives complete fresh n (no_place h) = elim h [ ]
-  keeps-HasMember before m clear named constants positives complete fresh n (address (MisusesAddress.in_expression {inner = part} h is)) = clash (clear part h).address is
-  keeps-HasMember before m clear named constants positives complete fresh n (arguments h) = elim h [ ]
-  keeps-HasMember before m clear named constants positives complete fresh n (result h) = elim h [ ]
-  keeps-HasMember before m clear named constants positives complete fresh n (return h) = elim h [ ]
-  keeps-HasMember before m clear named constants positives complete fresh n (format h) = elim h [ ]
-  keeps-HasMember before m clear named constants positives complete fresh n (allocation h) = elim h [ ]
-  keeps-HasMember before m clear named constants positives complete fresh n (library h) = elim h [ ]
-  keeps-HasMember before m clear named constants positives complete fresh n (initialiser h) = elim h [ ]
-  keeps-HasMember before m clear named constants positives complete fresh n (misplaced h) = elim h [ ]
-  keeps-HasMember before m clear named constants positives complete fresh n (no_header (LacksHeader.in_expression {inner = part} h is)) = clash (clear part h).header is
+  pub keeps-HasMember : (before : List RawMember) → (m : RawMember) → (clear : AreClean raw scope (HasMember before m)) → (named : AreNamed (HasMember before m)) → (constants : AreConstant (HasMember before m)) → (positives : ArePositive (HasMember before m)) → (complete : (t : ExprType) → written_type raw m.shape ≡ Some t → is_complete scope t ≡ true) → (fresh : (other : RawMember) → Contains before other → other.name ≢ m.name) → (allowed : is_library_macro m.name ≡ false) → (n : ℕ) → Breaks raw scope (HasMember before m) n → ⊥
+  keeps-HasMember before m clear named constants positives complete fresh allowed n (undeclared (UsesUndeclared.in_expression {inner = part} h is)) = clash (clear part h).declared is
+  keeps-HasMember before m clear named constants positives complete fresh allowed n (declared_again h) = elim h [ ]
+  keeps-HasMember before m clear named constants positives complete fresh allowed n (shadowing h) = elim h [ ]
+  keeps-HasMember before m clear named constants positives complete fresh allowed n (library_name (DeclaresLibraryName.member is)) = clash allowed is
+  keeps-HasMember before m clear named constants positives complete fresh allowed n (main h) = elim h [ ]
+  keeps-HasMember before m clear named constants positives complete fresh allowed n (no_definition h) = elim h [ ]
+  keeps-HasMember before m clear named constants positives complete fresh allowed n (tag (MisusesTag.undefined {tag = w} c is)) = named w c is
+  keeps-HasMember before m clear named constants positives complete fresh allowed n (tag (MisusesTag.in_expression {inner = part} h is)) = clash (clear part h).complete is
+  keeps-HasMember before m clear named constants positives complete fresh allowed n (tag (MisusesTag.member {t} typed isnt)) = clash isnt (complete t typed)
+  keeps-HasMember before m clear named constants positives complete fresh allowed n (member (MisnamesMember.missing {inner = part} h is)) = clash (clear part h).member is
+  keeps-HasMember before m clear named constants positives complete fresh allowed n (member (MisnamesMember.again {other} c is)) = fresh other c is
+  keeps-HasMember before m clear named constants positives complete fresh allowed n (no_element (HasNoElement.too_short {n = k} {z} c v none)) = positives k z c v none
+  keeps-HasMember before m clear named constants positives complete fresh allowed n (no_constant (LacksConstant.written_length {n = k} c v)) = constants k c v
+  keeps-HasMember before m clear named constants positives complete fresh allowed n (switch h) = elim h [ ]
+  keeps-HasMember before m clear named constants positives complete fresh allowed n (operator (MisusesOperator.in_expression {inner = part} h is)) = clash (clear part h).operands is
+  keeps-HasMember before m clear named constants positives complete fresh allowed n (other_type h) = elim h [ ]
+  keeps-HasMember before m clear named constants positives complete fresh allowed n (no_place h) = elim h [ ]
+  keeps-HasMember before m clear named constants positives complete fresh allowed n (address (MisusesAddress.in_expression {inner = part} h is)) = clash (clear part h).address is
+  keeps-HasMember before m clear named constants positives complete fresh allowed n (arguments h) = elim h [ ]
+  keeps-HasMember before m clear named constants positives complete fresh allowed n (result h) = elim h [ ]
+  keeps-HasMember before m clear named constants positives complete fresh allowed n (return h) = elim h [ ]
+  keeps-HasMember before m clear named constants positives complete fresh allowed n (format h) = elim h [ ]
+  keeps-HasMember before m clear named constants positives complete fresh allowed n (allocation h) = elim h [ ]
+  keeps-HasMember before m clear named constants positives complete fresh allowed n (library h) = elim h [ ]
+  keeps-HasMember before m clear named constants positives complete fresh allowed n (initialiser h) = elim h [ ]
+  keeps-HasMember before m clear named constants positives complete fresh allowed n (misplaced h) = elim h [ ]
+  keeps-HasMember before m clear named constants positives complete fresh allowed n (no_header (LacksHeader.in_expression {inner = part} h is)) = clash (clear part h).header is
 
   pub keeps-Prototype : (head : RawHead) → (clear : AreClean raw scope (DeclaresFunction head false)) → (named : AreNamed (DeclaresFunction head false)) → (other : (id : ℕ) (t : Option ExprType) → meaning_here scope head.name ≢ Some (Meaning.Variable id t)) → (allowed : is_library_name head.name ≡ false) → (not_main : head.name ≢ main_name) → (defined : definition_of raw head.name ≢ None) → (same : (f : RawHead) → definition_of raw head.name ≡ Some f → same_signature raw head f ≡ true) → (n : ℕ) → Breaks raw scope (DeclaresFunction head false) n → ⊥
   keeps-Prototype head clear named other allowed not_main defined same n (undeclared (UsesUndeclared.in_expression {inner = part} h is)) = clash (clear part h).declared is

@@ -23,7 +23,7 @@ use Rattle.c_language.specs.Scopes.{Scope, Meaning, meaning_in, meaning_here}
 use Rattle.c_language.specs.ExprTypes.{is_scalar, is_pointer, is_assignable}
 use Rattle.c_language.specs.ExprRules.{is_complete}
 use Rattle.c_language.specs.Phrases.{Stand, InFile, InHead, InBlock, InArm, InFor}
-use Rattle.c_language.specs.Uses.{lengths_in, tags_in, tags_if, is_null_name, is_library_name}
+use Rattle.c_language.specs.Uses.{lengths_in, tags_in, tags_if, is_null_name, is_library_name, is_library_macro}
 use Rattle.c_language.specs.NameRules.{main_name, same_signature}
 use Rattle.c_language.specs.ArrayRules.{element_of, count_of}
 use Rattle.c_language.specs.declared.expr_type.ExprType.{ExprType}
@@ -117,13 +117,13 @@ module _ (raw : RawProgram) (scope : Scope) where
   check_complete t = unless_broken (is_complete scope t) 7 kept
 
   abbrev pub check_struct : Bytes → Verdict
-  check_struct tag = unless_broken (not (is_complete_tag raw scope tag)) 7 kept
+  check_struct tag = unless_broken (not (is_complete_tag raw scope tag)) 7 (unless_broken (not (is_library_macro tag)) 4 kept)
 
   -- a member, behind others
   abbrev pub check_member : List RawMember → RawMember → Verdict
   check_member before m =
       then_kept (check_type m.shape) (then_kept (when_given check_complete (written_type raw m.shape))
-      (unless_broken (not (list_any (λ (other : RawMember). bytes_eq other.name m.name) before)) 8 kept))
+      (unless_broken (not (list_any (λ (other : RawMember). bytes_eq other.name m.name) before)) 8 (unless_broken (not (is_library_macro m.name)) 4 kept)))
 
   -- the name of a function that is declared, and the tag of its result
   abbrev pub check_head : RawHead → Verdict

@@ -119,7 +119,10 @@ pub fn check_struct(tables: &Tables<'_>, tag: &[u8]) -> Result<(), Fault>
     requires { AreRight tables.now }
     ensures { Decides (spec.check_struct tables.now.raw.now (scope_of tables.now) tag.now) result }
 {
-    unless_broken(!is_complete_tag(tables, tag), 7)
+    if is_complete_tag(tables, tag) {
+        return Err(Fault::Rule(7));
+    }
+    unless_broken(!is_library_macro(tag), 4)
 }
 
 /// A member of a struct type (6.7.2.1), where it is known whether one before it has its name.
@@ -134,7 +137,17 @@ pub fn check_member(
 {
     check_type(alloc, tables, &member.shape)?;
     check_made(tables, &written_type(alloc, tables, &member.shape)?)?;
-    unless_broken(!is_named, 8)
+    if is_named {
+        return Err(Fault::Rule(8));
+    }
+    unless_broken(!is_library_macro(member.name.bytes()), 4)
+}
+
+/// Whether a name is that of a macro of the library, which is neither a tag nor a member (7.1.2).
+fn is_library_macro(name: &[u8]) -> bool
+    ensures { result ≡ uses.is_library_macro name.now }
+{
+    name == b"NULL".as_slice() || name == b"EOF".as_slice()
 }
 
 /// Whether a name is one of the library's that a program can use (7.1.3).
