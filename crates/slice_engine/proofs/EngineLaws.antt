@@ -1,16 +1,19 @@
 -- What the calls of an engine ask of each other.
-use Rattle.std.proofs.Common.{◌≡◌, ◌↔◌, ℕ, zero, suc, ◌+◌, ◌<◌, ◌==◌, List, [], ◌∷◌, ◌≤◌, Bool, true, IsTrue, inl, inr, sym, ap, ◌∙◌, subst, arith}
+use Rattle.std.proofs.Common.{◌≡◌, ◌↔◌, ◌⊎◌, ◌||◌, false, refl, ℕ, zero, suc, ◌+◌, ◌<◌, ◌==◌, List, [], ◌∷◌, ◌≤◌, Bool, true, IsTrue, inl, inr, sym, ap, ◌∙◌, subst, arith}
 use Rattle.std.specs.Prelude.{All}
 use Rattle.std.specs.List.{list_any}
 use Rattle.std.proofs.lemmas.Bool.{eqb-true, or_cases}
+use Rattle.std.proofs.lemmas.Bool.Decides.{leb_tells}
 use Rattle.std.proofs.lemmas.List.Elements.{All-head, All-tail}
 use Rattle.c_tree.specs.declared.program.Program.{Program}
 use Rattle.c_tree.specs.Numbered.{Start, program_starts}
 use Rattle.dep_model.specs.declared.edge.Edge.{Edge}
+use Rattle.dep_model.proofs.SwitchLaws.{true_not_false}
 use Rattle.slice_engine.specs.Criterion.{starts_of}
 use Rattle.slice_engine.specs.Engine.{IsPrepared}
 use Rattle.slice_engine.specs.Slice.{HasStart}
 use Rattle.slice_engine.proofs.CriterionLaws.{AreNumbers, some_start, start_some}
+use Rattle.slice_engine.proofs.StartLemmas.{IsSomeLine}
 use Rattle.slice_engine.proofs.StartNumbers.{numbers_are}
 
 -- whether some statement starts on a line
@@ -29,6 +32,22 @@ pub starts_below : (p : Program) (edges : List Edge) (starts : List (ℕ × ℕ)
 starts_below p edges starts g =
     low_starts p.statements starts (subst (AreNumbers p.statements) (sym g.starts_are) (numbers_are p g.numbered))
 
+-- ---- what isn't too large
+
+-- a number that a test doesn't find above a bound
+not_above : (bound n : ℕ) (b : Bool) → (bound < n → IsTrue b) → b ≡ false → n ≤ bound
+not_above bound n b tells small = elim (leb_tells n bound) [
+  | inl most ↦ most.1
+  | inr above ↦ true_not_false (tells above.1) small
+]
+
+pub few_enough : (statements vars : ℕ) (b : Bool) → IsTrue b ↔ ((4294967293 < statements) ⊎ (4294967293 < vars)) → b ≡ false → (statements ≤ 4294967293) × (vars ≤ 4294967293)
+few_enough statements vars b tells small =
+    (not_above 4294967293 statements b (λ above. tells.1 (inl above)) small, not_above 4294967293 vars b (λ above. tells.1 (inr above)) small)
+
+pub short_enough : (size : ℕ) (b : Bool) → IsTrue b ↔ (4294967296 < size) → b ≡ false → size ≤ 4294967296
+short_enough size b tells small = not_above 4294967296 size b tells.1 small
+
 -- ---- the last line
 
 -- none of the starts is behind the last line
@@ -42,3 +61,13 @@ ends_by p edges starts g last all line h =
       | inl here ↦ let le = All-head (λ (x : ℕ × ℕ). x.1 ≤ last) s ss all in let is = eqb-true s.1 line here in omega (arith, le, is)
       | inr later ↦ start_low line last ss (All-tail (λ (x : ℕ × ℕ). x.1 ≤ last) s ss all) later
     ]
+
+-- a number that is the line of one of the starts, or 0, is a line on which a statement starts, or 0
+pub ends_on : (p : Program) (edges : List Edge) (starts : List (ℕ × ℕ)) → IsPrepared p edges starts → (last : ℕ) → (last ≡ 0) ⊎ IsSomeLine starts last → (last ≡ 0) ⊎ HasStart p last
+ends_on p edges starts g last (inl none) = inl none
+ends_on p edges starts g last (inr some) =
+    inr (some_start last (program_starts p) (ap (list_any (λ (s : Start). s.line == last)) (sym g.starts_are) ∙ (sym (same_lines starts) ∙ some)))
+  where
+    same_lines : (ss : List (ℕ × ℕ)) → list_any (λ (s : ℕ × ℕ). s.1 == last) ss ≡ list_any (λ (s : Start). s.line == last) (starts_of ss)
+    same_lines [] = refl
+    same_lines (s ∷ ss) = ap (λ b. (s.1 == last) || b) (same_lines ss)

@@ -1,8 +1,13 @@
 -- The starts of statements, list by list.
-use Rattle.std.proofs.Common.{◌≡◌, ℕ, ◌+◌, ◌≤◌, ◌<◌, Option, List, [], ◌∷◌, ◌++◌, length, take, get_or, All, refl, ap, ◌∙◌, arith}
+use Rattle.std.proofs.Common.{◌≡◌, ◌⊎◌, inl, inr, ℕ, ◌+◌, ◌≤◌, ◌<◌, ◌==◌, Less, Equal, Greater, suc, nat_lt, cond, Bool, true, false, Option, List, [], ◌∷◌, ◌++◌, length, take, get_or, All, refl, sym, ap, subst, ◌∙◌, arith}
+use Rattle.std.specs.List.{list_any}
+use Rattle.std.specs.Ordering.{nat_cmp, ord_max, is_lt}
+use Rattle.std.proofs.lemmas.Bool.{eq-eqb}
+use Rattle.std.proofs.lemmas.Bool.Decides.{leb_tells}
+use Rattle.std.proofs.lemmas.List.Folds.{list_any_at}
 use Rattle.std.proofs.lemmas.List.Elements.{All-nil, All-cons, All-head, All-tail, All-more}
 use Rattle.std.specs.Option.{option_to_list}
-use Rattle.std.proofs.lemmas.List.{map-append}
+use Rattle.std.proofs.lemmas.List.{map-append, take_all}
 use Rattle.c_tree.specs.declared.expr.Expr.{Expr}
 use Rattle.c_tree.specs.declared.program.Function.{Function}
 use Rattle.c_tree.specs.declared.statement.Arm.{Arm, out-Arm}
@@ -46,6 +51,45 @@ each_of P Q f [] all = All-nil Q
 each_of P Q f (x ∷ xs) all = All-cons Q x xs (f x (All-head P x xs all)) (each_of P Q f xs (All-tail P x xs all))
 
 -- one more start, and a line that is as late as it and as those before
-pub latest_more : (starts : List (ℕ × ℕ)) (i last new : ℕ) (none : ℕ × ℕ) → i < length starts → last ≤ new → (get_or starts i none).1 ≤ new → All (λ (s : ℕ × ℕ). s.1 ≤ last) (take i starts) → All (λ (s : ℕ × ℕ). s.1 ≤ new) (take (i + 1) starts)
+latest_more : (starts : List (ℕ × ℕ)) (i last new : ℕ) (none : ℕ × ℕ) → i < length starts → last ≤ new → (get_or starts i none).1 ≤ new → All (λ (s : ℕ × ℕ). s.1 ≤ last) (take i starts) → All (λ (s : ℕ × ℕ). s.1 ≤ new) (take (i + 1) starts)
 latest_more starts i last new none lt after here before =
     All-more (λ (s : ℕ × ℕ). s.1 ≤ new) starts i none lt (each_of (λ (s : ℕ × ℕ). s.1 ≤ last) (λ (s : ℕ × ℕ). s.1 ≤ new) (λ s le. omega (arith, after, le)) (take i starts) before) here
+
+-- some start has this line
+abbrev pub IsSomeLine : List (ℕ × ℕ) → ℕ → Type 0
+IsSomeLine starts line = list_any (λ (s : ℕ × ℕ). s.1 == line) starts ≡ true
+
+-- the last line of the first `at` starts, 0 where there is none
+pub record IsLatest (starts : List (ℕ × ℕ)) (at last : ℕ) : Type 0 where
+  pub after : All (λ (s : ℕ × ℕ). s.1 ≤ last) (take at starts)
+  pub is_one : (last ≡ 0) ⊎ IsSomeLine starts last
+
+pub latest_none : (starts : List (ℕ × ℕ)) → IsLatest starts 0 0
+latest_none starts = record { after = All-nil (λ (s : ℕ × ℕ). s.1 ≤ 0); is_one = inl refl }
+
+-- the greater of two numbers is one of them
+greater : (a b new : ℕ) → new ≡ ord_max nat_cmp a b → ((b < a) × (new ≡ a)) ⊎ ((a ≤ b) × (new ≡ b))
+greater a b new is = elim (leb_tells (suc b) a) [
+  | inl more ↦ inl (more.1, is ∙ picked (nat_lt b a) (b == a) ∙ ap (λ t. cond t a b) more.0)
+  | inr less ↦ inr (omega (arith, less.1), is ∙ picked (nat_lt b a) (b == a) ∙ ap (λ t. cond t a b) less.0)
+]
+  where
+    picked : (less same : Bool) → cond (is_lt (cond less Less (cond same Equal Greater))) a b ≡ cond less a b
+    picked true same = refl
+    picked false true = refl
+    picked false false = refl
+
+pub latest_next : (starts : List (ℕ × ℕ)) (i last new : ℕ) (none : ℕ × ℕ) → i < length starts → new ≡ ord_max nat_cmp last (get_or starts i none).1 → IsLatest starts i last → IsLatest starts (i + 1) new
+latest_next starts i last new none lt is g = elim (greater last (get_or starts i none).1 new is) [
+  | inl stays ↦ record {
+    after = latest_more starts i last new none lt (omega (arith, stays.1)) (omega (arith, stays.0, stays.1)) g.after;
+    is_one = subst (λ n. (n ≡ 0) ⊎ IsSomeLine starts n) (sym stays.1) g.is_one;
+  }
+  | inr here ↦ record {
+    after = latest_more starts i last new none lt (omega (arith, here.0, here.1)) (omega (arith, here.1)) g.after;
+    is_one = inr (list_any_at (λ (s : ℕ × ℕ). s.1 == new) starts i none lt (eq-eqb (get_or starts i none).1 new (sym here.1)));
+  }
+]
+
+pub latest_all : (starts : List (ℕ × ℕ)) (i last : ℕ) → length starts ≤ i → IsLatest starts i last → All (λ (s : ℕ × ℕ). s.1 ≤ last) starts
+latest_all starts i last end g = subst (All (λ (s : ℕ × ℕ). s.1 ≤ last)) (take_all i starts end) g.after

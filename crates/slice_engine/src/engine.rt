@@ -1,4 +1,4 @@
-ghost use Rattle.std.specs.Prelude.{◌≡◌, ◌≤◌, ◌+◌, ◌^◌, ◌<◌, ◌++◌, ℕ, All, IfOk, IsTrue, ◌↔◌, MatchOption, None, length};
+ghost use Rattle.std.specs.Prelude.{◌≡◌, ◌⊎◌, ◌≤◌, ◌+◌, ◌^◌, ◌<◌, ◌++◌, ℕ, All, IfOk, IsTrue, ◌↔◌, MatchOption, None, length};
 ghost use Rattle.bit_rows.specs.Sets.{has};
 ghost use Rattle.built_forms.specs.BuiltForms.{not_yet};
 ghost use Rattle.c_language.specs.Programs.{IsWellFormed};
@@ -71,7 +71,7 @@ impl Engine {
         requires built { not_yet p ≡ None }
         ensures { IfOk result (λ e. e ≡ p) }
     {
-        if p.statements > MAX_STATEMENTS || p.vars.len() > MAX_VARIABLES {
+        if is_too_large(&p) {
             return Err(AllocError);
         }
         let edges = edges_of(alloc, &p)?;
@@ -94,9 +94,10 @@ impl Engine {
         }
     }
 
-    /// A line behind which no statement starts.
+    /// The last line on which a statement starts, 0 where there is no statement.
     pub fn last_line(&self) -> u32
-        ensures { (line : ℕ) → HasStart self.now line → line ≤ result }
+        ensures latest { (line : ℕ) → HasStart self.now line → line ≤ result }
+        ensures is_one { (result ≡ 0) ⊎ HasStart self.now result }
     {
         last_line(&self.starts)
     }
@@ -116,6 +117,13 @@ impl Engine {
         let text = text_of(alloc, &self.program, &self.edges, &self.starts, c.line)?;
         Ok(text)
     }
+}
+
+// Whether a program has more statements or variables than its graph can number.
+fn is_too_large(p: &Program) -> bool
+    ensures { IsTrue result ↔ ((4294967293 < p.now.statements) ⊎ (4294967293 < length p.now.vars)) }
+{
+    p.statements > MAX_STATEMENTS || p.vars.len() > MAX_VARIABLES
 }
 
 fn has_start(p: &Program, edges: &[Edge], starts: &[Start], line: u32) -> bool
@@ -187,7 +195,7 @@ fn text_of(
 {
     let sliced = sliced_at(alloc, p, edges, starts, line)?;
     let layout = print(alloc, &sliced.program)?;
-    if layout.bytes().len() > MAX_LAYOUT_BYTES {
+    if is_too_long(layout.bytes()) {
         return Err(AllocError);
     }
     let lines = lines_of(alloc, &sliced.program)?;
@@ -195,4 +203,11 @@ fn text_of(
     let mut text = header(alloc, line, shown.as_slice())?;
     text.append(layout.bytes())?;
     Ok(text)
+}
+
+// Whether a layout has more bytes than its lines can number.
+fn is_too_long(layout: &[u8]) -> bool
+    ensures { IsTrue result ↔ (4294967296 < length layout.now) }
+{
+    layout.len() > MAX_LAYOUT_BYTES
 }

@@ -1,5 +1,6 @@
 //! The numbered statements of a program with the lines on which they start.
-ghost use Rattle.std.specs.Prelude.{◌≡◌, ◌≤◌, [], ◌∷◌, ◌++◌, All, IfOk, OnOk};
+ghost use Rattle.std.specs.Prelude.{◌≡◌, ◌⊎◌, ◌≤◌, ◌==◌, [], ◌∷◌, ◌++◌, All, IsTrue, IfOk, OnOk};
+ghost use Rattle.std.specs.List.{list_any};
 ghost use Rattle.std.specs.Option.{option_to_list};
 ghost use Rattle.c_tree.specs.Numbered.{starts, body_starts, function_starts, program_starts, own_start, inner, arms_inner};
 ghost use Rattle.slice_engine.specs.Criterion.{starts_of};
@@ -39,22 +40,16 @@ fn among(found: &mut Vec<Start>, list: &[Statement]) -> Result<(), AllocError>
     Ok(())
 }
 
-/// A line behind which none of some statements starts.
+/// The last line on which one of some statements starts, 0 where there is none.
 pub(crate) fn last_line(starts: &[Start]) -> u32
-    ensures { All (λ s. s.1 ≤ result) starts.now }
+    ensures latest { All (λ s. s.1 ≤ result) starts.now }
+    ensures is_one { (result ≡ 0) ⊎ IsTrue (list_any (λ s. s.1 == result) starts.now) }
 {
     let mut last = 0;
     for (_, at) in starts {
-        last = later(last, *at);
+        last = last.max(*at);
     }
     last
-}
-
-fn later(one: u32, other: u32) -> u32
-    ensures one { one ≤ result }
-    ensures other { other ≤ result }
-{
-    if one < other { other } else { one }
 }
 
 // The start of a statement itself, where it has a number.

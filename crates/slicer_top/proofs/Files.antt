@@ -4,6 +4,8 @@ use Rattle.std.specs.Prelude.{Option, Some, None, IsSome, IsSomeAnd, Result, Ok,
 use Rattle.edge_io.specs.Contents.{Told, Lacks, HoldsMoreThan}
 use Rattle.edge_io.specs.Count.{Rose}
 use Rattle.c_language.specs.Words.{Bytes}
+use Rattle.c_reader.specs.Reading.{IsRight}
+use Rattle.c_reader.specs.declared.refusal.ReadRefusal.{ReadRefusal}
 use Rattle.c_reader.specs.declared.refusal.ReadRefusal.TheVariants as read
 use Rattle.slice_engine.specs.Slice.{HasStart}
 use Rattle.slicer_top.specs.declared.refusal.Refusal.{Refusal}
@@ -13,6 +15,7 @@ use Rattle.slicer_top.specs.declared.status.Status.TheVariants as status
 use Rattle.slicer_top.specs.Files.{Holds, OfFile}
 use Rattle.slicer_top.specs.Slices.{StartsOn, IsSliceOf}
 use Rattle.slicer_top.specs.Statuses.{NoFault}
+use Rattle.slicer_top.specs.Refusals.{of_reading}
 use Rattle.slicer_top.specs.Reports.{IsReason, IsCause, IsReported}
 use Rattle.slicer_top.proofs.ReaderLaws.{one_program, only_memory}
 
@@ -84,6 +87,13 @@ pub sliced_starts : (told : Told) (name file text written : Bytes) (at line : �
 sliced_starts told name file text written at line same_name same_line holds sliced =
     let of_text = (of_file told name text _ (subst (λ n. Holds told n text) (sym same_name) holds) sliced).1 in
     record { program = of_text.program; built = of_text.built; starts = subst (HasStart of_text.program) same_line of_text.starts }
+
+-- a refusal of the reader that the text shows is one of the text
+pub reading_shows : (text : Bytes) (at : ℕ) (r : ReadRefusal) → IsRight text (Err r) → IsReason text at (of_reading r)
+reading_shows text at (read.Lex fault) is = is
+reading_shows text at (read.Parse fault) is = is
+reading_shows text at (read.Check fault) is = is
+reading_shows text at read.NoMemory is = is
 
 -- a refusal that is passed on
 pub passes_on : {A : Type 0} (P : Refusal → Type 0) (refusal : Refusal) (passed : Result A Refusal) → IsErrAnd passed (λ y. y ≡ refusal) → P refusal → IfErr passed P

@@ -1,6 +1,7 @@
 pub mod Files
 pub mod Limits
 pub mod Lines
+pub mod Refusals
 pub mod Reports
 pub mod Slices
 pub mod Statuses

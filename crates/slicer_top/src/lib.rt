@@ -12,5 +12,6 @@ mod status;
 mod words;
 
 pub use edge_io::{FileShelf, StreamSink, Text};
+pub use report::tell_no_memory;
 pub use run::run_slicer;
 pub use status::Status;

@@ -1,8 +1,10 @@
 // Why a file gives no slice.
 ghost use Rattle.std.specs.Prelude.{◌≡◌};
 ghost use Rattle.slicer_top.specs.declared.refusal.Refusal.TheVariants.{NoMemory};
+ghost use Rattle.slicer_top.specs.Refusals.{of_fetch, of_reading};
 
-use slice_engine::{LexFault, ParseFault, RuleFault};
+use edge_io::FetchFault;
+use slice_engine::{LexFault, ParseFault, ReadRefusal, RuleFault};
 use std::alloc::AllocError;
 
 /// Why a file gives no slice at a line. No inner fault is `NoMemory`.
@@ -31,5 +33,30 @@ impl From<AllocError> for Refusal {
 
     fn from(_: AllocError) -> Refusal {
         Refusal::NoMemory
+    }
+}
+
+impl From<FetchFault> for Refusal {
+    ghost from_gives = { λ fault refusal. refusal ≡ of_fetch fault };
+
+    fn from(fault: FetchFault) -> Refusal {
+        match fault {
+            FetchFault::Failed => Refusal::Unreadable,
+            FetchFault::TooLong => Refusal::TooLong,
+            FetchFault::NoMemory => Refusal::NoMemory,
+        }
+    }
+}
+
+impl From<ReadRefusal> for Refusal {
+    ghost from_gives = { λ fault refusal. refusal ≡ of_reading fault };
+
+    fn from(fault: ReadRefusal) -> Refusal {
+        match fault {
+            ReadRefusal::Lex(fault) => Refusal::Lex(fault),
+            ReadRefusal::Parse(fault) => Refusal::Parse(fault),
+            ReadRefusal::Check(fault) => Refusal::Check(fault),
+            ReadRefusal::NoMemory => Refusal::NoMemory,
+        }
     }
 }

@@ -36,6 +36,7 @@ pub fn run_slicer<F: Shelf, O: Sink, E: Sink>(
     // The words: Usage comes exactly where they are others.
     ensures usage { result ≡ Status.Usage → IsInForm words.now → ⊥ }
     ensures other_words { (IsInForm words.now → ⊥) → IsOrYields (E.faults err.old) (E.faults err.new) result Status.Usage }
+    ensures unasked { (IsInForm words.now → ⊥) → shelf.new ≡ shelf.old }
 
     // The file: it is read, or the shelf had a fault, lacks it or found it too long.
     ensures read_fault { result ≡ Status.ReadFault
@@ -102,6 +103,7 @@ pub fn run_slicer<F: Shelf, O: Sink, E: Sink>(
         × PutOrCutOff (E.faults err.old) (E.faults err.new) (E.written err.old) (E.written err.new) cannot_write) }
     ensures tells { Tells (E.faults err.old) (E.faults err.new) (E.written err.old) (E.written err.new)
         (file_of words.now) (line_of words.now) result }
+    ensures silent { result ≡ Status.Done → err.new ≡ err.old }
 
     // The shelf holds what it held.
     ensures contents { F.contents shelf.new ≡ F.contents shelf.old }
@@ -119,6 +121,7 @@ pub fn run_slicer<F: Shelf, O: Sink, E: Sink>(
 fn write_slice<O: Sink, E: Sink>(written: &Text, out: &mut O, err: &mut E) -> Status
     ensures done { result ≢ Status.WriteFault → result ≡ Status.Done }
     ensures ok { result ≡ Status.Done → Gains (O.written out.old) (O.written out.new) written.now }
+    ensures silent { result ≡ Status.Done → err.new ≡ err.old }
     ensures failed { result ≡ Status.WriteFault → Rose (O.faults out.old) (O.faults out.new) }
     ensures front { result ≡ Status.WriteFault → GainsFront (O.written out.old) (O.written out.new) written.now }
     ensures line { result ≡ Status.WriteFault

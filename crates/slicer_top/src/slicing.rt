@@ -1,7 +1,6 @@
 // From the name of a file to the text of a slice.
 ghost use Rattle.std.specs.Prelude.{◌≡◌, ℕ, ◌≤◌, IfOk, IfErr, MatchOption, length};
 ghost use Rattle.edge_io.specs.Contents.{Lacks};
-ghost use Rattle.c_reader.specs.Reading.{HasProgram};
 ghost use Rattle.slice_engine.specs.Slice.{HasStart};
 ghost use Rattle.slicer_top.specs.Files.{OfFile};
 ghost use Rattle.slicer_top.specs.Slices.{HasBuilt, IsSliceOf};
@@ -10,8 +9,8 @@ ghost use Rattle.slicer_top.specs.Reports.{IsReason, IsCause};
 use crate::refusal::Refusal;
 use crate::words::Request;
 use c_tree::Program;
-use edge_io::{FetchFault, Shelf, Text};
-use slice_engine::{Criterion, Engine, ReadRefusal, not_yet, read_program};
+use edge_io::{Shelf, Text};
+use slice_engine::{Criterion, Engine, not_yet, read_program};
 use std::alloc::Global;
 
 // The most bytes that a file may have.
@@ -32,12 +31,8 @@ pub(crate) fn slice_file<F: Shelf>(
     ensures missing { F.never_fails shelf.old → IfErr result (λ refusal. refusal ≡ Refusal.Unreadable
         → Lacks (F.contents shelf.old) request.entry.file.now) }
 {
-    match shelf.fetch(alloc, request.file, MAX_FILE_BYTES) {
-        Ok(bytes) => slice_text_at(alloc, bytes.as_slice(), request.line),
-        Err(FetchFault::Failed) => Err(Refusal::Unreadable),
-        Err(FetchFault::TooLong) => Err(Refusal::TooLong),
-        Err(FetchFault::NoMemory) => Err(Refusal::NoMemory),
-    }
+    let bytes = shelf.fetch(alloc, request.file, MAX_FILE_BYTES)?;
+    slice_text_at(alloc, bytes.as_slice(), request.line)
 }
 
 // The text of the slice at a line, or why this text gives none.
@@ -61,25 +56,10 @@ fn built(alloc: Global, text: &[u8]) -> Result<Program, Refusal>
     ensures ok { IfOk result (HasBuilt text.now) }
     ensures err { (line : ℕ) → IfErr result (IsReason text.now line) }
 {
-    let program = read(alloc, text)?;
+    let program = read_program(alloc, text)?;
     match not_yet(&program) {
         Some(line) => Err(Refusal::NotYet(line)),
         None => Ok(program),
-    }
-}
-
-// The program of a text that is accepted and within the limits.
-fn read(alloc: Global, text: &[u8]) -> Result<Program, Refusal>
-    requires { length text.now ≤ 1048576 }
-    ensures ok { IfOk result (HasProgram text.now) }
-    ensures err { (line : ℕ) → IfErr result (IsReason text.now line) }
-{
-    match read_program(alloc, text) {
-        Ok(program) => Ok(program),
-        Err(ReadRefusal::Lex(fault)) => Err(Refusal::Lex(fault)),
-        Err(ReadRefusal::Parse(fault)) => Err(Refusal::Parse(fault)),
-        Err(ReadRefusal::Check(fault)) => Err(Refusal::Check(fault)),
-        Err(ReadRefusal::NoMemory) => Err(Refusal::NoMemory),
     }
 }
 

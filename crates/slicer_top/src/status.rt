@@ -1,5 +1,9 @@
 // How a call ends.
 ghost use Rattle.std.specs.Prelude.{◌≡◌};
+ghost use Rattle.std.specs.Process.{exit_status};
+ghost use Rattle.slicer_top.specs.Statuses.{code_of};
+
+use std::process::ExitCode;
 
 /// How a call ends. Each status has its exit code, and all but `Done` have a line on err.
 #[derive(Clone, Copy, Debug, PartialEq, Eq)]
@@ -39,5 +43,13 @@ impl Status {
             Status::Limit => 8,
             Status::TooLong => 9,
         }
+    }
+}
+
+impl From<Status> for ExitCode {
+    ghost from_gives = { λ status code. exit_status code ≡ code_of status };
+
+    fn from(status: Status) -> ExitCode {
+        ExitCode::from(status.code())
     }
 }

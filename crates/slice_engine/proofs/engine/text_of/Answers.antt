@@ -4,6 +4,7 @@ use Rattle.c_language.specs.Layout.{layout}
 use Rattle.c_print.proofs.LayoutLength.{few_lines}
 use Rattle.slice_engine.specs.Slice.{header}
 use Rattle.slice_engine.specs.Criterion.{shown_lines}
+use Rattle.slice_engine.proofs.EngineLaws.{short_enough}
 use Rattle.slice_engine.proofs.SliceLaws.{is_slice, is_read}
 use Rattle.slice_engine.proofs.engine.text_of.Goals as goal
 
@@ -11,7 +12,8 @@ pub lines_of-requires : goal.lines_of-requires
 lines_of-requires c =
     let q = c.in_ok-sliced.sliced.program in
     let size = ap length c.bytes.ensures ∙ ap length c.in_ok-layout.ensures in
-    record { fits = omega (arith, few_lines q, size, c.if-bytes-gt-MAX_LAYOUT_BYTES.false) }
+    let short = short_enough (length c.bytes.result.now) c.is_too_long.result c.is_too_long.ensures c.if-is_too_long.false in
+    record { fits = omega (arith, few_lines q, size, short) }
 
 pub returns-clause-slice : goal.returns-clause-slice
 returns-clause-slice c =
@@ -33,4 +35,5 @@ returns-clause-read c =
     let text = c.in_ok-append.ensures.ok ∙ ap (λ b. c.in_ok-text.text ++ b) (c.bytes-2.ensures ∙ c.in_ok-layout.ensures) ∙ ap (λ b. b ++ layout q) (c.in_ok-text.ensures ∙ ap (header c.args.line) c.as_slice-3.ensures.value) in
     let low = c.ranges.line.fits in
     let size = ap length c.bytes.ensures ∙ ap length c.in_ok-layout.ensures in
-    is_read c.args.p.now c.args.line q w c.requires.well_formed c.requires.numbered c.in_ok-sliced.ensures lines shown c.append.new.self c.in_ok-lines.ensures.lines exact (omega (arith, low)) (omega (arith, size, c.if-bytes-gt-MAX_LAYOUT_BYTES.false)) text
+    let short = short_enough (length c.bytes.result.now) c.is_too_long.result c.is_too_long.ensures c.if-is_too_long.false in
+    is_read c.args.p.now c.args.line q w c.requires.well_formed c.requires.numbered c.in_ok-sliced.ensures lines shown c.append.new.self c.in_ok-lines.ensures.lines exact (omega (arith, low)) (omega (arith, size, short)) text

@@ -1,13 +1,18 @@
-use Rattle.std.proofs.Common.{◌≤◌, ℕ, All, subst, arith}
-use Rattle.std.proofs.lemmas.List.{take_all}
-use Rattle.slice_engine.proofs.StartLemmas.{latest_more}
+use Rattle.std.proofs.Common.{arith}
+use Rattle.slice_engine.proofs.StartLemmas.{latest_none, latest_next, latest_all}
 use Rattle.slice_engine.proofs.starts.last_line.Goals as goal
+
+pub loop-at-init : goal.loop-at-init
+loop-at-init c = latest_none c.args.starts.now
 
 pub loop-at-preserved : goal.loop-at-preserved
 loop-at-preserved c =
-    latest_more c.args.starts.now c.loop-at.at-index c.loop-at.last c.later-last.result (0, 0) c.loop-at-test.true c.later-last.ensures.one c.later-last.ensures.other c.loop-at.invariant
+    latest_next c.args.starts.now c.loop-at.at-index c.loop-at.last c.max-last.result (0, 0) c.loop-at-test.true c.max-last.ensures c.loop-at.invariant
 
-pub returns : goal.returns
-returns c =
+pub returns-clause-latest : goal.returns-clause-latest
+returns-clause-latest c =
     let end = c.loop-at-test.false in
-    subst (All (λ (s : ℕ × ℕ). s.1 ≤ c.loop-at.last)) (take_all c.loop-at.at-index c.args.starts.now (omega (arith, end))) c.loop-at.invariant
+    latest_all c.args.starts.now c.loop-at.at-index c.loop-at.last (omega (arith, end)) c.loop-at.invariant
+
+pub returns-clause-is_one : goal.returns-clause-is_one
+returns-clause-is_one c = c.loop-at.invariant.is_one

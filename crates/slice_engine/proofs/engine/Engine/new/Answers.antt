@@ -1,5 +1,6 @@
-use Rattle.std.proofs.Common.{arith}
+use Rattle.std.proofs.Common.{length, arith}
 use Rattle.integer_texts.proofs.BuiltMains.{built_numbered}
+use Rattle.slice_engine.proofs.EngineLaws.{few_enough}
 use Rattle.slice_engine.proofs.engine.Engine.new.Goals as goal
 
 pub edges_of-requires-clause-numbered : goal.edges_of-requires-clause-numbered
@@ -9,7 +10,13 @@ pub invariant_of-result : goal.invariant_of-result
 invariant_of-result c = record {
   well_formed = c.requires.well_formed;
   numbered = built_numbered c.args.p c.requires.well_formed c.requires.built;
-  few = omega (arith, c.if-p-gt-MAX_STATEMENTS.false);
+  few = omega (arith, (few_enough c.args.p.statements (length c.args.p.vars) c.is_too_large.result c.is_too_large.ensures c.if-is_too_large.false).0);
   has_edges = c.in_ok-edges.ensures;
   starts_are = c.in_ok-starts.ensures;
 }
+
+pub edges_of-requires-clause-few : goal.edges_of-requires-clause-few
+edges_of-requires-clause-few c = omega (arith, (few_enough c.args.p.statements (length c.args.p.vars) c.is_too_large.result c.is_too_large.ensures c.if-is_too_large.false).0)
+
+pub edges_of-requires-clause-narrow : goal.edges_of-requires-clause-narrow
+edges_of-requires-clause-narrow c = omega (arith, (few_enough c.args.p.statements (length c.args.p.vars) c.is_too_large.result c.is_too_large.ensures c.if-is_too_large.false).1)

@@ -1,0 +1,18 @@
+-- What a fault of the shelf and of the reader is to a slice.
+use Rattle.edge_io.specs.declared.shelf.FetchFault.{FetchFault}
+use Rattle.edge_io.specs.declared.shelf.FetchFault.TheVariants as fetch
+use Rattle.c_reader.specs.declared.refusal.ReadRefusal.{ReadRefusal}
+use Rattle.c_reader.specs.declared.refusal.ReadRefusal.TheVariants as reading
+use Rattle.slicer_top.specs.declared.refusal.Refusal.{Refusal}
+use Rattle.slicer_top.specs.declared.refusal.Refusal.TheVariants.{Unreadable, TooLong, Lex, Parse, Check, NoMemory}
+
+abbrev pub of_fetch : FetchFault → Refusal
+of_fetch fetch.Failed = Unreadable
+of_fetch fetch.TooLong = TooLong
+of_fetch fetch.NoMemory = NoMemory
+
+abbrev pub of_reading : ReadRefusal → Refusal
+of_reading (reading.Lex fault) = Lex fault
+of_reading (reading.Parse fault) = Parse fault
+of_reading (reading.Check fault) = Check fault
+of_reading reading.NoMemory = NoMemory
