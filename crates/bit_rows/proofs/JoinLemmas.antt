@@ -3,7 +3,7 @@ use Rattle.std.proofs.Common.{◌≡◌, ◌≢◌, ◌↔◌, ℕ, ◌+◌, ◌
 use Rattle.std.proofs.lemmas.List.{with_items_is, ext_get_or, get_or-take, get_or-drop, get_or_past, length-take, length-take-le, length-drop, length-append, get_or-append_right, get_or_append_left}
 use Rattle.std.proofs.lemmas.Nat.{or_lt}
 use Rattle.std.proofs.lemmas.Nat.Bits.{bit_at-lt, same_from_bits, bit_at_above}
-use Rattle.std.proofs.lemmas.Bool.{cases_lt}
+use Rattle.std.proofs.lemmas.Bool.{cases_lt, or_from}
 use Rattle.std.proofs.lemmas.Bool.Decides.{nat_tests}
 use Rattle.std.proofs.lemmas.Simd.{length-zip2, get_or-zip2}
 use Rattle.std.specs.Global.{Vec}
@@ -15,7 +15,7 @@ use Rattle.bit_rows.specs.Tables.{Table, the_set, with_set, IsGrown}
 use Rattle.bit_rows.specs.Words.{word_bit, row_words, union_words, IsClean, IsJoinedAt, AreWords, AreLaidOut}
 use Rattle.bit_rows.proofs.SetLemmas.{has-union, length-union}
 use Rattle.bit_rows.proofs.TableLemmas.{join_grown}
-use Rattle.bit_rows.proofs.WordLemmas.{word_bit_past, or_bit, both_false}
+use Rattle.bit_rows.proofs.WordLemmas.{word_bit_past, or_bit}
 use Rattle.bit_rows.proofs.LayoutLemmas.{bit, table, AreWordsOf, held_by, size_of, has_is, bit_clean, place_apart, written}
 
 -- ---- `join_at`: the part from `at` on in which the union was put
@@ -81,7 +81,7 @@ row_joined {n} {w} {c} {ws} {t} held vs from r s h j short clean l says =
     ∙ ap (λ b. b || word_bit from i) (has_is held r i h (omega (arith, size.bits_are)))
     ∙ ap (λ b. has old i || b) (sym (says i g))
     ∙ sym (has-union old s i (long ∙ sym l)))
-    (λ i past inside. bit_joined ws vs from w r i j ∙ both_false _ _ (bit_clean held.laid r i (omega (arith, size.rows_are)) past inside) (clean i past))
+    (λ i past inside. bit_joined ws vs from w r i j ∙ or_from _ _ (bit_clean held.laid r i (omega (arith, size.rows_are)) past inside) (clean i past))
     (λ k i other inside. bit_apart ws vs from w r k i j short other inside)
 
 -- ---- whether a word changed is whether the table did

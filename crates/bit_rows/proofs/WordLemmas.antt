@@ -1,16 +1,12 @@
--- Sets in words, for this crate and those above: which numbers words hold, and that the union of words
--- holds the union of the sets.
-use Rattle.std.proofs.Common.{◌≡◌, ℕ, zero, suc, ◌*◌, ◌/◌, ◌%◌, ◌<◌, ◌≤◌, Bool, false, ◌||◌, eqb, List, length, get_or, refl, sym, ap, ◌∙◌, arith, inl, inr, max}
+-- Sets in words, for this crate and those above: which numbers words hold, and the bits of an or of words.
+use Rattle.std.proofs.Common.{◌≡◌, ℕ, zero, suc, ◌/◌, ◌%◌, ◌<◌, ◌≤◌, false, ◌||◌, eqb, List, length, get_or, refl, ap, ◌∙◌, arith, max}
 use Rattle.std.proofs.lemmas.List.{get_or_past}
 use Rattle.std.proofs.lemmas.List.FromFn.{get_or-map-range_with_len, length-map-range_with_len}
 use Rattle.std.proofs.lemmas.Nat.Bits.{bit_at-zero, bit_at_or, bit_at-lt}
-use Rattle.std.proofs.lemmas.Bool.{cases_lt}
-use Rattle.std.proofs.lemmas.Simd.{length-zip2, get_or-zip2}
 use Rattle.std.specs.Int.{bit_at}
 use Rattle.std.specs.Int.Bits.{bit_or}
-use Rattle.bit_rows.specs.Sets.{has, union}
-use Rattle.bit_rows.specs.Words.{word_bit, set_of, union_words, IsClean}
-use Rattle.bit_rows.proofs.SetLemmas.{same_set, has-union, length-union}
+use Rattle.bit_rows.specs.Sets.{has}
+use Rattle.bit_rows.specs.Words.{word_bit, set_of}
 
 -- ---- the set that words hold
 pub length-set_of : (n : ℕ) (ws : List ℕ) → length (set_of n ws) ≡ n
@@ -27,10 +23,6 @@ no_bit x i h = ap (λ y. eqb (bit_at y i) 1) h ∙ ap (λ y. eqb y 1) (bit_at-ze
 pub word_bit_past : (ws : List ℕ) (i : ℕ) → length ws ≤ i / 64 → word_bit ws i ≡ false
 word_bit_past ws i h = no_bit (get_or ws (i / 64) 0) (i % 64) (get_or_past ws (i / 64) 0 h)
 
--- words that end before the bound are clean
-pub clean_short : (n : ℕ) (ws : List ℕ) → length ws * 64 ≤ n → IsClean n ws
-clean_short n ws h i past = word_bit_past ws i (omega arith)
-
 -- ---- unions
 max_bit : (x y : ℕ) → x < 2 → y < 2 → eqb (max x y) 1 ≡ (eqb x 1 || eqb y 1)
 max_bit zero zero h k = refl
@@ -44,29 +36,3 @@ max_bit (suc (suc x)) y h k = absurd (omega arith)
 -- a bit of an or is that of either word
 pub or_bit : (a b i : ℕ) → eqb (bit_at (bit_or a b) i) 1 ≡ (eqb (bit_at a i) 1 || eqb (bit_at b i) 1)
 or_bit a b i = ap (λ x. eqb x 1) (bit_at_or a b i) ∙ max_bit (bit_at a i) (bit_at b i) (bit_at-lt a i) (bit_at-lt b i)
-
-pub both_false : (a b : Bool) → a ≡ false → b ≡ false → (a || b) ≡ false
-both_false a b h k = ap (λ x. x || b) h ∙ k
-
-pub word_bit-union_words : (ws vs : List ℕ) (i : ℕ) → length ws ≡ length vs → word_bit (union_words ws vs) i ≡ (word_bit ws i || word_bit vs i)
-word_bit-union_words ws vs i l = elim (cases_lt (i / 64) (length ws)) [
-  | inl low ↦
-      ap (λ x. eqb (bit_at x (i % 64)) 1) (get_or-zip2 bit_or ws vs (i / 64) 0 0 0 low (omega arith))
-      ∙ or_bit (get_or ws (i / 64) 0) (get_or vs (i / 64) 0) (i % 64)
-  | inr high ↦
-      word_bit_past (union_words ws vs) i (omega (arith, length-zip2 bit_or ws vs l))
-      ∙ sym (both_false (word_bit ws i) (word_bit vs i) (word_bit_past ws i high) (word_bit_past vs i (omega arith)))
-]
-
-pub set_of-union_words : (n : ℕ) (ws vs : List ℕ) → length ws ≡ length vs → set_of n (union_words ws vs) ≡ union (set_of n ws) (set_of n vs)
-set_of-union_words n ws vs l =
-    let long : length (set_of n ws) ≡ length (set_of n vs) = length-set_of n ws ∙ sym (length-set_of n vs) in
-    same_set (set_of n (union_words ws vs)) (union (set_of n ws) (set_of n vs))
-    (length-set_of n (union_words ws vs) ∙ sym (length-union (set_of n ws) (set_of n vs) ∙ length-set_of n ws))
-    (λ i h.
-    let low : i < n = omega (arith, length-set_of n (union_words ws vs)) in
-    has-set_of n (union_words ws vs) i low
-    ∙ word_bit-union_words ws vs i l
-    ∙ ap (λ b. b || word_bit vs i) (sym (has-set_of n ws i low))
-    ∙ ap (λ b. has (set_of n ws) i || b) (sym (has-set_of n vs i low))
-    ∙ sym (has-union (set_of n ws) (set_of n vs) i long))

@@ -1,5 +1,5 @@
 -- Sets of numbers below a bound, each a list of tests: one for each number, as many as the bound.
-use Rattle.std.specs.Prelude.{ℕ, Bool, true, false, ◌||◌, List, [], ◌∷◌, get_or, count_by, ◌≡◌}
+use Rattle.std.specs.Prelude.{ℕ, Bool, false, ◌||◌, List, [], ◌∷◌, get_or, count_by}
 
 -- whether a number is a member
 abbrev pub has : List Bool → ℕ → Bool
@@ -10,10 +10,6 @@ abbrev pub union : List Bool → List Bool → List Bool
 union [] t = []
 union (x ∷ s) [] = x ∷ s
 union (x ∷ s) (y ∷ t) = (x || y) ∷ union s t
-
--- each member of the first set is a member of the second
-abbrev pub IsSubset : List Bool → List Bool → Type 0
-IsSubset s t = (i : ℕ) → has s i ≡ true → has t i ≡ true
 
 -- how many members a set has
 abbrev pub count_of : List Bool → ℕ

@@ -7,7 +7,7 @@ use Rattle.c_tree.specs.declared.expr.Expr.{Expr}
 use Rattle.c_tree.specs.declared.program.Var.{Var}
 use Rattle.c_tree.specs.declared.raw.expr.RawExpr.{RawExpr}
 use Rattle.c_tree.specs.declared.raw.program.RawProgram.{RawProgram}
-use Rattle.c_tree.specs.declared.raw.statement.RawArm.{RawArm, fold-RawArm, roll-RawArm, map-RawArm, fold-roll-RawArm}
+use Rattle.c_tree.specs.declared.raw.statement.RawArm.{RawArm, roll-RawArm, map-RawArm, fold-roll-RawArm}
 use Rattle.c_tree.specs.declared.raw.statement.RawStatement.{RawStatement, ind-RawStatement, roll-RawStatement, map-RawStatement, fold-roll-RawStatement}
 use Rattle.c_tree.specs.declared.raw.statement.RawStatement.TheOpen.{RawStatement-F, RawArm-F}
 use Rattle.c_tree.specs.declared.raw.statement.RawTarget.{RawTarget}
@@ -19,14 +19,17 @@ use Rattle.c_language.specs.Phrases.{Stand, InBlock, InArm, InFor, Part, Assigns
 use Rattle.c_language.specs.ProgramOf.{collected, optional, ctype_if, expr_of, target_tree, amount_tree, label_tree, arm_tree, ArmTree, arm_tree_step, block_tree, at_type, switch_type, for_tree, treed_step, treed, declared_by, variables_in}
 use Rattle.c_language.specs.Scopes.{Scope, Scoped, opened, closed, numbered, with_target, in_order, after_all, after_block}
 use Rattle.c_language.specs.TypeGrammar.{named_type}
+use Rattle.c_language.proofs.TreedForms.{treed_arm}
+use Rattle.c_language.proofs.Options.{none_there, some_same, map_some}
+use Rattle.c_language.proofs.PhraseLists.{variables-append}
 use Rattle.built_forms.specs.IntegerForms.{is_integer}
 use Rattle.built_forms.specs.BuiltForms.{unless, or_else, statement_outside, body_outside, part_outside, arms_outside, integer_labels}
 use Rattle.built_forms.proofs.Declaring.{AreIntegers, no_integers, more_integers, declared, called, allocated}
 use Rattle.built_forms.proofs.Kept.{AreKept, kept_first, kept_second}
 use Rattle.built_forms.proofs.Layers.{outside-If, outside-While, outside-Do, outside-For, outside-Switch, outside-Block}
 use Rattle.built_forms.proofs.Lines.{first_none}
-use Rattle.built_forms.proofs.Moves.{AreOfMain, both_of_main, Moves, nothing_moves, number_moves, then_moves, numbered_moves, opened_moves, closed_moves, standing_moves, phrase_moves, declaration_moves, target_moves, variables_both, count_both}
-use Rattle.built_forms.proofs.Options.{none_some, same_some, then_some, map_some, both_some, collected_some}
+use Rattle.built_forms.proofs.Moves.{AreOfMain, both_of_main, Moves, nothing_moves, number_moves, then_moves, numbered_moves, opened_moves, closed_moves, standing_moves, phrase_moves, declaration_moves, target_moves, count_both}
+use Rattle.built_forms.proofs.Options.{then_some, both_some, collected_some}
 
 module _ (raw : RawProgram) (vars : List Var) where
   -- a statement in the tree and as phrases
@@ -38,14 +41,11 @@ module _ (raw : RawProgram) (vars : List Var) where
     pub moves : Moves raw t.after w.after (λ scope stand. (w.gives scope).phrases)
     pub integers : (scope : Scope) (k : IntType) (a : Arm) → t.gives scope k ≡ Some a → body_outside vars a.body ≡ None → AreKept raw (w.gives scope).phrases → AreIntegers vars scope.variables (w.after scope).variables
 
-  abbrev of_arm : RawArm → Scoped ArmTree
-  of_arm = fold-RawArm (Scoped (Option Statement)) (Scoped ArmTree) (treed_step raw) (arm_tree_step raw)
-
   abbrev Known : Type 0
   Known = (one : RawStatement) × Case (treed raw one) (scoped raw one)
 
   abbrev KnownArm : Type 0
-  KnownArm = (a : RawArm) × ArmCase (of_arm a) (scoped_of_arm raw a)
+  KnownArm = (a : RawArm) × ArmCase (treed_arm raw a) (scoped_of_arm raw a)
 
   abbrev layer_of : RawStatement-F Known KnownArm → RawStatement-F RawStatement RawArm
   layer_of = map-RawStatement Known KnownArm RawStatement RawArm (λ p. p.0) (λ p. p.0)
@@ -54,13 +54,13 @@ module _ (raw : RawProgram) (vars : List Var) where
   arm_layer_of = map-RawArm Known KnownArm RawStatement RawArm (λ p. p.0) (λ p. p.0)
 
   abbrev as_tree : RawStatement-F RawStatement RawArm → Scoped (Option Statement)
-  as_tree y = treed_step raw (map-RawStatement RawStatement RawArm (Scoped (Option Statement)) (Scoped ArmTree) (treed raw) of_arm y)
+  as_tree y = treed_step raw (map-RawStatement RawStatement RawArm (Scoped (Option Statement)) (Scoped ArmTree) (treed raw) (treed_arm raw) y)
 
   abbrev as_text : RawStatement-F RawStatement RawArm → Scoped (Stand → Phrases)
   as_text y = scoped_step raw (map-RawStatement RawStatement RawArm (Scoped (Stand → Phrases)) (Scoped ArmText) (scoped raw) (scoped_of_arm raw) y)
 
   abbrev as_arm_tree : RawArm-F RawStatement RawArm → Scoped ArmTree
-  as_arm_tree y = arm_tree_step raw (map-RawArm RawStatement RawArm (Scoped (Option Statement)) (Scoped ArmTree) (treed raw) of_arm y)
+  as_arm_tree y = arm_tree_step raw (map-RawArm RawStatement RawArm (Scoped (Option Statement)) (Scoped ArmTree) (treed raw) (treed_arm raw) y)
 
   abbrev as_arm_text : RawArm-F RawStatement RawArm → Scoped ArmText
   as_arm_text y = scoped_arm (map-RawArm RawStatement RawArm (Scoped (Stand → Phrases)) (Scoped ArmText) (scoped raw) (scoped_of_arm raw) y)
@@ -72,7 +72,7 @@ module _ (raw : RawProgram) (vars : List Var) where
   texts ks = map (scoped raw) (map (λ (p : Known). p.0) ks)
 
   abbrev arm_trees : List KnownArm → List (Scoped ArmTree)
-  arm_trees ks = map of_arm (map (λ (p : KnownArm). p.0) ks)
+  arm_trees ks = map (treed_arm raw) (map (λ (p : KnownArm). p.0) ks)
 
   abbrev arm_texts : List KnownArm → List (Scoped ArmText)
   arm_texts ks = map (scoped_of_arm raw) (map (λ (p : KnownArm). p.0) ks)
@@ -113,7 +113,7 @@ module _ (raw : RawProgram) (vars : List Var) where
   arms_moves : (ks : List KnownArm) → Moves raw (after_all (arm_trees ks)) (after_all (arm_texts ks)) (arms_phrases ks)
   arms_moves [] = nothing_moves raw
   arms_moves (k ∷ ks) =
-      then_moves raw (of_arm k.0).after (scoped_of_arm raw k.0).after (λ scope stand. ((scoped_of_arm raw k.0).gives scope).phrases) (after_all (arm_trees ks)) (after_all (arm_texts ks)) (arms_phrases ks) k.1.moves (arms_moves ks)
+      then_moves raw (treed_arm raw k.0).after (scoped_of_arm raw k.0).after (λ scope stand. ((scoped_of_arm raw k.0).gives scope).phrases) (after_all (arm_trees ks)) (after_all (arm_texts ks)) (arms_phrases ks) k.1.moves (arms_moves ks)
 
   arms_integers : (ks : List KnownArm) (scope : Scope) (t : IntType) (xs : List Arm) → at_type t (in_order (arm_trees ks) scope) ≡ Some xs → arms_outside vars xs ≡ None
       → AreKept raw (phrases_of_arms (in_order (arm_texts ks) scope)) → AreIntegers vars scope.variables (after_all (arm_texts ks) scope).variables
@@ -121,7 +121,7 @@ module _ (raw : RawProgram) (vars : List Var) where
   arms_integers (k ∷ ks) scope t xs e none kept =
       let next = (scoped_of_arm raw k.0).after scope in
       let own = ((scoped_of_arm raw k.0).gives scope).phrases in
-      let z = collected_some ((of_arm k.0).gives scope t) (map (λ (a : ArmTree). a t) (in_order (arm_trees ks) ((of_arm k.0).after scope))) xs e in
+      let z = collected_some ((treed_arm raw k.0).gives scope t) (map (λ (a : ArmTree). a t) (in_order (arm_trees ks) ((treed_arm raw k.0).after scope))) xs e in
       let free = first_none (body_outside vars z.0.body) (arms_outside vars z.1) (ap (arms_outside vars) (sym z.4) ∙ none) in
       let rest : at_type t (in_order (arm_trees ks) next) ≡ Some z.1 = ap (λ (y : Scope). at_type t (in_order (arm_trees ks) y)) (sym (k.1.moves.same scope)) ∙ z.3 in
       more_integers vars scope.variables next.variables (after_all (arm_texts ks) next).variables (k.1.integers scope t z.0 z.2 free.0 (kept_first raw own (arms_phrases ks next InArm) kept))
@@ -166,8 +166,8 @@ module _ (raw : RawProgram) (vars : List Var) where
   part_integers (Some k) scope stand x e none kept = given ((treed raw k.0).gives scope) refl e
     where
       given : (o : Option Statement) → (treed raw k.0).gives scope ≡ o → optional (Some o) ≡ Some x → AreIntegers vars scope.variables ((scoped raw k.0).after scope).variables
-      given None is h = absurd (none_some h)
-      given (Some y) is h = k.1.integers scope stand y is (ap (part_outside vars) (same_some h) ∙ none) kept
+      given None is h = none_there h
+      given (Some y) is h = k.1.integers scope stand y is (ap (part_outside vars) (some_same h) ∙ none) kept
 
   -- the body of a for, behind its step
   abbrev turn_phrases : Option Known → List Known → Scope → Stand → Phrases
@@ -341,11 +341,11 @@ module _ (raw : RawProgram) (vars : List Var) where
 
   statement_case : (one : RawStatement) → Case (treed raw one) (scoped raw one)
   statement_case =
-      ind-RawStatement (λ one. Case (treed raw one) (scoped raw one)) (λ a. ArmCase (of_arm a) (scoped_of_arm raw a))
+      ind-RawStatement (λ one. Case (treed raw one) (scoped raw one)) (λ a. ArmCase (treed_arm raw a) (scoped_of_arm raw a))
       (λ z y is. subst (λ w. Case (treed raw (roll-RawStatement w)) (scoped raw (roll-RawStatement w))) is
       (subst (λ t. Case t (scoped raw (roll-RawStatement (layer_of y)))) (sym (fold-roll-RawStatement (Scoped (Option Statement)) (Scoped ArmTree) (treed_step raw) (arm_tree_step raw) (layer_of y)))
       (subst (λ w. Case (as_tree (layer_of y)) w) (sym (fold-roll-RawStatement (Scoped (Stand → Phrases)) (Scoped ArmText) (scoped_step raw) scoped_arm (layer_of y))) (layer_case y))))
-      (λ z y is. subst (λ w. ArmCase (of_arm (roll-RawArm w)) (scoped_of_arm raw (roll-RawArm w))) is
+      (λ z y is. subst (λ w. ArmCase (treed_arm raw (roll-RawArm w)) (scoped_of_arm raw (roll-RawArm w))) is
       (subst (λ t. ArmCase t (scoped_of_arm raw (roll-RawArm (arm_layer_of y)))) (sym (fold-roll-RawArm (Scoped (Option Statement)) (Scoped ArmTree) (treed_step raw) (arm_tree_step raw) (arm_layer_of y)))
       (subst (λ w. ArmCase (as_arm_tree (arm_layer_of y)) w) (sym (fold-roll-RawArm (Scoped (Stand → Phrases)) (Scoped ArmText) (scoped_step raw) scoped_arm (arm_layer_of y))) (arm_case y))))
 
@@ -371,7 +371,7 @@ module _ (raw : RawProgram) (vars : List Var) where
       let rest : collected (in_order (map (treed raw) ss) next) ≡ Some m.1 = ap (λ (y : Scope). collected (in_order (map (treed raw) ss) y)) (sym (c.moves.same scope)) ∙ m.3 in
       let d = body_declares ss next (c.moves.owner scope ∙ owned) m.1 rest free.1 (kept_second raw own later kept) in
       record {
-        of_main = subst AreOfMain (sym (variables_both raw own later)) (both_of_main (variables_in raw own) (variables_in raw later) (c.moves.of_main scope InBlock tt owned) d.of_main);
+        of_main = subst AreOfMain (sym (variables-append raw own later)) (both_of_main (variables_in raw own) (variables_in raw later) (c.moves.of_main scope InBlock tt owned) d.of_main);
         count = omega (arith, c.moves.count scope InBlock, d.count, count_both raw own later);
         functions = d.functions ∙ c.moves.functions scope;
         integers = more_integers vars scope.variables next.variables (after_body raw ss next).variables (c.integers scope InBlock m.0 m.2 free.0 (kept_first raw own later kept)) d.integers;

@@ -26,12 +26,13 @@ use Rattle.c_language.specs.Rules.{result}
 use Rattle.c_language.specs.CallRules.{library}
 use Rattle.c_language.specs.Scopes.{Scope, with_variable, with_target, begun}
 use Rattle.c_language.specs.Uses.{is_one_of}
+use Rattle.c_language.proofs.Options.{none_there, map_some}
 use Rattle.built_forms.specs.IntegerForms.{integer_init}
 use Rattle.built_forms.specs.BuiltForms.{is_integer_variable, unless, statement_outside}
 use Rattle.built_forms.proofs.Kept.{AreKept}
 use Rattle.built_forms.proofs.Layers.{outside-Declare, outside-Invoke, outside-Fetch, outside-Release, outside-Heap}
 use Rattle.built_forms.proofs.Lines.{unless_none}
-use Rattle.built_forms.proofs.Options.{none_some, map_some, Always, always_map, always_then, always_both, always_is}
+use Rattle.built_forms.proofs.Options.{Always, always_map, always_then, always_both, always_is}
 
 -- the variables with numbers from n and below m have integer types
 abbrev pub AreIntegers : List Var → ℕ → ℕ → Type 0
@@ -52,7 +53,7 @@ module _ (raw : RawProgram) (vars : List Var) where
   IsOutside l x = statement_outside vars x ≡ Some l
 
   not_outside : {A : Type 0} (l : ℕ) (o : Option Statement) (x : Statement) → Always (IsOutside l) o → o ≡ Some x → statement_outside vars x ≡ None → A
-  not_outside l o x h is none = absurd (none_some (sym none ∙ always_is (IsOutside l) o x h is))
+  not_outside l o x h is none = none_there (sym none ∙ always_is (IsOutside l) o x h is)
 
   -- ---- declarations
 

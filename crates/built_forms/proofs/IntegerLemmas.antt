@@ -8,10 +8,10 @@ use Rattle.c_tree.specs.declared.expr.Expr.{Expr}
 use Rattle.c_tree.specs.declared.statement.Arm.{Arm, roll-Arm, map-Arm, fold-Arm, fold-roll-Arm}
 use Rattle.c_tree.specs.declared.statement.Statement.{Statement, ind-Statement, roll-Statement, map-Statement, fold-roll-Statement}
 use Rattle.c_tree.specs.declared.statement.Statement.TheOpen.{Statement-F, Arm-F}
+use Rattle.c_language.proofs.Options.{none_there}
 use Rattle.built_forms.specs.IntegerForms as integer
 use Rattle.built_forms.specs.IntegerForms.{is_integer, are_integers, is_name, integer_init, integer_value, integer_label, all_true, is_integer_statement}
 use Rattle.built_forms.specs.BuiltForms.{is_integer_variable, unless, or_else, first_of, ArmOutside, labels_of_arms, first_of_arms, statement_step, arm_step, statement_outside, body_outside}
-use Rattle.built_forms.proofs.Options.{none_some}
 use Rattle.built_forms.proofs.Layers.{outside_of_arm}
 use Rattle.built_forms.proofs.Lines.{first_none, unless_none}
 
@@ -75,12 +75,12 @@ module _ (vars : List Var) where
   of_layer (Statement-F.Declare id l x i) h = (and_parts (is_integer_variable vars x) (integer_init i) (unless_none _ l h)).1
   of_layer (Statement-F.Assign id l left op right) h = unless_none (is_name left && is_integer right) l h
   of_layer (Statement-F.Bump id l a up before) h = unless_none (is_name a) l h
-  of_layer (Statement-F.Invoke id l to f args) h = absurd (none_some (sym h))
-  of_layer (Statement-F.Fetch id l to) h = absurd (none_some (sym h))
+  of_layer (Statement-F.Invoke id l to f args) h = none_there (sym h)
+  of_layer (Statement-F.Fetch id l to) h = none_there (sym h)
   of_layer (Statement-F.Write id l e) h = unless_none (is_integer e) l h
   of_layer (Statement-F.Print id l format args) h = unless_none (are_integers args) l h
-  of_layer (Statement-F.Heap id l to cast n) h = absurd (none_some (sym h))
-  of_layer (Statement-F.Release id l e) h = absurd (none_some (sym h))
+  of_layer (Statement-F.Heap id l to cast n) h = none_there (sym h)
+  of_layer (Statement-F.Release id l e) h = none_there (sym h)
   of_layer (Statement-F.If id l e a b) h =
       let w = first_none (unless (is_integer e) l) (or_else (first_of (map (statement_outside vars) (bare a))) (first_of (map (statement_outside vars) (bare b)))) h in
       let v = first_none (first_of (map (statement_outside vars) (bare a))) (first_of (map (statement_outside vars) (bare b))) w.1 in

@@ -10,7 +10,7 @@ use Rattle.c_tree.specs.declared.raw.expr.RawType.TheVariants as raw_type
 use Rattle.c_tree.specs.declared.raw.program.RawParam.{RawParam}
 use Rattle.c_tree.specs.declared.raw.program.RawProgram.{RawProgram}
 use Rattle.c_language.specs.ProgramOf.{optional, ctype_step, ctype_with, ctype_if}
-use Rattle.built_forms.proofs.Options.{none_some, same_some}
+use Rattle.c_language.proofs.Options.{none_there, some_same}
 
 abbrev is_int : IntType → Bool
 is_int Int = true
@@ -53,11 +53,11 @@ int_text =
 
 int_or_not : (t : RawType) (b : Bool) → raw_int t ≡ b → (Some t ≢ Some (raw_type.Integer Int) → ⊥) → Some t ≡ Some (raw_type.Integer Int)
 int_or_not t true is h = ap Some (int_text t is)
-int_or_not t false is h = absurd (h (λ e. true≢false (sym (int_here Int) ∙ sym (ap raw_int (same_some e)) ∙ is)))
+int_or_not t false is h = absurd (h (λ e. true≢false (sym (int_here Int) ∙ sym (ap raw_int (some_same e)) ∙ is)))
 
 -- a result that isn't other than int is int
 pub int_result : (o : Option RawType) → (o ≢ Some (raw_type.Integer Int) → ⊥) → o ≡ Some (raw_type.Integer Int)
-int_result None h = absurd (h (λ e. none_some e))
+int_result None h = absurd (h (λ e. none_there e))
 int_result (Some t) h = int_or_not t (raw_int t) refl h
 
 pub no_parameters : (ps : List RawParam) → (ps ≢ [] → ⊥) → ps ≡ []

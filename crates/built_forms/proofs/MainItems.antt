@@ -18,17 +18,18 @@ use Rattle.c_language.specs.DeclaredTypes.{structs_of, functions_of}
 use Rattle.c_language.specs.Phrases.{item_phrases, items_phrases, after_item, after_items}
 use Rattle.c_language.specs.ProgramOf.{collected, function_tree, functions_from, item_tree, items_from}
 use Rattle.c_language.specs.Scopes.{Scope, outset}
+use Rattle.c_language.proofs.Options.{none_there, some_same, map_some}
 use Rattle.built_forms.specs.IntegerForms.{IsPlainItem, include, main as is_main_item}
 use Rattle.built_forms.specs.BuiltForms.{function_line, or_else, function_outside, defined_outside, items_outside}
 use Rattle.built_forms.proofs.Lines.{first_none}
-use Rattle.built_forms.proofs.Options.{none_some, same_some, map_some, collected_some}
+use Rattle.built_forms.proofs.Options.{collected_some}
 
 not_zero : (n : ℕ) → 0 < n → (n == 0) ≡ false
 not_zero n h = grind (arith, nat_tests, h)
 
 module _ (raw : RawProgram) (p : Program) where
   outside_here : {A : Type 0} (ys : List Item) (x : Item) (rest : List Item) (l : ℕ) → ys ≡ x ∷ rest → items_outside p (x ∷ rest) ≡ Some l → items_outside p ys ≡ None → A
-  outside_here ys x rest l is out none = absurd (none_some (sym none ∙ ap (items_outside p) is ∙ out))
+  outside_here ys x rest l is out none = none_there (sym none ∙ ap (items_outside p) is ∙ out)
 
   -- behind main, includes alone
   pub record OnlyIncludes (xs : List RawItem) (scope : Scope) (ys : List Item) (fs : List Function) : Type 0 where
@@ -41,15 +42,15 @@ module _ (raw : RawProgram) (p : Program) where
   pub behind_main : (xs : List RawItem) (scope : Scope) → 0 < scope.functions → (ys : List Item) → collected (items_from raw xs scope) ≡ Some ys → items_outside p ys ≡ None
       → (fs : List Function) → collected (functions_from raw xs scope) ≡ Some fs → OnlyIncludes xs scope ys fs
   behind_main [] scope later ys e none fs d = record {
-    plain = subst (All IsPlainItem) (same_some e) (All-nil IsPlainItem);
-    no_functions = sym (same_some d);
+    plain = subst (All IsPlainItem) (some_same e) (All-nil IsPlainItem);
+    no_functions = sym (some_same d);
     no_phrases = refl;
     stays = refl;
     no_structs = refl;
   }
   behind_main (Include b ∷ xs) scope later ys e none fs d =
       let m = collected_some (Some (item.Include b)) (items_from raw xs scope) ys e in
-      let is : ys ≡ item.Include b ∷ m.1 = m.4 ∙ ap (λ (x : Item). x ∷ m.1) (sym (same_some m.2)) in
+      let is : ys ≡ item.Include b ∷ m.1 = m.4 ∙ ap (λ (x : Item). x ∷ m.1) (sym (some_same m.2)) in
       let k = behind_main xs scope later m.1 m.3 (ap (items_outside p) (sym is) ∙ none) fs d in
       record {
         plain = subst (All IsPlainItem) (sym is) (All-cons IsPlainItem (item.Include b) m.1 include k.plain);
@@ -64,7 +65,7 @@ module _ (raw : RawProgram) (p : Program) where
       outside_here ys (item.Tag k.0) m.1 _ (m.4 ∙ ap (λ (x : Item). x ∷ m.1) k.2) refl none
   behind_main (Struct line name members ∷ xs) scope later ys e none fs d =
       let m = collected_some (item_tree raw (Struct line name members) scope) (items_from raw xs (after_item raw (Struct line name members) scope)) ys e in
-      outside_here ys (item.Struct scope.structs) m.1 _ (m.4 ∙ ap (λ (x : Item). x ∷ m.1) (sym (same_some m.2))) refl none
+      outside_here ys (item.Struct scope.structs) m.1 _ (m.4 ∙ ap (λ (x : Item). x ∷ m.1) (sym (some_same m.2))) refl none
   behind_main (Global line var i is_static ∷ xs) scope later ys e none fs d =
       let m = collected_some (item_tree raw (Global line var i is_static) scope) (items_from raw xs (after_item raw (Global line var i is_static) scope)) ys e in
       let k = map_some (item.Global scope.variables) _ m.0 m.2 in
@@ -75,10 +76,10 @@ module _ (raw : RawProgram) (p : Program) where
       outside_here ys (item.Prototype k.0 (map (λ (q : RawParam). q.name) head.params) head.is_static) m.1 _ (m.4 ∙ ap (λ (x : Item). x ∷ m.1) k.2) refl none
   behind_main (Define line head body ∷ xs) scope later ys e none fs d =
       let m = collected_some (Some (item.Define scope.functions)) (items_from raw xs (after_item raw (Define line head body) scope)) ys e in
-      let is : ys ≡ item.Define scope.functions ∷ m.1 = m.4 ∙ ap (λ (x : Item). x ∷ m.1) (sym (same_some m.2)) in
+      let is : ys ≡ item.Define scope.functions ∷ m.1 = m.4 ∙ ap (λ (x : Item). x ∷ m.1) (sym (some_same m.2)) in
       let free : or_else (defined_outside p scope.functions) (items_outside p m.1) ≡ None = ap (items_outside p) (sym is) ∙ none in
       let other : defined_outside p scope.functions ≡ Some (function_line p scope.functions) = ap (λ (b : Bool). if b then option_map_or (function_outside p.vars) (slice_get p.functions 0) None else Some (function_line p scope.functions)) (not_zero scope.functions later) in
-      absurd (none_some (sym (first_none _ _ free).0 ∙ other))
+      none_there (sym (first_none _ _ free).0 ∙ other)
 
   -- where main is defined: behind includes alone
   pub record MainAt (xs : List RawItem) (ys : List Item) (fs : List Function) : Type 0 where
@@ -105,7 +106,7 @@ module _ (raw : RawProgram) (p : Program) where
   main_at [] some ys e none fs d = absurd (some refl)
   main_at (Include b ∷ xs) some ys e none fs d =
       let m = collected_some (Some (item.Include b)) (items_from raw xs outset) ys e in
-      let is : ys ≡ item.Include b ∷ m.1 = m.4 ∙ ap (λ (x : Item). x ∷ m.1) (sym (same_some m.2)) in
+      let is : ys ≡ item.Include b ∷ m.1 = m.4 ∙ ap (λ (x : Item). x ∷ m.1) (sym (some_same m.2)) in
       let k = main_at xs some m.1 m.3 (ap (items_outside p) (sym is) ∙ none) fs d in
       record {
         line = k.line;
@@ -132,7 +133,7 @@ module _ (raw : RawProgram) (p : Program) where
       outside_here ys (item.Tag k.0) m.1 _ (m.4 ∙ ap (λ (x : Item). x ∷ m.1) k.2) refl none
   main_at (Struct line name members ∷ xs) some ys e none fs d =
       let m = collected_some (item_tree raw (Struct line name members) outset) (items_from raw xs (after_item raw (Struct line name members) outset)) ys e in
-      outside_here ys (item.Struct 0) m.1 _ (m.4 ∙ ap (λ (x : Item). x ∷ m.1) (sym (same_some m.2))) refl none
+      outside_here ys (item.Struct 0) m.1 _ (m.4 ∙ ap (λ (x : Item). x ∷ m.1) (sym (some_same m.2))) refl none
   main_at (Global line var i is_static ∷ xs) some ys e none fs d =
       let m = collected_some (item_tree raw (Global line var i is_static) outset) (items_from raw xs (after_item raw (Global line var i is_static) outset)) ys e in
       let k = map_some (item.Global 0) _ m.0 m.2 in
@@ -143,7 +144,7 @@ module _ (raw : RawProgram) (p : Program) where
       outside_here ys (item.Prototype k.0 (map (λ (q : RawParam). q.name) head.params) head.is_static) m.1 _ (m.4 ∙ ap (λ (x : Item). x ∷ m.1) k.2) refl none
   main_at (Define line head body ∷ xs) some ys e none fs d =
       let m = collected_some (Some (item.Define 0)) (items_from raw xs (after_item raw (Define line head body) outset)) ys e in
-      let is : ys ≡ item.Define 0 ∷ m.1 = m.4 ∙ ap (λ (x : Item). x ∷ m.1) (sym (same_some m.2)) in
+      let is : ys ≡ item.Define 0 ∷ m.1 = m.4 ∙ ap (λ (x : Item). x ∷ m.1) (sym (some_same m.2)) in
       let free = first_none (defined_outside p 0) (items_outside p m.1) (ap (items_outside p) (sym is) ∙ none) in
       let g = collected_some (function_tree raw line head body outset) (functions_from raw xs (after_item raw (Define line head body) outset)) fs d in
       record {

@@ -1,5 +1,5 @@
 -- What a part of a text of main does to scopes: the variables that it declares are counted, and are local ones of main.
-use Rattle.std.proofs.Common.{◌≡◌, ℕ, ◌+◌, List, [], ◌∷◌, ◌++◌, length, false, Option, Some, append_assoc, refl, sym, ap, subst, ◌∙◌, arith}
+use Rattle.std.proofs.Common.{◌≡◌, ℕ, ◌+◌, List, [], ◌∷◌, ◌++◌, length, false, Option, Some, refl, sym, ap, subst, ◌∙◌, arith}
 use Rattle.std.proofs.lemmas.List.{length-append}
 use Rattle.c_tree.specs.declared.program.Var.{Var}
 use Rattle.c_tree.specs.declared.raw.expr.RawVar.{RawVar}
@@ -11,7 +11,8 @@ use Rattle.c_tree.specs.declared.raw.statement.RawTarget.TheVariants as target
 use Rattle.c_language.specs.Phrases.{Stand, InFile, InHead, InBlock, InArm, InFor, Part, Phrases, phrase, declaration, target_phrases}
 use Rattle.c_language.specs.ProgramOf.{variable_of, declared_by, variables_in}
 use Rattle.c_language.specs.Scopes.{Scope, opened, closed, numbered, with_variable, with_target, begun}
-use Rattle.built_forms.proofs.Options.{map_some}
+use Rattle.c_language.proofs.Options.{map_some}
+use Rattle.c_language.proofs.PhraseLists.{variables-append}
 
 -- variables that are declared in main
 abbrev pub AreOfMain : List (Option Var) → Type 0
@@ -31,12 +32,8 @@ IsInside InArm = Unit {0}
 IsInside InFor = Unit {0}
 
 module _ (raw : RawProgram) where
-  pub variables_both : (ps qs : Phrases) → variables_in raw (ps ++ qs) ≡ variables_in raw ps ++ variables_in raw qs
-  variables_both [] qs = refl
-  variables_both (p ∷ ps) qs = ap (λ os. declared_by raw p.line p.scope p.part ++ os) (variables_both ps qs) ∙ sym (append_assoc (declared_by raw p.line p.scope p.part) (variables_in raw ps) (variables_in raw qs))
-
   pub count_both : (ps qs : Phrases) → length (variables_in raw (ps ++ qs)) ≡ length (variables_in raw ps) + length (variables_in raw qs)
-  count_both ps qs = ap length (variables_both ps qs) ∙ length-append (variables_in raw ps) (variables_in raw qs)
+  count_both ps qs = ap length (variables-append raw ps qs) ∙ length-append (variables_in raw ps) (variables_in raw qs)
 
   -- from one scope to another, in the tree and as phrases
   pub record Moves (tree text : Scope → Scope) (phrases : Scope → Stand → Phrases) : Type 0 where
@@ -66,7 +63,7 @@ module _ (raw : RawProgram) where
         let e = count_both (ps scope stand) (qs (w scope) stand) in
         omega (arith, c, d, e);
     of_main = λ scope stand inside owned.
-        subst AreOfMain (sym (variables_both (ps scope stand) (qs (w scope) stand)))
+        subst AreOfMain (sym (variables-append raw (ps scope stand) (qs (w scope) stand)))
         (both_of_main (variables_in raw (ps scope stand)) (variables_in raw (qs (w scope) stand)) (a.of_main scope stand inside owned) (b.of_main (w scope) stand inside (a.owner scope ∙ owned)));
   }
 

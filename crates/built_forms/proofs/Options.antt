@@ -1,35 +1,18 @@
 -- Options that are made of others.
-use Rattle.std.proofs.Common.{◌≡◌, List, ◌∷◌, Option, Some, None, option_map, option_and_then, refl, sym, ap, subst}
+use Rattle.std.proofs.Common.{◌≡◌, List, ◌∷◌, Option, Some, None, option_map, option_and_then, refl, sym, subst}
 use Rattle.c_language.specs.ConstantEvaluation.{both}
 use Rattle.c_language.specs.ProgramOf.{collected}
-
-pub none_some : {A : Type 0} {x : A} → ◌≡◌ {A = Option A} None (Some x) → ⊥
-none_some {A} e = subst (λ (o : Option A). nothing o) e tt
-  where
-    nothing : {B : Type 0} → Option B → Type 0
-    nothing None = Unit {0}
-    nothing (Some x) = ⊥
-
-pub same_some : {A : Type 0} {x y : A} → ◌≡◌ {A = Option A} (Some x) (Some y) → x ≡ y
-same_some {A} {x} e = ap or_first e
-  where
-    or_first : Option A → A
-    or_first None = x
-    or_first (Some z) = z
+use Rattle.c_language.proofs.Options.{none_there, some_same, map_some}
 
 -- what a value that is there was made of
 pub then_some : {A B : Type 0} (f : A → Option B) (o : Option A) (y : B) → option_and_then f o ≡ Some y → (x : A) × (o ≡ Some x) × (f x ≡ Some y)
-then_some f None y e = absurd (none_some e)
+then_some f None y e = none_there e
 then_some f (Some x) y e = (x, refl, e)
 
-pub map_some : {A B : Type 0} (f : A → B) (o : Option A) (y : B) → option_map f o ≡ Some y → (x : A) × (o ≡ Some x) × (y ≡ f x)
-map_some f None y e = absurd (none_some e)
-map_some f (Some x) y e = (x, refl, sym (same_some e))
-
 pub both_some : {A B C : Type 0} (f : A → B → C) (a : Option A) (b : Option B) (z : C) → both f a b ≡ Some z → (x : A) × (y : B) × (a ≡ Some x) × (b ≡ Some y) × (z ≡ f x y)
-both_some f None b z e = absurd (none_some e)
-both_some f (Some x) None z e = absurd (none_some e)
-both_some f (Some x) (Some y) z e = (x, y, refl, refl, sym (same_some e))
+both_some f None b z e = none_there e
+both_some f (Some x) None z e = none_there e
+both_some f (Some x) (Some y) z e = (x, y, refl, refl, sym (some_same e))
 
 -- a value that is there has a property
 abbrev pub Always : {A : Type 0} → (A → Type 0) → Option A → Type 0

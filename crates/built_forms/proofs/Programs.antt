@@ -28,15 +28,17 @@ use Rattle.c_language.specs.ProgramOf as trees
 use Rattle.c_language.specs.ProgramOf.{items_of, variables_of, collected, ctype_if, body_of, parameter_ids, function_tree, struct_tree, variables_in, program_with, program_of}
 use Rattle.c_language.specs.Rules.{KeepsRules, by_phrase, no_main, main}
 use Rattle.c_language.specs.Scopes.{Scope, outset, with_parameters, entered, scope_of_parameters}
+use Rattle.c_language.proofs.Options.{none_there, some_same}
+use Rattle.c_language.proofs.PhraseLists.{variables-append}
 use Rattle.built_forms.specs.IntegerForms.{IsPlainItem, IsIntegerLocal, IsIntegerMain}
 use Rattle.built_forms.specs.BuiltForms.{is_integer_type, is_integer_variable, body_outside, is_main, function_outside, items_outside, not_yet}
 use Rattle.built_forms.proofs.Layers.{type-PointerTo, type-Array, type-Struct}
-use Rattle.built_forms.proofs.Options.{none_some, same_some, then_some, both_some, collected_some}
+use Rattle.built_forms.proofs.Options.{then_some, both_some, collected_some}
 use Rattle.built_forms.proofs.IntegerLemmas.{body_integers}
 use Rattle.built_forms.proofs.Kept.{AreKept, kept_first, kept_second, kept_from}
 use Rattle.built_forms.proofs.MainHeads.{no_parameters}
 use Rattle.built_forms.proofs.MainItems.{OnlyIncludes, behind_main, MainAt, main_at}
-use Rattle.built_forms.proofs.Moves.{AreOfMain, variables_both}
+use Rattle.built_forms.proofs.Moves.{AreOfMain}
 use Rattle.built_forms.proofs.Bodies.{Declares, body_declares}
 
 -- ---- integer types
@@ -58,7 +60,7 @@ has_type =
 
 -- variables of main, each of an integer type
 locals_of : (found : List (Option Var)) (vs : List Var) → collected found ≡ Some vs → AreOfMain found → ((k : ℕ) (v : Var) → slice_get vs k ≡ Some v → (t : IntType) × (v.shape ≡ type.Integer t)) → All IsIntegerLocal vs
-locals_of [] vs e h shaped = subst (All IsIntegerLocal) (same_some e) (All-nil IsIntegerLocal)
+locals_of [] vs e h shaped = subst (All IsIntegerLocal) (some_same e) (All-nil IsIntegerLocal)
 locals_of (o ∷ found) vs e h shaped =
     let m = collected_some o found vs e in
     let own = h.0 m.0 m.2 in
@@ -67,7 +69,7 @@ locals_of (o ∷ found) vs e h shaped =
     subst (All IsIntegerLocal) (sym m.4) (All-cons IsIntegerLocal m.0 m.1 one (locals_of found m.1 m.3 h.1 (λ k v is. shaped (suc k) v (ap (λ (ws : List Var). slice_get ws (suc k)) m.4 ∙ is))))
 
 pub found_length : (found : List (Option Var)) (vs : List Var) → collected found ≡ Some vs → length vs ≡ length found
-found_length [] vs e = ap length (sym (same_some e))
+found_length [] vs e = ap length (sym (some_same e))
 found_length (o ∷ found) vs e = let m = collected_some o found vs e in let k : length m.1 ≡ length found = found_length found m.1 m.3 in ap length m.4 ∙ ap suc k
 
 -- a variable that is there and tested to be of an integer type has one
@@ -75,7 +77,7 @@ integer_variable : (vs : List Var) (k : ℕ) (v : Var) → slice_get vs k ≡ So
 integer_variable vs k v is h = has_type v.shape (sym (ap (λ (o : Option Var). option_map_or (λ (w : Var). is_integer_type w.shape) o false) is) ∙ h)
 
 get_below : (vs : List Var) (k : ℕ) (v : Var) → slice_get vs k ≡ Some v → k < length vs
-get_below [] k v e = absurd (none_some e)
+get_below [] k v e = none_there e
 get_below (w ∷ vs) zero v e = omega arith
 get_below (w ∷ vs) (suc k) v e = let h = get_below vs k v e in omega (arith, h)
 
@@ -86,7 +88,7 @@ function_with name result params body is_static line = record { name = name; res
 
 main_inside : (b : Bool) (o : Option ℕ) (l : ℕ) → (if b then o else Some l) ≡ None → (b ≡ true) × (o ≡ None)
 main_inside true o l e = (refl, e)
-main_inside false o l e = absurd (none_some (sym e))
+main_inside false o l e = none_there (sym e)
 
 -- what a function that main is has
 module _ (raw : RawProgram) (line : ℕ) (head : RawHead) (body : List RawStatement) (named : head.name ≡ main_name) (kept : AreKept raw (item_phrases raw (Define line head body) outset)) where
@@ -114,7 +116,7 @@ module _ (raw : RawProgram) (line : ℕ) (head : RawHead) (body : List RawStatem
   found_are =
       ap (λ (ps : Phrases). variables_in raw (ps ++ (body_phrases raw body (entered raw head outset) ++ end))) no_head
       ∙ ap (λ (x : Scope). variables_in raw (body_phrases raw body x ++ end)) begins
-      ∙ variables_both raw (body_phrases raw body begin) end
+      ∙ variables-append raw (body_phrases raw body begin) end
       ∙ append-nil (variables_in raw (body_phrases raw body begin))
 
   module _ (f : Function) (tree : function_tree raw line head body outset ≡ Some f) where
@@ -199,7 +201,7 @@ module _ (raw : RawProgram) (p : Program) (keeps : KeepsRules raw) (made : progr
       (sym (found_are raw at.line at.head at.body named kept_main)
       ∙ sym (append-nil (variables_in raw (item_phrases raw (Define at.line at.head at.body) outset)))
       ∙ ap (λ (ps : Phrases). variables_in raw (item_phrases raw (Define at.line at.head at.body) outset) ++ variables_in raw ps) (sym alone.no_phrases)
-      ∙ sym (variables_both raw (item_phrases raw (Define at.line at.head at.body) outset) (items_phrases raw at.rest after))
+      ∙ sym (variables-append raw (item_phrases raw (Define at.line at.head at.body) outset) (items_phrases raw at.rest after))
       ∙ ap (variables_in raw) (sym at.phrases_are))
       ∙ vars_made.1
 
@@ -224,7 +226,7 @@ module _ (raw : RawProgram) (p : Program) (keeps : KeepsRules raw) (made : progr
     items_are = subst (All IsPlainItem) (sym (ap (λ (q : Program). q.items) rest_made.4)) (at.plain alone.plain);
     structs_are =
         ap (λ (q : Program). q.structs) rest_made.4
-        ∙ sym (same_some (ap (λ (ds : List StructText). collected (map (struct_tree raw) ds)) (sym (at.structs ∙ alone.no_structs)) ∙ rest_made.2));
+        ∙ sym (some_same (ap (λ (ds : List StructText). collected (map (struct_tree raw) ds)) (sym (at.structs ∙ alone.no_structs)) ∙ rest_made.2));
     functions_are = functions_is ∙ ap (λ (fs : List Function). at.f ∷ fs) alone.no_functions;
     no_parameters = takes_nothing raw at.line at.head at.body named kept_main at.f at.tree;
     locals = subst (All IsIntegerLocal) (sym vars_is) (locals_of found vars_made.0 found_is all.of_main shaped);

@@ -17,8 +17,8 @@ use Rattle.c_language.specs.ConstantEvaluation.{both}
 use Rattle.c_language.specs.Scopes.{Entry, Scope, Meaning, found_in, meaning_in}
 use Rattle.c_language.specs.ProgramOf.{Told, told_step, expr_of, variable_number}
 use Rattle.c_language.specs.declared.expr_type.ExprType.{ExprType}
+use Rattle.c_language.proofs.Options.{none_there, some_same}
 use Rattle.built_forms.specs.NamesBelow.{names_step, names_below}
-use Rattle.built_forms.proofs.Options.{none_some, same_some}
 
 module _ (n : ℕ) where
   pub below-Constant : (text : Bytes) (t : IntType) (v : ℕ) → names_below n (e.Constant text t v) ≡ true
@@ -81,10 +81,6 @@ module _ (raw : RawProgram) (scope : Scope) (n : ℕ) (low : AreBelow n scope) w
 
   abbrev LowTree : Told → Type 0
   LowTree t = IsLow t.tree
-
-  low_map : {A : Type 0} (f : A → Expr) (o : Option A) → ((x : A) → names_below n (f x) ≡ true) → IsLow (option_map f o)
-  low_map f None h = tt
-  low_map f (Some x) h = h x
 
   low_one : (f : Expr → Expr) (o : Option Expr) → IsLow o → ((x : Expr) → names_below n (f x) ≡ names_below n x) → IsLow (option_map f o)
   low_one f None h is = tt
@@ -162,7 +158,7 @@ AreLow n [] = Unit {0}
 AreLow n (e ∷ es) = IsLowMeaning n e.meaning × AreLow n es
 
 low_meaning : (n : ℕ) (m : Meaning) (id : ℕ) (t : Option ExprType) → IsLowMeaning n m → Some m ≡ Some (Meaning.Variable id t) → id < n
-low_meaning n m id t h e = subst (IsLowMeaning n) (same_some e) h
+low_meaning n m id t h e = subst (IsLowMeaning n) (some_same e) h
 
 found_either : (n : ℕ) (x : Entry) (rest : Option Entry) (b : Bool) (id : ℕ) (t : Option ExprType) → IsLowMeaning n x.meaning → (option_map (λ (y : Entry). y.meaning) rest ≡ Some (Meaning.Variable id t) → id < n)
     → option_map (λ (y : Entry). y.meaning) (cond b (Some x) rest) ≡ Some (Meaning.Variable id t) → id < n
@@ -170,7 +166,7 @@ found_either n x rest true id t h k e = low_meaning n x.meaning id t h e
 found_either n x rest false id t h k e = k e
 
 found_low : (n : ℕ) (es : List Entry) → AreLow n es → (name : Bytes) (id : ℕ) (t : Option ExprType) → found_in name es ≡ Some (Meaning.Variable id t) → id < n
-found_low n [] h name id t e = absurd (none_some e)
+found_low n [] h name id t e = none_there e
 found_low n (x ∷ es) h name id t e = found_either n x (find (λ (y : Entry). bytes_eq name y.name) es) (bytes_eq name x.name) id t h.0 (found_low n es h.1 name id t) e
 
 pub names_low : (n : ℕ) (scope : Scope) → AreLow n scope.names → AreBelow n scope

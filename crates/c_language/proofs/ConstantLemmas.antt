@@ -1,5 +1,5 @@
 -- What each form of expression is as a constant expression, as equations.
-use Rattle.std.proofs.Common.{◌≡◌, sym, ap, ◌∙◌, Option}
+use Rattle.std.proofs.Common.{◌≡◌, ℕ, zero, suc, ◌<◌, pos, Option, Some, refl, sym, ap, ◌∙◌, arith}
 use Rattle.c_arith.specs.declared.int_type.IntType.{IntType}
 use Rattle.c_arith.specs.declared.operators.UnaryOp.{UnaryOp}
 use Rattle.c_arith.specs.declared.operators.BinaryOp.{BinaryOp}
@@ -9,6 +9,7 @@ use Rattle.c_tree.specs.declared.raw.expr.RawExpr.TheVariants as e
 use Rattle.c_language.specs.Words.{Bytes}
 use Rattle.c_language.specs.ConstantEvaluation.{constant, constant_step}
 use Rattle.c_language.specs.declared.constant.Constant.{Constant}
+use Rattle.c_language.specs.DeclaredTypes.{positive}
 
 pub constant-Constant : (text : Bytes) → constant (e.Constant text) ≡ constant_step (RawExpr-F.Constant text)
 constant-Constant text = ap constant (sym (e.rolls-Constant text)) ∙ fold-roll-RawExpr (Option Constant) constant_step (RawExpr-F.Constant text)
@@ -57,5 +58,10 @@ constant-Arrow a m = ap constant (sym (e.rolls-Arrow a m)) ∙ fold-roll-RawExpr
 
 pub constant-Paren : (a : RawExpr) → constant (e.Paren a) ≡ constant_step (RawExpr-F.Paren (constant a))
 constant-Paren a = ap constant (sym (e.rolls-Paren a)) ∙ fold-roll-RawExpr (Option Constant) constant_step (RawExpr-F.Paren a)
+
+-- a number that isn't 0 counts as itself
+pub counted_positive : (items : ℕ) → 0 < items → positive (pos items) ≡ Some items
+counted_positive zero h = absurd (omega (arith, h))
+counted_positive (suc n) h = refl
 
 pub ruleset constants_of = (constant-Constant, constant-Null, constant-Eof, constant-Variable, constant-Unary, constant-Deref, constant-AddressOf, constant-Binary, constant-AndAlso, constant-OrElse, constant-Choose, constant-Cast, constant-Index, constant-Member, constant-Arrow, constant-Paren)

@@ -1,5 +1,5 @@
 -- What each form of expression says of its tokens, as equations.
-use Rattle.std.proofs.Common.{◌≡◌, ℕ, Bool, true, false, sym, ap, ◌∙◌}
+use Rattle.std.proofs.Common.{◌≡◌, ℕ, sym, ap, ◌∙◌}
 use Rattle.c_arith.specs.declared.int_type.IntType.{IntType}
 use Rattle.c_arith.specs.declared.operators.UnaryOp.{UnaryOp}
 use Rattle.c_arith.specs.declared.operators.BinaryOp.{BinaryOp}
@@ -7,61 +7,13 @@ use Rattle.c_tree.specs.declared.raw.expr.RawExpr.{RawExpr, fold-roll-RawExpr}
 use Rattle.c_tree.specs.declared.raw.expr.RawExpr.TheOpen.{RawExpr-F}
 use Rattle.c_tree.specs.declared.raw.expr.RawExpr.TheVariants as e
 use Rattle.c_language.specs.Words.{Bytes}
-use Rattle.c_language.specs.ExprGrammar.{binary_level, level, joint, applied, selected, place_step, is_place, tightness_step, tightness}
+use Rattle.c_language.specs.ExprGrammar.{binary_level, level, joint, applied, selected, tightness_step, tightness}
 use Rattle.c_language.specs.declared.operators.Infix.{Infix}
 use Rattle.c_language.specs.declared.operators.Infix.TheVariants.{Strict, AndAlso, OrElse}
 use Rattle.c_language.specs.declared.operators.Prefix.{Prefix}
 use Rattle.c_language.specs.declared.operators.Prefix.TheVariants.{Sign, Deref, AddressOf}
 use Rattle.c_language.specs.declared.operators.Selector.{Selector}
 use Rattle.c_language.specs.declared.operators.Selector.TheVariants.{Dot, Arrow}
-
-pub is_place-Constant : (text : Bytes) → is_place (e.Constant text) ≡ false
-is_place-Constant text = ap is_place (sym (e.rolls-Constant text)) ∙ fold-roll-RawExpr Bool place_step (RawExpr-F.Constant text)
-
-pub is_place-Null : is_place e.Null ≡ false
-is_place-Null = ap is_place (sym e.rolls-Null) ∙ fold-roll-RawExpr Bool place_step RawExpr-F.Null
-
-pub is_place-Eof : is_place e.Eof ≡ false
-is_place-Eof = ap is_place (sym e.rolls-Eof) ∙ fold-roll-RawExpr Bool place_step RawExpr-F.Eof
-
-pub is_place-Variable : (text : Bytes) → is_place (e.Variable text) ≡ true
-is_place-Variable text = ap is_place (sym (e.rolls-Variable text)) ∙ fold-roll-RawExpr Bool place_step (RawExpr-F.Variable text)
-
-pub is_place-Unary : (op : UnaryOp) (a : RawExpr) → is_place (e.Unary op a) ≡ false
-is_place-Unary op a = ap is_place (sym (e.rolls-Unary op a)) ∙ fold-roll-RawExpr Bool place_step (RawExpr-F.Unary op a)
-
-pub is_place-Deref : (a : RawExpr) → is_place (e.Deref a) ≡ true
-is_place-Deref a = ap is_place (sym (e.rolls-Deref a)) ∙ fold-roll-RawExpr Bool place_step (RawExpr-F.Deref a)
-
-pub is_place-AddressOf : (a : RawExpr) → is_place (e.AddressOf a) ≡ false
-is_place-AddressOf a = ap is_place (sym (e.rolls-AddressOf a)) ∙ fold-roll-RawExpr Bool place_step (RawExpr-F.AddressOf a)
-
-pub is_place-Binary : (op : BinaryOp) (a b : RawExpr) → is_place (e.Binary op a b) ≡ false
-is_place-Binary op a b = ap is_place (sym (e.rolls-Binary op a b)) ∙ fold-roll-RawExpr Bool place_step (RawExpr-F.Binary op a b)
-
-pub is_place-AndAlso : (a b : RawExpr) → is_place (e.AndAlso a b) ≡ false
-is_place-AndAlso a b = ap is_place (sym (e.rolls-AndAlso a b)) ∙ fold-roll-RawExpr Bool place_step (RawExpr-F.AndAlso a b)
-
-pub is_place-OrElse : (a b : RawExpr) → is_place (e.OrElse a b) ≡ false
-is_place-OrElse a b = ap is_place (sym (e.rolls-OrElse a b)) ∙ fold-roll-RawExpr Bool place_step (RawExpr-F.OrElse a b)
-
-pub is_place-Choose : (c a b : RawExpr) → is_place (e.Choose c a b) ≡ false
-is_place-Choose c a b = ap is_place (sym (e.rolls-Choose c a b)) ∙ fold-roll-RawExpr Bool place_step (RawExpr-F.Choose c a b)
-
-pub is_place-Cast : (t : IntType) (a : RawExpr) → is_place (e.Cast t a) ≡ false
-is_place-Cast t a = ap is_place (sym (e.rolls-Cast t a)) ∙ fold-roll-RawExpr Bool place_step (RawExpr-F.Cast t a)
-
-pub is_place-Index : (a i : RawExpr) → is_place (e.Index a i) ≡ true
-is_place-Index a i = ap is_place (sym (e.rolls-Index a i)) ∙ fold-roll-RawExpr Bool place_step (RawExpr-F.Index a i)
-
-pub is_place-Member : (a : RawExpr) (m : Bytes) → is_place (e.Member a m) ≡ true
-is_place-Member a m = ap is_place (sym (e.rolls-Member a m)) ∙ fold-roll-RawExpr Bool place_step (RawExpr-F.Member a m)
-
-pub is_place-Arrow : (a : RawExpr) (m : Bytes) → is_place (e.Arrow a m) ≡ true
-is_place-Arrow a m = ap is_place (sym (e.rolls-Arrow a m)) ∙ fold-roll-RawExpr Bool place_step (RawExpr-F.Arrow a m)
-
-pub is_place-Paren : (a : RawExpr) → is_place (e.Paren a) ≡ is_place a
-is_place-Paren a = ap is_place (sym (e.rolls-Paren a)) ∙ fold-roll-RawExpr Bool place_step (RawExpr-F.Paren a)
 
 pub tightness-Constant : (text : Bytes) → tightness (e.Constant text) ≡ 15
 tightness-Constant text = ap tightness (sym (e.rolls-Constant text)) ∙ fold-roll-RawExpr ℕ tightness_step (RawExpr-F.Constant text)

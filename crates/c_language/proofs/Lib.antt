@@ -7,3 +7,14 @@ pub mod StatementNestingLemmas
 pub mod ConstantLemmas
 pub mod OperandLemmas
 pub mod CodeLemmas
+pub mod ScopedForms
+pub mod TreedForms
+pub mod Lists
+pub mod Options
+pub mod PhraseLists
+pub mod RawWordLemmas
+pub mod Tests
+pub mod Turns
+pub mod UseLemmas
+pub mod ScopesAfter
+pub mod TreeScopes

@@ -9,14 +9,20 @@ use Rattle.c_tree.specs.declared.raw.statement.RawArg.{RawArg}
 use Rattle.c_tree.specs.declared.raw.statement.RawTypeName.{RawTypeName}
 use Rattle.c_tree.specs.declared.raw.statement.RawAmount.{RawAmount}
 use Rattle.c_tree.specs.declared.raw.statement.RawLabel.{RawLabel}
-use Rattle.c_tree.specs.declared.raw.statement.RawArm.{RawArm, fold-roll-RawArm}
+use Rattle.c_tree.specs.declared.raw.statement.RawArm.{RawArm, fold-roll-RawArm, fold-RawArm}
 use Rattle.c_tree.specs.declared.raw.statement.RawStatement.{RawStatement, fold-roll-RawStatement}
 use Rattle.c_tree.specs.declared.raw.statement.RawStatement.TheOpen.{RawStatement-F}
 use Rattle.c_tree.specs.declared.raw.statement.RawStatement.TheVariants as s
 use Rattle.c_language.specs.Words.{Bytes}
 use Rattle.c_language.specs.Nesting.{nesting, type_nesting, greatest}
 use Rattle.c_language.specs.StatementGrammar.{arm}
-use Rattle.c_language.specs.StatementNesting.{call_nesting, heap_nesting, stored_nesting, init_nesting, label_nesting, of_value, statement_step, arm_step, statement_nesting, arm_nesting, body_nesting, arms_nesting}
+use Rattle.c_language.specs.StatementNesting.{call_nesting, heap_nesting, stored_nesting, init_nesting, label_nesting, of_value, statement_step, arm_step, statement_nesting, body_nesting}
+
+abbrev pub arm_nesting : RawArm → ℕ
+arm_nesting = fold-RawArm ℕ ℕ statement_step arm_step
+
+abbrev pub arms_nesting : List RawArm → ℕ
+arms_nesting arms = greatest (map arm_nesting arms)
 
 pub nesting-Declare : (l : ℕ) (v : RawVar) (i : RawInit) → statement_nesting (s.Declare l v i) ≡ max (type_nesting v.shape) (init_nesting i)
 nesting-Declare l v i = ap statement_nesting (sym (s.rolls-Declare l v i)) ∙ fold-roll-RawStatement ℕ ℕ statement_step arm_step (RawStatement-F.Declare l v i)

@@ -33,17 +33,10 @@ indent (suc n) = codes "    " ++ indent n
 abbrev pub line : ℕ → Bytes → Bytes
 line n words = indent n ++ (words ++ 10 ∷ [])
 
-abbrev pub lines_of : List Bytes → Bytes
-lines_of [] = []
-lines_of (x ∷ xs) = x ++ lines_of xs
-
 abbrev pub init_words : Program → Init → Bytes
 init_words p init.None = []
 init_words p (init.One e) = codes " = " ++ expr_words p e
 init_words p (init.Items es) = codes " = {" ++ (joined (codes ", ") (map (expr_words p) es) ++ codes "}")
-
-abbrev pub shape_of : Var → CType
-shape_of v = v.shape
 
 -- a variable with its type, as it is declared
 abbrev pub var_words : Program → ℕ → Bytes

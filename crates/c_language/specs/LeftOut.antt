@@ -295,10 +295,14 @@ is_enclosed before = (is_in_index before || is_in_parens before) || (is_in_list 
 unfoldable pub goes_on : Tokens → Tokens → Bool
 goes_on before after = is_some_operator (slice_get after 0) || (is_within (codes "for") before && (sees Mark (codes ";") before && sees Mark (codes ";") after))
 
--- A call here is a part of a larger expression, or stands where an expression is. `behind` begins with its parenthesis.
+-- what stands here is the name of a member
+unfoldable pub is_selected : Tokens → Bool
+is_selected before = sees Mark (codes ".") before || sees Mark (codes "->") before
+
+-- A call here, of no member, is a part of a larger expression, or stands where an expression is. `behind` begins with its parenthesis.
 unfoldable pub is_inner_call : Tokens → Tokens → Bool
 is_inner_call before behind =
-    not (ends_type (behind_stars before)) && (has_left_operator before || (is_enclosed before || goes_on before (outside 0 (drop 1 behind))))
+    not (ends_type (behind_stars before) || is_selected before) && (has_left_operator before || (is_enclosed before || goes_on before (outside 0 (drop 1 behind))))
 
 -- a parenthesis in front is that of an if, while, for or switch
 unfoldable pub opens_condition : Tokens → Bool

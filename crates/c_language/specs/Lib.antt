@@ -19,6 +19,7 @@ pub mod ConstantEvaluation
 pub mod DeclaredTypes
 pub mod Scopes
 pub mod ExprTypes
+pub mod TreeTypes
 pub mod Phrases
 pub mod Uses
 pub mod ExprRules

@@ -18,7 +18,6 @@ use Rattle.c_tree.specs.declared.raw.statement.RawAmount.{RawAmount}
 use Rattle.c_tree.specs.declared.raw.statement.RawAmount.TheVariants as amount
 use Rattle.c_tree.specs.declared.raw.statement.RawLabel.{RawLabel}
 use Rattle.c_tree.specs.declared.raw.statement.RawLabel.TheVariants.{Case, Default}
-use Rattle.c_tree.specs.declared.raw.statement.RawArm.{RawArm, fold-RawArm}
 use Rattle.c_tree.specs.declared.raw.statement.RawStatement.{RawStatement, fold-RawStatement}
 use Rattle.c_tree.specs.declared.raw.statement.RawStatement.TheOpen.{RawStatement-F, RawArm-F}
 use Rattle.c_language.specs.Nesting.{nesting, type_nesting, params_nesting, greatest}
@@ -87,14 +86,8 @@ arm_step a = max (greatest (map label_nesting a.labels)) (greatest a.body)
 abbrev pub statement_nesting : RawStatement → ℕ
 statement_nesting = fold-RawStatement ℕ ℕ statement_step arm_step
 
-abbrev pub arm_nesting : RawArm → ℕ
-arm_nesting = fold-RawArm ℕ ℕ statement_step arm_step
-
 abbrev pub body_nesting : List RawStatement → ℕ
 body_nesting all = greatest (map statement_nesting all)
-
-abbrev pub arms_nesting : List RawArm → ℕ
-arms_nesting arms = greatest (map arm_nesting arms)
 
 -- ---- items
 

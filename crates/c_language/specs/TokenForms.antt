@@ -4,7 +4,7 @@ use Rattle.std.specs.Option.{option_map_or}
 use Rattle.c_language.specs.Words.{Bytes}
 use Rattle.c_language.specs.declared.token.Token.{Token}
 use Rattle.c_language.specs.declared.token.TokenKind.{TokenKind}
-use Rattle.c_language.specs.declared.token.TokenKind.TheVariants.{Name, Number, Character, Str, Mark, Include, Directive}
+use Rattle.c_language.specs.declared.token.TokenKind.TheVariants.{Name, Number, Character, Str, Mark, Directive}
 
 abbrev pub Tokens : Type 0
 Tokens = List Token
@@ -26,9 +26,6 @@ string = of_kind Str
 
 abbrev pub mark : Bytes → ℕ → Token
 mark = of_kind Mark
-
-abbrev pub include : Bytes → ℕ → Token
-include = of_kind Include
 
 abbrev pub directive : Bytes → ℕ → Token
 directive = of_kind Directive

@@ -133,12 +133,3 @@ listed_step (RawType-F.Struct tag) = false
 -- the first length of its declarator is empty
 abbrev pub is_listed : RawType → Bool
 is_listed = fold-RawType Bool listed_step
-
-abbrev pub pointer_step : RawType-F Bool → Bool
-pointer_step (RawType-F.Integer t) = false
-pointer_step (RawType-F.PointerTo a) = true
-pointer_step (RawType-F.Array a n) = false
-pointer_step (RawType-F.Struct tag) = false
-
-abbrev pub is_pointer : RawType → Bool
-is_pointer = fold-RawType Bool pointer_step

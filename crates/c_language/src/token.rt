@@ -16,12 +16,14 @@ pub enum TokenKind {
     Mark,
     /// A line that includes `stdio.h` or `stdlib.h`.
     Include,
+    /// Any other line whose first token is `#`, to its end.
     Directive,
 }
 
 /// A token of a text.
 #[derive(Debug, Drop)]
 pub struct Token {
+    /// What it is.
     pub kind: TokenKind,
     /// Its bytes; those of an include are the header's name with its angle brackets, that of a
     /// directive is `#`.

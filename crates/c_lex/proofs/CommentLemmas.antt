@@ -1,20 +1,18 @@
 -- Comments: where they end, and the splits in them.
-use Rattle.std.proofs.Common.{◌≡◌, ℕ, zero, suc, ◌+◌, ◌≤◌, ◌<◌, [], ◌∷◌, ◌++◌, length, length-append, drop, append_assoc, append-nil, refl, sym, ap, ◌∙◌, subst, cond, arith, true, false, Bool, eqb, inl, inr, codes}
-use Rattle.std.proofs.lemmas.Bool.{and_parts, cases_Bool, eqb-true}
+use Rattle.std.proofs.Common.{◌≡◌, ℕ, zero, suc, ◌+◌, ◌≤◌, ◌<◌, [], ◌∷◌, ◌++◌, length, length-append, drop, append_assoc, append-nil, refl, sym, ap, ◌∙◌, subst, cond, arith, true, false, eqb, inl, inr, codes}
+use Rattle.std.proofs.lemmas.Bool.{and_parts, cases_Bool, eqb-true, or_parts, false_from_ne_true}
 use Rattle.std.proofs.lemmas.Bool.Decides.{nat_tests}
 use Rattle.std.proofs.lemmas.List.Sums.{sum_by-append}
 use Rattle.std.proofs.Math.Numerals.{one-add}
 use Rattle.std.proofs.Math.Seq.{drop-append_seam}
-use Rattle.std.specs.Prelude.{◌==◌, ◌||◌, nat_lt}
+use Rattle.std.specs.Prelude.{◌==◌, nat_lt}
 use Rattle.c_language.specs.Words.{Bytes}
 use Rattle.c_language.specs.Tokens.{is_feed, has_feed, line_feeds, AtLineEnd, IsJoin, AreJoins, LacksSplitEnd, LacksEnd}
+use Rattle.c_language.proofs.Tests.{by_answer}
 use Rattle.c_lex.specs.Scanning.{first, passed, begins, line_len, join_len, behind_joins, is_split, is_end, is_end_or_feed}
-use Rattle.c_lex.proofs.Places.{by_answer, fails, begins_append, NoneIn, NoneAt, passed_stop, passed_step}
+use Rattle.c_lex.proofs.Places.{begins_append, NoneIn, NoneAt, passed_stop, passed_step}
 
 -- ---- the end of a comment
-
-end_at : (b : ℕ) (bs : Bytes) → is_end (b ∷ bs) ≡ true → (back : Bytes) × (b ∷ bs ≡ codes "*/" ++ back)
-end_at b bs h = (drop 2 (b ∷ bs), begins_append (codes "*/") (b ∷ bs) h)
 
 lacks_more : (b : ℕ) (bs : Bytes) → LacksEnd (b ∷ bs) → LacksEnd bs
 lacks_more b bs h = λ front back e. h (b ∷ front) back (ap (λ (x : Bytes). b ∷ x) e)
@@ -23,7 +21,7 @@ last_no_end : (b : ℕ) (rest : Bytes) → is_end (b ∷ 42 ∷ rest) ≡ false
 last_no_end b rest = elim (cases_Bool (eqb 42 b)) [ inl t ↦ rw t refl | inr f ↦ rw f refl ]
 
 no_end : (b d : ℕ) (ds rest : Bytes) → LacksEnd (b ∷ d ∷ ds) → is_end (b ∷ d ∷ rest) ≡ false
-no_end b d ds rest h = fails _ (λ t.
+no_end b d ds rest h = false_from_ne_true _ (λ t.
     let p = and_parts _ _ t in
     let x : 42 ≡ b = eqb-true 42 b p.0 in
     let y : 47 ≡ d = eqb-true 47 d (and_parts _ _ p.1).0 in
@@ -61,14 +59,10 @@ pub short_lacks : (inside rest : Bytes) → NoneIn is_end inside rest → has_fe
 short_lacks [] rest h f = tt
 short_lacks (b ∷ bs) rest h f = let p = feed_parts b bs f in (rw (h.0, p.0) refl, short_lacks bs rest h.1 p.1)
 
-or_false : (a b : Bool) → (a || b) ≡ false → (a ≡ false) × (b ≡ false)
-or_false true b h = absurd cc
-or_false false b h = (refl, h)
-
 pub short_parts : (inside rest : Bytes) → NoneIn is_end_or_feed inside rest → NoneIn is_end inside rest × (has_feed inside ≡ false)
 short_parts [] rest h = (tt, refl)
 short_parts (b ∷ bs) rest h =
-    let p = or_false _ _ h.0 in
+    let p = or_parts _ _ h.0 in
     let q = short_parts bs rest h.1 in
     ((p.0, q.0), no_feed b bs p.1 q.1)
 
@@ -92,10 +86,6 @@ join_feeds IsJoin.trigraph rest = feeds_append (codes "??/\n") rest ∙ one-add 
 pub joins_feeds : {joins : Bytes} → AreJoins joins → 0 < line_feeds joins
 joins_feeds (AreJoins.one {join} h) = let e = join_feeds h [] in let f : line_feeds join ≡ line_feeds (join ++ []) = ap line_feeds (sym (append-nil join)) in omega (arith, e, f)
 joins_feeds (AreJoins.more {join} {joins} h hs) = omega (arith, join_feeds h joins)
-
-pub joins_some : {joins : Bytes} → AreJoins joins → 0 < length joins
-joins_some (AreJoins.one h) = join_some h
-joins_some (AreJoins.more {join} {joins} h hs) = omega (arith, join_some h, length-append join joins)
 
 join_front : {join : Bytes} → IsJoin join → (n : ℕ) (rest : Bytes) → passed join_len (suc n) (join ++ rest) ≡ passed join_len n rest
 join_front {join} h n rest = passed_step join_len n (join ++ rest) ∙ ap (passed join_len n) (rw (join_is h rest) (drop-append_seam join rest))
@@ -184,7 +174,7 @@ split_is {joins} back h =
 
 pub splits_lack : (bytes : Bytes) → LacksSplitEnd bytes → NoneAt is_split bytes
 splits_lack [] h = tt
-splits_lack (b ∷ bs) h = (fails _ (λ t. let x = split_found (b ∷ bs) t in h [] x.joins x.back x.are x.at), splits_lack bs (λ front joins back are e. h (b ∷ front) joins back are (ap (λ (y : Bytes). b ∷ y) e)))
+splits_lack (b ∷ bs) h = (false_from_ne_true _ (λ t. let x = split_found (b ∷ bs) t in h [] x.joins x.back x.are x.at), splits_lack bs (λ front joins back are e. h (b ∷ front) joins back are (ap (λ (y : Bytes). b ∷ y) e)))
 
 pub lacks_split : (bytes : Bytes) → NoneAt is_split bytes → LacksSplitEnd bytes
 lacks_split [] h [] joins back are e = absurd cc

@@ -2,12 +2,23 @@
 use Rattle.std.proofs.Common.{◌≡◌, ℕ, ◌+◌, ◌*◌, ◌≤◌, [], ◌∷◌, length, take, drop, refl, sym, ap, ◌∙◌, cond, arith, true, false, Bool, Option, Some, None, option_map}
 use Rattle.std.proofs.lemmas.Bool.Decides.{nat_tests}
 use Rattle.std.proofs.lemmas.List.Folds.{length-prefix_len}
-use Rattle.std.specs.Prelude.{nat_le, nat_lt, is_some, ◌==◌, ◌||◌, ◌&&◌, slice_index, option_and_then}
+use Rattle.std.specs.Prelude.{nat_le, nat_lt, is_some, ◌==◌, ◌||◌, ◌&&◌, slice_index, option_and_then, if◌then◌else◌}
 use Rattle.c_arith.specs.declared.int_type.IntType.TheVariants.{Int, UInt, Long, ULong}
 use Rattle.c_language.specs.Words.{Bytes}
 use Rattle.c_language.specs.Constants.{is_hexadecimal, base, digit_value, unprefixed, digits, value_from, constant_value, Suffix, is_u, is_l, suffix_of, first_type, constant_type}
-use Rattle.c_lex.specs.Numbers.{digits_len, capped, plain_most, most, is_within, holds, is_held}
-use Rattle.c_lex.proofs.Places.{by_answer}
+use Rattle.c_language.proofs.Tests.{by_answer}
+use Rattle.c_lex.specs.Numbers.{digits_len, capped, plain_most, most}
+
+abbrev pub is_within : ℕ → Option ℕ → Bool
+is_within v None = false
+is_within v (Some m) = nat_le v m
+
+-- a number of a base with so many digits behind its prefix
+abbrev pub holds : ℕ → Bytes → ℕ → Bool
+holds b body n = if n == 0 then false else is_within (capped b 0 (take n body)) (most (b == 10) (drop n body))
+
+abbrev pub is_held : Bytes → Bool
+is_held text = holds (base text) (unprefixed text) (digits_len (base text) (unprefixed text))
 
 none_below : (v : ℕ) → nat_le 0 v ≡ true
 none_below v = grind (arith, nat_tests)

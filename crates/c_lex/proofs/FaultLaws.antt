@@ -1,6 +1,6 @@
 -- A text with a fault has no tokens.
 use Rattle.std.proofs.Common.{◌≡◌, ◌≢◌, ℕ, zero, suc, ◌+◌, ◌≤◌, ◌<◌, [], ◌∷◌, ◌++◌, length, length-append, take, drop, refl, sym, ap, ◌∙◌, subst, arith, true, false, Option, Some, None, Result, Err, codes, eqb}
-use Rattle.std.proofs.lemmas.Bool.{eqb-true}
+use Rattle.std.proofs.lemmas.Bool.{eqb-true, false_from_ne_true}
 use Rattle.std.proofs.lemmas.Bool.Decides.{nat_tests}
 use Rattle.std.proofs.Math.Seq.{take-append_seam}
 use Rattle.std.specs.Prelude.{◌==◌, ◌&&◌, nat_lt, is_some}
@@ -12,6 +12,7 @@ use Rattle.c_language.specs.TokenForms.{Tokens, of_kind}
 use Rattle.c_language.specs.Tokens.{has_feed, line_feeds, joins_next, number_goes_on, AreJoins, LacksEnd, IsRun, IsCharacter, IsLiteral, IsLongest, IsTokens}
 use Rattle.c_language.specs.declared.token.Before.{Before}
 use Rattle.c_language.specs.declared.token.Before.TheVariants.{Token}
+use Rattle.c_language.proofs.Tests.{by_answer}
 use Rattle.c_lex.specs.Faults.{IsStray, IsBadByte, IsFault}
 use Rattle.c_lex.specs.declared.fault.LexFault.{LexFault}
 use Rattle.c_lex.specs.declared.fault.LexFault.TheVariants as fault
@@ -19,7 +20,7 @@ use Rattle.c_lex.specs.declared.literal.Stage.TheVariants as stage
 use Rattle.c_lex.specs.declared.piece.Piece.{Piece}
 use Rattle.c_lex.specs.declared.piece.Piece.TheVariants as piece
 use Rattle.c_lex.specs.Scanning.{begins, first_place, run_len, is_split, is_end, comment_piece, closed_piece, line_comment_piece, number_piece, sized, character_len, literal_len, is_trigraph, string_piece, mark_len, lacks_token, piece_of, turn, scan}
-use Rattle.c_lex.proofs.Places.{by_answer, fails, begins_append, take_at, NoneAt, place_is, place_lacks, place_none}
+use Rattle.c_lex.proofs.Places.{begins_append, take_at, NoneAt, place_is, place_lacks, place_none, by_place}
 use Rattle.c_lex.proofs.CommentLemmas.{inside_lacks, lacks_split, line_is}
 use Rattle.c_lex.proofs.WordLemmas.{run_is, run_starts, mark_found, character_found, literal_is, literal_found, lacks_trigraph}
 use Rattle.c_lex.proofs.LineLemmas.{other_byte}
@@ -38,16 +39,12 @@ Stops piece.BadByte = Unit {0}
 stops_at : (p q : Piece) → q ≡ p → Stops p → Stops q
 stops_at p q e h = subst Stops (sym e) h
 
-by_place : {G : Type 0} (o : Option ℕ) → (o ≡ None → G) → ((n : ℕ) → o ≡ Some n → G) → G
-by_place None none some = none refl
-by_place (Some n) none some = some n refl
-
 -- ---- comments
 
 no_end_at : (inside : Bytes) → LacksEnd inside → NoneAt is_end inside
 no_end_at [] h = tt
 no_end_at (b ∷ bs) h =
-    (fails _ (λ t. h [] (drop 2 (b ∷ bs)) (begins_append (codes "*/") (b ∷ bs) t)), no_end_at bs (λ front back e. h (b ∷ front) back (ap (λ (y : Bytes). b ∷ y) e)))
+    (false_from_ne_true _ (λ t. h [] (drop 2 (b ∷ bs)) (begins_append (codes "*/") (b ∷ bs) t)), no_end_at bs (λ front back e. h (b ∷ front) back (ap (λ (y : Bytes). b ∷ y) e)))
 
 open_stops : (before : Before) (inside : Bytes) → LacksEnd inside → piece_of before (codes "/*" ++ inside) ≡ piece.Open
 unfolding piece_of
@@ -75,10 +72,10 @@ joined_stops before inside rest h j =
 -- ---- bytes
 
 no_slash : (b : ℕ) (rest : Bytes) → IsLongest 0 (b ∷ rest) → eqb 47 b ≡ false
-no_slash b rest h = fails _ (λ t. let low : 1 ≤ 0 = h (codes "/") rest refl (ap (λ (x : ℕ). x ∷ rest) (sym (eqb-true 47 b t))) in omega arith)
+no_slash b rest h = false_from_ne_true _ (λ t. let low : 1 ≤ 0 = h (codes "/") rest refl (ap (λ (x : ℕ). x ∷ rest) (sym (eqb-true 47 b t))) in omega arith)
 
 no_mark : (bytes : Bytes) → IsLongest 0 bytes → nat_lt 0 (mark_len bytes) ≡ false
-no_mark bytes h = fails _ (λ t. let some : 0 < mark_len bytes = grind (arith, nat_tests) in let x = mark_found bytes some in omega (arith, h x.text x.rest x.is x.at, x.len))
+no_mark bytes h = false_from_ne_true _ (λ t. let some : 0 < mark_len bytes = grind (arith, nat_tests) in let x = mark_found bytes some in omega (arith, h x.text x.rest x.is x.at, x.len))
 
 word_parts : (b : ℕ) → is_word_byte b ≡ false → (is_letter b ≡ false) × (is_digit b ≡ false)
 word_parts b h = by_answer (is_letter b) (λ t. let f : is_word_byte b ≡ true = rw t refl in absurd cc) (λ f. by_answer (is_digit b) (λ t. let g : is_word_byte b ≡ true = rw (f, t) refl in absurd cc) (λ g. (f, g)))
@@ -101,7 +98,7 @@ stray_stops before b rest s h =
 character_stops : (before : Before) (rest : Bytes) → ((text more : Bytes) → IsCharacter text → codes "'" ++ rest ≢ text ++ more) → piece_of before (codes "'" ++ rest) ≡ piece.BadByte
 unfolding piece_of
 character_stops before rest h =
-    let f : nat_lt 0 (character_len (codes "'" ++ rest)) ≡ false = fails _ (λ t.
+    let f : nat_lt 0 (character_len (codes "'" ++ rest)) ≡ false = false_from_ne_true _ (λ t.
     let some : 0 < character_len (codes "'" ++ rest) = grind (arith, nat_tests) in
     let x = character_found (codes "'" ++ rest) refl some in h x.text x.rest x.is x.at) in
     let e : sized _ (character_len (codes "'" ++ rest)) ≡ piece.BadByte = rw f refl in
@@ -142,7 +139,7 @@ no_constant (Some t) h = absurd (h t refl)
 number_stops : (before : Before) (b : ℕ) (run rest : Bytes) → is_digit b ≡ true → IsRun number_goes_on b run rest → ¬ IsConstant (b ∷ run) → piece_of before (b ∷ (run ++ rest)) ≡ piece.BadNumber
 unfolding piece_of
 number_stops before b run rest h r n =
-    let f : eqb 47 b ≡ false = fails _ (λ t. let e : is_digit 47 ≡ true = ap is_digit (eqb-true 47 b t) ∙ h in cc) in
+    let f : eqb 47 b ≡ false = false_from_ne_true _ (λ t. let e : is_digit 47 ≡ true = ap is_digit (eqb-true 47 b t) ∙ h in cc) in
     let c : begins (codes "/*") (b ∷ (run ++ rest)) ≡ false = rw f refl in
     let d : begins (codes "//") (b ∷ (run ++ rest)) ≡ false = rw f refl in
     let len : run_len number_goes_on 0 (b ∷ (run ++ rest)) ≡ length (b ∷ run) = run_starts number_goes_on 0 b (run ++ rest) (digit_goes_on b h) ∙ rw (run_is r) (omega arith) in

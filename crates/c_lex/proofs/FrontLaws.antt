@@ -14,13 +14,14 @@ use Rattle.c_language.specs.declared.token.TokenKind.{TokenKind}
 use Rattle.c_language.specs.declared.token.TokenKind.TheVariants.{Name, Number, Character, Str, Mark, Directive}
 use Rattle.c_language.specs.declared.token.Before.{Before}
 use Rattle.c_language.specs.declared.token.Before.TheVariants.{Blank, Comment, Token}
+use Rattle.c_language.proofs.Tests.{by_answer}
 use Rattle.c_lex.specs.Faults.{IsStray, IsBadByte, IsFault}
 use Rattle.c_lex.specs.declared.fault.LexFault.TheVariants as fault
 use Rattle.c_lex.specs.declared.literal.Stage.TheVariants as stage
 use Rattle.c_lex.specs.declared.piece.Piece.{Piece}
 use Rattle.c_lex.specs.declared.piece.Piece.TheVariants as piece
 use Rattle.c_lex.specs.Scanning.{first, begins, first_place, run_len, line_len, is_split, is_end, comment_piece, closed_piece, line_comment_piece, number_piece, whole, sized, character_len, literal_len, is_trigraph, string_piece, mark_len, header_len, header_from, behind_gap, hash_piece, directive_piece, line_piece, lacks_token, piece_of}
-use Rattle.c_lex.proofs.Places.{by_test, by_answer, begins_append, drop_at, take_at, PlaceIs, place_found, place_none}
+use Rattle.c_lex.proofs.Places.{by_test, begins_append, drop_at, take_at, PlaceIs, place_found, place_none, by_place}
 use Rattle.c_lex.proofs.CommentLemmas.{lacks_end, lacks_end_at, lacks_split, split_found, feeds_append, joins_feeds, line_found, first_is}
 use Rattle.c_lex.proofs.WordLemmas.{run_starts, run_found, mark_found, mark_longest, character_is, character_found, literal_is, literal_found, trigraph_byte, lacks_trigraph}
 use Rattle.c_lex.proofs.LineLemmas.{include_found, include_lacks}
@@ -61,10 +62,6 @@ Front before bytes piece.BadByte = (line : ℕ) → IsFault before line bytes (f
 
 bad : {before : Before} {bytes : Bytes} → IsBadByte before bytes → (line : ℕ) → IsFault before line bytes (fault.BadByte line)
 bad h line = IsFault.bad_byte h
-
-by_place : {G : Type 0} (o : Option ℕ) → (o ≡ None → G) → ((n : ℕ) → o ≡ Some n → G) → G
-by_place None none some = none refl
-by_place (Some n) none some = some n refl
 
 no_length : (o : Option ℕ) {n : ℕ} → o ≡ None → o ≡ Some n → ⊥
 no_length o h e = let f : None ≡ Some _ = sym h ∙ e in absurd cc

@@ -1,4 +1,3 @@
-pub mod Turns
 pub mod Loops
 pub mod Places
 pub mod CommentLemmas

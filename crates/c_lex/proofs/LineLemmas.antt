@@ -1,21 +1,22 @@
 -- Includes and directives.
 use Rattle.std.proofs.Common.{◌≡◌, ◌≢◌, ℕ, zero, suc, ◌+◌, ◌≤◌, ◌<◌, [], ◌∷◌, ◌++◌, length, length-append, drop, append_assoc, refl, sym, ap, ◌∙◌, subst, arith, true, false, Option, Some, None, inl, inr, codes}
-use Rattle.std.proofs.lemmas.Bool.{and_parts, eqb-true}
+use Rattle.std.proofs.lemmas.Bool.{and_parts, eqb-true, false_from_ne_true}
 use Rattle.std.proofs.lemmas.Bool.Decides.{nat_tests}
 use Rattle.std.proofs.Math.Seq.{drop-append_seam}
 use Rattle.std.specs.Prelude.{◌==◌, ◌⊎◌, nat_lt, bytes_eq}
 use Rattle.std.proofs.lemmas.Slice.Eq.{bytes_eq-Decides}
 use Rattle.c_language.specs.Words.{Bytes}
 use Rattle.c_language.specs.Tokens.{is_blank, is_feed, has_feed, AtLineEnd, LacksEnd, IsGap, is_header, IsInclude, IsLineTail, EndsInclude, LacksInclude}
+use Rattle.c_language.proofs.Tests.{by_answer}
 use Rattle.c_lex.specs.Scanning.{first, begins, first_place, passed, is_end, is_end_or_feed, short_comment_len, gap_len, behind_gap, header_len, is_line_tail, is_header_last, header_from}
-use Rattle.c_lex.proofs.Places.{by_test, by_answer, fails, begins_append, drop_at, place_is, place_found, passed_stop, passed_step}
+use Rattle.c_lex.proofs.Places.{by_test, begins_append, drop_at, place_is, place_found, passed_stop, passed_step, by_place}
 use Rattle.c_lex.proofs.CommentLemmas.{inside_lacks, lacks_end, short_lacks, short_parts}
 
 -- ---- gaps
 
 -- a byte other than this one isn't it
 pub other_byte : (b c : ℕ) → b ≢ c → (b == c) ≡ false
-other_byte b c h = fails (b == c) (λ t. h (eqb-true b c t))
+other_byte b c h = false_from_ne_true (b == c) (λ t. h (eqb-true b c t))
 
 blank_gap : (b : ℕ) (rest : Bytes) → is_blank b ≡ true → b ≢ 10 → gap_len (b ∷ rest) ≡ 1
 blank_gap b rest h n = rw (h, other_byte b 10 n) refl
@@ -57,10 +58,6 @@ pub record GapAt (bytes : Bytes) : Type 0 where
 
 no_gap : (bytes : Bytes) → gap_len bytes ≡ 0 → GapAt bytes
 no_gap bytes h = record { gap = []; at = rw h refl; len = sym h; joins = λ more g. g }
-
-by_place : {G : Type 0} (o : Option ℕ) → (o ≡ None → G) → ((n : ℕ) → o ≡ Some n → G) → G
-by_place None none some = none refl
-by_place (Some n) none some = some n refl
 
 whole_comment : (inside rest : Bytes) → has_feed inside ≡ false → LacksEnd inside → GapAt (codes "/*" ++ (inside ++ (codes "*/" ++ rest)))
 whole_comment inside rest h l = record {

@@ -3,21 +3,15 @@ use Rattle.std.proofs.Common.{◌≡◌, ◌≢◌, ℕ, ◌+◌, ◌≤◌, ◌
 use Rattle.std.proofs.lemmas.Bool.Decides.{nat_tests}
 use Rattle.std.proofs.Math.Nat.{mul-le-mul}
 use Rattle.std.proofs.lemmas.List.{at_drop_more, at_drop_all}
-use Rattle.std.specs.Prelude.{not, nat_le, ◌*◌}
+use Rattle.std.specs.Prelude.{nat_le, ◌*◌}
 use Rattle.c_language.specs.Constants.{digit_value}
 use Rattle.c_lex.specs.Numbers.{capped}
 use Rattle.c_language.specs.Words.{Bytes}
-use Rattle.c_language.specs.Tokens.{is_feed, name_goes_on}
+use Rattle.c_language.specs.Tokens.{name_goes_on}
+use Rattle.c_language.proofs.Turns.{one_more, no_more}
 use Rattle.c_lex.specs.declared.literal.Stage.{Stage}
 use Rattle.c_lex.specs.declared.literal.Stage.TheVariants as stage
-use Rattle.c_lex.specs.Scanning.{stage_after, literal_from, literal_len, raised, first_place, run_len, line_len, passed}
-use Rattle.c_lex.proofs.Turns.{one_more, no_more}
-
-pub line_step : (cs : Bytes) (n : ℕ) → n < length cs → line_len (drop n cs) ≡ cond (not (is_feed (get_or cs n 0))) (1 + line_len (drop (n + 1) cs)) 0
-line_step cs n h = at_drop_more line_len cs n 0 h
-
-pub line_end : (cs : Bytes) (n : ℕ) → length cs ≤ n → line_len (drop n cs) ≡ 0
-line_end cs n h = at_drop_all line_len cs n h
+use Rattle.c_lex.specs.Scanning.{stage_after, literal_from, literal_len, raised, first_place, run_len, passed}
 
 place_cons : (test : Bytes → Bool) (b : ℕ) (bs : Bytes) (is : Bool) → test (b ∷ bs) ≡ is → first_place test (b ∷ bs) ≡ cond is (Some 0) (raised (first_place test bs))
 unfolding first_place

@@ -1,6 +1,6 @@
 -- What stands at the front of some bytes is found.
 use Rattle.std.proofs.Common.{◌≡◌, ◌≢◌, ℕ, ◌+◌, ◌-◌, ◌<◌, [], ◌∷◌, ◌++◌, length, length-append, take, drop, append_assoc, refl, sym, ap, ◌∙◌, subst, cond, arith, true, false, Bool, Some, eqb, codes}
-use Rattle.std.proofs.lemmas.Bool.{and_parts, eqb-true}
+use Rattle.std.proofs.lemmas.Bool.{and_parts, eqb-true, and_right, not-true, false_from_ne_true}
 use Rattle.std.proofs.lemmas.Bool.Decides.{nat_tests}
 use Rattle.std.proofs.Math.Seq.{take-append_seam}
 use Rattle.std.specs.Prelude.{◌==◌, ◌||◌, ◌&&◌, not, nat_lt, bytes_eq}
@@ -16,7 +16,7 @@ use Rattle.c_language.specs.declared.token.Before.TheVariants.{Blank, Comment}
 use Rattle.c_lex.specs.declared.literal.Stage.TheVariants as stage
 use Rattle.c_lex.specs.declared.piece.Piece.TheVariants as piece
 use Rattle.c_lex.specs.Scanning.{first, begins, first_place, run_len, is_split, is_end, comment_piece, closed_piece, number_piece, whole, sized, is_trigraph, string_piece, mark_len, header_len, header_from, behind_gap, hash_piece, directive_piece, piece_of, after_space}
-use Rattle.c_lex.proofs.Places.{fails, begins_append, drop_at, take_at, place_is, place_lacks}
+use Rattle.c_lex.proofs.Places.{begins_append, drop_at, take_at, place_is, place_lacks}
 use Rattle.c_lex.proofs.CommentLemmas.{inside_lacks, splits_lack, line_is}
 use Rattle.c_lex.proofs.WordLemmas.{run_is, run_starts, any_passes, mark_len_is, mark_some, character_is, literal_is, trigraphs_lack}
 use Rattle.c_lex.proofs.LineLemmas.{other_byte, include_lens, include_none}
@@ -25,10 +25,7 @@ use Rattle.c_lex.proofs.LineLemmas.{other_byte, include_lens, include_none}
 
 -- a byte of a class isn't one outside of it
 apart : (class : ℕ → Bool) (b c : ℕ) → class b ≡ true → class c ≡ false → eqb c b ≡ false
-apart class b c h k = fails _ (λ t. let e : class c ≡ true = ap class (eqb-true c b t) ∙ h in absurd cc)
-
-apart_from : (class : ℕ → Bool) (b c : ℕ) → class b ≡ true → class c ≡ false → (b == c) ≡ false
-apart_from class b c h k = fails _ (λ t. let e : class c ≡ true = ap class (sym (eqb-true b c t)) ∙ h in absurd cc)
+apart class b c h k = false_from_ne_true _ (λ t. let e : class c ≡ true = ap class (eqb-true c b t) ∙ h in absurd cc)
 
 no_comment : (b : ℕ) (rest : Bytes) → eqb 47 b ≡ false → begins (codes "/*") (b ∷ rest) ≡ false
 no_comment b rest h = rw h refl
@@ -47,10 +44,6 @@ digit_no_letter b h = grind (arith, nat_tests)
 
 -- ---- white space and comments
 
-and_false : (a b : Bool) → b ≡ false → (a && b) ≡ false
-and_false true b h = h
-and_false false b h = refl
-
 ends_alone : (inside rest : Bytes) → EndsAlone inside rest → AtLineEnd rest
 ends_alone inside [] h = tt
 ends_alone inside (b ∷ bs) h = h.0
@@ -60,7 +53,7 @@ none_left inside = let e : length (codes "//" ++ (inside ++ [])) ≡ length insi
 
 alone : (inside rest : Bytes) → EndsAlone inside rest → (nat_lt (length inside + 2) (length (codes "//" ++ (inside ++ rest))) && joins_next inside) ≡ false
 alone inside [] h = let f : nat_lt (length inside + 2) (length (codes "//" ++ (inside ++ []))) ≡ false = none_left inside in rw f refl
-alone inside (b ∷ bs) h = and_false _ _ h.1
+alone inside (b ∷ bs) h = and_right _ _ h.1
 
 line_comment_is : (before : Before) (inside rest : Bytes) → has_feed inside ≡ false → EndsAlone inside rest → piece_of before (codes "//" ++ (inside ++ rest)) ≡ piece.Space (length (codes "//" ++ inside))
 unfolding piece_of
@@ -149,10 +142,6 @@ string_whole before more rest l t =
 abbrev begins_marks : ℕ → Bool
 begins_marks b = not (is_blank b) && (not (is_letter b) && (not (is_digit b) && (not (b == 39) && (not (b == 34) && not (b == 35)))))
 
-not_true : (b : Bool) → not b ≡ true → b ≡ false
-not_true true h = absurd cc
-not_true false h = refl
-
 pub record BeginsMark (b : ℕ) : Type 0 where
   pub no_blank : is_blank b ≡ false
   pub no_letter : is_letter b ≡ false
@@ -171,14 +160,14 @@ mark_begins text h =
     let r = and_parts (not (is_digit (first text))) _ q.1 in
     let s = and_parts (not (first text == 39)) _ r.1 in
     let u = and_parts (not (first text == 34)) (not (first text == 35)) s.1 in
-    record { no_blank = not_true _ p.0; no_letter = not_true _ q.0; no_digit = not_true _ r.0; no_quote = not_true _ s.0; no_double = not_true _ u.0; no_hash = not_true _ u.1 }
+    record { no_blank = not-true _ p.0; no_letter = not-true _ q.0; no_digit = not-true _ r.0; no_quote = not-true _ s.0; no_double = not-true _ u.0; no_hash = not-true _ u.1 }
 
 first_front : (text rest : Bytes) → 0 < length text → first (text ++ rest) ≡ first text
 first_front [] rest h = absurd (omega arith)
 first_front (b ∷ bs) rest h = refl
 
 lacks_begins : (word bytes : Bytes) → ((rest : Bytes) → bytes ≢ word ++ rest) → begins word bytes ≡ false
-lacks_begins word bytes h = fails _ (λ t. h (drop (length word) bytes) (begins_append word bytes t))
+lacks_begins word bytes h = false_from_ne_true _ (λ t. h (drop (length word) bytes) (begins_append word bytes t))
 
 some_length : (text : Bytes) → is_mark text ≡ true → nat_lt 0 (length text) ≡ true
 some_length text h = let some = mark_some text h in grind (arith, nat_tests)

@@ -9,15 +9,10 @@ pub by_test : {A G : Type 0} {x y z : A} (b : Bool) → cond b x y ≡ z → (b 
 by_test true e is isnt = is refl e
 by_test false e is isnt = isnt refl e
 
--- a case for each answer of a test
-pub by_answer : {G : Type 0} (b : Bool) → (b ≡ true → G) → (b ≡ false → G) → G
-by_answer true is isnt = is refl
-by_answer false is isnt = isnt refl
-
--- what is true of nothing is false
-pub fails : (b : Bool) → (b ≡ true → ⊥) → b ≡ false
-fails true h = absurd (h refl)
-fails false h = refl
+-- a case for each answer of a search
+pub by_place : {G : Type 0} (o : Option ℕ) → (o ≡ None → G) → ((n : ℕ) → o ≡ Some n → G) → G
+by_place None none some = none refl
+by_place (Some n) none some = some n refl
 
 pub by_raised : {G : Type 0} (o : Option ℕ) (n : ℕ) → raised o ≡ Some n → ((k : ℕ) → o ≡ Some k → n ≡ k + 1 → G) → G
 by_raised None n h go = absurd cc

@@ -10,6 +10,7 @@ use Rattle.c_language.specs.declared.token.Token as token
 use Rattle.c_language.specs.declared.token.TokenKind.{TokenKind}
 use Rattle.c_language.specs.declared.token.Before.{Before}
 use Rattle.c_language.specs.declared.token.Before.TheVariants.{Blank, Token}
+use Rattle.c_language.proofs.Turns.{one_more, no_more}
 use Rattle.c_lex.specs.Faults.{IsFault}
 use Rattle.c_lex.specs.declared.fault.LexFault.{LexFault}
 use Rattle.c_lex.specs.declared.fault.LexFault.TheVariants.{BadByte, BadNumber, OpenComment, NoMemory}
@@ -17,7 +18,6 @@ use Rattle.c_lex.specs.declared.piece.Piece.{Piece}
 use Rattle.c_lex.specs.declared.piece.Piece.TheVariants as piece
 use Rattle.c_lex.specs.Lexed.{Finds, IsLexed}
 use Rattle.c_lex.specs.Scanning.{piece_of, after_space, Scan, turn, scan, Gives}
-use Rattle.c_lex.proofs.Turns.{one_more, no_more}
 use Rattle.c_lex.proofs.PieceLaws.{piece_space, space_leads, space_some, TokenLens, piece_token}
 use Rattle.c_lex.proofs.FrontLaws.{Front, front_at}
 

@@ -1,25 +1,24 @@
 -- What the definition of tokens gives, in plain words: one list a text, own bytes in order, lines, and the longest of each kind.
 use Rattle.std.proofs.Common.{◌≡◌, ℕ, ◌+◌, ◌≤◌, [], ◌∷◌, ◌++◌, length, append_assoc, append-nil, refl, sym, ap, ◌∙◌, subst, arith, true, false, Bool, Some, Result, Ok, Err, codes, inl, inr}
-use Rattle.std.proofs.lemmas.Bool.{eqb-true}
+use Rattle.std.proofs.lemmas.Bool.{eqb-true, not-true, false_from_ne_true}
 use Rattle.std.proofs.lemmas.Slice.Eq.{bytes_eq-Decides}
 use Rattle.std.specs.Prelude.{◌⊎◌, not, bytes_eq}
 use Rattle.c_language.specs.Words.{Bytes}
 use Rattle.c_language.specs.Characters.{is_digit, is_letter}
 use Rattle.c_language.specs.Constants.{is_escape}
 use Rattle.c_language.specs.TokenForms.{Tokens, of_kind}
-use Rattle.c_language.specs.Tokens.{is_plain, is_feed, has_feed, line_feeds, name_goes_on, number_goes_on, marks, is_mark, headers, is_header, IsGap, IsInclude, IsSpace, IsRun, IsCharacter, IsLiteral, IsTokenText, IsToken, IsTokens, AreTokensOf}
+use Rattle.c_language.specs.Tokens.{is_plain, is_feed, has_feed, line_feeds, marks, is_mark, headers, is_header, IsGap, IsInclude, IsSpace, IsRun, IsCharacter, IsLiteral, IsTokenText, IsToken, IsTokens, AreTokensOf}
 use Rattle.c_language.specs.declared.token.TokenKind.{TokenKind}
-use Rattle.c_language.specs.declared.token.TokenKind.TheVariants.{Name, Number, Character, Str, Mark}
 use Rattle.c_language.specs.declared.token.Before.{Before}
 use Rattle.c_language.specs.declared.token.Before.TheVariants.{Blank, Token}
 use Rattle.c_lex.specs.declared.fault.LexFault.{LexFault}
 use Rattle.c_lex.specs.declared.literal.Stage.TheVariants as stage
 use Rattle.c_lex.specs.Faults.{IsFault}
+use Rattle.c_lex.specs.Laws.{AreSpaces, AreSpread, AreRun, HasForm}
 use Rattle.c_lex.specs.Scanning.{character_len, literal_len, scan}
 use Rattle.c_lex.proofs.CommentLemmas.{feed_parts, no_feed, feeds_append}
 use Rattle.c_lex.proofs.WordLemmas.{any_passes, character_is, literal_is}
 use Rattle.c_lex.proofs.LineLemmas.{other_byte}
-use Rattle.c_lex.proofs.Places.{fails}
 use Rattle.c_lex.proofs.ScanLaws.{one_list, Scanned, scan_sound}
 
 -- ---- a text has one list of tokens, or a fault
@@ -37,19 +36,6 @@ answer_of text (Err x) h = inr (x, h)
 pub tokens_or_fault : (text : Bytes) → HasAnswer text
 tokens_or_fault text = answer_of text (scan (length text) Blank 1 [] text) (scan_sound (length text) Blank 1 [] text (omega arith))
 
--- ---- own bytes in order
-
--- white space and comments alone, before the rest
-pub data AreSpaces : Before → Bytes → Bytes → Before → Type 0 where
-  none : {before : Before} {rest : Bytes} → AreSpaces before [] rest before
-  more : {before between after : Before} {some gap rest : Bytes} → IsSpace before (gap ++ rest) some between → AreSpaces between gap rest after → AreSpaces before (some ++ gap) rest after
-
--- behind the front of a text, the tokens stand in this order, each with its own bytes and on the line after the line feeds before it, and nothing but white space and comments stands between them
-pub data AreSpread : Bytes → Bytes → Tokens → Type 0 where
-  end : {front gap : Bytes} {before after : Before} → AreSpaces before gap [] after → AreSpread front gap []
-  next : {front gap own text rest : Bytes} {before at : Before} {kind : TokenKind} {ts : Tokens} → AreSpaces before gap (own ++ rest) at → IsToken at kind own text rest → AreSpread (front ++ (gap ++ own)) rest ts
-      → AreSpread front (gap ++ (own ++ rest)) (of_kind kind text (1 + line_feeds (front ++ gap)) ∷ ts)
-
 -- ---- a token holds no line feed
 
 feed_append : (a b : Bytes) → has_feed a ≡ false → has_feed b ≡ false → has_feed (a ++ b) ≡ false
@@ -65,7 +51,7 @@ feeds_none (b ∷ bs) h =
 
 -- a byte of a class without line feeds is none
 not_feed : (class : ℕ → Bool) (b : ℕ) → class b ≡ true → class 10 ≡ false → is_feed b ≡ false
-not_feed class b h k = fails _ (λ t. let e : class 10 ≡ true = ap class (sym (eqb-true b 10 t)) ∙ h in absurd cc)
+not_feed class b h k = false_from_ne_true _ (λ t. let e : class 10 ≡ true = ap class (sym (eqb-true b 10 t)) ∙ h in absurd cc)
 
 run_feeds : {g : ℕ → ℕ → Bool} {b : ℕ} {run rest : Bytes} → ((a : ℕ) → g a 10 ≡ false) → IsRun g b run rest → has_feed run ≡ false
 run_feeds n IsRun.ends_text = refl
@@ -81,19 +67,15 @@ character_feeds : {text : Bytes} → IsCharacter text → has_feed text ≡ fals
 character_feeds (IsCharacter.plain {b} h) = no_feed b (codes "'") (not_feed (is_plain 39) b h refl) refl
 character_feeds (IsCharacter.escape {b} h) = no_feed b (codes "'") (not_feed is_escape b h refl) refl
 
-not_true : (b : Bool) → not b ≡ true → b ≡ false
-not_true true h = absurd cc
-not_true false h = refl
-
 mark_feeds : (text : Bytes) → is_mark text ≡ true → has_feed text ≡ false
 mark_feeds text h =
     let x = any_passes (bytes_eq text) (λ m. not (has_feed m)) marks h refl in
-    ap has_feed ((bytes_eq-Decides text x.0).0 x.1) ∙ not_true (has_feed x.0) x.2
+    ap has_feed ((bytes_eq-Decides text x.0).0 x.1) ∙ not-true (has_feed x.0) x.2
 
 header_feeds : (text : Bytes) → is_header text ≡ true → has_feed text ≡ false
 header_feeds text h =
     let x = any_passes (bytes_eq text) (λ m. not (has_feed m)) headers h refl in
-    ap has_feed ((bytes_eq-Decides text x.0).0 x.1) ∙ not_true (has_feed x.0) x.2
+    ap has_feed ((bytes_eq-Decides text x.0).0 x.1) ∙ not-true (has_feed x.0) x.2
 
 gap_feeds : {gap : Bytes} → IsGap gap → has_feed gap ≡ false
 gap_feeds IsGap.none = refl
@@ -136,19 +118,6 @@ pub spread : (text : Bytes) (ts : Tokens) → AreTokensOf text ts → AreSpread 
 spread text ts h = spread_behind [] [] h Blank AreSpaces.none refl
 
 -- ---- the longest of each kind
-
--- bytes that go on behind a byte
-pub data AreRun (goes_on : ℕ → ℕ → Bool) : ℕ → Bytes → Type 0 where
-  none : {b : ℕ} → AreRun goes_on b []
-  more : {b c : ℕ} {run : Bytes} → goes_on b c ≡ true → AreRun goes_on c run → AreRun goes_on b (c ∷ run)
-
--- the form of a kind, whatever follows
-pub data HasForm : TokenKind → Bytes → Type 0 where
-  name : {b : ℕ} {run : Bytes} → is_letter b ≡ true → AreRun name_goes_on b run → HasForm Name (b ∷ run)
-  number : {b : ℕ} {run : Bytes} → is_digit b ≡ true → AreRun number_goes_on b run → HasForm Number (b ∷ run)
-  character : {text : Bytes} → IsCharacter text → HasForm Character text
-  string : {more : Bytes} → IsLiteral more → HasForm Str (codes "\"" ++ more)
-  mark : {text : Bytes} → is_mark text ≡ true → HasForm Mark text
 
 cons_head : (a b : ℕ) (as_ bs : Bytes) → a ∷ as_ ≡ b ∷ bs → a ≡ b
 cons_head a b as_ bs e = cc

@@ -1,6 +1,6 @@
 -- Names, numbers, marks, characters and strings, and how long they are.
 use Rattle.std.proofs.Common.{◌≡◌, ℕ, ◌+◌, ◌≤◌, ◌<◌, List, [], ◌∷◌, ◌++◌, length, drop, refl, sym, ap, ◌∙◌, subst, arith, true, false, Bool, Option, Some, inl, inr, codes}
-use Rattle.std.proofs.lemmas.Bool.{and_parts, eqb-true}
+use Rattle.std.proofs.lemmas.Bool.{and_parts, eqb-true, false_from_ne_true}
 use Rattle.std.specs.List.{list_any, list_all}
 use Rattle.std.specs.Prelude.{slice_index, ◌==◌, ◌||◌, ◌&&◌, ◌⊎◌, not, bytes_eq}
 use Rattle.std.proofs.lemmas.Slice.Eq.{bytes_eq-Decides}
@@ -8,10 +8,11 @@ use Rattle.c_language.specs.Words.{Bytes}
 use Rattle.c_language.specs.Characters.{is_digit}
 use Rattle.c_language.specs.Constants.{is_one_of, is_escape}
 use Rattle.c_language.specs.Tokens.{is_plain, IsRun, marks, is_mark, IsLongest, IsCharacter, IsLiteral, LacksDigit, LacksTrigraph}
+use Rattle.c_language.proofs.Tests.{by_answer}
 use Rattle.c_lex.specs.declared.literal.Stage.{Stage}
 use Rattle.c_lex.specs.declared.literal.Stage.TheVariants as stage
 use Rattle.c_lex.specs.Scanning.{first, raised, run_len, inside_stage, stage_after, literal_from, literal_len, is_trigraph, is_single, is_pair, is_triple, mark_len, character_len}
-use Rattle.c_lex.proofs.Places.{by_test, by_answer, fails, by_raised, NoneAt}
+use Rattle.c_lex.proofs.Places.{by_test, by_raised, NoneAt}
 
 -- ---- runs
 
@@ -334,7 +335,7 @@ trigraph_byte bytes h = (slice_index bytes 2, drop 3 bytes, trigraph_at bytes h,
 pub trigraphs_lack : (bytes : Bytes) → LacksTrigraph bytes → NoneAt is_trigraph bytes
 trigraphs_lack [] h = tt
 trigraphs_lack (b ∷ bs) h =
-    (fails _ (λ t. let x = trigraph_byte (b ∷ bs) t in h [] x.1 x.0 x.3 x.2), trigraphs_lack bs (λ front back c is e. h (b ∷ front) back c is (ap (λ (y : Bytes). b ∷ y) e)))
+    (false_from_ne_true _ (λ t. let x = trigraph_byte (b ∷ bs) t in h [] x.1 x.0 x.3 x.2), trigraphs_lack bs (λ front back c is e. h (b ∷ front) back c is (ap (λ (y : Bytes). b ∷ y) e)))
 
 pub lacks_trigraph : (bytes : Bytes) → NoneAt is_trigraph bytes → LacksTrigraph bytes
 lacks_trigraph [] h [] back c is e = absurd cc

@@ -3,3 +3,4 @@ pub mod Lexed
 pub mod Scanning
 pub mod Sought
 pub mod Numbers
+pub mod Laws

@@ -1,8 +1,8 @@
 -- Whether a number is a constant, as it is computed.
-use Rattle.std.specs.Prelude.{ℕ, ◌+◌, ◌*◌, ◌==◌, nat_le, nat_lt, length, take, drop, Bool, false, ◌&&◌, ◌||◌, if◌then◌else◌, Option, Some, None, slice_index, fold}
+use Rattle.std.specs.Prelude.{ℕ, ◌+◌, ◌*◌, ◌==◌, nat_le, nat_lt, length, Bool, ◌&&◌, ◌||◌, if◌then◌else◌, Option, Some, None, slice_index, fold}
 use Rattle.std.specs.List.{prefix_len}
 use Rattle.c_language.specs.Words.{Bytes}
-use Rattle.c_language.specs.Constants.{base, digit_value, unprefixed, is_u, is_l}
+use Rattle.c_language.specs.Constants.{digit_value, is_u, is_l}
 
 -- how many digits of a base stand at the front
 abbrev pub digits_len : ℕ → Bytes → ℕ
@@ -25,14 +25,3 @@ most_by is_decimal n a b =
 
 abbrev pub most : Bool → Bytes → Option ℕ
 most is_decimal suffix = most_by is_decimal (length suffix) (slice_index suffix 0) (slice_index suffix 1)
-
-abbrev pub is_within : ℕ → Option ℕ → Bool
-is_within v None = false
-is_within v (Some m) = nat_le v m
-
--- a number of a base with so many digits behind its prefix
-abbrev pub holds : ℕ → Bytes → ℕ → Bool
-holds b body n = if n == 0 then false else is_within (capped b 0 (take n body)) (most (b == 10) (drop n body))
-
-abbrev pub is_held : Bytes → Bool
-is_held text = holds (base text) (unprefixed text) (digits_len (base text) (unprefixed text))

@@ -11,6 +11,7 @@ pub fn is_blank(byte: u8) -> bool
     (9 <= byte && byte <= 13) || byte == b' '
 }
 
+/// A decimal digit.
 pub fn is_digit(byte: u8) -> bool
     ensures { result ≡ form.is_digit byte }
 {
@@ -24,6 +25,7 @@ pub fn is_letter(byte: u8) -> bool
     (b'a' <= byte && byte <= b'z') || (b'A' <= byte && byte <= b'Z') || byte == b'_'
 }
 
+/// A byte that a name goes on with: a letter, `_` or a digit.
 pub fn is_word_byte(byte: u8) -> bool
     ensures { result ≡ form.is_word_byte byte }
 {
@@ -61,6 +63,7 @@ pub fn front(bytes: &[u8], len: usize) -> &[u8]
     &bytes[..len]
 }
 
+/// How many line feeds stand in the bytes.
 pub fn line_feeds(bytes: &[u8]) -> u32
     requires { length bytes.now < 2 ^ 32 }
     ensures value { result ≡ tokens.line_feeds bytes.now }

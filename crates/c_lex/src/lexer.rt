@@ -1,4 +1,4 @@
-ghost use Rattle.std.specs.Prelude.{◌≡◌, ◌+◌, ◌≤◌, ◌<◌, ◌^◌, ◌++◌, ◌∷◌, [], length, OnOk};
+ghost use Rattle.std.specs.Prelude.{◌≡◌, ◌+◌, ◌<◌, ◌^◌, ◌++◌, ◌∷◌, [], length, OnOk};
 ghost use Rattle.c_language.specs.TokenForms.{Tokens, of_kind};
 ghost use Rattle.c_language.specs.Tokens.{AreTokensOf};
 ghost use Rattle.c_language.specs.declared.token.Before.TheVariants.{Blank};

@@ -6,6 +6,7 @@
 
 mod bytes;
 mod fault;
+mod laws;
 mod lexer;
 mod line;
 mod literal;
@@ -20,4 +21,5 @@ mod word;
 pub use c_language::{Token, TokenKind};
 pub use edge_io::Text;
 pub use fault::LexFault;
+pub use laws::{tokens_are_longest, tokens_are_spread};
 pub use lexer::lex;

@@ -1,4 +1,4 @@
-ghost use Rattle.std.specs.Prelude.{◌≡◌, ◌≤◌, ◌<◌, ◌^◌, length, IfSome};
+ghost use Rattle.std.specs.Prelude.{◌≡◌, ◌≤◌, ◌<◌, length, IfSome};
 ghost use Rattle.c_language.specs.Constants as constants;
 ghost use Rattle.c_language.specs.Tokens as tokens;
 ghost use Rattle.c_lex.specs.Scanning as spec;

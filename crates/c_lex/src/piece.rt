@@ -1,4 +1,4 @@
-ghost use Rattle.std.specs.Prelude.{◌≡◌, ◌≤◌, ◌<◌, ◌^◌, length, take, drop};
+ghost use Rattle.std.specs.Prelude.{◌≡◌, ◌≤◌, ◌<◌, ◌^◌, length, drop};
 ghost use Rattle.c_language.specs.Tokens as tokens;
 ghost use Rattle.c_lex.specs.Scanning as spec;
 ghost use Rattle.c_lex.specs.declared.literal.Stage.TheVariants.{Inside};

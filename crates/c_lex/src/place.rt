@@ -1,4 +1,4 @@
-ghost use Rattle.std.specs.Prelude.{◌≡◌, ◌≤◌, ◌<◌, ◌^◌, length, IfSome};
+ghost use Rattle.std.specs.Prelude.{◌≡◌, ◌≤◌, ◌<◌, length, IfSome};
 ghost use Rattle.c_lex.specs.Scanning as spec;
 ghost use Rattle.c_lex.specs.Sought as sought_spec;
 
@@ -68,6 +68,7 @@ fn is_trigraph(bytes: &[u8]) -> bool
         && is_one_of(b"=(/)'<!>-".as_slice(), byte_at(bytes, 2))
 }
 
+/// Whether `*/` stands at the front of the bytes.
 pub fn is_end(bytes: &[u8]) -> bool
     ensures { result ≡ spec.is_end bytes.now }
 {

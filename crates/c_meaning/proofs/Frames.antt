@@ -1,11 +1,10 @@
 -- Variables in their blocks: what a variable holds after a write and after a declaration.
-use Rattle.std.proofs.Common.{◌≡◌, ◌≢◌, ℕ, zero, suc, ◌<◌, ◌==◌, List, [], ◌∷◌, ◌++◌, length, Option, Some, None, Bool, true, false, inl, inr, refl, sym, ap, ◌∙◌, subst, arith, eq-eqb}
+use Rattle.std.proofs.Common.{◌≡◌, ◌≢◌, ℕ, zero, suc, ◌<◌, [], ◌∷◌, ◌++◌, length, Option, Some, None, true, inl, inr, refl, sym, ap, ◌∙◌, subst, arith, eq-eqb}
 use Rattle.std.specs.Prelude.{slice_get, option_map, option_and_then}
 use Rattle.std.proofs.lemmas.Bool.Decides.{eqb_tells}
 use Rattle.std.proofs.lemmas.Bool.{ne_eqb}
-use Rattle.c_language.specs.declared.expr_type.ExprType.{ExprType}
 use Rattle.c_meaning.specs.declared.value.Value.{Value}
-use Rattle.c_meaning.specs.Memory.{Memory, Block, Kind, Entered, read_block, read, is_live_block, is_live, changed, with_cell, write, unwritten, enter}
+use Rattle.c_meaning.specs.Memory.{Memory, Block, Entered, read_block, read, is_live_block, is_live, changed, with_cell, write, unwritten, enter}
 use Rattle.c_meaning.specs.Values.{Types, State, whole, variable_place, bound, opened}
 
 -- what a variable holds, where it has begun and was written
@@ -100,28 +99,28 @@ module _ (types : Types) (s : State) (x : ℕ) (framed : IsFramed s) where
   -- the new variable holds nothing
   pub unwritten_here : variable_value x (opened types x s) ≡ None
   unwritten_here =
-      ap (λ o. option_and_then (read (enter (types.variable x) s.memory)) (option_map whole o)) opened_here ∙ ap (option_and_then (λ (k : Block). read_block k [])) (get_last s.memory (unwritten (types.variable x) Entered))
+      ap (λ o. option_and_then (read (enter (types.typing.variable x) s.memory)) (option_map whole o)) opened_here ∙ ap (option_and_then (λ (k : Block). read_block k [])) (get_last s.memory (unwritten (types.typing.variable x) Entered))
 
-  kept_by_entry : (y : ℕ) (o : Option ℕ) → s.frame y ≡ o → option_and_then (read (enter (types.variable x) s.memory)) (option_map whole o) ≡ option_and_then (read s.memory) (option_map whole o)
+  kept_by_entry : (y : ℕ) (o : Option ℕ) → s.frame y ≡ o → option_and_then (read (enter (types.typing.variable x) s.memory)) (option_map whole o) ≡ option_and_then (read s.memory) (option_map whole o)
   kept_by_entry y None e = refl
   kept_by_entry y (Some c) e =
-      ap (option_and_then (λ (k : Block). read_block k [])) (get_front s.memory (unwritten (types.variable x) Entered) c (live_within s.memory c (framed.alive y c e)))
+      ap (option_and_then (λ (k : Block). read_block k [])) (get_front s.memory (unwritten (types.typing.variable x) Entered) c (live_within s.memory c (framed.alive y c e)))
 
   pub opened_elsewhere : (y : ℕ) → x ≢ y → variable_value y (opened types x s) ≡ variable_value y s
   opened_elsewhere y ne =
-      ap (λ o. option_and_then (read (enter (types.variable x) s.memory)) (option_map whole o)) (opened_other y ne) ∙ kept_by_entry y (s.frame y) refl
+      ap (λ o. option_and_then (read (enter (types.typing.variable x) s.memory)) (option_map whole o)) (opened_other y ne) ∙ kept_by_entry y (s.frame y) refl
 
   some_inj : (a b : ℕ) → Some a ≡ Some b → a ≡ b
   some_inj a b e = cc
 
-  live_entered : (c : ℕ) → is_live s.memory c ≡ true → is_live (enter (types.variable x) s.memory) c ≡ true
+  live_entered : (c : ℕ) → is_live s.memory c ≡ true → is_live (enter (types.typing.variable x) s.memory) c ≡ true
   live_entered c h =
-      ap is_live_block (get_front s.memory (unwritten (types.variable x) Entered) c (live_within s.memory c h)) ∙ h
+      ap is_live_block (get_front s.memory (unwritten (types.typing.variable x) Entered) c (live_within s.memory c h)) ∙ h
 
-  alive_opened : (y b : ℕ) → (opened types x s).frame y ≡ Some b → is_live (enter (types.variable x) s.memory) b ≡ true
+  alive_opened : (y b : ℕ) → (opened types x s).frame y ≡ Some b → is_live (enter (types.typing.variable x) s.memory) b ≡ true
   alive_opened y b e =
       elim (eqb_tells x y) [
-        | inl w ↦ subst (λ c. is_live (enter (types.variable x) s.memory) c ≡ true) (some_inj (length s.memory) b (sym opened_here ∙ (ap (λ z. (opened types x s).frame z) w.1 ∙ e))) (ap is_live_block (get_last s.memory (unwritten (types.variable x) Entered)))
+        | inl w ↦ subst (λ c. is_live (enter (types.typing.variable x) s.memory) c ≡ true) (some_inj (length s.memory) b (sym opened_here ∙ (ap (λ z. (opened types x s).frame z) w.1 ∙ e))) (ap is_live_block (get_last s.memory (unwritten (types.typing.variable x) Entered)))
         | inr w ↦ live_entered b (framed.alive y b (sym (opened_other y w.1) ∙ e))
       ]
 

@@ -1,5 +1,5 @@
 -- Small programs whose meaning can be computed: trees that are written out, and what they come to.
-use Rattle.std.proofs.Common.{◌≡◌, ℕ, zero, suc, ℤ, pos, List, [], ◌∷◌, map, Option, Some, None, Bool, true, false, refl, sym, ap, ◌∙◌}
+use Rattle.std.proofs.Common.{◌≡◌, ℕ, zero, suc, ℤ, pos, List, [], ◌∷◌, map, Option, Some, None, Bool, refl, sym, ap, ◌∙◌}
 use Rattle.std.specs.Prelude.{option_map}
 use Rattle.c_arith.specs.declared.int_type.IntType.{IntType}
 use Rattle.c_arith.specs.declared.int_type.IntType.TheVariants.{Int, UChar}
@@ -18,7 +18,7 @@ use Rattle.c_meaning.specs.declared.value.Value.TheVariants.{Number}
 use Rattle.c_meaning.specs.declared.event.Event.{Event}
 use Rattle.c_meaning.specs.declared.event.Shown.{Shown}
 use Rattle.c_meaning.specs.declared.event.Shown.TheVariants as shown
-use Rattle.c_meaning.specs.Values.{Types, State, Meant, variable_place, opened, all_closed, tested, as_type, gives, of_variable, unary_meant, binary_meant, choose_meant, and_both, or_both, binary_value, meant_step, meant, eval, eval_all, beside}
+use Rattle.c_meaning.specs.Values.{Types, State, Meant, variable_place, opened, all_closed, tested, binary_value, meant_step, meant, eval_all, beside}
 use Rattle.c_meaning.specs.Acts.{Made, shows, writable, assigned, bump, put_out, printed_all, as_result, made, after, picked}
 use Rattle.c_meaning.specs.Meaning.{Trace, Answer, Ended, Undefined, More, Outcome, Done, Over, Go, then_do, after_made, take_act, exec, deep, answer, nothing, opening, code_meaning}
 
@@ -48,51 +48,49 @@ tree (Pick c a b) = e.Choose (tree c) (tree a) (tree b)
 tree (As t a) = e.Cast t (tree a)
 tree (Par a) = e.Paren (tree a)
 
-abbrev and_meant : Meant → Meant → Meant
-and_meant a b = gives Int (λ s. and_both (a.value s) (b.value s))
-
-abbrev or_meant : Meant → Meant → Meant
-or_meant a b = gives Int (λ s. or_both (a.value s) (b.value s))
-
-abbrev cast_meant : IntType → Meant → Meant
-cast_meant t a = gives t (λ s. option_map (as_type (integer t)) (a.value s))
-
 two : {A B C : Type 0} (f : A → B → C) {a b : A} {c d : B} → a ≡ b → c ≡ d → f a c ≡ f b d
 two f {a} {b} {c} {d} p q = ap (λ x. f x c) p ∙ ap (f b) q
 
 module _ (types : Types) where
-  abbrev pub means : Small → Meant
-  means (K t n) = gives t (λ s. Some (Number (pos n)))
-  means (Name x) = of_variable types x
-  means EndOfFile = meant_step types Expr-F.Eof
-  means (Un op a) = unary_meant op (means a)
-  means (Bin op a b) = binary_meant op (means a) (means b)
-  means (Both a b) = and_meant (means a) (means b)
-  means (Either a b) = or_meant (means a) (means b)
-  means (Pick c a b) = choose_meant (means c) (means a) (means b)
-  means (As t a) = cast_meant t (means a)
-  means (Par a) = means a
+  abbrev step : Expr-F Meant → Meant
+  step = meant_step types
 
-  means_tree : (a : Small) → meant types (tree a) ≡ means a
-  means_tree (K t n) =
-      ap (meant types) (sym (e.rolls-Constant [] t n)) ∙ fold-roll-Expr Meant (meant_step types) (Expr-F.Constant [] t n)
-  means_tree (Name x) =
-      ap (meant types) (sym (e.rolls-Variable x)) ∙ fold-roll-Expr Meant (meant_step types) (Expr-F.Variable x)
-  means_tree EndOfFile = ap (meant types) (sym e.rolls-Eof) ∙ fold-roll-Expr Meant (meant_step types) Expr-F.Eof
+  abbrev chosen : Meant → Meant → Meant → Meant
+  chosen c a b = step (Expr-F.Choose c a b)
+
+  abbrev pub means : Small → Meant
+  means (K t n) = step (Expr-F.Constant [] t n)
+  means (Name x) = step (Expr-F.Variable x)
+  means EndOfFile = step Expr-F.Eof
+  means (Un op a) = step (Expr-F.Unary op (means a))
+  means (Bin op a b) = step (Expr-F.Binary op (means a) (means b))
+  means (Both a b) = step (Expr-F.AndAlso (means a) (means b))
+  means (Either a b) = step (Expr-F.OrElse (means a) (means b))
+  means (Pick c a b) = chosen (means c) (means a) (means b)
+  means (As t a) = step (Expr-F.Cast t (means a))
+  means (Par a) = step (Expr-F.Paren (means a))
+
+  abbrev of_tree : Expr → Meant
+  of_tree = meant types
+
+  means_tree : (a : Small) → of_tree (tree a) ≡ means a
+  means_tree (K t n) = ap of_tree (sym (e.rolls-Constant [] t n)) ∙ fold-roll-Expr Meant step (Expr-F.Constant [] t n)
+  means_tree (Name x) = ap of_tree (sym (e.rolls-Variable x)) ∙ fold-roll-Expr Meant step (Expr-F.Variable x)
+  means_tree EndOfFile = ap of_tree (sym e.rolls-Eof) ∙ fold-roll-Expr Meant step Expr-F.Eof
   means_tree (Un op a) =
-      ap (meant types) (sym (e.rolls-Unary op (tree a))) ∙ (fold-roll-Expr Meant (meant_step types) (Expr-F.Unary op (tree a)) ∙ ap (unary_meant op) (means_tree a))
+      ap of_tree (sym (e.rolls-Unary op (tree a))) ∙ (fold-roll-Expr Meant step (Expr-F.Unary op (tree a)) ∙ ap (λ m. step (Expr-F.Unary op m)) (means_tree a))
   means_tree (Bin op a b) =
-      ap (meant types) (sym (e.rolls-Binary op (tree a) (tree b))) ∙ (fold-roll-Expr Meant (meant_step types) (Expr-F.Binary op (tree a) (tree b)) ∙ two (binary_meant op) (means_tree a) (means_tree b))
+      ap of_tree (sym (e.rolls-Binary op (tree a) (tree b))) ∙ (fold-roll-Expr Meant step (Expr-F.Binary op (tree a) (tree b)) ∙ two (λ m k. step (Expr-F.Binary op m k)) (means_tree a) (means_tree b))
   means_tree (Both a b) =
-      ap (meant types) (sym (e.rolls-AndAlso (tree a) (tree b))) ∙ (fold-roll-Expr Meant (meant_step types) (Expr-F.AndAlso (tree a) (tree b)) ∙ two and_meant (means_tree a) (means_tree b))
+      ap of_tree (sym (e.rolls-AndAlso (tree a) (tree b))) ∙ (fold-roll-Expr Meant step (Expr-F.AndAlso (tree a) (tree b)) ∙ two (λ m k. step (Expr-F.AndAlso m k)) (means_tree a) (means_tree b))
   means_tree (Either a b) =
-      ap (meant types) (sym (e.rolls-OrElse (tree a) (tree b))) ∙ (fold-roll-Expr Meant (meant_step types) (Expr-F.OrElse (tree a) (tree b)) ∙ two or_meant (means_tree a) (means_tree b))
+      ap of_tree (sym (e.rolls-OrElse (tree a) (tree b))) ∙ (fold-roll-Expr Meant step (Expr-F.OrElse (tree a) (tree b)) ∙ two (λ m k. step (Expr-F.OrElse m k)) (means_tree a) (means_tree b))
   means_tree (Pick c a b) =
-      ap (meant types) (sym (e.rolls-Choose (tree c) (tree a) (tree b))) ∙ (fold-roll-Expr Meant (meant_step types) (Expr-F.Choose (tree c) (tree a) (tree b)) ∙ (ap (λ x. choose_meant x (meant types (tree a)) (meant types (tree b))) (means_tree c) ∙ two (choose_meant (means c)) (means_tree a) (means_tree b)))
+      ap of_tree (sym (e.rolls-Choose (tree c) (tree a) (tree b))) ∙ (fold-roll-Expr Meant step (Expr-F.Choose (tree c) (tree a) (tree b)) ∙ (ap (λ m. chosen m (of_tree (tree a)) (of_tree (tree b))) (means_tree c) ∙ two (chosen (means c)) (means_tree a) (means_tree b)))
   means_tree (As t a) =
-      ap (meant types) (sym (e.rolls-Cast t (tree a))) ∙ (fold-roll-Expr Meant (meant_step types) (Expr-F.Cast t (tree a)) ∙ ap (cast_meant t) (means_tree a))
+      ap of_tree (sym (e.rolls-Cast t (tree a))) ∙ (fold-roll-Expr Meant step (Expr-F.Cast t (tree a)) ∙ ap (λ m. step (Expr-F.Cast t m)) (means_tree a))
   means_tree (Par a) =
-      ap (meant types) (sym (e.rolls-Paren (tree a))) ∙ (fold-roll-Expr Meant (meant_step types) (Expr-F.Paren (tree a)) ∙ means_tree a)
+      ap of_tree (sym (e.rolls-Paren (tree a))) ∙ (fold-roll-Expr Meant step (Expr-F.Paren (tree a)) ∙ means_tree a)
 
 -- ---- acts
 
@@ -140,7 +138,7 @@ module _ (types : Types) where
   values_of (a ∷ as_) s = beside ((means types a).value s) (values_of as_ s)
 
   abbrev pub does : Deed → State → Option Made
-  does (Start x a) s = assigned (types.variable x) (writable s (variable_place x s)) ((means types a).value s)
+  does (Start x a) s = assigned (types.typing.variable x) (writable s (variable_place x s)) ((means types a).value s)
   does (Set l a) s = into s (means types l) ((means types a).value s)
   does (SetBy op l a) s = into s (means types l) (combined s op (means types l) (means types a))
   does (Bump l up) s = into s (means types l) (one_more s up (means types l))
@@ -155,7 +153,7 @@ module _ (types : Types) where
 
   does_act : (d : Deed) (s : State) → made types (act d) s ≡ does d s
   does_act (Start x a) s =
-      ap (λ (m : Meant). assigned (types.variable x) (writable s (variable_place x s)) (m.value s)) (means_tree types a)
+      ap (λ (m : Meant). assigned (types.typing.variable x) (writable s (variable_place x s)) (m.value s)) (means_tree types a)
   does_act (Set l a) s = two (λ (m k : Meant). into s m (k.value s)) (means_tree types l) (means_tree types a)
   does_act (SetBy op l a) s = two (λ (m k : Meant). into s m (combined s op m k)) (means_tree types l) (means_tree types a)
   does_act (Bump l up) s = ap (λ (m : Meant). into s m (one_more s up m)) (means_tree types l)

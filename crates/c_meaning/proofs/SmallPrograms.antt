@@ -1,22 +1,22 @@
 -- Small programs of every form without calls, and what C99 says that they do: the events by statement, and the output.
-use Rattle.std.proofs.Common.{◌≡◌, ℕ, ℤ, pos, negsuc, List, [], ◌∷◌, Option, Some, None, Bool, true, false, refl}
+use Rattle.std.proofs.Common.{ℕ, ℤ, pos, negsuc, List, [], ◌∷◌, Some, true, false, refl}
 use Rattle.std.specs.Prelude.{codes}
 use Rattle.std.specs.Fmt.{digits}
 use Rattle.c_arith.specs.declared.int_type.IntType.{IntType}
-use Rattle.c_arith.specs.declared.int_type.IntType.TheVariants.{Char, UChar, Short, UShort, Int, UInt, Long, ULong}
-use Rattle.c_arith.specs.declared.operators.UnaryOp.TheVariants.{Plus, Minus, Flip, Not}
-use Rattle.c_arith.specs.declared.operators.BinaryOp.TheVariants.{Mul, Div, Rem, Add, Sub, Shl, Shr, Less, Greater, AtMost, AtLeast, Equal, Unequal, And, Xor, Or}
+use Rattle.c_arith.specs.declared.int_type.IntType.TheVariants.{Char, UChar, Int, UInt, Long}
+use Rattle.c_arith.specs.declared.operators.UnaryOp.TheVariants.{Minus, Flip}
+use Rattle.c_arith.specs.declared.operators.BinaryOp.TheVariants.{Mul, Div, Rem, Add, Sub, Shl, Shr, Less, AtLeast, Equal, Unequal, And, Xor, Or}
 use Rattle.c_arith.specs.IntType.{convert}
 use Rattle.c_arith.specs.Operators.{unary, binary}
 use Rattle.c_language.specs.Constants.{unescaped}
 use Rattle.c_language.specs.DeclaredTypes.{integer}
 use Rattle.c_language.specs.Code.{is_true, either}
 use Rattle.c_meaning.specs.Values.{Types}
-use Rattle.c_meaning.proofs.Small.{Small, K, Name, EndOfFile, Un, Bin, Both, Either, Pick, As, Par, Deed, Start, Set, SetBy, Bump, Put, Show, Give, Test, SmallCode, Stop, Open, Do, Choice, Turns, Close, Tale, Ends, Fails, NeedsMore, ComesTo, comes}
+use Rattle.c_meaning.proofs.Small.{Small, K, Name, EndOfFile, Un, Bin, Both, Either, Pick, As, Par, Start, Set, SetBy, Bump, Put, Show, Give, SmallCode, Stop, Open, Do, Choice, Turns, Close, Tale, Ends, Fails, NeedsMore, ComesTo, comes}
 
--- each variable has one type, and main gives an int
+-- each variable and member has one type, and main gives an int
 abbrev of : IntType → Types
-of t = record { variable = λ x. integer t; result = Some (integer Int) }
+of t = record { typing = record { variable = λ x. integer t; member = λ m. integer t }; result = Some (integer Int) }
 
 abbrev ints : Types
 ints = of Int

@@ -11,12 +11,13 @@ use Rattle.c_language.specs.declared.expr_type.ExprType.{ExprType}
 use Rattle.c_language.specs.DeclaredTypes.{integer}
 use Rattle.c_language.specs.Words.{Bytes}
 use Rattle.c_language.specs.Code.{Act, Begins, Sets, Bumps, Fetches, Writes, Prints, Allocates, Frees, Returns, Tests}
+use Rattle.c_language.specs.Formats.{Piece}
 use Rattle.c_meaning.specs.declared.value.Place.{Place}
 use Rattle.c_meaning.specs.declared.value.Value.{Value}
 use Rattle.c_meaning.specs.declared.value.Value.TheVariants.{Number}
 use Rattle.c_meaning.specs.Memory.{Memory, is_live, write}
 use Rattle.c_meaning.specs.Values.{Types, State, variable_place, tested, as_type, binary_value, type_of, place, eval, eval_all}
-use Rattle.c_meaning.specs.Formats.{Piece, format_pieces, converted, written}
+use Rattle.c_meaning.specs.Formats.{pieces_of, converted, written}
 
 pub record Store : Type 0 where
   pub place : Place
@@ -49,7 +50,7 @@ assigned t o v = option_and_then (λ (p : Place). option_map (λ (x : Value). st
 -- initialisers by lists are not built yet, and a declaration without one is no act
 abbrev pub begun_with : Types → ℕ → Init → State → Option Made
 begun_with types x init.None s = None
-begun_with types x (init.One e) s = assigned (types.variable x) (writable s (variable_place x s)) (eval types e s)
+begun_with types x (init.One e) s = assigned (types.typing.variable x) (writable s (variable_place x s)) (eval types e s)
 begun_with types x (init.Items es) s = None
 
 -- what is assigned: the right side, or what the operator gives at both (6.5.16.2)
@@ -78,7 +79,7 @@ printed ps zs = shows (map Number zs) (written ps zs)
 
 -- a call of printf with its arguments
 abbrev pub printed_all : Bytes → List Value → Made
-printed_all format vs = printed (format_pieces format) (converted (format_pieces format) (map tested vs))
+printed_all format vs = printed (pieces_of format) (converted (pieces_of format) (map tested vs))
 
 abbrev pub as_result : Option ExprType → Value → Value
 as_result None v = v

@@ -1,16 +1,14 @@
 -- What a program does, as a recursion over whole statements with a number of acts.
 use Rattle.std.specs.Prelude.{ℕ, zero, suc, List, [], ◌∷◌, ◌++◌, Option, Some, None, option_map, map, slice_get, Bool, true, false}
 use Rattle.std.specs.Option.{option_map_or}
-use Rattle.c_arith.specs.declared.int_type.IntType.TheVariants.{Int}
 use Rattle.c_tree.specs.declared.program.Program.{Program}
 use Rattle.c_tree.specs.declared.program.Function.{Function}
-use Rattle.c_tree.specs.declared.program.Var.{Var}
 use Rattle.c_language.specs.declared.expr_type.ExprType.{ExprType}
-use Rattle.c_language.specs.DeclaredTypes.{integer}
 use Rattle.c_language.specs.Words.{Bytes}
+use Rattle.c_language.specs.TreeTypes.{shape_of, typing_of}
 use Rattle.c_language.specs.Code.{Act, Tests, Code, End, Opens, Plain, Fork, Loop, Leaves, Call, code, is_true, either}
 use Rattle.c_meaning.specs.declared.event.Event.{Event}
-use Rattle.c_meaning.specs.Values.{shape_of, Types, State, opened, all_closed, shown_of}
+use Rattle.c_meaning.specs.Values.{Types, State, opened, all_closed, shown_of}
 use Rattle.c_meaning.specs.Acts.{Made, made, after, picked}
 
 -- the events and the output of a run so far
@@ -85,15 +83,12 @@ nothing = record { events = []; output = [] }
 abbrev pub opening : List ℕ → State
 opening input = record { frame = λ x. None; memory = []; unread = input }
 
-abbrev pub variable_type : Program → ℕ → ExprType
-variable_type p x = option_map_or (λ (v : Var). shape_of v.shape) (slice_get p.vars x) (integer Int)
-
 abbrev pub main_result : Program → Option ExprType
 main_result p = option_map_or (λ (f : Function). option_map shape_of f.result) (slice_get p.functions 0) None
 
 -- the types in main
 abbrev pub types_of : Program → Types
-types_of p = record { variable = variable_type p; result = main_result p }
+types_of p = record { typing = typing_of p; result = main_result p }
 
 -- the code of function main; a program of the built forms has no other function
 abbrev pub main_code : Program → Code

@@ -1,21 +1,16 @@
 -- What an expression gives (ISO C99 6.5).
-use Rattle.std.specs.Prelude.{ℕ, ◌==◌, ℤ, pos, negsuc, List, [], ◌∷◌, length, Bool, not, if◌then◌else◌, Option, Some, None, option_map, option_and_then, unwrap_or}
+use Rattle.std.specs.Prelude.{ℕ, ◌==◌, ℤ, pos, negsuc, List, [], ◌∷◌, length, if◌then◌else◌, Option, Some, None, option_map, option_and_then}
 use Rattle.c_arith.specs.declared.int_type.IntType.{IntType}
-use Rattle.c_arith.specs.declared.int_type.IntType.TheVariants.{Int}
 use Rattle.c_arith.specs.declared.operators.UnaryOp.{UnaryOp}
 use Rattle.c_arith.specs.declared.operators.BinaryOp.{BinaryOp}
-use Rattle.c_arith.specs.IntType.{promote, common, convert}
-use Rattle.c_arith.specs.Operators.{truth, unary, unary_type, binary, binary_type}
-use Rattle.c_tree.specs.declared.types.CType.{CType, fold-CType}
-use Rattle.c_tree.specs.declared.types.CType.TheOpen.{CType-F}
-use Rattle.c_tree.specs.declared.expr.Expr.{Expr, fold-Expr}
+use Rattle.c_arith.specs.IntType.{promote, convert}
+use Rattle.c_arith.specs.Operators.{unary, binary}
+use Rattle.c_tree.specs.declared.expr.Expr.{Expr, fold-Expr, map-Expr}
 use Rattle.c_tree.specs.declared.expr.Expr.TheOpen.{Expr-F}
-use Rattle.c_language.specs.declared.expr_type.Base.TheVariants.{Struct}
-use Rattle.c_language.specs.declared.expr_type.Layer.TheVariants.{Array}
 use Rattle.c_language.specs.declared.expr_type.ExprType.{ExprType}
-use Rattle.c_language.specs.DeclaredTypes.{of_base, with_layer, integer, pointer_to}
 use Rattle.c_language.specs.ExprTypes.{integer_of}
 use Rattle.c_language.specs.ConstantEvaluation.{operand_type, right_value, is_zero, and_value, or_value}
+use Rattle.c_language.specs.TreeTypes.{Typing, int_type, typed_step}
 use Rattle.c_meaning.specs.declared.value.Place.{Place}
 use Rattle.c_meaning.specs.declared.value.Value.{Value}
 use Rattle.c_meaning.specs.declared.value.Value.TheVariants.{Number, Null, To}
@@ -23,19 +18,9 @@ use Rattle.c_meaning.specs.declared.event.Shown.{Shown}
 use Rattle.c_meaning.specs.declared.event.Shown.TheVariants as shown
 use Rattle.c_meaning.specs.Memory.{Memory, read, enter, leave}
 
--- a type of the tree, as expressions have it
-abbrev pub shape_step : CType-F ExprType → ExprType
-shape_step (CType-F.Integer t) = integer t
-shape_step (CType-F.PointerTo t) = pointer_to t
-shape_step (CType-F.Array t n words) = with_layer (Array n) t
-shape_step (CType-F.Struct s) = of_base (Struct s)
-
-abbrev pub shape_of : CType → ExprType
-shape_of = fold-CType ExprType shape_step
-
--- the types of a program's variables, and of the result of the function that runs
+-- the types of a program's variables and members, and of the result of the function that runs
 pub record Types : Type 0 where
-  pub variable : ℕ → ExprType
+  pub typing : Typing
   pub result : Option ExprType
 
 -- the blocks of the variables that have begun, the memory, and what is left of the input
@@ -59,7 +44,7 @@ bound frame x b y = if x == y then b else frame y
 abbrev pub opened : Types → ℕ → State → State
 opened types x s = record s {
   frame = bound s.frame x (Some (length s.memory));
-  memory = enter (types.variable x) s.memory;
+  memory = enter (types.typing.variable x) s.memory;
 }
 
 abbrev pub leave_block : Option ℕ → Memory → Memory
@@ -80,10 +65,6 @@ pub record Meant : Type 0 where
   pub place : State → Option Place
   pub value : State → Option Value
 
--- the integer type of an operand; the operators at pointers are not built yet
-abbrev pub int_type : ExprType → IntType
-int_type t = unwrap_or (integer_of t) Int
-
 -- a value as a test sees it: a number, or whether a pointer isn't null
 abbrev pub tested : Value → ℤ
 tested (Number z) = z
@@ -100,13 +81,13 @@ as_type t (Number z) = number_as (integer_of t) z
 as_type t Null = Null
 as_type t (To p) = To p
 
--- what gives a value of an integer type and designates nothing
-abbrev pub gives : IntType → (State → Option Value) → Meant
-gives t value = record { type = integer t; place = λ s. None; value = value }
+-- what gives a value of a type and designates nothing
+abbrev pub gives : ExprType → (State → Option Value) → Meant
+gives t value = record { type = t; place = λ s. None; value = value }
 
 -- pointers, arrays and structs are not built yet: their expressions give nothing
-abbrev pub not_built : Meant
-not_built = gives Int (λ s. None)
+abbrev pub not_built : ExprType → Meant
+not_built t = gives t (λ s. None)
 
 -- an operator at a number; the operators at pointers are not built yet
 abbrev pub at_number : (ℤ → Option ℤ) → Value → Option Value
@@ -142,57 +123,39 @@ and_both a b = option_map Number (option_and_then (λ (v : Value). and_value (te
 abbrev pub or_both : Option Value → Option Value → Option Value
 or_both a b = option_map Number (option_and_then (λ (v : Value). or_value (tested v) (option_map tested b)) a)
 
-abbrev pub chosen_of : Option IntType → Option IntType → ExprType → ExprType → ExprType
-chosen_of (Some i) (Some j) s t = integer (common i j)
-chosen_of (Some i) None s t = t
-chosen_of None j s t = s
-
--- the type of `c ? a : b`: the common type of two integers, and else that of the pointer (6.5.15)
-abbrev pub chosen_type : ExprType → ExprType → ExprType
-chosen_type s t = chosen_of (integer_of s) (integer_of t) s t
-
--- one of two operands is evaluated
+-- one of two operands is evaluated, and converted to the type of the whole (6.5.15)
 abbrev pub chosen_value : ExprType → Option Value → Option Value → Option Value → Option Value
 chosen_value t c a b = option_map (as_type t) (option_and_then (λ (v : Value). if is_zero (tested v) then b else a) c)
 
-abbrev pub of_variable : Types → ℕ → Meant
-of_variable types x = record {
-  type = types.variable x;
+abbrev pub of_variable : ExprType → ℕ → Meant
+of_variable t x = record {
+  type = t;
   place = variable_place x;
   value = λ s. option_and_then (read s.memory) (variable_place x s);
 }
 
-abbrev pub unary_meant : UnaryOp → Meant → Meant
-unary_meant op a = gives (unary_type op (promote (int_type a.type))) (λ s. unary_value op a.type (a.value s))
+-- an expression of a type, by the meanings of its parts
+abbrev pub meant_as : ExprType → Expr-F Meant → Meant
+meant_as t (Expr-F.Constant text k v) = gives t (λ s. Some (Number (pos v)))
+meant_as t Expr-F.Null = not_built t
+meant_as t Expr-F.Eof = gives t (λ s. Some (Number (negsuc 0)))
+meant_as t (Expr-F.Variable x) = of_variable t x
+meant_as t (Expr-F.Unary op a) = gives t (λ s. unary_value op a.type (a.value s))
+meant_as t (Expr-F.Deref a) = not_built t
+meant_as t (Expr-F.AddressOf a) = not_built t
+meant_as t (Expr-F.Binary op a b) = gives t (λ s. binary_value op a.type b.type (a.value s) (b.value s))
+meant_as t (Expr-F.AndAlso a b) = gives t (λ s. and_both (a.value s) (b.value s))
+meant_as t (Expr-F.OrElse a b) = gives t (λ s. or_both (a.value s) (b.value s))
+meant_as t (Expr-F.Choose c a b) = gives t (λ s. chosen_value t (c.value s) (a.value s) (b.value s))
+meant_as t (Expr-F.Cast k a) = gives t (λ s. option_map (as_type t) (a.value s))
+meant_as t (Expr-F.Index a i) = not_built t
+meant_as t (Expr-F.Member a m) = not_built t
+meant_as t (Expr-F.Arrow a m) = not_built t
+meant_as t (Expr-F.Paren a) = a
 
-abbrev pub binary_meant : BinaryOp → Meant → Meant → Meant
-binary_meant op a b =
-    gives (binary_type op (operand_type op (int_type a.type) (int_type b.type))) (λ s. binary_value op a.type b.type (a.value s) (b.value s))
-
-abbrev pub choose_meant : Meant → Meant → Meant → Meant
-choose_meant c a b = record {
-  type = chosen_type a.type b.type;
-  place = λ s. None;
-  value = λ s. chosen_value (chosen_type a.type b.type) (c.value s) (a.value s) (b.value s);
-}
-
+-- an expression by its parts; its type is that of the tree (`TreeTypes`)
 abbrev pub meant_step : Types → Expr-F Meant → Meant
-meant_step types (Expr-F.Constant text t v) = gives t (λ s. Some (Number (pos v)))
-meant_step types Expr-F.Null = not_built
-meant_step types Expr-F.Eof = gives Int (λ s. Some (Number (negsuc 0)))
-meant_step types (Expr-F.Variable x) = of_variable types x
-meant_step types (Expr-F.Unary op a) = unary_meant op a
-meant_step types (Expr-F.Deref a) = not_built
-meant_step types (Expr-F.AddressOf a) = not_built
-meant_step types (Expr-F.Binary op a b) = binary_meant op a b
-meant_step types (Expr-F.AndAlso a b) = gives Int (λ s. and_both (a.value s) (b.value s))
-meant_step types (Expr-F.OrElse a b) = gives Int (λ s. or_both (a.value s) (b.value s))
-meant_step types (Expr-F.Choose c a b) = choose_meant c a b
-meant_step types (Expr-F.Cast t a) = gives t (λ s. option_map (as_type (integer t)) (a.value s))
-meant_step types (Expr-F.Index a i) = not_built
-meant_step types (Expr-F.Member a m) = not_built
-meant_step types (Expr-F.Arrow a m) = not_built
-meant_step types (Expr-F.Paren a) = a
+meant_step types z = meant_as (typed_step types.typing (map-Expr Meant ExprType (λ (m : Meant). m.type) z)) z
 
 abbrev pub meant : Types → Expr → Meant
 meant types = fold-Expr Meant (meant_step types)

@@ -6,7 +6,9 @@ use std::alloc::{AllocError, Global};
 /// One step from an object to a part of it: a member by its place, or an element by its index.
 #[derive(Clone, Copy, Debug, PartialEq, Eq)]
 pub enum Hop {
+    /// The member at this place among those of its struct type, counted from 0.
     Member(u32),
+    /// The element with this index, counted from 0.
     Element(u32),
 }
 
@@ -16,7 +18,9 @@ pub type Path = Items<Hop>;
 /// An object: a block, and a way to a part of it.
 #[derive(Debug, Drop)]
 pub struct Place {
+    /// The number of the block: how many blocks began before it.
     pub block: u64,
+    /// The way from the whole block to the object.
     pub path: Path,
 }
 
@@ -37,8 +41,11 @@ impl Place {
 /// (ISO C99 6.5.6).
 #[derive(Debug, Drop)]
 pub struct Pointer {
+    /// The number of the block: how many blocks began before it.
     pub block: u64,
+    /// The way to the array or to the single object.
     pub path: Path,
+    /// The element, counted from 0; the length of the array points behind its last.
     pub index: u32,
 }
 
@@ -59,8 +66,11 @@ impl Pointer {
 /// The value of an object of integer or pointer type.
 #[derive(Debug, Drop)]
 pub enum Value {
+    /// The value of an integer.
     Number(i128),
+    /// A null pointer.
     Null,
+    /// A pointer that is not null.
     To(Pointer),
 }
 

@@ -27,7 +27,7 @@ use Rattle.c_language.specs.declared.token.TokenKind.TheVariants.{Name, Mark, In
 use Rattle.c_parse_expr.specs.Outcome.{expect}
 use Rattle.c_parse_statements.specs.StatementReading.{statements_from, braced, nested_statement}
 use Rattle.c_parse.specs.ItemReading as r
-use Rattle.c_parse.specs.ItemReading.{member_of, members_from, tagged, sees_tag, global_init, global_of, global, globals, definition, headed, function, array_step, is_array, declares, void_function, external, item_of, none_left, items_from, items, program}
+use Rattle.c_parse.specs.ItemReading.{member_of, members_from, tagged, sees_tag, global_init, global_of, global, globals, definition, headed, function, array_step, is_array, declares, void_function, external, item_of, none_left, items_from, program}
 use Rattle.c_parse_expr.proofs.Tests.{read_name_at}
 use Rattle.c_parse_expr.proofs.IntLaws.{int_type_begins}
 use Rattle.c_parse_expr.proofs.ExprLaws.{Exact, expression_exact, shorter}

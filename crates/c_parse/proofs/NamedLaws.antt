@@ -1,49 +1,80 @@
--- What a named fault is among the answers, and what is read of no tokens.
-use Rattle.std.proofs.Common.{◌≡◌, ℕ, List, [], ◌∷◌, length, refl, sym, ap, ◌∙◌, Option, Some, None, Ok, Err, arith, IfSome}
+-- What is answered where reading stopped, by the construct that is named.
+use Rattle.std.proofs.Common.{◌≡◌, ℕ, zero, suc, ◌-◌, ◌<◌, min, List, [], ◌∷◌, length, refl, sym, ap, ◌∙◌, subst, Option, Some, None, Ok, Err, arith, IfSome, slice_get}
 use Rattle.c_tree.specs.declared.raw.program.RawItem.{RawItem}
 use Rattle.c_tree.specs.declared.raw.program.RawProgram.{RawProgram}
 use Rattle.c_language.specs.TokenForms.{Tokens}
-use Rattle.c_parse.specs.declared.parse_fault.ParseFault.{ParseFault}
-use Rattle.c_parse.specs.declared.parse_fault.ParseFault.TheVariants as fault
+use Rattle.c_language.specs.ItemGrammar.{IsProgram}
 use Rattle.c_language.specs.LeftOut.{BeginsLeftOut}
 use Rattle.c_parse_expr.specs.Outcome.{Outcome, Syntax}
-use Rattle.c_parse.specs.ItemReading.{program, items_from, none_left}
 use Rattle.c_parse_left_out.specs.Telling.{first_told}
+use Rattle.c_parse_left_out.specs.Near.{left_out_near}
 use Rattle.c_parse_left_out.specs.Places.{IsWithoutProductionAt, IsLeftOutAt}
-use Rattle.c_parse.specs.Verdict.{IsNamed, IsNamedOr, Judges}
-use Rattle.c_parse.proofs.ProgramLaws.{no_tree}
+use Rattle.c_parse_left_out.proofs.NearLaws.{near_begins}
+use Rattle.c_parse.specs.declared.parse_fault.ParseFault.{ParseFault}
+use Rattle.c_parse.specs.declared.parse_fault.ParseFault.TheVariants as fault
+use Rattle.c_parse.specs.ItemReading.{program, items_from, none_left}
+use Rattle.c_parse.specs.Verdict.{IsLineOf, left_out, named, some_line, line_before, NamesAt, Judges}
 
-pub named_or : (ts : Tokens) (f : ParseFault) → IsNamed ts f → IsNamedOr ts f
-named_or ts (fault.LeftOut text line) h = h
-named_or ts (fault.Syntax line) h = tt
-named_or ts (fault.Nesting line) h = h
-named_or ts fault.NoMemory h = tt
+-- ---- what is named
 
-pub named_judges : (ts : Tokens) (outcome : Outcome RawProgram) (found : Option ℕ) (f : ParseFault) → IsNamed ts f → Judges ts outcome found (Err f)
-named_judges ts outcome found (fault.LeftOut text line) h = h
-named_judges ts outcome found (fault.Syntax line) h = absurd h
-named_judges ts outcome found (fault.Nesting line) h = absurd h
-named_judges ts outcome found fault.NoMemory h = tt
+-- The construct at the place that is named is told.
+named_judges : (ts : Tokens) (outcome : Outcome RawProgram) (at : ℕ) (f : ParseFault) → named ts outcome ≡ Some at → NamesAt ts at f → Judges ts outcome (Err f)
+named_judges ts outcome at (fault.LeftOut text line) h is = (is.0, (at, h, is.1))
+named_judges ts outcome at (fault.Syntax line) h is = absurd is
+named_judges ts outcome at (fault.Nesting line) h is = absurd is
+named_judges ts outcome at fault.NoMemory h is = tt
+
+-- in tokens that were read
+pub told_judges : (ts rest : Tokens) (all : RawProgram) (outcome : Outcome RawProgram) (at : ℕ) (f : ParseFault)
+    → outcome ≡ Ok (all, rest) → first_told 0 [] ts ≡ Some at → NamesAt ts at f → Judges ts outcome (Err f)
+told_judges ts rest all outcome at f e h is = named_judges ts outcome at f (ap (named ts) e ∙ h) is
+
+-- in tokens in which reading stopped
+pub stopped_judges : (ts : Tokens) (outcome : Outcome RawProgram) (left at : ℕ) (f : ParseFault)
+    → outcome ≡ Err (Syntax left) → left_out ts (length ts - left) ≡ Some at → NamesAt ts at f → Judges ts outcome (Err f)
+stopped_judges ts outcome left at f e h is = named_judges ts outcome at f (ap (named ts) e ∙ h) is
+
+-- Where none is named, the line is told in which reading stopped.
+pub unnamed_judges : (ts : Tokens) (outcome : Outcome RawProgram) (left line : ℕ)
+    → outcome ≡ Err (Syntax left) → left_out ts (length ts - left) ≡ None → line ≡ line_before left ts → Judges ts outcome (Err (fault.Syntax line))
+unnamed_judges ts outcome left line e h at = (left, e, ap (named ts) e ∙ h, at)
+
+-- A construct without a production is left out where the tokens have no tree.
+without_tree : (ts : Tokens) (at : ℕ) → ((all : RawProgram) → IsProgram ts all → ⊥) → IsWithoutProductionAt ts at → IsLeftOutAt ts at
+without_tree ts at h x =
+    record { front = x.front; token = x.token; behind = x.behind; split = x.split; place = x.place; begins = BeginsLeftOut.without_tree h x.is }
+
+left_out_there : (ts : Tokens) (found : Option ℕ) → ((all : RawProgram) → IsProgram ts all → ⊥) → IfSome found (λ at. IsWithoutProductionAt ts at) → IfSome found (λ at. IsLeftOutAt ts at)
+left_out_there ts None h x = tt
+left_out_there ts (Some at) h x = without_tree ts at h x
+
+pub near_left_out : (ts : Tokens) (stop : ℕ) (found : Option ℕ) → ((all : RawProgram) → IsProgram ts all → ⊥) → found ≡ left_out_near ts stop → IfSome found (λ at. IsLeftOutAt ts at)
+near_left_out ts stop found h e = left_out_there ts found h (subst (λ (o : Option ℕ). IfSome o (λ at. IsWithoutProductionAt ts at)) (sym e) (near_begins ts stop))
+
+-- ---- lines
+
+get_line : (ts : Tokens) (at : ℕ) → at < length ts → IsLineOf ts (some_line (slice_get ts at))
+get_line [] at p = absurd (omega (arith, p))
+get_line (t ∷ ts) zero p = (t, (zero, omega arith, refl), refl)
+get_line (t ∷ ts) (suc at) p = let x = get_line ts at (omega (arith, p)) in let q = x.1.1 in (x.0, (suc x.1.0, omega (arith, q), x.1.2), x.2)
+
+-- The line in which reading stopped is that of a token.
+pub line_is_of : (ts : Tokens) (left line : ℕ) → 0 < length ts → line ≡ line_before left ts → IsLineOf ts line
+unfolding line_before
+line_is_of ts left line p e = subst (IsLineOf ts) (sym e) (get_line ts (min (length ts - left) (length ts - 1)) (omega (arith, p)))
+
+-- ---- no tokens
 
 -- no tokens are those of a text without items
-pub nothing_read : (limit : ℕ) → program limit [] ≡ Ok (record { items = [] }, [])
+nothing_read : (limit : ℕ) → program limit [] ≡ Ok (record { items = [] }, [])
 unfolding program items_from none_left
 nothing_read limit = refl
 
-pub nothing_told_of : first_told 0 [] [] ≡ None
+nothing_told_of : first_told 0 [] [] ≡ None
 unfolding first_told
 nothing_told_of = refl
 
 -- what is answered for no tokens
-pub nothing_judges : (limit : ℕ) (ts : Tokens) (all : List RawItem) → all ≡ [] → length ts ≡ 0 → Judges ts (program limit ts) (first_told 0 [] ts) (Ok (record { items = all }))
+pub nothing_judges : (limit : ℕ) (ts : Tokens) (all : List RawItem) → all ≡ [] → length ts ≡ 0 → Judges ts (program limit ts) (Ok (record { items = all }))
 nothing_judges limit [] all e h = ([], nothing_read limit ∙ ap (λ (x : List RawItem). Ok (record { items = x }, [])) (sym e), nothing_told_of)
 nothing_judges limit (t ∷ ts) all e h = absurd (omega (arith, h))
-
--- A construct without a production is left out where the tokens have no tree.
-pub without_tree : (limit : ℕ) (ts : Tokens) (at : ℕ) → program limit ts ≡ Err Syntax → IsWithoutProductionAt ts at → IsLeftOutAt ts at
-without_tree limit ts at h x =
-    record { front = x.front; token = x.token; behind = x.behind; split = x.split; place = x.place; begins = BeginsLeftOut.without_tree (no_tree limit ts h) x.is }
-
-pub near_left_out : (limit : ℕ) (ts : Tokens) (found : Option ℕ) → program limit ts ≡ Err Syntax → IfSome found (λ at. IsWithoutProductionAt ts at) → IfSome found (λ at. IsLeftOutAt ts at)
-near_left_out limit ts None h x = tt
-near_left_out limit ts (Some at) h x = without_tree limit ts at h x

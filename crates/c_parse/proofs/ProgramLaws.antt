@@ -52,37 +52,37 @@ above_limit limit ts h all is = elim (cases_lt limit (program_nesting all)) [
 ]
 
 -- Where reading stops for another reason than depth, the tokens have no tree of any depth.
-pub no_tree : (limit : ℕ) (ts : Tokens) → program limit ts ≡ Err Syntax → (all : RawProgram) → IsProgram ts all → ⊥
-no_tree limit ts h all is = elim (cases_lt limit (program_nesting all)) [
-  | inl p ↦ let e = (program_exact is limit).deep p in absurd (let f : ◌≡◌ {A = Outcome RawProgram} (Err Syntax) (Err Deep) = sym h ∙ e in cc)
-  | inr p ↦ let e = (program_exact is limit).fits p in absurd (let f : ◌≡◌ {A = Outcome RawProgram} (Err Syntax) (Ok (all, [])) = sym h ∙ e in cc)
+pub no_tree : (limit left : ℕ) (ts : Tokens) → program limit ts ≡ Err (Syntax left) → (all : RawProgram) → IsProgram ts all → ⊥
+no_tree limit left ts h all is = elim (cases_lt limit (program_nesting all)) [
+  | inl p ↦ let e = (program_exact is limit).deep p in absurd (let f : ◌≡◌ {A = Outcome RawProgram} (Err (Syntax left)) (Err Deep) = sym h ∙ e in cc)
+  | inr p ↦ let e = (program_exact is limit).fits p in absurd (let f : ◌≡◌ {A = Outcome RawProgram} (Err (Syntax left)) (Ok (all, [])) = sym h ∙ e in cc)
 ]
 
-pub right : (limit : ℕ) (ts : Tokens) (r : Result RawProgram ParseFault) → Judges ts (program limit ts) (first_told 0 [] ts) r → IsRight ts limit r
+pub right : (limit : ℕ) (ts : Tokens) (r : Result RawProgram ParseFault) → Judges ts (program limit ts) r → IsRight ts limit r
 right limit ts (Ok all) h =
     let is = program_sound limit ts all h.0 h.1 in
     (is, in_grammar ts all is h.2, fits_limit limit ts all h.0 h.1 is)
-right limit ts (Err (fault.LeftOut text line)) h = h
-right limit ts (Err (fault.Syntax line)) h = no_tree limit ts h
+right limit ts (Err (fault.LeftOut text line)) h = h.0
+right limit ts (Err (fault.Syntax line)) h = no_tree limit h.0 ts h.1
 right limit ts (Err (fault.Nesting line)) h = (program_deep limit ts h, above_limit limit ts h)
 right limit ts (Err fault.NoMemory) h = tt
 
-pub accepted : (limit : ℕ) (ts : Tokens) (r : Result RawProgram ParseFault) → Judges ts (program limit ts) (first_told 0 [] ts) r
+pub accepted : (limit : ℕ) (ts : Tokens) (r : Result RawProgram ParseFault) → Judges ts (program limit ts) r
     → (all : RawProgram) → IsProgram ts all → IsInGrammar ts → program_nesting all ≤ limit → IsTree all r
 accepted limit ts (Ok found) h all is g p = (ok_parts (sym h.1 ∙ (program_exact is limit).fits p)).0
-accepted limit ts (Err (fault.LeftOut text line)) h all is g p = g.whole text line h
-accepted limit ts (Err (fault.Syntax line)) h all is g p = absurd (let f : ◌≡◌ {A = Outcome RawProgram} (Err Syntax) (Ok (all, [])) = sym h ∙ (program_exact is limit).fits p in cc)
+accepted limit ts (Err (fault.LeftOut text line)) h all is g p = g.whole text line h.0
+accepted limit ts (Err (fault.Syntax line)) h all is g p = no_tree limit h.0 ts h.1 all is
 accepted limit ts (Err (fault.Nesting line)) h all is g p = absurd (let f : ◌≡◌ {A = Outcome RawProgram} (Err Deep) (Ok (all, [])) = sym h ∙ (program_exact is limit).fits p in cc)
 accepted limit ts (Err fault.NoMemory) h all is g p = tt
 
-pub deep : (limit : ℕ) (ts : Tokens) (r : Result RawProgram ParseFault) → Judges ts (program limit ts) (first_told 0 [] ts) r
+pub deep : (limit : ℕ) (ts : Tokens) (r : Result RawProgram ParseFault) → Judges ts (program limit ts) r
     → (all : RawProgram) → IsProgram ts all → IsInGrammar ts → limit < program_nesting all → IsTooDeep r
 deep limit ts (Ok found) h all is g p = absurd (let f : ◌≡◌ {A = Outcome RawProgram} (Ok (found, h.0)) (Err Deep) = sym h.1 ∙ (program_exact is limit).deep p in cc)
-deep limit ts (Err (fault.LeftOut text line)) h all is g p = g.whole text line h
-deep limit ts (Err (fault.Syntax line)) h all is g p = absurd (let f : ◌≡◌ {A = Outcome RawProgram} (Err Syntax) (Err Deep) = sym h ∙ (program_exact is limit).deep p in cc)
+deep limit ts (Err (fault.LeftOut text line)) h all is g p = g.whole text line h.0
+deep limit ts (Err (fault.Syntax line)) h all is g p = no_tree limit h.0 ts h.1 all is
 deep limit ts (Err (fault.Nesting line)) h all is g p = tt
 deep limit ts (Err fault.NoMemory) h all is g p = tt
 
-pub only : (limit : ℕ) (ts : Tokens) (r : Result RawProgram ParseFault) → Judges ts (program limit ts) (first_told 0 [] ts) r → IfOk r (λ found. (all : RawProgram) → IsProgram ts all → found ≡ all)
+pub only : (limit : ℕ) (ts : Tokens) (r : Result RawProgram ParseFault) → Judges ts (program limit ts) r → IfOk r (λ found. (all : RawProgram) → IsProgram ts all → found ≡ all)
 only limit ts (Ok found) h = λ all is. one_tree ts found all (program_sound limit ts found h.0 h.1) is
 only limit ts (Err x) h = tt

@@ -1,5 +1,5 @@
 -- Reading items and whole texts from left to right, as the parser does it. A number `d` bounds how deep what is read may nest.
-use Rattle.std.specs.Prelude.{ℕ, zero, suc, ◌+◌, Bool, true, false, ◌&&◌, ◌||◌, List, [], ◌∷◌, ◌++◌, length, drop, codes, slice_get, Option, Some, None, Ok, Err, if◌then◌else◌}
+use Rattle.std.specs.Prelude.{ℕ, zero, suc, ◌+◌, Bool, true, false, ◌&&◌, ◌||◌, List, [], ◌∷◌, ◌++◌, length, drop, codes, slice_get, Option, Some, None, Ok, if◌then◌else◌}
 use Rattle.c_tree.specs.declared.raw.expr.RawType.{RawType, fold-RawType}
 use Rattle.c_tree.specs.declared.raw.expr.RawType.TheOpen.{RawType-F}
 use Rattle.c_tree.specs.declared.raw.expr.RawVar.{RawVar}
@@ -16,7 +16,7 @@ use Rattle.c_language.specs.ExprGrammar.{conditional_level}
 use Rattle.c_language.specs.TypeGrammar.{is_listed}
 use Rattle.c_language.specs.ItemGrammar.{are_named, header}
 use Rattle.c_language.specs.declared.token.TokenKind.TheVariants.{Name, Mark, Include}
-use Rattle.c_parse_expr.specs.Outcome.{Parser, and_then, Syntax, expect, read_name}
+use Rattle.c_parse_expr.specs.Outcome.{Parser, and_then, refused, expect, read_name}
 use Rattle.c_parse_expr.specs.ExprReading.{expression}
 use Rattle.c_parse_expr.specs.TypeReading.{base, declarator, params}
 use Rattle.c_parse_simple.specs.SimpleReading.{separated, list}
@@ -26,7 +26,7 @@ use Rattle.c_parse_statements.specs.StatementReading.{braced, nested_statement}
 
 unfoldable pub member_of : ℕ → ℕ → RawType → Parser RawMember
 member_of d line b ts =
-    and_then (declarator d b ts) (λ v ts. if is_listed v.shape then Err Syntax else Ok (record { line = line; name = v.name; shape = v.shape }, ts))
+    and_then (declarator d b ts) (λ v ts. if is_listed v.shape then refused ts else Ok (record { line = line; name = v.name; shape = v.shape }, ts))
 
 -- one declaration of members, with its semicolon
 unfoldable pub member : ℕ → Parser (List RawMember)
@@ -34,7 +34,7 @@ member d ts = and_then (base ts) (λ b mid. separated (codes ";") (member_of d (
 
 -- declarations of members up to the closing brace and with it; each turn reads one
 unfoldable pub members_from : ℕ → ℕ → List RawMember → Parser (List RawMember)
-members_from d zero found ts = Err Syntax
+members_from d zero found ts = refused ts
 members_from d (suc turns) found ts =
     and_then (member d ts) (λ some ts. if sees Mark (codes "}") ts then Ok (found ++ some, drop 1 ts) else members_from d turns (found ++ some) ts)
 
@@ -59,14 +59,14 @@ sees_tag ts = sees Name (codes "struct") ts && (sees Mark (codes ";") (drop 1 (d
 unfoldable pub global_init : ℕ → ℕ → Bool → RawVar → Parser RawItem
 global_init d line is_static v ts =
     if sees Mark (codes "{") ts then and_then (list d (drop 1 ts)) (λ all ts. Ok (item.Global line v (init.Items all) is_static, ts))
-    else if is_listed v.shape then Err Syntax
+    else if is_listed v.shape then refused ts
     else and_then (expression d conditional_level ts) (λ a ts. Ok (item.Global line v (init.One a) is_static, ts))
 
 -- a global behind its declarator
 unfoldable pub global_of : ℕ → ℕ → Bool → RawVar → Parser RawItem
 global_of d line is_static v ts =
     if sees Mark (codes "=") ts then global_init d line is_static v (drop 1 ts)
-    else if is_listed v.shape then Err Syntax
+    else if is_listed v.shape then refused ts
     else Ok (item.Global line v init.None is_static, ts)
 
 unfoldable pub global : ℕ → ℕ → Bool → RawType → Parser RawItem
@@ -84,7 +84,7 @@ globals d line is_static b v ts =
 -- a definition of a function behind its brace
 unfoldable pub definition : ℕ → ℕ → RawHead → Parser (List RawItem)
 definition d line h ts =
-    if are_named h.params then and_then (braced (nested_statement (d + 1)) (d + 1) ts) (λ all ts. Ok (item.Define line h all ∷ [], ts)) else Err Syntax
+    if are_named h.params then and_then (braced (nested_statement (d + 1)) (d + 1) ts) (λ all ts. Ok (item.Define line h all ∷ [], ts)) else refused ts
 
 -- a function behind its head
 unfoldable pub headed : ℕ → ℕ → RawHead → Parser (List RawItem)
@@ -108,7 +108,7 @@ is_array = fold-RawType Bool array_step
 -- what the first declarator of an item declares
 unfoldable pub declares : ℕ → ℕ → Bool → RawType → RawVar → Parser (List RawItem)
 declares d line is_static b v ts =
-    if sees Mark (codes "(") ts then (if is_array v.shape then Err Syntax else function d line is_static (Some v.shape) v.name (drop 1 ts))
+    if sees Mark (codes "(") ts then (if is_array v.shape then refused ts else function d line is_static (Some v.shape) v.name (drop 1 ts))
     else globals d line is_static b v ts
 
 -- a function without a result
@@ -149,4 +149,4 @@ items d ts = items_from d (length ts) [] ts
 
 -- a whole text that nests at most as deep as the limit
 unfoldable pub program : ℕ → Parser RawProgram
-program limit ts = and_then (items limit ts) (λ all ts. if none_left ts then Ok (record { items = all }, ts) else Err Syntax)
+program limit ts = and_then (items limit ts) (λ all ts. if none_left ts then Ok (record { items = all }, ts) else refused ts)

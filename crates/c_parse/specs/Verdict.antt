@@ -1,6 +1,7 @@
 -- What the parser may answer.
-use Rattle.std.specs.Prelude.{◌≡◌, ℕ, ◌≤◌, ◌<◌, Contains, Option, None, Result, Ok, Err}
+use Rattle.std.specs.Prelude.{◌≡◌, ℕ, ◌-◌, ◌≤◌, ◌<◌, min, [], length, slice_get, Contains, Option, Some, None, Result, Ok, Err, if◌then◌else◌, nat_le}
 use Rattle.c_tree.specs.declared.raw.program.RawProgram.{RawProgram}
+use Rattle.c_language.specs.Words.{Bytes}
 use Rattle.c_language.specs.TokenForms.{Tokens}
 use Rattle.c_language.specs.ItemGrammar.{IsProgram}
 use Rattle.c_language.specs.Nesting.{nesting_tokens}
@@ -8,6 +9,8 @@ use Rattle.c_language.specs.StatementNesting.{program_nesting}
 use Rattle.c_language.specs.LeftOut.{IsLeftOut, IsInGrammar}
 use Rattle.c_language.specs.declared.token.Token.{Token}
 use Rattle.c_parse_expr.specs.Outcome.{Outcome, Syntax, Deep}
+use Rattle.c_parse_left_out.specs.Telling.{first_told}
+use Rattle.c_parse_left_out.specs.Near.{left_out_near}
 use Rattle.c_parse_expr.specs.declared.fault.Stop.{Stop}
 use Rattle.c_parse_expr.specs.declared.fault.Stop.TheVariants as stop
 use Rattle.c_parse.specs.declared.parse_fault.ParseFault.{ParseFault}
@@ -56,32 +59,53 @@ Names t (fault.Syntax line) = ⊥
 Names t (fault.Nesting line) = ⊥
 Names t fault.NoMemory = Unit {0}
 
--- What is answered by what was read and by where the first construct stands that its tokens tell.
-abbrev pub Judges : Tokens → Outcome RawProgram → Option ℕ → Result RawProgram ParseFault → Type 0
-Judges ts outcome found (Ok all) = (rest : Tokens) × (outcome ≡ Ok (all, rest)) × (found ≡ None)
-Judges ts outcome found (Err (fault.LeftOut text line)) = IsLeftOut ts text line
-Judges ts outcome found (Err (fault.Syntax line)) = outcome ≡ Err Syntax
-Judges ts outcome found (Err (fault.Nesting line)) = outcome ≡ Err Deep
-Judges ts outcome found (Err fault.NoMemory) = Unit {0}
+-- ---- where reading stops
+
+abbrev pub up_to : ℕ → Option ℕ → Option ℕ → Option ℕ
+up_to stop None other = other
+up_to stop (Some at) other = if nat_le at stop then Some at else other
+
+-- where a construct begins because of which reading stopped at a place: the first one that its tokens tell, where it
+-- begins there or before, or else one without a production near the place
+unfoldable pub left_out : Tokens → ℕ → Option ℕ
+left_out ts stop = up_to stop (first_told 0 [] ts) (left_out_near ts stop)
+
+-- where the construct begins that is named, by what was read
+abbrev pub named : Tokens → Outcome RawProgram → Option ℕ
+named ts (Ok p) = first_told 0 [] ts
+named ts (Err (Syntax left)) = left_out ts (length ts - left)
+named ts (Err Deep) = None
+
+abbrev pub some_line : Option Token → ℕ
+some_line None = 0
+some_line (Some t) = t.line
+
+-- the line of the token before which so many are left, or of the last one
+unfoldable pub line_before : ℕ → Tokens → ℕ
+line_before left ts = some_line (slice_get ts (min (length ts - left) (length ts - 1)))
+
+-- the token at a place has this text and stands in this line
+abbrev pub StandsAt : Tokens → ℕ → Bytes → ℕ → Type 0
+StandsAt ts at text line = (t : Token) × (slice_get ts at ≡ Some t) × (t.text ≡ text) × (t.line ≡ line)
+
+-- A fault names the construct that begins at a place, unless memory runs out.
+abbrev pub NamesAt : Tokens → ℕ → ParseFault → Type 0
+NamesAt ts at (fault.LeftOut text line) = IsLeftOut ts text line × StandsAt ts at text line
+NamesAt ts at (fault.Syntax line) = ⊥
+NamesAt ts at (fault.Nesting line) = ⊥
+NamesAt ts at fault.NoMemory = Unit {0}
+
+-- What is answered by what was read, unless memory runs out.
+abbrev pub Judges : Tokens → Outcome RawProgram → Result RawProgram ParseFault → Type 0
+Judges ts outcome (Ok all) = (rest : Tokens) × (outcome ≡ Ok (all, rest)) × (first_told 0 [] ts ≡ None)
+Judges ts outcome (Err (fault.LeftOut text line)) = IsLeftOut ts text line × ((at : ℕ) × (named ts outcome ≡ Some at) × StandsAt ts at text line)
+Judges ts outcome (Err (fault.Syntax line)) = (left : ℕ) × (outcome ≡ Err (Syntax left)) × (named ts outcome ≡ None) × (line ≡ line_before left ts)
+Judges ts outcome (Err (fault.Nesting line)) = outcome ≡ Err Deep
+Judges ts outcome (Err fault.NoMemory) = Unit {0}
 
 -- What is read of all the tokens, of which a rest may be left.
 abbrev pub Gives : Outcome RawProgram → Result RawProgram Stop → Type 0
 Gives outcome (Ok all) = (rest : Tokens) × (outcome ≡ Ok (all, rest))
 Gives outcome (Err stop.Memory) = Unit {0}
-Gives outcome (Err (stop.Syntax left)) = outcome ≡ Err Syntax
-Gives outcome (Err (stop.LeftOut left)) = outcome ≡ Err Syntax
+Gives outcome (Err (stop.Syntax left)) = outcome ≡ Err (Syntax left)
 Gives outcome (Err (stop.Deep left)) = outcome ≡ Err Deep
-
--- A fault names a construct, unless memory runs out.
-abbrev pub IsNamed : Tokens → ParseFault → Type 0
-IsNamed ts (fault.LeftOut text line) = IsLeftOut ts text line
-IsNamed ts (fault.Syntax line) = ⊥
-IsNamed ts (fault.Nesting line) = ⊥
-IsNamed ts fault.NoMemory = Unit {0}
-
--- A fault that names a construct names one; another one says that there is no tree.
-abbrev pub IsNamedOr : Tokens → ParseFault → Type 0
-IsNamedOr ts (fault.LeftOut text line) = IsLeftOut ts text line
-IsNamedOr ts (fault.Syntax line) = Unit {0}
-IsNamedOr ts (fault.Nesting line) = ⊥
-IsNamedOr ts fault.NoMemory = Unit {0}

@@ -1,13 +1,13 @@
-ghost use Rattle.std.specs.Prelude.{◌≡◌, ◌≤◌, ◌<◌, IfOk, IfSome, Err, length, []};
+ghost use Rattle.std.specs.Prelude.{◌≡◌, ◌≤◌, ◌<◌, IfOk, IfSome, Err, length};
 ghost use Rattle.c_tree.specs.declared.raw.program.RawProgram.{RawProgram};
 ghost use Rattle.c_language.specs.ItemGrammar.{IsProgram};
 ghost use Rattle.c_language.specs.LeftOut.{IsInGrammar};
 ghost use Rattle.c_language.specs.StatementNesting.{program_nesting};
 ghost use Rattle.c_parse.specs.ItemReading as reading;
 ghost use Rattle.c_parse_expr.specs.Outcome.{Syntax};
-ghost use Rattle.c_parse_left_out.specs.Telling as telling;
 ghost use Rattle.c_parse_left_out.specs.Places.{IsLeftOutAt};
-ghost use Rattle.c_parse.specs.Verdict.{IsRight, IsTree, IsTooDeep, IsLineOf, HasLine, Names, IsNamed, IsNamedOr, Judges, Gives};
+ghost use Rattle.c_parse.specs.Verdict as spec;
+ghost use Rattle.c_parse.specs.Verdict.{IsRight, IsTree, IsTooDeep, IsLineOf, HasLine, Names, NamesAt, Judges, Gives, line_before};
 
 use crate::items::program;
 use crate::parse_fault::ParseFault;
@@ -18,13 +18,21 @@ use c_parse_left_out::{first_told, left_out_near};
 use c_tree::{Items, RawProgram};
 use std::alloc::Global;
 
+/// How deep the tree of a text may nest.
+const MAX_NESTING: u32 = 100;
+
 /// The line of the token before which so many are left, or of the last one.
+#[tactic(auto, unfolding(crate::specs::Verdict::line_before), using(crate::proofs::NamedLaws::line_is_of))]
 fn line_at(tokens: &[Token], left: usize) -> u32
     requires { 0 < length tokens.now }
-    ensures { IsLineOf tokens.now result }
+    ensures line { result ≡ line_before left tokens.now }
+    ensures token { IsLineOf tokens.now result }
 {
     let last = tokens.len() - 1;
-    tokens[tokens.len().saturating_sub(left).min(last)].line
+    match tokens.get(tokens.len().saturating_sub(left).min(last)) {
+        Some(token) => token.line,
+        None => 0,
+    }
 }
 
 /// That a left-out construct begins at a token.
@@ -40,18 +48,20 @@ fn naming(alloc: Global, token: &Token) -> ParseFault
 /// That a left-out construct begins at the token at a place.
 fn left_out_at(alloc: Global, tokens: &[Token], at: usize) -> ParseFault
     requires { IsLeftOutAt tokens.now at }
-    ensures named { IsNamed tokens.now result }
+    ensures named { NamesAt tokens.now at result }
     ensures line { HasLine tokens.now (Err result) }
 {
     naming(alloc, &tokens[at])
 }
 
 /// Where a construct begins because of which reading stopped at a place: the first one that its tokens
-/// tell, or else one without a production near that place.
-#[tactic(auto, using(c_parse_left_out::proofs::TellingLaws::told_is_left_out, crate::proofs::NamedLaws::near_left_out))]
+/// tell, where it begins there or before, or else one without a production near the place.
+#[tactic(auto, unfolding(crate::specs::Verdict::left_out), using(c_parse_left_out::proofs::TellingLaws::told_is_left_out, crate::proofs::NamedLaws::near_left_out))]
 fn left_out(tokens: &[Token], stop: usize) -> Option<usize>
-    requires { reading.program 100 tokens.now ≡ Err Syntax }
-    ensures { IfSome result (λ at. IsLeftOutAt tokens.now at) }
+    requires within { stop ≤ length tokens.now }
+    requires none { (all : RawProgram) → IsProgram tokens.now all → ⊥ }
+    ensures place { result ≡ spec.left_out tokens.now stop }
+    ensures begins { IfSome result (λ at. IsLeftOutAt tokens.now at) }
 {
     if let Some(at) = first_told(tokens) {
         if at <= stop {
@@ -62,11 +72,11 @@ fn left_out(tokens: &[Token], stop: usize) -> Option<usize>
 }
 
 /// Why there is no tree, where reading stopped before so many tokens.
-#[tactic(auto, using(crate::proofs::NamedLaws::named_or))]
+#[tactic(auto, using(crate::proofs::ProgramLaws::no_tree, crate::proofs::NamedLaws::stopped_judges, crate::proofs::NamedLaws::unnamed_judges))]
 fn refused(alloc: Global, tokens: &[Token], left: usize) -> ParseFault
     requires some { 0 < length tokens.now }
-    requires none { reading.program 100 tokens.now ≡ Err Syntax }
-    ensures named { IsNamedOr tokens.now result }
+    requires stopped { reading.program 100 tokens.now ≡ Err (Syntax left) }
+    ensures exact { Judges tokens.now (reading.program 100 tokens.now) (Err result) }
     ensures line { HasLine tokens.now (Err result) }
 {
     match left_out(tokens, tokens.len().saturating_sub(left)) {
@@ -79,14 +89,14 @@ fn refused(alloc: Global, tokens: &[Token], left: usize) -> ParseFault
 fn read(alloc: Global, tokens: &[Token]) -> Result<RawProgram, Stop>
     ensures { Gives (reading.program 100 tokens.now) result }
 {
-    program(alloc, &mut Cursor::new(tokens), 100)
+    program(alloc, &mut Cursor::new(tokens), MAX_NESTING)
 }
 
 /// What is answered for tokens, of which there is one at least.
-#[tactic(auto, using(c_parse_left_out::proofs::TellingLaws::told_is_left_out, crate::proofs::NamedLaws::named_judges))]
+#[tactic(auto, using(c_parse_left_out::proofs::TellingLaws::told_is_left_out, crate::proofs::NamedLaws::told_judges))]
 fn judge(alloc: Global, tokens: &[Token]) -> Result<RawProgram, ParseFault>
     requires { 0 < length tokens.now }
-    ensures exact { Judges tokens.now (reading.program 100 tokens.now) (telling.first_told 0 [] tokens.now) result }
+    ensures exact { Judges tokens.now (reading.program 100 tokens.now) result }
     ensures line { HasLine tokens.now result }
 {
     match read(alloc, tokens) {
@@ -96,14 +106,13 @@ fn judge(alloc: Global, tokens: &[Token]) -> Result<RawProgram, ParseFault>
         },
         Err(Stop::Memory) => Err(ParseFault::NoMemory),
         Err(Stop::Syntax(left)) => Err(refused(alloc, tokens, left)),
-        Err(Stop::LeftOut(left)) => Err(refused(alloc, tokens, left)),
         Err(Stop::Deep(left)) => Err(ParseFault::Nesting(line_at(tokens, left))),
     }
 }
 
 /// What is answered for any tokens. Where there is none, the tree has no items.
 fn judged(alloc: Global, tokens: &[Token]) -> Result<RawProgram, ParseFault>
-    ensures exact { Judges tokens.now (reading.program 100 tokens.now) (telling.first_told 0 [] tokens.now) result }
+    ensures exact { Judges tokens.now (reading.program 100 tokens.now) result }
     ensures line { HasLine tokens.now result }
 {
     if tokens.is_empty() {
@@ -127,6 +136,9 @@ pub fn parse(alloc: Global, tokens: &[Token]) -> Result<RawProgram, ParseFault>
     ensures deep { (all : RawProgram) → IsProgram tokens.now all → IsInGrammar tokens.now → 100 < program_nesting all → IsTooDeep result }
     // No tokens have two trees.
     ensures only { IfOk result (λ found. (all : RawProgram) → IsProgram tokens.now all → found ≡ all) }
+    // Of the constructs, the one is named because of which reading stopped, and where none is, the line is the one in
+    // which it stopped.
+    ensures exact { Judges tokens.now (reading.program 100 tokens.now) result }
     // The line of a fault is that of a token.
     ensures line { HasLine tokens.now result }
 {

@@ -17,7 +17,7 @@ use Rattle.c_parse_expr.specs.declared.int_words.Width.TheVariants as width
 use Rattle.c_parse_expr.specs.declared.int_words.Signedness.{Signedness}
 use Rattle.c_parse_expr.specs.declared.int_words.Signedness.TheVariants as signedness
 use Rattle.c_parse_expr.specs.declared.int_words.IntWords.{IntWords}
-use Rattle.c_parse_expr.specs.Outcome.{Syntax, Deep}
+use Rattle.c_parse_expr.specs.Outcome.{refused, Deep}
 use Rattle.c_parse_expr.specs.IntReading.{word_by, next_word, no_words, with_width, with_signedness, with_word, type_by, named_type, by_word, by_words, words_from, type_or_fault, int_type}
 use Rattle.c_parse_words.proofs.SeenTokens.{text_is, of_kind_is}
 use Rattle.c_parse_expr.proofs.Tests.{by_test, by_step, by_fault, with_parts, ok_parts}
@@ -299,12 +299,12 @@ unfolding next_word
 word_at k l ts = text_told k
 
 -- reading all words, by whether one is in front
-pub words_front : (x : IntWords) (ts : Tokens) → words_from x ts ≡ by_word (next_word ts) (Ok (x, ts)) (λ w. by_words (with_word x w) (Err Syntax) (λ y. words_from y (drop 1 ts)))
+pub words_front : (x : IntWords) (ts : Tokens) → words_from x ts ≡ by_word (next_word ts) (Ok (x, ts)) (λ w. by_words (with_word x w) (refused ts) (λ y. words_from y (drop 1 ts)))
 unfolding words_from next_word
 words_front x [] = refl
 words_front x (t ∷ ts) = refl
 
-pub words_clash : (x : IntWords) (k : IntWord) (ts : Tokens) → next_word ts ≡ Some k → with_word x k ≡ None → words_from x ts ≡ Err Syntax
+pub words_clash : (x : IntWords) (k : IntWord) (ts : Tokens) → next_word ts ≡ Some k → with_word x k ≡ None → words_from x ts ≡ refused ts
 words_clash x k ts h j = words_front x ts ∙ rw (h, j) refl
 
 pub words_more : (x y : IntWords) (k : IntWord) (ts : Tokens) → next_word ts ≡ Some k → with_word x k ≡ Some y → words_from x ts ≡ words_from y (drop 1 ts)

@@ -20,7 +20,7 @@ use Rattle.c_language.specs.declared.operators.Prefix.TheVariants.{Sign, Deref, 
 use Rattle.c_language.specs.declared.operators.Selector.TheVariants.{Dot, Arrow}
 use Rattle.c_parse_expr.specs.declared.suffix.Suffix.{Suffix}
 use Rattle.c_parse_expr.specs.declared.suffix.Suffix.TheVariants.{Operator, Question, Bracket, Select}
-use Rattle.c_parse_expr.specs.Outcome.{Parser, and_then, Syntax, Deep, expect}
+use Rattle.c_parse_expr.specs.Outcome.{Parser, and_then, refused, Deep, expect}
 use Rattle.c_parse_expr.specs.IntReading.{int_type}
 
 -- ---- operators
@@ -141,16 +141,16 @@ named w = if bytes_eq w (codes "NULL") then e.Null else if bytes_eq w (codes "EO
 
 -- a token that is an expression by itself
 unfoldable pub atom : Parser RawExpr
-atom [] = Err Syntax
+atom [] = refused []
 atom (t ∷ ts) =
     if is_kind Number t || is_kind Character t then Ok (e.Constant t.text, ts)
     else if is_kind Name t && not (is_keyword t.text) then Ok (named t.text, ts)
-    else Err Syntax
+    else refused (t ∷ ts)
 
 -- the name of a member
 unfoldable pub read_member : Parser Bytes
-read_member [] = Err Syntax
-read_member (t ∷ ts) = if is_kind Name t && is_plain_name t.text then Ok (t.text, ts) else Err Syntax
+read_member [] = refused []
+read_member (t ∷ ts) = if is_kind Name t && is_plain_name t.text then Ok (t.text, ts) else refused (t ∷ ts)
 
 -- The parameter reads an expression that is nested one deeper, and binds at least as tightly as a number.
 module _ (deeper : ℕ → Parser RawExpr) where

@@ -1,5 +1,5 @@
 -- Reading the words of an integer type.
-use Rattle.std.specs.Prelude.{Bool, true, false, [], ◌∷◌, codes, slice_get, Option, Some, None, Ok, Err, if◌then◌else◌}
+use Rattle.std.specs.Prelude.{Bool, true, false, [], ◌∷◌, codes, slice_get, Option, Some, None, Ok, if◌then◌else◌}
 use Rattle.std.specs.Str.{bytes_eq}
 use Rattle.c_arith.specs.declared.int_type.IntType.{IntType}
 use Rattle.c_arith.specs.declared.int_type.IntType.TheVariants as int
@@ -15,7 +15,7 @@ use Rattle.c_parse_expr.specs.declared.int_words.Width.TheVariants as width
 use Rattle.c_parse_expr.specs.declared.int_words.Signedness.{Signedness}
 use Rattle.c_parse_expr.specs.declared.int_words.Signedness.TheVariants as signedness
 use Rattle.c_parse_expr.specs.declared.int_words.IntWords.{IntWords}
-use Rattle.c_parse_expr.specs.Outcome.{Parser, and_then, Syntax}
+use Rattle.c_parse_expr.specs.Outcome.{Parser, and_then, refused}
 
 unfoldable pub word_by : Bytes → Option IntWord
 word_by w =
@@ -89,10 +89,10 @@ by_words (Some x) none some = some x
 -- all the words at the front
 unfoldable pub words_from : IntWords → Parser IntWords
 words_from x [] = Ok (x, [])
-words_from x (t ∷ ts) = by_word (next_word (t ∷ ts)) (Ok (x, t ∷ ts)) (λ w. by_words (with_word x w) (Err Syntax) (λ y. words_from y ts))
+words_from x (t ∷ ts) = by_word (next_word (t ∷ ts)) (Ok (x, t ∷ ts)) (λ w. by_words (with_word x w) (refused (t ∷ ts)) (λ y. words_from y ts))
 
 abbrev pub type_or_fault : Option IntType → Parser IntType
-type_or_fault None ts = Err Syntax
+type_or_fault None ts = refused ts
 type_or_fault (Some t) ts = Ok (t, ts)
 
 unfoldable pub int_type : Parser IntType

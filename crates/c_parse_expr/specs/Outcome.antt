@@ -1,5 +1,5 @@
 -- What reading from left to right gives, and the steps that all reading is made of.
-use Rattle.std.specs.Prelude.{◌≡◌, not, ◌&&◌, [], ◌∷◌, drop, Result, Ok, Err, if◌then◌else◌}
+use Rattle.std.specs.Prelude.{◌≡◌, ℕ, not, ◌&&◌, [], ◌∷◌, length, drop, Result, Ok, Err, if◌then◌else◌}
 use Rattle.c_language.specs.Words.{Bytes}
 use Rattle.c_language.specs.TokenForms.{Tokens}
 use Rattle.c_language.specs.Sees.{sees, is_kind, is_keyword}
@@ -7,9 +7,9 @@ use Rattle.c_language.specs.declared.token.TokenKind.TheVariants.{Name, Mark}
 use Rattle.c_parse_expr.specs.declared.fault.Stop.{Stop}
 use Rattle.c_parse_expr.specs.declared.fault.Stop.TheVariants as stop
 
--- why no tree is read: the tokens have none, or they nest too deep
+-- why no tree is read: none goes on where so many tokens are left, or the tokens nest too deep
 pub data Fault : Type 0 where
-  Syntax : Fault
+  Syntax : ℕ → Fault
   Deep : Fault
 
 -- what is read, with the tokens behind it
@@ -19,6 +19,10 @@ Outcome A = Result (A × Tokens) Fault
 abbrev pub Parser : Type 0 → Type 0
 Parser A = Tokens → Outcome A
 
+-- no tree goes on here
+abbrev pub refused : {A : Type 0} → Parser A
+refused ts = Err (Syntax (length ts))
+
 -- one step after another
 abbrev pub and_then : {A B : Type 0} → Outcome A → (A → Parser B) → Outcome B
 and_then (Ok p) f = f p.0 p.1
@@ -26,17 +30,16 @@ and_then (Err e) f = Err e
 
 -- the next token is this mark
 unfoldable pub expect : Bytes → Parser (Unit {0})
-expect text ts = if sees Mark text ts then Ok (tt, drop 1 ts) else Err Syntax
+expect text ts = if sees Mark text ts then Ok (tt, drop 1 ts) else refused ts
 
 -- the next token is a name that is no keyword
 unfoldable pub read_name : Parser Bytes
-read_name [] = Err Syntax
-read_name (t ∷ ts) = if is_kind Name t && not (is_keyword t.text) then Ok (t.text, ts) else Err Syntax
+read_name [] = refused []
+read_name (t ∷ ts) = if is_kind Name t && not (is_keyword t.text) then Ok (t.text, ts) else refused (t ∷ ts)
 
--- What a function that reads answers: the outcome, unless memory runs out. That a construct is left out says no more than that there is no tree.
+-- what a function that reads answers: the outcome, unless memory runs out
 abbrev pub Reads : {A : Type 0} → Outcome A → Result A Stop → Tokens → Type 0
 Reads outcome (Ok a) rest = outcome ≡ Ok (a, rest)
 Reads outcome (Err stop.Memory) rest = Unit {0}
-Reads outcome (Err (stop.Syntax left)) rest = outcome ≡ Err Syntax
-Reads outcome (Err (stop.LeftOut left)) rest = outcome ≡ Err Syntax
+Reads outcome (Err (stop.Syntax left)) rest = outcome ≡ Err (Syntax left)
 Reads outcome (Err (stop.Deep left)) rest = outcome ≡ Err Deep

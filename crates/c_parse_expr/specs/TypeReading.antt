@@ -15,7 +15,7 @@ use Rattle.c_language.specs.Nesting.{type_nesting}
 use Rattle.c_language.specs.declared.token.TokenKind.TheVariants.{Name, Mark}
 use Rattle.c_parse_expr.specs.declared.shape.BaseForm.{BaseForm}
 use Rattle.c_parse_expr.specs.declared.shape.BaseForm.TheVariants as form
-use Rattle.c_parse_expr.specs.Outcome.{Parser, and_then, Syntax, Deep, expect, read_name}
+use Rattle.c_parse_expr.specs.Outcome.{Parser, and_then, refused, Deep, expect, read_name}
 use Rattle.c_parse_expr.specs.IntReading.{int_type}
 use Rattle.c_parse_expr.specs.ExprReading.{nested}
 
@@ -101,7 +101,7 @@ param depth ts =
 
 -- parameters behind commas, up to the closing parenthesis and with it; each turn reads one
 unfoldable pub params_from : ℕ → ℕ → List RawParam → Parser (List RawParam)
-params_from depth zero found ts = Err Syntax
+params_from depth zero found ts = refused ts
 params_from depth (suc turns) found ts =
     if sees Mark (codes ")") ts then Ok (found, drop 1 ts)
     else and_then (expect (codes ",") ts) (λ _ ts. and_then (param depth ts) (λ p ts. params_from depth turns (found ++ p ∷ []) ts))

@@ -6,10 +6,10 @@ use std::alloc::AllocError;
 /// Why nothing is read, with how many tokens were left there.
 #[derive(Debug, Drop)]
 pub enum Stop {
+    /// Memory ran out.
     Memory,
+    /// No tree goes on there.
     Syntax(usize),
-    /// A construct that the language leaves out begins there.
-    LeftOut(usize),
     /// The tokens nest deeper than allowed.
     Deep(usize),
 }

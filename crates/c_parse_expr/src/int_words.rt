@@ -37,7 +37,9 @@ pub enum Signedness {
 /// What the words that were read say of an integer type.
 #[derive(Clone, Copy, Debug, PartialEq, Eq)]
 pub struct IntWords {
+    /// What was said of the width, if anything was.
     pub width: Option<Width>,
+    /// What was said of the sign, if anything was.
     pub signedness: Option<Signedness>,
     /// Whether `int` was read.
     pub has_int: bool,

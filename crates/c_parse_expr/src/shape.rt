@@ -9,7 +9,9 @@ use std::marker::Model;
 /// What a type is that stands before declarators.
 #[derive(Drop)]
 pub enum BaseForm {
+    /// An integer type.
     Integer(IntType),
+    /// A struct type by its tag.
     Struct(Text),
 }
 

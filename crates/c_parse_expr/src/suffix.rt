@@ -9,11 +9,13 @@ use c_tree::{BinaryOp, UnaryOp};
 /// What goes on with an expression.
 #[derive(Clone, Copy, Debug, PartialEq, Eq)]
 pub enum Suffix {
+    /// An operator, with its right operand behind it.
     Operator(Infix),
     /// `?`
     Question,
     /// `[`
     Bracket,
+    /// `.` or `->`, with a member behind it.
     Select(Selector),
 }
 

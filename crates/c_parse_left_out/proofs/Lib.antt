@@ -2,3 +2,4 @@ pub mod PlaceLemmas
 pub mod TellingLaws
 pub mod NamingLaws
 pub mod AroundLemmas
+pub mod NearLaws

@@ -32,6 +32,7 @@ impl<'a> Model for Neighbours<'a> {
 impl<'a> Neighbours<'a> {
     ghost use Rattle.std.specs.Prelude.{reverse};
 
+    /// The tokens before a token, these being all of them in text order.
     pub fn before(tokens: &'a [Token]) -> Neighbours<'a>
         ensures { result ≡ reverse tokens.now }
     {
@@ -41,6 +42,7 @@ impl<'a> Neighbours<'a> {
         }
     }
 
+    /// The tokens behind a token, these being all of them in text order.
     pub fn behind(tokens: &'a [Token]) -> Neighbours<'a>
         ensures { result ≡ tokens.now }
     {
@@ -50,6 +52,7 @@ impl<'a> Neighbours<'a> {
         }
     }
 
+    /// How many tokens there are on this side.
     pub fn len(&self) -> usize
         ensures { result ≡ length self.now }
     {
@@ -124,6 +127,7 @@ impl<'a> Neighbours<'a> {
     }
 }
 
+/// Whether a token is of this kind and has this text.
 pub fn is_token(token: &Token, kind: TokenKind, text: &[u8]) -> bool
     ensures { result ≡ language.is_token kind text.now token.now }
 {
@@ -136,6 +140,7 @@ fn is_mark(token: &Token, text: &[u8]) -> bool
     is_token(token, TokenKind::Mark, text)
 }
 
+/// Whether a token is `(`, `[` or `{`.
 pub fn is_opening(token: &Token) -> bool
     ensures { result ≡ grammar.is_opening token.now }
 {
@@ -144,6 +149,7 @@ pub fn is_opening(token: &Token) -> bool
         && (text == b"(".as_slice() || text == b"[".as_slice() || text == b"{".as_slice())
 }
 
+/// Whether a token is `)`, `]` or `}`.
 pub fn is_closing(token: &Token) -> bool
     ensures { result ≡ grammar.is_closing token.now }
 {
@@ -169,7 +175,8 @@ pub fn is_int_word(token: &Token) -> bool
 /// The innermost bracket that is open, and the tokens before it.
 #[tactic(auto, unfolding(c_language::specs::LeftOut::innermost))]
 pub fn innermost<'a>(before: &Neighbours<'a>) -> Neighbours<'a>
-    ensures { result ≡ grammar.innermost 0 before.now }
+    ensures value { result ≡ grammar.innermost 0 before.now }
+    ensures short { length result ≤ length before.now }
 {
     let mut closed: usize = 0;
     for at in 0..before.len() {

@@ -1,15 +1,15 @@
 //! Constructs that have no production, told by what stands around a token.
-ghost use Rattle.std.specs.Prelude.{◌≡◌, ◌==◌, not, ◌&&◌, ◌||◌, true, IfSome, drop, slice_get, reverse, codes};
+ghost use Rattle.std.specs.Prelude.{◌≡◌, ◌≤◌, ◌==◌, not, ◌&&◌, ◌||◌, length, drop, slice_get, reverse, codes};
 ghost use Rattle.c_language.specs.Sees as language;
 ghost use Rattle.c_language.specs.IntWords as words;
 ghost use Rattle.c_language.specs.LeftOut as grammar;
 ghost use Rattle.c_parse_left_out.specs.Naming as spec;
-ghost use Rattle.c_parse_left_out.specs.Places.{IsWithoutProductionAt};
+ghost use Rattle.c_parse_left_out.specs.Near as near;
 
 use crate::around::{
     Neighbours, Sought, behind_stars, behind_words, doubles_semicolon, has_open_brace, holds_long,
-    innermost, is_assignment_sign, is_bump_sign, is_int_word, is_token, outside, owes_no_colon,
-    stands_here,
+    innermost, is_assignment_sign, is_bump_sign, is_closing, is_int_word, is_token, outside,
+    owes_no_colon, stands_here,
 };
 use c_language::{Token, TokenKind};
 use c_parse_words::is_keyword;
@@ -255,11 +255,19 @@ fn goes_on(before: &Neighbours<'_>, after: &Neighbours<'_>) -> bool
         || (is_within(before, b"for") && sees_mark(before, b";") && sees_mark(after, b";"))
 }
 
+/// Whether the name of a member stands here.
+#[tactic(auto, unfolding(c_language::specs::LeftOut::is_selected))]
+fn is_selected(before: &Neighbours<'_>) -> bool
+    ensures { result ≡ grammar.is_selected before.now }
+{
+    sees_mark(before, b".") || sees_mark(before, b"->")
+}
+
 #[tactic(auto, unfolding(c_language::specs::LeftOut::is_inner_call))]
 fn is_inner_call(before: &Neighbours<'_>, behind: &Neighbours<'_>) -> bool
     ensures { result ≡ grammar.is_inner_call before.now behind.now }
 {
-    !ends_type(&behind_stars(before))
+    !(ends_type(&behind_stars(before)) || is_selected(before))
         && (has_left_operator(before)
             || is_enclosed(before)
             || goes_on(before, &outside(&behind.from(1))))
@@ -527,58 +535,96 @@ fn names(before: &Neighbours<'_>, token: &Token, behind: &Neighbours<'_>) -> boo
 }
 
 /// Whether a construct without a production begins at a place.
-#[tactic(auto, using(crate::proofs::NamingLaws::named_at))]
+#[tactic(auto, unfolding(crate::specs::Near::begins_at))]
 fn begins_at(tokens: &[Token], at: usize) -> bool
-    ensures { result ≡ true → IsWithoutProductionAt tokens.now at }
+    requires { at ≤ length tokens.now }
+    ensures { result ≡ near.begins_at tokens.now at }
 {
-    if at >= tokens.len() {
-        return false;
-    }
     let (before, rest) = tokens.split_at(at);
     match rest.split_first() {
-        Some((token, behind)) => {
-            names(
-                &Neighbours::before(before),
-                token,
-                &Neighbours::behind(behind),
-            )
-        }
+        Some((token, behind)) => names(
+            &Neighbours::before(before),
+            token,
+            &Neighbours::behind(behind),
+        ),
         None => false,
     }
 }
 
-/// The place of the innermost bracket that is open before a place, and 0 where there is none.
-fn open_before(tokens: &[Token], at: usize) -> usize {
-    let (before, _) = tokens.split_at(at.min(tokens.len()));
+/// The place of the innermost bracket that is open before a place, and 0 where none is.
+#[tactic(auto, unfolding(crate::specs::Near::open_before))]
+fn open_before(tokens: &[Token], at: usize) -> usize
+    requires { at ≤ length tokens.now }
+    ensures place { result ≡ near.open_before tokens.now at }
+    ensures within { result ≤ length tokens.now }
+{
+    let (before, _) = tokens.split_at(at);
     innermost(&Neighbours::before(before))
         .len()
         .saturating_sub(1)
 }
 
-/// Where a construct begins whose reading stops at a place: a call or a struct whose bracket was closed
-/// there, a `for` whose parenthesis is open there, or a token near it.
-pub fn left_out_near(tokens: &[Token], stop: usize) -> Option<usize>
-    ensures { IfSome result (λ at. IsWithoutProductionAt tokens.now at) }
+/// The first place from one on, before another, at which a construct without a production begins.
+fn first_within(tokens: &[Token], from: usize, to: usize) -> Option<usize>
+    requires { to ≤ length tokens.now }
+    ensures { result ≡ near.first_within tokens.now from to }
 {
-    let closed = open_before(tokens, stop.saturating_sub(1));
-    let open = open_before(tokens, stop);
-    let places: [usize; 11] = [
-        closed.saturating_sub(1),
-        closed,
-        open.saturating_sub(1),
-        stop.saturating_sub(5),
-        stop.saturating_sub(4),
-        stop.saturating_sub(3),
-        stop.saturating_sub(2),
-        stop.saturating_sub(1),
-        stop,
-        stop.saturating_add(1),
-        stop.saturating_add(2),
-    ];
-    for at in places {
+    for at in from..to {
         if begins_at(tokens, at) {
             return Some(at);
         }
     }
     None
+}
+
+/// Whether an expression may go on at a place: a mark stands before it that is no closing bracket and no
+/// `++` or `--`.
+#[tactic(auto, unfolding(crate::specs::Near::may_go_on))]
+fn may_go_on(tokens: &[Token], at: usize) -> bool
+    requires { at ≤ length tokens.now }
+    ensures { result ≡ near.may_go_on tokens.now at }
+{
+    let (before, _) = tokens.split_at(at);
+    match Neighbours::before(before).get(0) {
+        Some(token) => {
+            token.kind == TokenKind::Mark
+                && !(is_closing(token) || is_bump_sign(token.text.bytes()))
+        }
+        None => false,
+    }
+}
+
+/// The place behind the last one that is looked at, where reading stops at a place. Behind an operand the
+/// next tokens are those of another statement.
+#[tactic(auto, unfolding(crate::specs::Near::end_near))]
+fn end_near(tokens: &[Token], stop: usize) -> usize
+    requires { stop ≤ length tokens.now }
+    ensures place { result ≡ near.end_near tokens.now stop }
+    ensures within { result ≤ length tokens.now }
+{
+    let most = if may_go_on(tokens, stop) { 3 } else { 1 };
+    stop + (tokens.len() - stop).min(most)
+}
+
+/// Where a construct begins whose reading stops at a place: a call or a struct whose bracket was closed
+/// there, a `for` whose parenthesis is open there, or else the first one from five tokens before the place
+/// on.
+#[tactic(auto, unfolding(crate::specs::Near::left_out_near))]
+pub fn left_out_near(tokens: &[Token], stop: usize) -> Option<usize>
+    requires { stop ≤ length tokens.now }
+    ensures { result ≡ near.left_out_near tokens.now stop }
+{
+    let closed = open_before(tokens, stop.saturating_sub(1));
+    let called = closed.saturating_sub(1);
+    if begins_at(tokens, called) {
+        return Some(called);
+    }
+    if begins_at(tokens, closed) {
+        return Some(closed);
+    }
+    let looped = open_before(tokens, stop).saturating_sub(1);
+    if begins_at(tokens, looped) {
+        return Some(looped);
+    }
+    first_within(tokens, stop.saturating_sub(5), end_near(tokens, stop))
 }

@@ -1,5 +1,5 @@
 -- What the tests of a parser say where an expression begins.
-use Rattle.std.proofs.Common.{◌≡◌, ℕ, [], ◌∷◌, refl, sym, ap, ◌∙◌, Bool, true, false, ◌||◌, None, Err, codes, inl, inr}
+use Rattle.std.proofs.Common.{◌≡◌, ℕ, [], ◌∷◌, refl, sym, ap, ◌∙◌, Bool, true, false, ◌||◌, None, codes, inl, inr}
 use Rattle.std.specs.Str.{bytes_eq}
 use Rattle.std.proofs.lemmas.Bool.{cases_Bool}
 use Rattle.c_arith.specs.declared.int_type.IntType.{IntType}
@@ -19,7 +19,7 @@ use Rattle.c_language.specs.declared.operators.Selector.{Selector}
 use Rattle.c_language.specs.declared.operators.Selector.TheVariants.{Dot, Arrow}
 use Rattle.c_arith.specs.declared.operators.UnaryOp.TheVariants.{Plus, Minus, Flip, Not}
 use Rattle.c_arith.specs.declared.operators.BinaryOp.TheVariants.{Mul, Div, Rem, Add, Sub, Shl, Shr, Less, Greater, AtMost, AtLeast, Equal, Unequal, And, Xor, Or}
-use Rattle.c_parse_expr.specs.Outcome.{Syntax}
+use Rattle.c_parse_expr.specs.Outcome.{refused}
 use Rattle.c_parse_expr.specs.IntReading.{word_by, next_word, words_from, named_type, int_type}
 use Rattle.c_parse_expr.specs.TypeReading.{begins_type, base}
 use Rattle.c_parse_simple.specs.SimpleReading.{string_at, sees_call, sees_cast, ends_in_star}
@@ -209,12 +209,12 @@ next_none t ts h = elim (cases_Bool (is_kind Name t)) [
   | inr isnt ↦ rw isnt refl
 ]
 
-pub no_int_type : (ts : Tokens) → sees_int_word ts ≡ false → int_type ts ≡ Err Syntax
+pub no_int_type : (ts : Tokens) → sees_int_word ts ≡ false → int_type ts ≡ refused ts
 unfolding int_type words_from named_type
 no_int_type [] h = refl
 no_int_type (t ∷ ts) h = rw (next_none t ts h) refl
 
-pub no_base : {ts : Tokens} → Starts ts → base ts ≡ Err Syntax
+pub no_base : {ts : Tokens} → Starts ts → base ts ≡ refused ts
 unfolding base is_keyword
 no_base {ts} s = rw (starts_no_word s (codes "struct") refl, no_int_type ts (starts_no_int s)) refl
 

@@ -25,7 +25,7 @@ use Rattle.c_parse_expr.specs.Outcome.{Parser, Deep, expect, read_name}
 use Rattle.c_parse_expr.specs.ExprReading.{multiplies_size, nested, expression}
 use Rattle.c_parse_expr.specs.TypeReading.{base, type_name, declarator}
 use Rattle.c_parse_simple.specs.SimpleReading as r
-use Rattle.c_parse_simple.specs.SimpleReading.{word, by_option, string_at, separated, arg, args, sees_call, called, call_parts, call, pointee, size_inside, size_in_parens, size_of, sized, counted, amount_of, malloc_of, cast_amount, heap_parts, heap, sees_effect, effect, bumped, bump, compound_at, stored, assigned, changed, acted, placed, simple, list_from, list, initialised, declared}
+use Rattle.c_parse_simple.specs.SimpleReading.{word, string_at, separated, arg, args, sees_call, called, call_parts, call, pointee, size_inside, size_in_parens, size_of, sized, counted, amount_of, malloc_of, cast_amount, heap_parts, heap, sees_effect, effect, bumped, bump, compound_at, stored, assigned, changed, acted, placed, simple, list_from, list, initialised, declared}
 use Rattle.c_parse_words.proofs.SeenTokens.{by_seen}
 use Rattle.c_parse_expr.proofs.Tests.{by_test, by_fault, by_expect, by_name, expect_fault, name_fault}
 use Rattle.c_parse_expr.proofs.ExprDeep.{expr_tokens, IsDeep, drop_tokens, nested_expr_deep, whole_expr_deep}

@@ -29,7 +29,7 @@ use Rattle.c_parse_expr.specs.Outcome.{expect}
 use Rattle.c_parse_expr.specs.ExprReading.{logical, comparison, arithmetic, infix_by, suffix_by, multiplies_size, suffix, goes_on}
 use Rattle.c_parse_expr.specs.TypeReading.{base}
 use Rattle.c_parse_simple.specs.SimpleReading as r
-use Rattle.c_parse_simple.specs.SimpleReading.{separated, sees_call, call, heap, sees_cast, ends_in_star, sees_effect, effect, bumped, bump, compound_by, compound_at, stored, assigned, changed, acted, simple, list_from, list, initialised, declared}
+use Rattle.c_parse_simple.specs.SimpleReading.{sees_call, sees_cast, sees_effect, effect, bumped, bump, compound_by, compound_at, stored, assigned, changed, acted, simple, list_from, list, initialised, declared}
 use Rattle.c_parse_expr.proofs.ExprLaws.{Exact, expression_exact, nested_exact, shorter}
 use Rattle.c_parse_expr.proofs.ExprSound.{weaken}
 use Rattle.c_parse_expr.proofs.TightLaws.{tight}

@@ -26,7 +26,7 @@ use Rattle.c_parse_expr.specs.Outcome.{expect}
 use Rattle.c_parse_expr.specs.ExprReading.{nested, expression}
 use Rattle.c_parse_expr.specs.TypeReading.{base, declarator}
 use Rattle.c_parse_simple.specs.SimpleReading as r
-use Rattle.c_parse_simple.specs.SimpleReading.{separated, sees_call, sees_effect, effect, heap, call, bumped, bump, compound_by, compound_at, stored, assigned, changed, acted, simple, list_from, list, initialised, declared}
+use Rattle.c_parse_simple.specs.SimpleReading.{sees_call, sees_effect, effect, heap, call, bumped, bump, compound_by, compound_at, stored, assigned, changed, acted, simple, list_from, list, initialised, declared}
 use Rattle.c_parse_words.proofs.SeenTokens.{by_seen, text_is, of_kind_is}
 use Rattle.c_parse_expr.proofs.Tests.{by_test, by_step, by_expect, with_parts}
 use Rattle.c_parse_expr.proofs.TypeSound.{base_sound, declarator_sound}

@@ -27,7 +27,7 @@ use Rattle.c_language.specs.StatementGrammar.{is_callee}
 use Rattle.c_language.specs.Nesting.{nesting}
 use Rattle.c_language.specs.declared.token.Token.{Token}
 use Rattle.c_language.specs.declared.token.TokenKind.TheVariants.{Name, Str, Mark}
-use Rattle.c_parse_expr.specs.Outcome.{Outcome, Parser, and_then, Syntax, Deep, expect, read_name}
+use Rattle.c_parse_expr.specs.Outcome.{Outcome, Parser, and_then, refused, Deep, expect, read_name}
 use Rattle.c_parse_expr.specs.ExprReading.{nested, expression, multiplies_size}
 use Rattle.c_parse_expr.specs.TypeReading.{base, type_name, declarator}
 
@@ -35,7 +35,7 @@ use Rattle.c_parse_expr.specs.TypeReading.{base, type_name, declarator}
 
 -- the next token is this word
 unfoldable pub word : Bytes → Parser (Unit {0})
-word text ts = if sees Name text ts then Ok (tt, drop 1 ts) else Err Syntax
+word text ts = if sees Name text ts then Ok (tt, drop 1 ts) else refused ts
 
 abbrev pub some_string : Option Token → Option Bytes
 some_string None = None
@@ -52,7 +52,7 @@ by_option (Some x) none some = some x
 -- one or more, with a comma between each two, up to a closing mark and with it
 module _ {A : Type 0} (close : Bytes) (read : Parser A) where
   unfoldable pub separated : ℕ → List A → Parser (List A)
-  separated zero found ts = Err Syntax
+  separated zero found ts = refused ts
   separated (suc turns) found ts =
       and_then (read ts) (λ a ts. if sees Mark close ts then Ok (found ++ a ∷ [], drop 1 ts) else and_then (expect (codes ",") ts) (λ _ ts. separated turns (found ++ a ∷ []) ts))
 
@@ -71,7 +71,7 @@ sees_call ts = sees_name ts && sees_second Mark (codes "(") ts
 
 -- the arguments of a call of this function, behind its parenthesis
 unfoldable pub called : ℕ → Bytes → Parser (List RawArg)
-called d w ts = if is_callee w then (if d == 0 then Err Deep else args d ts) else Err Syntax
+called d w ts = if is_callee w then (if d == 0 then Err Deep else args d ts) else refused ts
 
 -- the function that is called, and its arguments
 unfoldable pub call_parts : ℕ → Parser (Bytes × List RawArg)
@@ -110,7 +110,7 @@ unfoldable pub counted : ℕ → RawExpr → Parser RawAmount
 counted d a ts =
     if multiplies_size ts then
     (if nat_le multiplicative_level (tightness a) then and_then (size_of (drop 2 ts)) (λ z ts. if nat_lt (max (nesting a) 1) d then Ok (amount.CountSize a z, ts) else Err Deep)
-    else Err Syntax)
+    else refused ts)
     else Ok (amount.Count a, ts)
 
 unfoldable pub amount_of : ℕ → Parser RawAmount
@@ -128,7 +128,7 @@ malloc_of d ts = and_then (word (codes "malloc") ts) (λ _ ts. and_then (expect 
 
 -- the amount of a call of malloc that is cast to this type
 unfoldable pub cast_amount : ℕ → RawTypeName → Parser RawAmount
-cast_amount d a ts = if has_star a then (if d == 0 then Err Deep else malloc_of (d - 1) ts) else Err Syntax
+cast_amount d a ts = if has_star a then (if d == 0 then Err Deep else malloc_of (d - 1) ts) else refused ts
 
 -- the type that the result of malloc is cast to, if it is, and the amount
 unfoldable pub heap_parts : ℕ → Parser (Option RawTypeName × RawAmount)
@@ -163,12 +163,12 @@ effect d line t ts = if sees Name (codes "malloc") ts || sees Mark (codes "(") t
 
 -- `++` or `--` before its place
 unfoldable pub bumped : ℕ → ℕ → Bool → Parser RawStatement
-bumped d line up ts = and_then (nested d conditional_level ts) (λ a ts. if is_place a then Ok (s.Bump line a up true, ts) else Err Syntax)
+bumped d line up ts = and_then (nested d conditional_level ts) (λ a ts. if is_place a then Ok (s.Bump line a up true, ts) else refused ts)
 
 -- `++` or `--` behind its place
 unfoldable pub bump : ℕ → ℕ → RawExpr → Bool → Parser RawStatement
 bump d line a up ts =
-    if nat_le postfix_level (tightness a) then (if nat_lt (nesting a) d then Ok (s.Bump line a up false, ts) else Err Deep) else Err Syntax
+    if nat_le postfix_level (tightness a) then (if nat_lt (nesting a) d then Ok (s.Bump line a up false, ts) else Err Deep) else refused ts
 
 unfoldable pub compound_by : Bytes → Option BinaryOp
 compound_by w =
@@ -212,11 +212,11 @@ acted d line a ts =
     if sees Mark (codes "++") ts then bump d line a true (drop 1 ts)
     else if sees Mark (codes "--") ts then bump d line a false (drop 1 ts)
     else if sees Mark (codes "=") ts then assigned d line a (drop 1 ts)
-    else by_option (compound_at ts) (Err Syntax) (λ op. changed d line a op (drop 1 ts))
+    else by_option (compound_at ts) (refused ts) (λ op. changed d line a op (drop 1 ts))
 
 -- a simple statement that begins with a place
 unfoldable pub placed : ℕ → ℕ → Parser RawStatement
-placed d line ts = and_then (expression d conditional_level ts) (λ a mid. if is_place a then acted d line a mid else Err Syntax)
+placed d line ts = and_then (expression d conditional_level ts) (λ a mid. if is_place a then acted d line a mid else refused mid)
 
 unfoldable pub simple : ℕ → Parser RawStatement
 simple d ts =
@@ -229,7 +229,7 @@ simple d ts =
 
 -- the items of a list behind its brace, with the closing one
 unfoldable pub list_from : ℕ → ℕ → List RawExpr → Parser (List RawExpr)
-list_from d zero found ts = Err Syntax
+list_from d zero found ts = refused ts
 list_from d (suc turns) found ts =
     and_then (expression d conditional_level ts) (λ a ts.
     if sees Mark (codes "}") ts then Ok (found ++ a ∷ [], drop 1 ts)
@@ -243,7 +243,7 @@ list d ts = list_from d (length ts) [] ts
 unfoldable pub initialised : ℕ → ℕ → RawVar → Parser RawStatement
 initialised d line v ts =
     if sees Mark (codes "{") ts then and_then (list d (drop 1 ts)) (λ all ts. Ok (s.Declare line v (init.Items all), ts))
-    else if is_listed v.shape then Err Syntax
+    else if is_listed v.shape then refused ts
     else if sees_effect ts then effect d line (target.Declared v) ts
     else and_then (expression d conditional_level ts) (λ a ts. Ok (s.Declare line v (init.One a), ts))
 
@@ -252,7 +252,7 @@ unfoldable pub declared : ℕ → ℕ → RawType → Parser RawStatement
 declared d line b ts =
     and_then (declarator d b ts) (λ v ts.
     if sees Mark (codes "=") ts then initialised d line v (drop 1 ts)
-    else if is_listed v.shape then Err Syntax
+    else if is_listed v.shape then refused ts
     else Ok (s.Declare line v init.None, ts))
 
 -- a declaration with its semicolon

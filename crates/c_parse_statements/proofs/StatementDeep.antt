@@ -17,7 +17,7 @@ use Rattle.c_parse_expr.specs.ExprReading.{nested, expression}
 use Rattle.c_parse_expr.specs.TypeReading.{begins_type, base}
 use Rattle.c_parse_statements.specs.StatementReading as r
 use Rattle.c_parse_simple.specs.SimpleReading as reading
-use Rattle.c_parse_simple.specs.SimpleReading.{word, separated, nested_simple, nested_declared, nested_declaration, list}
+use Rattle.c_parse_simple.specs.SimpleReading.{word, nested_simple, nested_declared, nested_declaration}
 use Rattle.c_parse_statements.specs.StatementReading.{condition, for_declared, for_simple, for_init, for_step, sees_label, label, labels_from, labels, is_at_end, simple_statement, returned, listed, statements_from, statements, braced, body, alternative, arm_end, arm_of, arms_from, statement_with, nested_statement}
 use Rattle.c_parse_words.proofs.SeenTokens.{by_seen}
 use Rattle.c_parse_expr.proofs.Tests.{by_test, by_step, by_fault, by_expect, ok_parts, expect_fault}

@@ -17,11 +17,11 @@ use Rattle.c_language.specs.ExprGrammar.{IsExpr}
 use Rattle.c_language.specs.TypeGrammar.{IsBase, structure, integer}
 use Rattle.c_language.specs.Nesting.{nesting, greatest}
 use Rattle.c_language.specs.StatementGrammar.{IsSeparated, IsCall, bump_sign, IsSimple, AreDeclared, IsDeclaration, declaration, IsInit, IsStep, IsLabel, AreLabels, IsTest, test, arm, IsStatement, AreStatements, IsBody, IsElse, AreArms}
-use Rattle.c_language.specs.StatementNesting.{label_nesting, statement_nesting, body_nesting, arms_nesting}
+use Rattle.c_language.specs.StatementNesting.{label_nesting, statement_nesting, body_nesting}
 use Rattle.c_language.specs.declared.token.TokenKind.TheVariants.{Name, Mark}
 use Rattle.c_language.specs.declared.operators.Prefix.TheVariants.{Sign, Deref, AddressOf}
 use Rattle.c_arith.specs.declared.operators.UnaryOp.TheVariants.{Plus, Minus, Flip, Not}
-use Rattle.c_language.proofs.StatementNestingLemmas.{nesting-If, nesting-While, nesting-Do, part_nesting, nesting-For, nesting-Switch, nesting-Block, nesting-Return, nesting-arm}
+use Rattle.c_language.proofs.StatementNestingLemmas.{nesting-If, nesting-While, nesting-Do, part_nesting, nesting-For, nesting-Switch, nesting-Block, nesting-Return, nesting-arm, arms_nesting}
 use Rattle.c_parse_expr.specs.Outcome.{Outcome, Parser, expect}
 use Rattle.c_parse_expr.specs.TypeReading.{begins_type}
 use Rattle.c_parse_statements.specs.StatementReading as r

@@ -13,7 +13,7 @@ use Rattle.c_language.specs.ExprGrammar.{conditional_level}
 use Rattle.c_language.specs.StatementGrammar.{arm}
 use Rattle.c_language.specs.declared.token.Token.{Token}
 use Rattle.c_language.specs.declared.token.TokenKind.TheVariants.{Name, Mark}
-use Rattle.c_parse_expr.specs.Outcome.{Parser, and_then, Syntax, Deep, expect}
+use Rattle.c_parse_expr.specs.Outcome.{Parser, and_then, refused, Deep, expect}
 use Rattle.c_parse_expr.specs.ExprReading.{nested, expression}
 use Rattle.c_parse_expr.specs.TypeReading.{begins_type, base}
 use Rattle.c_parse_simple.specs.SimpleReading.{word, simple, nested_simple, nested_declared, nested_declaration}
@@ -55,7 +55,7 @@ label d ts =
 
 -- one label or more; each turn reads one
 unfoldable pub labels_from : ℕ → ℕ → List RawLabel → Parser (List RawLabel)
-labels_from d zero found ts = Err Syntax
+labels_from d zero found ts = refused ts
 labels_from d (suc turns) found ts =
     and_then (label d ts) (λ a ts. if sees_label ts then labels_from d turns (found ++ a ∷ []) ts else Ok (found ++ a ∷ [], ts))
 
@@ -130,14 +130,14 @@ module _ (inner : Parser RawStatement) (d : ℕ) where
   unfoldable pub arm_end : Bool → List RawLabel → List RawStatement → Parser (RawArm × Bool)
   arm_end is_empty marks all ts =
       if sees Name (codes "break") ts then and_then (expect (codes ";") (drop 1 ts)) (λ _ ts. Ok ((arm marks all, true), ts))
-      else if is_empty then Err Syntax
+      else if is_empty then refused ts
       else and_then (expect (codes "}") ts) (λ _ ts. Ok ((arm marks all, false), ts))
 
   unfoldable pub arm_of : Parser (RawArm × Bool)
   arm_of ts = and_then (labels d ts) (λ marks mid. and_then (statements mid) (λ all ts. arm_end (sees Mark (codes "}") mid) marks all ts))
 
   unfoldable pub arms_from : ℕ → List RawArm → Parser (List RawArm)
-  arms_from zero found ts = Err Syntax
+  arms_from zero found ts = refused ts
   arms_from (suc turns) found ts =
       if sees Mark (codes "}") ts then Ok (found, drop 1 ts)
       else and_then (arm_of ts) (λ x ts. if x.1 then arms_from turns (found ++ x.0 ∷ []) ts else Ok (found ++ x.0 ∷ [], ts))

@@ -31,11 +31,16 @@ use Rattle.c_tree.specs.declared.statement.Amount.{Amount}
 use Rattle.c_tree.specs.declared.statement.Amount.TheVariants as amount
 use Rattle.c_tree.specs.declared.statement.Label.{Label}
 use Rattle.c_tree.specs.declared.statement.Label.TheVariants as label
+use Rattle.c_tree.specs.declared.statement.Arm.{Arm, fold-Arm}
 use Rattle.c_language.specs.Words.{Bytes, joined, assign_sign, int_words, binary_sign, signed, begins_with, name_of_var, name_of_function, name_of_struct, name_of_member, declared, base_step, base_words, stars_step, stars, lengths_step, lengths, spaced_stars, type_words, expr_step, expr_words}
 use Rattle.c_language.specs.Tokens.{is_feed, line_feeds}
 use Rattle.c_language.specs.Layout.{indent, line, init_words, var_words, target_words, size_words, amount_words, cast_words, call_words, bump_words, return_words, label_words, label_lines}
-use Rattle.c_print.specs.Feedless.{feedless, type_step, type_feedless, expr_feedless, init_feedless, target_feedless, size_feedless, amount_feedless, label_feedless, var_feedless, member_feedless, struct_feedless, function_feedless, IsFeedless}
+use Rattle.c_print.specs.Feedless.{feedless, statement_step, arm_step, type_step, type_feedless, expr_feedless, init_feedless, target_feedless, size_feedless, amount_feedless, label_feedless, var_feedless, member_feedless, struct_feedless, function_feedless, IsFeedless}
 use Rattle.c_print.specs.Feedless as spec
+
+-- no text of the arm holds a line feed
+abbrev pub arm_feedless : Arm → Bool
+arm_feedless = fold-Arm Bool Bool statement_step arm_step
 
 -- ---- bytes
 

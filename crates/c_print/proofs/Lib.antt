@@ -11,16 +11,3 @@ pub mod StartLemmas
 pub mod OpeningLemmas
 pub mod LineLaws
 pub mod Rules
-pub mod RawWordLemmas
-pub mod TokenPrint
-pub mod ExprPrint
-pub mod RawTypeLemmas
-pub mod TypePrint
-pub mod RawStatementLemmas
-pub mod SimplePrint
-pub mod DecimalPrint
-pub mod Declarations
-pub mod DeclaredPrint
-pub mod StatementPrint
-pub mod ItemPrint
-pub mod TextPrint

@@ -19,12 +19,12 @@ use Rattle.c_language.specs.Layout.{indent, line, var_words, init_words, target_
 use Rattle.c_language.proofs.LayoutLemmas.{block_lines-laid}
 use Rattle.c_print.specs.Arms.{arm_laid}
 use Rattle.c_print.specs.Lines.{Placed, placed, arm_placed, simple, heights, else_height, own_starts, part_starts, starts_from, block_starts}
-use Rattle.c_print.specs.Feedless.{feedless, each, type_feedless, expr_feedless, target_feedless, amount_feedless, statement_feedless, arm_feedless, statement_step, arm_step, label_feedless, IsFeedless}
+use Rattle.c_print.specs.Feedless.{feedless, each, type_feedless, expr_feedless, target_feedless, amount_feedless, statement_feedless, statement_step, arm_step, label_feedless, IsFeedless}
+use Rattle.c_print.proofs.FeedLemmas.{arm_feedless, cat, feeds-append, no_feeds, indent_feedless, indent_feeds, line_feeds-line, call_feedless, assign_feedless, var_words_feedless, expr_words_feedless, args_feedless, init_words_feedless, target_words_feedless, amount_words_feedless, cast_words_feedless, bump_words_feedless, return_words_feedless, call_of_feedless, label_feeds}
 use Rattle.c_print.specs.StartsOn.{opening, if_line, StandsBehind, itself, met, otherwise, while, repeated, block, first_part, step, turn, switch, ListBehind, first, later, ArmsBehind, inside, after}
 use Rattle.c_print.proofs.StatementWords.{words-Declare, words-Assign, words-Bump, words-Invoke, words-Fetch, words-Write, words-Print, words-Heap, words-Release, words-Return, words-If, words-While, words-Do, words-For, words-Switch, words-Block}
 use Rattle.c_print.proofs.StatementLines.{lines-Declare, lines-Assign, lines-Bump, lines-Invoke, lines-Fetch, lines-Write, lines-Print, lines-Heap, lines-Release, lines-Return, lines-If, lines-While, lines-Do, lines-For, lines-Switch, lines-Block, arm_laid-parts}
 use Rattle.c_print.proofs.PlacedLemmas.{placed-Declare, placed-Assign, placed-Bump, placed-Invoke, placed-Fetch, placed-Write, placed-Print, placed-Heap, placed-Release, placed-Return, placed-If, placed-While, placed-Do, placed-For, placed-Switch, placed-Block, placed-arm, placed-own}
-use Rattle.c_print.proofs.FeedLemmas.{cat, feeds-append, no_feeds, indent_feedless, indent_feeds, line_feeds-line, call_feedless, assign_feedless, var_words_feedless, expr_words_feedless, args_feedless, init_words_feedless, target_words_feedless, amount_words_feedless, cast_words_feedless, bump_words_feedless, return_words_feedless, call_of_feedless, label_feeds}
 
 -- a statement of a statement at this level that begins on line k: the number has its line
 pub record IsStarted (p : Program) (n : ℕ) (outer : Statement) (k : ℕ) (x : Start) : Type 0 where

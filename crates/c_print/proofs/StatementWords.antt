@@ -1,5 +1,5 @@
 -- The words and the lines of each form of statement.
-use Rattle.std.proofs.Common.{◌≡◌, ℕ, suc, List, [], ◌∷◌, ◌++◌, Bool, Option, Some, None, map, codes, append_assoc, append-nil, refl, sym, ap, ◌∙◌}
+use Rattle.std.proofs.Common.{◌≡◌, ℕ, List, [], ◌∷◌, ◌++◌, Bool, Option, map, codes, append_assoc, append-nil, ap, ◌∙◌}
 use Rattle.std.specs.Option.{option_map}
 use Rattle.c_arith.specs.declared.operators.BinaryOp.{BinaryOp}
 use Rattle.c_tree.specs.declared.types.CType.{CType}
@@ -19,9 +19,6 @@ use Rattle.c_language.proofs.LayoutLemmas.{laid-Declare, laid-Assign, laid-Bump,
 
 words_at : {a b : Laid} → a ≡ b → a.words ≡ b.words
 words_at e = ap (λ (x : Laid). x.words) e
-
-lines_at : {a b : Laid} (n : ℕ) → a ≡ b → a.lines n ≡ b.lines n
-lines_at n e = ap (λ (x : Laid). x.lines n) e
 
 pub words-Declare : (p : Program) (id : Option ℕ) (l x : ℕ) (i : Init) → statement_words p (s.Declare id l x i) ≡ var_words p x ++ init_words p i
 words-Declare p id l x i = words_at (laid-Declare p id l x i)

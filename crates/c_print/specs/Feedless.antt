@@ -25,7 +25,6 @@ use Rattle.c_tree.specs.declared.statement.Label.{Label}
 use Rattle.c_tree.specs.declared.statement.Label.TheVariants as label
 use Rattle.c_tree.specs.declared.statement.Statement.{Statement, fold-Statement}
 use Rattle.c_tree.specs.declared.statement.Statement.TheOpen.{Statement-F, Arm-F}
-use Rattle.c_tree.specs.declared.statement.Arm.{Arm, fold-Arm}
 use Rattle.c_language.specs.Words.{Bytes}
 use Rattle.c_language.specs.Tokens.{is_feed}
 
@@ -122,9 +121,6 @@ arm_step a = list_all label_feedless a.labels && each a.body
 
 abbrev pub statement_feedless : Statement → Bool
 statement_feedless = fold-Statement Bool Bool statement_step arm_step
-
-abbrev pub arm_feedless : Arm → Bool
-arm_feedless = fold-Arm Bool Bool statement_step arm_step
 
 -- ---- programs
 

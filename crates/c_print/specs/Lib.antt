@@ -2,10 +2,6 @@ pub mod Signs
 pub mod Lists
 pub mod Levels
 pub mod Arms
-pub mod Written
-pub mod SpacedWords
-pub mod RawLayout
-pub mod Settled
 pub mod Lines
 pub mod Feedless
 pub mod StartsOn

@@ -1,6 +1,5 @@
 //! What stands before the body of a function: its type, name and parameters (ISO C99 6.7.5.3).
-ghost use Rattle.std.specs.Prelude.{◌≡◌, ◌++◌, ◌<◌, OnOk, codes, length, map, slice_get, Some};
-ghost use Rattle.c_language.specs.Words as words;
+ghost use Rattle.std.specs.Prelude.{◌≡◌, ◌++◌, ◌<◌, OnOk, codes, map, Some};
 ghost use Rattle.c_language.specs.Layout as spec;
 ghost use Rattle.c_print.specs.Lists as lists;
 

@@ -14,7 +14,7 @@ mod names;
 mod parts;
 mod statements;
 #[cfg(test)]
-mod tests;
+mod trees;
 mod types;
 mod words;
 

@@ -1,5 +1,5 @@
 //! The indentation of a line.
-ghost use Rattle.std.specs.Prelude.{◌≡◌, ℕ, suc, ◌++◌, ◌<◌, codes, OnOk};
+ghost use Rattle.std.specs.Prelude.{◌≡◌, ℕ, suc, ◌++◌, ◌<◌, OnOk};
 ghost use Rattle.c_language.specs.Layout.{indent};
 
 use c_tree::Text;

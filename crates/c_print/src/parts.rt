@@ -1,5 +1,5 @@
 //! The parts of statements and declarations.
-ghost use Rattle.std.specs.Prelude.{◌≡◌, ◌++◌, OnOk, codes};
+ghost use Rattle.std.specs.Prelude.{◌≡◌, ◌++◌, OnOk};
 ghost use Rattle.c_language.specs.Words as words;
 ghost use Rattle.c_language.specs.Layout as spec;
 

@@ -1,11 +1,11 @@
 //! The lines of statements and their bodies.
-ghost use Rattle.std.specs.Prelude.{◌≡◌, ℕ, suc, ◌++◌, OnOk, codes, map};
+ghost use Rattle.std.specs.Prelude.{◌≡◌, suc, ◌++◌, OnOk, codes, map};
 ghost use Rattle.c_language.specs.Words.{expr_words};
 ghost use Rattle.c_language.specs.Layout as spec;
 ghost use Rattle.c_language.specs.Layout.{laid, statement_words, statement_lines, body_lines};
 ghost use Rattle.c_print.specs.Arms.{arm_laid};
 
-use crate::expressions::{enclosed, expression};
+use crate::expressions::enclosed;
 use crate::margin::Margin;
 use crate::words::words;
 use c_tree::{Arm, Expr, Label, Program, Statement, Text};

@@ -8,9 +8,7 @@ ghost use Rattle.c_language.specs.Layout.{laid, statement_words};
 use crate::expressions::{behind_commas, enclosed, expression, joined};
 use crate::names::name_of_function;
 use crate::parts::{amount, assign_sign, bump, init, pointer_cast, returned, target, variable};
-use c_tree::{
-    Amount, BinaryOp, Boxed, CType, Expr, FunctionId, Items, Program, Statement, Target, Text,
-};
+use c_tree::{Amount, BinaryOp, Boxed, CType, Expr, FunctionId, Items, Program, Statement, Text};
 use std::alloc::AllocError;
 
 /// Appends an assignment (ISO C99 6.5.16).

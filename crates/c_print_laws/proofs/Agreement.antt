@@ -1,6 +1,7 @@
 -- Types that agree are written in the same words.
 use Rattle.std.proofs.Common.{◌≡◌, ◌≢◌, ℕ, List, [], ◌∷◌, ◌++◌, true, Option, Some, None, codes, refl, sym, ap, ap₂, subst, ◌∙◌, arith, eqb-true}
 use Rattle.std.specs.Prelude.{option_map, Contains}
+use Rattle.std.proofs.lemmas.Bool.{and_parts}
 use Rattle.c_arith.specs.declared.int_type.IntType.{IntType}
 use Rattle.c_arith.specs.declared.int_type.IntType.TheVariants.{Char, UChar, Short, UShort, Int, UInt, Long, ULong}
 use Rattle.c_tree.specs.declared.types.CType.{CType}
@@ -10,24 +11,27 @@ use Rattle.c_tree.specs.declared.raw.expr.RawType.{RawType, map-RawType, fold-ro
 use Rattle.c_tree.specs.declared.raw.expr.RawType.TheOpen.{RawType-F}
 use Rattle.c_tree.specs.declared.raw.expr.RawType.TheVariants as type
 use Rattle.c_tree.specs.declared.raw.program.RawProgram.{RawProgram}
+use Rattle.c_tree.proofs.RawTrees.{TypeParts, type_layer, of_every_type}
 use Rattle.c_language.specs.Words.{Bytes, int_words, name_of_struct, base_words, stars, declared, type_words, spaced_stars}
 use Rattle.c_language.specs.DeclaredTypes.{struct_id, length_in, of_base, with_layer, integer, pointer_to, type_step, written_type}
 use Rattle.c_language.specs.ExprTypes.{same_int, same_base, same_layers, same_type}
 use Rattle.c_language.specs.NameRules.{agree}
-use Rattle.c_language.specs.Uses.{tags_step, tags_in}
+use Rattle.c_language.specs.Uses.{tags_in}
 use Rattle.c_language.specs.ProgramOf.{ctype_step, ctype}
 use Rattle.c_language.specs.declared.expr_type.Layer.{Layer}
 use Rattle.c_language.specs.declared.expr_type.Layer.TheVariants.{Pointer, Array}
 use Rattle.c_language.specs.declared.expr_type.Base.{Base}
 use Rattle.c_language.specs.declared.expr_type.Base.TheVariants as base
 use Rattle.c_language.specs.declared.expr_type.ExprType.{ExprType}
-use Rattle.c_print.specs.RawLayout.{raw_base_step, raw_base, raw_stars_step, raw_stars, raw_lengths, raw_declared, raw_type_words}
-use Rattle.c_print.proofs.RawTypeLemmas.{raw_lengths-Integer, raw_lengths-PointerTo, raw_lengths-Struct}
-use Rattle.c_print_laws.proofs.Options.{some_same, map_there, then_there}
-use Rattle.c_print_laws.proofs.Trees.{TypeParts, type_layer, of_every_type}
+use Rattle.c_text_layout.specs.RawLayout.{raw_base_step, raw_base, raw_stars_step, raw_stars, raw_lengths, raw_declared, raw_type_words}
+use Rattle.c_text_layout.proofs.RawTypeLemmas.{raw_lengths-Integer, raw_lengths-PointerTo, raw_lengths-Struct}
+use Rattle.c_print_laws.proofs.Options.{map_there, then_there}
+use Rattle.c_language.proofs.Tests.{false_true}
+use Rattle.c_language.proofs.UseLemmas.{tags-PointerTo, tags-Struct}
 use Rattle.c_print_laws.proofs.Named.{IsNamed}
 use Rattle.c_print_laws.proofs.TypeLayout.{type_layout, declared_layout, nameless_layout}
-use Rattle.c_print_laws.proofs.Definitions.{false_true, and_parts, IsPlain}
+use Rattle.c_print_laws.proofs.Definitions.{IsPlain}
+use Rattle.c_language.proofs.Options.{some_same}
 
 same_int_words : (s t : IntType) → same_int s t ≡ true → int_words s ≡ int_words t
 same_int_words Char Char h = refl
@@ -142,12 +146,6 @@ ctype-PointerTo raw a = ap (ctype raw) (sym (type.rolls-PointerTo a)) ∙ fold-r
 
 ctype-Struct : (raw : RawProgram) (tag : Bytes) → ctype raw (type.Struct tag) ≡ option_map t.Struct (struct_id raw tag)
 ctype-Struct raw tag = ap (ctype raw) (sym (type.rolls-Struct tag)) ∙ fold-roll-RawType (Option CType) (ctype_step raw 0) (RawType-F.Struct tag)
-
-tags-PointerTo : (a : RawType) → tags_in (type.PointerTo a) ≡ tags_in a
-tags-PointerTo a = ap tags_in (sym (type.rolls-PointerTo a)) ∙ fold-roll-RawType (List Bytes) tags_step (RawType-F.PointerTo a)
-
-tags-Struct : (tag : Bytes) → tags_in (type.Struct tag) ≡ tag ∷ []
-tags-Struct tag = ap tags_in (sym (type.rolls-Struct tag)) ∙ fold-roll-RawType (List Bytes) tags_step (RawType-F.Struct tag)
 
 -- a type with no lengths has none
 pub plain_lengths : {a : RawType} → IsPlain a → raw_lengths 0 a ≡ []

@@ -39,12 +39,13 @@ use Rattle.c_language.specs.CallRules.{later_args, format_in, without_result, Mi
 use Rattle.c_language.specs.Uses.{is_one_of, init_exprs, arg_exprs, counts}
 use Rattle.c_language.specs.ProgramOf.{ctype, ctype_if, expr_of, exprs_of, init_of, variable_number, arg_tree, args_tree, only_tree, print_tree, invoke_tree, call_tree, size_tree, amount_tree, heap_tree, optional}
 use Rattle.c_language.proofs.LayoutLemmas.{laid-Invoke, laid-Fetch, laid-Write, laid-Print, laid-Heap, laid-Release}
-use Rattle.c_print.specs.RawLayout.{raw_init_words, raw_target_words, raw_arg_words, raw_pointee_words, raw_size_words, raw_amount_words, raw_cast_words}
-use Rattle.c_print_laws.proofs.Options.{none_there, some_same, map_there, then_there, both_there, collected_are, cons_nil, first_same, rest_same}
+use Rattle.c_text_layout.specs.RawLayout.{raw_init_words, raw_target_words, raw_arg_words, raw_pointee_words, raw_size_words, raw_amount_words, raw_cast_words}
+use Rattle.c_print_laws.proofs.Options.{map_there, then_there, both_there, collected_are, cons_nil, first_same, rest_same}
 use Rattle.c_print_laws.proofs.Operands.{KeepsAll}
 use Rattle.c_print_laws.proofs.Named.{IsNamed, Fits}
 use Rattle.c_print_laws.proofs.ExprLayout.{variable_named, expr_layout, exprs_layout}
 use Rattle.c_print_laws.proofs.TypeLayout.{nameless_layout}
+use Rattle.c_language.proofs.Options.{none_there, some_same}
 
 pub optional_there : {A : Type 0} (x : Option (Option A)) (y : Option A) → optional x ≡ Some y → x ≡ option_map Some y
 optional_there None y h = ap (option_map Some) (some_same h)

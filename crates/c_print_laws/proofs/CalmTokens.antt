@@ -2,7 +2,7 @@
 use Rattle.std.proofs.Common.{◌≡◌, ℕ, zero, suc, ◌+◌, ◌<◌, List, [], ◌∷◌, ◌++◌, Bool, true, false, not, ◌||◌, codes, refl, sym, ap, subst, ◌∙◌, arith, reverse, true≢false}
 use Rattle.std.specs.Prelude.{◌==◌, bytes_eq, Contains}
 use Rattle.std.specs.List.{list_all}
-use Rattle.std.proofs.lemmas.Bool.{and_parts, not-true}
+use Rattle.std.proofs.lemmas.Bool.{and_parts, not-true, or_left}
 use Rattle.std.proofs.lemmas.Slice.Eq.{bytes_eq-Decides}
 use Rattle.std.proofs.lemmas.List.{reverse-append, append_assoc}
 use Rattle.c_arith.specs.declared.int_type.IntType.{IntType}
@@ -25,7 +25,7 @@ use Rattle.c_language.specs.declared.operators.Prefix.{Prefix}
 use Rattle.c_language.specs.declared.operators.Prefix.TheVariants.{Sign, Deref, AddressOf}
 use Rattle.c_language.specs.declared.operators.Selector.{Selector}
 use Rattle.c_language.specs.declared.operators.Selector.TheVariants.{Dot, Arrow}
-use Rattle.c_print.proofs.TokenPrint.{by_answer}
+use Rattle.c_text_layout.proofs.TokenPrint.{by_answer}
 
 -- ---- no token of a list begins a left-out construct
 
@@ -65,10 +65,6 @@ calm_by Directive w = false
 
 abbrev pub is_calm : Token → Bool
 is_calm t = calm_by t.kind t.text
-
-or_left : (a b : Bool) → a ≡ true → (a || b) ≡ true
-or_left true b h = refl
-or_left false b h = absurd (true≢false (sym h))
 
 not_or : (a b : Bool) → not (a || b) ≡ true → (a ≡ false) × (not b ≡ true)
 not_or true b h = absurd (true≢false (sym h))
@@ -180,7 +176,7 @@ all_calm (v ∷ vs) h =
     let b = all_calm vs (λ w k. h w (later_counted w v vs k)) in
     rw (a, b) refl
 
-contained : {A : Type 0} (f : A → Bool) (xs : List A) (x : A) → list_all f xs ≡ true → Contains xs x → f x ≡ true
+pub contained : {A : Type 0} (f : A → Bool) (xs : List A) (x : A) → list_all f xs ≡ true → Contains xs x → f x ≡ true
 contained f [] x h c = absurd (omega (arith, c.1))
 contained f (y ∷ ys) x h (zero, within, is) = ap f (sym is) ∙ (and_parts (f y) (list_all f ys) h).0
 contained f (y ∷ ys) x h (suc k, within, is) = contained f ys x (and_parts (f y) (list_all f ys) h).1 (k, omega (arith, within), is)

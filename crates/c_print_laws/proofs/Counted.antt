@@ -12,6 +12,7 @@ use Rattle.c_tree.specs.declared.raw.expr.RawType.TheOpen.{RawType-F}
 use Rattle.c_tree.specs.declared.raw.expr.RawVar.{RawVar}
 use Rattle.c_tree.specs.declared.raw.program.RawInit.TheVariants as init
 use Rattle.c_tree.specs.declared.raw.program.RawProgram.{RawProgram}
+use Rattle.c_tree.proofs.RawTrees.{TypeParts, type_layer, of_every_type}
 use Rattle.c_language.specs.ArrayRules.{element_in, count_in, count_of, MisusesInitialiser}
 use Rattle.c_language.specs.DeclaredTypes.{struct_id, length_in, with_layer, of_base, type_step, type_with, integer, pointer_to}
 use Rattle.c_language.specs.Limits.{length_step, longest, longest_in_variables, array_length}
@@ -24,8 +25,8 @@ use Rattle.c_language.specs.declared.expr_type.Base.{Base}
 use Rattle.c_language.specs.declared.expr_type.Layer.TheVariants.{Pointer, Array}
 use Rattle.c_language.specs.declared.expr_type.Base.TheVariants as base
 use Rattle.c_language.specs.declared.expr_type.ExprType.{ExprType}
-use Rattle.c_print_laws.proofs.Options.{none_there, some_same, map_there, both_there}
-use Rattle.c_print_laws.proofs.Trees.{TypeParts, type_layer, of_every_type}
+use Rattle.c_language.proofs.Options.{none_there, some_same}
+use Rattle.c_print_laws.proofs.Options.{map_there, both_there}
 
 longest-Array : (a : CType) (n : ℕ) (words : _) → longest (t.Array a n words) ≡ max n (longest a)
 longest-Array a n words = ap longest (sym (t.rolls-Array a n words)) ∙ fold-roll-CType ℕ length_step (CType-F.Array a n words)

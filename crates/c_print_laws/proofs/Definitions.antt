@@ -3,6 +3,7 @@ use Rattle.std.proofs.Common.{◌≡◌, ℕ, zero, suc, ◌+◌, List, [], ◌�
 use Rattle.std.specs.Prelude.{is_some, if◌then◌else◌, bytes_eq}
 use Rattle.std.specs.Option.{option_map_or}
 use Rattle.std.proofs.lemmas.Slice.Eq.{bytes_eq-Decides}
+use Rattle.std.proofs.lemmas.Bool.{and_parts}
 use Rattle.c_arith.specs.declared.int_type.IntType.{IntType}
 use Rattle.c_tree.specs.declared.raw.expr.RawType.{RawType}
 use Rattle.c_tree.specs.declared.raw.expr.RawType.TheVariants as type
@@ -20,12 +21,13 @@ use Rattle.c_language.specs.ItemGrammar.{are_named}
 use Rattle.c_language.specs.DeclaredTypes.{defined_functions, functions_of, function_id}
 use Rattle.c_language.specs.Scopes.{Scope, outset, with_named, scope_of_parameters, entered, with_parameter}
 use Rattle.c_language.specs.Phrases.{phrase, EndsFunction, DeclaresFunction, parameter_phrases, head_phrases, body_phrases, item_phrases, after_item, items_phrases, phrases}
-use Rattle.c_language.specs.ProgramOf.{collected, ctype, ctype_with, ctype_if, variable_of, variables_in, parameter_ids, function_tree, functions_from, body_of, items_of, variables_of, structs_of, program_with, program_of, struct_tree, items_from}
+use Rattle.c_language.specs.ProgramOf.{ctype, ctype_with, ctype_if, variables_in, parameter_ids, function_tree, functions_from, body_of, items_of, variables_of, structs_of, program_with, program_of, struct_tree, items_from}
 use Rattle.c_language.specs.ProgramOf as tree
 use Rattle.c_language.specs.DeclaredTypes.{defined_structs}
 use Rattle.c_language.specs.Phrases.{scope_at_end}
-pub use Rattle.c_print_laws.proofs.Options.{false_true, and_parts}
-use Rattle.c_print_laws.proofs.Options.{none_there, some_same, map_there, then_there, both_there, collected_are, cons_nil, first_same, rest_same}
+use Rattle.c_language.proofs.Options.{none_there, some_same}
+use Rattle.c_language.proofs.Tests.{false_true}
+use Rattle.c_print_laws.proofs.Options.{map_there, then_there, both_there, collected_are, cons_nil, first_same, rest_same}
 use Rattle.c_print_laws.proofs.Named.{positioned}
 use Rattle.c_print_laws.proofs.Told.{AreTold, told_first, told_rest, told_later}
 use Rattle.c_print_laws.proofs.Numbers.{parameter_count, item_variables, function_variables, define_functions, prototype_functions}

@@ -8,6 +8,7 @@ use Rattle.c_tree.specs.declared.program.Program.{Program}
 use Rattle.c_tree.specs.declared.raw.expr.RawExpr.{RawExpr, map-RawExpr, fold-RawExpr, fold-roll-RawExpr}
 use Rattle.c_tree.specs.declared.raw.expr.RawExpr.TheOpen.{RawExpr-F}
 use Rattle.c_tree.specs.declared.raw.program.RawProgram.{RawProgram}
+use Rattle.c_tree.proofs.RawTrees.{ExprParts, expr_layer, of_every_expr}
 use Rattle.c_language.specs.Words.{Bytes, signed, binary_sign, int_words, expr_words, name_of_var}
 use Rattle.c_language.specs.ConstantEvaluation.{both, constant, literal_type, literal_value}
 use Rattle.c_language.specs.Scopes.{Meaning, Scope, meaning_in}
@@ -16,12 +17,12 @@ use Rattle.c_language.specs.ProgramOf.{Told, told_step, expr_of, variable_number
 use Rattle.c_language.specs.declared.expr_type.Operand.{Operand}
 use Rattle.c_language.specs.declared.expr_type.ExprType.{ExprType}
 use Rattle.c_language.proofs.WordLemmas.{expr_words-Constant, expr_words-Null, expr_words-Eof, expr_words-Variable, expr_words-Unary, expr_words-Deref, expr_words-AddressOf, expr_words-Binary, expr_words-AndAlso, expr_words-OrElse, expr_words-Choose, expr_words-Cast, expr_words-Index, expr_words-Member, expr_words-Arrow, expr_words-Paren}
-use Rattle.c_print.specs.SpacedWords.{spaced_words}
-use Rattle.c_print_laws.proofs.Options.{IsThere, none_there, some_same, map_there, then_there, both_there, cons_nil, first_same, rest_same}
+use Rattle.c_text_layout.specs.SpacedWords.{spaced_words}
+use Rattle.c_print_laws.proofs.Options.{map_there, then_there, both_there, cons_nil, first_same, rest_same}
 use Rattle.c_print_laws.proofs.Operands.{KeepsAll}
 use Rattle.c_print_laws.proofs.SpacedWords.{constant_spaced, words_spaced}
-use Rattle.c_print_laws.proofs.Trees.{ExprParts, expr_layer, of_every_expr}
 use Rattle.c_print_laws.proofs.Named.{IsNamed, Fits, fits_found, fits_typed}
+use Rattle.c_language.proofs.Options.{IsThere, none_there, some_same}
 
 module _ (raw : RawProgram) (p : Program) (named : IsNamed raw p) (scope : Scope) (fits : Fits p scope) where
   abbrev HasWords : RawExpr → Type 0

@@ -2,7 +2,8 @@
 use Rattle.std.proofs.Common.{◌≡◌, ℕ, List, [], ◌∷◌, map, Bool, true, ◌&&◌, Some, None, refl, sym, ap, ap₂, subst, ◌∙◌}
 use Rattle.std.specs.List.{list_all}
 use Rattle.std.specs.Option.{option_map_or}
-use Rattle.c_tree.specs.Unlined.{unlined, unlined_of_arm, unlined_step, unlined_arm, unlined_var, unlined_function, SameButLines}
+use Rattle.std.proofs.lemmas.Bool.{and_from, and_parts}
+use Rattle.c_tree.specs.Unlined.{unlined, unlined_step, unlined_arm, unlined_var, unlined_function, SameButLines}
 use Rattle.c_tree.specs.declared.program.Program.{Program}
 use Rattle.c_tree.specs.declared.program.Member.{Member}
 use Rattle.c_tree.specs.declared.program.StructDef.{StructDef}
@@ -19,21 +20,24 @@ use Rattle.c_tree.specs.declared.raw.program.RawItem.{RawItem}
 use Rattle.c_tree.specs.declared.raw.program.RawItem.TheVariants.{Include, Tag, Struct, Global, Prototype, Define}
 use Rattle.c_tree.specs.declared.raw.program.RawProgram.{RawProgram}
 use Rattle.c_tree.specs.declared.raw.statement.RawStatement.{RawStatement}
+use Rattle.c_tree.proofs.UnlinedLemmas.{unlined_of_arm}
 use Rattle.c_language.specs.DeclaredTypes.{StructText, structs_of, defined_structs, struct_id, function_id}
 use Rattle.c_language.specs.Scopes.{Scope, outset, with_variable, entered}
 use Rattle.c_language.specs.Phrases.{after_item}
 use Rattle.c_language.specs.ProgramOf.{collected, ctype, ctype_if, init_of, member_tree, struct_tree, body_of, function_tree, functions_from, item_tree, items_from, program_of}
 use Rattle.c_language.specs.Programs.{IsWellFormed}
-use Rattle.c_print.specs.Feedless.{feedless, each, type_feedless, expr_feedless, statement_step, arm_step, statement_feedless, arm_feedless, label_feedless, var_feedless, member_feedless, struct_feedless, function_feedless, name_feedless, item_feedless, IsFeedless}
-use Rattle.c_print.proofs.TextPrint.{formed_written}
-use Rattle.c_print_laws.proofs.Options.{some_same, map_there, both_there, collected_are, and_parts, cons_nil, first_same, rest_same}
+use Rattle.c_print.specs.Feedless.{feedless, each, type_feedless, expr_feedless, statement_step, arm_step, statement_feedless, label_feedless, var_feedless, member_feedless, struct_feedless, function_feedless, name_feedless, item_feedless, IsFeedless}
+use Rattle.c_print.proofs.FeedLemmas.{arm_feedless}
+use Rattle.c_text_layout.proofs.TextPrint.{formed_written}
+use Rattle.c_print_laws.proofs.Options.{map_there, both_there, collected_are, cons_nil, first_same, rest_same}
 use Rattle.c_print_laws.proofs.Definitions.{program_parts}
 use Rattle.c_print_laws.proofs.LineLess.{zero_line, unlined_rolls}
-use Rattle.c_print_laws.proofs.RawFeedless.{raw_type_feedless, raw_var_feedless, raw_init_feedless, raw_body_feedless, raw_member_feedless, raw_param_feedless, raw_head_feedless, raw_item_feedless, raw_items_feedless, both_feedless}
+use Rattle.c_print_laws.proofs.RawFeedless.{raw_type_feedless, raw_var_feedless, raw_init_feedless, raw_body_feedless, raw_member_feedless, raw_param_feedless, raw_head_feedless, raw_item_feedless, raw_items_feedless}
 use Rattle.c_print_laws.proofs.FeedlessTokens.{program_of_tokens}
 use Rattle.c_print_laws.proofs.FeedlessTypes.{all_given, type_given, optional_type_given}
 use Rattle.c_print_laws.proofs.FeedlessStatements.{init_given, body_given}
 use Rattle.c_print_laws.proofs.FeedlessVariables.{variables_given}
+use Rattle.c_language.proofs.Options.{some_same}
 
 module _ (raw : RawProgram) where
   -- ---- struct types
@@ -42,7 +46,7 @@ module _ (raw : RawProgram) where
   member_given m x h is =
       let p = and_parts (feedless m.name) (raw_type_feedless m.shape) h in
       let g = map_there _ (ctype raw m.shape) x is in
-      ap member_feedless (sym g.same) ∙ both_feedless p.0 (type_given raw 0 m.shape p.1 g.value g.there)
+      ap member_feedless (sym g.same) ∙ and_from _ _ p.0 (type_given raw 0 m.shape p.1 g.value g.there)
 
   abbrev text_feedless : StructText → Bool
   text_feedless d = feedless d.tag && list_all raw_member_feedless d.members
@@ -52,13 +56,13 @@ module _ (raw : RawProgram) where
       let p = and_parts (feedless d.tag) (list_all raw_member_feedless d.members) h in
       let g = map_there _ (collected (map (member_tree raw) d.members)) x is in
       ap struct_feedless (sym g.same)
-      ∙ both_feedless p.0 (all_given (member_tree raw) raw_member_feedless member_feedless member_given d.members g.value p.1 (collected_are (map (member_tree raw) d.members) g.value g.there))
+      ∙ and_from _ _ p.0 (all_given (member_tree raw) raw_member_feedless member_feedless member_given d.members g.value p.1 (collected_are (map (member_tree raw) d.members) g.value g.there))
 
   texts_feedless : (xs : List RawItem) → raw_items_feedless xs ≡ true → list_all text_feedless (structs_of xs) ≡ true
   texts_feedless [] h = refl
   texts_feedless (Include is_stdlib ∷ xs) h = texts_feedless xs h
   texts_feedless (Tag l tag ∷ xs) h = texts_feedless xs h
-  texts_feedless (Struct l tag members ∷ xs) h = let p = and_parts (raw_item_feedless (Struct l tag members)) (raw_items_feedless xs) h in both_feedless p.0 (texts_feedless xs p.1)
+  texts_feedless (Struct l tag members ∷ xs) h = let p = and_parts (raw_item_feedless (Struct l tag members)) (raw_items_feedless xs) h in and_from _ _ p.0 (texts_feedless xs p.1)
   texts_feedless (Global l v i is_static ∷ xs) h = texts_feedless xs (and_parts (raw_item_feedless (Global l v i is_static)) (raw_items_feedless xs) h).1
   texts_feedless (Prototype l head ∷ xs) h = texts_feedless xs (and_parts (raw_item_feedless (Prototype l head)) (raw_items_feedless xs) h).1
   texts_feedless (Define l head body ∷ xs) h = texts_feedless xs (and_parts (raw_item_feedless (Define l head body)) (raw_items_feedless xs) h).1
@@ -73,7 +77,7 @@ module _ (raw : RawProgram) where
       let inside = entered raw head scope in
       let g = both_there _ (ctype_if raw head.result) (body_of raw body inside) f is in
       ap function_feedless (sym g.same)
-      ∙ both_feedless p.0 (both_feedless (optional_type_given raw head.result g.left q.0 g.left_there) (body_given raw body inside g.right both.1 g.right_there))
+      ∙ and_from _ _ p.0 (and_from _ _ (optional_type_given raw head.result g.left q.0 g.left_there) (body_given raw body inside g.right both.1 g.right_there))
 
   functions_given : (xs : List RawItem) (scope : Scope) (fs : List Function) → raw_items_feedless xs ≡ true → functions_from raw xs scope ≡ map Some fs → list_all function_feedless fs ≡ true
   functions_given [] scope [] h is = refl
@@ -86,7 +90,7 @@ module _ (raw : RawProgram) where
   functions_given (Define l head body ∷ xs) scope [] h is = cons_nil (function_tree raw l head body scope) (functions_from raw xs (after_item raw (Define l head body) scope)) is
   functions_given (Define l head body ∷ xs) scope (f ∷ fs) h is =
       let p = and_parts (raw_item_feedless (Define l head body)) (raw_items_feedless xs) h in
-      both_feedless (function_given l head body scope f p.0 (first_same is)) (functions_given xs (after_item raw (Define l head body) scope) fs p.1 (rest_same is))
+      and_from _ _ (function_given l head body scope f p.0 (first_same is)) (functions_given xs (after_item raw (Define l head body) scope) fs p.1 (rest_same is))
 
   -- ---- items
 
@@ -94,7 +98,7 @@ module _ (raw : RawProgram) where
   names_feedless [] h = refl
   names_feedless (q ∷ qs) h =
       let p = and_parts (raw_param_feedless q) (list_all raw_param_feedless qs) h in
-      both_feedless (and_parts (option_map_or feedless q.name true) (raw_type_feedless q.shape) p.0).0 (names_feedless qs p.1)
+      and_from _ _ (and_parts (option_map_or feedless q.name true) (raw_type_feedless q.shape) p.0).0 (names_feedless qs p.1)
 
   item_given : (x : RawItem) (scope : Scope) (i : Item) → raw_item_feedless x ≡ true → item_tree raw x scope ≡ Some i → item_feedless i ≡ true
   item_given (Include is_stdlib) scope i h is = ap item_feedless (sym (some_same is))
@@ -117,7 +121,7 @@ module _ (raw : RawProgram) where
   items_given (x ∷ xs) scope [] h same = cons_nil (item_tree raw x scope) (items_from raw xs (after_item raw x scope)) same
   items_given (x ∷ xs) scope (i ∷ is) h same =
       let p = and_parts (raw_item_feedless x) (raw_items_feedless xs) h in
-      both_feedless (item_given x scope i p.0 (first_same same)) (items_given xs (after_item raw x scope) is p.1 (rest_same same))
+      and_from _ _ (item_given x scope i p.0 (first_same same)) (items_given xs (after_item raw x scope) is p.1 (rest_same same))
 
   -- ---- the program of the text
 

@@ -3,6 +3,7 @@ use Rattle.std.proofs.Common.{◌≡◌, ℕ, List, [], ◌∷◌, map, Bool, tr
 use Rattle.std.specs.Prelude.{if◌then◌else◌, bytes_eq, option_map}
 use Rattle.std.specs.List.{list_all}
 use Rattle.std.specs.Option.{option_map_or}
+use Rattle.std.proofs.lemmas.Bool.{and_from, and_parts}
 use Rattle.c_arith.specs.declared.int_type.IntType.{IntType}
 use Rattle.c_tree.specs.declared.types.CType.{CType}
 use Rattle.c_tree.specs.declared.expr.Expr.{Expr}
@@ -37,6 +38,7 @@ use Rattle.c_tree.specs.declared.raw.statement.RawLabel.TheVariants.{Case, Defau
 use Rattle.c_tree.specs.declared.raw.statement.RawStatement.{RawStatement, map-RawStatement, fold-roll-RawStatement}
 use Rattle.c_tree.specs.declared.raw.statement.RawStatement.TheOpen.{RawStatement-F}
 use Rattle.c_tree.specs.declared.raw.statement.RawArm.{RawArm, map-RawArm, fold-RawArm, fold-roll-RawArm}
+use Rattle.c_tree.proofs.RawTrees.{StatementParts, ArmParts, statement_layer, arm_layer, of_every_statement}
 use Rattle.c_language.specs.Words.{Bytes}
 use Rattle.c_language.specs.TypeGrammar.{named_type}
 use Rattle.c_language.specs.ConstantEvaluation.{value_of_constant}
@@ -44,11 +46,12 @@ use Rattle.c_language.specs.DeclaredTypes.{function_id}
 use Rattle.c_language.specs.Scopes.{Scope, with_variable, with_target, opened, numbered, meaning_in, Scoped, in_order, after_block, scope_of_test, scope_of_body}
 use Rattle.c_language.specs.CallRules.{format_in, later_args, only_arg}
 use Rattle.c_language.specs.ProgramOf.{collected, optional, ctype, ctype_if, variable_number, expr_of, exprs_of, init_of, declaration_id, target_tree, arg_tree, args_tree, only_tree, print_tree, invoke_tree, size_tree, amount_tree, heap_tree, label_tree, ArmTree, arm_tree, arm_tree_step, block_tree, at_type, switch_type, part_tree, for_tree, treed_step, treed, body_of}
-use Rattle.c_print.specs.Feedless.{feedless, each, type_feedless, expr_feedless, init_feedless, target_feedless, size_feedless, amount_feedless, label_feedless, statement_step, arm_step, statement_feedless, arm_feedless}
-use Rattle.c_print_laws.proofs.Options.{none_there, some_same, map_there, then_there, both_there, collected_are, and_parts, cons_nil, first_same, rest_same}
-use Rattle.c_print_laws.proofs.Trees.{StatementParts, ArmParts, statement_layer, arm_layer, of_every_statement}
-use Rattle.c_print_laws.proofs.RawFeedless.{raw_expr_feedless, raw_type_feedless, raw_var_feedless, raw_init_feedless, raw_target_feedless, raw_arg_feedless, raw_name_feedless, raw_size_feedless, raw_amount_feedless, raw_label_feedless, raw_statement_step, raw_arm_step, raw_statement_feedless, raw_arm_feedless, raw_body_feedless, both_feedless}
+use Rattle.c_print.specs.Feedless.{feedless, each, type_feedless, expr_feedless, init_feedless, target_feedless, size_feedless, amount_feedless, label_feedless, statement_step, arm_step, statement_feedless}
+use Rattle.c_print.proofs.FeedLemmas.{arm_feedless}
+use Rattle.c_print_laws.proofs.Options.{map_there, then_there, both_there, collected_are, cons_nil, first_same, rest_same}
+use Rattle.c_print_laws.proofs.RawFeedless.{raw_expr_feedless, raw_type_feedless, raw_var_feedless, raw_init_feedless, raw_target_feedless, raw_arg_feedless, raw_name_feedless, raw_size_feedless, raw_amount_feedless, raw_label_feedless, raw_statement_step, raw_arm_step, raw_statement_feedless, raw_arm_feedless, raw_body_feedless}
 use Rattle.c_print_laws.proofs.FeedlessTypes.{all_given, given, type_given, pointed_feedless, optional_type_given, expr_given}
+use Rattle.c_language.proofs.Options.{none_there, some_same}
 
 -- ---- parts of statements
 
@@ -109,12 +112,12 @@ module _ (raw : RawProgram) (scope : Scope) where
       let p = and_parts (raw_expr_feedless a) (raw_size_feedless z) h in
       let f = then_there _ (expr_of raw scope a) x is in
       let g = map_there (quantity.CountSize f.value) (size_tree raw scope z) x f.same in
-      ap amount_feedless (sym g.same) ∙ both_feedless (expr_given raw scope a p.0 f.value f.there) (size_given z g.value p.1 g.there)
+      ap amount_feedless (sym g.same) ∙ and_from _ _ (expr_given raw scope a p.0 f.value f.there) (size_given z g.value p.1 g.there)
   amount_given (amount.SizeCount z a) x h is =
       let p = and_parts (raw_size_feedless z) (raw_expr_feedless a) h in
       let f = then_there _ (size_tree raw scope z) x is in
       let g = map_there (quantity.SizeCount f.value) (expr_of raw scope a) x f.same in
-      ap amount_feedless (sym g.same) ∙ both_feedless (size_given z f.value p.0 f.there) (expr_given raw scope a p.1 g.value g.there)
+      ap amount_feedless (sym g.same) ∙ and_from _ _ (size_given z f.value p.0 f.there) (expr_given raw scope a p.1 g.value g.there)
   amount_given (amount.Count a) x h is = let g = map_there quantity.Count (expr_of raw scope a) x is in ap amount_feedless (sym g.same) ∙ expr_given raw scope a h g.value g.there
 
   label_given : (type : IntType) (a : RawLabel) (x : Label) → raw_label_feedless a ≡ true → label_tree raw scope type a ≡ Some x → label_feedless x ≡ true
@@ -139,10 +142,10 @@ part_feedless (Some x) = statement_feedless x
 
 for_by : {x : Statement} (id l : ℕ) (i : Option Statement) (a : Expr) (k : Option Statement) (b : List Statement) → s.For id l i a k b ≡ x
     → part_feedless i ≡ true → expr_feedless a ≡ true → part_feedless k ≡ true → list_feedless b ≡ true → statement_feedless x ≡ true
-for_by id l None a None b is x y z t = statement_by (Statement-F.For id l None a None b) (s.rolls-For id l None a None b) is (both_feedless x (both_feedless y (both_feedless z t)))
-for_by id l None a (Some k) b is x y z t = statement_by (Statement-F.For id l None a (Some k) b) (s.rolls-For id l None a (Some k) b) is (both_feedless x (both_feedless y (both_feedless z t)))
-for_by id l (Some i) a None b is x y z t = statement_by (Statement-F.For id l (Some i) a None b) (s.rolls-For id l (Some i) a None b) is (both_feedless x (both_feedless y (both_feedless z t)))
-for_by id l (Some i) a (Some k) b is x y z t = statement_by (Statement-F.For id l (Some i) a (Some k) b) (s.rolls-For id l (Some i) a (Some k) b) is (both_feedless x (both_feedless y (both_feedless z t)))
+for_by id l None a None b is x y z t = statement_by (Statement-F.For id l None a None b) (s.rolls-For id l None a None b) is (and_from _ _ x (and_from _ _ y (and_from _ _ z t)))
+for_by id l None a (Some k) b is x y z t = statement_by (Statement-F.For id l None a (Some k) b) (s.rolls-For id l None a (Some k) b) is (and_from _ _ x (and_from _ _ y (and_from _ _ z t)))
+for_by id l (Some i) a None b is x y z t = statement_by (Statement-F.For id l (Some i) a None b) (s.rolls-For id l (Some i) a None b) is (and_from _ _ x (and_from _ _ y (and_from _ _ z t)))
+for_by id l (Some i) a (Some k) b is x y z t = statement_by (Statement-F.For id l (Some i) a (Some k) b) (s.rolls-For id l (Some i) a (Some k) b) is (and_from _ _ x (and_from _ _ y (and_from _ _ z t)))
 
 return_by : {x : Statement} (id l : ℕ) (a : Option Expr) → s.Return id l a ≡ x → option_map_or expr_feedless a true ≡ true → statement_feedless x ≡ true
 return_by id l a is h = statement_by (Statement-F.Return id l a) (s.rolls-Return id l a) is h
@@ -156,14 +159,14 @@ module _ (raw : RawProgram) (before scope : Scope) where
       let a = then_there _ (target_tree raw before to) t is in
       let b = both_there (s.Invoke id l a.value) (function_id raw f) (args_tree raw scope args) t a.same in
       statement_by (Statement-F.Invoke id l a.value b.left b.right) (s.rolls-Invoke id l a.value b.left b.right) b.same
-      (both_feedless (target_given raw before to a.value h a.there) (args_given raw scope args b.right k b.right_there))
+      (and_from _ _ (target_given raw before to a.value h a.there) (args_given raw scope args b.right k b.right_there))
 
   print_given : (id l : ℕ) (args : List RawArg) (t : Statement) → list_all raw_arg_feedless args ≡ true → print_tree raw scope id l args ≡ Some t → statement_feedless t ≡ true
   print_given id l args t k is =
       let a = then_there (λ (text : Bytes). option_map (s.Print id l text) (args_tree raw scope (later_args args))) (format_in args) t is in
       let b = map_there (s.Print id l a.value) (args_tree raw scope (later_args args)) t a.same in
       statement_by (Statement-F.Print id l a.value b.value) (s.rolls-Print id l a.value b.value) b.same
-      (both_feedless (format_feedless raw scope args a.value k a.there) (args_given raw scope (later_args args) b.value (later_feedless raw scope args k) b.there))
+      (and_from _ _ (format_feedless raw scope args a.value k a.there) (args_given raw scope (later_args args) b.value (later_feedless raw scope args k) b.there))
 
   call_given : (fetches writes prints frees : Bool) (id l : ℕ) (to : RawTarget) (f : Bytes) (args : List RawArg) (t : Statement) → raw_target_feedless to ≡ true → list_all raw_arg_feedless args ≡ true
       → (if fetches then option_map (s.Fetch id l) (target_tree raw before to)
@@ -188,8 +191,8 @@ module _ (raw : RawProgram) (before scope : Scope) where
       let b = then_there (λ (c : Option CType). option_map (s.Heap id l a.value c) (amount_tree raw scope n)) (ctype_if raw (option_map named_type cast)) t a.same in
       let c = map_there (s.Heap id l a.value b.value) (amount_tree raw scope n) t b.same in
       statement_by (Statement-F.Heap id l a.value b.value c.value) (s.rolls-Heap id l a.value b.value c.value) c.same
-      (both_feedless (target_given raw before to a.value h a.there)
-      (both_feedless (optional_type_given raw (option_map named_type cast) b.value (cast_feedless raw scope cast p.0) b.there) (amount_given raw scope n c.value p.1 c.there)))
+      (and_from _ _ (target_given raw before to a.value h a.there)
+      (and_from _ _ (optional_type_given raw (option_map named_type cast) b.value (cast_feedless raw scope cast p.0) b.there) (amount_given raw scope n c.value p.1 c.there)))
 
 -- ---- statements
 
@@ -221,7 +224,7 @@ module _ (raw : RawProgram) where
   all_give (x ∷ xs) h scope [] is = cons_nil ((treed raw x.0).gives scope) (in_order (map (treed raw) (bodies xs)) ((treed raw x.0).after scope)) is
   all_give (x ∷ xs) h scope (t ∷ ts) is =
       let p = and_parts (raw_statement_feedless x.0) (raw_body_feedless (bodies xs)) h in
-      both_feedless (x.1 p.0 scope t (first_same is)) (all_give xs p.1 ((treed raw x.0).after scope) ts (rest_same is))
+      and_from _ _ (x.1 p.0 scope t (first_same is)) (all_give xs p.1 ((treed raw x.0).after scope) ts (rest_same is))
 
   block_gives : (xs : List ((x : RawStatement) × Q x)) → raw_body_feedless (bodies xs) ≡ true → (scope : Scope) (ts : List Statement) → block_tree (map (treed raw) (bodies xs)) scope ≡ Some ts → list_feedless ts ≡ true
   block_gives xs h scope ts is = all_give xs h (opened scope) ts (collected_are (in_order (map (treed raw) (bodies xs)) (opened scope)) ts is)
@@ -233,7 +236,7 @@ module _ (raw : RawProgram) where
   arms_give (x ∷ xs) h scope type [] is = cons_nil ((treed_arm x.0).gives scope type) (map (λ (a : ArmTree). a type) (in_order (map treed_arm (bodies_of_arms xs)) ((treed_arm x.0).after scope))) is
   arms_give (x ∷ xs) h scope type (a ∷ as_) is =
       let p = and_parts (raw_arm_feedless x.0) (each (map raw_arm_feedless (bodies_of_arms xs))) h in
-      both_feedless (x.1 p.0 scope type a (first_same is)) (arms_give xs p.1 ((treed_arm x.0).after scope) type as_ (rest_same is))
+      and_from _ _ (x.1 p.0 scope type a (first_same is)) (arms_give xs p.1 ((treed_arm x.0).after scope) type as_ (rest_same is))
 
   -- ---- the parts of a for
 
@@ -286,7 +289,7 @@ module _ (raw : RawProgram) where
       let p = and_parts (raw_expr_feedless a) (raw_expr_feedless b) h in
       let g = both_there (λ (x y : Expr). s.Assign scope.statements l x op y) (expr_of raw scope a) (expr_of raw scope b) t is in
       statement_by (Statement-F.Assign scope.statements l g.left op g.right) (s.rolls-Assign scope.statements l g.left op g.right) g.same
-      (both_feedless (expr_given raw scope a p.0 g.left g.left_there) (expr_given raw scope b p.1 g.right g.right_there))
+      (and_from _ _ (expr_given raw scope a p.0 g.left g.left_there) (expr_given raw scope b p.1 g.right g.right_there))
   step_gives (RawStatement-F.Bump l a up before) h scope t is =
       let g = map_there (λ (x : Expr). s.Bump scope.statements l x up before) (expr_of raw scope a) t is in
       statement_by (Statement-F.Bump scope.statements l g.value up before) (s.rolls-Bump scope.statements l g.value up before) g.same (expr_given raw scope a h g.value g.there)
@@ -303,17 +306,17 @@ module _ (raw : RawProgram) where
       let x = then_there _ (expr_of raw scope e) t is in
       let y = both_there (s.If scope.statements l x.value) (block_tree (map (treed raw) (bodies a)) (numbered scope)) (block_tree (map (treed raw) (bodies b)) next) t x.same in
       statement_by (Statement-F.If scope.statements l x.value y.left y.right) (s.rolls-If scope.statements l x.value y.left y.right) y.same
-      (both_feedless (expr_given raw scope e p.0 x.value x.there) (both_feedless (block_gives a q.0 (numbered scope) y.left y.left_there) (block_gives b q.1 next y.right y.right_there)))
+      (and_from _ _ (expr_given raw scope e p.0 x.value x.there) (and_from _ _ (block_gives a q.0 (numbered scope) y.left y.left_there) (block_gives b q.1 next y.right y.right_there)))
   step_gives (RawStatement-F.While l e b) h scope t is =
       let p = and_parts (raw_expr_feedless e) (raw_body_feedless (bodies b)) h in
       let y = both_there (s.While scope.statements l) (expr_of raw scope e) (block_tree (map (treed raw) (bodies b)) (numbered scope)) t is in
       statement_by (Statement-F.While scope.statements l y.left y.right) (s.rolls-While scope.statements l y.left y.right) y.same
-      (both_feedless (expr_given raw scope e p.0 y.left y.left_there) (block_gives b p.1 (numbered scope) y.right y.right_there))
+      (and_from _ _ (expr_given raw scope e p.0 y.left y.left_there) (block_gives b p.1 (numbered scope) y.right y.right_there))
   step_gives (RawStatement-F.Do l e b) h scope t is =
       let p = and_parts (raw_expr_feedless e) (raw_body_feedless (bodies b)) h in
       let y = both_there (s.Do scope.statements l) (expr_of raw scope e) (block_tree (map (treed raw) (bodies b)) (numbered scope)) t is in
       statement_by (Statement-F.Do scope.statements l y.left y.right) (s.rolls-Do scope.statements l y.left y.right) y.same
-      (both_feedless (expr_given raw scope e p.0 y.left y.left_there) (block_gives b p.1 (numbered scope) y.right y.right_there))
+      (and_from _ _ (expr_given raw scope e p.0 y.left y.left_there) (block_gives b p.1 (numbered scope) y.right y.right_there))
   step_gives (RawStatement-F.For l None e None b) h scope t is =
       let q = and_parts (raw_expr_feedless e) (raw_body_feedless (bodies b)) h in
       for_gives l None None e b tt q.0 tt q.1 scope t is
@@ -338,7 +341,7 @@ module _ (raw : RawProgram) where
       let y = then_there _ (switch_type raw scope e) t x.same in
       let z = map_there (s.Switch scope.statements l x.value) (at_type y.value (in_order bs inside)) t y.same in
       statement_by (Statement-F.Switch scope.statements l x.value z.value) (s.rolls-Switch scope.statements l x.value z.value) z.same
-      (both_feedless (expr_given raw scope e p.0 x.value x.there) (arms_give arms p.1 inside y.value z.value (collected_are (map (λ (a : ArmTree). a y.value) (in_order bs inside)) z.value z.there)))
+      (and_from _ _ (expr_given raw scope e p.0 x.value x.there) (arms_give arms p.1 inside y.value z.value (collected_are (map (λ (a : ArmTree). a y.value) (in_order bs inside)) z.value z.there)))
   step_gives (RawStatement-F.Block l b) h scope t is =
       let g = map_there (s.Block l) (block_tree (map (treed raw) (bodies b)) scope) t is in
       statement_by (Statement-F.Block l g.value) (s.rolls-Block l g.value) g.same (block_gives b h scope g.value g.there)
@@ -354,7 +357,7 @@ module _ (raw : RawProgram) where
       let g = both_there arm_tree (collected (map (label_tree raw scope type) y.labels)) (collected (in_order bs scope)) a is in
       ap arm_feedless (sym g.same)
       ∙ fold-roll-Arm Bool Bool statement_step arm_step (record { labels = g.left; body = g.right })
-      ∙ both_feedless
+      ∙ and_from _ _
       (all_given (label_tree raw scope type) raw_label_feedless label_feedless (label_given raw scope type) y.labels g.left p.0 (collected_are (map (label_tree raw scope type) y.labels) g.left g.left_there))
       (all_give y.body p.1 scope g.right (collected_are (in_order bs scope) g.right g.right_there))
 
@@ -373,7 +376,7 @@ module _ (raw : RawProgram) where
   in_order_given (x ∷ xs) h scope [] is = cons_nil ((treed raw x).gives scope) (in_order (map (treed raw) xs) ((treed raw x).after scope)) is
   in_order_given (x ∷ xs) h scope (t ∷ ts) is =
       let p = and_parts (raw_statement_feedless x) (raw_body_feedless xs) h in
-      both_feedless (statement_given x p.0 scope t (first_same is)) (in_order_given xs p.1 ((treed raw x).after scope) ts (rest_same is))
+      and_from _ _ (statement_given x p.0 scope t (first_same is)) (in_order_given xs p.1 ((treed raw x).after scope) ts (rest_same is))
 
   pub body_given : (xs : List RawStatement) (scope : Scope) (ts : List Statement) → raw_body_feedless xs ≡ true → body_of raw xs scope ≡ Some ts → list_all statement_feedless ts ≡ true
   body_given xs scope ts h is = in_order_given xs h scope ts (collected_are (in_order (map (treed raw) xs) scope) ts is)

@@ -5,6 +5,7 @@ use Rattle.std.specs.Fmt.{digit_glyph, digits_onto, digits}
 use Rattle.std.specs.List.{list_all}
 use Rattle.std.specs.Option.{option_map_or}
 use Rattle.std.proofs.lemmas.Bool.Decides.{nat_tests}
+use Rattle.std.proofs.lemmas.Bool.{and_from, and_parts}
 use Rattle.c_tree.specs.declared.types.CType.{CType, roll-CType, map-CType, fold-roll-CType}
 use Rattle.c_tree.specs.declared.types.CType.TheOpen.{CType-F}
 use Rattle.c_tree.specs.declared.types.CType.TheVariants as t
@@ -19,6 +20,7 @@ use Rattle.c_tree.specs.declared.raw.expr.RawType.{RawType, map-RawType, fold-ro
 use Rattle.c_tree.specs.declared.raw.expr.RawType.TheOpen.{RawType-F}
 use Rattle.c_tree.specs.declared.raw.expr.RawType.TheVariants as type
 use Rattle.c_tree.specs.declared.raw.program.RawProgram.{RawProgram}
+use Rattle.c_tree.proofs.RawTrees.{ExprParts, expr_layer, of_every_expr, TypeParts, type_layer, of_every_type}
 use Rattle.c_language.specs.Words.{Bytes, int_words, binary_sign}
 use Rattle.c_language.specs.Tokens.{is_feed}
 use Rattle.c_language.specs.Scopes.{Scope, meaning_in}
@@ -26,11 +28,11 @@ use Rattle.c_language.specs.ConstantEvaluation.{literal_type, literal_value}
 use Rattle.c_language.specs.DeclaredTypes.{struct_id, length_in}
 use Rattle.c_language.specs.TypeGrammar.{pointed_n}
 use Rattle.c_language.specs.ProgramOf.{optional, raw_words_step, raw_words, length_words, ctype_step, ctype_with, ctype, ctype_if, Told, told_step, variable_number, expr_of}
+use Rattle.c_language.proofs.Options.{none_there, some_same}
 use Rattle.c_print.specs.Feedless.{feedless, type_step, type_feedless, expr_step, expr_feedless}
 use Rattle.c_print.proofs.FeedLemmas.{cat, int_feedless, sign_feedless, signed_feedless}
-use Rattle.c_print_laws.proofs.Options.{none_there, some_same, map_there, then_there, both_there, and_parts, cons_nil, first_same, rest_same}
-use Rattle.c_print_laws.proofs.Trees.{ExprParts, expr_layer, of_every_expr, TypeParts, type_layer, of_every_type}
-use Rattle.c_print_laws.proofs.RawFeedless.{raw_expr_step, raw_expr_feedless, raw_length_feedless, raw_type_step, raw_type_feedless, both_feedless, type_by}
+use Rattle.c_print_laws.proofs.Options.{map_there, then_there, both_there, cons_nil, first_same, rest_same}
+use Rattle.c_print_laws.proofs.RawFeedless.{raw_expr_step, raw_expr_feedless, raw_length_feedless, raw_type_step, raw_type_feedless, type_by}
 
 -- ---- lists and options
 
@@ -42,7 +44,7 @@ all_given f old new one [] (y ∷ ys) h is = cons_nil (Some y) (map Some ys) (sy
 all_given f old new one (x ∷ xs) [] h is = cons_nil (f x) (map f xs) is
 all_given f old new one (x ∷ xs) (y ∷ ys) h is =
     let p = and_parts (old x) (list_all old xs) h in
-    both_feedless (one x y p.0 (first_same is)) (all_given f old new one xs ys p.1 (rest_same is))
+    and_from _ _ (one x y p.0 (first_same is)) (all_given f old new one xs ys p.1 (rest_same is))
 
 -- a part that isn't missing
 pub given : {A : Type 0} (o t : Option A) (ask : Option (Option A)) → ask ≡ Some o → optional ask ≡ Some t → (x : A) × (o ≡ Some x) × (t ≡ Some x)
@@ -61,7 +63,7 @@ glyph_feedless false d = grind (arith, nat_tests)
 
 digits_feedless : (k n : ℕ) (acc : Bytes) → feedless acc ≡ true → feedless (digits_onto k 10 false n acc) ≡ true
 digits_feedless zero n acc h = h
-digits_feedless (suc k) n acc h = by (n / 10 == 0) (both_feedless (glyph_feedless (nat_lt (n % 10) 10) (n % 10)) h) (digits_feedless k (n / 10) (digit_glyph false (n % 10) ∷ acc))
+digits_feedless (suc k) n acc h = by (n / 10 == 0) (and_from _ _ (glyph_feedless (nat_lt (n % 10) 10) (n % 10)) h) (digits_feedless k (n / 10) (digit_glyph false (n % 10) ∷ acc))
   where
     by : (last : Bool) → feedless (digit_glyph false (n % 10) ∷ acc) ≡ true → (feedless (digit_glyph false (n % 10) ∷ acc) ≡ true → feedless (digits_onto k 10 false (n / 10) (digit_glyph false (n % 10) ∷ acc)) ≡ true)
         → feedless (if last then digit_glyph false (n % 10) ∷ acc else digits_onto k 10 false (n / 10) (digit_glyph false (n % 10) ∷ acc)) ≡ true
@@ -130,7 +132,7 @@ module _ (raw : RawProgram) (items : ℕ) where
       let words = length_words items n in
       let p = and_parts (raw_type_feedless a.0) (raw_length_feedless n) h in
       let g = both_there (λ (b : CType) (k : ℕ). t.Array b k words) (ctype_with raw items a.0) (length_in items n) c is in
-      ctype_by (CType-F.Array g.left g.right words) (t.rolls-Array g.left g.right words) g.same (both_feedless (length_feedless items n p.1) (a.1 p.0 g.left g.left_there))
+      ctype_by (CType-F.Array g.left g.right words) (t.rolls-Array g.left g.right words) g.same (and_from _ _ (length_feedless items n p.1) (a.1 p.0 g.left g.left_there))
   type_case (RawType-F.Struct tag) h c is = let g = map_there t.Struct (struct_id raw tag) c is in ctype_by (CType-F.Struct g.value) (t.rolls-Struct g.value) g.same refl
 
   pub type_given : (a : RawType) → GivesType a
@@ -173,27 +175,27 @@ module _ (raw : RawProgram) (scope : Scope) where
   expr_case (RawExpr-F.Binary op a b) h x is =
       let p = and_parts (raw_expr_feedless a.0) (raw_expr_feedless b.0) h in
       let g = both_there (e.Binary op) (as_told a.0).tree (as_told b.0).tree x is in
-      tree_by (Expr-F.Binary op g.left g.right) (e.rolls-Binary op g.left g.right) g.same (both_feedless (a.1 p.0 g.left g.left_there) (b.1 p.1 g.right g.right_there))
+      tree_by (Expr-F.Binary op g.left g.right) (e.rolls-Binary op g.left g.right) g.same (and_from _ _ (a.1 p.0 g.left g.left_there) (b.1 p.1 g.right g.right_there))
   expr_case (RawExpr-F.AndAlso a b) h x is =
       let p = and_parts (raw_expr_feedless a.0) (raw_expr_feedless b.0) h in
       let g = both_there e.AndAlso (as_told a.0).tree (as_told b.0).tree x is in
-      tree_by (Expr-F.AndAlso g.left g.right) (e.rolls-AndAlso g.left g.right) g.same (both_feedless (a.1 p.0 g.left g.left_there) (b.1 p.1 g.right g.right_there))
+      tree_by (Expr-F.AndAlso g.left g.right) (e.rolls-AndAlso g.left g.right) g.same (and_from _ _ (a.1 p.0 g.left g.left_there) (b.1 p.1 g.right g.right_there))
   expr_case (RawExpr-F.OrElse a b) h x is =
       let p = and_parts (raw_expr_feedless a.0) (raw_expr_feedless b.0) h in
       let g = both_there e.OrElse (as_told a.0).tree (as_told b.0).tree x is in
-      tree_by (Expr-F.OrElse g.left g.right) (e.rolls-OrElse g.left g.right) g.same (both_feedless (a.1 p.0 g.left g.left_there) (b.1 p.1 g.right g.right_there))
+      tree_by (Expr-F.OrElse g.left g.right) (e.rolls-OrElse g.left g.right) g.same (and_from _ _ (a.1 p.0 g.left g.left_there) (b.1 p.1 g.right g.right_there))
   expr_case (RawExpr-F.Choose c a b) h x is =
       let p = and_parts (raw_expr_feedless c.0) (raw_expr_feedless a.0 && raw_expr_feedless b.0) h in
       let q = and_parts (raw_expr_feedless a.0) (raw_expr_feedless b.0) p.1 in
       let f = then_there _ (as_told c.0).tree x is in
       let g = both_there (e.Choose f.value) (as_told a.0).tree (as_told b.0).tree x f.same in
       tree_by (Expr-F.Choose f.value g.left g.right) (e.rolls-Choose f.value g.left g.right) g.same
-      (both_feedless (c.1 p.0 f.value f.there) (both_feedless (a.1 q.0 g.left g.left_there) (b.1 q.1 g.right g.right_there)))
+      (and_from _ _ (c.1 p.0 f.value f.there) (and_from _ _ (a.1 q.0 g.left g.left_there) (b.1 q.1 g.right g.right_there)))
   expr_case (RawExpr-F.Cast i a) h x is = let g = map_there (e.Cast i) (as_told a.0).tree x is in tree_by (Expr-F.Cast i g.value) (e.rolls-Cast i g.value) g.same (a.1 h g.value g.there)
   expr_case (RawExpr-F.Index a b) h x is =
       let p = and_parts (raw_expr_feedless a.0) (raw_expr_feedless b.0) h in
       let g = both_there e.Index (as_told a.0).tree (as_told b.0).tree x is in
-      tree_by (Expr-F.Index g.left g.right) (e.rolls-Index g.left g.right) g.same (both_feedless (a.1 p.0 g.left g.left_there) (b.1 p.1 g.right g.right_there))
+      tree_by (Expr-F.Index g.left g.right) (e.rolls-Index g.left g.right) g.same (and_from _ _ (a.1 p.0 g.left g.left_there) (b.1 p.1 g.right g.right_there))
   expr_case (RawExpr-F.Member a m) h x is =
       let p = and_parts (raw_expr_feedless a.0) (feedless m) h in
       let f = then_there _ (as_told a.0).tree x is in

@@ -2,6 +2,7 @@
 use Rattle.std.proofs.Common.{◌≡◌, ℕ, List, [], ◌∷◌, ◌++◌, map, Bool, true, ◌&&◌, Option, Some, None, refl, sym, ap, ◌∙◌}
 use Rattle.std.specs.List.{list_all}
 use Rattle.std.specs.Option.{option_map_or}
+use Rattle.std.proofs.lemmas.Bool.{and_from, and_parts}
 use Rattle.c_tree.specs.declared.program.Var.{Var}
 use Rattle.c_tree.specs.declared.raw.expr.RawExpr.{RawExpr}
 use Rattle.c_tree.specs.declared.raw.expr.RawVar.{RawVar}
@@ -17,15 +18,15 @@ use Rattle.c_tree.specs.declared.raw.statement.RawTarget.TheVariants as target
 use Rattle.c_tree.specs.declared.raw.statement.RawStatement.{RawStatement, map-RawStatement, fold-roll-RawStatement}
 use Rattle.c_tree.specs.declared.raw.statement.RawStatement.TheOpen.{RawStatement-F}
 use Rattle.c_tree.specs.declared.raw.statement.RawArm.{RawArm, map-RawArm, fold-roll-RawArm}
+use Rattle.c_tree.proofs.RawTrees.{StatementParts, ArmParts, statement_layer, arm_layer, of_every_statement}
 use Rattle.c_language.specs.Words.{Bytes}
 use Rattle.c_language.specs.DeclaredTypes.{item_count}
 use Rattle.c_language.specs.Scopes.{Scope, outset, with_variable, with_target, parameter_of, with_parameter, scope_of_parameters, entered, opened, numbered, Scoped, in_order, after_block, part_gives, scope_of_test, scope_of_body}
 use Rattle.c_language.specs.Phrases.{Stand, InFile, InHead, InBlock, InArm, InFor, Part, NamesStruct, DefinesStruct, HasMember, DeclaresFunction, Takes, EndsFunction, Declares, Begins, Assigns, Bumps, Calls, Allocates, Tests, Switches, Returns, Phrase, Phrases, phrase, begun_phrases, declaration, target_phrases, joined_at, block_phrases, at_stand, ArmText, phrases_of_arms, scoped_step, scoped_arm, scoped, scoped_of_arm, body_phrases, member_phrases, taken_phrases, parameter_phrases, head_phrases, item_phrases, after_item, items_phrases, phrases}
 use Rattle.c_language.specs.ProgramOf.{ctype_with, variables_in}
 use Rattle.c_print.specs.Feedless.{feedless, each, var_feedless}
-use Rattle.c_print_laws.proofs.Options.{map_there, and_parts, cons_nil, first_same, rest_same}
-use Rattle.c_print_laws.proofs.Trees.{StatementParts, ArmParts, statement_layer, arm_layer, of_every_statement}
-use Rattle.c_print_laws.proofs.RawFeedless.{raw_expr_feedless, raw_type_feedless, raw_var_feedless, raw_init_feedless, raw_target_feedless, raw_arg_feedless, raw_name_feedless, raw_amount_feedless, raw_label_feedless, raw_statement_step, raw_arm_step, raw_statement_feedless, raw_arm_feedless, raw_body_feedless, raw_param_feedless, raw_head_feedless, raw_item_feedless, raw_items_feedless, both_feedless, all_append}
+use Rattle.c_print_laws.proofs.Options.{map_there, cons_nil, first_same, rest_same}
+use Rattle.c_print_laws.proofs.RawFeedless.{raw_expr_feedless, raw_type_feedless, raw_var_feedless, raw_init_feedless, raw_target_feedless, raw_arg_feedless, raw_name_feedless, raw_amount_feedless, raw_label_feedless, raw_statement_step, raw_arm_step, raw_statement_feedless, raw_arm_feedless, raw_body_feedless, raw_param_feedless, raw_head_feedless, raw_item_feedless, raw_items_feedless, all_append}
 use Rattle.c_print_laws.proofs.FeedlessTypes.{type_given}
 
 -- ---- phrases
@@ -64,7 +65,7 @@ begun_feedless l scope stand v (init.Items all) = refl
 
 module _ (raw : RawProgram) where
   declaration_feedless : (l : ℕ) (scope : Scope) (stand : Stand) (v : RawVar) (i : RawInit) → raw_var_feedless v ≡ true → AreFeedless (declaration raw l scope stand v i)
-  declaration_feedless l scope stand v i h = both_feedless h (begun_feedless l (with_variable raw v i scope) stand v i)
+  declaration_feedless l scope stand v i h = and_from _ _ h (begun_feedless l (with_variable raw v i scope) stand v i)
 
   target_phrases_feedless : (l : ℕ) (scope : Scope) (stand : Stand) (to : RawTarget) → raw_target_feedless to ≡ true → AreFeedless (target_phrases raw l scope stand to)
   target_phrases_feedless l scope stand target.None h = refl
@@ -194,7 +195,7 @@ module _ (raw : RawProgram) where
 
   parameter_feedless : (p : RawParam) (name : Option Bytes) (scope : Scope) → option_map_or feedless name true ≡ true → raw_type_feedless p.shape ≡ true → AreFeedless (parameter_phrases raw p name scope)
   parameter_feedless p None scope h k = refl
-  parameter_feedless p (Some name) scope h k = declaration_feedless p.line scope InHead (parameter_of p name) init.None (both_feedless h k)
+  parameter_feedless p (Some name) scope h k = declaration_feedless p.line scope InHead (parameter_of p name) init.None (and_from _ _ h k)
 
   head_feedless : (ps : List RawParam) (scope : Scope) → list_all raw_param_feedless ps ≡ true → AreFeedless (head_phrases raw ps scope)
   head_feedless [] scope h = refl
@@ -235,7 +236,7 @@ module _ (raw : RawProgram) where
   declares l scope stand v i ps h rest (x ∷ vs) is =
       let p = and_parts (feedless v.name) (raw_type_feedless v.shape) h in
       let g = map_there _ (ctype_with raw (item_count i) v.shape) x (first_same is) in
-      both_feedless (ap var_feedless (sym g.same) ∙ both_feedless p.0 (type_given raw (item_count i) v.shape p.1 g.value g.there)) (rest vs (rest_same is))
+      and_from _ _ (ap var_feedless (sym g.same) ∙ and_from _ _ p.0 (type_given raw (item_count i) v.shape p.1 g.value g.there)) (rest vs (rest_same is))
 
   with_phrase : (l : ℕ) (scope : Scope) (part : Part) (ps : Phrases) → part_feedless part ≡ true → Given ps → Given (phrase l scope part ∷ ps)
   with_phrase l scope (NamesStruct tag) ps h rest = rest

@@ -1,6 +1,7 @@
 -- In a text of the grammar the first part and the step of a for are statements of one line.
 use Rattle.std.proofs.Common.{◌≡◌, ℕ, ◌&&◌, List, [], ◌∷◌, ◌++◌, map, Bool, true, false, Option, Some, None, refl, sym, ap, ◌∙◌}
 use Rattle.std.specs.List.{list_all}
+use Rattle.std.proofs.lemmas.Bool.{and_from}
 use Rattle.c_arith.specs.declared.operators.BinaryOp.{BinaryOp}
 use Rattle.c_tree.specs.declared.raw.expr.RawExpr.{RawExpr}
 use Rattle.c_tree.specs.declared.raw.expr.RawType.{RawType}
@@ -118,9 +119,6 @@ tidy-arm labels body = ap (λ (x : Form). x.tidy) (fold-roll-RawArm Form Form fo
 
 -- ---- the grammar
 
-both_true : (a b : Bool) → a ≡ true → b ≡ true → (a && b) ≡ true
-both_true a b h k = rw (h, k) refl
-
 simple_form : {ts rest : Tokens} {a : RawStatement} → IsSimple ts a rest → form_of a ≡ one_line
 simple_form (IsSimple.assign op p h q k) = form-Assign _ _ _ _
 simple_form (IsSimple.store_call h q k) = form-Call _ _ _ _
@@ -166,23 +164,23 @@ mutual
   statement_tidy IsStatement.returns = tidy-Return _ None
   statement_tidy (IsStatement.returns_value {a = a} h) = tidy-Return _ (Some a)
   statement_tidy (IsStatement.block h) = tidy-Block _ _ ∙ statements_tidy h
-  statement_tidy (IsStatement.conditional {yes = a} {other = b} h k j) = tidy-If _ _ _ _ ∙ both_true (are_tidy a) (are_tidy b) (body_tidy k) (else_tidy j)
+  statement_tidy (IsStatement.conditional {yes = a} {other = b} h k j) = tidy-If _ _ _ _ ∙ and_from (are_tidy a) (are_tidy b) (body_tidy k) (else_tidy j)
   statement_tidy (IsStatement.while_loop h k) = tidy-While _ _ _ ∙ body_tidy k
   statement_tidy (IsStatement.do_loop h k) = tidy-Do _ _ _ ∙ body_tidy h
   statement_tidy (IsStatement.for_loop {first = i} {step = x} {all = b} h k j g) =
-      tidy-For _ _ _ _ _ ∙ both_true (is_single_part (form_of_part i)) (is_single_part (form_of_part x) && are_tidy b) (init_single h) (both_true (is_single_part (form_of_part x)) (are_tidy b) (step_single j) (body_tidy g))
+      tidy-For _ _ _ _ _ ∙ and_from (is_single_part (form_of_part i)) (is_single_part (form_of_part x) && are_tidy b) (init_single h) (and_from (is_single_part (form_of_part x)) (are_tidy b) (step_single j) (body_tidy g))
   statement_tidy (IsStatement.switch h k) = tidy-Switch _ _ _ ∙ arms_tidy k
 
   pub statements_tidy : {ts rest : Tokens} {all : List RawStatement} → AreStatements ts all rest → are_tidy all ≡ true
   statements_tidy AreStatements.done = refl
   statements_tidy (AreStatements.empty h) = statements_tidy h
   statements_tidy (AreStatements.declared {some = a} {all = b} h k) = append_tidy a b (declaration_tidy h) (statements_tidy k)
-  statements_tidy (AreStatements.more {first = a} {all = b} h k) = both_true (form_of a).tidy (are_tidy b) (statement_tidy h) (statements_tidy k)
+  statements_tidy (AreStatements.more {first = a} {all = b} h k) = and_from (form_of a).tidy (are_tidy b) (statement_tidy h) (statements_tidy k)
 
   body_tidy : {ts rest : Tokens} {all : List RawStatement} → IsBody ts all rest → are_tidy all ≡ true
   body_tidy (IsBody.braces h) = statements_tidy h
   body_tidy IsBody.nothing = refl
-  body_tidy (IsBody.single {only = a} p h) = both_true (form_of a).tidy true (statement_tidy h) refl
+  body_tidy (IsBody.single {only = a} p h) = and_from (form_of a).tidy true (statement_tidy h) refl
 
   else_tidy : {ts rest : Tokens} {all : List RawStatement} → IsElse ts all rest → are_tidy all ≡ true
   else_tidy (IsElse.otherwise h) = body_tidy h
@@ -190,8 +188,8 @@ mutual
 
   arms_tidy : {ts rest : Tokens} {all : List RawArm} → AreArms ts all rest → all_tidy (map form_of_arm all) ≡ true
   arms_tidy AreArms.none = refl
-  arms_tidy (AreArms.broken {labels} {body} {arms} h k j) = both_true (form_of_arm (arm labels body)).tidy (all_tidy (map form_of_arm arms)) (tidy-arm labels body ∙ statements_tidy k) (arms_tidy j)
-  arms_tidy (AreArms.unbroken {labels} {body} h p k) = both_true (form_of_arm (arm labels body)).tidy true (tidy-arm labels body ∙ statements_tidy k) refl
+  arms_tidy (AreArms.broken {labels} {body} {arms} h k j) = and_from (form_of_arm (arm labels body)).tidy (all_tidy (map form_of_arm arms)) (tidy-arm labels body ∙ statements_tidy k) (arms_tidy j)
+  arms_tidy (AreArms.unbroken {labels} {body} h p k) = and_from (form_of_arm (arm labels body)).tidy true (tidy-arm labels body ∙ statements_tidy k) refl
 
 -- ---- items
 

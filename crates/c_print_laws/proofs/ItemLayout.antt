@@ -5,6 +5,7 @@ use Rattle.std.specs.Option.{option_map_or}
 use Rattle.std.specs.List.{find, position, position_or_len}
 use Rattle.std.proofs.lemmas.List.Folds.{find_at}
 use Rattle.std.proofs.lemmas.Slice.Eq.{bytes_eq-Decides}
+use Rattle.std.proofs.lemmas.Bool.{true_from_ne_false, and_parts}
 use Rattle.c_tree.specs.declared.types.CType.{CType}
 use Rattle.c_tree.specs.declared.program.Program.{Program}
 use Rattle.c_tree.specs.declared.program.Function.{Function}
@@ -42,16 +43,19 @@ use Rattle.c_language.specs.declared.expr_type.Base.TheVariants as base
 use Rattle.c_language.specs.declared.expr_type.ExprType.{ExprType}
 use Rattle.c_language.specs.ProgramOf.{ctype, ctype_with, ctype_if, init_of, member_tree, struct_tree, parameter_ids, function_tree, functions_from, body_of, item_tree, items_from, program_of}
 use Rattle.c_language.proofs.LayoutLemmas.{block_lines-laid}
-use Rattle.c_print.specs.RawLayout.{raw_declared, raw_body_lines, raw_result_words, raw_named_words, raw_param_words, raw_head_words, raw_member_lines, raw_item_lines, raw_items_lines, raw_layout}
-use Rattle.c_print_laws.proofs.Options.{none_there, some_same, map_there, both_there, collected_are, cons_nil, first_same, rest_same}
+use Rattle.c_text_layout.specs.RawLayout.{raw_declared, raw_body_lines, raw_result_words, raw_named_words, raw_param_words, raw_head_words, raw_member_lines, raw_item_lines, raw_items_lines, raw_layout}
+use Rattle.c_print_laws.proofs.Options.{map_there, both_there, collected_are, cons_nil, first_same, rest_same}
+use Rattle.c_language.proofs.Tests.{false_true}
+use Rattle.c_language.proofs.PhraseLists.{body_in_order}
 use Rattle.c_print_laws.proofs.Named.{IsNamed, Fits, fits_append, positioned, struct_at, struct_named, member_named, members_typed}
 use Rattle.c_print_laws.proofs.TypeLayout.{declared_layout, type_layout}
 use Rattle.c_print_laws.proofs.Told.{AreTold, AreKept, AllStand, stand_all, phrases_kept, told_first, told_rest, is_declared}
 use Rattle.c_print_laws.proofs.CallLayout.{optional_there, init_layout}
 use Rattle.c_print_laws.proofs.StatementLayout.{begins_kept, list_laid}
-use Rattle.c_print_laws.proofs.Numbers.{parameter_count, head_count, function_variables, body_in_order, define_structs, prototype_functions, prototype_structs}
-use Rattle.c_print_laws.proofs.Definitions.{program_parts, Behind, behind_first, behind_rest, behind_at, false_true, and_parts, IsPlain, ParamsAre, IsDefinedAs, ParamsPlain, ResultPlain, HeadPlain, AreFormed, FunctionsAt, define_told, define_later, same_functions, definitions, function_named}
+use Rattle.c_print_laws.proofs.Numbers.{parameter_count, head_count, function_variables, define_structs, prototype_functions, prototype_structs}
+use Rattle.c_print_laws.proofs.Definitions.{program_parts, Behind, behind_first, behind_rest, behind_at, IsPlain, ParamsAre, IsDefinedAs, ParamsPlain, ResultPlain, HeadPlain, AreFormed, FunctionsAt, define_told, define_later, same_functions, definitions, function_named}
 use Rattle.c_print_laws.proofs.Agreement.{IsObject, IsTyped, SameWords, typed, tagged, agreed, agreed_declared, agreed_nameless, agreed_result}
+use Rattle.c_language.proofs.Options.{none_there, some_same}
 
 -- what stands at the position of a test is the first that passes it
 found_at : {A : Type 0} (test : A → Bool) (xs : List A) (k : ℕ) (x : A) → position test xs ≡ Some k → slice_get xs k ≡ Some x → find test xs ≡ Some x
@@ -60,10 +64,6 @@ found_at test xs k x h is = find_at test xs ∙ ap (slice_get xs) (by_test (nat_
     by_test : (b : Bool) → (if b then Some (position_or_len test xs) else None) ≡ Some k → position_or_len test xs ≡ k
     by_test true h = some_same h
     by_test false h = none_there h
-
-not_false : (b : Bool) → (b ≡ false → ⊥) → b ≡ true
-not_false true other = refl
-not_false false other = absurd (other refl)
 
 module _ (raw : RawProgram) (p : Program) (named : IsNamed raw p) where
   -- ---- definitions
@@ -245,7 +245,7 @@ module _ (raw : RawProgram) (p : Program) (named : IsNamed raw p) where
       let found : definition_of raw h.name ≡ Some f = found_at (λ (f : RawHead). bytes_eq f.name h.name) (defined_functions raw) k f is x.1 in
       let d = defined k f x.1 in
       let others = plains k f x.1 in
-      let same : same_signature raw h f ≡ true = not_false (same_signature raw h f) (λ differs. kept.0 6 (no_definition (LacksDefinition.differs found differs))) in
+      let same : same_signature raw h f ≡ true = true_from_ne_false (same_signature raw h f) (λ differs. kept.0 6 (no_definition (LacksDefinition.differs found differs))) in
       let each = and_parts (agree (result_type raw h) (result_type raw f)) (all_agree (parameter_types raw h) (parameter_types raw f)) same in
       ap (λ (o : Option Function). option_map_or (λ (g : Function). line 0 (head_words p h.is_static g (named_params p (map (λ (q : RawParam). q.name) h.params) g.params) ++ codes ";")) o []) d.at
       ∙ ap₂ (λ (r name : Bytes). line 0 ((static_words h.is_static ++ (r ++ (name ++ (codes "(" ++ (params_words (named_params p (map (λ (q : RawParam). q.name) h.params) d.function.params) ++ codes ")"))))) ++ codes ";"))

@@ -41,7 +41,6 @@ pub mod StatementStarts
 pub mod Told
 pub mod ToldItems
 pub mod ToldStatements
-pub mod Trees
 pub mod TypeLayout
 pub mod UntoldItems
 pub mod UntoldStatements

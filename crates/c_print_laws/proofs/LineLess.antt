@@ -24,12 +24,13 @@ use Rattle.c_tree.specs.declared.statement.Statement.{Statement, ind-Statement, 
 use Rattle.c_tree.specs.declared.statement.Statement.TheOpen.{Statement-F}
 use Rattle.c_tree.specs.declared.statement.Statement.TheVariants as s
 use Rattle.c_tree.specs.declared.statement.Arm.{Arm, roll-Arm, map-Arm, fold-roll-Arm}
-use Rattle.c_tree.specs.Unlined.{unlined_step, unlined_arm, unlined, unlined_of_arm, unlined_var, unlined_function, unlined_program, SameButLines}
+use Rattle.c_tree.specs.Unlined.{unlined_step, unlined_arm, unlined, unlined_var, unlined_function, unlined_program, SameButLines}
+use Rattle.c_tree.proofs.UnlinedLemmas.{unlined_of_arm}
 use Rattle.c_language.specs.Words.{Bytes, joined, assign_sign, name_of_var, name_of_function, declared, type_words, expr_step, expr_words}
 use Rattle.c_language.specs.Layout.{line, init_words, var_words, target_words, pointee_words, size_words, amount_words, cast_words, call_words, bump_words, return_words, Laid, plain, label_words, label_lines, statement_step, arm_step, laid, body_lines, static_words, param_words, named_params, head_words, function_lines, item_lines, items_lines, layout}
 use Rattle.c_language.proofs.LayoutLemmas.{arm_laid}
+use Rattle.c_language.proofs.Lists.{maps_same}
 use Rattle.c_print_laws.proofs.StatementLayout.{if_form, while_form, do_form, for_form, switch_form, block_form, arm_form}
-use Rattle.c_print_laws.proofs.SameTrees.{maps_same}
 
 mapped_or : {A B : Type 0} (g : A → A) (f h : A → B) (d : B) → ((a : A) → f (g a) ≡ h a) → (o : Option A) → option_map_or f (option_map g o) d ≡ option_map_or h o d
 mapped_or g f h d same None = refl

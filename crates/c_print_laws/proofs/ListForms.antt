@@ -2,6 +2,7 @@
 use Rattle.std.proofs.Common.{◌≡◌, ℕ, suc, ◌||◌, List, length, map, Bool, true, false, Option, Some, None, refl, sym, ap, ◌∙◌, arith, inl, inr}
 use Rattle.std.specs.Prelude.{nat_lt}
 use Rattle.std.proofs.lemmas.Bool.Decides.{nat_tests}
+use Rattle.std.proofs.lemmas.Bool.{or_right, or_left}
 use Rattle.c_arith.specs.declared.int_type.IntType.{IntType}
 use Rattle.c_tree.specs.declared.raw.expr.RawExpr.{RawExpr}
 use Rattle.c_tree.specs.declared.raw.expr.RawLength.TheVariants.{Written, Listed}
@@ -21,11 +22,12 @@ use Rattle.c_language.specs.DeclaredTypes.{item_count}
 use Rattle.c_language.specs.TypeGrammar.{IsBase, IsStars, IsLengths, IsOuterLengths, IsDeclarator, is_listed}
 use Rattle.c_language.specs.StatementGrammar.{IsSeparated, IsSimple, IsList, IsDeclared, IsDeclaration, IsInit, IsStep, IsStatement, AreStatements, IsBody, IsElse, AreArms}
 use Rattle.c_language.specs.ItemGrammar.{IsGlobal, IsItem, AreItems, IsProgram}
-use Rattle.c_print.proofs.Declarations.{all_true, declarations_pass, arm_passes, item_passes, items_pass, both_true, pass-Declare, pass-Assign, pass-Bump, pass-Call, pass-Heap, pass-Return, list_passes, pass-If, pass-While, pass-Do, part_passes, pass-For, pass-Switch, pass-Block, pass-arm, lists_append, items_append}
-use Rattle.c_print.proofs.RawTypeLemmas.{is_listed-Array}
-use Rattle.c_print_laws.proofs.Definitions.{false_true}
+use Rattle.c_text_layout.specs.Declarations.{all_true, declarations_pass, item_passes, items_pass}
+use Rattle.c_text_layout.proofs.DeclarationLemmas.{arm_passes, both_true, pass-Declare, pass-Assign, pass-Bump, pass-Call, pass-Heap, pass-Return, list_passes, pass-If, pass-While, pass-Do, part_passes, pass-For, pass-Switch, pass-Block, pass-arm, lists_append, items_append}
+use Rattle.c_text_layout.proofs.RawTypeLemmas.{is_listed-Array}
 use Rattle.c_print_laws.proofs.Settling.{written_step, is_written, IsCounted}
 use Rattle.c_print_laws.proofs.PhraseAgreement.{Fine}
+use Rattle.c_language.proofs.Tests.{false_true}
 
 -- ---- tests of declarations
 
@@ -73,13 +75,6 @@ outer_written (IsOuterLengths.empty {b} h) none k = false_true (sym none ∙ is_
 declarator_written : {ts rest : Tokens} {base : RawType} {v : RawVar} → IsDeclarator ts base v rest → is_listed v.shape ≡ false → is_written base ≡ true → is_written v.shape ≡ true
 declarator_written (IsDeclarator.named h key j) none k = outer_written j none (stars_written h k)
 
-or_left : {a : Bool} (b : Bool) → a ≡ true → (a || b) ≡ true
-or_left b h = ap (λ (x : Bool). x || b) h
-
-or_right : (a b : Bool) → b ≡ true → (a || b) ≡ true
-or_right true b h = refl
-or_right false b h = h
-
 list_some : {ts rest : Tokens} {all : List RawExpr} → IsList ts all rest → nat_lt 0 (length all) ≡ true
 list_some (IsList.last h) = refl
 list_some (IsList.trailing h) = refl
@@ -89,8 +84,8 @@ list_some (IsList.more {all} h k) = some_cons (length all)
     some_cons n = grind (arith, nat_tests)
 
 declared_counts : {l : ℕ} {base : RawType} {ts rest : Tokens} {a : RawStatement} → IsDeclared l base ts a rest → is_written base ≡ true → declarations_pass is_counted a ≡ true
-declared_counts {l} (IsDeclared.plain {v} h none) k = pass-Declare is_counted l v init.None ∙ or_left (nat_lt 0 0) (declarator_written h none k)
-declared_counts {l} (IsDeclared.value {v} {a} h none j) k = pass-Declare is_counted l v (init.One a) ∙ or_left (nat_lt 0 0) (declarator_written h none k)
+declared_counts {l} (IsDeclared.plain {v} h none) k = pass-Declare is_counted l v init.None ∙ or_left _ (nat_lt 0 0) (declarator_written h none k)
+declared_counts {l} (IsDeclared.value {v} {a} h none j) k = pass-Declare is_counted l v (init.One a) ∙ or_left _ (nat_lt 0 0) (declarator_written h none k)
 declared_counts {l} (IsDeclared.list {v} {all} h j) k = pass-Declare is_counted l v (init.Items all) ∙ or_right (is_written v.shape) (nat_lt 0 (length all)) (list_some j)
 declared_counts {l} (IsDeclared.call h none j) k = pass-Call is_counted l _ _ _
 declared_counts {l} (IsDeclared.heap h none j) k = pass-Heap is_counted l _ _ _
@@ -152,8 +147,8 @@ mutual
   arms_count (AreArms.unbroken {labels} {body} h b k) = both_true is_counted (pass-arm is_counted labels body ∙ statements_count k) refl
 
 global_counts : {l : ℕ} {b : Bool} {base : RawType} {ts rest : Tokens} {x : RawItem} → IsGlobal l b base ts x rest → is_written base ≡ true → item_passes is_counted x ≡ true
-global_counts (IsGlobal.plain h none) k = or_left (nat_lt 0 0) (declarator_written h none k)
-global_counts (IsGlobal.value h none j) k = or_left (nat_lt 0 0) (declarator_written h none k)
+global_counts (IsGlobal.plain h none) k = or_left _ (nat_lt 0 0) (declarator_written h none k)
+global_counts (IsGlobal.value h none j) k = or_left _ (nat_lt 0 0) (declarator_written h none k)
 global_counts (IsGlobal.list {v} {all} h j) k = or_right (is_written v.shape) (nat_lt 0 (length all)) (list_some j)
 
 globals_count : {l : ℕ} {b : Bool} {base : RawType} {close : Bytes} {ts rest : Tokens} {all : List RawItem} → IsSeparated (IsGlobal l b base) close ts all rest → is_written base ≡ true → items_pass is_counted all ≡ true

@@ -19,7 +19,8 @@ use Rattle.c_language.specs.Scopes.{Entry, Meaning, Scope, found_in}
 use Rattle.c_language.specs.ExprTypes.{member_of}
 use Rattle.c_language.specs.ExprTypes.{member_named as found_member}
 use Rattle.c_language.specs.ProgramOf.{ctype, member_tree, struct_tree, index_of_member, member_id}
-use Rattle.c_print_laws.proofs.Options.{IsThere, none_there, some_same, map_there, then_there, collected_are, place_of, cons_nil, first_same, rest_same}
+use Rattle.c_language.proofs.Options.{IsThere, none_there, some_same}
+use Rattle.c_print_laws.proofs.Options.{map_there, then_there, collected_are, place_of, cons_nil, first_same, rest_same}
 use Rattle.c_print_laws.proofs.Operands.{HasType, HasTypeIf, IsTypedIf}
 use Rattle.c_print_laws.proofs.Counted.{counted}
 
@@ -43,15 +44,6 @@ EntriesFit p (e ∷ es) = MeaningFits p e.name e.meaning × EntriesFit p es
 -- each variable in scope has its name in the program, and a type
 abbrev pub Fits : Program → Scope → Type 0
 Fits p scope = EntriesFit p scope.names
-
--- the first element that passes a test does so
-pub found_passes : {A : Type 0} (test : A → Bool) (xs : List A) (x : A) → find test xs ≡ Some x → test x ≡ true
-found_passes test [] x h = none_there h
-found_passes test (a ∷ xs) x h = by_test (test a) refl h (found_passes test xs x)
-  where
-    by_test : (b : Bool) → test a ≡ b → (if b then Some a else find test xs) ≡ Some x → (find test xs ≡ Some x → test x ≡ true) → test x ≡ true
-    by_test true is h later = ap test (sym (some_same h)) ∙ is
-    by_test false is h later = later h
 
 -- what stands at the position of a test passes it
 pub positioned : {A : Type 0} (test : A → Bool) (xs : List A) (k : ℕ) → position test xs ≡ Some k → (x : A) × (slice_get xs k ≡ Some x) × (test x ≡ true)

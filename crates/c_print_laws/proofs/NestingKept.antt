@@ -1,6 +1,7 @@
 -- What is read again nests no deeper: the layout keeps the nesting of a text, but for lengths of parameters, which it drops.
 use Rattle.std.proofs.Common.{◌≡◌, ℕ, ◌+◌, ◌≤◌, max, List, [], ◌∷◌, map, true, Option, Some, None, refl, sym, ap, ap₂, ◌∙◌, arith, decimal}
 use Rattle.std.specs.Prelude.{nat_lt, is_none}
+use Rattle.std.proofs.lemmas.Bool.{and_parts}
 use Rattle.c_tree.specs.declared.raw.expr.RawExpr.{RawExpr, fold-roll-RawExpr}
 use Rattle.c_tree.specs.declared.raw.expr.RawExpr.TheOpen.{RawExpr-F}
 use Rattle.c_tree.specs.declared.raw.expr.RawExpr.TheVariants as e
@@ -17,14 +18,16 @@ use Rattle.c_tree.specs.declared.raw.program.RawProgram.{RawProgram}
 use Rattle.c_tree.specs.declared.raw.statement.RawArm.{RawArm, map-RawArm, fold-roll-RawArm}
 use Rattle.c_tree.specs.declared.raw.statement.RawStatement.{RawStatement, map-RawStatement, fold-roll-RawStatement}
 use Rattle.c_tree.specs.declared.raw.statement.RawStatement.TheOpen.{RawStatement-F}
+use Rattle.c_tree.proofs.RawTrees.{TypeParts, type_layer, of_every_type, StatementParts, statement_layer, arm_layer, of_every_statement}
 use Rattle.c_language.specs.DeclaredTypes.{item_count}
 use Rattle.c_language.specs.Nesting.{nesting_step, nesting, length_nesting, type_nesting_step, type_nesting, length_above, params_nesting, greatest}
-use Rattle.c_language.specs.StatementNesting.{init_nesting, label_nesting, statement_step, arm_step, statement_nesting, arm_nesting, body_nesting, member_nesting, result_nesting, item_nesting, items_nesting, program_nesting}
-use Rattle.c_print.specs.Settled.{settled_length, settled_type_step, settled_type, settled, settled_arm, settled_member, settled_param, settled_item, SameInLayout, lack_lengths, item_lacks_lengths, items_lack_lengths}
-use Rattle.c_print.proofs.TokenPrint.{by_answer}
-use Rattle.c_print_laws.proofs.Options.{false_true, and_parts}
-use Rattle.c_print_laws.proofs.Trees.{TypeParts, type_layer, of_every_type, StatementParts, statement_layer, arm_layer, of_every_statement}
+use Rattle.c_language.specs.StatementNesting.{init_nesting, label_nesting, statement_step, arm_step, statement_nesting, body_nesting, member_nesting, result_nesting, item_nesting, items_nesting, program_nesting}
+use Rattle.c_text_layout.specs.Settled.{settled_length, settled_type_step, settled_type, settled, settled_member, settled_param, settled_item, SameInLayout, lack_lengths, item_lacks_lengths, items_lack_lengths}
+use Rattle.c_text_layout.proofs.RawStatementLemmas.{settled_arm}
+use Rattle.c_text_layout.proofs.TokenPrint.{by_answer}
 use Rattle.c_print_laws.proofs.PhraseAgreement.{kept_layer, settled_layer, settled_arm_layer}
+use Rattle.c_language.proofs.StatementNestingLemmas.{arm_nesting}
+use Rattle.c_language.proofs.Tests.{false_true}
 
 -- ---- types
 

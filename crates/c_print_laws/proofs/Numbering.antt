@@ -3,6 +3,7 @@ use Rattle.std.proofs.Common.{◌≡◌, ℕ, zero, suc, ◌+◌, ◌<◌, ◌�
 use Rattle.std.specs.Prelude.{◌⊎◌, if◌then◌else◌, bytes_eq, option_map}
 use Rattle.std.specs.Option.{option_map_or}
 use Rattle.std.specs.Option as std_option
+use Rattle.std.proofs.lemmas.Bool.{and_parts}
 use Rattle.c_arith.specs.declared.int_type.IntType.{IntType}
 use Rattle.c_tree.specs.Numbered.{Starts, start}
 use Rattle.c_tree.specs.declared.expr.Expr.{Expr}
@@ -31,21 +32,25 @@ use Rattle.c_tree.specs.declared.raw.statement.RawTypeName.{RawTypeName}
 use Rattle.c_tree.specs.declared.raw.statement.RawAmount.{RawAmount}
 use Rattle.c_tree.specs.declared.raw.statement.RawStatement.{RawStatement, map-RawStatement, roll-RawStatement, fold-roll-RawStatement}
 use Rattle.c_tree.specs.declared.raw.statement.RawStatement.TheOpen.{RawStatement-F}
-use Rattle.c_tree.specs.declared.raw.statement.RawArm.{RawArm, roll-RawArm, fold-RawArm, fold-roll-RawArm}
+use Rattle.c_tree.specs.declared.raw.statement.RawArm.{RawArm, roll-RawArm, fold-roll-RawArm}
+use Rattle.c_tree.proofs.RawTrees.{StatementParts, ArmParts, statement_layer, arm_layer, of_every_statement}
 use Rattle.c_language.specs.Words.{Bytes}
 use Rattle.c_language.specs.TypeGrammar.{named_type}
 use Rattle.c_language.specs.Scopes.{Scope, with_variable, with_target, with_named, with_parameter, with_parameters, scope_of_parameters, entered, opened, numbered, Scoped, in_order, after_all, after_block, after_part, scope_of_test, scope_of_body, begun}
 use Rattle.c_language.specs.Phrases.{after_item, after_items}
 use Rattle.c_language.specs.CallRules.{format_in, later_args}
 use Rattle.c_language.specs.ProgramOf.{collected, optional, expr_of, init_of, declaration_id, target_tree, args_tree, only_tree, print_tree, invoke_tree, amount_tree, heap_tree, ctype_if, label_tree, arm_tree, ArmTree, arm_tree_step, block_tree, at_type, switch_type, part_tree, for_tree, treed_step, treed, body_of, function_tree, functions_from, item_tree, items_from}
+use Rattle.c_language.proofs.TreedForms.{treed_arm}
+use Rattle.c_language.proofs.Options.{none_there, some_same}
+use Rattle.c_language.proofs.Tests.{false_true}
+use Rattle.c_language.proofs.PhraseLists.{body_after}
+use Rattle.c_language.proofs.TreeScopes.{list_after}
 use Rattle.c_print.specs.Lines.{Placed, placed, arm_placed, item_placed, function_placed, bare, simple, heights, own_starts, part_starts, starts_from, block_starts}
 use Rattle.c_print.proofs.PlacedLemmas.{placed-Declare, placed-Assign, placed-Bump, placed-Invoke, placed-Fetch, placed-Write, placed-Print, placed-Heap, placed-Release, placed-Return, placed-If, placed-While, placed-Do, placed-For, placed-Switch, placed-Block, placed-arm}
 use Rattle.c_print.proofs.OpeningLemmas.{IsListed, listed_left, listed_right, inside_listed}
-use Rattle.c_print_laws.proofs.Options.{none_there, some_same, map_there, then_there, both_there, collected_are, cons_nil, first_same, rest_same}
-use Rattle.c_print_laws.proofs.Trees.{StatementParts, ArmParts, statement_layer, arm_layer, of_every_statement}
-use Rattle.c_print_laws.proofs.Definitions.{Behind, behind_first, behind_rest, behind_at, and_parts, false_true}
-use Rattle.c_print_laws.proofs.Numbers.{body_after, through_function, define_functions}
-use Rattle.c_print_laws.proofs.Scoping.{after_same}
+use Rattle.c_print_laws.proofs.Options.{map_there, then_there, both_there, collected_are, cons_nil, first_same, rest_same}
+use Rattle.c_print_laws.proofs.Definitions.{Behind, behind_first, behind_rest, behind_at}
+use Rattle.c_print_laws.proofs.Numbers.{through_function, define_functions}
 use Rattle.c_print_laws.proofs.ForParts.{Form, all_tidy, is_single_part, form_step, form_arm, form_of, form_of_arm, are_tidy, AreTidy}
 
 -- ---- numbers in order
@@ -97,14 +102,11 @@ one_takes b single gives after = record {
 -- ---- lists
 
 module _ (raw : RawProgram) where
-  abbrev treed_arm : RawArm → Scoped ArmTree
-  treed_arm = fold-RawArm (Scoped (Option Statement)) (Scoped ArmTree) (treed_step raw) (arm_tree_step raw)
-
   abbrev Q : RawStatement → Type 0
   Q x = (form_of x).tidy ≡ true → Takes (treed raw x) (form_of x).single
 
   abbrev R : RawArm → Type 0
-  R x = (form_of_arm x).tidy ≡ true → ArmTakes (treed_arm x)
+  R x = (form_of_arm x).tidy ≡ true → ArmTakes (treed_arm raw x)
 
   abbrev bodies : List ((x : RawStatement) × Q x) → List RawStatement
   bodies = map (λ (x : (y : RawStatement) × Q y). x.0)
@@ -138,16 +140,16 @@ module _ (raw : RawProgram) where
   ArmsTake bs =
       (scope : Scope) (type : IntType) (as_ : List Arm) → map (λ (a : ArmTree). a type) (in_order bs scope) ≡ map Some as_ → (m k : ℕ) → scope.statements ≤ m → m < (after_all bs scope).statements → IsListed m (block_starts (map arm_placed as_) k)
 
-  arms_take : (xs : List ((x : RawArm) × R x)) → all_tidy (map form_of_arm (bodies_of_arms xs)) ≡ true → ArmsTake (map treed_arm (bodies_of_arms xs))
+  arms_take : (xs : List ((x : RawArm) × R x)) → all_tidy (map form_of_arm (bodies_of_arms xs)) ≡ true → ArmsTake (map (treed_arm raw) (bodies_of_arms xs))
   arms_take [] h scope type as_ e m k low high = absurd (omega (arith, low, high))
-  arms_take (x ∷ xs) h scope type [] e m k low high = cons_nil ((treed_arm x.0).gives scope type) (map (λ (a : ArmTree). a type) (in_order (map treed_arm (bodies_of_arms xs)) ((treed_arm x.0).after scope))) e
+  arms_take (x ∷ xs) h scope type [] e m k low high = cons_nil ((treed_arm raw x.0).gives scope type) (map (λ (a : ArmTree). a type) (in_order (map (treed_arm raw) (bodies_of_arms xs)) ((treed_arm raw x.0).after scope))) e
   arms_take (x ∷ xs) h scope type (a ∷ as_) e m k low high =
       let p = and_parts (form_of_arm x.0).tidy (all_tidy (map form_of_arm (bodies_of_arms xs))) h in
       let one = starts_from (arm_placed a) k in
       let rest = block_starts (map arm_placed as_) (k + (arm_placed a).height) in
-      split m ((treed_arm x.0).after scope).statements
+      split m ((treed_arm raw x.0).after scope).statements
       (λ lt. listed_left m one rest ((x.1 p.0).has scope type a (first_same e) m k low lt))
-      (λ ge. listed_right m one rest (arms_take xs p.1 ((treed_arm x.0).after scope) type as_ (rest_same e) m (k + (arm_placed a).height) ge high))
+      (λ ge. listed_right m one rest (arms_take xs p.1 ((treed_arm raw x.0).after scope) type as_ (rest_same e) m (k + (arm_placed a).height) ge high))
 
   -- ---- calls
 
@@ -245,7 +247,7 @@ module _ (raw : RawProgram) where
   forms y = form_step (map-RawStatement RawStatement RawArm Form Form form_of form_of_arm (layer y))
 
   abbrev step_of : StatementParts Q R → Scoped (Option Statement)
-  step_of y = treed_step raw (map-RawStatement RawStatement RawArm (Scoped (Option Statement)) (Scoped ArmTree) (treed raw) treed_arm (layer y))
+  step_of y = treed_step raw (map-RawStatement RawStatement RawArm (Scoped (Option Statement)) (Scoped ArmTree) (treed raw) (treed_arm raw) (layer y))
 
   declare_takes : (l : ℕ) (b : Scoped (Option Statement)) (x : Scope → ℕ) (i : RawInit) (inits : Scope → Option Init) → ((scope : Scope) → b.gives scope ≡ option_map (s.Declare (declaration_id i scope.statements) l (x scope)) (inits scope))
       → ((scope : Scope) → (b.after scope).statements ≡ (begun i scope).statements) → Takes b true
@@ -320,7 +322,7 @@ module _ (raw : RawProgram) where
       let p = and_parts (is_single_part (Some (form_of x.0))) (are_tidy (bodies b)) o.1 in
       has_others (step_of (RawStatement-F.For l (Some i) e (Some x) b)) (λ scope t is m k low high. for_takes l (Some (treed raw i.0)) (Some (treed raw x.0)) e bs (part_of i o.0) (part_of x p.0) (all_take b p.1) scope t is m k low high)
   step_takes (RawStatement-F.Switch l e arms) h =
-      let bs = map treed_arm (bodies_of_arms arms) in
+      let bs = map (treed_arm raw) (bodies_of_arms arms) in
       has_others (step_of (RawStatement-F.Switch l e arms)) (λ scope t is m k low high.
       let x = then_there _ (expr_of raw scope e) t is in
       let y = then_there _ (switch_type raw scope e) t x.same in
@@ -368,7 +370,7 @@ module _ (raw : RawProgram) where
   parameters_statements [] scope = refl
   parameters_statements (x ∷ ps) scope = parameters_statements ps (with_parameter raw x scope) ∙ named_statements x x.name scope
 
-  entered_statements : (h : RawHead) (scope : Scope) → (entered raw h scope).statements ≡ scope.statements
+  pub entered_statements : (h : RawHead) (scope : Scope) → (entered raw h scope).statements ≡ scope.statements
   entered_statements h scope = parameters_statements h.params (scope_of_parameters h scope) ∙ through_function raw (λ (z : Scope). z.statements) h.name scope refl
 
   module _ (p : Program) where
@@ -397,7 +399,7 @@ module _ (raw : RawProgram) where
         let is_one : one ≡ item.Define scope.functions = sym (some_same (first_same i)) in
         let at : slice_get p.functions scope.functions ≡ Some g = behind_first p.functions scope.functions g fs b in
         let begins : begin.statements ≡ scope.statements = entered_statements h scope in
-        let ends : next.statements ≡ (after_all (map (treed raw) body) begin).statements = ap (λ (z : Scope). z.statements) (body_after raw body begin ∙ sym (after_same raw body begin)) in
+        let ends : next.statements ≡ (after_all (map (treed raw) body) begin).statements = ap (λ (z : Scope). z.statements) (body_after raw body begin ∙ sym (list_after raw body begin)) in
         let own = starts_from (item_placed p one) k in
         let others = block_starts (map (item_placed p) is) (k + (item_placed p one).height) in
         split m next.statements

@@ -14,11 +14,12 @@ use Rattle.c_tree.specs.declared.raw.statement.RawTarget.TheVariants as target
 use Rattle.c_tree.specs.declared.raw.statement.RawStatement.{RawStatement, map-RawStatement, fold-roll-RawStatement}
 use Rattle.c_tree.specs.declared.raw.statement.RawStatement.TheOpen.{RawStatement-F}
 use Rattle.c_tree.specs.declared.raw.statement.RawArm.{RawArm, fold-roll-RawArm}
+use Rattle.c_tree.proofs.RawTrees.{StatementParts, statement_layer, arm_layer, of_every_statement}
 use Rattle.c_language.specs.Words.{Bytes}
 use Rattle.c_language.specs.Scopes.{Scope, Scoped, Meaning, meaning_here, with_variable, with_function, with_entry, with_named, with_parameter, with_parameters, scope_of_parameters, entered, with_target, opened, closed, numbered, begun, in_order, after_all, after_block}
 use Rattle.c_language.specs.Phrases.{Stand, InBlock, InFile, Phrases, phrase, begun_phrases, joined_at, ArmText, EndsFunction, scoped_step, scoped_arm, scoped, scoped_of_arm, body_phrases, after_body, member_phrases, taken_phrases, parameter_phrases, head_phrases, item_phrases, after_item}
 use Rattle.c_language.specs.ProgramOf.{variables_in}
-use Rattle.c_print_laws.proofs.Trees.{StatementParts, statement_layer, arm_layer, of_every_statement}
+use Rattle.c_language.proofs.PhraseLists.{body_in_order, body_after}
 use Rattle.c_print_laws.proofs.Scoping.{declared_count, count_append, begun_count, after_count}
 
 -- the two scopes have as many functions and struct types before them
@@ -118,18 +119,10 @@ module _ (raw : RawProgram) where
   body_numbers [] scope = same_numbers scope
   body_numbers (x ∷ xs) scope = then_numbers (body_numbers xs ((scoped raw x).after scope)) (statement_kept x scope)
 
-  pub body_in_order : (body : List RawStatement) (scope : Scope) → body_phrases raw body scope ≡ joined_at InBlock (in_order (map (scoped raw) body) scope)
-  body_in_order [] scope = refl
-  body_in_order (x ∷ xs) scope = ap (λ (ps : Phrases). (scoped raw x).gives scope InBlock ++ ps) (body_in_order xs ((scoped raw x).after scope))
-
-  pub body_after : (body : List RawStatement) (scope : Scope) → after_body raw body scope ≡ after_all (map (scoped raw) body) scope
-  body_after [] scope = refl
-  body_after (x ∷ xs) scope = body_after xs ((scoped raw x).after scope)
-
   body_count : (body : List RawStatement) (scope : Scope) → scope.variables + declared_count raw (body_phrases raw body scope) ≡ (after_body raw body scope).variables
   body_count body scope =
-      let a : declared_count raw (body_phrases raw body scope) ≡ declared_count raw (joined_at InBlock (in_order (map (scoped raw) body) scope)) = ap (declared_count raw) (body_in_order body scope) in
-      let b : (after_body raw body scope).variables ≡ (after_all (map (scoped raw) body) scope).variables = ap (λ (z : Scope). z.variables) (body_after body scope) in
+      let a : declared_count raw (body_phrases raw body scope) ≡ declared_count raw (joined_at InBlock (in_order (map (scoped raw) body) scope)) = ap (declared_count raw) (body_in_order raw body scope) in
+      let b : (after_body raw body scope).variables ≡ (after_all (map (scoped raw) body) scope).variables = ap (λ (z : Scope). z.variables) (body_after raw body scope) in
       let c : scope.variables + declared_count raw (joined_at InBlock (in_order (map (scoped raw) body) scope)) ≡ (after_all (map (scoped raw) body) scope).variables = after_count raw body scope InBlock in
       omega (arith, a, b, c)
 

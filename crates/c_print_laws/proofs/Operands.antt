@@ -1,11 +1,13 @@
 -- An expression in which no rule is broken is an operand, where each name in scope has a type.
-use Rattle.std.proofs.Common.{◌≡◌, ℕ, [], ◌∷◌, Bool, true, false, Option, Some, None, refl, sym, ap, subst}
+use Rattle.std.proofs.Common.{◌≡◌, ℕ, [], ◌∷◌, Bool, true, false, Option, Some, None, sym, ap, subst}
 use Rattle.std.specs.Prelude.{Contains, not, ◌||◌, ◌&&◌, nat_lt, is_none, option_and_then, if◌then◌else◌}
+use Rattle.std.proofs.lemmas.Bool.{false_from_ne_true}
 use Rattle.c_tree.specs.declared.raw.expr.RawExpr.{RawExpr, map-RawExpr, roll-RawExpr, fold-roll-RawExpr}
 use Rattle.c_tree.specs.declared.raw.expr.RawExpr.TheOpen.{RawExpr-F}
 use Rattle.c_tree.specs.declared.raw.expr.RawExpr.TheViews.{out-roll-RawExpr}
 use Rattle.c_tree.specs.declared.raw.program.RawMember.{RawMember}
 use Rattle.c_tree.specs.declared.raw.program.RawProgram.{RawProgram}
+use Rattle.c_tree.proofs.RawTrees.{ExprParts, expr_layer, of_every_expr}
 use Rattle.c_language.specs.Words.{Bytes}
 use Rattle.c_language.specs.DeclaredTypes.{written_type}
 use Rattle.c_language.specs.Scopes.{Scope, Meaning, meaning_in}
@@ -19,8 +21,10 @@ use Rattle.c_language.specs.Rules.{Breaks, undeclared, tag, member, operator, ad
 use Rattle.c_language.specs.Uses.{operands_of, expressions, IsWithin, whole, deeper, holds}
 use Rattle.c_language.specs.declared.expr_type.ExprType.{ExprType}
 use Rattle.c_language.specs.declared.expr_type.Operand.{Operand}
-use Rattle.c_print_laws.proofs.Options.{false_true, contains_first, contains_later, IsThere, there_map}
-use Rattle.c_print_laws.proofs.Trees.{ExprParts, expr_layer, of_every_expr}
+use Rattle.c_language.proofs.Options.{IsThere, there_map}
+use Rattle.c_language.proofs.Tests.{false_true}
+use Rattle.c_language.proofs.Lists.{contains_first, contains_later}
+use Rattle.c_language.proofs.UseLemmas.{OfParts}
 
 -- a form of an expression breaks none of these rules
 pub record IsClean (raw : RawProgram) (scope : Scope) (s : Seen) : Type 0 where
@@ -34,21 +38,17 @@ pub record IsClean (raw : RawProgram) (scope : Scope) (s : Seen) : Type 0 where
 abbrev pub KeepsAll : RawProgram → Scope → RawExpr → Type 0
 KeepsAll raw scope a = (inner : RawExpr) → IsWithin inner a → IsClean raw scope (seen raw scope inner)
 
-not_true : (b : Bool) → (b ≡ true → ⊥) → b ≡ false
-not_true true h = absurd (h refl)
-not_true false h = refl
-
 pub true_false : {A : Type 0} → ◌≡◌ {A = Bool} true false → A
 true_false h = false_true (sym h)
 
 -- a phrase that breaks no rule has expressions that break none
 pub keeps_all : (raw : RawProgram) (scope : Scope) (part : Part) → ((n : ℕ) → Breaks raw scope part n → ⊥) → (a : RawExpr) → Contains (expressions part) a → KeepsAll raw scope a
 keeps_all raw scope part kept a c inner w = record {
-  declared = not_true _ (λ h. kept 1 (undeclared (UsesUndeclared.in_expression (holds c w) h)));
-  operands = not_true _ (λ h. kept 12 (operator (MisusesOperator.in_expression (holds c w) h)));
-  address = not_true _ (λ h. kept 15 (address (MisusesAddress.in_expression (holds c w) h)));
-  complete = not_true _ (λ h. kept 7 (tag (MisusesTag.in_expression (holds c w) h)));
-  member = not_true _ (λ h. kept 8 (member (MisnamesMember.missing (holds c w) h)));
+  declared = false_from_ne_true _ (λ h. kept 1 (undeclared (UsesUndeclared.in_expression (holds c w) h)));
+  operands = false_from_ne_true _ (λ h. kept 12 (operator (MisusesOperator.in_expression (holds c w) h)));
+  address = false_from_ne_true _ (λ h. kept 15 (address (MisusesAddress.in_expression (holds c w) h)));
+  complete = false_from_ne_true _ (λ h. kept 7 (tag (MisusesTag.in_expression (holds c w) h)));
+  member = false_from_ne_true _ (λ h. kept 8 (member (MisnamesMember.missing (holds c w) h)));
 }
 
 -- what a name stands for has its type
@@ -63,25 +63,6 @@ HasTypeIf (Some m) = HasType m
 abbrev pub IsTypedIf : RawProgram → Option RawMember → Type 0
 IsTypedIf raw None = Unit {0}
 IsTypedIf raw (Some m) = IsThere (written_type raw m.shape)
-
--- the same of each operand of a form
-abbrev OfParts : {A : Type 0} → (A → Type 0) → RawExpr-F A → Type 0
-OfParts P (RawExpr-F.Constant text) = Unit {0}
-OfParts P RawExpr-F.Null = Unit {0}
-OfParts P RawExpr-F.Eof = Unit {0}
-OfParts P (RawExpr-F.Variable name) = Unit {0}
-OfParts P (RawExpr-F.Unary op a) = P a
-OfParts P (RawExpr-F.Deref a) = P a
-OfParts P (RawExpr-F.AddressOf a) = P a
-OfParts P (RawExpr-F.Binary op a b) = P a × P b
-OfParts P (RawExpr-F.AndAlso a b) = P a × P b
-OfParts P (RawExpr-F.OrElse a b) = P a × P b
-OfParts P (RawExpr-F.Choose c a b) = P c × P a × P b
-OfParts P (RawExpr-F.Cast t a) = P a
-OfParts P (RawExpr-F.Index a i) = P a × P i
-OfParts P (RawExpr-F.Member a m) = P a
-OfParts P (RawExpr-F.Arrow a m) = P a
-OfParts P (RawExpr-F.Paren a) = P a
 
 not_fails : {A : Type 0} (r : Option A) → fails (Some r) ≡ false → IsThere r
 not_fails None h = true_false h

@@ -1,45 +1,9 @@
 -- Where a value that is computed from options is there, the options are.
-use Rattle.std.proofs.Common.{arith, Bool, true, false, ◌&&◌, ◌≡◌, ℕ, zero, suc, List, [], ◌∷◌, Option, Some, None, refl, sym, ap, subst, ◌∙◌, map, slice_get}
-use Rattle.std.specs.Prelude.{Contains, option_map, option_and_then}
-use Rattle.std.specs.Option.{unwrap_or}
+use Rattle.std.proofs.Common.{◌≡◌, ℕ, zero, suc, List, [], ◌∷◌, Option, Some, None, refl, sym, ap, subst, ◌∙◌, map, slice_get}
+use Rattle.std.specs.Prelude.{option_map, option_and_then}
 use Rattle.c_language.specs.ConstantEvaluation.{both}
 use Rattle.c_language.specs.ProgramOf.{collected}
-
-abbrev is_false : Bool → Type 0
-is_false false = Unit {0}
-is_false true = ⊥
-
-pub false_true : {A : Type 0} → ◌≡◌ {A = Bool} false true → A
-false_true h = absurd (subst is_false h tt)
-
-pub and_parts : (a b : Bool) → (a && b) ≡ true → (a ≡ true) × (b ≡ true)
-and_parts true b h = (refl, h)
-and_parts false b h = false_true h
-
-pub contains_first : {A : Type 0} (a : A) (rest : List A) → Contains (a ∷ rest) a
-contains_first a rest = (0, omega arith, refl)
-
-pub contains_later : {A : Type 0} (a b : A) (rest : List A) → Contains rest b → Contains (a ∷ rest) b
-contains_later a b rest (k, within, is) = (suc k, omega (arith, within), is)
-
-abbrev pub IsThere : {A : Type 0} → Option A → Type 0
-IsThere None = ⊥
-IsThere (Some x) = Unit {0}
-
-pub there_map : {A B : Type 0} (f : A → B) (o : Option A) → IsThere o → IsThere (option_map f o)
-there_map f None h = h
-there_map f (Some x) h = tt
-
--- the value that is there
-pub value_there : {A : Type 0} (o : Option A) → IsThere o → (x : A) × (o ≡ Some x)
-value_there None h = absurd h
-value_there (Some x) h = (x, refl)
-
-pub none_there : {A B : Type 0} {x : A} → ◌≡◌ {A = Option A} None (Some x) → B
-none_there h = absurd (subst IsThere (sym h) tt)
-
-pub some_same : {A : Type 0} {x y : A} → ◌≡◌ {A = Option A} (Some x) (Some y) → x ≡ y
-some_same {x} h = ap (λ (o : Option _). unwrap_or o x) h
+use Rattle.c_language.proofs.Options.{none_there, some_same}
 
 -- a value with what it gives
 pub record Gives {A B : Type 0} (x : Option A) (f : A → B) (y : B) : Type 0 where

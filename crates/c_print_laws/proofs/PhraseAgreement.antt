@@ -1,5 +1,6 @@
 -- The phrases of a text agree with those of what the layout keeps of it.
 use Rattle.std.proofs.Common.{◌≡◌, ℕ, ◌+◌, ◌&&◌, List, [], ◌∷◌, ◌++◌, map, Bool, true, Option, Some, None, refl, sym, ap, ap₂, subst, ◌∙◌}
+use Rattle.std.proofs.lemmas.Bool.{and_parts}
 use Rattle.c_tree.specs.declared.raw.expr.RawExpr.{RawExpr}
 use Rattle.c_tree.specs.declared.raw.expr.RawVar.{RawVar}
 use Rattle.c_tree.specs.declared.raw.program.RawInit.{RawInit}
@@ -12,15 +13,16 @@ use Rattle.c_tree.specs.declared.raw.statement.RawStatement.{RawStatement, roll-
 use Rattle.c_tree.specs.declared.raw.statement.RawStatement.TheOpen.{RawStatement-F, RawArm-F}
 use Rattle.c_tree.specs.declared.raw.statement.RawStatement.TheVariants as s
 use Rattle.c_tree.specs.declared.raw.statement.RawArm.{RawArm, roll-RawArm, map-RawArm, fold-roll-RawArm}
+use Rattle.c_tree.proofs.RawTrees.{StatementParts, statement_layer, ArmParts, arm_layer, of_every_statement, of_every_arm}
 use Rattle.c_language.specs.Words.{Bytes}
 use Rattle.c_language.specs.DeclaredTypes.{item_count}
 use Rattle.c_language.specs.Scopes.{Scope, Scoped, Meaning, with_entry, with_variable, with_target, opened, closed, numbered, begun, in_order, after_all, after_block, part_gives, after_part, scope_of_test, scope_of_body}
 use Rattle.c_language.specs.Phrases.{Stand, InBlock, InArm, InFor, Part, Phrase, Phrases, phrase, Tests, Switches, declaration, begun_phrases, target_phrases, joined_at, block_phrases, at_stand, ArmText, labels_of, phrases_of_arms, scoped_step, scoped_arm, scoped, scoped_of_arm}
 use Rattle.c_language.specs.declared.expr_type.ExprType.{ExprType}
-use Rattle.c_print.specs.Settled.{settled_var, settled_step, settled_arm_step, settled, settled_arm}
-use Rattle.c_print.proofs.Declarations.{all_true, declares_step, arm_declares, declarations_pass, arm_passes}
-use Rattle.c_print_laws.proofs.Trees.{StatementParts, statement_layer, ArmParts, arm_layer, of_every_statement, of_every_arm}
-use Rattle.c_print_laws.proofs.Definitions.{and_parts}
+use Rattle.c_text_layout.specs.Settled.{settled_var, settled_step, settled_arm_step, settled}
+use Rattle.c_text_layout.proofs.RawStatementLemmas.{settled_arm}
+use Rattle.c_text_layout.specs.Declarations.{all_true, declares_step, arm_declares, declarations_pass}
+use Rattle.c_text_layout.proofs.DeclarationLemmas.{arm_passes}
 use Rattle.c_print_laws.proofs.Alike.{Pairwise, pairwise_append}
 use Rattle.c_print_laws.proofs.Resembling.{Resembles}
 use Rattle.c_print_laws.proofs.RuleTransfer.{VarsAgree, PartsAgree, vars_same}

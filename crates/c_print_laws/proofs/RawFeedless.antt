@@ -1,7 +1,8 @@
 -- Trees of texts in which no text holds a line feed: names, spellings of constants, and strings.
-use Rattle.std.proofs.Common.{◌≡◌, List, [], ◌∷◌, ◌++◌, map, Bool, true, ◌&&◌, sym, ap, ap₂, ◌∙◌}
+use Rattle.std.proofs.Common.{◌≡◌, List, [], ◌∷◌, ◌++◌, map, Bool, true, ◌&&◌, sym, ap, ◌∙◌}
 use Rattle.std.specs.List.{list_all}
 use Rattle.std.specs.Option.{option_map_or}
+use Rattle.std.proofs.lemmas.Bool.{and_from, and_parts}
 use Rattle.c_tree.specs.declared.raw.expr.RawExpr.{RawExpr, roll-RawExpr, map-RawExpr, fold-RawExpr, fold-roll-RawExpr}
 use Rattle.c_tree.specs.declared.raw.expr.RawExpr.TheOpen.{RawExpr-F}
 use Rattle.c_tree.specs.declared.raw.expr.RawLength.{RawLength}
@@ -32,7 +33,6 @@ use Rattle.c_tree.specs.declared.raw.statement.RawStatement.TheOpen.{RawStatemen
 use Rattle.c_tree.specs.declared.raw.statement.RawArm.{RawArm, fold-RawArm, fold-roll-RawArm}
 use Rattle.c_language.specs.StatementGrammar.{arm}
 use Rattle.c_print.specs.Feedless.{feedless, each, if_any}
-use Rattle.c_print_laws.proofs.Options.{and_parts}
 
 -- ---- expressions and types
 
@@ -156,9 +156,6 @@ raw_items_feedless items = list_all raw_item_feedless items
 
 -- ---- a tree by its outermost form
 
-pub both_feedless : {a b : Bool} → a ≡ true → b ≡ true → (a && b) ≡ true
-both_feedless h k = ap₂ (λ (x y : Bool). x && y) h k
-
 pub expr_by : {a : RawExpr} (y : RawExpr-F RawExpr) → roll-RawExpr y ≡ a → raw_expr_step (map-RawExpr RawExpr Bool raw_expr_feedless y) ≡ true → raw_expr_feedless a ≡ true
 expr_by y is h = ap raw_expr_feedless (sym is) ∙ fold-roll-RawExpr Bool raw_expr_step y ∙ h
 
@@ -170,12 +167,12 @@ pub statement_by : {a : RawStatement} (y : RawStatement-F RawStatement RawArm) �
 statement_by y is h = ap raw_statement_feedless (sym is) ∙ fold-roll-RawStatement Bool Bool raw_statement_step raw_arm_step y ∙ h
 
 pub arm_by : (labels : List RawLabel) (body : List RawStatement) → list_all raw_label_feedless labels ≡ true → raw_body_feedless body ≡ true → raw_arm_feedless (arm labels body) ≡ true
-arm_by labels body h k = fold-roll-RawArm Bool Bool raw_statement_step raw_arm_step (record { labels = labels; body = body }) ∙ both_feedless h k
+arm_by labels body h k = fold-roll-RawArm Bool Bool raw_statement_step raw_arm_step (record { labels = labels; body = body }) ∙ and_from _ _ h k
 
 pub bodies_append : (xs ys : List RawStatement) → raw_body_feedless xs ≡ true → raw_body_feedless ys ≡ true → raw_body_feedless (xs ++ ys) ≡ true
 bodies_append [] ys h k = k
-bodies_append (x ∷ xs) ys h k = let p = and_parts (raw_statement_feedless x) (raw_body_feedless xs) h in both_feedless p.0 (bodies_append xs ys p.1 k)
+bodies_append (x ∷ xs) ys h k = let p = and_parts (raw_statement_feedless x) (raw_body_feedless xs) h in and_from _ _ p.0 (bodies_append xs ys p.1 k)
 
 pub all_append : {A : Type 0} (test : A → Bool) (xs ys : List A) → list_all test xs ≡ true → list_all test ys ≡ true → list_all test (xs ++ ys) ≡ true
 all_append test [] ys h k = k
-all_append test (x ∷ xs) ys h k = let p = and_parts (test x) (list_all test xs) h in both_feedless p.0 (all_append test xs ys p.1 k)
+all_append test (x ∷ xs) ys h k = let p = and_parts (test x) (list_all test xs) h in and_from _ _ p.0 (all_append test xs ys p.1 k)

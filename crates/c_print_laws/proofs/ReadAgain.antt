@@ -18,10 +18,10 @@ use Rattle.c_language.specs.Layout.{layout}
 use Rattle.c_language.specs.Limits.{longest, longest_in_structs, longest_in_variables, array_length, cells, struct_cells, greatest, greatest_variable, object_cells}
 use Rattle.c_language.specs.Programs.{IsWithinLimits, IsWellFormed}
 use Rattle.c_print.specs.Feedless.{feedless}
-use Rattle.c_print.specs.RawLayout.{raw_layout}
-use Rattle.c_print.specs.Settled.{SameInLayout, items_lack_lengths}
-use Rattle.c_print.proofs.ItemPrint.{printed_is_read}
-use Rattle.c_print.proofs.TextPrint.{text_formed, formed_written}
+use Rattle.c_text_layout.specs.RawLayout.{raw_layout}
+use Rattle.c_text_layout.specs.Settled.{SameInLayout, items_lack_lengths}
+use Rattle.c_text_layout.proofs.ItemPrint.{printed_is_read}
+use Rattle.c_text_layout.proofs.TextPrint.{text_formed, formed_written}
 use Rattle.c_print_laws.specs.ReadAgain.{starless, comment_line, IsReadAgain}
 use Rattle.c_print_laws.proofs.Commented.{behind_comment_line}
 use Rattle.c_print_laws.proofs.ItemLayout.{layout_of_tree}
@@ -86,7 +86,7 @@ limits_kept raw found p q same bare but_lines h =
 -- ---- left-out constructs
 
 -- Where no left-out construct begins among the tokens, none is told at one of them.
-untold_tokens : (ts : Tokens) → ((text : Bytes) (line : ℕ) → IsLeftOut ts text line → ⊥) → AreUntold [] ts
+pub untold_tokens : (ts : Tokens) → ((text : Bytes) (line : ℕ) → IsLeftOut ts text line → ⊥) → AreUntold [] ts
 untold_tokens ts whole = told_all [] ts (λ front t behind is told.
     whole t.text t.line (record {
       front = front;
@@ -103,7 +103,7 @@ none_begins {front = front} {behind} {t} all is h (BeginsLeftOut.told told) = un
 none_begins all is h (BeginsLeftOut.without_tree none k) = none all is
 
 -- Where none is told at tokens in the grammar, no left-out construct begins among them.
-none_left_out : {ts : Tokens} (all : RawProgram) → IsProgram ts all → AreUntold [] ts → (text : Bytes) (line : ℕ) → IsLeftOut ts text line → ⊥
+pub none_left_out : {ts : Tokens} (all : RawProgram) → IsProgram ts all → AreUntold [] ts → (text : Bytes) (line : ℕ) → IsLeftOut ts text line → ⊥
 none_left_out all is h text line x = none_begins all is (subst (AreUntold []) x.split h) x.begins
 
 -- The layout of a well-formed program is read again behind what its tokens stand behind.

@@ -9,12 +9,13 @@ use Rattle.c_tree.specs.declared.expr.Expr.TheVariants as e
 use Rattle.c_tree.specs.declared.expr.MemberId.{MemberId}
 use Rattle.c_tree.specs.declared.raw.expr.RawExpr.{RawExpr, out-RawExpr, map-RawExpr, fold-RawExpr, fold-roll-RawExpr}
 use Rattle.c_tree.specs.declared.raw.expr.RawExpr.TheOpen.{RawExpr-F}
-use Rattle.c_tree.specs.declared.raw.expr.RawType.{RawType, map-RawType, fold-RawType, fold-roll-RawType}
+use Rattle.c_tree.specs.declared.raw.expr.RawType.{RawType}
 use Rattle.c_tree.specs.declared.raw.expr.RawType.TheOpen.{RawType-F}
 use Rattle.c_tree.specs.declared.raw.program.RawMember.{RawMember}
 use Rattle.c_tree.specs.declared.raw.program.RawParam.{RawParam}
 use Rattle.c_tree.specs.declared.raw.program.RawHead.{RawHead}
 use Rattle.c_tree.specs.declared.raw.program.RawProgram.{RawProgram}
+use Rattle.c_tree.proofs.RawTrees.{type_folds_same, ExprParts, expr_layer, of_every_expr}
 use Rattle.c_language.specs.Words.{Bytes}
 use Rattle.c_language.specs.DeclaredTypes.{StructText, defined_structs, defined_functions, struct_id, function_id, definition_of, of_base, type_step, type_with, written_type, has_stdio, has_stdlib}
 use Rattle.c_language.specs.Scopes.{Scope}
@@ -24,7 +25,6 @@ use Rattle.c_language.specs.ProgramOf.{Told, told_step, expr_of, member_id, of_o
 use Rattle.c_language.specs.declared.expr_type.Base.TheVariants as base
 use Rattle.c_language.specs.declared.expr_type.ExprType.{ExprType}
 use Rattle.c_language.specs.declared.expr_type.Operand.{Operand}
-use Rattle.c_print_laws.proofs.Trees.{ExprParts, expr_layer, of_every_expr, TypeParts, type_layer, of_every_type}
 use Rattle.c_print_laws.proofs.Alike.{Pairwise, BothThere, place_there, found_there, position_same, pairwise_back}
 
 -- ---- folds by steps that agree
@@ -55,21 +55,6 @@ module _ {A : Type 0} (f g : RawExpr-F A → A) (same : (y : RawExpr-F A) → f 
   expr_folds_same = of_every_expr ExprSame (λ y.
       fold-roll-RawExpr A f (expr_layer ExprSame y) ∙ ap f (parts_same y) ∙ same (map-RawExpr RawExpr A (fold-RawExpr A g) (expr_layer ExprSame y))
       ∙ sym (fold-roll-RawExpr A g (expr_layer ExprSame y)))
-
-module _ {A : Type 0} (f g : RawType-F A → A) (same : (y : RawType-F A) → f y ≡ g y) where
-  abbrev TypeSame : RawType → Type 0
-  TypeSame a = fold-RawType A f a ≡ fold-RawType A g a
-
-  layers_same : (y : TypeParts TypeSame) → map-RawType RawType A (fold-RawType A f) (type_layer TypeSame y) ≡ map-RawType RawType A (fold-RawType A g) (type_layer TypeSame y)
-  layers_same (RawType-F.Integer i) = refl
-  layers_same (RawType-F.PointerTo a) = ap RawType-F.PointerTo a.1
-  layers_same (RawType-F.Array a n) = ap (λ (x : A). RawType-F.Array x n) a.1
-  layers_same (RawType-F.Struct tag) = refl
-
-  pub type_folds_same : (a : RawType) → fold-RawType A f a ≡ fold-RawType A g a
-  type_folds_same = of_every_type TypeSame (λ y.
-      fold-roll-RawType A f (type_layer TypeSame y) ∙ ap f (layers_same y) ∙ same (map-RawType RawType A (fold-RawType A g) (type_layer TypeSame y))
-      ∙ sym (fold-roll-RawType A g (type_layer TypeSame y)))
 
 -- ---- texts that resemble one another
 

@@ -1,9 +1,8 @@
 -- A phrase breaks a rule where the phrase of a resembling text breaks it.
 use Rattle.std.proofs.Common.{◌≡◌, ℕ, suc, ◌&&◌, ◌||◌, List, [], ◌∷◌, length, take, Bool, true, false, not, Option, Some, None, pos, refl, sym, ap, ap₂, subst, ◌∙◌, arith, slice_get, ◌⊎◌, inl, inr}
 use Rattle.std.specs.Prelude.{Contains, option_map, option_and_then, is_none}
-use Rattle.c_tree.specs.declared.raw.expr.RawExpr.{RawExpr, out-RawExpr, map-RawExpr}
+use Rattle.c_tree.specs.declared.raw.expr.RawExpr.{RawExpr, map-RawExpr}
 use Rattle.c_tree.specs.declared.raw.expr.RawExpr.TheOpen.{RawExpr-F}
-use Rattle.c_tree.specs.declared.raw.expr.RawExpr.TheViews.{out-roll-RawExpr}
 use Rattle.c_tree.specs.declared.raw.expr.RawExpr.TheVariants as e
 use Rattle.c_tree.specs.declared.raw.expr.RawType.{RawType}
 use Rattle.c_tree.specs.declared.raw.expr.RawVar.{RawVar}
@@ -27,7 +26,7 @@ use Rattle.c_language.specs.ExprTypes.{operand, pointed, struct_of, member_of}
 use Rattle.c_language.specs.ExprRules.{Seen, seen, is_undeclared, lacks_header, has_bad_operand, has_no_address, needs_struct, selects_missing, holds_of, lacks_member, points_to_incomplete, moves_incomplete}
 use Rattle.c_language.specs.Formats.{Conversion}
 use Rattle.c_language.specs.Phrases.{Stand, Part, NamesStruct, DefinesStruct, HasMember, DeclaresFunction, Takes, EndsFunction, Declares, Begins, Assigns, Bumps, Calls, Allocates, Tests, Switches, Returns}
-use Rattle.c_language.specs.Uses.{operands_of, operands, IsWithin, whole, deeper, lengths_in, lengths, expressions, Holds, holds, tags_in, tags, tags_if, is_library_name, is_library_macro}
+use Rattle.c_language.specs.Uses.{lengths_in, lengths, expressions, Holds, holds, tags_in, tags, tags_if, is_library_name, is_library_macro}
 use Rattle.c_language.specs.Rules.{Breaks}
 use Rattle.c_language.specs.NameRules.{main_name, agree, all_agree, same_signature, IsDefinedBefore, UsesUndeclared, DeclaresAgain, Shadows, DeclaresLibraryName, MisusesMain, LacksDefinition, LacksHeader}
 use Rattle.c_language.specs.StructRules.{MisusesTag, MisnamesMember}
@@ -37,8 +36,9 @@ use Rattle.c_language.specs.TypeRules.{MisusesOperator, AssignsOtherType, IsNoTa
 use Rattle.c_language.specs.CallRules.{HasUnfitArgument, MisusesArguments, target_type, MisusesResult, head_around, EndsWithValue, MisusesReturn, HasUnfitWidth, MisusesFormat, HasOtherSize, MisusesAllocation, MisusesLibrary}
 use Rattle.c_language.specs.declared.expr_type.ExprType.{ExprType}
 use Rattle.c_language.specs.declared.expr_type.Operand.{Operand}
-use Rattle.c_print_laws.proofs.Options.{none_there, some_same}
-use Rattle.c_print_laws.proofs.Definitions.{false_true}
+use Rattle.c_language.proofs.Options.{none_there, some_same}
+use Rattle.c_language.proofs.Tests.{false_true}
+use Rattle.c_language.proofs.UseLemmas.{only_part, out-Constant}
 use Rattle.c_print_laws.proofs.Alike.{Pairwise, BothThere, pair_of, place_there, pairwise_take, pairwise_map, pairwise_length}
 use Rattle.c_print_laws.proofs.Resembling.{MembersAgree, StructsAgree, ParamsAgree, HeadsAgree, Resembles, struct_ids, definitions_agree, types_same, ctypes_same, lacks_same, operands_same, seen_same}
 
@@ -118,17 +118,6 @@ members_same (m ∷ ms) = (record { name = refl; shape = refl }, members_same ms
 pub params_same : (ps : List RawParam) → Pairwise ParamsAgree ps ps
 params_same [] = tt
 params_same (p ∷ ps) = (record { name = refl; shape = refl }, params_same ps)
-
-out-Constant : (text : Bytes) → out-RawExpr (e.Constant text) ≡ RawExpr-F.Constant text
-out-Constant text = ap out-RawExpr (sym (e.rolls-Constant text)) ∙ out-roll-RawExpr (RawExpr-F.Constant text)
-
--- a constant is its only part
-only_part : (a inner : RawExpr) (text : Bytes) → a ≡ e.Constant text → IsWithin inner a → inner ≡ e.Constant text
-only_part a inner text is whole = is
-only_part a inner text is (deeper {middle = m} c w) = absurd (no_part (subst (λ (x : RawExpr). Contains (operands x) m) is c))
-  where
-    no_part : Contains (operands (e.Constant text)) m → ⊥
-    no_part c = let k = subst (λ (y : RawExpr-F RawExpr). Contains (operands_of y) m) (out-Constant text) c in omega (arith, k.1)
 
 module _ (raw other : RawProgram) (like : Resembles raw other) where
   pub vars_same : (i : RawInit) (v : RawVar) → VarsAgree raw other i v v

@@ -1,5 +1,6 @@
 -- What the layout keeps of a text keeps the rules exactly where the text does.
 use Rattle.std.proofs.Common.{◌≡◌, List, [], ◌∷◌, ◌++◌, map, Bool, true, false, Option, Some, None, refl, sym, ap, subst, ◌∙◌}
+use Rattle.std.proofs.lemmas.Bool.{and_parts}
 use Rattle.c_tree.specs.declared.raw.expr.RawVar.{RawVar}
 use Rattle.c_tree.specs.declared.raw.program.RawInit.{RawInit}
 use Rattle.c_tree.specs.declared.raw.program.RawInit.TheVariants as init
@@ -21,14 +22,14 @@ use Rattle.c_language.specs.Phrases.{InBlock, InHead, InFile, Part, Phrase, Phra
 use Rattle.c_language.specs.Rules.{Breaks, IsBroken, KeepsRules}
 use Rattle.c_language.specs.NameRules.{main_name}
 use Rattle.c_language.specs.CallRules.{EndsWithValue}
-use Rattle.c_print.specs.Settled.{settled_var, settled, settled_member, settled_param, settled_head, settled_item}
-use Rattle.c_print.proofs.Declarations.{all_true, declarations_pass, item_passes, items_pass}
-use Rattle.c_print_laws.proofs.Definitions.{and_parts, false_true}
+use Rattle.c_text_layout.specs.Settled.{settled_var, settled, settled_member, settled_param, settled_head, settled_item}
+use Rattle.c_text_layout.specs.Declarations.{all_true, declarations_pass, item_passes, items_pass}
 use Rattle.c_print_laws.proofs.Alike.{Pairwise, pair_of, pairwise_append, pairwise_back}
 use Rattle.c_print_laws.proofs.Resembling.{MembersAgree, ParamsAgree, HeadsAgree, heads_back, members_back, Resembles, resembles_back, definitions_agree}
 use Rattle.c_print_laws.proofs.RuleTransfer.{VarsAgree, PartsAgree, vars_same, breaks_moves, there_none}
 use Rattle.c_print_laws.proofs.Settling.{settled_program, settled_resembles, heads_agree, settled_var_agrees}
-use Rattle.c_print_laws.proofs.PhraseAgreement.{Fine, kept_layer, settled_layer, PhraseAgrees, PhrasesAgree, agree_append, same_phrase, variable_same, declaration_agrees, statement_agrees}
+use Rattle.c_print_laws.proofs.PhraseAgreement.{Fine, kept_layer, settled_layer, PhrasesAgree, agree_append, same_phrase, variable_same, declaration_agrees, statement_agrees}
+use Rattle.c_language.proofs.Tests.{false_true}
 
 -- ---- the last statement of a function
 
@@ -117,9 +118,6 @@ ends_back xs h = ends_from xs (sym (settled_ends xs) ∙ ends_told h)
 module _ (raw other : RawProgram) (like : Resembles raw other) (test : RawVar → RawInit → Bool) (fine : Fine test) where
   abbrev Agree : Phrases → Phrases → Type 0
   Agree = PhrasesAgree raw other like test fine
-
-  abbrev One : Phrase → Phrase → Type 0
-  One = PhraseAgrees raw other like test fine
 
   pub body_after : (body : List RawStatement) → all_true (map (declarations_pass test) body) ≡ true → (scope : Scope) → after_body raw body scope ≡ after_body other (map settled body) scope
   body_after [] h scope = refl

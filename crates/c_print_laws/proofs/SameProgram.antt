@@ -1,6 +1,8 @@
 -- The program of what the layout keeps of a text is that of the text but for lines.
 use Rattle.std.proofs.Common.{◌≡◌, ℕ, ◌+◌, List, [], ◌∷◌, ◌++◌, map, Bool, true, Option, Some, None, refl, sym, ap, ap₂, ◌∙◌}
 use Rattle.std.specs.Prelude.{option_map, option_and_then, is_some, if◌then◌else◌}
+use Rattle.std.proofs.lemmas.List.{map-append}
+use Rattle.std.proofs.lemmas.Bool.{and_parts}
 use Rattle.c_tree.specs.declared.types.CType.{CType}
 use Rattle.c_tree.specs.declared.program.Program.{Program}
 use Rattle.c_tree.specs.declared.program.Function.{Function}
@@ -27,10 +29,9 @@ use Rattle.c_language.specs.DeclaredTypes.{StructText, defined_structs, item_cou
 use Rattle.c_language.specs.Scopes.{Scope, outset, entered, in_order, with_variable}
 use Rattle.c_language.specs.Phrases.{Stand, Part, NamesStruct, DefinesStruct, HasMember, DeclaresFunction, Takes, EndsFunction, Declares, Begins, Assigns, Bumps, Calls, Allocates, Tests, Switches, Returns, Phrases, phrases, after_item, after_items, scope_at_end}
 use Rattle.c_language.specs.ProgramOf.{collected, optional, ctype, ctype_with, ctype_if, init_of, treed, body_of, is_static_stand, is_parameter_stand, variable_of, declared_by, variables_in, variables_of, member_tree, struct_tree, structs_of, parameter_ids, function_tree, functions_from, functions_of, item_tree, items_from, items_of, program_with, program_of}
-use Rattle.c_print.specs.Settled.{settled_var, settled, settled_param, settled_head, settled_item}
-use Rattle.c_print.proofs.Declarations.{all_true, declarations_pass, item_passes, items_pass}
+use Rattle.c_text_layout.specs.Settled.{settled_var, settled, settled_param, settled_head, settled_item}
+use Rattle.c_text_layout.specs.Declarations.{all_true, declarations_pass, item_passes, items_pass}
 use Rattle.c_print_laws.proofs.Options.{map_there}
-use Rattle.c_print_laws.proofs.Definitions.{and_parts}
 use Rattle.c_print_laws.proofs.Alike.{Pairwise, pairwise_map}
 use Rattle.c_print_laws.proofs.Resembling.{MembersAgree, StructsAgree, Resembles, struct_ids, function_ids, ctypes_same}
 use Rattle.c_print_laws.proofs.RuleTransfer.{VarsAgree, PartsAgree, vars_same}
@@ -47,10 +48,6 @@ then_mapped h f (Some a) = refl
 
 abbrev bare_vars : List (Option Var) → List (Option Var)
 bare_vars vs = map (option_map unlined_var) vs
-
-map_append : {A B : Type 0} (f : A → B) (xs ys : List A) → map f (xs ++ ys) ≡ map f xs ++ map f ys
-map_append f [] ys = refl
-map_append f (x ∷ xs) ys = ap (λ (zs : List _). f x ∷ zs) (map_append f xs ys)
 
 abbrev zero_var : Bytes → Bool → Option ℕ → Bool → CType → Var
 zero_var name is_static owner is_parameter t = record { name = name; shape = t; line = 0; is_static = is_static; owner = owner; is_parameter = is_parameter }
@@ -98,11 +95,11 @@ module _ (raw other : RawProgram) (like : Resembles raw other) where
   variables_same [] (q ∷ qs) h = absurd h
   variables_same (p ∷ ps) [] h = absurd h
   variables_same (p ∷ ps) (q ∷ qs) h =
-      map_append (option_map unlined_var) (declared_by raw p.line p.scope p.part) (variables_in raw ps)
+      map-append (option_map unlined_var) (declared_by raw p.line p.scope p.part) (variables_in raw ps)
       ∙ ap₂ (λ (xs ys : List (Option Var)). xs ++ ys)
       (part_declares p.line q.line p.scope h.0.1 ∙ ap (λ (z : Scope). bare_vars (declared_by other q.line z q.part)) h.0.0)
       (variables_same ps qs h.1)
-      ∙ sym (map_append (option_map unlined_var) (declared_by other q.line q.scope q.part) (variables_in other qs))
+      ∙ sym (map-append (option_map unlined_var) (declared_by other q.line q.scope q.part) (variables_in other qs))
 
   -- ---- struct types
 

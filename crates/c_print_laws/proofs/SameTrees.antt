@@ -1,6 +1,7 @@
 -- The program of what the layout keeps of a text is that of the text but for lines: statements.
 use Rattle.std.proofs.Common.{◌≡◌, ℕ, ◌&&◌, List, [], ◌∷◌, map, Bool, true, false, Option, Some, None, codes, refl, sym, ap, ap₂, ◌∙◌}
 use Rattle.std.specs.Prelude.{option_map, option_and_then, if◌then◌else◌, bytes_eq, ℤ}
+use Rattle.std.proofs.lemmas.Bool.{and_parts}
 use Rattle.c_arith.specs.declared.int_type.IntType.{IntType}
 use Rattle.c_arith.specs.IntType.{convert, promote}
 use Rattle.c_tree.specs.declared.types.CType.{CType}
@@ -17,8 +18,8 @@ use Rattle.c_tree.specs.declared.statement.Label.TheVariants as arm_label
 use Rattle.c_tree.specs.declared.statement.Arm.{Arm}
 use Rattle.c_tree.specs.declared.statement.Statement.{Statement}
 use Rattle.c_tree.specs.declared.statement.Statement.TheVariants as s
-use Rattle.c_tree.specs.Unlined.{unlined, unlined_of_arm}
-use Rattle.c_tree.proofs.UnlinedLemmas.{unlined-Declare, unlined-Assign, unlined-Bump, unlined-Invoke, unlined-Fetch, unlined-Write, unlined-Print, unlined-Heap, unlined-Release, unlined-If, unlined-While, unlined-Do, unlined-For, unlined-Switch, unlined-Block, unlined-Return, unlined_of_arm-roll}
+use Rattle.c_tree.specs.Unlined.{unlined}
+use Rattle.c_tree.proofs.UnlinedLemmas.{unlined-Declare, unlined-Assign, unlined-Bump, unlined-Invoke, unlined-Fetch, unlined-Write, unlined-Print, unlined-Heap, unlined-Release, unlined-If, unlined-While, unlined-Do, unlined-For, unlined-Switch, unlined-Block, unlined-Return, unlined_of_arm-roll, unlined_of_arm}
 use Rattle.c_tree.specs.declared.raw.expr.RawExpr.{RawExpr}
 use Rattle.c_tree.specs.declared.raw.expr.RawVar.{RawVar}
 use Rattle.c_tree.specs.declared.raw.program.RawInit.{RawInit}
@@ -38,6 +39,7 @@ use Rattle.c_tree.specs.declared.raw.statement.RawLabel.TheVariants as label
 use Rattle.c_tree.specs.declared.raw.statement.RawStatement.{RawStatement, roll-RawStatement, map-RawStatement, fold-roll-RawStatement}
 use Rattle.c_tree.specs.declared.raw.statement.RawStatement.TheOpen.{RawStatement-F}
 use Rattle.c_tree.specs.declared.raw.statement.RawArm.{RawArm, roll-RawArm, map-RawArm, fold-roll-RawArm}
+use Rattle.c_tree.proofs.RawTrees.{StatementParts, statement_layer, ArmParts, arm_layer, of_every_statement}
 use Rattle.c_language.specs.Words.{Bytes}
 use Rattle.c_language.specs.TypeGrammar.{named_type}
 use Rattle.c_language.specs.ConstantEvaluation.{both, value_of_constant}
@@ -47,11 +49,13 @@ use Rattle.c_language.specs.ExprTypes.{integer_of}
 use Rattle.c_language.specs.declared.expr_type.Operand.{Operand}
 use Rattle.c_language.specs.CallRules.{only_arg, later_args, format_in}
 use Rattle.c_language.specs.ProgramOf.{collected, optional, ctype_if, expr_of, exprs_of, init_of, declaration_id, target_tree, arg_tree, args_tree, only_tree, print_tree, invoke_tree, call_tree, size_tree, amount_tree, heap_tree, label_tree, arm_tree, ArmTree, arm_tree_step, block_tree, at_type, switch_type, part_tree, for_tree, treed_step, treed}
-use Rattle.c_print.specs.Settled.{settled_var, settled, settled_arm}
-use Rattle.c_print.proofs.Declarations.{all_true, declares_step, arm_declares, declarations_pass, arm_passes}
-use Rattle.c_print_laws.proofs.Trees.{StatementParts, statement_layer, ArmParts, arm_layer, of_every_statement}
-use Rattle.c_print_laws.proofs.Definitions.{and_parts}
-use Rattle.c_print_laws.proofs.Scoping.{treed_arm, statement_scoped, arm_scoped}
+use Rattle.c_text_layout.specs.Settled.{settled_var, settled}
+use Rattle.c_text_layout.proofs.RawStatementLemmas.{settled_arm}
+use Rattle.c_text_layout.specs.Declarations.{all_true, declares_step, arm_declares, declarations_pass}
+use Rattle.c_text_layout.proofs.DeclarationLemmas.{arm_passes}
+use Rattle.c_language.proofs.TreedForms.{treed_arm}
+use Rattle.c_print_laws.proofs.Scoping.{statement_scoped, arm_scoped}
+use Rattle.c_language.proofs.Lists.{maps_same}
 use Rattle.c_print_laws.proofs.Resembling.{Resembles, function_ids, ctypes_same, operands_same, exprs_same}
 use Rattle.c_print_laws.proofs.Settling.{settled_var_agrees}
 use Rattle.c_print_laws.proofs.PhraseAgreement.{Fine, kept_layer, settled_layer, settled_arm_layer, variable_same, target_same, statement_agrees, arm_agrees_kept}
@@ -83,10 +87,6 @@ both_mapped g f k (Some a) (Some b) = refl
 map_mapped : {A B C : Type 0} (g : B → C) (f : A → B) (x : Option A) → option_map (λ a. g (f a)) x ≡ option_map g (option_map f x)
 map_mapped g f None = refl
 map_mapped g f (Some a) = refl
-
-pub maps_same : {A B : Type 0} (f g : A → B) → ((a : A) → f a ≡ g a) → (xs : List A) → map f xs ≡ map g xs
-maps_same f g same [] = refl
-maps_same f g same (x ∷ xs) = ap₂ (λ (b : _) (bs : List _). b ∷ bs) (same x) (maps_same f g same xs)
 
 pub collected_map : {A B : Type 0} (f : A → B) (os : List (Option A)) → option_map (map f) (collected os) ≡ collected (map (option_map f) os)
 collected_map f [] = refl

@@ -1,5 +1,5 @@
 -- The scope after a statement is the same for its phrases and for its tree, and counts the variables that it declares.
-use Rattle.std.proofs.Common.{◌≡◌, ℕ, ◌+◌, List, [], ◌∷◌, ◌++◌, length, map, Option, Some, None, refl, sym, ap, subst, ◌∙◌, arith, length-append, append_assoc}
+use Rattle.std.proofs.Common.{◌≡◌, ℕ, ◌+◌, List, [], ◌∷◌, ◌++◌, length, map, Option, Some, None, refl, sym, ap, subst, ◌∙◌, arith, length-append}
 use Rattle.c_tree.specs.declared.program.Var.{Var}
 use Rattle.c_tree.specs.declared.statement.Statement.{Statement}
 use Rattle.c_tree.specs.declared.raw.expr.RawVar.{RawVar}
@@ -10,28 +10,20 @@ use Rattle.c_tree.specs.declared.raw.statement.RawTarget.{RawTarget}
 use Rattle.c_tree.specs.declared.raw.statement.RawTarget.TheVariants as target
 use Rattle.c_tree.specs.declared.raw.statement.RawStatement.{RawStatement, roll-RawStatement, map-RawStatement, fold-roll-RawStatement}
 use Rattle.c_tree.specs.declared.raw.statement.RawStatement.TheOpen.{RawStatement-F, RawArm-F}
-use Rattle.c_tree.specs.declared.raw.statement.RawArm.{RawArm, roll-RawArm, map-RawArm, fold-RawArm, fold-roll-RawArm}
+use Rattle.c_tree.specs.declared.raw.statement.RawArm.{RawArm, roll-RawArm, map-RawArm, fold-roll-RawArm}
+use Rattle.c_tree.proofs.RawTrees.{StatementParts, statement_layer, ArmParts, arm_layer, of_every_statement, of_every_arm}
 use Rattle.c_language.specs.Scopes.{Scope, Scoped, with_variable, with_target, opened, closed, numbered, begun, in_order, after_all, after_block, part_gives, after_part, scope_of_test, scope_of_body}
 use Rattle.c_language.specs.Phrases.{Stand, InBlock, InArm, InFor, Part, Phrases, phrase, declaration, begun_phrases, target_phrases, joined_at, block_phrases, at_stand, ArmText, phrases_of_arms, Tests, phrases_step, scoped_step, scoped_arm, scoped, scoped_of_arm}
 use Rattle.c_language.specs.ProgramOf.{ArmTree, treed_step, arm_tree_step, treed, declared_by, variables_in}
-use Rattle.c_print_laws.proofs.Trees.{StatementParts, statement_layer, ArmParts, arm_layer, of_every_statement, of_every_arm}
+use Rattle.c_language.proofs.TreedForms.{treed_arm}
+use Rattle.c_language.proofs.PhraseLists.{variables-append}
 
 module _ (raw : RawProgram) where
-  -- an arm in the tree, by the promoted type of the switch
-  abbrev pub treed_arm : RawArm → Scoped ArmTree
-  treed_arm = fold-RawArm (Scoped (Option Statement)) (Scoped ArmTree) (treed_step raw) (arm_tree_step raw)
-
   abbrev pub declared_count : Phrases → ℕ
   declared_count ps = length (variables_in raw ps)
 
-  pub variables_append : (ps qs : Phrases) → variables_in raw (ps ++ qs) ≡ variables_in raw ps ++ variables_in raw qs
-  variables_append [] qs = refl
-  variables_append (x ∷ ps) qs =
-      ap (λ (vs : List (Option Var)). declared_by raw x.line x.scope x.part ++ vs) (variables_append ps qs)
-      ∙ sym (append_assoc (declared_by raw x.line x.scope x.part) (variables_in raw ps) (variables_in raw qs))
-
   pub count_append : (ps qs : Phrases) → declared_count (ps ++ qs) ≡ declared_count ps + declared_count qs
-  count_append ps qs = ap length (variables_append ps qs) ∙ length-append (variables_in raw ps) (variables_in raw qs)
+  count_append ps qs = ap length (variables-append raw ps qs) ∙ length-append (variables_in raw ps) (variables_in raw qs)
 
   pub begun_count : (l : ℕ) (scope : Scope) (stand : Stand) (var : RawVar) (i : RawInit) → variables_in raw (begun_phrases l scope stand var i) ≡ []
   begun_count l scope stand var init.None = refl
@@ -57,7 +49,7 @@ module _ (raw : RawProgram) where
   IsScopedStatement x = IsScoped (scoped raw x) (treed raw x) (scoped raw x).gives
 
   abbrev pub IsScopedArm : RawArm → Type 0
-  IsScopedArm x = IsScoped (scoped_of_arm raw x) (treed_arm x) (λ scope stand. ((scoped_of_arm raw x).gives scope).phrases)
+  IsScopedArm x = IsScoped (scoped_of_arm raw x) (treed_arm raw x) (λ scope stand. ((scoped_of_arm raw x).gives scope).phrases)
 
   abbrev Statements : Type 0
   Statements = List ((x : RawStatement) × IsScopedStatement x)
@@ -86,9 +78,9 @@ module _ (raw : RawProgram) where
       let c : ((scoped raw x.0).after scope).variables + declared_count rest ≡ (after_all (map (scoped raw) (bare xs)) ((scoped raw x.0).after scope)).variables = all_count xs ((scoped raw x.0).after scope) stand in
       omega (arith, a, b, c)
 
-  arms_same : (xs : Arms) (scope : Scope) → after_all (map treed_arm (bare_arms xs)) scope ≡ after_all (map (scoped_of_arm raw) (bare_arms xs)) scope
+  arms_same : (xs : Arms) (scope : Scope) → after_all (map (treed_arm raw) (bare_arms xs)) scope ≡ after_all (map (scoped_of_arm raw) (bare_arms xs)) scope
   arms_same [] scope = refl
-  arms_same (x ∷ xs) scope = ap (after_all (map treed_arm (bare_arms xs))) (x.1.same scope) ∙ arms_same xs ((scoped_of_arm raw x.0).after scope)
+  arms_same (x ∷ xs) scope = ap (after_all (map (treed_arm raw) (bare_arms xs))) (x.1.same scope) ∙ arms_same xs ((scoped_of_arm raw x.0).after scope)
 
   arms_count : (xs : Arms) (scope : Scope)
       → scope.variables + declared_count (phrases_of_arms (in_order (map (scoped_of_arm raw) (bare_arms xs)) scope)) ≡ (after_all (map (scoped_of_arm raw) (bare_arms xs)) scope).variables
@@ -114,7 +106,7 @@ module _ (raw : RawProgram) where
   abbrev Opened : RawStatement-F RawStatement RawArm → Type 0
   Opened y =
       IsScoped (scoped_step raw (map-RawStatement RawStatement RawArm (Scoped (Stand → Phrases)) (Scoped ArmText) (scoped raw) (scoped_of_arm raw) y))
-      (treed_step raw (map-RawStatement RawStatement RawArm (Scoped (Option Statement)) (Scoped ArmTree) (treed raw) treed_arm y))
+      (treed_step raw (map-RawStatement RawStatement RawArm (Scoped (Option Statement)) (Scoped ArmTree) (treed raw) (treed_arm raw) y))
       (phrases_step raw (map-RawStatement RawStatement RawArm (Scoped (Stand → Phrases)) (Scoped ArmText) (scoped raw) (scoped_of_arm raw) y))
 
   declare_count : (l : ℕ) (var : RawVar) (i : RawInit) (scope : Scope) (stand : Stand) → scope.variables + declared_count (declaration raw l scope stand var i) ≡ (begun i (with_variable raw var i scope)).variables
@@ -211,17 +203,17 @@ module _ (raw : RawProgram) where
       layer = arm_layer IsScopedStatement IsScopedArm y
 
       arm_from : IsScoped (scoped_arm (map-RawArm RawStatement RawArm (Scoped (Stand → Phrases)) (Scoped ArmText) (scoped raw) (scoped_of_arm raw) layer))
-          (arm_tree_step raw (map-RawArm RawStatement RawArm (Scoped (Option Statement)) (Scoped ArmTree) (treed raw) treed_arm layer))
+          (arm_tree_step raw (map-RawArm RawStatement RawArm (Scoped (Option Statement)) (Scoped ArmTree) (treed raw) (treed_arm raw) layer))
           (λ scope stand. ((scoped_arm (map-RawArm RawStatement RawArm (Scoped (Stand → Phrases)) (Scoped ArmText) (scoped raw) (scoped_of_arm raw) layer)).gives scope).phrases)
           → IsScopedArm (roll-RawArm layer)
       arm_from h =
           subst (λ (t : Scoped ArmTree). IsScoped (scoped_of_arm raw (roll-RawArm layer)) t (λ scope stand. ((scoped_of_arm raw (roll-RawArm layer)).gives scope).phrases)) (sym (fold-roll-RawArm (Scoped (Option Statement)) (Scoped ArmTree) (treed_step raw) (arm_tree_step raw) layer))
-          (subst (λ (t : Scoped ArmText). IsScoped t (arm_tree_step raw (map-RawArm RawStatement RawArm (Scoped (Option Statement)) (Scoped ArmTree) (treed raw) treed_arm layer)) (λ scope stand. (t.gives scope).phrases)) (sym (fold-roll-RawArm (Scoped (Stand → Phrases)) (Scoped ArmText) (scoped_step raw) scoped_arm layer)) h)
+          (subst (λ (t : Scoped ArmText). IsScoped t (arm_tree_step raw (map-RawArm RawStatement RawArm (Scoped (Option Statement)) (Scoped ArmTree) (treed raw) (treed_arm raw) layer)) (λ scope stand. (t.gives scope).phrases)) (sym (fold-roll-RawArm (Scoped (Stand → Phrases)) (Scoped ArmText) (scoped_step raw) scoped_arm layer)) h)
 
   scoped_layer : (y : StatementParts IsScopedStatement IsScopedArm) → IsScopedStatement (roll-RawStatement (shape y))
   scoped_layer y =
       subst (λ (t : Scoped (Option Statement)). IsScoped (scoped raw (roll-RawStatement (shape y))) t (scoped raw (roll-RawStatement (shape y))).gives) (sym (fold-roll-RawStatement (Scoped (Option Statement)) (Scoped ArmTree) (treed_step raw) (arm_tree_step raw) (shape y)))
-      (subst (λ (t : Scoped (Stand → Phrases)). IsScoped t (treed_step raw (map-RawStatement RawStatement RawArm (Scoped (Option Statement)) (Scoped ArmTree) (treed raw) treed_arm (shape y))) t.gives) (sym (fold-roll-RawStatement (Scoped (Stand → Phrases)) (Scoped ArmText) (scoped_step raw) scoped_arm (shape y)))
+      (subst (λ (t : Scoped (Stand → Phrases)). IsScoped t (treed_step raw (map-RawStatement RawStatement RawArm (Scoped (Option Statement)) (Scoped ArmTree) (treed raw) (treed_arm raw) (shape y))) t.gives) (sym (fold-roll-RawStatement (Scoped (Stand → Phrases)) (Scoped ArmText) (scoped_step raw) scoped_arm (shape y)))
       (opened_statement y))
 
   pub statement_scoped : (x : RawStatement) → IsScopedStatement x
@@ -233,10 +225,6 @@ module _ (raw : RawProgram) where
 
   -- ---- lists of statements, and parts that may be missing
 
-  pub after_same : (xs : List RawStatement) (scope : Scope) → after_all (map (treed raw) xs) scope ≡ after_all (map (scoped raw) xs) scope
-  after_same [] scope = refl
-  after_same (x ∷ xs) scope = ap (after_all (map (treed raw) xs)) ((statement_scoped x).same scope) ∙ after_same xs ((scoped raw x).after scope)
-
   pub after_count : (xs : List RawStatement) (scope : Scope) (stand : Stand)
       → scope.variables + declared_count (joined_at stand (in_order (map (scoped raw) xs) scope)) ≡ (after_all (map (scoped raw) xs) scope).variables
   after_count [] scope stand = omega arith
@@ -247,9 +235,6 @@ module _ (raw : RawProgram) where
       let b : scope.variables + declared_count one ≡ ((scoped raw x).after scope).variables = (statement_scoped x).counts scope stand in
       let c : ((scoped raw x).after scope).variables + declared_count rest ≡ (after_all (map (scoped raw) xs) ((scoped raw x).after scope)).variables = after_count xs ((scoped raw x).after scope) stand in
       omega (arith, a, b, c)
-
-  pub after_block_same : (xs : List RawStatement) (scope : Scope) → after_block (map (treed raw) xs) scope ≡ after_block (map (scoped raw) xs) scope
-  after_block_same xs scope = ap (closed scope) (after_same xs (opened scope))
 
   pub after_block_count : (xs : List RawStatement) (scope : Scope)
       → scope.variables + declared_count (block_phrases (map (scoped raw) xs) scope) ≡ (after_block (map (scoped raw) xs) scope).variables

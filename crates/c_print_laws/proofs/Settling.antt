@@ -3,6 +3,7 @@ use Rattle.std.proofs.Common.{◌≡◌, ℕ, zero, suc, pred, ◌<◌, ◌&&◌
 use Rattle.std.specs.Prelude.{Contains, nat_lt, option_map, option_and_then, if◌then◌else◌}
 use Rattle.std.proofs.lemmas.Bool.Decides.{nat_tests}
 use Rattle.std.specs.List.{list_any}
+use Rattle.std.proofs.lemmas.Bool.{and_parts}
 use Rattle.c_tree.specs.declared.types.CType.{CType}
 use Rattle.c_tree.specs.declared.types.CType.TheVariants as t
 use Rattle.c_tree.specs.declared.raw.expr.RawExpr.{RawExpr, fold-roll-RawExpr}
@@ -20,23 +21,25 @@ use Rattle.c_tree.specs.declared.raw.program.RawItem.TheVariants.{Include, Tag, 
 use Rattle.c_tree.specs.declared.raw.program.RawMember.{RawMember}
 use Rattle.c_tree.specs.declared.raw.program.RawHead.{RawHead}
 use Rattle.c_tree.specs.declared.raw.program.RawProgram.{RawProgram}
+use Rattle.c_tree.proofs.RawTrees.{TypeParts, type_layer, of_every_type}
 use Rattle.c_language.specs.Words.{Bytes}
 use Rattle.c_language.specs.TypeGrammar.{is_empty_length}
-use Rattle.c_language.specs.ProgramOf.{raw_words_step, raw_words, length_words, ctype_step, ctype_with}
+use Rattle.c_language.specs.ProgramOf.{length_words, ctype_step, ctype_with}
 use Rattle.c_language.specs.ConstantEvaluation.{both, constant, constant_step, value_of_constant, literal_value}
 use Rattle.c_language.specs.declared.constant.Constant.{Constant}
 use Rattle.c_language.specs.DeclaredTypes.{structs_of, functions_of, positive, length_in, with_layer, type_step, type_with, item_count, is_include}
 use Rattle.c_language.specs.Uses.{written_lengths, lengths_step, lengths_in, tags_step, tags_in}
 use Rattle.c_language.specs.declared.expr_type.Layer.TheVariants.{Array}
 use Rattle.c_language.specs.declared.expr_type.ExprType.{ExprType}
-use Rattle.c_print.specs.Settled.{settled_length, settled_type_step, settled_type, settled_var, settled_member, settled_param, settled_head, settled_item}
-use Rattle.c_print.proofs.DecimalPrint.{decimal_literal}
-use Rattle.c_print.proofs.TokenPrint.{by_answer}
-use Rattle.c_print_laws.proofs.Trees.{TypeParts, type_layer, of_every_type}
-use Rattle.c_print_laws.proofs.Definitions.{and_parts, false_true}
+use Rattle.c_text_layout.specs.Settled.{settled_length, settled_type_step, settled_type, settled_var, settled_member, settled_param, settled_head, settled_item}
+use Rattle.c_text_layout.proofs.DecimalPrint.{decimal_literal}
+use Rattle.c_text_layout.proofs.TokenPrint.{by_answer}
+use Rattle.c_language.proofs.RawWordLemmas.{raw_words-Constant}
+use Rattle.c_language.proofs.ConstantLemmas.{counted_positive}
 use Rattle.c_print_laws.proofs.Alike.{Pairwise, pairwise_of}
 use Rattle.c_print_laws.proofs.Resembling.{MembersAgree, StructsAgree, ParamsAgree, HeadsAgree, Resembles, types_same, ctypes_same}
 use Rattle.c_print_laws.proofs.RuleTransfer.{IsListLength, LengthsIn, VarsAgree}
+use Rattle.c_language.proofs.Tests.{false_true}
 
 -- what the layout keeps of a text
 abbrev pub settled_program : RawProgram → RawProgram
@@ -108,19 +111,12 @@ is_written = fold-RawType Bool written_step
 abbrev pub CanCount : ℕ → Type 0
 CanCount items = 0 < items
 
-words_of_constant : (text : Bytes) → raw_words (e.Constant text) ≡ text
-words_of_constant text = ap raw_words (sym (e.rolls-Constant text)) ∙ fold-roll-RawExpr Bytes raw_words_step (RawExpr-F.Constant text)
-
-constant_value_of : (text : Bytes) → value_of_constant (e.Constant text) ≡ Some (pos (literal_value text))
+pub constant_value_of : (text : Bytes) → value_of_constant (e.Constant text) ≡ Some (pos (literal_value text))
 constant_value_of text =
     ap (option_and_then (λ (x : Constant). x.value)) (ap constant (sym (e.rolls-Constant text)) ∙ fold-roll-RawExpr (Option Constant) constant_step (RawExpr-F.Constant text))
 
 counted_value : (items : ℕ) → CanCount items → nat_lt items 4294967296 ≡ true → value_of_constant (e.Constant (decimal items)) ≡ Some (pos items)
 counted_value items h few = constant_value_of (decimal items) ∙ ap (λ (n : ℕ). Some (pos n)) (decimal_literal items h (grind (arith, nat_tests)))
-
-counted_positive : (items : ℕ) → 0 < items → positive (pos items) ≡ Some items
-counted_positive zero h = absurd (omega (arith, h))
-counted_positive (suc n) h = refl
 
 counted_length : (items : ℕ) → CanCount items → nat_lt items 4294967296 ≡ true → option_and_then positive (value_of_constant (e.Constant (decimal items))) ≡ Some items
 counted_length items h few = ap (option_and_then positive) (counted_value items h few) ∙ counted_positive items h
@@ -170,7 +166,7 @@ module _ (items : ℕ) where
 
     words_same : (n : RawLength) → length_words items (settled_length items n) ≡ length_words items n
     words_same (Written a) = refl
-    words_same Listed = by_answer (nat_lt items 4294967296) (λ few. rw few (words_of_constant (decimal items))) (λ many. rw many refl)
+    words_same Listed = by_answer (nat_lt items 4294967296) (λ few. rw few (raw_words-Constant (decimal items))) (λ many. rw many refl)
 
     abbrev IsSameTree : RawType → Type 0
     IsSameTree a = IsCounted (is_written a) → ctype_with raw items (settled_type items a) ≡ ctype_with raw items a

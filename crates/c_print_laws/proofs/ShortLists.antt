@@ -14,15 +14,16 @@ use Rattle.c_tree.specs.declared.raw.program.RawProgram.{RawProgram}
 use Rattle.c_tree.specs.declared.raw.statement.RawStatement.{RawStatement, roll-RawStatement, map-RawStatement, fold-roll-RawStatement}
 use Rattle.c_tree.specs.declared.raw.statement.RawStatement.TheOpen.{RawStatement-F}
 use Rattle.c_tree.specs.declared.raw.statement.RawArm.{RawArm, roll-RawArm, fold-roll-RawArm}
+use Rattle.c_tree.proofs.RawTrees.{StatementParts, statement_layer, ArmParts, arm_layer, of_every_statement}
 use Rattle.c_language.specs.DeclaredTypes.{item_count}
 use Rattle.c_language.specs.Limits.{longest, array_length}
 use Rattle.c_language.specs.Rules.{Breaks, KeepsRules}
 use Rattle.c_language.specs.Scopes.{Scope, Scoped, outset, with_variable, scope_of_parameters, entered, opened, numbered, in_order, after_block, part_gives, scope_of_test, scope_of_body}
 use Rattle.c_language.specs.Phrases.{Stand, InBlock, InArm, InFor, InFile, Part, Phrases, phrase, NamesStruct, DefinesStruct, HasMember, DeclaresFunction, Takes, EndsFunction, Declares, Begins, Assigns, Bumps, Calls, Allocates, Tests, Switches, Returns, declaration, joined_at, block_phrases, at_stand, ArmText, phrases_of_arms, phrases_step, scoped_step, scoped_arm, scoped, scoped_of_arm, body_phrases, head_phrases, item_phrases, after_item, items_phrases, phrases}
 use Rattle.c_language.specs.ProgramOf.{ctype_with, declared_by, variables_in, program_of}
-use Rattle.c_print.proofs.Declarations.{all_true, if_true, declares_step, arm_declares, declarations_pass, arm_passes, list_passes, item_passes, items_pass, is_short, HasShortLists, both_true}
+use Rattle.c_text_layout.specs.Declarations.{all_true, if_true, declares_step, arm_declares, declarations_pass, item_passes, items_pass, is_short, HasShortLists}
+use Rattle.c_text_layout.proofs.DeclarationLemmas.{arm_passes, list_passes, both_true}
 use Rattle.c_print_laws.proofs.Options.{map_there}
-use Rattle.c_print_laws.proofs.Trees.{StatementParts, statement_layer, ArmParts, arm_layer, of_every_statement}
 use Rattle.c_print_laws.proofs.Counted.{variable_long, items_within}
 use Rattle.c_print_laws.proofs.Definitions.{program_parts}
 use Rattle.c_print_laws.proofs.Told.{AreKept, AllStand, stand_all, stand_rest, phrases_kept}

@@ -4,6 +4,7 @@ use Rattle.std.specs.Prelude.{Contains, option_map, option_and_then}
 use Rattle.c_tree.specs.declared.raw.expr.RawExpr.{RawExpr, map-RawExpr, roll-RawExpr, fold-roll-RawExpr}
 use Rattle.c_tree.specs.declared.raw.expr.RawExpr.TheOpen.{RawExpr-F}
 use Rattle.c_tree.specs.declared.raw.program.RawProgram.{RawProgram}
+use Rattle.c_tree.proofs.RawTrees.{ExprParts, expr_layer, of_every_expr}
 use Rattle.c_language.specs.Words.{Bytes, signed, binary_sign, int_words}
 use Rattle.c_language.specs.ConstantEvaluation.{both, constant, constant_step, literal_type}
 use Rattle.c_language.specs.declared.constant.Constant.{Constant}
@@ -14,10 +15,12 @@ use Rattle.c_language.specs.ExprRules.{fails, holds_of, is_no_address, has_bad_o
 use Rattle.c_language.specs.Uses.{operands_of}
 use Rattle.c_language.specs.declared.expr_type.ExprType.{ExprType}
 use Rattle.c_language.specs.declared.expr_type.Operand.{Operand}
-use Rattle.c_print.specs.SpacedWords.{Spaced, blank_if, spaced_step, spaced, spaced_words}
-use Rattle.c_print_laws.proofs.Options.{false_true, contains_first, contains_later, IsThere, some_same, map_there, value_there}
-use Rattle.c_print_laws.proofs.Trees.{ExprParts, expr_layer, of_every_expr}
+use Rattle.c_text_layout.specs.SpacedWords.{Spaced, blank_if, spaced_step, spaced, spaced_words}
+use Rattle.c_print_laws.proofs.Options.{map_there}
 use Rattle.c_print_laws.proofs.Operands.{IsClean, KeepsAll, HasTypeIf, IsTypedIf, true_false, operands_keep, layer_clean, operand_there}
+use Rattle.c_language.proofs.Tests.{false_true}
+use Rattle.c_language.proofs.Lists.{contains_first, contains_later}
+use Rattle.c_language.proofs.Options.{IsThere, some_same, value_there}
 
 -- where no blank is needed, there is none
 no_blank : (b : Bool) (w : Bytes) → b ≡ false → blank_if b ++ w ≡ w

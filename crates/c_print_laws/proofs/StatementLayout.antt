@@ -1,6 +1,7 @@
 -- The layout of a statement of a program is that of the text's statement.
-use Rattle.std.proofs.Common.{◌≡◌, ℕ, zero, suc, arith, List, [], ◌∷◌, ◌++◌, Option, Some, None, codes, refl, sym, ap, ap₂, subst, ◌∙◌, map}
+use Rattle.std.proofs.Common.{◌≡◌, ℕ, suc, arith, List, [], ◌∷◌, ◌++◌, Option, Some, None, codes, refl, sym, ap, ap₂, subst, ◌∙◌, map}
 use Rattle.std.specs.Prelude.{Contains, option_map, option_and_then, ℤ}
+use Rattle.std.proofs.lemmas.List.Elements.{Contains-append_left, Contains-append_right}
 use Rattle.c_arith.specs.declared.int_type.IntType.{IntType}
 use Rattle.c_arith.specs.IntType.{convert}
 use Rattle.c_tree.specs.declared.expr.Expr.{Expr}
@@ -24,6 +25,7 @@ use Rattle.c_tree.specs.declared.raw.statement.RawLabel.TheVariants as label
 use Rattle.c_tree.specs.declared.raw.statement.RawStatement.{RawStatement, roll-RawStatement, map-RawStatement, fold-roll-RawStatement}
 use Rattle.c_tree.specs.declared.raw.statement.RawStatement.TheOpen.{RawStatement-F, RawArm-F}
 use Rattle.c_tree.specs.declared.raw.statement.RawArm.{RawArm, roll-RawArm, map-RawArm, fold-roll-RawArm}
+use Rattle.c_tree.proofs.RawTrees.{StatementParts, statement_layer, ArmParts, arm_layer, of_every_statement}
 use Rattle.c_language.specs.Words.{Bytes, assign_sign}
 use Rattle.c_language.specs.Layout.{line, bump_words, return_words, Laid, plain, block_lines, else_lines, init_part, step_part, label_words, label_lines, arms_lines, braced, target_words, statement_step, arm_step, laid}
 use Rattle.c_language.specs.ConstantEvaluation.{both, constant, value_of_constant}
@@ -34,16 +36,19 @@ use Rattle.c_language.specs.Scopes.{Scope, Scoped, with_variable, with_target, o
 use Rattle.c_language.specs.Phrases.{Stand, InBlock, InArm, InFor, Part, Begins, Assigns, Bumps, Calls, Allocates, Tests, Switches, Returns, Phrases, phrase, declaration, target_phrases, joined_at, block_phrases, at_stand, ArmText, phrases_of_arms, labels_of, scoped_step, scoped_arm, scoped, scoped_of_arm}
 use Rattle.c_language.specs.ProgramOf.{expr_of, init_of, declaration_id, target_tree, label_tree, arm_tree, ArmTree, arm_tree_step, block_tree, at_type, switch_type, part_tree, for_tree, treed_step, treed, collected, optional}
 use Rattle.c_language.proofs.LayoutLemmas.{arm_laid, laid-Declare, laid-Assign, laid-Bump, laid-Return, laid-If, laid-While, laid-Do, laid-For, laid-Switch, laid-Block}
-use Rattle.c_print.specs.RawLayout.{raw_target_words, raw_return_words, raw_label_words, raw_label_lines, raw_statement_step, raw_arm_step, raw_laid, raw_arm_laid}
-use Rattle.c_print.specs.SpacedWords.{spaced_words}
-use Rattle.c_print_laws.proofs.Options.{IsThere, none_there, some_same, map_there, then_there, both_there, collected_are, cons_nil, first_same, rest_same}
-use Rattle.c_print_laws.proofs.Trees.{StatementParts, statement_layer, ArmParts, arm_layer, of_every_statement}
+use Rattle.c_text_layout.specs.RawLayout.{raw_target_words, raw_return_words, raw_label_words, raw_label_lines, raw_statement_step, raw_arm_step, raw_laid}
+use Rattle.c_text_layout.proofs.RawStatementLemmas.{raw_arm_laid}
+use Rattle.c_text_layout.specs.SpacedWords.{spaced_words}
+use Rattle.c_print_laws.proofs.Options.{map_there, then_there, both_there, collected_are, cons_nil, first_same, rest_same}
+use Rattle.c_language.proofs.TreedForms.{treed_arm}
+use Rattle.c_language.proofs.TreeScopes.{block_after_same}
 use Rattle.c_print_laws.proofs.Operands.{KeepsAll, keeps_all}
 use Rattle.c_print_laws.proofs.Named.{IsNamed, Fits}
 use Rattle.c_print_laws.proofs.ExprLayout.{expr_layout, constant_layout}
-use Rattle.c_print_laws.proofs.Scoping.{treed_arm, target_count, statement_scoped, arm_scoped, after_block_same, after_block_count, mapped, after_part_same, after_part_count}
+use Rattle.c_print_laws.proofs.Scoping.{target_count, statement_scoped, arm_scoped, after_block_count, mapped, after_part_same, after_part_count}
 use Rattle.c_print_laws.proofs.Told.{AreTold, told_first, told_rest, told_later, is_declared}
 use Rattle.c_print_laws.proofs.CallLayout.{optional_there, init_layout, heap_layout, call_layout}
+use Rattle.c_language.proofs.Options.{IsThere, none_there, some_same}
 
 -- ---- forms of statements, over the words of a test
 
@@ -85,15 +90,6 @@ arm_form labels body n = labels n ++ (block_lines body (suc n) ++ line (suc n) (
 
 abbrev labels_form : Bytes → (ℕ → Bytes) → ℕ → Bytes
 labels_form w labels n = line n w ++ labels n
-
-contained_left : {A : Type 0} (xs ys : List A) (a : A) → Contains xs a → Contains (xs ++ ys) a
-contained_left [] ys a c = absurd (omega (arith, c.1))
-contained_left (x ∷ xs) ys a (zero, within, is) = (0, omega arith, is)
-contained_left (x ∷ xs) ys a (suc k, within, is) = let c = contained_left xs ys a (k, omega (arith, within), is) in (suc c.0, omega (arith, c.1), c.2)
-
-contained_right : {A : Type 0} (xs ys : List A) (a : A) → Contains ys a → Contains (xs ++ ys) a
-contained_right [] ys a c = c
-contained_right (x ∷ xs) ys a c = let d = contained_right xs ys a c in (suc d.0, omega (arith, d.1), d.2)
 
 module _ (raw : RawProgram) (p : Program) (named : IsNamed raw p) where
   -- the one expression of a phrase that breaks no rule
@@ -309,8 +305,8 @@ module _ (raw : RawProgram) (p : Program) (named : IsNamed raw p) where
       let last = phrase l at (Calls stand to f args) ∷ [] in
       let e = told_rest raw p scope.variables at.variables (target_phrases raw l scope stand to) last (target_count raw l scope stand to) told in
       let all = keeps_all raw at (Calls stand to f args) e.kept.0 in
-      let k = target_laid l scope stand to (λ a c. all a (contained_left (target_exprs to) (arg_exprs args) a c)) fits (told_first raw p scope.variables (target_phrases raw l scope stand to) last told) in
-      record { fits = k.fits; lays = λ t h. call_layout raw p named at k.fits stand to (target_tree raw scope to) k.lays args (λ a c. all a (contained_right (target_exprs to) (arg_exprs args) a c)) scope.statements l f t e.kept.0 h }
+      let k = target_laid l scope stand to (λ a c. all a (Contains-append_left (target_exprs to) (arg_exprs args) a c)) fits (told_first raw p scope.variables (target_phrases raw l scope stand to) last told) in
+      record { fits = k.fits; lays = λ t h. call_layout raw p named at k.fits stand to (target_tree raw scope to) k.lays args (λ a c. all a (Contains-append_right (target_exprs to) (arg_exprs args) a c)) scope.statements l f t e.kept.0 h }
 
   heap_lays : (l : ℕ) (to : RawTarget) (cast : _) (n : _) → LayerLays (RawStatement-F.Heap l to cast n)
   heap_lays l to cast n scope stand fits told =
@@ -318,8 +314,8 @@ module _ (raw : RawProgram) (p : Program) (named : IsNamed raw p) where
       let last = phrase l at (Allocates to cast n) ∷ [] in
       let e = told_rest raw p scope.variables at.variables (target_phrases raw l scope stand to) last (target_count raw l scope stand to) told in
       let all = keeps_all raw at (Allocates to cast n) e.kept.0 in
-      let k = target_laid l scope stand to (λ a c. all a (contained_left (target_exprs to) (counts n) a c)) fits (told_first raw p scope.variables (target_phrases raw l scope stand to) last told) in
-      record { fits = k.fits; lays = λ t h. heap_layout raw p named at k.fits scope.statements l to (target_tree raw scope to) cast n t (λ a c. all a (contained_right (target_exprs to) (counts n) a c)) k.lays h }
+      let k = target_laid l scope stand to (λ a c. all a (Contains-append_left (target_exprs to) (counts n) a c)) fits (told_first raw p scope.variables (target_phrases raw l scope stand to) last told) in
+      record { fits = k.fits; lays = λ t h. heap_layout raw p named at k.fits scope.statements l to (target_tree raw scope to) cast n t (λ a c. all a (Contains-append_right (target_exprs to) (counts n) a c)) k.lays h }
 
   if_lays : (l : ℕ) (a : RawExpr) (body other : Statements) → LayerLays (RawStatement-F.If l a (bare body) (bare other))
   if_lays l a body other scope stand fits told = record {
@@ -337,7 +333,7 @@ module _ (raw : RawProgram) (p : Program) (named : IsNamed raw p) where
         (block_lay body (numbered scope) fits (told_first raw p scope.variables ps qs told) k.left k.left_there)
         ∙ ap (if_form (spaced_words a) (map raw_laid (bare body)))
         (block_lay other middle fits (told_rest raw p scope.variables middle.variables ps qs (after_block_count raw (bare body) (numbered scope)) told) k.right
-        (ap (block_tree (map (treed raw) (bare other))) (sym (after_block_same raw (bare body) (numbered scope))) ∙ k.right_there));
+        (ap (block_tree (map (treed raw) (bare other))) (sym (block_after_same raw (bare body) (numbered scope))) ∙ k.right_there));
   }
 
   while_lays : (l : ℕ) (a : RawExpr) (b : Statements) → LayerLays (RawStatement-F.While l a (bare b))

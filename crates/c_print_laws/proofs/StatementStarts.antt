@@ -1,6 +1,6 @@
 -- Each statement of a program starts on its line, since each number that a text gives has its place.
 use Rattle.std.proofs.Common.{◌≡◌, ℕ, ◌<◌, List, [], ◌∷◌, map, slice_get, Some, None, refl, sym, ap, ap₂, subst, ◌∙◌, arith}
-use Rattle.c_tree.specs.Unlined.{unlined, unlined_of_arm, unlined_step, unlined_arm, unlined_function, unlined_program, SameButLines}
+use Rattle.c_tree.specs.Unlined.{unlined, unlined_step, unlined_arm, unlined_function, unlined_program, SameButLines}
 use Rattle.c_tree.specs.declared.program.Program.{Program}
 use Rattle.c_tree.specs.declared.program.Function.{Function}
 use Rattle.c_tree.specs.declared.program.Item.{Item}
@@ -8,8 +8,10 @@ use Rattle.c_tree.specs.declared.program.Item.TheVariants.{Include, Tag, Struct,
 use Rattle.c_tree.specs.declared.statement.Statement.{Statement, ind-Statement, roll-Statement, map-Statement, fold-roll-Statement}
 use Rattle.c_tree.specs.declared.statement.Statement.TheOpen.{Statement-F}
 use Rattle.c_tree.specs.declared.statement.Arm.{Arm, roll-Arm, map-Arm, fold-roll-Arm}
+use Rattle.c_tree.proofs.UnlinedLemmas.{unlined_of_arm}
 use Rattle.c_language.specs.Scopes.{outset}
 use Rattle.c_language.specs.Programs.{IsWellFormed}
+use Rattle.c_language.proofs.Lists.{maps_same}
 use Rattle.c_print.specs.Lines.{Placed, placed, arm_placed, placed_step, placed_arm, enclosing, function_placed, bare, item_placed, block_starts, layout_starts}
 use Rattle.c_print.proofs.LineLaws.{listed_starts}
 use Rattle.c_print.proofs.OpeningLemmas.{IsListed}
@@ -19,7 +21,6 @@ use Rattle.c_print_laws.proofs.ForParts.{program_tidy}
 use Rattle.c_print_laws.proofs.LineLess.{zero_line, unlined_rolls, got_or}
 use Rattle.c_print_laws.proofs.FeedlessPrograms.{well_formed_feedless}
 use Rattle.c_print_laws.proofs.Numbering.{items_take}
-use Rattle.c_print_laws.proofs.SameTrees.{maps_same}
 
 -- ---- heights and places don't depend on lines
 

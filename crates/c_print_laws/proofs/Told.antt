@@ -15,12 +15,14 @@ use Rattle.c_language.specs.Scopes.{Scope, Meaning, with_variable}
 use Rattle.c_language.specs.Phrases.{Stand, Phrase, Phrases, phrases}
 use Rattle.c_language.specs.ProgramOf.{ctype_with, is_static_stand, is_parameter_stand, variable_of, declared_by, variables_in}
 use Rattle.c_language.specs.Rules.{Breaks, IsBroken, KeepsRules}
-use Rattle.c_print.specs.RawLayout.{raw_declared}
-use Rattle.c_print_laws.proofs.Options.{IsThere, map_there}
+use Rattle.c_text_layout.specs.RawLayout.{raw_declared}
+use Rattle.c_print_laws.proofs.Options.{map_there}
+use Rattle.c_language.proofs.PhraseLists.{variables-append}
 use Rattle.c_print_laws.proofs.Counted.{counted}
 use Rattle.c_print_laws.proofs.Named.{IsNamed, Fits, fits_append}
 use Rattle.c_print_laws.proofs.TypeLayout.{declared_layout}
-use Rattle.c_print_laws.proofs.Scoping.{declared_count, variables_append}
+use Rattle.c_print_laws.proofs.Scoping.{declared_count}
+use Rattle.c_language.proofs.Options.{IsThere}
 
 -- the program has the variable with the number
 pub record Stands (p : Program) (n : ℕ) (v : Option Var) : Type 0 where
@@ -77,13 +79,13 @@ module _ (raw : RawProgram) where
     pub told_first : (n : ℕ) (ps qs : Phrases) → AreTold n (ps ++ qs) → AreTold n ps
     told_first n ps qs h = record {
       kept = kept_first ps qs h.kept;
-      stand = stand_first p n (variables_in raw ps) (variables_in raw qs) (subst (AllStand p n) (variables_append raw ps qs) h.stand);
+      stand = stand_first p n (variables_in raw ps) (variables_in raw qs) (subst (AllStand p n) (variables-append raw ps qs) h.stand);
     }
 
     pub told_rest : (n m : ℕ) (ps qs : Phrases) → n + declared_count raw ps ≡ m → AreTold n (ps ++ qs) → AreTold m qs
     told_rest n m ps qs is h = record {
       kept = kept_rest ps qs h.kept;
-      stand = subst (λ (k : ℕ). AllStand p k (variables_in raw qs)) is (stand_rest p n (variables_in raw ps) (variables_in raw qs) (subst (AllStand p n) (variables_append raw ps qs) h.stand));
+      stand = subst (λ (k : ℕ). AllStand p k (variables_in raw qs)) is (stand_rest p n (variables_in raw ps) (variables_in raw qs) (subst (AllStand p n) (variables-append raw ps qs) h.stand));
     }
 
     -- what follows a phrase that declares nothing

@@ -1,7 +1,7 @@
 -- Where no token of a text begins a left-out construct, its tree shows none: bodies, heads and items.
-use Rattle.std.proofs.Common.{◌≡◌, ℕ, ◌-◌, List, [], ◌∷◌, ◌++◌, Bool, true, false, not, ◌||◌, codes, Option, refl, sym, ap, ◌∙◌, arith, true≢false, inl, inr, slice_get}
+use Rattle.std.proofs.Common.{◌≡◌, ℕ, ◌-◌, List, [], ◌∷◌, ◌++◌, Bool, true, false, not, codes, Option, refl, sym, ap, ◌∙◌, arith, true≢false, inl, inr, slice_get}
 use Rattle.std.specs.Prelude.{◌==◌}
-use Rattle.std.proofs.lemmas.Bool.{and_parts}
+use Rattle.std.proofs.lemmas.Bool.{and_parts, or_left, or_right, not_from_false, and_from}
 use Rattle.c_arith.specs.declared.operators.UnaryOp.TheVariants.{Plus, Minus, Flip, Not}
 use Rattle.c_tree.specs.declared.raw.expr.RawExpr.{RawExpr}
 use Rattle.c_tree.specs.declared.raw.expr.RawType.{RawType}
@@ -24,7 +24,7 @@ use Rattle.c_language.specs.declared.operators.Prefix.TheVariants.{Sign, Deref, 
 use Rattle.c_language.specs.declared.token.TokenKind.TheVariants.{Mark}
 use Rattle.c_print_laws.proofs.CalmTokens.{AreUntold, done, more, calm_braces, expr_calm, calm_then, no_word}
 use Rattle.c_print_laws.proofs.Fitting.{fits, list_fits, is_return, body_fits, is_struct, struct-PointerTo, struct-Integer, result_fits, params_fit, head_fits, items_fit}
-use Rattle.c_print_laws.proofs.ToldStatements.{Went, Goes, goes_then, goes_calm, goes_name, goes_end, went_then, name_level, end_level, opens_level, closes_level, back_level, base_goes, type_goes, declarator_goes, list_init_goes, fits_both, Inside, inside_at, Gone, declaration_goes, statement_goes}
+use Rattle.c_print_laws.proofs.ToldStatements.{Went, Goes, goes_then, goes_calm, goes_name, goes_end, went_then, name_level, end_level, opens_level, closes_level, back_level, base_goes, type_goes, declarator_goes, list_init_goes, Inside, inside_at, Gone, declaration_goes, statement_goes}
 
 -- ---- no statement begins with a closing brace
 
@@ -102,19 +102,11 @@ closing_empty (AreStatements.more k j) h = absurd (true≢false (sym h ∙ state
 
 -- ---- bodies of functions
 
-or_left : (a b : Bool) → a ≡ true → (a || b) ≡ true
-or_left true b h = refl
-or_left false b h = absurd (true≢false (sym h))
-
-or_right : (a b : Bool) → b ≡ true → (a || b) ≡ true
-or_right true b h = refl
-or_right false b h = h
-
 body_cons : (x : RawStatement) (xs : List RawStatement) → fits x ≡ true → body_fits xs ≡ true → body_fits (x ∷ xs) ≡ true
 body_cons x [] h k = or_left (fits x) (is_return x) h
-body_cons x (y ∷ ys) h k = fits_both h k
+body_cons x (y ∷ ys) h k = and_from _ _ h k
 
-body_append : (xs ys : List RawStatement) → list_fits xs ≡ true → body_fits ys ≡ true → body_fits (xs ++ ys) ≡ true
+pub body_append : (xs ys : List RawStatement) → list_fits xs ≡ true → body_fits ys ≡ true → body_fits (xs ++ ys) ≡ true
 body_append [] ys h k = k
 body_append (x ∷ xs) ys h k = let p = and_parts (fits x) (list_fits xs) h in body_cons x (xs ++ ys) p.0 (body_append xs ys p.1 k)
 
@@ -145,9 +137,6 @@ pointer_struct : {ts rest : Tokens} {a b : RawType} → IsStars ts a b rest → 
 pointer_struct (IsStars.done h) k = k
 pointer_struct (IsStars.star {a = a} h) k = pointer_struct h (struct-PointerTo a)
 
-not_is : (b : Bool) → b ≡ false → not b ≡ true
-not_is b h = ap not h
-
 result_told : (tag w : Bytes) (l m k : ℕ) (rest : Tokens) → names_function (name tag l ∷ name w m ∷ mark (codes "(") k ∷ rest) ≡ true
 unfolding names_function
 result_told tag w l m k rest = refl
@@ -157,8 +146,8 @@ result_goes : {t : Option RawType} {ts rest : Tokens} {w : Bytes} {l m : ℕ} �
 result_goes IsResult.nothing before h = (refl, goes_name.go before h)
 result_goes {rest = rest} {w} {l} {m} (IsResult.some (pointed (structure {m = k} {tag = tag} g) (IsStars.done f))) before h = absurd (h.0 (struct_result (result_told tag w k l m rest)))
 result_goes (IsResult.some (pointed (structure {tag = tag} g) (IsStars.star {a = a} {b = b} j))) before h =
-    (not_is (is_struct b) (pointer_struct j (struct-PointerTo a)), (type_goes (pointed (structure g) (IsStars.star j))).go before h)
-result_goes (IsResult.some (pointed (integer {t = t} g) j)) before h = (not_is (is_struct _) (pointer_struct j (struct-Integer t)), (type_goes (pointed (integer g) j)).go before h)
+    (not_from_false (is_struct b) (pointer_struct j (struct-PointerTo a)), (type_goes (pointed (structure g) (IsStars.star j))).go before h)
+result_goes (IsResult.some (pointed (integer {t = t} g) j)) before h = (not_from_false (is_struct _) (pointer_struct j (struct-Integer t)), (type_goes (pointed (integer g) j)).go before h)
 
 unnamed_told : (tag : Bytes) (l : ℕ) (rest : Tokens) → ends_param (slice_get rest 0) ≡ true → names_param (name tag l ∷ rest) ≡ true
 unfolding names_param
@@ -180,12 +169,12 @@ param_goes : {ts rest : Tokens} {p : RawParam} → IsParam ts p rest → ends_pa
 param_goes (plain (pointed (structure {m = k} {tag = tag} g) (IsStars.done f)) (unnamed j) n) e before z b h = absurd (h.0 (struct_param (no_brace before z) b (unnamed_told tag k _ e)))
 param_goes (plain (pointed (structure {m = k} {tag = tag} g) (IsStars.done f)) (IsParamName.named {l = i} {text = w} j) n) e before z b h = absurd (h.0 (struct_param (no_brace before z) b (named_told tag w k i _ e)))
 param_goes (plain (pointed (structure g) (IsStars.star {a = a} {b = x} j)) c n) e before z b h =
-    (not_is (is_struct x) (pointer_struct j (struct-PointerTo a)), (goes_then (type_goes (pointed (structure g) (IsStars.star j))) (name_goes c)).go before h)
+    (not_from_false (is_struct x) (pointer_struct j (struct-PointerTo a)), (goes_then (type_goes (pointed (structure g) (IsStars.star j))) (name_goes c)).go before h)
 param_goes (plain (pointed (integer {t = t} g) j) c n) e before z b h =
-    (not_is (is_struct _) (pointer_struct j (struct-Integer t)), (goes_then (type_goes (pointed (integer g) j)) (name_goes c)).go before h)
-param_goes (unsized {a = a} k c) e before z b h = (not_is (is_struct _) (struct-PointerTo a), (goes_then (type_goes k) (goes_then (name_goes c) (goes_calm (more refl (more refl done))))).go before h)
+    (not_from_false (is_struct _) (pointer_struct j (struct-Integer t)), (goes_then (type_goes (pointed (integer g) j)) (name_goes c)).go before h)
+param_goes (unsized {a = a} k c) e before z b h = (not_from_false (is_struct _) (struct-PointerTo a), (goes_then (type_goes k) (goes_then (name_goes c) (goes_calm (more refl (more refl done))))).go before h)
 param_goes (sized {a = a} k c j) e before z b h =
-    (not_is (is_struct _) (struct-PointerTo a), (goes_then (type_goes k) (goes_then (name_goes c) (goes_calm (more refl (calm_then (expr_calm j) (more refl done)))))).go before h)
+    (not_from_false (is_struct _) (struct-PointerTo a), (goes_then (type_goes k) (goes_then (name_goes c) (goes_calm (more refl (calm_then (expr_calm j) (more refl done)))))).go before h)
 
 front_ends : {ts rest : Tokens} {ps : List RawParam} → IsMoreParams ts ps rest → ends_param (slice_get ts 0) ≡ true
 front_ends IsMoreParams.closed = refl
@@ -201,7 +190,7 @@ more_params_go (IsMoreParams.more {l} k j) before z h =
     let e = calm_braces (mark (codes ",") l) before refl in
     let a = param_goes k (front_ends j) (mark (codes ",") l ∷ before) (e ∙ z) (comma_begins l before) h.1 in
     let b = more_params_go j a.1.after (a.1.level ∙ e ∙ z) a.1.untold in
-    (fits_both a.0 b.0, record { after = b.1.after; level = b.1.level ∙ a.1.level ∙ e; untold = b.1.untold })
+    (and_from _ _ a.0 b.0, record { after = b.1.after; level = b.1.level ∙ a.1.level ∙ e; untold = b.1.untold })
 
 pub paren_begins : (w : Bytes) (l m : ℕ) (before : Tokens) → is_keyword w ≡ false → begins_param (mark (codes "(") m ∷ name w l ∷ before) ≡ true
 unfolding begins_param sees sees_second is_keyword
@@ -213,7 +202,7 @@ params_go nothing before z b h = (refl, (goes_then goes_name (goes_calm (more re
 params_go (IsParams.some k j) before z b h =
     let a = param_goes k (front_ends j) before z b h in
     let c = more_params_go j a.1.after (a.1.level ∙ z) a.1.untold in
-    (fits_both a.0 c.0, record { after = c.1.after; level = c.1.level ∙ a.1.level; untold = c.1.untold })
+    (and_from _ _ a.0 c.0, record { after = c.1.after; level = c.1.level ∙ a.1.level; untold = c.1.untold })
 
 static_goes : {b : Bool} {ts rest : Tokens} → IsStatic ts b rest → Goes ts rest
 static_goes IsStatic.static = goes_name
@@ -225,7 +214,7 @@ head_goes (head {l} {m} {w = w} k j key i) before z h =
     let b = result_goes j a.after a.untold in
     let e = calm_braces (mark (codes "(") m) (name w l ∷ b.1.after) refl ∙ name_level w l b.1.after ∙ b.1.level ∙ a.level in
     let c = params_go i (mark (codes "(") m ∷ name w l ∷ b.1.after) (e ∙ z) (paren_begins w l m b.1.after key) b.1.untold.1.1 in
-    (fits_both b.0 c.0, record { after = c.1.after; level = c.1.level ∙ e; untold = c.1.untold })
+    (and_from _ _ b.0 c.0, record { after = c.1.after; level = c.1.level ∙ e; untold = c.1.untold })
 
 -- ---- items
 
@@ -275,16 +264,16 @@ item_goes (IsItem.structure {l} {m} {k} {w = w} key j) before z h =
     let e = a.1 ∙ ap (λ (n : ℕ). n - 1) (opens_level k inner) ∙ back_level (open_braces inner) ∙ name_level w m (name (codes "struct") l ∷ before) ∙ name_level (codes "struct") l before in
     (refl, went_then (record { after = a.0; level = e; untold = a.2 }) goes_end)
 item_goes (IsItem.globals s b k) before z h = (global_fits k, (goes_then (static_goes s) (goes_then (base_goes b) (globals_go k))).go before h)
-item_goes (IsItem.prototype k) before z h = let a = head_goes k before z h in (fits_both a.0 refl, went_then a.1 goes_end)
+item_goes (IsItem.prototype k) before z h = let a = head_goes k before z h in (and_from _ _ a.0 refl, went_then a.1 goes_end)
 item_goes (IsItem.definition {l} {m} k p j) before z h =
     let a = head_goes k before z h in
     let b = function_goes j (mark (codes "{") l ∷ a.1.after) a.1.untold.1 (inside_opened l a.1.after) in
     let e = closes_level m b.1.after ∙ ap (λ (n : ℕ). n - 1) (b.1.level ∙ opens_level l a.1.after) ∙ back_level (open_braces a.1.after) ∙ a.1.level in
-    (fits_both (fits_both a.0 b.0) refl, record { after = mark (codes "}") m ∷ b.1.after; level = e; untold = b.1.untold.1 })
+    (and_from _ _ (and_from _ _ a.0 b.0) refl, record { after = mark (codes "}") m ∷ b.1.after; level = e; untold = b.1.untold.1 })
 
-items_append : (xs ys : List RawItem) → items_fit xs ≡ true → items_fit ys ≡ true → items_fit (xs ++ ys) ≡ true
+pub items_append : (xs ys : List RawItem) → items_fit xs ≡ true → items_fit ys ≡ true → items_fit (xs ++ ys) ≡ true
 items_append [] ys h k = k
-items_append (x ∷ xs) ys h k = let p = and_parts _ (items_fit xs) h in fits_both p.0 (items_append xs ys p.1 k)
+items_append (x ∷ xs) ys h k = let p = and_parts _ (items_fit xs) h in and_from _ _ p.0 (items_append xs ys p.1 k)
 
 items_go : {ts rest : Tokens} {all : List RawItem} → AreItems ts all rest → (before : Tokens) → open_braces before ≡ 0 → AreUntold before ts → items_fit all ≡ true
 items_go AreItems.done before z h = refl

@@ -1,7 +1,7 @@
 -- Where no token of a text begins a left-out construct, its tree shows none: the old text, from its tokens to its tree.
 use Rattle.std.proofs.Common.{◌≡◌, ◌≤◌, ℕ, ◌+◌, ◌-◌, List, [], ◌∷◌, ◌++◌, Bool, true, false, ◌&&◌, codes, Option, Some, None, refl, sym, ap, ap₂, ◌∙◌, arith, true≢false, ◌⊎◌, inl, inr}
 use Rattle.std.specs.Prelude.{◌==◌, bytes_eq}
-use Rattle.std.proofs.lemmas.Bool.{and_parts}
+use Rattle.std.proofs.lemmas.Bool.{and_parts, true_from_ne_false, and_right, and_from}
 use Rattle.std.proofs.lemmas.Bool.Decides.{nat_tests}
 use Rattle.c_tree.specs.declared.raw.expr.RawExpr.{RawExpr}
 use Rattle.c_tree.specs.declared.raw.expr.RawType.{RawType}
@@ -115,10 +115,6 @@ lacks_here : (before : Tokens) (l : ℕ) → begins_format (mark (codes ",") l �
 unfolding begins_format sees
 lacks_here before l = refl
 
-pub not_false : (b : Bool) → (b ≡ false → ⊥) → b ≡ true
-not_false true h = refl
-not_false false h = absurd (h refl)
-
 -- arguments behind a comma
 later_args : {ts rest : Tokens} {all : List RawArg} {l : ℕ} → IsArgs ts all rest → (before : Tokens) → AreUntold (mark (codes ",") l ∷ before) ts → (lacks_strings all ≡ true) × Went (mark (codes ",") l ∷ before) rest
 later_args {l = l} (IsSeparated.last (IsArg.value e)) before h = (refl, (goes_then (goes_calm (expr_calm e)) (goes_calm (more refl done))).go (mark (codes ",") l ∷ before) h)
@@ -129,21 +125,21 @@ later_args {l = l} (IsSeparated.more {l = k} (IsArg.value e) j) before h =
     (b.0, record { after = b.1.after; level = b.1.level ∙ calm_braces (mark (codes ",") k) a.after refl ∙ a.level; untold = b.1.untold })
 later_args {l = l} (IsSeparated.more IsArg.literal j) before h = absurd (h.0 (other_string (lacks_here before l)))
 
-format_name : (f : Bytes) (l m : ℕ) (before : Tokens) → begins_format (mark (codes "(") m ∷ name f l ∷ before) ≡ bytes_eq f (codes "printf")
+pub format_name : (f : Bytes) (l m : ℕ) (before : Tokens) → begins_format (mark (codes "(") m ∷ name f l ∷ before) ≡ bytes_eq f (codes "printf")
 unfolding begins_format sees sees_second
 format_name f l m before = refl
 
 first_args : {ts rest : Tokens} {all : List RawArg} (f : Bytes) (l m : ℕ) → IsArgs ts all rest → (before : Tokens) → AreUntold (mark (codes "(") m ∷ name f l ∷ before) ts → HasStrings f all (mark (codes "(") m ∷ name f l ∷ before) rest
 first_args f l m (IsSeparated.last (IsArg.value e)) before h = (refl, (goes_then (goes_calm (expr_calm e)) (goes_calm (more refl done))).go (mark (codes "(") m ∷ name f l ∷ before) h)
 first_args f l m (IsSeparated.last (IsArg.literal {l = k} {text})) before h =
-    let is = not_false (bytes_eq f (codes "printf")) (λ no. h.0 (other_string (format_name f l m before ∙ no))) in
+    let is = true_from_ne_false (bytes_eq f (codes "printf")) (λ no. h.0 (other_string (format_name f l m before ∙ no))) in
     (rw is refl, record { after = _; level = calm_braces (mark (codes ")") _) _ refl ∙ string_level text k _; untold = h.1.1 })
 first_args f l m (IsSeparated.more {l = k} (IsArg.value e) j) before h =
     let a = calm_went (expr_calm e) (mark (codes "(") m ∷ name f l ∷ before) h in
     let b = later_args {l = k} j a.after a.untold.1 in
     (b.0, record { after = b.1.after; level = b.1.level ∙ calm_braces (mark (codes ",") k) a.after refl ∙ a.level; untold = b.1.untold })
 first_args f l m (IsSeparated.more {l = k} {all = all} (IsArg.literal {l = i} {text}) j) before h =
-    let is = not_false (bytes_eq f (codes "printf")) (λ no. h.0 (other_string (format_name f l m before ∙ no))) in
+    let is = true_from_ne_false (bytes_eq f (codes "printf")) (λ no. h.0 (other_string (format_name f l m before ∙ no))) in
     let b = later_args {l = k} j (string text i ∷ mark (codes "(") m ∷ name f l ∷ before) h.1.1 in
     (rw is b.0, record { after = b.1.after; level = b.1.level ∙ calm_braces (mark (codes ",") k) (string text i ∷ mark (codes "(") m ∷ name f l ∷ before) refl ∙ string_level text i _; untold = b.1.untold })
 
@@ -313,10 +309,6 @@ far_one n h = grind (arith, nat_tests)
 deeper_top : (before : Tokens) → Deeper before → is_top before ≡ false
 deeper_top before h = ap (λ (b : Bool). b && stands_in_list before) (far_one (open_braces before) h)
 
-and_false : (a b : Bool) → b ≡ false → (a && b) ≡ false
-and_false true b h = h
-and_false false b h = refl
-
 -- it is the last statement of its function, which is a return
 pub record Returned (a : RawStatement) (before rest : Tokens) : Type 0 where
   pub returns : is_return a ≡ true
@@ -390,12 +382,9 @@ labels_go : {ts rest : Tokens} {all : List RawLabel} → AreLabels ts all rest �
 labels_go (AreLabels.last h) = label_goes h
 labels_go (AreLabels.more h k) = goes_then (label_goes h) (labels_go k)
 
-pub fits_both : {a b : Bool} → a ≡ true → b ≡ true → (a && b) ≡ true
-fits_both h k = ap₂ (λ (x y : Bool). x && y) h k
-
-fits_append : (xs ys : List RawStatement) → list_fits xs ≡ true → list_fits ys ≡ true → list_fits (xs ++ ys) ≡ true
+pub fits_append : (xs ys : List RawStatement) → list_fits xs ≡ true → list_fits ys ≡ true → list_fits (xs ++ ys) ≡ true
 fits_append [] ys h k = k
-fits_append (x ∷ xs) ys h k = let p = and_parts (fits x) (list_fits xs) h in fits_both p.0 (fits_append xs ys p.1 k)
+fits_append (x ∷ xs) ys h k = let p = and_parts (fits x) (list_fits xs) h in and_from _ _ p.0 (fits_append xs ys p.1 k)
 
 -- behind a closing brace
 record Closed (before rest : Tokens) : Type 0 where
@@ -424,10 +413,10 @@ mutual
   pub statement_goes : {ts rest : Tokens} {a : RawStatement} → IsStatement ts a rest → (before : Tokens) → AreUntold before ts → Inside before → Gone a before rest
   statement_goes (IsStatement.simple k) before h i = let a = simple_goes k before h in (stood a.1, inl a.0)
   statement_goes (IsStatement.returns {l} {m} {rest}) before h i =
-      let e = ends_parts before (mark (codes ";") m ∷ rest) rest (end_behind m rest) (not_false (ends_function before (mark (codes ";") m ∷ rest)) (λ no. h.0 (early_return no))) in
+      let e = ends_parts before (mark (codes ";") m ∷ rest) rest (end_behind m rest) (true_from_ne_false (ends_function before (mark (codes ";") m ∷ rest)) (λ no. h.0 (early_return no))) in
       (stood (goes_name.go before h), inr (record { returns = return-Return l None; top = e.0; closes = e.1 }))
   statement_goes (IsStatement.returns_value {l} {m} {ts} {rest} {a = a} k) before h i =
-      let e = ends_parts before ts rest (calm_behind (expr_calm k) ∙ end_behind m rest) (not_false (ends_function before ts) (λ no. h.0 (early_return no))) in
+      let e = ends_parts before ts rest (calm_behind (expr_calm k) ∙ end_behind m rest) (true_from_ne_false (ends_function before ts) (λ no. h.0 (early_return no))) in
       (stood ((goes_then goes_name (goes_calm (expr_calm k))).go before h), inr (record { returns = return-Return l (Some a); top = e.0; closes = e.1 }))
   statement_goes (IsStatement.block {l} {all = all} k) before h i =
       let b = statements_go k (mark (codes "{") l ∷ before) h.1 (deeper_opened l before i) in
@@ -436,7 +425,7 @@ mutual
       let t = headed_name (test_goes k (name (codes "if") l ∷ before) h.1) in
       let b = body_goes j t.after t.untold (inside_at t.level i) t.no_list in
       let c = else_goes g b.1.after b.1.untold (inside_at (b.1.level ∙ t.level) i) b.1.stands in
-      (stood_behind (b.1.level ∙ t.level) c.1, inl (fits-If l a body other ∙ fits_both b.0 c.0))
+      (stood_behind (b.1.level ∙ t.level) c.1, inl (fits-If l a body other ∙ and_from _ _ b.0 c.0))
   statement_goes (IsStatement.while_loop {l} {a = a} {all} k j) before h i =
       let t = headed_name (test_goes k (name (codes "while") l ∷ before) h.1) in
       let b = body_goes j t.after t.untold (inside_at t.level i) t.no_list in
@@ -453,7 +442,7 @@ mutual
       let z = step_goes j y.after y.untold in
       let n = z.1.level ∙ y.level ∙ v in
       let b = body_goes g z.1.after z.1.untold (inside_at n i) z.1.no_list in
-      (stood_behind n b.1, inl (fits-For l first a step all ∙ fits_both x.0 (fits_both z.0 b.0)))
+      (stood_behind n b.1, inl (fits-For l first a step all ∙ and_from _ _ x.0 (and_from _ _ z.0 b.0)))
   statement_goes (IsStatement.switch {l} {m} {a = a} {arms} k j) before h i =
       let t = headed_name (test_goes k (name (codes "switch") l ∷ before) h.1) in
       let b = arms_go j (mark (codes "{") m ∷ t.after) t.untold.1 (deeper_opened m t.after (inside_at t.level i)) in
@@ -472,7 +461,7 @@ mutual
   statements_go (AreStatements.more k j) before h i =
       let a = statement_goes k before h (omega (arith, i)) in
       let b = statements_go j a.0.after a.0.untold (deeper_at a.0.level i) in
-      (fits_both (gone_fits (deeper_top before i) a) b.0, record { after = b.1.after; level = b.1.level ∙ a.0.level; untold = b.1.untold })
+      (and_from _ _ (gone_fits (deeper_top before i) a) b.0, record { after = b.1.after; level = b.1.level ∙ a.0.level; untold = b.1.untold })
 
   body_goes : {ts rest : Tokens} {all : List RawStatement} → IsBody ts all rest → (before : Tokens) → AreUntold before ts → Inside before → stands_in_list before ≡ false → (list_fits all ≡ true) × Stood before rest
   body_goes (IsBody.braces {l} k) before h i n =
@@ -481,7 +470,7 @@ mutual
   body_goes (IsBody.nothing {l}) before h i n = (refl, record { after = mark (codes ";") l ∷ before; level = end_level l before; stands = stands_end l before; untold = h.1 })
   body_goes (IsBody.single p k) before h i n =
       let a = statement_goes k before h i in
-      (fits_both (gone_fits (and_false (open_braces before == 1) (stands_in_list before) n) a) refl, a.0)
+      (and_from _ _ (gone_fits (and_right (open_braces before == 1) (stands_in_list before) n) a) refl, a.0)
 
   else_goes : {ts rest : Tokens} {all : List RawStatement} → IsElse ts all rest → (before : Tokens) → AreUntold before ts → Inside before → stands_in_list before ≡ true → (list_fits all ≡ true) × Stood before rest
   else_goes (IsElse.otherwise {l} k) before h i n =
@@ -498,9 +487,9 @@ mutual
       let c = went_then b.1 (goes_then goes_name goes_end) in
       let n = c.level ∙ a.level in
       let d = arms_go g c.after c.untold (deeper_at n i) in
-      (fits_both (fits-arm labels body ∙ b.0) d.0, record { after = d.1.after; level = d.1.level ∙ ap (λ (x : ℕ). x - 1) n; stands = d.1.stands; untold = d.1.untold })
+      (and_from _ _ (fits-arm labels body ∙ b.0) d.0, record { after = d.1.after; level = d.1.level ∙ ap (λ (x : ℕ). x - 1) n; stands = d.1.stands; untold = d.1.untold })
   arms_go (AreArms.unbroken {labels = labels} {body} k p j) before h i =
       let a = (labels_go k).go before h in
       let b = statements_go j a.after a.untold (deeper_at a.level i) in
       let d = closed b.1 in
-      (fits_both (fits-arm labels body ∙ b.0) refl, record { after = d.after; level = d.level ∙ ap (λ (x : ℕ). x - 1) a.level; stands = d.stands; untold = d.untold })
+      (and_from _ _ (fits-arm labels body ∙ b.0) refl, record { after = d.after; level = d.level ∙ ap (λ (x : ℕ). x - 1) a.level; stands = d.stands; untold = d.untold })

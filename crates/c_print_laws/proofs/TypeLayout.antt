@@ -8,17 +8,18 @@ use Rattle.c_tree.specs.declared.raw.expr.RawLength.TheVariants.{Written, Listed
 use Rattle.c_tree.specs.declared.raw.expr.RawType.{RawType, map-RawType, fold-roll-RawType}
 use Rattle.c_tree.specs.declared.raw.expr.RawType.TheOpen.{RawType-F}
 use Rattle.c_tree.specs.declared.raw.program.RawProgram.{RawProgram}
+use Rattle.c_tree.proofs.RawTrees.{TypeParts, type_layer, of_every_type}
 use Rattle.c_language.specs.Words.{Bytes, base_words, stars, lengths, declared, type_words, spaced_stars}
 use Rattle.c_language.specs.ConstantEvaluation.{constant, value_of_constant}
 use Rattle.c_language.specs.declared.constant.Constant.{Constant}
 use Rattle.c_language.specs.DeclaredTypes.{struct_id, positive, length_in}
 use Rattle.c_language.specs.ProgramOf.{length_words, ctype_step, ctype_with}
 use Rattle.c_language.proofs.WordLemmas.{base_words-Integer, base_words-PointerTo, base_words-Array, base_words-Struct, stars-Integer, stars-PointerTo, stars-Array, stars-Struct, lengths-Integer, lengths-PointerTo, lengths-Array, lengths-Struct}
-use Rattle.c_print.specs.RawLayout.{raw_base_step, raw_base, raw_stars_step, raw_stars, raw_length_words, raw_lengths_step, raw_lengths, raw_declared, raw_type_words}
-use Rattle.c_print_laws.proofs.Options.{IsThere, some_same, map_there, then_there, both_there}
+use Rattle.c_text_layout.specs.RawLayout.{raw_base_step, raw_base, raw_stars_step, raw_stars, raw_length_words, raw_lengths_step, raw_lengths, raw_declared, raw_type_words}
+use Rattle.c_print_laws.proofs.Options.{map_there, then_there, both_there}
 use Rattle.c_print_laws.proofs.SpacedWords.{constant_spaced}
-use Rattle.c_print_laws.proofs.Trees.{TypeParts, type_layer, of_every_type}
 use Rattle.c_print_laws.proofs.Named.{IsNamed}
+use Rattle.c_language.proofs.Options.{IsThere, some_same}
 
 -- a type of the program has these words
 pub record HasTypeWords (p : Program) (c : CType) (front middle back : Bytes) : Type 0 where

@@ -1,6 +1,6 @@
 -- A tree that shows no left-out construct has tokens at which none is told, where no `;` alone stands in the bodies of functions: bodies, heads and items.
 use Rattle.std.proofs.Common.{◌≡◌, ℕ, ◌+◌, ◌-◌, List, [], ◌∷◌, ◌++◌, Bool, true, false, not, ◌&&◌, ◌||◌, codes, Option, Some, refl, sym, ap, ap₂, subst, ◌∙◌, arith, true≢false}
-use Rattle.std.proofs.lemmas.Bool.{and_parts}
+use Rattle.std.proofs.lemmas.Bool.{and_parts, or_left}
 use Rattle.c_tree.specs.declared.raw.expr.RawType.{RawType}
 use Rattle.c_tree.specs.declared.raw.program.RawHead.{RawHead}
 use Rattle.c_tree.specs.declared.raw.program.RawItem.{RawItem}
@@ -17,13 +17,13 @@ use Rattle.c_language.specs.LeftOut.{open_braces, stands_in_list, begins_param, 
 use Rattle.c_language.specs.declared.token.Token.{Token}
 use Rattle.c_language.specs.declared.token.TokenKind.TheVariants.{Name, Mark, Include}
 use Rattle.c_language.specs.declared.token.TokenKind.{TokenKind}
-use Rattle.c_print.proofs.StatementPrint.{IsLean}
-use Rattle.c_print.proofs.ItemPrint.{IsLeanItem, AreLeanItems}
+use Rattle.c_text_layout.proofs.StatementPrint.{IsLean}
+use Rattle.c_text_layout.proofs.ItemPrint.{IsLeanItem, AreLeanItems}
 use Rattle.c_print_laws.proofs.CalmTokens.{AreUntold, AreCalm, done, more, calm_then, calm_braces, name_calm, expr_calm, int_calm, include_untold}
 use Rattle.c_print_laws.proofs.Fitting.{fits, list_fits, is_return, body_fits, is_struct, struct-Struct, result_fits, params_fit, head_fits, item_fits, items_fit, fits-Declare, fits-Heap, return-Call}
-use Rattle.c_print_laws.proofs.ToldStatements.{name_level, end_level, opens_level, closes_level, stars_calm, stands_opened}
+use Rattle.c_print_laws.proofs.ToldStatements.{name_level, end_level, opens_level, closes_level, stars_calm, stands_opened, inside_at}
 -- ---- tokens before others at which none is told
-use Rattle.c_print_laws.proofs.UntoldStatements.{Behind, Inside, NoParam, base_clear, calm_clear, calm_static, calm_void, declaration_clear, declarator_calm, declarator_no_function, end_clear, function_follows, inside_opened, inside_param, level_inside, list_init_clear, mark_here, opened_back, or_first, or_left, statement_clear, word_here}
+use Rattle.c_print_laws.proofs.UntoldStatements.{Behind, Inside, NoParam, base_clear, calm_clear, calm_static, calm_void, declaration_clear, declarator_calm, declarator_no_function, end_clear, function_follows, inside_opened, inside_param, list_init_clear, mark_here, opened_back, or_first, statement_clear, word_here}
 
 -- ---- bodies of functions
 
@@ -198,7 +198,7 @@ member_clear (IsMember.member b j) before i k = base_clear b (fields_no_function
 members_clear : {ts rest : Tokens} {all : List RawMember} → AreMembers ts all rest → (before : Tokens) → Inside before → ((after : Tokens) → open_braces after ≡ open_braces before - 1 → AreUntold after rest) → AreUntold before ts
 members_clear (AreMembers.last {l} {rest = rest} j) before i k =
     member_clear j before i (λ a u. (mark_here (codes "}") l a rest refl, k (mark (codes "}") l ∷ a) (closes_level l a ∙ ap (λ (n : ℕ). n - 1) u)))
-members_clear (AreMembers.more j g) before i k = member_clear j before i (λ a u. members_clear g a (level_inside u i) (λ b v. k b (v ∙ ap (λ (n : ℕ). n - 1) u)))
+members_clear (AreMembers.more j g) before i k = member_clear j before i (λ a u. members_clear g a (inside_at u i) (λ b v. k b (v ∙ ap (λ (n : ℕ). n - 1) u)))
 
 global_no_function : {line : ℕ} {is_static : Bool} {base : RawType} {ts rest : Tokens} {x : RawItem} → IsGlobal line is_static base ts x rest → sees Mark (codes "(") rest ≡ false → function_follows ts ≡ false
 unfolding sees

@@ -1,7 +1,7 @@
 -- A tree that shows no left-out construct has tokens at which none is told: statements.
 use Rattle.std.proofs.Common.{◌≡◌, ◌≤◌, ℕ, ◌+◌, ◌-◌, List, [], ◌∷◌, ◌++◌, Bool, true, false, not, ◌&&◌, ◌||◌, codes, Option, Some, None, refl, sym, ap, ap₂, ◌∙◌, arith, true≢false, slice_get}
 use Rattle.std.specs.Prelude.{◌==◌, bytes_eq}
-use Rattle.std.proofs.lemmas.Bool.{and_parts, not-true}
+use Rattle.std.proofs.lemmas.Bool.{and_parts, not-true, or_left}
 use Rattle.std.proofs.lemmas.Bool.Decides.{nat_tests}
 use Rattle.c_tree.specs.declared.raw.expr.RawExpr.{RawExpr}
 use Rattle.c_tree.specs.declared.raw.expr.RawType.{RawType}
@@ -18,11 +18,11 @@ use Rattle.c_language.specs.TokenForms.{Tokens, name, string, mark}
 use Rattle.c_language.specs.Sees.{is_some_token, sees, sees_second, is_keyword}
 use Rattle.c_language.specs.TypeGrammar.{IsBase, structure, integer, IsStars, NamesType, starred, IsLengths, IsOuterLengths, written, empty, IsDeclarator}
 use Rattle.c_language.specs.StatementGrammar.{IsSeparated, IsArg, IsArgs, IsCall, bare, with_args, is_callee, IsSize, of_type, of_pointee, of_bare_pointee, IsAmount, IsMalloc, IsHeap, IsSimple, IsList, trailing, IsDeclared, AreDeclared, IsDeclaration, declaration, IsInit, IsStep, IsLabel, AreLabels, IsTest, test, IsStatement, AreStatements, IsBody, IsElse, AreArms}
-use Rattle.c_language.specs.LeftOut.{is_left_out_word, IsTold, open_braces, behind_semicolon, ends_function, stands_in_list, begins_format, begins_label, names_function, begins_param, names_param, is_some_kind}
+use Rattle.c_language.specs.LeftOut.{is_left_out_word, IsTold, open_braces, behind_semicolon, ends_function, stands_in_list, begins_label, names_function, begins_param, names_param, is_some_kind}
 use Rattle.c_language.specs.declared.token.TokenKind.TheVariants.{Name, Mark}
 use Rattle.c_print_laws.proofs.CalmTokens.{is_watched, AreUntold, AreCalm, done, more, calm_then, calm_braces, calm_behind, calm_untold, name_calm, expr_calm, int_calm, mark_untold, string_untold, return_untold, case_untold, default_untold, struct_untold}
 use Rattle.c_print_laws.proofs.Fitting.{lacks_strings, strings_fit, fits, list_fits, part_fits, arms_fit, arm_fits, is_return, fits-Call, fits-If, fits-While, fits-Do, fits-For, fits-Switch, fits-Block, fits-Return, fits-arm, return-Assign, return-Bump, return-Call, return-Heap, return-If, return-While, return-Do, return-For, return-Switch, return-Block}
-use Rattle.c_print_laws.proofs.ToldStatements.{name_level, string_level, end_level, opens_level, closes_level, back_level, stars_calm, outer_calm, assign_calm, bump_calm, end_behind, stands_end, stands_closed}
+use Rattle.c_print_laws.proofs.ToldStatements.{name_level, string_level, end_level, opens_level, closes_level, back_level, stars_calm, outer_calm, assign_calm, bump_calm, end_behind, stands_end, stands_closed, inside_at, format_name}
 
 -- ---- tokens before others at which none is told
 
@@ -92,14 +92,7 @@ declarator_calm (IsDeclarator.named {text} h k j) = calm_then (stars_calm h) (mo
 pub named_clear : {ts rest : Tokens} {l : ℕ} {t : RawTypeName} → NamesType ts t (mark (codes ")") l ∷ rest) → (before : Tokens) → Inside before → Behind before (mark (codes ")") l ∷ rest) → AreUntold before ts
 named_clear (starred b j) before i k = base_clear b (stars_no_function j) before (inside_param before _ i) (λ a e. calm_clear (stars_calm j) a (λ c g. k c (g ∙ e)))
 
-pub level_inside : {m n : ℕ} → n ≡ m → 1 ≤ m → 1 ≤ n
-level_inside e h = omega (arith, e, h)
-
 -- ---- calls
-
-pub format_name : (f : Bytes) (l m : ℕ) (before : Tokens) → begins_format (mark (codes "(") m ∷ name f l ∷ before) ≡ bytes_eq f (codes "printf")
-unfolding begins_format sees sees_second
-format_name f l m before = refl
 
 pub later_clear : {ts rest : Tokens} {all : List RawArg} → IsArgs ts all rest → lacks_strings all ≡ true → (before : Tokens) → Behind before rest → AreUntold before ts
 later_clear (IsSeparated.last (IsArg.value e)) h before k = calm_clear (calm_then (expr_calm e) (more refl done)) before k
@@ -186,7 +179,7 @@ size_clear (of_type {l} {m} {k = n} {ts} h) before i k =
       word_here (codes "sizeof") l before (mark (codes "(") m ∷ ts) calm_sizeof,
       (
         mark_here (codes "(") m (name (codes "sizeof") l ∷ before) ts refl,
-        named_clear h at (level_inside e i) (λ a u. calm_clear (more refl done) a (λ b v. k b (v ∙ u ∙ e))),
+        named_clear h at (inside_at e i) (λ a u. calm_clear (more refl done) a (λ b v. k b (v ∙ u ∙ e))),
       ),
     )
 size_clear (of_pointee {w = w} key) before i k = calm_clear (more calm_sizeof (more refl (more refl (more (name_calm w key) (more refl done))))) before k
@@ -194,25 +187,25 @@ size_clear (of_bare_pointee {w = w} key) before i k = calm_clear (more calm_size
 
 pub amount_clear : {ts rest : Tokens} {n : RawAmount} → IsAmount ts n rest → (before : Tokens) → Inside before → Behind before rest → AreUntold before ts
 amount_clear (IsAmount.one h) before i k = size_clear h before i k
-amount_clear (IsAmount.counted e h) before i k = calm_clear (calm_then (expr_calm e) (more refl done)) before (λ a u. size_clear h a (level_inside u i) (λ b v. k b (v ∙ u)))
+amount_clear (IsAmount.counted e h) before i k = calm_clear (calm_then (expr_calm e) (more refl done)) before (λ a u. size_clear h a (inside_at u i) (λ b v. k b (v ∙ u)))
 amount_clear (IsAmount.multiplied h e) before i k = size_clear h before i (λ a u. calm_clear (more refl (expr_calm e)) a (λ b v. k b (v ∙ u)))
 amount_clear (IsAmount.bytes e) before i k = calm_clear (expr_calm e) before k
 
 pub malloc_clear : {ts rest : Tokens} {n : RawAmount} → IsMalloc ts n rest → (before : Tokens) → Inside before → Behind before rest → AreUntold before ts
 malloc_clear (IsMalloc.malloc h) before i k =
-    calm_clear (more calm_malloc (more refl done)) before (λ a u. amount_clear h a (level_inside u i) (λ b v. calm_clear (more refl done) b (λ c w. k c (w ∙ v ∙ u))))
+    calm_clear (more calm_malloc (more refl done)) before (λ a u. amount_clear h a (inside_at u i) (λ b v. calm_clear (more refl done) b (λ c w. k c (w ∙ v ∙ u))))
 
 pub heap_clear : {ts rest : Tokens} {t : Option RawTypeName} {n : RawAmount} → IsHeap ts t n rest → (before : Tokens) → Inside before → Behind before rest → AreUntold before ts
 heap_clear (IsHeap.uncast h) before i k = malloc_clear h before i k
 heap_clear (IsHeap.cast h p j) before i k =
-    calm_clear (more refl done) before (λ a u. named_clear h a (level_inside u i) (λ b v. calm_clear (more refl done) b (λ c w. malloc_clear j c (level_inside (w ∙ v ∙ u) i) (λ d x. k d (x ∙ w ∙ v ∙ u)))))
+    calm_clear (more refl done) before (λ a u. named_clear h a (inside_at u i) (λ b v. calm_clear (more refl done) b (λ c w. malloc_clear j c (inside_at (w ∙ v ∙ u) i) (λ d x. k d (x ∙ w ∙ v ∙ u)))))
 
 -- ---- simple statements and declarations
 
 pub simple_clear : {ts rest : Tokens} {a : RawStatement} → IsSimple ts a rest → fits a ≡ true → (before : Tokens) → Inside before → Behind before rest → AreUntold before ts
 simple_clear (IsSimple.assign {l} op c e p j) f before i k = calm_clear (calm_then (expr_calm e) (more (assign_calm op l) (expr_calm j))) before k
 simple_clear (IsSimple.store_call e p j) f before i k = calm_clear (calm_then (expr_calm e) (more refl done)) before (λ a u. call_clear j (sym (fits-Call _ _ _ _) ∙ f) a (λ b v. k b (v ∙ u)))
-simple_clear (IsSimple.store_heap e p j) f before i k = calm_clear (calm_then (expr_calm e) (more refl done)) before (λ a u. heap_clear j a (level_inside u i) (λ b v. k b (v ∙ u)))
+simple_clear (IsSimple.store_heap e p j) f before i k = calm_clear (calm_then (expr_calm e) (more refl done)) before (λ a u. heap_clear j a (inside_at u i) (λ b v. k b (v ∙ u)))
 simple_clear (IsSimple.bump_after {l} up e p) f before i k = calm_clear (calm_then (expr_calm e) (more (bump_calm up l) done)) before k
 simple_clear (IsSimple.bump_before {l} up e p) f before i k = calm_clear (more (bump_calm up l) (expr_calm e)) before k
 simple_clear (IsSimple.call j) f before i k = call_clear j (sym (fits-Call _ _ _ _) ∙ f) before k
@@ -250,7 +243,7 @@ declared_clear (IsDeclared.plain d p) f before i k = calm_clear (declarator_calm
 declared_clear (IsDeclared.value d p e) f before i k = calm_clear (calm_then (declarator_calm d) (more refl (expr_calm e))) before k
 declared_clear (IsDeclared.list d j) f before i k = calm_clear (declarator_calm d) before (λ a u. list_init_clear j a (λ b v. k b (v ∙ u)))
 declared_clear (IsDeclared.call d p j) f before i k = calm_clear (calm_then (declarator_calm d) (more refl done)) before (λ a u. call_clear j (sym (fits-Call _ _ _ _) ∙ f) a (λ b v. k b (v ∙ u)))
-declared_clear (IsDeclared.heap d p j) f before i k = calm_clear (calm_then (declarator_calm d) (more refl done)) before (λ a u. heap_clear j a (level_inside u i) (λ b v. k b (v ∙ u)))
+declared_clear (IsDeclared.heap d p j) f before i k = calm_clear (calm_then (declarator_calm d) (more refl done)) before (λ a u. heap_clear j a (inside_at u i) (λ b v. k b (v ∙ u)))
 
 -- what stands behind a statement of a list, which ends in a semicolon or a brace
 abbrev pub Standing : Tokens → Tokens → Type 0
@@ -268,11 +261,11 @@ pub declared_all_clear : {line : ℕ} {base : RawType} {ts rest : Tokens} {all :
 declared_all_clear (IsSeparated.last d) f before i k = declared_clear d (and_parts _ _ f).0 before i (λ a u. end_clear before a u k)
 declared_all_clear (IsSeparated.more d j) f before i k =
     let p = and_parts _ _ f in
-    declared_clear d p.0 before i (λ a u. calm_clear (more refl done) a (λ b v. declared_all_clear j p.1 b (level_inside (v ∙ u) i) (λ c w s. k c (w ∙ v ∙ u) s)))
+    declared_clear d p.0 before i (λ a u. calm_clear (more refl done) a (λ b v. declared_all_clear j p.1 b (inside_at (v ∙ u) i) (λ c w s. k c (w ∙ v ∙ u) s)))
 
 pub declaration_clear : {ts rest : Tokens} {all : List RawStatement} → IsDeclaration ts all rest → list_fits all ≡ true → (before : Tokens) → Inside before → Standing before rest → AreUntold before ts
 declaration_clear (declaration b j) f before i k =
-    base_clear b (all_no_function j) before (inside_param before _ i) (λ a u. declared_all_clear j f a (level_inside u i) (λ c w s. k c (w ∙ u) s))
+    base_clear b (all_no_function j) before (inside_param before _ i) (λ a u. declared_all_clear j f a (inside_at u i) (λ c w s. k c (w ∙ u) s))
 
 -- ---- statements
 
@@ -283,10 +276,6 @@ Last before rest = (open_braces before ≡ 1) × (stands_in_list before ≡ true
 pub or_first : (a b : Bool) → (a || b) ≡ true → b ≡ false → a ≡ true
 or_first true b h k = refl
 or_first false b h k = absurd (true≢false (sym h ∙ k))
-
-pub or_left : (a b : Bool) → a ≡ true → (a || b) ≡ true
-or_left true b h = refl
-or_left false b h = absurd (true≢false (sym h))
 
 pub ends_here : (before behind rest : Tokens) → behind_semicolon behind ≡ rest → Last before rest → ends_function before behind ≡ true
 unfolding ends_function
@@ -303,7 +292,7 @@ pub init_clear : {ts rest : Tokens} {a : Option RawStatement} → IsInit ts a re
 init_clear (IsInit.nothing {l}) f before i k = end_clear {l = l} before before refl (λ a u s. k a u)
 init_clear (IsInit.simple {l} j) f before i k = simple_clear j f before i (λ a u. end_clear {l = l} before a u (λ b v s. k b v))
 init_clear (IsInit.declared {l} b j) f before i k =
-    base_clear b (declared_no_function j (no_paren_end l _)) before (inside_param before _ i) (λ a u. declared_clear j f a (level_inside u i) (λ c v. end_clear {l = l} before c (v ∙ u) (λ d w s. k d w)))
+    base_clear b (declared_no_function j (no_paren_end l _)) before (inside_param before _ i) (λ a u. declared_clear j f a (inside_at u i) (λ c v. end_clear {l = l} before c (v ∙ u) (λ d w s. k d w)))
 
 pub step_clear : {ts rest : Tokens} {a : Option RawStatement} → IsStep ts a rest → part_fits a ≡ true → (before : Tokens) → Inside before → Behind before rest → AreUntold before ts
 step_clear IsStep.nothing f before i k = calm_clear (more refl done) before k
@@ -379,16 +368,16 @@ mutual
   statement_clear (IsStatement.conditional {l} {ts} {a = e} {yes = body} {other} t j g) f before last i k =
       let p = and_parts (list_fits body) (list_fits other) (sym (fits-If l e body other) ∙ or_first (fits _) (is_return _) f (return-If l e body other)) in
       let n = name_level (codes "if") l before in
-      (word_here (codes "if") l before ts calm_if, test_clear t (name (codes "if") l ∷ before) (λ a u. body_clear j p.0 a (level_inside (u ∙ n) i) (λ b v s. else_clear g p.1 b (level_inside (v ∙ u ∙ n) i) s (λ c w s. k c (w ∙ v ∙ u ∙ n) s))))
+      (word_here (codes "if") l before ts calm_if, test_clear t (name (codes "if") l ∷ before) (λ a u. body_clear j p.0 a (inside_at (u ∙ n) i) (λ b v s. else_clear g p.1 b (inside_at (v ∙ u ∙ n) i) s (λ c w s. k c (w ∙ v ∙ u ∙ n) s))))
   statement_clear (IsStatement.while_loop {l} {ts} {a = e} {all} t j) f before last i k =
       let p = sym (fits-While l e all) ∙ or_first (fits _) (is_return _) f (return-While l e all) in
       let n = name_level (codes "while") l before in
-      (word_here (codes "while") l before ts calm_while, test_clear t (name (codes "while") l ∷ before) (λ a u. body_clear j p a (level_inside (u ∙ n) i) (λ b v s. k b (v ∙ u ∙ n) s)))
+      (word_here (codes "while") l before ts calm_while, test_clear t (name (codes "while") l ∷ before) (λ a u. body_clear j p a (inside_at (u ∙ n) i) (λ b v s. k b (v ∙ u ∙ n) s)))
   statement_clear (IsStatement.do_loop {l} {m} {k = x} {ts} {mid} {a = e} {all} j t) f before last i k =
       let p = sym (fits-Do l e all) ∙ or_first (fits _) (is_return _) f (return-Do l e all) in
       let n = name_level (codes "do") l before in (
         word_here (codes "do") l before ts calm_do,
-        body_clear j p (name (codes "do") l ∷ before) (level_inside n i) (λ a u s.
+        body_clear j p (name (codes "do") l ∷ before) (inside_at n i) (λ a u s.
             (word_here (codes "while") m a mid calm_while, test_clear t (name (codes "while") m ∷ a) (λ b v. end_clear {l = x} before b (v ∙ name_level (codes "while") m a ∙ u ∙ n) k))),
       )
   statement_clear (IsStatement.for_loop {l} {m} {k = x} {ts} {first = first} {step} {a = e} {all} j t g b) f before last i k =
@@ -398,9 +387,9 @@ mutual
         word_here (codes "for") l before (mark (codes "(") m ∷ ts) calm_for,
         (
           mark_here (codes "(") m (name (codes "for") l ∷ before) ts refl,
-          init_clear j p.0 (mark (codes "(") m ∷ name (codes "for") l ∷ before) (level_inside n i) (λ a u.
+          init_clear j p.0 (mark (codes "(") m ∷ name (codes "for") l ∷ before) (inside_at n i) (λ a u.
               calm_clear (expr_calm t) a (λ c v. end_clear {l = x} before c (v ∙ u ∙ n) (λ d w s.
-              step_clear g q.0 d (level_inside w i) (λ y z. body_clear b q.1 y (level_inside (z ∙ w) i) (λ o r s. k o (r ∙ z ∙ w) s))))),
+              step_clear g q.0 d (inside_at w i) (λ y z. body_clear b q.1 y (inside_at (z ∙ w) i) (λ o r s. k o (r ∙ z ∙ w) s))))),
         ),
       )
   statement_clear (IsStatement.switch {l} {m} {ts} {mid} {a = e} {arms} t j) f before last i k =
@@ -413,13 +402,13 @@ mutual
 
   pub statements_clear : {ts rest : Tokens} {all : List RawStatement} → AreStatements ts all rest → list_fits all ≡ true → (before : Tokens) → Inside before → Behind before rest → AreUntold before ts
   statements_clear AreStatements.done f before i k = k before refl
-  statements_clear (AreStatements.empty {l} j) f before i k = end_clear {l = l} before before refl (λ a u s. statements_clear j f a (level_inside u i) (λ b v. k b (v ∙ u)))
+  statements_clear (AreStatements.empty {l} j) f before i k = end_clear {l = l} before before refl (λ a u s. statements_clear j f a (inside_at u i) (λ b v. k b (v ∙ u)))
   statements_clear (AreStatements.declared {some} {all} d j) f before i k =
       let p = list_parts some all f in
-      declaration_clear d p.0 before i (λ a u s. statements_clear j p.1 a (level_inside u i) (λ b v. k b (v ∙ u)))
+      declaration_clear d p.0 before i (λ a u s. statements_clear j p.1 a (inside_at u i) (λ b v. k b (v ∙ u)))
   statements_clear (AreStatements.more {first = x} {all} d j) f before i k =
       let p = and_parts (fits x) (list_fits all) f in
-      statement_clear d (or_left (fits x) (is_return x) p.0) before (λ no. absurd (true≢false (sym p.0 ∙ no))) i (λ a u s. statements_clear j p.1 a (level_inside u i) (λ b v. k b (v ∙ u)))
+      statement_clear d (or_left (fits x) (is_return x) p.0) before (λ no. absurd (true≢false (sym p.0 ∙ no))) i (λ a u s. statements_clear j p.1 a (inside_at u i) (λ b v. k b (v ∙ u)))
 
   pub body_clear : {ts rest : Tokens} {all : List RawStatement} → IsBody ts all rest → list_fits all ≡ true → (before : Tokens) → Inside before → Standing before rest → AreUntold before ts
   body_clear (IsBody.braces {l} {m} {ts} j) f before i k =
@@ -432,7 +421,7 @@ mutual
   pub else_clear : {ts rest : Tokens} {all : List RawStatement} → IsElse ts all rest → list_fits all ≡ true → (before : Tokens) → Inside before → stands_in_list before ≡ true → Standing before rest → AreUntold before ts
   else_clear (IsElse.otherwise {l} {ts} j) f before i s k =
       let n = name_level (codes "else") l before in
-      (word_here (codes "else") l before ts calm_else, body_clear j f (name (codes "else") l ∷ before) (level_inside n i) (λ a u s. k a (u ∙ n) s))
+      (word_here (codes "else") l before ts calm_else, body_clear j f (name (codes "else") l ∷ before) (inside_at n i) (λ a u s. k a (u ∙ n) s))
   else_clear (IsElse.without p) f before i s k = k before refl s
 
   pub arms_clear : {ts rest : Tokens} {arms : List RawArm} → AreArms ts arms rest → arms_fit arms ≡ true → (before : Tokens) → Inside before → begins_label before ≡ true
@@ -440,15 +429,15 @@ mutual
   arms_clear (AreArms.none {l} {rest}) f before i b k = (mark_here (codes "}") l before rest refl, k (mark (codes "}") l ∷ before) (closes_level l before) (stands_closed l before))
   arms_clear (AreArms.broken {l} {m} {after = after} {labels = labels} {body} {arms} h j g) f before i b k =
       let p = and_parts (arm_fits _) (arms_fit arms) f in
-      labels_clear h before b (λ a u. statements_clear j (sym (fits-arm labels body) ∙ p.0) a (level_inside u i) (λ c v. (
+      labels_clear h before b (λ a u. statements_clear j (sym (fits-arm labels body) ∙ p.0) a (inside_at u i) (λ c v. (
         word_here (codes "break") l c (mark (codes ";") m ∷ after) calm_break,
         (
           mark_here (codes ";") m (name (codes "break") l ∷ c) after refl,
           (let w = end_level m (name (codes "break") l ∷ c) ∙ name_level (codes "break") l c ∙ v ∙ u in
-              arms_clear g p.1 (mark (codes ";") m ∷ name (codes "break") l ∷ c) (level_inside w i) (break_label l m c) (λ d x s. k d (x ∙ ap (λ (n : ℕ). n - 1) w) s)),
+              arms_clear g p.1 (mark (codes ";") m ∷ name (codes "break") l ∷ c) (inside_at w i) (break_label l m c) (λ d x s. k d (x ∙ ap (λ (n : ℕ). n - 1) w) s)),
         ),
       )))
   arms_clear (AreArms.unbroken {l} {rest = rest} {labels = labels} {body} h q j) f before i b k =
       let p = and_parts (arm_fits _) true f in
-      labels_clear h before b (λ a u. statements_clear j (sym (fits-arm labels body) ∙ p.0) a (level_inside u i) (λ c v.
+      labels_clear h before b (λ a u. statements_clear j (sym (fits-arm labels body) ∙ p.0) a (inside_at u i) (λ c v.
       (mark_here (codes "}") l c rest refl, k (mark (codes "}") l ∷ c) (closes_level l c ∙ ap (λ (n : ℕ). n - 1) (v ∙ u)) (stands_closed l c))))

@@ -13,8 +13,8 @@ use Rattle.c_language.specs.Layout.{layout}
 use Rattle.c_language.specs.Limits.{array_length, object_cells}
 use Rattle.c_language.specs.Programs.{IsAccepted, IsWithinLimits, IsWellFormed}
 use Rattle.c_print.specs.Feedless.{feedless}
-use Rattle.c_print.specs.RawLayout.{raw_layout}
-use Rattle.c_print.specs.Settled.{SameInLayout}
+use Rattle.c_text_layout.specs.RawLayout.{raw_layout}
+use Rattle.c_text_layout.specs.Settled.{SameInLayout}
 
 -- the bytes are an accepted text that keeps the limits, and its program is this one but for lines
 pub record IsReadAgain (text : Bytes) (p : Program) : Type 0 where

@@ -1,7 +1,7 @@
 //! What is printed of a program is read again: laws over the layout of programs.
 //!
 //! Each function is a law, and holds no code: its contract is the law, over the definitions of
-//! `specs/ReadAgain`.
+//! `specs/ReadAgain` and `specs/Places`.
 #![tactic(auto)]
 
 ghost use Rattle.c_print_laws.specs.Places.{StatementsStart, TextsAreFeedless};
@@ -24,8 +24,8 @@ pub fn layout_is_read_again()
     ensures { LayoutIsReadAgain }
 {}
 
-/// A law: so is the layout behind a comment on a line of its own, in which no star and no line feed
-/// stands.
+/// A law: the layout of a well-formed program behind a comment on a line of its own, in which no star and
+/// no line feed stands, is an accepted text whose program is the same but for lines.
 pub fn commented_is_read_again()
     ensures { CommentedIsReadAgain }
 {}

@@ -1,5 +1,5 @@
 -- What the reading of a text answers, and when.
-use Rattle.std.proofs.Common.{◌≡◌, ℕ, ◌+◌, ◌<◌, ◌≤◌, [], ◌∷◌, ◌++◌, All, Result, Ok, Err, Option, Some, arith, refl, sym, ap, subst, ◌∙◌}
+use Rattle.std.proofs.Common.{◌≡◌, ℕ, ◌<◌, ◌≤◌, All, Result, Ok, Err, Option, Some, arith, sym, ap, subst, ◌∙◌}
 use Rattle.std.proofs.lemmas.List.Elements.{All-nil, All-cons}
 use Rattle.c_tree.specs.declared.program.Program.{Program}
 use Rattle.c_tree.specs.declared.raw.program.RawProgram.{RawProgram}
@@ -7,12 +7,8 @@ use Rattle.c_language.specs.Words.{Bytes}
 use Rattle.c_language.specs.TokenForms.{Tokens}
 use Rattle.c_language.specs.Tokens.{IsTokens, AreTokensOf}
 use Rattle.c_language.specs.ItemGrammar.{IsProgram}
-use Rattle.c_language.specs.LeftOut.{IsInGrammar}
 use Rattle.c_language.specs.StatementNesting.{program_nesting}
-use Rattle.c_language.specs.Limits.{array_length, object_cells}
-use Rattle.c_language.specs.ProgramOf.{program_of}
-use Rattle.c_language.specs.Programs as programs
-use Rattle.c_language.specs.Programs.{IsFormed, IsTreeOf, IsAccepted, IsWithinLimits}
+use Rattle.c_language.specs.Programs.{IsFormed, IsTreeOf}
 use Rattle.c_language.specs.declared.token.Before.{Before}
 use Rattle.c_lex.specs.declared.fault.LexFault.{LexFault}
 use Rattle.c_lex.specs.declared.fault.LexFault.TheVariants as lex
@@ -20,11 +16,11 @@ use Rattle.c_lex.proofs.TokenLaws.{tokens_unique}
 use Rattle.c_lex.proofs.FaultLaws.{fault_lacks}
 use Rattle.c_parse.specs.declared.parse_fault.ParseFault.{ParseFault}
 use Rattle.c_parse.specs.declared.parse_fault.ParseFault.TheVariants as parse
-use Rattle.c_types.specs.Outcome.{IsAbove, IsWithin}
+use Rattle.c_types.specs.Outcome.{IsWithin}
 use Rattle.c_types.specs.declared.rule_fault.RuleFault.{RuleFault}
 use Rattle.c_types.specs.declared.rule_fault.RuleFault.TheVariants as rule
-use Rattle.c_types.proofs.AnswerLaws.{not_within, rules_hold}
-use Rattle.c_reader.specs.Reading.{HasProgram, HasTree, IsLexFault, IsParseFault, IsRuleFault, HasParseFault, HasRuleFault, IsRight, Gives, IsNesting, IsTooDeep, IsChecked, IsReadTree, IsReadAs, IsJudgement}
+use Rattle.c_types.proofs.AnswerLaws.{not_within}
+use Rattle.c_reader.specs.Reading.{ReadsProgram, ReadsTree, IsLexFault, IsParseFault, IsRuleFault, IsRight, Gives, IsNesting, IsTooDeep, IsChecked, IsReadAs, IsJudgement}
 use Rattle.c_reader.specs.declared.refusal.ReadRefusal.{ReadRefusal}
 use Rattle.c_reader.specs.declared.refusal.ReadRefusal.TheVariants.{Lex, Parse, Check, NoMemory}
 
@@ -37,12 +33,8 @@ formed_from (IsTokens.token {before} {own} {rest} is later) = All-cons IsFormed 
 pub tokens_formed : (text : Bytes) (ts : Tokens) → AreTokensOf text ts → All IsFormed ts
 tokens_formed text ts are = formed_from are
 
--- tokens that are read and hold no left-out construct are in the grammar
-pub tree_of : (ts : Tokens) (raw : RawProgram) → All IsFormed ts → IsProgram ts raw → IsInGrammar ts → IsTreeOf ts raw
-tree_of ts raw formed is grammar = record { formed = formed; grammar = is; whole = grammar.whole }
-
 module _ (text : Bytes) where
-  has_tree : (ts : Tokens) (raw : RawProgram) → IsReadAs text ts raw → HasTree text raw
+  has_tree : (ts : Tokens) (raw : RawProgram) → IsReadAs text ts raw → ReadsTree text raw
   has_tree ts raw h = record { tokens = ts; are = h.are; tree = h.read.tree }
 
   pub right : (r : Result Program ReadRefusal) → IsJudgement text r → IsRight text r
@@ -71,10 +63,10 @@ module _ (text : Bytes) where
   no_tree ts parse.NoMemory is raw tree few = is
 
   -- a tree of the text is the one that is read
-  same_tree : (ts : Tokens) (raw other : RawProgram) → IsReadAs text ts raw → HasTree text other → raw ≡ other
+  same_tree : (ts : Tokens) (raw other : RawProgram) → IsReadAs text ts raw → ReadsTree text other → raw ≡ other
   same_tree ts raw other h also = h.read.only other (subst (λ us. IsProgram us other) (tokens_unique text also.tokens ts also.are h.are) also.tree.grammar)
 
-  tree_here : (ts : Tokens) (other : RawProgram) → AreTokensOf text ts → HasTree text other → IsTreeOf ts other
+  tree_here : (ts : Tokens) (other : RawProgram) → AreTokensOf text ts → ReadsTree text other → IsTreeOf ts other
   tree_here ts other are also = subst (λ us. IsTreeOf us other) (tokens_unique text also.tokens ts also.are are) also.tree
 
   no_fault : (raw : RawProgram) (fault : RuleFault) → IsRuleFault raw fault → (p : Program) → IsWithin raw p → ⊥
@@ -85,14 +77,14 @@ module _ (text : Bytes) where
   one_program : (raw : RawProgram) {p q : Program} → IsWithin raw p → IsWithin raw q → p ≡ q
   one_program raw {p} {q} w v = let e : ◌≡◌ {A = Option Program} (Some p) (Some q) = sym w.has.program ∙ v.has.program in cc
 
-  tree_of_program : {p : Program} → (h : HasProgram text p) → HasTree text h.raw
+  tree_of_program : {p : Program} → (h : ReadsProgram text p) → ReadsTree text h.raw
   tree_of_program h = record { tokens = h.accepted.tokens; are = h.accepted.are; tree = h.accepted.tree }
 
-  within_of : {p : Program} → (h : HasProgram text p) → IsWithin h.raw p
+  within_of : {p : Program} → (h : ReadsProgram text p) → IsWithin h.raw p
   within_of h = record { has = h.accepted.has; lengths = h.within.lengths; cells = h.within.cells }
 
   -- a program of the text is given
-  pub accepted : (r : Result Program ReadRefusal) → IsJudgement text r → (p : Program) → HasProgram text p → Gives p r
+  pub accepted : (r : Result Program ReadRefusal) → IsJudgement text r → (p : Program) → ReadsProgram text p → Gives p r
   accepted (Ok q) (ts, raw, h, w) p has = one_program raw w (subst (λ x. IsWithin x p) (sym (same_tree ts raw has.raw h (tree_of_program has))) (within_of has))
   accepted (Err (Lex fault)) is p has = no_tokens fault is has.accepted.tokens has.accepted.are
   accepted (Err (Parse fault)) is p has = no_tree is.tokens fault is.shows has.raw (tree_here is.tokens has.raw is.are (tree_of_program has)) has.within.nesting
@@ -107,10 +99,10 @@ module _ (text : Bytes) where
   deep_fault ts (parse.Nesting line) is raw tree = tt
   deep_fault ts parse.NoMemory is raw tree = is
 
-  too_deep : (ts : Tokens) (raw other : RawProgram) → IsReadAs text ts raw → HasTree text other → 100 < program_nesting other → ⊥
+  too_deep : (ts : Tokens) (raw other : RawProgram) → IsReadAs text ts raw → ReadsTree text other → 100 < program_nesting other → ⊥
   too_deep ts raw other h tree many = let e = ap program_nesting (same_tree ts raw other h tree) in let few = h.read.nesting in omega (arith, e, few, many)
 
-  pub deep : (r : Result Program ReadRefusal) → IsJudgement text r → (raw : RawProgram) → HasTree text raw → 100 < program_nesting raw → IsTooDeep r
+  pub deep : (r : Result Program ReadRefusal) → IsJudgement text r → (raw : RawProgram) → ReadsTree text raw → 100 < program_nesting raw → IsTooDeep r
   deep (Ok q) (ts, found, h, w) raw tree many = too_deep ts found raw h tree many
   deep (Err (Lex fault)) is raw tree many = no_tokens fault is tree.tokens tree.are
   deep (Err (Parse fault)) is raw tree many = deep_fault is.tokens fault is.shows raw (tree_here is.tokens raw is.are tree)
@@ -118,7 +110,7 @@ module _ (text : Bytes) where
   deep (Err NoMemory) is raw tree many = tt
 
   -- a text whose tree breaks a rule, or is above a limit, is told so
-  pub refused : (r : Result Program ReadRefusal) → IsJudgement text r → (raw : RawProgram) (fault : RuleFault) → HasTree text raw → program_nesting raw ≤ 100 → IsRuleFault raw fault → IsChecked r
+  pub refused : (r : Result Program ReadRefusal) → IsJudgement text r → (raw : RawProgram) (fault : RuleFault) → ReadsTree text raw → program_nesting raw ≤ 100 → IsRuleFault raw fault → IsChecked r
   refused (Ok q) (ts, found, h, w) raw fault tree few shows = no_fault raw fault shows q (subst (λ x. IsWithin x q) (same_tree ts found raw h tree) w)
   refused (Err (Lex told)) is raw fault tree few shows = no_tokens told is tree.tokens tree.are
   refused (Err (Parse told)) is raw fault tree few shows = no_tree is.tokens told is.shows raw (tree_here is.tokens raw is.are tree) few

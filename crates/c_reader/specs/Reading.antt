@@ -1,5 +1,5 @@
 -- What the reading of a text answers.
-use Rattle.std.specs.Prelude.{◌≡◌, ℕ, ◌<◌, ◌≤◌, Result, Ok, Err}
+use Rattle.std.specs.Prelude.{◌≡◌, ◌<◌, ◌≤◌, Result, Ok, Err}
 use Rattle.std.specs.declared.vec.Vec.{Vec}
 use Rattle.std.specs.declared.alloc.Global.{Global}
 use Rattle.c_tree.specs.declared.program.Program.{Program}
@@ -28,13 +28,13 @@ use Rattle.c_reader.specs.declared.refusal.ReadRefusal.{ReadRefusal}
 use Rattle.c_reader.specs.declared.refusal.ReadRefusal.TheVariants.{Lex, Parse, Check, NoMemory}
 
 -- the text is accepted, nesting, array lengths and object cells are within their numbers, and this is its program
-pub record HasProgram (text : Bytes) (p : Program) : Type 0 where
+pub record ReadsProgram (text : Bytes) (p : Program) : Type 0 where
   pub raw : RawProgram
   pub accepted : IsAccepted text raw p
   pub within : IsWithinLimits raw p
 
 -- the tokens of the text are in the grammar, and this is their tree
-pub record HasTree (text : Bytes) (raw : RawProgram) : Type 0 where
+pub record ReadsTree (text : Bytes) (raw : RawProgram) : Type 0 where
   pub tokens : Tokens
   pub are : AreTokensOf text tokens
   pub tree : IsTreeOf tokens raw
@@ -68,13 +68,13 @@ pub record HasParseFault (text : Bytes) (fault : ParseFault) : Type 0 where
 -- the tree of the text, which nests no deeper than 100, shows the fault
 pub record HasRuleFault (text : Bytes) (fault : RuleFault) : Type 0 where
   pub raw : RawProgram
-  pub tree : HasTree text raw
+  pub tree : ReadsTree text raw
   pub nesting : program_nesting raw ≤ 100
   pub shows : IsRuleFault raw fault
 
 -- the program of the text, or a refusal that the text shows
 abbrev pub IsRight : Bytes → Result Program ReadRefusal → Type 0
-IsRight text (Ok p) = HasProgram text p
+IsRight text (Ok p) = ReadsProgram text p
 IsRight text (Err (Lex fault)) = IsLexFault text fault
 IsRight text (Err (Parse fault)) = HasParseFault text fault
 IsRight text (Err (Check fault)) = HasRuleFault text fault

@@ -3,8 +3,6 @@
 
 #[cfg(test)]
 mod answer_tests;
-#[cfg(test)]
-mod layout_tests;
 mod reader;
 mod refusal;
 #[cfg(test)]

@@ -1,11 +1,11 @@
 //! A text is read in three steps: its tokens, their tree, and the program of the tree.
-ghost use Rattle.std.specs.Prelude.{◌≡◌, ℕ, ◌<◌, ◌≤◌, ◌^◌, All, length};
+ghost use Rattle.std.specs.Prelude.{◌<◌, ◌≤◌, ◌^◌, All, length};
 ghost use Rattle.c_tree.specs.declared.program.Program.{Program};
 ghost use Rattle.c_tree.specs.declared.raw.program.RawProgram.{RawProgram};
 ghost use Rattle.c_language.specs.Programs.{IsFormed, IsTree};
 ghost use Rattle.c_language.specs.StatementNesting.{program_nesting};
 ghost use Rattle.c_types.specs.declared.rule_fault.RuleFault.{RuleFault};
-ghost use Rattle.c_reader.specs.Reading.{HasProgram, HasTree, IsRuleFault, IsRight, Gives, IsTooDeep, IsChecked, Lexes, Parses, Checks, IsJudgement};
+ghost use Rattle.c_reader.specs.Reading.{ReadsProgram, ReadsTree, IsRuleFault, IsRight, Gives, IsTooDeep, IsChecked, Lexes, Parses, Checks, IsJudgement};
 
 use crate::refusal::ReadRefusal;
 use c_language::Token;
@@ -72,9 +72,9 @@ fn judged(alloc: Global, text: &[u8]) -> Result<Program, ReadRefusal>
 pub fn read_program(alloc: Global, text: &[u8]) -> Result<Program, ReadRefusal>
     requires { length text.now < 2 ^ 32 }
     ensures right { IsRight text.now result }
-    ensures accepted { (p : Program) → HasProgram text.now p → Gives p result }
-    ensures deep { (raw : RawProgram) → HasTree text.now raw → 100 < program_nesting raw → IsTooDeep result }
-    ensures refused { (raw : RawProgram) (fault : RuleFault) → HasTree text.now raw → program_nesting raw ≤ 100 → IsRuleFault raw fault → IsChecked result }
+    ensures accepted { (p : Program) → ReadsProgram text.now p → Gives p result }
+    ensures deep { (raw : RawProgram) → ReadsTree text.now raw → 100 < program_nesting raw → IsTooDeep result }
+    ensures refused { (raw : RawProgram) (fault : RuleFault) → ReadsTree text.now raw → program_nesting raw ≤ 100 → IsRuleFault raw fault → IsChecked result }
 {
     judged(alloc, text)
 }

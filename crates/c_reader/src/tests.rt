@@ -452,6 +452,27 @@ fn the_line_is_that_of_the_phrase(rt: HostRuntime) {
 }
 
 #[test]
+fn of_several_broken_rules_the_first_is_told(rt: HostRuntime) {
+    let broken: [Broken<'_>; 5] = [
+        // In the order of the text, and what is said of the text as a whole comes last.
+        (
+            b"int main(void) {\n    x = 1;\n    int a;\n    int a;\n}\n",
+            1,
+            2,
+        ),
+        (b"int a;\nint a;\nint main(void) {\n    x = 1;\n}\n", 2, 2),
+        (b"int f(void) {\n    x = 1;\n    return 0;\n}\n", 1, 2),
+        (b"int f(void) {\n    x = 1;\n}\nint main(void) {\n}\n", 1, 2),
+        (
+            b"int f(void) {\n}\nint main(void) {\n    x = 1;\n}\n",
+            18,
+            1,
+        ),
+    ];
+    all_break(&rt, &broken);
+}
+
+#[test]
 fn types_of_operands_targets_and_results(rt: HostRuntime) {
     let broken: [Broken<'_>; 14] = [
         (

@@ -4,9 +4,7 @@ use Rattle.std.specs.Prelude.{Contains, option_map, option_and_then}
 use Rattle.c_arith.specs.declared.int_type.IntType.{IntType}
 use Rattle.c_tree.specs.declared.types.CType.{CType}
 use Rattle.c_tree.specs.declared.types.CType.TheVariants as t
-use Rattle.c_tree.specs.declared.raw.expr.RawExpr.{RawExpr, fold-roll-RawExpr}
-use Rattle.c_tree.specs.declared.raw.expr.RawExpr.TheOpen.{RawExpr-F}
-use Rattle.c_tree.specs.declared.raw.expr.RawExpr.TheVariants as e
+use Rattle.c_tree.specs.declared.raw.expr.RawExpr.{RawExpr}
 use Rattle.c_tree.specs.declared.raw.expr.RawLength.{RawLength}
 use Rattle.c_tree.specs.declared.raw.expr.RawLength.TheVariants.{Written, Listed}
 use Rattle.c_tree.specs.declared.raw.expr.RawType.{RawType, roll-RawType, map-RawType, ind-RawType, fold-RawType, fold-roll-RawType}
@@ -20,13 +18,15 @@ use Rattle.c_language.specs.Words.{Bytes}
 use Rattle.c_language.specs.ConstantEvaluation.{both}
 use Rattle.c_language.specs.DeclaredTypes.{positive, length_in, of_base, pointer_to, with_layer, type_step, type_with, item_count}
 use Rattle.c_language.specs.Uses.{lengths_step, lengths_in, tags_step, tags_in}
-use Rattle.c_language.specs.ProgramOf.{raw_words_step, raw_words, length_words, ctype_step, ctype_with}
+use Rattle.c_language.specs.ProgramOf.{raw_words, length_words, ctype_step, ctype_with}
 use Rattle.c_language.specs.declared.expr_type.Layer.TheVariants.{Array}
 use Rattle.c_language.specs.declared.expr_type.Base.TheVariants as base
 use Rattle.c_language.specs.declared.expr_type.ExprType.{ExprType}
+use Rattle.c_language.proofs.Tests.{false_true}
+use Rattle.c_language.proofs.Lists.{contains_later}
+use Rattle.c_language.proofs.RawWordLemmas.{raw_words-Constant}
+use Rattle.c_language.proofs.ConstantLemmas.{counted_positive}
 use Rattle.c_scope_laws.specs.Agreement.{SameOutside, IsCountConstant, SameVariable, written_step, is_written, IsCount, CountWritten, integer, pointer, written, counted, structure}
-use Rattle.c_scope_laws.proofs.Options.{false_true}
-use Rattle.c_scope_laws.proofs.Trees.{later_in}
 use Rattle.c_scope_laws.proofs.Outside.{struct_ids}
 
 -- ---- what folds make of each form
@@ -44,20 +44,13 @@ module _ {A : Type 0} (step : RawType-F A → A) where
   pub of_struct : (tag : Bytes) → fold-RawType A step (type.Struct tag) ≡ step (RawType-F.Struct tag)
   of_struct tag = ap (fold-RawType A step) (sym (type.rolls-Struct tag)) ∙ fold-roll-RawType A step (RawType-F.Struct tag)
 
-words_of_constant : (text : Bytes) → raw_words (e.Constant text) ≡ text
-words_of_constant text = ap raw_words (sym (e.rolls-Constant text)) ∙ fold-roll-RawExpr Bytes raw_words_step (RawExpr-F.Constant text)
-
 -- ---- lengths
 
-positive_count : (items : ℕ) → 0 < items → positive (pos items) ≡ Some items
-positive_count zero h = absurd (omega (arith, h))
-positive_count (suc n) h = refl
-
 count_length : (items : ℕ) (n : RawExpr) → IsCount items n → length_in 0 (Written n) ≡ length_in items Listed
-count_length items n h = ap (option_and_then positive) h.value ∙ positive_count items h.some
+count_length items n h = ap (option_and_then positive) h.value ∙ counted_positive items h.some
 
 count_words : (items : ℕ) (n : RawExpr) → IsCount items n → length_words 0 (Written n) ≡ length_words items Listed
-count_words items n h = ap raw_words h.is ∙ words_of_constant (decimal items)
+count_words items n h = ap raw_words h.is ∙ raw_words-Constant (decimal items)
 
 count_constant : (items : ℕ) (n : RawExpr) → IsCount items n → IsCountConstant n
 count_constant items n h = record { text = decimal items; is = h.is; less = pred items; value = h.value ∙ ap (λ (k : ℕ). Some (pos k)) (positive_suc items h.some) }
@@ -73,7 +66,7 @@ LengthsAmong some all = (n : RawExpr) → Contains some n → Contains all n ⊎
 among_same : (some all : List RawExpr) (x : RawExpr) → LengthsAmong some all → LengthsAmong (x ∷ some) (x ∷ all)
 among_same some all x h n (zero, within, is) = inl (0, omega arith, is)
 among_same some all x h n (suc k, within, is) = elim (h n (k, omega (arith, within), is)) [
-  | inl j ↦ inl (later_in x n all j)
+  | inl j ↦ inl (contains_later x n all j)
   | inr j ↦ inr j
 ]
 

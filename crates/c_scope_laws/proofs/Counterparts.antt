@@ -1,22 +1,15 @@
 -- The phrases of a thinner text, and what each stands for in the text.
-use Rattle.std.proofs.Common.{ℕ, zero, suc, List, [], ◌∷◌, ◌++◌, subst, arith, ◌⊎◌, inl, inr}
+use Rattle.std.proofs.Common.{ℕ, zero, suc, [], ◌∷◌, ◌++◌, subst, arith, inl, inr}
 use Rattle.std.specs.Prelude.{Contains}
+use Rattle.std.proofs.lemmas.List.Elements.{Contains-append_cases, Contains-append_left, Contains-append_right}
 use Rattle.c_tree.specs.declared.raw.program.RawProgram.{RawProgram}
 use Rattle.c_language.specs.Scopes.{Scope}
 use Rattle.c_language.specs.Phrases.{Part, Phrase, Phrases, phrase}
 use Rattle.c_language.specs.Rules.{Breaks}
+use Rattle.c_language.proofs.Lists.{contains_first}
 use Rattle.c_scope_laws.specs.Agreement.{Names, NamesFunction, DeclaresName, DeclaresHead, PlacesAgree, PartsAgree}
 use Rattle.projection.specs.Kept.{Kept, rank}
-use Rattle.c_scope_laws.proofs.Trees.{first_in, later_in, in_left, in_right}
 use Rattle.c_scope_laws.proofs.RulesAgreement.{breaks_moves}
-
-pub in_either : {A : Type 0} (xs ys : List A) (m : A) → Contains (xs ++ ys) m → Contains xs m ⊎ Contains ys m
-in_either [] ys m c = inr c
-in_either (x ∷ xs) ys m (zero, within, is) = inl (0, omega arith, is)
-in_either (x ∷ xs) ys m (suc k, within, is) = elim (in_either xs ys m (k, omega (arith, within), is)) [
-  | inl c ↦ inl (later_in x m xs c)
-  | inr c ↦ inr c
-]
 
 module _ (k : Kept) (raw other : RawProgram) where
   -- the phrase of the text for which one of the thinner text stands, among these
@@ -40,24 +33,24 @@ module _ (k : Kept) (raw other : RawProgram) where
       → PlacesAgree (rank k.variable) (Names changed) (NamesFunction changed) (DeclaresName changed) (DeclaresHead changed) raw other scope next
       → AreCounterparts (phrase m next changed ∷ []) (phrase l scope part ∷ [])
   one_stands l m scope next part changed a fit q (zero, within, is) =
-      subst (λ (q : Phrase). Counterpart q (phrase l scope part ∷ [])) is (record { phrase = phrase l scope part; stands = first_in (phrase l scope part) []; parts = a; places = fit })
+      subst (λ (q : Phrase). Counterpart q (phrase l scope part ∷ [])) is (record { phrase = phrase l scope part; stands = contains_first (phrase l scope part) []; parts = a; places = fit })
   one_stands l m scope next part changed a fit q (suc i, within, is) = absurd (omega (arith, within))
 
   pub both_stand : (qs rs ps ts : Phrases) → AreCounterparts qs ps → AreCounterparts rs ts → AreCounterparts (qs ++ rs) (ps ++ ts)
-  both_stand qs rs ps ts h j q c = elim (in_either qs rs q c) [
-    | inl c ↦ move (in_left ps ts) (h q c)
-    | inr c ↦ move (in_right ps ts) (j q c)
+  both_stand qs rs ps ts h j q c = elim (Contains-append_cases qs rs q c) [
+    | inl c ↦ move (Contains-append_left ps ts) (h q c)
+    | inr c ↦ move (Contains-append_right ps ts) (j q c)
   ]
 
   -- nothing stays of the front, or of the rest
   pub front_gone : (rs ps ts : Phrases) → AreCounterparts rs ts → AreCounterparts rs (ps ++ ts)
-  front_gone rs ps ts h q c = move (in_right ps ts) (h q c)
+  front_gone rs ps ts h q c = move (Contains-append_right ps ts) (h q c)
 
   pub rest_gone : (qs ps ts : Phrases) → AreCounterparts qs ps → AreCounterparts qs (ps ++ ts)
-  rest_gone qs ps ts h q c = move (in_left ps ts) (h q c)
+  rest_gone qs ps ts h q c = move (Contains-append_left ps ts) (h q c)
 
   pub no_more : (qs ps : Phrases) → AreCounterparts qs ps → AreCounterparts (qs ++ []) ps
-  no_more qs ps h q c = elim (in_either qs [] q c) [
+  no_more qs ps h q c = elim (Contains-append_cases qs [] q c) [
     | inl c ↦ h q c
     | inr c ↦ none_stand ps q c
   ]

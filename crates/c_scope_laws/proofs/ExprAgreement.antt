@@ -24,10 +24,6 @@ use Rattle.c_scope_laws.proofs.Within.{below, itself}
 use Rattle.c_scope_laws.proofs.Outside.{member_types_same, member_ids_same}
 use Rattle.c_scope_laws.proofs.RenumberingLemmas.{renamed-Constant, renamed-Null, renamed-Eof, renamed-Variable, renamed-Unary, renamed-Deref, renamed-AddressOf, renamed-Binary, renamed-AndAlso, renamed-OrElse, renamed-Choose, renamed-Cast, renamed-Index, renamed-Member, renamed-Arrow, renamed-Paren}
 
--- fewer names are agreed on, too
-pub agree_less : {f : ℕ → ℕ} {named some : Bytes → Type 0} {scope next : Scope} → ((x : Bytes) → some x → named x) → Agree f named scope next → Agree f some scope next
-agree_less h k = record { names = λ x s. k.names x (h x s); structs = k.structs }
-
 -- these are all names of an expression
 abbrev pub Covers : (Bytes → Type 0) → RawExpr → Type 0
 Covers named a = (x : Bytes) → NamedIn a x → named x

@@ -1,21 +1,24 @@
 -- The numbers of the functions that are kept.
-use Rattle.std.proofs.Common.{◌≡◌, ℕ, zero, suc, List, [], ◌∷◌, Bool, true, false, cond, Option, Some, None, option_map, position, slice_get, refl, sym, ap, ap₂, ◌∙◌, arith}
+use Rattle.std.proofs.Common.{◌≡◌, ℕ, zero, suc, List, [], ◌∷◌, Bool, true, false, cond, Option, Some, None, option_map, position, slice_get, refl, sym, ap, ap₂, ◌∙◌}
 use Rattle.std.specs.Prelude.{bytes_eq, if◌then◌else◌}
-use Rattle.std.proofs.lemmas.Grind.{common_steps}
 use Rattle.c_tree.specs.declared.raw.program.RawHead.{RawHead}
 use Rattle.c_tree.specs.declared.raw.program.RawItem.{RawItem}
 use Rattle.c_tree.specs.declared.raw.program.RawProgram.{RawProgram}
 use Rattle.c_language.specs.Words.{Bytes}
-use Rattle.c_language.specs.DeclaredTypes.{functions_of, defined_functions}
+use Rattle.c_language.specs.DeclaredTypes.{functions_of, defined_functions, function_id}
 use Rattle.c_language.specs.Scopes.{Scope, outset}
+use Rattle.c_language.proofs.Options.{none_there, some_same}
+use Rattle.c_language.proofs.Tests.{false_true}
+use Rattle.c_language.proofs.Lists.{position-cons, same_names}
 use Rattle.projection.specs.Kept.{Kept, rank}
-use Rattle.c_scope_laws.specs.Following.{kept_head, kept_functions, FunctionNumbers}
+use Rattle.c_scope_laws.specs.Following.{kept_head, kept_functions}
 use Rattle.c_scope_laws.specs.ThinTexts.{ItemsThin}
-use Rattle.c_scope_laws.proofs.Options.{none_there, some_same, false_true}
-use Rattle.c_scope_laws.proofs.Scopes.{text_is}
 
-position-cons : {X : Type 0} (p : X → Bool) (x : X) (xs : List X) → position p (x ∷ xs) ≡ cond (p x) (Some 0) (option_map suc (position p xs))
-position-cons p x xs = grind (arith, common_steps)
+-- these are the numbers of the functions that are kept
+pub record FunctionNumbers (k : Kept) (raw other : RawProgram) (test : ℕ → Bool) : Type 0 where
+  pub ids : (x : Bytes) → k.function x ≡ true → function_id other x ≡ option_map (rank test) (function_id raw x)
+  pub tests : (x : Bytes) (i : ℕ) → function_id raw x ≡ Some i → test i ≡ k.function x
+  pub places : (i : ℕ) (h : RawHead) → slice_get (defined_functions raw) i ≡ Some h → test i ≡ k.function h.name
 
 -- a rank, from the number behind the first
 rank-behind : (test : ℕ → Bool) (n : ℕ) → rank test (suc n) ≡ (if test 0 then suc (rank (λ m. test (suc m)) n) else rank (λ m. test (suc m)) n)
@@ -78,7 +81,7 @@ module _ (k : Kept) where
       by_name true same true kept later =
           ap (λ (c : Bool). position (named x) (if c then h ∷ kept_heads hs else kept_heads hs)) kept ∙ position-cons (named x) h (kept_heads hs) ∙ ap (λ (c : Bool). cond c (Some 0) (option_map suc (position (named x) (kept_heads hs)))) same
           ∙ sym (right true same)
-      by_name true same false gone later = false_true (sym gone ∙ ap k.function (text_is h.name x same) ∙ is)
+      by_name true same false gone later = false_true (sym gone ∙ ap k.function (same_names h.name x same) ∙ is)
       by_name false differs true kept later =
           ap (λ (c : Bool). position (named x) (if c then h ∷ kept_heads hs else kept_heads hs)) kept ∙ position-cons (named x) h (kept_heads hs) ∙ ap (λ (c : Bool). cond c (Some 0) (option_map suc (position (named x) (kept_heads hs)))) differs
           ∙ ap (option_map suc) later ∙ sucs (position (named x) hs)
@@ -99,7 +102,7 @@ module _ (k : Kept) where
       by_name : (b : Bool) → bytes_eq h.name x ≡ b → (o : Option ℕ) → position (named x) hs ≡ o → ((j : ℕ) → position (named x) hs ≡ Some j → tests_of hs j ≡ k.function x)
           → cond (bytes_eq h.name x) (Some 0) (option_map suc (position (named x) hs)) ≡ Some i → tests_of (h ∷ hs) i ≡ k.function x
       by_name true same o p later at =
-          ap (tests_of (h ∷ hs)) (sym (some_same (sym (ap (λ (c : Bool). cond c (Some 0) (option_map suc (position (named x) hs))) same) ∙ at))) ∙ ap k.function (text_is h.name x same)
+          ap (tests_of (h ∷ hs)) (sym (some_same (sym (ap (λ (c : Bool). cond c (Some 0) (option_map suc (position (named x) hs))) same) ∙ at))) ∙ ap k.function (same_names h.name x same)
       by_name false differs None p later at =
           none_there (sym (ap₂ (λ (c : Bool) (o : Option ℕ). cond c (Some 0) (option_map suc o)) differs p) ∙ at)
       by_name false differs (Some j) p later at =

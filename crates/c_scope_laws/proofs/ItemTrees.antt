@@ -25,14 +25,14 @@ use Rattle.c_language.specs.DeclaredTypes.{functions_of, defined_functions, func
 use Rattle.c_language.specs.Scopes.{Scope, with_variable, with_function, with_entry, with_parameter, with_parameters, with_named, parameter_of, scope_of_parameters, entered, in_order, Meaning, meaning_here}
 use Rattle.c_language.specs.Phrases.{Stand, InFile, InHead, InBlock, Part, NamesStruct, DefinesStruct, HasMember, Takes, DeclaresFunction, EndsFunction, Declares, Begins, Phrases, phrase, begun_phrases, joined_at, scoped, body_phrases, after_body, member_phrases, taken_phrases, parameter_phrases, head_phrases, after_item, after_items, items_phrases, item_phrases}
 use Rattle.c_language.specs.ProgramOf.{declared_by, collected, optional, ctype_if, init_of, body_of, parameter_ids, function_tree, functions_from, items_from}
+use Rattle.c_language.proofs.Options.{none_there, some_same}
 use Rattle.c_scope_laws.specs.Agreement.{Names, IsVariable}
 use Rattle.c_scope_laws.specs.Agreement.StandsFor.{there as as_it_is}
 use Rattle.projection.specs.Kept.{Kept, rank}
 use Rattle.c_scope_laws.specs.Thinning.{NamesStay, ThinAll}
-use Rattle.c_scope_laws.specs.Following.{TextsAgree, Follows, FunctionNumbers}
+use Rattle.c_scope_laws.specs.Following.{TextsAgree, Follows}
 use Rattle.c_scope_laws.specs.ThinTexts.{ParamStays, ParamsStay, ParamGoes, ParamsGo, ItemsThin}
 use Rattle.projection.specs.Projection.{if_so, projected_var, projected_vars, projected_all, projected_item, projected_items, projected_function, projected_functions}
-use Rattle.c_scope_laws.proofs.Options.{none_there, some_same}
 use Rattle.c_scope_laws.proofs.Outside.{struct_ids, ctypes_same, variable_same}
 use Rattle.c_scope_laws.proofs.StatementAgreement.{part_covers, inits_same}
 use Rattle.c_scope_laws.proofs.Following.{rank_kept, variable_kept, variable_gone, function_kept, function_gone, places_agree}
@@ -41,6 +41,7 @@ use Rattle.c_scope_laws.proofs.TreeWalking.{all_stay}
 use Rattle.c_scope_laws.proofs.VariableLists.{VarsStay, no_vars, both_vars, no_variable, phrase_gone, variable_stays, variable_goes}
 use Rattle.c_scope_laws.proofs.VariableWalking.{vars_all}
 use Rattle.c_scope_laws.proofs.ItemWalking.{body_joined, body_after, same_texts, param_walks, left_base, entered_alone, drop_next, get_next, enters, params_walk, leaves, define_stands, structs_follow, no_variable_there, rest_right, AreRight}
+use Rattle.c_scope_laws.proofs.FunctionNumbers.{FunctionNumbers}
 
 -- ---- lists of options
 

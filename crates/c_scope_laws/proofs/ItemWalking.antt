@@ -2,6 +2,7 @@
 use Rattle.std.proofs.Common.{◌≡◌, ◌<◌, ℕ, zero, suc, ◌+◌, List, [], ◌∷◌, ◌++◌, length, take, drop, map, Bool, true, false, ◌||◌, Option, Some, None, refl, sym, ap, subst, ◌∙◌, arith, inl, inr, slice_get}
 use Rattle.std.specs.Prelude.{Contains, option_and_then, if◌then◌else◌, bytes_eq}
 use Rattle.std.specs.List.{find, list_any}
+use Rattle.std.proofs.lemmas.List.Elements.{Contains-append_cases, Contains-append_left, Contains-append_right}
 use Rattle.c_tree.specs.declared.raw.program.RawInit.TheVariants as init
 use Rattle.c_tree.specs.declared.raw.program.RawMember.{RawMember}
 use Rattle.c_tree.specs.declared.raw.program.RawParam.{RawParam}
@@ -17,18 +18,17 @@ use Rattle.c_language.specs.Phrases.{InFile, InHead, InBlock, Part, NamesStruct,
 use Rattle.c_language.specs.Uses.{holds}
 use Rattle.c_language.specs.Rules.{Breaks, IsBroken, KeepsRules}
 use Rattle.c_language.specs.NameRules.{main_name, IsDefinedBefore, DeclaresAgain}
+use Rattle.c_language.proofs.Tests.{false_true}
+use Rattle.c_language.proofs.Lists.{contains_first, contains_later, same_names}
 use Rattle.c_scope_laws.specs.Agreement.{Names, NamesFunction, IsVariable, EndsToo, PartsAgree}
 use Rattle.c_scope_laws.specs.Agreement.StandsFor.{there as as_it_is}
 use Rattle.projection.specs.Kept.{Kept}
 use Rattle.c_scope_laws.specs.Thinning.{NamesStay, ThinAll}
 use Rattle.c_scope_laws.specs.ThinTexts.{ParamStays, ParamsStay, ParamGoes, ParamsGo, MembersStay, ItemsThin, IsThinner}
-use Rattle.c_scope_laws.proofs.Options.{false_true}
-use Rattle.c_scope_laws.proofs.Trees.{first_in, later_in, in_left, in_right}
 use Rattle.c_scope_laws.proofs.Outside.{variable_same}
-use Rattle.c_scope_laws.proofs.Scopes.{text_is}
 use Rattle.c_scope_laws.specs.Following.{TextsAgree, Follows}
 use Rattle.c_scope_laws.proofs.Following.{follows_opened, follows_closed, variable_kept, variable_gone, function_kept, function_gone, places_agree}
-use Rattle.c_scope_laws.proofs.Counterparts.{AreCounterparts, in_either, none_stand, one_stands, both_stand, front_gone, counterpart_breaks}
+use Rattle.c_scope_laws.proofs.Counterparts.{AreCounterparts, none_stand, one_stands, both_stand, front_gone, counterpart_breaks}
 use Rattle.c_scope_laws.proofs.Walking.{all_walk, same_stands, begun_stand_as_it_is}
 
 -- ---- lists of definitions
@@ -48,7 +48,7 @@ abbrev IsCons : {A : Type 0} → List A → Type 0
 IsCons [] = ⊥
 IsCons (x ∷ xs) = Unit {0}
 
-nil_cons : {A B : Type 0} {x : A} {xs : List A} → ◌≡◌ {A = List A} [] (x ∷ xs) → B
+pub nil_cons : {A B : Type 0} {x : A} {xs : List A} → ◌≡◌ {A = List A} [] (x ∷ xs) → B
 nil_cons h = absurd (subst IsCons (sym h) tt)
 
 module _ {A : Type 0} where
@@ -75,7 +75,7 @@ module _ {A : Type 0} where
   in_next zero (y ∷ ys) x (i, within, is) = absurd (omega (arith, within))
   in_next (suc n) [] x c = c
   in_next (suc n) (y ∷ ys) x (zero, within, is) = (0, omega arith, is)
-  in_next (suc n) (y ∷ ys) x (suc i, within, is) = later_in y x (take (suc n) ys) (in_next n ys x (i, omega (arith, within), is))
+  in_next (suc n) (y ∷ ys) x (suc i, within, is) = contains_later y x (take (suc n) ys) (in_next n ys x (i, omega (arith, within), is))
 
 -- ---- lists of statements
 
@@ -142,7 +142,7 @@ module _ (k : Kept) (raw other : RawProgram) where
   definitions_same x stays (ItemsThin.define_goes {head} {rest} is ps body d) = definitions_same x stays d ∙ by_name (bytes_eq head.name x) refl
     where
       by_name : (b : Bool) → bytes_eq head.name x ≡ b → head_of x (functions_of rest) ≡ (if b then Some head else head_of x (functions_of rest))
-      by_name true same = false_true (sym is ∙ ap k.function (text_is head.name x same) ∙ stays)
+      by_name true same = false_true (sym is ∙ ap k.function (same_names head.name x same) ∙ stays)
       by_name false differs = refl
 
   pub texts_agree : ItemsThin k raw other outset raw.items other.items → TextsAgree k raw other
@@ -202,7 +202,7 @@ module _ (k : Kept) (raw other : RawProgram) (texts : TextsAgree k raw other) wh
     members_stand before [] stay = none_stand k raw other []
     members_stand before (m ∷ ms) stay =
         both_stand k raw other (phrase m.line next (HasMember before m) ∷ []) (member_phrases next (before ++ m ∷ []) ms) (phrase m.line scope (HasMember before m) ∷ []) (member_phrases scope (before ++ m ∷ []) ms)
-        (stands m.line (HasMember before m) (stay before m (first_in m ms))) (members_stand (before ++ m ∷ []) ms (λ b x c. stay b x (later_in m x ms c)))
+        (stands m.line (HasMember before m) (stay before m (contains_first m ms))) (members_stand (before ++ m ∷ []) ms (λ b x c. stay b x (contains_later m x ms c)))
 
     taken_stand : (before ps : List RawParam) → AreCounterparts k raw other (taken_phrases next before ps) (taken_phrases scope before ps)
     taken_stand before [] = none_stand k raw other []
@@ -305,16 +305,16 @@ module _ (k : Kept) (raw other : RawProgram) (texts : TextsAgree k raw other) wh
         from_before x h name c =
             let earlier = f.before x (h, subst (λ (n : ℕ). Contains (take n (defined_functions other)) h) (sym f.others) c, name) in (
               earlier.0,
-              subst (λ (all : List RawHead). Contains all earlier.0) (sym all_raw) (in_left (take here (defined_functions raw)) (head ∷ []) earlier.0
+              subst (λ (all : List RawHead). Contains all earlier.0) (sym all_raw) (Contains-append_left (take here (defined_functions raw)) (head ∷ []) earlier.0
                   (subst (λ (n : ℕ). Contains (take n (defined_functions raw)) earlier.0) f.functions earlier.1)),
               earlier.2,
             )
 
         before : (x : Bytes) → (h : RawHead) × Contains (take (next.functions + 1) (defined_functions other)) h × (h.name ≡ x)
             → (h : RawHead) × Contains (take (scope.functions + 1) (defined_functions raw)) h × (h.name ≡ x)
-        before x h = elim (in_either (take there (defined_functions other)) (head ∷ []) h.0 (subst (λ (all : List RawHead). Contains all h.0) all_other h.1)) [
+        before x h = elim (Contains-append_cases (take there (defined_functions other)) (head ∷ []) h.0 (subst (λ (all : List RawHead). Contains all h.0) all_other h.1)) [
           | inl c ↦ from_before x h.0 h.2 c
-          | inr c ↦ (h.0, subst (λ (all : List RawHead). Contains all h.0) (sym all_raw) (in_right (take here (defined_functions raw)) (head ∷ []) h.0 c), h.2)
+          | inr c ↦ (h.0, subst (λ (all : List RawHead). Contains all h.0) (sym all_raw) (Contains-append_right (take here (defined_functions raw)) (head ∷ []) h.0 c), h.2)
         ]
 
 -- the same place of the text itself, inside a function of which nothing stays, with the names and numbers that stay
@@ -387,10 +387,10 @@ AreRight raw ps = (p : Phrase) → Contains ps p → (n : ℕ) → Breaks raw p.
 module _ (k : Kept) (raw other : RawProgram) (texts : TextsAgree k raw other) where
   pub no_variable_there : (line : ℕ) (scope : Scope) (head : RawHead) (is_definition : Bool) (rest : Phrases) → AreRight raw (phrase line scope (DeclaresFunction head is_definition) ∷ rest) → IsVariable (meaning_here scope head.name) → ⊥
   no_variable_there line scope head is_definition rest right v =
-      right (phrase line scope (DeclaresFunction head is_definition)) (first_in _ rest) 2 (Breaks.declared_again (DeclaresAgain.function v.2))
+      right (phrase line scope (DeclaresFunction head is_definition)) (contains_first _ rest) 2 (Breaks.declared_again (DeclaresAgain.function v.2))
 
   pub rest_right : (ps qs : Phrases) → AreRight raw (ps ++ qs) → AreRight raw qs
-  rest_right ps qs right p c = right p (in_right ps qs p c)
+  rest_right ps qs right p c = right p (Contains-append_right ps qs p c)
 
   abbrev Walk : (scope next : Scope) (xs ys : List RawItem) → Type 0
   Walk scope next xs ys = AreCounterparts k raw other (items_phrases other ys next) (items_phrases raw xs scope)

@@ -11,13 +11,10 @@ pub mod RulesAgreement
 pub mod CountedLengths
 pub mod Scopes
 pub mod Following
-pub mod PhraseForms
 pub mod Counterparts
 pub mod Walking
 pub mod ItemWalking
 pub mod TreeForms
-pub mod ScopesAfter
-pub mod TreeScopes
 pub mod TreeLevels
 pub mod TreeSimple
 pub mod TreeWalking

@@ -4,8 +4,8 @@ use Rattle.std.specs.Prelude.{option_map, is_none}
 use Rattle.c_language.specs.Scopes.{Meaning}
 use Rattle.c_language.specs.ExprRules.{is_function}
 use Rattle.c_language.specs.declared.expr_type.ExprType.{ExprType}
+use Rattle.c_language.proofs.Options.{none_there, some_same}
 use Rattle.c_scope_laws.specs.Agreement.{moved_meaning}
-use Rattle.c_scope_laws.proofs.Options.{none_there, some_same}
 
 abbrev type_in : Option ExprType → Meaning → Option ExprType
 type_in d (Meaning.Variable id t) = t

@@ -1,10 +1,10 @@
 -- The variables that the tree of an expression names are those that its names stand for.
-use Rattle.std.proofs.Common.{◌≡◌, ℕ, zero, suc, ◌==◌, [], ◌∷◌, Bool, true, false, ◌||◌, Option, Some, None, option_map, option_and_then, refl, sym, ap, subst, ◌∙◌, arith}
+use Rattle.std.proofs.Common.{◌≡◌, ℕ, zero, suc, ◌==◌, [], ◌∷◌, Bool, true, Option, Some, None, option_map, option_and_then, refl, sym, ap, subst, ◌∙◌, arith}
 use Rattle.std.specs.Prelude.{Contains}
 use Rattle.std.proofs.lemmas.Bool.Decides.{nat_tests}
+use Rattle.std.proofs.lemmas.Bool.{or_left, or_right}
 use Rattle.c_arith.specs.declared.int_type.IntType.{IntType}
 use Rattle.c_arith.specs.declared.operators.UnaryOp.{UnaryOp}
-use Rattle.c_arith.specs.declared.operators.BinaryOp.{BinaryOp}
 use Rattle.c_tree.specs.declared.expr.Expr.{Expr, fold-roll-Expr}
 use Rattle.c_tree.specs.declared.expr.Expr.TheOpen.{Expr-F}
 use Rattle.c_tree.specs.declared.expr.Expr.TheVariants as e
@@ -19,13 +19,19 @@ use Rattle.c_language.specs.ConstantEvaluation.{both}
 use Rattle.c_language.specs.Scopes.{Scope, Meaning, Entry, meaning_in}
 use Rattle.c_language.specs.Uses.{operands_of, whole, deeper}
 use Rattle.c_language.specs.ProgramOf.{Told, told_step, expr_of, variable_number, of_operand, of_pointed}
+use Rattle.c_language.proofs.Options.{none_there, some_same}
 use Rattle.c_scope_laws.specs.Agreement.{NamedIn}
 use Rattle.projection.specs.Kept.{Kept}
 use Rattle.c_scope_laws.specs.Thinning.{stays, found, IsKept}
 use Rattle.projection.specs.Names.{names_step, names}
-use Rattle.c_scope_laws.specs.NamedVariables.{IsNamedBy}
-use Rattle.c_scope_laws.proofs.Options.{none_there, some_same}
+use Rattle.projection.proofs.NameForms.{names-Binary, names-AndAlso, names-OrElse, names-Choose, names-Index}
 use Rattle.c_scope_laws.proofs.Trees.{in_none, in_one}
+
+-- a name of the text stands for a variable that the tree names
+pub record IsNamedBy (scope : Scope) (x : Bytes) (a : Expr) : Type 0 where
+  pub id : ℕ
+  pub stands : variable_number (meaning_in scope x) ≡ Some id
+  pub named : names a id ≡ true
 
 names-Unary : (op : UnaryOp) (a : Expr) (x : ℕ) → names (e.Unary op a) x ≡ names a x
 names-Unary op a x = ap (λ (t : Expr). names t x) (sym (e.rolls-Unary op a)) ∙ ap (λ (t : ℕ → Bool). t x) (fold-roll-Expr (ℕ → Bool) names_step (Expr-F.Unary op a))
@@ -36,23 +42,8 @@ names-Deref a x = ap (λ (t : Expr). names t x) (sym (e.rolls-Deref a)) ∙ ap (
 names-AddressOf : (a : Expr) (x : ℕ) → names (e.AddressOf a) x ≡ names a x
 names-AddressOf a x = ap (λ (t : Expr). names t x) (sym (e.rolls-AddressOf a)) ∙ ap (λ (t : ℕ → Bool). t x) (fold-roll-Expr (ℕ → Bool) names_step (Expr-F.AddressOf a))
 
-names-Binary : (op : BinaryOp) (a b : Expr) (x : ℕ) → names (e.Binary op a b) x ≡ (names a x || names b x)
-names-Binary op a b x = ap (λ (t : Expr). names t x) (sym (e.rolls-Binary op a b)) ∙ ap (λ (t : ℕ → Bool). t x) (fold-roll-Expr (ℕ → Bool) names_step (Expr-F.Binary op a b))
-
-names-AndAlso : (a b : Expr) (x : ℕ) → names (e.AndAlso a b) x ≡ (names a x || names b x)
-names-AndAlso a b x = ap (λ (t : Expr). names t x) (sym (e.rolls-AndAlso a b)) ∙ ap (λ (t : ℕ → Bool). t x) (fold-roll-Expr (ℕ → Bool) names_step (Expr-F.AndAlso a b))
-
-names-OrElse : (a b : Expr) (x : ℕ) → names (e.OrElse a b) x ≡ (names a x || names b x)
-names-OrElse a b x = ap (λ (t : Expr). names t x) (sym (e.rolls-OrElse a b)) ∙ ap (λ (t : ℕ → Bool). t x) (fold-roll-Expr (ℕ → Bool) names_step (Expr-F.OrElse a b))
-
-names-Choose : (c a b : Expr) (x : ℕ) → names (e.Choose c a b) x ≡ (names c x || (names a x || names b x))
-names-Choose c a b x = ap (λ (t : Expr). names t x) (sym (e.rolls-Choose c a b)) ∙ ap (λ (t : ℕ → Bool). t x) (fold-roll-Expr (ℕ → Bool) names_step (Expr-F.Choose c a b))
-
 names-Cast : (t : IntType) (a : Expr) (x : ℕ) → names (e.Cast t a) x ≡ names a x
 names-Cast t a x = ap (λ (t : Expr). names t x) (sym (e.rolls-Cast t a)) ∙ ap (λ (t : ℕ → Bool). t x) (fold-roll-Expr (ℕ → Bool) names_step (Expr-F.Cast t a))
-
-names-Index : (a i : Expr) (x : ℕ) → names (e.Index a i) x ≡ (names a x || names i x)
-names-Index a i x = ap (λ (t : Expr). names t x) (sym (e.rolls-Index a i)) ∙ ap (λ (t : ℕ → Bool). t x) (fold-roll-Expr (ℕ → Bool) names_step (Expr-F.Index a i))
 
 names-Member : (a : Expr) (m : MemberId) (x : ℕ) → names (e.Member a m) x ≡ names a x
 names-Member a m x = ap (λ (t : Expr). names t x) (sym (e.rolls-Member a m)) ∙ ap (λ (t : ℕ → Bool). t x) (fold-roll-Expr (ℕ → Bool) names_step (Expr-F.Member a m))
@@ -66,14 +57,7 @@ names-Paren a x = ap (λ (t : Expr). names t x) (sym (e.rolls-Paren a)) ∙ ap (
 names-Variable : (y : ℕ) (x : ℕ) → names (e.Variable y) x ≡ (y == x)
 names-Variable y x = ap (λ (t : Expr). names t x) (sym (e.rolls-Variable y)) ∙ ap (λ (t : ℕ → Bool). t x) (fold-roll-Expr (ℕ → Bool) names_step (Expr-F.Variable y))
 
-left_true : (a b : Bool) → a ≡ true → (a || b) ≡ true
-left_true a b h = ap (λ (x : Bool). x || b) h
-
-right_true : (a b : Bool) → b ≡ true → (a || b) ≡ true
-right_true true b h = refl
-right_true false b h = h
-
-itself_equal : (n : ℕ) → (n == n) ≡ true
+pub itself_equal : (n : ℕ) → (n == n) ≡ true
 itself_equal n = grind (arith, nat_tests)
 
 -- the tree of a part, whose names the whole tree names
@@ -116,9 +100,9 @@ of_choose None a b w at = none_there at
 of_choose (Some t) None b w at = none_there at
 of_choose (Some t) (Some u) None w at = none_there at
 of_choose (Some t) (Some u) (Some v) w at = record {
-  first = part_of refl (some_same at) (λ x n. names-Choose t u v x ∙ left_true (names t x) _ n);
-  second = part_of refl (some_same at) (λ x n. names-Choose t u v x ∙ right_true (names t x) _ (left_true (names u x) _ n));
-  third = part_of refl (some_same at) (λ x n. names-Choose t u v x ∙ right_true (names t x) _ (right_true (names u x) _ n));
+  first = part_of refl (some_same at) (λ x n. names-Choose t u v x ∙ or_left (names t x) _ n);
+  second = part_of refl (some_same at) (λ x n. names-Choose t u v x ∙ or_right (names t x) _ (or_left (names u x) _ n));
+  third = part_of refl (some_same at) (λ x n. names-Choose t u v x ∙ or_right (names t x) _ (or_right (names u x) _ n));
 }
 
 pick_two : {a b : RawExpr} (P : RawExpr → Type 0) → P a → P b → (m : RawExpr) → Contains (a ∷ (b ∷ [])) m → P m
@@ -146,20 +130,20 @@ module _ (raw : RawProgram) (scope : Scope) where
   operand_part (RawExpr-F.Deref a) w at m c = pick_one (of_one e.Deref (λ t x n. names-Deref t x ∙ n) (expr_of raw scope a) w at) m c
   operand_part (RawExpr-F.AddressOf a) w at m c = pick_one (of_one e.AddressOf (λ t x n. names-AddressOf t x ∙ n) (expr_of raw scope a) w at) m c
   operand_part (RawExpr-F.Binary op a b) w at m c =
-      pick_two (λ (u : RawExpr). Part (expr_of raw scope u) w) (of_left (e.Binary op) (λ t u x n. names-Binary op t u x ∙ left_true (names t x) _ n) (expr_of raw scope a) (expr_of raw scope b) w at)
-      (of_right (e.Binary op) (λ t u x n. names-Binary op t u x ∙ right_true (names t x) _ n) (expr_of raw scope a) (expr_of raw scope b) w at) m c
+      pick_two (λ (u : RawExpr). Part (expr_of raw scope u) w) (of_left (e.Binary op) (λ t u x n. names-Binary op t u x ∙ or_left (names t x) _ n) (expr_of raw scope a) (expr_of raw scope b) w at)
+      (of_right (e.Binary op) (λ t u x n. names-Binary op t u x ∙ or_right (names t x) _ n) (expr_of raw scope a) (expr_of raw scope b) w at) m c
   operand_part (RawExpr-F.AndAlso a b) w at m c =
-      pick_two (λ (u : RawExpr). Part (expr_of raw scope u) w) (of_left e.AndAlso (λ t u x n. names-AndAlso t u x ∙ left_true (names t x) _ n) (expr_of raw scope a) (expr_of raw scope b) w at)
-      (of_right e.AndAlso (λ t u x n. names-AndAlso t u x ∙ right_true (names t x) _ n) (expr_of raw scope a) (expr_of raw scope b) w at) m c
+      pick_two (λ (u : RawExpr). Part (expr_of raw scope u) w) (of_left e.AndAlso (λ t u x n. names-AndAlso t u x ∙ or_left (names t x) _ n) (expr_of raw scope a) (expr_of raw scope b) w at)
+      (of_right e.AndAlso (λ t u x n. names-AndAlso t u x ∙ or_right (names t x) _ n) (expr_of raw scope a) (expr_of raw scope b) w at) m c
   operand_part (RawExpr-F.OrElse a b) w at m c =
-      pick_two (λ (u : RawExpr). Part (expr_of raw scope u) w) (of_left e.OrElse (λ t u x n. names-OrElse t u x ∙ left_true (names t x) _ n) (expr_of raw scope a) (expr_of raw scope b) w at)
-      (of_right e.OrElse (λ t u x n. names-OrElse t u x ∙ right_true (names t x) _ n) (expr_of raw scope a) (expr_of raw scope b) w at) m c
+      pick_two (λ (u : RawExpr). Part (expr_of raw scope u) w) (of_left e.OrElse (λ t u x n. names-OrElse t u x ∙ or_left (names t x) _ n) (expr_of raw scope a) (expr_of raw scope b) w at)
+      (of_right e.OrElse (λ t u x n. names-OrElse t u x ∙ or_right (names t x) _ n) (expr_of raw scope a) (expr_of raw scope b) w at) m c
   operand_part (RawExpr-F.Choose d a b) w at m c =
       let h = of_choose (expr_of raw scope d) (expr_of raw scope a) (expr_of raw scope b) w at in pick_three (λ (u : RawExpr). Part (expr_of raw scope u) w) h.first h.second h.third m c
   operand_part (RawExpr-F.Cast t a) w at m c = pick_one (of_one (e.Cast t) (λ u x n. names-Cast t u x ∙ n) (expr_of raw scope a) w at) m c
   operand_part (RawExpr-F.Index a i) w at m c =
-      pick_two (λ (u : RawExpr). Part (expr_of raw scope u) w) (of_left e.Index (λ t u x n. names-Index t u x ∙ left_true (names t x) _ n) (expr_of raw scope a) (expr_of raw scope i) w at)
-      (of_right e.Index (λ t u x n. names-Index t u x ∙ right_true (names t x) _ n) (expr_of raw scope a) (expr_of raw scope i) w at) m c
+      pick_two (λ (u : RawExpr). Part (expr_of raw scope u) w) (of_left e.Index (λ t u x n. names-Index t u x ∙ or_left (names t x) _ n) (expr_of raw scope a) (expr_of raw scope i) w at)
+      (of_right e.Index (λ t u x n. names-Index t u x ∙ or_right (names t x) _ n) (expr_of raw scope a) (expr_of raw scope i) w at) m c
   operand_part (RawExpr-F.Member a f) w at m c = pick_one (of_member e.Member (λ t i x n. names-Member t i x ∙ n) (expr_of raw scope a) (of_operand raw f (told_of a).operand) w at) m c
   operand_part (RawExpr-F.Arrow a f) w at m c = pick_one (of_member e.Arrow (λ t i x n. names-Arrow t i x ∙ n) (expr_of raw scope a) (of_pointed raw f (told_of a).operand) w at) m c
   operand_part (RawExpr-F.Paren a) w at m c = pick_one (of_one e.Paren (λ t x n. names-Paren t x ∙ n) (expr_of raw scope a) w at) m c

@@ -1,26 +1,8 @@
 -- What functions of options make of options that are mapped.
-use Rattle.std.proofs.Common.{◌≡◌, List, [], ◌∷◌, map, Bool, true, false, Option, Some, None, refl, sym, ap, subst, ◌∙◌}
+use Rattle.std.proofs.Common.{◌≡◌, List, [], ◌∷◌, map, Option, Some, None, refl, ap, ◌∙◌}
 use Rattle.std.specs.Prelude.{option_map, option_and_then}
-use Rattle.std.specs.Option.{unwrap_or}
 use Rattle.c_language.specs.ConstantEvaluation.{both}
 use Rattle.c_language.specs.ProgramOf.{collected}
-
-abbrev is_false : Bool → Type 0
-is_false false = Unit {0}
-is_false true = ⊥
-
-pub false_true : {A : Type 0} → ◌≡◌ {A = Bool} false true → A
-false_true h = absurd (subst is_false h tt)
-
-abbrev IsThere : {A : Type 0} → Option A → Type 0
-IsThere None = ⊥
-IsThere (Some x) = Unit {0}
-
-pub none_there : {A B : Type 0} {x : A} → ◌≡◌ {A = Option A} None (Some x) → B
-none_there h = absurd (subst IsThere (sym h) tt)
-
-pub some_same : {A : Type 0} {x y : A} → ◌≡◌ {A = Option A} (Some x) (Some y) → x ≡ y
-some_same {x} h = ap (λ (o : Option _). unwrap_or o x) h
 
 -- ---- two functions and a change of what they give
 
@@ -38,10 +20,6 @@ pub then_turns : {A B C D : Type 0} (f : A → B) (g : C → D) (one : A → Opt
     → (x : Option A) → option_and_then two (option_map f x) ≡ option_map g (option_and_then one x)
 then_turns f g one two same None = refl
 then_turns f g one two same (Some a) = same a
-
-pub then_same : {A B : Type 0} (g h : A → Option B) → ((a : A) → g a ≡ h a) → (o : Option A) → option_and_then g o ≡ option_and_then h o
-then_same g h same None = refl
-then_same g h same (Some a) = same a
 
 -- ---- lists
 

@@ -12,6 +12,7 @@ use Rattle.c_tree.specs.declared.raw.program.RawMember.{RawMember}
 use Rattle.c_tree.specs.declared.raw.program.RawHead.{RawHead}
 use Rattle.c_tree.specs.declared.raw.program.RawParam.{RawParam}
 use Rattle.c_tree.specs.declared.raw.program.RawProgram.{RawProgram}
+use Rattle.c_tree.proofs.RawTrees.{type_folds_same}
 use Rattle.c_language.specs.Words.{Bytes}
 use Rattle.c_language.specs.DeclaredTypes.{StructText, item_count, struct_id, of_base, type_step, type_with, written_type, type_or_void, result_type, parameter_types}
 use Rattle.c_language.specs.ExprTypes.{member_named, member_of}
@@ -19,7 +20,6 @@ use Rattle.c_language.specs.ProgramOf.{member_id, ctype_step, ctype_with}
 use Rattle.c_language.specs.declared.expr_type.Base.TheVariants as base
 use Rattle.c_language.specs.declared.expr_type.ExprType.{ExprType}
 use Rattle.c_scope_laws.specs.Agreement.{SameOutside, SameVariable}
-use Rattle.c_scope_laws.proofs.Trees.{type_folds_same}
 
 module _ (raw other : RawProgram) (like : SameOutside raw other) where
   pub struct_ids : (tag : Bytes) → struct_id other tag ≡ struct_id raw tag

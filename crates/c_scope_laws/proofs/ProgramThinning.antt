@@ -1,5 +1,5 @@
 -- The program of a thinner text is what stays of the program of the text.
-use Rattle.std.proofs.Common.{◌≡◌, ℕ, List, [], ◌∷◌, map, Bool, Option, Some, None, option_map, option_and_then, refl, ap, ap₂, ◌∙◌}
+use Rattle.std.proofs.Common.{◌≡◌, ℕ, List, map, Bool, Option, Some, None, option_map, option_and_then, refl, ap, ap₂, ◌∙◌}
 use Rattle.c_tree.specs.declared.types.CType.{CType}
 use Rattle.c_tree.specs.declared.program.Item.{Item}
 use Rattle.c_tree.specs.declared.program.Var.{Var}
@@ -15,19 +15,16 @@ use Rattle.c_language.specs.Scopes.{outset}
 use Rattle.c_language.specs.Phrases.{scope_at_end}
 use Rattle.c_language.specs.Rules.{IsBroken, KeepsRules}
 use Rattle.c_language.specs.ProgramOf.{collected, member_tree, struct_tree, structs_of, items_of, variables_of, functions_of, program_with, program_of}
+use Rattle.c_language.proofs.Options.{none_there, some_same}
+use Rattle.c_language.proofs.Lists.{maps_same}
 use Rattle.c_scope_laws.specs.Agreement.{SameOutside}
 use Rattle.projection.specs.Kept.{Kept, rank}
-use Rattle.c_scope_laws.specs.Following.{FunctionNumbers}
 use Rattle.c_scope_laws.specs.ThinTexts.{IsThinner}
 use Rattle.projection.specs.Projection.{projected_items, projected_vars, projected_functions, projected_program}
-use Rattle.c_scope_laws.proofs.Options.{none_there, some_same}
 use Rattle.c_scope_laws.proofs.Outside.{ctypes_same}
 use Rattle.c_scope_laws.proofs.ItemWalking.{texts_agree, begins_follow, drop_none}
 use Rattle.c_scope_laws.proofs.ItemTrees.{stay}
-
-maps_same : {A B : Type 0} (f g : A → B) → ((a : A) → f a ≡ g a) → (xs : List A) → map f xs ≡ map g xs
-maps_same f g same [] = refl
-maps_same f g same (x ∷ xs) = ap₂ (λ (b : _) (bs : List _). b ∷ bs) (same x) (maps_same f g same xs)
+use Rattle.c_scope_laws.proofs.FunctionNumbers.{FunctionNumbers}
 
 -- ---- struct types
 

@@ -96,17 +96,5 @@ module _ (ns : Numbers) where
   pub renumbered-Release : (id l : ℕ) (a : Expr) → renumbered ns (s.Release id l a) ≡ s.Release (ns.statement id) l (renamed ns.variable a)
   renumbered-Release id l a = ap (renumbered ns) (sym (s.rolls-Release id l a)) ∙ fold-roll-Statement Statement Arm (renumbered_step ns) (renumbered_arm ns) (Statement-F.Release id l a)
 
-  pub renumbered-If : (id l : ℕ) (a : Expr) (b c : List Statement) → renumbered ns (s.If id l a b c) ≡ s.If (ns.statement id) l (renamed ns.variable a) (map (renumbered ns) b) (map (renumbered ns) c)
-  renumbered-If id l a b c = ap (renumbered ns) (sym (s.rolls-If id l a b c)) ∙ fold-roll-Statement Statement Arm (renumbered_step ns) (renumbered_arm ns) (Statement-F.If id l a b c)
-
-  pub renumbered-While : (id l : ℕ) (a : Expr) (b : List Statement) → renumbered ns (s.While id l a b) ≡ s.While (ns.statement id) l (renamed ns.variable a) (map (renumbered ns) b)
-  renumbered-While id l a b = ap (renumbered ns) (sym (s.rolls-While id l a b)) ∙ fold-roll-Statement Statement Arm (renumbered_step ns) (renumbered_arm ns) (Statement-F.While id l a b)
-
-  pub renumbered-Do : (id l : ℕ) (a : Expr) (b : List Statement) → renumbered ns (s.Do id l a b) ≡ s.Do (ns.statement id) l (renamed ns.variable a) (map (renumbered ns) b)
-  renumbered-Do id l a b = ap (renumbered ns) (sym (s.rolls-Do id l a b)) ∙ fold-roll-Statement Statement Arm (renumbered_step ns) (renumbered_arm ns) (Statement-F.Do id l a b)
-
-  pub renumbered-Block : (l : ℕ) (b : List Statement) → renumbered ns (s.Block l b) ≡ s.Block l (map (renumbered ns) b)
-  renumbered-Block l b = ap (renumbered ns) (sym (s.rolls-Block l b)) ∙ fold-roll-Statement Statement Arm (renumbered_step ns) (renumbered_arm ns) (Statement-F.Block l b)
-
   pub renumbered-Return : (id l : ℕ) (a : Option Expr) → renumbered ns (s.Return id l a) ≡ s.Return (ns.statement id) l (option_map (renamed ns.variable) a)
   renumbered-Return id l a = ap (renumbered ns) (sym (s.rolls-Return id l a)) ∙ fold-roll-Statement Statement Arm (renumbered_step ns) (renumbered_arm ns) (Statement-F.Return id l a)

@@ -1,10 +1,10 @@
 -- A phrase breaks a rule where what stands for it at an agreeing place of the other text breaks it.
 use Rattle.std.proofs.Common.{◌≡◌, ◌≢◌, ℕ, zero, suc, ◌&&◌, List, [], ◌∷◌, ◌++◌, length, take, Bool, true, false, Option, Some, None, codes, refl, sym, ap, ap₂, subst, ◌∙◌, arith, ◌⊎◌, inl, inr}
 use Rattle.std.specs.Prelude.{Contains, option_map}
+use Rattle.std.proofs.lemmas.List.Elements.{Contains-append_left, Contains-append_right}
 use Rattle.c_arith.specs.declared.operators.BinaryOp.{BinaryOp}
-use Rattle.c_tree.specs.declared.raw.expr.RawExpr.{RawExpr, out-RawExpr, map-RawExpr}
+use Rattle.c_tree.specs.declared.raw.expr.RawExpr.{RawExpr, map-RawExpr}
 use Rattle.c_tree.specs.declared.raw.expr.RawExpr.TheOpen.{RawExpr-F}
-use Rattle.c_tree.specs.declared.raw.expr.RawExpr.TheViews.{out-roll-RawExpr}
 use Rattle.c_tree.specs.declared.raw.expr.RawExpr.TheVariants as e
 use Rattle.c_tree.specs.declared.raw.expr.RawType.{RawType}
 use Rattle.c_tree.specs.declared.raw.expr.RawVar.{RawVar}
@@ -30,19 +30,21 @@ use Rattle.c_language.specs.ExprTypes.{operand}
 use Rattle.c_language.specs.ExprRules.{Seen, seen, is_undeclared, lacks_header, has_bad_operand, has_no_address, needs_struct, selects_missing, holds_of, points_to_incomplete, moves_incomplete}
 use Rattle.c_language.specs.Formats.{Conversion}
 use Rattle.c_language.specs.Phrases.{Stand, InFile, InArm, InFor, Part, NamesStruct, DefinesStruct, HasMember, DeclaresFunction, Takes, EndsFunction, Declares, Begins, Assigns, Bumps, Calls, Allocates, Tests, Switches, Returns}
-use Rattle.c_language.specs.Uses.{operands_of, operands, IsWithin, whole, deeper, lengths, expressions, arg_exprs, target_exprs, counts, sizes, cases, Holds, holds, tags, is_library_name}
+use Rattle.c_language.specs.Uses.{lengths, expressions, arg_exprs, target_exprs, counts, sizes, cases, Holds, holds, tags, is_library_name}
 use Rattle.c_language.specs.Rules.{Breaks}
 use Rattle.c_language.specs.NameRules.{main_name, agree, all_agree, same_signature, UsesUndeclared, DeclaresAgain, Shadows, DeclaresLibraryName, MisusesMain, LacksDefinition, LacksHeader}
 use Rattle.c_language.specs.StructRules.{MisusesTag, MisnamesMember}
 use Rattle.c_language.specs.ArrayRules.{HasNoElement, LacksConstant, HasUnfit, MisusesInitialiser}
 use Rattle.c_language.specs.SwitchRules.{MisusesSwitch, MisplacesDeclaration}
 use Rattle.c_language.specs.TypeRules.{MisusesOperator, AssignsOtherType, IsNoTarget, AssignsNoPlace, MisusesAddress}
-use Rattle.c_language.specs.CallRules.{HasUnfitArgument, MisusesArguments, target_type, MisusesResult, only_arg, later_args, MisusesReturn, HasUnfitWidth, MisusesFormat, HasOtherSize, MisusesAllocation, MisusesLibrary}
+use Rattle.c_language.specs.CallRules.{HasUnfitArgument, MisusesArguments, target_type, MisusesResult, later_args, MisusesReturn, HasUnfitWidth, MisusesFormat, HasOtherSize, MisusesAllocation, MisusesLibrary}
 use Rattle.c_language.specs.declared.expr_type.ExprType.{ExprType}
 use Rattle.c_language.specs.declared.expr_type.Operand.{Operand}
+use Rattle.c_language.proofs.Options.{none_there, some_same}
+use Rattle.c_language.proofs.Tests.{false_true}
+use Rattle.c_language.proofs.Lists.{contains_first, contains_later}
+use Rattle.c_language.proofs.UseLemmas.{only_part, only_in, out-Constant}
 use Rattle.c_scope_laws.specs.Agreement.{Names, in_expression, measured, NamesFunction, DeclaresName, DeclaresHead, moved_meaning, PlacesAgree, IsCountConstant, SameVariable, StandsFor, there, CallStandsFor, as_it_is, elsewhere, StoresLess, kept, lost, EndsToo, PartsAgree, declares, begins, ends, calls}
-use Rattle.c_scope_laws.proofs.Trees.{first_in, later_in, in_left, in_right}
-use Rattle.c_scope_laws.proofs.Options.{false_true, none_there, some_same}
 use Rattle.c_scope_laws.proofs.Within.{held_within}
 use Rattle.c_scope_laws.proofs.Outside.{struct_ids, types_same, ctypes_same, results_same, parameters_same}
 use Rattle.c_scope_laws.proofs.Meanings.{none_back, function_back, variable_back}
@@ -50,43 +52,24 @@ use Rattle.c_scope_laws.proofs.ExprAgreement.{Covers, operands_same}
 use Rattle.c_scope_laws.proofs.StatementAgreement.{CoversAll, part_covers, left_covered, right_covered}
 use Rattle.c_scope_laws.proofs.SeenTests.{complete_same, points_in_same, moves_same, undeclared_at, operators_at, headers_at, needs_at, missing_at, address_at}
 
--- ---- constants
-
-out-Constant : (text : Bytes) → out-RawExpr (e.Constant text) ≡ RawExpr-F.Constant text
-out-Constant text = ap out-RawExpr (sym (e.rolls-Constant text)) ∙ out-roll-RawExpr (RawExpr-F.Constant text)
-
--- a constant is its only part
-only_part : (a inner : RawExpr) (text : Bytes) → a ≡ e.Constant text → IsWithin inner a → inner ≡ e.Constant text
-only_part a inner text is whole = is
-only_part a inner text is (deeper {middle = m} c w) = absurd (no_part (subst (λ (x : RawExpr). Contains (operands x) m) is c))
-  where
-    no_part : Contains (operands (e.Constant text)) m → ⊥
-    no_part c = let k = subst (λ (y : RawExpr-F RawExpr). Contains (operands_of y) m) (out-Constant text) c in omega (arith, k.1)
-
 -- ---- arguments
 
 -- the first of the expressions of arguments is covered, and those of the rest are
 rest_args : {named : Bytes → Type 0} (a : RawArg) (rest : List RawArg) → CoversAll named (arg_exprs (a ∷ rest)) → CoversAll named (arg_exprs rest)
-rest_args (arg.Value x) rest c b k = c b (later_in x b (arg_exprs rest) k)
+rest_args (arg.Value x) rest c b k = c b (contains_later x b (arg_exprs rest) k)
 rest_args (arg.Literal text) rest c b k = c b k
 
 later_args_covered : {named : Bytes → Type 0} (args : List RawArg) → CoversAll named (arg_exprs args) → CoversAll named (arg_exprs (later_args args))
 later_args_covered [] c = c
 later_args_covered (a ∷ rest) c = rest_args a rest c
 
-only_in : (args : List RawArg) (a : RawExpr) → only_arg args ≡ Some a → Contains (arg_exprs args) a
-only_in [] a h = none_there h
-only_in (arg.Value x ∷ []) a h = subst (λ (y : RawExpr). Contains (x ∷ []) y) (some_same h) (first_in x [])
-only_in (arg.Literal text ∷ []) a h = none_there h
-only_in (x ∷ (y ∷ rest)) a h = none_there h
-
 -- ---- parts
 
 -- lists one after the other, of which the first has more
 in_parts : (xs more ys : List RawExpr) → ((a : RawExpr) → Contains xs a → Contains more a) → (a : RawExpr) → Contains (xs ++ ys) a → Contains (more ++ ys) a
-in_parts [] more ys h a c = in_right more ys a c
-in_parts (x ∷ xs) more ys h a (zero, within, is) = in_left more ys a (h a (0, omega arith, is))
-in_parts (x ∷ xs) more ys h a (suc k, within, is) = in_parts xs more ys (λ b j. h b (later_in x b xs j)) a (k, omega (arith, within), is)
+in_parts [] more ys h a c = Contains-append_right more ys a c
+in_parts (x ∷ xs) more ys h a (zero, within, is) = Contains-append_left more ys a (h a (0, omega arith, is))
+in_parts (x ∷ xs) more ys h a (suc k, within, is) = in_parts xs more ys (λ b j. h b (contains_later x b xs j)) a (k, omega (arith, within), is)
 
 -- these are all names of a part
 pub record Allows (named functions declared headed : Bytes → Type 0) (part : Part) : Type 0 where
@@ -234,16 +217,16 @@ module _ (f : ℕ → ℕ) (named functions declared headed : Bytes → Type 0) 
 
   targets : (to : RawTarget) → CoversAll named (target_exprs to) → target_type raw scope to ≡ target_type other next to
   targets target.None c = refl
-  targets (target.Place a) c = ap (option_map (λ (x : Operand). x.shape)) (op a (c a (first_in a [])))
+  targets (target.Place a) c = ap (option_map (λ (x : Operand). x.shape)) (op a (c a (contains_first a [])))
   targets (target.Declared v) c = types 0 v.shape
 
   unfit_argument : {ts : List (Option ExprType)} {args : List RawArg} → CoversAll named (arg_exprs args) → HasUnfitArgument other next ts args → HasUnfitArgument raw scope ts args
-  unfit_argument c (HasUnfitArgument.value {e = a} {args} is isnt) = HasUnfitArgument.value (op a (c a (first_in a (arg_exprs args))) ∙ is) isnt
+  unfit_argument c (HasUnfitArgument.value {e = a} {args} is isnt) = HasUnfitArgument.value (op a (c a (contains_first a (arg_exprs args))) ∙ is) isnt
   unfit_argument c HasUnfitArgument.literal = HasUnfitArgument.literal
   unfit_argument c (HasUnfitArgument.later {a} {args} h) = HasUnfitArgument.later (unfit_argument (rest_args a args c) h)
 
   unfit_width : {cs : List Conversion} {args : List RawArg} → CoversAll named (arg_exprs args) → HasUnfitWidth other next cs args → HasUnfitWidth raw scope cs args
-  unfit_width c (HasUnfitWidth.value {e = a} {args} is isnt) = HasUnfitWidth.value (op a (c a (first_in a (arg_exprs args))) ∙ is) isnt
+  unfit_width c (HasUnfitWidth.value {e = a} {args} is isnt) = HasUnfitWidth.value (op a (c a (contains_first a (arg_exprs args))) ∙ is) isnt
   unfit_width c HasUnfitWidth.literal = HasUnfitWidth.literal
   unfit_width c (HasUnfitWidth.later {a} {args} h) = HasUnfitWidth.later (unfit_width (rest_args a args c) h)
 
@@ -326,12 +309,12 @@ module _ (f : ℕ → ℕ) (named functions declared headed : Bytes → Type 0) 
       let k = sym (needs_at f named raw other scope next fit.outside fit.scopes inner (inner_covered c inner h)) ∙ is in
       MisusesTag.in_expression (held_if (needs_struct scope) (λ text. refl) inner a h k) k
   tag_moves a c (MisusesTag.bumped {left = x} is) =
-      let cover = part_covers (Bumps x) c.names x (first_in x []) in
+      let cover = part_covers (Bumps x) c.names x (contains_first x []) in
       moved (MisusesTag raw scope) refl a (MisusesTag.bumped (ap (holds_of (points_to_incomplete scope)) (op x cover) ∙ sym (points_in_same f named raw other scope next fit.outside fit.scopes (operand other next x)) ∙ is))
   tag_moves a c (MisusesTag.compound {left = x} {right = y} {op = o} is) =
       let cover = part_covers (Assigns x (Some o) y) c.names in
       moved (MisusesTag raw scope) refl a (MisusesTag.compound
-      (ap₂ (moves_incomplete scope o) (op x (cover x (first_in x (y ∷ [])))) (op y (cover y (later_in x y (y ∷ []) (first_in y []))))
+      (ap₂ (moves_incomplete scope o) (op x (cover x (contains_first x (y ∷ [])))) (op y (cover y (contains_later x y (y ∷ []) (contains_first y []))))
       ∙ sym (moves_same f named raw other scope next fit.outside fit.scopes o (operand other next x) (operand other next y)) ∙ is))
   tag_moves a c (MisusesTag.size_of_type {t} {object} k typed isnt) =
       moved (MisusesTag raw scope) refl a (MisusesTag.size_of_type k (types 0 (named_type t) ∙ typed) (sym (complete_same f named raw other scope next fit.outside fit.scopes object) ∙ isnt))
@@ -362,26 +345,26 @@ module _ (f : ℕ → ℕ) (named functions declared headed : Bytes → Type 0) 
 
   switch_moves : {part changed : Part} → PartsAgree raw other part changed → Allows named functions declared headed changed → MisusesSwitch other next changed → MisusesSwitch raw scope part
   switch_moves a c (MisusesSwitch.no_integer {test} {labels} is none) =
-      moved (MisusesSwitch raw scope) refl a (MisusesSwitch.no_integer (op test (part_covers (Switches test labels) c.names test (first_in test (cases labels))) ∙ is) none)
+      moved (MisusesSwitch raw scope) refl a (MisusesSwitch.no_integer (op test (part_covers (Switches test labels) c.names test (contains_first test (cases labels))) ∙ is) none)
   switch_moves a c (MisusesSwitch.equal_labels {test} {labels} is int h) =
-      moved (MisusesSwitch raw scope) refl a (MisusesSwitch.equal_labels (op test (part_covers (Switches test labels) c.names test (first_in test (cases labels))) ∙ is) int h)
+      moved (MisusesSwitch raw scope) refl a (MisusesSwitch.equal_labels (op test (part_covers (Switches test labels) c.names test (contains_first test (cases labels))) ∙ is) int h)
   switch_moves a c (MisusesSwitch.defaults h) = moved (MisusesSwitch raw scope) refl a (MisusesSwitch.defaults h)
 
   -- the two sides of an assignment are covered
   left_side : (x y : RawExpr) (o : Option BinaryOp) → Allows named functions declared headed (Assigns x o y) → Covers named x
-  left_side x y o c = part_covers (Assigns x o y) c.names x (first_in x (y ∷ []))
+  left_side x y o c = part_covers (Assigns x o y) c.names x (contains_first x (y ∷ []))
 
   right_side : (x y : RawExpr) (o : Option BinaryOp) → Allows named functions declared headed (Assigns x o y) → Covers named y
-  right_side x y o c = part_covers (Assigns x o y) c.names y (later_in x y (y ∷ []) (first_in y []))
+  right_side x y o c = part_covers (Assigns x o y) c.names y (contains_later x y (y ∷ []) (contains_first y []))
 
   operator_moves : {part changed : Part} → PartsAgree raw other part changed → Allows named functions declared headed changed → MisusesOperator other next changed → MisusesOperator raw scope part
   operator_moves a c (MisusesOperator.in_expression {inner} h is) =
       let k = sym (operators_at f named raw other scope next fit.outside fit.scopes inner (inner_covered c inner h)) ∙ is in
       MisusesOperator.in_expression (held_if (has_bad_operand scope) (λ text. refl) inner a h k) k
-  operator_moves a c (MisusesOperator.test {test} is isnt) = moved (MisusesOperator raw scope) refl a (MisusesOperator.test (op test (part_covers (Tests test) c.names test (first_in test [])) ∙ is) isnt)
+  operator_moves a c (MisusesOperator.test {test} is isnt) = moved (MisusesOperator raw scope) refl a (MisusesOperator.test (op test (part_covers (Tests test) c.names test (contains_first test [])) ∙ is) isnt)
   operator_moves a c (MisusesOperator.compound {left} {right} {op = o} x y none) =
       moved (MisusesOperator raw scope) refl a (MisusesOperator.compound (op left (left_side left right (Some o) c) ∙ x) (op right (right_side left right (Some o) c) ∙ y) none)
-  operator_moves a c (MisusesOperator.bump {left} x none) = moved (MisusesOperator raw scope) refl a (MisusesOperator.bump (op left (part_covers (Bumps left) c.names left (first_in left [])) ∙ x) none)
+  operator_moves a c (MisusesOperator.bump {left} x none) = moved (MisusesOperator raw scope) refl a (MisusesOperator.bump (op left (part_covers (Bumps left) c.names left (contains_first left [])) ∙ x) none)
 
   other_type_moves : {part changed : Part} → PartsAgree raw other part changed → Allows named functions declared headed changed → AssignsOtherType other next changed → AssignsOtherType raw scope part
   other_type_moves a c (AssignsOtherType.simple {left} {right} x y scalar isnt) =
@@ -389,17 +372,17 @@ module _ (f : ℕ → ℕ) (named functions declared headed : Bytes → Type 0) 
   other_type_moves a c (AssignsOtherType.compound {left} {right} {op = o} x y gives scalar isnt) =
       moved (AssignsOtherType raw scope) refl a (AssignsOtherType.compound (op left (left_side left right (Some o) c) ∙ x) (op right (right_side left right (Some o) c) ∙ y) gives scalar isnt)
   other_type_moves a c (AssignsOtherType.initialiser {stand} {var = v} {right} typed y scalar isnt) =
-      begun_moves (AssignsOtherType raw scope) a (λ spot fits. AssignsOtherType.initialiser (types 0 v.shape ∙ typed) (op right (part_covers (Begins stand v (init.One right)) c.names right (first_in right [])) ∙ y) scalar isnt)
+      begun_moves (AssignsOtherType raw scope) a (λ spot fits. AssignsOtherType.initialiser (types 0 v.shape ∙ typed) (op right (part_covers (Begins stand v (init.One right)) c.names right (contains_first right [])) ∙ y) scalar isnt)
 
   no_place_moves : {part changed : Part} → PartsAgree raw other part changed → Allows named functions declared headed changed → AssignsNoPlace other next changed → AssignsNoPlace raw scope part
   no_place_moves a c (AssignsNoPlace.assignment {left} {right} {op = o} h) = moved (AssignsNoPlace raw scope) refl a (AssignsNoPlace.assignment (no_target (left_side left right o c) h))
-  no_place_moves a c (AssignsNoPlace.bump {left} h) = moved (AssignsNoPlace raw scope) refl a (AssignsNoPlace.bump (no_target (part_covers (Bumps left) c.names left (first_in left [])) h))
+  no_place_moves a c (AssignsNoPlace.bump {left} h) = moved (AssignsNoPlace raw scope) refl a (AssignsNoPlace.bump (no_target (part_covers (Bumps left) c.names left (contains_first left [])) h))
   no_place_moves a c (AssignsNoPlace.result {left} {stand} {f = g} {args} h) =
       called_moves (AssignsNoPlace raw scope) a (λ spot to_ fits stores.
       subst (λ (t : RawTarget). AssignsNoPlace raw scope (Calls spot t g args)) (sym (stores_place stores))
-      (AssignsNoPlace.result (no_target (part_covers (Calls stand (target.Place left) g args) c.names left (first_in left (arg_exprs args))) h)))
+      (AssignsNoPlace.result (no_target (part_covers (Calls stand (target.Place left) g args) c.names left (contains_first left (arg_exprs args))) h)))
   no_place_moves a c (AssignsNoPlace.allocation {left} {cast} {n} h) =
-      moved (AssignsNoPlace raw scope) refl a (AssignsNoPlace.allocation (no_target (part_covers (Allocates (target.Place left) cast n) c.names left (first_in left (counts n))) h))
+      moved (AssignsNoPlace raw scope) refl a (AssignsNoPlace.allocation (no_target (part_covers (Allocates (target.Place left) cast n) c.names left (contains_first left (counts n))) h))
 
   address_moves : {part changed : Part} → PartsAgree raw other part changed → Allows named functions declared headed changed → MisusesAddress other next changed → MisusesAddress raw scope part
   address_moves a c (MisusesAddress.in_expression {inner} h is) =
@@ -435,7 +418,7 @@ module _ (f : ℕ → ℕ) (named functions declared headed : Bytes → Type 0) 
   return_moves : {part changed : Part} → PartsAgree raw other part changed → Allows named functions declared headed changed → MisusesReturn other next changed → MisusesReturn raw scope part
   return_moves a c (MisusesReturn.value_of_void is none) = moved (MisusesReturn raw scope) refl a (MisusesReturn.value_of_void (sym fit.functions.around ∙ is) none)
   return_moves a c (MisusesReturn.unfit {e = x} {head} is typed y isnt) =
-      moved (MisusesReturn raw scope) refl a (MisusesReturn.unfit (sym fit.functions.around ∙ is) (results head ∙ typed) (op x (part_covers (Returns (Some x)) c.names x (first_in x [])) ∙ y) isnt)
+      moved (MisusesReturn raw scope) refl a (MisusesReturn.unfit (sym fit.functions.around ∙ is) (results head ∙ typed) (op x (part_covers (Returns (Some x)) c.names x (contains_first x [])) ∙ y) isnt)
   return_moves a c (MisusesReturn.no_value is some) = moved (MisusesReturn raw scope) refl a (MisusesReturn.no_value (sym fit.functions.around ∙ is) some)
   return_moves a c (MisusesReturn.lacking x some lacks) = ended_moves (MisusesReturn raw scope) a (λ body k. MisusesReturn.lacking x some (λ h. lacks (k x h)))
 

@@ -1,22 +1,19 @@
 -- The scopes of a text and those of a thinner one.
 use Rattle.std.proofs.Common.{◌≡◌, ℕ, List, [], ◌∷◌, ◌++◌, length, take, drop, Bool, true, false, Option, Some, None, refl, sym, ap, subst, ◌∙◌}
 use Rattle.std.specs.Prelude.{option_map, if◌then◌else◌, bytes_eq}
-use Rattle.std.proofs.lemmas.Slice.Eq.{bytes_eq-Decides}
 use Rattle.std.proofs.lemmas.List.{take-append-drop}
 use Rattle.std.proofs.Math.Seq.{drop-append_seam}
 use Rattle.c_language.specs.Words.{Bytes}
 use Rattle.c_language.specs.Scopes.{Meaning, Entry, found_in}
 use Rattle.c_language.specs.declared.expr_type.ExprType.{ExprType}
+use Rattle.c_language.proofs.Options.{none_there, some_same}
+use Rattle.c_language.proofs.Tests.{false_true}
+use Rattle.c_language.proofs.Lists.{same_names}
 use Rattle.c_scope_laws.specs.Agreement.{moved_meaning, IsVariable}
 use Rattle.projection.specs.Kept.{Kept, rank}
 use Rattle.c_scope_laws.specs.Thinning.{stays, found, IsKept}
 use Rattle.c_scope_laws.specs.Following.{moved_entry, kept_more, kept_entries}
 use Rattle.c_scope_laws.proofs.Meanings.{function_variable}
-use Rattle.c_scope_laws.proofs.Options.{none_there, some_same, false_true}
-
--- texts that are equal by the test are equal
-pub text_is : (w text : Bytes) → bytes_eq w text ≡ true → w ≡ text
-text_is w text h = (bytes_eq-Decides w text).0 h
 
 no_variable : {A : Type 0} {id : ℕ} {t : Option ExprType} → ◌≡◌ {A = Option Meaning} (Some Meaning.Function) (Some (Meaning.Variable id t)) → A
 no_variable h = function_variable (some_same h)
@@ -73,7 +70,7 @@ module _ (k : Kept) where
           → IsVariable (meaning_of (found x (kept_more k (stays k e.name e.meaning) e (kept_entries k rest)))) → IsVariable (meaning_of (pick b e (found x rest)))
       by_name true same (Meaning.Variable id t) means later h = (id, t, ap Some means)
       by_name true same Meaning.Function means later h =
-          let name = text_is x e.name same in
+          let name = same_names x e.name same in
           let function : k.function e.name ≡ true = ap k.function (sym name) ∙ is in
           let kept : stays k e.name e.meaning ≡ true = ap (stays k e.name) means ∙ function in
           let found_here : found_in x (kept_more k (stays k e.name e.meaning) e (kept_entries k rest)) ≡ Some (moved_meaning (rank k.variable) e.meaning) =
@@ -97,7 +94,7 @@ module _ (k : Kept) where
       by_name : (b : Bool) → bytes_eq x e.name ≡ b → (found_in x rest ≡ Some Meaning.Function → found_in x (kept_entries k rest) ≡ Some Meaning.Function)
           → meaning_of (pick b e (found x rest)) ≡ Some Meaning.Function → found_in x (kept_more k (stays k e.name e.meaning) e (kept_entries k rest)) ≡ Some Meaning.Function
       by_name true same later h =
-          let name = text_is x e.name same in
+          let name = same_names x e.name same in
           let means : e.meaning ≡ Meaning.Function = some_same h in
           let kept : stays k e.name e.meaning ≡ true = ap (stays k e.name) means ∙ ap k.function (sym name) ∙ is in
           ap (λ (b : Bool). found_in x (kept_more k b e (kept_entries k rest))) kept ∙ ap (λ (b : Bool). meaning_of (pick b (moved_entry k e) (found x (kept_entries k rest)))) same

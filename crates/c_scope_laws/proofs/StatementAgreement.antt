@@ -1,6 +1,7 @@
 -- Statements without parts have the same trees but for numbers, at places that agree on their names.
 use Rattle.std.proofs.Common.{◌≡◌, ℕ, List, [], ◌∷◌, ◌++◌, map, Bool, true, false, Option, Some, None, codes, refl, sym, ap, ap₂, subst, ◌∙◌}
 use Rattle.std.specs.Prelude.{option_map, option_and_then, if◌then◌else◌, bytes_eq, Contains, ℤ}
+use Rattle.std.proofs.lemmas.List.Elements.{Contains-append_left, Contains-append_right}
 use Rattle.c_arith.specs.declared.int_type.IntType.{IntType}
 use Rattle.c_arith.specs.declared.operators.BinaryOp.{BinaryOp}
 use Rattle.c_arith.specs.IntType.{convert, promote}
@@ -44,10 +45,11 @@ use Rattle.c_language.specs.Phrases.{InBlock, Part, Begins, Assigns, Bumps, Call
 use Rattle.c_language.specs.Uses.{init_exprs, target_exprs, arg_exprs, counts, sizes, cases, if_given, expressions, holds}
 use Rattle.c_language.specs.ProgramOf.{collected, optional, ctype, ctype_if, expr_of, exprs_of, init_of, declaration_id, target_tree, arg_tree, args_tree, only_tree, print_tree, invoke_tree, call_tree, size_tree, amount_tree, heap_tree, label_tree, switch_type, ArmTree, tree_step, variable_number}
 use Rattle.c_language.specs.declared.expr_type.Operand.{Operand}
+use Rattle.c_language.proofs.Options.{none_there, some_same}
+use Rattle.c_language.proofs.Lists.{contains_first, contains_later}
 use Rattle.c_scope_laws.specs.Agreement.{Names, NamesFunction, in_expression, measured, SameOutside, Agree, TreesAgree, simple_part, simple_scope}
 use Rattle.projection.specs.Renumbering.{Numbers, renamed, renamed_init, renamed_target, renamed_size, renamed_amount, renamed_label, renumbered}
-use Rattle.c_scope_laws.proofs.Trees.{first_in, later_in, in_left, in_right}
-use Rattle.c_scope_laws.proofs.Options.{map_turns, both_turns, then_turns, collected_turns, none_there, some_same}
+use Rattle.c_scope_laws.proofs.Options.{map_turns, both_turns, then_turns, collected_turns}
 use Rattle.c_scope_laws.proofs.Outside.{ctypes_same}
 use Rattle.c_scope_laws.proofs.ExprAgreement.{Covers, operands_same, numbers_same, exprs_same}
 use Rattle.c_scope_laws.proofs.RenumberingLemmas.{renumbered-Declare, renumbered-Assign, renumbered-Bump, renumbered-Invoke, renumbered-Fetch, renumbered-Write, renumbered-Print, renumbered-Heap, renumbered-Release, renumbered-Return}
@@ -69,10 +71,10 @@ module _ (f : ℕ → ℕ) (named : Bytes → Type 0) (raw other : RawProgram) (
   tree a c = exprs_same f named raw other scope next like agree a c
 
   first_tree : (a : RawExpr) (rest : List RawExpr) → CoversAll named (a ∷ rest) → expr_of other next a ≡ option_map (renamed f) (expr_of raw scope a)
-  first_tree a rest c = tree a (c a (first_in a rest))
+  first_tree a rest c = tree a (c a (contains_first a rest))
 
   pub rest_covered : (a : RawExpr) (rest : List RawExpr) → CoversAll named (a ∷ rest) → CoversAll named rest
-  rest_covered a rest c b k = c b (later_in a b rest k)
+  rest_covered a rest c b k = c b (contains_later a b rest k)
 
   -- ---- lists of expressions
 
@@ -125,7 +127,7 @@ module _ (f : ℕ → ℕ) (named : Bytes → Type 0) (raw other : RawProgram) (
       by_type None = refl
       by_type (Some x) = refl
   size_same (size.Pointee x closed) c =
-      ap (option_map (λ (n : ℕ). measure.Pointee n closed)) (numbers_same f named raw other scope next like agree x (c x closed (first_in _ [])))
+      ap (option_map (λ (n : ℕ). measure.Pointee n closed)) (numbers_same f named raw other scope next like agree x (c x closed (contains_first _ [])))
       ∙ map_turns f (renamed_size f) (λ (n : ℕ). measure.Pointee n closed) (λ (n : ℕ). measure.Pointee n closed) (λ n. refl) (variable_number (meaning_in scope x))
 
   pub amounts_same : (n : RawAmount) → CoversAll named (counts n) → CoversSizes named (sizes n) → amount_tree other next n ≡ option_map (renamed_amount f) (amount_tree raw scope n)
@@ -242,10 +244,10 @@ pub part_covers : {named : Bytes → Type 0} (part : Part) → ((x : Bytes) → 
 part_covers part h a c x n = h x (in_expression (holds c n))
 
 pub left_covered : {named : Bytes → Type 0} (xs ys : List RawExpr) → CoversAll named (xs ++ ys) → CoversAll named xs
-left_covered xs ys h a c = h a (in_left xs ys a c)
+left_covered xs ys h a c = h a (Contains-append_left xs ys a c)
 
 pub right_covered : {named : Bytes → Type 0} (xs ys : List RawExpr) → CoversAll named (xs ++ ys) → CoversAll named ys
-right_covered xs ys h a c = h a (in_right xs ys a c)
+right_covered xs ys h a c = h a (Contains-append_right xs ys a c)
 
 -- the scope of a target that stands at a place is that place's
 target_place : {f : ℕ → ℕ} {named : Bytes → Type 0} (raw other : RawProgram) (scope next : Scope) (to : RawTarget)
@@ -275,14 +277,14 @@ module _ (ns : Numbers) (named functions : Bytes → Type 0) (raw other : RawPro
   assign_fits : (l : ℕ) (left : RawExpr) (op : Option BinaryOp) (right : RawExpr) → Agree ns.variable named scope next → CoversAll named (left ∷ (right ∷ [])) → Fits (RawStatement-F.Assign l left op right)
   assign_fits l left op right agree c =
       ap₂ (λ (a b : Option Expr). both (λ (x y : Expr). s.Assign next.statements l x op y) a b)
-      (exprs_same ns.variable named raw other scope next fit.outside agree left (c left (first_in left (right ∷ []))))
-      (exprs_same ns.variable named raw other scope next fit.outside agree right (c right (later_in left right (right ∷ []) (first_in right []))))
+      (exprs_same ns.variable named raw other scope next fit.outside agree left (c left (contains_first left (right ∷ []))))
+      (exprs_same ns.variable named raw other scope next fit.outside agree right (c right (contains_later left right (right ∷ []) (contains_first right []))))
       ∙ both_turns (renamed ns.variable) (renamed ns.variable) (renumbered ns) (λ (x y : Expr). s.Assign scope.statements l x op y) (λ (x y : Expr). s.Assign next.statements l x op y)
       (λ x y. ap (λ (n : ℕ). s.Assign n l (renamed ns.variable x) op (renamed ns.variable y)) fit.statements ∙ sym (renumbered-Assign ns scope.statements l x op y)) (expr_of raw scope left) (expr_of raw scope right)
 
   bump_fits : (l : ℕ) (left : RawExpr) (up before : Bool) → Agree ns.variable named scope next → CoversAll named (left ∷ []) → Fits (RawStatement-F.Bump l left up before)
   bump_fits l left up before agree c =
-      ap (option_map (λ (a : Expr). s.Bump next.statements l a up before)) (exprs_same ns.variable named raw other scope next fit.outside agree left (c left (first_in left [])))
+      ap (option_map (λ (a : Expr). s.Bump next.statements l a up before)) (exprs_same ns.variable named raw other scope next fit.outside agree left (c left (contains_first left [])))
       ∙ map_turns (renamed ns.variable) (renumbered ns) (λ (a : Expr). s.Bump scope.statements l a up before) (λ (a : Expr). s.Bump next.statements l a up before)
       (λ a. ap (λ (n : ℕ). s.Bump n l (renamed ns.variable a) up before) fit.statements ∙ sym (renumbered-Bump ns scope.statements l a up before)) (expr_of raw scope left)
 

@@ -3,6 +3,7 @@ use Rattle.std.proofs.Common.{◌≡◌, ℕ, List, [], ◌∷◌, ◌++◌, map
 use Rattle.c_tree.specs.declared.raw.expr.RawExpr.{RawExpr}
 use Rattle.c_tree.specs.declared.raw.expr.RawExpr.TheVariants as e
 use Rattle.std.specs.Prelude.{decimal}
+use Rattle.std.proofs.lemmas.List.Elements.{Contains-append_left, Contains-append_right}
 use Rattle.c_tree.specs.declared.raw.expr.RawLength.TheVariants.{Written, Listed}
 use Rattle.c_tree.specs.declared.raw.expr.RawType.{RawType, ind-RawType, roll-RawType, map-RawType, fold-roll-RawType}
 use Rattle.c_tree.specs.declared.raw.expr.RawType.TheOpen.{RawType-F}
@@ -23,21 +24,21 @@ use Rattle.c_tree.specs.declared.raw.statement.RawStatement.TheVariants as s
 use Rattle.c_tree.specs.declared.raw.statement.RawArm.{RawArm, roll-RawArm, map-RawArm, fold-roll-RawArm}
 use Rattle.c_language.specs.Words.{Bytes}
 use Rattle.c_language.specs.DeclaredTypes.{item_count}
-use Rattle.c_scope_laws.proofs.PhraseForms.{scoped_of_arm-arm}
 use Rattle.c_tree.specs.declared.raw.statement.RawStatement.TheViews.{out-roll-RawStatement}
-use Rattle.c_scope_laws.proofs.Trees.{first_in, later_in, in_left, in_right}
 use Rattle.c_language.specs.Rules.{Breaks}
 use Rattle.c_language.specs.CallRules.{without_result, MisusesResult}
 use Rattle.c_language.specs.Scopes.{Scope, Scoped, with_variable, opened, numbered, in_order, after_all, after_block, part_gives, after_part, scope_of_test, scope_of_body}
 use Rattle.c_language.specs.Phrases.{Phrase, Phrases, phrase, joined_at, at_stand, InArm, InFor, phrases_of_arms, target_phrases, phrases_step, scoped_step, scoped_arm, body_phrases, Stand, InBlock, Part, Assigns, Bumps, Calls, Allocates, Returns, Switches, ArmText, scoped, scoped_of_arm, Tests}
 use Rattle.c_language.specs.Uses.{is_library_function, is_one_of}
+use Rattle.c_language.proofs.ScopedForms.{scoped_of_arm-arm}
+use Rattle.c_language.proofs.Tests.{false_true}
+use Rattle.c_language.proofs.Lists.{contains_first, contains_later}
+use Rattle.c_language.proofs.ScopesAfter.{statement_after, statements_after, block_scope_after, part_scope_after}
 use Rattle.c_scope_laws.specs.Agreement.{SameOutside, IsCount, is_written, written_step, CountWritten, simple_part}
 use Rattle.projection.specs.Kept.{Kept}
 use Rattle.c_scope_laws.specs.Thinning.{NamesStay, BeginIs, StaysWhole, LabelsStay, GivesResult, target_declares, declares, block_after, part_scope, body_scope, after_list, arm, arm_labels, Thins, ThinAll, ThinsPart, ThinArms, ArmsGo}
 use Rattle.c_scope_laws.specs.ThinnedBodies.{KeepRules, Need, AreMet, Left, ArmLeft, these, strays, gone, counted_type_step, counted_type, counted_var, count_needs, only, beyond, part_left, part_needs, part_gone, alone_one, alone_all, alone, arms_left, arms_labels, arms_needs, arms_gone, block_of, plain, declared, call_placed, call_declared, heap_declared, if_left, while_left, do_left, for_left, switch_left, result_kept, declare_left, call_left, heap_left, block_left, left_step, left_scoped, left_arm_step, left, left_arm, body_left}
-use Rattle.c_scope_laws.proofs.Options.{false_true}
 use Rattle.c_scope_laws.proofs.CountedLengths.{initialiser_drops}
-use Rattle.c_scope_laws.proofs.ScopesAfter.{statement_after, statements_after, block_scope_after, part_scope_after}
 
 -- ---- lengths
 
@@ -91,13 +92,13 @@ loses_result false result h = (refl, h)
 -- ---- rules
 
 pub later_keep : (raw : RawProgram) (p : Phrase) (ps : Phrases) → KeepRules raw (p ∷ ps) → KeepRules raw ps
-later_keep raw p ps h n q c b = h n q (later_in p q ps c) b
+later_keep raw p ps h n q c b = h n q (contains_later p q ps c) b
 
 pub left_keep : (raw : RawProgram) (ps qs : Phrases) → KeepRules raw (ps ++ qs) → KeepRules raw ps
-left_keep raw ps qs h n q c b = h n q (in_left ps qs q c) b
+left_keep raw ps qs h n q c b = h n q (Contains-append_left ps qs q c) b
 
 pub right_keep : (raw : RawProgram) (ps qs : Phrases) → KeepRules raw (ps ++ qs) → KeepRules raw qs
-right_keep raw ps qs h n q c b = h n q (in_right ps qs q c) b
+right_keep raw ps qs h n q c b = h n q (Contains-append_right ps qs q c) b
 
 -- what is declared with a call is declared with one that gives a result
 result_given : (raw : RawProgram) (l : ℕ) (scope : Scope) (stand : Stand) (v : RawVar) (f : Bytes) (args : List RawArg)
@@ -106,7 +107,7 @@ result_given raw l scope stand v f args h = by_name (is_one_of without_result f)
   where
     by_name : (b : Bool) → is_one_of without_result f ≡ b → b ≡ false
     by_name true q =
-        absurd (h 17 (phrase l scope (Calls stand (target.Declared v) f args)) (first_in (phrase l scope (Calls stand (target.Declared v) f args)) [])
+        absurd (h 17 (phrase l scope (Calls stand (target.Declared v) f args)) (contains_first (phrase l scope (Calls stand (target.Declared v) f args)) [])
         (Breaks.result (MisusesResult.library (λ e. false_true (sym (ap target_declares e))) q)))
     by_name false q = refl
 

@@ -21,8 +21,8 @@ use Rattle.c_scope_laws.specs.ThinTexts.{ItemsThin, IsThinner}
 use Rattle.c_scope_laws.specs.ThinnedBodies.{KeepRules, body_left, Left, ArmLeft, plain, left_step, left_scoped, left_arm_step, left}
 use Rattle.c_scope_laws.specs.ThinnedTexts.{LastStays, chosen, items_left, VariableStays, ItemIsClosed, ItemsAreClosed, thinned_text, IsClosed}
 use Rattle.c_language.specs.CallRules.{EndsWithValue}
-use Rattle.c_scope_laws.proofs.Options.{false_true}
-use Rattle.c_scope_laws.proofs.ScopesAfter.{statement_after}
+use Rattle.c_language.proofs.Tests.{false_true}
+use Rattle.c_language.proofs.ScopesAfter.{statement_after}
 use Rattle.c_scope_laws.proofs.ThinnedBodies.{later_keep, left_keep, right_keep, body_stays, body_goes}
 
 -- ---- the same struct types and headers

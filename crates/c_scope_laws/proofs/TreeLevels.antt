@@ -8,10 +8,10 @@ use Rattle.c_tree.specs.declared.statement.Statement.{Statement}
 use Rattle.c_tree.specs.declared.statement.Statement.TheVariants as s
 use Rattle.c_language.specs.ConstantEvaluation.{both}
 use Rattle.c_language.specs.ProgramOf.{collected, for_tree}
+use Rattle.c_language.proofs.Options.{none_there, some_same}
 use Rattle.projection.specs.Renumbering.{renamed}
 use Rattle.projection.specs.Kept.{Kept, rank}
 use Rattle.projection.specs.Projection.{if_so, part_of, alone, block_of, projected, projected_arm, projected_all}
-use Rattle.c_scope_laws.proofs.Options.{none_there, some_same}
 use Rattle.c_scope_laws.proofs.TreeForms.{projected-If, projected-While, projected-Do, projected-For, projected-Switch, projected-Block}
 
 -- a choice that is made
@@ -20,10 +20,6 @@ chosen xs ys h = ap (λ (c : Bool). if_so c xs ys) h
 
 pub unchosen : {A : Type 0} {b : Bool} (xs ys : List A) → b ≡ false → if_so b xs ys ≡ ys
 unchosen xs ys h = ap (λ (c : Bool). if_so c xs ys) h
-
-abbrev IsCons : {A : Type 0} → List A → Type 0
-IsCons [] = ⊥
-IsCons (x ∷ xs) = Unit {0}
 
 -- one statement that is there
 pub record IsOne (o : Option Statement) (ws : List Statement) : Type 0 where

@@ -18,13 +18,18 @@ use Rattle.c_language.specs.Scopes.{Scope}
 use Rattle.c_language.specs.CallRules.{format_in, later_args, without_result}
 use Rattle.c_language.specs.Uses.{is_library_function, is_one_of}
 use Rattle.c_language.specs.ProgramOf.{args_tree, only_tree, print_tree, invoke_tree, call_tree}
+use Rattle.c_language.proofs.Options.{none_there, some_same}
+use Rattle.c_language.proofs.Tests.{false_true}
 use Rattle.projection.specs.Renumbering.{Numbers, renamed, renumbered}
 use Rattle.projection.specs.Kept.{Kept, rank}
-use Rattle.projection.specs.Projection.{numbers_of, bare_target, projected_call, projected}
-use Rattle.c_scope_laws.proofs.Options.{none_there, some_same, false_true}
+use Rattle.projection.specs.Projection.{bare_target, projected_call, projected}
 use Rattle.c_scope_laws.proofs.RenumberingLemmas.{renumbered-Assign, renumbered-Bump, renumbered-Invoke, renumbered-Fetch, renumbered-Write, renumbered-Print, renumbered-Heap, renumbered-Release, renumbered-Return}
 use Rattle.c_scope_laws.proofs.TreeForms.{projected-Assign, projected-Bump, projected-Invoke, projected-Fetch, projected-Write, projected-Print, projected-Heap, projected-Release, projected-Return}
 use Rattle.c_scope_laws.proofs.TreeLevels.{chosen, unchosen}
+
+-- the numbers of what is kept, where functions have these
+abbrev pub numbers_of : Kept → (ℕ → ℕ) → Numbers
+numbers_of k functions = record { variable = rank k.variable; statement = rank k.statement; function = functions }
 
 -- ---- calls, by what is called
 

@@ -36,13 +36,18 @@ use Rattle.c_language.specs.Phrases.{InFor, InArm, InBlock, Part, Begins, Calls,
 use Rattle.c_language.specs.Uses.{cases, is_library_function, is_one_of}
 use Rattle.c_language.specs.CallRules.{without_result}
 use Rattle.c_language.specs.ProgramOf.{for_tree, collected, optional, ctype_if, expr_of, init_of, declaration_id, target_tree, args_tree, call_tree, amount_tree, heap_tree, label_tree, switch_type, arm_tree, ArmTree, arm_tree_step, block_tree, at_type, part_tree, tree_step, treed_step, treed}
+use Rattle.c_language.proofs.TreedForms.{treed_arm, treed-Declare, treed-Call, treed-Heap, treed-If, treed-While, treed-Do, treed-For, treed-Switch, treed-Block, treed_arm-arm}
+use Rattle.c_language.proofs.Options.{none_there, some_same}
+use Rattle.c_language.proofs.Tests.{false_true}
+use Rattle.c_language.proofs.Lists.{contains_first, contains_later}
+use Rattle.c_language.proofs.TreeScopes.{after_same, list_after, block_after_same, part_after}
 use Rattle.c_scope_laws.specs.Agreement.{NamedAmong, Names, NamesFunction, Agree, TreesAgree, SameVariable, there, simple_part}
 use Rattle.projection.specs.Renumbering.{Numbers, renamed, renamed_label, renumbered}
 use Rattle.projection.specs.Kept.{Kept, rank}
 use Rattle.c_scope_laws.specs.Thinning.{LabelsStay, arm_labels, NamesStay, BeginIs, declares, StaysWhole, GivesResult, arm, Thins, ThinAll, ThinsPart, ThinArms}
-use Rattle.projection.specs.Projection.{declares_target, is_declaring, numbers_of, first_of, part_of, bare, bare_target, projected, projected_arm, projected_all}
-use Rattle.c_scope_laws.proofs.Options.{collected_turns, none_there, some_same, false_true}
-use Rattle.c_scope_laws.proofs.Trees.{in_one, later_in, first_in}
+use Rattle.projection.specs.Projection.{declares_target, is_declaring, first_of, part_of, bare, bare_target, projected, projected_arm, projected_all}
+use Rattle.c_scope_laws.proofs.Options.{collected_turns}
+use Rattle.c_scope_laws.proofs.Trees.{in_one}
 use Rattle.c_scope_laws.proofs.ExprAgreement.{exprs_same}
 use Rattle.c_scope_laws.proofs.StatementAgreement.{CoversAll, part_covers, args_same, switch_types_same, labels_same, simple_fits}
 use Rattle.c_scope_laws.specs.Following.{TextsAgree, Follows}
@@ -50,10 +55,9 @@ use Rattle.c_scope_laws.proofs.Following.{meaning_kept, numbered_kept, numbered_
 use Rattle.c_scope_laws.proofs.Outside.{variable_same}
 use Rattle.c_scope_laws.proofs.RenumberingLemmas.{renumbered-Declare}
 use Rattle.c_scope_laws.proofs.Walking.{part_walks, at_number, walks, all_walk}
-use Rattle.c_scope_laws.proofs.TreeForms.{projected_arm-arm, declaring-Declare, declaring-Invoke, declaring-Fetch, declaring-Write, declaring-Print, declaring-Heap, declaring-Release, declaring-Assign, declaring-Bump, declaring-Return, treed_arm, treed-Declare, treed-Call, treed-Heap, treed-If, treed-While, treed-Do, treed-For, treed-Switch, treed-Block, treed_arm-arm, projected-Declare}
-use Rattle.c_scope_laws.proofs.TreeScopes.{after_same, list_after, block_after_same, part_after}
+use Rattle.c_scope_laws.proofs.TreeForms.{projected_arm-arm, declaring-Declare, declaring-Invoke, declaring-Fetch, declaring-Write, declaring-Print, declaring-Heap, declaring-Release, declaring-Assign, declaring-Bump, declaring-Return, projected-Declare}
 use Rattle.c_scope_laws.proofs.TreeLevels.{chosen, unchosen, one_there, collect_one, ListStays, settled, if_stays, while_stays, do_stays, for_stays, switch_stays, if_gone, while_gone, do_gone, switch_gone, for_leaves, block_stays, block_gone}
-use Rattle.c_scope_laws.proofs.TreeSimple.{call_by, invoked, Whole, Gone, assign_whole, bump_whole, heap_whole, return_whole, invoke_whole, invoke_none, assign_gone, bump_gone, return_gone, heap_gone, call_whole, call_gone, call_loses}
+use Rattle.c_scope_laws.proofs.TreeSimple.{call_by, invoked, Whole, Gone, assign_whole, bump_whole, heap_whole, return_whole, invoke_whole, invoke_none, assign_gone, bump_gone, return_gone, heap_gone, call_whole, call_gone, call_loses, numbers_of}
 
 -- ---- facts about trees that are made of options
 
@@ -110,7 +114,7 @@ module _ (k : Kept) (raw other : RawProgram) (texts : TextsAgree k raw other) (g
   fits c stay = record { outside = texts.outside; variables = c.variables; statements = c.statements; heads = λ x n. ids x (stay.functions x n) }
 
   test_same : {scope next : Scope} (a : RawExpr) → Comes scope next → NamesStay k scope (Tests a) → expr_of other next a ≡ option_map (renamed f) (expr_of raw scope a)
-  test_same {scope} {next} a c stay = exprs_same f (Names (Tests a)) raw other scope next texts.outside (agrees c stay) a (part_covers (Tests a) (λ x n. n) a (first_in a []))
+  test_same {scope} {next} a c stay = exprs_same f (Names (Tests a)) raw other scope next texts.outside (agrees c stay) a (part_covers (Tests a) (λ x n. n) a (contains_first a []))
 
   abbrev opened_tree : RawProgram → RawStatement-F RawStatement RawArm → RawStatement-F (Scoped (Option Statement)) (Scoped ArmTree)
   opened_tree text x = map-RawStatement RawStatement RawArm (Scoped (Option Statement)) (Scoped ArmTree) (treed text) (treed_arm text) x
@@ -232,9 +236,6 @@ module _ (k : Kept) (raw other : RawProgram) (texts : TextsAgree k raw other) (g
   module _ {scope next : Scope} (l : ℕ) (v : RawVar) (c : Comes scope next) where
     abbrev within : Scope
     within = with_variable raw v init.None scope
-
-    abbrev beside : Scope
-    beside = with_variable other v init.None next
 
     within_fits : {part : Part} → NamesStay k within part → TreesAgree ns (NamesFunction part) raw other scope next
     within_fits stay = record { outside = texts.outside; variables = c.variables; statements = c.statements; heads = λ x n. ids x (stay.functions x n) }
@@ -372,11 +373,11 @@ module _ (k : Kept) (raw other : RawProgram) (texts : TextsAgree k raw other) (g
       agree = record { names = λ x n. meaning_kept k raw other x c (stay x n); structs = c.structs }
 
       head_covered : (a : RawLabel) (rest : List RawLabel) → ((b : RawExpr) → Contains (cases (a ∷ rest)) b → Contains (cases all) b) → CoversAll (NamedAmong (cases all)) (cases (a ∷ []))
-      head_covered (label.Case b) rest h d p x n = (d, h d (subst (λ (q : RawExpr). Contains (b ∷ cases rest) q) (in_one b d p) (first_in b (cases rest))), n)
+      head_covered (label.Case b) rest h d p x n = (d, h d (subst (λ (q : RawExpr). Contains (b ∷ cases rest) q) (in_one b d p) (contains_first b (cases rest))), n)
       head_covered label.Default rest h d (j, within, is) x n = absurd (omega (arith, within))
 
       behind : (a : RawLabel) (rest : List RawLabel) → ((b : RawExpr) → Contains (cases (a ∷ rest)) b → Contains (cases all) b) → (b : RawExpr) → Contains (cases rest) b → Contains (cases all) b
-      behind (label.Case d) rest h b p = h b (later_in d b (cases rest) p)
+      behind (label.Case d) rest h b p = h b (contains_later d b (cases rest) p)
       behind label.Default rest h b p = h b p
 
       each : (some : List RawLabel) → ((b : RawExpr) → Contains (cases some) b → Contains (cases all) b) → map (label_tree other next i) some ≡ map (option_map (renamed_label f)) (map (label_tree raw scope i) some)
@@ -563,8 +564,8 @@ module _ (k : Kept) (raw other : RawProgram) (texts : TextsAgree k raw other) (g
         one_result next (treed-roll other x) (collect_one r.there ∙ ap Some (sym (leaves ∙ unchosen (t.Block l (r.value ∷ []) ∷ []) (r.value ∷ []) (simple_declaring other next x part is none r.value r.there))))
     tree_stays {scope} (Thins.switch {l} {a} {arms} {others} is stay d) next c y at =
         one_result next (treed-Switch other l a others) (switch_stays k g scope.statements next.statements l c.statements (expr_of raw scope a) (switch_type raw scope a) _ (expr_of other next a) (switch_type other next a) _ is
-        (exprs_same f (Names (Switches a (arm_labels raw arms (opened (numbered scope))))) raw other scope next texts.outside (agrees c stay) a (part_covers _ (λ x n. n) a (first_in a _)))
-        (switch_types_same f (Names (Switches a (arm_labels raw arms (opened (numbered scope))))) raw other scope next texts.outside (agrees c stay) a (part_covers _ (λ x n. n) a (first_in a _)))
+        (exprs_same f (Names (Switches a (arm_labels raw arms (opened (numbered scope))))) raw other scope next texts.outside (agrees c stay) a (part_covers _ (λ x n. n) a (contains_first a _)))
+        (switch_types_same f (Names (Switches a (arm_labels raw arms (opened (numbered scope))))) raw other scope next texts.outside (agrees c stay) a (part_covers _ (λ x n. n) a (contains_first a _)))
         (arms_stay d (opened (numbered next)) (follows_opened k raw other (numbered_kept k raw other is c))) y (given (treed-Switch raw l a arms) scope at))
     tree_stays {scope} (Thins.switch_goes {l} {a} {arms} out d) next c y at =
         switch_gone k g scope.statements next.statements l c.statements (expr_of raw scope a) (switch_type raw scope a) _ out y (given (treed-Switch raw l a arms) scope at)

@@ -1,5 +1,5 @@
 -- The variables that phrases declare, and those that stay.
-use Rattle.std.proofs.Common.{◌≡◌, ℕ, suc, ◌+◌, List, [], ◌∷◌, ◌++◌, length, Bool, true, false, Option, Some, None, option_map, refl, sym, ap, ap₂, subst, ◌∙◌, arith, append_assoc, length-append}
+use Rattle.std.proofs.Common.{◌≡◌, ℕ, suc, ◌+◌, List, [], ◌∷◌, ◌++◌, length, Bool, true, false, Option, Some, None, option_map, refl, sym, ap, ap₂, subst, ◌∙◌, arith, length-append}
 use Rattle.c_tree.specs.declared.types.CType.{CType}
 use Rattle.c_tree.specs.declared.program.Var.{Var}
 use Rattle.c_tree.specs.declared.raw.expr.RawVar.{RawVar}
@@ -9,17 +9,12 @@ use Rattle.c_language.specs.DeclaredTypes.{item_count}
 use Rattle.c_language.specs.Scopes.{Scope}
 use Rattle.c_language.specs.Phrases.{Stand, Part, Declares, Phrases, phrase}
 use Rattle.c_language.specs.ProgramOf.{collected, ctype_with, is_static_stand, is_parameter_stand, variable_of, declared_by, variables_in}
+use Rattle.c_language.proofs.Options.{none_there, some_same}
+use Rattle.c_language.proofs.PhraseLists.{variables-append}
 use Rattle.c_scope_laws.specs.Agreement.{SameVariable, StandsFor, there, out_of_for}
 use Rattle.projection.specs.Kept.{Kept}
 use Rattle.projection.specs.Projection.{if_so, projected_var, projected_vars}
-use Rattle.c_scope_laws.proofs.Options.{none_there, some_same}
 use Rattle.c_scope_laws.proofs.TreeLevels.{chosen, unchosen}
-
-variables-append : (raw : RawProgram) (ps qs : Phrases) → variables_in raw (ps ++ qs) ≡ variables_in raw ps ++ variables_in raw qs
-variables-append raw [] qs = refl
-variables-append raw (p ∷ ps) qs =
-    ap (λ (vs : List (Option Var)). declared_by raw p.line p.scope p.part ++ vs) (variables-append raw ps qs)
-    ∙ sym (append_assoc (declared_by raw p.line p.scope p.part) (variables_in raw ps) (variables_in raw qs))
 
 -- two lists that are there, one after the other
 record Split {A : Type 0} (xs ys : List (Option A)) (zs : List A) : Type 0 where

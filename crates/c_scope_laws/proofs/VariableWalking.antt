@@ -12,14 +12,15 @@ use Rattle.c_tree.specs.declared.raw.statement.RawArm.{RawArm}
 use Rattle.c_language.specs.Scopes.{Scope, Scoped, with_variable, opened, numbered, begun, in_order, after_all, after_block, part_gives, after_part, scope_of_test, scope_of_body}
 use Rattle.c_language.specs.Phrases.{Stand, InBlock, InArm, InFor, Part, Declares, Begins, Assigns, Bumps, Calls, Allocates, Tests, Switches, Returns, Phrases, phrase, begun_phrases, joined_at, at_stand, ArmText, labels_of, phrases_of_arms, scoped_step, scoped_arm, scoped, scoped_of_arm}
 use Rattle.c_language.specs.ProgramOf.{declared_by}
+use Rattle.c_language.proofs.ScopedForms.{scoped-Declare, scoped-Call, scoped-Heap, scoped-If, scoped-While, scoped-Do, scoped-For, scoped-Switch, scoped-Block, scoped_of_arm-arm}
+use Rattle.c_language.proofs.Options.{none_there}
+use Rattle.c_language.proofs.Tests.{false_true}
 use Rattle.c_scope_laws.specs.Agreement.{SameVariable, StandsFor, there, out_of_for, simple_part}
 use Rattle.projection.specs.Kept.{Kept}
 use Rattle.c_scope_laws.specs.Thinning.{declares, arm, Thins, ThinAll, ThinsPart, ThinArms, ArmsGo}
 use Rattle.c_scope_laws.specs.Following.{TextsAgree, Follows}
-use Rattle.c_scope_laws.proofs.Options.{none_there, false_true}
 use Rattle.c_scope_laws.proofs.Outside.{variable_same}
 use Rattle.c_scope_laws.proofs.Following.{numbered_kept, numbered_gone, follows_opened, follows_closed, follows_gone}
-use Rattle.c_scope_laws.proofs.PhraseForms.{scoped-Declare, scoped-Call, scoped-Heap, scoped-If, scoped-While, scoped-Do, scoped-For, scoped-Switch, scoped-Block, scoped_of_arm-arm}
 use Rattle.c_scope_laws.proofs.Walking.{walks, all_walk, part_walks, joined-append, scoped-append, scoped-roll, simple_after}
 use Rattle.c_scope_laws.proofs.VariableLists.{VarsStay, no_vars, both_vars, more_none, less_none, no_variable, phrase_gone, variable_stays, variable_goes}
 

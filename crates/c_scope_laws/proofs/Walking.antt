@@ -18,14 +18,15 @@ use Rattle.c_language.specs.Words.{Bytes}
 use Rattle.c_language.specs.Scopes.{closed, Scope, Scoped, with_variable, opened, numbered, begun, in_order, after_all, after_block, part_gives, after_part, scope_of_test, scope_of_body}
 use Rattle.c_language.specs.Phrases.{Stand, InFile, InHead, InBlock, InArm, InFor, Part, Declares, Begins, Assigns, Bumps, Calls, Allocates, Tests, Switches, Returns, Phrases, phrase, begun_phrases, joined_at, at_stand, ArmText, labels_of, phrases_of_arms, scoped_step, scoped_arm, scoped, scoped_of_arm}
 use Rattle.c_language.specs.Uses.{holds}
+use Rattle.c_language.proofs.ScopedForms.{scoped-Declare, scoped-Call, scoped-Heap, scoped-If, scoped-While, scoped-Do, scoped-For, scoped-Switch, scoped-Block, scoped_of_arm-arm}
+use Rattle.c_language.proofs.Options.{none_there, some_same}
+use Rattle.c_language.proofs.Tests.{false_true}
 use Rattle.c_scope_laws.specs.Agreement.{Names, in_expression, NamesFunction, SameVariable, StandsFor, there, out_of_for, CallStandsFor, as_it_is, elsewhere, StoresLess, kept, lost, PartsAgree, simple_part}
 use Rattle.projection.specs.Kept.{Kept}
 use Rattle.c_scope_laws.specs.Thinning.{NamesStay, BeginIs, declares, arm, Thins, ThinAll, ThinsPart, ThinArms, ArmsGo}
-use Rattle.c_scope_laws.proofs.Options.{none_there, some_same, false_true}
 use Rattle.c_scope_laws.proofs.Outside.{variable_same}
 use Rattle.c_scope_laws.specs.Following.{TextsAgree, Follows}
 use Rattle.c_scope_laws.proofs.Following.{numbered_kept, numbered_gone, follows_opened, follows_closed, follows_gone, variable_kept, variable_gone, follows_numbered, places_agree, places_beside}
-use Rattle.c_scope_laws.proofs.PhraseForms.{scoped-Declare, scoped-Call, scoped-Heap, scoped-If, scoped-While, scoped-Do, scoped-For, scoped-Switch, scoped-Block, scoped_of_arm-arm}
 use Rattle.c_scope_laws.proofs.Counterparts.{AreCounterparts, none_stand, one_stands, both_stand, front_gone, rest_gone, no_more}
 
 -- a phrase names the same wherever it stands

@@ -15,10 +15,10 @@ use Rattle.c_language.specs.Words.{Bytes}
 use Rattle.c_language.specs.Scopes.{Scope, Scoped, outset, opened, numbered, in_order, after_block, scope_of_parameters, entered}
 use Rattle.c_language.specs.Phrases.{scoped, after_item}
 use Rattle.c_language.specs.Uses.{is_library_function}
+use Rattle.c_language.proofs.Tests.{false_true}
 use Rattle.c_scope_laws.specs.ThinTexts.{all_kept}
 use Rattle.c_scope_laws.specs.ThinnedBodies.{Need, AreMet, Left, ArmLeft, beyond, part_needs, arms_needs, block_of, result_kept, call_placed, call_declared, block_left, left_step, left_scoped, left_arm_step, left, left_arm, body_left}
 use Rattle.c_scope_laws.specs.ThinnedTexts.{LastStays, ItemsAreClosed, IsClosed}
-use Rattle.c_scope_laws.proofs.Options.{false_true}
 use Rattle.c_scope_laws.proofs.WholeTexts.{all_stay, labels_stay, params_whole}
 
 join_met : (a b : List Need) → AreMet all_kept a → AreMet all_kept b → AreMet all_kept (a ++ b)

@@ -1,5 +1,6 @@
 -- Where all is kept, a text without empty blocks is what stays of it.
-use Rattle.std.proofs.Common.{◌≡◌, ℕ, List, [], ◌∷◌, map, Bool, true, false, ◌&&◌, Option, Some, None, refl, sym, subst, ◌∙◌}
+use Rattle.std.proofs.Common.{◌≡◌, ℕ, List, [], ◌∷◌, map, Bool, true, Option, Some, None, refl, sym, subst, ◌∙◌}
+use Rattle.std.proofs.lemmas.Bool.{and_parts}
 use Rattle.c_tree.specs.declared.raw.program.RawInit.{RawInit}
 use Rattle.c_tree.specs.declared.raw.program.RawInit.TheVariants as init
 use Rattle.c_tree.specs.declared.raw.program.RawParam.{RawParam}
@@ -15,13 +16,9 @@ use Rattle.c_tree.specs.declared.raw.statement.RawArm.{RawArm, roll-RawArm, map-
 use Rattle.c_language.specs.Words.{Bytes}
 use Rattle.c_language.specs.Scopes.{Scope, Meaning, Entry, outset, with_parameter, opened, numbered}
 use Rattle.c_language.specs.Phrases.{InBlock, Part, Assigns, Bumps, Calls, Allocates, Returns}
+use Rattle.c_language.proofs.Tests.{false_true}
 use Rattle.c_scope_laws.specs.Thinning.{stays, found, IsKept, NamesStay, LabelsStay, BeginIs, block_after, part_scope, body_scope, after_list, arm, Thins, ThinAll, ThinsPart, ThinArms}
 use Rattle.c_scope_laws.specs.ThinTexts.{ParamStays, ParamsStay, ItemsThin, IsThinner, all_kept, all_true, is_cons, full_step, full_arm, is_full, full_item}
-use Rattle.c_scope_laws.proofs.Options.{false_true}
-
-both_true : (a b : Bool) → (a && b) ≡ true → (a ≡ true) × (b ≡ true)
-both_true true b h = (refl, h)
-both_true false b h = false_true h
 
 any_kept : (o : Option Entry) → IsKept all_kept o
 any_kept None = tt
@@ -73,12 +70,12 @@ module _ (raw : RawProgram) where
 
   lists : (xs : Statements) → all_true (map is_full (bare xs)) ≡ true → (scope : Scope) → ThinAll all_kept raw raw scope (bare xs) (bare xs)
   lists [] h scope = ThinAll.none
-  lists (x ∷ xs) h scope = let p = both_true (is_full x.0) _ h in ThinAll.more (x.1 p.0 scope) (lists xs p.1 _)
+  lists (x ∷ xs) h scope = let p = and_parts (is_full x.0) _ h in ThinAll.more (x.1 p.0 scope) (lists xs p.1 _)
 
   arms_stay : (xs : Arms) → all_true (map arm_full (bare_arms xs)) ≡ true → (scope : Scope) → ThinArms all_kept raw raw scope (bare_arms xs) (bare_arms xs)
   arms_stay [] h scope = ThinArms.no_arms
   arms_stay (x ∷ xs) h scope =
-      let p = both_true (arm_full x.0) _ h in
+      let p = and_parts (arm_full x.0) _ h in
       let w = x.1 p.0 scope in
       subst (λ (a : RawArm). ThinArms all_kept raw raw scope (a ∷ bare_arms xs) (a ∷ bare_arms xs)) (sym w.is) (ThinArms.arm_stays (labels_stay scope w.labels) w.stays (arms_stay xs p.1 (after_list raw w.body scope)))
 
@@ -106,25 +103,25 @@ module _ (raw : RawProgram) where
   of_layer (RawStatement-F.Heap l (target.Place a) cast n) h scope = Thins.simple (RawStatement-F.Heap l (target.Place a) cast n) (Allocates (target.Place a) cast n) refl refl refl tt all_stay
   of_layer (RawStatement-F.Heap l (target.Declared v) cast n) h scope = at_form (s.rolls-Heap l (target.Declared v) cast n) (Thins.heap refl refl all_stay all_stay)
   of_layer (RawStatement-F.If l a b c) h scope =
-      let p = both_true (all_true (map is_full (bare b))) _ h in
+      let p = and_parts (all_true (map is_full (bare b))) _ h in
       at_form (s.rolls-If l a (bare b) (bare c)) (Thins.conditional refl all_stay (lists b p.0 (opened (numbered scope))) (lists c p.1 (opened (block_after raw (bare b) (numbered scope)))))
   of_layer (RawStatement-F.While l a b) h scope = at_form (s.rolls-While l a (bare b)) (Thins.while_loop refl all_stay (lists b h (opened (numbered scope))))
   of_layer (RawStatement-F.Do l a b) h scope = at_form (s.rolls-Do l a (bare b)) (Thins.do_loop refl all_stay (lists b h (opened (numbered scope))))
   of_layer (RawStatement-F.For l None a None b) h scope = at_form (s.rolls-For l None a None (bare b)) (Thins.for_loop refl all_stay ThinsPart.missing ThinsPart.missing (lists b h (opened (body_scope raw None None scope))))
   of_layer (RawStatement-F.For l None a (Some k) b) h scope =
-      let p = both_true (is_full k.0) _ h in
+      let p = and_parts (is_full k.0) _ h in
       at_form (s.rolls-For l None a (Some k.0) (bare b)) (Thins.for_loop refl all_stay ThinsPart.missing (ThinsPart.part_stays (k.1 p.0 (part_scope raw None scope))) (lists b p.1 (opened (body_scope raw None (Some k.0) scope))))
   of_layer (RawStatement-F.For l (Some i) a None b) h scope =
-      let p = both_true (is_full i.0) _ h in
+      let p = and_parts (is_full i.0) _ h in
       at_form (s.rolls-For l (Some i.0) a None (bare b)) (Thins.for_loop refl all_stay (ThinsPart.part_stays (i.1 p.0 (opened (numbered scope)))) ThinsPart.missing (lists b p.1 (opened (body_scope raw (Some i.0) None scope))))
   of_layer (RawStatement-F.For l (Some i) a (Some k) b) h scope =
-      let p = both_true (is_full i.0) _ h in
-      let q = both_true (is_full k.0) _ p.1 in
+      let p = and_parts (is_full i.0) _ h in
+      let q = and_parts (is_full k.0) _ p.1 in
       at_form (s.rolls-For l (Some i.0) a (Some k.0) (bare b))
       (Thins.for_loop refl all_stay (ThinsPart.part_stays (i.1 p.0 (opened (numbered scope)))) (ThinsPart.part_stays (k.1 q.0 (part_scope raw (Some i.0) scope))) (lists b q.1 (opened (body_scope raw (Some i.0) (Some k.0) scope))))
   of_layer (RawStatement-F.Switch l a arms) h scope = at_form (s.rolls-Switch l a (bare_arms arms)) (Thins.switch refl all_stay (arms_stay arms h (opened (numbered scope))))
   of_layer (RawStatement-F.Block l b) h scope =
-      let p = both_true (is_cons (map is_full (bare b))) _ h in at_form (s.rolls-Block l (bare b)) (block_stays l b p.0 p.1 scope)
+      let p = and_parts (is_cons (map is_full (bare b))) _ h in at_form (s.rolls-Block l (bare b)) (block_stays l b p.0 p.1 scope)
   of_layer (RawStatement-F.Return l a) h scope = Thins.simple (RawStatement-F.Return l a) (Returns a) refl refl refl tt all_stay
 
   statement_layer : (y : Layer) → Whole (roll-RawStatement (shape y))
@@ -141,7 +138,7 @@ module _ (raw : RawProgram) where
 
   body_whole : (xs : List RawStatement) → all_true (map is_full xs) ≡ true → (scope : Scope) → ThinAll all_kept raw raw scope xs xs
   body_whole [] h scope = ThinAll.none
-  body_whole (x ∷ xs) h scope = let p = both_true (is_full x) _ h in ThinAll.more (statement_whole x p.0 scope) (body_whole xs p.1 _)
+  body_whole (x ∷ xs) h scope = let p = and_parts (is_full x) _ h in ThinAll.more (statement_whole x p.0 scope) (body_whole xs p.1 _)
 
   pub params_whole : (ps : List RawParam) (scope : Scope) → ParamsStay all_kept raw ps scope
   params_whole [] scope = tt
@@ -159,7 +156,7 @@ module _ (raw : RawProgram) where
   items_whole (Global l v i is_static ∷ xs) h scope = ItemsThin.global refl all_stay all_stay (items_whole xs h _)
   items_whole (Prototype l head ∷ xs) h scope = ItemsThin.prototype refl (items_whole xs h _)
   items_whole (Define l head body ∷ xs) h scope =
-      let p = both_true (all_true (map is_full body)) _ h in
+      let p = and_parts (all_true (map is_full body)) _ h in
       ItemsThin.define refl (params_whole head.params _) (body_whole body p.0 _) (λ other q. q) (items_whole xs p.1 _)
 
 pub whole : (raw : RawProgram) → all_true (map full_item raw.items) ≡ true → IsThinner all_kept raw raw

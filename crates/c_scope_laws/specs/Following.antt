@@ -1,9 +1,9 @@
 -- What is known where a text and a thinner one have come to the same place.
-use Rattle.std.specs.Prelude.{◌≡◌, ◌≤◌, ℕ, Bool, true, false, List, [], ◌∷◌, length, take, Option, Some, None, option_map, slice_get}
+use Rattle.std.specs.Prelude.{◌≡◌, ◌≤◌, ℕ, Bool, true, false, List, [], ◌∷◌, length, take, Option, Some, None, slice_get}
 use Rattle.c_tree.specs.declared.raw.program.RawHead.{RawHead}
 use Rattle.c_tree.specs.declared.raw.program.RawProgram.{RawProgram}
 use Rattle.c_language.specs.Words.{Bytes}
-use Rattle.c_language.specs.DeclaredTypes.{defined_functions, definition_of, function_id}
+use Rattle.c_language.specs.DeclaredTypes.{defined_functions, definition_of}
 use Rattle.c_language.specs.Scopes.{Scope, Entry}
 use Rattle.c_language.specs.NameRules.{IsDefinedBefore}
 use Rattle.c_language.specs.CallRules.{head_around}
@@ -53,9 +53,3 @@ kept_head k (Some h) = k.function h.name
 -- the numbers of the functions of a text that are kept
 abbrev pub kept_functions : Kept → RawProgram → ℕ → Bool
 kept_functions k raw i = kept_head k (slice_get (defined_functions raw) i)
-
--- these are the numbers of the functions that are kept
-pub record FunctionNumbers (k : Kept) (raw other : RawProgram) (test : ℕ → Bool) : Type 0 where
-  pub ids : (x : Bytes) → k.function x ≡ true → function_id other x ≡ option_map (rank test) (function_id raw x)
-  pub tests : (x : Bytes) (i : ℕ) → function_id raw x ≡ Some i → test i ≡ k.function x
-  pub places : (i : ℕ) (h : RawHead) → slice_get (defined_functions raw) i ≡ Some h → test i ≡ k.function h.name

@@ -4,5 +4,4 @@ pub mod Following
 pub mod ThinTexts
 pub mod ThinnedBodies
 pub mod ThinnedTexts
-pub mod NamedVariables
 pub mod Laws

@@ -2,8 +2,8 @@
 //!
 //! A smaller text lacks statements, declarations and functions of another one, so that what it
 //! keeps stands in other scopes and has other numbers. Each function is a law on two such texts,
-//! and holds no code: its contract is the law, over the definitions of `specs/Agreement` and
-//! `specs/Renumbering`.
+//! and holds no code: its contract is the law (`specs/Laws`), over the definitions of `specs/Agreement`
+//! and `specs/Thinning`, and those of projection on other numbers.
 #![tactic(auto)]
 
 ghost use Rattle.c_scope_laws.specs.Laws.{AmountsAgree, ArgsAgree, BodiesStay, BodiesThin, ExprsAgree, InitialisersDrop, InitsAgree, LabelsAgree, OperandsAgree, ProgramsThin, RulesAgree, SimpleTreesAgree, SwitchTypesAgree, TargetsAgree, ThinnerKeepsRules, ThinnerProgram, ThinnerText, TreesKeepNames, WholeIsClosed, WholeStays, WrittenStays};
@@ -19,27 +19,32 @@ pub fn exprs_agree()
     ensures { ExprsAgree }
 {}
 
-/// A law: so is that of an initialiser.
+/// A law: the tree of an initialiser at two places that agree on its names is the same but for the
+/// numbers of variables.
 pub fn inits_agree()
     ensures { InitsAgree }
 {}
 
-/// A law: so is that of a target, which has the next number where it declares.
+/// A law: the tree of a target at two places that agree on its names is the same but for the numbers of
+/// variables; one that declares has the next number.
 pub fn targets_agree()
     ensures { TargetsAgree }
 {}
 
-/// A law: so are those of arguments.
+/// A law: the trees of arguments at two places that agree on their names are the same but for the numbers
+/// of variables.
 pub fn args_agree()
     ensures { ArgsAgree }
 {}
 
-/// A law: so is that of an amount.
+/// A law: the tree of an allocation's amount at two places that agree on its names is the same but for the
+/// numbers of variables.
 pub fn amounts_agree()
     ensures { AmountsAgree }
 {}
 
-/// A law: so is that of a label.
+/// A law: the tree of a label at two places that agree on its names is the same but for the numbers of
+/// variables.
 pub fn labels_agree()
     ensures { LabelsAgree }
 {}
@@ -67,7 +72,8 @@ pub fn initialisers_drop()
     ensures { InitialisersDrop }
 {}
 
-/// A law: where no length is left to a list, the type stays as it is.
+/// A law: where no length of a type is left to a list, the type is written as it stands, however many
+/// items the list has.
 pub fn written_stays()
     ensures { WrittenStays }
 {}
@@ -115,8 +121,8 @@ pub fn whole_is_closed()
     ensures { WholeIsClosed }
 {}
 
-/// A law: so the thinner text keeps all rules, and its program is what stays of the program of the
-/// text.
+/// A law: where all that is kept has what it names and what it stands in, the thinner text of a text that
+/// keeps all rules keeps them too, and its program is what stays of the program of the text.
 pub fn thinner_program()
     ensures { ThinnerProgram }
 {}

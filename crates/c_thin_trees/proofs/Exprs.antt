@@ -1,8 +1,6 @@
 -- The tokens of expressions and types may stand in front of any others, where what follows fits.
-use Rattle.std.proofs.Common.{◌≡◌, ℕ, zero, suc, ◌+◌, List, [], ◌∷◌, Bool, true, false, codes, refl, sym, ap, ◌∙◌, arith, true≢false}
-use Rattle.std.specs.Prelude.{bytes_eq, Contains}
+use Rattle.std.proofs.Common.{◌≡◌, ℕ, ◌+◌, List, [], ◌∷◌, Bool, true, false, codes, refl, sym, arith, true≢false}
 use Rattle.std.specs.List.{list_all}
-use Rattle.std.proofs.lemmas.Bool.{and_parts}
 use Rattle.std.proofs.lemmas.Slice.Eq.{bytes_eq-Decides}
 use Rattle.c_arith.specs.declared.int_type.IntType.{IntType}
 use Rattle.c_arith.specs.declared.int_type.IntType.TheVariants.{Char, UChar, Short, UShort, Int, UInt, Long, ULong}
@@ -16,11 +14,8 @@ use Rattle.c_language.specs.IntWords.{spellings, times, IsIntWords, spelled, Are
 use Rattle.c_language.specs.ExprGrammar.{IsExpr, number_constant, character_constant, null, eof, variable, paren, index, member, unary, cast, binary, choose, sign, selector_sign}
 use Rattle.c_language.specs.TypeGrammar.{IsBase, structure, integer, IsStars, IsTypeName, pointed, IsLengths, IsOuterLengths, written, empty, IsDeclarator}
 use Rattle.c_language.specs.declared.token.TokenKind.TheVariants.{Mark}
+use Rattle.c_print_laws.proofs.CalmTokens.{no_word, contained}
 use Rattle.c_thin_trees.proofs.Pieces.{nowhere, token, join, Moved, Lined, MovedBefore, LinedBefore}
-
-pub by_answer : {G : Type 0} (b : Bool) → (b ≡ true → G) → (b ≡ false → G) → G
-by_answer true is isnt = is refl
-by_answer false is isnt = isnt refl
 
 -- ---- words of integer types
 
@@ -44,11 +39,6 @@ spelled_by_some Int = refl
 spelled_by_some UInt = refl
 spelled_by_some Long = refl
 spelled_by_some ULong = refl
-
-contained : {A : Type 0} (f : A → Bool) (xs : List A) (x : A) → list_all f xs ≡ true → Contains xs x → f x ≡ true
-contained f [] x h c = absurd (omega (arith, c.1))
-contained f (y ∷ ys) x h (zero, within, is) = ap f (sym is) ∙ (and_parts (f y) (list_all f ys) h).0
-contained f (y ∷ ys) x h (suc k, within, is) = contained f ys x (and_parts (f y) (list_all f ys) h).1 (k, omega (arith, within), is)
 
 some_word : (ws : List Bytes) → is_cons ws ≡ true → ((w : Bytes) → times w [] ≡ times w ws) → ⊥
 some_word [] h same = true≢false (sym h)
@@ -160,9 +150,6 @@ declarator_moved (IsDeclarator.named {l} {text} h key j) =
     }
 
 -- ---- what a type's words stand before
-
-no_word : (w x : Bytes) → is_keyword w ≡ false → is_keyword x ≡ true → bytes_eq w x ≡ false
-no_word w x h k = by_answer (bytes_eq w x) (λ t. absurd (true≢false (sym (sym h ∙ ap is_keyword ((bytes_eq-Decides w x).0 t) ∙ k)))) (λ f. f)
 
 pub name_no_int : (w : Bytes) (l : ℕ) (r : Tokens) → is_keyword w ≡ false → NoIntWord (name w l ∷ r)
 unfolding sees_int_word is_keyword

@@ -1,6 +1,6 @@
 -- Tokens that stand for themselves: marks of one byte, words, and decimal numbers.
 use Rattle.std.proofs.Common.{◌≡◌, ◌<◌, ℕ, zero, suc, ◌/◌, ◌%◌, pos, [], ◌∷◌, ◌++◌, length, true, false, codes, Option, Some, None, refl, sym, ap, ◌∙◌, arith, decimal}
-use Rattle.std.specs.Prelude.{◌==◌, nat_le, nat_lt, option_and_then}
+use Rattle.std.specs.Prelude.{◌==◌, nat_le, nat_lt}
 use Rattle.std.specs.List.{list_all}
 use Rattle.std.proofs.lemmas.Bool.{and_parts}
 use Rattle.std.proofs.lemmas.Bool.Decides.{nat_tests}
@@ -8,18 +8,16 @@ use Rattle.std.specs.Fmt.{digits, digits_onto, digit_glyph}
 use Rattle.std.proofs.lemmas.List.{length-append}
 use Rattle.c_arith.specs.declared.int_type.IntType.{IntType}
 use Rattle.c_tree.specs.declared.raw.expr.RawExpr.TheVariants as e
-use Rattle.c_tree.specs.declared.raw.expr.RawExpr.{fold-roll-RawExpr}
-use Rattle.c_tree.specs.declared.raw.expr.RawExpr.TheOpen.{RawExpr-F}
 use Rattle.c_language.specs.Words.{Bytes}
 use Rattle.c_language.specs.Characters.{is_digit, is_letter}
-use Rattle.c_language.specs.declared.constant.Constant.{Constant}
 use Rattle.c_language.specs.Constants.{constant_type, constant_value, IsConstant}
-use Rattle.c_language.specs.ConstantEvaluation.{is_character, value_if, literal_value, constant_step, constant, value_of_constant}
+use Rattle.c_language.specs.ConstantEvaluation.{is_character, value_if, literal_value, value_of_constant}
 use Rattle.c_language.specs.TokenForms.{name, number, mark}
 use Rattle.c_language.specs.Tokens.{number_goes_on, is_mark, IsLongest, LacksComment, IsRun, IsTokenText, IsToken}
 use Rattle.c_language.specs.declared.token.Before.TheVariants.{Blank}
 use Rattle.c_language.specs.Programs.{IsFormed}
-use Rattle.c_thin_trees.proofs.Exprs.{by_answer}
+use Rattle.c_language.proofs.Tests.{by_answer}
+use Rattle.c_print_laws.proofs.Settling.{constant_value_of}
 
 -- ---- marks of one byte
 
@@ -107,10 +105,6 @@ no_character : (ds : Bytes) → list_all is_digit ds ≡ true → 0 < length ds 
 no_character [] h k = absurd (omega (arith, k))
 no_character (b ∷ ds) h k = digit_no_quote b (and_parts (is_digit b) (list_all is_digit ds) h).0
 
-literal_as : (text : Bytes) → value_of_constant (e.Constant text) ≡ Some (pos (literal_value text))
-literal_as text =
-    ap (λ (x : Option Constant). option_and_then (λ (y : Constant). y.value) x) (ap constant (sym (e.rolls-Constant text)) ∙ fold-roll-RawExpr (Option Constant) constant_step (RawExpr-F.Constant text))
-
 some_value : (m n : ℕ) → ◌≡◌ {A = Option _} (Some (pos m)) (Some (pos n)) → m ≡ n
 some_value m n e = cc
 
@@ -122,7 +116,7 @@ typed (Some i) v n e some = (i, refl)
 pub worth_constant : (text : Bytes) (n : ℕ) → list_all is_digit text ≡ true → 0 < length text → value_of_constant (e.Constant text) ≡ Some (pos n) → 0 < n → IsConstant text
 worth_constant text n all some value more =
     let no : is_character text ≡ false = no_character text all some in
-    let worth : literal_value text ≡ n = some_value (literal_value text) n (sym (literal_as text) ∙ value) in
+    let worth : literal_value text ≡ n = some_value (literal_value text) n (sym (constant_value_of text) ∙ value) in
     let plain : literal_value text ≡ value_if (constant_type text) (constant_value text) = rw no refl in
     typed (constant_type text) (constant_value text) n (sym plain ∙ worth) more
 

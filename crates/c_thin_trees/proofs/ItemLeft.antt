@@ -6,7 +6,6 @@ use Rattle.c_tree.specs.declared.raw.program.RawItem.{RawItem}
 use Rattle.c_tree.specs.declared.raw.program.RawItem.TheVariants as item
 use Rattle.c_tree.specs.declared.raw.program.RawProgram.{RawProgram}
 use Rattle.c_tree.specs.declared.raw.statement.RawStatement.{RawStatement}
-use Rattle.c_language.specs.Sees.{sees}
 use Rattle.c_language.specs.TokenForms.{Tokens, of_kind, line_of, name, mark}
 use Rattle.c_language.specs.Scopes.{Scope, entered}
 use Rattle.c_language.specs.Phrases.{after_item}
@@ -17,15 +16,16 @@ use Rattle.c_language.specs.declared.token.TokenKind.TheVariants.{Include}
 use Rattle.projection.specs.Kept.{Kept}
 use Rattle.c_scope_laws.specs.ThinnedBodies.{Need, Names, Labels, Counts, Strays, AreMet, body_left}
 use Rattle.c_scope_laws.specs.ThinnedTexts.{chosen, item_left, items_left, ItemIsClosed, ItemsAreClosed}
-use Rattle.c_print.proofs.ItemPrint.{IsLeanItem, AreLeanItems}
+use Rattle.c_text_layout.proofs.ItemPrint.{IsLeanItem, AreLeanItems}
 use Rattle.c_thin_trees.proofs.Pieces.{AreFormed}
 use Rattle.c_thin_trees.proofs.Exprs.{NoIntWord, NoBracket, expr_moved, base_moved, declarator_moved, declarator_no_int}
 use Rattle.c_thin_trees.proofs.Simples.{list_moved}
 use Rattle.c_thin_trees.proofs.Fixed.{end_formed, close_formed}
-use Rattle.c_thin_trees.proofs.Written.{Listed, listed}
+use Rattle.c_thin_trees.proofs.Written.{Listed, listed, end_no_bracket}
 use Rattle.c_thin_trees.proofs.Counted.{CountsMet}
 use Rattle.c_thin_trees.proofs.StatementLeft.{statements_left}
 use Rattle.c_thin_trees.proofs.Heads.{head_moved, members_moved}
+use Rattle.c_thin_trees.proofs.SimpleLeft.{equals_no_bracket}
 
 -- an item that has tokens of its own, in front of any others, in which no `;` alone stands in a body
 pub record Itemed (x : RawItem) : Type 0 where
@@ -48,19 +48,6 @@ record GlobalDeclarator (line : ℕ) (is_static : Bool) (base : RawType) (x : Ra
   formed : (r : Tokens) → AreFormed r → AreFormed (front r)
   is : (r : Tokens) → NoBracket r → IsGlobal line is_static base (front r) x r
   no_int : (r : Tokens) → NoBracket r → NoIntWord (front r)
-
-equals_no_bracket : (l : ℕ) (r : Tokens) → NoBracket (mark (codes "=") l ∷ r)
-unfolding sees
-equals_no_bracket l r = refl
-
-end_no_bracket : (l : ℕ) (r : Tokens) → NoBracket (mark (codes ";") l ∷ r)
-unfolding sees
-end_no_bracket l r = refl
-
-global_no_int : {line : ℕ} {is_static : Bool} {base : RawType} {ts rest : Tokens} {x : RawItem} → IsGlobal line is_static base ts x rest → NoIntWord ts
-global_no_int (IsGlobal.plain d p) = declarator_no_int d
-global_no_int (IsGlobal.value d p e) = declarator_no_int d
-global_no_int (IsGlobal.list d j) = declarator_no_int d
 
 global_declarator : {line : ℕ} {is_static : Bool} {base : RawType} {ts rest : Tokens} {x : RawItem} → IsGlobal line is_static base ts x rest → AreFormed ts → AreFormed rest × GlobalDeclarator line is_static base x
 global_declarator (IsGlobal.plain d p) f =

@@ -1,6 +1,6 @@
 -- What stays of statements shows no left-out construct where they show none, and nests no deeper.
-use Rattle.std.proofs.Common.{◌≡◌, ◌≤◌, ℕ, ◌+◌, max, List, [], ◌∷◌, ◌++◌, append-nil, map, Bool, true, false, ◌&&◌, ◌||◌, Option, Some, None, option_map, refl, sym, ap, ap₂, ◌∙◌, arith, subst, true≢false, decimal}
-use Rattle.std.proofs.lemmas.Bool.{and_parts}
+use Rattle.std.proofs.Common.{◌≡◌, ◌≤◌, ℕ, ◌+◌, max, List, [], ◌∷◌, ◌++◌, append-nil, map, Bool, true, false, ◌||◌, Option, Some, None, option_map, refl, sym, ap, ap₂, ◌∙◌, arith, subst, true≢false, decimal}
+use Rattle.std.proofs.lemmas.Bool.{and_parts, and_from}
 use Rattle.c_tree.specs.declared.raw.expr.RawExpr.{RawExpr}
 use Rattle.c_tree.specs.declared.raw.expr.RawLength.{RawLength}
 use Rattle.c_tree.specs.declared.raw.expr.RawLength.TheVariants as length
@@ -20,6 +20,7 @@ use Rattle.c_tree.specs.declared.raw.statement.RawStatement.TheVariants as s
 use Rattle.c_tree.specs.declared.raw.statement.RawTarget.{RawTarget}
 use Rattle.c_tree.specs.declared.raw.statement.RawTarget.TheVariants as target
 use Rattle.c_tree.specs.declared.raw.statement.RawTypeName.{RawTypeName}
+use Rattle.c_tree.proofs.RawTrees.{TypeParts, type_layer, of_every_type, StatementParts, statement_layer, ArmParts, arm_layer, of_every_statement}
 use Rattle.c_language.specs.Words.{Bytes}
 use Rattle.c_language.specs.DeclaredTypes.{item_count}
 use Rattle.c_language.specs.Scopes.{Scope, Scoped, opened, numbered, in_order, after_block, part_gives, scope_of_test, scope_of_body}
@@ -27,40 +28,22 @@ use Rattle.c_language.specs.Phrases.{Part, Assigns, Bumps, Calls, Allocates, InB
 use Rattle.c_language.specs.Uses.{is_library_function}
 use Rattle.c_language.specs.StatementGrammar.{arm}
 use Rattle.c_language.specs.Nesting.{length_nesting, type_nesting, greatest}
-use Rattle.c_language.specs.StatementNesting.{init_nesting, call_nesting, heap_nesting, stored_nesting, label_nesting, statement_nesting, arm_nesting, body_nesting, arms_nesting}
+use Rattle.c_language.specs.StatementNesting.{init_nesting, call_nesting, heap_nesting, stored_nesting, label_nesting, statement_nesting, body_nesting}
 use Rattle.c_language.proofs.NestingLemmas.{nesting-Constant, type_nesting-PointerTo, type_nesting-Array}
-use Rattle.c_language.proofs.StatementNestingLemmas.{nesting-Declare, nesting-Call, nesting-Heap, nesting-If, nesting-While, nesting-Do, part_nesting, nesting-For, nesting-Switch, nesting-Block, nesting-arm}
+use Rattle.c_language.proofs.StatementNestingLemmas.{nesting-Declare, nesting-Call, nesting-Heap, nesting-If, nesting-While, nesting-Do, part_nesting, nesting-For, nesting-Switch, nesting-Block, nesting-arm, arm_nesting, arms_nesting}
 use Rattle.projection.specs.Kept.{Kept}
 use Rattle.c_scope_laws.specs.Thinning.{declares}
 use Rattle.c_scope_laws.specs.ThinnedBodies.{Left, ArmLeft, counted_length, counted_type_step, counted_type, counted_var, only, part_left, alone_one, alone_all, alone, arms_left, block_of, plain, declared, call_placed, call_declared, heap_declared, if_left, while_left, do_left, for_left, switch_left, result_kept, declare_left, call_left, heap_left, block_left, left_scoped, left_arm_step, left, left_arm, body_left}
-use Rattle.c_print_laws.proofs.Trees.{TypeParts, type_layer, of_every_type, StatementParts, statement_layer, ArmParts, arm_layer, of_every_statement}
 use Rattle.c_print_laws.proofs.Fitting.{fits, arm_fits, list_fits, part_fits, arms_fit, return_step, of_arm, is_return, body_fits, fits-Declare, fits-Call, fits-If, fits-While, fits-Do, fits-For, fits-Switch, fits-Block, fits-arm, return-Call, return-Heap, return-If, return-While, return-Do, return-For, return-Switch, return-Block}
+use Rattle.c_print_laws.proofs.ToldItems.{body_append}
+use Rattle.c_print_laws.proofs.ToldStatements.{fits_append}
 use Rattle.c_thin_trees.proofs.LeftForms.{layer_left}
 
 -- ---- lists
 
-and_both : {a b : Bool} → a ≡ true → b ≡ true → (a && b) ≡ true
-and_both h k = ap₂ (λ (a b : Bool). a && b) h k
-
-or_left : (a b : Bool) → a ≡ true → (a || b) ≡ true
-or_left true b h = refl
-or_left false b h = absurd (true≢false (sym h))
-
 or_none : (a b : Bool) → b ≡ false → (a || b) ≡ true → a ≡ true
 or_none true b h k = refl
 or_none false b h k = absurd (true≢false (sym k ∙ h))
-
-lists_fit : (xs ys : List RawStatement) → list_fits xs ≡ true → list_fits ys ≡ true → list_fits (xs ++ ys) ≡ true
-lists_fit [] ys h k = k
-lists_fit (x ∷ xs) ys h k = let p = and_parts (fits x) (list_fits xs) h in and_both p.0 (lists_fit xs ys p.1 k)
-
-body_cons : (x : RawStatement) (xs : List RawStatement) → fits x ≡ true → body_fits xs ≡ true → body_fits (x ∷ xs) ≡ true
-body_cons x [] h k = or_left (fits x) (is_return x) h
-body_cons x (y ∷ ys) h k = and_both h k
-
-body_append : (xs ys : List RawStatement) → list_fits xs ≡ true → body_fits ys ≡ true → body_fits (xs ++ ys) ≡ true
-body_append [] ys h k = k
-body_append (x ∷ xs) ys h k = let p = and_parts (fits x) (list_fits xs) h in body_cons x (xs ++ ys) p.0 (body_append xs ys p.1 k)
 
 list_body : (xs : List RawStatement) → list_fits xs ≡ true → body_fits xs ≡ true
 list_body xs h = subst (λ (ys : List RawStatement). body_fits ys ≡ true) (append-nil xs) (body_append xs [] h refl)
@@ -104,7 +87,7 @@ less : (x : RawStatement) (some : List RawStatement) → is_return x ≡ false �
 less x some isnt h n = record { fitting = h; ending = λ e. list_body some (h (or_none (fits x) (is_return x) isnt e)); nests = n }
 
 itself : (x : RawStatement) → Less x (x ∷ [])
-itself x = record { fitting = λ h. and_both h refl; ending = λ h. h; nests = omega arith }
+itself x = record { fitting = λ h. and_from _ _ h refl; ending = λ h. h; nests = omega arith }
 
 nothing_left : (x : RawStatement) → Less x []
 nothing_left x = record { fitting = λ h. refl; ending = λ h. refl; nests = omega arith }
@@ -121,7 +104,7 @@ plain_less false y scope part = nothing_left (roll-RawStatement y)
 
 -- one statement that fits in any case, and nests no deeper
 fit_less : (x y : RawStatement) → is_return x ≡ false → fits y ≡ true → statement_nesting y ≤ statement_nesting x → Less x (y ∷ [])
-fit_less x y isnt f n = less x (y ∷ []) isnt (λ h. and_both f refl) (omega (arith, n))
+fit_less x y isnt f n = less x (y ∷ []) isnt (λ h. and_from _ _ f refl) (omega (arith, n))
 
 bare_declares : (l : ℕ) (v : RawVar) (m : ℕ) → statement_nesting (s.Declare l v init.None) ≤ max (type_nesting v.shape) m
 bare_declares l v m = let e = nesting-Declare l v init.None in omega (arith, e)
@@ -156,7 +139,7 @@ module _ (raw : RawProgram) where
   bare_call : (l : ℕ) (to : RawTarget) (f : Bytes) (args : List RawArg) → Less (s.Call l to f args) (s.Call l target.None f args ∷ [])
   bare_call l to f args =
       let n = call_nests l to f args in
-      less (s.Call l to f args) (s.Call l target.None f args ∷ []) (return-Call l to f args) (λ h. and_both (call_bare l to f args h) refl) (omega (arith, n))
+      less (s.Call l to f args) (s.Call l target.None f args ∷ []) (return-Call l to f args) (λ h. and_from _ _ (call_bare l to f args h) refl) (omega (arith, n))
 
   placed_less : (l : ℕ) (a : RawExpr) (f : Bytes) (args : List RawArg) (scope : Scope) (r b : Bool) → Less (roll-RawStatement (RawStatement-F.Call l (target.Place a) f args)) (call_placed raw r b l a f args scope).some
   placed_less l a f args scope true b = plain_less b (RawStatement-F.Call l (target.Place a) f args) scope (Calls InBlock (target.Place a) f args)
@@ -175,7 +158,7 @@ module _ (raw : RawProgram) where
       let d = call_declares l v f args in
       let n = call_nests l (target.Declared v) f args in
       less (s.Call l (target.Declared v) f args) (s.Declare l v init.None ∷ (s.Call l target.None f args ∷ [])) (return-Call l (target.Declared v) f args)
-      (λ h. and_both (fits-Declare l v init.None) (and_both (call_bare l (target.Declared v) f args h) refl)) (omega (arith, d, n))
+      (λ h. and_from _ _ (fits-Declare l v init.None) (and_from _ _ (call_bare l (target.Declared v) f args h) refl)) (omega (arith, d, n))
   called_less l v f args scope false true true = nothing_left (s.Call l (target.Declared v) f args)
   called_less l v f args scope false true false = bare_call l (target.Declared v) f args
   called_less l v f args scope true false r =
@@ -213,7 +196,7 @@ block_less l xs (y ∷ ys) h =
     let a = nesting-Block l xs in
     let b = nesting-Block l (y ∷ ys) in
     let n = h.nests in
-    less (s.Block l xs) (s.Block l (y ∷ ys) ∷ []) (return-Block l xs) (λ f. and_both (fits-Block l (y ∷ ys) ∙ h.fitting (sym (fits-Block l xs) ∙ f)) refl) (omega (arith, a, b, n))
+    less (s.Block l xs) (s.Block l (y ∷ ys) ∷ []) (return-Block l xs) (λ f. and_from _ _ (fits-Block l (y ∷ ys) ∙ h.fitting (sym (fits-Block l xs) ∙ f)) refl) (omega (arith, a, b, n))
 
 if_less : (raw : RawProgram) (kept : Bool) (l : ℕ) (a : RawExpr) (xs ys : List RawStatement) (b c : Left) (scope : Scope) → ListLess xs b.some → ListLess ys c.some → Less (s.If l a xs ys) (if_left raw kept l a b c scope).some
 if_less raw true l a xs ys b c scope h j =
@@ -222,7 +205,7 @@ if_less raw true l a xs ys b c scope h j =
     let m = h.nests in
     let n = j.nests in
     less (s.If l a xs ys) (s.If l a b.some c.some ∷ []) (return-If l a xs ys)
-    (λ f. let r = and_parts (list_fits xs) (list_fits ys) (sym (fits-If l a xs ys) ∙ f) in and_both (fits-If l a b.some c.some ∙ and_both (h.fitting r.0) (j.fitting r.1)) refl) (omega (arith, p, q, m, n))
+    (λ f. let r = and_parts (list_fits xs) (list_fits ys) (sym (fits-If l a xs ys) ∙ f) in and_from _ _ (fits-If l a b.some c.some ∙ and_from _ _ (h.fitting r.0) (j.fitting r.1)) refl) (omega (arith, p, q, m, n))
 if_less raw false l a xs ys b c scope h j = nothing_left (s.If l a xs ys)
 
 while_less : (raw : RawProgram) (kept : Bool) (l : ℕ) (a : RawExpr) (xs : List RawStatement) (b : Left) (scope : Scope) → ListLess xs b.some → Less (s.While l a xs) (while_left raw kept l a b scope).some
@@ -230,7 +213,7 @@ while_less raw true l a xs b scope h =
     let p = nesting-While l a xs in
     let q = nesting-While l a b.some in
     let m = h.nests in
-    less (s.While l a xs) (s.While l a b.some ∷ []) (return-While l a xs) (λ f. and_both (fits-While l a b.some ∙ h.fitting (sym (fits-While l a xs) ∙ f)) refl) (omega (arith, p, q, m))
+    less (s.While l a xs) (s.While l a b.some ∷ []) (return-While l a xs) (λ f. and_from _ _ (fits-While l a b.some ∙ h.fitting (sym (fits-While l a xs) ∙ f)) refl) (omega (arith, p, q, m))
 while_less raw false l a xs b scope h = nothing_left (s.While l a xs)
 
 do_less : (raw : RawProgram) (kept : Bool) (l : ℕ) (a : RawExpr) (xs : List RawStatement) (b : Left) (scope : Scope) → ListLess xs b.some → Less (s.Do l a xs) (do_left raw kept l a b scope).some
@@ -238,7 +221,7 @@ do_less raw true l a xs b scope h =
     let p = nesting-Do l a xs in
     let q = nesting-Do l a b.some in
     let m = h.nests in
-    less (s.Do l a xs) (s.Do l a b.some ∷ []) (return-Do l a xs) (λ f. and_both (fits-Do l a b.some ∙ h.fitting (sym (fits-Do l a xs) ∙ f)) refl) (omega (arith, p, q, m))
+    less (s.Do l a xs) (s.Do l a b.some ∷ []) (return-Do l a xs) (λ f. and_from _ _ (fits-Do l a b.some ∙ h.fitting (sym (fits-Do l a xs) ∙ f)) refl) (omega (arith, p, q, m))
 do_less raw false l a xs b scope h = nothing_left (s.Do l a xs)
 
 -- what stays of what a for begins with
@@ -260,7 +243,7 @@ for_less_one l i a step xs true p y h =
     let n = nesting-Block l (y ∷ []) in
     let k = h.nests in
     less (s.For l (Some i) a step xs) (s.Block l (y ∷ []) ∷ []) (return-For l (Some i) a step xs)
-    (λ f. and_both (fits-Block l (y ∷ []) ∙ h.fitting (and_parts (fits i) _ (sym (fits-For l (Some i) a step xs) ∙ f)).0) refl) (omega (arith, m, n, k))
+    (λ f. and_from _ _ (fits-Block l (y ∷ []) ∙ h.fitting (and_parts (fits i) _ (sym (fits-For l (Some i) a step xs) ∙ f)).0) refl) (omega (arith, m, n, k))
 for_less_one l i a step xs false true y h =
     let m = nesting-For l (Some i) a step xs in
     let k = h.nests in
@@ -292,7 +275,7 @@ for_less raw true l i a step xs j next b scope hi hs hb =
     (λ f.
     let r = and_parts (part_fits i) _ (sym (fits-For l i a step xs) ∙ f) in
     let t = and_parts (part_fits step) (list_fits xs) r.1 in
-    and_both (fits-For l (part_left j) a (part_left next) b.some ∙ and_both (u.fitting r.0) (and_both (v.fitting t.0) (hb.fitting t.1))) refl)
+    and_from _ _ (fits-For l (part_left j) a (part_left next) b.some ∙ and_from _ _ (u.fitting r.0) (and_from _ _ (v.fitting t.0) (hb.fitting t.1))) refl)
     (omega (arith, p, q, m, n, o))
 for_less raw false l i a step xs j next b scope hi hs hb = alone_less l i a step xs j hi
 
@@ -311,7 +294,7 @@ arms_more x xs a ys h j =
     let m = h.nests in
     let n = j.nests in
     record {
-      fitting = λ f. let r = and_parts (arm_fits x) (arms_fit xs) f in and_both (fits-arm a.labels a.body.some ∙ h.fitting r.0) (j.fitting r.1);
+      fitting = λ f. let r = and_parts (arm_fits x) (arms_fit xs) f in and_from _ _ (fits-arm a.labels a.body.some ∙ h.fitting r.0) (j.fitting r.1);
       nests = omega (arith, e, m, n);
     }
 
@@ -320,7 +303,7 @@ switch_less raw true l a xs arms scope h =
     let p = nesting-Switch l a xs in
     let q = nesting-Switch l a (arms_left arms) in
     let m = h.nests in
-    less (s.Switch l a xs) (s.Switch l a (arms_left arms) ∷ []) (return-Switch l a xs) (λ f. and_both (fits-Switch l a (arms_left arms) ∙ h.fitting (sym (fits-Switch l a xs) ∙ f)) refl) (omega (arith, p, q, m))
+    less (s.Switch l a xs) (s.Switch l a (arms_left arms) ∷ []) (return-Switch l a xs) (λ f. and_from _ _ (fits-Switch l a (arms_left arms) ∙ h.fitting (sym (fits-Switch l a xs) ∙ f)) refl) (omega (arith, p, q, m))
 switch_less raw false l a xs arms scope h = nothing_left (s.Switch l a xs)
 
 -- ---- every statement
@@ -344,7 +327,7 @@ module _ (k : Kept) (raw : RawProgram) where
       let m = h.nests in
       let n = j.nests in
       record {
-        fitting = λ f. let r = and_parts (fits x) (list_fits xs) f in lists_fit some others (h.fitting r.0) (j.fitting r.1);
+        fitting = λ f. let r = and_parts (fits x) (list_fits xs) f in fits_append some others (h.fitting r.0) (j.fitting r.1);
         nests = omega (arith, a, m, n);
       }
 

@@ -64,7 +64,7 @@ bare_call l (with_args {m} {w = w} c h) f =
 nothing_declared : {line : ℕ} {base : RawType} {v : RawVar} → WrittenDeclarator base v → Declarator line base (s.Declare line v init.None)
 nothing_declared x = record { front = x.front; formed = x.formed; is = λ r c. IsDeclared.plain (x.is r c) x.unlisted }
 
-equals_no_bracket : (l : ℕ) (r : Tokens) → NoBracket (mark (codes "=") l ∷ r)
+pub equals_no_bracket : (l : ℕ) (r : Tokens) → NoBracket (mark (codes "=") l ∷ r)
 unfolding sees
 equals_no_bracket l r = refl
 

@@ -1,25 +1,20 @@
 -- What stays of the tree of some tokens is the tree of some tokens, and nests no deeper.
-use Rattle.std.proofs.Common.{◌≡◌, ◌≤◌, ℕ, max, List, [], ◌∷◌, ◌++◌, append-nil, reverse, Bool, true, false, ◌&&◌, refl, sym, ap₂, arith, subst}
+use Rattle.std.proofs.Common.{◌≡◌, ◌≤◌, max, List, [], ◌∷◌, ◌++◌, Bool, true, false, ◌&&◌, refl, ap₂, arith}
 use Rattle.std.proofs.lemmas.Bool.{and_parts}
 use Rattle.c_tree.specs.declared.raw.program.RawItem.{RawItem}
 use Rattle.c_tree.specs.declared.raw.program.RawItem.TheVariants.{Include, Tag, Struct, Global, Prototype, Define}
 use Rattle.c_tree.specs.declared.raw.program.RawProgram.{RawProgram}
-use Rattle.c_language.specs.Words.{Bytes}
-use Rattle.c_language.specs.TokenForms.{Tokens}
 use Rattle.c_language.specs.Scopes.{Scope, outset, entered}
 use Rattle.c_language.specs.Phrases.{after_item}
-use Rattle.c_language.specs.ItemGrammar.{IsProgram}
-use Rattle.c_language.specs.LeftOut.{IsTold, BeginsLeftOut, IsLeftOut}
 use Rattle.c_language.specs.Programs.{IsTree}
 use Rattle.c_language.specs.StatementNesting.{item_nesting, items_nesting, program_nesting}
-use Rattle.c_language.specs.declared.token.Token.{Token}
 use Rattle.projection.specs.Kept.{Kept}
 use Rattle.c_scope_laws.specs.ThinnedBodies.{body_left}
 use Rattle.c_scope_laws.specs.ThinnedTexts.{chosen, item_left, items_left, IsClosed, thinned_text}
-use Rattle.c_print_laws.proofs.CalmTokens.{AreUntold, told_all, untold_at}
 use Rattle.c_print_laws.proofs.Fitting.{body_fits, head_fits, item_fits, items_fit}
-use Rattle.c_print_laws.proofs.ToldItems.{tree_fits}
+use Rattle.c_print_laws.proofs.ToldItems.{tree_fits, items_append}
 use Rattle.c_print_laws.proofs.UntoldItems.{fitting_untold}
+use Rattle.c_print_laws.proofs.ReadAgain.{untold_tokens, none_left_out}
 use Rattle.c_thin_trees.proofs.Pieces.{are_formed, all_formed}
 use Rattle.c_thin_trees.proofs.LessLeft.{body_less}
 use Rattle.c_thin_trees.proofs.ItemLeft.{items_itemed, items_listed}
@@ -29,10 +24,6 @@ use Rattle.c_thin_trees.proofs.ItemLeft.{items_itemed, items_listed}
 record ItemsLess (xs some : List RawItem) : Type 0 where
   fitting : items_fit xs ≡ true → items_fit some ≡ true
   nests : items_nesting some ≤ items_nesting xs
-
-items_append : (xs ys : List RawItem) → items_fit xs ≡ true → items_fit ys ≡ true → items_fit (xs ++ ys) ≡ true
-items_append [] ys h k = k
-items_append (x ∷ xs) ys h k = let p = and_parts (item_fits x) (items_fit xs) h in ap₂ (λ (a b : Bool). a && b) p.0 (items_append xs ys p.1 k)
 
 nests_append : (xs ys : List RawItem) → items_nesting (xs ++ ys) ≤ max (items_nesting xs) (items_nesting ys)
 nests_append [] ys = omega arith
@@ -76,27 +67,6 @@ pub thinned_nests : (k : Kept) (raw : RawProgram) → program_nesting (thinned_t
 thinned_nests k raw = (items_less k raw raw.items outset).nests
 
 -- ---- left-out constructs of tokens
-
--- where no left-out construct begins among the tokens, none is told at one of them
-untold_tokens : (ts : Tokens) → ((text : Bytes) (line : ℕ) → IsLeftOut ts text line → ⊥) → AreUntold [] ts
-untold_tokens ts whole = told_all [] ts (λ front t behind is told.
-    whole t.text t.line (record {
-      front = front;
-      token = t;
-      behind = behind;
-      split = is;
-      text_is = refl;
-      line_is = refl;
-      begins = BeginsLeftOut.told (subst (λ (x : Tokens). IsTold x t behind) (append-nil (reverse front)) told);
-    }))
-
-none_begins : {ts front behind : Tokens} {t : Token} (all : RawProgram) → IsProgram ts all → AreUntold [] (front ++ t ∷ behind) → BeginsLeftOut ts front t behind → ⊥
-none_begins {front = front} {behind} {t} all is h (BeginsLeftOut.told told) = untold_at front [] t behind h (subst (λ (x : Tokens). IsTold x t behind) (sym (append-nil (reverse front))) told)
-none_begins all is h (BeginsLeftOut.without_tree none k) = none all is
-
--- where none is told at tokens in the grammar, no left-out construct begins among them
-none_left_out : {ts : Tokens} (all : RawProgram) → IsProgram ts all → AreUntold [] ts → (text : Bytes) (line : ℕ) → IsLeftOut ts text line → ⊥
-none_left_out all is h text line x = none_begins all is (subst (AreUntold []) x.split h) x.begins
 
 -- what stays of the tree of some tokens is the tree of some tokens, where what is kept is a text
 pub thinned_tree : (k : Kept) (raw : RawProgram) → IsTree raw → IsClosed k raw → IsTree (thinned_text k raw)

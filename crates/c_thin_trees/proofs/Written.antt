@@ -6,7 +6,7 @@ use Rattle.c_language.specs.TokenForms.{Tokens, line_of, mark}
 use Rattle.c_language.specs.Sees.{sees}
 use Rattle.c_language.specs.TypeGrammar.{IsBase}
 use Rattle.c_language.specs.StatementGrammar.{IsSeparated, IsSimple, IsDeclared, IsDeclaration, declaration, IsInit, IsStatement, AreStatements, IsBody}
-use Rattle.c_print.proofs.StatementPrint.{IsLean}
+use Rattle.c_text_layout.proofs.StatementPrint.{IsLean}
 use Rattle.c_thin_trees.proofs.Pieces.{AreFormed, Moved}
 use Rattle.c_thin_trees.proofs.Exprs.{NoIntWord, NoBracket, base_moved, declarator_no_int}
 use Rattle.c_thin_trees.proofs.Fixed.{end_formed, open_formed, close_formed}
@@ -72,7 +72,7 @@ declared_no_int (IsDeclared.list d j) = declarator_no_int d
 declared_no_int (IsDeclared.call d p j) = declarator_no_int d
 declared_no_int (IsDeclared.heap d p j) = declarator_no_int d
 
-end_no_bracket : (l : ℕ) (r : Tokens) → NoBracket (mark (codes ";") l ∷ r)
+pub end_no_bracket : (l : ℕ) (r : Tokens) → NoBracket (mark (codes ";") l ∷ r)
 unfolding sees
 end_no_bracket l r = refl
 

@@ -12,8 +12,8 @@ use Rattle.c_tree.specs.declared.statement.Statement.TheViews.{roll-Statement, o
 use Rattle.c_tree.specs.declared.statement.Statement.TheOpen.{Statement-F}
 use Rattle.c_tree.specs.declared.statement.Statement.TheVariants as s
 use Rattle.c_tree.specs.declared.statement.Arm.{Arm, out-Arm, fold_out-Arm}
-use Rattle.c_tree.specs.Numbered.{Starts, start, starts, starts_step, arm_starts, starts_of_arm, body_starts, arms_starts, part_starts, own_start, layer_start, inner, layer_inner, arms_inner}
-use Rattle.c_tree.proofs.NumberedLemmas.{all-starts, starts-Declare, starts-Assign, starts-Bump, starts-Invoke, starts-Fetch, starts-Write, starts-Print, starts-Heap, starts-Release, starts-If, starts-While, starts-Do, starts-For, starts-Switch, starts-Block, starts-Return}
+use Rattle.c_tree.specs.Numbered.{Starts, start, starts, starts_step, arm_starts, body_starts, own_start, layer_start, inner, layer_inner, arms_inner}
+use Rattle.c_tree.proofs.NumberedLemmas.{all-starts, starts-Declare, starts-Assign, starts-Bump, starts-Invoke, starts-Fetch, starts-Write, starts-Print, starts-Heap, starts-Release, starts-If, starts-While, starts-Do, starts-For, starts-Switch, starts-Block, starts-Return, starts_of_arm, arms_starts, part_starts}
 
 pub out-Declare : (id : Option ℕ) (l x : ℕ) (init : Init) → out-Statement (s.Declare id l x init) ≡ Statement-F.Declare id l x init
 out-Declare id l x init = ap out-Statement (sym (s.rolls-Declare id l x init)) ∙ out-roll-Statement (Statement-F.Declare id l x init)

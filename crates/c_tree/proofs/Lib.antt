@@ -2,3 +2,5 @@ pub mod LayerLemmas
 pub mod NumberedLemmas
 pub mod SearchLemmas
 pub mod UnlinedLemmas
+pub mod RawTrees
+pub mod Trees

@@ -10,8 +10,20 @@ use Rattle.c_tree.specs.declared.statement.Amount.{Amount}
 use Rattle.c_tree.specs.declared.statement.Statement.{Statement, fold-roll-Statement}
 use Rattle.c_tree.specs.declared.statement.Statement.TheOpen.{Statement-F}
 use Rattle.c_tree.specs.declared.statement.Statement.TheVariants as s
-use Rattle.c_tree.specs.declared.statement.Arm.{Arm, roll-Arm, fold-roll-Arm}
-use Rattle.c_tree.specs.Numbered.{Starts, start, all, declared_start, starts_step, arm_starts, starts, starts_of_arm, body_starts, arms_starts, part_starts}
+use Rattle.c_tree.specs.declared.statement.Arm.{Arm, roll-Arm, fold-roll-Arm, fold-Arm}
+use Rattle.c_tree.specs.Numbered.{Starts, start, all, declared_start, starts_step, arm_starts, starts, body_starts}
+
+-- the numbered statements of an arm
+abbrev pub starts_of_arm : Arm → Starts
+starts_of_arm = fold-Arm Starts Starts starts_step arm_starts
+
+abbrev pub arms_starts : List Arm → Starts
+arms_starts [] = []
+arms_starts (a ∷ rest) = starts_of_arm a ++ arms_starts rest
+
+abbrev pub part_starts : Option Statement → Starts
+part_starts None = []
+part_starts (Some s) = starts s
 
 pub all-starts : (b : List Statement) → all (map starts b) ≡ body_starts b
 all-starts [] = refl

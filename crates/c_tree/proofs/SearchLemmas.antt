@@ -30,9 +30,6 @@ found_left id a b one h = record { number = h.number; stands = stands_left h.sta
 pub found_right : (id : ℕ) (a b : List Statement) (one : Statement) → IsFound id b one → IsFound id (a ++ b) one
 found_right id a b one h = record { number = h.number; stands = stands_right a h.stands }
 
-pub free_nil : (id : ℕ) → IsFree id []
-free_nil id = record { others = All-nil (λ (x : Start). x.id ≢ id) }
-
 pub free_both : (id : ℕ) (a b : List Statement) → IsFree id a → IsFree id b → IsFree id (a ++ b)
 free_both id a b h k = record {
   others = rw (body_starts-append a b) (All-append (λ (x : Start). x.id ≢ id) (body_starts a) (body_starts b) h.others k.others);

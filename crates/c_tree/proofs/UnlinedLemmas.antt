@@ -11,8 +11,12 @@ use Rattle.c_tree.specs.declared.statement.Amount.{Amount}
 use Rattle.c_tree.specs.declared.statement.Statement.{Statement, fold-roll-Statement}
 use Rattle.c_tree.specs.declared.statement.Statement.TheOpen.{Statement-F}
 use Rattle.c_tree.specs.declared.statement.Statement.TheVariants as s
-use Rattle.c_tree.specs.declared.statement.Arm.{Arm, roll-Arm, fold-roll-Arm}
-use Rattle.c_tree.specs.Unlined.{unlined_step, unlined_arm, unlined, unlined_of_arm}
+use Rattle.c_tree.specs.declared.statement.Arm.{Arm, roll-Arm, fold-roll-Arm, fold-Arm}
+use Rattle.c_tree.specs.Unlined.{unlined_step, unlined_arm, unlined}
+
+-- an arm with line 0 in the place of each line
+abbrev pub unlined_of_arm : Arm → Arm
+unlined_of_arm = fold-Arm Statement Arm unlined_step unlined_arm
 
 pub unlined-Declare : (id : Option ℕ) (l x : ℕ) (init : Init) → unlined (s.Declare id l x init) ≡ s.Declare id 0 x init
 unlined-Declare id l x init =

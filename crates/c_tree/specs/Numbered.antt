@@ -5,7 +5,7 @@ use Rattle.c_tree.specs.declared.program.Program.{Program}
 use Rattle.c_tree.specs.declared.program.Function.{Function}
 use Rattle.c_tree.specs.declared.statement.Statement.{Statement, fold-Statement, out-Statement}
 use Rattle.c_tree.specs.declared.statement.Statement.TheOpen.{Statement-F, Arm-F}
-use Rattle.c_tree.specs.declared.statement.Arm.{Arm, fold-Arm, out-Arm}
+use Rattle.c_tree.specs.declared.statement.Arm.{Arm, out-Arm}
 
 -- a numbered statement and the line of its first token
 pub record Start : Type 0 where
@@ -55,21 +55,9 @@ arm_starts a = all a.body
 abbrev pub starts : Statement → Starts
 starts = fold-Statement Starts Starts starts_step arm_starts
 
--- the numbered statements of an arm
-abbrev pub starts_of_arm : Arm → Starts
-starts_of_arm = fold-Arm Starts Starts starts_step arm_starts
-
 abbrev pub body_starts : List Statement → Starts
 body_starts [] = []
 body_starts (s ∷ ss) = starts s ++ body_starts ss
-
-abbrev pub arms_starts : List Arm → Starts
-arms_starts [] = []
-arms_starts (a ∷ rest) = starts_of_arm a ++ arms_starts rest
-
-abbrev pub part_starts : Option Statement → Starts
-part_starts None = []
-part_starts (Some s) = starts s
 
 abbrev pub function_starts : List Function → Starts
 function_starts [] = []

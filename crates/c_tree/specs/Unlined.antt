@@ -6,7 +6,7 @@ use Rattle.c_tree.specs.declared.program.Var.{Var}
 use Rattle.c_tree.specs.declared.statement.Statement.{Statement, fold-Statement}
 use Rattle.c_tree.specs.declared.statement.Statement.TheOpen.{Statement-F, Arm-F}
 use Rattle.c_tree.specs.declared.statement.Statement.TheVariants as s
-use Rattle.c_tree.specs.declared.statement.Arm.{Arm, roll-Arm, fold-Arm}
+use Rattle.c_tree.specs.declared.statement.Arm.{Arm, roll-Arm}
 
 abbrev pub unlined_step : Statement-F Statement Arm → Statement
 unlined_step (Statement-F.Declare id l x init) = s.Declare id 0 x init
@@ -32,10 +32,6 @@ unlined_arm a = roll-Arm a
 -- a statement with line 0 in the place of each line
 abbrev pub unlined : Statement → Statement
 unlined = fold-Statement Statement Arm unlined_step unlined_arm
-
--- an arm with line 0 in the place of each line
-abbrev pub unlined_of_arm : Arm → Arm
-unlined_of_arm = fold-Arm Statement Arm unlined_step unlined_arm
 
 abbrev pub unlined_var : Var → Var
 unlined_var v = record v { line = 0 }

@@ -10,7 +10,9 @@ use std::alloc::{AllocError, Global};
 /// A member of a struct type: the type's number, and the member's place among its members.
 #[derive(Clone, Copy, Debug, PartialEq, Eq)]
 pub struct MemberId {
+    /// The struct type.
     pub owner: StructId,
+    /// Its place among the members, counted from 0.
     pub index: u32,
 }
 
@@ -19,20 +21,35 @@ pub struct MemberId {
 pub enum Expr {
     /// The spelling, the type and the value of a constant of an integer type (6.4.4).
     Constant(Text, IntType, u64),
+    /// `NULL` (7.17)
     Null,
+    /// `EOF` (7.19.1)
     Eof,
+    /// A variable by its number.
     Variable(VarId),
+    /// `+e`, `-e`, `~e`, `!e` (6.5.3.3)
     Unary(UnaryOp, Boxed<Expr>),
+    /// `*e` (6.5.3.2)
     Deref(Boxed<Expr>),
+    /// `&e` (6.5.3.2)
     AddressOf(Boxed<Expr>),
+    /// `a op b`, where both operands are always evaluated (6.5.5 to 6.5.12).
     Binary(BinaryOp, Boxed<Expr>, Boxed<Expr>),
+    /// `a && b` (6.5.13)
     AndAlso(Boxed<Expr>, Boxed<Expr>),
+    /// `a || b` (6.5.14)
     OrElse(Boxed<Expr>, Boxed<Expr>),
+    /// `c ? a : b` (6.5.15)
     Choose(Boxed<Expr>, Boxed<Expr>, Boxed<Expr>),
+    /// `(T)e`, to an integer type (6.5.4).
     Cast(IntType, Boxed<Expr>),
+    /// `a[i]` (6.5.2.1)
     Index(Boxed<Expr>, Boxed<Expr>),
+    /// `e.m` (6.5.2.3)
     Member(Boxed<Expr>, MemberId),
+    /// `e->m` (6.5.2.3)
     Arrow(Boxed<Expr>, MemberId),
+    /// `(e)` (6.5.1)
     Paren(Boxed<Expr>),
 }
 

@@ -1,11 +1,18 @@
 /// A quantity of a program that has a greatest number.
 #[derive(Clone, Copy, Debug, PartialEq, Eq)]
 pub enum LimitName {
+    /// How deep a text nests: at most 100.
     Nesting,
+    /// The length of an array: at most 65,536 elements.
     ArrayLength,
+    /// The cells of a variable or of a struct type: at most 1,048,576.
     ObjectCells,
+    /// How many locations a program has. No call tells it yet, and neither those below.
     Locations,
+    /// How many vertices its system graph has.
     Vertices,
+    /// How many words the facts of its system graph take.
     FactWords,
+    /// How many criteria one call has.
     Criteria,
 }

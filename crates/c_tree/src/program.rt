@@ -11,7 +11,9 @@ use std::alloc::{AllocError, Global};
 /// What a declared object begins with (ISO C99 6.7.8).
 #[derive(Debug, Drop)]
 pub enum Init {
+    /// Nothing.
     None,
+    /// One expression.
     One(Expr),
     /// The items of a list in braces.
     Items(Items<Expr>),
@@ -33,13 +35,17 @@ impl Init {
 /// A variable: a global, a parameter or a local.
 #[derive(Debug, Drop)]
 pub struct Var {
+    /// Its name.
     pub name: Text,
+    /// Its type.
     pub shape: CType,
     /// The line of its declaration, or of a parameter's first token.
     pub line: u32,
+    /// Whether it is declared `static`.
     pub is_static: bool,
     /// The function of a local or a parameter.
     pub owner: Option<FunctionId>,
+    /// Whether it is a parameter of its function.
     pub is_parameter: bool,
 }
 
@@ -62,7 +68,9 @@ impl Var {
 /// A member of a struct type.
 #[derive(Debug, Drop)]
 pub struct Member {
+    /// Its name.
     pub name: Text,
+    /// Its type.
     pub shape: CType,
 }
 
@@ -87,7 +95,9 @@ impl Copies for Member {
 /// A struct type with its members.
 #[derive(Debug, Drop)]
 pub struct StructDef {
+    /// Its tag.
     pub name: Text,
+    /// Its members, in text order.
     pub members: Items<Member>,
 }
 
@@ -106,12 +116,17 @@ impl StructDef {
 /// A function with its definition.
 #[derive(Debug, Drop)]
 pub struct Function {
+    /// Its name.
     pub name: Text,
     /// The type of its result; a void function has none.
     pub result: Option<CType>,
+    /// Its parameters by their numbers, in order.
     pub params: Items<VarId>,
+    /// The statements of its outermost block.
     pub body: Items<Statement>,
+    /// Whether it is declared `static`.
     pub is_static: bool,
+    /// The line of its first token, counted from 1.
     pub line: u32,
 }
 
@@ -124,7 +139,9 @@ pub enum Item {
     },
     /// `struct s;`
     Tag(StructId),
+    /// The definition of a struct type.
     Struct(StructId),
+    /// A global variable, and what it begins with.
     Global(VarId, Init),
     /// A prototype, with the names that it gives its parameters.
     Prototype {
@@ -132,6 +149,7 @@ pub enum Item {
         names: Items<Option<Text>>,
         is_static: bool,
     },
+    /// The definition of a function.
     Define(FunctionId),
 }
 
@@ -164,9 +182,13 @@ impl Item {
 /// A whole program.
 #[derive(Debug, Drop)]
 pub struct Program {
+    /// Its items, in text order.
     pub items: Items<Item>,
+    /// Its variables, by their numbers.
     pub vars: Items<Var>,
+    /// Its struct types, by their numbers.
     pub structs: Items<StructDef>,
+    /// Its functions, by their numbers.
     pub functions: Items<Function>,
     /// How many statements it has.
     pub statements: u32,

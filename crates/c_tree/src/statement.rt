@@ -11,7 +11,9 @@ use std::alloc::{AllocError, Global};
 /// Where a value that a call gives is stored.
 #[derive(Debug, Drop)]
 pub enum Target {
+    /// Nowhere.
     None,
+    /// In the object that this expression designates.
     Place(Expr),
     /// The variable that the statement declares.
     Declared(VarId),
@@ -33,6 +35,7 @@ impl Target {
 /// The words of a size: `sizeof(T)`, or `sizeof(*p)` and `sizeof *p`.
 #[derive(Debug, Drop)]
 pub enum Size {
+    /// The size of a type.
     Type(CType),
     /// What a variable points to, and whether it stands in parentheses.
     Pointee(VarId, bool),
@@ -53,11 +56,13 @@ impl Size {
 /// How much memory an allocation asks for.
 #[derive(Debug, Drop)]
 pub enum Amount {
+    /// One object of the size.
     Size(Size),
     /// `n * sizeof(T)`
     CountSize(Expr, Size),
     /// `sizeof(T) * n`
     SizeCount(Size, Expr),
+    /// So many bytes, for objects of a char type.
     Count(Expr),
 }
 
@@ -82,7 +87,9 @@ impl Amount {
 /// A label of a switch: a case with its value, or the default.
 #[derive(Debug, Drop)]
 pub enum Label {
+    /// `case e:`, with its value as the promoted type of the switch has it.
     Case(Expr, i128),
+    /// `default:`
     Default,
 }
 
@@ -102,7 +109,9 @@ impl Label {
 #[cycle(tree)]
 #[derive(Debug, Drop)]
 pub struct Arm {
+    /// Its labels, in text order.
     pub labels: Items<Label>,
+    /// Its statements, without the break.
     pub body: Items<Statement>,
 }
 
@@ -175,6 +184,7 @@ pub enum Statement {
         line: u32,
         value: Expr,
     },
+    /// `if` (6.8.4.1); without an else `other` is empty.
     If {
         id: StatementId,
         line: u32,
@@ -182,18 +192,21 @@ pub enum Statement {
         then: Items<Statement>,
         other: Items<Statement>,
     },
+    /// `while` (6.8.5.1)
     While {
         id: StatementId,
         line: u32,
         test: Expr,
         body: Items<Statement>,
     },
+    /// `do` (6.8.5.2)
     Do {
         id: StatementId,
         line: u32,
         test: Expr,
         body: Items<Statement>,
     },
+    /// `for` (6.8.5.3); what it begins with and its step are statements of their own.
     For {
         id: StatementId,
         line: u32,
@@ -202,16 +215,19 @@ pub enum Statement {
         step: Option<Boxed<Statement>>,
         body: Items<Statement>,
     },
+    /// `switch` (6.8.4.2)
     Switch {
         id: StatementId,
         line: u32,
         test: Expr,
         arms: Items<Arm>,
     },
+    /// A block that is no part of another statement (6.8.2).
     Block {
         line: u32,
         body: Items<Statement>,
     },
+    /// `return` (6.8.6.4), with a value or without one.
     Return {
         id: StatementId,
         line: u32,

@@ -20,10 +20,13 @@ pub type StructId = u32;
 /// A type of C (ISO C99 6.2.5), as far as the language has it.
 #[derive(Debug, Drop)]
 pub enum CType {
+    /// An integer type.
     Integer(IntType),
+    /// A pointer to this type.
     PointerTo(Boxed<CType>),
     /// The type of an element, the length, and the words of the length as they stand in the text.
     Array(Boxed<CType>, u32, Text),
+    /// A struct type by its number.
     Struct(StructId),
 }
 

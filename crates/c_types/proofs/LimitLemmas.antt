@@ -10,22 +10,11 @@ use Rattle.c_tree.specs.declared.program.Var.{Var}
 use Rattle.c_tree.specs.declared.program.Member.{Member}
 use Rattle.c_tree.specs.declared.program.StructDef.{StructDef}
 use Rattle.c_language.specs.Words.{Bytes}
-use Rattle.c_language.specs.Limits.{length_step, longest, longest_member, longest_in_structs, longest_in_variables, cells_step, cells, member_cells, cells_behind, greatest, greatest_variable}
+use Rattle.c_language.specs.Limits.{longest, longest_member, longest_in_structs, longest_in_variables, cells_step, cells, member_cells, cells_behind, greatest, greatest_variable}
+use Rattle.c_types_program.proofs.ShapeLemmas.{longest-Integer, longest-PointerTo, longest-Array, longest-Struct}
 use Rattle.c_types.specs.Capped.{capped_if, capped, all_capped}
 
 -- ---- types
-
-pub longest-Integer : (t : IntType) → longest (type.Integer t) ≡ 0
-longest-Integer t = ap longest (sym (type.rolls-Integer t)) ∙ fold-roll-CType ℕ length_step (CType-F.Integer t)
-
-pub longest-PointerTo : (a : CType) → longest (type.PointerTo a) ≡ longest a
-longest-PointerTo a = ap longest (sym (type.rolls-PointerTo a)) ∙ fold-roll-CType ℕ length_step (CType-F.PointerTo a)
-
-pub longest-Array : (a : CType) (n : ℕ) (words : Bytes) → longest (type.Array a n words) ≡ max n (longest a)
-longest-Array a n words = ap longest (sym (type.rolls-Array a n words)) ∙ fold-roll-CType ℕ length_step (CType-F.Array a n words)
-
-pub longest-Struct : (s : ℕ) → longest (type.Struct s) ≡ 0
-longest-Struct s = ap longest (sym (type.rolls-Struct s)) ∙ fold-roll-CType ℕ length_step (CType-F.Struct s)
 
 pub ruleset longest_of = (longest-Integer, longest-PointerTo, longest-Array, longest-Struct)
 

@@ -7,11 +7,11 @@ ghost use Rattle.c_language.specs.Rules.{IsBroken, KeepsRules};
 ghost use Rattle.c_language.specs.StatementNesting.{program_nesting};
 ghost use Rattle.c_types.specs.Outcome.{IsAbove, IsWithin, Answers, Gives, NamesRule, NamesLimit, Told, Made};
 
-use crate::limits::{array_length, object_cells};
+use crate::limits::{MAX_ARRAY_LENGTH, MAX_OBJECT_CELLS, array_length, object_cells};
 use crate::rule_fault::RuleFault;
 use c_tree::{LimitName, Program, RawProgram};
-use c_types_program::{Stop, make_program};
-use c_types_rules::{RuleFault as Breach, check_rules};
+use c_types_program::{MakeFault, make_program};
+use c_types_rules::{CheckFault, check_rules};
 use std::alloc::Global;
 
 /// The rules of the text, one by one.
@@ -20,8 +20,8 @@ fn keep_rules(alloc: Global, raw: &RawProgram) -> Result<(), RuleFault>
 {
     match check_rules(alloc, raw) {
         Ok(()) => Ok(()),
-        Err(Breach::Rule(number, line)) => Err(RuleFault::Rule(number, line)),
-        Err(Breach::NoMemory) => Err(RuleFault::NoMemory),
+        Err(CheckFault::Rule(number, line)) => Err(RuleFault::Rule(number, line)),
+        Err(CheckFault::NoMemory) => Err(RuleFault::NoMemory),
     }
 }
 
@@ -34,8 +34,8 @@ fn made(alloc: Global, raw: &RawProgram) -> Result<Program, RuleFault>
 {
     match make_program(alloc, raw) {
         Ok(program) => Ok(program),
-        Err(Stop::Length) => Err(RuleFault::Limit(LimitName::ArrayLength)),
-        Err(Stop::NoMemory) => Err(RuleFault::NoMemory),
+        Err(MakeFault::Length) => Err(RuleFault::Limit(LimitName::ArrayLength)),
+        Err(MakeFault::NoMemory) => Err(RuleFault::NoMemory),
     }
 }
 
@@ -45,10 +45,10 @@ fn within(alloc: Global, raw: &RawProgram, program: Program) -> Result<Program, 
     requires { HasProgram raw.now program }
     ensures { Answers raw.now result }
 {
-    if array_length(&program) > 65_536 {
+    if array_length(&program) > MAX_ARRAY_LENGTH {
         return Err(RuleFault::Limit(LimitName::ArrayLength));
     }
-    if object_cells(alloc, &program)? > 1_048_576 {
+    if object_cells(alloc, &program)? > MAX_OBJECT_CELLS {
         return Err(RuleFault::Limit(LimitName::ObjectCells));
     }
     Ok(program)
@@ -67,7 +67,8 @@ fn checked(alloc: Global, raw: &RawProgram) -> Result<Program, RuleFault>
 ///
 /// It is given exactly where all rules hold and array lengths and object cells are within their numbers.
 /// `Rule` names a rule that is broken, at a line where it is. `Limit` names the array length where one is above
-/// 65,536, and else the object cells where a variable or a struct type has more than 1,048,576.
+/// 65,536, and else the object cells where a variable or a struct type has more than 1,048,576. `NoMemory`
+/// where memory runs out.
 #[tactic(auto, using(crate::proofs::AnswerLaws::accepted, crate::proofs::AnswerLaws::broken, crate::proofs::AnswerLaws::above))]
 pub fn check(alloc: Global, raw: RawProgram) -> Result<Program, RuleFault>
     requires tree { IsTree raw }

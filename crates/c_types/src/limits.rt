@@ -9,6 +9,12 @@ ghost use Rattle.c_types.specs.Capped.{all_capped};
 use c_tree::{CType, Member, Program, StructDef, Var};
 use std::alloc::{AllocError, Global};
 
+/// The greatest length that an array may have, in elements.
+pub const MAX_ARRAY_LENGTH: u32 = 65_536;
+
+/// How many cells a variable or a struct type may have at most.
+pub const MAX_OBJECT_CELLS: u64 = 1_048_576;
+
 /// The greatest length in a type.
 #[tactic(auto, using(crate::proofs::Rulesets::types))]
 fn longest(t: &CType) -> u32
@@ -63,7 +69,11 @@ pub fn array_length(p: &Program) -> u32
 fn capped(cells: u64) -> u64
     ensures { result ≡ spec.capped cells }
 {
-    if cells > 1_048_576 { 1_048_577 } else { cells }
+    if cells > MAX_OBJECT_CELLS {
+        MAX_OBJECT_CELLS + 1
+    } else {
+        cells
+    }
 }
 
 /// The cells of a type, by those of each struct type.

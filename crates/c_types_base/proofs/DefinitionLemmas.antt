@@ -1,7 +1,7 @@
 -- The tables of what a text defines grow item by item.
-use Rattle.std.proofs.Common.{◌≡◌, ℕ, zero, suc, List, [], ◌∷◌, ◌++◌, map, Bool, true, false, cond, Option, Some, None, option_map, position, bytes_eq, refl, sym, ap, subst, ◌∙◌}
+use Rattle.std.proofs.Common.{◌≡◌, ℕ, suc, List, [], ◌∷◌, ◌++◌, map, cond, Some, option_map, position, bytes_eq, refl, sym, ap, subst, ◌∙◌}
 use Rattle.std.specs.Borrow.{Bor}
-use Rattle.std.proofs.lemmas.List.{append-nil}
+use Rattle.std.proofs.lemmas.List.{append-nil, map-append}
 use Rattle.c_tree.specs.declared.raw.program.RawMember.{RawMember}
 use Rattle.c_tree.specs.declared.raw.program.RawHead.{RawHead}
 use Rattle.c_tree.specs.declared.raw.statement.RawStatement.{RawStatement}
@@ -10,10 +10,10 @@ use Rattle.c_types_base.specs.declared.definitions.Definitions.{Definitions}
 use Rattle.c_tree.specs.declared.raw.program.RawItem.{RawItem}
 use Rattle.c_tree.specs.declared.raw.program.RawItem.TheVariants.{Include, Tag, Struct, Global, Prototype, Define}
 use Rattle.c_language.specs.DeclaredTypes.{StructText, structs_of, functions_of}
+use Rattle.c_language.proofs.Lists.{position-cons}
 use Rattle.c_types_base.specs.declared.numbering.Numbering.{Numbering}
 use Rattle.c_types_base.specs.Numbering.{Numbers}
 use Rattle.c_types_base.specs.Definitions.{names_of_members, tags_of, names_of_functions, NumberMembers, Defines}
-use Rattle.c_types_base.proofs.NumberingLemmas.{position-cons}
 
 pub structs-append : (xs ys : List RawItem) → structs_of (xs ++ ys) ≡ structs_of xs ++ structs_of ys
 structs-append [] ys = refl
@@ -32,10 +32,6 @@ functions-append (Struct l t ms ∷ xs) ys = functions-append xs ys
 functions-append (Global l v i s ∷ xs) ys = functions-append xs ys
 functions-append (Prototype l h ∷ xs) ys = functions-append xs ys
 functions-append (Define l h b ∷ xs) ys = ap (λ r. h ∷ r) (functions-append xs ys)
-
-pub map-append : {A B : Type 0} (f : A → B) (xs ys : List A) → map f (xs ++ ys) ≡ map f xs ++ map f ys
-map-append f [] ys = refl
-map-append f (x ∷ xs) ys = ap (λ r. f x ∷ r) (map-append f xs ys)
 
 pub members-push : (ss : List StructText) (s : StructText) (ns : List Numbering) (n : Numbering)
     → NumberMembers ss ns → Numbers (names_of_members s.members) n → NumberMembers (ss ++ s ∷ []) (ns ++ n ∷ [])

@@ -1,7 +1,7 @@
 -- A judgement tells the operand where no rule is broken in the expression, and else a rule that is.
-use Rattle.std.proofs.Common.{◌≡◌, ℕ, zero, suc, ◌<◌, List, [], ◌∷◌, length, Bool, true, false, Option, Some, None, Result, Ok, Err, refl, sym, ap, subst, ◌∙◌, arith, ◌⊎◌, inl, inr}
-use Rattle.std.specs.Prelude.{unwrap_or, Contains, slice_index_or, if◌then◌else◌}
-use Rattle.c_tree.specs.declared.raw.expr.RawExpr.{RawExpr, out-RawExpr, map-RawExpr, ind-RawExpr, roll-RawExpr, fold-roll-RawExpr}
+use Rattle.std.proofs.Common.{◌≡◌, ℕ, List, [], ◌∷◌, Bool, true, false, Option, Some, None, Result, Ok, Err, refl, sym, ap, subst, ◌∙◌, ◌⊎◌, inl, inr}
+use Rattle.std.specs.Prelude.{unwrap_or, Contains, if◌then◌else◌}
+use Rattle.c_tree.specs.declared.raw.expr.RawExpr.{RawExpr, map-RawExpr, ind-RawExpr, roll-RawExpr, fold-roll-RawExpr}
 use Rattle.c_tree.specs.declared.raw.expr.RawExpr.TheOpen.{RawExpr-F}
 use Rattle.c_tree.specs.declared.raw.expr.RawExpr.TheViews.{out-roll-RawExpr}
 use Rattle.c_tree.specs.declared.raw.program.RawProgram.{RawProgram}
@@ -10,20 +10,8 @@ use Rattle.c_language.specs.ExprTypes.{operand, operand_step}
 use Rattle.c_language.specs.ExprRules.{Seen, seen, is_undeclared, lacks_header, needs_struct, selects_missing, has_bad_operand, has_no_address}
 use Rattle.c_language.specs.Uses.{operands_of, operands, IsWithin, whole, deeper}
 use Rattle.c_language.specs.declared.expr_type.Operand.{Operand}
+use Rattle.c_language.proofs.Lists.{contains_nil, contains_cons, contains_first, contains_later}
 use Rattle.c_types_base.specs.Judging.{first_fault, fault_or, judge_seen, then_judge, with_one, with_two, with_three, judged_operands, judge_step, judged}
-
-pub contains_nil : {A : Type 0} (x : A) → Contains {X = A} [] x → ⊥
-contains_nil x (k, within, is) = omega (arith, within)
-
-pub contains_cons : {A : Type 0} (a x : A) (xs : List A) → Contains (a ∷ xs) x → (a ≡ x) ⊎ Contains xs x
-contains_cons a x xs (zero, within, is) = inl is
-contains_cons a x xs (suc k, within, is) = inr (k, omega (arith, within), is)
-
-pub contains_first : {A : Type 0} (a : A) (xs : List A) → Contains (a ∷ xs) a
-contains_first a xs = (0, omega arith, refl)
-
-pub contains_later : {A : Type 0} (a x : A) (xs : List A) → Contains xs x → Contains (a ∷ xs) x
-contains_later a x xs (k, within, is) = (suc k, omega (arith, within), is)
 
 -- a rule that the outermost form breaks; 0 where the expression has no type though it breaks none
 pub data FormBreaks (raw : RawProgram) (scope : Scope) (s : Seen) : ℕ → Type 0 where

@@ -9,7 +9,6 @@ pub mod NameLemmas
 pub mod NameSteps
 pub mod NumberingLemmas
 pub mod OptionLemmas
-pub mod PhraseForms
 pub mod PhraseLemmas
 pub mod Rulesets
 pub mod ScopeLaws

@@ -18,20 +18,15 @@ use Rattle.c_language.specs.ExprTypes.{member_named}
 use Rattle.c_language.specs.Phrases.{after_body, after_item, InBlock}
 use Rattle.c_language.specs.Scopes.{Scope, with_entry, with_function, entered, scope_of_parameters, meaning_here, Meaning}
 use Rattle.c_language.specs.declared.expr_type.ExprType.{ExprType}
+use Rattle.c_language.proofs.Lists.{position-cons}
+use Rattle.c_language.proofs.PhraseLists.{body_after}
 use Rattle.c_types_base.specs.Names.{listed_type}
 use Rattle.c_types_base.specs.Numbering.{number_among}
 use Rattle.c_types_base.specs.declared.names.StructMembers.{StructMembers}
 use Rattle.c_types_base.proofs.DefinitionLemmas.{structs-append}
-use Rattle.c_types_base.proofs.NumberingLemmas.{or_else, position-cons}
+use Rattle.c_types_base.proofs.NumberingLemmas.{or_else, or_else-None}
 use Rattle.c_types_base.specs.Listing.{has_name, HasMembers, HasPlace, name_before, names_given}
-use Rattle.c_types_base.proofs.Stretching.{parameters_grow, statements_grow, after_body_is}
-
-or_nothing : {A : Type 0} (o : Option A) → or_else o None ≡ o
-or_nothing None = refl
-or_nothing (Some x) = refl
-
-find-cons : {A : Type 0} (p : A → Bool) (x : A) (xs : List A) → find p (x ∷ xs) ≡ cond (p x) (Some x) (find p xs)
-find-cons p x xs = refl
+use Rattle.c_types_base.proofs.Stretching.{parameters_grow, statements_grow}
 
 push_found : {A : Type 0} (b d : Bool) (x y : A) (rest : Option A) → cond b (Some x) (or_else rest (cond d (Some y) None)) ≡ or_else (cond b (Some x) rest) (cond d (Some y) None)
 push_found true d x y rest = refl
@@ -71,7 +66,7 @@ module _ (raw : RawProgram) (before : List RawMember) (m : RawMember) (old new :
       ∙ ap (λ d. cond d (Some m) None) e
   found_at false q e =
       find-push (λ (x : RawMember). bytes_eq x.name q) m before
-      ∙ ap (λ d. or_else (member_named before q) (cond d (Some m) None)) e ∙ or_nothing (member_named before q)
+      ∙ ap (λ d. or_else (member_named before q) (cond d (Some m) None)) e ∙ or_else-None (member_named before q)
 
   listed_at : (b : Bool) (q : Bytes) → bytes_eq m.name q ≡ b → listed_type q new ≡ cond b (Some t) (listed_type q old)
   listed_at b q e = gives q ∙ ap (λ d. cond d (Some t) (listed_type q old)) e
@@ -136,7 +131,7 @@ module _ (raw : RawProgram) (scope : Scope) where
 
   body_structs : (head : RawHead) (body : List RawStatement) → (after_body raw body (entered raw head scope)).structs ≡ scope.structs
   body_structs head body =
-      ap (λ (x : Scope). x.structs) (after_body_is raw body (entered raw head scope))
+      ap (λ (x : Scope). x.structs) (body_after raw body (entered raw head scope))
       ∙ (statements_grow raw InBlock body (entered raw head scope)).structs
       ∙ (parameters_grow raw head.params (scope_of_parameters head scope)).structs
       ∙ function_structs head.name

@@ -1,15 +1,15 @@
 -- Digits at the front, and the value of digits, one by one.
-use Rattle.std.proofs.Common.{◌≡◌, ℕ, zero, suc, ◌+◌, ◌*◌, ◌^◌, ◌≤◌, ◌<◌, List, [], ◌∷◌, ◌++◌, take, drop, get_or, length, Bool, true, false, refl, subst, sym, ap, ◌∙◌, arith, drop-cons, append_assoc, append-nil}
-use Rattle.std.proofs.Math.Seq.{take-suc}
-use Rattle.std.proofs.Math.ListN.{drop_of_length-le}
-use Rattle.std.proofs.lemmas.List.{take_all}
-use Rattle.std.proofs.lemmas.List.Sums.{take_while-cons}
+use Rattle.std.proofs.Common.{◌≡◌, ℕ, zero, suc, ◌+◌, ◌*◌, ◌^◌, ◌≤◌, ◌<◌, List, [], ◌∷◌, ◌++◌, take, drop, get_or, length, Bool, true, false, refl, subst, sym, ap, ◌∙◌, arith, drop-cons}
 use Rattle.std.specs.Prelude.{pos, option_and_then, slice_get, slice_index, ◌==◌, if◌then◌else◌, fold, take_while, Option, Some, None, IfNone}
 use Rattle.c_arith.specs.declared.int_type.IntType.{IntType}
 use Rattle.c_arith.specs.declared.int_type.IntType.TheVariants.{Char, UChar, Short, UShort, Int, UInt, Long, ULong}
 use Rattle.c_arith.specs.IntType.{lies_in}
 use Rattle.c_language.specs.Constants.{unescaped, escape_value, constant_value, constant_type, Suffix, first_type, digits, base, suffix}
-use Rattle.c_types_base.specs.Literals.{first_from, behind_backslash}
+use Rattle.c_types_base.specs.Literals.{behind_backslash}
+
+abbrev pub first_from : Option ℕ → Option ℕ → ℕ
+first_from None next = 0
+first_from (Some b) next = if b == 92 then behind_backslash next else b
 
 -- the elements so far pass the test, and the rest is still to be tested
 abbrev pub IsAhead : (ℕ → Bool) → List ℕ → ℕ → Type 0

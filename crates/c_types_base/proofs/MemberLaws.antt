@@ -1,5 +1,5 @@
 -- A selection of a member is judged by its struct type.
-use Rattle.std.proofs.Common.{◌≡◌, ℕ, Bool, true, false, Option, Some, None, Result, Ok, Err, refl}
+use Rattle.std.proofs.Common.{◌≡◌, ℕ, Bool, true, false, Option, Some, None, Result, Err, refl}
 use Rattle.std.specs.Prelude.{nat_lt, not, is_some, is_none, if◌then◌else◌, option_map, option_and_then}
 use Rattle.c_tree.specs.declared.raw.expr.RawExpr.TheOpen.{RawExpr-F}
 use Rattle.c_tree.specs.declared.raw.program.RawMember.{RawMember}

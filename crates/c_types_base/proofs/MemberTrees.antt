@@ -8,17 +8,17 @@ use Rattle.c_tree.specs.declared.raw.program.RawProgram.{RawProgram}
 use Rattle.c_language.specs.Words.{Bytes}
 use Rattle.c_language.specs.DeclaredTypes.{StructText, defined_structs}
 use Rattle.c_language.specs.Scopes.{Scope}
-use Rattle.c_language.specs.ExprTypes.{struct_of, member_of, member_named, member_type, pointed}
-use Rattle.c_language.specs.ProgramOf.{index_of_member, member_id, of_operand, of_pointed}
+use Rattle.c_language.specs.ExprTypes.{struct_of, member_of, member_named, member_type}
+use Rattle.c_language.specs.ProgramOf.{member_id, of_operand}
 use Rattle.c_language.specs.declared.expr_type.ExprType.{ExprType}
 use Rattle.c_language.specs.declared.expr_type.Operand.{Operand}
+use Rattle.c_language.proofs.Lists.{position-cons}
 use Rattle.c_types_base.specs.declared.numbering.Numbering.{Numbering}
-use Rattle.c_types_base.specs.Numbering.{Numbers, number_in}
+use Rattle.c_types_base.specs.Numbering.{number_in}
 use Rattle.c_types_base.specs.Definitions.{NumberMembers}
 use Rattle.c_types_base.specs.Judging.{judge_seen, member_or, selected, selected_of}
-use Rattle.c_types_base.proofs.NumberingLemmas.{position-cons}
 use Rattle.c_types_base.proofs.DefinitionLemmas.{position-map}
-use Rattle.c_types_base.proofs.MemberLaws.{member_judged, arrow_judged, selected_from}
+use Rattle.c_types_base.proofs.MemberLaws.{member_judged}
 
 -- a fault is no operand
 no_operand : {n : ℕ} {y : Operand} → ◌≡◌ {A = Result Operand ℕ} (Err n) (Ok y) → ⊥

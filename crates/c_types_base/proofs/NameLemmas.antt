@@ -8,11 +8,10 @@ use Rattle.std.proofs.lemmas.List.{drop-map}
 use Rattle.std.proofs.lemmas.Map.Keys.{IsDistinct-head, IsDistinct-tail}
 use Rattle.std.proofs.lemmas.Slice.Eq.{bytes_eq-Decides}
 use Rattle.std.specs.Borrow.{Bor}
-use Rattle.c_language.specs.Scopes as scopes
 use Rattle.c_language.specs.Scopes.{Entry, found_in}
+use Rattle.c_language.proofs.Lists.{position-cons}
 use Rattle.c_types_base.specs.declared.names.Meaning.{Meaning}
 use Rattle.c_types_base.specs.Names.{meaning_of, entry_of}
-use Rattle.c_types_base.proofs.NumberingLemmas.{position-cons}
 
 by_test : (b : Bool) (e : Bor (List ℕ) × Meaning) (rest : Option Meaning) (found : Option Entry)
     → option_map meaning_of rest ≡ option_map (λ (x : Entry). x.meaning) found
@@ -34,7 +33,7 @@ if_behind n (Some i) o = if nat_lt i n then None else o
 before_nothing : (i : ℕ) → nat_lt i 0 ≡ false
 before_nothing i = grind (arith, nat_tests)
 
-first_within : (n : ℕ) → nat_lt 0 (suc n) ≡ true
+pub first_within : (n : ℕ) → nat_lt 0 (suc n) ≡ true
 first_within n = grind (arith, nat_tests)
 
 one_later : (i n : ℕ) → nat_lt (suc i) (suc n) ≡ nat_lt i n

@@ -1,11 +1,10 @@
 -- A table of names has the first place of each name.
-use Rattle.std.proofs.Common.{◌≡◌, ℕ, zero, suc, ◌+◌, List, [], ◌∷◌, ◌++◌, length, Bool, true, false, cond, Option, Some, None, option_map, position, find, slice_get, option_and_then, bytes_eq, is_some, true≢false, refl, sym, ap, ◌∙◌, arith}
-use Rattle.std.proofs.lemmas.Grind.{common_steps}
+use Rattle.std.proofs.Common.{◌≡◌, ℕ, suc, ◌+◌, List, [], ◌∷◌, ◌++◌, length, Bool, true, false, cond, Option, Some, None, option_map, position, find, slice_get, option_and_then, bytes_eq, is_some, true≢false, refl, sym, ap, ◌∙◌, arith}
 use Rattle.std.proofs.lemmas.Slice.Eq.{bytes_eq-Decides as bytes_decides}
 use Rattle.std.proofs.lemmas.List.{length-append}
-use Rattle.std.specs.Borrow.{Bor}
 use Rattle.std.specs.Map.{update}
 use Rattle.c_language.specs.Words.{Bytes}
+use Rattle.c_language.proofs.Lists.{position-cons}
 use Rattle.c_types_base.specs.declared.numbering.Numbering.{Numbering}
 use Rattle.c_types_base.specs.Numbering.{Numbers, number_among, number_in}
 
@@ -13,9 +12,6 @@ use Rattle.c_types_base.specs.Numbering.{Numbers, number_among, number_in}
 abbrev pub or_else : {A : Type 0} → Option A → Option A → Option A
 or_else (Some x) b = Some x
 or_else None b = b
-
-pub position-cons : {X : Type 0} (p : X → Bool) (x : X) (xs : List X) → position p (x ∷ xs) ≡ cond (p x) (Some 0) (option_map suc (position p xs))
-position-cons p x xs = grind (arith, common_steps)
 
 shifted : (b d : Bool) (o : Option ℕ) (n : ℕ)
     → cond b (Some 0) (option_map suc (or_else o (cond d (Some n) None))) ≡ or_else (cond b (Some 0) (option_map suc o)) (cond d (Some (suc n)) None)
@@ -34,7 +30,7 @@ position-push p x (y ∷ ys) =
 among-push : (names : List Bytes) (name q : Bytes) → number_among (names ++ name ∷ []) q ≡ or_else (number_among names q) (cond (bytes_eq name q) (Some (length names)) None)
 among-push names name q = position-push (λ (x : Bytes). bytes_eq x q) name names
 
-or_else-None : {A : Type 0} (o : Option A) → or_else o None ≡ o
+pub or_else-None : {A : Type 0} (o : Option A) → or_else o None ≡ o
 or_else-None None = refl
 or_else-None (Some x) = refl
 

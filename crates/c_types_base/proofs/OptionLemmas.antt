@@ -1,20 +1,11 @@
 -- Where a value is there, and what is made of values that are.
 use Rattle.std.proofs.Common.{◌≡◌, ◌≢◌, ℕ, List, [], ◌∷◌, ◌++◌, Bool, true, false, Option, Some, None, refl, sym, true≢false, arith}
 use Rattle.std.proofs.lemmas.Bool.Decides.{nat_tests}
-use Rattle.std.specs.Prelude.{IsSome, ◌+◌, ◌<◌, suc, not, nat_lt, length, is_none, option_map, option_and_then, cond}
+use Rattle.std.specs.Prelude.{IsSome, ◌+◌, ◌<◌, suc, not, nat_lt, length, is_none, option_and_then, cond}
 use Rattle.std.specs.List.{find, position, position_or_len}
 use Rattle.c_language.specs.ConstantEvaluation.{both}
 use Rattle.c_language.specs.ProgramOf.{collected, optional}
-
--- a value is there
-abbrev pub IsThere : {A : Type 0} → Option A → Type 0
-IsThere None = ⊥
-IsThere (Some x) = Unit {0}
-
--- the value that is there
-pub value_there : {A : Type 0} (o : Option A) → IsThere o → (x : A) × (o ≡ Some x)
-value_there None h = absurd h
-value_there (Some x) h = (x, refl)
+use Rattle.c_language.proofs.Options.{IsThere, there_map}
 
 pub is_there : {A : Type 0} (o : Option A) → IsThere o → IsSome o
 is_there None h = absurd h
@@ -27,10 +18,6 @@ not_none (Some x) h = tt
 pub there_none : {A : Type 0} (o : Option A) → is_none o ≡ false → IsThere o
 there_none None h = true≢false h
 there_none (Some x) h = tt
-
-pub there_map : {A B : Type 0} (f : A → B) (o : Option A) → IsThere o → IsThere (option_map f o)
-there_map f None h = h
-there_map f (Some x) h = tt
 
 pub there_then : {A B : Type 0} (f : A → Option B) (o : Option A) → IsThere o → ((x : A) → o ≡ Some x → IsThere (f x)) → IsThere (option_and_then f o)
 there_then f None h then_there = h

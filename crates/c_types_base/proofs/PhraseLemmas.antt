@@ -1,11 +1,11 @@
 -- What a judgement of expressions tells of the phrase that holds them.
-use Rattle.std.proofs.Common.{◌≡◌, ℕ, zero, suc, ◌<◌, List, [], ◌∷◌, Bool, true, false, Option, Some, None, Result, Ok, Err, refl, sym, ap, subst, ◌∙◌, arith}
+use Rattle.std.proofs.Common.{◌≡◌, ℕ, ◌<◌, Bool, true, false, Option, Some, None, refl, sym, subst, ◌∙◌, arith}
 use Rattle.std.specs.Prelude.{Contains, if◌then◌else◌}
 use Rattle.c_tree.specs.declared.raw.expr.RawExpr.{RawExpr}
 use Rattle.c_tree.specs.declared.raw.program.RawProgram.{RawProgram}
 use Rattle.c_language.specs.Scopes.{Scope}
 use Rattle.c_language.specs.ExprRules.{Seen, seen, is_undeclared, lacks_header, needs_struct, selects_missing, has_bad_operand, has_no_address}
-use Rattle.c_language.specs.Uses.{expressions, IsWithin, Holds, holds}
+use Rattle.c_language.specs.Uses.{expressions, Holds, holds}
 use Rattle.c_language.specs.Phrases.{Part}
 use Rattle.c_language.specs.Rules.{Breaks, undeclared, tag, member, operator, address, no_header}
 use Rattle.c_language.specs.NameRules.{UsesUndeclared, LacksHeader}

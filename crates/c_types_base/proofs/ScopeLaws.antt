@@ -1,5 +1,5 @@
 -- A statement keeps the names that stand before it, and a block takes away those that it declares.
-use Rattle.std.proofs.Common.{◌≡◌, ℕ, List, [], ◌∷◌, ◌++◌, length, take, map, Option, Some, None, refl, sym, ap, subst, ◌∙◌}
+use Rattle.std.proofs.Common.{◌≡◌, List, [], ◌∷◌, ◌++◌, length, take, map, Some, None, refl, sym, ap, subst, ◌∙◌}
 use Rattle.std.proofs.lemmas.List.{append-nil, append_assoc}
 use Rattle.c_tree.specs.declared.raw.expr.RawVar.{RawVar}
 use Rattle.c_tree.specs.declared.raw.program.RawInit.{RawInit}
@@ -9,9 +9,8 @@ use Rattle.c_tree.specs.declared.raw.statement.RawTarget.{RawTarget}
 use Rattle.c_tree.specs.declared.raw.statement.RawTarget.TheVariants as target
 use Rattle.c_tree.specs.declared.raw.statement.RawStatement.{RawStatement, fold-RawStatement, ind-RawStatement, roll-RawStatement, map-RawStatement, fold-roll-RawStatement}
 use Rattle.c_tree.specs.declared.raw.statement.RawStatement.TheOpen.{RawStatement-F, RawArm-F}
-use Rattle.c_tree.specs.declared.raw.statement.RawArm.{RawArm, fold-RawArm, roll-RawArm, map-RawArm, fold-roll-RawArm}
-use Rattle.c_language.specs.Words.{Bytes}
-use Rattle.c_language.specs.Scopes.{Scope, Entry, Meaning, Scoped, with_entry, with_variable, with_target, begun, numbered, opened, closed, after_all, after_block, after_part, scope_of_test, scope_of_body, after_step, after_arm}
+use Rattle.c_tree.specs.declared.raw.statement.RawArm.{RawArm, fold-RawArm, roll-RawArm, fold-roll-RawArm}
+use Rattle.c_language.specs.Scopes.{Scope, Entry, Scoped, with_variable, with_target, begun, numbered, opened, closed, after_all, after_block, after_step, after_arm}
 
 -- the names of the first scope stand at the front of those of the second, and the rest is the same but for numbers
 pub record Extends (x y : Scope) : Type 0 where
@@ -115,9 +114,6 @@ module _ {R Q : Type 0} (raw : RawProgram) (gives : RawStatement-F (Scoped R) (S
   arms_extend [] x = stays x
   arms_extend (p ∷ ps) x =
       then_extends x ((of_arm p.0).after x) (after_all (map of_arm (map (λ q. q.0) ps)) ((of_arm p.0).after x)) (p.1 x) (arms_extend ps ((of_arm p.0).after x))
-
-  opened_numbered : Scope → Scope
-  opened_numbered x = opened (numbered x)
 
   -- a for is a block of its own
   for_extends : (x y z : Scope) (ps : Parts) → Extends (opened (numbered x)) y → Extends y z → Extends x (closed x (inside ps z))

@@ -1,6 +1,5 @@
 -- Stretches of a text, part by part, and the names that they leave.
-use Rattle.std.proofs.Common.{◌≡◌, ℕ, ◌+◌, ◌<◌, ◌≤◌, List, [], ◌∷◌, ◌++◌, length, drop, get_or, map, Option, Some, None, refl, sym, ap, subst, ◌∙◌}
-use Rattle.std.proofs.lemmas.List.{drop_more, drop_all}
+use Rattle.std.proofs.Common.{◌≡◌, ℕ, ◌+◌, ◌<◌, List, [], ◌∷◌, ◌++◌, length, drop, get_or, map, Option, Some, None, refl, sym, ap, subst, ◌∙◌}
 use Rattle.c_tree.specs.declared.raw.expr.RawExpr.{RawExpr}
 use Rattle.c_tree.specs.declared.raw.program.RawParam.{RawParam}
 use Rattle.c_tree.specs.declared.raw.program.RawInit.TheVariants as init
@@ -10,15 +9,28 @@ use Rattle.c_tree.specs.declared.raw.statement.RawStatement.TheOpen.{RawArm-F}
 use Rattle.c_tree.specs.declared.raw.statement.RawStatement.TheVariants as s
 use Rattle.c_tree.specs.declared.raw.statement.RawArm.{RawArm, fold_out-RawArm}
 use Rattle.c_language.specs.Words.{Bytes}
-use Rattle.c_language.specs.Scopes.{Scope, Scoped, opened, with_named, with_parameter, with_parameters, parameter_of, in_order, after_all}
-use Rattle.c_language.specs.Phrases.{Stand, InFor, InBlock, InArm, Phrases, joined_at, ArmText, labels_of, phrases_step, scoped_step, scoped_arm, scoped, scoped_of_arm, body_phrases, after_body}
+use Rattle.c_language.specs.Scopes.{Scope, Scoped, opened, with_named, with_parameter, with_parameters, parameter_of, in_order, after_all, numbered}
+use Rattle.c_language.specs.Phrases.{Stand, InFor, InBlock, InArm, Phrases, joined_at, ArmText, labels_of, phrases_step, scoped_step, scoped_arm, scoped, scoped_of_arm, Part, Tests, phrase}
+use Rattle.c_language.proofs.ScopedForms.{scoped-For}
+use Rattle.c_language.proofs.Turns.{drop_turn}
 use Rattle.c_types_base.proofs.ScopeLaws.{Extends, stays, then_extends, variable_extends, block_extends, statement_grows}
-use Rattle.c_types_base.specs.Stretches.{then_comes, nothing, enclosed, a_number, standing, of_statement, of_statements, of_block, of_arm, of_arms, of_part, of_for, of_parameters, labels_in}
-use Rattle.c_types_base.proofs.PhraseForms.{scoped-For}
+use Rattle.c_types_base.specs.Stretches.{then_comes, enclosed, standing, of_statement, of_statements, of_block, of_arms, of_part, of_parameters, labels_in, Stretch}
 
--- what is left of a list from an element on
-pub here : {A : Type 0} (xs : List A) (i : ℕ) (x : A) → i < length xs → x ≡ get_or xs i x → drop i xs ≡ x ∷ drop (i + 1) xs
-here xs i x within is = drop_more xs i x within ∙ ap (λ y. y ∷ drop (i + 1) xs) (sym is)
+-- no phrase, and a statement is numbered
+abbrev pub a_number : Stretch
+a_number raw = record { gives = λ (scope : Scope). []; after = numbered }
+
+-- a phrase, which leaves the scope as it is
+abbrev pub one_phrase : ℕ → Part → Stretch
+one_phrase line part raw = record { gives = λ (scope : Scope). phrase line scope part ∷ []; after = λ (scope : Scope). scope }
+
+abbrev pub of_arm : RawArm → Stretch
+of_arm a raw = record { gives = λ (scope : Scope). ((scoped_of_arm raw a).gives scope).phrases; after = (scoped_of_arm raw a).after }
+
+-- a for behind its number: init, test, step and body
+abbrev pub of_for : ℕ → Option RawStatement → RawExpr → Option RawStatement → List RawStatement → Stretch
+of_for line i test step body =
+    then_comes (of_part InFor i) (then_comes (one_phrase line (Tests test)) (then_comes (of_part InBlock step) (of_block body)))
 
 -- the names before the stretch stand at the front of those after it
 abbrev pub Grows : Scoped Phrases → Type 0
@@ -82,15 +94,6 @@ module _ (raw : RawProgram) where
   for_is stand line (Some i) test None body = ap (standing stand) (scoped-For raw line (Some i) test None body)
   for_is stand line (Some i) test (Some step) body = ap (standing stand) (scoped-For raw line (Some i) test (Some step) body)
 
-  -- the body of a function is a list of statements
-  pub body_is : (body : List RawStatement) (x : Scope) → body_phrases raw body x ≡ joined_at InBlock (in_order (map (scoped raw) body) x)
-  body_is [] x = refl
-  body_is (one ∷ body) x = ap (λ ps. (scoped raw one).gives x InBlock ++ ps) (body_is body ((scoped raw one).after x))
-
-  pub after_body_is : (body : List RawStatement) (x : Scope) → after_body raw body x ≡ after_all (map (scoped raw) body) x
-  after_body_is [] x = refl
-  after_body_is (one ∷ body) x = after_body_is body ((scoped raw one).after x)
-
   named_grows : (p : RawParam) (name : Option Bytes) (x : Scope) → Extends x (with_named raw p name x)
   named_grows p None x = stays x
   named_grows p (Some name) x = variable_extends raw (parameter_of p name) init.None x
@@ -102,13 +105,7 @@ module _ (raw : RawProgram) where
 -- a list of statements from an element on
 pub statements_here : (stand : Stand) (ss : List RawStatement) (i : ℕ) (one : RawStatement) (raw : RawProgram) → i < length ss → one ≡ get_or ss i one
     → of_statements stand (drop i ss) raw ≡ then_comes (of_statement stand one) (of_statements stand (drop (i + 1) ss)) raw
-statements_here stand ss i one raw within is = ap (λ xs. of_statements stand xs raw) (here ss i one within is)
-
-pub statements_end : (stand : Stand) (ss : List RawStatement) (i : ℕ) (raw : RawProgram) → length ss ≤ i → of_statements stand (drop i ss) raw ≡ nothing raw
-statements_end stand ss i raw all = ap (λ xs. of_statements stand xs raw) (drop_all i ss all)
+statements_here stand ss i one raw within is = ap (λ xs. of_statements stand xs raw) (drop_turn ss i one within is)
 
 pub arms_here : (arms : List RawArm) (i : ℕ) (a : RawArm) (raw : RawProgram) → i < length arms → a ≡ get_or arms i a → of_arms (drop i arms) raw ≡ then_comes (of_arm a) (of_arms (drop (i + 1) arms)) raw
-arms_here arms i a raw within is = ap (λ xs. of_arms xs raw) (here arms i a within is)
-
-pub arms_end : (arms : List RawArm) (i : ℕ) (raw : RawProgram) → length arms ≤ i → of_arms (drop i arms) raw ≡ nothing raw
-arms_end arms i raw all = ap (λ xs. of_arms xs raw) (drop_all i arms all)
+arms_here arms i a raw within is = ap (λ xs. of_arms xs raw) (drop_turn arms i a within is)

@@ -1,19 +1,16 @@
 -- All that is in scope by right tables has a type.
-use Rattle.std.proofs.Common.{◌≡◌, ℕ, ◌<◌, List, Bool, true, false, Option, Some, None, refl, sym, ap, subst, ◌∙◌}
-use Rattle.std.specs.Prelude.{is_some, map, option_map, option_and_then, bytes_eq, vec_len}
+use Rattle.std.proofs.Common.{◌≡◌, ℕ, List, Bool, true, false, Option, Some, None, refl, sym, ap, ◌∙◌}
+use Rattle.std.specs.Prelude.{is_some, option_map, option_and_then, bytes_eq}
 use Rattle.std.specs.Borrow.{Bor}
 use Rattle.std.specs.Map.{lookup}
 use Rattle.c_tree.specs.declared.raw.program.RawMember.{RawMember}
-use Rattle.c_language.specs.Words.{Bytes}
 use Rattle.c_language.specs.DeclaredTypes.{written_type}
 use Rattle.c_language.specs.Scopes as scopes
-use Rattle.c_language.specs.Scopes.{meaning_in}
-use Rattle.c_language.specs.ExprTypes.{member_of}
 use Rattle.c_types_base.specs.declared.names.Meaning.{Meaning}
 use Rattle.c_types_base.specs.declared.names.Meaning.TheVariants.{Variable, Function}
 use Rattle.c_types_base.specs.declared.tables.Tables.{Tables}
 use Rattle.c_types_base.specs.Names.{meaning_of}
-use Rattle.c_types_base.specs.Tables.{scope_of, listed_in, AreRight}
+use Rattle.c_types_base.specs.Tables.{scope_of, AreRight}
 use Rattle.c_types_base.proofs.NameLemmas.{found_lookup}
 use Rattle.c_types_base.proofs.PhraseLemmas.{clash}
 use Rattle.c_types_base.proofs.TypedLaws.{IsTyped}

@@ -1,7 +1,7 @@
 -- Members, parameters and items as stretches of a text, one after another.
-use Rattle.std.proofs.Common.{◌≡◌, ℕ, ◌+◌, ◌<◌, ◌≤◌, List, [], ◌∷◌, ◌++◌, length, take, drop, get_or, Bool, true, false, Some, option_and_then, is_some, slice_get, refl, sym, ap, subst, ◌∙◌, append_assoc}
+use Rattle.std.proofs.Common.{◌≡◌, ℕ, ◌+◌, ◌<◌, List, [], ◌∷◌, ◌++◌, length, take, drop, get_or, Bool, true, false, Some, option_and_then, is_some, slice_get, refl, sym, ap, subst, ◌∙◌, append_assoc}
 use Rattle.std.specs.Prelude.{vec_len, if◌then◌else◌}
-use Rattle.std.proofs.lemmas.List.{take_more, drop_all}
+use Rattle.std.proofs.lemmas.List.{take_more}
 use Rattle.c_tree.specs.declared.raw.program.RawHead.{RawHead}
 use Rattle.c_tree.specs.declared.raw.program.RawItem.{RawItem}
 use Rattle.c_tree.specs.declared.raw.program.RawItem.TheVariants.{Define}
@@ -12,42 +12,46 @@ use Rattle.c_tree.specs.declared.raw.statement.RawStatement.{RawStatement}
 use Rattle.c_language.specs.Words.{Bytes}
 use Rattle.c_language.specs.DeclaredTypes.{StructText, defined_structs, written_type}
 use Rattle.c_language.specs.ExprTypes.{member_named}
-use Rattle.c_language.specs.Phrases.{InBlock, HasMember, DeclaresFunction, Takes, EndsFunction, Phrases, phrase, head_phrases, body_phrases, item_phrases, after_item}
+use Rattle.c_language.specs.Phrases.{InBlock, HasMember, DeclaresFunction, Takes, EndsFunction, Phrases, phrase, head_phrases, body_phrases, item_phrases, after_item, member_phrases, taken_phrases}
 use Rattle.c_language.specs.Scopes.{Scope, Meaning, meaning_here, opened, closed, with_entry, with_function, with_parameters, scope_of_parameters, entered}
+use Rattle.c_language.proofs.Turns.{drop_turn}
+use Rattle.c_language.proofs.PhraseLists.{body_in_order, body_after}
 use Rattle.c_types_base.specs.Tables.{Lists}
 use Rattle.c_types_base.specs.declared.names.StructMembers.{StructMembers}
 use Rattle.c_types_base.specs.declared.tables.Tables.{Tables}
 use Rattle.c_types_base.proofs.ScopeLaws.{Extends, then_extends}
 use Rattle.c_types_base.specs.Listing.{HasMembers, HasPlace}
-use Rattle.c_types_base.specs.Stretches.{Stretch, then_comes, nothing, one_phrase, of_statements, of_members, of_taken, of_parameter, of_parameters, of_function, inside_function, of_item, of_items}
-use Rattle.c_types_base.proofs.Stretching.{here, parameters_grow, statements_grow, body_is, after_body_is}
+use Rattle.c_types_base.specs.Stretches.{Stretch, then_comes, of_statements, of_parameter, of_parameters, of_function, inside_function, of_item, of_items}
+use Rattle.c_types_base.proofs.Stretching.{parameters_grow, statements_grow, one_phrase}
+
+-- the members of a struct type, behind others
+abbrev pub of_members : List RawMember → List RawMember → Stretch
+of_members before ms raw = record { gives = λ (scope : Scope). member_phrases scope before ms; after = λ (scope : Scope). scope }
+
+-- the parameters of a prototype, behind others
+abbrev pub of_taken : List RawParam → List RawParam → Stretch
+of_taken before ps raw = record { gives = λ (scope : Scope). taken_phrases scope before ps; after = λ (scope : Scope). scope }
 
 -- parts of lists from an element on
 pub members_here : (ms : List RawMember) (i : ℕ) (m : RawMember) (raw : RawProgram) → i < length ms → m ≡ get_or ms i m
     → of_members (take i ms) (drop i ms) raw ≡ then_comes (one_phrase m.line (HasMember (take i ms) m)) (of_members (take (i + 1) ms) (drop (i + 1) ms)) raw
 members_here ms i m raw within is =
-    ap (λ rest. of_members (take i ms) rest raw) (here ms i m within is)
+    ap (λ rest. of_members (take i ms) rest raw) (drop_turn ms i m within is)
     ∙ ap (λ before. then_comes (one_phrase m.line (HasMember (take i ms) m)) (of_members before (drop (i + 1) ms)) raw) (ap (λ x. take i ms ++ x ∷ []) is ∙ sym (take_more ms i m within))
-
-pub members_end : (ms : List RawMember) (i : ℕ) (raw : RawProgram) → length ms ≤ i → of_members (take i ms) (drop i ms) raw ≡ nothing raw
-members_end ms i raw all = ap (λ rest. of_members (take i ms) rest raw) (drop_all i ms all)
 
 pub taken_here : (ps : List RawParam) (i : ℕ) (p : RawParam) (raw : RawProgram) → i < length ps → p ≡ get_or ps i p
     → of_taken (take i ps) (drop i ps) raw ≡ then_comes (one_phrase p.line (Takes (take i ps) p)) (of_taken (take (i + 1) ps) (drop (i + 1) ps)) raw
 taken_here ps i p raw within is =
-    ap (λ rest. of_taken (take i ps) rest raw) (here ps i p within is)
+    ap (λ rest. of_taken (take i ps) rest raw) (drop_turn ps i p within is)
     ∙ ap (λ before. then_comes (one_phrase p.line (Takes (take i ps) p)) (of_taken before (drop (i + 1) ps)) raw) (ap (λ x. take i ps ++ x ∷ []) is ∙ sym (take_more ps i p within))
-
-pub taken_end : (ps : List RawParam) (i : ℕ) (raw : RawProgram) → length ps ≤ i → of_taken (take i ps) (drop i ps) raw ≡ nothing raw
-taken_end ps i raw all = ap (λ rest. of_taken (take i ps) rest raw) (drop_all i ps all)
 
 pub parameters_here : (ps : List RawParam) (i : ℕ) (p : RawParam) (raw : RawProgram) → i < length ps → p ≡ get_or ps i p
     → of_parameters (drop i ps) raw ≡ then_comes (of_parameter p) (of_parameters (drop (i + 1) ps)) raw
-parameters_here ps i p raw within is = ap (λ rest. of_parameters rest raw) (here ps i p within is)
+parameters_here ps i p raw within is = ap (λ rest. of_parameters rest raw) (drop_turn ps i p within is)
 
 pub items_here : (xs : List RawItem) (i : ℕ) (x : RawItem) (raw : RawProgram) → i < length xs → x ≡ get_or xs i x
     → of_items (drop i xs) raw ≡ then_comes (of_item x) (of_items (drop (i + 1) xs)) raw
-items_here xs i x raw within is = ap (λ rest. of_items rest raw) (here xs i x within is)
+items_here xs i x raw within is = ap (λ rest. of_items rest raw) (drop_turn xs i x within is)
 
 -- one element more
 pub with_next : {A : Type 0} (xs : List A) (i : ℕ) (x : A) → i < length xs → x ≡ get_or xs i x → take i xs ++ x ∷ [] ≡ take (i + 1) xs
@@ -76,7 +80,7 @@ inside_grows raw head body x =
     then_extends x y ((of_statements InBlock body raw).after y) (parameters_grow raw head.params x) (statements_grow raw InBlock body y)
 
 -- the definition of a function
-functions_same : (found : Bool) (name : Bytes) (scope : Scope) → (if found then scope else with_entry name Meaning.Function scope).functions ≡ scope.functions
+pub functions_same : (found : Bool) (name : Bytes) (scope : Scope) → (if found then scope else with_entry name Meaning.Function scope).functions ≡ scope.functions
 functions_same true name scope = refl
 functions_same false name scope = refl
 
@@ -99,7 +103,7 @@ module _ (raw : RawProgram) (line : ℕ) (head : RawHead) (body : List RawStatem
   inside_is : inside ≡ head_phrases raw head.params (scope_of_parameters head scope) ++ body_phrases raw body (entered raw head scope)
   inside_is =
       ap (of_inside head body raw).gives enters_same
-      ∙ ap (λ ps. head_phrases raw head.params (scope_of_parameters head scope) ++ ps) (sym (body_is raw body (entered raw head scope)))
+      ∙ ap (λ ps. head_phrases raw head.params (scope_of_parameters head scope) ++ ps) (sym (body_in_order raw body (entered raw head scope)))
 
   pub define_phrases : begin_phrase ++ (inside ++ end_phrase) ≡ item_phrases raw (Define line head body) scope
   define_phrases =
@@ -107,4 +111,4 @@ module _ (raw : RawProgram) (line : ℕ) (head : RawHead) (body : List RawStatem
       ∙ ap (λ ps. begin_phrase ++ ps) (append_assoc (head_phrases raw head.params (scope_of_parameters head scope)) (body_phrases raw body (entered raw head scope)) end_phrase)
 
   pub define_after : (of_function head body raw).after declared ≡ after_item raw (Define line head body) scope
-  define_after = ap (closed declared) (ap (of_inside head body raw).after enters_same ∙ sym (after_body_is raw body (entered raw head scope)))
+  define_after = ap (closed declared) (ap (of_inside head body raw).after enters_same ∙ sym (body_after raw body (entered raw head scope)))

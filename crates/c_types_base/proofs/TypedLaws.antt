@@ -13,7 +13,7 @@ use Rattle.c_language.specs.ExprTypes.{a_place, a_value, given, variable_in, str
 use Rattle.c_language.specs.ExprRules.{Seen, fails, is_function}
 use Rattle.c_language.specs.declared.expr_type.ExprType.{ExprType}
 use Rattle.c_language.specs.declared.expr_type.Operand.{Operand}
-use Rattle.c_types_base.specs.Judging.{fault_or, judge_seen, then_judge, with_one, with_two, with_three, judged_operands, judge_step, judged, member_or, selected_of, selected}
+use Rattle.c_types_base.specs.Judging.{fault_or, judge_seen, then_judge, with_one, with_two, with_three, judge_step, judged, member_or, selected_of}
 use Rattle.c_types_base.proofs.MemberLaws.{member_judged, arrow_judged, selected_from}
 
 -- each variable in scope has a type, and so has each member of a complete struct type

@@ -1,5 +1,5 @@
 -- The names of a table, as those of a scope.
-use Rattle.std.specs.Prelude.{ℕ, List, map, Option, Some, None, bytes_eq}
+use Rattle.std.specs.Prelude.{ℕ, List, map, Option, Some, bytes_eq}
 use Rattle.std.specs.Borrow.{Bor}
 use Rattle.c_language.specs.Scopes as scopes
 use Rattle.c_language.specs.Scopes.{Entry}

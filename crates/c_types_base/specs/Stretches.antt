@@ -1,9 +1,7 @@
 -- Stretches of a text: the phrases of each, and the scope after it.
 use Rattle.std.specs.Prelude.{ℕ, ◌+◌, List, [], ◌∷◌, ◌++◌, map, Option, Some, None}
-use Rattle.c_tree.specs.declared.raw.expr.RawExpr.{RawExpr}
 use Rattle.c_tree.specs.declared.raw.expr.RawVar.{RawVar}
 use Rattle.c_tree.specs.declared.raw.program.RawInit.{RawInit}
-use Rattle.c_tree.specs.declared.raw.program.RawMember.{RawMember}
 use Rattle.c_tree.specs.declared.raw.program.RawParam.{RawParam}
 use Rattle.c_tree.specs.declared.raw.program.RawHead.{RawHead}
 use Rattle.c_tree.specs.declared.raw.program.RawItem.{RawItem}
@@ -14,7 +12,7 @@ use Rattle.c_tree.specs.declared.raw.statement.RawArm.{RawArm}
 use Rattle.c_tree.specs.declared.raw.statement.RawStatement.{RawStatement}
 use Rattle.c_tree.specs.declared.raw.statement.RawStatement.TheOpen.{RawStatement-F}
 use Rattle.c_language.specs.Scopes.{Scope, Scoped, opened, closed, numbered, with_variable, with_parameter, with_parameters, with_target, in_order, after_all}
-use Rattle.c_language.specs.Phrases.{Stand, InFor, InBlock, Part, Tests, Phrases, phrase, declaration, target_phrases, joined_at, ArmText, phrases_of_arms, scoped_step, scoped, scoped_of_arm, member_phrases, taken_phrases, parameter_phrases, head_phrases, item_phrases, after_item, items_phrases, after_items}
+use Rattle.c_language.specs.Phrases.{Stand, InBlock, Part, Phrases, phrase, declaration, target_phrases, joined_at, ArmText, phrases_of_arms, scoped_step, scoped, scoped_of_arm, parameter_phrases, head_phrases, item_phrases, after_item, items_phrases, after_items}
 
 -- a stretch of the text, where it stands
 abbrev pub Stretch : Type 0
@@ -37,14 +35,6 @@ enclosed w raw = record {
 -- no phrase, and the same scope
 abbrev pub nothing : Stretch
 nothing raw = record { gives = λ (scope : Scope). []; after = λ (scope : Scope). scope }
-
--- no phrase, and a statement is numbered
-abbrev pub a_number : Stretch
-a_number raw = record { gives = λ (scope : Scope). []; after = numbered }
-
--- a phrase, which leaves the scope as it is
-abbrev pub one_phrase : ℕ → Part → Stretch
-one_phrase line part raw = record { gives = λ (scope : Scope). phrase line scope part ∷ []; after = λ (scope : Scope). scope }
 
 -- a phrase of a statement that is numbered
 abbrev pub a_statement : ℕ → Part → Stretch
@@ -78,9 +68,6 @@ of_statements stand ss raw = record {
 abbrev pub of_block : List RawStatement → Stretch
 of_block ss = enclosed (of_statements InBlock ss)
 
-abbrev pub of_arm : RawArm → Stretch
-of_arm a raw = record { gives = λ (scope : Scope). ((scoped_of_arm raw a).gives scope).phrases; after = (scoped_of_arm raw a).after }
-
 abbrev pub of_arms : List RawArm → Stretch
 of_arms arms raw = record {
   gives = λ (scope : Scope). phrases_of_arms (in_order (map (scoped_of_arm raw) arms) scope);
@@ -91,19 +78,6 @@ of_arms arms raw = record {
 abbrev pub of_part : Stand → Option RawStatement → Stretch
 of_part stand None = nothing
 of_part stand (Some s) = of_statement stand s
-
--- a for behind its number: init, test, step and body
-abbrev pub of_for : ℕ → Option RawStatement → RawExpr → Option RawStatement → List RawStatement → Stretch
-of_for line i test step body =
-    then_comes (of_part InFor i) (then_comes (one_phrase line (Tests test)) (then_comes (of_part InBlock step) (of_block body)))
-
--- the members of a struct type, behind others
-abbrev pub of_members : List RawMember → List RawMember → Stretch
-of_members before ms raw = record { gives = λ (scope : Scope). member_phrases scope before ms; after = λ (scope : Scope). scope }
-
--- the parameters of a prototype, behind others
-abbrev pub of_taken : List RawParam → List RawParam → Stretch
-of_taken before ps raw = record { gives = λ (scope : Scope). taken_phrases scope before ps; after = λ (scope : Scope). scope }
 
 -- the parameters of a definition
 abbrev pub of_parameters : List RawParam → Stretch

@@ -7,7 +7,7 @@ ghost use Rattle.c_tree.specs.declared.raw.statement.RawStatement.{RawStatement}
 ghost use Rattle.c_language.specs.DeclaredTypes as types;
 ghost use Rattle.c_language.specs.ExprTypes as exprs;
 ghost use Rattle.c_language.specs.ProgramOf as trees;
-ghost use Rattle.c_types_base.specs.Numbering.{Numbers, number_in};
+ghost use Rattle.c_types_base.specs.Numbering.{Numbers};
 ghost use Rattle.c_types_base.specs.Definitions.{Defines, IsOfText, names_of_members};
 
 use crate::expr_type::struct_of;
@@ -20,6 +20,7 @@ use std::alloc::{AllocError, Global};
 /// The struct types and the functions that a text defines, in text order.
 #[derive(Drop)]
 pub struct Definitions<'a> {
+    /// The tree of the text.
     pub raw: &'a RawProgram,
     /// The struct types by their tags.
     pub tags: Numbering<'a>,

@@ -1,10 +1,10 @@
 //! Types of expressions, and what operators make of them (ISO C99 6.5).
-ghost use Rattle.std.specs.Prelude.{◌≡◌, IfOk, Option, option_and_then, option_map, is_some};
+ghost use Rattle.std.specs.Prelude.{◌≡◌, IfOk, Option, is_some};
 ghost use Rattle.c_language.specs.DeclaredTypes as types;
 ghost use Rattle.c_language.specs.ExprTypes as spec;
 
-use c_arith::{BinaryOp, IntType, UnaryOp, promote};
-use c_language::{Base, ExprType, Layer, Operand};
+use c_arith::IntType;
+use c_language::{Base, ExprType, Layer};
 use sqlite_items::Items;
 use std::alloc::{AllocError, Global};
 
@@ -79,12 +79,6 @@ pub fn struct_of(t: &ExprType) -> Option<u32>
         Base::Struct(s) => Some(s),
         Base::Integer(_) | Base::Void => None,
     }
-}
-
-fn is_void(t: &ExprType) -> bool
-    ensures { result ≡ spec.is_void t.now }
-{
-    t.layers.is_empty() && t.base == Base::Void
 }
 
 /// Whether the type is an integer type.

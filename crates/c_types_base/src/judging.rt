@@ -1,5 +1,5 @@
 //! The judgement of an expression: its type, or a rule that is broken in it.
-ghost use Rattle.std.specs.Prelude.{◌≡◌, Some, vec_len};
+ghost use Rattle.std.specs.Prelude.{◌≡◌, Some};
 ghost use Rattle.c_tree.specs.declared.raw.expr.RawExpr.TheOpen.{RawExpr-F};
 ghost use Rattle.c_language.specs.ExprRules as rules;
 ghost use Rattle.c_language.specs.ExprTypes as types;

@@ -1,5 +1,5 @@
 //! What the spelling of a constant is worth (ISO C99 6.4.4).
-ghost use Rattle.std.specs.Prelude.{Bool, false, [], ◌∷◌, ◌&&◌, ◌||◌, ◌≡◌, ◌≤◌, ◌^◌, pos, length, take, drop, slice_index, Option, IfSome, IfNone, option_and_then, option_map, option_copied};
+ghost use Rattle.std.specs.Prelude.{Bool, false, [], ◌∷◌, ◌&&◌, ◌||◌, ◌≡◌, ◌≤◌, ◌^◌, pos, length, drop, slice_index, Option, IfSome, IfNone, option_and_then, option_map};
 ghost use Rattle.c_arith.specs.IntType.{LiesIn};
 ghost use Rattle.c_language.specs.Constants as spec;
 ghost use Rattle.c_types_base.specs.Literals.{behind_backslash};

@@ -11,13 +11,16 @@ use std::alloc::{AllocError, Global};
 /// What an ordinary name stands for.
 #[derive(Debug, Drop)]
 pub enum Meaning {
+    /// A variable, with its number and its type.
     Variable(VarId, ExprType),
+    /// A function.
     Function,
 }
 
 /// The names that are in scope, in the order of their declarations.
 #[derive(Drop)]
 pub struct Names<'a> {
+    /// What each name stands for, in the order of the declarations.
     pub entries: IndexMap<&'a [u8], Meaning>,
 }
 
@@ -77,6 +80,7 @@ impl<'a> Names<'a> {
 /// A struct type that is complete: its members with their types, in their order.
 #[derive(Drop)]
 pub struct StructMembers<'a> {
+    /// The type of each member, in the order of the members.
     pub entries: IndexMap<&'a [u8], ExprType>,
 }
 

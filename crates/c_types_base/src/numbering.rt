@@ -8,6 +8,7 @@ use std::alloc::{AllocError, Global};
 /// The first place of each name among those that were given, counted from 0.
 #[derive(Drop)]
 pub struct Numbering<'a> {
+    /// The first place of each name.
     pub entries: IndexMap<&'a [u8], u32>,
     /// How many names were given.
     pub count: u32,

@@ -1,15 +1,15 @@
 //! What operators take and give (ISO C99 6.5).
-ghost use Rattle.std.specs.Prelude.{◌≡◌, Option, option_and_then, option_map};
+ghost use Rattle.std.specs.Prelude.{◌≡◌, Option};
 ghost use Rattle.c_language.specs.ExprTypes as spec;
 
 use crate::constant::{binary_type, operand_type};
 use crate::expr_type::{
-    integer, integer_of, is_array, is_integer, is_object_pointer, is_pointer, is_scalar, same_type,
+    integer, integer_of, is_integer, is_object_pointer, is_pointer, is_scalar, same_type,
     target_of, value_type,
 };
 use c_arith::{BinaryOp, IntType, UnaryOp, common, promote};
 use c_language::{ExprType, Operand};
-use std::alloc::{AllocError, Global};
+use std::alloc::Global;
 
 /// A unary operator at a value of the type.
 pub fn unary_result(alloc: Global, op: UnaryOp, t: &ExprType) -> Option<ExprType>

@@ -1,43 +1,50 @@
 //! What stands before a place of the text, as tables.
-ghost use Rattle.std.specs.Prelude.{◌≡◌, ◌<◌, Some, None, ◌+◌, IfOk, OnOk, length, take, vec_len, option_copied};
+ghost use Rattle.std.specs.Prelude.{◌≡◌, ◌<◌, Some, None, ◌+◌, IfOk, OnOk, length, take, vec_len};
 ghost use Rattle.c_language.specs.DeclaredTypes as types;
 ghost use Rattle.c_language.specs.Scopes as scopes;
-ghost use Rattle.c_types_base.specs.Definitions.{IsOfText};
 ghost use Rattle.c_types_base.specs.Tables.{scope_of, AreRight, IsAt, Lists};
 
-use crate::declared_types::written_type;
 use crate::definitions::Definitions;
 use crate::names::{Meaning, Names, StructMembers};
 use c_language::ExprType;
-use c_tree::{FunctionId, RawItem, RawMember, RawProgram, StatementId};
-use indexmap::IndexMap;
+use c_tree::{FunctionId, RawItem, RawProgram, StatementId};
 use std::alloc::{AllocError, Global};
 
 /// What stands before a place of the text.
 #[derive(Drop)]
 pub struct Tables<'a> {
+    /// The tree of the text.
     pub raw: &'a RawProgram,
     /// What the whole text defines.
     pub defined: Definitions<'a>,
+    /// The names that are in scope.
     pub names: Names<'a>,
     /// How many of the names are declared outside the innermost block.
     pub outer: usize,
+    /// The function in whose definition the place is.
     pub owner: Option<FunctionId>,
     /// The struct types that are complete.
     pub structs: Vec<StructMembers<'a>>,
+    /// How many functions are defined before the place.
     pub functions: u32,
+    /// How many variables are declared before it.
     pub variables: u32,
+    /// How many statements are numbered before it.
     pub statements: u32,
-    /// Whether the text includes `stdio.h`, and `stdlib.h`.
+    /// Whether the text includes `stdio.h`.
     pub has_stdio: bool,
+    /// Whether the text includes `stdlib.h`.
     pub has_stdlib: bool,
 }
 
 /// How many names there are before a block, and where they stand.
 #[derive(Clone, Copy, Debug)]
 pub struct Before {
+    /// How many names are in scope.
     pub names: usize,
+    /// How many of them are declared outside the innermost block.
     pub outer: usize,
+    /// The function in whose definition the block is.
     pub owner: Option<FunctionId>,
 }
 

@@ -1,6 +1,7 @@
 -- An allocation that keeps its rules has its tree, where its result is stored and no length stands in its type names.
 use Rattle.std.proofs.Common.{◌≡◌, ℕ, [], ◌∷◌, Bool, Option, Some, None, refl, sym, ap, subst}
 use Rattle.std.specs.Prelude.{Contains, is_some, option_map}
+use Rattle.std.proofs.lemmas.List.Elements.{Contains-append_left, Contains-append_right}
 use Rattle.c_tree.specs.declared.statement.Target.{Target}
 use Rattle.c_tree.specs.declared.statement.Size.TheVariants as measure
 use Rattle.c_tree.specs.declared.statement.Amount.TheVariants as quantity
@@ -27,12 +28,13 @@ use Rattle.c_language.specs.TypeGrammar.{named_type}
 use Rattle.c_language.specs.ProgramOf.{ctype, ctype_if, expr_of, variable_number, size_tree, amount_tree, heap_tree}
 use Rattle.c_language.specs.declared.expr_type.ExprType.{ExprType}
 use Rattle.c_language.specs.declared.expr_type.Operand.{Operand}
-use Rattle.c_types_base.proofs.JudgingLaws.{contains_first}
-use Rattle.c_types_base.proofs.OptionLemmas.{IsThere, value_there, not_none, there_map, there_then, there_optional}
+use Rattle.c_language.proofs.Options.{IsThere, value_there, there_map}
+use Rattle.c_language.proofs.Lists.{contains_first}
+use Rattle.c_types_base.proofs.OptionLemmas.{not_none, there_then, there_optional}
 use Rattle.c_types_program.specs.Fitting.{IsStored, IsAllocation}
 use Rattle.c_types_program.specs.Keeping.{IsPlainName, IsPlainSize, IsPlainAmount}
 use Rattle.c_types_program.proofs.ScopeLemmas.{IsTyped, AreComplete}
-use Rattle.c_types_program.proofs.PhraseTrees.{KeepsAt, contains_front, contains_back, tag_defined, named_made, IsMadeTarget, phrase_tree, phrase_operand}
+use Rattle.c_types_program.proofs.PhraseTrees.{KeepsAt, tag_defined, named_made, IsMadeTarget, phrase_tree, phrase_operand}
 
 module _ (raw : RawProgram) (scope : Scope) (to : RawTarget) (cast : Option RawTypeName) (n : RawAmount) (keeps : KeepsAt raw scope (Allocates to cast n))
     (stored_type : IsThere (target_type raw scope to)) where
@@ -49,7 +51,7 @@ module _ (raw : RawProgram) (scope : Scope) (to : RawTarget) (cast : Option RawT
   cast_there (Some c) plain defined = there_optional (Some (ctype raw (named_type c))) (named_made raw c plain defined).tree
 
   pub own_cast : IsPlainName cast → IsThere (ctype_if raw (option_map named_type cast))
-  own_cast plain = cast_there cast plain (λ w c. tag_there w (contains_front (tags_if (option_map (λ (t : RawTypeName). t.base) cast)) (tags_of_size (sizes n)) w c))
+  own_cast plain = cast_there cast plain (λ w c. tag_there w (Contains-append_left (tags_if (option_map (λ (t : RawTypeName). t.base) cast)) (tags_of_size (sizes n)) w c))
 
   -- a variable whose target is measured
   measured : (name : Bytes) (closed : Bool) → Contains (sizes n) (size.Pointee name closed) → (m : Option Meaning) → meaning_in scope name ≡ m → IsThere (variable_number m)
@@ -63,12 +65,12 @@ module _ (raw : RawProgram) (scope : Scope) (to : RawTarget) (cast : Option RawT
   size_there : (z : RawSize) → IsPlainSize z → Contains (sizes n) z → ((w : Bytes) → Contains (tags_of_size (z ∷ [])) w → IsThere (struct_id raw w))
       → IsThere (size_tree raw scope z)
   size_there (size.Type t) plain c defined =
-      there_map measure.Type (ctype raw (named_type t)) (named_made raw t plain (λ w k. defined w (contains_front (tags_in t.base) [] w k))).tree
+      there_map measure.Type (ctype raw (named_type t)) (named_made raw t plain (λ w k. defined w (Contains-append_left (tags_in t.base) [] w k))).tree
   size_there (size.Pointee name closed) plain c defined =
       there_map (λ (x : ℕ). measure.Pointee x closed) (variable_number (meaning_in scope name)) (measured name closed c (meaning_in scope name) refl)
 
   size_tag : (w : Bytes) → Contains (tags_of_size (sizes n)) w → IsThere (struct_id raw w)
-  size_tag w c = tag_there w (contains_back (tags_if (option_map (λ (t : RawTypeName). t.base) cast)) (tags_of_size (sizes n)) w c)
+  size_tag w c = tag_there w (Contains-append_right (tags_if (option_map (λ (t : RawTypeName). t.base) cast)) (tags_of_size (sizes n)) w c)
 
   pub amount_there : (m : RawAmount) → IsPlainAmount m
       → ((z : RawSize) → IsPlainSize z → sizes m ≡ z ∷ [] → IsThere (size_tree raw scope z))
@@ -97,10 +99,10 @@ module _ (raw : RawProgram) (complete : AreComplete raw (defined_structs raw)) (
   module _ (to : RawTarget) (cast : Option RawTypeName) (n : RawAmount) (form : IsAllocation to cast n) (made : IsMadeTarget raw to)
       (keeps : KeepsAt raw scope (Allocates to cast n)) where
     count_tree : (e : RawExpr) → Contains (counts n) e → IsThere (expr_of raw scope e)
-    count_tree e c = phrase_tree raw complete scope typed (Allocates to cast n) keeps e (contains_back (target_exprs to) (counts n) e c)
+    count_tree e c = phrase_tree raw complete scope typed (Allocates to cast n) keeps e (Contains-append_right (target_exprs to) (counts n) e c)
 
     pub stored_type : IsThere (target_type raw scope to)
-    stored_type = target_typed (Allocates to cast n) keeps to form.stored made (λ e c. contains_front (target_exprs to) (counts n) e c)
+    stored_type = target_typed (Allocates to cast n) keeps to form.stored made (λ e c. Contains-append_left (target_exprs to) (counts n) e c)
 
     pub heap_there : (id line : ℕ) (t : Option Target) → IsThere t → IsThere (heap_tree raw scope id line t cast n)
     heap_there id line t there =

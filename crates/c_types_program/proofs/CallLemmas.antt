@@ -2,6 +2,7 @@
 use Rattle.std.proofs.Common.{◌≡◌, ◌≢◌, ℕ, List, [], ◌∷◌, Bool, true, false, Some, None, option_map, option_and_then, refl, ap, subst, ◌∙◌, inl, inr}
 use Rattle.std.proofs.lemmas.Slice.Eq.{bytes_eq-Decides}
 use Rattle.std.specs.Prelude.{◌||◌, bytes_eq, codes}
+use Rattle.std.proofs.lemmas.List.Elements.{Contains-append_right}
 use Rattle.c_tree.specs.declared.expr.Expr.{Expr}
 use Rattle.c_tree.specs.declared.statement.Statement.TheVariants as s
 use Rattle.c_tree.specs.declared.raw.expr.RawExpr.{RawExpr}
@@ -19,15 +20,15 @@ use Rattle.c_language.specs.NameRules.{UsesUndeclared, LacksDefinition}
 use Rattle.c_language.specs.CallRules.{MisusesArguments, format_in, later_args, pieces_in, MisusesFormat, only_arg, MisusesLibrary}
 use Rattle.c_language.specs.ProgramOf.{args_tree, print_tree}
 use Rattle.c_language.specs.Formats.{conversions}
+use Rattle.c_language.proofs.Options.{IsThere, value_there, some_same, none_there}
+use Rattle.c_language.proofs.Lists.{contains_nil, contains_cons, contains_first, contains_later}
 use Rattle.c_types_base.specs.declared.tables.Tables.{Tables}
 use Rattle.c_types_base.specs.Tables.{scope_of, AreRight}
-use Rattle.c_types_base.proofs.JudgingLaws.{contains_nil, contains_cons, contains_first, contains_later}
-use Rattle.c_types_base.proofs.OptionLemmas.{IsThere, value_there, not_none, there_position}
+use Rattle.c_types_base.proofs.OptionLemmas.{not_none, there_position}
 use Rattle.c_types_program.specs.Keeping.{IsKept, IsGiven, IsOperand, AreOperands, IsValue, AreValues, IsKeptCall}
 use Rattle.c_types_program.proofs.CallTrees.{AreExpressions, widths_are, types_are}
 use Rattle.c_types_program.proofs.KeptLemmas.{kept_operand}
-use Rattle.c_types_program.proofs.OptionPaths.{some_is, none_is, given_there}
-use Rattle.c_types_program.proofs.PhraseTrees.{contains_back}
+use Rattle.c_types_program.proofs.OptionPaths.{given_there}
 
 module _ (raw : RawProgram) (scope : Scope) where
   -- arguments that are expressions, each of which is an operand
@@ -41,11 +42,11 @@ module _ (raw : RawProgram) (scope : Scope) where
 
   -- the one argument
   pub only_operand : (args : List RawArg) (e : RawExpr) → only_arg args ≡ Some e → AreOperands raw scope (arg_exprs args) → IsOperand raw scope e
-  only_operand [] e is operands = absurd (none_is is)
-  only_operand (arg.Value a ∷ []) e is operands = subst (IsOperand raw scope) (some_is is) (operands a (contains_first a []))
-  only_operand (arg.Value a ∷ (b ∷ rest)) e is operands = absurd (none_is is)
-  only_operand (arg.Literal text ∷ []) e is operands = absurd (none_is is)
-  only_operand (arg.Literal text ∷ (b ∷ rest)) e is operands = absurd (none_is is)
+  only_operand [] e is operands = none_there is
+  only_operand (arg.Value a ∷ []) e is operands = subst (IsOperand raw scope) (some_same is) (operands a (contains_first a []))
+  only_operand (arg.Value a ∷ (b ∷ rest)) e is operands = none_there is
+  only_operand (arg.Literal text ∷ []) e is operands = none_there is
+  only_operand (arg.Literal text ∷ (b ∷ rest)) e is operands = none_there is
 
   pub printed : (id line : ℕ) (args : List RawArg) (text : Bytes) (es : List Expr) → format_in args ≡ Some text → args_tree raw scope (later_args args) ≡ Some es
       → print_tree raw scope id line args ≡ Some (s.Print id line text es)
@@ -100,7 +101,7 @@ module _ (raw : RawProgram) (scope : Scope) where
 
 module _ (t : Tables) (right : AreRight t) (f : Bytes) (args : List RawArg) (call : IsKeptCall t.raw.now (scope_of t) f args) where
   pub call_operands : AreOperands t.raw.now (scope_of t) (arg_exprs args)
-  call_operands e c = kept_operand t right (Calls call.stand call.to f args) call.kept e (contains_back (target_exprs call.to) (arg_exprs args) e c)
+  call_operands e c = kept_operand t right (Calls call.stand call.to f args) call.kept e (Contains-append_right (target_exprs call.to) (arg_exprs args) e c)
 
   pub printf_values : bytes_eq f (codes "printf") ≡ true → AreValues t.raw.now (scope_of t) (later_args args)
   printf_values is =

@@ -2,6 +2,7 @@
 use Rattle.std.proofs.Common.{◌≡◌, ◌≢◌, ℕ, suc, List, [], ◌∷◌, length, map, Bool, true, false, Option, None, refl, subst, arith}
 use Rattle.std.proofs.lemmas.Slice.Eq.{bytes_eq-Decides}
 use Rattle.std.specs.Prelude.{Contains, ◌||◌, if◌then◌else◌, bytes_eq, codes}
+use Rattle.std.proofs.lemmas.List.Elements.{Contains-append_right}
 use Rattle.c_tree.specs.declared.statement.Target.{Target}
 use Rattle.c_tree.specs.declared.statement.Statement.TheVariants as s
 use Rattle.c_tree.specs.declared.raw.expr.RawExpr.{RawExpr}
@@ -21,10 +22,11 @@ use Rattle.c_language.specs.NameRules.{UsesUndeclared, LacksDefinition}
 use Rattle.c_language.specs.CallRules.{HasUnfitArgument, MisusesArguments, format_in, later_args, pieces_in, HasUnfitWidth, MisusesFormat, only_arg, MisusesLibrary}
 use Rattle.c_language.specs.Formats.{Conversion, conversions}
 use Rattle.c_language.specs.ProgramOf.{expr_of, arg_tree, args_tree, only_tree, print_tree, invoke_tree, call_tree}
-use Rattle.c_types_base.proofs.JudgingLaws.{contains_first, contains_later}
-use Rattle.c_types_base.proofs.OptionLemmas.{IsThere, value_there, not_none, there_map, there_then, there_both, AreThere, there_collected, there_position}
+use Rattle.c_language.proofs.Options.{IsThere, value_there, there_map}
+use Rattle.c_language.proofs.Lists.{contains_first, contains_later}
+use Rattle.c_types_base.proofs.OptionLemmas.{not_none, there_then, there_both, AreThere, there_collected, there_position}
 use Rattle.c_types_program.proofs.ScopeLemmas.{IsTyped, AreComplete}
-use Rattle.c_types_program.proofs.PhraseTrees.{KeepsAt, contains_back, phrase_tree}
+use Rattle.c_types_program.proofs.PhraseTrees.{KeepsAt, phrase_tree}
 
 -- of two values, the one that a test chooses
 there_if : {A : Type 0} (b : Bool) (x y : Option A) → (b ≡ true → IsThere x) → (b ≡ false → IsThere y) → IsThere (if b then x else y)
@@ -85,7 +87,7 @@ module _ (raw : RawProgram) (scope : Scope) where
 module _ (raw : RawProgram) (complete : AreComplete raw (defined_structs raw)) (scope : Scope) (typed : IsTyped scope) where
   module _ (stand : Stand) (to : RawTarget) (f : Bytes) (args : List RawArg) (keeps : KeepsAt raw scope (Calls stand to f args)) where
     arg_trees : (e : RawExpr) → Contains (arg_exprs args) e → IsThere (expr_of raw scope e)
-    arg_trees e c = phrase_tree raw complete scope typed (Calls stand to f args) keeps e (contains_back (target_exprs to) (arg_exprs args) e c)
+    arg_trees e c = phrase_tree raw complete scope typed (Calls stand to f args) keeps e (Contains-append_right (target_exprs to) (arg_exprs args) e c)
 
     -- what is said of a function of the library holds of this one, where it has the name
     keeps_named : (w : Bytes) → bytes_eq f w ≡ true → KeepsAt raw scope (Calls stand to w args)

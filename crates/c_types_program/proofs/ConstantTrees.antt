@@ -9,7 +9,8 @@ use Rattle.c_language.specs.ConstantEvaluation.{constant, constant_step, value_o
 use Rattle.c_language.specs.Scopes.{Scope}
 use Rattle.c_language.specs.ProgramOf.{Told, told_step, expr_of}
 use Rattle.c_language.specs.declared.constant.Constant.{Constant}
-use Rattle.c_types_base.proofs.OptionLemmas.{IsThere, there_map, there_then, there_both}
+use Rattle.c_language.proofs.Options.{IsThere, there_map}
+use Rattle.c_types_base.proofs.OptionLemmas.{there_then, there_both}
 
 map_of : {A B : Type 0} (f : A → B) (o : Option A) → IsThere (option_map f o) → IsThere o
 map_of f None h = h

@@ -17,33 +17,16 @@ use Rattle.c_language.specs.ProgramOf.{Told, told_step, variable_number, index_o
 use Rattle.c_language.specs.Uses.{operands_of, IsWithin, whole, deeper}
 use Rattle.c_language.specs.declared.expr_type.ExprType.{ExprType}
 use Rattle.c_language.specs.declared.expr_type.Operand.{Operand}
+use Rattle.c_language.proofs.Options.{IsThere, there_map}
+use Rattle.c_language.proofs.Lists.{contains_first, contains_later}
+use Rattle.c_language.proofs.UseLemmas.{OfParts}
 use Rattle.c_types_base.proofs.PhraseLemmas.{IsClean}
-use Rattle.c_types_base.proofs.OptionLemmas.{IsThere, there_none, there_map, there_then, there_both, there_position}
+use Rattle.c_types_base.proofs.OptionLemmas.{there_none, there_then, there_both, there_position}
 use Rattle.c_types_program.proofs.ScopeLemmas.{IsTyped, HasTypeIf, typed_meaning, IsMadeIf, AreComplete, made_member}
-use Rattle.c_types_base.proofs.JudgingLaws.{contains_first, contains_later}
 
 -- no part of an expression breaks a rule
 abbrev pub KeepsAll : RawProgram → Scope → RawExpr → Type 0
 KeepsAll raw scope a = (inner : RawExpr) → IsWithin inner a → IsClean raw scope (seen raw scope inner)
-
--- the same of each operand of a form
-abbrev pub OfParts : {A : Type 0} → (A → Type 0) → RawExpr-F A → Type 0
-OfParts P (RawExpr-F.Constant text) = Unit {0}
-OfParts P RawExpr-F.Null = Unit {0}
-OfParts P RawExpr-F.Eof = Unit {0}
-OfParts P (RawExpr-F.Variable name) = Unit {0}
-OfParts P (RawExpr-F.Unary op a) = P a
-OfParts P (RawExpr-F.Deref a) = P a
-OfParts P (RawExpr-F.AddressOf a) = P a
-OfParts P (RawExpr-F.Binary op a b) = P a × P b
-OfParts P (RawExpr-F.AndAlso a b) = P a × P b
-OfParts P (RawExpr-F.OrElse a b) = P a × P b
-OfParts P (RawExpr-F.Choose c a b) = P c × P a × P b
-OfParts P (RawExpr-F.Cast t a) = P a
-OfParts P (RawExpr-F.Index a i) = P a × P i
-OfParts P (RawExpr-F.Member a m) = P a
-OfParts P (RawExpr-F.Arrow a m) = P a
-OfParts P (RawExpr-F.Paren a) = P a
 
 not_fails : {A : Type 0} (r : Option A) → fails (Some r) ≡ false → IsThere r
 not_fails None h = true≢false h

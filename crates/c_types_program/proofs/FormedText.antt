@@ -28,12 +28,13 @@ use Rattle.c_language.specs.Scopes.{Scope, Scoped, opened, numbered, in_order, p
 use Rattle.c_language.specs.StatementGrammar.{arm, IsSeparated, IsSimple, IsDeclared, AreDeclared, IsDeclaration, IsInit, IsStep, IsStatement, AreStatements, IsBody, IsElse, AreArms}
 use Rattle.c_language.specs.TokenForms.{Tokens, line_of}
 use Rattle.c_language.specs.Words.{Bytes}
+use Rattle.c_language.proofs.ScopedForms.{scoped-Declare, scoped-Assign, scoped-Bump, scoped-Call, scoped-Heap, scoped-If, scoped-While, scoped-Do, scoped-Switch, scoped-Block, scoped-Return}
 use Rattle.c_types_program.specs.Fitting.{IsAllocation, IsFormed, AreFit}
 use Rattle.c_types_program.specs.Keeping.{HasNoLengthIf}
 use Rattle.c_types_program.proofs.GrammarTrees.{heap_plain, name_plain}
 use Rattle.c_types_program.proofs.PhraseTrees.{AreKept}
 use Rattle.c_types_program.proofs.RuleLaws.{phrases_kept}
-use Rattle.c_types_program.proofs.StatementForms.{scoped_part, scoped-Declare, scoped-Assign, scoped-Bump, scoped-Call, scoped-Heap, scoped-If, scoped-While, scoped-Do, scoped-For, scoped-Switch, scoped-Block, scoped-Return, scoped-arm}
+use Rattle.c_types_program.proofs.StatementForms.{scoped_part, scoped-For, scoped-arm}
 
 abbrev AreFormed : Phrases → Type 0
 AreFormed [] = Unit {0}

@@ -1,6 +1,7 @@
 -- What the walk does at the definition of a function, step by step.
-use Rattle.std.proofs.Common.{◌≡◌, ℕ, ◌+◌, ◌<◌, ◌≤◌, List, [], ◌∷◌, ◌++◌, length, drop, get_or, map, Bool, true, false, Option, Some, None, append-nil, refl, sym, ap, subst, ◌∙◌}
-use Rattle.std.specs.Prelude.{is_some, if◌then◌else◌}
+use Rattle.std.proofs.Common.{◌≡◌, ℕ, ◌+◌, ◌<◌, ◌≤◌, List, [], ◌∷◌, ◌++◌, length, drop, get_or, map, true, false, Option, Some, None, append-nil, refl, sym, ap, subst, ◌∙◌}
+use Rattle.std.specs.Prelude.{is_some}
+use Rattle.std.proofs.lemmas.List.{drop_all}
 use Rattle.c_tree.specs.declared.program.Function.{Function}
 use Rattle.c_tree.specs.declared.raw.program.RawInit.TheVariants as init
 use Rattle.c_tree.specs.declared.raw.program.RawItem.TheVariants.{Define}
@@ -16,22 +17,23 @@ use Rattle.c_language.specs.Phrases.{InHead, InBlock, DeclaresFunction, EndsFunc
 use Rattle.c_language.specs.ProgramOf.{collected, ctype_with, ctype_if, treed, body_of, parameter_ids, variables_in}
 use Rattle.c_language.specs.Scopes.{Scope, Meaning, meaning_in, meaning_here, with_entry, with_function, with_named, with_parameters, parameter_of, scope_of_parameters, entered, opened, in_order, after_all}
 use Rattle.c_language.specs.Words.{Bytes}
+use Rattle.c_language.proofs.PhraseLists.{variables-append}
+use Rattle.c_language.proofs.TreeScopes.{list_after}
 use Rattle.c_types_base.specs.Tables.{scope_of, AreRight, IsAt}
 use Rattle.c_types_base.proofs.ScopeLaws.{Extends, then_extends, front}
 use Rattle.c_types_base.specs.Stretches.{Stretch, then_comes, nothing, of_parameter, of_parameters, of_function, of_item, inside_function}
-use Rattle.c_types_base.proofs.TextSteps.{parameters_here, define_phrases, define_after}
+use Rattle.c_types_base.proofs.TextSteps.{parameters_here, define_phrases, define_after, functions_same}
 use Rattle.c_types_base.proofs.Stretching.{parameters_grow, statements_grow}
 use Rattle.c_types_program.specs.declared.walk.Walk.{Walk}
 use Rattle.c_types_program.specs.Keeping.{HasNoLengthIf, IsKept, IsKeptHead}
 use Rattle.c_types_program.specs.Fitting.{AreFit, IsFit, AreFitInside}
 use Rattle.c_types_program.specs.Making.{Grow, Comes, FitAll, HaveTrees, PassesAll, variable_with}
 use Rattle.c_types_program.specs.Walking.{FitsStretch, PassesStretch, HasBody, HasFunction}
-use Rattle.c_types_program.proofs.Growing.{grow_none, grow_then, variables_both, fit_both}
-use Rattle.c_types_program.proofs.Passing.{same_all, cut, cut_closes}
+use Rattle.c_types_program.proofs.Growing.{grow_none, grow_then, fit_both}
+use Rattle.c_types_program.proofs.Passing.{cut, cut_closes}
 use Rattle.c_types_program.proofs.Progress.{Place, Along, sets_out, left_as, next_fits, comes_on, all_gone}
 use Rattle.c_types_program.proofs.SimpleForms.{declares_fresh, declares_typed, declares_shaped}
 use Rattle.c_types_program.proofs.Standing.{Stands, here, told, given, goes, came}
-use Rattle.c_types_program.proofs.Turns.{drop_end}
 
 -- nothing is passed
 pub stays_here : (w : Walk) → Comes w w (scope_of w.tables) []
@@ -90,9 +92,6 @@ module _ (w : Walk) (right : AreRight w.tables) (head : RawHead) (body : List Ra
     abbrev inside : Stands text start u.tables
     inside = goes (λ r x. inside_function x) (here w.tables right) enters
 
-    pub function_right : AreRight u.tables
-    function_right = inside.right
-
     pub function_parameters : FitsStretch (of_function head body) w → FitsStretch (of_parameters head.params) u
     function_parameters h = given (λ r x. AreFit r (head_phrases r head.params x)) inside (parts_fit h).0
 
@@ -110,7 +109,7 @@ module _ (w : Walk) (right : AreRight w.tables) (head : RawHead) (body : List Ra
       function_has xs h = told (λ r x. collected (in_order (map (treed r) body) x) ≡ Some xs) behind h
 
       ends_at : after_all (map (treed text) body) past ≡ after_all (map (scoped text) body) past
-      ends_at = same_all text body past
+      ends_at = list_after text body past
 
       grows : Extends start (after_all (map (scoped text) body) past)
       grows = then_extends start past (after_all (map (scoped text) body) past) (parameters_grow text head.params start) (statements_grow text InBlock body past)
@@ -128,7 +127,7 @@ module _ (w : Walk) (right : AreRight w.tables) (head : RawHead) (body : List Ra
           record {
             arrives = came end (ap (λ (x : Scope). cut names outer owner x) ends_at ∙ cut_closes outside after names outer owner n o f (front start after grows));
             grow =
-                subst (Grow w.variables z.variables) (sym (variables_both text (head_phrases text head.params start) (joined_at InBlock (in_order (map (scoped text) body) past))))
+                subst (Grow w.variables z.variables) (sym (variables-append text (head_phrases text head.params start) (joined_at InBlock (in_order (map (scoped text) body) past))))
                 (subst (λ b. Grow w.variables b (variables_in text (head_phrases text head.params start) ++ variables_in text (joined_at InBlock (in_order (map (scoped text) body) past)))) (sym last)
                 (grow_then
                 (subst (λ a. Grow a v.variables (variables_in text (head_phrases text head.params start))) same (told (λ r x. Grow u.variables v.variables (variables_in r (head_phrases r head.params x))) inside through.grow))
@@ -136,10 +135,6 @@ module _ (w : Walk) (right : AreRight w.tables) (head : RawHead) (body : List Ra
           }
 
 -- ---- a definition
-
-functions_same : (found : Bool) (name : Bytes) (scope : Scope) → (if found then scope else with_entry name Meaning.Function scope).functions ≡ scope.functions
-functions_same true name scope = refl
-functions_same false name scope = refl
 
 -- the parameters begin where the function is entered, behind its name
 begins_at : (head : RawHead) (scope : Scope) → inside_function (with_function head.name scope) ≡ scope_of_parameters head scope
@@ -179,9 +174,6 @@ module _ (w : Walk) (right : AreRight w.tables) (line : ℕ) (head : RawHead) (b
       abbrev named : Stands source declared u.tables
       named = goes (λ r x. with_function head.name x) (here w.tables right) (subst (λ n. IsAt w.tables u.tables (with_function n before)) same at)
 
-      pub definition_right : AreRight u.tables
-      definition_right = named.right
-
       pub definition_inside : FitsStretch (of_function head body) u
       definition_inside = given (λ r x. AreFit r ((of_function head body r).gives x)) named (fit_both source inner end_phrase opened_fit.1).0
 
@@ -214,7 +206,7 @@ module _ (w : Walk) (right : AreRight w.tables) (line : ℕ) (head : RawHead) (b
             arrives = came end (define_after source line head body before);
             grow =
                 subst (λ ps. Grow w.variables v.variables (variables_in source ps)) whole_is
-                (subst (Grow w.variables v.variables) (sym (variables_both source inner end_phrase ∙ append-nil (variables_in source inner)))
+                (subst (Grow w.variables v.variables) (sym (variables-append source inner end_phrase ∙ append-nil (variables_in source inner)))
                 (subst (λ a. Grow a v.variables (variables_in source inner)) same_made grown));
           }
 
@@ -238,7 +230,7 @@ module _ {whole : Stretch} {raw : RawProgram} {scope : Scope} {old new : Walk} (
 pub parameters_gone : {whole : Stretch} {old new : Walk} (ps : List RawParam) (i : ℕ) → length ps ≤ i
     → Along whole (of_parameters (drop i ps)) old.tables.raw.now (scope_of old.tables) old new → PassesStretch whole old new
 parameters_gone {old} ps i low h =
-    all_gone (left_as (of_parameters (drop i ps)) nothing (ap (λ qs. of_parameters qs old.tables.raw.now) (drop_end ps i low)) h.at)
+    all_gone (left_as (of_parameters (drop i ps)) nothing (ap (λ qs. of_parameters qs old.tables.raw.now) (drop_all i ps low)) h.at)
 
 -- a function with its own name and numbers of parameters
 pub function_record : (head : RawHead) (line : ℕ) (name : Bytes) (result : Option CType) (params ids : List ℕ) (body : List Statement) → name ≡ head.name → params ≡ ids

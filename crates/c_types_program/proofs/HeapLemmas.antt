@@ -1,6 +1,7 @@
 -- What is known of an allocation that breaks no rule.
 use Rattle.std.proofs.Common.{◌≡◌, ℕ, Bool, Option, None, Some, [], ◌∷◌, option_map, refl, sym, subst}
 use Rattle.std.specs.Prelude.{Contains}
+use Rattle.std.proofs.lemmas.List.Elements.{Contains-append_right}
 use Rattle.c_tree.specs.declared.statement.Size.TheVariants as measure
 use Rattle.c_tree.specs.declared.raw.expr.RawExpr.{RawExpr}
 use Rattle.c_tree.specs.declared.raw.program.RawProgram.{RawProgram}
@@ -16,14 +17,13 @@ use Rattle.c_language.specs.ProgramOf.{ctype, ctype_if, optional, variable_numbe
 use Rattle.c_language.specs.Scopes.{Scope, meaning_in}
 use Rattle.c_language.specs.TypeGrammar.{named_type}
 use Rattle.c_language.specs.Uses.{counts, target_exprs}
+use Rattle.c_language.proofs.Lists.{contains_first}
 use Rattle.c_types_base.specs.declared.tables.Tables.{Tables}
 use Rattle.c_types_base.specs.Tables.{scope_of, AreRight}
-use Rattle.c_types_base.proofs.JudgingLaws.{contains_first}
 use Rattle.c_types_program.specs.Keeping.{IsGiven, IsOperand, AreOperands, AreMeasured, IsPlainAmount, IsPlainSize, IsKeptAllocation}
 use Rattle.c_types_program.proofs.AllocationTrees.{own_cast, one_size}
 use Rattle.c_types_program.proofs.KeptLemmas.{kept_operand}
 use Rattle.c_types_program.proofs.OptionPaths.{given_there, there_given}
-use Rattle.c_types_program.proofs.PhraseTrees.{contains_back}
 
 module _ (raw : RawProgram) (scope : Scope) (cast : Option RawTypeName) (n : RawAmount) (h : IsKeptAllocation raw scope cast n) where
   -- the type that it is cast to
@@ -39,7 +39,7 @@ module _ (raw : RawProgram) (scope : Scope) (cast : Option RawTypeName) (n : Raw
 -- the count
 pub count_operands : (t : Tables) → AreRight t → (cast : Option RawTypeName) (n : RawAmount) → IsKeptAllocation t.raw.now (scope_of t) cast n
     → AreOperands t.raw.now (scope_of t) (counts n)
-count_operands t right cast n h e c = kept_operand t right (Allocates h.to cast n) h.kept e (contains_back (target_exprs h.to) (counts n) e c)
+count_operands t right cast n h e c = kept_operand t right (Allocates h.to cast n) h.kept e (Contains-append_right (target_exprs h.to) (counts n) e c)
 
 map_given : {A B : Type 0} (f : A → B) (o : Option A) → IsGiven (option_map f o) → IsGiven o
 map_given f None h = h

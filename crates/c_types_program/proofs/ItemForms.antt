@@ -1,7 +1,7 @@
 -- What the walk does at each item of a text, step by step.
 use Rattle.std.proofs.Common.{◌≡◌, ℕ, ◌+◌, ◌<◌, ◌≤◌, List, [], ◌∷◌, ◌++◌, length, drop, get_or, map, Bool, false, Option, Some, None, option_map, Result, Ok, Err, append_assoc, append-nil, refl, sym, ap, subst, ◌∙◌}
 use Rattle.std.specs.Prelude.{vec_len, bytes_eq, OnOk}
-use Rattle.std.proofs.lemmas.List.{map-append}
+use Rattle.std.proofs.lemmas.List.{map-append, drop_all}
 use Rattle.c_tree.specs.declared.program.Function.{Function}
 use Rattle.c_tree.specs.declared.program.Init.{Init}
 use Rattle.c_tree.specs.declared.program.Item.{Item}
@@ -22,8 +22,9 @@ use Rattle.c_language.specs.ProgramOf.{collected, ctype_with, init_of, variable_
 use Rattle.c_language.specs.Rules.{no_definition}
 use Rattle.c_language.specs.Scopes.{Scope, Meaning, meaning_in, with_entry, with_variable, with_function}
 use Rattle.c_language.specs.Words.{Bytes}
+use Rattle.c_language.proofs.Turns.{drop_turn}
+use Rattle.c_language.proofs.Lists.{contains_first}
 use Rattle.c_types_base.specs.Tables.{scope_of, AreRight, IsAt}
-use Rattle.c_types_base.proofs.JudgingLaws.{contains_first}
 use Rattle.c_types_base.proofs.OptionLemmas.{not_none, there_position}
 use Rattle.c_types_base.specs.Stretches.{then_comes, nothing, of_item, of_items}
 use Rattle.c_types_base.proofs.ListingLaws.{item_outer, item_structs}
@@ -37,7 +38,7 @@ use Rattle.c_types_program.proofs.PhraseTrees.{tag_defined}
 use Rattle.c_types_program.proofs.Progress.{Place, sets_out, left_as, next_fits, comes_on, all_gone}
 use Rattle.c_types_program.proofs.SimpleForms.{declares_fresh, declares_typed, declares_shaped, begun_kept, begun_nothing}
 use Rattle.c_types_program.proofs.Standing.{Stands, here, told, given, goes}
-use Rattle.c_types_program.proofs.Turns.{collected_made, drop_turn, drop_end}
+use Rattle.c_types_program.proofs.Turns.{collected_made}
 
 -- members and parameters of a prototype declare no variables
 members_declare : (raw : RawProgram) (scope : Scope) (before ms : List RawMember) → variables_in raw (member_phrases scope before ms) ≡ []
@@ -236,7 +237,7 @@ module _ {raw : RawProgram} {scope : Scope} {old new : Walk} {out : List Item} {
   next_item one low is h = subst (λ r. GoingItems whole r raw scope old new out functions) (drop_turn whole i one low is) h
 
   pub last_item : length whole ≤ i → GoingItems whole (drop i whole) raw scope old new out functions → GoingItems whole [] raw scope old new out functions
-  last_item low h = subst (λ r. GoingItems whole r raw scope old new out functions) (drop_end whole i low) h
+  last_item low h = subst (λ r. GoingItems whole r raw scope old new out functions) (drop_all i whole low) h
 
 module _ {whole : List RawItem} {old new : Walk} {out : List Item} {functions : List Function} (h : GoingItems whole [] old.tables.raw.now (scope_of old.tables) old new out functions) where
   pub items_made : HasItems old whole out

@@ -197,14 +197,6 @@ module _ (raw : RawProgram) (scope : Scope) where
   from_arrow : (a : RawExpr) (m : Bytes) (x : Operand) → judged raw scope a ≡ Ok x → IsMeant raw scope (e.Arrow a m) → IsJudged (selected_from raw scope m (pointed x))
   from_arrow a m x is h = subst IsJudged (arrow_judged raw scope m x) (arrow_judged_at a m x is h)
 
-  none_selected : (m : Bytes) (t : Option ExprType) → IsJudged (selected_from raw scope m t) → t ≡ None → ⊥
-  none_selected m None h none = h
-  none_selected m (Some t) h none = subst (λ (o : Option ExprType). IsJudged (selected_from raw scope m o)) none h
-
-  -- and the operand of an arrow is a pointer
-  pub pointer_there : (a : RawExpr) (m : Bytes) (x : Operand) → judged raw scope a ≡ Ok x → IsMeant raw scope (e.Arrow a m) → pointed x ≡ None → ⊥
-  pointer_there a m x is h none = none_selected m (pointed x) (from_arrow a m x is h) none
-
   pub arrow_there : (a : RawExpr) (m : Bytes) (x : Operand) (u : ExprType) → judged raw scope a ≡ Ok x → IsMeant raw scope (e.Arrow a m) → pointed x ≡ Some u
       → option_and_then (member_id raw m) (struct_of u) ≡ None → ⊥
   arrow_there a m x u is h points none = selected_there m (pointed x) (from_arrow a m x is h) u points none

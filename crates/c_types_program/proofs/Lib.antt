@@ -1,4 +1,3 @@
-pub mod AfterLaws
 pub mod AllocationTrees
 pub mod CallLemmas
 pub mod CallTrees
@@ -20,7 +19,6 @@ pub mod PhraseTrees
 pub mod ProgramSteps
 pub mod ProgramTrees
 pub mod Progress
-pub mod RawWordLemmas
 pub mod RuleLaws
 pub mod Rulesets
 pub mod ScopeLemmas
@@ -30,9 +28,7 @@ pub mod Sizes
 pub mod Standing
 pub mod StatementFolds
 pub mod StatementForms
-pub mod StatementTrees
 pub mod StructSteps
-pub mod TargetLemmas
 pub mod TreedStatements
 pub mod Turns
 pub mod TypeTrees

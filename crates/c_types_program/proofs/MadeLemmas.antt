@@ -2,22 +2,17 @@
 use Rattle.std.proofs.Common.{◌≡◌, Option, Some, None, subst}
 use Rattle.c_tree.specs.declared.types.CType.{CType}
 use Rattle.c_tree.specs.declared.raw.expr.RawType.{RawType}
-use Rattle.c_tree.specs.declared.raw.expr.RawVar.{RawVar}
-use Rattle.c_tree.specs.declared.raw.program.RawInit.{RawInit}
 use Rattle.c_tree.specs.declared.raw.program.RawMember.{RawMember}
 use Rattle.c_tree.specs.declared.raw.program.RawHead.{RawHead}
 use Rattle.c_tree.specs.declared.raw.program.RawProgram.{RawProgram}
-use Rattle.c_language.specs.DeclaredTypes.{item_count}
 use Rattle.c_language.specs.Phrases.{DeclaresFunction}
 use Rattle.c_language.specs.ProgramOf.{ctype, ctype_with, ctype_if, optional}
-use Rattle.c_types_program.specs.Keeping.{IsGiven, IsKeptVariable, IsKeptMember, IsKeptHead, HasNoLength, HasNoLengthIf}
-use Rattle.c_types_program.proofs.OptionPaths.{given_there, some_is, none_is}
-use Rattle.c_types_program.proofs.PhraseTrees.{tag_defined, result_made, variable_made, member_made}
+use Rattle.c_language.proofs.Options.{some_same, none_there}
+use Rattle.c_types_program.specs.Keeping.{IsGiven, IsKeptMember, IsKeptHead, HasNoLength, HasNoLengthIf}
+use Rattle.c_types_program.proofs.OptionPaths.{given_there}
+use Rattle.c_types_program.proofs.PhraseTrees.{tag_defined, result_made, member_made}
 
 module _ (raw : RawProgram) where
-  pub variable_given : (var : RawVar) (i : RawInit) → IsKeptVariable raw var i → IsGiven (ctype_with raw (item_count i) var.shape)
-  variable_given var i h = given_there (ctype_with raw (item_count i) var.shape) (variable_made raw h.scope h.stand var i h.kept).tree
-
   pub member_given : (m : RawMember) → IsKeptMember raw m → IsGiven (ctype_with raw 0 m.shape)
   member_given m h = given_there (ctype_with raw 0 m.shape) (member_made raw h.scope h.before m h.kept).tree
 
@@ -37,5 +32,5 @@ module _ (raw : RawProgram) where
   own_result head t is plain h = given_inside t (subst (λ r. IsGiven (ctype_if raw r)) is (result_given head plain h))
 
   pub own_plain : (r : Option RawType) (t : RawType) → r ≡ Some t → HasNoLengthIf r → HasNoLength t
-  own_plain None t is plain = absurd (none_is is)
-  own_plain (Some u) t is plain = subst HasNoLength (some_is is) plain
+  own_plain None t is plain = none_there is
+  own_plain (Some u) t is plain = subst HasNoLength (some_same is) plain

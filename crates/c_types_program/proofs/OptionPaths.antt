@@ -1,30 +1,11 @@
--- Paths of options, and values that are collected one after another.
+-- Values that are given, and those that are collected one after another.
 use Rattle.std.proofs.Common.{◌≡◌, ℕ, ◌+◌, ◌<◌, List, [], ◌∷◌, ◌++◌, length, take, get_or, map, Option, Some, None, option_map, refl, sym, ap, subst, ◌∙◌}
 use Rattle.std.specs.Prelude.{Contains}
-use Rattle.std.proofs.lemmas.List.{take_more}
+use Rattle.std.proofs.lemmas.List.{take_more, map-append}
 use Rattle.std.proofs.lemmas.List.Elements.{Contains-get_or}
 use Rattle.c_language.specs.ProgramOf.{collected}
-use Rattle.c_types_base.proofs.DefinitionLemmas.{map-append}
-use Rattle.c_types_base.proofs.OptionLemmas.{IsThere}
+use Rattle.c_language.proofs.Options.{IsThere, some_same, none_there}
 use Rattle.c_types_program.specs.Keeping.{IsGiven}
-
-pub some_is : {A : Type 0} {x y : A} → ◌≡◌ {A = Option A} (Some x) (Some y) → x ≡ y
-some_is {A} {x} {y} h = ap (λ (o : Option A). or_that o) h
-  where
-    or_that : Option A → A
-    or_that (Some z) = z
-    or_that None = x
-
-pub none_is : {A : Type 0} {x : A} → ◌≡◌ {A = Option A} None (Some x) → ⊥
-none_is h = subst (λ (o : Option _). is_none_here o) h tt
-  where
-    is_none_here : {A : Type 0} → Option A → Type 0
-    is_none_here None = Unit {0}
-    is_none_here (Some x) = ⊥
-
-pub given_value : {A : Type 0} (o : Option A) → IsGiven o → (x : A) × (o ≡ Some x)
-given_value None h = absurd h
-given_value (Some x) h = (x, refl)
 
 pub given_there : {A : Type 0} (o : Option A) → IsThere o → IsGiven o
 given_there None h = h
@@ -37,18 +18,18 @@ there_given (Some x) h = tt
 -- what is given isn't none
 pub given_some : {A : Type 0} (o : Option A) → IsGiven o → o ≡ None → ⊥
 given_some None h is = h
-given_some (Some x) h is = none_is (sym is)
+given_some (Some x) h is = none_there (sym is)
 
 push_map : {A : Type 0} (a : A) (o p : Option (List A)) (ys : List A) (y : A) → ((zs : List A) → o ≡ Some zs → p ≡ Some (zs ++ y ∷ []))
     → option_map (λ zs. a ∷ zs) o ≡ Some ys → option_map (λ zs. a ∷ zs) p ≡ Some (ys ++ y ∷ [])
-push_map a None p ys y h is = absurd (none_is is)
-push_map a (Some zs) p ys y h is = ap (option_map (λ zs. a ∷ zs)) (h zs refl) ∙ ap (λ ws. Some (ws ++ y ∷ [])) (some_is is)
+push_map a None p ys y h is = none_there is
+push_map a (Some zs) p ys y h is = ap (option_map (λ zs. a ∷ zs)) (h zs refl) ∙ ap (λ ws. Some (ws ++ y ∷ [])) (some_same is)
 
 -- one value more
 pub collected_push : {A : Type 0} (xs : List (Option A)) (ys : List A) (x : Option A) (y : A) → collected xs ≡ Some ys → x ≡ Some y
     → collected (xs ++ x ∷ []) ≡ Some (ys ++ y ∷ [])
-collected_push [] ys x y h is = rw is (ap (λ ws. Some (ws ++ y ∷ [])) (some_is h))
-collected_push (None ∷ xs) ys x y h is = absurd (none_is h)
+collected_push [] ys x y h is = rw is (ap (λ ws. Some (ws ++ y ∷ [])) (some_same h))
+collected_push (None ∷ xs) ys x y h is = none_there h
 collected_push (Some a ∷ xs) ys x y h is = push_map a (collected xs) (collected (xs ++ x ∷ [])) ys y (λ zs k. collected_push xs zs x y k is) h
 
 -- a turn of a loop that collects the values of a list's elements

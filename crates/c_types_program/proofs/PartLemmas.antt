@@ -1,6 +1,5 @@
 -- What is known of the parts of statements that break no rule.
-use Rattle.std.proofs.Common.{◌≡◌, List, [], ◌∷◌, Option, Some, None, option_map, option_and_then, Ok, refl, sym, ap, subst, ◌∙◌, inl, inr}
-use Rattle.std.specs.Prelude.{Contains}
+use Rattle.std.proofs.Common.{◌≡◌, List, [], ◌∷◌, Option, Some, None, option_map, option_and_then, Ok, refl, ap, subst, ◌∙◌}
 use Rattle.c_arith.specs.declared.int_type.IntType.{IntType}
 use Rattle.c_arith.specs.declared.operators.BinaryOp.{BinaryOp}
 use Rattle.c_arith.specs.IntType.{promote}
@@ -8,7 +7,6 @@ use Rattle.c_tree.specs.declared.raw.expr.RawExpr.{RawExpr}
 use Rattle.c_tree.specs.declared.raw.program.RawInit.{RawInit}
 use Rattle.c_tree.specs.declared.raw.program.RawInit.TheVariants as init
 use Rattle.c_tree.specs.declared.raw.program.RawProgram.{RawProgram}
-use Rattle.c_tree.specs.declared.raw.statement.RawLabel.{RawLabel}
 use Rattle.c_tree.specs.declared.raw.statement.RawLabel.TheVariants as label
 use Rattle.c_language.specs.ConstantEvaluation.{constant, value_of_constant}
 use Rattle.c_language.specs.ExprTypes.{integer_of}
@@ -21,14 +19,15 @@ use Rattle.c_language.specs.ArrayRules.{LacksConstant}
 use Rattle.c_language.specs.SwitchRules.{MisusesSwitch}
 use Rattle.c_language.specs.declared.constant.Constant.{Constant}
 use Rattle.c_language.specs.declared.expr_type.Operand.{Operand}
+use Rattle.c_language.proofs.Options.{none_there}
+use Rattle.c_language.proofs.Lists.{contains_nil, contains_first, contains_later}
+use Rattle.c_language.proofs.UseLemmas.{case_among}
 use Rattle.c_types_base.specs.declared.tables.Tables.{Tables}
 use Rattle.c_types_base.specs.Judging.{judged}
 use Rattle.c_types_base.specs.Tables.{scope_of, AreRight}
-use Rattle.c_types_base.proofs.JudgingLaws.{contains_nil, contains_cons, contains_first, contains_later}
 use Rattle.c_types_base.proofs.TreeLemmas.{operand-judged}
 use Rattle.c_types_program.specs.Keeping.{IsKept, IsGiven, IsOperand, AreOperands, IsConstant, IsKeptInit, none, kept, IsKeptSwitch, IsKeptLabel}
 use Rattle.c_types_program.proofs.KeptLemmas.{kept_operand}
-use Rattle.c_types_program.proofs.OptionPaths.{none_is}
 
 module _ (t : Tables) (right : AreRight t) where
   abbrev raw : RawProgram
@@ -62,7 +61,7 @@ module _ (t : Tables) (right : AreRight t) where
   tested_operand a keeps = kept_operand t right (Tests a) keeps a (contains_first a [])
 
   pub returned_operand : (v : Option RawExpr) (a : RawExpr) → v ≡ Some a → IsKept raw scope (Returns v) → IsOperand raw scope a
-  returned_operand None a is keeps = absurd (none_is is)
+  returned_operand None a is keeps = none_there is
   returned_operand (Some b) a is keeps =
       kept_operand t right (Returns (Some a)) (subst (λ v. IsKept raw scope (Returns v)) is keeps) a (contains_first a [])
 
@@ -81,17 +80,6 @@ module _ (t : Tables) (right : AreRight t) where
       ∙ ap (option_map promote) of
 
 -- ---- labels
-
-pub case_among : (ls : List RawLabel) (a : RawExpr) → Contains ls (label.Case a) → Contains (cases ls) a
-case_among [] a c = absurd (contains_nil (label.Case a) c)
-case_among (label.Case b ∷ ls) a c = elim (contains_cons (label.Case b) (label.Case a) ls c) [
-  | inl is ↦ subst (λ z. Contains (cases (z ∷ ls)) a) (sym is) (contains_first a (cases ls))
-  | inr d ↦ contains_later b a (cases ls) (case_among ls a d)
-]
-case_among (label.Default ∷ ls) a c = elim (contains_cons label.Default (label.Case a) ls c) [
-  | inl is ↦ absurd (cc is)
-  | inr d ↦ case_among ls a d
-]
 
 not_none : {A : Type 0} (o : Option A) → (o ≡ None → ⊥) → IsGiven o
 not_none None h = h refl

@@ -12,37 +12,27 @@ use Rattle.c_language.specs.ConstantEvaluation.{both}
 use Rattle.c_language.specs.Scopes.{Scope, Scoped, opened, closed, numbered, in_order, after_all, after_block, after_part, part_gives}
 use Rattle.c_language.specs.Phrases.{Stand, InBlock, Tests, Phrases, phrase, ArmText, joined_at, block_phrases, at_stand, scoped, scoped_of_arm}
 use Rattle.c_language.specs.ProgramOf.{collected, expr_of, ArmTree, arm_tree_step, tree_step, treed, block_tree, part_tree, variables_in}
+use Rattle.c_language.proofs.TreedForms.{treed-If, treed-While, treed-Do, treed-Block}
+use Rattle.c_language.proofs.ScopedForms.{scoped-If, scoped-While, scoped-Do, scoped-Block}
+use Rattle.c_language.proofs.PhraseLists.{variables-append}
+use Rattle.c_language.proofs.TreeScopes.{list_after, block_after_same}
 use Rattle.c_types_base.specs.Tables.{scope_of, AreRight, IsAt}
 use Rattle.c_types_base.proofs.ScopeLaws.{Extends, stays, then_extends, front, block_extends, statement_grows}
 use Rattle.c_types_program.specs.declared.walk.Walk.{Walk}
 use Rattle.c_types_program.specs.Keeping.{IsKept}
 use Rattle.c_types_program.specs.Fitting.{AreFit, IsInside, AreFitInside, IsFitPart}
 use Rattle.c_types_program.specs.Making.{Grow, Comes, Fits, HasTree, Passes, FitAll, HaveTrees, PassesAll, FitsBlock, HasBlock, PassesBlock, FitsPart, HasPart, PassesPart, treed_arm}
-use Rattle.c_types_program.proofs.AfterLaws.{same_after}
-use Rattle.c_types_program.proofs.Growing.{grow_none, grow_then, variables_both, fit_both}
+use Rattle.c_types_program.proofs.Growing.{grow_none, grow_then, fit_both}
 use Rattle.c_types_program.proofs.Standing.{Stands, here, told, given, goes, came}
-use Rattle.c_types_program.proofs.StatementForms.{scoped-If, scoped-While, scoped-Do, scoped-Block, treed-arm, scoped-arm}
-use Rattle.c_types_program.proofs.StatementTrees.{treed-If, treed-While, treed-Do, treed-Block}
+use Rattle.c_types_program.proofs.StatementForms.{treed-arm, scoped-arm}
 
 -- ---- scopes
 
 module _ (raw : RawProgram) where
-  -- the scope after the trees of a body is that after its phrases
-  pub same_all : (body : List RawStatement) (scope : Scope) → after_all (map (treed raw) body) scope ≡ after_all (map (scoped raw) body) scope
-  same_all [] scope = refl
-  same_all (a ∷ body) scope = ap (after_all (map (treed raw) body)) (same_after raw a scope) ∙ same_all body ((scoped raw a).after scope)
-
-  pub same_block : (body : List RawStatement) (scope : Scope) → after_block (map (treed raw) body) scope ≡ after_block (map (scoped raw) body) scope
-  same_block body scope = ap (closed scope) (same_all body (opened scope))
-
-  pub same_part : (part : Option RawStatement) (scope : Scope) → after_part (option_map (treed raw) part) scope ≡ after_part (option_map (scoped raw) part) scope
-  same_part None scope = refl
-  same_part (Some one) scope = same_after raw one scope
-
   pub same_arm : (a : RawArm) (scope : Scope) → (treed_arm raw a).after scope ≡ (scoped_of_arm raw a).after scope
   same_arm a scope =
       ap (λ (x : Scoped ArmTree). x.after scope) (treed-arm raw a.labels a.body)
-      ∙ (same_all a.body scope ∙ sym (ap (λ (x : Scoped ArmText). x.after scope) (scoped-arm raw a.labels a.body)))
+      ∙ (list_after raw a.body scope ∙ sym (ap (λ (x : Scoped ArmText). x.after scope) (scoped-arm raw a.labels a.body)))
 
   -- the names before stand at the front of those after
   pub one_extends : (one : RawStatement) (scope : Scope) → Extends scope ((treed raw one).after scope)
@@ -263,7 +253,7 @@ module _ (w : Walk) (right : AreRight w.tables) (l : ℕ) (e : RawExpr) (a b : L
       → AreFit raw_of (block_phrases (map (scoped raw_of) a) (numbered begin)) × AreFit raw_of (block_phrases (map (scoped raw_of) b) between)
   if_parts h =
       let parts = fit_both raw_of (block_phrases (map (scoped raw_of) a) (numbered begin)) (block_phrases (map (scoped raw_of) b) (after_block (map (scoped raw_of) a) (numbered begin))) (if_phrases h).1 in
-      (parts.0, subst (λ x. AreFit raw_of (block_phrases (map (scoped raw_of) b) x)) (sym (same_block raw_of a (numbered begin))) parts.1)
+      (parts.0, subst (λ x. AreFit raw_of (block_phrases (map (scoped raw_of) b) x)) (sym (block_after_same raw_of a (numbered begin))) parts.1)
 
   module _ (u : Walk) (is : IsAt w.tables u.tables (numbered begin)) where
     abbrev numbers : StandsAt raw_of (numbered begin) u
@@ -297,7 +287,7 @@ module _ (w : Walk) (right : AreRight w.tables) (l : ℕ) (e : RawExpr) (a b : L
           passes_as w z (s.If l e a b) _ _ (treed-If raw_of l e a b) (scoped-If raw_of l e a b) (λ stand inside. record {
             arrives = came (block_goes v halfway z b second) refl;
             grow =
-                subst (Grow w.variables z.variables) (sym (variables_both raw_of (block_phrases (map (scoped raw_of) a) (numbered begin)) (block_phrases (map (scoped raw_of) b) (after_block (map (scoped raw_of) a) (numbered begin)))))
+                subst (Grow w.variables z.variables) (sym (variables-append raw_of (block_phrases (map (scoped raw_of) a) (numbered begin)) (block_phrases (map (scoped raw_of) b) (after_block (map (scoped raw_of) a) (numbered begin)))))
                 (grow_then (grow_then (same_variables w u same) (block_grows u numbers v a first))
-                (subst (λ x. Grow v.variables z.variables (variables_in raw_of (block_phrases (map (scoped raw_of) b) x))) (same_block raw_of a (numbered begin)) (block_grows v halfway z b second)));
+                (subst (λ x. Grow v.variables z.variables (variables_in raw_of (block_phrases (map (scoped raw_of) b) x))) (block_after_same raw_of a (numbered begin)) (block_grows v halfway z b second)));
           })

@@ -16,17 +16,20 @@ use Rattle.c_language.specs.ConstantEvaluation.{both}
 use Rattle.c_language.specs.Scopes.{Scope, Scoped, opened, numbered, in_order, after_all, after_block, after_part, part_gives, scope_of_test, scope_of_body}
 use Rattle.c_language.specs.Phrases.{Stand, InFor, InBlock, InArm, Tests, Switches, Phrases, phrase, ArmText, joined_at, block_phrases, at_stand, labels_of, phrases_of_arms, scoped_step, scoped, scoped_of_arm}
 use Rattle.c_language.specs.ProgramOf.{collected, label_tree, arm_tree, expr_of, switch_type, ArmTree, part_tree, for_tree, at_type, treed, variables_in}
+use Rattle.c_language.proofs.TreedForms.{treed-For, treed-Switch}
+use Rattle.c_language.proofs.ScopedForms.{scoped-Switch}
+use Rattle.c_language.proofs.PhraseLists.{variables-append}
+use Rattle.c_language.proofs.TreeScopes.{part_after}
 use Rattle.c_types_base.specs.Tables.{scope_of, AreRight, IsAt}
 use Rattle.c_types_base.proofs.ScopeLaws.{Extends, then_extends, front}
 use Rattle.c_types_program.specs.declared.walk.Walk.{Walk}
 use Rattle.c_types_program.specs.Keeping.{IsKept, IsKeptSwitch}
 use Rattle.c_types_program.specs.Fitting.{AreFit, IsInside, IsFitPart}
 use Rattle.c_types_program.specs.Making.{Grow, Comes, Fits, HasTree, Passes, FitAll, HaveTrees, PassesAll, FitsBlock, HasBlock, PassesBlock, FitsPart, HasPart, PassesPart, AreLabels, treed_arm, arm_text, arm_texts, HasArm, PassesArm, HaveArms, PassesArms}
-use Rattle.c_types_program.proofs.Growing.{grow_none, grow_then, variables_both, fit_both}
-use Rattle.c_types_program.proofs.Passing.{same_part, part_extends, body_extends, arms_extend, cut, cut_closes, fits_as, tree_as, passes_as, StandsAt, block_given, block_told, block_goes, block_grows, test_given, test_told, part_given, part_told, part_goes, part_grows}
+use Rattle.c_types_program.proofs.Growing.{grow_none, grow_then, fit_both}
+use Rattle.c_types_program.proofs.Passing.{part_extends, body_extends, arms_extend, cut, cut_closes, fits_as, tree_as, passes_as, StandsAt, block_given, block_told, block_goes, block_grows, test_given, test_told, part_given, part_told, part_goes, part_grows}
 use Rattle.c_types_program.proofs.Standing.{here, told, given, goes, came}
-use Rattle.c_types_program.proofs.StatementForms.{scoped-For, scoped-Switch, scoped_part, treed-arm, scoped-arm}
-use Rattle.c_types_program.proofs.StatementTrees.{treed-For, treed-Switch}
+use Rattle.c_types_program.proofs.StatementForms.{scoped-For, scoped_part, treed-arm, scoped-arm}
 
 -- ---- a for
 
@@ -66,10 +69,10 @@ module _ (w : Walk) (right : AreRight w.tables) (l : ℕ) (i : Option RawStateme
       ∙ ap (λ x. scoped_step raw (RawStatement-F.For l (text_of i) e x (map (scoped raw) b))) (part_is raw step))
 
   same_test : at_test ≡ scope_of_test (text_of i) begin
-  same_test = same_part raw i at_init
+  same_test = part_after raw i at_init
 
   same_body : at_body ≡ scope_of_body (text_of i) (text_of step) begin
-  same_body = ap (after_part (tree_of step)) same_test ∙ same_part raw step (scope_of_test (text_of i) begin)
+  same_body = ap (after_part (tree_of step)) same_test ∙ part_after raw step (scope_of_test (text_of i) begin)
 
   abbrev phrases_at : Scope → Scope → Phrases
   phrases_at x y = phrase l x (Tests e) ∷ (at_stand InBlock (part_gives (text_of step) x) ++ block_phrases (map (scoped raw) b) y)
@@ -147,8 +150,8 @@ module _ (w : Walk) (right : AreRight w.tables) (l : ℕ) (i : Option RawStateme
             let grown = grow_then (part_grows v ready x i InFor tt first) (grow_then (part_grows x testing y step InBlock tt second) (block_grows y entering z b third)) in
             let all = init_phrases ++ phrases_at at_test at_body in
             let found =
-            variables_both raw init_phrases (phrases_at at_test at_body)
-            ∙ ap (λ vs. variables_in raw init_phrases ++ vs) (variables_both raw (at_stand InBlock (part_gives (text_of step) at_test)) (block_phrases (map (scoped raw) b) at_body)) in
+            variables-append raw init_phrases (phrases_at at_test at_body)
+            ∙ ap (λ vs. variables_in raw init_phrases ++ vs) (variables-append raw (at_stand InBlock (part_gives (text_of step) at_test)) (block_phrases (map (scoped raw) b) at_body)) in
             passes_as w last (s.For l i e step b) _ _ (treed-For raw l i e step b) for_text (λ stand inside. record {
               arrives = came closing (cut_closes begin after_body names outer owner n o f (front at_init after_body extends));
               grow =

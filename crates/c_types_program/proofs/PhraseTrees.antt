@@ -1,9 +1,9 @@
 -- What a phrase of a text gives where it keeps its rules: the trees of its types and its expressions.
-use Rattle.std.proofs.Common.{◌≡◌, ℕ, zero, suc, List, [], ◌∷◌, ◌++◌, map, Bool, true, false, Option, Some, None, refl, sym, ap, subst, ◌∙◌, inl, inr}
+use Rattle.std.proofs.Common.{◌≡◌, ℕ, zero, suc, List, [], ◌∷◌, ◌++◌, map, Option, Some, None, refl, subst, ◌∙◌}
 use Rattle.std.specs.Prelude.{Contains, option_and_then}
+use Rattle.std.proofs.lemmas.Bool.{false_from_ne_true}
 use Rattle.c_tree.specs.declared.raw.expr.RawExpr.{RawExpr}
-use Rattle.c_tree.specs.declared.raw.expr.RawType.{RawType, fold-roll-RawType}
-use Rattle.c_tree.specs.declared.raw.expr.RawType.TheOpen.{RawType-F}
+use Rattle.c_tree.specs.declared.raw.expr.RawType.{RawType}
 use Rattle.c_tree.specs.declared.raw.expr.RawType.TheVariants as raw_type
 use Rattle.c_tree.specs.declared.raw.expr.RawVar.{RawVar}
 use Rattle.c_tree.specs.declared.raw.program.RawInit.{RawInit}
@@ -20,7 +20,7 @@ use Rattle.c_language.specs.Scopes.{Scope, with_target}
 use Rattle.c_language.specs.ExprTypes.{operand}
 use Rattle.c_language.specs.ExprRules.{seen}
 use Rattle.c_language.specs.Phrases.{Stand, Part, Phrases, HasMember, Declares, target_phrases}
-use Rattle.c_language.specs.Uses.{expressions, lengths, lengths_in, lengths_step, tags, tags_in, tags_step, tags_if, Holds, holds}
+use Rattle.c_language.specs.Uses.{expressions, lengths, lengths_in, tags, tags_in, tags_if, Holds, holds}
 use Rattle.c_language.specs.Rules.{Breaks, undeclared, tag, member, no_element, no_constant, operator, address, no_header}
 use Rattle.c_language.specs.NameRules.{UsesUndeclared, LacksHeader}
 use Rattle.c_language.specs.StructRules.{MisusesTag, MisnamesMember}
@@ -28,28 +28,15 @@ use Rattle.c_language.specs.ArrayRules.{HasNoElement, LacksConstant}
 use Rattle.c_language.specs.TypeRules.{MisusesOperator, MisusesAddress}
 use Rattle.c_language.specs.TypeGrammar.{pointed_n, named_type}
 use Rattle.c_language.specs.ProgramOf.{ctype, ctype_if, expr_of, exprs_of}
+use Rattle.c_language.proofs.Options.{IsThere}
+use Rattle.c_language.proofs.Lists.{contains_nil, contains_first, contains_later}
+use Rattle.c_language.proofs.UseLemmas.{tags-PointerTo, lengths-PointerTo}
 use Rattle.c_types_base.proofs.PhraseLemmas.{IsClean}
 use Rattle.c_types_program.specs.Keeping.{HasNoLength, HasNoLengthIf}
-use Rattle.c_types_base.proofs.JudgingLaws.{contains_nil, contains_cons, contains_first, contains_later}
-use Rattle.c_types_base.proofs.OptionLemmas.{IsThere, not_none, there_then, there_optional, AreThere, there_collected}
+use Rattle.c_types_base.proofs.OptionLemmas.{not_none, there_then, there_optional, AreThere, there_collected}
 use Rattle.c_types_program.proofs.ScopeLemmas.{IsTyped, typed_variable, IsMade, AreComplete}
 use Rattle.c_types_program.proofs.TypeTrees.{type_made}
 use Rattle.c_types_program.proofs.ExprTrees.{KeepsAll, operand_there, expr_there}
-
-pub contains_front : {A : Type 0} (xs ys : List A) (x : A) → Contains xs x → Contains (xs ++ ys) x
-contains_front [] ys x c = absurd (contains_nil x c)
-contains_front (a ∷ xs) ys x c = elim (contains_cons a x xs c) [
-  | inl is ↦ subst (λ z. Contains (a ∷ (xs ++ ys)) z) is (contains_first a (xs ++ ys))
-  | inr c ↦ contains_later a x (xs ++ ys) (contains_front xs ys x c)
-]
-
-pub contains_back : {A : Type 0} (xs ys : List A) (x : A) → Contains ys x → Contains (xs ++ ys) x
-contains_back [] ys x c = c
-contains_back (a ∷ xs) ys x c = contains_later a x (xs ++ ys) (contains_back xs ys x c)
-
-not_true : (b : Bool) → (b ≡ true → ⊥) → b ≡ false
-not_true true h = absurd (h refl)
-not_true false h = refl
 
 -- ---- phrases that keep all rules
 
@@ -67,12 +54,12 @@ kept_both raw (p ∷ ps) qs h = let rest = kept_both raw ps qs h.1 in ((h.0, res
 module _ (raw : RawProgram) (scope : Scope) (part : Part) (keeps : KeepsAt raw scope part) where
   clean_at : (inner : RawExpr) → Holds part inner → IsClean raw scope (seen raw scope inner)
   clean_at inner h = record {
-    declared = not_true _ (λ is. keeps 1 (undeclared (UsesUndeclared.in_expression h is)));
-    header = not_true _ (λ is. keeps 24 (no_header (LacksHeader.in_expression h is)));
-    operands = not_true _ (λ is. keeps 12 (operator (MisusesOperator.in_expression h is)));
-    address = not_true _ (λ is. keeps 15 (address (MisusesAddress.in_expression h is)));
-    complete = not_true _ (λ is. keeps 7 (tag (MisusesTag.in_expression h is)));
-    member = not_true _ (λ is. keeps 8 (member (MisnamesMember.missing h is)));
+    declared = false_from_ne_true _ (λ is. keeps 1 (undeclared (UsesUndeclared.in_expression h is)));
+    header = false_from_ne_true _ (λ is. keeps 24 (no_header (LacksHeader.in_expression h is)));
+    operands = false_from_ne_true _ (λ is. keeps 12 (operator (MisusesOperator.in_expression h is)));
+    address = false_from_ne_true _ (λ is. keeps 15 (address (MisusesAddress.in_expression h is)));
+    complete = false_from_ne_true _ (λ is. keeps 7 (tag (MisusesTag.in_expression h is)));
+    member = false_from_ne_true _ (λ is. keeps 8 (member (MisnamesMember.missing h is)));
   }
 
   -- no part of its expressions breaks a rule
@@ -90,12 +77,6 @@ module _ (raw : RawProgram) (scope : Scope) (part : Part) (keeps : KeepsAt raw s
       (λ z is. not_none (positive z) (λ e. keeps 9 (no_element (HasNoElement.too_short c is e))))
 
 -- ---- types without lengths
-
-pub tags-PointerTo : (a : RawType) → tags_in (raw_type.PointerTo a) ≡ tags_in a
-tags-PointerTo a = ap tags_in (sym (raw_type.rolls-PointerTo a)) ∙ fold-roll-RawType (List Bytes) tags_step (RawType-F.PointerTo a)
-
-pub lengths-PointerTo : (a : RawType) → lengths_in (raw_type.PointerTo a) ≡ lengths_in a
-lengths-PointerTo a = ap lengths_in (sym (raw_type.rolls-PointerTo a)) ∙ fold-roll-RawType (List RawExpr) lengths_step (RawType-F.PointerTo a)
 
 tags-pointed : (n : ℕ) (a : RawType) → tags_in (pointed_n n a) ≡ tags_in a
 tags-pointed zero a = refl

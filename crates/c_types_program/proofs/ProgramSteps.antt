@@ -19,17 +19,17 @@ use Rattle.c_language.specs.Limits.{longest, longest_member, longest_in_structs,
 use Rattle.c_language.specs.Phrases.{phrases, item_phrases, items_phrases, after_item, member_phrases, scope_at_end}
 use Rattle.c_language.specs.ProgramOf.{collected, variables_in, variables_of, member_tree, struct_tree, structs_of, functions_of, functions_from, items_of, items_from, program_with, program_of}
 use Rattle.c_language.specs.Scopes.{Scope, outset}
+use Rattle.c_language.proofs.Options.{some_same, none_there, map_some}
+use Rattle.c_language.proofs.Lists.{contains_nil, contains_cons}
 use Rattle.c_types_base.specs.Tables.{scope_of, AreRight}
-use Rattle.c_types_base.proofs.JudgingLaws.{contains_nil, contains_cons}
 use Rattle.c_types_base.specs.Stretches.{of_items}
-use Rattle.c_types_program.specs.declared.stop.Stop.{Stop}
-use Rattle.c_types_program.specs.declared.stop.Stop.TheVariants.{Length, NoMemory}
+use Rattle.c_types_program.specs.declared.make_fault.MakeFault.{MakeFault}
+use Rattle.c_types_program.specs.declared.make_fault.MakeFault.TheVariants.{Length, NoMemory}
 use Rattle.c_types_program.specs.declared.walk.Walk.{Walk}
 use Rattle.c_types_program.specs.Fitting.{AreFit}
 use Rattle.c_types_program.specs.Making.{HasLong, AreMade}
 use Rattle.c_types_program.specs.Walking.{FitsStretch, PassesStretch, HasItems, HasFunctions, AreKeptMembers, AreKeptStructs, HasLongMember, HasLongStruct, MakesStructs, MakesProgram}
 use Rattle.c_types_program.proofs.Growing.{fit_both}
-use Rattle.c_types_program.proofs.OptionPaths.{some_is, none_is}
 use Rattle.c_types_program.proofs.Turns.{collected_made}
 
 -- ---- struct types
@@ -66,11 +66,11 @@ record Parts {A : Type 0} (x : Option A) (rest : List (Option A)) (out : List A)
   whole : out ≡ value ∷ others
 
 parts_map : {A : Type 0} (y : A) (rest : List (Option A)) (o : Option (List A)) (out : List A) → collected rest ≡ o → option_map (λ ys. y ∷ ys) o ≡ Some out → Parts (Some y) rest out
-parts_map y rest None out is h = absurd (none_is h)
-parts_map y rest (Some ys) out is h = record { value = y; others = ys; first = refl; later = is; whole = sym (some_is h) }
+parts_map y rest None out is h = none_there h
+parts_map y rest (Some ys) out is h = record { value = y; others = ys; first = refl; later = is; whole = sym (some_same h) }
 
 collected_parts : {A : Type 0} (x : Option A) (rest : List (Option A)) (out : List A) → collected (x ∷ rest) ≡ Some out → Parts x rest out
-collected_parts None rest out h = absurd (none_is h)
+collected_parts None rest out h = none_there h
 collected_parts (Some y) rest out h = parts_map y rest (collected rest) out refl h
 
 left_most : (a b n : ℕ) → n ≤ a → n ≤ max a b
@@ -96,18 +96,13 @@ map_same : {A : Type 0} (xs : List A) → map (λ (x : A). x) xs ≡ xs
 map_same [] = refl
 map_same (x ∷ xs) = ap (λ ys. x ∷ ys) (map_same xs)
 
--- the members of a struct type in the tree
-mapped_value : {A B : Type 0} (g : A → B) (o : Option A) (y : B) → option_map g o ≡ Some y → (x : A) × (o ≡ Some x) × (y ≡ g x)
-mapped_value g None y h = absurd (none_is h)
-mapped_value g (Some x) y h = (x, refl, sym (some_is h))
-
 module _ (raw : RawProgram) where
   long_members : (ms : List RawMember) → HasLongMember raw ms → (out : List Member) → collected (map (member_tree raw) ms) ≡ Some out → 4294967296 ≤ longest_member out
   long_members ms h out is = long_among (member_tree raw) (λ (m : Member). longest m.shape) longest_member (λ y ys. refl) ms h.0 h.1 h.2 out is
 
   long_struct : (d : StructText) → HasLongMember raw d.members → (y : StructDef) → struct_tree raw d ≡ Some y → 4294967296 ≤ longest_member y.members
   long_struct d h y is =
-      let p = mapped_value (λ (ms : List Member). record { name = d.tag; members = ms }) (collected (map (member_tree raw) d.members)) y is in
+      let p = map_some (λ (ms : List Member). record { name = d.tag; members = ms }) (collected (map (member_tree raw) d.members)) y is in
       subst (λ (z : StructDef). 4294967296 ≤ longest_member z.members) (sym p.2) (long_members d.members h p.0 p.1)
 
   long_structs : HasLongStruct raw raw.items → (out : List StructDef) → structs_of raw ≡ Some out → 4294967296 ≤ longest_in_structs out
@@ -124,12 +119,12 @@ module _ (raw : RawProgram) where
   parts_of : (items : Option (List Item)) (vars : Option (List Var)) (structs : Option (List StructDef)) (functions : Option (List Function)) (p : Program)
       → option_and_then (λ (xs : List Item). option_and_then (λ (vs : List Var). both (program_with (scope_at_end raw).statements xs vs) structs functions) vars) items ≡ Some p
       → (vars ≡ Some p.vars) × (structs ≡ Some p.structs)
-  parts_of None vars structs functions p h = absurd (none_is h)
-  parts_of (Some xs) None structs functions p h = absurd (none_is h)
-  parts_of (Some xs) (Some vs) None functions p h = absurd (none_is h)
-  parts_of (Some xs) (Some vs) (Some ds) None p h = absurd (none_is h)
+  parts_of None vars structs functions p h = none_there h
+  parts_of (Some xs) None structs functions p h = none_there h
+  parts_of (Some xs) (Some vs) None functions p h = none_there h
+  parts_of (Some xs) (Some vs) (Some ds) None p h = none_there h
   parts_of (Some xs) (Some vs) (Some ds) (Some fs) p h =
-      let e = some_is h in (ap (λ (q : Program). Some q.vars) e, ap (λ (q : Program). Some q.structs) e)
+      let e = some_same h in (ap (λ (q : Program). Some q.vars) e, ap (λ (q : Program). Some q.structs) e)
 
   pub structs_long : HasLongStruct raw raw.items → (p : Program) → program_of raw ≡ Some p → 4294967296 ≤ array_length p
   structs_long h p is =
@@ -210,16 +205,16 @@ module _ (raw : RawProgram) (w : Walk) (text : w.tables.raw.now ≡ raw) (start 
           subst (λ (xs : List RawItem). AreKeptStructs v.tables.defined.raw.now xs) (sym again)
           (subst (λ (r : RawProgram). AreKeptStructs r raw.items) (sym (defined_text right)) (structs_kept raw raw.items outset h))
 
-      structs_told : (r : Result (List StructDef) Stop) → MakesStructs v.tables.defined.raw.now items r → MakesStructs raw raw.items r
+      structs_told : (r : Result (List StructDef) MakeFault) → MakesStructs v.tables.defined.raw.now items r → MakesStructs raw raw.items r
       structs_told r h =
           subst (λ (t : RawProgram). MakesStructs t raw.items r) (defined_text right) (subst (λ (xs : List RawItem). MakesStructs v.tables.defined.raw.now xs r) again h)
 
-      stop_whole : (e : Stop) → MakesStructs raw raw.items (Err e) → MakesProgram raw (Err e)
+      stop_whole : (e : MakeFault) → MakesStructs raw raw.items (Err e) → MakesProgram raw (Err e)
       stop_whole Length h = structs_long raw h
       stop_whole NoMemory h = tt
 
       -- where a struct type can't be made
-      pub structs_stop_all : (e : Stop) → MakesStructs v.tables.defined.raw.now items (Err e) → MakesProgram raw (Err e)
+      pub structs_stop_all : (e : MakeFault) → MakesStructs v.tables.defined.raw.now items (Err e) → MakesProgram raw (Err e)
       structs_stop_all e h = stop_whole e (structs_told (Err e) h)
 
       pub walk_makes : (xs : List Item) (ds : List StructDef) (fs : List Function) → HasItems w list xs → HasFunctions w list fs → v.variables.is_long ≡ false

@@ -24,8 +24,9 @@ use Rattle.c_language.specs.NameRules.{LacksDefinition}
 use Rattle.c_language.specs.ProgramOf.{collected, ctype, ctype_with, ctype_if, init_of, treed, body_of, declared_by, variables_in, variables_of, member_tree, struct_tree, structs_of, function_tree, functions_from, functions_of, item_tree, items_from, items_of, program_with, program_of}
 use Rattle.c_language.specs.Rules.{no_definition, KeepsRules}
 use Rattle.c_language.specs.Programs.{IsTree, HasProgram}
-use Rattle.c_types_base.proofs.JudgingLaws.{contains_first}
-use Rattle.c_types_base.proofs.OptionLemmas.{IsThere, value_there, not_none, there_map, there_then, there_both, AreThere, there_collected, there_append, there_position}
+use Rattle.c_language.proofs.Options.{IsThere, value_there, there_map}
+use Rattle.c_language.proofs.Lists.{contains_first}
+use Rattle.c_types_base.proofs.OptionLemmas.{not_none, there_then, there_both, AreThere, there_collected, there_append, there_position}
 use Rattle.c_types_program.proofs.ScopeLemmas.{IsTyped, typed_variable, typed_function, AreMade, AreComplete}
 use Rattle.c_types_program.specs.Keeping.{HasNoLengthIf}
 use Rattle.c_types_program.proofs.PhraseTrees.{KeepsAt, AreKept, kept_both, tag_defined, result_made, variable_made, member_made}

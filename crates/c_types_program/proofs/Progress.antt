@@ -4,13 +4,14 @@ use Rattle.c_tree.specs.declared.raw.program.RawProgram.{RawProgram}
 use Rattle.c_language.specs.Phrases.{Phrases}
 use Rattle.c_language.specs.ProgramOf.{variables_in}
 use Rattle.c_language.specs.Scopes.{Scope, Scoped}
+use Rattle.c_language.proofs.PhraseLists.{variables-append}
 use Rattle.c_types_base.specs.Tables.{scope_of, AreRight}
 use Rattle.c_types_base.specs.Stretches.{Stretch, then_comes, nothing}
 use Rattle.c_types_program.specs.declared.walk.Walk.{Walk}
 use Rattle.c_types_program.specs.Fitting.{AreFit}
 use Rattle.c_types_program.specs.Making.{Grow}
 use Rattle.c_types_program.specs.Walking.{FitsStretch, PassesStretch}
-use Rattle.c_types_program.proofs.Growing.{grow_none, variables_both, fit_both}
+use Rattle.c_types_program.proofs.Growing.{grow_none, fit_both}
 use Rattle.c_types_program.proofs.Standing.{Stands, here, told, given, goes, came}
 use Rattle.c_types_program.proofs.Turns.{Gaining, gain, gained}
 
@@ -55,7 +56,7 @@ module _ {whole : Stretch} {raw : RawProgram} {scope now : Scope} {old new : Wal
       fit = parts.1;
       after = h.after;
       gains =
-          gain (subst (λ vs. Gaining old new vs (variables_in raw ((whole raw).gives scope))) (variables_both raw ((one raw).gives now) ((rest raw).gives ((one raw).after now))) h.gains)
+          gain (subst (λ vs. Gaining old new vs (variables_in raw ((whole raw).gives scope))) (variables-append raw ((one raw).gives now) ((rest raw).gives ((one raw).after now))) h.gains)
           (told (λ r x. Grow new.variables later.variables (variables_in r ((one r).gives x))) h.stands passes.grow);
     }
 

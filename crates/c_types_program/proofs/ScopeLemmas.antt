@@ -12,7 +12,7 @@ use Rattle.c_language.specs.DeclaredTypes.{StructText, defined_structs, type_wit
 use Rattle.c_language.specs.ExprTypes.{member_named, member_of}
 use Rattle.c_language.specs.ProgramOf.{ctype_with}
 use Rattle.c_language.specs.Scopes.{Scope, Entry, Meaning, found_in, meaning_in, meaning_here, with_entry, with_variable, with_function}
-use Rattle.c_types_base.proofs.OptionLemmas.{IsThere}
+use Rattle.c_language.proofs.Options.{IsThere}
 
 -- ---- names
 

@@ -18,9 +18,9 @@ use Rattle.c_language.specs.Limits.{length_step, longest}
 use Rattle.c_language.specs.ProgramOf.{ctype_step, ctype_with, ctype, length_words}
 use Rattle.c_language.specs.TypeGrammar.{pointed_n}
 use Rattle.c_language.specs.Uses.{lengths_in, lengths_step, written_lengths}
+use Rattle.c_language.proofs.Options.{some_same, none_there}
 use Rattle.c_types_program.specs.Keeping.{IsGiven, HasNoLength}
 use Rattle.c_types_program.specs.Shaping.{IsLong}
-use Rattle.c_types_program.proofs.OptionPaths.{some_is, none_is}
 
 -- ---- the forms
 
@@ -40,16 +40,16 @@ module _ (raw : RawProgram) (items : ℕ) where
 
 pub ruleset shapes_of = (ctype-Integer, ctype-PointerTo, ctype-Array, ctype-Struct)
 
-longest-Integer : (t : IntType) → longest (tree.Integer t) ≡ 0
+pub longest-Integer : (t : IntType) → longest (tree.Integer t) ≡ 0
 longest-Integer t = ap longest (sym (tree.rolls-Integer t)) ∙ fold-roll-CType ℕ length_step (CType-F.Integer t)
 
-longest-PointerTo : (a : CType) → longest (tree.PointerTo a) ≡ longest a
+pub longest-PointerTo : (a : CType) → longest (tree.PointerTo a) ≡ longest a
 longest-PointerTo a = ap longest (sym (tree.rolls-PointerTo a)) ∙ fold-roll-CType ℕ length_step (CType-F.PointerTo a)
 
-longest-Array : (a : CType) (n : ℕ) (words : Bytes) → longest (tree.Array a n words) ≡ max n (longest a)
+pub longest-Array : (a : CType) (n : ℕ) (words : Bytes) → longest (tree.Array a n words) ≡ max n (longest a)
 longest-Array a n words = ap longest (sym (tree.rolls-Array a n words)) ∙ fold-roll-CType ℕ length_step (CType-F.Array a n words)
 
-longest-Struct : (s : ℕ) → longest (tree.Struct s) ≡ 0
+pub longest-Struct : (s : ℕ) → longest (tree.Struct s) ≡ 0
 longest-Struct s = ap longest (sym (tree.rolls-Struct s)) ∙ fold-roll-CType ℕ length_step (CType-F.Struct s)
 
 -- ---- types without lengths
@@ -69,21 +69,21 @@ module _ (raw : RawProgram) where
   no_first length_of.Listed ns h = (refl, h)
 
   short_pointer : (o : Option CType) → ((t : CType) → o ≡ Some t → longest t ≡ 0) → (t : CType) → option_map tree.PointerTo o ≡ Some t → longest t ≡ 0
-  short_pointer None h t is = absurd (none_is is)
-  short_pointer (Some a) h t is = subst (λ x. longest x ≡ 0) (some_is is) (longest-PointerTo a ∙ h a refl)
+  short_pointer None h t is = none_there is
+  short_pointer (Some a) h t is = subst (λ x. longest x ≡ 0) (some_same is) (longest-PointerTo a ∙ h a refl)
 
   short_array : (words : Bytes) (o : Option CType) → ((t : CType) → o ≡ Some t → longest t ≡ 0)
       → (t : CType) → both (λ (u : CType) (k : ℕ). tree.Array u k words) o (Some 0) ≡ Some t → longest t ≡ 0
-  short_array words None h t is = absurd (none_is is)
-  short_array words (Some a) h t is = subst (λ x. longest x ≡ 0) (some_is is) (longest-Array a 0 words ∙ zero_max (longest a) (h a refl))
+  short_array words None h t is = none_there is
+  short_array words (Some a) h t is = subst (λ x. longest x ≡ 0) (some_same is) (longest-Array a 0 words ∙ zero_max (longest a) (h a refl))
 
   short_struct : (o : Option ℕ) (t : CType) → option_map tree.Struct o ≡ Some t → longest t ≡ 0
-  short_struct None t is = absurd (none_is is)
-  short_struct (Some s) t is = subst (λ x. longest x ≡ 0) (some_is is) (longest-Struct s)
+  short_struct None t is = none_there is
+  short_struct (Some s) t is = subst (λ x. longest x ≡ 0) (some_same is) (longest-Struct s)
 
   short_layer : (y : RawType-F ((a : RawType) × IsShort a)) → lengths_step (map-RawType RawType (List RawExpr) lengths_in (layer_of y)) ≡ []
       → (t : CType) → ctype_step raw 0 (map-RawType RawType (Option CType) (ctype raw) (layer_of y)) ≡ Some t → longest t ≡ 0
-  short_layer (RawType-F.Integer i) none t is = subst (λ x. longest x ≡ 0) (some_is is) (longest-Integer i)
+  short_layer (RawType-F.Integer i) none t is = subst (λ x. longest x ≡ 0) (some_same is) (longest-Integer i)
   short_layer (RawType-F.PointerTo a) none t is = short_pointer (ctype raw a.0) (a.1 none) t is
   short_layer (RawType-F.Array a n) none t is =
       let k = no_first n (lengths_in a.0) none in

@@ -1,6 +1,7 @@
 -- What the walk does at each form of statement that holds no others.
 use Rattle.std.proofs.Common.{◌≡◌, ◌≢◌, ℕ, ◌+◌, List, [], ◌∷◌, ◌++◌, Bool, false, Option, Some, None, option_map, Result, Ok, Err, refl, sym, ap, subst, ◌∙◌}
 use Rattle.std.specs.Prelude.{Contains}
+use Rattle.std.proofs.lemmas.List.Elements.{Contains-append_left}
 use Rattle.c_arith.specs.declared.operators.BinaryOp.{BinaryOp}
 use Rattle.c_tree.specs.declared.expr.Expr.{Expr}
 use Rattle.c_tree.specs.declared.program.Init.{Init}
@@ -30,23 +31,25 @@ use Rattle.c_language.specs.ProgramOf.{ctype_with, expr_of, init_of, declaration
 use Rattle.c_language.specs.Rules.{shadowing}
 use Rattle.c_language.specs.Uses.{expressions, target_exprs, arg_exprs, counts}
 use Rattle.c_language.specs.declared.expr_type.Operand.{Operand}
+use Rattle.c_language.proofs.TreedForms.{treed-Declare, treed-Assign, treed-Bump, treed-Call, treed-Heap, treed-Return}
+use Rattle.c_language.proofs.ScopedForms.{scoped-Declare, scoped-Assign, scoped-Bump, scoped-Call, scoped-Heap, scoped-Return}
+use Rattle.c_language.proofs.Options.{IsThere}
+use Rattle.c_language.proofs.Lists.{contains_first}
+use Rattle.c_language.proofs.PhraseLists.{variables-append}
 use Rattle.c_types_base.specs.declared.tables.Tables.{Tables}
 use Rattle.c_types_base.specs.Judging.{judged}
 use Rattle.c_types_base.specs.Tables.{scope_of, AreRight, IsAt}
-use Rattle.c_types_base.proofs.JudgingLaws.{Told, judged_truly, contains_first}
-use Rattle.c_types_base.proofs.OptionLemmas.{IsThere}
+use Rattle.c_types_base.proofs.JudgingLaws.{Told, judged_truly}
 use Rattle.c_types_program.specs.declared.walk.Walk.{Walk}
 use Rattle.c_types_program.specs.Keeping.{IsKept, IsJudged, IsGiven, IsKeptInit, IsMeantTarget, IsKeptCall, IsKeptAllocation}
 use Rattle.c_types_program.specs.Fitting.{AreFit, IsInside, AreFitTarget, IsStored}
 use Rattle.c_types_program.specs.Making.{variable_with, Grow, Comes, Fits, HasTree, Passes}
-use Rattle.c_types_program.proofs.Growing.{grow_none, grow_then, variables_both, fit_both}
+use Rattle.c_types_program.proofs.Growing.{grow_none, grow_then, fit_both}
 use Rattle.c_types_program.proofs.KeptLemmas.{kept_operand}
 use Rattle.c_types_program.proofs.OptionPaths.{given_there}
 use Rattle.c_types_program.proofs.Passing.{fits_as, tree_as, passes_as, same_variables}
-use Rattle.c_types_program.proofs.PhraseTrees.{variable_made, contains_front}
+use Rattle.c_types_program.proofs.PhraseTrees.{variable_made}
 use Rattle.c_types_program.proofs.Standing.{Stands, here, told, given, goes, came}
-use Rattle.c_types_program.proofs.StatementForms.{scoped-Declare, scoped-Assign, scoped-Bump, scoped-Call, scoped-Heap, scoped-Return}
-use Rattle.c_types_program.proofs.StatementTrees.{treed-Declare, treed-Assign, treed-Bump, treed-Call, treed-Heap, treed-Return}
 
 -- ---- declarations
 
@@ -237,7 +240,7 @@ module _ (w : Walk) (right : AreRight w.tables) (l : ℕ) (to : RawTarget) where
     call_parts h = fit_both raw_at (target_phrases raw_at l place h.stand to) (phrase l beyond (Calls h.stand to f args) ∷ []) (fits_as w (s.Call l to f args) _ (scoped-Call raw_at l to f args) h)
 
     pub call_meant : Fits w (s.Call l to f args) → IsMeantTarget raw_at place to
-    call_meant h = target_meant w.tables right to (Calls h.stand to f args) (call_parts h).1.0.kept (λ a c. contains_front (target_exprs to) (arg_exprs args) a c)
+    call_meant h = target_meant w.tables right to (Calls h.stand to f args) (call_parts h).1.0.kept (λ a c. Contains-append_left (target_exprs to) (arg_exprs args) a c)
 
     pub call_target : Fits w (s.Call l to f args) → AreFitTarget raw_at l place to
     call_target h = record { stand = h.stand; inside = h.inside; fit = (call_parts h).0 }
@@ -266,7 +269,7 @@ module _ (w : Walk) (right : AreRight w.tables) (l : ℕ) (to : RawTarget) where
           passes_as w z (s.Call l to f args) _ _ (treed-Call raw_at l to f args) (scoped-Call raw_at l to f args) (λ stand inside. record {
             arrives = came (goes {t = v.tables} {u = z.tables} (λ r x. numbered x) stands_at is) refl;
             grow =
-                subst (Grow w.variables z.variables) (sym (variables_both raw_at (target_phrases raw_at l place stand to) (phrase l beyond (Calls stand to f args) ∷ [])))
+                subst (Grow w.variables z.variables) (sym (variables-append raw_at (target_phrases raw_at l place stand to) (phrase l beyond (Calls stand to f args) ∷ [])))
                 (grow_then (stored stand inside).grow (same_variables v z same));
           })
 
@@ -277,7 +280,7 @@ module _ (w : Walk) (right : AreRight w.tables) (l : ℕ) (to : RawTarget) where
     heap_parts h = fit_both raw_at (target_phrases raw_at l place h.stand to) (phrase l beyond (Allocates to cast n) ∷ []) (fits_as w (s.Heap l to cast n) _ (scoped-Heap raw_at l to cast n) h)
 
     pub heap_meant : Fits w (s.Heap l to cast n) → IsMeantTarget raw_at place to
-    heap_meant h = target_meant w.tables right to (Allocates to cast n) (heap_parts h).1.0.kept (λ a c. contains_front (target_exprs to) (counts n) a c)
+    heap_meant h = target_meant w.tables right to (Allocates to cast n) (heap_parts h).1.0.kept (λ a c. Contains-append_left (target_exprs to) (counts n) a c)
 
     pub heap_target : Fits w (s.Heap l to cast n) → AreFitTarget raw_at l place to
     heap_target h = record { stand = h.stand; inside = h.inside; fit = (heap_parts h).0 }
@@ -313,7 +316,7 @@ module _ (w : Walk) (right : AreRight w.tables) (l : ℕ) (to : RawTarget) where
           passes_as w z (s.Heap l to cast n) _ _ (treed-Heap raw_at l to cast n) (scoped-Heap raw_at l to cast n) (λ stand inside. record {
             arrives = came (goes {t = v.tables} {u = z.tables} (λ r x. numbered x) stands_there is) refl;
             grow =
-                subst (Grow w.variables z.variables) (sym (variables_both raw_at (target_phrases raw_at l place stand to) (phrase l beyond (Allocates to cast n) ∷ [])))
+                subst (Grow w.variables z.variables) (sym (variables-append raw_at (target_phrases raw_at l place stand to) (phrase l beyond (Allocates to cast n) ∷ [])))
                 (grow_then (stored stand inside).grow (same_variables v z same));
           })
 

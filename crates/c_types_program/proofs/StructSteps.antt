@@ -1,11 +1,11 @@
 -- Struct types: what is listed of their members, and what is made of them.
-use Rattle.std.proofs.Common.{◌≡◌, ℕ, zero, suc, ◌+◌, ◌<◌, ◌≤◌, List, [], ◌∷◌, ◌++◌, length, take, drop, get_or, map, Bool, true, false, Option, Some, None, option_map, is_some, Result, Ok, Err, bytes_eq, append_assoc, append-nil, arith, refl, sym, ap, subst, ◌∙◌}
+use Rattle.std.proofs.Common.{◌≡◌, ℕ, zero, suc, ◌+◌, ◌<◌, ◌≤◌, List, [], ◌∷◌, ◌++◌, length, take, drop, get_or, map, Bool, true, false, Some, None, option_map, Result, Ok, Err, bytes_eq, append_assoc, append-nil, arith, refl, sym, ap, subst, ◌∙◌}
 use Rattle.std.specs.Prelude.{Contains, IsSome, ◌||◌}
 use Rattle.std.specs.List.{list_any}
 use Rattle.std.specs.Result.{IsErrAnd}
-use Rattle.std.proofs.lemmas.Bool.{false≢true}
-use Rattle.std.proofs.lemmas.List.{map-append}
+use Rattle.std.proofs.lemmas.List.{map-append, drop_all}
 use Rattle.std.proofs.lemmas.Slice.Eq.{bytes_eq-Decides as bytes_decides}
+use Rattle.std.proofs.lemmas.List.Elements.{Contains-append_left, Contains-append_right}
 use Rattle.c_tree.specs.declared.program.Member.{Member}
 use Rattle.c_tree.specs.declared.program.StructDef.{StructDef}
 use Rattle.c_tree.specs.declared.raw.program.RawItem.{RawItem}
@@ -19,27 +19,28 @@ use Rattle.c_language.specs.Rules.{member}
 use Rattle.c_language.specs.Scopes.{Scope}
 use Rattle.c_language.specs.StructRules.{MisnamesMember}
 use Rattle.c_language.specs.Words.{Bytes}
+use Rattle.c_language.proofs.Turns.{drop_turn}
+use Rattle.c_language.proofs.Lists.{contains_first, contains_later}
 use Rattle.c_types_base.specs.Names.{listed_type}
 use Rattle.c_types_base.specs.declared.names.StructMembers.{StructMembers}
 use Rattle.c_types_base.proofs.DefinitionLemmas.{structs-append}
-use Rattle.c_types_base.proofs.JudgingLaws.{contains_first, contains_later}
 use Rattle.c_types_base.specs.Listing.{HasMembers}
 use Rattle.c_types_base.proofs.OptionLemmas.{is_there}
-use Rattle.c_types_base.proofs.ListingLaws.{named_before}
-use Rattle.c_types_program.specs.declared.stop.Stop.{Stop}
-use Rattle.c_types_program.specs.declared.stop.Stop.TheVariants.{Length, NoMemory}
+use Rattle.c_types_base.proofs.ListingLaws.{named_before, gone}
+use Rattle.c_types_program.specs.declared.make_fault.MakeFault.{MakeFault}
+use Rattle.c_types_program.specs.declared.make_fault.MakeFault.TheVariants.{Length, NoMemory}
 use Rattle.c_types_program.specs.Fitting.{AreFit}
 use Rattle.c_types_program.specs.Keeping.{IsKept, IsKeptMember}
 use Rattle.c_types_program.specs.Shaping.{MakesMember}
 use Rattle.c_types_program.specs.Walking.{AreKeptMembers, AreKeptStructs, HasLongStruct, MakesMembers, MakesStruct, AddsStruct, MakesStructs}
 use Rattle.c_types_program.proofs.OptionPaths.{contains_turn}
-use Rattle.c_types_program.proofs.PhraseTrees.{member_made, contains_front, contains_back}
-use Rattle.c_types_program.proofs.Turns.{collected_made, drop_turn, drop_end}
+use Rattle.c_types_program.proofs.PhraseTrees.{member_made}
+use Rattle.c_types_program.proofs.Turns.{collected_made}
 
 -- what holds of a fault holds of any answer that passes it on
-pub passes_stop : {A : Type 0} (P : Result A Stop → Type 0) (e : Stop) (r : Result A Stop) → IsErrAnd r (λ y. y ≡ e) → P (Err e) → P r
+pub passes_stop : {A : Type 0} (P : Result A MakeFault → Type 0) (e : MakeFault) (r : Result A MakeFault) → IsErrAnd r (λ y. y ≡ e) → P (Err e) → P r
 passes_stop P e (Ok x) h k = absurd h
-passes_stop P e (Err y) h k = subst (λ (f : Stop). P (Err f)) (sym h) k
+passes_stop P e (Err y) h k = subst (λ (f : MakeFault). P (Err f)) (sym h) k
 
 -- ---- the members of a struct type that keep the rules
 
@@ -61,10 +62,6 @@ none_any : {A : Type 0} (p : A → Bool) (xs : List A) → ((x : A) → Contains
 none_any p [] h = refl
 none_any p (x ∷ xs) h = or_false (p x) (list_any p xs) (h x (contains_first x xs)) (none_any p xs (λ y c. h y (contains_later x y xs c)))
 
-is_gone : {A : Type 0} (o : Option A) → is_some o ≡ false → o ≡ None
-is_gone None h = refl
-is_gone (Some x) h = absurd (false≢true (sym h))
-
 module _ (raw : RawProgram) (ms : List RawMember) (h : AreKeptMembers raw ms) (i : ℕ) (m : RawMember) (within : i < length ms) (is : m ≡ get_or ms i m) where
   kept_here : IsKept raw h.scope (HasMember (take i ms) m)
   kept_here = member_at raw h.scope [] ms i m within is h.fit
@@ -78,13 +75,13 @@ module _ (raw : RawProgram) (ms : List RawMember) (h : AreKeptMembers raw ms) (i
   -- its name is none of those before
   pub member_new : (listed : StructMembers) → HasMembers raw (take i ms) listed → listed_type m.name listed ≡ None
   member_new listed has =
-      is_gone (listed_type m.name listed)
+      gone (listed_type m.name listed)
       (named_before raw h.scope (take i ms) m listed has
       ∙ none_any (λ (other : RawMember). bytes_eq other.name m.name) (take i ms)
       (λ other c e. kept_here 8 (member (MisnamesMember.again c ((bytes_decides other.name m.name).0 e)))))
 
   -- a member that is too long
-  pub members_stop : (e : Stop) → MakesMember (member_tree raw m) (Err e) → MakesMembers raw ms (Err e)
+  pub members_stop : (e : MakeFault) → MakesMember (member_tree raw m) (Err e) → MakesMembers raw ms (Err e)
   members_stop Length long = (m, contains_turn ms i m within is, long)
   members_stop NoMemory long = tt
 
@@ -95,7 +92,7 @@ pub struct_made : (raw : RawProgram) (tag : Bytes) (ms : List RawMember) (name :
 struct_made raw tag ms name out same is =
     ap (option_map (λ (xs : List Member). record { name = tag; members = xs })) is ∙ ap (λ (n : Bytes). Some (record { name = n; members = out })) (sym same)
 
-pub struct_stops : (raw : RawProgram) (tag : Bytes) (ms : List RawMember) (e : Stop) → MakesMembers raw ms (Err e) → MakesStruct raw (record { tag = tag; members = ms }) (Err e)
+pub struct_stops : (raw : RawProgram) (tag : Bytes) (ms : List RawMember) (e : MakeFault) → MakesMembers raw ms (Err e) → MakesStruct raw (record { tag = tag; members = ms }) (Err e)
 struct_stops raw tag ms Length h = h
 struct_stops raw tag ms NoMemory h = tt
 
@@ -111,7 +108,7 @@ module _ (raw : RawProgram) (one : RawItem) (line : ℕ) (tag : Bytes) (ms : Lis
       subst (λ (y : RawItem). map Some new ≡ map Some old ++ map (struct_tree raw) (structs_of (y ∷ []))) (sym is)
       (ap (map Some) pushed ∙ map-append Some old (x ∷ []) ∙ ap (λ o. map Some old ++ o ∷ []) (sym tree))
 
-  pub stops_struct : (old new : List StructDef) (e : Stop) → MakesStruct raw (record { tag = tag; members = ms }) (Err e) → AddsStruct raw one old new (Err e)
+  pub stops_struct : (old new : List StructDef) (e : MakeFault) → MakesStruct raw (record { tag = tag; members = ms }) (Err e) → AddsStruct raw one old new (Err e)
   stops_struct old new Length h =
       subst (λ (y : RawItem). HasLongStruct raw (y ∷ [])) (sym is) (record { tag = tag; members = ms }, contains_first (record { tag = tag; members = ms }) [], h)
   stops_struct old new NoMemory h = tt
@@ -136,14 +133,14 @@ module _ (raw : RawProgram) (items : List RawItem) (i : ℕ) (one : RawItem) (wi
       among [] k low same d c = absurd (omega (arith, low))
       among (x ∷ xs) zero low same d c =
           subst (λ ds. Contains ds d) (sym (structs-append (x ∷ []) xs))
-          (contains_front (structs_of (x ∷ [])) (structs_of xs) d (subst (λ (y : RawItem). Contains (structs_of (y ∷ [])) d) same c))
+          (Contains-append_left (structs_of (x ∷ [])) (structs_of xs) d (subst (λ (y : RawItem). Contains (structs_of (y ∷ [])) d) same c))
       among (x ∷ xs) (suc k) low same d c =
-          subst (λ ds. Contains ds d) (sym (structs-append (x ∷ []) xs)) (contains_back (structs_of (x ∷ [])) (structs_of xs) d (among xs k (omega (arith, low)) same d c))
+          subst (λ ds. Contains ds d) (sym (structs-append (x ∷ []) xs)) (Contains-append_right (structs_of (x ∷ [])) (structs_of xs) d (among xs k (omega (arith, low)) same d c))
 
   pub struct_kept : AreKeptStructs raw items → AreKeptStructs raw (one ∷ [])
   struct_kept h = λ d c. h d (structs_among d c)
 
-  pub structs_stop : (old new : List StructDef) (e : Stop) → AddsStruct raw one old new (Err e) → MakesStructs raw items (Err e)
+  pub structs_stop : (old new : List StructDef) (e : MakeFault) → AddsStruct raw one old new (Err e) → MakesStructs raw items (Err e)
   structs_stop old new Length h = (h.0, structs_among h.0 h.1, h.2)
   structs_stop old new NoMemory h = tt
 
@@ -163,4 +160,4 @@ module _ (raw : RawProgram) (items : List RawItem) (i : ℕ) (one : RawItem) (wi
 pub structs_end : (raw : RawProgram) (items : List RawItem) (i : ℕ) (out : List StructDef) → length items ≤ i
     → map Some out ++ map (struct_tree raw) (structs_of (drop i items)) ≡ map (struct_tree raw) (structs_of items) → MakesStructs raw items (Ok out)
 structs_end raw items i out low h =
-    ap collected (sym h ∙ ap (λ xs. map Some out ++ map (struct_tree raw) (structs_of xs)) (drop_end items i low) ∙ append-nil (map Some out)) ∙ collected_made out
+    ap collected (sym h ∙ ap (λ xs. map Some out ++ map (struct_tree raw) (structs_of xs)) (drop_all i items low) ∙ append-nil (map Some out)) ∙ collected_made out

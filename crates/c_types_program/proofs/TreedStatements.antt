@@ -1,6 +1,7 @@
 -- Each form of statement whose phrases keep their rules has its tree, and leaves a scope whose names have types.
 use Rattle.std.proofs.Common.{◌≡◌, ℕ, List, [], ◌∷◌, ◌++◌, map, Bool, Option, Some, None, refl, sym, ap, subst, ◌∙◌}
 use Rattle.std.specs.Prelude.{Contains, option_map, option_and_then}
+use Rattle.std.proofs.lemmas.List.Elements.{Contains-append_left}
 use Rattle.c_arith.specs.declared.int_type.IntType.{IntType}
 use Rattle.c_arith.specs.declared.operators.BinaryOp.{BinaryOp}
 use Rattle.c_arith.specs.IntType.{promote}
@@ -34,11 +35,12 @@ use Rattle.c_language.specs.ArrayRules.{LacksConstant}
 use Rattle.c_language.specs.SwitchRules.{MisusesSwitch}
 use Rattle.c_language.specs.ProgramOf.{collected, optional, expr_of, exprs_of, init_of, declaration_id, target_tree, label_tree, arm_tree, ArmTree, arm_tree_step, block_tree, at_type, switch_type, part_tree, for_tree, tree_step, treed_step}
 use Rattle.c_language.specs.declared.expr_type.Operand.{Operand}
-use Rattle.c_types_base.proofs.JudgingLaws.{contains_first, contains_later}
-use Rattle.c_types_base.proofs.OptionLemmas.{IsThere, not_none, there_map, there_then, there_both, there_optional, AreThere, there_collected}
+use Rattle.c_language.proofs.Options.{IsThere, there_map}
+use Rattle.c_language.proofs.Lists.{contains_first, contains_later}
+use Rattle.c_types_base.proofs.OptionLemmas.{not_none, there_then, there_both, there_optional, AreThere, there_collected}
 use Rattle.c_types_program.proofs.ScopeLemmas.{IsTyped, typed_variable, AreComplete}
 use Rattle.c_types_program.proofs.ConstantTrees.{constant_tree}
-use Rattle.c_types_program.proofs.PhraseTrees.{KeepsAt, AreKept, kept_both, contains_front, variable_made, target_made, typed_target, phrase_tree, phrase_operand, exprs_there}
+use Rattle.c_types_program.proofs.PhraseTrees.{KeepsAt, AreKept, kept_both, variable_made, target_made, typed_target, phrase_tree, phrase_operand, exprs_there}
 use Rattle.c_types_program.proofs.CallTrees.{call_there}
 use Rattle.c_types_program.specs.Fitting.{IsAllocation}
 use Rattle.c_types_program.proofs.AllocationTrees.{heap_there}
@@ -211,7 +213,7 @@ module _ (raw : RawProgram) (complete : AreComplete raw (defined_structs raw)) w
         let parts = kept_both raw (target_phrases raw l scope stand to) (phrase l (with_target raw to scope) (Calls stand to f args) ∷ []) kept in
         call_there raw complete (with_target raw to scope) (typed_target raw to scope (target_made raw l scope stand to parts.0) typed) stand to f args parts.1.0
         scope.statements l (target_tree raw scope to)
-        (target_there scope to (Calls stand to f args) typed parts.1.0 (λ e c. contains_front (target_exprs to) (arg_exprs args) e c));
+        (target_there scope to (Calls stand to f args) typed parts.1.0 (λ e c. Contains-append_left (target_exprs to) (arg_exprs args) e c));
   }
 
   pub is_treed-Heap : (l : ℕ) (to : RawTarget) (cast : Option RawTypeName) (n : RawAmount) → IsAllocation to cast n
@@ -225,7 +227,7 @@ module _ (raw : RawProgram) (complete : AreComplete raw (defined_structs raw)) w
         let parts = kept_both raw (target_phrases raw l scope stand to) (phrase l (with_target raw to scope) (Allocates to cast n) ∷ []) kept in
         heap_there raw complete (with_target raw to scope) (typed_target raw to scope (target_made raw l scope stand to parts.0) typed) to cast n form
         (target_made raw l scope stand to parts.0) parts.1.0 scope.statements l (target_tree raw scope to)
-        (target_there scope to (Allocates to cast n) typed parts.1.0 (λ e c. contains_front (target_exprs to) (counts n) e c));
+        (target_there scope to (Allocates to cast n) typed parts.1.0 (λ e c. Contains-append_left (target_exprs to) (counts n) e c));
   }
 
   returned_there : (scope : Scope) (a : Option RawExpr) → IsTyped scope → KeepsAt raw scope (Returns a) → IsThere (optional (option_map (expr_of raw scope) a))

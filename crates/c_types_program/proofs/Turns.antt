@@ -1,6 +1,7 @@
 -- The walk along a list, turn by turn: what is made so far, and what is still to come.
-use Rattle.std.proofs.Common.{◌≡◌, ℕ, zero, suc, ◌+◌, ◌<◌, ◌≤◌, List, [], ◌∷◌, ◌++◌, map, length, drop, get_or, Option, Some, option_map, append_assoc, append-nil, refl, sym, ap, subst, ◌∙◌, arith}
-use Rattle.std.proofs.lemmas.List.{map-append}
+use Rattle.std.proofs.Common.{◌≡◌, ℕ, ◌+◌, ◌<◌, ◌≤◌, List, [], ◌∷◌, ◌++◌, map, length, drop, get_or, Option, Some, option_map, append_assoc, append-nil, refl, sym, ap, subst, ◌∙◌}
+use Rattle.std.proofs.lemmas.List.{map-append, drop_all}
+use Rattle.std.proofs.lemmas.List.Elements.{Contains-append_left, Contains-append_right}
 use Rattle.c_arith.specs.declared.int_type.IntType.{IntType}
 use Rattle.c_tree.specs.declared.program.Var.{Var}
 use Rattle.c_tree.specs.declared.statement.Arm.{Arm}
@@ -11,33 +12,20 @@ use Rattle.c_tree.specs.declared.raw.statement.RawStatement.{RawStatement}
 use Rattle.c_language.specs.Scopes.{Scope, in_order, after_all}
 use Rattle.c_language.specs.Phrases.{Stand, InBlock, joined_at, labels_of, phrases_of_arms, scoped, scoped_of_arm}
 use Rattle.c_language.specs.ProgramOf.{collected, treed, ArmTree, variables_in}
+use Rattle.c_language.proofs.Turns.{drop_turn}
+use Rattle.c_language.proofs.PhraseLists.{variables-append}
+use Rattle.c_language.proofs.TreeScopes.{after_same}
 use Rattle.c_types_base.specs.Tables.{scope_of, AreRight}
 use Rattle.c_types_program.specs.declared.walk.Walk.{Walk}
 use Rattle.c_types_program.specs.Fitting.{AreFit, IsInside, AreFitInside, IsFitInside}
 use Rattle.c_types_program.specs.Making.{Grow, Fits, HasTree, Passes, FitAll, HaveTrees, PassesAll, AreLabels, treed_arm, HasArm, PassesArm, HaveArms, PassesArms}
-use Rattle.c_types_program.proofs.AfterLaws.{same_after}
-use Rattle.c_types_program.proofs.Growing.{grow_none, grow_then, variables_both, fit_both}
-use Rattle.c_types_program.proofs.PhraseTrees.{contains_front, contains_back}
+use Rattle.c_types_program.proofs.Growing.{grow_none, grow_then, fit_both}
 use Rattle.c_types_program.proofs.Passing.{same_arm}
 use Rattle.c_types_program.proofs.Standing.{Stands, here, told, given, goes, came}
 
 pub collected_made : {A : Type 0} (xs : List A) → collected (map Some xs) ≡ Some xs
 collected_made [] = refl
 collected_made (x ∷ xs) = ap (option_map (λ ys. x ∷ ys)) (collected_made xs)
-
--- the element of a turn, and what is still to come
-pub drop_turn : {A : Type 0} (xs : List A) (i : ℕ) (x : A) → i < length xs → x ≡ get_or xs i x → drop i xs ≡ x ∷ drop (i + 1) xs
-drop_turn [] i x low is = absurd (omega (arith, low))
-drop_turn (y ∷ xs) zero x low is = ap (λ z. z ∷ xs) (sym is)
-drop_turn (y ∷ xs) (suc i) x low is =
-    let k : suc i + 1 ≡ suc (i + 1) = omega arith in
-    drop_turn xs i x (omega (arith, low)) is ∙ ap (λ (j : ℕ). x ∷ drop j (y ∷ xs)) (sym k)
-
-pub drop_end : {A : Type 0} (xs : List A) (i : ℕ) → length xs ≤ i → drop i xs ≡ []
-drop_end [] zero h = refl
-drop_end [] (suc i) h = refl
-drop_end (x ∷ xs) zero h = absurd (omega (arith, h))
-drop_end (x ∷ xs) (suc i) h = drop_end xs i (omega (arith, h))
 
 -- one more is made
 push_made : {A : Type 0} (out : List A) (x : A) (rest : List (Option A)) → map Some (out ++ x ∷ []) ++ rest ≡ map Some out ++ (Some x ∷ rest)
@@ -82,7 +70,7 @@ module _ {raw : RawProgram} {scope : Scope} {old new : Walk} {out : List Stateme
   next = (treed raw one).after h.now
 
   same_next : (scoped raw one).after h.now ≡ next
-  same_next = sym (same_after raw one h.now)
+  same_next = sym (after_same raw one h.now)
 
   parts : AreFit raw ((scoped raw one).gives h.now h.fit.stand) × AreFit raw (joined_at h.fit.stand (in_order (map (scoped raw) rest) ((scoped raw one).after h.now)))
   parts = fit_both raw ((scoped raw one).gives h.now h.fit.stand) (joined_at h.fit.stand (in_order (map (scoped raw) rest) ((scoped raw one).after h.now))) h.fit.fit
@@ -105,7 +93,7 @@ module _ {raw : RawProgram} {scope : Scope} {old new : Walk} {out : List Stateme
     after = h.after;
     gains = λ stand inside.
         gain (subst (λ vs. Gaining old new vs (variables_in raw (joined_at stand (in_order (map (scoped raw) whole) scope))))
-        (variables_both raw ((scoped raw one).gives h.now stand) (joined_at stand (in_order (map (scoped raw) rest) ((scoped raw one).after h.now)))
+        (variables-append raw ((scoped raw one).gives h.now stand) (joined_at stand (in_order (map (scoped raw) rest) ((scoped raw one).after h.now)))
         ∙ ap (λ y. variables_in raw ((scoped raw one).gives h.now stand) ++ variables_in raw (joined_at stand (in_order (map (scoped raw) rest) y))) same_next)
         (h.gains stand inside))
         (told (λ r y. Grow new.variables later.variables (variables_in r ((scoped r one).gives y stand))) h.stands (passes stand inside).grow);
@@ -159,7 +147,7 @@ module _ {raw : RawProgram} {scope : Scope} {t : IntType} {old new : Walk} {out 
   pub arm_turn_labels : AreLabels new.tables.raw.now ((scoped_of_arm new.tables.raw.now one).gives (scope_of new.tables)).labels
   arm_turn_labels =
       given (λ r x. AreLabels r ((scoped_of_arm r one).gives x).labels) h.stands
-      (λ l c. h.labels l (contains_front ((scoped_of_arm raw one).gives h.now).labels (labels_of (in_order (map (scoped_of_arm raw) rest) ((scoped_of_arm raw one).after h.now))) l c))
+      (λ l c. h.labels l (Contains-append_left ((scoped_of_arm raw one).gives h.now).labels (labels_of (in_order (map (scoped_of_arm raw) rest) ((scoped_of_arm raw one).after h.now))) l c))
 
   pub arm_turn : (later : Walk) (x : Arm) → HasArm new t one x → PassesArm new later one → GoingArms raw scope t old later (out ++ x ∷ []) rest whole
   arm_turn later x tree passes = record {
@@ -168,14 +156,14 @@ module _ {raw : RawProgram} {scope : Scope} {t : IntType} {old new : Walk} {out 
     fit = subst (λ y. AreFit raw (phrases_of_arms (in_order (map (scoped_of_arm raw) rest) y))) same_arm_next arm_parts.1;
     labels =
         subst (λ y. AreLabels raw (labels_of (in_order (map (scoped_of_arm raw) rest) y))) same_arm_next
-        (λ l c. h.labels l (contains_back ((scoped_of_arm raw one).gives h.now).labels (labels_of (in_order (map (scoped_of_arm raw) rest) ((scoped_of_arm raw one).after h.now))) l c));
+        (λ l c. h.labels l (Contains-append_right ((scoped_of_arm raw one).gives h.now).labels (labels_of (in_order (map (scoped_of_arm raw) rest) ((scoped_of_arm raw one).after h.now))) l c));
     trees =
         push_made out x (map (λ (a : ArmTree). a t) (in_order (map (treed_arm raw) rest) next_arm))
         ∙ (ap (λ o. map Some out ++ (o ∷ map (λ (a : ArmTree). a t) (in_order (map (treed_arm raw) rest) next_arm))) (sym (told (λ r y. (treed_arm r one).gives y t ≡ Some x) h.stands tree)) ∙ h.trees);
     after = h.after;
     gains =
         gain (subst (λ vs. Gaining old new vs (variables_in raw (phrases_of_arms (in_order (map (scoped_of_arm raw) whole) scope))))
-        (variables_both raw ((scoped_of_arm raw one).gives h.now).phrases (phrases_of_arms (in_order (map (scoped_of_arm raw) rest) ((scoped_of_arm raw one).after h.now)))
+        (variables-append raw ((scoped_of_arm raw one).gives h.now).phrases (phrases_of_arms (in_order (map (scoped_of_arm raw) rest) ((scoped_of_arm raw one).after h.now)))
         ∙ ap (λ y. variables_in raw ((scoped_of_arm raw one).gives h.now).phrases ++ variables_in raw (phrases_of_arms (in_order (map (scoped_of_arm raw) rest) y))) same_arm_next)
         h.gains)
         (told (λ r y. Grow new.variables later.variables (variables_in r ((scoped_of_arm r one).gives y).phrases)) h.stands passes.grow);
@@ -195,7 +183,7 @@ next_turn {raw} {scope} {old} {new} {out} {whole} list i one low is h = subst (�
 
 pub last_turn : {raw : RawProgram} {scope : Scope} {old new : Walk} {out : List Statement} {whole : List RawStatement} (list : List RawStatement) (i : ℕ)
     → length list ≤ i → Going raw scope old new out (drop i list) whole → Going raw scope old new out [] whole
-last_turn {raw} {scope} {old} {new} {out} {whole} list i low h = subst (λ r. Going raw scope old new out r whole) (drop_end list i low) h
+last_turn {raw} {scope} {old} {new} {out} {whole} list i low h = subst (λ r. Going raw scope old new out r whole) (drop_all i list low) h
 
 pub pushed : {raw : RawProgram} {scope : Scope} {old new : Walk} {out more : List Statement} {rest whole : List RawStatement}
     → Going raw scope old new out rest whole → more ≡ out → Going raw scope old new more rest whole
@@ -207,7 +195,7 @@ next_arm_turn {raw} {scope} {t} {old} {new} {out} {whole} list i one low is h = 
 
 pub last_arm_turn : {raw : RawProgram} {scope : Scope} {t : IntType} {old new : Walk} {out : List Arm} {whole : List RawArm} (list : List RawArm) (i : ℕ)
     → length list ≤ i → GoingArms raw scope t old new out (drop i list) whole → GoingArms raw scope t old new out [] whole
-last_arm_turn {raw} {scope} {t} {old} {new} {out} {whole} list i low h = subst (λ r. GoingArms raw scope t old new out r whole) (drop_end list i low) h
+last_arm_turn {raw} {scope} {t} {old} {new} {out} {whole} list i low h = subst (λ r. GoingArms raw scope t old new out r whole) (drop_all i list low) h
 
 pub arm_pushed : {raw : RawProgram} {scope : Scope} {t : IntType} {old new : Walk} {out more : List Arm} {rest whole : List RawArm}
     → GoingArms raw scope t old new out rest whole → more ≡ out → GoingArms raw scope t old new more rest whole
@@ -229,7 +217,7 @@ made_turn f list i x y out more whole low is tree pushes h =
 pub made_end : {A B : Type 0} (f : A → Option B) (list : List A) (i : ℕ) (out : List B) → length list ≤ i → map Some out ++ map f (drop i list) ≡ map f list
     → collected (map f list) ≡ Some out
 made_end f list i out low h =
-    ap collected (sym h ∙ (ap (λ xs. map Some out ++ map f xs) (drop_end list i low) ∙ append-nil (map Some out))) ∙ collected_made out
+    ap collected (sym h ∙ (ap (λ xs. map Some out ++ map f xs) (drop_all i list low) ∙ append-nil (map Some out))) ∙ collected_made out
 
 -- ---- a list that gets what a function gives for each element
 
@@ -245,4 +233,4 @@ mapped_turn f list i x y out more whole low is gives pushes h =
     ∙ (ap (λ xs. out ++ map f xs) (sym (drop_turn list i x low is)) ∙ h)))
 
 pub mapped_end : {A B : Type 0} (f : A → B) (list : List A) (i : ℕ) (out : List B) → length list ≤ i → out ++ map f (drop i list) ≡ map f list → out ≡ map f list
-mapped_end f list i out low h = sym (append-nil out) ∙ (ap (λ xs. out ++ map f xs) (sym (drop_end list i low)) ∙ h)
+mapped_end f list i out low h = sym (append-nil out) ∙ (ap (λ xs. out ++ map f xs) (sym (drop_all i list low)) ∙ h)

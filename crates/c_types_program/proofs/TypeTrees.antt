@@ -16,9 +16,12 @@ use Rattle.c_language.specs.ProgramOf.{ctype_step, ctype_with, length_words}
 use Rattle.c_language.specs.Uses.{lengths_in, lengths_step, written_lengths, tags_in, tags_step}
 use Rattle.c_language.specs.declared.expr_type.Base.TheVariants as base
 use Rattle.c_language.specs.declared.expr_type.ExprType.{ExprType}
-use Rattle.c_types_base.proofs.OptionLemmas.{IsThere, there_map, there_then, there_both}
+use Rattle.c_language.proofs.Options.{IsThere, there_map}
+use Rattle.c_language.proofs.Lists.{contains_first, contains_later}
+use Rattle.c_language.proofs.UseLemmas.{tags-roll, lengths-roll}
+use Rattle.c_types_base.proofs.OptionLemmas.{there_then, there_both}
+use Rattle.c_types_base.proofs.TypeLemmas.{type-roll}
 use Rattle.c_types_program.proofs.ScopeLemmas.{IsMade}
-use Rattle.c_types_base.proofs.JudgingLaws.{contains_first, contains_later}
 
 module _ (raw : RawProgram) (items : ℕ) where
   -- each of these tags is defined
@@ -35,17 +38,8 @@ module _ (raw : RawProgram) (items : ℕ) where
   abbrev layer_of : RawType-F ((t : RawType) × IsSound t) → RawType-F RawType
   layer_of = map-RawType ((t : RawType) × IsSound t) RawType (λ t. t.0)
 
-  type-roll : (layer : RawType-F RawType) → type_with raw items (roll-RawType layer) ≡ type_step raw items (map-RawType RawType (Option ExprType) (type_with raw items) layer)
-  type-roll layer = fold-roll-RawType (Option ExprType) (type_step raw items) layer
-
   ctype-roll : (layer : RawType-F RawType) → ctype_with raw items (roll-RawType layer) ≡ ctype_step raw items (map-RawType RawType (Option CType) (ctype_with raw items) layer)
   ctype-roll layer = fold-roll-RawType (Option CType) (ctype_step raw items) layer
-
-  tags-roll : (layer : RawType-F RawType) → tags_in (roll-RawType layer) ≡ tags_step (map-RawType RawType (List Bytes) tags_in layer)
-  tags-roll layer = fold-roll-RawType (List Bytes) tags_step layer
-
-  lengths-roll : (layer : RawType-F RawType) → lengths_in (roll-RawType layer) ≡ lengths_step (map-RawType RawType (List RawExpr) lengths_in layer)
-  lengths-roll layer = fold-roll-RawType (List RawExpr) lengths_step layer
 
   length_there : (n : RawLength) (ns : List RawExpr) → AreLengths (written_lengths n ++ ns) → IsThere (length_in items n)
   length_there (length_of.Written e) ns h = h e (contains_first e ns)
@@ -77,7 +71,7 @@ module _ (raw : RawProgram) (items : ℕ) where
   made_roll : (y : RawType-F ((t : RawType) × IsSound t)) → IsSound (roll-RawType (layer_of y))
   made_roll y d l =
       let made = made_layer y (subst AreDefined (tags-roll (layer_of y)) d) (subst AreLengths (lengths-roll (layer_of y)) l) in
-      record { typed = subst IsThere (sym (type-roll (layer_of y))) made.0; tree = subst IsThere (sym (ctype-roll (layer_of y))) made.1 }
+      record { typed = subst IsThere (sym (type-roll raw items (layer_of y))) made.0; tree = subst IsThere (sym (ctype-roll (layer_of y))) made.1 }
 
   -- a type keeps the rules on tags and lengths, and then it is made
   pub type_made : (t : RawType) → AreDefined (tags_in t) → AreLengths (lengths_in t) → IsMade raw items t

@@ -18,8 +18,8 @@ use Rattle.c_language.specs.ProgramOf.{collected, body_of, function_tree, functi
 use Rattle.c_language.specs.Scopes.{Scope, with_parameters}
 use Rattle.c_types_base.specs.Tables.{scope_of}
 use Rattle.c_types_base.specs.Stretches.{Stretch, inside_function}
-use Rattle.c_types_program.specs.declared.stop.Stop.{Stop}
-use Rattle.c_types_program.specs.declared.stop.Stop.TheVariants.{Length, NoMemory}
+use Rattle.c_types_program.specs.declared.make_fault.MakeFault.{MakeFault}
+use Rattle.c_types_program.specs.declared.make_fault.MakeFault.TheVariants.{Length, NoMemory}
 use Rattle.c_types_program.specs.declared.walk.Walk.{Walk}
 use Rattle.c_types_program.specs.Fitting.{AreFit}
 use Rattle.c_types_program.specs.Making.{Comes}
@@ -79,25 +79,25 @@ abbrev pub HasLongStruct : RawProgram → List RawItem → Type 0
 HasLongStruct raw items = (d : StructText) × Contains (structs_of items) d × HasLongMember raw d.members
 
 -- the members where their types are made
-abbrev pub MakesMembers : RawProgram → List RawMember → Result (List Member) Stop → Type 0
+abbrev pub MakesMembers : RawProgram → List RawMember → Result (List Member) MakeFault → Type 0
 MakesMembers raw ms (Ok out) = collected (map (member_tree raw) ms) ≡ Some out
 MakesMembers raw ms (Err Length) = HasLongMember raw ms
 MakesMembers raw ms (Err NoMemory) = Unit {0}
 
 -- a struct type where those of its members are made
-abbrev pub MakesStruct : RawProgram → StructText → Result StructDef Stop → Type 0
+abbrev pub MakesStruct : RawProgram → StructText → Result StructDef MakeFault → Type 0
 MakesStruct raw d (Ok out) = struct_tree raw d ≡ Some out
 MakesStruct raw d (Err Length) = HasLongMember raw d.members
 MakesStruct raw d (Err NoMemory) = Unit {0}
 
 -- the struct type of an item is added, where it defines one and its members are made
-abbrev pub AddsStruct : RawProgram → RawItem → List StructDef → List StructDef → Result (Unit {0}) Stop → Type 0
+abbrev pub AddsStruct : RawProgram → RawItem → List StructDef → List StructDef → Result (Unit {0}) MakeFault → Type 0
 AddsStruct raw one old new (Ok x) = map Some new ≡ map Some old ++ map (struct_tree raw) (structs_of (one ∷ []))
 AddsStruct raw one old new (Err Length) = HasLongStruct raw (one ∷ [])
 AddsStruct raw one old new (Err NoMemory) = Unit {0}
 
 -- the struct types that items define, where they are made
-abbrev pub MakesStructs : RawProgram → List RawItem → Result (List StructDef) Stop → Type 0
+abbrev pub MakesStructs : RawProgram → List RawItem → Result (List StructDef) MakeFault → Type 0
 MakesStructs raw items (Ok out) = collected (map (struct_tree raw) (structs_of items)) ≡ Some out
 MakesStructs raw items (Err Length) = HasLongStruct raw items
 MakesStructs raw items (Err NoMemory) = Unit {0}
@@ -105,7 +105,7 @@ MakesStructs raw items (Err NoMemory) = Unit {0}
 -- ---- the whole
 
 -- the program of a text, or that one of its arrays has 2^32 elements or more, but for want of memory
-abbrev pub MakesProgram : RawProgram → Result Program Stop → Type 0
+abbrev pub MakesProgram : RawProgram → Result Program MakeFault → Type 0
 MakesProgram raw (Ok p) = program_of raw ≡ Some p
 MakesProgram raw (Err Length) = (p : Program) → program_of raw ≡ Some p → 4294967296 ≤ array_length p
 MakesProgram raw (Err NoMemory) = Unit {0}

@@ -6,16 +6,16 @@ mod calls;
 mod expressions;
 mod functions;
 mod items;
+mod make_fault;
 mod parts;
 mod program;
 mod shapes;
 mod simple;
 mod statements;
-mod stop;
 mod structs;
 mod variables;
 mod walk;
 mod words;
 
+pub use make_fault::MakeFault;
 pub use program::make_program;
-pub use stop::Stop;

@@ -3,7 +3,7 @@ ghost use Rattle.c_language.specs.Programs.{IsTree};
 ghost use Rattle.c_language.specs.Rules.{KeepsRules};
 ghost use Rattle.c_types_program.specs.Walking.{MakesProgram};
 
-use crate::stop::Stop;
+use crate::make_fault::MakeFault;
 use crate::structs::struct_trees;
 use crate::variables::Variables;
 use crate::walk::Walk;
@@ -17,7 +17,7 @@ use std::alloc::Global;
 ///
 /// `Length` where an array has 2^32 elements or more, which the tree can't hold. `NoMemory` where memory
 /// runs out, or the numbers of variables, statements, struct types or functions do.
-pub fn make_program(alloc: Global, raw: &RawProgram) -> Result<Program, Stop>
+pub fn make_program(alloc: Global, raw: &RawProgram) -> Result<Program, MakeFault>
     requires tree { IsTree raw.now }
     requires rules { KeepsRules raw.now }
     ensures { MakesProgram raw.now result }
@@ -28,7 +28,7 @@ pub fn make_program(alloc: Global, raw: &RawProgram) -> Result<Program, Stop>
     let made = walk.items(alloc, raw.items.as_slice())?;
     let (items, functions) = made;
     if walk.variables.is_long {
-        return Err(Stop::Length);
+        return Err(MakeFault::Length);
     }
     let structs = struct_trees(alloc, &walk.tables.defined, raw.items.as_slice())?;
     Ok(Program {

@@ -6,16 +6,16 @@ ghost use Rattle.c_language.specs.ProgramOf as trees;
 ghost use Rattle.c_language.specs.TypeGrammar.{named_type};
 ghost use Rattle.c_types_base.specs.Definitions.{IsOfText};
 ghost use Rattle.c_types_base.specs.Tables.{AreRight};
-ghost use Rattle.c_types_program.specs.Keeping.{IsGiven, IsKeptVariable, IsKeptMember, IsKeptHead, HasNoLength, HasNoLengthIf};
+ghost use Rattle.c_types_program.specs.Keeping.{IsGiven, IsKeptMember, IsKeptHead, HasNoLength, HasNoLengthIf};
 ghost use Rattle.c_types_program.specs.Shaping.{Shapes, Makes, MakesMember};
 
-use crate::stop::Stop;
+use crate::make_fault::MakeFault;
 use crate::words::words;
 use c_tree::{
-    Boxed, CType, Items, Member, RawHead, RawInit, RawLength, RawMember, RawParam, RawType,
-    RawTypeName, RawVar, Text, VarId,
+    Boxed, CType, Items, Member, RawHead, RawLength, RawMember, RawParam, RawType, RawTypeName,
+    Text, VarId,
 };
-use c_types_base::declared_types::{array_length, item_count};
+use c_types_base::declared_types::array_length;
 use c_types_base::definitions::Definitions;
 use c_types_base::tables::Tables;
 use std::alloc::{AllocError, Global};
@@ -46,14 +46,14 @@ fn array_shape(
     element: CType,
     items: usize,
     length: &RawLength,
-) -> Result<Option<CType>, Stop>
+) -> Result<Option<CType>, MakeFault>
     ensures { Shapes (both (λ t k. CType.Array t k (trees.length_words items length.now)) (Some element) (types.length_in items length.now)) result }
 {
     let Some(count) = array_length(items, length) else {
         return Ok(None);
     };
     let Ok(count) = u32::try_from(count) else {
-        return Err(Stop::Length);
+        return Err(MakeFault::Length);
     };
     let text = length_words(alloc, items, length)?;
     Ok(Some(CType::Array(Boxed::new(alloc, element)?, count, text)))
@@ -67,7 +67,7 @@ pub fn ctype_with(
     defined: &Definitions<'_>,
     items: usize,
     shape: &RawType,
-) -> Result<Option<CType>, Stop>
+) -> Result<Option<CType>, MakeFault>
     requires { IsOfText defined.now }
     ensures { Shapes (trees.ctype_with defined.now.raw.now items shape.now) result }
 {
@@ -99,7 +99,7 @@ fn made_shape(
     defined: &Definitions<'_>,
     items: usize,
     shape: &RawType,
-) -> Result<CType, Stop>
+) -> Result<CType, MakeFault>
     requires text { IsOfText defined.now }
     requires there { IsGiven (trees.ctype_with defined.now.raw.now items shape.now) }
     ensures { Makes (trees.ctype_with defined.now.raw.now items shape.now) result }
@@ -110,27 +110,12 @@ fn made_shape(
     }
 }
 
-/// The type of a variable that is declared. Err: an array has 2^32 elements or more, or no memory was
-/// left.
-pub fn variable_shape(
-    alloc: Global,
-    defined: &Definitions<'_>,
-    var: &RawVar,
-    init: &RawInit,
-) -> Result<CType, Stop>
-    requires text { IsOfText defined.now }
-    requires kept { IsKeptVariable defined.now.raw.now var.now init.now }
-    ensures { Makes (trees.ctype_with defined.now.raw.now (types.item_count init.now) var.now.shape) result }
-{
-    made_shape(alloc, defined, item_count(init), &var.shape)
-}
-
 /// A member of a struct type. Err: an array has 2^32 elements or more, or no memory was left.
 pub fn member_tree(
     alloc: Global,
     defined: &Definitions<'_>,
     member: &RawMember,
-) -> Result<Member, Stop>
+) -> Result<Member, MakeFault>
     requires text { IsOfText defined.now }
     requires kept { IsKeptMember defined.now.raw.now member.now }
     ensures { MakesMember (trees.member_tree defined.now.raw.now member.now) result }
@@ -156,8 +141,8 @@ pub fn plain_shape(
     match ctype_with(alloc, defined, 0, shape) {
         Ok(Some(t)) => Ok(t),
         Ok(None) => unreachable!(),
-        Err(Stop::Length) => unreachable!(),
-        Err(Stop::NoMemory) => Err(AllocError),
+        Err(MakeFault::Length) => unreachable!(),
+        Err(MakeFault::NoMemory) => Err(AllocError),
     }
 }
 

@@ -8,8 +8,8 @@ ghost use Rattle.c_types_base.specs.Tables.{AreRight};
 ghost use Rattle.c_types_base.specs.Listing.{HasMembers};
 ghost use Rattle.c_types_program.specs.Walking.{AreKeptMembers, AreKeptStructs, MakesMembers, MakesStruct, AddsStruct, MakesStructs};
 
+use crate::make_fault::MakeFault;
 use crate::shapes::member_tree;
-use crate::stop::Stop;
 use c_tree::{Items, Member, RawItem, RawMember, StructDef, Text};
 use c_types_base::declared_types::written_type;
 use c_types_base::definitions::Definitions;
@@ -59,7 +59,7 @@ fn member_trees(
     alloc: Global,
     defined: &Definitions<'_>,
     list: &[RawMember],
-) -> Result<Items<Member>, Stop>
+) -> Result<Items<Member>, MakeFault>
     requires text { IsOfText defined.now }
     requires kept { AreKeptMembers defined.now.raw.now list.now }
     ensures { MakesMembers defined.now.raw.now list.now result }
@@ -78,7 +78,7 @@ fn struct_tree(
     defined: &Definitions<'_>,
     tag: &Text,
     list: &[RawMember],
-) -> Result<StructDef, Stop>
+) -> Result<StructDef, MakeFault>
     requires text { IsOfText defined.now }
     requires kept { AreKeptMembers defined.now.raw.now list.now }
     ensures { MakesStruct defined.now.raw.now (record { tag = tag.now; members = list.now }) result }
@@ -95,7 +95,7 @@ fn add_struct(
     defined: &Definitions<'_>,
     item: &RawItem,
     made: &mut Items<StructDef>,
-) -> Result<(), Stop>
+) -> Result<(), MakeFault>
     requires text { IsOfText defined.now }
     requires kept { AreKeptStructs defined.now.raw.now (item.now ∷ []) }
     ensures { AddsStruct defined.now.raw.now item.now made.old made.new result }
@@ -120,7 +120,7 @@ pub fn struct_trees(
     alloc: Global,
     defined: &Definitions<'_>,
     items: &[RawItem],
-) -> Result<Items<StructDef>, Stop>
+) -> Result<Items<StructDef>, MakeFault>
     requires text { IsOfText defined.now }
     requires kept { AreKeptStructs defined.now.raw.now items.now }
     ensures { MakesStructs defined.now.raw.now items.now result }

@@ -4,8 +4,8 @@ ghost use Rattle.c_language.specs.ProgramOf as trees;
 ghost use Rattle.c_types_base.specs.Tables.{AreRight};
 ghost use Rattle.c_types_program.specs.Making.{variable_with, AreMade, Grow};
 
+use crate::make_fault::MakeFault;
 use crate::shapes::ctype_with;
-use crate::stop::Stop;
 use c_tree::{Items, RawType, Text, Var};
 use c_types_base::tables::Tables;
 use std::alloc::{AllocError, Global};
@@ -13,6 +13,7 @@ use std::alloc::{AllocError, Global};
 /// The variables that are declared so far, in text order.
 #[derive(Drop)]
 pub struct Variables {
+    /// The variables, by their numbers.
     pub made: Items<Var>,
     /// Whether one was left out, since it has an array of 2^32 elements or more.
     pub is_long: bool,
@@ -21,12 +22,17 @@ pub struct Variables {
 /// The declaration of a variable.
 #[derive(Clone, Copy)]
 pub struct Declaration<'a> {
+    /// The line of the declaration, counted from 1.
     pub line: u32,
+    /// The name that is declared.
     pub name: &'a Text,
+    /// Its type as the text has it.
     pub shape: &'a RawType,
     /// How many items its list of initialisers has (ISO C99 6.7.8, paragraph 22).
     pub items: usize,
+    /// Whether it is declared `static`.
     pub is_static: bool,
+    /// Whether it declares a parameter.
     pub is_parameter: bool,
 }
 
@@ -66,11 +72,11 @@ impl Variables {
                 Ok(())
             }
             Ok(None) => unreachable!(),
-            Err(Stop::Length) => {
+            Err(MakeFault::Length) => {
                 self.is_long = true;
                 Ok(())
             }
-            Err(Stop::NoMemory) => Err(AllocError),
+            Err(MakeFault::NoMemory) => Err(AllocError),
         }
     }
 }

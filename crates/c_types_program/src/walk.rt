@@ -15,7 +15,9 @@ use std::alloc::{AllocError, Global};
 /// The walk along a text, come to a place.
 #[derive(Drop)]
 pub struct Walk<'a> {
+    /// What stands before the place.
     pub tables: Tables<'a>,
+    /// The variables that are declared before it.
     pub variables: Variables,
 }
 

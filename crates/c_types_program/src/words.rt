@@ -1,5 +1,5 @@
 //! The words of a text's expressions, in the layout.
-ghost use Rattle.std.specs.Prelude.{◌≡◌, ◌++◌, IfOk, OnOk, codes, if◌then◌else◌};
+ghost use Rattle.std.specs.Prelude.{◌≡◌, ◌++◌, IfOk, OnOk, codes};
 ghost use Rattle.c_language.specs.ProgramOf.{raw_words};
 ghost use Rattle.c_language.specs.Words as spec;
 

@@ -1,7 +1,7 @@
 -- The check of a call tells a rule exactly where it breaks one.
 use Rattle.std.proofs.Common.{◌≡◌, ◌≢◌, ℕ, List, [], ◌∷◌, length, Bool, true, false, Option, Some, None, refl, sym, ap, subst, ◌∙◌, inl, inr}
 use Rattle.std.specs.Prelude.{◌==◌, ◌&&◌, ◌||◌, not, is_some, Contains, bytes_eq, codes, option_map, option_and_then}
-use Rattle.std.proofs.lemmas.Bool.{eqb-true, eq-eqb}
+use Rattle.std.proofs.lemmas.Bool.{eqb-true, eq-eqb, or_from, not-true, not-false, or_parts, or_cases}
 use Rattle.std.proofs.lemmas.List.Elements.{Contains-append_left, Contains-append_right, Contains-append_cases}
 use Rattle.c_arith.specs.declared.int_type.IntType.TheVariants.{Int}
 use Rattle.c_tree.specs.declared.raw.expr.RawExpr.{RawExpr}
@@ -30,14 +30,16 @@ use Rattle.c_language.specs.SwitchRules.{MisplacesDeclaration}
 use Rattle.c_language.specs.CallRules.{HasUnfitArgument, MisusesArguments, MisusesResult, HasUnfitWidth, MisusesFormat, MisusesLibrary, target_type, without_result, format_in, later_args, pieces_in, only_arg}
 use Rattle.c_language.specs.declared.expr_type.ExprType.{ExprType}
 use Rattle.c_language.specs.declared.expr_type.Operand.{Operand}
+use Rattle.c_language.proofs.Lists.{contains_nil, contains_cons, contains_first, contains_later, same_names}
+use Rattle.c_language.proofs.UseLemmas.{only_in}
 use Rattle.c_types_rules.specs.Checking.{Verdict, kept, is_target}
 use Rattle.c_types_rules.specs.DeclarationChecks.{is_main}
 use Rattle.c_types_rules.specs.CallChecks.{is_no_target, begins_for, fits_parameter, fits_conversion, has_null_byte, check_target, check_each, check_result, check_own, check_only, check_free, check_putchar, check_getchar, check_printf, check_named, check_call}
-use Rattle.c_types_base.proofs.JudgingLaws.{Keeps, contains_cons, contains_first, contains_later, contains_nil}
+use Rattle.c_types_base.proofs.JudgingLaws.{Keeps}
 use Rattle.c_types_base.proofs.PhraseLemmas.{clash, are_clean}
 use Rattle.c_types_rules.proofs.KeptPhrases.{OfOperand}
 use Rattle.c_types_rules.proofs.KeptCalls.{TargetIsRight, CallIsRight, keeps-Calls}
-use Rattle.c_types_rules.proofs.TestLemmas.{same_some, none_some, is_nothing, is_something, not_true, not_false, either_false, either_true, any_passes, none_passes, same_names}
+use Rattle.c_types_rules.proofs.TestLemmas.{same_some, none_some, is_nothing, is_something, any_passes, none_passes}
 use Rattle.c_types_rules.proofs.EndLemmas.{is_empty, is_no_empty}
 use Rattle.c_types_base.proofs.TypedLaws.{IsTyped}
 use Rattle.c_types_rules.proofs.Findings.{Finds, IsTrue, by_test, by_given, by_option, by_both, by_facts, by_if, by_judged}
@@ -143,10 +145,6 @@ module _ (raw : RawProgram) (scope : Scope) (typed : IsTyped raw scope) (part : 
 
 -- ---- names of functions
 
-or_false : (a b : Bool) → a ≡ false → b ≡ false → (a || b) ≡ false
-or_false true b h k = h
-or_false false b h k = k
-
 function_is : (m : Option Meaning) → is_function m ≡ true → m ≡ Some Meaning.Function
 function_is None h = clash refl h
 function_is (Some Meaning.Function) h = refl
@@ -160,10 +158,10 @@ pub record IsOwn (f : Bytes) : Type 0 where
   pub printf : bytes_eq f (codes "printf") ≡ false
 
 own_function : (f : Bytes) → IsOwn f → is_library_function f ≡ false
-own_function f own = or_false _ _ own.getchar (or_false _ _ own.putchar (or_false _ _ own.printf (or_false _ _ own.free refl)))
+own_function f own = or_from _ _ own.getchar (or_from _ _ own.putchar (or_from _ _ own.printf (or_from _ _ own.free refl)))
 
 own_result_used : (f : Bytes) → IsOwn f → is_one_of without_result f ≡ false
-own_result_used f own = or_false _ _ own.putchar (or_false _ _ own.printf (or_false _ _ own.free refl))
+own_result_used f own = or_from _ _ own.putchar (or_from _ _ own.printf (or_from _ _ own.free refl))
 
 only_is : (args : List RawArg) (e : RawExpr) → only_arg args ≡ Some e → args ≡ arg.Value e ∷ []
 only_is [] e h = none_some refl h
@@ -171,9 +169,6 @@ only_is (arg.Value a ∷ []) e h = ap (λ (x : RawExpr). arg.Value x ∷ []) (sa
 only_is (arg.Literal text ∷ []) e h = none_some refl h
 only_is (arg.Value a ∷ (b ∷ rest)) e h = none_some refl h
 only_is (arg.Literal text ∷ (b ∷ rest)) e h = none_some refl h
-
-only_in : (args : List RawArg) (e : RawExpr) → only_arg args ≡ Some e → Contains (arg_exprs args) e
-only_in args e h = subst (λ (xs : List RawArg). Contains (arg_exprs xs) e) (sym (only_is args e h)) (contains_first e [])
 
 in_only : (args : List RawArg) (e m : RawExpr) → only_arg args ≡ Some e → Contains (arg_exprs args) m → e ≡ m
 in_only args e m h c = elim (contains_cons e m [] (subst (λ (xs : List RawArg). Contains (arg_exprs xs) m) (only_is args e h) c)) [
@@ -322,15 +317,15 @@ module _ (raw : RawProgram) (scope : Scope) where
   named_as stand to f args g n is b = subst (λ (name : Bytes). Breaks raw scope (Calls stand to name args) n) (sym is) b
 
 stored_for : (to : RawTarget) (head : RawHead) → (is_no_target to || is_some head.result) ≡ true → to ≢ place.None → head.result ≢ None
-stored_for to head gives used none = elim (either_true (is_no_target to) _ gives) [
+stored_for to head gives used none = elim (or_cases (is_no_target to) _ gives) [
   | inl unused ↦ used (stored_nowhere to unused)
   | inr some ↦ is_something head.result some none
 ]
 
 defined_for : (raw : RawProgram) (scope : Scope) (f : Bytes) → (not (is_function (meaning_in scope f)) || is_some (definition_of raw f)) ≡ true
     → meaning_in scope f ≡ Some Meaning.Function → definition_of raw f ≢ None
-defined_for raw scope f known is none = elim (either_true (not (is_function (meaning_in scope f))) _ known) [
-  | inl isnt ↦ clash {b = is_function (meaning_in scope f)} (not_true _ isnt) (ap is_function is)
+defined_for raw scope f known is none = elim (or_cases (not (is_function (meaning_in scope f))) _ known) [
+  | inl isnt ↦ clash {b = is_function (meaning_in scope f)} (not-true _ isnt) (ap is_function is)
   | inr some ↦ is_something (definition_of raw f) some none
 ]
 
@@ -439,7 +434,7 @@ module _ (raw : RawProgram) (scope : Scope) (typed : IsTyped raw scope) (stand :
       by_test B AsCall (is_no_target to) 17 _ (λ isnt. as_print 17 is (result (MisusesResult.library (stored_somewhere to isnt) refl))) (λ unused.
       by_given B AsCall 19 _ (format_in args) (λ none. as_print 19 is (format (MisusesFormat.no_format none))) (λ text first.
       by_test B AsCall (not (has_null_byte text)) 19 _ (λ isnt.
-      let found = any_passes (λ (b : ℕ). b == 0) (literal_bytes text) (not_false _ isnt) in
+      let found = any_passes (λ (b : ℕ). b == 0) (literal_bytes text) (not-false _ isnt) in
       as_print 19 is (format (MisusesFormat.null_byte first (subst (Contains (literal_bytes text)) (eqb-true found.0 0 found.2) found.1)))) (λ plain.
       by_given B AsCall 19 _ (format_pieces (literal_bytes text)) (λ none.
       as_print 19 is (format (MisusesFormat.conversion (pieces_of text first ∙ none)))) (λ ps read.
@@ -453,7 +448,7 @@ module _ (raw : RawProgram) (scope : Scope) (typed : IsTyped raw scope) (stand :
           text = text;
           pieces = ps;
           first = first;
-          plain = not_true _ plain;
+          plain = not-true _ plain;
           read = read;
           count = eqb-true _ _ count;
           fit = fit;
@@ -476,7 +471,7 @@ module _ (raw : RawProgram) (scope : Scope) (typed : IsTyped raw scope) (stand :
   result_true own head is =
       let K = ResultFits raw scope stand to f args head in
       by_test B K (is_no_target to || is_some head.result) 17 _ (λ isnt.
-      let parts = either_false (is_no_target to) _ isnt in
+      let parts = or_parts (is_no_target to) _ isnt in
       result (MisusesResult.no_result (own_function f own) (stored_somewhere to parts.0) is (is_nothing head.result parts.1))) (λ gives.
       let stored = stored_for to head gives in
       by_option B K _ (result_type raw head) (λ none. (stored, λ r t of_result typed. none_some none of_result)) (λ r of_result.
@@ -494,7 +489,7 @@ module _ (raw : RawProgram) (scope : Scope) (typed : IsTyped raw scope) (stand :
       let foreign = own_function f own in
       by_test B AsCall (is_function (meaning_in scope f)) 1 _
       (λ isnt. undeclared (UsesUndeclared.called foreign (λ e. clash {b = is_function (meaning_in scope f)} isnt (ap is_function e)))) (λ known.
-      by_test B AsCall (not (begins_for stand to)) 23 _ (λ isnt. misplaced_by raw scope stand to f args foreign (not_false _ isnt)) (λ placed.
+      by_test B AsCall (not (begins_for stand to)) 23 _ (λ isnt. misplaced_by raw scope stand to f args foreign (not-false _ isnt)) (λ placed.
       by_option B AsCall _ (definition_of raw f) (λ none. absurd (defined (function_is _ known) none)) (λ head is.
       by_test B AsCall (length args == length head.params) 16 _
       (λ isnt. arguments (MisusesArguments.count foreign is (λ e. clash {b = length args == length head.params} isnt (eq-eqb _ _ e)))) (λ count.
@@ -508,7 +503,7 @@ module _ (raw : RawProgram) (scope : Scope) (typed : IsTyped raw scope) (stand :
         result = own_result raw scope stand to f args own head is stored;
         format = no_formats raw scope stand to f args own.printf;
         library = no_libraries raw scope stand to f args own.free own.putchar own.getchar;
-        placed = own_placed raw scope stand to f args (not_true _ placed);
+        placed = own_placed raw scope stand to f args (not-true _ placed);
         header = record { free = λ e. clash own.free e; putchar = λ e. clash own.putchar e; getchar = λ e. clash own.getchar e; printf = λ e. clash own.printf e };
         values = values_of raw scope fits_parameter (parameter_types raw head) args fit;
       }) (result_true own head is))))))
@@ -525,10 +520,10 @@ module _ (raw : RawProgram) (scope : Scope) (typed : IsTyped raw scope) (stand :
   pub call_true : IsTrue raw scope (Calls stand to f args) (check_call raw scope stand to f args)
   call_true =
       by_test B _ (not (is_main f)) 5 _
-      (λ isnt. named_as raw scope stand to f args main_name 5 (same_names f main_name (not_false _ isnt)) (main MisusesMain.called)) (λ other.
+      (λ isnt. named_as raw scope stand to f args main_name 5 (same_names f main_name (not-false _ isnt)) (main MisusesMain.called)) (λ other.
       by_test B _ (not (is_function (meaning_in scope f)) || is_some (definition_of raw f)) 6 _ (λ isnt.
-      let parts = either_false (not (is_function (meaning_in scope f))) _ isnt in
-      no_definition (LacksDefinition.called (function_is _ (not_false _ parts.0)) (is_nothing (definition_of raw f) parts.1))) (λ known.
+      let parts = or_parts (not (is_function (meaning_in scope f))) _ isnt in
+      no_definition (LacksDefinition.called (function_is _ (not-false _ parts.0)) (is_nothing (definition_of raw f) parts.1))) (λ known.
       let defined = defined_for raw scope f known in
       target_true raw scope typed (Calls stand to f args) _ to (check_named raw scope stand to f args)
       (λ e c. Contains-append_left (target_exprs to) (arg_exprs args) e c)
@@ -540,4 +535,4 @@ module _ (raw : RawProgram) (scope : Scope) (typed : IsTyped raw scope) (stand :
       (are_clean raw scope (Calls stand to f args) (λ e c. elim (Contains-append_cases (target_exprs to) (arg_exprs args) e c) [
         | inl c ↦ target_values raw scope to target e c
         | inr c ↦ right.values e c
-      ])) (not_true _ other) defined target right) (named_true defined))))
+      ])) (not-true _ other) defined target right) (named_true defined))))

@@ -1,6 +1,7 @@
 -- The check of a test, an assignment or a return tells a rule exactly where it breaks one.
 use Rattle.std.proofs.Common.{◌≡◌, ◌≢◌, [], ◌∷◌, true, false, Option, Some, None, sym, subst, inl, inr}
 use Rattle.std.specs.Prelude.{◌&&◌, not, is_some, is_none, Contains}
+use Rattle.std.proofs.lemmas.Bool.{not-true, not-false, and_cases, and_parts}
 use Rattle.c_arith.specs.declared.operators.BinaryOp.{BinaryOp}
 use Rattle.c_arith.specs.declared.operators.BinaryOp.TheVariants.{Add}
 use Rattle.c_tree.specs.declared.raw.expr.RawExpr.{RawExpr}
@@ -17,11 +18,12 @@ use Rattle.c_language.specs.CallRules.{MisusesReturn, head_around}
 use Rattle.c_language.specs.TypeRules.{MisusesOperator, AssignsOtherType, AssignsNoPlace, IsNoTarget, one}
 use Rattle.c_language.specs.declared.expr_type.ExprType.{ExprType}
 use Rattle.c_language.specs.declared.expr_type.Operand.{Operand}
+use Rattle.c_language.proofs.Lists.{contains_nil, contains_cons, contains_first, contains_later}
 use Rattle.c_types_rules.specs.Checking.{kept, unless_broken, check_test, is_target, check_assignment, check_bump, check_value, check_left, check_return}
-use Rattle.c_types_base.proofs.JudgingLaws.{Keeps, contains_cons, contains_first, contains_later, contains_nil}
+use Rattle.c_types_base.proofs.JudgingLaws.{Keeps}
 use Rattle.c_types_base.proofs.PhraseLemmas.{are_clean}
-use Rattle.c_types_rules.proofs.KeptPhrases.{OfOperand, both_true, keeps-Tests, keeps-Bumps, keeps-Assigns, keeps-Compound, keeps-Returns, keeps-Leaves}
-use Rattle.c_types_rules.proofs.TestLemmas.{same_some, none_some, is_nothing, is_something, is_nothing_too, is_something_too, not_true, not_false, both_false}
+use Rattle.c_types_rules.proofs.KeptPhrases.{OfOperand, keeps-Tests, keeps-Bumps, keeps-Assigns, keeps-Compound, keeps-Returns, keeps-Leaves}
+use Rattle.c_types_rules.proofs.TestLemmas.{same_some, none_some, is_nothing, is_something, is_nothing_too, is_something_too}
 use Rattle.c_types_base.proofs.TypedLaws.{IsTyped}
 use Rattle.c_types_rules.proofs.Findings.{IsTrue, by_test, by_given, by_option, by_judged}
 
@@ -37,7 +39,7 @@ module _ (raw : RawProgram) (scope : Scope) where
   of_operand e x P is holds y also = subst P (same_some is also) holds
 
   pub no_target : (left : RawExpr) (x : Operand) → operand raw scope left ≡ Some x → (x.is_place && is_scalar x.shape) ≡ false → IsNoTarget raw scope left
-  no_target left x is isnt = elim (both_false x.is_place (is_scalar x.shape) isnt) [ inl p ↦ IsNoTarget.no_place is p | inr s ↦ IsNoTarget.no_scalar is s ]
+  no_target left x is isnt = elim (and_cases x.is_place (is_scalar x.shape) isnt) [ inl p ↦ IsNoTarget.no_place is p | inr s ↦ IsNoTarget.no_scalar is s ]
 
 -- phrases where all that is in scope has a type
 module _ (raw : RawProgram) (scope : Scope) (typed : IsTyped raw scope) where
@@ -54,11 +56,11 @@ module _ (raw : RawProgram) (scope : Scope) (typed : IsTyped raw scope) where
       by_judged raw scope (Bumps left) typed _ left _ (contains_first left []) (λ x is keeps.
       by_test B _ (is_target raw scope x) 14 _ (λ isnt. no_place (AssignsNoPlace.bump (no_target raw scope left x is isnt))) (λ target.
       by_test B _ (not (points_to_incomplete scope x)) 7 _
-      (λ isnt. tag (MisusesTag.bumped (subst (λ (o : Option Operand). holds_of (points_to_incomplete scope) o ≡ true) (sym is) (not_false _ isnt)))) (λ whole.
+      (λ isnt. tag (MisusesTag.bumped (subst (λ (o : Option Operand). holds_of (points_to_incomplete scope) o ≡ true) (sym is) (not-false _ isnt)))) (λ whole.
       by_given B _ 12 (λ (t : ExprType). kept) (binary_result Add x one) (λ none. operator (MisusesOperator.bump is none)) (λ t gives.
       keeps-Bumps raw scope left (are_clean raw scope (Bumps left) (keeps_only raw scope left keeps))
       (of_operand raw scope left x (λ (z : Operand). (z.is_place && is_scalar z.shape) ≡ true) is target)
-      (subst (λ (o : Option Operand). holds_of (points_to_incomplete scope) o ≡ false) (sym is) (not_true _ whole))
+      (subst (λ (o : Option Operand). holds_of (points_to_incomplete scope) o ≡ false) (sym is) (not-true _ whole))
       (of_operand raw scope left x (λ (z : Operand). binary_result Add z one ≢ None) is (λ none. none_some none gives))))))
 
   simple_true : (left right : RawExpr) → IsTrue raw scope (Assigns left None right) (check_assignment raw scope left None right)
@@ -67,7 +69,7 @@ module _ (raw : RawProgram) (scope : Scope) (typed : IsTyped raw scope) where
       by_judged raw scope (Assigns left None right) typed _ left _ (contains_first left (right ∷ [])) (λ x is first.
       by_judged raw scope (Assigns left None right) typed _ right _ (contains_later left right (right ∷ []) (contains_first right [])) (λ y also second.
       by_test B _ (is_target raw scope x) 14 _ (λ isnt. no_place (AssignsNoPlace.assignment (no_target raw scope left x is isnt))) (λ target.
-      by_test B _ (is_assignable x.shape y) 13 kept (λ isnt. other_type (AssignsOtherType.simple is also (both_true x.is_place _ target).1 isnt)) (λ fits.
+      by_test B _ (is_assignable x.shape y) 13 kept (λ isnt. other_type (AssignsOtherType.simple is also (and_parts x.is_place _ target).1 isnt)) (λ fits.
       keeps-Assigns raw scope left right (are_clean raw scope (Assigns left None right) (keeps_both raw scope left right first second))
       (of_operand raw scope left x (λ (z : Operand). (z.is_place && is_scalar z.shape) ≡ true) is target)
       (of_operand raw scope left x (λ (z : Operand). OfOperand raw scope right (λ w. is_assignable z.shape w ≡ true)) is
@@ -80,12 +82,12 @@ module _ (raw : RawProgram) (scope : Scope) (typed : IsTyped raw scope) where
       by_judged raw scope (Assigns left (Some op) right) typed _ right _ (contains_later left right (right ∷ []) (contains_first right [])) (λ y also second.
       by_test B _ (is_target raw scope x) 14 _ (λ isnt. no_place (AssignsNoPlace.assignment (no_target raw scope left x is isnt))) (λ target.
       by_test B _ (not (moves_incomplete scope op (Some x) (Some y))) 7 _
-      (λ isnt. tag (MisusesTag.compound (both_are left right x y (λ a b. moves_incomplete scope op a b ≡ true) is also (not_false _ isnt)))) (λ whole.
+      (λ isnt. tag (MisusesTag.compound (both_are left right x y (λ a b. moves_incomplete scope op a b ≡ true) is also (not-false _ isnt)))) (λ whole.
       by_given B _ 12 _ (binary_result op x y) (λ none. operator (MisusesOperator.compound is also none)) (λ t gives.
-      by_test B _ (is_assignable x.shape (a_value t)) 13 kept (λ isnt. other_type (AssignsOtherType.compound is also gives (both_true x.is_place _ target).1 isnt)) (λ fits.
+      by_test B _ (is_assignable x.shape (a_value t)) 13 kept (λ isnt. other_type (AssignsOtherType.compound is also gives (and_parts x.is_place _ target).1 isnt)) (λ fits.
       keeps-Compound raw scope left op right (are_clean raw scope (Assigns left (Some op) right) (keeps_both raw scope left right first second))
       (of_operand raw scope left x (λ (z : Operand). (z.is_place && is_scalar z.shape) ≡ true) is target)
-      (both_are left right x y (λ a b. moves_incomplete scope op a b ≡ false) is also (not_true _ whole))
+      (both_are left right x y (λ a b. moves_incomplete scope op a b ≡ false) is also (not-true _ whole))
       (of_operand raw scope left x (λ (z : Operand). OfOperand raw scope right (λ w. binary_result op z w ≢ None)) is
       (of_operand raw scope right y (λ (w : Operand). binary_result op x w ≢ None) also (λ none. none_some none gives)))
       (of_operand raw scope left x (λ (z : Operand). OfOperand raw scope right (λ w. (u : ExprType) → binary_result op z w ≡ Some u → is_assignable z.shape (a_value u) ≡ true)) is

@@ -11,9 +11,10 @@ use Rattle.c_types_base.proofs.TableLaws.{tables_typed}
 use Rattle.c_types_base.proofs.TypedLaws.{IsTyped}
 use Rattle.c_types_rules.specs.Checking.{Decides}
 use Rattle.c_types_rules.specs.PhraseChecks.{check_part}
-use Rattle.c_types_base.specs.Stretches.{one_phrase, a_statement}
+use Rattle.c_types_base.specs.Stretches.{a_statement}
+use Rattle.c_types_base.proofs.Stretching.{one_phrase}
 use Rattle.c_types_rules.specs.Walks.{Answers, Walks, on_line}
-use Rattle.c_types_rules.specs.declared.rule_fault.RuleFault.{RuleFault}
+use Rattle.c_types_rules.specs.declared.check_fault.CheckFault.{CheckFault}
 use Rattle.c_types_rules.proofs.PhraseLaws.{kept_breaks_none, told_is_broken}
 use Rattle.c_types_rules.proofs.WalkSteps.{Outcome, stays_at}
 
@@ -43,5 +44,5 @@ module _ (t : Tables) (right : AreRight t) (line : ℕ) (part : Part) (d : Resul
   pub walks_numbered : (new : Tables) → on_line line d ≡ Ok tt → IsAt t new (numbered (scope_of t)) → Walks (a_statement line part) t new (Ok tt)
   walks_numbered new is at = (answers_here (Ok tt) (sym is), at)
 
-  pub number_stops : (new : Tables) (e : RuleFault) → on_line line d ≡ Err e → Walks (a_statement line part) t new (Err e)
+  pub number_stops : (new : Tables) (e : CheckFault) → on_line line d ≡ Err e → Walks (a_statement line part) t new (Err e)
   number_stops new e is = answers_here (Err e) (sym is)

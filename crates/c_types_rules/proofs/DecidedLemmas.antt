@@ -12,7 +12,7 @@ first_decides v w NoMemory h = tt
 pub same_verdict : (v w : Verdict) (x : Result (Unit {0}) Fault) → v ≡ w → Decides w x → Decides v x
 same_verdict v w x is h = subst (λ (u : Verdict). Decides u x) (sym is) h
 
-one_more : (i : ℕ) → suc i ≡ i + 1
+pub one_more : (i : ℕ) → suc i ≡ i + 1
 one_more i = omega arith
 
 -- a list is taken apart at a place within it

@@ -2,6 +2,7 @@
 use Rattle.std.proofs.Common.{◌≡◌, ◌≢◌, ℕ, ℤ, List, [], length, Bool, true, false, Option, Some, None, refl, ap, subst, ◌∙◌, inl, inr}
 use Rattle.std.specs.Prelude.{◌==◌, ◌||◌, not, is_some, is_none, Contains, take}
 use Rattle.std.specs.List.{list_any}
+use Rattle.std.proofs.lemmas.Bool.{not-true, not-false, or_parts, or_cases}
 use Rattle.c_tree.specs.declared.raw.expr.RawExpr.{RawExpr}
 use Rattle.c_tree.specs.declared.raw.expr.RawType.{RawType}
 use Rattle.c_tree.specs.declared.raw.expr.RawVar.{RawVar}
@@ -25,13 +26,14 @@ use Rattle.c_language.specs.ArrayRules.{HasNoElement, LacksConstant}
 use Rattle.c_language.specs.CallRules.{MisusesReturn}
 use Rattle.c_language.specs.SwitchRules.{MisplacesDeclaration}
 use Rattle.c_language.specs.declared.expr_type.ExprType.{ExprType}
+use Rattle.c_language.proofs.Lists.{contains_nil, contains_cons, contains_first, same_names}
 use Rattle.c_types_rules.specs.Checking.{kept, when_given, all_kept, check_expr}
 use Rattle.c_types_rules.specs.DeclarationChecks.{is_complete_tag, is_defined_before, is_main, is_variable, gives_int, ends_with_value, stands_in_arm, check_tag, check_count, check_length, check_type, check_complete, check_struct, check_member, check_head, check_prototype, check_main, check_definition, check_taken, check_parameter, check_end, check_fresh, check_declared}
 use Rattle.c_types_base.specs.Listing.{has_name}
-use Rattle.c_types_base.proofs.JudgingLaws.{Keeps, contains_cons, contains_first, contains_nil}
+use Rattle.c_types_base.proofs.JudgingLaws.{Keeps}
 use Rattle.c_types_base.proofs.PhraseLemmas.{clash, AreClean, are_clean}
 use Rattle.c_types_rules.proofs.KeptDeclarations.{keeps-NamesStruct, keeps-DefinesStruct, keeps-HasMember, keeps-Prototype, keeps-Definition, keeps-Takes, keeps-EndsFunction, keeps-Declares}
-use Rattle.c_types_rules.proofs.TestLemmas.{same_some, none_some, is_nothing, is_something, is_nothing_too, is_something_too, not_true, not_false, either_false, either_true, any_passes, none_passes, same_names, other_names}
+use Rattle.c_types_rules.proofs.TestLemmas.{same_some, none_some, is_nothing, is_something, is_nothing_too, is_something_too, any_passes, none_passes, other_names}
 use Rattle.c_types_rules.proofs.EndLemmas.{has_name_is, has_name_own, is_empty, is_no_empty, gives_int_only, gives_int_own, ends_so, ends_not}
 use Rattle.c_types_base.proofs.TypedLaws.{IsTyped}
 use Rattle.c_types_rules.proofs.Findings.{Finds, IsTrue, by_test, by_given, by_option, by_both, by_facts, by_if, by_all, by_judged}
@@ -87,10 +89,10 @@ module _ (raw : RawProgram) (scope : Scope) where
   defines_struct_true w =
       by_test (Breaks raw scope (DefinesStruct w)) _ (not (is_complete_tag raw scope w)) 7 _
       (λ isnt.
-      let found = any_passes _ (take scope.structs (defined_structs raw)) (not_false _ isnt) in
+      let found = any_passes _ (take scope.structs (defined_structs raw)) (not-false _ isnt) in
       tag (MisusesTag.again found.1 (same_names found.0.tag w found.2))) (λ is.
-      by_test (Breaks raw scope (DefinesStruct w)) _ (not (is_library_macro w)) 4 kept (λ isnt. library_name (DeclaresLibraryName.tag (not_false _ isnt))) (λ allowed.
-      keeps-DefinesStruct raw scope w (are_none raw scope (DefinesStruct w) refl) (λ s c. other_names s.tag w (none_passes _ _ (not_true _ is) s c)) (not_true _ allowed)))
+      by_test (Breaks raw scope (DefinesStruct w)) _ (not (is_library_macro w)) 4 kept (λ isnt. library_name (DeclaresLibraryName.tag (not-false _ isnt))) (λ allowed.
+      keeps-DefinesStruct raw scope w (are_none raw scope (DefinesStruct w) refl) (λ s c. other_names s.tag w (none_passes _ _ (not-true _ is) s c)) (not-true _ allowed)))
 
   head_true : (head : RawHead) (is_definition : Bool)
       → Finds (Breaks raw scope (DeclaresFunction head is_definition)) (HeadIsRight raw scope head) (check_head raw scope head)
@@ -99,23 +101,23 @@ module _ (raw : RawProgram) (scope : Scope) where
       by_both B ((w : Bytes) → Contains (tags_if head.result) w → struct_id raw w ≢ None) (HeadIsRight raw scope head) _ _
       (tags_true (DeclaresFunction head is_definition) (tags_if head.result) (λ w c. c)) (λ named.
       by_test B (HeadIsRight raw scope head) (not (is_variable (meaning_here scope head.name))) 2 _
-      (λ isnt. let is = variable_is (meaning_here scope head.name) (not_false _ isnt) in declared_again (DeclaresAgain.function is.2)) (λ other.
-      by_test B (HeadIsRight raw scope head) (not (is_library_name head.name)) 4 kept (λ isnt. library_name (DeclaresLibraryName.function (not_false _ isnt))) (λ allowed.
+      (λ isnt. let is = variable_is (meaning_here scope head.name) (not-false _ isnt) in declared_again (DeclaresAgain.function is.2)) (λ other.
+      by_test B (HeadIsRight raw scope head) (not (is_library_name head.name)) 4 kept (λ isnt. library_name (DeclaresLibraryName.function (not-false _ isnt))) (λ allowed.
       record {
         named = named;
-        other = λ id t is. clash {b = is_variable (meaning_here scope head.name)} (not_true _ other) (ap is_variable is);
-        allowed = not_true _ allowed;
+        other = λ id t is. clash {b = is_variable (meaning_here scope head.name)} (not-true _ other) (ap is_variable is);
+        allowed = not-true _ allowed;
       })))
 
   pub prototype_true : (head : RawHead) → IsTrue raw scope (DeclaresFunction head false) (check_prototype raw scope head)
   prototype_true head =
       let B = Breaks raw scope (DeclaresFunction head false) in
       by_both B (HeadIsRight raw scope head) _ _ _ (head_true head false) (λ right.
-      by_test B _ (not (is_main head.name)) 5 _ (λ isnt. main (MisusesMain.prototype (same_names head.name main_name (not_false _ isnt)))) (λ other.
+      by_test B _ (not (is_main head.name)) 5 _ (λ isnt. main (MisusesMain.prototype (same_names head.name main_name (not-false _ isnt)))) (λ other.
       by_given B _ 6 _ (definition_of raw head.name) (λ none. no_definition (LacksDefinition.prototype none)) (λ f defined.
       by_test B _ (same_signature raw head f) 6 kept (λ isnt. no_definition (LacksDefinition.differs defined isnt)) (λ same.
       keeps-Prototype raw scope head (are_none raw scope (DeclaresFunction head false) refl) right.named right.other right.allowed
-      (other_names head.name main_name (not_true _ other)) (λ none. none_some none defined)
+      (other_names head.name main_name (not-true _ other)) (λ none. none_some none defined)
       (λ g also. subst (λ (h : RawHead). same_signature raw head h ≡ true) (same_some defined also) same)))))
 
   pub definition_true : (head : RawHead) → IsTrue raw scope (DeclaresFunction head true) (check_definition raw scope head)
@@ -124,9 +126,9 @@ module _ (raw : RawProgram) (scope : Scope) where
       by_both B (HeadIsRight raw scope head) _ _ _ (head_true head true) (λ right.
       by_test B _ (not (is_defined_before raw scope head.name)) 2 _
       (λ isnt.
-      let found = any_passes _ (take scope.functions (defined_functions raw)) (not_false _ isnt) in
+      let found = any_passes _ (take scope.functions (defined_functions raw)) (not-false _ isnt) in
       declared_again (DeclaresAgain.definition (found.0, found.1, same_names found.0.name head.name found.2))) (λ fresh.
-      let first = λ (b : IsDefinedBefore raw scope head.name). other_names b.0.name head.name (none_passes _ _ (not_true _ fresh) b.0 b.1) b.2 in
+      let first = λ (b : IsDefinedBefore raw scope head.name). other_names b.0.name head.name (none_passes _ _ (not-true _ fresh) b.0 b.1) b.2 in
       let clean = are_none raw scope (DeclaresFunction head true) refl in
       by_if B _ (is_main head.name) (check_main raw scope head) kept (λ is.
       let same = same_names head.name main_name is in
@@ -141,12 +143,12 @@ module _ (raw : RawProgram) (scope : Scope) where
   end_true head body =
       by_test (Breaks raw scope (EndsFunction head body)) _ (is_main head.name || (is_none head.result || ends_with_value body)) 18 kept
       (λ isnt.
-      let parts = either_false (is_main head.name) _ isnt in
-      let others = either_false (is_none head.result) _ parts.1 in
+      let parts = or_parts (is_main head.name) _ isnt in
+      let others = or_parts (is_none head.result) _ parts.1 in
       return (MisusesReturn.lacking (other_names head.name main_name parts.0) (is_something_too head.result others.0) (ends_not body others.1))) (λ is.
-      keeps-EndsFunction raw scope head body (are_none raw scope (EndsFunction head body) refl) (λ other some. elim (either_true (is_main head.name) _ is) [
+      keeps-EndsFunction raw scope head body (are_none raw scope (EndsFunction head body) refl) (λ other some. elim (or_cases (is_main head.name) _ is) [
         | inl entry ↦ absurd (other (same_names head.name main_name entry))
-        | inr rest ↦ elim (either_true (is_none head.result) _ rest) [
+        | inr rest ↦ elim (or_cases (is_none head.result) _ rest) [
           | inl void ↦ absurd (some (is_nothing_too head.result void))
           | inr ends ↦ ends_so body ends
         ]
@@ -161,13 +163,13 @@ module _ (raw : RawProgram) (scope : Scope) where
       (λ none. keeps-Takes raw scope before p clean named (λ q w c also is. none_some none is) (λ w is. none_some none is)) (λ name is.
       by_test B _ (not (list_any (λ (q : RawParam). has_name name q.name) before)) 2 _
       (λ isnt.
-      let found = any_passes (λ (q : RawParam). has_name name q.name) before (not_false _ isnt) in
+      let found = any_passes (λ (q : RawParam). has_name name q.name) before (not-false _ isnt) in
       declared_again (DeclaresAgain.parameter found.1 (has_name_is name found.0.name found.2) is)) (λ fresh.
-      by_test B _ (not (is_library_name name)) 4 kept (λ isnt. library_name (DeclaresLibraryName.parameter is (not_false _ isnt))) (λ allowed.
+      by_test B _ (not (is_library_name name)) 4 kept (λ isnt. library_name (DeclaresLibraryName.parameter is (not-false _ isnt))) (λ allowed.
       keeps-Takes raw scope before p clean named
-      (λ q w c also same. clash {b = has_name name q.name} (none_passes (λ (r : RawParam). has_name name r.name) before (not_true _ fresh) q c)
+      (λ q w c also same. clash {b = has_name name q.name} (none_passes (λ (r : RawParam). has_name name r.name) before (not-true _ fresh) q c)
       (ap (has_name name) (also ∙ ap (λ (v : Bytes). Some v) (same_some same is)) ∙ has_name_own name))
-      (λ w same. subst (λ (v : Bytes). is_library_name v ≡ false) (same_some is same) (not_true _ allowed)))))
+      (λ w same. subst (λ (v : Bytes). is_library_name v ≡ false) (same_some is same) (not-true _ allowed)))))
 
   pub parameter_true : (before : List RawParam) (p : RawParam) → IsTrue raw scope (Takes before p) (check_parameter raw scope before p)
   parameter_true before p =
@@ -211,11 +213,11 @@ module _ (raw : RawProgram) (scope : Scope) (typed : IsTyped raw scope) where
       by_both B (TypeIsRight raw scope m.shape) _ _ _ (type_true (HasMember before m) m.shape (λ w c. c) (λ e c. c) (λ e c. c)) (λ right.
       by_both B _ _ _ _ (complete_true (HasMember before m) (written_type raw m.shape) (λ u is isnt. tag (MisusesTag.member is isnt))) (λ complete.
       by_test B _ (not (list_any _ before)) 8 _
-      (λ isnt. let found = any_passes _ before (not_false _ isnt) in member (MisnamesMember.again found.1 (same_names found.0.name m.name found.2))) (λ fresh.
-      by_test B _ (not (is_library_macro m.name)) 4 kept (λ isnt. library_name (DeclaresLibraryName.member (not_false _ isnt))) (λ allowed.
+      (λ isnt. let found = any_passes _ before (not-false _ isnt) in member (MisnamesMember.again found.1 (same_names found.0.name m.name found.2))) (λ fresh.
+      by_test B _ (not (is_library_macro m.name)) 4 kept (λ isnt. library_name (DeclaresLibraryName.member (not-false _ isnt))) (λ allowed.
       keeps-HasMember raw scope before m (are_clean raw scope (HasMember before m) (λ e c. (right.lengths e c).keeps)) right.named
       (λ e c. (right.lengths e c).constant) (λ e z c. (right.lengths e c).at_least_one z) complete
-      (λ other c. other_names other.name m.name (none_passes _ before (not_true _ fresh) other c)) (not_true _ allowed)))))
+      (λ other c. other_names other.name m.name (none_passes _ before (not-true _ fresh) other c)) (not-true _ allowed)))))
 
   fresh_true : (stand : Stand) (var : RawVar) (i : RawInit)
       → Finds (Breaks raw scope (Declares stand var i)) (IsFresh scope var.name) (check_fresh raw scope var.name)
@@ -223,8 +225,8 @@ module _ (raw : RawProgram) (scope : Scope) (typed : IsTyped raw scope) where
       let B = Breaks raw scope (Declares stand var i) in
       by_test B _ (is_none (meaning_here scope var.name)) 2 _ (λ isnt. declared_again (DeclaresAgain.variable (is_something_too _ isnt))) (λ here.
       by_test B _ (is_none (meaning_in scope var.name)) 3 _ (λ isnt. shadowing (Shadows.variable (is_something_too _ isnt))) (λ there.
-      by_test B _ (not (is_library_name var.name)) 4 kept (λ isnt. library_name (DeclaresLibraryName.variable (not_false _ isnt))) (λ allowed.
-      record { here = is_nothing_too _ here; there = is_nothing_too _ there; allowed = not_true _ allowed })))
+      by_test B _ (not (is_library_name var.name)) 4 kept (λ isnt. library_name (DeclaresLibraryName.variable (not-false _ isnt))) (λ allowed.
+      record { here = is_nothing_too _ here; there = is_nothing_too _ there; allowed = not-true _ allowed })))
 
   in_arm : (stand : Stand) (var : RawVar) (i : RawInit) → stands_in_arm stand ≡ true → Breaks raw scope (Declares stand var i) 23
   in_arm InArm var i h = misplaced MisplacesDeclaration.in_arm
@@ -239,7 +241,7 @@ module _ (raw : RawProgram) (scope : Scope) (typed : IsTyped raw scope) where
       by_both B (TypeIsRight raw scope var.shape) _ _ _ (type_true (Declares stand var i) var.shape (λ w c. c) (λ e c. c) (λ e c. c)) (λ right.
       by_both B (IsFresh scope var.name) _ _ _ (fresh_true stand var i) (λ fresh.
       by_both B _ _ _ _ (complete_true (Declares stand var i) (variable_type raw var i) (λ u is isnt. tag (MisusesTag.object is isnt))) (λ complete.
-      by_test B _ (not (stands_in_arm stand)) 23 kept (λ isnt. in_arm stand var i (not_false _ isnt)) (λ placed.
+      by_test B _ (not (stands_in_arm stand)) 23 kept (λ isnt. in_arm stand var i (not-false _ isnt)) (λ placed.
       keeps-Declares raw scope stand var i (are_clean raw scope (Declares stand var i) (λ e c. (right.lengths e c).keeps)) right.named
       (λ e c. (right.lengths e c).constant) (λ e z c. (right.lengths e c).at_least_one z) fresh.there fresh.here fresh.allowed complete
-      (λ e. clash {b = stands_in_arm stand} (not_true _ placed) (ap stands_in_arm e))))))
+      (λ e. clash {b = stands_in_arm stand} (not-true _ placed) (ap stands_in_arm e))))))

@@ -4,7 +4,7 @@ use Rattle.std.specs.Prelude.{Contains, option_and_then, is_some, is_none}
 use Rattle.c_tree.specs.declared.raw.expr.RawExpr.{RawExpr}
 use Rattle.c_tree.specs.declared.raw.expr.RawLength.{RawLength}
 use Rattle.c_tree.specs.declared.raw.expr.RawLength.TheVariants as length_of
-use Rattle.c_tree.specs.declared.raw.expr.RawType.{RawType, map-RawType, ind-RawType, roll-RawType, fold-roll-RawType}
+use Rattle.c_tree.specs.declared.raw.expr.RawType.{RawType, map-RawType, ind-RawType, roll-RawType}
 use Rattle.c_tree.specs.declared.raw.expr.RawType.TheOpen.{RawType-F}
 use Rattle.c_tree.specs.declared.raw.expr.RawVar.{RawVar}
 use Rattle.c_tree.specs.declared.raw.program.RawInit.{RawInit}
@@ -18,10 +18,14 @@ use Rattle.c_language.specs.Scopes.{Scope, meaning_in, meaning_here}
 use Rattle.c_language.specs.Uses.{lengths_in, lengths_step, written_lengths, tags_in, tags_step}
 use Rattle.c_language.specs.declared.expr_type.Base.TheVariants as base
 use Rattle.c_language.specs.declared.expr_type.ExprType.{ExprType}
-use Rattle.c_types_base.proofs.OptionLemmas.{IsThere, there_map, there_then}
-use Rattle.c_types_base.proofs.JudgingLaws.{contains_first, contains_later, contains_cons, contains_nil}
+use Rattle.c_language.proofs.Options.{IsThere, there_map}
+use Rattle.c_language.proofs.Lists.{contains_nil, contains_cons, contains_first, contains_later}
+use Rattle.c_language.proofs.UseLemmas.{tags-roll, lengths-roll}
+use Rattle.c_types_base.proofs.OptionLemmas.{there_then}
+use Rattle.c_types_base.proofs.TypeLemmas.{type-roll}
 use Rattle.c_types_rules.specs.Checking.{Verdict, kept, unless_broken, given_or, then_kept, all_kept, check_expr}
 use Rattle.c_types_rules.specs.DeclarationChecks.{check_tag, check_count, check_length, check_type, check_fresh, check_member, check_declared}
+use Rattle.c_types_rules.proofs.TestLemmas.{is_nothing_too}
 
 -- a fault isn't a check that is passed
 refused : {n : ℕ} {A : Type 0} → ◌≡◌ {A = Verdict} (Err n) kept → A
@@ -58,10 +62,6 @@ there_if : {A : Type 0} (o : Option A) → is_some o ≡ true → IsThere o
 there_if None h = absurd (true≢false (sym h))
 there_if (Some x) h = tt
 
-is_nothing : {A : Type 0} (o : Option A) → is_none o ≡ true → o ≡ None
-is_nothing None h = refl
-is_nothing (Some x) h = absurd (true≢false (sym h))
-
 module _ (raw : RawProgram) (items : ℕ) where
   abbrev AreDefined : List Bytes → Type 0
   AreDefined ts = (t : Bytes) → Contains ts t → IsThere (struct_id raw t)
@@ -74,15 +74,6 @@ module _ (raw : RawProgram) (items : ℕ) where
 
   abbrev layer_of : RawType-F ((t : RawType) × IsSound t) → RawType-F RawType
   layer_of = map-RawType ((t : RawType) × IsSound t) RawType (λ t. t.0)
-
-  type-roll : (layer : RawType-F RawType) → type_with raw items (roll-RawType layer) ≡ type_step raw items (map-RawType RawType (Option ExprType) (type_with raw items) layer)
-  type-roll layer = fold-roll-RawType (Option ExprType) (type_step raw items) layer
-
-  tags-roll : (layer : RawType-F RawType) → tags_in (roll-RawType layer) ≡ tags_step (map-RawType RawType (List Bytes) tags_in layer)
-  tags-roll layer = fold-roll-RawType (List Bytes) tags_step layer
-
-  lengths-roll : (layer : RawType-F RawType) → lengths_in (roll-RawType layer) ≡ lengths_step (map-RawType RawType (List RawExpr) lengths_in layer)
-  lengths-roll layer = fold-roll-RawType (List RawExpr) lengths_step layer
 
   length_there : (n : RawLength) (ns : List RawExpr) → AreLengths (written_lengths n ++ ns) → IsThere (length_in items n)
   length_there (length_of.Written e) ns h = h e (contains_first e ns)
@@ -103,7 +94,7 @@ module _ (raw : RawProgram) (items : ℕ) where
   layer_there (RawType-F.Struct tag) d l = there_map (λ (s : ℕ). of_base (base.Struct s)) (struct_id raw tag) (d tag (contains_first tag []))
 
   roll_there : (y : RawType-F ((t : RawType) × IsSound t)) → IsSound (roll-RawType (layer_of y))
-  roll_there y d l = subst IsThere (sym (type-roll (layer_of y))) (layer_there y (subst AreDefined (tags-roll (layer_of y)) d) (subst AreLengths (lengths-roll (layer_of y)) l))
+  roll_there y d l = subst IsThere (sym (type-roll raw items (layer_of y))) (layer_there y (subst AreDefined (tags-roll (layer_of y)) d) (subst AreLengths (lengths-roll (layer_of y)) l))
 
   sound : (t : RawType) → IsSound t
   sound = ind-RawType IsSound (λ x y is. subst (λ z. IsSound (roll-RawType z)) is (roll_there y))
@@ -131,7 +122,7 @@ module _ (raw : RawProgram) (scope : Scope) where
 
   fresh_new : (name : Bytes) → check_fresh raw scope name ≡ kept → meaning_in scope name ≡ None
   fresh_new name h =
-      is_nothing (meaning_in scope name) (test_passed (is_none (meaning_in scope name)) 3 _ (rest_kept (is_none (meaning_here scope name)) 2 _ h))
+      is_nothing_too (meaning_in scope name) (test_passed (is_none (meaning_in scope name)) 3 _ (rest_kept (is_none (meaning_here scope name)) 2 _ h))
 
   pub declared_new : (stand : Stand) (v : RawVar) (i : RawInit) → check_declared raw scope stand v i ≡ kept → meaning_in scope v.name ≡ None
   declared_new stand v i h = fresh_new v.name (first_kept (check_fresh raw scope v.name) _ (second_kept (check_type raw scope v.shape) _ h))

@@ -19,14 +19,15 @@ use Rattle.c_types_base.proofs.OptionLemmas.{is_there}
 use Rattle.c_types_base.proofs.TableLaws.{tables_typed}
 use Rattle.c_types_rules.specs.Checking.{Verdict, kept, Decides}
 use Rattle.c_types_rules.specs.DeclarationChecks.{check_declared, check_begun}
-use Rattle.c_types_base.specs.Stretches.{Stretch, one_phrase, of_declaration, of_parameter}
+use Rattle.c_types_base.specs.Stretches.{Stretch, of_declaration, of_parameter}
+use Rattle.c_types_base.proofs.Stretching.{one_phrase}
 use Rattle.c_types_rules.specs.Walks.{Answers, Walks, on_line}
-use Rattle.c_types_rules.specs.declared.rule_fault.RuleFault.{RuleFault}
+use Rattle.c_types_rules.specs.declared.check_fault.CheckFault.{CheckFault}
 use Rattle.c_types_rules.proofs.Checked.{check_answers, walks_phrase}
 use Rattle.c_types_rules.proofs.DeclaredLaws.{declared_there, declared_new}
 use Rattle.c_types_rules.proofs.WalkSteps.{Outcome, two, first_stops, at_scope}
 
-no_fault : {e : RuleFault} {A : Type 0} → ◌≡◌ {A = Outcome} (Err e) (Ok tt) → A
+no_fault : {e : CheckFault} {A : Type 0} → ◌≡◌ {A = Outcome} (Err e) (Ok tt) → A
 no_fault h = absurd (subst (λ (r : Outcome). is_fault r) h tt)
   where
     is_fault : Outcome → Type 0
@@ -55,7 +56,7 @@ module _ (t : Tables) (right : AreRight t) (line : ℕ) (stand : Stand) (v : Raw
 
 module _ (t : Tables) (right : AreRight t) (line : ℕ) (stand : Stand) (v : RawVar) (i : RawInit) (d : Result (Unit {0}) Fault)
     (h : Decides (check_declared t.raw.now (scope_of t) stand v i) d) where
-  pub declaration_stops : (new : Tables) (e : RuleFault) → Err e ≡ on_line line d → Walks (of_declaration line stand v i) t new (Err e)
+  pub declaration_stops : (new : Tables) (e : CheckFault) → Err e ≡ on_line line d → Walks (of_declaration line stand v i) t new (Err e)
   declaration_stops new e is = first_stops (one_phrase line (Declares stand v i)) (of_begun line stand v i) t t e (walks_phrase t right line (Declares stand v i) d h (Err e) is)
 
   module _ (ok : on_line line d ≡ Ok tt) where

@@ -9,9 +9,10 @@ use Rattle.c_language.specs.Uses.{expressions}
 use Rattle.c_language.specs.Phrases.{Part}
 use Rattle.c_language.specs.Rules.{Breaks}
 use Rattle.c_language.specs.declared.expr_type.Operand.{Operand}
+use Rattle.c_language.proofs.Lists.{contains_nil, contains_cons, contains_first, contains_later}
 use Rattle.c_types_base.specs.Judging.{then_judge, judged}
 use Rattle.c_types_rules.specs.Checking.{Verdict, unless_broken, given_or, when_given, then_kept, all_kept, judging}
-use Rattle.c_types_base.proofs.JudgingLaws.{Keeps, Told, judged_truly, contains_first, contains_later, contains_cons, contains_nil}
+use Rattle.c_types_base.proofs.JudgingLaws.{Keeps, Told, judged_truly}
 use Rattle.c_types_base.proofs.PhraseLemmas.{broken_by}
 use Rattle.c_types_base.proofs.TypedLaws.{IsTyped, NamesRule, judged_names}
 

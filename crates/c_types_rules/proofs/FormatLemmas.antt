@@ -1,10 +1,11 @@
 -- The conversions of a format, byte by byte.
-use Rattle.std.proofs.Common.{◌≡◌, ℕ, suc, ◌+◌, ◌<◌, List, [], ◌∷◌, ◌++◌, drop, length, get_or, drop-cons, Bool, true, false, Option, Some, None, refl, sym, ap, ◌∙◌, arith, append_assoc}
+use Rattle.std.proofs.Common.{◌≡◌, ℕ, ◌+◌, ◌<◌, List, [], ◌∷◌, ◌++◌, drop, length, get_or, drop-cons, Bool, true, false, Option, Some, None, refl, sym, ap, ◌∙◌, arith, append_assoc}
 use Rattle.std.specs.Prelude.{◌==◌, option_map, option_and_then}
 use Rattle.std.proofs.lemmas.Bool.Decides.{nat_tests}
 use Rattle.c_language.specs.Words.{Bytes}
 use Rattle.c_language.specs.Formats.{Conversion, Piece, Converts, Behind, Nothing, Percent, Long, conversion_of, plain_piece, converted_piece, pieces_from, conversions}
 use Rattle.c_types_rules.specs.Conversions.{converted, converted_from}
+use Rattle.c_types_rules.proofs.DecidedLemmas.{one_more}
 
 differs : (a b : ℕ) → (a ≡ b → ⊥) → (a == b) ≡ false
 differs a b h = grind (arith, nat_tests)
@@ -49,9 +50,6 @@ pub one_found : (done : List Conversion) (c : Conversion) (o : Option (List Conv
     → behind_found done (option_map (λ (cs : List Conversion). c ∷ cs) o) ≡ behind_found (done ++ c ∷ []) o
 one_found done c None = refl
 one_found done c (Some cs) = ap (λ (x : List Conversion). Some x) (sym (append_assoc done (c ∷ []) cs))
-
-one_more : (i : ℕ) → suc i ≡ i + 1
-one_more i = omega arith
 
 module _ (format : Bytes) (i : ℕ) (done : List Conversion) (behind : Behind) (within : i < length format)
     (so_far : converted format ≡ behind_found done (converted_from behind (drop i format))) where

@@ -1,7 +1,7 @@
 -- The check of an initialiser or of a switch tells a rule exactly where it breaks one.
 use Rattle.std.proofs.Common.{◌≡◌, ◌≢◌, ℕ, ◌<◌, ◌≤◌, List, [], ◌∷◌, length, Bool, true, false, Option, Some, None, refl, sym, ap, subst, ◌∙◌, arith, inl, inr}
 use Rattle.std.specs.Prelude.{nat_lt, is_some, Contains, option_and_then}
-use Rattle.std.proofs.lemmas.Bool.{ltb-true, ltb-false}
+use Rattle.std.proofs.lemmas.Bool.{ltb-true, ltb-false, not-true, not-false, and_cases, or_parts, or_cases, and_parts}
 use Rattle.c_arith.specs.declared.int_type.IntType.{IntType}
 use Rattle.c_arith.specs.IntType.{promote}
 use Rattle.c_tree.specs.declared.raw.expr.RawExpr.{RawExpr}
@@ -23,16 +23,18 @@ use Rattle.c_language.specs.TypeRules.{AssignsOtherType}
 use Rattle.c_language.specs.SwitchRules.{MisusesSwitch}
 use Rattle.c_language.specs.declared.expr_type.ExprType.{ExprType}
 use Rattle.c_language.specs.declared.expr_type.Operand.{Operand}
+use Rattle.c_language.proofs.Lists.{contains_cons, contains_first, contains_later}
+use Rattle.c_language.proofs.UseLemmas.{case_among}
 use Rattle.c_types_rules.specs.Checking.{kept}
 use Rattle.c_types_rules.specs.DeclarationChecks.{is_constant_for, are_few, check_constant, check_first, check_item, check_listed, check_items, check_begun}
 use Rattle.c_types_rules.specs.CallChecks.{case_values, are_distinct, default_count, check_label, check_labels, check_switch}
-use Rattle.c_types_base.proofs.JudgingLaws.{Keeps, contains_cons, contains_first, contains_later}
+use Rattle.c_types_base.proofs.JudgingLaws.{Keeps}
 use Rattle.c_types_base.proofs.PhraseLemmas.{clash, are_clean}
-use Rattle.c_types_rules.proofs.KeptPhrases.{OfOperand, both_true}
+use Rattle.c_types_rules.proofs.KeptPhrases.{OfOperand}
 use Rattle.c_types_rules.proofs.KeptDeclarations.{keeps-BeginsOne, keeps-BeginsItems}
 use Rattle.c_types_rules.proofs.KeptCalls.{keeps-BeginsNone, keeps-Switches}
-use Rattle.c_types_rules.proofs.TestLemmas.{same_some, none_some, is_nothing, is_something, not_true, not_false, both_false, either_false, either_true}
-use Rattle.c_types_rules.proofs.SwitchLemmas.{case_in, in_cases, two_defaults, defaults_counted, two_cases, no_two_cases}
+use Rattle.c_types_rules.proofs.TestLemmas.{same_some, none_some, is_nothing, is_something}
+use Rattle.c_types_rules.proofs.SwitchLemmas.{case_in, two_defaults, defaults_counted, two_cases, no_two_cases}
 use Rattle.c_types_base.proofs.TypedLaws.{IsTyped}
 use Rattle.c_types_rules.proofs.Findings.{Finds, IsTrue, by_test, by_given, by_option, by_both, by_facts, by_all, by_judged}
 use Rattle.c_types_rules.proofs.CheckLaws.{keeps_only, of_operand}
@@ -48,20 +50,20 @@ then_is {A} f o t u is gives = ap (λ (x : Option A). option_and_then f x) is �
 
 no_constant_for : (t : ExprType) (e : RawExpr) → is_constant_for t e ≡ false → IsNoConstant t e
 no_constant_for t e h =
-    let parts = either_false (is_some (value_of_constant e)) _ h in
-    elim (both_false (is_null_name e) (is_pointer t) parts.1) [
+    let parts = or_parts (is_some (value_of_constant e)) _ h in
+    elim (and_cases (is_null_name e) (is_pointer t) parts.1) [
       | inl name ↦ IsNoConstant.other e (is_nothing (value_of_constant e) parts.0) name
       | inr type ↦ IsNoConstant.null e (is_nothing (value_of_constant e) parts.0) type
     ]
 
 constant_not : (t : ExprType) (e : RawExpr) → is_constant_for t e ≡ true → IsNoConstant t e → ⊥
-constant_not t e h (IsNoConstant.other e' none name) = elim (either_true (is_some (value_of_constant e)) _ h) [
+constant_not t e h (IsNoConstant.other e' none name) = elim (or_cases (is_some (value_of_constant e)) _ h) [
   | inl some ↦ is_something (value_of_constant e) some none
-  | inr both ↦ clash name (both_true (is_null_name e) (is_pointer t) both).0
+  | inr both ↦ clash name (and_parts (is_null_name e) (is_pointer t) both).0
 ]
-constant_not t e h (IsNoConstant.null e' none type) = elim (either_true (is_some (value_of_constant e)) _ h) [
+constant_not t e h (IsNoConstant.null e' none type) = elim (or_cases (is_some (value_of_constant e)) _ h) [
   | inl some ↦ is_something (value_of_constant e) some none
-  | inr both ↦ clash type (both_true (is_null_name e) (is_pointer t) both).1
+  | inr both ↦ clash type (and_parts (is_null_name e) (is_pointer t) both).1
 ]
 
 abbrev stands_in_file : Stand → Bool
@@ -73,10 +75,10 @@ stands_in_file InFor = false
 
 few_not : (k : ℕ) (o : Option ℕ) → are_few k o ≡ false → (n : ℕ) × (o ≡ Some n) × (n < k)
 few_not k None h = clash h refl
-few_not k (Some n) h = (n, refl, ltb-true n k (not_false (nat_lt n k) h))
+few_not k (Some n) h = (n, refl, ltb-true n k (not-false (nat_lt n k) h))
 
 few_so : (k : ℕ) (o : Option ℕ) → are_few k o ≡ true → (n : ℕ) → o ≡ Some n → k ≤ n
-few_so k o h n is = ltb-false n k (not_true (nat_lt n k) (subst (λ (p : Option ℕ). are_few k p ≡ true) is h))
+few_so k o h n is = ltb-false n k (not-true (nat_lt n k) (subst (λ (p : Option ℕ). are_few k p ≡ true) is h))
 
 -- a label is a constant
 abbrev pub LabelIsRight : RawProgram → Scope → RawLabel → Type 0
@@ -180,7 +182,7 @@ module _ (raw : RawProgram) (scope : Scope) (typed : IsTyped raw scope) where
   label_true test labels label.Default c = tt
   label_true test labels (label.Case e) c =
       let part = Switches test labels in
-      let inside = in_cases labels e c in
+      let inside = case_among labels e c in
       by_both (Breaks raw scope part) (Keeps raw scope e) _ _ _
       (by_judged raw scope part typed (Keeps raw scope e) e (λ x. kept) (contains_later test e (cases labels) inside) (λ x is keeps. keeps)) (λ keeps.
       by_test (Breaks raw scope part) _ (is_some (value_of_constant e)) 10 kept

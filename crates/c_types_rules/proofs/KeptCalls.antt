@@ -1,6 +1,7 @@
 -- A call, an allocation or a switch that passes its check breaks no rule.
 use Rattle.std.proofs.Common.{◌≡◌, ◌≢◌, ℕ, List, Bool, true, false, Option, Some, None, refl}
 use Rattle.std.specs.Prelude.{◌&&◌, Contains, bytes_eq, codes}
+use Rattle.std.proofs.lemmas.Bool.{and_parts}
 use Rattle.c_tree.specs.declared.raw.expr.RawExpr.{RawExpr}
 use Rattle.c_tree.specs.declared.raw.expr.RawVar.{RawVar}
 use Rattle.c_tree.specs.declared.raw.program.RawInit.TheVariants as init
@@ -29,9 +30,10 @@ use Rattle.c_language.specs.TypeRules.{MisusesOperator, AssignsNoPlace, IsNoTarg
 use Rattle.c_language.specs.SwitchRules.{MisusesSwitch, MisplacesDeclaration}
 use Rattle.c_language.specs.CallRules.{MisusesArguments, MisusesResult, MisusesFormat, MisusesAllocation, MisusesLibrary}
 use Rattle.c_language.specs.declared.expr_type.ExprType.{ExprType}
-use Rattle.c_types_base.proofs.JudgingLaws.{Keeps, contains_nil}
+use Rattle.c_language.proofs.Lists.{contains_nil}
+use Rattle.c_types_base.proofs.JudgingLaws.{Keeps}
 use Rattle.c_types_base.proofs.PhraseLemmas.{clash, AreClean}
-use Rattle.c_types_rules.proofs.KeptPhrases.{OfOperand, both_true}
+use Rattle.c_types_rules.proofs.KeptPhrases.{OfOperand}
 use Rattle.c_types_rules.proofs.KeptDeclarations.{AreNamed}
 
 module _ (raw : RawProgram) (scope : Scope) where
@@ -102,8 +104,8 @@ module _ (raw : RawProgram) (scope : Scope) where
   keeps-Calls stand to f args clear not_main defined target right n (switch h) = elim h [ ]
   keeps-Calls stand to f args clear not_main defined target right n (operator (MisusesOperator.in_expression {inner = part} h is)) = clash (clear part h).operands is
   keeps-Calls stand to f args clear not_main defined target right n (other_type h) = elim h [ ]
-  keeps-Calls stand to f args clear not_main defined target right n (no_place (AssignsNoPlace.result {left} (IsNoTarget.no_place {x} is isnt))) = clash isnt (both_true x.is_place _ (target.1 x is)).0
-  keeps-Calls stand to f args clear not_main defined target right n (no_place (AssignsNoPlace.result {left} (IsNoTarget.no_scalar {x} is isnt))) = clash isnt (both_true x.is_place _ (target.1 x is)).1
+  keeps-Calls stand to f args clear not_main defined target right n (no_place (AssignsNoPlace.result {left} (IsNoTarget.no_place {x} is isnt))) = clash isnt (and_parts x.is_place _ (target.1 x is)).0
+  keeps-Calls stand to f args clear not_main defined target right n (no_place (AssignsNoPlace.result {left} (IsNoTarget.no_scalar {x} is isnt))) = clash isnt (and_parts x.is_place _ (target.1 x is)).1
   keeps-Calls stand to f args clear not_main defined target right n (address (MisusesAddress.in_expression {inner = part} h is)) = clash (clear part h).address is
   keeps-Calls stand to f args clear not_main defined target right n (arguments h) = right.arguments h
   keeps-Calls stand to f args clear not_main defined target right n (result h) = right.result h
@@ -137,8 +139,8 @@ module _ (raw : RawProgram) (scope : Scope) where
   keeps-Allocates to cast amount clear header named target declared of_types of_targets right n (switch h) = elim h [ ]
   keeps-Allocates to cast amount clear header named target declared of_types of_targets right n (operator (MisusesOperator.in_expression {inner = part} h is)) = clash (clear part h).operands is
   keeps-Allocates to cast amount clear header named target declared of_types of_targets right n (other_type h) = elim h [ ]
-  keeps-Allocates to cast amount clear header named target declared of_types of_targets right n (no_place (AssignsNoPlace.allocation {left} (IsNoTarget.no_place {x} is isnt))) = clash isnt (both_true x.is_place _ (target.1 x is)).0
-  keeps-Allocates to cast amount clear header named target declared of_types of_targets right n (no_place (AssignsNoPlace.allocation {left} (IsNoTarget.no_scalar {x} is isnt))) = clash isnt (both_true x.is_place _ (target.1 x is)).1
+  keeps-Allocates to cast amount clear header named target declared of_types of_targets right n (no_place (AssignsNoPlace.allocation {left} (IsNoTarget.no_place {x} is isnt))) = clash isnt (and_parts x.is_place _ (target.1 x is)).0
+  keeps-Allocates to cast amount clear header named target declared of_types of_targets right n (no_place (AssignsNoPlace.allocation {left} (IsNoTarget.no_scalar {x} is isnt))) = clash isnt (and_parts x.is_place _ (target.1 x is)).1
   keeps-Allocates to cast amount clear header named target declared of_types of_targets right n (address (MisusesAddress.in_expression {inner = part} h is)) = clash (clear part h).address is
   keeps-Allocates to cast amount clear header named target declared of_types of_targets right n (arguments h) = elim h [ ]
   keeps-Allocates to cast amount clear header named target declared of_types of_targets right n (result h) = elim h [ ]

@@ -28,7 +28,7 @@ use Rattle.c_language.specs.TypeRules.{MisusesOperator, AssignsOtherType, Misuse
 use Rattle.c_language.specs.CallRules.{MisusesReturn, EndsWithValue}
 use Rattle.c_language.specs.SwitchRules.{MisplacesDeclaration}
 use Rattle.c_language.specs.declared.expr_type.ExprType.{ExprType}
-use Rattle.c_types_base.proofs.JudgingLaws.{contains_nil}
+use Rattle.c_language.proofs.Lists.{contains_nil}
 use Rattle.c_types_base.proofs.PhraseLemmas.{clash, AreClean}
 use Rattle.c_types_rules.proofs.KeptPhrases.{OfOperand}
 

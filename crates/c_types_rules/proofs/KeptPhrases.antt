@@ -1,6 +1,7 @@
 -- A phrase that passes its check breaks no rule.
-use Rattle.std.proofs.Common.{◌≡◌, ◌≢◌, ℕ, Bool, true, false, Some, None, refl}
+use Rattle.std.proofs.Common.{◌≡◌, ◌≢◌, ℕ, true, false, Some, None}
 use Rattle.std.specs.Prelude.{◌&&◌}
+use Rattle.std.proofs.lemmas.Bool.{and_parts}
 use Rattle.c_arith.specs.declared.operators.BinaryOp.{BinaryOp}
 use Rattle.c_arith.specs.declared.operators.BinaryOp.TheVariants.{Add}
 use Rattle.c_tree.specs.declared.raw.expr.RawExpr.{RawExpr}
@@ -19,12 +20,8 @@ use Rattle.c_language.specs.TypeRules.{MisusesOperator, AssignsOtherType, Assign
 use Rattle.c_language.specs.CallRules.{MisusesReturn, head_around}
 use Rattle.c_language.specs.declared.expr_type.ExprType.{ExprType}
 use Rattle.c_language.specs.declared.expr_type.Operand.{Operand}
-use Rattle.c_types_base.proofs.JudgingLaws.{contains_nil}
+use Rattle.c_language.proofs.Lists.{contains_nil}
 use Rattle.c_types_base.proofs.PhraseLemmas.{clash, AreClean}
-
-pub both_true : (a b : Bool) → (a && b) ≡ true → (a ≡ true) × (b ≡ true)
-both_true true b h = (refl, h)
-both_true false b h = (h, clash refl h)
 
 module _ (raw : RawProgram) (scope : Scope) where
   -- the same of each operand that the expression is
@@ -76,8 +73,8 @@ module _ (raw : RawProgram) (scope : Scope) where
   keeps-Bumps left clear target whole gives n (operator (MisusesOperator.in_expression {inner = part} h is)) = clash (clear part h).operands is
   keeps-Bumps left clear target whole gives n (operator (MisusesOperator.bump {x} is isnt)) = gives x is isnt
   keeps-Bumps left clear target whole gives n (other_type h) = elim h [ ]
-  keeps-Bumps left clear target whole gives n (no_place (AssignsNoPlace.bump (IsNoTarget.no_place {x} is isnt))) = clash isnt (both_true x.is_place _ (target x is)).0
-  keeps-Bumps left clear target whole gives n (no_place (AssignsNoPlace.bump (IsNoTarget.no_scalar {x} is isnt))) = clash isnt (both_true x.is_place _ (target x is)).1
+  keeps-Bumps left clear target whole gives n (no_place (AssignsNoPlace.bump (IsNoTarget.no_place {x} is isnt))) = clash isnt (and_parts x.is_place _ (target x is)).0
+  keeps-Bumps left clear target whole gives n (no_place (AssignsNoPlace.bump (IsNoTarget.no_scalar {x} is isnt))) = clash isnt (and_parts x.is_place _ (target x is)).1
   keeps-Bumps left clear target whole gives n (address (MisusesAddress.in_expression {inner = part} h is)) = clash (clear part h).address is
   keeps-Bumps left clear target whole gives n (arguments h) = elim h [ ]
   keeps-Bumps left clear target whole gives n (result h) = elim h [ ]
@@ -104,8 +101,8 @@ module _ (raw : RawProgram) (scope : Scope) where
   keeps-Assigns left right clear target fits n (switch h) = elim h [ ]
   keeps-Assigns left right clear target fits n (operator (MisusesOperator.in_expression {inner = part} h is)) = clash (clear part h).operands is
   keeps-Assigns left right clear target fits n (other_type (AssignsOtherType.simple {x} {y} is also scalar isnt)) = clash isnt (fits x is y also)
-  keeps-Assigns left right clear target fits n (no_place (AssignsNoPlace.assignment (IsNoTarget.no_place {x} is isnt))) = clash isnt (both_true x.is_place _ (target x is)).0
-  keeps-Assigns left right clear target fits n (no_place (AssignsNoPlace.assignment (IsNoTarget.no_scalar {x} is isnt))) = clash isnt (both_true x.is_place _ (target x is)).1
+  keeps-Assigns left right clear target fits n (no_place (AssignsNoPlace.assignment (IsNoTarget.no_place {x} is isnt))) = clash isnt (and_parts x.is_place _ (target x is)).0
+  keeps-Assigns left right clear target fits n (no_place (AssignsNoPlace.assignment (IsNoTarget.no_scalar {x} is isnt))) = clash isnt (and_parts x.is_place _ (target x is)).1
   keeps-Assigns left right clear target fits n (address (MisusesAddress.in_expression {inner = part} h is)) = clash (clear part h).address is
   keeps-Assigns left right clear target fits n (arguments h) = elim h [ ]
   keeps-Assigns left right clear target fits n (result h) = elim h [ ]
@@ -134,8 +131,8 @@ module _ (raw : RawProgram) (scope : Scope) where
   keeps-Compound left op right clear target whole gives fits n (operator (MisusesOperator.in_expression {inner = part} h is)) = clash (clear part h).operands is
   keeps-Compound left op right clear target whole gives fits n (operator (MisusesOperator.compound {x} {y} is also isnt)) = gives x is y also isnt
   keeps-Compound left op right clear target whole gives fits n (other_type (AssignsOtherType.compound {x} {y} {t} is also of_type scalar isnt)) = clash isnt (fits x is y also t of_type)
-  keeps-Compound left op right clear target whole gives fits n (no_place (AssignsNoPlace.assignment (IsNoTarget.no_place {x} is isnt))) = clash isnt (both_true x.is_place _ (target x is)).0
-  keeps-Compound left op right clear target whole gives fits n (no_place (AssignsNoPlace.assignment (IsNoTarget.no_scalar {x} is isnt))) = clash isnt (both_true x.is_place _ (target x is)).1
+  keeps-Compound left op right clear target whole gives fits n (no_place (AssignsNoPlace.assignment (IsNoTarget.no_place {x} is isnt))) = clash isnt (and_parts x.is_place _ (target x is)).0
+  keeps-Compound left op right clear target whole gives fits n (no_place (AssignsNoPlace.assignment (IsNoTarget.no_scalar {x} is isnt))) = clash isnt (and_parts x.is_place _ (target x is)).1
   keeps-Compound left op right clear target whole gives fits n (address (MisusesAddress.in_expression {inner = part} h is)) = clash (clear part h).address is
   keeps-Compound left op right clear target whole gives fits n (arguments h) = elim h [ ]
   keeps-Compound left op right clear target whole gives fits n (result h) = elim h [ ]

@@ -49,11 +49,6 @@ module _ (test new : ℤ → Bool) (z : ℤ) (more : (y : ℤ) → new y ≡ con
       passed (test z) (none_passes test zs) (list_any (int_eq z) zs) (are_distinct zs)
       ∙ ap (λ (b : Bool). not (test z) && (b && are_distinct zs)) (sym (none_more zs))
 
--- a label without a value
-pub apart_same : (test : ℤ → Bool) (t : IntType) (l : RawLabel) (rest : List RawLabel) → None ≡ value_of_case t l
-    → are_apart test (case_values t (l ∷ rest)) ≡ (true && are_apart test (case_values t rest))
-apart_same test t l rest none = ap (are_apart test) (values t l rest ∙ ap (λ (o : Option ℤ). with_value o (case_values t rest)) (sym none))
-
 -- a label with a value
 pub apart_added : (test new : ℤ → Bool) (t : IntType) (l : RawLabel) (rest : List RawLabel) (z : ℤ) (is_new : Bool) → Some z ≡ value_of_case t l
     → is_new ≡ not (test z) → ((y : ℤ) → new y ≡ cond (int_eq z y) true (test y))

@@ -1,11 +1,11 @@
 -- The check of a phrase of any kind tells a rule exactly where the phrase breaks one.
-use Rattle.std.proofs.Common.{◌≡◌, ℕ, Bool, true, false, Ok, Err, refl, subst}
+use Rattle.std.proofs.Common.{◌≡◌, ℕ, Bool, true, false, Err, subst}
 use Rattle.c_tree.specs.declared.raw.program.RawHead.{RawHead}
 use Rattle.c_tree.specs.declared.raw.program.RawProgram.{RawProgram}
 use Rattle.c_language.specs.Scopes.{Scope}
 use Rattle.c_language.specs.Phrases.{Part, NamesStruct, DefinesStruct, HasMember, DeclaresFunction, Takes, EndsFunction, Declares, Begins, Assigns, Bumps, Calls, Allocates, Tests, Switches, Returns}
 use Rattle.c_language.specs.Rules.{Breaks}
-use Rattle.c_types_rules.specs.Checking.{Verdict, kept}
+use Rattle.c_types_rules.specs.Checking.{kept}
 use Rattle.c_types_rules.specs.PhraseChecks.{check_function, check_part}
 use Rattle.c_types_base.proofs.TypedLaws.{IsTyped}
 use Rattle.c_types_rules.proofs.Findings.{IsTrue}
@@ -44,11 +44,3 @@ module _ (raw : RawProgram) (scope : Scope) (typed : IsTyped raw scope) where
 
   pub told_is_broken : (part : Part) (n : ℕ) → check_part raw scope part ≡ Err n → Breaks raw scope part n
   told_is_broken part n h = subst (IsTrue raw scope part) h (phrase_true part)
-
-  -- where a phrase breaks a rule, one that it breaks is told
-  pub broken_is_told : (part : Part) (n : ℕ) → Breaks raw scope part n → (m : ℕ) × (check_part raw scope part ≡ Err m) × Breaks raw scope part m
-  broken_is_told part n b = told (check_part raw scope part) refl
-    where
-      told : (v : Verdict) → check_part raw scope part ≡ v → (m : ℕ) × (check_part raw scope part ≡ Err m) × Breaks raw scope part m
-      told (Ok x) is = absurd (kept_breaks_none part is n b)
-      told (Err m) is = (m, is, told_is_broken part m is)

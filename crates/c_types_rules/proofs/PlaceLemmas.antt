@@ -3,7 +3,8 @@ use Rattle.std.proofs.Common.{◌≡◌, ℕ, zero, suc, List, [], ◌∷◌, ta
 use Rattle.std.specs.Prelude.{nat_lt, ◌||◌, option_map, position}
 use Rattle.std.specs.List.{list_any}
 use Rattle.std.proofs.lemmas.Bool.Decides.{nat_tests}
-use Rattle.c_types_base.proofs.NumberingLemmas.{position-cons}
+use Rattle.c_language.proofs.Lists.{position-cons}
+use Rattle.c_types_base.proofs.NameLemmas.{first_within}
 
 -- a place is before another
 abbrev pub is_within : ℕ → Option ℕ → Bool
@@ -18,11 +19,8 @@ later : (k : ℕ) (o : Option ℕ) → is_within (suc k) (option_map suc o) ≡ 
 later k None = refl
 later k (Some i) = grind (arith, nat_tests)
 
-here : (k : ℕ) → nat_lt 0 (suc k) ≡ true
-here k = grind (arith, nat_tests)
-
 by_test : (b rest : Bool) (k : ℕ) (o : Option ℕ) → rest ≡ is_within k o → (b || rest) ≡ is_within (suc k) (cond b (Some 0) (option_map suc o))
-by_test true rest k o h = sym (here k)
+by_test true rest k o h = sym (first_within k)
 by_test false rest k o h = h ∙ sym (later k o)
 
 -- whether one of the first passes is told by the first place that passes

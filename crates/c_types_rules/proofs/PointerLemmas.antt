@@ -11,6 +11,7 @@ use Rattle.c_language.specs.declared.expr_type.Layer.{Layer}
 use Rattle.c_language.specs.declared.expr_type.Layer.TheVariants.{Pointer}
 use Rattle.c_types_base.proofs.TypeLemmas.{type_with-PointerTo}
 use Rattle.c_types_rules.specs.Pointers.{pointers_to}
+use Rattle.c_types_rules.proofs.DecidedLemmas.{one_more}
 
 -- so many stars
 abbrev pub stars : ℕ → List Layer
@@ -20,9 +21,6 @@ stars (suc n) = Pointer ∷ stars n
 starred_more : (n : ℕ) → stars n ++ Pointer ∷ [] ≡ stars (suc n)
 starred_more zero = refl
 starred_more (suc n) = ap (λ (ls : List Layer). Pointer ∷ ls) (starred_more n)
-
-one_more : (n : ℕ) → suc n ≡ n + 1
-one_more n = omega arith
 
 pub one_star : (n : ℕ) → stars n ++ Pointer ∷ [] ≡ stars (n + 1)
 one_star n = starred_more n ∙ ap stars (one_more n)

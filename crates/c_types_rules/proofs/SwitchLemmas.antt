@@ -4,6 +4,7 @@ use Rattle.std.specs.Prelude.{not, Contains}
 use Rattle.std.specs.List.{list_any}
 use Rattle.std.specs.Ordering.{int_eq}
 use Rattle.std.proofs.lemmas.Bool.Decides.{Decides-int_eq}
+use Rattle.std.proofs.lemmas.Bool.{not-true, not-false, and_cases, and_parts}
 use Rattle.c_arith.specs.declared.int_type.IntType.{IntType}
 use Rattle.c_arith.specs.IntType.{convert}
 use Rattle.c_tree.specs.declared.raw.expr.RawExpr.{RawExpr}
@@ -12,11 +13,10 @@ use Rattle.c_tree.specs.declared.raw.statement.RawLabel.TheVariants as label
 use Rattle.c_language.specs.ConstantEvaluation.{value_of_constant}
 use Rattle.c_language.specs.SwitchRules.{HasTwo, SameCase, BothDefault, same, both}
 use Rattle.c_language.specs.Uses.{cases}
+use Rattle.c_language.proofs.Lists.{contains_nil, contains_cons, contains_first, contains_later}
 use Rattle.c_types_rules.specs.CallChecks.{with_case, case_values, are_distinct, default_count}
-use Rattle.c_types_base.proofs.JudgingLaws.{contains_nil, contains_cons, contains_first, contains_later}
 use Rattle.c_types_base.proofs.PhraseLemmas.{clash}
-use Rattle.c_types_rules.proofs.KeptPhrases.{both_true}
-use Rattle.c_types_rules.proofs.TestLemmas.{both_false, not_true, not_false, any_passes, none_passes}
+use Rattle.c_types_rules.proofs.TestLemmas.{any_passes, none_passes}
 
 -- ---- cases
 
@@ -31,20 +31,6 @@ in_later (label.Case f) rest e ih c = elim (contains_cons f e (cases rest) c) [
 pub case_in : (labels : List RawLabel) (e : RawExpr) → Contains (cases labels) e → Contains labels (label.Case e)
 case_in [] e c = absurd (contains_nil e c)
 case_in (l ∷ rest) e c = in_later l rest e (case_in rest e) c
-
-first_case : (l : RawLabel) (rest : List RawLabel) (e : RawExpr) → l ≡ label.Case e → Contains (cases (l ∷ rest)) e
-first_case l rest e is = subst (λ (k : RawLabel). Contains (cases (k ∷ rest)) e) (sym is) (contains_first e (cases rest))
-
-later_case : (l : RawLabel) (rest : List RawLabel) (e : RawExpr) → Contains (cases rest) e → Contains (cases (l ∷ rest)) e
-later_case label.Default rest e c = c
-later_case (label.Case f) rest e c = contains_later f e (cases rest) c
-
-pub in_cases : (labels : List RawLabel) (e : RawExpr) → Contains labels (label.Case e) → Contains (cases labels) e
-in_cases [] e c = absurd (contains_nil (label.Case e) c)
-in_cases (l ∷ rest) e c = elim (contains_cons l (label.Case e) rest c) [
-  | inl is ↦ first_case l rest e is
-  | inr c ↦ later_case l rest e (in_cases rest e c)
-]
 
 -- ---- defaults
 
@@ -103,9 +89,9 @@ pair_first : (t : IntType) (e : RawExpr) (rest : List RawLabel) (o : Option ℤ)
     → (are_distinct (case_values t rest) ≡ false → HasTwo (SameCase t) rest)
     → are_distinct (with_case t o (case_values t rest)) ≡ false → HasTwo (SameCase t) (label.Case e ∷ rest)
 pair_first t e rest None is ih h = HasTwo.later (ih h)
-pair_first t e rest (Some v) is ih h = elim (both_false (not (list_any (int_eq (convert v t)) (case_values t rest))) _ h) [
+pair_first t e rest (Some v) is ih h = elim (and_cases (not (list_any (int_eq (convert v t)) (case_values t rest))) _ h) [
   | inl found ↦
-      let other = any_passes (int_eq (convert v t)) (case_values t rest) (not_false _ found) in
+      let other = any_passes (int_eq (convert v t)) (case_values t rest) (not-false _ found) in
       let at_case = value_in t rest other.0 other.1 in
       HasTwo.first at_case.2 (same is at_case.3 ((Decides-int_eq (convert v t) other.0).0 other.2 ∙ sym at_case.4))
   | inr k ↦ HasTwo.later (ih k)
@@ -144,7 +130,7 @@ value_there t (l ∷ rest) f w is c = elim (contains_cons l (label.Case f) rest 
 
 distinct_later_value : (t : IntType) (o : Option ℤ) (values : List ℤ) → are_distinct (with_case t o values) ≡ true → are_distinct values ≡ true
 distinct_later_value t None values h = h
-distinct_later_value t (Some v) values h = (both_true _ _ h).1
+distinct_later_value t (Some v) values h = (and_parts _ _ h).1
 
 distinct_later : (t : IntType) (l : RawLabel) (rest : List RawLabel) → are_distinct (case_values t (l ∷ rest)) ≡ true → are_distinct (case_values t rest) ≡ true
 distinct_later t label.Default rest h = h
@@ -155,6 +141,6 @@ no_two_cases t [] h w = elim w [ ]
 no_two_cases t (l ∷ rest) h (HasTwo.first c (same {a} {b} {v} {w} is also equal)) =
     let distinct : are_distinct (convert v t ∷ case_values t rest) ≡ true = subst (λ (vs : List ℤ). are_distinct vs ≡ true) (value_of_first t a rest v is) h in
     clash
-    (none_passes (int_eq (convert v t)) (case_values t rest) (not_true _ (both_true _ _ distinct).0) (convert w t) (value_there t rest b w also c))
+    (none_passes (int_eq (convert v t)) (case_values t rest) (not-true _ (and_parts _ _ distinct).0) (convert w t) (value_there t rest b w also c))
     ((Decides-int_eq (convert v t) (convert w t)).1 equal)
 no_two_cases t (l ∷ rest) h (HasTwo.later w) = no_two_cases t rest (distinct_later t l rest h) w

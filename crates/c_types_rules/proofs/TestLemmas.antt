@@ -1,10 +1,11 @@
 -- Tests on options, lists and names, and what they say.
-use Rattle.std.proofs.Common.{◌≡◌, ◌≢◌, List, [], ◌∷◌, Bool, true, false, Option, Some, None, refl, sym, subst, ap, ◌∙◌, ◌⊎◌, inl, inr}
-use Rattle.std.specs.Prelude.{◌&&◌, ◌||◌, not, is_some, is_none, Contains, unwrap_or, bytes_eq}
+use Rattle.std.proofs.Common.{◌≡◌, ◌≢◌, List, [], ◌∷◌, Bool, true, false, Option, Some, None, refl, sym, subst, ap, ◌∙◌, inl, inr}
+use Rattle.std.specs.Prelude.{◌||◌, is_some, is_none, Contains, unwrap_or, bytes_eq}
 use Rattle.std.specs.List.{list_any}
 use Rattle.std.proofs.lemmas.Slice.Eq.{bytes_eq-Decides}
+use Rattle.std.proofs.lemmas.Bool.{or_parts}
 use Rattle.c_language.specs.Words.{Bytes}
-use Rattle.c_types_base.proofs.JudgingLaws.{contains_nil, contains_cons, contains_first, contains_later}
+use Rattle.c_language.proofs.Lists.{contains_nil, contains_cons, contains_first, contains_later}
 use Rattle.c_types_base.proofs.PhraseLemmas.{clash}
 
 -- there are no two values
@@ -33,26 +34,6 @@ is_nothing_too (Some x) h = clash refl h
 pub is_something_too : {A : Type 0} (o : Option A) → is_none o ≡ false → o ≢ None
 is_something_too {A} o h none = clash {b = is_none o} h (ap (λ (x : Option A). is_none x) none)
 
-pub not_true : (b : Bool) → not b ≡ true → b ≡ false
-not_true true h = sym h
-not_true false h = refl
-
-pub not_false : (b : Bool) → not b ≡ false → b ≡ true
-not_false true h = refl
-not_false false h = sym h
-
-pub both_false : (a b : Bool) → (a && b) ≡ false → (a ≡ false) ⊎ (b ≡ false)
-both_false true b h = inr h
-both_false false b h = inl refl
-
-pub either_false : (a b : Bool) → (a || b) ≡ false → (a ≡ false) × (b ≡ false)
-either_false true b h = clash h refl
-either_false false b h = (refl, h)
-
-pub either_true : (a b : Bool) → (a || b) ≡ true → (a ≡ true) ⊎ (b ≡ true)
-either_true true b h = inl refl
-either_true false b h = inr h
-
 any_step : {A : Type 0} (p : A → Bool) (x : A) (xs : List A) (b : Bool) → p x ≡ b → (b || list_any p xs) ≡ true
     → (list_any p xs ≡ true → (y : A) × Contains xs y × (p y ≡ true)) → (y : A) × Contains (x ∷ xs) y × (p y ≡ true)
 any_step p x xs true is h rest = (x, contains_first x xs, is)
@@ -66,12 +47,9 @@ any_passes p (x ∷ xs) h = any_step p x xs (p x) refl h (any_passes p xs)
 pub none_passes : {A : Type 0} (p : A → Bool) (xs : List A) → list_any p xs ≡ false → (y : A) → Contains xs y → p y ≡ false
 none_passes p [] h y c = absurd (contains_nil y c)
 none_passes {A} p (x ∷ xs) h y c = elim (contains_cons x y xs c) [
-  | inl is ↦ subst (λ (z : A). p z ≡ false) is (either_false (p x) _ h).0
-  | inr c ↦ none_passes p xs (either_false (p x) _ h).1 y c
+  | inl is ↦ subst (λ (z : A). p z ≡ false) is (or_parts (p x) _ h).0
+  | inr c ↦ none_passes p xs (or_parts (p x) _ h).1 y c
 ]
-
-pub same_names : (a b : Bytes) → bytes_eq a b ≡ true → a ≡ b
-same_names a b = (bytes_eq-Decides a b).0
 
 pub other_names : (a b : Bytes) → bytes_eq a b ≡ false → a ≢ b
 other_names a b h same = clash {b = bytes_eq a b} h ((bytes_eq-Decides a b).1 same)

@@ -12,7 +12,8 @@ use Rattle.c_tree.specs.declared.raw.expr.RawType.TheOpen.{RawType-F}
 use Rattle.c_tree.specs.declared.raw.expr.RawType.TheVariants as type
 use Rattle.c_language.specs.Words.{Bytes}
 use Rattle.c_types_base.specs.declared.fault.Fault.{Fault}
-use Rattle.c_language.specs.Uses.{written_lengths, lengths_step, lengths_in, tags_step, tags_in, null_step, is_null_name}
+use Rattle.c_language.specs.Uses.{tags_in, null_step, is_null_name}
+use Rattle.c_language.proofs.UseLemmas.{lengths-Integer, lengths-PointerTo, lengths-Array, lengths-Struct, tags-Integer, tags-PointerTo, tags-Array, tags-Struct}
 use Rattle.c_types_rules.specs.Checking.{Verdict, then_kept, all_kept, Decides}
 use Rattle.c_types_rules.specs.DeclarationChecks.{int_step, is_int_type, is_int}
 
@@ -27,30 +28,6 @@ all_kept-append f [] ys = refl
 all_kept-append f (x ∷ xs) ys = ap (then_kept (f x)) (all_kept-append f xs ys) ∙ then_assoc (f x) (all_kept f xs) (all_kept f ys)
 
 -- ---- types
-
-pub lengths-Integer : (t : IntType) → lengths_in (type.Integer t) ≡ []
-lengths-Integer t = ap lengths_in (sym (type.rolls-Integer t)) ∙ fold-roll-RawType (List RawExpr) lengths_step (RawType-F.Integer t)
-
-pub lengths-PointerTo : (a : RawType) → lengths_in (type.PointerTo a) ≡ lengths_in a
-lengths-PointerTo a = ap lengths_in (sym (type.rolls-PointerTo a)) ∙ fold-roll-RawType (List RawExpr) lengths_step (RawType-F.PointerTo a)
-
-pub lengths-Array : (a : RawType) (n : RawLength) → lengths_in (type.Array a n) ≡ written_lengths n ++ lengths_in a
-lengths-Array a n = ap lengths_in (sym (type.rolls-Array a n)) ∙ fold-roll-RawType (List RawExpr) lengths_step (RawType-F.Array a n)
-
-pub lengths-Struct : (tag : Bytes) → lengths_in (type.Struct tag) ≡ []
-lengths-Struct tag = ap lengths_in (sym (type.rolls-Struct tag)) ∙ fold-roll-RawType (List RawExpr) lengths_step (RawType-F.Struct tag)
-
-pub tags-Integer : (t : IntType) → tags_in (type.Integer t) ≡ []
-tags-Integer t = ap tags_in (sym (type.rolls-Integer t)) ∙ fold-roll-RawType (List Bytes) tags_step (RawType-F.Integer t)
-
-pub tags-PointerTo : (a : RawType) → tags_in (type.PointerTo a) ≡ tags_in a
-tags-PointerTo a = ap tags_in (sym (type.rolls-PointerTo a)) ∙ fold-roll-RawType (List Bytes) tags_step (RawType-F.PointerTo a)
-
-pub tags-Array : (a : RawType) (n : RawLength) → tags_in (type.Array a n) ≡ tags_in a
-tags-Array a n = ap tags_in (sym (type.rolls-Array a n)) ∙ fold-roll-RawType (List Bytes) tags_step (RawType-F.Array a n)
-
-pub tags-Struct : (tag : Bytes) → tags_in (type.Struct tag) ≡ tag ∷ []
-tags-Struct tag = ap tags_in (sym (type.rolls-Struct tag)) ∙ fold-roll-RawType (List Bytes) tags_step (RawType-F.Struct tag)
 
 pub ruleset uses_of_types = (all_kept-append, lengths-Integer, lengths-PointerTo, lengths-Array, lengths-Struct, tags-Integer, tags-PointerTo, tags-Array, tags-Struct)
 

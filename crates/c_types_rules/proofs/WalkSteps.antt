@@ -8,47 +8,44 @@ use Rattle.c_types_base.specs.Tables.{scope_of, AreRight, IsAt}
 use Rattle.c_types_base.specs.declared.tables.Tables.{Tables}
 use Rattle.c_types_base.specs.declared.tables.Before.{Before}
 use Rattle.c_types_base.proofs.ScopeLaws.{Extends, front}
-use Rattle.c_types_base.specs.Stretches.{Stretch, then_comes, nothing, enclosed}
-use Rattle.c_types_rules.specs.Walks.{AreKept, HasBroken, Tells, Walks}
-use Rattle.c_types_rules.specs.declared.rule_fault.RuleFault.{RuleFault}
-use Rattle.c_types_rules.specs.declared.rule_fault.RuleFault.TheVariants.{Rule, NoMemory}
+use Rattle.c_types_base.specs.Stretches.{Stretch, then_comes, enclosed}
+use Rattle.c_types_rules.specs.Walks.{AreKept, BreaksFirst, Tells, Walks}
+use Rattle.c_types_rules.specs.declared.check_fault.CheckFault.{CheckFault}
+use Rattle.c_types_rules.specs.declared.check_fault.CheckFault.TheVariants.{Rule, NoMemory}
 
 abbrev pub Outcome : Type 0
-Outcome = Result (Unit {0}) RuleFault
+Outcome = Result (Unit {0}) CheckFault
 
 -- what holds of a fault holds of the answer that passes it on
-pub passes_on : (P : Outcome → Type 0) (e : RuleFault) (r : Outcome) → IsErrAnd r (λ y. y ≡ e) → P (Err e) → P r
+pub passes_on : (P : Outcome → Type 0) (e : CheckFault) (r : Outcome) → IsErrAnd r (λ y. y ≡ e) → P (Err e) → P r
 passes_on P e (Ok x) h k = absurd h
-passes_on P e (Err y) h k = subst (λ (f : RuleFault). P (Err f)) (sym h) k
+passes_on P e (Err y) h k = subst (λ (f : CheckFault). P (Err f)) (sym h) k
 
 module _ (raw : RawProgram) where
   pub kept_both : (ps qs : Phrases) → AreKept raw ps → AreKept raw qs → AreKept raw (ps ++ qs)
   kept_both [] qs first second = second
   kept_both (p ∷ ps) qs (here, first) second = (here, kept_both ps qs first second)
 
-  pub broken_before : (n line : ℕ) (ps qs : Phrases) → HasBroken raw n line ps → HasBroken raw n line (ps ++ qs)
+  pub broken_before : (n line : ℕ) (ps qs : Phrases) → BreaksFirst raw n line ps → BreaksFirst raw n line (ps ++ qs)
   broken_before n line [] qs h = absurd h
   broken_before n line (p ∷ ps) qs (inl h) = inl h
-  broken_before n line (p ∷ ps) qs (inr h) = inr (broken_before n line ps qs h)
+  broken_before n line (p ∷ ps) qs (inr h) = inr (h.0, broken_before n line ps qs h.1)
 
-  pub broken_behind : (n line : ℕ) (ps qs : Phrases) → HasBroken raw n line qs → HasBroken raw n line (ps ++ qs)
-  broken_behind n line [] qs h = h
-  broken_behind n line (p ∷ ps) qs h = inr (broken_behind n line ps qs h)
+  pub broken_behind : (n line : ℕ) (ps qs : Phrases) → AreKept raw ps → BreaksFirst raw n line qs → BreaksFirst raw n line (ps ++ qs)
+  broken_behind n line [] qs kept h = h
+  broken_behind n line (p ∷ ps) qs (here, kept) h = inr (here, broken_behind n line ps qs kept h)
 
-  pub told_before : (e : RuleFault) (ps qs : Phrases) → Tells raw ps e → Tells raw (ps ++ qs) e
+  pub told_before : (e : CheckFault) (ps qs : Phrases) → Tells raw ps e → Tells raw (ps ++ qs) e
   told_before (Rule n line) ps qs h = broken_before n line ps qs h
   told_before NoMemory ps qs h = tt
 
-  pub told_behind : (e : RuleFault) (ps qs : Phrases) → Tells raw qs e → Tells raw (ps ++ qs) e
-  told_behind (Rule n line) ps qs h = broken_behind n line ps qs h
-  told_behind NoMemory ps qs h = tt
+  pub told_behind : (e : CheckFault) (ps qs : Phrases) → AreKept raw ps → Tells raw qs e → Tells raw (ps ++ qs) e
+  told_behind (Rule n line) ps qs kept h = broken_behind n line ps qs kept h
+  told_behind NoMemory ps qs kept h = tt
 
 -- the tables at another scope of the same text
 pub stays_at : (t : Tables) → IsAt t t (scope_of t)
 stays_at t = record { scope_is = refl; text = refl; right = λ r. r }
-
-pub then_at : (a b c : Tables) (s t : Scope) → IsAt a b s → IsAt b c t → IsAt a c t
-then_at a b c s t h k = record { scope_is = k.scope_is; text = k.text ∙ h.text; right = λ r. k.right (h.right r) }
 
 pub at_scope : (a b : Tables) (s t : Scope) → s ≡ t → IsAt a b s → IsAt a b t
 at_scope a b s t e h = subst (IsAt a b) e h
@@ -56,7 +53,7 @@ at_scope a b s t e h = subst (IsAt a b) e h
 -- how far the walk along a stretch has come: what is left of it answers for the whole
 pub record Passed (whole left : Stretch) (old now : Tables) : Type 0 where
   pub kept : AreKept old.raw.now ((left old.raw.now).gives (scope_of now)) → AreKept old.raw.now ((whole old.raw.now).gives (scope_of old))
-  pub told : (e : RuleFault) → Tells old.raw.now ((left old.raw.now).gives (scope_of now)) e → Tells old.raw.now ((whole old.raw.now).gives (scope_of old)) e
+  pub told : (e : CheckFault) → Tells old.raw.now ((left old.raw.now).gives (scope_of now)) e → Tells old.raw.now ((whole old.raw.now).gives (scope_of old)) e
   pub after : (whole old.raw.now).after (scope_of old) ≡ (left old.raw.now).after (scope_of now)
   pub text : now.raw.now ≡ old.raw.now
   pub right : AreRight old → AreRight now
@@ -84,7 +81,7 @@ module _ (whole : Stretch) (old now : Tables) where
         → next.raw.now ≡ now.raw.now → (AreRight now → AreRight next) → Passed whole rest old next
     turn_with kept at text right = record {
       kept = λ h. p.kept (kept_both old.raw.now _ _ kept (subst (λ (s : Scope). AreKept old.raw.now ((rest old.raw.now).gives s)) at h));
-      told = λ e h. p.told e (told_behind old.raw.now e ((w old.raw.now).gives (scope_of now)) _ (subst (λ (s : Scope). Tells old.raw.now ((rest old.raw.now).gives s) e) at h));
+      told = λ e h. p.told e (told_behind old.raw.now e ((w old.raw.now).gives (scope_of now)) _ kept (subst (λ (s : Scope). Tells old.raw.now ((rest old.raw.now).gives s) e) at h));
       after = p.after ∙ ap (rest old.raw.now).after (sym at);
       text = text ∙ p.text;
       right = λ r. right (p.right r);
@@ -94,7 +91,7 @@ module _ (whole : Stretch) (old now : Tables) where
     turn (kept, is) =
         turn_with (of_text (λ raw. AreKept raw ((w raw).gives (scope_of now))) kept) (is.scope_is ∙ ap (λ (raw : RawProgram). (w raw).after (scope_of now)) p.text) is.text is.right
 
-    pub stops : (e : RuleFault) → Walks w now next (Err e) → Walks whole old next (Err e)
+    pub stops : (e : CheckFault) → Walks w now next (Err e) → Walks whole old next (Err e)
     stops e h =
         p.told e (told_before old.raw.now e ((w old.raw.now).gives (scope_of now)) ((rest old.raw.now).gives ((w old.raw.now).after (scope_of now)))
         (of_text (λ raw. Tells raw ((w raw).gives (scope_of now)) e) h))
@@ -111,10 +108,6 @@ module _ (whole : Stretch) (old now : Tables) where
   )
   ends w p next (Err e) h = p.told e (subst (λ (raw : RawProgram). Tells raw ((w raw).gives (scope_of now)) e) p.text h)
 
-  -- nothing is left
-  pub done : Passed whole nothing old now → Walks whole old now (Ok tt)
-  done p = (p.kept tt, record { scope_is = sym p.after; text = p.text; right = p.right })
-
 -- a stretch in another form
 pub restated : (w v : Stretch) (old new : Tables) (r : Outcome) → w old.raw.now ≡ v old.raw.now → Walks w old new r → Walks v old new r
 restated w v old new r e h = ends v old old w (left_same v old old v w (sym e) (begins v old)) new r h
@@ -123,7 +116,7 @@ restated w v old new r e h = ends v old old w (left_same v old old v w (sym e) (
 pub two : (w v : Stretch) (old now new : Tables) (r : Outcome) → Walks w old now (Ok tt) → Walks v now new r → Walks (then_comes w v) old new r
 two w v old now new r first second = ends (then_comes w v) old now v (turn (then_comes w v) old old w v (begins (then_comes w v) old) now first) new r second
 
-pub first_stops : (w v : Stretch) (old now : Tables) (e : RuleFault) → Walks w old now (Err e) → Walks (then_comes w v) old now (Err e)
+pub first_stops : (w v : Stretch) (old now : Tables) (e : CheckFault) → Walks w old now (Err e) → Walks (then_comes w v) old now (Err e)
 first_stops w v old now e h = stops (then_comes w v) old old w v (begins (then_comes w v) old) now e h
 
 -- a block takes away the names that it declares
@@ -153,6 +146,6 @@ module _ (w : Stretch) (old opens inside closes : Tables) (b : Before) where
         },
       )
 
-  pub enclosed_stops : (e : RuleFault) → IsAt old opens (opened (scope_of old)) → Walks w opens inside (Err e) → Walks (enclosed w) old closes (Err e)
+  pub enclosed_stops : (e : CheckFault) → IsAt old opens (opened (scope_of old)) → Walks w opens inside (Err e) → Walks (enclosed w) old closes (Err e)
   enclosed_stops e opening h =
       subst (λ (r : RawProgram). Tells r ((w r).gives (opened (scope_of old))) e) opening.text (subst (λ (x : Scope). Tells opens.raw.now ((w opens.raw.now).gives x) e) opening.scope_is h)

@@ -17,8 +17,8 @@ ghost use Rattle.c_types_rules.specs.Checking.{Decides, all_kept, given_or, then
 ghost use Rattle.c_types_rules.specs.DeclarationChecks as checks;
 
 use crate::checking::unless_broken;
-use crate::declaration_checks::check_complete;
-use crate::declared_checks::check_tags;
+use crate::completeness_checks::check_complete;
+use crate::declaration_checks::check_tags;
 use crate::targets::target_type;
 use crate::text::named_type;
 use c_arith::IntType;

@@ -9,7 +9,6 @@ ghost use Rattle.c_types_rules.specs.Checking.{Decides};
 ghost use Rattle.c_types_rules.specs.Stands.{stand_of};
 
 use crate::argument_checks::check_arguments;
-use crate::checking::unless_broken;
 use crate::head_checks::is_main;
 use crate::library_calls::{
     check_free, check_getchar, check_printf, check_putchar, check_stored_result,

@@ -10,9 +10,13 @@ use std::alloc::{AllocError, Global};
 /// How an argument is written: `%d`, `%u`, `%x`, or with an `l` for 64 bits, and `%c`.
 #[derive(Clone, Copy, Debug, PartialEq, Eq)]
 pub enum Conversion {
+    /// `%d`, or `%ld`
     SignedDecimal { is_long: bool },
+    /// `%u`, or `%lu`
     UnsignedDecimal { is_long: bool },
+    /// `%x`, or `%lx`
     Hexadecimal { is_long: bool },
+    /// `%c`
     Character,
 }
 

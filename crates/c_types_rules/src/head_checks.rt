@@ -1,5 +1,5 @@
 //! The checks of functions (ISO C99 6.7.5.3, 6.9.1): whether a head, a parameter or the end of a definition breaks a rule.
-ghost use Rattle.std.specs.Prelude.{◌≡◌, IfOk, List, Some, length, map};
+ghost use Rattle.std.specs.Prelude.{◌≡◌, IfOk, List, Some, map};
 ghost use Rattle.std.specs.List.{list_any};
 ghost use Rattle.c_tree.specs.declared.raw.program.RawHead.{RawHead};
 ghost use Rattle.c_tree.specs.declared.raw.program.RawProgram.{RawProgram};
@@ -16,7 +16,7 @@ ghost use Rattle.c_types_rules.specs.Checking.{Decides, all_kept, given_or, kept
 ghost use Rattle.c_types_rules.specs.DeclarationChecks as spec;
 
 use crate::checking::unless_broken;
-use crate::declared_checks::{check_tags, is_library_name};
+use crate::declaration_checks::{check_tags, is_library_name};
 use crate::text::{definition_of, is_defined_before, result_type, written_type};
 use c_arith::IntType;
 use c_language::ExprType;

@@ -1,7 +1,6 @@
 //! The checks of initialisers (ISO C99 6.7.8): whether one breaks a rule.
-ghost use Rattle.std.specs.Prelude.{◌≡◌, IfOk, length, option_and_then};
+ghost use Rattle.std.specs.Prelude.{◌≡◌, IfOk, option_and_then};
 ghost use Rattle.c_language.specs.ArrayRules as arrays;
-ghost use Rattle.c_language.specs.DeclaredTypes as types;
 ghost use Rattle.c_language.specs.Uses as uses;
 ghost use Rattle.c_language.specs.declared.expr_type.Operand.{Operand};
 ghost use Rattle.c_types_base.specs.Tables.{scope_of, AreRight};
@@ -60,7 +59,6 @@ fn check_constant(tables: &Tables<'_>, stand: Stand, t: &ExprType, e: &RawExpr) 
 {
     match stand {
         Stand::InFile { .. } => unless_broken(is_constant_for(t, e), 10),
-        Stand::InHead => Ok(()),
         Stand::InBlock => Ok(()),
         Stand::InArm => Ok(()),
         Stand::InFor => Ok(()),

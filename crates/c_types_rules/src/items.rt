@@ -14,10 +14,10 @@ ghost use Rattle.c_types_rules.specs.Walks.{Answers, Walks};
 ghost use Rattle.c_types_base.specs.Listing as spec;
 ghost use Rattle.c_types_base.specs.Listing.{HasMembers, HasPlace};
 
-use crate::declaration_checks::check_tag;
-use crate::declared_checks::{check_declared_parameter, check_member, check_struct};
+use crate::check_fault::CheckFault;
+use crate::completeness_checks::check_tag;
+use crate::declaration_checks::{check_declared_parameter, check_member, check_struct};
 use crate::head_checks::{check_definition, check_end, check_parameter, check_prototype};
-use crate::rule_fault::RuleFault;
 use crate::stand::Stand;
 use crate::steps::{declaration, declare, on_line};
 use crate::walk::statements;
@@ -51,7 +51,7 @@ fn members<'a>(
     alloc: Global,
     tables: &Tables<'_>,
     list: &'a [RawMember],
-) -> Result<StructMembers<'a>, RuleFault>
+) -> Result<StructMembers<'a>, CheckFault>
     requires { AreRight tables.now }
     ensures answers { Answers tables.now.raw.now (phrases.member_phrases (scope_of tables.now) [] list.now) result }
     ensures listed { IfOk result (HasMembers tables.now.raw.now list.now) }
@@ -74,7 +74,7 @@ fn define_struct<'a>(
     line: u32,
     tag: &[u8],
     list: &'a [RawMember],
-) -> Result<(), RuleFault>
+) -> Result<(), CheckFault>
     requires right { AreRight tables.old }
     requires place { slice_get (types.defined_structs tables.old.raw.now) (vec_len tables.old.structs) ≡ Some (record { tag = tag.now; members = list.now }) }
     ensures { Walks (of_item (item_of.Struct line tag.now list.now)) tables.old tables.new result }
@@ -109,7 +109,7 @@ fn give_name<'a>(names: &mut Numbering<'a>, parameter: &'a RawParam) -> Result<(
 }
 
 /// The parameters of a prototype.
-fn taken(alloc: Global, tables: &Tables<'_>, list: &[RawParam]) -> Result<(), RuleFault>
+fn taken(alloc: Global, tables: &Tables<'_>, list: &[RawParam]) -> Result<(), CheckFault>
     requires { AreRight tables.now }
     ensures { Answers tables.now.raw.now (phrases.taken_phrases (scope_of tables.now) [] list.now) result }
 {
@@ -128,7 +128,7 @@ fn prototype<'a>(
     tables: &mut Tables<'a>,
     line: u32,
     head: &'a RawHead,
-) -> Result<(), RuleFault>
+) -> Result<(), CheckFault>
     requires right { AreRight tables.old }
     requires outside { tables.old.outer ≡ 0 }
     ensures { Walks (of_item (item_of.Prototype line head.now)) tables.old tables.new result }
@@ -140,7 +140,11 @@ fn prototype<'a>(
 }
 
 /// A parameter of a definition, which is a variable where it has a name.
-fn parameter<'a>(alloc: Global, tables: &mut Tables<'a>, one: &'a RawParam) -> Result<(), RuleFault>
+fn parameter<'a>(
+    alloc: Global,
+    tables: &mut Tables<'a>,
+    one: &'a RawParam,
+) -> Result<(), CheckFault>
     requires { AreRight tables.old }
     ensures { Walks (of_parameter one.now) tables.old tables.new result }
 {
@@ -163,7 +167,7 @@ fn parameters<'a>(
     alloc: Global,
     tables: &mut Tables<'a>,
     list: &'a [RawParam],
-) -> Result<(), RuleFault>
+) -> Result<(), CheckFault>
     requires { AreRight tables.old }
     ensures { Walks (of_parameters list.now) tables.old tables.new result }
 {
@@ -179,7 +183,7 @@ fn function<'a>(
     tables: &mut Tables<'a>,
     head: &'a RawHead,
     body: &'a [RawStatement],
-) -> Result<(), RuleFault>
+) -> Result<(), CheckFault>
     requires { AreRight tables.old }
     ensures { Walks (of_function head.now body.now) tables.old tables.new result }
 {
@@ -198,7 +202,7 @@ fn define<'a>(
     line: u32,
     head: &'a RawHead,
     body: &'a [RawStatement],
-) -> Result<(), RuleFault>
+) -> Result<(), CheckFault>
     requires right { AreRight tables.old }
     requires outside { tables.old.outer ≡ 0 }
     ensures { Walks (of_item (item_of.Define line head.now body.now)) tables.old tables.new result }
@@ -210,7 +214,7 @@ fn define<'a>(
 }
 
 /// An item.
-fn item<'a>(alloc: Global, tables: &mut Tables<'a>, one: &'a RawItem) -> Result<(), RuleFault>
+fn item<'a>(alloc: Global, tables: &mut Tables<'a>, one: &'a RawItem) -> Result<(), CheckFault>
     requires right { AreRight tables.old }
     requires outside { tables.old.outer ≡ 0 }
     requires place { HasPlace tables.old.raw.now (vec_len tables.old.structs) one.now }
@@ -247,7 +251,7 @@ pub fn items<'a>(
     alloc: Global,
     tables: &mut Tables<'a>,
     list: &'a [RawItem],
-) -> Result<(), RuleFault>
+) -> Result<(), CheckFault>
     requires right { AreRight tables.old }
     requires whole { list.now ≡ tables.old.raw.now.items }
     requires start { scope_of tables.old ≡ scopes.outset }

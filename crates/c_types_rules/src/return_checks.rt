@@ -1,5 +1,4 @@
 //! The check of a return (ISO C99 6.8.6.4): whether it breaks a rule.
-ghost use Rattle.std.specs.Prelude.{◌≡◌};
 ghost use Rattle.c_types_base.specs.Tables.{scope_of, AreRight};
 ghost use Rattle.c_types_rules.specs.Checking as spec;
 ghost use Rattle.c_types_rules.specs.Checking.{Decides};

@@ -1,13 +1,13 @@
 //! The rules of a whole text.
-ghost use Rattle.std.specs.Prelude.{◌≡◌, OnOk, is_some, option_copied};
+ghost use Rattle.std.specs.Prelude.{◌≡◌, OnOk, is_some};
 ghost use Rattle.c_language.specs.DeclaredTypes.{definition_of};
 ghost use Rattle.c_language.specs.NameRules.{main_name};
 ghost use Rattle.c_language.specs.Rules.{KeepsRules};
 ghost use Rattle.c_types_base.specs.Tables.{AreRight};
-ghost use Rattle.c_types_rules.specs.Walks.{NamesBroken};
+ghost use Rattle.c_types_rules.specs.Walks.{NamesBroken, NamesFirst};
 
+use crate::check_fault::CheckFault;
 use crate::items::items;
-use crate::rule_fault::RuleFault;
 use c_tree::RawProgram;
 use c_types_base::tables::Tables;
 use std::alloc::Global;
@@ -24,17 +24,19 @@ fn has_main(tables: &Tables<'_>) -> bool
 ///
 /// # Errors
 ///
-/// `Rule` with the number of a rule that is broken and the line at which it is; a text without main breaks
-/// rule 5 at line 1. `NoMemory` where memory runs out.
-pub fn check_rules(alloc: Global, raw: &RawProgram) -> Result<(), RuleFault>
+/// `Rule` with the number of a rule that the first phrase of the text with a broken rule breaks, and the line
+/// of that phrase; a text without main breaks rule 5 at line 1, which is told where no phrase breaks a rule.
+/// `NoMemory` where memory runs out.
+pub fn check_rules(alloc: Global, raw: &RawProgram) -> Result<(), CheckFault>
     ensures kept { OnOk result (KeepsRules raw.now) }
     ensures broken { NamesBroken raw.now result }
+    ensures first { NamesFirst raw.now result }
 {
     let mut tables = Tables::new(alloc, raw)?;
     items(alloc, &mut tables, raw.items.as_slice())?;
     if has_main(&tables) {
         Ok(())
     } else {
-        Err(RuleFault::Rule(5, 1))
+        Err(CheckFault::Rule(5, 1))
     }
 }

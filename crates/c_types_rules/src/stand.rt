@@ -1,10 +1,9 @@
-/// Where a declaration stands.
+/// Where a declaration stands that is no parameter.
 #[derive(Clone, Copy, Debug)]
 pub enum Stand {
     /// At file scope, as static or not.
     InFile { is_static: bool },
-    /// Among the parameters of a definition.
-    InHead,
+    /// In a block, outside of switch arms.
     InBlock,
     /// Directly in an arm of a switch.
     InArm,

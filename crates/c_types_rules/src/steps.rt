@@ -1,5 +1,5 @@
 //! The walk along phrases that hold no statements: the check of each, the variable that is declared, the statement that is numbered.
-ghost use Rattle.std.specs.Prelude.{◌≡◌, ◌+◌, None, Some, IsSome, OnOk, IfOk, option_copied};
+ghost use Rattle.std.specs.Prelude.{◌≡◌, ◌+◌, None, IsSome, OnOk};
 ghost use Rattle.c_language.specs.DeclaredTypes as types;
 ghost use Rattle.c_language.specs.Phrases as phrases;
 ghost use Rattle.c_language.specs.Scopes as scopes;
@@ -14,11 +14,11 @@ ghost use Rattle.c_tree.specs.declared.raw.statement.RawStatement.TheOpen.{RawSt
 
 use crate::allocation_checks::check_allocation;
 use crate::call_checks::check_call;
+use crate::check_fault::CheckFault;
 use crate::checking::{check_assignment, check_bump, check_test};
-use crate::declared_checks::check_declared;
+use crate::declaration_checks::check_declared;
 use crate::initialiser_checks::check_begun;
 use crate::return_checks::check_return;
-use crate::rule_fault::RuleFault;
 use crate::stand::Stand;
 use c_arith::BinaryOp;
 use c_tree::{RawAmount, RawArg, RawExpr, RawInit, RawTarget, RawType, RawTypeName, RawVar};
@@ -28,13 +28,13 @@ use c_types_base::tables::Tables;
 use std::alloc::{AllocError, Global};
 
 /// What is told where the check of a phrase on a line answers so.
-pub fn on_line(line: u32, verdict: Result<(), Fault>) -> Result<(), RuleFault>
+pub fn on_line(line: u32, verdict: Result<(), Fault>) -> Result<(), CheckFault>
     ensures { result ≡ spec.on_line line verdict }
 {
     match verdict {
         Ok(()) => Ok(()),
-        Err(Fault::Rule(number)) => Err(RuleFault::Rule(number, line)),
-        Err(Fault::NoMemory) => Err(RuleFault::NoMemory),
+        Err(Fault::Rule(number)) => Err(CheckFault::Rule(number, line)),
+        Err(Fault::NoMemory) => Err(CheckFault::NoMemory),
     }
 }
 
@@ -43,7 +43,7 @@ pub fn number_on(
     tables: &mut Tables<'_>,
     line: u32,
     verdict: Result<(), Fault>,
-) -> Result<(), RuleFault>
+) -> Result<(), CheckFault>
     requires { AreRight tables.old }
     ensures { (part : phrases.Part) → Decides (check_part tables.old.raw.now (scope_of tables.old) part) verdict → Walks (a_statement line part) tables.old tables.new result }
 {
@@ -77,7 +77,7 @@ fn begin(
     stand: Stand,
     var: &RawVar,
     init: &RawInit,
-) -> Result<(), RuleFault>
+) -> Result<(), CheckFault>
     requires { AreRight tables.now }
     ensures { Answers tables.now.raw.now (phrases.begun_phrases line (scope_of tables.now) (stand_of stand) var.now init.now) result }
 {
@@ -96,7 +96,7 @@ pub fn declaration<'a>(
     stand: Stand,
     var: &'a RawVar,
     init: &RawInit,
-) -> Result<(), RuleFault>
+) -> Result<(), CheckFault>
     requires { AreRight tables.old }
     ensures { Walks (of_declaration line (stand_of stand) var.now init.now) tables.old tables.new result }
 {
@@ -136,7 +136,7 @@ pub fn declared<'a>(
     stand: Stand,
     var: &'a RawVar,
     init: &RawInit,
-) -> Result<(), RuleFault>
+) -> Result<(), CheckFault>
     requires { AreRight tables.old }
     ensures { Walks (of_form (stand_of stand) (λ raw. RawStatement-F.Declare line var.now init.now)) tables.old tables.new result }
 {
@@ -153,7 +153,7 @@ pub fn assigned(
     left: &RawExpr,
     op: Option<BinaryOp>,
     right: &RawExpr,
-) -> Result<(), RuleFault>
+) -> Result<(), CheckFault>
     requires { AreRight tables.old }
     ensures { Walks (a_statement line (phrases.Assigns left.now op right.now)) tables.old tables.new result }
 {
@@ -167,7 +167,7 @@ pub fn bumped(
     tables: &mut Tables<'_>,
     line: u32,
     left: &RawExpr,
-) -> Result<(), RuleFault>
+) -> Result<(), CheckFault>
     requires { AreRight tables.old }
     ensures { Walks (a_statement line (phrases.Bumps left.now)) tables.old tables.new result }
 {
@@ -181,7 +181,7 @@ pub fn tested(
     tables: &mut Tables<'_>,
     line: u32,
     test: &RawExpr,
-) -> Result<(), RuleFault>
+) -> Result<(), CheckFault>
     requires { AreRight tables.old }
     ensures { Walks (a_statement line (phrases.Tests test.now)) tables.old tables.new result }
 {
@@ -195,7 +195,7 @@ pub fn returned(
     tables: &mut Tables<'_>,
     line: u32,
     value: &Option<RawExpr>,
-) -> Result<(), RuleFault>
+) -> Result<(), CheckFault>
     requires { AreRight tables.old }
     ensures { Walks (a_statement line (phrases.Returns value.now)) tables.old tables.new result }
 {
@@ -210,7 +210,7 @@ fn target<'a>(
     line: u32,
     stand: Stand,
     to: &'a RawTarget,
-) -> Result<(), RuleFault>
+) -> Result<(), CheckFault>
     requires { AreRight tables.old }
     ensures { Walks (of_target line (stand_of stand) to.now) tables.old tables.new result }
 {
@@ -233,7 +233,7 @@ pub fn call<'a>(
     to: &'a RawTarget,
     function: &[u8],
     args: &[RawArg],
-) -> Result<(), RuleFault>
+) -> Result<(), CheckFault>
     requires { AreRight tables.old }
     ensures { Walks (then_comes (of_target line (stand_of stand) to.now) (a_statement line (phrases.Calls (stand_of stand) to.now function.now args.now))) tables.old tables.new result }
 {
@@ -251,7 +251,7 @@ pub fn heap<'a>(
     to: &'a RawTarget,
     cast: &Option<RawTypeName>,
     amount: &RawAmount,
-) -> Result<(), RuleFault>
+) -> Result<(), CheckFault>
     requires { AreRight tables.old }
     ensures { Walks (then_comes (of_target line (stand_of stand) to.now) (a_statement line (phrases.Allocates to.now cast.now amount.now))) tables.old tables.new result }
 {

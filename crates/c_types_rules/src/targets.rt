@@ -36,7 +36,6 @@ pub fn begins_for(stand: Stand, target: &RawTarget) -> bool
         (Stand::InFor, RawTarget::None) => false,
         (Stand::InFor, RawTarget::Place(_)) => false,
         (Stand::InFile { .. }, _) => false,
-        (Stand::InHead, _) => false,
         (Stand::InBlock, _) => false,
         (Stand::InArm, _) => false,
     }

@@ -1,5 +1,5 @@
 //! What the whole text says, by the tables of a place in it.
-ghost use Rattle.std.specs.Prelude.{◌≡◌, IfOk, is_some, option_copied};
+ghost use Rattle.std.specs.Prelude.{◌≡◌, IfOk, option_copied};
 ghost use Rattle.c_language.specs.CallRules.{head_around};
 ghost use Rattle.c_language.specs.DeclaredTypes as types;
 ghost use Rattle.c_language.specs.TypeGrammar.{named_type};

@@ -2,15 +2,14 @@
 ghost use Rattle.std.specs.Prelude.{◌≡◌, ◌++◌, OnOk, IfOk, map};
 ghost use Rattle.std.specs.Borrow.{Bor};
 ghost use Rattle.c_tree.specs.declared.raw.statement.RawLabel.{RawLabel};
-ghost use Rattle.c_tree.specs.declared.raw.statement.RawStatement.TheOpen.{RawStatement-F};
 ghost use Rattle.c_language.specs.Phrases as phrases;
 ghost use Rattle.c_types_base.specs.Tables.{AreRight};
 ghost use Rattle.c_types_rules.specs.Stands.{stand_of};
 ghost use Rattle.c_types_base.specs.Stretches.{enclosed, a_statement, of_statement, of_statements, of_block, of_arms, of_part, labels_in};
 ghost use Rattle.c_types_rules.specs.Walks.{Walks};
 
+use crate::check_fault::CheckFault;
 use crate::checking::check_test;
-use crate::rule_fault::RuleFault;
 use crate::stand::Stand;
 use crate::steps::{assigned, bumped, call, declared, heap, number_on, on_line, returned, tested};
 use crate::switch_checks::check_switch;
@@ -47,7 +46,7 @@ fn switch_head(
     line: u32,
     test: &RawExpr,
     list: &[RawArm],
-) -> Result<(), RuleFault>
+) -> Result<(), CheckFault>
     requires { AreRight tables.old }
     ensures { Walks (a_statement line (phrases.Switches test.now (labels_in list.now))) tables.old tables.new result }
 {
@@ -63,7 +62,7 @@ pub fn statements<'a>(
     tables: &mut Tables<'a>,
     stand: Stand,
     list: &'a [RawStatement],
-) -> Result<(), RuleFault>
+) -> Result<(), CheckFault>
     requires { AreRight tables.old }
     ensures { Walks (of_statements (stand_of stand) list.now) tables.old tables.new result }
 {
@@ -79,7 +78,7 @@ fn block<'a>(
     alloc: Global,
     tables: &mut Tables<'a>,
     list: &'a [RawStatement],
-) -> Result<(), RuleFault>
+) -> Result<(), CheckFault>
     requires { AreRight tables.old }
     ensures { Walks (of_block list.now) tables.old tables.new result }
 {
@@ -97,7 +96,7 @@ fn part<'a>(
     tables: &mut Tables<'a>,
     stand: Stand,
     one: &'a Option<Boxed<RawStatement>>,
-) -> Result<(), RuleFault>
+) -> Result<(), CheckFault>
     requires { AreRight tables.old }
     ensures { Walks (of_part (stand_of stand) one.now) tables.old tables.new result }
 {
@@ -109,7 +108,7 @@ fn part<'a>(
 
 /// The arms of a switch, one after another.
 #[cycle(statement)]
-fn arms<'a>(alloc: Global, tables: &mut Tables<'a>, list: &'a [RawArm]) -> Result<(), RuleFault>
+fn arms<'a>(alloc: Global, tables: &mut Tables<'a>, list: &'a [RawArm]) -> Result<(), CheckFault>
     requires { AreRight tables.old }
     ensures { Walks (of_arms list.now) tables.old tables.new result }
 {
@@ -125,7 +124,7 @@ fn arms_block<'a>(
     alloc: Global,
     tables: &mut Tables<'a>,
     list: &'a [RawArm],
-) -> Result<(), RuleFault>
+) -> Result<(), CheckFault>
     requires { AreRight tables.old }
     ensures { Walks (enclosed (of_arms list.now)) tables.old tables.new result }
 {
@@ -143,7 +142,7 @@ fn statement<'a>(
     tables: &mut Tables<'a>,
     stand: Stand,
     one: &'a RawStatement,
-) -> Result<(), RuleFault>
+) -> Result<(), CheckFault>
     requires { AreRight tables.old }
     ensures { Walks (of_statement (stand_of stand) one.now) tables.old tables.new result }
 {

@@ -1,10 +1,11 @@
 -- The pairs of controlling and controlled vertices of code, under the vertices of its controllers.
-use Rattle.std.proofs.Common.{◌≡◌, ℕ, ℤ, List, [], ◌∷◌, ◌++◌, ◌⊎◌, inl, inr, Option, Some, None, refl, sym, ap, ◌∙◌, subst}
+use Rattle.std.proofs.Common.{◌≡◌, ℕ, ℤ, List, [], ◌∷◌, ◌++◌, ◌⊎◌, inl, inr, Some, None, refl, ap, ◌∙◌, subst}
 use Rattle.c_language.specs.Code.{Code, End, Opens, Plain, Fork, Loop, Leaves, Call, ◌⨟◌}
 use Rattle.dep_model.specs.declared.skeleton.Pair.{Pair}
 use Rattle.dep_model.specs.Controls.{Controller, Controls}
-use Rattle.control_deps.specs.Walk.{pair, from_all, joined}
+use Rattle.control_deps.specs.Walk.{from_all, joined}
 use Rattle.dep_model.proofs.Membership.{IsIn, in_first, in_second, in_either}
+use Rattle.dep_model.specs.Pairs.{pair}
 
 -- from one of some vertices to one of others
 abbrev pub Joins : List ℕ → List ℕ → Pair → Type 0

@@ -1,25 +1,23 @@
 -- What the walk and the attached edges come to is control in a function.
-use Rattle.std.proofs.Common.{◌≡◌, ℕ, zero, suc, ◌<◌, List, [], ◌∷◌, ◌++◌, ◌⊎◌, inl, inr, Option, Some, None, map, length, get_or, arith, refl, sym, ap, ◌∙◌, subst}
-use Rattle.std.specs.Prelude.{Contains, ◌↔◌, slice_get}
-use Rattle.std.specs.Option.{option_map_or}
+use Rattle.std.proofs.Common.{◌≡◌, ℕ, List, [], ◌∷◌, ◌++◌, inl, inr, Some, None, map, refl, sym, ap, ◌∙◌, subst}
+use Rattle.std.specs.Prelude.{Contains, ◌↔◌}
 use Rattle.c_tree.specs.declared.program.Program.{Program}
-use Rattle.c_tree.specs.declared.program.Function.{Function}
 use Rattle.c_tree.specs.declared.statement.Statement.{Statement}
-use Rattle.c_language.specs.Code.{Code, End, code}
+use Rattle.c_language.specs.Code.{code}
 use Rattle.dep_model.specs.declared.edge.Edge.{Edge}
-use Rattle.dep_model.specs.declared.edge.Label.TheVariants.{Control}
 use Rattle.dep_model.specs.declared.skeleton.Pair.{Pair}
 use Rattle.dep_model.specs.declared.vertex.Vertex.{Vertex}
 use Rattle.dep_model.specs.Controls.{Controller, Controls}
 use Rattle.dep_model.specs.FunctionVertices.{is_own, is_actual, is_entry, numbers, code_in, controller_vertices, IsControlIn, nested, formal, actual}
 use Rattle.dep_model.specs.PairOrder.{AreAscending}
 use Rattle.control_deps.specs.Walk.{walks}
-use Rattle.control_deps.specs.Attached.{keepers, attached_from}
-use Rattle.control_deps.specs.ControlEdges.{control_edge, ends, AreAscendingEdges}
+use Rattle.control_deps.specs.Attached.{controllers, attached_from}
+use Rattle.control_deps.specs.ControlEdges.{control_edge}
 use Rattle.dep_model.proofs.Membership.{IsIn, in_of_contains, contains_of_in, in_first, in_second, in_either, in_map, of_map}
-use Rattle.control_deps.proofs.CodeLaws.{Joins, vertices_of, controlled_of, of_controlled}
+use Rattle.control_deps.proofs.CodeLaws.{vertices_of, controlled_of, of_controlled}
 use Rattle.control_deps.proofs.StatementLaws.{walks_into, walks_from}
 use Rattle.control_deps.proofs.AttachedLaws.{is_formal, attached_of, formal_attached, actual_attached}
+use Rattle.dep_model.specs.EdgeOrder.{AreAscendingEdges, ends}
 
 module _ (p : Program) (vs : List Vertex) (f : ℕ) (own : ℕ → List ℕ) (owns : (i : ℕ) → own i ≡ numbers (is_own i) f vs) where
   abbrev entry : List ℕ
@@ -41,10 +39,10 @@ module _ (p : Program) (vs : List Vertex) (f : ℕ) (own : ℕ → List ℕ) (ow
 
   -- the pairs that are found
   abbrev pub found : List Statement → List Pair
-  found body = walks own body entry ++ attached_from (keepers entry own f) 0 vs
+  found body = walks own body entry ++ attached_from (controllers entry own f) 0 vs
 
   is_control : (body : List Statement) → code_in p f ≡ code body → (x : Pair) → IsIn (found body) x → IsControlIn p vs f (control_edge x)
-  is_control body is x h = elim (in_either (walks own body entry) (attached_from (keepers entry own f) 0 vs) x h) [
+  is_control body is x h = elim (in_either (walks own body entry) (attached_from (controllers entry own f) 0 vs) x h) [
     | inl t ↦ let c = controlled_of own entry (code body) None x (walks_into own body entry x t) in
         nested c.0 c.1 refl (subst (λ y. Controls y None c.0 c.1) (sym is) c.2) (controller_in c.0 x.from c.3.0) (own_in c.1 x.to c.3.1)
     | inr t ↦ elim (attached_of entry own f 0 vs x t) [
@@ -55,11 +53,11 @@ module _ (p : Program) (vs : List Vertex) (f : ℕ) (own : ℕ → List ℕ) (ow
 
   control_is : (body : List Statement) → code_in p f ≡ code body → (x : Pair) (e : Edge) → ends e ≡ x → IsControlIn p vs f e → IsIn (found body) x
   control_is body is x e q (nested v i l c a b) =
-      subst (IsIn (found body)) q (in_first (walks own body entry) (attached_from (keepers entry own f) 0 vs) (ends e) (walks_from own body entry (ends e) (of_controlled own entry (code body) None v i (ends e) (subst (λ y. Controls y None v i) is c) (in_controller v e.from a, in_own i e.to b))))
+      subst (IsIn (found body)) q (in_first (walks own body entry) (attached_from (controllers entry own f) 0 vs) (ends e) (walks_from own body entry (ends e) (of_controlled own entry (code body) None v i (ends e) (subst (λ y. Controls y None v i) is c) (in_controller v e.from a, in_own i e.to b))))
   control_is body is x e q (formal l a b) =
-      subst (IsIn (found body)) q (in_second (walks own body entry) (attached_from (keepers entry own f) 0 vs) (ends e) (formal_attached entry own f 0 vs (ends e) (in_of_contains entry e.from a, in_of_contains (numbers is_formal f vs) e.to b)))
+      subst (IsIn (found body)) q (in_second (walks own body entry) (attached_from (controllers entry own f) 0 vs) (ends e) (formal_attached entry own f 0 vs (ends e) (in_of_contains entry e.from a, in_of_contains (numbers is_formal f vs) e.to b)))
   control_is body is x e q (actual i l a b) =
-      subst (IsIn (found body)) q (in_second (walks own body entry) (attached_from (keepers entry own f) 0 vs) (ends e) (actual_attached entry own f i 0 vs (ends e) (in_own i e.from a, in_of_contains (numbers (is_actual i) f vs) e.to b)))
+      subst (IsIn (found body)) q (in_second (walks own body entry) (attached_from (controllers entry own f) 0 vs) (ends e) (actual_attached entry own f i 0 vs (ends e) (in_own i e.from a, in_of_contains (numbers (is_actual i) f vs) e.to b)))
 
   -- exactly these are the ends of control edges
   pub found_exactly : (body : List Statement) → code_in p f ≡ code body → (xs : List Pair) → xs ≡ found body → (x : Pair) → Contains xs x ↔ IsControlIn p vs f (control_edge x)
@@ -90,16 +88,7 @@ ends_back (x ∷ xs) = ap (λ ys. x ∷ ys) (ends_back xs)
 pub edges_ascending : (xs : List Pair) (es : List Edge) → AreAscending xs → es ≡ map control_edge xs → AreAscendingEdges es
 edges_ascending xs es h is = subst AreAscending (sym (ends_back xs) ∙ ap (map ends) (sym is)) h
 
--- the code of a function that is there
-pub code_at : (p : Program) (f : ℕ) (g : Function) → slice_get p.functions f ≡ Some g → code_in p f ≡ code g.body
-code_at p f g is = ap (λ o. option_map_or (λ (h : Function). code h.body) o End) is
-
-pub got : {X : Type 0} (xs : List X) (i : ℕ) (x : X) → i < length xs → x ≡ get_or xs i x → slice_get xs i ≡ Some x
-got [] i x lt is = absurd (omega (arith, lt))
-got (y ∷ xs) zero x lt is = ap Some (sym is)
-got (y ∷ xs) (suc i) x lt is = got xs i x (omega (arith, lt)) is
-
 -- what the two walks leave
-pub walked : (own : ℕ → List ℕ) (f : ℕ) (vs : List Vertex) (none first all : List Pair) (body body_ : List Statement) (e e1 e2 : List ℕ) → none ≡ [] → body_ ≡ body → e1 ≡ e → e2 ≡ e → first ≡ none ++ walks own body_ e1 → all ≡ first ++ attached_from (keepers e2 own f) 0 vs → all ≡ walks own body e ++ attached_from (keepers e own f) 0 vs
+pub walked : (own : ℕ → List ℕ) (f : ℕ) (vs : List Vertex) (none first all : List Pair) (body body_ : List Statement) (e e1 e2 : List ℕ) → none ≡ [] → body_ ≡ body → e1 ≡ e → e2 ≡ e → first ≡ none ++ walks own body_ e1 → all ≡ first ++ attached_from (controllers e2 own f) 0 vs → all ≡ walks own body e ++ attached_from (controllers e own f) 0 vs
 walked own f vs none first all body body_ e e1 e2 n b p q s t =
-    t ∙ ap (λ xs. xs ++ attached_from (keepers e2 own f) 0 vs) (s ∙ ap (λ xs. xs ++ walks own body_ e1) n ∙ ap (λ y. walks own y e1) b ∙ ap (walks own body) p) ∙ ap (λ y. walks own body e ++ attached_from (keepers y own f) 0 vs) q
+    t ∙ ap (λ xs. xs ++ attached_from (controllers e2 own f) 0 vs) (s ∙ ap (λ xs. xs ++ walks own body_ e1) n ∙ ap (λ y. walks own y e1) b ∙ ap (walks own body) p) ∙ ap (λ y. walks own body e ++ attached_from (controllers y own f) 0 vs) q

@@ -1,5 +1,5 @@
 -- The walk finds exactly the pairs of the code that a statement is.
-use Rattle.std.proofs.Common.{◌≡◌, ℕ, zero, suc, ℤ, pos, List, [], ◌∷◌, ◌++◌, ◌⊎◌, inl, inr, Bool, true, false, Option, Some, None, map, refl, sym, ap, ◌∙◌, subst}
+use Rattle.std.proofs.Common.{◌≡◌, ℕ, zero, suc, pos, List, [], ◌∷◌, ◌++◌, ◌⊎◌, inl, inr, Bool, true, false, Option, Some, None, map, refl, sym, subst}
 use Rattle.std.specs.Prelude.{if◌then◌else◌, ⊤}
 use Rattle.c_tree.specs.declared.expr.Expr.{Expr}
 use Rattle.c_tree.specs.declared.statement.Label.{Label}
@@ -8,14 +8,14 @@ use Rattle.c_tree.specs.declared.statement.Target.TheVariants as target
 use Rattle.c_tree.specs.declared.statement.Statement.{Statement, ind-Statement, roll-Statement, map-Statement, fold-roll-Statement}
 use Rattle.c_tree.specs.declared.statement.Statement.TheOpen.{Statement-F, Arm-F}
 use Rattle.c_tree.specs.declared.statement.Arm.{Arm, roll-Arm, map-Arm, fold-roll-Arm}
-use Rattle.c_language.specs.Code.{Act, Code, End, Opens, Plain, Fork, Loop, Leaves, Call, ◌⨟◌, is_true, either, leave, Part, doing, declared, in_turn, list_of, block, ArmPart, taken_arm, optional, given_to, begun, declaring, part_step, arm_step, part, code_of, code}
+use Rattle.c_language.specs.Code.{Act, Code, End, Plain, Fork, Loop, Call, ◌⨟◌, is_true, either, leave, Part, doing, declared, in_turn, list_of, block, ArmPart, taken_arm, optional, given_to, part_step, arm_step, part, code}
 use Rattle.c_language.proofs.CodeLemmas.{arm_part}
 use Rattle.dep_model.specs.declared.skeleton.Pair.{Pair}
 use Rattle.dep_model.specs.SwitchArms.{has_first, with_labels}
 use Rattle.dep_model.proofs.SwitchLaws.{HoldsOfTaken, taken_at, value_taken}
 use Rattle.control_deps.specs.Walk.{Walk, ArmWalk, joined, all, if_some, all_taken, walk_step, walk, arm_walk, walks}
 use Rattle.control_deps.specs.Walk as w
-use Rattle.dep_model.proofs.Membership.{IsIn, in_first, in_second, in_either}
+use Rattle.dep_model.proofs.Membership.{IsIn, in_first, in_second, in_either, if_in, in_if}
 use Rattle.control_deps.proofs.CodeLaws.{Joins, in_joined, of_joined, Under, under_first, under_second, under_seq, under_more, under_either}
 
 module _ (own : ℕ → List ℕ) where
@@ -235,13 +235,6 @@ module _ (own : ℕ → List ℕ) where
   AreArms [] (f ∷ fs) = ⊥
   AreArms (a ∷ as_) [] = ⊥
   AreArms (a ∷ as_) (f ∷ fs) = ArmAgrees a f × AreArms as_ fs
-
-  if_in : (b : Bool) (xs : List Pair) (x : Pair) → IsIn (if b then xs else []) x → (b ≡ true) × IsIn xs x
-  if_in true xs x h = (refl, h)
-  if_in false xs x h = absurd h
-
-  in_if : (b : Bool) (xs : List Pair) (x : Pair) → b ≡ true → IsIn xs x → IsIn (if b then xs else []) x
-  in_if b xs x e h = subst (λ t. IsIn (if t then xs else []) x) (sym e) h
 
   arms_into : (before : List Label) (as_ : List ArmPart) (fs : List ArmWalk) → AreArms as_ fs → (ks : List ℕ) (x : Pair) → IsIn (all_taken before fs ks) x → HoldsOfTaken (λ c. Under own c ks x) before as_
   arms_into before [] [] e ks x h = absurd h

@@ -10,12 +10,13 @@ use Rattle.c_tree.specs.declared.statement.Target.{Target}
 use Rattle.c_tree.specs.declared.statement.Statement.{Statement, fold-roll-Statement}
 use Rattle.c_tree.specs.declared.statement.Statement.TheOpen.{Statement-F}
 use Rattle.c_tree.specs.declared.statement.Statement.TheVariants as s
-use Rattle.c_tree.specs.declared.statement.Arm.{Arm, roll-Arm, fold-roll-Arm}
+use Rattle.c_tree.specs.declared.statement.Arm.{Arm, fold-roll-Arm}
 use Rattle.dep_model.specs.declared.skeleton.Pair.{Pair}
 use Rattle.c_tree.specs.declared.statement.Label.{Label}
 use Rattle.dep_model.specs.SwitchArms.{has_first, with_labels, taken, taken_from}
 use Rattle.dep_model.proofs.Grown.{IsEach, AreBoth}
-use Rattle.control_deps.specs.Walk.{Walk, ArmWalk, pair, from_all, joined, all, if_some, all_taken, declared, walk_step, arm_step, walk, arm_walk, walks, if_taken, arm_walks, walked_part}
+use Rattle.dep_model.specs.Pairs.{pair}
+use Rattle.control_deps.specs.Walk.{Walk, ArmWalk, from_all, joined, all, if_some, all_taken, declared, walk_step, arm_step, walk, arm_walk, walks, if_taken, arm_walks, walked_part}
 
 module _ (own : ℕ → List ℕ) where
   pub all-walks : (b : List Statement) (ks : List ℕ) → all (map (walk own) b) ks ≡ walks own b ks

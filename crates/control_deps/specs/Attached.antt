@@ -7,19 +7,19 @@ use Rattle.dep_model.specs.declared.vertex.VertexKind.TheVariants.{Entry, Formal
 use Rattle.control_deps.specs.Walk.{from_all}
 
 -- the vertices that a vertex hangs on, where `own` has those of each statement
-abbrev pub keepers_of : List ℕ → (ℕ → List ℕ) → VertexKind → List ℕ
-keepers_of entry own Entry = []
-keepers_of entry own (FormalIn slot) = entry
-keepers_of entry own (FormalOut slot) = entry
-keepers_of entry own (Statement i) = []
-keepers_of entry own (Call i) = []
-keepers_of entry own (ActualIn i slot) = own i
-keepers_of entry own (ActualOut i slot) = own i
+abbrev pub controllers_of : List ℕ → (ℕ → List ℕ) → VertexKind → List ℕ
+controllers_of entry own Entry = []
+controllers_of entry own (FormalIn slot) = entry
+controllers_of entry own (FormalOut slot) = entry
+controllers_of entry own (Statement i) = []
+controllers_of entry own (Call i) = []
+controllers_of entry own (ActualIn i slot) = own i
+controllers_of entry own (ActualOut i slot) = own i
 
-abbrev pub keepers : List ℕ → (ℕ → List ℕ) → ℕ → Vertex → List ℕ
-keepers entry own f v = if v.function == f then keepers_of entry own v.kind else []
+abbrev pub controllers : List ℕ → (ℕ → List ℕ) → ℕ → Vertex → List ℕ
+controllers entry own f v = if v.function == f then controllers_of entry own v.kind else []
 
 -- the first of the vertices has the number n
 abbrev pub attached_from : (Vertex → List ℕ) → ℕ → List Vertex → List Pair
-attached_from keepers n [] = []
-attached_from keepers n (v ∷ vs) = from_all (keepers v) n ++ attached_from keepers (suc n) vs
+attached_from controllers n [] = []
+attached_from controllers n (v ∷ vs) = from_all (controllers v) n ++ attached_from controllers (suc n) vs

@@ -4,11 +4,9 @@ use Rattle.c_tree.specs.declared.statement.Label.{Label}
 use Rattle.c_tree.specs.declared.statement.Statement.{Statement, fold-Statement}
 use Rattle.c_tree.specs.declared.statement.Statement.TheOpen.{Statement-F, Arm-F}
 use Rattle.c_tree.specs.declared.statement.Arm.{Arm, fold-Arm}
+use Rattle.dep_model.specs.Pairs.{pair}
 use Rattle.dep_model.specs.SwitchArms.{has_first, with_labels}
 use Rattle.dep_model.specs.declared.skeleton.Pair.{Pair}
-
-abbrev pub pair : ℕ → ℕ → Pair
-pair from to = record { from = from; to = to }
 
 -- the edges from each of some vertices to one
 abbrev pub from_all : List ℕ → ℕ → List Pair

@@ -1,7 +1,7 @@
 //! The control edges of formals and actuals, as pairs of vertices.
 ghost use Rattle.std.specs.Prelude.{◌≡◌, ◌++◌, ◌<◌, ◌^◌, OnOk, length};
 ghost use Rattle.dep_model.specs.Groups.{row};
-ghost use Rattle.control_deps.specs.Attached.{keepers_of, keepers, attached_from};
+ghost use Rattle.control_deps.specs.Attached.{controllers_of, controllers, attached_from};
 ghost use Rattle.control_deps.specs.Walk as spec;
 
 use crate::walk::join_one;
@@ -10,8 +10,8 @@ use dep_model::{Pair, StatementVertices, Vertex, VertexKind};
 use std::alloc::AllocError;
 
 // The vertices that a vertex hangs on.
-fn keepers_of<'a>(entry: &'a [u32], own: &'a StatementVertices, kind: VertexKind) -> &'a [u32]
-    ensures { result.now ≡ keepers_of entry.now (row own.now) kind }
+fn controllers_of<'a>(entry: &'a [u32], own: &'a StatementVertices, kind: VertexKind) -> &'a [u32]
+    ensures { result.now ≡ controllers_of entry.now (row own.now) kind }
 {
     match kind {
         VertexKind::FormalIn(_) | VertexKind::FormalOut(_) => entry,
@@ -29,10 +29,10 @@ fn attach_one(
     number: u32,
     vertex: &Vertex,
 ) -> Result<(), AllocError>
-    ensures { OnOk result (out.new.items ≡ out.old.items ++ spec.from_all (keepers entry.now (row own.now) function vertex.now) number) }
+    ensures { OnOk result (out.new.items ≡ out.old.items ++ spec.from_all (controllers entry.now (row own.now) function vertex.now) number) }
 {
     if vertex.function == function {
-        join_one(out, keepers_of(entry, own, vertex.kind), number)?;
+        join_one(out, controllers_of(entry, own, vertex.kind), number)?;
     }
     Ok(())
 }
@@ -46,7 +46,7 @@ pub(crate) fn attach(
     vertices: &[Vertex],
 ) -> Result<(), AllocError>
     requires few { length vertices.now < 2 ^ 32 }
-    ensures { OnOk result (out.new.items ≡ out.old.items ++ attached_from (keepers entry.now (row own.now) function) 0 vertices.now) }
+    ensures { OnOk result (out.new.items ≡ out.old.items ++ attached_from (controllers entry.now (row own.now) function) 0 vertices.now) }
 {
     let mut number = 0u32;
     for vertex in vertices {

@@ -3,7 +3,8 @@
 #![tactic(auto)]
 
 ghost use Rattle.std.specs.Prelude.{◌≡◌, ◌<◌, ◌^◌, ◌↔◌, IfOk, Contains, length, map};
-ghost use Rattle.control_deps.specs.ControlEdges.{control_edge, AreAscendingEdges};
+ghost use Rattle.control_deps.specs.ControlEdges.{control_edge};
+ghost use Rattle.dep_model.specs.EdgeOrder.{AreAscendingEdges};
 ghost use Rattle.dep_model.specs.FunctionVertices.{IsControlIn};
 ghost use Rattle.dep_model.specs.PairOrder.{AreAscending};
 ghost use Rattle.dep_model.specs.declared.edge.Edge.{Edge};
@@ -19,7 +20,7 @@ use dep_model::{
 use std::alloc::{AllocError, Global};
 
 /// The control edges of a function, ascending and each once: to a statement from each of its
-/// controllers, to a formal from the entry, and to an actual from its call.
+/// controllers, to a formal from the entry, and to an actual from its call. Err: no memory was left.
 pub fn edges(
     alloc: Global,
     p: &Program,

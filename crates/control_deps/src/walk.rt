@@ -1,6 +1,7 @@
 //! The control edges of statements, as pairs of vertices, by one walk down the tree.
 ghost use Rattle.std.specs.Prelude.{◌≡◌, [], ◌∷◌, ◌++◌, OnOk, IfOk, length};
 ghost use Rattle.dep_model.specs.Groups.{row};
+ghost use Rattle.dep_model.specs.Pairs.{pair};
 ghost use Rattle.control_deps.specs.Walk as spec;
 ghost use Rattle.control_deps.specs.Walk.{joined, walk, walks, walked_part, if_taken, arm_walks};
 
@@ -11,7 +12,7 @@ use std::alloc::{AllocError, Global};
 
 // Appends an edge.
 fn push_pair(out: &mut Vec<Pair>, from: u32, to: u32) -> Result<(), AllocError>
-    ensures { OnOk result (out.new.items ≡ out.old.items ++ spec.pair from to ∷ []) }
+    ensures { OnOk result (out.new.items ≡ out.old.items ++ pair from to ∷ []) }
 {
     out.push(Pair { from, to })?;
     Ok(())

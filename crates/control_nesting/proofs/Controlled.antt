@@ -2,11 +2,13 @@
 use Rattle.std.proofs.Common.{◌≡◌, ℕ, zero, suc, ◌+◌, ◌<◌, List, [], map, Bool, true, false, inl, inr, Some, None, slice_get, refl, sym, ap, subst, ◌∙◌, arith}
 use Rattle.std.specs.Prelude.{Contains}
 use Rattle.std.specs.List.{list_all, list_any}
+use Rattle.std.proofs.lemmas.Bool.{and_parts}
 use Rattle.bit_rows.specs.Sets.{has}
 use Rattle.c_tree.specs.declared.program.Function.{Function}
 use Rattle.c_tree.specs.declared.program.Program.{Program}
 use Rattle.c_tree.specs.declared.statement.Statement.{Statement}
 use Rattle.c_language.specs.Code.{code}
+use Rattle.c_language.proofs.Tests.{false_true}
 use Rattle.dep_model.specs.declared.edge.Edge.{Edge}
 use Rattle.dep_model.specs.declared.edge.Label.TheVariants.{Control}
 use Rattle.dep_model.specs.Controls.{Controls}
@@ -17,17 +19,16 @@ use Rattle.dep_model.specs.NumberedMains.{IsNumberedMain, doing_number}
 use Rattle.dep_model.proofs.MainVertexLemmas.{vertex_at, vertex_own}
 use Rattle.dep_model.proofs.Membership.{IsIn, in_map}
 use Rattle.dep_model.proofs.NumberedMain.{main_doings}
-use Rattle.control_deps.specs.Walk.{pair, walks}
+use Rattle.control_deps.specs.Walk.{walks}
 use Rattle.control_deps.proofs.CodeLaws.{IsControlled, controlled_of}
-use Rattle.control_deps.proofs.ControlLaws.{code_at}
 use Rattle.control_deps.proofs.StatementLaws.{walks_into}
 use Rattle.projection_laws.specs.Nested.{IsNested, any_own, any_inside, stands, stands_in}
-use Rattle.projection_laws.proofs.Options.{both_true}
 use Rattle.projection_laws.proofs.Reaching.{either_way}
 use Rattle.projection_laws.proofs.Standing.{standing_nested}
-use Rattle.c_scope_laws.proofs.Options.{false_true}
 use Rattle.control_nesting.specs.TakenArms.{TakesAll, takes_all}
 use Rattle.control_nesting.proofs.Standing.{own_vertex, IsDone, Nests, body_nests}
+use Rattle.dep_model.proofs.FunctionCode.{code_at}
+use Rattle.dep_model.specs.Pairs.{pair}
 
 from_below : (i n k : ℕ) → IsIn (from i n) k → k < i + n
 from_below i zero k h = absurd h
@@ -51,7 +52,7 @@ module _ (p : Program) (h : IsNumberedMain p) where
 
   main_takes : TakesAll p → list_all takes_all body ≡ true
   main_takes t =
-      (both_true (list_all takes_all body) true (subst (λ (fs : List Function). list_all (λ (f : Function). list_all takes_all f.body) fs ≡ true) h.integer.functions_are t)).0
+      (and_parts (list_all takes_all body) true (subst (λ (fs : List Function). list_all (λ (f : Function). list_all takes_all f.body) fs ≡ true) h.integer.functions_are t)).0
 
   main_stands : (outer inner : ℕ) → stands_in p outer inner ≡ true → any_inside (map stands body) outer inner ≡ true
   main_stands outer inner s =

@@ -2,24 +2,24 @@
 use Rattle.std.proofs.Common.{◌≡◌, ℕ, suc, ◌==◌, List, [], ◌∷◌, ◌++◌, map, Bool, true, false, ◌&&◌, ◌||◌, inl, inr, Some, None, refl, sym, ap, subst, ◌∙◌}
 use Rattle.std.specs.Prelude.{if◌then◌else◌}
 use Rattle.std.specs.List.{list_all}
-use Rattle.std.proofs.lemmas.Bool.{eqb-true}
+use Rattle.std.proofs.lemmas.Bool.{eqb-true, and_parts}
 use Rattle.c_tree.specs.declared.expr.Expr.{Expr}
 use Rattle.c_tree.specs.declared.statement.Label.{Label}
 use Rattle.c_tree.specs.declared.statement.Statement.{Statement, ind-Statement, roll-Statement, map-Statement, fold-roll-Statement}
 use Rattle.c_tree.specs.declared.statement.Statement.TheOpen.{Statement-F, Arm-F}
 use Rattle.c_tree.specs.declared.statement.Arm.{Arm, roll-Arm, map-Arm, fold-Arm, fold-roll-Arm}
 use Rattle.c_language.specs.Code.{Tests}
+use Rattle.c_language.proofs.Tests.{false_true}
 use Rattle.dep_model.specs.Doings.{Doing, Does, doing_step, doing_arm, doings, body_doings}
 use Rattle.dep_model.specs.Doings as done
 use Rattle.dep_model.specs.NumberedMains.{doing_number}
 use Rattle.dep_model.specs.SwitchArms.{has_first, with_labels}
 use Rattle.dep_model.proofs.Membership.{IsIn, in_first, in_second}
-use Rattle.control_deps.specs.Walk.{pair, joined, Walk, ArmWalk, all, all_taken, walk_step, arm_step, walk, arm_walk, walks}
+use Rattle.dep_model.specs.Pairs.{pair}
+use Rattle.control_deps.specs.Walk.{joined, Walk, ArmWalk, all, all_taken, walk_step, arm_step, walk, arm_walk, walks}
 use Rattle.control_deps.proofs.CodeLaws.{in_joined}
 use Rattle.projection_laws.specs.Nested.{Stands, any_own, any_inside, stands_step, stands_arm, stands}
-use Rattle.projection_laws.proofs.Options.{both_true}
 use Rattle.projection_laws.proofs.Reaching.{either_way}
-use Rattle.c_scope_laws.proofs.Options.{false_true}
 use Rattle.control_nesting.specs.TakenArms.{ArmTakes, both, arms_taken, takes_step, takes_arm, takes_all}
 
 -- a statement has one vertex, with the number behind its own
@@ -79,11 +79,11 @@ module _ (outer inner : ℕ) where
   two : (t u a b c e : Bool) (f g : Walk) (ds es : List Doing) → Nests t a c f ds → Nests u b e g es → Nests (t && u) (a || b) (c || e) (λ ks. f ks ++ g ks) (ds ++ es)
   two t u a b c e f g ds es x y = record {
     own_walked = λ h o ks k m. either_way a b o
-        (λ p. in_first (f ks) (g ks) (pair k (suc inner)) (x.own_walked (both_true t u h).0 p ks k m))
-        (λ p. in_second (f ks) (g ks) (pair k (suc inner)) (y.own_walked (both_true t u h).1 p ks k m));
+        (λ p. in_first (f ks) (g ks) (pair k (suc inner)) (x.own_walked (and_parts t u h).0 p ks k m))
+        (λ p. in_second (f ks) (g ks) (pair k (suc inner)) (y.own_walked (and_parts t u h).1 p ks k m));
     inside_walked = λ h o ks. either_way c e o
-        (λ p. in_first (f ks) (g ks) (pair (suc outer) (suc inner)) (x.inside_walked (both_true t u h).0 p ks))
-        (λ p. in_second (f ks) (g ks) (pair (suc outer) (suc inner)) (y.inside_walked (both_true t u h).1 p ks));
+        (λ p. in_first (f ks) (g ks) (pair (suc outer) (suc inner)) (x.inside_walked (and_parts t u h).0 p ks))
+        (λ p. in_second (f ks) (g ks) (pair (suc outer) (suc inner)) (y.inside_walked (and_parts t u h).1 p ks));
     own_done = λ o. either_way a b o (λ p. done_first ds es inner (x.own_done p)) (λ p. done_second ds es inner (y.own_done p));
     inside_done = λ o. either_way c e o
         (λ p. let w = x.inside_done p in (done_first ds es outer w.0, done_first ds es inner w.1))
@@ -97,12 +97,12 @@ module _ (outer inner : ℕ) where
   under d tests bodies all_tests one_body t a b f ds x = record {
     own_walked = λ h o ks k m. in_first (joined (tests ks) (own_vertex (doing_number d))) (f (bodies ks)) (pair k (suc inner)) (own_pair (doing_number d) (tests ks) k o (all_tests ks k m));
     inside_walked = λ h o ks. in_second (joined (tests ks) (own_vertex (doing_number d))) (f (bodies ks)) (pair (suc outer) (suc inner)) (either_way (doing_number d == outer && a) b o
-        (λ p. let w = both_true (doing_number d == outer) a p in
+        (λ p. let w = and_parts (doing_number d == outer) a p in
         subst (λ n. IsIn (f (bodies ks)) (pair (suc n) (suc inner))) (eqb-true (doing_number d) outer w.0) (x.own_walked h w.1 (bodies ks) (suc (doing_number d)) (one_body ks)))
         (λ p. x.inside_walked h p (bodies ks)));
     own_done = λ o. done_here d ds inner (eqb-true (doing_number d) inner o);
     inside_done = λ o. either_way (doing_number d == outer && a) b o
-        (λ p. let w = both_true (doing_number d == outer) a p in (done_here d ds outer (eqb-true (doing_number d) outer w.0), done_later d ds inner (x.own_done w.1)))
+        (λ p. let w = and_parts (doing_number d == outer) a p in (done_here d ds outer (eqb-true (doing_number d) outer w.0), done_later d ds inner (x.own_done w.1)))
         (λ p. let w = x.inside_done p in (done_later d ds outer w.0, done_later d ds inner w.1));
   }
 
@@ -113,18 +113,18 @@ module _ (outer inner : ℕ) where
   under_for d t u a b c e f g ds es x y = record {
     own_walked = λ h o ks k m. either_way (doing_number d == inner) a o
         (λ p. in_first (joined (ks ++ own) own) (f ks ++ g own) (pair k (suc inner)) (own_pair (doing_number d) (ks ++ own) k p (in_first ks own k m)))
-        (λ p. in_second (joined (ks ++ own) own) (f ks ++ g own) (pair k (suc inner)) (in_first (f ks) (g own) (pair k (suc inner)) (x.own_walked (both_true t u h).0 p ks k m)));
+        (λ p. in_second (joined (ks ++ own) own) (f ks ++ g own) (pair k (suc inner)) (in_first (f ks) (g own) (pair k (suc inner)) (x.own_walked (and_parts t u h).0 p ks k m)));
     inside_walked = λ h o ks. in_second (joined (ks ++ own) own) (f ks ++ g own) (pair (suc outer) (suc inner)) (either_way (doing_number d == outer && b) (c || e) o
-        (λ p. let w = both_true (doing_number d == outer) b p in
-        in_second (f ks) (g own) (pair (suc outer) (suc inner)) (subst (λ n. IsIn (g own) (pair (suc n) (suc inner))) (eqb-true (doing_number d) outer w.0) (y.own_walked (both_true t u h).1 w.1 own (suc (doing_number d)) (inl refl))))
+        (λ p. let w = and_parts (doing_number d == outer) b p in
+        in_second (f ks) (g own) (pair (suc outer) (suc inner)) (subst (λ n. IsIn (g own) (pair (suc n) (suc inner))) (eqb-true (doing_number d) outer w.0) (y.own_walked (and_parts t u h).1 w.1 own (suc (doing_number d)) (inl refl))))
         (λ r. either_way c e r
-        (λ p. in_first (f ks) (g own) (pair (suc outer) (suc inner)) (x.inside_walked (both_true t u h).0 p ks))
-        (λ p. in_second (f ks) (g own) (pair (suc outer) (suc inner)) (y.inside_walked (both_true t u h).1 p own))));
+        (λ p. in_first (f ks) (g own) (pair (suc outer) (suc inner)) (x.inside_walked (and_parts t u h).0 p ks))
+        (λ p. in_second (f ks) (g own) (pair (suc outer) (suc inner)) (y.inside_walked (and_parts t u h).1 p own))));
     own_done = λ o. either_way (doing_number d == inner) a o
         (λ p. done_here d (ds ++ es) inner (eqb-true (doing_number d) inner p))
         (λ p. done_later d (ds ++ es) inner (done_first ds es inner (x.own_done p)));
     inside_done = λ o. either_way (doing_number d == outer && b) (c || e) o
-        (λ p. let w = both_true (doing_number d == outer) b p in (done_here d (ds ++ es) outer (eqb-true (doing_number d) outer w.0), done_later d (ds ++ es) inner (done_second ds es inner (y.own_done w.1))))
+        (λ p. let w = and_parts (doing_number d == outer) b p in (done_here d (ds ++ es) outer (eqb-true (doing_number d) outer w.0), done_later d (ds ++ es) inner (done_second ds es inner (y.own_done w.1))))
         (λ r. either_way c e r
         (λ p. let w = x.inside_done p in (done_later d (ds ++ es) outer (done_first ds es outer w.0), done_later d (ds ++ es) inner (done_first ds es inner w.1)))
         (λ p. let w = y.inside_done p in (done_later d (ds ++ es) outer (done_second ds es outer w.0), done_later d (ds ++ es) inner (done_second ds es inner w.1))));

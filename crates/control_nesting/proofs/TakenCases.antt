@@ -3,6 +3,7 @@ use Rattle.std.proofs.Common.{◌≡◌, ℤ, List, [], ◌∷◌, ◌++◌, map
 use Rattle.std.specs.Prelude.{Contains, not}
 use Rattle.std.specs.Ordering.{int_eq}
 use Rattle.std.proofs.lemmas.Bool.Decides.{Decides-int_eq}
+use Rattle.std.proofs.lemmas.Bool.{or_left}
 use Rattle.c_arith.specs.declared.int_type.IntType.{IntType}
 use Rattle.c_arith.specs.IntType.{convert}
 use Rattle.c_tree.specs.declared.expr.Expr.{Expr}
@@ -17,10 +18,11 @@ use Rattle.c_language.specs.ConstantEvaluation.{value_of_constant}
 use Rattle.c_language.specs.ProgramOf.{collected, expr_of, label_tree}
 use Rattle.c_language.specs.Scopes.{Scope}
 use Rattle.c_language.specs.SwitchRules.{HasTwo, SameCase, BothDefault}
-use Rattle.c_scope_laws.proofs.Options.{some_same, false_true}
-use Rattle.c_scope_laws.proofs.Trees.{first_in, later_in}
+use Rattle.c_language.proofs.Options.{some_same}
+use Rattle.c_language.proofs.Tests.{false_true}
+use Rattle.c_language.proofs.Lists.{contains_first, contains_later}
 use Rattle.dep_model.specs.SwitchArms.{is_first, has_first, with_labels}
-use Rattle.projection_laws.proofs.Options.{map_there, then_there, more_there, left_or}
+use Rattle.projection_laws.proofs.Options.{map_there, then_there, more_there}
 use Rattle.control_nesting.proofs.TakenLabels.{has_label}
 
 untrue : (b : Bool) → (b ≡ true → ⊥) → not b ≡ true
@@ -38,18 +40,18 @@ module _ (t : IntType) where
   case_apart : (before : List Label) (a : RawExpr) (x : Expr) (v : ℤ) (rest : List RawLabel) → value_of_constant a ≡ Some v → Apart before (label.Case a ∷ rest) → Apart (tree.Case x (convert v t) ∷ before) rest
   case_apart before a x v rest is h = record {
     cases = λ z b w q c e s. by_test z b w c e s (int_eq (convert v t) z) refl q;
-    default_ = λ q c. h.default_ q (later_in (label.Case a) label.Default rest c);
+    default_ = λ q c. h.default_ q (contains_later (label.Case a) label.Default rest c);
     values = λ two. h.values (HasTwo.later two);
     defaults = λ two. h.defaults (HasTwo.later two);
   }
     where
       by_test : (z : ℤ) (b : RawExpr) (w : ℤ) → Contains rest (label.Case b) → value_of_constant b ≡ Some w → convert w t ≡ z → (y : Bool) → int_eq (convert v t) z ≡ y → (y || has_case z before) ≡ true → ⊥
       by_test z b w c e s true same q = h.values (HasTwo.first c (SameCase.same is e ((Decides-int_eq (convert v t) z).0 same ∙ sym s)))
-      by_test z b w c e s false other q = h.cases z b w q (later_in (label.Case a) (label.Case b) rest c) e s
+      by_test z b w c e s false other q = h.cases z b w q (contains_later (label.Case a) (label.Case b) rest c) e s
 
   default_apart : (before : List Label) (rest : List RawLabel) → Apart before (label.Default ∷ rest) → Apart (tree.Default ∷ before) rest
   default_apart before rest h = record {
-    cases = λ z b w q c e s. h.cases z b w q (later_in label.Default (label.Case b) rest c) e s;
+    cases = λ z b w q c e s. h.cases z b w q (contains_later label.Default (label.Case b) rest c) e s;
     default_ = λ q c. h.defaults (HasTwo.first c BothDefault.both);
     values = λ two. h.values (HasTwo.later two);
     defaults = λ two. h.defaults (HasTwo.later two);
@@ -61,10 +63,10 @@ module _ (t : IntType) where
         let x = then_there _ (expr_of raw scope a) y at in
         let v = map_there (λ (z : ℤ). tree.Case x.0 (convert z t)) (value_of_constant a) y x.1.1 in
         subst (λ (w : Label). (is_first before w ≡ true) × Apart (w ∷ before) rest) v.1.1
-        (untrue (has_case (convert v.0 t) before) (λ q. h.cases (convert v.0 t) a v.0 q (first_in (label.Case a) rest) v.1.0 refl), case_apart before a x.0 v.0 rest v.1.0 h)
+        (untrue (has_case (convert v.0 t) before) (λ q. h.cases (convert v.0 t) a v.0 q (contains_first (label.Case a) rest) v.1.0 refl), case_apart before a x.0 v.0 rest v.1.0 h)
     one_apart before label.Default rest y at h =
         subst (λ (w : Label). (is_first before w ≡ true) × Apart (w ∷ before) rest) (some_same at)
-        (untrue (has_default before) (λ q. h.default_ q (first_in label.Default rest)), default_apart before rest h)
+        (untrue (has_default before) (λ q. h.default_ q (contains_first label.Default rest)), default_apart before rest h)
 
     -- so are the labels behind those of an arm
     pub labels_apart : (before : List Label) (ls rest : List RawLabel) (ys : List Label) → collected (map (label_tree raw scope t) ls) ≡ Some ys → Apart before (ls ++ rest) → Apart (with_labels before ys) rest
@@ -80,4 +82,4 @@ module _ (t : IntType) where
     first_there before (l ∷ ls) rest ys some at h =
         let m = more_there (label_tree raw scope t l) (map (label_tree raw scope t) ls) ys at in
         let o = one_apart before l (ls ++ rest) m.first m.first_there h in
-        subst (λ (w : List Label). has_first before w ≡ true) m.same (left_or (is_first before m.first) (has_first (m.first ∷ before) m.rest) o.0)
+        subst (λ (w : List Label). has_first before w ≡ true) m.same (or_left (is_first before m.first) (has_first (m.first ∷ before) m.rest) o.0)

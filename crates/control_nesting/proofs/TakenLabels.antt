@@ -1,5 +1,6 @@
 -- In a text of the grammar each arm of a switch has a label.
 use Rattle.std.proofs.Common.{◌≡◌, ℕ, ◌&&◌, List, [], ◌∷◌, ◌++◌, map, Bool, true, false, Option, Some, None, refl, sym, ap, ◌∙◌}
+use Rattle.std.proofs.lemmas.Bool.{and_parts, and_from}
 use Rattle.c_arith.specs.declared.operators.BinaryOp.{BinaryOp}
 use Rattle.c_tree.specs.declared.raw.expr.RawExpr.{RawExpr}
 use Rattle.c_tree.specs.declared.raw.expr.RawType.{RawType}
@@ -21,7 +22,6 @@ use Rattle.c_language.specs.Words.{Bytes}
 use Rattle.c_language.specs.TokenForms.{Tokens}
 use Rattle.c_language.specs.StatementGrammar.{IsSeparated, IsSimple, IsDeclared, IsDeclaration, IsInit, IsStep, AreLabels, IsStatement, AreStatements, IsBody, IsElse, AreArms, arm}
 use Rattle.c_language.specs.ItemGrammar.{IsGlobal, IsItem, AreItems, IsProgram}
-use Rattle.projection_laws.proofs.Options.{both_true, and_true}
 use Rattle.control_nesting.specs.TakenArms.{both, if_there}
 
 -- a label is there
@@ -146,8 +146,8 @@ step_labelled (IsStep.simple h) = simple_labelled h
 append_labelled : (a b : List RawStatement) → are_labelled a ≡ true → are_labelled b ≡ true → are_labelled (a ++ b) ≡ true
 append_labelled [] b h k = k
 append_labelled (x ∷ a) b h k =
-    let w = both_true (labelled x) (are_labelled a) h in
-    and_true w.0 (append_labelled a b w.1 k)
+    let w = and_parts (labelled x) (are_labelled a) h in
+    and_from _ _ w.0 (append_labelled a b w.1 k)
 
 mutual
   statement_labelled : {ts rest : Tokens} {a : RawStatement} → IsStatement ts a rest → labelled a ≡ true
@@ -155,23 +155,23 @@ mutual
   statement_labelled IsStatement.returns = labelled-Return _ None
   statement_labelled (IsStatement.returns_value {a = a} h) = labelled-Return _ (Some a)
   statement_labelled (IsStatement.block h) = labelled-Block _ _ ∙ statements_labelled h
-  statement_labelled (IsStatement.conditional {yes = a} {other = b} h k j) = labelled-If _ _ _ _ ∙ and_true {a = are_labelled a} {b = are_labelled b} (body_labelled k) (else_labelled j)
+  statement_labelled (IsStatement.conditional {yes = a} {other = b} h k j) = labelled-If _ _ _ _ ∙ and_from (are_labelled a) (are_labelled b) (body_labelled k) (else_labelled j)
   statement_labelled (IsStatement.while_loop h k) = labelled-While _ _ _ ∙ body_labelled k
   statement_labelled (IsStatement.do_loop h k) = labelled-Do _ _ _ ∙ body_labelled h
   statement_labelled (IsStatement.for_loop {first = i} {step = x} {all = b} h k j g) =
-      labelled-For _ _ _ _ _ ∙ and_true {a = if_there (labelled_part i)} {b = if_there (labelled_part x) && are_labelled b} (init_labelled h) (and_true {a = if_there (labelled_part x)} {b = are_labelled b} (step_labelled j) (body_labelled g))
+      labelled-For _ _ _ _ _ ∙ and_from (if_there (labelled_part i)) (if_there (labelled_part x) && are_labelled b) (init_labelled h) (and_from (if_there (labelled_part x)) (are_labelled b) (step_labelled j) (body_labelled g))
   statement_labelled (IsStatement.switch h k) = labelled-Switch _ _ _ ∙ arms_labelled k
 
   statements_labelled : {ts rest : Tokens} {all : List RawStatement} → AreStatements ts all rest → are_labelled all ≡ true
   statements_labelled AreStatements.done = refl
   statements_labelled (AreStatements.empty h) = statements_labelled h
   statements_labelled (AreStatements.declared {some = a} {all = b} h k) = append_labelled a b (declaration_labelled h) (statements_labelled k)
-  statements_labelled (AreStatements.more {first = a} {all = b} h k) = and_true {a = labelled a} {b = are_labelled b} (statement_labelled h) (statements_labelled k)
+  statements_labelled (AreStatements.more {first = a} {all = b} h k) = and_from (labelled a) (are_labelled b) (statement_labelled h) (statements_labelled k)
 
   body_labelled : {ts rest : Tokens} {all : List RawStatement} → IsBody ts all rest → are_labelled all ≡ true
   body_labelled (IsBody.braces h) = statements_labelled h
   body_labelled IsBody.nothing = refl
-  body_labelled (IsBody.single {only = a} p h) = and_true {a = labelled a} {b = true} (statement_labelled h) refl
+  body_labelled (IsBody.single {only = a} p h) = and_from (labelled a) true (statement_labelled h) refl
 
   else_labelled : {ts rest : Tokens} {all : List RawStatement} → IsElse ts all rest → are_labelled all ≡ true
   else_labelled (IsElse.otherwise h) = body_labelled h
@@ -180,11 +180,11 @@ mutual
   arms_labelled : {ts rest : Tokens} {all : List RawArm} → AreArms ts all rest → both (map labelled_of_arm all) ≡ true
   arms_labelled AreArms.none = refl
   arms_labelled (AreArms.broken {labels} {body} {arms} h k j) =
-      and_true {a = labelled_of_arm (arm labels body)} {b = both (map labelled_of_arm arms)}
-      (labelled-arm labels body ∙ and_true {a = has_label labels} {b = are_labelled body} (labels_there h) (statements_labelled k)) (arms_labelled j)
+      and_from (labelled_of_arm (arm labels body)) (both (map labelled_of_arm arms))
+      (labelled-arm labels body ∙ and_from (has_label labels) (are_labelled body) (labels_there h) (statements_labelled k)) (arms_labelled j)
   arms_labelled (AreArms.unbroken {labels} {body} h p k) =
-      and_true {a = labelled_of_arm (arm labels body)} {b = true}
-      (labelled-arm labels body ∙ and_true {a = has_label labels} {b = are_labelled body} (labels_there h) (statements_labelled k)) refl
+      and_from (labelled_of_arm (arm labels body)) true
+      (labelled-arm labels body ∙ and_from (has_label labels) (are_labelled body) (labels_there h) (statements_labelled k)) refl
 
 -- ---- items
 

@@ -2,6 +2,7 @@
 use Rattle.std.proofs.Common.{◌≡◌, ℕ, List, [], ◌∷◌, ◌++◌, map, Bool, true, false, ◌&&◌, Option, Some, None, codes, refl, sym, ap, subst, ◌∙◌}
 use Rattle.std.specs.Prelude.{option_map, option_and_then, if◌then◌else◌, bytes_eq}
 use Rattle.std.specs.List.{list_all}
+use Rattle.std.proofs.lemmas.Bool.{and_parts, and_from}
 use Rattle.c_arith.specs.declared.int_type.IntType.{IntType}
 use Rattle.c_arith.specs.IntType.{promote}
 use Rattle.c_tree.specs.declared.types.CType.{CType}
@@ -30,24 +31,25 @@ use Rattle.c_language.specs.declared.expr_type.Operand.{Operand}
 use Rattle.c_language.specs.Scopes.{Scope, opened, numbered, entered, outset, Scoped, in_order, part_gives, after_part, scope_of_test, with_target}
 use Rattle.c_language.specs.Phrases.{Stand, InBlock, InArm, InFor, Switches, Phrases, joined_at, at_stand, ArmText, labels_of, phrases_of_arms, block_phrases, phrases_step, scoped_step, scoped_arm, scoped, scoped_of_arm, body_phrases, head_phrases, item_phrases, items_phrases, after_item, phrases}
 use Rattle.c_language.specs.ProgramOf as trees_of
-use Rattle.c_language.specs.ProgramOf.{collected, optional, expr_of, args_tree, only_tree, call_tree, ctype_if, ArmTree, arm_tree, at_type, part_tree, block_tree, tree_step, treed_step, arm_tree_step, treed, target_tree, switch_type, label_tree, body_of, function_tree, functions_from, parameter_ids, amount_tree}
+use Rattle.c_language.specs.ProgramOf.{collected, expr_of, args_tree, only_tree, call_tree, ctype_if, ArmTree, arm_tree, at_type, part_tree, block_tree, tree_step, treed_step, arm_tree_step, treed, target_tree, switch_type, label_tree, body_of, function_tree, functions_from, parameter_ids, amount_tree}
 use Rattle.c_language.specs.TypeGrammar.{named_type}
 use Rattle.c_language.specs.Programs.{IsTree, HasProgram}
 use Rattle.c_language.specs.Rules.{Breaks, IsBroken}
 use Rattle.c_language.specs.SwitchRules.{HasTwo, SameCase, MisusesSwitch}
 use Rattle.built_forms.proofs.Kept.{AreKept, kept_from}
 use Rattle.built_forms.proofs.Options.{Always, always_map, always_then, always_both, always_is}
-use Rattle.c_scope_laws.proofs.Options.{none_there, some_same, false_true}
-use Rattle.c_scope_laws.proofs.TreeForms.{treed_arm}
-use Rattle.c_scope_laws.proofs.TreeScopes.{after_same, list_after, block_after_same, part_after}
 use Rattle.c_scope_laws.specs.Thinning.{block_after, part_scope, body_scope}
-use Rattle.projection_laws.proofs.Options.{map_there, then_there, both_there, more_there, both_true, and_true}
+use Rattle.projection_laws.proofs.Options.{map_there, then_there, both_there, more_there}
 use Rattle.control_nesting.specs.Laws.{TextsTakeAll}
 use Rattle.control_nesting.specs.TakenArms.{both, if_there, ArmTakes, arms_taken, takes_all, TakesAll}
 use Rattle.control_nesting.proofs.TakenForms.{arm_takes, takes-Declare, takes-Assign, takes-Bump, takes-Invoke, takes-Fetch, takes-Write, takes-Print, takes-Heap, takes-Release, takes-If, takes-While, takes-Do, takes-For, takes-Switch, takes-Block, takes-Return, takes-arm}
 use Rattle.control_nesting.proofs.TakenLabels.{has_label, labelled_step, labelled_arm, labelled, labelled_of_arm, are_labelled, AreLabelled, program_labelled}
 use Rattle.control_nesting.proofs.TakenCases.{Apart, labels_apart, first_there}
 use Rattle.c_language.specs.ConstantEvaluation as constants
+use Rattle.c_language.proofs.TreedForms.{treed_arm}
+use Rattle.c_language.proofs.Options.{some_same, optional_there}
+use Rattle.c_language.proofs.Tests.{false_true}
+use Rattle.c_language.proofs.TreeScopes.{after_same, list_after, block_after_same, part_after}
 
 abbrev IsTaken : Statement → Type 0
 IsTaken z = takes_all z ≡ true
@@ -148,9 +150,9 @@ module _ (raw : RawProgram) where
       let next = (scoped raw x.0).after scope in
       let m = more_there ((treed raw x.0).gives scope) (in_order (map (treed raw) (bare xs)) ((treed raw x.0).after scope)) zs at in
       let rest = joined_at stand (in_order (map (scoped raw) (bare xs)) next) in
-      let w = both_true (labelled x.0) (are_labelled (bare xs)) f in
+      let w = and_parts (labelled x.0) (are_labelled (bare xs)) f in
       subst AreTaken m.same
-      (and_true {a = takes_all m.first} {b = both (map takes_all m.rest)} (x.1 scope stand m.first m.first_there w.0 (kept_left ((scoped raw x.0).gives scope stand) rest g))
+      (and_from (takes_all m.first) (both (map takes_all m.rest)) (x.1 scope stand m.first m.first_there w.0 (kept_left ((scoped raw x.0).gives scope stand) rest g))
       (lists xs next stand m.rest (ap (λ (z : Scope). collected (in_order (map (treed raw) (bare xs)) z)) (sym (after_same raw x.0 scope)) ∙ m.rest_there) w.1 (kept_right ((scoped raw x.0).gives scope stand) rest g)))
 
   arms_lists : (xs : Arms) (scope : Scope) (i : IntType) (before : List Label) (zs : List Arm) → at_type i (in_order (map (treed_arm raw) (bare_arms xs)) scope) ≡ Some zs → both (map labelled_of_arm (bare_arms xs)) ≡ true
@@ -161,18 +163,14 @@ module _ (raw : RawProgram) where
       let m = more_there ((treed_arm raw x.0).gives scope i) (map (λ (a : ArmTree). a i) (in_order (map (treed_arm raw) (bare_arms xs)) ((treed_arm raw x.0).after scope))) zs at in
       let rest = phrases_of_arms (in_order (map (scoped_of_arm raw) (bare_arms xs)) next) in
       let others = labels_of (in_order (map (scoped_of_arm raw) (bare_arms xs)) next) in
-      let w = both_true (labelled_of_arm x.0) (both (map labelled_of_arm (bare_arms xs))) f in
+      let w = and_parts (labelled_of_arm x.0) (both (map labelled_of_arm (bare_arms xs))) f in
       let d : IsArm scope i x.0 m.first = x.1 scope i m.first m.first_there w.0 (kept_left ((scoped_of_arm raw x.0).gives scope).phrases rest g) in
       let apart : Apart i before (d.labels ++ others) = subst (λ (ls : List RawLabel). Apart i before (ls ++ others)) d.own h in
       let later = arms_lists xs next i _ m.rest (ap (λ (z : Scope). at_type i (in_order (map (treed_arm raw) (bare_arms xs)) z)) (sym d.after) ∙ m.rest_there) w.1
       (kept_right ((scoped_of_arm raw x.0).gives scope).phrases rest g) (labels_apart i raw scope before d.labels others d.given d.tree apart) in
       subst (λ (u : List Arm). arms_taken before (map arm_takes u) ≡ true) m.same
       (subst (λ (u : ArmTakes). arms_taken before (u ∷ map arm_takes m.rest) ≡ true) (sym d.value)
-      (and_true (first_there i raw scope before d.labels others d.given d.some d.tree apart) later))
-
-  optional_there : {A : Type 0} (o : Option A) (z : Option A) → optional (Some o) ≡ Some z → (y : A) × ((o ≡ Some y) × (Some y ≡ z))
-  optional_there None z h = none_there h
-  optional_there (Some y) z h = (y, (refl, some_same h))
+      (and_from _ _ (first_there i raw scope before d.labels others d.given d.some d.tree apart) later))
 
   parts : (x : Piece) (scope : Scope) (stand : Stand) (z : Option Statement) → part_tree (option_map (treed raw) (bare_part x)) scope ≡ Some z → if_there (option_map labelled (bare_part x)) ≡ true
       → AreKept raw (at_stand stand (part_gives (option_map (scoped raw) (bare_part x)) scope)) → if_there (option_map takes_all z) ≡ true
@@ -195,16 +193,16 @@ module _ (raw : RawProgram) where
       let p = then_there _ (part_tree (option_map (treed raw) (bare_part i)) start) z at in
       let q = then_there _ (expr_of raw (scope_of_test (option_map (treed raw) (bare_part i)) scope) a) z p.1.1 in
       let r = both_there (t.For scope.statements l p.0 q.0) _ _ z q.1.1 in
-      let f1 = both_true (if_there (option_map labelled (bare_part i))) _ f in
-      let f2 = both_true (if_there (option_map labelled (bare_part step))) (are_labelled (bare b)) f1.1 in
+      let f1 = and_parts (if_there (option_map labelled (bare_part i))) _ f in
+      let f2 = and_parts (if_there (option_map labelled (bare_part step))) (are_labelled (bare b)) f1.1 in
       let first_phrases = at_stand InFor (part_gives (option_map (scoped raw) (bare_part i)) start) in
       let step_phrases = at_stand InBlock (part_gives (option_map (scoped raw) (bare_part step)) test) in
       let own_phrases = block_phrases (map (scoped raw) (bare b)) inside in
       let g2 = (kept_right first_phrases _ g).1 in
       subst IsTaken r.same
       (takes-For scope.statements l p.0 q.0 r.first r.second
-      ∙ and_true {a = if_there (option_map takes_all p.0)} {b = if_there (option_map takes_all r.first) && both (map takes_all r.second)} (parts i start InFor p.0 p.1.0 f1.0 (kept_left first_phrases _ g))
-      (and_true {a = if_there (option_map takes_all r.first)} {b = both (map takes_all r.second)}
+      ∙ and_from (if_there (option_map takes_all p.0)) (if_there (option_map takes_all r.first) && both (map takes_all r.second)) (parts i start InFor p.0 p.1.0 f1.0 (kept_left first_phrases _ g))
+      (and_from (if_there (option_map takes_all r.first)) (both (map takes_all r.second))
       (parts step test InBlock r.first (ap (part_tree (option_map (treed raw) (bare_part step))) (sym to_test) ∙ r.first_there) f2.0 (kept_left step_phrases own_phrases g2))
       (lists b (opened inside) InBlock r.second (ap (block_tree (map (treed raw) (bare b))) (sym to_body) ∙ r.second_there) f2.1 (kept_right step_phrases own_phrases g2))))
 
@@ -228,10 +226,10 @@ module _ (raw : RawProgram) where
       let o = both_there (t.If scope.statements l m.0) _ _ z m.1.1 in
       let first_phrases = block_phrases (map (scoped raw) (bare x)) (numbered scope) in
       let rest = block_phrases (map (scoped raw) (bare y)) between in
-      let w = both_true (are_labelled (bare x)) (are_labelled (bare y)) f in
+      let w = and_parts (are_labelled (bare x)) (are_labelled (bare y)) f in
       subst IsTaken o.same
       (takes-If scope.statements l m.0 o.first o.second
-      ∙ and_true {a = both (map takes_all o.first)} {b = both (map takes_all o.second)} (lists x (opened (numbered scope)) InBlock o.first o.first_there w.0 (kept_left first_phrases rest g.1))
+      ∙ and_from (both (map takes_all o.first)) (both (map takes_all o.second)) (lists x (opened (numbered scope)) InBlock o.first o.first_there w.0 (kept_left first_phrases rest g.1))
       (lists y (opened between) InBlock o.second (ap (block_tree (map (treed raw) (bare y))) (sym (block_after_same raw (bare x) (numbered scope))) ∙ o.second_there) w.1 (kept_right first_phrases rest g.1)))
   of_layer (RawStatement-F.While l a x) scope stand z at f g =
       let o = both_there (t.While scope.statements l) (expr_of raw scope a) _ z at in
@@ -272,7 +270,7 @@ module _ (raw : RawProgram) where
       let tree_is = fold-roll-RawArm (Scoped (Option Statement)) (Scoped ArmTree) (treed_step raw) (arm_tree_step raw) (arm_shape y) in
       let text_is = fold-roll-RawArm (Scoped (Stand → Phrases)) (Scoped ArmText) (scoped_step raw) scoped_arm (arm_shape y) in
       let m = both_there arm_tree (collected (map (label_tree raw scope i) y.labels)) (collected (in_order (map (treed raw) (bare y.body)) scope)) z (sym (ap (λ (u : Scoped ArmTree). u.gives scope i) tree_is) ∙ at) in
-      let w = both_true (has_label y.labels) (are_labelled (bare y.body)) (sym (fold-roll-RawArm Bool Bool labelled_step labelled_arm (arm_shape y)) ∙ f) in
+      let w = and_parts (has_label y.labels) (are_labelled (bare y.body)) (sym (fold-roll-RawArm Bool Bool labelled_step labelled_arm (arm_shape y)) ∙ f) in
       let good = subst (λ (u : Scoped ArmText). AreKept raw (u.gives scope).phrases) text_is g in
       let inside : AreTaken m.second = lists y.body scope InArm m.second m.second_there w.1 good in
       record {
@@ -295,10 +293,10 @@ module _ (raw : RawProgram) where
   body_taken (x ∷ xs) scope zs at f g =
       let next = (scoped raw x).after scope in
       let m = more_there ((treed raw x).gives scope) (in_order (map (treed raw) xs) ((treed raw x).after scope)) zs at in
-      let w = both_true (labelled x) (are_labelled xs) f in
+      let w = and_parts (labelled x) (are_labelled xs) f in
       let own = (scoped raw x).gives scope InBlock in
       subst (λ (u : List Statement). list_all takes_all u ≡ true) m.same
-      (and_true {a = takes_all m.first} {b = list_all takes_all m.rest} (statement_taken x scope InBlock m.first m.first_there w.0 (kept_left own (body_phrases raw xs next) g))
+      (and_from (takes_all m.first) (list_all takes_all m.rest) (statement_taken x scope InBlock m.first m.first_there w.0 (kept_left own (body_phrases raw xs next) g))
       (body_taken xs next m.rest (ap (λ (z : Scope). collected (in_order (map (treed raw) xs) z)) (sym (after_same raw x scope)) ∙ m.rest_there) w.1 (kept_right own (body_phrases raw xs next) g)))
 
   abbrev all_taken : List Function → Bool
@@ -328,7 +326,7 @@ module _ (raw : RawProgram) where
       let whole = kept_left (item_phrases raw (Define l head body) scope) (items_phrases raw xs next) g in
       let own = kept_left (body_phrases raw body inside) _ (kept_right (head_phrases raw head.params _) _ whole.1) in
       subst (λ (w : List Function). all_taken w ≡ true) m.same
-      (and_true {a = list_all takes_all m.first.body} {b = all_taken m.rest} (subst (λ (h : Function). list_all takes_all h.body ≡ true) d.same (body_taken body inside d.second d.second_there f.0 own))
+      (and_from (list_all takes_all m.first.body) (all_taken m.rest) (subst (λ (h : Function). list_all takes_all h.body ≡ true) d.same (body_taken body inside d.second d.second_there f.0 own))
       (items_taken xs next m.rest m.rest_there f.1 (kept_right (item_phrases raw (Define l head body) scope) (items_phrases raw xs next) g)))
 
 -- in the program of any text of the grammar that keeps all rules each arm of a switch is taken

@@ -12,7 +12,8 @@ pub fn standing_is_controlled()
     ensures { StandingIsControlled }
 {}
 
-/// A law: so a set of vertices that has the controllers of its members is nested.
+/// A law: where each arm of each switch is taken, a set of vertices that has the controllers of its members
+/// is nested: each if, loop and switch is kept in which something kept stands.
 pub fn closed_is_nested()
     ensures { ClosedIsNested }
 {}
@@ -23,7 +24,7 @@ pub fn texts_take_all()
     ensures { TextsTakeAll }
 {}
 
-/// A law: and so in a well-formed program.
+/// A law: in a well-formed program each arm of a switch is taken.
 pub fn well_formed_takes_all()
     ensures { WellFormedTakesAll }
 {}

@@ -7,14 +7,15 @@ use Rattle.bit_rows.specs.Sets.{has}
 use Rattle.dep_model.specs.declared.edge.Edge.{Edge}
 use Rattle.dep_model.specs.declared.edge.Label.{Label}
 use Rattle.dep_model.specs.declared.edge.Label.TheVariants.{Control, Flow, Call, In, Out}
-use Rattle.dep_model.specs.declared.closure.Rule.{Rule}
-use Rattle.dep_model.specs.Rules.{Derived, Holds, IsRuleWithin, back}
-use Rattle.dep_model.specs.Rules as rules_
+use Rattle.rule_closure.specs.declared.closure.Rule.{Rule}
+use Rattle.rule_closure.specs.Rules.{Derived, Holds, IsRuleWithin}
+use Rattle.dep_model.specs.Plain.{back}
+use Rattle.rule_closure.specs.Rules as rules_
 use Rattle.dep_model.specs.Words.{IsPlain, IsEdgeWithin}
 use Rattle.dep_model.specs.Completion.{IsClosed, IsCompletion, Completed, seed, control, flow, formal_out, callee, actual_in, parameter, entry, NamesNone}
-use Rattle.dep_model.proofs.ListLemmas.{contains_none, contains_head, contains_cons, contains_map, map_contains}
-use Rattle.dep_model.proofs.SetLemmas.{has_in_range, has_set, has_set_same, has_set_cases, same_members}
-use Rattle.dep_model.proofs.RuleLemmas.{derived_set}
+use Rattle.rule_closure.proofs.ListLemmas.{contains_none, contains_head, contains_cons, contains_map, map_contains}
+use Rattle.rule_closure.proofs.SetLemmas.{has_in_range, has_set, has_set_same, has_set_cases, same_members}
+use Rattle.rule_closure.proofs.RuleLemmas.{derived_set}
 use Rattle.dep_model.proofs.WordLemmas.{plain_label}
 
 module _ (edges : List Edge) (Names : ℕ → ℕ → Type 0) (main : ℕ) where

@@ -18,7 +18,7 @@ use Rattle.dep_model.specs.IntegerEffects.{variables_read, variables_set, variab
 use Rattle.dep_model.specs.Locations.{same_location}
 use Rattle.dep_model.specs.MayPoint.{Pointing, pointing, act_pointings}
 use Rattle.dep_model.proofs.BoolLemmas.{or_none, or_true, or_both}
-use Rattle.dep_model.proofs.ListLemmas.{contains_none, contains_cases}
+use Rattle.rule_closure.proofs.ListLemmas.{contains_none, contains_cases}
 use Rattle.dep_model.proofs.IntegerExprs.{AreIntegers, any_append, ReadsItsVariables, NamesItsVariable, integer_reads, name_sets}
 
 -- an act of an integer main

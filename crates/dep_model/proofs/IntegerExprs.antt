@@ -16,11 +16,11 @@ use Rattle.c_language.specs.declared.expr_type.ExprType.{ExprType}
 use Rattle.c_language.specs.DeclaredTypes.{integer}
 use Rattle.c_language.specs.ExprTypes.{is_scalar, is_array, is_pointer}
 use Rattle.c_language.specs.ConstantEvaluation.{operand_type}
+use Rattle.c_language.specs.TreeTypes.{variable_type, int_type, binary_tree_type, chosen_type}
 use Rattle.built_forms.specs.IntegerForms as forms
 use Rattle.built_forms.specs.IntegerForms.{is_name, is_integer, integer_step}
 use Rattle.dep_model.specs.declared.location.Location.{Location}
 use Rattle.dep_model.specs.declared.location.Part.TheVariants as part
-use Rattle.dep_model.specs.TreeTypes.{variable_type, int_type, binary_tree_type, chosen_type}
 use Rattle.dep_model.specs.Designated.{Designated, designated, designated_step, value_takes}
 use Rattle.dep_model.specs.Denoted.{PointsTo, Denoted, whole, part_of, targets, denoted, denoted_step, value_reads, value_points}
 use Rattle.dep_model.specs.DoingEffects.{is_killable, named_kills}

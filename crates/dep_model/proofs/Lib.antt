@@ -1,21 +1,18 @@
-mod Marking
 pub mod BoolLemmas
 pub mod CompletionLemmas
 pub mod DoingForms
-pub mod FollowsBelow
 pub mod FollowsLemmas
+pub mod FunctionCode
 pub mod Grown
 pub mod IntegerActs
 pub mod IntegerExprs
 pub mod IntegerStatements
-pub mod ListLemmas
 pub mod MainVertexLemmas
 pub mod MayPointLaws
 pub mod Membership
 pub mod NamesBelow
-pub mod NumberedFrom
 pub mod NumberedEdges
-pub mod NumberedGraph
+pub mod NumberedFrom
 pub mod NumberedLocations
 pub mod NumberedMain
 pub mod OneAnalysis
@@ -28,8 +25,6 @@ pub mod PlainFlow
 pub mod PlainOrder
 pub mod PlainSteps
 pub mod RowLemmas
-pub mod RuleLemmas
-pub mod SetLemmas
 pub mod SwitchLaws
 pub mod SwitchLemmas
 pub mod TextNumbers

@@ -9,7 +9,7 @@ use Rattle.dep_model.specs.declared.vertex.VertexKind.{VertexKind}
 use Rattle.dep_model.specs.declared.vertex.VertexKind.TheVariants.{Entry, Statement}
 use Rattle.dep_model.specs.FunctionVertices.{is_own, is_actual, is_entry, is_formal_in, is_formal_out, passes, numbers_from, numbers, vertices_at}
 use Rattle.dep_model.specs.MainVertices.{from, vertices}
-use Rattle.dep_model.proofs.ListLemmas.{contains_head}
+use Rattle.rule_closure.proofs.ListLemmas.{contains_head}
 use Rattle.dep_model.proofs.VertexNumbers.{numbers_pass, passes_numbers}
 use Rattle.dep_model.specs.VertexOrder.{in_function}
 

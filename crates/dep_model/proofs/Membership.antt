@@ -1,6 +1,6 @@
 -- Members of lists, one element after another.
-use Rattle.std.proofs.Common.{◌≡◌, ℕ, zero, suc, ◌<◌, List, [], ◌∷◌, ◌++◌, ◌⊎◌, inl, inr, length, map, arith, refl, sym, ap, ◌∙◌}
-use Rattle.std.specs.Prelude.{Contains}
+use Rattle.std.proofs.Common.{◌≡◌, zero, suc, List, [], ◌∷◌, ◌++◌, ◌⊎◌, inl, inr, map, arith, refl, ap, Bool, true, false, sym, subst}
+use Rattle.std.specs.Prelude.{Contains, if◌then◌else◌}
 
 abbrev pub IsIn : {A : Type 0} → List A → A → Type 0
 IsIn [] x = ⊥
@@ -29,6 +29,13 @@ pub in_either : {A : Type 0} (xs ys : List A) (x : A) → IsIn (xs ++ ys) x → 
 in_either [] ys x h = inr h
 in_either (y ∷ xs) ys x (inl e) = inl (inl e)
 in_either (y ∷ xs) ys x (inr h) = elim (in_either xs ys x h) [ inl t ↦ inl (inr t) | inr t ↦ inr t ]
+
+pub if_in : {A : Type 0} (b : Bool) (xs : List A) (x : A) → IsIn (if b then xs else []) x → (b ≡ true) × IsIn xs x
+if_in true xs x h = (refl, h)
+if_in false xs x h = absurd h
+
+pub in_if : {A : Type 0} (b : Bool) (xs : List A) (x : A) → b ≡ true → IsIn xs x → IsIn (if b then xs else []) x
+in_if b xs x e h = subst (λ t. IsIn (if t then xs else []) x) (sym e) h
 
 pub in_map : {A B : Type 0} (f : A → B) (xs : List A) (x : A) → IsIn xs x → IsIn (map f xs) (f x)
 in_map f [] x h = absurd h

@@ -24,7 +24,7 @@ use Rattle.dep_model.specs.ModRef.{FunctionEffects, AreFunctionEffects}
 use Rattle.dep_model.specs.NumberedMains.{doing_number, IsNumberedMain}
 use Rattle.dep_model.specs.SystemGraph.{Analysis, IsAnalysis, vertices_of, numbered_effects, IsFlowIn, IsCallEdge, call, in_, out, IsSystemEdge, control, flow, between, AreSystemEdges}
 use Rattle.dep_model.specs.VertexOrder.{slots_from, arguments_from, touched, result_slots, formal_ins, formal_outs, all_vertices, function_kinds, in_function, vertices_from}
-use Rattle.dep_model.proofs.ListLemmas.{contains_head, contains_cons}
+use Rattle.rule_closure.proofs.ListLemmas.{contains_head, contains_cons}
 use Rattle.dep_model.proofs.MainVertexLemmas.{own_vertex, entry_vertex, no_others, no_formal_in, no_formal_out}
 use Rattle.dep_model.proofs.IntegerActs.{is_integer_act, all_integer}
 use Rattle.dep_model.proofs.NumberedMain.{all_are, other_code, no_calls, modifies_none, uses_none}

@@ -13,11 +13,11 @@ use Rattle.c_tree.specs.declared.types.CType.TheVariants as type
 use Rattle.c_language.specs.declared.expr_type.ExprType.{ExprType}
 use Rattle.c_language.specs.Code.{Act, Begins, Sets, Bumps, Fetches, Writes, Prints, Allocates, Frees, Returns, Tests}
 use Rattle.c_language.specs.DeclaredTypes.{integer}
+use Rattle.c_language.specs.TreeTypes.{shape_of, shape_step}
 use Rattle.built_forms.specs.IntegerForms.{IsIntegerLocal}
 use Rattle.dep_model.specs.declared.location.Location.{Location}
 use Rattle.dep_model.specs.declared.location.Root.{Root}
 use Rattle.dep_model.specs.declared.location.Root.TheVariants.{Variable, Result}
-use Rattle.dep_model.specs.TreeTypes.{shape_of, shape_step}
 use Rattle.dep_model.specs.Denoted.{variable}
 use Rattle.dep_model.specs.Doings.{Doing, Does, Calls, body_doings}
 use Rattle.dep_model.specs.DoingEffects.{result_of, the_input}

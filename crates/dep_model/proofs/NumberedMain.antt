@@ -20,11 +20,11 @@ use Rattle.c_tree.specs.declared.types.CType.TheVariants as type
 use Rattle.c_language.specs.declared.expr_type.ExprType.{ExprType}
 use Rattle.c_language.specs.Code.{Act, End, code}
 use Rattle.c_language.specs.DeclaredTypes.{integer}
+use Rattle.c_language.specs.TreeTypes.{shape_of, shape_step}
 use Rattle.built_forms.specs.IntegerForms.{IsPlainItem, include, main, IsIntegerLocal, IsIntegerMain}
 use Rattle.dep_model.specs.declared.location.Location.{Location}
 use Rattle.dep_model.specs.declared.location.Root.{Root}
 use Rattle.dep_model.specs.declared.location.Root.TheVariants.{Input, Variable, Site, Result}
-use Rattle.dep_model.specs.TreeTypes.{shape_of, shape_step}
 use Rattle.dep_model.specs.Denoted.{PointsTo, whole}
 use Rattle.dep_model.specs.Doings.{Doing, Does, Calls, body_doings, doings_of}
 use Rattle.dep_model.specs.DoingEffects.{result_of, is_taken, function_takes, doing_takes, doing_uses, doing_defines}
@@ -35,7 +35,7 @@ use Rattle.dep_model.specs.MayPoint.{Pointing, doing_pointings, item_pointings, 
 use Rattle.dep_model.specs.ModRef.{is_outside_root, is_outside, Modifies, MayUse}
 use Rattle.dep_model.specs.SystemGraph.{Analysis, IsAnalysis}
 use Rattle.dep_model.proofs.BoolLemmas.{or_none}
-use Rattle.dep_model.proofs.ListLemmas.{contains_none, contains_cases}
+use Rattle.rule_closure.proofs.ListLemmas.{contains_none, contains_cases}
 use Rattle.dep_model.proofs.WholeVariables.{IsInVariable, in_variable, whole_is}
 use Rattle.dep_model.proofs.IntegerExprs.{AreIntegers}
 use Rattle.dep_model.proofs.IntegerActs.{is_integer_act, is_integer_doing, all_integer, ActsOnVariables, integer_act}

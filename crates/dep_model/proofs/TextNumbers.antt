@@ -27,7 +27,8 @@ use Rattle.c_language.specs.DeclaredTypes.{function_id}
 use Rattle.c_language.specs.ProgramOf.{collected, optional, ctype_if, expr_of, init_of, declaration_id, target_tree, args_tree, only_tree, amount_tree, call_tree, label_tree, arm_tree, ArmTree, arm_tree_step, block_tree, at_type, switch_type, part_tree, for_tree, treed_step, treed, body_of}
 use Rattle.c_language.specs.Scopes.{Scope, Scoped, opened, numbered, with_variable, with_target, begun, in_order, after_all, after_block}
 use Rattle.c_language.specs.TypeGrammar.{named_type}
-use Rattle.built_forms.proofs.Options.{none_some, same_some, then_some, map_some, both_some, Always, always_map, always_then, always_both, always_is, collected_some}
+use Rattle.c_language.proofs.Options.{none_there, some_same, map_some}
+use Rattle.built_forms.proofs.Options.{then_some, both_some, Always, always_map, always_then, always_both, always_is, collected_some}
 use Rattle.dep_model.specs.Doings.{Doing, Does, doings, body_doings}
 use Rattle.dep_model.specs.MainVertices.{from}
 use Rattle.dep_model.specs.NumberedMains.{doing_number}
@@ -122,7 +123,7 @@ module _ (raw : RawProgram) where
   -- ---- lists
 
   list_takes : (ks : List Known) (scope : Scope) (xs : List Statement) → collected (in_order (trees ks) scope) ≡ Some xs → Takes (body_doings xs) scope.statements (after_all (trees ks) scope).statements
-  list_takes [] scope xs e = subst (λ ys. Takes (body_doings ys) scope.statements scope.statements) (same_some e) (takes_none scope.statements)
+  list_takes [] scope xs e = subst (λ ys. Takes (body_doings ys) scope.statements scope.statements) (some_same e) (takes_none scope.statements)
   list_takes (one ∷ ks) scope xs e =
       let t = treed raw one.0 in
       let m = collected_some (t.gives scope) (in_order (trees ks) (t.after scope)) xs e in
@@ -130,7 +131,7 @@ module _ (raw : RawProgram) where
       (takes_both (doings m.0) (body_doings m.1) scope.statements (t.after scope).statements (after_all (trees ks) (t.after scope)).statements (one.1 scope m.0 m.2) (list_takes ks (t.after scope) m.1 m.3))
 
   arms_take : (ks : List KnownArm) (scope : Scope) (k : IntType) (as_ : List Arm) → at_type k (in_order (arm_trees ks) scope) ≡ Some as_ → Takes (arms_doings as_) scope.statements (after_all (arm_trees ks) scope).statements
-  arms_take [] scope k as_ e = subst (λ ys. Takes (arms_doings ys) scope.statements scope.statements) (same_some e) (takes_none scope.statements)
+  arms_take [] scope k as_ e = subst (λ ys. Takes (arms_doings ys) scope.statements scope.statements) (some_same e) (takes_none scope.statements)
   arms_take (one ∷ ks) scope k as_ e =
       let t = of_arm one.0 in
       let m = collected_some (t.gives scope k) (map (λ (a : ArmTree). a k) (in_order (arm_trees ks) (t.after scope))) as_ e in
@@ -192,7 +193,7 @@ module _ (raw : RawProgram) where
       (a.0, c.0, d.0, d.1, a.1, d.2, d.3, d.4)
 
   none_takes : (scope : Scope) (x : Option Statement) → Some None ≡ Some x → Takes (part_doings x) scope.statements scope.statements
-  none_takes scope x e = subst (λ y. Takes (part_doings y) scope.statements scope.statements) (same_some e) (takes_none scope.statements)
+  none_takes scope x e = subst (λ y. Takes (part_doings y) scope.statements scope.statements) (some_same e) (takes_none scope.statements)
 
   some_takes : (one : Known) (scope : Scope) (x : Option Statement) → part_tree (Some (treed raw one.0)) scope ≡ Some x → Takes (part_doings x) scope.statements ((treed raw one.0).after scope).statements
   some_takes one scope x e = by_value ((treed raw one.0).gives scope) refl e
@@ -201,8 +202,8 @@ module _ (raw : RawProgram) where
       by_value o is h = given o is (sym (ap (λ (z : Option Statement). optional (Some z)) is) ∙ h)
         where
           given : (o : Option Statement) → (treed raw one.0).gives scope ≡ o → optional (Some o) ≡ Some x → Takes (part_doings x) scope.statements ((treed raw one.0).after scope).statements
-          given None is h = absurd (none_some h)
-          given (Some y) is h = subst (λ z. Takes (part_doings z) scope.statements ((treed raw one.0).after scope).statements) (same_some h) (one.1 scope y is)
+          given None is h = none_there h
+          given (Some y) is h = subst (λ z. Takes (part_doings z) scope.statements ((treed raw one.0).after scope).statements) (some_same h) (one.1 scope y is)
 
   layer_case : (y : RawStatement-F Known KnownArm) → Case (as_tree (layer_of y))
   layer_case (RawStatement-F.Declare l v i) scope x e =

@@ -4,7 +4,7 @@ use Rattle.std.specs.Prelude.{Contains, if◌then◌else◌}
 use Rattle.dep_model.specs.declared.vertex.Vertex.{Vertex}
 use Rattle.dep_model.specs.declared.vertex.VertexKind.{VertexKind}
 use Rattle.dep_model.specs.FunctionVertices.{passes, numbers_from, numbers}
-use Rattle.dep_model.proofs.ListLemmas.{contains_none, contains_head, contains_cons, contains_cases}
+use Rattle.rule_closure.proofs.ListLemmas.{contains_none, contains_head, contains_cons, contains_cases}
 use Rattle.dep_model.proofs.WholeVariables.{truth}
 
 -- number k of a list passes a test

@@ -5,12 +5,13 @@ use Rattle.std.specs.Prelude.{IsTrue}
 use Rattle.bit_rows.specs.Sets.{has}
 use Rattle.dep_model.specs.declared.edge.Edge.{Edge}
 use Rattle.dep_model.specs.declared.edge.Label.TheVariants.{Control, Flow}
-use Rattle.dep_model.specs.declared.closure.Rule.{Rule}
-use Rattle.dep_model.specs.Rules.{Derived, back}
-use Rattle.dep_model.specs.Rules as rules_
+use Rattle.rule_closure.specs.declared.closure.Rule.{Rule}
+use Rattle.rule_closure.specs.Rules.{Derived}
+use Rattle.dep_model.specs.Plain.{back}
+use Rattle.rule_closure.specs.Rules as rules_
 use Rattle.dep_model.specs.Words.{letters, word, IsPath, Reaches, ReachesAny, IsPlain}
 use Rattle.dep_model.specs.Words as words
-use Rattle.dep_model.proofs.ListLemmas.{contains_map, map_contains}
+use Rattle.rule_closure.proofs.ListLemmas.{contains_map, map_contains}
 
 -- ---- plain graphs
 

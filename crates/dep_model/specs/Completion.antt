@@ -1,7 +1,7 @@
 -- The completion of a set of vertices: the least closed set that holds it (after Binkley 1993).
 use Rattle.std.specs.Prelude.{ℕ, ◌≡◌, Bool, List, length, Contains, IsTrue}
 use Rattle.bit_rows.specs.Sets.{has}
-use Rattle.dep_model.specs.Rules.{Holds}
+use Rattle.rule_closure.specs.Rules.{Holds}
 use Rattle.dep_model.specs.declared.edge.Edge.{Edge}
 use Rattle.dep_model.specs.declared.edge.Label.TheVariants.{Control, Flow, Call, In, Out}
 

@@ -6,7 +6,7 @@ use Rattle.c_tree.specs.declared.expr.Expr.TheOpen.{Expr-F}
 use Rattle.c_tree.specs.declared.program.Program.{Program}
 use Rattle.c_language.specs.declared.expr_type.ExprType.{ExprType}
 use Rattle.c_language.specs.ExprTypes.{is_array}
-use Rattle.dep_model.specs.TreeTypes.{tree_type_step}
+use Rattle.c_language.specs.TreeTypes.{tree_type_step}
 
 -- an expression: its type; whether it designates an object; the variable in which that lies; the variable of a name with
 -- `.` selections alone behind it; and the variables whose addresses are taken to find the object, or else the value

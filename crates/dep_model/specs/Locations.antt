@@ -14,7 +14,7 @@ use Rattle.c_language.specs.declared.expr_type.Layer.TheVariants.{Pointer, Array
 use Rattle.c_language.specs.declared.expr_type.ExprType.{ExprType}
 use Rattle.c_language.specs.Code.{Act, Allocates}
 use Rattle.c_language.specs.DeclaredTypes.{void}
-use Rattle.dep_model.specs.TreeTypes.{shape_of, members_of, pointee, variable_type, tree_type}
+use Rattle.c_language.specs.TreeTypes.{shape_of, members_of, pointee, variable_type, tree_type}
 use Rattle.dep_model.specs.Doings.{Doing, Does, Calls, body_doings}
 use Rattle.dep_model.specs.declared.location.Location.{Location}
 use Rattle.dep_model.specs.declared.location.Root.{Root}

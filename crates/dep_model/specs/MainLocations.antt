@@ -4,7 +4,7 @@ use Rattle.c_arith.specs.declared.int_type.IntType.TheVariants.{Int}
 use Rattle.c_tree.specs.declared.program.Program.{Program}
 use Rattle.c_tree.specs.declared.program.Var.{Var}
 use Rattle.c_language.specs.DeclaredTypes.{integer}
-use Rattle.dep_model.specs.TreeTypes.{shape_of}
+use Rattle.c_language.specs.TreeTypes.{shape_of}
 use Rattle.dep_model.specs.Denoted.{variable}
 use Rattle.dep_model.specs.DoingEffects.{result_of}
 use Rattle.dep_model.specs.Locations.{Placed, input}

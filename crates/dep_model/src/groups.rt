@@ -14,8 +14,11 @@ use std::marker::Model;
 /// The vertices of a function that belong to no statement.
 #[derive(Clone, Copy, Debug, PartialEq, Eq)]
 pub enum Group {
+    /// The entry.
     Entry,
+    /// The formal-ins.
     FormalIns,
+    /// The formal-outs.
     FormalOuts,
 }
 
@@ -34,7 +37,7 @@ fn in_group(group: Group, kind: VertexKind) -> bool
     }
 }
 
-/// The numbers of a group's vertices, ascending.
+/// The numbers of a group's vertices, ascending. Err: no memory was left.
 pub fn numbers_of(
     alloc: Global,
     vertices: &[Vertex],
@@ -86,7 +89,7 @@ impl Model for StatementVertices {
 }
 
 impl StatementVertices {
-    /// Finds the vertices of all statements.
+    /// Finds the vertices of all statements. Err: no memory was left.
     pub fn find(
         alloc: Global,
         vertices: &[Vertex],

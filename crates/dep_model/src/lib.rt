@@ -1,10 +1,8 @@
 //! The model of dependence: locations, the vertices and edges of the system dependence graph
-//! (Horwitz, Reps and Binkley 1990), sets of vertices, and least closed sets.
+//! (Horwitz, Reps and Binkley 1990), and what is reached in it.
 #![tactic(auto)]
 
-mod closure;
 mod edge;
-mod engine;
 mod groups;
 mod location;
 mod pair_order;
@@ -12,19 +10,17 @@ mod plain_graph;
 mod skeleton;
 mod switch_arms;
 mod vertex;
-mod vertex_set;
 
 pub use c_tree::Text;
-pub use closure::{Closure, Rule};
 pub use edge::{Edge, Label};
 pub use groups::{Group, StatementVertices, numbers_of};
 pub use location::{Location, LocationId, LocationPath, Part, Root};
 pub use pair_order::ascend;
 pub use plain_graph::PlainGraph;
+pub use rule_closure::{Closure, Rule, VertexSet};
 pub use skeleton::{FlowGraph, Pair, PairList, Skeleton, VertexList};
 pub use switch_arms::taken_arms;
 pub use vertex::{Slot, Vertex, VertexKind};
-pub use vertex_set::VertexSet;
 
 #[cfg(test)]
 mod tests;

@@ -9,6 +9,7 @@ pub type LocationId = u32;
 pub enum Root {
     /// What is left to be read of the input.
     Input,
+    /// A variable.
     Variable(VarId),
     /// All elements of all blocks that this statement allocates.
     Site(StatementId),
@@ -31,6 +32,8 @@ pub type LocationPath = Items<Part>;
 /// A place of memory, as far as dependence tells places apart.
 #[derive(Debug, Drop)]
 pub struct Location {
+    /// Where it begins.
     pub root: Root,
+    /// The steps from there to it.
     pub path: LocationPath,
 }

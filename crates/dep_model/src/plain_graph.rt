@@ -1,12 +1,11 @@
 ghost use Rattle.std.specs.Prelude.{◌≡◌, ℕ, ◌<◌, ◌↔◌, IsTrue, length, map, All, IfOk};
 ghost use Rattle.bit_rows.specs.Sets.{has};
-ghost use Rattle.dep_model.specs.Rules.{back};
+ghost use Rattle.dep_model.specs.Plain.{back};
 ghost use Rattle.dep_model.specs.Words.{IsPlain, IsEdgeWithin, ReachesAny};
 ghost use Rattle.dep_model.specs.Completion.{IsCompletion, NamesNone};
 
-use crate::closure::{Closure, Rule};
 use crate::edge::Edge;
-use crate::vertex_set::VertexSet;
+use rule_closure::{Closure, Rule, VertexSet};
 use std::alloc::{AllocError, Global};
 use std::marker::Model;
 

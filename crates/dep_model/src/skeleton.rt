@@ -9,16 +9,22 @@ pub type VertexList = Items<Vertex>;
 /// each vertex.
 #[derive(Drop)]
 pub struct Skeleton {
+    /// The vertices, by their numbers.
     pub vertices: VertexList,
+    /// For each vertex the locations that it may define.
     pub defined: Rows,
+    /// For each vertex the locations that it may use.
     pub used: Rows,
+    /// For each vertex the locations that it kills.
     pub killed: Rows,
 }
 
 /// The second vertex may be done directly after the first.
 #[derive(Clone, Copy, Debug, PartialEq, Eq, PartialOrd, Ord)]
 pub struct Pair {
+    /// The number of the vertex that is done first.
     pub from: u32,
+    /// The number of one that may be done directly after it.
     pub to: u32,
 }
 
@@ -28,5 +34,6 @@ pub type PairList = Items<Pair>;
 /// The order of the vertices of one function.
 #[derive(Debug, Drop)]
 pub struct FlowGraph {
+    /// Each vertex with each that may be done directly after it.
     pub pairs: PairList,
 }

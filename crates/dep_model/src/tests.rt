@@ -32,16 +32,6 @@ fn is_row(set: &VertexSet, row: &[u8]) -> bool {
     true
 }
 
-fn rule(first: u32, second: u32, gives: u32) -> Rule
-    ensures { result ≡ record { first = first; second = second; gives = gives } }
-{
-    Rule {
-        first,
-        second,
-        gives,
-    }
-}
-
 fn control(from: u32, to: u32) -> Edge
     ensures { result ≡ record { from = from; to = to; label = Control } }
 {
@@ -54,50 +44,6 @@ fn flow(from: u32, to: u32) -> Edge
 {
     let label = Label::Flow;
     Edge { from, to, label }
-}
-
-#[test]
-fn sets(rt: HostRuntime) -> Result<(), Fail> {
-    let mut set = VertexSet::new(rt.alloc(), 130)?;
-    assert_eq!(rt; set.len(), 130);
-    set.add(63);
-    set.add(64);
-    set.add(129);
-    set.add(129);
-    for (v, has) in [
-        (0, false),
-        (63, true),
-        (64, true),
-        (65, false),
-        (128, false),
-        (129, true),
-    ] {
-        assert_eq!(rt; set.has(v), has, "vertex {v}");
-    }
-    set.clear();
-    assert!(rt; !set.has(63) && !set.has(64) && !set.has(129));
-    Ok(())
-}
-
-#[test]
-fn closes(rt: HostRuntime) -> Result<(), Fail> {
-    let rules = vec![in rt.alloc(); rule(3, 4, 5), rule(1, 2, 3), rule(0, 0, 1)]?;
-    let mut closure = Closure::prepare(rt.alloc(), 6, rules)?;
-    // What is given, and its least closed set.
-    for (given, closed) in [
-        (b"000000", b"000000"),
-        (b"100000", b"110000"),
-        (b"010000", b"010000"),
-        (b"001000", b"001000"),
-        (b"101000", b"111100"),
-        (b"101010", b"111111"),
-        (b"000110", b"000111"),
-    ] {
-        let mut set = set_of(rt.alloc(), given)?;
-        closure.close(&mut set);
-        assert!(rt; is_row(&set, closed));
-    }
-    Ok(())
 }
 
 // The dependence of

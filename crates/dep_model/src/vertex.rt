@@ -8,24 +8,34 @@ pub enum Slot {
     Argument(u32),
     /// What the function returns.
     Result,
+    /// A location that the function modifies or uses.
     At(LocationId),
 }
 
 /// What a vertex stands for.
 #[derive(Clone, Copy, Debug, PartialEq, Eq)]
 pub enum VertexKind {
+    /// The entry of the function.
     Entry,
+    /// What the function is given.
     FormalIn(Slot),
+    /// What the function gives back.
     FormalOut(Slot),
+    /// A statement that calls no function of the text.
     Statement(StatementId),
+    /// The call of a call statement.
     Call(StatementId),
+    /// What a call statement gives to the function called.
     ActualIn(StatementId, Slot),
+    /// What a call statement gets back.
     ActualOut(StatementId, Slot),
 }
 
 /// A vertex of a system dependence graph (Horwitz, Reps and Binkley 1990).
 #[derive(Clone, Copy, Debug, PartialEq, Eq)]
 pub struct Vertex {
+    /// The function to which it belongs.
     pub function: FunctionId,
+    /// What it stands for in it.
     pub kind: VertexKind,
 }

@@ -1,2 +1,3 @@
+mod CallLemmas
 pub mod Pieces
 mod Streams

@@ -2,6 +2,10 @@
 use Rattle.std.specs.Prelude.{ℕ}
 use Rattle.edge_io.specs.declared.file_shelf.FileShelf.{FileShelf}
 
+-- the files that it opens
+abbrev pub files_of : {R : Type 0} → FileShelf R → R
+files_of shelf = shelf.files
+
 -- its count of faults
 abbrev pub faults_of : {R : Type 0} → FileShelf R → ℕ
 faults_of shelf = shelf.faults

@@ -5,5 +5,7 @@ pub mod FileShelf
 pub mod Files
 pub mod MemoryShelf
 pub mod MemorySink
+pub mod ReadCalls
 pub mod StreamSink
+pub mod WriteCalls
 pub mod Written

@@ -1,12 +1,11 @@
 // The shelf over real files.
-ghost use Rattle.std.specs.Prelude.{◌≡◌, ◌≢◌, ◌<◌, ◌≤◌, ◌^◌, None, IfOk, IfErr, IfSome, IsErrOf, take, length, vec_len};
+ghost use Rattle.std.specs.Prelude.{◌≡◌, ◌≢◌, ◌⊎◌, ◌<◌, ◌≤◌, ◌^◌, None, IfOk, IfErr, IfSome, IsErrOf, take, length, vec_len};
 ghost use Rattle.edge_io.specs.Count.{Rose, NeverFalls, Counts};
+ghost use Rattle.edge_io.specs.ReadCalls.{Gives, GivesAll, GivesMoreThan, IsUnreadable, IsOpened, IsUnfetchable};
 
-use crate::{FetchFault, Shelf};
+use crate::calls::is_interrupted;
+use crate::{FetchFault, Opener, Shelf, Source};
 use std::alloc::Global;
-use std::fs::File;
-use std::io::{ErrorKind, Read};
-use std::rt::Files;
 
 // How many bytes are read at once, at most.
 const CHUNK: usize = 8192;
@@ -19,11 +18,12 @@ pub struct FileShelf<R> {
     long_files: u64,
 }
 
-impl<R: Files + Drop> FileShelf<R> {
-    ghost use Rattle.edge_io.specs.FileShelf.{faults_of, long_files_of};
+impl<R: Opener + Drop> FileShelf<R> {
+    ghost use Rattle.edge_io.specs.FileShelf.{files_of, faults_of, long_files_of};
 
     /// The files that this runtime reaches. Both counts are 0.
     pub fn new(files: R) -> FileShelf<R>
+        ensures files { files_of result ≡ files }
         ensures faults { faults_of result ≡ 0 }
         ensures long_files { long_files_of result ≡ 0 }
     {
@@ -35,8 +35,8 @@ impl<R: Files + Drop> FileShelf<R> {
     }
 }
 
-impl<R: Files + Drop> Shelf for FileShelf<R> {
-    ghost use Rattle.edge_io.specs.FileShelf.{faults_of, long_files_of};
+impl<R: Opener + Drop> Shelf for FileShelf<R> {
+    ghost use Rattle.edge_io.specs.FileShelf.{files_of, faults_of, long_files_of};
 
     ghost faults = { faults_of };
 
@@ -63,6 +63,16 @@ impl<R: Files + Drop> Shelf for FileShelf<R> {
             (faults_of self.old) (faults_of self.new) }
         ensures long_files_count { Counts (IsErrOf result FetchFault.TooLong)
             (long_files_of self.old) (long_files_of self.new) }
+
+        // The bytes are all that calls of the opened file gave up to its end, `TooLong` comes where they gave more than
+        // these, and `Failed` where opening it or a call of it failed.
+        ensures files { files_of self.new ≡ files_of self.old }
+        ensures whole { IfOk result (λ bytes. IsOpened R.may_open (files_of self.old) name.now
+            (λ file. GivesAll ⟦<R::File as Source>⟧.may_read file bytes.items)) }
+        ensures longer { IfErr result (λ fault. fault ≡ FetchFault.TooLong → IsOpened R.may_open (files_of self.old) name.now
+            (λ file. GivesMoreThan ⟦<R::File as Source>⟧.may_read file most)) }
+        ensures unfetchable { IfErr result (λ fault. fault ≡ FetchFault.Failed
+            → IsUnfetchable R.may_open ⟦<R::File as Source>⟧.may_read (files_of self.old) name.now) }
     {
         let fetched = read_file(&self.files, alloc, name, most);
         match &fetched {
@@ -75,28 +85,37 @@ impl<R: Files + Drop> Shelf for FileShelf<R> {
 }
 
 // The bytes of the file with this name, `TooLong` where they are more than `most`.
-fn read_file<R: Files>(
+fn read_file<R: Opener>(
     files: &R,
     alloc: Global,
     name: &str,
     most: usize,
 ) -> Result<Vec<u8>, FetchFault>
     requires { most ≤ 2 ^ 30 }
-    ensures { IfOk result (λ bytes. vec_len bytes ≤ most) }
+    ensures at_most { IfOk result (λ bytes. vec_len bytes ≤ most) }
+    ensures whole { IfOk result (λ bytes. IsOpened R.may_open files.now name.now
+        (λ file. GivesAll R.File.may_read file bytes.items)) }
+    ensures longer { IfErr result (λ fault. fault ≡ FetchFault.TooLong → IsOpened R.may_open files.now name.now
+        (λ file. GivesMoreThan R.File.may_read file most)) }
+    ensures unfetchable { IfErr result (λ fault. fault ≡ FetchFault.Failed
+        → IsUnfetchable R.may_open R.File.may_read files.now name.now) }
 {
-    let Ok(mut file) = File::open(files, name) else {
+    let Ok(mut file) = files.open(name) else {
         return Err(FetchFault::Failed);
     };
     read_whole(&mut file, alloc, most)
 }
 
 // All bytes that the source has left, `TooLong` where they are more than `most`.
-fn read_whole<S: Read>(source: &mut S, alloc: Global, most: usize) -> Result<Vec<u8>, FetchFault>
+fn read_whole<S: Source>(source: &mut S, alloc: Global, most: usize) -> Result<Vec<u8>, FetchFault>
     requires { most ≤ 2 ^ 30 }
     ensures at_most { IfOk result (λ bytes. vec_len bytes ≤ most) }
     ensures bytes { IfOk result (λ bytes. IfSome (S.remaining source.old) (λ left. bytes.items ≡ left)) }
     ensures too_long { IfErr result (λ fault. fault ≡ FetchFault.TooLong
         → IfSome (S.remaining source.old) (λ left. most < length left)) }
+    ensures whole { IfOk result (λ bytes. GivesAll S.may_read source.old bytes.items) }
+    ensures longer { IfErr result (λ fault. fault ≡ FetchFault.TooLong → GivesMoreThan S.may_read source.old most) }
+    ensures unreadable { IfErr result (λ fault. fault ≡ FetchFault.Failed → IsUnreadable S.may_read source.old) }
 {
     let bytes = read_up_to(source, alloc, most + 1)?;
     if bytes.len() > most {
@@ -106,23 +125,26 @@ fn read_whole<S: Read>(source: &mut S, alloc: Global, most: usize) -> Result<Vec
 }
 
 // The bytes that the source has left, at most `limit` of them.
-fn read_up_to<S: Read>(source: &mut S, alloc: Global, limit: usize) -> Result<Vec<u8>, FetchFault>
+fn read_up_to<S: Source>(source: &mut S, alloc: Global, limit: usize) -> Result<Vec<u8>, FetchFault>
     ensures at_most { IfOk result (λ bytes. vec_len bytes ≤ limit) }
     ensures bytes { IfOk result (λ bytes. IfSome (S.remaining source.old) (λ left. bytes.items ≡ take limit left)) }
+    ensures given { IfOk result (λ bytes. GivesAll S.may_read source.old bytes.items
+        ⊎ ((vec_len bytes ≡ limit) × Gives S.may_read source.old bytes.items)) }
+    ensures unreadable { IfErr result (λ fault. fault ≡ FetchFault.Failed → IsUnreadable S.may_read source.old) }
     ensures not_too_long { result ≢ Err FetchFault.TooLong }
 {
     let mut bytes = Vec::new(alloc);
     let mut chunk = [0; CHUNK];
-    for _ in 0..u64::MAX {
+    for _call in 0..u64::MAX {
         let wanted = CHUNK.min(limit - bytes.len());
         if wanted == 0 {
             return Ok(bytes);
         }
-        match source.read(&mut chunk[..wanted]) {
+        match source.read_once(&mut chunk[..wanted]) {
             Ok(0) => return Ok(bytes),
             Ok(count) => bytes.extend_from_slice(&chunk[..count])?,
             Err(error) => {
-                if error.kind() != ErrorKind::Interrupted {
+                if !is_interrupted(&error) {
                     return Err(FetchFault::Failed);
                 }
             }
@@ -134,6 +156,7 @@ fn read_up_to<S: Read>(source: &mut S, alloc: Global, limit: usize) -> Result<Ve
 #[cfg(test)]
 mod tests {
     use super::*;
+    use std::io::{ErrorKind, Read};
     use std::test::Fail;
     use std::{env, fs, io, process};
 
@@ -158,6 +181,30 @@ mod tests {
             buf[..count].copy_from_slice(&self.rest[..count]);
             self.rest = &self.rest[count..];
             Ok(count)
+        }
+    }
+
+    // Files that are all alike, but for the name "gone", which can't be opened.
+    #[derive(Drop)]
+    struct Drawer<'a> {
+        bytes: &'a [u8],
+        fails_at: u8,
+    }
+
+    impl<'a> Opener for Drawer<'a> {
+        type File = Trickle<'a>;
+
+        ghost may_open = { λ _ _ _. Unit {0} };
+
+        fn open(&self, name: &str) -> io::Result<Trickle<'a>> {
+            if name == "gone" {
+                return Err(io::Error::from(ErrorKind::NotFound));
+            }
+            Ok(Trickle {
+                rest: self.bytes,
+                calls: 0,
+                fails_at: self.fails_at,
+            })
         }
     }
 
@@ -189,6 +236,36 @@ mod tests {
                 (Err(fault), Err(expected)) => assert_eq!(rt; fault, expected, "{limit}"),
                 _ => panic!(rt; "another kind of answer at {limit}, {fails_at}"),
             }
+        }
+        Ok(())
+    }
+
+    #[test]
+    fn a_fault_of_a_file_is_counted(rt: HostRuntime) -> Result<(), Fail> {
+        let alloc = rt.alloc();
+        // The name, the call that fails, the most bytes, what is fetched of "abcdefgh", and the two counts.
+        let rows = [
+            ("here", 0, 8, Ok("abcdefgh"), (0, 0)),
+            ("here", 0, 7, Err(FetchFault::TooLong), (0, 1)),
+            ("here", 4, 8, Err(FetchFault::Failed), (1, 0)),
+            ("here", 5, 8, Err(FetchFault::Failed), (1, 0)),
+            ("gone", 0, 8, Err(FetchFault::Failed), (1, 0)),
+        ];
+        for (name, fails_at, most, want, counts) in rows {
+            let mut shelf = FileShelf::new(Drawer {
+                bytes: b"abcdefgh",
+                fails_at,
+            });
+            match (shelf.fetch(alloc, name, most), want) {
+                (Ok(bytes), Ok(text)) => assert_eq!(rt;
+                    bytes.as_slice(),
+                    text.as_bytes(),
+                    "{most}"
+                ),
+                (Err(fault), Err(expected)) => assert_eq!(rt; fault, expected, "{most}"),
+                _ => panic!(rt; "another kind of answer at {most}, {fails_at}"),
+            }
+            assert_eq!(rt; (shelf.faults, shelf.long_files), counts, "{most}");
         }
         Ok(())
     }

@@ -5,6 +5,7 @@
 //! which fail at chosen calls.
 #![tactic(auto)]
 
+mod calls;
 mod file_shelf;
 mod memory_shelf;
 mod memory_sink;
@@ -13,6 +14,7 @@ mod sink;
 mod stream_sink;
 mod text;
 
+pub use calls::{Opener, Source, Stream};
 pub use file_shelf::FileShelf;
 pub use memory_shelf::MemoryShelf;
 pub use memory_sink::MemorySink;

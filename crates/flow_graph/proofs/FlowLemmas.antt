@@ -11,12 +11,11 @@ use Rattle.c_tree.specs.declared.statement.Target.{Target}
 use Rattle.c_tree.specs.declared.statement.Statement.{Statement, fold-roll-Statement}
 use Rattle.c_tree.specs.declared.statement.Statement.TheOpen.{Statement-F}
 use Rattle.c_tree.specs.declared.statement.Statement.TheVariants as s
-use Rattle.c_tree.specs.declared.statement.Arm.{Arm, roll-Arm, fold-roll-Arm}
+use Rattle.c_tree.specs.declared.statement.Arm.{Arm, fold-roll-Arm}
 use Rattle.c_language.specs.Code.{has_default}
 use Rattle.dep_model.specs.Follows.{enters}
 use Rattle.dep_model.specs.SwitchArms.{has_first, with_labels, taken, taken_from}
-use Rattle.dep_model.specs.declared.skeleton.Pair.{Pair}
-use Rattle.flow_graph.specs.Walk.{Flow, ArmFlow, pair, to_next, linked, nothing, simple, in_order, if_some, led_to, all_taken, any_default, past, forked, looped, declared, flow_step, arm_step, flow, arm_flow, flows, flow_part, if_taken, arm_flows, some_default}
+use Rattle.flow_graph.specs.Walk.{Flow, ArmFlow, nothing, simple, in_order, led_to, all_taken, any_default, past, forked, looped, declared, flow_step, arm_step, flow, arm_flow, flows, flow_part, if_taken, arm_flows, some_default}
 
 module _ (own : ℕ → List ℕ) where
   pub all-flows : (b : List Statement) → in_order (map (flow own) b) ≡ flows own b

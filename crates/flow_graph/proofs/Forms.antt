@@ -1,5 +1,5 @@
 -- What the calls at each form of statement leave.
-use Rattle.std.proofs.Common.{◌≡◌, ℕ, List, [], ◌∷◌, ◌++◌, Bool, Option, append_assoc, refl, sym, ap, ◌∙◌}
+use Rattle.std.proofs.Common.{◌≡◌, ℕ, List, ◌++◌, Bool, Option, refl, sym, ap, ◌∙◌}
 use Rattle.c_tree.specs.declared.expr.Expr.{Expr}
 use Rattle.c_tree.specs.declared.statement.Arm.{Arm}
 use Rattle.c_tree.specs.declared.statement.Statement.{Statement}
@@ -7,7 +7,7 @@ use Rattle.c_tree.specs.declared.statement.Statement.TheVariants as s
 use Rattle.dep_model.specs.Follows.{enters}
 use Rattle.dep_model.specs.SwitchArms.{taken}
 use Rattle.dep_model.specs.declared.skeleton.Pair.{Pair}
-use Rattle.flow_graph.specs.Walk.{Flow, linked, led_to, looped, past, flow, flows, flow_part, arm_flows, some_default}
+use Rattle.flow_graph.specs.Walk.{Flow, linked, led_to, past, flow, flows, flow_part, arm_flows, some_default}
 use Rattle.flow_graph.proofs.FlowLemmas.{flow-If, flow-While, flow-Do, flow-For, flow-Block, switch-pairs}
 use Rattle.dep_model.proofs.Grown.{two, grown_two, grown_three}
 

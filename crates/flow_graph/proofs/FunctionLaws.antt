@@ -1,12 +1,10 @@
 -- What the walk comes to is the order of a function.
-use Rattle.std.proofs.Common.{◌≡◌, ℕ, zero, suc, ◌<◌, List, [], ◌∷◌, ◌++◌, ◌⊎◌, inl, inr, Option, Some, None, length, get_or, arith, append_assoc, refl, sym, ap, ◌∙◌, subst}
-use Rattle.std.specs.Prelude.{Contains, ◌↔◌, ◌||◌, slice_get}
-use Rattle.std.specs.Option.{option_map_or}
+use Rattle.std.proofs.Common.{◌≡◌, ℕ, List, [], ◌++◌, ◌⊎◌, inl, inr, Option, Some, None, append_assoc, sym, ap, ◌∙◌, subst}
+use Rattle.std.specs.Prelude.{Contains, ◌↔◌, ◌||◌}
 use mathlib.Core.Path.{fun_ext}
 use Rattle.c_tree.specs.declared.program.Program.{Program}
-use Rattle.c_tree.specs.declared.program.Function.{Function}
 use Rattle.c_tree.specs.declared.statement.Statement.{Statement}
-use Rattle.c_language.specs.Code.{Act, Code, End, code}
+use Rattle.c_language.specs.Code.{Act, Code, code}
 use Rattle.dep_model.specs.declared.skeleton.Pair.{Pair}
 use Rattle.dep_model.specs.declared.vertex.Vertex.{Vertex}
 use Rattle.dep_model.specs.Follows.{enters, InTurn, VerticesAt, start, Follows}
@@ -14,15 +12,6 @@ use Rattle.dep_model.specs.FunctionVertices.{is_own, is_actual, numbers, code_in
 use Rattle.flow_graph.specs.Walk.{linked, flows}
 use Rattle.dep_model.proofs.Membership.{IsIn, in_of_contains, contains_of_in, in_first, in_second, in_either}
 use Rattle.flow_graph.proofs.OrderLaws.{Turns, in_linked, of_linked, at, code_is}
-
-pub got : {X : Type 0} (xs : List X) (i : ℕ) (x : X) → i < length xs → x ≡ get_or xs i x → slice_get xs i ≡ Some x
-got [] i x lt is = absurd (omega (arith, lt))
-got (y ∷ xs) zero x lt is = ap Some (sym is)
-got (y ∷ xs) (suc i) x lt is = got xs i x (omega (arith, lt)) is
-
--- the code of a function that is there
-pub code_at : (p : Program) (f : ℕ) (g : Function) → slice_get p.functions f ≡ Some g → code_in p f ≡ code g.body
-code_at p f g is = ap (λ o. option_map_or (λ (h : Function). code h.body) o End) is
 
 -- the pairs of a list between its heads and tails, where `own` has the vertices of each statement
 abbrev pub found : (ℕ → List ℕ) → List Statement → List ℕ → List ℕ → List Pair

@@ -8,16 +8,17 @@ use Rattle.c_tree.specs.declared.statement.Target.TheVariants as target
 use Rattle.c_tree.specs.declared.statement.Statement.{Statement, ind-Statement, roll-Statement, map-Statement, fold-roll-Statement}
 use Rattle.c_tree.specs.declared.statement.Statement.TheOpen.{Statement-F, Arm-F}
 use Rattle.c_tree.specs.declared.statement.Arm.{Arm, roll-Arm, map-Arm, fold-roll-Arm}
-use Rattle.c_language.specs.Code.{Act, Code, End, Opens, Plain, Fork, Loop, Leaves, Call, ◌⨟◌, is_true, either, leave, Part, doing, declared, in_turn, list_of, block, ArmPart, taken_arm, has_default, optional, given_to, begun, declaring, part_step, arm_step, part, code_of, code}
+use Rattle.c_language.specs.Code.{Act, Code, End, Plain, Fork, Loop, Call, ◌⨟◌, is_true, either, leave, Part, doing, declared, in_turn, list_of, block, ArmPart, taken_arm, has_default, optional, given_to, part_step, arm_step, part, code}
 use Rattle.c_language.proofs.CodeLemmas.{arm_part}
 use Rattle.dep_model.specs.Follows.{enters, InTurn, VerticesAt, start, Follows}
 use Rattle.dep_model.specs.declared.skeleton.Pair.{Pair}
 use Rattle.dep_model.specs.SwitchArms.{has_first, with_labels}
 use Rattle.dep_model.proofs.FollowsLemmas.{start-seq, Follows-seq, seq-first, seq-second}
 use Rattle.dep_model.proofs.SwitchLaws.{HoldsOfTaken, some_arm_default, taken_or_past, value_taken, past_value}
-use Rattle.flow_graph.specs.Walk.{Flow, ArmFlow, pair, to_next, linked, nothing, simple, in_order, if_some, led_to, all_taken, any_default, past, forked, looped, flow_step, flow, arm_flow, flows}
+use Rattle.flow_graph.specs.Walk.{Flow, ArmFlow, to_next, linked, nothing, simple, in_order, if_some, led_to, all_taken, any_default, past, forked, looped, flow_step, flow, arm_flow, flows}
 use Rattle.flow_graph.specs.Walk as w
-use Rattle.dep_model.proofs.Membership.{IsIn, in_first, in_second, in_either}
+use Rattle.dep_model.proofs.Membership.{IsIn, in_first, in_second, in_either, if_in, in_if}
+use Rattle.dep_model.specs.Pairs.{pair}
 
 -- ---- vertices that follow one another
 
@@ -331,13 +332,6 @@ module _ (own : ℕ → List ℕ) where
   AreArms [] (f ∷ fs) = ⊥
   AreArms (a ∷ as_) [] = ⊥
   AreArms (a ∷ as_) (f ∷ fs) = ArmAgrees a f × AreArms as_ fs
-
-  if_in : (b : Bool) (xs : List Pair) (x : Pair) → IsIn (if b then xs else []) x → (b ≡ true) × IsIn xs x
-  if_in true xs x h = (refl, h)
-  if_in false xs x h = absurd h
-
-  in_if : (b : Bool) (xs : List Pair) (x : Pair) → b ≡ true → IsIn xs x → IsIn (if b then xs else []) x
-  in_if b xs x e h = subst (λ t. IsIn (if t then xs else []) x) (sym e) h
 
   of_past : (test : List ℕ) (b : Bool) (k : Option ℕ) (x : Pair) → IsIn (past test b k) x → (b ≡ false) × Turns test k x
   of_past test true k x h = absurd h

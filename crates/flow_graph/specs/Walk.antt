@@ -6,11 +6,9 @@ use Rattle.c_tree.specs.declared.statement.Statement.TheOpen.{Statement-F, Arm-F
 use Rattle.c_tree.specs.declared.statement.Arm.{Arm, fold-Arm}
 use Rattle.c_language.specs.Code.{has_default}
 use Rattle.dep_model.specs.Follows.{enters}
+use Rattle.dep_model.specs.Pairs.{pair}
 use Rattle.dep_model.specs.SwitchArms.{has_first, with_labels}
 use Rattle.dep_model.specs.declared.skeleton.Pair.{Pair}
-
-abbrev pub pair : ℕ → ℕ → Pair
-pair from to = record { from = from; to = to }
 
 -- a vertex and what follows it, where something does
 abbrev pub to_next : ℕ → Option ℕ → List Pair

@@ -15,7 +15,7 @@ use sqlite_items::Items;
 use std::alloc::{AllocError, Global};
 
 /// The order of a function's vertices, as pairs of one and another that may be done directly after
-/// it, ascending and each once.
+/// it, ascending and each once. Err: no memory was left.
 pub fn follows(
     alloc: Global,
     p: &Program,

@@ -1,5 +1,5 @@
 //! The pairs of statements, by one walk from the ends of their lists.
-ghost use Rattle.std.specs.Prelude.{◌≡◌, ℕ, ◌++◌, OnOk, IfOk, length, Option, Some, None};
+ghost use Rattle.std.specs.Prelude.{◌≡◌, ◌++◌, OnOk, IfOk, length, Option, Some, None};
 ghost use Rattle.dep_model.specs.Follows.{enters};
 ghost use Rattle.dep_model.specs.Groups.{row};
 ghost use Rattle.flow_graph.specs.Walk as spec;

@@ -15,13 +15,12 @@ use Rattle.c_tree.specs.declared.statement.Arm.{Arm, roll-Arm, map-Arm, fold-Arm
 use Rattle.c_tree.specs.declared.statement.Statement.{Statement, fold-Statement, ind-Statement, roll-Statement, map-Statement, fold-roll-Statement}
 use Rattle.c_tree.specs.declared.statement.Statement.TheOpen.{Statement-F, Arm-F}
 use Rattle.c_tree.specs.Unlined.{unlined, unlined_var, unlined_function, unlined_program, SameButLines}
-use Rattle.c_language.specs.Programs.{IsWellFormed}
 use Rattle.built_forms.specs.IntegerForms.{is_integer, are_integers, is_name, integer_init, integer_value, integer_label, all_true, if_there}
-use Rattle.built_forms.specs.BuiltForms.{is_integer_type, is_integer_variable, unless, or_else, first_of, line_of_part, ArmOutside, labels_of_arms, first_of_arms, statement_step, arm_step, statement_outside, body_outside, is_main, function_outside, defined_outside, items_outside, not_yet}
+use Rattle.built_forms.specs.BuiltForms.{is_integer_type, is_integer_variable, unless, or_else, first_of, ArmOutside, labels_of_arms, first_of_arms, statement_step, arm_step, statement_outside, body_outside, is_main, function_outside, defined_outside, items_outside, not_yet}
 use Rattle.built_forms.proofs.Programs.{built_integer_main}
 use Rattle.projection_laws.proofs.SamePrograms.{main_same}
 use Rattle.projection_laws.proofs.Unlining.{zeroed, fold_unlined}
-use Rattle.integer_texts.specs.Law.{BuiltAreNumbered}
+use Rattle.integer_texts.specs.Laws.{BuiltAreNumbered}
 use Rattle.integer_texts.proofs.SameNumbers.{well_formed_numbered}
 
 -- an arm of a switch: whether its labels are integers, and nothing of its body is outside

@@ -25,9 +25,12 @@ use Rattle.c_language.specs.Phrases.{Stand, Phrases, InHead, InBlock, phrase, de
 use Rattle.c_language.specs.ProgramOf.{collected, ctype_if, treed, body_of, parameter_ids, function_tree, functions_from, variables_in}
 use Rattle.c_language.specs.Rules.{main}
 use Rattle.c_language.specs.Scopes.{Scope, Meaning, meaning_here, with_variable, with_entry, with_function, after_all, parameter_of, with_named, with_parameter, with_parameters, scope_of_parameters, entered}
-use Rattle.c_print_laws.proofs.Scoping.{count_append, begun_count, statement_scoped, after_same}
+use Rattle.c_language.proofs.Options.{some_same}
+use Rattle.c_language.proofs.TreeScopes.{list_after}
+use Rattle.c_print_laws.proofs.Scoping.{count_append, begun_count, statement_scoped}
+use Rattle.c_print_laws.proofs.Numbering.{entered_statements}
 use Rattle.built_forms.proofs.Kept.{AreKept, kept_second}
-use Rattle.built_forms.proofs.Options.{same_some, both_some, collected_some}
+use Rattle.built_forms.proofs.Options.{both_some, collected_some}
 use Rattle.built_forms.proofs.Terms.{AreLow}
 use Rattle.built_forms.proofs.MainHeads.{int_result, int_tree}
 use Rattle.dep_model.specs.Doings.{Doing, body_doings}
@@ -70,17 +73,9 @@ module _ (raw : RawProgram) where
       by_test scope h true = h
       by_test scope h false = low_push scope.variables scope.names (record { name = name; meaning = Meaning.Function }) h tt
 
-  named_statements : (q : RawParam) (name : Option Bytes) (scope : Scope) → (with_named raw q name scope).statements ≡ scope.statements
-  named_statements q None scope = refl
-  named_statements q (Some x) scope = refl
-
   named_grows : (q : RawParam) (name : Option Bytes) → Grows raw (with_named raw q name)
   named_grows q None = same_grows raw
   named_grows q (Some x) = variable_grows raw (parameter_of q x) init.None
-
-  parameters_statements : (ps : List RawParam) (scope : Scope) → (with_parameters raw ps scope).statements ≡ scope.statements
-  parameters_statements [] scope = refl
-  parameters_statements (q ∷ ps) scope = parameters_statements ps (with_parameter raw q scope) ∙ named_statements q q.name scope
 
   parameters_grow : (ps : List RawParam) → Grows raw (with_parameters raw ps)
   parameters_grow [] = same_grows raw
@@ -95,16 +90,12 @@ module _ (raw : RawProgram) where
   entered_grows : (head : RawHead) → Grows raw (entered raw head)
   entered_grows head = then_grows raw (scope_of_parameters head) (with_parameters raw head.params) (head_grows head) (parameters_grow head.params)
 
-  entered_statements : (head : RawHead) (scope : Scope) → (entered raw head scope).statements ≡ scope.statements
-  entered_statements head scope =
-      parameters_statements head.params (scope_of_parameters head scope) ∙ function_statements head.name scope
-
   after_scoped : (b : List RawStatement) (scope : Scope) → after_all (map (scoped raw) b) scope ≡ after_body raw b scope
   after_scoped [] scope = refl
   after_scoped (x ∷ b) scope = after_scoped b ((scoped raw x).after scope)
 
   after_trees : (b : List RawStatement) (scope : Scope) → after_all (map (treed raw) b) scope ≡ after_body raw b scope
-  after_trees b scope = after_same raw b scope ∙ after_scoped b scope
+  after_trees b scope = list_after raw b scope ∙ after_scoped b scope
 
   -- ---- variables that are declared
 
@@ -190,7 +181,7 @@ module _ (raw : RawProgram) where
   same_takes ds i j k e h = subst (λ n. Takes ds n k) e h
 
   pub items_take : (xs : List RawItem) (scope : Scope) (fs : List Function) → HasFunctions xs scope fs → Takes (all_doings fs) scope.statements (after_items raw xs scope).statements
-  items_take [] scope fs e = subst (λ gs. Takes (all_doings gs) scope.statements scope.statements) (same_some e) (takes_none scope.statements)
+  items_take [] scope fs e = subst (λ gs. Takes (all_doings gs) scope.statements scope.statements) (some_same e) (takes_none scope.statements)
   items_take (Include b ∷ xs) scope fs e = items_take xs scope fs e
   items_take (Tag line tag ∷ xs) scope fs e = items_take xs scope fs e
   items_take (Struct line tag members ∷ xs) scope fs e = items_take xs (after_item raw (Struct line tag members) scope) fs e
@@ -204,7 +195,7 @@ module _ (raw : RawProgram) where
       let inside = entered raw head scope in
       let here : Takes (body_doings q.1) inside.statements (after_all (map (treed raw) body) inside).statements = body_takes raw body inside q.1 q.3 in
       let own : Takes (body_doings g.0.body) scope.statements after.statements =
-      subst (λ (f : Function). Takes (body_doings f.body) scope.statements after.statements) (sym q.4) (same_takes (body_doings q.1) scope.statements inside.statements after.statements (entered_statements head scope) (subst (λ (z : Scope). Takes (body_doings q.1) inside.statements z.statements) (after_trees body inside) here)) in
+      subst (λ (f : Function). Takes (body_doings f.body) scope.statements after.statements) (sym q.4) (same_takes (body_doings q.1) scope.statements inside.statements after.statements (entered_statements raw head scope) (subst (λ (z : Scope). Takes (body_doings q.1) inside.statements z.statements) (after_trees body inside) here)) in
       subst (λ gs. Takes (all_doings gs) scope.statements (after_items raw xs after).statements) (sym g.4)
       (takes_both (body_doings g.0.body) (all_doings g.1) scope.statements after.statements (after_items raw xs after).statements own (items_take xs after g.1 g.3))
 
@@ -222,7 +213,7 @@ module _ (raw : RawProgram) where
       low_more before.variables (after_body raw body inside).variables before.names (omega (arith, g1, g2)) ((function_grows head.name).low scope h)
 
   pub items_below : (xs : List RawItem) (scope : Scope) (fs : List Function) → AreLow scope.variables scope.names → HasFunctions xs scope fs → (m : ℕ) → (after_items raw xs scope).variables ≤ m → list_all (doing_below m) (all_doings fs) ≡ true
-  items_below [] scope fs low e m le = subst (λ gs. list_all (doing_below m) (all_doings gs) ≡ true) (same_some e) refl
+  items_below [] scope fs low e m le = subst (λ gs. list_all (doing_below m) (all_doings gs) ≡ true) (some_same e) refl
   items_below (Include b ∷ xs) scope fs low e m le = items_below xs scope fs low e m le
   items_below (Tag line tag ∷ xs) scope fs low e m le = items_below xs scope fs low e m le
   items_below (Struct line tag members ∷ xs) scope fs low e m le = items_below xs (after_item raw (Struct line tag members) scope) fs low e m le
@@ -245,7 +236,7 @@ module _ (raw : RawProgram) where
   -- ---- main
 
   pub names_are : (xs : List RawItem) (scope : Scope) (fs : List Function) → HasFunctions xs scope fs → map (λ (f : Function). f.name) fs ≡ map (λ (h : RawHead). h.name) (functions_of xs)
-  names_are [] scope fs e = ap (map (λ (f : Function). f.name)) (sym (same_some e))
+  names_are [] scope fs e = ap (map (λ (f : Function). f.name)) (sym (some_same e))
   names_are (Include b ∷ xs) scope fs e = names_are xs scope fs e
   names_are (Tag line tag ∷ xs) scope fs e = names_are xs scope fs e
   names_are (Struct line tag members ∷ xs) scope fs e = names_are xs (after_item raw (Struct line tag members) scope) fs e
@@ -263,7 +254,7 @@ module _ (raw : RawProgram) where
   GiveInts (f ∷ fs) = (f.name ≡ main_name → f.result ≡ Some (type.Integer Int)) × GiveInts fs
 
   pub give_ints : (xs : List RawItem) (scope : Scope) (fs : List Function) → AreKept raw (items_phrases raw xs scope) → HasFunctions xs scope fs → GiveInts fs
-  give_ints [] scope fs kept e = subst GiveInts (same_some e) tt
+  give_ints [] scope fs kept e = subst GiveInts (some_same e) tt
   give_ints (Include b ∷ xs) scope fs kept e = give_ints xs scope fs kept e
   give_ints (Tag line tag ∷ xs) scope fs kept e = give_ints xs scope fs kept.1 e
   give_ints (Struct line tag members ∷ xs) scope fs kept e =
@@ -276,6 +267,6 @@ module _ (raw : RawProgram) where
       let after = after_item raw (Define line head body) scope in
       let g = collected_some (function_tree raw line head body scope) (functions_from raw xs after) fs e in
       let q = parts_of line head body scope g.0 g.2 in
-      let gives : head.name ≡ main_name → q.0 ≡ Some (type.Integer Int) = λ named. same_some (sym q.2 ∙ int_tree raw head.result (int_result head.result (λ ne. kept.0 5 (main (no_int named ne))))) in
+      let gives : head.name ≡ main_name → q.0 ≡ Some (type.Integer Int) = λ named. some_same (sym q.2 ∙ int_tree raw head.result (int_result head.result (λ ne. kept.0 5 (main (no_int named ne))))) in
       subst GiveInts (sym g.4)
       (λ named. ap (λ (f : Function). f.result) q.4 ∙ gives (sym (ap (λ (f : Function). f.name) q.4) ∙ named), give_ints xs after g.1 (kept_second raw (item_phrases raw (Define line head body) scope) (items_phrases raw xs after) kept) g.3)

@@ -15,7 +15,7 @@ use Rattle.c_tree.specs.declared.raw.statement.RawAmount.{RawAmount}
 use Rattle.c_tree.specs.declared.raw.statement.RawAmount.TheVariants as amount
 use Rattle.c_tree.specs.declared.raw.statement.RawArg.{RawArg}
 use Rattle.c_tree.specs.declared.raw.statement.RawArg.TheVariants as arg
-use Rattle.c_tree.specs.declared.raw.statement.RawArm.{RawArm, fold-RawArm, roll-RawArm, map-RawArm, fold-roll-RawArm}
+use Rattle.c_tree.specs.declared.raw.statement.RawArm.{RawArm, roll-RawArm, map-RawArm, fold-roll-RawArm}
 use Rattle.c_tree.specs.declared.raw.statement.RawStatement.{RawStatement, ind-RawStatement, roll-RawStatement, map-RawStatement, fold-roll-RawStatement}
 use Rattle.c_tree.specs.declared.raw.statement.RawStatement.TheOpen.{RawStatement-F, RawArm-F}
 use Rattle.c_tree.specs.declared.raw.statement.RawTarget.{RawTarget}
@@ -34,8 +34,10 @@ use Rattle.c_language.specs.DeclaredTypes.{function_id}
 use Rattle.c_language.specs.ProgramOf.{collected, optional, ctype_if, expr_of, exprs_of, init_of, declaration_id, target_tree, arg_tree, args_tree, only_tree, size_tree, amount_tree, call_tree, label_tree, arm_tree, ArmTree, arm_tree_step, block_tree, at_type, switch_type, for_tree, treed_step, treed, body_of}
 use Rattle.c_language.specs.Scopes.{Entry, Scope, Meaning, Scoped, opened, closed, numbered, with_variable, with_target, begun, in_order, after_all, after_block}
 use Rattle.c_language.specs.TypeGrammar.{named_type}
+use Rattle.c_language.proofs.TreedForms.{treed_arm}
+use Rattle.c_language.proofs.Options.{none_there, some_same, map_some}
 use Rattle.built_forms.specs.NamesBelow.{names_below}
-use Rattle.built_forms.proofs.Options.{none_some, same_some, then_some, map_some, both_some, Always, always_is, collected_some}
+use Rattle.built_forms.proofs.Options.{then_some, both_some, Always, always_is, collected_some}
 use Rattle.dep_model.specs.Doings.{Doing, Does, doings, body_doings}
 use Rattle.dep_model.specs.NumberedMains.{value_below, init_below, target_below, amount_below, doing_below}
 use Rattle.dep_model.proofs.BoolLemmas.{both_true}
@@ -163,14 +165,11 @@ module _ (raw : RawProgram) where
     pub grows : Grows t.after
     pub below : (scope : Scope) (k : IntType) (a : Arm) → AreLow scope.variables scope.names → t.gives scope k ≡ Some a → (m : ℕ) → (t.after scope).variables ≤ m → list_all (doing_below m) (body_doings a.body) ≡ true
 
-  abbrev of_arm : RawArm → Scoped ArmTree
-  of_arm = fold-RawArm (Scoped (Option Statement)) (Scoped ArmTree) (treed_step raw) (arm_tree_step raw)
-
   abbrev Known : Type 0
   Known = (one : RawStatement) × Case (treed raw one)
 
   abbrev KnownArm : Type 0
-  KnownArm = (a : RawArm) × ArmCase (of_arm a)
+  KnownArm = (a : RawArm) × ArmCase (treed_arm raw a)
 
   abbrev layer_of : RawStatement-F Known KnownArm → RawStatement-F RawStatement RawArm
   layer_of = map-RawStatement Known KnownArm RawStatement RawArm (λ p. p.0) (λ p. p.0)
@@ -179,16 +178,16 @@ module _ (raw : RawProgram) where
   arm_layer_of = map-RawArm Known KnownArm RawStatement RawArm (λ p. p.0) (λ p. p.0)
 
   abbrev as_tree : RawStatement-F RawStatement RawArm → Scoped (Option Statement)
-  as_tree y = treed_step raw (map-RawStatement RawStatement RawArm (Scoped (Option Statement)) (Scoped ArmTree) (treed raw) of_arm y)
+  as_tree y = treed_step raw (map-RawStatement RawStatement RawArm (Scoped (Option Statement)) (Scoped ArmTree) (treed raw) (treed_arm raw) y)
 
   abbrev as_arm : RawArm-F RawStatement RawArm → Scoped ArmTree
-  as_arm y = arm_tree_step raw (map-RawArm RawStatement RawArm (Scoped (Option Statement)) (Scoped ArmTree) (treed raw) of_arm y)
+  as_arm y = arm_tree_step raw (map-RawArm RawStatement RawArm (Scoped (Option Statement)) (Scoped ArmTree) (treed raw) (treed_arm raw) y)
 
   abbrev trees : List Known → List (Scoped (Option Statement))
   trees ks = map (treed raw) (map (λ (p : Known). p.0) ks)
 
   abbrev arm_trees : List KnownArm → List (Scoped ArmTree)
-  arm_trees ks = map of_arm (map (λ (p : KnownArm). p.0) ks)
+  arm_trees ks = map (treed_arm raw) (map (λ (p : KnownArm). p.0) ks)
 
   -- ---- scopes
 
@@ -207,7 +206,7 @@ module _ (raw : RawProgram) where
 
   arms_grow : (ks : List KnownArm) → Grows (after_all (arm_trees ks))
   arms_grow [] = same_grows
-  arms_grow (k ∷ ks) = then_grows (of_arm k.0).after (after_all (arm_trees ks)) k.1.grows (arms_grow ks)
+  arms_grow (k ∷ ks) = then_grows (treed_arm raw k.0).after (after_all (arm_trees ks)) k.1.grows (arms_grow ks)
 
   -- names of a block are gone behind it
   closed_grows : (f : Scope → Scope) → Grows f → Grows (λ scope. closed scope (f scope))
@@ -231,7 +230,7 @@ module _ (raw : RawProgram) where
   -- ---- a list, and a part of a for
 
   list_below : (ks : List Known) (scope : Scope) (xs : List Statement) → AreLow scope.variables scope.names → collected (in_order (trees ks) scope) ≡ Some xs → (m : ℕ) → (after_all (trees ks) scope).variables ≤ m → list_all (doing_below m) (body_doings xs) ≡ true
-  list_below [] scope xs low e m le = subst (λ ys. list_all (doing_below m) (body_doings ys) ≡ true) (same_some e) refl
+  list_below [] scope xs low e m le = subst (λ ys. list_all (doing_below m) (body_doings ys) ≡ true) (some_same e) refl
   list_below (k ∷ ks) scope xs low e m le =
       let t = treed raw k.0 in
       let z = collected_some (t.gives scope) (in_order (trees ks) (t.after scope)) xs e in
@@ -240,9 +239,9 @@ module _ (raw : RawProgram) where
       (all_append (doing_below m) (doings z.0) (body_doings z.1) (k.1.below scope z.0 low z.2 m (omega (arith, more, le))) (list_below ks (t.after scope) z.1 (k.1.grows.low scope low) z.3 m le))
 
   arms_below : (ks : List KnownArm) (scope : Scope) (i : IntType) (as_ : List Arm) → AreLow scope.variables scope.names → at_type i (in_order (arm_trees ks) scope) ≡ Some as_ → (m : ℕ) → (after_all (arm_trees ks) scope).variables ≤ m → list_all (doing_below m) (arms_doings as_) ≡ true
-  arms_below [] scope i as_ low e m le = subst (λ ys. list_all (doing_below m) (arms_doings ys) ≡ true) (same_some e) refl
+  arms_below [] scope i as_ low e m le = subst (λ ys. list_all (doing_below m) (arms_doings ys) ≡ true) (some_same e) refl
   arms_below (k ∷ ks) scope i as_ low e m le =
-      let t = of_arm k.0 in
+      let t = treed_arm raw k.0 in
       let z = collected_some (t.gives scope i) (map (λ (a : ArmTree). a i) (in_order (arm_trees ks) (t.after scope))) as_ e in
       let more : (t.after scope).variables ≤ (after_all (arm_trees ks) (t.after scope)).variables = (arms_grow ks).more (t.after scope) in
       subst (λ ys. list_all (doing_below m) (arms_doings ys) ≡ true) (sym z.4)
@@ -309,7 +308,7 @@ module _ (raw : RawProgram) where
   declare_below : (scope : Scope) (low : AreLow scope.variables scope.names) (v : _) (l : ℕ) (i : RawInit) (x : Statement) (m : ℕ)
       → option_map (s.Declare (declaration_id i scope.statements) l scope.variables) (init_of raw (with_variable raw v i scope) i) ≡ Some x → (begun i (with_variable raw v i scope)).variables ≤ m → IsBelow m x
   declare_below scope low v l init.None x m e le =
-      subst (IsBelow m) (same_some e) (subst (λ ds. list_all (doing_below m) ds ≡ true) (sym (doings-Declare None l scope.variables begins.None)) refl)
+      subst (IsBelow m) (some_same e) (subst (λ ds. list_all (doing_below m) ds ≡ true) (sym (doings-Declare None l scope.variables begins.None)) refl)
   declare_below scope low v l (init.One a) x m e le =
       let k = map_some (s.Declare (Some scope.statements) l scope.variables) (init_of raw (with_variable raw v (init.One a) scope) (init.One a)) x e in
       let h = always_is (λ n. init_below m n ≡ true) (init_of raw (with_variable raw v (init.One a) scope) (init.One a)) k.0 (init_low (with_variable raw v (init.One a) scope) ((variable_grows v (init.One a)).low scope low) m le (init.One a)) k.1 in
@@ -333,15 +332,15 @@ module _ (raw : RawProgram) where
   part_grows (Some k) = k.1.grows
 
   part_below : (o : Option Known) (scope : Scope) (x : Option Statement) → AreLow scope.variables scope.names → part_given o scope ≡ Some x → (m : ℕ) → (part_after o scope).variables ≤ m → list_all (doing_below m) (part_doings x) ≡ true
-  part_below None scope x low e m le = subst (λ y. list_all (doing_below m) (part_doings y) ≡ true) (same_some e) refl
+  part_below None scope x low e m le = subst (λ y. list_all (doing_below m) (part_doings y) ≡ true) (some_same e) refl
   part_below (Some k) scope x low e m le = by_value ((treed raw k.0).gives scope) refl e
     where
       by_value : (o : Option Statement) → (treed raw k.0).gives scope ≡ o → optional (Some ((treed raw k.0).gives scope)) ≡ Some x → list_all (doing_below m) (part_doings x) ≡ true
       by_value o is h = given o is (sym (ap (λ (z : Option Statement). optional (Some z)) is) ∙ h)
         where
           given : (o : Option Statement) → (treed raw k.0).gives scope ≡ o → optional (Some o) ≡ Some x → list_all (doing_below m) (part_doings x) ≡ true
-          given None is h = absurd (none_some h)
-          given (Some y) is h = subst (λ z. list_all (doing_below m) (part_doings z) ≡ true) (same_some h) (k.1.below scope y low is m le)
+          given None is h = none_there h
+          given (Some y) is h = subst (λ z. list_all (doing_below m) (part_doings z) ≡ true) (some_same h) (k.1.below scope y low is m le)
 
   -- the scope behind the first part and the step of a for, from where its test is numbered
   abbrev parts_after : Option Known → Option Known → Scope → Scope
@@ -460,9 +459,9 @@ module _ (raw : RawProgram) where
 
   statement_case : (one : RawStatement) → Case (treed raw one)
   statement_case =
-      ind-RawStatement (λ one. Case (treed raw one)) (λ a. ArmCase (of_arm a))
+      ind-RawStatement (λ one. Case (treed raw one)) (λ a. ArmCase (treed_arm raw a))
       (λ z y is. subst (λ w. Case (treed raw (roll-RawStatement w))) is (subst Case (sym (fold-roll-RawStatement (Scoped (Option Statement)) (Scoped ArmTree) (treed_step raw) (arm_tree_step raw) (layer_of y))) (layer_case y)))
-      (λ z y is. subst (λ w. ArmCase (of_arm (roll-RawArm w))) is (subst ArmCase (sym (fold-roll-RawArm (Scoped (Option Statement)) (Scoped ArmTree) (treed_step raw) (arm_tree_step raw) (arm_layer_of y))) (arm_case y)))
+      (λ z y is. subst (λ w. ArmCase (treed_arm raw (roll-RawArm w))) is (subst ArmCase (sym (fold-roll-RawArm (Scoped (Option Statement)) (Scoped ArmTree) (treed_step raw) (arm_tree_step raw) (arm_layer_of y))) (arm_case y)))
 
   abbrev all_known : List RawStatement → List Known
   all_known b = map (λ (x : RawStatement). let k : Known = (x, statement_case x) in k) b

@@ -17,7 +17,7 @@ use Rattle.dep_model.specs.MainVertices.{from}
 use Rattle.dep_model.specs.NumberedMains.{doing_number, doing_below, IsNumberedMain}
 use Rattle.projection_laws.proofs.Unlining.{zeroed, fold_unlined}
 use Rattle.projection_laws.proofs.SamePrograms.{main_same}
-use Rattle.integer_texts.specs.Law.{WellFormedAreNumbered}
+use Rattle.integer_texts.specs.Laws.{WellFormedAreNumbered}
 use Rattle.integer_texts.proofs.Texts.{texts_numbered}
 
 doing_free : (x : Statement-F (List Doing) (List Doing)) → doing_step (zeroed x) ≡ doing_step x

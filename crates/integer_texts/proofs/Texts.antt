@@ -16,7 +16,7 @@ use Rattle.c_language.specs.DeclaredTypes.{functions_of}
 use Rattle.c_language.specs.NameRules.{main_name}
 use Rattle.c_language.specs.Phrases.{phrases, after_items, items_phrases, scope_at_end}
 use Rattle.c_language.specs.ProgramOf as trees
-use Rattle.c_language.specs.ProgramOf.{items_of, variables_of, collected, functions_from, variables_in, program_with, program_of}
+use Rattle.c_language.specs.ProgramOf.{items_of, variables_of, collected, functions_from, variables_in, program_with}
 use Rattle.c_language.specs.Programs.{HasProgram}
 use Rattle.c_language.specs.Rules.{by_phrase, no_main}
 use Rattle.c_language.specs.Scopes.{outset}
@@ -29,7 +29,7 @@ use Rattle.dep_model.specs.MainVertices.{from}
 use Rattle.dep_model.specs.NumberedMains.{doing_number, doing_below, IsNumberedMain}
 use Rattle.dep_model.proofs.NumberedMain.{main_doings}
 use Rattle.dep_model.proofs.TextNumbers.{Takes}
-use Rattle.integer_texts.specs.Law.{IntegerTextsAreNumbered}
+use Rattle.integer_texts.specs.Laws.{IntegerTextsAreNumbered}
 use Rattle.integer_texts.proofs.Items.{all_doings, items_count, items_take, items_below, names_are, give_ints}
 
 head_is : {x y : Bytes} {xs ys : List Bytes} → x ∷ xs ≡ y ∷ ys → x ≡ y

@@ -10,9 +10,6 @@ use Rattle.dep_model.proofs.BoolLemmas.{or_none, or_true, or_assoc, and_false, a
 use Rattle.dep_model.proofs.WholeVariables.{truth}
 use Rattle.main_skeleton.specs.Facts.{with_bit, with_variable, with_variables, with_result, result_if}
 
-and_none : (a b : Bool) → b ≡ false → (a && b) ≡ false
-and_none a b e = ap (λ x. a && x) e ∙ and_false a
-
 not_equal : (i j : ℕ) → i ≢ j → (i == j) ≡ false
 not_equal i j ne = ne_eqb i j ne
 

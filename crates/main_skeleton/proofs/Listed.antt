@@ -28,7 +28,7 @@ use Rattle.dep_model.specs.SystemGraph.{places_at}
 use Rattle.dep_model.specs.VertexOrder.{has_number, statement_defines, vertex_effects}
 use Rattle.dep_model.proofs.BoolLemmas.{and_false}
 use Rattle.dep_model.proofs.IntegerActs.{is_integer_doing}
-use Rattle.dep_model.proofs.ListLemmas.{contains_head, contains_cons, map_contains}
+use Rattle.rule_closure.proofs.ListLemmas.{contains_head, contains_cons, map_contains}
 use Rattle.dep_model.proofs.MainVertexLemmas.{IsMainVertex, entry, numbered, vertex_cases}
 use Rattle.dep_model.proofs.NumberedEdges.{numbered_vertices}
 use Rattle.dep_model.proofs.NumberedLocations.{numbered_locations, variable_listed, result_listed}

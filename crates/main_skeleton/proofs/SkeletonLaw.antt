@@ -35,12 +35,6 @@ use Rattle.main_skeleton.specs.Marks.{main_vertices, main_effects}
 use Rattle.main_skeleton.proofs.DoingLemmas.{used_by, defined_by, killed_by, by_all, used_all, defined_all, killed_all, Marks, all_sized, all_has, used_test, defined_test, killed_test, used_marks, defined_marks, killed_marks, none_at_entry, any_found, found_passes}
 use Rattle.main_skeleton.proofs.FactLemmas.{is_bit, any_bit}
 
-same_sym : (x y : ℕ) → (x == y) ≡ (y == x)
-same_sym x y = elim (cases_eq x y) [
-  | inl same ↦ eq-eqb x y same ∙ sym (eq-eqb y x (sym same))
-  | inr other ↦ ne_eqb x y other ∙ sym (ne_eqb y x (λ e. other (sym e)))
-]
-
 -- ---- bits and locations
 
 module _ (rows m : ℕ) where

@@ -7,22 +7,23 @@ pub fn numbered_have_analyses()
     ensures { law.NumberedHaveAnalyses }
 {}
 
-/// A law: its vertices are the entry of main and the statements by their numbers.
+/// A law: the vertices of a numbered main over integers are the entry of main and the statements by their numbers.
 pub fn vertices_are_of_main()
     ensures { law.VerticesAreOfMain }
 {}
 
-/// A law: its locations are the input, one a variable, and main's result.
+/// A law: the locations of a numbered main over integers are the input, one a variable, and main's result.
 pub fn locations_are_of_main()
     ensures { law.LocationsAreOfMain }
 {}
 
-/// A law: its edges are the control edges and the flow edges of main.
+/// A law: the edges of a numbered main over integers are the control edges and the flow edges of main.
 pub fn edges_are_of_main()
     ensures { law.EdgesAreOfMain }
 {}
 
-/// A law: each location that a vertex may define and a vertex may use is among the program's.
+/// A law: each location that a vertex of a numbered main over integers may define and one may use is among
+/// the program's locations.
 pub fn locations_are_listed()
     ensures { law.LocationsAreListed }
 {}

@@ -23,7 +23,8 @@ pub use laws::{
 use std::alloc::{AllocError, Global};
 
 /// The skeleton of a program of main alone over integers: its vertices are the entry of main and its
-/// statements by their numbers, and each has its row of what it may define, may use and kills.
+/// statements by their numbers, and each has its row of what it may define, may use and kills. Err: no
+/// memory was left.
 pub fn skeleton_of(alloc: Global, p: &Program) -> Result<Skeleton, AllocError>
     requires numbered { IsNumberedMain p.now }
     requires few { p.now.statements + 1 < 2 ^ 32 }

@@ -1,21 +1,9 @@
 -- Expressions with other numbers for their variables, layer by layer.
-use Rattle.std.proofs.Common.{◌≡◌, ℕ, sym, ap, ◌∙◌, subst}
-use Rattle.c_tree.specs.declared.expr.Expr.{Expr, fold-Expr, fold-roll-Expr, ind-Expr, roll-Expr, map-Expr}
+use Rattle.std.proofs.Common.{◌≡◌, ℕ, sym, ap, ◌∙◌}
+use Rattle.c_tree.specs.declared.expr.Expr.{Expr, fold-Expr, fold-roll-Expr, roll-Expr, map-Expr}
 use Rattle.c_tree.specs.declared.expr.Expr.TheOpen.{Expr-F}
 use Rattle.c_tree.specs.declared.expr.Expr.TheVariants as e
 use Rattle.projection.specs.Renumbering.{renamed_step, renamed}
-
--- a layer of an expression, with a fact about each part
-abbrev pub ExprParts : (Expr → Type 0) → Type 0
-ExprParts Q = Expr-F ((a : Expr) × Q a)
-
--- the layer alone
-abbrev pub expr_layer : (Q : Expr → Type 0) → ExprParts Q → Expr-F Expr
-expr_layer Q = map-Expr ((a : Expr) × Q a) Expr (λ a. a.0)
-
--- a fact about expressions holds where each layer has it from its parts
-pub of_every_expr : (Q : Expr → Type 0) → ((y : ExprParts Q) → Q (roll-Expr (expr_layer Q y))) → (a : Expr) → Q a
-of_every_expr Q layer = ind-Expr Q (λ x y is. subst (λ z. Q (roll-Expr z)) is (layer y))
 
 -- a layer with another number for its variable
 abbrev pub renamed_layer : (ℕ → ℕ) → Expr-F Expr → Expr-F Expr

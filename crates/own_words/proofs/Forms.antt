@@ -1,6 +1,7 @@
 -- What stays of a kept statement, form by form: one statement, with the same line and words.
 use Rattle.std.proofs.Common.{◌≡◌, ◌==◌, ℕ, List, [], ◌∷◌, ◌++◌, map, Option, Some, None, Bool, true, false, ◌&&◌, ◌||◌, codes, refl, sym, ap, ◌∙◌, eq-eqb}
 use Rattle.std.specs.Prelude.{option_map}
+use Rattle.std.proofs.lemmas.Bool.{or_left, and_from}
 use Rattle.c_tree.specs.declared.expr.Expr.{Expr}
 use Rattle.c_tree.specs.declared.program.Program.{Program}
 use Rattle.c_tree.specs.declared.statement.Arm.{Arm, fold-Arm}
@@ -12,12 +13,11 @@ use Rattle.c_tree.specs.declared.statement.Target.TheVariants as target
 use Rattle.c_tree.specs.Numbered.{Start, start, layer_start}
 use Rattle.c_language.specs.Words.{Bytes, assign_sign, name_of_function, expr_words}
 use Rattle.c_language.specs.Layout.{init_words, var_words, target_words, amount_words, cast_words, call_words, bump_words, return_words, Laid, statement_step, arm_step, laid, statement_words}
+use Rattle.c_language.proofs.Options.{none_there, some_same}
 use Rattle.projection.specs.Kept.{rank}
 use Rattle.projection.specs.Names.{names, any_names, init_names, target_names, amount_names, value_names, refers_step, refers_arm, refers}
 use Rattle.projection.specs.Renumbering.{renamed, renamed_init, renamed_target, renamed_amount}
 use Rattle.projection.specs.Projection.{if_so, first_of, projected_step, projected, projected_arm, projected_all}
-use Rattle.projection_laws.proofs.Options.{left_or, and_true}
-use Rattle.c_scope_laws.proofs.Options.{none_there, some_same}
 use Rattle.own_words.specs.OwnWords.{layer_words, own_words}
 use Rattle.own_words.proofs.Lists.{two, three}
 use Rattle.own_words.proofs.Words.{same_numbers, NamesPass, left_pass, right_pass, kept, staying, ranked, smaller, var_words_same, expr_says, all_say, function_same, cast_same, init_says, target_says, amount_says, return_says}
@@ -230,19 +230,19 @@ module _ (p : Program) (keeps : ℕ → Bool) where
   -- a kept statement refers to what its own words name
   pub own_refers : (z : Statement-F Statement Arm) (i n : ℕ) → layer_start z ≡ Some (start i n) → keeps i ≡ true → (v : ℕ) → layer_names z v ≡ true → step_refers z v ≡ true
   own_refers (Statement-F.Declare None l x a) i n is h v m = none_there is
-  own_refers (Statement-F.Declare (Some id) l x a) i n is h v m = and_true (same_kept id l i n is h) m
-  own_refers (Statement-F.Assign id l a op b) i n is h v m = and_true (same_kept id l i n is h) m
-  own_refers (Statement-F.Bump id l a up before) i n is h v m = and_true (same_kept id l i n is h) m
-  own_refers (Statement-F.Invoke id l to f args) i n is h v m = and_true (same_kept id l i n is h) m
-  own_refers (Statement-F.Fetch id l to) i n is h v m = and_true (same_kept id l i n is h) m
-  own_refers (Statement-F.Write id l a) i n is h v m = and_true (same_kept id l i n is h) m
-  own_refers (Statement-F.Print id l format args) i n is h v m = and_true (same_kept id l i n is h) m
-  own_refers (Statement-F.Heap id l to cast count) i n is h v m = and_true (same_kept id l i n is h) m
-  own_refers (Statement-F.Release id l a) i n is h v m = and_true (same_kept id l i n is h) m
-  own_refers (Statement-F.If id l e a b) i n is h v m = left_or (keeps id && names e v) _ (and_true (same_kept id l i n is h) m)
-  own_refers (Statement-F.While id l e b) i n is h v m = left_or (keeps id && names e v) _ (and_true (same_kept id l i n is h) m)
-  own_refers (Statement-F.Do id l e b) i n is h v m = left_or (keeps id && names e v) _ (and_true (same_kept id l i n is h) m)
-  own_refers (Statement-F.For id l first e step b) i n is h v m = left_or (keeps id && names e v) _ (and_true (same_kept id l i n is h) m)
-  own_refers (Statement-F.Switch id l e arms) i n is h v m = left_or (keeps id && names e v) _ (and_true (same_kept id l i n is h) m)
+  own_refers (Statement-F.Declare (Some id) l x a) i n is h v m = and_from _ _ (same_kept id l i n is h) m
+  own_refers (Statement-F.Assign id l a op b) i n is h v m = and_from _ _ (same_kept id l i n is h) m
+  own_refers (Statement-F.Bump id l a up before) i n is h v m = and_from _ _ (same_kept id l i n is h) m
+  own_refers (Statement-F.Invoke id l to f args) i n is h v m = and_from _ _ (same_kept id l i n is h) m
+  own_refers (Statement-F.Fetch id l to) i n is h v m = and_from _ _ (same_kept id l i n is h) m
+  own_refers (Statement-F.Write id l a) i n is h v m = and_from _ _ (same_kept id l i n is h) m
+  own_refers (Statement-F.Print id l format args) i n is h v m = and_from _ _ (same_kept id l i n is h) m
+  own_refers (Statement-F.Heap id l to cast count) i n is h v m = and_from _ _ (same_kept id l i n is h) m
+  own_refers (Statement-F.Release id l a) i n is h v m = and_from _ _ (same_kept id l i n is h) m
+  own_refers (Statement-F.If id l e a b) i n is h v m = or_left (keeps id && names e v) _ (and_from _ _ (same_kept id l i n is h) m)
+  own_refers (Statement-F.While id l e b) i n is h v m = or_left (keeps id && names e v) _ (and_from _ _ (same_kept id l i n is h) m)
+  own_refers (Statement-F.Do id l e b) i n is h v m = or_left (keeps id && names e v) _ (and_from _ _ (same_kept id l i n is h) m)
+  own_refers (Statement-F.For id l first e step b) i n is h v m = or_left (keeps id && names e v) _ (and_from _ _ (same_kept id l i n is h) m)
+  own_refers (Statement-F.Switch id l e arms) i n is h v m = or_left (keeps id && names e v) _ (and_from _ _ (same_kept id l i n is h) m)
   own_refers (Statement-F.Block l b) i n is h v m = none_there is
-  own_refers (Statement-F.Return id l a) i n is h v m = and_true (same_kept id l i n is h) m
+  own_refers (Statement-F.Return id l a) i n is h v m = and_from _ _ (same_kept id l i n is h) m

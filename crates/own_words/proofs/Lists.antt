@@ -1,12 +1,7 @@
 -- What stands in a list, and tests that hold of it.
-use Rattle.std.proofs.Common.{◌≡◌, ℕ, zero, suc, ◌<◌, List, [], ◌∷◌, ◌++◌, length, get_or, Contains, Bool, true, false, ◌⊎◌, inl, inr, refl, ap, ◌∙◌, subst, arith}
+use Rattle.std.proofs.Common.{◌≡◌, ℕ, zero, suc, ◌<◌, List, [], ◌∷◌, ◌++◌, length, get_or, Contains, Bool, true, ◌⊎◌, inl, inr, refl, ap, ◌∙◌, subst, arith}
 use Rattle.std.specs.List.{list_all, list_any}
-use Rattle.projection_laws.proofs.Options.{both_true, left_or, right_or}
-
--- cases, each with its equation
-pub by_bool : (b : Bool) (A : Type 0) → (b ≡ true → A) → (b ≡ false → A) → A
-by_bool true A x y = x refl
-by_bool false A x y = y refl
+use Rattle.std.proofs.lemmas.Bool.{and_parts, or_left, or_right}
 
 -- a function of two things that are the same
 pub two : {A B C : Type 0} (f : A → B → C) {a b : A} {c d : B} → a ≡ b → c ≡ d → f a c ≡ f b d
@@ -39,9 +34,9 @@ among_contains first = (0, omega arith, refl)
 among_contains (next h) = let c = among_contains h in (suc c.0, omega (arith, c.1), c.2)
 
 pub all_hold : {A : Type 0} (test : A → Bool) {xs : List A} {x : A} → Among xs x → list_all test xs ≡ true → test x ≡ true
-all_hold test (first {x} {rest}) h = (both_true (test x) (list_all test rest) h).0
-all_hold test (next {y} {x} {rest} m) h = all_hold test m (both_true (test y) (list_all test rest) h).1
+all_hold test (first {x} {rest}) h = (and_parts (test x) (list_all test rest) h).0
+all_hold test (next {y} {x} {rest} m) h = all_hold test m (and_parts (test y) (list_all test rest) h).1
 
 pub any_holds : {A : Type 0} (test : A → Bool) {xs : List A} {x : A} → Among xs x → test x ≡ true → list_any test xs ≡ true
-any_holds test (first {x} {rest}) h = left_or (test x) (list_any test rest) h
-any_holds test (next {y} {x} {rest} m) h = right_or (test y) (list_any test rest) (any_holds test m h)
+any_holds test (first {x} {rest}) h = or_left (test x) (list_any test rest) h
+any_holds test (next {y} {x} {rest} m) h = or_right (test y) (list_any test rest) (any_holds test m h)

@@ -5,7 +5,7 @@ use Rattle.std.proofs.lemmas.Bool.{cases_lt}
 use Rattle.c_tree.specs.declared.program.Var.{Var}
 use Rattle.projection.specs.Kept.{Kept, rank}
 use Rattle.projection.specs.Projection.{projected_var, projected_vars}
-use Rattle.own_words.proofs.Lists.{by_bool}
+use Rattle.projection.proofs.RankLemmas.{by_bool}
 
 module _ (keeps : ℕ → Bool) where
   rank_step : (b : Bool) (m : ℕ) → m ≤ (if b then suc m else m)
@@ -15,7 +15,7 @@ module _ (keeps : ℕ → Bool) where
   same_rank : (m n : ℕ) → m ≡ n → rank keeps m ≤ rank keeps n
   same_rank m n e = let h = ap (rank keeps) e in omega arith
 
-  rank_grows : (m n : ℕ) → m ≤ n → rank keeps m ≤ rank keeps n
+  pub rank_grows : (m n : ℕ) → m ≤ n → rank keeps m ≤ rank keeps n
   rank_grows m zero le = same_rank m 0 (omega arith)
   rank_grows m (suc n) le =
       elim (cases_lt m (suc n)) [

@@ -1,6 +1,7 @@
 -- What stands in a statement or in a list, by what is known of one of its parts.
 use Rattle.std.proofs.Common.{◌≡◌, ℕ, List, [], ◌∷◌, ◌++◌, map, Option, Some, None, Bool, true, false, ◌&&◌, ◌||◌, inl, inr, refl, sym, ap, subst}
 use Rattle.std.specs.Option.{option_to_list}
+use Rattle.std.proofs.lemmas.Bool.{and_parts, or_left, or_right}
 use Rattle.c_tree.specs.declared.program.Program.{Program}
 use Rattle.c_tree.specs.declared.statement.Arm.{Arm, out-Arm, fold_out-Arm}
 use Rattle.c_tree.specs.declared.statement.Statement.{Statement, out-Statement}
@@ -14,10 +15,11 @@ use Rattle.c_tree.proofs.LayerLemmas.{inner-Block}
 use Rattle.c_tree.proofs.SearchLemmas.{stands_left, stands_right}
 use Rattle.projection.specs.Names.{either, refers_step, refers_arm, refers}
 use Rattle.projection.specs.Projection.{if_so, first_of, is_declaring, bare, bare_target, alone, block_of, projected_step, projected_arm_step}
+use Rattle.projection.proofs.RankLemmas.{by_bool}
 use Rattle.projection_laws.specs.Nested.{Nest, any_kept, all_fit, governs, nest_step, nest_arm, nest}
-use Rattle.projection_laws.proofs.Options.{both_true, left_or, right_or}
 use Rattle.projection_laws.proofs.StatementForms.{arm_nest}
-use Rattle.own_words.proofs.Lists.{by_bool, Among, among_split}
+use Rattle.projection_laws.proofs.Standing.{governs_back}
+use Rattle.own_words.proofs.Lists.{Among, among_split}
 use Rattle.own_words.proofs.Lists.Among.{first, next}
 use Rattle.own_words.proofs.Words.{same_numbers, kept}
 use Rattle.own_words.proofs.Forms.{fold_layer, so, left, arm_left, all_left, step_left, refers_to_arm}
@@ -32,12 +34,7 @@ among_one (next h) = among_none h
 stands_none : {A : Type 0} {y : Statement} → StandsIn [] y → A
 stands_none h = elim h [ ]
 
-governs_back : (b within : Bool) → governs b within ≡ true → within ≡ true → b ≡ true
-governs_back true within g h = refl
-governs_back false true g h = g
-governs_back false false g h = h
-
-not_so : {A : Type 0} (b : Bool) (xs ys : List A) → b ≡ false → if_so b xs ys ≡ ys
+pub not_so : {A : Type 0} (b : Bool) (xs ys : List A) → b ≡ false → if_so b xs ys ≡ ys
 not_so b xs ys h = ap (λ c. if_so c xs ys) h
 
 -- ---- lists of one or none
@@ -119,37 +116,37 @@ module _ (p : Program) (keeps : ℕ → Bool) where
 
   pub holds_first : (a e b f : Bool) (m n : ℕ → Bool) (xs ys : List Statement) (x : Statement) → Holds a e m xs x → Holds (a || b) (e && f) (λ v. m v || n v) (xs ++ ys) x
   holds_first a e b f m n xs ys x h = record {
-    keeps_it = λ k. left_or a b (h.keeps_it k);
-    fits_it = λ g. h.fits_it (both_true e f g).0;
-    names_it = λ v r. left_or (m v) (n v) (h.names_it v r);
-    stands_it = λ k g y r. stands_left (h.stands_it k (both_true e f g).0 y r) ys;
+    keeps_it = λ k. or_left a b (h.keeps_it k);
+    fits_it = λ g. h.fits_it (and_parts e f g).0;
+    names_it = λ v r. or_left (m v) (n v) (h.names_it v r);
+    stands_it = λ k g y r. stands_left (h.stands_it k (and_parts e f g).0 y r) ys;
   }
 
   pub holds_second : (a e b f : Bool) (m n : ℕ → Bool) (xs ys : List Statement) (x : Statement) → Holds b f n ys x → Holds (a || b) (e && f) (λ v. m v || n v) (xs ++ ys) x
   holds_second a e b f m n xs ys x h = record {
-    keeps_it = λ k. right_or a b (h.keeps_it k);
-    fits_it = λ g. h.fits_it (both_true e f g).1;
-    names_it = λ v r. right_or (m v) (n v) (h.names_it v r);
-    stands_it = λ k g y r. stands_right xs (h.stands_it k (both_true e f g).1 y r);
+    keeps_it = λ k. or_right a b (h.keeps_it k);
+    fits_it = λ g. h.fits_it (and_parts e f g).1;
+    names_it = λ v r. or_right (m v) (n v) (h.names_it v r);
+    stands_it = λ k g y r. stands_right xs (h.stands_it k (and_parts e f g).1 y r);
   }
 
   -- what stands in an if, a loop or a switch
   pub holds_under : (id : ℕ) (own : ℕ → Bool) (a e : Bool) (m : ℕ → Bool) (xs : List Statement) (outer x : Statement) → inner outer ≡ xs → Holds a e m xs x → Holds (keeps id || a) (governs (keeps id) a && e) (λ v. own v || m v) (if_so (keeps id) (outer ∷ []) []) x
   holds_under id own a e m xs outer x is h = record {
-    keeps_it = λ k. right_or (keeps id) a (h.keeps_it k);
-    fits_it = λ g. h.fits_it (both_true (governs (keeps id) a) e g).1;
-    names_it = λ v r. right_or (own v) (m v) (h.names_it v r);
-    stands_it = λ k g y r. let both = both_true (governs (keeps id) a) e g in subst (λ zs. StandsIn zs y) (sym (so (keeps id) (outer ∷ []) [] (governs_back (keeps id) a both.0 (h.keeps_it k)))) (inside (subst (λ zs. StandsIn zs y) (sym is) (h.stands_it k both.1 y r)));
+    keeps_it = λ k. or_right (keeps id) a (h.keeps_it k);
+    fits_it = λ g. h.fits_it (and_parts (governs (keeps id) a) e g).1;
+    names_it = λ v r. or_right (own v) (m v) (h.names_it v r);
+    stands_it = λ k g y r. let both = and_parts (governs (keeps id) a) e g in subst (λ zs. StandsIn zs y) (sym (so (keeps id) (outer ∷ []) [] (governs_back (keeps id) a both.0 (h.keeps_it k)))) (inside (subst (λ zs. StandsIn zs y) (sym is) (h.stands_it k both.1 y r)));
   }
 
   -- what a for begins with
   pub holds_begun : (id : ℕ) (own : ℕ → Bool) (a e b f : Bool) (m n : ℕ → Bool) (xs ys zs : List Statement) (outer x : Statement) → inner outer ≡ xs ++ ys → ((y : Statement) → StandsIn xs y → StandsIn zs y) → Holds a e m xs x
       → Holds (keeps id || (a || b)) (governs (keeps id) b && (e && f)) (λ v. own v || (m v || n v)) (if_so (keeps id) (outer ∷ []) zs) x
   holds_begun id own a e b f m n xs ys zs outer x is bare_in h = record {
-    keeps_it = λ k. right_or (keeps id) (a || b) (left_or a b (h.keeps_it k));
-    fits_it = λ g. h.fits_it (both_true e f (both_true (governs (keeps id) b) (e && f) g).1).0;
-    names_it = λ v r. right_or (own v) (m v || n v) (left_or (m v) (n v) (h.names_it v r));
-    stands_it = λ k g y r. let there = h.stands_it k (both_true e f (both_true (governs (keeps id) b) (e && f) g).1).0 y r in by_bool (keeps id) (StandsIn (if_so (keeps id) (outer ∷ []) zs) y)
+    keeps_it = λ k. or_right (keeps id) (a || b) (or_left a b (h.keeps_it k));
+    fits_it = λ g. h.fits_it (and_parts e f (and_parts (governs (keeps id) b) (e && f) g).1).0;
+    names_it = λ v r. or_right (own v) (m v || n v) (or_left (m v) (n v) (h.names_it v r));
+    stands_it = λ k g y r. let there = h.stands_it k (and_parts e f (and_parts (governs (keeps id) b) (e && f) g).1).0 y r in by_bool (keeps id) (StandsIn (if_so (keeps id) (outer ∷ []) zs) y)
         (λ t. subst (λ ws. StandsIn ws y) (sym (so (keeps id) (outer ∷ []) zs t)) (inside (subst (λ ws. StandsIn ws y) (sym is) (stands_left there ys))))
         (λ t. subst (λ ws. StandsIn ws y) (sym (not_so (keeps id) (outer ∷ []) zs t)) (bare_in y there));
   }
@@ -158,10 +155,10 @@ module _ (p : Program) (keeps : ℕ → Bool) where
   pub holds_repeated : (id : ℕ) (own : ℕ → Bool) (a e b f : Bool) (m n : ℕ → Bool) (xs ys zs : List Statement) (outer x : Statement) → inner outer ≡ xs ++ ys → Holds b f n ys x
       → Holds (keeps id || (a || b)) (governs (keeps id) b && (e && f)) (λ v. own v || (m v || n v)) (if_so (keeps id) (outer ∷ []) zs) x
   holds_repeated id own a e b f m n xs ys zs outer x is h = record {
-    keeps_it = λ k. right_or (keeps id) (a || b) (right_or a b (h.keeps_it k));
-    fits_it = λ g. h.fits_it (both_true e f (both_true (governs (keeps id) b) (e && f) g).1).1;
-    names_it = λ v r. right_or (own v) (m v || n v) (right_or (m v) (n v) (h.names_it v r));
-    stands_it = λ k g y r. let both = both_true (governs (keeps id) b) (e && f) g in subst (λ ws. StandsIn ws y) (sym (so (keeps id) (outer ∷ []) zs (governs_back (keeps id) b both.0 (h.keeps_it k)))) (inside (subst (λ ws. StandsIn ws y) (sym is) (stands_right xs (h.stands_it k (both_true e f both.1).1 y r))));
+    keeps_it = λ k. or_right (keeps id) (a || b) (or_right a b (h.keeps_it k));
+    fits_it = λ g. h.fits_it (and_parts e f (and_parts (governs (keeps id) b) (e && f) g).1).1;
+    names_it = λ v r. or_right (own v) (m v || n v) (or_right (m v) (n v) (h.names_it v r));
+    stands_it = λ k g y r. let both = and_parts (governs (keeps id) b) (e && f) g in subst (λ ws. StandsIn ws y) (sym (so (keeps id) (outer ∷ []) zs (governs_back (keeps id) b both.0 (h.keeps_it k)))) (inside (subst (λ ws. StandsIn ws y) (sym is) (stands_right xs (h.stands_it k (and_parts e f both.1).1 y r))));
   }
 
   -- ---- lists, arms and parts

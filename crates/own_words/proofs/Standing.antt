@@ -2,6 +2,7 @@
 use Rattle.std.proofs.Common.{◌≡◌, ℕ, List, [], ◌∷◌, ◌++◌, map, Option, Some, None, Bool, true, false, ◌&&◌, ◌||◌, inl, inr, sym, ap, ◌∙◌, subst}
 use Rattle.std.specs.Prelude.{option_map}
 use Rattle.std.specs.List.{list_all}
+use Rattle.std.proofs.lemmas.Bool.{or_left, or_right}
 use Rattle.c_tree.specs.declared.expr.Expr.{Expr}
 use Rattle.c_tree.specs.declared.program.Function.{Function}
 use Rattle.c_tree.specs.declared.program.Program.{Program}
@@ -14,14 +15,13 @@ use Rattle.c_tree.specs.Numbered.{Start, start, arms_inner, layer_inner, inner, 
 use Rattle.c_tree.specs.Numbered.StandsIn.{here, inside, later}
 use Rattle.c_tree.proofs.SearchLemmas.{stands_left, stands_right}
 use Rattle.c_tree.proofs.LayerLemmas.{inner-If, inner-While, inner-Do, inner-For, inner-Switch}
+use Rattle.c_language.proofs.Options.{none_there, some_same}
 use Rattle.projection.specs.Kept.{rank}
 use Rattle.projection.specs.Names.{names, either, refers_step, refers_arm, refers, body_refers, stays}
 use Rattle.projection.specs.Renumbering.{renamed}
 use Rattle.projection.specs.Projection.{first_of, alone, projected_step, projected_arm_step, projected_function, projected_functions}
 use Rattle.projection_laws.specs.Nested.{Nest, any_kept, all_fit, nest_step, nest_arm, nest, is_nested, IsNested}
-use Rattle.projection_laws.proofs.Options.{left_or, right_or}
 use Rattle.projection_laws.proofs.StatementForms.{arm_nest}
-use Rattle.c_scope_laws.proofs.Options.{none_there, some_same}
 use Rattle.own_words.specs.OwnWords.{own_words, HasOwnWords}
 use Rattle.own_words.proofs.Lists.{Among, among_split, among_contains, contains_among, all_hold, any_holds}
 use Rattle.own_words.proofs.Lists.Among.{first, next}
@@ -146,8 +146,8 @@ module _ (p : Program) (keeps : ℕ → Bool) where
   left_among (next {y} {x} {rest} m) h = stands_right (left p keeps y) (left_among m h)
 
   body_refers_to : {xs : List Statement} {x : Statement} → Among xs x → (v : ℕ) → refers keeps x v ≡ true → body_refers keeps xs v ≡ true
-  body_refers_to (first {x} {rest}) v h = left_or (refers keeps x v) (body_refers keeps rest v) h
-  body_refers_to (next {y} {x} {rest} m) v h = right_or (refers keeps y v) (body_refers keeps rest v) (body_refers_to m v h)
+  body_refers_to (first {x} {rest}) v h = or_left (refers keeps x v) (body_refers keeps rest v) h
+  body_refers_to (next {y} {x} {rest} m) v h = or_right (refers keeps y v) (body_refers keeps rest v) (body_refers_to m v h)
 
   function_stays : {fs : List Function} {f : Function} → Among fs f → Among (projected_functions (kept p keeps) same_numbers fs) (projected_function (kept p keeps) same_numbers f)
   function_stays first = first
@@ -167,11 +167,11 @@ module _ (p : Program) (keeps : ℕ → Bool) where
   layer_keeps (Statement-F.Heap id l to cast m) i n is h = same_kept p keeps id l i n is h
   layer_keeps (Statement-F.Release id l a) i n is h = same_kept p keeps id l i n is h
   layer_keeps (Statement-F.Return id l a) i n is h = same_kept p keeps id l i n is h
-  layer_keeps (Statement-F.If id l e a b) i n is h = left_or (keeps id) _ (same_kept p keeps id l i n is h)
-  layer_keeps (Statement-F.While id l e b) i n is h = left_or (keeps id) _ (same_kept p keeps id l i n is h)
-  layer_keeps (Statement-F.Do id l e b) i n is h = left_or (keeps id) _ (same_kept p keeps id l i n is h)
-  layer_keeps (Statement-F.For id l begun e step b) i n is h = left_or (keeps id) _ (same_kept p keeps id l i n is h)
-  layer_keeps (Statement-F.Switch id l e arms) i n is h = left_or (keeps id) _ (same_kept p keeps id l i n is h)
+  layer_keeps (Statement-F.If id l e a b) i n is h = or_left (keeps id) _ (same_kept p keeps id l i n is h)
+  layer_keeps (Statement-F.While id l e b) i n is h = or_left (keeps id) _ (same_kept p keeps id l i n is h)
+  layer_keeps (Statement-F.Do id l e b) i n is h = or_left (keeps id) _ (same_kept p keeps id l i n is h)
+  layer_keeps (Statement-F.For id l begun e step b) i n is h = or_left (keeps id) _ (same_kept p keeps id l i n is h)
+  layer_keeps (Statement-F.Switch id l e arms) i n is h = or_left (keeps id) _ (same_kept p keeps id l i n is h)
   layer_keeps (Statement-F.Block l b) i n is h = none_there is
 
   start_of : (o : Option Start) (i : ℕ) → option_map (λ (t : Start). t.id) o ≡ Some i → (n : ℕ) × (o ≡ Some (start i n))

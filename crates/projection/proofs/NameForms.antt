@@ -11,15 +11,15 @@ use Rattle.c_tree.specs.declared.statement.Arm.{Arm, fold-Arm, fold-roll-Arm}
 use Rattle.projection.specs.Names.{names_step, names, either, refers_step, refers_arm, refers, body_refers}
 use Rattle.projection.specs.Marks.{part_refers, arms_refer}
 
-names-Binary : (op : BinaryOp) (a b : Expr) (x : ℕ) → names (e.Binary op a b) x ≡ (names a x || names b x)
+pub names-Binary : (op : BinaryOp) (a b : Expr) (x : ℕ) → names (e.Binary op a b) x ≡ (names a x || names b x)
 names-Binary op a b x =
     ap (λ t. names t x) (sym (e.rolls-Binary op a b)) ∙ ap (λ (f : ℕ → Bool). f x) (fold-roll-Expr (ℕ → Bool) names_step (Expr-F.Binary op a b))
 
-names-AndAlso : (a b : Expr) (x : ℕ) → names (e.AndAlso a b) x ≡ (names a x || names b x)
+pub names-AndAlso : (a b : Expr) (x : ℕ) → names (e.AndAlso a b) x ≡ (names a x || names b x)
 names-AndAlso a b x =
     ap (λ t. names t x) (sym (e.rolls-AndAlso a b)) ∙ ap (λ (f : ℕ → Bool). f x) (fold-roll-Expr (ℕ → Bool) names_step (Expr-F.AndAlso a b))
 
-names-OrElse : (a b : Expr) (x : ℕ) → names (e.OrElse a b) x ≡ (names a x || names b x)
+pub names-OrElse : (a b : Expr) (x : ℕ) → names (e.OrElse a b) x ≡ (names a x || names b x)
 names-OrElse a b x =
     ap (λ t. names t x) (sym (e.rolls-OrElse a b)) ∙ ap (λ (f : ℕ → Bool). f x) (fold-roll-Expr (ℕ → Bool) names_step (Expr-F.OrElse a b))
 
@@ -27,7 +27,7 @@ pub names-Choose : (c a b : Expr) (x : ℕ) → names (e.Choose c a b) x ≡ (na
 names-Choose c a b x =
     ap (λ t. names t x) (sym (e.rolls-Choose c a b)) ∙ ap (λ (f : ℕ → Bool). f x) (fold-roll-Expr (ℕ → Bool) names_step (Expr-F.Choose c a b))
 
-names-Index : (a i : Expr) (x : ℕ) → names (e.Index a i) x ≡ (names a x || names i x)
+pub names-Index : (a i : Expr) (x : ℕ) → names (e.Index a i) x ≡ (names a x || names i x)
 names-Index a i x =
     ap (λ t. names t x) (sym (e.rolls-Index a i)) ∙ ap (λ (f : ℕ → Bool). f x) (fold-roll-Expr (ℕ → Bool) names_step (Expr-F.Index a i))
 

@@ -6,7 +6,7 @@ use Rattle.bit_rows.specs.Sets.{has}
 use Rattle.projection.specs.Kept.{rank}
 
 -- cases, each with its equation
-by_bool : (b : Bool) (A : Type 0) → (b ≡ true → A) → (b ≡ false → A) → A
+pub by_bool : (b : Bool) (A : Type 0) → (b ≡ true → A) → (b ≡ false → A) → A
 by_bool true A x y = x refl
 by_bool false A x y = y refl
 

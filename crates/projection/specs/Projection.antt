@@ -14,7 +14,7 @@ use Rattle.c_tree.specs.declared.statement.Arm.{Arm, roll-Arm, fold-Arm}
 use Rattle.c_tree.specs.declared.statement.Statement.{Statement, fold-Statement}
 use Rattle.c_tree.specs.declared.statement.Statement.TheOpen.{Statement-F, Arm-F}
 use Rattle.c_tree.specs.declared.statement.Statement.TheVariants as s
-use Rattle.projection.specs.Renumbering.{Numbers, renamed, renamed_init, renamed_target, renamed_amount, renamed_label}
+use Rattle.projection.specs.Renumbering.{renamed, renamed_init, renamed_target, renamed_amount, renamed_label}
 use Rattle.projection.specs.Kept.{Kept, rank}
 use Rattle.projection.specs.Names.{stays}
 
@@ -26,10 +26,6 @@ if_so false xs ys = ys
 abbrev pub flat : {A : Type 0} → List (List A) → List A
 flat [] = []
 flat (xs ∷ rest) = xs ++ flat rest
-
--- the numbers of what is kept, where functions have these
-abbrev pub numbers_of : Kept → (ℕ → ℕ) → Numbers
-numbers_of k functions = record { variable = rank k.variable; statement = rank k.statement; function = functions }
 
 -- whether a target declares, and whether a statement does
 abbrev pub declares_target : Target → Bool

@@ -1,6 +1,7 @@
 -- Nothing stays in an if, loop or switch of an integer main that isn't kept.
 use Rattle.std.proofs.Common.{◌≡◌, ℕ, List, [], ◌∷◌, ◌++◌, map, Bool, true, false, not, ◌&&◌, ◌||◌, Option, Some, None, option_map, refl, sym, ap, subst, ◌∙◌}
 use Rattle.std.specs.List.{list_all}
+use Rattle.std.proofs.lemmas.Bool.{or_from, and_parts, and_from}
 use Rattle.c_tree.specs.Unlined.{unlined, SameButLines}
 use Rattle.c_tree.specs.declared.program.Function.{Function}
 use Rattle.c_tree.specs.declared.program.Init.TheVariants as begins
@@ -27,11 +28,10 @@ use Rattle.built_forms.specs.IntegerForms.{IsIntegerMain}
 use Rattle.c_scope_laws.specs.Thinning.{declares, after_list, part_scope, arm}
 use Rattle.c_scope_laws.specs.ThinnedBodies.{AreMet, Left, ArmLeft, these, all_left, strays, gone, beyond, part_needs, part_gone, arms_needs, arms_gone, alone, alone_all, alone_one, block_of, plain, declared, if_left, while_left, do_left, for_left, switch_left, left, left_arm, body_left}
 use Rattle.c_scope_laws.proofs.ThinnedBodies.{both_met, none_strays}
+use Rattle.c_scope_laws.proofs.ItemWalking.{nil_cons}
 use Rattle.c_thin_trees.proofs.LeftForms.{left-Declare, left-Assign, left-Bump, left-Call, left-While, left-Do, left-Switch, left-Block, left-Return, left-arm}
 use Rattle.projection_laws.specs.Nested.{governs, IsNested}
 use Rattle.projection_laws.specs.Staying.{Rest, any_stays, all_clear, part_stays, part_clear, rest_step, rest_arm, rest, is_clear, IsClear}
-use Rattle.projection_laws.proofs.Options.{both_true, and_true}
-use Rattle.projection_laws.proofs.ProjectedLines.{nil_cons}
 use Rattle.projection_laws.proofs.IntegerTexts.{Is, Are, IsPart, ArmsAre}
 use Rattle.projection_laws.proofs.StatementForms.{arm_rest, rest-Declare, rest-Assign, rest-Bump, rest-Write, rest-Print, rest-If, rest-While, rest-Do, rest-For, rest-Switch, rest-Block, rest-Return, rest-arm}
 use Rattle.projection_laws.proofs.LeftScopes.{left_after, arm_after, left_of_if, left_of_for}
@@ -47,12 +47,9 @@ both_empty : {A : Type 0} (xs ys : List A) → xs ++ ys ≡ [] → (xs ≡ []) �
 both_empty [] ys h = (refl, h)
 both_empty (x ∷ xs) ys h = nil_cons (sym h)
 
-or_false : {a b : Bool} → a ≡ false → b ≡ false → (a || b) ≡ false
-or_false {a} {b} p q = ap (λ (x : Bool). x || b) p ∙ q
-
 -- where nothing stays, and all inside is clear
 none_governed : {inside others : Bool} → inside ≡ false → others ≡ true → (governs false inside && others) ≡ true
-none_governed p q = and_true (ap not p) q
+none_governed p q = and_from _ _ (ap not p) q
 
 -- what stays of a list of statements, taken together
 abbrev together : List Rest → Rest
@@ -98,11 +95,11 @@ module _ (raw : RawProgram) (vars keeps : ℕ → Bool) where
 
   if_shows : (t : Bool) (l : ℕ) (a : RawExpr) (b c : Left) (scope : Scope) (rs ss : List Rest) → Shows b (together rs) → Shows c (together ss)
       → Shows (if_left raw t l a b c scope) (record { stays = t; clear = governs t (any_stays rs || any_stays ss) && (all_clear rs && all_clear ss) })
-  if_shows true l a b c scope rs ss f g m = let n = both_met k b.needs c.needs m.1 in (and_true (f n.0).0 (g n.1).0, λ h. nil_cons (sym h))
+  if_shows true l a b c scope rs ss f g m = let n = both_met k b.needs c.needs m.1 in (and_from _ _ (f n.0).0 (g n.1).0, λ h. nil_cons (sym h))
   if_shows false l a b c scope rs ss f g m =
       let n = both_met k (gone b) (gone c) m in
       let p = bare b (together rs) f n.0 in
-      let q = bare c (together ss) g n.1 in (none_governed (or_false p.1 q.1) (and_true p.0 q.0), λ h. refl)
+      let q = bare c (together ss) g n.1 in (none_governed (or_from _ _ p.1 q.1) (and_from _ _ p.0 q.0), λ h. refl)
 
   while_shows : (t : Bool) (l : ℕ) (a : RawExpr) (b : Left) (scope : Scope) (rs : List Rest) → Shows b (together rs) → Shows (while_left raw t l a b scope) (record { stays = t; clear = governs t (any_stays rs) && all_clear rs })
   while_shows true l a b scope rs f m = ((f m.1).0, λ h. nil_cons (sym h))
@@ -162,28 +159,28 @@ module _ (raw : RawProgram) (vars keeps : ℕ → Bool) where
       → Shows (for_left raw t l i a step b test) (record { stays = t || part_stays first; clear = governs t (part_stays next || any_stays rs) && (part_clear first && (part_clear next && all_clear rs)) })
   for_shows true l {i} a {step} b test rs f g h m =
       let n = both_met k (part_needs i) (part_needs step ++ b.needs) m.1 in
-      let o = both_met k (part_needs step) b.needs n.1 in (and_true (part_kept f n.0) (and_true (part_kept g o.0) (h o.1).0), λ q. nil_cons (sym q))
+      let o = both_met k (part_needs step) b.needs n.1 in (and_from _ _ (part_kept f n.0) (and_from _ _ (part_kept g o.0) (h o.1).0), λ q. nil_cons (sym q))
   for_shows false l {i} a {step} b test rs f g h m =
       let n = both_met k (alone l i).needs (part_gone step ++ gone b) m in
       let o = both_met k (part_gone step) (gone b) n.1 in
       let begun = part_alone l f n.0 in
       let p = part_bare g o.0 in
-      let q = bare b (together rs) h o.1 in (none_governed (or_false p.1 q.1) (and_true begun.0 (and_true p.0 q.0)), begun.1)
+      let q = bare b (together rs) h o.1 in (none_governed (or_from _ _ p.1 q.1) (and_from _ _ begun.0 (and_from _ _ p.0 q.0)), begun.1)
 
   -- a statement, and those behind it
   more_show : (first others : Left) (r : Rest) (rs : List Rest) → Shows first r → Shows others (together rs) → Shows (these (first.some ++ others.some) (first.needs ++ others.needs)) (together (r ∷ rs))
   more_show first others r rs f g m =
       let n = both_met k first.needs others.needs m in
       let p = f n.0 in
-      let q = g n.1 in (and_true p.0 q.0, λ h. let e = both_empty first.some others.some h in or_false (p.1 e.0) (q.1 e.1))
+      let q = g n.1 in (and_from _ _ p.0 q.0, λ h. let e = both_empty first.some others.some h in or_from _ _ (p.1 e.0) (q.1 e.1))
 
   more_arms_show : (a : ArmLeft) (arms : List ArmLeft) (r : Rest) (rs : List Rest) → Shows a.body r → ArmsShow arms rs → ArmsShow (a ∷ arms) (r ∷ rs)
   more_arms_show a arms r rs f g = record {
-    kept = λ m. let n = both_met k a.body.needs (arms_needs arms) m.1 in and_true (f n.0).0 (g.kept n.1);
+    kept = λ m. let n = both_met k a.body.needs (arms_needs arms) m.1 in and_from _ _ (f n.0).0 (g.kept n.1);
     unkept = λ m.
         let n = both_met k (gone a.body) (arms_gone arms) m in
         let p = bare a.body r f n.0 in
-        let q = g.unkept n.1 in (and_true p.0 q.0, or_false p.1 q.1);
+        let q = g.unkept n.1 in (and_from _ _ p.0 q.0, or_from _ _ p.1 q.1);
   }
 
   -- ---- along the text
@@ -253,7 +250,7 @@ module _ (raw : RawProgram) (vars keeps : ℕ → Bool) where
 
   list_clear : (zs : List Statement) → all_clear (map rest_of zs) ≡ true → list_all (is_clear keeps vars) zs ≡ true
   list_clear [] h = refl
-  list_clear (z ∷ zs) h = let b = both_true (is_clear keeps vars z) (all_clear (map rest_of zs)) h in and_true b.0 (list_clear zs b.1)
+  list_clear (z ∷ zs) h = let b = and_parts (is_clear keeps vars z) (all_clear (map rest_of zs)) h in and_from _ _ b.0 (list_clear zs b.1)
 
   -- nothing stays in what isn't kept of a text of which what is kept has what it needs
   pub met_clear : (zs : List Statement) → IsMetMain raw vars keeps zs → list_all (is_clear keeps vars) zs ≡ true
@@ -291,7 +288,7 @@ text_clear : (raw : RawProgram) (q : Program) (keeps : ℕ → Bool) → IsInteg
 text_clear raw q keeps m n tree has =
     let vars = stays keeps q in
     ap (list_all (λ (f : Function). list_all (is_clear keeps vars) f.body)) m.functions_are
-    ∙ and_true (met_clear raw vars keeps m.main.body (text_met raw q keeps m n tree has)) refl
+    ∙ and_from _ _ (met_clear raw vars keeps m.main.body (text_met raw q keeps m n tree has)) refl
 
 pub nested_clear : (p : Program) (keeps : ℕ → Bool) → IsIntegerMain p → IsNested keeps p → IsWellFormed p → IsClear keeps (stays keeps p) p
 nested_clear p keeps main nested ok =

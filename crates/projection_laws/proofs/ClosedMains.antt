@@ -2,6 +2,7 @@
 use Rattle.std.proofs.Common.{◌≡◌, ℕ, zero, suc, ◌+◌, List, [], ◌∷◌, ◌++◌, map, Bool, true, false, ◌&&◌, ◌||◌, Option, Some, None, refl, sym, ap, subst, ◌∙◌, arith}
 use Rattle.std.specs.Prelude.{Contains, option_map, is_some, if◌then◌else◌, bytes_eq}
 use Rattle.std.specs.List.{AllByRecursion, list_all, find}
+use Rattle.std.proofs.lemmas.Bool.{and_parts}
 use Rattle.c_arith.specs.declared.int_type.IntType.{IntType}
 use Rattle.c_tree.specs.declared.types.CType.{CType, fold-CType, fold-roll-CType}
 use Rattle.c_tree.specs.declared.types.CType.TheOpen.{CType-F}
@@ -30,20 +31,21 @@ use Rattle.c_language.specs.Rules.{IsBroken}
 use Rattle.c_language.specs.NameRules.{main_name}
 use Rattle.c_language.specs.Programs.{HasProgram}
 use Rattle.c_language.specs.ProgramOf.{ctype_step, ctype_with, ctype_if, init_of, body_of, declared_by, variables_in, parameter_ids, function_tree, functions_from, item_tree, items_from, length_words}
+use Rattle.c_language.proofs.Options.{some_same}
+use Rattle.c_language.proofs.Tests.{false_true}
+use Rattle.c_language.proofs.Lists.{same_names}
 use Rattle.projection.specs.Kept.{Kept}
 use Rattle.projection.specs.Names.{either, refers, body_refers}
 use Rattle.built_forms.specs.IntegerForms.{IsPlainItem, all_true, is_integer_statement, IsIntegerLocal}
 use Rattle.c_scope_laws.specs.ThinTexts.{ParamStays, ParamsStay}
 use Rattle.c_scope_laws.specs.ThinnedBodies.{AreMet, body_left}
 use Rattle.c_scope_laws.specs.ThinnedTexts.{FunctionStays, ItemsAreClosed, IsClosed}
-use Rattle.c_scope_laws.proofs.Options.{some_same, false_true}
-use Rattle.c_scope_laws.proofs.ItemWalking.{body_joined}
-use Rattle.c_scope_laws.proofs.Scopes.{text_is}
+use Rattle.c_scope_laws.proofs.ItemWalking.{body_joined, nil_cons}
 use Rattle.c_print_laws.proofs.Definitions.{program_parts}
 use Rattle.c_print_laws.proofs.ForParts.{are_tidy, AreTidy}
 use Rattle.projection_laws.specs.Nested.{all_fit, nest, is_nested}
-use Rattle.projection_laws.proofs.Options.{map_there, both_there, both_true}
-use Rattle.projection_laws.proofs.ProjectedLines.{nil_cons, first_same, rest_same}
+use Rattle.projection_laws.proofs.Options.{map_there, both_there}
+use Rattle.projection_laws.proofs.ProjectedLines.{first_same, rest_same}
 use Rattle.projection_laws.proofs.IntegerTexts.{Are}
 use Rattle.projection_laws.proofs.Deriving.{IntegerPart, AreGood, good_later, good_left, good_right, all_derived}
 use Rattle.projection_laws.proofs.Reaching.{Spans}
@@ -143,7 +145,7 @@ module _ (raw : RawProgram) where
 
   list_true : (f : Statement → Bool) (xs : List Statement) → list_all f xs ≡ true → all_true (map f xs) ≡ true
   list_true f [] h = refl
-  list_true f (x ∷ xs) h = let b = both_true (f x) (list_all f xs) h in ap (λ (c : Bool). c && all_true (map f xs)) b.0 ∙ list_true f xs b.1
+  list_true f (x ∷ xs) h = let b = and_parts (f x) (list_all f xs) h in ap (λ (c : Bool). c && all_true (map f xs)) b.0 ∙ list_true f xs b.1
 
   module _ (vars keeps : ℕ → Bool) where
     abbrev k : Kept
@@ -159,7 +161,7 @@ module _ (raw : RawProgram) where
 
     fit_all : (xs : List Statement) → list_all (is_nested keeps) xs ≡ true → all_fit (map (nest keeps) xs) ≡ true
     fit_all [] h = refl
-    fit_all (x ∷ xs) h = let b = both_true (is_nested keeps x) (list_all (is_nested keeps) xs) h in ap (λ (c : Bool). c && all_fit (map (nest keeps) xs)) b.0 ∙ fit_all xs b.1
+    fit_all (x ∷ xs) h = let b = and_parts (is_nested keeps x) (list_all (is_nested keeps) xs) h in ap (λ (c : Bool). c && all_fit (map (nest keeps) xs)) b.0 ∙ fit_all xs b.1
 
     either_all : (xs : List Statement) (id : ℕ) → either (map (refers keeps) xs) id ≡ body_refers keeps xs id
     either_all [] id = refl
@@ -244,7 +246,7 @@ module _ (raw : RawProgram) where
         by_test (bytes_eq head.name main_name) refl (λ h. there (ap (λ (hs : List RawHead). find (λ (f : RawHead). bytes_eq f.name main_name) (head ∷ hs)) none ∙ h))
       where
         by_test : (b : Bool) → bytes_eq head.name main_name ≡ b → (find (λ (f : RawHead). bytes_eq f.name main_name) (head ∷ []) ≡ None → ⊥) → head.name ≡ main_name
-        by_test true h there = text_is head.name main_name h
+        by_test true h there = same_names head.name main_name h
         by_test false h there = absurd (there (ap (λ (b : Bool). if b then Some head else None) h))
 
     one_function : (xs : List RawItem) (all : List Item) (f : Function) → AreTidy xs → items_from raw xs outset ≡ map Some all → AllByRecursion IsPlainItem all → functions_from raw xs outset ≡ Some f ∷ [] → IsFine f

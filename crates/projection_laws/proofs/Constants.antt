@@ -16,8 +16,8 @@ use Rattle.c_language.specs.ConstantEvaluation.{both, constant_step, constant, v
 use Rattle.c_language.specs.Scopes.{Scope}
 use Rattle.c_language.specs.Uses.{operands_of, whole, deeper, cases}
 use Rattle.c_language.specs.ProgramOf.{collected, expr_of, label_tree}
+use Rattle.c_language.proofs.Options.{none_there}
 use Rattle.c_scope_laws.specs.Agreement.{NamedIn}
-use Rattle.c_scope_laws.proofs.Options.{none_there}
 use Rattle.c_scope_laws.proofs.Trees.{in_none, in_one}
 use Rattle.projection_laws.proofs.Options.{map_there, then_there, more_there}
 use Rattle.projection_laws.proofs.IntegerTexts.{NoNames}

@@ -1,6 +1,8 @@
 -- The statements of a text that keeps all rules, whose program is main alone over integers, with their trees.
 use Rattle.std.proofs.Common.{◌≡◌, ℕ, List, [], ◌∷◌, ◌++◌, map, Bool, true, false, ◌&&◌, ◌||◌, Option, Some, None, codes, refl, sym, ap, ap₂, subst, ◌∙◌}
 use Rattle.std.specs.Prelude.{Contains, option_map, option_and_then, if◌then◌else◌, bytes_eq}
+use Rattle.std.proofs.lemmas.List.Elements.{Contains-append_left, Contains-append_right}
+use Rattle.std.proofs.lemmas.Bool.{and_parts, or_right}
 use Rattle.c_arith.specs.declared.int_type.IntType.{IntType}
 use Rattle.c_tree.specs.declared.types.CType.{CType}
 use Rattle.c_tree.specs.declared.statement.Amount.{Amount}
@@ -35,16 +37,16 @@ use Rattle.c_language.specs.Rules.{Breaks}
 use Rattle.c_language.specs.NameRules.{DeclaresLibraryName}
 use Rattle.c_language.specs.SwitchRules.{MisplacesDeclaration}
 use Rattle.c_language.specs.CallRules.{MisusesResult, without_result, format_in, only_arg, later_args}
-use Rattle.c_language.specs.ProgramOf.{collected, optional, expr_of, args_tree, only_tree, print_tree, invoke_tree, call_tree, ArmTree, arm_tree, at_type, part_tree, block_tree, tree_step, treed_step, arm_tree_step, treed, target_tree, switch_type, label_tree, init_of, ctype_if, amount_tree}
+use Rattle.c_language.specs.ProgramOf.{collected, expr_of, args_tree, only_tree, print_tree, invoke_tree, call_tree, ArmTree, arm_tree, at_type, part_tree, block_tree, tree_step, treed_step, arm_tree_step, treed, target_tree, switch_type, label_tree, init_of, ctype_if, amount_tree}
 use Rattle.c_language.specs.TypeGrammar.{named_type}
+use Rattle.c_language.proofs.TreedForms.{treed_arm}
+use Rattle.c_language.proofs.Options.{none_there, some_same, optional_there}
+use Rattle.c_language.proofs.Tests.{false_true}
+use Rattle.c_language.proofs.Lists.{contains_first, contains_later, same_names}
+use Rattle.c_language.proofs.TreeScopes.{after_same, list_after, block_after_same, part_after}
 use Rattle.built_forms.specs.IntegerForms.{integer_init, all_true, if_there, is_integer_statement}
 use Rattle.c_scope_laws.specs.Thinning.{found, after_list, block_after, part_scope, body_scope, arm}
-use Rattle.c_scope_laws.proofs.Options.{none_there, some_same, false_true}
-use Rattle.c_scope_laws.proofs.Scopes.{text_is}
-use Rattle.c_scope_laws.proofs.Trees.{first_in, later_in, in_left, in_right}
-use Rattle.c_scope_laws.proofs.TreeForms.{treed_arm}
-use Rattle.c_scope_laws.proofs.TreeScopes.{after_same, list_after, block_after_same, part_after}
-use Rattle.projection_laws.proofs.Options.{map_there, then_there, both_there, more_there, both_true, right_or}
+use Rattle.projection_laws.proofs.Options.{map_there, then_there, both_there, more_there}
 use Rattle.projection_laws.proofs.IntegerTexts.{NoVariable, IsQuiet, NoNames, StartsSimple, Is, Are, IsPart, ArmsAre}
 use Rattle.c_print_laws.proofs.ForParts.{Form, all_tidy, is_single_part, form_step, form_arm, form_of, form_of_arm, are_tidy}
 use Rattle.projection_laws.proofs.StatementForms.{is_integer_arm, integer-Declare, integer-Invoke, integer-Fetch, integer-Heap, integer-Release, integer-If, integer-While, integer-Do, integer-For, integer-Switch, integer-Block, integer-arm}
@@ -53,11 +55,11 @@ use Rattle.projection_laws.proofs.Constants.{labels_name}
 -- ---- names of the library
 
 called_is : (f : Bytes) → is_one_of without_result f ≡ true → is_library_function f ≡ true
-called_is f h = right_or (bytes_eq f (codes "getchar")) (is_one_of without_result f) h
+called_is f h = or_right (bytes_eq f (codes "getchar")) (is_one_of without_result f) h
 
 library_is : (f : Bytes) → is_library_function f ≡ true → is_library_name f ≡ true
 library_is f h =
-    right_or (bytes_eq f (codes "malloc")) _ (right_or (bytes_eq f (codes "NULL")) _ (right_or (bytes_eq f (codes "EOF")) (is_library_function f) h))
+    or_right (bytes_eq f (codes "malloc")) _ (or_right (bytes_eq f (codes "NULL")) _ (or_right (bytes_eq f (codes "EOF")) (is_library_function f) h))
 
 -- ---- scopes whose variables have names of their own
 
@@ -81,7 +83,7 @@ clean_found x (e ∷ es) h c = by_name (bytes_eq x e.name) refl e.meaning refl (
     by_name false other m is later = later
     by_name true same (Meaning.Variable id t) is later =
         let clean : is_library_function e.name ≡ false = subst (CleanName e.name) is c.0 in
-        false_true (sym clean ∙ ap is_library_function (sym (text_is x e.name same)) ∙ h)
+        false_true (sym clean ∙ ap is_library_function (sym (same_names x e.name same)) ∙ h)
     by_name true same Meaning.Function is later = is
 
 -- ---- calls that have trees
@@ -139,16 +141,16 @@ module _ (raw : RawProgram) where
   AreGood ps = (q : Phrase) → Contains ps q → IsGood q
 
   good_first : (q : Phrase) (ps : Phrases) → AreGood (q ∷ ps) → IsGood q
-  good_first q ps g = g q (first_in q ps)
+  good_first q ps g = g q (contains_first q ps)
 
   pub good_later : (q : Phrase) (ps : Phrases) → AreGood (q ∷ ps) → AreGood ps
-  good_later q ps g x c = g x (later_in q x ps c)
+  good_later q ps g x c = g x (contains_later q x ps c)
 
   pub good_left : (ps qs : Phrases) → AreGood (ps ++ qs) → AreGood ps
-  good_left ps qs g x c = g x (in_left ps qs x c)
+  good_left ps qs g x c = g x (Contains-append_left ps qs x c)
 
   pub good_right : (ps qs : Phrases) → AreGood (ps ++ qs) → AreGood qs
-  good_right ps qs g x c = g x (in_right ps qs x c)
+  good_right ps qs g x c = g x (Contains-append_right ps qs x c)
 
   quiet : (l : ℕ) (scope : Scope) (stand : Stand) (v : RawVar) (i : RawInit) → IsGood (phrase l scope (Declares stand v i)) → IsQuiet v
   quiet l scope stand v i g = record { integer = g.integer.0; is = g.integer.1; strange = by_test (is_library_function v.name) refl }
@@ -286,9 +288,9 @@ module _ (raw : RawProgram) where
   lists (x ∷ xs) scope stand zs at h d g c =
       let next = (scoped raw x.0).after scope in
       let m = more_there ((treed raw x.0).gives scope) (in_order (map (treed raw) (bare xs)) ((treed raw x.0).after scope)) zs at in
-      let b = both_true (is_integer_statement m.first) (all_true (map is_integer_statement m.rest)) (ap (λ (all : List Statement). all_true (map is_integer_statement all)) m.same ∙ h) in
+      let b = and_parts (is_integer_statement m.first) (all_true (map is_integer_statement m.rest)) (ap (λ (all : List Statement). all_true (map is_integer_statement all)) m.same ∙ h) in
       let rest = joined_at stand (in_order (map (scoped raw) (bare xs)) next) in
-      let f = both_true (form_of x.0).tidy (are_tidy (bare xs)) d in
+      let f = and_parts (form_of x.0).tidy (are_tidy (bare xs)) d in
       let here = good_left ((scoped raw x.0).gives scope stand) rest g in
       subst (Are raw scope (x.0 ∷ bare xs)) m.same
       (Are.more (x.1 scope stand m.first m.first_there b.0 f.0 here c)
@@ -307,9 +309,9 @@ module _ (raw : RawProgram) where
   arms_lists [] scope i zs at h k g c = subst (ArmsAre raw scope []) (some_same at) ArmsAre.no_arms
   arms_lists (x ∷ xs) scope i zs at h k g c =
       let m = more_there ((treed_arm raw x.0).gives scope i) (map (λ (a : ArmTree). a i) (in_order (map (treed_arm raw) (bare_arms xs)) ((treed_arm raw x.0).after scope))) zs at in
-      let b = both_true (is_integer_arm m.first) (all_true (map is_integer_arm m.rest)) (ap (λ (all : List Arm). all_true (map is_integer_arm all)) m.same ∙ h) in
+      let b = and_parts (is_integer_arm m.first) (all_true (map is_integer_arm m.rest)) (ap (λ (all : List Arm). all_true (map is_integer_arm all)) m.same ∙ h) in
       let rest = phrases_of_arms (in_order (map (scoped_of_arm raw) (bare_arms xs)) ((scoped_of_arm raw x.0).after scope)) in
-      let f = both_true (form_of_arm x.0).tidy (all_tidy (map form_of_arm (bare_arms xs))) k in
+      let f = and_parts (form_of_arm x.0).tidy (all_tidy (map form_of_arm (bare_arms xs))) k in
       let d = x.1 scope i m.first m.first_there b.0 f.0 (good_left ((scoped_of_arm raw x.0).gives scope).phrases rest g) c in
       let next = after_list raw d.body scope in
       let tree_next : (treed_arm raw x.0).after scope ≡ next = ap (λ (a : RawArm). (treed_arm raw a).after scope) d.is ∙ arm_after d.labels d.body scope in
@@ -320,20 +322,16 @@ module _ (raw : RawProgram) where
       (subst (λ (a : RawArm). ArmsAre raw scope (a ∷ bare_arms xs) (m.first ∷ m.rest)) (sym d.is)
       (subst (λ (a : Arm). ArmsAre raw scope (arm d.labels d.body ∷ bare_arms xs) (a ∷ m.rest)) d.tree (ArmsAre.more_arms d.none d.still d.are later)))
 
-  optional_there : {A : Type 0} (o : Option A) (z : Option A) → optional (Some o) ≡ Some z → (y : A) × ((o ≡ Some y) × (Some y ≡ z))
-  optional_there None z h = none_there h
-  optional_there (Some y) z h = (y, (refl, some_same h))
-
   parts : (x : Piece) (scope : Scope) (stand : Stand) (z : Option Statement) → part_tree (option_map (treed raw) (bare_part x)) scope ≡ Some z → if_there (option_map is_integer_statement z) ≡ true → is_single_part (option_map form_of (bare_part x)) ≡ true
       → AreGood (at_stand stand (part_gives (option_map (scoped raw) (bare_part x)) scope)) → AreClean scope.names → IsPart raw scope (bare_part x) z
   parts None scope stand z at h d g c = subst (IsPart raw scope None) (some_same at) IsPart.missing
   parts (Some x) scope stand z at h d g c =
       let o = optional_there ((treed raw x.0).gives scope) z at in
-      subst (IsPart raw scope (Some x.0)) o.1.1 (IsPart.there (x.1 scope stand o.0 o.1.0 (ap (λ (u : Option Statement). if_there (option_map is_integer_statement u)) o.1.1 ∙ h) (both_true (form_of x.0).single (form_of x.0).tidy d).1 g c))
+      subst (IsPart raw scope (Some x.0)) o.1.1 (IsPart.there (x.1 scope stand o.0 o.1.0 (ap (λ (u : Option Statement). if_there (option_map is_integer_statement u)) o.1.1 ∙ h) (and_parts (form_of x.0).single (form_of x.0).tidy d).1 g c))
 
   starts_simple : (x : Piece) → is_single_part (option_map form_of (bare_part x)) ≡ true → StartsSimple (bare_part x)
   starts_simple None d = tt
-  starts_simple (Some x) d = (both_true (form_of x.0).single (form_of x.0).tidy d).0
+  starts_simple (Some x) d = (and_parts (form_of x.0).single (form_of x.0).tidy d).0
 
   for_is : (i step : Piece) (b : Statements) (l : ℕ) (a : RawExpr) (scope : Scope) (stand : Stand) (z : Statement)
       → tree_step raw (RawStatement-F.For l (option_map (treed raw) (bare_part i)) a (option_map (treed raw) (bare_part step)) (map (treed raw) (bare b))) scope ≡ Some z → is_integer_statement z ≡ true
@@ -350,11 +348,11 @@ module _ (raw : RawProgram) where
       let q = then_there _ (expr_of raw (scope_of_test (option_map (treed raw) (bare_part i)) scope) a) z p.1.1 in
       let r = both_there (t.For scope.statements l p.0 q.0) _ _ z q.1.1 in
       let k = sym (integer-For scope.statements l p.0 q.0 r.first r.second) ∙ ap is_integer_statement r.same ∙ h in
-      let k1 = both_true (if_there (option_map is_integer_statement p.0)) _ k in
-      let k2 = both_true _ _ k1.1 in
-      let k3 = both_true (if_there (option_map is_integer_statement r.first)) _ k2.1 in
-      let f1 = both_true (is_single_part (option_map form_of (bare_part i))) _ d in
-      let f2 = both_true (is_single_part (option_map form_of (bare_part step))) (are_tidy (bare b)) f1.1 in
+      let k1 = and_parts (if_there (option_map is_integer_statement p.0)) _ k in
+      let k2 = and_parts _ _ k1.1 in
+      let k3 = and_parts (if_there (option_map is_integer_statement r.first)) _ k2.1 in
+      let f1 = and_parts (is_single_part (option_map form_of (bare_part i))) _ d in
+      let f2 = and_parts (is_single_part (option_map form_of (bare_part step))) (are_tidy (bare b)) f1.1 in
       let first_phrases = at_stand InFor (part_gives (option_map (scoped raw) (bare_part i)) start) in
       let step_phrases = at_stand InBlock (part_gives (option_map (scoped raw) (bare_part step)) test) in
       let body_phrases = block_phrases (map (scoped raw) (bare b)) inside in
@@ -435,21 +433,21 @@ module _ (raw : RawProgram) where
       let m = then_there _ (expr_of raw scope a) z at in
       let o = both_there (t.If scope.statements l m.0) _ _ z m.1.1 in
       let k = sym (integer-If scope.statements l m.0 o.first o.second) ∙ ap is_integer_statement o.same ∙ h in
-      let k1 = both_true _ _ (both_true _ _ k).1 in
+      let k1 = and_parts _ _ (and_parts _ _ k).1 in
       let first_phrases = block_phrases (map (scoped raw) (bare x)) (numbered scope) in
       let rest = block_phrases (map (scoped raw) (bare y)) between in
       let g1 = good_later _ (first_phrases ++ rest) g in
       at_form (s.rolls-If l a (bare x) (bare y)) o.same
-      (Is.branched m.1.0 (lists x start InBlock o.first o.first_there k1.0 (both_true (are_tidy (bare x)) (are_tidy (bare y)) d).0 (good_left first_phrases rest g1) c)
-      (lists y (opened between) InBlock o.second (ap (block_tree (map (treed raw) (bare y))) (sym (block_after_same raw (bare x) (numbered scope))) ∙ o.second_there) k1.1 (both_true (are_tidy (bare x)) (are_tidy (bare y)) d).1 (good_right first_phrases rest g1) c))
+      (Is.branched m.1.0 (lists x start InBlock o.first o.first_there k1.0 (and_parts (are_tidy (bare x)) (are_tidy (bare y)) d).0 (good_left first_phrases rest g1) c)
+      (lists y (opened between) InBlock o.second (ap (block_tree (map (treed raw) (bare y))) (sym (block_after_same raw (bare x) (numbered scope))) ∙ o.second_there) k1.1 (and_parts (are_tidy (bare x)) (are_tidy (bare y)) d).1 (good_right first_phrases rest g1) c))
   of_layer (RawStatement-F.While l a x) scope stand z at h d g c =
       let o = both_there (t.While scope.statements l) (expr_of raw scope a) _ z at in
       let k = sym (integer-While scope.statements l o.first o.second) ∙ ap is_integer_statement o.same ∙ h in
-      at_form (s.rolls-While l a (bare x)) o.same (Is.while_loop o.first_there (lists x (opened (numbered scope)) InBlock o.second o.second_there (both_true _ _ k).1 d (good_later _ _ g) c))
+      at_form (s.rolls-While l a (bare x)) o.same (Is.while_loop o.first_there (lists x (opened (numbered scope)) InBlock o.second o.second_there (and_parts _ _ k).1 d (good_later _ _ g) c))
   of_layer (RawStatement-F.Do l a x) scope stand z at h d g c =
       let o = both_there (t.Do scope.statements l) (expr_of raw scope a) _ z at in
       let k = sym (integer-Do scope.statements l o.first o.second) ∙ ap is_integer_statement o.same ∙ h in
-      at_form (s.rolls-Do l a (bare x)) o.same (Is.do_loop o.first_there (lists x (opened (numbered scope)) InBlock o.second o.second_there (both_true _ _ k).1 d (good_later _ _ g) c))
+      at_form (s.rolls-Do l a (bare x)) o.same (Is.do_loop o.first_there (lists x (opened (numbered scope)) InBlock o.second o.second_there (and_parts _ _ k).1 d (good_later _ _ g) c))
   of_layer (RawStatement-F.For l None a None b) scope stand z at h d g c = at_form (s.rolls-For l None a None (bare b)) refl (for_is None None b l a scope stand z at h d g c)
   of_layer (RawStatement-F.For l None a (Some n) b) scope stand z at h d g c = at_form (s.rolls-For l None a (Some n.0) (bare b)) refl (for_is None (Some n) b l a scope stand z at h d g c)
   of_layer (RawStatement-F.For l (Some i) a None b) scope stand z at h d g c = at_form (s.rolls-For l (Some i.0) a None (bare b)) refl (for_is (Some i) None b l a scope stand z at h d g c)
@@ -459,7 +457,7 @@ module _ (raw : RawProgram) where
       let o = then_there _ (switch_type raw scope a) z m.1.1 in
       let q = map_there _ (at_type o.0 (in_order (map (treed_arm raw) (bare_arms arms)) (opened (numbered scope)))) z o.1.1 in
       let k = sym (integer-Switch scope.statements l m.0 q.0) ∙ ap is_integer_statement q.1.1 ∙ h in
-      at_form (s.rolls-Switch l a (bare_arms arms)) q.1.1 (Is.switched m.1.0 (arms_lists arms (opened (numbered scope)) o.0 q.0 q.1.0 (both_true _ _ k).1 d (good_later _ _ g) c))
+      at_form (s.rolls-Switch l a (bare_arms arms)) q.1.1 (Is.switched m.1.0 (arms_lists arms (opened (numbered scope)) o.0 q.0 q.1.0 (and_parts _ _ k).1 d (good_later _ _ g) c))
   of_layer (RawStatement-F.Block l x) scope stand z at h d g c =
       let m = map_there (t.Block l) _ z at in
       let k = sym (integer-Block l m.0) ∙ ap is_integer_statement m.1.1 ∙ h in
@@ -482,7 +480,7 @@ module _ (raw : RawProgram) where
   arm_layer y scope i z at h d g c =
       let at_tree = sym (ap (λ (u : Scoped ArmTree). u.gives scope i) (fold-roll-RawArm (Scoped (Option Statement)) (Scoped ArmTree) (treed_step raw) (arm_tree_step raw) (arm_shape y))) ∙ at in
       let m = both_there arm_tree (collected (map (label_tree raw scope i) y.labels)) (collected (in_order (map (treed raw) (bare y.body)) scope)) z at_tree in
-      let k = both_true _ _ (sym (integer-arm m.first m.second) ∙ ap is_integer_arm m.same ∙ h) in
+      let k = and_parts _ _ (sym (integer-arm m.first m.second) ∙ ap is_integer_arm m.same ∙ h) in
       let good = subst (λ (u : Scoped ArmText). AreGood (u.gives scope).phrases) (fold-roll-RawArm (Scoped (Stand → Phrases)) (Scoped ArmText) (scoped_step raw) scoped_arm (arm_shape y)) g in
       record {
         labels = y.labels;

@@ -1,5 +1,6 @@
 -- Nothing stays of a statement in which nothing is kept, and none of whose variables is.
 use Rattle.std.proofs.Common.{◌≡◌, ℕ, ◌≤◌, ◌<◌, List, [], ◌∷◌, ◌++◌, map, Bool, true, false, Option, Some, None, option_map, refl, sym, ap, ap₂, subst, ◌∙◌, arith}
+use Rattle.std.proofs.lemmas.Bool.{or_parts}
 use Rattle.c_tree.specs.declared.program.Init.TheVariants as begins
 use Rattle.c_tree.specs.declared.statement.Arm.{Arm}
 use Rattle.c_tree.specs.declared.statement.Statement.{Statement}
@@ -14,13 +15,12 @@ use Rattle.c_tree.specs.declared.raw.statement.RawStatement.{RawStatement}
 use Rattle.c_tree.specs.declared.raw.statement.RawStatement.TheOpen.{RawStatement-F}
 use Rattle.c_language.specs.Scopes.{Scope, Scoped, in_order, after_all, after_part, part_gives}
 use Rattle.c_language.specs.Phrases.{Stand, Part, Phrases, scoped, scoped_of_arm}
+use Rattle.c_language.proofs.ScopedForms.{scoped-Declare, scoped-If, scoped-While, scoped-Do, scoped-For, scoped-Switch, scoped-Block, scoped_of_arm-arm}
+use Rattle.c_language.proofs.Tests.{false_true}
 use Rattle.projection.specs.Kept.{Kept}
 use Rattle.c_scope_laws.specs.Thinning.{after_list, part_scope, arm}
 use Rattle.c_scope_laws.specs.ThinnedBodies.{Need, AreMet, Left, ArmLeft, all_left, strays, gone, part_gone, arms_gone, alone, alone_all, block_of, plain, declared, if_left, while_left, do_left, for_left, switch_left, left, left_arm, body_left}
-use Rattle.c_scope_laws.proofs.Options.{false_true}
-use Rattle.c_scope_laws.proofs.PhraseForms.{scoped-Declare, scoped-If, scoped-While, scoped-Do, scoped-For, scoped-Switch, scoped-Block, scoped_of_arm-arm}
 use Rattle.projection_laws.specs.Nested.{any_kept, part_kept, nest}
-use Rattle.projection_laws.proofs.Options.{either_false}
 use Rattle.projection_laws.proofs.IntegerTexts.{Is, Are, IsPart, ArmsAre}
 use Rattle.projection_laws.proofs.StatementForms.{arm_nest, nest-Declare, nest-Assign, nest-Bump, nest-Write, nest-Print, nest-If, nest-While, nest-Do, nest-For, nest-Switch, nest-Block, nest-Return, nest-arm}
 use Rattle.projection_laws.proofs.Reaching.{le_then, lt_then, le_same, grows, all_grow, part_grows, arms_grow}
@@ -137,28 +137,28 @@ module _ (raw : RawProgram) (vars keeps : ℕ → Bool) where
         at_form _ (left-Call k raw l target.None w args) (plain_goes (keeps scope.statements) _ scope _ (unkept _ (ap (λ z. z.keeps) (nest-Print keeps scope.statements l text us)) h))
     goes {scope} (Is.branched {l} {a} {u} {b} {c} {zs} {ws} p d g) h f =
         let end = freed _ (scoped-If raw l a b c) f in
-        let e = either_false (keeps scope.statements) _ (unkept _ (ap (λ z. z.keeps) (nest-If keeps scope.statements l u zs ws)) h) in
-        let i = either_false (any_kept (map (nest keeps) zs)) _ e.1 in
+        let e = or_parts (keeps scope.statements) _ (unkept _ (ap (λ z. z.keeps) (nest-If keeps scope.statements l u zs ws)) h) in
+        let i = or_parts (any_kept (map (nest keeps) zs)) _ e.1 in
         subst IsGone (sym (left_of_if k raw l a b c scope))
         (if_goes (keeps scope.statements) l a _ _ scope e.0 (all_go d i.0 (λ id m n. end id m (lt_then n (all_grow raw g)))) (all_go g i.1 (λ id m n. end id (le_then (all_grow raw d) m) n)))
     goes {scope} (Is.while_loop {l} {a} {u} {b} {zs} p d) h f =
-        let e = either_false (keeps scope.statements) _ (unkept _ (ap (λ z. z.keeps) (nest-While keeps scope.statements l u zs)) h) in
+        let e = or_parts (keeps scope.statements) _ (unkept _ (ap (λ z. z.keeps) (nest-While keeps scope.statements l u zs)) h) in
         at_form _ (left-While k raw l a b) (while_goes (keeps scope.statements) l a _ scope e.0 (all_go d e.1 (freed _ (scoped-While raw l a b) f)))
     goes {scope} (Is.do_loop {l} {a} {u} {b} {zs} p d) h f =
-        let e = either_false (keeps scope.statements) _ (unkept _ (ap (λ z. z.keeps) (nest-Do keeps scope.statements l u zs)) h) in
+        let e = or_parts (keeps scope.statements) _ (unkept _ (ap (λ z. z.keeps) (nest-Do keeps scope.statements l u zs)) h) in
         at_form _ (left-Do k raw l a b) (do_goes (keeps scope.statements) l a _ scope e.0 (all_go d e.1 (freed _ (scoped-Do raw l a b) f)))
     goes {scope} (Is.for_loop {l} {a} {u} {i} {step} {b} {first} {next} {zs} start d p g q) h f =
         let end = freed _ (scoped-For raw l i a step b) f in
-        let e = either_false (keeps scope.statements) _ (unkept _ (ap (λ z. z.keeps) (nest-For keeps scope.statements l first u next zs)) h) in
-        let e1 = either_false (part_kept (option_map (nest keeps) first)) _ e.1 in
-        let e2 = either_false (part_kept (option_map (nest keeps) next)) _ e1.1 in
+        let e = or_parts (keeps scope.statements) _ (unkept _ (ap (λ z. z.keeps) (nest-For keeps scope.statements l first u next zs)) h) in
+        let e1 = or_parts (part_kept (option_map (nest keeps) first)) _ e.1 in
+        let e2 = or_parts (part_kept (option_map (nest keeps) next)) _ e1.1 in
         subst IsGone (sym (left_of_for k raw l i a step b scope))
         (for_goes (keeps scope.statements) l _ a _ _ (part_scope raw i scope) e.0
         (part_goes d e1.0 (λ id m n. end id m (lt_then n (le_then (part_grows raw g) (all_grow raw q)))))
         (part_goes g e2.0 (λ id m n. end id (le_then (part_grows raw d) m) (lt_then n (all_grow raw q))))
         (all_go q e2.1 (λ id m n. end id (le_then (part_grows raw d) (le_then (part_grows raw g) m)) n)))
     goes {scope} (Is.switched {l} {a} {u} {arms} {zs} p d) h f =
-        let e = either_false (keeps scope.statements) _ (unkept _ (ap (λ z. z.keeps) (nest-Switch keeps scope.statements l u zs)) h) in
+        let e = or_parts (keeps scope.statements) _ (unkept _ (ap (λ z. z.keeps) (nest-Switch keeps scope.statements l u zs)) h) in
         at_form _ (left-Switch k raw l a arms) (switch_goes (keeps scope.statements) l a _ scope e.0 (arms_go d e.1 (freed _ (scoped-Switch raw l a arms) f)))
     goes {scope} (Is.blocked {l} {b} {zs} d) h f =
         let g = all_go d (unkept _ (ap (λ z. z.keeps) (nest-Block keeps l zs)) h) (freed _ (scoped-Block raw l b) f) in
@@ -169,7 +169,7 @@ module _ (raw : RawProgram) (vars keeps : ℕ → Bool) where
     pub all_go : {scope : Scope} {xs : List RawStatement} {zs : List Statement} → Are raw scope xs zs → any_kept (map (nest keeps) zs) ≡ false → Free scope.variables (after_list raw xs scope).variables → IsGone (body_left k raw xs scope)
     all_go Are.none h f = (tt, refl)
     all_go {scope} (Are.more {x} {xs} {z} {zs} d g) h f =
-        let e = either_false (kept_in z) _ h in
+        let e = or_parts (kept_in z) _ h in
         let first = (left k raw x).gives scope in
         let p = goes d e.0 (λ id m n. f id m (lt_then n (all_grow raw g))) in
         let q = all_go g e.1 (λ id m n. f id (le_then (grows raw d) m) n) in
@@ -185,7 +185,7 @@ module _ (raw : RawProgram) (vars keeps : ℕ → Bool) where
         → AreMet k (arms_gone (in_order (map (left_arm k raw) xs) scope))
     arms_go ArmsAre.no_arms h f = tt
     arms_go {scope} (ArmsAre.more_arms {labels} {body} {rest} {ls} {zs} free still d g) h f =
-        let e = either_false _ _ h in
+        let e = or_parts _ _ h in
         let end = subst (λ (u : Scoped _). Free scope.variables (after_all (map (scoped_of_arm raw) rest) (u.after scope)).variables) (scoped_of_arm-arm raw labels body) f in
         let p = all_go d (sym (ap (λ z. z.keeps) (nest-arm keeps ls zs)) ∙ e.0) (λ id m n. end id m (lt_then n (arms_grow raw g))) in
         let q = arms_go g e.1 (λ id m n. end id (le_then (all_grow raw d) m) n) in

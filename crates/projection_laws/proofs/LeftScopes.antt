@@ -1,18 +1,17 @@
 -- What stays of a statement, at the scopes of the text.
-use Rattle.std.proofs.Common.{◌≡◌, ℕ, List, map, Option, Some, None, option_map, sym, ap, ◌∙◌}
+use Rattle.std.proofs.Common.{◌≡◌, ℕ, List, map, Option, option_map, ap, ◌∙◌}
 use Rattle.c_tree.specs.declared.raw.expr.RawExpr.{RawExpr}
 use Rattle.c_tree.specs.declared.raw.program.RawProgram.{RawProgram}
 use Rattle.c_tree.specs.declared.raw.statement.RawLabel.{RawLabel}
-use Rattle.c_tree.specs.declared.raw.statement.RawStatement.{RawStatement, fold-roll-RawStatement}
-use Rattle.c_tree.specs.declared.raw.statement.RawStatement.TheOpen.{RawStatement-F}
+use Rattle.c_tree.specs.declared.raw.statement.RawStatement.{RawStatement}
 use Rattle.c_tree.specs.declared.raw.statement.RawStatement.TheVariants as s
 use Rattle.c_language.specs.Scopes.{Scope, Scoped, opened, numbered, after_part, after_block, part_gives}
 use Rattle.c_language.specs.Phrases.{scoped}
+use Rattle.c_language.proofs.ScopesAfter.{statement_after, statements_after, block_scope_after, part_scope_after}
 use Rattle.projection.specs.Kept.{Kept}
 use Rattle.c_scope_laws.specs.Thinning.{after_list, block_after, part_scope, body_scope, arm}
-use Rattle.c_scope_laws.specs.ThinnedBodies.{Left, ArmLeft, if_left, for_left, block_left, left_step, left_scoped, left_arm_step, left, left_arm, body_left}
-use Rattle.c_thin_trees.proofs.LeftForms.{left-If, left-arm}
-use Rattle.c_scope_laws.proofs.ScopesAfter.{statement_after, statements_after, block_scope_after, part_scope_after}
+use Rattle.c_scope_laws.specs.ThinnedBodies.{Left, ArmLeft, if_left, for_left, block_left, left_step, left_arm_step, left, left_arm, body_left}
+use Rattle.c_thin_trees.proofs.LeftForms.{left-If, left-arm, left-For}
 
 module _ (k : Kept) (raw : RawProgram) where
   pub left_after : (x : RawStatement) (scope : Scope) → (left k raw x).after scope ≡ (scoped raw x).after scope
@@ -28,12 +27,6 @@ module _ (k : Kept) (raw : RawProgram) where
   arm_after labels body scope =
       ap (λ (u : Scoped ArmLeft). u.after scope) (left-arm k raw labels body) ∙ statements_after raw Left ArmLeft (left_step k raw) (λ a. (left_arm_step k raw a).gives) body scope
 
-  for_as : (l : ℕ) (i : Option RawStatement) (a : RawExpr) (step : Option RawStatement) (b : List RawStatement) → left k raw (s.For l i a step b) ≡ left_scoped k raw (RawStatement-F.For l (option_map (left k raw) i) a (option_map (left k raw) step) (map (left k raw) b))
-  for_as l None a None b = ap (left k raw) (sym (s.rolls-For l None a None b)) ∙ fold-roll-RawStatement (Scoped Left) (Scoped ArmLeft) (left_scoped k raw) (left_arm_step k raw) (RawStatement-F.For l None a None b)
-  for_as l None a (Some step) b = ap (left k raw) (sym (s.rolls-For l None a (Some step) b)) ∙ fold-roll-RawStatement (Scoped Left) (Scoped ArmLeft) (left_scoped k raw) (left_arm_step k raw) (RawStatement-F.For l None a (Some step) b)
-  for_as l (Some i) a None b = ap (left k raw) (sym (s.rolls-For l (Some i) a None b)) ∙ fold-roll-RawStatement (Scoped Left) (Scoped ArmLeft) (left_scoped k raw) (left_arm_step k raw) (RawStatement-F.For l (Some i) a None b)
-  for_as l (Some i) a (Some step) b = ap (left k raw) (sym (s.rolls-For l (Some i) a (Some step) b)) ∙ fold-roll-RawStatement (Scoped Left) (Scoped ArmLeft) (left_scoped k raw) (left_arm_step k raw) (RawStatement-F.For l (Some i) a (Some step) b)
-
   -- an if and a for, at the scopes of the text
   pub left_of_if : (l : ℕ) (a : RawExpr) (b c : List RawStatement) (scope : Scope)
       → (left k raw (s.If l a b c)).gives scope ≡ if_left raw (k.statement scope.statements) l a (body_left k raw b (opened (numbered scope))) (body_left k raw c (opened (block_after raw b (numbered scope)))) scope
@@ -48,6 +41,6 @@ module _ (k : Kept) (raw : RawProgram) where
       → (left k raw (s.For l i a step b)).gives scope
       ≡ for_left raw (k.statement scope.statements) l (part_left_at i (opened (numbered scope))) a (part_left_at step (part_scope raw i scope)) (body_left k raw b (opened (body_scope raw i step scope))) (part_scope raw i scope)
   left_of_for l i a step b scope =
-      ap (λ (u : Scoped Left). u.gives scope) (for_as l i a step b)
+      ap (λ (u : Scoped Left). u.gives scope) (left-For k raw l i a step b)
       ∙ ap (λ (z : Scope). for_left raw (k.statement scope.statements) l (part_left_at i (opened (numbered scope))) a (part_left_at step z) (block_left k raw (map (left k raw) b) (after_part (option_map (left k raw) step) z)) z) (left_after_part i (opened (numbered scope)))
       ∙ ap (λ (z : Scope). for_left raw (k.statement scope.statements) l (part_left_at i (opened (numbered scope))) a (part_left_at step (part_scope raw i scope)) (block_left k raw (map (left k raw) b) z) (part_scope raw i scope)) (left_after_part step (part_scope raw i scope))

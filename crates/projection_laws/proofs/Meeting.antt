@@ -2,6 +2,7 @@
 use Rattle.std.proofs.Common.{◌≡◌, ℕ, zero, suc, ◌==◌, ◌≤◌, ◌<◌, List, [], ◌∷◌, ◌++◌, map, Bool, true, false, ◌&&◌, ◌||◌, Option, Some, None, option_map, refl, sym, ap, ap₂, subst, ◌∙◌, arith}
 use Rattle.std.specs.Prelude.{Contains}
 use Rattle.std.proofs.lemmas.Bool.Decides.{nat_tests}
+use Rattle.std.proofs.lemmas.Bool.{and_parts, or_parts, or_left, or_right, and_from}
 use Rattle.c_arith.specs.declared.int_type.IntType.{IntType}
 use Rattle.c_tree.specs.declared.expr.Expr.{Expr}
 use Rattle.c_tree.specs.declared.program.Init.TheVariants as begins
@@ -30,20 +31,22 @@ use Rattle.c_language.specs.Phrases.{Stand, InBlock, Part, Declares, Begins, Ass
 use Rattle.c_language.specs.Uses.{holds, expressions, lengths_step, lengths_in, cases, arg_exprs, if_given}
 use Rattle.c_language.specs.CallRules.{later_args}
 use Rattle.c_language.specs.ProgramOf.{optional, expr_of, arg_tree, args_tree, arm_tree}
+use Rattle.c_language.proofs.ScopedForms.{scoped-If, scoped-While, scoped-Do, scoped-For, scoped-Switch, scoped-Block, scoped_of_arm-arm}
+use Rattle.c_language.proofs.Options.{none_there, some_same}
+use Rattle.c_language.proofs.Tests.{false_true}
+use Rattle.c_language.proofs.Lists.{contains_later}
 use Rattle.projection.specs.Kept.{Kept}
 use Rattle.projection.specs.Names.{names, any_names, value_names, either, if_any, refers}
 use Rattle.c_scope_laws.specs.Agreement.{NamedIn, NamedAmong, Names, written_step, is_written}
 use Rattle.c_scope_laws.specs.Thinning.{stays, found, IsKept, NamesStay, LabelsStay, declares, after_list, block_after, part_scope, body_scope, arm}
 use Rattle.c_scope_laws.specs.ThinnedBodies.{AreMet, Left, ArmLeft, all_left, gone, beyond, part_needs, part_gone, arms_labels, arms_needs, alone, alone_all, alone_one, block_of, plain, declared, counted_var, counted_type_step, counted_type, count_needs, if_left, while_left, do_left, for_left, switch_left, left, left_arm, body_left}
-use Rattle.c_scope_laws.proofs.Options.{none_there, some_same, false_true}
-use Rattle.c_scope_laws.proofs.Trees.{later_in, in_one}
+use Rattle.c_scope_laws.proofs.Trees.{in_one}
 use Rattle.c_scope_laws.proofs.NamedTrees.{kept_by_tree}
 use Rattle.c_scope_laws.proofs.ThinnedBodies.{both_met}
 use Rattle.c_scope_laws.proofs.CountedLengths.{of_integer}
-use Rattle.c_scope_laws.proofs.PhraseForms.{scoped-If, scoped-While, scoped-Do, scoped-For, scoped-Switch, scoped-Block, scoped_of_arm-arm}
 use Rattle.projection_laws.specs.Nested.{any_kept, all_fit, part_kept, part_fits, governs, nest}
 use Rattle.c_print_laws.proofs.ForParts.{Form, form_step, form_arm, form_of}
-use Rattle.projection_laws.proofs.Options.{more_there, both_true, either_false, left_or, right_or, and_true}
+use Rattle.projection_laws.proofs.Options.{more_there}
 use Rattle.projection_laws.proofs.IntegerTexts.{NoVariable, IsQuiet, NoNames, StartsSimple, Is, Are, IsPart, ArmsAre}
 use Rattle.projection_laws.proofs.Constants.{pick_two}
 use Rattle.projection_laws.proofs.StatementForms.{arm_refers, refers-Declare, refers-Assign, refers-Bump, refers-Write, refers-Print, refers-If, refers-While, refers-Do, refers-For, refers-Switch, refers-Block, refers-Return, refers-arm, arm_nest, nest-If, nest-While, nest-Do, nest-For, nest-Switch, nest-Block, nest-arm}
@@ -79,7 +82,7 @@ gap_spans scope next s same grown = record {
 -- ---- names that stay
 
 named_later : (a : RawExpr) (as_ : List RawExpr) (x : Bytes) → NamedAmong as_ x → NamedAmong (a ∷ as_) x
-named_later a as_ x (b, c, n) = (b, later_in a b as_ c, n)
+named_later a as_ x (b, c, n) = (b, contains_later a b as_ c, n)
 
 no_join : (as_ bs : List RawExpr) → NoNames as_ → NoNames bs → NoNames (as_ ++ bs)
 no_join [] bs p q x c = q x c
@@ -109,10 +112,10 @@ module _ (raw : RawProgram) (vars keeps : ℕ → Bool) where
   args_stay scope [] us at h a (i, within, is) = absurd (omega (arith, within))
   args_stay scope (arg.Value b ∷ rest) us at h a (zero, within, is) =
       let m = more_there (expr_of raw scope b) (map (arg_tree raw scope) rest) us at in
-      subst (Stays scope) is (expr_stays scope b m.first m.first_there (λ id n. h id (ap (λ (z : List Expr). any_names z id) (sym m.same) ∙ left_or (names m.first id) _ n)))
+      subst (Stays scope) is (expr_stays scope b m.first m.first_there (λ id n. h id (ap (λ (z : List Expr). any_names z id) (sym m.same) ∙ or_left (names m.first id) _ n)))
   args_stay scope (arg.Value b ∷ rest) us at h a (suc i, within, is) =
       let m = more_there (expr_of raw scope b) (map (arg_tree raw scope) rest) us at in
-      args_stay scope rest m.rest m.rest_there (λ id n. h id (ap (λ (z : List Expr). any_names z id) (sym m.same) ∙ right_or (names m.first id) _ n)) a (i, omega (arith, within), is)
+      args_stay scope rest m.rest m.rest_there (λ id n. h id (ap (λ (z : List Expr). any_names z id) (sym m.same) ∙ or_right (names m.first id) _ n)) a (i, omega (arith, within), is)
   args_stay scope (arg.Literal text ∷ rest) us at h a c = let m = more_there None (map (arg_tree raw scope) rest) us at in none_there m.first_there
 
   -- ---- phrases whose names stay
@@ -417,8 +420,8 @@ module _ (raw : RawProgram) (vars keeps : ℕ → Bool) where
   for_unkept {z0} {l} {n} {i} {step} {b} {first} {next} {zs} start d g q s0 s1 s3 t governed only met =
       let z1 = after_part (option_map (scoped raw) i) z0 in
       let z2 = after_part (option_map (scoped raw) step) z1 in
-      let none = (either_false (keeps n) _ (not_kept (keeps n) _ true t (and_true governed refl))).1 in
-      let none_of = either_false (part_kept (option_map (nest keeps) next)) (any_kept (map (nest keeps) zs)) none in
+      let none = (or_parts (keeps n) _ (not_kept (keeps n) _ true t (and_from _ _ governed refl))).1 in
+      let none_of = or_parts (part_kept (option_map (nest keeps) next)) (any_kept (map (nest keeps) zs)) none in
       let begins = λ (id : ℕ) (v : vars id ≡ true) (m : z0.variables ≤ id) (j : id < (after_list raw b (opened z2)).variables).
       either_way (if_any (option_map refs first) id) _ (only id v m j) (λ r. (part_reaches raw keeps Any d s0 id r).below)
       (λ h. either_way (if_any (option_map refs next) id) (either (map refs zs) id) h
@@ -442,29 +445,29 @@ module _ (raw : RawProgram) (vars keeps : ℕ → Bool) where
     meets {scope} (Is.begun {l} {v} {a} {w} q at) s fit kept only =
         let is = refers-Declare keeps (Some scope.statements) l scope.variables (begins.One w) in
         met_at scope _ (left-Declare k raw l v (init.One a))
-        (begun_met (vars scope.variables) (keeps scope.statements) l v a scope q (λ c. kept scope.variables (back scope.variables is (and_true c (left_or (scope.variables == scope.variables) _ (itself scope.variables)))))
-        (λ c. expr_stays (with_variable raw v (init.One a) scope) a w at (λ id n. kept id (back id is (and_true c (right_or (scope.variables == id) (names w id) n))))))
+        (begun_met (vars scope.variables) (keeps scope.statements) l v a scope q (λ c. kept scope.variables (back scope.variables is (and_from _ _ c (or_left (scope.variables == scope.variables) _ (itself scope.variables)))))
+        (λ c. expr_stays (with_variable raw v (init.One a) scope) a w at (λ id n. kept id (back id is (and_from _ _ c (or_right (scope.variables == id) (names w id) n))))))
     meets {scope} (Is.assigned {l} {a} {b} {op} {u} {w} p q) s fit kept only =
         let is = refers-Assign keeps scope.statements l u op w in
         met_at scope _ (left-Assign k raw l a op b)
         (plain_met (keeps scope.statements) _ scope _
-        (λ c. assigns_stay scope a b op (expr_stays scope a u p (λ id n. kept id (back id is (and_true c (left_or (names u id) _ n))))) (expr_stays scope b w q (λ id n. kept id (back id is (and_true c (right_or (names u id) _ n)))))))
+        (λ c. assigns_stay scope a b op (expr_stays scope a u p (λ id n. kept id (back id is (and_from _ _ c (or_left (names u id) _ n))))) (expr_stays scope b w q (λ id n. kept id (back id is (and_from _ _ c (or_right (names u id) _ n)))))))
     meets {scope} (Is.bumped {l} {a} {up} {before} {u} p) s fit kept only =
         let is = refers-Bump keeps scope.statements l u up before in
-        met_at scope _ (left-Bump k raw l a up before) (plain_met (keeps scope.statements) _ scope _ (λ c. bumps_stay scope a (expr_stays scope a u p (λ id n. kept id (back id is (and_true c n))))))
+        met_at scope _ (left-Bump k raw l a up before) (plain_met (keeps scope.statements) _ scope _ (λ c. bumps_stay scope a (expr_stays scope a u p (λ id n. kept id (back id is (and_from _ _ c n))))))
     meets {scope} (Is.written {l} {f} {args} {a} {u} free one p) s fit kept only =
         let is = refers-Write keeps scope.statements l u in
         met_at scope _ (left-Call k raw l target.None f args)
         (plain_met (keeps scope.statements) _ scope _
-        (λ c. calls_stay scope f args free (λ e at. subst (Stays scope) (in_one a e (subst (λ (all : List RawExpr). Contains all e) one at)) (expr_stays scope a u p (λ id n. kept id (back id is (and_true c n)))))))
+        (λ c. calls_stay scope f args free (λ e at. subst (Stays scope) (in_one a e (subst (λ (all : List RawExpr). Contains all e) one at)) (expr_stays scope a u p (λ id n. kept id (back id is (and_from _ _ c n)))))))
     meets {scope} (Is.printed {l} {f} {text} {args} {us} free one p) s fit kept only =
         let is = refers-Print keeps scope.statements l text us in
         met_at scope _ (left-Call k raw l target.None f args)
         (plain_met (keeps scope.statements) _ scope _
-        (λ c. calls_stay scope f args free (λ e at. args_stay scope (later_args args) us p (λ id n. kept id (back id is (and_true c n))) e (subst (λ (all : List RawExpr). Contains all e) one at))))
+        (λ c. calls_stay scope f args free (λ e at. args_stay scope (later_args args) us p (λ id n. kept id (back id is (and_from _ _ c n))) e (subst (λ (all : List RawExpr). Contains all e) one at))))
     meets {scope} (Is.returned {l} {a} {u} p) s fit kept only =
         let is = refers-Return keeps scope.statements l u in
-        met_at scope _ (left-Return k raw l a) (plain_met (keeps scope.statements) _ scope _ (λ c. returns_stay scope a u p (λ id n. kept id (back id is (and_true c n)))))
+        met_at scope _ (left-Return k raw l a) (plain_met (keeps scope.statements) _ scope _ (λ c. returns_stay scope a u p (λ id n. kept id (back id is (and_from _ _ c n)))))
     meets {scope} (Is.branched {l} {a} {u} {b} {c} {zs} {ws} p d g) s fit kept only =
         let is = refers-If keeps scope.statements l u zs ws in
         let here = only (ap (λ (u : Text). (u.after scope).names) (scoped-If raw l a b c)) in
@@ -473,58 +476,58 @@ module _ (raw : RawProgram) (vars keeps : ℕ → Bool) where
         let middle = opened (block_after raw b (numbered scope)) in
         let s1 = spans_later Any scope start refl (le_same scope.variables) s in
         let s2 = spans_later Any scope middle refl (all_grow raw d) s in
-        let f = both_true (governs (keeps scope.statements) (any_kept (map (nest keeps) zs) || any_kept (map (nest keeps) ws))) _ (sym (ap (λ z. z.fits) (nest-If keeps scope.statements l u zs ws)) ∙ fit) in
-        let f1 = both_true (all_fit (map (nest keeps) zs)) (all_fit (map (nest keeps) ws)) f.1 in
-        let first = all_meet d s1 f1.0 (λ id h. kept id (back id is (right_or (keeps scope.statements && names u id) _ (left_or (either (map refs zs) id) _ h))))
+        let f = and_parts (governs (keeps scope.statements) (any_kept (map (nest keeps) zs) || any_kept (map (nest keeps) ws))) _ (sym (ap (λ z. z.fits) (nest-If keeps scope.statements l u zs ws)) ∙ fit) in
+        let f1 = and_parts (all_fit (map (nest keeps) zs)) (all_fit (map (nest keeps) ws)) f.1 in
+        let first = all_meet d s1 f1.0 (λ id h. kept id (back id is (or_right (keeps scope.statements && names u id) _ (or_left (either (map refs zs) id) _ h))))
         (λ id v m n. either_way (keeps scope.statements && names u id) _ (onward id is (here id v m (subst (λ (j : ℕ). id < j) (sym end) (lt_then n (all_grow raw g)))))
-        (λ h. too_low (expr_spans raw Any scope s a u p id (both_true (keeps scope.statements) (names u id) h).1).1 (le_same scope.variables) m)
+        (λ h. too_low (expr_spans raw Any scope s a u p id (and_parts (keeps scope.statements) (names u id) h).1).1 (le_same scope.variables) m)
         (λ h. either_way (either (map refs zs) id) (either (map refs ws) id) h (λ r. r)
         (λ r. not_between scope.variables middle.variables id (all_reach raw keeps (Gap scope.variables middle.variables) g (gap_spans scope middle s refl (all_grow raw d)) id r).place m n))) in
-        let second = all_meet g s2 f1.1 (λ id h. kept id (back id is (right_or (keeps scope.statements && names u id) _ (right_or (either (map refs zs) id) _ h))))
+        let second = all_meet g s2 f1.1 (λ id h. kept id (back id is (or_right (keeps scope.statements && names u id) _ (or_right (either (map refs zs) id) _ h))))
         (λ id v m n. either_way (keeps scope.statements && names u id) _ (onward id is (here id v (le_then (all_grow raw d) m) (subst (λ (j : ℕ). id < j) (sym end) n)))
-        (λ h. too_low (expr_spans raw Any scope s a u p id (both_true (keeps scope.statements) (names u id) h).1).1 (all_grow raw d) m)
+        (λ h. too_low (expr_spans raw Any scope s a u p id (and_parts (keeps scope.statements) (names u id) h).1).1 (all_grow raw d) m)
         (λ h. either_way (either (map refs zs) id) (either (map refs ws) id) h
         (λ r. too_low (all_reach raw keeps Any d s1 id r).below (le_same middle.variables) m) (λ r. r))) in
         subst Met (sym (left_of_if k raw l a b c scope))
-        (if_met (keeps scope.statements) l a _ _ scope (λ t. tests_stay scope a (expr_stays scope a u p (λ id n. kept id (back id is (left_or (keeps scope.statements && names u id) _ (and_true t n)))))) first second
+        (if_met (keeps scope.statements) l a _ _ scope (λ t. tests_stay scope a (expr_stays scope a u p (λ id n. kept id (back id is (or_left (keeps scope.statements && names u id) _ (and_from _ _ t n)))))) first second
         (λ t. subst Met (left_of_if k raw l a b c scope)
-        (unkept_met (Is.branched p d g) s (ap (λ z. z.keeps) (nest-If keeps scope.statements l u zs ws) ∙ not_kept (keeps scope.statements) _ _ t (and_true f.0 f.1)) here)))
+        (unkept_met (Is.branched p d g) s (ap (λ z. z.keeps) (nest-If keeps scope.statements l u zs ws) ∙ not_kept (keeps scope.statements) _ _ t (and_from _ _ f.0 f.1)) here)))
     meets {scope} (Is.while_loop {l} {a} {u} {b} {zs} p d) s fit kept only =
         let is = refers-While keeps scope.statements l u zs in
         let here = only (ap (λ (u : Text). (u.after scope).names) (scoped-While raw l a b)) in
         let end = ap (λ (u : Text). (u.after scope).variables) (scoped-While raw l a b) in
-        let f = both_true (governs (keeps scope.statements) (any_kept (map (nest keeps) zs))) _ (sym (ap (λ z. z.fits) (nest-While keeps scope.statements l u zs)) ∙ fit) in
-        let inside = all_meet d (spans_later Any scope (opened (numbered scope)) refl (le_same scope.variables) s) f.1 (λ id h. kept id (back id is (right_or (keeps scope.statements && names u id) _ h)))
+        let f = and_parts (governs (keeps scope.statements) (any_kept (map (nest keeps) zs))) _ (sym (ap (λ z. z.fits) (nest-While keeps scope.statements l u zs)) ∙ fit) in
+        let inside = all_meet d (spans_later Any scope (opened (numbered scope)) refl (le_same scope.variables) s) f.1 (λ id h. kept id (back id is (or_right (keeps scope.statements && names u id) _ h)))
         (λ id v m n. either_way (keeps scope.statements && names u id) _ (onward id is (here id v m (subst (λ (j : ℕ). id < j) (sym end) n)))
-        (λ h. too_low (expr_spans raw Any scope s a u p id (both_true (keeps scope.statements) (names u id) h).1).1 (le_same scope.variables) m) (λ r. r)) in
+        (λ h. too_low (expr_spans raw Any scope s a u p id (and_parts (keeps scope.statements) (names u id) h).1).1 (le_same scope.variables) m) (λ r. r)) in
         met_at scope _ (left-While k raw l a b)
-        (while_met (keeps scope.statements) l a _ scope (λ t. tests_stay scope a (expr_stays scope a u p (λ id n. kept id (back id is (left_or (keeps scope.statements && names u id) _ (and_true t n)))))) inside
+        (while_met (keeps scope.statements) l a _ scope (λ t. tests_stay scope a (expr_stays scope a u p (λ id n. kept id (back id is (or_left (keeps scope.statements && names u id) _ (and_from _ _ t n)))))) inside
         (λ t. subst (λ (z : Scoped Left). Met (z.gives scope)) (left-While k raw l a b)
-        (unkept_met (Is.while_loop p d) s (ap (λ z. z.keeps) (nest-While keeps scope.statements l u zs) ∙ not_kept (keeps scope.statements) _ _ t (and_true f.0 f.1)) here)))
+        (unkept_met (Is.while_loop p d) s (ap (λ z. z.keeps) (nest-While keeps scope.statements l u zs) ∙ not_kept (keeps scope.statements) _ _ t (and_from _ _ f.0 f.1)) here)))
     meets {scope} (Is.do_loop {l} {a} {u} {b} {zs} p d) s fit kept only =
         let is = refers-Do keeps scope.statements l u zs in
         let here = only (ap (λ (u : Text). (u.after scope).names) (scoped-Do raw l a b)) in
         let end = ap (λ (u : Text). (u.after scope).variables) (scoped-Do raw l a b) in
-        let f = both_true (governs (keeps scope.statements) (any_kept (map (nest keeps) zs))) _ (sym (ap (λ z. z.fits) (nest-Do keeps scope.statements l u zs)) ∙ fit) in
-        let inside = all_meet d (spans_later Any scope (opened (numbered scope)) refl (le_same scope.variables) s) f.1 (λ id h. kept id (back id is (right_or (keeps scope.statements && names u id) _ h)))
+        let f = and_parts (governs (keeps scope.statements) (any_kept (map (nest keeps) zs))) _ (sym (ap (λ z. z.fits) (nest-Do keeps scope.statements l u zs)) ∙ fit) in
+        let inside = all_meet d (spans_later Any scope (opened (numbered scope)) refl (le_same scope.variables) s) f.1 (λ id h. kept id (back id is (or_right (keeps scope.statements && names u id) _ h)))
         (λ id v m n. either_way (keeps scope.statements && names u id) _ (onward id is (here id v m (subst (λ (j : ℕ). id < j) (sym end) n)))
-        (λ h. too_low (expr_spans raw Any scope s a u p id (both_true (keeps scope.statements) (names u id) h).1).1 (le_same scope.variables) m) (λ r. r)) in
+        (λ h. too_low (expr_spans raw Any scope s a u p id (and_parts (keeps scope.statements) (names u id) h).1).1 (le_same scope.variables) m) (λ r. r)) in
         met_at scope _ (left-Do k raw l a b)
-        (do_met (keeps scope.statements) l a _ scope (λ t. tests_stay scope a (expr_stays scope a u p (λ id n. kept id (back id is (left_or (keeps scope.statements && names u id) _ (and_true t n)))))) inside
+        (do_met (keeps scope.statements) l a _ scope (λ t. tests_stay scope a (expr_stays scope a u p (λ id n. kept id (back id is (or_left (keeps scope.statements && names u id) _ (and_from _ _ t n)))))) inside
         (λ t. subst (λ (z : Scoped Left). Met (z.gives scope)) (left-Do k raw l a b)
-        (unkept_met (Is.do_loop p d) s (ap (λ z. z.keeps) (nest-Do keeps scope.statements l u zs) ∙ not_kept (keeps scope.statements) _ _ t (and_true f.0 f.1)) here)))
+        (unkept_met (Is.do_loop p d) s (ap (λ z. z.keeps) (nest-Do keeps scope.statements l u zs) ∙ not_kept (keeps scope.statements) _ _ t (and_from _ _ f.0 f.1)) here)))
     meets {scope} (Is.switched {l} {a} {u} {arms} {zs} p d) s fit kept only =
         let is = refers-Switch keeps scope.statements l u zs in
         let here = only (ap (λ (u : Text). (u.after scope).names) (scoped-Switch raw l a arms)) in
         let end = ap (λ (u : Text). (u.after scope).variables) (scoped-Switch raw l a arms) in
-        let f = both_true (governs (keeps scope.statements) (any_kept (map (arm_nest keeps) zs))) _ (sym (ap (λ z. z.fits) (nest-Switch keeps scope.statements l u zs)) ∙ fit) in
-        let inside = arms_meet d (spans_later Any scope (opened (numbered scope)) refl (le_same scope.variables) s) f.1 (λ id h. kept id (back id is (right_or (keeps scope.statements && names u id) _ h)))
+        let f = and_parts (governs (keeps scope.statements) (any_kept (map (arm_nest keeps) zs))) _ (sym (ap (λ z. z.fits) (nest-Switch keeps scope.statements l u zs)) ∙ fit) in
+        let inside = arms_meet d (spans_later Any scope (opened (numbered scope)) refl (le_same scope.variables) s) f.1 (λ id h. kept id (back id is (or_right (keeps scope.statements && names u id) _ h)))
         (λ id v m n. either_way (keeps scope.statements && names u id) _ (onward id is (here id v m (subst (λ (j : ℕ). id < j) (sym end) n)))
-        (λ h. too_low (expr_spans raw Any scope s a u p id (both_true (keeps scope.statements) (names u id) h).1).1 (le_same scope.variables) m) (λ r. r)) in
+        (λ h. too_low (expr_spans raw Any scope s a u p id (and_parts (keeps scope.statements) (names u id) h).1).1 (le_same scope.variables) m) (λ r. r)) in
         met_at scope _ (left-Switch k raw l a arms)
-        (switch_met (keeps scope.statements) l a _ scope (λ t. switches_stay scope a _ (expr_stays scope a u p (λ id n. kept id (back id is (left_or (keeps scope.statements && names u id) _ (and_true t n))))) (arms_nameless d)) inside
+        (switch_met (keeps scope.statements) l a _ scope (λ t. switches_stay scope a _ (expr_stays scope a u p (λ id n. kept id (back id is (or_left (keeps scope.statements && names u id) _ (and_from _ _ t n))))) (arms_nameless d)) inside
         (λ t. subst (λ (z : Scoped Left). Met (z.gives scope)) (left-Switch k raw l a arms)
-        (unkept_met (Is.switched p d) s (ap (λ z. z.keeps) (nest-Switch keeps scope.statements l u zs) ∙ not_kept (keeps scope.statements) _ _ t (and_true f.0 f.1)) here)))
+        (unkept_met (Is.switched p d) s (ap (λ z. z.keeps) (nest-Switch keeps scope.statements l u zs) ∙ not_kept (keeps scope.statements) _ _ t (and_from _ _ f.0 f.1)) here)))
     meets {scope} (Is.blocked {l} {b} {zs} d) s fit kept only =
         let is = refers-Block keeps l zs in
         let here = only (ap (λ (u : Text). (u.after scope).names) (scoped-Block raw l b)) in
@@ -543,27 +546,27 @@ module _ (raw : RawProgram) (vars keeps : ℕ → Bool) where
         let s1 = part_spans raw Any d s0 in
         let s2 = part_spans raw Any g s1 in
         let s3 = spans_later Any z2 (opened z2) refl (le_same z2.variables) s2 in
-        let f = both_true (governs (keeps scope.statements) (part_kept (option_map (nest keeps) next) || any_kept (map (nest keeps) zs))) _ (sym (ap (λ z. z.fits) (nest-For keeps scope.statements l first u next zs)) ∙ fit) in
-        let f1 = both_true (part_fits (option_map (nest keeps) first)) _ f.1 in
-        let f2 = both_true (part_fits (option_map (nest keeps) next)) (all_fit (map (nest keeps) zs)) f1.1 in
-        let tested = λ (id : ℕ) (h : (keeps scope.statements && names u id) ≡ true). expr_spans raw Any z1 s1 a u p id (both_true (keeps scope.statements) (names u id) h).1 in
+        let f = and_parts (governs (keeps scope.statements) (part_kept (option_map (nest keeps) next) || any_kept (map (nest keeps) zs))) _ (sym (ap (λ z. z.fits) (nest-For keeps scope.statements l first u next zs)) ∙ fit) in
+        let f1 = and_parts (part_fits (option_map (nest keeps) first)) _ f.1 in
+        let f2 = and_parts (part_fits (option_map (nest keeps) next)) (all_fit (map (nest keeps) zs)) f1.1 in
+        let tested = λ (id : ℕ) (h : (keeps scope.statements && names u id) ≡ true). expr_spans raw Any z1 s1 a u p id (and_parts (keeps scope.statements) (names u id) h).1 in
         let whole = λ (id : ℕ) (v : vars id ≡ true) (m : scope.variables ≤ id) (n : id < (after_list raw b (opened z2)).variables). onward id is (here id v m (subst (λ (j : ℕ). id < j) (sym end) n)) in
-        let first_met = part_meets d s0 f1.0 (λ id h. kept id (back id is (right_or (keeps scope.statements && names u id) _ (left_or (if_any (option_map refs first) id) _ h))))
+        let first_met = part_meets d s0 f1.0 (λ id h. kept id (back id is (or_right (keeps scope.statements && names u id) _ (or_left (if_any (option_map refs first) id) _ h))))
         (λ same id v m n. either_way (keeps scope.statements && names u id) _ (whole id v m (lt_then n (le_then (part_grows raw g) (all_grow raw q))))
-        (λ h. not_between z0.variables z1.variables id (expr_spans raw (Gap z0.variables z1.variables) z1 (gap_spans z0 z1 s0 same (part_grows raw d)) a u p id (both_true (keeps scope.statements) (names u id) h).1).0 m n)
+        (λ h. not_between z0.variables z1.variables id (expr_spans raw (Gap z0.variables z1.variables) z1 (gap_spans z0 z1 s0 same (part_grows raw d)) a u p id (and_parts (keeps scope.statements) (names u id) h).1).0 m n)
         (λ h. either_way (if_any (option_map refs first) id) _ h (λ r. r)
         (λ h. either_way (if_any (option_map refs next) id) _ h
         (λ r. not_between z0.variables z1.variables id (part_reaches raw keeps (Gap z0.variables z1.variables) g (gap_spans z0 z1 s0 same (part_grows raw d)) id r).place m n)
         (λ r. not_between z0.variables z1.variables id
         (all_reach raw keeps (Gap z0.variables z1.variables) q (spans_later _ z2 (opened z2) refl (le_same z2.variables) (part_spans raw (Gap z0.variables z1.variables) g (gap_spans z0 z1 s0 same (part_grows raw d)))) id r).place m n)))) in
-        let step_met = part_meets g s1 f2.0 (λ id h. kept id (back id is (right_or (keeps scope.statements && names u id) _ (right_or (if_any (option_map refs first) id) _ (left_or (if_any (option_map refs next) id) _ h)))))
+        let step_met = part_meets g s1 f2.0 (λ id h. kept id (back id is (or_right (keeps scope.statements && names u id) _ (or_right (if_any (option_map refs first) id) _ (or_left (if_any (option_map refs next) id) _ h)))))
         (λ same id v m n. either_way (keeps scope.statements && names u id) _ (whole id v (le_then (part_grows raw d) m) (lt_then n (all_grow raw q)))
         (λ h. too_low (tested id h).1 (le_same z1.variables) m)
         (λ h. either_way (if_any (option_map refs first) id) _ h (λ r. too_low (part_reaches raw keeps Any d s0 id r).below (le_same z1.variables) m)
         (λ h. either_way (if_any (option_map refs next) id) _ h (λ r. r)
         (λ r. not_between z1.variables z2.variables id
         (all_reach raw keeps (Gap z1.variables z2.variables) q (spans_later _ z2 (opened z2) refl (le_same z2.variables) (gap_spans z1 z2 s1 same (part_grows raw g))) id r).place m n)))) in
-        let body_met = all_meet q s3 f2.1 (λ id h. kept id (back id is (right_or (keeps scope.statements && names u id) _ (right_or (if_any (option_map refs first) id) _ (right_or (if_any (option_map refs next) id) _ h)))))
+        let body_met = all_meet q s3 f2.1 (λ id h. kept id (back id is (or_right (keeps scope.statements && names u id) _ (or_right (if_any (option_map refs first) id) _ (or_right (if_any (option_map refs next) id) _ h)))))
         (λ id v m n. either_way (keeps scope.statements && names u id) _ (whole id v (le_then (part_grows raw d) (le_then (part_grows raw g) m)) n)
         (λ h. too_low (tested id h).1 (part_grows raw g) m)
         (λ h. either_way (if_any (option_map refs first) id) _ h (λ r. too_low (part_reaches raw keeps Any d s0 id r).below (part_grows raw g) m)
@@ -571,23 +574,23 @@ module _ (raw : RawProgram) (vars keeps : ℕ → Bool) where
         subst Met (sym (left_of_for k raw l i a step b scope))
         (for_met (keeps scope.statements) l (Piece i z0) a (Piece step z1) _ z1
         (λ t. record {
-          test_stays = tests_stay z1 a (expr_stays z1 a u p (λ id n. kept id (back id is (left_or (keeps scope.statements && names u id) _ (and_true t n)))));
+          test_stays = tests_stay z1 a (expr_stays z1 a u p (λ id n. kept id (back id is (or_left (keeps scope.statements && names u id) _ (and_from _ _ t n)))));
           first_met = first_met;
           step_met = step_met;
           body_met = body_met;
         })
-        (λ t. for_unkept start d g q s0 s1 s3 t f.0 (λ id v m n. either_way (keeps scope.statements && names u id) _ (whole id v m n) (λ h. false_true (sym t ∙ (both_true (keeps scope.statements) (names u id) h).0)) (λ h. h)) first_met))
+        (λ t. for_unkept start d g q s0 s1 s3 t f.0 (λ id v m n. either_way (keeps scope.statements && names u id) _ (whole id v m n) (λ h. false_true (sym t ∙ (and_parts (keeps scope.statements) (names u id) h).0)) (λ h. h)) first_met))
 
     pub all_meet : {scope : Scope} {xs : List RawStatement} {zs : List Statement} → Are raw scope xs zs → Spans Any scope → all_fit (map (nest keeps) zs) ≡ true → AreKept (either (map refs zs))
         → Only scope.variables (after_list raw xs scope).variables (either (map refs zs)) → AreMet k (body_left k raw xs scope).needs
     all_meet Are.none s fit kept only = tt
     all_meet {scope} (Are.more {x} {xs} {z} {zs} d g) s fit kept only =
         let next = (scoped raw x).after scope in
-        let f = both_true (fits_in z) (all_fit (map (nest keeps) zs)) fit in
-        let first = meets d s f.0 (λ id h. kept id (left_or (refs z id) _ h))
+        let f = and_parts (fits_in z) (all_fit (map (nest keeps) zs)) fit in
+        let first = meets d s f.0 (λ id h. kept id (or_left (refs z id) _ h))
         (λ same id v m n. either_way (refs z id) (either (map refs zs) id) (only id v m (lt_then n (all_grow raw g))) (λ r. r)
         (λ r. not_between scope.variables next.variables id (all_reach raw keeps (Gap scope.variables next.variables) g (gap_spans scope next s same (grows raw d)) id r).place m n)) in
-        let rest = all_meet g (spans_after raw Any d s) f.1 (λ id h. kept id (right_or (refs z id) _ h))
+        let rest = all_meet g (spans_after raw Any d s) f.1 (λ id h. kept id (or_right (refs z id) _ h))
         (λ id v m n. either_way (refs z id) (either (map refs zs) id) (only id v (le_then (grows raw d) m) n) (λ r. too_low (reaches raw keeps Any d s id r).below (le_same next.variables) m) (λ r. r)) in
         subst (λ (y : Scope). AreMet k (all_left ((left k raw x).gives scope ∷ in_order (map (left k raw) xs) y)).needs) (sym (left_after k raw x scope))
         (join_met k ((left k raw x).gives scope).needs _ first.0 rest)
@@ -606,12 +609,12 @@ module _ (raw : RawProgram) (vars keeps : ℕ → Bool) where
         let is = refers-arm keeps ls zs in
         let here = arm_refers keeps (arm_tree ls zs) in
         let end = ap (λ (u : Scoped _). (after_all (map (scoped_of_arm raw) rest) (u.after scope)).variables) (scoped_of_arm-arm raw labels body) in
-        let f = both_true (arm_nest keeps (arm_tree ls zs)).fits (all_fit (map (arm_nest keeps) arms)) fit in
+        let f = and_parts (arm_nest keeps (arm_tree ls zs)).fits (all_fit (map (arm_nest keeps) arms)) fit in
         let whole = λ (id : ℕ) (v : vars id ≡ true) (m : scope.variables ≤ id) (n : id < (after_all (map (scoped_of_arm raw) rest) next).variables). only id v m (subst (λ (j : ℕ). id < j) (sym end) n) in
-        let first = all_meet d s (sym (ap (λ z. z.fits) (nest-arm keeps ls zs)) ∙ f.0) (λ id h. kept id (left_or (here id) _ (back id is h)))
+        let first = all_meet d s (sym (ap (λ z. z.fits) (nest-arm keeps ls zs)) ∙ f.0) (λ id h. kept id (or_left (here id) _ (back id is h)))
         (λ id v m n. either_way (here id) (either (map (arm_refers keeps) arms) id) (whole id v m (lt_then n (arms_grow raw g))) (λ r. onward id is r)
         (λ r. not_between scope.variables next.variables id (arms_reach raw keeps (Gap scope.variables next.variables) g (gap_spans scope next s still (all_grow raw d)) id r).place m n)) in
-        let later = arms_meet g (all_spans raw Any d s) f.1 (λ id h. kept id (right_or (here id) _ h))
+        let later = arms_meet g (all_spans raw Any d s) f.1 (λ id h. kept id (or_right (here id) _ h))
         (λ id v m n. either_way (here id) (either (map (arm_refers keeps) arms) id) (whole id v (le_then (all_grow raw d) m) n) (λ r. too_low (all_reach raw keeps Any d s id (onward id is r)).below (le_same next.variables) m) (λ r. r)) in
         subst (λ (z : Scope). AreMet k (arms_needs ((left_arm k raw (arm labels body)).gives scope ∷ in_order (map (left_arm k raw) rest) z))) (sym (arm_after k raw labels body scope))
         (subst (λ (u : Scoped ArmLeft). AreMet k (arms_needs (u.gives scope ∷ in_order (map (left_arm k raw) rest) next))) (sym (left-arm k raw labels body))

@@ -1,9 +1,9 @@
 -- What options and lists of options are made of.
-use Rattle.std.proofs.Common.{◌≡◌, List, ◌∷◌, Bool, true, false, ◌&&◌, ◌||◌, Option, Some, None, refl, sym, ap, ◌∙◌}
+use Rattle.std.proofs.Common.{◌≡◌, List, ◌∷◌, Option, Some, None, refl}
 use Rattle.std.specs.Prelude.{option_map, option_and_then}
 use Rattle.c_language.specs.ConstantEvaluation.{both}
 use Rattle.c_language.specs.ProgramOf.{collected}
-use Rattle.c_scope_laws.proofs.Options.{none_there, some_same, false_true}
+use Rattle.c_language.proofs.Options.{none_there, some_same}
 
 pub map_there : {A B : Type 0} (f : A → B) (o : Option A) (y : B) → option_map f o ≡ Some y → (x : A) × ((o ≡ Some x) × (f x ≡ y))
 map_there f None y h = none_there h
@@ -41,23 +41,3 @@ more_there (Some x) os zs h = by_rest (collected os) refl h
     by_rest : (r : Option (List _)) → collected os ≡ r → option_map (λ ys. x ∷ ys) r ≡ Some zs → More (Some x) os zs
     by_rest None at h = none_there h
     by_rest (Some ys) at h = record { first = x; rest = ys; first_there = refl; rest_there = at; same = some_same h }
-
--- ---- tests
-
-pub both_true : (a b : Bool) → (a && b) ≡ true → (a ≡ true) × (b ≡ true)
-both_true true b h = (refl, h)
-both_true false b h = false_true h
-
-pub either_false : (a b : Bool) → (a || b) ≡ false → (a ≡ false) × (b ≡ false)
-either_false true b h = false_true (sym h)
-either_false false b h = (refl, h)
-
-pub left_or : (a b : Bool) → a ≡ true → (a || b) ≡ true
-left_or a b h = ap (λ (x : Bool). x || b) h
-
-pub right_or : (a b : Bool) → b ≡ true → (a || b) ≡ true
-right_or true b h = refl
-right_or false b h = h
-
-pub and_true : {a b : Bool} → a ≡ true → b ≡ true → (a && b) ≡ true
-and_true {a} {b} p q = ap (λ (x : Bool). x && b) p ∙ q

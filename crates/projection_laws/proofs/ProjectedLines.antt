@@ -1,8 +1,9 @@
 -- What stays of a program without lines is what stays of it, without lines.
 use Rattle.std.proofs.Common.{◌≡◌, ℕ, List, [], ◌∷◌, ◌++◌, map, Bool, true, false, Option, Some, None, refl, sym, ap, ap₂, subst, ◌∙◌}
 use Rattle.std.specs.Prelude.{option_map}
-use Rattle.c_tree.specs.Unlined.{unlined, unlined_of_arm}
-use Rattle.c_tree.proofs.UnlinedLemmas.{unlined-Declare, unlined-Assign, unlined-Bump, unlined-Invoke, unlined-Fetch, unlined-Write, unlined-Print, unlined-Heap, unlined-Release, unlined-If, unlined-While, unlined-Do, unlined-For, unlined-Switch, unlined-Block, unlined-Return, unlined_of_arm-roll}
+use Rattle.std.proofs.lemmas.List.{map-append}
+use Rattle.c_tree.specs.Unlined.{unlined}
+use Rattle.c_tree.proofs.UnlinedLemmas.{unlined-Declare, unlined-Assign, unlined-Bump, unlined-Invoke, unlined-Fetch, unlined-Write, unlined-Print, unlined-Heap, unlined-Release, unlined-If, unlined-While, unlined-Do, unlined-For, unlined-Switch, unlined-Block, unlined-Return, unlined_of_arm-roll, unlined_of_arm}
 use Rattle.c_tree.specs.declared.expr.Expr.{Expr}
 use Rattle.c_tree.specs.declared.program.Init.{Init}
 use Rattle.c_tree.specs.declared.program.Init.TheVariants as init
@@ -15,24 +16,13 @@ use Rattle.c_tree.specs.declared.statement.Arm.{Arm, roll-Arm, map-Arm, fold-rol
 use Rattle.projection.specs.Renumbering.{renamed, renamed_label, renamed_init}
 use Rattle.projection.specs.Kept.{Kept, rank}
 use Rattle.projection.specs.Projection.{if_so, flat, declaring_step, declaring_arm, is_declaring, first_of, part_of, bare, bare_target, projected_declaration, projected_call, alone, block_of, projected_step, projected_arm_step, projected, projected_arm, projected_all}
+use Rattle.c_scope_laws.proofs.ItemWalking.{nil_cons}
 use Rattle.projection_laws.proofs.Unlining.{zeroed, unlined_roll, unlined_roll_of_arm, fold_unlined}
 
 -- ---- lists that are the same but for lines
 
 abbrev pub Alike : List Statement → List Statement → Type 0
 Alike xs ys = map unlined xs ≡ map unlined ys
-
-map_append : {A B : Type 0} (f : A → B) (xs ys : List A) → map f (xs ++ ys) ≡ map f xs ++ map f ys
-map_append f [] ys = refl
-map_append f (x ∷ xs) ys = ap (λ (zs : List _). f x ∷ zs) (map_append f xs ys)
-
--- the first of a list, and the rest
-abbrev IsCons : {A : Type 0} → List A → Type 0
-IsCons [] = ⊥
-IsCons (x ∷ xs) = Unit {0}
-
-pub nil_cons : {A B : Type 0} {x : A} {xs : List A} → ◌≡◌ {A = List A} [] (x ∷ xs) → B
-nil_cons h = absurd (subst IsCons (sym h) tt)
 
 abbrev head_or : {A : Type 0} → A → List A → A
 head_or a [] = a
@@ -49,7 +39,7 @@ pub rest_same : {A : Type 0} {x y : A} {xs ys : List A} → x ∷ xs ≡ y ∷ y
 rest_same h = ap tail_of h
 
 appended : (xs ys xs' ys' : List Statement) → Alike xs xs' → Alike ys ys' → Alike (xs ++ ys) (xs' ++ ys')
-appended xs ys xs' ys' p q = map_append unlined xs ys ∙ ap₂ (λ (as_ bs : List Statement). as_ ++ bs) p q ∙ sym (map_append unlined xs' ys')
+appended xs ys xs' ys' p q = map-append unlined xs ys ∙ ap₂ (λ (as_ bs : List Statement). as_ ++ bs) p q ∙ sym (map-append unlined xs' ys')
 
 choice : (b : Bool) (xs ys xs' ys' : List Statement) → Alike xs xs' → Alike ys ys' → Alike (if_so b xs ys) (if_so b xs' ys')
 choice true xs ys xs' ys' p q = p

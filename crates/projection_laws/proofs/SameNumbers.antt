@@ -2,6 +2,7 @@
 use Rattle.std.proofs.Common.{◌≡◌, ℕ, suc, List, [], ◌∷◌, ◌++◌, map, Bool, true, Option, Some, None, refl, sym, ap, ap₂, subst, ◌∙◌}
 use Rattle.std.specs.Prelude.{option_map, slice_get, bytes_eq}
 use Rattle.std.specs.List.{AllByRecursion, list_all, find}
+use Rattle.std.proofs.lemmas.Bool.{and_parts}
 use Rattle.c_tree.specs.declared.program.Var.{Var}
 use Rattle.c_tree.specs.declared.program.Function.{Function}
 use Rattle.c_tree.specs.declared.program.Item.{Item}
@@ -14,13 +15,12 @@ use Rattle.c_tree.specs.declared.statement.Statement.TheOpen.{Statement-F, Arm-F
 use Rattle.c_tree.specs.declared.statement.Arm.{Arm, roll-Arm, map-Arm, fold-roll-Arm}
 use Rattle.c_language.specs.DeclaredTypes.{defined_functions, definition_of}
 use Rattle.c_language.specs.NameRules.{main_name}
+use Rattle.c_language.proofs.Tests.{false_true}
 use Rattle.projection.specs.Kept.{Kept, rank}
 use Rattle.projection.specs.Renumbering.{renamed_label}
 use Rattle.projection.specs.Projection.{if_so, flat, projected_step, projected_arm_step, projected, projected_arm, projected_all, projected_item, projected_items, projected_function, projected_functions, projected_var, projected_vars, projected_program}
 use Rattle.built_forms.specs.IntegerForms.{IsPlainItem, integer_label, all_true, statement_step, arm_step, is_integer_statement, IsIntegerLocal}
 use Rattle.c_scope_laws.specs.Following.{kept_head, kept_functions}
-use Rattle.c_scope_laws.proofs.Options.{false_true}
-use Rattle.projection_laws.proofs.Options.{both_true}
 use Rattle.projection_laws.proofs.StatementForms.{is_integer_arm}
 use Rattle.projection_laws.proofs.Going.{kept_of}
 
@@ -52,12 +52,12 @@ module _ (k : Kept) (g h : ℕ → ℕ) where
   all_same : (xs : List ((x : Statement) × Same x)) → all_true (map is_integer_statement (bodies xs)) ≡ true → map (projected k g) (bodies xs) ≡ map (projected k h) (bodies xs)
   all_same [] q = refl
   all_same (x ∷ xs) q =
-      let b = both_true (is_integer_statement x.0) (all_true (map is_integer_statement (bodies xs))) q in ap₂ (λ (a : List Statement) (as_ : List (List Statement)). a ∷ as_) (x.1 b.0) (all_same xs b.1)
+      let b = and_parts (is_integer_statement x.0) (all_true (map is_integer_statement (bodies xs))) q in ap₂ (λ (a : List Statement) (as_ : List (List Statement)). a ∷ as_) (x.1 b.0) (all_same xs b.1)
 
   arms_same : (xs : List ((x : Arm) × ArmSame x)) → all_true (map is_integer_arm (bodies_of_arms xs)) ≡ true → map (projected_arm k g) (bodies_of_arms xs) ≡ map (projected_arm k h) (bodies_of_arms xs)
   arms_same [] q = refl
   arms_same (x ∷ xs) q =
-      let b = both_true (is_integer_arm x.0) (all_true (map is_integer_arm (bodies_of_arms xs))) q in ap₂ (λ (a : Arm) (as_ : List Arm). a ∷ as_) (x.1 b.0) (arms_same xs b.1)
+      let b = and_parts (is_integer_arm x.0) (all_true (map is_integer_arm (bodies_of_arms xs))) q in ap₂ (λ (a : Arm) (as_ : List Arm). a ∷ as_) (x.1 b.0) (arms_same xs b.1)
 
   abbrev step_at : (ℕ → ℕ) → Statement-F Statement Arm → List Statement
   step_at f y = projected_step k f (map-Statement Statement Arm (List Statement) Arm (projected k f) (projected_arm k f) y)
@@ -79,22 +79,22 @@ module _ (k : Kept) (g h : ℕ → ℕ) where
   layer_same (Statement-F.Release id l e) q = refl
   layer_same (Statement-F.Return id l e) q = refl
   layer_same (Statement-F.If id l e a b) q =
-      let c = both_true _ _ (both_true _ _ q).1 in ap₂ (λ (x y : List (List Statement)). projected_step k h (Statement-F.If id l e x y)) (all_same a c.0) (all_same b c.1)
-  layer_same (Statement-F.While id l e b) q = ap (λ (x : List (List Statement)). projected_step k h (Statement-F.While id l e x)) (all_same b (both_true _ _ q).1)
-  layer_same (Statement-F.Do id l e b) q = ap (λ (x : List (List Statement)). projected_step k h (Statement-F.Do id l e x)) (all_same b (both_true _ _ q).1)
-  layer_same (Statement-F.For id l None e None b) q = ap (λ (x : List (List Statement)). projected_step k h (Statement-F.For id l None e None x)) (all_same b (both_true _ _ q).1)
+      let c = and_parts _ _ (and_parts _ _ q).1 in ap₂ (λ (x y : List (List Statement)). projected_step k h (Statement-F.If id l e x y)) (all_same a c.0) (all_same b c.1)
+  layer_same (Statement-F.While id l e b) q = ap (λ (x : List (List Statement)). projected_step k h (Statement-F.While id l e x)) (all_same b (and_parts _ _ q).1)
+  layer_same (Statement-F.Do id l e b) q = ap (λ (x : List (List Statement)). projected_step k h (Statement-F.Do id l e x)) (all_same b (and_parts _ _ q).1)
+  layer_same (Statement-F.For id l None e None b) q = ap (λ (x : List (List Statement)). projected_step k h (Statement-F.For id l None e None x)) (all_same b (and_parts _ _ q).1)
   layer_same (Statement-F.For id l None e (Some n) b) q =
-      let c = both_true (is_integer_statement n.0) (all_true (map is_integer_statement (bodies b))) (both_true _ _ q).1 in
+      let c = and_parts (is_integer_statement n.0) (all_true (map is_integer_statement (bodies b))) (and_parts _ _ q).1 in
       ap₂ (λ (x : List Statement) (y : List (List Statement)). projected_step k h (Statement-F.For id l None e (Some x) y)) (n.1 c.0) (all_same b c.1)
   layer_same (Statement-F.For id l (Some i) e None b) q =
-      let c = both_true (is_integer_statement i.0) _ q in
-      ap₂ (λ (x : List Statement) (y : List (List Statement)). projected_step k h (Statement-F.For id l (Some x) e None y)) (i.1 c.0) (all_same b (both_true _ _ c.1).1)
+      let c = and_parts (is_integer_statement i.0) _ q in
+      ap₂ (λ (x : List Statement) (y : List (List Statement)). projected_step k h (Statement-F.For id l (Some x) e None y)) (i.1 c.0) (all_same b (and_parts _ _ c.1).1)
   layer_same (Statement-F.For id l (Some i) e (Some n) b) q =
-      let c = both_true (is_integer_statement i.0) _ q in
-      let d = both_true (is_integer_statement n.0) (all_true (map is_integer_statement (bodies b))) (both_true _ _ c.1).1 in
+      let c = and_parts (is_integer_statement i.0) _ q in
+      let d = and_parts (is_integer_statement n.0) (all_true (map is_integer_statement (bodies b))) (and_parts _ _ c.1).1 in
       ap₂ (λ (x y : List Statement). projected_step k h (Statement-F.For id l (Some x) e (Some y) (map (projected k g) (bodies b)))) (i.1 c.0) (n.1 d.0)
       ∙ ap (λ (x : List (List Statement)). projected_step k h (Statement-F.For id l (Some (projected k h i.0)) e (Some (projected k h n.0)) x)) (all_same b d.1)
-  layer_same (Statement-F.Switch id l e arms) q = ap (λ (x : List Arm). projected_step k h (Statement-F.Switch id l e x)) (arms_same arms (both_true _ _ q).1)
+  layer_same (Statement-F.Switch id l e arms) q = ap (λ (x : List Arm). projected_step k h (Statement-F.Switch id l e x)) (arms_same arms (and_parts _ _ q).1)
   layer_same (Statement-F.Block l b) q = ap (λ (x : List (List Statement)). projected_step k h (Statement-F.Block l x)) (all_same b q)
 
   statement_same : (x : Statement) → Same x
@@ -104,12 +104,12 @@ module _ (k : Kept) (g h : ℕ → ℕ) where
       ∙ sym (fold-roll-Statement (List Statement) Arm (projected_step k h) (projected_arm_step k h) (shape y))))
       (λ x y is. subst (λ z. ArmSame (roll-Arm z)) is
       (λ q. fold-roll-Arm (List Statement) Arm (projected_step k g) (projected_arm_step k g) (arm_shape y)
-      ∙ ap (λ (x : List (List Statement)). roll-Arm (record { labels = map (renamed_label (rank k.variable)) y.labels; body = flat x })) (all_same y.body (both_true (list_all integer_label y.labels) _ (sym (fold-roll-Arm Bool Bool statement_step arm_step (arm_shape y)) ∙ q)).1)
+      ∙ ap (λ (x : List (List Statement)). roll-Arm (record { labels = map (renamed_label (rank k.variable)) y.labels; body = flat x })) (all_same y.body (and_parts (list_all integer_label y.labels) _ (sym (fold-roll-Arm Bool Bool statement_step arm_step (arm_shape y)) ∙ q)).1)
       ∙ sym (fold-roll-Arm (List Statement) Arm (projected_step k h) (projected_arm_step k h) (arm_shape y))))
 
   body_same : (xs : List Statement) → list_all is_integer_statement xs ≡ true → projected_all k g xs ≡ projected_all k h xs
   body_same [] q = refl
-  body_same (x ∷ xs) q = let b = both_true (is_integer_statement x) (list_all is_integer_statement xs) q in ap₂ (λ (a as_ : List Statement). a ++ as_) (statement_same x b.0) (body_same xs b.1)
+  body_same (x ∷ xs) q = let b = and_parts (is_integer_statement x) (list_all is_integer_statement xs) q in ap₂ (λ (a as_ : List Statement). a ++ as_) (statement_same x b.0) (body_same xs b.1)
 
 -- ---- programs
 

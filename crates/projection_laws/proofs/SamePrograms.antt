@@ -15,9 +15,10 @@ use Rattle.projection.specs.Kept.{Kept, rank}
 use Rattle.projection.specs.Names.{refers_step, refers_arm, refers, body_refers, stays}
 use Rattle.projection.specs.Projection.{if_so, projected_function, projected_functions, projected_var, projected_vars, projected_program, kept_with, projection}
 use Rattle.built_forms.specs.IntegerForms.{IsPlainItem, statement_step, arm_step, is_integer_statement, IsIntegerLocal, IsIntegerMain}
+use Rattle.c_scope_laws.proofs.ItemWalking.{nil_cons}
 use Rattle.projection_laws.specs.Nested.{Nest, nest_step, nest_arm, is_nested, IsNested}
 use Rattle.projection_laws.proofs.Unlining.{zeroed, fold_unlined}
-use Rattle.projection_laws.proofs.ProjectedLines.{all_projected_unlined, nil_cons, first_same, rest_same}
+use Rattle.projection_laws.proofs.ProjectedLines.{all_projected_unlined, first_same, rest_same}
 
 -- ---- steps that read no line
 

@@ -1,28 +1,24 @@
 -- Each statement is kept in which a kept one stands: by direct steps, and anyhow.
-use Rattle.std.proofs.Common.{◌≡◌, ℕ, ◌==◌, List, [], ◌∷◌, map, Bool, true, false, ◌&&◌, ◌||◌, Some, None, refl, sym, ap, subst, ◌∙◌, arith}
+use Rattle.std.proofs.Common.{◌≡◌, ℕ, ◌==◌, List, [], ◌∷◌, map, Bool, true, false, ◌&&◌, ◌||◌, Some, None, refl, sym, ap, subst, ◌∙◌}
 use Rattle.std.specs.List.{list_all, list_any}
-use Rattle.std.proofs.lemmas.Bool.{eqb-true}
-use Rattle.std.proofs.lemmas.Bool.Decides.{nat_tests}
+use Rattle.std.proofs.lemmas.Bool.{eqb-true, and_parts, or_left, or_right, and_from}
 use Rattle.c_tree.specs.declared.program.Function.{Function}
 use Rattle.c_tree.specs.declared.program.Program.{Program}
 use Rattle.c_tree.specs.declared.statement.Statement.{Statement, ind-Statement, roll-Statement, map-Statement, fold-roll-Statement}
 use Rattle.c_tree.specs.declared.statement.Statement.TheOpen.{Statement-F, Arm-F}
 use Rattle.c_tree.specs.declared.statement.Arm.{Arm, roll-Arm, map-Arm, fold-Arm, fold-roll-Arm}
-use Rattle.c_scope_laws.proofs.Options.{false_true}
+use Rattle.c_language.proofs.Tests.{false_true}
+use Rattle.c_scope_laws.proofs.NamedTrees.{itself_equal}
 use Rattle.projection_laws.specs.Nested.{Nest, any_kept, all_fit, governs, nest_step, nest_arm, nest, is_nested, IsNested, Stands, any_own, any_inside, stands_step, stands_arm, stands, stands_in}
-use Rattle.projection_laws.proofs.Options.{both_true, left_or, right_or, and_true}
 use Rattle.projection_laws.proofs.StatementForms.{arm_nest}
 use Rattle.projection_laws.proofs.Reaching.{either_way}
-
-itself : (n : ℕ) → (n == n) ≡ true
-itself n = grind (arith, nat_tests)
 
 governs_true : (b inside : Bool) → (inside ≡ true → b ≡ true) → governs b inside ≡ true
 governs_true true inside h = refl
 governs_true false true h = h refl
 governs_true false false h = refl
 
-governs_back : (b inside : Bool) → governs b inside ≡ true → inside ≡ true → b ≡ true
+pub governs_back : (b inside : Bool) → governs b inside ≡ true → inside ≡ true → b ≡ true
 governs_back true inside g h = refl
 governs_back false true g h = g
 governs_back false false g h = h
@@ -52,57 +48,57 @@ module _ (keeps : ℕ → Bool) where
   tie_own : (id : ℕ) → Tie (keeps id) true (λ n. id == n) (λ o i. false)
   tie_own id = record {
     fits = λ c. refl;
-    found = λ c h. record { number = id; is = itself id; kept = h };
+    found = λ c h. record { number = id; is = itself_equal id; kept = h };
     back = λ h o i p q. false_true p;
     keeps_it = λ n p q. ap keeps (eqb-true id n p) ∙ q;
   }
 
   tie_both : (a b e f : Bool) (own more : ℕ → Bool) (inside within : ℕ → ℕ → Bool) → Tie a e own inside → Tie b f more within → Tie (a || b) (e && f) (λ n. own n || more n) (λ o i. inside o i || within o i)
   tie_both a b e f own more inside within s t = record {
-    fits = λ c. and_true (s.fits (λ o i h. c o i (left_or (inside o i) (within o i) h))) (t.fits (λ o i h. c o i (right_or (inside o i) (within o i) h)));
+    fits = λ c. and_from _ _ (s.fits (λ o i h. c o i (or_left (inside o i) (within o i) h))) (t.fits (λ o i h. c o i (or_right (inside o i) (within o i) h)));
     found = λ c h. either_way a b h
-        (λ p. let w = s.found (λ o i h. c o i (left_or (inside o i) (within o i) h)) p in record { number = w.number; is = left_or (own w.number) (more w.number) w.is; kept = w.kept })
-        (λ p. let w = t.found (λ o i h. c o i (right_or (inside o i) (within o i) h)) p in record { number = w.number; is = right_or (own w.number) (more w.number) w.is; kept = w.kept });
-    back = λ h o i p q. either_way (inside o i) (within o i) p (λ r. s.back (both_true e f h).0 o i r q) (λ r. t.back (both_true e f h).1 o i r q);
-    keeps_it = λ n p q. either_way (own n) (more n) p (λ r. left_or a b (s.keeps_it n r q)) (λ r. right_or a b (t.keeps_it n r q));
+        (λ p. let w = s.found (λ o i h. c o i (or_left (inside o i) (within o i) h)) p in record { number = w.number; is = or_left (own w.number) (more w.number) w.is; kept = w.kept })
+        (λ p. let w = t.found (λ o i h. c o i (or_right (inside o i) (within o i) h)) p in record { number = w.number; is = or_right (own w.number) (more w.number) w.is; kept = w.kept });
+    back = λ h o i p q. either_way (inside o i) (within o i) p (λ r. s.back (and_parts e f h).0 o i r q) (λ r. t.back (and_parts e f h).1 o i r q);
+    keeps_it = λ n p q. either_way (own n) (more n) p (λ r. or_left a b (s.keeps_it n r q)) (λ r. or_right a b (t.keeps_it n r q));
   }
 
   -- what stands in a statement
   tie_under : (id : ℕ) (a e : Bool) (own : ℕ → Bool) (inside : ℕ → ℕ → Bool) → Tie a e own inside → Tie (keeps id || a) (governs (keeps id) a && e) (λ n. id == n) (λ o i. (id == o && own i) || inside o i)
   tie_under id a e own inside t = record {
-    fits = λ c. and_true (governs_true (keeps id) a (λ h. above c h)) (t.fits (λ o i h. c o i (right_or (id == o && own i) (inside o i) h)));
-    found = λ c h. record { number = id; is = itself id; kept = either_way (keeps id) a h (λ p. p) (λ p. above c p) };
+    fits = λ c. and_from _ _ (governs_true (keeps id) a (λ h. above c h)) (t.fits (λ o i h. c o i (or_right (id == o && own i) (inside o i) h)));
+    found = λ c h. record { number = id; is = itself_equal id; kept = either_way (keeps id) a h (λ p. p) (λ p. above c p) };
     back = λ h o i p q. either_way (id == o && own i) (inside o i) p
-        (λ r. let b = both_true (id == o) (own i) r in sym (ap keeps (eqb-true id o b.0)) ∙ governs_back (keeps id) a (both_true (governs (keeps id) a) e h).0 (t.keeps_it i b.1 q))
-        (λ r. t.back (both_true (governs (keeps id) a) e h).1 o i r q);
-    keeps_it = λ n p q. left_or (keeps id) a (ap keeps (eqb-true id n p) ∙ q);
+        (λ r. let b = and_parts (id == o) (own i) r in sym (ap keeps (eqb-true id o b.0)) ∙ governs_back (keeps id) a (and_parts (governs (keeps id) a) e h).0 (t.keeps_it i b.1 q))
+        (λ r. t.back (and_parts (governs (keeps id) a) e h).1 o i r q);
+    keeps_it = λ n p q. or_left (keeps id) a (ap keeps (eqb-true id n p) ∙ q);
   }
     where
       above : Closed (λ o i. (id == o && own i) || inside o i) → a ≡ true → keeps id ≡ true
       above c h =
-          let w = t.found (λ o i h. c o i (right_or (id == o && own i) (inside o i) h)) h in c id w.number (left_or (id == id && own w.number) (inside id w.number) (and_true (itself id) w.is)) w.kept
+          let w = t.found (λ o i h. c o i (or_right (id == o && own i) (inside o i) h)) h in c id w.number (or_left (id == id && own w.number) (inside id w.number) (and_from _ _ (itself_equal id) w.is)) w.kept
 
   -- a for, what it begins with, and what stands in it
   tie_for : (id : ℕ) (a b e f : Bool) (own more : ℕ → Bool) (inside within : ℕ → ℕ → Bool) → Tie a e own inside → Tie b f more within
       → Tie (keeps id || (a || b)) (governs (keeps id) b && (e && f)) (λ n. id == n || own n) (λ o i. (id == o && more i) || (inside o i || within o i))
   tie_for id a b e f own more inside within s t = record {
-    fits = λ c. and_true (governs_true (keeps id) b (λ h. above c h)) (and_true (s.fits (λ o i h. c o i (right_or (id == o && more i) _ (left_or (inside o i) (within o i) h)))) (t.fits (λ o i h. c o i (right_or (id == o && more i) _ (right_or (inside o i) (within o i) h)))));
+    fits = λ c. and_from _ _ (governs_true (keeps id) b (λ h. above c h)) (and_from _ _ (s.fits (λ o i h. c o i (or_right (id == o && more i) _ (or_left (inside o i) (within o i) h)))) (t.fits (λ o i h. c o i (or_right (id == o && more i) _ (or_right (inside o i) (within o i) h)))));
     found = λ c h. either_way (keeps id) (a || b) h (λ p. itself_found p)
         (λ r. either_way a b r
-        (λ p. let w = s.found (λ o i h. c o i (right_or (id == o && more i) _ (left_or (inside o i) (within o i) h))) p in record { number = w.number; is = right_or (id == w.number) (own w.number) w.is; kept = w.kept })
+        (λ p. let w = s.found (λ o i h. c o i (or_right (id == o && more i) _ (or_left (inside o i) (within o i) h))) p in record { number = w.number; is = or_right (id == w.number) (own w.number) w.is; kept = w.kept })
         (λ p. itself_found (above c p)));
     back = λ h o i p q. either_way (id == o && more i) (inside o i || within o i) p
-        (λ r. let b2 = both_true (id == o) (more i) r in sym (ap keeps (eqb-true id o b2.0)) ∙ governs_back (keeps id) b (both_true (governs (keeps id) b) (e && f) h).0 (t.keeps_it i b2.1 q))
-        (λ r. let g = both_true e f (both_true (governs (keeps id) b) (e && f) h).1 in either_way (inside o i) (within o i) r (λ u. s.back g.0 o i u q) (λ u. t.back g.1 o i u q));
-    keeps_it = λ n p q. either_way (id == n) (own n) p (λ r. left_or (keeps id) (a || b) (ap keeps (eqb-true id n r) ∙ q)) (λ r. right_or (keeps id) (a || b) (left_or a b (s.keeps_it n r q)));
+        (λ r. let b2 = and_parts (id == o) (more i) r in sym (ap keeps (eqb-true id o b2.0)) ∙ governs_back (keeps id) b (and_parts (governs (keeps id) b) (e && f) h).0 (t.keeps_it i b2.1 q))
+        (λ r. let g = and_parts e f (and_parts (governs (keeps id) b) (e && f) h).1 in either_way (inside o i) (within o i) r (λ u. s.back g.0 o i u q) (λ u. t.back g.1 o i u q));
+    keeps_it = λ n p q. either_way (id == n) (own n) p (λ r. or_left (keeps id) (a || b) (ap keeps (eqb-true id n r) ∙ q)) (λ r. or_right (keeps id) (a || b) (or_left a b (s.keeps_it n r q)));
   }
     where
       itself_found : keeps id ≡ true → Found (λ n. id == n || own n)
-      itself_found h = record { number = id; is = left_or (id == id) (own id) (itself id); kept = h }
+      itself_found h = record { number = id; is = or_left (id == id) (own id) (itself_equal id); kept = h }
 
       above : Closed (λ o i. (id == o && more i) || (inside o i || within o i)) → b ≡ true → keeps id ≡ true
       above c h =
-          let w = t.found (λ o i h. c o i (right_or (id == o && more i) _ (right_or (inside o i) (within o i) h))) h in c id w.number (left_or (id == id && more w.number) _ (and_true (itself id) w.is)) w.kept
+          let w = t.found (λ o i h. c o i (or_right (id == o && more i) _ (or_right (inside o i) (within o i) h))) h in c id w.number (or_left (id == id && more w.number) _ (and_from _ _ (itself_equal id) w.is)) w.kept
 
   -- ---- by layers
 
@@ -202,12 +198,12 @@ module _ (keeps : ℕ → Bool) where
   functions_nested : (fs : List Function) → Closed (all_stand fs) → list_all (λ (f : Function). list_all (is_nested keeps) f.body) fs ≡ true
   functions_nested [] c = refl
   functions_nested (f ∷ fs) c =
-      and_true ((body_tied f.body).fits (λ o i h. c o i (left_or (any_inside (map stands f.body) o i) (all_stand fs o i) h))) (functions_nested fs (λ o i h. c o i (right_or (any_inside (map stands f.body) o i) (all_stand fs o i) h)))
+      and_from _ _ ((body_tied f.body).fits (λ o i h. c o i (or_left (any_inside (map stands f.body) o i) (all_stand fs o i) h))) (functions_nested fs (λ o i h. c o i (or_right (any_inside (map stands f.body) o i) (all_stand fs o i) h)))
 
   functions_stand : (fs : List Function) → list_all (λ (f : Function). list_all (is_nested keeps) f.body) fs ≡ true → Closed (all_stand fs)
   functions_stand [] h o i p q = false_true p
   functions_stand (f ∷ fs) h o i p q =
-      let b = both_true (list_all (is_nested keeps) f.body) (list_all (λ (g : Function). list_all (is_nested keeps) g.body) fs) h in
+      let b = and_parts (list_all (is_nested keeps) f.body) (list_all (λ (g : Function). list_all (is_nested keeps) g.body) fs) h in
       either_way (any_inside (map stands f.body) o i) (all_stand fs o i) p (λ r. (body_tied f.body).back b.0 o i r q) (λ r. functions_stand fs b.1 o i r q)
 
 pub standing_nested : (p : Program) (keeps : ℕ → Bool) → ((outer inner : ℕ) → stands_in p outer inner ≡ true → keeps inner ≡ true → keeps outer ≡ true) → IsNested keeps p

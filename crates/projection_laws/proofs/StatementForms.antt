@@ -23,23 +23,11 @@ is_integer_arm = fold-Arm Bool Bool statement_step arm_step
 pub integer-Declare : (id : Option ℕ) (l : ℕ) (x : ℕ) (i : Init) → is_integer_statement (t.Declare id l x i) ≡ statement_step (Statement-F.Declare id l x i)
 integer-Declare id l x i = ap is_integer_statement (sym (t.rolls-Declare id l x i)) ∙ fold-roll-Statement Bool Bool statement_step arm_step (Statement-F.Declare id l x i)
 
-pub integer-Assign : (id : ℕ) (l : ℕ) (a : Expr) (op : Option BinaryOp) (b : Expr) → is_integer_statement (t.Assign id l a op b) ≡ statement_step (Statement-F.Assign id l a op b)
-integer-Assign id l a op b = ap is_integer_statement (sym (t.rolls-Assign id l a op b)) ∙ fold-roll-Statement Bool Bool statement_step arm_step (Statement-F.Assign id l a op b)
-
-pub integer-Bump : (id : ℕ) (l : ℕ) (a : Expr) (up : Bool) (before : Bool) → is_integer_statement (t.Bump id l a up before) ≡ statement_step (Statement-F.Bump id l a up before)
-integer-Bump id l a up before = ap is_integer_statement (sym (t.rolls-Bump id l a up before)) ∙ fold-roll-Statement Bool Bool statement_step arm_step (Statement-F.Bump id l a up before)
-
 pub integer-Invoke : (id : ℕ) (l : ℕ) (to : Target) (f : ℕ) (args : List Expr) → is_integer_statement (t.Invoke id l to f args) ≡ statement_step (Statement-F.Invoke id l to f args)
 integer-Invoke id l to f args = ap is_integer_statement (sym (t.rolls-Invoke id l to f args)) ∙ fold-roll-Statement Bool Bool statement_step arm_step (Statement-F.Invoke id l to f args)
 
 pub integer-Fetch : (id : ℕ) (l : ℕ) (to : Target) → is_integer_statement (t.Fetch id l to) ≡ statement_step (Statement-F.Fetch id l to)
 integer-Fetch id l to = ap is_integer_statement (sym (t.rolls-Fetch id l to)) ∙ fold-roll-Statement Bool Bool statement_step arm_step (Statement-F.Fetch id l to)
-
-pub integer-Write : (id : ℕ) (l : ℕ) (a : Expr) → is_integer_statement (t.Write id l a) ≡ statement_step (Statement-F.Write id l a)
-integer-Write id l a = ap is_integer_statement (sym (t.rolls-Write id l a)) ∙ fold-roll-Statement Bool Bool statement_step arm_step (Statement-F.Write id l a)
-
-pub integer-Print : (id : ℕ) (l : ℕ) (format : Bytes) (args : List Expr) → is_integer_statement (t.Print id l format args) ≡ statement_step (Statement-F.Print id l format args)
-integer-Print id l format args = ap is_integer_statement (sym (t.rolls-Print id l format args)) ∙ fold-roll-Statement Bool Bool statement_step arm_step (Statement-F.Print id l format args)
 
 pub integer-Heap : (id : ℕ) (l : ℕ) (to : Target) (cast : Option CType) (n : Amount) → is_integer_statement (t.Heap id l to cast n) ≡ statement_step (Statement-F.Heap id l to cast n)
 integer-Heap id l to cast n = ap is_integer_statement (sym (t.rolls-Heap id l to cast n)) ∙ fold-roll-Statement Bool Bool statement_step arm_step (Statement-F.Heap id l to cast n)
@@ -67,9 +55,6 @@ integer-Switch id l a arms = ap is_integer_statement (sym (t.rolls-Switch id l a
 
 pub integer-Block : (l : ℕ) (b : List Statement) → is_integer_statement (t.Block l b) ≡ statement_step (Statement-F.Block l (map is_integer_statement b))
 integer-Block l b = ap is_integer_statement (sym (t.rolls-Block l b)) ∙ fold-roll-Statement Bool Bool statement_step arm_step (Statement-F.Block l b)
-
-pub integer-Return : (id : ℕ) (l : ℕ) (value : Option Expr) → is_integer_statement (t.Return id l value) ≡ statement_step (Statement-F.Return id l value)
-integer-Return id l value = ap is_integer_statement (sym (t.rolls-Return id l value)) ∙ fold-roll-Statement Bool Bool statement_step arm_step (Statement-F.Return id l value)
 
 pub integer-arm : (labels : List Label) (b : List Statement) → is_integer_arm (roll-Arm (record { labels = labels; body = b })) ≡ arm_step (record { labels = labels; body = map is_integer_statement b })
 integer-arm labels b = fold-roll-Arm Bool Bool statement_step arm_step (record { labels = labels; body = b })

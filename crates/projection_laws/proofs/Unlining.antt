@@ -1,10 +1,11 @@
 -- Folds of statements whose steps read no line are the same where lines are taken out.
 use Rattle.std.proofs.Common.{◌≡◌, List, [], ◌∷◌, map, Some, None, refl, sym, ap, ap₂, subst, ◌∙◌}
-use Rattle.c_tree.specs.Unlined.{unlined_step, unlined_arm, unlined, unlined_of_arm}
+use Rattle.c_tree.specs.Unlined.{unlined_step, unlined_arm, unlined}
 use Rattle.c_tree.specs.declared.statement.Statement.{Statement, ind-Statement, roll-Statement, map-Statement, fold-Statement, fold-roll-Statement}
 use Rattle.c_tree.specs.declared.statement.Statement.TheOpen.{Statement-F, Arm-F}
 use Rattle.c_tree.specs.declared.statement.Statement.TheVariants as s
 use Rattle.c_tree.specs.declared.statement.Arm.{Arm, roll-Arm, map-Arm, fold-Arm, fold-roll-Arm}
+use Rattle.c_tree.proofs.UnlinedLemmas.{unlined_of_arm}
 
 -- a layer with line 0
 abbrev pub zeroed : {A Q : Type 0} → Statement-F A Q → Statement-F A Q

@@ -2,6 +2,7 @@
 use Rattle.std.proofs.Common.{◌≡◌, ℕ, Bool, true, false, ◌||◌, refl, sym, ap, subst, ◌∙◌}
 use Rattle.std.specs.List.{AllByRecursion, list_all, list_any}
 use Rattle.std.proofs.lemmas.List.Elements.{recursion_from_All}
+use Rattle.std.proofs.lemmas.Bool.{and_parts, or_left}
 use Rattle.c_tree.specs.declared.program.Function.{Function}
 use Rattle.c_tree.specs.declared.program.Program.{Program}
 use Rattle.c_tree.specs.declared.raw.program.RawProgram.{RawProgram}
@@ -14,7 +15,6 @@ use Rattle.c_scope_laws.specs.Following.{kept_functions}
 use Rattle.c_print_laws.proofs.ForParts.{program_tidy}
 use Rattle.c_thin_trees.proofs.WellFormed.{thinned_well_formed}
 use Rattle.projection_laws.specs.Nested.{is_nested, IsNested}
-use Rattle.projection_laws.proofs.Options.{both_true, left_or}
 use Rattle.projection_laws.proofs.Going.{kept_of}
 use Rattle.projection_laws.proofs.ClosedMains.{IsFine, IsMetMain, main_closed, main_met}
 use Rattle.projection_laws.proofs.SameNumbers.{program_same, first_kept}
@@ -36,8 +36,8 @@ module _ (raw : RawProgram) (q : Program) (keeps : ℕ → Bool) (m : IsIntegerM
   fine = record {
     params = m.no_parameters;
     integers = m.statements_are;
-    nested = (both_true (list_all (is_nested keeps) m.main.body) true (sym (ap (list_all (λ (f : Function). list_all (is_nested keeps) f.body)) m.functions_are) ∙ n)).0;
-    kept = λ id h. stays_is id ∙ left_or (body_refers keeps m.main.body id) false h;
+    nested = (and_parts (list_all (is_nested keeps) m.main.body) true (sym (ap (list_all (λ (f : Function). list_all (is_nested keeps) f.body)) m.functions_are) ∙ n)).0;
+    kept = λ id h. stays_is id ∙ or_left (body_refers keeps m.main.body id) false h;
     only = λ id h. or_false (body_refers keeps m.main.body id) (sym (stays_is id) ∙ h);
   }
 

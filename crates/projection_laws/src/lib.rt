@@ -23,7 +23,8 @@ pub fn standing_is_nested()
     ensures { StandingIsNested }
 {}
 
-/// A law: and the other way round.
+/// A law: where each if, loop and switch is kept in which something kept stands, each is kept in which a
+/// kept statement stands with none between.
 pub fn nested_is_standing()
     ensures { NestedIsStanding }
 {}

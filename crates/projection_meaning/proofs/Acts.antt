@@ -6,6 +6,7 @@ use Rattle.std.specs.Prelude.{option_map, if◌then◌else◌}
 use Rattle.c_arith.specs.declared.int_type.IntType.TheVariants.{Int, UChar}
 use Rattle.c_arith.specs.declared.operators.BinaryOp.{BinaryOp}
 use Rattle.c_arith.specs.IntType.{convert}
+use Rattle.c_tree.specs.declared.expr.MemberId.{MemberId}
 use Rattle.c_tree.specs.declared.expr.Expr.{Expr}
 use Rattle.c_tree.specs.declared.program.Init.{Init}
 use Rattle.c_tree.specs.declared.program.Init.TheVariants as init
@@ -25,16 +26,15 @@ use Rattle.c_meaning.proofs.Frames.{variable_value, IsFramed, after_write, writt
 use Rattle.dep_model.specs.declared.location.Location.{Location}
 use Rattle.dep_model.specs.declared.location.Root.{Root}
 use Rattle.dep_model.specs.declared.location.Root.TheVariants.{Input, Variable, Site, Result}
-use Rattle.dep_model.specs.declared.location.Part.{Part}
 use Rattle.dep_model.proofs.PlainEffects as effect
-use Rattle.dep_model.proofs.PlainEffects.{variable, is_root_of, is_whole, is_variable, is_input_root, is_input, is_result_root, is_result, reads, any_reads, init_reads, compound_reads, amount_reads, value_reads, target_places, uses, defines, kills}
+use Rattle.dep_model.proofs.PlainEffects.{variable, is_root_of, is_variable, is_input_root, is_input, is_result_root, is_result, reads, any_reads, init_reads, compound_reads, amount_reads, value_reads, target_places, uses, defines, kills}
 use Rattle.projection_meaning.proofs.Targets.{place, target_place, begun_target, act_target}
 use Rattle.projection.specs.Names.{names, any_names, init_names, target_names, size_names, amount_names, value_names}
 use Rattle.projection_meaning.proofs.CodeNames.{act_names}
 use Rattle.projection.specs.Renumbering.{renamed, renamed_init}
 use Rattle.std.proofs.lemmas.Bool.{or_left, or_right, or_cases}
-use Rattle.projection_meaning.proofs.Bools.{two}
-use Rattle.projection_meaning.proofs.Exprs.{one_variable, is_its_variable, eval_same, place_of, designates, reads_named, some_inj, left_of, place_renamed}
+use Rattle.own_words.proofs.Lists.{two}
+use Rattle.projection_meaning.proofs.Exprs.{one_variable, is_its_variable, eval_same, place_of, designates, reads_named, some_inj, left_of, place_renamed, whole_root}
 use Rattle.projection_meaning.proofs.Projecting.{renamed_act}
 
 -- ---- what an act uses, it names; what it kills, it may define
@@ -65,11 +65,6 @@ amount_reads_named (amount.Count e) l x h k = reads_named e l x h k
 value_reads_named : (o : Option Expr) (l : Location) (x : ℕ) → value_reads o l ≡ true → is_variable x l ≡ true → value_names o x ≡ true
 value_reads_named None l x h k = cc
 value_reads_named (Some e) l x h k = reads_named e l x h k
-
--- no variable is the input or a result
-whole_root : (ps : List Part) (b : Bool) → is_whole ps b ≡ true → b ≡ true
-whole_root [] b h = h
-whole_root (p ∷ ps) b h = cc
 
 not_input_root : (r : Root) (x : ℕ) → is_input_root r ≡ true → is_root_of x r ≡ true → ⊥
 not_input_root Input x h k = cc
@@ -283,7 +278,7 @@ module _ (f : ℕ → ℕ) (stays : ℕ → Bool) where
 
   begun_stores : (types : Types) (x : ℕ) (i : Init) (m : State) (v : Made) → begun_with types x i m ≡ Some v → Stores (begun_target x i) m v
   begun_stores types x init.None m v e = cc
-  begun_stores types x (init.One a) m v e = stored_one (types.variable x) (Some x) (eval types a m) m v e
+  begun_stores types x (init.One a) m v e = stored_one (types.typing.variable x) (Some x) (eval types a m) m v e
   begun_stores types x (init.Items as_) m v e = cc
 
   set_stores : (types : Types) (left : Expr) (w : Option Value) (m : State) (v : Made) → set_by types left w m ≡ Some v → Stores (place left) m v
@@ -381,7 +376,7 @@ module _ (f : ℕ → ℕ) (stays : ℕ → Bool) where
   quiet_kept m n here there v same e none_stored =
       record { there = v; is = sym same ∙ e; values = refl; output = refl; both = none refl none_stored none_stored }
 
-  module _ (here there : Types) (m n : State) (agree : (x : ℕ) → stays x ≡ true → here.variable x ≡ there.variable (f x)) (results : here.result ≡ there.result) where
+  module _ (here there : Types) (m n : State) (agree : (x : ℕ) → stays x ≡ true → here.typing.variable x ≡ there.typing.variable (f x)) (members : (k : MemberId) → here.typing.member k ≡ there.typing.member k) (results : here.result ≡ there.result) where
     -- what is read holds the same
     abbrev ReadsSame : (Location → Bool) → Type 0
     ReadsSame r = (x : ℕ) → r (variable x) ≡ true → variable_value x m ≡ variable_value (f x) n
@@ -390,10 +385,10 @@ module _ (f : ℕ → ℕ) (stays : ℕ → Bool) where
     AllStay named = (x : ℕ) → named x ≡ true → stays x ≡ true
 
     same_type : (e : Expr) → AllStay (names e) → type_of here e ≡ type_of there (renamed f e)
-    same_type e named = (eval_same f here there e (λ x k. agree x (named x k))).0
+    same_type e named = (eval_same f here there members e (λ x k. agree x (named x k))).0
 
     same_value : (e : Expr) → AllStay (names e) → ReadsSame (reads e) → eval here e m ≡ eval there (renamed f e) n
-    same_value e named read = (eval_same f here there e (λ x k. agree x (named x k))).1 m n read
+    same_value e named read = (eval_same f here there members e (λ x k. agree x (named x k))).1 m n read
 
     all_same : (es : List Expr) → AllStay (any_names es) → ReadsSame (any_reads es) → eval_all here es m ≡ eval_all there (map (renamed f) es) n
     all_same [] named read = refl
@@ -429,7 +424,7 @@ module _ (f : ℕ → ℕ) (stays : ℕ → Bool) where
     begun_kept x init.None v named read fits e = cc
     begun_kept x (init.One a) v named read fits e =
         let sx = named x (or_left (x == x) (names a x) (eq-eqb x x refl)) in
-        assigned_kept (here.variable x) (there.variable (f x)) (Some x) (eval here a m) (eval there (renamed f a) n) m n v (agree x sx) (same_value a (λ y k. named y (or_right (x == y) (names a y) k)) read) (λ y p. subst (λ z. stays z ≡ true) (some_inj x y p) sx) fits e
+        assigned_kept (here.typing.variable x) (there.typing.variable (f x)) (Some x) (eval here a m) (eval there (renamed f a) n) m n v (agree x sx) (same_value a (λ y k. named y (or_right (x == y) (names a y) k)) read) (λ y p. subst (λ z. stays z ≡ true) (some_inj x y p) sx) fits e
     begun_kept x (init.Items as_) v named read fits e = cc
 
     -- stores of nothing
@@ -467,8 +462,8 @@ module _ (f : ℕ → ℕ) (stays : ℕ → Bool) where
     pub fits : Fits (after v m) (after made_there n)
     pub same : (l : Location) → (kills a l ≡ true) ⊎ Same l m n → Same l (after v m) (after made_there n)
 
-  pub act_kept : Apart → (here there : Types) → ((x : ℕ) → stays x ≡ true → here.variable x ≡ there.variable (f x)) → here.result ≡ there.result → (a : Act) (m n : State) (v : Made) → ((x : ℕ) → act_names a x ≡ true → stays x ≡ true) → Fits m n → ((l : Location) → uses a l ≡ true → Same l m n) → made here a m ≡ Some v → DoneToo there a m n v
-  act_kept apart here there agree results a m n v named fits same e =
-      let kept = made_kept here there m n agree results a v named (λ x r. same (variable x) r x (is_its_variable x) (named x (uses_named a (variable x) x r (is_its_variable x)))) fits e in
+  pub act_kept : Apart → (here there : Types) → ((x : ℕ) → stays x ≡ true → here.typing.variable x ≡ there.typing.variable (f x)) → ((k : MemberId) → here.typing.member k ≡ there.typing.member k) → here.result ≡ there.result → (a : Act) (m n : State) (v : Made) → ((x : ℕ) → act_names a x ≡ true → stays x ≡ true) → Fits m n → ((l : Location) → uses a l ≡ true → Same l m n) → made here a m ≡ Some v → DoneToo there a m n v
+  act_kept apart here there agree members results a m n v named fits same e =
+      let kept = made_kept here there m n agree members results a v named (λ x r. same (variable x) r x (is_its_variable x) (named x (uses_named a (variable x) x r (is_its_variable x)))) fits e in
       let goes = after_both apart a m n v kept.there named fits kept.both in
       record { made_there = kept.there; is = kept.is; values = kept.values; output = kept.output; fits = goes.0; same = goes.1 }

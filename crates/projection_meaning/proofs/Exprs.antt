@@ -5,20 +5,19 @@ use Rattle.std.proofs.lemmas.Bool.{eqb-true}
 use Rattle.std.specs.Option.{option_map}
 use Rattle.c_arith.specs.declared.operators.BinaryOp.{BinaryOp}
 use Rattle.c_arith.specs.IntType.{promote}
-use Rattle.c_arith.specs.Operators.{unary_type, binary_type}
+use Rattle.c_arith.specs.Operators.{unary_type}
 use Rattle.c_language.specs.declared.expr_type.ExprType.{ExprType}
-use Rattle.c_language.specs.DeclaredTypes.{integer}
-use Rattle.c_language.specs.ConstantEvaluation.{operand_type}
-use Rattle.c_tree.specs.declared.expr.Expr.{Expr, fold-Expr, fold-roll-Expr, roll-Expr, map-Expr}
+use Rattle.c_language.specs.DeclaredTypes.{integer, pointer_to}
+use Rattle.c_language.specs.TreeTypes.{int_type, pointee, binary_tree_type, chosen_type}
+use Rattle.c_tree.specs.declared.expr.MemberId.{MemberId}
+use Rattle.c_tree.specs.declared.expr.Expr.{Expr, fold-roll-Expr, roll-Expr, map-Expr}
 use Rattle.c_tree.specs.declared.expr.Expr.TheOpen.{Expr-F}
-use Rattle.c_tree.specs.declared.expr.Expr.TheVariants as e
 use Rattle.c_meaning.specs.declared.value.Value.{Value}
 use Rattle.c_meaning.specs.declared.value.Place.{Place}
 use Rattle.c_meaning.specs.Values as meaning
-use Rattle.c_meaning.specs.Values.{Types, State, Meant, variable_place, int_type, as_type, unary_value, binary_value, and_both, or_both, chosen_type, chosen_value, meant_step, meant}
+use Rattle.c_meaning.specs.Values.{Types, State, Meant, variable_place, as_type, unary_value, binary_value, and_both, or_both, chosen_value, meant_step, meant}
 use Rattle.c_meaning.proofs.Frames.{variable_value}
 use Rattle.projection_meaning.proofs.Targets.{place_step, place}
-use Rattle.projection_meaning.proofs.Bools.{two}
 use Rattle.dep_model.specs.declared.location.Location.{Location}
 use Rattle.dep_model.specs.declared.location.Root.{Root}
 use Rattle.dep_model.specs.declared.location.Root.TheVariants.{Input, Variable, Site, Result}
@@ -26,15 +25,17 @@ use Rattle.dep_model.specs.declared.location.Part.{Part}
 use Rattle.dep_model.proofs.PlainEffects as effect
 use Rattle.dep_model.proofs.PlainEffects.{variable, is_root_of, is_whole, is_variable, reads_step, reads, places_step, places}
 use Rattle.projection.specs.Names.{names_step, names}
-use Rattle.projection.specs.Renumbering.{renamed_step, renamed}
+use Rattle.projection.specs.Renumbering.{renamed}
 use Rattle.std.proofs.lemmas.Bool.{or_left, or_right, or_cases}
-use Rattle.projection_meaning.proofs.Trees.{ExprParts, expr_layer, of_every_expr}
+use Rattle.c_tree.proofs.Trees.{ExprParts, expr_layer, of_every_expr}
+use Rattle.own_words.proofs.Lists.{two}
+use Rattle.own_words.proofs.Exprs.{fold_renamed, renamed_layer}
 
 -- ---- locations of variables
 
-whole : (hs : List Part) (b : Bool) → is_whole hs b ≡ true → b ≡ true
-whole [] b h = h
-whole (p ∷ hs) b h = cc
+pub whole_root : (hs : List Part) (b : Bool) → is_whole hs b ≡ true → b ≡ true
+whole_root [] b h = h
+whole_root (p ∷ hs) b h = cc
 
 same_root : (x y : ℕ) (r : Root) → is_root_of x r ≡ true → is_root_of y r ≡ true → x ≡ y
 same_root x y Input h k = cc
@@ -45,52 +46,17 @@ same_root x y (Result f) h k = cc
 -- a location is that of one variable
 pub one_variable : (x y : ℕ) (l : Location) → is_variable x l ≡ true → is_variable y l ≡ true → x ≡ y
 one_variable x y l h k =
-    same_root x y l.root (whole l.path (is_root_of x l.root) h) (whole l.path (is_root_of y l.root) k)
+    same_root x y l.root (whole_root l.path (is_root_of x l.root) h) (whole_root l.path (is_root_of y l.root) k)
 
 pub is_its_variable : (x : ℕ) → is_variable x (variable x) ≡ true
 is_its_variable x = eq-eqb x x refl
-
--- ---- other numbers for the variables
-
--- a layer with another number for its variable
-abbrev pub renamed_layer : (ℕ → ℕ) → Expr-F Expr → Expr-F Expr
-renamed_layer f (Expr-F.Variable x) = Expr-F.Variable (f x)
-renamed_layer f z = z
-
-renamed_rolls : (f : ℕ → ℕ) (z : Expr-F Expr) → renamed_step f z ≡ roll-Expr (renamed_layer f z)
-renamed_rolls f (Expr-F.Constant text t v) = sym (e.rolls-Constant text t v)
-renamed_rolls f Expr-F.Null = sym e.rolls-Null
-renamed_rolls f Expr-F.Eof = sym e.rolls-Eof
-renamed_rolls f (Expr-F.Variable x) = sym (e.rolls-Variable (f x))
-renamed_rolls f (Expr-F.Unary op a) = sym (e.rolls-Unary op a)
-renamed_rolls f (Expr-F.Deref a) = sym (e.rolls-Deref a)
-renamed_rolls f (Expr-F.AddressOf a) = sym (e.rolls-AddressOf a)
-renamed_rolls f (Expr-F.Binary op a b) = sym (e.rolls-Binary op a b)
-renamed_rolls f (Expr-F.AndAlso a b) = sym (e.rolls-AndAlso a b)
-renamed_rolls f (Expr-F.OrElse a b) = sym (e.rolls-OrElse a b)
-renamed_rolls f (Expr-F.Choose c a b) = sym (e.rolls-Choose c a b)
-renamed_rolls f (Expr-F.Cast t a) = sym (e.rolls-Cast t a)
-renamed_rolls f (Expr-F.Index a i) = sym (e.rolls-Index a i)
-renamed_rolls f (Expr-F.Member a m) = sym (e.rolls-Member a m)
-renamed_rolls f (Expr-F.Arrow a m) = sym (e.rolls-Arrow a m)
-renamed_rolls f (Expr-F.Paren a) = sym (e.rolls-Paren a)
-
--- a renamed expression is a layer of renamed ones
-pub renamed_roll : (f : ℕ → ℕ) (z : Expr-F Expr) → renamed f (roll-Expr z) ≡ roll-Expr (renamed_layer f (map-Expr Expr Expr (renamed f) z))
-renamed_roll f z =
-    fold-roll-Expr Expr (renamed_step f) z ∙ renamed_rolls f (map-Expr Expr Expr (renamed f) z)
-
--- a fold of a renamed expression
-pub fold_renamed : (A : Type 0) (step : Expr-F A → A) (f : ℕ → ℕ) (z : Expr-F Expr) → fold-Expr A step (renamed f (roll-Expr z)) ≡ step (map-Expr Expr A (fold-Expr A step) (renamed_layer f (map-Expr Expr Expr (renamed f) z)))
-fold_renamed A step f z =
-    ap (fold-Expr A step) (renamed_roll f z) ∙ fold-roll-Expr A step (renamed_layer f (map-Expr Expr Expr (renamed f) z))
 
 -- ---- what an expression gives
 
 -- g here is h by other numbers: it has the same type where the variables that are named have the same types, and gives the same where the variables that are read hold the same
 abbrev pub IsLike : (ℕ → ℕ) → Types → Types → (ℕ → Bool) → (Location → Bool) → Meant → Meant → Type 0
 IsLike f here there named read g h =
-    ((x : ℕ) → named x ≡ true → here.variable x ≡ there.variable (f x)) → (g.type ≡ h.type) × ((m n : State) → ((x : ℕ) → read (variable x) ≡ true → variable_value x m ≡ variable_value (f x) n) → g.value m ≡ h.value n)
+    ((x : ℕ) → named x ≡ true → here.typing.variable x ≡ there.typing.variable (f x)) → (g.type ≡ h.type) × ((m n : State) → ((x : ℕ) → read (variable x) ≡ true → variable_value x m ≡ variable_value (f x) n) → g.value m ≡ h.value n)
 
 module _ (f : ℕ → ℕ) (here there : Types) where
   abbrev pub Evaluated : Expr → Type 0
@@ -125,38 +91,49 @@ module _ (f : ℕ → ℕ) (here there : Types) where
   chosen_three t u a b c d e g p q r w =
       two (λ s x. chosen_value s x c e) p q ∙ two (chosen_value u b) r w
 
-  evaluated_layer : (y : ExprParts Evaluated) → likeness (layer_named (expr_layer Evaluated y)) (layer_reads (expr_layer Evaluated y)) (means_here (expr_layer Evaluated y)) (means_there (expr_layer Evaluated y))
-  evaluated_layer (Expr-F.Variable x) = λ types. (types x (eq-eqb x x refl), λ m n h. h x (is_its_variable x))
-  evaluated_layer (Expr-F.Unary op a) = λ types.
+  -- members have the same types
+  abbrev SameMembers : Type 0
+  SameMembers = (m : MemberId) → here.typing.member m ≡ there.typing.member m
+
+  evaluated_layer : SameMembers → (y : ExprParts Evaluated) → likeness (layer_named (expr_layer Evaluated y)) (layer_reads (expr_layer Evaluated y)) (means_here (expr_layer Evaluated y)) (means_there (expr_layer Evaluated y))
+  evaluated_layer members (Expr-F.Variable x) = λ types. (types x (eq-eqb x x refl), λ m n h. h x (is_its_variable x))
+  evaluated_layer members (Expr-F.Unary op a) = λ types.
       let like = a.1 types in
       (ap (λ t. integer (unary_type op (promote (int_type t)))) like.0, λ m n h. two (unary_value op) like.0 (like.1 m n h))
-  evaluated_layer (Expr-F.Binary op a b) = λ types.
+  evaluated_layer members (Expr-F.Deref a) = λ types. (ap pointee (a.1 types).0, λ m n h. refl)
+  evaluated_layer members (Expr-F.AddressOf a) = λ types. (ap pointer_to (a.1 types).0, λ m n h. refl)
+  evaluated_layer members (Expr-F.Binary op a b) = λ types.
       let left = a.1 (λ x n. types x (or_left (names a.0 x) (names b.0 x) n)) in
       let right = b.1 (λ x n. types x (or_right (names a.0 x) (names b.0 x) n)) in
-      (two (λ s t. integer (binary_type op (operand_type op (int_type s) (int_type t)))) left.0 right.0, λ m n h. both_like op (meant here a.0) (meant here b.0) (meant there (renamed f a.0)) (meant there (renamed f b.0)) m n left.0 right.0 (left.1 m n (λ x r. h x (or_left (reads a.0 (variable x)) (reads b.0 (variable x)) r))) (right.1 m n (λ x r. h x (or_right (reads a.0 (variable x)) (reads b.0 (variable x)) r))))
-  evaluated_layer (Expr-F.AndAlso a b) = λ types.
+      (two (binary_tree_type op) left.0 right.0, λ m n h. both_like op (meant here a.0) (meant here b.0) (meant there (renamed f a.0)) (meant there (renamed f b.0)) m n left.0 right.0 (left.1 m n (λ x r. h x (or_left (reads a.0 (variable x)) (reads b.0 (variable x)) r))) (right.1 m n (λ x r. h x (or_right (reads a.0 (variable x)) (reads b.0 (variable x)) r))))
+  evaluated_layer members (Expr-F.AndAlso a b) = λ types.
       let left = a.1 (λ x n. types x (or_left (names a.0 x) (names b.0 x) n)) in
       let right = b.1 (λ x n. types x (or_right (names a.0 x) (names b.0 x) n)) in
       (refl, λ m n h. two and_both (left.1 m n (λ x r. h x (or_left (reads a.0 (variable x)) (reads b.0 (variable x)) r))) (right.1 m n (λ x r. h x (or_right (reads a.0 (variable x)) (reads b.0 (variable x)) r))))
-  evaluated_layer (Expr-F.OrElse a b) = λ types.
+  evaluated_layer members (Expr-F.OrElse a b) = λ types.
       let left = a.1 (λ x n. types x (or_left (names a.0 x) (names b.0 x) n)) in
       let right = b.1 (λ x n. types x (or_right (names a.0 x) (names b.0 x) n)) in
       (refl, λ m n h. two or_both (left.1 m n (λ x r. h x (or_left (reads a.0 (variable x)) (reads b.0 (variable x)) r))) (right.1 m n (λ x r. h x (or_right (reads a.0 (variable x)) (reads b.0 (variable x)) r))))
-  evaluated_layer (Expr-F.Choose c a b) = λ types.
+  evaluated_layer members (Expr-F.Choose c a b) = λ types.
       let test = c.1 (λ x n. types x (or_left (names c.0 x) (names a.0 x || names b.0 x) n)) in
       let left = a.1 (λ x n. types x (or_right (names c.0 x) (names a.0 x || names b.0 x) (or_left (names a.0 x) (names b.0 x) n))) in
       let right = b.1 (λ x n. types x (or_right (names c.0 x) (names a.0 x || names b.0 x) (or_right (names a.0 x) (names b.0 x) n))) in
       let same : chosen_type (meant here a.0).type (meant here b.0).type ≡ chosen_type (meant there (renamed f a.0)).type (meant there (renamed f b.0)).type = two chosen_type left.0 right.0 in
       (same, λ m n h. chosen_three _ _ _ _ _ _ _ _ same (test.1 m n (λ x r. h x (or_left (reads c.0 (variable x)) (reads a.0 (variable x) || reads b.0 (variable x)) r))) (left.1 m n (λ x r. h x (or_right (reads c.0 (variable x)) (reads a.0 (variable x) || reads b.0 (variable x)) (or_left (reads a.0 (variable x)) (reads b.0 (variable x)) r)))) (right.1 m n (λ x r. h x (or_right (reads c.0 (variable x)) (reads a.0 (variable x) || reads b.0 (variable x)) (or_right (reads a.0 (variable x)) (reads b.0 (variable x)) r)))))
-  evaluated_layer (Expr-F.Cast t a) = λ types.
+  evaluated_layer members (Expr-F.Cast t a) = λ types.
       let like = a.1 types in
       (refl, λ m n h. ap (option_map (as_type (integer t))) (like.1 m n h))
-  evaluated_layer (Expr-F.Paren a) = a.1
-  evaluated_layer _ = λ types. (refl, λ m n h. refl)
+  evaluated_layer members (Expr-F.Index a i) = λ types.
+      let like = a.1 (λ x n. types x (or_left (names a.0 x) (names i.0 x) n)) in
+      (ap pointee like.0, λ m n h. refl)
+  evaluated_layer members (Expr-F.Member a m) = λ types. (members m, λ x n h. refl)
+  evaluated_layer members (Expr-F.Arrow a m) = λ types. (members m, λ x n h. refl)
+  evaluated_layer members (Expr-F.Paren a) = a.1
+  evaluated_layer members _ = λ types. (refl, λ m n h. refl)
 
   -- an expression is the same by other numbers
-  pub eval_same : (a : Expr) → Evaluated a
-  eval_same = of_every_expr Evaluated (λ y. evaluated_roll (expr_layer Evaluated y) (evaluated_layer y))
+  pub eval_same : SameMembers → (a : Expr) → Evaluated a
+  eval_same members = of_every_expr Evaluated (λ y. evaluated_roll (expr_layer Evaluated y) (evaluated_layer members y))
 
 -- ---- the place that a left side designates
 

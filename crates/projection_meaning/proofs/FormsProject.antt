@@ -19,7 +19,7 @@ use Rattle.projection.specs.Renumbering.{renamed, renamed_target}
 use Rattle.projection.specs.Projection as Projection
 use Rattle.projection.specs.Projection.{if_so, bare, bare_target, alone}
 use Rattle.own_words.proofs.Words.{NamesPass, kept}
-use Rattle.projection_meaning.proofs.Bools.{two}
+use Rattle.own_words.proofs.Lists.{two}
 use Rattle.projection_meaning.proofs.CodeNames.{act_names}
 use Rattle.projection_meaning.proofs.Projecting.{same_numbers, renamed_act, choose, renamed_all, project_code, NamesStay, IsNested}
 use Rattle.projection_meaning.proofs.Sequences.{in_turn-append, declared-append, renamed_all-append, project_then, project_leave, nested_then, nested_leave, names_then, names_leave}

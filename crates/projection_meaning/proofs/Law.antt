@@ -1,7 +1,8 @@
 -- A slice follows its original: a law over what acts may use, define and kill, which looks at no form of statement.
 use Rattle.std.proofs.Common.{◌≡◌, ℕ, Option, Some, None, Bool, true, false, ◌⊎◌, inl, inr, refl, sym, ap, ◌∙◌, arith}
+use Rattle.projection.proofs.RankLemmas.{by_bool}
 use Rattle.c_meaning.specs.Meaning.{Trace, Ended}
-use Rattle.projection_meaning.proofs.Bools.{by_bool, fails_too}
+use Rattle.projection_meaning.proofs.Bools.{fails_too}
 use Rattle.projection_meaning.proofs.Runs.{Step, Stops, Fails, Acts, Moves, Machine, Runs, Replies, EndsToo, follows}
 
 -- how a place goes on: not at all, without an act, or by an act

@@ -2,7 +2,7 @@
 use Rattle.std.proofs.Common.{◌≡◌, ℕ, ℤ, List, [], ◌∷◌, append-nil, map, Option, Some, None, Bool, true, false, ◌&&◌, ◌||◌, ◌==◌, eq-eqb, refl, sym, ap, ◌∙◌, subst}
 use Rattle.std.specs.Option.{option_to_list}
 use Rattle.std.specs.Prelude.{option_map}
-use Rattle.std.proofs.lemmas.Bool.{false≢true}
+use Rattle.std.proofs.lemmas.Bool.{false≢true, and_parts, or_parts, or_left, and_from}
 use Rattle.c_tree.specs.declared.expr.Expr.{Expr}
 use Rattle.c_tree.specs.declared.program.Program.{Program}
 use Rattle.c_tree.specs.declared.statement.Arm.{Arm, roll-Arm, fold-roll-Arm}
@@ -12,6 +12,7 @@ use Rattle.c_tree.specs.declared.statement.Statement.TheOpen.{Statement-F, Arm-F
 use Rattle.c_tree.specs.declared.statement.Statement.TheVariants as s
 use Rattle.c_tree.specs.declared.statement.Target.{Target}
 use Rattle.c_tree.specs.declared.statement.Target.TheVariants as target
+use Rattle.c_tree.proofs.Trees.{StatementParts, statement_layer, ArmParts, arm_layer, of_every_statement}
 use Rattle.c_language.specs.Code as language
 use Rattle.c_language.specs.Code.{Act, Begins, Sets, Bumps, Fetches, Writes, Prints, Allocates, Frees, Returns, Code, End, Plain, Fork, Loop, Call, ◌⨟◌, leave, is_true, Part, doing, declared, list_of, given_to, has_case, has_default, ArmPart, default_arm, case_arm, taken_arm, part_step, arm_step, part}
 use Rattle.c_language.proofs.CodeLemmas.{arm_part, part_list, block_of}
@@ -22,15 +23,13 @@ use Rattle.projection.specs.Projection.{if_so, first_of, projected_step, project
 use Rattle.projection.specs.Projection as Projection
 use Rattle.projection_laws.specs.Nested.{governs}
 use Rattle.projection_laws.specs.Staying.{Rest, any_stays, all_clear, rest_step, rest_arm}
-use Rattle.projection_laws.proofs.Options.{both_true, either_false, left_or, and_true}
 use Rattle.own_words.proofs.Parts.{short}
 use Rattle.own_words.proofs.Words.{NamesPass, left_pass, right_pass, kept}
 use Rattle.own_words.proofs.Forms.{left, arm_left, all_left, part_left, step_left, refers_to_arm, step_refers}
-use Rattle.projection_meaning.proofs.Bools.{two}
+use Rattle.own_words.proofs.Lists.{two}
 use Rattle.projection_meaning.proofs.Codes.{layer_part, part-roll}
 use Rattle.projection_meaning.proofs.CodeNames.{act_names}
 use Rattle.projection_meaning.proofs.Projecting.{same_numbers, renamed_act}
-use Rattle.projection_meaning.proofs.Trees.{StatementParts, statement_layer, ArmParts, arm_layer, of_every_statement}
 use Rattle.projection_meaning.proofs.NothingLeft.{subjects, rested, arm_rested, layer_rest, rest-roll, left-roll, nothing_left, none_left}
 use Rattle.projection_meaning.proofs.PartsProject.{gathered, part_form, part_list-map}
 use Rattle.projection_meaning.proofs.FormsProject.{Makes, Turns, Puts, makes_none, makes_both, turns_list, turns_block, turns_then, makes_one, makes_begun, makes_bare, makes_given, puts_act, puts_fork, puts_loop, puts_do, makes_for, makes_block}
@@ -54,12 +53,12 @@ module _ (p : Program) (keeps : ℕ → Bool) where
   ArmFits a = (arm_rested p keeps a).clear ≡ true → NamesPass (refers_to_arm p keeps a) vars → ArmTurns p keeps (arm_rested p keeps a).stays (arm_part a) (arm_part (arm_left p keeps a))
 
   own_named : (id : ℕ) (named : ℕ → Bool) → NamesPass (λ v. keeps id && named v) vars → keeps id ≡ true → NamesPass named vars
-  own_named id named h k v n = h v (and_true k n)
+  own_named id named h k v n = h v (and_from _ _ k n)
 
   list_fits : (ys : List ((x : Statement) × Fits x)) → all_clear (map (rested p keeps) (subjects ys)) ≡ true → NamesPass (either (map (refers keeps) (subjects ys))) vars → Makes p keeps (gathered (map part (subjects ys))) (all_left p keeps (subjects ys))
   list_fits [] c n = makes_none p keeps
   list_fits (y ∷ ys) c n =
-      let both = both_true (rested p keeps y.0).clear (all_clear (map (rested p keeps) (subjects ys))) c in
+      let both = and_parts (rested p keeps y.0).clear (all_clear (map (rested p keeps) (subjects ys))) c in
       makes_both p keeps (part y.0) (map part (subjects ys)) (left p keeps y.0) (all_left p keeps (subjects ys)) (y.1 both.0 (left_pass (refers keeps y.0) (either (map (refers keeps) (subjects ys))) n)) (list_fits ys both.1 (right_pass (refers keeps y.0) (either (map (refers keeps) (subjects ys))) n))
 
   -- a block, where this is known of its statements
@@ -104,9 +103,9 @@ module _ (p : Program) (keeps : ℕ → Bool) where
   for_fits id l i e step ys c n =
       let stay = any_stays (map (rested p keeps) (subjects ys)) in
       let clear = all_clear (map (rested p keeps) (subjects ys)) in
-      let split = both_true (governs (keeps id) (part_stays (subject step) || stay)) (part_clear (subject i) && (part_clear (subject step) && clear)) c in
-      let parts = both_true (part_clear (subject i)) (part_clear (subject step) && clear) split.1 in
-      let repeated = both_true (part_clear (subject step)) clear parts.1 in
+      let split = and_parts (governs (keeps id) (part_stays (subject step) || stay)) (part_clear (subject i) && (part_clear (subject step) && clear)) c in
+      let parts = and_parts (part_clear (subject i)) (part_clear (subject step) && clear) split.1 in
+      let repeated = and_parts (part_clear (subject step)) clear parts.1 in
       let inner : ℕ → Bool = either (map (refers keeps) (subjects ys)) in
       let inside = right_pass (λ v. keeps id && names e v) (λ v. part_refers (subject i) v || (part_refers (subject step) v || inner v)) n in
       let behind = right_pass (part_refers (subject i)) (λ v. part_refers (subject step) v || inner v) inside in
@@ -115,7 +114,7 @@ module _ (p : Program) (keeps : ℕ → Bool) where
       (part_fits i parts.0 (left_pass (part_refers (subject i)) (λ v. part_refers (subject step) v || inner v) inside))
       (own_named id (names e) (left_pass (λ v. keeps id && names e v) (λ v. part_refers (subject i) v || (part_refers (subject step) v || inner v)) n))
       (turns_then p keeps (block_of (subjects ys)) (list_of (part_list (subject step))) _ _ (block_fits ys repeated.1 (right_pass (part_refers (subject step)) inner behind)) (subst (λ ps. Turns p keeps (list_of (part_list (subject step))) (list_of ps)) (part_list-map (part_left p keeps (subject step))) steps))
-      (λ k. let none = either_false (part_stays (subject step)) stay (unkept_none (keeps id) (part_stays (subject step) || stay) split.0 k) in two (λ b o. b ⨟ list_of (part_list o)) (no_block (subjects ys) none.1) (no_part (subject step) none.0))
+      (λ k. let none = or_parts (part_stays (subject step)) stay (unkept_none (keeps id) (part_stays (subject step) || stay) split.0 k) in two (λ b o. b ⨟ list_of (part_list o)) (no_block (subjects ys) none.1) (no_part (subject step) none.0))
 
   -- ---- the arms of a switch
 
@@ -125,21 +124,21 @@ module _ (p : Program) (keeps : ℕ → Bool) where
   default_ends : (ys : List ((a : Arm) × ArmFits a)) → all_clear (map (arm_rested p keeps) (subjects ys)) ≡ true → NamesPass (either (map (refers_to_arm p keeps) (subjects ys))) vars → any_stays (map (arm_rested p keeps) (subjects ys)) ≡ false → default_arm (bodies (subjects ys)) ≡ End
   default_ends [] c n h = refl
   default_ends (y ∷ ys) c n h =
-      let both = both_true (arm_rested p keeps y.0).clear (all_clear (map (arm_rested p keeps) (subjects ys))) c in
-      let none = either_false (arm_rested p keeps y.0).stays (any_stays (map (arm_rested p keeps) (subjects ys))) h in
+      let both = and_parts (arm_rested p keeps y.0).clear (all_clear (map (arm_rested p keeps) (subjects ys))) c in
+      let none = or_parts (arm_rested p keeps y.0).stays (any_stays (map (arm_rested p keeps) (subjects ys))) h in
       if_ends p keeps (has_default (arm_part (arm_left p keeps y.0)).labels) _ _ ((y.1 both.0 (left_pass (refers_to_arm p keeps y.0) (either (map (refers_to_arm p keeps) (subjects ys))) n)).nothing none.0) (default_ends ys both.1 (right_pass (refers_to_arm p keeps y.0) (either (map (refers_to_arm p keeps) (subjects ys))) n) none.1)
 
   case_ends : (ys : List ((a : Arm) × ArmFits a)) (v : ℤ) (d : Code) → all_clear (map (arm_rested p keeps) (subjects ys)) ≡ true → NamesPass (either (map (refers_to_arm p keeps) (subjects ys))) vars → any_stays (map (arm_rested p keeps) (subjects ys)) ≡ false → d ≡ End → case_arm (bodies (subjects ys)) v d ≡ End
   case_ends [] v d c n h e = e
   case_ends (y ∷ ys) v d c n h e =
-      let both = both_true (arm_rested p keeps y.0).clear (all_clear (map (arm_rested p keeps) (subjects ys))) c in
-      let none = either_false (arm_rested p keeps y.0).stays (any_stays (map (arm_rested p keeps) (subjects ys))) h in
+      let both = and_parts (arm_rested p keeps y.0).clear (all_clear (map (arm_rested p keeps) (subjects ys))) c in
+      let none = or_parts (arm_rested p keeps y.0).stays (any_stays (map (arm_rested p keeps) (subjects ys))) h in
       if_ends p keeps (has_case v (arm_part (arm_left p keeps y.0)).labels) _ _ ((y.1 both.0 (left_pass (refers_to_arm p keeps y.0) (either (map (refers_to_arm p keeps) (subjects ys))) n)).nothing none.0) (case_ends ys v d both.1 (right_pass (refers_to_arm p keeps y.0) (either (map (refers_to_arm p keeps) (subjects ys))) n) none.1 e)
 
   arms_fit : (ys : List ((a : Arm) × ArmFits a)) → all_clear (map (arm_rested p keeps) (subjects ys)) ≡ true → NamesPass (either (map (refers_to_arm p keeps) (subjects ys))) vars → ArmsTurn p keeps (map arm_part (subjects ys)) (bodies (subjects ys))
   arms_fit [] c n = none
   arms_fit (y ∷ ys) c n =
-      let both = both_true (arm_rested p keeps y.0).clear (all_clear (map (arm_rested p keeps) (subjects ys))) c in
+      let both = and_parts (arm_rested p keeps y.0).clear (all_clear (map (arm_rested p keeps) (subjects ys))) c in
       more (y.1 both.0 (left_pass (refers_to_arm p keeps y.0) (either (map (refers_to_arm p keeps) (subjects ys))) n)) (arms_fit ys both.1 (right_pass (refers_to_arm p keeps y.0) (either (map (refers_to_arm p keeps) (subjects ys))) n))
 
   -- ---- each layer
@@ -183,8 +182,8 @@ module _ (p : Program) (keeps : ℕ → Bool) where
   if_fits : (id l : ℕ) (e : Expr) (xs ys : List ((x : Statement) × Fits x)) → (governs (keeps id) (stay_in xs || stay_in ys) && (clear_in xs && clear_in ys)) ≡ true → NamesPass (λ v. (keeps id && names e v) || (refers_in xs v || refers_in ys v)) vars
       → Makes p keeps (doing (Fork id e (λ v. language.either (is_true v) (block_of (subjects xs)) (block_of (subjects ys))))) (if_so (keeps id) (s.If (rank keeps id) l (new e) (all_left p keeps (subjects xs)) (all_left p keeps (subjects ys)) ∷ []) [])
   if_fits id l e xs ys c n =
-      let split = both_true (governs (keeps id) (stay_in xs || stay_in ys)) (clear_in xs && clear_in ys) c in
-      let clear = both_true (clear_in xs) (clear_in ys) split.1 in
+      let split = and_parts (governs (keeps id) (stay_in xs || stay_in ys)) (clear_in xs && clear_in ys) c in
+      let clear = and_parts (clear_in xs) (clear_in ys) split.1 in
       let inside = right_pass (λ v. keeps id && names e v) (λ v. refers_in xs v || refers_in ys v) n in
       let lefts = all_left p keeps (subjects xs) in
       let rights = all_left p keeps (subjects ys) in
@@ -192,7 +191,7 @@ module _ (p : Program) (keeps : ℕ → Bool) where
       (puts_fork p keeps id e (λ v. language.either (is_true v) (block_of (subjects xs)) (block_of (subjects ys))) (λ v. language.either (is_true v) (block_of lefts) (block_of rights))
       (own_named id (names e) (left_pass (λ v. keeps id && names e v) (λ v. refers_in xs v || refers_in ys v) n))
       (λ v. either_turns p keeps (is_true v) _ _ _ _ (block_fits xs clear.0 (left_pass (refers_in xs) (refers_in ys) inside)) (block_fits ys clear.1 (right_pass (refers_in xs) (refers_in ys) inside)))
-      (λ k v. let none = either_false (stay_in xs) (stay_in ys) (unkept_none (keeps id) (stay_in xs || stay_in ys) split.0 k) in either_ends p keeps (is_true v) _ _ (no_block (subjects xs) none.0) (no_block (subjects ys) none.1)))
+      (λ k v. let none = or_parts (stay_in xs) (stay_in ys) (unkept_none (keeps id) (stay_in xs || stay_in ys) split.0 k) in either_ends p keeps (is_true v) _ _ (no_block (subjects xs) none.0) (no_block (subjects ys) none.1)))
 
   -- what is known of the body of a loop
   record Turning (id : ℕ) (e : Expr) (ys : List ((x : Statement) × Fits x)) : Type 0 where
@@ -202,7 +201,7 @@ module _ (p : Program) (keeps : ℕ → Bool) where
 
   turning : (id : ℕ) (e : Expr) (ys : List ((x : Statement) × Fits x)) → (governs (keeps id) (stay_in ys) && clear_in ys) ≡ true → NamesPass (λ v. (keeps id && names e v) || refers_in ys v) vars → Turning id e ys
   turning id e ys c n =
-      let split = both_true (governs (keeps id) (stay_in ys)) (clear_in ys) c in
+      let split = and_parts (governs (keeps id) (stay_in ys)) (clear_in ys) c in
       record {
         named = own_named id (names e) (left_pass (λ v. keeps id && names e v) (refers_in ys) n);
         turns = block_fits ys split.1 (right_pass (λ v. keeps id && names e v) (refers_in ys) n);
@@ -223,7 +222,7 @@ module _ (p : Program) (keeps : ℕ → Bool) where
       → Makes p keeps (doing (Fork id e (taken_arm (map arm_part (subjects ys))))) (if_so (keeps id) (s.Switch (rank keeps id) l (new e) (map (arm_left p keeps) (subjects ys)) ∷ []) [])
   switch_fits id l e ys c n =
       let stay = any_stays (map (arm_rested p keeps) (subjects ys)) in
-      let split = both_true (governs (keeps id) stay) (all_clear (map (arm_rested p keeps) (subjects ys))) c in
+      let split = and_parts (governs (keeps id) stay) (all_clear (map (arm_rested p keeps) (subjects ys))) c in
       let arms = map (arm_left p keeps) (subjects ys) in
       let inside = right_pass (λ v. keeps id && names e v) (either (map (refers_to_arm p keeps) (subjects ys))) n in
       makes_one p keeps id (s.Switch (rank keeps id) l (new e) arms) _ _ (part_form _ (Statement-F.Switch (rank keeps id) l (new e) arms) (s.rolls-Switch (rank keeps id) l (new e) arms))
@@ -238,7 +237,7 @@ module _ (p : Program) (keeps : ℕ → Bool) where
       let acts = puts_act p keeps id (Begins x i) (own_named id (act_names (Begins x i)) n) in
       makes_begun p keeps (keeps id) l x (s.Declare (Some (rank keeps id)) l (rank vars x) (renamed_init (rank vars) i)) (Plain id (Begins x i)) (Plain (rank keeps id) (Begins (rank vars x) (renamed_init (rank vars) i)))
       (part_form _ (Statement-F.Declare (Some (rank keeps id)) l (rank vars x) (renamed_init (rank vars) i)) (s.rolls-Declare (Some (rank keeps id)) l (rank vars x) (renamed_init (rank vars) i)))
-      (λ k. n x (and_true k (left_or (x == x) (init_names i x) (eq-eqb x x refl)))) acts.same acts.nested acts.names
+      (λ k. n x (and_from _ _ k (or_left (x == x) (init_names i x) (eq-eqb x x refl)))) acts.same acts.nested acts.names
   fits_layer (Statement-F.Assign id l a op b) c n = act_fits id (Sets a op b) _ (part_form _ (Statement-F.Assign (rank keeps id) l (new a) op (new b)) (s.rolls-Assign (rank keeps id) l (new a) op (new b))) n
   fits_layer (Statement-F.Bump id l a up before) c n = act_fits id (Bumps a up) _ (part_form _ (Statement-F.Bump (rank keeps id) l (new a) up before) (s.rolls-Bump (rank keeps id) l (new a) up before)) n
   fits_layer (Statement-F.Invoke id l target.None f args) c n = call_fits id l target.None f args n

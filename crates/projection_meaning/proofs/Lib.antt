@@ -1,5 +1,4 @@
 pub mod Bools
-pub mod Trees
 pub mod Targets
 pub mod CodeNames
 pub mod Codes

@@ -2,6 +2,7 @@
 use Rattle.std.proofs.Common.{◌≡◌, ℕ, List, [], ◌∷◌, map, Option, Some, None, refl, sym, ap, ◌∙◌}
 use Rattle.std.specs.Option.{option_map_or}
 use Rattle.std.specs.Prelude.{slice_get, option_map}
+use Rattle.c_tree.specs.declared.expr.MemberId.{MemberId}
 use Rattle.c_tree.specs.declared.expr.Expr.{Expr}
 use Rattle.c_tree.specs.declared.program.Program.{Program}
 use Rattle.c_tree.specs.declared.program.Function.{Function}
@@ -9,18 +10,19 @@ use Rattle.c_tree.specs.declared.statement.Statement.{Statement, fold-roll-State
 use Rattle.c_tree.specs.declared.statement.Statement.TheOpen.{Statement-F, Arm-F}
 use Rattle.c_tree.specs.declared.statement.Statement.TheVariants as s
 use Rattle.c_tree.specs.declared.statement.Arm.{Arm, roll-Arm, map-Arm, fold-roll-Arm}
-use Rattle.c_tree.specs.Unlined.{unlined_step, unlined_arm, unlined, unlined_of_arm, unlined_var, unlined_function, unlined_program, SameButLines}
+use Rattle.c_tree.specs.Unlined.{unlined_step, unlined_arm, unlined, unlined_var, unlined_function, unlined_program, SameButLines}
 use Rattle.c_language.specs.Code.{End, Part, ArmPart, part_step, arm_step, part, code_of, code}
 use Rattle.c_arith.specs.declared.int_type.IntType.TheVariants.{Int}
 use Rattle.c_tree.specs.declared.program.Var.{Var}
 use Rattle.c_language.specs.DeclaredTypes.{integer}
-use Rattle.c_meaning.specs.Values.{shape_of}
-use Rattle.c_meaning.specs.Meaning.{variable_type, types_of, main_code}
+use Rattle.c_language.specs.TreeTypes.{shape_of, variable_type, member_type}
+use Rattle.c_meaning.specs.Meaning.{types_of, main_code}
 use Rattle.std.proofs.lemmas.Option.{slice_get-map}
 use mathlib.Core.Path.{fun_ext}
-use Rattle.projection_meaning.proofs.Trees.{StatementParts, statement_layer, ArmParts, arm_layer, of_every_statement}
+use Rattle.c_tree.proofs.Trees.{StatementParts, statement_layer, ArmParts, arm_layer, of_every_statement}
+use Rattle.c_tree.proofs.UnlinedLemmas.{unlined_of_arm}
+use Rattle.own_words.proofs.Lists.{two, three}
 use Rattle.projection_meaning.proofs.Codes.{arm_part, layer_part, part-roll}
-use Rattle.projection_meaning.proofs.Bools.{two, three}
 
 -- a layer with line 0
 abbrev unlined_layer : Statement-F Statement Arm → Statement-F Statement Arm
@@ -145,13 +147,16 @@ variable_unlined : (p : Program) (x : ℕ) → variable_type (unlined_program p)
 variable_unlined p x =
     ap (λ o. option_map_or (λ (v : Var). shape_of v.shape) o (integer Int)) (slice_get-map unlined_var p.vars x) ∙ shape_unlined (slice_get p.vars x)
 
+member_unlined : (p : Program) (m : MemberId) → member_type (unlined_program p) m ≡ member_type p m
+member_unlined p m = refl
+
 result_unlined : (fs : List Function) → option_map_or (λ (f : Function). option_map shape_of f.result) (slice_get (map unlined_function fs) 0) None ≡ option_map_or (λ (f : Function). option_map shape_of f.result) (slice_get fs 0) None
 result_unlined [] = refl
 result_unlined (f ∷ fs) = refl
 
 types_unlined : (p : Program) → types_of (unlined_program p) ≡ types_of p
 types_unlined p =
-    two (λ v r. record { variable = v; result = r }) (fun_ext (variable_unlined p)) (result_unlined p.functions)
+    three (λ v k r. record { typing = record { variable = v; member = k }; result = r }) (fun_ext (variable_unlined p)) (fun_ext (member_unlined p)) (result_unlined p.functions)
 
 -- programs that are the same but for lines have one main's types
 pub same_types : (p q : Program) → SameButLines p q → types_of p ≡ types_of q

@@ -8,8 +8,9 @@ use Rattle.c_meaning.proofs.Frames.{variable_value, opened_here, opened_other, u
 use Rattle.c_meaning.proofs.Closing.{closed_other, gone_here, closed_elsewhere, before_closing, closed_framed}
 use Rattle.dep_model.specs.declared.location.Location.{Location}
 use Rattle.projection.specs.Kept.{rank}
+use Rattle.projection.proofs.RankLemmas.{by_bool}
 use Rattle.projection_meaning.proofs.Acts.{Same, Fits}
-use Rattle.projection_meaning.proofs.Bools.{by_bool, fails_too}
+use Rattle.projection_meaning.proofs.Bools.{fails_too}
 use Rattle.projection_meaning.proofs.Law.{Silent}
 use Rattle.projection_meaning.proofs.Places.{kind_of, change, kept_at}
 use Rattle.projection_meaning.proofs.Projecting.{any_passes, renamed_all, project_code}

@@ -1,29 +1,27 @@
 -- Nothing is left of a statement of which nothing stays.
 use Rattle.std.proofs.Common.{◌≡◌, ℕ, List, [], ◌∷◌, ◌++◌, map, Some, None, Bool, false, ◌||◌, refl, sym, ap, ◌∙◌}
+use Rattle.std.proofs.lemmas.Bool.{or_parts}
 use Rattle.c_tree.specs.declared.program.Program.{Program}
 use Rattle.c_tree.specs.declared.statement.Arm.{Arm, fold-Arm}
 use Rattle.c_tree.specs.declared.statement.Statement.{Statement, roll-Statement, map-Statement, fold-roll-Statement}
 use Rattle.c_tree.specs.declared.statement.Statement.TheOpen.{Statement-F}
 use Rattle.c_tree.specs.declared.statement.Target.{Target}
 use Rattle.c_tree.specs.declared.statement.Target.TheVariants as target
+use Rattle.c_tree.proofs.Trees.{StatementParts, statement_layer, of_every_statement}
 use Rattle.projection.specs.Names.{stays}
 use Rattle.projection.specs.Projection.{if_so, first_of, projected_step, projected_arm_step}
 use Rattle.projection.specs.Projection as Projection
 use Rattle.projection_laws.specs.Staying as Staying
 use Rattle.projection_laws.specs.Staying.{Rest, any_stays, rest_step, rest_arm, rest}
-use Rattle.projection_laws.proofs.Options.{either_false}
 use Rattle.own_words.proofs.Words.{kept}
 use Rattle.own_words.proofs.Forms.{left, all_left, step_left}
-use Rattle.projection_meaning.proofs.Bools.{two}
+use Rattle.own_words.proofs.Parts.{not_so}
+use Rattle.own_words.proofs.Lists.{two}
 use Rattle.projection_meaning.proofs.Projecting.{same_numbers}
-use Rattle.projection_meaning.proofs.Trees.{StatementParts, statement_layer, of_every_statement}
 
 -- the subjects of facts
 abbrev pub subjects : {A : Type 0} {Q : A → Type 0} → List ((x : A) × Q x) → List A
 subjects ys = map (λ y. y.0) ys
-
-not_so : {A : Type 0} (b : Bool) (xs ys : List A) → b ≡ false → if_so b xs ys ≡ ys
-not_so b xs ys h = ap (λ c. if_so c xs ys) h
 
 module _ (p : Program) (keeps : ℕ → Bool) where
   abbrev vars : ℕ → Bool
@@ -52,14 +50,14 @@ module _ (p : Program) (keeps : ℕ → Bool) where
 
   all_leave : (ys : List ((x : Statement) × Leaves x)) → any_stays (map rested (subjects ys)) ≡ false → all_left p keeps (subjects ys) ≡ []
   all_leave [] h = refl
-  all_leave (y ∷ ys) h = let both = either_false (rested y.0).stays (any_stays (map rested (subjects ys))) h in two (λ xs zs. xs ++ zs) (y.1 both.0) (all_leave ys both.1)
+  all_leave (y ∷ ys) h = let both = or_parts (rested y.0).stays (any_stays (map rested (subjects ys))) h in two (λ xs zs. xs ++ zs) (y.1 both.0) (all_leave ys both.1)
 
   leaves_either : (b c : Bool) (xs ys : List Statement) → (b || c) ≡ false → if_so b xs (if_so c ys []) ≡ []
-  leaves_either b c xs ys h = let both = either_false b c h in not_so b xs (if_so c ys []) both.0 ∙ not_so c ys [] both.1
+  leaves_either b c xs ys h = let both = or_parts b c h in not_so b xs (if_so c ys []) both.0 ∙ not_so c ys [] both.1
 
   leaves_given : (b : Bool) (l : ℕ) (to : Target) (xs : List Statement) → (b || Staying.target_stays keeps vars to) ≡ false → if_so b xs (Projection.bare_target (kept p keeps) same_numbers l to) ≡ []
-  leaves_given b l target.None xs h = not_so b xs [] (either_false b false h).0
-  leaves_given b l (target.Place a) xs h = not_so b xs [] (either_false b false h).0
+  leaves_given b l target.None xs h = not_so b xs [] (or_parts b false h).0
+  leaves_given b l (target.Place a) xs h = not_so b xs [] (or_parts b false h).0
   leaves_given b l (target.Declared x) xs h = leaves_either b (vars x) xs _ h
 
   leaves_layer : (y : StatementParts Leaves LeavesArm) → (layer_rest (statement_layer Leaves LeavesArm y)).stays ≡ false → step_left p keeps (statement_layer Leaves LeavesArm y) ≡ []
@@ -76,9 +74,9 @@ module _ (p : Program) (keeps : ℕ → Bool) where
   leaves_layer (Statement-F.If id l e a b) h = not_so (keeps id) _ [] h
   leaves_layer (Statement-F.While id l e b) h = not_so (keeps id) _ [] h
   leaves_layer (Statement-F.Do id l e b) h = not_so (keeps id) _ [] h
-  leaves_layer (Statement-F.For id l None e step b) h = not_so (keeps id) _ [] (either_false (keeps id) false h).0
+  leaves_layer (Statement-F.For id l None e step b) h = not_so (keeps id) _ [] (or_parts (keeps id) false h).0
   leaves_layer (Statement-F.For id l (Some i) e step b) h =
-      let both = either_false (keeps id) (rested i.0).stays h in not_so (keeps id) _ _ both.0 ∙ ap (λ xs. Projection.alone (kept p keeps) same_numbers l (first_of xs)) (i.1 both.1)
+      let both = or_parts (keeps id) (rested i.0).stays h in not_so (keeps id) _ _ both.0 ∙ ap (λ xs. Projection.alone (kept p keeps) same_numbers l (first_of xs)) (i.1 both.1)
   leaves_layer (Statement-F.Switch id l e arms) h = not_so (keeps id) _ [] h
   leaves_layer (Statement-F.Block l b) h = ap (Projection.block_of (kept p keeps) same_numbers l) (all_leave b h)
   leaves_layer (Statement-F.Return id l a) h = not_so (keeps id) _ [] h
@@ -93,4 +91,4 @@ module _ (p : Program) (keeps : ℕ → Bool) where
   pub none_left : (xs : List Statement) → any_stays (map rested xs) ≡ false → all_left p keeps xs ≡ []
   none_left [] h = refl
   none_left (x ∷ xs) h =
-      let both = either_false (rested x).stays (any_stays (map rested xs)) h in two (λ ys zs. ys ++ zs) (nothing_left x both.0) (none_left xs both.1)
+      let both = or_parts (rested x).stays (any_stays (map rested xs)) h in two (λ ys zs. ys ++ zs) (nothing_left x both.0) (none_left xs both.1)

@@ -4,16 +4,18 @@ use mathlib.Core.Path.{subst₂}
 use Rattle.std.specs.Prelude.{slice_get, option_map}
 use Rattle.std.specs.Option.{option_map_or}
 use Rattle.c_arith.specs.declared.int_type.IntType.TheVariants.{Int}
+use Rattle.c_tree.specs.declared.expr.MemberId.{MemberId}
 use Rattle.c_tree.specs.declared.program.Program.{Program}
 use Rattle.c_tree.specs.declared.program.Function.{Function}
 use Rattle.c_tree.specs.declared.program.Var.{Var}
 use Rattle.c_tree.specs.Unlined.{SameButLines}
 use Rattle.c_language.specs.DeclaredTypes.{integer}
+use Rattle.c_language.specs.TreeTypes.{shape_of}
 use Rattle.c_language.specs.Code.{Code}
 use Rattle.c_language.specs.Programs.{IsWellFormed}
 use Rattle.c_meaning.specs.declared.value.Value.{Value}
 use Rattle.c_meaning.specs.declared.event.Event.{Event}
-use Rattle.c_meaning.specs.Values.{shape_of, Types, State, shown_of}
+use Rattle.c_meaning.specs.Values.{Types, State, shown_of}
 use Rattle.c_meaning.specs.Acts.{Made, made}
 use Rattle.c_meaning.specs.Meaning.{Trace, Ended, opening, types_of, main_code, code_meaning, at}
 use Rattle.c_meaning.proofs.Frames.{IsFramed}
@@ -29,9 +31,10 @@ use Rattle.projection.specs.Names.{stays}
 use Rattle.projection.specs.Projection.{projected_functions, projected_var, kept_with, projection}
 use Rattle.projection_laws.specs.Nested as laws
 use Rattle.projection_laws.proofs.Clearing.{nested_clear}
+use Rattle.own_words.proofs.Lists.{two}
 use Rattle.projection_meaning.specs.SameValues.{ranked, StandFor, HasSameValues}
 use Rattle.projection_meaning.specs.Laws.{keeps_of, IsFlowClosed}
-use Rattle.projection_meaning.proofs.Bools.{two, fails_too}
+use Rattle.projection_meaning.proofs.Bools.{fails_too}
 use Rattle.projection_meaning.proofs.Lines.{same_main, same_types}
 use Rattle.projection_meaning.proofs.Ranks.{rank_injective}
 use Rattle.projection_meaning.proofs.Runs.{Runs}
@@ -70,11 +73,14 @@ module _ (p : Program) (keeps : ℕ → Bool) (closed : (v w : Step) → FlowEdg
   abbrev there : Types
   there = types_of (projection p keeps)
 
-  -- a variable that stays keeps its type, and main its result's
-  agree : (x : ℕ) → staying x ≡ true → here.variable x ≡ there.variable (rank staying x)
+  -- a variable that stays keeps its type, each member has its own, and so has main's result
+  agree : (x : ℕ) → staying x ≡ true → here.typing.variable x ≡ there.typing.variable (rank staying x)
   agree x sx =
       let k = kept_with p keeps in
       sym (shape_stays k (slice_get p.vars x)) ∙ ap (λ o. option_map_or (λ (v : Var). shape_of v.shape) o (integer Int)) (sym (get-projected k same_numbers p.vars x sx))
+
+  members : (m : MemberId) → here.typing.member m ≡ there.typing.member m
+  members m = refl
 
   results : here.result ≡ there.result
   results = result_in p keeps p.functions
@@ -112,7 +118,7 @@ module _ (p : Program) (keeps : ℕ → Bool) (closed : (v w : Step) → FlowEdg
   acting : Acting setting
   acting = record {
     kept = λ w c m n v f e k fits same is.
-        let h = act_kept (rank staying) staying (rank_injective staying) here there agree results (act_of c) m n v (stays_here keeps staying c f.1.1 e k) fits same is in
+        let h = act_kept (rank staying) staying (rank_injective staying) here there agree members results (act_of c) m n v (stays_here keeps staying c f.1.1 e k) fits same is in
         let act : renamed_act (rank staying) (act_of c) ≡ act_of (project_code keeps staying c) = sym (shape_act keeps staying c e k) in
         record {
           world = tt;

@@ -5,7 +5,7 @@ use Rattle.c_language.specs.Code.{Code, End, Opens, Plain, Fork, Loop, Leaves, C
 use Rattle.projection.specs.Kept.{rank}
 use Rattle.projection.specs.Renumbering.{renamed, renamed_target}
 use Rattle.projection.specs.Projection.{if_so}
-use Rattle.projection_meaning.proofs.Bools.{by_bool}
+use Rattle.projection.proofs.RankLemmas.{by_bool}
 use Rattle.projection_meaning.proofs.Projecting.{any_passes, same_numbers, renamed_act, choose, renamed_all, project_code, NamesStay, IsNested}
 
 pub then_end : (a : Code) → a ⨟ End ≡ a

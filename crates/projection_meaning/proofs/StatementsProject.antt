@@ -3,21 +3,21 @@ use Rattle.std.proofs.Common.{◌≡◌, ℕ, List, [], ◌∷◌, map, Bool, tr
 use Rattle.std.specs.Option.{option_map_or}
 use Rattle.std.specs.Prelude.{slice_get}
 use Rattle.std.specs.List.{list_all, list_any}
+use Rattle.std.proofs.lemmas.Bool.{and_parts, or_left}
 use Rattle.c_tree.specs.declared.program.Function.{Function}
 use Rattle.c_tree.specs.declared.program.Program.{Program}
 use Rattle.c_tree.specs.declared.statement.Statement.{Statement}
-use Rattle.c_language.specs.Code.{Code, End, declared, in_turn, part, code}
+use Rattle.c_language.specs.Code.{Code, End, part, code}
 use Rattle.c_language.proofs.CodeLemmas.{list_of-code}
 use Rattle.c_meaning.specs.Meaning.{main_code}
 use Rattle.built_forms.specs.IntegerForms.{IsIntegerMain}
 use Rattle.projection.specs.Names.{refers, body_refers, stays}
 use Rattle.projection.specs.Projection.{projection}
 use Rattle.projection.specs.Projection as Projection
-use Rattle.projection_laws.specs.Staying.{rest, is_clear, IsClear}
-use Rattle.projection_laws.proofs.Options.{both_true, left_or}
+use Rattle.projection_laws.specs.Staying.{is_clear, IsClear}
 use Rattle.own_words.proofs.Words.{NamesPass, left_pass, right_pass, kept}
 use Rattle.own_words.proofs.Forms.{left, all_left}
-use Rattle.projection_meaning.proofs.Projecting.{same_numbers, renamed_all, project_code, NamesStay, IsNested}
+use Rattle.projection_meaning.proofs.Projecting.{same_numbers, project_code, NamesStay, IsNested}
 use Rattle.projection_meaning.proofs.PartsProject.{gathered}
 use Rattle.projection_meaning.proofs.FormsProject.{Makes, makes_none, makes_both}
 use Rattle.projection_meaning.proofs.LayersProject.{fits}
@@ -29,29 +29,12 @@ module _ (p : Program) (keeps : ℕ → Bool) where
   abbrev project : Code → Code
   project = project_code keeps vars
 
-  -- what stays of a statement has the projection of its code
-  pub record Projects (x : Statement) : Type 0 where
-    pub declares : declared (map part (left p keeps x)) ≡ renamed_all keeps vars (part x).declares
-    pub before : (r : Code) → in_turn (map part (left p keeps x)) (project r) ≡ project ((part x).before r)
-    pub nested : (r : Code) → IsNested keeps vars r → IsNested keeps vars ((part x).before r)
-    pub names : (r : Code) → NamesStay keeps vars r → NamesStay keeps vars ((part x).before r)
-
-  pub statement_projects : (x : Statement) → (rest keeps vars x).clear ≡ true → ((v : ℕ) → refers keeps x v ≡ true → vars v ≡ true) → Projects x
-  statement_projects x c n =
-      let made = fits p keeps x c n in
-      record {
-        declares = made.declares;
-        before = made.before;
-        nested = made.nested;
-        names = made.names;
-      }
-
   -- ---- main
 
   body_makes : (xs : List Statement) → list_all (is_clear keeps vars) xs ≡ true → NamesPass (body_refers keeps xs) vars → Makes p keeps (gathered (map part xs)) (all_left p keeps xs)
   body_makes [] c n = makes_none p keeps
   body_makes (x ∷ xs) c n =
-      let both = both_true (is_clear keeps vars x) (list_all (is_clear keeps vars) xs) c in
+      let both = and_parts (is_clear keeps vars x) (list_all (is_clear keeps vars) xs) c in
       makes_both p keeps (part x) (map part xs) (left p keeps x) (all_left p keeps xs) (fits p keeps x both.0 (left_pass (refers keeps x) (body_refers keeps xs) n)) (body_makes xs both.1 (right_pass (refers keeps x) (body_refers keeps xs) n))
 
   -- what stays of a list has the projection of its code
@@ -73,6 +56,6 @@ module _ (p : Program) (keeps : ℕ → Bool) where
   main_projects h c =
       let is = h.functions_are in
       let here : main_code p ≡ code h.main.body = ap first_code is in
-      let clear = (both_true (list_all (is_clear keeps vars) h.main.body) true (sym (ap (list_all (λ (f : Function). list_all (is_clear keeps vars) f.body)) is) ∙ c)).0 in
-      let done = body_projects h.main.body clear (λ v r. ap (list_any (λ (f : Function). body_refers keeps f.body v)) is ∙ left_or (body_refers keeps h.main.body v) false r) in
+      let clear = (and_parts (list_all (is_clear keeps vars) h.main.body) true (sym (ap (list_all (λ (f : Function). list_all (is_clear keeps vars) f.body)) is) ∙ c)).0 in
+      let done = body_projects h.main.body clear (λ v r. ap (list_any (λ (f : Function). body_refers keeps f.body v)) is ∙ or_left (body_refers keeps h.main.body v) false r) in
       (main_there p.functions h.main is ∙ (done.0 ∙ ap project (sym here)), (subst (IsNested keeps vars) (sym here) done.1.0, subst (NamesStay keeps vars) (sym here) done.1.1))

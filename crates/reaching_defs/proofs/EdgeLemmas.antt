@@ -12,10 +12,11 @@ use Rattle.dep_model.specs.declared.skeleton.Pair.{Pair}
 use Rattle.dep_model.specs.declared.skeleton.Skeleton.{Skeleton}
 use Rattle.dep_model.specs.declared.skeleton.FlowGraph.{FlowGraph}
 use Rattle.dep_model.specs.Follows.{Chain, last, more}
+use Rattle.dep_model.specs.EdgeOrder.{ends, AreAscendingEdges}
 use Rattle.dep_model.specs.PairOrder.{precedes, AreAscending}
-use Rattle.dep_model.proofs.ListLemmas.{contains_map, contains_none}
-use Rattle.dep_model.proofs.SetLemmas.{has_none}
-use Rattle.reaching_defs.specs.FlowEdges.{flow_edge, ends, AreAscendingEdges, IsTargeted}
+use Rattle.rule_closure.proofs.ListLemmas.{contains_map, contains_none}
+use Rattle.rule_closure.proofs.SetLemmas.{has_none}
+use Rattle.reaching_defs.specs.FlowEdges.{flow_edge, IsTargeted}
 use Rattle.reaching_defs.specs.RowFlow.{row_has, Leads, IsRowFlow}
 use Rattle.reaching_defs.specs.Spans.{IsPairAmong, FlowsAmong}
 use Rattle.reaching_defs.proofs.SearchLemmas.{pair_among}

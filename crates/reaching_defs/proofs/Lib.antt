@@ -3,4 +3,3 @@ pub mod SearchLemmas
 pub mod TargetLemmas
 pub mod EdgeLemmas
 pub mod RowLaws
-pub mod OrderLaws

@@ -18,7 +18,7 @@ use Rattle.dep_model.specs.Locations.{Placed, locations}
 use Rattle.dep_model.specs.Skeletons.{AreRows, IsSkeleton}
 use Rattle.dep_model.specs.SystemGraph.{Analysis, vertices_of, places_at, numbered_effects, IsFlowIn}
 use Rattle.dep_model.specs.VertexOrder.{vertex_effects}
-use Rattle.dep_model.proofs.ListLemmas.{contains_map}
+use Rattle.rule_closure.proofs.ListLemmas.{contains_map}
 use Rattle.reaching_defs.specs.RowFlow.{row_has, row_effects, Leads, IsRowFlow}
 use Rattle.reaching_defs.specs.Laws.{LocationsAreListed, AreOrderOf, RowFlowIsFlow}
 

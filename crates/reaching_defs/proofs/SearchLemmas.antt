@@ -1,35 +1,21 @@
 -- What a search from a vertex keeps from step to step, and that at its end it has where chains lead.
 use Rattle.std.proofs.Common.{◌≡◌, ℕ, ◌+◌, ◌-◌, ◌<◌, ◌≤◌, ◌⊎◌, ◌↔◌, inl, inr, Bool, true, false, List, length, get_or, set, replicate, Contains, All, sym, ap, ◌∙◌, subst, arith}
 use Rattle.std.specs.Prelude.{IsTrue}
-use Rattle.std.proofs.lemmas.List.{get_or-set_same, get_or-set_other, length-set, get_or_default}
+use Rattle.std.proofs.lemmas.List.{get_or-set_other, length-set, get_or_default}
 use Rattle.std.proofs.lemmas.List.Elements.{All-contains}
 use Rattle.std.proofs.lemmas.Bool.{cases_eq, cases_lt, false≢true}
 use Rattle.bit_rows.specs.Sets.{has}
 use Rattle.dep_model.specs.declared.skeleton.Pair.{Pair}
 use Rattle.dep_model.specs.Follows.{Chain, last, more}
-use Rattle.dep_model.specs.Links.{IsListed}
-use Rattle.dep_model.proofs.SetLemmas.{has_set, has_set_cases, has_none, count-set}
+use Rattle.rule_closure.specs.Links.{IsListed}
+use Rattle.rule_closure.proofs.Marking.{listed_more}
+use Rattle.rule_closure.proofs.SetLemmas.{has_set, has_set_cases, has_none}
 use Rattle.reaching_defs.specs.RowFlow.{Leads}
 use Rattle.reaching_defs.specs.Spans.{IsPairAmong, IsLastFrom}
 
 -- one of some pairs is among the numbers of their span
 pub pair_among : (base n : ℕ) (pairs : List Pair) → All (IsPairAmong base n) pairs → (x : Pair) → Contains pairs x → IsPairAmong base n x
 pair_among base n pairs all x m = All-contains (IsPairAmong base n) pairs x all m
-
--- ---- the order in which vertices are reached
--- it lists one more
-pub listed_more : (order : List ℕ) (filled : ℕ) (s : List Bool) (u : ℕ) → IsListed order filled s → u < length s → has s u ≡ false → filled < length order → IsListed (set order filled u) (filled + 1) (set s u true)
-listed_more order filled s u l h none room = record {
-  inside = λ i k. elim (cases_eq i filled) [
-    | inl q ↦ ap (λ j. has (set s u true) (get_or (set order filled u) j 0)) q ∙ ap (has (set s u true)) (get_or-set_same order filled u 0 room) ∙ get_or-set_same s u true false h
-    | inr q ↦ ap (has (set s u true)) (get_or-set_other order filled i u 0 q) ∙ has_set s u (get_or order i 0) (l.inside i (omega arith))
-  ];
-  covers = λ v k. elim (has_set_cases s u v k) [
-    | inl old ↦ let w = l.covers v old in (w.0, omega arith, get_or-set_other order filled w.0 u 0 (λ e. absurd (omega arith)) ∙ w.2)
-    | inr q ↦ (filled, omega arith, get_or-set_same order filled u 0 room ∙ sym q)
-  ];
-  count = count-set s u h none ∙ ap (λ n. n + 1) l.count;
-}
 
 -- ---- one vertex visited: from v, whose place is told from `base` on
 pub record IsVisiting (base : ℕ) (pairs : List Pair) (v : ℕ) (order₀ : List ℕ) (filled₀ : ℕ) (s₀ : List Bool) (cursor : ℕ) (order : List ℕ) (filled : ℕ) (s : List Bool) : Type 0 where

@@ -1,8 +1,9 @@
 -- Locations of a row by the words that hold it, and the targets to which they flow.
-use Rattle.std.proofs.Common.{◌≡◌, ℕ, ◌+◌, ◌*◌, ◌/◌, ◌%◌, ◌<◌, ◌≤◌, ◌⊎◌, ◌↔◌, inl, inr, Bool, true, false, eqb, List, length, get_or, set, replicate, sym, ap, ◌∙◌, subst, arith}
-use Rattle.std.specs.Prelude.{IsTrue}
-use Rattle.std.specs.Int.{bit_at}
+use Rattle.std.proofs.Common.{◌≡◌, ℕ, ◌+◌, ◌*◌, ◌/◌, ◌%◌, ◌<◌, ◌≤◌, ◌⊎◌, ◌↔◌, inl, inr, Bool, true, false, eqb, List, length, get_or, set, replicate, refl, sym, ap, ◌∙◌, subst, arith}
+use Rattle.std.specs.Prelude.{IsTrue, IsFalse, ◌^◌}
+use Rattle.std.specs.Int.{bit_at, trailing_zeros, w64}
 use Rattle.std.proofs.lemmas.Bool.{cases_eq, cases_lt, false≢true}
+use Rattle.std.proofs.lemmas.Nat.Bits.{bit_at-trailing_zeros}
 use Rattle.bit_rows.specs.Sets.{has}
 use Rattle.bit_rows.specs.Words.{word_bit, set_of, IsClean}
 use Rattle.bit_rows.proofs.SetLemmas.{has_past}
@@ -10,7 +11,7 @@ use Rattle.bit_rows.proofs.WordLemmas.{length-set_of, has-set_of, no_bit}
 use Rattle.dep_model.specs.declared.skeleton.Pair.{Pair}
 use Rattle.dep_model.specs.declared.skeleton.Skeleton.{Skeleton}
 use Rattle.dep_model.specs.Follows.{Chain}
-use Rattle.dep_model.proofs.SetLemmas.{has_none, has_set, has_set_cases, has_set_same}
+use Rattle.rule_closure.proofs.SetLemmas.{has_none, has_set, has_set_cases, has_set_same}
 use Rattle.reaching_defs.specs.RowFlow.{row_has, Leads}
 use Rattle.reaching_defs.specs.Spans.{FlowsBy, FlowsAmong}
 
@@ -51,6 +52,25 @@ module _ (bits : ℕ) (words : List ℕ) (s : List Bool) (w : AreWordsOf bits wo
   none_in at k zero low high h =
       let place : k / 64 ≡ at = omega (arith, low, high) in
       false≢true (sym (no_bit (get_or words (k / 64) 0) (k % 64) (ap (λ i. get_or words i 0) place ∙ zero)) ∙ sym (member_is k) ∙ h)
+
+  -- and one that isn't has one
+  pub some_in : (at : ℕ) → 0 < get_or words at 0 → get_or words at 0 < 2 ^ 64 → (k : ℕ) × IsTrue (has s k)
+  some_in at more small =
+      let bit = trailing_zeros w64 (get_or words at 0) in
+      let lowest = bit_at-trailing_zeros w64 (get_or words at 0) more small in
+      (64 * at + bit, bit_is at bit lowest.0 ∙ ap (λ x. eqb x 1) lowest.1)
+
+  -- no member is in the words up to one that is 0, where none is in those before it
+  pub none_yet : (at : ℕ) → get_or words at 0 ≡ 0 → ((k : ℕ) → k < 64 * at → IsTrue (has s k) → ⊥) → (k : ℕ) → k < 64 * (at + 1) → IsTrue (has s k) → ⊥
+  none_yet at zero before k low h = elim (cases_lt k (64 * at)) [
+    | inl early ↦ before k early h
+    | inr late ↦ none_in at k zero late (omega (arith, low)) h
+  ]
+
+  -- a flag for a member in the first words is one for a member, where these are all words
+  pub flag_is : (flag : Bool) (at : ℕ) → bits ≤ 64 * at → (IsTrue flag → (k : ℕ) × IsTrue (has s k)) → (IsFalse flag → (k : ℕ) → k < 64 * at → IsTrue (has s k) → ⊥) → IsTrue flag ↔ ((k : ℕ) × IsTrue (has s k))
+  flag_is true at end some none = (some, λ m. refl)
+  flag_is false at end some none = (some, λ m. absurd (none refl m.0 (let below = member_below m.0 m.1 in omega (arith, end, below)) m.1))
 
 -- ---- the reached vertices that use a location
 -- w is one of the first `filled` of an order

@@ -35,8 +35,3 @@ pub record AreEvenRows (s : Skeleton) : Type 0 where
   pub killed_long : length s.killed.sets ≡ length s.vertices
   pub used_wide : s.used.bits ≡ s.defined.bits
   pub killed_wide : s.killed.bits ≡ s.defined.bits
-
--- both ends of a pair are below n
-pub record IsPairBelow (n : ℕ) (x : Pair) : Type 0 where
-  pub from_below : x.from < n
-  pub to_below : x.to < n

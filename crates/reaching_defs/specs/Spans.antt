@@ -1,5 +1,5 @@
 -- Vertices by their places in a stretch of numbers, and what flows between them.
-use Rattle.std.specs.Prelude.{◌≡◌, ◌≢◌, ℕ, ◌+◌, ◌-◌, ◌<◌, ◌≤◌, true, List, length, get_or, All}
+use Rattle.std.specs.Prelude.{◌≡◌, ◌≢◌, ℕ, ◌+◌, ◌-◌, ◌<◌, ◌≤◌, ◌⊎◌, true, IsTrue, List, [], length, get_or, All, Contains}
 use Rattle.reaching_defs.specs.declared.successors.Successors.{Successors}
 use Rattle.dep_model.specs.declared.skeleton.Pair.{Pair}
 use Rattle.dep_model.specs.declared.skeleton.Skeleton.{Skeleton}
@@ -12,6 +12,23 @@ pub record IsPairAmong (base n : ℕ) (x : Pair) : Type 0 where
   pub from_high : x.from < base + n
   pub to_low : base ≤ x.to
   pub to_high : x.to < base + n
+
+-- v is an end of one of the pairs
+pub record IsEnd (pairs : List Pair) (v : ℕ) : Type 0 where
+  pub pair : Pair
+  pub member : Contains pairs pair
+  pub is : (pair.from ≡ v) ⊎ (pair.to ≡ v)
+
+-- the first and the last of the n numbers from `base` on are ends of pairs
+pub record IsBetweenEnds (pairs : List Pair) (base n : ℕ) : Type 0 where
+  pub last : ℕ
+  pub from_end : IsEnd pairs base
+  pub to_end : IsEnd pairs last
+  pub size_is : base + n ≡ last + 1
+
+-- the n numbers from `base` on are no more than the pairs need
+abbrev pub IsTight : List Pair → ℕ → ℕ → Type 0
+IsTight pairs base n = ((pairs ≡ []) × (n ≡ 0)) ⊎ IsBetweenEnds pairs base n
 
 -- h - 1 is the last place below `at` of a pair from v, or h is 0 where there is none
 pub record IsLastFrom (pairs : List Pair) (v at h : ℕ) : Type 0 where
@@ -29,6 +46,10 @@ pub record IsIndexed (base n : ℕ) (pairs : List Pair) (heads nexts : List ℕ)
 pub record AreSuccessors (s : Successors) : Type 0 where
   pub inside : All (IsPairAmong s.span.base s.span.size) s.pairs.items
   pub indexed : IsIndexed s.span.base s.span.size s.pairs.items s.heads.items s.nexts.items
+
+-- v may define a location
+abbrev pub DefinesSome : Skeleton → ℕ → Type 0
+DefinesSome s v = (k : ℕ) × IsTrue (row_has s.defined v k)
 
 -- v may define location k, w may use it, and a chain leads from v to w without a kill
 pub record FlowsBy (s : Skeleton) (pairs : List Pair) (k v w : ℕ) : Type 0 where

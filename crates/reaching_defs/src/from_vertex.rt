@@ -1,12 +1,13 @@
 //! The flow edges from one vertex.
-ghost use Rattle.std.specs.Prelude.{◌≡◌, ℕ, ◌+◌, ◌*◌, ◌<◌, ◌≤◌, ◌^◌, ◌↔◌, ◌⊎◌, IsTrue, IsFalse, false, eqb, length, replicate, map, OnOk, All, Contains};
+ghost use Rattle.std.specs.Prelude.{◌≡◌, ℕ, ◌+◌, ◌*◌, ◌<◌, ◌≤◌, ◌^◌, ◌↔◌, ◌⊎◌, IsTrue, IsFalse, false, eqb, length, replicate, OnOk, Contains};
 ghost use Rattle.std.specs.Int.{bit_at};
 ghost use Rattle.bit_rows.specs.Sets.{has};
-ghost use Rattle.dep_model.specs.Links.{IsListed};
+ghost use Rattle.dep_model.specs.EdgeOrder.{AreAscendingEdges};
+ghost use Rattle.rule_closure.specs.Links.{IsListed};
 ghost use Rattle.dep_model.specs.declared.edge.Edge.{Edge};
-ghost use Rattle.reaching_defs.specs.FlowEdges.{AreAscendingEdges, IsTargeted};
+ghost use Rattle.reaching_defs.specs.FlowEdges.{IsTargeted};
 ghost use Rattle.reaching_defs.specs.RowFlow.{AreEvenRows, IsRowFlow, row_has};
-ghost use Rattle.reaching_defs.specs.Spans.{AreSuccessors, FlowsAmong};
+ghost use Rattle.reaching_defs.specs.Spans.{AreSuccessors, DefinesSome, FlowsAmong};
 
 use crate::search;
 use crate::successors::Successors;
@@ -119,6 +120,7 @@ fn find_targets(
     ensures size { length targets.new ≡ next.now.span.size }
     ensures exact { (w : ℕ) → w < next.now.span.size → IsTrue (has targets.new w)
         ↔ FlowsAmong 0 s.now.defined.bits s.now next.now.pairs.items v (next.now.span.base + w) }
+    ensures defines { IsTrue result ↔ DefinesSome s.now v }
     ensures none { IsFalse result → targets.new ≡ replicate next.now.span.size false }
 {
     targets.clear();

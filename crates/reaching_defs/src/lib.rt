@@ -2,10 +2,11 @@
 //! as the flow edges of a function (Horwitz, Reps and Binkley 1990).
 #![tactic(auto)]
 
-ghost use Rattle.std.specs.Prelude.{◌≡◌, ◌<◌, ◌^◌, ◌↔◌, IfOk, All, Contains, length};
+ghost use Rattle.std.specs.Prelude.{◌<◌, ◌^◌, ◌↔◌, IfOk, All, Contains, length};
+ghost use Rattle.dep_model.specs.EdgeOrder.{AreAscendingEdges};
+ghost use Rattle.dep_model.specs.Pairs.{IsPairBelow};
 ghost use Rattle.dep_model.specs.declared.edge.Edge.{Edge};
-ghost use Rattle.reaching_defs.specs.FlowEdges.{AreAscendingEdges};
-ghost use Rattle.reaching_defs.specs.RowFlow.{IsRowFlow, AreEvenRows, IsPairBelow};
+ghost use Rattle.reaching_defs.specs.RowFlow.{IsRowFlow, AreEvenRows};
 
 mod from_vertex;
 mod laws;
@@ -20,7 +21,7 @@ use std::alloc::{AllocError, Global};
 
 /// The flow edges between the vertices that pairs join, ascending and each once: from a vertex that
 /// may define a location to one that may use it, where a chain of the pairs leads from the one to the
-/// other and no vertex strictly between kills the location.
+/// other and no vertex strictly between kills the location. Err: no memory was left.
 pub fn edges(alloc: Global, s: &Skeleton, g: &FlowGraph) -> Result<Vec<Edge>, AllocError>
     requires rows { AreEvenRows s.now }
     requires ends { All (IsPairBelow (length s.now.vertices)) g.now.pairs }

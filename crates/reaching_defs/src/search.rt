@@ -2,7 +2,7 @@
 ghost use Rattle.std.specs.Prelude.{◌≡◌, ℕ, ◌+◌, ◌<◌, ◌≤◌, ◌^◌, ◌↔◌, ◌⊎◌, IsTrue, length, slice_index};
 ghost use Rattle.bit_rows.specs.Sets.{has};
 ghost use Rattle.dep_model.specs.Follows.{Chain};
-ghost use Rattle.dep_model.specs.Links.{IsListed};
+ghost use Rattle.rule_closure.specs.Links.{IsListed};
 ghost use Rattle.reaching_defs.specs.RowFlow.{row_has, Leads};
 ghost use Rattle.reaching_defs.specs.Spans.{AreSuccessors};
 

@@ -1,5 +1,5 @@
 //! Which pairs lead from each vertex.
-ghost use Rattle.std.specs.Prelude.{◌≡◌, ◌+◌, ◌<◌, ◌≤◌, ◌^◌, All, IfOk, length, replicate};
+ghost use Rattle.std.specs.Prelude.{◌≡◌, ◌+◌, ◌<◌, All, IfOk, length, replicate};
 ghost use Rattle.reaching_defs.specs.Spans.{IsPairAmong, IsIndexed, AreSuccessors};
 
 use crate::span::Span;

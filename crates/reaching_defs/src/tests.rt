@@ -1,6 +1,7 @@
 ghost use Rattle.std.specs.Prelude.{◌≡◌, All, OnOk, IfOk, length};
 ghost use Rattle.bit_rows.specs.Tables.{IsSized};
-ghost use Rattle.reaching_defs.specs.RowFlow.{AreEvenRows, IsPairBelow};
+ghost use Rattle.dep_model.specs.Pairs.{IsPairBelow};
+ghost use Rattle.reaching_defs.specs.RowFlow.{AreEvenRows};
 
 use super::*;
 use bit_rows::Rows;

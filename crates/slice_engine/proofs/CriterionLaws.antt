@@ -1,9 +1,10 @@
 -- The set that was marked is the criterion, and the lines that were found are those of its statements.
 use Rattle.std.proofs.Common.{◌≡◌, ℕ, zero, suc, ◌+◌, ◌<◌, ◌≤◌, ◌==◌, List, [], ◌∷◌, length, set, replicate, map, Bool, true, false, ◌&&◌, ◌||◌, ◌⊎◌, inl, inr, refl, sym, ap, ◌∙◌, subst, arith, add-one, eq-eqb}
 use Rattle.std.specs.List.{list_any}
-use Rattle.std.proofs.lemmas.Bool.{eqb-true, cases_lt}
+use Rattle.std.proofs.lemmas.Bool.{eqb-true, cases_lt, or_left, or_right, and_from, and_parts}
 use Rattle.std.proofs.Common.{get_or-set_other, get_or-set_same}
 use Rattle.bit_rows.specs.Sets.{has}
+use Rattle.bit_rows.proofs.SetLemmas.{has-empty}
 use Rattle.c_tree.specs.declared.program.Program.{Program}
 use Rattle.c_tree.specs.Numbered.{Start, Starts, program_starts}
 use Rattle.dep_model.specs.MainVertices.{vertices}
@@ -15,6 +16,7 @@ use Rattle.dep_model.specs.MainVertices.{from}
 use Rattle.dep_model.specs.declared.vertex.VertexKind.TheVariants.{Statement as AtStatement}
 use Rattle.slice_engine.proofs.CriterionLemmas.{length-marked_if, length-with_starts}
 use Rattle.dep_model.specs.VertexOrder.{in_function}
+use Rattle.dep_model.proofs.BoolLemmas.{or_none}
 
 -- each number is below n
 abbrev pub AreNumbers : ℕ → Starts → Type 0
@@ -86,18 +88,9 @@ pub kept_past : (p : Program) (bs : List Bool) (i : ℕ) → p.statements ≤ i 
 kept_past p [] i le = refl
 kept_past p (b ∷ bs) i le = kept_nowhere 0 p.statements i bs (omega (arith, le))
 
-empty_has : (n v : ℕ) → has (replicate n false) v ≡ false
-empty_has zero v = refl
-empty_has (suc n) zero = refl
-empty_has (suc n) (suc v) = empty_has n v
-
 pub empty_long : (n : ℕ) → length (replicate n false) ≡ n
 empty_long zero = refl
 empty_long (suc n) = ap suc (empty_long n)
-
-or_none : (b : Bool) → (b || false) ≡ b
-or_none true = refl
-or_none false = refl
 
 pub criterion_is : (p : Program) (line : ℕ) → AreNumbers p.statements (program_starts p) → IsCriterion p line (with_starts line (program_starts p) (replicate (p.statements + 1) false))
 criterion_is p line h =
@@ -106,44 +99,28 @@ criterion_is p line h =
     record {
       size = length-with_starts line found none ∙ empty_long (p.statements + 1) ∙ sym (length-vertices p ∙ sym (add-one p.statements));
       members = λ i. elim (cases_lt i p.statements) [
-        | inl lt ↦ kept_vertex p (with_starts line found none) i lt ∙ ap (has (with_starts line found none)) (sym (add-one i)) ∙ has-with_starts line found i p.statements none h (empty_long (p.statements + 1)) ∙ ap (λ b. starts_in line found i || b) (empty_has (p.statements + 1) (i + 1)) ∙ or_none (starts_in line found i)
+        | inl lt ↦ kept_vertex p (with_starts line found none) i lt ∙ ap (has (with_starts line found none)) (sym (add-one i)) ∙ has-with_starts line found i p.statements none h (empty_long (p.statements + 1)) ∙ ap (λ b. starts_in line found i || b) (has-empty (p.statements + 1) (i + 1)) ∙ or_none (starts_in line found i)
         | inr ge ↦ kept_past p (with_starts line found none) i ge ∙ sym (marked_past line found i p.statements h ge)
       ];
-      no_entry = entry_stays line found none ∙ empty_has (p.statements + 1) 0;
+      no_entry = entry_stays line found none ∙ has-empty (p.statements + 1) 0;
     }
 
 -- ---- whether some statement starts on a line
-
-and_parts : (a b : Bool) → (a && b) ≡ true → (a ≡ true) × (b ≡ true)
-and_parts true b h = (refl, h)
-and_parts false b h = cc
 
 or_parts : (a b : Bool) → (a || b) ≡ true → (a ≡ true) ⊎ (b ≡ true)
 or_parts true b h = inl refl
 or_parts false b h = inr h
 
-or_l : (a b : Bool) → a ≡ true → (a || b) ≡ true
-or_l true b h = refl
-or_l false b h = cc
-
-or_r : (a b : Bool) → b ≡ true → (a || b) ≡ true
-or_r true b h = refl
-or_r false b h = h
-
-and_both : (a b : Bool) → a ≡ true → b ≡ true → (a && b) ≡ true
-and_both true b h k = k
-and_both false b h k = cc
-
 pub some_start : (line : ℕ) (ss : Starts) → list_any (λ (s : Start). s.line == line) ss ≡ true → (i : ℕ) × (starts_in line ss i ≡ true)
 some_start line [] h = cc
 some_start line (s ∷ ss) h = elim (or_parts (s.line == line) (list_any (λ (s : Start). s.line == line) ss) h) [
-  | inl here ↦ (s.id, or_l _ _ (and_both (s.id == s.id) (s.line == line) (eq-eqb s.id s.id refl) here))
-  | inr later ↦ let w = some_start line ss later in (w.0, or_r _ _ w.1)
+  | inl here ↦ (s.id, or_left _ _ (and_from (s.id == s.id) (s.line == line) (eq-eqb s.id s.id refl) here))
+  | inr later ↦ let w = some_start line ss later in (w.0, or_right _ _ w.1)
 ]
 
 pub start_some : (line : ℕ) (ss : Starts) (i : ℕ) → starts_in line ss i ≡ true → list_any (λ (s : Start). s.line == line) ss ≡ true
 start_some line [] i h = cc
 start_some line (s ∷ ss) i h = elim (or_parts ((s.id == i) && (s.line == line)) (starts_in line ss i) h) [
-  | inl here ↦ or_l _ _ (and_parts (s.id == i) (s.line == line) here).1
-  | inr later ↦ or_r (s.line == line) _ (start_some line ss i later)
+  | inl here ↦ or_left _ _ (and_parts (s.id == i) (s.line == line) here).1
+  | inr later ↦ or_right (s.line == line) _ (start_some line ss i later)
 ]

@@ -1,8 +1,9 @@
 -- Marking by parts: the set of a criterion, and the tests by rank.
-use Rattle.std.proofs.Common.{◌≡◌, ℕ, suc, ◌+◌, ◌<◌, ◌==◌, List, [], ◌∷◌, ◌++◌, length, get_or, drop, Bool, true, false, refl, sym, ap, ◌∙◌, append_assoc, add-one, drop-cons}
+use Rattle.std.proofs.Common.{◌≡◌, ℕ, ◌+◌, ◌<◌, ◌==◌, List, [], ◌∷◌, ◌++◌, length, get_or, drop, Bool, true, false, refl, sym, ap, ◌∙◌, append_assoc}
 use Rattle.std.proofs.Math.ListN.{length-set}
 use Rattle.c_tree.specs.Numbered.{Starts}
-use Rattle.slice_engine.specs.Criterion.{starts_of, marked_if, with_starts, if_mark, by_rank}
+use Rattle.dep_model.proofs.NumberedFrom.{drop_item}
+use Rattle.slice_engine.specs.Criterion.{marked_if, with_starts, if_mark, by_rank}
 
 pub length-marked_if : (b : Bool) (v : ℕ) (x : List Bool) → length (marked_if b v x) ≡ length x
 length-marked_if true v x = length-set x v true
@@ -12,15 +13,6 @@ pub length-with_starts : (line : ℕ) (xs : Starts) (x : List Bool) → length (
 length-with_starts line [] x = refl
 length-with_starts line (s ∷ xs) x =
     length-with_starts line xs (marked_if (s.line == line) (s.id + 1) x) ∙ length-marked_if (s.line == line) (s.id + 1) x
-
--- the items from a place on are the item there and those behind it
-drop_item : {X : Type 0} (xs : List X) (i : ℕ) (x : X) → i < length xs → get_or xs i x ≡ x → drop i xs ≡ x ∷ drop (i + 1) xs
-drop_item xs i x lt is = rw (add-one) (drop-cons xs i x lt ∙ ap (λ y. y ∷ drop (suc i) xs) is)
-
--- one more statement's start was looked at
-pub starts_step : (line : ℕ) (starts : List (ℕ × ℕ)) (i : ℕ) (s : ℕ × ℕ) (whole old new : List Bool) → i < length starts → get_or starts i s ≡ s → with_starts line (starts_of (drop i starts)) old ≡ whole → new ≡ marked_if (s.1 == line) (s.0 + 1) old → with_starts line (starts_of (drop (i + 1) starts)) new ≡ whole
-starts_step line starts i s whole old new lt is inv now =
-    ap (with_starts line (starts_of (drop (i + 1) starts))) now ∙ sym (ap (λ ss. with_starts line (starts_of ss) old) (drop_item starts i s lt is)) ∙ inv
 
 if_mark_append : (m b : Bool) (bs cs : List Bool) → bs ++ if_mark m b cs ≡ (bs ++ if_mark m b []) ++ cs
 if_mark_append true b bs cs = sym (append_assoc bs (b ∷ []) cs)

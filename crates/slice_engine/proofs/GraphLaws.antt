@@ -1,9 +1,8 @@
 -- The edges that the engine finds are those of the system graph.
-use Rattle.std.proofs.Common.{◌≡◌, ◌↔◌, ℕ, suc, ◌+◌, ◌<◌, ◌^◌, List, [], ◌∷◌, ◌++◌, length, get_or, Some, ◌⊎◌, inl, inr, refl, sym, ap, ◌∙◌, subst, arith, add-one}
+use Rattle.std.proofs.Common.{◌≡◌, ◌↔◌, ◌+◌, List, ◌++◌, length, get_or, Some, ◌⊎◌, inl, inr, sym, ap, ◌∙◌, subst, add-one}
 use Rattle.std.specs.Prelude.{Contains, All}
 use Rattle.std.proofs.lemmas.List.Elements.{Contains-append_left, Contains-append_right, Contains-append_cases, Contains-get_or}
 use Rattle.c_tree.specs.declared.program.Program.{Program}
-use Rattle.c_tree.specs.declared.program.Var.{Var}
 use Rattle.dep_model.specs.declared.edge.Edge.{Edge}
 use Rattle.dep_model.specs.declared.edge.Label.TheVariants.{Control, Flow}
 use Rattle.dep_model.specs.declared.skeleton.FlowGraph.{FlowGraph}
@@ -12,31 +11,23 @@ use Rattle.dep_model.specs.declared.skeleton.Skeleton.{Skeleton}
 use Rattle.dep_model.specs.declared.vertex.Vertex.{Vertex}
 use Rattle.dep_model.specs.FunctionVertices.{FollowsIn, IsControlIn, nested, formal, actual}
 use Rattle.dep_model.specs.MainEdges.{IsMainEdge}
-use Rattle.dep_model.specs.MainLocations.{whole_variables, main_result, main_locations}
 use Rattle.dep_model.specs.NumberedMains.{IsNumberedMain}
 use Rattle.dep_model.specs.Skeletons.{IsSkeleton}
 use Rattle.dep_model.specs.SystemGraph.{Analysis, IsAnalysis, vertices_of, IsFlowIn}
 use Rattle.dep_model.specs.Words.{IsEdgeWithin}
 use Rattle.dep_model.proofs.NumberedEdges.{numbered_vertices, numbered_edges}
-use Rattle.dep_model.proofs.NumberedLocations.{numbered_locations}
 use Rattle.dep_model.proofs.NumberedMain.{main_analysis, is_main_analysis}
 use Rattle.main_skeleton.proofs.Listed.{defined_listed}
-use Rattle.reaching_defs.specs.RowFlow.{IsRowFlow, AreEvenRows, IsPairBelow}
+use Rattle.reaching_defs.specs.RowFlow.{IsRowFlow, AreEvenRows}
 use Rattle.reaching_defs.proofs.RowLaws.{row_flow_is_flow}
 use Rattle.slice_engine.specs.Engine.{HasEdges}
 use Rattle.slice_engine.proofs.LowNumbers.{follows_in_low, control_low, flow_low}
 use Rattle.slice_engine.proofs.Vertices.{length-vertices}
+use Rattle.dep_model.specs.Pairs.{IsPairBelow}
 
 -- a fact of each member holds of all
 all_members : {A : Type 0} (P : A → Type 0) (xs : List A) → ((x : A) → Contains xs x → P x) → All P xs
 all_members P xs h = λ i d lt. h (get_or xs i d) (Contains-get_or xs i d lt)
-
-whole_long : (x : ℕ) (vs : List Var) → length (whole_variables x vs ++ main_result ∷ []) ≡ length vs + 1
-whole_long x [] = refl
-whole_long x (v ∷ vs) = let h = whole_long (suc x) vs in omega (arith, h)
-
-main_long : (p : Program) → length (main_locations p) ≡ length p.vars + 2
-main_long p = let h = whole_long 0 p.vars in omega (arith, h)
 
 module _ (p : Program) (s : Skeleton) (h : IsNumberedMain p) (is : (a : Analysis) → IsAnalysis p a → IsSkeleton p a s) where
   analysed : IsAnalysis p main_analysis
@@ -59,12 +50,6 @@ module _ (p : Program) (s : Skeleton) (h : IsNumberedMain p) (is : (a : Analysis
     used_wide = skeleton.used_are.wide ∙ sym skeleton.defined_are.wide;
     killed_wide = skeleton.killed_are.wide ∙ sym skeleton.defined_are.wide;
   }
-
-  pub few_locations : length p.vars + 2 < 2 ^ 32 → s.defined.bits < 2 ^ 32
-  few_locations few =
-      let wide = skeleton.defined_are.wide ∙ ap length (numbered_locations p h) in
-      let long = main_long p in
-      omega (arith, few, wide, long)
 
   module _ (order : FlowGraph) (follows : (x : Pair) → Contains order.pairs x ↔ FollowsIn p s.vertices 0 x.from (Some x.to)) where
     pub pairs_below : All (IsPairBelow (length s.vertices)) order.pairs

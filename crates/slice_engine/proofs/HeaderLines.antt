@@ -1,5 +1,5 @@
--- The lines in a header: each is that of a wanted rank.
-use Rattle.std.proofs.Common.{◌≡◌, ◌↔◌, ℕ, zero, suc, ◌+◌, ◌<◌, List, [], ◌∷◌, ◌++◌, length, get_or, slice_get, drop, Bool, true, false, Some, inl, inr, refl, sym, ap, ◌∙◌, subst, append_assoc, add-one, drop-cons}
+-- The lines in a header: each is that of a rank of the criterion.
+use Rattle.std.proofs.Common.{◌≡◌, ◌↔◌, ℕ, zero, suc, ◌+◌, ◌<◌, List, [], ◌∷◌, ◌++◌, length, get_or, slice_get, drop, Bool, true, false, Some, inl, inr, refl, sym, ap, ◌∙◌, subst, append_assoc}
 use Rattle.std.specs.Prelude.{Contains, AllPairs, nat_eq}
 use Rattle.std.specs.List.{dedup}
 use Rattle.std.specs.List.Sorted.{IsSorted, IsPermutation}
@@ -7,25 +7,26 @@ use Rattle.std.specs.Ordering.{nat_cmp}
 use Rattle.std.proofs.lemmas.List.Kept.{AllPairs-from_increasing, Contains-dedup_nat, Contains-from_dedup}
 use Rattle.std.proofs.lemmas.List.Sorted.{Contains-permutation, IsPermutation-sym}
 use Rattle.std.proofs.lemmas.Map.Keys.{IsStrictlyIncreasing-dedup}
-use Rattle.dep_model.proofs.ListLemmas.{contains_none, contains_head, contains_cons, contains_cases}
+use Rattle.rule_closure.proofs.ListLemmas.{contains_none, contains_head, contains_cons, contains_cases}
+use Rattle.dep_model.proofs.NumberedFrom.{drop_item}
 use Rattle.slice_engine.specs.Criterion.{line_if, shown_lines}
 
--- a wanted rank and its line
-pub record IsShown (wanted : List Bool) (lines : List ℕ) (k : ℕ) : Type 0 where
+-- a rank of the criterion and its line
+pub record IsShown (in_criterion : List Bool) (lines : List ℕ) (k : ℕ) : Type 0 where
   pub rank : ℕ
-  pub is_wanted : get_or wanted rank false ≡ true
+  pub is_shown : get_or in_criterion rank false ≡ true
   pub line : ℕ
   pub line_is : slice_get lines rank ≡ Some line
   pub behind : k ≡ suc line
 
 shown_later : (b : Bool) (bs : List Bool) (l : ℕ) (ls : List ℕ) (k : ℕ) → IsShown bs ls k → IsShown (b ∷ bs) (l ∷ ls) k
-shown_later b bs l ls k s = record { rank = suc s.rank; is_wanted = s.is_wanted; line = s.line; line_is = s.line_is; behind = s.behind }
+shown_later b bs l ls k s = record { rank = suc s.rank; is_shown = s.is_shown; line = s.line; line_is = s.line_is; behind = s.behind }
 
-pub shown_at : (wanted : List Bool) (lines : List ℕ) (k : ℕ) → Contains (shown_lines wanted lines) k → IsShown wanted lines k
+pub shown_at : (in_criterion : List Bool) (lines : List ℕ) (k : ℕ) → Contains (shown_lines in_criterion lines) k → IsShown in_criterion lines k
 shown_at [] lines k h = absurd (contains_none k h)
 shown_at (b ∷ bs) [] k h = absurd (contains_none k h)
 shown_at (true ∷ bs) (l ∷ ls) k h = elim (contains_cases (suc l) (shown_lines bs ls) k h) [
-  | inl e ↦ record { rank = 0; is_wanted = refl; line = l; line_is = refl; behind = sym e }
+  | inl e ↦ record { rank = 0; is_shown = refl; line = l; line_is = refl; behind = sym e }
   | inr later ↦ shown_later true bs l ls k (shown_at bs ls k later)
 ]
 shown_at (false ∷ bs) (l ∷ ls) k h = shown_later false bs l ls k (shown_at bs ls k h)
@@ -34,7 +35,7 @@ contains_line : (b : Bool) (n : ℕ) (ls : List ℕ) (k : ℕ) → Contains ls k
 contains_line true n ls k h = contains_cons n ls k h
 contains_line false n ls k h = h
 
-pub at_shown : (wanted : List Bool) (lines : List ℕ) (r n : ℕ) → get_or wanted r false ≡ true → slice_get lines r ≡ Some n → Contains (shown_lines wanted lines) (suc n)
+pub at_shown : (in_criterion : List Bool) (lines : List ℕ) (r n : ℕ) → get_or in_criterion r false ≡ true → slice_get lines r ≡ Some n → Contains (shown_lines in_criterion lines) (suc n)
 at_shown [] lines r n w e = cc
 at_shown (b ∷ bs) [] r n w e = cc
 at_shown (true ∷ bs) (l ∷ ls) zero n w e = let same : l ≡ n = some_same e in subst (λ m. Contains (suc l ∷ shown_lines bs ls) (suc m)) same (contains_head (suc l) (shown_lines bs ls))
@@ -46,16 +47,13 @@ at_shown (b ∷ bs) (l ∷ ls) (suc r) n w e = contains_line b (suc l) (shown_li
 
 -- ---- rank by rank
 
-drop_item : {X : Type 0} (xs : List X) (i : ℕ) (x : X) → i < length xs → get_or xs i x ≡ x → drop i xs ≡ x ∷ drop (i + 1) xs
-drop_item xs i x lt is = rw (add-one) (drop-cons xs i x lt ∙ ap (λ y. y ∷ drop (suc i) xs) is)
-
 line_append : (b : Bool) (n : ℕ) (ks ls : List ℕ) → ks ++ line_if b n ls ≡ (ks ++ line_if b n []) ++ ls
 line_append true n ks ls = sym (append_assoc ks (n ∷ []) ls)
 line_append false n ks ls = sym (append_assoc ks [] ls)
 
-pub shown_step : (wanted : List Bool) (lines : List ℕ) (i : ℕ) (b : Bool) (l : ℕ) (whole old new : List ℕ) → i < length wanted → i < length lines → get_or wanted i b ≡ b → get_or lines i l ≡ l → old ++ shown_lines (drop i wanted) (drop i lines) ≡ whole → new ≡ old ++ line_if b (suc l) [] → new ++ shown_lines (drop (i + 1) wanted) (drop (i + 1) lines) ≡ whole
-shown_step wanted lines i b l whole old new lt low is at inv now =
-    ap (λ n. n ++ shown_lines (drop (i + 1) wanted) (drop (i + 1) lines)) now ∙ sym (line_append b (suc l) old (shown_lines (drop (i + 1) wanted) (drop (i + 1) lines))) ∙ ap (λ n. old ++ n) (sym (ap (λ bs. shown_lines bs (drop i lines)) (drop_item wanted i b lt is) ∙ ap (λ ls. shown_lines (b ∷ drop (i + 1) wanted) ls) (drop_item lines i l low at))) ∙ inv
+pub shown_step : (in_criterion : List Bool) (lines : List ℕ) (i : ℕ) (b : Bool) (l : ℕ) (whole old new : List ℕ) → i < length in_criterion → i < length lines → get_or in_criterion i b ≡ b → get_or lines i l ≡ l → old ++ shown_lines (drop i in_criterion) (drop i lines) ≡ whole → new ≡ old ++ line_if b (suc l) [] → new ++ shown_lines (drop (i + 1) in_criterion) (drop (i + 1) lines) ≡ whole
+shown_step in_criterion lines i b l whole old new lt low is at inv now =
+    ap (λ n. n ++ shown_lines (drop (i + 1) in_criterion) (drop (i + 1) lines)) now ∙ sym (line_append b (suc l) old (shown_lines (drop (i + 1) in_criterion) (drop (i + 1) lines))) ∙ ap (λ n. old ++ n) (sym (ap (λ bs. shown_lines bs (drop i lines)) (drop_item in_criterion i b lt is) ∙ ap (λ ls. shown_lines (b ∷ drop (i + 1) in_criterion) ls) (drop_item lines i l low at))) ∙ inv
 
 -- ---- sorted, each once
 

@@ -14,7 +14,7 @@ use Rattle.dep_model.specs.Follows.{enters, InTurn, VerticesAt, start, Follows, 
 use Rattle.dep_model.specs.FunctionVertices.{numbers, code_in, vertices_at, heads, tails, FollowsIn, controller_vertices, IsControlIn, nested, formal, actual, is_entry, is_formal_in}
 use Rattle.dep_model.specs.SystemGraph.{IsFlowIn}
 use Rattle.dep_model.specs.Words.{IsEdgeWithin}
-use Rattle.dep_model.proofs.ListLemmas.{contains_head, contains_cons}
+use Rattle.rule_closure.proofs.ListLemmas.{contains_head, contains_cons}
 use Rattle.dep_model.proofs.VertexNumbers.{numbers_pass}
 
 -- a number that is there is below n

@@ -11,8 +11,8 @@ use Rattle.dep_model.specs.declared.edge.Edge.{Edge}
 use Rattle.dep_model.proofs.OneAnalysis.{same_edges}
 use Rattle.dep_model.specs.Words.{IsPath, ReachesAny}
 use Rattle.dep_model.specs.Completion.{IsClosed, IsCompletion, NamesNone}
-use Rattle.dep_model.proofs.ListLemmas.{contains_none, contains_head, contains_cons, contains_cases}
-use Rattle.dep_model.proofs.SetLemmas.{has_in_range, same_members}
+use Rattle.rule_closure.proofs.ListLemmas.{contains_none, contains_head, contains_cons, contains_cases}
+use Rattle.rule_closure.proofs.SetLemmas.{has_in_range, same_members}
 use Rattle.dep_model.proofs.CompletionLemmas.{completion_unique}
 use Rattle.slice_engine.specs.Slice.{IsCriterion, IsKept, sliced, AreLines, header, IsSlice}
 use Rattle.slice_engine.proofs.Vertices.{length-vertices, kept_vertex}

@@ -20,7 +20,7 @@ use Rattle.c_print_laws.proofs.ReadAgain.{commented_is_read_again}
 use Rattle.c_print_laws.proofs.StatementStarts.{statements_start}
 use Rattle.own_words.proofs.Standing.{has_own_words}
 use Rattle.dep_model.specs.NumberedMains.{IsNumberedMain}
-use Rattle.dep_model.proofs.ListLemmas.{contains_head, contains_cons}
+use Rattle.rule_closure.proofs.ListLemmas.{contains_head, contains_cons}
 use Rattle.dep_model.specs.declared.edge.Edge.{Edge}
 use Rattle.projection.specs.Kept.{rank}
 use Rattle.projection.specs.Projection.{projection}
@@ -52,8 +52,8 @@ marks_keep p x marks long each i = elim (cases_lt i p.statements) [
   | inr ge ↦ get_or_past marks i false (omega (arith, long, ge)) ∙ sym (kept_past p x i ge)
 ]
 
-pub are_marks : (p : Program) (edges : List Edge) (starts : List (ℕ × ℕ)) (line : ℕ) (criterion kept wanted marks : List Bool) → IsPrepared p edges starts → criterion ≡ with_starts line (starts_of starts) (replicate (p.statements + 1) false) → KeepsFrom edges criterion kept → length wanted ≡ p.statements → ((k : ℕ) → k < p.statements → get_or wanted k false ≡ has criterion (k + 1)) → length marks ≡ p.statements → ((k : ℕ) → k < p.statements → get_or marks k false ≡ has kept (k + 1)) → AreMarks p line wanted marks
-are_marks p edges starts line criterion kept wanted marks g made keeps_from wanted_long wanted_are marks_long marks_are =
+pub are_marks : (p : Program) (edges : List Edge) (starts : List (ℕ × ℕ)) (line : ℕ) (criterion kept in_criterion marks : List Bool) → IsPrepared p edges starts → criterion ≡ with_starts line (starts_of starts) (replicate (p.statements + 1) false) → KeepsFrom edges criterion kept → length in_criterion ≡ p.statements → ((k : ℕ) → k < p.statements → get_or in_criterion k false ≡ has criterion (k + 1)) → length marks ≡ p.statements → ((k : ℕ) → k < p.statements → get_or marks k false ≡ has kept (k + 1)) → AreMarks p line in_criterion marks
+are_marks p edges starts line criterion kept in_criterion marks g made keeps_from in_criterion_long in_criterion_are marks_long marks_are =
     let same : criterion ≡ with_starts line (program_starts p) (replicate (p.statements + 1) false) = made ∙ ap (λ ss. with_starts line ss (replicate (p.statements + 1) false)) g.starts_are in
     let c : IsCriterion p line criterion = subst (IsCriterion p line) (sym same) (criterion_is p line (numbers_are p g.numbered)) in
     record {
@@ -69,9 +69,9 @@ are_marks p edges starts line criterion kept wanted marks g made keeps_from want
         is_reached = keeps_from.is_reached;
         completes = keeps_from.completes;
       };
-      wanted_long = wanted_long;
+      in_criterion_long = in_criterion_long;
       marks_long = marks_long;
-      wanted_are = λ i. marks_keep p criterion wanted wanted_long wanted_are i ∙ c.members i;
+      in_criterion_are = λ i. marks_keep p criterion in_criterion in_criterion_long in_criterion_are i ∙ c.members i;
       marks_are = marks_keep p kept marks marks_long marks_are;
     }
 
@@ -80,22 +80,22 @@ criterion_long line v starts x e = ap length e ∙ length-with_starts line (star
 
 -- ---- the program of the slice
 
-module _ (p : Program) (line : ℕ) (wanted marks : List Bool) (m : AreMarks p line wanted marks) where
+module _ (p : Program) (line : ℕ) (in_criterion marks : List Bool) (m : AreMarks p line in_criterion marks) where
   keeps_marked : keeps p m.kept ≡ at_mark marks
   keeps_marked = fun_ext (λ i. sym (m.marks_are i))
 
-  long : length wanted ≡ length marks
-  long = m.wanted_long ∙ sym m.marks_long
+  long : length in_criterion ≡ length marks
+  long = m.in_criterion_long ∙ sym m.marks_long
 
-  pub is_sliced : (q : Program) (ranks : List Bool) → q ≡ projection p (at_mark marks) → ranks ≡ by_rank marks wanted → IsSlicedAt p line q ranks
+  pub is_sliced : (q : Program) (ranks : List Bool) → q ≡ projection p (at_mark marks) → ranks ≡ by_rank marks in_criterion → IsSlicedAt p line q ranks
   is_sliced q ranks is ranks_are = record {
     kept = m.kept;
     is_kept = m.is_kept;
     program_is = is ∙ ap (projection p) (sym keeps_marked);
-    wanted_long = ap length ranks_are ∙ length-by_rank marks wanted long ∙ ap (rank (at_mark marks)) m.marks_long ∙ sym (ap (λ (x : Program). x.statements) is);
-    wanted_are = λ i k. ap (λ (f : ℕ → Bool). at_mark ranks (rank f i)) keeps_marked ∙ ap (λ xs. at_mark xs (rank (at_mark marks) i)) ranks_are ∙ at_rank marks wanted i long (m.marks_are i ∙ k) ∙ m.wanted_are i;
-    wanted_only = λ r h.
-        let w = of_rank marks wanted r (ap (λ xs. at_mark xs r) (sym ranks_are) ∙ h) in
+    in_criterion_long = ap length ranks_are ∙ length-by_rank marks in_criterion long ∙ ap (rank (at_mark marks)) m.marks_long ∙ sym (ap (λ (x : Program). x.statements) is);
+    in_criterion_are = λ i k. ap (λ (f : ℕ → Bool). at_mark ranks (rank f i)) keeps_marked ∙ ap (λ xs. at_mark xs (rank (at_mark marks) i)) ranks_are ∙ at_rank marks in_criterion i long (m.marks_are i ∙ k) ∙ m.in_criterion_are i;
+    in_criterion_only = λ r h.
+        let w = of_rank marks in_criterion r (ap (λ xs. at_mark xs r) (sym ranks_are) ∙ h) in
         (w.0, sym (m.marks_are w.0) ∙ w.1, ap (λ f. rank f w.0) keeps_marked ∙ w.2);
   }
 
@@ -113,10 +113,7 @@ short_each : (ks : List ℕ) → ((k : ℕ) → Contains ks k → k < 2 ^ 64) �
 short_each [] h = tt
 short_each (k ∷ ks) h = (h k (contains_head k ks), short_each ks (λ x c. h x (contains_cons k ks x c)))
 
-module _ (p : Program) (line : ℕ) (q : Program) (wanted : List Bool) (well : IsWellFormed p) (numbered : IsNumberedMain p) (s : IsSlicedAt p line q wanted) where
-  there : Program
-  there = sliced p s.kept
-
+module _ (p : Program) (line : ℕ) (q : Program) (in_criterion : List Bool) (well : IsWellFormed p) (numbered : IsNumberedMain p) (s : IsSlicedAt p line q in_criterion) where
   abbrev at : ℕ → ℕ
   at i = rank (keeps p s.kept) i
 
@@ -126,17 +123,17 @@ module _ (p : Program) (line : ℕ) (q : Program) (wanted : List Bool) (well : I
   well_q : IsWellFormed q
   well_q = subst IsWellFormed (sym s.program_is) well_there
 
-  -- the wanted ranks and the lines of their statements
+  -- the ranks of the criterion and the lines of their statements
   abbrev Shown : List ℕ → List ℕ → Type 0
-  Shown lines shown = (k : ℕ) → Contains shown k ↔ Contains (shown_lines wanted lines) k
+  Shown lines shown = (k : ℕ) → Contains shown k ↔ Contains (shown_lines in_criterion lines) k
 
   abbrev AreAll : List ℕ → Type 0
   AreAll lines = (id : ℕ) → id < q.statements → slice_get lines id ≡ Some (line_of q id)
 
-  rank_low : (r : ℕ) → get_or wanted r false ≡ true → r < q.statements
+  rank_low : (r : ℕ) → get_or in_criterion r false ≡ true → r < q.statements
   rank_low r h = elim (cases_lt r q.statements) [
     | inl lt ↦ lt
-    | inr ge ↦ let none : get_or wanted r false ≡ false = get_or_past wanted r false (omega (arith, s.wanted_long, ge)) in cc
+    | inr ge ↦ let none : get_or in_criterion r false ≡ false = get_or_past in_criterion r false (omega (arith, s.in_criterion_long, ge)) in cc
   ]
 
   some_line : (lines : List ℕ) → AreAll lines → (r n : ℕ) → r < q.statements → slice_get lines r ≡ Some n → n ≡ line_of q r
@@ -156,18 +153,18 @@ module _ (p : Program) (line : ℕ) (q : Program) (wanted : List Bool) (well : I
 
   lines_found : (lines shown : List ℕ) → AreAll lines → Shown lines shown → (k : ℕ) → Contains shown k → (i : ℕ) × (starts_on p line i ≡ true) × IsLineOf p s.kept i k
   lines_found lines shown all exact k h =
-      let f = shown_at wanted lines k ((exact k).0 h) in
-      let w = s.wanted_only f.rank f.is_wanted in
-      let lt = rank_low f.rank f.is_wanted in
-      let on : starts_on p line w.0 ≡ true = sym (s.wanted_are w.0 w.1) ∙ ap (λ r. get_or wanted r false) w.2 ∙ f.is_wanted in
+      let f = shown_at in_criterion lines k ((exact k).0 h) in
+      let w = s.in_criterion_only f.rank f.is_shown in
+      let lt = rank_low f.rank f.is_shown in
+      let on : starts_on p line w.0 ≡ true = sym (s.in_criterion_are w.0 w.1) ∙ ap (λ r. get_or in_criterion r false) w.2 ∙ f.is_shown in
       let is : k ≡ suc (line_of (sliced p s.kept) (at w.0)) = f.behind ∙ ap suc (some_line lines all f.rank f.line lt f.line_is ∙ line_there w.0 f.rank w.2) in
       (w.0, on, line_is w.0 k (subst (λ r. r < q.statements) (sym w.2) lt) is)
 
   found_lines : (lines shown : List ℕ) → AreAll lines → Shown lines shown → (k i : ℕ) → starts_on p line i ≡ true → IsLineOf p s.kept i k → Contains shown k
   found_lines lines shown all exact k i on l =
-      let want : get_or wanted (at i) false ≡ true = s.wanted_are i (criterion_kept p line s.kept s.is_kept i on) ∙ on in
+      let want : get_or in_criterion (at i) false ≡ true = s.in_criterion_are i (criterion_kept p line s.kept s.is_kept i on) ∙ on in
       let lt = rank_low (at i) want in
-      (exact k).1 (subst (Contains (shown_lines wanted lines)) (sym (l.behind_header ∙ ap suc (sym (line_there i (at i) refl)))) (at_shown wanted lines (at i) (line_of q (at i)) want (all (at i) lt)))
+      (exact k).1 (subst (Contains (shown_lines in_criterion lines)) (sym (l.behind_header ∙ ap suc (sym (line_there i (at i) refl)))) (at_shown in_criterion lines (at i) (line_of q (at i)) want (all (at i) lt)))
 
   pub is_slice : (lines shown : List ℕ) (text : Bytes) → AreAll lines → AllPairs (λ a b. a < b) shown → Shown lines shown → text ≡ header line shown ++ layout q → IsSlice p line text
   is_slice lines shown text all ascending exact is = record {
@@ -183,8 +180,8 @@ module _ (p : Program) (line : ℕ) (q : Program) (wanted : List Bool) (well : I
 
   shown_short : (lines shown : List ℕ) → AreAll lines → Shown lines shown → length (layout q) ≤ 2 ^ 32 → AreShort shown
   shown_short lines shown all exact fits = short_each shown (λ k h.
-      let f = shown_at wanted lines k ((exact k).0 h) in
-      let lt = rank_low f.rank f.is_wanted in
+      let f = shown_at in_criterion lines k ((exact k).0 h) in
+      let lt = rank_low f.rank f.is_shown in
       let is = f.behind in
       let low = line_fits q f.rank (line_of q f.rank) (statements_start q well_q f.rank lt) in
       let same = some_line lines all f.rank f.line lt f.line_is in

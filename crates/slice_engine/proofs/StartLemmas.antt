@@ -1,28 +1,21 @@
 -- The starts of statements, list by list.
-use Rattle.std.proofs.Common.{◌≡◌, ◌⊎◌, inl, inr, ℕ, ◌+◌, ◌≤◌, ◌<◌, ◌==◌, Less, Equal, Greater, suc, nat_lt, cond, Bool, true, false, Option, List, [], ◌∷◌, ◌++◌, length, take, get_or, All, refl, sym, ap, subst, ◌∙◌, arith}
+use Rattle.std.proofs.Common.{◌≡◌, ◌⊎◌, inl, inr, ℕ, ◌+◌, ◌≤◌, ◌<◌, ◌==◌, Less, Equal, Greater, suc, nat_lt, cond, Bool, true, false, Option, List, ◌++◌, length, take, get_or, All, refl, sym, ap, subst, ◌∙◌, arith}
 use Rattle.std.specs.List.{list_any}
 use Rattle.std.specs.Ordering.{nat_cmp, ord_max, is_lt}
 use Rattle.std.proofs.lemmas.Bool.{eq-eqb}
 use Rattle.std.proofs.lemmas.Bool.Decides.{leb_tells}
 use Rattle.std.proofs.lemmas.List.Folds.{list_any_at}
-use Rattle.std.proofs.lemmas.List.Elements.{All-nil, All-cons, All-head, All-tail, All-more}
+use Rattle.std.proofs.lemmas.List.Elements.{All-nil, All-more, All-weaker}
 use Rattle.std.specs.Option.{option_to_list}
-use Rattle.std.proofs.lemmas.List.{map-append, take_all}
+use Rattle.std.proofs.lemmas.List.{take_all}
 use Rattle.c_tree.specs.declared.expr.Expr.{Expr}
 use Rattle.c_tree.specs.declared.program.Function.{Function}
 use Rattle.c_tree.specs.declared.statement.Arm.{Arm, out-Arm}
 use Rattle.c_tree.specs.declared.statement.Statement.{Statement}
 use Rattle.c_tree.specs.declared.statement.Statement.TheVariants as s
-use Rattle.c_tree.specs.Numbered.{Start, Starts, start, own_start, starts, body_starts, function_starts, inner, arms_inner}
+use Rattle.c_tree.specs.Numbered.{Starts, own_start, starts, body_starts, function_starts, inner, arms_inner}
 use Rattle.c_tree.proofs.LayerLemmas.{inner-If, inner-For, body_starts-append, starts-inner}
 use Rattle.dep_model.proofs.Grown.{IsEach, grown_two, grown_three}
-use Rattle.slice_engine.specs.Criterion.{starts_of}
-
-abbrev pub pair_start : ℕ × ℕ → Start
-pair_start s = start s.0 s.1
-
-pub starts_pushed : (xs : List (ℕ × ℕ)) (s : ℕ × ℕ) → starts_of (xs ++ s ∷ []) ≡ starts_of xs ++ start s.0 s.1 ∷ []
-starts_pushed xs s = map-append pair_start xs (s ∷ [])
 
 pub each_statement : IsEach starts body_starts
 each_statement = record { at_nothing = refl; at_more = λ x xs. refl }
@@ -45,15 +38,10 @@ pub for_grown : (id l : ℕ) (i : Option Statement) (e : Expr) (step : Option St
 for_grown id l i e step b one o p q r is f g h =
     grown_three o p q r _ _ _ _ f g h (ap (λ x. body_starts (inner x)) is ∙ ap body_starts (inner-For id l i e step b) ∙ (body_starts-append (option_to_list i) (option_to_list step ++ b) ∙ ap (λ found. body_starts (option_to_list i) ++ found) (body_starts-append (option_to_list step) b)))
 
--- what holds of each element still holds of it in another sense
-each_of : {X : Type 0} (P Q : X → Type 0) → ((x : X) → P x → Q x) → (xs : List X) → All P xs → All Q xs
-each_of P Q f [] all = All-nil Q
-each_of P Q f (x ∷ xs) all = All-cons Q x xs (f x (All-head P x xs all)) (each_of P Q f xs (All-tail P x xs all))
-
 -- one more start, and a line that is as late as it and as those before
 latest_more : (starts : List (ℕ × ℕ)) (i last new : ℕ) (none : ℕ × ℕ) → i < length starts → last ≤ new → (get_or starts i none).1 ≤ new → All (λ (s : ℕ × ℕ). s.1 ≤ last) (take i starts) → All (λ (s : ℕ × ℕ). s.1 ≤ new) (take (i + 1) starts)
 latest_more starts i last new none lt after here before =
-    All-more (λ (s : ℕ × ℕ). s.1 ≤ new) starts i none lt (each_of (λ (s : ℕ × ℕ). s.1 ≤ last) (λ (s : ℕ × ℕ). s.1 ≤ new) (λ s le. omega (arith, after, le)) (take i starts) before) here
+    All-more (λ (s : ℕ × ℕ). s.1 ≤ new) starts i none lt (All-weaker (λ (s : ℕ × ℕ). s.1 ≤ last) (λ (s : ℕ × ℕ). s.1 ≤ new) (λ s le. omega (arith, after, le)) (take i starts) before) here
 
 -- some start has this line
 abbrev pub IsSomeLine : List (ℕ × ℕ) → ℕ → Type 0

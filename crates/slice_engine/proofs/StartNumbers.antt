@@ -8,7 +8,8 @@ use Rattle.c_tree.specs.declared.program.Program.{Program}
 use Rattle.c_tree.specs.declared.statement.Statement.{Statement, ind-Statement, roll-Statement, map-Statement, fold-roll-Statement}
 use Rattle.c_tree.specs.declared.statement.Statement.TheOpen.{Statement-F, Arm-F}
 use Rattle.c_tree.specs.declared.statement.Arm.{Arm, roll-Arm, map-Arm, fold-Arm, fold-roll-Arm}
-use Rattle.c_tree.specs.Numbered.{Start, Starts, all, starts_step, arm_starts, starts, starts_of_arm, body_starts, function_starts, program_starts}
+use Rattle.c_tree.specs.Numbered.{Start, Starts, all, starts_step, arm_starts, starts, body_starts, function_starts, program_starts}
+use Rattle.c_tree.proofs.NumberedLemmas.{starts_of_arm}
 use Rattle.dep_model.specs.Doings.{Doing, joined, doing_step, doing_arm, doings, body_doings, doings_of}
 use Rattle.dep_model.specs.MainVertices.{from}
 use Rattle.dep_model.specs.NumberedMains.{IsNumberedMain, doing_number}

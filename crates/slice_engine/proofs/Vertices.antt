@@ -1,13 +1,12 @@
 -- The numbers of statements as vertices.
-use Rattle.std.proofs.Common.{◌≡◌, ℤ, ℕ, zero, suc, ◌+◌, ◌<◌, ◌≤◌, List, [], ◌∷◌, length, map, get_or, slice_get, Option, Some, None, Bool, true, false, ◌&&◌, inl, inr, refl, sym, ap, ◌∙◌, subst, eq-eqb, IsTrue, arith}
-use Rattle.std.proofs.lemmas.Option.{slice_get-map}
-use Rattle.std.specs.Option.{option_map}
+use Rattle.std.proofs.Common.{◌≡◌, ℕ, zero, suc, ◌+◌, ◌<◌, List, [], ◌∷◌, length, map, get_or, Bool, true, false, ◌&&◌, inl, inr, refl, ap, ◌∙◌, subst, eq-eqb, IsTrue, arith}
 use Rattle.bit_rows.specs.Sets.{has}
 use Rattle.c_tree.specs.declared.program.Program.{Program}
 use Rattle.dep_model.specs.declared.vertex.Vertex.{Vertex}
 use Rattle.dep_model.specs.declared.vertex.VertexKind.TheVariants.{Statement as AtStatement}
 use Rattle.dep_model.specs.MainVertices.{from, vertices}
-use Rattle.slice_engine.specs.KeptStatements.{is_of, is_kept}
+use Rattle.dep_model.specs.FunctionVertices.{is_own}
+use Rattle.slice_engine.specs.KeptStatements.{is_kept}
 use Rattle.std.proofs.lemmas.Bool.{or_left, or_right, or_cases, and_from, and_parts, ne_eqb}
 use Rattle.projection_meaning.proofs.Bools.{or_false}
 use Rattle.dep_model.specs.VertexOrder.{in_function}
@@ -16,17 +15,6 @@ use Rattle.dep_model.specs.VertexOrder.{in_function}
 
 abbrev at_statement : ℕ → Vertex
 at_statement i = in_function 0 (AtStatement i)
-
-get_from : (s n i : ℕ) → i < n → slice_get (from s n) i ≡ Some (s + i)
-get_from s zero i lt = absurd (omega arith)
-get_from s (suc n) zero lt = let e : s ≡ s + 0 = omega arith in ap Some e
-get_from s (suc n) (suc i) lt = let e : suc s + i ≡ s + suc i = omega arith in get_from (suc s) n i (omega arith) ∙ ap Some e
-
--- it comes behind the entry of main
-pub vertex_of : (p : Program) (i : ℕ) → i < p.statements → slice_get (vertices p) (suc i) ≡ Some (in_function 0 (AtStatement i))
-vertex_of p i lt =
-    let e : 0 + i ≡ i = omega arith in
-    slice_get-map at_statement (from 0 p.statements) i ∙ (ap (option_map at_statement) (get_from 0 p.statements i lt) ∙ ap (λ n. Some (at_statement n)) e)
 
 kept_before : (s n j : ℕ) (bs : List Bool) → j < s → is_kept (map at_statement (from s n)) bs j ≡ false
 kept_before s zero j bs lt = refl
@@ -75,12 +63,12 @@ pub kept_grows : (vs : List Vertex) (a b : List Bool) (i : ℕ) → ((v : ℕ) �
 kept_grows [] a b i h k = k
 kept_grows (v ∷ vs) [] b i h k = cc
 kept_grows (v ∷ vs) (x ∷ xs) [] i h k =
-    elim (or_cases (is_of i v.kind && x) (is_kept vs xs i) k) [
-      | inl p ↦ h 0 (and_parts (is_of i v.kind) x p).1
+    elim (or_cases (is_own i v.kind && x) (is_kept vs xs i) k) [
+      | inl p ↦ h 0 (and_parts (is_own i v.kind) x p).1
       | inr q ↦ let c = kept_grows vs xs [] i (λ w. h (suc w)) q in let d = kept_none vs i in cc
     ]
 kept_grows (v ∷ vs) (x ∷ xs) (y ∷ ys) i h k =
-    elim (or_cases (is_of i v.kind && x) (is_kept vs xs i) k) [
-      | inl p ↦ or_left (is_of i v.kind && y) (is_kept vs ys i) (and_from (is_of i v.kind) y (and_parts (is_of i v.kind) x p).0 (h 0 (and_parts (is_of i v.kind) x p).1))
-      | inr q ↦ or_right (is_of i v.kind && y) (is_kept vs ys i) (kept_grows vs xs ys i (λ w. h (suc w)) q)
+    elim (or_cases (is_own i v.kind && x) (is_kept vs xs i) k) [
+      | inl p ↦ or_left (is_own i v.kind && y) (is_kept vs ys i) (and_from (is_own i v.kind) y (and_parts (is_own i v.kind) x p).0 (h 0 (and_parts (is_own i v.kind) x p).1))
+      | inr q ↦ or_right (is_own i v.kind && y) (is_kept vs ys i) (kept_grows vs xs ys i (λ w. h (suc w)) q)
     ]

@@ -35,20 +35,20 @@ pub record KeepsFrom (edges : List Edge) (criterion kept : List Bool) : Type 0 w
   pub completes : IsCompletion edges NamesNone 0 reached kept
 
 -- for each statement whether it starts on the line, and whether the slice keeps it
-pub record AreMarks (p : Program) (line : ℕ) (wanted marks : List Bool) : Type 0 where
+pub record AreMarks (p : Program) (line : ℕ) (in_criterion marks : List Bool) : Type 0 where
   pub kept : List Bool
   pub is_kept : IsKept p line kept
-  pub wanted_long : length wanted ≡ p.statements
+  pub in_criterion_long : length in_criterion ≡ p.statements
   pub marks_long : length marks ≡ p.statements
-  pub wanted_are : (i : ℕ) → slice_index_or wanted i false ≡ starts_on p line i
+  pub in_criterion_are : (i : ℕ) → slice_index_or in_criterion i false ≡ starts_on p line i
   pub marks_are : (i : ℕ) → slice_index_or marks i false ≡ keeps p kept i
 
 -- a program is that of the slice at a line, and these of its statements are the criterion's
-pub record IsSlicedAt (p : Program) (line : ℕ) (q : Program) (wanted : List Bool) : Type 0 where
+pub record IsSlicedAt (p : Program) (line : ℕ) (q : Program) (in_criterion : List Bool) : Type 0 where
   pub kept : List Bool
   pub is_kept : IsKept p line kept
   pub program_is : q ≡ sliced p kept
-  pub wanted_long : length wanted ≡ q.statements
+  pub in_criterion_long : length in_criterion ≡ q.statements
   -- each kept statement stands at its rank
-  pub wanted_are : (i : ℕ) → keeps p kept i ≡ true → slice_index_or wanted (rank (keeps p kept) i) false ≡ starts_on p line i
-  pub wanted_only : (r : ℕ) → slice_index_or wanted r false ≡ true → (i : ℕ) × (keeps p kept i ≡ true) × (rank (keeps p kept) i ≡ r)
+  pub in_criterion_are : (i : ℕ) → keeps p kept i ≡ true → slice_index_or in_criterion (rank (keeps p kept) i) false ≡ starts_on p line i
+  pub in_criterion_only : (r : ℕ) → slice_index_or in_criterion r false ≡ true → (i : ℕ) × (keeps p kept i ≡ true) × (rank (keeps p kept) i ≡ r)

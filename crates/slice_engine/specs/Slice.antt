@@ -10,7 +10,7 @@ use Rattle.c_language.specs.Words.{Bytes}
 use Rattle.c_language.specs.Layout.{layout}
 use Rattle.c_print.specs.Lines.{line_of}
 use Rattle.c_print.specs.StartsOn.{StartsOn}
-use Rattle.c_reader.specs.Reading.{HasProgram}
+use Rattle.c_reader.specs.Reading.{ReadsProgram}
 use Rattle.dep_model.specs.declared.edge.Edge.{Edge}
 use Rattle.dep_model.specs.Words.{ReachesAny}
 use Rattle.dep_model.specs.Completion.{IsCompletion, NamesNone}
@@ -101,7 +101,7 @@ pub record IsReadAs (p : Program) (line : ℕ) (text : Bytes) : Type 0 where
   pub kept : List Bool
   pub is_kept : IsKept p line kept
   pub program : Program
-  pub reads : HasProgram text program
+  pub reads : ReadsProgram text program
   pub same_program : SameButLines program (sliced p kept)
   pub own_words : OwnWords p (keeps p kept)
 
@@ -110,7 +110,7 @@ pub record IsFaithful (p : Program) (line : ℕ) (text : Bytes) : Type 0 where
   pub kept : List Bool
   pub is_kept : IsKept p line kept
   pub program : Program
-  pub reads : HasProgram text program
+  pub reads : ReadsProgram text program
   pub same_program : SameButLines program (sliced p kept)
   pub own_words : OwnWords p (keeps p kept)
   pub same_values : HasSameValues p line kept program

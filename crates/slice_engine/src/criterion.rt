@@ -1,5 +1,5 @@
 //! Sets of statements: those of a criterion, and those that are kept.
-ghost use Rattle.std.specs.Prelude.{◌≡◌, ℕ, ◌+◌, ◌<◌, ◌==◌, ◌++◌, [], All, IfOk, OnOk, length, map, replicate, false, slice_index_or, vec_len};
+ghost use Rattle.std.specs.Prelude.{◌≡◌, ℕ, ◌+◌, ◌<◌, ◌==◌, ◌++◌, [], All, IfOk, OnOk, length, replicate, false, slice_index_or, vec_len};
 ghost use Rattle.std.specs.List.{list_any};
 ghost use Rattle.bit_rows.specs.Sets.{has};
 ghost use Rattle.c_tree.specs.Numbered.{Start};
@@ -7,7 +7,6 @@ ghost use Rattle.slice_engine.specs.Criterion as spec;
 ghost use Rattle.slice_engine.specs.Criterion.{starts_of};
 
 use crate::starts::Start;
-use c_tree::StatementId;
 use dep_model::VertexSet;
 use std::alloc::{AllocError, Global};
 
@@ -40,11 +39,11 @@ pub(crate) fn criterion_set(
     Ok(set)
 }
 
-fn add_if(wanted: bool, vertex: u32, set: &mut VertexSet)
+fn add_if(starts_here: bool, vertex: u32, set: &mut VertexSet)
     requires { vertex < length set.old }
-    ensures { set.new ≡ spec.marked_if wanted vertex set.old }
+    ensures { set.new ≡ spec.marked_if starts_here vertex set.old }
 {
-    if wanted {
+    if starts_here {
         set.add(vertex);
     }
 }

@@ -1,9 +1,7 @@
-ghost use Rattle.std.specs.Prelude.{◌≡◌, ◌⊎◌, ◌≤◌, ◌+◌, ◌^◌, ◌<◌, ◌++◌, ℕ, All, IfOk, IsTrue, ◌↔◌, MatchOption, None, length};
-ghost use Rattle.bit_rows.specs.Sets.{has};
+ghost use Rattle.std.specs.Prelude.{◌≡◌, ◌⊎◌, ◌≤◌, ◌+◌, ◌<◌, ℕ, IfOk, IsTrue, ◌↔◌, MatchOption, None, length};
 ghost use Rattle.built_forms.specs.BuiltForms.{not_yet};
 ghost use Rattle.c_language.specs.Programs.{IsWellFormed};
 ghost use Rattle.c_language.specs.Layout.{layout};
-ghost use Rattle.projection.specs.Projection.{projection};
 ghost use Rattle.slice_engine.specs.Criterion as marks;
 ghost use Rattle.slice_engine.specs.Slice.{HasStart, IsSlice, IsReadAs, IsFaithful};
 ghost use Rattle.slice_engine.specs.Engine.{IsPrepared, AreMarks, IsSlicedAt};
@@ -31,6 +29,7 @@ const MAX_VARIABLES: usize = 4_294_967_293;
 /// What a slice is made for: the statements that start on a line, counted from 1.
 #[derive(Clone, Copy, Debug, PartialEq, Eq)]
 pub struct Criterion {
+    /// The line in the file, counted from 1.
     pub line: u32,
 }
 
@@ -136,7 +135,7 @@ fn has_start(p: &Program, edges: &[Edge], starts: &[Start], line: u32) -> bool
 /// For each statement whether it starts on the line, and whether the slice keeps it.
 #[derive(Drop)]
 struct Marks {
-    wanted: Vec<bool>,
+    in_criterion: Vec<bool>,
     kept: Vec<bool>,
 }
 
@@ -148,21 +147,21 @@ fn marks_at(
     line: u32,
 ) -> Result<Marks, AllocError>
     requires { IsPrepared p.now edges.now starts.now }
-    ensures { IfOk result (λ m. AreMarks p.now line m.wanted.items m.kept.items) }
+    ensures { IfOk result (λ m. AreMarks p.now line m.in_criterion.items m.kept.items) }
 {
     let vertices = p.statements + 1;
     let mut set = criterion_set(alloc, starts, line, vertices)?;
-    let wanted = marks_of(alloc, &set, p.statements)?;
+    let in_criterion = marks_of(alloc, &set, p.statements)?;
     keep(alloc, edges, vertices, &mut set)?;
     let kept = marks_of(alloc, &set, p.statements)?;
-    Ok(Marks { wanted, kept })
+    Ok(Marks { in_criterion, kept })
 }
 
 /// The program of a slice, and for each of its statements whether it is one of the criterion.
 #[derive(Drop)]
 struct Sliced {
     program: Program,
-    wanted: Vec<bool>,
+    in_criterion: Vec<bool>,
 }
 
 fn sliced_at(
@@ -173,12 +172,15 @@ fn sliced_at(
     line: u32,
 ) -> Result<Sliced, AllocError>
     requires { IsPrepared p.now edges.now starts.now }
-    ensures { IfOk result (λ s. IsSlicedAt p.now line s.program s.wanted.items) }
+    ensures { IfOk result (λ s. IsSlicedAt p.now line s.program s.in_criterion.items) }
 {
     let marks = marks_at(alloc, p, edges, starts, line)?;
     let program = project(alloc, p, marks.kept.as_slice())?;
-    let wanted = by_rank(alloc, marks.kept.as_slice(), marks.wanted.as_slice())?;
-    Ok(Sliced { program, wanted })
+    let in_criterion = by_rank(alloc, marks.kept.as_slice(), marks.in_criterion.as_slice())?;
+    Ok(Sliced {
+        program,
+        in_criterion,
+    })
 }
 
 // The text of the slice at a line, which is accepted again.
@@ -199,7 +201,7 @@ fn text_of(
         return Err(AllocError);
     }
     let lines = lines_of(alloc, &sliced.program)?;
-    let shown = header_lines(alloc, sliced.wanted.as_slice(), lines.as_slice())?;
+    let shown = header_lines(alloc, sliced.in_criterion.as_slice(), lines.as_slice())?;
     let mut text = header(alloc, line, shown.as_slice())?;
     text.append(layout.bytes())?;
     Ok(text)

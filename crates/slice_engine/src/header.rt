@@ -7,38 +7,42 @@ ghost use Rattle.slice_engine.specs.Criterion.{line_if, shown_lines};
 use c_tree::Text;
 use std::alloc::{AllocError, Global};
 
-/// The lines of the wanted statements, ascending and each once, behind a header of one line.
+/// The lines of the statements of the criterion, ascending and each once, behind a header of one line.
 pub(crate) fn header_lines(
     alloc: Global,
-    wanted: &[bool],
+    in_criterion: &[bool],
     lines: &[u32],
 ) -> Result<Vec<u64>, AllocError>
-    requires { length wanted.now ≡ length lines.now }
+    requires { length in_criterion.now ≡ length lines.now }
     ensures ascending { IfOk result (λ found. AllPairs (λ a b. a < b) found.items) }
-    ensures exact { IfOk result (λ found. (k : ℕ) → Contains found.items k ↔ Contains (shown_lines wanted.now lines.now) k) }
+    ensures exact { IfOk result (λ found. (k : ℕ) → Contains found.items k ↔ Contains (shown_lines in_criterion.now lines.now) k) }
 {
-    let mut found = wanted_lines(alloc, wanted, lines)?;
+    let mut found = criterion_lines(alloc, in_criterion, lines)?;
     found.sort_unstable();
     found.dedup();
     Ok(found)
 }
 
-// The lines of the wanted statements, by their ranks.
-fn wanted_lines(alloc: Global, wanted: &[bool], lines: &[u32]) -> Result<Vec<u64>, AllocError>
-    requires { length wanted.now ≡ length lines.now }
-    ensures { IfOk result (λ found. found.items ≡ shown_lines wanted.now lines.now) }
+// The lines of the statements of the criterion, by their ranks.
+fn criterion_lines(
+    alloc: Global,
+    in_criterion: &[bool],
+    lines: &[u32],
+) -> Result<Vec<u64>, AllocError>
+    requires { length in_criterion.now ≡ length lines.now }
+    ensures { IfOk result (λ found. found.items ≡ shown_lines in_criterion.now lines.now) }
 {
     let mut found = Vec::new(alloc);
-    for (i, is_wanted) in wanted.iter().enumerate() {
-        push_line(*is_wanted, lines[i], &mut found)?;
+    for (i, is_shown) in in_criterion.iter().enumerate() {
+        push_line(*is_shown, lines[i], &mut found)?;
     }
     Ok(found)
 }
 
-fn push_line(is_wanted: bool, line: u32, found: &mut Vec<u64>) -> Result<(), AllocError>
-    ensures { OnOk result (found.new.items ≡ found.old.items ++ line_if is_wanted (suc line) []) }
+fn push_line(is_shown: bool, line: u32, found: &mut Vec<u64>) -> Result<(), AllocError>
+    ensures { OnOk result (found.new.items ≡ found.old.items ++ line_if is_shown (suc line) []) }
 {
-    if is_wanted {
+    if is_shown {
         found.push(u64::from(line) + 1)?;
     }
     Ok(())

@@ -275,3 +275,68 @@ int main(void) {
     ];
     all_end(&rt, &rows)
 }
+
+const COUNTERS: &str = r#"#include <stdio.h>
+int main(void) {
+    int rows = 0;
+    int cells = 0;
+    for (int i = 0; i < 3; i++) {
+        rows = rows + 1;
+        for (int j = i; j < 4; j++) {
+            cells = cells + j;
+        }
+        putchar('\n');
+    }
+    printf("%d\n", rows);
+    printf("%d\n", cells);
+}
+"#;
+
+#[test]
+fn nested_loops_have_two_counters(rt: HostRuntime) -> Result<(), Fail> {
+    let rows: [Row<'_>; 3] = [
+        (
+            COUNTERS,
+            "slice t.c 12",
+            r#"/* slice 12: 8 */
+#include <stdio.h>
+int main(void) {
+    int rows = 0;
+    for (int i = 0; i < 3; i++) {
+        rows = rows + 1;
+    }
+    printf("%d\n", rows);
+}
+"#,
+        ),
+        (
+            COUNTERS,
+            "slice t.c 13",
+            r#"/* slice 13: 10 */
+#include <stdio.h>
+int main(void) {
+    int cells = 0;
+    for (int i = 0; i < 3; i++) {
+        for (int j = i; j < 4; j++) {
+            cells = cells + j;
+        }
+    }
+    printf("%d\n", cells);
+}
+"#,
+        ),
+        (
+            COUNTERS,
+            "slice t.c 10",
+            r#"/* slice 10: 5 */
+#include <stdio.h>
+int main(void) {
+    for (int i = 0; i < 3; i++) {
+        putchar('\n');
+    }
+}
+"#,
+        ),
+    ];
+    all_end(&rt, &rows)
+}

@@ -3,25 +3,25 @@
 #![tactic(auto)]
 
 #[cfg(test)]
-mod branch_tests;
+mod block_tests;
 #[cfg(test)]
 mod built_tests;
 #[cfg(test)]
-mod carried_tests;
-#[cfg(test)]
-mod choice_tests;
-#[cfg(test)]
-mod control_tests;
-#[cfg(test)]
 mod for_tests;
+#[cfg(test)]
+mod if_tests;
 #[cfg(test)]
 mod integer_tests;
 #[cfg(test)]
+mod layout_tests;
+#[cfg(test)]
 mod line_tests;
 #[cfg(test)]
-mod nesting_tests;
+mod loop_tests;
 #[cfg(test)]
 mod order_tests;
+#[cfg(test)]
+mod programs;
 #[cfg(test)]
 mod refusal_tests;
 #[cfg(test)]
@@ -30,3 +30,5 @@ mod run_tests;
 mod running;
 #[cfg(test)]
 mod spelling_tests;
+#[cfg(test)]
+mod switch_tests;

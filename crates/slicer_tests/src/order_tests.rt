@@ -1,6 +1,5 @@
 //! The order of the vertices of worked programs, and their control edges.
-ghost use Rattle.std.specs.Prelude.{◌<◌, ◌^◌, IfOk, length};
-
+use crate::programs::{LOOPS, SETTING, SWITCH};
 use bit_rows::Rows;
 use c_reader::read_program;
 use c_tree::Program;
@@ -15,9 +14,10 @@ const SHORT: usize = 65536;
 /// Two vertices, the second of which follows the first or depends on it.
 type Two = (u32, u32);
 
-fn read<R: Abort + AllocGlobal>(rt: &R, text: &[u8]) -> Program {
-    assert!(rt; text.len() < SHORT);
-    read_program(rt.alloc(), text).expect(rt, "a program")
+fn read<R: Abort + AllocGlobal>(rt: &R, text: &str) -> Program {
+    let bytes = text.as_bytes();
+    assert!(rt; bytes.len() < SHORT);
+    read_program(rt.alloc(), bytes).expect(rt, "a program")
 }
 
 /// The entry of main and its statements by number, where nothing goes into main or out of it.
@@ -83,7 +83,7 @@ fn control<R: Abort + AllocGlobal>(
 }
 
 /// The text's program has main alone, with these pairs and control edges; its statement `i` is vertex `i + 1`.
-fn has_order<R: Abort + AllocGlobal>(rt: &R, text: &[u8], pairs: &[Two], controls: &[Two]) {
+fn has_order<R: Abort + AllocGlobal>(rt: &R, text: &str, pairs: &[Two], controls: &[Two]) {
     let p = read(rt, text);
     let vertices = of_main(rt.alloc(), &p).expect(rt, "memory");
     let s = skeleton_of(rt.alloc(), vertices).expect(rt, "memory");
@@ -94,20 +94,6 @@ fn has_order<R: Abort + AllocGlobal>(rt: &R, text: &[u8], pairs: &[Two], control
 // 1: s = 0  2: j = 0  3: do's test  4: s = s + 1  5: for's test  6: s = 0  7: j++  8: putchar  9: s = s + j  10: printf
 #[test]
 fn loops(rt: HostRuntime) {
-    let text = b"#include <stdio.h>
-int main(void) {
-    int s = 0;
-    int j = 0;
-    do {
-        s = s + 1;
-    } while (0);
-    for (s = 0; j < 2; j++) {
-        putchar('a' + j);
-        s = s + j;
-    }
-    printf(\"%d\\n\", s);
-}
-";
     let pairs = [
         (0, 1),
         (1, 2),
@@ -137,31 +123,12 @@ int main(void) {
         (5, 8),
         (5, 9),
     ];
-    has_order(&rt, text, &pairs, &controls);
+    has_order(&rt, LOOPS, &pairs, &controls);
 }
 
 // 1: c = 'b'  2: r = 0  3: q = 0  4: switch  5: q = 1  6: r = 2  7: r = 3  8, 9: printf
 #[test]
 fn a_switch_with_a_default(rt: HostRuntime) {
-    let text = b"#include <stdio.h>
-int main(void) {
-    int c = 'b';
-    int r = 0;
-    int q = 0;
-    switch (c) {
-    case 'a':
-        q = 1;
-        break;
-    case 'b':
-        r = 2;
-        break;
-    default:
-        r = 3;
-    }
-    printf(\"%d\\n\", r);
-    printf(\"%d\\n\", q);
-}
-";
     let pairs = [
         (0, 1),
         (1, 2),
@@ -186,13 +153,13 @@ int main(void) {
         (4, 6),
         (4, 7),
     ];
-    has_order(&rt, text, &pairs, &controls);
+    has_order(&rt, SWITCH, &pairs, &controls);
 }
 
 // 1: c = 2  2: switch  3: c = 0  4: c = 1  5: c = 5; without a default the switch may be passed
 #[test]
 fn a_switch_without_a_default(rt: HostRuntime) {
-    let text = b"int main(void) {
+    let text = "int main(void) {
     int c = 2;
     switch (c) {
     case 0:
@@ -216,7 +183,7 @@ fn a_switch_without_a_default(rt: HostRuntime) {
 // 1: x = 1  2: if  3: x = 2  4: while  5: x++  6: for's test, of which nothing else is there  7: return
 #[test]
 fn branches_and_bare_loops(rt: HostRuntime) {
-    let text = b"int main(void) {
+    let text = "int main(void) {
     int x = 1;
     if (x) {
         x = 2;
@@ -290,19 +257,7 @@ fn with_a_call(alloc: Global) -> Result<VertexList, AllocError> {
 
 #[test]
 fn a_call_with_formals(rt: HostRuntime) {
-    let text = b"#include <stdio.h>
-int g;
-void f(int a) {
-    a = 5;
-    g = a;
-}
-int main(void) {
-    int x = 7;
-    f(x + 1);
-    printf(\"%d\\n\", g);
-}
-";
-    let p = read(&rt, text);
+    let p = read(&rt, SETTING);
     let vertices = with_a_call(rt.alloc()).expect(&rt, "memory");
     let s = skeleton_of(rt.alloc(), vertices).expect(&rt, "memory");
     follow(&rt, &p, &s, 0, &[(0, 1), (1, 2), (2, 3), (3, 4), (4, 5)]);

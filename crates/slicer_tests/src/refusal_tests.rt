@@ -1,4 +1,5 @@
 //! What is told of texts that give no slice, each at its line.
+use crate::programs::{ADD, DIVIDES, HEAP, MUTUAL, PICK, READING_SWITCH, RECURSIVE};
 use crate::running::{ends, program};
 use slicer_top::Status;
 use std::alloc::{AllocError, Global};
@@ -104,66 +105,6 @@ fn lines_of_main_are_refused_by_name(rt: HostRuntime) -> Result<(), Fail> {
     Ok(())
 }
 
-const ADD: &str = r#"#include <stdio.h>
-int add(int a, int b) {
-    return a + b;
-}
-int increment(int z) {
-    z = add(z, 1);
-    return z;
-}
-int main(void) {
-    int sum = 0;
-    int i = 1;
-    while (i < 11) {
-        sum = add(sum, i);
-        i = increment(i);
-    }
-    printf("%d\n", sum);
-    printf("%d\n", i);
-}
-"#;
-
-const PICK: &str = r#"#include <stdio.h>
-int g;
-int h;
-void set(int a, int b) {
-    g = a;
-    h = b;
-}
-int main(void) {
-    int x = 1;
-    int y = 2;
-    int u = 3;
-    int v = 4;
-    set(x, y);
-    int k = g;
-    set(u, v);
-    printf("%d\n", k + h);
-    printf("%d\n", u);
-}
-"#;
-
-const SWITCH: &str = r#"#include <stdio.h>
-int main(void) {
-    int c = getchar();
-    int r = 0;
-    int q = 0;
-    switch (c) {
-    case 'a':
-        q = 1;
-        break;
-    case 'b':
-        r = 2;
-        break;
-    default:
-        r = 3;
-    }
-    printf("%d\n", r);
-    printf("%d\n", q);
-}
-"#;
-
 const LIST: &str = r#"#include <stdio.h>
 #include <stdlib.h>
 struct node {
@@ -190,77 +131,13 @@ int main(void) {
 }
 "#;
 
-const RECURSIVE: &str = r#"#include <stdio.h>
-int f(int k, int *up) {
-    int r = 0;
-    if (up != NULL) {
-        *up = 9;
-    }
-    int x = k;
-    if (k > 0) {
-        r = f(k - 1, &x);
-        r = x;
-    }
-    return r;
-}
-int main(void) {
-    int t = f(1, NULL);
-    printf("%d\n", t);
-}
-"#;
-
-const MUTUAL: &str = r#"#include <stdio.h>
-int odd(int n, int a);
-int even(int n, int a) {
-    int r = 1;
-    if (n > 0) {
-        r = odd(n - 1, a);
-    }
-    return r;
-}
-int odd(int n, int a) {
-    int r = a;
-    if (n > 0) {
-        r = even(n - 1, a);
-    }
-    return r;
-}
-int main(void) {
-    int c = getchar();
-    int e = even(5, 7);
-    int o = odd(2, c);
-    printf("%d\n", e);
-    printf("%d\n", o);
-}
-"#;
-
-const HEAP: &str = r#"#include <stdio.h>
-#include <stdlib.h>
-int main(void) {
-    int *p = malloc(sizeof(int));
-    *p = 5;
-    printf("%d\n", *p);
-    free(p);
-}
-"#;
-
-const DIVIDES: &str = r#"#include <stdio.h>
-int main(void) {
-    int m = -2147483647 - 1;
-    int d = getchar();
-    int k = 1;
-    k = m / d;
-    printf("%d\n", k);
-}
-"#;
-
 #[test]
 fn what_is_not_built_is_told_at_its_line(rt: HostRuntime) -> Result<(), Fail> {
     // A text, and what is told.
     let rows = [
         (ADD, "2: not yet\n"),
         (PICK, "2: not yet\n"),
-        (SWITCH, "3: not yet\n"),
+        (READING_SWITCH, "3: not yet\n"),
         // A struct definition has no line in the tree: main is the next item that has one.
         (LIST, "7: not yet\n"),
         (RECURSIVE, "2: not yet\n"),

@@ -4,22 +4,12 @@ ghost use Rattle.c_language.specs.Words.{Bytes};
 ghost use Rattle.slicer_top.specs.Words.{IsInForm, file_of, line_of};
 ghost use Rattle.slicer_top.specs.Slices.{StartsOn, IsSliceOf};
 
-use crate::running::{Ended, Failing, NONE_FAILING, file, program, run, words_of};
+use crate::programs::TWO;
+use crate::running::{Ended, Failing, NONE_FAILING, Row, all_end, file, program, run, words_of};
 use edge_io::{MemoryShelf, MemorySink};
 use slicer_top::{Status, Text, run_slicer};
 use std::alloc::{AllocError, Global};
 use std::test::Fail;
-
-const TWO: &str = r#"#include <stdio.h>
-int main(void) {
-    int a = 1;
-    int b = 2;
-    a = a + 3;
-    b = b + 4;
-    printf("%d\n", a);
-    printf("%d\n", b);
-}
-"#;
 
 const TWO_AT_7: &str = r#"/* slice 7: 6 */
 #include <stdio.h>
@@ -363,19 +353,11 @@ fn a_long_file_is_told(rt: HostRuntime) -> Result<(), Fail> {
 
 #[test]
 fn a_slice_is_sliced(rt: HostRuntime) -> Result<(), Fail> {
-    let alloc = rt.alloc();
-    // A text, a line and what is written.
-    let rows = [
+    let rows: [Row<'_>; 2] = [
         (TWO_AT_7, "slice t.c 6", TWO_AT_7_AT_6),
         (TWO_AT_4, "slice t.c 4", TWO_AT_4),
     ];
-    for (text, line, out) in rows {
-        let words = words_of(alloc, line)?;
-        let ended = run(alloc, &words, file(alloc, "t.c", text)?, &NONE_FAILING)?;
-        assert_eq!(rt; ended.status, Status::Done, "{line}");
-        assert_eq!(rt; ended.out.bytes(), out.as_bytes(), "{line}");
-    }
-    Ok(())
+    all_end(&rt, &rows)
 }
 
 #[test]

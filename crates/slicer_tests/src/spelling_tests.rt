@@ -1,10 +1,7 @@
 //! Slices of texts in every spelling of the built forms, typed by hand from the layout.
-use crate::running::ends;
+use crate::running::{Row, all_end, ends};
 use slicer_top::Status;
 use std::test::Fail;
-
-// A text, the words, and the slice.
-type Row<'a> = (&'a str, &'a str, &'a str);
 
 #[test]
 fn constants_keep_their_spelling(rt: HostRuntime) -> Result<(), Fail> {
@@ -43,10 +40,7 @@ int main(void) {
             "/* slice 1: 3 */\nint main(void) {\n    int a = 0x1f;\n}\n#include <stdio.h>\n",
         ),
     ];
-    for (text, line, out) in rows {
-        ends(&rt, text, line, (Status::Done, out, ""))?;
-    }
-    Ok(())
+    all_end(&rt, &rows)
 }
 
 const COMMENTED: &str = r#"/* one */ #include <stdio.h> // two
@@ -89,10 +83,7 @@ int main(void) {
             "/* slice 2: 3 */\nint main(void) {\n    int a = 1;\n}\n",
         ),
     ];
-    for (text, line, out) in rows {
-        ends(&rt, text, line, (Status::Done, out, ""))?;
-    }
-    Ok(())
+    all_end(&rt, &rows)
 }
 
 const DECLARATORS: &str =
@@ -122,9 +113,7 @@ fn a_declarator_has_the_line_of_its_declaration(rt: HostRuntime) -> Result<(), F
             "/* slice 3: 4 */\nint main(void) {\n    int a;\n    a = 1;\n}\n",
         ),
     ];
-    for (text, line, out) in rows {
-        ends(&rt, text, line, (Status::Done, out, ""))?;
-    }
+    all_end(&rt, &rows)?;
     for line in ["slice t.c 3", "slice t.c 4"] {
         let err = if line == "slice t.c 3" {
             "3: no statement starts here\n"
@@ -165,10 +154,7 @@ fn blanks_are_those_of_the_layout(rt: HostRuntime) -> Result<(), Fail> {
             "/* slice 2: 3 */\nstatic int main(void) {\n    int x = x;\n}\n",
         ),
     ];
-    for (text, line, out) in rows {
-        ends(&rt, text, line, (Status::Done, out, ""))?;
-    }
-    Ok(())
+    all_end(&rt, &rows)
 }
 
 #[test]
@@ -190,10 +176,7 @@ fn a_name_in_parentheses_is_defined_and_kills_nothing(rt: HostRuntime) -> Result
             "/* slice 4: 5 */\nint main(void) {\n    int x = 5;\n    ((x)) = (x) + 1;\n    int y = (((x)));\n}\n",
         ),
     ];
-    for (text, line, out) in rows {
-        ends(&rt, text, line, (Status::Done, out, ""))?;
-    }
-    Ok(())
+    all_end(&rt, &rows)
 }
 
 #[test]
@@ -210,10 +193,7 @@ fn signs_stand_apart_where_they_are_the_same(rt: HostRuntime) -> Result<(), Fail
             "/* slice 3: 4 */\nint main(void) {\n    int a = 1 + 2 + 3;\n    a = a - (2 - 3) - + +a;\n}\n",
         ),
     ];
-    for (text, line, out) in rows {
-        ends(&rt, text, line, (Status::Done, out, ""))?;
-    }
-    Ok(())
+    all_end(&rt, &rows)
 }
 
 const PRINTED: &str = r#"
@@ -258,8 +238,5 @@ int main(void) {
             "/* slice 13: 5 */\n#include <stdlib.h>\n#include <stdio.h>\nint main(void) {\n    int b = 2;\n}\n",
         ),
     ];
-    for (text, line, out) in rows {
-        ends(&rt, text, line, (Status::Done, out, ""))?;
-    }
-    Ok(())
+    all_end(&rt, &rows)
 }

@@ -1,5 +1,5 @@
 -- What is told of a file, and what its causes rule out.
-use Rattle.std.proofs.Common.{◌≡◌, ◌⊎◌, inl, inr, ℕ, ◌≤◌, ◌<◌, length, refl, sym, ap, subst, ◌∙◌, arith}
+use Rattle.std.proofs.Common.{◌≡◌, ◌⊎◌, inl, inr, ℕ, ◌≤◌, ◌<◌, length, refl, sym, subst, arith}
 use Rattle.std.specs.Prelude.{Option, Some, None, IsSome, IsSomeAnd, Result, Ok, Err, IfErr, IsErrAnd}
 use Rattle.edge_io.specs.Contents.{Told, Lacks, HoldsMoreThan}
 use Rattle.edge_io.specs.Count.{Rose}
@@ -127,9 +127,3 @@ module _ (told : Told) (name file text : Bytes) (f f' l l' : ℕ) (refusal : Ref
 pub slice_made : (told : Told) (name file text written : Bytes) (at line : ℕ) → name ≡ file → at ≡ line → Holds told file text → OfFile told name (λ found. (length found ≤ 1048576) × IsSliceOf found at written) → IsSliceOf text line written
 slice_made told name file text written at line same_name same_line holds sliced =
     subst (λ l. IsSliceOf text l written) same_line (of_file told name text _ (subst (λ n. Holds told n text) (sym same_name) holds) sliced).1
-
--- a file that is lacking, or is longer, gave no text
-pub not_lacked : (told : Told) (name file : Bytes) (P : Bytes → Type 0) → name ≡ file → Lacks told file → OfFile told name P → ⊥
-not_lacked None name file P same lacks of = lacks
-not_lacked (Some under) name file P same lacks of =
-    let none : IsSomeAnd None P = subst (λ found. IsSomeAnd found P) (ap under same ∙ lacks) of in none

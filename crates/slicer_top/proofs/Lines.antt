@@ -1,6 +1,6 @@
 -- What err gains by a line that is put whole, or in part.
-use Rattle.std.proofs.Common.{◌≡◌, ◌⊎◌, inl, inr, ℕ, ◌+◌, sym, subst, arith}
-use Rattle.std.specs.Prelude.{Option, Result, Ok, Err, IfOk, MatchResult}
+use Rattle.std.proofs.Common.{◌≡◌, inl, inr, ℕ, ◌+◌, sym, subst, arith}
+use Rattle.std.specs.Prelude.{Option}
 use Rattle.edge_io.specs.Written.{Gains}
 use Rattle.c_language.specs.Words.{Bytes}
 use Rattle.c_tree.specs.declared.limits.LimitName.TheVariants as limit
@@ -10,8 +10,7 @@ use Rattle.c_types.specs.declared.rule_fault.RuleFault.TheVariants as rule
 use Rattle.slicer_top.specs.declared.refusal.Refusal.{Refusal}
 use Rattle.slicer_top.specs.declared.refusal.Refusal.TheVariants.{Unreadable, TooLong, Lex, Parse, Check, NotYet, NoStart, NoMemory}
 use Rattle.slicer_top.specs.declared.status.Status.{Status}
-use Rattle.slicer_top.specs.declared.status.Status.TheVariants as status
-use Rattle.slicer_top.specs.Lines.{IsLineOf, of_usage, of_file, of_length, of_byte, of_number, of_comment, of_token, of_tokens, of_rule, of_form, of_line, of_limit, of_out, of_memory, Tells, PutOrCutOff, out_of_memory}
+use Rattle.slicer_top.specs.Lines.{IsLineOf, of_usage, of_file, of_length, of_byte, of_number, of_comment, of_token, of_tokens, of_rule, of_form, of_line, of_limit, of_out, of_memory, Tells, PutOrCutOff}
 use Rattle.slicer_top.specs.Reports.{IsTold, IsReported, status_of, line_of}
 
 -- all that a sink takes, and nothing more
@@ -23,11 +22,6 @@ module _ (faults faults' : ℕ) (before after : Option Bytes) where
   pub told_or_cut_off : (answer : Status) (words : Bytes) (result : Status) → IsTold faults faults' before after answer words result → PutOrCutOff faults faults' before after words
   told_or_cut_off answer words result (inl put) = inl put.1
   told_or_cut_off answer words result (inr cut) = inr (cut.1, cut.2)
-
-  -- a line that was made was told, or else that there was no memory for it
-  pub made_told : {E : Type 0} (answer : Status) (words : Bytes) (made : Result Bytes E) (result : Status) → MatchResult made (λ line. IsTold faults faults' before after answer line result) (λ _. IsTold faults faults' before after status.NoMemory out_of_memory result) → IfOk made (λ line. line ≡ words) → IsTold faults faults' before after answer words result ⊎ IsTold faults faults' before after status.NoMemory out_of_memory result
-  made_told answer words (Ok line) result told is = inl (subst (λ w. IsTold faults faults' before after answer w result) is told)
-  made_told answer words (Err e) result told is = inr told
 
   module _ (file : Bytes) (at : ℕ) where
     put_tells : (answer : Status) (words : Bytes) → IsLineOf file at answer words → Gains before after words → Tells faults faults' before after file at answer

@@ -1,5 +1,5 @@
 -- A text has one tree and one program, and what is answered for it is fixed.
-use Rattle.std.proofs.Common.{◌≡◌, ℕ, ◌≤◌, ◌<◌, Result, Ok, Err, Option, Some, refl, sym, ap, subst, ◌∙◌, arith}
+use Rattle.std.proofs.Common.{◌≡◌, ◌≤◌, ◌<◌, Err, Option, Some, refl, sym, ap, subst, ◌∙◌, arith}
 use Rattle.c_tree.specs.declared.limits.LimitName.{LimitName}
 use Rattle.c_tree.specs.declared.program.Program.{Program}
 use Rattle.c_tree.specs.declared.raw.program.RawProgram.{RawProgram}
@@ -17,7 +17,7 @@ use Rattle.c_types.specs.Outcome.{IsAbove}
 use Rattle.c_types.proofs.AnswerLaws.{rules_hold}
 use Rattle.c_types.specs.declared.rule_fault.RuleFault.{RuleFault}
 use Rattle.c_types.specs.declared.rule_fault.RuleFault.TheVariants as rule
-use Rattle.c_reader.specs.Reading.{HasProgram, HasTree, HasRuleFault, IsRuleFault, IsRight, Gives, IsTooDeep, IsChecked, IsJudgement}
+use Rattle.c_reader.specs.Reading.{ReadsProgram, ReadsTree, HasRuleFault, IsRuleFault, IsRight, Gives, IsTooDeep, IsChecked, IsJudgement}
 use Rattle.c_reader.specs.declared.refusal.ReadRefusal.{ReadRefusal}
 use Rattle.c_reader.specs.declared.refusal.ReadRefusal.TheVariants.{Lex, Parse, Check, NoMemory}
 use Rattle.c_reader.proofs.ReadLaws as laws
@@ -25,21 +25,21 @@ use Rattle.slicer_top.specs.Limits.{IsAboveLimit}
 
 module _ (text : Bytes) where
   -- the tokens of a text are those of its tree
-  pub grammar_of : (ts : Tokens) (raw : RawProgram) → AreTokensOf text ts → HasTree text raw → IsProgram ts raw
+  pub grammar_of : (ts : Tokens) (raw : RawProgram) → AreTokensOf text ts → ReadsTree text raw → IsProgram ts raw
   grammar_of ts raw are h = subst (λ us. IsProgram us raw) (tokens_unique text h.tokens ts h.are are) h.tree.grammar
 
   -- a text has one tree
-  pub one_text_tree : (a b : RawProgram) → HasTree text a → HasTree text b → a ≡ b
+  pub one_text_tree : (a b : RawProgram) → ReadsTree text a → ReadsTree text b → a ≡ b
   one_text_tree a b h k = one_tree k.tokens a b (grammar_of k.tokens a k.are h) k.tree.grammar
 
-  tree_of : (p : Program) → (h : HasProgram text p) → HasTree text h.raw
+  tree_of : (p : Program) → (h : ReadsProgram text p) → ReadsTree text h.raw
   tree_of p h = record { tokens = h.accepted.tokens; are = h.accepted.are; tree = h.accepted.tree }
 
   same_program : (raw : RawProgram) (p q : Program) → programs.HasProgram raw p → programs.HasProgram raw q → p ≡ q
   same_program raw p q h k = let e : ◌≡◌ {A = Option Program} (Some p) (Some q) = sym h.program ∙ k.program in cc
 
   -- a text has one program
-  pub one_program : (p q : Program) → HasProgram text p → HasProgram text q → p ≡ q
+  pub one_program : (p q : Program) → ReadsProgram text p → ReadsProgram text q → p ≡ q
   one_program p q h k =
       same_program k.raw p q (subst (λ raw. programs.HasProgram raw p) (one_text_tree h.raw k.raw (tree_of p h) (tree_of q k)) h.accepted.has) k.accepted.has
 
@@ -63,17 +63,17 @@ module _ (text : Bytes) where
   judged NoMemory is = tt
 
   -- a text with a program is refused for want of memory alone
-  pub only_memory : (r : ReadRefusal) → IsRight text (Err r) → (p : Program) → HasProgram text p → Gives p (Err r)
+  pub only_memory : (r : ReadRefusal) → IsRight text (Err r) → (p : Program) → ReadsProgram text p → Gives p (Err r)
   only_memory r is p has = laws.accepted text (Err r) (judged r is) p has
 
-  pub only_nesting : (r : ReadRefusal) → IsRight text (Err r) → (raw : RawProgram) → HasTree text raw → 100 < program_nesting raw → IsTooDeep (Err r)
+  pub only_nesting : (r : ReadRefusal) → IsRight text (Err r) → (raw : RawProgram) → ReadsTree text raw → 100 < program_nesting raw → IsTooDeep (Err r)
   only_nesting r is raw tree many = laws.deep text (Err r) (judged r is) raw tree many
 
-  pub only_check : (r : ReadRefusal) → IsRight text (Err r) → (raw : RawProgram) (fault : RuleFault) → HasTree text raw → program_nesting raw ≤ 100 → IsRuleFault raw fault → IsChecked (Err r)
+  pub only_check : (r : ReadRefusal) → IsRight text (Err r) → (raw : RawProgram) (fault : RuleFault) → ReadsTree text raw → program_nesting raw ≤ 100 → IsRuleFault raw fault → IsChecked (Err r)
   only_check r is raw fault tree few shows = laws.refused text (Err r) (judged r is) raw fault tree few shows
 
   -- a text that is above a limit has no program
-  pub above_lacks : (name : LimitName) → IsAboveLimit text name → (p : Program) → HasProgram text p → ⊥
+  pub above_lacks : (name : LimitName) → IsAboveLimit text name → (p : Program) → ReadsProgram text p → ⊥
   above_lacks name (IsAboveLimit.nesting {raw} tree many) p has =
       let e = ap program_nesting (one_text_tree raw has.raw tree (tree_of p has)) in
       let few = has.within.nesting in
@@ -89,7 +89,7 @@ module _ (text : Bytes) where
       let narrow = has.within.cells in
       omega (arith, wide, narrow, many)
 
-  above_of : (raw : RawProgram) (name : LimitName) → HasTree text raw → program_nesting raw ≤ 100 → IsAbove raw name → IsAboveLimit text name
+  above_of : (raw : RawProgram) (name : LimitName) → ReadsTree text raw → program_nesting raw ≤ 100 → IsAbove raw name → IsAboveLimit text name
   above_of raw name tree few (IsAbove.lengths made many) = IsAboveLimit.length tree few made many
   above_of raw name tree few (IsAbove.cells made short many) = IsAboveLimit.cells tree few made short many
 
@@ -106,7 +106,7 @@ module _ (text : Bytes) where
   same_above raw a b (IsAbove.cells made short many) (IsAbove.cells also small more) = refl
 
   -- where the tree is above a limit, what the text shows of its tree is that limit
-  pub above_is : (raw : RawProgram) (name : LimitName) → HasTree text raw → IsAbove raw name → (fault : RuleFault) → HasRuleFault text fault → fault ≡ rule.Limit name
+  pub above_is : (raw : RawProgram) (name : LimitName) → ReadsTree text raw → IsAbove raw name → (fault : RuleFault) → HasRuleFault text fault → fault ≡ rule.Limit name
   above_is raw name tree above (rule.Rule number line) h =
       absurd (rules_hold raw above number line (subst (λ x. IsBroken number line x) (one_text_tree h.raw raw h.tree tree) h.shows))
   above_is raw name tree above (rule.Limit other) h =

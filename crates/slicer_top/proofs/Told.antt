@@ -15,7 +15,7 @@ use Rattle.c_parse.specs.declared.parse_fault.ParseFault.TheVariants as parse
 use Rattle.c_types.specs.Outcome.{IsAbove}
 use Rattle.c_types.specs.declared.rule_fault.RuleFault.{RuleFault}
 use Rattle.c_types.specs.declared.rule_fault.RuleFault.TheVariants as rule
-use Rattle.c_reader.specs.Reading.{HasTree, HasParseFault, IsNesting}
+use Rattle.c_reader.specs.Reading.{ReadsTree, HasParseFault, IsNesting}
 use Rattle.c_reader.specs.declared.refusal.ReadRefusal.TheVariants as read
 use Rattle.slicer_top.specs.declared.refusal.Refusal.{Refusal}
 use Rattle.slicer_top.specs.declared.refusal.Refusal.TheVariants.{Unreadable, TooLong, Lex, Parse, Check, NotYet, NoStart, NoMemory}
@@ -143,7 +143,7 @@ module _ (file text : Bytes) (at : ℕ) where
   told_nesting (parse.Nesting l) is = inl (refl, refl)
   told_nesting parse.NoMemory is = absurd is
 
-  nests : (refusal : Refusal) → IsReason text at refusal → (raw : RawProgram) → HasTree text raw → 100 < program_nesting raw → LimitOrMemory file at limit.Nesting refusal
+  nests : (refusal : Refusal) → IsReason text at refusal → (raw : RawProgram) → ReadsTree text raw → 100 < program_nesting raw → LimitOrMemory file at limit.Nesting refusal
   nests Unreadable reason raw tree many = absurd reason
   nests TooLong reason raw tree many = absurd reason
   nests (Lex fault) reason raw tree many = absurd (only_nesting text (read.Lex fault) reason raw tree many)
@@ -156,7 +156,7 @@ module _ (file text : Bytes) (at : ℕ) where
   told_limit : (name : LimitName) (fault : RuleFault) → fault ≡ rule.Limit name → LimitOrMemory file at name (Check fault)
   told_limit name fault is = subst (λ x. LimitOrMemory file at name (Check x)) (sym is) (inl (refl, refl))
 
-  exceeds : (refusal : Refusal) → IsReason text at refusal → (raw : RawProgram) (name : LimitName) → HasTree text raw → program_nesting raw ≤ 100 → IsAbove raw name → IsAboveLimit text name → LimitOrMemory file at name refusal
+  exceeds : (refusal : Refusal) → IsReason text at refusal → (raw : RawProgram) (name : LimitName) → ReadsTree text raw → program_nesting raw ≤ 100 → IsAbove raw name → IsAboveLimit text name → LimitOrMemory file at name refusal
   exceeds Unreadable reason raw name tree few above exceeded = absurd reason
   exceeds TooLong reason raw name tree few above exceeded = absurd reason
   exceeds (Lex fault) reason raw name tree few above exceeded = absurd (only_check text (read.Lex fault) reason raw (rule.Limit name) tree few above)

@@ -12,13 +12,13 @@ use Rattle.c_language.specs.Nesting.{nesting_tokens}
 use Rattle.c_language.specs.StatementNesting.{program_nesting}
 use Rattle.c_language.specs.Limits.{array_length, object_cells}
 use Rattle.c_language.specs.Programs as programs
-use Rattle.c_reader.specs.Reading.{HasTree}
+use Rattle.c_reader.specs.Reading.{ReadsTree}
 
 -- the tokens of the text are in the grammar, and this quantity is above its number: nesting before all, then, where all rules hold, the length of an array, and then the cells of an object
 pub data IsAboveLimit (text : Bytes) : LimitName → Type 0 where
-  nesting : {raw : RawProgram} → HasTree text raw → 100 < program_nesting raw → IsAboveLimit text limit.Nesting
-  length : {raw : RawProgram} {p : Program} → HasTree text raw → program_nesting raw ≤ 100 → programs.HasProgram raw p → 65536 < array_length p → IsAboveLimit text limit.ArrayLength
-  cells : {raw : RawProgram} {p : Program} → HasTree text raw → program_nesting raw ≤ 100 → programs.HasProgram raw p → array_length p ≤ 65536 → 1048576 < object_cells p → IsAboveLimit text limit.ObjectCells
+  nesting : {raw : RawProgram} → ReadsTree text raw → 100 < program_nesting raw → IsAboveLimit text limit.Nesting
+  length : {raw : RawProgram} {p : Program} → ReadsTree text raw → program_nesting raw ≤ 100 → programs.HasProgram raw p → 65536 < array_length p → IsAboveLimit text limit.ArrayLength
+  cells : {raw : RawProgram} {p : Program} → ReadsTree text raw → program_nesting raw ≤ 100 → programs.HasProgram raw p → array_length p ≤ 65536 → 1048576 < object_cells p → IsAboveLimit text limit.ObjectCells
 
 -- no quantity of the text is above its number
 abbrev pub IsBelowLimits : Bytes → Type 0
@@ -36,4 +36,4 @@ pub record IsDeep (text : Bytes) : Type 0 where
   pub tokens : Tokens
   pub are : AreTokensOf text tokens
   pub many : 100 < nesting_tokens tokens
-  pub no_tree : (raw : RawProgram) → HasTree text raw → ⊥
+  pub no_tree : (raw : RawProgram) → ReadsTree text raw → ⊥

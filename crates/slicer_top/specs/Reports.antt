@@ -12,7 +12,7 @@ use Rattle.c_parse.specs.declared.parse_fault.ParseFault.{ParseFault}
 use Rattle.c_parse.specs.declared.parse_fault.ParseFault.TheVariants as parse
 use Rattle.c_types.specs.declared.rule_fault.RuleFault.{RuleFault}
 use Rattle.c_types.specs.declared.rule_fault.RuleFault.TheVariants as rule
-use Rattle.c_reader.specs.Reading.{HasProgram, IsLexFault, HasParseFault, HasRuleFault}
+use Rattle.c_reader.specs.Reading.{ReadsProgram, IsLexFault, HasParseFault, HasRuleFault}
 use Rattle.built_forms.specs.BuiltForms as forms
 use Rattle.slicer_top.specs.declared.refusal.Refusal.{Refusal}
 use Rattle.slicer_top.specs.declared.refusal.Refusal.TheVariants.{Unreadable, TooLong, Lex, Parse, Check, NotYet, NoStart, NoMemory}
@@ -29,7 +29,7 @@ IsReason text at TooLong = ⊥
 IsReason text at (Lex fault) = IsLexFault text fault
 IsReason text at (Parse fault) = HasParseFault text fault
 IsReason text at (Check fault) = HasRuleFault text fault
-IsReason text at (NotYet first) = (p : Program) × HasProgram text p × (forms.not_yet p ≡ Some first)
+IsReason text at (NotYet first) = (p : Program) × ReadsProgram text p × (forms.not_yet p ≡ Some first)
 IsReason text at NoStart = LacksStart text at
 IsReason text at NoMemory = Unit {0}
 

@@ -4,12 +4,12 @@ use Rattle.edge_io.specs.Written.{Gains, GainsFront}
 use Rattle.c_tree.specs.declared.program.Program.{Program}
 use Rattle.c_language.specs.Words.{Bytes}
 use Rattle.built_forms.specs.BuiltForms.{not_yet}
-use Rattle.c_reader.specs.Reading.{HasProgram}
+use Rattle.c_reader.specs.Reading.{ReadsProgram}
 use Rattle.slice_engine.specs.Slice.{HasStart, IsSlice, IsFaithful}
 
 -- the text is accepted and within the limits, and this is its program, of which nothing is outside the built forms
 pub record HasBuilt (text : Bytes) (p : Program) : Type 0 where
-  pub reads : HasProgram text p
+  pub reads : ReadsProgram text p
   pub built : not_yet p ≡ None
 
 -- the text has such a program, and on the line starts no statement of it
@@ -41,3 +41,7 @@ WritesSlice text line before after = (written : Bytes) × IsSliceOf text line wr
 -- a front of the slice was written
 abbrev pub WritesFront : Bytes → ℕ → Option Bytes → Option Bytes → Type 0
 WritesFront text line before after = (written : Bytes) × IsSliceOf text line written × GainsFront before after written
+
+-- a text has at most one slice at a line
+abbrev pub SlicesAreOne : Type 0
+SlicesAreOne = (text : Bytes) (line : ℕ) (t u : Bytes) → IsSliceOf text line t → IsSliceOf text line u → t ≡ u

@@ -7,7 +7,7 @@ use Rattle.c_language.specs.Words.{Bytes}
 use Rattle.c_lex.specs.declared.fault.LexFault.TheVariants as lex
 use Rattle.c_parse.specs.declared.parse_fault.ParseFault.TheVariants as parse
 use Rattle.c_types.specs.declared.rule_fault.RuleFault.TheVariants as fault
-use Rattle.c_reader.specs.Reading.{HasProgram, IsLexFault, HasParseFault, HasRuleFault}
+use Rattle.c_reader.specs.Reading.{ReadsProgram, IsLexFault, HasParseFault, HasRuleFault}
 use Rattle.built_forms.specs.BuiltForms as forms
 use Rattle.slicer_top.specs.Limits.{CanBeDeep, IsAboveLimit}
 use Rattle.slicer_top.specs.Lines as line
@@ -28,7 +28,7 @@ pub data IsTrueOf (text : Bytes) (asked : ℕ) : Status → Bytes → Type 0 whe
   -- that rule is broken at that line
   rule : (number at : ℕ) → HasRuleFault text (fault.Rule number at) → IsTrueOf text asked Refused (line.rule at number)
   -- what stands first outside the built forms stands at that line, or has none in the tree, and what stands for it does
-  not_yet : (at : ℕ) {p : Program} → HasProgram text p → forms.not_yet p ≡ Some at → IsTrueOf text asked Refused (line.not_yet at)
+  not_yet : (at : ℕ) {p : Program} → ReadsProgram text p → forms.not_yet p ≡ Some at → IsTrueOf text asked Refused (line.not_yet at)
   -- on the line starts no statement
   no_start : LacksStart text asked → IsTrueOf text asked Refused (line.no_start asked)
   -- the text can be deep

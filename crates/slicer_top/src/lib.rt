@@ -4,6 +4,7 @@
 //! [`StreamSink`], tests give it files in memory and sinks that fail.
 #![tactic(auto)]
 
+mod laws;
 mod refusal;
 mod report;
 mod run;
@@ -12,6 +13,7 @@ mod status;
 mod words;
 
 pub use edge_io::{FileShelf, StreamSink, Text};
+pub use laws::slices_are_one;
 pub use report::tell_no_memory;
 pub use run::run_slicer;
 pub use status::Status;

@@ -1,6 +1,5 @@
 // The lines on err.
-ghost use Rattle.std.specs.Prelude.{◌≡◌, ◌++◌, IfOk, IsErr, MatchResult, length, codes};
-ghost use Rattle.std.specs.Fmt.{decimal};
+ghost use Rattle.std.specs.Prelude.{◌≡◌, IfOk, IsErr, MatchResult, length};
 ghost use Rattle.slicer_top.specs.Lines as lines;
 ghost use Rattle.slicer_top.specs.Reports as spec;
 ghost use Rattle.slicer_top.specs.Reports.{IsTold, IsReported};

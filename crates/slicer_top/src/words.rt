@@ -1,5 +1,5 @@
 // The words of a call, read by hand.
-ghost use Rattle.std.specs.Prelude.{◌≡◌, MatchOption, length};
+ghost use Rattle.std.specs.Prelude.{◌≡◌, MatchOption};
 ghost use Rattle.slicer_top.specs.Words.{IsFileName, IsNumber, IsInForm, file_of, line_of, decimal_from};
 
 use edge_io::Text;

@@ -228,7 +228,7 @@ fn show_outcome(
     match outcome {
         Ok(all) => show_statements(all.as_slice(), out),
         Err(Stop::Memory) => Err(AllocError),
-        Err(Stop::Syntax(_)) | Err(Stop::LeftOut(_)) => out.append(b"syntax "),
+        Err(Stop::Syntax(_)) => out.append(b"syntax "),
         Err(Stop::Deep(_)) => out.append(b"deep "),
     }
 }

@@ -184,7 +184,7 @@ fn nested_parens(alloc: Global, depth: usize) -> Result<Text, AllocError> {
 
 #[test]
 fn constructs_without_a_production(rt: HostRuntime) -> Result<(), Fail> {
-    let rows: [(&[u8], &[u8], u32); 39] = [
+    let rows: [(&[u8], &[u8], u32); 41] = [
         (
             b"int main (\nvoid ) {\n;\n;\nint x = 1 + f ( 2 ) ; } ",
             b"f",
@@ -218,6 +218,8 @@ fn constructs_without_a_production(rt: HostRuntime) -> Result<(), Fail> {
         (b"int x = g ( 1 ) ; ", b"g", 1),
         (b"void f ( void ) { ( * g ) ( 2 ) ; } ", b"(", 1),
         (b"void f ( void ) { a [ 1 ] ( 2 ) ; } ", b"(", 1),
+        (b"void f ( void ) { x . g ( 1 ) ; } ", b"(", 1),
+        (b"void f ( void ) { x = p -> g ( 1 ) + 2 ; } ", b"(", 1),
         (b"void f ( void ) { int ( * g ) ( int ) ; } ", b"(", 1),
         (b"long\nlong x ; ", b"long", 2),
         (b"void f ( void ) { static int x ; } ", b"static", 1),
@@ -259,7 +261,7 @@ fn constructs_without_a_production(rt: HostRuntime) -> Result<(), Fail> {
 /// What stands before a fault as it may stand in a text without one: nothing of it is named.
 #[test]
 fn nothing_else_is_named(rt: HostRuntime) -> Result<(), Fail> {
-    let rows: [&[u8]; 9] = [
+    let rows: [&[u8]; 15] = [
         b"void f ( void ) { int x = 1 , y = ; } ",
         b"void f ( void ) { for ( i = 0 ; i < 3 ; i ++ ) x = ; } ",
         b"void f ( void ) { switch ( x ) { case 1 : x = ; } } ",
@@ -269,6 +271,13 @@ fn nothing_else_is_named(rt: HostRuntime) -> Result<(), Fail> {
         b"void f ( void ) { p = ( int * ) malloc ( ) ; } ",
         b"void f ( void ) { x = c ? ( int ) a : ; } ",
         b"struct s { int x ; } int y ; ",
+        // A semicolon or a bracket is missing.
+        b"void f ( void ) { x = 1\ny = 2 ; } ",
+        b"void f ( void ) { int x = 1\nint y = 2 ; } ",
+        b"void f ( void ) { x ++\ny ++ ; } ",
+        b"void f ( void ) { if ( x == 1 ) x = 2\nelse x = 3 ; } ",
+        b"void f ( void ) { x = ( 1 + 2 ;\nx = 3 ; } ",
+        b"void f ( void ) { g ( x\nx = 2 ; } ",
     ];
     for row in rows {
         let (text, _line) = answer(rt.alloc(), row)?;

@@ -27,7 +27,7 @@ fn shown(alloc: Global, text: &[u8]) -> Result<Text, AllocError> {
             rest
         }
         Err(Stop::Memory) => return Err(AllocError),
-        Err(Stop::Syntax(left)) | Err(Stop::LeftOut(left)) => {
+        Err(Stop::Syntax(left)) => {
             out.append(b"syntax")?;
             left
         }

@@ -13,7 +13,7 @@ fn refused(alloc: Global, tokens: &[Token], stop: Stop) -> Result<Text, AllocErr
     let mut out = Text::new(alloc);
     let left = match stop {
         Stop::Memory => return Err(AllocError),
-        Stop::Syntax(left) | Stop::LeftOut(left) => {
+        Stop::Syntax(left) => {
             out.append(b"syntax at ")?;
             left
         }

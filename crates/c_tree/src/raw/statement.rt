@@ -7,7 +7,9 @@ use sqlite_items::{Boxed, Items};
 /// Where a value that a call gives is stored.
 #[derive(Debug, Drop)]
 pub enum RawTarget {
+    /// Nowhere.
     None,
+    /// In the object that this expression designates.
     Place(RawExpr),
     /// The variable that the statement declares.
     Declared(RawVar),
@@ -16,7 +18,9 @@ pub enum RawTarget {
 /// An argument of a call: a value, or the spelling of a string literal with its quotes.
 #[derive(Debug, Drop)]
 pub enum RawArg {
+    /// An expression.
     Value(RawExpr),
+    /// A string literal, by its spelling with its quotes.
     Literal(Text),
 }
 
@@ -24,13 +28,16 @@ pub enum RawArg {
 /// they are counted, and don't nest.
 #[derive(Debug, Drop)]
 pub struct RawTypeName {
+    /// The type in front of the stars.
     pub base: RawType,
+    /// How many stars there are.
     pub stars: usize,
 }
 
 /// The words of a size: `sizeof(T)`, or `sizeof(*p)` and `sizeof *p`.
 #[derive(Debug, Drop)]
 pub enum RawSize {
+    /// The size of a type.
     Type(RawTypeName),
     /// What a variable points to, and whether it stands in parentheses.
     Pointee(Text, bool),
@@ -39,18 +46,22 @@ pub enum RawSize {
 /// How much memory an allocation asks for.
 #[derive(Debug, Drop)]
 pub enum RawAmount {
+    /// One object of the size.
     Size(RawSize),
     /// `n * sizeof(T)`
     CountSize(RawExpr, RawSize),
     /// `sizeof(T) * n`
     SizeCount(RawSize, RawExpr),
+    /// So many bytes, for objects of a char type.
     Count(RawExpr),
 }
 
 /// A label of a switch.
 #[derive(Debug, Drop)]
 pub enum RawLabel {
+    /// `case e:`
     Case(RawExpr),
+    /// `default:`
     Default,
 }
 
@@ -58,7 +69,9 @@ pub enum RawLabel {
 #[cycle(raw_tree)]
 #[derive(Debug, Drop)]
 pub struct RawArm {
+    /// Its labels, in text order.
     pub labels: Items<RawLabel>,
+    /// Its statements, without the break.
     pub body: Items<RawStatement>,
 }
 
@@ -66,6 +79,7 @@ pub struct RawArm {
 #[cycle(raw_tree)]
 #[derive(Debug, Drop)]
 pub enum RawStatement {
+    /// A declarator of a declaration (6.7), and what its variable begins with.
     Declare {
         line: u32,
         var: RawVar,
@@ -99,22 +113,26 @@ pub enum RawStatement {
         cast: Option<RawTypeName>,
         amount: RawAmount,
     },
+    /// `if` (6.8.4.1); without an else `other` is empty.
     If {
         line: u32,
         test: RawExpr,
         then: Items<RawStatement>,
         other: Items<RawStatement>,
     },
+    /// `while` (6.8.5.1)
     While {
         line: u32,
         test: RawExpr,
         body: Items<RawStatement>,
     },
+    /// `do` (6.8.5.2)
     Do {
         line: u32,
         test: RawExpr,
         body: Items<RawStatement>,
     },
+    /// `for` (6.8.5.3); what it begins with and its step are statements of their own.
     For {
         line: u32,
         init: Option<Boxed<RawStatement>>,
@@ -122,15 +140,18 @@ pub enum RawStatement {
         step: Option<Boxed<RawStatement>>,
         body: Items<RawStatement>,
     },
+    /// `switch` (6.8.4.2)
     Switch {
         line: u32,
         test: RawExpr,
         arms: Items<RawArm>,
     },
+    /// A block that is no part of another statement (6.8.2).
     Block {
         line: u32,
         body: Items<RawStatement>,
     },
+    /// `return` (6.8.6.4), with a value or without one.
     Return {
         line: u32,
         value: Option<RawExpr>,

@@ -1,10 +1,11 @@
-use Rattle.std.proofs.Common.{◌≡◌, length, get_or, sym, ap, ◌∙◌}
+use Rattle.std.proofs.Common.{get_or, sym, ap, ◌∙◌}
 use Rattle.c_tree.specs.declared.program.Function.{Function}
 use Rattle.dep_model.specs.declared.skeleton.Pair.{Pair}
 use Rattle.dep_model.specs.FunctionVertices.{heads, tails}
 use Rattle.dep_model.specs.Groups.{row}
-use Rattle.flow_graph.proofs.FunctionLaws.{found_exactly, code_at, got, walked}
+use Rattle.flow_graph.proofs.FunctionLaws.{found_exactly, walked}
 use Rattle.flow_graph.proofs.pairs_of.Goals as goal
+use Rattle.dep_model.proofs.FunctionCode.{code_at, got}
 
 pub returns-clause-exact : goal.returns-clause-exact
 returns-clause-exact c =

@@ -1,8 +1,8 @@
 use Rattle.std.proofs.Common.{◌↔◌, List, [], Contains, length, false, sym, ap, ◌∙◌, subst, arith}
 use Rattle.std.proofs.lemmas.List.{length-replicate}
 use Rattle.dep_model.specs.declared.skeleton.Pair.{Pair}
+use Rattle.dep_model.specs.EdgeOrder.{AreAscendingEdges}
 use Rattle.reaching_defs.specs.declared.span.Span.{Span}
-use Rattle.reaching_defs.specs.FlowEdges.{AreAscendingEdges}
 use Rattle.reaching_defs.specs.RowFlow.{IsRowFlow}
 use Rattle.reaching_defs.proofs.EdgeLemmas.{AreFound, order_of, none_ascend, found_begin, found_more, found_all}
 use Rattle.reaching_defs.proofs.edges.Goals as goal

@@ -1,5 +1,5 @@
 use Rattle.std.proofs.Common.{◌≡◌, length}
-use Rattle.reaching_defs.specs.FlowEdges.{AreAscendingEdges}
+use Rattle.dep_model.specs.EdgeOrder.{AreAscendingEdges}
 use Rattle.reaching_defs.proofs.EdgeLemmas.{AreFound}
 use Rattle.reaching_defs.proofs.edges.Given as goal
 

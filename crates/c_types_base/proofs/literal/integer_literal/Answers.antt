@@ -1,4 +1,4 @@
-use Rattle.std.proofs.Common.{◌≡◌, sym, ◌∙◌, ap}
+use Rattle.std.proofs.Common.{sym}
 use Rattle.c_types_base.proofs.LiteralLemmas.{untyped}
 use Rattle.c_types_base.proofs.literal.integer_literal.Goals as goal
 

@@ -1,5 +1,5 @@
 use Rattle.std.proofs.Common.{[], ◌∷◌, map}
-use Rattle.c_types_base.proofs.DefinitionLemmas.{map-append}
+use Rattle.std.proofs.lemmas.List.{map-append}
 use Rattle.c_types_rules.specs.Conversions.{conversion_of, behind_of}
 use Rattle.c_types_rules.proofs.FormatLemmas.{step_fails, step_passes, step_converts}
 use Rattle.c_types_rules.proofs.conversions.conversions_of.Goals as goal

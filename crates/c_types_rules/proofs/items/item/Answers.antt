@@ -1,7 +1,8 @@
 use Rattle.std.proofs.Common.{ap, sym, ◌∙◌, refl}
 use Rattle.c_tree.specs.declared.raw.program.RawItem.TheVariants as item_of
 use Rattle.c_language.specs.Phrases as phrases
-use Rattle.c_types_base.specs.Stretches.{one_phrase, of_declaration, of_item}
+use Rattle.c_types_base.specs.Stretches.{of_declaration, of_item}
+use Rattle.c_types_base.proofs.Stretching.{one_phrase}
 use Rattle.c_types_rules.proofs.Checked.{walks_phrase}
 use Rattle.c_types_rules.proofs.ItemSteps.{item_walks}
 use Rattle.c_types_rules.proofs.StatementSteps.{restated_at}

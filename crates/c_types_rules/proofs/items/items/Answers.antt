@@ -1,12 +1,12 @@
 use Rattle.std.proofs.Common.{ap, sym, ◌∙◌, ◌+◌, drop}
 use Rattle.c_tree.specs.declared.raw.program.RawProgram.{RawProgram}
 use Rattle.c_language.specs.Scopes.{Scope}
+use Rattle.c_language.proofs.Turns.{drop_turn}
 use Rattle.c_types_base.specs.Tables.{scope_of}
 use Rattle.c_types_base.specs.Stretches.{then_comes, of_item, of_items}
 use Rattle.c_types_rules.specs.Walks.{Walks}
 use Rattle.c_types_base.proofs.TextSteps.{items_here}
 use Rattle.c_types_base.proofs.ListingLaws.{item_outer, item_structs, structs_more, placed}
-use Rattle.c_types_base.proofs.Stretching.{here}
 use Rattle.c_types_rules.proofs.WalkSteps.{left_same, turn, stops, passes_on}
 use Rattle.c_types_rules.proofs.items.items.Goals as goal
 
@@ -15,7 +15,7 @@ item-requires-clause-place c =
     let list = c.args.list.now in
     let i = c.loop-one.one-index in
     placed c.loop-one.tables.raw.now list i (drop (i + 1) list) (c.requires.whole ∙ ap (λ (r : RawProgram). r.items) (sym c.loop-one.invariant.passed.text)) _ c.loop-one.invariant.counted
-    c.one-item.result (here list i c.one-item.result c.loop-one-test.true c.one-item.is)
+    c.one-item.result (drop_turn list i c.one-item.result c.loop-one-test.true c.one-item.is)
 
 pub returns-in_err-item : goal.returns-in_err-item
 returns-in_err-item c =

@@ -3,15 +3,16 @@ use Rattle.c_language.specs.Phrases as phrases
 use Rattle.c_types_base.specs.Names.{listed_type}
 use Rattle.c_types_base.specs.Tables.{scope_of}
 use Rattle.c_types_base.specs.Listing.{HasMembers}
-use Rattle.c_types_base.specs.Stretches.{then_comes, one_phrase, of_members}
+use Rattle.c_types_base.specs.Stretches.{then_comes}
 use Rattle.c_types_rules.specs.Walks.{Answers}
 use Rattle.c_types_rules.proofs.Checked.{walks_phrase}
 use Rattle.c_types_rules.proofs.DeclaredLaws.{member_there}
 use Rattle.c_types_rules.proofs.DeclaredSteps.{passed}
 use Rattle.c_types_base.proofs.OptionLemmas.{is_there}
 use Rattle.c_types_rules.proofs.ItemSteps.{passes_fault, member_fresh}
-use Rattle.c_types_base.proofs.TextSteps.{members_here, with_next}
+use Rattle.c_types_base.proofs.TextSteps.{members_here, with_next, of_members}
 use Rattle.c_types_base.proofs.ListingLaws.{named_before}
+use Rattle.c_types_base.proofs.Stretching.{one_phrase}
 use Rattle.c_types_rules.proofs.WalkSteps.{left_same, turn, stops}
 use Rattle.c_types_rules.proofs.items.members.Goals as goal
 

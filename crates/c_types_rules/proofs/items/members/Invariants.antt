@@ -1,6 +1,6 @@
 use Rattle.std.proofs.Common.{[], drop, take}
 use Rattle.c_types_base.specs.Listing.{HasMembers}
-use Rattle.c_types_base.specs.Stretches.{of_members}
+use Rattle.c_types_base.proofs.TextSteps.{of_members}
 use Rattle.c_types_rules.proofs.WalkSteps.{Passed}
 use Rattle.c_types_rules.proofs.items.members.Given as goal
 

@@ -3,11 +3,12 @@ use Rattle.c_language.specs.Phrases as phrases
 use Rattle.c_types_base.specs.Numbering.{Numbers}
 use Rattle.c_types_base.specs.Tables.{scope_of}
 use Rattle.c_types_base.specs.Listing.{names_given}
-use Rattle.c_types_base.specs.Stretches.{then_comes, one_phrase, of_taken}
+use Rattle.c_types_base.specs.Stretches.{then_comes}
 use Rattle.c_types_rules.specs.Walks.{Answers}
 use Rattle.c_types_rules.proofs.Checked.{walks_phrase}
 use Rattle.c_types_rules.proofs.ItemSteps.{passes_fault}
-use Rattle.c_types_base.proofs.TextSteps.{taken_here, with_next}
+use Rattle.c_types_base.proofs.TextSteps.{taken_here, with_next, of_taken}
+use Rattle.c_types_base.proofs.Stretching.{one_phrase}
 use Rattle.c_types_rules.proofs.WalkSteps.{left_same, turn, stops}
 use Rattle.c_types_rules.proofs.items.taken.Goals as goal
 

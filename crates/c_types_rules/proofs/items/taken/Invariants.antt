@@ -1,7 +1,7 @@
 use Rattle.std.proofs.Common.{[], drop, take}
 use Rattle.c_types_base.specs.Numbering.{Numbers}
 use Rattle.c_types_base.specs.Listing.{names_given}
-use Rattle.c_types_base.specs.Stretches.{of_taken}
+use Rattle.c_types_base.proofs.TextSteps.{of_taken}
 use Rattle.c_types_rules.proofs.WalkSteps.{Passed}
 use Rattle.c_types_rules.proofs.items.taken.Given as goal
 

@@ -1,6 +1,6 @@
 use Rattle.std.proofs.Common.{◌+◌, ◌<◌, length, get_or, sym, ◌∙◌, arith}
 use Rattle.std.proofs.lemmas.List.{length-set}
-use Rattle.dep_model.proofs.SetLemmas.{has_in_range}
+use Rattle.rule_closure.proofs.SetLemmas.{has_in_range}
 use Rattle.reaching_defs.specs.RowFlow.{row_has}
 use Rattle.reaching_defs.proofs.TargetLemmas.{collect_adds, collect_skips}
 use Rattle.reaching_defs.proofs.from_vertex.collect.Goals as goal

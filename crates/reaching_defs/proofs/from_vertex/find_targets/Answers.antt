@@ -1,7 +1,7 @@
 use Rattle.std.proofs.Common.{◌≤◌, ◌*◌, refl, sym, arith}
 use Rattle.std.proofs.lemmas.Bool.{false≢true}
 use Rattle.bit_rows.specs.Tables.{the_set}
-use Rattle.reaching_defs.proofs.TargetLemmas.{words_of, bit_is, member_below, none_in, word_adds, word_passes, words_end}
+use Rattle.reaching_defs.proofs.TargetLemmas.{words_of, bit_is, member_below, none_in, some_in, none_yet, flag_is, word_adds, word_passes, words_end}
 use Rattle.reaching_defs.proofs.from_vertex.find_targets.Goals as goal
 use Rattle.reaching_defs.proofs.from_vertex.find_targets.Goals.{then-word-ne0, else-word-ne0}
 
@@ -30,6 +30,8 @@ loop-at-preserved c =
             wide = a.wide;
             size = a.size;
             exact = word_adds c.args.next.now.span.base c.args.next.now.span.size c.args.s.now c.args.next.now.pairs.items c.args.v _ at c.loop-at.targets w.add_targets.new.targets i.exact a.exact;
+            some = λ t. some_in bits words row (words_of e.len e.holds e.clean) at (omega (arith, w.if-word-ne0.true)) (c.type_inv.word-items at).fits;
+            none_yet = λ f. absurd (false≢true (sym f));
             none = λ f. absurd (false≢true (sym f));
           })
       | else-word-ne0 w ↦
@@ -37,6 +39,8 @@ loop-at-preserved c =
             wide = i.wide;
             size = i.size;
             exact = word_passes c.args.next.now.span.base c.args.next.now.span.size c.args.s.now c.args.next.now.pairs.items c.args.v _ at c.loop-at.targets i.exact (λ k. none_in bits words row (words_of e.len e.holds e.clean) at k w.if-word-ne0.false);
+            some = i.some;
+            none_yet = λ f. none_yet bits words row (words_of e.len e.holds e.clean) at w.if-word-ne0.false (i.none_yet f);
             none = i.none;
           })
     ]
@@ -49,3 +53,11 @@ returns-clause-exact c =
     let row = the_set c.args.s.now.defined c.args.v in
     let end : bits ≤ 64 * c.loop-at.at = omega (arith, e.len) in
     words_end c.args.next.now.span.base c.args.next.now.span.size c.args.s.now c.args.next.now.pairs.items c.args.v _ bits c.loop-at.at c.loop-at.targets refl c.loop-at.invariant.exact end (member_below bits words row (words_of e.len e.holds e.clean))
+
+pub returns-clause-defines : goal.returns-clause-defines
+returns-clause-defines c =
+    let e = c.words-word-items.ensures in
+    let i = c.loop-at.invariant in
+    let bits = c.args.s.now.defined.bits in
+    let end : bits ≤ 64 * c.loop-at.at = omega (arith, e.len) in
+    flag_is bits c.words-word-items.result.now (the_set c.args.s.now.defined c.args.v) (words_of e.len e.holds e.clean) c.loop-at.any c.loop-at.at end i.some i.none_yet

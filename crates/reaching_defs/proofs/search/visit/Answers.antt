@@ -1,7 +1,7 @@
 use Rattle.std.proofs.Common.{◌≡◌, ◌-◌, ◌<◌, ◌∙◌, sym, length, false, true, subst, arith}
 use Rattle.std.proofs.lemmas.List.{get_or-set_same, get_or_read}
 use Rattle.bit_rows.specs.Sets.{has}
-use Rattle.dep_model.proofs.SetLemmas.{count_room}
+use Rattle.rule_closure.proofs.SetLemmas.{count_room}
 use Rattle.reaching_defs.specs.Spans.{IsLastFrom}
 use Rattle.reaching_defs.proofs.SearchLemmas.{pair_among, visit_moves, visit_adds}
 use Rattle.reaching_defs.proofs.search.visit.Goals as goal

@@ -1,5 +1,5 @@
 use Rattle.std.proofs.Common.{All}
-use Rattle.reaching_defs.specs.RowFlow.{IsPairBelow}
+use Rattle.dep_model.specs.Pairs.{IsPairBelow}
 use Rattle.reaching_defs.proofs.tests.push_pairs.Given as goal
 
 abbrev pub invariant-loop-from : goal.invariant-loop-from

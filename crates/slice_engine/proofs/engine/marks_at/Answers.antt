@@ -17,4 +17,4 @@ marks_of-requires-2 c = c.in_ok-keep.ensures.size ∙ criterion_long c.args.line
 
 pub returns : goal.returns
 returns c =
-    are_marks c.args.p.now c.args.edges.now c.args.starts.now c.args.line c.in_ok-set.set c.keep.new.set c.in_ok-wanted.wanted.items c.in_ok-kept.kept.items c.requires c.in_ok-set.ensures c.in_ok-keep.ensures.kept (sym c.in_ok-wanted.wanted.ok.0 ∙ c.in_ok-wanted.ensures.long) c.in_ok-wanted.ensures.each (sym c.in_ok-kept.kept.ok.0 ∙ c.in_ok-kept.ensures.long) c.in_ok-kept.ensures.each
+    are_marks c.args.p.now c.args.edges.now c.args.starts.now c.args.line c.in_ok-set.set c.keep.new.set c.in_ok-in_criterion.in_criterion.items c.in_ok-kept.kept.items c.requires c.in_ok-set.ensures c.in_ok-keep.ensures.kept (sym c.in_ok-in_criterion.in_criterion.ok.0 ∙ c.in_ok-in_criterion.ensures.long) c.in_ok-in_criterion.ensures.each (sym c.in_ok-kept.kept.ok.0 ∙ c.in_ok-kept.ensures.long) c.in_ok-kept.ensures.each

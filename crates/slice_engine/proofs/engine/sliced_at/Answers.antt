@@ -9,4 +9,4 @@ pub returns : goal.returns
 returns c =
     let p = c.args.p.now in
     let m = c.in_ok-marks.marks in
-    is_sliced p c.args.line m.wanted.items m.kept.items c.in_ok-marks.ensures c.in_ok-program.program c.in_ok-wanted.wanted.items (c.in_ok-program.ensures ∙ ap (λ xs. projection p (has xs)) c.as_slice.ensures.value) (c.in_ok-wanted.ensures ∙ ap (λ xs. by_rank xs c.as_slice-3.result.now) c.as_slice-2.ensures.value ∙ ap (by_rank m.kept.items) c.as_slice-3.ensures.value)
+    is_sliced p c.args.line m.in_criterion.items m.kept.items c.in_ok-marks.ensures c.in_ok-program.program c.in_ok-in_criterion.in_criterion.items (c.in_ok-program.ensures ∙ ap (λ xs. projection p (has xs)) c.as_slice.ensures.value) (c.in_ok-in_criterion.ensures ∙ ap (λ xs. by_rank xs c.as_slice-3.result.now) c.as_slice-2.ensures.value ∙ ap (by_rank m.kept.items) c.as_slice-3.ensures.value)

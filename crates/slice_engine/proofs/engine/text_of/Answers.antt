@@ -18,7 +18,7 @@ lines_of-requires c =
 pub returns-clause-slice : goal.returns-clause-slice
 returns-clause-slice c =
     let q = c.in_ok-sliced.sliced.program in
-    let w = c.in_ok-sliced.sliced.wanted.items in
+    let w = c.in_ok-sliced.sliced.in_criterion.items in
     let lines = c.in_ok-lines.lines.items in
     let shown = c.in_ok-shown.shown.items in
     let exact : (k : ℕ) → Contains shown k ↔ Contains (shown_lines w lines) k = subst (λ (xs : List Bool). (k : ℕ) → Contains shown k ↔ Contains (shown_lines xs lines) k) c.as_slice.ensures.value (subst (λ (ls : List ℕ). (k : ℕ) → Contains shown k ↔ Contains (shown_lines c.as_slice.result.now ls) k) c.as_slice-2.ensures.value c.in_ok-shown.ensures.exact) in
@@ -28,7 +28,7 @@ returns-clause-slice c =
 pub returns-clause-read : goal.returns-clause-read
 returns-clause-read c =
     let q = c.in_ok-sliced.sliced.program in
-    let w = c.in_ok-sliced.sliced.wanted.items in
+    let w = c.in_ok-sliced.sliced.in_criterion.items in
     let lines = c.in_ok-lines.lines.items in
     let shown = c.in_ok-shown.shown.items in
     let exact : (k : ℕ) → Contains shown k ↔ Contains (shown_lines w lines) k = subst (λ (xs : List Bool). (k : ℕ) → Contains shown k ↔ Contains (shown_lines xs lines) k) c.as_slice.ensures.value (subst (λ (ls : List ℕ). (k : ℕ) → Contains shown k ↔ Contains (shown_lines c.as_slice.result.now ls) k) c.as_slice-2.ensures.value c.in_ok-shown.ensures.exact) in

@@ -1,4 +1,4 @@
-use Rattle.std.proofs.Common.{◌≡◌, List, ◌∷◌, [], ◌++◌, refl, sym, subst}
+use Rattle.std.proofs.Common.{◌≡◌, ◌∷◌, [], ◌++◌, refl, subst}
 use Rattle.c_types_base.specs.Numbering.{Numbers}
 use Rattle.c_types_base.proofs.DefinitionLemmas.{function_added}
 use Rattle.c_types_base.proofs.definitions.Definitions.add_function.Goals as goal

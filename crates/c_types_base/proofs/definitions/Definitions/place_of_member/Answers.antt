@@ -1,4 +1,4 @@
-use Rattle.std.proofs.Common.{rules, ◌≡◌, Option, Some, None, option_and_then, slice_get, sym, ap, ◌∙◌}
+use Rattle.std.proofs.Common.{rules, ◌≡◌, Some, None, option_and_then, slice_get, sym, ap, ◌∙◌}
 use Rattle.c_language.specs.DeclaredTypes.{structs_of}
 use Rattle.c_types_base.specs.declared.numbering.Numbering.{Numbering}
 use Rattle.c_types_base.specs.Numbering.{number_in}

@@ -1,7 +1,7 @@
-use Rattle.std.proofs.Common.{◌≡◌, map, ap, ◌∙◌, [], ◌∷◌}
+use Rattle.std.proofs.Common.{map, ap, ◌∙◌, [], ◌∷◌}
+use Rattle.std.proofs.lemmas.List.{map-append}
 use Rattle.indexmap.proofs.CallerLemmas.{insert_entry-new}
 use Rattle.c_types_base.specs.Names.{meaning_of, entry_of}
-use Rattle.c_types_base.proofs.DefinitionLemmas.{map-append}
 use Rattle.c_types_base.proofs.NameLemmas.{found_lookup}
 use Rattle.c_types_base.proofs.NameSteps.{unmapped}
 use Rattle.c_types_base.proofs.names.Names.add.Goals as goal

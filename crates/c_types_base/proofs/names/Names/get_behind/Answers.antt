@@ -1,4 +1,4 @@
-use Rattle.std.proofs.Common.{rules, ◌≡◌, Option, None, option_map, ap, ◌∙◌}
+use Rattle.std.proofs.Common.{rules, None, option_map, ap, ◌∙◌}
 use Rattle.c_types_base.specs.Names.{meaning_of}
 use Rattle.c_types_base.proofs.NameLemmas.{names_behind, none_behind, same_behind}
 use Rattle.c_types_base.proofs.names.Names.get_behind.Goals as goal

@@ -1,4 +1,4 @@
-use Rattle.std.proofs.Common.{rules, ◌≡◌, ◌+◌, Option, is_some, true, false, None, refl, arith}
+use Rattle.std.proofs.Common.{rules, ◌≡◌, ◌+◌, is_some, true, None, refl}
 use Rattle.std.proofs.lemmas.Map.Text.{hash_map_updates_str}
 use Rattle.c_types_base.specs.Numbering.{number_in}
 use Rattle.c_types_base.proofs.NumberingLemmas.{added_new, added_again}

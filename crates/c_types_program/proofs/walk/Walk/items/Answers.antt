@@ -1,9 +1,9 @@
 use Rattle.std.proofs.Common.{◌+◌, drop, sym, ap, ◌∙◌}
 use Rattle.c_tree.specs.declared.raw.program.RawProgram.{RawProgram}
 use Rattle.c_language.specs.Scopes.{Scope}
+use Rattle.c_language.proofs.Turns.{drop_turn}
 use Rattle.c_types_base.specs.Tables.{scope_of}
 use Rattle.c_types_base.proofs.ListingLaws.{structs_more, placed}
-use Rattle.c_types_base.proofs.Stretching.{here}
 use Rattle.c_types_program.proofs.ItemForms.{items_begin, item_comes, items_turn, counted_on, outside_on, next_item, last_item, items_made, functions_made, items_gone}
 use Rattle.c_types_program.proofs.walk.Walk.items.Goals as goal
 
@@ -25,7 +25,7 @@ item-requires-clause-place c =
     let list = c.args.list.now in
     let i = c.loop-one.one-index in
     placed c.loop-one.self.tables.raw.now list i (drop (i + 1) list) (c.requires.whole ∙ ap (λ (r : RawProgram). r.items) (sym c.loop-one.invariant.going.at.stands.text)) _ c.loop-one.invariant.counted
-    c.one-item.result (here list i c.one-item.result c.loop-one-test.true c.one-item.is)
+    c.one-item.result (drop_turn list i c.one-item.result c.loop-one-test.true c.one-item.is)
 
 pub item-requires-clause-fits : goal.item-requires-clause-fits
 item-requires-clause-fits c =

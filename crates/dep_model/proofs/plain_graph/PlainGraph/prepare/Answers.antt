@@ -1,5 +1,5 @@
 use Rattle.std.proofs.Common.{All, sym, subst}
-use Rattle.dep_model.specs.Rules.{IsRuleWithin}
+use Rattle.rule_closure.specs.Rules.{IsRuleWithin}
 use Rattle.dep_model.proofs.CompletionLemmas.{back_within}
 use Rattle.dep_model.proofs.plain_graph.PlainGraph.prepare.Goals as goal
 

@@ -1,0 +1,34 @@
+-- Where a value is there, and the value of one that is.
+use Rattle.std.proofs.Common.{◌≡◌, Option, Some, None, option_map, refl, sym, ap, subst}
+use Rattle.std.specs.Option.{unwrap_or}
+use Rattle.c_language.specs.ProgramOf.{optional}
+
+-- a value is there
+abbrev pub IsThere : {A : Type 0} → Option A → Type 0
+IsThere None = ⊥
+IsThere (Some x) = Unit {0}
+
+-- the value that is there
+pub value_there : {A : Type 0} (o : Option A) → IsThere o → (x : A) × (o ≡ Some x)
+value_there None h = absurd h
+value_there (Some x) h = (x, refl)
+
+pub there_map : {A B : Type 0} (f : A → B) (o : Option A) → IsThere o → IsThere (option_map f o)
+there_map f None h = h
+there_map f (Some x) h = tt
+
+pub none_there : {A B : Type 0} {x : A} → ◌≡◌ {A = Option A} None (Some x) → B
+none_there h = absurd (subst IsThere (sym h) tt)
+
+pub some_same : {A : Type 0} {x y : A} → ◌≡◌ {A = Option A} (Some x) (Some y) → x ≡ y
+some_same {x} h = ap (λ (o : Option _). unwrap_or o x) h
+
+-- what a value that is there was made of
+pub map_some : {A B : Type 0} (f : A → B) (o : Option A) (y : B) → option_map f o ≡ Some y → (x : A) × (o ≡ Some x) × (y ≡ f x)
+map_some f None y e = none_there e
+map_some f (Some x) y e = (x, refl, sym (some_same e))
+
+-- a part that is there is so with its value
+pub optional_there : {A : Type 0} (o : Option A) (z : Option A) → optional (Some o) ≡ Some z → (y : A) × ((o ≡ Some y) × (Some y ≡ z))
+optional_there None z h = none_there h
+optional_there (Some y) z h = (y, (refl, some_same h))

@@ -1,0 +1,14 @@
+pub mod Written
+pub mod TokenPrint
+pub mod RawWordLemmas
+pub mod ExprPrint
+pub mod RawTypeLemmas
+pub mod TypePrint
+pub mod RawStatementLemmas
+pub mod SimplePrint
+pub mod DecimalPrint
+pub mod DeclarationLemmas
+pub mod DeclaredPrint
+pub mod StatementPrint
+pub mod ItemPrint
+pub mod TextPrint

@@ -1,0 +1,5 @@
+pub mod SpacedWords
+pub mod RawLayout
+pub mod Settled
+pub mod Declarations
+pub mod Laws

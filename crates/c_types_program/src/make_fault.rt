@@ -1,0 +1,21 @@
+use std::alloc::AllocError;
+
+/// Why a text has no program here, though it keeps all rules.
+#[derive(Clone, Copy, Debug, PartialEq, Eq)]
+pub enum MakeFault {
+    /// An array has 2^32 elements or more, which the tree can't hold.
+    Length,
+    /// Memory ran out.
+    NoMemory,
+}
+
+impl From<AllocError> for MakeFault {
+    ghost use Rattle.std.specs.Prelude.{◌≡◌};
+    ghost use Rattle.c_types_program.specs.declared.make_fault.MakeFault.TheVariants.{NoMemory};
+
+    ghost from_gives = { λ _ e. e ≡ NoMemory };
+
+    fn from(_error: AllocError) -> MakeFault {
+        MakeFault::NoMemory
+    }
+}

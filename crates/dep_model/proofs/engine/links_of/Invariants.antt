@@ -1,6 +1,0 @@
-use Rattle.std.proofs.Common.{◌≡◌, ◌++◌, take, map}
-use Rattle.dep_model.specs.Links.{from_first, from_second}
-use Rattle.dep_model.proofs.engine.links_of.Given as goal
-
-abbrev pub invariant-loop-rule : goal.invariant-loop-rule
-invariant-loop-rule l = l.links.items ≡ map from_first l.rules ++ map from_second (take l.rule-index l.rules)

@@ -1,5 +1,0 @@
-use Rattle.dep_model.proofs.Marking.{IsListing}
-use Rattle.dep_model.proofs.engine.list.Given as goal
-
-abbrev pub invariant-loop-v : goal.invariant-loop-v
-invariant-loop-v l = IsListing l.set l.v l.order l.filled

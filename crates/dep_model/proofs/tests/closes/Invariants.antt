@@ -1,5 +1,0 @@
-use Rattle.std.proofs.Common.{◌≡◌}
-use Rattle.dep_model.proofs.tests.closes.Given as goal
-
-abbrev pub invariant-loop-given : goal.invariant-loop-given
-invariant-loop-given g l = l.closure.size ≡ 6

@@ -1,0 +1,4 @@
+pub mod ListLemmas
+pub mod Marking
+pub mod RuleLemmas
+pub mod SetLemmas
