@@ -5,7 +5,6 @@ pub mod NestingLemmas
 pub mod FormLemmas
 pub mod StatementNestingLemmas
 pub mod ConstantLemmas
-pub mod OperandLemmas
 pub mod CodeLemmas
 pub mod ScopedForms
 pub mod TreedForms

@@ -2,4 +2,4 @@ pub mod ItemLaws
 pub mod ItemSound
 pub mod ItemDeep
 pub mod NamedLaws
-pub mod ProgramLaws
+pub mod ParserLaws

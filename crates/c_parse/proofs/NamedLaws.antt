@@ -13,7 +13,7 @@ use Rattle.c_parse_left_out.proofs.NearLaws.{near_begins}
 use Rattle.c_parse.specs.declared.parse_fault.ParseFault.{ParseFault}
 use Rattle.c_parse.specs.declared.parse_fault.ParseFault.TheVariants as fault
 use Rattle.c_parse.specs.ItemReading.{program, items_from, none_left}
-use Rattle.c_parse.specs.Verdict.{IsLineOf, left_out, named, some_line, line_before, NamesAt, Judges}
+use Rattle.c_parse.specs.Parser.{IsLineOf, left_out, named, some_line, line_before, NamesAt, Judges}
 
 -- ---- what is named
 

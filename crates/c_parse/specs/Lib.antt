@@ -1,2 +1,2 @@
 pub mod ItemReading
-pub mod Verdict
+pub mod Parser

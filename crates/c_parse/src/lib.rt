@@ -5,8 +5,6 @@
 //! c_parse_simple and c_parse_statements have what stands in them.
 #![tactic(auto)]
 
-#[cfg(test)]
-mod fragments;
 mod items;
 mod parse_fault;
 mod parser;

@@ -6,8 +6,8 @@ ghost use Rattle.c_language.specs.StatementNesting.{program_nesting};
 ghost use Rattle.c_parse.specs.ItemReading as reading;
 ghost use Rattle.c_parse_expr.specs.Outcome.{Syntax};
 ghost use Rattle.c_parse_left_out.specs.Places.{IsLeftOutAt};
-ghost use Rattle.c_parse.specs.Verdict as spec;
-ghost use Rattle.c_parse.specs.Verdict.{IsRight, IsTree, IsTooDeep, IsLineOf, HasLine, Names, NamesAt, Judges, Gives, line_before};
+ghost use Rattle.c_parse.specs.Parser as spec;
+ghost use Rattle.c_parse.specs.Parser.{IsRight, IsTree, IsTooDeep, IsLineOf, HasLine, Names, NamesAt, Judges, Gives, line_before};
 
 use crate::items::program;
 use crate::parse_fault::ParseFault;
@@ -22,7 +22,7 @@ use std::alloc::Global;
 const MAX_NESTING: u32 = 100;
 
 /// The line of the token before which so many are left, or of the last one.
-#[tactic(auto, unfolding(crate::specs::Verdict::line_before), using(crate::proofs::NamedLaws::line_is_of))]
+#[tactic(auto, unfolding(crate::specs::Parser::line_before), using(crate::proofs::NamedLaws::line_is_of))]
 fn line_at(tokens: &[Token], left: usize) -> u32
     requires { 0 < length tokens.now }
     ensures line { result ≡ line_before left tokens.now }
@@ -56,10 +56,9 @@ fn left_out_at(alloc: Global, tokens: &[Token], at: usize) -> ParseFault
 
 /// Where a construct begins because of which reading stopped at a place: the first one that its tokens
 /// tell, where it begins there or before, or else one without a production near the place.
-#[tactic(auto, unfolding(crate::specs::Verdict::left_out), using(c_parse_left_out::proofs::TellingLaws::told_is_left_out, crate::proofs::NamedLaws::near_left_out))]
+#[tactic(auto, unfolding(crate::specs::Parser::left_out), using(c_parse_left_out::proofs::TellingLaws::told_is_left_out, crate::proofs::NamedLaws::near_left_out))]
 fn left_out(tokens: &[Token], stop: usize) -> Option<usize>
-    requires within { stop ≤ length tokens.now }
-    requires none { (all : RawProgram) → IsProgram tokens.now all → ⊥ }
+    requires { (all : RawProgram) → IsProgram tokens.now all → ⊥ }
     ensures place { result ≡ spec.left_out tokens.now stop }
     ensures begins { IfSome result (λ at. IsLeftOutAt tokens.now at) }
 {
@@ -72,7 +71,7 @@ fn left_out(tokens: &[Token], stop: usize) -> Option<usize>
 }
 
 /// Why there is no tree, where reading stopped before so many tokens.
-#[tactic(auto, using(crate::proofs::ProgramLaws::no_tree, crate::proofs::NamedLaws::stopped_judges, crate::proofs::NamedLaws::unnamed_judges))]
+#[tactic(auto, using(crate::proofs::ParserLaws::no_tree, crate::proofs::NamedLaws::stopped_judges, crate::proofs::NamedLaws::unnamed_judges))]
 fn refused(alloc: Global, tokens: &[Token], left: usize) -> ParseFault
     requires some { 0 < length tokens.now }
     requires stopped { reading.program 100 tokens.now ≡ Err (Syntax left) }
@@ -129,7 +128,7 @@ fn judged(alloc: Global, tokens: &[Token]) -> Result<RawProgram, ParseFault>
 /// construct that the language leaves out, and nest at most 100 deep. Each fault has its cause: `LeftOut`
 /// names a token that begins a left-out construct, `Syntax` says that there is no tree, and `Nesting` that
 /// more than 100 tokens can nest; tokens in the grammar get it exactly where they nest deeper than 100.
-#[tactic(auto, using(crate::proofs::ProgramLaws::right, crate::proofs::ProgramLaws::accepted, crate::proofs::ProgramLaws::deep, crate::proofs::ProgramLaws::only))]
+#[tactic(auto, using(crate::proofs::ParserLaws::right, crate::proofs::ParserLaws::accepted, crate::proofs::ParserLaws::deep, crate::proofs::ParserLaws::only))]
 pub fn parse(alloc: Global, tokens: &[Token]) -> Result<RawProgram, ParseFault>
     ensures right { IsRight tokens.now 100 result }
     ensures accepted { (all : RawProgram) → IsProgram tokens.now all → IsInGrammar tokens.now → program_nesting all ≤ 100 → IsTree all result }

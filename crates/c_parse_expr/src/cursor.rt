@@ -7,7 +7,7 @@ ghost use Rattle.c_parse_expr.specs.Outcome.{Reads};
 
 use crate::fault::Stop;
 use c_language::{Text, Token, TokenKind};
-use c_parse_words::is_keyword;
+use c_parse_words::{is_keyword, is_token};
 use std::alloc::Global;
 use std::marker::Model;
 
@@ -23,13 +23,6 @@ impl<'a> Model for Cursor<'a> {
     ghost Value = { Tokens };
 
     ghost view = { λ c. c.tokens.now };
-}
-
-/// Whether a token is of this kind and has this text.
-pub fn is_token(token: &Token, kind: TokenKind, text: &[u8]) -> bool
-    ensures { result ≡ language.is_token kind text.now token.now }
-{
-    token.kind == kind && token.text.bytes() == text
 }
 
 impl<'a> Cursor<'a> {

@@ -1,4 +1,4 @@
-ghost use Rattle.std.specs.Prelude.{◌≡◌, length};
+ghost use Rattle.std.specs.Prelude.{◌≡◌};
 ghost use Rattle.c_language.specs.IntWords as language;
 ghost use Rattle.c_parse_expr.specs.IntReading as spec;
 ghost use Rattle.c_parse_expr.specs.Outcome.{Reads};

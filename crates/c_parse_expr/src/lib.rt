@@ -8,8 +8,6 @@ pub mod cursor;
 pub mod expr;
 pub mod fault;
 pub mod forms;
-#[cfg(test)]
-mod fragments;
 pub mod int_words;
 pub mod nested;
 pub mod params;

@@ -1,4 +1,4 @@
-ghost use Rattle.std.specs.Prelude.{◌≡◌, ◌∷◌, [], length};
+ghost use Rattle.std.specs.Prelude.{◌∷◌, [], length};
 ghost use Rattle.c_parse_expr.specs.TypeReading as spec;
 ghost use Rattle.c_parse_expr.specs.Outcome.{Reads};
 

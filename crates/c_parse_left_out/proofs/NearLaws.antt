@@ -1,10 +1,10 @@
 -- What is found near the place at which reading stopped begins a construct without a production.
-use Rattle.std.proofs.Common.{◌≡◌, ℕ, zero, suc, ◌+◌, ◌-◌, ◌≤◌, ◌<◌, [], ◌∷◌, ◌++◌, length, take, drop, reverse, refl, sym, ap, ◌∙◌, arith, true, false, Option, Some, None, IfSome, inl, inr, if◌then◌else◌}
+use Rattle.std.proofs.Common.{◌≡◌, ℕ, zero, suc, ◌+◌, ◌-◌, ◌≤◌, ◌<◌, min, [], ◌∷◌, ◌++◌, length, take, drop, reverse, refl, sym, ap, ◌∙◌, arith, true, false, Option, Some, None, IfSome, inl, inr, if◌then◌else◌}
 use Rattle.std.proofs.lemmas.Bool.{cases_Bool}
 use Rattle.std.proofs.lemmas.List.{take-append-drop, length-take-le, length-drop}
 use Rattle.c_language.specs.TokenForms.{Tokens}
 use Rattle.c_parse_left_out.specs.Places.{IsWithoutProductionAt}
-use Rattle.c_parse_left_out.specs.Near.{begins_between, begins_at, first_from, first_within, end_near, left_out_near}
+use Rattle.c_parse_left_out.specs.Near.{begins_between, begins_at, first_from, first_within, end_near, begun_near, left_out_near}
 use Rattle.c_parse_left_out.proofs.NamingLaws.{named_at}
 
 begun_before : (ts rest : Tokens) (at : ℕ) → drop at ts ≡ rest → begins_between (reverse (take at ts)) rest ≡ true → IsWithoutProductionAt ts at
@@ -35,10 +35,14 @@ within_begins : (ts : Tokens) (from_ to : ℕ) → IfSome (first_within ts from_
 unfolding first_within
 within_begins ts from_ to = from_begins (to - from_) ts from_
 
+there_begins : (ts : Tokens) (stop : ℕ) → IfSome (begun_near ts stop) (λ x. IsWithoutProductionAt ts x)
+unfolding begun_near
+there_begins ts stop = or_later ts _ _ (or_later ts _ _ (or_later ts _ _ (within_begins ts (stop - 5) (end_near ts stop))))
+
 -- A construct that is found begins where it is found.
 pub near_begins : (ts : Tokens) (stop : ℕ) → IfSome (left_out_near ts stop) (λ x. IsWithoutProductionAt ts x)
 unfolding left_out_near
-near_begins ts stop = or_later ts _ _ (or_later ts _ _ (or_later ts _ _ (within_begins ts (stop - 5) (end_near ts stop))))
+near_begins ts stop = there_begins ts (min stop (length ts))
 
 -- ---- the search
 

@@ -40,11 +40,15 @@ may_go_on ts at = is_some_open_mark (slice_get (reverse (take at ts)) 0)
 unfoldable pub end_near : Tokens → ℕ → ℕ
 end_near ts stop = stop + min (length ts - stop) (if may_go_on ts stop then 3 else 1)
 
--- The one whose reading stops at a place: a call or a struct whose bracket was closed there, a `for` whose parenthesis
--- is open there, or else the first one from five tokens before the place on.
-unfoldable pub left_out_near : Tokens → ℕ → Option ℕ
-left_out_near ts stop =
+-- The one whose reading stops at a place of the text: a call or a struct whose bracket was closed there, a `for` whose
+-- parenthesis is open there, or else the first one from five tokens before the place on.
+unfoldable pub begun_near : Tokens → ℕ → Option ℕ
+begun_near ts stop =
     if begins_at ts (open_before ts (stop - 1) - 1) then Some (open_before ts (stop - 1) - 1)
     else if begins_at ts (open_before ts (stop - 1)) then Some (open_before ts (stop - 1))
     else if begins_at ts (open_before ts stop - 1) then Some (open_before ts stop - 1)
     else first_within ts (stop - 5) (end_near ts stop)
+
+-- the same of any place, where one past the end of the text is its end
+unfoldable pub left_out_near : Tokens → ℕ → Option ℕ
+left_out_near ts stop = begun_near ts (min stop (length ts))

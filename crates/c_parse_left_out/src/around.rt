@@ -1,5 +1,5 @@
 //! What stands around a token.
-ghost use Rattle.std.specs.Prelude.{◌≡◌, ◌≤◌, ◌<◌, ◌==◌, ◌+◌, ◌-◌, ◌^◌, not, ◌&&◌, ◌||◌, [], ◌∷◌, slice_get, length, drop, codes};
+ghost use Rattle.std.specs.Prelude.{◌≡◌, ◌≤◌, ◌<◌, ◌==◌, ◌+◌, ◌-◌, ◌^◌, not, ◌&&◌, ◌||◌, [], slice_get, length, drop, codes};
 ghost use Rattle.std.specs.Option.{option_copied};
 ghost use Rattle.std.specs.List.{list_any};
 ghost use Rattle.std.specs.Str.{bytes_eq};
@@ -8,9 +8,9 @@ ghost use Rattle.c_language.specs.IntWords as words;
 ghost use Rattle.c_language.specs.LeftOut as grammar;
 ghost use Rattle.c_parse_left_out.specs.Naming as spec;
 
-use crate::left_out::braces_behind;
+use crate::telling::braces_behind;
 use c_language::{Token, TokenKind};
-use c_parse_words::is_keyword;
+use c_parse_words::{is_keyword, is_token};
 use std::marker::Model;
 
 /// The tokens on one side of a token, the nearest first.
@@ -125,13 +125,6 @@ impl<'a> Neighbours<'a> {
             None => false,
         }
     }
-}
-
-/// Whether a token is of this kind and has this text.
-pub fn is_token(token: &Token, kind: TokenKind, text: &[u8]) -> bool
-    ensures { result ≡ language.is_token kind text.now token.now }
-{
-    token.kind == kind && token.text.bytes() == text
 }
 
 fn is_mark(token: &Token, text: &[u8]) -> bool

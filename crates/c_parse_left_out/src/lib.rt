@@ -3,8 +3,9 @@
 #![tactic(auto)]
 
 mod around;
-mod left_out;
 mod naming;
+mod near;
+mod telling;
 
-pub use left_out::first_told;
-pub use naming::left_out_near;
+pub use near::left_out_near;
+pub use telling::first_told;

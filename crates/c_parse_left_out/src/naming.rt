@@ -1,18 +1,16 @@
 //! Constructs that have no production, told by what stands around a token.
-ghost use Rattle.std.specs.Prelude.{◌≡◌, ◌≤◌, ◌==◌, not, ◌&&◌, ◌||◌, length, drop, slice_get, reverse, codes};
+ghost use Rattle.std.specs.Prelude.{◌≡◌, ◌==◌, ◌&&◌, ◌||◌, slice_get};
 ghost use Rattle.c_language.specs.Sees as language;
 ghost use Rattle.c_language.specs.IntWords as words;
 ghost use Rattle.c_language.specs.LeftOut as grammar;
 ghost use Rattle.c_parse_left_out.specs.Naming as spec;
-ghost use Rattle.c_parse_left_out.specs.Near as near;
 
 use crate::around::{
     Neighbours, Sought, behind_stars, behind_words, doubles_semicolon, has_open_brace, holds_long,
-    innermost, is_assignment_sign, is_bump_sign, is_closing, is_int_word, is_token, outside,
-    owes_no_colon, stands_here,
+    innermost, is_assignment_sign, is_bump_sign, is_int_word, outside, owes_no_colon, stands_here,
 };
 use c_language::{Token, TokenKind};
-use c_parse_words::is_keyword;
+use c_parse_words::{is_keyword, is_token};
 
 /// Whether this mark stands in front.
 #[tactic(auto, unfolding(c_language::specs::Sees::sees))]
@@ -519,7 +517,7 @@ fn names_mark(mark: &[u8], before: &Neighbours<'_>, behind: &Neighbours<'_>) -> 
 }
 
 /// Whether a token begins a construct without a production between these tokens.
-fn names(before: &Neighbours<'_>, token: &Token, behind: &Neighbours<'_>) -> bool
+pub(crate) fn names(before: &Neighbours<'_>, token: &Token, behind: &Neighbours<'_>) -> bool
     ensures { result ≡ spec.names before.now token.now behind.now }
 {
     let text = token.text.bytes();
@@ -532,99 +530,4 @@ fn names(before: &Neighbours<'_>, token: &Token, behind: &Neighbours<'_>) -> boo
         | TokenKind::Include
         | TokenKind::Directive => false,
     }
-}
-
-/// Whether a construct without a production begins at a place.
-#[tactic(auto, unfolding(crate::specs::Near::begins_at))]
-fn begins_at(tokens: &[Token], at: usize) -> bool
-    requires { at ≤ length tokens.now }
-    ensures { result ≡ near.begins_at tokens.now at }
-{
-    let (before, rest) = tokens.split_at(at);
-    match rest.split_first() {
-        Some((token, behind)) => names(
-            &Neighbours::before(before),
-            token,
-            &Neighbours::behind(behind),
-        ),
-        None => false,
-    }
-}
-
-/// The place of the innermost bracket that is open before a place, and 0 where none is.
-#[tactic(auto, unfolding(crate::specs::Near::open_before))]
-fn open_before(tokens: &[Token], at: usize) -> usize
-    requires { at ≤ length tokens.now }
-    ensures place { result ≡ near.open_before tokens.now at }
-    ensures within { result ≤ length tokens.now }
-{
-    let (before, _) = tokens.split_at(at);
-    innermost(&Neighbours::before(before))
-        .len()
-        .saturating_sub(1)
-}
-
-/// The first place from one on, before another, at which a construct without a production begins.
-fn first_within(tokens: &[Token], from: usize, to: usize) -> Option<usize>
-    requires { to ≤ length tokens.now }
-    ensures { result ≡ near.first_within tokens.now from to }
-{
-    for at in from..to {
-        if begins_at(tokens, at) {
-            return Some(at);
-        }
-    }
-    None
-}
-
-/// Whether an expression may go on at a place: a mark stands before it that is no closing bracket and no
-/// `++` or `--`.
-#[tactic(auto, unfolding(crate::specs::Near::may_go_on))]
-fn may_go_on(tokens: &[Token], at: usize) -> bool
-    requires { at ≤ length tokens.now }
-    ensures { result ≡ near.may_go_on tokens.now at }
-{
-    let (before, _) = tokens.split_at(at);
-    match Neighbours::before(before).get(0) {
-        Some(token) => {
-            token.kind == TokenKind::Mark
-                && !(is_closing(token) || is_bump_sign(token.text.bytes()))
-        }
-        None => false,
-    }
-}
-
-/// The place behind the last one that is looked at, where reading stops at a place. Behind an operand the
-/// next tokens are those of another statement.
-#[tactic(auto, unfolding(crate::specs::Near::end_near))]
-fn end_near(tokens: &[Token], stop: usize) -> usize
-    requires { stop ≤ length tokens.now }
-    ensures place { result ≡ near.end_near tokens.now stop }
-    ensures within { result ≤ length tokens.now }
-{
-    let most = if may_go_on(tokens, stop) { 3 } else { 1 };
-    stop + (tokens.len() - stop).min(most)
-}
-
-/// Where a construct begins whose reading stops at a place: a call or a struct whose bracket was closed
-/// there, a `for` whose parenthesis is open there, or else the first one from five tokens before the place
-/// on.
-#[tactic(auto, unfolding(crate::specs::Near::left_out_near))]
-pub fn left_out_near(tokens: &[Token], stop: usize) -> Option<usize>
-    requires { stop ≤ length tokens.now }
-    ensures { result ≡ near.left_out_near tokens.now stop }
-{
-    let closed = open_before(tokens, stop.saturating_sub(1));
-    let called = closed.saturating_sub(1);
-    if begins_at(tokens, called) {
-        return Some(called);
-    }
-    if begins_at(tokens, closed) {
-        return Some(closed);
-    }
-    let looped = open_before(tokens, stop).saturating_sub(1);
-    if begins_at(tokens, looped) {
-        return Some(looped);
-    }
-    first_within(tokens, stop.saturating_sub(5), end_near(tokens, stop))
 }

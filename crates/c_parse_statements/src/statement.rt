@@ -1,9 +1,9 @@
-ghost use Rattle.std.specs.Prelude.{◌≡◌, ◌≤◌, ◌∷◌, [], length, codes, IfOk, Some};
+ghost use Rattle.std.specs.Prelude.{◌≡◌, ◌≤◌, ◌∷◌, [], length, IfOk, Some};
 ghost use Rattle.c_parse_expr.specs.Outcome.{Reads};
 ghost use Rattle.c_parse_statements.specs.StatementReading as spec;
 
 use c_language::{Token, TokenKind};
-use c_parse_expr::cursor::{Cursor, is_token};
+use c_parse_expr::cursor::Cursor;
 use c_parse_expr::expr::{expression, nested};
 use c_parse_expr::fault::Stop;
 use c_parse_expr::forms::begins_type;
@@ -11,6 +11,7 @@ use c_parse_expr::suffix::CONDITIONAL_LEVEL;
 use c_parse_expr::types::base;
 use c_parse_simple::calls::word;
 use c_parse_simple::simple::{nested_declaration, nested_declared, nested_simple, simple};
+use c_parse_words::is_token;
 use c_tree::{Boxed, Items, RawArm, RawExpr, RawLabel, RawStatement};
 use std::alloc::{AllocError, Global};
 

@@ -5,7 +5,8 @@ ghost use Rattle.c_language.specs.Words.{expr_words};
 ghost use Rattle.c_print.specs.Signs as signs;
 ghost use Rattle.c_print.specs.Lists.{behind_commas};
 
-use crate::names::{binary_sign, int_words, name_of_member, name_of_var, unary_sign};
+use crate::names::{name_of_member, name_of_var};
+use c_language::{binary_sign, int_words, unary_sign};
 use c_tree::{BinaryOp, Expr, IntType, MemberId, Program, Text, UnaryOp};
 use std::alloc::AllocError;
 

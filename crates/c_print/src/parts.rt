@@ -4,8 +4,9 @@ ghost use Rattle.c_language.specs.Words as words;
 ghost use Rattle.c_language.specs.Layout as spec;
 
 use crate::expressions::{expression, joined};
-use crate::names::{binary_sign, name_of_var};
+use crate::names::name_of_var;
 use crate::types::{declared, type_words};
+use c_language::binary_sign;
 use c_tree::{Amount, BinaryOp, CType, Expr, Init, Program, Size, Target, Text, VarId};
 use std::alloc::AllocError;
 

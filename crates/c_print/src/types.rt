@@ -2,7 +2,8 @@
 ghost use Rattle.std.specs.Prelude.{◌≡◌, ◌++◌, OnOk};
 ghost use Rattle.c_language.specs.Words as spec;
 
-use crate::names::{int_words, name_of_struct};
+use crate::names::name_of_struct;
+use c_language::int_words;
 use c_tree::{CType, Program, Text};
 use std::alloc::AllocError;
 

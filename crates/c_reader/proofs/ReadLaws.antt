@@ -16,10 +16,10 @@ use Rattle.c_lex.proofs.TokenLaws.{tokens_unique}
 use Rattle.c_lex.proofs.FaultLaws.{fault_lacks}
 use Rattle.c_parse.specs.declared.parse_fault.ParseFault.{ParseFault}
 use Rattle.c_parse.specs.declared.parse_fault.ParseFault.TheVariants as parse
-use Rattle.c_types.specs.Outcome.{IsWithin}
+use Rattle.c_types.specs.Checker.{IsWithin}
 use Rattle.c_types.specs.declared.rule_fault.RuleFault.{RuleFault}
 use Rattle.c_types.specs.declared.rule_fault.RuleFault.TheVariants as rule
-use Rattle.c_types.proofs.AnswerLaws.{not_within}
+use Rattle.c_types.proofs.CheckerLaws.{not_within}
 use Rattle.c_reader.specs.Reading.{ReadsProgram, ReadsTree, IsLexFault, IsParseFault, IsRuleFault, IsRight, Gives, IsNesting, IsTooDeep, IsChecked, IsReadAs, IsJudgement}
 use Rattle.c_reader.specs.declared.refusal.ReadRefusal.{ReadRefusal}
 use Rattle.c_reader.specs.declared.refusal.ReadRefusal.TheVariants.{Lex, Parse, Check, NoMemory}
@@ -45,7 +45,7 @@ module _ (text : Bytes) where
   }
   right (Err (Lex fault)) is = is
   right (Err (Parse fault)) is = is
-  right (Err (Check fault)) (ts, raw, h, shows) = record { raw = raw; tree = has_tree ts raw h; nesting = h.read.nesting; shows = shows }
+  right (Err (Check fault)) (ts, raw, h, shows, first) = record { raw = raw; tree = has_tree ts raw h; nesting = h.read.nesting; shows = shows; first = first }
   right (Err NoMemory) is = tt
 
   -- a text with a fault has no tokens
@@ -88,7 +88,7 @@ module _ (text : Bytes) where
   accepted (Ok q) (ts, raw, h, w) p has = one_program raw w (subst (λ x. IsWithin x p) (sym (same_tree ts raw has.raw h (tree_of_program has))) (within_of has))
   accepted (Err (Lex fault)) is p has = no_tokens fault is has.accepted.tokens has.accepted.are
   accepted (Err (Parse fault)) is p has = no_tree is.tokens fault is.shows has.raw (tree_here is.tokens has.raw is.are (tree_of_program has)) has.within.nesting
-  accepted (Err (Check fault)) (ts, raw, h, shows) p has =
+  accepted (Err (Check fault)) (ts, raw, h, shows, first) p has =
       no_fault raw fault shows p (subst (λ x. IsWithin x p) (sym (same_tree ts raw has.raw h (tree_of_program has))) (within_of has))
   accepted (Err NoMemory) is p has = tt
 
@@ -106,7 +106,7 @@ module _ (text : Bytes) where
   deep (Ok q) (ts, found, h, w) raw tree many = too_deep ts found raw h tree many
   deep (Err (Lex fault)) is raw tree many = no_tokens fault is tree.tokens tree.are
   deep (Err (Parse fault)) is raw tree many = deep_fault is.tokens fault is.shows raw (tree_here is.tokens raw is.are tree)
-  deep (Err (Check fault)) (ts, found, h, shows) raw tree many = too_deep ts found raw h tree many
+  deep (Err (Check fault)) (ts, found, h, shows, first) raw tree many = too_deep ts found raw h tree many
   deep (Err NoMemory) is raw tree many = tt
 
   -- a text whose tree breaks a rule, or is above a limit, is told so

@@ -18,10 +18,11 @@ use Rattle.c_language.specs.declared.token.Token.{Token}
 use Rattle.c_lex.specs.declared.fault.LexFault.{LexFault}
 use Rattle.c_lex.specs.declared.fault.LexFault.TheVariants as lex
 use Rattle.c_lex.specs.Faults.{IsFault}
-use Rattle.c_parse.specs.Verdict.{IsLineOf}
+use Rattle.c_parse.specs.ItemReading as reading
+use Rattle.c_parse.specs.Parser.{IsLineOf, Judges}
 use Rattle.c_parse.specs.declared.parse_fault.ParseFault.{ParseFault}
 use Rattle.c_parse.specs.declared.parse_fault.ParseFault.TheVariants as parse
-use Rattle.c_types.specs.Outcome.{IsAbove, IsWithin}
+use Rattle.c_types.specs.Checker.{IsAbove, IsWithin, IsFirst}
 use Rattle.c_types.specs.declared.rule_fault.RuleFault.{RuleFault}
 use Rattle.c_types.specs.declared.rule_fault.RuleFault.TheVariants as rule
 use Rattle.c_reader.specs.declared.refusal.ReadRefusal.{ReadRefusal}
@@ -59,18 +60,24 @@ IsRuleFault raw (rule.Rule number line) = IsBroken number line raw
 IsRuleFault raw (rule.Limit name) = IsAbove raw name
 IsRuleFault raw rule.NoMemory = ⊥
 
--- the tokens of the text show the fault
+-- the fault is the one that is told of the tokens, by what is read of them and where reading stops
+abbrev pub IsToldOf : Tokens → ParseFault → Type 0
+IsToldOf ts fault = Judges ts (reading.program 100 ts) (Err fault)
+
+-- the tokens of the text show the fault, and it is the one that is told of them
 pub record HasParseFault (text : Bytes) (fault : ParseFault) : Type 0 where
   pub tokens : Tokens
   pub are : AreTokensOf text tokens
   pub shows : IsParseFault tokens fault
+  pub told : IsToldOf tokens fault
 
--- the tree of the text, which nests no deeper than 100, shows the fault
+-- the tree of the text, which nests no deeper than 100, shows the fault, and no rule is broken before one that is told
 pub record HasRuleFault (text : Bytes) (fault : RuleFault) : Type 0 where
   pub raw : RawProgram
   pub tree : ReadsTree text raw
   pub nesting : program_nesting raw ≤ 100
   pub shows : IsRuleFault raw fault
+  pub first : IsFirst raw fault
 
 -- the program of the text, or a refusal that the text shows
 abbrev pub IsRight : Bytes → Result Program ReadRefusal → Type 0
@@ -128,7 +135,7 @@ pub record IsReadTree (ts : Tokens) (raw : RawProgram) : Type 0 where
 abbrev pub Parses : Tokens → Result RawProgram ReadRefusal → Type 0
 Parses ts (Ok raw) = IsReadTree ts raw
 Parses ts (Err (Lex fault)) = ⊥
-Parses ts (Err (Parse fault)) = IsParseFault ts fault
+Parses ts (Err (Parse fault)) = IsParseFault ts fault × IsToldOf ts fault
 Parses ts (Err (Check fault)) = ⊥
 Parses ts (Err NoMemory) = Unit {0}
 
@@ -136,7 +143,7 @@ abbrev pub Checks : RawProgram → Result Program ReadRefusal → Type 0
 Checks raw (Ok p) = IsWithin raw p
 Checks raw (Err (Lex fault)) = ⊥
 Checks raw (Err (Parse fault)) = ⊥
-Checks raw (Err (Check fault)) = IsRuleFault raw fault
+Checks raw (Err (Check fault)) = IsRuleFault raw fault × IsFirst raw fault
 Checks raw (Err NoMemory) = Unit {0}
 
 -- the tokens and their tree
@@ -149,5 +156,5 @@ abbrev pub IsJudgement : Bytes → Result Program ReadRefusal → Type 0
 IsJudgement text (Ok p) = (ts : Tokens) × (raw : RawProgram) × IsReadAs text ts raw × IsWithin raw p
 IsJudgement text (Err (Lex fault)) = IsLexFault text fault
 IsJudgement text (Err (Parse fault)) = HasParseFault text fault
-IsJudgement text (Err (Check fault)) = (ts : Tokens) × (raw : RawProgram) × IsReadAs text ts raw × IsRuleFault raw fault
+IsJudgement text (Err (Check fault)) = (ts : Tokens) × (raw : RawProgram) × IsReadAs text ts raw × IsRuleFault raw fault × IsFirst raw fault
 IsJudgement text (Err NoMemory) = Unit {0}

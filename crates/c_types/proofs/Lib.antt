@@ -1,3 +1,3 @@
-pub mod AnswerLaws
+pub mod CheckerLaws
 pub mod LimitLemmas
 pub mod Rulesets

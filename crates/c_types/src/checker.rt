@@ -5,7 +5,7 @@ ghost use Rattle.c_tree.specs.declared.program.Program.{Program};
 ghost use Rattle.c_language.specs.Programs.{HasProgram, IsTree};
 ghost use Rattle.c_language.specs.Rules.{IsBroken, KeepsRules};
 ghost use Rattle.c_language.specs.StatementNesting.{program_nesting};
-ghost use Rattle.c_types.specs.Outcome.{IsAbove, IsWithin, Answers, Gives, NamesRule, NamesLimit, Told, Made};
+ghost use Rattle.c_types.specs.Checker.{IsAbove, IsWithin, Answers, Gives, NamesRule, NamesLimit, TellsFirst, Told, Made};
 
 use crate::limits::{MAX_ARRAY_LENGTH, MAX_OBJECT_CELLS, array_length, object_cells};
 use crate::rule_fault::RuleFault;
@@ -16,7 +16,8 @@ use std::alloc::Global;
 
 /// The rules of the text, one by one.
 fn keep_rules(alloc: Global, raw: &RawProgram) -> Result<(), RuleFault>
-    ensures { Told raw.now result }
+    ensures told { Told raw.now result }
+    ensures first { TellsFirst raw.now result }
 {
     match check_rules(alloc, raw) {
         Ok(()) => Ok(()),
@@ -26,11 +27,12 @@ fn keep_rules(alloc: Global, raw: &RawProgram) -> Result<(), RuleFault>
 }
 
 /// The program of the text. Where the tree can't hold a length, it is above its limit.
-#[tactic(auto, using(crate::proofs::AnswerLaws::made, crate::proofs::AnswerLaws::too_long))]
+#[tactic(auto, using(crate::proofs::CheckerLaws::made, crate::proofs::CheckerLaws::too_long))]
 fn made(alloc: Global, raw: &RawProgram) -> Result<Program, RuleFault>
     requires tree { IsTree raw.now }
     requires rules { KeepsRules raw.now }
-    ensures { Made raw.now result }
+    ensures made { Made raw.now result }
+    ensures first { TellsFirst raw.now result }
 {
     match make_program(alloc, raw) {
         Ok(program) => Ok(program),
@@ -40,10 +42,11 @@ fn made(alloc: Global, raw: &RawProgram) -> Result<Program, RuleFault>
 }
 
 /// The program, where its quantities are within their numbers.
-#[tactic(auto, using(crate::proofs::AnswerLaws::lengths_above, crate::proofs::AnswerLaws::cells_above, crate::proofs::AnswerLaws::within))]
+#[tactic(auto, using(crate::proofs::CheckerLaws::lengths_above, crate::proofs::CheckerLaws::cells_above, crate::proofs::CheckerLaws::within))]
 fn within(alloc: Global, raw: &RawProgram, program: Program) -> Result<Program, RuleFault>
     requires { HasProgram raw.now program }
-    ensures { Answers raw.now result }
+    ensures right { Answers raw.now result }
+    ensures first { TellsFirst raw.now result }
 {
     if array_length(&program) > MAX_ARRAY_LENGTH {
         return Err(RuleFault::Limit(LimitName::ArrayLength));
@@ -56,7 +59,8 @@ fn within(alloc: Global, raw: &RawProgram, program: Program) -> Result<Program, 
 
 fn checked(alloc: Global, raw: &RawProgram) -> Result<Program, RuleFault>
     requires { IsTree raw.now }
-    ensures { Answers raw.now result }
+    ensures right { Answers raw.now result }
+    ensures first { TellsFirst raw.now result }
 {
     keep_rules(alloc, raw)?;
     let program = made(alloc, raw)?;
@@ -66,10 +70,10 @@ fn checked(alloc: Global, raw: &RawProgram) -> Result<Program, RuleFault>
 /// The program of a text's tree: its names as numbers, and with types (ISO C99 6.5 to 6.9).
 ///
 /// It is given exactly where all rules hold and array lengths and object cells are within their numbers.
-/// `Rule` names a rule that is broken, at a line where it is. `Limit` names the array length where one is above
+/// `Rule` names a rule that is broken, at a line where it is: the first one in the order of the text. `Limit` names the array length where one is above
 /// 65,536, and else the object cells where a variable or a struct type has more than 1,048,576. `NoMemory`
 /// where memory runs out.
-#[tactic(auto, using(crate::proofs::AnswerLaws::accepted, crate::proofs::AnswerLaws::broken, crate::proofs::AnswerLaws::above))]
+#[tactic(auto, using(crate::proofs::CheckerLaws::accepted, crate::proofs::CheckerLaws::broken, crate::proofs::CheckerLaws::above))]
 pub fn check(alloc: Global, raw: RawProgram) -> Result<Program, RuleFault>
     requires tree { IsTree raw }
     requires nesting { program_nesting raw ≤ 100 }
@@ -77,6 +81,8 @@ pub fn check(alloc: Global, raw: RawProgram) -> Result<Program, RuleFault>
     ensures accepted { (p : Program) → IsWithin raw p → Gives p result }
     ensures broken { (number line : ℕ) → IsBroken number line raw → NamesRule result }
     ensures above { (name : LimitName) → IsAbove raw name → NamesLimit name result }
+    // Of the rules that are broken, the one is named that the first phrase with a broken rule breaks.
+    ensures first { TellsFirst raw result }
 {
     checked(alloc, &raw)
 }

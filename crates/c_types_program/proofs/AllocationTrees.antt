@@ -31,8 +31,8 @@ use Rattle.c_language.specs.declared.expr_type.Operand.{Operand}
 use Rattle.c_language.proofs.Options.{IsThere, value_there, there_map}
 use Rattle.c_language.proofs.Lists.{contains_first}
 use Rattle.c_types_base.proofs.OptionLemmas.{not_none, there_then, there_optional}
-use Rattle.c_types_program.specs.Fitting.{IsStored, IsAllocation}
-use Rattle.c_types_program.specs.Keeping.{IsPlainName, IsPlainSize, IsPlainAmount}
+use Rattle.c_types_program.specs.FitPhrases.{IsStored, IsAllocation}
+use Rattle.c_types_program.specs.KeptPhrases.{IsPlainName, IsPlainSize, IsPlainAmount}
 use Rattle.c_types_program.proofs.ScopeLemmas.{IsTyped, AreComplete}
 use Rattle.c_types_program.proofs.PhraseTrees.{KeepsAt, tag_defined, named_made, IsMadeTarget, phrase_tree, phrase_operand}
 

@@ -25,7 +25,7 @@ use Rattle.c_language.proofs.Lists.{contains_nil, contains_cons, contains_first,
 use Rattle.c_types_base.specs.declared.tables.Tables.{Tables}
 use Rattle.c_types_base.specs.Tables.{scope_of, AreRight}
 use Rattle.c_types_base.proofs.OptionLemmas.{not_none, there_position}
-use Rattle.c_types_program.specs.Keeping.{IsKept, IsGiven, IsOperand, AreOperands, IsValue, AreValues, IsKeptCall}
+use Rattle.c_types_program.specs.KeptPhrases.{IsKept, IsGiven, IsOperand, AreOperands, IsValue, AreValues, IsKeptCall}
 use Rattle.c_types_program.proofs.CallTrees.{AreExpressions, widths_are, types_are}
 use Rattle.c_types_program.proofs.KeptLemmas.{kept_operand}
 use Rattle.c_types_program.proofs.OptionPaths.{given_there}

@@ -20,7 +20,7 @@ use Rattle.c_language.specs.Uses.{counts, target_exprs}
 use Rattle.c_language.proofs.Lists.{contains_first}
 use Rattle.c_types_base.specs.declared.tables.Tables.{Tables}
 use Rattle.c_types_base.specs.Tables.{scope_of, AreRight}
-use Rattle.c_types_program.specs.Keeping.{IsGiven, IsOperand, AreOperands, AreMeasured, IsPlainAmount, IsPlainSize, IsKeptAllocation}
+use Rattle.c_types_program.specs.KeptPhrases.{IsGiven, IsOperand, AreOperands, AreMeasured, IsPlainAmount, IsPlainSize, IsKeptAllocation}
 use Rattle.c_types_program.proofs.AllocationTrees.{own_cast, one_size}
 use Rattle.c_types_program.proofs.KeptLemmas.{kept_operand}
 use Rattle.c_types_program.proofs.OptionPaths.{given_there, there_given}

@@ -29,9 +29,9 @@ use Rattle.c_types_base.proofs.OptionLemmas.{not_none, there_position}
 use Rattle.c_types_base.specs.Stretches.{then_comes, nothing, of_item, of_items}
 use Rattle.c_types_base.proofs.ListingLaws.{item_outer, item_structs}
 use Rattle.c_types_program.specs.declared.walk.Walk.{Walk}
-use Rattle.c_types_program.specs.Keeping.{IsGiven, IsKeptInit}
-use Rattle.c_types_program.specs.Making.{Grow, Comes, variable_with}
-use Rattle.c_types_program.specs.Walking.{FitsStretch, PassesStretch, HasFunction, HasItem, AddsFunction, HasItems, HasFunctions, AreKeptMembers}
+use Rattle.c_types_program.specs.KeptPhrases.{IsGiven, IsKeptInit}
+use Rattle.c_types_program.specs.Statements.{Grow, Comes, variable_with}
+use Rattle.c_types_program.specs.Items.{FitsStretch, PassesStretch, HasFunction, HasItem, AddsFunction, HasItems, HasFunctions, AreKeptMembers}
 use Rattle.c_types_program.proofs.OptionPaths.{given_there, given_some}
 use Rattle.c_types_program.proofs.Passing.{same_variables}
 use Rattle.c_types_program.proofs.PhraseTrees.{tag_defined}

@@ -34,7 +34,7 @@ use Rattle.c_types_base.proofs.PhraseLemmas.{broken_by}
 use Rattle.c_types_base.proofs.TableLaws.{tables_typed}
 use Rattle.c_types_base.proofs.TreeLemmas.{expr_of-Member, expr_of-Arrow}
 use Rattle.c_types_base.proofs.TypedLaws.{NamesRule, judged_names}
-use Rattle.c_types_program.specs.Keeping.{IsKept, IsGiven, IsJudged, IsOperand, IsMeant}
+use Rattle.c_types_program.specs.KeptPhrases.{IsKept, IsGiven, IsJudged, IsOperand, IsMeant}
 
 pub judged_value : (r : Result Operand ℕ) → IsJudged r → (x : Operand) × (r ≡ Ok x)
 judged_value (Ok x) h = (x, refl)

@@ -8,7 +8,7 @@ use Rattle.c_tree.specs.declared.raw.program.RawProgram.{RawProgram}
 use Rattle.c_language.specs.Phrases.{DeclaresFunction}
 use Rattle.c_language.specs.ProgramOf.{ctype, ctype_with, ctype_if, optional}
 use Rattle.c_language.proofs.Options.{some_same, none_there}
-use Rattle.c_types_program.specs.Keeping.{IsGiven, IsKeptMember, IsKeptHead, HasNoLength, HasNoLengthIf}
+use Rattle.c_types_program.specs.KeptPhrases.{IsGiven, IsKeptMember, IsKeptHead, HasNoLength, HasNoLengthIf}
 use Rattle.c_types_program.proofs.OptionPaths.{given_there}
 use Rattle.c_types_program.proofs.PhraseTrees.{tag_defined, result_made, member_made}
 

@@ -5,7 +5,7 @@ use Rattle.std.proofs.lemmas.List.{take_more, map-append}
 use Rattle.std.proofs.lemmas.List.Elements.{Contains-get_or}
 use Rattle.c_language.specs.ProgramOf.{collected}
 use Rattle.c_language.proofs.Options.{IsThere, some_same, none_there}
-use Rattle.c_types_program.specs.Keeping.{IsGiven}
+use Rattle.c_types_program.specs.KeptPhrases.{IsGiven}
 
 pub given_there : {A : Type 0} (o : Option A) → IsThere o → IsGiven o
 given_there None h = h

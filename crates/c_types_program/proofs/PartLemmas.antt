@@ -26,7 +26,7 @@ use Rattle.c_types_base.specs.declared.tables.Tables.{Tables}
 use Rattle.c_types_base.specs.Judging.{judged}
 use Rattle.c_types_base.specs.Tables.{scope_of, AreRight}
 use Rattle.c_types_base.proofs.TreeLemmas.{operand-judged}
-use Rattle.c_types_program.specs.Keeping.{IsKept, IsGiven, IsOperand, AreOperands, IsConstant, IsKeptInit, none, kept, IsKeptSwitch, IsKeptLabel}
+use Rattle.c_types_program.specs.KeptPhrases.{IsKept, IsGiven, IsOperand, AreOperands, IsConstant, IsKeptInit, none, kept, IsKeptSwitch, IsKeptLabel}
 use Rattle.c_types_program.proofs.KeptLemmas.{kept_operand}
 
 module _ (t : Tables) (right : AreRight t) where

@@ -32,7 +32,7 @@ use Rattle.c_language.proofs.Options.{IsThere}
 use Rattle.c_language.proofs.Lists.{contains_nil, contains_first, contains_later}
 use Rattle.c_language.proofs.UseLemmas.{tags-PointerTo, lengths-PointerTo}
 use Rattle.c_types_base.proofs.PhraseLemmas.{IsClean}
-use Rattle.c_types_program.specs.Keeping.{HasNoLength, HasNoLengthIf}
+use Rattle.c_types_program.specs.KeptPhrases.{HasNoLength, HasNoLengthIf}
 use Rattle.c_types_base.proofs.OptionLemmas.{not_none, there_then, there_optional, AreThere, there_collected}
 use Rattle.c_types_program.proofs.ScopeLemmas.{IsTyped, typed_variable, IsMade, AreComplete}
 use Rattle.c_types_program.proofs.TypeTrees.{type_made}

@@ -26,9 +26,9 @@ use Rattle.c_types_base.specs.Stretches.{of_items}
 use Rattle.c_types_program.specs.declared.make_fault.MakeFault.{MakeFault}
 use Rattle.c_types_program.specs.declared.make_fault.MakeFault.TheVariants.{Length, NoMemory}
 use Rattle.c_types_program.specs.declared.walk.Walk.{Walk}
-use Rattle.c_types_program.specs.Fitting.{AreFit}
-use Rattle.c_types_program.specs.Making.{HasLong, AreMade}
-use Rattle.c_types_program.specs.Walking.{FitsStretch, PassesStretch, HasItems, HasFunctions, AreKeptMembers, AreKeptStructs, HasLongMember, HasLongStruct, MakesStructs, MakesProgram}
+use Rattle.c_types_program.specs.FitPhrases.{AreFit}
+use Rattle.c_types_program.specs.Statements.{HasLong, AreMade}
+use Rattle.c_types_program.specs.Items.{FitsStretch, PassesStretch, HasItems, HasFunctions, AreKeptMembers, AreKeptStructs, HasLongMember, HasLongStruct, MakesStructs, MakesProgram}
 use Rattle.c_types_program.proofs.Growing.{fit_both}
 use Rattle.c_types_program.proofs.Turns.{collected_made}
 

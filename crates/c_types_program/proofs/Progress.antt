@@ -8,9 +8,9 @@ use Rattle.c_language.proofs.PhraseLists.{variables-append}
 use Rattle.c_types_base.specs.Tables.{scope_of, AreRight}
 use Rattle.c_types_base.specs.Stretches.{Stretch, then_comes, nothing}
 use Rattle.c_types_program.specs.declared.walk.Walk.{Walk}
-use Rattle.c_types_program.specs.Fitting.{AreFit}
-use Rattle.c_types_program.specs.Making.{Grow}
-use Rattle.c_types_program.specs.Walking.{FitsStretch, PassesStretch}
+use Rattle.c_types_program.specs.FitPhrases.{AreFit}
+use Rattle.c_types_program.specs.Statements.{Grow}
+use Rattle.c_types_program.specs.Items.{FitsStretch, PassesStretch}
 use Rattle.c_types_program.proofs.Growing.{grow_none, fit_both}
 use Rattle.c_types_program.proofs.Standing.{Stands, here, told, given, goes, came}
 use Rattle.c_types_program.proofs.Turns.{Gaining, gain, gained}

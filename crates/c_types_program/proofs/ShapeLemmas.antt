@@ -19,8 +19,8 @@ use Rattle.c_language.specs.ProgramOf.{ctype_step, ctype_with, ctype, length_wor
 use Rattle.c_language.specs.TypeGrammar.{pointed_n}
 use Rattle.c_language.specs.Uses.{lengths_in, lengths_step, written_lengths}
 use Rattle.c_language.proofs.Options.{some_same, none_there}
-use Rattle.c_types_program.specs.Keeping.{IsGiven, HasNoLength}
-use Rattle.c_types_program.specs.Shaping.{IsLong}
+use Rattle.c_types_program.specs.KeptPhrases.{IsGiven, HasNoLength}
+use Rattle.c_types_program.specs.Shapes.{IsLong}
 
 -- ---- the forms
 

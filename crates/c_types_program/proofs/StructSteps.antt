@@ -29,10 +29,10 @@ use Rattle.c_types_base.proofs.OptionLemmas.{is_there}
 use Rattle.c_types_base.proofs.ListingLaws.{named_before, gone}
 use Rattle.c_types_program.specs.declared.make_fault.MakeFault.{MakeFault}
 use Rattle.c_types_program.specs.declared.make_fault.MakeFault.TheVariants.{Length, NoMemory}
-use Rattle.c_types_program.specs.Fitting.{AreFit}
-use Rattle.c_types_program.specs.Keeping.{IsKept, IsKeptMember}
-use Rattle.c_types_program.specs.Shaping.{MakesMember}
-use Rattle.c_types_program.specs.Walking.{AreKeptMembers, AreKeptStructs, HasLongStruct, MakesMembers, MakesStruct, AddsStruct, MakesStructs}
+use Rattle.c_types_program.specs.FitPhrases.{AreFit}
+use Rattle.c_types_program.specs.KeptPhrases.{IsKept, IsKeptMember}
+use Rattle.c_types_program.specs.Shapes.{MakesMember}
+use Rattle.c_types_program.specs.Items.{AreKeptMembers, AreKeptStructs, HasLongStruct, MakesMembers, MakesStruct, AddsStruct, MakesStructs}
 use Rattle.c_types_program.proofs.OptionPaths.{contains_turn}
 use Rattle.c_types_program.proofs.PhraseTrees.{member_made}
 use Rattle.c_types_program.proofs.Turns.{collected_made}

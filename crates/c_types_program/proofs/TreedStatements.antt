@@ -42,7 +42,7 @@ use Rattle.c_types_program.proofs.ScopeLemmas.{IsTyped, typed_variable, AreCompl
 use Rattle.c_types_program.proofs.ConstantTrees.{constant_tree}
 use Rattle.c_types_program.proofs.PhraseTrees.{KeepsAt, AreKept, kept_both, variable_made, target_made, typed_target, phrase_tree, phrase_operand, exprs_there}
 use Rattle.c_types_program.proofs.CallTrees.{call_there}
-use Rattle.c_types_program.specs.Fitting.{IsAllocation}
+use Rattle.c_types_program.specs.FitPhrases.{IsAllocation}
 use Rattle.c_types_program.proofs.AllocationTrees.{heap_there}
 
 -- each case of these labels is a constant

@@ -1,5 +1,5 @@
-pub mod Fitting
-pub mod Keeping
-pub mod Making
-pub mod Shaping
-pub mod Walking
+pub mod FitPhrases
+pub mod KeptPhrases
+pub mod Statements
+pub mod Shapes
+pub mod Items

@@ -4,7 +4,7 @@ ghost use Rattle.c_language.specs.ProgramOf as trees;
 ghost use Rattle.c_language.specs.TypeGrammar.{named_type};
 ghost use Rattle.c_language.specs.Uses.{counts};
 ghost use Rattle.c_types_base.specs.Tables.{scope_of, AreRight};
-ghost use Rattle.c_types_program.specs.Keeping.{IsGiven, AreOperands, AreMeasured, IsPlainName, IsPlainSize, IsPlainAmount, IsKeptAllocation};
+ghost use Rattle.c_types_program.specs.KeptPhrases.{IsGiven, AreOperands, AreMeasured, IsPlainName, IsPlainSize, IsPlainAmount, IsKeptAllocation};
 
 use crate::expressions::{tree_of, variable_number};
 use crate::shapes::named_shape;

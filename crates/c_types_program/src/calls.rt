@@ -1,14 +1,15 @@
 //! Calls in the tree (ISO C99 6.5.2.2), where they break no rule.
-ghost use Rattle.std.specs.Prelude.{◌≡◌, ◌≢◌, Some, None, IfOk, bytes_eq, option_copied};
+ghost use Rattle.std.specs.Prelude.{◌≡◌, ◌≢◌, Some, None, IfOk, bytes_eq};
 ghost use Rattle.c_language.specs.CallRules as rules;
 ghost use Rattle.c_language.specs.DeclaredTypes as types;
 ghost use Rattle.c_language.specs.ProgramOf as trees;
 ghost use Rattle.c_language.specs.Uses.{arg_exprs};
 ghost use Rattle.c_types_base.specs.Tables.{scope_of, AreRight};
-ghost use Rattle.c_types_program.specs.Keeping.{IsGiven, AreOperands, IsValue, AreValues, IsKeptCall};
+ghost use Rattle.c_types_program.specs.KeptPhrases.{IsGiven, AreOperands, IsValue, AreValues, IsKeptCall};
 
 use crate::expressions::tree_of;
-use c_tree::{Expr, FunctionId, Items, RawArg, RawExpr, Statement, StatementId, Target, Text};
+use c_tree::{Expr, FunctionId, Items, RawArg, Statement, StatementId, Target};
+use c_types_base::call_args::{format_in, later_args, only_arg};
 use c_types_base::tables::Tables;
 use std::alloc::{AllocError, Global};
 
@@ -38,16 +39,6 @@ fn args_tree(alloc: Global, tables: &Tables<'_>, args: &[RawArg]) -> Result<Item
     Ok(all)
 }
 
-/// The one argument of a call, where there is one.
-fn only_arg(args: &[RawArg]) -> Option<&RawExpr>
-    ensures { option_copied result ≡ rules.only_arg args.now }
-{
-    match args {
-        [RawArg::Value(value)] => Some(value),
-        _ => None,
-    }
-}
-
 /// The one argument of a call in the tree. Err: no memory was left.
 fn only_tree(alloc: Global, tables: &Tables<'_>, args: &[RawArg]) -> Result<Expr, AllocError>
     requires right { AreRight tables.now }
@@ -64,26 +55,6 @@ fn only_tree(alloc: Global, tables: &Tables<'_>, args: &[RawArg]) -> Result<Expr
     }
 }
 
-/// The first argument, where it is a string literal.
-fn format_of(args: &[RawArg]) -> Option<&Text>
-    ensures { option_copied result ≡ rules.format_in args.now }
-{
-    match args {
-        [RawArg::Literal(text), ..] => Some(text),
-        _ => None,
-    }
-}
-
-/// The arguments behind the first.
-fn later_args(args: &[RawArg]) -> &[RawArg]
-    ensures { result.now ≡ rules.later_args args.now }
-{
-    match args {
-        [] => args,
-        [_, later @ ..] => later,
-    }
-}
-
 /// A call of `printf` in the tree (7.19.6.3). Err: no memory was left.
 fn print_tree(
     alloc: Global,
@@ -97,7 +68,7 @@ fn print_tree(
     requires values { AreValues tables.now.raw.now (scope_of tables.now) (rules.later_args args.now) }
     ensures { IfOk result (λ s. trees.print_tree tables.now.raw.now (scope_of tables.now) id line args.now ≡ Some s) }
 {
-    match format_of(args) {
+    match format_in(args) {
         Some(text) => {
             let format = text.copy(alloc)?;
             let values = args_tree(alloc, tables, later_args(args))?;

@@ -7,7 +7,7 @@ ghost use Rattle.c_language.specs.ProgramOf as trees;
 ghost use Rattle.c_language.specs.Scopes as scopes;
 ghost use Rattle.c_types_base.specs.Judging.{judged};
 ghost use Rattle.c_types_base.specs.Tables.{scope_of, AreRight};
-ghost use Rattle.c_types_program.specs.Keeping.{IsOperand, IsConstant, IsMeant};
+ghost use Rattle.c_types_program.specs.KeptPhrases.{IsOperand, IsConstant, IsMeant};
 
 use c_language::Operand;
 use c_tree::{Boxed, Expr, MemberId, RawExpr, Text, VarId};

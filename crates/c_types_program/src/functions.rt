@@ -3,7 +3,7 @@ ghost use Rattle.std.specs.Prelude.{◌≡◌, IfOk, OnOk};
 ghost use Rattle.c_tree.specs.declared.raw.program.RawItem.TheVariants as item_of;
 ghost use Rattle.c_types_base.specs.Tables.{AreRight};
 ghost use Rattle.c_types_base.specs.Stretches.{of_parameter, of_parameters, of_function, of_item};
-ghost use Rattle.c_types_program.specs.Walking.{FitsStretch, PassesStretch, HasBody, HasFunction};
+ghost use Rattle.c_types_program.specs.Items.{FitsStretch, PassesStretch, HasBody, HasFunction};
 
 use crate::shapes::{parameter_ids, result_shape};
 use crate::variables::Declaration;

@@ -7,7 +7,7 @@ ghost use Rattle.c_language.specs.Scopes as scopes;
 ghost use Rattle.c_types_base.specs.Tables.{scope_of, AreRight};
 ghost use Rattle.c_types_base.specs.Listing.{HasPlace};
 ghost use Rattle.c_types_base.specs.Stretches.{of_item, of_items};
-ghost use Rattle.c_types_program.specs.Walking.{FitsStretch, PassesStretch, HasItem, HasItems, AddsFunction, HasFunctions};
+ghost use Rattle.c_types_program.specs.Items.{FitsStretch, PassesStretch, HasItem, HasItems, AddsFunction, HasFunctions};
 
 use crate::calls::function_of;
 use crate::parts::init_tree;

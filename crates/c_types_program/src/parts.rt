@@ -6,7 +6,7 @@ ghost use Rattle.c_language.specs.ConstantEvaluation.{both};
 ghost use Rattle.c_language.specs.Phrases.{Assigns, Bumps, Tests, Returns};
 ghost use Rattle.c_language.specs.ProgramOf as trees;
 ghost use Rattle.c_types_base.specs.Tables.{scope_of, AreRight};
-ghost use Rattle.c_types_program.specs.Keeping.{IsKept, IsGiven, AreOperands, IsKeptInit, IsMeantTarget, IsKeptSwitch, IsKeptLabel};
+ghost use Rattle.c_types_program.specs.KeptPhrases.{IsKept, IsGiven, AreOperands, IsKeptInit, IsMeantTarget, IsKeptSwitch, IsKeptLabel};
 
 use crate::expressions::{constant_tree, operand_of, tree_of};
 use c_arith::{BinaryOp, IntType, convert, promote};

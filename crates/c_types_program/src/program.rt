@@ -1,7 +1,7 @@
 //! The program of a whole text.
 ghost use Rattle.c_language.specs.Programs.{IsTree};
 ghost use Rattle.c_language.specs.Rules.{KeepsRules};
-ghost use Rattle.c_types_program.specs.Walking.{MakesProgram};
+ghost use Rattle.c_types_program.specs.Items.{MakesProgram};
 
 use crate::make_fault::MakeFault;
 use crate::structs::struct_trees;

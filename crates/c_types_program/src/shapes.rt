@@ -6,8 +6,8 @@ ghost use Rattle.c_language.specs.ProgramOf as trees;
 ghost use Rattle.c_language.specs.TypeGrammar.{named_type};
 ghost use Rattle.c_types_base.specs.Definitions.{IsOfText};
 ghost use Rattle.c_types_base.specs.Tables.{AreRight};
-ghost use Rattle.c_types_program.specs.Keeping.{IsGiven, IsKeptMember, IsKeptHead, HasNoLength, HasNoLengthIf};
-ghost use Rattle.c_types_program.specs.Shaping.{Shapes, Makes, MakesMember};
+ghost use Rattle.c_types_program.specs.KeptPhrases.{IsGiven, IsKeptMember, IsKeptHead, HasNoLength, HasNoLengthIf};
+ghost use Rattle.c_types_program.specs.Shapes.{Shapes, Makes, MakesMember};
 
 use crate::make_fault::MakeFault;
 use crate::words::words;

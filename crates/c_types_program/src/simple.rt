@@ -5,9 +5,9 @@ ghost use Rattle.c_language.specs.Phrases.{Stand, target_phrases};
 ghost use Rattle.c_language.specs.ProgramOf as trees;
 ghost use Rattle.c_language.specs.Scopes as scopes;
 ghost use Rattle.c_types_base.specs.Tables.{scope_of, AreRight};
-ghost use Rattle.c_types_program.specs.Fitting.{IsInside, AreFitTarget};
-ghost use Rattle.c_types_program.specs.Keeping.{IsMeantTarget};
-ghost use Rattle.c_types_program.specs.Making.{Comes, Fits, HasTree, Passes};
+ghost use Rattle.c_types_program.specs.FitPhrases.{IsInside, AreFitTarget};
+ghost use Rattle.c_types_program.specs.KeptPhrases.{IsMeantTarget};
+ghost use Rattle.c_types_program.specs.Statements.{Comes, Fits, HasTree, Passes};
 
 use crate::allocations::heap_tree;
 use crate::calls::call_tree;

@@ -4,8 +4,8 @@ ghost use Rattle.c_tree.specs.declared.raw.statement.RawStatement.TheVariants as
 ghost use Rattle.c_language.specs.Phrases.{labels_of, phrases_of_arms};
 ghost use Rattle.c_language.specs.ProgramOf as trees;
 ghost use Rattle.c_types_base.specs.Tables.{scope_of, AreRight};
-ghost use Rattle.c_types_program.specs.Fitting.{AreFit};
-ghost use Rattle.c_types_program.specs.Making.{Fits, HasTree, Passes, FitAll, HaveTrees, PassesAll, FitsBlock, HasBlock, PassesBlock, FitsPart, HasPart, PassesPart, AreLabels, arm_text, arm_texts, HasArm, PassesArm, HaveArms, PassesArms};
+ghost use Rattle.c_types_program.specs.FitPhrases.{AreFit};
+ghost use Rattle.c_types_program.specs.Statements.{Fits, HasTree, Passes, FitAll, HaveTrees, PassesAll, FitsBlock, HasBlock, PassesBlock, FitsPart, HasPart, PassesPart, AreLabels, arm_text, arm_texts, HasArm, PassesArm, HaveArms, PassesArms};
 
 use crate::parts::{label_tree, switch_tree, test_tree};
 use crate::walk::Walk;

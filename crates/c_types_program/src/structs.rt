@@ -1,39 +1,20 @@
 //! Struct types in the tree (ISO C99 6.7.2.1), and the types of their members as the walk lists them.
-ghost use Rattle.std.specs.Prelude.{◌≡◌, ◌++◌, List, [], ◌∷◌, None, IsSome, IfOk, OnOk};
+ghost use Rattle.std.specs.Prelude.{[], ◌∷◌, IfOk};
 ghost use Rattle.c_tree.specs.declared.raw.program.RawMember.{RawMember};
-ghost use Rattle.c_language.specs.DeclaredTypes as types;
 ghost use Rattle.c_types_base.specs.Definitions.{IsOfText};
-ghost use Rattle.c_types_base.specs.Names.{listed_type};
 ghost use Rattle.c_types_base.specs.Tables.{AreRight};
 ghost use Rattle.c_types_base.specs.Listing.{HasMembers};
-ghost use Rattle.c_types_program.specs.Walking.{AreKeptMembers, AreKeptStructs, MakesMembers, MakesStruct, AddsStruct, MakesStructs};
+ghost use Rattle.c_types_program.specs.Items.{AreKeptMembers, AreKeptStructs, MakesMembers, MakesStruct, AddsStruct, MakesStructs};
 
 use crate::make_fault::MakeFault;
 use crate::shapes::member_tree;
 use c_tree::{Items, Member, RawItem, RawMember, StructDef, Text};
-use c_types_base::declared_types::written_type;
 use c_types_base::definitions::Definitions;
+use c_types_base::listing::list_member;
 use c_types_base::names::StructMembers;
 use c_types_base::tables::Tables;
 use indexmap::IndexMap;
 use std::alloc::{AllocError, Global};
-
-/// Lists a member with its type. Err: no memory was left.
-fn list_member<'a>(
-    alloc: Global,
-    tables: &Tables<'_>,
-    listed: &mut StructMembers<'a>,
-    member: &'a RawMember,
-) -> Result<(), AllocError>
-    requires right { AreRight tables.now }
-    requires typed { IsSome (types.written_type tables.now.raw.now member.now.shape) }
-    requires fresh { listed_type member.now.name listed.old ≡ None }
-    ensures { OnOk result ((before : List RawMember) → HasMembers tables.now.raw.now before listed.old → HasMembers tables.now.raw.now (before ++ member.now ∷ []) listed.new) }
-{
-    let shape = written_type(alloc, &tables.defined, &member.shape)?.unwrap();
-    listed.entries.insert(member.name.bytes(), shape)?;
-    Ok(())
-}
 
 /// The members of a struct type, with their types. Err: no memory was left.
 pub fn listed_members<'a>(

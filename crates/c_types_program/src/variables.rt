@@ -2,7 +2,7 @@
 ghost use Rattle.std.specs.Prelude.{◌≡◌, None, [], ◌∷◌, OnOk};
 ghost use Rattle.c_language.specs.ProgramOf as trees;
 ghost use Rattle.c_types_base.specs.Tables.{AreRight};
-ghost use Rattle.c_types_program.specs.Making.{variable_with, AreMade, Grow};
+ghost use Rattle.c_types_program.specs.Statements.{variable_with, AreMade, Grow};
 
 use crate::make_fault::MakeFault;
 use crate::shapes::ctype_with;

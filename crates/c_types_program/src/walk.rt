@@ -4,7 +4,7 @@ ghost use Rattle.c_language.specs.DeclaredTypes as types;
 ghost use Rattle.c_language.specs.Scopes as scopes;
 ghost use Rattle.c_language.specs.ProgramOf as trees;
 ghost use Rattle.c_types_base.specs.Tables.{scope_of, AreRight, IsAt};
-ghost use Rattle.c_types_program.specs.Making.{variable_with, Comes};
+ghost use Rattle.c_types_program.specs.Statements.{variable_with, Comes};
 
 use crate::variables::{Declaration, Variables};
 use c_tree::{RawInit, StatementId};

@@ -4,48 +4,9 @@ ghost use Rattle.c_language.specs.ProgramOf.{raw_words};
 ghost use Rattle.c_language.specs.Words as spec;
 
 use c_arith::{BinaryOp, IntType, UnaryOp};
+use c_language::{binary_sign, int_words};
 use c_tree::{RawExpr, Text};
 use std::alloc::{AllocError, Global};
-
-/// The canonical words of an integer type (ISO C99 6.7.2).
-fn int_words(t: IntType) -> &'static [u8]
-    ensures { result.now ≡ spec.int_words t }
-{
-    match t {
-        IntType::Char => b"char",
-        IntType::UChar => b"unsigned char",
-        IntType::Short => b"short",
-        IntType::UShort => b"unsigned short",
-        IntType::Int => b"int",
-        IntType::UInt => b"unsigned int",
-        IntType::Long => b"long",
-        IntType::ULong => b"unsigned long",
-    }
-}
-
-/// The sign of a binary operator (6.5.5 to 6.5.12).
-fn binary_sign(op: BinaryOp) -> &'static [u8]
-    ensures { result.now ≡ spec.binary_sign op }
-{
-    match op {
-        BinaryOp::Mul => b"*",
-        BinaryOp::Div => b"/",
-        BinaryOp::Rem => b"%",
-        BinaryOp::Add => b"+",
-        BinaryOp::Sub => b"-",
-        BinaryOp::Shl => b"<<",
-        BinaryOp::Shr => b">>",
-        BinaryOp::Less => b"<",
-        BinaryOp::Greater => b">",
-        BinaryOp::AtMost => b"<=",
-        BinaryOp::AtLeast => b">=",
-        BinaryOp::Equal => b"==",
-        BinaryOp::Unequal => b"!=",
-        BinaryOp::And => b"&",
-        BinaryOp::Xor => b"^",
-        BinaryOp::Or => b"|",
-    }
-}
 
 fn begins_with(byte: u8, words: &[u8]) -> bool
     ensures { result ≡ spec.begins_with byte words.now }

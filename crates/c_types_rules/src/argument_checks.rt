@@ -1,5 +1,5 @@
 //! The checks of arguments (ISO C99 6.5.2.2): whether one breaks a rule.
-ghost use Rattle.std.specs.Prelude.{◌≡◌, [], ◌∷◌, length, map, option_copied};
+ghost use Rattle.std.specs.Prelude.{◌≡◌, [], ◌∷◌, length, map};
 ghost use Rattle.c_tree.specs.declared.raw.program.RawParam.{RawParam};
 ghost use Rattle.c_arith.specs.IntType.{width, promote};
 ghost use Rattle.c_language.specs.CallRules as rules;
@@ -13,7 +13,7 @@ use crate::checking::unless_broken;
 use crate::conversions::{Conversion, width_of};
 use crate::text::written_type;
 use c_arith::IntType;
-use c_tree::{RawArg, RawExpr, RawParam};
+use c_tree::{RawArg, RawParam};
 use c_types_base::expr_type::integer_of;
 use c_types_base::fault::Fault;
 use c_types_base::judging::judge;
@@ -110,14 +110,4 @@ pub fn check_each_converted(
         check_converted(alloc, tables, conversions[i], &args[i])?;
     }
     Ok(())
-}
-
-/// The one argument of a call, where there is one.
-pub fn only_arg(args: &[RawArg]) -> Option<&RawExpr>
-    ensures { option_copied result ≡ rules.only_arg args.now }
-{
-    match args {
-        [RawArg::Value(value)] => Some(value),
-        _ => None,
-    }
 }

@@ -1,12 +1,11 @@
 //! The walk along the items of a text (ISO C99 6.9), in text order.
-ghost use Rattle.std.specs.Prelude.{◌≡◌, ◌+◌, List, [], ◌∷◌, ◌++◌, None, Some, IsSome, OnOk, IfOk, slice_get, vec_len};
+ghost use Rattle.std.specs.Prelude.{◌≡◌, ◌+◌, List, [], ◌∷◌, ◌++◌, None, Some, OnOk, IfOk, slice_get, vec_len};
 ghost use Rattle.c_tree.specs.declared.raw.program.RawItem.TheVariants as item_of;
 ghost use Rattle.c_tree.specs.declared.raw.program.RawMember.{RawMember};
 ghost use Rattle.c_tree.specs.declared.raw.program.RawParam.{RawParam};
 ghost use Rattle.c_language.specs.DeclaredTypes as types;
 ghost use Rattle.c_language.specs.Phrases as phrases;
 ghost use Rattle.c_language.specs.Scopes as scopes;
-ghost use Rattle.c_types_base.specs.Names.{listed_type};
 ghost use Rattle.c_types_base.specs.Numbering.{Numbers};
 ghost use Rattle.c_types_base.specs.Tables.{scope_of, AreRight};
 ghost use Rattle.c_types_base.specs.Stretches.{of_parameter, of_parameters, of_function, of_item, of_items};
@@ -22,29 +21,12 @@ use crate::stand::Stand;
 use crate::steps::{declaration, declare, on_line};
 use crate::walk::statements;
 use c_tree::{RawHead, RawItem, RawMember, RawParam, RawStatement};
-use c_types_base::declared_types::written_type;
+use c_types_base::listing::list_member;
 use c_types_base::names::StructMembers;
 use c_types_base::numbering::Numbering;
 use c_types_base::tables::Tables;
 use indexmap::IndexMap;
 use std::alloc::{AllocError, Global};
-
-/// Lists a member with its type. Err: no memory was left.
-fn list_member<'a>(
-    alloc: Global,
-    tables: &Tables<'_>,
-    listed: &mut StructMembers<'a>,
-    member: &'a RawMember,
-) -> Result<(), AllocError>
-    requires right { AreRight tables.now }
-    requires typed { IsSome (types.written_type tables.now.raw.now member.now.shape) }
-    requires fresh { listed_type member.now.name listed.old ≡ None }
-    ensures { OnOk result ((before : List RawMember) → HasMembers tables.now.raw.now before listed.old → HasMembers tables.now.raw.now (before ++ member.now ∷ []) listed.new) }
-{
-    let shape = written_type(alloc, &tables.defined, &member.shape)?.unwrap();
-    listed.entries.insert(member.name.bytes(), shape)?;
-    Ok(())
-}
 
 /// The members of a struct type, with their types.
 fn members<'a>(

@@ -1,5 +1,5 @@
 //! The checks of calls of the library's functions (ISO C99 7.19, 7.20): whether one breaks a rule.
-ghost use Rattle.std.specs.Prelude.{◌≡◌, ◌==◌, option_copied, length, map};
+ghost use Rattle.std.specs.Prelude.{◌==◌, length, map};
 ghost use Rattle.c_language.specs.CallRules as rules;
 ghost use Rattle.c_language.specs.ExprTypes as types;
 ghost use Rattle.c_language.specs.Formats.{format_pieces};
@@ -9,14 +9,15 @@ ghost use Rattle.c_types_rules.specs.CallChecks as spec;
 ghost use Rattle.c_types_rules.specs.Checking.{Decides, given_or, unless_broken};
 ghost use Rattle.c_types_rules.specs.Conversions.{conversion_of};
 
-use crate::argument_checks::{check_each_converted, only_arg};
+use crate::argument_checks::check_each_converted;
 use crate::checking::unless_broken;
 use crate::conversions::{Conversion, conversions_of};
 use crate::strings::{has_null, literal_bytes};
 use crate::targets::is_no_target;
 use c_arith::IntType;
 use c_language::ExprType;
-use c_tree::{RawArg, RawTarget, Text};
+use c_tree::{RawArg, RawTarget};
+use c_types_base::call_args::{format_in, later_args, only_arg};
 use c_types_base::expr_type::{integer, is_integer, is_pointer, value_type};
 use c_types_base::fault::Fault;
 use c_types_base::judging::{a_value, judge};
@@ -166,26 +167,6 @@ fn check_format(
         return Err(Fault::Rule(19));
     }
     check_bytes(alloc, tables, args, format.as_slice())
-}
-
-/// The first argument, where it is a string literal.
-fn format_in(args: &[RawArg]) -> Option<&Text>
-    ensures { option_copied result ≡ rules.format_in args.now }
-{
-    match args {
-        [RawArg::Literal(text), ..] => Some(text),
-        _ => None,
-    }
-}
-
-/// The arguments behind the first one.
-fn later_args(args: &[RawArg]) -> &[RawArg]
-    ensures { result.now ≡ rules.later_args args.now }
-{
-    match args.split_first() {
-        None => args,
-        Some((_, rest)) => rest,
-    }
 }
 
 /// What is printed: a format, and a value for each of its conversions.

@@ -6,11 +6,15 @@ ghost use Rattle.control_deps.specs.Walk as spec;
 
 use crate::walk::join_one;
 use c_tree::FunctionId;
-use dep_model::{Pair, StatementVertices, Vertex, VertexKind};
+use dep_model::{Pair, StatementVertices, Vertex, VertexId, VertexKind};
 use std::alloc::AllocError;
 
 // The vertices that a vertex hangs on.
-fn controllers_of<'a>(entry: &'a [u32], own: &'a StatementVertices, kind: VertexKind) -> &'a [u32]
+fn controllers_of<'a>(
+    entry: &'a [VertexId],
+    own: &'a StatementVertices,
+    kind: VertexKind,
+) -> &'a [VertexId]
     ensures { result.now ≡ controllers_of entry.now (row own.now) kind }
 {
     match kind {
@@ -23,10 +27,10 @@ fn controllers_of<'a>(entry: &'a [u32], own: &'a StatementVertices, kind: Vertex
 // Appends the edges to one vertex.
 fn attach_one(
     out: &mut Vec<Pair>,
-    entry: &[u32],
+    entry: &[VertexId],
     own: &StatementVertices,
     function: FunctionId,
-    number: u32,
+    number: VertexId,
     vertex: &Vertex,
 ) -> Result<(), AllocError>
     ensures { OnOk result (out.new.items ≡ out.old.items ++ spec.from_all (controllers entry.now (row own.now) function vertex.now) number) }
@@ -40,7 +44,7 @@ fn attach_one(
 /// Appends the edges to the formals and actuals of a function.
 pub(crate) fn attach(
     out: &mut Vec<Pair>,
-    entry: &[u32],
+    entry: &[VertexId],
     own: &StatementVertices,
     function: FunctionId,
     vertices: &[Vertex],

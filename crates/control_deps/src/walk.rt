@@ -6,12 +6,12 @@ ghost use Rattle.control_deps.specs.Walk as spec;
 ghost use Rattle.control_deps.specs.Walk.{joined, walk, walks, walked_part, if_taken, arm_walks};
 
 use c_tree::{Arm, Statement};
-use dep_model::{Pair, StatementVertices, taken_arms};
+use dep_model::{Pair, StatementVertices, VertexId, taken_arms};
 use sqlite_items::Boxed;
 use std::alloc::{AllocError, Global};
 
 // Appends an edge.
-fn push_pair(out: &mut Vec<Pair>, from: u32, to: u32) -> Result<(), AllocError>
+fn push_pair(out: &mut Vec<Pair>, from: VertexId, to: VertexId) -> Result<(), AllocError>
     ensures { OnOk result (out.new.items ≡ out.old.items ++ pair from to ∷ []) }
 {
     out.push(Pair { from, to })?;
@@ -19,7 +19,11 @@ fn push_pair(out: &mut Vec<Pair>, from: u32, to: u32) -> Result<(), AllocError>
 }
 
 /// Appends an edge to a vertex from each of its controllers.
-pub(crate) fn join_one(out: &mut Vec<Pair>, controllers: &[u32], to: u32) -> Result<(), AllocError>
+pub(crate) fn join_one(
+    out: &mut Vec<Pair>,
+    controllers: &[VertexId],
+    to: VertexId,
+) -> Result<(), AllocError>
     ensures { OnOk result (out.new.items ≡ out.old.items ++ spec.from_all controllers.now to) }
 {
     for from in controllers {
@@ -31,8 +35,8 @@ pub(crate) fn join_one(out: &mut Vec<Pair>, controllers: &[u32], to: u32) -> Res
 /// Appends an edge from each of the controllers to each of the controlled.
 pub(crate) fn join(
     out: &mut Vec<Pair>,
-    controllers: &[u32],
-    controlled: &[u32],
+    controllers: &[VertexId],
+    controlled: &[VertexId],
 ) -> Result<(), AllocError>
     ensures { OnOk result (out.new.items ≡ out.old.items ++ joined controllers.now controlled.now) }
 {
@@ -46,9 +50,9 @@ pub(crate) fn join(
 fn join_loop(
     alloc: Global,
     out: &mut Vec<Pair>,
-    controllers: &[u32],
-    test: &[u32],
-) -> Result<Vec<u32>, AllocError>
+    controllers: &[VertexId],
+    test: &[VertexId],
+) -> Result<Vec<VertexId>, AllocError>
     ensures edges { OnOk result (out.new.items ≡ out.old.items ++ joined (controllers.now ++ test.now) test.now) }
     ensures controllers { IfOk result (λ all. all.items ≡ controllers.now ++ test.now) }
 {
@@ -65,7 +69,7 @@ pub(crate) fn statements(
     out: &mut Vec<Pair>,
     own: &StatementVertices,
     list: &[Statement],
-    controllers: &[u32],
+    controllers: &[VertexId],
 ) -> Result<(), AllocError>
     ensures { OnOk result (out.new.items ≡ out.old.items ++ walks (row own.now) list.now controllers.now) }
 {
@@ -83,7 +87,7 @@ fn arms(
     own: &StatementVertices,
     list: &[Arm],
     taken: &[bool],
-    controllers: &[u32],
+    controllers: &[VertexId],
 ) -> Result<(), AllocError>
     requires for_each { length taken.now ≡ length list.now }
     ensures { OnOk result (out.new.items ≡ out.old.items ++ arm_walks (row own.now) taken.now list.now controllers.now) }
@@ -102,7 +106,7 @@ fn arm(
     own: &StatementVertices,
     one: &Arm,
     is_taken: bool,
-    controllers: &[u32],
+    controllers: &[VertexId],
 ) -> Result<(), AllocError>
     ensures { OnOk result (out.new.items ≡ out.old.items ++ if_taken (row own.now) is_taken one.now.body controllers.now) }
 {
@@ -120,7 +124,7 @@ fn part(
     out: &mut Vec<Pair>,
     own: &StatementVertices,
     one: &Option<Boxed<Statement>>,
-    controllers: &[u32],
+    controllers: &[VertexId],
 ) -> Result<(), AllocError>
     ensures { OnOk result (out.new.items ≡ out.old.items ++ walked_part (row own.now) one.now controllers.now) }
 {
@@ -141,7 +145,7 @@ fn statement(
     out: &mut Vec<Pair>,
     own: &StatementVertices,
     one: &Statement,
-    controllers: &[u32],
+    controllers: &[VertexId],
 ) -> Result<(), AllocError>
     ensures { OnOk result (out.new.items ≡ out.old.items ++ walk (row own.now) one.now controllers.now) }
 {

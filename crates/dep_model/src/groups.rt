@@ -6,7 +6,7 @@ ghost use Rattle.dep_model.specs.FunctionVertices.{numbers};
 ghost use Rattle.dep_model.specs.Groups as spec;
 ghost use Rattle.dep_model.specs.Groups.{is_at, in_group, if_passes, row, rows_of};
 
-use crate::vertex::{Vertex, VertexKind};
+use crate::vertex::{Vertex, VertexId, VertexKind};
 use c_tree::{FunctionId, StatementId};
 use std::alloc::{AllocError, Global};
 use std::marker::Model;
@@ -43,7 +43,7 @@ pub fn numbers_of(
     vertices: &[Vertex],
     function: FunctionId,
     group: Group,
-) -> Result<Vec<u32>, AllocError>
+) -> Result<Vec<VertexId>, AllocError>
     requires few { length vertices.now < 2 ^ 32 }
     ensures { IfOk result (λ found. found.items ≡ numbers (in_group group) function vertices.now) }
 {
@@ -58,8 +58,8 @@ pub fn numbers_of(
 
 // Adds the number of a vertex that is of the group.
 fn add_of_group(
-    found: &mut Vec<u32>,
-    number: u32,
+    found: &mut Vec<VertexId>,
+    number: VertexId,
     vertex: &Vertex,
     function: FunctionId,
     group: Group,
@@ -76,7 +76,7 @@ fn add_of_group(
 /// so the actuals of a call too. Contracts see a list of their numbers for each statement.
 #[derive(Drop)]
 pub struct StatementVertices {
-    rows: Vec<Vec<u32>>,
+    rows: Vec<Vec<VertexId>>,
 }
 
 impl Model for StatementVertices {
@@ -109,7 +109,7 @@ impl StatementVertices {
     }
 
     /// The vertices of a statement.
-    pub fn row(&self, id: StatementId) -> &[u32]
+    pub fn row(&self, id: StatementId) -> &[VertexId]
         ensures { result.now ≡ row self.now id }
     {
         if (id as usize) < self.rows.len() {
@@ -136,8 +136,8 @@ fn statement_of(kind: VertexKind, actuals: bool) -> Option<StatementId>
 // Adds a vertex to the row of its statement.
 fn add_vertex(
     alloc: Global,
-    rows: &mut Vec<Vec<u32>>,
-    number: u32,
+    rows: &mut Vec<Vec<VertexId>>,
+    number: VertexId,
     vertex: &Vertex,
     function: FunctionId,
     actuals: bool,
@@ -155,9 +155,9 @@ fn add_vertex(
 // Adds a number to a row, which is made where there is none.
 fn add(
     alloc: Global,
-    rows: &mut Vec<Vec<u32>>,
+    rows: &mut Vec<Vec<VertexId>>,
     id: StatementId,
-    number: u32,
+    number: VertexId,
 ) -> Result<(), AllocError>
     ensures { OnOk result ((i : ℕ) → row (rows_of rows.new) i ≡ row (rows_of rows.old) i ++ spec.if_same id i number) }
 {
@@ -170,7 +170,7 @@ fn add(
 }
 
 // Adds a number to a row that is there.
-fn push_at(rows: &mut Vec<Vec<u32>>, at: usize, number: u32) -> Result<(), AllocError>
+fn push_at(rows: &mut Vec<Vec<VertexId>>, at: usize, number: VertexId) -> Result<(), AllocError>
     requires { at < length rows.old.items }
     ensures { OnOk result ((i : ℕ) → row (rows_of rows.new) i ≡ row (rows_of rows.old) i ++ spec.if_same at i number) }
 {

@@ -20,7 +20,7 @@ pub use plain_graph::PlainGraph;
 pub use rule_closure::{Closure, Rule, VertexSet};
 pub use skeleton::{FlowGraph, Pair, PairList, Skeleton, VertexList};
 pub use switch_arms::taken_arms;
-pub use vertex::{Slot, Vertex, VertexKind};
+pub use vertex::{Slot, Vertex, VertexId, VertexKind};
 
 #[cfg(test)]
 mod tests;

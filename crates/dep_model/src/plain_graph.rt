@@ -5,6 +5,7 @@ ghost use Rattle.dep_model.specs.Words.{IsPlain, IsEdgeWithin, ReachesAny};
 ghost use Rattle.dep_model.specs.Completion.{IsCompletion, NamesNone};
 
 use crate::edge::Edge;
+use crate::vertex::VertexId;
 use rule_closure::{Closure, Rule, VertexSet};
 use std::alloc::{AllocError, Global};
 use std::marker::Model;
@@ -65,7 +66,7 @@ impl PlainGraph {
     }
 
     /// Makes the set its completion, where `main` is the entry of main, and takes no memory.
-    pub fn complete(&mut self, main: u32, set: &mut VertexSet)
+    pub fn complete(&mut self, main: VertexId, set: &mut VertexSet)
         requires main_in { main < self.old.size }
         requires size { length set.old ≡ self.old.size }
         ensures exact { IsCompletion self.old.edges NamesNone main set.old set.new }

@@ -1,4 +1,4 @@
-use crate::vertex::Vertex;
+use crate::vertex::{Vertex, VertexId};
 use bit_rows::Rows;
 use sqlite_items::Items;
 
@@ -23,9 +23,9 @@ pub struct Skeleton {
 #[derive(Clone, Copy, Debug, PartialEq, Eq, PartialOrd, Ord)]
 pub struct Pair {
     /// The number of the vertex that is done first.
-    pub from: u32,
+    pub from: VertexId,
     /// The number of one that may be done directly after it.
-    pub to: u32,
+    pub to: VertexId,
 }
 
 /// Pairs of vertices.

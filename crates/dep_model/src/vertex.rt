@@ -31,6 +31,9 @@ pub enum VertexKind {
     ActualOut(StatementId, Slot),
 }
 
+/// The place of a vertex in the list of a graph's vertices, counted from 0.
+pub type VertexId = u32;
+
 /// A vertex of a system dependence graph (Horwitz, Reps and Binkley 1990).
 #[derive(Clone, Copy, Debug, PartialEq, Eq)]
 pub struct Vertex {

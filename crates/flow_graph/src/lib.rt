@@ -10,7 +10,9 @@ mod defaults;
 mod walk;
 
 use c_tree::{FunctionId, Program};
-use dep_model::{FlowGraph, Group, Pair, Skeleton, StatementVertices, Vertex, ascend, numbers_of};
+use dep_model::{
+    FlowGraph, Group, Pair, Skeleton, StatementVertices, Vertex, VertexId, ascend, numbers_of,
+};
 use sqlite_items::Items;
 use std::alloc::{AllocError, Global};
 
@@ -61,7 +63,7 @@ fn heads_of(
     alloc: Global,
     vertices: &[Vertex],
     function: FunctionId,
-) -> Result<Vec<u32>, AllocError>
+) -> Result<Vec<VertexId>, AllocError>
     requires few { length vertices.now < 2 ^ 32 }
     ensures { IfOk result (λ found. found.items ≡ heads vertices.now function) }
 {

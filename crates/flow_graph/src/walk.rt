@@ -7,12 +7,12 @@ ghost use Rattle.flow_graph.specs.Walk.{linked, led_to, flow, flows, flow_part, 
 
 use crate::defaults::has_default;
 use c_tree::{Arm, Statement};
-use dep_model::{Pair, StatementVertices, taken_arms};
+use dep_model::{Pair, StatementVertices, VertexId, taken_arms};
 use sqlite_items::Boxed;
 use std::alloc::{AllocError, Global};
 
 // The first of some vertices, or `next` where there is none.
-fn entered(vertices: &[u32], next: Option<u32>) -> Option<u32>
+fn entered(vertices: &[VertexId], next: Option<VertexId>) -> Option<VertexId>
     ensures { result ≡ enters vertices.now next }
 {
     match vertices.first() {
@@ -22,7 +22,7 @@ fn entered(vertices: &[u32], next: Option<u32>) -> Option<u32>
 }
 
 // Appends the pair of a vertex and what follows it, where something does.
-fn push_pair(out: &mut Vec<Pair>, from: u32, next: Option<u32>) -> Result<(), AllocError>
+fn push_pair(out: &mut Vec<Pair>, from: VertexId, next: Option<VertexId>) -> Result<(), AllocError>
     ensures { OnOk result (out.new.items ≡ out.old.items ++ spec.to_next from next) }
 {
     if let Some(to) = next {
@@ -35,8 +35,8 @@ fn push_pair(out: &mut Vec<Pair>, from: u32, next: Option<u32>) -> Result<(), Al
 /// follows it.
 pub(crate) fn link(
     out: &mut Vec<Pair>,
-    vertices: &[u32],
-    next: Option<u32>,
+    vertices: &[VertexId],
+    next: Option<VertexId>,
 ) -> Result<(), AllocError>
     ensures { OnOk result (out.new.items ≡ out.old.items ++ linked vertices.now next) }
 {
@@ -49,9 +49,9 @@ pub(crate) fn link(
 // Appends the pairs of a simple statement, and answers where it is entered.
 pub(crate) fn simple(
     out: &mut Vec<Pair>,
-    vertices: &[u32],
-    next: Option<u32>,
-) -> Result<Option<u32>, AllocError>
+    vertices: &[VertexId],
+    next: Option<VertexId>,
+) -> Result<Option<VertexId>, AllocError>
     ensures pairs { OnOk result (out.new.items ≡ out.old.items ++ linked vertices.now next) }
     ensures start { IfOk result (λ k. k ≡ enters vertices.now next) }
 {
@@ -66,8 +66,8 @@ pub(crate) fn statements(
     out: &mut Vec<Pair>,
     own: &StatementVertices,
     list: &[Statement],
-    next: Option<u32>,
-) -> Result<Option<u32>, AllocError>
+    next: Option<VertexId>,
+) -> Result<Option<VertexId>, AllocError>
     ensures pairs { OnOk result (out.new.items ≡ out.old.items ++ (flows (row own.now) list.now).pairs next) }
     ensures start { IfOk result (λ k. k ≡ (flows (row own.now) list.now).start next) }
 {
@@ -86,10 +86,10 @@ fn lead_to(
     alloc: Global,
     out: &mut Vec<Pair>,
     own: &StatementVertices,
-    test: &[u32],
+    test: &[VertexId],
     list: &[Statement],
-    next: Option<u32>,
-) -> Result<Option<u32>, AllocError>
+    next: Option<VertexId>,
+) -> Result<Option<VertexId>, AllocError>
     ensures pairs { OnOk result (out.new.items ≡ out.old.items ++ led_to test.now (flows (row own.now) list.now) next) }
     ensures start { IfOk result (λ k. k ≡ (flows (row own.now) list.now).start next) }
 {
@@ -104,10 +104,10 @@ fn arms(
     alloc: Global,
     out: &mut Vec<Pair>,
     own: &StatementVertices,
-    test: &[u32],
+    test: &[VertexId],
     list: &[Arm],
     taken: &[bool],
-    next: Option<u32>,
+    next: Option<VertexId>,
 ) -> Result<(), AllocError>
     requires for_each { length taken.now ≡ length list.now }
     ensures { OnOk result (out.new.items ≡ out.old.items ++ arm_flows (row own.now) test.now taken.now list.now next) }
@@ -124,10 +124,10 @@ fn arm(
     alloc: Global,
     out: &mut Vec<Pair>,
     own: &StatementVertices,
-    test: &[u32],
+    test: &[VertexId],
     one: &Arm,
     is_taken: bool,
-    next: Option<u32>,
+    next: Option<VertexId>,
 ) -> Result<(), AllocError>
     ensures { OnOk result (out.new.items ≡ out.old.items ++ if_taken (row own.now) test.now is_taken one.now.body next) }
 {
@@ -141,9 +141,9 @@ fn arm(
 // Appends the pairs from a test past the arms of a switch, where it has no default.
 fn pass_by(
     out: &mut Vec<Pair>,
-    test: &[u32],
+    test: &[VertexId],
     has_default: bool,
-    next: Option<u32>,
+    next: Option<VertexId>,
 ) -> Result<(), AllocError>
     ensures { OnOk result (out.new.items ≡ out.old.items ++ spec.past test.now has_default next) }
 {
@@ -160,8 +160,8 @@ fn part(
     out: &mut Vec<Pair>,
     own: &StatementVertices,
     one: &Option<Boxed<Statement>>,
-    next: Option<u32>,
-) -> Result<Option<u32>, AllocError>
+    next: Option<VertexId>,
+) -> Result<Option<VertexId>, AllocError>
     ensures pairs { OnOk result (out.new.items ≡ out.old.items ++ (flow_part (row own.now) one.now).pairs next) }
     ensures start { IfOk result (λ k. k ≡ (flow_part (row own.now) one.now).start next) }
 {
@@ -182,8 +182,8 @@ fn statement(
     out: &mut Vec<Pair>,
     own: &StatementVertices,
     one: &Statement,
-    next: Option<u32>,
-) -> Result<Option<u32>, AllocError>
+    next: Option<VertexId>,
+) -> Result<Option<VertexId>, AllocError>
     ensures pairs { OnOk result (out.new.items ≡ out.old.items ++ (flow (row own.now) one.now).pairs next) }
     ensures start { IfOk result (λ k. k ≡ (flow (row own.now) one.now).start next) }
 {

@@ -50,6 +50,3 @@ pub fn rank(keeps: &[bool], id: StatementId) -> Option<StatementId>
     }
     Some(below)
 }
-
-#[cfg(test)]
-mod tests;

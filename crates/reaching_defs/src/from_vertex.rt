@@ -12,14 +12,14 @@ ghost use Rattle.reaching_defs.specs.Spans.{AreSuccessors, DefinesSome, FlowsAmo
 use crate::search;
 use crate::successors::Successors;
 use bit_rows::Rows;
-use dep_model::{Edge, Label, Skeleton, VertexSet};
+use dep_model::{Edge, Label, LocationId, Skeleton, VertexId, VertexSet};
 use std::alloc::AllocError;
 
 // Adds to the targets those of the first vertices of an order that may use the location; all are counted
 // from `base` on.
 fn collect(
-    base: u32,
-    location: u32,
+    base: VertexId,
+    location: LocationId,
     used: &Rows,
     order: &[u32],
     filled: usize,
@@ -55,8 +55,8 @@ fn is_set(word: u64, bit: u32) -> bool
 // Adds the targets of `v` by the 64 locations from `first` on, whose bits in the row of `v` the word has.
 fn add_targets(
     next: &Successors,
-    v: u32,
-    first: u32,
+    v: VertexId,
+    first: LocationId,
     word: u64,
     s: &Skeleton,
     order: &mut [u32],
@@ -100,7 +100,7 @@ fn add_targets(
 // Makes the targets those to which a location flows from `v`, and tells whether it may define any.
 fn find_targets(
     next: &Successors,
-    v: u32,
+    v: VertexId,
     s: &Skeleton,
     order: &mut [u32],
     reached: &mut VertexSet,
@@ -137,8 +137,8 @@ fn find_targets(
 
 // Appends the flow edges from `v` to the targets.
 fn push_edges(
-    base: u32,
-    v: u32,
+    base: VertexId,
+    v: VertexId,
     targets: &VertexSet,
     found: &mut Vec<Edge>,
 ) -> Result<(), AllocError>
@@ -164,7 +164,7 @@ fn push_edges(
 /// Appends the flow edges from `v`, where those that were found begin at vertices before it.
 pub(crate) fn edges_from(
     next: &Successors,
-    v: u32,
+    v: VertexId,
     s: &Skeleton,
     order: &mut [u32],
     reached: &mut VertexSet,

@@ -8,7 +8,7 @@ ghost use Rattle.reaching_defs.specs.Spans.{AreSuccessors};
 
 use crate::successors::Successors;
 use bit_rows::Rows;
-use dep_model::VertexSet;
+use dep_model::{LocationId, VertexId, VertexSet};
 
 // Adds what follows `u` to the vertices that are reached, at the end of their order; both are counted
 // from the base of the span.
@@ -53,8 +53,8 @@ fn visit(
 /// lists them, both counted from the base of the span. Answers how many there are.
 pub(crate) fn spread(
     next: &Successors,
-    v: u32,
-    location: u32,
+    v: VertexId,
+    location: LocationId,
     killed: &Rows,
     order: &mut [u32],
     reached: &mut VertexSet,

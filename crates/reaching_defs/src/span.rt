@@ -3,12 +3,12 @@ ghost use Rattle.std.specs.Prelude.{◌+◌, ◌≤◌, All};
 ghost use Rattle.dep_model.specs.Pairs.{IsPairBelow};
 ghost use Rattle.reaching_defs.specs.Spans.{IsPairAmong, IsTight};
 
-use dep_model::Pair;
+use dep_model::{Pair, VertexId};
 
 /// `size` vertices, from the one with the number `base` on.
 #[derive(Clone, Copy, Debug)]
 pub(crate) struct Span {
-    pub(crate) base: u32,
+    pub(crate) base: VertexId,
     pub(crate) size: u32,
 }
 

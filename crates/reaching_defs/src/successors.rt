@@ -3,7 +3,7 @@ ghost use Rattle.std.specs.Prelude.{◌≡◌, ◌+◌, ◌<◌, All, IfOk, leng
 ghost use Rattle.reaching_defs.specs.Spans.{IsPairAmong, IsIndexed, AreSuccessors};
 
 use crate::span::Span;
-use dep_model::Pair;
+use dep_model::{Pair, VertexId};
 use std::alloc::{AllocError, Global};
 
 /// The pairs of a span, where those that lead from one vertex are joined from the last to the first:
@@ -37,7 +37,7 @@ impl Successors {
 }
 
 // Joins the pairs from each vertex, which are counted from `base` on.
-fn index(base: u32, pairs: &[Pair], heads: &mut [usize], nexts: &mut [usize])
+fn index(base: VertexId, pairs: &[Pair], heads: &mut [usize], nexts: &mut [usize])
     requires inside { All (IsPairAmong base (length heads.old)) pairs.now }
     requires empty { heads.old ≡ replicate (length heads.old) 0 }
     requires long { length nexts.old ≡ length pairs.now }

@@ -1,5 +1,5 @@
 //! The marking that closes a set by rules.
-ghost use Rattle.std.specs.Prelude.{◌≡◌, ℕ, ◌+◌, ◌-◌, ◌<◌, ◌≤◌, ◌↔◌, Bool, IsTrue, length, slice_index, slice_index_or, replicate, IfOk, map, ◌++◌, ◌^◌, List};
+ghost use Rattle.std.specs.Prelude.{◌≡◌, ℕ, ◌+◌, ◌-◌, ◌<◌, ◌≤◌, ◌↔◌, Bool, IsTrue, length, slice_index, slice_index_or, replicate, IfOk, map, List};
 ghost use Rattle.bit_rows.specs.Sets.{has};
 ghost use Rattle.rule_closure.specs.Links.{Linked, LinkDerived, IsIndexed, IsLinkWithin, IsListed, from_first, links_of};
 ghost use Rattle.rule_closure.specs.declared.engine.Link.{Link};

@@ -7,7 +7,7 @@ ghost use Rattle.slice_engine.specs.Criterion as spec;
 ghost use Rattle.slice_engine.specs.Criterion.{starts_of};
 
 use crate::starts::Start;
-use dep_model::VertexSet;
+use dep_model::{VertexId, VertexSet};
 use std::alloc::{AllocError, Global};
 
 /// Whether one of the statements starts on the line.
@@ -39,7 +39,7 @@ pub(crate) fn criterion_set(
     Ok(set)
 }
 
-fn add_if(starts_here: bool, vertex: u32, set: &mut VertexSet)
+fn add_if(starts_here: bool, vertex: VertexId, set: &mut VertexSet)
     requires { vertex < length set.old }
     ensures { set.new ≡ spec.marked_if starts_here vertex set.old }
 {

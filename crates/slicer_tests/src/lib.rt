@@ -23,6 +23,8 @@ mod order_tests;
 #[cfg(test)]
 mod programs;
 #[cfg(test)]
+mod projection_tests;
+#[cfg(test)]
 mod refusal_tests;
 #[cfg(test)]
 mod run_tests;

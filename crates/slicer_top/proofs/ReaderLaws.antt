@@ -12,9 +12,9 @@ use Rattle.c_language.specs.Limits.{array_length, object_cells}
 use Rattle.c_language.specs.Programs as programs
 use Rattle.c_language.specs.Rules.{IsBroken}
 use Rattle.c_lex.proofs.TokenLaws.{tokens_unique}
-use Rattle.c_parse.proofs.ProgramLaws.{one_tree}
-use Rattle.c_types.specs.Outcome.{IsAbove}
-use Rattle.c_types.proofs.AnswerLaws.{rules_hold}
+use Rattle.c_parse.proofs.ParserLaws.{one_tree}
+use Rattle.c_types.specs.Checker.{IsAbove}
+use Rattle.c_types.proofs.CheckerLaws.{rules_hold}
 use Rattle.c_types.specs.declared.rule_fault.RuleFault.{RuleFault}
 use Rattle.c_types.specs.declared.rule_fault.RuleFault.TheVariants as rule
 use Rattle.c_reader.specs.Reading.{ReadsProgram, ReadsTree, HasRuleFault, IsRuleFault, IsRight, Gives, IsTooDeep, IsChecked, IsJudgement}
@@ -59,6 +59,7 @@ module _ (text : Bytes) where
       };
     },
     is.shows,
+    is.first,
   )
   judged NoMemory is = tt
 

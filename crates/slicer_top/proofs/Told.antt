@@ -12,7 +12,7 @@ use Rattle.c_language.specs.StatementNesting.{program_nesting}
 use Rattle.c_lex.specs.declared.fault.LexFault.TheVariants as lex
 use Rattle.c_parse.specs.declared.parse_fault.ParseFault.{ParseFault}
 use Rattle.c_parse.specs.declared.parse_fault.ParseFault.TheVariants as parse
-use Rattle.c_types.specs.Outcome.{IsAbove}
+use Rattle.c_types.specs.Checker.{IsAbove}
 use Rattle.c_types.specs.declared.rule_fault.RuleFault.{RuleFault}
 use Rattle.c_types.specs.declared.rule_fault.RuleFault.TheVariants as rule
 use Rattle.c_reader.specs.Reading.{ReadsTree, HasParseFault, IsNesting}

@@ -1,9 +1,9 @@
 //! Types, declarators and declarations as they are printed.
-use crate::names::int_words;
 use crate::trees::building::{
     A, B, M, P, array, expect_lines, int, none, number, pointer, program, two,
 };
 use crate::types::{declared, type_words};
+use c_language::int_words;
 use c_tree::{CType, Expr, Init, IntType, Statement, Text};
 use std::process::Abort;
 

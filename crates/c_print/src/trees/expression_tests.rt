@@ -1,9 +1,9 @@
 //! Expressions as they are printed.
 use crate::expressions::expression;
-use crate::names::binary_sign;
 use crate::trees::building::{
     A, B, M, NEXT, P, Q, S, binary, boxed, none, number, program, unary, variable,
 };
+use c_language::binary_sign;
 use c_tree::{BinaryOp, Expr, IntType, Text, UnaryOp};
 use std::process::Abort;
 

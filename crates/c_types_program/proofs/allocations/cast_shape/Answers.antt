@@ -1,5 +1,5 @@
 use Rattle.std.proofs.Common.{subst}
-use Rattle.c_types_program.specs.Keeping.{IsPlainName}
+use Rattle.c_types_program.specs.KeptPhrases.{IsPlainName}
 use Rattle.c_types_program.proofs.HeapLemmas.{cast_named}
 use Rattle.c_types_program.proofs.allocations.cast_shape.Goals as goal
 

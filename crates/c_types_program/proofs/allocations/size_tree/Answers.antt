@@ -2,7 +2,7 @@ use Rattle.std.proofs.Common.{sym, ap, subst, ◌∙◌}
 use Rattle.c_language.specs.ProgramOf.{variable_number}
 use Rattle.c_language.specs.Scopes.{meaning_in}
 use Rattle.c_types_base.specs.Tables.{scope_of}
-use Rattle.c_types_program.specs.Keeping.{IsPlainSize}
+use Rattle.c_types_program.specs.KeptPhrases.{IsPlainSize}
 use Rattle.c_types_program.proofs.HeapLemmas.{type_measured, pointee_measured}
 use Rattle.c_types_program.proofs.OptionPaths.{given_some}
 use Rattle.c_types_program.proofs.allocations.size_tree.Goals as goal

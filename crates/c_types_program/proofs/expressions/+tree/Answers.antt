@@ -2,7 +2,7 @@ use Rattle.std.proofs.Common.{sym, ap, subst, ◌∙◌, inl, arith}
 use Rattle.c_language.specs.Nesting.{nesting}
 use Rattle.c_language.proofs.NestingLemmas.{nesting-Unary, nesting-Deref, nesting-AddressOf, nesting-Cast, nesting-Paren, nesting-Binary, nesting-AndAlso, nesting-OrElse, nesting-Index, nesting-Choose, nesting-Member, nesting-Arrow}
 use Rattle.c_types_base.specs.Tables.{scope_of}
-use Rattle.c_types_program.specs.Keeping.{IsMeant}
+use Rattle.c_types_program.specs.KeptPhrases.{IsMeant}
 use Rattle.c_types_program.proofs.KeptLemmas.{low_first, low_left, low_only, low_right, low_second, low_third, of_unary, of_deref, of_address_of, of_binary, of_and_also, of_or_else, of_choose, of_cast, of_index, of_member, of_arrow, of_paren}
 use Rattle.c_types_program.proofs.expressions.+tree.Goals as goal
 

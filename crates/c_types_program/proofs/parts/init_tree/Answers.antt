@@ -1,6 +1,6 @@
 use Rattle.std.proofs.Common.{sym, subst}
 use Rattle.c_types_base.specs.Tables.{scope_of}
-use Rattle.c_types_program.specs.Keeping.{IsKeptInit, AreOperands}
+use Rattle.c_types_program.specs.KeptPhrases.{IsKeptInit, AreOperands}
 use Rattle.c_types_program.proofs.PartLemmas.{one_operand, items_operands}
 use Rattle.c_types_program.proofs.parts.init_tree.Goals as goal
 

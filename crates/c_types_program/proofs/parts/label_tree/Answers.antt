@@ -1,5 +1,5 @@
 use Rattle.std.proofs.Common.{subst}
-use Rattle.c_types_program.specs.Keeping.{IsKeptLabel}
+use Rattle.c_types_program.specs.KeptPhrases.{IsKeptLabel}
 use Rattle.c_types_program.proofs.PartLemmas.{case_constant}
 use Rattle.c_types_program.proofs.parts.label_tree.Goals as goal
 

@@ -1,6 +1,6 @@
 use Rattle.std.proofs.Common.{sym, ap, ◌∙◌}
 use Rattle.c_types_program.specs.declared.walk.Walk.{Walk}
-use Rattle.c_types_program.specs.Walking.{MakesProgram}
+use Rattle.c_types_program.specs.Items.{MakesProgram}
 use Rattle.c_types_program.proofs.FormedText.{text_fits}
 use Rattle.c_types_program.proofs.ProgramSteps.{walk_fits, program_long, walk_right, walk_structs, structs_stop_all, walk_makes}
 use Rattle.c_types_program.proofs.StructSteps.{passes_stop}

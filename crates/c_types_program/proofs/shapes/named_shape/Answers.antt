@@ -1,7 +1,7 @@
 use Rattle.std.proofs.Common.{◌≡◌, Some, sym, ap, subst, ◌∙◌, arith}
 use Rattle.c_language.specs.ProgramOf.{ctype}
 use Rattle.c_language.specs.TypeGrammar.{pointed_n}
-use Rattle.c_types_program.specs.Keeping.{IsGiven}
+use Rattle.c_types_program.specs.KeptPhrases.{IsGiven}
 use Rattle.c_types_program.proofs.ShapeLemmas.{base_given, star_more}
 use Rattle.c_types_program.proofs.shapes.named_shape.Goals as goal
 

@@ -1,6 +1,6 @@
 use Rattle.std.proofs.Common.{subst, Err, ◌∙◌}
 use Rattle.c_language.specs.ProgramOf.{ctype}
-use Rattle.c_types_program.specs.Shaping.{Shapes}
+use Rattle.c_types_program.specs.Shapes.{Shapes}
 use Rattle.c_types_program.proofs.OptionPaths.{given_some}
 use Rattle.c_types_program.proofs.ShapeLemmas.{never_long}
 use Rattle.c_types_program.proofs.shapes.plain_shape.Goals as goal

@@ -1,6 +1,6 @@
 use Rattle.std.proofs.Common.{refl, sym, ap, ◌∙◌}
 use Rattle.c_tree.specs.declared.raw.program.RawItem.TheVariants as item_of
-use Rattle.c_types_program.specs.Walking.{AddsStruct}
+use Rattle.c_types_program.specs.Items.{AddsStruct}
 use Rattle.c_types_program.proofs.StructSteps.{passes_stop, own_members, adds_struct, stops_struct, adds_nothing}
 use Rattle.c_types_program.proofs.structs.add_struct.Goals as goal
 

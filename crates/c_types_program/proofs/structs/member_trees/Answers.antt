@@ -1,5 +1,5 @@
 use Rattle.c_language.specs.ProgramOf.{member_tree}
-use Rattle.c_types_program.specs.Walking.{MakesMembers}
+use Rattle.c_types_program.specs.Items.{MakesMembers}
 use Rattle.c_types_program.proofs.StructSteps.{passes_stop, member_kept, members_stop}
 use Rattle.c_types_program.proofs.Turns.{made_begin, made_turn, made_end}
 use Rattle.c_types_program.proofs.structs.member_trees.Goals as goal

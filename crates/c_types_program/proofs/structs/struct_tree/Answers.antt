@@ -1,4 +1,4 @@
-use Rattle.c_types_program.specs.Walking.{MakesStruct}
+use Rattle.c_types_program.specs.Items.{MakesStruct}
 use Rattle.c_types_program.proofs.StructSteps.{passes_stop, struct_made, struct_stops}
 use Rattle.c_types_program.proofs.structs.struct_tree.Goals as goal
 

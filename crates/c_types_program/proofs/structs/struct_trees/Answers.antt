@@ -1,7 +1,7 @@
 use Rattle.std.proofs.Common.{◌++◌, map, Some, ap}
 use Rattle.c_language.specs.DeclaredTypes.{structs_of}
 use Rattle.c_language.specs.ProgramOf.{struct_tree}
-use Rattle.c_types_program.specs.Walking.{MakesStructs}
+use Rattle.c_types_program.specs.Items.{MakesStructs}
 use Rattle.c_types_program.proofs.StructSteps.{passes_stop, struct_kept, structs_stop, structs_turn, structs_end}
 use Rattle.c_types_program.proofs.structs.struct_trees.Goals as goal
 

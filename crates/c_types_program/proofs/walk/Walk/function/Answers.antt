@@ -1,6 +1,6 @@
 use Rattle.std.proofs.Common.{refl, subst, sym}
 use Rattle.c_types_base.specs.Stretches.{of_parameters}
-use Rattle.c_types_program.specs.Walking.{FitsStretch, PassesStretch}
+use Rattle.c_types_program.specs.Items.{FitsStretch, PassesStretch}
 use Rattle.c_types_program.proofs.FunctionSteps.{function_parameters, body_right, body_fits, function_has, function_passes}
 use Rattle.c_types_program.proofs.walk.Walk.function.Goals as goal
 

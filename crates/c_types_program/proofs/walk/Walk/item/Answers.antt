@@ -3,7 +3,7 @@ use Rattle.std.specs.Prelude.{IfOk, OnOk, vec_len}
 use Rattle.c_tree.specs.declared.raw.program.RawItem.TheVariants as item_of
 use Rattle.c_types_base.proofs.TextSteps.{has_place}
 use Rattle.c_types_base.specs.Stretches.{of_item}
-use Rattle.c_types_program.specs.Walking.{HasItem, PassesStretch}
+use Rattle.c_types_program.specs.Items.{HasItem, PassesStretch}
 use Rattle.c_types_program.proofs.FunctionSteps.{stays_here}
 use Rattle.c_types_program.proofs.ItemForms.{item_fits, item_has, item_passes, item_adds, adds_none, adds_function, on_ok}
 use Rattle.c_types_program.proofs.walk.Walk.item.Goals as goal

@@ -1,0 +1,22 @@
+//! Tests of the crates that read a text: fragments and texts with their trees, constants and types, worked
+//! out by hand. They stand apart, so that to prove them isn't to prove the reader once more.
+#![tactic(auto)]
+
+#[cfg(test)]
+mod constant_tests;
+#[cfg(test)]
+mod expr_tests;
+#[cfg(test)]
+mod simple_tests;
+#[cfg(test)]
+mod statement_tests;
+#[cfg(test)]
+mod statements;
+#[cfg(test)]
+mod text_tests;
+#[cfg(test)]
+mod tokens;
+#[cfg(test)]
+mod trees;
+#[cfg(test)]
+mod type_tests;
