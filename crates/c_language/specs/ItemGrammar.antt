@@ -28,6 +28,7 @@ pub data IsMemberDeclarator (line : ℕ) (base : RawType) : Tokens → RawMember
   named : {ts rest : Tokens} {v : RawVar}
       → IsDeclarator ts base v rest → is_listed v.shape ≡ false → IsMemberDeclarator line base ts (record { line = line; name = v.name; shape = v.shape }) rest
 
+-- one declaration in a struct: the members that it declares
 pub data IsMember : Tokens → List RawMember → Tokens → Type 0 where
   -- a base, declarators, and the semicolon
   member : {ts mid rest : Tokens} {base : RawType} {all : List RawMember}

@@ -59,6 +59,7 @@ pub data Part : Type 0 where
   Switches : (test : RawExpr) → (labels : List RawLabel) → Part
   Returns : (value : Option RawExpr) → Part
 
+-- a part of a text that rules are about, with the line of its first token
 pub record Phrase : Type 0 where
   pub line : ℕ
   -- what stands before it

@@ -193,6 +193,7 @@ pub data IsDeclared (line : ℕ) (base : RawType) : Tokens → RawStatement → 
 abbrev pub AreDeclared : ℕ → RawType → Tokens → List RawStatement → Tokens → Type 0
 AreDeclared line base = IsSeparated (IsDeclared line base) (codes ";")
 
+-- one declaration: a statement for each variable that it declares
 pub data IsDeclaration : Tokens → List RawStatement → Tokens → Type 0 where
   -- a base, declarators with their initialisers, and the semicolon
   declaration : {ts mid rest : Tokens} {base : RawType} {all : List RawStatement}

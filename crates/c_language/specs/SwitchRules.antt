@@ -28,6 +28,7 @@ pub data SameCase (t : IntType) : RawLabel → RawLabel → Type 0 where
   same : {a b : RawExpr} {v w : ℤ}
       → value_of_constant a ≡ Some v → value_of_constant b ≡ Some w → convert v t ≡ convert w t → SameCase t (label.Case a) (label.Case b)
 
+-- two labels are both default
 pub data BothDefault : RawLabel → RawLabel → Type 0 where
   both : BothDefault label.Default label.Default
 

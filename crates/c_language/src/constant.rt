@@ -1,3 +1,4 @@
+//! What a constant expression is found to be: its integer type, and its value where that is defined.
 use c_arith::IntType;
 
 /// What a constant expression is (ISO C99 6.6).

@@ -1,3 +1,4 @@
+//! The types of expressions, as layers of pointers and arrays over a base, and what an operator sees of an operand.
 use c_arith::IntType;
 use c_tree::StructId;
 use sqlite_items::Items;

@@ -1,3 +1,4 @@
+//! The operators as they are written: between two operands, before one, and those that select a member.
 use c_arith::{BinaryOp, UnaryOp};
 
 /// An operator between two operands (ISO C99 6.5.5 to 6.5.14).

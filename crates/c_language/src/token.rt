@@ -1,3 +1,4 @@
+//! The tokens of a text, each with its kind, its bytes and its line, and what may stand before one in its line.
 use edge_io::Text;
 
 /// What a token is (ISO C99 6.4). A directive is a line that begins with `#` and is no include of a

@@ -1,3 +1,4 @@
+//! The kinds of bytes that the lexer tells apart, and the steps by which it goes through a text's bytes.
 ghost use Rattle.std.specs.Prelude.{◌≡◌, ◌≤◌, ◌<◌, ◌^◌, length, take, drop, slice_index};
 ghost use Rattle.c_language.specs.Characters as form;
 ghost use Rattle.c_language.specs.Constants as constants;

@@ -1,3 +1,4 @@
+//! The faults for which a text has no tokens.
 use std::alloc::AllocError;
 use thiserror::Error;
 

@@ -1,3 +1,4 @@
+//! Laws of tokens: each is the longest at its place, and with the space between them they are the whole text.
 ghost use Rattle.c_lex.specs.Laws.{TokensAreLongest, TokensAreSpread};
 
 /// A law: a token is the longest that stands at its place and has the form of its kind (ISO C99 6.4,

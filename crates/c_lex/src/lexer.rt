@@ -1,3 +1,4 @@
+//! The lexer: it goes through a text piece by piece and gives its tokens, or the fault that it meets.
 ghost use Rattle.std.specs.Prelude.{◌≡◌, ◌+◌, ◌<◌, ◌^◌, ◌++◌, ◌∷◌, [], length, OnOk};
 ghost use Rattle.c_language.specs.TokenForms.{Tokens, of_kind};
 ghost use Rattle.c_language.specs.Tokens.{AreTokensOf};

@@ -1,3 +1,4 @@
+//! Lines that begin with `#`: which of them include a library header, and where its name stands.
 ghost use Rattle.std.specs.Prelude.{◌≡◌, ◌≤◌, ◌<◌, ◌^◌, length, IfSome};
 ghost use Rattle.std.specs.Option.{option_copied};
 ghost use Rattle.c_lex.specs.Scanning as spec;

@@ -1,3 +1,4 @@
+//! How long a string literal or a character constant at the front of some bytes is, with its escapes.
 ghost use Rattle.std.specs.Prelude.{◌≡◌, ◌≤◌, ◌<◌, length, IfSome};
 ghost use Rattle.c_language.specs.Constants as constants;
 ghost use Rattle.c_language.specs.Tokens as tokens;

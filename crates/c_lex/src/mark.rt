@@ -1,3 +1,4 @@
+//! How long the longest punctuator at the front of some bytes is.
 ghost use Rattle.std.specs.Prelude.{◌≡◌};
 ghost use Rattle.c_lex.specs.Scanning as spec;
 

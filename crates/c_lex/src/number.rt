@@ -1,3 +1,4 @@
+//! Which numbers are integer constants: their base, digits and suffix, and whether a type holds their value.
 ghost use Rattle.std.specs.Prelude.{◌≡◌, ◌≤◌, ◌<◌, is_some, length};
 ghost use Rattle.c_language.specs.Constants as constants;
 ghost use Rattle.c_lex.specs.Numbers as spec;

@@ -1,3 +1,4 @@
+//! The next piece of a text: white space, a comment, a token, or what no text may hold.
 ghost use Rattle.std.specs.Prelude.{◌≡◌, ◌≤◌, ◌<◌, ◌^◌, length, drop};
 ghost use Rattle.c_language.specs.Tokens as tokens;
 ghost use Rattle.c_lex.specs.Scanning as spec;

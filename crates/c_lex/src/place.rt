@@ -1,3 +1,4 @@
+//! The search in some bytes for the end of a comment, one that joined line ends split, or a trigraph.
 ghost use Rattle.std.specs.Prelude.{◌≡◌, ◌≤◌, ◌<◌, length, IfSome};
 ghost use Rattle.c_lex.specs.Scanning as spec;
 ghost use Rattle.c_lex.specs.Sought as sought_spec;

@@ -1,3 +1,4 @@
+//! How long a name or a number at the front of some bytes is.
 ghost use Rattle.std.specs.Prelude.{◌≡◌, ◌≤◌, length};
 ghost use Rattle.c_language.specs.Tokens as tokens;
 ghost use Rattle.c_lex.specs.Scanning as spec;

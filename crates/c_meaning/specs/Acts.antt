@@ -19,6 +19,7 @@ use Rattle.c_meaning.specs.Memory.{Memory, is_live, write}
 use Rattle.c_meaning.specs.Values.{Types, State, variable_place, tested, as_type, binary_value, type_of, place, eval, eval_all}
 use Rattle.c_meaning.specs.Formats.{pieces_of, converted, written}
 
+-- a value that is stored, and where
 pub record Store : Type 0 where
   pub place : Place
   pub value : Value

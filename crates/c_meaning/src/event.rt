@@ -1,3 +1,4 @@
+//! What a run shows: the acts of its statements, each with the values that it stored, tested, returned or wrote.
 use c_tree::StatementId;
 use sqlite_items::Items;
 

@@ -1,3 +1,4 @@
+//! Copies of places, pointers and other values are equal to what was copied.
 use crate::{Hop, Path, Place, Pointer, Value};
 use sqlite_items::Items;
 use std::alloc::{AllocError, Global};

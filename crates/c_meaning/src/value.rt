@@ -1,3 +1,4 @@
+//! The values that objects hold, and the places and pointers by which a run names objects.
 ghost use Rattle.std.specs.Prelude.{◌≡◌, IfOk};
 
 use sqlite_items::Items;

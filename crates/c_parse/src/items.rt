@@ -1,3 +1,4 @@
+//! Reads the items of a text from its tokens: struct definitions, globals and functions.
 ghost use Rattle.std.specs.Prelude.{◌≡◌, ◌≤◌, ◌∷◌, [], length, codes, IfOk};
 ghost use Rattle.c_language.specs.ItemGrammar as grammar;
 ghost use Rattle.c_parse_expr.specs.Outcome.{Reads};

@@ -1,3 +1,4 @@
+//! The faults for which tokens have no tree, each with its line.
 use c_language::Text;
 use thiserror::Error;
 

@@ -1,3 +1,4 @@
+//! The parser: it gives the tree of a text's tokens, or else finds which fault to tell and at which line.
 ghost use Rattle.std.specs.Prelude.{◌≡◌, ◌≤◌, ◌<◌, IfOk, IfSome, Err, length};
 ghost use Rattle.c_tree.specs.declared.raw.program.RawProgram.{RawProgram};
 ghost use Rattle.c_language.specs.ItemGrammar.{IsProgram};

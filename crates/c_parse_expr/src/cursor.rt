@@ -1,3 +1,4 @@
+//! The place in the tokens up to which a parser has read: what it sees there, and how it goes on or stops.
 ghost use Rattle.std.specs.Prelude.{◌≡◌, drop, length, slice_get};
 ghost use Rattle.std.specs.Option.{option_copied};
 ghost use Rattle.c_language.specs.TokenForms as forms;

@@ -1,3 +1,4 @@
+//! Reads expressions from tokens, by how tightly their operators bind and within a limit of nesting.
 ghost use Rattle.std.specs.Prelude.{◌≡◌, ◌+◌, ◌<◌, ◌^◌};
 ghost use Rattle.c_language.specs.ExprGrammar as grammar;
 ghost use Rattle.c_language.specs.Nesting.{nesting};

@@ -1,3 +1,4 @@
+//! Why reading stops, with how many tokens were left there.
 ghost use Rattle.std.specs.Prelude.{◌≡◌};
 ghost use Rattle.c_parse_expr.specs.declared.fault.Stop.TheVariants.{Memory};
 

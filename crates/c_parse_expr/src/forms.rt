@@ -1,3 +1,5 @@
+//! Questions about forms: whether an expression is a place and how tightly it binds, whether a declarator leaves
+//! its first length empty, and whether a type begins at some tokens.
 ghost use Rattle.std.specs.Prelude.{◌≡◌};
 ghost use Rattle.c_language.specs.ExprGrammar as grammar;
 ghost use Rattle.c_language.specs.TypeGrammar as types;

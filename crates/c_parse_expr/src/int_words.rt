@@ -1,3 +1,4 @@
+//! Reads an integer type from its words, which may stand in any order.
 ghost use Rattle.std.specs.Prelude.{◌≡◌};
 ghost use Rattle.c_language.specs.IntWords as language;
 ghost use Rattle.c_parse_expr.specs.IntReading as spec;

@@ -1,3 +1,4 @@
+//! Trees of expressions that carry how deep they nest, and the forms by which larger ones are built.
 ghost use Rattle.std.specs.Prelude.{◌≡◌, ◌+◌, ◌<◌, ◌^◌, IfOk, max};
 ghost use Rattle.c_language.specs.ExprGrammar as grammar;
 ghost use Rattle.c_language.specs.Nesting.{nesting};

@@ -1,3 +1,4 @@
+//! Reads the parameters of a function, up to the closing parenthesis.
 ghost use Rattle.std.specs.Prelude.{◌∷◌, [], length};
 ghost use Rattle.c_parse_expr.specs.TypeReading as spec;
 ghost use Rattle.c_parse_expr.specs.Outcome.{Reads};

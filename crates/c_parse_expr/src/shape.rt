@@ -1,3 +1,4 @@
+//! Trees of types that carry how deep their declarators nest, and the base types that they are built on.
 ghost use Rattle.std.specs.Prelude.{◌≡◌, ◌+◌, ◌<◌, ◌^◌, IfOk, max};
 ghost use Rattle.c_language.specs.Nesting.{nesting, type_nesting};
 

@@ -1,3 +1,4 @@
+//! The operators and other marks by which an expression begins or goes on, and how tightly each binds.
 ghost use Rattle.std.specs.Prelude.{◌≡◌, ◌≤◌};
 ghost use Rattle.c_language.specs.ExprGrammar as grammar;
 ghost use Rattle.c_parse_expr.specs.ExprReading as spec;

@@ -1,3 +1,4 @@
+//! Reads base types, types without a name, and declarators with their stars and lengths.
 ghost use Rattle.std.specs.Prelude.{◌≡◌, ◌+◌, ◌<◌, ◌^◌, drop};
 ghost use Rattle.c_language.specs.Nesting.{type_nesting};
 ghost use Rattle.c_parse_expr.specs.TypeReading as spec;

@@ -1,3 +1,5 @@
+//! Finds the first token that begins a construct which the language leaves out, where that token and those around
+//! it tell so.
 ghost use Rattle.std.specs.Prelude.{◌≡◌, ◌≤◌, ◌<◌, ◌==◌, ◌||◌, ◌&&◌, reverse, slice_get, take, drop, [], ◌∷◌, ◌+◌, ◌^◌};
 ghost use Rattle.std.specs.List.{list_any};
 ghost use Rattle.std.specs.Str.{bytes_eq};

@@ -1,3 +1,4 @@
+//! Reads calls and their arguments, and allocations by `malloc` with their amounts.
 ghost use Rattle.std.specs.Prelude.{◌≡◌, ◌≤◌, length, [], codes, IfOk};
 ghost use Rattle.std.specs.Option.{option_copied};
 ghost use Rattle.c_language.specs.StatementGrammar as grammar;

@@ -1,3 +1,4 @@
+//! Reads assignments and other simple statements, and declarations of variables with what they begin with.
 ghost use Rattle.std.specs.Prelude.{◌≡◌, ◌≤◌, length, [], codes};
 ghost use Rattle.c_parse_expr.specs.Outcome.{Reads};
 ghost use Rattle.c_parse_simple.specs.SimpleReading as spec;

@@ -1,3 +1,4 @@
+//! Reads statements with their bodies: conditionals, loops, switches, blocks, and what stands between braces.
 ghost use Rattle.std.specs.Prelude.{◌≡◌, ◌≤◌, ◌∷◌, [], length, IfOk, Some};
 ghost use Rattle.c_parse_expr.specs.Outcome.{Reads};
 ghost use Rattle.c_parse_statements.specs.StatementReading as spec;

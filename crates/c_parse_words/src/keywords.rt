@@ -1,3 +1,4 @@
+//! Which words are keywords, so that no name can be one of them.
 ghost use Rattle.std.specs.Prelude.{◌≡◌, take, drop};
 ghost use Rattle.std.specs.List.{list_any};
 ghost use Rattle.std.specs.Str.{bytes_eq};

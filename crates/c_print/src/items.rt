@@ -155,9 +155,7 @@ fn item_lines(
 /// Each line is indented by four spaces for each level and ended by a line feed; there are no
 /// blank lines and no comments. A name that the program does not have gives no bytes.
 ///
-/// # Errors
-///
-/// `AllocError` where memory runs out.
+/// Err: no memory was left.
 #[tactic(auto, using(crate::proofs::Rules::loops_of))]
 pub fn print(alloc: Global, program: &Program) -> Result<Text, AllocError>
     ensures { IfOk result (λ text. text ≡ layout program.now) }

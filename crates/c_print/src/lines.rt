@@ -241,9 +241,7 @@ fn written(alloc: Global, program: &Program) -> Result<Vec<u32>, AllocError>
 
 /// The lines of all statements, by their numbers, each as [`line_of`] gives it.
 ///
-/// # Errors
-///
-/// `AllocError` where memory runs out.
+/// Err: no memory was left.
 pub fn lines_of(alloc: Global, program: &Program) -> Result<Vec<u32>, AllocError>
     requires fits { line_count program.now + 1 < 2 ^ 32 }
     ensures count { IfOk result (λ lines. length lines.items ≡ program.now.statements) }

@@ -1,3 +1,4 @@
+//! The reasons why a text isn't read, from its tokens to the rules that its tree must keep.
 use c_lex::LexFault;
 use c_parse::ParseFault;
 use c_types::RuleFault;

@@ -33,6 +33,7 @@ use Rattle.c_scope_laws.specs.Thinning.{NamesStay, LabelsStay, declares, arm}
 
 -- ---- what is needed of what is kept
 
+-- what must be kept since something that needs it is kept
 pub data Need : Type 0 where
   -- a phrase stays: all that it names is kept
   Names : (scope : Scope) → (part : Part) → Need

@@ -1,3 +1,4 @@
+//! Copies of tree parts whose memory may run out: the trait that they share, and the copy of a list of them.
 ghost use Rattle.std.specs.Prelude.{◌≡◌, IfOk};
 
 use edge_io::Text;

@@ -1,3 +1,4 @@
+//! Expressions of the typed tree, with variables and members by their numbers, and copies of them.
 ghost use Rattle.std.specs.Prelude.{◌≡◌, IfOk};
 
 use crate::copies::Copies;

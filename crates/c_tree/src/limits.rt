@@ -1,3 +1,4 @@
+//! The names of the quantities that are limited, by which a text that is too large is refused.
 /// A quantity of a program that has a greatest number.
 #[derive(Clone, Copy, Debug, PartialEq, Eq)]
 pub enum LimitName {

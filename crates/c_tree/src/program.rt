@@ -1,3 +1,4 @@
+//! Whole programs of the typed tree: items, variables, struct types, functions and what an object begins with.
 ghost use Rattle.std.specs.Prelude.{◌≡◌, IfOk};
 
 use crate::copies::{Copies, copied};

@@ -1,3 +1,4 @@
+//! Statements of the typed tree, with their numbers and lines, and the targets, amounts and switch arms in them.
 ghost use Rattle.std.specs.Prelude.{◌≡◌, IfOk};
 
 use crate::expr::Expr;

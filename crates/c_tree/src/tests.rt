@@ -1,3 +1,4 @@
+//! Tests that statements are found by their numbers, and that a copy prints as what it is a copy of.
 use crate::copies::Copies;
 use crate::numbered::{own_start, statement};
 use crate::{

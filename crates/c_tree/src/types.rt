@@ -1,3 +1,4 @@
+//! The types of C that a tree has, and the numbers that stand for variables, functions, statements and structs.
 ghost use Rattle.std.specs.Prelude.{◌≡◌, IfOk};
 
 use c_arith::IntType;

@@ -1,3 +1,4 @@
+//! The fault of the whole check of a text: a broken rule, a quantity above its limit, or no memory.
 use c_tree::LimitName;
 use std::alloc::AllocError;
 use thiserror::Error;

@@ -1,3 +1,4 @@
+//! The fault of the judgement of one phrase: a broken rule by its number, without a line, or no memory.
 use std::alloc::AllocError;
 
 /// Why an expression has no type.

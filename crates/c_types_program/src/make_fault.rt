@@ -1,3 +1,4 @@
+//! The fault of making the program of a text that keeps all rules: an array too long for the tree, or no memory.
 use std::alloc::AllocError;
 
 /// Why a text has no program here, though it keeps all rules.

@@ -13,10 +13,8 @@ use std::alloc::Global;
 
 /// The program of a text that keeps all rules: its names as numbers, and with types (ISO C99 6.5 to 6.9).
 ///
-/// # Errors
-///
-/// `Length` where an array has 2^32 elements or more, which the tree can't hold. `NoMemory` where memory
-/// runs out, or the numbers of variables, statements, struct types or functions do.
+/// Err: `Length`, an array has 2^32 elements or more, which the tree can't hold; `NoMemory`, no memory was left,
+/// or no number for a variable, a statement, a struct type or a function.
 pub fn make_program(alloc: Global, raw: &RawProgram) -> Result<Program, MakeFault>
     requires tree { IsTree raw.now }
     requires rules { KeepsRules raw.now }

@@ -1,3 +1,4 @@
+//! The fault of the walk over a text's rules: a broken rule with the line of its phrase, or no memory.
 use std::alloc::AllocError;
 
 /// Why a text isn't accepted.

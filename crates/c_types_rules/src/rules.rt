@@ -22,11 +22,9 @@ fn has_main(tables: &Tables<'_>) -> bool
 
 /// Checks that a text keeps all rules.
 ///
-/// # Errors
-///
-/// `Rule` with the number of a rule that the first phrase of the text with a broken rule breaks, and the line
-/// of that phrase; a text without main breaks rule 5 at line 1, which is told where no phrase breaks a rule.
-/// `NoMemory` where memory runs out.
+/// Err: `Rule`, with the number of a rule that the first phrase of the text with a broken rule breaks, and the line
+/// of that phrase; a text without main breaks rule 5 at line 1, which is told where no phrase breaks a rule;
+/// `NoMemory`, no memory was left.
 pub fn check_rules(alloc: Global, raw: &RawProgram) -> Result<(), CheckFault>
     ensures kept { OnOk result (KeepsRules raw.now) }
     ensures broken { NamesBroken raw.now result }

@@ -1,3 +1,4 @@
+//! The places where a declaration may stand, since some rules depend on them.
 /// Where a declaration stands that is no parameter.
 #[derive(Clone, Copy, Debug)]
 pub enum Stand {

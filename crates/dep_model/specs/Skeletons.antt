@@ -16,6 +16,7 @@ pub record AreRows (p : Program) (vs : List Vertex) (places : Vertex → Places)
   pub wide : t.bits ≡ length (locations p)
   pub exact : (v k : ℕ) (x : Vertex) (o : Placed) → slice_get vs v ≡ Some x → slice_get (locations p) k ≡ Some o → has (the_set t v) k ≡ places x o.location
 
+-- The skeleton is that of the program: its vertices in their order, and what each defines, uses and kills.
 pub record IsSkeleton (p : Program) (a : Analysis) (s : Skeleton) : Type 0 where
   pub vertices_are : s.vertices ≡ vertices_of p a
   pub defined_are : AreRows p (vertices_of p a) (vertex_effects p a.points).defines s.defined

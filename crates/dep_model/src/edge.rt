@@ -1,3 +1,4 @@
+//! The edges of a system dependence graph, and the kinds of dependence that label them.
 use crate::vertex::VertexId;
 
 /// What kind of dependence an edge is. The number of the last three is the call's vertex.

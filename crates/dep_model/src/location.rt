@@ -1,3 +1,4 @@
+//! The places of memory between which dependence tells: a root, and a path from it to a part.
 use c_tree::{FunctionId, StatementId, VarId};
 use sqlite_items::Items;
 

@@ -1,3 +1,4 @@
+//! The order of vertex pairs: lists of pairs are sorted, and each pair is kept once.
 ghost use Rattle.std.specs.Prelude.{◌↔◌, Contains};
 ghost use Rattle.dep_model.specs.PairOrder.{AreAscending};
 ghost use Rattle.dep_model.specs.declared.skeleton.Pair.{Pair};

@@ -1,3 +1,4 @@
+//! A program's vertices with the locations that each defines, uses and kills, and the order in which they are done.
 use crate::vertex::{Vertex, VertexId};
 use bit_rows::Rows;
 use sqlite_items::Items;

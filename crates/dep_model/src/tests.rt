@@ -1,3 +1,4 @@
+//! A test of what is reached backward in a small graph without calls, and of the completions of sets of its vertices.
 ghost use Rattle.std.specs.Prelude.{◌≡◌, ◌<◌, ◌^◌, IfOk, length};
 ghost use Rattle.dep_model.specs.declared.edge.Label.TheVariants.{Control, Flow};
 

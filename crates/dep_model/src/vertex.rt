@@ -1,3 +1,4 @@
+//! The vertices of a system dependence graph: what each stands for, and the function to which it belongs.
 use crate::location::LocationId;
 use c_tree::{FunctionId, StatementId};
 

@@ -1,5 +1,5 @@
-// The calls of readers, writers and files, one at a time, so that contracts can say which calls were made and what
-// they gave.
+//! The calls of readers, writers and files, one at a time, so that contracts can say which calls were made and what
+//! they gave.
 ghost use Rattle.std.specs.Prelude.{◌↔◌, ◌≡◌, ℕ, List, Result, ⊤, IsTrue};
 ghost use Rattle.std.specs.Io.{ReadsAtMost, WritesAtMost};
 ghost use Rattle.std.specs.Io.KnownBytes.{ReadConsumes, WriteAppends};

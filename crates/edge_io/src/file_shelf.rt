@@ -1,4 +1,4 @@
-// The shelf over real files.
+//! The shelf over real files, which reads at most so many bytes of each and counts faults.
 ghost use Rattle.std.specs.Prelude.{◌≡◌, ◌≢◌, ◌⊎◌, ◌<◌, ◌≤◌, ◌^◌, None, IfOk, IfErr, IfSome, IsErrOf, take, length, vec_len};
 ghost use Rattle.edge_io.specs.Count.{Rose, NeverFalls, Counts};
 ghost use Rattle.edge_io.specs.ReadCalls.{Gives, GivesAll, GivesMoreThan, IsUnreadable, IsOpened, IsUnfetchable};

@@ -1,4 +1,4 @@
-// A shelf in memory, for tests: it holds chosen files and fails at chosen fetches.
+//! A shelf in memory, for tests: it holds chosen files and fails at chosen fetches.
 ghost use Rattle.std.specs.Prelude.{◌≡◌, ◌⊎◌, ◌↔◌, ◌≤◌, ◌^◌, None, IsSome, IfOk, OnOk, IfErr, IsErrOf, Contains, vec_len, option_copied};
 ghost use Rattle.edge_io.specs.Count.{Rose, NeverFalls, Counts, one_more};
 ghost use Rattle.edge_io.specs.Contents.{Lacks, IsAsTold, HoldsMoreThan};

@@ -1,4 +1,4 @@
-// A sink in memory, for tests: it has limited room and fails at chosen puts.
+//! A sink in memory, for tests: it has limited room and fails at chosen puts.
 ghost use Rattle.std.specs.Prelude.{◌≡◌, ◌⊎◌, ◌↔◌, ◌+◌, ◌-◌, ◌<◌, ◌≤◌, ◌++◌, [], ℕ, IsSome, IfSome, IfOk, IsOk, OnOk, OnErr, IsErr, length, take, vec_len, vec_capacity};
 ghost use Rattle.edge_io.specs.Count.{Rose, NeverFalls, Counts, one_more};
 ghost use Rattle.edge_io.specs.Written.{Gains, GainsFront};

@@ -1,4 +1,4 @@
-// A shelf: files that are fetched by name.
+//! A shelf: files that are fetched by name. Its trait says what a fetch may give.
 ghost use Rattle.std.specs.Prelude.{◌≡◌, ◌⊎◌, ◌≤◌, ◌^◌, ℕ, List, Option, IsSome, IfOk, IfErr, OnOk, vec_len};
 ghost use Rattle.edge_io.specs.declared.shelf.FetchFault.TheVariants.{NoMemory};
 ghost use Rattle.edge_io.specs.Count.{Rose, NeverFalls};

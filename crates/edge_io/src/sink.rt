@@ -1,4 +1,4 @@
-// A sink: something that takes bytes in order.
+//! A sink: something that takes bytes in order. Its trait says what a put may do.
 ghost use Rattle.std.specs.Prelude.{◌≡◌, ◌+◌, ℕ, List, Option, IsOk, OnOk, OnErr, length};
 ghost use Rattle.edge_io.specs.Count.{Rose, NeverFalls};
 ghost use Rattle.edge_io.specs.Written.{Gains, GainsFront};

@@ -1,4 +1,4 @@
-// The sinks over the standard streams.
+//! The sinks over the standard streams.
 ghost use Rattle.std.specs.Prelude.{◌≡◌, ◌<◌, ℕ, None, OnOk, OnErr, IsErr, length, take};
 ghost use Rattle.std.specs.Io.KnownBytes.{Appends};
 ghost use Rattle.edge_io.specs.Count.{Rose, NeverFalls, Counts};

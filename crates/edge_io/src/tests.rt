@@ -1,4 +1,4 @@
-// Shelves and sinks by their traits, and the answers of those in memory.
+//! Tests of shelves and sinks by their traits, and of the answers of those in memory.
 ghost use Rattle.std.specs.Prelude.{◌≡◌, ◌⊎◌, ◌+◌, ◌≤◌, ◌++◌, ℕ, IsTrue, [], IsSome, IfSome, IsOk, IsErrOf, OnOk, OnErr, None, length};
 ghost use Rattle.edge_io.specs.Count.{Rose};
 ghost use Rattle.edge_io.specs.Contents.{Lacks, HoldsMoreThan};

@@ -1,4 +1,4 @@
-// Text: bytes that contracts see as a list.
+//! Text: bytes that contracts see as a list.
 ghost use Rattle.std.specs.Prelude.{◌≡◌, [], ◌++◌, IfOk, OnOk, OnErr};
 
 use std::alloc::{AllocError, Global};

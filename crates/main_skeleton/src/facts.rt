@@ -1,3 +1,4 @@
+//! A table of locations for each vertex of main, which is marked statement by statement.
 ghost use Rattle.std.specs.Prelude.{◌≡◌, ◌+◌, ◌<◌, ◌^◌, IfOk};
 ghost use Rattle.bit_rows.specs.Tables.{empty_table};
 ghost use Rattle.main_skeleton.specs.Facts.{with_variable, with_result};

@@ -1,3 +1,4 @@
+//! Tests of what the vertices of a small main define, use and kill, and of how many vertices there are.
 ghost use Rattle.std.specs.Prelude.{◌<◌, ◌^◌, length};
 
 use crate::effects::Effects;

@@ -43,6 +43,7 @@ pub record IsIndexed (base n : ℕ) (pairs : List Pair) (heads nexts : List ℕ)
   pub heads_are : (u : ℕ) → u < n → IsLastFrom pairs (base + u) (length pairs) (get_or heads u 0)
   pub nexts_are : (e : ℕ) (x : Pair) → e < length pairs → get_or pairs e x ≡ x → IsLastFrom pairs x.from e (get_or nexts e 0)
 
+-- the pairs stay among the vertices of the span and are found from the vertex that they begin at
 pub record AreSuccessors (s : Successors) : Type 0 where
   pub inside : All (IsPairAmong s.span.base s.span.size) s.pairs.items
   pub indexed : IsIndexed s.span.base s.span.size s.pairs.items s.heads.items s.nexts.items

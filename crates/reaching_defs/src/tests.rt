@@ -1,3 +1,4 @@
+//! A test of the flow edges of small graphs with kills, joins and loops, against edges worked out by hand.
 ghost use Rattle.std.specs.Prelude.{◌≡◌, All, OnOk, IfOk, length};
 ghost use Rattle.bit_rows.specs.Tables.{IsSized};
 ghost use Rattle.dep_model.specs.Pairs.{IsPairBelow};

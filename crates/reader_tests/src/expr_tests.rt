@@ -1,3 +1,4 @@
+//! Tests of expressions: how operators group, which texts are refused, how deep they nest, and what is a place.
 use crate::tokens::{text_at, tokens_of};
 use crate::trees::show_expr;
 use c_language::Token;

@@ -1,3 +1,4 @@
+//! Tests of the statements that hold no others: what is stored where, declarations, calls and amounts of memory.
 use crate::statements::{read, short, short_type};
 use crate::tokens::{text_at, tokens_of};
 use c_parse_expr::fault::Stop;

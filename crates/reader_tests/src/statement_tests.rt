@@ -1,3 +1,4 @@
+//! Tests of the statements that hold others: choices, loops and switch arms, and the lines of all statements.
 use crate::statements::read;
 use crate::tokens::{text_at, tokens_of};
 use c_parse_expr::fault::Stop;

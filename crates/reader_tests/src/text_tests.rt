@@ -1,3 +1,4 @@
+//! Tests of whole texts: which have a tree, which fault is told at which line, and how deep a text may nest.
 use crate::tokens::tokens_of;
 use c_parse::{ParseFault, parse};
 use c_tree::Text;

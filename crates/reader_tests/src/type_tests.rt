@@ -1,3 +1,4 @@
+//! Tests of declarators, type names and parameters, and of how many stars and lengths a declarator may have.
 use crate::tokens::{text_at, tokens_of};
 use crate::trees::{show_param, show_type, show_type_name};
 use c_language::Token;

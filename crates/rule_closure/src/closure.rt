@@ -1,3 +1,4 @@
+//! Rules with two premises, and the least set that holds a given one and is closed under them.
 ghost use Rattle.std.specs.Prelude.{◌≡◌, ℕ, ◌<◌, ◌↔◌, IsTrue, length, All, IfOk};
 ghost use Rattle.bit_rows.specs.Sets.{has};
 ghost use Rattle.rule_closure.specs.Rules.{Derived, IsLeast, IsRuleWithin};

@@ -1,3 +1,4 @@
+//! Tests of sets of vertices across word borders, and of what a few rules add to given sets.
 ghost use Rattle.std.specs.Prelude.{◌≡◌, ◌<◌, ◌^◌, IfOk, length};
 
 use super::*;

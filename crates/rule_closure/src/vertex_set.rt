@@ -1,3 +1,4 @@
+//! Sets of vertices below a fixed number, each kept as one row of bits.
 ghost use Rattle.std.specs.Prelude.{◌≡◌, ◌<◌, IfOk, true, false, length, replicate, slice_set};
 ghost use Rattle.bit_rows.specs.Sets.{has};
 

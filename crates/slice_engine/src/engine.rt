@@ -1,3 +1,4 @@
+//! The engine: a program with its dependence graph, which gives the slice's text at each criterion.
 ghost use Rattle.std.specs.Prelude.{◌≡◌, ◌⊎◌, ◌≤◌, ◌+◌, ◌<◌, ℕ, IfOk, IsTrue, ◌↔◌, MatchOption, None, length};
 ghost use Rattle.built_forms.specs.BuiltForms.{not_yet};
 ghost use Rattle.c_language.specs.Programs.{IsWellFormed};
@@ -61,10 +62,8 @@ impl Engine {
     /// The engine of a program of which nothing is outside the built forms, as [`not_yet`](crate::not_yet) tells:
     /// main alone over integers, with any control flow.
     ///
-    /// # Errors
-    ///
-    /// `AllocError` where memory runs out, also for a program of more than 4,294,967,293 statements or
-    /// variables, whose graph would have more vertices or locations than its numbers can tell apart.
+    /// Err: no memory was left, or the program has more than 4,294,967,293 statements or variables, and so its
+    /// graph more vertices or locations than numbers can tell apart.
     pub fn new(alloc: Global, p: Program) -> Result<Engine, AllocError>
         requires well_formed { IsWellFormed p }
         requires built { not_yet p ≡ None }
@@ -105,9 +104,7 @@ impl Engine {
     /// make (Binkley 1993). Each input on which the program ends gives the same values at the
     /// criterion in both.
     ///
-    /// # Errors
-    ///
-    /// `AllocError` where memory runs out, also for a slice whose layout has more than 4,294,967,296 bytes.
+    /// Err: no memory was left, or the layout of the slice has more than 4,294,967,296 bytes.
     pub fn slice_text(&self, alloc: Global, c: Criterion) -> Result<Text, AllocError>
         requires { HasStart self.now c.line }
         ensures slice { IfOk result (λ t. IsSlice self.now c.line t) }

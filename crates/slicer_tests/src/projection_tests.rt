@@ -1,3 +1,4 @@
+//! Tests of the programs that kept statements make, and of the new numbers of those statements.
 use c_tree::{
     Arm, Boxed, CType, Expr, Function, Init, IntType, Item, Items, Label, Program, Statement, Text,
     Var,

@@ -21,11 +21,12 @@ pub data IsTrueOf (text : Bytes) (asked : ℕ) : Status → Bytes → Type 0 whe
   bad_byte : (at : ℕ) → IsLexFault text (lex.BadByte at) → IsTrueOf text asked Refused (line.bad_byte at)
   bad_number : (at : ℕ) → IsLexFault text (lex.BadNumber at) → IsTrueOf text asked Refused (line.bad_number at)
   open_comment : (at : ℕ) → IsLexFault text (lex.OpenComment at) → IsTrueOf text asked Refused (line.open_comment at)
-  -- that token at that line begins a construct that the language leaves out, because of which reading stopped
+  -- that token at that line begins a construct that the language leaves out: the one because of which reading
+  -- stopped, or the first that the tokens tell where reading did not stop
   left_out : (at : ℕ) (token : Bytes) → HasParseFault text (parse.LeftOut token at) → IsTrueOf text asked Refused (line.left_out at token)
   -- the tokens have no tree, and reading stopped in that line
   syntax : (at : ℕ) → HasParseFault text (parse.Syntax at) → IsTrueOf text asked Refused (line.syntax at)
-  -- that rule is broken at that line, by the first phrase that breaks any
+  -- that rule is broken at that line, by the first phrase that breaks any, or main is missing where no phrase does
   rule : (number at : ℕ) → HasRuleFault text (fault.Rule number at) → IsTrueOf text asked Refused (line.rule at number)
   -- what stands first outside the built forms stands at that line, or has none in the tree, and what stands for it does
   not_yet : (at : ℕ) {p : Program} → ReadsProgram text p → forms.not_yet p ≡ Some at → IsTrueOf text asked Refused (line.not_yet at)

@@ -17,3 +17,4 @@ pub use laws::slices_are_one;
 pub use report::tell_no_memory;
 pub use run::run_slicer;
 pub use status::Status;
+pub use words::words_of;

@@ -1,4 +1,4 @@
-// Why a file gives no slice.
+//! Why a file gives no slice, with the faults of fetching and reading as causes.
 ghost use Rattle.std.specs.Prelude.{◌≡◌};
 ghost use Rattle.slicer_top.specs.declared.refusal.Refusal.TheVariants.{NoMemory};
 ghost use Rattle.slicer_top.specs.Refusals.{of_fetch, of_reading};

@@ -1,4 +1,4 @@
-// The lines on err.
+//! The lines on err: the line and the status of each refusal.
 ghost use Rattle.std.specs.Prelude.{◌≡◌, IfOk, IsErr, MatchResult, length};
 ghost use Rattle.slicer_top.specs.Lines as lines;
 ghost use Rattle.slicer_top.specs.Reports as spec;

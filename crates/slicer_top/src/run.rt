@@ -1,4 +1,4 @@
-// The top call.
+//! The top call: from the words to a slice on out, or else to a line on err.
 ghost use Rattle.std.specs.Prelude.{◌≡◌, ◌≢◌, ◌⊎◌, ℕ, IsSome, length};
 ghost use Rattle.edge_io.specs.Count.{Rose};
 ghost use Rattle.edge_io.specs.Contents.{Lacks, HoldsMoreThan};

@@ -1,4 +1,4 @@
-// From the name of a file to the text of a slice.
+//! From the name of a file to the text of a slice.
 ghost use Rattle.std.specs.Prelude.{◌≡◌, ℕ, ◌≤◌, IfOk, IfErr, MatchOption, length};
 ghost use Rattle.edge_io.specs.Contents.{Lacks};
 ghost use Rattle.slice_engine.specs.Slice.{HasStart};

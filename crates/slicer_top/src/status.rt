@@ -1,4 +1,4 @@
-// How a call ends.
+//! How a call ends: the statuses and their exit codes.
 ghost use Rattle.std.specs.Prelude.{◌≡◌};
 ghost use Rattle.std.specs.Process.{exit_status};
 ghost use Rattle.slicer_top.specs.Statuses.{code_of};

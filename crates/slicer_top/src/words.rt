@@ -1,8 +1,38 @@
-// The words of a call, read by hand.
-ghost use Rattle.std.specs.Prelude.{◌≡◌, MatchOption};
+//! The words of a call, taken from its arguments and read by hand.
+ghost use Rattle.std.specs.Prelude.{◌≡◌, ◌≢◌, [], IfOk, IfErr, IsErr, MatchOption, drop, map};
+ghost use Rattle.std.specs.Result.{IsOkAnd};
+ghost use Rattle.std.specs.Vec.Iter.{into_iter_items};
+ghost use Rattle.std.specs.String.{string_bytes};
+ghost use Rattle.std.specs.IoError.{error_kind};
 ghost use Rattle.slicer_top.specs.Words.{IsFileName, IsNumber, IsInForm, file_of, line_of, decimal_from};
 
 use edge_io::Text;
+use std::alloc::{AllocError, Global};
+use std::env::Args;
+use std::io;
+use std::io::ErrorKind;
+
+/// The words of a call: its arguments but for the first, which is the program's name. Where an argument isn't UTF-8
+/// there are none, which are no words of a command either. Err: no memory was left.
+pub fn words_of(alloc: Global, arguments: io::Result<Args>) -> Result<Vec<Text>, AllocError>
+    ensures words { IfOk arguments (λ all. IfOk result (λ words.
+        words.items ≡ drop 1 (map string_bytes (into_iter_items all)))) }
+    ensures no_memory { IfErr arguments (λ fault. error_kind fault ≡ ErrorKind.OutOfMemory → IsErr result) }
+    ensures no_words { IfErr arguments (λ fault. error_kind fault ≢ ErrorKind.OutOfMemory
+        → IsOkAnd result (λ words. words.items ≡ [])) }
+{
+    let mut words = Vec::new(alloc);
+    let mut arguments = match arguments {
+        Ok(arguments) => arguments,
+        Err(error) if error.kind() == ErrorKind::OutOfMemory => return Err(AllocError),
+        Err(_) => return Ok(words),
+    };
+    let _name = arguments.next();
+    for word in arguments {
+        words.push(Text::from_slice(alloc, word.as_bytes())?)?;
+    }
+    Ok(words)
+}
 
 /// What the words ask for: the slice of a file at a line.
 #[derive(Clone, Copy)]

@@ -1,3 +1,4 @@
+//! Expressions, types and declared names as the parser reads them: by name, and not yet typed.
 use c_arith::{BinaryOp, IntType, UnaryOp};
 use edge_io::Text;
 use sqlite_items::Boxed;

@@ -1,3 +1,4 @@
+//! A whole text as the parser reads it: its items, the heads of functions and what declared objects begin with.
 use crate::raw::expr::{RawExpr, RawType, RawVar};
 use crate::raw::statement::RawStatement;
 use edge_io::Text;

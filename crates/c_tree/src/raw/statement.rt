@@ -1,3 +1,4 @@
+//! Statements as the parser reads them, with the arguments, type names, sizes and amounts that stand in them.
 use crate::raw::expr::{RawExpr, RawType, RawVar};
 use crate::raw::program::RawInit;
 use c_arith::BinaryOp;
