@@ -66,8 +66,8 @@ fn switched(test: &Expr, arms: &[Arm], line: u32, inside: Option<u32>) -> Option
 pub(crate) fn body_outside(body: &[Statement], vars: &[Var]) -> Option<u32>
     ensures { result ≡ forms.body_outside vars.now body.now }
 {
-    for one in body {
-        let outside = statement_outside(one, vars);
+    for statement in body {
+        let outside = statement_outside(statement, vars);
         if outside.is_some() {
             return outside;
         }
@@ -94,16 +94,16 @@ fn part_outside(part: &Option<Boxed<Statement>>, vars: &[Var]) -> Option<u32>
 {
     match part {
         None => None,
-        Some(one) => statement_outside(one.get(), vars),
+        Some(statement) => statement_outside(statement.get(), vars),
     }
 }
 
 #[cycle(statement)]
 #[tactic(auto, using(crate::proofs::Layers::statements))]
-fn statement_outside(one: &Statement, vars: &[Var]) -> Option<u32>
-    ensures { result ≡ forms.statement_outside vars.now one.now }
+fn statement_outside(statement: &Statement, vars: &[Var]) -> Option<u32>
+    ensures { result ≡ forms.statement_outside vars.now statement.now }
 {
-    match one {
+    match statement {
         Statement::Declare {
             line,
             var,

@@ -193,9 +193,9 @@ pub(crate) fn behind_commas(
 ) -> Result<(), AllocError>
     ensures { OnOk result (out.new ≡ out.old ++ behind_commas (map (expr_words program.now) all.now)) }
 {
-    for one in all {
+    for child in all {
         out.append(b", ")?;
-        expression(out, program, one)?;
+        expression(out, program, child)?;
     }
     Ok(())
 }

@@ -41,21 +41,21 @@ fn member_line(out: &mut Text, program: &Program, member: &Member) -> Result<(),
 fn members(out: &mut Text, program: &Program, all: &[Member]) -> Result<(), AllocError>
     ensures { OnOk result (out.new ≡ out.old ++ spec.member_lines program.now all.now) }
 {
-    for one in all {
-        member_line(out, program, one)?;
+    for member in all {
+        member_line(out, program, member)?;
     }
     Ok(())
 }
 
 /// Appends the lines of a struct type with its members (ISO C99 6.7.2.1).
 #[tactic(auto, using(crate::proofs::Rules::texts_of))]
-fn struct_lines(out: &mut Text, program: &Program, one: &StructDef) -> Result<(), AllocError>
-    ensures { OnOk result (out.new ≡ out.old ++ spec.struct_lines program.now one.now) }
+fn struct_lines(out: &mut Text, program: &Program, structure: &StructDef) -> Result<(), AllocError>
+    ensures { OnOk result (out.new ≡ out.old ++ spec.struct_lines program.now structure.now) }
 {
     out.append(b"struct ")?;
-    out.append(one.name.bytes())?;
+    out.append(structure.name.bytes())?;
     out.append(b" {\n")?;
-    members(out, program, one.members.as_slice())?;
+    members(out, program, structure.members.as_slice())?;
     out.append(b"};\n")
 }
 
@@ -65,13 +65,18 @@ fn function_lines(
     alloc: Global,
     out: &mut Text,
     program: &Program,
-    one: &Function,
+    function: &Function,
 ) -> Result<(), AllocError>
-    ensures { OnOk result (out.new ≡ out.old ++ spec.function_lines program.now one.now) }
+    ensures { OnOk result (out.new ≡ out.old ++ spec.function_lines program.now function.now) }
 {
-    definition_head(out, program, one)?;
+    definition_head(out, program, function)?;
     out.append(b" {\n")?;
-    body(out, program, &mut Margin::new(alloc), one.body.as_slice())?;
+    body(
+        out,
+        program,
+        &mut Margin::new(alloc),
+        function.body.as_slice(),
+    )?;
     out.append(b"}\n")
 }
 

@@ -28,21 +28,21 @@ fn note(lines: &mut [u32], first: StatementId, id: StatementId, line: u32)
 
 /// Writes down the line of a statement itself.
 #[tactic(auto, using(crate::proofs::Rules::kept_of))]
-fn own(lines: &mut [u32], first: StatementId, line: u32, one: &Statement)
-    ensures { lines.new ≡ kept first (own_starts (own_id one.now) line) lines.old }
+fn own(lines: &mut [u32], first: StatementId, line: u32, statement: &Statement)
+    ensures { lines.new ≡ kept first (own_starts (own_id statement.now) line) lines.old }
 {
-    if let Some((id, _)) = own_start(one) {
+    if let Some((id, _)) = own_start(statement) {
         note(lines, first, id, line);
     }
 }
 
 /// Writes down the line of a part of a `for`'s head.
 #[tactic(auto, using(crate::proofs::Rules::kept_of))]
-fn part(lines: &mut [u32], first: StatementId, line: u32, one: &Option<Boxed<Statement>>)
-    ensures { lines.new ≡ kept first (spec.part_starts (option_map placed one.now) line) lines.old }
+fn part(lines: &mut [u32], first: StatementId, line: u32, part: &Option<Boxed<Statement>>)
+    ensures { lines.new ≡ kept first (spec.part_starts (option_map placed part.now) line) lines.old }
 {
-    if let Some(one) = one {
-        own(lines, first, line, one.get());
+    if let Some(statement) = part {
+        own(lines, first, line, statement.get());
     }
 }
 
@@ -54,8 +54,8 @@ fn statements(lines: &mut [u32], first: StatementId, line: u32, all: &[Statement
     ensures next { result ≡ line + body_height all.now }
 {
     let mut next = line;
-    for one in all {
-        next = statement(lines, first, next, one);
+    for child in all {
+        next = statement(lines, first, next, child);
     }
     next
 }
@@ -75,13 +75,13 @@ fn else_part(lines: &mut [u32], first: StatementId, line: u32, all: &[Statement]
 
 /// Writes down the lines of an arm of a switch that begins on this line, and gives the next line.
 #[cycle(lines)]
-fn arm(lines: &mut [u32], first: StatementId, line: u32, one: &Arm) -> u32
-    requires fits { line + (arm_placed one.now).height < 2 ^ 32 }
-    ensures lines { lines.new ≡ kept first (starts_from (arm_placed one.now) line) lines.old }
-    ensures next { result ≡ line + (arm_placed one.now).height }
+fn arm(lines: &mut [u32], first: StatementId, line: u32, arm: &Arm) -> u32
+    requires fits { line + (arm_placed arm.now).height < 2 ^ 32 }
+    ensures lines { lines.new ≡ kept first (starts_from (arm_placed arm.now) line) lines.old }
+    ensures next { result ≡ line + (arm_placed arm.now).height }
 {
-    let behind = line + one.labels.as_slice().len() as u32;
-    statements(lines, first, behind, one.body.as_slice()) + 1
+    let behind = line + arm.labels.as_slice().len() as u32;
+    statements(lines, first, behind, arm.body.as_slice()) + 1
 }
 
 /// Writes down the lines of the arms of a switch, and gives the next line.
@@ -92,8 +92,8 @@ fn arms(lines: &mut [u32], first: StatementId, line: u32, all: &[Arm]) -> u32
     ensures next { result ≡ line + heights (map arm_placed all.now) }
 {
     let mut next = line;
-    for one in all {
-        next = arm(lines, first, next, one);
+    for child in all {
+        next = arm(lines, first, next, child);
     }
     next
 }
@@ -102,12 +102,12 @@ fn arms(lines: &mut [u32], first: StatementId, line: u32, all: &[Arm]) -> u32
 /// the next line.
 #[cycle(lines)]
 #[tactic(auto, using(crate::proofs::Rules::placed_of))]
-fn inside(lines: &mut [u32], first: StatementId, line: u32, one: &Statement) -> u32
-    requires fits { line + (placed one.now).height < 2 ^ 32 }
-    ensures lines { lines.new ≡ kept first ((placed one.now).inside line) lines.old }
-    ensures next { result ≡ line + (placed one.now).height }
+fn inside(lines: &mut [u32], first: StatementId, line: u32, statement: &Statement) -> u32
+    requires fits { line + (placed statement.now).height < 2 ^ 32 }
+    ensures lines { lines.new ≡ kept first ((placed statement.now).inside line) lines.old }
+    ensures next { result ≡ line + (placed statement.now).height }
 {
-    match one {
+    match statement {
         Statement::If { then, other, .. } => {
             let next = statements(lines, first, line + 1, then.as_slice());
             else_part(lines, first, next, other.as_slice()) + 1
@@ -143,13 +143,13 @@ fn inside(lines: &mut [u32], first: StatementId, line: u32, one: &Statement) -> 
 
 /// Writes down the lines of a statement that begins on this line, and gives the next line.
 #[cycle(lines)]
-fn statement(lines: &mut [u32], first: StatementId, line: u32, one: &Statement) -> u32
-    requires fits { line + (placed one.now).height < 2 ^ 32 }
-    ensures lines { lines.new ≡ kept first (starts_from (placed one.now) line) lines.old }
-    ensures next { result ≡ line + (placed one.now).height }
+fn statement(lines: &mut [u32], first: StatementId, line: u32, statement: &Statement) -> u32
+    requires fits { line + (placed statement.now).height < 2 ^ 32 }
+    ensures lines { lines.new ≡ kept first (starts_from (placed statement.now) line) lines.old }
+    ensures next { result ≡ line + (placed statement.now).height }
 {
-    own(lines, first, line, one);
-    inside(lines, first, line, one)
+    own(lines, first, line, statement);
+    inside(lines, first, line, statement)
 }
 
 /// Writes down the lines of a function's statements, and gives the next line.
@@ -184,12 +184,12 @@ fn struct_end(line: u32, program: &Program, id: StructId) -> u32
 
 /// Writes down the lines of an item that begins on this line, and gives the next line.
 #[tactic(auto, using(crate::proofs::Rules::kept_of))]
-fn item(lines: &mut [u32], first: StatementId, line: u32, program: &Program, one: &Item) -> u32
-    requires fits { line + (item_placed program.now one.now).height < 2 ^ 32 }
-    ensures lines { lines.new ≡ kept first (starts_from (item_placed program.now one.now) line) lines.old }
-    ensures next { result ≡ line + (item_placed program.now one.now).height }
+fn item(lines: &mut [u32], first: StatementId, line: u32, program: &Program, item: &Item) -> u32
+    requires fits { line + (item_placed program.now item.now).height < 2 ^ 32 }
+    ensures lines { lines.new ≡ kept first (starts_from (item_placed program.now item.now) line) lines.old }
+    ensures next { result ≡ line + (item_placed program.now item.now).height }
 {
-    match one {
+    match item {
         Item::Include { .. } | Item::Tag(_) | Item::Global(_, _) => line + 1,
         Item::Struct(id) => struct_end(line, program, *id),
         Item::Prototype { function, .. } => match program.functions.get(*function as usize) {
@@ -206,8 +206,8 @@ fn write_lines(lines: &mut [u32], first: StatementId, program: &Program)
     ensures { lines.new ≡ kept first (spec.layout_starts program.now) lines.old }
 {
     let mut next = 1;
-    for one in program.items.as_slice() {
-        next = item(lines, first, next, program, one);
+    for child in program.items.as_slice() {
+        next = item(lines, first, next, program, child);
     }
 }
 

@@ -27,13 +27,13 @@ fn headed(
     out: &mut Text,
     program: &Program,
     margin: &Margin,
-    one: &Statement,
+    statement: &Statement,
     end: &[u8],
 ) -> Result<(), AllocError>
-    ensures { OnOk result (out.new ≡ out.old ++ spec.line margin.now (statement_words program.now one.now ++ end.now)) }
+    ensures { OnOk result (out.new ≡ out.old ++ spec.line margin.now (statement_words program.now statement.now ++ end.now)) }
 {
     margin.indent(out)?;
-    words(out, program, one)?;
+    words(out, program, statement)?;
     out.append(end)?;
     out.append(b"\n")
 }
@@ -84,8 +84,8 @@ fn labels(
 ) -> Result<(), AllocError>
     ensures { OnOk result (out.new ≡ out.old ++ spec.label_lines program.now all.now margin.now) }
 {
-    for one in all {
-        label_line(out, program, margin, one)?;
+    for label in all {
+        label_line(out, program, margin, label)?;
     }
     Ok(())
 }
@@ -102,8 +102,8 @@ pub(crate) fn statements(
     ensures lines { OnOk result (out.new ≡ out.old ++ body_lines program.now margin.old all.now) }
     ensures level { OnOk result (margin.new ≡ margin.old) }
 {
-    for one in all {
-        statement(out, program, margin, one)?;
+    for child in all {
+        statement(out, program, margin, child)?;
     }
     Ok(())
 }
@@ -148,13 +148,13 @@ fn else_part(
 /// Appends an arm of a switch: its labels, and its statements one level deeper with a break.
 #[cycle(statement)]
 #[tactic(auto, using(crate::proofs::Rules::loops_of))]
-fn arm(out: &mut Text, program: &Program, margin: &mut Margin, one: &Arm) -> Result<(), AllocError>
-    ensures lines { OnOk result (out.new ≡ out.old ++ arm_laid program.now one.now margin.old) }
+fn arm(out: &mut Text, program: &Program, margin: &mut Margin, arm: &Arm) -> Result<(), AllocError>
+    ensures lines { OnOk result (out.new ≡ out.old ++ arm_laid program.now arm.now margin.old) }
     ensures level { OnOk result (margin.new ≡ margin.old) }
 {
-    labels(out, program, margin, one.labels.as_slice())?;
+    labels(out, program, margin, arm.labels.as_slice())?;
     margin.deepen()?;
-    statements(out, program, margin, one.body.as_slice())?;
+    statements(out, program, margin, arm.body.as_slice())?;
     line(out, margin, b"break;")?;
     margin.shorten();
     Ok(())
@@ -173,8 +173,8 @@ fn arms(
     ensures level { OnOk result (margin.new ≡ margin.old) }
 {
     margin.deepen()?;
-    for one in all {
-        arm(out, program, margin, one)?;
+    for child in all {
+        arm(out, program, margin, child)?;
     }
     margin.shorten();
     Ok(())
@@ -187,20 +187,20 @@ fn statement(
     out: &mut Text,
     program: &Program,
     margin: &mut Margin,
-    one: &Statement,
+    statement: &Statement,
 ) -> Result<(), AllocError>
-    ensures lines { OnOk result (out.new ≡ out.old ++ statement_lines program.now margin.old one.now) }
+    ensures lines { OnOk result (out.new ≡ out.old ++ statement_lines program.now margin.old statement.now) }
     ensures level { OnOk result (margin.new ≡ margin.old) }
 {
-    match one {
+    match statement {
         Statement::If { then, other, .. } => {
-            headed(out, program, margin, one, b" {")?;
+            headed(out, program, margin, statement, b" {")?;
             body(out, program, margin, then.as_slice())?;
             else_part(out, program, margin, other.as_slice())?;
             line(out, margin, b"}")
         }
         Statement::While { body: repeated, .. } | Statement::For { body: repeated, .. } => {
-            headed(out, program, margin, one, b" {")?;
+            headed(out, program, margin, statement, b" {")?;
             body(out, program, margin, repeated.as_slice())?;
             line(out, margin, b"}")
         }
@@ -214,7 +214,7 @@ fn statement(
             do_end(out, program, margin, test)
         }
         Statement::Switch { arms: all, .. } => {
-            headed(out, program, margin, one, b" {")?;
+            headed(out, program, margin, statement, b" {")?;
             arms(out, program, margin, all.as_slice())?;
             line(out, margin, b"}")
         }
@@ -232,6 +232,6 @@ fn statement(
         | Statement::Print { .. }
         | Statement::Heap { .. }
         | Statement::Release { .. }
-        | Statement::Return { .. } => headed(out, program, margin, one, b";"),
+        | Statement::Return { .. } => headed(out, program, margin, statement, b";"),
     }
 }

@@ -42,8 +42,8 @@ fn longest_in_structs(structs: &[StructDef]) -> u32
     ensures { result ≡ limits.longest_in_structs structs.now }
 {
     let mut best = 0;
-    for one in structs {
-        best = best.max(longest_member(one.members.as_slice()));
+    for structure in structs {
+        best = best.max(longest_member(structure.members.as_slice()));
     }
     best
 }
@@ -105,8 +105,8 @@ fn struct_cells(alloc: Global, structs: &[StructDef]) -> Result<Vec<u64>, AllocE
     ensures { IfOk result (λ found. found.items ≡ all_capped (limits.cells_behind [] structs.now)) }
 {
     let mut found = Vec::new(alloc);
-    for one in structs {
-        let sum = member_cells(found.as_slice(), one.members.as_slice());
+    for structure in structs {
+        let sum = member_cells(found.as_slice(), structure.members.as_slice());
         found.push(sum)?;
     }
     Ok(found)

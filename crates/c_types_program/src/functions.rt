@@ -13,18 +13,18 @@ use std::alloc::{AllocError, Global};
 
 impl<'a> Walk<'a> {
     /// A parameter of a definition, which is a variable where it has a name. Err: no memory was left.
-    fn parameter(&mut self, alloc: Global, one: &'a RawParam) -> Result<(), AllocError>
+    fn parameter(&mut self, alloc: Global, parameter: &'a RawParam) -> Result<(), AllocError>
         requires right { AreRight self.now.tables }
-        requires fits { FitsStretch (of_parameter one.now) self.now }
-        ensures { OnOk result (PassesStretch (of_parameter one.now) self.old self.new) }
+        requires fits { FitsStretch (of_parameter parameter.now) self.now }
+        ensures { OnOk result (PassesStretch (of_parameter parameter.now) self.old self.new) }
     {
-        match &one.name {
+        match &parameter.name {
             None => Ok(()),
             Some(name) => {
                 let local = Declaration {
-                    line: one.line,
+                    line: parameter.line,
                     name,
-                    shape: &one.shape,
+                    shape: &parameter.shape,
                     items: 0,
                     is_static: false,
                     is_parameter: true,
@@ -41,8 +41,8 @@ impl<'a> Walk<'a> {
         requires fits { FitsStretch (of_parameters list.now) self.now }
         ensures { OnOk result (PassesStretch (of_parameters list.now) self.old self.new) }
     {
-        for one in list {
-            self.parameter(alloc, one)?;
+        for parameter in list {
+            self.parameter(alloc, parameter)?;
         }
         Ok(())
     }

@@ -126,18 +126,18 @@ impl<'a> Walk<'a> {
     fn item(
         &mut self,
         alloc: Global,
-        one: &'a RawItem,
+        item: &'a RawItem,
         functions: &mut Items<Function>,
     ) -> Result<Item, AllocError>
         requires right { AreRight self.now.tables }
         requires outside { self.now.tables.outer ≡ 0 }
-        requires place { HasPlace self.now.tables.raw.now (vec_len self.now.tables.structs) one.now }
-        requires fits { FitsStretch (of_item one.now) self.now }
-        ensures tree { IfOk result (HasItem self.old one.now) }
-        ensures function { OnOk result (AddsFunction self.old one.now functions.old functions.new) }
-        ensures passes { OnOk result (PassesStretch (of_item one.now) self.old self.new) }
+        requires place { HasPlace self.now.tables.raw.now (vec_len self.now.tables.structs) item.now }
+        requires fits { FitsStretch (of_item item.now) self.now }
+        ensures tree { IfOk result (HasItem self.old item.now) }
+        ensures function { OnOk result (AddsFunction self.old item.now functions.old functions.new) }
+        ensures passes { OnOk result (PassesStretch (of_item item.now) self.old self.new) }
     {
-        match one {
+        match item {
             RawItem::Include { is_stdlib } => Ok(Item::Include {
                 is_stdlib: *is_stdlib,
             }),
@@ -179,8 +179,8 @@ impl<'a> Walk<'a> {
     {
         let mut made = Items::new(alloc);
         let mut functions = Items::new(alloc);
-        for one in list {
-            let tree = self.item(alloc, one, &mut functions)?;
+        for item in list {
+            let tree = self.item(alloc, item, &mut functions)?;
             made.push(tree)?;
         }
         Ok((made, functions))

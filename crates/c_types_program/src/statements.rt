@@ -39,14 +39,14 @@ impl<'a> Walk<'a> {
     pub fn statement(
         &mut self,
         alloc: Global,
-        one: &'a RawStatement,
+        statement: &'a RawStatement,
     ) -> Result<Statement, AllocError>
         requires right { AreRight self.now.tables }
-        requires fits { Fits self.now one.now }
-        ensures tree { IfOk result (HasTree self.old one.now) }
-        ensures passes { OnOk result (Passes self.old self.new one.now) }
+        requires fits { Fits self.now statement.now }
+        ensures tree { IfOk result (HasTree self.old statement.now) }
+        ensures passes { OnOk result (Passes self.old self.new statement.now) }
     {
-        match one {
+        match statement {
             RawStatement::Declare { line, var, init } => self.declaration(alloc, *line, var, init),
             RawStatement::Assign {
                 line,
@@ -106,8 +106,8 @@ impl<'a> Walk<'a> {
         ensures passes { OnOk result (PassesAll self.old self.new list.now) }
     {
         let mut made = Items::new(alloc);
-        for one in list {
-            let tree = self.statement(alloc, one)?;
+        for statement in list {
+            let tree = self.statement(alloc, statement)?;
             made.push(tree)?;
         }
         Ok(made)
@@ -241,8 +241,8 @@ impl<'a> Walk<'a> {
     {
         match part {
             None => Ok(None),
-            Some(one) => {
-                let made = self.statement(alloc, one.get())?;
+            Some(statement) => {
+                let made = self.statement(alloc, statement.get())?;
                 Ok(Some(Boxed::new(alloc, made)?))
             }
         }
@@ -326,8 +326,8 @@ impl<'a> Walk<'a> {
         ensures passes { OnOk result (PassesArms self.old self.new list.now) }
     {
         let mut made = Items::new(alloc);
-        for one in list {
-            let tree = self.arm(alloc, t, one)?;
+        for arm in list {
+            let tree = self.arm(alloc, t, arm)?;
             made.push(tree)?;
         }
         Ok(made)
@@ -335,15 +335,15 @@ impl<'a> Walk<'a> {
 
     /// An arm of a switch. Err: no memory was left.
     #[cycle(statement)]
-    fn arm(&mut self, alloc: Global, t: IntType, one: &'a RawArm) -> Result<Arm, AllocError>
+    fn arm(&mut self, alloc: Global, t: IntType, arm: &'a RawArm) -> Result<Arm, AllocError>
         requires right { AreRight self.now.tables }
-        requires fits { AreFit self.now.tables.raw.now (arm_text self.now one.now).phrases }
-        requires labels { AreLabels self.now.tables.raw.now (arm_text self.now one.now).labels }
-        ensures tree { IfOk result (HasArm self.old t one.now) }
-        ensures passes { OnOk result (PassesArm self.old self.new one.now) }
+        requires fits { AreFit self.now.tables.raw.now (arm_text self.now arm.now).phrases }
+        requires labels { AreLabels self.now.tables.raw.now (arm_text self.now arm.now).labels }
+        ensures tree { IfOk result (HasArm self.old t arm.now) }
+        ensures passes { OnOk result (PassesArm self.old self.new arm.now) }
     {
-        let labels = labels(alloc, &self.tables, t, one.labels.as_slice())?;
-        let body = self.statements(alloc, one.body.as_slice())?;
+        let labels = labels(alloc, &self.tables, t, arm.labels.as_slice())?;
+        let body = self.statements(alloc, arm.body.as_slice())?;
         Ok(Arm { labels, body })
     }
 }

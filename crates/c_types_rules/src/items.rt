@@ -125,20 +125,20 @@ fn prototype<'a>(
 fn parameter<'a>(
     alloc: Global,
     tables: &mut Tables<'a>,
-    one: &'a RawParam,
+    parameter: &'a RawParam,
 ) -> Result<(), CheckFault>
     requires { AreRight tables.old }
-    ensures { Walks (of_parameter one.now) tables.old tables.new result }
+    ensures { Walks (of_parameter parameter.now) tables.old tables.new result }
 {
-    match &one.name {
+    match &parameter.name {
         None => Ok(()),
         Some(name) => {
             let name = name.bytes();
             on_line(
-                one.line,
-                check_declared_parameter(alloc, tables, name, &one.shape),
+                parameter.line,
+                check_declared_parameter(alloc, tables, name, &parameter.shape),
             )?;
-            declare(alloc, tables, name, 0, &one.shape)?;
+            declare(alloc, tables, name, 0, &parameter.shape)?;
             Ok(())
         }
     }
@@ -153,8 +153,8 @@ fn parameters<'a>(
     requires { AreRight tables.old }
     ensures { Walks (of_parameters list.now) tables.old tables.new result }
 {
-    for one in list {
-        parameter(alloc, tables, one)?;
+    for child in list {
+        parameter(alloc, tables, child)?;
     }
     Ok(())
 }
@@ -196,13 +196,13 @@ fn define<'a>(
 }
 
 /// An item.
-fn item<'a>(alloc: Global, tables: &mut Tables<'a>, one: &'a RawItem) -> Result<(), CheckFault>
+fn item<'a>(alloc: Global, tables: &mut Tables<'a>, item: &'a RawItem) -> Result<(), CheckFault>
     requires right { AreRight tables.old }
     requires outside { tables.old.outer ≡ 0 }
-    requires place { HasPlace tables.old.raw.now (vec_len tables.old.structs) one.now }
-    ensures { Walks (of_item one.now) tables.old tables.new result }
+    requires place { HasPlace tables.old.raw.now (vec_len tables.old.structs) item.now }
+    ensures { Walks (of_item item.now) tables.old tables.new result }
 {
-    match one {
+    match item {
         RawItem::Include { .. } => Ok(()),
         RawItem::Tag { line, name } => on_line(*line, check_tag(tables, name.bytes())),
         RawItem::Struct {
@@ -239,8 +239,8 @@ pub fn items<'a>(
     requires start { scope_of tables.old ≡ scopes.outset }
     ensures { Walks (of_items list.now) tables.old tables.new result }
 {
-    for one in list {
-        item(alloc, tables, one)?;
+    for child in list {
+        item(alloc, tables, child)?;
     }
     Ok(())
 }

@@ -66,8 +66,8 @@ pub fn statements<'a>(
     requires { AreRight tables.old }
     ensures { Walks (of_statements (stand_of stand) list.now) tables.old tables.new result }
 {
-    for one in list {
-        statement(alloc, tables, stand, one)?;
+    for child in list {
+        statement(alloc, tables, stand, child)?;
     }
     Ok(())
 }
@@ -95,14 +95,14 @@ fn part<'a>(
     alloc: Global,
     tables: &mut Tables<'a>,
     stand: Stand,
-    one: &'a Option<Boxed<RawStatement>>,
+    part: &'a Option<Boxed<RawStatement>>,
 ) -> Result<(), CheckFault>
     requires { AreRight tables.old }
-    ensures { Walks (of_part (stand_of stand) one.now) tables.old tables.new result }
+    ensures { Walks (of_part (stand_of stand) part.now) tables.old tables.new result }
 {
-    match one {
+    match part {
         None => Ok(()),
-        Some(one) => statement(alloc, tables, stand, one.get()),
+        Some(child) => statement(alloc, tables, stand, child.get()),
     }
 }
 
@@ -112,8 +112,8 @@ fn arms<'a>(alloc: Global, tables: &mut Tables<'a>, list: &'a [RawArm]) -> Resul
     requires { AreRight tables.old }
     ensures { Walks (of_arms list.now) tables.old tables.new result }
 {
-    for one in list {
-        statements(alloc, tables, Stand::InArm, one.body.as_slice())?;
+    for arm in list {
+        statements(alloc, tables, Stand::InArm, arm.body.as_slice())?;
     }
     Ok(())
 }
@@ -141,12 +141,12 @@ fn statement<'a>(
     alloc: Global,
     tables: &mut Tables<'a>,
     stand: Stand,
-    one: &'a RawStatement,
+    statement: &'a RawStatement,
 ) -> Result<(), CheckFault>
     requires { AreRight tables.old }
-    ensures { Walks (of_statement (stand_of stand) one.now) tables.old tables.new result }
+    ensures { Walks (of_statement (stand_of stand) statement.now) tables.old tables.new result }
 {
-    match one {
+    match statement {
         RawStatement::Declare { line, var, init } => {
             declared(alloc, tables, *line, stand, var, init)
         }

@@ -73,8 +73,8 @@ pub(crate) fn statements(
 ) -> Result<(), AllocError>
     ensures { OnOk result (out.new.items ≡ out.old.items ++ walks (row own.now) list.now controllers.now) }
 {
-    for one in list {
-        statement(alloc, out, own, one, controllers)?;
+    for child in list {
+        statement(alloc, out, own, child, controllers)?;
     }
     Ok(())
 }
@@ -92,8 +92,8 @@ fn arms(
     requires for_each { length taken.now ≡ length list.now }
     ensures { OnOk result (out.new.items ≡ out.old.items ++ arm_walks (row own.now) taken.now list.now controllers.now) }
 {
-    for (i, one) in list.iter().enumerate() {
-        arm(alloc, out, own, one, taken[i], controllers)?;
+    for (i, child) in list.iter().enumerate() {
+        arm(alloc, out, own, child, taken[i], controllers)?;
     }
     Ok(())
 }
@@ -104,16 +104,16 @@ fn arm(
     alloc: Global,
     out: &mut Vec<Pair>,
     own: &StatementVertices,
-    one: &Arm,
+    arm: &Arm,
     is_taken: bool,
     controllers: &[VertexId],
 ) -> Result<(), AllocError>
-    ensures { OnOk result (out.new.items ≡ out.old.items ++ if_taken (row own.now) is_taken one.now.body controllers.now) }
+    ensures { OnOk result (out.new.items ≡ out.old.items ++ if_taken (row own.now) is_taken arm.now.body controllers.now) }
 {
     if !is_taken {
         return Ok(());
     }
-    statements(alloc, out, own, one.body.as_slice(), controllers)?;
+    statements(alloc, out, own, arm.body.as_slice(), controllers)?;
     Ok(())
 }
 
@@ -123,15 +123,15 @@ fn part(
     alloc: Global,
     out: &mut Vec<Pair>,
     own: &StatementVertices,
-    one: &Option<Boxed<Statement>>,
+    part: &Option<Boxed<Statement>>,
     controllers: &[VertexId],
 ) -> Result<(), AllocError>
-    ensures { OnOk result (out.new.items ≡ out.old.items ++ walked_part (row own.now) one.now controllers.now) }
+    ensures { OnOk result (out.new.items ≡ out.old.items ++ walked_part (row own.now) part.now controllers.now) }
 {
-    match one {
+    match part {
         None => Ok(()),
-        Some(one) => {
-            statement(alloc, out, own, one.get(), controllers)?;
+        Some(child) => {
+            statement(alloc, out, own, child.get(), controllers)?;
             Ok(())
         }
     }
@@ -144,12 +144,12 @@ fn statement(
     alloc: Global,
     out: &mut Vec<Pair>,
     own: &StatementVertices,
-    one: &Statement,
+    statement: &Statement,
     controllers: &[VertexId],
 ) -> Result<(), AllocError>
-    ensures { OnOk result (out.new.items ≡ out.old.items ++ walk (row own.now) one.now controllers.now) }
+    ensures { OnOk result (out.new.items ≡ out.old.items ++ walk (row own.now) statement.now controllers.now) }
 {
-    match one {
+    match statement {
         Statement::Declare { id, .. } => match id {
             None => Ok(()),
             Some(id) => {

@@ -112,8 +112,8 @@ fn arms(
     requires for_each { length taken.now ≡ length list.now }
     ensures { OnOk result (out.new.items ≡ out.old.items ++ arm_flows (row own.now) test.now taken.now list.now next) }
 {
-    for (i, one) in list.iter().enumerate() {
-        arm(alloc, out, own, test, one, taken[i], next)?;
+    for (i, child) in list.iter().enumerate() {
+        arm(alloc, out, own, test, child, taken[i], next)?;
     }
     Ok(())
 }
@@ -125,16 +125,16 @@ fn arm(
     out: &mut Vec<Pair>,
     own: &StatementVertices,
     test: &[VertexId],
-    one: &Arm,
+    arm: &Arm,
     is_taken: bool,
     next: Option<VertexId>,
 ) -> Result<(), AllocError>
-    ensures { OnOk result (out.new.items ≡ out.old.items ++ if_taken (row own.now) test.now is_taken one.now.body next) }
+    ensures { OnOk result (out.new.items ≡ out.old.items ++ if_taken (row own.now) test.now is_taken arm.now.body next) }
 {
     if !is_taken {
         return Ok(());
     }
-    lead_to(alloc, out, own, test, one.body.as_slice(), next)?;
+    lead_to(alloc, out, own, test, arm.body.as_slice(), next)?;
     Ok(())
 }
 
@@ -159,16 +159,16 @@ fn part(
     alloc: Global,
     out: &mut Vec<Pair>,
     own: &StatementVertices,
-    one: &Option<Boxed<Statement>>,
+    part: &Option<Boxed<Statement>>,
     next: Option<VertexId>,
 ) -> Result<Option<VertexId>, AllocError>
-    ensures pairs { OnOk result (out.new.items ≡ out.old.items ++ (flow_part (row own.now) one.now).pairs next) }
-    ensures start { IfOk result (λ k. k ≡ (flow_part (row own.now) one.now).start next) }
+    ensures pairs { OnOk result (out.new.items ≡ out.old.items ++ (flow_part (row own.now) part.now).pairs next) }
+    ensures start { IfOk result (λ k. k ≡ (flow_part (row own.now) part.now).start next) }
 {
-    match one {
+    match part {
         None => Ok(next),
-        Some(one) => {
-            let start = statement(alloc, out, own, one.get(), next)?;
+        Some(child) => {
+            let start = statement(alloc, out, own, child.get(), next)?;
             Ok(start)
         }
     }
@@ -181,13 +181,13 @@ fn statement(
     alloc: Global,
     out: &mut Vec<Pair>,
     own: &StatementVertices,
-    one: &Statement,
+    statement: &Statement,
     next: Option<VertexId>,
 ) -> Result<Option<VertexId>, AllocError>
-    ensures pairs { OnOk result (out.new.items ≡ out.old.items ++ (flow (row own.now) one.now).pairs next) }
-    ensures start { IfOk result (λ k. k ≡ (flow (row own.now) one.now).start next) }
+    ensures pairs { OnOk result (out.new.items ≡ out.old.items ++ (flow (row own.now) statement.now).pairs next) }
+    ensures start { IfOk result (λ k. k ≡ (flow (row own.now) statement.now).start next) }
 {
-    match one {
+    match statement {
         Statement::Declare { id, .. } => match id {
             None => Ok(next),
             Some(id) => {

@@ -12,8 +12,8 @@ use sqlite_items::Boxed;
 pub(crate) fn body(effects: &mut Effects, list: &[Statement])
     ensures { effects.new ≡ with_body list.now effects.old }
 {
-    for one in list {
-        statement(effects, one);
+    for child in list {
+        statement(effects, child);
     }
 }
 
@@ -22,29 +22,29 @@ pub(crate) fn body(effects: &mut Effects, list: &[Statement])
 fn arms(effects: &mut Effects, list: &[Arm])
     ensures { effects.new ≡ with_arms list.now effects.old }
 {
-    for one in list {
-        body(effects, one.body.as_slice());
+    for arm in list {
+        body(effects, arm.body.as_slice());
     }
 }
 
 // Marks the effects of a part of a for.
 #[cycle(statement)]
-fn part(effects: &mut Effects, one: &Option<Boxed<Statement>>)
-    ensures { effects.new ≡ with_part one.now effects.old }
+fn part(effects: &mut Effects, part: &Option<Boxed<Statement>>)
+    ensures { effects.new ≡ with_part part.now effects.old }
 {
-    match one {
+    match part {
         None => {}
-        Some(one) => statement(effects, one.get()),
+        Some(child) => statement(effects, child.get()),
     }
 }
 
 // Marks the effects of a statement.
 #[cycle(statement)]
 #[tactic(auto, using(crate::proofs::Rules::statements))]
-fn statement(effects: &mut Effects, one: &Statement)
-    ensures { effects.new ≡ with_doings (doings one.now) effects.old }
+fn statement(effects: &mut Effects, statement: &Statement)
+    ensures { effects.new ≡ with_doings (doings statement.now) effects.old }
 {
-    match one {
+    match statement {
         Statement::Declare { id, var, init, .. } => match id {
             None => {}
             Some(id) => effects.begin(*id, *var, init),

@@ -107,8 +107,8 @@ fn struct_copies(alloc: Global, list: &[StructDef]) -> Result<Items<StructDef>, 
     ensures { IfOk result (λ all. all ≡ list.now) }
 {
     let mut all = Items::new(alloc);
-    for one in list {
-        all.push(one.copy(alloc)?)?;
+    for structure in list {
+        all.push(structure.copy(alloc)?)?;
     }
     Ok(all)
 }

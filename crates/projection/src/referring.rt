@@ -276,8 +276,8 @@ fn mark_statements(
 ) -> Result<(), AllocError>
     ensures { OnOk result (Adds used.old.items used.new.items (spec.body_refers (has keeps.now) list.now)) }
 {
-    for one in list {
-        mark_statement(used, keeps, one)?;
+    for statement in list {
+        mark_statement(used, keeps, statement)?;
     }
     Ok(())
 }
@@ -293,8 +293,8 @@ fn mark_part(
 {
     match part {
         None => Ok(()),
-        Some(one) => {
-            mark_statement(used, keeps, one.get())?;
+        Some(statement) => {
+            mark_statement(used, keeps, statement.get())?;
             Ok(())
         }
     }
@@ -312,10 +312,14 @@ fn mark_arms(used: &mut Vec<bool>, keeps: &[bool], arms: &[Arm]) -> Result<(), A
 
 // Marks the variables that the kept statements of a statement refer to.
 #[cycle(statement)]
-fn mark_statement(used: &mut Vec<bool>, keeps: &[bool], one: &Statement) -> Result<(), AllocError>
-    ensures { OnOk result (Adds used.old.items used.new.items (spec.refers (has keeps.now) one.now)) }
+fn mark_statement(
+    used: &mut Vec<bool>,
+    keeps: &[bool],
+    statement: &Statement,
+) -> Result<(), AllocError>
+    ensures { OnOk result (Adds used.old.items used.new.items (spec.refers (has keeps.now) statement.now)) }
 {
-    match one {
+    match statement {
         Statement::Declare { id, var, init, .. } => {
             mark_begun(used, keeps, *id, *var, init)?;
             Ok(())

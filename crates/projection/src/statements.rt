@@ -35,8 +35,8 @@ impl Selection<'_> {
         ensures { IfOk result (λ all. all ≡ all_left self.now list.now) }
     {
         let mut all = Items::new(alloc);
-        for one in list {
-            if let Some(left) = self.statement(alloc, one)? {
+        for statement in list {
+            if let Some(left) = self.statement(alloc, statement)? {
                 all.push(left)?;
             }
         }
@@ -45,10 +45,14 @@ impl Selection<'_> {
 
     // What stays of a statement.
     #[cycle(statement)]
-    fn statement(&self, alloc: Global, one: &Statement) -> Result<Option<Statement>, AllocError>
-        ensures { IfOk result (λ left. option_to_list left ≡ left_of self.now one.now) }
+    fn statement(
+        &self,
+        alloc: Global,
+        statement: &Statement,
+    ) -> Result<Option<Statement>, AllocError>
+        ensures { IfOk result (λ left. option_to_list left ≡ left_of self.now statement.now) }
     {
-        match one {
+        match statement {
             Statement::Declare {
                 id,
                 line,
@@ -515,8 +519,8 @@ impl Selection<'_> {
     {
         match part {
             None => Ok(None),
-            Some(one) => {
-                let left = self.statement(alloc, one.get())?;
+            Some(statement) => {
+                let left = self.statement(alloc, statement.get())?;
                 Ok(left)
             }
         }
@@ -569,10 +573,10 @@ fn declares_target(to: &Target) -> bool
 }
 
 // Whether a statement declares a variable.
-fn is_declaring(one: &Statement) -> bool
-    ensures { result ≡ spec.is_declaring one.now }
+fn is_declaring(statement: &Statement) -> bool
+    ensures { result ≡ spec.is_declaring statement.now }
 {
-    match one {
+    match statement {
         Statement::Declare { .. } => true,
         Statement::Invoke { target, .. }
         | Statement::Fetch { target, .. }
@@ -602,12 +606,12 @@ fn alone(
 {
     match first {
         None => Ok(None),
-        Some(one) => {
-            if !is_declaring(&one) {
-                return Ok(Some(one));
+        Some(statement) => {
+            if !is_declaring(&statement) {
+                return Ok(Some(statement));
             }
             let mut body = Items::new(alloc);
-            body.push(one)?;
+            body.push(statement)?;
             Ok(Some(Statement::Block { line, body }))
         }
     }
@@ -640,7 +644,7 @@ fn boxed(alloc: Global, part: Option<Statement>) -> Result<Option<Boxed<Statemen
 {
     match part {
         None => Ok(None),
-        Some(one) => Ok(Some(Boxed::new(alloc, one)?)),
+        Some(statement) => Ok(Some(Boxed::new(alloc, statement)?)),
     }
 }
 

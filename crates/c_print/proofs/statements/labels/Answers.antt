@@ -1,7 +1,7 @@
 use Rattle.c_print.proofs.Loops.{each_turn, each_label}
 use Rattle.c_print.proofs.statements.labels.Goals as goal
 
-pub loop-one-preserved : goal.loop-one-preserved
-loop-one-preserved c =
-    each_turn (each_label c.args.program.now c.args.margin.now) c.args.all.now c.loop-one.one-index c.one-item.result c.args.out.now c.loop-one.out c.label_line.new.out
-    c.loop-one-test.true c.one-item.is c.loop-one.invariant c.in_ok-label_line.ensures
+pub loop-label-preserved : goal.loop-label-preserved
+loop-label-preserved c =
+    each_turn (each_label c.args.program.now c.args.margin.now) c.args.all.now c.loop-label.label-index c.label-item.result c.args.out.now c.loop-label.out c.label_line.new.out
+    c.loop-label-test.true c.label-item.is c.loop-label.invariant c.in_ok-label_line.ensures

@@ -2,5 +2,5 @@ use Rattle.std.proofs.Common.{◌≡◌, ◌++◌, take}
 use Rattle.c_language.specs.Layout.{label_lines}
 use Rattle.c_print.proofs.statements.labels.Given as goal
 
-abbrev pub invariant-loop-one : goal.invariant-loop-one
-invariant-loop-one l = l.out ≡ l.initial.out ++ label_lines l.program (take l.one-index l.all) l.margin
+abbrev pub invariant-loop-label : goal.invariant-loop-label
+invariant-loop-label l = l.out ≡ l.initial.out ++ label_lines l.program (take l.label-index l.all) l.margin

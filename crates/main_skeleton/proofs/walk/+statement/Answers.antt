@@ -10,10 +10,10 @@ statement-returns-in-Bump t c =
 
 pub statement-returns-in-Print : goal.statement-returns-in-Print
 statement-returns-in-Print t c =
-    print_form c.args.one.now c.in-Print.id c.in-Print.line c.in-Print.format c.in-Print.args c.as_slice.result.now c.args.effects.now c.print.new.self
+    print_form c.args.statement.now c.in-Print.id c.in-Print.line c.in-Print.format c.in-Print.args c.as_slice.result.now c.args.effects.now c.print.new.self
     c.in-Print.is c.as_slice.ensures (c.print.ensures c.in-Print.format)
 
 pub statement-returns-in-For : goal.statement-returns-in-For
 statement-returns-in-For t c =
-    for_form c.args.one.now c.in-For.id c.in-For.line c.in-For.init c.in-For.test c.in-For.step c.in-For.list c.as_slice-in-For.result.now c.args.effects.now c.value-in-For.new.self c.part.new.effects c.part-in-For.new.effects c.body-in-For.new.effects
+    for_form c.args.statement.now c.in-For.id c.in-For.line c.in-For.init c.in-For.test c.in-For.step c.in-For.list c.as_slice-in-For.result.now c.args.effects.now c.value-in-For.new.self c.part.new.effects c.part-in-For.new.effects c.body-in-For.new.effects
     c.in-For.is c.as_slice-in-For.ensures c.value-in-For.ensures.tests c.part.ensures c.part-in-For.ensures c.body-in-For.ensures

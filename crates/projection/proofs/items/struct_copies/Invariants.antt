@@ -1,5 +1,5 @@
 use Rattle.std.proofs.Common.{◌≡◌, take}
 use Rattle.projection.proofs.items.struct_copies.Given as goal
 
-abbrev pub invariant-loop-one : goal.invariant-loop-one
-invariant-loop-one l = l.all ≡ take l.one-index l.list
+abbrev pub invariant-loop-structure : goal.invariant-loop-structure
+invariant-loop-structure l = l.all ≡ take l.structure-index l.list

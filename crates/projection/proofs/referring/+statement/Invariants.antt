@@ -8,6 +8,6 @@ abbrev pub invariant-mark_arms-loop-arm : goal.invariant-mark_arms-loop-arm
 invariant-mark_arms-loop-arm l =
     (x : ℕ) → (has l.used.items x || arms_refer (has l.keeps) (drop l.arm-index l.arms) x) ≡ (has l.initial.used.items x || arms_refer (has l.keeps) l.arms x)
 
-abbrev pub invariant-mark_statements-loop-one : goal.invariant-mark_statements-loop-one
-invariant-mark_statements-loop-one l =
-    (x : ℕ) → (has l.used.items x || body_refers (has l.keeps) (drop l.one-index l.list) x) ≡ (has l.initial.used.items x || body_refers (has l.keeps) l.list x)
+abbrev pub invariant-mark_statements-loop-statement : goal.invariant-mark_statements-loop-statement
+invariant-mark_statements-loop-statement l =
+    (x : ℕ) → (has l.used.items x || body_refers (has l.keeps) (drop l.statement-index l.list) x) ≡ (has l.initial.used.items x || body_refers (has l.keeps) l.list x)

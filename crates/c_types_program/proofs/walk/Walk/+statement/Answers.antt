@@ -46,57 +46,57 @@ statement-allocation-requires-clause-fits t c = subst (Fits c.args.self.now) c.i
 pub statement-returned-requires-clause-fits : goal.statement-returned-requires-clause-fits
 statement-returned-requires-clause-fits t c = subst (Fits c.args.self.now) c.in-Return.is c.requires.fits
 
-pub statements-loop-one-init : goal.statements-loop-one-init
-statements-loop-one-init t c = pushed (begins c.args.self.now c.args.list.now c.requires.right c.requires.fits) c.new-made.ensures
+pub statements-loop-statement-init : goal.statements-loop-statement-init
+statements-loop-statement-init t c = pushed (begins c.args.self.now c.args.list.now c.requires.right c.requires.fits) c.new-made.ensures
 
 pub statements-statement-requires : goal.statements-statement-requires
 statements-statement-requires t c =
-    let w = one_within size c.args.list.now c.loop-one.one-index c.one-item.result c.loop-one-test.true c.one-item.is in
-    let go = next_turn c.args.list.now c.loop-one.one-index c.one-item.result c.loop-one-test.true c.one-item.is c.loop-one.invariant in
+    let w = one_within size c.args.list.now c.loop-statement.statement-index c.statement-item.result c.loop-statement-test.true c.statement-item.is in
+    let go = next_turn c.args.list.now c.loop-statement.statement-index c.statement-item.result c.loop-statement-test.true c.statement-item.is c.loop-statement.invariant in
     (omega (arith, w), (go.stands.right, turn_fits go))
 
-pub statements-loop-one-preserved : goal.statements-loop-one-preserved
-statements-loop-one-preserved t c =
-    let go = next_turn c.args.list.now c.loop-one.one-index c.one-item.result c.loop-one-test.true c.one-item.is c.loop-one.invariant in
+pub statements-loop-statement-preserved : goal.statements-loop-statement-preserved
+statements-loop-statement-preserved t c =
+    let go = next_turn c.args.list.now c.loop-statement.statement-index c.statement-item.result c.loop-statement-test.true c.statement-item.is c.loop-statement.invariant in
     pushed (turn go c.statement.new.self c.in_ok-tree.tree c.in_ok-tree.ensures.tree c.in_ok-tree.ensures.passes) c.in_ok-push.ensures.ok
 
 pub statements-returns-clause-tree : goal.statements-returns-clause-tree
-statements-returns-clause-tree t c = all_made (last_turn c.args.list.now c.loop-one.one-index c.loop-one-test.false c.loop-one.invariant)
+statements-returns-clause-tree t c = all_made (last_turn c.args.list.now c.loop-statement.statement-index c.loop-statement-test.false c.loop-statement.invariant)
 
 pub statements-returns-clause-passes : goal.statements-returns-clause-passes
-statements-returns-clause-passes t c = all_passed (last_turn c.args.list.now c.loop-one.one-index c.loop-one-test.false c.loop-one.invariant)
+statements-returns-clause-passes t c = all_passed (last_turn c.args.list.now c.loop-statement.statement-index c.loop-statement-test.false c.loop-statement.invariant)
 
-pub arms-loop-one-init : goal.arms-loop-one-init
-arms-loop-one-init t c = arm_pushed (arms_begin c.args.self.now c.args.t c.args.list.now c.requires.right c.requires.fits c.requires.labels) c.new-made.ensures
+pub arms-loop-arm-init : goal.arms-loop-arm-init
+arms-loop-arm-init t c = arm_pushed (arms_begin c.args.self.now c.args.t c.args.list.now c.requires.right c.requires.fits c.requires.labels) c.new-made.ensures
 
 pub arms-arm-requires : goal.arms-arm-requires
 arms-arm-requires t c =
-    let w = one_within arm_size c.args.list.now c.loop-one.one-index c.one-item.result c.loop-one-test.true c.one-item.is in
-    let go = next_arm_turn c.args.list.now c.loop-one.one-index c.one-item.result c.loop-one-test.true c.one-item.is c.loop-one.invariant in
+    let w = one_within arm_size c.args.list.now c.loop-arm.arm-index c.arm-item.result c.loop-arm-test.true c.arm-item.is in
+    let go = next_arm_turn c.args.list.now c.loop-arm.arm-index c.arm-item.result c.loop-arm-test.true c.arm-item.is c.loop-arm.invariant in
     (omega (arith, w), (go.stands.right, (arm_turn_fits go, arm_turn_labels go)))
 
-pub arms-loop-one-preserved : goal.arms-loop-one-preserved
-arms-loop-one-preserved t c =
-    let go = next_arm_turn c.args.list.now c.loop-one.one-index c.one-item.result c.loop-one-test.true c.one-item.is c.loop-one.invariant in
+pub arms-loop-arm-preserved : goal.arms-loop-arm-preserved
+arms-loop-arm-preserved t c =
+    let go = next_arm_turn c.args.list.now c.loop-arm.arm-index c.arm-item.result c.loop-arm-test.true c.arm-item.is c.loop-arm.invariant in
     arm_pushed (arm_turn go c.arm.new.self c.in_ok-tree.tree c.in_ok-tree.ensures.tree c.in_ok-tree.ensures.passes) c.in_ok-push.ensures.ok
 
 pub arms-returns-clause-tree : goal.arms-returns-clause-tree
-arms-returns-clause-tree t c = arms_made (last_arm_turn c.args.list.now c.loop-one.one-index c.loop-one-test.false c.loop-one.invariant)
+arms-returns-clause-tree t c = arms_made (last_arm_turn c.args.list.now c.loop-arm.arm-index c.loop-arm-test.false c.loop-arm.invariant)
 
 pub arms-returns-clause-passes : goal.arms-returns-clause-passes
-arms-returns-clause-passes t c = arms_passed (last_arm_turn c.args.list.now c.loop-one.one-index c.loop-one-test.false c.loop-one.invariant)
+arms-returns-clause-passes t c = arms_passed (last_arm_turn c.args.list.now c.loop-arm.arm-index c.loop-arm-test.false c.loop-arm.invariant)
 
 pub arm-labels-requires-clause-labels : goal.arm-labels-requires-clause-labels
-arm-labels-requires-clause-labels t c = subst (AreLabels c.args.self.now.tables.raw.now) (sym c.as_slice.ensures) (arm_labels c.args.self.now c.args.one.now c.requires.labels)
+arm-labels-requires-clause-labels t c = subst (AreLabels c.args.self.now.tables.raw.now) (sym c.as_slice.ensures) (arm_labels c.args.self.now c.args.arm.now c.requires.labels)
 
 pub arm-statements-requires : goal.arm-statements-requires
-arm-statements-requires t c = (let m = size-arm c.args.one.now in let n = ap body_size c.as_slice-2.ensures in omega (arith, m, n), (c.requires.right, subst (FitAll c.args.self.now) (sym c.as_slice-2.ensures) (arm_body c.args.self.now c.args.one.now c.requires.fits)))
+arm-statements-requires t c = (let m = size-arm c.args.arm.now in let n = ap body_size c.as_slice-2.ensures in omega (arith, m, n), (c.requires.right, subst (FitAll c.args.self.now) (sym c.as_slice-2.ensures) (arm_body c.args.self.now c.args.arm.now c.requires.fits)))
 
 pub arm-returns-clause-tree : goal.arm-returns-clause-tree
-arm-returns-clause-tree t c = arm_has c.args.self.now c.args.one.now c.args.t c.in_ok-labels.labels c.in_ok-body.body (subst (λ ls. collected (map (label_tree c.args.self.now.tables.raw.now (scope_of c.args.self.now.tables) c.args.t) ls) ≡ Some c.in_ok-labels.labels) c.as_slice.ensures c.in_ok-labels.ensures) (subst (λ b. HaveTrees c.args.self.now b c.in_ok-body.body) c.as_slice-2.ensures c.in_ok-body.ensures.tree)
+arm-returns-clause-tree t c = arm_has c.args.self.now c.args.arm.now c.args.t c.in_ok-labels.labels c.in_ok-body.body (subst (λ ls. collected (map (label_tree c.args.self.now.tables.raw.now (scope_of c.args.self.now.tables) c.args.t) ls) ≡ Some c.in_ok-labels.labels) c.as_slice.ensures c.in_ok-labels.ensures) (subst (λ b. HaveTrees c.args.self.now b c.in_ok-body.body) c.as_slice-2.ensures c.in_ok-body.ensures.tree)
 
 pub arm-returns-clause-passes : goal.arm-returns-clause-passes
-arm-returns-clause-passes t c = arm_passes c.args.self.now c.args.one.now c.statements.new.self (subst (PassesAll c.args.self.now c.statements.new.self) c.as_slice-2.ensures c.in_ok-body.ensures.passes)
+arm-returns-clause-passes t c = arm_passes c.args.self.now c.args.arm.now c.statements.new.self (subst (PassesAll c.args.self.now c.statements.new.self) c.as_slice-2.ensures c.in_ok-body.ensures.passes)
 
 pub block-statements-requires : goal.block-statements-requires
 block-statements-requires t c = (let n = ap body_size c.as_slice.ensures in omega (arith, n), (c.open.ensures.right c.requires.right, subst (FitAll (record c.args.self.now { tables = c.open.new.self })) (sym c.as_slice.ensures) (block_fits c.args.self.now c.requires.right c.args.body.now (record c.args.self.now { tables = c.open.new.self }) c.open.ensures c.requires.fits)))
@@ -157,13 +157,13 @@ pub do_loop-returns-clause-passes : goal.do_loop-returns-clause-passes
 do_loop-returns-clause-passes t c = do_passes c.args.self.now c.requires.right c.args.body.now c.args.line c.args.test.now (record c.args.self.now { tables = c.number.new.self }) c.in_ok-id.ensures.at c.block.new.self refl c.in_ok-body.ensures.passes
 
 pub part-statement-requires : goal.part-statement-requires
-part-statement-requires t c = (let m = some_size c.args.part.now c.in-Some.one c.get.result.now c.in-Some.is c.get.ensures in omega (arith, m), (c.requires.right, subst (Fits c.args.self.now) (sym c.get.ensures) (subst (FitsPart c.args.self.now) c.in-Some.is c.requires.fits)))
+part-statement-requires t c = (let m = some_size c.args.part.now c.in-Some.statement c.get.result.now c.in-Some.is c.get.ensures in omega (arith, m), (c.requires.right, subst (Fits c.args.self.now) (sym c.get.ensures) (subst (FitsPart c.args.self.now) c.in-Some.is c.requires.fits)))
 
 pub part-returns-in-None-clause-passes : goal.part-returns-in-None-clause-passes
 part-returns-in-None-clause-passes t c = subst (PassesPart c.args.self.now c.args.self.now) (sym c.in-None.is) (no_part c.args.self.now)
 
 pub part-returns-in_ok-new-in-Some-clause-tree : goal.part-returns-in_ok-new-in-Some-clause-tree
-part-returns-in_ok-new-in-Some-clause-tree t c = subst (λ p. HasPart c.args.self.now p (Some c.in_ok-new-in-Some.field-0)) (sym c.in-Some.is) (part_has c.args.self.now c.in-Some.one c.in_ok-new-in-Some.field-0 (rw c.in_ok-new-in-Some.ensures (subst (λ x. HasTree c.args.self.now x c.in_ok-made-in-Some.made) c.get.ensures c.in_ok-made-in-Some.ensures.tree)))
+part-returns-in_ok-new-in-Some-clause-tree t c = subst (λ p. HasPart c.args.self.now p (Some c.in_ok-new-in-Some.field-0)) (sym c.in-Some.is) (part_has c.args.self.now c.in-Some.statement c.in_ok-new-in-Some.field-0 (rw c.in_ok-new-in-Some.ensures (subst (λ x. HasTree c.args.self.now x c.in_ok-made-in-Some.made) c.get.ensures c.in_ok-made-in-Some.ensures.tree)))
 
 pub part-returns-in_ok-new-in-Some-clause-passes : goal.part-returns-in_ok-new-in-Some-clause-passes
 part-returns-in_ok-new-in-Some-clause-passes t c = subst (PassesPart c.args.self.now c.statement.new.self) (sym c.in-Some.is) (subst (λ x. Passes c.args.self.now c.statement.new.self x) c.get.ensures c.in_ok-made-in-Some.ensures.passes)

@@ -4,16 +4,16 @@ use Rattle.c_types_program.proofs.Sizes.{size, body_size, part_size, arm_size, a
 use Rattle.c_types_program.proofs.Turns.{Going, GoingArms}
 use Rattle.c_types_program.proofs.walk.Walk.+statement.Given as goal
 
-abbrev pub invariant-statements-loop-one : goal.invariant-statements-loop-one
-invariant-statements-loop-one l =
-    Going l.initial.self.tables.raw.now (scope_of l.initial.self.tables) l.initial.self l.self l.made (drop l.one-index l.list) l.list
+abbrev pub invariant-statements-loop-statement : goal.invariant-statements-loop-statement
+invariant-statements-loop-statement l =
+    Going l.initial.self.tables.raw.now (scope_of l.initial.self.tables) l.initial.self l.self l.made (drop l.statement-index l.list) l.list
 
-abbrev pub invariant-arms-loop-one : goal.invariant-arms-loop-one
-invariant-arms-loop-one l =
-    GoingArms l.initial.self.tables.raw.now (scope_of l.initial.self.tables) l.t l.initial.self l.self l.made (drop l.one-index l.list) l.list
+abbrev pub invariant-arms-loop-arm : goal.invariant-arms-loop-arm
+invariant-arms-loop-arm l =
+    GoingArms l.initial.self.tables.raw.now (scope_of l.initial.self.tables) l.t l.initial.self l.self l.made (drop l.arm-index l.list) l.list
 
 abbrev pub decreases-statement : goal.decreases-statement
-decreases-statement l = 8 * size l.one.now + 1
+decreases-statement l = 8 * size l.statement.now + 1
 
 abbrev pub decreases-statements : goal.decreases-statements
 decreases-statements l = 8 * body_size l.list.now + 2
@@ -46,4 +46,4 @@ abbrev pub decreases-arms : goal.decreases-arms
 decreases-arms l = 8 * arms_size l.list.now + 4
 
 abbrev pub decreases-arm : goal.decreases-arm
-decreases-arm l = 8 * arm_size l.one.now + 3
+decreases-arm l = 8 * arm_size l.arm.now + 3

@@ -7,50 +7,50 @@ use Rattle.c_types_base.proofs.ListingLaws.{structs_more, placed}
 use Rattle.c_types_program.proofs.ItemForms.{items_begin, item_comes, items_turn, counted_on, outside_on, next_item, last_item, items_made, functions_made, items_gone}
 use Rattle.c_types_program.proofs.walk.Walk.items.Goals as goal
 
-pub loop-one-init : goal.loop-one-init
-loop-one-init c = record {
+pub loop-item-init : goal.loop-item-init
+loop-item-init c = record {
   going = items_begin c.args.list.now c.args.self.now c.new-made.result c.new-functions.result c.new-made.ensures c.new-functions.ensures c.requires.right c.requires.fits;
   counted = ap (λ (x : Scope). x.structs) c.requires.start;
   outside = ap (λ (x : Scope). x.outer) c.requires.start;
 }
 
 pub item-requires-clause-right : goal.item-requires-clause-right
-item-requires-clause-right c = c.loop-one.invariant.going.at.stands.right
+item-requires-clause-right c = c.loop-item.invariant.going.at.stands.right
 
 pub item-requires-clause-outside : goal.item-requires-clause-outside
-item-requires-clause-outside c = c.loop-one.invariant.outside
+item-requires-clause-outside c = c.loop-item.invariant.outside
 
 pub item-requires-clause-place : goal.item-requires-clause-place
 item-requires-clause-place c =
     let list = c.args.list.now in
-    let i = c.loop-one.one-index in
-    placed c.loop-one.self.tables.raw.now list i (drop (i + 1) list) (c.requires.whole ∙ ap (λ (r : RawProgram). r.items) (sym c.loop-one.invariant.going.at.stands.text)) _ c.loop-one.invariant.counted
-    c.one-item.result (drop_turn list i c.one-item.result c.loop-one-test.true c.one-item.is)
+    let i = c.loop-item.item-index in
+    placed c.loop-item.self.tables.raw.now list i (drop (i + 1) list) (c.requires.whole ∙ ap (λ (r : RawProgram). r.items) (sym c.loop-item.invariant.going.at.stands.text)) _ c.loop-item.invariant.counted
+    c.item-item.result (drop_turn list i c.item-item.result c.loop-item-test.true c.item-item.is)
 
 pub item-requires-clause-fits : goal.item-requires-clause-fits
 item-requires-clause-fits c =
-    item_comes c.one-item.result (next_item c.args.list.now c.loop-one.one-index c.one-item.result c.loop-one-test.true c.one-item.is c.loop-one.invariant.going)
+    item_comes c.item-item.result (next_item c.args.list.now c.loop-item.item-index c.item-item.result c.loop-item-test.true c.item-item.is c.loop-item.invariant.going)
 
-pub loop-one-preserved : goal.loop-one-preserved
-loop-one-preserved c =
+pub loop-item-preserved : goal.loop-item-preserved
+loop-item-preserved c =
     let list = c.args.list.now in
-    let i = c.loop-one.one-index in
-    let one = c.one-item.result in
-    let next = next_item list i one c.loop-one-test.true c.one-item.is c.loop-one.invariant.going in
+    let i = c.loop-item.item-index in
+    let one = c.item-item.result in
+    let next = next_item list i one c.loop-item-test.true c.item-item.is c.loop-item.invariant.going in
     let later = c.item.new.self in
     record {
       going = items_turn one next later c.in_ok-tree.tree c.push.new.self c.item.new.functions c.in_ok-tree.ensures.tree c.in_ok-push.ensures.ok c.in_ok-tree.ensures.function c.in_ok-tree.ensures.passes;
       counted =
-          structs_more list i one (scope_of c.loop-one.self.tables).structs (scope_of later.tables).structs c.loop-one-test.true c.one-item.is c.loop-one.invariant.counted
+          structs_more list i one (scope_of c.loop-item.self.tables).structs (scope_of later.tables).structs c.loop-item-test.true c.item-item.is c.loop-item.invariant.counted
           (counted_on one next later c.in_ok-tree.ensures.passes);
-      outside = outside_on one next later c.in_ok-tree.ensures.passes c.loop-one.invariant.outside;
+      outside = outside_on one next later c.in_ok-tree.ensures.passes c.loop-item.invariant.outside;
     }
 
 pub returns-clause-items : goal.returns-clause-items
-returns-clause-items c = items_made (last_item c.args.list.now c.loop-one.one-index c.loop-one-test.false c.loop-one.invariant.going)
+returns-clause-items c = items_made (last_item c.args.list.now c.loop-item.item-index c.loop-item-test.false c.loop-item.invariant.going)
 
 pub returns-clause-functions : goal.returns-clause-functions
-returns-clause-functions c = functions_made (last_item c.args.list.now c.loop-one.one-index c.loop-one-test.false c.loop-one.invariant.going)
+returns-clause-functions c = functions_made (last_item c.args.list.now c.loop-item.item-index c.loop-item-test.false c.loop-item.invariant.going)
 
 pub returns-clause-passes : goal.returns-clause-passes
-returns-clause-passes c = items_gone (last_item c.args.list.now c.loop-one.one-index c.loop-one-test.false c.loop-one.invariant.going)
+returns-clause-passes c = items_gone (last_item c.args.list.now c.loop-item.item-index c.loop-item-test.false c.loop-item.invariant.going)

@@ -4,9 +4,9 @@ use Rattle.c_types_base.specs.Tables.{scope_of}
 use Rattle.c_types_program.proofs.ItemForms.{GoingItems}
 use Rattle.c_types_program.proofs.walk.Walk.items.Given as goal
 
-abbrev pub invariant-loop-one : goal.invariant-loop-one
-invariant-loop-one l = record {
-  going : GoingItems l.list (drop l.one-index l.list) l.initial.self.tables.raw.now (scope_of l.initial.self.tables) l.initial.self l.self l.made l.functions;
-  counted : vec_len l.self.tables.structs ≡ length (structs_of (take l.one-index l.list));
+abbrev pub invariant-loop-item : goal.invariant-loop-item
+invariant-loop-item l = record {
+  going : GoingItems l.list (drop l.item-index l.list) l.initial.self.tables.raw.now (scope_of l.initial.self.tables) l.initial.self l.self l.made l.functions;
+  counted : vec_len l.self.tables.structs ≡ length (structs_of (take l.item-index l.list));
   outside : l.self.tables.outer ≡ 0;
 }
