@@ -7,7 +7,6 @@ use Rattle.c_tree.specs.declared.types.CType.{CType}
 use Rattle.c_tree.specs.declared.program.Var.{Var}
 use Rattle.c_tree.specs.declared.raw.expr.RawVar.{RawVar}
 use Rattle.c_tree.specs.declared.raw.program.RawInit.{RawInit}
-use Rattle.c_tree.specs.declared.raw.program.RawInit.TheVariants as init
 use Rattle.c_tree.specs.declared.raw.program.RawProgram.{RawProgram}
 use Rattle.c_tree.specs.declared.raw.statement.RawArg.{RawArg}
 use Rattle.c_tree.specs.declared.raw.statement.RawTarget.{RawTarget}
@@ -27,6 +26,7 @@ use Rattle.c_language.specs.CallRules.{library}
 use Rattle.c_language.specs.Scopes.{Scope, with_variable, with_target, begun}
 use Rattle.c_language.specs.Uses.{is_one_of}
 use Rattle.c_language.proofs.Options.{none_there, map_some}
+use Rattle.c_language.proofs.ScopeNumbers.{begun_variables}
 use Rattle.built_forms.specs.IntegerForms.{integer_init}
 use Rattle.built_forms.specs.BuiltForms.{is_integer_variable, unless, statement_outside}
 use Rattle.built_forms.proofs.Kept.{AreKept}
@@ -56,11 +56,6 @@ module _ (raw : RawProgram) (vars : List Var) where
   not_outside l o x h is none = none_there (sym none ∙ always_is (IsOutside l) o x h is)
 
   -- ---- declarations
-
-  begun_variables : (i : RawInit) (scope : Scope) → (begun i scope).variables ≡ scope.variables
-  begun_variables init.None scope = refl
-  begun_variables (init.One a) scope = refl
-  begun_variables (init.Items es) scope = refl
 
   pub declared : (l : ℕ) (var : RawVar) (i : RawInit) (scope : Scope) (x : Statement)
       → option_map (s.Declare (declaration_id i scope.statements) l scope.variables) (init_of raw (with_variable raw var i scope) i) ≡ Some x

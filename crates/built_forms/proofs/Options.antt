@@ -1,5 +1,6 @@
 -- Options that are made of others.
-use Rattle.std.proofs.Common.{◌≡◌, List, ◌∷◌, Option, Some, None, option_map, option_and_then, refl, sym, subst}
+use Rattle.std.proofs.Common.{◌≡◌, List, ◌∷◌, Bool, true, false, Option, Some, None, option_map, option_and_then, refl, sym, subst}
+use Rattle.std.specs.Prelude.{if◌then◌else◌}
 use Rattle.c_language.specs.ConstantEvaluation.{both}
 use Rattle.c_language.specs.ProgramOf.{collected}
 use Rattle.c_language.proofs.Options.{none_there, some_same, map_some}
@@ -31,6 +32,10 @@ pub always_both : {A B C : Type 0} (P : C → Type 0) (f : A → B → C) (a : O
 always_both P f None b h = tt
 always_both P f (Some x) None h = tt
 always_both P f (Some x) (Some y) h = h x y
+
+pub always_if : {A : Type 0} (P : A → Type 0) (b : Bool) (o q : Option A) → Always P o → Always P q → Always P (if b then o else q)
+always_if P true o q h k = h
+always_if P false o q h k = k
 
 pub always_is : {A : Type 0} (P : A → Type 0) (o : Option A) (x : A) → Always P o → o ≡ Some x → P x
 always_is P o x h e = subst (Always P) e h

@@ -7,6 +7,7 @@ pub mod StatementNestingLemmas
 pub mod ConstantLemmas
 pub mod CodeLemmas
 pub mod ScopedForms
+pub mod ScopeNumbers
 pub mod TreedForms
 pub mod Lists
 pub mod Options

@@ -27,10 +27,11 @@ use Rattle.c_language.specs.DeclaredTypes.{defined_structs}
 use Rattle.c_language.specs.Phrases.{scope_at_end}
 use Rattle.c_language.proofs.Options.{none_there, some_same}
 use Rattle.c_language.proofs.Tests.{false_true}
+use Rattle.c_language.proofs.ScopeNumbers.{function_variables}
 use Rattle.c_print_laws.proofs.Options.{map_there, then_there, both_there, collected_are, cons_nil, first_same, rest_same}
 use Rattle.c_print_laws.proofs.Named.{positioned}
 use Rattle.c_print_laws.proofs.Told.{AreTold, told_first, told_rest, told_later}
-use Rattle.c_print_laws.proofs.Numbers.{parameter_count, item_variables, function_variables, define_functions, prototype_functions}
+use Rattle.c_print_laws.proofs.Numbers.{parameter_count, item_variables, define_functions, prototype_functions}
 
 -- ---- the parts of the program of a text
 
@@ -148,7 +149,7 @@ module _ (raw : RawProgram) (p : Program) where
       → AreTold raw p (scope_of_parameters h scope).variables (head_phrases raw h.params (scope_of_parameters h scope) ++ (body_phrases raw body (entered raw h scope) ++ (phrase l scope (EndsFunction h body) ∷ [])))
   define_told l h body scope told =
       subst (λ (n : ℕ). AreTold raw p n (head_phrases raw h.params (scope_of_parameters h scope) ++ (body_phrases raw body (entered raw h scope) ++ (phrase l scope (EndsFunction h body) ∷ []))))
-      (sym (function_variables raw h scope)) (told_later raw p scope.variables (phrase l scope (DeclaresFunction h true)) _ refl told)
+      (sym (function_variables h.name scope)) (told_later raw p scope.variables (phrase l scope (DeclaresFunction h true)) _ refl told)
 
   defined_as : (l : ℕ) (h : RawHead) (body : List RawStatement) (scope : Scope) (f : Function) → function_tree raw l h body scope ≡ Some f
       → slice_get p.functions scope.functions ≡ Some f → are_named h.params ≡ true → AreTold raw p scope.variables (item_phrases raw (Define l h body) scope) → IsDefinedAs scope.functions h
@@ -161,7 +162,7 @@ module _ (raw : RawProgram) (p : Program) where
         at = at;
         name = ap (λ (x : Function). x.name) (sym g.same);
         result = g.left_there ∙ ap (λ (x : Function). Some x.result) g.same;
-        params = subst (λ (x : Function). ParamsAre x.params h.params) g.same (subst (λ (n : ℕ). ParamsAre (parameter_ids h.params n) h.params) (function_variables raw h scope) params);
+        params = subst (λ (x : Function). ParamsAre x.params h.params) g.same (subst (λ (n : ℕ). ParamsAre (parameter_ids h.params n) h.params) (function_variables h.name scope) params);
       }
 
   pub same_functions : (scope next : Scope) (x : RawItem) (xs : List RawItem) → next ≡ after_item raw x scope → next.functions ≡ scope.functions

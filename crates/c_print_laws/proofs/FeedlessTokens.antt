@@ -43,6 +43,7 @@ use Rattle.c_language.specs.declared.operators.Prefix.TheVariants.{Sign, Deref, 
 use Rattle.c_language.specs.declared.operators.Selector.{Selector}
 use Rattle.c_language.specs.declared.operators.Selector.TheVariants.{Dot, Arrow}
 use Rattle.c_language.specs.declared.token.TokenKind.TheVariants.{Name, Number, Character, Str}
+use Rattle.c_language.proofs.Lists.{all_append}
 use Rattle.c_print.specs.Feedless.{feedless, each}
 use Rattle.c_text_layout.proofs.Written.{AreRun, HasForm, AreWritten}
 use Rattle.c_text_layout.proofs.TokenPrint.{other_class}
@@ -52,7 +53,7 @@ use Rattle.c_text_layout.proofs.SimplePrint.{arg_rest, size_rest}
 use Rattle.c_text_layout.proofs.DeclaredPrint.{declared_rest}
 use Rattle.c_text_layout.proofs.StatementPrint.{declaration_rest, init_rest, step_rest, test_rest, label_rest, labels_rest, statement_rest, statements_rest, body_rest}
 use Rattle.c_text_layout.proofs.ItemPrint.{static_rest, result_rest, head_rest, member_rest, fields_rest, global_rest, item_rest}
-use Rattle.c_print_laws.proofs.RawFeedless.{raw_expr_feedless, raw_type_feedless, raw_var_feedless, raw_arg_feedless, raw_name_feedless, raw_size_feedless, raw_amount_feedless, raw_label_feedless, raw_statement_feedless, raw_arm_feedless, raw_body_feedless, raw_member_feedless, raw_param_feedless, raw_head_feedless, raw_item_feedless, raw_items_feedless, expr_by, type_by, statement_by, arm_by, bodies_append, all_append}
+use Rattle.c_print_laws.proofs.RawFeedless.{raw_expr_feedless, raw_type_feedless, raw_var_feedless, raw_arg_feedless, raw_name_feedless, raw_size_feedless, raw_amount_feedless, raw_label_feedless, raw_statement_feedless, raw_arm_feedless, raw_body_feedless, raw_member_feedless, raw_param_feedless, raw_head_feedless, raw_item_feedless, raw_items_feedless, expr_by, type_by, statement_by, arm_by, bodies_append}
 
 -- ---- bytes
 

@@ -24,9 +24,10 @@ use Rattle.c_language.specs.DeclaredTypes.{item_count}
 use Rattle.c_language.specs.Scopes.{Scope, outset, with_variable, with_target, parameter_of, with_parameter, scope_of_parameters, entered, opened, numbered, Scoped, in_order, after_block, part_gives, scope_of_test, scope_of_body}
 use Rattle.c_language.specs.Phrases.{Stand, InFile, InHead, InBlock, InArm, InFor, Part, NamesStruct, DefinesStruct, HasMember, DeclaresFunction, Takes, EndsFunction, Declares, Begins, Assigns, Bumps, Calls, Allocates, Tests, Switches, Returns, Phrase, Phrases, phrase, begun_phrases, declaration, target_phrases, joined_at, block_phrases, at_stand, ArmText, phrases_of_arms, scoped_step, scoped_arm, scoped, scoped_of_arm, body_phrases, member_phrases, taken_phrases, parameter_phrases, head_phrases, item_phrases, after_item, items_phrases, phrases}
 use Rattle.c_language.specs.ProgramOf.{ctype_with, variables_in}
+use Rattle.c_language.proofs.Lists.{all_append}
 use Rattle.c_print.specs.Feedless.{feedless, each, var_feedless}
 use Rattle.c_print_laws.proofs.Options.{map_there, cons_nil, first_same, rest_same}
-use Rattle.c_print_laws.proofs.RawFeedless.{raw_expr_feedless, raw_type_feedless, raw_var_feedless, raw_init_feedless, raw_target_feedless, raw_arg_feedless, raw_name_feedless, raw_amount_feedless, raw_label_feedless, raw_statement_step, raw_arm_step, raw_statement_feedless, raw_arm_feedless, raw_body_feedless, raw_param_feedless, raw_head_feedless, raw_item_feedless, raw_items_feedless, all_append}
+use Rattle.c_print_laws.proofs.RawFeedless.{raw_expr_feedless, raw_type_feedless, raw_var_feedless, raw_init_feedless, raw_target_feedless, raw_arg_feedless, raw_name_feedless, raw_amount_feedless, raw_label_feedless, raw_statement_step, raw_arm_step, raw_statement_feedless, raw_arm_feedless, raw_body_feedless, raw_param_feedless, raw_head_feedless, raw_item_feedless, raw_items_feedless}
 use Rattle.c_print_laws.proofs.FeedlessTypes.{type_given}
 
 -- ---- phrases

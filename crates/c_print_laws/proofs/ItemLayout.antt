@@ -31,7 +31,7 @@ use Rattle.c_language.specs.Words.{Bytes, declared, type_words}
 use Rattle.c_language.specs.Layout.{line, var_words, Laid, block_lines, body_lines, static_words, result_words, param_words, named_params, params_words, head_words, member_lines, struct_lines, function_lines, global_words, item_lines, items_lines, layout}
 use Rattle.c_language.specs.ItemGrammar.{are_named}
 use Rattle.c_language.specs.DeclaredTypes.{item_count, structs_of, defined_structs, functions_of, defined_functions, struct_id, function_id, definition_of, result_type, parameter_types, type_or_void, written_type}
-use Rattle.c_language.specs.Scopes.{Scope, outset, Meaning, meaning_here, with_variable, with_function, with_entry, with_named, with_parameter, with_parameters, parameter_of, scope_of_parameters, entered}
+use Rattle.c_language.specs.Scopes.{Scope, outset, Meaning, with_variable, with_function, with_named, with_parameter, with_parameters, parameter_of, scope_of_parameters, entered}
 use Rattle.c_language.specs.Phrases.{InBlock, InHead, InFile, phrase, DeclaresFunction, EndsFunction, taken_phrases, parameter_phrases, head_phrases, body_phrases, item_phrases, after_item, items_phrases, phrases}
 use Rattle.c_language.specs.Rules.{Breaks, KeepsRules, tag, no_definition}
 use Rattle.c_language.specs.StructRules.{MisusesTag}
@@ -52,10 +52,11 @@ use Rattle.c_print_laws.proofs.TypeLayout.{declared_layout, type_layout}
 use Rattle.c_print_laws.proofs.Told.{AreTold, AreKept, AllStand, stand_all, phrases_kept, told_first, told_rest, is_declared}
 use Rattle.c_print_laws.proofs.CallLayout.{optional_there, init_layout}
 use Rattle.c_print_laws.proofs.StatementLayout.{begins_kept, list_laid}
-use Rattle.c_print_laws.proofs.Numbers.{parameter_count, head_count, function_variables, define_structs, prototype_functions, prototype_structs}
+use Rattle.c_print_laws.proofs.Numbers.{parameter_count, head_count, define_structs, prototype_functions, prototype_structs}
 use Rattle.c_print_laws.proofs.Definitions.{program_parts, Behind, behind_first, behind_rest, behind_at, IsPlain, ParamsAre, IsDefinedAs, ParamsPlain, ResultPlain, HeadPlain, AreFormed, FunctionsAt, define_told, define_later, same_functions, definitions, function_named}
 use Rattle.c_print_laws.proofs.Agreement.{IsObject, IsTyped, SameWords, typed, tagged, agreed, agreed_declared, agreed_nameless, agreed_result}
 use Rattle.c_language.proofs.Options.{none_there, some_same}
+use Rattle.c_language.proofs.ScopeNumbers.{function_declared, function_variables}
 
 -- what stands at the position of a test is the first that passes it
 found_at : {A : Type 0} (test : A → Bool) (xs : List A) (k : ℕ) (x : A) → position test xs ≡ Some k → slice_get xs k ≡ Some x → find test xs ≡ Some x
@@ -109,11 +110,8 @@ module _ (raw : RawProgram) (p : Program) (named : IsNamed raw p) where
       (parameters_laid ps next each.1 (told_rest raw p scope.variables next.variables (parameter_phrases raw q q.name scope) (head_phrases raw ps next) (parameter_count raw q q.name scope) told))
 
   function_fits : (name : Bytes) (scope : Scope) → Fits p scope → Fits p (with_function name scope)
-  function_fits name scope fits = by_test (is_some (meaning_here scope name))
-    where
-      by_test : (b : Bool) → Fits p (if b then scope else with_entry name Meaning.Function scope)
-      by_test true = fits
-      by_test false = fits_append p scope.names (record { name = name; meaning = Meaning.Function }) fits tt
+  function_fits name scope fits =
+      function_declared (Fits p) name scope fits (fits_append p scope.names (record { name = name; meaning = Meaning.Function }) fits tt)
 
   define_laid : (l : ℕ) (h : RawHead) (body : List RawStatement) (scope : Scope) (f : Function) → Fits p scope → AreTold raw p scope.variables (item_phrases raw (Define l h body) scope)
       → are_named h.params ≡ true → function_tree raw l h body scope ≡ Some f → function_lines p f ≡ raw_item_lines (Define l h body)
@@ -127,7 +125,7 @@ module _ (raw : RawProgram) (p : Program) (named : IsNamed raw p) where
       let heads = told_first raw p begin.variables ps (bs ++ (phrase l scope (EndsFunction h body) ∷ [])) all in
       let bodies = told_first raw p inside.variables bs (phrase l scope (EndsFunction h body) ∷ []) (told_rest raw p begin.variables inside.variables ps (bs ++ (phrase l scope (EndsFunction h body) ∷ [])) (head_count raw h.params begin) all) in
       let words : map (var_words p) (parameter_ids h.params scope.variables) ≡ map raw_param_words h.params
-      = ap (λ (n : ℕ). map (var_words p) (parameter_ids h.params n)) (sym (function_variables raw h scope)) ∙ parameters_laid h.params begin are heads in
+      = ap (λ (n : ℕ). map (var_words p) (parameter_ids h.params n)) (sym (function_variables h.name scope)) ∙ parameters_laid h.params begin are heads in
       ap (function_lines p) (sym g.same)
       ∙ ap₂ (λ (r : Bytes) (ws : List Bytes). line 0 ((static_words h.is_static ++ (r ++ (h.name ++ (codes "(" ++ (params_words ws ++ codes ")"))))) ++ codes " {") ++ (body_lines p 1 g.right ++ line 0 (codes "}")))
       (result_laid h.result g.left g.left_there) words

@@ -21,12 +21,9 @@ use Rattle.c_tree.specs.declared.raw.expr.RawExpr.{RawExpr}
 use Rattle.c_tree.specs.declared.raw.program.RawInit.{RawInit}
 use Rattle.c_tree.specs.declared.raw.program.RawInit.TheVariants as init
 use Rattle.c_tree.specs.declared.raw.program.RawHead.{RawHead}
-use Rattle.c_tree.specs.declared.raw.program.RawParam.{RawParam}
 use Rattle.c_tree.specs.declared.raw.program.RawItem.{RawItem}
 use Rattle.c_tree.specs.declared.raw.program.RawItem.TheVariants.{Include, Tag, Struct, Global, Prototype, Define}
 use Rattle.c_tree.specs.declared.raw.program.RawProgram.{RawProgram}
-use Rattle.c_tree.specs.declared.raw.statement.RawTarget.{RawTarget}
-use Rattle.c_tree.specs.declared.raw.statement.RawTarget.TheVariants as target
 use Rattle.c_tree.specs.declared.raw.statement.RawArg.{RawArg}
 use Rattle.c_tree.specs.declared.raw.statement.RawTypeName.{RawTypeName}
 use Rattle.c_tree.specs.declared.raw.statement.RawAmount.{RawAmount}
@@ -36,7 +33,7 @@ use Rattle.c_tree.specs.declared.raw.statement.RawArm.{RawArm, roll-RawArm, fold
 use Rattle.c_tree.proofs.RawTrees.{StatementParts, ArmParts, statement_layer, arm_layer, of_every_statement}
 use Rattle.c_language.specs.Words.{Bytes}
 use Rattle.c_language.specs.TypeGrammar.{named_type}
-use Rattle.c_language.specs.Scopes.{Scope, with_variable, with_target, with_named, with_parameter, with_parameters, scope_of_parameters, entered, opened, numbered, Scoped, in_order, after_all, after_block, after_part, scope_of_test, scope_of_body, begun}
+use Rattle.c_language.specs.Scopes.{Scope, with_variable, with_target, entered, opened, numbered, Scoped, in_order, after_all, after_block, after_part, scope_of_test, scope_of_body, begun}
 use Rattle.c_language.specs.Phrases.{after_item, after_items}
 use Rattle.c_language.specs.CallRules.{format_in, later_args}
 use Rattle.c_language.specs.ProgramOf.{collected, optional, expr_of, init_of, declaration_id, target_tree, args_tree, only_tree, print_tree, invoke_tree, amount_tree, heap_tree, ctype_if, label_tree, arm_tree, ArmTree, arm_tree_step, block_tree, at_type, switch_type, part_tree, for_tree, treed_step, treed, body_of, function_tree, functions_from, item_tree, items_from}
@@ -45,12 +42,13 @@ use Rattle.c_language.proofs.Options.{none_there, some_same}
 use Rattle.c_language.proofs.Tests.{false_true}
 use Rattle.c_language.proofs.PhraseLists.{body_after}
 use Rattle.c_language.proofs.TreeScopes.{list_after}
+use Rattle.c_language.proofs.ScopeNumbers.{target_statements, begun_statements, through_function, entered_statements}
 use Rattle.c_print.specs.Lines.{Placed, placed, arm_placed, item_placed, function_placed, bare, simple, heights, own_starts, part_starts, starts_from, block_starts}
 use Rattle.c_print.proofs.PlacedLemmas.{placed-Declare, placed-Assign, placed-Bump, placed-Invoke, placed-Fetch, placed-Write, placed-Print, placed-Heap, placed-Release, placed-Return, placed-If, placed-While, placed-Do, placed-For, placed-Switch, placed-Block, placed-arm}
 use Rattle.c_print.proofs.OpeningLemmas.{IsListed, listed_left, listed_right, inside_listed}
 use Rattle.c_print_laws.proofs.Options.{map_there, then_there, both_there, collected_are, cons_nil, first_same, rest_same}
 use Rattle.c_print_laws.proofs.Definitions.{Behind, behind_first, behind_rest, behind_at}
-use Rattle.c_print_laws.proofs.Numbers.{through_function, define_functions}
+use Rattle.c_print_laws.proofs.Numbers.{define_functions}
 use Rattle.c_print_laws.proofs.ForParts.{Form, all_tidy, is_single_part, form_step, form_arm, form_of, form_of_arm, are_tidy, AreTidy}
 
 -- ---- numbers in order
@@ -152,11 +150,6 @@ module _ (raw : RawProgram) where
       (λ ge. listed_right m one rest (arms_take xs p.1 ((treed_arm raw x.0).after scope) type as_ (rest_same e) m (k + (arm_placed a).height) ge high))
 
   -- ---- calls
-
-  target_statements : (to : RawTarget) (scope : Scope) → (with_target raw to scope).statements ≡ scope.statements
-  target_statements target.None scope = refl
-  target_statements (target.Place a) scope = refl
-  target_statements (target.Declared v) scope = refl
 
   invoke_placed : (scope : Scope) (id l : ℕ) (to : Option Target) (f : Bytes) (args : List RawArg) (t : Statement) → invoke_tree raw scope id l to f args ≡ Some t → placed t ≡ simple (Some id)
   invoke_placed scope id l to f args t h =
@@ -260,11 +253,6 @@ module _ (raw : RawProgram) where
   declare_takes l b x (init.Items all) inits gives after =
       one_takes b true (λ scope t h. let g = map_there (s.Declare (Some scope.statements) l (x scope)) (inits scope) t (sym (gives scope) ∙ h) in ap placed (sym g.same) ∙ placed-Declare (Some scope.statements) l (x scope) g.value) after
 
-  begun_statements : (i : RawInit) (a b : Scope) → a.statements ≡ b.statements → (begun i a).statements ≡ (begun i b).statements
-  begun_statements init.None a b h = h
-  begun_statements (init.One e) a b h = ap (λ (n : ℕ). n + 1) h
-  begun_statements (init.Items es) a b h = ap (λ (n : ℕ). n + 1) h
-
   step_takes : (y : StatementParts Q R) → (forms y).tidy ≡ true → Takes (step_of y) (forms y).single
   step_takes (RawStatement-F.Declare l v i) h =
       declare_takes l (step_of (RawStatement-F.Declare l v i)) (λ scope. scope.variables) i (λ scope. init_of raw (with_variable raw v i scope) i) (λ scope. refl) (λ scope. begun_statements i (with_variable raw v i scope) scope refl)
@@ -275,9 +263,9 @@ module _ (raw : RawProgram) where
   step_takes (RawStatement-F.Call l to f args) h =
       one_takes (step_of (RawStatement-F.Call l to f args)) true
       (λ scope t e. call_placed (bytes_eq f (codes "getchar")) (bytes_eq f (codes "putchar")) (bytes_eq f (codes "printf")) (bytes_eq f (codes "free")) (with_target raw to scope) scope.statements l (target_tree raw scope to) f args t e)
-      (λ scope. ap (λ (n : ℕ). n + 1) (target_statements to scope))
+      (λ scope. ap (λ (n : ℕ). n + 1) (target_statements raw to scope))
   step_takes (RawStatement-F.Heap l to cast n) h =
-      one_takes (step_of (RawStatement-F.Heap l to cast n)) true (λ scope t e. heap_placed (with_target raw to scope) scope.statements l (target_tree raw scope to) cast n t e) (λ scope. ap (λ (n : ℕ). n + 1) (target_statements to scope))
+      one_takes (step_of (RawStatement-F.Heap l to cast n)) true (λ scope t e. heap_placed (with_target raw to scope) scope.statements l (target_tree raw scope to) cast n t e) (λ scope. ap (λ (n : ℕ). n + 1) (target_statements raw to scope))
   step_takes (RawStatement-F.Return l a) h =
       one_takes (step_of (RawStatement-F.Return l a)) false (λ scope t e. let g = map_there (s.Return scope.statements l) _ t e in ap placed (sym g.same) ∙ placed-Return scope.statements l g.value) (λ scope. refl)
   step_takes (RawStatement-F.If l e a b) h =
@@ -362,17 +350,6 @@ module _ (raw : RawProgram) where
 
   -- ---- items
 
-  named_statements : (x : RawParam) (name : Option Bytes) (scope : Scope) → (with_named raw x name scope).statements ≡ scope.statements
-  named_statements x None scope = refl
-  named_statements x (Some name) scope = refl
-
-  parameters_statements : (ps : List RawParam) (scope : Scope) → (with_parameters raw ps scope).statements ≡ scope.statements
-  parameters_statements [] scope = refl
-  parameters_statements (x ∷ ps) scope = parameters_statements ps (with_parameter raw x scope) ∙ named_statements x x.name scope
-
-  pub entered_statements : (h : RawHead) (scope : Scope) → (entered raw h scope).statements ≡ scope.statements
-  entered_statements h scope = parameters_statements h.params (scope_of_parameters h scope) ∙ through_function raw (λ (z : Scope). z.statements) h.name scope refl
-
   module _ (p : Program) where
     abbrev ItemsTake : List RawItem → Type 0
     ItemsTake xs =
@@ -398,7 +375,7 @@ module _ (raw : RawProgram) where
         let same : made.right ≡ g.body = ap (λ (z : Function). z.body) made.same in
         let is_one : one ≡ item.Define scope.functions = sym (some_same (first_same i)) in
         let at : slice_get p.functions scope.functions ≡ Some g = behind_first p.functions scope.functions g fs b in
-        let begins : begin.statements ≡ scope.statements = entered_statements h scope in
+        let begins : begin.statements ≡ scope.statements = entered_statements raw h scope in
         let ends : next.statements ≡ (after_all (map (treed raw) body) begin).statements = ap (λ (z : Scope). z.statements) (body_after raw body begin ∙ sym (list_after raw body begin)) in
         let own = starts_from (item_placed p one) k in
         let others = block_starts (map (item_placed p) is) (k + (item_placed p one).height) in
@@ -418,5 +395,5 @@ module _ (raw : RawProgram) where
     items_take (Struct l tag members ∷ xs) h = bare_item (Struct l tag members) xs (λ scope. refl) (λ scope. refl) (λ scope. refl) (items_take xs h.1)
     items_take (Global l v i is_static ∷ xs) h = bare_item (Global l v i is_static) xs (λ scope. refl) (λ scope. refl) (λ scope. refl) (items_take xs h.1)
     items_take (Prototype l d ∷ xs) h =
-        bare_item (Prototype l d) xs (λ scope. through_function raw (λ (z : Scope). z.statements) d.name scope refl) (λ scope. through_function raw (λ (z : Scope). z.functions) d.name scope refl) (λ scope. refl) (items_take xs h.1)
+        bare_item (Prototype l d) xs (λ scope. through_function (λ (z : Scope). z.statements) d.name scope refl) (λ scope. through_function (λ (z : Scope). z.functions) d.name scope refl) (λ scope. refl) (items_take xs h.1)
     items_take (Define l d body ∷ xs) h = defined_item l d body xs h.0 (items_take xs h.1)

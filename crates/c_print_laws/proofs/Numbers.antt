@@ -1,6 +1,5 @@
 -- How the parts of a text count variables, functions and struct types.
-use Rattle.std.proofs.Common.{◌≡◌, ℕ, ◌+◌, List, [], ◌∷◌, ◌++◌, length, map, Bool, true, false, Option, Some, None, refl, sym, ap, subst, ◌∙◌, arith}
-use Rattle.std.specs.Prelude.{is_some, if◌then◌else◌}
+use Rattle.std.proofs.Common.{◌≡◌, ℕ, ◌+◌, List, [], ◌∷◌, ◌++◌, length, map, Option, Some, None, refl, sym, ap, subst, ◌∙◌, arith}
 use Rattle.c_tree.specs.declared.raw.program.RawInit.{RawInit}
 use Rattle.c_tree.specs.declared.raw.program.RawInit.TheVariants as init
 use Rattle.c_tree.specs.declared.raw.program.RawMember.{RawMember}
@@ -16,10 +15,11 @@ use Rattle.c_tree.specs.declared.raw.statement.RawStatement.TheOpen.{RawStatemen
 use Rattle.c_tree.specs.declared.raw.statement.RawArm.{RawArm, fold-roll-RawArm}
 use Rattle.c_tree.proofs.RawTrees.{StatementParts, statement_layer, arm_layer, of_every_statement}
 use Rattle.c_language.specs.Words.{Bytes}
-use Rattle.c_language.specs.Scopes.{Scope, Scoped, Meaning, meaning_here, with_variable, with_function, with_entry, with_named, with_parameter, with_parameters, scope_of_parameters, entered, with_target, opened, closed, numbered, begun, in_order, after_all, after_block}
+use Rattle.c_language.specs.Scopes.{Scope, Scoped, with_variable, with_function, with_named, with_parameter, with_parameters, scope_of_parameters, entered, with_target, opened, closed, numbered, begun, in_order, after_all, after_block}
 use Rattle.c_language.specs.Phrases.{Stand, InBlock, InFile, Phrases, phrase, begun_phrases, joined_at, ArmText, EndsFunction, scoped_step, scoped_arm, scoped, scoped_of_arm, body_phrases, after_body, member_phrases, taken_phrases, parameter_phrases, head_phrases, item_phrases, after_item}
 use Rattle.c_language.specs.ProgramOf.{variables_in}
 use Rattle.c_language.proofs.PhraseLists.{body_in_order, body_after}
+use Rattle.c_language.proofs.ScopeNumbers.{through_function, function_variables}
 use Rattle.c_print_laws.proofs.Scoping.{declared_count, count_append, begun_count, after_count}
 
 -- the two scopes have as many functions and struct types before them
@@ -128,14 +128,6 @@ module _ (raw : RawProgram) where
 
   -- ---- functions and parameters
 
-  -- a declared function changes nothing but names
-  pub through_function : {A : Type 0} (f : Scope → A) (name : Bytes) (scope : Scope) → f (with_entry name Meaning.Function scope) ≡ f scope → f (with_function name scope) ≡ f scope
-  through_function f name scope h = by_test (is_some (meaning_here scope name))
-    where
-      by_test : (b : Bool) → f (if b then scope else with_entry name Meaning.Function scope) ≡ f scope
-      by_test true = refl
-      by_test false = h
-
   parameter_numbers : (p : RawParam) (name : Option Bytes) (scope : Scope) → SameNumbers (with_named raw p name scope) scope
   parameter_numbers p None scope = same_numbers scope
   parameter_numbers p (Some name) scope = record { functions = refl; structs = refl }
@@ -157,9 +149,6 @@ module _ (raw : RawProgram) where
       let b : scope.variables + declared_count raw one ≡ (with_parameter raw p scope).variables = parameter_count p p.name scope in
       let c : (with_parameter raw p scope).variables + declared_count raw rest ≡ (with_parameters raw ps (with_parameter raw p scope)).variables = head_count ps (with_parameter raw p scope) in
       omega (arith, a, b, c)
-
-  pub function_variables : (head : RawHead) (scope : Scope) → (with_function head.name scope).variables ≡ scope.variables
-  function_variables head scope = through_function (λ (z : Scope). z.variables) head.name scope refl
 
   pub entered_structs : (head : RawHead) (scope : Scope) → (entered raw head scope).structs ≡ scope.structs
   entered_structs head scope = (parameters_numbers head.params (scope_of_parameters head scope)).structs ∙ through_function (λ (z : Scope). z.structs) head.name scope refl
@@ -187,7 +176,7 @@ module _ (raw : RawProgram) where
       let a : declared_count raw (ps ++ (bs ++ (phrase l scope (EndsFunction head body) ∷ []))) ≡ declared_count raw ps + declared_count raw (bs ++ (phrase l scope (EndsFunction head body) ∷ [])) = count_append raw ps _ in
       let b : declared_count raw (bs ++ (phrase l scope (EndsFunction head body) ∷ [])) ≡ declared_count raw bs + 0 = count_append raw bs _ in
       let c : begin.variables + declared_count raw ps ≡ inside.variables = head_count head.params begin in
-      let d : begin.variables ≡ scope.variables = function_variables head scope in
+      let d : begin.variables ≡ scope.variables = function_variables head.name scope in
       let e : inside.variables + declared_count raw bs ≡ (after_body raw body inside).variables = body_count body inside in
       omega (arith, a, b, c, d, e)
 
@@ -200,7 +189,7 @@ module _ (raw : RawProgram) where
       omega (arith, a)
   item_variables (Prototype l head) scope =
       let a : declared_count raw (taken_phrases scope [] head.params) ≡ 0 = ap length (taken_declare scope [] head.params) in
-      let b : (with_function head.name scope).variables ≡ scope.variables = function_variables head scope in
+      let b : (with_function head.name scope).variables ≡ scope.variables = function_variables head.name scope in
       omega (arith, a, b)
   item_variables (Define l head body) scope = define_count l head body scope
 

@@ -172,7 +172,3 @@ arm_by labels body h k = fold-roll-RawArm Bool Bool raw_statement_step raw_arm_s
 pub bodies_append : (xs ys : List RawStatement) → raw_body_feedless xs ≡ true → raw_body_feedless ys ≡ true → raw_body_feedless (xs ++ ys) ≡ true
 bodies_append [] ys h k = k
 bodies_append (x ∷ xs) ys h k = let p = and_parts (raw_statement_feedless x) (raw_body_feedless xs) h in and_from _ _ p.0 (bodies_append xs ys p.1 k)
-
-pub all_append : {A : Type 0} (test : A → Bool) (xs ys : List A) → list_all test xs ≡ true → list_all test ys ≡ true → list_all test (xs ++ ys) ≡ true
-all_append test [] ys h k = k
-all_append test (x ∷ xs) ys h k = let p = and_parts (test x) (list_all test xs) h in and_from _ _ p.0 (all_append test xs ys p.1 k)

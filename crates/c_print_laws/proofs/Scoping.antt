@@ -17,6 +17,7 @@ use Rattle.c_language.specs.Phrases.{Stand, InBlock, InArm, InFor, Part, Phrases
 use Rattle.c_language.specs.ProgramOf.{ArmTree, treed_step, arm_tree_step, treed, declared_by, variables_in}
 use Rattle.c_language.proofs.TreedForms.{treed_arm}
 use Rattle.c_language.proofs.PhraseLists.{variables-append}
+use Rattle.c_language.proofs.ScopeNumbers.{begun_variables}
 
 module _ (raw : RawProgram) where
   abbrev pub declared_count : Phrases → ℕ
@@ -29,11 +30,6 @@ module _ (raw : RawProgram) where
   begun_count l scope stand var init.None = refl
   begun_count l scope stand var (init.One a) = refl
   begun_count l scope stand var (init.Items all) = refl
-
-  begun_variables : (i : RawInit) (scope : Scope) → (begun i scope).variables ≡ scope.variables
-  begun_variables init.None scope = refl
-  begun_variables (init.One a) scope = refl
-  begun_variables (init.Items all) scope = refl
 
   pub target_count : (l : ℕ) (scope : Scope) (stand : Stand) (to : RawTarget) → scope.variables + declared_count (target_phrases raw l scope stand to) ≡ (with_target raw to scope).variables
   target_count l scope stand target.None = omega arith

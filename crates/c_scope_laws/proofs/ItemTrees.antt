@@ -22,10 +22,12 @@ use Rattle.c_tree.specs.declared.raw.statement.RawStatement.{RawStatement}
 use Rattle.c_language.specs.Words.{Bytes}
 use Rattle.c_language.specs.ConstantEvaluation.{both}
 use Rattle.c_language.specs.DeclaredTypes.{functions_of, defined_functions, function_id, struct_id}
-use Rattle.c_language.specs.Scopes.{Scope, with_variable, with_function, with_entry, with_parameter, with_parameters, with_named, parameter_of, scope_of_parameters, entered, in_order, Meaning, meaning_here}
+use Rattle.c_language.specs.Scopes.{Scope, with_variable, with_function, with_parameter, with_parameters, with_named, parameter_of, scope_of_parameters, entered, in_order, meaning_here}
 use Rattle.c_language.specs.Phrases.{Stand, InFile, InHead, InBlock, Part, NamesStruct, DefinesStruct, HasMember, Takes, DeclaresFunction, EndsFunction, Declares, Begins, Phrases, phrase, begun_phrases, joined_at, scoped, body_phrases, after_body, member_phrases, taken_phrases, parameter_phrases, head_phrases, after_item, after_items, items_phrases, item_phrases}
 use Rattle.c_language.specs.ProgramOf.{declared_by, collected, optional, ctype_if, init_of, body_of, parameter_ids, function_tree, functions_from, items_from}
 use Rattle.c_language.proofs.Options.{none_there, some_same}
+use Rattle.c_language.proofs.PhraseLists.{body_in_order, body_after}
+use Rattle.c_language.proofs.ScopeNumbers.{function_variables}
 use Rattle.c_scope_laws.specs.Agreement.{Names, IsVariable}
 use Rattle.c_scope_laws.specs.Agreement.StandsFor.{there as as_it_is}
 use Rattle.projection.specs.Kept.{Kept, rank}
@@ -40,7 +42,7 @@ use Rattle.c_scope_laws.proofs.TreeLevels.{chosen, unchosen}
 use Rattle.c_scope_laws.proofs.TreeWalking.{all_stay}
 use Rattle.c_scope_laws.proofs.VariableLists.{VarsStay, no_vars, both_vars, no_variable, phrase_gone, variable_stays, variable_goes}
 use Rattle.c_scope_laws.proofs.VariableWalking.{vars_all}
-use Rattle.c_scope_laws.proofs.ItemWalking.{body_joined, body_after, same_texts, param_walks, left_base, entered_alone, drop_next, get_next, enters, params_walk, leaves, define_stands, structs_follow, no_variable_there, rest_right, AreRight}
+use Rattle.c_scope_laws.proofs.ItemWalking.{same_texts, param_walks, left_base, entered_alone, drop_next, get_next, enters, params_walk, leaves, define_stands, structs_follow, no_variable_there, rest_right, AreRight}
 use Rattle.c_scope_laws.proofs.FunctionNumbers.{FunctionNumbers}
 
 -- ---- lists of options
@@ -55,13 +57,6 @@ abbrev as_function : RawHead → ℕ → List ℕ → Option CType → List Stat
 as_function head line ps result statements = record { name = head.name; result = result; params = ps; body = statements; is_static = head.is_static; line = line }
 
 -- ---- parameters
-
-function_variables : (x : Bytes) (scope : Scope) → (with_function x scope).variables ≡ scope.variables
-function_variables x scope = by_test (is_some (meaning_here scope x))
-  where
-    by_test : (b : Bool) → (if b then scope else with_entry x Meaning.Function scope).variables ≡ scope.variables
-    by_test true = refl
-    by_test false = refl
 
 abbrev IsNil : List Var → Type 0
 IsNil [] = Unit {0}
@@ -297,9 +292,9 @@ module _ (k : Kept) (raw other : RawProgram) (texts : TextsAgree k raw other) (t
       (starts (function_variables head.name scope)
       (both_of (head_phrases other head.params (scope_of_parameters head next)) _ (head_phrases raw head.params (scope_of_parameters head scope)) _ (params_vars head.params (scope_of_parameters head scope) (scope_of_parameters head next) own stay e)
       (both_of (body_phrases other some (entered other head next)) _ (body_phrases raw body (entered raw head scope)) _
-      (subst (λ (qs : Phrases). Vars (entered raw head scope).variables qs (body_phrases raw body (entered raw head scope)) (after_body raw body (entered raw head scope)).variables) (body_joined other some (entered other head next))
-      (subst (λ (ps : Phrases). Vars (entered raw head scope).variables (joined_at InBlock (in_order (map (scoped other) some) (entered other head next))) ps (after_body raw body (entered raw head scope)).variables) (body_joined raw body (entered raw head scope))
-      (ends (ap (λ (z : Scope). z.variables) (body_after raw body (entered raw head scope))) w.vars)))
+      (subst (λ (qs : Phrases). Vars (entered raw head scope).variables qs (body_phrases raw body (entered raw head scope)) (after_body raw body (entered raw head scope)).variables) (sym (body_in_order other some (entered other head next)))
+      (subst (λ (ps : Phrases). Vars (entered raw head scope).variables (joined_at InBlock (in_order (map (scoped other) some) (entered other head next))) ps (after_body raw body (entered raw head scope)).variables) (sym (body_in_order raw body (entered raw head scope)))
+      (ends (ap (λ (z : Scope). z.variables) (sym (body_after raw body (entered raw head scope)))) w.vars)))
       (plain _ line scope next (EndsFunction head body) (EndsFunction head some) refl refl))))
 
   -- what nothing stays of with one numbering of functions, nothing stays of with another
@@ -329,8 +324,8 @@ module _ (k : Kept) (raw other : RawProgram) (texts : TextsAgree k raw other) (t
       (starts (function_variables head.name scope)
       (both_of [] [] (head_phrases raw head.params (scope_of_parameters head scope)) _ (params_lost head.params (scope_of_parameters head scope) gone)
       (both_of [] [] (body_phrases raw body (entered raw head scope)) _
-      (subst (λ (ps : Phrases). Vars (entered raw head scope).variables [] ps (after_body raw body (entered raw head scope)).variables) (body_joined raw body (entered raw head scope))
-      (ends (ap (λ (z : Scope). z.variables) (body_after raw body (entered raw head scope))) (other_numbering _ w.vars)))
+      (subst (λ (ps : Phrases). Vars (entered raw head scope).variables [] ps (after_body raw body (entered raw head scope)).variables) (sym (body_in_order raw body (entered raw head scope)))
+      (ends (ap (λ (z : Scope). z.variables) (sym (body_after raw body (entered raw head scope)))) (other_numbering _ w.vars)))
       (lost _ line scope (EndsFunction head body) refl))))
 
   -- ---- going along

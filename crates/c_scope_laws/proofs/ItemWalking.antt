@@ -20,6 +20,7 @@ use Rattle.c_language.specs.Rules.{Breaks, IsBroken, KeepsRules}
 use Rattle.c_language.specs.NameRules.{main_name, IsDefinedBefore, DeclaresAgain}
 use Rattle.c_language.proofs.Tests.{false_true}
 use Rattle.c_language.proofs.Lists.{contains_first, contains_later, same_names}
+use Rattle.c_language.proofs.PhraseLists.{body_in_order, body_after}
 use Rattle.c_scope_laws.specs.Agreement.{Names, NamesFunction, IsVariable, EndsToo, PartsAgree}
 use Rattle.c_scope_laws.specs.Agreement.StandsFor.{there as as_it_is}
 use Rattle.projection.specs.Kept.{Kept}
@@ -76,16 +77,6 @@ module _ {A : Type 0} where
   in_next (suc n) [] x c = c
   in_next (suc n) (y ∷ ys) x (zero, within, is) = (0, omega arith, is)
   in_next (suc n) (y ∷ ys) x (suc i, within, is) = contains_later y x (take (suc n) ys) (in_next n ys x (i, omega (arith, within), is))
-
--- ---- lists of statements
-
-pub body_joined : (raw : RawProgram) (xs : List RawStatement) (scope : Scope) → joined_at InBlock (in_order (map (scoped raw) xs) scope) ≡ body_phrases raw xs scope
-body_joined raw [] scope = refl
-body_joined raw (x ∷ xs) scope = ap (λ (ps : Phrases). (scoped raw x).gives scope InBlock ++ ps) (body_joined raw xs ((scoped raw x).after scope))
-
-pub body_after : (raw : RawProgram) (xs : List RawStatement) (scope : Scope) → after_all (map (scoped raw) xs) scope ≡ after_body raw xs scope
-body_after raw [] scope = refl
-body_after raw (x ∷ xs) scope = body_after raw xs ((scoped raw x).after scope)
 
 -- ---- texts
 
@@ -373,7 +364,7 @@ module _ (k : Kept) (raw other : RawProgram) {here there : ℕ} {mine yours : Op
       inside =
           let h = entered_alone k raw other f head is gone in
           let w = all_walk k raw raw (same_texts k raw) (scope.functions + 1) (scope.functions + 1) (Some scope.functions) (Some scope.functions) d base InBlock InBlock as_it_is h in
-          subst (λ (z : Scope). Follows k raw raw (scope.functions + 1) (scope.functions + 1) (Some scope.functions) (Some scope.functions) z base) (body_after raw body (entered raw head scope)) w.after
+          subst (λ (z : Scope). Follows k raw raw (scope.functions + 1) (scope.functions + 1) (Some scope.functions) (Some scope.functions) z base) (sym (body_after raw body (entered raw head scope))) w.after
 
       later : (x : Bytes) → IsDefinedBefore raw scope x → IsDefinedBefore raw base x
       later x h = (h.0, subst (λ (n : ℕ). Contains (take n (defined_functions raw)) h.0) (sym (next_place scope.functions)) (in_next scope.functions (defined_functions raw) h.0 h.1), h.2)
@@ -408,12 +399,12 @@ module _ (k : Kept) (raw other : RawProgram) (texts : TextsAgree k raw other) wh
             (stands k raw other texts f line (DeclaresFunction head true) (head_stays k raw other texts head true is))
             (both_stand k raw other (head_phrases other head.params (scope_of_parameters head next)) _ (head_phrases raw head.params (scope_of_parameters head scope)) _ p.phrases
             (both_stand k raw other (body_phrases other some (entered other head next)) _ (body_phrases raw body (entered raw head scope)) _
-            (subst (λ (qs : Phrases). AreCounterparts k raw other qs (body_phrases raw body (entered raw head scope))) (body_joined other some (entered other head next))
-            (subst (λ (ps : Phrases). AreCounterparts k raw other (joined_at InBlock (in_order (map (scoped other) some) (entered other head next))) ps) (body_joined raw body (entered raw head scope)) w.phrases))
+            (subst (λ (qs : Phrases). AreCounterparts k raw other qs (body_phrases raw body (entered raw head scope))) (sym (body_in_order other some (entered other head next)))
+            (subst (λ (ps : Phrases). AreCounterparts k raw other (joined_at InBlock (in_order (map (scoped other) some) (entered other head next))) ps) (sym (body_in_order raw body (entered raw head scope))) w.phrases))
             (one_stands k raw other line line scope next (EndsFunction head body) (EndsFunction head some) (PartsAgree.ends ends) (places_agree k raw other texts f (end_stays k raw other texts head some))))),
-        subst (λ (z : Scope). Follows k raw other (suc here) (suc there) mine yours (after_item raw (Define line head body) scope) (closed (with_function head.name next) z)) (body_after other some (entered other head next))
+        subst (λ (z : Scope). Follows k raw other (suc here) (suc there) mine yours (after_item raw (Define line head body) scope) (closed (with_function head.name next) z)) (sym (body_after other some (entered other head next)))
             (subst (λ (z : Scope). Follows k raw other (suc here) (suc there) mine yours (closed (with_function head.name scope) z) (closed (with_function head.name next) (after_all (map (scoped other) some) (entered other head next))))
-            (body_after raw body (entered raw head scope)) (follows_closed k raw other (function_kept k raw other head.name is none f) w.after)),
+            (sym (body_after raw body (entered raw head scope))) (follows_closed k raw other (function_kept k raw other head.name is none f) w.after)),
       )
 
   items_walk : {scope : Scope} {xs ys : List RawItem} → ItemsThin k raw other scope xs ys → (here there : ℕ) (mine yours : Option ℕ) (next : Scope) → Follows k raw other here there mine yours scope next

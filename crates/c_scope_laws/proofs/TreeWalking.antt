@@ -1,6 +1,7 @@
 -- Going along a list of statements and the thinner one: the tree of what stays is what stays of the tree.
 use Rattle.std.proofs.Common.{arith, ◌≡◌, ℕ, List, [], ◌∷◌, ◌++◌, map, true, false, Option, Some, None, option_map, option_and_then, refl, sym, ap, ap₂, subst, ◌∙◌}
 use Rattle.std.specs.Prelude.{Contains}
+use Rattle.std.proofs.lemmas.List.{map-append}
 use Rattle.c_arith.specs.declared.int_type.IntType.{IntType}
 use Rattle.c_tree.specs.declared.types.CType.{CType}
 use Rattle.c_tree.specs.declared.expr.Expr.{Expr}
@@ -92,10 +93,6 @@ collected-append (Some x ∷ xs) ys as_ bs p q = by_rest (collected xs) refl (λ
 in_order-append : {R : Type 0} (xs ys : List (Scoped R)) (scope : Scope) → in_order (xs ++ ys) scope ≡ in_order xs scope ++ in_order ys (after_all xs scope)
 in_order-append [] ys scope = refl
 in_order-append (x ∷ xs) ys scope = ap (λ (all : List _). x.gives scope ∷ all) (in_order-append xs ys (x.after scope))
-
-map-append : {A B : Type 0} (f : A → B) (xs ys : List A) → map f (xs ++ ys) ≡ map f xs ++ map f ys
-map-append f [] ys = refl
-map-append f (x ∷ xs) ys = ap (λ (all : List _). f x ∷ all) (map-append f xs ys)
 
 module _ (k : Kept) (raw other : RawProgram) (texts : TextsAgree k raw other) (g : ℕ → ℕ) (ids : (x : Bytes) → k.function x ≡ true → function_id other x ≡ option_map g (function_id raw x)) (defined_here defined_there : ℕ) (owner_here owner_there : Option ℕ) where
   abbrev ns : Numbers

@@ -9,9 +9,10 @@ use Rattle.c_tree.specs.declared.raw.statement.RawLabel.{RawLabel}
 use Rattle.c_tree.specs.declared.raw.statement.RawStatement.{RawStatement, roll-RawStatement, map-RawStatement}
 use Rattle.c_tree.specs.declared.raw.statement.RawStatement.TheOpen.{RawStatement-F}
 use Rattle.c_tree.specs.declared.raw.statement.RawArm.{RawArm}
-use Rattle.c_language.specs.Scopes.{Scope, Scoped, with_variable, opened, numbered, begun, in_order, after_all, after_block, part_gives, after_part, scope_of_test, scope_of_body}
+use Rattle.c_language.specs.Scopes.{Scope, Scoped, with_variable, opened, numbered, in_order, after_all, after_block, part_gives, after_part, scope_of_test, scope_of_body}
 use Rattle.c_language.specs.Phrases.{Stand, InBlock, InArm, InFor, Part, Declares, Begins, Assigns, Bumps, Calls, Allocates, Tests, Switches, Returns, Phrases, phrase, begun_phrases, joined_at, at_stand, ArmText, labels_of, phrases_of_arms, scoped_step, scoped_arm, scoped, scoped_of_arm}
 use Rattle.c_language.specs.ProgramOf.{declared_by}
+use Rattle.c_language.proofs.ScopeNumbers.{begun_variables}
 use Rattle.c_language.proofs.ScopedForms.{scoped-Declare, scoped-Call, scoped-Heap, scoped-If, scoped-While, scoped-Do, scoped-For, scoped-Switch, scoped-Block, scoped_of_arm-arm}
 use Rattle.c_language.proofs.Options.{none_there}
 use Rattle.c_language.proofs.Tests.{false_true}
@@ -26,11 +27,6 @@ use Rattle.c_scope_laws.proofs.VariableLists.{VarsStay, no_vars, both_vars, more
 
 abbrev Statements : Type 0
 Statements = Scoped (Stand → Phrases)
-
-begun_variables : (i : RawInit) (z : Scope) → (begun i z).variables ≡ z.variables
-begun_variables init.None z = refl
-begun_variables (init.One a) z = refl
-begun_variables (init.Items all) z = refl
 
 module _ (k : Kept) (raw other : RawProgram) (texts : TextsAgree k raw other) (g : ℕ → ℕ) (here there_ : ℕ) (mine yours : Option ℕ) (own : yours ≡ option_map g mine) where
   abbrev Comes : Scope → Scope → Type 0

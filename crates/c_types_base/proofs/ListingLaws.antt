@@ -1,6 +1,6 @@
 -- What is listed of members, parameters and items grows one by one.
 use Rattle.std.proofs.Common.{◌≡◌, ℕ, suc, ◌+◌, ◌<◌, List, [], ◌∷◌, ◌++◌, length, take, drop, get_or, Bool, true, false, cond, Option, Some, None, option_map, find, slice_get, option_and_then, bytes_eq, is_some, refl, sym, ap, ◌∙◌, true≢false, arith}
-use Rattle.std.specs.Prelude.{◌||◌, if◌then◌else◌}
+use Rattle.std.specs.Prelude.{◌||◌}
 use Rattle.std.specs.List.{list_any}
 use Rattle.std.specs.Map.{update}
 use Rattle.std.proofs.lemmas.List.{take-append-drop, take_more, length-append}
@@ -16,10 +16,11 @@ use Rattle.c_language.specs.Words.{Bytes}
 use Rattle.c_language.specs.DeclaredTypes.{structs_of, written_type}
 use Rattle.c_language.specs.ExprTypes.{member_named}
 use Rattle.c_language.specs.Phrases.{after_body, after_item, InBlock}
-use Rattle.c_language.specs.Scopes.{Scope, with_entry, with_function, entered, scope_of_parameters, meaning_here, Meaning}
+use Rattle.c_language.specs.Scopes.{Scope, with_function, entered, scope_of_parameters}
 use Rattle.c_language.specs.declared.expr_type.ExprType.{ExprType}
 use Rattle.c_language.proofs.Lists.{position-cons}
 use Rattle.c_language.proofs.PhraseLists.{body_after}
+use Rattle.c_language.proofs.ScopeNumbers.{through_function}
 use Rattle.c_types_base.specs.Names.{listed_type}
 use Rattle.c_types_base.specs.Numbering.{number_among}
 use Rattle.c_types_base.specs.declared.names.StructMembers.{StructMembers}
@@ -114,20 +115,12 @@ all_given [] name = refl
 all_given (p ∷ ps) name = one_given p.name (names_given ps) name ∙ ap (λ b. has_name name p.name || b) (all_given ps name)
 
 -- what an item adds to the struct types that are complete, and to where names are declared
-with_function_structs : (found : Bool) (name : Bytes) (scope : Scope) → (if found then scope else with_entry name Meaning.Function scope).structs ≡ scope.structs
-with_function_structs true name scope = refl
-with_function_structs false name scope = refl
-
-with_function_outer : (found : Bool) (name : Bytes) (scope : Scope) → (if found then scope else with_entry name Meaning.Function scope).outer ≡ scope.outer
-with_function_outer true name scope = refl
-with_function_outer false name scope = refl
-
 module _ (raw : RawProgram) (scope : Scope) where
   function_structs : (name : Bytes) → (with_function name scope).structs ≡ scope.structs
-  function_structs name = with_function_structs (is_some (meaning_here scope name)) name scope
+  function_structs name = through_function (λ (x : Scope). x.structs) name scope refl
 
   pub function_outer : (name : Bytes) → (with_function name scope).outer ≡ scope.outer
-  function_outer name = with_function_outer (is_some (meaning_here scope name)) name scope
+  function_outer name = through_function (λ (x : Scope). x.outer) name scope refl
 
   body_structs : (head : RawHead) (body : List RawStatement) → (after_body raw body (entered raw head scope)).structs ≡ scope.structs
   body_structs head body =

@@ -1,6 +1,6 @@
 -- Members, parameters and items as stretches of a text, one after another.
-use Rattle.std.proofs.Common.{◌≡◌, ℕ, ◌+◌, ◌<◌, List, [], ◌∷◌, ◌++◌, length, take, drop, get_or, Bool, true, false, Some, option_and_then, is_some, slice_get, refl, sym, ap, subst, ◌∙◌, append_assoc}
-use Rattle.std.specs.Prelude.{vec_len, if◌then◌else◌}
+use Rattle.std.proofs.Common.{◌≡◌, ℕ, ◌+◌, ◌<◌, List, [], ◌∷◌, ◌++◌, length, take, drop, get_or, true, Some, option_and_then, is_some, slice_get, refl, sym, ap, subst, ◌∙◌, append_assoc}
+use Rattle.std.specs.Prelude.{vec_len}
 use Rattle.std.proofs.lemmas.List.{take_more}
 use Rattle.c_tree.specs.declared.raw.program.RawHead.{RawHead}
 use Rattle.c_tree.specs.declared.raw.program.RawItem.{RawItem}
@@ -13,9 +13,10 @@ use Rattle.c_language.specs.Words.{Bytes}
 use Rattle.c_language.specs.DeclaredTypes.{StructText, defined_structs, written_type}
 use Rattle.c_language.specs.ExprTypes.{member_named}
 use Rattle.c_language.specs.Phrases.{InBlock, HasMember, DeclaresFunction, Takes, EndsFunction, Phrases, phrase, head_phrases, body_phrases, item_phrases, after_item, member_phrases, taken_phrases}
-use Rattle.c_language.specs.Scopes.{Scope, Meaning, meaning_here, opened, closed, with_entry, with_function, with_parameters, scope_of_parameters, entered}
+use Rattle.c_language.specs.Scopes.{Scope, opened, closed, with_function, with_parameters, scope_of_parameters, entered}
 use Rattle.c_language.proofs.Turns.{drop_turn}
 use Rattle.c_language.proofs.PhraseLists.{body_in_order, body_after}
+use Rattle.c_language.proofs.ScopeNumbers.{through_function}
 use Rattle.c_types_base.specs.Tables.{Lists}
 use Rattle.c_types_base.specs.declared.names.StructMembers.{StructMembers}
 use Rattle.c_types_base.specs.declared.tables.Tables.{Tables}
@@ -79,17 +80,15 @@ inside_grows raw head body x =
     let y = with_parameters raw head.params x in
     then_extends x y ((of_statements InBlock body raw).after y) (parameters_grow raw head.params x) (statements_grow raw InBlock body y)
 
--- the definition of a function
-pub functions_same : (found : Bool) (name : Bytes) (scope : Scope) → (if found then scope else with_entry name Meaning.Function scope).functions ≡ scope.functions
-functions_same true name scope = refl
-functions_same false name scope = refl
+-- the parameters of a definition begin where the function is entered, behind its name
+pub begins_at : (head : RawHead) (scope : Scope) → inside_function (with_function head.name scope) ≡ scope_of_parameters head scope
+begins_at head scope =
+    ap (λ (n : ℕ). record (opened (with_function head.name scope)) { owner = Some n; functions = n + 1 }) (through_function (λ (x : Scope). x.functions) head.name scope refl)
 
+-- the definition of a function
 module _ (raw : RawProgram) (line : ℕ) (head : RawHead) (body : List RawStatement) (scope : Scope) where
   abbrev declared : Scope
   declared = with_function head.name scope
-
-  enters_same : inside_function declared ≡ scope_of_parameters head scope
-  enters_same = ap (λ (n : ℕ). record (opened declared) { owner = Some n; functions = n + 1 }) (functions_same (is_some (meaning_here scope head.name)) head.name scope)
 
   abbrev pub inside : Phrases
   inside = (of_function head body raw).gives declared
@@ -102,7 +101,7 @@ module _ (raw : RawProgram) (line : ℕ) (head : RawHead) (body : List RawStatem
 
   inside_is : inside ≡ head_phrases raw head.params (scope_of_parameters head scope) ++ body_phrases raw body (entered raw head scope)
   inside_is =
-      ap (of_inside head body raw).gives enters_same
+      ap (of_inside head body raw).gives (begins_at head scope)
       ∙ ap (λ ps. head_phrases raw head.params (scope_of_parameters head scope) ++ ps) (sym (body_in_order raw body (entered raw head scope)))
 
   pub define_phrases : begin_phrase ++ (inside ++ end_phrase) ≡ item_phrases raw (Define line head body) scope
@@ -111,4 +110,4 @@ module _ (raw : RawProgram) (line : ℕ) (head : RawHead) (body : List RawStatem
       ∙ ap (λ ps. begin_phrase ++ ps) (append_assoc (head_phrases raw head.params (scope_of_parameters head scope)) (body_phrases raw body (entered raw head scope)) end_phrase)
 
   pub define_after : (of_function head body raw).after declared ≡ after_item raw (Define line head body) scope
-  define_after = ap (closed declared) (ap (of_inside head body raw).after enters_same ∙ sym (body_after raw body (entered raw head scope)))
+  define_after = ap (closed declared) (ap (of_inside head body raw).after (begins_at head scope) ∙ sym (body_after raw body (entered raw head scope)))

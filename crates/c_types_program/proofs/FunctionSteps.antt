@@ -1,6 +1,5 @@
 -- What the walk does at the definition of a function, step by step.
 use Rattle.std.proofs.Common.{◌≡◌, ℕ, ◌+◌, ◌<◌, ◌≤◌, List, [], ◌∷◌, ◌++◌, length, drop, get_or, map, true, false, Option, Some, None, append-nil, refl, sym, ap, subst, ◌∙◌}
-use Rattle.std.specs.Prelude.{is_some}
 use Rattle.std.proofs.lemmas.List.{drop_all}
 use Rattle.c_tree.specs.declared.program.Function.{Function}
 use Rattle.c_tree.specs.declared.raw.program.RawInit.TheVariants as init
@@ -15,14 +14,14 @@ use Rattle.c_language.specs.ConstantEvaluation.{both}
 use Rattle.c_language.specs.DeclaredTypes.{type_with}
 use Rattle.c_language.specs.Phrases.{InHead, InBlock, DeclaresFunction, EndsFunction, Declares, Phrases, phrase, joined_at, scoped, parameter_phrases, head_phrases, item_phrases}
 use Rattle.c_language.specs.ProgramOf.{collected, ctype_with, ctype_if, treed, body_of, parameter_ids, variables_in}
-use Rattle.c_language.specs.Scopes.{Scope, Meaning, meaning_in, meaning_here, with_entry, with_function, with_named, with_parameters, parameter_of, scope_of_parameters, entered, opened, in_order, after_all}
+use Rattle.c_language.specs.Scopes.{Scope, Meaning, meaning_in, with_entry, with_function, with_named, with_parameters, parameter_of, entered, in_order, after_all}
 use Rattle.c_language.specs.Words.{Bytes}
 use Rattle.c_language.proofs.PhraseLists.{variables-append}
 use Rattle.c_language.proofs.TreeScopes.{list_after}
 use Rattle.c_types_base.specs.Tables.{scope_of, AreRight, IsAt}
 use Rattle.c_types_base.proofs.ScopeLaws.{Extends, then_extends, front}
 use Rattle.c_types_base.specs.Stretches.{Stretch, then_comes, nothing, of_parameter, of_parameters, of_function, of_item, inside_function}
-use Rattle.c_types_base.proofs.TextSteps.{parameters_here, define_phrases, define_after, functions_same}
+use Rattle.c_types_base.proofs.TextSteps.{parameters_here, define_phrases, define_after, begins_at}
 use Rattle.c_types_base.proofs.Stretching.{parameters_grow, statements_grow}
 use Rattle.c_types_program.specs.declared.walk.Walk.{Walk}
 use Rattle.c_types_program.specs.KeptPhrases.{HasNoLengthIf, IsKept, IsKeptHead}
@@ -135,11 +134,6 @@ module _ (w : Walk) (right : AreRight w.tables) (head : RawHead) (body : List Ra
           }
 
 -- ---- a definition
-
--- the parameters begin where the function is entered, behind its name
-begins_at : (head : RawHead) (scope : Scope) → inside_function (with_function head.name scope) ≡ scope_of_parameters head scope
-begins_at head scope =
-    ap (λ (n : ℕ). record (opened (with_function head.name scope)) { owner = Some n; functions = n + 1 }) (functions_same (is_some (meaning_here scope head.name)) head.name scope)
 
 module _ (w : Walk) (right : AreRight w.tables) (line : ℕ) (head : RawHead) (body : List RawStatement) where
   abbrev source : RawProgram

@@ -1,6 +1,6 @@
 -- Where the declarations keep their rules, each name that is in scope has a type, and so has each member of a struct type.
 use Rattle.std.proofs.Common.{ℕ, zero, suc, List, [], ◌∷◌, ◌++◌, Bool, true, false, Option, Some, None}
-use Rattle.std.specs.Prelude.{option_map, option_and_then, is_some, bytes_eq, slice_get, if◌then◌else◌, cond}
+use Rattle.std.specs.Prelude.{option_map, option_and_then, bytes_eq, slice_get, cond}
 use Rattle.std.specs.List.{find}
 use Rattle.c_tree.specs.declared.raw.expr.RawType.{RawType}
 use Rattle.c_tree.specs.declared.raw.expr.RawVar.{RawVar}
@@ -11,8 +11,9 @@ use Rattle.c_language.specs.Words.{Bytes}
 use Rattle.c_language.specs.DeclaredTypes.{StructText, defined_structs, type_with, variable_type}
 use Rattle.c_language.specs.ExprTypes.{member_named, member_of}
 use Rattle.c_language.specs.ProgramOf.{ctype_with}
-use Rattle.c_language.specs.Scopes.{Scope, Entry, Meaning, found_in, meaning_in, meaning_here, with_entry, with_variable, with_function}
+use Rattle.c_language.specs.Scopes.{Scope, Entry, Meaning, found_in, meaning_in, with_variable, with_function}
 use Rattle.c_language.proofs.Options.{IsThere}
+use Rattle.c_language.proofs.ScopeNumbers.{function_declared}
 
 -- ---- names
 
@@ -55,12 +56,9 @@ pub typed_variable : (raw : RawProgram) (var : RawVar) (i : RawInit) (scope : Sc
     → IsTyped (with_variable raw var i scope)
 typed_variable raw var i scope h k = typed_more scope.names (record { name = var.name; meaning = Meaning.Variable scope.variables (variable_type raw var i) }) h k
 
-typed_either : (b : Bool) (name : Bytes) (scope : Scope) → IsTyped scope → IsTyped (if b then scope else with_entry name Meaning.Function scope)
-typed_either true name scope h = h
-typed_either false name scope h = typed_more scope.names (record { name = name; meaning = Meaning.Function }) h tt
-
 pub typed_function : (name : Bytes) (scope : Scope) → IsTyped scope → IsTyped (with_function name scope)
-typed_function name scope h = typed_either (is_some (meaning_here scope name)) name scope h
+typed_function name scope h =
+    function_declared IsTyped name scope h (typed_more scope.names (record { name = name; meaning = Meaning.Function }) h tt)
 
 -- ---- members
 

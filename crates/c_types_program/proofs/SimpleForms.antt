@@ -32,6 +32,7 @@ use Rattle.c_language.specs.Rules.{shadowing}
 use Rattle.c_language.specs.Uses.{expressions, target_exprs, arg_exprs, counts}
 use Rattle.c_language.specs.declared.expr_type.Operand.{Operand}
 use Rattle.c_language.proofs.TreedForms.{treed-Declare, treed-Assign, treed-Bump, treed-Call, treed-Heap, treed-Return}
+use Rattle.c_language.proofs.ScopeNumbers.{target_statements}
 use Rattle.c_language.proofs.ScopedForms.{scoped-Declare, scoped-Assign, scoped-Bump, scoped-Call, scoped-Heap, scoped-Return}
 use Rattle.c_language.proofs.Options.{IsThere}
 use Rattle.c_language.proofs.Lists.{contains_first}
@@ -191,11 +192,6 @@ module _ (w : Walk) (right : AreRight w.tables) (l : ℕ) where
 
 -- ---- targets
 
-same_statements : (raw : RawProgram) (to : RawTarget) (scope : Scope) → (with_target raw to scope).statements ≡ scope.statements
-same_statements raw target.None scope = refl
-same_statements raw (target.Place a) scope = refl
-same_statements raw (target.Declared var) scope = refl
-
 -- a place that a phrase stores in is an operand
 target_meant : (t : Tables) → AreRight t → (to : RawTarget) (part : Part) → IsKept t.raw.now (with_target t.raw.now to (scope_of t)) part
     → ((a : RawExpr) → Contains (target_exprs to) a → Contains (expressions part) a) → IsMeantTarget t.raw.now (scope_of t) to
@@ -253,7 +249,7 @@ module _ (w : Walk) (right : AreRight w.tables) (l : ℕ) (to : RawTarget) where
       call_right = stands_at.right
 
       pub call_follows : (n : ℕ) → n ≡ w.tables.statements + 1 → n ≡ v.tables.statements + 1
-      call_follows n is = is ∙ ap (λ k. k + 1) (sym (ap (λ (x : Scope). x.statements) stands_at.place ∙ same_statements raw_at to place))
+      call_follows n is = is ∙ ap (λ k. k + 1) (sym (ap (λ (x : Scope). x.statements) stands_at.place ∙ target_statements raw_at to place))
 
       pub call_kept : Fits w (s.Call l to f args) → IsKeptCall v.tables.raw.now (scope_of v.tables) f args
       call_kept h = given (λ r x. IsKeptCall r x f args) stands_at (record { stand = h.stand; to = to; kept = (call_parts h).1.0.kept })
@@ -293,7 +289,7 @@ module _ (w : Walk) (right : AreRight w.tables) (l : ℕ) (to : RawTarget) where
       heap_right = stands_there.right
 
       pub heap_follows : (k : ℕ) → k ≡ w.tables.statements + 1 → k ≡ v.tables.statements + 1
-      heap_follows k is = is ∙ ap (λ m. m + 1) (sym (ap (λ (x : Scope). x.statements) stands_there.place ∙ same_statements raw_at to place))
+      heap_follows k is = is ∙ ap (λ m. m + 1) (sym (ap (λ (x : Scope). x.statements) stands_there.place ∙ target_statements raw_at to place))
 
       pub heap_kept : Fits w (s.Heap l to cast n) → IsKeptAllocation v.tables.raw.now (scope_of v.tables) cast n
       heap_kept h =

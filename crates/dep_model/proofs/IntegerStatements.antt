@@ -7,17 +7,11 @@ use Rattle.c_tree.specs.declared.statement.Statement.{Statement, ind-Statement, 
 use Rattle.c_tree.specs.declared.statement.Statement.TheOpen.{Statement-F, Arm-F}
 use Rattle.c_tree.specs.declared.statement.Arm.{Arm, roll-Arm, map-Arm, fold-roll-Arm, fold-Arm}
 use Rattle.built_forms.specs.IntegerForms.{is_integer, integer_label, all_true, statement_step, arm_step, is_integer_statement}
+use Rattle.c_language.proofs.Lists.{all_append}
 use Rattle.dep_model.specs.Doings.{Doing, joined, doing_step, doing_arm, doings, body_doings}
 use Rattle.dep_model.proofs.BoolLemmas.{both_true}
+use Rattle.dep_model.proofs.DoingForms.{arm_doings}
 use Rattle.dep_model.proofs.IntegerActs.{is_integer_doing, all_integer}
-
-all_append : (ds es : List Doing) → all_integer ds ≡ true → all_integer es ≡ true → all_integer (ds ++ es) ≡ true
-all_append [] es h k = k
-all_append (d ∷ ds) es h k =
-    let w = and_parts (is_integer_doing d) (all_integer ds) h in both_true w.0 (all_append ds es w.1 k)
-
-abbrev arm_doings : Arm → List Doing
-arm_doings = fold-Arm (List Doing) (List Doing) doing_step doing_arm
 
 abbrev is_integer_arm : Arm → Bool
 is_integer_arm = fold-Arm Bool Bool statement_step arm_step
@@ -47,13 +41,13 @@ each : (b : List Known) → all_true (map is_integer_statement (fsts b)) ≡ tru
 each [] h = refl
 each (x ∷ b) h =
     let w = and_parts (is_integer_statement x.0) (all_true (map is_integer_statement (fsts b))) h in
-    all_append (doings x.0) (joined (map doings (fsts b))) (x.1 w.0) (each b w.1)
+    all_append is_integer_doing (doings x.0) (joined (map doings (fsts b))) (x.1 w.0) (each b w.1)
 
 each_arm : (b : List KnownArm) → all_true (map is_integer_arm (map (λ (a : KnownArm). a.0) b)) ≡ true → all_integer (joined (map arm_doings (map (λ (a : KnownArm). a.0) b))) ≡ true
 each_arm [] h = refl
 each_arm (x ∷ b) h =
     let w = and_parts (is_integer_arm x.0) (all_true (map is_integer_arm (map (λ (a : KnownArm). a.0) b))) h in
-    all_append (arm_doings x.0) (joined (map arm_doings (map (λ (a : KnownArm). a.0) b))) (x.1 w.0) (each_arm b w.1)
+    all_append is_integer_doing (arm_doings x.0) (joined (map arm_doings (map (λ (a : KnownArm). a.0) b))) (x.1 w.0) (each_arm b w.1)
 
 abbrev is_layer : Statement-F Statement Arm → Bool
 is_layer y = statement_step (map-Statement Statement Arm Bool Bool is_integer_statement is_integer_arm y)
@@ -78,7 +72,7 @@ of_layer (Statement-F.Release id l e) h = absurd (false≢true h)
 of_layer (Statement-F.If id l e a b) h =
     let w = and_parts (is_integer e) (all_true (map is_integer_statement (fsts a)) && all_true (map is_integer_statement (fsts b))) h in
     let v = and_parts (all_true (map is_integer_statement (fsts a))) (all_true (map is_integer_statement (fsts b))) w.1 in
-    both_true w.0 (all_append (joined (map doings (fsts a))) (joined (map doings (fsts b))) (each a v.0) (each b v.1))
+    both_true w.0 (all_append is_integer_doing (joined (map doings (fsts a))) (joined (map doings (fsts b))) (each a v.0) (each b v.1))
 of_layer (Statement-F.While id l e b) h =
     let w = and_parts (is_integer e) (all_true (map is_integer_statement (fsts b))) h in both_true w.0 (each b w.1)
 of_layer (Statement-F.Do id l e b) h =
@@ -88,16 +82,16 @@ of_layer (Statement-F.For id l None e None b) h =
 of_layer (Statement-F.For id l None e (Some s) b) h =
     let w = and_parts (is_integer e) (is_integer_statement s.0 && all_true (map is_integer_statement (fsts b))) h in
     let v = and_parts (is_integer_statement s.0) (all_true (map is_integer_statement (fsts b))) w.1 in
-    both_true w.0 (all_append (doings s.0) (joined (map doings (fsts b))) (s.1 v.0) (each b v.1))
+    both_true w.0 (all_append is_integer_doing (doings s.0) (joined (map doings (fsts b))) (s.1 v.0) (each b v.1))
 of_layer (Statement-F.For id l (Some i) e None b) h =
     let u = and_parts (is_integer_statement i.0) (is_integer e && all_true (map is_integer_statement (fsts b))) h in
     let w = and_parts (is_integer e) (all_true (map is_integer_statement (fsts b))) u.1 in
-    both_true w.0 (all_append (doings i.0) (joined (map doings (fsts b))) (i.1 u.0) (each b w.1))
+    both_true w.0 (all_append is_integer_doing (doings i.0) (joined (map doings (fsts b))) (i.1 u.0) (each b w.1))
 of_layer (Statement-F.For id l (Some i) e (Some s) b) h =
     let u = and_parts (is_integer_statement i.0) (is_integer e && (is_integer_statement s.0 && all_true (map is_integer_statement (fsts b)))) h in
     let w = and_parts (is_integer e) (is_integer_statement s.0 && all_true (map is_integer_statement (fsts b))) u.1 in
     let v = and_parts (is_integer_statement s.0) (all_true (map is_integer_statement (fsts b))) w.1 in
-    both_true w.0 (all_append (doings i.0) (doings s.0 ++ joined (map doings (fsts b))) (i.1 u.0) (all_append (doings s.0) (joined (map doings (fsts b))) (s.1 v.0) (each b v.1)))
+    both_true w.0 (all_append is_integer_doing (doings i.0) (doings s.0 ++ joined (map doings (fsts b))) (i.1 u.0) (all_append is_integer_doing (doings s.0) (joined (map doings (fsts b))) (s.1 v.0) (each b v.1)))
 of_layer (Statement-F.Switch id l e arms) h =
     let w = and_parts (is_integer e) (all_true (map is_integer_arm (map (λ (a : KnownArm). a.0) arms))) h in both_true w.0 (each_arm arms w.1)
 of_layer (Statement-F.Block l b) h = each b h
@@ -123,4 +117,4 @@ pub body_integer : (b : List Statement) → list_all is_integer_statement b ≡ 
 body_integer [] h = refl
 body_integer (x ∷ b) h =
     let w = and_parts (is_integer_statement x) (list_all is_integer_statement b) h in
-    all_append (doings x) (body_doings b) (integer_doings x w.0) (body_integer b w.1)
+    all_append is_integer_doing (doings x) (body_doings b) (integer_doings x w.0) (body_integer b w.1)

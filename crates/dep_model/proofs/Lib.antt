@@ -25,6 +25,7 @@ pub mod PlainFlow
 pub mod PlainOrder
 pub mod PlainSteps
 pub mod RowLemmas
+pub mod StartDoings
 pub mod SwitchLaws
 pub mod SwitchLemmas
 pub mod TextNumbers

@@ -1,6 +1,7 @@
 -- The statements of a text are numbered in the order in which they stand, a test before what it decides.
-use Rattle.std.proofs.Common.{◌≡◌, ℕ, zero, suc, ◌+◌, List, [], ◌∷◌, ◌++◌, map, Bool, true, false, Option, Some, None, option_map, option_and_then, refl, sym, ap, subst, ◌∙◌, arith}
-use Rattle.std.specs.Prelude.{if◌then◌else◌, bytes_eq, codes}
+use Rattle.std.proofs.Common.{◌≡◌, ℕ, zero, suc, ◌+◌, List, [], ◌∷◌, ◌++◌, map, Option, Some, None, option_map, option_and_then, refl, sym, ap, subst, ◌∙◌, arith}
+use Rattle.std.specs.Prelude.{bytes_eq, codes}
+use Rattle.std.proofs.lemmas.List.{map-append}
 use Rattle.c_arith.specs.declared.int_type.IntType.{IntType}
 use Rattle.c_tree.specs.declared.types.CType.{CType}
 use Rattle.c_tree.specs.declared.expr.Expr.{Expr}
@@ -13,7 +14,6 @@ use Rattle.c_tree.specs.declared.raw.statement.RawArm.{RawArm, fold-RawArm, roll
 use Rattle.c_tree.specs.declared.raw.statement.RawStatement.{RawStatement, ind-RawStatement, roll-RawStatement, map-RawStatement, fold-roll-RawStatement}
 use Rattle.c_tree.specs.declared.raw.statement.RawStatement.TheOpen.{RawStatement-F, RawArm-F}
 use Rattle.c_tree.specs.declared.raw.statement.RawTarget.{RawTarget}
-use Rattle.c_tree.specs.declared.raw.statement.RawTarget.TheVariants as target
 use Rattle.c_tree.specs.declared.statement.Amount.{Amount}
 use Rattle.c_tree.specs.declared.statement.Arm.{Arm}
 use Rattle.c_tree.specs.declared.statement.Statement.{Statement}
@@ -28,7 +28,8 @@ use Rattle.c_language.specs.ProgramOf.{collected, optional, ctype_if, expr_of, i
 use Rattle.c_language.specs.Scopes.{Scope, Scoped, opened, numbered, with_variable, with_target, begun, in_order, after_all, after_block}
 use Rattle.c_language.specs.TypeGrammar.{named_type}
 use Rattle.c_language.proofs.Options.{none_there, some_same, map_some}
-use Rattle.built_forms.proofs.Options.{then_some, both_some, Always, always_map, always_then, always_both, always_is, collected_some}
+use Rattle.c_language.proofs.ScopeNumbers.{target_statements, begun_statements}
+use Rattle.built_forms.proofs.Options.{then_some, both_some, Always, always_map, always_then, always_both, always_if, always_is, collected_some}
 use Rattle.dep_model.specs.Doings.{Doing, Does, doings, body_doings}
 use Rattle.dep_model.specs.MainVertices.{from}
 use Rattle.dep_model.specs.NumberedMains.{doing_number}
@@ -44,10 +45,6 @@ pub record Takes (ds : List Doing) (i j : ℕ) : Type 0 where
 pub takes_none : (i : ℕ) → Takes [] i i
 takes_none i = record { count = 0; ends = omega arith; numbers = refl }
 
-map_append : (ds es : List Doing) → map doing_number (ds ++ es) ≡ map doing_number ds ++ map doing_number es
-map_append [] es = refl
-map_append (d ∷ ds) es = ap (λ ks. doing_number d ∷ ks) (map_append ds es)
-
 from_append : (i m n : ℕ) → from i m ++ from (i + m) n ≡ from i (m + n)
 from_append i zero n = let e : i + 0 ≡ i = omega arith in let z : 0 + n ≡ n = omega arith in ap (λ k. from k n) e ∙ ap (from i) (sym z)
 from_append i (suc m) n =
@@ -59,7 +56,7 @@ pub takes_both : (ds es : List Doing) (i j k : ℕ) → Takes ds i j → Takes e
 takes_both ds es i j k a b = record {
   count = a.count + b.count;
   ends = omega (arith, a.ends, b.ends);
-  numbers = map_append ds es ∙ ap (λ ks. ks ++ map doing_number es) a.numbers ∙ ap (λ ks. from i a.count ++ ks) (b.numbers ∙ ap (λ n. from n b.count) a.ends) ∙ from_append i a.count b.count;
+  numbers = map-append doing_number ds es ∙ ap (λ ks. ks ++ map doing_number es) a.numbers ∙ ap (λ ks. from i a.count ++ ks) (b.numbers ∙ ap (λ n. from n b.count) a.ends) ∙ from_append i a.count b.count;
 }
 
 takes_more : (d : Doing) (ds : List Doing) (i k : ℕ) → doing_number d ≡ i → Takes ds (i + 1) k → Takes (d ∷ ds) i k
@@ -80,10 +77,6 @@ IsOne i x = Takes (doings x) i (i + 1)
 
 one_of : (x : Statement) (d : Doing) (i : ℕ) → doings x ≡ d ∷ [] → doing_number d ≡ i → IsOne i x
 one_of x d i is e = subst (λ ds. Takes ds i (i + 1)) (sym is) (takes_one d i e)
-
-always_if : {A : Type 0} (P : A → Type 0) (b : Bool) (o q : Option A) → Always P o → Always P q → Always P (if b then o else q)
-always_if P true o q h k = h
-always_if P false o q h k = k
 
 module _ (raw : RawProgram) where
   -- a statement where it stands takes the numbers up to those after it
@@ -144,11 +137,6 @@ module _ (raw : RawProgram) where
 
   -- ---- calls
 
-  target_statements : (to : RawTarget) (scope : Scope) → (with_target raw to scope).statements ≡ scope.statements
-  target_statements target.None scope = refl
-  target_statements (target.Place e) scope = refl
-  target_statements (target.Declared var) scope = refl
-
   call_one : (scope : Scope) (id l : ℕ) (to : Option Target) (f : Bytes) (args : List RawArg) → Always (IsOne id) (call_tree raw scope id l to f args)
   call_one scope id l to f args =
       always_if (IsOne id) (bytes_eq f (codes "getchar")) _ _ (always_map (IsOne id) (s.Fetch id l) to (λ t. one_of (s.Fetch id l t) _ id (doings-Fetch id l t) refl))
@@ -165,7 +153,7 @@ module _ (raw : RawProgram) where
 
   -- the statement behind a target has the next number
   behind : (to : RawTarget) (scope : Scope) (x : Statement) → IsOne scope.statements x → Takes (doings x) scope.statements ((with_target raw to scope).statements + 1)
-  behind to scope x h = subst (λ n. Takes (doings x) scope.statements (n + 1)) (sym (target_statements to scope)) h
+  behind to scope x h = subst (λ n. Takes (doings x) scope.statements (n + 1)) (sym (target_statements raw to scope)) h
 
   -- ---- forms
 
@@ -173,11 +161,6 @@ module _ (raw : RawProgram) where
   declares scope l x init.None n = subst (λ ds. Takes ds scope.statements scope.statements) (sym (doings-Declare None l x n)) (takes_none scope.statements)
   declares scope l x (init.One a) n = one_of (s.Declare (Some scope.statements) l x n) _ scope.statements (doings-Declare (Some scope.statements) l x n) refl
   declares scope l x (init.Items es) n = one_of (s.Declare (Some scope.statements) l x n) _ scope.statements (doings-Declare (Some scope.statements) l x n) refl
-
-  begun_statements : (i : RawInit) (a b : Scope) → a.statements ≡ b.statements → (begun i a).statements ≡ (begun i b).statements
-  begun_statements init.None a b e = e
-  begun_statements (init.One x) a b e = ap (λ n. n + 1) e
-  begun_statements (init.Items es) a b e = ap (λ n. n + 1) e
 
   for_of : (x : Statement) (id l : ℕ) (i : Option Statement) (e : Expr) (k : Option Statement) (b : List Statement) (m n o : ℕ) → x ≡ s.For id l i e k b → Takes (part_doings i) (id + 1) m → Takes (part_doings k) m n → Takes (body_doings b) n o → Takes (doings x) id o
   for_of x id l i e k b m n o is hi hk hb =

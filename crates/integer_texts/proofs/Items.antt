@@ -1,19 +1,14 @@
 -- The functions of a text, item by item: the numbers of their statements, the variables that they name, and main.
-use Rattle.std.proofs.Common.{◌≡◌, ℕ, suc, ◌+◌, ◌≤◌, List, [], ◌∷◌, ◌++◌, map, length, Bool, true, false, Option, Some, None, refl, sym, ap, subst, ◌∙◌, arith}
-use Rattle.std.specs.Prelude.{if◌then◌else◌, is_some}
+use Rattle.std.proofs.Common.{◌≡◌, ℕ, ◌+◌, ◌≤◌, List, [], ◌∷◌, ◌++◌, map, Bool, true, Option, Some, None, refl, sym, ap, subst, ◌∙◌, arith}
 use Rattle.std.specs.List.{list_all}
 use Rattle.c_arith.specs.declared.int_type.IntType.TheVariants.{Int}
 use Rattle.c_tree.specs.declared.types.CType.{CType}
 use Rattle.c_tree.specs.declared.types.CType.TheVariants as type
 use Rattle.c_tree.specs.declared.program.Function.{Function}
-use Rattle.c_tree.specs.declared.program.Var.{Var}
-use Rattle.c_tree.specs.declared.raw.expr.RawVar.{RawVar}
 use Rattle.c_tree.specs.declared.raw.program.RawHead.{RawHead}
-use Rattle.c_tree.specs.declared.raw.program.RawInit.{RawInit}
 use Rattle.c_tree.specs.declared.raw.program.RawInit.TheVariants as init
 use Rattle.c_tree.specs.declared.raw.program.RawItem.{RawItem}
 use Rattle.c_tree.specs.declared.raw.program.RawItem.TheVariants.{Include, Tag, Struct, Global, Prototype, Define}
-use Rattle.c_tree.specs.declared.raw.program.RawMember.{RawMember}
 use Rattle.c_tree.specs.declared.raw.program.RawParam.{RawParam}
 use Rattle.c_tree.specs.declared.raw.program.RawProgram.{RawProgram}
 use Rattle.c_tree.specs.declared.raw.statement.RawStatement.{RawStatement}
@@ -21,14 +16,17 @@ use Rattle.c_tree.specs.declared.statement.Statement.{Statement}
 use Rattle.c_language.specs.Words.{Bytes}
 use Rattle.c_language.specs.DeclaredTypes.{functions_of}
 use Rattle.c_language.specs.NameRules.{main_name, no_int}
-use Rattle.c_language.specs.Phrases.{Stand, Phrases, InHead, InBlock, phrase, declaration, scoped, body_phrases, after_body, member_phrases, taken_phrases, parameter_phrases, head_phrases, item_phrases, after_item, items_phrases, after_items, EndsFunction}
-use Rattle.c_language.specs.ProgramOf.{collected, ctype_if, treed, body_of, parameter_ids, function_tree, functions_from, variables_in}
+use Rattle.c_language.specs.Phrases.{after_body, item_phrases, after_item, items_phrases, after_items}
+use Rattle.c_language.specs.ProgramOf.{collected, ctype_if, treed, body_of, parameter_ids, function_tree, functions_from}
 use Rattle.c_language.specs.Rules.{main}
-use Rattle.c_language.specs.Scopes.{Scope, Meaning, meaning_here, with_variable, with_entry, with_function, after_all, parameter_of, with_named, with_parameter, with_parameters, scope_of_parameters, entered}
+use Rattle.c_language.specs.Scopes.{Scope, Meaning, with_function, after_all, parameter_of, with_named, with_parameter, with_parameters, scope_of_parameters, entered}
+use Rattle.c_language.proofs.Lists.{all_append}
 use Rattle.c_language.proofs.Options.{some_same}
 use Rattle.c_language.proofs.TreeScopes.{list_after}
-use Rattle.c_print_laws.proofs.Scoping.{count_append, begun_count, statement_scoped}
-use Rattle.c_print_laws.proofs.Numbering.{entered_statements}
+use Rattle.c_language.proofs.PhraseLists.{body_after}
+use Rattle.c_language.proofs.ScopeNumbers.{function_declared, through_function, function_variables, entered_statements}
+use Rattle.c_print_laws.proofs.Scoping.{declared_count, count_append}
+use Rattle.c_print_laws.proofs.Numbers.{item_variables}
 use Rattle.built_forms.proofs.Kept.{AreKept, kept_second}
 use Rattle.built_forms.proofs.Options.{both_some, collected_some}
 use Rattle.built_forms.proofs.Terms.{AreLow}
@@ -36,7 +34,7 @@ use Rattle.built_forms.proofs.MainHeads.{int_result, int_tree}
 use Rattle.dep_model.specs.Doings.{Doing, body_doings}
 use Rattle.dep_model.specs.NumberedMains.{doing_below}
 use Rattle.dep_model.proofs.TextNumbers.{Takes, takes_none, takes_both, body_takes}
-use Rattle.integer_texts.proofs.NamesInScope.{low_more, low_push, all_append, Grows, same_grows, then_grows, variable_grows, body_below, body_grows}
+use Rattle.integer_texts.proofs.NamesInScope.{low_more, low_push, Grows, same_grows, then_grows, variable_grows, body_below, body_grows}
 
 -- the statements of functions, one function after another
 abbrev pub all_doings : List Function → List Doing
@@ -44,34 +42,13 @@ all_doings [] = []
 all_doings (f ∷ fs) = body_doings f.body ++ all_doings fs
 
 module _ (raw : RawProgram) where
-  abbrev count : Phrases → ℕ
-  count ps = length (variables_in raw ps)
-
   -- ---- scopes
-
-  function_statements : (name : Bytes) (scope : Scope) → (with_function name scope).statements ≡ scope.statements
-  function_statements name scope = by_test (is_some (meaning_here scope name))
-    where
-      by_test : (b : Bool) → (if b then scope else with_entry name Meaning.Function scope).statements ≡ scope.statements
-      by_test true = refl
-      by_test false = refl
-
-  function_variables : (name : Bytes) (scope : Scope) → (with_function name scope).variables ≡ scope.variables
-  function_variables name scope = by_test (is_some (meaning_here scope name))
-    where
-      by_test : (b : Bool) → (if b then scope else with_entry name Meaning.Function scope).variables ≡ scope.variables
-      by_test true = refl
-      by_test false = refl
 
   function_grows : (name : Bytes) → Grows raw (with_function name)
   function_grows name = record {
     more = λ scope. let e = function_variables name scope in omega (arith, e);
-    low = λ scope h. by_test scope h (is_some (meaning_here scope name));
+    low = λ scope h. function_declared (λ (z : Scope). AreLow z.variables z.names) name scope h (low_push scope.variables scope.names (record { name = name; meaning = Meaning.Function }) h tt);
   }
-    where
-      by_test : (scope : Scope) → AreLow scope.variables scope.names → (b : Bool) → AreLow (if b then scope else with_entry name Meaning.Function scope).variables (if b then scope else with_entry name Meaning.Function scope).names
-      by_test scope h true = h
-      by_test scope h false = low_push scope.variables scope.names (record { name = name; meaning = Meaning.Function }) h tt
 
   named_grows : (q : RawParam) (name : Option Bytes) → Grows raw (with_named raw q name)
   named_grows q None = same_grows raw
@@ -90,72 +67,15 @@ module _ (raw : RawProgram) where
   entered_grows : (head : RawHead) → Grows raw (entered raw head)
   entered_grows head = then_grows raw (scope_of_parameters head) (with_parameters raw head.params) (head_grows head) (parameters_grow head.params)
 
-  after_scoped : (b : List RawStatement) (scope : Scope) → after_all (map (scoped raw) b) scope ≡ after_body raw b scope
-  after_scoped [] scope = refl
-  after_scoped (x ∷ b) scope = after_scoped b ((scoped raw x).after scope)
-
   after_trees : (b : List RawStatement) (scope : Scope) → after_all (map (treed raw) b) scope ≡ after_body raw b scope
-  after_trees b scope = list_after raw b scope ∙ after_scoped b scope
+  after_trees b scope = list_after raw b scope ∙ sym (body_after raw b scope)
 
   -- ---- variables that are declared
 
-  declared_one : (l : ℕ) (scope : Scope) (stand : Stand) (var : RawVar) (i : RawInit) → count (declaration raw l scope stand var i) ≡ 1
-  declared_one l scope stand var i = ap (λ (vs : List (Option Var)). suc (length vs)) (begun_count raw l (with_variable raw var i scope) stand var i)
-
-  members_none : (scope : Scope) (before ms : List RawMember) → count (member_phrases scope before ms) ≡ 0
-  members_none scope before [] = refl
-  members_none scope before (x ∷ ms) = members_none scope (before ++ x ∷ []) ms
-
-  taken_none : (scope : Scope) (before ps : List RawParam) → count (taken_phrases scope before ps) ≡ 0
-  taken_none scope before [] = refl
-  taken_none scope before (q ∷ ps) = taken_none scope (before ++ q ∷ []) ps
-
-  parameter_count : (q : RawParam) (name : Option Bytes) (scope : Scope) → scope.variables + count (parameter_phrases raw q name scope) ≡ (with_named raw q name scope).variables
-  parameter_count q None scope = omega arith
-  parameter_count q (Some x) scope =
-      let e = declared_one q.line scope InHead (parameter_of q x) init.None in
-      ap (λ n. scope.variables + n) e
-
-  head_count : (ps : List RawParam) (scope : Scope) → scope.variables + count (head_phrases raw ps scope) ≡ (with_parameters raw ps scope).variables
-  head_count [] scope = omega arith
-  head_count (q ∷ ps) scope =
-      let a = parameter_count q q.name scope in
-      let b = head_count ps (with_parameter raw q scope) in
-      let c = count_append raw (parameter_phrases raw q q.name scope) (head_phrases raw ps (with_parameter raw q scope)) in
-      omega (arith, a, b, c)
-
-  body_count : (b : List RawStatement) (scope : Scope) → scope.variables + count (body_phrases raw b scope) ≡ (after_body raw b scope).variables
-  body_count [] scope = omega arith
-  body_count (x ∷ b) scope =
-      let a = (statement_scoped raw x).counts scope InBlock in
-      let c = body_count b ((scoped raw x).after scope) in
-      let d = count_append raw ((scoped raw x).gives scope InBlock) (body_phrases raw b ((scoped raw x).after scope)) in
-      omega (arith, a, c, d)
-
-  item_count_is : (x : RawItem) (scope : Scope) → scope.variables + count (item_phrases raw x scope) ≡ (after_item raw x scope).variables
-  item_count_is (Include b) scope = omega arith
-  item_count_is (Tag line tag) scope = omega arith
-  item_count_is (Struct line tag members) scope = let e = members_none scope [] members in omega (arith, e)
-  item_count_is (Global line var i is_static) scope = ap (λ n. scope.variables + n) (declared_one line scope (Stand.InFile is_static) var i)
-  item_count_is (Prototype line head) scope =
-      let e = taken_none scope [] head.params in
-      let v = function_variables head.name scope in
-      omega (arith, e, v)
-  item_count_is (Define line head body) scope =
-      let start = scope_of_parameters head scope in
-      let inside = entered raw head scope in
-      let ends = phrase line scope (EndsFunction head body) ∷ [] in
-      let a = head_count head.params start in
-      let b = body_count body inside in
-      let c = count_append raw (head_phrases raw head.params start) (body_phrases raw body inside ++ ends) in
-      let d = count_append raw (body_phrases raw body inside) ends in
-      let v : start.variables ≡ scope.variables = function_variables head.name scope in
-      omega (arith, a, b, c, d, v)
-
-  pub items_count : (xs : List RawItem) (scope : Scope) → scope.variables + count (items_phrases raw xs scope) ≡ (after_items raw xs scope).variables
+  pub items_count : (xs : List RawItem) (scope : Scope) → scope.variables + declared_count raw (items_phrases raw xs scope) ≡ (after_items raw xs scope).variables
   items_count [] scope = omega arith
   items_count (x ∷ xs) scope =
-      let a = item_count_is x scope in
+      let a = item_variables raw x scope in
       let b = items_count xs (after_item raw x scope) in
       let c = count_append raw (item_phrases raw x scope) (items_phrases raw xs (after_item raw x scope)) in
       omega (arith, a, b, c)
@@ -187,7 +107,7 @@ module _ (raw : RawProgram) where
   items_take (Struct line tag members ∷ xs) scope fs e = items_take xs (after_item raw (Struct line tag members) scope) fs e
   items_take (Global line var i is_static ∷ xs) scope fs e = items_take xs (after_item raw (Global line var i is_static) scope) fs e
   items_take (Prototype line head ∷ xs) scope fs e =
-      same_takes (all_doings fs) scope.statements (with_function head.name scope).statements _ (function_statements head.name scope) (items_take xs (with_function head.name scope) fs e)
+      same_takes (all_doings fs) scope.statements (with_function head.name scope).statements _ (through_function (λ (z : Scope). z.statements) head.name scope refl) (items_take xs (with_function head.name scope) fs e)
   items_take (Define line head body ∷ xs) scope fs e =
       let after = after_item raw (Define line head body) scope in
       let g = collected_some (function_tree raw line head body scope) (functions_from raw xs after) fs e in

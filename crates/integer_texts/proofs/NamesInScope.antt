@@ -1,8 +1,7 @@
 -- The statements of a text name variables that were declared before their end.
-use Rattle.std.proofs.Common.{◌≡◌, ℕ, ◌+◌, ◌<◌, ◌≤◌, List, [], ◌∷◌, ◌++◌, map, Bool, true, false, ◌&&◌, Option, Some, None, option_map, option_and_then, refl, sym, ap, subst, ◌∙◌, arith, lt-ltb}
-use Rattle.std.specs.Prelude.{if◌then◌else◌, bytes_eq, codes}
+use Rattle.std.proofs.Common.{◌≡◌, ℕ, ◌+◌, ◌<◌, ◌≤◌, List, [], ◌∷◌, ◌++◌, map, Bool, true, ◌&&◌, Option, Some, None, option_map, option_and_then, refl, sym, ap, subst, ◌∙◌, arith, lt-ltb}
+use Rattle.std.specs.Prelude.{bytes_eq, codes}
 use Rattle.std.specs.List.{list_all}
-use Rattle.std.proofs.lemmas.Bool.{and_parts}
 use Rattle.c_arith.specs.declared.int_type.IntType.{IntType}
 use Rattle.c_tree.specs.declared.types.CType.{CType}
 use Rattle.c_tree.specs.declared.expr.Expr.{Expr}
@@ -35,9 +34,10 @@ use Rattle.c_language.specs.ProgramOf.{collected, optional, ctype_if, expr_of, e
 use Rattle.c_language.specs.Scopes.{Entry, Scope, Meaning, Scoped, opened, closed, numbered, with_variable, with_target, begun, in_order, after_all, after_block}
 use Rattle.c_language.specs.TypeGrammar.{named_type}
 use Rattle.c_language.proofs.TreedForms.{treed_arm}
+use Rattle.c_language.proofs.Lists.{all_append}
 use Rattle.c_language.proofs.Options.{none_there, some_same, map_some}
 use Rattle.built_forms.specs.NamesBelow.{names_below}
-use Rattle.built_forms.proofs.Options.{then_some, both_some, Always, always_is, collected_some}
+use Rattle.built_forms.proofs.Options.{then_some, both_some, Always, always_if, always_is, collected_some}
 use Rattle.dep_model.specs.Doings.{Doing, Does, doings, body_doings}
 use Rattle.dep_model.specs.NumberedMains.{value_below, init_below, target_below, amount_below, doing_below}
 use Rattle.dep_model.proofs.BoolLemmas.{both_true}
@@ -78,19 +78,10 @@ always_any : {A : Type 0} (o : Option A) → Always (λ (x : A). Unit {0}) o
 always_any None = tt
 always_any (Some x) = tt
 
-if_from : {A : Type 0} (P : A → Type 0) (b : Bool) (o q : Option A) → Always P o → Always P q → Always P (if b then o else q)
-if_from P true o q h k = h
-if_from P false o q h k = k
-
 -- each of some values passes a test
 all_from : {A B : Type 0} (q : B → Bool) (f : A → Option B) (xs : List A) → ((x : A) → Always (λ y. q y ≡ true) (f x)) → Always (λ ys. list_all q ys ≡ true) (collected (map f xs))
 all_from q f [] h = refl
 all_from q f (x ∷ xs) h = then_from (λ y. q y ≡ true) (λ ys. list_all q ys ≡ true) (λ y. option_map (λ ys. y ∷ ys) (collected (map f xs))) (f x) (h x) (λ y k. map_from (λ ys. list_all q ys ≡ true) (λ ys. list_all q ys ≡ true) (λ ys. y ∷ ys) (collected (map f xs)) (all_from q f xs h) (λ ys r. both_true k r))
-
-pub all_append : (q : Doing → Bool) (ds es : List Doing) → list_all q ds ≡ true → list_all q es ≡ true → list_all q (ds ++ es) ≡ true
-all_append q [] es h k = k
-all_append q (d ∷ ds) es h k =
-    let w = and_parts (q d) (list_all q ds) h in both_true w.0 (all_append q ds es w.1 k)
 
 one : {b : Bool} → b ≡ true → (b && true) ≡ true
 one {b} h = ap (λ x. x && true) h
@@ -288,10 +279,10 @@ module _ (raw : RawProgram) where
       let le_out : scope.variables ≤ m = (let g = (target_grows to).more scope in omega (arith, g, le)) in
       let t_low = target_low scope low m le_out to le in
       let P : Statement → Type 0 = IsBelow m in
-      if_from P (bytes_eq f (codes "getchar")) _ _ (map_from (λ t. target_below m t ≡ true) P (s.Fetch id l) (target_tree raw scope to) t_low (λ t h. acts (s.Fetch id l t) _ m (doings-Fetch id l t) h))
-      (if_from P (bytes_eq f (codes "putchar")) _ _ (map_from (λ e. names_below m e ≡ true) P (s.Write id l) (only_tree raw inner args) (only_low inner low_in m le args) (λ e h. acts (s.Write id l e) _ m (doings-Write id l e) h))
-      (if_from P (bytes_eq f (codes "printf")) _ _ (then_from (λ text. Unit {0}) P _ (format_in args) (always_any (format_in args)) (λ text h. map_from (λ es. list_all (names_below m) es ≡ true) P (s.Print id l text) (args_tree raw inner (later_args args)) (args_low inner low_in m le (later_args args)) (λ es k. acts (s.Print id l text es) _ m (doings-Print id l text es) k)))
-      (if_from P (bytes_eq f (codes "free")) _ _ (map_from (λ e. names_below m e ≡ true) P (s.Release id l) (only_tree raw inner args) (only_low inner low_in m le args) (λ e h. acts (s.Release id l e) _ m (doings-Release id l e) h))
+      always_if P (bytes_eq f (codes "getchar")) _ _ (map_from (λ t. target_below m t ≡ true) P (s.Fetch id l) (target_tree raw scope to) t_low (λ t h. acts (s.Fetch id l t) _ m (doings-Fetch id l t) h))
+      (always_if P (bytes_eq f (codes "putchar")) _ _ (map_from (λ e. names_below m e ≡ true) P (s.Write id l) (only_tree raw inner args) (only_low inner low_in m le args) (λ e h. acts (s.Write id l e) _ m (doings-Write id l e) h))
+      (always_if P (bytes_eq f (codes "printf")) _ _ (then_from (λ text. Unit {0}) P _ (format_in args) (always_any (format_in args)) (λ text h. map_from (λ es. list_all (names_below m) es ≡ true) P (s.Print id l text) (args_tree raw inner (later_args args)) (args_low inner low_in m le (later_args args)) (λ es k. acts (s.Print id l text es) _ m (doings-Print id l text es) k)))
+      (always_if P (bytes_eq f (codes "free")) _ _ (map_from (λ e. names_below m e ≡ true) P (s.Release id l) (only_tree raw inner args) (only_low inner low_in m le args) (λ e h. acts (s.Release id l e) _ m (doings-Release id l e) h))
       (then_from (λ t. target_below m t ≡ true) P _ (target_tree raw scope to) t_low (λ t h. both_from (λ g. Unit {0}) (λ es. list_all (names_below m) es ≡ true) P (s.Invoke id l t) (function_id raw f) (args_tree raw inner args) (always_any (function_id raw f)) (args_low inner low_in m le args) (λ g es u k. acts (s.Invoke id l t g es) _ m (doings-Invoke id l t g es) (both_true h k)))))))
 
   heap_low : (scope : Scope) (to : RawTarget) (id l m : ℕ) (c : Option (Option CType)) (n : RawAmount) → AreLow scope.variables scope.names → (with_target raw to scope).variables ≤ m

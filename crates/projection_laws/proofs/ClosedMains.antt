@@ -34,13 +34,14 @@ use Rattle.c_language.specs.ProgramOf.{ctype_step, ctype_with, ctype_if, init_of
 use Rattle.c_language.proofs.Options.{some_same}
 use Rattle.c_language.proofs.Tests.{false_true}
 use Rattle.c_language.proofs.Lists.{same_names}
+use Rattle.c_language.proofs.PhraseLists.{body_in_order}
 use Rattle.projection.specs.Kept.{Kept}
 use Rattle.projection.specs.Names.{either, refers, body_refers}
 use Rattle.built_forms.specs.IntegerForms.{IsPlainItem, all_true, is_integer_statement, IsIntegerLocal}
 use Rattle.c_scope_laws.specs.ThinTexts.{ParamStays, ParamsStay}
 use Rattle.c_scope_laws.specs.ThinnedBodies.{AreMet, body_left}
 use Rattle.c_scope_laws.specs.ThinnedTexts.{FunctionStays, ItemsAreClosed, IsClosed}
-use Rattle.c_scope_laws.proofs.ItemWalking.{body_joined, nil_cons}
+use Rattle.c_scope_laws.proofs.ItemWalking.{nil_cons}
 use Rattle.c_print_laws.proofs.Definitions.{program_parts}
 use Rattle.c_print_laws.proofs.ForParts.{are_tidy, AreTidy}
 use Rattle.projection_laws.specs.Nested.{all_fit, nest, is_nested}
@@ -184,7 +185,7 @@ module _ (raw : RawProgram) where
         let none = ap (λ (u : Function). u.params) m.same ∙ fine.params in
         let scope_is : entered raw head outset ≡ start = entered_alone head.params start outset.variables none in
         let are = all_derived raw body start InBlock zs (ap (body_of raw body) (sym scope_is) ∙ m.second_there) (list_true is_integer_statement zs (ap (list_all is_integer_statement) (sym body_is) ∙ fine.integers)) tidy
-        (subst (AreGood raw) (ap (body_phrases raw body) scope_is ∙ sym (body_joined raw body start)) good) (tt, tt) in
+        (subst (AreGood raw) (ap (body_phrases raw body) scope_is ∙ body_in_order raw body start) good) (tt, tt) in
         let spans : Spans Any start = record { names = (tt, tt); fresh = λ id h. tt } in
         let met = all_meet raw vars keeps are spans (fit_all zs (ap (list_all (is_nested keeps)) (sym body_is) ∙ fine.nested))
         (λ id h. fine.kept id (ap (λ (xs : List Statement). body_refers keeps xs id) body_is ∙ sym (either_all zs id) ∙ h))
