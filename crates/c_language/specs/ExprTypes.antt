@@ -13,6 +13,7 @@ use Rattle.c_tree.specs.declared.raw.expr.RawExpr.{RawExpr, fold-RawExpr}
 use Rattle.c_tree.specs.declared.raw.expr.RawExpr.TheOpen.{RawExpr-F}
 use Rattle.c_tree.specs.declared.raw.program.RawMember.{RawMember}
 use Rattle.c_tree.specs.declared.raw.program.RawProgram.{RawProgram}
+use Rattle.c_language.specs.Lists.{same_all}
 use Rattle.c_language.specs.Words.{Bytes}
 use Rattle.c_language.specs.ConstantEvaluation.{literal_type, operand_type, both}
 use Rattle.c_language.specs.DeclaredTypes.{StructText, defined_structs, written_type, integer, pointer_to, void}
@@ -47,14 +48,8 @@ same_layer Pointer Pointer = true
 same_layer (Array m) (Array n) = m == n
 same_layer _ _ = false
 
-abbrev pub same_layers : List Layer → List Layer → Bool
-same_layers [] [] = true
-same_layers [] (m ∷ ms) = false
-same_layers (l ∷ ls) [] = false
-same_layers (l ∷ ls) (m ∷ ms) = same_layer l m && same_layers ls ms
-
 abbrev pub same_type : ExprType → ExprType → Bool
-same_type s t = same_layers s.layers t.layers && same_base s.base t.base
+same_type s t = same_all same_layer s.layers t.layers && same_base s.base t.base
 
 abbrev pub value_layers : List Layer → List Layer
 value_layers [] = []

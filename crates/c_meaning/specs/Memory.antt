@@ -1,5 +1,6 @@
 -- Memory: blocks, with what was written in their cells (ISO C99 6.2.4, 6.5.6).
-use Rattle.std.specs.Prelude.{ℕ, zero, suc, ◌==◌, List, [], ◌∷◌, ◌++◌, Bool, true, false, ◌&&◌, if◌then◌else◌, Option, Some, None, option_and_then, slice_get}
+use Rattle.std.specs.Prelude.{ℕ, zero, suc, ◌==◌, List, [], ◌∷◌, ◌++◌, Bool, true, false, if◌then◌else◌, Option, Some, None, option_and_then, slice_get}
+use Rattle.c_language.specs.Lists.{same_all}
 use Rattle.c_language.specs.declared.expr_type.ExprType.{ExprType}
 use Rattle.c_meaning.specs.declared.value.Hop.{Hop}
 use Rattle.c_meaning.specs.declared.value.Hop.TheVariants as hop
@@ -32,16 +33,10 @@ same_hop (hop.Member i) (hop.Member j) = i == j
 same_hop (hop.Element i) (hop.Element j) = i == j
 same_hop _ _ = false
 
-abbrev pub same_path : List Hop → List Hop → Bool
-same_path [] [] = true
-same_path [] (h ∷ hs) = false
-same_path (g ∷ gs) [] = false
-same_path (g ∷ gs) (h ∷ hs) = same_hop g h && same_path gs hs
-
 -- what the cell at a path holds
 abbrev pub held : List Cell → List Hop → Option Value
 held [] path = None
-held (c ∷ cs) path = if same_path c.path path then Some c.value else held cs path
+held (c ∷ cs) path = if same_all same_hop c.path path then Some c.value else held cs path
 
 abbrev pub read_block : Block → List Hop → Option Value
 read_block b path = if b.is_live then held b.cells path else None

@@ -380,6 +380,7 @@ pub fn is_assignment_sign(text: &[u8]) -> bool
     is_early_assignment_sign(text) || is_late_assignment_sign(text)
 }
 
+/// Whether a mark is `++` or `--`.
 pub fn is_bump_sign(text: &[u8]) -> bool
     ensures { result ≡ grammar.is_bump_sign text.now }
 {

@@ -11,7 +11,8 @@ use Rattle.c_tree.specs.declared.statement.Statement.{Statement, out-Statement, 
 use Rattle.c_tree.specs.declared.statement.Statement.TheViews.{roll-Statement, roll-out-Statement}
 use Rattle.c_tree.specs.declared.statement.Statement.TheOpen.{Statement-F}
 use Rattle.c_tree.specs.declared.statement.Statement.TheVariants as s
-use Rattle.c_tree.specs.Numbered.{Starts, own_id, layer_start, Start}
+use Rattle.c_tree.specs.declared.numbered.Start.{Start}
+use Rattle.c_tree.specs.Numbered.{Starts, own_id, layer_start}
 use Rattle.std.proofs.lemmas.Bool.{eqb-true}
 use Rattle.std.specs.Option.{option_map_or}
 use Rattle.c_tree.specs.declared.program.Program.{Program}

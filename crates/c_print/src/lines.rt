@@ -31,8 +31,8 @@ fn note(lines: &mut [u32], first: StatementId, id: StatementId, line: u32)
 fn own(lines: &mut [u32], first: StatementId, line: u32, statement: &Statement)
     ensures { lines.new ≡ kept first (own_starts (own_id statement.now) line) lines.old }
 {
-    if let Some((id, _)) = own_start(statement) {
-        note(lines, first, id, line);
+    if let Some(start) = own_start(statement) {
+        note(lines, first, start.id, line);
     }
 }
 

@@ -12,9 +12,10 @@ use Rattle.c_tree.specs.declared.raw.expr.RawType.TheOpen.{RawType-F}
 use Rattle.c_tree.specs.declared.raw.expr.RawType.TheVariants as type
 use Rattle.c_tree.specs.declared.raw.program.RawProgram.{RawProgram}
 use Rattle.c_tree.proofs.RawTrees.{TypeParts, type_layer, of_every_type}
+use Rattle.c_language.specs.Lists.{same_all}
 use Rattle.c_language.specs.Words.{Bytes, int_words, name_of_struct, base_words, stars, declared, type_words, spaced_stars}
 use Rattle.c_language.specs.DeclaredTypes.{struct_id, length_in, of_base, with_layer, integer, pointer_to, type_step, written_type}
-use Rattle.c_language.specs.ExprTypes.{same_int, same_base, same_layers, same_type}
+use Rattle.c_language.specs.ExprTypes.{same_int, same_base, same_layer, same_type}
 use Rattle.c_language.specs.NameRules.{agree}
 use Rattle.c_language.specs.Uses.{tags_in}
 use Rattle.c_language.specs.ProgramOf.{ctype_step, ctype}
@@ -110,14 +111,14 @@ base_of p (base.Integer i) = int_words i
 base_of p (base.Struct k) = codes "struct " ++ name_of_struct p k
 base_of p base.Void = []
 
-same_stars : (ls ms : List Layer) → same_layers ls ms ≡ true → stars_of ls ≡ stars_of ms
+same_stars : (ls ms : List Layer) → same_all same_layer ls ms ≡ true → stars_of ls ≡ stars_of ms
 same_stars [] [] h = refl
 same_stars [] (m ∷ ms) h = false_true h
 same_stars (l ∷ ls) [] h = false_true h
 same_stars (Pointer ∷ ls) (Pointer ∷ ms) h = ap (λ (w : Bytes). 42 ∷ w) (same_stars ls ms h)
 same_stars (Pointer ∷ ls) (Array n ∷ ms) h = false_true h
 same_stars (Array n ∷ ls) (Pointer ∷ ms) h = false_true h
-same_stars (Array m ∷ ls) (Array n ∷ ms) h = same_stars ls ms (and_parts _ (same_layers ls ms) h).1
+same_stars (Array m ∷ ls) (Array n ∷ ms) h = same_stars ls ms (and_parts _ (same_all same_layer ls ms) h).1
 
 same_base_words : (p : Program) (a b : Base) → same_base a b ≡ true → base_of p a ≡ base_of p b
 same_base_words p (base.Integer i) (base.Integer j) h = same_int_words i j h
@@ -236,7 +237,7 @@ module _ (raw : RawProgram) (p : Program) (named : IsNamed raw p) where
   pub agreed : (a b : RawType) → IsTyped a → IsTyped b → agree (written_type raw a) (written_type raw b) ≡ true → SameWords a b
   agreed a b ha hb h =
       let k : same_type ha.type hb.type ≡ true = ap₂ agree (sym ha.written) (sym hb.written) ∙ h in
-      let each = and_parts (same_layers ha.type.layers hb.type.layers) (same_base ha.type.base hb.type.base) k in
+      let each = and_parts (same_all same_layer ha.type.layers hb.type.layers) (same_base ha.type.base hb.type.base) k in
       let x = has_words a ha.type ha.written in
       let y = has_words b hb.type hb.written in
       record {

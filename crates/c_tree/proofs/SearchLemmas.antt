@@ -10,7 +10,8 @@ use Rattle.c_tree.specs.declared.program.Function.{Function}
 use Rattle.c_tree.specs.declared.program.Program.{Program}
 use Rattle.c_tree.specs.declared.expr.Expr.{Expr}
 use Rattle.c_tree.specs.declared.statement.Arm.{Arm, out-Arm}
-use Rattle.c_tree.specs.Numbered.{Start, Starts, start, starts, body_starts, inner, arms_inner, own_id, own_start, StandsIn, Lacks, function_starts, program_starts, IsNumbered, HasNumber, IsWellNumbered}
+use Rattle.c_tree.specs.declared.numbered.Start.{Start}
+use Rattle.c_tree.specs.Numbered.{Starts, start, starts, body_starts, inner, arms_inner, own_id, own_start, StandsIn, Lacks, function_starts, program_starts, IsNumbered, HasNumber, IsWellNumbered}
 use Rattle.c_tree.specs.Numbered.StandsIn.{here, inside, later}
 use Rattle.c_tree.specs.Search.{IsFound, IsFree, Finds}
 use Rattle.c_tree.proofs.LayerLemmas.{body_starts-append, starts-inner, inner-If, inner-For}

@@ -1,16 +1,12 @@
 -- The numbered statements of a program, with their lines.
 use Rattle.std.specs.Prelude.{◌≡◌, ◌≢◌, ◌<◌, ◌↔◌, ℕ, List, [], ◌∷◌, ◌++◌, Option, Some, None, All, Contains}
 use Rattle.std.specs.Option.{option_map, option_to_list}
+use Rattle.c_tree.specs.declared.numbered.Start.{Start}
 use Rattle.c_tree.specs.declared.program.Program.{Program}
 use Rattle.c_tree.specs.declared.program.Function.{Function}
 use Rattle.c_tree.specs.declared.statement.Statement.{Statement, fold-Statement, out-Statement}
 use Rattle.c_tree.specs.declared.statement.Statement.TheOpen.{Statement-F, Arm-F}
 use Rattle.c_tree.specs.declared.statement.Arm.{Arm, out-Arm}
-
--- a numbered statement and the line of its first token
-pub record Start : Type 0 where
-  pub id : ℕ
-  pub line : ℕ
 
 abbrev pub Starts : Type 0
 Starts = List Start

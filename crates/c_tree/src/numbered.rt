@@ -1,8 +1,8 @@
 //! Statements by their numbers.
 
 ghost use Rattle.std.specs.Prelude.{◌≡◌, ◌≤◌, ◌↔◌, [], ◌∷◌, IsTrue, IsNone, MatchOption};
-ghost use Rattle.std.specs.Option.{option_map, option_to_list};
-ghost use Rattle.c_tree.specs.Numbered.{Start, own_start, own_id, program_starts, Lacks, IsNumbered, IsWellNumbered, inner, arms_inner};
+ghost use Rattle.std.specs.Option.{option_to_list};
+ghost use Rattle.c_tree.specs.Numbered.{own_start, own_id, program_starts, Lacks, IsNumbered, IsWellNumbered, inner, arms_inner};
 ghost use Rattle.c_tree.specs.Search.{Finds};
 
 use crate::program::Program;
@@ -10,14 +10,23 @@ use crate::statement::{Arm, Statement};
 use crate::types::StatementId;
 use sqlite_items::Boxed;
 
+/// A numbered statement.
+#[derive(Clone, Copy, Debug, PartialEq, Eq)]
+pub struct Start {
+    /// The statement's number.
+    pub id: StatementId,
+    /// The line of its first token, counted from 1.
+    pub line: u32,
+}
+
 /// The number of a statement and the line of its first token. A bare block and a declaration
 /// without initialiser have none.
-pub fn own_start(s: &Statement) -> Option<(StatementId, u32)>
-    ensures { result ≡ option_map (λ (x : Start). (x.id, x.line)) (own_start s.now) }
+pub fn own_start(statement: &Statement) -> Option<Start>
+    ensures { result ≡ own_start statement.now }
 {
-    match s {
-        Statement::Declare { id, line, .. } => match id {
-            Some(id) => Some((*id, *line)),
+    match statement {
+        Statement::Declare { id, line, .. } => match *id {
+            Some(id) => Some(Start { id, line: *line }),
             None => None,
         },
         Statement::Assign { id, line, .. }
@@ -33,7 +42,10 @@ pub fn own_start(s: &Statement) -> Option<(StatementId, u32)>
         | Statement::Do { id, line, .. }
         | Statement::For { id, line, .. }
         | Statement::Switch { id, line, .. }
-        | Statement::Return { id, line, .. } => Some((*id, *line)),
+        | Statement::Return { id, line, .. } => Some(Start {
+            id: *id,
+            line: *line,
+        }),
         Statement::Block { .. } => None,
     }
 }
@@ -52,11 +64,11 @@ pub fn statement(p: &Program, id: StatementId) -> Option<&Statement>
     None
 }
 
-fn has_id(one: &Statement, id: StatementId) -> bool
-    ensures { IsTrue result ↔ (own_id one.now ≡ Some id) }
+fn has_id(statement: &Statement, id: StatementId) -> bool
+    ensures { IsTrue result ↔ (own_id statement.now ≡ Some id) }
 {
-    match own_start(one) {
-        Some((own, _)) => own == id,
+    match own_start(statement) {
+        Some(own) => own.id == id,
         None => false,
     }
 }
@@ -65,8 +77,8 @@ fn has_id(one: &Statement, id: StatementId) -> bool
 fn among(list: &[Statement], id: StatementId) -> Option<&Statement>
     ensures { Finds id list.now result }
 {
-    for one in list {
-        if let Some(found) = within(one, id) {
+    for statement in list {
+        if let Some(found) = within(statement, id) {
             return Some(found);
         }
     }
@@ -75,20 +87,20 @@ fn among(list: &[Statement], id: StatementId) -> Option<&Statement>
 
 #[cycle(search)]
 #[tactic(auto, using(crate::proofs::SearchLemmas::found_own))]
-fn within(one: &Statement, id: StatementId) -> Option<&Statement>
-    ensures { Finds id (one.now ∷ []) result }
+fn within(statement: &Statement, id: StatementId) -> Option<&Statement>
+    ensures { Finds id (statement.now ∷ []) result }
 {
-    if has_id(one, id) {
-        return Some(one);
+    if has_id(statement, id) {
+        return Some(statement);
     }
-    inside(one, id)
+    inside(statement, id)
 }
 
 #[cycle(search)]
-fn inside(one: &Statement, id: StatementId) -> Option<&Statement>
-    ensures { Finds id (inner one.now) result }
+fn inside(statement: &Statement, id: StatementId) -> Option<&Statement>
+    ensures { Finds id (inner statement.now) result }
 {
-    match one {
+    match statement {
         Statement::If { then, other, .. } => match among(then.as_slice(), id) {
             Some(found) => Some(found),
             None => among(other.as_slice(), id),
@@ -128,7 +140,7 @@ fn in_part(part: &Option<Boxed<Statement>>, id: StatementId) -> Option<&Statemen
 {
     match part {
         None => None,
-        Some(one) => within(one.get(), id),
+        Some(statement) => within(statement.get(), id),
     }
 }
 

@@ -1,6 +1,6 @@
 //! Tests that statements are found by their numbers, and that a copy prints as what it is a copy of.
 use crate::copies::Copies;
-use crate::numbered::{own_start, statement};
+use crate::numbered::{Start, own_start, statement};
 use crate::{
     Amount, Arm, Boxed, CType, Expr, Function, Init, IntType, Item, Items, Label, Member, Program,
     Size, Statement, StructDef, Target, Text, Var,
@@ -171,7 +171,7 @@ fn finds_statements(rt: HostRuntime) -> Result<(), AllocError> {
     for (id, line) in lines.iter().enumerate() {
         let id = id as u32;
         match statement(&program, id) {
-            Some(found) => assert_eq!(rt; own_start(found), Some((id, *line))),
+            Some(found) => assert_eq!(rt; own_start(found), Some(Start { id, line: *line })),
             None => assert!(rt; false, "no statement {id}"),
         }
     }

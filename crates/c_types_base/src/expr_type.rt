@@ -2,6 +2,7 @@
 ghost use Rattle.std.specs.Prelude.{◌≡◌, IfOk, Option, is_some};
 ghost use Rattle.c_language.specs.DeclaredTypes as types;
 ghost use Rattle.c_language.specs.ExprTypes as spec;
+ghost use Rattle.c_language.specs.Lists.{same_all};
 
 use c_arith::IntType;
 use c_language::{Base, ExprType, Layer};
@@ -147,7 +148,7 @@ pub fn value_type(mut t: ExprType) -> ExprType
 
 /// Whether two lists of layers are the same from a place on.
 fn same_layers(s: &[Layer], t: &[Layer]) -> bool
-    ensures { result ≡ spec.same_layers s.now t.now }
+    ensures { result ≡ same_all spec.same_layer s.now t.now }
 {
     let Some((l, ls)) = s.split_first() else {
         return t.is_empty();

@@ -4,7 +4,8 @@ use Rattle.std.proofs.lemmas.List.{map-append}
 use Rattle.c_tree.specs.declared.statement.Statement.{Statement, ind-Statement, roll-Statement, map-Statement, fold-roll-Statement}
 use Rattle.c_tree.specs.declared.statement.Statement.TheOpen.{Statement-F, Arm-F}
 use Rattle.c_tree.specs.declared.statement.Arm.{Arm, roll-Arm, map-Arm, fold-roll-Arm}
-use Rattle.c_tree.specs.Numbered.{Start, Starts, all, starts_step, arm_starts, starts, body_starts}
+use Rattle.c_tree.specs.declared.numbered.Start.{Start}
+use Rattle.c_tree.specs.Numbered.{Starts, all, starts_step, arm_starts, starts, body_starts}
 use Rattle.c_tree.proofs.NumberedLemmas.{starts_of_arm}
 use Rattle.dep_model.specs.Doings.{Doing, joined, doing_step, doing_arm, doings, body_doings}
 use Rattle.dep_model.specs.NumberedMains.{doing_number}

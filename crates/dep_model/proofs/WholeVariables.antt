@@ -1,13 +1,14 @@
 -- Locations of whole variables.
 use Rattle.std.proofs.Common.{◌≡◌, ℕ, ◌==◌, List, [], ◌∷◌, Bool, true, false, ◌&&◌, ◌⊎◌, inl, inr, refl, sym, ◌∙◌, eq-eqb, eqb-true}
 use Rattle.std.proofs.lemmas.Bool.{false≢true}
+use Rattle.c_language.specs.Lists.{same_all}
 use Rattle.dep_model.specs.declared.location.Location.{Location}
 use Rattle.dep_model.specs.declared.location.Part.{Part}
 use Rattle.dep_model.specs.declared.location.Root.{Root}
 use Rattle.dep_model.specs.declared.location.Root.TheVariants.{Input, Variable, Site, Result}
 use Rattle.dep_model.specs.Denoted.{whole}
 use Rattle.dep_model.specs.DoingEffects.{result_of}
-use Rattle.dep_model.specs.Locations.{same_root, same_parts, same_location}
+use Rattle.dep_model.specs.Locations.{same_root, same_part, same_location}
 use Rattle.dep_model.proofs.BoolLemmas.{and_true, and_false}
 use Rattle.dep_model.proofs.PlainEffects.{is_root_of, is_whole, is_variable, is_result_root, is_result}
 
@@ -24,7 +25,7 @@ same_number x y = elim (truth (x == y)) [
   ]
 ]
 
-whole_at : (x : ℕ) (r : Root) (hs : List Part) → (same_root (Variable x) r && same_parts [] hs) ≡ is_whole hs (is_root_of x r)
+whole_at : (x : ℕ) (r : Root) (hs : List Part) → (same_root (Variable x) r && same_all same_part [] hs) ≡ is_whole hs (is_root_of x r)
 whole_at x r (h ∷ hs) = and_false (same_root (Variable x) r)
 whole_at x Input [] = refl
 whole_at x (Variable y) [] = and_true (x == y) ∙ same_number x y
@@ -34,7 +35,7 @@ whole_at x (Result f) [] = refl
 pub whole_is : (x : ℕ) (l : Location) → whole x l ≡ is_variable x l
 whole_is x l = whole_at x l.root l.path
 
-result_at : (r : Root) (hs : List Part) → (same_root (Result 0) r && same_parts [] hs) ≡ is_whole hs (is_result_root r)
+result_at : (r : Root) (hs : List Part) → (same_root (Result 0) r && same_all same_part [] hs) ≡ is_whole hs (is_result_root r)
 result_at r (h ∷ hs) = and_false (same_root (Result 0) r)
 result_at Input [] = refl
 result_at (Variable y) [] = refl

@@ -12,6 +12,7 @@ use Rattle.c_language.specs.declared.expr_type.Base.TheVariants as base
 use Rattle.c_language.specs.declared.expr_type.Layer.{Layer}
 use Rattle.c_language.specs.declared.expr_type.Layer.TheVariants.{Pointer, Array}
 use Rattle.c_language.specs.declared.expr_type.ExprType.{ExprType}
+use Rattle.c_language.specs.Lists.{same_all}
 use Rattle.c_language.specs.Code.{Act, Allocates}
 use Rattle.c_language.specs.DeclaredTypes.{void}
 use Rattle.c_language.specs.TreeTypes.{shape_of, members_of, pointee, variable_type, tree_type}
@@ -136,12 +137,6 @@ same_part (part.Member i) (part.Member j) = i == j
 same_part part.Element part.Element = true
 same_part _ _ = false
 
-abbrev pub same_parts : List Part → List Part → Bool
-same_parts [] [] = true
-same_parts [] (h ∷ hs) = false
-same_parts (g ∷ gs) [] = false
-same_parts (g ∷ gs) (h ∷ hs) = same_part g h && same_parts gs hs
-
 -- whether two locations are one
 abbrev pub same_location : Location → Location → Bool
-same_location l m = same_root l.root m.root && same_parts l.path m.path
+same_location l m = same_root l.root m.root && same_all same_part l.path m.path

@@ -9,6 +9,7 @@ use Rattle.c_tree.specs.declared.expr.Expr.TheOpen.{Expr-F}
 use Rattle.c_tree.specs.declared.program.Init.{Init}
 use Rattle.c_tree.specs.declared.program.Init.TheVariants as init
 use Rattle.c_tree.specs.declared.program.Program.{Program}
+use Rattle.c_language.specs.Lists.{same_all}
 use Rattle.c_language.specs.Code.{Act, Begins, Sets, Bumps, Fetches, Writes, Prints, Allocates, Frees, Returns, Tests}
 use Rattle.built_forms.specs.NamesBelow.{names_below, names_step}
 use Rattle.dep_model.specs.declared.location.Location.{Location}
@@ -20,7 +21,7 @@ use Rattle.dep_model.specs.Denoted.{PointsTo, variable, whole}
 use Rattle.dep_model.specs.Doings.{Doing, Does, Calls, doings_of}
 use Rattle.dep_model.specs.DoingEffects.{result_of}
 use Rattle.dep_model.specs.IntegerEffects.{place_step, variables_set, begun, act_set, gives_result, any_whole}
-use Rattle.dep_model.specs.Locations.{Placed, locations, same_root, same_parts, same_location}
+use Rattle.dep_model.specs.Locations.{Placed, locations, same_root, same_part, same_location}
 use Rattle.dep_model.specs.MainLocations.{main_locations, main_result}
 use Rattle.dep_model.specs.MainVertices.{vertices}
 use Rattle.dep_model.specs.NumberedMains.{init_below, act_below, doing_below, IsNumberedMain}
@@ -97,7 +98,7 @@ module _ (n : ℕ) where
 
 -- ---- locations that are one
 
-no_path : (r s : Root) (hs : List Part) → (same_root r s && same_parts [] hs) ≡ true → hs ≡ []
+no_path : (r s : Root) (hs : List Part) → (same_root r s && same_all same_part [] hs) ≡ true → hs ≡ []
 no_path r s [] h = refl
 no_path r s (g ∷ hs) h = absurd (false≢true (sym (and_false (same_root r s)) ∙ h))
 
@@ -119,11 +120,11 @@ location_is l r e f =
 
 variable_is : (x : ℕ) (l : Location) → whole x l ≡ true → l ≡ variable x
 variable_is x l h =
-    location_is l (Variable x) (variable_root x l.root (same_parts [] l.path) h) (no_path (Variable x) l.root l.path h)
+    location_is l (Variable x) (variable_root x l.root (same_all same_part [] l.path) h) (no_path (Variable x) l.root l.path h)
 
 result_is : (l : Location) → same_location (result_of 0) l ≡ true → l ≡ result_of 0
 result_is l h =
-    location_is l (Result 0) (result_root 0 l.root (same_parts [] l.path) h) (no_path (Result 0) l.root l.path h)
+    location_is l (Result 0) (result_root 0 l.root (same_all same_part [] l.path) h) (no_path (Result 0) l.root l.path h)
 
 -- ---- what is listed
 

@@ -10,7 +10,8 @@ use Rattle.c_tree.specs.declared.statement.Statement.TheViews.{roll-out-Statemen
 use Rattle.c_tree.specs.declared.statement.Statement.TheOpen.{Statement-F, Arm-F}
 use Rattle.c_tree.specs.declared.statement.Statement.TheVariants as s
 use Rattle.c_tree.specs.declared.statement.Target.TheVariants as target
-use Rattle.c_tree.specs.Numbered.{Start, start, layer_start}
+use Rattle.c_tree.specs.declared.numbered.Start.{Start}
+use Rattle.c_tree.specs.Numbered.{start, layer_start}
 use Rattle.c_language.specs.Words.{Bytes, assign_sign, name_of_function, expr_words}
 use Rattle.c_language.specs.Layout.{init_words, var_words, target_words, amount_words, cast_words, call_words, bump_words, return_words, Laid, statement_step, arm_step, laid, statement_words}
 use Rattle.c_language.proofs.Options.{none_there, some_same}

@@ -11,7 +11,8 @@ use Rattle.c_tree.specs.declared.statement.Statement.{Statement, out-Statement, 
 use Rattle.c_tree.specs.declared.statement.Statement.TheViews.{out-roll-Statement}
 use Rattle.c_tree.specs.declared.statement.Statement.TheOpen.{Statement-F}
 use Rattle.c_tree.specs.declared.statement.Statement.TheVariants as s
-use Rattle.c_tree.specs.Numbered.{Start, start, arms_inner, layer_inner, inner, layer_start, own_start, StandsIn, IsNumbered}
+use Rattle.c_tree.specs.declared.numbered.Start.{Start}
+use Rattle.c_tree.specs.Numbered.{start, arms_inner, layer_inner, inner, layer_start, own_start, StandsIn, IsNumbered}
 use Rattle.c_tree.specs.Numbered.StandsIn.{here, inside, later}
 use Rattle.c_tree.proofs.SearchLemmas.{stands_left, stands_right}
 use Rattle.c_tree.proofs.LayerLemmas.{inner-If, inner-While, inner-Do, inner-For, inner-Switch}

@@ -5,7 +5,8 @@ use Rattle.c_tree.specs.declared.program.Program.{Program}
 use Rattle.c_tree.specs.declared.statement.Arm.{Arm}
 use Rattle.c_tree.specs.declared.statement.Statement.{Statement, out-Statement}
 use Rattle.c_tree.specs.declared.statement.Statement.TheOpen.{Statement-F}
-use Rattle.c_tree.specs.Numbered.{Start, own_start, IsNumbered}
+use Rattle.c_tree.specs.declared.numbered.Start.{Start}
+use Rattle.c_tree.specs.Numbered.{own_start, IsNumbered}
 use Rattle.c_language.specs.Words.{Bytes, expr_words}
 use Rattle.c_language.specs.Layout.{statement_words}
 use Rattle.projection.specs.Kept.{rank}

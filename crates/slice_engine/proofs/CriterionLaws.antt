@@ -6,7 +6,8 @@ use Rattle.std.proofs.Common.{get_or-set_other, get_or-set_same}
 use Rattle.bit_rows.specs.Sets.{has}
 use Rattle.bit_rows.proofs.SetLemmas.{has-empty}
 use Rattle.c_tree.specs.declared.program.Program.{Program}
-use Rattle.c_tree.specs.Numbered.{Start, Starts, program_starts}
+use Rattle.c_tree.specs.declared.numbered.Start.{Start}
+use Rattle.c_tree.specs.Numbered.{Starts, program_starts}
 use Rattle.dep_model.specs.MainVertices.{vertices}
 use Rattle.slice_engine.specs.KeptStatements.{is_kept}
 use Rattle.slice_engine.specs.Slice.{IsCriterion}

@@ -3,7 +3,8 @@ use Rattle.std.proofs.Common.{◌≡◌, ℕ, List, [], ◌∷◌, Bool, true, �
 use Rattle.std.specs.List.{list_any}
 use Rattle.std.proofs.lemmas.Bool.{eqb-true, or_left, or_right, or_cases, and_from, and_parts}
 use Rattle.c_tree.specs.declared.program.Program.{Program}
-use Rattle.c_tree.specs.Numbered.{Start, program_starts}
+use Rattle.c_tree.specs.declared.numbered.Start.{Start}
+use Rattle.c_tree.specs.Numbered.{program_starts}
 use Rattle.projection.specs.Kept.{rank}
 use Rattle.projection_meaning.proofs.Bools.{both_or_none}
 use Rattle.projection_meaning.proofs.Ranks.{rank_injective}

@@ -1,15 +1,15 @@
 -- What the calls of an engine ask of each other.
-use Rattle.std.proofs.Common.{◌≡◌, ◌↔◌, ◌⊎◌, ◌||◌, false, refl, ℕ, zero, suc, ◌+◌, ◌<◌, ◌==◌, List, [], ◌∷◌, ◌≤◌, Bool, true, IsTrue, inl, inr, sym, ap, ◌∙◌, subst, arith}
+use Rattle.std.proofs.Common.{◌≡◌, ◌↔◌, ◌⊎◌, false, ℕ, zero, suc, ◌+◌, ◌<◌, ◌==◌, List, [], ◌∷◌, ◌≤◌, Bool, true, IsTrue, inl, inr, sym, ap, ◌∙◌, subst, arith}
 use Rattle.std.specs.Prelude.{All}
 use Rattle.std.specs.List.{list_any}
 use Rattle.std.proofs.lemmas.Bool.{eqb-true, or_cases}
 use Rattle.std.proofs.lemmas.Bool.Decides.{leb_tells}
 use Rattle.std.proofs.lemmas.List.Elements.{All-head, All-tail}
 use Rattle.c_tree.specs.declared.program.Program.{Program}
-use Rattle.c_tree.specs.Numbered.{Start, program_starts}
+use Rattle.c_tree.specs.declared.numbered.Start.{Start}
+use Rattle.c_tree.specs.Numbered.{Starts, program_starts}
 use Rattle.dep_model.specs.declared.edge.Edge.{Edge}
 use Rattle.dep_model.proofs.SwitchLaws.{true_not_false}
-use Rattle.slice_engine.specs.Criterion.{starts_of}
 use Rattle.slice_engine.specs.Engine.{IsPrepared}
 use Rattle.slice_engine.specs.Slice.{HasStart}
 use Rattle.slice_engine.proofs.CriterionLaws.{AreNumbers, some_start, start_some}
@@ -17,18 +17,18 @@ use Rattle.slice_engine.proofs.StartLemmas.{IsSomeLine}
 use Rattle.slice_engine.proofs.StartNumbers.{numbers_are}
 
 -- whether some statement starts on a line
-pub start_decides : (p : Program) (edges : List Edge) (starts : List (ℕ × ℕ)) → IsPrepared p edges starts → (line : ℕ) (b : Bool) → b ≡ list_any (λ (s : Start). s.line == line) (starts_of starts) → IsTrue b ↔ HasStart p line
+pub start_decides : (p : Program) (edges : List Edge) (starts : Starts) → IsPrepared p edges starts → (line : ℕ) (b : Bool) → b ≡ list_any (λ (s : Start). s.line == line) starts → IsTrue b ↔ HasStart p line
 start_decides p edges starts g line b e =
     let here : b ≡ list_any (λ (s : Start). s.line == line) (program_starts p) = e ∙ ap (list_any (λ (s : Start). s.line == line)) g.starts_are in
     (λ t. some_start line (program_starts p) (sym here ∙ t), λ h. here ∙ start_some line (program_starts p) h.0 h.1)
 
-low_starts : (n : ℕ) (starts : List (ℕ × ℕ)) → AreNumbers n (starts_of starts) → All (λ (s : ℕ × ℕ). s.0 + 1 < n + 1) starts
+low_starts : (n : ℕ) (starts : Starts) → AreNumbers n starts → All (λ (s : Start). s.id + 1 < n + 1) starts
 low_starts n [] h k d lt = absurd (omega (arith, lt))
 low_starts n (s ∷ ss) h zero d lt = omega (arith, h.0)
 low_starts n (s ∷ ss) h (suc k) d lt = low_starts n ss h.1 k d (omega (arith, lt))
 
 -- each statement's vertex is one of the program's
-pub starts_below : (p : Program) (edges : List Edge) (starts : List (ℕ × ℕ)) → IsPrepared p edges starts → All (λ (s : ℕ × ℕ). s.0 + 1 < p.statements + 1) starts
+pub starts_below : (p : Program) (edges : List Edge) (starts : Starts) → IsPrepared p edges starts → All (λ (s : Start). s.id + 1 < p.statements + 1) starts
 starts_below p edges starts g =
     low_starts p.statements starts (subst (AreNumbers p.statements) (sym g.starts_are) (numbers_are p g.numbered))
 
@@ -51,23 +51,19 @@ short_enough size b tells small = not_above 4294967296 size b tells.1 small
 -- ---- the last line
 
 -- none of the starts is behind the last line
-pub ends_by : (p : Program) (edges : List Edge) (starts : List (ℕ × ℕ)) → IsPrepared p edges starts → (last : ℕ) → All (λ (s : ℕ × ℕ). s.1 ≤ last) starts → (line : ℕ) → HasStart p line → line ≤ last
+pub ends_by : (p : Program) (edges : List Edge) (starts : Starts) → IsPrepared p edges starts → (last : ℕ) → All (λ (s : Start). s.line ≤ last) starts → (line : ℕ) → HasStart p line → line ≤ last
 ends_by p edges starts g last all line h =
     start_low line last starts all (subst (λ (ss : List Start). list_any (λ (s : Start). s.line == line) ss ≡ true) (sym g.starts_are) (start_some line (program_starts p) h.0 h.1))
   where
-    start_low : (line last : ℕ) (starts : List (ℕ × ℕ)) → All (λ (s : ℕ × ℕ). s.1 ≤ last) starts → list_any (λ (s : Start). s.line == line) (starts_of starts) ≡ true → line ≤ last
+    start_low : (line last : ℕ) (starts : Starts) → All (λ (s : Start). s.line ≤ last) starts → list_any (λ (s : Start). s.line == line) starts ≡ true → line ≤ last
     start_low line last [] all h = cc
-    start_low line last (s ∷ ss) all h = elim (or_cases (s.1 == line) (list_any (λ (x : Start). x.line == line) (starts_of ss)) h) [
-      | inl here ↦ let le = All-head (λ (x : ℕ × ℕ). x.1 ≤ last) s ss all in let is = eqb-true s.1 line here in omega (arith, le, is)
-      | inr later ↦ start_low line last ss (All-tail (λ (x : ℕ × ℕ). x.1 ≤ last) s ss all) later
+    start_low line last (s ∷ ss) all h = elim (or_cases (s.line == line) (list_any (λ (x : Start). x.line == line) ss) h) [
+      | inl here ↦ let le = All-head (λ (x : Start). x.line ≤ last) s ss all in let is = eqb-true s.line line here in omega (arith, le, is)
+      | inr later ↦ start_low line last ss (All-tail (λ (x : Start). x.line ≤ last) s ss all) later
     ]
 
 -- a number that is the line of one of the starts, or 0, is a line on which a statement starts, or 0
-pub ends_on : (p : Program) (edges : List Edge) (starts : List (ℕ × ℕ)) → IsPrepared p edges starts → (last : ℕ) → (last ≡ 0) ⊎ IsSomeLine starts last → (last ≡ 0) ⊎ HasStart p last
+pub ends_on : (p : Program) (edges : List Edge) (starts : Starts) → IsPrepared p edges starts → (last : ℕ) → (last ≡ 0) ⊎ IsSomeLine starts last → (last ≡ 0) ⊎ HasStart p last
 ends_on p edges starts g last (inl none) = inl none
 ends_on p edges starts g last (inr some) =
-    inr (some_start last (program_starts p) (ap (list_any (λ (s : Start). s.line == last)) (sym g.starts_are) ∙ (sym (same_lines starts) ∙ some)))
-  where
-    same_lines : (ss : List (ℕ × ℕ)) → list_any (λ (s : ℕ × ℕ). s.1 == last) ss ≡ list_any (λ (s : Start). s.line == last) (starts_of ss)
-    same_lines [] = refl
-    same_lines (s ∷ ss) = ap (λ b. (s.1 == last) || b) (same_lines ss)
+    inr (some_start last (program_starts p) (ap (list_any (λ (s : Start). s.line == last)) (sym g.starts_are) ∙ some))

@@ -6,7 +6,7 @@ use Rattle.std.proofs.lemmas.List.{get_or_past}
 use mathlib.Core.Path.{fun_ext}
 use Rattle.bit_rows.specs.Sets.{has}
 use Rattle.c_tree.specs.declared.program.Program.{Program}
-use Rattle.c_tree.specs.Numbered.{program_starts}
+use Rattle.c_tree.specs.Numbered.{Starts, program_starts}
 use Rattle.c_language.specs.Words.{Bytes}
 use Rattle.std.proofs.lemmas.List.Sums.{count_by-le-length}
 use Rattle.c_language.specs.Tokens.{is_feed}
@@ -25,7 +25,7 @@ use Rattle.dep_model.specs.declared.edge.Edge.{Edge}
 use Rattle.projection.specs.Kept.{rank}
 use Rattle.projection.specs.Projection.{projection}
 use Rattle.slice_engine.specs.Slice.{starts_on, keeps, sliced, IsCriterion, IsKept, IsLineOf, header, IsSlice, is_criterion, HasSameValues, IsReadAs, IsFaithful}
-use Rattle.slice_engine.specs.Criterion.{starts_of, with_starts, by_rank, shown_lines}
+use Rattle.slice_engine.specs.Criterion.{with_starts, by_rank, shown_lines}
 use Rattle.slice_engine.specs.Engine.{IsPrepared, AreMarks, KeepsFrom, IsSlicedAt}
 use Rattle.slice_engine.proofs.CriterionLaws.{criterion_is, kept_past, empty_long}
 use Rattle.slice_engine.proofs.CriterionLemmas.{length-with_starts}
@@ -52,7 +52,7 @@ marks_keep p x marks long each i = elim (cases_lt i p.statements) [
   | inr ge ↦ get_or_past marks i false (omega (arith, long, ge)) ∙ sym (kept_past p x i ge)
 ]
 
-pub are_marks : (p : Program) (edges : List Edge) (starts : List (ℕ × ℕ)) (line : ℕ) (criterion kept in_criterion marks : List Bool) → IsPrepared p edges starts → criterion ≡ with_starts line (starts_of starts) (replicate (p.statements + 1) false) → KeepsFrom edges criterion kept → length in_criterion ≡ p.statements → ((k : ℕ) → k < p.statements → get_or in_criterion k false ≡ has criterion (k + 1)) → length marks ≡ p.statements → ((k : ℕ) → k < p.statements → get_or marks k false ≡ has kept (k + 1)) → AreMarks p line in_criterion marks
+pub are_marks : (p : Program) (edges : List Edge) (starts : Starts) (line : ℕ) (criterion kept in_criterion marks : List Bool) → IsPrepared p edges starts → criterion ≡ with_starts line starts (replicate (p.statements + 1) false) → KeepsFrom edges criterion kept → length in_criterion ≡ p.statements → ((k : ℕ) → k < p.statements → get_or in_criterion k false ≡ has criterion (k + 1)) → length marks ≡ p.statements → ((k : ℕ) → k < p.statements → get_or marks k false ≡ has kept (k + 1)) → AreMarks p line in_criterion marks
 are_marks p edges starts line criterion kept in_criterion marks g made keeps_from in_criterion_long in_criterion_are marks_long marks_are =
     let same : criterion ≡ with_starts line (program_starts p) (replicate (p.statements + 1) false) = made ∙ ap (λ ss. with_starts line ss (replicate (p.statements + 1) false)) g.starts_are in
     let c : IsCriterion p line criterion = subst (IsCriterion p line) (sym same) (criterion_is p line (numbers_are p g.numbered)) in
@@ -75,8 +75,8 @@ are_marks p edges starts line criterion kept in_criterion marks g made keeps_fro
       marks_are = marks_keep p kept marks marks_long marks_are;
     }
 
-pub criterion_long : (line v : ℕ) (starts : List (ℕ × ℕ)) (x : List Bool) → x ≡ with_starts line (starts_of starts) (replicate v false) → length x ≡ v
-criterion_long line v starts x e = ap length e ∙ length-with_starts line (starts_of starts) (replicate v false) ∙ empty_long v
+pub criterion_long : (line v : ℕ) (starts : Starts) (x : List Bool) → x ≡ with_starts line starts (replicate v false) → length x ≡ v
+criterion_long line v starts x e = ap length e ∙ length-with_starts line starts (replicate v false) ∙ empty_long v
 
 -- ---- the program of the slice
 

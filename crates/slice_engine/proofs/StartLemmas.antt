@@ -13,6 +13,7 @@ use Rattle.c_tree.specs.declared.program.Function.{Function}
 use Rattle.c_tree.specs.declared.statement.Arm.{Arm, out-Arm}
 use Rattle.c_tree.specs.declared.statement.Statement.{Statement}
 use Rattle.c_tree.specs.declared.statement.Statement.TheVariants as s
+use Rattle.c_tree.specs.declared.numbered.Start.{Start}
 use Rattle.c_tree.specs.Numbered.{Starts, own_start, starts, body_starts, function_starts, inner, arms_inner}
 use Rattle.c_tree.proofs.LayerLemmas.{inner-If, inner-For, body_starts-append, starts-inner}
 use Rattle.dep_model.proofs.Grown.{IsEach, grown_two, grown_three}
@@ -39,21 +40,21 @@ for_grown id l i e step b one o p q r is f g h =
     grown_three o p q r _ _ _ _ f g h (ap (λ x. body_starts (inner x)) is ∙ ap body_starts (inner-For id l i e step b) ∙ (body_starts-append (option_to_list i) (option_to_list step ++ b) ∙ ap (λ found. body_starts (option_to_list i) ++ found) (body_starts-append (option_to_list step) b)))
 
 -- one more start, and a line that is as late as it and as those before
-latest_more : (starts : List (ℕ × ℕ)) (i last new : ℕ) (none : ℕ × ℕ) → i < length starts → last ≤ new → (get_or starts i none).1 ≤ new → All (λ (s : ℕ × ℕ). s.1 ≤ last) (take i starts) → All (λ (s : ℕ × ℕ). s.1 ≤ new) (take (i + 1) starts)
+latest_more : (starts : Starts) (i last new : ℕ) (none : Start) → i < length starts → last ≤ new → (get_or starts i none).line ≤ new → All (λ (s : Start). s.line ≤ last) (take i starts) → All (λ (s : Start). s.line ≤ new) (take (i + 1) starts)
 latest_more starts i last new none lt after here before =
-    All-more (λ (s : ℕ × ℕ). s.1 ≤ new) starts i none lt (All-weaker (λ (s : ℕ × ℕ). s.1 ≤ last) (λ (s : ℕ × ℕ). s.1 ≤ new) (λ s le. omega (arith, after, le)) (take i starts) before) here
+    All-more (λ (s : Start). s.line ≤ new) starts i none lt (All-weaker (λ (s : Start). s.line ≤ last) (λ (s : Start). s.line ≤ new) (λ s le. omega (arith, after, le)) (take i starts) before) here
 
 -- some start has this line
-abbrev pub IsSomeLine : List (ℕ × ℕ) → ℕ → Type 0
-IsSomeLine starts line = list_any (λ (s : ℕ × ℕ). s.1 == line) starts ≡ true
+abbrev pub IsSomeLine : Starts → ℕ → Type 0
+IsSomeLine starts line = list_any (λ (s : Start). s.line == line) starts ≡ true
 
 -- the last line of the first `at` starts, 0 where there is none
-pub record IsLatest (starts : List (ℕ × ℕ)) (at last : ℕ) : Type 0 where
-  pub after : All (λ (s : ℕ × ℕ). s.1 ≤ last) (take at starts)
+pub record IsLatest (starts : Starts) (at last : ℕ) : Type 0 where
+  pub after : All (λ (s : Start). s.line ≤ last) (take at starts)
   pub is_one : (last ≡ 0) ⊎ IsSomeLine starts last
 
-pub latest_none : (starts : List (ℕ × ℕ)) → IsLatest starts 0 0
-latest_none starts = record { after = All-nil (λ (s : ℕ × ℕ). s.1 ≤ 0); is_one = inl refl }
+pub latest_none : (starts : Starts) → IsLatest starts 0 0
+latest_none starts = record { after = All-nil (λ (s : Start). s.line ≤ 0); is_one = inl refl }
 
 -- the greater of two numbers is one of them
 greater : (a b new : ℕ) → new ≡ ord_max nat_cmp a b → ((b < a) × (new ≡ a)) ⊎ ((a ≤ b) × (new ≡ b))
@@ -67,17 +68,17 @@ greater a b new is = elim (leb_tells (suc b) a) [
     picked false true = refl
     picked false false = refl
 
-pub latest_next : (starts : List (ℕ × ℕ)) (i last new : ℕ) (none : ℕ × ℕ) → i < length starts → new ≡ ord_max nat_cmp last (get_or starts i none).1 → IsLatest starts i last → IsLatest starts (i + 1) new
-latest_next starts i last new none lt is g = elim (greater last (get_or starts i none).1 new is) [
+pub latest_next : (starts : Starts) (i last new : ℕ) (none : Start) → i < length starts → new ≡ ord_max nat_cmp last (get_or starts i none).line → IsLatest starts i last → IsLatest starts (i + 1) new
+latest_next starts i last new none lt is g = elim (greater last (get_or starts i none).line new is) [
   | inl stays ↦ record {
     after = latest_more starts i last new none lt (omega (arith, stays.1)) (omega (arith, stays.0, stays.1)) g.after;
     is_one = subst (λ n. (n ≡ 0) ⊎ IsSomeLine starts n) (sym stays.1) g.is_one;
   }
   | inr here ↦ record {
     after = latest_more starts i last new none lt (omega (arith, here.0, here.1)) (omega (arith, here.1)) g.after;
-    is_one = inr (list_any_at (λ (s : ℕ × ℕ). s.1 == new) starts i none lt (eq-eqb (get_or starts i none).1 new (sym here.1)));
+    is_one = inr (list_any_at (λ (s : Start). s.line == new) starts i none lt (eq-eqb (get_or starts i none).line new (sym here.1)));
   }
 ]
 
-pub latest_all : (starts : List (ℕ × ℕ)) (i last : ℕ) → length starts ≤ i → IsLatest starts i last → All (λ (s : ℕ × ℕ). s.1 ≤ last) starts
-latest_all starts i last end g = subst (All (λ (s : ℕ × ℕ). s.1 ≤ last)) (take_all i starts end) g.after
+pub latest_all : (starts : Starts) (i last : ℕ) → length starts ≤ i → IsLatest starts i last → All (λ (s : Start). s.line ≤ last) starts
+latest_all starts i last end g = subst (All (λ (s : Start). s.line ≤ last)) (take_all i starts end) g.after

@@ -1,10 +1,6 @@
 -- Sets of statements as lists of tests, as they are found in one pass.
-use Rattle.std.specs.Prelude.{ℕ, suc, ◌+◌, ◌==◌, List, [], ◌∷◌, map, Bool, true, false, slice_set}
-use Rattle.c_tree.specs.Numbered.{Starts, start}
-
--- the starts that pairs of a number and a line stand for
-abbrev pub starts_of : List (ℕ × ℕ) → Starts
-starts_of = map (λ s. start s.0 s.1)
+use Rattle.std.specs.Prelude.{ℕ, suc, ◌+◌, ◌==◌, List, [], ◌∷◌, Bool, true, false, slice_set}
+use Rattle.c_tree.specs.Numbered.{Starts}
 
 abbrev pub marked_if : Bool → ℕ → List Bool → List Bool
 marked_if true v x = slice_set x v true

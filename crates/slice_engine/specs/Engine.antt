@@ -1,14 +1,13 @@
 -- What an engine holds, and what its marks say of a line.
 use Rattle.std.specs.Prelude.{◌≡◌, ℕ, ◌+◌, ◌^◌, ◌<◌, List, Bool, true, false, length, All, slice_index_or}
 use Rattle.c_tree.specs.declared.program.Program.{Program}
-use Rattle.c_tree.specs.Numbered.{program_starts}
+use Rattle.c_tree.specs.Numbered.{Starts, program_starts}
 use Rattle.c_language.specs.Programs.{IsWellFormed}
 use Rattle.dep_model.specs.NumberedMains.{IsNumberedMain}
 use Rattle.dep_model.specs.declared.edge.Edge.{Edge}
 use Rattle.dep_model.specs.SystemGraph.{Analysis, IsAnalysis, AreSystemEdges}
 use Rattle.dep_model.specs.Words.{IsPlain, IsEdgeWithin}
 use Rattle.dep_model.specs.Completion.{IsCompletion, NamesNone}
-use Rattle.slice_engine.specs.Criterion.{starts_of}
 use Rattle.projection.specs.Kept.{rank}
 use Rattle.slice_engine.specs.Slice.{starts_on, keeps, sliced, IsReached, IsKept}
 
@@ -21,12 +20,12 @@ pub record HasEdges (p : Program) (edges : List Edge) : Type 0 where
   pub within : All (IsEdgeWithin (p.statements + 1)) edges
 
 -- a well-formed program of main alone over integers with its edges and its statements' starts, small enough that its vertices have numbers of 32 bits
-pub record IsPrepared (p : Program) (edges : List Edge) (starts : List (ℕ × ℕ)) : Type 0 where
+pub record IsPrepared (p : Program) (edges : List Edge) (starts : Starts) : Type 0 where
   pub well_formed : IsWellFormed p
   pub numbered : IsNumberedMain p
   pub few : p.statements + 1 < 2 ^ 32
   pub has_edges : HasEdges p edges
-  pub starts_are : starts_of starts ≡ program_starts p
+  pub starts_are : starts ≡ program_starts p
 
 -- a set is the completion of what reaches another one
 pub record KeepsFrom (edges : List Edge) (criterion kept : List Bool) : Type 0 where

@@ -2,20 +2,19 @@
 ghost use Rattle.std.specs.Prelude.{◌≡◌, ℕ, ◌+◌, ◌<◌, ◌==◌, ◌++◌, [], All, IfOk, OnOk, length, replicate, false, slice_index_or, vec_len};
 ghost use Rattle.std.specs.List.{list_any};
 ghost use Rattle.bit_rows.specs.Sets.{has};
-ghost use Rattle.c_tree.specs.Numbered.{Start};
+ghost use Rattle.c_tree.specs.declared.numbered.Start.{Start};
 ghost use Rattle.slice_engine.specs.Criterion as spec;
-ghost use Rattle.slice_engine.specs.Criterion.{starts_of};
 
-use crate::starts::Start;
+use c_tree::numbered::Start;
 use dep_model::{VertexId, VertexSet};
 use std::alloc::{AllocError, Global};
 
 /// Whether one of the statements starts on the line.
 pub(crate) fn any_starts_on(starts: &[Start], line: u32) -> bool
-    ensures { result ≡ list_any (λ (s : Start). s.line == line) (starts_of starts.now) }
+    ensures { result ≡ list_any (λ (s : Start). s.line == line) starts.now }
 {
-    for (_, at) in starts {
-        if *at == line {
+    for start in starts {
+        if start.line == line {
             return true;
         }
     }
@@ -29,12 +28,12 @@ pub(crate) fn criterion_set(
     line: u32,
     vertices: u32,
 ) -> Result<VertexSet, AllocError>
-    requires below { All (λ (s : ℕ × ℕ). s.0 + 1 < vertices) starts.now }
-    ensures { IfOk result (λ x. x ≡ spec.with_starts line (starts_of starts.now) (replicate vertices false)) }
+    requires below { All (λ (s : Start). s.id + 1 < vertices) starts.now }
+    ensures { IfOk result (λ x. x ≡ spec.with_starts line starts.now (replicate vertices false)) }
 {
     let mut set = VertexSet::new(alloc, vertices)?;
-    for (id, at) in starts {
-        add_if(*at == line, *id + 1, &mut set);
+    for start in starts {
+        add_if(start.line == line, start.id + 1, &mut set);
     }
     Ok(set)
 }

@@ -3,18 +3,14 @@ ghost use Rattle.std.specs.Prelude.{◌≡◌, ◌⊎◌, ◌≤◌, ◌==◌, �
 ghost use Rattle.std.specs.List.{list_any};
 ghost use Rattle.std.specs.Option.{option_to_list};
 ghost use Rattle.c_tree.specs.Numbered.{starts, body_starts, function_starts, program_starts, own_start, inner, arms_inner};
-ghost use Rattle.slice_engine.specs.Criterion.{starts_of};
 
-use c_tree::numbered::own_start;
-use c_tree::{Arm, Boxed, Function, Program, Statement, StatementId};
+use c_tree::numbered::{Start, own_start};
+use c_tree::{Arm, Boxed, Function, Program, Statement};
 use std::alloc::{AllocError, Global};
-
-/// A statement's number, and the line of its first token.
-pub(crate) type Start = (StatementId, u32);
 
 /// The starts of a program's statements.
 pub(crate) fn starts_in(alloc: Global, p: &Program) -> Result<Vec<Start>, AllocError>
-    ensures { IfOk result (λ found. starts_of found.items ≡ program_starts p.now) }
+    ensures { IfOk result (λ found. found.items ≡ program_starts p.now) }
 {
     let mut found = Vec::new(alloc);
     in_functions(&mut found, p.functions.as_slice())?;
@@ -22,7 +18,7 @@ pub(crate) fn starts_in(alloc: Global, p: &Program) -> Result<Vec<Start>, AllocE
 }
 
 fn in_functions(found: &mut Vec<Start>, list: &[Function]) -> Result<(), AllocError>
-    ensures { OnOk result (starts_of found.new.items ≡ starts_of found.old.items ++ function_starts list.now) }
+    ensures { OnOk result (found.new.items ≡ found.old.items ++ function_starts list.now) }
 {
     for function in list {
         among(found, function.body.as_slice())?;
@@ -32,51 +28,51 @@ fn in_functions(found: &mut Vec<Start>, list: &[Function]) -> Result<(), AllocEr
 
 #[cycle(starts)]
 fn among(found: &mut Vec<Start>, list: &[Statement]) -> Result<(), AllocError>
-    ensures { OnOk result (starts_of found.new.items ≡ starts_of found.old.items ++ body_starts list.now) }
+    ensures { OnOk result (found.new.items ≡ found.old.items ++ body_starts list.now) }
 {
-    for one in list {
-        within(found, one)?;
+    for statement in list {
+        within(found, statement)?;
     }
     Ok(())
 }
 
 /// The last line on which one of some statements starts, 0 where there is none.
 pub(crate) fn last_line(starts: &[Start]) -> u32
-    ensures latest { All (λ s. s.1 ≤ result) starts.now }
-    ensures is_one { (result ≡ 0) ⊎ IsTrue (list_any (λ s. s.1 == result) starts.now) }
+    ensures latest { All (λ s. s.line ≤ result) starts.now }
+    ensures is_one { (result ≡ 0) ⊎ IsTrue (list_any (λ s. s.line == result) starts.now) }
 {
     let mut last = 0;
-    for (_, at) in starts {
-        last = last.max(*at);
+    for start in starts {
+        last = last.max(start.line);
     }
     last
 }
 
 // The start of a statement itself, where it has a number.
-fn push_own(found: &mut Vec<Start>, one: &Statement) -> Result<(), AllocError>
-    ensures { OnOk result (starts_of found.new.items ≡ starts_of found.old.items ++ option_to_list (own_start one.now)) }
+fn push_own(found: &mut Vec<Start>, statement: &Statement) -> Result<(), AllocError>
+    ensures { OnOk result (found.new.items ≡ found.old.items ++ option_to_list (own_start statement.now)) }
 {
-    if let Some(start) = own_start(one) {
+    if let Some(start) = own_start(statement) {
         found.push(start)?;
     }
     Ok(())
 }
 
 #[cycle(starts)]
-fn within(found: &mut Vec<Start>, one: &Statement) -> Result<(), AllocError>
-    ensures { OnOk result (starts_of found.new.items ≡ starts_of found.old.items ++ starts one.now) }
+fn within(found: &mut Vec<Start>, statement: &Statement) -> Result<(), AllocError>
+    ensures { OnOk result (found.new.items ≡ found.old.items ++ starts statement.now) }
 {
-    push_own(found, one)?;
-    inside(found, one)?;
+    push_own(found, statement)?;
+    inside(found, statement)?;
     Ok(())
 }
 
 // The starts of what stands right inside a statement, and inside that.
 #[cycle(starts)]
-fn inside(found: &mut Vec<Start>, one: &Statement) -> Result<(), AllocError>
-    ensures { OnOk result (starts_of found.new.items ≡ starts_of found.old.items ++ body_starts (inner one.now)) }
+fn inside(found: &mut Vec<Start>, statement: &Statement) -> Result<(), AllocError>
+    ensures { OnOk result (found.new.items ≡ found.old.items ++ body_starts (inner statement.now)) }
 {
-    match one {
+    match statement {
         Statement::If { then, other, .. } => {
             among(found, then.as_slice())?;
             among(found, other.as_slice())?;
@@ -112,17 +108,17 @@ fn inside(found: &mut Vec<Start>, one: &Statement) -> Result<(), AllocError>
 
 #[cycle(starts)]
 fn in_part(found: &mut Vec<Start>, part: &Option<Boxed<Statement>>) -> Result<(), AllocError>
-    ensures { OnOk result (starts_of found.new.items ≡ starts_of found.old.items ++ body_starts (option_to_list part.now)) }
+    ensures { OnOk result (found.new.items ≡ found.old.items ++ body_starts (option_to_list part.now)) }
 {
     match part {
         None => Ok(()),
-        Some(one) => within(found, one.get()),
+        Some(statement) => within(found, statement.get()),
     }
 }
 
 #[cycle(starts)]
 fn in_arms(found: &mut Vec<Start>, arms: &[Arm]) -> Result<(), AllocError>
-    ensures { OnOk result (starts_of found.new.items ≡ starts_of found.old.items ++ body_starts (arms_inner arms.now)) }
+    ensures { OnOk result (found.new.items ≡ found.old.items ++ body_starts (arms_inner arms.now)) }
 {
     for arm in arms {
         among(found, arm.body.as_slice())?;

@@ -7,6 +7,8 @@ mod block_tests;
 #[cfg(test)]
 mod built_tests;
 #[cfg(test)]
+mod exit_tests;
+#[cfg(test)]
 mod for_tests;
 #[cfg(test)]
 mod if_tests;

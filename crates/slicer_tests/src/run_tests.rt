@@ -5,7 +5,7 @@ ghost use Rattle.slicer_top.specs.Words.{IsInForm, file_of, line_of};
 ghost use Rattle.slicer_top.specs.Slices.{StartsOn, IsSliceOf};
 
 use crate::programs::TWO;
-use crate::running::{Ended, Failing, NONE_FAILING, Row, all_end, file, program, run, words_of};
+use crate::running::{Ended, Failing, NONE_FAILING, Row, all_end, file, program, run, split_words};
 use edge_io::{MemoryShelf, MemorySink};
 use slicer_top::{Status, Text, run_slicer};
 use std::alloc::{AllocError, Global};
@@ -65,7 +65,7 @@ fn run_without_failing(
 }
 
 fn run_on_two(alloc: Global, line: &str, failing: &Failing<'_>) -> Result<Ended, AllocError> {
-    let words = words_of(alloc, line)?;
+    let words = split_words(alloc, line)?;
     run(alloc, &words, file(alloc, "two.c", TWO)?, failing)
 }
 
@@ -153,7 +153,7 @@ fn without_failing_numbers_no_fault_comes(rt: HostRuntime) -> Result<(), Fail> {
         ("slice two.c 7", TWO_AT_7.len() - 1, Status::WriteFault),
     ];
     for (line, room, status) in rows {
-        let words = words_of(alloc, line)?;
+        let words = split_words(alloc, line)?;
         let name = Text::from_slice(alloc, b"two.c")?;
         let text = Text::from_slice(alloc, TWO.as_bytes())?;
         let ended = run_without_failing(alloc, &words, name, text, room)?;
@@ -206,7 +206,7 @@ fn a_name_is_utf8(rt: HostRuntime) -> Result<(), Fail> {
         (b" ", true),
     ];
     for (name, is_name) in rows {
-        let mut words = words_of(alloc, "slice")?;
+        let mut words = split_words(alloc, "slice")?;
         words.push(Text::from_slice(alloc, name)?)?;
         words.push(Text::from_slice(alloc, b"7")?)?;
         let ended = run(alloc, &words, file(alloc, "two.c", TWO)?, &NONE_FAILING)?;
@@ -342,7 +342,7 @@ fn a_long_file_is_told(rt: HostRuntime) -> Result<(), Fail> {
             Text::from_slice(alloc, b"a.c")?,
             Text::from_slice(alloc, bytes.as_slice())?,
         ))?;
-        let words = words_of(alloc, "slice a.c 7")?;
+        let words = split_words(alloc, "slice a.c 7")?;
         let ended = run(alloc, &words, files, &NONE_FAILING)?;
         assert_eq!(rt; ended.status, status, "{length}");
         assert_eq!(rt; ended.out.bytes(), b"".as_slice(), "{length}");
@@ -457,7 +457,7 @@ fn a_slice_keeps_what_its_line_depends_on(rt: HostRuntime) -> Result<(), Fail> {
     for (lines, line, header, kept) in rows {
         let text = program(alloc, "", lines)?;
         let want = program(alloc, header, kept)?;
-        let words = words_of(alloc, line)?;
+        let words = split_words(alloc, line)?;
         let ended = run(alloc, &words, file(alloc, "t.c", &text)?, &NONE_FAILING)?;
         assert_eq!(rt; ended.status, Status::Done, "{line} of {lines}");
         assert_eq!(rt; ended.out.bytes(), want.as_bytes(), "{line} of {lines}");

@@ -44,7 +44,7 @@ pub(crate) fn run(
 }
 
 /// The words of a line, one blank between each two. An empty line has none.
-pub(crate) fn words_of(alloc: Global, line: &str) -> Result<Vec<Text>, AllocError> {
+pub(crate) fn split_words(alloc: Global, line: &str) -> Result<Vec<Text>, AllocError> {
     let mut words = Vec::new(alloc);
     if line.is_empty() {
         return Ok(words);
@@ -92,7 +92,7 @@ pub(crate) fn ends<R: std::process::Abort + AllocGlobal>(
 ) -> Result<(), Fail> {
     let (status, out, err) = wanted;
     let alloc = rt.alloc();
-    let words = words_of(alloc, line)?;
+    let words = split_words(alloc, line)?;
     let ended = run(alloc, &words, file(alloc, "t.c", text)?, &NONE_FAILING)?;
     assert_eq!(rt; ended.status, status, "{line} of {text}");
     assert_eq!(rt; ended.out.bytes(), out.as_bytes(), "{line} of {text}");

@@ -1,6 +1,7 @@
 -- The statuses with which a call ends.
 use Rattle.std.specs.Prelude.{◌≡◌, ◌⊎◌, ℕ}
 use Rattle.edge_io.specs.Count.{Rose}
+use Rattle.slicer_top.specs.declared.exit.Exit.{Exit}
 use Rattle.slicer_top.specs.declared.status.Status.{Status}
 use Rattle.slicer_top.specs.declared.status.Status.TheVariants.{Done, Refused, Usage, ReadFault, WriteFault, NoMemory, Limit, TooLong}
 
@@ -14,6 +15,10 @@ code_of WriteFault = 4
 code_of NoMemory = 5
 code_of Limit = 8
 code_of TooLong = 9
+
+-- the status with which a call of the program ended
+abbrev pub status_in : Exit → Status
+status_in exit = exit.status
 
 -- err had these counts of faults
 module _ (err err' : ℕ) where

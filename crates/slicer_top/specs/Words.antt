@@ -1,8 +1,16 @@
 -- The words of a call: `slice FILE LINE`.
-use Rattle.std.specs.Prelude.{◌≡◌, ◌≢◌, ℕ, ◌+◌, ◌-◌, ◌*◌, ◌<◌, ◌≤◌, List, [], ◌∷◌, length, All, codes, slice_index, slice_index_or}
+use Rattle.std.specs.Prelude.{◌≡◌, ◌≢◌, ℕ, ◌+◌, ◌-◌, ◌*◌, ◌<◌, ◌≤◌, List, [], ◌∷◌, length, map, drop, All, Result, Ok, Err, String, codes, slice_index, slice_index_or}
 use Rattle.std.specs.Char.{IsAsciiDigit}
 use Rattle.std.specs.Str.{IsUtf8}
+use Rattle.std.specs.String.{string_bytes}
+use Rattle.std.specs.Vec.Iter.{into_iter_items}
+use Rattle.std.specs.declared.vec.IntoIter.{IntoIter}
 use Rattle.c_language.specs.Words.{Bytes}
+
+-- the words of a call with these arguments: all but the first, which is the program's name; none where one of them isn't UTF-8
+abbrev pub words_in : {A E : Type 0} → Result (IntoIter (String A) A) E → List Bytes
+words_in (Ok arguments) = drop 1 (map string_bytes (into_iter_items arguments))
+words_in (Err fault) = []
 
 -- the word at a place
 abbrev pub word : List Bytes → ℕ → Bytes

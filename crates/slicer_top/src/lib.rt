@@ -1,9 +1,11 @@
 //! The top call of the slicer: from the words of a command line to the bytes of a slice.
 //!
 //! [`run_slicer`] works over any shelf and any sinks. The program gives it [`FileShelf`] and
-//! [`StreamSink`], tests give it files in memory and sinks that fail.
+//! [`StreamSink`], tests give it files in memory and sinks that fail. [`run_call`] is what `main` calls: it makes the
+//! words of the program's arguments ([`call_words`]), and its answer, an [`Exit`], has the code of the status.
 #![tactic(auto)]
 
+mod exit;
 mod laws;
 mod refusal;
 mod report;
@@ -13,8 +15,8 @@ mod status;
 mod words;
 
 pub use edge_io::{FileShelf, StreamSink, Text};
+pub use exit::{Exit, run_call};
 pub use laws::slices_are_one;
-pub use report::tell_no_memory;
 pub use run::run_slicer;
 pub use status::Status;
-pub use words::words_of;
+pub use words::call_words;

@@ -41,7 +41,7 @@ fn tell_made<E: Sink>(made: Result<Text, AllocError>, status: Status, err: &mut 
 }
 
 /// Puts on `err` that there was no memory, and answers that, or `WriteFault` where the put fails.
-pub fn tell_no_memory<E: Sink>(err: &mut E) -> Status
+pub(crate) fn tell_no_memory<E: Sink>(err: &mut E) -> Status
     ensures told { IsTold (E.faults err.old) (E.faults err.new) (E.written err.old) (E.written err.new)
         Status.NoMemory lines.out_of_memory result }
     ensures taken { E.takes err.old 14 → (result ≡ Status.NoMemory) × (E.faults err.new ≡ E.faults err.old) }

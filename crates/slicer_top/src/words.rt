@@ -1,10 +1,7 @@
 //! The words of a call, taken from its arguments and read by hand.
-ghost use Rattle.std.specs.Prelude.{◌≡◌, ◌≢◌, [], IfOk, IfErr, IsErr, MatchOption, drop, map};
-ghost use Rattle.std.specs.Result.{IsOkAnd};
-ghost use Rattle.std.specs.Vec.Iter.{into_iter_items};
-ghost use Rattle.std.specs.String.{string_bytes};
+ghost use Rattle.std.specs.Prelude.{◌≡◌, ◌≢◌, IfOk, IfErr, IsOk, IsErr, MatchOption};
 ghost use Rattle.std.specs.IoError.{error_kind};
-ghost use Rattle.slicer_top.specs.Words.{IsFileName, IsNumber, IsInForm, file_of, line_of, decimal_from};
+ghost use Rattle.slicer_top.specs.Words.{IsFileName, IsNumber, IsInForm, words_in, file_of, line_of, decimal_from};
 
 use edge_io::Text;
 use std::alloc::{AllocError, Global};
@@ -14,12 +11,10 @@ use std::io::ErrorKind;
 
 /// The words of a call: its arguments but for the first, which is the program's name. Where an argument isn't UTF-8
 /// there are none, which are no words of a command either. Err: no memory was left.
-pub fn words_of(alloc: Global, arguments: io::Result<Args>) -> Result<Vec<Text>, AllocError>
-    ensures words { IfOk arguments (λ all. IfOk result (λ words.
-        words.items ≡ drop 1 (map string_bytes (into_iter_items all)))) }
+pub fn call_words(alloc: Global, arguments: io::Result<Args>) -> Result<Vec<Text>, AllocError>
+    ensures words { IfOk result (λ words. words.items ≡ words_in arguments) }
     ensures no_memory { IfErr arguments (λ fault. error_kind fault ≡ ErrorKind.OutOfMemory → IsErr result) }
-    ensures no_words { IfErr arguments (λ fault. error_kind fault ≢ ErrorKind.OutOfMemory
-        → IsOkAnd result (λ words. words.items ≡ [])) }
+    ensures no_words { IfErr arguments (λ fault. error_kind fault ≢ ErrorKind.OutOfMemory → IsOk result) }
 {
     let mut words = Vec::new(alloc);
     let mut arguments = match arguments {

@@ -1,8 +1,7 @@
 use Rattle.std.proofs.Common.{◌≡◌, ◌++◌, take}
 use Rattle.c_tree.specs.Numbered.{function_starts}
-use Rattle.slice_engine.specs.Criterion.{starts_of}
 use Rattle.slice_engine.proofs.starts.in_functions.Given as goal
 
 abbrev pub invariant-loop-function : goal.invariant-loop-function
 invariant-loop-function l =
-    starts_of l.found.items ≡ starts_of l.initial.found.items ++ function_starts (take l.function-index l.list)
+    l.found.items ≡ l.initial.found.items ++ function_starts (take l.function-index l.list)

@@ -1,18 +1,19 @@
 use Rattle.std.proofs.Common.{arith}
+use Rattle.c_tree.specs.Numbered.{start}
 use Rattle.slice_engine.proofs.StartLemmas.{latest_none, latest_next, latest_all}
 use Rattle.slice_engine.proofs.starts.last_line.Goals as goal
 
-pub loop-at-init : goal.loop-at-init
-loop-at-init c = latest_none c.args.starts.now
+pub loop-start-init : goal.loop-start-init
+loop-start-init c = latest_none c.args.starts.now
 
-pub loop-at-preserved : goal.loop-at-preserved
-loop-at-preserved c =
-    latest_next c.args.starts.now c.loop-at.at-index c.loop-at.last c.max-last.result (0, 0) c.loop-at-test.true c.max-last.ensures c.loop-at.invariant
+pub loop-start-preserved : goal.loop-start-preserved
+loop-start-preserved c =
+    latest_next c.args.starts.now c.loop-start.start-index c.loop-start.last c.max-last.result (start 0 0) c.loop-start-test.true c.max-last.ensures c.loop-start.invariant
 
 pub returns-clause-latest : goal.returns-clause-latest
 returns-clause-latest c =
-    let end = c.loop-at-test.false in
-    latest_all c.args.starts.now c.loop-at.at-index c.loop-at.last (omega (arith, end)) c.loop-at.invariant
+    let end = c.loop-start-test.false in
+    latest_all c.args.starts.now c.loop-start.start-index c.loop-start.last (omega (arith, end)) c.loop-start.invariant
 
 pub returns-clause-is_one : goal.returns-clause-is_one
-returns-clause-is_one c = c.loop-at.invariant.is_one
+returns-clause-is_one c = c.loop-start.invariant.is_one

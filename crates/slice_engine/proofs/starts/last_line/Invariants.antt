@@ -1,5 +1,5 @@
 use Rattle.slice_engine.proofs.StartLemmas.{IsLatest}
 use Rattle.slice_engine.proofs.starts.last_line.Given as goal
 
-abbrev pub invariant-loop-at : goal.invariant-loop-at
-invariant-loop-at l = IsLatest l.starts l.at-index l.last
+abbrev pub invariant-loop-start : goal.invariant-loop-start
+invariant-loop-start l = IsLatest l.starts l.start-index l.last
