@@ -44,11 +44,11 @@ static_feedless false = refl
 
 -- a number in the items has its line
 record IsStarted (p : Program) (all : List Item) (k : ℕ) (x : Start) : Type 0 where
-  one : Statement
-  number : own_id one ≡ Some x.id
+  statement : Statement
+  number : own_id statement ≡ Some x.id
   front : Bytes
   words : Bytes
-  stands : ItemsBehind p one all front words
+  stands : ItemsBehind p statement all front words
   counted : x.line ≡ k + line_feeds front
 
 module _ (p : Program) (ok : IsFeedless p) where
@@ -171,7 +171,7 @@ module _ (p : Program) (ok : IsFeedless p) where
       let words = head_words p g.is_static g (map (var_words p) g.params) ++ codes " {" in
       let h = (definition_body g passes).started 1 (k + 1) i d lt in
       record {
-        one = h.one;
+        statement = h.statement;
         number = h.number;
         front = line 0 words ++ h.front;
         words = h.words;
@@ -199,7 +199,7 @@ module _ (p : Program) (ok : IsFeedless p) where
   later_started i rest k plain ss h n d lt =
       let a = h n d lt in
       record {
-        one = a.one;
+        statement = a.statement;
         number = a.number;
         front = item_lines p i ++ a.front;
         words = a.words;
@@ -219,8 +219,8 @@ module _ (p : Program) (ok : IsFeedless p) where
   pub all_start : All (λ (x : Start). StartsOn p x.id x.line) (layout_starts p)
   all_start n d lt =
       let a = items_started p.items ok.items 1 n d lt in
-      let o = items_open p a.one a.stands in
-      record { one = a.one; number = a.number; front = a.front; words = a.words; rest = o.rest; stands = a.stands; text = o.is; line = a.counted }
+      let o = items_open p a.statement a.stands in
+      record { statement = a.statement; number = a.number; front = a.front; words = a.words; rest = o.rest; stands = a.stands; text = o.is; line = a.counted }
 
 -- ---- the last of the lines of a number
 
@@ -249,7 +249,7 @@ listed_starts p id ok listed = listed_has (StartsOn p) id (layout_starts p) list
 
 -- the statement with a number that stands in the layout starts on the line of the number
 pub starts_on_line : (p : Program) (id : ℕ) → IsFeedless p → HasPlace p id → StartsOn p id (line_of p id)
-starts_on_line p id ok place = listed_starts p id ok (items_listed p place.one id place.number place.stands 1)
+starts_on_line p id ok place = listed_starts p id ok (items_listed p place.statement id place.number place.stands 1)
 
 -- a line is none, or that on which a statement with the number starts
 abbrev IsFound : Program → ℕ → ℕ → Type 0
@@ -257,7 +257,7 @@ IsFound p id n = (n ≡ 0) ⊎ StartsOn p id n
 
 or_nowhere : (p : Program) (id n : ℕ) → (HasPlace p id → ⊥) → IsFound p id n → n ≡ 0
 or_nowhere p id n nowhere (inl e) = e
-or_nowhere p id n nowhere (inr h) = absurd (nowhere (record { one = h.one; number = h.number; front = h.front; words = h.words; stands = h.stands }))
+or_nowhere p id n nowhere (inr h) = absurd (nowhere (record { statement = h.statement; number = h.number; front = h.front; words = h.words; stands = h.stands }))
 
 -- no line is given where no statement with the number stands in the layout
 pub no_line : (p : Program) (id : ℕ) → IsFeedless p → (HasPlace p id → ⊥) → line_of p id ≡ 0

@@ -63,18 +63,18 @@ opens_step whole margin w opens init mark test words others brace end more e f =
 
 -- ---- a statement begins with its opening
 
-one_line : (p : Program) (one : Statement) (n : ℕ) → statement_lines p n one ≡ line n (statement_words p one ++ codes ";") → Opens (statement_lines p n one) (indent n) (statement_words p one)
-one_line p one n e = record { rest = codes ";" ++ 10 ∷ []; is = e ∙ ap (λ (y : Bytes). indent n ++ y) (append_assoc (statement_words p one) (codes ";") (10 ∷ [])) }
+one_line : (p : Program) (statement : Statement) (n : ℕ) → statement_lines p n statement ≡ line n (statement_words p statement ++ codes ";") → Opens (statement_lines p n statement) (indent n) (statement_words p statement)
+one_line p statement n e = record { rest = codes ";" ++ 10 ∷ []; is = e ∙ ap (λ (y : Bytes). indent n ++ y) (append_assoc (statement_words p statement) (codes ";") (10 ∷ [])) }
 
-many_lines : (p : Program) (one : Statement) (n : ℕ) (words brace more : Bytes) → statement_lines p n one ≡ line n (words ++ brace) ++ more → Opens (statement_lines p n one) (indent n) words
-many_lines p one n words brace more e = record { rest = brace ++ (10 ∷ more); is = e ∙ many (indent n) words brace (10 ∷ []) more }
+many_lines : (p : Program) (statement : Statement) (n : ℕ) (words brace more : Bytes) → statement_lines p n statement ≡ line n (words ++ brace) ++ more → Opens (statement_lines p n statement) (indent n) words
+many_lines p statement n words brace more e = record { rest = brace ++ (10 ∷ more); is = e ∙ many (indent n) words brace (10 ∷ []) more }
   where
     many : (margin words brace end more : Bytes) → (margin ++ ((words ++ brace) ++ end)) ++ more ≡ margin ++ (words ++ (brace ++ (end ++ more)))
     many margin words brace end more = simp append_assoc
 
 module _ (p : Program) (n : ℕ) where
   abbrev Begins : Statement → Type 0
-  Begins one = Opens (statement_lines p n one) (indent n) (statement_words p one)
+  Begins statement = Opens (statement_lines p n statement) (indent n) (statement_words p statement)
 
   layer_begins : (x : Statement-F Statement Arm) → Opens (statement_lines p n (roll-Statement x)) (indent n) (layer_opening (statement_words p (roll-Statement x)) x)
   layer_begins (Statement-F.Declare id l x i) = subst Begins (sym (s.rolls-Declare id l x i)) (one_line p (s.Declare id l x i) n (lines-Declare p id l x i n))
@@ -106,30 +106,30 @@ module _ (p : Program) (n : ℕ) where
   layer_begins (Statement-F.Block l b) =
       subst (λ y. Opens (statement_lines p n y) (indent n) (codes "{")) (sym (s.rolls-Block l b)) (many_lines p (s.Block l b) n (codes "{") [] (body_lines p (suc n) b ++ line n (codes "}")) (lines-Block p l b n))
 
-  begins : (one : Statement) → Opens (statement_lines p n one) (indent n) (opening p one)
-  begins one = subst (λ y. Opens (statement_lines p n y) (indent n) (layer_opening (statement_words p y) (out-Statement one))) (roll-out-Statement one) (layer_begins (out-Statement one))
+  begins : (statement : Statement) → Opens (statement_lines p n statement) (indent n) (opening p statement)
+  begins statement = subst (λ y. Opens (statement_lines p n y) (indent n) (layer_opening (statement_words p y) (out-Statement statement))) (roll-out-Statement statement) (layer_begins (out-Statement statement))
 
 -- ---- each place
 
 -- the lines of the body of a statement that has one
-body_at : (p : Program) (one : Statement) (n : ℕ) (head tail : Bytes) (b : List Statement) → statement_lines p n one ≡ line n head ++ (block_lines (map (laid p) b) (suc n) ++ line n tail)
-    → statement_lines p n one ≡ line n head ++ (body_lines p (suc n) b ++ line n tail)
-body_at p one n head tail b e = e ∙ ap (λ (x : Bytes). line n head ++ (x ++ line n tail)) (block_lines-laid p b (suc n))
+body_at : (p : Program) (statement : Statement) (n : ℕ) (head tail : Bytes) (b : List Statement) → statement_lines p n statement ≡ line n head ++ (block_lines (map (laid p) b) (suc n) ++ line n tail)
+    → statement_lines p n statement ≡ line n head ++ (body_lines p (suc n) b ++ line n tail)
+body_at p statement n head tail b e = e ∙ ap (λ (x : Bytes). line n head ++ (x ++ line n tail)) (block_lines-laid p b (suc n))
 
-else_at : (p : Program) (one : Statement) (n : ℕ) (b : List Statement) (front words : Bytes) → ListBehind p one (suc n) b front words → else_lines (map (laid p) b) n ≡ line n (codes "} else {") ++ body_lines p (suc n) b
-else_at p one n [] front words h = elim h [ ]
-else_at p one n (x ∷ b) front words h = ap (λ (y : Bytes). line n (codes "} else {") ++ y) (block_lines-laid p (x ∷ b) (suc n))
+else_at : (p : Program) (statement : Statement) (n : ℕ) (b : List Statement) (front words : Bytes) → ListBehind p statement (suc n) b front words → else_lines (map (laid p) b) n ≡ line n (codes "} else {") ++ body_lines p (suc n) b
+else_at p statement n [] front words h = elim h [ ]
+else_at p statement n (x ∷ b) front words h = ap (λ (y : Bytes). line n (codes "} else {") ++ y) (block_lines-laid p (x ∷ b) (suc n))
 
-module _ (p : Program) (one : Statement) where
+module _ (p : Program) (statement : Statement) where
   mutual
-    pub stands_opens : {n : ℕ} {outer : Statement} {front words : Bytes} → StandsBehind p one n outer front words → Opens (statement_lines p n outer) front words
-    stands_opens (itself {n}) = begins p n one
+    pub stands_opens : {n : ℕ} {outer : Statement} {front words : Bytes} → StandsBehind p statement n outer front words → Opens (statement_lines p n outer) front words
+    stands_opens (itself {n}) = begins p n statement
     stands_opens (met {n} {front} {words} id l e a b h) =
         opens_behind (statement_lines p n (s.If id l e a b)) (if_line p n e) (body_lines p (suc n) a) (else_lines (map (laid p) b) n ++ line n (codes "}")) front words
         (ap (λ (x : Laid). x.lines n) (laid-If p id l e a b) ∙ ap (λ (x : Bytes). if_line p n e ++ (x ++ (else_lines (map (laid p) b) n ++ line n (codes "}")))) (block_lines-laid p a (suc n))) (list_opens h)
     stands_opens (otherwise {n} {front} {words} id l e a b h) =
         opens_else (statement_lines p n (s.If id l e a b)) (if_line p n e) (body_lines p (suc n) a) (else_lines (map (laid p) b) n) (line n (codes "} else {")) (body_lines p (suc n) b) (line n (codes "}")) front words
-        (ap (λ (x : Laid). x.lines n) (laid-If p id l e a b) ∙ ap (λ (x : Bytes). if_line p n e ++ (x ++ (else_lines (map (laid p) b) n ++ line n (codes "}")))) (block_lines-laid p a (suc n))) (else_at p one n b front words h) (list_opens h)
+        (ap (λ (x : Laid). x.lines n) (laid-If p id l e a b) ∙ ap (λ (x : Bytes). if_line p n e ++ (x ++ (else_lines (map (laid p) b) n ++ line n (codes "}")))) (block_lines-laid p a (suc n))) (else_at p statement n b front words h) (list_opens h)
     stands_opens (while {n} {front} {words} id l e b h) =
         opens_behind (statement_lines p n (s.While id l e b)) (line n (codes "while (" ++ (expr_words p e ++ codes ") {"))) (body_lines p (suc n) b) (line n (codes "}")) front words
         (body_at p (s.While id l e b) n (codes "while (" ++ (expr_words p e ++ codes ") {")) (codes "}") b (ap (λ (x : Laid). x.lines n) (laid-While p id l e b))) (list_opens h)
@@ -138,24 +138,24 @@ module _ (p : Program) (one : Statement) where
     stands_opens (block {n} {front} {words} l b h) =
         opens_behind (statement_lines p n (s.Block l b)) (line n (codes "{")) (body_lines p (suc n) b) (line n (codes "}")) front words (lines-Block p l b n) (list_opens h)
     stands_opens (first_part {n} id l e part b) =
-        let whole = s.For id l (Some one) e part b in
-        opens_first (statement_lines p n whole) (indent n) (statement_words p whole) (codes "for (") (statement_words p one) (codes "; " ++ (expr_words p e ++ (codes ";" ++ (step_part (option_map (laid p) part) ++ codes ")")))) (codes " {") (10 ∷ []) (body_lines p (suc n) b ++ line n (codes "}"))
-        (lines-For p id l (Some one) e part b n) (words-For p id l (Some one) e part b)
+        let whole = s.For id l (Some statement) e part b in
+        opens_first (statement_lines p n whole) (indent n) (statement_words p whole) (codes "for (") (statement_words p statement) (codes "; " ++ (expr_words p e ++ (codes ";" ++ (step_part (option_map (laid p) part) ++ codes ")")))) (codes " {") (10 ∷ []) (body_lines p (suc n) b ++ line n (codes "}"))
+        (lines-For p id l (Some statement) e part b n) (words-For p id l (Some statement) e part b)
     stands_opens (step {n} id l init e b) =
-        let whole = s.For id l init e (Some one) b in
-        opens_step (statement_lines p n whole) (indent n) (statement_words p whole) (codes "for (") (init_part (option_map (laid p) init)) (codes "; ") (expr_words p e) (statement_words p one) (codes ")") (codes " {") (10 ∷ []) (body_lines p (suc n) b ++ line n (codes "}"))
-        (lines-For p id l init e (Some one) b n) (words-For p id l init e (Some one) b)
+        let whole = s.For id l init e (Some statement) b in
+        opens_step (statement_lines p n whole) (indent n) (statement_words p whole) (codes "for (") (init_part (option_map (laid p) init)) (codes "; ") (expr_words p e) (statement_words p statement) (codes ")") (codes " {") (10 ∷ []) (body_lines p (suc n) b ++ line n (codes "}"))
+        (lines-For p id l init e (Some statement) b n) (words-For p id l init e (Some statement) b)
     stands_opens (turn {n} {front} {words} id l init e part b h) =
         opens_behind (statement_lines p n (s.For id l init e part b)) (line n (statement_words p (s.For id l init e part b) ++ codes " {")) (body_lines p (suc n) b) (line n (codes "}")) front words (lines-For p id l init e part b n) (list_opens h)
     stands_opens (switch {n} {front} {words} id l e arms h) =
         opens_behind (statement_lines p n (s.Switch id l e arms)) (line n (codes "switch (" ++ (expr_words p e ++ codes ") {"))) (arms_lines (map (arm_laid p) arms) (suc n)) (line n (codes "}")) front words
         (ap (λ (x : Laid). x.lines n) (laid-Switch p id l e arms)) (arms_open h)
 
-    pub list_opens : {n : ℕ} {all : List Statement} {front words : Bytes} → ListBehind p one n all front words → Opens (body_lines p n all) front words
+    pub list_opens : {n : ℕ} {all : List Statement} {front words : Bytes} → ListBehind p statement n all front words → Opens (body_lines p n all) front words
     list_opens (first {n} {outer} {rest} {front} {words} h) = opens_before (body_lines p n (outer ∷ rest)) (statement_lines p n outer) (body_lines p n rest) front words refl (stands_opens h)
     list_opens (later {n} {before} {rest} {front} {words} h) = opens_last (body_lines p n (before ∷ rest)) (statement_lines p n before) (body_lines p n rest) front words refl (list_opens h)
 
-    arms_open : {n : ℕ} {all : List Arm} {front words : Bytes} → ArmsBehind p one n all front words → Opens (arms_lines (map (arm_laid p) all) n) front words
+    arms_open : {n : ℕ} {all : List Arm} {front words : Bytes} → ArmsBehind p statement n all front words → Opens (arms_lines (map (arm_laid p) all) n) front words
     arms_open (inside {n} {rest} {front} {words} labels body h) =
         let a : Arm = roll-Arm (record { labels = labels; body = body }) in
         opens_before (arms_lines (map (arm_laid p) (a ∷ rest)) n) (arm_laid p a n) (arms_lines (map (arm_laid p) rest) n) (label_lines p labels n ++ front) words refl
@@ -167,7 +167,7 @@ module _ (p : Program) (one : Statement) where
   found_lines : (o : Option Function) (found : Function) → o ≡ Some found → option_map_or (function_lines p) o [] ≡ function_lines p found
   found_lines o found e = ap (λ (x : Option Function). option_map_or (function_lines p) x []) e
 
-  pub items_open : {all : List Item} {front words : Bytes} → ItemsBehind p one all front words → Opens (items_lines p all) front words
+  pub items_open : {all : List Item} {front words : Bytes} → ItemsBehind p statement all front words → Opens (items_lines p all) front words
   items_open (defined {f} {found} {rest} {front} {words} is h) =
       let head = line 0 (head_words p found.is_static found (map (var_words p) found.params) ++ codes " {") in
       opens_before (items_lines p (item.Define f ∷ rest)) (item_lines p (item.Define f)) (items_lines p rest) (head ++ front) words refl
@@ -186,17 +186,17 @@ listed_left id a b h = (h.0, Contains-append_left a b (start id h.0) h.1)
 pub listed_right : (id : ℕ) (a b : Starts) → IsListed id b → IsListed id (a ++ b)
 listed_right id a b h = (h.0, Contains-append_right a b (start id h.0) h.1)
 
-own_listed : (one : Statement) (id k : ℕ) → own_id one ≡ Some id → IsListed id (own_starts (placed one).own k)
-own_listed one id k e = subst (λ (o : Option ℕ). IsListed id (own_starts o k)) (sym (placed-own one ∙ e)) (k, (zero, omega arith, refl))
+own_listed : (statement : Statement) (id k : ℕ) → own_id statement ≡ Some id → IsListed id (own_starts (placed statement).own k)
+own_listed statement id k e = subst (λ (o : Option ℕ). IsListed id (own_starts o k)) (sym (placed-own statement ∙ e)) (k, (zero, omega arith, refl))
 
 -- what is inside, by the equation of the form
-pub inside_listed : (one : Statement) (id k : ℕ) (own : Option ℕ) (height : ℕ) (within : ℕ → Starts) → placed one ≡ record { own = own; height = height; inside = within } → IsListed id (within k) → IsListed id (starts_from (placed one) k)
-inside_listed one id k own height within e h = subst (λ (y : Placed). IsListed id (starts_from y k)) (sym e) (listed_right id (own_starts own k) (within k) h)
+pub inside_listed : (statement : Statement) (id k : ℕ) (own : Option ℕ) (height : ℕ) (within : ℕ → Starts) → placed statement ≡ record { own = own; height = height; inside = within } → IsListed id (within k) → IsListed id (starts_from (placed statement) k)
+inside_listed statement id k own height within e h = subst (λ (y : Placed). IsListed id (starts_from y k)) (sym e) (listed_right id (own_starts own k) (within k) h)
 
-module _ (p : Program) (one : Statement) (num : ℕ) (named : own_id one ≡ Some num) where
+module _ (p : Program) (statement : Statement) (num : ℕ) (named : own_id statement ≡ Some num) where
   mutual
-    stands_listed : {n : ℕ} {outer : Statement} {front words : Bytes} → StandsBehind p one n outer front words → (k : ℕ) → IsListed num (starts_from (placed outer) k)
-    stands_listed (itself {n}) k = listed_left num (own_starts (placed one).own k) ((placed one).inside k) (own_listed one num k named)
+    stands_listed : {n : ℕ} {outer : Statement} {front words : Bytes} → StandsBehind p statement n outer front words → (k : ℕ) → IsListed num (starts_from (placed outer) k)
+    stands_listed (itself {n}) k = listed_left num (own_starts (placed statement).own k) ((placed statement).inside k) (own_listed statement num k named)
     stands_listed (met {n} {front} {words} id l e a b h) k =
         let others = block_starts (map placed b) (k + 1 + heights (map placed a) + 1) in
         inside_listed (s.If id l e a b) num k _ _ _ (placed-If id l e a b) (listed_left num (block_starts (map placed a) (k + 1)) others (list_listed h (k + 1)))
@@ -207,23 +207,23 @@ module _ (p : Program) (one : Statement) (num : ℕ) (named : own_id one ≡ Som
     stands_listed (repeated {n} {front} {words} id l e b h) k = inside_listed (s.Do id l e b) num k _ _ _ (placed-Do id l e b) (list_listed h (k + 1))
     stands_listed (block {n} {front} {words} l b h) k = inside_listed (s.Block l b) num k _ _ _ (placed-Block l b) (list_listed h (k + 1))
     stands_listed (first_part {n} id l e part b) k =
-        inside_listed (s.For id l (Some one) e part b) num k _ _ _ (placed-For id l (Some one) e part b)
-        (listed_left num (own_starts (placed one).own k) (part_starts (option_map placed part) k ++ block_starts (map placed b) (k + 1)) (own_listed one num k named))
+        inside_listed (s.For id l (Some statement) e part b) num k _ _ _ (placed-For id l (Some statement) e part b)
+        (listed_left num (own_starts (placed statement).own k) (part_starts (option_map placed part) k ++ block_starts (map placed b) (k + 1)) (own_listed statement num k named))
     stands_listed (step {n} id l init e b) k =
-        inside_listed (s.For id l init e (Some one) b) num k _ _ _ (placed-For id l init e (Some one) b)
-        (listed_right num (part_starts (option_map placed init) k) (own_starts (placed one).own k ++ block_starts (map placed b) (k + 1))
-        (listed_left num (own_starts (placed one).own k) (block_starts (map placed b) (k + 1)) (own_listed one num k named)))
+        inside_listed (s.For id l init e (Some statement) b) num k _ _ _ (placed-For id l init e (Some statement) b)
+        (listed_right num (part_starts (option_map placed init) k) (own_starts (placed statement).own k ++ block_starts (map placed b) (k + 1))
+        (listed_left num (own_starts (placed statement).own k) (block_starts (map placed b) (k + 1)) (own_listed statement num k named)))
     stands_listed (turn {n} {front} {words} id l init e part b h) k =
         inside_listed (s.For id l init e part b) num k _ _ _ (placed-For id l init e part b)
         (listed_right num (part_starts (option_map placed init) k) (part_starts (option_map placed part) k ++ block_starts (map placed b) (k + 1))
         (listed_right num (part_starts (option_map placed part) k) (block_starts (map placed b) (k + 1)) (list_listed h (k + 1))))
     stands_listed (switch {n} {front} {words} id l e arms h) k = inside_listed (s.Switch id l e arms) num k _ _ _ (placed-Switch id l e arms) (arms_listed h (k + 1))
 
-    list_listed : {n : ℕ} {all : List Statement} {front words : Bytes} → ListBehind p one n all front words → (k : ℕ) → IsListed num (block_starts (map placed all) k)
+    list_listed : {n : ℕ} {all : List Statement} {front words : Bytes} → ListBehind p statement n all front words → (k : ℕ) → IsListed num (block_starts (map placed all) k)
     list_listed (first {n} {outer} {rest} {front} {words} h) k = listed_left num (starts_from (placed outer) k) (block_starts (map placed rest) (k + (placed outer).height)) (stands_listed h k)
     list_listed (later {n} {before} {rest} {front} {words} h) k = listed_right num (starts_from (placed before) k) (block_starts (map placed rest) (k + (placed before).height)) (list_listed h (k + (placed before).height))
 
-    arms_listed : {n : ℕ} {all : List Arm} {front words : Bytes} → ArmsBehind p one n all front words → (k : ℕ) → IsListed num (block_starts (map arm_placed all) k)
+    arms_listed : {n : ℕ} {all : List Arm} {front words : Bytes} → ArmsBehind p statement n all front words → (k : ℕ) → IsListed num (block_starts (map arm_placed all) k)
     arms_listed (inside {n} {rest} {front} {words} labels body h) k =
         let a : Arm = roll-Arm (record { labels = labels; body = body }) in
         listed_left num (starts_from (arm_placed a) k) (block_starts (map arm_placed rest) (k + (arm_placed a).height))
@@ -231,7 +231,7 @@ module _ (p : Program) (one : Statement) (num : ℕ) (named : own_id one ≡ Som
     arms_listed (after {n} {before} {rest} {front} {words} h) k =
         listed_right num (starts_from (arm_placed before) k) (block_starts (map arm_placed rest) (k + (arm_placed before).height)) (arms_listed h (k + (arm_placed before).height))
 
-  pub items_listed : {all : List Item} {front words : Bytes} → ItemsBehind p one all front words → (k : ℕ) → IsListed num (block_starts (map (item_placed p) all) k)
+  pub items_listed : {all : List Item} {front words : Bytes} → ItemsBehind p statement all front words → (k : ℕ) → IsListed num (block_starts (map (item_placed p) all) k)
   items_listed (defined {f} {found} {rest} {front} {words} is h) k =
       listed_left num (starts_from (item_placed p (item.Define f)) k) (block_starts (map (item_placed p) rest) (k + (item_placed p (item.Define f)).height))
       (subst (λ (o : Option Function). IsListed num (starts_from (option_map_or function_placed o (bare 0)) k)) (sym is) (list_listed h (k + 1)))

@@ -99,15 +99,15 @@ layer_own (Statement-F.Switch id l e arms) = ap (λ (y : Statement). (placed y).
 layer_own (Statement-F.Block l b) = ap (λ (y : Statement). (placed y).own) (s.rolls-Block l b) ∙ ap (λ (y : Placed). y.own) (placed-Block l b)
 layer_own (Statement-F.For id l i e step b) = ap (λ (y : Statement). (placed y).own) (s.rolls-For id l i e step b) ∙ ap (λ (y : Placed). y.own) (placed-For id l i e step b)
 
-pub placed-own : (one : Statement) → (placed one).own ≡ own_id one
-placed-own one = ap (λ (y : Statement). (placed y).own) (sym (roll-out-Statement one)) ∙ layer_own (out-Statement one)
+pub placed-own : (statement : Statement) → (placed statement).own ≡ own_id statement
+placed-own statement = ap (λ (y : Statement). (placed y).own) (sym (roll-out-Statement statement)) ∙ layer_own (out-Statement statement)
 
 -- ---- what is written down for each form
 
-pub kept_If : (id l : ℕ) (e : Expr) (a b : List Statement) (one : Statement) (xs ys : List Statement) (first line next : ℕ) (old between new : List ℕ)
-    → one ≡ s.If id l e a b → xs ≡ a → ys ≡ b → between ≡ kept first (block_starts (map placed xs) (line + 1)) old → next ≡ line + 1 + heights (map placed xs)
-    → new ≡ kept first (block_starts (map placed ys) (next + 1)) between → new ≡ kept first ((placed one).inside line) old
-kept_If id l e a b one xs ys first line next old between new is x y p n q =
+pub kept_If : (id l : ℕ) (e : Expr) (a b : List Statement) (statement : Statement) (xs ys : List Statement) (first line next : ℕ) (old between new : List ℕ)
+    → statement ≡ s.If id l e a b → xs ≡ a → ys ≡ b → between ≡ kept first (block_starts (map placed xs) (line + 1)) old → next ≡ line + 1 + heights (map placed xs)
+    → new ≡ kept first (block_starts (map placed ys) (next + 1)) between → new ≡ kept first ((placed statement).inside line) old
+kept_If id l e a b statement xs ys first line next old between new is x y p n q =
     let first_list : between ≡ kept first (block_starts (map placed a) (line + 1)) old = p ∙ ap (λ z. kept first (block_starts (map placed z) (line + 1)) old) x in
     let behind : next + 1 ≡ line + 1 + heights (map placed a) + 1 = ap (λ (k : ℕ). k + 1) (n ∙ ap (λ z. line + 1 + heights (map placed z)) x) in
     let second_list : new ≡ kept first (block_starts (map placed b) (line + 1 + heights (map placed a) + 1)) between =
@@ -115,20 +115,20 @@ kept_If id l e a b one xs ys first line next old between new is x y p n q =
     then_kept first (block_starts (map placed a) (line + 1)) (block_starts (map placed b) (line + 1 + heights (map placed a) + 1)) old between new first_list second_list
     ∙ ap (λ (z : Placed). kept first (z.inside line) old) (sym (ap placed is ∙ placed-If id l e a b))
 
-pub kept_For : (id l : ℕ) (i : Option Statement) (e : Expr) (step : Option Statement) (b : List Statement) (one : Statement) (xs : List Statement) (first line : ℕ) (old after_init after_step new : List ℕ)
-    → one ≡ s.For id l i e step b → xs ≡ b → after_init ≡ kept first (part_starts (option_map placed i) line) old → after_step ≡ kept first (part_starts (option_map placed step) line) after_init
-    → new ≡ kept first (block_starts (map placed xs) (line + 1)) after_step → new ≡ kept first ((placed one).inside line) old
-kept_For id l i e step b one xs first line old after_init after_step new is x p q r =
+pub kept_For : (id l : ℕ) (i : Option Statement) (e : Expr) (step : Option Statement) (b : List Statement) (statement : Statement) (xs : List Statement) (first line : ℕ) (old after_init after_step new : List ℕ)
+    → statement ≡ s.For id l i e step b → xs ≡ b → after_init ≡ kept first (part_starts (option_map placed i) line) old → after_step ≡ kept first (part_starts (option_map placed step) line) after_init
+    → new ≡ kept first (block_starts (map placed xs) (line + 1)) after_step → new ≡ kept first ((placed statement).inside line) old
+kept_For id l i e step b statement xs first line old after_init after_step new is x p q r =
     let body : new ≡ kept first (block_starts (map placed b) (line + 1)) after_step = r ∙ ap (λ z. kept first (block_starts (map placed z) (line + 1)) after_step) x in
     let others = then_kept first (part_starts (option_map placed step) line) (block_starts (map placed b) (line + 1)) after_init after_step new q body in
     then_kept first (part_starts (option_map placed i) line) (part_starts (option_map placed step) line ++ block_starts (map placed b) (line + 1)) old after_init new p others
     ∙ ap (λ (z : Placed). kept first (z.inside line) old) (sym (ap placed is ∙ placed-For id l i e step b))
 
-pub kept_own : (one : Statement) (first line : ℕ) (old between new : List ℕ) → between ≡ kept first (own_starts (own_id one) line) old → new ≡ kept first ((placed one).inside line) between
-    → new ≡ kept first (starts_from (placed one) line) old
-kept_own one first line old between new p q =
-    then_kept first (own_starts (own_id one) line) ((placed one).inside line) old between new p q
-    ∙ ap (λ (o : Option ℕ). kept first (own_starts o line ++ (placed one).inside line) old) (sym (placed-own one))
+pub kept_own : (statement : Statement) (first line : ℕ) (old between new : List ℕ) → between ≡ kept first (own_starts (own_id statement) line) old → new ≡ kept first ((placed statement).inside line) between
+    → new ≡ kept first (starts_from (placed statement) line) old
+kept_own statement first line old between new p q =
+    then_kept first (own_starts (own_id statement) line) ((placed statement).inside line) old between new p q
+    ∙ ap (λ (o : Option ℕ). kept first (own_starts o line ++ (placed statement).inside line) old) (sym (placed-own statement))
 
 -- a list without a statement
 pub kept_none : (all : List Statement) (first line : ℕ) (ls : List ℕ) → true ≡ (length all == 0) → ls ≡ kept first (block_starts (map placed all) line) ls
@@ -140,17 +140,17 @@ struct_starts : (o : Option StructDef) (n : ℕ) → starts_from (option_map_or 
 struct_starts None n = refl
 struct_starts (Some d) n = refl
 
-pub kept_Struct : (p : Program) (id : ℕ) (one : Item) (first line : ℕ) (ls : List ℕ) → one ≡ item.Struct id → ls ≡ kept first (starts_from (item_placed p one) line) ls
-kept_Struct p id one first line ls is =
+pub kept_Struct : (p : Program) (id : ℕ) (statement : Item) (first line : ℕ) (ls : List ℕ) → statement ≡ item.Struct id → ls ≡ kept first (starts_from (item_placed p statement) line) ls
+kept_Struct p id statement first line ls is =
     sym (ap (λ y. kept first (starts_from (item_placed p y) line) ls) is ∙ ap (λ (y : Starts). kept first y ls) (struct_starts (slice_get p.structs id) line) ∙ keep_nothing first ls)
 
 prototype_starts : (o : Option Function) (n : ℕ) → starts_from (option_map_or (λ (g : Function). bare 1) o (bare 0)) n ≡ []
 prototype_starts None n = refl
 prototype_starts (Some d) n = refl
 
-pub kept_Prototype : (p : Program) (f : ℕ) (names : List (Option (List ℕ))) (is_static : Bool) (one : Item) (first line : ℕ) (ls : List ℕ) → one ≡ item.Prototype f names is_static
-    → ls ≡ kept first (starts_from (item_placed p one) line) ls
-kept_Prototype p f names is_static one first line ls is =
+pub kept_Prototype : (p : Program) (f : ℕ) (names : List (Option (List ℕ))) (is_static : Bool) (statement : Item) (first line : ℕ) (ls : List ℕ) → statement ≡ item.Prototype f names is_static
+    → ls ≡ kept first (starts_from (item_placed p statement) line) ls
+kept_Prototype p f names is_static statement first line ls is =
     sym (ap (λ y. kept first (starts_from (item_placed p y) line) ls) is ∙ ap (λ (y : Starts). kept first y ls) (prototype_starts (slice_get p.functions f) line) ∙ keep_nothing first ls)
 
 pub ruleset placed_of = (placed-Declare, placed-Assign, placed-Bump, placed-Invoke, placed-Fetch, placed-Write, placed-Print, placed-Heap, placed-Release, placed-Return, placed-If, placed-While, placed-Do, placed-Switch, placed-Block, placed-For, placed-arm)

@@ -29,34 +29,34 @@ use Rattle.c_print.proofs.PlacedLemmas.{placed-Declare, placed-Assign, placed-Bu
 
 -- a statement of a statement at this level that begins on line k: the number has its line
 pub record IsStarted (p : Program) (n : ℕ) (outer : Statement) (k : ℕ) (x : Start) : Type 0 where
-  pub one : Statement
-  pub number : own_id one ≡ Some x.id
+  pub statement : Statement
+  pub number : own_id statement ≡ Some x.id
   pub front : Bytes
   pub words : Bytes
-  pub stands : StandsBehind p one n outer front words
+  pub stands : StandsBehind p statement n outer front words
   pub counted : x.line ≡ k + line_feeds front
 
 pub record ListStarted (p : Program) (n : ℕ) (outer : List Statement) (k : ℕ) (x : Start) : Type 0 where
-  pub one : Statement
-  pub number : own_id one ≡ Some x.id
+  pub statement : Statement
+  pub number : own_id statement ≡ Some x.id
   pub front : Bytes
   pub words : Bytes
-  pub stands : ListBehind p one n outer front words
+  pub stands : ListBehind p statement n outer front words
   pub counted : x.line ≡ k + line_feeds front
 
 pub record ArmsStarted (p : Program) (n : ℕ) (outer : List Arm) (k : ℕ) (x : Start) : Type 0 where
-  pub one : Statement
-  pub number : own_id one ≡ Some x.id
+  pub statement : Statement
+  pub number : own_id statement ≡ Some x.id
   pub front : Bytes
   pub words : Bytes
-  pub stands : ArmsBehind p one n outer front words
+  pub stands : ArmsBehind p statement n outer front words
   pub counted : x.line ≡ k + line_feeds front
 
 -- a statement is as high as its line feeds, and each number in it has its line
-pub record IsLaid (p : Program) (one : Statement) : Type 0 where
-  pub plain : feedless (statement_words p one) ≡ true
-  pub tall : (n : ℕ) → line_feeds (statement_lines p n one) ≡ (placed one).height
-  pub started : (n k : ℕ) → All (IsStarted p n one k) (starts_from (placed one) k)
+pub record IsLaid (p : Program) (statement : Statement) : Type 0 where
+  pub plain : feedless (statement_words p statement) ≡ true
+  pub tall : (n : ℕ) → line_feeds (statement_lines p n statement) ≡ (placed statement).height
+  pub started : (n k : ℕ) → All (IsStarted p n statement k) (starts_from (placed statement) k)
 
 pub record IsLaidList (p : Program) (all : List Statement) : Type 0 where
   pub tall : (n : ℕ) → line_feeds (body_lines p n all) ≡ heights (map placed all)
@@ -78,99 +78,99 @@ each_of P Q xs f h i d lt = f _ (h i d lt)
 no_statement : (p : Program) → IsLaidList p []
 no_statement p = record { tall = λ n. refl; started = λ n k. All-nil (ListStarted p n [] k) }
 
-next_statement : (p : Program) (one : Statement) (rest : List Statement) → IsLaid p one → IsLaidList p rest → IsLaidList p (one ∷ rest)
-next_statement p one rest a b = record {
-  tall = λ n. omega (arith, feeds-append (statement_lines p n one) (body_lines p n rest), a.tall n, b.tall n);
+next_statement : (p : Program) (statement : Statement) (rest : List Statement) → IsLaid p statement → IsLaidList p rest → IsLaidList p (statement ∷ rest)
+next_statement p statement rest a b = record {
+  tall = λ n. omega (arith, feeds-append (statement_lines p n statement) (body_lines p n rest), a.tall n, b.tall n);
   started = λ n k.
-      All-append (ListStarted p n (one ∷ rest) k) (starts_from (placed one) k) (block_starts (map placed rest) (k + (placed one).height))
-      (each_of (IsStarted p n one k) (ListStarted p n (one ∷ rest) k) (starts_from (placed one) k) (λ x h. record { one = h.one; number = h.number; front = h.front; words = h.words; stands = first h.stands; counted = h.counted }) (a.started n k))
-      (each_of (ListStarted p n rest (k + (placed one).height)) (ListStarted p n (one ∷ rest) k) (block_starts (map placed rest) (k + (placed one).height)) (λ x h. record {
-        one = h.one;
+      All-append (ListStarted p n (statement ∷ rest) k) (starts_from (placed statement) k) (block_starts (map placed rest) (k + (placed statement).height))
+      (each_of (IsStarted p n statement k) (ListStarted p n (statement ∷ rest) k) (starts_from (placed statement) k) (λ x h. record { statement = h.statement; number = h.number; front = h.front; words = h.words; stands = first h.stands; counted = h.counted }) (a.started n k))
+      (each_of (ListStarted p n rest (k + (placed statement).height)) (ListStarted p n (statement ∷ rest) k) (block_starts (map placed rest) (k + (placed statement).height)) (λ x h. record {
+        statement = h.statement;
         number = h.number;
-        front = statement_lines p n one ++ h.front;
+        front = statement_lines p n statement ++ h.front;
         words = h.words;
         stands = later h.stands;
-        counted = omega (arith, h.counted, feeds-append (statement_lines p n one) h.front, a.tall n);
-      }) (b.started n (k + (placed one).height)));
+        counted = omega (arith, h.counted, feeds-append (statement_lines p n statement) h.front, a.tall n);
+      }) (b.started n (k + (placed statement).height)));
 }
 
 no_arm : (p : Program) → IsLaidArms p []
 no_arm p = record { tall = λ n. refl; started = λ n k. All-nil (ArmsStarted p n [] k) }
 
-next_arm : (p : Program) (one : Arm) (rest : List Arm) → IsLaidArm p one → IsLaidArms p rest → IsLaidArms p (one ∷ rest)
-next_arm p one rest a b = record {
-  tall = λ n. omega (arith, feeds-append (arm_laid p one n) (arms_lines (map (arm_laid p) rest) n), a.tall n, b.tall n);
+next_arm : (p : Program) (statement : Arm) (rest : List Arm) → IsLaidArm p statement → IsLaidArms p rest → IsLaidArms p (statement ∷ rest)
+next_arm p statement rest a b = record {
+  tall = λ n. omega (arith, feeds-append (arm_laid p statement n) (arms_lines (map (arm_laid p) rest) n), a.tall n, b.tall n);
   started = λ n k.
-      All-append (ArmsStarted p n (one ∷ rest) k) (starts_from (arm_placed one) k) (block_starts (map arm_placed rest) (k + (arm_placed one).height))
+      All-append (ArmsStarted p n (statement ∷ rest) k) (starts_from (arm_placed statement) k) (block_starts (map arm_placed rest) (k + (arm_placed statement).height))
       (a.started n k rest)
-      (each_of (ArmsStarted p n rest (k + (arm_placed one).height)) (ArmsStarted p n (one ∷ rest) k) (block_starts (map arm_placed rest) (k + (arm_placed one).height)) (λ x h. record {
-        one = h.one;
+      (each_of (ArmsStarted p n rest (k + (arm_placed statement).height)) (ArmsStarted p n (statement ∷ rest) k) (block_starts (map arm_placed rest) (k + (arm_placed statement).height)) (λ x h. record {
+        statement = h.statement;
         number = h.number;
-        front = arm_laid p one n ++ h.front;
+        front = arm_laid p statement n ++ h.front;
         words = h.words;
         stands = after h.stands;
-        counted = omega (arith, h.counted, feeds-append (arm_laid p one n) h.front, a.tall n);
-      }) (b.started n (k + (arm_placed one).height)));
+        counted = omega (arith, h.counted, feeds-append (arm_laid p statement n) h.front, a.tall n);
+      }) (b.started n (k + (arm_placed statement).height)));
 }
 
 -- ---- one statement
 
-own_start_at : (p : Program) (one : Statement) (n k : ℕ) (o : Option ℕ) → own_id one ≡ o → All (IsStarted p n one k) (own_starts o k)
-own_start_at p one n k None e = All-nil (IsStarted p n one k)
-own_start_at p one n k (Some id) e =
-    All-cons (IsStarted p n one k) (start id k) [] (record { one = one; number = e; front = indent n; words = opening p one; stands = itself; counted = omega (arith, indent_feeds n) }) (All-nil (IsStarted p n one k))
+own_start_at : (p : Program) (statement : Statement) (n k : ℕ) (o : Option ℕ) → own_id statement ≡ o → All (IsStarted p n statement k) (own_starts o k)
+own_start_at p statement n k None e = All-nil (IsStarted p n statement k)
+own_start_at p statement n k (Some id) e =
+    All-cons (IsStarted p n statement k) (start id k) [] (record { statement = statement; number = e; front = indent n; words = opening p statement; stands = itself; counted = omega (arith, indent_feeds n) }) (All-nil (IsStarted p n statement k))
 
-own_started : (p : Program) (one : Statement) (n k : ℕ) → All (IsStarted p n one k) (own_starts (placed one).own k)
-own_started p one n k = own_start_at p one n k (placed one).own (sym (placed-own one))
+own_started : (p : Program) (statement : Statement) (n k : ℕ) → All (IsStarted p n statement k) (own_starts (placed statement).own k)
+own_started p statement n k = own_start_at p statement n k (placed statement).own (sym (placed-own statement))
 
 -- a statement of one line
-simple_laid : (p : Program) (one : Statement) (id : Option ℕ) → placed one ≡ simple id → ((n : ℕ) → statement_lines p n one ≡ line n (statement_words p one ++ codes ";")) → feedless (statement_words p one) ≡ true → IsLaid p one
-simple_laid p one id e l h = record {
+simple_laid : (p : Program) (statement : Statement) (id : Option ℕ) → placed statement ≡ simple id → ((n : ℕ) → statement_lines p n statement ≡ line n (statement_words p statement ++ codes ";")) → feedless (statement_words p statement) ≡ true → IsLaid p statement
+simple_laid p statement id e l h = record {
   plain = h;
-  tall = λ n. omega (arith, ap (λ (y : Placed). y.height) e, ap line_feeds (l n), line_feeds-line n (statement_words p one ++ codes ";") (cat (statement_words p one) (codes ";") h refl));
+  tall = λ n. omega (arith, ap (λ (y : Placed). y.height) e, ap line_feeds (l n), line_feeds-line n (statement_words p statement ++ codes ";") (cat (statement_words p statement) (codes ";") h refl));
   started = λ n k.
-      All-append (IsStarted p n one k) (own_starts (placed one).own k) ((placed one).inside k) (own_started p one n k)
-      (subst (λ (y : Placed). All (IsStarted p n one k) (y.inside k)) (sym e) (All-nil (IsStarted p n one k)));
+      All-append (IsStarted p n statement k) (own_starts (placed statement).own k) ((placed statement).inside k) (own_started p statement n k)
+      (subst (λ (y : Placed). All (IsStarted p n statement k) (y.inside k)) (sym e) (All-nil (IsStarted p n statement k)));
 }
 
 -- a statement with lines of its own around its body
-enclosed_laid : (p : Program) (one : Statement) (own : Option ℕ) (h : ℕ) (within : ℕ → Starts) (head tail : Bytes) (body : ℕ → Bytes)
-    → placed one ≡ record { own = own; height = 2 + h; inside = within }
-    → ((n : ℕ) → statement_lines p n one ≡ line n head ++ (body n ++ line n tail))
-    → feedless (statement_words p one) ≡ true → feedless head ≡ true → feedless tail ≡ true → ((n : ℕ) → line_feeds (body n) ≡ h)
-    → ((n k : ℕ) → All (IsStarted p n one k) (within k)) → IsLaid p one
-enclosed_laid p one own h within head tail body e l words opens closes b inner = record {
+enclosed_laid : (p : Program) (statement : Statement) (own : Option ℕ) (h : ℕ) (within : ℕ → Starts) (head tail : Bytes) (body : ℕ → Bytes)
+    → placed statement ≡ record { own = own; height = 2 + h; inside = within }
+    → ((n : ℕ) → statement_lines p n statement ≡ line n head ++ (body n ++ line n tail))
+    → feedless (statement_words p statement) ≡ true → feedless head ≡ true → feedless tail ≡ true → ((n : ℕ) → line_feeds (body n) ≡ h)
+    → ((n k : ℕ) → All (IsStarted p n statement k) (within k)) → IsLaid p statement
+enclosed_laid p statement own h within head tail body e l words opens closes b inner = record {
   plain = words;
   tall = λ n. omega (arith, ap (λ (y : Placed). y.height) e, ap line_feeds (l n), feeds-append (line n head) (body n ++ line n tail), feeds-append (body n) (line n tail), line_feeds-line n head opens, line_feeds-line n tail closes, b n);
   started = λ n k.
-      All-append (IsStarted p n one k) (own_starts (placed one).own k) ((placed one).inside k) (own_started p one n k)
-      (subst (λ (y : Placed). All (IsStarted p n one k) (y.inside k)) (sym e) (inner n k));
+      All-append (IsStarted p n statement k) (own_starts (placed statement).own k) ((placed statement).inside k) (own_started p statement n k)
+      (subst (λ (y : Placed). All (IsStarted p n statement k) (y.inside k)) (sym e) (inner n k));
 }
 
 -- what starts in a body behind one line starts in the statement
 in_body : (p : Program) (outer : Statement) (n k : ℕ) (head : Bytes) (b : List Statement) → feedless head ≡ true
-    → ((one : Statement) (front words : Bytes) → ListBehind p one (suc n) b front words → StandsBehind p one n outer (line n head ++ front) words)
+    → ((statement : Statement) (front words : Bytes) → ListBehind p statement (suc n) b front words → StandsBehind p statement n outer (line n head ++ front) words)
     → IsLaidList p b → All (IsStarted p n outer k) (block_starts (map placed b) (k + 1))
 in_body p outer n k head b h f body =
     each_of (ListStarted p (suc n) b (k + 1)) (IsStarted p n outer k) (block_starts (map placed b) (k + 1)) (λ x a. record {
-      one = a.one;
+      statement = a.statement;
       number = a.number;
       front = line n head ++ a.front;
       words = a.words;
-      stands = f a.one a.front a.words a.stands;
+      stands = f a.statement a.front a.words a.stands;
       counted = omega (arith, a.counted, feeds-append (line n head) a.front, line_feeds-line n head h);
     }) (body.started (suc n) (k + 1))
 
 in_arms : (p : Program) (outer : Statement) (n k : ℕ) (head : Bytes) (b : List Arm) → feedless head ≡ true
-    → ((one : Statement) (front words : Bytes) → ArmsBehind p one (suc n) b front words → StandsBehind p one n outer (line n head ++ front) words)
+    → ((statement : Statement) (front words : Bytes) → ArmsBehind p statement (suc n) b front words → StandsBehind p statement n outer (line n head ++ front) words)
     → IsLaidArms p b → All (IsStarted p n outer k) (block_starts (map arm_placed b) (k + 1))
 in_arms p outer n k head b h f body =
     each_of (ArmsStarted p (suc n) b (k + 1)) (IsStarted p n outer k) (block_starts (map arm_placed b) (k + 1)) (λ x a. record {
-      one = a.one;
+      statement = a.statement;
       number = a.number;
       front = line n head ++ a.front;
       words = a.words;
-      stands = f a.one a.front a.words a.stands;
+      stands = f a.statement a.front a.words a.stands;
       counted = omega (arith, a.counted, feeds-append (line n head) a.front, line_feeds-line n head h);
     }) (body.started (suc n) (k + 1))
 
@@ -197,7 +197,7 @@ module _ (p : Program) (ok : IsFeedless p) where
       → All (IsStarted p n (s.If id l e a b) k) (block_starts (map placed b) (k + 1 + heights (map placed a) + 1))
   in_else id l e a b n k t h j =
       each_of (ListStarted p (suc n) b (k + 1 + heights (map placed a) + 1)) (IsStarted p n (s.If id l e a b) k) (block_starts (map placed b) (k + 1 + heights (map placed a) + 1)) (λ x y. record {
-        one = y.one;
+        statement = y.statement;
         number = y.number;
         words = y.words;
         stands = otherwise id l e a b y.stands;
@@ -224,7 +224,7 @@ module _ (p : Program) (ok : IsFeedless p) where
       words (cat (statement_words p (s.If id l e a b)) (codes " {") words refl) refl
       (λ n. omega (arith, feeds-append (body_lines p (suc n) a) (else_lines (map (laid p) b) n), h.tall (suc n), else_feeds p b n j))
       (λ n k. All-append (IsStarted p n (s.If id l e a b) k) (block_starts (map placed a) (k + 1)) (block_starts (map placed b) (k + 1 + heights (map placed a) + 1))
-      (in_body p (s.If id l e a b) n k (codes "if (" ++ (expr_words p e ++ codes ") {")) a (opened_feedless e t) (λ one front w y. met id l e a b y) h)
+      (in_body p (s.If id l e a b) n k (codes "if (" ++ (expr_words p e ++ codes ") {")) a (opened_feedless e t) (λ statement front w y. met id l e a b y) h)
       (in_else id l e a b n k t h j))
 
   laid_While : (id l : ℕ) (e : Expr) (b : List Statement) → expr_feedless e ≡ true → IsLaidList p b → IsLaid p (s.While id l e b)
@@ -233,7 +233,7 @@ module _ (p : Program) (ok : IsFeedless p) where
       enclosed_laid p (s.While id l e b) (Some id) (heights (map placed b)) (λ n. block_starts (map placed b) (n + 1))
       (statement_words p (s.While id l e b) ++ codes " {") (codes "}") (λ n. body_lines p (suc n) b)
       (placed-While id l e b) (lines-While p id l e b) words (cat (statement_words p (s.While id l e b)) (codes " {") words refl) refl (λ n. h.tall (suc n))
-      (λ n k. in_body p (s.While id l e b) n k (codes "while (" ++ (expr_words p e ++ codes ") {")) b (opened_feedless e t) (λ one front w y. while id l e b y) h)
+      (λ n k. in_body p (s.While id l e b) n k (codes "while (" ++ (expr_words p e ++ codes ") {")) b (opened_feedless e t) (λ statement front w y. while id l e b y) h)
 
   laid_Do : (id l : ℕ) (e : Expr) (b : List Statement) → expr_feedless e ≡ true → IsLaidList p b → IsLaid p (s.Do id l e b)
   laid_Do id l e b t h =
@@ -242,14 +242,14 @@ module _ (p : Program) (ok : IsFeedless p) where
       enclosed_laid p (s.Do id l e b) (Some id) (heights (map placed b)) (λ n. block_starts (map placed b) (n + 1))
       (codes "do {") (codes "} while (" ++ (expr_words p e ++ codes ");")) (λ n. body_lines p (suc n) b)
       (placed-Do id l e b) (lines-Do p id l e b) words refl tail (λ n. h.tall (suc n))
-      (λ n k. in_body p (s.Do id l e b) n k (codes "do {") b refl (λ one front w y. repeated id l e b y) h)
+      (λ n k. in_body p (s.Do id l e b) n k (codes "do {") b refl (λ statement front w y. repeated id l e b y) h)
 
   laid_Block : (l : ℕ) (b : List Statement) → feedless (statement_words p (s.Block l b)) ≡ true → IsLaidList p b → IsLaid p (s.Block l b)
   laid_Block l b words h =
       enclosed_laid p (s.Block l b) None (heights (map placed b)) (λ n. block_starts (map placed b) (n + 1))
       (codes "{") (codes "}") (λ n. body_lines p (suc n) b)
       (placed-Block l b) (lines-Block p l b) words refl refl (λ n. h.tall (suc n))
-      (λ n k. in_body p (s.Block l b) n k (codes "{") b refl (λ one front w y. block l b y) h)
+      (λ n k. in_body p (s.Block l b) n k (codes "{") b refl (λ statement front w y. block l b y) h)
 
   laid_Switch : (id l : ℕ) (e : Expr) (b : List Arm) → expr_feedless e ≡ true → IsLaidArms p b → IsLaid p (s.Switch id l e b)
   laid_Switch id l e b t h =
@@ -257,14 +257,14 @@ module _ (p : Program) (ok : IsFeedless p) where
       enclosed_laid p (s.Switch id l e b) (Some id) (heights (map arm_placed b)) (λ n. block_starts (map arm_placed b) (n + 1))
       (statement_words p (s.Switch id l e b) ++ codes " {") (codes "}") (λ n. arms_lines (map (arm_laid p) b) (suc n))
       (placed-Switch id l e b) (lines-Switch p id l e b) words (cat (statement_words p (s.Switch id l e b)) (codes " {") words refl) refl (λ n. h.tall (suc n))
-      (λ n k. in_arms p (s.Switch id l e b) n k (codes "switch (" ++ (expr_words p e ++ codes ") {")) b (opened_feedless e t) (λ one front w y. switch id l e b y) h)
+      (λ n k. in_arms p (s.Switch id l e b) n k (codes "switch (" ++ (expr_words p e ++ codes ") {")) b (opened_feedless e t) (λ statement front w y. switch id l e b y) h)
 
   -- ---- a for
 
-  part_started : (n k : ℕ) (outer one : Statement) (front words : Bytes) (o : Option ℕ) → own_id one ≡ o → line_feeds front ≡ 0 → StandsBehind p one n outer front words → All (IsStarted p n outer k) (own_starts o k)
-  part_started n k outer one front words None e none h = All-nil (IsStarted p n outer k)
-  part_started n k outer one front words (Some id) e none h =
-      All-cons (IsStarted p n outer k) (start id k) [] (record { one = one; number = e; front = front; words = words; stands = h; counted = omega (arith, none) }) (All-nil (IsStarted p n outer k))
+  part_started : (n k : ℕ) (outer statement : Statement) (front words : Bytes) (o : Option ℕ) → own_id statement ≡ o → line_feeds front ≡ 0 → StandsBehind p statement n outer front words → All (IsStarted p n outer k) (own_starts o k)
+  part_started n k outer statement front words None e none h = All-nil (IsStarted p n outer k)
+  part_started n k outer statement front words (Some id) e none h =
+      All-cons (IsStarted p n outer k) (start id k) [] (record { statement = statement; number = e; front = front; words = words; stands = h; counted = omega (arith, none) }) (All-nil (IsStarted p n outer k))
 
   -- the words of a part, where there is one
   abbrev PartPlain : Option Statement → Type 0
@@ -313,7 +313,7 @@ module _ (p : Program) (ok : IsFeedless p) where
       (init_started id l init e part b n k)
       (All-append (IsStarted p n (s.For id l init e part b) k) (part_starts (option_map placed part) k) (block_starts (map placed b) (k + 1))
       (step_started id l init e part b n k i t)
-      (in_body p (s.For id l init e part b) n k (statement_words p (s.For id l init e part b) ++ codes " {") b head (λ one front w y. turn id l init e part b y) h)))
+      (in_body p (s.For id l init e part b) n k (statement_words p (s.For id l init e part b) ++ codes " {") b head (λ statement front w y. turn id l init e part b y) h)))
 
   -- ---- arms
 
@@ -335,7 +335,7 @@ module _ (p : Program) (ok : IsFeedless p) where
         started = λ n k rest.
             subst (λ (y : Placed). All (ArmsStarted p n (a ∷ rest) k) (starts_from y k)) (sym (placed-arm a))
             (each_of (ListStarted p (suc n) body (k + length labels)) (ArmsStarted p n (a ∷ rest) k) (block_starts (map placed body) (k + length labels)) (λ x y. record {
-              one = y.one;
+              statement = y.statement;
               number = y.number;
               front = label_lines p labels n ++ y.front;
               words = y.words;
@@ -347,7 +347,7 @@ module _ (p : Program) (ok : IsFeedless p) where
   -- ---- all forms
 
   abbrev Q : Statement → Type 0
-  Q one = statement_feedless one ≡ true → IsLaid p one
+  Q statement = statement_feedless statement ≡ true → IsLaid p statement
 
   abbrev R : Arm → Type 0
   R a = arm_feedless a ≡ true → IsLaidArm p a
@@ -453,7 +453,7 @@ module _ (p : Program) (ok : IsFeedless p) where
       let both = and_parts (list_all label_feedless labels) (each (map statement_feedless (bare body))) (sym (fold-roll-Arm Bool Bool statement_step arm_step (record { labels = labels; body = bare body })) ∙ h) in
       laid_arm labels (bare body) both.0 (list_laid body both.1)
 
-  pub statement_laid : (one : Statement) → Q one
+  pub statement_laid : (statement : Statement) → Q statement
   statement_laid =
       ind-Statement Q R (λ x y is. subst (λ z. Q (roll-Statement z)) is (λ h. layer_laid y (sym (fold-roll-Statement Bool Bool statement_step arm_step (layer y)) ∙ h)))
       (λ x y is. subst (λ z. R (roll-Arm z)) is (arm_case y.labels y.body))

@@ -37,69 +37,69 @@ layer_opening words (Statement-F.Return id l e) = words
 
 -- what a statement begins with: its words, but for a do, whose test stands behind its body, and a bare block
 abbrev pub opening : Program → Statement → Bytes
-opening p one = layer_opening (statement_words p one) (out-Statement one)
+opening p statement = layer_opening (statement_words p statement) (out-Statement statement)
 
 abbrev pub if_line : Program → ℕ → Expr → Bytes
 if_line p n e = line n (codes "if (" ++ (expr_words p e ++ codes ") {"))
 
 mutual
   -- in the lines of the statement at this level, behind these bytes, one stands and begins with these words
-  pub data StandsBehind (p : Program) (one : Statement) : ℕ → Statement → Bytes → Bytes → Type 0 where
-    itself : {n : ℕ} → StandsBehind p one n one (indent n) (opening p one)
-    met : {n : ℕ} {front words : Bytes} (id l : ℕ) (e : Expr) (a b : List Statement) → ListBehind p one (suc n) a front words
-        → StandsBehind p one n (s.If id l e a b) (if_line p n e ++ front) words
-    otherwise : {n : ℕ} {front words : Bytes} (id l : ℕ) (e : Expr) (a b : List Statement) → ListBehind p one (suc n) b front words
-        → StandsBehind p one n (s.If id l e a b) (if_line p n e ++ (body_lines p (suc n) a ++ (line n (codes "} else {") ++ front))) words
-    while : {n : ℕ} {front words : Bytes} (id l : ℕ) (e : Expr) (b : List Statement) → ListBehind p one (suc n) b front words
-        → StandsBehind p one n (s.While id l e b) (line n (codes "while (" ++ (expr_words p e ++ codes ") {")) ++ front) words
-    repeated : {n : ℕ} {front words : Bytes} (id l : ℕ) (e : Expr) (b : List Statement) → ListBehind p one (suc n) b front words
-        → StandsBehind p one n (s.Do id l e b) (line n (codes "do {") ++ front) words
-    block : {n : ℕ} {front words : Bytes} (l : ℕ) (b : List Statement) → ListBehind p one (suc n) b front words
-        → StandsBehind p one n (s.Block l b) (line n (codes "{") ++ front) words
+  pub data StandsBehind (p : Program) (statement : Statement) : ℕ → Statement → Bytes → Bytes → Type 0 where
+    itself : {n : ℕ} → StandsBehind p statement n statement (indent n) (opening p statement)
+    met : {n : ℕ} {front words : Bytes} (id l : ℕ) (e : Expr) (a b : List Statement) → ListBehind p statement (suc n) a front words
+        → StandsBehind p statement n (s.If id l e a b) (if_line p n e ++ front) words
+    otherwise : {n : ℕ} {front words : Bytes} (id l : ℕ) (e : Expr) (a b : List Statement) → ListBehind p statement (suc n) b front words
+        → StandsBehind p statement n (s.If id l e a b) (if_line p n e ++ (body_lines p (suc n) a ++ (line n (codes "} else {") ++ front))) words
+    while : {n : ℕ} {front words : Bytes} (id l : ℕ) (e : Expr) (b : List Statement) → ListBehind p statement (suc n) b front words
+        → StandsBehind p statement n (s.While id l e b) (line n (codes "while (" ++ (expr_words p e ++ codes ") {")) ++ front) words
+    repeated : {n : ℕ} {front words : Bytes} (id l : ℕ) (e : Expr) (b : List Statement) → ListBehind p statement (suc n) b front words
+        → StandsBehind p statement n (s.Do id l e b) (line n (codes "do {") ++ front) words
+    block : {n : ℕ} {front words : Bytes} (l : ℕ) (b : List Statement) → ListBehind p statement (suc n) b front words
+        → StandsBehind p statement n (s.Block l b) (line n (codes "{") ++ front) words
     -- the first part and the step of a for stand on its own line
     first_part : {n : ℕ} (id l : ℕ) (e : Expr) (step : Option Statement) (b : List Statement)
-        → StandsBehind p one n (s.For id l (Some one) e step b) (indent n ++ codes "for (") (statement_words p one)
+        → StandsBehind p statement n (s.For id l (Some statement) e step b) (indent n ++ codes "for (") (statement_words p statement)
     step : {n : ℕ} (id l : ℕ) (init : Option Statement) (e : Expr) (b : List Statement)
-        → StandsBehind p one n (s.For id l init e (Some one) b) (indent n ++ (codes "for (" ++ (init_part (option_map (laid p) init) ++ (codes "; " ++ (expr_words p e ++ codes "; "))))) (statement_words p one)
-    turn : {n : ℕ} {front words : Bytes} (id l : ℕ) (init : Option Statement) (e : Expr) (step : Option Statement) (b : List Statement) → ListBehind p one (suc n) b front words
-        → StandsBehind p one n (s.For id l init e step b) (line n (statement_words p (s.For id l init e step b) ++ codes " {") ++ front) words
-    switch : {n : ℕ} {front words : Bytes} (id l : ℕ) (e : Expr) (arms : List Arm) → ArmsBehind p one (suc n) arms front words
-        → StandsBehind p one n (s.Switch id l e arms) (line n (codes "switch (" ++ (expr_words p e ++ codes ") {")) ++ front) words
+        → StandsBehind p statement n (s.For id l init e (Some statement) b) (indent n ++ (codes "for (" ++ (init_part (option_map (laid p) init) ++ (codes "; " ++ (expr_words p e ++ codes "; "))))) (statement_words p statement)
+    turn : {n : ℕ} {front words : Bytes} (id l : ℕ) (init : Option Statement) (e : Expr) (step : Option Statement) (b : List Statement) → ListBehind p statement (suc n) b front words
+        → StandsBehind p statement n (s.For id l init e step b) (line n (statement_words p (s.For id l init e step b) ++ codes " {") ++ front) words
+    switch : {n : ℕ} {front words : Bytes} (id l : ℕ) (e : Expr) (arms : List Arm) → ArmsBehind p statement (suc n) arms front words
+        → StandsBehind p statement n (s.Switch id l e arms) (line n (codes "switch (" ++ (expr_words p e ++ codes ") {")) ++ front) words
 
   -- the same in the lines of a list of statements
-  pub data ListBehind (p : Program) (one : Statement) : ℕ → List Statement → Bytes → Bytes → Type 0 where
-    first : {n : ℕ} {outer : Statement} {rest : List Statement} {front words : Bytes} → StandsBehind p one n outer front words → ListBehind p one n (outer ∷ rest) front words
-    later : {n : ℕ} {before : Statement} {rest : List Statement} {front words : Bytes} → ListBehind p one n rest front words
-        → ListBehind p one n (before ∷ rest) (statement_lines p n before ++ front) words
+  pub data ListBehind (p : Program) (statement : Statement) : ℕ → List Statement → Bytes → Bytes → Type 0 where
+    first : {n : ℕ} {outer : Statement} {rest : List Statement} {front words : Bytes} → StandsBehind p statement n outer front words → ListBehind p statement n (outer ∷ rest) front words
+    later : {n : ℕ} {before : Statement} {rest : List Statement} {front words : Bytes} → ListBehind p statement n rest front words
+        → ListBehind p statement n (before ∷ rest) (statement_lines p n before ++ front) words
 
   -- the same in the lines of the arms of a switch
-  pub data ArmsBehind (p : Program) (one : Statement) : ℕ → List Arm → Bytes → Bytes → Type 0 where
-    inside : {n : ℕ} {rest : List Arm} {front words : Bytes} (labels : List Label) (body : List Statement) → ListBehind p one (suc n) body front words
-        → ArmsBehind p one n (roll-Arm (record { labels = labels; body = body }) ∷ rest) (label_lines p labels n ++ front) words
-    after : {n : ℕ} {before : Arm} {rest : List Arm} {front words : Bytes} → ArmsBehind p one n rest front words
-        → ArmsBehind p one n (before ∷ rest) (arm_laid p before n ++ front) words
+  pub data ArmsBehind (p : Program) (statement : Statement) : ℕ → List Arm → Bytes → Bytes → Type 0 where
+    inside : {n : ℕ} {rest : List Arm} {front words : Bytes} (labels : List Label) (body : List Statement) → ListBehind p statement (suc n) body front words
+        → ArmsBehind p statement n (roll-Arm (record { labels = labels; body = body }) ∷ rest) (label_lines p labels n ++ front) words
+    after : {n : ℕ} {before : Arm} {rest : List Arm} {front words : Bytes} → ArmsBehind p statement n rest front words
+        → ArmsBehind p statement n (before ∷ rest) (arm_laid p before n ++ front) words
 
 -- the same in the lines of the items of a program
-pub data ItemsBehind (p : Program) (one : Statement) : List Item → Bytes → Bytes → Type 0 where
-  defined : {f : ℕ} {found : Function} {rest : List Item} {front words : Bytes} → slice_get p.functions f ≡ Some found → ListBehind p one 1 found.body front words
-      → ItemsBehind p one (item.Define f ∷ rest) (line 0 (head_words p found.is_static found (map (var_words p) found.params) ++ codes " {") ++ front) words
-  behind : {before : Item} {rest : List Item} {front words : Bytes} → ItemsBehind p one rest front words → ItemsBehind p one (before ∷ rest) (item_lines p before ++ front) words
+pub data ItemsBehind (p : Program) (statement : Statement) : List Item → Bytes → Bytes → Type 0 where
+  defined : {f : ℕ} {found : Function} {rest : List Item} {front words : Bytes} → slice_get p.functions f ≡ Some found → ListBehind p statement 1 found.body front words
+      → ItemsBehind p statement (item.Define f ∷ rest) (line 0 (head_words p found.is_static found (map (var_words p) found.params) ++ codes " {") ++ front) words
+  behind : {before : Item} {rest : List Item} {front words : Bytes} → ItemsBehind p statement rest front words → ItemsBehind p statement (before ∷ rest) (item_lines p before ++ front) words
 
 -- a statement of the layout has the number
 pub record HasPlace (p : Program) (id : ℕ) : Type 0 where
-  pub one : Statement
-  pub number : own_id one ≡ Some id
+  pub statement : Statement
+  pub number : own_id statement ≡ Some id
   pub front : Bytes
   pub words : Bytes
-  pub stands : ItemsBehind p one p.items front words
+  pub stands : ItemsBehind p statement p.items front words
 
 -- the first token of the statement with this number stands on this line of the layout, counted from 1: behind these bytes the statement begins, and they have a line feed less
 pub record StartsOn (p : Program) (id n : ℕ) : Type 0 where
-  pub one : Statement
-  pub number : own_id one ≡ Some id
+  pub statement : Statement
+  pub number : own_id statement ≡ Some id
   pub front : Bytes
   pub words : Bytes
   pub rest : Bytes
-  pub stands : ItemsBehind p one p.items front words
+  pub stands : ItemsBehind p statement p.items front words
   pub text : layout p ≡ front ++ (words ++ rest)
   pub line : n ≡ 1 + line_feeds front

@@ -89,7 +89,7 @@ fn first_part(
 {
     match first {
         None => Ok(()),
-        Some(one) => words(out, program, one.get()),
+        Some(statement) => words(out, program, statement.get()),
     }
 }
 
@@ -105,9 +105,9 @@ fn step_part(
 {
     match step {
         None => Ok(()),
-        Some(one) => {
+        Some(statement) => {
             out.append(b" ")?;
-            words(out, program, one.get())
+            words(out, program, statement.get())
         }
     }
 }

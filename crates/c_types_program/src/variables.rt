@@ -52,22 +52,22 @@ impl Variables {
         &mut self,
         alloc: Global,
         tables: &Tables<'_>,
-        one: Declaration<'_>,
+        declaration: Declaration<'_>,
     ) -> Result<(), AllocError>
         requires right { AreRight tables.now }
-        requires shaped { trees.ctype_with tables.now.raw.now one.items one.shape.now ≡ None → ⊥ }
-        ensures { OnOk result (Grow self.old self.new (variable_with tables.now.raw.now one.entry.line tables.now.owner one.entry.is_static one.entry.is_parameter one.entry.name.now one.entry.shape.now one.entry.items ∷ [])) }
+        requires shaped { trees.ctype_with tables.now.raw.now declaration.items declaration.shape.now ≡ None → ⊥ }
+        ensures { OnOk result (Grow self.old self.new (variable_with tables.now.raw.now declaration.entry.line tables.now.owner declaration.entry.is_static declaration.entry.is_parameter declaration.entry.name.now declaration.entry.shape.now declaration.entry.items ∷ [])) }
     {
-        let name = one.name.copy(alloc)?;
-        match ctype_with(alloc, &tables.defined, one.items, one.shape) {
+        let name = declaration.name.copy(alloc)?;
+        match ctype_with(alloc, &tables.defined, declaration.items, declaration.shape) {
             Ok(Some(shape)) => {
                 self.made.push(Var {
                     name,
                     shape,
-                    line: one.line,
-                    is_static: one.is_static,
+                    line: declaration.line,
+                    is_static: declaration.is_static,
                     owner: tables.owner,
-                    is_parameter: one.is_parameter,
+                    is_parameter: declaration.is_parameter,
                 })?;
                 Ok(())
             }

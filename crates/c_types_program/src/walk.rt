@@ -23,20 +23,20 @@ pub struct Walk<'a> {
 
 impl<'a> Walk<'a> {
     /// Declares a variable. Err: no memory was left, or no number.
-    pub fn declare(&mut self, alloc: Global, one: Declaration<'a>) -> Result<(), AllocError>
+    pub fn declare(&mut self, alloc: Global, declaration: Declaration<'a>) -> Result<(), AllocError>
         requires right { AreRight self.now.tables }
-        requires fresh { scopes.meaning_in (scope_of self.now.tables) one.name.now ≡ None }
-        requires typed { types.type_with self.now.tables.raw.now one.items one.shape.now ≡ None → ⊥ }
-        requires shaped { trees.ctype_with self.now.tables.raw.now one.items one.shape.now ≡ None → ⊥ }
+        requires fresh { scopes.meaning_in (scope_of self.now.tables) declaration.name.now ≡ None }
+        requires typed { types.type_with self.now.tables.raw.now declaration.items declaration.shape.now ≡ None → ⊥ }
+        requires shaped { trees.ctype_with self.now.tables.raw.now declaration.items declaration.shape.now ≡ None → ⊥ }
         ensures { OnOk result (Comes self.old self.new
-            (scopes.with_entry one.entry.name.now (scopes.Meaning.Variable self.old.tables.variables (types.type_with self.old.tables.raw.now one.entry.items one.entry.shape.now)) (record (scope_of self.old.tables) { variables = self.old.tables.variables + 1 }))
-            (variable_with self.old.tables.raw.now one.entry.line self.old.tables.owner one.entry.is_static one.entry.is_parameter one.entry.name.now one.entry.shape.now one.entry.items ∷ [])) }
+            (scopes.with_entry declaration.entry.name.now (scopes.Meaning.Variable self.old.tables.variables (types.type_with self.old.tables.raw.now declaration.entry.items declaration.entry.shape.now)) (record (scope_of self.old.tables) { variables = self.old.tables.variables + 1 }))
+            (variable_with self.old.tables.raw.now declaration.entry.line self.old.tables.owner declaration.entry.is_static declaration.entry.is_parameter declaration.entry.name.now declaration.entry.shape.now declaration.entry.items ∷ [])) }
     {
-        let Some(t) = type_with(alloc, &self.tables.defined, one.items, one.shape)? else {
+        let Some(t) = type_with(alloc, &self.tables.defined, declaration.items, declaration.shape)? else {
             unreachable!();
         };
-        self.variables.add(alloc, &self.tables, one)?;
-        self.tables.declare(one.name.bytes(), t)?;
+        self.variables.add(alloc, &self.tables, declaration)?;
+        self.tables.declare(declaration.name.bytes(), t)?;
         Ok(())
     }
 

@@ -14,6 +14,7 @@ use Rattle.dep_model.specs.Doings.{Doing, Does, doing_step, doing_arm, doings, b
 use Rattle.dep_model.specs.Doings as done
 use Rattle.dep_model.specs.NumberedMains.{doing_number}
 use Rattle.dep_model.specs.SwitchArms.{has_first, with_labels}
+use Rattle.dep_model.proofs.DoingForms.{arm_doings}
 use Rattle.dep_model.proofs.Membership.{IsIn, in_first, in_second}
 use Rattle.dep_model.specs.Pairs.{pair}
 use Rattle.control_deps.specs.Walk.{joined, Walk, ArmWalk, all, all_taken, walk_step, arm_step, walk, arm_walk, walks}
@@ -47,9 +48,6 @@ arm_takes = fold-Arm Bool ArmTakes takes_step takes_arm
 
 abbrev arm_stands : Arm → Stands
 arm_stands = fold-Arm Stands Stands stands_step stands_arm
-
-abbrev arm_doings : Arm → List Doing
-arm_doings = fold-Arm (List Doing) (List Doing) doing_step doing_arm
 
 -- one statement, and one in which it may stand
 module _ (outer inner : ℕ) where

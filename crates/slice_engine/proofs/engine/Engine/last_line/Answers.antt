@@ -1,4 +1,4 @@
-use Rattle.std.proofs.Common.{◌≡◌, ◌⊎◌, ℕ, ◌≤◌, List, All, subst}
+use Rattle.std.proofs.Common.{◌≡◌, ◌⊎◌, ℕ, ◌≤◌, All, subst}
 use Rattle.c_tree.specs.declared.numbered.Start.{Start}
 use Rattle.c_tree.specs.Numbered.{Starts}
 use Rattle.slice_engine.specs.Slice.{HasStart}
