@@ -11,7 +11,7 @@ use Rattle.c_tree.specs.declared.program.Member.{Member}
 use Rattle.c_tree.specs.declared.program.StructDef.{StructDef}
 use Rattle.c_language.specs.Words.{Bytes}
 use Rattle.c_language.specs.Limits.{longest, longest_member, longest_in_structs, longest_in_variables, cells_step, cells, member_cells, cells_behind, greatest, greatest_variable}
-use Rattle.c_types_program.proofs.ShapeLemmas.{longest-Integer, longest-PointerTo, longest-Array, longest-Struct}
+use Rattle.c_types_trees.proofs.ShapeLemmas.{longest-Integer, longest-PointerTo, longest-Array, longest-Struct}
 use Rattle.c_types.specs.Capped.{capped_if, capped, all_capped}
 
 -- ---- types

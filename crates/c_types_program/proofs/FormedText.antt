@@ -29,10 +29,10 @@ use Rattle.c_language.specs.StatementGrammar.{arm, IsSeparated, IsSimple, IsDecl
 use Rattle.c_language.specs.TokenForms.{Tokens, line_of}
 use Rattle.c_language.specs.Words.{Bytes}
 use Rattle.c_language.proofs.ScopedForms.{scoped-Declare, scoped-Assign, scoped-Bump, scoped-Call, scoped-Heap, scoped-If, scoped-While, scoped-Do, scoped-Switch, scoped-Block, scoped-Return}
-use Rattle.c_types_program.specs.FitPhrases.{IsAllocation, IsFormed, AreFit}
-use Rattle.c_types_program.specs.KeptPhrases.{HasNoLengthIf}
+use Rattle.c_types_trees.specs.FitPhrases.{IsAllocation, IsFormed, AreFit}
+use Rattle.c_types_trees.specs.KeptPhrases.{HasNoLengthIf}
 use Rattle.c_types_program.proofs.GrammarTrees.{heap_plain, name_plain}
-use Rattle.c_types_program.proofs.PhraseTrees.{AreKept}
+use Rattle.c_types_trees.proofs.PhraseTrees.{AreKept}
 use Rattle.c_types_program.proofs.RuleLaws.{phrases_kept}
 use Rattle.c_types_program.proofs.StatementForms.{scoped_part, scoped-For, scoped-arm}
 

@@ -24,8 +24,8 @@ use Rattle.c_types_base.specs.Stretches.{Stretch, then_comes, nothing, of_parame
 use Rattle.c_types_base.proofs.TextSteps.{parameters_here, define_phrases, define_after, begins_at}
 use Rattle.c_types_base.proofs.Stretching.{parameters_grow, statements_grow}
 use Rattle.c_types_program.specs.declared.walk.Walk.{Walk}
-use Rattle.c_types_program.specs.KeptPhrases.{HasNoLengthIf, IsKept, IsKeptHead}
-use Rattle.c_types_program.specs.FitPhrases.{AreFit, IsFit, AreFitInside}
+use Rattle.c_types_trees.specs.KeptPhrases.{HasNoLengthIf, IsKept, IsKeptHead}
+use Rattle.c_types_trees.specs.FitPhrases.{AreFit, IsFit, AreFitInside}
 use Rattle.c_types_program.specs.Statements.{Grow, Comes, FitAll, HaveTrees, PassesAll, variable_with}
 use Rattle.c_types_program.specs.Items.{FitsStretch, PassesStretch, HasBody, HasFunction}
 use Rattle.c_types_program.proofs.Growing.{grow_none, grow_then, fit_both}

@@ -33,9 +33,9 @@ use Rattle.c_language.specs.StatementGrammar.{arm, IsSeparated, IsSize, IsAmount
 use Rattle.c_language.proofs.ScopedForms.{scoped-Declare, scoped-Assign, scoped-Bump, scoped-Call, scoped-Heap, scoped-If, scoped-While, scoped-Do, scoped-Switch, scoped-Block, scoped-Return}
 use Rattle.c_language.proofs.TreedForms.{treed-Declare, treed-Assign, treed-Bump, treed-Call, treed-Heap, treed-If, treed-While, treed-Do, treed-Switch, treed-Block, treed-Return}
 use Rattle.c_language.proofs.UseLemmas.{lengths-PointerTo}
-use Rattle.c_types_program.proofs.ScopeLemmas.{AreComplete}
-use Rattle.c_types_program.specs.KeptPhrases.{HasNoLength, IsPlainName, IsPlainSize, IsPlainAmount}
-use Rattle.c_types_program.specs.FitPhrases.{IsAllocation}
+use Rattle.c_types_trees.proofs.ScopeLemmas.{AreComplete}
+use Rattle.c_types_trees.specs.KeptPhrases.{HasNoLength, IsPlainName, IsPlainSize, IsPlainAmount}
+use Rattle.c_types_trees.specs.FitPhrases.{IsAllocation}
 use Rattle.c_types_program.specs.Statements.{treed_arm}
 use Rattle.c_types_program.proofs.StatementForms.{treed_part, scoped_part, treed-For, treed-arm, scoped-For, scoped-arm}
 use Rattle.c_types_program.proofs.TreedStatements.{IsTreed, AreTreed, IsTreedIf, IsTreedArm, AreTreedArms, is_treed-Declare, is_treed-Assign, is_treed-Bump, is_treed-Call, is_treed-Heap, is_treed-Return, is_treed-If, is_treed-While, is_treed-Do, is_treed-Block, is_treed-For, is_treed-arm, is_treed-Switch}

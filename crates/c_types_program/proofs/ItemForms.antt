@@ -29,12 +29,12 @@ use Rattle.c_types_base.proofs.OptionLemmas.{not_none, there_position}
 use Rattle.c_types_base.specs.Stretches.{then_comes, nothing, of_item, of_items}
 use Rattle.c_types_base.proofs.ListingLaws.{item_outer, item_structs}
 use Rattle.c_types_program.specs.declared.walk.Walk.{Walk}
-use Rattle.c_types_program.specs.KeptPhrases.{IsGiven, IsKeptInit}
+use Rattle.c_types_trees.specs.KeptPhrases.{IsGiven, IsKeptInit}
 use Rattle.c_types_program.specs.Statements.{Grow, Comes, variable_with}
 use Rattle.c_types_program.specs.Items.{FitsStretch, PassesStretch, HasFunction, HasItem, AddsFunction, HasItems, HasFunctions, AreKeptMembers}
-use Rattle.c_types_program.proofs.OptionPaths.{given_there, given_some}
+use Rattle.c_types_trees.proofs.OptionPaths.{given_there, given_some}
 use Rattle.c_types_program.proofs.Passing.{same_variables}
-use Rattle.c_types_program.proofs.PhraseTrees.{tag_defined}
+use Rattle.c_types_trees.proofs.PhraseTrees.{tag_defined}
 use Rattle.c_types_program.proofs.Progress.{Place, sets_out, left_as, next_fits, comes_on, all_gone}
 use Rattle.c_types_program.proofs.SimpleForms.{declares_fresh, declares_typed, declares_shaped, begun_kept, begun_nothing}
 use Rattle.c_types_program.proofs.Standing.{Stands, here, told, given, goes}

@@ -19,8 +19,8 @@ use Rattle.c_language.proofs.TreeScopes.{list_after, block_after_same}
 use Rattle.c_types_base.specs.Tables.{scope_of, AreRight, IsAt}
 use Rattle.c_types_base.proofs.ScopeLaws.{Extends, stays, then_extends, front, block_extends, statement_grows}
 use Rattle.c_types_program.specs.declared.walk.Walk.{Walk}
-use Rattle.c_types_program.specs.KeptPhrases.{IsKept}
-use Rattle.c_types_program.specs.FitPhrases.{AreFit, IsInside, AreFitInside, IsFitPart}
+use Rattle.c_types_trees.specs.KeptPhrases.{IsKept}
+use Rattle.c_types_trees.specs.FitPhrases.{AreFit, IsInside, AreFitInside, IsFitPart}
 use Rattle.c_types_program.specs.Statements.{Grow, Comes, Fits, HasTree, Passes, FitAll, HaveTrees, PassesAll, FitsBlock, HasBlock, PassesBlock, FitsPart, HasPart, PassesPart, treed_arm}
 use Rattle.c_types_program.proofs.Growing.{grow_none, grow_then, fit_both}
 use Rattle.c_types_program.proofs.Standing.{Stands, here, told, given, goes, came}

@@ -23,8 +23,8 @@ use Rattle.c_language.proofs.TreeScopes.{part_after}
 use Rattle.c_types_base.specs.Tables.{scope_of, AreRight, IsAt}
 use Rattle.c_types_base.proofs.ScopeLaws.{Extends, then_extends, front}
 use Rattle.c_types_program.specs.declared.walk.Walk.{Walk}
-use Rattle.c_types_program.specs.KeptPhrases.{IsKept, IsKeptSwitch}
-use Rattle.c_types_program.specs.FitPhrases.{AreFit, IsInside, IsFitPart}
+use Rattle.c_types_trees.specs.KeptPhrases.{IsKept, IsKeptSwitch}
+use Rattle.c_types_trees.specs.FitPhrases.{AreFit, IsInside, IsFitPart}
 use Rattle.c_types_program.specs.Statements.{Grow, Comes, Fits, HasTree, Passes, FitAll, HaveTrees, PassesAll, FitsBlock, HasBlock, PassesBlock, FitsPart, HasPart, PassesPart, AreLabels, treed_arm, arm_text, arm_texts, HasArm, PassesArm, HaveArms, PassesArms}
 use Rattle.c_types_program.proofs.Growing.{grow_none, grow_then, fit_both}
 use Rattle.c_types_program.proofs.Passing.{part_extends, body_extends, arms_extend, cut, cut_closes, fits_as, tree_as, passes_as, StandsAt, block_given, block_told, block_goes, block_grows, test_given, test_told, part_given, part_told, part_goes, part_grows}

@@ -23,10 +23,10 @@ use Rattle.c_language.proofs.Options.{some_same, none_there, map_some}
 use Rattle.c_language.proofs.Lists.{contains_nil, contains_cons}
 use Rattle.c_types_base.specs.Tables.{scope_of, AreRight}
 use Rattle.c_types_base.specs.Stretches.{of_items}
-use Rattle.c_types_program.specs.declared.make_fault.MakeFault.{MakeFault}
-use Rattle.c_types_program.specs.declared.make_fault.MakeFault.TheVariants.{Length, NoMemory}
+use Rattle.c_types_trees.specs.declared.make_fault.MakeFault.{MakeFault}
+use Rattle.c_types_trees.specs.declared.make_fault.MakeFault.TheVariants.{Length, NoMemory}
 use Rattle.c_types_program.specs.declared.walk.Walk.{Walk}
-use Rattle.c_types_program.specs.FitPhrases.{AreFit}
+use Rattle.c_types_trees.specs.FitPhrases.{AreFit}
 use Rattle.c_types_program.specs.Statements.{HasLong, AreMade}
 use Rattle.c_types_program.specs.Items.{FitsStretch, PassesStretch, HasItems, HasFunctions, AreKeptMembers, AreKeptStructs, HasLongMember, HasLongStruct, MakesStructs, MakesProgram}
 use Rattle.c_types_program.proofs.Growing.{fit_both}

@@ -27,9 +27,9 @@ use Rattle.c_language.specs.Programs.{IsTree, HasProgram}
 use Rattle.c_language.proofs.Options.{IsThere, value_there, there_map}
 use Rattle.c_language.proofs.Lists.{contains_first}
 use Rattle.c_types_base.proofs.OptionLemmas.{not_none, there_then, there_both, AreThere, there_collected, there_append, there_position}
-use Rattle.c_types_program.proofs.ScopeLemmas.{IsTyped, typed_variable, typed_function, AreMade, AreComplete}
-use Rattle.c_types_program.specs.KeptPhrases.{HasNoLengthIf}
-use Rattle.c_types_program.proofs.PhraseTrees.{KeepsAt, AreKept, kept_both, tag_defined, result_made, variable_made, member_made}
+use Rattle.c_types_trees.proofs.ScopeLemmas.{IsTyped, typed_variable, typed_function, AreMade, AreComplete}
+use Rattle.c_types_trees.specs.KeptPhrases.{HasNoLengthIf}
+use Rattle.c_types_trees.proofs.PhraseTrees.{KeepsAt, AreKept, kept_both, tag_defined, result_made, variable_made, member_made}
 use Rattle.c_types_program.proofs.TreedStatements.{init_there, list_there}
 use Rattle.c_types_program.proofs.RuleLaws.{phrases_kept}
 use Rattle.c_types_program.proofs.GrammarTrees.{HaveTrees, name_plain, statements_trees}

@@ -8,7 +8,7 @@ use Rattle.c_language.proofs.PhraseLists.{variables-append}
 use Rattle.c_types_base.specs.Tables.{scope_of, AreRight}
 use Rattle.c_types_base.specs.Stretches.{Stretch, then_comes, nothing}
 use Rattle.c_types_program.specs.declared.walk.Walk.{Walk}
-use Rattle.c_types_program.specs.FitPhrases.{AreFit}
+use Rattle.c_types_trees.specs.FitPhrases.{AreFit}
 use Rattle.c_types_program.specs.Statements.{Grow}
 use Rattle.c_types_program.specs.Items.{FitsStretch, PassesStretch}
 use Rattle.c_types_program.proofs.Growing.{grow_none, fit_both}

@@ -5,7 +5,7 @@ use Rattle.c_tree.specs.declared.raw.program.RawProgram.{RawProgram}
 use Rattle.c_language.specs.Phrases.{Phrase, Phrases, phrases}
 use Rattle.c_language.specs.Rules.{IsBroken, KeepsRules}
 use Rattle.c_language.proofs.Lists.{contains_first, contains_later}
-use Rattle.c_types_program.proofs.PhraseTrees.{KeepsAt, AreKept}
+use Rattle.c_types_trees.proofs.PhraseTrees.{KeepsAt, AreKept}
 
 module _ (raw : RawProgram) where
   kept_from : (ps : Phrases) → ((p : Phrase) → Contains ps p → KeepsAt raw p.scope p.part) → AreKept raw ps

@@ -42,14 +42,14 @@ use Rattle.c_types_base.specs.Judging.{judged}
 use Rattle.c_types_base.specs.Tables.{scope_of, AreRight, IsAt}
 use Rattle.c_types_base.proofs.JudgingLaws.{Told, judged_truly}
 use Rattle.c_types_program.specs.declared.walk.Walk.{Walk}
-use Rattle.c_types_program.specs.KeptPhrases.{IsKept, IsJudged, IsGiven, IsKeptInit, IsMeantTarget, IsKeptCall, IsKeptAllocation}
-use Rattle.c_types_program.specs.FitPhrases.{AreFit, IsInside, AreFitTarget, IsStored}
+use Rattle.c_types_trees.specs.KeptPhrases.{IsKept, IsJudged, IsGiven, IsKeptInit, IsMeantTarget, IsKeptCall, IsKeptAllocation}
+use Rattle.c_types_trees.specs.FitPhrases.{AreFit, IsInside, AreFitTarget, IsStored}
 use Rattle.c_types_program.specs.Statements.{variable_with, Grow, Comes, Fits, HasTree, Passes}
 use Rattle.c_types_program.proofs.Growing.{grow_none, grow_then, fit_both}
-use Rattle.c_types_program.proofs.KeptLemmas.{kept_operand}
-use Rattle.c_types_program.proofs.OptionPaths.{given_there}
+use Rattle.c_types_trees.proofs.KeptLemmas.{kept_operand}
+use Rattle.c_types_trees.proofs.OptionPaths.{given_there}
 use Rattle.c_types_program.proofs.Passing.{fits_as, tree_as, passes_as, same_variables}
-use Rattle.c_types_program.proofs.PhraseTrees.{variable_made}
+use Rattle.c_types_trees.proofs.PhraseTrees.{variable_made}
 use Rattle.c_types_program.proofs.Standing.{Stands, here, told, given, goes, came}
 
 -- ---- declarations

@@ -27,14 +27,14 @@ use Rattle.c_types_base.proofs.DefinitionLemmas.{structs-append}
 use Rattle.c_types_base.specs.Listing.{HasMembers}
 use Rattle.c_types_base.proofs.OptionLemmas.{is_there}
 use Rattle.c_types_base.proofs.ListingLaws.{named_before, gone}
-use Rattle.c_types_program.specs.declared.make_fault.MakeFault.{MakeFault}
-use Rattle.c_types_program.specs.declared.make_fault.MakeFault.TheVariants.{Length, NoMemory}
-use Rattle.c_types_program.specs.FitPhrases.{AreFit}
-use Rattle.c_types_program.specs.KeptPhrases.{IsKept, IsKeptMember}
-use Rattle.c_types_program.specs.Shapes.{MakesMember}
+use Rattle.c_types_trees.specs.declared.make_fault.MakeFault.{MakeFault}
+use Rattle.c_types_trees.specs.declared.make_fault.MakeFault.TheVariants.{Length, NoMemory}
+use Rattle.c_types_trees.specs.FitPhrases.{AreFit}
+use Rattle.c_types_trees.specs.KeptPhrases.{IsKept, IsKeptMember}
+use Rattle.c_types_trees.specs.Shapes.{MakesMember}
 use Rattle.c_types_program.specs.Items.{AreKeptMembers, AreKeptStructs, HasLongStruct, MakesMembers, MakesStruct, AddsStruct, MakesStructs}
-use Rattle.c_types_program.proofs.OptionPaths.{contains_turn}
-use Rattle.c_types_program.proofs.PhraseTrees.{member_made}
+use Rattle.c_types_trees.proofs.OptionPaths.{contains_turn}
+use Rattle.c_types_trees.proofs.PhraseTrees.{member_made}
 use Rattle.c_types_program.proofs.Turns.{collected_made}
 
 -- what holds of a fault holds of any answer that passes it on

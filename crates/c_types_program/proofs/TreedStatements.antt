@@ -38,12 +38,12 @@ use Rattle.c_language.specs.declared.expr_type.Operand.{Operand}
 use Rattle.c_language.proofs.Options.{IsThere, there_map}
 use Rattle.c_language.proofs.Lists.{contains_first, contains_later}
 use Rattle.c_types_base.proofs.OptionLemmas.{not_none, there_then, there_both, there_optional, AreThere, there_collected}
-use Rattle.c_types_program.proofs.ScopeLemmas.{IsTyped, typed_variable, AreComplete}
-use Rattle.c_types_program.proofs.ConstantTrees.{constant_tree}
-use Rattle.c_types_program.proofs.PhraseTrees.{KeepsAt, AreKept, kept_both, variable_made, target_made, typed_target, phrase_tree, phrase_operand, exprs_there}
-use Rattle.c_types_program.proofs.CallTrees.{call_there}
-use Rattle.c_types_program.specs.FitPhrases.{IsAllocation}
-use Rattle.c_types_program.proofs.AllocationTrees.{heap_there}
+use Rattle.c_types_trees.proofs.ScopeLemmas.{IsTyped, typed_variable, AreComplete}
+use Rattle.c_types_trees.proofs.ConstantTrees.{constant_tree}
+use Rattle.c_types_trees.proofs.PhraseTrees.{KeepsAt, AreKept, kept_both, variable_made, target_made, typed_target, phrase_tree, phrase_operand, exprs_there}
+use Rattle.c_types_trees.proofs.CallTrees.{call_there}
+use Rattle.c_types_trees.specs.FitPhrases.{IsAllocation}
+use Rattle.c_types_trees.proofs.AllocationTrees.{heap_there}
 
 -- each case of these labels is a constant
 abbrev AreConstant : List RawLabel → Type 0

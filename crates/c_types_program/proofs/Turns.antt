@@ -17,7 +17,7 @@ use Rattle.c_language.proofs.PhraseLists.{variables-append}
 use Rattle.c_language.proofs.TreeScopes.{after_same}
 use Rattle.c_types_base.specs.Tables.{scope_of, AreRight}
 use Rattle.c_types_program.specs.declared.walk.Walk.{Walk}
-use Rattle.c_types_program.specs.FitPhrases.{AreFit, IsInside, AreFitInside, IsFitInside}
+use Rattle.c_types_trees.specs.FitPhrases.{AreFit, IsInside, AreFitInside, IsFitInside}
 use Rattle.c_types_program.specs.Statements.{Grow, Fits, HasTree, Passes, FitAll, HaveTrees, PassesAll, AreLabels, treed_arm, HasArm, PassesArm, HaveArms, PassesArms}
 use Rattle.c_types_program.proofs.Growing.{grow_none, grow_then, fit_both}
 use Rattle.c_types_program.proofs.Passing.{same_arm}

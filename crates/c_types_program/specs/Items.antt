@@ -18,10 +18,10 @@ use Rattle.c_language.specs.ProgramOf.{collected, body_of, function_tree, functi
 use Rattle.c_language.specs.Scopes.{Scope, with_parameters}
 use Rattle.c_types_base.specs.Tables.{scope_of}
 use Rattle.c_types_base.specs.Stretches.{Stretch, inside_function}
-use Rattle.c_types_program.specs.declared.make_fault.MakeFault.{MakeFault}
-use Rattle.c_types_program.specs.declared.make_fault.MakeFault.TheVariants.{Length, NoMemory}
+use Rattle.c_types_trees.specs.declared.make_fault.MakeFault.{MakeFault}
+use Rattle.c_types_trees.specs.declared.make_fault.MakeFault.TheVariants.{Length, NoMemory}
 use Rattle.c_types_program.specs.declared.walk.Walk.{Walk}
-use Rattle.c_types_program.specs.FitPhrases.{AreFit}
+use Rattle.c_types_trees.specs.FitPhrases.{AreFit}
 use Rattle.c_types_program.specs.Statements.{Comes}
 
 -- the phrases of a stretch of the text fit, where the walk is

@@ -16,8 +16,8 @@ use Rattle.c_language.specs.Scopes.{Scope, Scoped, in_order, after_all, after_bl
 use Rattle.c_language.specs.Phrases.{Stand, ArmText, joined_at, block_phrases, at_stand, phrases_of_arms, scoped, scoped_of_arm}
 use Rattle.c_language.specs.ProgramOf.{ctype_with, collected, treed, block_tree, part_tree, at_type, ArmTree, arm_tree_step, treed_step, variables_in}
 use Rattle.c_types_base.specs.Tables.{scope_of, IsAt}
-use Rattle.c_types_program.specs.KeptPhrases.{IsKeptLabel}
-use Rattle.c_types_program.specs.FitPhrases.{AreFit, IsInside, AreFitInside, IsFitInside, IsFitPart}
+use Rattle.c_types_trees.specs.KeptPhrases.{IsKeptLabel}
+use Rattle.c_types_trees.specs.FitPhrases.{AreFit, IsInside, AreFitInside, IsFitInside, IsFitPart}
 use Rattle.c_types_program.specs.declared.variables.Variables.{Variables}
 use Rattle.c_types_program.specs.declared.walk.Walk.{Walk}
 

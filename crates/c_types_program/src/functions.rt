@@ -5,10 +5,10 @@ ghost use Rattle.c_types_base.specs.Tables.{AreRight};
 ghost use Rattle.c_types_base.specs.Stretches.{of_parameter, of_parameters, of_function, of_item};
 ghost use Rattle.c_types_program.specs.Items.{FitsStretch, PassesStretch, HasBody, HasFunction};
 
-use crate::shapes::{parameter_ids, result_shape};
 use crate::variables::Declaration;
 use crate::walk::Walk;
 use c_tree::{Function, Items, RawHead, RawParam, RawStatement, Statement};
+use c_types_trees::shapes::{parameter_ids, result_shape};
 use std::alloc::{AllocError, Global};
 
 impl<'a> Walk<'a> {

@@ -9,13 +9,13 @@ ghost use Rattle.c_types_base.specs.Listing.{HasPlace};
 ghost use Rattle.c_types_base.specs.Stretches.{of_item, of_items};
 ghost use Rattle.c_types_program.specs.Items.{FitsStretch, PassesStretch, HasItem, HasItems, AddsFunction, HasFunctions};
 
-use crate::calls::function_of;
-use crate::parts::init_tree;
 use crate::structs::listed_members;
 use crate::variables::Declaration;
 use crate::walk::Walk;
 use c_tree::{Function, Item, Items, RawHead, RawInit, RawItem, RawMember, RawParam, RawVar, Text};
 use c_types_base::declared_types::item_count;
+use c_types_trees::calls::function_of;
+use c_types_trees::parts::init_tree;
 use std::alloc::{AllocError, Global};
 
 /// The name of a parameter, where it has one. Err: no memory was left.

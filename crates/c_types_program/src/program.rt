@@ -3,12 +3,12 @@ ghost use Rattle.c_language.specs.Programs.{IsTree};
 ghost use Rattle.c_language.specs.Rules.{KeepsRules};
 ghost use Rattle.c_types_program.specs.Items.{MakesProgram};
 
-use crate::make_fault::MakeFault;
 use crate::structs::struct_trees;
 use crate::variables::Variables;
 use crate::walk::Walk;
 use c_tree::{Program, RawProgram};
 use c_types_base::tables::Tables;
+use c_types_trees::make_fault::MakeFault;
 use std::alloc::Global;
 
 /// The program of a text that keeps all rules: its names as numbers, and with types (ISO C99 6.5 to 6.9).

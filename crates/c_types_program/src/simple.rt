@@ -5,13 +5,10 @@ ghost use Rattle.c_language.specs.Phrases.{Stand, target_phrases};
 ghost use Rattle.c_language.specs.ProgramOf as trees;
 ghost use Rattle.c_language.specs.Scopes as scopes;
 ghost use Rattle.c_types_base.specs.Tables.{scope_of, AreRight};
-ghost use Rattle.c_types_program.specs.FitPhrases.{IsInside, AreFitTarget};
-ghost use Rattle.c_types_program.specs.KeptPhrases.{IsMeantTarget};
+ghost use Rattle.c_types_trees.specs.FitPhrases.{IsInside, AreFitTarget};
+ghost use Rattle.c_types_trees.specs.KeptPhrases.{IsMeantTarget};
 ghost use Rattle.c_types_program.specs.Statements.{Comes, Fits, HasTree, Passes};
 
-use crate::allocations::heap_tree;
-use crate::calls::call_tree;
-use crate::parts::{assign_tree, bump_tree, init_tree, return_tree, target_tree};
 use crate::variables::Declaration;
 use crate::walk::Walk;
 use c_arith::BinaryOp;
@@ -20,6 +17,9 @@ use c_tree::{
     Text,
 };
 use c_types_base::declared_types::item_count;
+use c_types_trees::allocations::heap_tree;
+use c_types_trees::calls::call_tree;
+use c_types_trees::parts::{assign_tree, bump_tree, init_tree, return_tree, target_tree};
 use std::alloc::{AllocError, Global};
 
 impl<'a> Walk<'a> {

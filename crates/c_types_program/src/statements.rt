@@ -4,14 +4,14 @@ ghost use Rattle.c_tree.specs.declared.raw.statement.RawStatement.TheVariants as
 ghost use Rattle.c_language.specs.Phrases.{labels_of, phrases_of_arms};
 ghost use Rattle.c_language.specs.ProgramOf as trees;
 ghost use Rattle.c_types_base.specs.Tables.{scope_of, AreRight};
-ghost use Rattle.c_types_program.specs.FitPhrases.{AreFit};
+ghost use Rattle.c_types_trees.specs.FitPhrases.{AreFit};
 ghost use Rattle.c_types_program.specs.Statements.{Fits, HasTree, Passes, FitAll, HaveTrees, PassesAll, FitsBlock, HasBlock, PassesBlock, FitsPart, HasPart, PassesPart, AreLabels, arm_text, arm_texts, HasArm, PassesArm, HaveArms, PassesArms};
 
-use crate::parts::{label_tree, switch_tree, test_tree};
 use crate::walk::Walk;
 use c_arith::IntType;
 use c_tree::{Arm, Boxed, Items, Label, RawArm, RawExpr, RawLabel, RawStatement, Statement};
 use c_types_base::tables::Tables;
+use c_types_trees::parts::{label_tree, switch_tree, test_tree};
 use std::alloc::{AllocError, Global};
 
 /// The labels of an arm, by the promoted type of the switch. Err: no memory was left.

@@ -6,13 +6,13 @@ ghost use Rattle.c_types_base.specs.Tables.{AreRight};
 ghost use Rattle.c_types_base.specs.Listing.{HasMembers};
 ghost use Rattle.c_types_program.specs.Items.{AreKeptMembers, AreKeptStructs, MakesMembers, MakesStruct, AddsStruct, MakesStructs};
 
-use crate::make_fault::MakeFault;
-use crate::shapes::member_tree;
 use c_tree::{Items, Member, RawItem, RawMember, StructDef, Text};
 use c_types_base::definitions::Definitions;
 use c_types_base::listing::list_member;
 use c_types_base::names::StructMembers;
 use c_types_base::tables::Tables;
+use c_types_trees::make_fault::MakeFault;
+use c_types_trees::shapes::member_tree;
 use indexmap::IndexMap;
 use std::alloc::{AllocError, Global};
 

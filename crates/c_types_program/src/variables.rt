@@ -4,10 +4,10 @@ ghost use Rattle.c_language.specs.ProgramOf as trees;
 ghost use Rattle.c_types_base.specs.Tables.{AreRight};
 ghost use Rattle.c_types_program.specs.Statements.{variable_with, AreMade, Grow};
 
-use crate::make_fault::MakeFault;
-use crate::shapes::ctype_with;
 use c_tree::{Items, RawType, Text, Var};
 use c_types_base::tables::Tables;
+use c_types_trees::make_fault::MakeFault;
+use c_types_trees::shapes::ctype_with;
 use std::alloc::{AllocError, Global};
 
 /// The variables that are declared so far, in text order.

@@ -32,7 +32,13 @@ impl<'a> Walk<'a> {
             (scopes.with_entry declaration.entry.name.now (scopes.Meaning.Variable self.old.tables.variables (types.type_with self.old.tables.raw.now declaration.entry.items declaration.entry.shape.now)) (record (scope_of self.old.tables) { variables = self.old.tables.variables + 1 }))
             (variable_with self.old.tables.raw.now declaration.entry.line self.old.tables.owner declaration.entry.is_static declaration.entry.is_parameter declaration.entry.name.now declaration.entry.shape.now declaration.entry.items ∷ [])) }
     {
-        let Some(t) = type_with(alloc, &self.tables.defined, declaration.items, declaration.shape)? else {
+        let Some(t) = type_with(
+            alloc,
+            &self.tables.defined,
+            declaration.items,
+            declaration.shape,
+        )?
+        else {
             unreachable!();
         };
         self.variables.add(alloc, &self.tables, declaration)?;

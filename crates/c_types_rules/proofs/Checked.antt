@@ -9,13 +9,13 @@ use Rattle.c_types_base.specs.declared.fault.Fault.TheVariants as fault
 use Rattle.c_types_base.specs.declared.tables.Tables.{Tables}
 use Rattle.c_types_base.proofs.TableLaws.{tables_typed}
 use Rattle.c_types_base.proofs.TypedLaws.{IsTyped}
-use Rattle.c_types_rules.specs.Checking.{Decides}
-use Rattle.c_types_rules.specs.PhraseChecks.{check_part}
+use Rattle.c_types_checks.specs.Checking.{Decides}
+use Rattle.c_types_checks.specs.PhraseChecks.{check_part}
 use Rattle.c_types_base.specs.Stretches.{a_statement}
 use Rattle.c_types_base.proofs.Stretching.{one_phrase}
 use Rattle.c_types_rules.specs.Walks.{Answers, Walks, on_line}
 use Rattle.c_types_rules.specs.declared.check_fault.CheckFault.{CheckFault}
-use Rattle.c_types_rules.proofs.PhraseLaws.{kept_breaks_none, told_is_broken}
+use Rattle.c_types_checks.proofs.PhraseLaws.{kept_breaks_none, told_is_broken}
 use Rattle.c_types_rules.proofs.WalkSteps.{Outcome, stays_at}
 
 module _ (raw : RawProgram) (scope : Scope) (typed : IsTyped raw scope) (line : ℕ) (part : Part) where

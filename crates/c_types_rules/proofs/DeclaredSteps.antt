@@ -17,14 +17,14 @@ use Rattle.c_types_base.specs.declared.fault.Fault.TheVariants as fault
 use Rattle.c_types_base.specs.declared.tables.Tables.{Tables}
 use Rattle.c_types_base.proofs.OptionLemmas.{is_there}
 use Rattle.c_types_base.proofs.TableLaws.{tables_typed}
-use Rattle.c_types_rules.specs.Checking.{Verdict, kept, Decides}
-use Rattle.c_types_rules.specs.DeclarationChecks.{check_declared, check_begun}
+use Rattle.c_types_checks.specs.Checking.{Verdict, kept, Decides}
+use Rattle.c_types_checks.specs.DeclarationChecks.{check_declared, check_begun}
 use Rattle.c_types_base.specs.Stretches.{Stretch, of_declaration, of_parameter}
 use Rattle.c_types_base.proofs.Stretching.{one_phrase}
 use Rattle.c_types_rules.specs.Walks.{Answers, Walks, on_line}
 use Rattle.c_types_rules.specs.declared.check_fault.CheckFault.{CheckFault}
 use Rattle.c_types_rules.proofs.Checked.{check_answers, walks_phrase}
-use Rattle.c_types_rules.proofs.DeclaredLaws.{declared_there, declared_new}
+use Rattle.c_types_checks.proofs.DeclaredLaws.{declared_there, declared_new}
 use Rattle.c_types_rules.proofs.WalkSteps.{Outcome, two, first_stops, at_scope}
 
 no_fault : {e : CheckFault} {A : Type 0} → ◌≡◌ {A = Outcome} (Err e) (Ok tt) → A

@@ -25,8 +25,8 @@ use Rattle.c_types_base.specs.declared.tables.Before.{Before}
 use Rattle.c_types_base.specs.declared.tables.Tables.{Tables}
 use Rattle.c_types_base.proofs.ScopeLaws.{Extends}
 use Rattle.c_types_base.proofs.TableLaws.{tables_typed}
-use Rattle.c_types_rules.specs.Checking.{Decides, kept, when_given}
-use Rattle.c_types_rules.specs.DeclarationChecks.{check_type, check_complete, check_member, check_struct, check_prototype, check_definition, check_end}
+use Rattle.c_types_checks.specs.Checking.{Decides, kept, when_given}
+use Rattle.c_types_checks.specs.DeclarationChecks.{check_type, check_complete, check_member, check_struct, check_prototype, check_definition, check_end}
 use Rattle.c_types_base.specs.Listing.{has_name, HasMembers, name_before, names_given, IsGiven}
 use Rattle.c_types_base.specs.Stretches.{Stretch, of_function, inside_function, of_item}
 use Rattle.c_types_rules.specs.Walks.{AreKept, Tells, Answers, Walks, on_line}
@@ -35,7 +35,7 @@ use Rattle.c_types_rules.proofs.Checked.{check_answers, walks_phrase}
 use Rattle.c_types_base.proofs.ListingLaws.{gone, named_before, given_push, all_given}
 use Rattle.c_types_base.proofs.TextSteps.{of_inside, inside_grows, inside, begin_phrase, end_phrase, define_phrases, define_after}
 use Rattle.c_types_base.proofs.Stretching.{one_phrase}
-use Rattle.c_types_rules.proofs.DeclaredLaws.{second_kept, test_passed}
+use Rattle.c_types_checks.proofs.DeclaredLaws.{second_kept, test_passed}
 use Rattle.c_types_rules.proofs.WalkSteps.{Outcome, two, first_stops, kept_both, told_before, told_behind, cut}
 
 -- what holds of a fault holds of any answer that passes it on

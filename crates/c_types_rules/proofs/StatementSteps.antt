@@ -17,7 +17,7 @@ use Rattle.c_types_base.specs.Tables.{scope_of, AreRight, IsAt}
 use Rattle.c_types_base.specs.declared.fault.Fault.{Fault}
 use Rattle.c_types_base.specs.declared.tables.Before.{Before}
 use Rattle.c_types_base.specs.declared.tables.Tables.{Tables}
-use Rattle.c_types_rules.specs.Checking.{Decides, check_test}
+use Rattle.c_types_checks.specs.Checking.{Decides, check_test}
 use Rattle.c_types_base.specs.Stretches.{Stretch, then_comes, enclosed, a_statement, standing, of_statement, of_form, of_statements, of_block, of_arms, of_part, labels_in}
 use Rattle.c_types_rules.specs.Walks.{AreKept, Tells, Walks, on_line}
 use Rattle.c_types_rules.specs.declared.check_fault.CheckFault.{CheckFault}

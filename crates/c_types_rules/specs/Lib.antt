@@ -1,10 +1,1 @@
-pub mod CallChecks
-pub mod Checking
-pub mod Conversions
-pub mod DeclarationChecks
-pub mod Labels
-pub mod PhraseChecks
-pub mod Pointers
-pub mod Stands
-pub mod Targets
 pub mod Walks

@@ -14,10 +14,6 @@ ghost use Rattle.c_types_base.specs.Listing as spec;
 ghost use Rattle.c_types_base.specs.Listing.{HasMembers, HasPlace};
 
 use crate::check_fault::CheckFault;
-use crate::completeness_checks::check_tag;
-use crate::declaration_checks::{check_declared_parameter, check_member, check_struct};
-use crate::head_checks::{check_definition, check_end, check_parameter, check_prototype};
-use crate::stand::Stand;
 use crate::steps::{declaration, declare, on_line};
 use crate::walk::statements;
 use c_tree::{RawHead, RawItem, RawMember, RawParam, RawStatement};
@@ -25,6 +21,10 @@ use c_types_base::listing::list_member;
 use c_types_base::names::StructMembers;
 use c_types_base::numbering::Numbering;
 use c_types_base::tables::Tables;
+use c_types_checks::completeness_checks::check_tag;
+use c_types_checks::declaration_checks::{check_declared_parameter, check_member, check_struct};
+use c_types_checks::head_checks::{check_definition, check_end, check_parameter, check_prototype};
+use c_types_checks::stand::Stand;
 use indexmap::IndexMap;
 use std::alloc::{AllocError, Global};
 

@@ -4,27 +4,27 @@ ghost use Rattle.c_language.specs.DeclaredTypes as types;
 ghost use Rattle.c_language.specs.Phrases as phrases;
 ghost use Rattle.c_language.specs.Scopes as scopes;
 ghost use Rattle.c_types_base.specs.Tables.{scope_of, AreRight, IsAt};
-ghost use Rattle.c_types_rules.specs.Checking.{Decides};
-ghost use Rattle.c_types_rules.specs.PhraseChecks.{check_part};
-ghost use Rattle.c_types_rules.specs.Stands.{stand_of};
+ghost use Rattle.c_types_checks.specs.Checking.{Decides};
+ghost use Rattle.c_types_checks.specs.PhraseChecks.{check_part};
+ghost use Rattle.c_types_checks.specs.Stands.{stand_of};
 ghost use Rattle.c_types_base.specs.Stretches.{then_comes, a_statement, of_declaration, of_target, of_form};
 ghost use Rattle.c_types_rules.specs.Walks as spec;
 ghost use Rattle.c_types_rules.specs.Walks.{Answers, Walks};
 ghost use Rattle.c_tree.specs.declared.raw.statement.RawStatement.TheOpen.{RawStatement-F};
 
-use crate::allocation_checks::check_allocation;
-use crate::call_checks::check_call;
 use crate::check_fault::CheckFault;
-use crate::checking::{check_assignment, check_bump, check_test};
-use crate::declaration_checks::check_declared;
-use crate::initialiser_checks::check_begun;
-use crate::return_checks::check_return;
-use crate::stand::Stand;
 use c_arith::BinaryOp;
 use c_tree::{RawAmount, RawArg, RawExpr, RawInit, RawTarget, RawType, RawTypeName, RawVar};
 use c_types_base::declared_types::{item_count, type_with};
 use c_types_base::fault::Fault;
 use c_types_base::tables::Tables;
+use c_types_checks::allocation_checks::check_allocation;
+use c_types_checks::call_checks::check_call;
+use c_types_checks::checking::{check_assignment, check_bump, check_test};
+use c_types_checks::declaration_checks::check_declared;
+use c_types_checks::initialiser_checks::check_begun;
+use c_types_checks::return_checks::check_return;
+use c_types_checks::stand::Stand;
 use std::alloc::{AllocError, Global};
 
 /// What is told where the check of a phrase on a line answers so.

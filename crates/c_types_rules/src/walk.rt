@@ -4,17 +4,17 @@ ghost use Rattle.std.specs.Borrow.{Bor};
 ghost use Rattle.c_tree.specs.declared.raw.statement.RawLabel.{RawLabel};
 ghost use Rattle.c_language.specs.Phrases as phrases;
 ghost use Rattle.c_types_base.specs.Tables.{AreRight};
-ghost use Rattle.c_types_rules.specs.Stands.{stand_of};
+ghost use Rattle.c_types_checks.specs.Stands.{stand_of};
 ghost use Rattle.c_types_base.specs.Stretches.{enclosed, a_statement, of_statement, of_statements, of_block, of_arms, of_part, labels_in};
 ghost use Rattle.c_types_rules.specs.Walks.{Walks};
 
 use crate::check_fault::CheckFault;
-use crate::checking::check_test;
-use crate::stand::Stand;
 use crate::steps::{assigned, bumped, call, declared, heap, number_on, on_line, returned, tested};
-use crate::switch_checks::check_switch;
 use c_tree::{RawArm, RawExpr, RawLabel, RawStatement};
 use c_types_base::tables::Tables;
+use c_types_checks::checking::check_test;
+use c_types_checks::stand::Stand;
+use c_types_checks::switch_checks::check_switch;
 use sqlite_items::Boxed;
 use std::alloc::{AllocError, Global};
 

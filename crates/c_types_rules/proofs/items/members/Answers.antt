@@ -6,7 +6,7 @@ use Rattle.c_types_base.specs.Listing.{HasMembers}
 use Rattle.c_types_base.specs.Stretches.{then_comes}
 use Rattle.c_types_rules.specs.Walks.{Answers}
 use Rattle.c_types_rules.proofs.Checked.{walks_phrase}
-use Rattle.c_types_rules.proofs.DeclaredLaws.{member_there}
+use Rattle.c_types_checks.proofs.DeclaredLaws.{member_there}
 use Rattle.c_types_rules.proofs.DeclaredSteps.{passed}
 use Rattle.c_types_base.proofs.OptionLemmas.{is_there}
 use Rattle.c_types_rules.proofs.ItemSteps.{passes_fault, member_fresh}

@@ -1,4 +1,4 @@
-use Rattle.c_types_rules.specs.Stands.{stand_of}
+use Rattle.c_types_checks.specs.Stands.{stand_of}
 use Rattle.c_types_rules.proofs.DeclaredSteps.{begins_one, begins_items}
 use Rattle.c_types_rules.proofs.steps.begin.Goals as goal
 

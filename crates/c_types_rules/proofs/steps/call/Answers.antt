@@ -1,5 +1,5 @@
 use Rattle.c_language.specs.Phrases as phrases
-use Rattle.c_types_rules.specs.Stands.{stand_of}
+use Rattle.c_types_checks.specs.Stands.{stand_of}
 use Rattle.c_types_base.specs.Stretches.{of_target, a_statement}
 use Rattle.c_types_rules.proofs.WalkSteps.{two}
 use Rattle.c_types_rules.proofs.steps.call.Goals as goal

@@ -1,5 +1,5 @@
 use Rattle.std.proofs.Common.{sym}
-use Rattle.c_types_rules.specs.Stands.{stand_of}
+use Rattle.c_types_checks.specs.Stands.{stand_of}
 use Rattle.c_types_base.specs.Stretches.{of_declaration}
 use Rattle.c_types_rules.specs.Walks.{Walks}
 use Rattle.c_types_rules.proofs.DeclaredSteps.{declaration_stops, declared_typed, declared_fresh, declaration_walks}

@@ -1,6 +1,6 @@
 use Rattle.std.proofs.Common.{drop, ◌+◌, Ok, Err, refl}
 use Rattle.c_language.specs.Phrases as phrases
-use Rattle.c_types_rules.specs.Stands.{stand_of}
+use Rattle.c_types_checks.specs.Stands.{stand_of}
 use Rattle.c_types_base.specs.Stretches.{then_comes, of_statement, of_statements, of_arms}
 use Rattle.c_types_rules.specs.Walks.{Walks}
 use Rattle.c_types_rules.proofs.StatementSteps.{arm_walks, declare_walks, block_walks, while_walks, do_walks, fork_walks, yes_stops, no_walks, init_stops, test_stops, step_stops, for_parts_walk, for_stops, for_returns, head_stops, arms_walk}

@@ -1,5 +1,5 @@
 use Rattle.std.proofs.Common.{drop}
-use Rattle.c_types_rules.specs.Stands.{stand_of}
+use Rattle.c_types_checks.specs.Stands.{stand_of}
 use Rattle.c_types_base.specs.Stretches.{of_statements, of_arms}
 use Rattle.c_types_rules.proofs.WalkSteps.{Passed}
 use Rattle.c_types_rules.proofs.walk.+statement.Given as goal

@@ -2,7 +2,7 @@ use Rattle.std.proofs.Common.{◌≡◌, Some, map, arith, refl, sym, ap, subst,
 use Rattle.c_language.specs.Phrases.{labels_of, phrases_of_arms}
 use Rattle.c_language.specs.ProgramOf.{collected, label_tree}
 use Rattle.c_types_base.specs.Tables.{scope_of}
-use Rattle.c_types_program.specs.FitPhrases.{AreFit}
+use Rattle.c_types_trees.specs.FitPhrases.{AreFit}
 use Rattle.c_types_program.specs.Statements.{Fits, HasTree, Passes, FitAll, HaveTrees, PassesAll, FitsPart, HasPart, PassesPart, AreLabels, arm_texts, HaveArms, PassesArms}
 use Rattle.c_types_program.proofs.Sizes.{size, body_size, arm_size, arms_size, size-If, size-While, size-Do, size-For, size-Switch, size-Block, size-arm, some_size, one_within}
 use Rattle.c_types_program.proofs.Turns.{begins, turn_fits, turn, all_made, all_passed, next_turn, last_turn, pushed, arms_begin, arm_turn_fits, arm_turn_labels, arm_turn, arms_made, arms_passed, next_arm_turn, last_arm_turn, arm_pushed}

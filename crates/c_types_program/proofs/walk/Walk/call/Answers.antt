@@ -1,7 +1,7 @@
 use Rattle.std.proofs.Common.{◌≡◌, Some, sym, subst}
 use Rattle.c_language.specs.ProgramOf as trees
 use Rattle.c_types_base.specs.Tables.{scope_of}
-use Rattle.c_types_program.specs.KeptPhrases.{IsKeptCall}
+use Rattle.c_types_trees.specs.KeptPhrases.{IsKeptCall}
 use Rattle.c_types_program.proofs.SimpleForms.{call_meant, call_target, call_right, call_kept, call_follows, call_has, call_passes}
 use Rattle.c_types_program.proofs.walk.Walk.call.Goals as goal
 

@@ -1,8 +1,0 @@
-use Rattle.std.proofs.Common.{subst}
-use Rattle.c_types_program.specs.KeptPhrases.{IsKeptLabel}
-use Rattle.c_types_program.proofs.PartLemmas.{case_constant}
-use Rattle.c_types_program.proofs.parts.label_tree.Goals as goal
-
-pub case_tree-requires-clause-constant : goal.case_tree-requires-clause-constant
-case_tree-requires-clause-constant c =
-    case_constant c.args.tables.now.raw.now c.in-Case.value (subst (IsKeptLabel c.args.tables.now.raw.now) c.in-Case.is c.requires.kept)

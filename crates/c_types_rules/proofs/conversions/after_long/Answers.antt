@@ -1,5 +1,0 @@
-use Rattle.c_types_rules.proofs.FormatLemmas.{long_converts}
-use Rattle.c_types_rules.proofs.conversions.after_long.Goals as goal
-
-pub returns-in-Some : goal.returns-in-Some
-returns-in-Some c = λ rest. long_converts c.args.byte rest _ c.in-Some.ensures

@@ -1,5 +1,0 @@
-use Rattle.c_types_rules.proofs.FormatLemmas.{byte_written}
-use Rattle.c_types_rules.proofs.conversions.step_of.Goals as goal
-
-pub returns-else-byte-eq37 : goal.returns-else-byte-eq37
-returns-else-byte-eq37 c = λ rest. rw c.in-Nothing.is (byte_written c.args.byte rest c.if-byte-eq37.false)

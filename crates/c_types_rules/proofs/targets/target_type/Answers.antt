@@ -1,4 +1,0 @@
-use Rattle.c_types_rules.proofs.targets.target_type.Goals as goal
-
-pub returns-in-Declared : goal.returns-in-Declared
-returns-in-Declared c = rw c.in-Declared.is c.type_of_declared.ensures

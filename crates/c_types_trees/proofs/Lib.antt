@@ -1,0 +1,15 @@
+pub mod AllocationTrees
+pub mod CallLemmas
+pub mod CallTrees
+pub mod ConstantTrees
+pub mod ExprTrees
+pub mod HeapLemmas
+pub mod KeptLemmas
+pub mod MadeLemmas
+pub mod OptionPaths
+pub mod PartLemmas
+pub mod PhraseTrees
+pub mod Rulesets
+pub mod ScopeLemmas
+pub mod ShapeLemmas
+pub mod TypeTrees

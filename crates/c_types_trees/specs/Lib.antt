@@ -1,0 +1,3 @@
+pub mod KeptPhrases
+pub mod FitPhrases
+pub mod Shapes
