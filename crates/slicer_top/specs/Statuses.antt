@@ -1,5 +1,6 @@
 -- The statuses with which a call ends.
-use Rattle.std.specs.Prelude.{◌≡◌, ◌⊎◌, ℕ}
+use Rattle.std.specs.Prelude.{◌≡◌, ◌⊎◌, ℕ, Option}
+use Rattle.std.specs.Option.{unwrap_or}
 use Rattle.edge_io.specs.Count.{Rose}
 use Rattle.slicer_top.specs.declared.exit.Exit.{Exit}
 use Rattle.slicer_top.specs.declared.status.Status.{Status}
@@ -16,9 +17,13 @@ code_of NoMemory = 5
 code_of Limit = 8
 code_of TooLong = 9
 
--- the status with which a call of the program ended
+-- the status with which the call of the slicer ended; none where a call of the program found no memory for its words
+abbrev pub ended_in : Exit → Option Status
+ended_in exit = exit.ended
+
+-- the status of a call of the program
 abbrev pub status_in : Exit → Status
-status_in exit = exit.status
+status_in exit = unwrap_or exit.ended NoMemory
 
 -- err had these counts of faults
 module _ (err err' : ℕ) where

@@ -1,10 +1,10 @@
 //! A call of the program, from its arguments to the code that it ends with.
-ghost use Rattle.std.specs.Prelude.{◌≡◌, ◌≢◌, ◌⊎◌, ℕ, IsSome, IfErr, length};
+ghost use Rattle.std.specs.Prelude.{◌≡◌, ◌≢◌, ◌⊎◌, None, IsSome, IfSome, IfErr, length};
 ghost use Rattle.std.specs.IoError.{error_kind};
 ghost use Rattle.std.specs.Process.{exit_status};
 ghost use Rattle.edge_io.specs.Count.{Rose};
 ghost use Rattle.edge_io.specs.Contents.{Lacks, HoldsMoreThan};
-ghost use Rattle.edge_io.specs.Written.{Gains, GainsFront};
+ghost use Rattle.edge_io.specs.Written.{Gains};
 ghost use Rattle.c_tree.specs.declared.limits.LimitName.{LimitName};
 ghost use Rattle.c_tree.specs.declared.limits.LimitName.TheVariants.{Nesting};
 ghost use Rattle.c_language.specs.Words.{Bytes};
@@ -12,7 +12,7 @@ ghost use Rattle.slicer_top.specs.Words.{IsInForm, words_in, file_of, line_of};
 ghost use Rattle.slicer_top.specs.Files.{OfFile, NamesText};
 ghost use Rattle.slicer_top.specs.Limits.{IsAboveLimit, IsBelowLimits, IsDeep};
 ghost use Rattle.slicer_top.specs.Slices.{StartsNone, StartsOn, IsSliceOf, WritesSlice, WritesFront};
-ghost use Rattle.slicer_top.specs.Statuses.{IsOrYields, IsOrYieldsToFault, NoFault, IsFaultless, code_of, status_in};
+ghost use Rattle.slicer_top.specs.Statuses.{IsOrYields, IsOrYieldsToFault, NoFault, IsFaultless, code_of, ended_in, status_in};
 ghost use Rattle.slicer_top.specs.Lines.{Tells, PutOrCutOff, cannot_write, limit};
 ghost use Rattle.slicer_top.specs.Truths.{TellsTruth};
 
@@ -30,20 +30,21 @@ use std::process::{ExitCode, Termination};
 /// code of that call's status, and with no other.
 #[derive(Drop)]
 pub struct Exit {
-    status: Status,
+    // The status of the call of `run_slicer`; none where there was no memory for its words.
+    ended: Option<Status>,
 }
 
 impl Termination for Exit {
     fn report<R: Eprint>(self, _rt: &R) -> ExitCode
         ensures code { exit_status result ≡ code_of (status_in self) }
     {
-        ExitCode::from(self.status)
+        ExitCode::from(self.ended.unwrap_or(Status::NoMemory))
     }
 }
 
 /// Does what the arguments of a call ask for: [`run_slicer`] with the words of these arguments ([`call_words`]), so that
-/// each of its clauses holds of them. Where there is no memory for the words, the status is `NoMemory`, and nothing is
-/// written.
+/// each of its clauses holds of them. Where there is no memory for the words, `run_slicer` isn't called: the status is
+/// `NoMemory`, and nothing is read or written.
 pub fn run_call<F: Shelf, O: Sink, E: Sink>(
     alloc: Global,
     arguments: io::Result<Args>,
@@ -120,21 +121,24 @@ pub fn run_call<F: Shelf, O: Sink, E: Sink>(
         × OfFile (F.contents shelf.old) (file_of (words_in arguments))
         (λ text. WritesFront text (line_of (words_in arguments)) (O.written out.old) (O.written out.new))
         × PutOrCutOff (E.faults err.old) (E.faults err.new) (E.written err.old) (E.written err.new) cannot_write) }
-    ensures tells { ((status_in result ≡ Status.NoMemory) × (err.new ≡ err.old))
-        ⊎ Tells (E.faults err.old) (E.faults err.new) (E.written err.old) (E.written err.new)
-        (file_of (words_in arguments)) (line_of (words_in arguments)) (status_in result) }
+    ensures tells { IfSome (ended_in result) (λ status. Tells (E.faults err.old) (E.faults err.new)
+        (E.written err.old) (E.written err.new) (file_of (words_in arguments)) (line_of (words_in arguments)) status) }
     ensures silent { status_in result ≡ Status.Done → err.new ≡ err.old }
 
     // The shelf holds what it held.
     ensures contents { F.contents shelf.new ≡ F.contents shelf.old }
 
-    // Where the arguments found no memory, nothing is done.
-    ensures no_words { IfErr arguments (λ fault. error_kind fault ≡ ErrorKind.OutOfMemory
-        → (status_in result ≡ Status.NoMemory) × (shelf.new ≡ shelf.old) × (out.new ≡ out.old) × (err.new ≡ err.old)) }
+    // Where there was no memory for the words, nothing is done, and so it is where the arguments found none.
+    ensures untouched { ended_in result ≡ None → (shelf.new ≡ shelf.old) × (out.new ≡ out.old) × (err.new ≡ err.old) }
+    ensures no_words { IfErr arguments (λ fault. error_kind fault ≡ ErrorKind.OutOfMemory → ended_in result ≡ None) }
 {
-    let status = match call_words(alloc, arguments) {
-        Ok(words) => run_slicer(alloc, &words, shelf, out, err),
-        Err(AllocError) => Status::NoMemory,
-    };
-    Exit { status }
+    match call_words(alloc, arguments) {
+        Ok(words) => {
+            let status = run_slicer(alloc, &words, shelf, out, err);
+            Exit {
+                ended: Some(status),
+            }
+        }
+        Err(AllocError) => Exit { ended: None },
+    }
 }
