@@ -1,4 +1,5 @@
-//! The program of a text that keeps all rules: its tree with names as numbers and with types.
+//! The program of a text that keeps all rules: its tree with names as numbers and with types. One walk in text order makes
+//! it, of parts that c_types_trees makes.
 #![tactic(auto)]
 
 mod functions;

@@ -1,7 +1,7 @@
-//! The fault of making the program of a text that keeps all rules: an array too long for the tree, or no memory.
+//! The fault of making a type or a program of a text that keeps all rules: an array too long for the tree, or no memory.
 use std::alloc::AllocError;
 
-/// Why a text has no program here, though it keeps all rules.
+/// Why a type or a program isn't made, though no rule is broken.
 #[derive(Clone, Copy, Debug, PartialEq, Eq)]
 pub enum MakeFault {
     /// An array has 2^32 elements or more, which the tree can't hold.

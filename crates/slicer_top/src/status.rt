@@ -5,7 +5,8 @@ ghost use Rattle.slicer_top.specs.Statuses.{code_of};
 
 use std::process::ExitCode;
 
-/// How a call ends. Each status has its exit code, and all but `Done` have a line on err.
+/// How a call ends. Each status has its exit code; a call of `run_slicer` puts a line on err for all but `Done`, where err
+/// takes it.
 #[derive(Clone, Copy, Debug, PartialEq, Eq)]
 pub enum Status {
     /// The slice is written. Code 0.
