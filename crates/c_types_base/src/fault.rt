@@ -1,7 +1,7 @@
 //! The fault of the judgement of one phrase: a broken rule by its number, without a line, or no memory.
 use std::alloc::AllocError;
 
-/// Why an expression has no type.
+/// Why the judgement of an expression, or a check of a phrase, fails.
 #[derive(Clone, Copy, Debug, PartialEq, Eq)]
 pub enum Fault {
     /// The rule with this number is broken.
