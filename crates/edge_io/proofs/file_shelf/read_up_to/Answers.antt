@@ -1,4 +1,4 @@
-use Rattle.std.proofs.Common.{◌≡◌, ◌+◌, ◌<◌, ◌≤◌, ◌++◌, List, ℕ, length, take, vec_len, sym, ap, subst, inl, inr, arith, rules}
+use Rattle.std.proofs.Common.{◌≡◌, ◌+◌, ◌≤◌, ◌++◌, List, ℕ, length, take, sym, ap, subst, arith, rules}
 use Rattle.edge_io.specs.ReadCalls.{Reads, IsUnreadable}
 use Rattle.edge_io.proofs.Streams.{HasRead, unread, gives_front, read_none, read_more}
 use Rattle.edge_io.proofs.CallLemmas.{other_kind, unread_at_last}
@@ -12,24 +12,6 @@ loop-call-init g c =
       bytes = subst (HasRead c.args.limit (g.S.Read.remaining c.args.source.now) (g.S.Read.remaining c.args.source.now)) none (unread _ _);
       calls = subst (λ bytes. Reads g.S.Source.may_read c.args.source.now 0 bytes c.args.source.now) none Reads.begins;
     }
-
-pub returns-then-wanted-eq0-clause-given : goal.returns-then-wanted-eq0-clause-given
-returns-then-wanted-eq0-clause-given g c =
-    let all : vec_len c.loop-call.bytes ≡ c.args.limit = omega (arith, c.loop-call.bytes.ok.0, c.loop-call.invariant.bytes.within) in
-    inr (all, record { calls = _; now = _; reads = c.loop-call.invariant.calls })
-
-pub returns-in-Ok-eq0-clause-given : goal.returns-in-Ok-eq0-clause-given
-returns-in-Ok-eq0-clause-given g c =
-    let room : 0 < length c.read_once.new.buffer = search rules in
-    inl (record {
-      calls = _;
-      now = _;
-      reads = c.loop-call.invariant.calls;
-      buffer = c.read_once.new.buffer;
-      room = room;
-      last = c.read_once.new.self;
-      end = rw c.in-Ok-eq0.field-0-test at c.in-Ok-eq0.ensures.call;
-    })
 
 pub returns-then-not-is_interrupted-clause-unreadable : goal.returns-then-not-is_interrupted-clause-unreadable
 returns-then-not-is_interrupted-clause-unreadable g c =

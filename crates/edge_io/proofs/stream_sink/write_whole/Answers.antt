@@ -1,18 +1,12 @@
 use Rattle.std.proofs.Common.{◌≡◌, ◌+◌, ◌-◌, ◌^◌, List, ℕ, Bor, sym, subst, arith}
 use Rattle.edge_io.specs.WriteCalls.{Writes, IsCutShort}
-use Rattle.edge_io.proofs.Streams.{HasWritten, begun, kept, kept_at_none, goes_on, written_front, written_whole}
-use Rattle.edge_io.proofs.CallLemmas.{some_left, none_left, other_kind, took_some, all_written, stopped_at_none, stopped_at_last}
+use Rattle.edge_io.proofs.Streams.{HasWritten, begun, kept, kept_at_none, goes_on, written_front}
+use Rattle.edge_io.proofs.CallLemmas.{some_left, other_kind, took_some, stopped_at_none, stopped_at_last}
 use Rattle.edge_io.proofs.stream_sink.write_whole.Goals.{in-Ok, in-Err+else-not-is_interrupted}
 use Rattle.edge_io.proofs.stream_sink.write_whole.Goals as goal
 
 pub loop-call-init : goal.loop-call-init
 loop-call-init g c = record { bytes = begun _ _; calls = Writes.begins }
-
-pub returns-then-is_empty-clause-written : goal.returns-then-is_empty-clause-written
-returns-then-is_empty-clause-written g c = all_written c.loop-call.invariant.calls (none_left _ _ c.is_empty.ensures c.if-is_empty.true)
-
-pub returns-then-is_empty-clause-ok : goal.returns-then-is_empty-clause-ok
-returns-then-is_empty-clause-ok g c = written_whole _ _ _ _ c.loop-call.invariant.bytes (none_left _ _ c.is_empty.ensures c.if-is_empty.true)
 
 pub returns-in-Ok-eq0-clause-cut_short : goal.returns-in-Ok-eq0-clause-cut_short
 returns-in-Ok-eq0-clause-cut_short g c =
@@ -47,12 +41,6 @@ loop-call-preserved g c =
         calls = subst calls (sym w.rest-is) (Writes.interrupted c.loop-call.invariant.calls left w.in-Err.ensures.call (w.is_interrupted.ensures.0 w.if-not-is_interrupted.false));
       }
     ]
-
-pub returns-then-is_empty-2-clause-written : goal.returns-then-is_empty-2-clause-written
-returns-then-is_empty-2-clause-written g c = all_written c.loop-call.invariant.calls (none_left _ _ c.is_empty-2.ensures c.if-is_empty-2.true)
-
-pub returns-then-is_empty-2-clause-ok : goal.returns-then-is_empty-2-clause-ok
-returns-then-is_empty-2-clause-ok g c = written_whole _ _ _ _ c.loop-call.invariant.bytes (none_left _ _ c.is_empty-2.ensures c.if-is_empty-2.true)
 
 pub returns-else-is_empty-2-clause-cut_short : goal.returns-else-is_empty-2-clause-cut_short
 returns-else-is_empty-2-clause-cut_short g c =
