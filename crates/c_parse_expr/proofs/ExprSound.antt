@@ -18,7 +18,7 @@ use Rattle.c_parse_expr.specs.declared.suffix.Suffix.{Suffix}
 use Rattle.c_parse_expr.specs.declared.suffix.Suffix.TheVariants.{Operator, Question, Bracket, Select}
 use Rattle.c_parse_expr.specs.Outcome.{Parser, expect}
 use Rattle.c_parse_expr.specs.IntReading.{int_type}
-use Rattle.c_parse_expr.specs.ExprReading.{or_else, logical, comparison, arithmetic, infix_by, as_operator, suffix_by, multiplies_size, suffix, goes_on, is_some_suffix, suffix_level, at_least, suffix_from, with_suffix, prefix_by, prefix_at, with_prefix, named, atom, read_member, parenthesized, converted, signed, prefix, with_operand, with_choice, with_index, extended_by, extended, climb, expression_with, nested, expression}
+use Rattle.c_parse_expr.specs.ExprReading.{or_else, logical, comparison, arithmetic, infix_by, as_operator, suffix_by, multiplies_size, suffix, suffix_level, at_least, suffix_from, with_suffix, prefix_by, prefix_at, with_prefix, named, atom, read_member, parenthesized, converted, signed, prefix, with_operand, with_choice, with_index, extended_by, extended, climb, expression_with, nested, expression}
 use Rattle.c_parse_words.proofs.SeenTokens.{text_is, of_kind_is, by_seen}
 use Rattle.c_parse_expr.proofs.Tests.{by_test, by_step, by_expect, by_member, with_parts}
 use Rattle.c_parse_expr.proofs.IntLaws.{int_type_sound}
@@ -369,12 +369,3 @@ nested_sound (suc d) n ts a rest some below h = expression_is (nested d) d (nest
 -- What is read as an expression is one, nests no deeper than it may, and ends where it can go on no further.
 pub expression_sound : (d : ℕ) → IsSound (suc d) (expression d)
 expression_sound d n ts a rest some below h = expression_is (nested d) d (nested_sound d) n ts a rest some below h
-
-not_on : (o : Option Suffix) → level_by o < 1 → is_some_suffix o ≡ false
-not_on None h = refl
-not_on (Some x) h = absurd (let q = level_some x in omega (arith, q))
-
--- an expression that goes on no further
-pub goes_no_further : (ts : Tokens) → head_level ts < 1 → goes_on ts ≡ false
-unfolding goes_on
-goes_no_further ts h = not_on (suffix ts) h

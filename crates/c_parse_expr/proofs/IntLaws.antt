@@ -254,14 +254,6 @@ text_told word.Long = refl
 text_told word.Signed = refl
 text_told word.Unsigned = refl
 
-text_counts : (k : IntWord) → is_int_word (text_of k) ≡ true
-text_counts word.Char = refl
-text_counts word.Short = refl
-text_counts word.Int = refl
-text_counts word.Long = refl
-text_counts word.Signed = refl
-text_counts word.Unsigned = refl
-
 abbrev pub is_some_word : Option IntWord → Bool
 is_some_word None = false
 is_some_word (Some k) = true

@@ -14,7 +14,6 @@ use Rattle.c_language.specs.Words.{Bytes}
 use Rattle.c_language.specs.TokenForms.{Tokens, name, mark, line_of}
 use Rattle.c_language.specs.Sees.{sees, sees_second, sees_name, is_keyword, is_kind}
 use Rattle.c_language.specs.IntWords.{is_int_word, sees_int_word}
-use Rattle.c_language.specs.ExprGrammar.{IsExpr}
 use Rattle.c_language.specs.TypeGrammar.{IsBase, structure, integer, IsStars, star, IsTypeName, pointed, pointed_n, NamesType, starred, IsLengths, IsOuterLengths, IsDeclarator, IsParamName, IsParam, IsMoreParams, IsParams}
 use Rattle.c_language.specs.Nesting.{nesting, type_nesting, param_nesting, params_nesting}
 use Rattle.c_language.specs.declared.token.Token.{Token}
@@ -22,7 +21,7 @@ use Rattle.c_language.specs.declared.token.TokenKind.TheVariants.{Name, Mark}
 use Rattle.c_language.proofs.NestingLemmas.{type_nesting-Integer, type_nesting-PointerTo, type_nesting-Array, type_nesting-Struct}
 use Rattle.c_parse_expr.specs.Outcome.{Parser, and_then, Deep, expect}
 use Rattle.c_parse_expr.specs.ExprReading.{goes_on, suffix, suffix_by, infix_by, logical, comparison, arithmetic, multiplies_size, nested}
-use Rattle.c_parse_expr.specs.TypeReading.{begins_type, base, stars, star_count, type_name, fitting, with_length, lengths, sees_empty_length, empty_length, outer_lengths, declarator, param_name, param_length, param_end, param, params_from, params}
+use Rattle.c_parse_expr.specs.TypeReading.{base, stars, star_count, type_name, fitting, with_length, lengths, sees_empty_length, empty_length, outer_lengths, declarator, param_name, param_length, param_end, param, params_from, params}
 use Rattle.c_parse_words.proofs.SeenTokens.{text_is, of_kind_is}
 use Rattle.c_parse_expr.proofs.Tests.{read_name_at}
 use Rattle.c_parse_expr.proofs.IntLaws.{int_type_read, int_type_shorter, int_type_begins}
@@ -85,20 +84,6 @@ pub begins_param : {ts rest : Tokens} {p : RawParam} → IsParam ts p rest → B
 begins_param (IsParam.plain h k free) = begins_type_name h
 begins_param (IsParam.unsized h k) = begins_type_name h
 begins_param (IsParam.sized h k j) = begins_type_name h
-
--- a type begins where one of its words is, and no expression begins so
-pub base_begins : {ts rest : Tokens} {a : RawType} → IsBase ts a rest → begins_type ts ≡ true
-unfolding begins_type sees
-base_begins (structure free) = refl
-base_begins (integer {ts} h) = rw (int_type_begins h) (or_right (sees Name (codes "struct") ts) true refl)
-
-struct_word : is_keyword (codes "struct") ≡ true
-unfolding is_keyword
-struct_word = refl
-
-pub expr_begins_no_type : {n : ℕ} {ts rest : Tokens} {a : RawExpr} → IsExpr n ts a rest → begins_type ts ≡ false
-unfolding begins_type
-expr_begins_no_type h = let b = begins_expr h in rw (b.no_word (codes "struct") struct_word, b.no_type) refl
 
 -- ---- types
 
@@ -174,20 +159,6 @@ unfolding type_name
 type_name_read (starred {n} {ts} {mid} {rest} {base = a} h k) =
     rw (base_read h, stars_passed k) (ap (λ m. Ok (record { base = a; stars = m }, rest)) (star_count_is k))
 
--- the stars, by whether one is in front
-pub stars_none : (limit : ℕ) (a : RawType) (ts : Tokens) → sees Mark (codes "*") ts ≡ false → stars limit a ts ≡ Ok (a, ts)
-unfolding stars
-stars_none zero a ts h = rw h refl
-stars_none (suc limit) a ts h = rw h refl
-
-pub stars_one : (limit : ℕ) (a : RawType) (ts : Tokens) → sees Mark (codes "*") ts ≡ true → stars (suc limit) a ts ≡ stars limit (type.PointerTo a) (drop 1 ts)
-unfolding stars
-stars_one limit a ts h = rw h refl
-
-pub stars_full : (a : RawType) (ts : Tokens) → sees Mark (codes "*") ts ≡ true → stars zero a ts ≡ Err Deep
-unfolding stars
-stars_full a ts h = rw h refl
-
 -- ---- lengths
 
 bracket_ends : (l : ℕ) (ts : Tokens) → goes_on (mark (codes "]") l ∷ ts) ≡ false
@@ -209,11 +180,6 @@ pub some_length : (depth : ℕ) (a : RawType) (ts : Tokens) → sees Mark (codes
 unfolding lengths
 some_length zero a ts h some = absurd (omega arith)
 some_length (suc depth) a ts h some = let e : suc depth - 1 ≡ depth = omega arith in rw (h, e) refl
-
-pub length_full : (depth : ℕ) (a : RawType) (ts : Tokens) → sees Mark (codes "[") ts ≡ true → depth ≡ 0 → lengths depth a ts ≡ Err Deep
-unfolding lengths
-length_full zero a ts h none = rw h refl
-length_full (suc depth) a ts h none = absurd (omega arith)
 
 one_length : (depth l : ℕ) (a : RawType) (ts : Tokens) → lengths (suc depth) a (mark (codes "[") l ∷ ts) ≡ with_length (suc depth) (lengths depth a) ts
 unfolding lengths sees

@@ -1,32 +1,14 @@
 -- Tokens at a place of a list, those before it, the nearest first, and those behind it.
-use Rattle.std.proofs.Common.{◌≡◌, ℕ, zero, suc, ◌+◌, ◌-◌, ◌≤◌, ◌<◌, List, [], ◌∷◌, ◌++◌, length, take, drop, reverse, refl, sym, ap, ◌∙◌, arith, true, false, Some, None, codes, slice_get}
-use Rattle.std.proofs.lemmas.Option.{slice_get_past, slice_get-get_or}
-use Rattle.std.proofs.lemmas.List.{get_or-reverse, length-reverse, reverse-append}
-use Rattle.c_language.specs.Words.{Bytes}
+use Rattle.std.proofs.Common.{◌≡◌, ℕ, zero, suc, ◌+◌, ◌≤◌, List, [], ◌∷◌, ◌++◌, length, take, drop, reverse, refl, sym, ap, ◌∙◌, arith, true, false, Some, None, codes}
+use Rattle.std.proofs.lemmas.List.{reverse-append}
 use Rattle.c_language.specs.TokenForms.{Tokens}
-use Rattle.c_language.specs.Sees.{is_token, is_some_token}
+use Rattle.c_language.specs.Sees.{is_token}
 use Rattle.c_language.specs.LeftOut.{open_braces, behind_semicolon}
 use Rattle.c_language.specs.declared.token.Token.{Token}
-use Rattle.c_language.specs.declared.token.TokenKind.{TokenKind}
 use Rattle.c_language.specs.declared.token.TokenKind.TheVariants.{Mark}
 use Rattle.c_parse_left_out.specs.Telling.{told, first_told, braces_behind}
 
 -- ---- counted back
-
-pub back_get : (ts : Tokens) (k : ℕ) → k < length ts → slice_get (reverse ts) k ≡ slice_get ts (length ts - 1 - k)
-back_get [] k p = absurd (omega (arith, p))
-back_get (t ∷ ts) k p =
-    let e = length-reverse (t ∷ ts) in
-    slice_get-get_or (reverse (t ∷ ts)) k t (omega (arith, p, e)) ∙ (ap (λ x. Some x) (get_or-reverse (t ∷ ts) k t p) ∙ sym (slice_get-get_or (t ∷ ts) (length (t ∷ ts) - 1 - k) t (omega (arith, p))))
-
-pub back_none : (ts : Tokens) (k : ℕ) → length ts ≤ k → slice_get (reverse ts) k ≡ None
-back_none ts k p = let e = length-reverse ts in slice_get_past (reverse ts) k (omega (arith, p, e))
-
-pub back_token : (kind : TokenKind) (text : Bytes) (ts : Tokens) (k : ℕ) → k < length ts → is_some_token kind text (slice_get ts (length ts - 1 - k)) ≡ is_some_token kind text (slice_get (reverse ts) k)
-back_token kind text ts k p = ap (is_some_token kind text) (sym (back_get ts k p))
-
-pub back_nothing : (kind : TokenKind) (text : Bytes) (ts : Tokens) (k : ℕ) → length ts ≤ k → false ≡ is_some_token kind text (slice_get (reverse ts) k)
-back_nothing kind text ts k p = sym (ap (is_some_token kind text) (back_none ts k p))
 
 -- ---- one token further
 

@@ -79,10 +79,6 @@ pub entry_vertex : (p : Program) (f k : ℕ) → Contains (numbers is_entry f (v
 entry_vertex p f k c =
     let w = numbers_pass is_entry f (vertices p) k c in entry_case p f k w.one (vertex_cases p k w.one w.at) w.at w.passing
 
-pub vertex_entry : (p : Program) (k : ℕ) → slice_get (vertices p) k ≡ Some (in_function 0 Entry) → Contains (numbers is_entry 0 (vertices p)) k
-vertex_entry p k e =
-    passes_numbers is_entry 0 (vertices p) k (record { one = in_function 0 Entry; at = e; passing = refl })
-
 -- there are no others
 pub no_others : (p : Program) (test : VertexKind → Bool) → test Entry ≡ false → ((i : ℕ) → test (Statement i) ≡ false) → (f k : ℕ) → Contains (numbers test f (vertices p)) k → ⊥
 no_others p test at_entry at_statement f k c =

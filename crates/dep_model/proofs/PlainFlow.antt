@@ -167,8 +167,3 @@ plain_flow p a h is v w e =
         chain = chain_numbers p h a.points l v w e.chain;
       };
     }
-
--- its ends are statements of the program
-pub steps_below : (p : Program) → IsNumberedMain p → (v w : Step) → FlowEdge (code_in p 0) v w → (v.id < p.statements) × (w.id < p.statements)
-steps_below p h v w e =
-    let m = chain_of_main p h e.location v w e.chain in (of_main_low p h v m.0, of_main_low p h w m.1)

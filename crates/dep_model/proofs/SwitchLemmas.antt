@@ -1,11 +1,11 @@
 -- Labels and arms of a switch, one after another.
-use Rattle.std.proofs.Common.{◌≡◌, ℕ, zero, suc, ◌+◌, ◌<◌, ◌≤◌, List, [], ◌∷◌, ◌++◌, length, take, drop, get_or, Bool, true, false, append_assoc, append-nil, arith, refl, sym, ap, ◌∙◌}
+use Rattle.std.proofs.Common.{◌≡◌, ℕ, zero, suc, ◌+◌, ◌<◌, ◌≤◌, List, [], ◌∷◌, ◌++◌, length, take, drop, get_or, Bool, true, false, append-nil, arith, refl, sym, ap, ◌∙◌}
 use Rattle.std.specs.Prelude.{◌||◌}
 use Rattle.c_tree.specs.declared.statement.Arm.{Arm}
 use Rattle.c_tree.specs.declared.statement.Label.{Label}
 use Rattle.dep_model.specs.declared.switch_arms.Labels.{Labels}
 use Rattle.dep_model.specs.SwitchArms.{is_first, has_first, with_labels, taken_from, AreSeen}
-use Rattle.dep_model.proofs.NumberedFrom.{drop_item, drop_none}
+use Rattle.dep_model.proofs.NumberedFrom.{drop_none}
 
 or_nothing : (a : Bool) → (a || false) ≡ a
 or_nothing true = refl
@@ -36,14 +36,6 @@ pub record AreTakenSoFar (arms : List Arm) (i : ℕ) (seen : Labels) (taken : Li
   pub before : List Label
   pub are_seen : AreSeen before seen
   pub rest : taken ++ taken_from before (drop i arms) ≡ taken_from [] arms
-
-pub taken_more : {arms : List Arm} {i : ℕ} {old new : Labels} {taken more : List Bool} (a : Arm) (first : Bool) → i < length arms → get_or arms i a ≡ a → (h : AreTakenSoFar arms i old taken) → first ≡ has_first h.before a.labels → AreSeen (with_labels h.before a.labels) new → more ≡ taken ++ first ∷ [] → AreTakenSoFar arms (i + 1) new more
-taken_more {arms} {i} {old} {new} {taken} {more} a first lt is h e seen now = record {
-  before = with_labels h.before a.labels;
-  are_seen = seen;
-  rest =
-      ap (λ xs. xs ++ taken_from (with_labels h.before a.labels) (drop (i + 1) arms)) now ∙ append_assoc taken (first ∷ []) (taken_from (with_labels h.before a.labels) (drop (i + 1) arms)) ∙ ap (λ x. taken ++ x ∷ taken_from (with_labels h.before a.labels) (drop (i + 1) arms)) e ∙ ap (λ xs. taken ++ taken_from h.before xs) (sym (drop_item arms i a lt is)) ∙ h.rest;
-}
 
 pub taken_all : {arms : List Arm} {i : ℕ} {seen : Labels} {taken : List Bool} → length arms ≤ i → AreTakenSoFar arms i seen taken → taken ≡ taken_from [] arms
 taken_all {arms} {i} {seen} {taken} le h = sym (append-nil taken) ∙ ap (λ xs. taken ++ taken_from h.before xs) (sym (drop_none arms i le)) ∙ h.rest

@@ -1,6 +1,6 @@
 -- In a plain graph no path has a letter, so that what reaches a set is found by going back along edges.
 use Rattle.std.proofs.Common.{◌≡◌, ℕ, ◌⊎◌, ◌↔◌, inl, inr, Bool, List, [], ◌∷◌, ◌++◌, map, Contains, refl, sym, ap, ◌∙◌, subst}
-use Rattle.std.proofs.lemmas.List.Elements.{All-contains, All-append, All-nil}
+use Rattle.std.proofs.lemmas.List.Elements.{All-contains}
 use Rattle.std.specs.Prelude.{IsTrue}
 use Rattle.bit_rows.specs.Sets.{has}
 use Rattle.dep_model.specs.declared.edge.Edge.{Edge}
@@ -14,12 +14,6 @@ use Rattle.dep_model.specs.Words as words
 use Rattle.rule_closure.proofs.ListLemmas.{contains_map, map_contains}
 
 -- ---- plain graphs
-
-pub plain_none : IsPlain []
-plain_none = record { plain = All-nil (λ (e : Edge). (e.label ≡ Control) ⊎ (e.label ≡ Flow)) }
-
-pub plain_append : (xs ys : List Edge) → IsPlain xs → IsPlain ys → IsPlain (xs ++ ys)
-plain_append xs ys p q = record { plain = All-append (λ (e : Edge). (e.label ≡ Control) ⊎ (e.label ≡ Flow)) xs ys p.plain q.plain }
 
 pub plain_label : (edges : List Edge) (e : Edge) → IsPlain edges → Contains edges e → (e.label ≡ Control) ⊎ (e.label ≡ Flow)
 plain_label edges e p m = All-contains (λ (x : Edge). (x.label ≡ Control) ⊎ (x.label ≡ Flow)) edges e p.plain m

@@ -1,21 +1,17 @@
 -- What calls of a stream or a source have done, in the middle of a loop.
-use Rattle.std.proofs.Common.{ℕ, ◌≡◌, ◌≢◌, ◌<◌, ◌+◌, ◌-◌, ◌^◌, Bool, true, false, ◌==◌, ◌↔◌, IsTrue, List, [], ◌∷◌, length, take, drop, Result, Ok, Err, IfErr, IsErrAnd, refl, sym, subst, ◌∙◌, arith, true≢false}
+use Rattle.std.proofs.Common.{ℕ, ◌≡◌, ◌≢◌, ◌<◌, ◌+◌, ◌-◌, ◌^◌, Bool, false, ◌==◌, ◌↔◌, IsTrue, List, length, take, drop, Result, Ok, Err, IfErr, IsErrAnd, sym, subst, ◌∙◌, arith, true≢false}
 use Rattle.std.proofs.lemmas.Bool.Decides.{nat_tests}
 use Rattle.std.proofs.lemmas.List.{take_rest}
 use Rattle.std.specs.declared.io.Error.{Error}
 use Rattle.edge_io.specs.declared.shelf.FetchFault.{FetchFault}
 use Rattle.edge_io.specs.declared.shelf.FetchFault.TheVariants.{Failed}
-use Rattle.edge_io.specs.WriteCalls.{Writes, IsWritten, IsCutShort}
+use Rattle.edge_io.specs.WriteCalls.{Writes, IsCutShort}
 use Rattle.edge_io.specs.ReadCalls.{Reads, IsUnreadable, IsUnfetchable}
 
 -- ---- what the tests of the loops say
 
 pub some_left : (rest : List ℕ) (is_empty : Bool) → is_empty ≡ (length rest == 0) → is_empty ≡ false → 0 < length rest
 some_left rest is_empty told none = grind (arith, nat_tests)
-
-pub none_left : (rest : List ℕ) (is_empty : Bool) → is_empty ≡ (length rest == 0) → is_empty ≡ true → rest ≡ []
-none_left [] is_empty told none = refl
-none_left (b ∷ rest) is_empty told none = absurd (grind (arith, nat_tests))
 
 pub other_kind : {K : Type 0} {kind named : K} (is_named : Bool) → (IsTrue is_named ↔ (kind ≡ named)) → is_named ≡ false → kind ≢ named
 other_kind is_named told none = λ same. true≢false (sym (told.1 same) ∙ none)
@@ -31,10 +27,6 @@ passed_on P fault (Err y) is holds = subst P (sym is) holds
 pub took_some : {S : Type 0} {may : S → List ℕ → Result ℕ Error → S → Type 0} {piece rest : List ℕ} {first now next : S} {calls n : ℕ} → Writes may piece first calls rest now
     → 0 < length rest → may now rest (Ok n) next → 0 < n → Writes may piece first (calls + 1) (take (length rest - n) (drop n rest)) next
 took_some {rest = rest} {n = n} so_far left call some = rw (take_rest rest n) (Writes.took so_far left call some)
-
-pub all_written : {S : Type 0} {may : S → List ℕ → Result ℕ Error → S → Type 0} {piece rest : List ℕ} {first last : S} {calls : ℕ} → Writes may piece first calls rest last
-    → rest ≡ [] → IsWritten may piece first last
-all_written {calls = calls} so_far none = record { calls = calls; writes = rw none at so_far }
 
 pub stopped_at_none : {S : Type 0} {may : S → List ℕ → Result ℕ Error → S → Type 0} {piece rest : List ℕ} {first now last : S} {calls n : ℕ} → Writes may piece first calls rest now
     → 0 < length rest → may now rest (Ok n) last → n ≡ 0 → IsCutShort may piece first last

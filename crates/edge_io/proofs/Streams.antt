@@ -63,9 +63,3 @@ written_front piece rest first now so_far left =
     let is_front : take (length so_far.front) piece ≡ so_far.front = ap (take (length so_far.front)) so_far.split ∙ take_at so_far.front rest (length so_far.front) (λ _. length so_far.front) in
     let lacks : length so_far.front < length piece = omega (arith, ap length so_far.split, length-append so_far.front rest) in
     (length so_far.front, lacks, subst (Appends first now) (sym is_front) so_far.appended)
-
--- what was written once nothing is left is the piece
-pub written_whole : (piece rest : List ℕ) (first now : Option (List ℕ)) → HasWritten piece rest first now → rest ≡ [] → Appends first now piece
-written_whole piece rest first now so_far none =
-    let is_front : so_far.front ≡ piece = sym (so_far.split ∙ ap (λ l. so_far.front ++ l) none ∙ append-nil so_far.front) in
-    subst (Appends first now) is_front so_far.appended

@@ -5,18 +5,9 @@ use Rattle.c_tree.specs.declared.statement.Arm.{Arm}
 use Rattle.c_tree.specs.declared.statement.Label.{Label}
 use Rattle.c_tree.specs.declared.statement.Statement.{Statement}
 use Rattle.c_language.specs.Code.{is_default, has_default}
-use Rattle.dep_model.specs.Follows.{enters}
 use Rattle.dep_model.specs.declared.skeleton.Pair.{Pair}
 use Rattle.dep_model.proofs.NumberedFrom.{drop_item, drop_none}
-use Rattle.flow_graph.specs.Walk.{to_next, linked, flow, flows, if_taken, arm_flows, some_default}
-
--- vertices that follow one another: those up to one of them, and the rest
-pub link_turn : (vs : List ℕ) (k : Option ℕ) (i v : ℕ) (start out new : List Pair) → i < length vs → get_or vs i v ≡ v → out ++ linked (drop i vs) k ≡ start ++ linked vs k → new ≡ out ++ to_next v (enters (drop (i + 1) vs) k) → new ++ linked (drop (i + 1) vs) k ≡ start ++ linked vs k
-link_turn vs k i v start out new lt is inv now =
-    ap (λ xs. xs ++ linked (drop (i + 1) vs) k) now ∙ append_assoc out (to_next v (enters (drop (i + 1) vs) k)) (linked (drop (i + 1) vs) k) ∙ ap (λ xs. out ++ linked xs k) (sym (drop_item vs i v lt is)) ∙ inv
-
-pub link_end : (vs : List ℕ) (k : Option ℕ) (i : ℕ) (start out : List Pair) → length vs ≤ i → out ++ linked (drop i vs) k ≡ start ++ linked vs k → out ≡ start ++ linked vs k
-link_end vs k i start out le inv = sym (append-nil out) ∙ ap (λ xs. out ++ linked xs k) (sym (drop_none vs i le)) ∙ inv
+use Rattle.flow_graph.specs.Walk.{flow, flows, if_taken, arm_flows, some_default}
 
 -- a list from its end on
 module _ (own : ℕ → List ℕ) where

@@ -1,6 +1,6 @@
 -- What closing a set by links keeps from step to step.
 use Rattle.std.proofs.Common.{◌≡◌, ℕ, ◌+◌, ◌-◌, ◌<◌, ◌≤◌, ◌⊎◌, ◌↔◌, inl, inr, Bool, true, false, List, map, length, get_or, set, take, Contains, All, count_by, refl, sym, ap, ◌∙◌, subst, arith}
-use Rattle.std.proofs.lemmas.List.{get_or-set_same, get_or-set_other, length-set, get_or_default, take_all}
+use Rattle.std.proofs.lemmas.List.{get_or-set_same, get_or-set_other, length-set, get_or_default}
 use Rattle.std.proofs.lemmas.List.Sums.{count_by_more_yes, count_by_more_no}
 use Rattle.std.proofs.lemmas.List.Elements.{Contains-append_left, Contains-append_right, Contains-append_cases, All-contains}
 use Rattle.std.proofs.lemmas.Bool.{cases_eq, cases_lt, false≢true}
@@ -13,7 +13,7 @@ use Rattle.rule_closure.specs.Rules as rules_
 use Rattle.rule_closure.specs.Links.{LinkDerived, Linked, IsLast, IsListed, IsLinkWithin, from_first, from_second, links_of}
 use Rattle.rule_closure.specs.Links as links_
 use Rattle.rule_closure.proofs.ListLemmas.{contains_map, map_contains}
-use Rattle.rule_closure.proofs.SetLemmas.{has_set, has_set_cases, has_in_range, count-set}
+use Rattle.rule_closure.proofs.SetLemmas.{has_set, has_set_cases, count-set}
 
 -- the order lists one member more
 pub listed_more : (order : List ℕ) (filled : ℕ) (s : List Bool) (u : ℕ) → IsListed order filled s → u < length s → has s u ≡ false → filled < length order → IsListed (set order filled u) (filled + 1) (set s u true)
@@ -59,13 +59,6 @@ listing_skips s at order filled l h none = record {
     | inr q ↦ l.covers u (omega arith) g
   ];
   count = count_by_more_no (λ (b : Bool). b) s at false h none ∙ l.count;
-}
-
-pub listing_ends : (s : List Bool) (at : ℕ) (order : List ℕ) (filled : ℕ) → IsListing s at order filled → length s ≤ at → IsListed order filled s
-listing_ends s at order filled l end = record {
-  inside = l.inside;
-  covers = λ v h. l.covers v (omega (arith, has_in_range s v h)) h;
-  count = ap (λ (xs : List Bool). count_by (λ b. b) xs) (sym (take_all at s end)) ∙ l.count;
 }
 
 -- ---- one number visited

@@ -5,7 +5,6 @@ use Rattle.std.proofs.lemmas.List.Sums.{sum_by-set, count_by-le-length}
 use Rattle.std.proofs.lemmas.Bool.{cases_eq, cases_lt, false≢true}
 use Rattle.std.specs.Prelude.{IsTrue}
 use Rattle.bit_rows.specs.Sets.{has}
-use Rattle.rule_closure.specs.Rules.{Holds}
 
 -- a member is below the length
 pub has_in_range : (s : List Bool) (v : ℕ) → IsTrue (has s v) → v < length s
@@ -59,16 +58,3 @@ same_test false false e = refl
 -- sets of one length with the same members are equal
 pub same_members : (s t : List Bool) → length s ≡ length t → ((v : ℕ) → IsTrue (has s v) ↔ IsTrue (has t v)) → s ≡ t
 same_members s t size same = ext_get_or false s t size (λ i h. same_test (has s i) (has t i) (same i))
-
-pub holds_itself : (s : List Bool) → Holds s s
-holds_itself s v h = h
-
-pub holds_through : (s t u : List Bool) → Holds t s → Holds u t → Holds u s
-holds_through s t u a b v h = b v (a v h)
-
--- a set holds another with a number added, where it has that number
-pub holds_set : (s t : List Bool) (u : ℕ) → Holds t s → IsTrue (has t u) → Holds t (set s u true)
-holds_set s t u a here v h = elim (has_set_cases s u v h) [
-  | inl old ↦ a v old
-  | inr q ↦ ap (has t) q ∙ here
-]
