@@ -16,20 +16,19 @@ use Rattle.c_tree.specs.declared.statement.Target.{Target}
 use Rattle.c_tree.specs.declared.statement.Statement.{Statement}
 use Rattle.c_tree.specs.declared.statement.Statement.TheVariants as s
 use Rattle.c_language.specs.Words.{Bytes}
-use Rattle.c_language.specs.CallRules.{without_result}
+use Rattle.c_language.specs.CallRules.{without_result, IsStored}
 use Rattle.c_language.specs.ConstantEvaluation.{both}
 use Rattle.c_language.specs.DeclaredTypes.{function_id}
 use Rattle.c_language.specs.Phrases.{Stand, Calls, phrase, target_phrases}
 use Rattle.c_language.specs.ProgramOf.{init_of, declaration_id, args_tree, only_tree, target_tree, print_tree, invoke_tree, call_tree}
-use Rattle.c_language.specs.Rules.{result}
-use Rattle.c_language.specs.CallRules.{library}
+use Rattle.c_language.specs.Rules.{result, AreKept}
+use Rattle.c_language.specs.CallRules.{library, IsStored}
 use Rattle.c_language.specs.Scopes.{Scope, with_variable, with_target, begun}
 use Rattle.c_language.specs.Uses.{is_one_of}
 use Rattle.c_language.proofs.Options.{none_there, map_some}
 use Rattle.c_language.proofs.ScopeNumbers.{begun_variables}
 use Rattle.built_forms.specs.IntegerForms.{integer_init}
 use Rattle.built_forms.specs.BuiltForms.{is_integer_variable, unless, statement_outside}
-use Rattle.built_forms.proofs.Kept.{AreKept}
 use Rattle.built_forms.proofs.Layers.{outside-Declare, outside-Invoke, outside-Fetch, outside-Release, outside-Heap}
 use Rattle.built_forms.proofs.Lines.{unless_none}
 use Rattle.built_forms.proofs.Options.{Always, always_map, always_then, always_both, always_is}
@@ -68,18 +67,13 @@ module _ (raw : RawProgram) (vars : List Var) where
 
   -- ---- calls
 
-  abbrev HasTarget : RawTarget → Type 0
-  HasTarget target.None = ⊥
-  HasTarget (target.Place b) = Unit {0}
-  HasTarget (target.Declared v) = Unit {0}
-
   -- a call of the library that gives no result declares nothing
   without : (l : ℕ) (scope : Scope) (stand : Stand) (to : RawTarget) (f : Bytes) (args : List RawArg) → is_one_of without_result f ≡ true
       → AreKept raw (target_phrases raw l scope stand to ++ (phrase l (with_target raw to scope) (Calls stand to f args) ∷ []))
       → AreIntegers vars scope.variables (with_target raw to scope).variables
   without l scope stand target.None f args is kept = no_integers vars scope.variables scope.variables refl
   without l scope stand (target.Place a) f args is kept = no_integers vars scope.variables scope.variables refl
-  without l scope stand (target.Declared var) f args is kept = absurd (kept.1.0 17 (result (library (λ e. subst HasTarget e tt) is)))
+  without l scope stand (target.Declared var) f args is kept = absurd (kept.1.0 17 (result (library (λ e. subst IsStored e tt) is)))
 
   pub called : (l : ℕ) (scope : Scope) (stand : Stand) (to : RawTarget) (f : Bytes) (args : List RawArg)
       → AreKept raw (target_phrases raw l scope stand to ++ (phrase l (with_target raw to scope) (Calls stand to f args) ∷ []))

@@ -10,10 +10,11 @@ use Rattle.c_tree.specs.declared.statement.Statement.{Statement, ind-Statement, 
 use Rattle.c_tree.specs.declared.statement.Statement.TheOpen.{Statement-F, Arm-F}
 use Rattle.c_language.proofs.Options.{none_there}
 use Rattle.built_forms.specs.IntegerForms as integer
-use Rattle.built_forms.specs.IntegerForms.{is_integer, are_integers, is_name, integer_init, integer_value, integer_label, all_true, is_integer_statement}
+use Rattle.built_forms.specs.IntegerForms.{is_integer, are_integers, is_name, integer_init, integer_value, integer_label, is_integer_statement}
 use Rattle.built_forms.specs.BuiltForms.{is_integer_variable, unless, or_else, first_of, ArmOutside, labels_of_arms, first_of_arms, statement_step, arm_step, statement_outside, body_outside}
 use Rattle.built_forms.proofs.Layers.{outside_of_arm}
 use Rattle.built_forms.proofs.Lines.{first_none, unless_none}
+use Rattle.c_language.specs.Lists.{all_true}
 
 abbrev is_integer_arm : Arm → Bool
 is_integer_arm = fold-Arm Bool Bool integer.statement_step integer.arm_step

@@ -3,7 +3,6 @@ pub mod Layers
 pub mod Lines
 pub mod Terms
 pub mod IntegerLemmas
-pub mod Kept
 pub mod Moves
 pub mod Declaring
 pub mod Bodies

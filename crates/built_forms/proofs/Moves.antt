@@ -8,7 +8,7 @@ use Rattle.c_tree.specs.declared.raw.program.RawInit.TheVariants as init
 use Rattle.c_tree.specs.declared.raw.program.RawProgram.{RawProgram}
 use Rattle.c_tree.specs.declared.raw.statement.RawTarget.{RawTarget}
 use Rattle.c_tree.specs.declared.raw.statement.RawTarget.TheVariants as target
-use Rattle.c_language.specs.Phrases.{Stand, InFile, InHead, InBlock, InArm, InFor, Part, Phrases, phrase, declaration, target_phrases}
+use Rattle.c_language.specs.Phrases.{Stand, InFile, InHead, InBlock, InArm, InFor, Part, Phrases, phrase, declaration, target_phrases, IsInside}
 use Rattle.c_language.specs.ProgramOf.{variable_of, declared_by, variables_in}
 use Rattle.c_language.specs.Scopes.{Scope, opened, closed, numbered, with_variable, with_target, begun}
 use Rattle.c_language.proofs.Options.{map_some}
@@ -22,14 +22,6 @@ AreOfMain (o ∷ os) = ((v : Var) → o ≡ Some v → (v.is_static ≡ false) �
 pub both_of_main : (os more : List (Option Var)) → AreOfMain os → AreOfMain more → AreOfMain (os ++ more)
 both_of_main [] more h k = k
 both_of_main (o ∷ os) more h k = (h.0, both_of_main os more h.1 k)
-
--- a place in a function's body
-abbrev pub IsInside : Stand → Type 0
-IsInside (InFile is_static) = ⊥
-IsInside InHead = ⊥
-IsInside InBlock = Unit {0}
-IsInside InArm = Unit {0}
-IsInside InFor = Unit {0}
 
 module _ (raw : RawProgram) where
   pub count_both : (ps qs : Phrases) → length (variables_in raw (ps ++ qs)) ≡ length (variables_in raw ps) + length (variables_in raw qs)

@@ -3,12 +3,7 @@ use Rattle.std.proofs.Common.{◌≡◌, List, ◌∷◌, Bool, true, false, Opt
 use Rattle.std.specs.Prelude.{if◌then◌else◌}
 use Rattle.c_language.specs.ConstantEvaluation.{both}
 use Rattle.c_language.specs.ProgramOf.{collected}
-use Rattle.c_language.proofs.Options.{none_there, some_same, map_some}
-
--- what a value that is there was made of
-pub then_some : {A B : Type 0} (f : A → Option B) (o : Option A) (y : B) → option_and_then f o ≡ Some y → (x : A) × (o ≡ Some x) × (f x ≡ Some y)
-then_some f None y e = none_there e
-then_some f (Some x) y e = (x, refl, e)
+use Rattle.c_language.proofs.Options.{none_there, some_same, map_some, then_some}
 
 pub both_some : {A B C : Type 0} (f : A → B → C) (a : Option A) (b : Option B) (z : C) → both f a b ≡ Some z → (x : A) × (y : B) × (a ≡ Some x) × (b ≡ Some y) × (z ≡ f x y)
 both_some f None b z e = none_there e

@@ -1,9 +1,10 @@
 -- A program of the built forms is of main alone over integers.
-use Rattle.std.proofs.Common.{◌≡◌, ℕ, zero, suc, ◌+◌, ◌<◌, List, [], ◌∷◌, ◌++◌, length, map, Bool, true, false, Option, Some, None, option_and_then, slice_get, find, bytes_eq, append-nil, refl, sym, ap, subst, ◌∙◌, true≢false, arith}
+use Rattle.std.proofs.Common.{◌≡◌, ℕ, suc, ◌+◌, ◌<◌, List, [], ◌∷◌, ◌++◌, length, map, Bool, true, false, Option, Some, None, option_and_then, slice_get, find, bytes_eq, append-nil, refl, sym, ap, subst, ◌∙◌, true≢false, arith}
 use Rattle.std.specs.Prelude.{if◌then◌else◌, All}
 use Rattle.std.specs.Option.{option_map_or}
 use Rattle.std.proofs.lemmas.List.Elements.{All-nil, All-cons}
 use Rattle.std.proofs.lemmas.Slice.Eq.{bytes_eq-Decides}
+use Rattle.std.proofs.lemmas.Option.{slice_get_within}
 use Rattle.c_arith.specs.declared.int_type.IntType.{IntType}
 use Rattle.c_tree.specs.declared.types.CType.{CType, ind-CType, roll-CType, map-CType}
 use Rattle.c_tree.specs.declared.types.CType.TheOpen.{CType-F}
@@ -26,16 +27,15 @@ use Rattle.c_language.specs.NameRules.{main_name, parameters}
 use Rattle.c_language.specs.Phrases.{Phrases, EndsFunction, phrase, phrases, item_phrases, items_phrases, after_item, scope_at_end, body_phrases, after_body, head_phrases}
 use Rattle.c_language.specs.ProgramOf as trees
 use Rattle.c_language.specs.ProgramOf.{items_of, variables_of, collected, ctype_if, body_of, parameter_ids, function_tree, struct_tree, variables_in, program_with, program_of}
-use Rattle.c_language.specs.Rules.{KeepsRules, by_phrase, no_main, main}
+use Rattle.c_language.specs.Rules.{KeepsRules, by_phrase, no_main, main, AreKept}
 use Rattle.c_language.specs.Scopes.{Scope, outset, with_parameters, entered, scope_of_parameters}
-use Rattle.c_language.proofs.Options.{none_there, some_same}
-use Rattle.c_language.proofs.PhraseLists.{variables-append}
+use Rattle.c_language.proofs.Options.{none_there, some_same, then_some}
+use Rattle.c_language.proofs.PhraseLists.{variables-append, kept_first, kept_second, kept_from}
 use Rattle.built_forms.specs.IntegerForms.{IsPlainItem, IsIntegerLocal, IsIntegerMain}
 use Rattle.built_forms.specs.BuiltForms.{is_integer_type, is_integer_variable, body_outside, is_main, function_outside, items_outside, not_yet}
 use Rattle.built_forms.proofs.Layers.{type-PointerTo, type-Array, type-Struct}
-use Rattle.built_forms.proofs.Options.{then_some, both_some, collected_some}
+use Rattle.built_forms.proofs.Options.{both_some, collected_some}
 use Rattle.built_forms.proofs.IntegerLemmas.{body_integers}
-use Rattle.built_forms.proofs.Kept.{AreKept, kept_first, kept_second, kept_from}
 use Rattle.built_forms.proofs.MainHeads.{no_parameters}
 use Rattle.built_forms.proofs.MainItems.{OnlyIncludes, behind_main, MainAt, main_at}
 use Rattle.built_forms.proofs.Moves.{AreOfMain}
@@ -75,11 +75,6 @@ found_length (o ∷ found) vs e = let m = collected_some o found vs e in let k :
 -- a variable that is there and tested to be of an integer type has one
 integer_variable : (vs : List Var) (k : ℕ) (v : Var) → slice_get vs k ≡ Some v → is_integer_variable vs k ≡ true → (t : IntType) × (v.shape ≡ type.Integer t)
 integer_variable vs k v is h = has_type v.shape (sym (ap (λ (o : Option Var). option_map_or (λ (w : Var). is_integer_type w.shape) o false) is) ∙ h)
-
-get_below : (vs : List Var) (k : ℕ) (v : Var) → slice_get vs k ≡ Some v → k < length vs
-get_below [] k v e = none_there e
-get_below (w ∷ vs) zero v e = omega arith
-get_below (w ∷ vs) (suc k) v e = let h = get_below vs k v e in omega (arith, h)
 
 -- ---- the phrases of main
 
@@ -217,7 +212,7 @@ module _ (raw : RawProgram) (p : Program) (keeps : KeepsRules raw) (made : progr
   shaped : (k : ℕ) (v : Var) → slice_get vars_made.0 k ≡ Some v → (t : IntType) × (v.shape ≡ type.Integer t)
   shaped k v is =
       let here : slice_get p.vars k ≡ Some v = ap (λ (vs : List Var). slice_get vs k) vars_is ∙ is in
-      let low : k < length p.vars = get_below p.vars k v here in
+      let low : k < length p.vars = slice_get_within p.vars k v here in
       integer_variable p.vars k v here (all.integers k (omega arith) (omega (arith, low, count_is)))
 
   pub built_integer_main : IsIntegerMain p

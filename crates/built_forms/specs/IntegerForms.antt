@@ -14,8 +14,10 @@ use Rattle.c_tree.specs.declared.program.Program.{Program}
 use Rattle.c_tree.specs.declared.program.Var.{Var}
 use Rattle.c_tree.specs.declared.statement.Label.{Label}
 use Rattle.c_tree.specs.declared.statement.Label.TheVariants as label
+use Rattle.c_tree.specs.declared.statement.Arm.{Arm, fold-Arm}
 use Rattle.c_tree.specs.declared.statement.Statement.{Statement, fold-Statement}
 use Rattle.c_tree.specs.declared.statement.Statement.TheOpen.{Statement-F, Arm-F}
+use Rattle.c_language.specs.Lists.{if_there, all_true}
 
 -- constants, names, operators and casts
 abbrev pub integer_step : Expr-F Bool → Bool
@@ -77,14 +79,6 @@ abbrev pub integer_label : Label → Bool
 integer_label (label.Case e z) = is_integer e
 integer_label label.Default = true
 
-abbrev pub all_true : List Bool → Bool
-all_true [] = true
-all_true (b ∷ bs) = b && all_true bs
-
-abbrev pub if_there : Option Bool → Bool
-if_there None = true
-if_there (Some b) = b
-
 abbrev pub statement_step : Statement-F Bool Bool → Bool
 statement_step (Statement-F.Declare id l x i) = integer_init i
 statement_step (Statement-F.Assign id l left op right) = is_name left && is_integer right
@@ -108,6 +102,9 @@ arm_step a = list_all integer_label a.labels && all_true a.body
 
 abbrev pub is_integer_statement : Statement → Bool
 is_integer_statement = fold-Statement Bool Bool statement_step arm_step
+
+abbrev pub is_integer_arm : Arm → Bool
+is_integer_arm = fold-Arm Bool Bool statement_step arm_step
 
 -- an include, or main
 pub data IsPlainItem : Item → Type 0 where

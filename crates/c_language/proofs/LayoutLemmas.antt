@@ -9,16 +9,12 @@ use Rattle.c_tree.specs.declared.program.Program.{Program}
 use Rattle.c_tree.specs.declared.statement.Target.{Target}
 use Rattle.c_tree.specs.declared.statement.Amount.{Amount}
 use Rattle.c_tree.specs.declared.statement.Label.{Label}
-use Rattle.c_tree.specs.declared.statement.Arm.{Arm, fold-Arm, fold-roll-Arm, roll-Arm}
+use Rattle.c_tree.specs.declared.statement.Arm.{Arm, fold-roll-Arm, roll-Arm}
 use Rattle.c_tree.specs.declared.statement.Statement.{Statement, fold-roll-Statement}
 use Rattle.c_tree.specs.declared.statement.Statement.TheOpen.{Statement-F}
 use Rattle.c_tree.specs.declared.statement.Statement.TheVariants as s
 use Rattle.c_language.specs.Words.{Bytes, assign_sign, name_of_function, expr_words}
-use Rattle.c_language.specs.Layout.{line, init_words, var_words, target_words, amount_words, cast_words, call_words, bump_words, return_words, Laid, plain, block_lines, label_lines, statement_step, arm_step, laid, statement_lines, body_lines}
-
--- an arm of a switch: its lines at each level
-abbrev pub arm_laid : Program → Arm → ℕ → Bytes
-arm_laid p = fold-Arm Laid (ℕ → Bytes) (statement_step p) (arm_step p)
+use Rattle.c_language.specs.Layout.{line, init_words, var_words, target_words, amount_words, cast_words, call_words, bump_words, return_words, Laid, plain, block_lines, label_lines, statement_step, arm_step, laid, statement_lines, body_lines, arm_laid}
 
 -- ---- plain statements
 

@@ -10,10 +10,14 @@ pub mod ScopedForms
 pub mod ScopeNumbers
 pub mod TreedForms
 pub mod Lists
+pub mod Keywords
+pub mod FormedTokens
 pub mod Options
+pub mod Operands
 pub mod PhraseLists
 pub mod RawWordLemmas
 pub mod Tests
+pub mod HeadLemmas
 pub mod Turns
 pub mod UseLemmas
 pub mod ScopesAfter

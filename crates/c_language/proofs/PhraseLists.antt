@@ -1,9 +1,11 @@
--- Phrases of statements in a row, the scope behind them, and the variables that phrases declare.
-use Rattle.std.proofs.Common.{◌≡◌, List, [], ◌∷◌, ◌++◌, map, append_assoc, refl, sym, ap, ◌∙◌}
+-- Phrases of statements in a row, the scope behind them, the variables that phrases declare, and phrases that break no rule.
+use Rattle.std.proofs.Common.{◌≡◌, suc, List, [], ◌∷◌, ◌++◌, map, append_assoc, refl, sym, ap, ◌∙◌, arith}
+use Rattle.std.specs.Prelude.{Contains}
 use Rattle.c_tree.specs.declared.raw.program.RawProgram.{RawProgram}
 use Rattle.c_tree.specs.declared.raw.statement.RawStatement.{RawStatement}
 use Rattle.c_language.specs.Scopes.{Scope, in_order, after_all}
-use Rattle.c_language.specs.Phrases.{InBlock, Phrases, joined_at, scoped, body_phrases, after_body}
+use Rattle.c_language.specs.Phrases.{InBlock, Phrase, Phrases, joined_at, scoped, body_phrases, after_body}
+use Rattle.c_language.specs.Rules.{KeepsAll, AreKept}
 use Rattle.c_language.specs.ProgramOf.{declared_by, variables_in}
 
 module _ (raw : RawProgram) where
@@ -22,3 +24,17 @@ module _ (raw : RawProgram) where
   pub body_after : (body : List RawStatement) (scope : Scope) → after_body raw body scope ≡ after_all (map (scoped raw) body) scope
   body_after [] scope = refl
   body_after (x ∷ xs) scope = body_after xs ((scoped raw x).after scope)
+
+  -- ---- phrases that break no rule
+
+  pub kept_first : (ps qs : Phrases) → AreKept raw (ps ++ qs) → AreKept raw ps
+  kept_first [] qs h = tt
+  kept_first (p ∷ ps) qs h = (h.0, kept_first ps qs h.1)
+
+  pub kept_second : (ps qs : Phrases) → AreKept raw (ps ++ qs) → AreKept raw qs
+  kept_second [] qs h = h
+  kept_second (p ∷ ps) qs h = kept_second ps qs h.1
+
+  pub kept_from : (ps : Phrases) → ((p : Phrase) → Contains ps p → KeepsAll raw p) → AreKept raw ps
+  kept_from [] h = tt
+  kept_from (p ∷ ps) h = (h p (0, omega arith, refl), kept_from ps (λ q c. h q (suc c.0, omega (arith, c.1), c.2)))

@@ -14,9 +14,10 @@ use Rattle.c_tree.specs.declared.raw.statement.RawStatement.{RawStatement, fold-
 use Rattle.c_tree.specs.declared.raw.statement.RawStatement.TheOpen.{RawStatement-F}
 use Rattle.c_tree.specs.declared.raw.statement.RawStatement.TheVariants as s
 use Rattle.c_language.specs.Words.{Bytes}
-use Rattle.c_language.specs.Nesting.{nesting, type_nesting, greatest}
+use Rattle.c_language.specs.Nesting.{nesting, type_nesting}
 use Rattle.c_language.specs.StatementGrammar.{arm}
 use Rattle.c_language.specs.StatementNesting.{call_nesting, heap_nesting, stored_nesting, init_nesting, label_nesting, of_value, statement_step, arm_step, statement_nesting, body_nesting}
+use Rattle.c_language.specs.Lists.{greatest}
 
 abbrev pub arm_nesting : RawArm → ℕ
 arm_nesting = fold-RawArm ℕ ℕ statement_step arm_step

@@ -13,15 +13,11 @@ use Rattle.c_tree.specs.declared.raw.statement.RawLabel.{RawLabel}
 use Rattle.c_tree.specs.declared.raw.statement.RawStatement.{RawStatement, fold-roll-RawStatement}
 use Rattle.c_tree.specs.declared.raw.statement.RawStatement.TheOpen.{RawStatement-F}
 use Rattle.c_tree.specs.declared.raw.statement.RawStatement.TheVariants as s
-use Rattle.c_tree.specs.declared.raw.statement.RawArm.{RawArm, fold-RawArm, roll-RawArm, fold-roll-RawArm}
+use Rattle.c_tree.specs.declared.raw.statement.RawArm.{RawArm, roll-RawArm, fold-roll-RawArm}
 use Rattle.c_language.specs.Words.{Bytes}
 use Rattle.c_language.specs.Scopes.{Scoped}
 use Rattle.c_tree.specs.declared.statement.Statement.{Statement}
-use Rattle.c_language.specs.ProgramOf.{ArmTree, treed_step, arm_tree_step, treed}
-
--- an arm in the tree, and the scope after it
-abbrev pub treed_arm : RawProgram → RawArm → Scoped ArmTree
-treed_arm raw = fold-RawArm (Scoped (Option Statement)) (Scoped ArmTree) (treed_step raw) (arm_tree_step raw)
+use Rattle.c_language.specs.ProgramOf.{ArmTree, treed_step, arm_tree_step, treed, treed_arm}
 
 module _ (raw : RawProgram) where
   pub treed-Declare : (l : ℕ) (v : RawVar) (i : RawInit) → treed raw (s.Declare l v i) ≡ treed_step raw (RawStatement-F.Declare l v i)

@@ -55,6 +55,12 @@ target_type raw scope target.None = None
 target_type raw scope (target.Place e) = type_of raw scope e
 target_type raw scope (target.Declared var) = variable_type raw var init.None
 
+-- the result is stored
+abbrev pub IsStored : RawTarget → Type 0
+IsStored target.None = ⊥
+IsStored (target.Place a) = Unit {0}
+IsStored (target.Declared var) = Unit {0}
+
 -- the functions of the library whose result a program doesn't use
 abbrev pub without_result : List Bytes
 without_result = codes "putchar" ∷ (codes "printf" ∷ (codes "free" ∷ []))

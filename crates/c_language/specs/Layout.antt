@@ -20,9 +20,10 @@ use Rattle.c_tree.specs.declared.statement.Amount.{Amount}
 use Rattle.c_tree.specs.declared.statement.Amount.TheVariants as amount
 use Rattle.c_tree.specs.declared.statement.Label.{Label}
 use Rattle.c_tree.specs.declared.statement.Label.TheVariants as label
+use Rattle.c_tree.specs.declared.statement.Arm.{Arm, fold-Arm}
 use Rattle.c_tree.specs.declared.statement.Statement.{Statement, fold-Statement}
 use Rattle.c_tree.specs.declared.statement.Statement.TheOpen.{Statement-F, Arm-F}
-use Rattle.c_language.specs.Words.{Bytes, joined, assign_sign, name_of_var, name_of_function, name_of_struct, declared, base_words, stars, type_words, expr_words}
+use Rattle.c_language.specs.Words.{Bytes, joined, assign_sign, name_of_var, name_of_function, name_of_struct, declared, base_words, stars, type_words, expr_words, bump_sign}
 
 -- four spaces for each level
 abbrev pub indent : ℕ → Bytes
@@ -67,10 +68,6 @@ cast_words p (Some t) = codes "(" ++ (type_words p t ++ codes ")")
 
 abbrev pub call_words : Bytes → List Bytes → Bytes
 call_words name args = name ++ (codes "(" ++ (joined (codes ", ") args ++ codes ")"))
-
-abbrev pub bump_sign : Bool → Bytes
-bump_sign true = codes "++"
-bump_sign false = codes "--"
 
 abbrev pub bump_words : Bytes → Bool → Bool → Bytes
 bump_words place up true = bump_sign up ++ place
@@ -165,6 +162,10 @@ arm_step p a n = label_lines p a.labels n ++ (block_lines a.body (suc n) ++ line
 
 abbrev pub laid : Program → Statement → Laid
 laid p = fold-Statement Laid (ℕ → Bytes) (statement_step p) (arm_step p)
+
+-- an arm of a switch: its lines at each level
+abbrev pub arm_laid : Program → Arm → ℕ → Bytes
+arm_laid p = fold-Arm Laid (ℕ → Bytes) (statement_step p) (arm_step p)
 
 -- the words of a statement without those of what it holds
 abbrev pub statement_words : Program → Statement → Bytes

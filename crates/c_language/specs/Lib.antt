@@ -1,4 +1,5 @@
 pub mod Lists
+pub mod Options
 pub mod Words
 pub mod Layout
 pub mod Code
@@ -30,6 +31,7 @@ pub mod ArrayRules
 pub mod TypeRules
 pub mod Formats
 pub mod CallRules
+pub mod HeadTests
 pub mod SwitchRules
 pub mod Rules
 pub mod ProgramOf

@@ -6,6 +6,7 @@ use Rattle.c_tree.specs.declared.program.Var.{Var}
 use Rattle.c_tree.specs.declared.program.Member.{Member}
 use Rattle.c_tree.specs.declared.program.StructDef.{StructDef}
 use Rattle.c_tree.specs.declared.program.Program.{Program}
+use Rattle.c_language.specs.Lists.{greatest}
 
 abbrev pub length_step : CType-F ℕ → ℕ
 length_step (CType-F.Integer t) = 0
@@ -55,10 +56,6 @@ cells_behind before (d ∷ ds) = cells_behind (before ++ member_cells before d.m
 -- the cells of each struct type of a program
 abbrev pub struct_cells : Program → List ℕ
 struct_cells p = cells_behind [] p.structs
-
-abbrev pub greatest : List ℕ → ℕ
-greatest [] = 0
-greatest (n ∷ ns) = max n (greatest ns)
 
 abbrev pub greatest_variable : List ℕ → List Var → ℕ
 greatest_variable structs [] = 0

@@ -13,6 +13,7 @@ use Rattle.c_language.specs.TokenForms.{Tokens}
 use Rattle.c_language.specs.declared.token.Token.{Token}
 use Rattle.c_language.specs.declared.token.TokenKind.{TokenKind}
 use Rattle.c_language.specs.declared.token.TokenKind.TheVariants.{Name, Number, Character, Str, Mark, Include, Directive}
+use Rattle.c_language.specs.Lists.{greatest}
 
 -- ---- trees
 
@@ -60,10 +61,6 @@ length_above (Some n) = 1 + nesting n
 -- a parameter that is written as an array is a pointer, whose star is the length
 abbrev pub param_nesting : RawParam → ℕ
 param_nesting p = max (length_above p.length) (type_nesting p.shape)
-
-abbrev pub greatest : List ℕ → ℕ
-greatest [] = 0
-greatest (n ∷ ns) = max n (greatest ns)
 
 abbrev pub params_nesting : List RawParam → ℕ
 params_nesting ps = greatest (map param_nesting ps)

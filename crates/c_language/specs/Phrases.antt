@@ -35,6 +35,14 @@ pub data Stand : Type 0 where
   -- as the first part of a for
   InFor : Stand
 
+-- inside a function
+abbrev pub IsInside : Stand → Type 0
+IsInside (InFile is_static) = ⊥
+IsInside InHead = ⊥
+IsInside InBlock = Unit {0}
+IsInside InArm = Unit {0}
+IsInside InFor = Unit {0}
+
 -- what a phrase is
 pub data Part : Type 0 where
   -- `struct s;`

@@ -56,6 +56,7 @@ use Rattle.c_tree.specs.declared.raw.statement.RawLabel.{RawLabel}
 use Rattle.c_tree.specs.declared.raw.statement.RawLabel.TheVariants as label
 use Rattle.c_tree.specs.declared.raw.statement.RawStatement.{RawStatement, fold-RawStatement}
 use Rattle.c_tree.specs.declared.raw.statement.RawStatement.TheOpen.{RawStatement-F, RawArm-F}
+use Rattle.c_tree.specs.declared.raw.statement.RawArm.{RawArm, fold-RawArm}
 use Rattle.c_language.specs.Words.{Bytes, binary_sign, int_words, signed}
 use Rattle.c_language.specs.ConstantEvaluation.{literal_type, literal_value, value_of_constant, both}
 use Rattle.c_language.specs.DeclaredTypes.{StructText, defined_structs, struct_id, function_id, length_in, item_count}
@@ -313,6 +314,10 @@ treed_step raw one = record { gives = tree_step raw one; after = after_step raw 
 -- a statement in the tree, and the scope after it
 abbrev pub treed : RawProgram → RawStatement → Scoped (Option Statement)
 treed raw = fold-RawStatement (Scoped (Option Statement)) (Scoped ArmTree) (treed_step raw) (arm_tree_step raw)
+
+-- an arm in the tree, and the scope after it
+abbrev pub treed_arm : RawProgram → RawArm → Scoped ArmTree
+treed_arm raw = fold-RawArm (Scoped (Option Statement)) (Scoped ArmTree) (treed_step raw) (arm_tree_step raw)
 
 -- a list of statements in the tree
 abbrev pub body_of : RawProgram → List RawStatement → Scope → Option (List Statement)

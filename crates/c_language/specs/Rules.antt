@@ -1,9 +1,9 @@
 -- The rules that a text has to keep, by their numbers. A broken rule is named with the line of the phrase that breaks it.
-use Rattle.std.specs.Prelude.{◌≡◌, ℕ, None, Contains}
+use Rattle.std.specs.Prelude.{◌≡◌, ℕ, None, [], ◌∷◌, Contains}
 use Rattle.c_tree.specs.declared.raw.program.RawProgram.{RawProgram}
 use Rattle.c_language.specs.DeclaredTypes.{definition_of}
 use Rattle.c_language.specs.Scopes.{Scope}
-use Rattle.c_language.specs.Phrases.{Part, Phrase, phrases}
+use Rattle.c_language.specs.Phrases.{Part, Phrase, Phrases, phrases}
 use Rattle.c_language.specs.NameRules.{main_name, UsesUndeclared, DeclaresAgain, Shadows, DeclaresLibraryName, MisusesMain, LacksDefinition, LacksHeader}
 use Rattle.c_language.specs.StructRules.{MisusesTag, MisnamesMember}
 use Rattle.c_language.specs.ArrayRules.{HasNoElement, LacksConstant, MisusesInitialiser}
@@ -37,6 +37,15 @@ pub data Breaks (raw : RawProgram) (scope : Scope) (part : Part) : ℕ → Type 
   initialiser : MisusesInitialiser raw scope part → Breaks raw scope part 22
   misplaced : MisplacesDeclaration raw scope part → Breaks raw scope part 23
   no_header : LacksHeader raw scope part → Breaks raw scope part 24
+
+-- a phrase breaks no rule
+abbrev pub KeepsAll : RawProgram → Phrase → Type 0
+KeepsAll raw p = (n : ℕ) → Breaks raw p.scope p.part n → ⊥
+
+-- none of the phrases breaks a rule
+abbrev pub AreKept : RawProgram → Phrases → Type 0
+AreKept raw [] = Unit {0}
+AreKept raw (p ∷ ps) = KeepsAll raw p × AreKept raw ps
 
 -- the rule with the number is broken at the line
 pub data IsBroken : (number line : ℕ) → RawProgram → Type 0 where

@@ -20,7 +20,7 @@ use Rattle.c_tree.specs.declared.raw.statement.RawLabel.TheVariants.{Case, Defau
 use Rattle.c_tree.specs.declared.raw.statement.RawArm.{RawArm, roll-RawArm}
 use Rattle.c_tree.specs.declared.raw.statement.RawStatement.{RawStatement}
 use Rattle.c_tree.specs.declared.raw.statement.RawStatement.TheVariants as s
-use Rattle.c_language.specs.Words.{Bytes, assign_sign}
+use Rattle.c_language.specs.Words.{Bytes, assign_sign, bump_sign}
 use Rattle.c_language.specs.TokenForms.{Tokens, name, mark, string, line_of}
 use Rattle.c_language.specs.Sees.{sees, is_keyword}
 use Rattle.c_language.specs.ExprGrammar.{IsExpr, is_place, conditional_level, multiplicative_level, cast_level, postfix_level}
@@ -123,11 +123,6 @@ is_compound Or = true
 abbrev pub assigns_by : Option BinaryOp → Bool
 assigns_by None = true
 assigns_by (Some op) = is_compound op
-
--- `++`, or else `--`
-abbrev pub bump_sign : Bool → Bytes
-bump_sign true = codes "++"
-bump_sign false = codes "--"
 
 -- a simple statement without its semicolon
 pub data IsSimple : Tokens → RawStatement → Tokens → Type 0 where

@@ -20,7 +20,8 @@ use Rattle.c_tree.specs.declared.raw.statement.RawLabel.{RawLabel}
 use Rattle.c_tree.specs.declared.raw.statement.RawLabel.TheVariants.{Case, Default}
 use Rattle.c_tree.specs.declared.raw.statement.RawStatement.{RawStatement, fold-RawStatement}
 use Rattle.c_tree.specs.declared.raw.statement.RawStatement.TheOpen.{RawStatement-F, RawArm-F}
-use Rattle.c_language.specs.Nesting.{nesting, type_nesting, params_nesting, greatest}
+use Rattle.c_language.specs.Nesting.{nesting, type_nesting, params_nesting}
+use Rattle.c_language.specs.Lists.{greatest}
 
 abbrev pub arg_nesting : RawArg → ℕ
 arg_nesting (Value a) = nesting a

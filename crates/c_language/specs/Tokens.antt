@@ -84,6 +84,11 @@ pub data IsRun (goes_on : ℕ → ℕ → Bool) : ℕ → Bytes → Bytes → Ty
   ends : {b c : ℕ} {rest : Bytes} → goes_on b c ≡ false → IsRun goes_on b [] (c ∷ rest)
   more : {b c : ℕ} {run rest : Bytes} → goes_on b c ≡ true → IsRun goes_on c run rest → IsRun goes_on b (c ∷ run) rest
 
+-- bytes that go on behind a byte, whatever follows
+pub data AreRun (goes_on : ℕ → ℕ → Bool) : ℕ → Bytes → Type 0 where
+  none : {b : ℕ} → AreRun goes_on b []
+  more : {b c : ℕ} {run : Bytes} → goes_on b c ≡ true → AreRun goes_on c run → AreRun goes_on b (c ∷ run)
+
 -- a name goes on with letters, digits and `_` (6.4.2)
 abbrev pub name_goes_on : ℕ → ℕ → Bool
 name_goes_on b c = is_word_byte c

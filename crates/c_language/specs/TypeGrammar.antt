@@ -1,5 +1,5 @@
 -- Which tokens a type, a declarator and the parameters of a function have (ISO C99 6.7.2, 6.7.5, 6.7.6).
-use Rattle.std.specs.Prelude.{◌≡◌, ℕ, zero, suc, nat_lt, Bool, true, false, List, [], ◌∷◌, codes, Option, Some, None}
+use Rattle.std.specs.Prelude.{◌≡◌, ℕ, zero, suc, nat_lt, Bool, true, false, not, ◌&&◌, List, [], ◌∷◌, codes, Option, Some, None}
 use Rattle.c_arith.specs.declared.int_type.IntType.{IntType}
 use Rattle.c_tree.specs.declared.raw.expr.RawExpr.{RawExpr}
 use Rattle.c_tree.specs.declared.raw.expr.RawLength.{RawLength}
@@ -133,3 +133,13 @@ listed_step (RawType-F.Struct tag) = false
 -- the first length of its declarator is empty
 abbrev pub is_listed : RawType → Bool
 is_listed = fold-RawType Bool listed_step
+
+abbrev pub written_step : RawType-F Bool → Bool
+written_step (RawType-F.Integer t) = true
+written_step (RawType-F.PointerTo a) = a
+written_step (RawType-F.Array a n) = not (is_empty_length n) && a
+written_step (RawType-F.Struct tag) = true
+
+-- no length of the type is left to a list
+abbrev pub is_written : RawType → Bool
+is_written = fold-RawType Bool written_step

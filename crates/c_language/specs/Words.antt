@@ -1,5 +1,5 @@
 -- The words of expressions, types and operators, as they are written.
-use Rattle.std.specs.Prelude.{ℕ, ◌==◌, List, [], ◌∷◌, ◌++◌, Bool, false, if◌then◌else◌, Option, Some, None, codes, slice_get}
+use Rattle.std.specs.Prelude.{ℕ, ◌==◌, List, [], ◌∷◌, ◌++◌, Bool, true, false, if◌then◌else◌, Option, Some, None, codes, slice_get}
 use Rattle.std.specs.Option.{option_map_or}
 use Rattle.c_arith.specs.declared.int_type.IntType.{IntType}
 use Rattle.c_arith.specs.declared.int_type.IntType.TheVariants.{Char, UChar, Short, UShort, Int, UInt, Long, ULong}
@@ -66,6 +66,11 @@ binary_sign Or = codes "|"
 abbrev pub assign_sign : Option BinaryOp → Bytes
 assign_sign None = codes "="
 assign_sign (Some op) = binary_sign op ++ codes "="
+
+-- `++`, or else `--`
+abbrev pub bump_sign : Bool → Bytes
+bump_sign true = codes "++"
+bump_sign false = codes "--"
 
 abbrev pub name_of_var : Program → ℕ → Bytes
 name_of_var p x = option_map_or (λ (v : Var). v.name) (slice_get p.vars x) []

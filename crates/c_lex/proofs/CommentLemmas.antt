@@ -1,8 +1,7 @@
 -- Comments: where they end, and the splits in them.
-use Rattle.std.proofs.Common.{◌≡◌, ℕ, zero, suc, ◌+◌, ◌≤◌, ◌<◌, [], ◌∷◌, ◌++◌, length, length-append, drop, append_assoc, append-nil, refl, sym, ap, ◌∙◌, subst, cond, arith, true, false, eqb, inl, inr, codes}
+use Rattle.std.proofs.Common.{◌≡◌, ℕ, zero, suc, ◌≤◌, ◌<◌, [], ◌∷◌, ◌++◌, length, length-append, drop, append_assoc, append-nil, refl, sym, ap, ◌∙◌, subst, arith, true, false, eqb, inl, inr, codes}
 use Rattle.std.proofs.lemmas.Bool.{and_parts, cases_Bool, eqb-true, or_parts, false_from_ne_true}
 use Rattle.std.proofs.lemmas.Bool.Decides.{nat_tests}
-use Rattle.std.proofs.lemmas.List.Sums.{sum_by-append}
 use Rattle.std.proofs.Math.Numerals.{one-add}
 use Rattle.std.proofs.Math.Seq.{drop-append_seam}
 use Rattle.std.specs.Prelude.{◌==◌, nat_lt}
@@ -11,6 +10,7 @@ use Rattle.c_language.specs.Tokens.{is_feed, has_feed, line_feeds, AtLineEnd, Is
 use Rattle.c_language.proofs.Tests.{by_answer}
 use Rattle.c_lex.specs.Scanning.{first, passed, begins, line_len, join_len, behind_joins, is_split, is_end, is_end_or_feed}
 use Rattle.c_lex.proofs.Places.{begins_append, NoneIn, NoneAt, passed_stop, passed_step}
+use Rattle.c_language.proofs.Lists.{feeds-append}
 
 -- ---- the end of a comment
 
@@ -68,9 +68,6 @@ short_parts (b ∷ bs) rest h =
 
 -- ---- joined line ends
 
-pub feeds_append : (xs ys : Bytes) → line_feeds (xs ++ ys) ≡ line_feeds xs + line_feeds ys
-feeds_append xs ys = sum_by-append (λ b. cond (is_feed b) 1 0) xs ys
-
 join_is : {join : Bytes} → IsJoin join → (rest : Bytes) → join_len (join ++ rest) ≡ length join
 join_is IsJoin.backslash rest = refl
 join_is IsJoin.trigraph rest = refl
@@ -80,8 +77,8 @@ join_some IsJoin.backslash = omega arith
 join_some IsJoin.trigraph = omega arith
 
 join_feeds : {join : Bytes} → IsJoin join → (rest : Bytes) → line_feeds (join ++ rest) ≡ suc (line_feeds rest)
-join_feeds IsJoin.backslash rest = feeds_append (codes "\\\n") rest ∙ one-add (line_feeds rest)
-join_feeds IsJoin.trigraph rest = feeds_append (codes "??/\n") rest ∙ one-add (line_feeds rest)
+join_feeds IsJoin.backslash rest = feeds-append (codes "\\\n") rest ∙ one-add (line_feeds rest)
+join_feeds IsJoin.trigraph rest = feeds-append (codes "??/\n") rest ∙ one-add (line_feeds rest)
 
 pub joins_feeds : {joins : Bytes} → AreJoins joins → 0 < line_feeds joins
 joins_feeds (AreJoins.one {join} h) = let e = join_feeds h [] in let f : line_feeds join ≡ line_feeds (join ++ []) = ap line_feeds (sym (append-nil join)) in omega (arith, e, f)

@@ -1,6 +1,6 @@
 -- A text with a fault has no tokens.
 use Rattle.std.proofs.Common.{◌≡◌, ◌≢◌, ℕ, zero, suc, ◌+◌, ◌≤◌, ◌<◌, [], ◌∷◌, ◌++◌, length, length-append, take, drop, refl, sym, ap, ◌∙◌, subst, arith, true, false, Option, Some, None, Result, Err, codes, eqb}
-use Rattle.std.proofs.lemmas.Bool.{eqb-true, false_from_ne_true}
+use Rattle.std.proofs.lemmas.Bool.{eqb-true, false_from_ne_true, ne_eqb}
 use Rattle.std.proofs.lemmas.Bool.Decides.{nat_tests}
 use Rattle.std.proofs.Math.Seq.{take-append_seam}
 use Rattle.std.specs.Prelude.{◌==◌, ◌&&◌, nat_lt, is_some}
@@ -23,7 +23,6 @@ use Rattle.c_lex.specs.Scanning.{begins, first_place, run_len, is_split, is_end,
 use Rattle.c_lex.proofs.Places.{begins_append, take_at, NoneAt, place_is, place_lacks, place_none, by_place}
 use Rattle.c_lex.proofs.CommentLemmas.{inside_lacks, lacks_split, line_is}
 use Rattle.c_lex.proofs.WordLemmas.{run_is, run_starts, mark_found, character_found, literal_is, literal_found, lacks_trigraph}
-use Rattle.c_lex.proofs.LineLemmas.{other_byte}
 use Rattle.c_lex.proofs.PieceLaws.{digit_no_blank, digit_no_letter, digit_goes_on, space_some, piece_token}
 use Rattle.c_lex.proofs.ScanLaws.{scan_space, scan_token, scan_finds, scan_turn}
 
@@ -93,7 +92,7 @@ stray_stops before b rest s h =
     let d : begins (codes "//") (b ∷ rest) ≡ false = rw f refl in
     let w = word_parts b s.no_word in
     let e : sized _ (mark_len (b ∷ rest)) ≡ piece.BadByte = rw (no_mark (b ∷ rest) h) refl in
-    rw (c, d, s.no_blank, w.0, w.1, other_byte b 39 s.no_quote, other_byte b 34 s.no_double_quote, no_hash before b s.no_line) e
+    rw (c, d, s.no_blank, w.0, w.1, ne_eqb b 39 s.no_quote, ne_eqb b 34 s.no_double_quote, no_hash before b s.no_line) e
 
 character_stops : (before : Before) (rest : Bytes) → ((text more : Bytes) → IsCharacter text → codes "'" ++ rest ≢ text ++ more) → piece_of before (codes "'" ++ rest) ≡ piece.BadByte
 unfolding piece_of

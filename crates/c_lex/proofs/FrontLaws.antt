@@ -1,6 +1,6 @@
 -- What a piece says of the bytes that it was found in.
-use Rattle.std.proofs.Common.{◌≡◌, ◌≢◌, ℕ, ◌+◌, ◌-◌, ◌≤◌, ◌<◌, [], ◌∷◌, ◌++◌, length, length-append, take, drop, append_assoc, refl, sym, ap, ◌∙◌, subst, arith, true, false, Bool, Option, Some, None, eqb, codes}
-use Rattle.std.proofs.lemmas.Bool.{and_parts, eqb-true}
+use Rattle.std.proofs.Common.{◌≡◌, ◌≢◌, ℕ, ◌+◌, ◌-◌, ◌≤◌, ◌<◌, [], ◌∷◌, ◌++◌, length, length-append, take, drop, append_assoc, refl, sym, ap, ◌∙◌, subst, arith, true, false, Option, Some, None, eqb, codes}
+use Rattle.std.proofs.lemmas.Bool.{and_parts, eqb-true, both_ways}
 use Rattle.std.proofs.lemmas.Bool.Decides.{nat_tests}
 use Rattle.std.proofs.Math.Seq.{take-append_seam}
 use Rattle.std.specs.Prelude.{◌==◌, ◌&&◌, nat_lt, is_some}
@@ -14,18 +14,19 @@ use Rattle.c_language.specs.declared.token.TokenKind.{TokenKind}
 use Rattle.c_language.specs.declared.token.TokenKind.TheVariants.{Name, Number, Character, Str, Mark, Directive}
 use Rattle.c_language.specs.declared.token.Before.{Before}
 use Rattle.c_language.specs.declared.token.Before.TheVariants.{Blank, Comment, Token}
-use Rattle.c_language.proofs.Tests.{by_answer}
+use Rattle.c_language.proofs.Tests.{by_answer, by_test}
 use Rattle.c_lex.specs.Faults.{IsStray, IsBadByte, IsFault}
 use Rattle.c_lex.specs.declared.fault.LexFault.TheVariants as fault
 use Rattle.c_lex.specs.declared.literal.Stage.TheVariants as stage
 use Rattle.c_lex.specs.declared.piece.Piece.{Piece}
 use Rattle.c_lex.specs.declared.piece.Piece.TheVariants as piece
 use Rattle.c_lex.specs.Scanning.{first, begins, first_place, run_len, line_len, is_split, is_end, comment_piece, closed_piece, line_comment_piece, number_piece, whole, sized, character_len, literal_len, is_trigraph, string_piece, mark_len, header_len, header_from, behind_gap, hash_piece, directive_piece, line_piece, lacks_token, piece_of}
-use Rattle.c_lex.proofs.Places.{by_test, begins_append, drop_at, take_at, PlaceIs, place_found, place_none, by_place}
-use Rattle.c_lex.proofs.CommentLemmas.{lacks_end, lacks_end_at, lacks_split, split_found, feeds_append, joins_feeds, line_found, first_is}
+use Rattle.c_lex.proofs.Places.{begins_append, drop_at, take_at, PlaceIs, place_found, place_none, by_place}
+use Rattle.c_lex.proofs.CommentLemmas.{lacks_end, lacks_end_at, lacks_split, split_found, joins_feeds, line_found, first_is}
 use Rattle.c_lex.proofs.WordLemmas.{run_starts, run_found, mark_found, mark_longest, character_is, character_found, literal_is, literal_found, trigraph_byte, lacks_trigraph}
 use Rattle.c_lex.proofs.LineLemmas.{include_found, include_lacks}
 use Rattle.c_lex.proofs.PieceLaws.{none_left, comment_whole, comment_len, letter_word, digit_goes_on}
+use Rattle.c_language.proofs.Lists.{feeds-append}
 
 -- white space or a comment of so many bytes at the front
 pub record SpaceFront (before : Before) (bytes : Bytes) (n : ℕ) : Type 0 where
@@ -66,17 +67,13 @@ bad h line = IsFault.bad_byte h
 no_length : (o : Option ℕ) {n : ℕ} → o ≡ None → o ≡ Some n → ⊥
 no_length o h e = let f : None ≡ Some _ = sym h ∙ e in absurd cc
 
-no_both : (b : Bool) → b ≡ false → b ≡ true → ⊥
-no_both true h e = absurd cc
-no_both false h e = absurd cc
-
 begins_own : (word rest : Bytes) → begins word (word ++ rest) ≡ true
 begins_own word rest = rw (take-append_seam word rest) ((bytes_eq-Decides word word).1 refl)
 
 blank_front : (before : Before) (b : ℕ) (bs : Bytes) → is_blank b ≡ true → Front before (b ∷ bs) (piece.Space 1)
 blank_front before b bs h = by_answer (b == 10)
     (λ t. subst (λ (x : ℕ). Front before (x ∷ bs) (piece.Space 1)) (sym (eqb-true b 10 t)) (record { some = codes "\n"; rest = bs; after = Blank; at = refl; len = refl; is = IsSpace.feed }))
-    (λ f. record { some = b ∷ []; rest = bs; after = before; at = refl; len = refl; is = IsSpace.blank h (λ e. no_both (b == 10) f (ap (λ (x : ℕ). x == 10) e)) })
+    (λ f. record { some = b ∷ []; rest = bs; after = before; at = refl; len = refl; is = IsSpace.blank h (λ e. both_ways (b == 10) f (ap (λ (x : ℕ). x == 10) e)) })
 
 header_cut : (bytes from header rest : Bytes) (n len : ℕ) → bytes ≡ from ++ (header ++ rest) → n ≡ length from → len ≡ length header → take len (drop n bytes) ≡ header
 header_cut bytes from header rest n len at e f = ap (take len) (drop_at n bytes from (header ++ rest) at (sym e)) ∙ take_at len (header ++ rest) header rest refl (sym f)
@@ -92,7 +89,7 @@ split_front before inside rest k l x =
     record {
       fits = omega (arith, x.len, ap length x.at, length-append x.inside (x.head ∷ x.tail), length-append inside (codes "*/" ++ rest));
       is = λ line.
-          let feeds : line + line_feeds x.inside + 0 ≡ line + line_feeds (take (k + 1) bytes) = omega (arith, ap line_feeds front, feeds_append (codes "/") x.inside) in
+          let feeds : line + line_feeds x.inside + 0 ≡ line + line_feeds (take (k + 1) bytes) = omega (arith, ap line_feeds front, feeds-append (codes "/") x.inside) in
           subst (λ n. IsFault before line bytes (fault.BadByte n)) feeds
           (IsFault.split inside rest x.inside z.joins z.back 0 l (x.at ∙ ap (λ (y : Bytes). x.inside ++ y) z.at) z.are (joins_feeds z.are));
     }
@@ -255,7 +252,7 @@ open_line Token more h = absurd cc
 -- ---- marks
 
 never_begins : (word bytes : Bytes) → begins word bytes ≡ false → (rest : Bytes) → bytes ≢ word ++ rest
-never_begins word bytes h rest e = let f = begins_own word rest in absurd (no_both (begins word bytes) h (ap (begins word) e ∙ f))
+never_begins word bytes h rest e = let f = begins_own word rest in absurd (both_ways (begins word bytes) h (ap (begins word) e ∙ f))
 
 longest_at : (bytes : Bytes) (n : ℕ) → mark_len bytes ≡ n → IsLongest n bytes
 longest_at bytes n e = subst (λ (k : ℕ). IsLongest k bytes) e (mark_longest bytes)

@@ -1,25 +1,21 @@
 -- Includes and directives.
 use Rattle.std.proofs.Common.{◌≡◌, ◌≢◌, ℕ, zero, suc, ◌+◌, ◌≤◌, ◌<◌, [], ◌∷◌, ◌++◌, length, length-append, drop, append_assoc, refl, sym, ap, ◌∙◌, subst, arith, true, false, Option, Some, None, inl, inr, codes}
-use Rattle.std.proofs.lemmas.Bool.{and_parts, eqb-true, false_from_ne_true}
+use Rattle.std.proofs.lemmas.Bool.{and_parts, eqb-true, ne_eqb}
 use Rattle.std.proofs.lemmas.Bool.Decides.{nat_tests}
 use Rattle.std.proofs.Math.Seq.{drop-append_seam}
-use Rattle.std.specs.Prelude.{◌==◌, ◌⊎◌, nat_lt, bytes_eq}
+use Rattle.std.specs.Prelude.{◌⊎◌, nat_lt, bytes_eq}
 use Rattle.std.proofs.lemmas.Slice.Eq.{bytes_eq-Decides}
 use Rattle.c_language.specs.Words.{Bytes}
 use Rattle.c_language.specs.Tokens.{is_blank, is_feed, has_feed, AtLineEnd, LacksEnd, IsGap, is_header, IsInclude, IsLineTail, EndsInclude, LacksInclude}
-use Rattle.c_language.proofs.Tests.{by_answer}
+use Rattle.c_language.proofs.Tests.{by_answer, by_test}
 use Rattle.c_lex.specs.Scanning.{first, begins, first_place, passed, is_end, is_end_or_feed, short_comment_len, gap_len, behind_gap, header_len, is_line_tail, is_header_last, header_from}
-use Rattle.c_lex.proofs.Places.{by_test, begins_append, drop_at, place_is, place_found, passed_stop, passed_step, by_place}
+use Rattle.c_lex.proofs.Places.{begins_append, drop_at, place_is, place_found, passed_stop, passed_step, by_place}
 use Rattle.c_lex.proofs.CommentLemmas.{inside_lacks, lacks_end, short_lacks, short_parts}
 
 -- ---- gaps
 
--- a byte other than this one isn't it
-pub other_byte : (b c : ℕ) → b ≢ c → (b == c) ≡ false
-other_byte b c h = false_from_ne_true (b == c) (λ t. h (eqb-true b c t))
-
 blank_gap : (b : ℕ) (rest : Bytes) → is_blank b ≡ true → b ≢ 10 → gap_len (b ∷ rest) ≡ 1
-blank_gap b rest h n = rw (h, other_byte b 10 n) refl
+blank_gap b rest h n = rw (h, ne_eqb b 10 n) refl
 
 comment_joins : (inside more rest : Bytes) → (codes "/*" ++ (inside ++ (codes "*/" ++ more))) ++ rest ≡ codes "/*" ++ (inside ++ (codes "*/" ++ (more ++ rest)))
 comment_joins inside more rest = ap (λ (x : Bytes). 47 ∷ 42 ∷ x) (append_assoc inside (codes "*/" ++ more) rest)

@@ -1,6 +1,6 @@
 -- What stands at the front of some bytes is found.
 use Rattle.std.proofs.Common.{◌≡◌, ◌≢◌, ℕ, ◌+◌, ◌-◌, ◌<◌, [], ◌∷◌, ◌++◌, length, length-append, take, drop, append_assoc, refl, sym, ap, ◌∙◌, subst, cond, arith, true, false, Bool, Some, eqb, codes}
-use Rattle.std.proofs.lemmas.Bool.{and_parts, eqb-true, and_right, not-true, false_from_ne_true}
+use Rattle.std.proofs.lemmas.Bool.{and_parts, eqb-true, and_right, not-true, false_from_ne_true, ne_eqb}
 use Rattle.std.proofs.lemmas.Bool.Decides.{nat_tests}
 use Rattle.std.proofs.Math.Seq.{take-append_seam}
 use Rattle.std.specs.Prelude.{◌==◌, ◌||◌, ◌&&◌, not, nat_lt, bytes_eq}
@@ -18,8 +18,9 @@ use Rattle.c_lex.specs.declared.piece.Piece.TheVariants as piece
 use Rattle.c_lex.specs.Scanning.{first, begins, first_place, run_len, is_split, is_end, comment_piece, closed_piece, number_piece, whole, sized, is_trigraph, string_piece, mark_len, header_len, header_from, behind_gap, hash_piece, directive_piece, piece_of, after_space}
 use Rattle.c_lex.proofs.Places.{begins_append, drop_at, take_at, place_is, place_lacks}
 use Rattle.c_lex.proofs.CommentLemmas.{inside_lacks, splits_lack, line_is}
-use Rattle.c_lex.proofs.WordLemmas.{run_is, run_starts, any_passes, mark_len_is, mark_some, character_is, literal_is, trigraphs_lack}
-use Rattle.c_lex.proofs.LineLemmas.{other_byte, include_lens, include_none}
+use Rattle.c_lex.proofs.WordLemmas.{run_is, run_starts, mark_len_is, mark_some, character_is, literal_is, trigraphs_lack}
+use Rattle.c_lex.proofs.LineLemmas.{include_lens, include_none}
+use Rattle.c_language.proofs.Lists.{any_passes}
 
 -- ---- the first byte
 
@@ -93,7 +94,7 @@ feed_end (b ∷ bs) = ap (λ (x : Bool). is_feed b || x) (feed_end bs)
 
 pub space_leads : {before after : Before} {some rest : Bytes} → IsSpace before rest some after → after_space some before ≡ after
 space_leads IsSpace.feed = refl
-space_leads (IsSpace.blank {b} h n) = rw (other_byte b 10 n) refl
+space_leads (IsSpace.blank {b} h n) = rw (ne_eqb b 10 n) refl
 space_leads (IsSpace.line_comment {inside} h e) = rw h refl
 space_leads {before} (IsSpace.comment {inside} l s) = ap (λ (x : Bool). cond x Comment before) (feed_end inside)
 

@@ -1,13 +1,10 @@
 -- Places in the bytes, and what is passed step by step.
-use Rattle.std.proofs.Common.{◌≡◌, ℕ, zero, suc, ◌+◌, [], ◌∷◌, ◌++◌, length, take, drop, refl, sym, ap, ◌∙◌, subst, cond, arith, true, false, Bool, Option, Some, None}
+use Rattle.std.proofs.Common.{◌≡◌, ℕ, zero, suc, ◌+◌, [], ◌∷◌, ◌++◌, length, take, drop, refl, sym, ap, ◌∙◌, subst, arith, true, false, Bool, Option, Some, None}
 use Rattle.std.proofs.lemmas.Bool.{and_parts, eqb-true}
 use Rattle.std.proofs.Math.Seq.{take-append_seam, drop-append_seam}
+use Rattle.c_language.proofs.Tests.{by_test}
 use Rattle.c_language.specs.Words.{Bytes}
 use Rattle.c_lex.specs.Scanning.{raised, first_place, passed, begins}
-
-pub by_test : {A G : Type 0} {x y z : A} (b : Bool) → cond b x y ≡ z → (b ≡ true → x ≡ z → G) → (b ≡ false → y ≡ z → G) → G
-by_test true e is isnt = is refl e
-by_test false e is isnt = isnt refl e
 
 -- a case for each answer of a search
 pub by_place : {G : Type 0} (o : Option ℕ) → (o ≡ None → G) → ((n : ℕ) → o ≡ Some n → G) → G

@@ -1,25 +1,25 @@
 -- What the definition of tokens gives, in plain words: one list a text, own bytes in order, lines, and the longest of each kind.
 use Rattle.std.proofs.Common.{◌≡◌, ℕ, ◌+◌, ◌≤◌, [], ◌∷◌, ◌++◌, length, append_assoc, append-nil, refl, sym, ap, ◌∙◌, subst, arith, true, false, Bool, Some, Result, Ok, Err, codes, inl, inr}
-use Rattle.std.proofs.lemmas.Bool.{eqb-true, not-true, false_from_ne_true}
+use Rattle.std.proofs.lemmas.Bool.{eqb-true, not-true, false_from_ne_true, ne_eqb}
 use Rattle.std.proofs.lemmas.Slice.Eq.{bytes_eq-Decides}
 use Rattle.std.specs.Prelude.{◌⊎◌, not, bytes_eq}
 use Rattle.c_language.specs.Words.{Bytes}
 use Rattle.c_language.specs.Characters.{is_digit, is_letter}
 use Rattle.c_language.specs.Constants.{is_escape}
 use Rattle.c_language.specs.TokenForms.{Tokens, of_kind}
-use Rattle.c_language.specs.Tokens.{is_plain, is_feed, has_feed, line_feeds, marks, is_mark, headers, is_header, IsGap, IsInclude, IsSpace, IsRun, IsCharacter, IsLiteral, IsTokenText, IsToken, IsTokens, AreTokensOf}
+use Rattle.c_language.specs.Tokens.{is_plain, is_feed, has_feed, line_feeds, marks, is_mark, headers, is_header, IsGap, IsInclude, IsSpace, IsRun, IsCharacter, IsLiteral, IsTokenText, IsToken, IsTokens, AreTokensOf, AreRun}
 use Rattle.c_language.specs.declared.token.TokenKind.{TokenKind}
 use Rattle.c_language.specs.declared.token.Before.{Before}
 use Rattle.c_language.specs.declared.token.Before.TheVariants.{Blank, Token}
 use Rattle.c_lex.specs.declared.fault.LexFault.{LexFault}
 use Rattle.c_lex.specs.declared.literal.Stage.TheVariants as stage
 use Rattle.c_lex.specs.Faults.{IsFault}
-use Rattle.c_lex.specs.Laws.{AreSpaces, AreSpread, AreRun, HasForm}
+use Rattle.c_lex.specs.Laws.{AreSpaces, AreSpread, HasForm}
 use Rattle.c_lex.specs.Scanning.{character_len, literal_len, scan}
-use Rattle.c_lex.proofs.CommentLemmas.{feed_parts, no_feed, feeds_append}
-use Rattle.c_lex.proofs.WordLemmas.{any_passes, character_is, literal_is}
-use Rattle.c_lex.proofs.LineLemmas.{other_byte}
+use Rattle.c_lex.proofs.CommentLemmas.{feed_parts, no_feed}
+use Rattle.c_lex.proofs.WordLemmas.{character_is, literal_is}
 use Rattle.c_lex.proofs.ScanLaws.{one_list, Scanned, scan_sound}
+use Rattle.c_language.proofs.Lists.{any_passes, feeds-append}
 
 -- ---- a text has one list of tokens, or a fault
 
@@ -47,7 +47,7 @@ feeds_none [] h = refl
 feeds_none (b ∷ bs) h =
     let p = feed_parts b bs h in
     let e : line_feeds (b ∷ []) ≡ 0 = rw p.0 refl in
-    omega (arith, feeds_append (b ∷ []) bs, e, feeds_none bs p.1)
+    omega (arith, feeds-append (b ∷ []) bs, e, feeds_none bs p.1)
 
 -- a byte of a class without line feeds is none
 not_feed : (class : ℕ → Bool) (b : ℕ) → class b ≡ true → class 10 ≡ false → is_feed b ≡ false
@@ -79,7 +79,7 @@ header_feeds text h =
 
 gap_feeds : {gap : Bytes} → IsGap gap → has_feed gap ≡ false
 gap_feeds IsGap.none = refl
-gap_feeds (IsGap.blank {b} {more} h n g) = no_feed b more (other_byte b 10 n) (gap_feeds g)
+gap_feeds (IsGap.blank {b} {more} h n g) = no_feed b more (ne_eqb b 10 n) (gap_feeds g)
 gap_feeds (IsGap.comment {inside} {more} h l g) = feed_append inside (codes "*/" ++ more) h (gap_feeds g)
 
 text_feeds : {kind : TokenKind} {text rest : Bytes} → IsTokenText kind text rest → has_feed text ≡ false
@@ -107,11 +107,11 @@ spaces_join {before} {after = after} some rest (AreSpaces.more {between = betwee
 pub spread_behind : {at : Before} {line : ℕ} {bytes : Bytes} {ts : Tokens} (front gap : Bytes) → IsTokens at line bytes ts → (before : Before) → AreSpaces before gap bytes at → line ≡ 1 + line_feeds (front ++ gap) → AreSpread front (gap ++ bytes) ts
 spread_behind front gap IsTokens.done before s e = subst (λ (y : Bytes). AreSpread front y []) (sym (append-nil gap)) (AreSpread.end s)
 spread_behind front gap (IsTokens.space {line = line} {some} {rest} {ts} t h) before s e =
-    let fed : line + line_feeds some ≡ 1 + line_feeds (front ++ (gap ++ some)) = omega (arith, e, ap line_feeds (sym (append_assoc front gap some)), feeds_append (front ++ gap) some) in
+    let fed : line + line_feeds some ≡ 1 + line_feeds (front ++ (gap ++ some)) = omega (arith, e, ap line_feeds (sym (append_assoc front gap some)), feeds-append (front ++ gap) some) in
     subst (λ (y : Bytes). AreSpread front y ts) (append_assoc gap some rest) (spread_behind front (gap ++ some) h before (spaces_join some rest s refl t) fed)
 spread_behind front gap (IsTokens.token {line = line} {kind} {own} {text} {rest} {ts} t h) before s e =
     let fed : line ≡ 1 + line_feeds ((front ++ (gap ++ own)) ++ []) =
-    omega (arith, e, feeds_none own (own_feeds t), ap line_feeds (append-nil (front ++ (gap ++ own)) ∙ sym (append_assoc front gap own)), feeds_append (front ++ gap) own) in
+    omega (arith, e, feeds_none own (own_feeds t), ap line_feeds (append-nil (front ++ (gap ++ own)) ∙ sym (append_assoc front gap own)), feeds-append (front ++ gap) own) in
     subst (λ (n : ℕ). AreSpread front (gap ++ (own ++ rest)) (of_kind kind text n ∷ ts)) (sym e) (AreSpread.next s t (spread_behind (front ++ (gap ++ own)) [] h Token AreSpaces.none fed))
 
 pub spread : (text : Bytes) (ts : Tokens) → AreTokensOf text ts → AreSpread [] text ts

@@ -1,18 +1,19 @@
 -- Names, numbers, marks, characters and strings, and how long they are.
-use Rattle.std.proofs.Common.{◌≡◌, ℕ, ◌+◌, ◌≤◌, ◌<◌, List, [], ◌∷◌, ◌++◌, length, drop, refl, sym, ap, ◌∙◌, subst, arith, true, false, Bool, Option, Some, inl, inr, codes}
-use Rattle.std.proofs.lemmas.Bool.{and_parts, eqb-true, false_from_ne_true}
-use Rattle.std.specs.List.{list_any, list_all}
+use Rattle.std.proofs.Common.{◌≡◌, ℕ, ◌+◌, ◌≤◌, ◌<◌, [], ◌∷◌, ◌++◌, length, drop, refl, sym, ap, ◌∙◌, subst, arith, true, false, Bool, Option, Some, inl, inr, codes}
+use Rattle.std.proofs.lemmas.Bool.{and_parts, eqb-true, false_from_ne_true, or_cases}
+use Rattle.std.specs.List.{list_all}
 use Rattle.std.specs.Prelude.{slice_index, ◌==◌, ◌||◌, ◌&&◌, ◌⊎◌, not, bytes_eq}
 use Rattle.std.proofs.lemmas.Slice.Eq.{bytes_eq-Decides}
 use Rattle.c_language.specs.Words.{Bytes}
 use Rattle.c_language.specs.Characters.{is_digit}
 use Rattle.c_language.specs.Constants.{is_one_of, is_escape}
 use Rattle.c_language.specs.Tokens.{is_plain, IsRun, marks, is_mark, IsLongest, IsCharacter, IsLiteral, LacksDigit, LacksTrigraph}
-use Rattle.c_language.proofs.Tests.{by_answer}
+use Rattle.c_language.proofs.Tests.{by_answer, by_test}
 use Rattle.c_lex.specs.declared.literal.Stage.{Stage}
 use Rattle.c_lex.specs.declared.literal.Stage.TheVariants as stage
 use Rattle.c_lex.specs.Scanning.{first, raised, run_len, inside_stage, stage_after, literal_from, literal_len, is_trigraph, is_single, is_pair, is_triple, mark_len, character_len}
-use Rattle.c_lex.proofs.Places.{by_test, by_raised, NoneAt}
+use Rattle.c_lex.proofs.Places.{by_raised, NoneAt}
+use Rattle.c_language.proofs.Lists.{any_passes}
 
 -- ---- runs
 
@@ -50,13 +51,6 @@ has_form (a ∷ (b ∷ [])) = is_pair a b
 has_form (a ∷ (b ∷ (c ∷ []))) = is_triple a b c
 has_form (a ∷ (b ∷ (c ∷ (d ∷ ds)))) = false
 
--- what all of a list pass, any of it passes
-pub any_passes : {X : Type 0} (test form : X → Bool) (xs : List X) → list_any test xs ≡ true → list_all form xs ≡ true → (x : X) × (test x ≡ true) × (form x ≡ true)
-any_passes test form [] h a = absurd cc
-any_passes test form (x ∷ xs) h a =
-    let p = and_parts _ _ a in
-    by_answer (test x) (λ t. (x, t, p.0)) (λ f. let g : list_any test xs ≡ true = subst (λ (b : Bool). (b || list_any test xs) ≡ true) f h in any_passes test form xs g p.1)
-
 pub mark_form : (text : Bytes) → is_mark text ≡ true → has_form text ≡ true
 mark_form text h =
     let x = any_passes (bytes_eq text) has_form marks h refl in
@@ -70,10 +64,6 @@ one_of_passes some form b h a =
 
 single_mark : (a : ℕ) → is_single a ≡ true → is_mark (a ∷ []) ≡ true
 single_mark a h = one_of_passes (codes "()[]{};,:?.+-*/%&|^~!<>=") (λ a. is_mark (a ∷ [])) a h refl
-
-or_cases : (a b : Bool) → (a || b) ≡ true → (a ≡ true) ⊎ (b ≡ true)
-or_cases true b h = inl refl
-or_cases false b h = inr h
 
 pair_mark : (a b : ℕ) → is_pair a b ≡ true → is_mark (a ∷ b ∷ []) ≡ true
 pair_mark a b h = elim (or_cases _ _ h) [

@@ -1,18 +1,13 @@
 -- What the definition of tokens gives, in plain words: each token is the longest of its kind, and the tokens with the space
 -- between them are the text.
-use Rattle.std.specs.Prelude.{◌≡◌, ℕ, ◌+◌, ◌≤◌, [], ◌∷◌, ◌++◌, length, true, Bool, codes}
+use Rattle.std.specs.Prelude.{◌≡◌, ℕ, ◌+◌, ◌≤◌, [], ◌∷◌, ◌++◌, length, true, codes}
 use Rattle.c_language.specs.Words.{Bytes}
 use Rattle.c_language.specs.Characters.{is_digit, is_letter}
 use Rattle.c_language.specs.TokenForms.{Tokens, of_kind}
-use Rattle.c_language.specs.Tokens.{line_feeds, name_goes_on, number_goes_on, is_mark, IsSpace, IsCharacter, IsLiteral, IsTokenText, IsToken, AreTokensOf}
+use Rattle.c_language.specs.Tokens.{line_feeds, name_goes_on, number_goes_on, is_mark, IsSpace, IsCharacter, IsLiteral, IsTokenText, IsToken, AreTokensOf, AreRun}
 use Rattle.c_language.specs.declared.token.TokenKind.{TokenKind}
 use Rattle.c_language.specs.declared.token.TokenKind.TheVariants.{Name, Number, Character, Str, Mark}
 use Rattle.c_language.specs.declared.token.Before.{Before}
-
--- bytes that go on behind a byte
-pub data AreRun (goes_on : ℕ → ℕ → Bool) : ℕ → Bytes → Type 0 where
-  none : {b : ℕ} → AreRun goes_on b []
-  more : {b c : ℕ} {run : Bytes} → goes_on b c ≡ true → AreRun goes_on c run → AreRun goes_on b (c ∷ run)
 
 -- the form of a kind, whatever follows
 pub data HasForm : TokenKind → Bytes → Type 0 where

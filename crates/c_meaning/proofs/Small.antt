@@ -1,5 +1,5 @@
 -- Small programs whose meaning can be computed: trees that are written out, and what they come to.
-use Rattle.std.proofs.Common.{◌≡◌, ℕ, zero, suc, ℤ, pos, List, [], ◌∷◌, map, Option, Some, None, Bool, refl, sym, ap, ◌∙◌}
+use Rattle.std.proofs.Common.{◌≡◌, ℕ, zero, suc, ℤ, pos, List, [], ◌∷◌, map, Option, Some, None, Bool, refl, sym, ap, ◌∙◌, ap₂}
 use Rattle.std.specs.Prelude.{option_map}
 use Rattle.c_arith.specs.declared.int_type.IntType.{IntType}
 use Rattle.c_arith.specs.declared.int_type.IntType.TheVariants.{Int, UChar}
@@ -48,9 +48,6 @@ tree (Pick c a b) = e.Choose (tree c) (tree a) (tree b)
 tree (As t a) = e.Cast t (tree a)
 tree (Par a) = e.Paren (tree a)
 
-two : {A B C : Type 0} (f : A → B → C) {a b : A} {c d : B} → a ≡ b → c ≡ d → f a c ≡ f b d
-two f {a} {b} {c} {d} p q = ap (λ x. f x c) p ∙ ap (f b) q
-
 module _ (types : Types) where
   abbrev step : Expr-F Meant → Meant
   step = meant_step types
@@ -80,13 +77,13 @@ module _ (types : Types) where
   means_tree (Un op a) =
       ap of_tree (sym (e.rolls-Unary op (tree a))) ∙ (fold-roll-Expr Meant step (Expr-F.Unary op (tree a)) ∙ ap (λ m. step (Expr-F.Unary op m)) (means_tree a))
   means_tree (Bin op a b) =
-      ap of_tree (sym (e.rolls-Binary op (tree a) (tree b))) ∙ (fold-roll-Expr Meant step (Expr-F.Binary op (tree a) (tree b)) ∙ two (λ m k. step (Expr-F.Binary op m k)) (means_tree a) (means_tree b))
+      ap of_tree (sym (e.rolls-Binary op (tree a) (tree b))) ∙ (fold-roll-Expr Meant step (Expr-F.Binary op (tree a) (tree b)) ∙ ap₂ (λ m k. step (Expr-F.Binary op m k)) (means_tree a) (means_tree b))
   means_tree (Both a b) =
-      ap of_tree (sym (e.rolls-AndAlso (tree a) (tree b))) ∙ (fold-roll-Expr Meant step (Expr-F.AndAlso (tree a) (tree b)) ∙ two (λ m k. step (Expr-F.AndAlso m k)) (means_tree a) (means_tree b))
+      ap of_tree (sym (e.rolls-AndAlso (tree a) (tree b))) ∙ (fold-roll-Expr Meant step (Expr-F.AndAlso (tree a) (tree b)) ∙ ap₂ (λ m k. step (Expr-F.AndAlso m k)) (means_tree a) (means_tree b))
   means_tree (Either a b) =
-      ap of_tree (sym (e.rolls-OrElse (tree a) (tree b))) ∙ (fold-roll-Expr Meant step (Expr-F.OrElse (tree a) (tree b)) ∙ two (λ m k. step (Expr-F.OrElse m k)) (means_tree a) (means_tree b))
+      ap of_tree (sym (e.rolls-OrElse (tree a) (tree b))) ∙ (fold-roll-Expr Meant step (Expr-F.OrElse (tree a) (tree b)) ∙ ap₂ (λ m k. step (Expr-F.OrElse m k)) (means_tree a) (means_tree b))
   means_tree (Pick c a b) =
-      ap of_tree (sym (e.rolls-Choose (tree c) (tree a) (tree b))) ∙ (fold-roll-Expr Meant step (Expr-F.Choose (tree c) (tree a) (tree b)) ∙ (ap (λ m. chosen m (of_tree (tree a)) (of_tree (tree b))) (means_tree c) ∙ two (chosen (means c)) (means_tree a) (means_tree b)))
+      ap of_tree (sym (e.rolls-Choose (tree c) (tree a) (tree b))) ∙ (fold-roll-Expr Meant step (Expr-F.Choose (tree c) (tree a) (tree b)) ∙ (ap (λ m. chosen m (of_tree (tree a)) (of_tree (tree b))) (means_tree c) ∙ ap₂ (chosen (means c)) (means_tree a) (means_tree b)))
   means_tree (As t a) =
       ap of_tree (sym (e.rolls-Cast t (tree a))) ∙ (fold-roll-Expr Meant step (Expr-F.Cast t (tree a)) ∙ ap (λ m. step (Expr-F.Cast t m)) (means_tree a))
   means_tree (Par a) =
@@ -149,13 +146,13 @@ module _ (types : Types) where
 
   all_mean : (as_ : List Small) (s : State) → eval_all types (map tree as_) s ≡ values_of as_ s
   all_mean [] s = refl
-  all_mean (a ∷ as_) s = two beside (ap (λ (m : Meant). m.value s) (means_tree types a)) (all_mean as_ s)
+  all_mean (a ∷ as_) s = ap₂ beside (ap (λ (m : Meant). m.value s) (means_tree types a)) (all_mean as_ s)
 
   does_act : (d : Deed) (s : State) → made types (act d) s ≡ does d s
   does_act (Start x a) s =
       ap (λ (m : Meant). assigned (types.typing.variable x) (writable s (variable_place x s)) (m.value s)) (means_tree types a)
-  does_act (Set l a) s = two (λ (m k : Meant). into s m (k.value s)) (means_tree types l) (means_tree types a)
-  does_act (SetBy op l a) s = two (λ (m k : Meant). into s m (combined s op m k)) (means_tree types l) (means_tree types a)
+  does_act (Set l a) s = ap₂ (λ (m k : Meant). into s m (k.value s)) (means_tree types l) (means_tree types a)
+  does_act (SetBy op l a) s = ap₂ (λ (m k : Meant). into s m (combined s op m k)) (means_tree types l) (means_tree types a)
   does_act (Bump l up) s = ap (λ (m : Meant). into s m (one_more s up m)) (means_tree types l)
   does_act (Put a) s = ap (put_it s) (means_tree types a)
   does_act (Show format args) s = ap (option_map (printed_all format)) (all_mean args s)
@@ -225,7 +222,7 @@ module _ (types : Types) where
   run_same again once h (Choice i a c r) n s t =
       take_same i (Test a) (λ x n s t. then_do (exec types again (list (c (picked x))) n s t) (exec types again (list r))) (λ x n s t. then_do (run types once (c (picked x)) n s t) (run types once r)) (λ x n s t. then_same _ _ _ _ (run_same again once h (c (picked x)) n s t) (λ n s t. run_same again once h r n s t)) n s t
   run_same again once h (Turns i a b r) n s t =
-      take_same i (Test a) (λ x n s t. either (is_true (picked x)) (then_do (exec types again (list b) n s t) (again (list (Turns i a b r)))) (exec types again (list r) n s t)) (λ x n s t. either (is_true (picked x)) (then_do (run types once b n s t) (once (Turns i a b r))) (run types once r n s t)) (λ x n s t. two (either (is_true (picked x))) (then_same _ _ _ _ (run_same again once h b n s t) (h (Turns i a b r))) (run_same again once h r n s t)) n s t
+      take_same i (Test a) (λ x n s t. either (is_true (picked x)) (then_do (exec types again (list b) n s t) (again (list (Turns i a b r)))) (exec types again (list r) n s t)) (λ x n s t. either (is_true (picked x)) (then_do (run types once b n s t) (once (Turns i a b r))) (run types once r n s t)) (λ x n s t. ap₂ (either (is_true (picked x))) (then_same _ _ _ _ (run_same again once h b n s t) (h (Turns i a b r))) (run_same again once h r n s t)) n s t
   run_same again once h (Close xs r) n s t = run_same again once h r n (all_closed xs s) t
 
   deep_same : (d : ℕ) (c : SmallCode) (n : ℕ) (s : State) (t : Trace) → deep types d (list c) n s t ≡ deep_run types d c n s t

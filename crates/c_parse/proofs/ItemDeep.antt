@@ -20,7 +20,7 @@ use Rattle.c_parse_simple.specs.SimpleReading.{list}
 use Rattle.c_parse_statements.specs.StatementReading.{braced, nested_statement}
 use Rattle.c_parse.specs.ItemReading as r
 use Rattle.c_parse.specs.ItemReading.{member_of, members_from, tagged, sees_tag, global_init, global_of, global, globals, definition, headed, function, is_array, declares, void_function, external, item_of, none_left, items_from, items, program}
-use Rattle.c_parse_expr.proofs.Tests.{by_test, by_fault, by_expect, by_name, expect_fault, name_fault}
+use Rattle.c_parse_expr.proofs.Tests.{by_fault, by_expect, by_name, expect_fault, name_fault}
 use Rattle.c_parse_expr.proofs.ExprDeep.{expr_tokens, IsDeep, drop_tokens, whole_expr_deep}
 use Rattle.c_parse_expr.proofs.TypeLaws.{base_flat}
 use Rattle.c_parse_expr.proofs.TypeSound.{base_sound, declarator_sound, params_sound}
@@ -29,6 +29,7 @@ use Rattle.c_parse_simple.proofs.CallDeep.{separated_tokens, separated_deep, lis
 use Rattle.c_parse_statements.proofs.StatementSound.{nested_statement_sound}
 use Rattle.c_parse_statements.proofs.StatementDeep.{statements_tokens, braced_deep, nested_statement_deep}
 use Rattle.c_parse.proofs.ItemSound.{member_of_sound, member_sound, global_of_sound, global_sound, item_sound}
+use Rattle.c_language.proofs.Tests.{by_test}
 
 -- ---- what is read leaves no more tokens that nest
 

@@ -19,7 +19,7 @@ use Rattle.c_language.specs.TokenForms.{Tokens, of_kind, name, mark, line_of}
 use Rattle.c_language.specs.Sees.{sees, is_keyword}
 use Rattle.c_language.specs.IntWords.{is_int_word}
 use Rattle.c_language.specs.TypeGrammar.{IsBase, IsStars, IsLengths, IsOuterLengths, IsDeclarator, IsParams, IsMoreParams, structure, integer, pointed, is_listed}
-use Rattle.c_language.specs.Nesting.{nesting, type_nesting, params_nesting, greatest}
+use Rattle.c_language.specs.Nesting.{nesting, type_nesting, params_nesting}
 use Rattle.c_language.specs.StatementGrammar.{IsSeparated, AreStatements}
 use Rattle.c_language.specs.ItemGrammar.{IsMemberDeclarator, IsMember, member, AreMembers, IsGlobal, AreGlobals, IsStatic, IsResult, IsHead, head, are_named, header, IsItem, AreItems, IsProgram}
 use Rattle.c_language.specs.StatementNesting.{body_nesting, member_nesting, head_nesting, item_nesting, items_nesting, program_nesting}
@@ -37,6 +37,7 @@ use Rattle.c_parse_simple.proofs.Begins.{starts, starts_no_mark, is_starter, apa
 use Rattle.c_parse_simple.proofs.CallLaws.{base_no_mark}
 use Rattle.c_parse_simple.proofs.SimpleLaws.{Ends, at_semicolon, at_comma, list_exact, list_shorter, declarator_shorter}
 use Rattle.c_parse_statements.proofs.StatementLaws.{int_word_is, depths, depths_under, statements_exact, statements_shorter, brace_ends_list}
+use Rattle.c_language.specs.Lists.{greatest}
 
 -- ---- struct definitions
 

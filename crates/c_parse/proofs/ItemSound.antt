@@ -23,12 +23,13 @@ use Rattle.c_parse_statements.specs.StatementReading.{braced, nested_statement}
 use Rattle.c_parse.specs.ItemReading as r
 use Rattle.c_parse.specs.ItemReading.{member_of, members_from, tagged, sees_tag, global_init, global_of, global, globals, definition, headed, function, is_array, declares, void_function, external, item_of, none_left, items_from, items, program}
 use Rattle.c_parse_words.proofs.SeenTokens.{by_seen}
-use Rattle.c_parse_expr.proofs.Tests.{by_test, by_step, by_expect, by_name, with_parts}
+use Rattle.c_parse_expr.proofs.Tests.{by_step, by_expect, by_name, with_parts}
 use Rattle.c_parse_expr.proofs.TypeSound.{base_sound, declarator_sound, params_sound}
 use Rattle.c_parse_simple.proofs.CallSound.{expression_is, separated_read, separated_sound}
 use Rattle.c_parse_simple.proofs.SimpleSound.{list_sound}
 use Rattle.c_parse_statements.proofs.StatementSound.{braced_sound, nested_statement_sound}
 use Rattle.c_parse.proofs.ItemLaws.{is_array-Array}
+use Rattle.c_language.proofs.Tests.{by_test}
 
 -- ---- struct definitions
 

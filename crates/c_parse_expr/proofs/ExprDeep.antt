@@ -25,10 +25,11 @@ use Rattle.c_parse_expr.specs.Outcome.{Parser, Deep, expect}
 use Rattle.c_parse_expr.specs.IntReading.{int_type}
 use Rattle.c_parse_expr.specs.ExprReading.{suffix, prefix_at, atom, read_member, parenthesized, converted, signed, prefix, with_operand, with_choice, with_index, extended_by, extended, climb, expression_with, nested, expression}
 use Rattle.c_parse_words.proofs.SeenTokens.{by_seen}
-use Rattle.c_parse_expr.proofs.Tests.{by_test, by_fault, by_expect, expect_fault, member_fault}
+use Rattle.c_parse_expr.proofs.Tests.{by_fault, by_expect, expect_fault, member_fault}
 use Rattle.c_parse_expr.proofs.IntLaws.{int_type_fault, int_type_sound}
 use Rattle.c_parse_expr.proofs.ExprLaws.{level_low}
 use Rattle.c_parse_expr.proofs.ExprSound.{IsSound, Front, suffix_is, suffix_sign, prefix_op_is, by_suffix, by_prefix, prefix_is, extended_is, nested_sound}
+use Rattle.c_language.proofs.Tests.{by_test}
 
 -- ---- each node has a token of its own
 

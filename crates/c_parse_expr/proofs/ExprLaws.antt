@@ -12,7 +12,7 @@ use Rattle.c_tree.specs.declared.raw.expr.RawExpr.TheVariants as e
 use Rattle.c_language.specs.Words.{Bytes}
 use Rattle.c_language.specs.TokenForms.{Tokens, name, number, character, mark}
 use Rattle.c_language.specs.Sees.{sees, sees_second, is_keyword}
-use Rattle.c_language.specs.IntWords.{is_int_word, sees_int_word}
+use Rattle.c_language.specs.IntWords.{sees_int_word}
 use Rattle.c_language.specs.ExprGrammar.{binary_level, level, sign, joint, prefix_sign, applied, selector_sign, selected, is_plain_name, IsExpr, number_constant, character_constant, null, eof, variable, paren, index, member, unary, cast, binary, choose}
 use Rattle.c_language.specs.Nesting.{nesting}
 use Rattle.c_language.specs.declared.token.Token.{Token}
@@ -29,9 +29,10 @@ use Rattle.c_parse_expr.specs.declared.suffix.Suffix.TheVariants.{Operator, Ques
 use Rattle.c_parse_expr.specs.Outcome.{Outcome, Parser, and_then, Deep, expect}
 use Rattle.c_parse_expr.specs.IntReading.{int_type}
 use Rattle.c_parse_expr.specs.ExprReading.{logical, comparison, arithmetic, infix_by, suffix_by, multiplies_size, suffix, goes_on, is_some_suffix, suffix_level, at_least, suffix_from, with_suffix, prefix_by, prefix_at, named, atom, parenthesized, converted, signed, prefix, with_operand, with_choice, with_index, extended_by, extended, climb, expression_with, nested, expression}
-use Rattle.c_parse_words.proofs.SeenTokens.{text_is}
 use Rattle.c_parse_expr.proofs.Tests.{ok_parts, read_member_at}
 use Rattle.c_parse_expr.proofs.IntLaws.{int_type_read, int_type_shorter, int_type_begins}
+use Rattle.c_language.proofs.Lists.{same_bytes}
+use Rattle.c_language.proofs.Keywords.{no_keyword, no_int_word, null_free, eof_free}
 
 -- a tree has at least one token
 pub shorter : {n : ℕ} {ts rest : Tokens} {a : RawExpr} → IsExpr n ts a rest → length rest < length ts
@@ -74,23 +75,13 @@ pub record BeginsExpr (ts : Tokens) : Type 0 where
   pub no_type : sees_int_word ts ≡ false
   pub no_mark : (text : Bytes) → may_begin text ≡ false → sees Mark text ts ≡ false
 
-other : (w text : Bytes) → is_keyword w ≡ false → is_keyword text ≡ true → bytes_eq w text ≡ false
-other w text h k = elim (cases_Bool (bytes_eq w text)) [
-  | inl is ↦ let e : is_keyword w ≡ is_keyword text = ap is_keyword (text_is w text is) in absurd (let f : true ≡ false = sym k ∙ (sym e ∙ h) in cc)
-  | inr isnt ↦ isnt
-]
-
-no_int_word : (w : Bytes) → is_keyword w ≡ false → is_int_word w ≡ false
-unfolding is_keyword
-no_int_word w h = rw (other w (codes "char") h refl, other w (codes "short") h refl, other w (codes "int") h refl, other w (codes "long") h refl, other w (codes "signed") h refl, other w (codes "unsigned") h refl) refl
-
 pub name_begins : (w : Bytes) (l : ℕ) (ts : Tokens) → is_keyword w ≡ false → BeginsExpr (name w l ∷ ts)
 unfolding sees sees_int_word
-name_begins w l ts h = record { no_word = λ text k. other w text h k; no_type = no_int_word w h; no_mark = λ text k. refl }
+name_begins w l ts h = record { no_word = λ text k. no_keyword w text h k; no_type = no_int_word w h; no_mark = λ text k. refl }
 
 other_mark : (w text : Bytes) → may_begin w ≡ true → may_begin text ≡ false → bytes_eq w text ≡ false
 other_mark w text h k = elim (cases_Bool (bytes_eq w text)) [
-  | inl is ↦ let e : may_begin w ≡ may_begin text = ap may_begin (text_is w text is) in absurd (let f : true ≡ false = sym h ∙ (e ∙ k) in cc)
+  | inl is ↦ let e : may_begin w ≡ may_begin text = ap may_begin (same_bytes w text is) in absurd (let f : true ≡ false = sym h ∙ (e ∙ k) in cc)
   | inr isnt ↦ isnt
 ]
 
@@ -117,14 +108,6 @@ prefix_may AddressOf = refl
 size_word : is_keyword (codes "sizeof") ≡ true
 unfolding is_keyword
 size_word = refl
-
-null_free : is_keyword (codes "NULL") ≡ false
-unfolding is_keyword
-null_free = refl
-
-eof_free : is_keyword (codes "EOF") ≡ false
-unfolding is_keyword
-eof_free = refl
 
 pub begins_expr : {n : ℕ} {ts rest : Tokens} {a : RawExpr} → IsExpr n ts a rest → BeginsExpr ts
 begins_expr (number_constant {l} {text} {rest}) = number_begins text l rest

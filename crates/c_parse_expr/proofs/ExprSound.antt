@@ -2,6 +2,7 @@
 use Rattle.std.proofs.Common.{◌≡◌, ℕ, zero, suc, ◌+◌, ◌≤◌, ◌<◌, [], ◌∷◌, length, drop, refl, sym, ap, subst, ◌∙◌, arith, true, false, not, ◌&&◌, ◌||◌, Option, Some, None, Ok, codes, nat_le, nat_lt, inl, inr}
 use Rattle.std.specs.Str.{bytes_eq}
 use Rattle.std.proofs.lemmas.Bool.{ltb-true, leb-true, leb-false, cases_Bool, cases_lt, and_parts, not-true}
+use Rattle.std.proofs.lemmas.Option.{same_Some}
 use Rattle.c_tree.specs.declared.raw.expr.RawExpr.{RawExpr}
 use Rattle.c_tree.specs.declared.raw.expr.RawExpr.TheVariants as e
 use Rattle.c_language.specs.Words.{Bytes}
@@ -19,10 +20,12 @@ use Rattle.c_parse_expr.specs.declared.suffix.Suffix.TheVariants.{Operator, Ques
 use Rattle.c_parse_expr.specs.Outcome.{Parser, expect}
 use Rattle.c_parse_expr.specs.IntReading.{int_type}
 use Rattle.c_parse_expr.specs.ExprReading.{or_else, logical, comparison, arithmetic, infix_by, as_operator, suffix_by, multiplies_size, suffix, suffix_level, at_least, suffix_from, with_suffix, prefix_by, prefix_at, with_prefix, named, atom, read_member, parenthesized, converted, signed, prefix, with_operand, with_choice, with_index, extended_by, extended, climb, expression_with, nested, expression}
-use Rattle.c_parse_words.proofs.SeenTokens.{text_is, of_kind_is, by_seen}
-use Rattle.c_parse_expr.proofs.Tests.{by_test, by_step, by_expect, by_member, with_parts}
+use Rattle.c_parse_words.proofs.SeenTokens.{of_kind_is, by_seen}
+use Rattle.c_parse_expr.proofs.Tests.{by_step, by_expect, by_member, with_parts}
 use Rattle.c_parse_expr.proofs.IntLaws.{int_type_sound}
 use Rattle.c_parse_expr.proofs.ExprLaws.{shorter, head_level, level_by, level_low, level_high}
+use Rattle.c_language.proofs.Lists.{same_bytes}
+use Rattle.c_language.proofs.Tests.{by_test}
 
 pub weaken : {m : ℕ} {ts rest : Tokens} {a : RawExpr} → IsExpr m ts a rest → (n : ℕ) → n ≤ m → IsExpr n ts a rest
 weaken number_constant n p = number_constant
@@ -46,9 +49,6 @@ suffix_sign Question = codes "?"
 suffix_sign Bracket = codes "["
 suffix_sign (Select by) = selector_sign by
 
-some_is : {A : Type 0} {a b : A} → Some a ≡ Some b → a ≡ b
-some_is h = cc
-
 by_or : {A G : Type 0} {x : A} (o p : Option A) → or_else o p ≡ Some x → (o ≡ Some x → G) → (p ≡ Some x → G) → G
 by_or None p h one two = two h
 by_or (Some y) p h one two = one h
@@ -56,32 +56,32 @@ by_or (Some y) p h one two = one h
 logical_told : (w : Bytes) (op : Infix) → logical w ≡ Some op → w ≡ sign op
 unfolding logical
 logical_told w op h =
-    by_test (bytes_eq w (codes "||")) h (λ is h. text_is w _ is ∙ ap sign (some_is h)) (λ _ h.
-    by_test (bytes_eq w (codes "&&")) h (λ is h. text_is w _ is ∙ ap sign (some_is h)) (λ _ h.
-    by_test (bytes_eq w (codes "|")) h (λ is h. text_is w _ is ∙ ap sign (some_is h)) (λ _ h.
-    by_test (bytes_eq w (codes "^")) h (λ is h. text_is w _ is ∙ ap sign (some_is h)) (λ _ h.
-    by_test (bytes_eq w (codes "&")) h (λ is h. text_is w _ is ∙ ap sign (some_is h)) (λ _ h. absurd cc)))))
+    by_test (bytes_eq w (codes "||")) h (λ is h. same_bytes w _ is ∙ ap sign (same_Some _ _ h)) (λ _ h.
+    by_test (bytes_eq w (codes "&&")) h (λ is h. same_bytes w _ is ∙ ap sign (same_Some _ _ h)) (λ _ h.
+    by_test (bytes_eq w (codes "|")) h (λ is h. same_bytes w _ is ∙ ap sign (same_Some _ _ h)) (λ _ h.
+    by_test (bytes_eq w (codes "^")) h (λ is h. same_bytes w _ is ∙ ap sign (same_Some _ _ h)) (λ _ h.
+    by_test (bytes_eq w (codes "&")) h (λ is h. same_bytes w _ is ∙ ap sign (same_Some _ _ h)) (λ _ h. absurd cc)))))
 
 comparison_told : (w : Bytes) (op : Infix) → comparison w ≡ Some op → w ≡ sign op
 unfolding comparison
 comparison_told w op h =
-    by_test (bytes_eq w (codes "==")) h (λ is h. text_is w _ is ∙ ap sign (some_is h)) (λ _ h.
-    by_test (bytes_eq w (codes "!=")) h (λ is h. text_is w _ is ∙ ap sign (some_is h)) (λ _ h.
-    by_test (bytes_eq w (codes "<")) h (λ is h. text_is w _ is ∙ ap sign (some_is h)) (λ _ h.
-    by_test (bytes_eq w (codes ">")) h (λ is h. text_is w _ is ∙ ap sign (some_is h)) (λ _ h.
-    by_test (bytes_eq w (codes "<=")) h (λ is h. text_is w _ is ∙ ap sign (some_is h)) (λ _ h.
-    by_test (bytes_eq w (codes ">=")) h (λ is h. text_is w _ is ∙ ap sign (some_is h)) (λ _ h. absurd cc))))))
+    by_test (bytes_eq w (codes "==")) h (λ is h. same_bytes w _ is ∙ ap sign (same_Some _ _ h)) (λ _ h.
+    by_test (bytes_eq w (codes "!=")) h (λ is h. same_bytes w _ is ∙ ap sign (same_Some _ _ h)) (λ _ h.
+    by_test (bytes_eq w (codes "<")) h (λ is h. same_bytes w _ is ∙ ap sign (same_Some _ _ h)) (λ _ h.
+    by_test (bytes_eq w (codes ">")) h (λ is h. same_bytes w _ is ∙ ap sign (same_Some _ _ h)) (λ _ h.
+    by_test (bytes_eq w (codes "<=")) h (λ is h. same_bytes w _ is ∙ ap sign (same_Some _ _ h)) (λ _ h.
+    by_test (bytes_eq w (codes ">=")) h (λ is h. same_bytes w _ is ∙ ap sign (same_Some _ _ h)) (λ _ h. absurd cc))))))
 
 arithmetic_told : (w : Bytes) (op : Infix) → arithmetic w ≡ Some op → w ≡ sign op
 unfolding arithmetic
 arithmetic_told w op h =
-    by_test (bytes_eq w (codes "<<")) h (λ is h. text_is w _ is ∙ ap sign (some_is h)) (λ _ h.
-    by_test (bytes_eq w (codes ">>")) h (λ is h. text_is w _ is ∙ ap sign (some_is h)) (λ _ h.
-    by_test (bytes_eq w (codes "+")) h (λ is h. text_is w _ is ∙ ap sign (some_is h)) (λ _ h.
-    by_test (bytes_eq w (codes "-")) h (λ is h. text_is w _ is ∙ ap sign (some_is h)) (λ _ h.
-    by_test (bytes_eq w (codes "*")) h (λ is h. text_is w _ is ∙ ap sign (some_is h)) (λ _ h.
-    by_test (bytes_eq w (codes "/")) h (λ is h. text_is w _ is ∙ ap sign (some_is h)) (λ _ h.
-    by_test (bytes_eq w (codes "%")) h (λ is h. text_is w _ is ∙ ap sign (some_is h)) (λ _ h. absurd cc)))))))
+    by_test (bytes_eq w (codes "<<")) h (λ is h. same_bytes w _ is ∙ ap sign (same_Some _ _ h)) (λ _ h.
+    by_test (bytes_eq w (codes ">>")) h (λ is h. same_bytes w _ is ∙ ap sign (same_Some _ _ h)) (λ _ h.
+    by_test (bytes_eq w (codes "+")) h (λ is h. same_bytes w _ is ∙ ap sign (same_Some _ _ h)) (λ _ h.
+    by_test (bytes_eq w (codes "-")) h (λ is h. same_bytes w _ is ∙ ap sign (same_Some _ _ h)) (λ _ h.
+    by_test (bytes_eq w (codes "*")) h (λ is h. same_bytes w _ is ∙ ap sign (same_Some _ _ h)) (λ _ h.
+    by_test (bytes_eq w (codes "/")) h (λ is h. same_bytes w _ is ∙ ap sign (same_Some _ _ h)) (λ _ h.
+    by_test (bytes_eq w (codes "%")) h (λ is h. same_bytes w _ is ∙ ap sign (same_Some _ _ h)) (λ _ h. absurd cc)))))))
 
 infix_told : (w : Bytes) (op : Infix) → infix_by w ≡ Some op → w ≡ sign op
 unfolding infix_by
@@ -89,15 +89,15 @@ infix_told w op h = by_or (logical w) _ h (logical_told w op) (λ h. by_or (comp
 
 operator_told : (w : Bytes) (o : Option Infix) (x : Suffix) → ((op : Infix) → o ≡ Some op → w ≡ sign op) → as_operator o ≡ Some x → w ≡ suffix_sign x
 operator_told w None x told h = absurd cc
-operator_told w (Some op) x told h = told op refl ∙ ap suffix_sign (some_is h)
+operator_told w (Some op) x told h = told op refl ∙ ap suffix_sign (same_Some _ _ h)
 
 suffix_told : (w : Bytes) (x : Suffix) → suffix_by w ≡ Some x → w ≡ suffix_sign x
 unfolding suffix_by
 suffix_told w x h =
-    by_test (bytes_eq w (codes "[")) h (λ is h. text_is w _ is ∙ ap suffix_sign (some_is h)) (λ _ h.
-    by_test (bytes_eq w (codes ".")) h (λ is h. text_is w _ is ∙ ap suffix_sign (some_is h)) (λ _ h.
-    by_test (bytes_eq w (codes "->")) h (λ is h. text_is w _ is ∙ ap suffix_sign (some_is h)) (λ _ h.
-    by_test (bytes_eq w (codes "?")) h (λ is h. text_is w _ is ∙ ap suffix_sign (some_is h)) (λ _ h.
+    by_test (bytes_eq w (codes "[")) h (λ is h. same_bytes w _ is ∙ ap suffix_sign (same_Some _ _ h)) (λ _ h.
+    by_test (bytes_eq w (codes ".")) h (λ is h. same_bytes w _ is ∙ ap suffix_sign (same_Some _ _ h)) (λ _ h.
+    by_test (bytes_eq w (codes "->")) h (λ is h. same_bytes w _ is ∙ ap suffix_sign (same_Some _ _ h)) (λ _ h.
+    by_test (bytes_eq w (codes "?")) h (λ is h. same_bytes w _ is ∙ ap suffix_sign (same_Some _ _ h)) (λ _ h.
     operator_told w (infix_by w) x (infix_told w) h))))
 
 abbrev Begins : Bytes → Tokens → Type 0
@@ -116,12 +116,12 @@ suffix_is x (t ∷ ts) h =
 prefix_told : (w : Bytes) (op : Prefix) → prefix_by w ≡ Some op → w ≡ prefix_sign op
 unfolding prefix_by
 prefix_told w op h =
-    by_test (bytes_eq w (codes "+")) h (λ is h. text_is w _ is ∙ ap prefix_sign (some_is h)) (λ _ h.
-    by_test (bytes_eq w (codes "-")) h (λ is h. text_is w _ is ∙ ap prefix_sign (some_is h)) (λ _ h.
-    by_test (bytes_eq w (codes "~")) h (λ is h. text_is w _ is ∙ ap prefix_sign (some_is h)) (λ _ h.
-    by_test (bytes_eq w (codes "!")) h (λ is h. text_is w _ is ∙ ap prefix_sign (some_is h)) (λ _ h.
-    by_test (bytes_eq w (codes "*")) h (λ is h. text_is w _ is ∙ ap prefix_sign (some_is h)) (λ _ h.
-    by_test (bytes_eq w (codes "&")) h (λ is h. text_is w _ is ∙ ap prefix_sign (some_is h)) (λ _ h. absurd cc))))))
+    by_test (bytes_eq w (codes "+")) h (λ is h. same_bytes w _ is ∙ ap prefix_sign (same_Some _ _ h)) (λ _ h.
+    by_test (bytes_eq w (codes "-")) h (λ is h. same_bytes w _ is ∙ ap prefix_sign (same_Some _ _ h)) (λ _ h.
+    by_test (bytes_eq w (codes "~")) h (λ is h. same_bytes w _ is ∙ ap prefix_sign (same_Some _ _ h)) (λ _ h.
+    by_test (bytes_eq w (codes "!")) h (λ is h. same_bytes w _ is ∙ ap prefix_sign (same_Some _ _ h)) (λ _ h.
+    by_test (bytes_eq w (codes "*")) h (λ is h. same_bytes w _ is ∙ ap prefix_sign (same_Some _ _ h)) (λ _ h.
+    by_test (bytes_eq w (codes "&")) h (λ is h. same_bytes w _ is ∙ ap prefix_sign (same_Some _ _ h)) (λ _ h. absurd cc))))))
 
 pub prefix_op_is : (op : Prefix) (ts : Tokens) → prefix_at ts ≡ Some op → Begins (prefix_sign op) ts
 unfolding prefix_at
@@ -193,9 +193,9 @@ primary d n ts a rest p is low = record { tight = 15; is = is; above = p; loose 
 named_front : (d n : ℕ) (w : Bytes) (l : ℕ) (ts : Tokens) → n ≤ 15 → is_keyword w ≡ false → Front d n (name w l ∷ ts) (named w) ts
 unfolding is_plain_name
 named_front d n w l ts p free = elim (cases_Bool (bytes_eq w (codes "NULL"))) [
-  | inl is ↦ rw is (subst (λ (u : Bytes). Front d n (name u l ∷ ts) e.Null ts) (sym (text_is w (codes "NULL") is)) (primary d n _ _ ts p null (omega (arith, nesting-Null))))
+  | inl is ↦ rw is (subst (λ (u : Bytes). Front d n (name u l ∷ ts) e.Null ts) (sym (same_bytes w (codes "NULL") is)) (primary d n _ _ ts p null (omega (arith, nesting-Null))))
   | inr isnt ↦ rw isnt (elim (cases_Bool (bytes_eq w (codes "EOF"))) [
-    | inl is ↦ rw is (subst (λ (u : Bytes). Front d n (name u l ∷ ts) e.Eof ts) (sym (text_is w (codes "EOF") is)) (primary d n _ _ ts p eof (omega (arith, nesting-Eof))))
+    | inl is ↦ rw is (subst (λ (u : Bytes). Front d n (name u l ∷ ts) e.Eof ts) (sym (same_bytes w (codes "EOF") is)) (primary d n _ _ ts p eof (omega (arith, nesting-Eof))))
     | inr other ↦ rw other (primary d n _ _ ts p (variable (rw (free, isnt, other) refl)) (omega (arith, nesting-Variable w)))
   ])
 ]

@@ -2,6 +2,7 @@
 use Rattle.std.proofs.Common.{◌≡◌, ℕ, zero, suc, ◌+◌, ◌≤◌, ◌<◌, drop, Bool, true, false, ◌||◌, List, [], ◌∷◌, ◌++◌, length, codes, refl, sym, ap, subst, ◌∙◌, arith, Option, Some, None, Ok, Err, Contains, if◌then◌else◌, ◌&&◌}
 use Rattle.std.specs.Str.{bytes_eq}
 use Rattle.std.proofs.lemmas.Slice.Eq.{bytes_eq-Decides}
+use Rattle.std.proofs.lemmas.Option.{same_Some}
 use Rattle.c_arith.specs.declared.int_type.IntType.{IntType}
 use Rattle.c_arith.specs.declared.int_type.IntType.TheVariants.{Char, UChar, Short, UShort, Int, UInt, Long, ULong}
 use Rattle.c_language.specs.Words.{Bytes}
@@ -19,8 +20,10 @@ use Rattle.c_parse_expr.specs.declared.int_words.Signedness.TheVariants as signe
 use Rattle.c_parse_expr.specs.declared.int_words.IntWords.{IntWords}
 use Rattle.c_parse_expr.specs.Outcome.{refused, Deep}
 use Rattle.c_parse_expr.specs.IntReading.{word_by, next_word, no_words, with_width, with_signedness, with_word, type_by, named_type, by_word, by_words, words_from, type_or_fault, int_type}
-use Rattle.c_parse_words.proofs.SeenTokens.{text_is, of_kind_is}
-use Rattle.c_parse_expr.proofs.Tests.{by_test, by_step, by_fault, with_parts, ok_parts}
+use Rattle.c_parse_words.proofs.SeenTokens.{of_kind_is}
+use Rattle.c_parse_expr.proofs.Tests.{by_step, by_fault, with_parts, ok_parts}
+use Rattle.c_language.proofs.Lists.{same_bytes}
+use Rattle.c_language.proofs.Tests.{by_test}
 
 -- ---- the words that a state stands for, in the order of the spellings
 
@@ -63,9 +66,6 @@ times-append w (x ∷ xs) ys = omega (arith, times-append w xs ys)
 times_of : (w : Bytes) (x : IntWords) → times w (words_of x) ≡ times w (sign_words x.signedness) + (times w (width_words x.width) + times w (int_words x.has_int))
 times_of w x = let a = times-append w (sign_words x.signedness) (width_words x.width ++ int_words x.has_int) in let b = times-append w (width_words x.width) (int_words x.has_int) in omega (arith, a, b)
 
-some_is : {A : Type 0} {a b : A} → Some a ≡ Some b → a ≡ b
-some_is h = cc
-
 -- ---- one more word
 
 width_added : (w : Bytes) (new : Width) (old : Option Width) (x y : IntWords) → x.width ≡ old → with_width new old x ≡ Some y
@@ -74,7 +74,7 @@ width_added w new None x y e h =
     let a = times_of w (record x { width = Some new }) in
     let b = times_of w x in
     let c : times w (width_words x.width) ≡ 0 = ap (λ o. times w (width_words o)) e in
-    let same : times w (words_of (record x { width = Some new })) ≡ times w (words_of y) = ap (λ (z : IntWords). times w (words_of z)) (some_is h) in
+    let same : times w (words_of (record x { width = Some new })) ≡ times w (words_of y) = ap (λ (z : IntWords). times w (words_of z)) (same_Some _ _ h) in
     omega (arith, a, b, c, same)
 width_added w new (Some old) x y e h = absurd cc
 
@@ -84,7 +84,7 @@ sign_added w new None x y e h =
     let a = times_of w (record x { signedness = Some new }) in
     let b = times_of w x in
     let c : times w (sign_words x.signedness) ≡ 0 = ap (λ o. times w (sign_words o)) e in
-    let same : times w (words_of (record x { signedness = Some new })) ≡ times w (words_of y) = ap (λ (z : IntWords). times w (words_of z)) (some_is h) in
+    let same : times w (words_of (record x { signedness = Some new })) ≡ times w (words_of y) = ap (λ (z : IntWords). times w (words_of z)) (same_Some _ _ h) in
     omega (arith, a, b, c, same)
 sign_added w new (Some old) x y e h = absurd cc
 
@@ -95,7 +95,7 @@ int_added w false x y e h =
     let a = times_of w (record x { has_int = true }) in
     let b = times_of w x in
     let c : times w (int_words x.has_int) ≡ 0 = ap (λ o. times w (int_words o)) e in
-    let same : times w (words_of (record x { has_int = true })) ≡ times w (words_of y) = ap (λ (z : IntWords). times w (words_of z)) (some_is h) in
+    let same : times w (words_of (record x { has_int = true })) ≡ times w (words_of y) = ap (λ (z : IntWords). times w (words_of z)) (same_Some _ _ h) in
     omega (arith, a, b, c, same)
 
 word_added : (w : Bytes) (k : IntWord) (x y : IntWords) → with_word x k ≡ Some y → times w (words_of y) ≡ times w (text_of k ∷ []) + times w (words_of x)
@@ -204,7 +204,7 @@ fine ULong s ((suc zero), low, same) = is_spelling {t = ULong} {s = (codes "unsi
 fine ULong s ((suc (suc k)), low, same) = absurd (omega arith)
 
 with_type : {t u : IntType} {s : List Bytes} → Some t ≡ Some u → Contains (spellings t) s → Contains (spellings u) s
-with_type {t} {u} {s} h c = subst (λ (x : IntType). Contains (spellings x) s) (some_is h) c
+with_type {t} {u} {s} h c = subst (λ (x : IntType). Contains (spellings x) s) (same_Some _ _ h) c
 
 spelled_by : (g : Option Width) (s : Option Signedness) (i : Bool) (t : IntType) → type_by g s i ≡ Some t → Contains (spellings t) (sign_words s ++ (width_words g ++ int_words i))
 spelled_by None None false t h = absurd cc
@@ -238,12 +238,12 @@ spelled_by (Some width.Long) (Some signedness.Unsigned) true t h = with_type h (
 word_told : {G : Type 0} (w : Bytes) (k : IntWord) → word_by w ≡ Some k → (w ≡ text_of k → G) → G
 unfolding word_by
 word_told w k h go =
-    by_test (bytes_eq w (codes "char")) h (λ is h. go (text_is w _ is ∙ ap text_of (some_is h))) (λ _ h.
-    by_test (bytes_eq w (codes "short")) h (λ is h. go (text_is w _ is ∙ ap text_of (some_is h))) (λ _ h.
-    by_test (bytes_eq w (codes "int")) h (λ is h. go (text_is w _ is ∙ ap text_of (some_is h))) (λ _ h.
-    by_test (bytes_eq w (codes "long")) h (λ is h. go (text_is w _ is ∙ ap text_of (some_is h))) (λ _ h.
-    by_test (bytes_eq w (codes "signed")) h (λ is h. go (text_is w _ is ∙ ap text_of (some_is h))) (λ _ h.
-    by_test (bytes_eq w (codes "unsigned")) h (λ is h. go (text_is w _ is ∙ ap text_of (some_is h))) (λ _ h. absurd cc))))))
+    by_test (bytes_eq w (codes "char")) h (λ is h. go (same_bytes w _ is ∙ ap text_of (same_Some _ _ h))) (λ _ h.
+    by_test (bytes_eq w (codes "short")) h (λ is h. go (same_bytes w _ is ∙ ap text_of (same_Some _ _ h))) (λ _ h.
+    by_test (bytes_eq w (codes "int")) h (λ is h. go (same_bytes w _ is ∙ ap text_of (same_Some _ _ h))) (λ _ h.
+    by_test (bytes_eq w (codes "long")) h (λ is h. go (same_bytes w _ is ∙ ap text_of (same_Some _ _ h))) (λ _ h.
+    by_test (bytes_eq w (codes "signed")) h (λ is h. go (same_bytes w _ is ∙ ap text_of (same_Some _ _ h))) (λ _ h.
+    by_test (bytes_eq w (codes "unsigned")) h (λ is h. go (same_bytes w _ is ∙ ap text_of (same_Some _ _ h))) (λ _ h. absurd cc))))))
 
 text_told : (k : IntWord) → word_by (text_of k) ≡ Some k
 unfolding word_by
@@ -321,7 +321,7 @@ only_words [] w h isnt = refl
 only_words (v ∷ vs) w h isnt =
     by_test (is_int_word v) h
     (λ is h. by_cond (λ b. (if b then 1 else 0) + times w vs ≡ 0) (bytes_eq w v)
-    (λ same. let e : w ≡ v = text_is w v same in let f : is_int_word w ≡ is_int_word v = ap is_int_word e in absurd (let g : true ≡ false = sym is ∙ (sym f ∙ isnt) in cc))
+    (λ same. let e : w ≡ v = same_bytes w v same in let f : is_int_word w ≡ is_int_word v = ap is_int_word e in absurd (let g : true ≡ false = sym is ∙ (sym f ∙ isnt) in cc))
     (λ _. let e = only_words vs w h isnt in omega (arith, e)))
     (λ _ h. absurd cc)
 

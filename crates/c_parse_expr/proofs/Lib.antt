@@ -1,5 +1,4 @@
 pub mod Tests
-pub mod Turns
 pub mod IntLaws
 pub mod ExprLaws
 pub mod ExprSound

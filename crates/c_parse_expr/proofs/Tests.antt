@@ -1,6 +1,7 @@
 -- The steps of a parser, passed on to what follows.
-use Rattle.std.proofs.Common.{◌≡◌, ℕ, [], ◌∷◌, drop, refl, sym, ap, subst, ◌∙◌, cond, true, false, Bool, Ok, Err, not, ◌&&◌}
+use Rattle.std.proofs.Common.{◌≡◌, ℕ, [], ◌∷◌, drop, refl, sym, ap, subst, ◌∙◌, true, false, Ok, Err, not, ◌&&◌}
 use Rattle.std.proofs.lemmas.Bool.{and_parts, not-true}
+use Rattle.c_language.proofs.Tests.{by_test}
 use Rattle.c_language.specs.Words.{Bytes}
 use Rattle.c_language.specs.TokenForms.{Tokens, name, mark}
 use Rattle.c_language.specs.Sees.{is_kind, sees, is_keyword}
@@ -14,11 +15,6 @@ pub ok_parts : {A : Type 0} {a b : A} {r s : Tokens} → ◌≡◌ {A = Outcome 
 ok_parts {A} {a} {b} {r} {s} h =
     let e : ◌≡◌ {A = A × Tokens} (a, r) (b, s) = cc in
     (ap (λ (p : A × Tokens). p.0) e, ap (λ (p : A × Tokens). p.1) e)
-
--- The two outcomes of a test, and the one outcome of a step that went well, each passed to what follows.
-pub by_test : {A G : Type 0} {x y z : A} (b : Bool) → cond b x y ≡ z → (b ≡ true → x ≡ z → G) → (b ≡ false → y ≡ z → G) → G
-by_test true e is isnt = is refl e
-by_test false e is isnt = isnt refl e
 
 pub by_step : {A B G : Type 0} {y : B × Tokens} (r : Outcome A) (f : A → Parser B) → and_then r f ≡ Ok y → ((x : A) (ts : Tokens) → r ≡ Ok (x, ts) → f x ts ≡ Ok y → G) → G
 by_step (Ok p) f e go = go p.0 p.1 refl e

@@ -19,12 +19,13 @@ use Rattle.c_parse_expr.specs.IntReading.{int_type}
 use Rattle.c_parse_expr.specs.ExprReading.{nested}
 use Rattle.c_parse_expr.specs.TypeReading.{base, stars, fitting, with_length, lengths, sees_empty_length, empty_length, outer_lengths, declarator, param_name, param_length, param_end, param, params_from, params}
 use Rattle.c_parse_words.proofs.SeenTokens.{by_seen}
-use Rattle.c_parse_expr.proofs.Tests.{by_test, by_fault, by_expect, by_name, expect_fault, name_fault}
+use Rattle.c_parse_expr.proofs.Tests.{by_fault, by_expect, by_name, expect_fault, name_fault}
 use Rattle.c_parse_expr.proofs.IntLaws.{int_type_fault}
 use Rattle.c_parse_expr.proofs.ExprSound.{nested_sound}
 use Rattle.c_parse_expr.proofs.ExprDeep.{int_type_tokens, expr_tokens, nested_expr_deep}
 use Rattle.c_parse_expr.proofs.TypeLaws.{base_flat, stars_high}
 use Rattle.c_parse_expr.proofs.TypeSound.{base_sound, stars_sound, by_empty, param_name_sound, param_sound}
+use Rattle.c_language.proofs.Tests.{by_test}
 
 -- ---- each node has a token of its own
 

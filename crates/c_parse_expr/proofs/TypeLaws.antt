@@ -1,8 +1,9 @@
 -- Each type, declarator and list of parameters of the grammar is read, and those that nest too deep are refused for that.
-use Rattle.std.proofs.Common.{◌≡◌, ℕ, zero, suc, ◌+◌, ◌-◌, ◌≤◌, ◌<◌, List, [], ◌∷◌, ◌++◌, length, drop, refl, sym, ap, subst, ◌∙◌, arith, Bool, true, false, ◌&&◌, ◌||◌, Option, Some, None, Ok, Err, codes, inl, inr}
+use Rattle.std.proofs.Common.{◌≡◌, ℕ, zero, suc, ◌+◌, ◌-◌, ◌≤◌, ◌<◌, List, [], ◌∷◌, ◌++◌, length, drop, refl, sym, ap, subst, ◌∙◌, arith, Bool, true, false, ◌||◌, Option, Some, None, Ok, Err, codes, inl, inr}
 use Rattle.std.specs.Str.{bytes_eq}
-use Rattle.std.proofs.lemmas.Bool.{cases_lt, cases_Bool, and_parts, or_right}
+use Rattle.std.proofs.lemmas.Bool.{cases_lt, cases_Bool, and_parts, or_right, and_right}
 use Rattle.std.proofs.lemmas.Bool.Decides.{nat_tests}
+use Rattle.std.proofs.lemmas.List.{append-nil}
 use Rattle.c_tree.specs.declared.raw.expr.RawExpr.{RawExpr}
 use Rattle.c_tree.specs.declared.raw.expr.RawLength.TheVariants.{Written, Listed}
 use Rattle.c_tree.specs.declared.raw.expr.RawType.{RawType}
@@ -22,10 +23,11 @@ use Rattle.c_language.proofs.NestingLemmas.{type_nesting-Integer, type_nesting-P
 use Rattle.c_parse_expr.specs.Outcome.{Parser, and_then, Deep, expect}
 use Rattle.c_parse_expr.specs.ExprReading.{goes_on, suffix, suffix_by, infix_by, logical, comparison, arithmetic, multiplies_size, nested}
 use Rattle.c_parse_expr.specs.TypeReading.{base, stars, star_count, type_name, fitting, with_length, lengths, sees_empty_length, empty_length, outer_lengths, declarator, param_name, param_length, param_end, param, params_from, params}
-use Rattle.c_parse_words.proofs.SeenTokens.{text_is, of_kind_is}
+use Rattle.c_parse_words.proofs.SeenTokens.{of_kind_is}
 use Rattle.c_parse_expr.proofs.Tests.{read_name_at}
 use Rattle.c_parse_expr.proofs.IntLaws.{int_type_read, int_type_shorter, int_type_begins}
 use Rattle.c_parse_expr.proofs.ExprLaws.{begins_expr, shorter, Exact, nested_exact}
+use Rattle.c_language.proofs.Lists.{same_bytes}
 
 -- ---- the tests that a parser makes where a type begins
 
@@ -39,7 +41,7 @@ pub record BeginsType (ts : Tokens) : Type 0 where
 
 other_type_word : (w text : Bytes) → is_type_word w ≡ true → is_type_word text ≡ false → bytes_eq w text ≡ false
 other_type_word w text h k = elim (cases_Bool (bytes_eq w text)) [
-  | inl is ↦ let e : is_type_word w ≡ is_type_word text = ap is_type_word (text_is w text is) in absurd (let f : true ≡ false = sym h ∙ (e ∙ k) in cc)
+  | inl is ↦ let e : is_type_word w ≡ is_type_word text = ap is_type_word (same_bytes w text is) in absurd (let f : true ≡ false = sym h ∙ (e ∙ k) in cc)
   | inr isnt ↦ isnt
 ]
 
@@ -58,19 +60,15 @@ int_word_begins (t ∷ ts) h =
     let parts = and_parts (is_kind Name t) (is_int_word t.text) h in
     subst (λ (u : Token). BeginsType (u ∷ ts)) (of_kind_is Name t parts.0) (word_begins t.text t.line ts (or_right (bytes_eq t.text (codes "struct")) (is_int_word t.text) parts.1))
 
-and_false : (b : Bool) → (b && false) ≡ false
-and_false true = refl
-and_false false = refl
-
 -- an integer type begins with no other word
-no_struct : (ts : Tokens) → sees_int_word ts ≡ true → sees Name (codes "struct") ts ≡ false
+pub no_struct : (ts : Tokens) → sees_int_word ts ≡ true → sees Name (codes "struct") ts ≡ false
 unfolding sees_int_word sees
 no_struct [] h = absurd cc
 no_struct (t ∷ ts) h =
     let parts = and_parts (is_kind Name t) (is_int_word t.text) h in
     elim (cases_Bool (bytes_eq t.text (codes "struct"))) [
-      | inl is ↦ let e : is_int_word t.text ≡ is_int_word (codes "struct") = ap is_int_word (text_is t.text (codes "struct") is) in absurd (let f : true ≡ false = sym parts.1 ∙ e in cc)
-      | inr isnt ↦ rw isnt (and_false (is_kind Name t))
+      | inl is ↦ let e : is_int_word t.text ≡ is_int_word (codes "struct") = ap is_int_word (same_bytes t.text (codes "struct") is) in absurd (let f : true ≡ false = sym parts.1 ∙ e in cc)
+      | inr isnt ↦ rw isnt (and_right (is_kind Name t) false refl)
     ]
 
 pub begins_base : {ts rest : Tokens} {a : RawType} → IsBase ts a rest → BeginsType ts
@@ -398,10 +396,6 @@ pub append_one : (found : List RawParam) (p : RawParam) (ps : List RawParam) →
 append_one [] p ps = refl
 append_one (x ∷ xs) p ps = ap (λ ys. x ∷ ys) (append_one xs p ps)
 
-pub append_none : (found : List RawParam) → found ++ [] ≡ found
-append_none [] = refl
-append_none (x ∷ xs) = ap (λ ys. x ∷ ys) (append_none xs)
-
 params_closed : (depth turns l : ℕ) (found : List RawParam) (ts : Tokens) → params_from depth (suc turns) found (mark (codes ")") l ∷ ts) ≡ Ok (found, ts)
 unfolding params_from sees
 params_closed depth turns l found ts = refl
@@ -418,7 +412,7 @@ record MoreRead (depth turns : ℕ) (found : List RawParam) (ts : Tokens) (ps : 
 more_exact : {ts rest : Tokens} {ps : List RawParam} → IsMoreParams ts ps rest → (depth turns : ℕ) (found : List RawParam) → length ts ≤ turns → MoreRead depth turns found ts ps rest
 more_exact (IsMoreParams.closed {l} {rest}) depth zero found enough = absurd (omega arith)
 more_exact (IsMoreParams.closed {l} {rest}) depth (suc turns) found enough =
-    record { fits = λ q. params_closed depth turns l found rest ∙ ap (λ (ps : List RawParam). Ok (ps, rest)) (sym (append_none found)); deep = λ q. absurd (omega arith) }
+    record { fits = λ q. params_closed depth turns l found rest ∙ ap (λ (ps : List RawParam). Ok (ps, rest)) (sym (append-nil found)); deep = λ q. absurd (omega arith) }
 more_exact (IsMoreParams.more {l} {ts} {mid} {rest} {p} {ps} h k) depth zero found enough = absurd (omega arith)
 more_exact (IsMoreParams.more {l} {ts} {mid} {rest} {p} {ps} h k) depth (suc turns) found enough =
     let one = param_exact h depth in

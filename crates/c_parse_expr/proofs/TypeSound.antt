@@ -2,6 +2,7 @@
 use Rattle.std.proofs.Common.{◌≡◌, ℕ, zero, suc, ◌+◌, ◌≤◌, ◌<◌, List, [], ◌∷◌, ◌++◌, length, drop, refl, sym, ap, subst, ◌∙◌, arith, true, false, Option, Some, Ok, codes, inl, inr, nat_le, nat_lt}
 use Rattle.std.specs.Str.{bytes_eq}
 use Rattle.std.proofs.lemmas.Bool.{cases_Bool, and_parts, leb-true, ltb-true}
+use Rattle.std.proofs.lemmas.List.{append-nil}
 use Rattle.c_tree.specs.declared.raw.expr.RawExpr.{RawExpr}
 use Rattle.c_tree.specs.declared.raw.expr.RawLength.TheVariants.{Written, Listed}
 use Rattle.c_tree.specs.declared.raw.expr.RawType.{RawType}
@@ -22,11 +23,13 @@ use Rattle.c_parse_expr.specs.Outcome.{expect, read_name}
 use Rattle.c_parse_expr.specs.IntReading.{int_type}
 use Rattle.c_parse_expr.specs.ExprReading.{nested}
 use Rattle.c_parse_expr.specs.TypeReading.{base, stars, star_count, type_name, fitting, with_length, lengths, sees_empty_length, empty_length, outer_lengths, declarator, param_name, param_length, param_end, param, params_from, params}
-use Rattle.c_parse_words.proofs.SeenTokens.{by_seen, text_is, of_kind_is}
-use Rattle.c_parse_expr.proofs.Tests.{by_test, by_step, by_expect, by_name, ok_parts, with_parts}
+use Rattle.c_parse_words.proofs.SeenTokens.{by_seen, of_kind_is}
+use Rattle.c_parse_expr.proofs.Tests.{by_step, by_expect, by_name, ok_parts, with_parts}
 use Rattle.c_parse_expr.proofs.IntLaws.{int_type_sound}
 use Rattle.c_parse_expr.proofs.ExprSound.{nested_sound}
-use Rattle.c_parse_expr.proofs.TypeLaws.{base_flat, append_one, append_none}
+use Rattle.c_parse_expr.proofs.TypeLaws.{base_flat, append_one}
+use Rattle.c_language.proofs.Lists.{same_bytes}
+use Rattle.c_language.proofs.Tests.{by_test}
 
 pub base_sound : (ts rest : Tokens) (a : RawType) → base ts ≡ Ok (a, rest) → IsBase ts a rest
 unfolding base
@@ -125,8 +128,8 @@ by_empty (t ∷ (u ∷ ts)) h go =
     let parts = and_parts (is_some_token Mark (codes "[") (Some t)) (is_some_token Mark (codes "]") (Some u)) h in
     let one = and_parts (is_kind Mark t) (bytes_eq t.text (codes "[")) parts.0 in
     let two = and_parts (is_kind Mark u) (bytes_eq u.text (codes "]")) parts.1 in
-    let t_is : t ≡ mark (codes "[") t.line = sym (of_kind_is Mark t one.0) ∙ ap (λ (w : Bytes). mark w t.line) (text_is t.text (codes "[") one.1) in
-    let u_is : u ≡ mark (codes "]") u.line = sym (of_kind_is Mark u two.0) ∙ ap (λ (w : Bytes). mark w u.line) (text_is u.text (codes "]") two.1) in
+    let t_is : t ≡ mark (codes "[") t.line = sym (of_kind_is Mark t one.0) ∙ ap (λ (w : Bytes). mark w t.line) (same_bytes t.text (codes "[") one.1) in
+    let u_is : u ≡ mark (codes "]") u.line = sym (of_kind_is Mark u two.0) ∙ ap (λ (w : Bytes). mark w u.line) (same_bytes u.text (codes "]") two.1) in
     go t.line u.line ts (ap (λ (x : Token). x ∷ (u ∷ ts)) t_is ∙ ap (λ (x : Token). mark (codes "[") t.line ∷ (x ∷ ts)) u_is)
 
 empty_sound : (depth l m : ℕ) (ts rest : Tokens) (a b : RawType) → empty_length depth a ts ≡ Ok (b, rest) → OuterSound depth (mark (codes "[") l ∷ mark (codes "]") m ∷ ts) a b rest
@@ -248,7 +251,7 @@ more_sound depth (suc turns) found all ts rest h =
     by_test (sees Mark (codes ")") ts) h
     (λ is h. by_seen Mark (codes ")") ts is (λ l mid at.
     let e : drop 1 ts ≡ mid = ap (drop 1) at in
-    let here : MoreSound depth found (mark (codes ")") l ∷ mid) found (drop 1 ts) = rw e (record { ps = []; is = IsMoreParams.closed; low = omega arith; same = append_none found }) in
+    let here : MoreSound depth found (mark (codes ")") l ∷ mid) found (drop 1 ts) = rw e (record { ps = []; is = IsMoreParams.closed; low = omega arith; same = append-nil found }) in
     rw at (with_parts (λ (x : List RawParam) r. MoreSound depth found (mark (codes ")") l ∷ mid) x r) h here)))
     (λ _ h. by_step (expect (codes ",") ts) _ h (λ u after parted h.
     by_expect (codes ",") ts after u parted (λ l at.

@@ -11,8 +11,10 @@ use Rattle.c_language.specs.declared.token.TokenKind.{TokenKind}
 use Rattle.c_language.specs.declared.token.TokenKind.TheVariants.{Name, Number, Character, Str, Mark, Include, Directive}
 use Rattle.c_parse_left_out.specs.Naming.{names_operand, names_word, names_struct, names_operator, names_mark, names_by, names}
 use Rattle.c_parse_left_out.specs.Places.{IsWithoutProductionAt}
-use Rattle.c_parse_words.proofs.SeenTokens.{text_is, sees_is, by_seen, of_kind_is}
-use Rattle.c_parse_left_out.proofs.TellingLaws.{by_if, by_or}
+use Rattle.c_parse_words.proofs.SeenTokens.{sees_is, by_seen, of_kind_is}
+use Rattle.c_parse_left_out.proofs.TellingLaws.{by_if}
+use Rattle.c_language.proofs.Lists.{same_bytes}
+use Rattle.c_language.proofs.Tests.{by_or}
 
 operand_is : (w : Bytes) (l : ℕ) (before behind : Tokens) → names_operand w before behind ≡ true → IsWithoutProduction before (name w l) behind
 unfolding names_operand
@@ -30,17 +32,17 @@ operand_is w l before behind h =
 word_is : (w : Bytes) (l : ℕ) (before behind : Tokens) → names_word w before behind ≡ true → IsWithoutProduction before (name w l) behind
 unfolding names_word
 word_is w l before behind h = by_if (bytes_eq w (codes "break")) _ _ h
-    (λ is h. subst (λ (v : Bytes). IsWithoutProduction before (name v l) behind) (sym (text_is w _ is)) (IsWithoutProduction.early_break (not-true _ h)))
+    (λ is h. subst (λ (v : Bytes). IsWithoutProduction before (name v l) behind) (sym (same_bytes w _ is)) (IsWithoutProduction.early_break (not-true _ h)))
     (λ _ h. by_if (bytes_eq w (codes "long")) _ _ h
-    (λ is h. subst (λ (v : Bytes). IsWithoutProduction before (name v l) behind) (sym (text_is w _ is)) (IsWithoutProduction.second_long h))
+    (λ is h. subst (λ (v : Bytes). IsWithoutProduction before (name v l) behind) (sym (same_bytes w _ is)) (IsWithoutProduction.second_long h))
     (λ _ h. by_if (bytes_eq w (codes "static")) _ _ h
-    (λ is h. let parts = and_parts (not (open_braces before == 0)) _ h in subst (λ (v : Bytes). IsWithoutProduction before (name v l) behind) (sym (text_is w _ is)) (IsWithoutProduction.inner_static (not-true _ parts.0) (not-true _ parts.1)))
+    (λ is h. let parts = and_parts (not (open_braces before == 0)) _ h in subst (λ (v : Bytes). IsWithoutProduction before (name v l) behind) (sym (same_bytes w _ is)) (IsWithoutProduction.inner_static (not-true _ parts.0) (not-true _ parts.1)))
     (λ _ h. by_if (bytes_eq w (codes "sizeof")) _ _ h
-    (λ is h. subst (λ (v : Bytes). IsWithoutProduction before (name v l) behind) (sym (text_is w _ is)) (IsWithoutProduction.other_size (not-true _ h)))
+    (λ is h. subst (λ (v : Bytes). IsWithoutProduction before (name v l) behind) (sym (same_bytes w _ is)) (IsWithoutProduction.other_size (not-true _ h)))
     (λ _ h. by_if (bytes_eq w (codes "void")) _ _ h
-    (λ is h. subst (λ (v : Bytes). IsWithoutProduction before (name v l) behind) (sym (text_is w _ is)) (IsWithoutProduction.other_void (not-true _ h)))
+    (λ is h. subst (λ (v : Bytes). IsWithoutProduction before (name v l) behind) (sym (same_bytes w _ is)) (IsWithoutProduction.other_void (not-true _ h)))
     (λ _ h. by_if (bytes_eq w (codes "for")) _ _ h
-    (λ is h. subst (λ (v : Bytes). IsWithoutProduction before (name v l) behind) (sym (text_is w _ is)) (IsWithoutProduction.endless_for h))
+    (λ is h. subst (λ (v : Bytes). IsWithoutProduction before (name v l) behind) (sym (same_bytes w _ is)) (IsWithoutProduction.endless_for h))
     (λ _ h. operand_is w l before behind h))))))
 
 by_tag : {G : Type 0} (before : Tokens) → is_some_kind Name (slice_get before 0) ≡ true → sees_second Name (codes "struct") before ≡ true
@@ -71,20 +73,20 @@ operator_is w l before behind h = by_if (is_assignment_sign w) _ _ h
 mark_is : (w : Bytes) (l : ℕ) (before behind : Tokens) → names_mark w before behind ≡ true → IsWithoutProduction before (mark w l) behind
 unfolding names_mark
 mark_is w l before behind h = by_if (bytes_eq w (codes "(")) _ _ h
-    (λ is h. subst (λ (v : Bytes). IsWithoutProduction before (mark v l) behind) (sym (text_is w _ is)) (by_or (is_pointer_call before) _ h (λ p. IsWithoutProduction.pointer_call p) (λ d. IsWithoutProduction.paren_declarator d)))
+    (λ is h. subst (λ (v : Bytes). IsWithoutProduction before (mark v l) behind) (sym (same_bytes w _ is)) (by_or (is_pointer_call before) _ h (λ p. IsWithoutProduction.pointer_call p) (λ d. IsWithoutProduction.paren_declarator d)))
     (λ _ h. by_if (bytes_eq w (codes ",")) _ _ h
-    (λ is h. subst (λ (v : Bytes). IsWithoutProduction before (mark v l) behind) (sym (text_is w _ is)) (IsWithoutProduction.comma h))
+    (λ is h. subst (λ (v : Bytes). IsWithoutProduction before (mark v l) behind) (sym (same_bytes w _ is)) (IsWithoutProduction.comma h))
     (λ _ h. by_if (bytes_eq w (codes ":")) _ _ h
-    (λ is h. subst (λ (v : Bytes). IsWithoutProduction before (mark v l) behind) (sym (text_is w _ is)) (IsWithoutProduction.bit_field h))
+    (λ is h. subst (λ (v : Bytes). IsWithoutProduction before (mark v l) behind) (sym (same_bytes w _ is)) (IsWithoutProduction.bit_field h))
     (λ _ h. by_if (bytes_eq w (codes "*")) _ _ h
-    (λ is h. let parts = and_parts (opens_cast before) _ h in subst (λ (v : Bytes). IsWithoutProduction before (mark v l) behind) (sym (text_is w _ is)) (IsWithoutProduction.pointer_cast parts.0 parts.1))
+    (λ is h. let parts = and_parts (opens_cast before) _ h in subst (λ (v : Bytes). IsWithoutProduction before (mark v l) behind) (sym (same_bytes w _ is)) (IsWithoutProduction.pointer_cast parts.0 parts.1))
     (λ _ h. by_if (bytes_eq w (codes "[")) _ _ h
     (λ is h.
     let parts = and_parts (sees Mark (codes "]") before) _ h in
-    subst (λ (v : Bytes). IsWithoutProduction before (mark v l) behind) (sym (text_is w _ is))
+    subst (λ (v : Bytes). IsWithoutProduction before (mark v l) behind) (sym (same_bytes w _ is))
     (by_seen Mark (codes "]") before parts.0 (λ m rest e. subst (λ (b : Tokens). IsWithoutProduction b (mark (codes "[") l) behind) (sym e) (IsWithoutProduction.second_length (ap is_in_param (sym e) ∙ parts.1)))))
     (λ _ h. by_if (bytes_eq w (codes "{")) _ _ h
-    (λ is h. subst (λ (v : Bytes). IsWithoutProduction before (mark v l) behind) (sym (text_is w _ is)) (struct_is l before behind h))
+    (λ is h. subst (λ (v : Bytes). IsWithoutProduction before (mark v l) behind) (sym (same_bytes w _ is)) (struct_is l before behind h))
     (λ _ h. operator_is w l before behind h))))))
 
 kind_is_named : (kind : TokenKind) (w : Bytes) (l : ℕ) (before behind : Tokens) → names_by kind w before behind ≡ true → IsWithoutProduction before (of_kind kind w l) behind

@@ -1,5 +1,5 @@
 -- Tokens at a place of a list, those before it, the nearest first, and those behind it.
-use Rattle.std.proofs.Common.{◌≡◌, ℕ, zero, suc, ◌+◌, ◌≤◌, List, [], ◌∷◌, ◌++◌, length, take, drop, reverse, refl, sym, ap, ◌∙◌, arith, true, false, Some, None, codes}
+use Rattle.std.proofs.Common.{◌≡◌, ℕ, zero, suc, ◌+◌, [], ◌∷◌, ◌++◌, take, drop, reverse, refl, sym, ap, ◌∙◌, arith, false, codes}
 use Rattle.std.proofs.lemmas.List.{reverse-append}
 use Rattle.c_language.specs.TokenForms.{Tokens}
 use Rattle.c_language.specs.Sees.{is_token}
@@ -7,8 +7,6 @@ use Rattle.c_language.specs.LeftOut.{open_braces, behind_semicolon}
 use Rattle.c_language.specs.declared.token.Token.{Token}
 use Rattle.c_language.specs.declared.token.TokenKind.TheVariants.{Mark}
 use Rattle.c_parse_left_out.specs.Telling.{told, first_told, braces_behind}
-
--- ---- counted back
 
 -- ---- one token further
 
@@ -36,10 +34,6 @@ behind_next at ts t behind h =
 
 -- ---- looking for a construct
 
-pub told_here : (at : ℕ) (ts : Tokens) (t : Token) (behind : Tokens) → drop at ts ≡ t ∷ behind → told (reverse (take at ts)) t behind ≡ true → first_told at (reverse (take at ts)) (drop at ts) ≡ Some at
-unfolding first_told
-told_here at ts t behind h is = ap (first_told at (reverse (take at ts))) h ∙ rw is refl
-
 pub told_later : (at : ℕ) (ts : Tokens) (t : Token) (behind : Tokens) → drop at ts ≡ t ∷ behind → told (reverse (take at ts)) t behind ≡ false
     → first_told at (reverse (take at ts)) (drop at ts) ≡ first_told (at + 1) (reverse (take (at + 1) ts)) (drop (at + 1) ts)
 unfolding first_told
@@ -50,28 +44,8 @@ pub open_next : (at : ℕ) (ts : Tokens) (t : Token) (behind : Tokens) (n : ℕ)
 unfolding open_braces
 open_next at ts t behind n h e = ap (braces_behind t) e ∙ ap open_braces (sym (before_next at ts t behind h))
 
-pub nowhere : (ts : Tokens) (at : ℕ) (before : Tokens) → drop at ts ≡ [] → first_told at before (drop at ts) ≡ None
-unfolding first_told
-nowhere ts at before h = ap (first_told at before) h
-
 -- ---- behind the first semicolon
-
-pub semicolon_here : (at : ℕ) (ts : Tokens) (t : Token) (behind : Tokens) → drop at ts ≡ t ∷ behind → is_token Mark (codes ";") t ≡ true → behind_semicolon (drop at ts) ≡ behind
-unfolding behind_semicolon
-semicolon_here at ts t behind h is = ap behind_semicolon h ∙ rw is refl
 
 pub semicolon_later : (at : ℕ) (ts : Tokens) (t : Token) (behind : Tokens) → drop at ts ≡ t ∷ behind → is_token Mark (codes ";") t ≡ false → behind_semicolon (drop at ts) ≡ behind_semicolon behind
 unfolding behind_semicolon
 semicolon_later at ts t behind h isnt = ap behind_semicolon h ∙ rw isnt refl
-
--- ---- at the end
-
-pub drop_all : {A : Type 0} (n : ℕ) (xs : List A) → length xs ≤ n → drop n xs ≡ []
-drop_all zero [] p = refl
-drop_all zero (x ∷ xs) p = absurd (omega (arith, p))
-drop_all (suc n) [] p = refl
-drop_all (suc n) (x ∷ xs) p = drop_all n xs (omega (arith, p))
-
-pub no_semicolon : (at : ℕ) (ts : Tokens) → length ts ≤ at → behind_semicolon (drop at ts) ≡ []
-unfolding behind_semicolon
-no_semicolon at ts p = ap behind_semicolon (drop_all at ts p)

@@ -1,8 +1,8 @@
 -- What is looked for among the tokens is found where it stands.
-use Rattle.std.proofs.Common.{◌≡◌, ℕ, ◌+◌, [], ◌∷◌, ◌++◌, append-nil, append_assoc, length, reverse, refl, sym, ap, subst, ◌∙◌, arith, true, false, Bool, ◌||◌, not, Option, Some, None, codes, inl, inr, ◌==◌, if◌then◌else◌}
+use Rattle.std.proofs.Common.{◌≡◌, ℕ, ◌+◌, [], ◌∷◌, ◌++◌, append-nil, length, reverse, refl, sym, ap, subst, ◌∙◌, arith, true, false, Bool, ◌||◌, Option, Some, None, codes, inl, inr, ◌==◌, if◌then◌else◌}
 use Rattle.std.specs.Str.{bytes_eq}
-use Rattle.std.proofs.lemmas.Bool.{cases_Bool, and_parts}
-use Rattle.std.proofs.lemmas.Grind.{reverse_onto}
+use Rattle.std.proofs.lemmas.Bool.{cases_Bool, and_parts, or_right, not-true}
+use Rattle.c_language.proofs.Tests.{by_or}
 use Rattle.c_language.specs.Words.{Bytes}
 use Rattle.c_language.specs.TokenForms.{Tokens, of_kind, name, mark}
 use Rattle.c_language.specs.LeftOut.{is_left_out_word, open_braces, names_function, begins_param, IsTold, BeginsLeftOut}
@@ -11,51 +11,39 @@ use Rattle.c_language.specs.declared.token.TokenKind.{TokenKind}
 use Rattle.c_language.specs.declared.token.TokenKind.TheVariants.{Name, Number, Character, Str, Mark, Include, Directive}
 use Rattle.c_parse_left_out.specs.Telling.{told_word, told_by, told, first_told}
 use Rattle.c_parse_left_out.specs.Places.{IsToldAt, IsLeftOutAt}
-use Rattle.c_parse_words.proofs.SeenTokens.{text_is}
-
-not_false : (b : Bool) → not b ≡ true → b ≡ false
-not_false true h = cc
-not_false false h = refl
+use Rattle.c_language.proofs.Lists.{same_bytes, reversed}
 
 pub by_if : {G : Type 0} (b : Bool) (x y : Bool) → (if b then x else y) ≡ true → (b ≡ true → x ≡ true → G) → (b ≡ false → y ≡ true → G) → G
 by_if true x y h yes_ no_ = yes_ refl h
 by_if false x y h yes_ no_ = no_ refl h
-
-pub by_or : {G : Type 0} (a b : Bool) → (a || b) ≡ true → (a ≡ true → G) → (b ≡ true → G) → G
-by_or true b h left right = left refl
-by_or false b h left right = right h
 
 word_is : (w : Bytes) (l : ℕ) (before behind : Tokens) → told_word w before behind ≡ true → IsTold before (name w l) behind
 unfolding told_word
 word_is w l before behind h = by_if (is_left_out_word w) _ _ h
     (λ is _. IsTold.word is)
     (λ _ h. by_if (bytes_eq w (codes "return")) _ _ h
-    (λ is h. subst (λ v. IsTold before (name v l) behind) (sym (text_is w _ is)) (IsTold.early_return (not_false _ h)))
+    (λ is h. subst (λ v. IsTold before (name v l) behind) (sym (same_bytes w _ is)) (IsTold.early_return (not-true _ h)))
     (λ _ h. by_if (bytes_eq w (codes "case") || bytes_eq w (codes "default")) _ _ h
     (λ is h. by_or (bytes_eq w (codes "case")) _ is
-    (λ is. subst (λ v. IsTold before (name v l) behind) (sym (text_is w _ is)) (IsTold.fallen_into_case (not_false _ h)))
-    (λ is. subst (λ v. IsTold before (name v l) behind) (sym (text_is w _ is)) (IsTold.fallen_into_default (not_false _ h))))
+    (λ is. subst (λ v. IsTold before (name v l) behind) (sym (same_bytes w _ is)) (IsTold.fallen_into_case (not-true _ h)))
+    (λ is. subst (λ v. IsTold before (name v l) behind) (sym (same_bytes w _ is)) (IsTold.fallen_into_default (not-true _ h))))
     (λ _ h. by_if (bytes_eq w (codes "struct")) _ _ h
     (λ is h. by_or (names_function behind) _ h
-    (λ f. subst (λ v. IsTold before (name v l) behind) (sym (text_is w _ is)) (IsTold.struct_result f))
-    (λ p. let outer = and_parts (open_braces before == 0) _ p in let parts = and_parts (begins_param before) _ outer.1 in subst (λ v. IsTold before (name v l) behind) (sym (text_is w _ is)) (IsTold.struct_param outer.0 parts.0 parts.1)))
+    (λ f. subst (λ v. IsTold before (name v l) behind) (sym (same_bytes w _ is)) (IsTold.struct_result f))
+    (λ p. let outer = and_parts (open_braces before == 0) _ p in let parts = and_parts (begins_param before) _ outer.1 in subst (λ v. IsTold before (name v l) behind) (sym (same_bytes w _ is)) (IsTold.struct_param outer.0 parts.0 parts.1)))
     (λ _ h. absurd cc))))
 
 told_kind : (kind : TokenKind) (w : Bytes) (l : ℕ) (before behind : Tokens) → told_by kind w before behind ≡ true → IsTold before (of_kind kind w l) behind
 told_kind Name w l before behind h = word_is w l before behind h
 told_kind Number w l before behind h = absurd cc
 told_kind Character w l before behind h = absurd cc
-told_kind Str w l before behind h = IsTold.other_string (not_false _ h)
-told_kind Mark w l before behind h = subst (λ v. IsTold before (mark v l) behind) (sym (text_is w _ h)) IsTold.ellipsis
+told_kind Str w l before behind h = IsTold.other_string (not-true _ h)
+told_kind Mark w l before behind h = subst (λ v. IsTold before (mark v l) behind) (sym (same_bytes w _ h)) IsTold.ellipsis
 told_kind Include w l before behind h = absurd cc
 told_kind Directive w l before behind h = IsTold.preprocessing
 
 told_is : (before : Tokens) (t : Token) (behind : Tokens) → told before t behind ≡ true → IsTold before t behind
 told_is before t behind h = told_kind t.kind t.text t.line before behind h
-
-or_right : (a : Bool) → (a || true) ≡ true
-or_right true = refl
-or_right false = refl
 
 -- each construct is told
 pub told_true : {before behind : Tokens} {t : Token} → IsTold before t behind → told before t behind ≡ true
@@ -68,7 +56,7 @@ told_true (IsTold.fallen_into_case h) = rw h refl
 told_true (IsTold.fallen_into_default h) = rw h refl
 told_true (IsTold.other_string h) = rw h refl
 told_true (IsTold.struct_result h) = rw h refl
-told_true (IsTold.struct_param {behind} o h k) = rw (o, h, k) (or_right (names_function behind))
+told_true (IsTold.struct_param {behind} o h k) = rw (o, h, k) (or_right (names_function behind) true refl)
 
 -- what is found
 record Found (at k : ℕ) (before ts : Tokens) : Type 0 where
@@ -79,9 +67,6 @@ record Found (at k : ℕ) (before ts : Tokens) : Type 0 where
   place : k ≡ at + length front
   is : told (reverse front ++ before) token behind ≡ true
 
-onto : (t : Token) (front before : Tokens) → reverse (t ∷ front) ++ before ≡ reverse front ++ (t ∷ before)
-onto t front before = ap (λ x. x ++ before) (reverse_onto front t []) ∙ append_assoc (reverse front) (t ∷ []) before
-
 find_some : (at k : ℕ) (before ts : Tokens) → first_told at before ts ≡ Some k → Found at k before ts
 unfolding first_told
 find_some at k before [] h = absurd cc
@@ -89,7 +74,7 @@ find_some at k before (t ∷ ts) h = elim (cases_Bool (told before t ts)) [
   | inl is ↦ let e : Some at ≡ Some k = sym (rw is refl) ∙ h in let f : at ≡ k = cc in record { front = []; token = t; behind = ts; split = refl; place = omega (arith, f); is = is }
   | inr isnt ↦ let e : first_told (at + 1) (t ∷ before) ts ≡ Some k = rw isnt at h in
       let x = find_some (at + 1) k (t ∷ before) ts e in
-      record { front = t ∷ x.front; token = x.token; behind = x.behind; split = ap (λ r. t ∷ r) x.split; place = omega (arith, x.place); is = ap (λ b. told b x.token x.behind) (onto t x.front before) ∙ x.is }
+      record { front = t ∷ x.front; token = x.token; behind = x.behind; split = ap (λ r. t ∷ r) x.split; place = omega (arith, x.place); is = ap (λ b. told b x.token x.behind) (reversed t x.front before) ∙ x.is }
 ]
 
 none_found : (at : ℕ) (other : Option ℕ) (b : Bool) → (if b then Some at else other) ≡ None → b ≡ true → ⊥
@@ -115,7 +100,7 @@ find_none at before (s ∷ ts) (u ∷ front) t behind h e =
       | inr isnt ↦
           let next : first_told (at + 1) (s ∷ before) ts ≡ None = rw isnt at h in
           let x = find_none (at + 1) (s ∷ before) ts front t behind next tail in
-          ap (λ v. told (reverse (v ∷ front) ++ before) t behind) (sym head) ∙ (ap (λ b. told b t behind) (onto s front before) ∙ x)
+          ap (λ v. told (reverse (v ∷ front) ++ before) t behind) (sym head) ∙ (ap (λ b. told b t behind) (reversed s front before) ∙ x)
     ]
 
 pub told_at : (k : ℕ) (ts : Tokens) → first_told 0 [] ts ≡ Some k → IsToldAt ts k

@@ -151,18 +151,23 @@ pub fn is_closing(token: &Token) -> bool
         && (text == b")".as_slice() || text == b"]".as_slice() || text == b"}".as_slice())
 }
 
+/// Whether a word is one of those of the integer types.
+fn is_word_of_integers(word: &[u8]) -> bool
+    ensures { result ≡ words.is_int_word word.now }
+{
+    word == b"char".as_slice()
+        || word == b"short".as_slice()
+        || word == b"int".as_slice()
+        || word == b"long".as_slice()
+        || word == b"signed".as_slice()
+        || word == b"unsigned".as_slice()
+}
+
 /// Whether a word of an integer type stands here.
 pub fn is_int_word(token: &Token) -> bool
     ensures { result ≡ (language.is_kind TokenKind.Name token.now && words.is_int_word token.now.text) }
 {
-    let word = token.text.bytes();
-    token.kind == TokenKind::Name
-        && (word == b"char".as_slice()
-            || word == b"short".as_slice()
-            || word == b"int".as_slice()
-            || word == b"long".as_slice()
-            || word == b"signed".as_slice()
-            || word == b"unsigned".as_slice())
+    token.kind == TokenKind::Name && is_word_of_integers(token.text.bytes())
 }
 
 /// The innermost bracket that is open, and the tokens before it.

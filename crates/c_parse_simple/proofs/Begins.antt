@@ -1,7 +1,7 @@
 -- What the tests of a parser say where an expression begins.
 use Rattle.std.proofs.Common.{◌≡◌, ℕ, [], ◌∷◌, refl, sym, ap, ◌∙◌, Bool, true, false, ◌||◌, None, codes, inl, inr}
 use Rattle.std.specs.Str.{bytes_eq}
-use Rattle.std.proofs.lemmas.Bool.{cases_Bool}
+use Rattle.std.proofs.lemmas.Bool.{cases_Bool, or_parts}
 use Rattle.c_arith.specs.declared.int_type.IntType.{IntType}
 use Rattle.c_tree.specs.declared.raw.expr.RawExpr.{RawExpr}
 use Rattle.c_language.specs.Words.{Bytes}
@@ -23,19 +23,15 @@ use Rattle.c_parse_expr.specs.Outcome.{refused}
 use Rattle.c_parse_expr.specs.IntReading.{word_by, next_word, words_from, named_type, int_type}
 use Rattle.c_parse_expr.specs.TypeReading.{begins_type, base}
 use Rattle.c_parse_simple.specs.SimpleReading.{string_at, sees_call, sees_cast, ends_in_star}
-use Rattle.c_parse_words.proofs.SeenTokens.{text_is, by_seen}
 use Rattle.c_parse_expr.proofs.IntLaws.{int_type_read, int_type_begins}
+use Rattle.c_language.proofs.Lists.{same_bytes}
+use Rattle.c_parse_expr.proofs.TypeLaws.{no_struct}
+use Rattle.c_language.proofs.Keywords.{no_keyword, no_int_word, null_free, eof_free}
 
 -- a word that passes a test is none that fails it
 pub apart_by : (test : Bytes → Bool) (w text : Bytes) → test w ≡ true → test text ≡ false → bytes_eq w text ≡ false
 apart_by test w text h k = elim (cases_Bool (bytes_eq w text)) [
-  | inl is ↦ let e : test w ≡ test text = ap test (text_is w text is) in absurd (let f : true ≡ false = sym h ∙ (e ∙ k) in cc)
-  | inr isnt ↦ isnt
-]
-
-pub no_word : (w text : Bytes) → is_keyword w ≡ false → is_keyword text ≡ true → bytes_eq w text ≡ false
-no_word w text h k = elim (cases_Bool (bytes_eq w text)) [
-  | inl is ↦ let e : is_keyword w ≡ is_keyword text = ap is_keyword (text_is w text is) in absurd (let f : true ≡ false = sym k ∙ (sym e ∙ h) in cc)
+  | inl is ↦ let e : test w ≡ test text = ap test (same_bytes w text is) in absurd (let f : true ≡ false = sym h ∙ (e ∙ k) in cc)
   | inr isnt ↦ isnt
 ]
 
@@ -49,14 +45,6 @@ pub data IsStart : Token → Type 0 where
 
 pub data Starts : Tokens → Type 0 where
   with_token : {t : Token} {ts : Tokens} → IsStart t → Starts (t ∷ ts)
-
-null_free : is_keyword (codes "NULL") ≡ false
-unfolding is_keyword
-null_free = refl
-
-eof_free : is_keyword (codes "EOF") ≡ false
-unfolding is_keyword
-eof_free = refl
 
 variable_free : (w : Bytes) → is_plain_name w ≡ true → is_keyword w ≡ false
 unfolding is_plain_name
@@ -81,7 +69,7 @@ pub starts_no_word : {ts : Tokens} → Starts ts → (text : Bytes) → is_keywo
 unfolding sees
 starts_no_word (with_token digits) text k = refl
 starts_no_word (with_token letter) text k = refl
-starts_no_word (with_token (word {text = w} h)) text k = no_word w text h k
+starts_no_word (with_token (word {text = w} h)) text k = no_keyword w text h k
 starts_no_word (with_token parenthesis) text k = refl
 starts_no_word (with_token (operator op)) text k = refl
 
@@ -116,15 +104,11 @@ starts_no_string (with_token (word h)) = refl
 starts_no_string (with_token parenthesis) = refl
 starts_no_string (with_token (operator op)) = refl
 
-no_int : (w : Bytes) → is_keyword w ≡ false → is_int_word w ≡ false
-unfolding is_keyword
-no_int w h = rw (no_word w (codes "char") h refl, no_word w (codes "short") h refl, no_word w (codes "int") h refl, no_word w (codes "long") h refl, no_word w (codes "signed") h refl, no_word w (codes "unsigned") h refl) refl
-
 pub starts_no_int : {ts : Tokens} → Starts ts → sees_int_word ts ≡ false
 unfolding sees_int_word
 starts_no_int (with_token digits) = refl
 starts_no_int (with_token letter) = refl
-starts_no_int (with_token (word {text} h)) = no_int text h
+starts_no_int (with_token (word {text} h)) = no_int_word text h
 starts_no_int (with_token parenthesis) = refl
 starts_no_int (with_token (operator op)) = refl
 
@@ -187,19 +171,14 @@ no_call (cast {l} {ts} p k j) h = no_call_by (mark (codes "(") l) ts refl
 no_call (binary {l} {mid} op p k j) h = no_call k (infix_no_open op l mid)
 no_call (choose {l} {mid} p k j i) h = no_call k refl
 
--- where no word of a type stands, no type is read
-or_false : (a b : Bool) → (a || b) ≡ false → (a ≡ false) × (b ≡ false)
-or_false false b h = (refl, h)
-or_false true b h = absurd cc
-
 no_next : (w : Bytes) → is_int_word w ≡ false → word_by w ≡ None
 unfolding word_by
 no_next w h =
-    let one = or_false (bytes_eq w (codes "char")) _ h in
-    let two = or_false (bytes_eq w (codes "short")) _ one.1 in
-    let three = or_false (bytes_eq w (codes "int")) _ two.1 in
-    let four = or_false (bytes_eq w (codes "long")) _ three.1 in
-    let five = or_false (bytes_eq w (codes "signed")) (bytes_eq w (codes "unsigned")) four.1 in
+    let one = or_parts (bytes_eq w (codes "char")) _ h in
+    let two = or_parts (bytes_eq w (codes "short")) _ one.1 in
+    let three = or_parts (bytes_eq w (codes "int")) _ two.1 in
+    let four = or_parts (bytes_eq w (codes "long")) _ three.1 in
+    let five = or_parts (bytes_eq w (codes "signed")) (bytes_eq w (codes "unsigned")) four.1 in
     rw (one.0, two.0, three.0, four.0, five.0, five.1) refl
 
 next_none : (t : Token) (ts : Tokens) → sees_int_word (t ∷ ts) ≡ false → next_word (t ∷ ts) ≡ None
@@ -227,17 +206,9 @@ no_cast_at : (l : ℕ) (ts : Tokens) → ends_in_star (base ts) ≡ false → se
 unfolding sees_cast sees
 no_cast_at l ts h = h
 
-base_int : (ts : Tokens) → sees_int_word ts ≡ true → sees Name (codes "struct") ts ≡ false
-unfolding sees sees_int_word
-base_int [] h = refl
-base_int (t ∷ ts) h = elim (cases_Bool (sees Name (codes "struct") (t ∷ ts))) [
-  | inl is ↦ by_seen Name (codes "struct") (t ∷ ts) is (λ l rest at. let e : sees_int_word (name (codes "struct") l ∷ rest) ≡ true = sym (ap sees_int_word at) ∙ h in absurd cc)
-  | inr isnt ↦ isnt
-]
-
 cast_base : {t : IntType} {mid : Tokens} {m : ℕ} (l : ℕ) (ts : Tokens) → IsIntType ts t (mark (codes ")") m ∷ mid) → ends_in_star (base ts) ≡ false
 unfolding base sees
-cast_base l ts h = rw (base_int ts (int_type_begins h), int_type_read h) refl
+cast_base l ts h = rw (no_struct ts (int_type_begins h), int_type_read h) refl
 
 pub no_cast : {n : ℕ} {ts rest : Tokens} {a : RawExpr} → IsExpr n ts a rest → sees_cast ts ≡ false
 unfolding sees_cast sees

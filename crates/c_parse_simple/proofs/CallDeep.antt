@@ -13,13 +13,13 @@ use Rattle.c_tree.specs.declared.raw.statement.RawTypeName.{RawTypeName}
 use Rattle.c_tree.specs.declared.raw.statement.RawSize.{RawSize}
 use Rattle.c_tree.specs.declared.raw.statement.RawAmount.{RawAmount}
 use Rattle.c_tree.specs.declared.raw.statement.RawStatement.{RawStatement}
-use Rattle.c_language.specs.Words.{Bytes, assign_sign}
+use Rattle.c_language.specs.Words.{Bytes, assign_sign, bump_sign}
 use Rattle.c_language.specs.TokenForms.{Tokens, name, mark, line_of}
 use Rattle.c_language.specs.Sees.{sees}
 use Rattle.c_language.specs.ExprGrammar.{is_place, tightness}
 use Rattle.c_language.specs.TypeGrammar.{has_star, is_listed}
 use Rattle.c_language.specs.Nesting.{nesting, type_nesting, nesting_tokens}
-use Rattle.c_language.specs.StatementGrammar.{IsSeparated, IsArg, IsArgs, is_callee, IsCall, IsSize, IsAmount, IsMalloc, malloc, IsHeap, bump_sign, IsSimple, IsList, IsDeclared, IsDeclaration, declaration}
+use Rattle.c_language.specs.StatementGrammar.{IsSeparated, IsArg, IsArgs, is_callee, IsCall, IsSize, IsAmount, IsMalloc, malloc, IsHeap, IsSimple, IsList, IsDeclared, IsDeclaration, declaration}
 use Rattle.c_language.specs.declared.token.TokenKind.TheVariants.{Name, Mark}
 use Rattle.c_parse_expr.specs.Outcome.{Parser, Deep, expect, read_name}
 use Rattle.c_parse_expr.specs.ExprReading.{multiplies_size, nested, expression}
@@ -27,13 +27,14 @@ use Rattle.c_parse_expr.specs.TypeReading.{base, type_name, declarator}
 use Rattle.c_parse_simple.specs.SimpleReading as r
 use Rattle.c_parse_simple.specs.SimpleReading.{word, string_at, separated, arg, args, sees_call, called, call_parts, call, pointee, size_inside, size_in_parens, size_of, sized, counted, amount_of, malloc_of, cast_amount, heap_parts, heap, sees_effect, effect, bumped, bump, compound_at, stored, assigned, changed, acted, placed, simple, list_from, list, initialised, declared}
 use Rattle.c_parse_words.proofs.SeenTokens.{by_seen}
-use Rattle.c_parse_expr.proofs.Tests.{by_test, by_fault, by_expect, by_name, expect_fault, name_fault}
+use Rattle.c_parse_expr.proofs.Tests.{by_fault, by_expect, by_name, expect_fault, name_fault}
 use Rattle.c_parse_expr.proofs.ExprDeep.{expr_tokens, IsDeep, drop_tokens, nested_expr_deep, whole_expr_deep}
 use Rattle.c_parse_expr.proofs.TypeLaws.{base_flat}
 use Rattle.c_parse_expr.proofs.TypeSound.{base_sound, type_name_sound, declarator_sound}
 use Rattle.c_parse_expr.proofs.TypeDeep.{base_tokens, named_tokens, declarator_tokens, base_fault, declarator_deep}
 use Rattle.c_parse_simple.proofs.CallSound.{expression_is, by_choice, by_word, arg_sound, size_sound, multiplied_is}
 use Rattle.c_parse_simple.proofs.SimpleSound.{compound_is, declared_sound}
+use Rattle.c_language.proofs.Tests.{by_test}
 
 -- ---- steps that are never too deep
 

@@ -17,7 +17,7 @@ use Rattle.c_language.specs.Sees.{sees, sees_second, is_keyword}
 use Rattle.c_language.specs.IntWords.{sees_int_word}
 use Rattle.c_language.specs.ExprGrammar.{IsExpr, tightness}
 use Rattle.c_language.specs.TypeGrammar.{IsBase, NamesType, structure, integer, starred}
-use Rattle.c_language.specs.Nesting.{nesting, greatest}
+use Rattle.c_language.specs.Nesting.{nesting}
 use Rattle.c_language.specs.StatementGrammar.{IsSeparated, IsArg, IsArgs, is_callee, IsCall, IsSize, IsAmount, IsMalloc, malloc, IsHeap}
 use Rattle.c_language.specs.StatementNesting.{arg_nesting, call_nesting, amount_nesting, heap_nesting}
 use Rattle.c_language.specs.declared.token.TokenKind.TheVariants.{Name, Mark}
@@ -33,6 +33,7 @@ use Rattle.c_parse_expr.proofs.TightLaws.{tight}
 use Rattle.c_parse_simple.proofs.Exact.{done, at_depth, seq, after, guarded, lowered, tested, greatest_above, separated_exact, separated_shorter}
 use Rattle.c_parse_simple.proofs.Begins.{starts, starts_no_word, starts_no_mark, is_starter, starts_no_string}
 use Rattle.c_parse_expr.proofs.TypeLaws.{type_name_read, named_shorter}
+use Rattle.c_language.specs.Lists.{greatest}
 
 -- ---- what ends an expression
 

@@ -24,10 +24,11 @@ use Rattle.c_parse_expr.specs.ExprReading.{multiplies_size, nested, expression}
 use Rattle.c_parse_expr.specs.TypeReading.{type_name}
 use Rattle.c_parse_simple.specs.SimpleReading.{word, string_at, by_option, separated, arg, args, called, call_parts, call, pointee, size_inside, size_in_parens, size_of, sized, counted, amount_of, malloc_of, cast_amount, heap_parts, heap}
 use Rattle.c_parse_words.proofs.SeenTokens.{by_seen, of_kind_is}
-use Rattle.c_parse_expr.proofs.Tests.{by_test, by_step, by_expect, by_name, ok_parts, with_parts}
+use Rattle.c_parse_expr.proofs.Tests.{by_step, by_expect, by_name, ok_parts, with_parts}
 use Rattle.c_parse_expr.proofs.ExprSound.{Sound, nested_sound, expression_sound}
 use Rattle.c_parse_expr.proofs.TightLaws.{tighten}
 use Rattle.c_parse_expr.proofs.TypeSound.{type_name_sound}
+use Rattle.c_language.proofs.Tests.{by_test}
 
 pub expression_is : (d : ℕ) (ts : Tokens) (a : RawExpr) (rest : Tokens) → expression d 1 ts ≡ Ok (a, rest) → IsExpr 1 ts a rest
 expression_is d ts a rest h = let x : Sound 1 (suc d) ts a rest = expression_sound d 1 ts a rest (omega arith) (omega arith) h in x.is

@@ -4,13 +4,13 @@ use Rattle.std.proofs.lemmas.Bool.{cases_lt, lt-ltb, le-ltb}
 use Rattle.std.proofs.Math.Dec.{eqb-suc-zero}
 use Rattle.c_language.specs.TokenForms.{Tokens, mark}
 use Rattle.c_language.specs.Sees.{sees}
-use Rattle.c_language.specs.Nesting.{greatest}
 use Rattle.c_language.specs.Words.{Bytes}
 use Rattle.c_language.specs.StatementGrammar.{IsSeparated}
 use Rattle.c_language.specs.declared.token.TokenKind.TheVariants.{Mark}
 use Rattle.c_parse_expr.specs.Outcome.{Outcome, Parser, and_then, Deep, expect}
 use Rattle.c_parse_simple.specs.SimpleReading.{separated}
 use Rattle.c_parse_expr.proofs.ExprLaws.{Exact}
+use Rattle.c_language.specs.Lists.{greatest}
 
 pub done : {A : Type 0} {d : ℕ} {a : A} {rest : Tokens} → Exact d 0 (Ok (a, rest)) a rest
 done = record { fits = λ p. refl; deep = λ p. absurd (omega arith) }

@@ -1,7 +1,7 @@
 -- Each simple statement and each declaration of the grammar is read, and each that nests too deep is refused for that.
-use Rattle.std.proofs.Common.{◌≡◌, ℕ, zero, suc, ◌+◌, ◌≤◌, ◌<◌, max, List, [], ◌∷◌, ◌++◌, append_assoc, map, length, refl, arith, true, false, Bool, ◌||◌, not, Option, Some, None, Ok, codes}
+use Rattle.std.proofs.Common.{◌≡◌, ℕ, zero, suc, ◌+◌, ◌≤◌, ◌<◌, max, List, [], ◌∷◌, ◌++◌, append_assoc, map, length, refl, arith, true, false, Bool, not, Option, Some, None, Ok, codes}
 use Rattle.std.specs.Str.{bytes_eq}
-use Rattle.std.proofs.lemmas.Bool.{and_parts, not-true, le-leb, ltb-true}
+use Rattle.std.proofs.lemmas.Bool.{and_parts, not-true, le-leb, ltb-true, or_right}
 use Rattle.c_arith.specs.declared.operators.BinaryOp.{BinaryOp}
 use Rattle.c_arith.specs.declared.operators.BinaryOp.TheVariants.{Mul, Div, Rem, Add, Sub, Shl, Shr, Less, Greater, AtMost, AtLeast, Equal, Unequal, And, Xor, Or}
 use Rattle.c_tree.specs.declared.raw.expr.RawExpr.{RawExpr}
@@ -15,13 +15,13 @@ use Rattle.c_tree.specs.declared.raw.statement.RawTypeName.{RawTypeName}
 use Rattle.c_tree.specs.declared.raw.statement.RawAmount.{RawAmount}
 use Rattle.c_tree.specs.declared.raw.statement.RawStatement.{RawStatement}
 use Rattle.c_tree.specs.declared.raw.statement.RawStatement.TheVariants as s
-use Rattle.c_language.specs.Words.{Bytes, assign_sign}
+use Rattle.c_language.specs.Words.{Bytes, assign_sign, bump_sign}
 use Rattle.c_language.specs.TokenForms.{Tokens, name, mark, line_of}
 use Rattle.c_language.specs.Sees.{sees, sees_second, sees_name, is_keyword}
 use Rattle.c_language.specs.ExprGrammar.{IsExpr, is_place, tightness}
 use Rattle.c_language.specs.TypeGrammar.{IsStars, IsLengths, IsOuterLengths, NamesType, starred, has_star, IsDeclarator, is_listed}
-use Rattle.c_language.specs.Nesting.{nesting, type_nesting, greatest}
-use Rattle.c_language.specs.StatementGrammar.{is_callee, IsCall, malloc, IsHeap, is_compound, assigns_by, bump_sign, IsSimple, IsList, IsDeclared, IsDeclaration, declaration}
+use Rattle.c_language.specs.Nesting.{nesting, type_nesting}
+use Rattle.c_language.specs.StatementGrammar.{is_callee, IsCall, malloc, IsHeap, is_compound, assigns_by, IsSimple, IsList, IsDeclared, IsDeclaration, declaration}
 use Rattle.c_language.specs.StatementNesting.{call_nesting, heap_nesting, statement_nesting, body_nesting}
 use Rattle.c_language.specs.declared.token.TokenKind.TheVariants.{Mark}
 use Rattle.c_language.proofs.StatementNestingLemmas.{nesting-Declare, nesting-Assign, nesting-Bump, nesting-Call, nesting-Heap}
@@ -37,6 +37,7 @@ use Rattle.c_parse_simple.proofs.Exact.{done, at_depth, same_read, same_tree, se
 use Rattle.c_parse_simple.proofs.Begins.{starts, starts_no_mark, is_starter, no_call, no_cast}
 use Rattle.c_parse_expr.proofs.TypeLaws.{base_read, base_flat, base_shorter, declarator_exact, stars_shorter, pointed_nests}
 use Rattle.c_parse_simple.proofs.CallLaws.{close_ends, brace_ends, comma_ends, semicolon_ends, call_exact, call_shorter, heap_exact, heap_shorter}
+use Rattle.c_language.specs.Lists.{greatest}
 
 -- ---- calls and allocations that are stored
 
@@ -82,16 +83,12 @@ cast_seen l (starred {n} {base = a} h k) p =
     let e = pointed_nests n a in
     cast_told l _ (base_read h) (star_there k (omega (arith, some, e)))
 
-or_true : (a : Bool) → (a || true) ≡ true
-or_true true = refl
-or_true false = refl
-
 heap_effect : {ts rest : Tokens} {cast : Option RawTypeName} {n : RawAmount} → IsHeap ts cast n rest → (d line : ℕ) (t : RawTarget) → EffectRead d (heap_nesting cast n) line t ts (s.Heap line t cast n) rest
 unfolding effect sees_effect sees
 heap_effect (IsHeap.uncast (malloc {l} {m} h)) d line t =
     record { seen = rw (malloc_seen l m _) refl; exact = heap_exact (IsHeap.uncast (malloc h)) d line t; no_brace = refl }
 heap_effect (IsHeap.cast {l} h p k) d line t =
-    record { seen = rw (cast_seen l h p) (or_true _); exact = heap_exact (IsHeap.cast h p k) d line t; no_brace = refl }
+    record { seen = rw (cast_seen l h p) (or_right _ true refl); exact = heap_exact (IsHeap.cast h p k) d line t; no_brace = refl }
 
 -- ---- simple statements
 

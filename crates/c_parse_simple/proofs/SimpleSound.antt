@@ -14,24 +14,26 @@ use Rattle.c_tree.specs.declared.raw.statement.RawTypeName.{RawTypeName}
 use Rattle.c_tree.specs.declared.raw.statement.RawAmount.{RawAmount}
 use Rattle.c_tree.specs.declared.raw.statement.RawStatement.{RawStatement}
 use Rattle.c_tree.specs.declared.raw.statement.RawStatement.TheVariants as s
-use Rattle.c_language.specs.Words.{Bytes, assign_sign}
+use Rattle.c_language.specs.Words.{Bytes, assign_sign, bump_sign}
 use Rattle.c_language.specs.TokenForms.{Tokens, mark, line_of}
 use Rattle.c_language.specs.Sees.{sees, is_kind}
 use Rattle.c_language.specs.ExprGrammar.{IsExpr, is_place, tightness}
 use Rattle.c_language.specs.TypeGrammar.{IsDeclarator, is_listed}
 use Rattle.c_language.specs.Nesting.{nesting}
-use Rattle.c_language.specs.StatementGrammar.{IsCall, IsHeap, is_compound, bump_sign, IsSimple, IsList, IsDeclared, IsDeclaration, declaration}
+use Rattle.c_language.specs.StatementGrammar.{IsCall, IsHeap, is_compound, IsSimple, IsList, IsDeclared, IsDeclaration, declaration}
 use Rattle.c_language.specs.declared.token.TokenKind.TheVariants.{Name, Mark}
 use Rattle.c_parse_expr.specs.Outcome.{expect}
 use Rattle.c_parse_expr.specs.ExprReading.{nested, expression}
 use Rattle.c_parse_expr.specs.TypeReading.{base, declarator}
 use Rattle.c_parse_simple.specs.SimpleReading as r
 use Rattle.c_parse_simple.specs.SimpleReading.{sees_call, sees_effect, effect, heap, call, bumped, bump, compound_by, compound_at, stored, assigned, changed, acted, simple, list_from, list, initialised, declared}
-use Rattle.c_parse_words.proofs.SeenTokens.{by_seen, text_is, of_kind_is}
-use Rattle.c_parse_expr.proofs.Tests.{by_test, by_step, by_expect, with_parts}
+use Rattle.c_parse_words.proofs.SeenTokens.{by_seen, of_kind_is}
+use Rattle.c_parse_expr.proofs.Tests.{by_step, by_expect, with_parts}
 use Rattle.c_parse_expr.proofs.TypeSound.{base_sound, declarator_sound}
 use Rattle.c_parse_expr.proofs.TightLaws.{tighten}
 use Rattle.c_parse_simple.proofs.CallSound.{expression_is, nested_is, by_choice, separated_sound, call_sound, heap_sound}
+use Rattle.c_language.proofs.Lists.{same_bytes}
+use Rattle.c_language.proofs.Tests.{by_test}
 
 pub by_effect : {G : Type 0} (d line : ℕ) (t : RawTarget) (ts : Tokens) (a : RawStatement) (rest : Tokens) → effect d line t ts ≡ Ok (a, rest)
     → ((w : Bytes) (all : List RawArg) → IsCall ts w all rest → s.Call line t w all ≡ a → G) → ((c : Option RawTypeName) (n : RawAmount) → IsHeap ts c n rest → s.Heap line t c n ≡ a → G) → G
@@ -52,16 +54,16 @@ compound_told : (w : Bytes) (op : BinaryOp) → compound_by w ≡ Some op → (w
 unfolding compound_by
 compound_told w op h =
     let Told : BinaryOp → Type 0 = λ o. (w ≡ assign_sign (Some o)) × (is_compound o ≡ true) in
-    by_test (bytes_eq w (codes "+=")) h (λ is h. let e : Add ≡ op = cc in subst Told e (text_is w _ is, refl))
-    (λ _ h. by_test (bytes_eq w (codes "-=")) h (λ is h. let e : Sub ≡ op = cc in subst Told e (text_is w _ is, refl))
-    (λ _ h. by_test (bytes_eq w (codes "*=")) h (λ is h. let e : Mul ≡ op = cc in subst Told e (text_is w _ is, refl))
-    (λ _ h. by_test (bytes_eq w (codes "/=")) h (λ is h. let e : Div ≡ op = cc in subst Told e (text_is w _ is, refl))
-    (λ _ h. by_test (bytes_eq w (codes "%=")) h (λ is h. let e : Rem ≡ op = cc in subst Told e (text_is w _ is, refl))
-    (λ _ h. by_test (bytes_eq w (codes "<<=")) h (λ is h. let e : Shl ≡ op = cc in subst Told e (text_is w _ is, refl))
-    (λ _ h. by_test (bytes_eq w (codes ">>=")) h (λ is h. let e : Shr ≡ op = cc in subst Told e (text_is w _ is, refl))
-    (λ _ h. by_test (bytes_eq w (codes "&=")) h (λ is h. let e : And ≡ op = cc in subst Told e (text_is w _ is, refl))
-    (λ _ h. by_test (bytes_eq w (codes "^=")) h (λ is h. let e : Xor ≡ op = cc in subst Told e (text_is w _ is, refl))
-    (λ _ h. by_test (bytes_eq w (codes "|=")) h (λ is h. let e : Or ≡ op = cc in subst Told e (text_is w _ is, refl))
+    by_test (bytes_eq w (codes "+=")) h (λ is h. let e : Add ≡ op = cc in subst Told e (same_bytes w _ is, refl))
+    (λ _ h. by_test (bytes_eq w (codes "-=")) h (λ is h. let e : Sub ≡ op = cc in subst Told e (same_bytes w _ is, refl))
+    (λ _ h. by_test (bytes_eq w (codes "*=")) h (λ is h. let e : Mul ≡ op = cc in subst Told e (same_bytes w _ is, refl))
+    (λ _ h. by_test (bytes_eq w (codes "/=")) h (λ is h. let e : Div ≡ op = cc in subst Told e (same_bytes w _ is, refl))
+    (λ _ h. by_test (bytes_eq w (codes "%=")) h (λ is h. let e : Rem ≡ op = cc in subst Told e (same_bytes w _ is, refl))
+    (λ _ h. by_test (bytes_eq w (codes "<<=")) h (λ is h. let e : Shl ≡ op = cc in subst Told e (same_bytes w _ is, refl))
+    (λ _ h. by_test (bytes_eq w (codes ">>=")) h (λ is h. let e : Shr ≡ op = cc in subst Told e (same_bytes w _ is, refl))
+    (λ _ h. by_test (bytes_eq w (codes "&=")) h (λ is h. let e : And ≡ op = cc in subst Told e (same_bytes w _ is, refl))
+    (λ _ h. by_test (bytes_eq w (codes "^=")) h (λ is h. let e : Xor ≡ op = cc in subst Told e (same_bytes w _ is, refl))
+    (λ _ h. by_test (bytes_eq w (codes "|=")) h (λ is h. let e : Or ≡ op = cc in subst Told e (same_bytes w _ is, refl))
     (λ _ h. absurd cc))))))))))
 
 pub compound_is : {G : Type 0} (ts : Tokens) (op : BinaryOp) → compound_at ts ≡ Some op → ((l : ℕ) (rest : Tokens) → ts ≡ mark (assign_sign (Some op)) l ∷ rest → is_compound op ≡ true → G) → G

@@ -20,7 +20,7 @@ use Rattle.c_parse_simple.specs.SimpleReading as reading
 use Rattle.c_parse_simple.specs.SimpleReading.{word, nested_simple, nested_declared, nested_declaration}
 use Rattle.c_parse_statements.specs.StatementReading.{condition, for_declared, for_simple, for_init, for_step, sees_label, label, labels_from, labels, is_at_end, simple_statement, returned, listed, statements_from, statements, braced, body, alternative, arm_end, arm_of, arms_from, statement_with, nested_statement}
 use Rattle.c_parse_words.proofs.SeenTokens.{by_seen}
-use Rattle.c_parse_expr.proofs.Tests.{by_test, by_step, by_fault, by_expect, ok_parts, expect_fault}
+use Rattle.c_parse_expr.proofs.Tests.{by_step, by_fault, by_expect, ok_parts, expect_fault}
 use Rattle.c_parse_expr.proofs.ExprDeep.{expr_tokens, IsDeep, drop_tokens, nested_expr_deep, whole_expr_deep}
 use Rattle.c_parse_expr.proofs.TypeLaws.{base_flat}
 use Rattle.c_parse_expr.proofs.TypeSound.{base_sound}
@@ -28,6 +28,7 @@ use Rattle.c_parse_expr.proofs.TypeDeep.{base_tokens, base_fault}
 use Rattle.c_parse_simple.proofs.CallSound.{nested_is, by_word}
 use Rattle.c_parse_statements.proofs.StatementSound.{IsSoundly, test_sound, init_sound, step_sound, label_sound, labels_sound, nested_declaration_sound, statements_sound, body_sound, nested_statement_sound}
 use Rattle.c_parse_simple.proofs.CallDeep.{word_fault, simple_tokens, declared_tokens, declaration_tokens, simple_deep, declared_deep, declaration_deep}
+use Rattle.c_language.proofs.Tests.{by_test}
 
 -- ---- what is read leaves no more tokens that nest
 

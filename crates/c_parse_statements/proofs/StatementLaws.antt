@@ -1,6 +1,7 @@
 -- Each statement of the grammar is read, and each that nests too deep is refused for that.
-use Rattle.std.proofs.Common.{◌≡◌, ℕ, zero, suc, ◌+◌, ◌≤◌, ◌<◌, max, List, [], ◌∷◌, ◌++◌, append_assoc, append-nil, map, length, refl, sym, ap, arith, true, false, Bool, ◌||◌, Option, Some, None, codes}
-use Rattle.std.proofs.lemmas.Bool.{and_parts}
+use Rattle.std.proofs.Common.{◌≡◌, ℕ, zero, suc, ◌+◌, ◌≤◌, ◌<◌, max, List, [], ◌∷◌, ◌++◌, append_assoc, append-nil, map, length, refl, sym, ap, arith, true, false, Bool, Option, Some, None, codes}
+use Rattle.std.proofs.lemmas.Bool.{and_parts, or_right}
+use Rattle.c_language.proofs.Keywords.{no_keyword}
 use Rattle.c_tree.specs.declared.raw.expr.RawExpr.{RawExpr}
 use Rattle.c_tree.specs.declared.raw.expr.RawType.{RawType}
 use Rattle.c_tree.specs.declared.raw.statement.RawArg.{RawArg}
@@ -9,14 +10,14 @@ use Rattle.c_tree.specs.declared.raw.statement.RawLabel.TheVariants.{Case, Defau
 use Rattle.c_tree.specs.declared.raw.statement.RawArm.{RawArm}
 use Rattle.c_tree.specs.declared.raw.statement.RawStatement.{RawStatement}
 use Rattle.c_tree.specs.declared.raw.statement.RawStatement.TheVariants as s
-use Rattle.c_language.specs.Words.{Bytes}
+use Rattle.c_language.specs.Words.{Bytes, bump_sign}
 use Rattle.c_language.specs.TokenForms.{Tokens, name, mark, line_of}
 use Rattle.c_language.specs.Sees.{sees, is_keyword, is_kind}
 use Rattle.c_language.specs.IntWords.{sees_int_word, is_int_word}
 use Rattle.c_language.specs.ExprGrammar.{IsExpr}
 use Rattle.c_language.specs.TypeGrammar.{IsBase, structure, integer}
-use Rattle.c_language.specs.Nesting.{nesting, greatest}
-use Rattle.c_language.specs.StatementGrammar.{IsSeparated, IsCall, bump_sign, IsSimple, AreDeclared, IsDeclaration, declaration, IsInit, IsStep, IsLabel, AreLabels, IsTest, test, arm, IsStatement, AreStatements, IsBody, IsElse, AreArms}
+use Rattle.c_language.specs.Nesting.{nesting}
+use Rattle.c_language.specs.StatementGrammar.{IsSeparated, IsCall, IsSimple, AreDeclared, IsDeclaration, declaration, IsInit, IsStep, IsLabel, AreLabels, IsTest, test, arm, IsStatement, AreStatements, IsBody, IsElse, AreArms}
 use Rattle.c_language.specs.StatementNesting.{label_nesting, statement_nesting, body_nesting}
 use Rattle.c_language.specs.declared.token.TokenKind.TheVariants.{Name, Mark}
 use Rattle.c_language.specs.declared.operators.Prefix.TheVariants.{Sign, Deref, AddressOf}
@@ -37,6 +38,7 @@ use Rattle.c_parse_simple.proofs.Begins as begin
 use Rattle.c_parse_expr.proofs.TypeLaws.{base_read, base_flat, base_shorter}
 use Rattle.c_parse_simple.proofs.CallLaws.{close_ends, semicolon_ends, colon_ends, base_no_mark}
 use Rattle.c_parse_simple.proofs.SimpleLaws.{at_semicolon, at_close, callee_parts, simple_exact, simple_shorter, declared_exact, declared_shorter, declaration_exact, declaration_shorter}
+use Rattle.c_language.specs.Lists.{greatest}
 
 -- ---- how statements begin
 
@@ -57,7 +59,7 @@ starts_not_at_end : {ts : Tokens} → Starts ts → is_at_end ts ≡ false
 unfolding is_at_end is_keyword
 starts_not_at_end (with_token begin.digits) = refl
 starts_not_at_end (with_token begin.letter) = refl
-starts_not_at_end (with_token (begin.word {text} h)) = rw (begin.no_word text (codes "break") h refl, begin.no_word text (codes "case") h refl, begin.no_word text (codes "default") h refl) refl
+starts_not_at_end (with_token (begin.word {text} h)) = rw (no_keyword text (codes "break") h refl, no_keyword text (codes "case") h refl, no_keyword text (codes "default") h refl) refl
 starts_not_at_end (with_token begin.parenthesis) = refl
 starts_not_at_end (with_token (begin.operator (Sign Plus))) = refl
 starts_not_at_end (with_token (begin.operator (Sign Minus))) = refl
@@ -131,16 +133,12 @@ pub record BeginsType (ts : Tokens) : Type 0 where
   pub goes_on : is_at_end ts ≡ false
   pub no_label : sees_label ts ≡ false
 
-or_true : (a : Bool) → (a || true) ≡ true
-or_true true = refl
-or_true false = refl
-
 pub base_begins : {ts rest : Tokens} {a : RawType} → IsBase ts a rest → BeginsType ts
 unfolding sees sees_label begins_type is_at_end
 base_begins (structure free) = record { no_semicolon = refl; type = refl; goes_on = refl; no_label = refl }
 base_begins {ts} (integer h) =
     let e = int_word_goes_on ts (int_type_begins h) in
-    record { no_semicolon = base_no_mark (codes ";") (integer h); type = rw (int_type_begins h) (or_true _); goes_on = e.0; no_label = e.1 }
+    record { no_semicolon = base_no_mark (codes ";") (integer h); type = rw (int_type_begins h) (or_right _ true refl); goes_on = e.0; no_label = e.1 }
 
 pub declaration_begins : {ts rest : Tokens} {all : List RawStatement} → IsDeclaration ts all rest → BeginsType ts
 declaration_begins (declaration h k) = base_begins h

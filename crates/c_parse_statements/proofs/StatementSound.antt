@@ -17,10 +17,11 @@ use Rattle.c_parse_simple.specs.SimpleReading as reading
 use Rattle.c_parse_simple.specs.SimpleReading.{word, nested_simple, nested_declared, nested_declaration}
 use Rattle.c_parse_statements.specs.StatementReading.{condition, for_declared, for_simple, for_init, for_step, sees_label, label, labels_from, labels, is_at_end, simple_statement, returned, listed, statements_from, statements, braced, body, alternative, arm_end, arm_of, arms_from, statement_with, nested_statement}
 use Rattle.c_parse_words.proofs.SeenTokens.{by_seen}
-use Rattle.c_parse_expr.proofs.Tests.{by_test, by_step, by_expect, ok_parts, with_parts}
+use Rattle.c_parse_expr.proofs.Tests.{by_step, by_expect, ok_parts, with_parts}
 use Rattle.c_parse_expr.proofs.TypeSound.{base_sound}
 use Rattle.c_parse_simple.proofs.CallSound.{expression_is, nested_is, by_word}
 use Rattle.c_parse_simple.proofs.SimpleSound.{simple_sound, declared_sound, declaration_sound}
+use Rattle.c_language.proofs.Tests.{by_test}
 
 pub test_sound : (d : ℕ) (ts : Tokens) (a : RawExpr) (rest : Tokens) → condition d ts ≡ Ok (a, rest) → IsTest ts a rest
 unfolding condition

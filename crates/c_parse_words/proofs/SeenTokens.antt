@@ -1,7 +1,6 @@
 -- What a test of the next token says of the tokens.
 use Rattle.std.proofs.Common.{◌≡◌, ℕ, [], ◌∷◌, refl, sym, ap, ◌∙◌, true}
 use Rattle.std.proofs.lemmas.Bool.{and_parts}
-use Rattle.std.proofs.lemmas.Slice.Eq.{bytes_eq-Decides}
 use Rattle.std.specs.Str.{bytes_eq}
 use Rattle.c_language.specs.Words.{Bytes}
 use Rattle.c_language.specs.TokenForms.{Tokens, of_kind}
@@ -9,6 +8,7 @@ use Rattle.c_language.specs.Sees.{same_kind, is_kind, sees}
 use Rattle.c_language.specs.declared.token.Token.{Token}
 use Rattle.c_language.specs.declared.token.TokenKind.{TokenKind}
 use Rattle.c_language.specs.declared.token.TokenKind.TheVariants.{Name, Number, Character, Str, Mark, Include, Directive}
+use Rattle.c_language.proofs.Lists.{same_bytes}
 
 same_kind_is : (k j : TokenKind) → same_kind k j ≡ true → j ≡ k
 same_kind_is Name Name h = refl
@@ -23,9 +23,6 @@ same_kind_is _ _ h = cc
 pub kind_is : (kind : TokenKind) (t : Token) → is_kind kind t ≡ true → t.kind ≡ kind
 kind_is kind t h = same_kind_is kind t.kind h
 
-pub text_is : (w text : Bytes) → bytes_eq w text ≡ true → w ≡ text
-text_is w text h = (bytes_eq-Decides w text).0 h
-
 -- a token of a kind is the token of that kind with its text and line
 pub of_kind_is : (kind : TokenKind) (t : Token) → is_kind kind t ≡ true → of_kind kind t.text t.line ≡ t
 of_kind_is kind t h = ap (λ k. of_kind k t.text t.line) (sym (kind_is kind t h))
@@ -37,7 +34,7 @@ sees_is kind text [] h = cc
 sees_is kind text (t ∷ ts) h =
     let parts = and_parts (is_kind kind t) (bytes_eq t.text text) h in
     let k = kind_is kind t parts.0 in
-    let x : t.text ≡ text = text_is t.text text parts.1 in
+    let x : t.text ≡ text = same_bytes t.text text parts.1 in
     (t.line, ts, ap (λ k. of_kind k t.text t.line ∷ ts) k ∙ ap (λ x. of_kind kind x t.line ∷ ts) x)
 
 -- The token that was seen and those behind it, passed on as variables.

@@ -1,10 +1,10 @@
 -- The words of a program whose texts hold no line feed hold none.
-use Rattle.std.proofs.Common.{◌≡◌, ℕ, zero, suc, ◌+◌, List, [], ◌∷◌, ◌++◌, map, slice_get, Bool, true, false, ◌&&◌, not, Option, Some, None, codes, refl, sym, ap, subst, ◌∙◌, arith}
+use Rattle.std.proofs.Common.{◌≡◌, ℕ, zero, suc, List, [], ◌∷◌, ◌++◌, map, slice_get, Bool, true, false, ◌&&◌, not, Option, Some, None, codes, refl, sym, ap, subst, ◌∙◌, arith}
 use Rattle.std.specs.List.{list_all}
 use Rattle.std.specs.Option.{option_map_or}
 use Rattle.std.proofs.lemmas.Bool.{and_parts}
 use Rattle.std.proofs.lemmas.List.Folds.{list_all-append}
-use Rattle.std.proofs.lemmas.List.Sums.{sum_by-append, sum_by-cons}
+use Rattle.std.proofs.lemmas.List.Sums.{sum_by-cons}
 use Rattle.std.specs.Prelude.{cond, if◌then◌else◌, length}
 use Rattle.c_arith.specs.declared.int_type.IntType.{IntType}
 use Rattle.c_arith.specs.declared.int_type.IntType.TheVariants.{Char, UChar, Short, UShort, Int, UInt, Long, ULong}
@@ -37,6 +37,7 @@ use Rattle.c_language.specs.Tokens.{is_feed, line_feeds}
 use Rattle.c_language.specs.Layout.{indent, line, init_words, var_words, target_words, size_words, amount_words, cast_words, call_words, bump_words, return_words, label_words, label_lines}
 use Rattle.c_print.specs.Feedless.{feedless, statement_step, arm_step, type_step, type_feedless, expr_feedless, init_feedless, target_feedless, size_feedless, amount_feedless, label_feedless, var_feedless, member_feedless, struct_feedless, function_feedless, IsFeedless}
 use Rattle.c_print.specs.Feedless as spec
+use Rattle.c_language.proofs.Lists.{feeds-append}
 
 -- no text of the arm holds a line feed
 abbrev pub arm_feedless : Arm → Bool
@@ -49,9 +50,6 @@ cat a b f g = list_all-append (λ x. not (is_feed x)) a b ∙ rw (f, g) refl
 
 pub parts : {a b : Bool} → (a && b) ≡ true → (a ≡ true) × (b ≡ true)
 parts {a} {b} h = and_parts a b h
-
-pub feeds-append : (a b : Bytes) → line_feeds (a ++ b) ≡ line_feeds a + line_feeds b
-feeds-append a b = sum_by-append (λ x. cond (is_feed x) 1 0) a b
 
 feeds_cons : (b : ℕ) (bs : Bytes) (is : Bool) → is_feed b ≡ is → not is ≡ true → line_feeds bs ≡ 0 → line_feeds (b ∷ bs) ≡ 0
 feeds_cons b bs true e h r = absurd cc

@@ -1,6 +1,7 @@
 -- Lines that are written down by their numbers.
 use Rattle.std.proofs.Common.{◌≡◌, ◌≢◌, ℕ, zero, suc, ◌+◌, ◌-◌, ◌<◌, ◌≤◌, ◌==◌, List, [], ◌∷◌, ◌++◌, length, map, take, get_or, append_assoc, append-nil, replicate, set, slice_get, Some, arith, refl, sym, ap, ◌∙◌}
 use Rattle.std.proofs.lemmas.Bool.{eq-eqb, ne_eqb}
+use Rattle.std.proofs.lemmas.List.{set_past}
 use Rattle.c_tree.specs.Numbered.{Starts, start}
 use Rattle.c_print.specs.Lines.{Placed, heights, starts_from, block_starts, line_if, line_among, kept}
 
@@ -45,11 +46,6 @@ keep_at (x ∷ ls) (suc k) first id l h =
 -- a number from the first on
 pub keep_one : (ls : List ℕ) (first id l : ℕ) → first ≤ id → set ls (id - first) l ≡ kept first (start id l ∷ []) ls
 keep_one ls first id l h = keep_at ls (id - first) first id l (omega (arith, h))
-
-set_past : (ls : List ℕ) (k l : ℕ) → length ls ≤ k → set ls k l ≡ ls
-set_past [] k l h = refl
-set_past (x ∷ ls) zero l h = absurd (omega (arith, h))
-set_past (x ∷ ls) (suc k) l h = ap (λ (y : List ℕ). x ∷ y) (set_past ls k l (omega (arith, h)))
 
 -- a number past the last
 pub keep_past : (ls : List ℕ) (first id l : ℕ) → first ≤ id → length ls ≤ id - first → ls ≡ kept first (start id l ∷ []) ls

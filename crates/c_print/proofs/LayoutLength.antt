@@ -15,8 +15,7 @@ use Rattle.c_tree.specs.declared.statement.Statement.TheOpen.{Statement-F}
 use Rattle.c_tree.specs.declared.statement.Statement.TheVariants as s
 use Rattle.c_tree.specs.declared.statement.Arm.{Arm, roll-Arm}
 use Rattle.c_language.specs.Words.{Bytes, declared, expr_words, name_of_struct}
-use Rattle.c_language.specs.Layout.{indent, line, label_words, statement_words, label_lines, else_lines, arms_lines, laid, statement_lines, body_lines, member_lines, struct_lines, function_lines, head_words, named_params, item_lines, items_lines, include_words, global_words, init_words, var_words, layout}
-use Rattle.c_print.specs.Arms.{arm_laid}
+use Rattle.c_language.specs.Layout.{indent, line, label_words, statement_words, label_lines, else_lines, arms_lines, laid, statement_lines, body_lines, member_lines, struct_lines, function_lines, head_words, named_params, item_lines, items_lines, include_words, global_words, init_words, var_words, layout, arm_laid}
 use Rattle.c_print.specs.Lines.{Placed, placed, arm_placed, item_placed, struct_placed, function_placed, bare, simple, heights, else_height, line_count}
 use Rattle.c_print.proofs.StatementLines.{lines-Declare, lines-Assign, lines-Bump, lines-Invoke, lines-Fetch, lines-Write, lines-Print, lines-Heap, lines-Release, lines-Return, lines-While, lines-Do, lines-For, lines-Switch, lines-Block, at-If, arm_laid-parts, else_lines-some}
 use Rattle.c_print.proofs.PlacedLemmas.{placed-Declare, placed-Assign, placed-Bump, placed-Invoke, placed-Fetch, placed-Write, placed-Print, placed-Heap, placed-Release, placed-Return, placed-If, placed-While, placed-Do, placed-For, placed-Switch, placed-Block, placed-arm}

@@ -22,9 +22,10 @@ use Rattle.c_language.specs.Layout.{line, static_words, result_words, params_wor
 use Rattle.c_print.specs.Feedless.{feedless, type_feedless, var_feedless, member_feedless, struct_feedless, function_feedless, name_feedless, item_feedless, statement_feedless, IsFeedless}
 use Rattle.c_print.specs.Lines.{placed, item_placed, struct_placed, function_placed, bare, heights, starts_from, block_starts, layout_starts, line_if, line_among, line_of}
 use Rattle.c_print.specs.StartsOn.{ItemsBehind, defined, behind, HasPlace, StartsOn}
-use Rattle.c_print.proofs.FeedLemmas.{cat, feeds-append, line_feeds-line, found_feedless, joined_feedless, name_of_struct_feedless, declared_feedless, result_feedless, type_words_feedless, var_words_feedless, init_words_feedless}
+use Rattle.c_print.proofs.FeedLemmas.{cat, line_feeds-line, found_feedless, joined_feedless, name_of_struct_feedless, declared_feedless, result_feedless, type_words_feedless, var_words_feedless, init_words_feedless}
 use Rattle.c_print.proofs.StartLemmas.{IsLaidList, body_laid}
 use Rattle.c_print.proofs.OpeningLemmas.{items_open, items_listed, IsListed}
+use Rattle.c_language.proofs.Lists.{feeds-append}
 
 -- ---- what is found among those that pass
 

@@ -6,9 +6,8 @@ use Rattle.c_tree.specs.declared.program.Member.{Member}
 use Rattle.c_tree.specs.declared.statement.Arm.{Arm}
 use Rattle.c_tree.specs.declared.statement.Label.{Label}
 use Rattle.c_language.specs.Words.{Bytes, joined, declared}
-use Rattle.c_language.specs.Layout.{line, label_words, label_lines, arms_lines, statement_lines, body_lines, member_lines, item_lines, items_lines, param_words, named_params}
+use Rattle.c_language.specs.Layout.{line, label_words, label_lines, arms_lines, statement_lines, body_lines, member_lines, item_lines, items_lines, param_words, named_params, arm_laid}
 use Rattle.c_print.specs.Lists.{behind_commas}
-use Rattle.c_print.specs.Arms.{arm_laid}
 
 -- all is the text that one gives for each element, one after another
 pub record IsEach {X : Type 0} (one : X → Bytes) (all : List X → Bytes) : Type 0 where

@@ -3,7 +3,7 @@ use Rattle.std.proofs.Common.{◌≡◌, ℕ, zero, suc, ◌+◌, List, [], ◌�
 use Rattle.std.specs.Prelude.{Contains}
 use Rattle.std.specs.Option.{option_map, option_map_or}
 use Rattle.std.proofs.lemmas.List.Elements.{Contains-append_left, Contains-append_right}
-use Rattle.c_tree.specs.Numbered.{Starts, start, own_id}
+use Rattle.c_tree.specs.Numbered.{Starts, start, own_id, declared_start}
 use Rattle.c_tree.specs.declared.statement.Statement.{Statement, roll-Statement, out-Statement}
 use Rattle.c_tree.specs.declared.statement.Statement.TheViews.{roll-out-Statement}
 use Rattle.c_tree.specs.declared.statement.Statement.TheOpen.{Statement-F}
@@ -14,10 +14,9 @@ use Rattle.c_tree.specs.declared.program.Function.{Function}
 use Rattle.c_tree.specs.declared.program.Item.{Item}
 use Rattle.c_tree.specs.declared.program.Item.TheVariants as item
 use Rattle.c_language.specs.Words.{Bytes, expr_words}
-use Rattle.c_language.specs.Layout.{Laid, indent, line, init_part, step_part, label_lines, else_lines, block_lines, arms_lines, laid, statement_words, statement_lines, body_lines, function_lines, item_lines, items_lines, head_words, var_words}
+use Rattle.c_language.specs.Layout.{Laid, indent, line, init_part, step_part, label_lines, else_lines, block_lines, arms_lines, laid, statement_words, statement_lines, body_lines, function_lines, item_lines, items_lines, head_words, var_words, arm_laid}
 use Rattle.c_language.proofs.LayoutLemmas.{block_lines-laid, laid-If, laid-While, laid-Switch}
-use Rattle.c_print.specs.Arms.{arm_laid}
-use Rattle.c_print.specs.Lines.{Placed, placed, arm_placed, item_placed, function_placed, bare, heights, own_starts, part_starts, starts_from, block_starts}
+use Rattle.c_print.specs.Lines.{Placed, placed, arm_placed, item_placed, function_placed, bare, heights, part_starts, starts_from, block_starts}
 use Rattle.c_print.specs.StartsOn.{layer_opening, opening, if_line, StandsBehind, itself, met, otherwise, while, repeated, block, first_part, step, turn, switch, ListBehind, first, later, ArmsBehind, inside, after, ItemsBehind, defined, behind}
 use Rattle.c_print.proofs.StatementWords.{words-For}
 use Rattle.c_print.proofs.StatementLines.{lines-Declare, lines-Assign, lines-Bump, lines-Invoke, lines-Fetch, lines-Write, lines-Print, lines-Heap, lines-Release, lines-Return, lines-If, lines-While, lines-Do, lines-For, lines-Switch, lines-Block, arm_laid-parts}
@@ -186,17 +185,17 @@ listed_left id a b h = (h.0, Contains-append_left a b (start id h.0) h.1)
 pub listed_right : (id : ℕ) (a b : Starts) → IsListed id b → IsListed id (a ++ b)
 listed_right id a b h = (h.0, Contains-append_right a b (start id h.0) h.1)
 
-own_listed : (statement : Statement) (id k : ℕ) → own_id statement ≡ Some id → IsListed id (own_starts (placed statement).own k)
-own_listed statement id k e = subst (λ (o : Option ℕ). IsListed id (own_starts o k)) (sym (placed-own statement ∙ e)) (k, (zero, omega arith, refl))
+own_listed : (statement : Statement) (id k : ℕ) → own_id statement ≡ Some id → IsListed id (declared_start (placed statement).own k)
+own_listed statement id k e = subst (λ (o : Option ℕ). IsListed id (declared_start o k)) (sym (placed-own statement ∙ e)) (k, (zero, omega arith, refl))
 
 -- what is inside, by the equation of the form
 pub inside_listed : (statement : Statement) (id k : ℕ) (own : Option ℕ) (height : ℕ) (within : ℕ → Starts) → placed statement ≡ record { own = own; height = height; inside = within } → IsListed id (within k) → IsListed id (starts_from (placed statement) k)
-inside_listed statement id k own height within e h = subst (λ (y : Placed). IsListed id (starts_from y k)) (sym e) (listed_right id (own_starts own k) (within k) h)
+inside_listed statement id k own height within e h = subst (λ (y : Placed). IsListed id (starts_from y k)) (sym e) (listed_right id (declared_start own k) (within k) h)
 
 module _ (p : Program) (statement : Statement) (num : ℕ) (named : own_id statement ≡ Some num) where
   mutual
     stands_listed : {n : ℕ} {outer : Statement} {front words : Bytes} → StandsBehind p statement n outer front words → (k : ℕ) → IsListed num (starts_from (placed outer) k)
-    stands_listed (itself {n}) k = listed_left num (own_starts (placed statement).own k) ((placed statement).inside k) (own_listed statement num k named)
+    stands_listed (itself {n}) k = listed_left num (declared_start (placed statement).own k) ((placed statement).inside k) (own_listed statement num k named)
     stands_listed (met {n} {front} {words} id l e a b h) k =
         let others = block_starts (map placed b) (k + 1 + heights (map placed a) + 1) in
         inside_listed (s.If id l e a b) num k _ _ _ (placed-If id l e a b) (listed_left num (block_starts (map placed a) (k + 1)) others (list_listed h (k + 1)))
@@ -208,11 +207,11 @@ module _ (p : Program) (statement : Statement) (num : ℕ) (named : own_id state
     stands_listed (block {n} {front} {words} l b h) k = inside_listed (s.Block l b) num k _ _ _ (placed-Block l b) (list_listed h (k + 1))
     stands_listed (first_part {n} id l e part b) k =
         inside_listed (s.For id l (Some statement) e part b) num k _ _ _ (placed-For id l (Some statement) e part b)
-        (listed_left num (own_starts (placed statement).own k) (part_starts (option_map placed part) k ++ block_starts (map placed b) (k + 1)) (own_listed statement num k named))
+        (listed_left num (declared_start (placed statement).own k) (part_starts (option_map placed part) k ++ block_starts (map placed b) (k + 1)) (own_listed statement num k named))
     stands_listed (step {n} id l init e b) k =
         inside_listed (s.For id l init e (Some statement) b) num k _ _ _ (placed-For id l init e (Some statement) b)
-        (listed_right num (part_starts (option_map placed init) k) (own_starts (placed statement).own k ++ block_starts (map placed b) (k + 1))
-        (listed_left num (own_starts (placed statement).own k) (block_starts (map placed b) (k + 1)) (own_listed statement num k named)))
+        (listed_right num (part_starts (option_map placed init) k) (declared_start (placed statement).own k ++ block_starts (map placed b) (k + 1))
+        (listed_left num (declared_start (placed statement).own k) (block_starts (map placed b) (k + 1)) (own_listed statement num k named)))
     stands_listed (turn {n} {front} {words} id l init e part b h) k =
         inside_listed (s.For id l init e part b) num k _ _ _ (placed-For id l init e part b)
         (listed_right num (part_starts (option_map placed init) k) (part_starts (option_map placed part) k ++ block_starts (map placed b) (k + 1))

@@ -1,5 +1,5 @@
 -- Lines of each form of statement, as equations.
-use Rattle.std.proofs.Common.{◌≡◌, ℕ, ◌+◌, Bool, List, [], ◌∷◌, ◌++◌, length, map, slice_get, true, ◌==◌, Option, Some, None, option_map, refl, sym, ap, ◌∙◌, arith}
+use Rattle.std.proofs.Common.{◌≡◌, ℕ, ◌+◌, Bool, List, [], ◌∷◌, ◌++◌, length, map, true, ◌==◌, Option, Some, None, option_map, sym, ap, ◌∙◌, arith}
 use Rattle.c_arith.specs.declared.operators.BinaryOp.{BinaryOp}
 use Rattle.c_tree.specs.declared.types.CType.{CType}
 use Rattle.c_tree.specs.declared.expr.Expr.{Expr}
@@ -12,15 +12,9 @@ use Rattle.c_tree.specs.declared.statement.Statement.TheViews.{roll-Statement, r
 use Rattle.c_tree.specs.declared.statement.Statement.TheOpen.{Statement-F}
 use Rattle.c_tree.specs.declared.statement.Statement.TheVariants as s
 use Rattle.c_tree.specs.declared.numbered.Start.{Start}
-use Rattle.c_tree.specs.Numbered.{Starts, own_id, layer_start}
+use Rattle.c_tree.specs.Numbered.{own_id, layer_start, declared_start}
 use Rattle.std.proofs.lemmas.Bool.{eqb-true}
-use Rattle.std.specs.Option.{option_map_or}
-use Rattle.c_tree.specs.declared.program.Program.{Program}
-use Rattle.c_tree.specs.declared.program.StructDef.{StructDef}
-use Rattle.c_tree.specs.declared.program.Function.{Function}
-use Rattle.c_tree.specs.declared.program.Item.{Item}
-use Rattle.c_tree.specs.declared.program.Item.TheVariants as item
-use Rattle.c_print.specs.Lines.{Placed, placed, arm_placed, item_placed, struct_placed, bare, placed_step, placed_arm, simple, enclosing, heights, own_starts, part_starts, starts_from, block_starts, kept}
+use Rattle.c_print.specs.Lines.{Placed, placed, arm_placed, placed_step, placed_arm, simple, enclosing, heights, part_starts, starts_from, block_starts, kept}
 use Rattle.c_print.proofs.KeptLines.{keep_nothing, then_kept}
 
 pub placed-Declare : (id : Option ℕ) (l x : ℕ) (i : Init) → placed (s.Declare id l x i) ≡ simple id
@@ -124,33 +118,15 @@ kept_For id l i e step b statement xs first line old after_init after_step new i
     then_kept first (part_starts (option_map placed i) line) (part_starts (option_map placed step) line ++ block_starts (map placed b) (line + 1)) old after_init new p others
     ∙ ap (λ (z : Placed). kept first (z.inside line) old) (sym (ap placed is ∙ placed-For id l i e step b))
 
-pub kept_own : (statement : Statement) (first line : ℕ) (old between new : List ℕ) → between ≡ kept first (own_starts (own_id statement) line) old → new ≡ kept first ((placed statement).inside line) between
+pub kept_own : (statement : Statement) (first line : ℕ) (old between new : List ℕ) → between ≡ kept first (declared_start (own_id statement) line) old → new ≡ kept first ((placed statement).inside line) between
     → new ≡ kept first (starts_from (placed statement) line) old
 kept_own statement first line old between new p q =
-    then_kept first (own_starts (own_id statement) line) ((placed statement).inside line) old between new p q
-    ∙ ap (λ (o : Option ℕ). kept first (own_starts o line ++ (placed statement).inside line) old) (sym (placed-own statement))
+    then_kept first (declared_start (own_id statement) line) ((placed statement).inside line) old between new p q
+    ∙ ap (λ (o : Option ℕ). kept first (declared_start o line ++ (placed statement).inside line) old) (sym (placed-own statement))
 
 -- a list without a statement
 pub kept_none : (all : List Statement) (first line : ℕ) (ls : List ℕ) → true ≡ (length all == 0) → ls ≡ kept first (block_starts (map placed all) line) ls
 kept_none [] first line ls h = sym (keep_nothing first ls)
 kept_none (a ∷ all) first line ls h = let e : length (a ∷ all) ≡ 0 = eqb-true (length (a ∷ all)) 0 (sym h) in absurd (omega (arith, e))
-
--- a struct type, and a prototype
-struct_starts : (o : Option StructDef) (n : ℕ) → starts_from (option_map_or struct_placed o (bare 0)) n ≡ []
-struct_starts None n = refl
-struct_starts (Some d) n = refl
-
-pub kept_Struct : (p : Program) (id : ℕ) (statement : Item) (first line : ℕ) (ls : List ℕ) → statement ≡ item.Struct id → ls ≡ kept first (starts_from (item_placed p statement) line) ls
-kept_Struct p id statement first line ls is =
-    sym (ap (λ y. kept first (starts_from (item_placed p y) line) ls) is ∙ ap (λ (y : Starts). kept first y ls) (struct_starts (slice_get p.structs id) line) ∙ keep_nothing first ls)
-
-prototype_starts : (o : Option Function) (n : ℕ) → starts_from (option_map_or (λ (g : Function). bare 1) o (bare 0)) n ≡ []
-prototype_starts None n = refl
-prototype_starts (Some d) n = refl
-
-pub kept_Prototype : (p : Program) (f : ℕ) (names : List (Option (List ℕ))) (is_static : Bool) (statement : Item) (first line : ℕ) (ls : List ℕ) → statement ≡ item.Prototype f names is_static
-    → ls ≡ kept first (starts_from (item_placed p statement) line) ls
-kept_Prototype p f names is_static statement first line ls is =
-    sym (ap (λ y. kept first (starts_from (item_placed p y) line) ls) is ∙ ap (λ (y : Starts). kept first y ls) (prototype_starts (slice_get p.functions f) line) ∙ keep_nothing first ls)
 
 pub ruleset placed_of = (placed-Declare, placed-Assign, placed-Bump, placed-Invoke, placed-Fetch, placed-Write, placed-Print, placed-Heap, placed-Release, placed-Return, placed-If, placed-While, placed-Do, placed-Switch, placed-Block, placed-For, placed-arm)

@@ -6,7 +6,7 @@ use Rattle.std.specs.Option.{option_map, option_map_or}
 use Rattle.std.proofs.lemmas.Bool.{and_parts}
 use Rattle.std.proofs.lemmas.List.Elements.{All-nil, All-cons, All-append}
 use Rattle.c_tree.specs.declared.numbered.Start.{Start}
-use Rattle.c_tree.specs.Numbered.{Starts, start, own_id}
+use Rattle.c_tree.specs.Numbered.{Starts, start, own_id, declared_start}
 use Rattle.c_tree.specs.declared.expr.Expr.{Expr}
 use Rattle.c_tree.specs.declared.statement.Label.{Label}
 use Rattle.c_tree.specs.declared.statement.Statement.{Statement, ind-Statement, roll-Statement, map-Statement, fold-roll-Statement}
@@ -14,18 +14,19 @@ use Rattle.c_tree.specs.declared.statement.Statement.TheOpen.{Statement-F}
 use Rattle.c_tree.specs.declared.statement.Statement.TheVariants as s
 use Rattle.c_tree.specs.declared.statement.Arm.{Arm, roll-Arm, fold-roll-Arm}
 use Rattle.c_tree.specs.declared.program.Program.{Program}
+use Rattle.c_tree.proofs.Trees.{statement_layer, StatementParts}
 use Rattle.c_language.specs.Words.{Bytes, expr_words, assign_sign, name_of_function}
 use Rattle.c_language.specs.Tokens.{line_feeds}
-use Rattle.c_language.specs.Layout.{indent, line, var_words, init_words, target_words, amount_words, cast_words, call_words, init_part, step_part, label_lines, else_lines, arms_lines, laid, statement_words, statement_lines, body_lines}
+use Rattle.c_language.specs.Layout.{indent, line, var_words, init_words, target_words, amount_words, cast_words, call_words, init_part, step_part, label_lines, else_lines, arms_lines, laid, statement_words, statement_lines, body_lines, arm_laid}
 use Rattle.c_language.proofs.LayoutLemmas.{block_lines-laid}
-use Rattle.c_print.specs.Arms.{arm_laid}
-use Rattle.c_print.specs.Lines.{Placed, placed, arm_placed, simple, heights, else_height, own_starts, part_starts, starts_from, block_starts}
+use Rattle.c_print.specs.Lines.{Placed, placed, arm_placed, simple, heights, else_height, part_starts, starts_from, block_starts}
 use Rattle.c_print.specs.Feedless.{feedless, each, type_feedless, expr_feedless, target_feedless, amount_feedless, statement_feedless, statement_step, arm_step, label_feedless, IsFeedless}
-use Rattle.c_print.proofs.FeedLemmas.{arm_feedless, cat, feeds-append, no_feeds, indent_feedless, indent_feeds, line_feeds-line, call_feedless, assign_feedless, var_words_feedless, expr_words_feedless, args_feedless, init_words_feedless, target_words_feedless, amount_words_feedless, cast_words_feedless, bump_words_feedless, return_words_feedless, call_of_feedless, label_feeds}
+use Rattle.c_print.proofs.FeedLemmas.{arm_feedless, cat, no_feeds, indent_feedless, indent_feeds, line_feeds-line, call_feedless, assign_feedless, var_words_feedless, expr_words_feedless, args_feedless, init_words_feedless, target_words_feedless, amount_words_feedless, cast_words_feedless, bump_words_feedless, return_words_feedless, call_of_feedless, label_feeds}
 use Rattle.c_print.specs.StartsOn.{opening, if_line, StandsBehind, itself, met, otherwise, while, repeated, block, first_part, step, turn, switch, ListBehind, first, later, ArmsBehind, inside, after}
 use Rattle.c_print.proofs.StatementWords.{words-Declare, words-Assign, words-Bump, words-Invoke, words-Fetch, words-Write, words-Print, words-Heap, words-Release, words-Return, words-If, words-While, words-Do, words-For, words-Switch, words-Block}
 use Rattle.c_print.proofs.StatementLines.{lines-Declare, lines-Assign, lines-Bump, lines-Invoke, lines-Fetch, lines-Write, lines-Print, lines-Heap, lines-Release, lines-Return, lines-If, lines-While, lines-Do, lines-For, lines-Switch, lines-Block, arm_laid-parts}
 use Rattle.c_print.proofs.PlacedLemmas.{placed-Declare, placed-Assign, placed-Bump, placed-Invoke, placed-Fetch, placed-Write, placed-Print, placed-Heap, placed-Release, placed-Return, placed-If, placed-While, placed-Do, placed-For, placed-Switch, placed-Block, placed-arm, placed-own}
+use Rattle.c_language.proofs.Lists.{feeds-append}
 
 -- a statement of a statement at this level that begins on line k: the number has its line
 pub record IsStarted (p : Program) (n : ℕ) (outer : Statement) (k : ℕ) (x : Start) : Type 0 where
@@ -115,12 +116,12 @@ next_arm p statement rest a b = record {
 
 -- ---- one statement
 
-own_start_at : (p : Program) (statement : Statement) (n k : ℕ) (o : Option ℕ) → own_id statement ≡ o → All (IsStarted p n statement k) (own_starts o k)
+own_start_at : (p : Program) (statement : Statement) (n k : ℕ) (o : Option ℕ) → own_id statement ≡ o → All (IsStarted p n statement k) (declared_start o k)
 own_start_at p statement n k None e = All-nil (IsStarted p n statement k)
 own_start_at p statement n k (Some id) e =
     All-cons (IsStarted p n statement k) (start id k) [] (record { statement = statement; number = e; front = indent n; words = opening p statement; stands = itself; counted = omega (arith, indent_feeds n) }) (All-nil (IsStarted p n statement k))
 
-own_started : (p : Program) (statement : Statement) (n k : ℕ) → All (IsStarted p n statement k) (own_starts (placed statement).own k)
+own_started : (p : Program) (statement : Statement) (n k : ℕ) → All (IsStarted p n statement k) (declared_start (placed statement).own k)
 own_started p statement n k = own_start_at p statement n k (placed statement).own (sym (placed-own statement))
 
 -- a statement of one line
@@ -129,7 +130,7 @@ simple_laid p statement id e l h = record {
   plain = h;
   tall = λ n. omega (arith, ap (λ (y : Placed). y.height) e, ap line_feeds (l n), line_feeds-line n (statement_words p statement ++ codes ";") (cat (statement_words p statement) (codes ";") h refl));
   started = λ n k.
-      All-append (IsStarted p n statement k) (own_starts (placed statement).own k) ((placed statement).inside k) (own_started p statement n k)
+      All-append (IsStarted p n statement k) (declared_start (placed statement).own k) ((placed statement).inside k) (own_started p statement n k)
       (subst (λ (y : Placed). All (IsStarted p n statement k) (y.inside k)) (sym e) (All-nil (IsStarted p n statement k)));
 }
 
@@ -143,7 +144,7 @@ enclosed_laid p statement own h within head tail body e l words opens closes b i
   plain = words;
   tall = λ n. omega (arith, ap (λ (y : Placed). y.height) e, ap line_feeds (l n), feeds-append (line n head) (body n ++ line n tail), feeds-append (body n) (line n tail), line_feeds-line n head opens, line_feeds-line n tail closes, b n);
   started = λ n k.
-      All-append (IsStarted p n statement k) (own_starts (placed statement).own k) ((placed statement).inside k) (own_started p statement n k)
+      All-append (IsStarted p n statement k) (declared_start (placed statement).own k) ((placed statement).inside k) (own_started p statement n k)
       (subst (λ (y : Placed). All (IsStarted p n statement k) (y.inside k)) (sym e) (inner n k));
 }
 
@@ -261,7 +262,7 @@ module _ (p : Program) (ok : IsFeedless p) where
 
   -- ---- a for
 
-  part_started : (n k : ℕ) (outer statement : Statement) (front words : Bytes) (o : Option ℕ) → own_id statement ≡ o → line_feeds front ≡ 0 → StandsBehind p statement n outer front words → All (IsStarted p n outer k) (own_starts o k)
+  part_started : (n k : ℕ) (outer statement : Statement) (front words : Bytes) (o : Option ℕ) → own_id statement ≡ o → line_feeds front ≡ 0 → StandsBehind p statement n outer front words → All (IsStarted p n outer k) (declared_start o k)
   part_started n k outer statement front words None e none h = All-nil (IsStarted p n outer k)
   part_started n k outer statement front words (Some id) e none h =
       All-cons (IsStarted p n outer k) (start id k) [] (record { statement = statement; number = e; front = front; words = words; stands = h; counted = omega (arith, none) }) (All-nil (IsStarted p n outer k))
@@ -369,10 +370,10 @@ module _ (p : Program) (ok : IsFeedless p) where
       let both = and_parts (arm_feedless x.0) (each (map arm_feedless (bare_arms all))) h in next_arm p x.0 (bare_arms all) (x.1 both.0) (arms_laid all both.1)
 
   abbrev Parts : Type 0
-  Parts = Statement-F ((x : Statement) × Q x) ((a : Arm) × R a)
+  Parts = StatementParts Q R
 
   abbrev layer : Parts → Statement-F Statement Arm
-  layer = map-Statement ((x : Statement) × Q x) ((a : Arm) × R a) Statement Arm (λ x. x.0) (λ a. a.0)
+  layer = statement_layer Q R
 
   layer_laid : (y : Parts) → statement_step (map-Statement Statement Arm Bool Bool statement_feedless arm_feedless (layer y)) ≡ true → IsLaid p (roll-Statement (layer y))
   layer_laid (Statement-F.Declare id l x i) h =

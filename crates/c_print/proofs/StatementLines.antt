@@ -12,9 +12,8 @@ use Rattle.c_tree.specs.declared.statement.Arm.{Arm}
 use Rattle.c_tree.specs.declared.statement.Statement.{Statement}
 use Rattle.c_tree.specs.declared.statement.Statement.TheVariants as s
 use Rattle.c_language.specs.Words.{Bytes, expr_words}
-use Rattle.c_language.specs.Layout.{line, label_lines, braced, init_part, step_part, Laid, plain, block_lines, else_lines, arms_lines, laid, statement_words, statement_lines, body_lines}
+use Rattle.c_language.specs.Layout.{line, label_lines, braced, init_part, step_part, Laid, plain, block_lines, else_lines, arms_lines, laid, statement_words, statement_lines, body_lines, arm_laid}
 use Rattle.c_language.proofs.LayoutLemmas.{arm_laid-roll, laid-Declare, laid-Assign, laid-Bump, laid-Invoke, laid-Fetch, laid-Write, laid-Print, laid-Heap, laid-Release, laid-Return, laid-If, laid-While, laid-Do, laid-Switch, laid-Block, laid-For, block_lines-laid}
-use Rattle.c_print.specs.Arms.{arm_laid}
 use Rattle.c_print.proofs.StatementWords.{words-If, words-While, words-For, words-Switch}
 
 -- ---- statements of one line

@@ -1,5 +1,5 @@
 -- Programs whose texts hold no line feed: names, spellings of constants, formats, and the words of lengths.
-use Rattle.std.specs.Prelude.{◌≡◌, List, Bool, true, ◌&&◌, not, Option, Some, None}
+use Rattle.std.specs.Prelude.{◌≡◌, List, Bool, true, ◌&&◌, not, Option, None}
 use Rattle.std.specs.List.{list_all}
 use Rattle.std.specs.Option.{option_map_or}
 use Rattle.c_tree.specs.declared.types.CType.{CType, fold-CType}
@@ -27,6 +27,7 @@ use Rattle.c_tree.specs.declared.statement.Statement.{Statement, fold-Statement}
 use Rattle.c_tree.specs.declared.statement.Statement.TheOpen.{Statement-F, Arm-F}
 use Rattle.c_language.specs.Words.{Bytes}
 use Rattle.c_language.specs.Tokens.{is_feed}
+use Rattle.c_language.specs.Lists.{if_there}
 
 -- no byte is a line feed
 abbrev pub feedless : Bytes → Bool
@@ -34,11 +35,6 @@ feedless = list_all (λ b. not (is_feed b))
 
 abbrev pub each : List Bool → Bool
 each = list_all (λ b. b)
-
--- where there is one
-abbrev pub if_any : Option Bool → Bool
-if_any None = true
-if_any (Some b) = b
 
 -- ---- types and expressions
 
@@ -111,7 +107,7 @@ statement_step (Statement-F.Release id l e) = expr_feedless e
 statement_step (Statement-F.If id l e a b) = expr_feedless e && (each a && each b)
 statement_step (Statement-F.While id l e b) = expr_feedless e && each b
 statement_step (Statement-F.Do id l e b) = expr_feedless e && each b
-statement_step (Statement-F.For id l i e s b) = if_any i && (expr_feedless e && (if_any s && each b))
+statement_step (Statement-F.For id l i e s b) = if_there i && (expr_feedless e && (if_there s && each b))
 statement_step (Statement-F.Switch id l e arms) = expr_feedless e && each arms
 statement_step (Statement-F.Block l b) = each b
 statement_step (Statement-F.Return id l e) = option_map_or expr_feedless e true

@@ -1,7 +1,6 @@
 pub mod Signs
 pub mod Lists
 pub mod Levels
-pub mod Arms
 pub mod Lines
 pub mod Feedless
 pub mod StartsOn

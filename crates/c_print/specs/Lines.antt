@@ -1,7 +1,7 @@
 -- The line on which each statement begins in the layout of a program.
 use Rattle.std.specs.Prelude.{ℕ, suc, ◌+◌, ◌==◌, List, [], ◌∷◌, ◌++◌, Bool, true, false, Option, Some, None, length, map, slice_get}
 use Rattle.std.specs.Option.{option_map_or}
-use Rattle.c_tree.specs.Numbered.{Starts, start}
+use Rattle.c_tree.specs.Numbered.{Starts, declared_start}
 use Rattle.c_tree.specs.declared.program.Program.{Program}
 use Rattle.c_tree.specs.declared.program.StructDef.{StructDef}
 use Rattle.c_tree.specs.declared.program.Function.{Function}
@@ -17,13 +17,9 @@ pub record Placed : Type 0 where
   pub height : ℕ
   pub inside : ℕ → Starts
 
-abbrev pub own_starts : Option ℕ → ℕ → Starts
-own_starts None n = []
-own_starts (Some id) n = start id n ∷ []
-
 -- the numbered statements of a statement that begins on line n, itself first
 abbrev pub starts_from : Placed → ℕ → Starts
-starts_from s n = own_starts s.own n ++ s.inside n
+starts_from s n = declared_start s.own n ++ s.inside n
 
 abbrev pub heights : List Placed → ℕ
 heights [] = 0
@@ -42,7 +38,7 @@ else_height (s ∷ ss) = 1 + heights (s ∷ ss)
 -- what is written in the head of a for stands on the line of the for
 abbrev pub part_starts : Option Placed → ℕ → Starts
 part_starts None n = []
-part_starts (Some s) n = own_starts s.own n
+part_starts (Some s) n = declared_start s.own n
 
 abbrev pub simple : Option ℕ → Placed
 simple id = record { own = id; height = 1; inside = λ n. [] }

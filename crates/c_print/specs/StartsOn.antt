@@ -14,8 +14,7 @@ use Rattle.c_tree.specs.declared.statement.Statement.TheOpen.{Statement-F}
 use Rattle.c_tree.specs.declared.statement.Arm.{Arm, roll-Arm}
 use Rattle.c_language.specs.Words.{Bytes, expr_words}
 use Rattle.c_language.specs.Tokens.{line_feeds}
-use Rattle.c_language.specs.Layout.{indent, line, init_part, laid, statement_words, statement_lines, body_lines, label_lines, var_words, head_words, item_lines, layout}
-use Rattle.c_print.specs.Arms.{arm_laid}
+use Rattle.c_language.specs.Layout.{indent, line, init_part, laid, statement_words, statement_lines, body_lines, label_lines, var_words, head_words, item_lines, layout, arm_laid}
 
 abbrev pub layer_opening : Bytes → Statement-F Statement Arm → Bytes
 layer_opening words (Statement-F.Declare id l x i) = words

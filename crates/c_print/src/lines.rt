@@ -2,12 +2,12 @@
 ghost use Rattle.std.specs.Prelude.{◌≡◌, ◌∷◌, [], ℕ, ◌+◌, ◌<◌, ◌^◌, IfOk, length, map, replicate, slice_get, Some};
 ghost use Rattle.c_tree.specs.declared.program.Item.TheVariants as Item;
 ghost use Rattle.std.specs.Option.{option_map};
-ghost use Rattle.c_tree.specs.Numbered.{start, own_id};
+ghost use Rattle.c_tree.specs.Numbered.{start, own_id, declared_start};
 ghost use Rattle.c_print.specs.Feedless.{IsFeedless};
 ghost use Rattle.c_print.specs.FewLines.{HaveFewLines};
 ghost use Rattle.c_print.specs.StartsOn.{HasPlace, StartsOn};
 ghost use Rattle.c_print.specs.Lines as spec;
-ghost use Rattle.c_print.specs.Lines.{own_starts, starts_from, placed, arm_placed, item_placed, heights, body_height, line_count, kept};
+ghost use Rattle.c_print.specs.Lines.{starts_from, placed, arm_placed, item_placed, heights, body_height, line_count, kept};
 
 use c_tree::numbered::own_start;
 use c_tree::{Arm, Boxed, FunctionId, Item, Program, Statement, StatementId, StructId};
@@ -29,7 +29,7 @@ fn note(lines: &mut [u32], first: StatementId, id: StatementId, line: u32)
 /// Writes down the line of a statement itself.
 #[tactic(auto, using(crate::proofs::Rules::kept_of))]
 fn own(lines: &mut [u32], first: StatementId, line: u32, statement: &Statement)
-    ensures { lines.new ≡ kept first (own_starts (own_id statement.now) line) lines.old }
+    ensures { lines.new ≡ kept first (declared_start (own_id statement.now) line) lines.old }
 {
     if let Some(start) = own_start(statement) {
         note(lines, first, start.id, line);

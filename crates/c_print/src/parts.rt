@@ -163,7 +163,7 @@ pub(crate) fn bump(
 
 /// `++` or else `--` (ISO C99 6.5.2.4, 6.5.3.1).
 fn bump_sign(up: bool) -> &'static [u8]
-    ensures { result.now ≡ spec.bump_sign up }
+    ensures { result.now ≡ words.bump_sign up }
 {
     if up { b"++" } else { b"--" }
 }

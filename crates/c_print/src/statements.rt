@@ -2,8 +2,7 @@
 ghost use Rattle.std.specs.Prelude.{◌≡◌, suc, ◌++◌, OnOk, codes, map};
 ghost use Rattle.c_language.specs.Words.{expr_words};
 ghost use Rattle.c_language.specs.Layout as spec;
-ghost use Rattle.c_language.specs.Layout.{laid, statement_words, statement_lines, body_lines};
-ghost use Rattle.c_print.specs.Arms.{arm_laid};
+ghost use Rattle.c_language.specs.Layout.{laid, arm_laid, statement_words, statement_lines, body_lines};
 
 use crate::expressions::enclosed;
 use crate::margin::Margin;

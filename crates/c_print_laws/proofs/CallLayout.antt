@@ -40,12 +40,13 @@ use Rattle.c_language.specs.Uses.{is_one_of, init_exprs, arg_exprs, counts}
 use Rattle.c_language.specs.ProgramOf.{ctype, ctype_if, expr_of, exprs_of, init_of, variable_number, arg_tree, args_tree, only_tree, print_tree, invoke_tree, call_tree, size_tree, amount_tree, heap_tree, optional}
 use Rattle.c_language.proofs.LayoutLemmas.{laid-Invoke, laid-Fetch, laid-Write, laid-Print, laid-Heap, laid-Release}
 use Rattle.c_text_layout.specs.RawLayout.{raw_init_words, raw_target_words, raw_arg_words, raw_pointee_words, raw_size_words, raw_amount_words, raw_cast_words}
-use Rattle.c_print_laws.proofs.Options.{map_there, then_there, both_there, collected_are, cons_nil, first_same, rest_same}
+use Rattle.c_print_laws.proofs.Options.{map_there, then_there, both_there, collected_are}
 use Rattle.c_print_laws.proofs.Operands.{KeepsAll}
 use Rattle.c_print_laws.proofs.Named.{IsNamed, Fits}
 use Rattle.c_print_laws.proofs.ExprLayout.{variable_named, expr_layout, exprs_layout}
 use Rattle.c_print_laws.proofs.TypeLayout.{nameless_layout}
 use Rattle.c_language.proofs.Options.{none_there, some_same}
+use Rattle.c_language.proofs.Lists.{no_list, head_is, tail_is}
 
 pub optional_there : {A : Type 0} (x : Option (Option A)) (y : Option A) → optional x ≡ Some y → x ≡ option_map Some y
 optional_there None y h = ap (option_map Some) (some_same h)
@@ -81,12 +82,12 @@ module _ (raw : RawProgram) (p : Program) (named : IsNamed raw p) (scope : Scope
 
   args_laid : (all : List RawArg) → AllKept (arg_exprs all) → (xs : List Expr) → map (arg_tree raw scope) all ≡ map Some xs → map (expr_words p) xs ≡ map raw_arg_words all
   args_laid [] keeps [] h = refl
-  args_laid [] keeps (x ∷ xs) h = cons_nil (Some x) (map Some xs) (sym h)
-  args_laid (a ∷ all) keeps [] h = cons_nil (arg_tree raw scope a) (map (arg_tree raw scope) all) h
+  args_laid [] keeps (x ∷ xs) h = no_list (sym h)
+  args_laid (a ∷ all) keeps [] h = no_list h
   args_laid (arg.Value a ∷ all) keeps (x ∷ xs) h =
-      ap₂ (λ (w : Bytes) (ws : List Bytes). w ∷ ws) (expr_layout raw p named scope fits a (kept_first a (arg_exprs all) keeps) x (first_same h))
-      (args_laid all (kept_later a (arg_exprs all) keeps) xs (rest_same h))
-  args_laid (arg.Literal text ∷ all) keeps (x ∷ xs) h = none_there (first_same h)
+      ap₂ (λ (w : Bytes) (ws : List Bytes). w ∷ ws) (expr_layout raw p named scope fits a (kept_first a (arg_exprs all) keeps) x (head_is h))
+      (args_laid all (kept_later a (arg_exprs all) keeps) xs (tail_is h))
+  args_laid (arg.Literal text ∷ all) keeps (x ∷ xs) h = none_there (head_is h)
 
   args_layout : (all : List RawArg) → AllKept (arg_exprs all) → (xs : List Expr) → args_tree raw scope all ≡ Some xs → map (expr_words p) xs ≡ map raw_arg_words all
   args_layout all keeps xs h = args_laid all keeps xs (collected_are (map (arg_tree raw scope) all) xs h)
@@ -183,7 +184,7 @@ module _ (raw : RawProgram) (p : Program) (named : IsNamed raw p) (scope : Scope
       where
         by_args : (all : List RawArg) → (all ≢ [] → ⊥) → all ≡ []
         by_args [] h = refl
-        by_args (a ∷ all) h = absurd (h (λ is. cons_nil a all is))
+        by_args (a ∷ all) h = absurd (h (λ is. no_list is))
 
     fetch_layout : (x : Statement) → Kept (codes "getchar") → option_map (s.Fetch id l) tree ≡ Some x → CallLaid (codes "getchar") x
     fetch_layout x kept h =

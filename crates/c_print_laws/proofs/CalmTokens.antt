@@ -4,7 +4,6 @@ use Rattle.std.specs.Prelude.{◌==◌, bytes_eq, Contains}
 use Rattle.std.specs.List.{list_all}
 use Rattle.std.proofs.lemmas.Bool.{and_parts, not-true, or_left}
 use Rattle.std.proofs.lemmas.Slice.Eq.{bytes_eq-Decides}
-use Rattle.std.proofs.lemmas.List.{reverse-append, append_assoc}
 use Rattle.c_arith.specs.declared.int_type.IntType.{IntType}
 use Rattle.c_arith.specs.declared.int_type.IntType.TheVariants.{Char, UChar, Short, UShort, Int, UInt, Long, ULong}
 use Rattle.c_arith.specs.declared.operators.UnaryOp.TheVariants.{Plus, Minus, Flip, Not}
@@ -25,7 +24,9 @@ use Rattle.c_language.specs.declared.operators.Prefix.{Prefix}
 use Rattle.c_language.specs.declared.operators.Prefix.TheVariants.{Sign, Deref, AddressOf}
 use Rattle.c_language.specs.declared.operators.Selector.{Selector}
 use Rattle.c_language.specs.declared.operators.Selector.TheVariants.{Dot, Arrow}
-use Rattle.c_text_layout.proofs.TokenPrint.{by_answer}
+use Rattle.c_language.proofs.Tests.{by_answer}
+use Rattle.c_language.proofs.Keywords.{no_keyword}
+use Rattle.c_language.proofs.Lists.{reversed}
 
 -- ---- no token of a list begins a left-out construct
 
@@ -33,9 +34,6 @@ use Rattle.c_text_layout.proofs.TokenPrint.{by_answer}
 abbrev pub AreUntold : Tokens → Tokens → Type 0
 AreUntold before [] = Unit {0}
 AreUntold before (t ∷ ts) = (IsTold before t ts → ⊥) × AreUntold (t ∷ before) ts
-
-reversed : (t : Token) (front before : Tokens) → reverse (t ∷ front) ++ before ≡ reverse front ++ (t ∷ before)
-reversed t front before = ap (λ (x : Tokens). x ++ before) (reverse-append (t ∷ []) front) ∙ append_assoc (reverse front) (t ∷ []) before
 
 pub untold_at : (front before : Tokens) (t : Token) (behind : Tokens) → AreUntold before (front ++ t ∷ behind) → IsTold (reverse front ++ before) t behind → ⊥
 untold_at [] before t behind h told = h.0 told
@@ -123,31 +121,28 @@ calm_behind (more {t} {ts} h k) = calm_semicolon t ts h ∙ calm_behind k
 
 -- ---- words
 
-pub no_word : (w x : Bytes) → is_keyword w ≡ false → is_keyword x ≡ true → bytes_eq w x ≡ false
-no_word w x h k = by_answer (bytes_eq w x) (λ t. absurd (true≢false (sym (sym h ∙ ap is_keyword ((bytes_eq-Decides w x).0 t) ∙ k)))) (λ f. f)
-
 pub name_calm : (w : Bytes) → is_keyword w ≡ false → not (is_watched w) ≡ true
 unfolding is_watched is_left_out_word is_keyword
 name_calm w h = rw (
-  no_word w (codes "goto") h refl,
-  no_word w (codes "continue") h refl,
-  no_word w (codes "typedef") h refl,
-  no_word w (codes "enum") h refl,
-  no_word w (codes "union") h refl,
-  no_word w (codes "float") h refl,
-  no_word w (codes "double") h refl,
-  no_word w (codes "_Bool") h refl,
-  no_word w (codes "const") h refl,
-  no_word w (codes "volatile") h refl,
-  no_word w (codes "restrict") h refl,
-  no_word w (codes "extern") h refl,
-  no_word w (codes "register") h refl,
-  no_word w (codes "auto") h refl,
-  no_word w (codes "inline") h refl,
-  no_word w (codes "struct") h refl,
-  no_word w (codes "return") h refl,
-  no_word w (codes "case") h refl,
-  no_word w (codes "default") h refl,
+  no_keyword w (codes "goto") h refl,
+  no_keyword w (codes "continue") h refl,
+  no_keyword w (codes "typedef") h refl,
+  no_keyword w (codes "enum") h refl,
+  no_keyword w (codes "union") h refl,
+  no_keyword w (codes "float") h refl,
+  no_keyword w (codes "double") h refl,
+  no_keyword w (codes "_Bool") h refl,
+  no_keyword w (codes "const") h refl,
+  no_keyword w (codes "volatile") h refl,
+  no_keyword w (codes "restrict") h refl,
+  no_keyword w (codes "extern") h refl,
+  no_keyword w (codes "register") h refl,
+  no_keyword w (codes "auto") h refl,
+  no_keyword w (codes "inline") h refl,
+  no_keyword w (codes "struct") h refl,
+  no_keyword w (codes "return") h refl,
+  no_keyword w (codes "case") h refl,
+  no_keyword w (codes "default") h refl,
 ) refl
 
 pub plain_calm : (w : Bytes) → is_plain_name w ≡ true → not (is_watched w) ≡ true

@@ -28,10 +28,11 @@ use Rattle.c_language.specs.Phrases.{scope_at_end}
 use Rattle.c_language.proofs.Options.{none_there, some_same}
 use Rattle.c_language.proofs.Tests.{false_true}
 use Rattle.c_language.proofs.ScopeNumbers.{function_variables}
-use Rattle.c_print_laws.proofs.Options.{map_there, then_there, both_there, collected_are, cons_nil, first_same, rest_same}
+use Rattle.c_print_laws.proofs.Options.{map_there, then_there, both_there, collected_are}
 use Rattle.c_print_laws.proofs.Named.{positioned}
 use Rattle.c_print_laws.proofs.Told.{AreTold, told_first, told_rest, told_later}
 use Rattle.c_print_laws.proofs.Numbers.{parameter_count, item_variables, define_functions, prototype_functions}
+use Rattle.c_language.proofs.Lists.{no_list, head_is, tail_is}
 
 -- ---- the parts of the program of a text
 
@@ -206,14 +207,14 @@ module _ (raw : RawProgram) (p : Program) where
           → AreTold raw p scope.variables (items_phrases raw (Define l hd body ∷ xs) scope) → AreFormed (Define l hd body ∷ xs)
           → (FunctionsAt (after_item raw (Define l hd body) scope) xs → (k : ℕ) (h : RawHead) → slice_get (functions_of xs) k ≡ Some h → IsDefinedAs ((after_item raw (Define l hd body) scope).functions + k) h)
           → (k : ℕ) → slice_get (functions_of (Define l hd body ∷ xs)) k ≡ Some h → IsDefinedAs (scope.functions + k) h
-      by_functions [] are behind told formed later k is = cons_nil (function_tree raw l hd body scope) _ are
+      by_functions [] are behind told formed later k is = no_list are
       by_functions (f ∷ fs) are behind told formed later zero is =
           subst (λ (n : ℕ). IsDefinedAs n h) (omega arith) (subst (IsDefinedAs scope.functions) (some_same is)
-          (defined_as l hd body scope f (first_same are) (behind_first p.functions scope.functions f fs behind) formed.0.1
+          (defined_as l hd body scope f (head_is are) (behind_first p.functions scope.functions f fs behind) formed.0.1
           (told_first raw p scope.variables (item_phrases raw (Define l hd body) scope) (items_phrases raw xs (after_item raw (Define l hd body) scope)) told)))
       by_functions (f ∷ fs) are behind told formed later (suc k) is =
           subst (λ (n : ℕ). IsDefinedAs n h) (number k)
-          (later (define_later l hd body xs scope f fs (rest_same are) behind told formed.1) k h is)
+          (later (define_later l hd body xs scope f fs (tail_is are) behind told formed.1) k h is)
         where
           number : (k : ℕ) → (after_item raw (Define l hd body) scope).functions + k ≡ scope.functions + suc k
           number k = let a : (after_item raw (Define l hd body) scope).functions ≡ scope.functions + 1 = define_functions raw l hd body scope in omega (arith, a)

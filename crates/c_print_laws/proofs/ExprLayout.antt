@@ -18,11 +18,13 @@ use Rattle.c_language.specs.declared.expr_type.Operand.{Operand}
 use Rattle.c_language.specs.declared.expr_type.ExprType.{ExprType}
 use Rattle.c_language.proofs.WordLemmas.{expr_words-Constant, expr_words-Null, expr_words-Eof, expr_words-Variable, expr_words-Unary, expr_words-Deref, expr_words-AddressOf, expr_words-Binary, expr_words-AndAlso, expr_words-OrElse, expr_words-Choose, expr_words-Cast, expr_words-Index, expr_words-Member, expr_words-Arrow, expr_words-Paren}
 use Rattle.c_text_layout.specs.SpacedWords.{spaced_words}
-use Rattle.c_print_laws.proofs.Options.{map_there, then_there, both_there, cons_nil, first_same, rest_same}
+use Rattle.c_print_laws.proofs.Options.{map_there, then_there, both_there}
 use Rattle.c_print_laws.proofs.Operands.{KeepsAll}
 use Rattle.c_print_laws.proofs.SpacedWords.{constant_spaced, words_spaced}
 use Rattle.c_print_laws.proofs.Named.{IsNamed, Fits, fits_found, fits_typed}
-use Rattle.c_language.proofs.Options.{IsThere, none_there, some_same}
+use Rattle.c_language.proofs.Options.{none_there, some_same}
+use Rattle.c_language.proofs.Lists.{no_list, head_is, tail_is}
+use Rattle.c_language.specs.Options.{IsThere}
 
 module _ (raw : RawProgram) (p : Program) (named : IsNamed raw p) (scope : Scope) (fits : Fits p scope) where
   abbrev HasWords : RawExpr → Type 0
@@ -120,8 +122,8 @@ module _ (raw : RawProgram) (p : Program) (named : IsNamed raw p) (scope : Scope
   -- a list of expressions
   pub exprs_layout : (all : List RawExpr) → ((a : RawExpr) → Contains all a → KeepsAll raw scope a) → (xs : List Expr) → map (expr_of raw scope) all ≡ map Some xs → map (expr_words p) xs ≡ map spaced_words all
   exprs_layout [] keeps [] h = refl
-  exprs_layout [] keeps (x ∷ xs) h = cons_nil (Some x) (map Some xs) (sym h)
-  exprs_layout (a ∷ all) keeps [] h = cons_nil (expr_of raw scope a) (map (expr_of raw scope) all) h
+  exprs_layout [] keeps (x ∷ xs) h = no_list (sym h)
+  exprs_layout (a ∷ all) keeps [] h = no_list h
   exprs_layout (a ∷ all) keeps (x ∷ xs) h =
-      ap₂ (λ (w : Bytes) (ws : List Bytes). w ∷ ws) (expr_layout a (keeps a (0, omega arith, refl)) x (first_same h))
-      (exprs_layout all (λ b c. keeps b (suc c.0, omega (arith, c.1), c.2)) xs (rest_same h))
+      ap₂ (λ (w : Bytes) (ws : List Bytes). w ∷ ws) (expr_layout a (keeps a (0, omega arith, refl)) x (head_is h))
+      (exprs_layout all (λ b c. keeps b (suc c.0, omega (arith, c.1), c.2)) xs (tail_is h))

@@ -1,18 +1,17 @@
 -- No text of a well-formed program holds a line feed, since each is that of a token, or words of tokens in the layout.
-use Rattle.std.proofs.Common.{◌≡◌, ℕ, List, [], ◌∷◌, map, Bool, true, ◌&&◌, Some, None, refl, sym, ap, ap₂, subst, ◌∙◌}
+use Rattle.std.proofs.Common.{◌≡◌, ℕ, List, [], ◌∷◌, map, Bool, true, ◌&&◌, Some, refl, sym, ap, ap₂, ◌∙◌}
 use Rattle.std.specs.List.{list_all}
 use Rattle.std.specs.Option.{option_map_or}
 use Rattle.std.proofs.lemmas.Bool.{and_from, and_parts}
-use Rattle.c_tree.specs.Unlined.{unlined, unlined_step, unlined_arm, unlined_var, unlined_function, SameButLines}
+use Rattle.c_tree.specs.Unlined.{unlined, unlined_var, unlined_function, SameButLines}
 use Rattle.c_tree.specs.declared.program.Program.{Program}
 use Rattle.c_tree.specs.declared.program.Member.{Member}
 use Rattle.c_tree.specs.declared.program.StructDef.{StructDef}
 use Rattle.c_tree.specs.declared.program.Function.{Function}
 use Rattle.c_tree.specs.declared.program.Item.{Item}
 use Rattle.c_tree.specs.declared.program.Item.TheVariants as item
-use Rattle.c_tree.specs.declared.statement.Statement.{Statement, ind-Statement, roll-Statement, map-Statement, fold-roll-Statement}
+use Rattle.c_tree.specs.declared.statement.Statement.{Statement}
 use Rattle.c_tree.specs.declared.statement.Statement.TheOpen.{Statement-F}
-use Rattle.c_tree.specs.declared.statement.Arm.{Arm, roll-Arm, map-Arm, fold-roll-Arm}
 use Rattle.c_tree.specs.declared.raw.program.RawMember.{RawMember}
 use Rattle.c_tree.specs.declared.raw.program.RawParam.{RawParam}
 use Rattle.c_tree.specs.declared.raw.program.RawHead.{RawHead}
@@ -20,24 +19,23 @@ use Rattle.c_tree.specs.declared.raw.program.RawItem.{RawItem}
 use Rattle.c_tree.specs.declared.raw.program.RawItem.TheVariants.{Include, Tag, Struct, Global, Prototype, Define}
 use Rattle.c_tree.specs.declared.raw.program.RawProgram.{RawProgram}
 use Rattle.c_tree.specs.declared.raw.statement.RawStatement.{RawStatement}
-use Rattle.c_tree.proofs.UnlinedLemmas.{unlined_of_arm}
 use Rattle.c_language.specs.DeclaredTypes.{StructText, structs_of, defined_structs, struct_id, function_id}
 use Rattle.c_language.specs.Scopes.{Scope, outset, with_variable, entered}
 use Rattle.c_language.specs.Phrases.{after_item}
 use Rattle.c_language.specs.ProgramOf.{collected, ctype, ctype_if, init_of, member_tree, struct_tree, body_of, function_tree, functions_from, item_tree, items_from, program_of}
 use Rattle.c_language.specs.Programs.{IsWellFormed}
-use Rattle.c_print.specs.Feedless.{feedless, each, type_feedless, expr_feedless, statement_step, arm_step, statement_feedless, label_feedless, var_feedless, member_feedless, struct_feedless, function_feedless, name_feedless, item_feedless, IsFeedless}
-use Rattle.c_print.proofs.FeedLemmas.{arm_feedless}
+use Rattle.c_print.specs.Feedless.{feedless, type_feedless, statement_step, arm_step, statement_feedless, var_feedless, member_feedless, struct_feedless, function_feedless, name_feedless, item_feedless, IsFeedless}
 use Rattle.c_text_layout.proofs.TextPrint.{formed_written}
-use Rattle.c_print_laws.proofs.Options.{map_there, both_there, collected_are, cons_nil, first_same, rest_same}
+use Rattle.c_print_laws.proofs.Options.{map_there, both_there, collected_are}
 use Rattle.c_print_laws.proofs.Definitions.{program_parts}
-use Rattle.c_print_laws.proofs.LineLess.{zero_line, unlined_rolls}
+use Rattle.c_tree.proofs.Unlining.{zeroed, fold_unlined}
 use Rattle.c_print_laws.proofs.RawFeedless.{raw_type_feedless, raw_var_feedless, raw_init_feedless, raw_body_feedless, raw_member_feedless, raw_param_feedless, raw_head_feedless, raw_item_feedless, raw_items_feedless}
 use Rattle.c_print_laws.proofs.FeedlessTokens.{program_of_tokens}
 use Rattle.c_print_laws.proofs.FeedlessTypes.{all_given, type_given, optional_type_given}
 use Rattle.c_print_laws.proofs.FeedlessStatements.{init_given, body_given}
 use Rattle.c_print_laws.proofs.FeedlessVariables.{variables_given}
 use Rattle.c_language.proofs.Options.{some_same}
+use Rattle.c_language.proofs.Lists.{no_list, head_is, tail_is}
 
 module _ (raw : RawProgram) where
   -- ---- struct types
@@ -81,16 +79,16 @@ module _ (raw : RawProgram) where
 
   functions_given : (xs : List RawItem) (scope : Scope) (fs : List Function) → raw_items_feedless xs ≡ true → functions_from raw xs scope ≡ map Some fs → list_all function_feedless fs ≡ true
   functions_given [] scope [] h is = refl
-  functions_given [] scope (f ∷ fs) h is = cons_nil (Some f) (map Some fs) (sym is)
+  functions_given [] scope (f ∷ fs) h is = no_list (sym is)
   functions_given (Include is_stdlib ∷ xs) scope fs h is = functions_given xs (after_item raw (Include is_stdlib) scope) fs h is
   functions_given (Tag l tag ∷ xs) scope fs h is = functions_given xs (after_item raw (Tag l tag) scope) fs h is
   functions_given (Struct l tag members ∷ xs) scope fs h is = functions_given xs (after_item raw (Struct l tag members) scope) fs (and_parts (raw_item_feedless (Struct l tag members)) (raw_items_feedless xs) h).1 is
   functions_given (Global l v i is_static ∷ xs) scope fs h is = functions_given xs (after_item raw (Global l v i is_static) scope) fs (and_parts (raw_item_feedless (Global l v i is_static)) (raw_items_feedless xs) h).1 is
   functions_given (Prototype l head ∷ xs) scope fs h is = functions_given xs (after_item raw (Prototype l head) scope) fs (and_parts (raw_item_feedless (Prototype l head)) (raw_items_feedless xs) h).1 is
-  functions_given (Define l head body ∷ xs) scope [] h is = cons_nil (function_tree raw l head body scope) (functions_from raw xs (after_item raw (Define l head body) scope)) is
+  functions_given (Define l head body ∷ xs) scope [] h is = no_list is
   functions_given (Define l head body ∷ xs) scope (f ∷ fs) h is =
       let p = and_parts (raw_item_feedless (Define l head body)) (raw_items_feedless xs) h in
-      and_from _ _ (function_given l head body scope f p.0 (first_same is)) (functions_given xs (after_item raw (Define l head body) scope) fs p.1 (rest_same is))
+      and_from _ _ (function_given l head body scope f p.0 (head_is is)) (functions_given xs (after_item raw (Define l head body) scope) fs p.1 (tail_is is))
 
   -- ---- items
 
@@ -117,11 +115,11 @@ module _ (raw : RawProgram) where
 
   items_given : (xs : List RawItem) (scope : Scope) (is : List Item) → raw_items_feedless xs ≡ true → items_from raw xs scope ≡ map Some is → list_all item_feedless is ≡ true
   items_given [] scope [] h same = refl
-  items_given [] scope (i ∷ is) h same = cons_nil (Some i) (map Some is) (sym same)
-  items_given (x ∷ xs) scope [] h same = cons_nil (item_tree raw x scope) (items_from raw xs (after_item raw x scope)) same
+  items_given [] scope (i ∷ is) h same = no_list (sym same)
+  items_given (x ∷ xs) scope [] h same = no_list same
   items_given (x ∷ xs) scope (i ∷ is) h same =
       let p = and_parts (raw_item_feedless x) (raw_items_feedless xs) h in
-      and_from _ _ (item_given x scope i p.0 (first_same same)) (items_given xs (after_item raw x scope) is p.1 (rest_same same))
+      and_from _ _ (item_given x scope i p.0 (head_is same)) (items_given xs (after_item raw x scope) is p.1 (tail_is same))
 
   -- ---- the program of the text
 
@@ -137,70 +135,12 @@ module _ (raw : RawProgram) where
 
 -- ---- texts don't depend on lines
 
-abbrev Same : Statement → Type 0
-Same x = statement_feedless (unlined x) ≡ statement_feedless x
+feedless_free : (y : Statement-F Bool Bool) → statement_step (zeroed y) ≡ statement_step y
+feedless_free (Statement-F.Declare id l x i) = refl
+feedless_free _ = refl
 
-abbrev ArmSame : Arm → Type 0
-ArmSame x = arm_feedless (unlined_of_arm x) ≡ arm_feedless x
-
-abbrev bodies : List ((x : Statement) × Same x) → List Statement
-bodies = map (λ (x : (y : Statement) × Same y). x.0)
-
-abbrev bodies_of_arms : List ((x : Arm) × ArmSame x) → List Arm
-bodies_of_arms = map (λ (x : (y : Arm) × ArmSame y). x.0)
-
-all_same : (xs : List ((x : Statement) × Same x)) → each (map statement_feedless (map unlined (bodies xs))) ≡ each (map statement_feedless (bodies xs))
-all_same [] = refl
-all_same (x ∷ xs) = ap₂ (λ (a b : Bool). a && b) x.1 (all_same xs)
-
-arms_same : (xs : List ((x : Arm) × ArmSame x)) → each (map arm_feedless (map unlined_of_arm (bodies_of_arms xs))) ≡ each (map arm_feedless (bodies_of_arms xs))
-arms_same [] = refl
-arms_same (x ∷ xs) = ap₂ (λ (a b : Bool). a && b) x.1 (arms_same xs)
-
-abbrev shape : Statement-F ((x : Statement) × Same x) ((x : Arm) × ArmSame x) → Statement-F Statement Arm
-shape = map-Statement ((x : Statement) × Same x) ((x : Arm) × ArmSame x) Statement Arm (λ x. x.0) (λ x. x.0)
-
-abbrev kept : Statement-F Statement Arm → Statement-F Statement Arm
-kept y = zero_line (map-Statement Statement Arm Statement Arm unlined unlined_of_arm y)
-
-abbrev step_at : Statement-F Statement Arm → Bool
-step_at y = statement_step (map-Statement Statement Arm Bool Bool statement_feedless arm_feedless y)
-
-layer_same : (y : Statement-F ((x : Statement) × Same x) ((x : Arm) × ArmSame x)) → step_at (kept (shape y)) ≡ step_at (shape y)
-layer_same (Statement-F.Declare id l x i) = refl
-layer_same (Statement-F.Assign id l a op b) = refl
-layer_same (Statement-F.Bump id l a up before) = refl
-layer_same (Statement-F.Invoke id l to f args) = refl
-layer_same (Statement-F.Fetch id l to) = refl
-layer_same (Statement-F.Write id l e) = refl
-layer_same (Statement-F.Print id l format args) = refl
-layer_same (Statement-F.Heap id l to cast n) = refl
-layer_same (Statement-F.Release id l e) = refl
-layer_same (Statement-F.Return id l e) = refl
-layer_same (Statement-F.If id l e a b) = ap₂ (λ (x y : Bool). expr_feedless e && (x && y)) (all_same a) (all_same b)
-layer_same (Statement-F.While id l e b) = ap (λ (x : Bool). expr_feedless e && x) (all_same b)
-layer_same (Statement-F.Do id l e b) = ap (λ (x : Bool). expr_feedless e && x) (all_same b)
-layer_same (Statement-F.For id l None e None b) = ap (λ (x : Bool). expr_feedless e && x) (all_same b)
-layer_same (Statement-F.For id l None e (Some k) b) = ap₂ (λ (x y : Bool). expr_feedless e && (x && y)) k.1 (all_same b)
-layer_same (Statement-F.For id l (Some i) e None b) = ap₂ (λ (x y : Bool). x && (expr_feedless e && y)) i.1 (all_same b)
-layer_same (Statement-F.For id l (Some i) e (Some k) b) =
-    ap₂ (λ (x y : Bool). x && (expr_feedless e && (y && each (map statement_feedless (map unlined (bodies b)))))) i.1 k.1
-    ∙ ap (λ (x : Bool). statement_feedless i.0 && (expr_feedless e && (statement_feedless k.0 && x))) (all_same b)
-layer_same (Statement-F.Switch id l e arms) = ap (λ (x : Bool). expr_feedless e && x) (arms_same arms)
-layer_same (Statement-F.Block l b) = all_same b
-
-statement_same : (x : Statement) → Same x
-statement_same = ind-Statement Same ArmSame
-    (λ x y is. subst (λ z. Same (roll-Statement z)) is
-    (ap statement_feedless (fold-roll-Statement Statement Arm unlined_step unlined_arm (shape y) ∙ unlined_rolls (map-Statement Statement Arm Statement Arm unlined unlined_of_arm (shape y)))
-    ∙ fold-roll-Statement Bool Bool statement_step arm_step (kept (shape y)) ∙ layer_same y
-    ∙ sym (fold-roll-Statement Bool Bool statement_step arm_step (shape y))))
-    (λ x y is. subst (λ z. ArmSame (roll-Arm z)) is
-    (let l = map-Arm ((x : Statement) × Same x) ((x : Arm) × ArmSame x) Statement Arm (λ x. x.0) (λ x. x.0) y in
-    ap arm_feedless (fold-roll-Arm Statement Arm unlined_step unlined_arm l)
-    ∙ fold-roll-Arm Bool Bool statement_step arm_step (map-Arm Statement Arm Statement Arm unlined unlined_of_arm l)
-    ∙ ap (λ (x : Bool). list_all label_feedless y.labels && x) (all_same y.body)
-    ∙ sym (fold-roll-Arm Bool Bool statement_step arm_step l)))
+statement_same : (x : Statement) → statement_feedless (unlined x) ≡ statement_feedless x
+statement_same = fold_unlined statement_step arm_step feedless_free
 
 -- two lists that a test can't tell apart
 mapped_same : {A : Type 0} (g : A → A) (test : A → Bool) → ((a : A) → test (g a) ≡ test a) → (xs : List A) → list_all test (map g xs) ≡ list_all test xs

@@ -48,10 +48,11 @@ use Rattle.c_language.specs.CallRules.{format_in, later_args, only_arg}
 use Rattle.c_language.specs.ProgramOf.{collected, optional, ctype, ctype_if, variable_number, expr_of, exprs_of, init_of, declaration_id, target_tree, arg_tree, args_tree, only_tree, print_tree, invoke_tree, size_tree, amount_tree, heap_tree, label_tree, ArmTree, arm_tree, arm_tree_step, block_tree, at_type, switch_type, part_tree, for_tree, treed_step, treed, body_of}
 use Rattle.c_print.specs.Feedless.{feedless, each, type_feedless, expr_feedless, init_feedless, target_feedless, size_feedless, amount_feedless, label_feedless, statement_step, arm_step, statement_feedless}
 use Rattle.c_print.proofs.FeedLemmas.{arm_feedless}
-use Rattle.c_print_laws.proofs.Options.{map_there, then_there, both_there, collected_are, cons_nil, first_same, rest_same}
+use Rattle.c_print_laws.proofs.Options.{map_there, then_there, both_there, collected_are}
 use Rattle.c_print_laws.proofs.RawFeedless.{raw_expr_feedless, raw_type_feedless, raw_var_feedless, raw_init_feedless, raw_target_feedless, raw_arg_feedless, raw_name_feedless, raw_size_feedless, raw_amount_feedless, raw_label_feedless, raw_statement_step, raw_arm_step, raw_statement_feedless, raw_arm_feedless, raw_body_feedless}
 use Rattle.c_print_laws.proofs.FeedlessTypes.{all_given, given, type_given, pointed_feedless, optional_type_given, expr_given}
 use Rattle.c_language.proofs.Options.{none_there, some_same}
+use Rattle.c_language.proofs.Lists.{no_list, head_is, tail_is}
 
 -- ---- parts of statements
 
@@ -220,11 +221,11 @@ module _ (raw : RawProgram) where
 
   all_give : (xs : List ((x : RawStatement) × Q x)) → raw_body_feedless (bodies xs) ≡ true → (scope : Scope) (ts : List Statement) → in_order (map (treed raw) (bodies xs)) scope ≡ map Some ts → list_feedless ts ≡ true
   all_give [] h scope [] is = refl
-  all_give [] h scope (t ∷ ts) is = cons_nil (Some t) (map Some ts) (sym is)
-  all_give (x ∷ xs) h scope [] is = cons_nil ((treed raw x.0).gives scope) (in_order (map (treed raw) (bodies xs)) ((treed raw x.0).after scope)) is
+  all_give [] h scope (t ∷ ts) is = no_list (sym is)
+  all_give (x ∷ xs) h scope [] is = no_list is
   all_give (x ∷ xs) h scope (t ∷ ts) is =
       let p = and_parts (raw_statement_feedless x.0) (raw_body_feedless (bodies xs)) h in
-      and_from _ _ (x.1 p.0 scope t (first_same is)) (all_give xs p.1 ((treed raw x.0).after scope) ts (rest_same is))
+      and_from _ _ (x.1 p.0 scope t (head_is is)) (all_give xs p.1 ((treed raw x.0).after scope) ts (tail_is is))
 
   block_gives : (xs : List ((x : RawStatement) × Q x)) → raw_body_feedless (bodies xs) ≡ true → (scope : Scope) (ts : List Statement) → block_tree (map (treed raw) (bodies xs)) scope ≡ Some ts → list_feedless ts ≡ true
   block_gives xs h scope ts is = all_give xs h (opened scope) ts (collected_are (in_order (map (treed raw) (bodies xs)) (opened scope)) ts is)
@@ -232,11 +233,11 @@ module _ (raw : RawProgram) where
   arms_give : (xs : List ((x : RawArm) × R x)) → each (map raw_arm_feedless (bodies_of_arms xs)) ≡ true → (scope : Scope) (type : IntType) (as_ : List Arm)
       → map (λ (a : ArmTree). a type) (in_order (map treed_arm (bodies_of_arms xs)) scope) ≡ map Some as_ → each (map arm_feedless as_) ≡ true
   arms_give [] h scope type [] is = refl
-  arms_give [] h scope type (a ∷ as_) is = cons_nil (Some a) (map Some as_) (sym is)
-  arms_give (x ∷ xs) h scope type [] is = cons_nil ((treed_arm x.0).gives scope type) (map (λ (a : ArmTree). a type) (in_order (map treed_arm (bodies_of_arms xs)) ((treed_arm x.0).after scope))) is
+  arms_give [] h scope type (a ∷ as_) is = no_list (sym is)
+  arms_give (x ∷ xs) h scope type [] is = no_list is
   arms_give (x ∷ xs) h scope type (a ∷ as_) is =
       let p = and_parts (raw_arm_feedless x.0) (each (map raw_arm_feedless (bodies_of_arms xs))) h in
-      and_from _ _ (x.1 p.0 scope type a (first_same is)) (arms_give xs p.1 ((treed_arm x.0).after scope) type as_ (rest_same is))
+      and_from _ _ (x.1 p.0 scope type a (head_is is)) (arms_give xs p.1 ((treed_arm x.0).after scope) type as_ (tail_is is))
 
   -- ---- the parts of a for
 
@@ -372,11 +373,11 @@ module _ (raw : RawProgram) where
 
   in_order_given : (xs : List RawStatement) → raw_body_feedless xs ≡ true → (scope : Scope) (ts : List Statement) → in_order (map (treed raw) xs) scope ≡ map Some ts → list_all statement_feedless ts ≡ true
   in_order_given [] h scope [] is = refl
-  in_order_given [] h scope (t ∷ ts) is = cons_nil (Some t) (map Some ts) (sym is)
-  in_order_given (x ∷ xs) h scope [] is = cons_nil ((treed raw x).gives scope) (in_order (map (treed raw) xs) ((treed raw x).after scope)) is
+  in_order_given [] h scope (t ∷ ts) is = no_list (sym is)
+  in_order_given (x ∷ xs) h scope [] is = no_list is
   in_order_given (x ∷ xs) h scope (t ∷ ts) is =
       let p = and_parts (raw_statement_feedless x) (raw_body_feedless xs) h in
-      and_from _ _ (statement_given x p.0 scope t (first_same is)) (in_order_given xs p.1 ((treed raw x).after scope) ts (rest_same is))
+      and_from _ _ (statement_given x p.0 scope t (head_is is)) (in_order_given xs p.1 ((treed raw x).after scope) ts (tail_is is))
 
   pub body_given : (xs : List RawStatement) (scope : Scope) (ts : List Statement) → raw_body_feedless xs ≡ true → body_of raw xs scope ≡ Some ts → list_all statement_feedless ts ≡ true
   body_given xs scope ts h is = in_order_given xs h scope ts (collected_are (in_order (map (treed raw) xs) scope) ts is)

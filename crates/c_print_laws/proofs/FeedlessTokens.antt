@@ -31,7 +31,7 @@ use Rattle.c_language.specs.Words.{Bytes}
 use Rattle.c_language.specs.Characters.{is_digit, is_letter}
 use Rattle.c_language.specs.Constants.{is_escape}
 use Rattle.c_language.specs.TokenForms.{Tokens, line_of}
-use Rattle.c_language.specs.Tokens.{is_feed, is_plain, IsCharacter, IsLiteral}
+use Rattle.c_language.specs.Tokens.{is_feed, is_plain, IsCharacter, IsLiteral, AreRun}
 use Rattle.c_language.specs.ExprGrammar.{IsExpr, joint, applied, selected}
 use Rattle.c_language.specs.TypeGrammar.{IsBase, IsStars, IsTypeName, NamesType, IsLengths, IsOuterLengths, IsDeclarator, IsParamName, IsParam, IsMoreParams, IsParams}
 use Rattle.c_language.specs.StatementGrammar.{IsSeparated, IsArg, IsCall, IsSize, IsAmount, IsMalloc, IsHeap, IsSimple, IsList, IsDeclared, IsDeclaration, IsInit, IsStep, IsLabel, AreLabels, IsTest, IsStatement, AreStatements, IsBody, IsElse, AreArms}
@@ -45,7 +45,7 @@ use Rattle.c_language.specs.declared.operators.Selector.TheVariants.{Dot, Arrow}
 use Rattle.c_language.specs.declared.token.TokenKind.TheVariants.{Name, Number, Character, Str}
 use Rattle.c_language.proofs.Lists.{all_append}
 use Rattle.c_print.specs.Feedless.{feedless, each}
-use Rattle.c_text_layout.proofs.Written.{AreRun, HasForm, AreWritten}
+use Rattle.c_text_layout.proofs.Written.{HasForm, AreWritten}
 use Rattle.c_text_layout.proofs.TokenPrint.{other_class}
 use Rattle.c_text_layout.proofs.ExprPrint.{int_rest, expr_rest}
 use Rattle.c_text_layout.proofs.TypePrint.{base_rest, stars_rest, type_rest, named_rest, declarator_rest, param_rest}

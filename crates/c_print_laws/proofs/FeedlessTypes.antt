@@ -31,8 +31,9 @@ use Rattle.c_language.specs.ProgramOf.{optional, raw_words_step, raw_words, leng
 use Rattle.c_language.proofs.Options.{none_there, some_same}
 use Rattle.c_print.specs.Feedless.{feedless, type_step, type_feedless, expr_step, expr_feedless}
 use Rattle.c_print.proofs.FeedLemmas.{cat, int_feedless, sign_feedless, signed_feedless}
-use Rattle.c_print_laws.proofs.Options.{map_there, then_there, both_there, cons_nil, first_same, rest_same}
+use Rattle.c_print_laws.proofs.Options.{map_there, then_there, both_there}
 use Rattle.c_print_laws.proofs.RawFeedless.{raw_expr_step, raw_expr_feedless, raw_length_feedless, raw_type_step, raw_type_feedless, type_by}
+use Rattle.c_language.proofs.Lists.{no_list, head_is, tail_is}
 
 -- ---- lists and options
 
@@ -40,11 +41,11 @@ use Rattle.c_print_laws.proofs.RawFeedless.{raw_expr_step, raw_expr_feedless, ra
 pub all_given : {A B : Type 0} (f : A → Option B) (old : A → Bool) (new : B → Bool) → ((a : A) (b : B) → old a ≡ true → f a ≡ Some b → new b ≡ true)
     → (xs : List A) (ys : List B) → list_all old xs ≡ true → map f xs ≡ map Some ys → list_all new ys ≡ true
 all_given f old new one [] [] h is = refl
-all_given f old new one [] (y ∷ ys) h is = cons_nil (Some y) (map Some ys) (sym is)
-all_given f old new one (x ∷ xs) [] h is = cons_nil (f x) (map f xs) is
+all_given f old new one [] (y ∷ ys) h is = no_list (sym is)
+all_given f old new one (x ∷ xs) [] h is = no_list is
 all_given f old new one (x ∷ xs) (y ∷ ys) h is =
     let p = and_parts (old x) (list_all old xs) h in
-    and_from _ _ (one x y p.0 (first_same is)) (all_given f old new one xs ys p.1 (rest_same is))
+    and_from _ _ (one x y p.0 (head_is is)) (all_given f old new one xs ys p.1 (tail_is is))
 
 -- a part that isn't missing
 pub given : {A : Type 0} (o t : Option A) (ask : Option (Option A)) → ask ≡ Some o → optional ask ≡ Some t → (x : A) × (o ≡ Some x) × (t ≡ Some x)

@@ -24,9 +24,9 @@ use Rattle.c_language.specs.DeclaredTypes.{item_count}
 use Rattle.c_language.specs.Scopes.{Scope, outset, with_variable, with_target, parameter_of, with_parameter, scope_of_parameters, entered, opened, numbered, Scoped, in_order, after_block, part_gives, scope_of_test, scope_of_body}
 use Rattle.c_language.specs.Phrases.{Stand, InFile, InHead, InBlock, InArm, InFor, Part, NamesStruct, DefinesStruct, HasMember, DeclaresFunction, Takes, EndsFunction, Declares, Begins, Assigns, Bumps, Calls, Allocates, Tests, Switches, Returns, Phrase, Phrases, phrase, begun_phrases, declaration, target_phrases, joined_at, block_phrases, at_stand, ArmText, phrases_of_arms, scoped_step, scoped_arm, scoped, scoped_of_arm, body_phrases, member_phrases, taken_phrases, parameter_phrases, head_phrases, item_phrases, after_item, items_phrases, phrases}
 use Rattle.c_language.specs.ProgramOf.{ctype_with, variables_in}
-use Rattle.c_language.proofs.Lists.{all_append}
+use Rattle.c_language.proofs.Lists.{all_append, no_list, head_is, tail_is}
 use Rattle.c_print.specs.Feedless.{feedless, each, var_feedless}
-use Rattle.c_print_laws.proofs.Options.{map_there, cons_nil, first_same, rest_same}
+use Rattle.c_print_laws.proofs.Options.{map_there}
 use Rattle.c_print_laws.proofs.RawFeedless.{raw_expr_feedless, raw_type_feedless, raw_var_feedless, raw_init_feedless, raw_target_feedless, raw_arg_feedless, raw_name_feedless, raw_amount_feedless, raw_label_feedless, raw_statement_step, raw_arm_step, raw_statement_feedless, raw_arm_feedless, raw_body_feedless, raw_param_feedless, raw_head_feedless, raw_item_feedless, raw_items_feedless}
 use Rattle.c_print_laws.proofs.FeedlessTypes.{type_given}
 
@@ -233,11 +233,11 @@ module _ (raw : RawProgram) where
   Given ps = (vs : List Var) → variables_in raw ps ≡ map Some vs → list_all var_feedless vs ≡ true
 
   declares : (l : ℕ) (scope : Scope) (stand : Stand) (v : RawVar) (i : RawInit) (ps : Phrases) → raw_var_feedless v ≡ true → Given ps → Given (phrase l scope (Declares stand v i) ∷ ps)
-  declares l scope stand v i ps h rest [] is = cons_nil _ (variables_in raw ps) is
+  declares l scope stand v i ps h rest [] is = no_list is
   declares l scope stand v i ps h rest (x ∷ vs) is =
       let p = and_parts (feedless v.name) (raw_type_feedless v.shape) h in
-      let g = map_there _ (ctype_with raw (item_count i) v.shape) x (first_same is) in
-      and_from _ _ (ap var_feedless (sym g.same) ∙ and_from _ _ p.0 (type_given raw (item_count i) v.shape p.1 g.value g.there)) (rest vs (rest_same is))
+      let g = map_there _ (ctype_with raw (item_count i) v.shape) x (head_is is) in
+      and_from _ _ (ap var_feedless (sym g.same) ∙ and_from _ _ p.0 (type_given raw (item_count i) v.shape p.1 g.value g.there)) (rest vs (tail_is is))
 
   with_phrase : (l : ℕ) (scope : Scope) (part : Part) (ps : Phrases) → part_feedless part ≡ true → Given ps → Given (phrase l scope part ∷ ps)
   with_phrase l scope (NamesStruct tag) ps h rest = rest
@@ -258,7 +258,7 @@ module _ (raw : RawProgram) where
 
   phrases_given : (ps : Phrases) → AreFeedless ps → Given ps
   phrases_given [] h [] is = refl
-  phrases_given [] h (v ∷ vs) is = cons_nil (Some v) (map Some vs) (sym is)
+  phrases_given [] h (v ∷ vs) is = no_list (sym is)
   phrases_given (p ∷ ps) h vs is =
       let x = and_parts (phrase_feedless p) (list_all phrase_feedless ps) h in
       with_phrase p.line p.scope p.part ps x.0 (phrases_given ps x.1) vs is

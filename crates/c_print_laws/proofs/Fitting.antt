@@ -26,7 +26,8 @@ use Rattle.c_tree.specs.declared.raw.statement.RawStatement.TheVariants as s
 use Rattle.c_tree.specs.declared.raw.statement.RawArm.{RawArm, fold-RawArm, fold-roll-RawArm}
 use Rattle.c_language.specs.Words.{Bytes}
 use Rattle.c_language.specs.StatementGrammar.{arm}
-use Rattle.c_text_layout.specs.Declarations.{all_true, if_true}
+use Rattle.c_text_layout.specs.Declarations.{all_true}
+use Rattle.c_language.specs.Lists.{if_there}
 
 -- ---- strings
 
@@ -52,7 +53,7 @@ fits_step (RawStatement-F.Heap l to cast n) = true
 fits_step (RawStatement-F.If l a body other) = all_true body && all_true other
 fits_step (RawStatement-F.While l a b) = all_true b
 fits_step (RawStatement-F.Do l a b) = all_true b
-fits_step (RawStatement-F.For l i a step b) = if_true i && (if_true step && all_true b)
+fits_step (RawStatement-F.For l i a step b) = if_there i && (if_there step && all_true b)
 fits_step (RawStatement-F.Switch l a arms) = all_true arms
 fits_step (RawStatement-F.Block l b) = all_true b
 fits_step (RawStatement-F.Return l a) = false

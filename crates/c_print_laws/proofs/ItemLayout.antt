@@ -33,7 +33,7 @@ use Rattle.c_language.specs.ItemGrammar.{are_named}
 use Rattle.c_language.specs.DeclaredTypes.{item_count, structs_of, defined_structs, functions_of, defined_functions, struct_id, function_id, definition_of, result_type, parameter_types, type_or_void, written_type}
 use Rattle.c_language.specs.Scopes.{Scope, outset, Meaning, with_variable, with_function, with_named, with_parameter, with_parameters, parameter_of, scope_of_parameters, entered}
 use Rattle.c_language.specs.Phrases.{InBlock, InHead, InFile, phrase, DeclaresFunction, EndsFunction, taken_phrases, parameter_phrases, head_phrases, body_phrases, item_phrases, after_item, items_phrases, phrases}
-use Rattle.c_language.specs.Rules.{Breaks, KeepsRules, tag, no_definition}
+use Rattle.c_language.specs.Rules.{Breaks, KeepsRules, tag, no_definition, AreKept}
 use Rattle.c_language.specs.StructRules.{MisusesTag}
 use Rattle.c_language.specs.NameRules.{agree, all_agree, same_signature, LacksDefinition}
 use Rattle.c_language.specs.Uses.{tags_in, tags_if}
@@ -41,15 +41,15 @@ use Rattle.c_language.specs.ExprTypes.{same_base}
 use Rattle.c_language.specs.declared.expr_type.Base.{Base}
 use Rattle.c_language.specs.declared.expr_type.Base.TheVariants as base
 use Rattle.c_language.specs.declared.expr_type.ExprType.{ExprType}
-use Rattle.c_language.specs.ProgramOf.{ctype, ctype_with, ctype_if, init_of, member_tree, struct_tree, parameter_ids, function_tree, functions_from, body_of, item_tree, items_from, program_of}
+use Rattle.c_language.specs.ProgramOf.{ctype, ctype_with, ctype_if, init_of, member_tree, struct_tree, parameter_ids, function_tree, functions_from, body_of, items_from, program_of}
 use Rattle.c_language.proofs.LayoutLemmas.{block_lines-laid}
 use Rattle.c_text_layout.specs.RawLayout.{raw_declared, raw_body_lines, raw_result_words, raw_named_words, raw_param_words, raw_head_words, raw_member_lines, raw_item_lines, raw_items_lines, raw_layout}
-use Rattle.c_print_laws.proofs.Options.{map_there, both_there, collected_are, cons_nil, first_same, rest_same}
+use Rattle.c_print_laws.proofs.Options.{map_there, both_there, collected_are}
 use Rattle.c_language.proofs.Tests.{false_true}
 use Rattle.c_language.proofs.PhraseLists.{body_in_order}
 use Rattle.c_print_laws.proofs.Named.{IsNamed, Fits, fits_append, positioned, struct_at, struct_named, member_named, members_typed}
 use Rattle.c_print_laws.proofs.TypeLayout.{declared_layout, type_layout}
-use Rattle.c_print_laws.proofs.Told.{AreTold, AreKept, AllStand, stand_all, phrases_kept, told_first, told_rest, is_declared}
+use Rattle.c_print_laws.proofs.Told.{AreTold, AllStand, stand_all, phrases_kept, told_first, told_rest, is_declared}
 use Rattle.c_print_laws.proofs.CallLayout.{optional_there, init_layout}
 use Rattle.c_print_laws.proofs.StatementLayout.{begins_kept, list_laid}
 use Rattle.c_print_laws.proofs.Numbers.{parameter_count, head_count, define_structs, prototype_functions, prototype_structs}
@@ -57,6 +57,7 @@ use Rattle.c_print_laws.proofs.Definitions.{program_parts, Behind, behind_first,
 use Rattle.c_print_laws.proofs.Agreement.{IsObject, IsTyped, SameWords, typed, tagged, agreed, agreed_declared, agreed_nameless, agreed_result}
 use Rattle.c_language.proofs.Options.{none_there, some_same}
 use Rattle.c_language.proofs.ScopeNumbers.{function_declared, function_variables}
+use Rattle.c_language.proofs.Lists.{no_list, head_is, tail_is}
 
 -- what stands at the position of a test is the first that passes it
 found_at : {A : Type 0} (test : A → Bool) (xs : List A) (k : ℕ) (x : A) → position test xs ≡ Some k → slice_get xs k ≡ Some x → find test xs ≡ Some x
@@ -136,12 +137,12 @@ module _ (raw : RawProgram) (p : Program) (named : IsNamed raw p) where
 
   members_laid : (ms : List RawMember) (xs : List Member) → map (member_tree raw) ms ≡ map Some xs → member_lines p xs ≡ raw_member_lines ms
   members_laid [] [] h = refl
-  members_laid [] (x ∷ xs) h = cons_nil (Some x) (map Some xs) (sym h)
-  members_laid (m ∷ ms) [] h = cons_nil (member_tree raw m) (map (member_tree raw) ms) h
+  members_laid [] (x ∷ xs) h = no_list (sym h)
+  members_laid (m ∷ ms) [] h = no_list h
   members_laid (m ∷ ms) (x ∷ xs) h =
-      let g = map_there _ (ctype raw m.shape) x (first_same h) in
+      let g = map_there _ (ctype raw m.shape) x (head_is h) in
       ap₂ (λ (w z : Bytes). line 1 (w ++ codes ";") ++ z)
-      (ap (λ (y : Member). declared p y.shape y.name) (sym g.same) ∙ declared_layout raw p named 0 m.shape g.value m.name g.there) (members_laid ms xs (rest_same h))
+      (ap (λ (y : Member). declared p y.shape y.name) (sym g.same) ∙ declared_layout raw p named 0 m.shape g.value m.name g.there) (members_laid ms xs (tail_is h))
 
   struct_laid : (are : map (struct_tree raw) (defined_structs raw) ≡ map Some p.structs) (k l : ℕ) (w : Bytes) (members : List RawMember)
       → slice_get (defined_structs raw) k ≡ Some (record { tag = w; members = members }) → item_lines p (item.Struct k) ≡ raw_item_lines (Struct l w members)
@@ -270,12 +271,12 @@ module _ (raw : RawProgram) (p : Program) (named : IsNamed raw p) where
     define_then : (l : ℕ) (h : RawHead) (body : List RawStatement) (xs : List RawItem) (scope : Scope) (fs : List Function) → functions_from raw (Define l h body ∷ xs) scope ≡ map Some fs → Behind p.functions scope.functions fs
         → AreTold raw p scope.variables (items_phrases raw (Define l h body ∷ xs) scope) → AreFormed (Define l h body ∷ xs) → Fits p scope → Behind (defined_structs raw) scope.structs (structs_of xs)
         → (item_lines p (item.Define scope.functions) ≡ raw_item_lines (Define l h body)) × ItemsAt (after_item raw (Define l h body) scope) xs
-    define_then l h body xs scope [] is behind told formed fits structs = cons_nil (function_tree raw l h body scope) _ is
+    define_then l h body xs scope [] is behind told formed fits structs = no_list is
     define_then l h body xs scope (f ∷ fs) is behind told formed fits structs = (
       ap (λ (o : Option Function). option_map_or (function_lines p) o []) (behind_first p.functions scope.functions f fs behind)
-          ∙ define_laid l h body scope f fits (first_told (Define l h body) xs scope told) formed.0.1 (first_same is),
+          ∙ define_laid l h body scope f fits (first_told (Define l h body) xs scope told) formed.0.1 (head_is is),
       record {
-        at = define_later raw p l h body xs scope f fs (rest_same is) behind told formed.1;
+        at = define_later raw p l h body xs scope f fs (tail_is is) behind told formed.1;
         fits = function_fits h.name scope fits;
         structs = behind_at (defined_structs raw) scope.structs (after_item raw (Define l h body) scope).structs (structs_of xs) (define_structs raw l h body scope) structs;
       },
@@ -283,15 +284,15 @@ module _ (raw : RawProgram) (p : Program) (named : IsNamed raw p) where
 
     pub items_laid : (xs : List RawItem) (scope : Scope) (is : List Item) → ItemsAt scope xs → items_from raw xs scope ≡ map Some is → items_lines p is ≡ raw_items_lines xs
     items_laid [] scope [] k h = refl
-    items_laid [] scope (i ∷ is) k h = cons_nil (Some i) (map Some is) (sym h)
-    items_laid (x ∷ xs) scope [] k h = cons_nil (item_tree raw x scope) _ h
+    items_laid [] scope (i ∷ is) k h = no_list (sym h)
+    items_laid (x ∷ xs) scope [] k h = no_list h
     items_laid (Include is_stdlib ∷ xs) scope (i ∷ is) k h =
         let next : ItemsAt scope xs = record { at = same_functions raw p scope scope (Include is_stdlib) xs refl refl refl k.at; fits = k.fits; structs = k.structs } in
-        item_then (Include is_stdlib) xs i is (ap (item_lines p) (sym (some_same (first_same h)))) (items_laid xs scope is next (rest_same h))
+        item_then (Include is_stdlib) xs i is (ap (item_lines p) (sym (some_same (head_is h)))) (items_laid xs scope is next (tail_is h))
     items_laid (Tag l w ∷ xs) scope (i ∷ is) k h =
         let next : ItemsAt scope xs = record { at = same_functions raw p scope scope (Tag l w) xs refl refl refl k.at; fits = k.fits; structs = k.structs } in
-        let g = map_there item.Tag (struct_id raw w) i (first_same h) in
-        item_then (Tag l w) xs i is (ap (item_lines p) (sym g.same) ∙ ap (λ (z : Bytes). line 0 (codes "struct " ++ (z ++ codes ";"))) (named.structs w g.value g.there)) (items_laid xs scope is next (rest_same h))
+        let g = map_there item.Tag (struct_id raw w) i (head_is h) in
+        item_then (Tag l w) xs i is (ap (item_lines p) (sym g.same) ∙ ap (λ (z : Bytes). line 0 (codes "struct " ++ (z ++ codes ";"))) (named.structs w g.value g.there)) (items_laid xs scope is next (tail_is h))
     items_laid (Struct l w members ∷ xs) scope (i ∷ is) k h =
         let after = after_item raw (Struct l w members) scope in
         let next : ItemsAt after xs = record {
@@ -300,8 +301,8 @@ module _ (raw : RawProgram) (p : Program) (named : IsNamed raw p) where
           structs = behind_rest (defined_structs raw) scope.structs after.structs (record { tag = w; members = members }) (structs_of xs) refl k.structs;
         } in
         item_then (Struct l w members) xs i is
-        (ap (item_lines p) (sym (some_same (first_same h))) ∙ struct_laid are scope.structs l w members (behind_first (defined_structs raw) scope.structs (record { tag = w; members = members }) (structs_of xs) k.structs))
-        (items_laid xs after is next (rest_same h))
+        (ap (item_lines p) (sym (some_same (head_is h))) ∙ struct_laid are scope.structs l w members (behind_first (defined_structs raw) scope.structs (record { tag = w; members = members }) (structs_of xs) k.structs))
+        (items_laid xs after is next (tail_is h))
     items_laid (Global l v j is_static ∷ xs) scope (i ∷ is) k h =
         let after = after_item raw (Global l v j is_static) scope in
         let told = first_told (Global l v j is_static) xs scope k.at.told in
@@ -310,8 +311,8 @@ module _ (raw : RawProgram) (p : Program) (named : IsNamed raw p) where
           fits = (is_declared raw p named l scope.owner (InFile is_static) scope v j told.stand.0).fits k.fits;
           structs = k.structs;
         } in
-        let g = map_there (item.Global scope.variables) (init_of raw (with_variable raw v j scope) j) i (first_same h) in
-        item_then (Global l v j is_static) xs i is (ap (item_lines p) (sym g.same) ∙ global_laid l v j is_static scope g.value k.fits told g.there) (items_laid xs after is next (rest_same h))
+        let g = map_there (item.Global scope.variables) (init_of raw (with_variable raw v j scope) j) i (head_is h) in
+        item_then (Global l v j is_static) xs i is (ap (item_lines p) (sym g.same) ∙ global_laid l v j is_static scope g.value k.fits told g.there) (items_laid xs after is next (tail_is h))
     items_laid (Prototype l hd ∷ xs) scope (i ∷ is) k h =
         let after = after_item raw (Prototype l hd) scope in
         let next : ItemsAt after xs = record {
@@ -319,13 +320,13 @@ module _ (raw : RawProgram) (p : Program) (named : IsNamed raw p) where
           fits = function_fits hd.name scope k.fits;
           structs = behind_at (defined_structs raw) scope.structs after.structs (structs_of xs) (prototype_structs raw l hd scope) k.structs;
         } in
-        let g = map_there (λ (f : ℕ). item.Prototype f (map (λ (q : RawParam). q.name) hd.params) hd.is_static) (function_id raw hd.name) i (first_same h) in
+        let g = map_there (λ (f : ℕ). item.Prototype f (map (λ (q : RawParam). q.name) hd.params) hd.is_static) (function_id raw hd.name) i (head_is h) in
         item_then (Prototype l hd) xs i is
         (ap (item_lines p) (sym g.same) ∙ prototype_laid defined plains l hd scope g.value (first_told (Prototype l hd) xs scope k.at.told).kept k.at.formed.0 g.there)
-        (items_laid xs after is next (rest_same h))
+        (items_laid xs after is next (tail_is h))
     items_laid (Define l hd body ∷ xs) scope (i ∷ is) k h =
         let d = define_then l hd body xs scope k.at.functions k.at.are k.at.behind k.at.told k.at.formed k.fits k.structs in
-        item_then (Define l hd body) xs i is (ap (item_lines p) (sym (some_same (first_same h))) ∙ d.0) (items_laid xs (after_item raw (Define l hd body) scope) is d.1 (rest_same h))
+        item_then (Define l hd body) xs i is (ap (item_lines p) (sym (some_same (head_is h))) ∙ d.0) (items_laid xs (after_item raw (Define l hd body) scope) is d.1 (tail_is h))
 
 -- ---- the whole text
 

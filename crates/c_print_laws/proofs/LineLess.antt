@@ -22,13 +22,12 @@ use Rattle.c_tree.specs.declared.statement.Label.{Label}
 use Rattle.c_tree.specs.declared.statement.Label.TheVariants as label
 use Rattle.c_tree.specs.declared.statement.Statement.{Statement, ind-Statement, roll-Statement, map-Statement, fold-roll-Statement}
 use Rattle.c_tree.specs.declared.statement.Statement.TheOpen.{Statement-F}
-use Rattle.c_tree.specs.declared.statement.Statement.TheVariants as s
 use Rattle.c_tree.specs.declared.statement.Arm.{Arm, roll-Arm, map-Arm, fold-roll-Arm}
-use Rattle.c_tree.specs.Unlined.{unlined_step, unlined_arm, unlined, unlined_var, unlined_function, unlined_program, SameButLines}
+use Rattle.c_tree.specs.Unlined.{unlined, unlined_var, unlined_function, unlined_program, SameButLines}
 use Rattle.c_tree.proofs.UnlinedLemmas.{unlined_of_arm}
+use Rattle.c_tree.proofs.Unlining.{zeroed, unlined_roll, unlined_roll_of_arm}
 use Rattle.c_language.specs.Words.{Bytes, joined, assign_sign, name_of_var, name_of_function, declared, type_words, expr_step, expr_words}
-use Rattle.c_language.specs.Layout.{line, init_words, var_words, target_words, pointee_words, size_words, amount_words, cast_words, call_words, bump_words, return_words, Laid, plain, label_words, label_lines, statement_step, arm_step, laid, body_lines, static_words, param_words, named_params, head_words, function_lines, item_lines, items_lines, layout}
-use Rattle.c_language.proofs.LayoutLemmas.{arm_laid}
+use Rattle.c_language.specs.Layout.{line, init_words, var_words, target_words, pointee_words, size_words, amount_words, cast_words, call_words, bump_words, return_words, Laid, plain, label_words, label_lines, statement_step, arm_step, laid, body_lines, static_words, param_words, named_params, head_words, function_lines, item_lines, items_lines, layout, arm_laid}
 use Rattle.c_language.proofs.Lists.{maps_same}
 use Rattle.c_print_laws.proofs.StatementLayout.{if_form, while_form, do_form, for_form, switch_form, block_form, arm_form}
 
@@ -69,44 +68,6 @@ module _ {A : Type 0} (f g : Expr-F A → A) (same : (y : Expr-F A) → f y ≡ 
   folds_same : (a : Expr) → fold-Expr A f a ≡ fold-Expr A g a
   folds_same = ind-Expr ExprSame (λ x y is. subst (λ z. ExprSame (roll-Expr z)) is
       (fold-roll-Expr A f (expr_layer y) ∙ ap f (parts_same y) ∙ same (map-Expr Expr A (fold-Expr A g) (expr_layer y)) ∙ sym (fold-roll-Expr A g (expr_layer y))))
-
--- ---- a layer with line 0
-
-abbrev pub zero_line : {S A : Type 0} → Statement-F S A → Statement-F S A
-zero_line (Statement-F.Declare id l x i) = Statement-F.Declare id 0 x i
-zero_line (Statement-F.Assign id l a op b) = Statement-F.Assign id 0 a op b
-zero_line (Statement-F.Bump id l a up before) = Statement-F.Bump id 0 a up before
-zero_line (Statement-F.Invoke id l to f args) = Statement-F.Invoke id 0 to f args
-zero_line (Statement-F.Fetch id l to) = Statement-F.Fetch id 0 to
-zero_line (Statement-F.Write id l e) = Statement-F.Write id 0 e
-zero_line (Statement-F.Print id l format args) = Statement-F.Print id 0 format args
-zero_line (Statement-F.Heap id l to cast n) = Statement-F.Heap id 0 to cast n
-zero_line (Statement-F.Release id l e) = Statement-F.Release id 0 e
-zero_line (Statement-F.If id l e a b) = Statement-F.If id 0 e a b
-zero_line (Statement-F.While id l e b) = Statement-F.While id 0 e b
-zero_line (Statement-F.Do id l e b) = Statement-F.Do id 0 e b
-zero_line (Statement-F.For id l i e k b) = Statement-F.For id 0 i e k b
-zero_line (Statement-F.Switch id l e arms) = Statement-F.Switch id 0 e arms
-zero_line (Statement-F.Block l b) = Statement-F.Block 0 b
-zero_line (Statement-F.Return id l e) = Statement-F.Return id 0 e
-
-pub unlined_rolls : (y : Statement-F Statement Arm) → unlined_step y ≡ roll-Statement (zero_line y)
-unlined_rolls (Statement-F.Declare id l x i) = sym (s.rolls-Declare id 0 x i)
-unlined_rolls (Statement-F.Assign id l a op b) = sym (s.rolls-Assign id 0 a op b)
-unlined_rolls (Statement-F.Bump id l a up before) = sym (s.rolls-Bump id 0 a up before)
-unlined_rolls (Statement-F.Invoke id l to f args) = sym (s.rolls-Invoke id 0 to f args)
-unlined_rolls (Statement-F.Fetch id l to) = sym (s.rolls-Fetch id 0 to)
-unlined_rolls (Statement-F.Write id l e) = sym (s.rolls-Write id 0 e)
-unlined_rolls (Statement-F.Print id l format args) = sym (s.rolls-Print id 0 format args)
-unlined_rolls (Statement-F.Heap id l to cast n) = sym (s.rolls-Heap id 0 to cast n)
-unlined_rolls (Statement-F.Release id l e) = sym (s.rolls-Release id 0 e)
-unlined_rolls (Statement-F.If id l e a b) = sym (s.rolls-If id 0 e a b)
-unlined_rolls (Statement-F.While id l e b) = sym (s.rolls-While id 0 e b)
-unlined_rolls (Statement-F.Do id l e b) = sym (s.rolls-Do id 0 e b)
-unlined_rolls (Statement-F.For id l i e k b) = sym (s.rolls-For id 0 i e k b)
-unlined_rolls (Statement-F.Switch id l e arms) = sym (s.rolls-Switch id 0 e arms)
-unlined_rolls (Statement-F.Block l b) = sym (s.rolls-Block 0 b)
-unlined_rolls (Statement-F.Return id l e) = sym (s.rolls-Return id 0 e)
 
 module _ (p : Program) where
   abbrev q : Program
@@ -216,7 +177,7 @@ module _ (p : Program) where
   shape = map-Statement ((x : Statement) × LineLess x) ((x : Arm) × ArmLineLess x) Statement Arm (λ x. x.0) (λ x. x.0)
 
   abbrev kept : Statement-F Statement Arm → Statement-F Statement Arm
-  kept y = zero_line (map-Statement Statement Arm Statement Arm unlined unlined_of_arm y)
+  kept y = zeroed (map-Statement Statement Arm Statement Arm unlined unlined_of_arm y)
 
   abbrev step_at : Program → Statement-F Statement Arm → Laid
   step_at r y = statement_step r (map-Statement Statement Arm Laid (ℕ → Bytes) (laid r) (arm_laid r) y)
@@ -248,12 +209,12 @@ module _ (p : Program) where
   statement_same : (x : Statement) → LineLess x
   statement_same = ind-Statement LineLess ArmLineLess
       (λ x y is. subst (λ z. LineLess (roll-Statement z)) is
-      (ap (laid q) (fold-roll-Statement Statement Arm unlined_step unlined_arm (shape y) ∙ unlined_rolls (map-Statement Statement Arm Statement Arm unlined unlined_of_arm (shape y)))
+      (ap (laid q) (unlined_roll (shape y))
       ∙ fold-roll-Statement Laid (ℕ → Bytes) (statement_step q) (arm_step q) (kept (shape y)) ∙ layer_same y
       ∙ sym (fold-roll-Statement Laid (ℕ → Bytes) (statement_step p) (arm_step p) (shape y))))
       (λ x y is. subst (λ z. ArmLineLess (roll-Arm z)) is
       (let l = map-Arm ((x : Statement) × LineLess x) ((x : Arm) × ArmLineLess x) Statement Arm (λ x. x.0) (λ x. x.0) y in
-      ap (arm_laid q) (fold-roll-Arm Statement Arm unlined_step unlined_arm l)
+      ap (arm_laid q) (unlined_roll_of_arm l)
       ∙ fold-roll-Arm Laid (ℕ → Bytes) (statement_step q) (arm_step q) (map-Arm Statement Arm Statement Arm unlined unlined_of_arm l)
       ∙ ap₂ arm_form (labels_same y.labels) (all_same y.body)
       ∙ sym (fold-roll-Arm Laid (ℕ → Bytes) (statement_step p) (arm_step p) l)))

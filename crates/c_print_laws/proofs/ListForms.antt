@@ -19,13 +19,13 @@ use Rattle.c_tree.specs.declared.raw.statement.RawArm.{RawArm}
 use Rattle.c_language.specs.Words.{Bytes}
 use Rattle.c_language.specs.TokenForms.{Tokens}
 use Rattle.c_language.specs.DeclaredTypes.{item_count}
-use Rattle.c_language.specs.TypeGrammar.{IsBase, IsStars, IsLengths, IsOuterLengths, IsDeclarator, is_listed}
+use Rattle.c_language.specs.TypeGrammar.{IsBase, IsStars, IsLengths, IsOuterLengths, IsDeclarator, is_listed, written_step, is_written}
 use Rattle.c_language.specs.StatementGrammar.{IsSeparated, IsSimple, IsList, IsDeclared, IsDeclaration, IsInit, IsStep, IsStatement, AreStatements, IsBody, IsElse, AreArms}
 use Rattle.c_language.specs.ItemGrammar.{IsGlobal, IsItem, AreItems, IsProgram}
 use Rattle.c_text_layout.specs.Declarations.{all_true, declarations_pass, item_passes, items_pass}
 use Rattle.c_text_layout.proofs.DeclarationLemmas.{arm_passes, both_true, pass-Declare, pass-Assign, pass-Bump, pass-Call, pass-Heap, pass-Return, list_passes, pass-If, pass-While, pass-Do, part_passes, pass-For, pass-Switch, pass-Block, pass-arm, lists_append, items_append}
 use Rattle.c_text_layout.proofs.RawTypeLemmas.{is_listed-Array}
-use Rattle.c_print_laws.proofs.Settling.{written_step, is_written, IsCounted}
+use Rattle.c_print_laws.proofs.Settling.{IsCounted}
 use Rattle.c_print_laws.proofs.PhraseAgreement.{Fine}
 use Rattle.c_language.proofs.Tests.{false_true}
 

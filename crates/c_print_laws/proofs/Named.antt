@@ -19,10 +19,13 @@ use Rattle.c_language.specs.Scopes.{Entry, Meaning, Scope, found_in}
 use Rattle.c_language.specs.ExprTypes.{member_of}
 use Rattle.c_language.specs.ExprTypes.{member_named as found_member}
 use Rattle.c_language.specs.ProgramOf.{ctype, member_tree, struct_tree, index_of_member, member_id}
-use Rattle.c_language.proofs.Options.{IsThere, none_there, some_same}
-use Rattle.c_print_laws.proofs.Options.{map_there, then_there, collected_are, place_of, cons_nil, first_same, rest_same}
-use Rattle.c_print_laws.proofs.Operands.{HasType, HasTypeIf, IsTypedIf}
+use Rattle.c_language.proofs.Options.{none_there, some_same}
+use Rattle.c_print_laws.proofs.Options.{map_there, then_there, collected_are, place_of}
+use Rattle.c_print_laws.proofs.Operands.{IsTypedIf}
 use Rattle.c_print_laws.proofs.Counted.{counted}
+use Rattle.c_language.proofs.Lists.{no_list, head_is, tail_is}
+use Rattle.c_language.proofs.Operands.{HasTypeIf, HasType}
+use Rattle.c_language.specs.Options.{IsThere}
 
 -- the numbers of struct types, members and functions have the names that the text gives them
 pub record IsNamed (raw : RawProgram) (p : Program) : Type 0 where
@@ -104,8 +107,8 @@ module _ (raw : RawProgram) (p : Program) (are : map (struct_tree raw) (defined_
 
   typed_in : (ms : List RawMember) (xs : List Member) (name : Bytes) → map (member_tree raw) ms ≡ map Some xs → IsTypedIf raw (found_member ms name)
   typed_in [] xs name h = tt
-  typed_in (m ∷ ms) [] name h = cons_nil (member_tree raw m) (map (member_tree raw) ms) h
-  typed_in (m ∷ ms) (x ∷ xs) name h = by_test (bytes_eq m.name name) (first_same h) (typed_in ms xs name (rest_same h))
+  typed_in (m ∷ ms) [] name h = no_list h
+  typed_in (m ∷ ms) (x ∷ xs) name h = by_test (bytes_eq m.name name) (head_is h) (typed_in ms xs name (tail_is h))
     where
       by_test : (b : Bool) → member_tree raw m ≡ Some x → IsTypedIf raw (found_member ms name) → IsTypedIf raw (if b then Some m else found_member ms name)
       by_test true is later =

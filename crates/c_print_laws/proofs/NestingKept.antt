@@ -20,14 +20,14 @@ use Rattle.c_tree.specs.declared.raw.statement.RawStatement.{RawStatement, map-R
 use Rattle.c_tree.specs.declared.raw.statement.RawStatement.TheOpen.{RawStatement-F}
 use Rattle.c_tree.proofs.RawTrees.{TypeParts, type_layer, of_every_type, StatementParts, statement_layer, arm_layer, of_every_statement}
 use Rattle.c_language.specs.DeclaredTypes.{item_count}
-use Rattle.c_language.specs.Nesting.{nesting_step, nesting, length_nesting, type_nesting_step, type_nesting, length_above, params_nesting, greatest}
+use Rattle.c_language.specs.Nesting.{nesting_step, nesting, length_nesting, type_nesting_step, type_nesting, length_above, params_nesting}
 use Rattle.c_language.specs.StatementNesting.{init_nesting, label_nesting, statement_step, arm_step, statement_nesting, body_nesting, member_nesting, result_nesting, item_nesting, items_nesting, program_nesting}
 use Rattle.c_text_layout.specs.Settled.{settled_length, settled_type_step, settled_type, settled, settled_member, settled_param, settled_item, SameInLayout, lack_lengths, item_lacks_lengths, items_lack_lengths}
 use Rattle.c_text_layout.proofs.RawStatementLemmas.{settled_arm}
-use Rattle.c_text_layout.proofs.TokenPrint.{by_answer}
 use Rattle.c_print_laws.proofs.PhraseAgreement.{kept_layer, settled_layer, settled_arm_layer}
 use Rattle.c_language.proofs.StatementNestingLemmas.{arm_nesting}
-use Rattle.c_language.proofs.Tests.{false_true}
+use Rattle.c_language.proofs.Tests.{false_true, by_answer}
+use Rattle.c_language.specs.Lists.{greatest}
 
 -- ---- types
 

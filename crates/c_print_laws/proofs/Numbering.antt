@@ -3,9 +3,9 @@ use Rattle.std.proofs.Common.{◌≡◌, ℕ, zero, suc, ◌+◌, ◌<◌, ◌�
 use Rattle.std.specs.Prelude.{◌⊎◌, if◌then◌else◌, bytes_eq, option_map}
 use Rattle.std.specs.Option.{option_map_or}
 use Rattle.std.specs.Option as std_option
-use Rattle.std.proofs.lemmas.Bool.{and_parts}
+use Rattle.std.proofs.lemmas.Bool.{and_parts, cases_lt}
 use Rattle.c_arith.specs.declared.int_type.IntType.{IntType}
-use Rattle.c_tree.specs.Numbered.{Starts, start}
+use Rattle.c_tree.specs.Numbered.{Starts, start, declared_start}
 use Rattle.c_tree.specs.declared.expr.Expr.{Expr}
 use Rattle.c_tree.specs.declared.types.CType.{CType}
 use Rattle.c_tree.specs.declared.program.Program.{Program}
@@ -36,49 +36,39 @@ use Rattle.c_language.specs.TypeGrammar.{named_type}
 use Rattle.c_language.specs.Scopes.{Scope, with_variable, with_target, entered, opened, numbered, Scoped, in_order, after_all, after_block, after_part, scope_of_test, scope_of_body, begun}
 use Rattle.c_language.specs.Phrases.{after_item, after_items}
 use Rattle.c_language.specs.CallRules.{format_in, later_args}
-use Rattle.c_language.specs.ProgramOf.{collected, optional, expr_of, init_of, declaration_id, target_tree, args_tree, only_tree, print_tree, invoke_tree, amount_tree, heap_tree, ctype_if, label_tree, arm_tree, ArmTree, arm_tree_step, block_tree, at_type, switch_type, part_tree, for_tree, treed_step, treed, body_of, function_tree, functions_from, item_tree, items_from}
-use Rattle.c_language.proofs.TreedForms.{treed_arm}
+use Rattle.c_language.specs.ProgramOf.{collected, optional, expr_of, init_of, declaration_id, target_tree, args_tree, only_tree, print_tree, invoke_tree, amount_tree, heap_tree, ctype_if, label_tree, arm_tree, ArmTree, arm_tree_step, block_tree, at_type, switch_type, part_tree, for_tree, treed_step, treed, body_of, functions_from, items_from, treed_arm}
 use Rattle.c_language.proofs.Options.{none_there, some_same}
 use Rattle.c_language.proofs.Tests.{false_true}
 use Rattle.c_language.proofs.PhraseLists.{body_after}
 use Rattle.c_language.proofs.TreeScopes.{list_after}
 use Rattle.c_language.proofs.ScopeNumbers.{target_statements, begun_statements, through_function, entered_statements}
-use Rattle.c_print.specs.Lines.{Placed, placed, arm_placed, item_placed, function_placed, bare, simple, heights, own_starts, part_starts, starts_from, block_starts}
+use Rattle.c_print.specs.Lines.{Placed, placed, arm_placed, item_placed, function_placed, bare, simple, heights, part_starts, starts_from, block_starts}
 use Rattle.c_print.proofs.PlacedLemmas.{placed-Declare, placed-Assign, placed-Bump, placed-Invoke, placed-Fetch, placed-Write, placed-Print, placed-Heap, placed-Release, placed-Return, placed-If, placed-While, placed-Do, placed-For, placed-Switch, placed-Block, placed-arm}
 use Rattle.c_print.proofs.OpeningLemmas.{IsListed, listed_left, listed_right, inside_listed}
-use Rattle.c_print_laws.proofs.Options.{map_there, then_there, both_there, collected_are, cons_nil, first_same, rest_same}
+use Rattle.c_print_laws.proofs.Options.{map_there, then_there, both_there, collected_are}
 use Rattle.c_print_laws.proofs.Definitions.{Behind, behind_first, behind_rest, behind_at}
 use Rattle.c_print_laws.proofs.Numbers.{define_functions}
 use Rattle.c_print_laws.proofs.ForParts.{Form, all_tidy, is_single_part, form_step, form_arm, form_of, form_of_arm, are_tidy, AreTidy}
+use Rattle.c_language.proofs.Lists.{no_list, head_is, tail_is}
 
 -- ---- numbers in order
 
-in_order_of : (m n : ℕ) → (m < n) ⊎ (n ≤ m)
-in_order_of zero zero = inr (omega arith)
-in_order_of zero (suc n) = inl (omega arith)
-in_order_of (suc m) zero = inr (omega arith)
-in_order_of (suc m) (suc n) = next (in_order_of m n)
-  where
-    next : ((m < n) ⊎ (n ≤ m)) → (suc m < suc n) ⊎ (suc n ≤ suc m)
-    next (inl h) = inl (omega (arith, h))
-    next (inr h) = inr (omega (arith, h))
-
 -- in the first part, or else in the second
 split : {A : Type 0} (m n : ℕ) → (m < n → A) → (n ≤ m → A) → A
-split {A} m n f g = by (in_order_of m n)
+split {A} m n f g = by (cases_lt m n)
   where
     by : ((m < n) ⊎ (n ≤ m)) → A
     by (inl h) = f h
     by (inr h) = g h
 
-own_listed : (n m k : ℕ) → m ≡ n → IsListed m (own_starts (Some n) k)
+own_listed : (n m k : ℕ) → m ≡ n → IsListed m (declared_start (Some n) k)
 own_listed n m k e = (k, (zero, omega arith, ap (λ (x : ℕ). start x k) (sym e)))
 
 -- a statement with a number of its own, and others inside
 compound : (t : Statement) (n m k height : ℕ) (within : ℕ → Starts) → placed t ≡ record { own = Some n; height = height; inside = within } → n ≤ m → (suc n ≤ m → IsListed m (within k)) → IsListed m (starts_from (placed t) k)
 compound t n m k height within e low inner =
     subst (λ (y : Placed). IsListed m (starts_from y k)) (sym e)
-    (split m (suc n) (λ h. listed_left m (own_starts (Some n) k) (within k) (own_listed n m k (omega (arith, h, low)))) (λ h. listed_right m (own_starts (Some n) k) (within k) (inner h)))
+    (split m (suc n) (λ h. listed_left m (declared_start (Some n) k) (within k) (own_listed n m k (omega (arith, h, low)))) (λ h. listed_right m (declared_start (Some n) k) (within k) (inner h)))
 
 -- ---- what a statement takes
 
@@ -121,13 +111,13 @@ module _ (raw : RawProgram) where
   no_more scope ts h m k low high = absurd (omega (arith, low, high))
 
   one_more : (b : Scoped (Option Statement)) (bs : List (Scoped (Option Statement))) (single : Bool) → Takes b single → ListTakes bs → ListTakes (b ∷ bs)
-  one_more b bs single x xs scope [] h m k low high = cons_nil (b.gives scope) (in_order bs (b.after scope)) h
+  one_more b bs single x xs scope [] h m k low high = no_list h
   one_more b bs single x xs scope (t ∷ ts) h m k low high =
       let one = starts_from (placed t) k in
       let rest = block_starts (map placed ts) (k + (placed t).height) in
       split m (b.after scope).statements
-      (λ lt. listed_left m one rest (x.has scope t (first_same h) m k low lt))
-      (λ ge. listed_right m one rest (xs (b.after scope) ts (rest_same h) m (k + (placed t).height) ge high))
+      (λ lt. listed_left m one rest (x.has scope t (head_is h) m k low lt))
+      (λ ge. listed_right m one rest (xs (b.after scope) ts (tail_is h) m (k + (placed t).height) ge high))
 
   all_take : (xs : List ((x : RawStatement) × Q x)) → are_tidy (bodies xs) ≡ true → ListTakes (map (treed raw) (bodies xs))
   all_take [] h = no_more
@@ -140,14 +130,14 @@ module _ (raw : RawProgram) where
 
   arms_take : (xs : List ((x : RawArm) × R x)) → all_tidy (map form_of_arm (bodies_of_arms xs)) ≡ true → ArmsTake (map (treed_arm raw) (bodies_of_arms xs))
   arms_take [] h scope type as_ e m k low high = absurd (omega (arith, low, high))
-  arms_take (x ∷ xs) h scope type [] e m k low high = cons_nil ((treed_arm raw x.0).gives scope type) (map (λ (a : ArmTree). a type) (in_order (map (treed_arm raw) (bodies_of_arms xs)) ((treed_arm raw x.0).after scope))) e
+  arms_take (x ∷ xs) h scope type [] e m k low high = no_list e
   arms_take (x ∷ xs) h scope type (a ∷ as_) e m k low high =
       let p = and_parts (form_of_arm x.0).tidy (all_tidy (map form_of_arm (bodies_of_arms xs))) h in
       let one = starts_from (arm_placed a) k in
       let rest = block_starts (map arm_placed as_) (k + (arm_placed a).height) in
       split m ((treed_arm raw x.0).after scope).statements
-      (λ lt. listed_left m one rest ((x.1 p.0).has scope type a (first_same e) m k low lt))
-      (λ ge. listed_right m one rest (arms_take xs p.1 ((treed_arm raw x.0).after scope) type as_ (rest_same e) m (k + (arm_placed a).height) ge high))
+      (λ lt. listed_left m one rest ((x.1 p.0).has scope type a (head_is e) m k low lt))
+      (λ ge. listed_right m one rest (arms_take xs p.1 ((treed_arm raw x.0).after scope) type as_ (tail_is e) m (k + (arm_placed a).height) ge high))
 
   -- ---- calls
 
@@ -200,7 +190,7 @@ module _ (raw : RawProgram) where
       let all = x.has scope g.0 g.1 m k low high in
       let none = x.alone refl scope g.0 g.1 k in
       subst (λ (o : Option Statement). IsListed m (part_starts (std_option.option_map placed o) k)) (sym g.2)
-      (subst (IsListed m) (append-nil (own_starts (placed g.0).own k)) (subst (λ (y : Starts). IsListed m (own_starts (placed g.0).own k ++ y)) none all))
+      (subst (IsListed m) (append-nil (declared_start (placed g.0).own k)) (subst (λ (y : Starts). IsListed m (declared_start (placed g.0).own k ++ y)) none all))
 
   for_takes : (l : ℕ) (i j : Option (Scoped (Option Statement))) (e : RawExpr) (bs : List (Scoped (Option Statement))) → PartTakes i → PartTakes j → ListTakes bs
       → (scope : Scope) (t : Statement) → for_tree scope.statements l (part_tree i (opened (numbered scope))) (expr_of raw (scope_of_test i scope) e) (part_tree j (scope_of_test i scope)) (block_tree bs (scope_of_body i j scope)) ≡ Some t
@@ -359,21 +349,21 @@ module _ (raw : RawProgram) where
     -- an item without statements
     bare_item : (x : RawItem) (xs : List RawItem) → ((scope : Scope) → (after_item raw x scope).statements ≡ scope.statements) → ((scope : Scope) → (after_item raw x scope).functions ≡ scope.functions)
         → ((scope : Scope) → functions_from raw (x ∷ xs) scope ≡ functions_from raw xs (after_item raw x scope)) → ItemsTake xs → ItemsTake (x ∷ xs)
-    bare_item x xs statements functions passes rest scope [] fs i f b m k low high = cons_nil (item_tree raw x scope) (items_from raw xs (after_item raw x scope)) i
+    bare_item x xs statements functions passes rest scope [] fs i f b m k low high = no_list i
     bare_item x xs statements functions passes rest scope (one ∷ is) fs i f b m k low high =
         let next = after_item raw x scope in
         listed_right m (starts_from (item_placed p one) k) (block_starts (map (item_placed p) is) (k + (item_placed p one).height))
-        (rest next is fs (rest_same i) (sym (passes scope) ∙ f) (behind_at p.functions scope.functions next.functions fs (functions scope) b) m (k + (item_placed p one).height) (omega (arith, low, statements scope)) high)
+        (rest next is fs (tail_is i) (sym (passes scope) ∙ f) (behind_at p.functions scope.functions next.functions fs (functions scope) b) m (k + (item_placed p one).height) (omega (arith, low, statements scope)) high)
 
     defined_item : (l : ℕ) (h : RawHead) (body : List RawStatement) (xs : List RawItem) → are_tidy body ≡ true → ItemsTake xs → ItemsTake (Define l h body ∷ xs)
-    defined_item l h body xs tidy rest scope [] fs i f b m k low high = cons_nil (item_tree raw (Define l h body) scope) (items_from raw xs (after_item raw (Define l h body) scope)) i
-    defined_item l h body xs tidy rest scope (one ∷ is) [] i f b m k low high = cons_nil (function_tree raw l h body scope) (functions_from raw xs (after_item raw (Define l h body) scope)) f
+    defined_item l h body xs tidy rest scope [] fs i f b m k low high = no_list i
+    defined_item l h body xs tidy rest scope (one ∷ is) [] i f b m k low high = no_list f
     defined_item l h body xs tidy rest scope (one ∷ is) (g ∷ fs) i f b m k low high =
         let next = after_item raw (Define l h body) scope in
         let begin = entered raw h scope in
-        let made = both_there _ (ctype_if raw h.result) (body_of raw body begin) g (first_same f) in
+        let made = both_there _ (ctype_if raw h.result) (body_of raw body begin) g (head_is f) in
         let same : made.right ≡ g.body = ap (λ (z : Function). z.body) made.same in
-        let is_one : one ≡ item.Define scope.functions = sym (some_same (first_same i)) in
+        let is_one : one ≡ item.Define scope.functions = sym (some_same (head_is i)) in
         let at : slice_get p.functions scope.functions ≡ Some g = behind_first p.functions scope.functions g fs b in
         let begins : begin.statements ≡ scope.statements = entered_statements raw h scope in
         let ends : next.statements ≡ (after_all (map (treed raw) body) begin).statements = ap (λ (z : Scope). z.statements) (body_after raw body begin ∙ sym (list_after raw body begin)) in
@@ -386,7 +376,7 @@ module _ (raw : RawProgram) where
         (subst (λ (z : List Statement). IsListed m (block_starts (map placed z) (k + 1))) same
         (body_listed body tidy begin made.right (collected_are (in_order (map (treed raw) body) begin) made.right made.right_there) m (k + 1) (omega (arith, low, begins)) (omega (arith, lt, ends)))))))
         (λ ge. listed_right m own others
-        (rest next is fs (rest_same i) (rest_same f) (behind_rest p.functions scope.functions next.functions g fs (define_functions raw l h body scope) b) m (k + (item_placed p one).height) ge high))
+        (rest next is fs (tail_is i) (tail_is f) (behind_rest p.functions scope.functions next.functions g fs (define_functions raw l h body scope) b) m (k + (item_placed p one).height) ge high))
 
     pub items_take : (xs : List RawItem) → AreTidy xs → ItemsTake xs
     items_take [] h = λ scope is fs i f b m k low high. absurd (omega (arith, low, high))

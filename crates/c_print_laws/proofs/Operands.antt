@@ -1,6 +1,6 @@
 -- An expression in which no rule is broken is an operand, where each name in scope has a type.
 use Rattle.std.proofs.Common.{◌≡◌, ℕ, [], ◌∷◌, Bool, true, false, Option, Some, None, sym, ap, subst}
-use Rattle.std.specs.Prelude.{Contains, not, ◌||◌, ◌&&◌, nat_lt, is_none, option_and_then, if◌then◌else◌}
+use Rattle.std.specs.Prelude.{Contains, not, nat_lt, is_none, option_and_then, if◌then◌else◌}
 use Rattle.std.proofs.lemmas.Bool.{false_from_ne_true}
 use Rattle.c_tree.specs.declared.raw.expr.RawExpr.{RawExpr, map-RawExpr, roll-RawExpr, fold-roll-RawExpr}
 use Rattle.c_tree.specs.declared.raw.expr.RawExpr.TheOpen.{RawExpr-F}
@@ -11,28 +11,21 @@ use Rattle.c_tree.proofs.RawTrees.{ExprParts, expr_layer, of_every_expr}
 use Rattle.c_language.specs.Words.{Bytes}
 use Rattle.c_language.specs.DeclaredTypes.{written_type}
 use Rattle.c_language.specs.Scopes.{Scope, Meaning, meaning_in}
-use Rattle.c_language.specs.ExprTypes.{operand, operand_step, a_value, a_place, variable_in, unary_result, binary_result, logical_result, choose_result, cast_result, pointed, indexed, address_result, given, is_array, value_type, struct_of, selected, member_of, member_type}
-use Rattle.c_language.specs.ExprRules.{Seen, seen, is_undeclared, has_bad_operand, has_no_address, needs_struct, selects_missing, fails, holds_of, is_function, is_incomplete_struct, lacks_member}
+use Rattle.c_language.specs.ExprTypes.{operand, operand_step, a_place, variable_in, member_of, member_type}
+use Rattle.c_language.specs.ExprRules.{Seen, seen, holds_of, is_function}
 use Rattle.c_language.specs.NameRules.{UsesUndeclared}
 use Rattle.c_language.specs.StructRules.{MisusesTag, MisnamesMember}
 use Rattle.c_language.specs.TypeRules.{MisusesOperator, MisusesAddress}
 use Rattle.c_language.specs.Phrases.{Part}
 use Rattle.c_language.specs.Rules.{Breaks, undeclared, tag, member, operator, address}
 use Rattle.c_language.specs.Uses.{operands_of, expressions, IsWithin, whole, deeper, holds}
-use Rattle.c_language.specs.declared.expr_type.ExprType.{ExprType}
 use Rattle.c_language.specs.declared.expr_type.Operand.{Operand}
-use Rattle.c_language.proofs.Options.{IsThere, there_map}
+use Rattle.c_language.proofs.Options.{there_map}
 use Rattle.c_language.proofs.Tests.{false_true}
 use Rattle.c_language.proofs.Lists.{contains_first, contains_later}
 use Rattle.c_language.proofs.UseLemmas.{OfParts}
-
--- a form of an expression breaks none of these rules
-pub record IsClean (raw : RawProgram) (scope : Scope) (s : Seen) : Type 0 where
-  pub declared : is_undeclared scope s ≡ false
-  pub operands : has_bad_operand scope s ≡ false
-  pub address : has_no_address s ≡ false
-  pub complete : needs_struct scope s ≡ false
-  pub member : selects_missing raw s ≡ false
+use Rattle.c_language.proofs.Operands.{IsClean, form_there, HasTypeIf}
+use Rattle.c_language.specs.Options.{IsThere}
 
 -- no part of an expression breaks them
 abbrev pub KeepsAll : RawProgram → Scope → RawExpr → Type 0
@@ -51,27 +44,9 @@ keeps_all raw scope part kept a c inner w = record {
   member = false_from_ne_true _ (λ h. kept 8 (member (MisnamesMember.missing (holds c w) h)));
 }
 
--- what a name stands for has its type
-abbrev pub HasType : Meaning → Type 0
-HasType (Meaning.Variable id t) = IsThere t
-HasType Meaning.Function = Unit {0}
-
-abbrev pub HasTypeIf : Option Meaning → Type 0
-HasTypeIf None = Unit {0}
-HasTypeIf (Some m) = HasType m
-
 abbrev pub IsTypedIf : RawProgram → Option RawMember → Type 0
 IsTypedIf raw None = Unit {0}
 IsTypedIf raw (Some m) = IsThere (written_type raw m.shape)
-
-not_fails : {A : Type 0} (r : Option A) → fails (Some r) ≡ false → IsThere r
-not_fails None h = true_false h
-not_fails (Some x) h = tt
-
-has_address : (is_place is_array : Bool) (t : ExprType) → (not is_place || is_array) ≡ false → IsThere (given (is_place && not is_array) t)
-has_address true true t h = true_false h
-has_address true false t h = tt
-has_address false b t h = true_false h
 
 variable_there : (m : Option Meaning) → HasTypeIf m → is_none m ≡ false → is_function m ≡ false → IsThere (variable_in m)
 variable_there None h none other = true_false none
@@ -93,49 +68,6 @@ module _ (raw : RawProgram) (scope : Scope) (complete : (s : ℕ) (name : Bytes)
       → holds_of (λ (k : ℕ). is_none (member_of raw k name)) s ≡ false → IsThere (option_and_then (member_type raw scope name) s)
   in_struct name None h before has = absurd h
   in_struct name (Some s) h before has = known_type (nat_lt s scope.structs) (member_of raw s name) (complete s name) before has
-
-  at_target : (name : Bytes) (t : Option ExprType) → IsThere (option_and_then struct_of t) → holds_of (is_incomplete_struct scope) t ≡ false
-      → holds_of (lacks_member raw name) t ≡ false → IsThere (option_and_then (selected raw scope name) t)
-  at_target name None h before has = absurd h
-  at_target name (Some t) h before has = in_struct name (struct_of t) h before has
-
-  -- a form that breaks no rule is an operand
-  form_there : (s : Seen) → OfParts IsThere s → IsClean raw scope s → IsThere (operand_step raw scope s)
-  form_there (RawExpr-F.Constant text) parts clean = tt
-  form_there RawExpr-F.Null parts clean = tt
-  form_there RawExpr-F.Eof parts clean = tt
-  form_there (RawExpr-F.Variable name) parts clean = variable_there (meaning_in scope name) (typed name) clean.declared clean.operands
-  form_there (RawExpr-F.Unary op None) parts clean = absurd parts
-  form_there (RawExpr-F.Unary op (Some x)) parts clean = there_map a_value (unary_result op (value_type x.shape)) (not_fails _ clean.operands)
-  form_there (RawExpr-F.Deref None) parts clean = absurd parts
-  form_there (RawExpr-F.Deref (Some x)) parts clean = there_map a_place (pointed x) (not_fails _ clean.operands)
-  form_there (RawExpr-F.AddressOf None) parts clean = absurd parts
-  form_there (RawExpr-F.AddressOf (Some x)) parts clean = there_map a_value (address_result x) (has_address x.is_place (is_array x.shape) _ clean.address)
-  form_there (RawExpr-F.Binary op None b) parts clean = absurd parts.0
-  form_there (RawExpr-F.Binary op (Some x) None) parts clean = absurd parts.1
-  form_there (RawExpr-F.Binary op (Some x) (Some y)) parts clean = there_map a_value (binary_result op x y) (not_fails _ clean.operands)
-  form_there (RawExpr-F.AndAlso None b) parts clean = absurd parts.0
-  form_there (RawExpr-F.AndAlso (Some x) None) parts clean = absurd parts.1
-  form_there (RawExpr-F.AndAlso (Some x) (Some y)) parts clean = there_map a_value (logical_result x y) (not_fails _ clean.operands)
-  form_there (RawExpr-F.OrElse None b) parts clean = absurd parts.0
-  form_there (RawExpr-F.OrElse (Some x) None) parts clean = absurd parts.1
-  form_there (RawExpr-F.OrElse (Some x) (Some y)) parts clean = there_map a_value (logical_result x y) (not_fails _ clean.operands)
-  form_there (RawExpr-F.Choose None a b) parts clean = absurd parts.0
-  form_there (RawExpr-F.Choose (Some x) None b) parts clean = absurd parts.1
-  form_there (RawExpr-F.Choose (Some x) (Some y) None) parts clean = absurd parts.2
-  form_there (RawExpr-F.Choose (Some x) (Some y) (Some z)) parts clean = there_map a_value (choose_result x y z) (not_fails _ clean.operands)
-  form_there (RawExpr-F.Cast t None) parts clean = absurd parts
-  form_there (RawExpr-F.Cast t (Some x)) parts clean = there_map a_value (cast_result t x) (not_fails _ clean.operands)
-  form_there (RawExpr-F.Index None i) parts clean = absurd parts.0
-  form_there (RawExpr-F.Index (Some x) None) parts clean = absurd parts.1
-  form_there (RawExpr-F.Index (Some x) (Some y)) parts clean = there_map a_place (indexed x y) (not_fails _ clean.operands)
-  form_there (RawExpr-F.Member None m) parts clean = absurd parts
-  form_there (RawExpr-F.Member (Some x) m) parts clean =
-      there_map a_place (selected raw scope m x.shape) (in_struct m (struct_of x.shape) (not_fails _ clean.operands) clean.complete clean.member)
-  form_there (RawExpr-F.Arrow None m) parts clean = absurd parts
-  form_there (RawExpr-F.Arrow (Some x) m) parts clean =
-      there_map a_place (option_and_then (selected raw scope m) (pointed x)) (at_target m (pointed x) (not_fails _ clean.operands) clean.complete clean.member)
-  form_there (RawExpr-F.Paren a) parts clean = parts
 
   abbrev IsOperand : RawExpr → Type 0
   IsOperand a = KeepsAll raw scope a → IsThere (operand raw scope a)
@@ -176,4 +108,4 @@ module _ (raw : RawProgram) (scope : Scope) (complete : (s : ℕ) (name : Bytes)
   pub operand_there : (a : RawExpr) → IsOperand a
   operand_there = of_every_expr IsOperand (λ y keeps.
       let l = expr_layer IsOperand y in
-      subst IsThere (sym (fold-roll-RawExpr (Option Operand) (operand_step raw scope) l)) (form_there (seen_layer l) (parts_there y (operands_keep l keeps)) (layer_clean l keeps)))
+      subst IsThere (sym (fold-roll-RawExpr (Option Operand) (operand_step raw scope) l)) (form_there raw scope (λ name. variable_there (meaning_in scope name) (typed name)) in_struct (seen_layer l) (parts_there y (operands_keep l keeps)) (layer_clean l keeps)))

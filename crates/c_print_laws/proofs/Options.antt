@@ -1,9 +1,10 @@
 -- Where a value that is computed from options is there, the options are.
-use Rattle.std.proofs.Common.{◌≡◌, ℕ, zero, suc, List, [], ◌∷◌, Option, Some, None, refl, sym, ap, subst, ◌∙◌, map, slice_get}
+use Rattle.std.proofs.Common.{◌≡◌, ℕ, zero, suc, List, [], ◌∷◌, Option, Some, None, refl, sym, ap, ◌∙◌, map, slice_get}
 use Rattle.std.specs.Prelude.{option_map, option_and_then}
 use Rattle.c_language.specs.ConstantEvaluation.{both}
 use Rattle.c_language.specs.ProgramOf.{collected}
 use Rattle.c_language.proofs.Options.{none_there, some_same}
+use Rattle.c_language.proofs.Lists.{no_list, head_is, tail_is}
 
 -- a value with what it gives
 pub record Gives {A B : Type 0} (x : Option A) (f : A → B) (y : B) : Type 0 where
@@ -41,30 +42,9 @@ collected_are (Some x ∷ xs) ys h =
     let g = map_there (λ (zs : List _). x ∷ zs) (collected xs) ys h in
     ap (λ (zs : List (Option _)). Some x ∷ zs) (collected_are xs g.value g.there) ∙ ap (map Some) g.same
 
-abbrev pub IsCons : {A : Type 0} → List A → Type 0
-IsCons [] = ⊥
-IsCons (a ∷ all) = Unit {0}
-
-pub cons_nil : {A B : Type 0} (a : A) (all : List A) → ◌≡◌ {A = List A} (a ∷ all) [] → B
-cons_nil a all h = absurd (subst IsCons h tt)
-
-abbrev pub first_or : {A : Type 0} → A → List A → A
-first_or d [] = d
-first_or d (a ∷ all) = a
-
-abbrev pub behind_first : {A : Type 0} → List A → List A
-behind_first [] = []
-behind_first (a ∷ all) = all
-
-pub first_same : {A : Type 0} {a b : A} {as_ bs : List A} → ◌≡◌ {A = List A} (a ∷ as_) (b ∷ bs) → a ≡ b
-first_same {a} h = ap (first_or a) h
-
-pub rest_same : {A : Type 0} {a b : A} {as_ bs : List A} → ◌≡◌ {A = List A} (a ∷ as_) (b ∷ bs) → as_ ≡ bs
-rest_same h = ap behind_first h
-
 -- what stands at a place of one list stands there in the other
 pub place_of : {A B : Type 0} (f : A → Option B) (xs : List A) (ys : List B) (i : ℕ) (x : A) → map f xs ≡ map Some ys → slice_get xs i ≡ Some x → Gives (f x) Some (slice_get ys i)
 place_of f [] ys i x h g = none_there g
-place_of f (a ∷ xs) [] i x h g = cons_nil (f a) (map f xs) h
-place_of f (a ∷ xs) (y ∷ ys) zero x h g = record { value = y; there = ap f (sym (some_same g)) ∙ first_same h; same = refl }
-place_of f (a ∷ xs) (y ∷ ys) (suc i) x h g = place_of f xs ys i x (rest_same h) g
+place_of f (a ∷ xs) [] i x h g = no_list h
+place_of f (a ∷ xs) (y ∷ ys) zero x h g = record { value = y; there = ap f (sym (some_same g)) ∙ head_is h; same = refl }
+place_of f (a ∷ xs) (y ∷ ys) (suc i) x h g = place_of f xs ys i x (tail_is h) g

@@ -1,6 +1,7 @@
 -- The phrases of a text agree with those of what the layout keeps of it.
 use Rattle.std.proofs.Common.{◌≡◌, ℕ, ◌+◌, ◌&&◌, List, [], ◌∷◌, ◌++◌, map, Bool, true, Option, Some, None, refl, sym, ap, ap₂, subst, ◌∙◌}
 use Rattle.std.proofs.lemmas.Bool.{and_parts}
+use Rattle.c_language.specs.TypeGrammar.{is_written}
 use Rattle.c_tree.specs.declared.raw.expr.RawExpr.{RawExpr}
 use Rattle.c_tree.specs.declared.raw.expr.RawVar.{RawVar}
 use Rattle.c_tree.specs.declared.raw.program.RawInit.{RawInit}
@@ -26,7 +27,7 @@ use Rattle.c_text_layout.proofs.DeclarationLemmas.{arm_passes}
 use Rattle.c_print_laws.proofs.Alike.{Pairwise, pairwise_append}
 use Rattle.c_print_laws.proofs.Resembling.{Resembles}
 use Rattle.c_print_laws.proofs.RuleTransfer.{VarsAgree, PartsAgree, vars_same}
-use Rattle.c_print_laws.proofs.Settling.{IsCounted, is_written, settled_var_agrees}
+use Rattle.c_print_laws.proofs.Settling.{IsCounted, settled_var_agrees}
 
 -- ---- what the layout keeps, layer by layer
 

@@ -32,7 +32,8 @@ use Rattle.c_tree.specs.declared.raw.statement.RawStatement.{RawStatement, roll-
 use Rattle.c_tree.specs.declared.raw.statement.RawStatement.TheOpen.{RawStatement-F, RawArm-F}
 use Rattle.c_tree.specs.declared.raw.statement.RawArm.{RawArm, fold-RawArm, fold-roll-RawArm}
 use Rattle.c_language.specs.StatementGrammar.{arm}
-use Rattle.c_print.specs.Feedless.{feedless, each, if_any}
+use Rattle.c_print.specs.Feedless.{feedless, each}
+use Rattle.c_language.specs.Lists.{if_there}
 
 -- ---- expressions and types
 
@@ -115,7 +116,7 @@ raw_statement_step (RawStatement-F.Heap l to cast n) = raw_target_feedless to &&
 raw_statement_step (RawStatement-F.If l e a b) = raw_expr_feedless e && (each a && each b)
 raw_statement_step (RawStatement-F.While l e b) = raw_expr_feedless e && each b
 raw_statement_step (RawStatement-F.Do l e b) = raw_expr_feedless e && each b
-raw_statement_step (RawStatement-F.For l i e k b) = if_any i && (raw_expr_feedless e && (if_any k && each b))
+raw_statement_step (RawStatement-F.For l i e k b) = if_there i && (raw_expr_feedless e && (if_there k && each b))
 raw_statement_step (RawStatement-F.Switch l e arms) = raw_expr_feedless e && each arms
 raw_statement_step (RawStatement-F.Block l b) = each b
 raw_statement_step (RawStatement-F.Return l a) = option_map_or raw_expr_feedless a true

@@ -15,13 +15,13 @@ use Rattle.c_language.specs.ItemGrammar.{IsProgram}
 use Rattle.c_language.specs.Rules.{KeepsRules}
 use Rattle.c_language.specs.ProgramOf.{program_of}
 use Rattle.c_language.specs.Layout.{layout}
-use Rattle.c_language.specs.Limits.{longest, longest_in_structs, longest_in_variables, array_length, cells, struct_cells, greatest, greatest_variable, object_cells}
+use Rattle.c_language.specs.Limits.{longest, longest_in_structs, longest_in_variables, array_length, cells, struct_cells, greatest_variable, object_cells}
 use Rattle.c_language.specs.Programs.{IsWithinLimits, IsWellFormed}
 use Rattle.c_print.specs.Feedless.{feedless}
 use Rattle.c_text_layout.specs.RawLayout.{raw_layout}
 use Rattle.c_text_layout.specs.Settled.{SameInLayout, items_lack_lengths}
 use Rattle.c_text_layout.proofs.ItemPrint.{printed_is_read}
-use Rattle.c_text_layout.proofs.TextPrint.{text_formed, formed_written}
+use Rattle.c_text_layout.proofs.TextPrint.{formed_written}
 use Rattle.c_print_laws.specs.ReadAgain.{starless, comment_line, IsReadAgain}
 use Rattle.c_print_laws.proofs.Commented.{behind_comment_line}
 use Rattle.c_print_laws.proofs.ItemLayout.{layout_of_tree}
@@ -37,6 +37,8 @@ use Rattle.c_print_laws.proofs.ToldItems.{tree_fits}
 use Rattle.c_print_laws.proofs.UntoldItems.{fitting_untold}
 use Rattle.c_print_laws.proofs.FittingKept.{fitting_kept}
 use Rattle.c_print_laws.proofs.ListForms.{is_counted, fine, lists_counted}
+use Rattle.c_language.proofs.FormedTokens.{formed_tokens}
+use Rattle.c_language.specs.Lists.{greatest}
 
 -- The layout of the program of a text that keeps all rules is that of the text's tree.
 pub layout_of_text : {ts : Tokens} (raw : RawProgram) (p : Program) → IsProgram ts raw → KeepsRules raw → program_of raw ≡ Some p → layout p ≡ raw_layout raw
@@ -122,7 +124,7 @@ read_behind front line behind p h =
       accepted = record {
         tokens = r.tokens;
         are = subst (λ (text : Bytes). AreTokensOf (front ++ text) r.tokens) (sym laid) (behind (raw_layout raw) r.tokens r.lexed);
-        tree = record { formed = text_formed r.lexed; grammar = r.is; whole = none_left_out r.found r.is untold };
+        tree = record { formed = formed_tokens r.lexed; grammar = r.is; whole = none_left_out r.found r.is untold };
         has = record { rules = k.0; program = k.1.1 };
       };
       within = limits_kept raw r.found h.same k.1.0 r.same r.bare k.1.2 h.within;

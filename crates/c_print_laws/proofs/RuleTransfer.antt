@@ -1,6 +1,6 @@
 -- A phrase breaks a rule where the phrase of a resembling text breaks it.
-use Rattle.std.proofs.Common.{◌≡◌, ℕ, suc, ◌&&◌, ◌||◌, List, [], ◌∷◌, length, take, Bool, true, false, not, Option, Some, None, pos, refl, sym, ap, ap₂, subst, ◌∙◌, arith, slice_get, ◌⊎◌, inl, inr}
-use Rattle.std.specs.Prelude.{Contains, option_map, option_and_then, is_none}
+use Rattle.std.proofs.Common.{◌≡◌, ℕ, suc, ◌&&◌, List, [], ◌∷◌, length, take, Bool, true, false, Option, Some, None, pos, refl, sym, ap, ap₂, subst, ◌∙◌, arith, slice_get, ◌⊎◌, inl, inr}
+use Rattle.std.specs.Prelude.{Contains, option_map, option_and_then}
 use Rattle.c_tree.specs.declared.raw.expr.RawExpr.{RawExpr, map-RawExpr}
 use Rattle.c_tree.specs.declared.raw.expr.RawExpr.TheOpen.{RawExpr-F}
 use Rattle.c_tree.specs.declared.raw.expr.RawExpr.TheVariants as e
@@ -22,8 +22,8 @@ use Rattle.c_language.specs.TypeGrammar.{named_type}
 use Rattle.c_language.specs.DeclaredTypes.{defined_structs, defined_functions, definition_of, positive, written_type, variable_type, type_or_void, result_type, parameter_types, item_count}
 use Rattle.c_language.specs.ProgramOf.{ctype_with}
 use Rattle.c_language.specs.Scopes.{Scope, meaning_in, meaning_here}
-use Rattle.c_language.specs.ExprTypes.{operand, pointed, struct_of, member_of}
-use Rattle.c_language.specs.ExprRules.{Seen, seen, is_undeclared, lacks_header, has_bad_operand, has_no_address, needs_struct, selects_missing, holds_of, lacks_member, points_to_incomplete, moves_incomplete}
+use Rattle.c_language.specs.ExprTypes.{operand}
+use Rattle.c_language.specs.ExprRules.{Seen, seen, is_undeclared, lacks_header, has_bad_operand, has_no_address, needs_struct, selects_missing, holds_of, points_to_incomplete, moves_incomplete}
 use Rattle.c_language.specs.Formats.{Conversion}
 use Rattle.c_language.specs.Phrases.{Stand, Part, NamesStruct, DefinesStruct, HasMember, DeclaresFunction, Takes, EndsFunction, Declares, Begins, Assigns, Bumps, Calls, Allocates, Tests, Switches, Returns}
 use Rattle.c_language.specs.Uses.{lengths_in, lengths, expressions, Holds, holds, tags_in, tags, tags_if, is_library_name, is_library_macro}
@@ -40,6 +40,7 @@ use Rattle.c_language.proofs.Options.{none_there, some_same}
 use Rattle.c_language.proofs.Tests.{false_true}
 use Rattle.c_language.proofs.UseLemmas.{only_part, out-Constant}
 use Rattle.c_print_laws.proofs.Alike.{Pairwise, BothThere, pair_of, place_there, pairwise_take, pairwise_map, pairwise_length}
+use Rattle.c_language.proofs.Operands.{headers_same, missing_same}
 use Rattle.c_print_laws.proofs.Resembling.{MembersAgree, StructsAgree, ParamsAgree, HeadsAgree, Resembles, struct_ids, definitions_agree, types_same, ctypes_same, lacks_same, operands_same, seen_same}
 
 -- ---- parts that agree
@@ -220,54 +221,6 @@ module _ (raw other : RawProgram) (like : Resembles raw other) where
     seen_true : (test : Seen → Bool) (inner : RawExpr) → test (seen other scope inner) ≡ true → test (seen raw scope inner) ≡ true
     seen_true test inner is = ap test (seen_same raw other like scope inner) ∙ is
 
-    headers_same : (s : Seen) → lacks_header raw s ≡ lacks_header other s
-    headers_same (RawExpr-F.Constant text) = refl
-    headers_same RawExpr-F.Null = ap₂ (λ (a b : Bool). not (a || b)) like.stdio like.stdlib
-    headers_same RawExpr-F.Eof = ap not like.stdio
-    headers_same (RawExpr-F.Variable name) = refl
-    headers_same (RawExpr-F.Unary o a) = refl
-    headers_same (RawExpr-F.Deref a) = refl
-    headers_same (RawExpr-F.AddressOf a) = refl
-    headers_same (RawExpr-F.Binary o a b) = refl
-    headers_same (RawExpr-F.AndAlso a b) = refl
-    headers_same (RawExpr-F.OrElse a b) = refl
-    headers_same (RawExpr-F.Choose c a b) = refl
-    headers_same (RawExpr-F.Cast t a) = refl
-    headers_same (RawExpr-F.Index a b) = refl
-    headers_same (RawExpr-F.Member a m) = refl
-    headers_same (RawExpr-F.Arrow a m) = refl
-    headers_same (RawExpr-F.Paren a) = refl
-
-    lacks_in : (m : Bytes) (s : Option ℕ) → holds_of (λ (k : ℕ). is_none (member_of raw k m)) s ≡ holds_of (λ (k : ℕ). is_none (member_of other k m)) s
-    lacks_in m None = refl
-    lacks_in m (Some k) = lacks_same raw other like k m
-
-    lacks_of : (m : Bytes) (a : Option Operand) → holds_of (λ (x : Operand). lacks_member raw m x.shape) a ≡ holds_of (λ (x : Operand). lacks_member other m x.shape) a
-    lacks_of m None = refl
-    lacks_of m (Some x) = lacks_in m (struct_of x.shape)
-
-    lacks_pointed : (m : Bytes) (t : Option ExprType) → holds_of (lacks_member raw m) t ≡ holds_of (lacks_member other m) t
-    lacks_pointed m None = refl
-    lacks_pointed m (Some t) = lacks_in m (struct_of t)
-
-    missing_same : (s : Seen) → selects_missing raw s ≡ selects_missing other s
-    missing_same (RawExpr-F.Constant text) = refl
-    missing_same RawExpr-F.Null = refl
-    missing_same RawExpr-F.Eof = refl
-    missing_same (RawExpr-F.Variable name) = refl
-    missing_same (RawExpr-F.Unary o a) = refl
-    missing_same (RawExpr-F.Deref a) = refl
-    missing_same (RawExpr-F.AddressOf a) = refl
-    missing_same (RawExpr-F.Binary o a b) = refl
-    missing_same (RawExpr-F.AndAlso a b) = refl
-    missing_same (RawExpr-F.OrElse a b) = refl
-    missing_same (RawExpr-F.Choose c a b) = refl
-    missing_same (RawExpr-F.Cast t a) = refl
-    missing_same (RawExpr-F.Index a b) = refl
-    missing_same (RawExpr-F.Member a m) = lacks_of m a
-    missing_same (RawExpr-F.Arrow a m) = lacks_pointed m (option_and_then pointed a)
-    missing_same (RawExpr-F.Paren a) = refl
-
     -- ---- functions
 
     defined_as : (f : Bytes) (k : RawHead) → definition_of other f ≡ Some k → (h : RawHead) × (definition_of raw f ≡ Some h) × HeadsAgree h k
@@ -413,7 +366,7 @@ module _ (raw other : RawProgram) (like : Resembles raw other) where
         let x = pair_of MembersAgree m.0 others twin m.3 c in
         subst (MisnamesMember raw scope) (sym m.2) (MisnamesMember.again x.stands (x.related.name ∙ is ∙ sym m.4.name))
     member_moves a (MisnamesMember.missing {inner} h is) =
-        let k = missing_same (seen raw scope inner) ∙ seen_true (selects_missing other) inner is in
+        let k = missing_same raw other (lacks_same raw other like) (seen raw scope inner) ∙ seen_true (selects_missing other) inner is in
         MisnamesMember.missing (held_if (selects_missing raw) (λ text. refl) inner a h k) k
 
     no_element_moves : {part next : Part} → PartsAgree raw other part next → HasNoElement next → HasNoElement part
@@ -522,7 +475,7 @@ module _ (raw other : RawProgram) (like : Resembles raw other) where
 
     header_moves : {part next : Part} → PartsAgree raw other part next → LacksHeader other scope next → LacksHeader raw scope part
     header_moves a (LacksHeader.in_expression {inner} h is) =
-        let k = headers_same (seen raw scope inner) ∙ seen_true (lacks_header other) inner is in
+        let k = headers_same raw other like.stdio like.stdlib (seen raw scope inner) ∙ seen_true (lacks_header other) inner is in
         elim (held inner a h) [
           | inl j ↦ LacksHeader.in_expression j k
           | inr j ↦ false_true (sym (ap (lacks_header raw) (ap (seen raw scope) j.1 ∙ seen-Constant j.0)) ∙ k)

@@ -1,6 +1,8 @@
 -- What the layout keeps of a text keeps the rules exactly where the text does.
-use Rattle.std.proofs.Common.{◌≡◌, List, [], ◌∷◌, ◌++◌, map, Bool, true, false, Option, Some, None, refl, sym, ap, subst, ◌∙◌}
+use Rattle.std.proofs.Common.{◌≡◌, List, [], ◌∷◌, ◌++◌, map, Bool, true, Option, Some, None, refl, sym, ap, subst, ◌∙◌}
 use Rattle.std.proofs.lemmas.Bool.{and_parts}
+use Rattle.c_language.proofs.HeadLemmas.{ends_from, ends_told}
+use Rattle.c_language.specs.HeadTests.{value_layer, returns_value, ends_with_value}
 use Rattle.c_tree.specs.declared.raw.expr.RawVar.{RawVar}
 use Rattle.c_tree.specs.declared.raw.program.RawInit.{RawInit}
 use Rattle.c_tree.specs.declared.raw.program.RawInit.TheVariants as init
@@ -10,10 +12,9 @@ use Rattle.c_tree.specs.declared.raw.program.RawHead.{RawHead}
 use Rattle.c_tree.specs.declared.raw.program.RawItem.{RawItem}
 use Rattle.c_tree.specs.declared.raw.program.RawItem.TheVariants.{Include, Tag, Struct, Global, Prototype, Define}
 use Rattle.c_tree.specs.declared.raw.program.RawProgram.{RawProgram}
-use Rattle.c_tree.specs.declared.raw.statement.RawStatement.{RawStatement, out-RawStatement, roll-RawStatement}
+use Rattle.c_tree.specs.declared.raw.statement.RawStatement.{RawStatement, out-RawStatement}
 use Rattle.c_tree.specs.declared.raw.statement.RawStatement.TheViews.{out-roll-RawStatement, roll-out-RawStatement}
 use Rattle.c_tree.specs.declared.raw.statement.RawStatement.TheOpen.{RawStatement-F}
-use Rattle.c_tree.specs.declared.raw.statement.RawStatement.TheVariants as s
 use Rattle.c_tree.specs.declared.raw.statement.RawArm.{RawArm}
 use Rattle.c_language.specs.Words.{Bytes}
 use Rattle.c_language.specs.DeclaredTypes.{item_count, definition_of}
@@ -29,60 +30,10 @@ use Rattle.c_print_laws.proofs.Resembling.{MembersAgree, ParamsAgree, HeadsAgree
 use Rattle.c_print_laws.proofs.RuleTransfer.{VarsAgree, PartsAgree, vars_same, breaks_moves, there_none}
 use Rattle.c_print_laws.proofs.Settling.{settled_program, settled_resembles, heads_agree, settled_var_agrees}
 use Rattle.c_print_laws.proofs.PhraseAgreement.{Fine, kept_layer, settled_layer, PhrasesAgree, agree_append, same_phrase, variable_same, declaration_agrees, statement_agrees}
-use Rattle.c_language.proofs.Tests.{false_true}
 
 -- ---- the last statement of a function
 
-abbrev returns_value : RawStatement-F RawStatement RawArm → Bool
-returns_value (RawStatement-F.Declare l v i) = false
-returns_value (RawStatement-F.Assign l a op b) = false
-returns_value (RawStatement-F.Bump l a up before) = false
-returns_value (RawStatement-F.Call l to f args) = false
-returns_value (RawStatement-F.Heap l to cast n) = false
-returns_value (RawStatement-F.If l a body other) = false
-returns_value (RawStatement-F.While l a b) = false
-returns_value (RawStatement-F.Do l a b) = false
-returns_value (RawStatement-F.For l i a step b) = false
-returns_value (RawStatement-F.Switch l a arms) = false
-returns_value (RawStatement-F.Block l b) = false
-returns_value (RawStatement-F.Return l None) = false
-returns_value (RawStatement-F.Return l (Some a)) = true
-
-abbrev ends_with_value : List RawStatement → Bool
-ends_with_value [] = false
-ends_with_value (x ∷ []) = returns_value (out-RawStatement x)
-ends_with_value (x ∷ (y ∷ ys)) = ends_with_value (y ∷ ys)
-
-ends_later : (x : RawStatement) (xs : List RawStatement) → ends_with_value xs ≡ true → ends_with_value (x ∷ xs) ≡ true
-ends_later x [] h = false_true h
-ends_later x (y ∷ ys) h = h
-
-ends_told : {xs : List RawStatement} → EndsWithValue xs → ends_with_value xs ≡ true
-ends_told (EndsWithValue.last {line = l} a) = ap returns_value (ap out-RawStatement (sym (s.rolls-Return l (Some a))) ∙ out-roll-RawStatement (RawStatement-F.Return l (Some a)))
-ends_told (EndsWithValue.later {first = x} {rest = xs} h) = ends_later x xs (ends_told h)
-
-ends_from : (xs : List RawStatement) → ends_with_value xs ≡ true → EndsWithValue xs
-ends_from [] h = false_true h
-ends_from (x ∷ []) h = by_layer (out-RawStatement x) refl h
-  where
-    by_layer : (y : RawStatement-F RawStatement RawArm) → out-RawStatement x ≡ y → returns_value y ≡ true → EndsWithValue (x ∷ [])
-    by_layer (RawStatement-F.Declare l v i) is h = false_true h
-    by_layer (RawStatement-F.Assign l a op b) is h = false_true h
-    by_layer (RawStatement-F.Bump l a up before) is h = false_true h
-    by_layer (RawStatement-F.Call l to f args) is h = false_true h
-    by_layer (RawStatement-F.Heap l to cast n) is h = false_true h
-    by_layer (RawStatement-F.If l a body other) is h = false_true h
-    by_layer (RawStatement-F.While l a b) is h = false_true h
-    by_layer (RawStatement-F.Do l a b) is h = false_true h
-    by_layer (RawStatement-F.For l i a step b) is h = false_true h
-    by_layer (RawStatement-F.Switch l a arms) is h = false_true h
-    by_layer (RawStatement-F.Block l b) is h = false_true h
-    by_layer (RawStatement-F.Return l None) is h = false_true h
-    by_layer (RawStatement-F.Return l (Some a)) is h =
-        subst (λ (z : RawStatement). EndsWithValue (z ∷ [])) (sym (sym (roll-out-RawStatement x) ∙ ap roll-RawStatement is ∙ s.rolls-Return l (Some a))) (EndsWithValue.last {line = l} a)
-ends_from (x ∷ (y ∷ ys)) h = EndsWithValue.later (ends_from (y ∷ ys) h)
-
-kept_returns : (y : RawStatement-F RawStatement RawArm) → returns_value (kept_layer y) ≡ returns_value y
+kept_returns : (y : RawStatement-F RawStatement RawArm) → value_layer (kept_layer y) ≡ value_layer y
 kept_returns (RawStatement-F.Declare l v i) = refl
 kept_returns (RawStatement-F.Assign l a op b) = refl
 kept_returns (RawStatement-F.Bump l a up before) = refl
@@ -97,10 +48,10 @@ kept_returns (RawStatement-F.Block l b) = refl
 kept_returns (RawStatement-F.Return l None) = refl
 kept_returns (RawStatement-F.Return l (Some a)) = refl
 
-settled_returns : (x : RawStatement) → returns_value (out-RawStatement (settled x)) ≡ returns_value (out-RawStatement x)
+settled_returns : (x : RawStatement) → returns_value (settled x) ≡ returns_value x
 settled_returns x =
     let y = out-RawStatement x in
-    ap returns_value (ap out-RawStatement (ap settled (sym (roll-out-RawStatement x)) ∙ settled_layer y) ∙ out-roll-RawStatement (kept_layer y)) ∙ kept_returns y
+    ap value_layer (ap out-RawStatement (ap settled (sym (roll-out-RawStatement x)) ∙ settled_layer y) ∙ out-roll-RawStatement (kept_layer y)) ∙ kept_returns y
 
 settled_ends : (xs : List RawStatement) → ends_with_value (map settled xs) ≡ ends_with_value xs
 settled_ends [] = refl

@@ -48,12 +48,11 @@ use Rattle.c_language.specs.Scopes.{Scope, Scoped, with_variable, with_target, o
 use Rattle.c_language.specs.ExprTypes.{integer_of}
 use Rattle.c_language.specs.declared.expr_type.Operand.{Operand}
 use Rattle.c_language.specs.CallRules.{only_arg, later_args, format_in}
-use Rattle.c_language.specs.ProgramOf.{collected, optional, ctype_if, expr_of, exprs_of, init_of, declaration_id, target_tree, arg_tree, args_tree, only_tree, print_tree, invoke_tree, call_tree, size_tree, amount_tree, heap_tree, label_tree, arm_tree, ArmTree, arm_tree_step, block_tree, at_type, switch_type, part_tree, for_tree, treed_step, treed}
+use Rattle.c_language.specs.ProgramOf.{collected, optional, ctype_if, expr_of, exprs_of, init_of, declaration_id, target_tree, arg_tree, args_tree, only_tree, print_tree, invoke_tree, call_tree, size_tree, amount_tree, heap_tree, label_tree, arm_tree, ArmTree, arm_tree_step, block_tree, at_type, switch_type, part_tree, for_tree, treed_step, treed, treed_arm}
 use Rattle.c_text_layout.specs.Settled.{settled_var, settled}
 use Rattle.c_text_layout.proofs.RawStatementLemmas.{settled_arm}
 use Rattle.c_text_layout.specs.Declarations.{all_true, declares_step, arm_declares, declarations_pass}
 use Rattle.c_text_layout.proofs.DeclarationLemmas.{arm_passes}
-use Rattle.c_language.proofs.TreedForms.{treed_arm}
 use Rattle.c_print_laws.proofs.Scoping.{statement_scoped, arm_scoped}
 use Rattle.c_language.proofs.Lists.{maps_same}
 use Rattle.c_print_laws.proofs.Resembling.{Resembles, function_ids, ctypes_same, operands_same, exprs_same}

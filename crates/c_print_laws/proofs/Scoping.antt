@@ -14,8 +14,7 @@ use Rattle.c_tree.specs.declared.raw.statement.RawArm.{RawArm, roll-RawArm, map-
 use Rattle.c_tree.proofs.RawTrees.{StatementParts, statement_layer, ArmParts, arm_layer, of_every_statement, of_every_arm}
 use Rattle.c_language.specs.Scopes.{Scope, Scoped, with_variable, with_target, opened, closed, numbered, begun, in_order, after_all, after_block, part_gives, after_part, scope_of_test, scope_of_body}
 use Rattle.c_language.specs.Phrases.{Stand, InBlock, InArm, InFor, Part, Phrases, phrase, declaration, begun_phrases, target_phrases, joined_at, block_phrases, at_stand, ArmText, phrases_of_arms, Tests, phrases_step, scoped_step, scoped_arm, scoped, scoped_of_arm}
-use Rattle.c_language.specs.ProgramOf.{ArmTree, treed_step, arm_tree_step, treed, declared_by, variables_in}
-use Rattle.c_language.proofs.TreedForms.{treed_arm}
+use Rattle.c_language.specs.ProgramOf.{ArmTree, treed_step, arm_tree_step, treed, declared_by, variables_in, treed_arm}
 use Rattle.c_language.proofs.PhraseLists.{variables-append}
 use Rattle.c_language.proofs.ScopeNumbers.{begun_variables}
 

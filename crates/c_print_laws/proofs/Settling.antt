@@ -11,7 +11,7 @@ use Rattle.c_tree.specs.declared.raw.expr.RawExpr.TheOpen.{RawExpr-F}
 use Rattle.c_tree.specs.declared.raw.expr.RawExpr.TheVariants as e
 use Rattle.c_tree.specs.declared.raw.expr.RawLength.{RawLength}
 use Rattle.c_tree.specs.declared.raw.expr.RawLength.TheVariants.{Written, Listed}
-use Rattle.c_tree.specs.declared.raw.expr.RawType.{RawType, roll-RawType, map-RawType, fold-RawType, fold-roll-RawType}
+use Rattle.c_tree.specs.declared.raw.expr.RawType.{RawType, roll-RawType, map-RawType, fold-roll-RawType}
 use Rattle.c_tree.specs.declared.raw.expr.RawType.TheOpen.{RawType-F}
 use Rattle.c_tree.specs.declared.raw.expr.RawType.TheVariants as type
 use Rattle.c_tree.specs.declared.raw.expr.RawVar.{RawVar}
@@ -23,7 +23,7 @@ use Rattle.c_tree.specs.declared.raw.program.RawHead.{RawHead}
 use Rattle.c_tree.specs.declared.raw.program.RawProgram.{RawProgram}
 use Rattle.c_tree.proofs.RawTrees.{TypeParts, type_layer, of_every_type}
 use Rattle.c_language.specs.Words.{Bytes}
-use Rattle.c_language.specs.TypeGrammar.{is_empty_length}
+use Rattle.c_language.specs.TypeGrammar.{is_empty_length, is_written, written_step}
 use Rattle.c_language.specs.ProgramOf.{length_words, ctype_step, ctype_with}
 use Rattle.c_language.specs.ConstantEvaluation.{both, constant, constant_step, value_of_constant, literal_value}
 use Rattle.c_language.specs.declared.constant.Constant.{Constant}
@@ -33,13 +33,12 @@ use Rattle.c_language.specs.declared.expr_type.Layer.TheVariants.{Array}
 use Rattle.c_language.specs.declared.expr_type.ExprType.{ExprType}
 use Rattle.c_text_layout.specs.Settled.{settled_length, settled_type_step, settled_type, settled_var, settled_member, settled_param, settled_head, settled_item}
 use Rattle.c_text_layout.proofs.DecimalPrint.{decimal_literal}
-use Rattle.c_text_layout.proofs.TokenPrint.{by_answer}
 use Rattle.c_language.proofs.RawWordLemmas.{raw_words-Constant}
 use Rattle.c_language.proofs.ConstantLemmas.{counted_positive}
 use Rattle.c_print_laws.proofs.Alike.{Pairwise, pairwise_of}
 use Rattle.c_print_laws.proofs.Resembling.{MembersAgree, StructsAgree, ParamsAgree, HeadsAgree, Resembles, types_same, ctypes_same}
 use Rattle.c_print_laws.proofs.RuleTransfer.{IsListLength, LengthsIn, VarsAgree}
-use Rattle.c_language.proofs.Tests.{false_true}
+use Rattle.c_language.proofs.Tests.{false_true, by_answer}
 
 -- what the layout keeps of a text
 abbrev pub settled_program : RawProgram → RawProgram
@@ -96,16 +95,6 @@ pub settled_resembles : (raw : RawProgram) → Resembles raw (settled_program ra
 settled_resembles raw = record { structs = structs_agree raw.items; functions = functions_agree raw.items; stdio = includes_same false raw.items; stdlib = includes_same true raw.items }
 
 -- ---- types
-
-abbrev pub written_step : RawType-F Bool → Bool
-written_step (RawType-F.Integer t) = true
-written_step (RawType-F.PointerTo a) = a
-written_step (RawType-F.Array a n) = not (is_empty_length n) && a
-written_step (RawType-F.Struct tag) = true
-
--- no length of the type is left to a list
-abbrev pub is_written : RawType → Bool
-is_written = fold-RawType Bool written_step
 
 -- a list with items can give a length
 abbrev pub CanCount : ℕ → Type 0

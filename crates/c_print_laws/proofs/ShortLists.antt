@@ -17,16 +17,17 @@ use Rattle.c_tree.specs.declared.raw.statement.RawArm.{RawArm, roll-RawArm, fold
 use Rattle.c_tree.proofs.RawTrees.{StatementParts, statement_layer, ArmParts, arm_layer, of_every_statement}
 use Rattle.c_language.specs.DeclaredTypes.{item_count}
 use Rattle.c_language.specs.Limits.{longest, array_length}
-use Rattle.c_language.specs.Rules.{Breaks, KeepsRules}
+use Rattle.c_language.specs.Rules.{Breaks, KeepsRules, AreKept}
 use Rattle.c_language.specs.Scopes.{Scope, Scoped, outset, with_variable, scope_of_parameters, entered, opened, numbered, in_order, after_block, part_gives, scope_of_test, scope_of_body}
 use Rattle.c_language.specs.Phrases.{Stand, InBlock, InArm, InFor, InFile, Part, Phrases, phrase, NamesStruct, DefinesStruct, HasMember, DeclaresFunction, Takes, EndsFunction, Declares, Begins, Assigns, Bumps, Calls, Allocates, Tests, Switches, Returns, declaration, joined_at, block_phrases, at_stand, ArmText, phrases_of_arms, phrases_step, scoped_step, scoped_arm, scoped, scoped_of_arm, body_phrases, head_phrases, item_phrases, after_item, items_phrases, phrases}
 use Rattle.c_language.specs.ProgramOf.{ctype_with, declared_by, variables_in, program_of}
-use Rattle.c_text_layout.specs.Declarations.{all_true, if_true, declares_step, arm_declares, declarations_pass, item_passes, items_pass, is_short, HasShortLists}
+use Rattle.c_text_layout.specs.Declarations.{all_true, declares_step, arm_declares, declarations_pass, item_passes, items_pass, is_short, HasShortLists}
 use Rattle.c_text_layout.proofs.DeclarationLemmas.{arm_passes, list_passes, both_true}
 use Rattle.c_print_laws.proofs.Options.{map_there}
 use Rattle.c_print_laws.proofs.Counted.{variable_long, items_within}
 use Rattle.c_print_laws.proofs.Definitions.{program_parts}
-use Rattle.c_print_laws.proofs.Told.{AreKept, AllStand, stand_all, stand_rest, phrases_kept}
+use Rattle.c_print_laws.proofs.Told.{AllStand, stand_all, stand_rest, phrases_kept}
+use Rattle.c_language.specs.Lists.{if_there}
 
 module _ (raw : RawProgram) where
   -- a declared variable has a type, without long arrays
@@ -115,13 +116,13 @@ module _ (raw : RawProgram) where
   passes None = None
   passes (Some x) = Some (declarations_pass is_short x.0)
 
-  part_short : (x : Part_of) (scope : Scope) (stand : Stand) → AreKnown (at_stand stand (part_gives (in_scope x) scope)) → if_true (passes x) ≡ true
+  part_short : (x : Part_of) (scope : Scope) (stand : Stand) → AreKnown (at_stand stand (part_gives (in_scope x) scope)) → if_there (passes x) ≡ true
   part_short None scope stand h = refl
   part_short (Some x) scope stand h = x.1 scope stand h
 
   for_short : (l : ℕ) (i : Part_of) (a : RawExpr) (step : Part_of) (b : Statements) (scope : Scope)
       → AreKnown (at_stand InFor (part_gives (in_scope i) (opened (numbered scope))) ++ (phrase l (scope_of_test (in_scope i) scope) (Tests a) ∷ (at_stand InBlock (part_gives (in_scope step) (scope_of_test (in_scope i) scope)) ++ block_phrases (map (scoped raw) (bare b)) (scope_of_body (in_scope i) (in_scope step) scope))))
-      → (if_true (passes i) && (if_true (passes step) && list_passes is_short (bare b))) ≡ true
+      → (if_there (passes i) && (if_there (passes step) && list_passes is_short (bare b))) ≡ true
   for_short l i a step b scope h =
       let test = phrase l (scope_of_test (in_scope i) scope) (Tests a) in
       let first = at_stand InFor (part_gives (in_scope i) (opened (numbered scope))) in

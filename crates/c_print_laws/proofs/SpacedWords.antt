@@ -6,7 +6,7 @@ use Rattle.c_tree.specs.declared.raw.expr.RawExpr.TheOpen.{RawExpr-F}
 use Rattle.c_tree.specs.declared.raw.program.RawProgram.{RawProgram}
 use Rattle.c_tree.proofs.RawTrees.{ExprParts, expr_layer, of_every_expr}
 use Rattle.c_language.specs.Words.{Bytes, signed, binary_sign, int_words}
-use Rattle.c_language.specs.ConstantEvaluation.{both, constant, constant_step, literal_type}
+use Rattle.c_language.specs.ConstantEvaluation.{constant, constant_step, literal_type}
 use Rattle.c_language.specs.declared.constant.Constant.{Constant}
 use Rattle.c_language.specs.ProgramOf.{raw_words_step, raw_words}
 use Rattle.c_language.specs.Scopes.{Scope, meaning_in}
@@ -17,10 +17,12 @@ use Rattle.c_language.specs.declared.expr_type.ExprType.{ExprType}
 use Rattle.c_language.specs.declared.expr_type.Operand.{Operand}
 use Rattle.c_text_layout.specs.SpacedWords.{Spaced, blank_if, spaced_step, spaced, spaced_words}
 use Rattle.c_print_laws.proofs.Options.{map_there}
-use Rattle.c_print_laws.proofs.Operands.{IsClean, KeepsAll, HasTypeIf, IsTypedIf, true_false, operands_keep, layer_clean, operand_there}
+use Rattle.c_language.proofs.Operands.{IsClean, HasTypeIf}
+use Rattle.c_print_laws.proofs.Operands.{KeepsAll, IsTypedIf, true_false, operands_keep, layer_clean, operand_there}
 use Rattle.c_language.proofs.Tests.{false_true}
 use Rattle.c_language.proofs.Lists.{contains_first, contains_later}
-use Rattle.c_language.proofs.Options.{IsThere, some_same, value_there}
+use Rattle.c_language.proofs.Options.{some_same, value_there, there_of_map, there_of_both}
+use Rattle.c_language.specs.Options.{IsThere}
 
 -- where no blank is needed, there is none
 no_blank : (b : Bool) (w : Bytes) → b ≡ false → blank_if b ++ w ≡ w
@@ -40,17 +42,9 @@ words_layer = map-RawExpr RawExpr Bytes raw_words
 abbrev constant_layer : RawExpr-F RawExpr → RawExpr-F (Option Constant)
 constant_layer = map-RawExpr RawExpr (Option Constant) constant
 
-there_of_map : {A B : Type 0} (f : A → B) (o : Option A) → IsThere (option_map f o) → IsThere o
-there_of_map f None h = h
-there_of_map f (Some x) h = tt
-
 there_of_then : {A B : Type 0} (f : A → Option B) (o : Option A) → IsThere (option_and_then f o) → (x : A) × (o ≡ Some x) × IsThere (f x)
 there_of_then f None h = absurd h
 there_of_then f (Some x) h = (x, refl, h)
-
-there_of_both : {A B C : Type 0} (f : A → B → C) (a : Option A) (b : Option B) → IsThere (both f a b) → IsThere a × IsThere b
-there_of_both f None b h = absurd h
-there_of_both f (Some x) b h = (tt, there_of_map (f x) b h)
 
 constant_layered : (y : ExprParts ConstantSame) → IsThere (constant_step (constant_layer (expr_layer ConstantSame y)))
     → (spaced_step (spaced_layer (expr_layer ConstantSame y))).words ≡ raw_words_step (words_layer (expr_layer ConstantSame y))

@@ -27,20 +27,19 @@ use Rattle.c_tree.specs.declared.raw.statement.RawStatement.TheOpen.{RawStatemen
 use Rattle.c_tree.specs.declared.raw.statement.RawArm.{RawArm, roll-RawArm, map-RawArm, fold-roll-RawArm}
 use Rattle.c_tree.proofs.RawTrees.{StatementParts, statement_layer, ArmParts, arm_layer, of_every_statement}
 use Rattle.c_language.specs.Words.{Bytes, assign_sign}
-use Rattle.c_language.specs.Layout.{line, bump_words, return_words, Laid, plain, block_lines, else_lines, init_part, step_part, label_words, label_lines, arms_lines, braced, target_words, statement_step, arm_step, laid}
+use Rattle.c_language.specs.Layout.{line, bump_words, return_words, Laid, plain, block_lines, else_lines, init_part, step_part, label_words, label_lines, arms_lines, braced, target_words, statement_step, arm_step, laid, arm_laid}
 use Rattle.c_language.specs.ConstantEvaluation.{both, constant, value_of_constant}
 use Rattle.c_language.specs.declared.constant.Constant.{Constant}
 use Rattle.c_language.specs.Rules.{Breaks}
 use Rattle.c_language.specs.Uses.{init_exprs, target_exprs, arg_exprs, counts, if_given, expressions}
 use Rattle.c_language.specs.Scopes.{Scope, Scoped, with_variable, with_target, opened, numbered, begun, in_order, after_all, after_block, part_gives, after_part, scope_of_test, scope_of_body}
 use Rattle.c_language.specs.Phrases.{Stand, InBlock, InArm, InFor, Part, Begins, Assigns, Bumps, Calls, Allocates, Tests, Switches, Returns, Phrases, phrase, declaration, target_phrases, joined_at, block_phrases, at_stand, ArmText, phrases_of_arms, labels_of, scoped_step, scoped_arm, scoped, scoped_of_arm}
-use Rattle.c_language.specs.ProgramOf.{expr_of, init_of, declaration_id, target_tree, label_tree, arm_tree, ArmTree, arm_tree_step, block_tree, at_type, switch_type, part_tree, for_tree, treed_step, treed, collected, optional}
-use Rattle.c_language.proofs.LayoutLemmas.{arm_laid, laid-Declare, laid-Assign, laid-Bump, laid-Return, laid-If, laid-While, laid-Do, laid-For, laid-Switch, laid-Block}
+use Rattle.c_language.specs.ProgramOf.{expr_of, init_of, declaration_id, target_tree, label_tree, arm_tree, ArmTree, arm_tree_step, block_tree, at_type, switch_type, part_tree, for_tree, treed_step, treed, collected, optional, treed_arm}
+use Rattle.c_language.proofs.LayoutLemmas.{laid-Declare, laid-Assign, laid-Bump, laid-Return, laid-If, laid-While, laid-Do, laid-For, laid-Switch, laid-Block}
 use Rattle.c_text_layout.specs.RawLayout.{raw_target_words, raw_return_words, raw_label_words, raw_label_lines, raw_statement_step, raw_arm_step, raw_laid}
 use Rattle.c_text_layout.proofs.RawStatementLemmas.{raw_arm_laid}
 use Rattle.c_text_layout.specs.SpacedWords.{spaced_words}
-use Rattle.c_print_laws.proofs.Options.{map_there, then_there, both_there, collected_are, cons_nil, first_same, rest_same}
-use Rattle.c_language.proofs.TreedForms.{treed_arm}
+use Rattle.c_print_laws.proofs.Options.{map_there, then_there, both_there, collected_are}
 use Rattle.c_language.proofs.TreeScopes.{block_after_same}
 use Rattle.c_print_laws.proofs.Operands.{KeepsAll, keeps_all}
 use Rattle.c_print_laws.proofs.Named.{IsNamed, Fits}
@@ -48,7 +47,9 @@ use Rattle.c_print_laws.proofs.ExprLayout.{expr_layout, constant_layout}
 use Rattle.c_print_laws.proofs.Scoping.{target_count, statement_scoped, arm_scoped, after_block_count, mapped, after_part_same, after_part_count}
 use Rattle.c_print_laws.proofs.Told.{AreTold, told_first, told_rest, told_later, is_declared}
 use Rattle.c_print_laws.proofs.CallLayout.{optional_there, init_layout, heap_layout, call_layout}
-use Rattle.c_language.proofs.Options.{IsThere, none_there, some_same}
+use Rattle.c_language.proofs.Options.{none_there, some_same}
+use Rattle.c_language.proofs.Lists.{no_list, head_is, tail_is}
+use Rattle.c_language.specs.Options.{IsThere}
 
 -- ---- forms of statements, over the words of a test
 
@@ -154,14 +155,14 @@ module _ (raw : RawProgram) (p : Program) (named : IsNamed raw p) where
   all_lay : (xs : Statements) (scope : Scope) (stand : Stand) → Fits p scope → AreTold raw p scope.variables (list_phrases xs scope stand)
       → (ts : List Statement) → in_order (map (treed raw) (bare xs)) scope ≡ map Some ts → map (laid p) ts ≡ map raw_laid (bare xs)
   all_lay [] scope stand fits told [] h = refl
-  all_lay [] scope stand fits told (t ∷ ts) h = cons_nil (Some t) (map Some ts) (sym h)
-  all_lay (x ∷ xs) scope stand fits told [] h = cons_nil ((treed raw x.0).gives scope) _ h
+  all_lay [] scope stand fits told (t ∷ ts) h = no_list (sym h)
+  all_lay (x ∷ xs) scope stand fits told [] h = no_list h
   all_lay (x ∷ xs) scope stand fits told (t ∷ ts) h =
       let next = (scoped raw x.0).after scope in
       let one = x.1 scope stand fits (told_first raw p scope.variables ((scoped raw x.0).gives scope stand) (list_phrases xs next stand) told) in
       let later = told_rest raw p scope.variables next.variables ((scoped raw x.0).gives scope stand) (list_phrases xs next stand) ((statement_scoped raw x.0).counts scope stand) told in
-      ap₂ (λ (y : Laid) (ys : List Laid). y ∷ ys) (one.lays t (first_same h))
-      (all_lay xs next stand one.fits later ts (ap (in_order (map (treed raw) (bare xs))) (sym ((statement_scoped raw x.0).same scope)) ∙ rest_same h))
+      ap₂ (λ (y : Laid) (ys : List Laid). y ∷ ys) (one.lays t (head_is h))
+      (all_lay xs next stand one.fits later ts (ap (in_order (map (treed raw) (bare xs))) (sym ((statement_scoped raw x.0).same scope)) ∙ tail_is h))
 
   block_lay : (xs : Statements) (scope : Scope) → Fits p scope → AreTold raw p scope.variables (block_phrases (map (scoped raw) (bare xs)) scope)
       → (ts : List Statement) → block_tree (map (treed raw) (bare xs)) scope ≡ Some ts → map (laid p) ts ≡ map raw_laid (bare xs)
@@ -198,14 +199,14 @@ module _ (raw : RawProgram) (p : Program) (named : IsNamed raw p) where
   arms_lay : (xs : Arms) (scope : Scope) → Fits p scope → AreTold raw p scope.variables (arm_phrases xs scope)
       → (t : IntType) (ms : List Arm) → map (λ (a : ArmTree). a t) (in_order (map (treed_arm raw) (bare_arms xs)) scope) ≡ map Some ms → map (arm_laid p) ms ≡ map raw_arm_laid (bare_arms xs)
   arms_lay [] scope fits told t [] h = refl
-  arms_lay [] scope fits told t (m ∷ ms) h = cons_nil (Some m) (map Some ms) (sym h)
-  arms_lay (x ∷ xs) scope fits told t [] h = cons_nil ((treed_arm raw x.0).gives scope t) _ h
+  arms_lay [] scope fits told t (m ∷ ms) h = no_list (sym h)
+  arms_lay (x ∷ xs) scope fits told t [] h = no_list h
   arms_lay (x ∷ xs) scope fits told t (m ∷ ms) h =
       let next = (scoped_of_arm raw x.0).after scope in
       let one = x.1 scope fits (told_first raw p scope.variables ((scoped_of_arm raw x.0).gives scope).phrases (arm_phrases xs next) told) in
       let later = told_rest raw p scope.variables next.variables ((scoped_of_arm raw x.0).gives scope).phrases (arm_phrases xs next) ((arm_scoped raw x.0).counts scope InArm) told in
-      ap₂ (λ (y : ℕ → Bytes) (ys : List (ℕ → Bytes)). y ∷ ys) (one.lays t m (first_same h))
-      (arms_lay xs next one.fits later t ms (ap (λ (z : Scope). map (λ (a : ArmTree). a t) (in_order (map (treed_arm raw) (bare_arms xs)) z)) (sym ((arm_scoped raw x.0).same scope)) ∙ rest_same h))
+      ap₂ (λ (y : ℕ → Bytes) (ys : List (ℕ → Bytes)). y ∷ ys) (one.lays t m (head_is h))
+      (arms_lay xs next one.fits later t ms (ap (λ (z : Scope). map (λ (a : ArmTree). a t) (in_order (map (treed_arm raw) (bare_arms xs)) z)) (sym ((arm_scoped raw x.0).same scope)) ∙ tail_is h))
 
   label_lays : (scope : Scope) → Fits p scope → (t : IntType) (a : RawLabel) (x : Label) → label_tree raw scope t a ≡ Some x → label_words p x ≡ raw_label_words a
   label_lays scope fits t (label.Case a) x h =
@@ -217,10 +218,10 @@ module _ (raw : RawProgram) (p : Program) (named : IsNamed raw p) where
 
   labels_lay : (scope : Scope) → Fits p scope → (t : IntType) (as_ : List RawLabel) (xs : List Label) → map (label_tree raw scope t) as_ ≡ map Some xs → label_lines p xs ≡ raw_label_lines as_
   labels_lay scope fits t [] [] h = refl
-  labels_lay scope fits t [] (x ∷ xs) h = cons_nil (Some x) (map Some xs) (sym h)
-  labels_lay scope fits t (a ∷ as_) [] h = cons_nil (label_tree raw scope t a) _ h
+  labels_lay scope fits t [] (x ∷ xs) h = no_list (sym h)
+  labels_lay scope fits t (a ∷ as_) [] h = no_list h
   labels_lay scope fits t (a ∷ as_) (x ∷ xs) h =
-      ap₂ labels_form (label_lays scope fits t a x (first_same h)) (labels_lay scope fits t as_ xs (rest_same h))
+      ap₂ labels_form (label_lays scope fits t a x (head_is h)) (labels_lay scope fits t as_ xs (tail_is h))
 
   -- ---- targets
 

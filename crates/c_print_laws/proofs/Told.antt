@@ -1,6 +1,5 @@
 -- The phrases of a part of a text: the program has the variables that they declare, and they break no rule.
 use Rattle.std.proofs.Common.{◌≡◌, ℕ, suc, ◌+◌, List, [], ◌∷◌, ◌++◌, length, map, Option, Some, refl, sym, ap, subst, ◌∙◌, arith, slice_get}
-use Rattle.std.specs.Prelude.{Contains}
 use Rattle.std.specs.Option.{option_map_or}
 use Rattle.c_tree.specs.declared.types.CType.{CType}
 use Rattle.c_tree.specs.declared.program.Program.{Program}
@@ -14,15 +13,15 @@ use Rattle.c_language.specs.DeclaredTypes.{item_count, variable_type}
 use Rattle.c_language.specs.Scopes.{Scope, Meaning, with_variable}
 use Rattle.c_language.specs.Phrases.{Stand, Phrase, Phrases, phrases}
 use Rattle.c_language.specs.ProgramOf.{ctype_with, is_static_stand, is_parameter_stand, variable_of, declared_by, variables_in}
-use Rattle.c_language.specs.Rules.{Breaks, IsBroken, KeepsRules}
+use Rattle.c_language.specs.Rules.{IsBroken, KeepsRules, AreKept}
 use Rattle.c_text_layout.specs.RawLayout.{raw_declared}
 use Rattle.c_print_laws.proofs.Options.{map_there}
-use Rattle.c_language.proofs.PhraseLists.{variables-append}
+use Rattle.c_language.proofs.PhraseLists.{variables-append, kept_first, kept_second, kept_from}
 use Rattle.c_print_laws.proofs.Counted.{counted}
 use Rattle.c_print_laws.proofs.Named.{IsNamed, Fits, fits_append}
 use Rattle.c_print_laws.proofs.TypeLayout.{declared_layout}
 use Rattle.c_print_laws.proofs.Scoping.{declared_count}
-use Rattle.c_language.proofs.Options.{IsThere}
+use Rattle.c_language.specs.Options.{IsThere}
 
 -- the program has the variable with the number
 pub record Stands (p : Program) (n : ℕ) (v : Option Var) : Type 0 where
@@ -49,42 +48,25 @@ stand_all p n (x ∷ xs) h =
     (record { var = x; at = ap (slice_get p.vars) (omega arith) ∙ h 0; is = refl }, stand_all p (n + 1) xs (λ i. ap (slice_get p.vars) (omega arith) ∙ h (suc i)))
 
 module _ (raw : RawProgram) where
-  -- none of the phrases breaks a rule
-  abbrev pub AreKept : Phrases → Type 0
-  AreKept [] = Unit {0}
-  AreKept (x ∷ ps) = ((n : ℕ) → Breaks raw x.scope x.part n → ⊥) × AreKept ps
-
-  kept_first : (ps qs : Phrases) → AreKept (ps ++ qs) → AreKept ps
-  kept_first [] qs h = tt
-  kept_first (x ∷ ps) qs h = (h.0, kept_first ps qs h.1)
-
-  kept_rest : (ps qs : Phrases) → AreKept (ps ++ qs) → AreKept qs
-  kept_rest [] qs h = h
-  kept_rest (x ∷ ps) qs h = kept_rest ps qs h.1
-
-  all_kept : (ps : Phrases) → ((x : Phrase) → Contains ps x → (n : ℕ) → Breaks raw x.scope x.part n → ⊥) → AreKept ps
-  all_kept [] h = tt
-  all_kept (x ∷ ps) h = (h x (0, omega arith, refl), all_kept ps (λ y c. h y (suc c.0, omega (arith, c.1), c.2)))
-
   -- a text that keeps all rules has no phrase that breaks one
-  pub phrases_kept : KeepsRules raw → AreKept (phrases raw)
-  phrases_kept keeps = all_kept (phrases raw) (λ x c n b. keeps n x.line (IsBroken.by_phrase c b))
+  pub phrases_kept : KeepsRules raw → AreKept raw (phrases raw)
+  phrases_kept keeps = kept_from raw (phrases raw) (λ x c n b. keeps n x.line (IsBroken.by_phrase c b))
 
   module _ (p : Program) where
     -- the program has the variables that the phrases declare, from the number on, and they break no rule
     pub record AreTold (n : ℕ) (ps : Phrases) : Type 0 where
-      pub kept : AreKept ps
+      pub kept : AreKept raw ps
       pub stand : AllStand p n (variables_in raw ps)
 
     pub told_first : (n : ℕ) (ps qs : Phrases) → AreTold n (ps ++ qs) → AreTold n ps
     told_first n ps qs h = record {
-      kept = kept_first ps qs h.kept;
+      kept = kept_first raw ps qs h.kept;
       stand = stand_first p n (variables_in raw ps) (variables_in raw qs) (subst (AllStand p n) (variables-append raw ps qs) h.stand);
     }
 
     pub told_rest : (n m : ℕ) (ps qs : Phrases) → n + declared_count raw ps ≡ m → AreTold n (ps ++ qs) → AreTold m qs
     told_rest n m ps qs is h = record {
-      kept = kept_rest ps qs h.kept;
+      kept = kept_second raw ps qs h.kept;
       stand = subst (λ (k : ℕ). AllStand p k (variables_in raw qs)) is (stand_rest p n (variables_in raw ps) (variables_in raw qs) (subst (AllStand p n) (variables-append raw ps qs) h.stand));
     }
 

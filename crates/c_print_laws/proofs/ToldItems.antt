@@ -22,9 +22,10 @@ use Rattle.c_language.specs.ItemGrammar.{IsMemberDeclarator, IsMember, AreMember
 use Rattle.c_language.specs.LeftOut.{struct_result, struct_param, open_braces, names_function, begins_param, names_param, ends_param}
 use Rattle.c_language.specs.declared.operators.Prefix.TheVariants.{Sign, Deref, AddressOf}
 use Rattle.c_language.specs.declared.token.TokenKind.TheVariants.{Mark}
-use Rattle.c_print_laws.proofs.CalmTokens.{AreUntold, done, more, calm_braces, expr_calm, calm_then, no_word}
+use Rattle.c_print_laws.proofs.CalmTokens.{AreUntold, done, more, calm_braces, expr_calm, calm_then}
 use Rattle.c_print_laws.proofs.Fitting.{fits, list_fits, is_return, body_fits, is_struct, struct-PointerTo, struct-Integer, result_fits, params_fit, head_fits, items_fit}
 use Rattle.c_print_laws.proofs.ToldStatements.{Went, Goes, goes_then, goes_calm, goes_name, goes_end, went_then, name_level, end_level, opens_level, closes_level, back_level, base_goes, type_goes, declarator_goes, list_init_goes, Inside, inside_at, Gone, declaration_goes, statement_goes}
+use Rattle.c_language.proofs.Keywords.{no_keyword}
 
 -- ---- no statement begins with a closing brace
 
@@ -194,7 +195,7 @@ more_params_go (IsMoreParams.more {l} k j) before z h =
 
 pub paren_begins : (w : Bytes) (l m : ℕ) (before : Tokens) → is_keyword w ≡ false → begins_param (mark (codes "(") m ∷ name w l ∷ before) ≡ true
 unfolding begins_param sees sees_second is_keyword
-paren_begins w l m before k = ap not (no_word w (codes "sizeof") k refl)
+paren_begins w l m before k = ap not (no_keyword w (codes "sizeof") k refl)
 
 params_go : {ts rest : Tokens} {ps : List RawParam} → IsParams ts ps rest → (before : Tokens) → open_braces before ≡ 0 → begins_param before ≡ true → AreUntold before ts → (params_fit ps ≡ true) × Went before rest
 params_go IsParams.empty before z b h = (refl, (goes_calm (more refl done)).go before h)

@@ -15,11 +15,11 @@ use Rattle.c_tree.specs.declared.raw.statement.RawStatement.{RawStatement}
 use Rattle.c_tree.specs.declared.raw.statement.RawTypeName.{RawTypeName}
 use Rattle.c_arith.specs.declared.operators.BinaryOp.{BinaryOp}
 use Rattle.c_arith.specs.declared.operators.BinaryOp.TheVariants.{Mul, Div, Rem, Add, Sub, Shl, Shr, Less, Greater, AtMost, AtLeast, Equal, Unequal, And, Xor, Or}
-use Rattle.c_language.specs.Words.{Bytes, assign_sign}
+use Rattle.c_language.specs.Words.{Bytes, assign_sign, bump_sign}
 use Rattle.c_language.specs.TokenForms.{Tokens, name, string, mark}
 use Rattle.c_language.specs.Sees.{sees, sees_second}
 use Rattle.c_language.specs.TypeGrammar.{IsBase, structure, integer, IsStars, IsTypeName, pointed, NamesType, starred, IsLengths, IsOuterLengths, written, empty, IsDeclarator}
-use Rattle.c_language.specs.StatementGrammar.{bump_sign, IsSeparated, IsArg, IsArgs, IsCall, bare, with_args, IsSize, of_type, of_pointee, of_bare_pointee, IsAmount, IsMalloc, IsHeap, IsSimple, IsList, trailing, IsDeclared, AreDeclared, IsDeclaration, declaration, IsInit, IsStep, IsLabel, AreLabels, IsTest, test, IsStatement, AreStatements, IsBody, IsElse, AreArms}
+use Rattle.c_language.specs.StatementGrammar.{IsSeparated, IsArg, IsArgs, IsCall, bare, with_args, IsSize, of_type, of_pointee, of_bare_pointee, IsAmount, IsMalloc, IsHeap, IsSimple, IsList, trailing, IsDeclared, AreDeclared, IsDeclaration, declaration, IsInit, IsStep, IsLabel, AreLabels, IsTest, test, IsStatement, AreStatements, IsBody, IsElse, AreArms}
 use Rattle.c_language.specs.LeftOut.{early_return, other_string, open_braces, behind_semicolon, ends_function, stands_in_list, begins_format}
 use Rattle.c_language.specs.declared.token.TokenKind.TheVariants.{Mark}
 use Rattle.c_print_laws.proofs.CalmTokens.{is_calm, AreUntold, AreCalm, done, more, calm_braces, calm_behind, expr_calm, int_calm, calm_then}

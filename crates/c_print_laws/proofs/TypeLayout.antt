@@ -19,7 +19,8 @@ use Rattle.c_text_layout.specs.RawLayout.{raw_base_step, raw_base, raw_stars_ste
 use Rattle.c_print_laws.proofs.Options.{map_there, then_there, both_there}
 use Rattle.c_print_laws.proofs.SpacedWords.{constant_spaced}
 use Rattle.c_print_laws.proofs.Named.{IsNamed}
-use Rattle.c_language.proofs.Options.{IsThere, some_same}
+use Rattle.c_language.proofs.Options.{some_same}
+use Rattle.c_language.specs.Options.{IsThere}
 
 -- a type of the program has these words
 pub record HasTypeWords (p : Program) (c : CType) (front middle back : Bytes) : Type 0 where

@@ -21,9 +21,9 @@ use Rattle.c_text_layout.proofs.StatementPrint.{IsLean}
 use Rattle.c_text_layout.proofs.ItemPrint.{IsLeanItem, AreLeanItems}
 use Rattle.c_print_laws.proofs.CalmTokens.{AreUntold, AreCalm, done, more, calm_then, calm_braces, name_calm, expr_calm, int_calm, include_untold}
 use Rattle.c_print_laws.proofs.Fitting.{fits, list_fits, is_return, body_fits, is_struct, struct-Struct, result_fits, params_fit, head_fits, item_fits, items_fit, fits-Declare, fits-Heap, return-Call}
-use Rattle.c_print_laws.proofs.ToldStatements.{name_level, end_level, opens_level, closes_level, stars_calm, stands_opened, inside_at}
+use Rattle.c_print_laws.proofs.ToldStatements.{name_level, end_level, opens_level, closes_level, stars_calm, stands_opened, inside_at, Inside}
 -- ---- tokens before others at which none is told
-use Rattle.c_print_laws.proofs.UntoldStatements.{Behind, Inside, NoParam, base_clear, calm_clear, calm_static, calm_void, declaration_clear, declarator_calm, declarator_no_function, end_clear, function_follows, inside_opened, inside_param, list_init_clear, mark_here, opened_back, or_first, statement_clear, word_here}
+use Rattle.c_print_laws.proofs.UntoldStatements.{Behind, NoParam, base_clear, calm_clear, calm_static, calm_void, declaration_clear, declarator_calm, declarator_no_function, end_clear, function_follows, inside_opened, inside_param, list_init_clear, mark_here, opened_back, or_first, statement_clear, word_here}
 
 -- ---- bodies of functions
 

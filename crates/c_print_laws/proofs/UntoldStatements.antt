@@ -22,7 +22,7 @@ use Rattle.c_language.specs.LeftOut.{is_left_out_word, IsTold, open_braces, behi
 use Rattle.c_language.specs.declared.token.TokenKind.TheVariants.{Name, Mark}
 use Rattle.c_print_laws.proofs.CalmTokens.{is_watched, AreUntold, AreCalm, done, more, calm_then, calm_braces, calm_behind, calm_untold, name_calm, expr_calm, int_calm, mark_untold, string_untold, return_untold, case_untold, default_untold, struct_untold}
 use Rattle.c_print_laws.proofs.Fitting.{lacks_strings, strings_fit, fits, list_fits, part_fits, arms_fit, arm_fits, is_return, fits-Call, fits-If, fits-While, fits-Do, fits-For, fits-Switch, fits-Block, fits-Return, fits-arm, return-Assign, return-Bump, return-Call, return-Heap, return-If, return-While, return-Do, return-For, return-Switch, return-Block}
-use Rattle.c_print_laws.proofs.ToldStatements.{name_level, string_level, end_level, opens_level, closes_level, back_level, stars_calm, outer_calm, assign_calm, bump_calm, end_behind, stands_end, stands_closed, inside_at, format_name}
+use Rattle.c_print_laws.proofs.ToldStatements.{name_level, string_level, end_level, opens_level, closes_level, back_level, stars_calm, outer_calm, assign_calm, bump_calm, end_behind, stands_end, stands_closed, inside_at, format_name, Inside}
 
 -- ---- tokens before others at which none is told
 
@@ -50,9 +50,6 @@ function_follows ts = is_some_kind Name (slice_get ts 0) && is_some_token Mark (
 -- no parameter that is a struct begins here, before these tokens
 abbrev pub NoParam : Tokens → Tokens → Type 0
 NoParam before mid = (open_braces before == 0) ≡ true → begins_param before ≡ true → (tag : Bytes) (l : ℕ) → names_param (name tag l ∷ mid) ≡ true → ⊥
-
-abbrev pub Inside : Tokens → Type 0
-Inside before = 1 ≤ open_braces before
 
 pub inside_param : (before mid : Tokens) → Inside before → NoParam before mid
 inside_param before mid h z b tag l n = let e : (open_braces before == 0) ≡ false = grind (arith, nat_tests, h) in true≢false (sym z ∙ e)

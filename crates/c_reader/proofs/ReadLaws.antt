@@ -1,15 +1,13 @@
 -- What the reading of a text answers, and when.
-use Rattle.std.proofs.Common.{◌≡◌, ℕ, ◌<◌, ◌≤◌, All, Result, Ok, Err, Option, Some, arith, sym, ap, subst, ◌∙◌}
-use Rattle.std.proofs.lemmas.List.Elements.{All-nil, All-cons}
+use Rattle.std.proofs.Common.{◌≡◌, ◌<◌, ◌≤◌, All, Result, Ok, Err, Option, Some, arith, sym, ap, subst, ◌∙◌}
 use Rattle.c_tree.specs.declared.program.Program.{Program}
 use Rattle.c_tree.specs.declared.raw.program.RawProgram.{RawProgram}
 use Rattle.c_language.specs.Words.{Bytes}
 use Rattle.c_language.specs.TokenForms.{Tokens}
-use Rattle.c_language.specs.Tokens.{IsTokens, AreTokensOf}
+use Rattle.c_language.specs.Tokens.{AreTokensOf}
 use Rattle.c_language.specs.ItemGrammar.{IsProgram}
 use Rattle.c_language.specs.StatementNesting.{program_nesting}
 use Rattle.c_language.specs.Programs.{IsFormed, IsTreeOf}
-use Rattle.c_language.specs.declared.token.Before.{Before}
 use Rattle.c_lex.specs.declared.fault.LexFault.{LexFault}
 use Rattle.c_lex.specs.declared.fault.LexFault.TheVariants as lex
 use Rattle.c_lex.proofs.TokenLaws.{tokens_unique}
@@ -23,15 +21,11 @@ use Rattle.c_types.proofs.CheckerLaws.{not_within}
 use Rattle.c_reader.specs.Reading.{ReadsProgram, ReadsTree, IsLexFault, IsParseFault, IsRuleFault, IsRight, Gives, IsNesting, IsTooDeep, IsChecked, IsReadAs, IsJudgement}
 use Rattle.c_reader.specs.declared.refusal.ReadRefusal.{ReadRefusal}
 use Rattle.c_reader.specs.declared.refusal.ReadRefusal.TheVariants.{Lex, Parse, Check, NoMemory}
-
-formed_from : {before : Before} {line : ℕ} {bytes : Bytes} {ts : Tokens} → IsTokens before line bytes ts → All IsFormed ts
-formed_from IsTokens.done = All-nil IsFormed
-formed_from (IsTokens.space some rest) = formed_from rest
-formed_from (IsTokens.token {before} {own} {rest} is later) = All-cons IsFormed _ _ (record { before = before; own = own; rest = rest; is = is }) (formed_from later)
+use Rattle.c_language.proofs.FormedTokens.{formed_tokens}
 
 -- the tokens of a text are tokens of some bytes
 pub tokens_formed : (text : Bytes) (ts : Tokens) → AreTokensOf text ts → All IsFormed ts
-tokens_formed text ts are = formed_from are
+tokens_formed text ts are = formed_tokens are
 
 module _ (text : Bytes) where
   has_tree : (ts : Tokens) (raw : RawProgram) → IsReadAs text ts raw → ReadsTree text raw

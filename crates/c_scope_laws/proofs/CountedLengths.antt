@@ -1,6 +1,7 @@
 -- A variable whose initialiser is dropped keeps its type, where a length that its list gave is written as a constant.
 use Rattle.std.proofs.Common.{◌≡◌, ℕ, zero, suc, pred, ◌<◌, List, ◌∷◌, Bool, true, Option, Some, pos, decimal, refl, sym, ap, ap₂, subst, ◌∙◌, arith, ◌⊎◌, inl, inr}
 use Rattle.std.specs.Prelude.{Contains, option_map, option_and_then}
+use Rattle.c_language.specs.TypeGrammar.{written_step, is_written}
 use Rattle.c_arith.specs.declared.int_type.IntType.{IntType}
 use Rattle.c_tree.specs.declared.types.CType.{CType}
 use Rattle.c_tree.specs.declared.types.CType.TheVariants as t
@@ -26,7 +27,7 @@ use Rattle.c_language.proofs.Tests.{false_true}
 use Rattle.c_language.proofs.Lists.{contains_later}
 use Rattle.c_language.proofs.RawWordLemmas.{raw_words-Constant}
 use Rattle.c_language.proofs.ConstantLemmas.{counted_positive}
-use Rattle.c_scope_laws.specs.Agreement.{SameOutside, IsCountConstant, SameVariable, written_step, is_written, IsCount, CountWritten, integer, pointer, written, counted, structure}
+use Rattle.c_scope_laws.specs.Agreement.{SameOutside, IsCountConstant, SameVariable, IsCount, CountWritten, integer, pointer, written, counted, structure}
 use Rattle.c_scope_laws.proofs.Outside.{struct_ids}
 
 -- ---- what folds make of each form

@@ -1,6 +1,7 @@
 -- What is known where a text and a thinner one have come to the same place.
-use Rattle.std.proofs.Common.{◌≡◌, ◌≤◌, ℕ, zero, suc, ◌+◌, List, [], ◌∷◌, ◌++◌, length, take, drop, Bool, true, false, Option, Some, None, refl, sym, ap, ap₂, subst, ◌∙◌, arith, length-append}
+use Rattle.std.proofs.Common.{◌≡◌, ℕ, suc, ◌+◌, List, [], ◌∷◌, ◌++◌, length, take, drop, Bool, true, false, Option, Some, None, refl, sym, ap, ap₂, subst, ◌∙◌, arith, length-append}
 use Rattle.std.specs.Prelude.{is_some, option_map, if◌then◌else◌}
+use Rattle.std.proofs.lemmas.List.{take-append-le}
 use Rattle.c_tree.specs.declared.raw.expr.RawVar.{RawVar}
 use Rattle.c_tree.specs.declared.raw.program.RawInit.{RawInit}
 use Rattle.c_tree.specs.declared.raw.program.RawProgram.{RawProgram}
@@ -18,13 +19,6 @@ use Rattle.c_scope_laws.proofs.Scopes.{kept-append, kept-drop, found_kept, none_
 take_all : {A : Type 0} (xs : List A) → take (length xs) xs ≡ xs
 take_all [] = refl
 take_all (x ∷ xs) = ap (λ (all : List _). x ∷ all) (take_all xs)
-
-take_front : {A : Type 0} (n : ℕ) (xs ys : List A) → n ≤ length xs → take n (xs ++ ys) ≡ take n xs
-take_front zero [] [] h = refl
-take_front zero [] (y ∷ ys) h = refl
-take_front zero (x ∷ xs) ys h = refl
-take_front (suc n) [] ys h = absurd (omega (arith, h))
-take_front (suc n) (x ∷ xs) ys h = ap (λ (all : List _). x ∷ all) (take_front n xs ys (omega (arith, h)))
 
 pub rank_kept : (test : ℕ → Bool) (n : ℕ) → test n ≡ true → rank test (n + 1) ≡ rank test n + 1
 rank_kept test n h = ap (rank test) (one_more n) ∙ ap (λ (b : Bool). if b then suc (rank test n) else rank test n) h ∙ sym (one_more (rank test n))
@@ -154,7 +148,7 @@ module _ (k : Kept) (raw other : RawProgram) {defined_here defined_there : ℕ} 
     names = ap₂ (λ (all : List Entry) (e : Entry). all ++ e ∷ []) h.names (entries name typed h.variables)
         ∙ ap (λ (b : Bool). kept_entries k scope.names ++ kept_more k b entry []) (sym is) ∙ sym (kept-append k scope.names (entry ∷ []));
     within = omega (arith, h.within, length-append scope.names (entry ∷ []));
-    outer = h.outer ∙ ap (λ (all : List Entry). length (kept_entries k all)) (sym (take_front scope.outer scope.names (entry ∷ []) h.within));
+    outer = h.outer ∙ ap (λ (all : List Entry). length (kept_entries k all)) (sym (take-append-le scope.outer scope.names (entry ∷ []) h.within));
     structs = h.structs;
     statements = h.statements;
     before = h.before;
@@ -176,7 +170,7 @@ module _ (k : Kept) (raw other : RawProgram) {defined_here defined_there : ℕ} 
   variable_gone {scope} {next} v i is h = record {
     names = h.names ∙ sym (kept-append k scope.names (entry ∷ []) ∙ ap (λ (b : Bool). kept_entries k scope.names ++ kept_more k b entry []) is ∙ append_none (kept_entries k scope.names));
     within = omega (arith, h.within, length-append scope.names (entry ∷ []));
-    outer = h.outer ∙ ap (λ (all : List Entry). length (kept_entries k all)) (sym (take_front scope.outer scope.names (entry ∷ []) h.within));
+    outer = h.outer ∙ ap (λ (all : List Entry). length (kept_entries k all)) (sym (take-append-le scope.outer scope.names (entry ∷ []) h.within));
     structs = h.structs;
     statements = h.statements;
     before = h.before;
@@ -240,7 +234,7 @@ module _ (k : Kept) (raw other : RawProgram) {defined_here defined_there : ℕ} 
   function_entry {scope} {next} x is h = record {
     names = ap (λ (all : List Entry). all ++ entry ∷ []) h.names ∙ ap (λ (b : Bool). kept_entries k scope.names ++ kept_more k b entry []) (sym is) ∙ sym (kept-append k scope.names (entry ∷ []));
     within = omega (arith, h.within, length-append scope.names (entry ∷ []));
-    outer = h.outer ∙ ap (λ (all : List Entry). length (kept_entries k all)) (sym (take_front scope.outer scope.names (entry ∷ []) h.within));
+    outer = h.outer ∙ ap (λ (all : List Entry). length (kept_entries k all)) (sym (take-append-le scope.outer scope.names (entry ∷ []) h.within));
     structs = h.structs;
     variables = h.variables;
     statements = h.statements;
@@ -288,7 +282,7 @@ module _ (k : Kept) (raw other : RawProgram) {defined_here defined_there : ℕ} 
       by_here false = record {
         names = h.names ∙ sym (kept-append k scope.names (entry ∷ []) ∙ ap (λ (b : Bool). kept_entries k scope.names ++ kept_more k b entry []) is ∙ append_none (kept_entries k scope.names));
         within = omega (arith, h.within, length-append scope.names (entry ∷ []));
-        outer = h.outer ∙ ap (λ (all : List Entry). length (kept_entries k all)) (sym (take_front scope.outer scope.names (entry ∷ []) h.within));
+        outer = h.outer ∙ ap (λ (all : List Entry). length (kept_entries k all)) (sym (take-append-le scope.outer scope.names (entry ∷ []) h.within));
         structs = h.structs;
         variables = h.variables;
         statements = h.statements;

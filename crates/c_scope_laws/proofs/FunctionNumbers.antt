@@ -9,7 +9,7 @@ use Rattle.c_language.specs.DeclaredTypes.{functions_of, defined_functions, func
 use Rattle.c_language.specs.Scopes.{Scope, outset}
 use Rattle.c_language.proofs.Options.{none_there, some_same}
 use Rattle.c_language.proofs.Tests.{false_true}
-use Rattle.c_language.proofs.Lists.{position-cons, same_names}
+use Rattle.c_language.proofs.Lists.{position-cons, same_bytes}
 use Rattle.projection.specs.Kept.{Kept, rank}
 use Rattle.c_scope_laws.specs.Following.{kept_head, kept_functions}
 use Rattle.c_scope_laws.specs.ThinTexts.{ItemsThin}
@@ -81,7 +81,7 @@ module _ (k : Kept) where
       by_name true same true kept later =
           ap (λ (c : Bool). position (named x) (if c then h ∷ kept_heads hs else kept_heads hs)) kept ∙ position-cons (named x) h (kept_heads hs) ∙ ap (λ (c : Bool). cond c (Some 0) (option_map suc (position (named x) (kept_heads hs)))) same
           ∙ sym (right true same)
-      by_name true same false gone later = false_true (sym gone ∙ ap k.function (same_names h.name x same) ∙ is)
+      by_name true same false gone later = false_true (sym gone ∙ ap k.function (same_bytes h.name x same) ∙ is)
       by_name false differs true kept later =
           ap (λ (c : Bool). position (named x) (if c then h ∷ kept_heads hs else kept_heads hs)) kept ∙ position-cons (named x) h (kept_heads hs) ∙ ap (λ (c : Bool). cond c (Some 0) (option_map suc (position (named x) (kept_heads hs)))) differs
           ∙ ap (option_map suc) later ∙ sucs (position (named x) hs)
@@ -102,7 +102,7 @@ module _ (k : Kept) where
       by_name : (b : Bool) → bytes_eq h.name x ≡ b → (o : Option ℕ) → position (named x) hs ≡ o → ((j : ℕ) → position (named x) hs ≡ Some j → tests_of hs j ≡ k.function x)
           → cond (bytes_eq h.name x) (Some 0) (option_map suc (position (named x) hs)) ≡ Some i → tests_of (h ∷ hs) i ≡ k.function x
       by_name true same o p later at =
-          ap (tests_of (h ∷ hs)) (sym (some_same (sym (ap (λ (c : Bool). cond c (Some 0) (option_map suc (position (named x) hs))) same) ∙ at))) ∙ ap k.function (same_names h.name x same)
+          ap (tests_of (h ∷ hs)) (sym (some_same (sym (ap (λ (c : Bool). cond c (Some 0) (option_map suc (position (named x) hs))) same) ∙ at))) ∙ ap k.function (same_bytes h.name x same)
       by_name false differs None p later at =
           none_there (sym (ap₂ (λ (c : Bool) (o : Option ℕ). cond c (Some 0) (option_map suc o)) differs p) ∙ at)
       by_name false differs (Some j) p later at =

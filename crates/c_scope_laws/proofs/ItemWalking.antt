@@ -19,7 +19,7 @@ use Rattle.c_language.specs.Uses.{holds}
 use Rattle.c_language.specs.Rules.{Breaks, IsBroken, KeepsRules}
 use Rattle.c_language.specs.NameRules.{main_name, IsDefinedBefore, DeclaresAgain}
 use Rattle.c_language.proofs.Tests.{false_true}
-use Rattle.c_language.proofs.Lists.{contains_first, contains_later, same_names}
+use Rattle.c_language.proofs.Lists.{contains_first, contains_later, same_bytes, no_list}
 use Rattle.c_language.proofs.PhraseLists.{body_in_order, body_after}
 use Rattle.c_scope_laws.specs.Agreement.{Names, NamesFunction, IsVariable, EndsToo, PartsAgree}
 use Rattle.c_scope_laws.specs.Agreement.StandsFor.{there as as_it_is}
@@ -45,30 +45,23 @@ abbrev behind : {A : Type 0} → List A → List A
 behind [] = []
 behind (x ∷ xs) = xs
 
-abbrev IsCons : {A : Type 0} → List A → Type 0
-IsCons [] = ⊥
-IsCons (x ∷ xs) = Unit {0}
-
-pub nil_cons : {A B : Type 0} {x : A} {xs : List A} → ◌≡◌ {A = List A} [] (x ∷ xs) → B
-nil_cons h = absurd (subst IsCons (sym h) tt)
-
 module _ {A : Type 0} where
   pub drop_next : (n : ℕ) (xs : List A) (h : A) (t : List A) → drop n xs ≡ h ∷ t → drop (suc n) xs ≡ t
-  drop_next zero [] h t is = nil_cons is
+  drop_next zero [] h t is = no_list (sym is)
   drop_next zero (x ∷ xs) h t is = ap behind is
-  drop_next (suc n) [] h t is = nil_cons is
+  drop_next (suc n) [] h t is = no_list (sym is)
   drop_next (suc n) (x ∷ xs) h t is = drop_next n xs h t is
 
   take_next : (n : ℕ) (xs : List A) (h : A) (t : List A) → drop n xs ≡ h ∷ t → take (suc n) xs ≡ take n xs ++ (h ∷ [])
-  take_next zero [] h t is = nil_cons is
+  take_next zero [] h t is = no_list (sym is)
   take_next zero (x ∷ xs) h t is = ap (λ (y : A). y ∷ []) (ap (front h) is)
-  take_next (suc n) [] h t is = nil_cons is
+  take_next (suc n) [] h t is = no_list (sym is)
   take_next (suc n) (x ∷ xs) h t is = ap (λ (all : List A). x ∷ all) (take_next n xs h t is)
 
   pub get_next : (n : ℕ) (xs : List A) (h : A) (t : List A) → drop n xs ≡ h ∷ t → slice_get xs n ≡ Some h
-  get_next zero [] h t is = nil_cons is
+  get_next zero [] h t is = no_list (sym is)
   get_next zero (x ∷ xs) h t is = ap Some (ap (front h) is)
-  get_next (suc n) [] h t is = nil_cons is
+  get_next (suc n) [] h t is = no_list (sym is)
   get_next (suc n) (x ∷ xs) h t is = get_next n xs h t is
 
   in_next : (n : ℕ) (xs : List A) (x : A) → Contains (take n xs) x → Contains (take (suc n) xs) x
@@ -133,7 +126,7 @@ module _ (k : Kept) (raw other : RawProgram) where
   definitions_same x stays (ItemsThin.define_goes {head} {rest} is ps body d) = definitions_same x stays d ∙ by_name (bytes_eq head.name x) refl
     where
       by_name : (b : Bool) → bytes_eq head.name x ≡ b → head_of x (functions_of rest) ≡ (if b then Some head else head_of x (functions_of rest))
-      by_name true same = false_true (sym is ∙ ap k.function (same_names head.name x same) ∙ stays)
+      by_name true same = false_true (sym is ∙ ap k.function (same_bytes head.name x same) ∙ stays)
       by_name false differs = refl
 
   pub texts_agree : ItemsThin k raw other outset raw.items other.items → TextsAgree k raw other

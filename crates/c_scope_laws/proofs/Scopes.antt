@@ -8,7 +8,7 @@ use Rattle.c_language.specs.Scopes.{Meaning, Entry, found_in}
 use Rattle.c_language.specs.declared.expr_type.ExprType.{ExprType}
 use Rattle.c_language.proofs.Options.{none_there, some_same}
 use Rattle.c_language.proofs.Tests.{false_true}
-use Rattle.c_language.proofs.Lists.{same_names}
+use Rattle.c_language.proofs.Lists.{same_bytes}
 use Rattle.c_scope_laws.specs.Agreement.{moved_meaning, IsVariable}
 use Rattle.projection.specs.Kept.{Kept, rank}
 use Rattle.c_scope_laws.specs.Thinning.{stays, found, IsKept}
@@ -70,7 +70,7 @@ module _ (k : Kept) where
           → IsVariable (meaning_of (found x (kept_more k (stays k e.name e.meaning) e (kept_entries k rest)))) → IsVariable (meaning_of (pick b e (found x rest)))
       by_name true same (Meaning.Variable id t) means later h = (id, t, ap Some means)
       by_name true same Meaning.Function means later h =
-          let name = same_names x e.name same in
+          let name = same_bytes x e.name same in
           let function : k.function e.name ≡ true = ap k.function (sym name) ∙ is in
           let kept : stays k e.name e.meaning ≡ true = ap (stays k e.name) means ∙ function in
           let found_here : found_in x (kept_more k (stays k e.name e.meaning) e (kept_entries k rest)) ≡ Some (moved_meaning (rank k.variable) e.meaning) =
@@ -94,7 +94,7 @@ module _ (k : Kept) where
       by_name : (b : Bool) → bytes_eq x e.name ≡ b → (found_in x rest ≡ Some Meaning.Function → found_in x (kept_entries k rest) ≡ Some Meaning.Function)
           → meaning_of (pick b e (found x rest)) ≡ Some Meaning.Function → found_in x (kept_more k (stays k e.name e.meaning) e (kept_entries k rest)) ≡ Some Meaning.Function
       by_name true same later h =
-          let name = same_names x e.name same in
+          let name = same_bytes x e.name same in
           let means : e.meaning ≡ Meaning.Function = some_same h in
           let kept : stays k e.name e.meaning ≡ true = ap (stays k e.name) means ∙ ap k.function (sym name) ∙ is in
           ap (λ (b : Bool). found_in x (kept_more k b e (kept_entries k rest))) kept ∙ ap (λ (b : Bool). meaning_of (pick b (moved_entry k e) (found x (kept_entries k rest)))) same

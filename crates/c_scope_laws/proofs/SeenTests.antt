@@ -1,5 +1,5 @@
 -- What the rules ask of an expression is the same at places that agree on its names.
-use Rattle.std.proofs.Common.{◌≡◌, ℕ, List, [], ◌∷◌, Bool, not, ◌&&◌, ◌||◌, Option, Some, None, refl, sym, ap, ap₂, subst, ◌∙◌}
+use Rattle.std.proofs.Common.{◌≡◌, ℕ, List, [], ◌∷◌, Bool, not, ◌&&◌, ◌||◌, Option, refl, sym, ap, ap₂, subst, ◌∙◌}
 use Rattle.std.specs.Prelude.{option_and_then, is_none, nat_lt}
 use Rattle.c_arith.specs.declared.operators.BinaryOp.{BinaryOp}
 use Rattle.c_tree.specs.declared.raw.expr.RawExpr.{RawExpr, out-RawExpr}
@@ -8,22 +8,19 @@ use Rattle.c_tree.specs.declared.raw.expr.RawExpr.TheViews.{roll-out-RawExpr}
 use Rattle.c_tree.specs.declared.raw.program.RawProgram.{RawProgram}
 use Rattle.c_language.specs.Words.{Bytes}
 use Rattle.c_language.specs.Scopes.{Scope, meaning_in}
-use Rattle.c_language.specs.ExprTypes.{operand, pointed, struct_of, member_of, value_type, target_of}
-use Rattle.c_language.specs.ExprRules.{Seen, seen, is_undeclared, lacks_header, complete_base, complete_in, is_complete, holds_of, points_to_incomplete, moves, moves_incomplete, is_incomplete_struct, needs_struct, lacks_member, selects_missing, is_function, has_bad_operand, has_no_address}
+use Rattle.c_language.specs.ExprTypes.{operand, pointed, struct_of, value_type, target_of}
+use Rattle.c_language.specs.ExprRules.{Seen, seen, is_undeclared, lacks_header, complete_base, complete_in, is_complete, holds_of, points_to_incomplete, moves, moves_incomplete, is_incomplete_struct, needs_struct, selects_missing, is_function, has_bad_operand, has_no_address}
 use Rattle.c_language.specs.declared.expr_type.Layer.{Layer}
 use Rattle.c_language.specs.declared.expr_type.Layer.TheVariants.{Pointer, Array}
 use Rattle.c_language.specs.declared.expr_type.Base.{Base}
 use Rattle.c_language.specs.declared.expr_type.Base.TheVariants as base
 use Rattle.c_language.specs.declared.expr_type.ExprType.{ExprType}
 use Rattle.c_language.specs.declared.expr_type.Operand.{Operand}
+use Rattle.c_language.proofs.Operands.{holds_same, headers_same, missing_same}
 use Rattle.c_scope_laws.specs.Agreement.{SameOutside, Agree}
 use Rattle.c_scope_laws.proofs.Outside.{members_same}
 use Rattle.c_scope_laws.proofs.Meanings.{is_none_moved, is_function_moved}
 use Rattle.c_scope_laws.proofs.ExprAgreement.{Covers, CoversLayer, covers_layer, seen_same}
-
-holds_same : {A : Type 0} (test new : A → Bool) → ((x : A) → new x ≡ test x) → (o : Option A) → holds_of new o ≡ holds_of test o
-holds_same test new same None = refl
-holds_same test new same (Some x) = same x
 
 module _ (f : ℕ → ℕ) (named : Bytes → Type 0) (raw other : RawProgram) (scope next : Scope) (like : SameOutside raw other) (agree : Agree f named scope next) where
   -- ---- struct types that are complete
@@ -71,46 +68,7 @@ module _ (f : ℕ → ℕ) (named : Bytes → Type 0) (raw other : RawProgram) (
   needs_same (RawExpr-F.Arrow a m) = holds_same (is_incomplete_struct scope) (is_incomplete_struct next) incomplete_same (option_and_then pointed a)
   needs_same (RawExpr-F.Paren a) = refl
 
-  -- ---- members, headers and names
-
-  lacks_same : (m : Bytes) (t : ExprType) → lacks_member other m t ≡ lacks_member raw m t
-  lacks_same m t = holds_same (λ (s : ℕ). is_none (member_of raw s m)) (λ (s : ℕ). is_none (member_of other s m)) (λ s. ap is_none (members_same raw other like s m)) (struct_of t)
-
-  missing_same : (s : Seen) → selects_missing other s ≡ selects_missing raw s
-  missing_same (RawExpr-F.Constant text) = refl
-  missing_same RawExpr-F.Null = refl
-  missing_same RawExpr-F.Eof = refl
-  missing_same (RawExpr-F.Variable name) = refl
-  missing_same (RawExpr-F.Unary o a) = refl
-  missing_same (RawExpr-F.Deref a) = refl
-  missing_same (RawExpr-F.AddressOf a) = refl
-  missing_same (RawExpr-F.Binary o a b) = refl
-  missing_same (RawExpr-F.AndAlso a b) = refl
-  missing_same (RawExpr-F.OrElse a b) = refl
-  missing_same (RawExpr-F.Choose c a b) = refl
-  missing_same (RawExpr-F.Cast t a) = refl
-  missing_same (RawExpr-F.Index a i) = refl
-  missing_same (RawExpr-F.Member a m) = holds_same (λ (x : Operand). lacks_member raw m x.shape) (λ (x : Operand). lacks_member other m x.shape) (λ x. lacks_same m x.shape) a
-  missing_same (RawExpr-F.Arrow a m) = holds_same (lacks_member raw m) (lacks_member other m) (lacks_same m) (option_and_then pointed a)
-  missing_same (RawExpr-F.Paren a) = refl
-
-  headers_same : (s : Seen) → lacks_header other s ≡ lacks_header raw s
-  headers_same (RawExpr-F.Constant text) = refl
-  headers_same RawExpr-F.Null = ap₂ (λ (a b : Bool). not (a || b)) like.stdio like.stdlib
-  headers_same RawExpr-F.Eof = ap not like.stdio
-  headers_same (RawExpr-F.Variable name) = refl
-  headers_same (RawExpr-F.Unary o a) = refl
-  headers_same (RawExpr-F.Deref a) = refl
-  headers_same (RawExpr-F.AddressOf a) = refl
-  headers_same (RawExpr-F.Binary o a b) = refl
-  headers_same (RawExpr-F.AndAlso a b) = refl
-  headers_same (RawExpr-F.OrElse a b) = refl
-  headers_same (RawExpr-F.Choose c a b) = refl
-  headers_same (RawExpr-F.Cast t a) = refl
-  headers_same (RawExpr-F.Index a i) = refl
-  headers_same (RawExpr-F.Member a m) = refl
-  headers_same (RawExpr-F.Arrow a m) = refl
-  headers_same (RawExpr-F.Paren a) = refl
+  -- ---- names
 
   undeclared_same : (s : Seen) → CoversLayer named s → is_undeclared next s ≡ is_undeclared scope s
   undeclared_same (RawExpr-F.Constant text) h = refl
@@ -160,13 +118,13 @@ module _ (f : ℕ → ℕ) (named : Bytes → Type 0) (raw other : RawProgram) (
   operators_at a c = ap (has_bad_operand next) (seen_same f named raw other scope next like agree a c) ∙ operators_same (seen raw scope a) (covers_seen a c)
 
   pub headers_at : (a : RawExpr) → Covers named a → lacks_header other (seen other next a) ≡ lacks_header raw (seen raw scope a)
-  headers_at a c = ap (lacks_header other) (seen_same f named raw other scope next like agree a c) ∙ headers_same (seen raw scope a)
+  headers_at a c = ap (lacks_header other) (seen_same f named raw other scope next like agree a c) ∙ headers_same other raw like.stdio like.stdlib (seen raw scope a)
 
   pub needs_at : (a : RawExpr) → Covers named a → needs_struct next (seen other next a) ≡ needs_struct scope (seen raw scope a)
   needs_at a c = ap (needs_struct next) (seen_same f named raw other scope next like agree a c) ∙ needs_same (seen raw scope a)
 
   pub missing_at : (a : RawExpr) → Covers named a → selects_missing other (seen other next a) ≡ selects_missing raw (seen raw scope a)
-  missing_at a c = ap (selects_missing other) (seen_same f named raw other scope next like agree a c) ∙ missing_same (seen raw scope a)
+  missing_at a c = ap (selects_missing other) (seen_same f named raw other scope next like agree a c) ∙ missing_same other raw (λ s m. ap is_none (members_same raw other like s m)) (seen raw scope a)
 
   pub address_at : (a : RawExpr) → Covers named a → has_no_address (seen other next a) ≡ has_no_address (seen raw scope a)
   address_at a c = ap has_no_address (seen_same f named raw other scope next like agree a c)

@@ -4,6 +4,7 @@ use Rattle.c_tree.specs.declared.raw.expr.RawExpr.{RawExpr}
 use Rattle.c_tree.specs.declared.raw.expr.RawExpr.TheVariants as e
 use Rattle.std.specs.Prelude.{decimal}
 use Rattle.std.proofs.lemmas.List.Elements.{Contains-append_left, Contains-append_right}
+use Rattle.c_language.specs.TypeGrammar.{is_written, written_step}
 use Rattle.c_tree.specs.declared.raw.expr.RawLength.TheVariants.{Written, Listed}
 use Rattle.c_tree.specs.declared.raw.expr.RawType.{RawType, ind-RawType, roll-RawType, map-RawType, fold-roll-RawType}
 use Rattle.c_tree.specs.declared.raw.expr.RawType.TheOpen.{RawType-F}
@@ -34,11 +35,12 @@ use Rattle.c_language.proofs.ScopedForms.{scoped_of_arm-arm}
 use Rattle.c_language.proofs.Tests.{false_true}
 use Rattle.c_language.proofs.Lists.{contains_first, contains_later}
 use Rattle.c_language.proofs.ScopesAfter.{statement_after, statements_after, block_scope_after, part_scope_after}
-use Rattle.c_scope_laws.specs.Agreement.{SameOutside, IsCount, is_written, written_step, CountWritten, simple_part}
+use Rattle.c_scope_laws.specs.Agreement.{SameOutside, IsCount, CountWritten, simple_part}
 use Rattle.projection.specs.Kept.{Kept}
-use Rattle.c_scope_laws.specs.Thinning.{NamesStay, BeginIs, StaysWhole, LabelsStay, GivesResult, target_declares, declares, block_after, part_scope, body_scope, after_list, arm, arm_labels, Thins, ThinAll, ThinsPart, ThinArms, ArmsGo}
+use Rattle.c_scope_laws.specs.Thinning.{NamesStay, BeginIs, StaysWhole, LabelsStay, GivesResult, target_declares, declares, block_after, part_scope, body_scope, after_list, arm_labels, Thins, ThinAll, ThinsPart, ThinArms, ArmsGo}
 use Rattle.c_scope_laws.specs.ThinnedBodies.{KeepRules, Need, AreMet, Left, ArmLeft, these, strays, gone, counted_type_step, counted_type, counted_var, count_needs, only, beyond, part_left, part_needs, part_gone, alone_one, alone_all, alone, arms_left, arms_labels, arms_needs, arms_gone, block_of, plain, declared, call_placed, call_declared, heap_declared, if_left, while_left, do_left, for_left, switch_left, result_kept, declare_left, call_left, heap_left, block_left, left_step, left_scoped, left_arm_step, left, left_arm, body_left}
 use Rattle.c_scope_laws.proofs.CountedLengths.{initialiser_drops}
+use Rattle.c_language.specs.StatementGrammar.{arm}
 
 -- ---- lengths
 

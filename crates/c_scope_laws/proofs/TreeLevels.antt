@@ -94,7 +94,7 @@ module _ (k : Kept) (g : ℕ → ℕ) where
         (ap₂ (λ (i : Option (Option Statement)) (e : Option Expr). for_tree m l i e step' b') (u i refl) p
         ∙ ap₂ (λ (w : Option (Option Statement)) (b : Option (List Statement)). both (s.For m l (part_of (option_map (projected k g) i)) (renamed f x)) w b) (v w refl) (q zs refl)
         ∙ ap (λ (j : ℕ). Some (s.For j l (part_of (option_map (projected k g) i)) (renamed f x) (part_of (option_map (projected k g) w)) (projected_all k g zs))) num)
-        (projected-For k g n l i x w zs ∙ chosen _ (alone k g l (part_of (option_map (projected k g) i))) kept) is
+        (projected-For k g n l i x w zs ∙ chosen _ (alone l (part_of (option_map (projected k g) i))) kept) is
 
     pub switch_stays : (e : Option Expr) (t : Option IntType) (arms : IntType → Option (List Arm)) (e' : Option Expr) (t' : Option IntType) (arms' : IntType → Option (List Arm)) → k.statement n ≡ true → e' ≡ option_map (renamed f) e → t' ≡ t
         → ((i : IntType) (zs : List Arm) → arms i ≡ Some zs → arms' i ≡ Some (map (projected_arm k g) zs))
@@ -145,20 +145,20 @@ module _ (k : Kept) (g : ℕ → ℕ) where
     -- a for that goes leaves what stays of its beginning
     pub for_leaves : (i : Option (Option Statement)) (e : Option Expr) (step : Option (Option Statement)) (b : Option (List Statement)) (first : Option Statement) → k.statement n ≡ false
         → ((z : Option Statement) → i ≡ Some z → part_of (option_map (projected k g) z) ≡ first)
-        → (y : Statement) → for_tree n l i e step b ≡ Some y → projected k g y ≡ alone k g l first
+        → (y : Statement) → for_tree n l i e step b ≡ Some y → projected k g y ≡ alone l first
     for_leaves None e step b first out u y is = none_there is
     for_leaves (Some i) None step b first out u y is = none_there is
     for_leaves (Some i) (Some x) None b first out u y is = none_there is
     for_leaves (Some i) (Some x) (Some w) None first out u y is = none_there is
     for_leaves (Some i) (Some x) (Some w) (Some zs) first out u y is =
-        ap (projected k g) (sym (some_same is)) ∙ projected-For k g n l i x w zs ∙ unchosen _ (alone k g l (part_of (option_map (projected k g) i))) out ∙ ap (alone k g l) (u i refl)
+        ap (projected k g) (sym (some_same is)) ∙ projected-For k g n l i x w zs ∙ unchosen _ (alone l (part_of (option_map (projected k g) i))) out ∙ ap (alone l) (u i refl)
 
   pub block_stays : (l : ℕ) (b b' : Option (List Statement)) (w : Statement) (ws : List Statement) → ListStays b b' → b' ≡ Some (w ∷ ws) → (y : Statement) → option_map (s.Block l) b ≡ Some y
       → collected (option_map (s.Block l) b' ∷ []) ≡ Some (projected k g y)
   block_stays l None b' w ws q p y is = none_there is
   block_stays l (Some zs) b' w ws q p y is =
-      settled (ap (option_map (s.Block l)) p) (projected-Block k g l zs ∙ ap (block_of k g l) (some_same (sym (q zs refl) ∙ p))) is
+      settled (ap (option_map (s.Block l)) p) (projected-Block k g l zs ∙ ap (block_of l) (some_same (sym (q zs refl) ∙ p))) is
 
   pub block_gone : (l : ℕ) (b : Option (List Statement)) → ListStays b (Some []) → (y : Statement) → option_map (s.Block l) b ≡ Some y → Some [] ≡ Some (projected k g y)
   block_gone l None q y is = none_there is
-  block_gone l (Some zs) q y is = gone (projected-Block k g l zs ∙ ap (block_of k g l) (sym (some_same (q zs refl)))) is
+  block_gone l (Some zs) q y is = gone (projected-Block k g l zs ∙ ap (block_of l) (sym (some_same (q zs refl)))) is

@@ -36,8 +36,8 @@ use Rattle.c_language.specs.Scopes.{Scope, Scoped, with_variable, with_target, o
 use Rattle.c_language.specs.Phrases.{InFor, InArm, InBlock, Part, Begins, Calls, Allocates, Tests, Switches, scoped}
 use Rattle.c_language.specs.Uses.{cases, is_library_function, is_one_of}
 use Rattle.c_language.specs.CallRules.{without_result}
-use Rattle.c_language.specs.ProgramOf.{for_tree, collected, optional, ctype_if, expr_of, init_of, declaration_id, target_tree, args_tree, call_tree, amount_tree, heap_tree, label_tree, switch_type, arm_tree, ArmTree, arm_tree_step, block_tree, at_type, part_tree, tree_step, treed_step, treed}
-use Rattle.c_language.proofs.TreedForms.{treed_arm, treed-Declare, treed-Call, treed-Heap, treed-If, treed-While, treed-Do, treed-For, treed-Switch, treed-Block, treed_arm-arm}
+use Rattle.c_language.specs.ProgramOf.{for_tree, collected, optional, ctype_if, expr_of, init_of, declaration_id, target_tree, args_tree, call_tree, amount_tree, heap_tree, label_tree, switch_type, arm_tree, ArmTree, arm_tree_step, block_tree, at_type, part_tree, tree_step, treed_step, treed, treed_arm}
+use Rattle.c_language.proofs.TreedForms.{treed-Declare, treed-Call, treed-Heap, treed-If, treed-While, treed-Do, treed-For, treed-Switch, treed-Block, treed_arm-arm}
 use Rattle.c_language.proofs.Options.{none_there, some_same}
 use Rattle.c_language.proofs.Tests.{false_true}
 use Rattle.c_language.proofs.Lists.{contains_first, contains_later}
@@ -45,7 +45,7 @@ use Rattle.c_language.proofs.TreeScopes.{after_same, list_after, block_after_sam
 use Rattle.c_scope_laws.specs.Agreement.{NamedAmong, Names, NamesFunction, Agree, TreesAgree, SameVariable, there, simple_part}
 use Rattle.projection.specs.Renumbering.{Numbers, renamed, renamed_label, renumbered}
 use Rattle.projection.specs.Kept.{Kept, rank}
-use Rattle.c_scope_laws.specs.Thinning.{LabelsStay, arm_labels, NamesStay, BeginIs, declares, StaysWhole, GivesResult, arm, Thins, ThinAll, ThinsPart, ThinArms}
+use Rattle.c_scope_laws.specs.Thinning.{LabelsStay, arm_labels, NamesStay, BeginIs, declares, StaysWhole, GivesResult, Thins, ThinAll, ThinsPart, ThinArms}
 use Rattle.projection.specs.Projection.{declares_target, is_declaring, first_of, part_of, bare, bare_target, projected, projected_arm, projected_all}
 use Rattle.c_scope_laws.proofs.Options.{collected_turns}
 use Rattle.c_scope_laws.proofs.Trees.{in_one}
@@ -59,6 +59,7 @@ use Rattle.c_scope_laws.proofs.Walking.{part_walks, at_number, walks, all_walk}
 use Rattle.c_scope_laws.proofs.TreeForms.{projected_arm-arm, declaring-Declare, declaring-Invoke, declaring-Fetch, declaring-Write, declaring-Print, declaring-Heap, declaring-Release, declaring-Assign, declaring-Bump, declaring-Return, projected-Declare}
 use Rattle.c_scope_laws.proofs.TreeLevels.{chosen, unchosen, one_there, collect_one, ListStays, settled, if_stays, while_stays, do_stays, for_stays, switch_stays, if_gone, while_gone, do_gone, switch_gone, for_leaves, block_stays, block_gone}
 use Rattle.c_scope_laws.proofs.TreeSimple.{call_by, invoked, Whole, Gone, assign_whole, bump_whole, heap_whole, return_whole, invoke_whole, invoke_none, assign_gone, bump_gone, return_gone, heap_gone, call_whole, call_gone, call_loses, numbers_of}
+use Rattle.c_language.specs.StatementGrammar.{arm}
 
 -- ---- facts about trees that are made of options
 

@@ -18,12 +18,13 @@ use Rattle.c_language.proofs.Options.{none_there}
 use Rattle.c_language.proofs.Tests.{false_true}
 use Rattle.c_scope_laws.specs.Agreement.{SameVariable, StandsFor, there, out_of_for, simple_part}
 use Rattle.projection.specs.Kept.{Kept}
-use Rattle.c_scope_laws.specs.Thinning.{declares, arm, Thins, ThinAll, ThinsPart, ThinArms, ArmsGo}
+use Rattle.c_scope_laws.specs.Thinning.{declares, Thins, ThinAll, ThinsPart, ThinArms, ArmsGo}
 use Rattle.c_scope_laws.specs.Following.{TextsAgree, Follows}
 use Rattle.c_scope_laws.proofs.Outside.{variable_same}
 use Rattle.c_scope_laws.proofs.Following.{numbered_kept, numbered_gone, follows_opened, follows_closed, follows_gone}
 use Rattle.c_scope_laws.proofs.Walking.{walks, all_walk, part_walks, joined-append, scoped-append, scoped-roll, simple_after}
 use Rattle.c_scope_laws.proofs.VariableLists.{VarsStay, no_vars, both_vars, more_none, less_none, no_variable, phrase_gone, variable_stays, variable_goes}
+use Rattle.c_language.specs.StatementGrammar.{arm}
 
 abbrev Statements : Type 0
 Statements = Scoped (Stand → Phrases)

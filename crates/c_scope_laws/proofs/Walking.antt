@@ -23,11 +23,12 @@ use Rattle.c_language.proofs.Options.{none_there, some_same}
 use Rattle.c_language.proofs.Tests.{false_true}
 use Rattle.c_scope_laws.specs.Agreement.{Names, in_expression, NamesFunction, SameVariable, StandsFor, there, out_of_for, CallStandsFor, as_it_is, elsewhere, StoresLess, kept, lost, PartsAgree, simple_part}
 use Rattle.projection.specs.Kept.{Kept}
-use Rattle.c_scope_laws.specs.Thinning.{NamesStay, BeginIs, declares, arm, Thins, ThinAll, ThinsPart, ThinArms, ArmsGo}
+use Rattle.c_scope_laws.specs.Thinning.{NamesStay, BeginIs, declares, Thins, ThinAll, ThinsPart, ThinArms, ArmsGo}
 use Rattle.c_scope_laws.proofs.Outside.{variable_same}
 use Rattle.c_scope_laws.specs.Following.{TextsAgree, Follows}
 use Rattle.c_scope_laws.proofs.Following.{numbered_kept, numbered_gone, follows_opened, follows_closed, follows_gone, variable_kept, variable_gone, follows_numbered, places_agree, places_beside}
 use Rattle.c_scope_laws.proofs.Counterparts.{AreCounterparts, none_stand, one_stands, both_stand, front_gone, rest_gone, no_more}
+use Rattle.c_language.specs.StatementGrammar.{arm}
 
 -- a phrase names the same wherever it stands
 declares_anywhere : {k : Kept} {scope : Scope} {v : RawVar} {i : RawInit} (stand : Stand) → NamesStay k scope (Declares InBlock v i) → NamesStay k scope (Declares stand v i)

@@ -17,8 +17,10 @@ use Rattle.c_language.specs.Words.{Bytes}
 use Rattle.c_language.specs.Scopes.{Scope, Meaning, Entry, outset, with_parameter, opened, numbered}
 use Rattle.c_language.specs.Phrases.{InBlock, Part, Assigns, Bumps, Calls, Allocates, Returns}
 use Rattle.c_language.proofs.Tests.{false_true}
-use Rattle.c_scope_laws.specs.Thinning.{stays, found, IsKept, NamesStay, LabelsStay, BeginIs, block_after, part_scope, body_scope, after_list, arm, Thins, ThinAll, ThinsPart, ThinArms}
-use Rattle.c_scope_laws.specs.ThinTexts.{ParamStays, ParamsStay, ItemsThin, IsThinner, all_kept, all_true, is_cons, full_step, full_arm, is_full, full_item}
+use Rattle.c_scope_laws.specs.Thinning.{stays, found, IsKept, NamesStay, LabelsStay, BeginIs, block_after, part_scope, body_scope, after_list, Thins, ThinAll, ThinsPart, ThinArms}
+use Rattle.c_scope_laws.specs.ThinTexts.{ParamStays, ParamsStay, ItemsThin, IsThinner, all_kept, is_cons, full_step, full_arm, is_full, full_item}
+use Rattle.c_language.specs.StatementGrammar.{arm}
+use Rattle.c_language.specs.Lists.{all_true}
 
 any_kept : (o : Option Entry) → IsKept all_kept o
 any_kept None = tt

@@ -4,8 +4,7 @@ use Rattle.c_arith.specs.declared.int_type.IntType.{IntType}
 use Rattle.c_tree.specs.declared.raw.expr.RawExpr.{RawExpr}
 use Rattle.c_tree.specs.declared.raw.expr.RawExpr.TheVariants as e
 use Rattle.c_tree.specs.declared.raw.expr.RawLength.TheVariants.{Written, Listed}
-use Rattle.c_tree.specs.declared.raw.expr.RawType.{RawType, fold-RawType}
-use Rattle.c_tree.specs.declared.raw.expr.RawType.TheOpen.{RawType-F}
+use Rattle.c_tree.specs.declared.raw.expr.RawType.{RawType}
 use Rattle.c_tree.specs.declared.raw.expr.RawType.TheVariants as type
 use Rattle.c_tree.specs.declared.raw.expr.RawVar.{RawVar}
 use Rattle.c_tree.specs.declared.raw.program.RawInit.{RawInit}
@@ -150,17 +149,6 @@ pub record SameVariable (raw other : RawProgram) (v : RawVar) (i : RawInit) (w :
   pub tree : ctype_with other (item_count j) w.shape ≡ ctype_with raw (item_count i) v.shape
   pub tags : tags_in w.shape ≡ tags_in v.shape
   pub lengths : (a : RawExpr) → Contains (lengths_in w.shape) a → Contains (lengths_in v.shape) a ⊎ IsCountConstant a
-
-abbrev pub written_step : RawType-F Bool → Bool
-written_step (RawType-F.Integer t) = true
-written_step (RawType-F.PointerTo a) = a
-written_step (RawType-F.Array a (Written n)) = a
-written_step (RawType-F.Array a Listed) = false
-written_step (RawType-F.Struct tag) = true
-
--- no length of the type is left to a list
-abbrev pub is_written : RawType → Bool
-is_written = fold-RawType Bool written_step
 
 -- a decimal constant for the number of items of a list, which are at least one
 pub record IsCount (items : ℕ) (a : RawExpr) : Type 0 where

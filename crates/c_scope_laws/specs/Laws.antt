@@ -1,5 +1,6 @@
 -- What is said of a phrase depends on its place by the names that occur in it alone.
 use Rattle.std.specs.Prelude.{◌≡◌, ℕ, List, [], ◌∷◌, map, Option, Some, None, option_map, true}
+use Rattle.c_language.specs.TypeGrammar.{is_written}
 use Rattle.c_arith.specs.declared.int_type.IntType.{IntType}
 use Rattle.c_tree.specs.declared.expr.Expr.{Expr}
 use Rattle.c_tree.specs.declared.program.Program.{Program}
@@ -25,16 +26,17 @@ use Rattle.c_language.specs.Phrases.{Part, Allocates, body_phrases}
 use Rattle.c_language.specs.Uses.{init_exprs, target_exprs, arg_exprs, cases}
 use Rattle.c_language.specs.Rules.{Breaks, KeepsRules}
 use Rattle.c_language.specs.ProgramOf.{expr_of, init_of, target_tree, args_tree, amount_tree, label_tree, switch_type, ArmTree, tree_step, body_of, program_of}
-use Rattle.c_scope_laws.specs.Agreement.{NamedIn, NamedAmong, Names, NamesFunction, DeclaresName, DeclaresHead, SameOutside, Agree, PlacesAgree, SameVariable, is_written, CountWritten, PartsAgree, TreesAgree, simple_part, simple_scope}
+use Rattle.c_scope_laws.specs.Agreement.{NamedIn, NamedAmong, Names, NamesFunction, DeclaresName, DeclaresHead, SameOutside, Agree, PlacesAgree, SameVariable, CountWritten, PartsAgree, TreesAgree, simple_part, simple_scope}
 use Rattle.c_scope_laws.specs.Following.{TextsAgree, Follows, kept_functions}
 use Rattle.projection.specs.Kept.{Kept}
 use Rattle.c_scope_laws.specs.Thinning.{found, IsKept, ThinAll}
 use Rattle.projection.specs.Names.{names}
 use Rattle.projection.specs.Projection.{projected_all, projected_program}
-use Rattle.c_scope_laws.specs.ThinTexts.{IsThinner, all_kept, all_true, full_item}
+use Rattle.c_scope_laws.specs.ThinTexts.{IsThinner, all_kept, full_item}
 use Rattle.c_scope_laws.specs.ThinnedBodies.{KeepRules, AreMet, body_left}
 use Rattle.c_scope_laws.specs.ThinnedTexts.{IsClosed, thinned_text}
 use Rattle.projection.specs.Renumbering.{Numbers, renamed, renamed_init, renamed_target, renamed_amount, renamed_label, renumbered}
+use Rattle.c_language.specs.Lists.{all_true}
 
 -- an expression is the same operand at places that agree on its names
 abbrev pub OperandsAgree : Type 0

@@ -18,6 +18,7 @@ use Rattle.c_language.specs.NameRules.{main_name}
 use Rattle.projection.specs.Kept.{Kept}
 use Rattle.c_scope_laws.specs.Agreement.{EndsToo}
 use Rattle.c_scope_laws.specs.Thinning.{NamesStay, ThinAll}
+use Rattle.c_language.specs.Lists.{if_there, all_true}
 
 abbrev pub ParamStays : Kept → Scope → RawParam → Option Bytes → Type 0
 ParamStays k scope p None = Unit {0}
@@ -84,14 +85,6 @@ pub record IsThinner (k : Kept) (raw other : RawProgram) : Type 0 where
 abbrev pub all_kept : Kept
 all_kept = record { variable = λ n. true; statement = λ n. true; result = λ n. true; function = λ x. true }
 
-abbrev pub all_true : List Bool → Bool
-all_true [] = true
-all_true (b ∷ bs) = b && all_true bs
-
-abbrev pub part_true : Option Bool → Bool
-part_true None = true
-part_true (Some b) = b
-
 abbrev pub is_cons : List Bool → Bool
 is_cons [] = false
 is_cons (b ∷ bs) = true
@@ -100,7 +93,7 @@ abbrev pub full_step : RawStatement-F Bool Bool → Bool
 full_step (RawStatement-F.If l a b c) = all_true b && all_true c
 full_step (RawStatement-F.While l a b) = all_true b
 full_step (RawStatement-F.Do l a b) = all_true b
-full_step (RawStatement-F.For l i a step b) = part_true i && (part_true step && all_true b)
+full_step (RawStatement-F.For l i a step b) = if_there i && (if_there step && all_true b)
 full_step (RawStatement-F.Switch l a arms) = all_true arms
 full_step (RawStatement-F.Block l b) = is_cons b && all_true b
 full_step _ = true

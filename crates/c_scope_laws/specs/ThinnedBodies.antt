@@ -1,5 +1,6 @@
 -- What stays of statements where this is kept, and what it needs.
 use Rattle.std.specs.Prelude.{ℕ, Contains, Bool, true, false, List, [], ◌∷◌, ◌++◌, map, Option, Some, None, decimal}
+use Rattle.c_language.specs.TypeGrammar.{is_written}
 use Rattle.c_tree.specs.declared.raw.expr.RawExpr.{RawExpr}
 use Rattle.c_tree.specs.declared.raw.expr.RawExpr.TheVariants as e
 use Rattle.c_tree.specs.declared.raw.expr.RawLength.{RawLength}
@@ -27,9 +28,10 @@ use Rattle.c_language.specs.Scopes.{Scope, Scoped, with_variable, opened, number
 use Rattle.c_language.specs.Phrases.{InBlock, Phrase, Phrases, Part, Declares, Begins, Assigns, Bumps, Calls, Allocates, Tests, Switches, Returns}
 use Rattle.c_language.specs.Uses.{is_library_function}
 use Rattle.c_language.specs.Rules.{Breaks}
-use Rattle.c_scope_laws.specs.Agreement.{IsCount, is_written}
+use Rattle.c_scope_laws.specs.Agreement.{IsCount}
 use Rattle.projection.specs.Kept.{Kept}
-use Rattle.c_scope_laws.specs.Thinning.{NamesStay, LabelsStay, declares, arm}
+use Rattle.c_scope_laws.specs.Thinning.{NamesStay, LabelsStay, declares}
+use Rattle.c_language.specs.StatementGrammar.{arm}
 
 -- ---- what is needed of what is kept
 

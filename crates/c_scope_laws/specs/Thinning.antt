@@ -15,7 +15,7 @@ use Rattle.c_tree.specs.declared.raw.statement.RawLabel.{RawLabel}
 use Rattle.c_tree.specs.declared.raw.statement.RawStatement.{RawStatement, roll-RawStatement, out-RawStatement}
 use Rattle.c_tree.specs.declared.raw.statement.RawStatement.TheOpen.{RawStatement-F}
 use Rattle.c_tree.specs.declared.raw.statement.RawStatement.TheVariants as s
-use Rattle.c_tree.specs.declared.raw.statement.RawArm.{RawArm, roll-RawArm}
+use Rattle.c_tree.specs.declared.raw.statement.RawArm.{RawArm}
 use Rattle.c_language.specs.Words.{Bytes}
 use Rattle.projection.specs.Kept.{Kept}
 use Rattle.c_language.specs.Scopes.{Scope, Meaning, Entry, with_variable, opened, numbered, in_order, after_all, after_block, scope_of_test, scope_of_body}
@@ -23,6 +23,7 @@ use Rattle.c_language.specs.Phrases.{InBlock, Part, Declares, Begins, Calls, All
 use Rattle.c_language.specs.CallRules.{without_result}
 use Rattle.c_language.specs.Uses.{cases, is_library_function, is_one_of}
 use Rattle.c_scope_laws.specs.Agreement.{NamedAmong, Names, NamesFunction, SameVariable, simple_part}
+use Rattle.c_language.specs.StatementGrammar.{arm}
 
 -- ---- scopes
 
@@ -94,9 +95,6 @@ part_scope raw i scope = scope_of_test (option_map (scoped raw) i) scope
 
 abbrev pub body_scope : RawProgram → Option RawStatement → Option RawStatement → Scope → Scope
 body_scope raw i step scope = scope_of_body (option_map (scoped raw) i) (option_map (scoped raw) step) scope
-
-abbrev pub arm : List RawLabel → List RawStatement → RawArm
-arm labels body = roll-RawArm (record { labels = labels; body = body })
 
 -- the labels of a switch's arms
 abbrev pub arm_labels : RawProgram → List RawArm → Scope → List RawLabel

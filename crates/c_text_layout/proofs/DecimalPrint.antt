@@ -12,10 +12,10 @@ use Rattle.c_language.specs.Words.{Bytes}
 use Rattle.c_language.specs.Characters.{is_digit, is_letter}
 use Rattle.c_language.specs.Constants.{base, digit_value, unprefixed, leading_digits, digits, value_from, constant_value, Suffix, first_type, constant_type, IsConstant}
 use Rattle.c_language.specs.ConstantEvaluation.{literal_value}
-use Rattle.c_language.specs.Tokens.{number_goes_on}
+use Rattle.c_language.specs.Tokens.{number_goes_on, AreRun}
 use Rattle.c_language.specs.declared.token.TokenKind.TheVariants.{Number}
-use Rattle.c_text_layout.proofs.Written.{AreRun, HasForm}
-use Rattle.c_text_layout.proofs.TokenPrint.{by_answer}
+use Rattle.c_text_layout.proofs.Written.{HasForm}
+use Rattle.c_language.proofs.Tests.{by_answer}
 
 -- ---- digits
 
@@ -106,7 +106,7 @@ constant_of n ds some small p =
     let len : (length ds == 0) ≡ false = grind (arith, nat_tests, p.some) in
     (t.0, rw (all, len, ten, bare, drop_all ds, p.value) t.1)
 
-goes_on : (b c : ℕ) → is_digit c ≡ true → number_goes_on b c ≡ true
+pub goes_on : (b c : ℕ) → is_digit c ≡ true → number_goes_on b c ≡ true
 goes_on b c h = rw h (by_answer (is_letter c) (λ t. rw t refl) (λ f. rw f refl))
 
 digit_run : (b : ℕ) (ds : Bytes) → list_all is_digit ds ≡ true → AreRun number_goes_on b ds

@@ -28,7 +28,8 @@ use Rattle.c_language.specs.declared.operators.Selector.TheVariants.{Dot, Arrow}
 use Rattle.c_text_layout.specs.SpacedWords.{Spaced, blank_if, spaced, spaced_words}
 use Rattle.c_text_layout.proofs.Written.{HasForm, AreWritten}
 use Rattle.c_text_layout.proofs.RawWordLemmas.{spaced-Constant, spaced-AddressOf, spaced_words-Constant, spaced_words-Null, spaced_words-Eof, spaced_words-Variable, spaced_words-Unary, spaced_words-Deref, spaced_words-AddressOf, spaced_words-Binary, spaced_words-AndAlso, spaced_words-OrElse, spaced_words-Choose, spaced_words-Cast, spaced_words-Index, spaced_words-Member, spaced_words-Arrow, spaced_words-Paren}
-use Rattle.c_text_layout.proofs.TokenPrint.{by_answer, other_class, print_blank, is_sure, print_mark, Stops, stops_name, print_name, print_number, print_character, word_form}
+use Rattle.c_text_layout.proofs.TokenPrint.{other_class, print_blank, is_sure, print_mark, Stops, stops_name, print_name, print_number, print_character, word_form}
+use Rattle.c_language.proofs.Tests.{by_answer}
 
 -- ---- the words of operators
 

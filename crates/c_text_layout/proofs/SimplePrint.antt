@@ -12,12 +12,12 @@ use Rattle.c_tree.specs.declared.raw.statement.RawSize.{RawSize}
 use Rattle.c_tree.specs.declared.raw.statement.RawAmount.{RawAmount}
 use Rattle.c_tree.specs.declared.raw.statement.RawStatement.{RawStatement}
 use Rattle.c_tree.specs.declared.raw.statement.RawStatement.TheVariants as s
-use Rattle.c_language.specs.Words.{Bytes, joined, assign_sign}
+use Rattle.c_language.specs.Words.{Bytes, joined, assign_sign, bump_sign}
 use Rattle.c_language.specs.Layout.{call_words, Laid}
 use Rattle.c_text_layout.specs.SpacedWords.{spaced_words}
 use Rattle.c_language.specs.TokenForms.{Tokens, name, string, mark, line_of}
 use Rattle.c_language.specs.ExprGrammar.{IsExpr, number_constant, character_constant, null, eof, variable, paren, index, member, unary, binary, choose, place_step, is_place, postfix_level}
-use Rattle.c_language.specs.StatementGrammar.{IsSeparated, IsArg, literal, IsArgs, IsCall, bare, with_args, IsSize, of_type, of_pointee, of_bare_pointee, IsAmount, counted, multiplied, IsMalloc, IsHeap, uncast, assigns_by, bump_sign, IsSimple, assign, store_call, store_heap, bump_after, bump_before}
+use Rattle.c_language.specs.StatementGrammar.{IsSeparated, IsArg, literal, IsArgs, IsCall, bare, with_args, IsSize, of_type, of_pointee, of_bare_pointee, IsAmount, counted, multiplied, IsMalloc, IsHeap, uncast, assigns_by, IsSimple, assign, store_call, store_heap, bump_after, bump_before}
 use Rattle.c_language.specs.Tokens.{name_goes_on, number_goes_on, is_mark, IsTokens}
 use Rattle.c_language.specs.declared.token.Before.{Before}
 use Rattle.c_language.specs.declared.token.Before.TheVariants.{Token}

@@ -1,16 +1,16 @@
 -- The tokens of a text can be written: what is printed of the tree of a text is read again.
 use Rattle.std.proofs.Common.{ℕ, [], ◌∷◌, Bool}
 use Rattle.std.specs.List.{All}
-use Rattle.std.proofs.lemmas.List.Elements.{All-nil, All-cons, All-head, All-tail}
+use Rattle.std.proofs.lemmas.List.Elements.{All-head, All-tail}
 use Rattle.c_tree.specs.declared.raw.program.RawProgram.{RawProgram}
 use Rattle.c_language.specs.Words.{Bytes}
 use Rattle.c_language.specs.TokenForms.{Tokens}
 use Rattle.c_language.specs.ItemGrammar.{IsProgram}
 use Rattle.c_language.specs.Programs.{IsFormed}
-use Rattle.c_language.specs.Tokens.{IsRun, IsTokenText, IsToken, IsTokens, AreTokensOf}
+use Rattle.c_language.specs.Tokens.{IsRun, IsTokenText, IsToken, IsTokens, AreTokensOf, AreRun}
 use Rattle.c_language.specs.declared.token.TokenKind.{TokenKind}
 use Rattle.c_language.specs.declared.token.Before.{Before}
-use Rattle.c_text_layout.proofs.Written.{AreRun, HasForm, AreWritten}
+use Rattle.c_text_layout.proofs.Written.{HasForm, AreWritten}
 use Rattle.c_text_layout.specs.RawLayout.{raw_layout}
 use Rattle.c_text_layout.specs.Declarations.{HasShortLists}
 use Rattle.c_text_layout.specs.Laws.{HasTreeAgain}
@@ -39,12 +39,6 @@ pub text_written : {before : Before} {line : ℕ} {bytes : Bytes} {ts : Tokens} 
 text_written IsTokens.done = tt
 text_written (IsTokens.space s h) = text_written h
 text_written (IsTokens.token t h) = (token_form t, text_written h)
-
--- each of the tokens of a text is a token of some bytes
-pub text_formed : {before : Before} {line : ℕ} {bytes : Bytes} {ts : Tokens} → IsTokens before line bytes ts → All IsFormed ts
-text_formed IsTokens.done = All-nil IsFormed
-text_formed (IsTokens.space s h) = text_formed h
-text_formed (IsTokens.token {before} {own = own} {rest} t h) = All-cons IsFormed _ _ (record { before = before; own = own; rest = rest; is = t }) (text_formed h)
 
 -- tokens that are tokens of some bytes have the forms of their kinds
 pub formed_written : (ts : Tokens) → All IsFormed ts → AreWritten ts

@@ -1,22 +1,18 @@
 -- A token or a blank at the front of what is printed.
-use Rattle.std.proofs.Common.{◌≡◌, ◌≢◌, ℕ, ◌+◌, add-zero, List, [], ◌∷◌, ◌++◌, length, refl, sym, ap, ◌∙◌, subst, Bool, true, false, codes, nat_le}
-use Rattle.std.proofs.lemmas.Bool.{and_parts, or_parts, false_from_ne_true, eqb-true, eq-eqb, both_ways, leb-true}
-use Rattle.std.specs.List.{list_any, list_all}
+use Rattle.std.proofs.Common.{◌≡◌, ◌≢◌, ℕ, ◌+◌, add-zero, [], ◌∷◌, ◌++◌, length, refl, sym, ap, ◌∙◌, subst, Bool, true, false, codes, nat_le}
+use Rattle.std.proofs.lemmas.Bool.{and_parts, or_parts, false_from_ne_true, eqb-true, eq-eqb, both_ways, leb-true, not-true}
+use Rattle.std.specs.List.{list_all}
 use Rattle.std.specs.Prelude.{◌==◌, ◌||◌, ◌&&◌, not, bytes_eq}
 use Rattle.std.proofs.lemmas.Slice.Eq.{bytes_eq-Decides}
 use Rattle.c_language.specs.Words.{Bytes}
 use Rattle.c_language.specs.Characters.{is_letter, is_word_byte}
 use Rattle.c_language.specs.TokenForms.{Tokens, of_kind, name, number, mark}
-use Rattle.c_language.specs.Tokens.{name_goes_on, number_goes_on, marks, is_mark, IsLongest, IsRun, IsSpace, IsTokenText, IsToken, IsTokens}
+use Rattle.c_language.specs.Tokens.{name_goes_on, number_goes_on, marks, is_mark, IsLongest, IsRun, IsSpace, IsTokenText, IsToken, IsTokens, AreRun}
 use Rattle.c_language.specs.declared.token.TokenKind.TheVariants.{Name, Number, Character, Str}
 use Rattle.c_language.specs.declared.token.Before.{Before}
 use Rattle.c_language.specs.declared.token.Before.TheVariants.{Blank, Token}
-use Rattle.c_text_layout.proofs.Written.{AreRun, HasForm}
-
--- a case for each answer of a test
-pub by_answer : {G : Type 0} (b : Bool) → (b ≡ true → G) → (b ≡ false → G) → G
-by_answer true is isnt = is refl
-by_answer false is isnt = isnt refl
+use Rattle.c_text_layout.proofs.Written.{HasForm}
+use Rattle.c_language.proofs.Lists.{any_passes}
 
 -- a byte of a class isn't one that lies outside it
 pub other_class : (class : ℕ → Bool) (b c : ℕ) → class b ≡ true → class c ≡ false → (b == c) ≡ false
@@ -50,13 +46,6 @@ begins_own (c ∷ cs) rest = let e : (c == c) ≡ true = eq-eqb c c refl in rw e
 lacks : (word bytes : Bytes) → begins word bytes ≡ false → (rest : Bytes) → bytes ≢ word ++ rest
 lacks word bytes h rest e = both_ways (begins word bytes) h (ap (begins word) e ∙ begins_own word rest)
 
--- what all of a list pass, any of it passes
-any_passes : {X : Type 0} (test form : X → Bool) (xs : List X) → list_any test xs ≡ true → list_all form xs ≡ true → (x : X) × (test x ≡ true) × (form x ≡ true)
-any_passes test form [] h a = absurd cc
-any_passes test form (x ∷ xs) h a =
-    let p = and_parts _ _ a in
-    by_answer (test x) (λ t. (x, t, p.0)) (λ f. let g : list_any test xs ≡ true = subst (λ (b : Bool). (b || list_any test xs) ≡ true) f h in any_passes test form xs g p.1)
-
 -- whether a mark that is longer doesn't stand at the front of the bytes
 abbrev pub yields : ℕ → Bytes → Bytes → Bool
 yields n bytes m = nat_le (length m) n || not (begins m bytes)
@@ -64,10 +53,6 @@ yields n bytes m = nat_le (length m) n || not (begins m bytes)
 -- no mark that is longer than n stands at the front of the bytes, and no comment does
 abbrev pub is_sure : ℕ → Bytes → Bool
 is_sure n bytes = list_all (yields n bytes) marks && (not (begins (codes "/*") bytes) && not (begins (codes "//") bytes))
-
-not_true : (b : Bool) → not b ≡ true → b ≡ false
-not_true true h = absurd cc
-not_true false h = refl
 
 or_left : (a b : Bool) → (a || not b) ≡ true → b ≡ true → a ≡ true
 or_left true b h k = refl
@@ -86,7 +71,7 @@ pub print_mark : {before : Before} {line : ℕ} {rest : Bytes} {ts : Tokens} (te
 print_mark {rest = rest} text m s h =
     let p = and_parts _ _ s in
     let q = and_parts _ _ p.1 in
-    IsTokens.token (IsToken.plain (IsTokenText.mark (λ r. (lacks (codes "/*") (text ++ rest) (not_true _ q.0) r, lacks (codes "//") (text ++ rest) (not_true _ q.1) r)) m (sure_longest (length text) (text ++ rest) p.0))) h
+    IsTokens.token (IsToken.plain (IsTokenText.mark (λ r. (lacks (codes "/*") (text ++ rest) (not-true _ q.0) r, lacks (codes "//") (text ++ rest) (not-true _ q.1) r)) m (sure_longest (length text) (text ++ rest) p.0))) h
 
 -- ---- names and numbers
 

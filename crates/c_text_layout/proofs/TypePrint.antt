@@ -1,8 +1,6 @@
 -- What is printed of a type, a declarator and parameters has their tokens again.
 use Rattle.std.proofs.Common.{◌≡◌, ℕ, zero, suc, List, [], ◌∷◌, ◌++◌, map, replicate, append_assoc, append-nil, refl, sym, ap, ap₂, ◌∙◌, subst, Bool, true, false, ◌&&◌, codes, decimal, Option, Some, None}
-use Rattle.std.proofs.lemmas.Bool.{both_ways, false_from_ne_true}
-use Rattle.std.specs.Prelude.{bytes_eq, is_none, nat_lt}
-use Rattle.std.proofs.lemmas.Slice.Eq.{bytes_eq-Decides}
+use Rattle.std.specs.Prelude.{is_none, nat_lt}
 use Rattle.c_tree.specs.declared.raw.expr.RawLength.{RawLength}
 use Rattle.c_tree.specs.declared.raw.expr.RawLength.TheVariants.{Written, Listed}
 use Rattle.c_tree.specs.declared.raw.expr.RawType.{RawType}
@@ -16,7 +14,7 @@ use Rattle.c_text_layout.specs.SpacedWords.{spaced_words}
 use Rattle.c_language.specs.Characters.{is_letter}
 use Rattle.c_language.specs.TokenForms.{Tokens, name, number, mark, line_of}
 use Rattle.c_language.specs.Sees.{sees, sees_name, is_keyword}
-use Rattle.c_language.specs.IntWords.{is_int_word, sees_int_word}
+use Rattle.c_language.specs.IntWords.{sees_int_word}
 use Rattle.c_language.specs.ExprGrammar.{number_constant}
 use Rattle.c_language.specs.TypeGrammar.{IsBase, structure, integer, IsStars, IsTypeName, pointed, pointed_n, named_type, NamesType, starred, IsLengths, IsOuterLengths, written, empty, IsDeclarator, IsParamName, unnamed, IsParam, plain, unsized, sized, IsMoreParams, closed, IsParams, nothing, is_listed}
 use Rattle.c_language.specs.Tokens.{name_goes_on, IsTokens}
@@ -27,8 +25,10 @@ use Rattle.c_text_layout.proofs.Written.{HasForm, AreWritten}
 use Rattle.c_text_layout.specs.RawLayout.{raw_base, raw_stars, raw_length_words, raw_lengths, raw_declared, raw_type_words, raw_named_words, raw_param_words}
 use Rattle.c_text_layout.specs.Settled.{settled_length, settled_type, settled_var, settled_param, lack_lengths}
 use Rattle.c_text_layout.proofs.RawTypeLemmas.{raw_base-Integer, raw_base-PointerTo, raw_base-Array, raw_base-Struct, raw_stars-Integer, raw_stars-PointerTo, raw_stars-Array, raw_stars-Struct, raw_lengths-Integer, raw_lengths-PointerTo, raw_lengths-Array, raw_lengths-Struct, settled_type-Integer, settled_type-PointerTo, settled_type-Array, settled_type-Struct, is_listed-Array}
-use Rattle.c_text_layout.proofs.TokenPrint.{by_answer, other_class, print_blank, is_sure, print_mark, Stops, print_name, print_number, word_form}
+use Rattle.c_text_layout.proofs.TokenPrint.{other_class, print_blank, is_sure, print_mark, Stops, print_name, print_number, word_form}
 use Rattle.c_text_layout.proofs.ExprPrint.{int_rest, expr_rest, print_int, stops_expr, print_expr}
+use Rattle.c_language.proofs.Tests.{by_answer}
+use Rattle.c_language.proofs.Keywords.{no_int_word}
 
 -- ---- what follows is written too
 
@@ -59,16 +59,9 @@ declarator_rest (IsDeclarator.named h k j) w = outer_rest j (stars_rest h w).1
 
 -- ---- words that begin no type
 
-no_word : (w x : Bytes) → is_keyword w ≡ false → is_keyword x ≡ true → bytes_eq w x ≡ false
-no_word w x h k = false_from_ne_true (bytes_eq w x) (λ t. both_ways (is_keyword w) h (ap is_keyword ((bytes_eq-Decides w x).0 t) ∙ k))
-
-no_int : (w : Bytes) → is_keyword w ≡ false → is_int_word w ≡ false
-unfolding is_keyword
-no_int w h = rw (no_word w (codes "char") h refl, no_word w (codes "short") h refl, no_word w (codes "int") h refl, no_word w (codes "long") h refl, no_word w (codes "signed") h refl, no_word w (codes "unsigned") h refl) refl
-
 pub name_no_int : (w : Bytes) (l : ℕ) (ts : Tokens) → is_keyword w ≡ false → sees_int_word (name w l ∷ ts) ≡ false
 unfolding sees_int_word
-name_no_int w l ts h = no_int w h
+name_no_int w l ts h = no_int_word w h
 
 pub mark_no_int : (w : Bytes) (l : ℕ) (ts : Tokens) → sees_int_word (mark w l ∷ ts) ≡ false
 unfolding sees_int_word

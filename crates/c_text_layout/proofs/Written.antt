@@ -1,17 +1,12 @@
 -- Tokens that can be written: each has a text of its kind.
-use Rattle.std.specs.Prelude.{◌≡◌, ℕ, Bool, true, [], ◌∷◌, ◌++◌, codes}
+use Rattle.std.specs.Prelude.{◌≡◌, ℕ, true, [], ◌∷◌, ◌++◌, codes}
 use Rattle.c_language.specs.Words.{Bytes}
 use Rattle.c_language.specs.Characters.{is_digit, is_letter}
 use Rattle.c_language.specs.Constants.{IsConstant}
 use Rattle.c_language.specs.TokenForms.{Tokens}
-use Rattle.c_language.specs.Tokens.{name_goes_on, number_goes_on, IsCharacter, IsLiteral, LacksTrigraph}
+use Rattle.c_language.specs.Tokens.{name_goes_on, number_goes_on, IsCharacter, IsLiteral, LacksTrigraph, AreRun}
 use Rattle.c_language.specs.declared.token.TokenKind.{TokenKind}
 use Rattle.c_language.specs.declared.token.TokenKind.TheVariants.{Name, Number, Character, Str, Mark, Include, Directive}
-
--- bytes that go on behind a byte
-pub data AreRun (goes_on : ℕ → ℕ → Bool) : ℕ → Bytes → Type 0 where
-  none : {b : ℕ} → AreRun goes_on b []
-  more : {b c : ℕ} {run : Bytes} → goes_on b c ≡ true → AreRun goes_on c run → AreRun goes_on b (c ∷ run)
 
 -- the text of a token has the form of its kind, whatever follows it (ISO C99 6.4)
 pub data HasForm : TokenKind → Bytes → Type 0 where

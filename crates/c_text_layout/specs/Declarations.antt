@@ -1,5 +1,5 @@
 -- Tests of the declarations of a text; the lists of initialisers that are short.
-use Rattle.std.specs.Prelude.{◌≡◌, ◌&&◌, nat_lt, List, [], ◌∷◌, map, Bool, true, Option, Some, None}
+use Rattle.std.specs.Prelude.{◌≡◌, ◌&&◌, nat_lt, List, [], ◌∷◌, map, Bool, true}
 use Rattle.std.specs.List.{list_all}
 use Rattle.c_tree.specs.declared.raw.expr.RawVar.{RawVar}
 use Rattle.c_tree.specs.declared.raw.program.RawInit.{RawInit}
@@ -9,15 +9,11 @@ use Rattle.c_tree.specs.declared.raw.program.RawProgram.{RawProgram}
 use Rattle.c_tree.specs.declared.raw.statement.RawStatement.{RawStatement, fold-RawStatement}
 use Rattle.c_tree.specs.declared.raw.statement.RawStatement.TheOpen.{RawStatement-F, RawArm-F}
 use Rattle.c_language.specs.DeclaredTypes.{item_count}
+use Rattle.c_language.specs.Lists.{if_there}
 
 -- each test is true
 abbrev pub all_true : List Bool → Bool
 all_true bs = list_all (λ (b : Bool). b) bs
-
--- the test is true, where there is one
-abbrev pub if_true : Option Bool → Bool
-if_true None = true
-if_true (Some b) = b
 
 -- the declarations of a statement pass the test, given which of its parts' do
 abbrev pub declares_step : (RawVar → RawInit → Bool) → RawStatement-F Bool Bool → Bool
@@ -29,7 +25,7 @@ declares_step test (RawStatement-F.Heap l to cast n) = true
 declares_step test (RawStatement-F.If l a body other) = all_true body && all_true other
 declares_step test (RawStatement-F.While l a b) = all_true b
 declares_step test (RawStatement-F.Do l a b) = all_true b
-declares_step test (RawStatement-F.For l i a step b) = if_true i && (if_true step && all_true b)
+declares_step test (RawStatement-F.For l i a step b) = if_there i && (if_there step && all_true b)
 declares_step test (RawStatement-F.Switch l a arms) = all_true arms
 declares_step test (RawStatement-F.Block l b) = all_true b
 declares_step test (RawStatement-F.Return l a) = true

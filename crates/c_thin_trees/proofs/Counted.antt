@@ -12,8 +12,8 @@ use Rattle.c_tree.specs.declared.raw.expr.RawVar.{RawVar}
 use Rattle.c_language.specs.Words.{Bytes}
 use Rattle.c_language.specs.TokenForms.{Tokens, name, number, mark}
 use Rattle.c_language.specs.ExprGrammar.{number_constant}
-use Rattle.c_language.specs.TypeGrammar.{IsBase, structure, integer, IsStars, IsLengths, written, empty, IsDeclarator, is_listed, listed_step}
-use Rattle.c_scope_laws.specs.Agreement.{IsCount, is_written, written_step}
+use Rattle.c_language.specs.TypeGrammar.{IsBase, structure, integer, IsStars, IsLengths, written, empty, IsDeclarator, is_listed, listed_step, is_written, written_step}
+use Rattle.c_scope_laws.specs.Agreement.{IsCount}
 use Rattle.c_scope_laws.specs.ThinnedBodies.{Need, Names, Labels, Counts, Strays, counted_length, counted_type_step, counted_type, count_needs}
 use Rattle.c_thin_trees.proofs.Pieces.{AreFormed}
 use Rattle.c_thin_trees.proofs.Exprs.{NoBracket, name_no_star, stars_moved, lengths_moved, declarator_moved}

@@ -14,8 +14,9 @@ use Rattle.c_language.specs.IntWords.{spellings, times, IsIntWords, spelled, Are
 use Rattle.c_language.specs.ExprGrammar.{IsExpr, number_constant, character_constant, null, eof, variable, paren, index, member, unary, cast, binary, choose, sign, selector_sign}
 use Rattle.c_language.specs.TypeGrammar.{IsBase, structure, integer, IsStars, IsTypeName, pointed, IsLengths, IsOuterLengths, written, empty, IsDeclarator}
 use Rattle.c_language.specs.declared.token.TokenKind.TheVariants.{Mark}
-use Rattle.c_print_laws.proofs.CalmTokens.{no_word, contained}
+use Rattle.c_print_laws.proofs.CalmTokens.{contained}
 use Rattle.c_thin_trees.proofs.Pieces.{nowhere, token, join, Moved, Lined, MovedBefore, LinedBefore}
+use Rattle.c_language.proofs.Keywords.{no_keyword}
 
 -- ---- words of integer types
 
@@ -153,7 +154,7 @@ declarator_moved (IsDeclarator.named {l} {text} h key j) =
 
 pub name_no_int : (w : Bytes) (l : ℕ) (r : Tokens) → is_keyword w ≡ false → NoIntWord (name w l ∷ r)
 unfolding sees_int_word is_keyword
-name_no_int w l r h = rw (no_word w (codes "char") h refl, no_word w (codes "short") h refl, no_word w (codes "int") h refl, no_word w (codes "long") h refl, no_word w (codes "signed") h refl, no_word w (codes "unsigned") h refl) refl
+name_no_int w l r h = rw (no_keyword w (codes "char") h refl, no_keyword w (codes "short") h refl, no_keyword w (codes "int") h refl, no_keyword w (codes "long") h refl, no_keyword w (codes "signed") h refl, no_keyword w (codes "unsigned") h refl) refl
 
 pub stars_no_int : {ts rest : Tokens} {a b : RawType} → IsStars ts a b rest → NoIntWord rest → NoIntWord ts
 stars_no_int (IsStars.done h) k = k

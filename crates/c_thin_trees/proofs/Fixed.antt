@@ -9,7 +9,7 @@ use Rattle.std.proofs.lemmas.List.{length-append}
 use Rattle.c_arith.specs.declared.int_type.IntType.{IntType}
 use Rattle.c_tree.specs.declared.raw.expr.RawExpr.TheVariants as e
 use Rattle.c_language.specs.Words.{Bytes}
-use Rattle.c_language.specs.Characters.{is_digit, is_letter}
+use Rattle.c_language.specs.Characters.{is_digit}
 use Rattle.c_language.specs.Constants.{constant_type, constant_value, IsConstant}
 use Rattle.c_language.specs.ConstantEvaluation.{is_character, value_if, literal_value, value_of_constant}
 use Rattle.c_language.specs.TokenForms.{name, number, mark}
@@ -18,6 +18,7 @@ use Rattle.c_language.specs.declared.token.Before.TheVariants.{Blank}
 use Rattle.c_language.specs.Programs.{IsFormed}
 use Rattle.c_language.proofs.Tests.{by_answer}
 use Rattle.c_print_laws.proofs.Settling.{constant_value_of}
+use Rattle.c_text_layout.proofs.DecimalPrint.{goes_on}
 
 -- ---- marks of one byte
 
@@ -119,9 +120,6 @@ worth_constant text n all some value more =
     let worth : literal_value text ≡ n = some_value (literal_value text) n (sym (constant_value_of text) ∙ value) in
     let plain : literal_value text ≡ value_if (constant_type text) (constant_value text) = rw no refl in
     typed (constant_type text) (constant_value text) n (sym plain ∙ worth) more
-
-goes_on : (b c : ℕ) → is_digit c ≡ true → number_goes_on b c ≡ true
-goes_on b c h = rw h (by_answer (is_letter c) (λ t. rw t refl) (λ f. rw f refl))
 
 digit_run : (b : ℕ) (ds : Bytes) → list_all is_digit ds ≡ true → IsRun number_goes_on b ds []
 digit_run b [] h = IsRun.ends_text

@@ -27,7 +27,7 @@ use Rattle.c_language.specs.Scopes.{Scope, Scoped, opened, numbered, in_order, a
 use Rattle.c_language.specs.Phrases.{Part, Assigns, Bumps, Calls, Allocates, InBlock, Returns}
 use Rattle.c_language.specs.Uses.{is_library_function}
 use Rattle.c_language.specs.StatementGrammar.{arm}
-use Rattle.c_language.specs.Nesting.{length_nesting, type_nesting, greatest}
+use Rattle.c_language.specs.Nesting.{length_nesting, type_nesting}
 use Rattle.c_language.specs.StatementNesting.{init_nesting, call_nesting, heap_nesting, stored_nesting, label_nesting, statement_nesting, body_nesting}
 use Rattle.c_language.proofs.NestingLemmas.{nesting-Constant, type_nesting-PointerTo, type_nesting-Array}
 use Rattle.c_language.proofs.StatementNestingLemmas.{nesting-Declare, nesting-Call, nesting-Heap, nesting-If, nesting-While, nesting-Do, part_nesting, nesting-For, nesting-Switch, nesting-Block, nesting-arm, arm_nesting, arms_nesting}
@@ -38,6 +38,7 @@ use Rattle.c_print_laws.proofs.Fitting.{fits, arm_fits, list_fits, part_fits, ar
 use Rattle.c_print_laws.proofs.ToldItems.{body_append}
 use Rattle.c_print_laws.proofs.ToldStatements.{fits_append}
 use Rattle.c_thin_trees.proofs.LeftForms.{layer_left}
+use Rattle.c_language.specs.Lists.{greatest}
 
 -- ---- lists
 

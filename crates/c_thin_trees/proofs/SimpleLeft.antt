@@ -21,11 +21,10 @@ use Rattle.c_language.specs.TokenForms.{Tokens, line_of, name, mark}
 use Rattle.c_language.specs.Scopes.{Scope, Scoped}
 use Rattle.c_language.specs.Phrases.{Part}
 use Rattle.c_language.specs.Programs.{IsFormed}
-use Rattle.c_language.specs.TypeGrammar.{IsBase, IsDeclarator, is_listed}
+use Rattle.c_language.specs.TypeGrammar.{IsBase, IsDeclarator, is_listed, is_written}
 use Rattle.c_language.specs.StatementGrammar.{IsCall, bare, with_args, IsHeap, IsSimple, IsList, IsDeclared}
 use Rattle.c_language.specs.ExprGrammar.{IsExpr, conditional_level}
 use Rattle.projection.specs.Kept.{Kept}
-use Rattle.c_scope_laws.specs.Agreement.{is_written}
 use Rattle.c_scope_laws.specs.ThinnedBodies.{Left, counted_var, count_needs, plain, declared, call_placed, call_declared, heap_declared, result_kept, left}
 use Rattle.c_language.specs.Uses.{is_library_function}
 use Rattle.c_thin_trees.proofs.Pieces.{AreFormed}

@@ -9,10 +9,10 @@ use Rattle.c_tree.specs.declared.raw.statement.RawStatement.{RawStatement}
 use Rattle.c_tree.specs.declared.raw.statement.RawStatement.TheVariants as s
 use Rattle.c_tree.specs.declared.raw.statement.RawTarget.TheVariants as target
 use Rattle.c_tree.specs.declared.raw.statement.RawTypeName.{RawTypeName}
-use Rattle.c_language.specs.Words.{Bytes, assign_sign}
+use Rattle.c_language.specs.Words.{Bytes, assign_sign, bump_sign}
 use Rattle.c_language.specs.TokenForms.{Tokens, mark}
 use Rattle.c_language.specs.TypeGrammar.{NamesType, starred}
-use Rattle.c_language.specs.StatementGrammar.{bump_sign, IsSeparated, IsArg, IsArgs, IsCall, bare, with_args, IsSize, of_type, of_pointee, of_bare_pointee, IsAmount, IsMalloc, IsHeap, IsSimple, IsList, trailing, IsLabel, AreLabels, IsTest, test}
+use Rattle.c_language.specs.StatementGrammar.{IsSeparated, IsArg, IsArgs, IsCall, bare, with_args, IsSize, of_type, of_pointee, of_bare_pointee, IsAmount, IsMalloc, IsHeap, IsSimple, IsList, trailing, IsLabel, AreLabels, IsTest, test}
 use Rattle.c_thin_trees.proofs.Pieces.{token, join, Moved, Lined, MovedBefore}
 use Rattle.c_thin_trees.proofs.Exprs.{expr_moved, base_moved, stars_moved, stars_no_int, EndsType, mark_ends_type}
 

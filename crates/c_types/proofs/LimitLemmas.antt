@@ -10,9 +10,10 @@ use Rattle.c_tree.specs.declared.program.Var.{Var}
 use Rattle.c_tree.specs.declared.program.Member.{Member}
 use Rattle.c_tree.specs.declared.program.StructDef.{StructDef}
 use Rattle.c_language.specs.Words.{Bytes}
-use Rattle.c_language.specs.Limits.{longest, longest_member, longest_in_structs, longest_in_variables, cells_step, cells, member_cells, cells_behind, greatest, greatest_variable}
+use Rattle.c_language.specs.Limits.{longest, longest_member, longest_in_structs, longest_in_variables, cells_step, cells, member_cells, cells_behind, greatest_variable}
 use Rattle.c_types_trees.proofs.ShapeLemmas.{longest-Integer, longest-PointerTo, longest-Array, longest-Struct}
 use Rattle.c_types.specs.Capped.{capped_if, capped, all_capped}
+use Rattle.c_language.specs.Lists.{greatest}
 
 -- ---- types
 

@@ -3,6 +3,7 @@
 //! Cells are counted up to one more than the greatest number that is allowed, so that no product is too large.
 ghost use Rattle.std.specs.Prelude.{◌≡◌, ◌≤◌, ℕ, List, [], IfOk};
 ghost use Rattle.c_language.specs.Limits as limits;
+ghost use Rattle.c_language.specs.Lists as lists;
 ghost use Rattle.c_types.specs.Capped as spec;
 ghost use Rattle.c_types.specs.Capped.{all_capped};
 
@@ -113,7 +114,7 @@ fn struct_cells(alloc: Global, structs: &[StructDef]) -> Result<Vec<u64>, AllocE
 }
 
 fn greatest(all: &[u64]) -> u64
-    ensures { result ≡ limits.greatest all.now }
+    ensures { result ≡ lists.greatest all.now }
 {
     let mut best = 0;
     for n in all {

@@ -5,6 +5,7 @@ use Rattle.c_tree.specs.declared.raw.expr.RawExpr.{RawExpr, map-RawExpr, ind-Raw
 use Rattle.c_tree.specs.declared.raw.expr.RawExpr.TheOpen.{RawExpr-F}
 use Rattle.c_tree.specs.declared.raw.expr.RawExpr.TheViews.{out-roll-RawExpr}
 use Rattle.c_tree.specs.declared.raw.program.RawProgram.{RawProgram}
+use Rattle.c_tree.proofs.RawTrees.{expr_layer, ExprParts}
 use Rattle.c_language.specs.Scopes.{Scope}
 use Rattle.c_language.specs.ExprTypes.{operand, operand_step}
 use Rattle.c_language.specs.ExprRules.{Seen, seen, is_undeclared, lacks_header, needs_struct, selects_missing, has_bad_operand, has_no_address}
@@ -138,8 +139,8 @@ module _ (raw : RawProgram) (scope : Scope) where
       (with_two (form (Some x)) r q) (ap (λ y. form y (operand raw scope a) (operand raw scope b)) is) keeps (told_two (form (Some x)) a b r q second third)
   told_three form c a b (Err n) r q h second third = (c, contains_first c (a ∷ (b ∷ [])), h)
 
-  abbrev layer_of : RawExpr-F ((a : RawExpr) × IsJudged a) → RawExpr-F RawExpr
-  layer_of = map-RawExpr ((a : RawExpr) × IsJudged a) RawExpr (λ a. a.0)
+  abbrev layer_of : ExprParts IsJudged → RawExpr-F RawExpr
+  layer_of = expr_layer IsJudged
 
   abbrev IsToldLayer : RawExpr-F RawExpr → Type 0
   IsToldLayer layer =
@@ -149,7 +150,7 @@ module _ (raw : RawProgram) (scope : Scope) where
   none_told : (m : RawExpr) → Contains [] m → Keeps raw scope m
   none_told m c = absurd (contains_nil m c)
 
-  told_layer : (y : RawExpr-F ((a : RawExpr) × IsJudged a)) → IsToldLayer (layer_of y)
+  told_layer : (y : ExprParts IsJudged) → IsToldLayer (layer_of y)
   told_layer (RawExpr-F.Constant text) = (refl, none_told)
   told_layer RawExpr-F.Null = (refl, none_told)
   told_layer RawExpr-F.Eof = (refl, none_told)

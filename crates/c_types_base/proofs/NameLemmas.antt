@@ -67,19 +67,19 @@ module _ {K X : Type 0} (same : K → K → Bool) (p : K → Bool) (told : (k j 
       by_place false seen None is ih = rw is ih
       by_place false seen (Some i) is ih = rw is (rw (one_later i n) ih)
 
-abbrev same_names : Bor (List ℕ) → Bor (List ℕ) → Bool
-same_names a b = bytes_eq a.now b.now
+abbrev same_bytes : Bor (List ℕ) → Bor (List ℕ) → Bool
+same_bytes a b = bytes_eq a.now b.now
 
 -- another name than one that is looked for isn't looked for
-other_name : (q : List ℕ) (k j : Bor (List ℕ)) → bytes_eq q k.now ≡ true → same_names k j ≡ false → bytes_eq q j.now ≡ false
+other_name : (q : List ℕ) (k j : Bor (List ℕ)) → bytes_eq q k.now ≡ true → same_bytes k j ≡ false → bytes_eq q j.now ≡ false
 other_name q k j is other = ap (λ (w : List ℕ). bytes_eq w j.now) ((bytes_eq-Decides q k.now).0 is) ∙ other
 
 -- what a name stands for behind the first entries
-pub names_behind : (q : List ℕ) (n : ℕ) (es : List (Bor (List ℕ) × Meaning)) (o : Option ℕ) → o ≡ position (λ (k : Bor (List ℕ)). bytes_eq q k.now) (keys_of es) → IsDistinct same_names (keys_of es)
+pub names_behind : (q : List ℕ) (n : ℕ) (es : List (Bor (List ℕ) × Meaning)) (o : Option ℕ) → o ≡ position (λ (k : Bor (List ℕ)). bytes_eq q k.now) (keys_of es) → IsDistinct same_bytes (keys_of es)
     → option_map meaning_of (if_behind n o (lookup (λ (k : Bor (List ℕ)). bytes_eq q k.now) es)) ≡ found_in q (drop n (map entry_of es))
 names_behind q n es o found h =
     ap (λ (p : Option ℕ). option_map meaning_of (if_behind n p (lookup (λ (k : Bor (List ℕ)). bytes_eq q k.now) es))) found
-    ∙ ap (option_map meaning_of) (sym (found_behind same_names (λ (k : Bor (List ℕ)). bytes_eq q k.now) (other_name q) n es h))
+    ∙ ap (option_map meaning_of) (sym (found_behind same_bytes (λ (k : Bor (List ℕ)). bytes_eq q k.now) (other_name q) n es h))
     ∙ found_lookup q (drop n es) ∙ ap (found_in q) (sym (drop-map entry_of n es))
 
 is_before : (i n : ℕ) → i < n → nat_lt i n ≡ true
@@ -88,7 +88,7 @@ is_before i n h = grind (arith, nat_tests)
 is_behind : (i n : ℕ) → n ≤ i → nat_lt i n ≡ false
 is_behind i n h = grind (arith, nat_tests)
 
-module _ (q : List ℕ) (n i : ℕ) (es : List (Bor (List ℕ) × Meaning)) (found : Some i ≡ position (λ (k : Bor (List ℕ)). bytes_eq q k.now) (keys_of es)) (distinct : IsDistinct same_names (keys_of es)) where
+module _ (q : List ℕ) (n i : ℕ) (es : List (Bor (List ℕ) × Meaning)) (found : Some i ≡ position (λ (k : Bor (List ℕ)). bytes_eq q k.now) (keys_of es)) (distinct : IsDistinct same_bytes (keys_of es)) where
   pub none_behind : i < n → None ≡ found_in q (drop n (map entry_of es))
   none_behind h =
       ap (λ (b : Bool). option_map meaning_of (if b then None else lookup (λ (k : Bor (List ℕ)). bytes_eq q k.now) es)) (sym (is_before i n h))

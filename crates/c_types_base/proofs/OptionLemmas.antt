@@ -5,7 +5,8 @@ use Rattle.std.specs.Prelude.{IsSome, ◌+◌, ◌<◌, suc, not, nat_lt, length
 use Rattle.std.specs.List.{find, position, position_or_len}
 use Rattle.c_language.specs.ConstantEvaluation.{both}
 use Rattle.c_language.specs.ProgramOf.{collected, optional}
-use Rattle.c_language.proofs.Options.{IsThere, there_map}
+use Rattle.c_language.proofs.Options.{there_map}
+use Rattle.c_language.specs.Options.{IsThere}
 
 pub is_there : {A : Type 0} (o : Option A) → IsThere o → IsSome o
 is_there None h = absurd h

@@ -10,6 +10,7 @@ use Rattle.c_tree.specs.declared.raw.statement.RawTarget.TheVariants as target
 use Rattle.c_tree.specs.declared.raw.statement.RawStatement.{RawStatement, fold-RawStatement, ind-RawStatement, roll-RawStatement, map-RawStatement, fold-roll-RawStatement}
 use Rattle.c_tree.specs.declared.raw.statement.RawStatement.TheOpen.{RawStatement-F, RawArm-F}
 use Rattle.c_tree.specs.declared.raw.statement.RawArm.{RawArm, fold-RawArm, roll-RawArm, fold-roll-RawArm}
+use Rattle.c_tree.proofs.RawTrees.{statement_layer, StatementParts}
 use Rattle.c_language.specs.Scopes.{Scope, Entry, Scoped, with_variable, with_target, begun, numbered, opened, closed, after_all, after_block, after_step, after_arm}
 
 -- the names of the first scope stand at the front of those of the second, and the rest is the same but for numbers
@@ -121,10 +122,10 @@ module _ {R Q : Type 0} (raw : RawProgram) (gives : RawStatement-F (Scoped R) (S
       let all = then_extends (opened (numbered x)) z (inside ps z) (then_extends (opened (numbered x)) y z e f) (inside_extends ps z) in
       as_before x (closed x (inside ps z)) refl refl refl all.structs all.functions
 
-  abbrev layer_of : RawStatement-F ((one : RawStatement) × Grows one) ((a : RawArm) × ArmGrows a) → RawStatement-F RawStatement RawArm
-  layer_of = map-RawStatement ((one : RawStatement) × Grows one) ((a : RawArm) × ArmGrows a) RawStatement RawArm (λ p. p.0) (λ p. p.0)
+  abbrev layer_of : StatementParts Grows ArmGrows → RawStatement-F RawStatement RawArm
+  layer_of = statement_layer Grows ArmGrows
 
-  layer_grows : (y : RawStatement-F ((one : RawStatement) × Grows one) ((a : RawArm) × ArmGrows a)) (x : Scope)
+  layer_grows : (y : StatementParts Grows ArmGrows) (x : Scope)
       → Extends x (after_step raw (map-RawStatement RawStatement RawArm (Scoped R) (Scoped Q) of_statement of_arm (layer_of y)) x)
   layer_grows (RawStatement-F.Declare l v i) x = then_extends x (with_variable raw v i x) (begun i (with_variable raw v i x)) (variable_extends raw v i x) (begun_extends raw i (with_variable raw v i x))
   layer_grows (RawStatement-F.Assign l a op b) x = number_extends raw x

@@ -1,6 +1,6 @@
 -- All that is in scope by right tables has a type.
-use Rattle.std.proofs.Common.{◌≡◌, ℕ, List, Bool, true, false, Option, Some, None, refl, sym, ap, ◌∙◌}
-use Rattle.std.specs.Prelude.{is_some, option_map, option_and_then, bytes_eq}
+use Rattle.std.proofs.Common.{◌≡◌, ℕ, zero, suc, List, [], ◌∷◌, ◌++◌, Bool, true, false, Option, Some, None, refl, sym, ap, subst, ◌∙◌, arith}
+use Rattle.std.specs.Prelude.{◌<◌, length, is_some, slice_get, option_map, option_and_then, bytes_eq}
 use Rattle.std.specs.Borrow.{Bor}
 use Rattle.std.specs.Map.{lookup}
 use Rattle.c_tree.specs.declared.raw.program.RawMember.{RawMember}
@@ -35,3 +35,17 @@ tables_typed t right = record {
       (ap is_some (right.typed s name within ∙ (ap (option_and_then (λ (x : RawMember). written_type t.raw.now x.shape)) is ∙ none)))
       (right.listed s name within ∙ ap is_some is);
 }
+
+-- what holds of each place of a list, and of the one behind it, holds of each place of the longer list
+longer : {A : Type 0} (Holds : ℕ → Option A → Type 0) (xs : List A) (x : A) → ((k : ℕ) → k < length xs → Holds k (slice_get xs k)) → Holds (length xs) (Some x)
+    → (k : ℕ) → k < length (xs ++ x ∷ []) → Holds k (slice_get (xs ++ x ∷ []) k)
+longer Holds [] x before last zero within = last
+longer Holds [] x before last (suc k) within = absurd (omega (arith, within))
+longer Holds (y ∷ xs) x before last zero within = before zero (omega arith)
+longer Holds (y ∷ xs) x before last (suc k) within = longer (λ (n : ℕ). Holds (suc n)) xs x (λ n w. before (suc n) (omega (arith, w))) last k (omega (arith, within))
+
+pub pushed : {A : Type 0} (Holds : ℕ → Option A → Type 0) (xs ys : List A) (x : A) (n m : ℕ) → n ≡ length xs → ys ≡ xs ++ x ∷ [] → m ≡ length ys
+    → ((k : ℕ) → k < n → Holds k (slice_get xs k)) → Holds n (Some x) → (k : ℕ) → k < m → Holds k (slice_get ys k)
+pushed Holds xs ys x n m size is now before last k within =
+    subst (λ zs. Holds k (slice_get zs k)) (sym is)
+    (longer Holds xs x (λ j w. before j (omega (arith, w, size))) (subst (λ j. Holds j (Some x)) size last) k (omega (arith, within, now, ap length is)))

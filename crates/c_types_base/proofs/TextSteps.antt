@@ -1,6 +1,5 @@
 -- Members, parameters and items as stretches of a text, one after another.
-use Rattle.std.proofs.Common.{◌≡◌, ℕ, ◌+◌, ◌<◌, List, [], ◌∷◌, ◌++◌, length, take, drop, get_or, true, Some, option_and_then, is_some, slice_get, refl, sym, ap, subst, ◌∙◌, append_assoc}
-use Rattle.std.specs.Prelude.{vec_len}
+use Rattle.std.proofs.Common.{◌≡◌, ℕ, ◌+◌, ◌<◌, List, [], ◌∷◌, ◌++◌, length, take, drop, get_or, true, Some, refl, sym, ap, ◌∙◌, append_assoc}
 use Rattle.std.proofs.lemmas.List.{take_more}
 use Rattle.c_tree.specs.declared.raw.program.RawHead.{RawHead}
 use Rattle.c_tree.specs.declared.raw.program.RawItem.{RawItem}
@@ -9,19 +8,12 @@ use Rattle.c_tree.specs.declared.raw.program.RawMember.{RawMember}
 use Rattle.c_tree.specs.declared.raw.program.RawParam.{RawParam}
 use Rattle.c_tree.specs.declared.raw.program.RawProgram.{RawProgram}
 use Rattle.c_tree.specs.declared.raw.statement.RawStatement.{RawStatement}
-use Rattle.c_language.specs.Words.{Bytes}
-use Rattle.c_language.specs.DeclaredTypes.{StructText, defined_structs, written_type}
-use Rattle.c_language.specs.ExprTypes.{member_named}
 use Rattle.c_language.specs.Phrases.{InBlock, HasMember, DeclaresFunction, Takes, EndsFunction, Phrases, phrase, head_phrases, body_phrases, item_phrases, after_item, member_phrases, taken_phrases}
 use Rattle.c_language.specs.Scopes.{Scope, opened, closed, with_function, with_parameters, scope_of_parameters, entered}
 use Rattle.c_language.proofs.Turns.{drop_turn}
 use Rattle.c_language.proofs.PhraseLists.{body_in_order, body_after}
 use Rattle.c_language.proofs.ScopeNumbers.{through_function}
-use Rattle.c_types_base.specs.Tables.{Lists}
-use Rattle.c_types_base.specs.declared.names.StructMembers.{StructMembers}
-use Rattle.c_types_base.specs.declared.tables.Tables.{Tables}
 use Rattle.c_types_base.proofs.ScopeLaws.{Extends, then_extends}
-use Rattle.c_types_base.specs.Listing.{HasMembers, HasPlace}
 use Rattle.c_types_base.specs.Stretches.{Stretch, then_comes, of_statements, of_parameter, of_parameters, of_function, inside_function, of_item, of_items}
 use Rattle.c_types_base.proofs.Stretching.{parameters_grow, statements_grow, one_phrase}
 
@@ -57,19 +49,6 @@ items_here xs i x raw within is = ap (λ rest. of_items rest raw) (drop_turn xs 
 -- one element more
 pub with_next : {A : Type 0} (xs : List A) (i : ℕ) (x : A) → i < length xs → x ≡ get_or xs i x → take i xs ++ x ∷ [] ≡ take (i + 1) xs
 with_next xs i x within is = ap (λ y. take i xs ++ y ∷ []) is ∙ sym (take_more xs i x within)
-
--- a struct type
-pub lists_members : (t : Tables) (tag : Bytes) (ms : List RawMember) (listed : StructMembers)
-    → slice_get (defined_structs t.raw.now) (vec_len t.structs) ≡ Some (record { tag = tag; members = ms }) → HasMembers t.raw.now ms listed → Lists t listed
-lists_members t tag ms listed place has =
-    let named = λ (name : Bytes). ap (option_and_then (λ (d : StructText). member_named d.members name)) place in
-    record {
-      there = λ name. has.there name ∙ ap is_some (sym (named name));
-      types = λ name. has.types name ∙ ap (option_and_then (λ (m : RawMember). written_type t.raw.now m.shape)) (sym (named name));
-    }
-
-pub has_place : (raw : RawProgram) (count : ℕ) (one x : RawItem) → one ≡ x → HasPlace raw count one → HasPlace raw count x
-has_place raw count one x is h = subst (HasPlace raw count) is h
 
 -- the parameters and the body of a function
 abbrev pub of_inside : RawHead → List RawStatement → Stretch

@@ -9,6 +9,7 @@ use Rattle.c_tree.specs.declared.raw.expr.RawExpr.{RawExpr, map-RawExpr, ind-Raw
 use Rattle.c_tree.specs.declared.raw.expr.RawExpr.TheOpen.{RawExpr-F}
 use Rattle.c_tree.specs.declared.raw.expr.RawExpr.TheVariants as e
 use Rattle.c_tree.specs.declared.raw.program.RawProgram.{RawProgram}
+use Rattle.c_tree.proofs.RawTrees.{expr_layer, ExprParts}
 use Rattle.c_language.specs.Words.{Bytes}
 use Rattle.c_language.specs.ConstantEvaluation.{literal_type, literal_value, both}
 use Rattle.c_language.specs.Scopes.{Scope, meaning_in}
@@ -48,10 +49,10 @@ module _ (raw : RawProgram) (scope : Scope) where
   abbrev IsTold : RawExpr → Type 0
   IsTold a = (both_of a).operand ≡ operand raw scope a
 
-  abbrev layer_of : RawExpr-F ((a : RawExpr) × IsTold a) → RawExpr-F RawExpr
-  layer_of = map-RawExpr ((a : RawExpr) × IsTold a) RawExpr (λ a. a.0)
+  abbrev layer_of : ExprParts IsTold → RawExpr-F RawExpr
+  layer_of = expr_layer IsTold
 
-  layer-operand : (y : RawExpr-F ((a : RawExpr) × IsTold a))
+  layer-operand : (y : ExprParts IsTold)
       → map-RawExpr Told (Option Operand) operand_in (map-RawExpr RawExpr Told both_of (layer_of y)) ≡ map-RawExpr RawExpr (Option Operand) (operand raw scope) (layer_of y)
   layer-operand (RawExpr-F.Constant text) = refl
   layer-operand RawExpr-F.Null = refl

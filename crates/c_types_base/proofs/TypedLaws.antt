@@ -6,6 +6,7 @@ use Rattle.c_tree.specs.declared.raw.expr.RawExpr.{RawExpr, map-RawExpr, ind-Raw
 use Rattle.c_tree.specs.declared.raw.expr.RawExpr.TheOpen.{RawExpr-F}
 use Rattle.c_tree.specs.declared.raw.program.RawMember.{RawMember}
 use Rattle.c_tree.specs.declared.raw.program.RawProgram.{RawProgram}
+use Rattle.c_tree.proofs.RawTrees.{expr_layer, ExprParts}
 use Rattle.c_language.specs.Words.{Bytes}
 use Rattle.c_language.specs.DeclaredTypes.{written_type}
 use Rattle.c_language.specs.Scopes.{Scope, Meaning, meaning_in}
@@ -92,10 +93,10 @@ module _ (raw : RawProgram) (scope : Scope) (typed : IsTyped raw scope) where
   abbrev IsNamed : RawExpr → Type 0
   IsNamed e = NamesRule (judged raw scope e)
 
-  abbrev layer_of : RawExpr-F ((a : RawExpr) × IsNamed a) → RawExpr-F RawExpr
-  layer_of = map-RawExpr ((a : RawExpr) × IsNamed a) RawExpr (λ a. a.0)
+  abbrev layer_of : ExprParts IsNamed → RawExpr-F RawExpr
+  layer_of = expr_layer IsNamed
 
-  layered : (y : RawExpr-F ((a : RawExpr) × IsNamed a)) → NamesRule (judge_step raw scope (map-RawExpr RawExpr (Result Operand ℕ) (judged raw scope) (layer_of y)))
+  layered : (y : ExprParts IsNamed) → NamesRule (judge_step raw scope (map-RawExpr RawExpr (Result Operand ℕ) (judged raw scope) (layer_of y)))
   layered (RawExpr-F.Constant text) = tt
   layered RawExpr-F.Null = headed _ _
   layered RawExpr-F.Eof = headed _ _

@@ -14,7 +14,7 @@ use Rattle.c_language.specs.Words.{Bytes}
 use Rattle.c_language.specs.DeclaredTypes.{struct_id, has_stdlib, written_type}
 use Rattle.c_language.specs.Scopes.{Scope, Meaning, meaning_in}
 use Rattle.c_language.specs.ExprTypes.{value_type, integer_of, target_of, is_integer, is_pointer, same_type}
-use Rattle.c_language.specs.ExprRules.{is_complete}
+use Rattle.c_language.specs.ExprRules.{is_complete, is_function}
 use Rattle.c_language.specs.Phrases.{Allocates}
 use Rattle.c_language.specs.TypeGrammar.{named_type}
 use Rattle.c_language.specs.Uses.{target_exprs, counts, sizes, tags_if, tags_of_size}
@@ -38,17 +38,13 @@ use Rattle.c_types_base.proofs.TypedLaws.{IsTyped}
 use Rattle.c_types_checks.proofs.Findings.{Finds, IsTrue, by_test, by_given, by_option, by_both, by_facts, by_all, by_judged}
 use Rattle.c_types_checks.proofs.CheckLaws.{of_operand}
 use Rattle.c_types_checks.proofs.DeclarationLaws.{tags_true}
-use Rattle.c_types_checks.proofs.InitialiserLaws.{and_then_is, then_is}
+use Rattle.c_types_checks.proofs.InitialiserLaws.{then_is}
 use Rattle.c_types_checks.proofs.CallLaws.{target_values, target_true}
-
-abbrev is_a_function : Option Meaning → Bool
-is_a_function None = false
-is_a_function (Some Meaning.Function) = true
-is_a_function (Some (Meaning.Variable id t)) = false
+use Rattle.c_language.proofs.Options.{then_some}
 
 -- a name isn't both a variable and a function
 no_variable : {A : Type 0} {o : Option Meaning} (id : ℕ) (t : Option ExprType) → o ≡ Some (Meaning.Variable id t) → o ≡ Some Meaning.Function → A
-no_variable id t variable function = clash {b = is_a_function (Some (Meaning.Variable id t))} refl (ap is_a_function (sym variable ∙ function))
+no_variable id t variable function = clash {b = is_function (Some (Meaning.Variable id t))} refl (ap is_function (sym variable ∙ function))
 
 abbrev type_in : ExprType → Option Meaning → ExprType
 type_in t None = t
@@ -123,7 +119,7 @@ module _ (raw : RawProgram) (scope : Scope) (typed : IsTyped raw scope) (to : Ra
   -- a size that isn't that of the objects
   other_size : (s : RawSize) → Contains (sizes n) s → (o : ExprType) → object ≡ Some o → HasOtherSize raw scope o s → B 20
   other_size s c o is other =
-      let found = and_then_is target_of (target_type raw scope to) o is in
+      let found = then_some target_of (target_type raw scope to) o is in
       allocation (MisusesAllocation.other_size found.1 found.2 c other)
 
   object_true : (u : ExprType) → (is_complete scope u ≡ false → B 7) → ((o : ExprType) → object ≡ Some o → same_type u o ≡ false → B 20)
@@ -216,7 +212,7 @@ module _ (raw : RawProgram) (scope : Scope) (typed : IsTyped raw scope) (to : Ra
   bytes_true None is = λ o some. none_some refl some
   bytes_true (Some o) is =
       by_test B _ (not (is_count n) || is_char (integer_of o)) 20 kept
-      (λ isnt. let found = and_then_is target_of (target_type raw scope to) o is in bytes_broken raw scope to cast n found.0 o found.1 found.2 isnt)
+      (λ isnt. let found = then_some target_of (target_type raw scope to) o is in bytes_broken raw scope to cast n found.0 o found.1 found.2 isnt)
       (λ right u also. subst (λ (w : ExprType). (not (is_count n) || is_char (integer_of w)) ≡ true) (same_some refl also) right)
 
   amount_true : Finds B (AmountIsRight raw scope object n) (check_amount raw scope n object)

@@ -1,5 +1,6 @@
 -- Arguments, one by one.
 use Rattle.std.proofs.Common.{◌≡◌, ℕ, ◌+◌, ◌<◌, List, [], ◌∷◌, drop, map, length, get_or, Bool, true, false, Result, Ok, Err, refl, sym, ap, ◌∙◌}
+use Rattle.std.proofs.lemmas.List.{drop_more}
 use Rattle.c_tree.specs.declared.raw.program.RawProgram.{RawProgram}
 use Rattle.c_tree.specs.declared.raw.statement.RawArg.{RawArg}
 use Rattle.c_tree.specs.declared.raw.statement.RawArg.TheVariants as arg
@@ -9,7 +10,7 @@ use Rattle.c_types_base.specs.Judging.{then_judge, judged}
 use Rattle.c_types_base.specs.declared.fault.Fault.{Fault}
 use Rattle.c_types_checks.specs.CallChecks.{check_each}
 use Rattle.c_types_checks.specs.Checking.{Verdict, kept, unless_broken, then_kept, Decides}
-use Rattle.c_types_checks.proofs.DecidedLemmas.{first_decides, same_verdict, from_place}
+use Rattle.c_types_checks.proofs.DecidedLemmas.{first_decides, same_verdict}
 
 tested : (b : Bool) (n : ℕ) (rest : Verdict) → unless_broken b n rest ≡ then_kept (unless_broken b n kept) rest
 tested true n rest = refl
@@ -33,8 +34,8 @@ module _ (raw : RawProgram) (scope : Scope) {A : Type 0} (n : ℕ) (fits : A →
     at_place : check_each raw scope n fits (map g ps) args ≡ then_kept (check_each raw scope n fits (g p ∷ []) (a ∷ [])) (check_each raw scope n fits (map g (drop (i + 1) ps)) (drop (i + 1) args))
     at_place =
         so_far
-        ∙ ap (λ (xs : List P). check_each raw scope n fits (map g xs) (drop i args)) (from_place ps i p in_ps ∙ ap (λ (q : P). q ∷ drop (i + 1) ps) (sym is_p))
-        ∙ ap (λ (ys : List RawArg). check_each raw scope n fits (map g (p ∷ drop (i + 1) ps)) ys) (from_place args i a in_args ∙ ap (λ (b : RawArg). b ∷ drop (i + 1) args) (sym is_a))
+        ∙ ap (λ (xs : List P). check_each raw scope n fits (map g xs) (drop i args)) (drop_more ps i p in_ps ∙ ap (λ (q : P). q ∷ drop (i + 1) ps) (sym is_p))
+        ∙ ap (λ (ys : List RawArg). check_each raw scope n fits (map g (p ∷ drop (i + 1) ps)) ys) (drop_more args i a in_args ∙ ap (λ (b : RawArg). b ∷ drop (i + 1) args) (sym is_a))
         ∙ each_first (g p) (map g (drop (i + 1) ps)) a (drop (i + 1) args)
 
     -- the argument at the place breaks a rule

@@ -30,7 +30,7 @@ use Rattle.c_language.specs.SwitchRules.{MisplacesDeclaration}
 use Rattle.c_language.specs.CallRules.{HasUnfitArgument, MisusesArguments, MisusesResult, HasUnfitWidth, MisusesFormat, MisusesLibrary, target_type, without_result, format_in, later_args, pieces_in, only_arg}
 use Rattle.c_language.specs.declared.expr_type.ExprType.{ExprType}
 use Rattle.c_language.specs.declared.expr_type.Operand.{Operand}
-use Rattle.c_language.proofs.Lists.{contains_nil, contains_cons, contains_first, contains_later, same_names}
+use Rattle.c_language.proofs.Lists.{contains_nil, contains_cons, contains_first, contains_later, same_bytes}
 use Rattle.c_language.proofs.UseLemmas.{only_in}
 use Rattle.c_types_checks.specs.Checking.{Verdict, kept, is_target}
 use Rattle.c_types_checks.specs.DeclarationChecks.{is_main}
@@ -39,11 +39,11 @@ use Rattle.c_types_base.proofs.JudgingLaws.{Keeps}
 use Rattle.c_types_base.proofs.PhraseLemmas.{clash, are_clean}
 use Rattle.c_types_checks.proofs.KeptPhrases.{OfOperand}
 use Rattle.c_types_checks.proofs.KeptCalls.{TargetIsRight, CallIsRight, keeps-Calls}
-use Rattle.c_types_checks.proofs.TestLemmas.{same_some, none_some, is_nothing, is_something, any_passes, none_passes}
-use Rattle.c_types_checks.proofs.EndLemmas.{is_empty, is_no_empty}
+use Rattle.c_types_checks.proofs.TestLemmas.{same_some, none_some, is_something, any_passes, none_passes, is_empty, is_no_empty}
 use Rattle.c_types_base.proofs.TypedLaws.{IsTyped}
 use Rattle.c_types_checks.proofs.Findings.{Finds, IsTrue, by_test, by_given, by_option, by_both, by_facts, by_if, by_judged}
 use Rattle.c_types_checks.proofs.CheckLaws.{no_target, of_operand}
+use Rattle.c_types_base.proofs.ListingLaws.{gone}
 
 -- ---- targets and arguments
 
@@ -472,7 +472,7 @@ module _ (raw : RawProgram) (scope : Scope) (typed : IsTyped raw scope) (stand :
       let K = ResultFits raw scope stand to f args head in
       by_test B K (is_no_target to || is_some head.result) 17 _ (λ isnt.
       let parts = or_parts (is_no_target to) _ isnt in
-      result (MisusesResult.no_result (own_function f own) (stored_somewhere to parts.0) is (is_nothing head.result parts.1))) (λ gives.
+      result (MisusesResult.no_result (own_function f own) (stored_somewhere to parts.0) is (gone head.result parts.1))) (λ gives.
       let stored = stored_for to head gives in
       by_option B K _ (result_type raw head) (λ none. (stored, λ r t of_result typed. none_some none of_result)) (λ r of_result.
       by_option B K _ (target_type raw scope to) (λ none. (stored, λ s t of_other typed. none_some none typed)) (λ t of_type.
@@ -511,19 +511,19 @@ module _ (raw : RawProgram) (scope : Scope) (typed : IsTyped raw scope) (stand :
   named_true : (meaning_in scope f ≡ Some Meaning.Function → definition_of raw f ≢ None)
       → Finds B AsCall (check_named raw scope stand to f args (target_type raw scope to))
   named_true defined =
-      by_if B AsCall (bytes_eq f (codes "free")) _ _ (λ is. free_true (same_names f (codes "free") is)) (λ no_free.
-      by_if B AsCall (bytes_eq f (codes "putchar")) _ _ (λ is. putchar_true (same_names f (codes "putchar") is)) (λ no_put.
-      by_if B AsCall (bytes_eq f (codes "getchar")) _ _ (λ is. getchar_true (same_names f (codes "getchar") is)) (λ no_get.
-      by_if B AsCall (bytes_eq f (codes "printf")) _ _ (λ is. printf_true (same_names f (codes "printf") is)) (λ no_print.
+      by_if B AsCall (bytes_eq f (codes "free")) _ _ (λ is. free_true (same_bytes f (codes "free") is)) (λ no_free.
+      by_if B AsCall (bytes_eq f (codes "putchar")) _ _ (λ is. putchar_true (same_bytes f (codes "putchar") is)) (λ no_put.
+      by_if B AsCall (bytes_eq f (codes "getchar")) _ _ (λ is. getchar_true (same_bytes f (codes "getchar") is)) (λ no_get.
+      by_if B AsCall (bytes_eq f (codes "printf")) _ _ (λ is. printf_true (same_bytes f (codes "printf") is)) (λ no_print.
       own_true (record { free = no_free; putchar = no_put; getchar = no_get; printf = no_print }) defined))))
 
   pub call_true : IsTrue raw scope (Calls stand to f args) (check_call raw scope stand to f args)
   call_true =
       by_test B _ (not (is_main f)) 5 _
-      (λ isnt. named_as raw scope stand to f args main_name 5 (same_names f main_name (not-false _ isnt)) (main MisusesMain.called)) (λ other.
+      (λ isnt. named_as raw scope stand to f args main_name 5 (same_bytes f main_name (not-false _ isnt)) (main MisusesMain.called)) (λ other.
       by_test B _ (not (is_function (meaning_in scope f)) || is_some (definition_of raw f)) 6 _ (λ isnt.
       let parts = or_parts (not (is_function (meaning_in scope f))) _ isnt in
-      no_definition (LacksDefinition.called (function_is _ (not-false _ parts.0)) (is_nothing (definition_of raw f) parts.1))) (λ known.
+      no_definition (LacksDefinition.called (function_is _ (not-false _ parts.0)) (gone (definition_of raw f) parts.1))) (λ known.
       let defined = defined_for raw scope f known in
       target_true raw scope typed (Calls stand to f args) _ to (check_named raw scope stand to f args)
       (λ e c. Contains-append_left (target_exprs to) (arg_exprs args) e c)

@@ -23,9 +23,10 @@ use Rattle.c_types_checks.specs.Checking.{kept, unless_broken, check_test, is_ta
 use Rattle.c_types_base.proofs.JudgingLaws.{Keeps}
 use Rattle.c_types_base.proofs.PhraseLemmas.{are_clean}
 use Rattle.c_types_checks.proofs.KeptPhrases.{OfOperand, keeps-Tests, keeps-Bumps, keeps-Assigns, keeps-Compound, keeps-Returns, keeps-Leaves}
-use Rattle.c_types_checks.proofs.TestLemmas.{same_some, none_some, is_nothing, is_something, is_nothing_too, is_something_too}
+use Rattle.c_types_checks.proofs.TestLemmas.{same_some, none_some, is_something, is_nothing_too, is_something_too}
 use Rattle.c_types_base.proofs.TypedLaws.{IsTyped}
 use Rattle.c_types_checks.proofs.Findings.{IsTrue, by_test, by_given, by_option, by_judged}
+use Rattle.c_types_base.proofs.ListingLaws.{gone}
 
 module _ (raw : RawProgram) (scope : Scope) where
   pub keeps_only : (e : RawExpr) → Keeps raw scope e → (m : RawExpr) → Contains (e ∷ []) m → Keeps raw scope m
@@ -119,7 +120,7 @@ module _ (raw : RawProgram) (scope : Scope) (typed : IsTyped raw scope) where
       let clean = are_clean raw scope (Returns (Some e)) (keeps_only raw scope e keeps) in
       by_option B _ (check_value raw scope x) (head_around raw scope)
       (λ none. keeps-Returns raw scope e clean (λ head around. none_some none around) (λ head around. none_some none around)) (λ head around.
-      by_test B _ (is_some head.result) 18 _ (λ isnt. return (MisusesReturn.value_of_void around (is_nothing head.result isnt))) (λ gives.
+      by_test B _ (is_some head.result) 18 _ (λ isnt. return (MisusesReturn.value_of_void around (gone head.result isnt))) (λ gives.
       let given = λ (other : RawHead) (also : head_around raw scope ≡ Some other). subst (λ (h : RawHead). h.result ≢ None) (same_some around also) (is_something head.result gives) in
       by_option B _ (λ (t : ExprType). unless_broken (is_assignable t x) 18 kept) (result_type raw head)
       (λ none. keeps-Returns raw scope e clean given

@@ -1,5 +1,5 @@
 -- What code decides, one check of a list after another.
-use Rattle.std.proofs.Common.{◌≡◌, ℕ, suc, ◌+◌, ◌<◌, List, ◌∷◌, drop, length, get_or, drop-cons, Result, Err, sym, ap, subst, ◌∙◌, arith}
+use Rattle.std.proofs.Common.{◌≡◌, ℕ, suc, ◌+◌, Result, Err, sym, ap, subst, arith}
 use Rattle.c_types_base.specs.declared.fault.Fault.{Fault}
 use Rattle.c_types_base.specs.declared.fault.Fault.TheVariants.{Rule, NoMemory}
 use Rattle.c_types_checks.specs.Checking.{Verdict, then_kept, Decides}
@@ -14,7 +14,3 @@ same_verdict v w x is h = subst (λ (u : Verdict). Decides u x) (sym is) h
 
 pub one_more : (i : ℕ) → suc i ≡ i + 1
 one_more i = omega arith
-
--- a list is taken apart at a place within it
-pub from_place : {A : Type 0} (xs : List A) (i : ℕ) (d : A) → i < length xs → drop i xs ≡ get_or xs i d ∷ drop (i + 1) xs
-from_place xs i d within = drop-cons xs i d within ∙ ap (λ (j : ℕ). get_or xs i d ∷ drop j xs) (one_more i)

@@ -3,6 +3,8 @@ use Rattle.std.proofs.Common.{◌≡◌, ◌≢◌, ℕ, ℤ, List, [], length, 
 use Rattle.std.specs.Prelude.{◌==◌, ◌||◌, not, is_some, is_none, Contains, take}
 use Rattle.std.specs.List.{list_any}
 use Rattle.std.proofs.lemmas.Bool.{not-true, not-false, or_parts, or_cases}
+use Rattle.c_language.proofs.HeadLemmas.{gives_int_only, gives_int_own, ends_from, ends_told}
+use Rattle.c_language.specs.HeadTests.{gives_int, ends_with_value}
 use Rattle.c_tree.specs.declared.raw.expr.RawExpr.{RawExpr}
 use Rattle.c_tree.specs.declared.raw.expr.RawType.{RawType}
 use Rattle.c_tree.specs.declared.raw.expr.RawVar.{RawVar}
@@ -26,17 +28,17 @@ use Rattle.c_language.specs.ArrayRules.{HasNoElement, LacksConstant}
 use Rattle.c_language.specs.CallRules.{MisusesReturn}
 use Rattle.c_language.specs.SwitchRules.{MisplacesDeclaration}
 use Rattle.c_language.specs.declared.expr_type.ExprType.{ExprType}
-use Rattle.c_language.proofs.Lists.{contains_nil, contains_cons, contains_first, same_names}
+use Rattle.c_language.proofs.Lists.{contains_nil, contains_cons, contains_first, same_bytes}
 use Rattle.c_types_checks.specs.Checking.{kept, when_given, all_kept, check_expr}
-use Rattle.c_types_checks.specs.DeclarationChecks.{is_complete_tag, is_defined_before, is_main, is_variable, gives_int, ends_with_value, stands_in_arm, check_tag, check_count, check_length, check_type, check_complete, check_struct, check_member, check_head, check_prototype, check_main, check_definition, check_taken, check_parameter, check_end, check_fresh, check_declared}
+use Rattle.c_types_checks.specs.DeclarationChecks.{is_complete_tag, is_defined_before, is_main, is_variable, stands_in_arm, check_tag, check_count, check_length, check_type, check_complete, check_struct, check_member, check_head, check_prototype, check_main, check_definition, check_taken, check_parameter, check_end, check_fresh, check_declared}
 use Rattle.c_types_base.specs.Listing.{has_name}
 use Rattle.c_types_base.proofs.JudgingLaws.{Keeps}
 use Rattle.c_types_base.proofs.PhraseLemmas.{clash, AreClean, are_clean}
 use Rattle.c_types_checks.proofs.KeptDeclarations.{keeps-NamesStruct, keeps-DefinesStruct, keeps-HasMember, keeps-Prototype, keeps-Definition, keeps-Takes, keeps-EndsFunction, keeps-Declares}
-use Rattle.c_types_checks.proofs.TestLemmas.{same_some, none_some, is_nothing, is_something, is_nothing_too, is_something_too, any_passes, none_passes, other_names}
-use Rattle.c_types_checks.proofs.EndLemmas.{has_name_is, has_name_own, is_empty, is_no_empty, gives_int_only, gives_int_own, ends_so, ends_not}
+use Rattle.c_types_checks.proofs.TestLemmas.{same_some, none_some, is_something, is_nothing_too, is_something_too, any_passes, none_passes, other_names, has_name_is, has_name_own, is_empty, is_no_empty}
 use Rattle.c_types_base.proofs.TypedLaws.{IsTyped}
 use Rattle.c_types_checks.proofs.Findings.{Finds, IsTrue, by_test, by_given, by_option, by_both, by_facts, by_if, by_all, by_judged}
+use Rattle.c_types_base.proofs.ListingLaws.{gone}
 
 variable_is : (m : Option Meaning) → is_variable m ≡ true → (id : ℕ) × (t : Option ExprType) × (m ≡ Some (Meaning.Variable id t))
 variable_is None h = clash refl h
@@ -74,12 +76,12 @@ module _ (raw : RawProgram) (scope : Scope) where
   tags_true part ws within =
       by_all (Breaks raw scope part) (λ w. struct_id raw w ≢ None) (check_tag raw scope) ws (λ w c.
       by_test (Breaks raw scope part) _ (is_some (struct_id raw w)) 7 kept
-      (λ isnt. tag (MisusesTag.undefined (within w c) (is_nothing (struct_id raw w) isnt))) (λ is. is_something (struct_id raw w) is))
+      (λ isnt. tag (MisusesTag.undefined (within w c) (gone (struct_id raw w) isnt))) (λ is. is_something (struct_id raw w) is))
 
   pub names_struct_true : (w : Bytes) → IsTrue raw scope (NamesStruct w) (check_tag raw scope w)
   names_struct_true w =
       by_test (Breaks raw scope (NamesStruct w)) _ (is_some (struct_id raw w)) 7 kept
-      (λ isnt. tag (MisusesTag.undefined {tag = w} (contains_first w []) (is_nothing (struct_id raw w) isnt))) (λ is.
+      (λ isnt. tag (MisusesTag.undefined {tag = w} (contains_first w []) (gone (struct_id raw w) isnt))) (λ is.
       keeps-NamesStruct raw scope w (are_none raw scope (NamesStruct w) refl) (λ v c. elim (contains_cons w v [] c) [
         | inl same ↦ subst (λ (u : Bytes). struct_id raw u ≢ None) same (is_something (struct_id raw w) is)
         | inr c ↦ absurd (contains_nil v c)
@@ -90,7 +92,7 @@ module _ (raw : RawProgram) (scope : Scope) where
       by_test (Breaks raw scope (DefinesStruct w)) _ (not (is_complete_tag raw scope w)) 7 _
       (λ isnt.
       let found = any_passes _ (take scope.structs (defined_structs raw)) (not-false _ isnt) in
-      tag (MisusesTag.again found.1 (same_names found.0.tag w found.2))) (λ is.
+      tag (MisusesTag.again found.1 (same_bytes found.0.tag w found.2))) (λ is.
       by_test (Breaks raw scope (DefinesStruct w)) _ (not (is_library_macro w)) 4 kept (λ isnt. library_name (DeclaresLibraryName.tag (not-false _ isnt))) (λ allowed.
       keeps-DefinesStruct raw scope w (are_none raw scope (DefinesStruct w) refl) (λ s c. other_names s.tag w (none_passes _ _ (not-true _ is) s c)) (not-true _ allowed)))
 
@@ -113,7 +115,7 @@ module _ (raw : RawProgram) (scope : Scope) where
   prototype_true head =
       let B = Breaks raw scope (DeclaresFunction head false) in
       by_both B (HeadIsRight raw scope head) _ _ _ (head_true head false) (λ right.
-      by_test B _ (not (is_main head.name)) 5 _ (λ isnt. main (MisusesMain.prototype (same_names head.name main_name (not-false _ isnt)))) (λ other.
+      by_test B _ (not (is_main head.name)) 5 _ (λ isnt. main (MisusesMain.prototype (same_bytes head.name main_name (not-false _ isnt)))) (λ other.
       by_given B _ 6 _ (definition_of raw head.name) (λ none. no_definition (LacksDefinition.prototype none)) (λ f defined.
       by_test B _ (same_signature raw head f) 6 kept (λ isnt. no_definition (LacksDefinition.differs defined isnt)) (λ same.
       keeps-Prototype raw scope head (are_none raw scope (DeclaresFunction head false) refl) right.named right.other right.allowed
@@ -127,11 +129,11 @@ module _ (raw : RawProgram) (scope : Scope) where
       by_test B _ (not (is_defined_before raw scope head.name)) 2 _
       (λ isnt.
       let found = any_passes _ (take scope.functions (defined_functions raw)) (not-false _ isnt) in
-      declared_again (DeclaresAgain.definition (found.0, found.1, same_names found.0.name head.name found.2))) (λ fresh.
+      declared_again (DeclaresAgain.definition (found.0, found.1, same_bytes found.0.name head.name found.2))) (λ fresh.
       let first = λ (b : IsDefinedBefore raw scope head.name). other_names b.0.name head.name (none_passes _ _ (not-true _ fresh) b.0 b.1) b.2 in
       let clean = are_none raw scope (DeclaresFunction head true) refl in
       by_if B _ (is_main head.name) (check_main raw scope head) kept (λ is.
-      let same = same_names head.name main_name is in
+      let same = same_bytes head.name main_name is in
       by_test B _ (gives_int head.result) 5 _
       (λ isnt. main (MisusesMain.no_int same (λ e. clash {b = gives_int head.result} isnt (ap gives_int e ∙ gives_int_own)))) (λ an_int.
       by_test B _ (length head.params == 0) 5 kept (λ isnt. main (MisusesMain.parameters same (is_no_empty head.params isnt))) (λ alone.
@@ -145,12 +147,12 @@ module _ (raw : RawProgram) (scope : Scope) where
       (λ isnt.
       let parts = or_parts (is_main head.name) _ isnt in
       let others = or_parts (is_none head.result) _ parts.1 in
-      return (MisusesReturn.lacking (other_names head.name main_name parts.0) (is_something_too head.result others.0) (ends_not body others.1))) (λ is.
+      return (MisusesReturn.lacking (other_names head.name main_name parts.0) (is_something_too head.result others.0) (λ ends. clash {b = ends_with_value body} others.1 (ends_told ends)))) (λ is.
       keeps-EndsFunction raw scope head body (are_none raw scope (EndsFunction head body) refl) (λ other some. elim (or_cases (is_main head.name) _ is) [
-        | inl entry ↦ absurd (other (same_names head.name main_name entry))
+        | inl entry ↦ absurd (other (same_bytes head.name main_name entry))
         | inr rest ↦ elim (or_cases (is_none head.result) _ rest) [
           | inl void ↦ absurd (some (is_nothing_too head.result void))
-          | inr ends ↦ ends_so body ends
+          | inr ends ↦ ends_from body ends
         ]
       ]))
 
@@ -183,7 +185,7 @@ module _ (raw : RawProgram) (scope : Scope) (typed : IsTyped raw scope) where
       let B = Breaks raw scope part in
       by_both B (Keeps raw scope m) _ (check_expr raw scope m) _ (by_judged raw scope part typed (Keeps raw scope m) m (λ x. kept) inside (λ x is keeps. keeps)) (λ keeps.
       by_given B _ 10 (check_count raw scope) (value_of_constant m) (λ none. no_constant (LacksConstant.written_length c none)) (λ z is.
-      by_test B _ (is_some (positive z)) 9 kept (λ isnt. no_element (HasNoElement.too_short c is (is_nothing (positive z) isnt))) (λ some.
+      by_test B _ (is_some (positive z)) 9 kept (λ isnt. no_element (HasNoElement.too_short c is (gone (positive z) isnt))) (λ some.
       record {
         keeps = keeps;
         constant = λ none. none_some none is;
@@ -213,7 +215,7 @@ module _ (raw : RawProgram) (scope : Scope) (typed : IsTyped raw scope) where
       by_both B (TypeIsRight raw scope m.shape) _ _ _ (type_true (HasMember before m) m.shape (λ w c. c) (λ e c. c) (λ e c. c)) (λ right.
       by_both B _ _ _ _ (complete_true (HasMember before m) (written_type raw m.shape) (λ u is isnt. tag (MisusesTag.member is isnt))) (λ complete.
       by_test B _ (not (list_any _ before)) 8 _
-      (λ isnt. let found = any_passes _ before (not-false _ isnt) in member (MisnamesMember.again found.1 (same_names found.0.name m.name found.2))) (λ fresh.
+      (λ isnt. let found = any_passes _ before (not-false _ isnt) in member (MisnamesMember.again found.1 (same_bytes found.0.name m.name found.2))) (λ fresh.
       by_test B _ (not (is_library_macro m.name)) 4 kept (λ isnt. library_name (DeclaresLibraryName.member (not-false _ isnt))) (λ allowed.
       keeps-HasMember raw scope before m (are_clean raw scope (HasMember before m) (λ e c. (right.lengths e c).keeps)) right.named
       (λ e c. (right.lengths e c).constant) (λ e z c. (right.lengths e c).at_least_one z) complete

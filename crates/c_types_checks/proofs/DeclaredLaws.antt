@@ -18,7 +18,7 @@ use Rattle.c_language.specs.Scopes.{Scope, meaning_in, meaning_here}
 use Rattle.c_language.specs.Uses.{lengths_in, lengths_step, written_lengths, tags_in, tags_step}
 use Rattle.c_language.specs.declared.expr_type.Base.TheVariants as base
 use Rattle.c_language.specs.declared.expr_type.ExprType.{ExprType}
-use Rattle.c_language.proofs.Options.{IsThere, there_map}
+use Rattle.c_language.proofs.Options.{there_map}
 use Rattle.c_language.proofs.Lists.{contains_nil, contains_cons, contains_first, contains_later}
 use Rattle.c_language.proofs.UseLemmas.{tags-roll, lengths-roll}
 use Rattle.c_types_base.proofs.OptionLemmas.{there_then}
@@ -26,6 +26,7 @@ use Rattle.c_types_base.proofs.TypeLemmas.{type-roll}
 use Rattle.c_types_checks.specs.Checking.{Verdict, kept, unless_broken, given_or, then_kept, all_kept, check_expr}
 use Rattle.c_types_checks.specs.DeclarationChecks.{check_tag, check_count, check_length, check_type, check_fresh, check_member, check_declared}
 use Rattle.c_types_checks.proofs.TestLemmas.{is_nothing_too}
+use Rattle.c_language.specs.Options.{IsThere}
 
 -- a fault isn't a check that is passed
 refused : {n : ℕ} {A : Type 0} → ◌≡◌ {A = Verdict} (Err n) kept → A

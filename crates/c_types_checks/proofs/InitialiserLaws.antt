@@ -33,17 +33,14 @@ use Rattle.c_types_base.proofs.PhraseLemmas.{clash, are_clean}
 use Rattle.c_types_checks.proofs.KeptPhrases.{OfOperand}
 use Rattle.c_types_checks.proofs.KeptDeclarations.{keeps-BeginsOne, keeps-BeginsItems}
 use Rattle.c_types_checks.proofs.KeptCalls.{keeps-BeginsNone, keeps-Switches}
-use Rattle.c_types_checks.proofs.TestLemmas.{same_some, none_some, is_nothing, is_something}
+use Rattle.c_types_checks.proofs.TestLemmas.{same_some, none_some, is_something}
 use Rattle.c_types_checks.proofs.SwitchLemmas.{case_in, two_defaults, defaults_counted, two_cases, no_two_cases}
 use Rattle.c_types_base.proofs.TypedLaws.{IsTyped}
 use Rattle.c_types_checks.proofs.Findings.{Finds, IsTrue, by_test, by_given, by_option, by_both, by_facts, by_all, by_judged}
 use Rattle.c_types_checks.proofs.CheckLaws.{keeps_only, of_operand}
 use Rattle.c_types_checks.proofs.DeclarationLaws.{are_none}
-
--- a value that is found by two steps
-pub and_then_is : {A B : Type 0} (f : A → Option B) (o : Option A) (u : B) → option_and_then f o ≡ Some u → (t : A) × (o ≡ Some t) × (f t ≡ Some u)
-and_then_is f None u h = none_some refl h
-and_then_is f (Some t) u h = (t, refl, h)
+use Rattle.c_types_base.proofs.ListingLaws.{gone}
+use Rattle.c_language.proofs.Options.{then_some}
 
 pub then_is : {A B : Type 0} (f : A → Option B) (o : Option A) (t : A) (u : B) → o ≡ Some t → f t ≡ Some u → option_and_then f o ≡ Some u
 then_is {A} f o t u is gives = ap (λ (x : Option A). option_and_then f x) is ∙ gives
@@ -52,8 +49,8 @@ no_constant_for : (t : ExprType) (e : RawExpr) → is_constant_for t e ≡ false
 no_constant_for t e h =
     let parts = or_parts (is_some (value_of_constant e)) _ h in
     elim (and_cases (is_null_name e) (is_pointer t) parts.1) [
-      | inl name ↦ IsNoConstant.other e (is_nothing (value_of_constant e) parts.0) name
-      | inr type ↦ IsNoConstant.null e (is_nothing (value_of_constant e) parts.0) type
+      | inl name ↦ IsNoConstant.other e (gone (value_of_constant e) parts.0) name
+      | inr type ↦ IsNoConstant.null e (gone (value_of_constant e) parts.0) type
     ]
 
 constant_not : (t : ExprType) (e : RawExpr) → is_constant_for t e ≡ true → IsNoConstant t e → ⊥
@@ -135,7 +132,7 @@ module _ (raw : RawProgram) (scope : Scope) (typed : IsTyped raw scope) where
       by_judged raw scope part typed (ItemIsRight raw scope stand element e) e _ c (λ y is keeps.
       by_option B (ItemIsRight raw scope stand element e) _ element
       (λ none. record { keeps = keeps; fits = λ u of_type. none_some none of_type; constant = λ s place u of_type. none_some none of_type }) (λ u of_type.
-      let array = and_then_is element_of (variable_type raw var (init.Items es)) u of_type in
+      let array = then_some element_of (variable_type raw var (init.Items es)) u of_type in
       by_test B (ItemIsRight raw scope stand element e) (is_assignable u y) 22 _
       (λ isnt. initialiser (MisusesInitialiser.unfit array.1 array.2 (e, c, (y, is, isnt)))) (λ fits.
       by_facts B ((is_static : Bool) → stand ≡ InFile is_static → IsNoConstant u e → ⊥) (ItemIsRight raw scope stand element e) _ (λ constant. record {
@@ -186,7 +183,7 @@ module _ (raw : RawProgram) (scope : Scope) (typed : IsTyped raw scope) where
       by_both (Breaks raw scope part) (Keeps raw scope e) _ _ _
       (by_judged raw scope part typed (Keeps raw scope e) e (λ x. kept) (contains_later test e (cases labels) inside) (λ x is keeps. keeps)) (λ keeps.
       by_test (Breaks raw scope part) _ (is_some (value_of_constant e)) 10 kept
-      (λ isnt. no_constant (LacksConstant.label inside (is_nothing (value_of_constant e) isnt))) (λ some. (keeps, is_something (value_of_constant e) some)))
+      (λ isnt. no_constant (LacksConstant.label inside (gone (value_of_constant e) isnt))) (λ some. (keeps, is_something (value_of_constant e) some)))
 
   labels_clean : (test : RawExpr) (labels : List RawLabel) → Keeps raw scope test → ((l : RawLabel) → Contains labels l → LabelIsRight raw scope l)
       → (e : RawExpr) → Contains (test ∷ cases labels) e → Keeps raw scope e

@@ -8,7 +8,6 @@ pub mod CheckLaws
 pub mod DecidedLemmas
 pub mod DeclarationLaws
 pub mod DeclaredLaws
-pub mod EndLemmas
 pub mod Findings
 pub mod FormatLemmas
 pub mod InitialiserLaws

@@ -1,6 +1,7 @@
 -- Which statements return a value.
 use Rattle.std.proofs.Common.{◌≡◌, ℕ, suc, List, [], ◌∷◌, length, Bool, false, Option, Some, None, refl, sym, ap, ◌∙◌, arith}
 use Rattle.std.specs.Prelude.{◌-◌, slice_get}
+use Rattle.c_language.specs.HeadTests.{is_given, value_layer, returns_value, ends_with_value}
 use Rattle.c_arith.specs.declared.operators.BinaryOp.{BinaryOp}
 use Rattle.c_tree.specs.declared.raw.expr.RawExpr.{RawExpr}
 use Rattle.c_tree.specs.declared.raw.expr.RawVar.{RawVar}
@@ -15,7 +16,6 @@ use Rattle.c_tree.specs.declared.raw.statement.RawStatement.TheOpen.{RawStatemen
 use Rattle.c_tree.specs.declared.raw.statement.RawStatement.TheViews.{out-roll-RawStatement}
 use Rattle.c_tree.specs.declared.raw.statement.RawStatement.TheVariants as s
 use Rattle.c_language.specs.Words.{Bytes}
-use Rattle.c_types_checks.specs.DeclarationChecks.{is_given, value_layer, returns_value, ends_with_value}
 
 of_layer : (y : RawStatement-F RawStatement RawArm) (x : RawStatement) → roll-RawStatement y ≡ x → returns_value x ≡ value_layer y
 of_layer y x is = ap (λ (z : RawStatement). value_layer (out-RawStatement z)) (sym is) ∙ ap value_layer (out-roll-RawStatement y)

@@ -1,5 +1,6 @@
 -- What a type and an expression hold, form by form, as equations.
 use Rattle.std.proofs.Common.{◌≡◌, List, [], ◌∷◌, ◌++◌, Bool, true, false, Result, Ok, Err, refl, sym, ap, subst, ◌∙◌}
+use Rattle.c_language.specs.HeadTests.{int_step, is_int_type, is_int}
 use Rattle.c_arith.specs.declared.int_type.IntType.{IntType}
 use Rattle.c_arith.specs.declared.operators.UnaryOp.{UnaryOp}
 use Rattle.c_arith.specs.declared.operators.BinaryOp.{BinaryOp}
@@ -15,7 +16,6 @@ use Rattle.c_types_base.specs.declared.fault.Fault.{Fault}
 use Rattle.c_language.specs.Uses.{tags_in, null_step, is_null_name}
 use Rattle.c_language.proofs.UseLemmas.{lengths-Integer, lengths-PointerTo, lengths-Array, lengths-Struct, tags-Integer, tags-PointerTo, tags-Array, tags-Struct}
 use Rattle.c_types_checks.specs.Checking.{Verdict, then_kept, all_kept, Decides}
-use Rattle.c_types_checks.specs.DeclarationChecks.{int_step, is_int_type, is_int}
 
 -- ---- checks of lists
 

@@ -1,11 +1,9 @@
 -- The checks of declarations: the numbers of the rules that they break, or none.
-use Rattle.std.specs.Prelude.{is_some, is_none, nat_lt, ℕ, ℤ, ◌==◌, Bool, true, false, not, ◌&&◌, ◌||◌, List, [], ◌∷◌, length, take, bytes_eq, Option, Some, None, option_and_then, if◌then◌else◌}
+use Rattle.std.specs.Prelude.{is_some, is_none, nat_lt, ℕ, ℤ, ◌==◌, Bool, true, false, not, ◌&&◌, ◌||◌, List, length, take, bytes_eq, Option, Some, None, option_and_then, if◌then◌else◌}
 use Rattle.std.specs.List.{list_any}
-use Rattle.c_arith.specs.declared.int_type.IntType.{IntType}
-use Rattle.c_arith.specs.declared.int_type.IntType.TheVariants.{Int}
+use Rattle.c_language.specs.HeadTests.{gives_int, ends_with_value}
 use Rattle.c_tree.specs.declared.raw.expr.RawExpr.{RawExpr}
-use Rattle.c_tree.specs.declared.raw.expr.RawType.{RawType, fold-RawType}
-use Rattle.c_tree.specs.declared.raw.expr.RawType.TheOpen.{RawType-F}
+use Rattle.c_tree.specs.declared.raw.expr.RawType.{RawType}
 use Rattle.c_tree.specs.declared.raw.expr.RawVar.{RawVar}
 use Rattle.c_tree.specs.declared.raw.program.RawInit.{RawInit}
 use Rattle.c_tree.specs.declared.raw.program.RawInit.TheVariants as init
@@ -13,9 +11,7 @@ use Rattle.c_tree.specs.declared.raw.program.RawMember.{RawMember}
 use Rattle.c_tree.specs.declared.raw.program.RawParam.{RawParam}
 use Rattle.c_tree.specs.declared.raw.program.RawHead.{RawHead}
 use Rattle.c_tree.specs.declared.raw.program.RawProgram.{RawProgram}
-use Rattle.c_tree.specs.declared.raw.statement.RawStatement.{RawStatement, out-RawStatement}
-use Rattle.c_tree.specs.declared.raw.statement.RawStatement.TheOpen.{RawStatement-F}
-use Rattle.c_tree.specs.declared.raw.statement.RawArm.{RawArm}
+use Rattle.c_tree.specs.declared.raw.statement.RawStatement.{RawStatement}
 use Rattle.c_language.specs.Words.{Bytes}
 use Rattle.c_language.specs.ConstantEvaluation.{value_of_constant}
 use Rattle.c_language.specs.DeclaredTypes.{StructText, defined_structs, defined_functions, struct_id, definition_of, written_type, variable_type, positive}
@@ -46,39 +42,6 @@ abbrev pub is_variable : Option Meaning → Bool
 is_variable None = false
 is_variable (Some Meaning.Function) = false
 is_variable (Some (Meaning.Variable id t)) = true
-
-abbrev pub is_int : IntType → Bool
-is_int Int = true
-is_int _ = false
-
-abbrev pub int_step : RawType-F Bool → Bool
-int_step (RawType-F.Integer t) = is_int t
-int_step _ = false
-
--- the type is written `int`
-abbrev pub is_int_type : RawType → Bool
-is_int_type = fold-RawType Bool int_step
-
-abbrev pub gives_int : Option RawType → Bool
-gives_int None = false
-gives_int (Some t) = is_int_type t
-
-abbrev pub is_given : Option RawExpr → Bool
-is_given None = false
-is_given (Some e) = true
-
-abbrev pub value_layer : RawStatement-F RawStatement RawArm → Bool
-value_layer (RawStatement-F.Return l e) = is_given e
-value_layer _ = false
-
-abbrev pub returns_value : RawStatement → Bool
-returns_value s = value_layer (out-RawStatement s)
-
--- the last statement of a list returns a value
-abbrev pub ends_with_value : List RawStatement → Bool
-ends_with_value [] = false
-ends_with_value (s ∷ []) = returns_value s
-ends_with_value (s ∷ (t ∷ rest)) = ends_with_value (t ∷ rest)
 
 -- an initialiser is a constant for an object of the type
 abbrev pub is_constant_for : ExprType → RawExpr → Bool

@@ -5,6 +5,7 @@ ghost use Rattle.c_tree.specs.declared.raw.program.RawHead.{RawHead};
 ghost use Rattle.c_tree.specs.declared.raw.program.RawProgram.{RawProgram};
 ghost use Rattle.c_tree.specs.declared.raw.program.RawParam.{RawParam};
 ghost use Rattle.c_language.specs.DeclaredTypes as types;
+ghost use Rattle.c_language.specs.HeadTests as tests;
 ghost use Rattle.c_language.specs.NameRules as rules;
 ghost use Rattle.c_language.specs.Scopes as scopes;
 ghost use Rattle.c_language.specs.Scopes.{Scope};
@@ -150,7 +151,7 @@ pub fn check_prototype(alloc: Global, tables: &Tables<'_>, head: &RawHead) -> Re
 /// Whether a type is written `int`.
 #[tactic(auto, using(crate::proofs::UseLemmas::int_types))]
 fn is_int_type(shape: &RawType) -> bool
-    ensures { result ≡ spec.is_int_type shape.now }
+    ensures { result ≡ tests.is_int_type shape.now }
 {
     match shape {
         RawType::Integer(t) => *t == IntType::Int,
@@ -161,7 +162,7 @@ fn is_int_type(shape: &RawType) -> bool
 }
 
 fn gives_int(result_shape: &Option<RawType>) -> bool
-    ensures { result ≡ spec.gives_int result_shape.now }
+    ensures { result ≡ tests.gives_int result_shape.now }
 {
     match result_shape {
         None => false,
@@ -217,7 +218,7 @@ pub fn check_parameter(
 /// Whether a statement returns a value.
 #[tactic(auto, using(crate::proofs::ReturnLemmas::returned_values))]
 fn returns_value(statement: &RawStatement) -> bool
-    ensures { result ≡ spec.returns_value statement.now }
+    ensures { result ≡ tests.returns_value statement.now }
 {
     match statement {
         RawStatement::Return { value, .. } => value.is_some(),
@@ -237,7 +238,7 @@ fn returns_value(statement: &RawStatement) -> bool
 
 /// Whether the last of some statements returns a value.
 fn ends_with_value(body: &[RawStatement]) -> bool
-    ensures { result ≡ spec.ends_with_value body.now }
+    ensures { result ≡ tests.ends_with_value body.now }
 {
     match body.last() {
         None => false,

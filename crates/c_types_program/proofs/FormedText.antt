@@ -23,7 +23,7 @@ use Rattle.c_tree.specs.declared.raw.statement.RawTypeName.{RawTypeName}
 use Rattle.c_language.specs.ItemGrammar.{IsGlobal, AreGlobals, IsResult, IsHead, IsItem, AreItems}
 use Rattle.c_language.specs.Phrases.{Stand, InFile, InHead, InBlock, InArm, InFor, EndsFunction, Calls, Allocates, Tests, Phrases, phrase, ArmText, begun_phrases, declaration, target_phrases, joined_at, block_phrases, at_stand, phrases_of_arms, scoped, scoped_of_arm, body_phrases, member_phrases, taken_phrases, parameter_phrases, head_phrases, item_phrases, items_phrases, after_item, phrases}
 use Rattle.c_language.specs.Programs.{IsTree}
-use Rattle.c_language.specs.Rules.{KeepsRules}
+use Rattle.c_language.specs.Rules.{KeepsRules, AreKept}
 use Rattle.c_language.specs.Scopes.{Scope, Scoped, opened, numbered, in_order, part_gives, after_block, with_parameter, with_variable, with_target, scope_of_parameters, scope_of_test, scope_of_body, entered, outset, parameter_of}
 use Rattle.c_language.specs.StatementGrammar.{arm, IsSeparated, IsSimple, IsDeclared, AreDeclared, IsDeclaration, IsInit, IsStep, IsStatement, AreStatements, IsBody, IsElse, AreArms}
 use Rattle.c_language.specs.TokenForms.{Tokens, line_of}
@@ -32,7 +32,6 @@ use Rattle.c_language.proofs.ScopedForms.{scoped-Declare, scoped-Assign, scoped-
 use Rattle.c_types_trees.specs.FitPhrases.{IsAllocation, IsFormed, AreFit}
 use Rattle.c_types_trees.specs.KeptPhrases.{HasNoLengthIf}
 use Rattle.c_types_program.proofs.GrammarTrees.{heap_plain, name_plain}
-use Rattle.c_types_trees.proofs.PhraseTrees.{AreKept}
 use Rattle.c_types_program.proofs.RuleLaws.{phrases_kept}
 use Rattle.c_types_program.proofs.StatementForms.{scoped_part, scoped-For, scoped-arm}
 

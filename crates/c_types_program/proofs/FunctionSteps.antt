@@ -1,6 +1,5 @@
 -- What the walk does at the definition of a function, step by step.
-use Rattle.std.proofs.Common.{◌≡◌, ℕ, ◌+◌, ◌<◌, ◌≤◌, List, [], ◌∷◌, ◌++◌, length, drop, get_or, map, true, false, Option, Some, None, append-nil, refl, sym, ap, subst, ◌∙◌}
-use Rattle.std.proofs.lemmas.List.{drop_all}
+use Rattle.std.proofs.Common.{◌≡◌, ℕ, ◌+◌, ◌<◌, List, [], ◌∷◌, ◌++◌, length, drop, get_or, map, true, false, Option, Some, None, append-nil, refl, sym, ap, subst, ◌∙◌}
 use Rattle.c_tree.specs.declared.program.Function.{Function}
 use Rattle.c_tree.specs.declared.raw.program.RawInit.TheVariants as init
 use Rattle.c_tree.specs.declared.raw.program.RawItem.TheVariants.{Define}
@@ -20,7 +19,7 @@ use Rattle.c_language.proofs.PhraseLists.{variables-append}
 use Rattle.c_language.proofs.TreeScopes.{list_after}
 use Rattle.c_types_base.specs.Tables.{scope_of, AreRight, IsAt}
 use Rattle.c_types_base.proofs.ScopeLaws.{Extends, then_extends, front}
-use Rattle.c_types_base.specs.Stretches.{Stretch, then_comes, nothing, of_parameter, of_parameters, of_function, of_item, inside_function}
+use Rattle.c_types_base.specs.Stretches.{Stretch, then_comes, of_parameter, of_parameters, of_function, of_item, inside_function}
 use Rattle.c_types_base.proofs.TextSteps.{parameters_here, define_phrases, define_after, begins_at}
 use Rattle.c_types_base.proofs.Stretching.{parameters_grow, statements_grow}
 use Rattle.c_types_program.specs.declared.walk.Walk.{Walk}
@@ -30,7 +29,7 @@ use Rattle.c_types_program.specs.Statements.{Grow, Comes, FitAll, HaveTrees, Pas
 use Rattle.c_types_program.specs.Items.{FitsStretch, PassesStretch, HasBody, HasFunction}
 use Rattle.c_types_program.proofs.Growing.{grow_none, grow_then, fit_both}
 use Rattle.c_types_program.proofs.Passing.{cut, cut_closes}
-use Rattle.c_types_program.proofs.Progress.{Place, Along, sets_out, left_as, next_fits, comes_on, all_gone}
+use Rattle.c_types_program.proofs.Progress.{Place, Along, left_as, next_fits, comes_on}
 use Rattle.c_types_program.proofs.SimpleForms.{declares_fresh, declares_typed, declares_shaped}
 use Rattle.c_types_program.proofs.Standing.{Stands, here, told, given, goes, came}
 
@@ -206,9 +205,6 @@ module _ (w : Walk) (right : AreRight w.tables) (line : ℕ) (head : RawHead) (b
 
 -- ---- the turns of the loop along parameters
 
-pub parameters_begin : (ps : List RawParam) (w : Walk) → AreRight w.tables → FitsStretch (of_parameters ps) w → Along (of_parameters ps) (of_parameters ps) w.tables.raw.now (scope_of w.tables) w w
-parameters_begin ps w right fits = record { now = scope_of w.tables; at = sets_out (of_parameters ps) w right fits }
-
 module _ {whole : Stretch} {raw : RawProgram} {scope : Scope} {old new : Walk} (ps : List RawParam) (i : ℕ) (h : Along whole (of_parameters (drop i ps)) raw scope old new) where
   module _ (p : RawParam) (within : i < length ps) (is : p ≡ get_or ps i p) where
     next_parameter : Place whole (then_comes (of_parameter p) (of_parameters (drop (i + 1) ps))) raw scope h.now old new
@@ -220,11 +216,6 @@ module _ {whole : Stretch} {raw : RawProgram} {scope : Scope} {old new : Walk} (
     pub parameters_turn : (later : Walk) → PassesStretch (of_parameter p) new later → Along whole (of_parameters (drop (i + 1) ps)) raw scope old later
     parameters_turn later passes =
         record { now = (of_parameter p raw).after h.now; at = comes_on (of_parameter p) (of_parameters (drop (i + 1) ps)) next_parameter later passes }
-
-pub parameters_gone : {whole : Stretch} {old new : Walk} (ps : List RawParam) (i : ℕ) → length ps ≤ i
-    → Along whole (of_parameters (drop i ps)) old.tables.raw.now (scope_of old.tables) old new → PassesStretch whole old new
-parameters_gone {old} ps i low h =
-    all_gone (left_as (of_parameters (drop i ps)) nothing (ap (λ qs. of_parameters qs old.tables.raw.now) (drop_all i ps low)) h.at)
 
 -- a function with its own name and numbers of parameters
 pub function_record : (head : RawHead) (line : ℕ) (name : Bytes) (result : Option CType) (params ids : List ℕ) (body : List Statement) → name ≡ head.name → params ≡ ids

@@ -26,7 +26,7 @@ use Rattle.c_language.specs.TokenForms.{Tokens, line_of}
 use Rattle.c_language.specs.DeclaredTypes.{defined_structs}
 use Rattle.c_language.specs.Scopes.{Scoped}
 use Rattle.c_language.specs.Phrases.{Stand, Phrases, scoped_arm, scoped, scoped_of_arm}
-use Rattle.c_language.specs.ProgramOf.{treed}
+use Rattle.c_language.specs.ProgramOf.{treed, treed_arm}
 use Rattle.c_language.specs.Uses.{lengths_in, lengths_step}
 use Rattle.c_language.specs.TypeGrammar.{IsBase, IsStars, IsTypeName, NamesType}
 use Rattle.c_language.specs.StatementGrammar.{arm, IsSeparated, IsSize, IsAmount, IsMalloc, IsHeap, IsSimple, IsDeclared, AreDeclared, IsDeclaration, IsInit, IsStep, IsStatement, AreStatements, IsBody, IsElse, AreArms}
@@ -36,7 +36,6 @@ use Rattle.c_language.proofs.UseLemmas.{lengths-PointerTo}
 use Rattle.c_types_trees.proofs.ScopeLemmas.{AreComplete}
 use Rattle.c_types_trees.specs.KeptPhrases.{HasNoLength, IsPlainName, IsPlainSize, IsPlainAmount}
 use Rattle.c_types_trees.specs.FitPhrases.{IsAllocation}
-use Rattle.c_types_program.specs.Statements.{treed_arm}
 use Rattle.c_types_program.proofs.StatementForms.{treed_part, scoped_part, treed-For, treed-arm, scoped-For, scoped-arm}
 use Rattle.c_types_program.proofs.TreedStatements.{IsTreed, AreTreed, IsTreedIf, IsTreedArm, AreTreedArms, is_treed-Declare, is_treed-Assign, is_treed-Bump, is_treed-Call, is_treed-Heap, is_treed-Return, is_treed-If, is_treed-While, is_treed-Do, is_treed-Block, is_treed-For, is_treed-arm, is_treed-Switch}
 

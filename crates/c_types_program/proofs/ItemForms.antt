@@ -1,6 +1,6 @@
 -- What the walk does at each item of a text, step by step.
-use Rattle.std.proofs.Common.{◌≡◌, ℕ, ◌+◌, ◌<◌, ◌≤◌, List, [], ◌∷◌, ◌++◌, length, drop, get_or, map, Bool, false, Option, Some, None, option_map, Result, Ok, Err, append_assoc, append-nil, refl, sym, ap, subst, ◌∙◌}
-use Rattle.std.specs.Prelude.{vec_len, bytes_eq, OnOk}
+use Rattle.std.proofs.Common.{◌≡◌, ℕ, ◌+◌, ◌<◌, ◌≤◌, List, [], ◌∷◌, ◌++◌, length, drop, get_or, map, Bool, false, Option, Some, None, option_map, append_assoc, append-nil, refl, sym, ap, subst, ◌∙◌}
+use Rattle.std.specs.Prelude.{vec_len, bytes_eq}
 use Rattle.std.proofs.lemmas.List.{map-append, drop_all}
 use Rattle.c_tree.specs.declared.program.Function.{Function}
 use Rattle.c_tree.specs.declared.program.Init.{Init}
@@ -29,16 +29,17 @@ use Rattle.c_types_base.proofs.OptionLemmas.{not_none, there_position}
 use Rattle.c_types_base.specs.Stretches.{then_comes, nothing, of_item, of_items}
 use Rattle.c_types_base.proofs.ListingLaws.{item_outer, item_structs}
 use Rattle.c_types_program.specs.declared.walk.Walk.{Walk}
-use Rattle.c_types_trees.specs.KeptPhrases.{IsGiven, IsKeptInit}
+use Rattle.c_types_trees.specs.KeptPhrases.{IsKeptInit}
 use Rattle.c_types_program.specs.Statements.{Grow, Comes, variable_with}
 use Rattle.c_types_program.specs.Items.{FitsStretch, PassesStretch, HasFunction, HasItem, AddsFunction, HasItems, HasFunctions, AreKeptMembers}
-use Rattle.c_types_trees.proofs.OptionPaths.{given_there, given_some}
+use Rattle.c_types_trees.proofs.OptionPaths.{given_some}
 use Rattle.c_types_program.proofs.Passing.{same_variables}
 use Rattle.c_types_trees.proofs.PhraseTrees.{tag_defined}
-use Rattle.c_types_program.proofs.Progress.{Place, sets_out, left_as, next_fits, comes_on, all_gone}
+use Rattle.c_types_program.proofs.Progress.{Place, left_as, next_fits, comes_on, all_gone}
 use Rattle.c_types_program.proofs.SimpleForms.{declares_fresh, declares_typed, declares_shaped, begun_kept, begun_nothing}
 use Rattle.c_types_program.proofs.Standing.{Stands, here, told, given, goes}
 use Rattle.c_types_program.proofs.Turns.{collected_made}
+use Rattle.c_language.specs.Options.{IsThere}
 
 -- members and parameters of a prototype declare no variables
 members_declare : (raw : RawProgram) (scope : Scope) (before ms : List RawMember) → variables_in raw (member_phrases scope before ms) ≡ []
@@ -60,7 +61,7 @@ module _ (w : Walk) (right : AreRight w.tables) (line : ℕ) where
 
   pub tag_given : (tag : Bytes) → FitsStretch (of_item (Tag line tag)) w → struct_id w.tables.defined.raw.now tag ≡ None → ⊥
   tag_given tag h none =
-      given_some (struct_id raw_of tag) (given_there (struct_id raw_of tag) (tag_defined raw_of begin (NamesStruct tag) h.0.kept tag (contains_first tag [])))
+      given_some (struct_id raw_of tag) ((tag_defined raw_of begin (NamesStruct tag) h.0.kept tag (contains_first tag [])))
       (ap (λ r. struct_id r tag) (sym right.text) ∙ none)
 
   pub tag_has : (tag : Bytes) (id : ℕ) → struct_id w.tables.defined.raw.now tag ≡ Some id → HasItem w (Tag line tag) (item.Tag id)
@@ -121,11 +122,10 @@ module _ (w : Walk) (right : AreRight w.tables) (line : ℕ) where
   -- ---- a prototype
 
   module _ (head : RawHead) where
-    pub prototype_defined : FitsStretch (of_item (Prototype line head)) w → (name : Bytes) → name ≡ head.name → IsGiven (function_id raw_of name)
+    pub prototype_defined : FitsStretch (of_item (Prototype line head)) w → (name : Bytes) → name ≡ head.name → IsThere (function_id raw_of name)
     prototype_defined h name same =
-        subst (λ n. IsGiven (function_id raw_of n)) (sym same)
-        (given_there (function_id raw_of head.name)
-        (there_position (λ (f : RawHead). bytes_eq f.name head.name) (defined_functions raw_of)
+        subst (λ n. IsThere (function_id raw_of n)) (sym same)
+        ((there_position (λ (f : RawHead). bytes_eq f.name head.name) (defined_functions raw_of)
         (not_none (definition_of raw_of head.name) (λ none. h.0.kept 6 (no_definition (LacksDefinition.prototype none))))))
 
     pub prototype_has : (name : Bytes) (ps : List RawParam) (f : ℕ) (names : List (Option Bytes)) → name ≡ head.name → ps ≡ head.params → function_id raw_of name ≡ Some f
@@ -142,11 +142,6 @@ module _ (w : Walk) (right : AreRight w.tables) (line : ℕ) where
     }
 
 -- ---- an item by its form
-
--- what holds anyway holds where a call succeeds
-pub on_ok : {A E : Type 0} {P : Type 0} (r : Result A E) → P → OnOk r P
-on_ok (Ok x) h = h
-on_ok (Err e) h = tt
 
 module _ (w : Walk) (one x : RawItem) (is : one ≡ x) where
   pub item_fits : FitsStretch (of_item one) w → FitsStretch (of_item x) w
@@ -186,15 +181,6 @@ pub record GoingItems (whole rest : List RawItem) (raw : RawProgram) (scope : Sc
   pub at : Place (of_items whole) (of_items rest) raw scope now old new
   pub items_are : map Some out ++ items_from raw rest now ≡ items_from raw whole scope
   pub functions_are : map Some functions ++ functions_from raw rest now ≡ functions_from raw whole scope
-
-pub items_begin : (whole : List RawItem) (w : Walk) (out : List Item) (functions : List Function) → out ≡ [] → functions ≡ [] → AreRight w.tables → FitsStretch (of_items whole) w
-    → GoingItems whole whole w.tables.raw.now (scope_of w.tables) w w out functions
-items_begin whole w out functions none also right fits = record {
-  now = scope_of w.tables;
-  at = sets_out (of_items whole) w right fits;
-  items_are = ap (λ o. map Some o ++ items_from w.tables.raw.now whole (scope_of w.tables)) none;
-  functions_are = ap (λ o. map Some o ++ functions_from w.tables.raw.now whole (scope_of w.tables)) also;
-}
 
 module _ {whole rest : List RawItem} {raw : RawProgram} {scope : Scope} {old new : Walk} {out : List Item} {functions : List Function} (one : RawItem)
     (h : GoingItems whole (one ∷ rest) raw scope old new out functions) where

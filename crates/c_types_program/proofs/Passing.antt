@@ -10,8 +10,8 @@ use Rattle.c_tree.specs.declared.raw.statement.RawStatement.{RawStatement}
 use Rattle.c_tree.specs.declared.raw.statement.RawStatement.TheVariants as s
 use Rattle.c_language.specs.ConstantEvaluation.{both}
 use Rattle.c_language.specs.Scopes.{Scope, Scoped, opened, closed, numbered, in_order, after_all, after_block, after_part, part_gives}
-use Rattle.c_language.specs.Phrases.{Stand, InBlock, Tests, Phrases, phrase, ArmText, joined_at, block_phrases, at_stand, scoped, scoped_of_arm}
-use Rattle.c_language.specs.ProgramOf.{collected, expr_of, ArmTree, arm_tree_step, tree_step, treed, block_tree, part_tree, variables_in}
+use Rattle.c_language.specs.Phrases.{Stand, InBlock, Tests, Phrases, phrase, ArmText, joined_at, block_phrases, at_stand, scoped, scoped_of_arm, IsInside}
+use Rattle.c_language.specs.ProgramOf.{collected, expr_of, ArmTree, arm_tree_step, tree_step, treed, block_tree, part_tree, variables_in, treed_arm}
 use Rattle.c_language.proofs.TreedForms.{treed-If, treed-While, treed-Do, treed-Block}
 use Rattle.c_language.proofs.ScopedForms.{scoped-If, scoped-While, scoped-Do, scoped-Block}
 use Rattle.c_language.proofs.PhraseLists.{variables-append}
@@ -20,8 +20,8 @@ use Rattle.c_types_base.specs.Tables.{scope_of, AreRight, IsAt}
 use Rattle.c_types_base.proofs.ScopeLaws.{Extends, stays, then_extends, front, block_extends, statement_grows}
 use Rattle.c_types_program.specs.declared.walk.Walk.{Walk}
 use Rattle.c_types_trees.specs.KeptPhrases.{IsKept}
-use Rattle.c_types_trees.specs.FitPhrases.{AreFit, IsInside, AreFitInside, IsFitPart}
-use Rattle.c_types_program.specs.Statements.{Grow, Comes, Fits, HasTree, Passes, FitAll, HaveTrees, PassesAll, FitsBlock, HasBlock, PassesBlock, FitsPart, HasPart, PassesPart, treed_arm}
+use Rattle.c_types_trees.specs.FitPhrases.{AreFit, AreFitInside, IsFitPart}
+use Rattle.c_types_program.specs.Statements.{Grow, Comes, Fits, HasTree, Passes, FitAll, HaveTrees, PassesAll, FitsBlock, HasBlock, PassesBlock, FitsPart, HasPart, PassesPart}
 use Rattle.c_types_program.proofs.Growing.{grow_none, grow_then, fit_both}
 use Rattle.c_types_program.proofs.Standing.{Stands, here, told, given, goes, came}
 use Rattle.c_types_program.proofs.StatementForms.{treed-arm, scoped-arm}

@@ -14,8 +14,8 @@ use Rattle.c_tree.specs.declared.raw.statement.RawStatement.TheOpen.{RawStatemen
 use Rattle.c_tree.specs.declared.raw.statement.RawStatement.TheVariants as s
 use Rattle.c_language.specs.ConstantEvaluation.{both}
 use Rattle.c_language.specs.Scopes.{Scope, Scoped, opened, numbered, in_order, after_all, after_block, after_part, part_gives, scope_of_test, scope_of_body}
-use Rattle.c_language.specs.Phrases.{Stand, InFor, InBlock, InArm, Tests, Switches, Phrases, phrase, ArmText, joined_at, block_phrases, at_stand, labels_of, phrases_of_arms, scoped_step, scoped, scoped_of_arm}
-use Rattle.c_language.specs.ProgramOf.{collected, label_tree, arm_tree, expr_of, switch_type, ArmTree, part_tree, for_tree, at_type, treed, variables_in}
+use Rattle.c_language.specs.Phrases.{Stand, InFor, InBlock, InArm, Tests, Switches, Phrases, phrase, ArmText, joined_at, block_phrases, at_stand, labels_of, phrases_of_arms, scoped_step, scoped, scoped_of_arm, IsInside}
+use Rattle.c_language.specs.ProgramOf.{collected, label_tree, arm_tree, expr_of, switch_type, ArmTree, for_tree, at_type, treed, variables_in, treed_arm}
 use Rattle.c_language.proofs.TreedForms.{treed-For, treed-Switch}
 use Rattle.c_language.proofs.ScopedForms.{scoped-Switch}
 use Rattle.c_language.proofs.PhraseLists.{variables-append}
@@ -24,9 +24,9 @@ use Rattle.c_types_base.specs.Tables.{scope_of, AreRight, IsAt}
 use Rattle.c_types_base.proofs.ScopeLaws.{Extends, then_extends, front}
 use Rattle.c_types_program.specs.declared.walk.Walk.{Walk}
 use Rattle.c_types_trees.specs.KeptPhrases.{IsKept, IsKeptSwitch}
-use Rattle.c_types_trees.specs.FitPhrases.{AreFit, IsInside, IsFitPart}
-use Rattle.c_types_program.specs.Statements.{Grow, Comes, Fits, HasTree, Passes, FitAll, HaveTrees, PassesAll, FitsBlock, HasBlock, PassesBlock, FitsPart, HasPart, PassesPart, AreLabels, treed_arm, arm_text, arm_texts, HasArm, PassesArm, HaveArms, PassesArms}
-use Rattle.c_types_program.proofs.Growing.{grow_none, grow_then, fit_both}
+use Rattle.c_types_trees.specs.FitPhrases.{AreFit, IsFitPart}
+use Rattle.c_types_program.specs.Statements.{Grow, Comes, Fits, HasTree, Passes, FitAll, HaveTrees, PassesAll, FitsBlock, HasBlock, PassesBlock, FitsPart, HasPart, PassesPart, AreLabels, arm_text, arm_texts, HasArm, PassesArm, HaveArms, PassesArms}
+use Rattle.c_types_program.proofs.Growing.{grow_then, fit_both}
 use Rattle.c_types_program.proofs.Passing.{part_extends, body_extends, arms_extend, cut, cut_closes, fits_as, tree_as, passes_as, StandsAt, block_given, block_told, block_goes, block_grows, test_given, test_told, part_given, part_told, part_goes, part_grows}
 use Rattle.c_types_program.proofs.Standing.{here, told, given, goes, came}
 use Rattle.c_types_program.proofs.StatementForms.{scoped-For, scoped_part, treed-arm, scoped-arm}
@@ -260,14 +260,3 @@ module _ (w : Walk) (a : RawArm) where
   arm_passes v h =
       subst (λ (x : Scoped ArmTree). Comes w v (x.after here_scope) (variables_in here_raw (arm_text w a).phrases)) (sym (treed-arm here_raw a.labels a.body))
       (subst (λ (x : ArmText). Comes w v (after_all (map (treed here_raw) a.body) here_scope) (variables_in here_raw x.phrases)) (sym text_is) (h InArm tt))
-
--- ---- a part of the head of a for
-
-pub part_has : (w : Walk) (one : RawStatement) (x : Statement) → HasTree w one x → HasPart w (Some one) (Some x)
-part_has w one x h = ap (λ (o : Option Statement). optional_of o) h
-  where
-    optional_of : Option Statement → Option (Option Statement)
-    optional_of o = part_tree (Some (record { gives = λ y. o; after = λ y. y })) (scope_of w.tables)
-
-pub no_part : (w : Walk) → PassesPart w w None
-no_part w = λ stand inside. record { arrives = record { scope_is = refl; text = refl; right = λ h. h }; grow = grow_none w.variables }

@@ -2,6 +2,7 @@
 use Rattle.std.proofs.Common.{◌≡◌, ℕ, ◌≤◌, max, List, [], ◌∷◌, map, false, true, Option, Some, None, option_map, option_and_then, Result, Ok, Err, arith, inl, inr, refl, sym, ap, subst, ◌∙◌}
 use Rattle.std.specs.Prelude.{Contains}
 use Rattle.std.proofs.lemmas.Bool.Decides.{nat_tests}
+use Rattle.std.proofs.lemmas.List.{map-id}
 use Rattle.c_tree.specs.declared.program.Function.{Function}
 use Rattle.c_tree.specs.declared.program.Item.{Item}
 use Rattle.c_tree.specs.declared.program.Member.{Member}
@@ -92,10 +93,6 @@ module _ {A B : Type 0} (f : A → Option B) (size : B → ℕ) (all : List B �
         | inr later ↦ right_most (size p.value) (all p.others) 4294967296 (long_among xs x later long p.others p.later)
       ]))
 
-map_same : {A : Type 0} (xs : List A) → map (λ (x : A). x) xs ≡ xs
-map_same [] = refl
-map_same (x ∷ xs) = ap (λ ys. x ∷ ys) (map_same xs)
-
 module _ (raw : RawProgram) where
   long_members : (ms : List RawMember) → HasLongMember raw ms → (out : List Member) → collected (map (member_tree raw) ms) ≡ Some out → 4294967296 ≤ longest_member out
   long_members ms h out is = long_among (member_tree raw) (λ (m : Member). longest m.shape) longest_member (λ y ys. refl) ms h.0 h.1 h.2 out is
@@ -112,7 +109,7 @@ module _ (raw : RawProgram) where
   long_variables : HasLong (variables_in raw (phrases raw)) → (out : List Var) → variables_of raw ≡ Some out → 4294967296 ≤ longest_in_variables out
   long_variables h out is =
       let found = variables_in raw (phrases raw) in
-      long_among (λ (o : Option Var). o) (λ (v : Var). longest v.shape) longest_in_variables (λ y ys. refl) found h.0 h.1 h.2 out (ap collected (map_same found) ∙ is)
+      long_among (λ (o : Option Var). o) (λ (v : Var). longest v.shape) longest_in_variables (λ y ys. refl) found h.0 h.1 h.2 out (ap collected (map-id found) ∙ is)
 
   -- ---- the program
 

@@ -22,17 +22,18 @@ use Rattle.c_language.specs.Scopes.{Scope, outset, with_variable, with_named, wi
 use Rattle.c_language.specs.Phrases.{InFile, InHead, InBlock, Part, NamesStruct, DefinesStruct, HasMember, DeclaresFunction, Takes, EndsFunction, Declares, Begins, Assigns, Bumps, Calls, Allocates, Tests, Switches, Returns, Phrases, phrase, joined_at, scoped, body_phrases, member_phrases, parameter_phrases, head_phrases, item_phrases, items_phrases, after_item, phrases, scope_at_end}
 use Rattle.c_language.specs.NameRules.{LacksDefinition}
 use Rattle.c_language.specs.ProgramOf.{collected, ctype, ctype_with, ctype_if, init_of, treed, body_of, declared_by, variables_in, variables_of, member_tree, struct_tree, structs_of, function_tree, functions_from, functions_of, item_tree, items_from, items_of, program_with, program_of}
-use Rattle.c_language.specs.Rules.{no_definition, KeepsRules}
+use Rattle.c_language.specs.Rules.{no_definition, KeepsRules, AreKept}
 use Rattle.c_language.specs.Programs.{IsTree, HasProgram}
-use Rattle.c_language.proofs.Options.{IsThere, value_there, there_map}
+use Rattle.c_language.proofs.Options.{value_there, there_map}
 use Rattle.c_language.proofs.Lists.{contains_first}
 use Rattle.c_types_base.proofs.OptionLemmas.{not_none, there_then, there_both, AreThere, there_collected, there_append, there_position}
 use Rattle.c_types_trees.proofs.ScopeLemmas.{IsTyped, typed_variable, typed_function, AreMade, AreComplete}
-use Rattle.c_types_trees.specs.KeptPhrases.{HasNoLengthIf}
-use Rattle.c_types_trees.proofs.PhraseTrees.{KeepsAt, AreKept, kept_both, tag_defined, result_made, variable_made, member_made}
+use Rattle.c_types_trees.specs.KeptPhrases.{HasNoLengthIf, IsKept}
+use Rattle.c_types_trees.proofs.PhraseTrees.{kept_both, tag_defined, result_made, variable_made, member_made}
 use Rattle.c_types_program.proofs.TreedStatements.{init_there, list_there}
 use Rattle.c_types_program.proofs.RuleLaws.{phrases_kept}
 use Rattle.c_types_program.proofs.GrammarTrees.{HaveTrees, name_plain, statements_trees}
+use Rattle.c_language.specs.Options.{IsThere}
 
 -- ---- struct types
 
@@ -72,7 +73,7 @@ defined_there raw (d ∷ ds) h =
 
 -- ---- variables
 
-variable_there : (raw : RawProgram) (line : ℕ) (scope : Scope) (part : Part) → KeepsAt raw scope part → AreThere (declared_by raw line scope part)
+variable_there : (raw : RawProgram) (line : ℕ) (scope : Scope) (part : Part) → IsKept raw scope part → AreThere (declared_by raw line scope part)
 variable_there raw line scope (NamesStruct tag) keeps = tt
 variable_there raw line scope (DefinesStruct tag) keeps = tt
 variable_there raw line scope (HasMember before m) keeps = tt

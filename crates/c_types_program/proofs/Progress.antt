@@ -1,18 +1,18 @@
 -- How far the walk has come along a stretch of the text: what is left of it fits, and what is passed has been made.
-use Rattle.std.proofs.Common.{◌≡◌, [], refl, subst}
+use Rattle.std.proofs.Common.{◌≡◌, subst}
 use Rattle.c_tree.specs.declared.raw.program.RawProgram.{RawProgram}
 use Rattle.c_language.specs.Phrases.{Phrases}
 use Rattle.c_language.specs.ProgramOf.{variables_in}
 use Rattle.c_language.specs.Scopes.{Scope, Scoped}
 use Rattle.c_language.proofs.PhraseLists.{variables-append}
-use Rattle.c_types_base.specs.Tables.{scope_of, AreRight}
+use Rattle.c_types_base.specs.Tables.{scope_of}
 use Rattle.c_types_base.specs.Stretches.{Stretch, then_comes, nothing}
 use Rattle.c_types_program.specs.declared.walk.Walk.{Walk}
 use Rattle.c_types_trees.specs.FitPhrases.{AreFit}
 use Rattle.c_types_program.specs.Statements.{Grow}
 use Rattle.c_types_program.specs.Items.{FitsStretch, PassesStretch}
-use Rattle.c_types_program.proofs.Growing.{grow_none, fit_both}
-use Rattle.c_types_program.proofs.Standing.{Stands, here, told, given, goes, came}
+use Rattle.c_types_program.proofs.Growing.{fit_both}
+use Rattle.c_types_program.proofs.Standing.{Stands, told, given, goes, came}
 use Rattle.c_types_program.proofs.Turns.{Gaining, gain, gained}
 
 -- the walk has come from one scope to another: what is left fits, and what is made and what is left are all of the whole
@@ -21,15 +21,6 @@ pub record Place (whole rest : Stretch) (raw : RawProgram) (scope now : Scope) (
   pub fit : AreFit raw ((rest raw).gives now)
   pub after : (rest raw).after now ≡ (whole raw).after scope
   pub gains : Gaining old new (variables_in raw ((rest raw).gives now)) (variables_in raw ((whole raw).gives scope))
-
--- at the beginning all is left
-pub sets_out : (whole : Stretch) (w : Walk) → AreRight w.tables → FitsStretch whole w → Place whole whole w.tables.raw.now (scope_of w.tables) (scope_of w.tables) w w
-sets_out whole w right fit = record {
-  stands = here w.tables right;
-  fit = fit;
-  after = refl;
-  gains = record { more = []; grow = grow_none w.variables; all = refl };
-}
 
 module _ {whole : Stretch} {raw : RawProgram} {scope now : Scope} {old new : Walk} where
   -- what is left, put another way

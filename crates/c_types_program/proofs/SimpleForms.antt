@@ -20,13 +20,13 @@ use Rattle.c_tree.specs.declared.raw.statement.RawTypeName.{RawTypeName}
 use Rattle.c_tree.specs.declared.raw.statement.RawAmount.{RawAmount}
 use Rattle.c_tree.specs.declared.raw.statement.RawStatement.TheVariants as s
 use Rattle.c_language.specs.Words.{Bytes}
-use Rattle.c_language.specs.CallRules.{target_type}
+use Rattle.c_language.specs.CallRules.{target_type, IsStored}
 use Rattle.c_language.specs.ConstantEvaluation.{both}
 use Rattle.c_language.specs.DeclaredTypes.{type_with, item_count}
 use Rattle.c_language.specs.ExprTypes.{operand}
 use Rattle.c_language.specs.NameRules.{Shadows}
 use Rattle.c_language.specs.Scopes.{Scope, Meaning, meaning_in, with_variable, with_target, begun, numbered}
-use Rattle.c_language.specs.Phrases.{Stand, InFile, InHead, InBlock, InArm, InFor, Part, Declares, Assigns, Bumps, Calls, Allocates, Returns, phrase, declaration, begun_phrases, target_phrases}
+use Rattle.c_language.specs.Phrases.{Stand, InFile, InHead, InBlock, InArm, InFor, Part, Declares, Assigns, Bumps, Calls, Allocates, Returns, phrase, declaration, begun_phrases, target_phrases, IsInside}
 use Rattle.c_language.specs.ProgramOf.{ctype_with, expr_of, init_of, declaration_id, call_tree, heap_tree, target_tree, optional, variable_of, variables_in}
 use Rattle.c_language.specs.Rules.{shadowing}
 use Rattle.c_language.specs.Uses.{expressions, target_exprs, arg_exprs, counts}
@@ -34,7 +34,6 @@ use Rattle.c_language.specs.declared.expr_type.Operand.{Operand}
 use Rattle.c_language.proofs.TreedForms.{treed-Declare, treed-Assign, treed-Bump, treed-Call, treed-Heap, treed-Return}
 use Rattle.c_language.proofs.ScopeNumbers.{target_statements}
 use Rattle.c_language.proofs.ScopedForms.{scoped-Declare, scoped-Assign, scoped-Bump, scoped-Call, scoped-Heap, scoped-Return}
-use Rattle.c_language.proofs.Options.{IsThere}
 use Rattle.c_language.proofs.Lists.{contains_first}
 use Rattle.c_language.proofs.PhraseLists.{variables-append}
 use Rattle.c_types_base.specs.declared.tables.Tables.{Tables}
@@ -42,15 +41,16 @@ use Rattle.c_types_base.specs.Judging.{judged}
 use Rattle.c_types_base.specs.Tables.{scope_of, AreRight, IsAt}
 use Rattle.c_types_base.proofs.JudgingLaws.{Told, judged_truly}
 use Rattle.c_types_program.specs.declared.walk.Walk.{Walk}
-use Rattle.c_types_trees.specs.KeptPhrases.{IsKept, IsJudged, IsGiven, IsKeptInit, IsMeantTarget, IsKeptCall, IsKeptAllocation}
-use Rattle.c_types_trees.specs.FitPhrases.{AreFit, IsInside, AreFitTarget, IsStored}
+use Rattle.c_types_trees.specs.KeptPhrases.{IsKept, IsJudged, IsKeptInit, IsMeantTarget, IsKeptCall, IsKeptAllocation}
+use Rattle.c_types_trees.specs.FitPhrases.{AreFit, AreFitTarget}
 use Rattle.c_types_program.specs.Statements.{variable_with, Grow, Comes, Fits, HasTree, Passes}
-use Rattle.c_types_program.proofs.Growing.{grow_none, grow_then, fit_both}
+use Rattle.c_types_program.proofs.Growing.{grow_then, fit_both}
 use Rattle.c_types_trees.proofs.KeptLemmas.{kept_operand}
-use Rattle.c_types_trees.proofs.OptionPaths.{given_there}
+use Rattle.c_types_trees.proofs.OptionPaths.{given_some}
 use Rattle.c_types_program.proofs.Passing.{fits_as, tree_as, passes_as, same_variables}
 use Rattle.c_types_trees.proofs.PhraseTrees.{variable_made}
 use Rattle.c_types_program.proofs.Standing.{Stands, here, told, given, goes, came}
+use Rattle.c_language.specs.Options.{IsThere}
 
 -- ---- declarations
 
@@ -58,19 +58,16 @@ is_none_of : {A : Type 0} (o : Option A) → (o ≢ None → ⊥) → o ≡ None
 is_none_of None h = refl
 is_none_of (Some x) h = absurd (h (λ e. subst IsThere e tt))
 
-there_some : {A : Type 0} (o : Option A) → IsThere o → o ≡ None → ⊥
-there_some o h e = subst IsThere e h
-
 module _ (raw : RawProgram) (scope : Scope) (stand : Stand) (var : RawVar) (i : RawInit) (kept : IsKept raw scope (Declares stand var i)) where
   -- a variable's name isn't in scope before, and its type is one
   pub declares_fresh : meaning_in scope var.name ≡ None
   declares_fresh = is_none_of (meaning_in scope var.name) (λ h. kept 3 (shadowing (Shadows.variable h)))
 
   pub declares_typed : type_with raw (item_count i) var.shape ≡ None → ⊥
-  declares_typed = there_some (type_with raw (item_count i) var.shape) (variable_made raw scope stand var i kept).typed
+  declares_typed = given_some (type_with raw (item_count i) var.shape) (variable_made raw scope stand var i kept).typed
 
   pub declares_shaped : ctype_with raw (item_count i) var.shape ≡ None → ⊥
-  declares_shaped = there_some (ctype_with raw (item_count i) var.shape) (variable_made raw scope stand var i kept).tree
+  declares_shaped = given_some (ctype_with raw (item_count i) var.shape) (variable_made raw scope stand var i kept).tree
 
 -- the variable of a declaration inside a function
 pub local_variable : (raw : RawProgram) (l : ℕ) (owner : Option ℕ) (stand : Stand) (var : RawVar) (i : RawInit) → IsInside stand
@@ -199,22 +196,22 @@ target_meant t right target.None part kept within = tt
 target_meant t right (target.Place a) part kept within = kept_operand t right part kept a (within a (contains_first a []))
 target_meant t right (target.Declared var) part kept within = tt
 
-operand_there : (raw : RawProgram) (scope : Scope) (a : RawExpr) (r : Result Operand ℕ) → Told raw scope a r → IsJudged r → IsGiven (operand raw scope a)
-operand_there raw scope a (Ok x) truly h = subst IsGiven (sym truly.0) tt
+operand_there : (raw : RawProgram) (scope : Scope) (a : RawExpr) (r : Result Operand ℕ) → Told raw scope a r → IsJudged r → IsThere (operand raw scope a)
+operand_there raw scope a (Ok x) truly h = subst IsThere (sym truly.0) tt
 operand_there raw scope a (Err n) truly h = absurd h
 
-shape_given : (o : Option Operand) → IsGiven o → IsGiven (option_map (λ (x : Operand). x.shape) o)
+shape_given : (o : Option Operand) → IsThere o → IsThere (option_map (λ (x : Operand). x.shape) o)
 shape_given None h = h
 shape_given (Some x) h = tt
 
 -- what a stored result has is a type
 stored_typed : (t : Tables) → AreRight t → (line : ℕ) (stand : Stand) (to : RawTarget) → IsStored to → AreFit t.raw.now (target_phrases t.raw.now line (scope_of t) stand to)
-    → IsMeantTarget t.raw.now (scope_of t) to → IsGiven (target_type t.raw.now (with_target t.raw.now to (scope_of t)) to)
+    → IsMeantTarget t.raw.now (scope_of t) to → IsThere (target_type t.raw.now (with_target t.raw.now to (scope_of t)) to)
 stored_typed t right line stand target.None stored fit meant = stored
 stored_typed t right line stand (target.Place a) stored fit meant =
     shape_given (operand t.raw.now (scope_of t) a) (operand_there t.raw.now (scope_of t) a (judged t.raw.now (scope_of t) a) (judged_truly t.raw.now (scope_of t) a) meant)
 stored_typed t right line stand (target.Declared var) stored fit meant =
-    given_there (type_with t.raw.now 0 var.shape) (variable_made t.raw.now (scope_of t) stand var init.None fit.0.kept).typed
+    (variable_made t.raw.now (scope_of t) stand var init.None fit.0.kept).typed
 
 module _ (w : Walk) (right : AreRight w.tables) (l : ℕ) (to : RawTarget) where
   abbrev raw_at : RawProgram
@@ -331,18 +328,3 @@ module _ (w : Walk) (right : AreRight w.tables) (l : ℕ) (to : RawTarget) (var 
 
   pub target_shaped : ctype_with w.tables.raw.now 0 var.shape ≡ None → ⊥
   target_shaped = declares_shaped w.tables.raw.now (scope_of w.tables) fits.stand var init.None target_declares
-
-pub target_comes : (w : Walk) (l : ℕ) (to : RawTarget) (var : RawVar) → to ≡ target.Declared var → (v : Walk)
-    → Comes w v (with_variable w.tables.raw.now var init.None (scope_of w.tables)) (variable_with w.tables.raw.now l w.tables.owner false false var.name var.shape 0 ∷ [])
-    → (stand : Stand) → IsInside stand
-    → Comes w v (with_target w.tables.raw.now to (scope_of w.tables)) (variables_in w.tables.raw.now (target_phrases w.tables.raw.now l (scope_of w.tables) stand to))
-target_comes w l to var is v d stand inside =
-    subst (λ x. Comes w v (with_target w.tables.raw.now x (scope_of w.tables)) (variables_in w.tables.raw.now (target_phrases w.tables.raw.now l (scope_of w.tables) stand x))) (sym is)
-    (subst (λ o. Comes w v (with_variable w.tables.raw.now var init.None (scope_of w.tables)) (o ∷ [])) (local_variable w.tables.raw.now l w.tables.owner stand var init.None inside) d)
-
--- a target that declares nothing
-pub target_stays : (w : Walk) (l : ℕ) (to : RawTarget) → ((a : RawVar) → to ≡ target.Declared a → ⊥) → (stand : Stand)
-    → Comes w w (with_target w.tables.raw.now to (scope_of w.tables)) (variables_in w.tables.raw.now (target_phrases w.tables.raw.now l (scope_of w.tables) stand to))
-target_stays w l target.None other stand = record { arrives = record { scope_is = refl; text = refl; right = λ h. h }; grow = grow_none w.variables }
-target_stays w l (target.Place a) other stand = record { arrives = record { scope_is = refl; text = refl; right = λ h. h }; grow = grow_none w.variables }
-target_stays w l (target.Declared var) other stand = absurd (other var refl)

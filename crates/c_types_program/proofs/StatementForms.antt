@@ -10,8 +10,7 @@ use Rattle.c_tree.specs.declared.raw.statement.RawStatement.TheVariants as s
 use Rattle.c_language.specs.Scopes.{Scoped}
 use Rattle.c_language.specs.StatementGrammar.{arm}
 use Rattle.c_language.specs.Phrases.{Stand, Phrases, ArmText, scoped_step, scoped_arm, scoped, scoped_of_arm}
-use Rattle.c_language.specs.ProgramOf.{ArmTree, arm_tree_step, treed_step, treed}
-use Rattle.c_types_program.specs.Statements.{treed_arm}
+use Rattle.c_language.specs.ProgramOf.{ArmTree, arm_tree_step, treed_step, treed, treed_arm}
 use Rattle.c_types_program.proofs.StatementFolds.{fold-For, fold-arm, folded_part}
 
 module _ (raw : RawProgram) where

@@ -1,12 +1,11 @@
 -- Struct types: what is listed of their members, and what is made of them.
-use Rattle.std.proofs.Common.{◌≡◌, ℕ, zero, suc, ◌+◌, ◌<◌, ◌≤◌, List, [], ◌∷◌, ◌++◌, length, take, drop, get_or, map, Bool, true, false, Some, None, option_map, Result, Ok, Err, bytes_eq, append_assoc, append-nil, arith, refl, sym, ap, subst, ◌∙◌}
+use Rattle.std.proofs.Common.{◌≡◌, ℕ, zero, suc, ◌+◌, ◌<◌, ◌≤◌, List, [], ◌∷◌, ◌++◌, length, take, drop, get_or, map, Bool, true, false, Some, None, Result, Ok, Err, bytes_eq, append_assoc, append-nil, arith, refl, sym, ap, subst, ◌∙◌}
 use Rattle.std.specs.Prelude.{Contains, IsSome, ◌||◌}
 use Rattle.std.specs.List.{list_any}
 use Rattle.std.specs.Result.{IsErrAnd}
 use Rattle.std.proofs.lemmas.List.{map-append, drop_all}
 use Rattle.std.proofs.lemmas.Slice.Eq.{bytes_eq-Decides as bytes_decides}
 use Rattle.std.proofs.lemmas.List.Elements.{Contains-append_left, Contains-append_right}
-use Rattle.c_tree.specs.declared.program.Member.{Member}
 use Rattle.c_tree.specs.declared.program.StructDef.{StructDef}
 use Rattle.c_tree.specs.declared.raw.program.RawItem.{RawItem}
 use Rattle.c_tree.specs.declared.raw.program.RawItem.TheVariants.{Struct}
@@ -85,17 +84,6 @@ module _ (raw : RawProgram) (ms : List RawMember) (h : AreKeptMembers raw ms) (i
   members_stop Length long = (m, contains_turn ms i m within is, long)
   members_stop NoMemory long = tt
 
--- ---- a struct type
-
-pub struct_made : (raw : RawProgram) (tag : Bytes) (ms : List RawMember) (name : Bytes) (out : List Member) → name ≡ tag
-    → collected (map (member_tree raw) ms) ≡ Some out → MakesStruct raw (record { tag = tag; members = ms }) (Ok (record { name = name; members = out }))
-struct_made raw tag ms name out same is =
-    ap (option_map (λ (xs : List Member). record { name = tag; members = xs })) is ∙ ap (λ (n : Bytes). Some (record { name = n; members = out })) (sym same)
-
-pub struct_stops : (raw : RawProgram) (tag : Bytes) (ms : List RawMember) (e : MakeFault) → MakesMembers raw ms (Err e) → MakesStruct raw (record { tag = tag; members = ms }) (Err e)
-struct_stops raw tag ms Length h = h
-struct_stops raw tag ms NoMemory h = tt
-
 -- ---- an item
 
 module _ (raw : RawProgram) (one : RawItem) (line : ℕ) (tag : Bytes) (ms : List RawMember) (is : one ≡ Struct line tag ms) where
@@ -112,12 +100,6 @@ module _ (raw : RawProgram) (one : RawItem) (line : ℕ) (tag : Bytes) (ms : Lis
   stops_struct old new Length h =
       subst (λ (y : RawItem). HasLongStruct raw (y ∷ [])) (sym is) (record { tag = tag; members = ms }, contains_first (record { tag = tag; members = ms }) [], h)
   stops_struct old new NoMemory h = tt
-
--- an item that defines no struct type
-pub adds_nothing : (raw : RawProgram) (one x : RawItem) (old : List StructDef) → one ≡ x → structs_of (x ∷ []) ≡ [] → AddsStruct raw one old old (Ok tt)
-adds_nothing raw one x old is none =
-    subst (λ (y : RawItem). map Some old ≡ map Some old ++ map (struct_tree raw) (structs_of (y ∷ []))) (sym is)
-    (sym (ap (λ ds. map Some old ++ map (struct_tree raw) ds) none ∙ append-nil (map Some old)))
 
 -- ---- all items
 

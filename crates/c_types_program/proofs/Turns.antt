@@ -10,18 +10,18 @@ use Rattle.c_tree.specs.declared.raw.program.RawProgram.{RawProgram}
 use Rattle.c_tree.specs.declared.raw.statement.RawArm.{RawArm}
 use Rattle.c_tree.specs.declared.raw.statement.RawStatement.{RawStatement}
 use Rattle.c_language.specs.Scopes.{Scope, in_order, after_all}
-use Rattle.c_language.specs.Phrases.{Stand, InBlock, joined_at, labels_of, phrases_of_arms, scoped, scoped_of_arm}
-use Rattle.c_language.specs.ProgramOf.{collected, treed, ArmTree, variables_in}
+use Rattle.c_language.specs.Phrases.{Stand, InBlock, joined_at, labels_of, phrases_of_arms, scoped, scoped_of_arm, IsInside}
+use Rattle.c_language.specs.ProgramOf.{collected, treed, ArmTree, variables_in, treed_arm}
 use Rattle.c_language.proofs.Turns.{drop_turn}
 use Rattle.c_language.proofs.PhraseLists.{variables-append}
 use Rattle.c_language.proofs.TreeScopes.{after_same}
-use Rattle.c_types_base.specs.Tables.{scope_of, AreRight}
+use Rattle.c_types_base.specs.Tables.{scope_of}
 use Rattle.c_types_program.specs.declared.walk.Walk.{Walk}
-use Rattle.c_types_trees.specs.FitPhrases.{AreFit, IsInside, AreFitInside, IsFitInside}
-use Rattle.c_types_program.specs.Statements.{Grow, Fits, HasTree, Passes, FitAll, HaveTrees, PassesAll, AreLabels, treed_arm, HasArm, PassesArm, HaveArms, PassesArms}
-use Rattle.c_types_program.proofs.Growing.{grow_none, grow_then, fit_both}
+use Rattle.c_types_trees.specs.FitPhrases.{AreFit, AreFitInside, IsFitInside}
+use Rattle.c_types_program.specs.Statements.{Grow, Fits, HasTree, Passes, HaveTrees, AreLabels, HasArm, PassesArm, HaveArms}
+use Rattle.c_types_program.proofs.Growing.{grow_then, fit_both}
 use Rattle.c_types_program.proofs.Passing.{same_arm}
-use Rattle.c_types_program.proofs.Standing.{Stands, here, told, given, goes, came}
+use Rattle.c_types_program.proofs.Standing.{Stands, told, given, goes}
 
 pub collected_made : {A : Type 0} (xs : List A) → collected (map Some xs) ≡ Some xs
 collected_made [] = refl
@@ -53,16 +53,6 @@ pub record Going (raw : RawProgram) (scope : Scope) (old new : Walk) (out : List
   pub after : after_all (map (treed raw) rest) now ≡ after_all (map (treed raw) whole) scope
   pub gains : (stand : Stand) → IsInside stand
       → Gaining old new (variables_in raw (joined_at stand (in_order (map (scoped raw) rest) now))) (variables_in raw (joined_at stand (in_order (map (scoped raw) whole) scope)))
-
-pub begins : (w : Walk) (body : List RawStatement) → AreRight w.tables → FitAll w body → Going w.tables.raw.now (scope_of w.tables) w w [] body body
-begins w body right fit = record {
-  now = scope_of w.tables;
-  stands = here w.tables right;
-  fit = fit;
-  trees = refl;
-  after = refl;
-  gains = λ stand inside. record { more = []; grow = grow_none w.variables; all = refl };
-}
 
 module _ {raw : RawProgram} {scope : Scope} {old new : Walk} {out : List Statement} {one : RawStatement} {rest whole : List RawStatement}
     (h : Going raw scope old new out (one ∷ rest) whole) where
@@ -102,9 +92,6 @@ module _ {raw : RawProgram} {scope : Scope} {old new : Walk} {out : List Stateme
 pub all_made : {w v : Walk} {out : List Statement} {whole : List RawStatement} → Going w.tables.raw.now (scope_of w.tables) w v out [] whole → HaveTrees w whole out
 all_made {out} h = ap collected (sym h.trees ∙ append-nil (map Some out)) ∙ collected_made out
 
-pub all_passed : {w v : Walk} {out : List Statement} {whole : List RawStatement} → Going w.tables.raw.now (scope_of w.tables) w v out [] whole → PassesAll w v whole
-all_passed h = λ stand inside. record { arrives = came h.stands h.after; grow = gained (h.gains stand inside) }
-
 -- ---- arms
 
 pub record GoingArms (raw : RawProgram) (scope : Scope) (t : IntType) (old new : Walk) (out : List Arm) (rest whole : List RawArm) : Type 0 where
@@ -115,20 +102,6 @@ pub record GoingArms (raw : RawProgram) (scope : Scope) (t : IntType) (old new :
   pub trees : map Some out ++ map (λ (a : ArmTree). a t) (in_order (map (treed_arm raw) rest) now) ≡ map (λ (a : ArmTree). a t) (in_order (map (treed_arm raw) whole) scope)
   pub after : after_all (map (treed_arm raw) rest) now ≡ after_all (map (treed_arm raw) whole) scope
   pub gains : Gaining old new (variables_in raw (phrases_of_arms (in_order (map (scoped_of_arm raw) rest) now))) (variables_in raw (phrases_of_arms (in_order (map (scoped_of_arm raw) whole) scope)))
-
-pub arms_begin : (w : Walk) (t : IntType) (arms : List RawArm) → AreRight w.tables
-    → AreFit w.tables.raw.now (phrases_of_arms (in_order (map (scoped_of_arm w.tables.raw.now) arms) (scope_of w.tables)))
-    → AreLabels w.tables.raw.now (labels_of (in_order (map (scoped_of_arm w.tables.raw.now) arms) (scope_of w.tables)))
-    → GoingArms w.tables.raw.now (scope_of w.tables) t w w [] arms arms
-arms_begin w t arms right fit labels = record {
-  now = scope_of w.tables;
-  stands = here w.tables right;
-  fit = fit;
-  labels = labels;
-  trees = refl;
-  after = refl;
-  gains = record { more = []; grow = grow_none w.variables; all = refl };
-}
 
 module _ {raw : RawProgram} {scope : Scope} {t : IntType} {old new : Walk} {out : List Arm} {one : RawArm} {rest whole : List RawArm}
     (h : GoingArms raw scope t old new out (one ∷ rest) whole) where
@@ -172,9 +145,6 @@ module _ {raw : RawProgram} {scope : Scope} {t : IntType} {old new : Walk} {out 
 pub arms_made : {w v : Walk} {t : IntType} {out : List Arm} {whole : List RawArm} → GoingArms w.tables.raw.now (scope_of w.tables) t w v out [] whole → HaveArms w t whole out
 arms_made {out} h = ap collected (sym h.trees ∙ append-nil (map Some out)) ∙ collected_made out
 
-pub arms_passed : {w v : Walk} {t : IntType} {out : List Arm} {whole : List RawArm} → GoingArms w.tables.raw.now (scope_of w.tables) t w v out [] whole → PassesArms w v whole
-arms_passed h = record { arrives = came h.stands h.after; grow = gained h.gains }
-
 -- ---- the next turn of a loop, and its end
 
 pub next_turn : {raw : RawProgram} {scope : Scope} {old new : Walk} {out : List Statement} {whole : List RawStatement} (list : List RawStatement) (i : ℕ) (one : RawStatement)
@@ -203,9 +173,6 @@ arm_pushed {raw} {scope} {t} {old} {new} {out} {more} {rest} {whole} h is = subs
 
 -- ---- a list whose elements are made one by one
 
-pub made_begin : {A B : Type 0} (f : A → Option B) (list : List A) (out : List B) → out ≡ [] → map Some out ++ map f list ≡ map f list
-made_begin f list out is = ap (λ o. map Some o ++ map f list) is
-
 pub made_turn : {A B : Type 0} (f : A → Option B) (list : List A) (i : ℕ) (x : A) (y : B) (out more : List B) (whole : List (Option B)) → i < length list → x ≡ get_or list i x
     → f x ≡ Some y → more ≡ out ++ y ∷ [] → map Some out ++ map f (drop i list) ≡ whole → map Some more ++ map f (drop (i + 1) list) ≡ whole
 made_turn f list i x y out more whole low is tree pushes h =
@@ -218,19 +185,3 @@ pub made_end : {A B : Type 0} (f : A → Option B) (list : List A) (i : ℕ) (ou
     → collected (map f list) ≡ Some out
 made_end f list i out low h =
     ap collected (sym h ∙ (ap (λ xs. map Some out ++ map f xs) (drop_all i list low) ∙ append-nil (map Some out))) ∙ collected_made out
-
--- ---- a list that gets what a function gives for each element
-
-pub mapped_begin : {A B : Type 0} (f : A → B) (list : List A) (out : List B) → out ≡ [] → out ++ map f list ≡ map f list
-mapped_begin f list out is = ap (λ o. o ++ map f list) is
-
-pub mapped_turn : {A B : Type 0} (f : A → B) (list : List A) (i : ℕ) (x : A) (y : B) (out more whole : List B) → i < length list → x ≡ get_or list i x
-    → y ≡ f x → more ≡ out ++ y ∷ [] → out ++ map f (drop i list) ≡ whole → more ++ map f (drop (i + 1) list) ≡ whole
-mapped_turn f list i x y out more whole low is gives pushes h =
-    ap (λ o. o ++ map f (drop (i + 1) list)) pushes
-    ∙ (append_assoc out (y ∷ []) (map f (drop (i + 1) list))
-    ∙ (ap (λ z. out ++ (z ∷ map f (drop (i + 1) list))) gives
-    ∙ (ap (λ xs. out ++ map f xs) (sym (drop_turn list i x low is)) ∙ h)))
-
-pub mapped_end : {A B : Type 0} (f : A → B) (list : List A) (i : ℕ) (out : List B) → length list ≤ i → out ++ map f (drop i list) ≡ map f list → out ≡ map f list
-mapped_end f list i out low h = sym (append-nil out) ∙ (ap (λ xs. out ++ map f xs) (sym (drop_all i list low)) ∙ h)

@@ -8,16 +8,16 @@ use Rattle.c_tree.specs.declared.statement.Statement.{Statement}
 use Rattle.c_tree.specs.declared.raw.expr.RawType.{RawType}
 use Rattle.c_tree.specs.declared.raw.program.RawProgram.{RawProgram}
 use Rattle.c_tree.specs.declared.raw.statement.RawLabel.{RawLabel}
-use Rattle.c_tree.specs.declared.raw.statement.RawArm.{RawArm, fold-RawArm}
+use Rattle.c_tree.specs.declared.raw.statement.RawArm.{RawArm}
 use Rattle.c_tree.specs.declared.raw.statement.RawStatement.{RawStatement}
 use Rattle.c_language.specs.Words.{Bytes}
 use Rattle.c_language.specs.Limits.{longest}
-use Rattle.c_language.specs.Scopes.{Scope, Scoped, in_order, after_all, after_block, after_part, part_gives}
-use Rattle.c_language.specs.Phrases.{Stand, ArmText, joined_at, block_phrases, at_stand, phrases_of_arms, scoped, scoped_of_arm}
-use Rattle.c_language.specs.ProgramOf.{ctype_with, collected, treed, block_tree, part_tree, at_type, ArmTree, arm_tree_step, treed_step, variables_in}
+use Rattle.c_language.specs.Scopes.{Scope, in_order, after_all, after_block, after_part, part_gives}
+use Rattle.c_language.specs.Phrases.{Stand, ArmText, joined_at, block_phrases, at_stand, phrases_of_arms, scoped, scoped_of_arm, IsInside}
+use Rattle.c_language.specs.ProgramOf.{ctype_with, collected, treed, block_tree, part_tree, at_type, variables_in, treed_arm}
 use Rattle.c_types_base.specs.Tables.{scope_of, IsAt}
 use Rattle.c_types_trees.specs.KeptPhrases.{IsKeptLabel}
-use Rattle.c_types_trees.specs.FitPhrases.{AreFit, IsInside, AreFitInside, IsFitInside, IsFitPart}
+use Rattle.c_types_trees.specs.FitPhrases.{AreFit, AreFitInside, IsFitInside, IsFitPart}
 use Rattle.c_types_program.specs.declared.variables.Variables.{Variables}
 use Rattle.c_types_program.specs.declared.walk.Walk.{Walk}
 
@@ -104,9 +104,6 @@ PassesPart old new part =
 -- for the arms of a switch, and one of them
 abbrev pub AreLabels : RawProgram → List RawLabel → Type 0
 AreLabels raw labels = (one : RawLabel) → Contains labels one → IsKeptLabel raw one
-
-abbrev pub treed_arm : RawProgram → RawArm → Scoped ArmTree
-treed_arm raw = fold-RawArm (Scoped (Option Statement)) (Scoped ArmTree) (treed_step raw) (arm_tree_step raw)
 
 abbrev pub arm_text : Walk → RawArm → ArmText
 arm_text w one = (scoped_of_arm w.tables.raw.now one).gives (scope_of w.tables)

@@ -1,11 +1,11 @@
 //! Declarations and statements that hold no other statements.
 ghost use Rattle.std.specs.Prelude.{◌≡◌, Some, IfOk, OnOk};
 ghost use Rattle.c_tree.specs.declared.raw.statement.RawStatement.TheVariants as s;
-ghost use Rattle.c_language.specs.Phrases.{Stand, target_phrases};
+ghost use Rattle.c_language.specs.Phrases.{IsInside, Stand, target_phrases};
 ghost use Rattle.c_language.specs.ProgramOf as trees;
 ghost use Rattle.c_language.specs.Scopes as scopes;
 ghost use Rattle.c_types_base.specs.Tables.{scope_of, AreRight};
-ghost use Rattle.c_types_trees.specs.FitPhrases.{IsInside, AreFitTarget};
+ghost use Rattle.c_types_trees.specs.FitPhrases.{AreFitTarget};
 ghost use Rattle.c_types_trees.specs.KeptPhrases.{IsMeantTarget};
 ghost use Rattle.c_types_program.specs.Statements.{Comes, Fits, HasTree, Passes};
 

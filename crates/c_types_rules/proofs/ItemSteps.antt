@@ -29,7 +29,7 @@ use Rattle.c_types_checks.specs.Checking.{Decides, kept, when_given}
 use Rattle.c_types_checks.specs.DeclarationChecks.{check_type, check_complete, check_member, check_struct, check_prototype, check_definition, check_end}
 use Rattle.c_types_base.specs.Listing.{has_name, HasMembers, name_before, names_given, IsGiven}
 use Rattle.c_types_base.specs.Stretches.{Stretch, of_function, inside_function, of_item}
-use Rattle.c_types_rules.specs.Walks.{AreKept, Tells, Answers, Walks, on_line}
+use Rattle.c_types_rules.specs.Walks.{Tells, Answers, Walks, on_line}
 use Rattle.c_types_rules.specs.declared.check_fault.CheckFault.{CheckFault}
 use Rattle.c_types_rules.proofs.Checked.{check_answers, walks_phrase}
 use Rattle.c_types_base.proofs.ListingLaws.{gone, named_before, given_push, all_given}
@@ -37,6 +37,7 @@ use Rattle.c_types_base.proofs.TextSteps.{of_inside, inside_grows, inside, begin
 use Rattle.c_types_base.proofs.Stretching.{one_phrase}
 use Rattle.c_types_checks.proofs.DeclaredLaws.{second_kept, test_passed}
 use Rattle.c_types_rules.proofs.WalkSteps.{Outcome, two, first_stops, kept_both, told_before, told_behind, cut}
+use Rattle.c_language.specs.Rules.{AreKept}
 
 -- what holds of a fault holds of any answer that passes it on
 pub passes_fault : {A : Type 0} (P : Result A CheckFault → Type 0) (e : CheckFault) (r : Result A CheckFault) → IsErrAnd r (λ y. y ≡ e) → P (Err e) → P r

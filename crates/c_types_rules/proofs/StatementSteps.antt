@@ -19,11 +19,12 @@ use Rattle.c_types_base.specs.declared.tables.Before.{Before}
 use Rattle.c_types_base.specs.declared.tables.Tables.{Tables}
 use Rattle.c_types_checks.specs.Checking.{Decides, check_test}
 use Rattle.c_types_base.specs.Stretches.{Stretch, then_comes, enclosed, a_statement, standing, of_statement, of_form, of_statements, of_block, of_arms, of_part, labels_in}
-use Rattle.c_types_rules.specs.Walks.{AreKept, Tells, Walks, on_line}
+use Rattle.c_types_rules.specs.Walks.{Tells, Walks, on_line}
 use Rattle.c_types_rules.specs.declared.check_fault.CheckFault.{CheckFault}
 use Rattle.c_types_rules.proofs.Checked.{walks_phrase}
 use Rattle.c_types_base.proofs.Stretching.{arm_is, for_is, for_grows, labels-arms, a_number, one_phrase, of_arm, of_for}
 use Rattle.c_types_rules.proofs.WalkSteps.{Outcome, Passed, begins, turn, stops, ends, restated, two, first_stops, encloses, enclosed_stops}
+use Rattle.c_language.specs.Rules.{AreKept}
 
 labels-append : (xs : List RawArm) (a : RawArm) → labels_in (xs ++ a ∷ []) ≡ labels_in xs ++ a.labels
 labels-append [] a = append-nil a.labels

@@ -6,13 +6,13 @@ use Rattle.c_tree.specs.declared.raw.program.RawProgram.{RawProgram}
 use Rattle.c_language.specs.DeclaredTypes.{definition_of}
 use Rattle.c_language.specs.NameRules.{main_name}
 use Rattle.c_language.specs.Phrases.{Phrase, Phrases, items_phrases, phrases}
-use Rattle.c_language.specs.Rules.{IsBroken, KeepsRules}
+use Rattle.c_language.specs.Rules.{IsBroken, KeepsRules, KeepsAll, AreKept}
 use Rattle.c_language.specs.Scopes.{outset}
 use Rattle.c_language.proofs.Lists.{contains_nil, contains_cons, contains_first, contains_later}
 use Rattle.c_types_base.specs.Tables.{scope_of}
 use Rattle.c_types_base.specs.declared.tables.Tables.{Tables}
 use Rattle.c_types_base.specs.Stretches.{of_items}
-use Rattle.c_types_rules.specs.Walks.{KeepsAll, AreKept, BreaksOn, BreaksFirst, Tells, Walks, NamesBroken, NamesFirst}
+use Rattle.c_types_rules.specs.Walks.{BreaksOn, BreaksFirst, Tells, Walks, NamesBroken, NamesFirst}
 use Rattle.c_types_rules.specs.declared.check_fault.CheckFault.{CheckFault}
 use Rattle.c_types_rules.specs.declared.check_fault.CheckFault.TheVariants.{Rule, NoMemory}
 

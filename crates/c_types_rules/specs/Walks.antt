@@ -2,7 +2,7 @@
 use Rattle.std.specs.Prelude.{◌≡◌, ℕ, [], ◌∷◌, Result, Ok, Err, ◌⊎◌}
 use Rattle.c_tree.specs.declared.raw.program.RawProgram.{RawProgram}
 use Rattle.c_language.specs.Phrases.{Phrase, Phrases, phrases}
-use Rattle.c_language.specs.Rules.{Breaks, IsBroken}
+use Rattle.c_language.specs.Rules.{Breaks, IsBroken, KeepsAll, AreKept}
 use Rattle.c_types_base.specs.Tables.{scope_of, IsAt}
 use Rattle.c_types_base.specs.declared.fault.Fault.{Fault}
 use Rattle.c_types_base.specs.declared.fault.Fault.TheVariants as fault
@@ -10,15 +10,6 @@ use Rattle.c_types_base.specs.declared.tables.Tables.{Tables}
 use Rattle.c_types_base.specs.Stretches.{Stretch}
 use Rattle.c_types_rules.specs.declared.check_fault.CheckFault.{CheckFault}
 use Rattle.c_types_rules.specs.declared.check_fault.CheckFault.TheVariants.{Rule, NoMemory}
-
--- the phrase breaks no rule
-abbrev pub KeepsAll : RawProgram → Phrase → Type 0
-KeepsAll raw p = (n : ℕ) → Breaks raw p.scope p.part n → ⊥
-
--- none of the phrases breaks a rule
-abbrev pub AreKept : RawProgram → Phrases → Type 0
-AreKept raw [] = Unit {0}
-AreKept raw (p ∷ ps) = KeepsAll raw p × AreKept raw ps
 
 -- the phrase stands on the line, and breaks the rule with the number
 abbrev pub BreaksOn : RawProgram → (number line : ℕ) → Phrase → Type 0

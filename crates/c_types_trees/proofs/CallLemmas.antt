@@ -20,15 +20,15 @@ use Rattle.c_language.specs.NameRules.{UsesUndeclared, LacksDefinition}
 use Rattle.c_language.specs.CallRules.{MisusesArguments, format_in, later_args, pieces_in, MisusesFormat, only_arg, MisusesLibrary}
 use Rattle.c_language.specs.ProgramOf.{args_tree, print_tree}
 use Rattle.c_language.specs.Formats.{conversions}
-use Rattle.c_language.proofs.Options.{IsThere, value_there, some_same, none_there}
+use Rattle.c_language.proofs.Options.{value_there, some_same, none_there}
 use Rattle.c_language.proofs.Lists.{contains_nil, contains_cons, contains_first, contains_later}
 use Rattle.c_types_base.specs.declared.tables.Tables.{Tables}
 use Rattle.c_types_base.specs.Tables.{scope_of, AreRight}
 use Rattle.c_types_base.proofs.OptionLemmas.{not_none, there_position}
-use Rattle.c_types_trees.specs.KeptPhrases.{IsKept, IsGiven, IsOperand, AreOperands, IsValue, AreValues, IsKeptCall}
+use Rattle.c_types_trees.specs.KeptPhrases.{IsKept, IsOperand, AreOperands, IsValue, AreValues, IsKeptCall}
 use Rattle.c_types_trees.proofs.CallTrees.{AreExpressions, widths_are, types_are}
 use Rattle.c_types_trees.proofs.KeptLemmas.{kept_operand}
-use Rattle.c_types_trees.proofs.OptionPaths.{given_there}
+use Rattle.c_language.specs.Options.{IsThere}
 
 module _ (raw : RawProgram) (scope : Scope) where
   -- arguments that are expressions, each of which is an operand
@@ -94,9 +94,8 @@ module _ (raw : RawProgram) (scope : Scope) where
 
     -- what is none of the functions of the library is one of the program
     pub function_defined : bytes_eq f (codes "getchar") ≡ false → bytes_eq f (codes "putchar") ≡ false → bytes_eq f (codes "printf") ≡ false
-        → bytes_eq f (codes "free") ≡ false → IsGiven (function_id raw f)
+        → bytes_eq f (codes "free") ≡ false → IsThere (function_id raw f)
     function_defined first second third fourth =
-        given_there (function_id raw f)
         (there_position (λ (g : RawHead). bytes_eq g.name f) (defined_functions raw) (defined_there (none_of _ _ _ _ first second third fourth)))
 
 module _ (t : Tables) (right : AreRight t) (f : Bytes) (args : List RawArg) (call : IsKeptCall t.raw.now (scope_of t) f args) where

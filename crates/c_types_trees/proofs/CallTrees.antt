@@ -22,11 +22,13 @@ use Rattle.c_language.specs.NameRules.{UsesUndeclared, LacksDefinition}
 use Rattle.c_language.specs.CallRules.{HasUnfitArgument, MisusesArguments, format_in, later_args, pieces_in, HasUnfitWidth, MisusesFormat, only_arg, MisusesLibrary}
 use Rattle.c_language.specs.Formats.{Conversion, conversions}
 use Rattle.c_language.specs.ProgramOf.{expr_of, arg_tree, args_tree, only_tree, print_tree, invoke_tree, call_tree}
-use Rattle.c_language.proofs.Options.{IsThere, value_there, there_map}
+use Rattle.c_language.proofs.Options.{value_there, there_map}
 use Rattle.c_language.proofs.Lists.{contains_first, contains_later}
 use Rattle.c_types_base.proofs.OptionLemmas.{not_none, there_then, there_both, AreThere, there_collected, there_position}
 use Rattle.c_types_trees.proofs.ScopeLemmas.{IsTyped, AreComplete}
-use Rattle.c_types_trees.proofs.PhraseTrees.{KeepsAt, phrase_tree}
+use Rattle.c_types_trees.proofs.PhraseTrees.{phrase_tree}
+use Rattle.c_language.specs.Options.{IsThere}
+use Rattle.c_types_trees.specs.KeptPhrases.{IsKept}
 
 -- of two values, the one that a test chooses
 there_if : {A : Type 0} (b : Bool) (x y : Option A) → (b ≡ true → IsThere x) → (b ≡ false → IsThere y) → IsThere (if b then x else y)
@@ -85,13 +87,13 @@ module _ (raw : RawProgram) (scope : Scope) where
   only_there (arg.Literal text ∷ (b ∷ rest)) one trees = one refl
 
 module _ (raw : RawProgram) (complete : AreComplete raw (defined_structs raw)) (scope : Scope) (typed : IsTyped scope) where
-  module _ (stand : Stand) (to : RawTarget) (f : Bytes) (args : List RawArg) (keeps : KeepsAt raw scope (Calls stand to f args)) where
+  module _ (stand : Stand) (to : RawTarget) (f : Bytes) (args : List RawArg) (keeps : IsKept raw scope (Calls stand to f args)) where
     arg_trees : (e : RawExpr) → Contains (arg_exprs args) e → IsThere (expr_of raw scope e)
     arg_trees e c = phrase_tree raw complete scope typed (Calls stand to f args) keeps e (Contains-append_right (target_exprs to) (arg_exprs args) e c)
 
     -- what is said of a function of the library holds of this one, where it has the name
-    keeps_named : (w : Bytes) → bytes_eq f w ≡ true → KeepsAt raw scope (Calls stand to w args)
-    keeps_named w is = subst (λ g. KeepsAt raw scope (Calls stand to g args)) ((bytes_eq-Decides f w).0 is) keeps
+    keeps_named : (w : Bytes) → bytes_eq f w ≡ true → IsKept raw scope (Calls stand to w args)
+    keeps_named w is = subst (λ g. IsKept raw scope (Calls stand to g args)) ((bytes_eq-Decides f w).0 is) keeps
 
     putchar_there : bytes_eq f (codes "putchar") ≡ true → IsThere (only_tree raw scope args)
     putchar_there is = only_there raw scope args (λ e. keeps_named (codes "putchar") is 21 (library (MisusesLibrary.putchar_count e))) arg_trees

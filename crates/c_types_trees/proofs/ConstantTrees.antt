@@ -1,33 +1,22 @@
 -- A constant expression has its tree in every scope.
 use Rattle.std.proofs.Common.{Option, Some, None, sym, subst}
-use Rattle.std.specs.Prelude.{option_map, option_and_then}
+use Rattle.std.specs.Prelude.{option_and_then}
 use Rattle.c_tree.specs.declared.expr.Expr.TheVariants as e
 use Rattle.c_tree.specs.declared.raw.expr.RawExpr.{RawExpr, map-RawExpr, ind-RawExpr, roll-RawExpr, fold-RawExpr, fold-roll-RawExpr}
 use Rattle.c_tree.specs.declared.raw.expr.RawExpr.TheOpen.{RawExpr-F}
 use Rattle.c_tree.specs.declared.raw.program.RawProgram.{RawProgram}
-use Rattle.c_language.specs.ConstantEvaluation.{constant, constant_step, value_of_constant, both, unary_constant, binary_constant, and_constant, or_constant, chosen_constant, cast_constant}
+use Rattle.c_tree.proofs.RawTrees.{expr_layer, ExprParts}
+use Rattle.c_language.specs.ConstantEvaluation.{constant, constant_step, value_of_constant, unary_constant, binary_constant, and_constant, or_constant, chosen_constant, cast_constant}
 use Rattle.c_language.specs.Scopes.{Scope}
 use Rattle.c_language.specs.ProgramOf.{Told, told_step, expr_of}
 use Rattle.c_language.specs.declared.constant.Constant.{Constant}
-use Rattle.c_language.proofs.Options.{IsThere, there_map}
+use Rattle.c_language.proofs.Options.{there_map, there_of_map, there_of_both, there_of_three}
 use Rattle.c_types_base.proofs.OptionLemmas.{there_then, there_both}
-
-map_of : {A B : Type 0} (f : A → B) (o : Option A) → IsThere (option_map f o) → IsThere o
-map_of f None h = h
-map_of f (Some x) h = tt
+use Rattle.c_language.specs.Options.{IsThere}
 
 then_of : {A B : Type 0} (f : A → Option B) (o : Option A) → IsThere (option_and_then f o) → IsThere o
 then_of f None h = h
 then_of f (Some x) h = tt
-
-both_of : {A B C : Type 0} (f : A → B → C) (a : Option A) (b : Option B) → IsThere (both f a b) → IsThere a × IsThere b
-both_of f None b h = absurd h
-both_of f (Some x) b h = (tt, map_of (f x) b h)
-
-three_of : {A B C D : Type 0} (f : A → B → C → D) (c : Option A) (a : Option B) (b : Option C) → IsThere (option_and_then (λ x. both (f x) a b) c)
-    → IsThere c × IsThere a × IsThere b
-three_of f None a b h = absurd h
-three_of f (Some x) a b h = let k = both_of (f x) a b h in (tt, k.0, k.1)
 
 module _ (raw : RawProgram) (scope : Scope) where
   abbrev told_of : RawExpr → Told
@@ -37,10 +26,10 @@ module _ (raw : RawProgram) (scope : Scope) where
   IsSound a = IsThere (constant a) → IsThere (told_of a).tree
 
   abbrev Layer : Type 0
-  Layer = RawExpr-F ((a : RawExpr) × IsSound a)
+  Layer = ExprParts IsSound
 
   abbrev layer_of : Layer → RawExpr-F RawExpr
-  layer_of = map-RawExpr ((a : RawExpr) × IsSound a) RawExpr (λ a. a.0)
+  layer_of = expr_layer IsSound
 
   step : (y : Layer) → IsThere (constant_step (map-RawExpr RawExpr (Option Constant) constant (layer_of y)))
       → IsThere (told_step raw scope (map-RawExpr RawExpr Told told_of (layer_of y))).tree
@@ -48,20 +37,20 @@ module _ (raw : RawProgram) (scope : Scope) where
   step RawExpr-F.Null h = absurd h
   step RawExpr-F.Eof h = tt
   step (RawExpr-F.Variable name) h = absurd h
-  step (RawExpr-F.Unary op a) h = there_map (e.Unary op) (told_of a.0).tree (a.1 (map_of (unary_constant op) (constant a.0) h))
+  step (RawExpr-F.Unary op a) h = there_map (e.Unary op) (told_of a.0).tree (a.1 (there_of_map (unary_constant op) (constant a.0) h))
   step (RawExpr-F.Deref a) h = absurd h
   step (RawExpr-F.AddressOf a) h = absurd h
   step (RawExpr-F.Binary op a b) h =
-      let k = both_of (binary_constant op) (constant a.0) (constant b.0) h in
+      let k = there_of_both (binary_constant op) (constant a.0) (constant b.0) h in
       there_both (e.Binary op) (told_of a.0).tree (told_of b.0).tree (a.1 k.0) (b.1 k.1)
   step (RawExpr-F.AndAlso a b) h =
-      let k = both_of and_constant (constant a.0) (constant b.0) h in there_both e.AndAlso (told_of a.0).tree (told_of b.0).tree (a.1 k.0) (b.1 k.1)
+      let k = there_of_both and_constant (constant a.0) (constant b.0) h in there_both e.AndAlso (told_of a.0).tree (told_of b.0).tree (a.1 k.0) (b.1 k.1)
   step (RawExpr-F.OrElse a b) h =
-      let k = both_of or_constant (constant a.0) (constant b.0) h in there_both e.OrElse (told_of a.0).tree (told_of b.0).tree (a.1 k.0) (b.1 k.1)
+      let k = there_of_both or_constant (constant a.0) (constant b.0) h in there_both e.OrElse (told_of a.0).tree (told_of b.0).tree (a.1 k.0) (b.1 k.1)
   step (RawExpr-F.Choose c a b) h =
-      let k = three_of chosen_constant (constant c.0) (constant a.0) (constant b.0) h in
+      let k = there_of_three chosen_constant (constant c.0) (constant a.0) (constant b.0) h in
       there_then _ (told_of c.0).tree (c.1 k.0) (λ x is. there_both (e.Choose x) (told_of a.0).tree (told_of b.0).tree (a.1 k.1) (b.1 k.2))
-  step (RawExpr-F.Cast t a) h = there_map (e.Cast t) (told_of a.0).tree (a.1 (map_of (cast_constant t) (constant a.0) h))
+  step (RawExpr-F.Cast t a) h = there_map (e.Cast t) (told_of a.0).tree (a.1 (there_of_map (cast_constant t) (constant a.0) h))
   step (RawExpr-F.Index a i) h = absurd h
   step (RawExpr-F.Member a m) h = absurd h
   step (RawExpr-F.Arrow a m) h = absurd h

@@ -1,6 +1,6 @@
 -- An expression in which no rule is broken is an operand, and has its tree.
 use Rattle.std.proofs.Common.{◌≡◌, ℕ, [], ◌∷◌, Bool, true, false, Option, Some, None, refl, sym, ap, subst, ◌∙◌, true≢false}
-use Rattle.std.specs.Prelude.{Contains, not, ◌||◌, ◌&&◌, nat_lt, is_none, option_and_then, slice_get, if◌then◌else◌, bytes_eq}
+use Rattle.std.specs.Prelude.{Contains, not, nat_lt, is_none, option_and_then, slice_get, if◌then◌else◌, bytes_eq}
 use Rattle.std.specs.List.{position}
 use Rattle.c_tree.specs.declared.expr.Expr.TheVariants as e
 use Rattle.c_tree.specs.declared.raw.expr.RawExpr.{RawExpr, map-RawExpr, ind-RawExpr, roll-RawExpr, fold-RawExpr, fold-roll-RawExpr}
@@ -8,34 +8,28 @@ use Rattle.c_tree.specs.declared.raw.expr.RawExpr.TheOpen.{RawExpr-F}
 use Rattle.c_tree.specs.declared.raw.expr.RawExpr.TheViews.{out-roll-RawExpr}
 use Rattle.c_tree.specs.declared.raw.program.RawMember.{RawMember}
 use Rattle.c_tree.specs.declared.raw.program.RawProgram.{RawProgram}
+use Rattle.c_tree.proofs.RawTrees.{expr_layer, ExprParts}
 use Rattle.c_language.specs.Words.{Bytes}
 use Rattle.c_language.specs.DeclaredTypes.{StructText, defined_structs, written_type}
 use Rattle.c_language.specs.Scopes.{Scope, Meaning, meaning_in}
-use Rattle.c_language.specs.ExprTypes.{operand, operand_step, a_value, a_place, variable_in, unary_result, binary_result, logical_result, choose_result, cast_result, pointed, indexed, address_result, given, is_array, value_type, struct_of, selected, member_named, member_of, member_type}
-use Rattle.c_language.specs.ExprRules.{Seen, seen, fails, holds_of, is_function, is_incomplete_struct, lacks_member}
+use Rattle.c_language.specs.ExprTypes.{operand, operand_step, a_place, variable_in, pointed, struct_of, selected, member_named, member_of, member_type}
+use Rattle.c_language.specs.ExprRules.{Seen, seen, holds_of, is_function, is_incomplete_struct, lacks_member}
 use Rattle.c_language.specs.ProgramOf.{Told, told_step, variable_number, index_of_member, member_id, of_operand, of_pointed, expr_of}
 use Rattle.c_language.specs.Uses.{operands_of, IsWithin, whole, deeper}
 use Rattle.c_language.specs.declared.expr_type.ExprType.{ExprType}
 use Rattle.c_language.specs.declared.expr_type.Operand.{Operand}
-use Rattle.c_language.proofs.Options.{IsThere, there_map}
+use Rattle.c_language.proofs.Options.{there_map}
 use Rattle.c_language.proofs.Lists.{contains_first, contains_later}
 use Rattle.c_language.proofs.UseLemmas.{OfParts}
 use Rattle.c_types_base.proofs.PhraseLemmas.{IsClean}
 use Rattle.c_types_base.proofs.OptionLemmas.{there_none, there_then, there_both, there_position}
-use Rattle.c_types_trees.proofs.ScopeLemmas.{IsTyped, HasTypeIf, typed_meaning, IsMadeIf, AreComplete, made_member}
+use Rattle.c_types_trees.proofs.ScopeLemmas.{IsTyped, typed_meaning, IsMadeIf, AreComplete, made_member}
+use Rattle.c_language.proofs.Operands.{not_fails, form_there, HasTypeIf}
+use Rattle.c_language.specs.Options.{IsThere}
 
 -- no part of an expression breaks a rule
 abbrev pub KeepsAll : RawProgram → Scope → RawExpr → Type 0
 KeepsAll raw scope a = (inner : RawExpr) → IsWithin inner a → IsClean raw scope (seen raw scope inner)
-
-not_fails : {A : Type 0} (r : Option A) → fails (Some r) ≡ false → IsThere r
-not_fails None h = true≢false h
-not_fails (Some x) h = tt
-
-has_address : (is_place is_array : Bool) (t : ExprType) → (not is_place || is_array) ≡ false → IsThere (given (is_place && not is_array) t)
-has_address true true t h = true≢false h
-has_address true false t h = tt
-has_address false b t h = true≢false h
 
 -- a variable that is in scope has a type and a number
 variable_there : (m : Option Meaning) → HasTypeIf m → is_none m ≡ false → is_function m ≡ false → IsThere (variable_in m) × IsThere (variable_number m)
@@ -75,43 +69,11 @@ module _ (raw : RawProgram) (scope : Scope) (complete : AreComplete raw (defined
   at_target name (Some t) h before has = in_struct name (struct_of t) h before has
 
   -- a form that breaks no rule is an operand
-  form_there : (s : Seen) → OfParts IsThere s → IsClean raw scope s → IsThere (operand_step raw scope s)
-  form_there (RawExpr-F.Constant text) parts clean = tt
-  form_there RawExpr-F.Null parts clean = tt
-  form_there RawExpr-F.Eof parts clean = tt
-  form_there (RawExpr-F.Variable name) parts clean =
-      (variable_there (meaning_in scope name) (typed_meaning scope name typed) clean.declared clean.operands).0
-  form_there (RawExpr-F.Unary op None) parts clean = absurd parts
-  form_there (RawExpr-F.Unary op (Some x)) parts clean = there_map a_value (unary_result op (value_type x.shape)) (not_fails _ clean.operands)
-  form_there (RawExpr-F.Deref None) parts clean = absurd parts
-  form_there (RawExpr-F.Deref (Some x)) parts clean = there_map a_place (pointed x) (not_fails _ clean.operands)
-  form_there (RawExpr-F.AddressOf None) parts clean = absurd parts
-  form_there (RawExpr-F.AddressOf (Some x)) parts clean = there_map a_value (address_result x) (has_address x.is_place (is_array x.shape) _ clean.address)
-  form_there (RawExpr-F.Binary op None b) parts clean = absurd parts.0
-  form_there (RawExpr-F.Binary op (Some x) None) parts clean = absurd parts.1
-  form_there (RawExpr-F.Binary op (Some x) (Some y)) parts clean = there_map a_value (binary_result op x y) (not_fails _ clean.operands)
-  form_there (RawExpr-F.AndAlso None b) parts clean = absurd parts.0
-  form_there (RawExpr-F.AndAlso (Some x) None) parts clean = absurd parts.1
-  form_there (RawExpr-F.AndAlso (Some x) (Some y)) parts clean = there_map a_value (logical_result x y) (not_fails _ clean.operands)
-  form_there (RawExpr-F.OrElse None b) parts clean = absurd parts.0
-  form_there (RawExpr-F.OrElse (Some x) None) parts clean = absurd parts.1
-  form_there (RawExpr-F.OrElse (Some x) (Some y)) parts clean = there_map a_value (logical_result x y) (not_fails _ clean.operands)
-  form_there (RawExpr-F.Choose None a b) parts clean = absurd parts.0
-  form_there (RawExpr-F.Choose (Some x) None b) parts clean = absurd parts.1
-  form_there (RawExpr-F.Choose (Some x) (Some y) None) parts clean = absurd parts.2
-  form_there (RawExpr-F.Choose (Some x) (Some y) (Some z)) parts clean = there_map a_value (choose_result x y z) (not_fails _ clean.operands)
-  form_there (RawExpr-F.Cast t None) parts clean = absurd parts
-  form_there (RawExpr-F.Cast t (Some x)) parts clean = there_map a_value (cast_result t x) (not_fails _ clean.operands)
-  form_there (RawExpr-F.Index None i) parts clean = absurd parts.0
-  form_there (RawExpr-F.Index (Some x) None) parts clean = absurd parts.1
-  form_there (RawExpr-F.Index (Some x) (Some y)) parts clean = there_map a_place (indexed x y) (not_fails _ clean.operands)
-  form_there (RawExpr-F.Member None m) parts clean = absurd parts
-  form_there (RawExpr-F.Member (Some x) m) parts clean =
-      there_map a_place (selected raw scope m x.shape) (in_struct m (struct_of x.shape) (not_fails _ clean.operands) clean.complete clean.member).0
-  form_there (RawExpr-F.Arrow None m) parts clean = absurd parts
-  form_there (RawExpr-F.Arrow (Some x) m) parts clean =
-      there_map a_place (option_and_then (selected raw scope m) (pointed x)) (at_target m (pointed x) (not_fails _ clean.operands) clean.complete clean.member).0
-  form_there (RawExpr-F.Paren a) parts clean = parts
+  operand_of_form : (s : Seen) → OfParts IsThere s → IsClean raw scope s → IsThere (operand_step raw scope s)
+  operand_of_form s parts clean =
+      form_there raw scope (λ name none other. (variable_there (meaning_in scope name) (typed_meaning scope name typed) none other).0)
+      (λ name k there before has. (in_struct name k there before has).0) s parts
+      (record { declared = clean.declared; operands = clean.operands; address = clean.address; complete = clean.complete; member = clean.member })
 
   -- the member that is selected has a number
   of_operand_there : (m : Bytes) (x : Option Operand) → IsThere x → IsClean raw scope (RawExpr-F.Member x m) → IsThere (of_operand raw m x)
@@ -196,10 +158,10 @@ module _ (raw : RawProgram) (scope : Scope) (complete : AreComplete raw (defined
   IsSound a = ((told_of a).operand ≡ operand raw scope a) × (KeepsAll raw scope a → IsWhole (told_of a))
 
   abbrev Layer : Type 0
-  Layer = RawExpr-F ((a : RawExpr) × IsSound a)
+  Layer = ExprParts IsSound
 
   abbrev layer_of : Layer → RawExpr-F RawExpr
-  layer_of = map-RawExpr ((a : RawExpr) × IsSound a) RawExpr (λ a. a.0)
+  layer_of = expr_layer IsSound
 
   abbrev told_layer : RawExpr-F RawExpr → RawExpr-F Told
   told_layer = map-RawExpr RawExpr Told told_of
@@ -266,7 +228,7 @@ module _ (raw : RawProgram) (scope : Scope) (complete : AreComplete raw (defined
       ∙ (told_form (told_layer (layer_of y)) ∙ (ap (operand_step raw scope) (same_seen y) ∙ sym (operand-roll (layer_of y))))
 
   whole_step : (s : RawExpr-F Told) → OfParts IsWhole s → IsClean raw scope (as_seen s) → IsWhole (told_step raw scope s)
-  whole_step s parts clean = (subst IsThere (sym (told_form s)) (form_there (as_seen s) (parts_seen s parts) clean), tree_there s parts clean)
+  whole_step s parts clean = (subst IsThere (sym (told_form s)) (operand_of_form (as_seen s) (parts_seen s parts) clean), tree_there s parts clean)
 
   whole_layer : (y : Layer) → KeepsAll raw scope (roll-RawExpr (layer_of y)) → IsWhole (told_of (roll-RawExpr (layer_of y)))
   whole_layer y keeps =

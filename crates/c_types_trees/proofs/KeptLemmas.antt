@@ -12,7 +12,7 @@ use Rattle.c_tree.specs.declared.raw.expr.RawExpr.TheOpen.{RawExpr-F}
 use Rattle.c_tree.specs.declared.raw.expr.RawExpr.TheVariants as e
 use Rattle.c_tree.specs.declared.raw.program.RawProgram.{RawProgram}
 use Rattle.c_language.specs.Words.{Bytes}
-use Rattle.c_language.specs.ConstantEvaluation.{constant, both, unary_constant, binary_constant, and_constant, or_constant, chosen_constant, cast_constant}
+use Rattle.c_language.specs.ConstantEvaluation.{constant, unary_constant, binary_constant, and_constant, or_constant, chosen_constant, cast_constant}
 use Rattle.c_language.specs.ExprRules.{Seen, is_function}
 use Rattle.c_language.specs.ExprTypes.{operand, struct_of, pointed, variable_in}
 use Rattle.c_language.specs.Nesting.{nesting}
@@ -34,7 +34,9 @@ use Rattle.c_types_base.proofs.PhraseLemmas.{broken_by}
 use Rattle.c_types_base.proofs.TableLaws.{tables_typed}
 use Rattle.c_types_base.proofs.TreeLemmas.{expr_of-Member, expr_of-Arrow}
 use Rattle.c_types_base.proofs.TypedLaws.{NamesRule, judged_names}
-use Rattle.c_types_trees.specs.KeptPhrases.{IsKept, IsGiven, IsJudged, IsOperand, IsMeant}
+use Rattle.c_types_trees.specs.KeptPhrases.{IsKept, IsJudged, IsOperand, IsMeant}
+use Rattle.c_language.specs.Options.{IsThere}
+use Rattle.c_language.proofs.Options.{there_of_three, there_of_both, there_of_map}
 
 pub judged_value : (r : Result Operand ℕ) → IsJudged r → (x : Operand) × (r ≡ Ok x)
 judged_value (Ok x) h = (x, refl)
@@ -68,21 +70,6 @@ three_judged : (f : Seen → Result Operand ℕ) (form : Option Operand → Opti
 three_judged f form (Ok x) r q h = let k = two_judged f (form (Some x)) r q h in (tt, k.0, k.1)
 three_judged f form (Err n) r q h = absurd h
 
--- ---- constants
-
-map_given : {A B : Type 0} (f : A → B) (o : Option A) → IsGiven (option_map f o) → IsGiven o
-map_given f None h = h
-map_given f (Some x) h = tt
-
-both_given : {A B C : Type 0} (f : A → B → C) (a : Option A) (b : Option B) → IsGiven (both f a b) → IsGiven a × IsGiven b
-both_given f None b h = absurd h
-both_given f (Some x) b h = (tt, map_given (f x) b h)
-
-three_given : {A B C D : Type 0} (f : A → B → C → D) (c : Option A) (a : Option B) (b : Option C) → IsGiven (option_and_then (λ x. both (f x) a b) c)
-    → IsGiven c × IsGiven a × IsGiven b
-three_given f None a b h = absurd h
-three_given f (Some x) a b h = let k = both_given (f x) a b h in (tt, k.0, k.1)
-
 -- ---- operands nest less
 
 low_by : (x y a : RawExpr) → nesting a < nesting x → y ≡ a → nesting y < nesting x
@@ -114,74 +101,74 @@ module _ (raw : RawProgram) (scope : Scope) where
 
   pub of_unary : (op : UnaryOp) (a : RawExpr) → IsMeant raw scope (e.Unary op a) → IsMeant raw scope a
   of_unary op a (inl h) = inl (one_judged judge (RawExpr-F.Unary op) (judged raw scope a) (subst IsJudged (judged-Unary raw scope op a) h))
-  of_unary op a (inr h) = inr (map_given (unary_constant op) (constant a) (subst IsGiven (constant-Unary op a) h))
+  of_unary op a (inr h) = inr (there_of_map (unary_constant op) (constant a) (subst IsThere (constant-Unary op a) h))
 
   pub of_deref : (a : RawExpr) → IsMeant raw scope (e.Deref a) → IsMeant raw scope a
   of_deref a (inl h) = inl (one_judged judge RawExpr-F.Deref (judged raw scope a) (subst IsJudged (judged-Deref raw scope a) h))
-  of_deref a (inr h) = absurd (subst IsGiven (constant-Deref a) h)
+  of_deref a (inr h) = absurd (subst IsThere (constant-Deref a) h)
 
   pub of_address_of : (a : RawExpr) → IsMeant raw scope (e.AddressOf a) → IsMeant raw scope a
   of_address_of a (inl h) = inl (one_judged judge RawExpr-F.AddressOf (judged raw scope a) (subst IsJudged (judged-AddressOf raw scope a) h))
-  of_address_of a (inr h) = absurd (subst IsGiven (constant-AddressOf a) h)
+  of_address_of a (inr h) = absurd (subst IsThere (constant-AddressOf a) h)
 
   pub of_cast : (t : IntType) (a : RawExpr) → IsMeant raw scope (e.Cast t a) → IsMeant raw scope a
   of_cast t a (inl h) = inl (one_judged judge (RawExpr-F.Cast t) (judged raw scope a) (subst IsJudged (judged-Cast raw scope t a) h))
-  of_cast t a (inr h) = inr (map_given (cast_constant t) (constant a) (subst IsGiven (constant-Cast t a) h))
+  of_cast t a (inr h) = inr (there_of_map (cast_constant t) (constant a) (subst IsThere (constant-Cast t a) h))
 
   pub of_paren : (a : RawExpr) → IsMeant raw scope (e.Paren a) → IsMeant raw scope a
   of_paren a (inl h) = inl (one_judged judge RawExpr-F.Paren (judged raw scope a) (subst IsJudged (judged-Paren raw scope a) h))
-  of_paren a (inr h) = inr (subst IsGiven (constant-Paren a) h)
+  of_paren a (inr h) = inr (subst IsThere (constant-Paren a) h)
 
   pub of_binary : (op : BinaryOp) (a b : RawExpr) → IsMeant raw scope (e.Binary op a b) → IsMeant raw scope a × IsMeant raw scope b
   of_binary op a b (inl h) =
       let k = two_judged judge (RawExpr-F.Binary op) (judged raw scope a) (judged raw scope b) (subst IsJudged (judged-Binary raw scope op a b) h) in (inl k.0, inl k.1)
   of_binary op a b (inr h) =
-      let k = both_given (binary_constant op) (constant a) (constant b) (subst IsGiven (constant-Binary op a b) h) in (inr k.0, inr k.1)
+      let k = there_of_both (binary_constant op) (constant a) (constant b) (subst IsThere (constant-Binary op a b) h) in (inr k.0, inr k.1)
 
   pub of_and_also : (a b : RawExpr) → IsMeant raw scope (e.AndAlso a b) → IsMeant raw scope a × IsMeant raw scope b
   of_and_also a b (inl h) =
       let k = two_judged judge RawExpr-F.AndAlso (judged raw scope a) (judged raw scope b) (subst IsJudged (judged-AndAlso raw scope a b) h) in (inl k.0, inl k.1)
   of_and_also a b (inr h) =
-      let k = both_given and_constant (constant a) (constant b) (subst IsGiven (constant-AndAlso a b) h) in (inr k.0, inr k.1)
+      let k = there_of_both and_constant (constant a) (constant b) (subst IsThere (constant-AndAlso a b) h) in (inr k.0, inr k.1)
 
   pub of_or_else : (a b : RawExpr) → IsMeant raw scope (e.OrElse a b) → IsMeant raw scope a × IsMeant raw scope b
   of_or_else a b (inl h) =
       let k = two_judged judge RawExpr-F.OrElse (judged raw scope a) (judged raw scope b) (subst IsJudged (judged-OrElse raw scope a b) h) in (inl k.0, inl k.1)
   of_or_else a b (inr h) =
-      let k = both_given or_constant (constant a) (constant b) (subst IsGiven (constant-OrElse a b) h) in (inr k.0, inr k.1)
+      let k = there_of_both or_constant (constant a) (constant b) (subst IsThere (constant-OrElse a b) h) in (inr k.0, inr k.1)
 
   pub of_index : (a b : RawExpr) → IsMeant raw scope (e.Index a b) → IsMeant raw scope a × IsMeant raw scope b
   of_index a b (inl h) =
       let k = two_judged judge RawExpr-F.Index (judged raw scope a) (judged raw scope b) (subst IsJudged (judged-Index raw scope a b) h) in (inl k.0, inl k.1)
-  of_index a b (inr h) = absurd (subst IsGiven (constant-Index a b) h)
+  of_index a b (inr h) = absurd (subst IsThere (constant-Index a b) h)
 
   pub of_choose : (c a b : RawExpr) → IsMeant raw scope (e.Choose c a b) → IsMeant raw scope c × IsMeant raw scope a × IsMeant raw scope b
   of_choose c a b (inl h) =
       let k = three_judged judge RawExpr-F.Choose (judged raw scope c) (judged raw scope a) (judged raw scope b) (subst IsJudged (judged-Choose raw scope c a b) h) in
       (inl k.0, inl k.1, inl k.2)
   of_choose c a b (inr h) =
-      let k = three_given chosen_constant (constant c) (constant a) (constant b) (subst IsGiven (constant-Choose c a b) h) in (inr k.0, inr k.1, inr k.2)
+      let k = there_of_three chosen_constant (constant c) (constant a) (constant b) (subst IsThere (constant-Choose c a b) h) in (inr k.0, inr k.1, inr k.2)
 
   -- ---- selections
 
   -- what a member is selected from is an operand
   pub of_member : (a : RawExpr) (m : Bytes) → IsMeant raw scope (e.Member a m) → IsOperand raw scope a
   of_member a m (inl h) = one_judged judge (λ x. RawExpr-F.Member x m) (judged raw scope a) (subst IsJudged (judged-Member raw scope a m) h)
-  of_member a m (inr h) = absurd (subst IsGiven (constant-Member a m) h)
+  of_member a m (inr h) = absurd (subst IsThere (constant-Member a m) h)
 
   pub of_arrow : (a : RawExpr) (m : Bytes) → IsMeant raw scope (e.Arrow a m) → IsOperand raw scope a
   of_arrow a m (inl h) = one_judged judge (λ x. RawExpr-F.Arrow x m) (judged raw scope a) (subst IsJudged (judged-Arrow raw scope a m) h)
-  of_arrow a m (inr h) = absurd (subst IsGiven (constant-Arrow a m) h)
+  of_arrow a m (inr h) = absurd (subst IsThere (constant-Arrow a m) h)
 
   member_judged_at : (a : RawExpr) (m : Bytes) (x : Operand) → judged raw scope a ≡ Ok x → IsMeant raw scope (e.Member a m) → IsJudged (judge (RawExpr-F.Member (Some x) m))
   member_judged_at a m x is (inl h) =
       subst (λ (r : Result Operand ℕ). IsJudged (then_judge judge (with_one (λ x. RawExpr-F.Member x m) r))) is (subst IsJudged (judged-Member raw scope a m) h)
-  member_judged_at a m x is (inr h) = absurd (subst IsGiven (constant-Member a m) h)
+  member_judged_at a m x is (inr h) = absurd (subst IsThere (constant-Member a m) h)
 
   arrow_judged_at : (a : RawExpr) (m : Bytes) (x : Operand) → judged raw scope a ≡ Ok x → IsMeant raw scope (e.Arrow a m) → IsJudged (judge (RawExpr-F.Arrow (Some x) m))
   arrow_judged_at a m x is (inl h) =
       subst (λ (r : Result Operand ℕ). IsJudged (then_judge judge (with_one (λ x. RawExpr-F.Arrow x m) r))) is (subst IsJudged (judged-Arrow raw scope a m) h)
-  arrow_judged_at a m x is (inr h) = absurd (subst IsGiven (constant-Arrow a m) h)
+  arrow_judged_at a m x is (inr h) = absurd (subst IsThere (constant-Arrow a m) h)
 
   -- the member that is selected has a number
   pub member_there : (a : RawExpr) (m : Bytes) (x : Operand) → judged raw scope a ≡ Ok x → IsMeant raw scope (e.Member a m)
@@ -211,7 +198,7 @@ module _ (raw : RawProgram) (scope : Scope) where
   -- a variable that is an operand has a number
   pub variable_there : (name : Bytes) → IsMeant raw scope (e.Variable name) → variable_number (meaning_in scope name) ≡ None → ⊥
   variable_there name (inl h) none = number_from (meaning_in scope name) (subst IsJudged (judged-Variable raw scope name) h) none
-  variable_there name (inr h) none = absurd (subst IsGiven (constant-Variable name) h)
+  variable_there name (inr h) none = absurd (subst IsThere (constant-Variable name) h)
 
   -- ---- the trees of selections
 

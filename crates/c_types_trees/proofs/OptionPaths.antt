@@ -4,19 +4,11 @@ use Rattle.std.specs.Prelude.{Contains}
 use Rattle.std.proofs.lemmas.List.{take_more, map-append}
 use Rattle.std.proofs.lemmas.List.Elements.{Contains-get_or}
 use Rattle.c_language.specs.ProgramOf.{collected}
-use Rattle.c_language.proofs.Options.{IsThere, some_same, none_there}
-use Rattle.c_types_trees.specs.KeptPhrases.{IsGiven}
-
-pub given_there : {A : Type 0} (o : Option A) → IsThere o → IsGiven o
-given_there None h = h
-given_there (Some x) h = tt
-
-pub there_given : {A : Type 0} (o : Option A) → IsGiven o → IsThere o
-there_given None h = h
-there_given (Some x) h = tt
+use Rattle.c_language.proofs.Options.{some_same, none_there}
+use Rattle.c_language.specs.Options.{IsThere}
 
 -- what is given isn't none
-pub given_some : {A : Type 0} (o : Option A) → IsGiven o → o ≡ None → ⊥
+pub given_some : {A : Type 0} (o : Option A) → IsThere o → o ≡ None → ⊥
 given_some None h is = h
 given_some (Some x) h is = none_there (sym is)
 

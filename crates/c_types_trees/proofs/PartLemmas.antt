@@ -8,7 +8,7 @@ use Rattle.c_tree.specs.declared.raw.program.RawInit.{RawInit}
 use Rattle.c_tree.specs.declared.raw.program.RawInit.TheVariants as init
 use Rattle.c_tree.specs.declared.raw.program.RawProgram.{RawProgram}
 use Rattle.c_tree.specs.declared.raw.statement.RawLabel.TheVariants as label
-use Rattle.c_language.specs.ConstantEvaluation.{constant, value_of_constant}
+use Rattle.c_language.specs.ConstantEvaluation.{value_of_constant}
 use Rattle.c_language.specs.ExprTypes.{integer_of}
 use Rattle.c_language.specs.Phrases.{Assigns, Bumps, Tests, Switches, Returns}
 use Rattle.c_language.specs.ProgramOf.{switch_type}
@@ -17,7 +17,6 @@ use Rattle.c_language.specs.Uses.{init_exprs, cases}
 use Rattle.c_language.specs.Rules.{no_constant, switch}
 use Rattle.c_language.specs.ArrayRules.{LacksConstant}
 use Rattle.c_language.specs.SwitchRules.{MisusesSwitch}
-use Rattle.c_language.specs.declared.constant.Constant.{Constant}
 use Rattle.c_language.specs.declared.expr_type.Operand.{Operand}
 use Rattle.c_language.proofs.Options.{none_there}
 use Rattle.c_language.proofs.Lists.{contains_nil, contains_first, contains_later}
@@ -26,8 +25,9 @@ use Rattle.c_types_base.specs.declared.tables.Tables.{Tables}
 use Rattle.c_types_base.specs.Judging.{judged}
 use Rattle.c_types_base.specs.Tables.{scope_of, AreRight}
 use Rattle.c_types_base.proofs.TreeLemmas.{operand-judged}
-use Rattle.c_types_trees.specs.KeptPhrases.{IsKept, IsGiven, IsOperand, AreOperands, IsConstant, IsKeptInit, none, kept, IsKeptSwitch, IsKeptLabel}
+use Rattle.c_types_trees.specs.KeptPhrases.{IsKept, IsOperand, AreOperands, IsKeptInit, none, kept, IsKeptSwitch, IsKeptLabel}
 use Rattle.c_types_trees.proofs.KeptLemmas.{kept_operand}
+use Rattle.c_language.specs.Options.{IsThere}
 
 module _ (t : Tables) (right : AreRight t) where
   abbrev raw : RawProgram
@@ -81,18 +81,11 @@ module _ (t : Tables) (right : AreRight t) where
 
 -- ---- labels
 
-not_none : {A : Type 0} (o : Option A) → (o ≡ None → ⊥) → IsGiven o
+not_none : {A : Type 0} (o : Option A) → (o ≡ None → ⊥) → IsThere o
 not_none None h = h refl
 not_none (Some x) h = tt
 
 -- the expression of a case is a constant one with a value
-pub case_constant : (text : RawProgram) (a : RawExpr) → IsKeptLabel text (label.Case a) → IsGiven (value_of_constant a)
+pub case_constant : (text : RawProgram) (a : RawExpr) → IsKeptLabel text (label.Case a) → IsThere (value_of_constant a)
 case_constant text a h =
     not_none (value_of_constant a) (λ lacks. h.kept 10 (no_constant (LacksConstant.label (case_among h.labels a h.among) lacks)))
-
-value_given : (o : Option Constant) → IsGiven (option_and_then (λ (c : Constant). c.value) o) → IsGiven o
-value_given None h = h
-value_given (Some c) h = tt
-
-pub constant_given : (a : RawExpr) → IsGiven (value_of_constant a) → IsConstant a
-constant_given a h = value_given (constant a) h

@@ -21,37 +21,30 @@ use Rattle.c_language.specs.ExprTypes.{operand}
 use Rattle.c_language.specs.ExprRules.{seen}
 use Rattle.c_language.specs.Phrases.{Stand, Part, Phrases, HasMember, Declares, target_phrases}
 use Rattle.c_language.specs.Uses.{expressions, lengths, lengths_in, tags, tags_in, tags_if, Holds, holds}
-use Rattle.c_language.specs.Rules.{Breaks, undeclared, tag, member, no_element, no_constant, operator, address, no_header}
+use Rattle.c_language.specs.Rules.{undeclared, tag, member, no_element, no_constant, operator, address, no_header, AreKept}
 use Rattle.c_language.specs.NameRules.{UsesUndeclared, LacksHeader}
 use Rattle.c_language.specs.StructRules.{MisusesTag, MisnamesMember}
 use Rattle.c_language.specs.ArrayRules.{HasNoElement, LacksConstant}
 use Rattle.c_language.specs.TypeRules.{MisusesOperator, MisusesAddress}
 use Rattle.c_language.specs.TypeGrammar.{pointed_n, named_type}
 use Rattle.c_language.specs.ProgramOf.{ctype, ctype_if, expr_of, exprs_of}
-use Rattle.c_language.proofs.Options.{IsThere}
 use Rattle.c_language.proofs.Lists.{contains_nil, contains_first, contains_later}
 use Rattle.c_language.proofs.UseLemmas.{tags-PointerTo, lengths-PointerTo}
 use Rattle.c_types_base.proofs.PhraseLemmas.{IsClean}
-use Rattle.c_types_trees.specs.KeptPhrases.{HasNoLength, HasNoLengthIf}
+use Rattle.c_types_trees.specs.KeptPhrases.{HasNoLength, HasNoLengthIf, IsKept}
 use Rattle.c_types_base.proofs.OptionLemmas.{not_none, there_then, there_optional, AreThere, there_collected}
 use Rattle.c_types_trees.proofs.ScopeLemmas.{IsTyped, typed_variable, IsMade, AreComplete}
 use Rattle.c_types_trees.proofs.TypeTrees.{type_made}
 use Rattle.c_types_trees.proofs.ExprTrees.{KeepsAll, operand_there, expr_there}
+use Rattle.c_language.specs.Options.{IsThere}
 
 -- ---- phrases that keep all rules
-
-abbrev pub KeepsAt : RawProgram → Scope → Part → Type 0
-KeepsAt raw scope part = (n : ℕ) → Breaks raw scope part n → ⊥
-
-abbrev pub AreKept : RawProgram → Phrases → Type 0
-AreKept raw [] = Unit {0}
-AreKept raw (p ∷ ps) = KeepsAt raw p.scope p.part × AreKept raw ps
 
 pub kept_both : (raw : RawProgram) (ps qs : Phrases) → AreKept raw (ps ++ qs) → AreKept raw ps × AreKept raw qs
 kept_both raw [] qs h = (tt, h)
 kept_both raw (p ∷ ps) qs h = let rest = kept_both raw ps qs h.1 in ((h.0, rest.0), rest.1)
 
-module _ (raw : RawProgram) (scope : Scope) (part : Part) (keeps : KeepsAt raw scope part) where
+module _ (raw : RawProgram) (scope : Scope) (part : Part) (keeps : IsKept raw scope part) where
   clean_at : (inner : RawExpr) → Holds part inner → IsClean raw scope (seen raw scope inner)
   clean_at inner h = record {
     declared = false_from_ne_true _ (λ is. keeps 1 (undeclared (UsesUndeclared.in_expression h is)));
@@ -99,11 +92,11 @@ result_made raw (Some t) none defined = there_optional (Some (ctype raw t)) (pla
 
 -- ---- declarations
 
-pub variable_made : (raw : RawProgram) (scope : Scope) (stand : Stand) (var : RawVar) (i : RawInit) → KeepsAt raw scope (Declares stand var i) → IsMade raw (item_count i) var.shape
+pub variable_made : (raw : RawProgram) (scope : Scope) (stand : Stand) (var : RawVar) (i : RawInit) → IsKept raw scope (Declares stand var i) → IsMade raw (item_count i) var.shape
 variable_made raw scope stand var i keeps =
     type_made raw (item_count i) var.shape (tag_defined raw scope (Declares stand var i) keeps) (length_constant raw scope (Declares stand var i) keeps)
 
-pub member_made : (raw : RawProgram) (scope : Scope) (before : List RawMember) (m : RawMember) → KeepsAt raw scope (HasMember before m) → IsMade raw 0 m.shape
+pub member_made : (raw : RawProgram) (scope : Scope) (before : List RawMember) (m : RawMember) → IsKept raw scope (HasMember before m) → IsMade raw 0 m.shape
 member_made raw scope before m keeps = type_made raw 0 m.shape (tag_defined raw scope (HasMember before m) keeps) (length_constant raw scope (HasMember before m) keeps)
 
 -- a target that is declared has a type
@@ -134,8 +127,8 @@ module _ (raw : RawProgram) (scope : Scope) where
 
 module _ (raw : RawProgram) (complete : AreComplete raw (defined_structs raw)) (scope : Scope) (typed : IsTyped scope) where
   -- each expression of a phrase has its tree
-  pub phrase_tree : (part : Part) → KeepsAt raw scope part → (e : RawExpr) → Contains (expressions part) e → IsThere (expr_of raw scope e)
+  pub phrase_tree : (part : Part) → IsKept raw scope part → (e : RawExpr) → Contains (expressions part) e → IsThere (expr_of raw scope e)
   phrase_tree part keeps e c = expr_there raw scope complete typed e (expression_keeps raw scope part keeps e c)
 
-  pub phrase_operand : (part : Part) → KeepsAt raw scope part → (e : RawExpr) → Contains (expressions part) e → IsThere (operand raw scope e)
+  pub phrase_operand : (part : Part) → IsKept raw scope part → (e : RawExpr) → Contains (expressions part) e → IsThere (operand raw scope e)
   phrase_operand part keeps e c = operand_there raw scope complete typed e (expression_keeps raw scope part keeps e c)

@@ -12,19 +12,11 @@ use Rattle.c_language.specs.DeclaredTypes.{StructText, defined_structs, type_wit
 use Rattle.c_language.specs.ExprTypes.{member_named, member_of}
 use Rattle.c_language.specs.ProgramOf.{ctype_with}
 use Rattle.c_language.specs.Scopes.{Scope, Entry, Meaning, found_in, meaning_in, with_variable, with_function}
-use Rattle.c_language.proofs.Options.{IsThere}
 use Rattle.c_language.proofs.ScopeNumbers.{function_declared}
+use Rattle.c_language.proofs.Operands.{HasTypeIf, HasType}
+use Rattle.c_language.specs.Options.{IsThere}
 
 -- ---- names
-
--- what a name stands for has its type
-abbrev pub HasType : Meaning → Type 0
-HasType (Meaning.Variable id t) = IsThere t
-HasType Meaning.Function = Unit {0}
-
-abbrev pub HasTypeIf : Option Meaning → Type 0
-HasTypeIf None = Unit {0}
-HasTypeIf (Some m) = HasType m
 
 abbrev pub AreTyped : List Entry → Type 0
 AreTyped [] = Unit {0}

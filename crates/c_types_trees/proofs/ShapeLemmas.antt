@@ -19,8 +19,9 @@ use Rattle.c_language.specs.ProgramOf.{ctype_step, ctype_with, ctype, length_wor
 use Rattle.c_language.specs.TypeGrammar.{pointed_n}
 use Rattle.c_language.specs.Uses.{lengths_in, lengths_step, written_lengths}
 use Rattle.c_language.proofs.Options.{some_same, none_there}
-use Rattle.c_types_trees.specs.KeptPhrases.{IsGiven, HasNoLength}
+use Rattle.c_types_trees.specs.KeptPhrases.{HasNoLength}
 use Rattle.c_types_trees.specs.Shapes.{IsLong}
+use Rattle.c_language.specs.Options.{IsThere}
 
 -- ---- the forms
 
@@ -99,10 +100,10 @@ module _ (raw : RawProgram) where
   no_length_short = ind-RawType IsShort (λ x y is. subst (λ z. IsShort (roll-RawType z)) is (short_roll y))
 
   -- a type without lengths isn't too long
-  pub never_long : (a : RawType) → HasNoLength a → IsGiven (ctype raw a) → IsLong (ctype raw a) → ⊥
+  pub never_long : (a : RawType) → HasNoLength a → IsThere (ctype raw a) → IsLong (ctype raw a) → ⊥
   never_long a none there long = at_value (ctype raw a) there refl
     where
-      at_value : (o : Option CType) → IsGiven o → ctype raw a ≡ o → ⊥
+      at_value : (o : Option CType) → IsThere o → ctype raw a ≡ o → ⊥
       at_value None given is = given
       at_value (Some t) given is = let zero_length : longest t ≡ 0 = no_length_short a none t is in let great : 4294967296 ≤ longest t = long t is in omega (arith, zero_length, great)
 
@@ -112,14 +113,14 @@ module _ (raw : RawProgram) where
   pointed-last zero a = refl
   pointed-last (suc n) a = pointed-last n (type.PointerTo a)
 
-  map_given : {A B : Type 0} (f : A → B) (o : Option A) → IsGiven (option_map f o) → IsGiven o
+  map_given : {A B : Type 0} (f : A → B) (o : Option A) → IsThere (option_map f o) → IsThere o
   map_given f None h = h
   map_given f (Some x) h = tt
 
   -- what stars stand upon is a type
-  pub base_given : (n : ℕ) (a : RawType) → IsGiven (ctype raw (pointed_n n a)) → IsGiven (ctype raw a)
+  pub base_given : (n : ℕ) (a : RawType) → IsThere (ctype raw (pointed_n n a)) → IsThere (ctype raw a)
   base_given zero a h = h
-  base_given (suc n) a h = map_given tree.PointerTo (ctype raw a) (subst IsGiven (ctype-PointerTo raw 0 a) (base_given n (type.PointerTo a) h))
+  base_given (suc n) a h = map_given tree.PointerTo (ctype raw a) (subst IsThere (ctype-PointerTo raw 0 a) (base_given n (type.PointerTo a) h))
 
   -- one star more
   pub star_more : (n : ℕ) (a : RawType) (t : CType) → ctype raw (pointed_n n a) ≡ Some t → ctype raw (pointed_n (n + 1) a) ≡ Some (tree.PointerTo t)

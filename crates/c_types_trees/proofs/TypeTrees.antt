@@ -16,12 +16,13 @@ use Rattle.c_language.specs.ProgramOf.{ctype_step, ctype_with, length_words}
 use Rattle.c_language.specs.Uses.{lengths_in, lengths_step, written_lengths, tags_in, tags_step}
 use Rattle.c_language.specs.declared.expr_type.Base.TheVariants as base
 use Rattle.c_language.specs.declared.expr_type.ExprType.{ExprType}
-use Rattle.c_language.proofs.Options.{IsThere, there_map}
+use Rattle.c_language.proofs.Options.{there_map}
 use Rattle.c_language.proofs.Lists.{contains_first, contains_later}
 use Rattle.c_language.proofs.UseLemmas.{tags-roll, lengths-roll}
 use Rattle.c_types_base.proofs.OptionLemmas.{there_then, there_both}
 use Rattle.c_types_base.proofs.TypeLemmas.{type-roll}
 use Rattle.c_types_trees.proofs.ScopeLemmas.{IsMade}
+use Rattle.c_language.specs.Options.{IsThere}
 
 module _ (raw : RawProgram) (items : ℕ) where
   -- each of these tags is defined

@@ -1,20 +1,14 @@
 -- Phrases that break no rule, and have the forms that tokens give them.
 use Rattle.std.specs.Prelude.{ℕ, [], ◌∷◌, List, map, Option, Some, None}
+use Rattle.c_language.specs.CallRules.{IsStored}
 use Rattle.c_tree.specs.declared.raw.program.RawProgram.{RawProgram}
 use Rattle.c_tree.specs.declared.raw.statement.RawTarget.{RawTarget}
-use Rattle.c_tree.specs.declared.raw.statement.RawTarget.TheVariants as target
 use Rattle.c_tree.specs.declared.raw.statement.RawTypeName.{RawTypeName}
 use Rattle.c_tree.specs.declared.raw.statement.RawAmount.{RawAmount}
 use Rattle.c_tree.specs.declared.raw.statement.RawStatement.{RawStatement}
 use Rattle.c_language.specs.Scopes.{Scope, in_order}
-use Rattle.c_language.specs.Phrases.{Stand, InFile, InHead, InBlock, InArm, InFor, Part, NamesStruct, DefinesStruct, HasMember, DeclaresFunction, Takes, EndsFunction, Declares, Begins, Assigns, Bumps, Calls, Allocates, Tests, Switches, Returns, Phrases, joined_at, target_phrases, scoped}
+use Rattle.c_language.specs.Phrases.{Stand, Part, NamesStruct, DefinesStruct, HasMember, DeclaresFunction, Takes, EndsFunction, Declares, Begins, Assigns, Bumps, Calls, Allocates, Tests, Switches, Returns, Phrases, joined_at, target_phrases, scoped, IsInside}
 use Rattle.c_types_trees.specs.KeptPhrases.{IsKept, HasNoLengthIf, IsPlainName, IsPlainAmount}
-
--- the result is stored
-abbrev pub IsStored : RawTarget → Type 0
-IsStored target.None = ⊥
-IsStored (target.Place a) = Unit {0}
-IsStored (target.Declared var) = Unit {0}
 
 -- what is allocated is stored, and no length stands in the type names
 pub record IsAllocation (to : RawTarget) (cast : Option RawTypeName) (n : RawAmount) : Type 0 where
@@ -48,14 +42,6 @@ pub record IsFit (raw : RawProgram) (scope : Scope) (part : Part) : Type 0 where
 abbrev pub AreFit : RawProgram → Phrases → Type 0
 AreFit raw [] = Unit {0}
 AreFit raw (p ∷ ps) = IsFit raw p.scope p.part × AreFit raw ps
-
--- a declaration stands inside a function
-abbrev pub IsInside : Stand → Type 0
-IsInside (InFile is_static) = ⊥
-IsInside InHead = ⊥
-IsInside InBlock = Unit {0}
-IsInside InArm = Unit {0}
-IsInside InFor = Unit {0}
 
 -- the phrases of statements one after another fit, wherever inside a function these stand
 pub record AreFitInside (raw : RawProgram) (body : List RawStatement) (scope : Scope) : Type 0 where

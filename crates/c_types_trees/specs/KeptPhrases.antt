@@ -28,15 +28,11 @@ use Rattle.c_language.specs.Scopes.{Scope}
 use Rattle.c_language.specs.Uses.{lengths_in, sizes}
 use Rattle.c_language.specs.declared.expr_type.Operand.{Operand}
 use Rattle.c_types_base.specs.Judging.{judged}
+use Rattle.c_language.specs.Options.{IsThere}
 
 -- a phrase breaks no rule
 abbrev pub IsKept : RawProgram → Scope → Part → Type 0
 IsKept raw scope part = (n : ℕ) → Breaks raw scope part n → ⊥
-
--- there is a value
-abbrev pub IsGiven : {A : Type 0} → Option A → Type 0
-IsGiven None = ⊥
-IsGiven (Some x) = Unit {0}
 
 -- a judgement tells an operand
 abbrev pub IsJudged : Result Operand ℕ → Type 0
@@ -52,7 +48,7 @@ AreOperands raw scope es = (a : RawExpr) → Contains es a → IsOperand raw sco
 
 -- an expression is a constant one (6.6)
 abbrev pub IsConstant : RawExpr → Type 0
-IsConstant a = IsGiven (constant a)
+IsConstant a = IsThere (constant a)
 
 -- an expression is an operand, or a constant one, which has its tree in every scope
 abbrev pub IsMeant : RawProgram → Scope → RawExpr → Type 0
@@ -142,12 +138,12 @@ IsPlainAmount (amount.Count a) = Unit {0}
 
 -- the size in an amount has its tree
 abbrev pub AreMeasured : RawProgram → Scope → RawAmount → Type 0
-AreMeasured raw scope n = (z : RawSize) → IsPlainSize z → sizes n ≡ z ∷ [] → IsGiven (size_tree raw scope z)
+AreMeasured raw scope n = (z : RawSize) → IsPlainSize z → sizes n ≡ z ∷ [] → IsThere (size_tree raw scope z)
 
 -- an allocation breaks no rule, its result is stored in what has a type, and no length stands in its type names
 pub record IsKeptAllocation (raw : RawProgram) (scope : Scope) (cast : Option RawTypeName) (n : RawAmount) : Type 0 where
   pub to : RawTarget
   pub kept : IsKept raw scope (Allocates to cast n)
-  pub typed : IsGiven (target_type raw scope to)
+  pub typed : IsThere (target_type raw scope to)
   pub name : IsPlainName cast
   pub amount : IsPlainAmount n

@@ -1,10 +1,11 @@
 //! Allocations in the tree (ISO C99 7.20.3.3), where they break no rule.
 ghost use Rattle.std.specs.Prelude.{◌≡◌, Some, IfOk, option_map};
+ghost use Rattle.c_language.specs.Options.{IsThere};
 ghost use Rattle.c_language.specs.ProgramOf as trees;
 ghost use Rattle.c_language.specs.TypeGrammar.{named_type};
 ghost use Rattle.c_language.specs.Uses.{counts};
 ghost use Rattle.c_types_base.specs.Tables.{scope_of, AreRight};
-ghost use Rattle.c_types_trees.specs.KeptPhrases.{IsGiven, AreOperands, AreMeasured, IsPlainName, IsPlainSize, IsPlainAmount, IsKeptAllocation};
+ghost use Rattle.c_types_trees.specs.KeptPhrases.{AreOperands, AreMeasured, IsPlainName, IsPlainSize, IsPlainAmount, IsKeptAllocation};
 
 use crate::expressions::{tree_of, variable_number};
 use crate::shapes::named_shape;
@@ -18,7 +19,7 @@ use std::alloc::{AllocError, Global};
 fn size_tree(alloc: Global, tables: &Tables<'_>, size: &RawSize) -> Result<Size, AllocError>
     requires right { AreRight tables.now }
     requires plain { IsPlainSize size.now }
-    requires there { IsGiven (trees.size_tree tables.now.raw.now (scope_of tables.now) size.now) }
+    requires there { IsThere (trees.size_tree tables.now.raw.now (scope_of tables.now) size.now) }
     ensures { IfOk result (λ z. trees.size_tree tables.now.raw.now (scope_of tables.now) size.now ≡ Some z) }
 {
     match size {
@@ -60,7 +61,7 @@ fn cast_shape(
 ) -> Result<Option<CType>, AllocError>
     requires right { AreRight tables.now }
     requires plain { IsPlainName cast.now }
-    requires there { IsGiven (trees.ctype_if tables.now.raw.now (option_map named_type cast.now)) }
+    requires there { IsThere (trees.ctype_if tables.now.raw.now (option_map named_type cast.now)) }
     ensures { IfOk result (λ t. trees.ctype_if tables.now.raw.now (option_map named_type cast.now) ≡ Some t) }
 {
     match cast {

@@ -1,11 +1,12 @@
 //! Calls in the tree (ISO C99 6.5.2.2), where they break no rule.
 ghost use Rattle.std.specs.Prelude.{◌≡◌, ◌≢◌, Some, None, IfOk, bytes_eq};
+ghost use Rattle.c_language.specs.Options.{IsThere};
 ghost use Rattle.c_language.specs.CallRules as rules;
 ghost use Rattle.c_language.specs.DeclaredTypes as types;
 ghost use Rattle.c_language.specs.ProgramOf as trees;
 ghost use Rattle.c_language.specs.Uses.{arg_exprs};
 ghost use Rattle.c_types_base.specs.Tables.{scope_of, AreRight};
-ghost use Rattle.c_types_trees.specs.KeptPhrases.{IsGiven, AreOperands, IsValue, AreValues, IsKeptCall};
+ghost use Rattle.c_types_trees.specs.KeptPhrases.{AreOperands, IsValue, AreValues, IsKeptCall};
 
 use crate::expressions::tree_of;
 use c_tree::{Expr, FunctionId, Items, RawArg, Statement, StatementId, Target};
@@ -86,7 +87,7 @@ fn print_tree(
 /// The number of a function that is defined.
 pub fn function_of(tables: &Tables<'_>, name: &[u8]) -> FunctionId
     requires right { AreRight tables.now }
-    requires defined { IsGiven (types.function_id tables.now.raw.now name.now) }
+    requires defined { IsThere (types.function_id tables.now.raw.now name.now) }
     ensures { types.function_id tables.now.raw.now name.now ≡ Some result }
 {
     match tables.defined.function_id(name) {
@@ -106,7 +107,7 @@ fn invoke_tree(
     args: &[RawArg],
 ) -> Result<Statement, AllocError>
     requires right { AreRight tables.now }
-    requires defined { IsGiven (types.function_id tables.now.raw.now name.now) }
+    requires defined { IsThere (types.function_id tables.now.raw.now name.now) }
     requires values { AreValues tables.now.raw.now (scope_of tables.now) args.now }
     ensures { IfOk result (λ s. trees.invoke_tree tables.now.raw.now (scope_of tables.now) id line (Some target) name.now args.now ≡ Some s) }
 {

@@ -1,12 +1,13 @@
 //! Parts of statements in the tree, where they break no rule.
 ghost use Rattle.std.specs.Prelude.{◌≡◌, Some, IfOk, option_map};
 ghost use Rattle.c_tree.specs.declared.statement.Statement.TheVariants as statement;
+ghost use Rattle.c_language.specs.Options.{IsThere};
 ghost use Rattle.c_language.specs.ConstantEvaluation as constants;
 ghost use Rattle.c_language.specs.ConstantEvaluation.{both};
 ghost use Rattle.c_language.specs.Phrases.{Assigns, Bumps, Tests, Returns};
 ghost use Rattle.c_language.specs.ProgramOf as trees;
 ghost use Rattle.c_types_base.specs.Tables.{scope_of, AreRight};
-ghost use Rattle.c_types_trees.specs.KeptPhrases.{IsKept, IsGiven, AreOperands, IsKeptInit, IsMeantTarget, IsKeptSwitch, IsKeptLabel};
+ghost use Rattle.c_types_trees.specs.KeptPhrases.{IsKept, AreOperands, IsKeptInit, IsMeantTarget, IsKeptSwitch, IsKeptLabel};
 
 use crate::expressions::{constant_tree, operand_of, tree_of};
 use c_arith::{BinaryOp, IntType, convert, promote};
@@ -187,7 +188,7 @@ fn case_tree(
     value: &RawExpr,
 ) -> Result<Label, AllocError>
     requires right { AreRight tables.now }
-    requires constant { IsGiven (constants.value_of_constant value.now) }
+    requires constant { IsThere (constants.value_of_constant value.now) }
     ensures { IfOk result (λ l. trees.case_tree tables.now.raw.now (scope_of tables.now) t value.now ≡ Some l) }
 {
     match value_of_constant(value) {

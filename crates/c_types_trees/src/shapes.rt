@@ -1,12 +1,13 @@
 //! Types in the tree (ISO C99 6.7.5), with struct types as numbers.
 ghost use Rattle.std.specs.Prelude.{◌≡◌, Some, IfOk, decimal};
+ghost use Rattle.c_language.specs.Options.{IsThere};
 ghost use Rattle.c_language.specs.ConstantEvaluation.{both};
 ghost use Rattle.c_language.specs.DeclaredTypes as types;
 ghost use Rattle.c_language.specs.ProgramOf as trees;
 ghost use Rattle.c_language.specs.TypeGrammar.{named_type};
 ghost use Rattle.c_types_base.specs.Definitions.{IsOfText};
 ghost use Rattle.c_types_base.specs.Tables.{AreRight};
-ghost use Rattle.c_types_trees.specs.KeptPhrases.{IsGiven, IsKeptMember, IsKeptHead, HasNoLength, HasNoLengthIf};
+ghost use Rattle.c_types_trees.specs.KeptPhrases.{IsKeptMember, IsKeptHead, HasNoLength, HasNoLengthIf};
 ghost use Rattle.c_types_trees.specs.Shapes.{Shapes, Makes, MakesMember};
 
 use crate::make_fault::MakeFault;
@@ -101,7 +102,7 @@ fn made_shape(
     shape: &RawType,
 ) -> Result<CType, MakeFault>
     requires text { IsOfText defined.now }
-    requires there { IsGiven (trees.ctype_with defined.now.raw.now items shape.now) }
+    requires there { IsThere (trees.ctype_with defined.now.raw.now items shape.now) }
     ensures { Makes (trees.ctype_with defined.now.raw.now items shape.now) result }
 {
     match ctype_with(alloc, defined, items, shape)? {
@@ -135,7 +136,7 @@ pub fn plain_shape(
 ) -> Result<CType, AllocError>
     requires text { IsOfText defined.now }
     requires plain { HasNoLength shape.now }
-    requires there { IsGiven (trees.ctype defined.now.raw.now shape.now) }
+    requires there { IsThere (trees.ctype defined.now.raw.now shape.now) }
     ensures { IfOk result (λ t. trees.ctype defined.now.raw.now shape.now ≡ Some t) }
 {
     match ctype_with(alloc, defined, 0, shape) {
@@ -154,7 +155,7 @@ pub fn named_shape(
 ) -> Result<CType, AllocError>
     requires right { AreRight tables.now }
     requires plain { HasNoLength name.now.base }
-    requires there { IsGiven (trees.ctype tables.now.raw.now (named_type name.now)) }
+    requires there { IsThere (trees.ctype tables.now.raw.now (named_type name.now)) }
     ensures { IfOk result (λ t. trees.ctype tables.now.raw.now (named_type name.now) ≡ Some t) }
 {
     let mut shape = plain_shape(alloc, &tables.defined, &name.base)?;

@@ -1,16 +1,17 @@
 -- The edges of formals and actuals are those from the entry and from the calls.
-use Rattle.std.proofs.Common.{◌≡◌, ℕ, suc, arith, List, [], ◌∷◌, ◌⊎◌, inl, inr, Bool, true, false, refl, sym, ap, ◌∙◌, subst}
-use Rattle.std.specs.Prelude.{◌==◌, ◌&&◌, ◌||◌, if◌then◌else◌}
+use Rattle.std.proofs.Common.{◌≡◌, ℕ, suc, arith, List, [], ◌∷◌, ◌⊎◌, inl, inr, Bool, true, false, refl, sym, subst}
+use Rattle.std.specs.Prelude.{◌==◌, ◌||◌, if◌then◌else◌}
 use Rattle.dep_model.specs.declared.skeleton.Pair.{Pair}
 use Rattle.dep_model.specs.declared.vertex.Vertex.{Vertex}
 use Rattle.dep_model.specs.declared.vertex.VertexKind.{VertexKind}
 use Rattle.dep_model.specs.declared.vertex.VertexKind.TheVariants.{Entry, FormalIn, FormalOut, Statement, Call, ActualIn, ActualOut}
 use Rattle.dep_model.specs.FunctionVertices.{is_actual, is_formal_in, is_formal_out, passes, numbers_from}
 use Rattle.std.proofs.lemmas.Bool.Decides.{nat_tests}
+use Rattle.std.proofs.lemmas.Bool.{and_parts, and_from}
 use Rattle.control_deps.specs.Walk.{from_all}
 use Rattle.control_deps.specs.Attached.{controllers_of, controllers, attached_from}
 use Rattle.dep_model.proofs.Membership.{IsIn, in_first, in_second, in_either, if_in, in_if}
-use Rattle.control_deps.proofs.CodeLaws.{Joins, in_from_all, of_from_all}
+use Rattle.control_deps.proofs.CodeLaws.{Joins, in_from_all, one_joins}
 
 abbrev pub is_formal : VertexKind → Bool
 is_formal = λ k. is_formal_in k || is_formal_out k
@@ -32,13 +33,6 @@ later_at n m rest false h = h
 
 number_later : (test : Vertex → Bool) (n m : ℕ) (v : Vertex) (vs : List Vertex) → IsIn (numbers_from test (suc n) vs) m → IsIn (numbers_from test n (v ∷ vs)) m
 number_later test n m v vs h = later_at n m (numbers_from test (suc n) vs) (test v) h
-
-and_true : (a b : Bool) → a ≡ true → b ≡ true → (a && b) ≡ true
-and_true a b p q = ap (λ x. x && b) p ∙ q
-
-and_both : (a b : Bool) → (a && b) ≡ true → (a ≡ true) × (b ≡ true)
-and_both true b h = (refl, h)
-and_both false b h = let f : false ≡ true = h in absurd cc
 
 itself : (i : ℕ) → (i == i) ≡ true
 itself i = grind (arith, nat_tests)
@@ -92,20 +86,20 @@ module _ (entry : List ℕ) (own : ℕ → List ℕ) where
     attached_here n v vs x h e =
         let t = if_in (v.function == f) (controllers_of entry own v.kind) x.from h in
         elim (controller_cases v.kind x.from t.1) [
-          | inl u ↦ inl (u.1, number_here (passes is_formal f) n x.to v vs (and_true (v.function == f) (is_formal v.kind) t.0 u.0) e)
-          | inr u ↦ inr (u.0, (u.2, number_here (passes (is_actual u.0) f) n x.to v vs (and_true (v.function == f) (is_actual u.0 v.kind) t.0 u.1) e))
+          | inl u ↦ inl (u.1, number_here (passes is_formal f) n x.to v vs (and_from (v.function == f) (is_formal v.kind) t.0 u.0) e)
+          | inr u ↦ inr (u.0, (u.2, number_here (passes (is_actual u.0) f) n x.to v vs (and_from (v.function == f) (is_actual u.0 v.kind) t.0 u.1) e))
         ]
 
     pub attached_of : (n : ℕ) (vs : List Vertex) (x : Pair) → IsIn (attached_from (controllers entry own f) n vs) x → IsAttached n vs x
     attached_of n [] x h = absurd h
     attached_of n (v ∷ vs) x h = elim (in_either (from_all (controllers entry own f v) n) (attached_from (controllers entry own f) (suc n) vs) x h) [
-      | inl t ↦ let u = of_from_all (controllers entry own f v) n x t in attached_here n v vs x u.0 u.1
+      | inl t ↦ let u = one_joins (controllers entry own f v) n x t in attached_here n v vs x u.0 u.1
       | inr t ↦ attached_later n v vs x (attached_of (suc n) vs x t)
     ]
 
     keeps : (v : Vertex) (test : VertexKind → Bool) (ks : List ℕ) (k : ℕ) → ((kind : VertexKind) → test kind ≡ true → IsIn (controllers_of entry own kind) k) → passes test f v ≡ true → IsIn (controllers entry own f v) k
     keeps v test ks k gives e =
-        let t = and_both (v.function == f) (test v.kind) e in
+        let t = and_parts (v.function == f) (test v.kind) e in
         in_if (v.function == f) (controllers_of entry own v.kind) k t.0 (gives v.kind t.1)
 
     pub formal_attached : (n : ℕ) (vs : List Vertex) (x : Pair) → Joins entry (formals_from n vs) x → IsIn (attached_from (controllers entry own f) n vs) x

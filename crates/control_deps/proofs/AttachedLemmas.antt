@@ -1,8 +1,9 @@
 -- The edges of formals and actuals, one vertex after another.
 use Rattle.std.proofs.Common.{◌≡◌, ℕ, ◌+◌, ◌<◌, ◌≤◌, List, ◌++◌, length, drop, get_or, append_assoc, append-nil, add-one, sym, ap, ◌∙◌}
+use Rattle.std.proofs.lemmas.List.{drop_all}
 use Rattle.dep_model.specs.declared.skeleton.Pair.{Pair}
 use Rattle.dep_model.specs.declared.vertex.Vertex.{Vertex}
-use Rattle.dep_model.proofs.NumberedFrom.{drop_item, drop_none}
+use Rattle.dep_model.proofs.NumberedFrom.{drop_item}
 use Rattle.control_deps.specs.Walk.{from_all}
 use Rattle.control_deps.specs.Attached.{attached_from}
 
@@ -14,4 +15,4 @@ attached_turn controllers vs i v n found new whole lt is inv now =
 -- all vertices were looked at
 pub attached_end : (controllers : Vertex → List ℕ) (vs : List Vertex) (i n : ℕ) (found whole : List Pair) → length vs ≤ i → found ++ attached_from controllers n (drop i vs) ≡ whole → found ≡ whole
 attached_end controllers vs i n found whole le inv =
-    sym (append-nil found) ∙ ap (λ xs. found ++ attached_from controllers n xs) (sym (drop_none vs i le)) ∙ inv
+    sym (append-nil found) ∙ ap (λ xs. found ++ attached_from controllers n xs) (sym (drop_all i vs le)) ∙ inv

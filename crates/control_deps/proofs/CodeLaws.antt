@@ -11,7 +11,7 @@ use Rattle.dep_model.specs.Pairs.{pair}
 abbrev pub Joins : List ℕ → List ℕ → Pair → Type 0
 Joins ks ts x = IsIn ks x.from × IsIn ts x.to
 
-one_joins : (ks : List ℕ) (t : ℕ) (x : Pair) → IsIn (from_all ks t) x → IsIn ks x.from × (t ≡ x.to)
+pub one_joins : (ks : List ℕ) (t : ℕ) (x : Pair) → IsIn (from_all ks t) x → IsIn ks x.from × (t ≡ x.to)
 one_joins [] t x h = absurd h
 one_joins (k ∷ ks) t x (inl e) = (inl (ap (λ (y : Pair). y.from) e), ap (λ (y : Pair). y.to) e)
 one_joins (k ∷ ks) t x (inr h) = let r = one_joins ks t x h in (inr r.0, r.1)
@@ -20,9 +20,6 @@ pub in_from_all : (ks : List ℕ) (t : ℕ) (x : Pair) → IsIn ks x.from → t 
 in_from_all [] t x h e = absurd h
 in_from_all (k ∷ ks) t x (inl f) e = inl (ap (λ a. pair a t) f ∙ ap (λ b. pair x.from b) e)
 in_from_all (k ∷ ks) t x (inr h) e = inr (in_from_all ks t x h e)
-
-pub of_from_all : (ks : List ℕ) (t : ℕ) (x : Pair) → IsIn (from_all ks t) x → IsIn ks x.from × (t ≡ x.to)
-of_from_all = one_joins
 
 pub in_joined : (ks ts : List ℕ) (x : Pair) → Joins ks ts x → IsIn (joined ks ts) x
 in_joined ks [] x (h, t) = absurd t

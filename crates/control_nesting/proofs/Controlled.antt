@@ -8,7 +8,7 @@ use Rattle.c_tree.specs.declared.program.Function.{Function}
 use Rattle.c_tree.specs.declared.program.Program.{Program}
 use Rattle.c_tree.specs.declared.statement.Statement.{Statement}
 use Rattle.c_language.specs.Code.{code}
-use Rattle.c_language.proofs.Tests.{false_true}
+use Rattle.c_language.proofs.Tests.{false_true, by_or}
 use Rattle.dep_model.specs.declared.edge.Edge.{Edge}
 use Rattle.dep_model.specs.declared.edge.Label.TheVariants.{Control}
 use Rattle.dep_model.specs.Controls.{Controls}
@@ -23,7 +23,6 @@ use Rattle.control_deps.specs.Walk.{walks}
 use Rattle.control_deps.proofs.CodeLaws.{IsControlled, controlled_of}
 use Rattle.control_deps.proofs.StatementLaws.{walks_into}
 use Rattle.projection_laws.specs.Nested.{IsNested, any_own, any_inside, stands, stands_in}
-use Rattle.projection_laws.proofs.Reaching.{either_way}
 use Rattle.projection_laws.proofs.Standing.{standing_nested}
 use Rattle.control_nesting.specs.TakenArms.{TakesAll, takes_all}
 use Rattle.control_nesting.proofs.Standing.{own_vertex, IsDone, Nests, body_nests}
@@ -56,7 +55,7 @@ module _ (p : Program) (h : IsNumberedMain p) where
 
   main_stands : (outer inner : ℕ) → stands_in p outer inner ≡ true → any_inside (map stands body) outer inner ≡ true
   main_stands outer inner s =
-      either_way (any_inside (map stands body) outer inner) false (subst (λ (fs : List Function). list_any (λ (f : Function). any_inside (map stands f.body) outer inner) fs ≡ true) h.integer.functions_are s) (λ e. e) (λ e. false_true e)
+      by_or (any_inside (map stands body) outer inner) false (subst (λ (fs : List Function). list_any (λ (f : Function). any_inside (map stands f.body) outer inner) fs ≡ true) h.integer.functions_are s) (λ e. e) (λ e. false_true e)
 
   main_code : code_in p 0 ≡ code body
   main_code = code_at p 0 h.integer.main (ap (λ (fs : List Function). slice_get fs 0) h.integer.functions_are)

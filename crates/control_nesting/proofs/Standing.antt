@@ -8,8 +8,9 @@ use Rattle.c_tree.specs.declared.statement.Label.{Label}
 use Rattle.c_tree.specs.declared.statement.Statement.{Statement, ind-Statement, roll-Statement, map-Statement, fold-roll-Statement}
 use Rattle.c_tree.specs.declared.statement.Statement.TheOpen.{Statement-F, Arm-F}
 use Rattle.c_tree.specs.declared.statement.Arm.{Arm, roll-Arm, map-Arm, fold-Arm, fold-roll-Arm}
+use Rattle.c_tree.proofs.Trees.{statement_layer, arm_layer, StatementParts, ArmParts}
 use Rattle.c_language.specs.Code.{Tests}
-use Rattle.c_language.proofs.Tests.{false_true}
+use Rattle.c_language.proofs.Tests.{false_true, by_or}
 use Rattle.dep_model.specs.Doings.{Doing, Does, doing_step, doing_arm, doings, body_doings}
 use Rattle.dep_model.specs.Doings as done
 use Rattle.dep_model.specs.NumberedMains.{doing_number}
@@ -20,8 +21,8 @@ use Rattle.dep_model.specs.Pairs.{pair}
 use Rattle.control_deps.specs.Walk.{joined, Walk, ArmWalk, all, all_taken, walk_step, arm_step, walk, arm_walk, walks}
 use Rattle.control_deps.proofs.CodeLaws.{in_joined}
 use Rattle.projection_laws.specs.Nested.{Stands, any_own, any_inside, stands_step, stands_arm, stands}
-use Rattle.projection_laws.proofs.Reaching.{either_way}
-use Rattle.control_nesting.specs.TakenArms.{ArmTakes, both, arms_taken, takes_step, takes_arm, takes_all}
+use Rattle.control_nesting.specs.TakenArms.{ArmTakes, arms_taken, takes_step, takes_arm, takes_all}
+use Rattle.c_language.specs.Lists.{all_true}
 
 -- a statement has one vertex, with the number behind its own
 abbrev pub own_vertex : ℕ → List ℕ
@@ -76,14 +77,14 @@ module _ (outer inner : ℕ) where
 
   two : (t u a b c e : Bool) (f g : Walk) (ds es : List Doing) → Nests t a c f ds → Nests u b e g es → Nests (t && u) (a || b) (c || e) (λ ks. f ks ++ g ks) (ds ++ es)
   two t u a b c e f g ds es x y = record {
-    own_walked = λ h o ks k m. either_way a b o
+    own_walked = λ h o ks k m. by_or a b o
         (λ p. in_first (f ks) (g ks) (pair k (suc inner)) (x.own_walked (and_parts t u h).0 p ks k m))
         (λ p. in_second (f ks) (g ks) (pair k (suc inner)) (y.own_walked (and_parts t u h).1 p ks k m));
-    inside_walked = λ h o ks. either_way c e o
+    inside_walked = λ h o ks. by_or c e o
         (λ p. in_first (f ks) (g ks) (pair (suc outer) (suc inner)) (x.inside_walked (and_parts t u h).0 p ks))
         (λ p. in_second (f ks) (g ks) (pair (suc outer) (suc inner)) (y.inside_walked (and_parts t u h).1 p ks));
-    own_done = λ o. either_way a b o (λ p. done_first ds es inner (x.own_done p)) (λ p. done_second ds es inner (y.own_done p));
-    inside_done = λ o. either_way c e o
+    own_done = λ o. by_or a b o (λ p. done_first ds es inner (x.own_done p)) (λ p. done_second ds es inner (y.own_done p));
+    inside_done = λ o. by_or c e o
         (λ p. let w = x.inside_done p in (done_first ds es outer w.0, done_first ds es inner w.1))
         (λ p. let w = y.inside_done p in (done_second ds es outer w.0, done_second ds es inner w.1));
   }
@@ -94,12 +95,12 @@ module _ (outer inner : ℕ) where
       → Nests t (doing_number d == inner) ((doing_number d == outer && a) || b) (λ ks. joined (tests ks) (own_vertex (doing_number d)) ++ f (bodies ks)) (d ∷ ds)
   under d tests bodies all_tests one_body t a b f ds x = record {
     own_walked = λ h o ks k m. in_first (joined (tests ks) (own_vertex (doing_number d))) (f (bodies ks)) (pair k (suc inner)) (own_pair (doing_number d) (tests ks) k o (all_tests ks k m));
-    inside_walked = λ h o ks. in_second (joined (tests ks) (own_vertex (doing_number d))) (f (bodies ks)) (pair (suc outer) (suc inner)) (either_way (doing_number d == outer && a) b o
+    inside_walked = λ h o ks. in_second (joined (tests ks) (own_vertex (doing_number d))) (f (bodies ks)) (pair (suc outer) (suc inner)) (by_or (doing_number d == outer && a) b o
         (λ p. let w = and_parts (doing_number d == outer) a p in
         subst (λ n. IsIn (f (bodies ks)) (pair (suc n) (suc inner))) (eqb-true (doing_number d) outer w.0) (x.own_walked h w.1 (bodies ks) (suc (doing_number d)) (one_body ks)))
         (λ p. x.inside_walked h p (bodies ks)));
     own_done = λ o. done_here d ds inner (eqb-true (doing_number d) inner o);
-    inside_done = λ o. either_way (doing_number d == outer && a) b o
+    inside_done = λ o. by_or (doing_number d == outer && a) b o
         (λ p. let w = and_parts (doing_number d == outer) a p in (done_here d ds outer (eqb-true (doing_number d) outer w.0), done_later d ds inner (x.own_done w.1)))
         (λ p. let w = x.inside_done p in (done_later d ds outer w.0, done_later d ds inner w.1));
   }
@@ -109,21 +110,21 @@ module _ (outer inner : ℕ) where
       → Nests (t && u) (doing_number d == inner || a) ((doing_number d == outer && b) || (c || e))
       (λ ks. joined (ks ++ own_vertex (doing_number d)) (own_vertex (doing_number d)) ++ (f ks ++ g (own_vertex (doing_number d)))) (d ∷ (ds ++ es))
   under_for d t u a b c e f g ds es x y = record {
-    own_walked = λ h o ks k m. either_way (doing_number d == inner) a o
+    own_walked = λ h o ks k m. by_or (doing_number d == inner) a o
         (λ p. in_first (joined (ks ++ own) own) (f ks ++ g own) (pair k (suc inner)) (own_pair (doing_number d) (ks ++ own) k p (in_first ks own k m)))
         (λ p. in_second (joined (ks ++ own) own) (f ks ++ g own) (pair k (suc inner)) (in_first (f ks) (g own) (pair k (suc inner)) (x.own_walked (and_parts t u h).0 p ks k m)));
-    inside_walked = λ h o ks. in_second (joined (ks ++ own) own) (f ks ++ g own) (pair (suc outer) (suc inner)) (either_way (doing_number d == outer && b) (c || e) o
+    inside_walked = λ h o ks. in_second (joined (ks ++ own) own) (f ks ++ g own) (pair (suc outer) (suc inner)) (by_or (doing_number d == outer && b) (c || e) o
         (λ p. let w = and_parts (doing_number d == outer) b p in
         in_second (f ks) (g own) (pair (suc outer) (suc inner)) (subst (λ n. IsIn (g own) (pair (suc n) (suc inner))) (eqb-true (doing_number d) outer w.0) (y.own_walked (and_parts t u h).1 w.1 own (suc (doing_number d)) (inl refl))))
-        (λ r. either_way c e r
+        (λ r. by_or c e r
         (λ p. in_first (f ks) (g own) (pair (suc outer) (suc inner)) (x.inside_walked (and_parts t u h).0 p ks))
         (λ p. in_second (f ks) (g own) (pair (suc outer) (suc inner)) (y.inside_walked (and_parts t u h).1 p own))));
-    own_done = λ o. either_way (doing_number d == inner) a o
+    own_done = λ o. by_or (doing_number d == inner) a o
         (λ p. done_here d (ds ++ es) inner (eqb-true (doing_number d) inner p))
         (λ p. done_later d (ds ++ es) inner (done_first ds es inner (x.own_done p)));
-    inside_done = λ o. either_way (doing_number d == outer && b) (c || e) o
+    inside_done = λ o. by_or (doing_number d == outer && b) (c || e) o
         (λ p. let w = and_parts (doing_number d == outer) b p in (done_here d (ds ++ es) outer (eqb-true (doing_number d) outer w.0), done_later d (ds ++ es) inner (done_second ds es inner (y.own_done w.1))))
-        (λ r. either_way c e r
+        (λ r. by_or c e r
         (λ p. let w = x.inside_done p in (done_later d (ds ++ es) outer (done_first ds es outer w.0), done_later d (ds ++ es) inner (done_first ds es inner w.1)))
         (λ p. let w = y.inside_done p in (done_later d (ds ++ es) outer (done_second ds es outer w.0), done_later d (ds ++ es) inner (done_second ds es inner w.1))));
   }
@@ -147,16 +148,16 @@ module _ (outer inner : ℕ) where
     pub nests : Nests (arm_takes x).takes ((arm_stands x).own inner) ((arm_stands x).inside outer inner) (arm_walk own_vertex x).walk (arm_doings x)
 
   abbrev Layer : Type 0
-  Layer = Statement-F ((x : Statement) × Of x) ((x : Arm) × OfArm x)
+  Layer = StatementParts Of OfArm
 
   abbrev ArmLayer : Type 0
-  ArmLayer = Arm-F ((x : Statement) × Of x) ((x : Arm) × OfArm x)
+  ArmLayer = ArmParts Of OfArm
 
   abbrev shape : Layer → Statement-F Statement Arm
-  shape = map-Statement ((x : Statement) × Of x) ((x : Arm) × OfArm x) Statement Arm (λ x. x.0) (λ x. x.0)
+  shape = statement_layer Of OfArm
 
   abbrev arm_shape : ArmLayer → Arm-F Statement Arm
-  arm_shape = map-Arm ((x : Statement) × Of x) ((x : Arm) × OfArm x) Statement Arm (λ x. x.0) (λ x. x.0)
+  arm_shape = arm_layer Of OfArm
 
   abbrev bodies : List ((x : Statement) × Of x) → List Statement
   bodies = map (λ (x : (y : Statement) × Of y). x.0)
@@ -165,7 +166,7 @@ module _ (outer inner : ℕ) where
   bodies_of_arms = map (λ (x : (y : Arm) × OfArm y). x.0)
 
   abbrev AllNest : List Statement → Type 0
-  AllNest ss = Nests (both (map takes_all ss)) (any_own (map stands ss) inner) (any_inside (map stands ss) outer inner) (all (map (walk own_vertex) ss)) (done.joined (map doings ss))
+  AllNest ss = Nests (all_true (map takes_all ss)) (any_own (map stands ss) inner) (any_inside (map stands ss) outer inner) (all (map (walk own_vertex) ss)) (done.joined (map doings ss))
 
   all_nest : (xs : List ((x : Statement) × Of x)) → AllNest (bodies xs)
   all_nest [] = none
@@ -205,12 +206,12 @@ module _ (outer inner : ℕ) where
   NestsAs t w f ds = Nests t (w.own inner) (w.inside outer inner) f ds
 
   test_under : (id : ℕ) (e : Expr) (tests inners : List ℕ → List ℕ) → ((ks : List ℕ) (k : ℕ) → IsIn ks k → IsIn (tests ks) k) → ((ks : List ℕ) → IsIn (inners ks) (suc id)) → (xs : List ((x : Statement) × Of x))
-      → Nests (both (map takes_all (bodies xs))) (id == inner) ((id == outer && any_own (map stands (bodies xs)) inner) || any_inside (map stands (bodies xs)) outer inner)
+      → Nests (all_true (map takes_all (bodies xs))) (id == inner) ((id == outer && any_own (map stands (bodies xs)) inner) || any_inside (map stands (bodies xs)) outer inner)
       (λ ks. joined (tests ks) (own_vertex id) ++ all (map (walk own_vertex) (bodies xs)) (inners ks)) (Does id (Tests e) ∷ done.joined (map doings (bodies xs)))
   test_under id e tests inners all_tests one_body xs = under (Does id (Tests e)) tests inners all_tests one_body _ _ _ (all (map (walk own_vertex) (bodies xs))) (done.joined (map doings (bodies xs))) (all_nest xs)
 
   for_nests : (id : ℕ) (e : Expr) (t a c : Bool) (f : Walk) (ds : List Doing) (u b k : Bool) (g : Walk) (es : List Doing) (xs : List ((x : Statement) × Of x)) → Nests t a c f ds → Nests u b k g es
-      → Nests (t && (u && both (map takes_all (bodies xs)))) (id == inner || a) ((id == outer && (b || any_own (map stands (bodies xs)) inner)) || (c || (k || any_inside (map stands (bodies xs)) outer inner)))
+      → Nests (t && (u && all_true (map takes_all (bodies xs)))) (id == inner || a) ((id == outer && (b || any_own (map stands (bodies xs)) inner)) || (c || (k || any_inside (map stands (bodies xs)) outer inner)))
       (λ ks. joined (ks ++ own_vertex id) (own_vertex id) ++ (f ks ++ (g (own_vertex id) ++ all (map (walk own_vertex) (bodies xs)) (own_vertex id)))) (Does id (Tests e) ∷ (ds ++ (es ++ done.joined (map doings (bodies xs)))))
   for_nests id e t a c f ds u b k g es xs x y =
       under_for (Does id (Tests e)) t _ a _ c _ f (λ ks. g ks ++ all (map (walk own_vertex) (bodies xs)) ks) ds (es ++ done.joined (map doings (bodies xs))) x

@@ -22,7 +22,7 @@ use Rattle.c_language.specs.Words.{Bytes}
 use Rattle.c_language.specs.TokenForms.{Tokens}
 use Rattle.c_language.specs.StatementGrammar.{IsSeparated, IsSimple, IsDeclared, IsDeclaration, IsInit, IsStep, AreLabels, IsStatement, AreStatements, IsBody, IsElse, AreArms, arm}
 use Rattle.c_language.specs.ItemGrammar.{IsGlobal, IsItem, AreItems, IsProgram}
-use Rattle.control_nesting.specs.TakenArms.{both, if_there}
+use Rattle.c_language.specs.Lists.{if_there, all_true}
 
 -- a label is there
 abbrev pub has_label : List RawLabel → Bool
@@ -35,16 +35,16 @@ labelled_step (RawStatement-F.Assign l a op b) = true
 labelled_step (RawStatement-F.Bump l a up before) = true
 labelled_step (RawStatement-F.Call l to f args) = true
 labelled_step (RawStatement-F.Heap l to cast n) = true
-labelled_step (RawStatement-F.If l e a b) = both a && both b
-labelled_step (RawStatement-F.While l e b) = both b
-labelled_step (RawStatement-F.Do l e b) = both b
-labelled_step (RawStatement-F.For l i e k b) = if_there i && (if_there k && both b)
-labelled_step (RawStatement-F.Switch l e arms) = both arms
-labelled_step (RawStatement-F.Block l b) = both b
+labelled_step (RawStatement-F.If l e a b) = all_true a && all_true b
+labelled_step (RawStatement-F.While l e b) = all_true b
+labelled_step (RawStatement-F.Do l e b) = all_true b
+labelled_step (RawStatement-F.For l i e k b) = if_there i && (if_there k && all_true b)
+labelled_step (RawStatement-F.Switch l e arms) = all_true arms
+labelled_step (RawStatement-F.Block l b) = all_true b
 labelled_step (RawStatement-F.Return l e) = true
 
 abbrev pub labelled_arm : RawArm-F Bool Bool → Bool
-labelled_arm a = has_label a.labels && both a.body
+labelled_arm a = has_label a.labels && all_true a.body
 
 -- each arm in a statement has a label
 abbrev pub labelled : RawStatement → Bool
@@ -54,7 +54,7 @@ abbrev pub labelled_of_arm : RawArm → Bool
 labelled_of_arm = fold-RawArm Bool Bool labelled_step labelled_arm
 
 abbrev pub are_labelled : List RawStatement → Bool
-are_labelled all = both (map labelled all)
+are_labelled all = all_true (map labelled all)
 
 -- ---- each form
 
@@ -88,7 +88,7 @@ labelled-Block l b = ap labelled (sym (s.rolls-Block l b)) ∙ fold-roll-RawStat
 labelled-Return : (l : ℕ) (e : Option RawExpr) → labelled (s.Return l e) ≡ true
 labelled-Return l e = ap labelled (sym (s.rolls-Return l e)) ∙ fold-roll-RawStatement Bool Bool labelled_step labelled_arm (RawStatement-F.Return l e)
 
-labelled-Switch : (l : ℕ) (e : RawExpr) (arms : List RawArm) → labelled (s.Switch l e arms) ≡ both (map labelled_of_arm arms)
+labelled-Switch : (l : ℕ) (e : RawExpr) (arms : List RawArm) → labelled (s.Switch l e arms) ≡ all_true (map labelled_of_arm arms)
 labelled-Switch l e arms = ap labelled (sym (s.rolls-Switch l e arms)) ∙ fold-roll-RawStatement Bool Bool labelled_step labelled_arm (RawStatement-F.Switch l e arms)
 
 abbrev labelled_part : Option RawStatement → Option Bool
@@ -177,10 +177,10 @@ mutual
   else_labelled (IsElse.otherwise h) = body_labelled h
   else_labelled (IsElse.without p) = refl
 
-  arms_labelled : {ts rest : Tokens} {all : List RawArm} → AreArms ts all rest → both (map labelled_of_arm all) ≡ true
+  arms_labelled : {ts rest : Tokens} {all : List RawArm} → AreArms ts all rest → all_true (map labelled_of_arm all) ≡ true
   arms_labelled AreArms.none = refl
   arms_labelled (AreArms.broken {labels} {body} {arms} h k j) =
-      and_from (labelled_of_arm (arm labels body)) (both (map labelled_of_arm arms))
+      and_from (labelled_of_arm (arm labels body)) (all_true (map labelled_of_arm arms))
       (labelled-arm labels body ∙ and_from (has_label labels) (are_labelled body) (labels_there h) (statements_labelled k)) (arms_labelled j)
   arms_labelled (AreArms.unbroken {labels} {body} h p k) =
       and_from (labelled_of_arm (arm labels body)) true

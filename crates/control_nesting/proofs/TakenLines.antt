@@ -6,7 +6,7 @@ use Rattle.c_tree.specs.declared.program.Function.{Function}
 use Rattle.c_tree.specs.declared.program.Program.{Program}
 use Rattle.c_tree.specs.declared.statement.Statement.{Statement}
 use Rattle.c_tree.specs.declared.statement.Statement.TheOpen.{Statement-F}
-use Rattle.projection_laws.proofs.Unlining.{zeroed, fold_unlined}
+use Rattle.c_tree.proofs.Unlining.{zeroed, fold_unlined}
 use Rattle.control_nesting.specs.Laws.{WellFormedTakesAll}
 use Rattle.control_nesting.specs.TakenArms.{ArmTakes, takes_step, takes_arm, takes_all, TakesAll}
 use Rattle.control_nesting.proofs.TakenTexts.{program_taken}

@@ -3,6 +3,7 @@ use Rattle.std.proofs.Common.{◌≡◌, ℕ, List, [], ◌∷◌, ◌++◌, map
 use Rattle.std.specs.Prelude.{option_map, option_and_then, if◌then◌else◌, bytes_eq}
 use Rattle.std.specs.List.{list_all}
 use Rattle.std.proofs.lemmas.Bool.{and_parts, and_from}
+use Rattle.c_language.proofs.PhraseLists.{kept_from}
 use Rattle.c_arith.specs.declared.int_type.IntType.{IntType}
 use Rattle.c_arith.specs.IntType.{promote}
 use Rattle.c_tree.specs.declared.types.CType.{CType}
@@ -31,31 +32,30 @@ use Rattle.c_language.specs.declared.expr_type.Operand.{Operand}
 use Rattle.c_language.specs.Scopes.{Scope, opened, numbered, entered, outset, Scoped, in_order, part_gives, after_part, scope_of_test, with_target}
 use Rattle.c_language.specs.Phrases.{Stand, InBlock, InArm, InFor, Switches, Phrases, joined_at, at_stand, ArmText, labels_of, phrases_of_arms, block_phrases, phrases_step, scoped_step, scoped_arm, scoped, scoped_of_arm, body_phrases, head_phrases, item_phrases, items_phrases, after_item, phrases}
 use Rattle.c_language.specs.ProgramOf as trees_of
-use Rattle.c_language.specs.ProgramOf.{collected, expr_of, args_tree, only_tree, call_tree, ctype_if, ArmTree, arm_tree, at_type, part_tree, block_tree, tree_step, treed_step, arm_tree_step, treed, target_tree, switch_type, label_tree, body_of, function_tree, functions_from, parameter_ids, amount_tree}
+use Rattle.c_language.specs.ProgramOf.{collected, expr_of, args_tree, only_tree, call_tree, ctype_if, ArmTree, arm_tree, at_type, part_tree, block_tree, tree_step, treed_step, arm_tree_step, treed, target_tree, switch_type, label_tree, body_of, function_tree, functions_from, parameter_ids, amount_tree, treed_arm}
 use Rattle.c_language.specs.TypeGrammar.{named_type}
 use Rattle.c_language.specs.Programs.{IsTree, HasProgram}
-use Rattle.c_language.specs.Rules.{Breaks, IsBroken}
+use Rattle.c_language.specs.Rules.{Breaks, IsBroken, AreKept}
 use Rattle.c_language.specs.SwitchRules.{HasTwo, SameCase, MisusesSwitch}
-use Rattle.built_forms.proofs.Kept.{AreKept, kept_from}
 use Rattle.built_forms.proofs.Options.{Always, always_map, always_then, always_both, always_is}
 use Rattle.c_scope_laws.specs.Thinning.{block_after, part_scope, body_scope}
 use Rattle.projection_laws.proofs.Options.{map_there, then_there, both_there, more_there}
 use Rattle.control_nesting.specs.Laws.{TextsTakeAll}
-use Rattle.control_nesting.specs.TakenArms.{both, if_there, ArmTakes, arms_taken, takes_all, TakesAll}
+use Rattle.control_nesting.specs.TakenArms.{ArmTakes, arms_taken, takes_all, TakesAll}
 use Rattle.control_nesting.proofs.TakenForms.{arm_takes, takes-Declare, takes-Assign, takes-Bump, takes-Invoke, takes-Fetch, takes-Write, takes-Print, takes-Heap, takes-Release, takes-If, takes-While, takes-Do, takes-For, takes-Switch, takes-Block, takes-Return, takes-arm}
 use Rattle.control_nesting.proofs.TakenLabels.{has_label, labelled_step, labelled_arm, labelled, labelled_of_arm, are_labelled, AreLabelled, program_labelled}
 use Rattle.control_nesting.proofs.TakenCases.{Apart, labels_apart, first_there}
 use Rattle.c_language.specs.ConstantEvaluation as constants
-use Rattle.c_language.proofs.TreedForms.{treed_arm}
 use Rattle.c_language.proofs.Options.{some_same, optional_there}
 use Rattle.c_language.proofs.Tests.{false_true}
 use Rattle.c_language.proofs.TreeScopes.{after_same, list_after, block_after_same, part_after}
+use Rattle.c_language.specs.Lists.{if_there, all_true}
 
 abbrev IsTaken : Statement → Type 0
 IsTaken z = takes_all z ≡ true
 
 abbrev AreTaken : List Statement → Type 0
-AreTaken zs = both (map takes_all zs) ≡ true
+AreTaken zs = all_true (map takes_all zs) ≡ true
 
 if_always : (b : Bool) (o q : Option Statement) → Always IsTaken o → Always IsTaken q → Always IsTaken (if b then o else q)
 if_always true o q h k = h
@@ -152,10 +152,10 @@ module _ (raw : RawProgram) where
       let rest = joined_at stand (in_order (map (scoped raw) (bare xs)) next) in
       let w = and_parts (labelled x.0) (are_labelled (bare xs)) f in
       subst AreTaken m.same
-      (and_from (takes_all m.first) (both (map takes_all m.rest)) (x.1 scope stand m.first m.first_there w.0 (kept_left ((scoped raw x.0).gives scope stand) rest g))
+      (and_from (takes_all m.first) (all_true (map takes_all m.rest)) (x.1 scope stand m.first m.first_there w.0 (kept_left ((scoped raw x.0).gives scope stand) rest g))
       (lists xs next stand m.rest (ap (λ (z : Scope). collected (in_order (map (treed raw) (bare xs)) z)) (sym (after_same raw x.0 scope)) ∙ m.rest_there) w.1 (kept_right ((scoped raw x.0).gives scope stand) rest g)))
 
-  arms_lists : (xs : Arms) (scope : Scope) (i : IntType) (before : List Label) (zs : List Arm) → at_type i (in_order (map (treed_arm raw) (bare_arms xs)) scope) ≡ Some zs → both (map labelled_of_arm (bare_arms xs)) ≡ true
+  arms_lists : (xs : Arms) (scope : Scope) (i : IntType) (before : List Label) (zs : List Arm) → at_type i (in_order (map (treed_arm raw) (bare_arms xs)) scope) ≡ Some zs → all_true (map labelled_of_arm (bare_arms xs)) ≡ true
       → AreKept raw (phrases_of_arms (in_order (map (scoped_of_arm raw) (bare_arms xs)) scope)) → Apart i before (labels_of (in_order (map (scoped_of_arm raw) (bare_arms xs)) scope)) → arms_taken before (map arm_takes zs) ≡ true
   arms_lists [] scope i before zs at f g h = subst (λ (w : List Arm). arms_taken before (map arm_takes w) ≡ true) (some_same at) refl
   arms_lists (x ∷ xs) scope i before zs at f g h =
@@ -163,7 +163,7 @@ module _ (raw : RawProgram) where
       let m = more_there ((treed_arm raw x.0).gives scope i) (map (λ (a : ArmTree). a i) (in_order (map (treed_arm raw) (bare_arms xs)) ((treed_arm raw x.0).after scope))) zs at in
       let rest = phrases_of_arms (in_order (map (scoped_of_arm raw) (bare_arms xs)) next) in
       let others = labels_of (in_order (map (scoped_of_arm raw) (bare_arms xs)) next) in
-      let w = and_parts (labelled_of_arm x.0) (both (map labelled_of_arm (bare_arms xs))) f in
+      let w = and_parts (labelled_of_arm x.0) (all_true (map labelled_of_arm (bare_arms xs))) f in
       let d : IsArm scope i x.0 m.first = x.1 scope i m.first m.first_there w.0 (kept_left ((scoped_of_arm raw x.0).gives scope).phrases rest g) in
       let apart : Apart i before (d.labels ++ others) = subst (λ (ls : List RawLabel). Apart i before (ls ++ others)) d.own h in
       let later = arms_lists xs next i _ m.rest (ap (λ (z : Scope). at_type i (in_order (map (treed_arm raw) (bare_arms xs)) z)) (sym d.after) ∙ m.rest_there) w.1
@@ -201,8 +201,8 @@ module _ (raw : RawProgram) where
       let g2 = (kept_right first_phrases _ g).1 in
       subst IsTaken r.same
       (takes-For scope.statements l p.0 q.0 r.first r.second
-      ∙ and_from (if_there (option_map takes_all p.0)) (if_there (option_map takes_all r.first) && both (map takes_all r.second)) (parts i start InFor p.0 p.1.0 f1.0 (kept_left first_phrases _ g))
-      (and_from (if_there (option_map takes_all r.first)) (both (map takes_all r.second))
+      ∙ and_from (if_there (option_map takes_all p.0)) (if_there (option_map takes_all r.first) && all_true (map takes_all r.second)) (parts i start InFor p.0 p.1.0 f1.0 (kept_left first_phrases _ g))
+      (and_from (if_there (option_map takes_all r.first)) (all_true (map takes_all r.second))
       (parts step test InBlock r.first (ap (part_tree (option_map (treed raw) (bare_part step))) (sym to_test) ∙ r.first_there) f2.0 (kept_left step_phrases own_phrases g2))
       (lists b (opened inside) InBlock r.second (ap (block_tree (map (treed raw) (bare b))) (sym to_body) ∙ r.second_there) f2.1 (kept_right step_phrases own_phrases g2))))
 
@@ -229,7 +229,7 @@ module _ (raw : RawProgram) where
       let w = and_parts (are_labelled (bare x)) (are_labelled (bare y)) f in
       subst IsTaken o.same
       (takes-If scope.statements l m.0 o.first o.second
-      ∙ and_from (both (map takes_all o.first)) (both (map takes_all o.second)) (lists x (opened (numbered scope)) InBlock o.first o.first_there w.0 (kept_left first_phrases rest g.1))
+      ∙ and_from (all_true (map takes_all o.first)) (all_true (map takes_all o.second)) (lists x (opened (numbered scope)) InBlock o.first o.first_there w.0 (kept_left first_phrases rest g.1))
       (lists y (opened between) InBlock o.second (ap (block_tree (map (treed raw) (bare y))) (sym (block_after_same raw (bare x) (numbered scope))) ∙ o.second_there) w.1 (kept_right first_phrases rest g.1)))
   of_layer (RawStatement-F.While l a x) scope stand z at f g =
       let o = both_there (t.While scope.statements l) (expr_of raw scope a) _ z at in

@@ -1,5 +1,5 @@
 -- In which programs some value of its test takes each arm of a switch.
-use Rattle.std.specs.Prelude.{◌≡◌, Bool, true, ◌&&◌, List, [], ◌∷◌, Option, Some, None}
+use Rattle.std.specs.Prelude.{◌≡◌, Bool, true, ◌&&◌, List, [], ◌∷◌}
 use Rattle.std.specs.List.{list_all}
 use Rattle.c_tree.specs.declared.program.Function.{Function}
 use Rattle.c_tree.specs.declared.program.Program.{Program}
@@ -7,14 +7,7 @@ use Rattle.c_tree.specs.declared.statement.Label.{Label}
 use Rattle.c_tree.specs.declared.statement.Statement.{Statement, fold-Statement}
 use Rattle.c_tree.specs.declared.statement.Statement.TheOpen.{Statement-F, Arm-F}
 use Rattle.dep_model.specs.SwitchArms.{has_first, with_labels}
-
-abbrev pub both : List Bool → Bool
-both [] = true
-both (b ∷ bs) = b && both bs
-
-abbrev pub if_there : Option Bool → Bool
-if_there None = true
-if_there (Some b) = b
+use Rattle.c_language.specs.Lists.{if_there, all_true}
 
 -- an arm of a switch, and whether the arms in it are taken
 pub record ArmTakes : Type 0 where
@@ -36,16 +29,16 @@ takes_step (Statement-F.Write id l a) = true
 takes_step (Statement-F.Print id l format args) = true
 takes_step (Statement-F.Heap id l to cast n) = true
 takes_step (Statement-F.Release id l a) = true
-takes_step (Statement-F.If id l e a b) = both a && both b
-takes_step (Statement-F.While id l e b) = both b
-takes_step (Statement-F.Do id l e b) = both b
-takes_step (Statement-F.For id l i e step b) = if_there i && (if_there step && both b)
+takes_step (Statement-F.If id l e a b) = all_true a && all_true b
+takes_step (Statement-F.While id l e b) = all_true b
+takes_step (Statement-F.Do id l e b) = all_true b
+takes_step (Statement-F.For id l i e step b) = if_there i && (if_there step && all_true b)
 takes_step (Statement-F.Switch id l e arms) = arms_taken [] arms
-takes_step (Statement-F.Block l b) = both b
+takes_step (Statement-F.Block l b) = all_true b
 takes_step (Statement-F.Return id l e) = true
 
 abbrev pub takes_arm : Arm-F Bool ArmTakes → ArmTakes
-takes_arm a = record { labels = a.labels; takes = both a.body }
+takes_arm a = record { labels = a.labels; takes = all_true a.body }
 
 -- each arm of each switch in a statement is taken
 abbrev pub takes_all : Statement → Bool

@@ -1,9 +1,6 @@
 -- Lists that grow, call by call and turn by turn.
 use Rattle.std.proofs.Common.{◌≡◌, ℕ, zero, suc, ◌+◌, ◌<◌, List, [], ◌∷◌, ◌++◌, length, take, get_or, append_assoc, append-nil, arith, refl, sym, ap, ◌∙◌}
 
-pub two : {A B C : Type 0} (f : A → B → C) {a b : A} {c d : B} → a ≡ b → c ≡ d → f a c ≡ f b d
-two f {a} {b} {c} {d} p q = ap (λ x. f x c) p ∙ ap (f b) q
-
 pub grown_two : {A : Type 0} (o p q a b w : List A) → p ≡ o ++ a → q ≡ p ++ b → w ≡ a ++ b → q ≡ o ++ w
 grown_two o p q a b w e f g = f ∙ (ap (λ x. x ++ b) e ∙ (append_assoc o a b ∙ ap (λ x. o ++ x) (sym g)))
 

@@ -3,7 +3,7 @@
 use Rattle.std.proofs.Common.{◌≡◌, ℕ, List, [], ◌∷◌, Bool, true, false, inl, inr, not, ◌&&◌, ◌||◌, Option, Some, None, refl, sym, ap, ◌∙◌, subst}
 use Rattle.std.specs.Prelude.{Contains}
 use Rattle.std.specs.List.{list_any, list_all}
-use Rattle.std.proofs.lemmas.Bool.{false≢true, and_parts}
+use Rattle.std.proofs.lemmas.Bool.{false≢true, and_parts, or_right}
 use Rattle.c_arith.specs.declared.operators.BinaryOp.{BinaryOp}
 use Rattle.c_tree.specs.declared.expr.Expr.{Expr}
 use Rattle.c_tree.specs.declared.program.Init.TheVariants as init
@@ -17,9 +17,10 @@ use Rattle.dep_model.specs.DoingEffects.{result_of, expr_takes, act_takes, is_gl
 use Rattle.dep_model.specs.IntegerEffects.{variables_read, variables_set, variables_named, all_read, compound_read, act_read, act_set, act_named, gives_result, any_whole}
 use Rattle.dep_model.specs.Locations.{same_location}
 use Rattle.dep_model.specs.MayPoint.{Pointing, pointing, act_pointings}
-use Rattle.dep_model.proofs.BoolLemmas.{or_none, or_true, or_both}
+use Rattle.dep_model.proofs.BoolLemmas.{or_both}
 use Rattle.rule_closure.proofs.ListLemmas.{contains_none, contains_cases}
 use Rattle.dep_model.proofs.IntegerExprs.{AreIntegers, any_append, ReadsItsVariables, NamesItsVariable, integer_reads, name_sets}
+use Rattle.c_language.proofs.Tests.{or_none}
 
 -- an act of an integer main
 abbrev pub is_integer_act : Act → Bool
@@ -55,7 +56,7 @@ module _ (p : Program) (points : PointsTo) where
     pub points_nowhere : (f i : ℕ) (b : Pointing) (m : Location) → Contains (act_pointings p points f i a) b → b.from m ≡ false
 
   killable : (x : ℕ) → is_taken p x ≡ false → is_killable p x ≡ true
-  killable x h = ap (λ b. is_global p x || not b) h ∙ or_true (is_global p x)
+  killable x h = ap (λ b. is_global p x || not b) h ∙ or_right (is_global p x) true refl
 
   one_pointing : (a b : Pointing) (m : Location) → Contains (a ∷ []) b → a.from m ≡ false → b.from m ≡ false
   one_pointing a b m c none = elim (contains_cases a [] b c) [

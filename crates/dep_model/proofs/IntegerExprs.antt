@@ -25,7 +25,8 @@ use Rattle.dep_model.specs.Designated.{Designated, designated, designated_step, 
 use Rattle.dep_model.specs.Denoted.{PointsTo, Denoted, whole, part_of, targets, denoted, denoted_step, value_reads, value_points}
 use Rattle.dep_model.specs.DoingEffects.{is_killable, named_kills}
 use Rattle.dep_model.specs.IntegerEffects.{reads_step, variables_read, place_step, variables_set, name_step, variables_named, any_whole}
-use Rattle.dep_model.proofs.BoolLemmas.{or_none, or_assoc, or_both}
+use Rattle.dep_model.proofs.BoolLemmas.{or_both}
+use Rattle.c_language.proofs.Tests.{or_assoc, or_none}
 
 -- the variables are integers
 abbrev pub AreIntegers : Program → Type 0

@@ -2,6 +2,7 @@
 use Rattle.std.proofs.Common.{◌≡◌, ℕ, zero, suc, ◌+◌, ◌<◌, ◌==◌, List, [], ◌∷◌, map, slice_get, Bool, true, false, ◌&&◌, ◌||◌, Option, Some, refl, sym, ap, ◌∙◌, subst, arith, eq-eqb, eqb-true}
 use Rattle.std.specs.Prelude.{Contains, if◌then◌else◌}
 use Rattle.std.proofs.lemmas.Bool.{false≢true, and_parts, ne_eqb}
+use Rattle.std.proofs.lemmas.Option.{same_Some}
 use Rattle.c_tree.specs.declared.program.Program.{Program}
 use Rattle.c_language.specs.Code.{Act}
 use Rattle.dep_model.specs.declared.vertex.Vertex.{Vertex}
@@ -23,13 +24,10 @@ statement_at i (suc n) (suc k) lt =
     let e : suc i + k ≡ i + suc k = omega arith in
     statement_at (suc i) n k (omega (arith, lt)) ∙ ap (λ j. Some (statement j)) e
 
-some_inj : {x y : Vertex} → Some x ≡ Some y → x ≡ y
-some_inj h = cc
-
 statement_only : (i n k : ℕ) (v : Vertex) → slice_get (map statement (from i n)) k ≡ Some v → (k < n) × (v ≡ statement (i + k))
 statement_only i zero k v e = cc
 statement_only i (suc n) zero v e =
-    let q : i ≡ i + 0 = omega arith in (omega arith, sym (some_inj e) ∙ ap statement q)
+    let q : i ≡ i + 0 = omega arith in (omega arith, sym (same_Some _ _ e) ∙ ap statement q)
 statement_only i (suc n) (suc k) v e =
     let w = statement_only (suc i) n k v e in
     let q : suc i + k ≡ i + suc k = omega arith in
@@ -45,7 +43,7 @@ pub data IsMainVertex (p : Program) : ℕ → Vertex → Type 0 where
   numbered : {i : ℕ} → i < p.statements → IsMainVertex p (suc i) (in_function 0 (Statement i))
 
 pub vertex_cases : (p : Program) (v : ℕ) (x : Vertex) → slice_get (vertices p) v ≡ Some x → IsMainVertex p v x
-vertex_cases p zero x e = subst (IsMainVertex p 0) (some_inj e) entry
+vertex_cases p zero x e = subst (IsMainVertex p 0) (same_Some _ _ e) entry
 vertex_cases p (suc i) x e =
     let w = statement_only 0 p.statements i x e in
     let q : 0 + i ≡ i = omega arith in

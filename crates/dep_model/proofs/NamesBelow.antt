@@ -1,10 +1,9 @@
 -- What names variables with numbers below n names them below more.
 use Rattle.std.proofs.Common.{◌≡◌, ℕ, ◌<◌, ◌≤◌, Bool, true, ◌&&◌, refl, sym, ◌∙◌, subst, arith, ltb-true, lt-ltb}
-use Rattle.std.proofs.lemmas.Bool.{and_parts}
+use Rattle.std.proofs.lemmas.Bool.{and_parts, and_from}
 use Rattle.c_tree.specs.declared.expr.Expr.{Expr, map-Expr, ind-Expr, roll-Expr, fold-roll-Expr}
 use Rattle.c_tree.specs.declared.expr.Expr.TheOpen.{Expr-F}
 use Rattle.built_forms.specs.NamesBelow.{names_below, names_step}
-use Rattle.dep_model.proofs.BoolLemmas.{both_true}
 
 module _ (n m : ℕ) (le : n ≤ m) where
   abbrev IsBelowWhere : Expr → Type 0
@@ -17,7 +16,7 @@ module _ (n m : ℕ) (le : n ≤ m) where
   below_layer = map-Expr KnownBelow Expr (λ a. a.0)
 
   two : (a b : KnownBelow) → (names_below n a.0 && names_below n b.0) ≡ true → (names_below m a.0 && names_below m b.0) ≡ true
-  two a b h = let k = and_parts (names_below n a.0) (names_below n b.0) h in both_true (a.1 k.0) (b.1 k.1)
+  two a b h = let k = and_parts (names_below n a.0) (names_below n b.0) h in and_from _ _ (a.1 k.0) (b.1 k.1)
 
   layer_below : (y : Expr-F KnownBelow) → names_step n (map-Expr Expr Bool (names_below n) (below_layer y)) ≡ true → names_step m (map-Expr Expr Bool (names_below m) (below_layer y)) ≡ true
   layer_below (Expr-F.Constant t k v) h = refl
@@ -31,7 +30,7 @@ module _ (n m : ℕ) (le : n ≤ m) where
   layer_below (Expr-F.AndAlso a b) h = two a b h
   layer_below (Expr-F.OrElse a b) h = two a b h
   layer_below (Expr-F.Choose c a b) h =
-      let k = and_parts (names_below n c.0) (names_below n a.0 && names_below n b.0) h in both_true (c.1 k.0) (two a b k.1)
+      let k = and_parts (names_below n c.0) (names_below n a.0 && names_below n b.0) h in and_from _ _ (c.1 k.0) (two a b k.1)
   layer_below (Expr-F.Cast t a) h = a.1 h
   layer_below (Expr-F.Index a i) h = two a i h
   layer_below (Expr-F.Member a k) h = a.1 h

@@ -2,7 +2,7 @@
 use Rattle.std.proofs.Common.{append-nil, ◌≡◌, ◌↔◌, ℕ, zero, suc, List, [], ◌∷◌, ◌++◌, map, slice_get, Bool, true, false, not, ◌&&◌, ◌||◌, inl, inr, Option, Some, None, codes, refl, sym, ap, ◌∙◌, subst, arith}
 use Rattle.std.specs.Prelude.{Contains, is_some, bytes_eq, if◌then◌else◌}
 use Rattle.std.specs.Option.{option_map_or}
-use Rattle.std.proofs.lemmas.Bool.{false≢true, and_parts}
+use Rattle.std.proofs.lemmas.Bool.{false≢true, and_parts, false_from_ne_true}
 use Rattle.std.proofs.lemmas.List.Elements.{Contains-append_cases}
 use Rattle.c_tree.specs.declared.program.Function.{Function}
 use Rattle.c_tree.specs.declared.program.Program.{Program}
@@ -28,12 +28,8 @@ use Rattle.rule_closure.proofs.ListLemmas.{contains_head, contains_cons}
 use Rattle.dep_model.proofs.MainVertexLemmas.{own_vertex, entry_vertex, no_others, no_formal_in, no_formal_out}
 use Rattle.dep_model.proofs.IntegerActs.{is_integer_act, all_integer}
 use Rattle.dep_model.proofs.NumberedMain.{all_are, other_code, no_calls, modifies_none, uses_none}
-use Rattle.dep_model.proofs.WholeVariables.{truth}
 
 -- ---- vertices
-
-not_true : (b : Bool) → (b ≡ true → ⊥) → b ≡ false
-not_true b never = elim (truth b) [ inl t ↦ absurd (never t) | inr f ↦ f ]
 
 no_slots : (test : Places) → ((l : Location) → test l ≡ false) → (k : ℕ) (os : List Placed) → slots_from test k os ≡ []
 no_slots test none k [] = refl
@@ -64,10 +60,10 @@ no_result_of g e =
 
 module _ (p : Program) (a : Analysis) (h : IsNumberedMain p) (are : AreFunctionEffects p a.points a.effects) where
   modified_none : (f : ℕ) (l : Location) → a.effects.modified f l ≡ false
-  modified_none f l = not_true (a.effects.modified f l) (λ t. modifies_none p h.integer a.points f l ((are.modified_are f l).0 t))
+  modified_none f l = false_from_ne_true (a.effects.modified f l) (λ t. modifies_none p h.integer a.points f l ((are.modified_are f l).0 t))
 
   used_none : (f : ℕ) (l : Location) → a.effects.used f l ≡ false
-  used_none f l = not_true (a.effects.used f l) (λ t. uses_none p h.integer a.points f l ((are.used_are f l).0 t))
+  used_none f l = false_from_ne_true (a.effects.used f l) (λ t. uses_none p h.integer a.points f l ((are.used_are f l).0 t))
 
   touched_none : (f : ℕ) (l : Location) → touched p a.effects f l ≡ false
   touched_none f l = ap (λ b. b || a.effects.used f l) (modified_none f l) ∙ used_none f l

@@ -1,17 +1,12 @@
 -- The numbers of vertices that pass a test, one vertex after another.
-use Rattle.std.proofs.Common.{◌≡◌, ℕ, zero, suc, ◌+◌, ◌<◌, ◌≤◌, List, [], ◌∷◌, ◌++◌, length, drop, get_or, Bool, true, false, append_assoc, append-nil, add-one, drop-cons, arith, refl, sym, ap, ◌∙◌}
+use Rattle.std.proofs.Common.{◌≡◌, ℕ, suc, ◌+◌, ◌<◌, ◌≤◌, List, [], ◌∷◌, ◌++◌, length, drop, get_or, Bool, true, false, append_assoc, append-nil, add-one, drop-cons, refl, sym, ap, ◌∙◌}
 use Rattle.std.specs.Prelude.{if◌then◌else◌}
+use Rattle.std.proofs.lemmas.List.{drop_all}
 use Rattle.dep_model.specs.declared.vertex.Vertex.{Vertex}
 use Rattle.dep_model.specs.FunctionVertices.{numbers_from}
 
 pub drop_item : {X : Type 0} (xs : List X) (i : ℕ) (x : X) → i < length xs → get_or xs i x ≡ x → drop i xs ≡ x ∷ drop (i + 1) xs
 drop_item xs i x lt is = rw (add-one) (drop-cons xs i x lt ∙ ap (λ y. y ∷ drop (suc i) xs) is)
-
-pub drop_none : {X : Type 0} (xs : List X) (i : ℕ) → length xs ≤ i → drop i xs ≡ []
-drop_none [] zero le = refl
-drop_none [] (suc i) le = refl
-drop_none (x ∷ xs) zero le = absurd (omega (arith, le))
-drop_none (x ∷ xs) (suc i) le = drop_none xs i (omega (arith, le))
 
 one_number : (test : Vertex → Bool) (n : ℕ) (v : Vertex) (vs : List Vertex) (b : Bool) → test v ≡ b → numbers_from test n (v ∷ vs) ≡ (if b then n ∷ [] else []) ++ numbers_from test (suc n) vs
 one_number test n v vs true e = rw e refl
@@ -26,4 +21,4 @@ numbers_turn test vs i v n found new whole lt is inv now =
 -- all vertices were looked at
 pub numbers_end : (test : Vertex → Bool) (vs : List Vertex) (i n : ℕ) (found whole : List ℕ) → length vs ≤ i → found ++ numbers_from test n (drop i vs) ≡ whole → found ≡ whole
 numbers_end test vs i n found whole le inv =
-    sym (append-nil found) ∙ ap (λ xs. found ++ numbers_from test n xs) (sym (drop_none vs i le)) ∙ inv
+    sym (append-nil found) ∙ ap (λ xs. found ++ numbers_from test n xs) (sym (drop_all i vs le)) ∙ inv

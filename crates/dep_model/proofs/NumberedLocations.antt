@@ -3,6 +3,7 @@ use Rattle.std.proofs.Common.{append-nil, ◌≡◌, ℕ, zero, suc, ◌+◌, �
 use Rattle.std.specs.Prelude.{All}
 use Rattle.std.proofs.lemmas.Bool.{false≢true, and_parts}
 use Rattle.std.proofs.lemmas.List.Elements.{All-head, All-tail}
+use Rattle.std.proofs.lemmas.Option.{same_Some}
 use Rattle.c_arith.specs.declared.int_type.IntType.{IntType}
 use Rattle.c_arith.specs.declared.int_type.IntType.TheVariants.{Int}
 use Rattle.c_tree.specs.declared.program.Program.{Program}
@@ -77,22 +78,19 @@ pub data IsMainLocation (n : ℕ) : ℕ → Location → Type 0 where
   a_variable : {x : ℕ} → x < n → IsMainLocation n (suc x) (variable x)
   the_result : IsMainLocation n (suc n) (result_of 0)
 
-some_placed : {x y : Placed} → Some x ≡ Some y → x ≡ y
-some_placed h = cc
-
 whole_cases : (x : ℕ) (vs : List Var) (k : ℕ) (o : Placed) → slice_get (whole_variables x vs ++ main_result ∷ []) k ≡ Some o → ((k < length vs) × (o.location ≡ variable (x + k))) ⊎ ((k ≡ length vs) × (o.location ≡ result_of 0))
-whole_cases x [] zero o e = inr (refl, sym (ap (λ (q : Placed). q.location) (some_placed e)))
+whole_cases x [] zero o e = inr (refl, sym (ap (λ (q : Placed). q.location) (same_Some _ _ e)))
 whole_cases x [] (suc k) o e = cc
 whole_cases x (v ∷ vs) zero o e =
     let n : x ≡ x + 0 = omega arith in
-    inl (omega arith, sym (ap (λ (q : Placed). q.location) (some_placed e)) ∙ ap variable n)
+    inl (omega arith, sym (ap (λ (q : Placed). q.location) (same_Some _ _ e)) ∙ ap variable n)
 whole_cases x (v ∷ vs) (suc k) o e = elim (whole_cases (suc x) vs k o e) [
   | inl w ↦ let n : suc x + k ≡ x + suc k = omega arith in inl (omega (arith, w.0), w.1 ∙ ap variable n)
   | inr w ↦ inr (ap suc w.0, w.1)
 ]
 
 pub location_cases : (p : Program) (k : ℕ) (o : Placed) → slice_get (main_locations p) k ≡ Some o → IsMainLocation (length p.vars) k o.location
-location_cases p zero o e = subst (IsMainLocation (length p.vars) 0) (ap (λ (q : Placed). q.location) (some_placed e)) the_input_
+location_cases p zero o e = subst (IsMainLocation (length p.vars) 0) (ap (λ (q : Placed). q.location) (same_Some _ _ e)) the_input_
 location_cases p (suc k) o e = elim (whole_cases 0 p.vars k o e) [
   | inl w ↦
       let n : 0 + k ≡ k = omega arith in

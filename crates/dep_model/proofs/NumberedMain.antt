@@ -34,12 +34,12 @@ use Rattle.dep_model.specs.Locations.{same_location, same_root}
 use Rattle.dep_model.specs.MayPoint.{Pointing, doing_pointings, item_pointings, IsPointing, of_statement, of_global, MayPoint, by}
 use Rattle.dep_model.specs.ModRef.{is_outside_root, is_outside, Modifies, MayUse}
 use Rattle.dep_model.specs.SystemGraph.{Analysis, IsAnalysis}
-use Rattle.dep_model.proofs.BoolLemmas.{or_none}
 use Rattle.rule_closure.proofs.ListLemmas.{contains_none, contains_cases}
 use Rattle.dep_model.proofs.WholeVariables.{IsInVariable, in_variable, whole_is}
 use Rattle.dep_model.proofs.IntegerExprs.{AreIntegers}
 use Rattle.dep_model.proofs.IntegerActs.{is_integer_act, is_integer_doing, all_integer, ActsOnVariables, integer_act}
 use Rattle.dep_model.proofs.IntegerStatements.{body_integer}
+use Rattle.c_language.proofs.Tests.{or_none}
 
 -- ---- variables
 

@@ -1,5 +1,5 @@
 -- The order of pairs, as sorting has it.
-use Rattle.std.proofs.Common.{◌≡◌, ℕ, ◌<◌, inl, inr, Bool, true, false, arith, refl, sym, ap, ◌∙◌}
+use Rattle.std.proofs.Common.{◌≡◌, ℕ, ◌<◌, inl, inr, Bool, true, arith, refl, sym, ap, ◌∙◌}
 use Rattle.std.specs.Prelude.{◌&&◌, nat_eq}
 use Rattle.std.specs.Cmp.{IsTotalOrder, IsEquivalence}
 use Rattle.std.specs.declared.cmp.Ordering.{Ordering}
@@ -7,6 +7,7 @@ use Rattle.std.specs.declared.cmp.Ordering.TheVariants.{Less, Equal, Greater}
 use Rattle.std.specs.Ordering.{MatchOrdering, nat_cmp, ordering_then, is_eq, eq_by_cmp}
 use Rattle.std.proofs.lemmas.Bool.Decides.{nat_tests}
 use Rattle.std.proofs.lemmas.Cmp.{nat_cmp_total, on_total, then_total, ranked, nat_eq_equiv, on_equiv, and_equiv}
+use Rattle.std.proofs.lemmas.Bool.{and_parts}
 use Rattle.dep_model.specs.declared.skeleton.Pair.{Pair}
 use Rattle.dep_model.specs.PairOrder.{precedes}
 
@@ -37,13 +38,9 @@ pair_ties x y =
 same_number : (a b : ℕ) → nat_eq a b ≡ true → a ≡ b
 same_number a b h = grind (arith, nat_tests)
 
-both_true : (a b : Bool) → (a && b) ≡ true → (a ≡ true) × (b ≡ true)
-both_true true b h = (refl, h)
-both_true false b h = let f : false ≡ true = h in cc
-
 pub pair_same : (x y : Pair) → pair_eq x y ≡ true → x ≡ y
 pair_same x y h =
-    let t = both_true (nat_eq x.from y.from) (nat_eq x.to y.to) h in
+    let t = and_parts (nat_eq x.from y.from) (nat_eq x.to y.to) h in
     ap (λ n. record { from = n; to = x.to }) (same_number x.from y.from t.0) ∙ ap (λ n. record { from = y.from; to = n }) (same_number x.to y.to t.1)
 
 less_precedes : (x y : Pair) (o p : Ordering) → MatchOrdering o (x.from < y.from) (x.from ≡ y.from) (y.from < x.from) → MatchOrdering p (x.to < y.to) (x.to ≡ y.to) (y.to < x.to) → ordering_then o p ≡ Less → precedes x y

@@ -11,12 +11,13 @@ use Rattle.dep_model.specs.declared.location.Location.{Location}
 use Rattle.dep_model.specs.Denoted.{PointsTo, whole}
 use Rattle.dep_model.specs.DoingEffects.{is_taken, act_uses, act_defines, act_kills}
 use Rattle.dep_model.specs.IntegerEffects.{variables_read, variables_set, variables_named, compound_read, act_read, act_set, act_named, gives_result, any_whole}
-use Rattle.dep_model.proofs.BoolLemmas.{or_none, or_both}
+use Rattle.dep_model.proofs.BoolLemmas.{or_both}
 use Rattle.dep_model.proofs.IntegerActs.{is_integer_act, with_result, integer_act}
 use Rattle.dep_model.proofs.IntegerExprs.{AreIntegers, any_append}
 use Rattle.dep_model.proofs.PlainEffects.{is_variable, reads, compound_reads, uses, defines, kills}
 use Rattle.dep_model.proofs.PlainExprs.{reads_listed, places_listed, names_listed, all_listed, name_reads}
 use Rattle.dep_model.proofs.WholeVariables.{whole_is, result_is}
+use Rattle.c_language.proofs.Tests.{or_none}
 
 -- ---- lists of variables, and the working form
 

@@ -17,10 +17,6 @@ use Rattle.dep_model.specs.declared.location.Root.TheVariants.{Input, Variable, 
 use Rattle.dep_model.specs.declared.location.Part.{Part}
 use Rattle.dep_model.specs.IntegerEffects.{gives_value}
 
--- the location of a whole variable
-abbrev pub variable : ℕ → Location
-variable x = record { root = Variable x; path = [] }
-
 abbrev pub is_root_of : ℕ → Root → Bool
 is_root_of x Input = false
 is_root_of x (Variable y) = y == x

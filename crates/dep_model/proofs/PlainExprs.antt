@@ -7,11 +7,12 @@ use Rattle.built_forms.specs.IntegerForms.{is_name}
 use Rattle.built_forms.specs.IntegerForms as forms
 use Rattle.dep_model.specs.declared.location.Location.{Location}
 use Rattle.dep_model.specs.IntegerEffects.{reads_step, variables_read, place_step, variables_set, name_step, variables_named, all_read, any_whole}
-use Rattle.dep_model.proofs.BoolLemmas.{or_none, or_both}
+use Rattle.dep_model.proofs.BoolLemmas.{or_both}
 use Rattle.dep_model.proofs.IntegerExprs.{any_append}
 use Rattle.dep_model.proofs.PlainEffects as plain
 use Rattle.dep_model.proofs.PlainEffects.{reads, any_reads, places, names}
 use Rattle.dep_model.proofs.WholeVariables.{whole_is}
+use Rattle.c_language.proofs.Tests.{or_none}
 
 -- a list of variables and a working form have the same locations
 abbrev AreSame : List ℕ → (Location → Bool) → Type 0

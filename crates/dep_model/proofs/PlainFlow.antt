@@ -29,6 +29,7 @@ use Rattle.dep_model.proofs.PlainCode.{Did, did_more, each_more, each_no_calls, 
 use Rattle.dep_model.proofs.PlainEffects.{uses, defines, kills}
 use Rattle.dep_model.proofs.PlainOrder.{vertex_number, follows_each, main_numbers, IsLow, follows_numbers}
 use Rattle.dep_model.proofs.PlainSteps.{Step, step, Follows, Chain, FlowEdge, NoCalls, Each}
+use Rattle.c_language.proofs.Lists.{head_is, tail_is, no_list}
 
 -- ---- the steps of the code are the doings
 
@@ -55,22 +56,13 @@ stands_later ds i n a s h = record {
   found = ap (λ b. cond b (Some (Does i a)) (find (has_number s.id) ds)) (ne_eqb i s.id (λ e. omega (arith, e, h.above))) ∙ h.found;
 }
 
-first_is : {x y : ℕ} {xs ys : List ℕ} → x ∷ xs ≡ y ∷ ys → x ≡ y
-first_is e = cc
-
-rest_is : {x y : ℕ} {xs ys : List ℕ} → x ∷ xs ≡ y ∷ ys → xs ≡ ys
-rest_is e = cc
-
-none_left : {x : ℕ} {xs : List ℕ} {A : Type 0} → x ∷ xs ≡ [] → A
-none_left e = cc
-
 doings_stand : (ds : List Doing) (i n : ℕ) → map doing_number ds ≡ from i n → all_integer ds ≡ true → Did (Stands ds i n) ds
 doings_stand [] i n e h = tt
-doings_stand (Does j a ∷ ds) i zero e h = none_left e
+doings_stand (Does j a ∷ ds) i zero e h = no_list e
 doings_stand (Does j a ∷ ds) i (suc n) e h =
     let w = and_parts (is_integer_act a) (all_integer ds) h in
-    let rest = did_more (Stands ds (suc i) n) (Stands (Does i a ∷ ds) i (suc n)) (stands_later ds i n a) ds (doings_stand ds (suc i) n (rest_is e) w.1) in
-    subst (λ k. Did (Stands (Does k a ∷ ds) i (suc n)) (Does k a ∷ ds)) (sym (first_is e)) (stands_first ds i n a w.0, rest)
+    let rest = did_more (Stands ds (suc i) n) (Stands (Does i a ∷ ds) i (suc n)) (stands_later ds i n a) ds (doings_stand ds (suc i) n (tail_is e) w.1) in
+    subst (λ k. Did (Stands (Does k a ∷ ds) i (suc n)) (Does k a ∷ ds)) (sym (head_is e)) (stands_first ds i n a w.0, rest)
 doings_stand (Calls j to f args ∷ ds) i n e h = absurd (false≢true h)
 
 -- what holds of each doing of main holds of each step of its code

@@ -1,46 +1,19 @@
 -- An arm of a switch is taken at some value exactly where one of its labels is the first of its kind.
 use Rattle.std.proofs.Common.{◌≡◌, ℕ, suc, ◌+◌, ◌<◌, ◌≤◌, ℤ, pos, negsuc, List, [], ◌∷◌, ◌⊎◌, inl, inr, Bool, true, false, arith, refl, sym, ap, ◌∙◌, subst}
-use Rattle.std.specs.Prelude.{◌||◌, not, if◌then◌else◌}
+use Rattle.std.specs.Prelude.{◌||◌, if◌then◌else◌}
 use Rattle.std.specs.Ordering.{int_eq}
 use Rattle.std.proofs.lemmas.Bool.Decides.{nat_tests}
+use Rattle.std.proofs.lemmas.Bool.{or_parts, or_cases, not-true, or_from, or_left, or_right, not_from_false}
 use Rattle.c_tree.specs.declared.statement.Label.{Label}
 use Rattle.c_tree.specs.declared.statement.Label.TheVariants as label
 use Rattle.c_language.specs.Code.{Code, End, ArmPart, is_case, has_case, is_default, has_default, default_arm, case_arm, taken_arm}
 use Rattle.dep_model.specs.SwitchArms.{is_first, has_first, with_labels}
+use Rattle.c_language.proofs.Tests.{by_answer}
 
 -- ---- tests
 
-by_test : (b : Bool) (A : Type 0) → (b ≡ true → A) → (b ≡ false → A) → A
-by_test true A f g = f refl
-by_test false A f g = g refl
-
 pub true_not_false : {b : Bool} {A : Type 0} → b ≡ true → b ≡ false → A
 true_not_false {b} {A} t f = let e : true ≡ false = sym t ∙ f in absurd cc
-
-or_parts : (a b : Bool) → (a || b) ≡ false → (a ≡ false) × (b ≡ false)
-or_parts true b h = let f : true ≡ false = h in absurd cc
-or_parts false b h = (refl, h)
-
-or_none : (a b : Bool) → a ≡ false → b ≡ false → (a || b) ≡ false
-or_none a b p q = ap (λ x. x || b) p ∙ q
-
-or_true : (a b : Bool) → (a || b) ≡ true → (a ≡ true) ⊎ (b ≡ true)
-or_true true b h = inl refl
-or_true false b h = inr h
-
-or_first : (a b : Bool) → a ≡ true → (a || b) ≡ true
-or_first a b h = ap (λ x. x || b) h
-
-or_second : (a b : Bool) → b ≡ true → (a || b) ≡ true
-or_second true b h = refl
-or_second false b h = h
-
-not_true : (a : Bool) → not a ≡ true → a ≡ false
-not_true true h = let f : false ≡ true = h in absurd cc
-not_true false h = refl
-
-not_false : (a : Bool) → a ≡ false → not a ≡ true
-not_false a h = ap not h
 
 -- ---- a test on labels, as whether one is a case of a value or a default
 
@@ -53,21 +26,21 @@ module _ (test : Label → Bool) where
   none_with before [] b h = b
   none_with before (l ∷ ls) b h =
       let p = or_parts (test l) (some ls) h in
-      none_with (l ∷ before) ls (or_none (test l) (some before) p.0 b) p.1
+      none_with (l ∷ before) ls (or_from (test l) (some before) p.0 b) p.1
 
   pub none_before : (before ls : List Label) → some (with_labels before ls) ≡ false → (some before ≡ false) × (some ls ≡ false)
   none_before before [] h = (h, refl)
   none_before before (l ∷ ls) h =
       let p = none_before (l ∷ before) ls h in
       let q = or_parts (test l) (some before) p.0 in
-      (q.1, or_none (test l) (some ls) q.0 p.1)
+      (q.1, or_from (test l) (some ls) q.0 p.1)
 
   -- the first label that passes is the first of its kind, if it is where none before passes
   pub first_of : ((before : List Label) (l : Label) → test l ≡ true → some before ≡ false → is_first before l ≡ true) → (before ls : List Label) → some before ≡ false → some ls ≡ true → has_first before ls ≡ true
   first_of is before [] b h = let f : false ≡ true = h in absurd cc
   first_of is before (l ∷ ls) b h =
-      by_test (test l) (has_first before (l ∷ ls) ≡ true) (λ t. or_first (is_first before l) (has_first (l ∷ before) ls) (is before l t b))
-      (λ t. or_second (is_first before l) (has_first (l ∷ before) ls) (first_of is (l ∷ before) ls (or_none (test l) (some before) t b) (sym (ap (λ x. x || some ls) t) ∙ h)))
+      by_answer (test l) (λ t. or_left (is_first before l) (has_first (l ∷ before) ls) (is before l t b))
+      (λ t. or_right (is_first before l) (has_first (l ∷ before) ls) (first_of is (l ∷ before) ls (or_from (test l) (some before) t b) (sym (ap (λ x. x || some ls) t) ∙ h)))
 
 cases_are : (v : ℤ) (ls : List Label) → has_case v ls ≡ some (is_case v) ls
 cases_are v [] = refl
@@ -82,12 +55,12 @@ same_case n v h = grind (arith, nat_tests)
 
 case_is_first : (v : ℤ) (before : List Label) (l : Label) → is_case v l ≡ true → some (is_case v) before ≡ false → is_first before l ≡ true
 case_is_first v before (label.Case e n) t b =
-    not_false (has_case n before) (ap (λ x. has_case x before) (same_case n v t) ∙ (cases_are v before ∙ b))
+    not_from_false (has_case n before) (ap (λ x. has_case x before) (same_case n v t) ∙ (cases_are v before ∙ b))
 case_is_first v before label.Default t b = let f : false ≡ true = t in absurd cc
 
 default_is_first : (before : List Label) (l : Label) → is_default l ≡ true → some is_default before ≡ false → is_first before l ≡ true
 default_is_first before (label.Case e n) t b = let f : false ≡ true = t in absurd cc
-default_is_first before label.Default t b = not_false (has_default before) (defaults_are before ∙ b)
+default_is_first before label.Default t b = not_from_false (has_default before) (defaults_are before ∙ b)
 
 itself : (n : ℤ) → int_eq n n ≡ true
 itself n = grind (arith, nat_tests)
@@ -97,18 +70,18 @@ abbrev Kind : List Label → List Label → Type 0
 Kind before ls = ((n : ℤ) × (some (is_case n) before ≡ false) × (some (is_case n) ls ≡ true)) ⊎ ((some is_default before ≡ false) × (some is_default ls ≡ true))
 
 kind_more : (before : List Label) (l : Label) (ls : List Label) → Kind (l ∷ before) ls → Kind before (l ∷ ls)
-kind_more before l ls (inl h) = inl (h.0, (or_parts (is_case h.0 l) (some (is_case h.0) before) h.1).1, or_second (is_case h.0 l) (some (is_case h.0) ls) h.2)
-kind_more before l ls (inr h) = inr ((or_parts (is_default l) (some is_default before) h.0).1, or_second (is_default l) (some is_default ls) h.1)
+kind_more before l ls (inl h) = inl (h.0, (or_parts (is_case h.0 l) (some (is_case h.0) before) h.1).1, or_right (is_case h.0 l) (some (is_case h.0) ls) h.2)
+kind_more before l ls (inr h) = inr ((or_parts (is_default l) (some is_default before) h.0).1, or_right (is_default l) (some is_default ls) h.1)
 
 kind_first : (before : List Label) (l : Label) (ls : List Label) → is_first before l ≡ true → Kind before (l ∷ ls)
 kind_first before (label.Case e n) ls h =
-    inl (n, sym (cases_are n before) ∙ not_true (has_case n before) h, or_first (int_eq n n) (some (is_case n) ls) (itself n))
-kind_first before label.Default ls h = inr (sym (defaults_are before) ∙ not_true (has_default before) h, refl)
+    inl (n, sym (cases_are n before) ∙ not-true (has_case n before) h, or_left (int_eq n n) (some (is_case n) ls) (itself n))
+kind_first before label.Default ls h = inr (sym (defaults_are before) ∙ not-true (has_default before) h, refl)
 
 kind_of : (before ls : List Label) → has_first before ls ≡ true → Kind before ls
 kind_of before [] h = let f : false ≡ true = h in absurd cc
 kind_of before (l ∷ ls) h =
-    elim (or_true (is_first before l) (has_first (l ∷ before) ls) h) [ inl t ↦ kind_first before l ls t | inr t ↦ kind_more before l ls (kind_of (l ∷ before) ls t) ]
+    elim (or_cases (is_first before l) (has_first (l ∷ before) ls) h) [ inl t ↦ kind_first before l ls t | inr t ↦ kind_more before l ls (kind_of (l ∷ before) ls t) ]
 
 -- ---- the arms
 
@@ -151,7 +124,7 @@ module _ (P : Code → Type 0) where
     | inl t ↦ inl (inl (first_of is_default default_is_first before a.labels b (sym (defaults_are a.labels) ∙ t.0), t.1))
     | inr t ↦ elim (at_default (with_labels before a.labels) as_ (none_with is_default before a.labels b (sym (defaults_are a.labels) ∙ t.0)) t.1) [
       | inl u ↦ inl (inr u)
-      | inr u ↦ inr (or_none (has_default a.labels) (some_arm_default as_) t.0 u.0, u.1)
+      | inr u ↦ inr (or_from (has_default a.labels) (some_arm_default as_) t.0 u.0, u.1)
     ]
   ]
 
@@ -214,7 +187,7 @@ no_cases : (m : ℕ) (ls : List Label) → bound ls ≤ m → has_case (pos m) l
 no_cases m [] h = refl
 no_cases m (l ∷ ls) h =
     let g : above l + bound ls ≤ m = h in
-    or_none (is_case (pos m) l) (has_case (pos m) ls) (no_case m l (omega (arith, g))) (no_cases m ls (omega (arith, g)))
+    or_from (is_case (pos m) l) (has_case (pos m) ls) (no_case m l (omega (arith, g))) (no_cases m ls (omega (arith, g)))
 
 beyond : (m : ℕ) (as_ : List ArmPart) (other : Code) → bound_of as_ ≤ m → case_arm as_ (pos m) other ≡ other
 beyond m [] other h = refl

@@ -1,11 +1,12 @@
 -- Which vertices of a list are numbered.
 use Rattle.std.proofs.Common.{◌≡◌, ℕ, zero, suc, ◌+◌, List, [], ◌∷◌, slice_get, Bool, true, false, inl, inr, Some, refl, sym, subst, arith}
 use Rattle.std.specs.Prelude.{Contains, if◌then◌else◌}
+use Rattle.std.proofs.lemmas.Option.{same_Some}
+use Rattle.std.proofs.lemmas.Bool.{cases_Bool}
 use Rattle.dep_model.specs.declared.vertex.Vertex.{Vertex}
 use Rattle.dep_model.specs.declared.vertex.VertexKind.{VertexKind}
 use Rattle.dep_model.specs.FunctionVertices.{passes, numbers_from, numbers}
 use Rattle.rule_closure.proofs.ListLemmas.{contains_none, contains_head, contains_cons, contains_cases}
-use Rattle.dep_model.proofs.WholeVariables.{truth}
 
 -- number k of a list passes a test
 pub record Passes (test : Vertex → Bool) (vs : List Vertex) (k : ℕ) : Type 0 where
@@ -28,7 +29,7 @@ after_one test n v vs k w = record {
 
 found_from : (test : Vertex → Bool) (n : ℕ) (vs : List Vertex) (k : ℕ) → Contains (numbers_from test n vs) k → PassesFrom test n vs k
 found_from test n [] k c = absurd (contains_none k c)
-found_from test n (v ∷ vs) k c = elim (truth (test v)) [
+found_from test n (v ∷ vs) k c = elim (cases_Bool (test v)) [
   | inl t ↦
       let d : Contains (n ∷ numbers_from test (suc n) vs) k = subst (λ b. Contains (if b then n ∷ numbers_from test (suc n) vs else numbers_from test (suc n) vs) k) t c in
       elim (contains_cases n (numbers_from test (suc n) vs) k d) [
@@ -40,16 +41,13 @@ found_from test n (v ∷ vs) k c = elim (truth (test v)) [
       after_one test n v vs k (found_from test (suc n) vs k d)
 ]
 
-some_inj : {x y : Vertex} → Some x ≡ Some y → x ≡ y
-some_inj h = cc
-
 numbered_from : (test : Vertex → Bool) (n : ℕ) (vs : List Vertex) (k : ℕ) → Passes test vs k → Contains (numbers_from test n vs) (n + k)
 numbered_from test n [] k w = none_there w.at
   where
     none_there : {x : Vertex} {A : Type 0} → slice_get {X = Vertex} [] k ≡ Some x → A
     none_there h = cc
 numbered_from test n (v ∷ vs) zero w =
-    let t : test v ≡ true = subst (λ (x : Vertex). test x ≡ true) (sym (some_inj w.at)) w.passing in
+    let t : test v ≡ true = subst (λ (x : Vertex). test x ≡ true) (sym (same_Some _ _ w.at)) w.passing in
     let same : n ≡ n + 0 = omega arith in
     subst (λ b. Contains (if b then n ∷ numbers_from test (suc n) vs else numbers_from test (suc n) vs) (n + 0)) (sym t) (subst (λ j. Contains (n ∷ numbers_from test (suc n) vs) j) same (contains_head n (numbers_from test (suc n) vs)))
 numbered_from test n (v ∷ vs) (suc k) w =

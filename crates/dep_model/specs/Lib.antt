@@ -9,6 +9,7 @@ pub mod Follows
 pub mod FunctionVertices
 pub mod Groups
 pub mod IntegerEffects
+pub mod ListedLocations
 pub mod Locations
 pub mod MainEdges
 pub mod MainLocations

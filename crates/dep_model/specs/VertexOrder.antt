@@ -2,7 +2,6 @@
 use Rattle.std.specs.Prelude.{ℕ, suc, ◌==◌, List, [], ◌∷◌, ◌++◌, map, Bool, false, ◌&&◌, ◌||◌, not, if◌then◌else◌, Option, Some, None, slice_get, bytes_eq, codes, is_some}
 use Rattle.std.specs.List.{find}
 use Rattle.std.specs.Option.{option_map_or}
-use Rattle.c_tree.specs.declared.expr.Expr.{Expr}
 use Rattle.c_tree.specs.declared.program.Function.{Function}
 use Rattle.c_tree.specs.declared.program.Program.{Program}
 use Rattle.c_tree.specs.declared.statement.Target.{Target}
@@ -15,9 +14,9 @@ use Rattle.dep_model.specs.declared.vertex.VertexKind.{VertexKind}
 use Rattle.dep_model.specs.declared.vertex.VertexKind.TheVariants.{Entry, FormalIn, FormalOut, Statement, Call, ActualIn, ActualOut}
 use Rattle.dep_model.specs.Follows.{EffectsOf}
 use Rattle.dep_model.specs.Locations.{Placed, locations, same_location}
-use Rattle.dep_model.specs.Denoted.{Places, PointsTo, whole, no_places, expr_reads}
+use Rattle.dep_model.specs.Denoted.{Places, PointsTo, whole, no_places}
 use Rattle.dep_model.specs.Doings.{Doing, Does, Calls, doings_of}
-use Rattle.dep_model.specs.DoingEffects.{result_of, target_reads, target_places, target_kills, act_uses, act_defines, act_kills}
+use Rattle.dep_model.specs.DoingEffects.{result_of, maybe_reads, target_reads, target_places, target_kills, act_uses, act_defines, act_kills}
 use Rattle.dep_model.specs.MayPoint.{parameters}
 use Rattle.dep_model.specs.ModRef.{FunctionEffects}
 
@@ -102,13 +101,9 @@ module _ (p : Program) (points : PointsTo) where
   slot_places f Result = same_location (result_of f)
   slot_places f (At k) = of_location (slice_get (locations p) k)
 
-  abbrev pub argument_reads : Option Expr → Places
-  argument_reads None l = false
-  argument_reads (Some e) l = expr_reads p points e l
-
   -- an argument reads what it names, a location's actual is that location
   abbrev pub actual_uses : ℕ → Option Doing → Slot → Places
-  actual_uses f (Some (Calls i to g args)) (Argument k) = argument_reads (slice_get args k)
+  actual_uses f (Some (Calls i to g args)) (Argument k) = maybe_reads p points (slice_get args k)
   actual_uses f d (At k) = slot_places f (At k)
   actual_uses f _ slot = no_places
 

@@ -1,13 +1,15 @@
 -- Lists that grow, call by call and turn by turn.
-use Rattle.std.proofs.Common.{◌≡◌, ℕ, zero, suc, ◌+◌, ◌<◌, ◌≤◌, List, [], ◌∷◌, ◌++◌, length, take, drop, get_or, Bool, true, false, Option, append_assoc, append-nil, arith, refl, sym, ap, ◌∙◌}
+use Rattle.std.proofs.Common.{◌≡◌, ℕ, zero, suc, ◌+◌, ◌<◌, ◌≤◌, List, [], ◌∷◌, ◌++◌, length, take, drop, get_or, Bool, Option, append_assoc, append-nil, arith, sym, ap, ◌∙◌}
 use Rattle.std.specs.Prelude.{◌||◌}
+use Rattle.std.proofs.lemmas.List.{drop_all}
 use Rattle.c_tree.specs.declared.statement.Arm.{Arm}
 use Rattle.c_tree.specs.declared.statement.Label.{Label}
 use Rattle.c_tree.specs.declared.statement.Statement.{Statement}
 use Rattle.c_language.specs.Code.{is_default, has_default}
 use Rattle.dep_model.specs.declared.skeleton.Pair.{Pair}
-use Rattle.dep_model.proofs.NumberedFrom.{drop_item, drop_none}
+use Rattle.dep_model.proofs.NumberedFrom.{drop_item}
 use Rattle.flow_graph.specs.Walk.{flow, flows, if_taken, arm_flows, some_default}
+use Rattle.c_language.proofs.Tests.{or_none, or_assoc}
 
 -- a list from its end on
 module _ (own : ℕ → List ℕ) where
@@ -24,7 +26,7 @@ module _ (own : ℕ → List ℕ) where
       q ∙ ap (flow own x).start (s ∙ ap (λ n. (flows own (drop n xs)).start next) l) ∙ ap (λ ys. (flows own ys).start next) (sym (drop_item xs i x lt is))
 
   pub nothing_left : (xs : List Statement) (n : ℕ) → length xs ≤ n → flows own (drop n xs) ≡ flows own []
-  nothing_left xs n le = ap (flows own) (drop_none xs n le)
+  nothing_left xs n le = ap (flows own) (drop_all n xs le)
 
   -- arms, one after another
   arms_more : (test : List ℕ) (k : Option ℕ) (ws : List Bool) (xs : List Arm) (i : ℕ) (v : Bool) (d : Arm) → length ws ≡ length xs → i < length xs → arm_flows own test (take (i + 1) ws) (take (i + 1) xs) k ≡ arm_flows own test (take i ws) (take i xs) k ++ if_taken own test (get_or ws i v) (get_or xs i d).body k
@@ -42,24 +44,16 @@ module _ (own : ℕ → List ℕ) where
 
 -- ---- defaults
 
-or_assoc : (a b c : Bool) → (a || (b || c)) ≡ ((a || b) || c)
-or_assoc true b c = refl
-or_assoc false b c = refl
-
-or_nothing : (a : Bool) → (a || false) ≡ a
-or_nothing true = refl
-or_nothing false = refl
-
 pub labels_more : (ls : List Label) (i : ℕ) (l : Label) → i < length ls → get_or ls i l ≡ l → has_default (take (i + 1) ls) ≡ (has_default (take i ls) || is_default l)
 labels_more [] i l lt is = absurd (omega (arith, lt))
-labels_more (x ∷ ls) zero l lt is = or_nothing (is_default x) ∙ ap is_default is
+labels_more (x ∷ ls) zero l lt is = or_none (is_default x) ∙ ap is_default is
 labels_more (x ∷ ls) (suc i) l lt is =
     let n : suc i + 1 ≡ suc (i + 1) = omega arith in
-    ap (λ (n : ℕ). has_default (take n (x ∷ ls))) n ∙ ap (λ b. is_default x || b) (labels_more ls i l (omega (arith, lt)) is) ∙ or_assoc (is_default x) (has_default (take i ls)) (is_default l)
+    ap (λ (n : ℕ). has_default (take n (x ∷ ls))) n ∙ ap (λ b. is_default x || b) (labels_more ls i l (omega (arith, lt)) is) ∙ sym (or_assoc (is_default x) (has_default (take i ls)) (is_default l))
 
 pub defaults_more : (as_ : List Arm) (i : ℕ) (a : Arm) → i < length as_ → get_or as_ i a ≡ a → some_default (take (i + 1) as_) ≡ (some_default (take i as_) || has_default a.labels)
 defaults_more [] i a lt is = absurd (omega (arith, lt))
-defaults_more (x ∷ as_) zero a lt is = or_nothing (has_default x.labels) ∙ ap (λ (y : Arm). has_default y.labels) is
+defaults_more (x ∷ as_) zero a lt is = or_none (has_default x.labels) ∙ ap (λ (y : Arm). has_default y.labels) is
 defaults_more (x ∷ as_) (suc i) a lt is =
     let n : suc i + 1 ≡ suc (i + 1) = omega arith in
-    ap (λ (n : ℕ). some_default (take n (x ∷ as_))) n ∙ ap (λ b. has_default x.labels || b) (defaults_more as_ i a (omega (arith, lt)) is) ∙ or_assoc (has_default x.labels) (some_default (take i as_)) (has_default a.labels)
+    ap (λ (n : ℕ). some_default (take n (x ∷ as_))) n ∙ ap (λ b. has_default x.labels || b) (defaults_more as_ i a (omega (arith, lt)) is) ∙ sym (or_assoc (has_default x.labels) (some_default (take i as_)) (has_default a.labels))

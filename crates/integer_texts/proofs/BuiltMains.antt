@@ -11,17 +11,19 @@ use Rattle.c_tree.specs.declared.program.Item.{Item}
 use Rattle.c_tree.specs.declared.program.Item.TheVariants.{Include, Tag, Struct, Global, Prototype, Define}
 use Rattle.c_tree.specs.declared.program.Program.{Program}
 use Rattle.c_tree.specs.declared.program.Var.{Var}
-use Rattle.c_tree.specs.declared.statement.Arm.{Arm, roll-Arm, map-Arm, fold-Arm, fold-roll-Arm}
+use Rattle.c_tree.specs.declared.statement.Arm.{Arm, roll-Arm, fold-Arm, fold-roll-Arm}
 use Rattle.c_tree.specs.declared.statement.Statement.{Statement, fold-Statement, ind-Statement, roll-Statement, map-Statement, fold-roll-Statement}
 use Rattle.c_tree.specs.declared.statement.Statement.TheOpen.{Statement-F, Arm-F}
 use Rattle.c_tree.specs.Unlined.{unlined, unlined_var, unlined_function, unlined_program, SameButLines}
-use Rattle.built_forms.specs.IntegerForms.{is_integer, are_integers, is_name, integer_init, integer_value, integer_label, all_true, if_there}
+use Rattle.built_forms.specs.IntegerForms.{is_integer, are_integers, is_name, integer_init, integer_value, integer_label}
 use Rattle.built_forms.specs.BuiltForms.{is_integer_type, is_integer_variable, unless, or_else, first_of, ArmOutside, labels_of_arms, first_of_arms, statement_step, arm_step, statement_outside, body_outside, is_main, function_outside, defined_outside, items_outside, not_yet}
 use Rattle.built_forms.proofs.Programs.{built_integer_main}
 use Rattle.projection_laws.proofs.SamePrograms.{main_same}
-use Rattle.projection_laws.proofs.Unlining.{zeroed, fold_unlined}
+use Rattle.c_tree.proofs.Unlining.{zeroed, fold_unlined}
+use Rattle.c_tree.proofs.Trees.{statement_layer, arm_layer, StatementParts, ArmParts}
 use Rattle.integer_texts.specs.Laws.{BuiltAreNumbered}
 use Rattle.integer_texts.proofs.SameNumbers.{well_formed_numbered}
+use Rattle.c_language.specs.Lists.{if_there, all_true}
 
 -- an arm of a switch: whether its labels are integers, and nothing of its body is outside
 record ArmInside : Type 0 where
@@ -91,10 +93,10 @@ module _ (vs : List Var) where
     pub body : is_none (arm_outside a).first ≡ (arm_is_inside vars a).inside
 
   abbrev Layer : Type 0
-  Layer = Statement-F ((x : Statement) × Tells x) ((a : Arm) × ArmTells a)
+  Layer = StatementParts Tells ArmTells
 
   abbrev shape : Layer → Statement-F Statement Arm
-  shape = map-Statement ((x : Statement) × Tells x) ((a : Arm) × ArmTells a) Statement Arm (λ x. x.0) (λ a. a.0)
+  shape = statement_layer Tells ArmTells
 
   all_tell : (xs : List ((x : Statement) × Tells x)) → is_none (first_of (map (statement_outside vs) (map (λ x. x.0) xs))) ≡ all_true (map (inside vars) (map (λ x. x.0) xs))
   all_tell [] = refl
@@ -131,10 +133,10 @@ module _ (vs : List Var) where
   layer_tells (Statement-F.Return id l e) = none_unless (integer_value e) l
 
   abbrev ArmLayer : Type 0
-  ArmLayer = Arm-F ((x : Statement) × Tells x) ((a : Arm) × ArmTells a)
+  ArmLayer = ArmParts Tells ArmTells
 
   abbrev arm_shape : ArmLayer → Arm-F Statement Arm
-  arm_shape = map-Arm ((x : Statement) × Tells x) ((a : Arm) × ArmTells a) Statement Arm (λ x. x.0) (λ a. a.0)
+  arm_shape = arm_layer Tells ArmTells
 
   arm_tells : (y : ArmLayer) → ArmTells (roll-Arm (arm_shape y))
   arm_tells y =

@@ -18,16 +18,15 @@ use Rattle.c_language.specs.DeclaredTypes.{functions_of}
 use Rattle.c_language.specs.NameRules.{main_name, no_int}
 use Rattle.c_language.specs.Phrases.{after_body, item_phrases, after_item, items_phrases, after_items}
 use Rattle.c_language.specs.ProgramOf.{collected, ctype_if, treed, body_of, parameter_ids, function_tree, functions_from}
-use Rattle.c_language.specs.Rules.{main}
+use Rattle.c_language.specs.Rules.{main, AreKept}
 use Rattle.c_language.specs.Scopes.{Scope, Meaning, with_function, after_all, parameter_of, with_named, with_parameter, with_parameters, scope_of_parameters, entered}
 use Rattle.c_language.proofs.Lists.{all_append}
 use Rattle.c_language.proofs.Options.{some_same}
 use Rattle.c_language.proofs.TreeScopes.{list_after}
-use Rattle.c_language.proofs.PhraseLists.{body_after}
+use Rattle.c_language.proofs.PhraseLists.{body_after, kept_second}
 use Rattle.c_language.proofs.ScopeNumbers.{function_declared, through_function, function_variables, entered_statements}
 use Rattle.c_print_laws.proofs.Scoping.{declared_count, count_append}
 use Rattle.c_print_laws.proofs.Numbers.{item_variables}
-use Rattle.built_forms.proofs.Kept.{AreKept, kept_second}
 use Rattle.built_forms.proofs.Options.{both_some, collected_some}
 use Rattle.built_forms.proofs.Terms.{AreLow}
 use Rattle.built_forms.proofs.MainHeads.{int_result, int_tree}

@@ -1,7 +1,8 @@
 -- The statements of a text name variables that were declared before their end.
-use Rattle.std.proofs.Common.{◌≡◌, ℕ, ◌+◌, ◌<◌, ◌≤◌, List, [], ◌∷◌, ◌++◌, map, Bool, true, ◌&&◌, Option, Some, None, option_map, option_and_then, refl, sym, ap, subst, ◌∙◌, arith, lt-ltb}
+use Rattle.std.proofs.Common.{◌≡◌, ℕ, ◌+◌, ◌<◌, ◌≤◌, List, [], ◌∷◌, ◌++◌, map, Bool, true, Option, Some, None, option_map, option_and_then, refl, sym, ap, subst, ◌∙◌, arith, lt-ltb}
 use Rattle.std.specs.Prelude.{bytes_eq, codes}
 use Rattle.std.specs.List.{list_all}
+use Rattle.std.proofs.lemmas.Bool.{and_from}
 use Rattle.c_arith.specs.declared.int_type.IntType.{IntType}
 use Rattle.c_tree.specs.declared.types.CType.{CType}
 use Rattle.c_tree.specs.declared.expr.Expr.{Expr}
@@ -30,17 +31,15 @@ use Rattle.c_language.specs.Code.{Tests}
 use Rattle.c_language.specs.CallRules.{format_in, later_args, only_arg}
 use Rattle.c_language.specs.ConstantEvaluation.{both}
 use Rattle.c_language.specs.DeclaredTypes.{function_id}
-use Rattle.c_language.specs.ProgramOf.{collected, optional, ctype_if, expr_of, exprs_of, init_of, declaration_id, target_tree, arg_tree, args_tree, only_tree, size_tree, amount_tree, call_tree, label_tree, arm_tree, ArmTree, arm_tree_step, block_tree, at_type, switch_type, for_tree, treed_step, treed, body_of}
+use Rattle.c_language.specs.ProgramOf.{collected, optional, ctype_if, expr_of, exprs_of, init_of, declaration_id, target_tree, arg_tree, args_tree, only_tree, size_tree, amount_tree, call_tree, label_tree, arm_tree, ArmTree, arm_tree_step, block_tree, at_type, switch_type, for_tree, treed_step, treed, body_of, treed_arm}
 use Rattle.c_language.specs.Scopes.{Entry, Scope, Meaning, Scoped, opened, closed, numbered, with_variable, with_target, begun, in_order, after_all, after_block}
 use Rattle.c_language.specs.TypeGrammar.{named_type}
-use Rattle.c_language.proofs.TreedForms.{treed_arm}
 use Rattle.c_language.proofs.Lists.{all_append}
-use Rattle.c_language.proofs.Options.{none_there, some_same, map_some}
+use Rattle.c_language.proofs.Options.{none_there, some_same, map_some, then_some}
 use Rattle.built_forms.specs.NamesBelow.{names_below}
-use Rattle.built_forms.proofs.Options.{then_some, both_some, Always, always_if, always_is, collected_some}
+use Rattle.built_forms.proofs.Options.{both_some, Always, always_if, always_is, collected_some}
 use Rattle.dep_model.specs.Doings.{Doing, Does, doings, body_doings}
 use Rattle.dep_model.specs.NumberedMains.{value_below, init_below, target_below, amount_below, doing_below}
-use Rattle.dep_model.proofs.BoolLemmas.{both_true}
 use Rattle.dep_model.proofs.DoingForms.{arms_doings, part_doings, doings-Declare, doings-Assign, doings-Bump, doings-Invoke, doings-Fetch, doings-Write, doings-Print, doings-Heap, doings-Release, doings-Return, doings-If, doings-While, doings-Do, doings-Switch, doings-Block, doings-For}
 use Rattle.dep_model.proofs.NamesBelow.{names_more}
 use Rattle.built_forms.proofs.Terms.{IsLowMeaning, AreLow, names_low, expr_below}
@@ -81,10 +80,7 @@ always_any (Some x) = tt
 -- each of some values passes a test
 all_from : {A B : Type 0} (q : B → Bool) (f : A → Option B) (xs : List A) → ((x : A) → Always (λ y. q y ≡ true) (f x)) → Always (λ ys. list_all q ys ≡ true) (collected (map f xs))
 all_from q f [] h = refl
-all_from q f (x ∷ xs) h = then_from (λ y. q y ≡ true) (λ ys. list_all q ys ≡ true) (λ y. option_map (λ ys. y ∷ ys) (collected (map f xs))) (f x) (h x) (λ y k. map_from (λ ys. list_all q ys ≡ true) (λ ys. list_all q ys ≡ true) (λ ys. y ∷ ys) (collected (map f xs)) (all_from q f xs h) (λ ys r. both_true k r))
-
-one : {b : Bool} → b ≡ true → (b && true) ≡ true
-one {b} h = ap (λ x. x && true) h
+all_from q f (x ∷ xs) h = then_from (λ y. q y ≡ true) (λ ys. list_all q ys ≡ true) (λ y. option_map (λ ys. y ∷ ys) (collected (map f xs))) (f x) (h x) (λ y k. map_from (λ ys. list_all q ys ≡ true) (λ ys. list_all q ys ≡ true) (λ ys. y ∷ ys) (collected (map f xs)) (all_from q f xs h) (λ ys r. and_from _ _ k r))
 
 module _ (raw : RawProgram) where
   -- ---- what is named below m
@@ -240,10 +236,10 @@ module _ (raw : RawProgram) where
 
   -- a statement of one act, of a call, or of a test and what it decides
   acts : (x : Statement) (d : Doing) (m : ℕ) → doings x ≡ d ∷ [] → doing_below m d ≡ true → IsBelow m x
-  acts x d m is h = subst (λ ds. list_all (doing_below m) ds ≡ true) (sym is) (one h)
+  acts x d m is h = subst (λ ds. list_all (doing_below m) ds ≡ true) (sym is) (and_from _ _ h refl)
 
   tested : (x : Statement) (id : ℕ) (e : Expr) (ds : List Doing) (m : ℕ) → doings x ≡ Does id (Tests e) ∷ ds → names_below m e ≡ true → list_all (doing_below m) ds ≡ true → IsBelow m x
-  tested x id e ds m is h k = subst (λ es. list_all (doing_below m) es ≡ true) (sym is) (both_true h k)
+  tested x id e ds m is h k = subst (λ es. list_all (doing_below m) es ≡ true) (sym is) (and_from _ _ h k)
 
   expr_is : (scope : Scope) (a : RawExpr) (e : Expr) (m : ℕ) → AreLow scope.variables scope.names → scope.variables ≤ m → expr_of raw scope a ≡ Some e → names_below m e ≡ true
   expr_is scope a e m low le is = always_is (λ z. names_below m z ≡ true) (expr_of raw scope a) e (expr_low scope low m le a) is
@@ -283,7 +279,7 @@ module _ (raw : RawProgram) where
       (always_if P (bytes_eq f (codes "putchar")) _ _ (map_from (λ e. names_below m e ≡ true) P (s.Write id l) (only_tree raw inner args) (only_low inner low_in m le args) (λ e h. acts (s.Write id l e) _ m (doings-Write id l e) h))
       (always_if P (bytes_eq f (codes "printf")) _ _ (then_from (λ text. Unit {0}) P _ (format_in args) (always_any (format_in args)) (λ text h. map_from (λ es. list_all (names_below m) es ≡ true) P (s.Print id l text) (args_tree raw inner (later_args args)) (args_low inner low_in m le (later_args args)) (λ es k. acts (s.Print id l text es) _ m (doings-Print id l text es) k)))
       (always_if P (bytes_eq f (codes "free")) _ _ (map_from (λ e. names_below m e ≡ true) P (s.Release id l) (only_tree raw inner args) (only_low inner low_in m le args) (λ e h. acts (s.Release id l e) _ m (doings-Release id l e) h))
-      (then_from (λ t. target_below m t ≡ true) P _ (target_tree raw scope to) t_low (λ t h. both_from (λ g. Unit {0}) (λ es. list_all (names_below m) es ≡ true) P (s.Invoke id l t) (function_id raw f) (args_tree raw inner args) (always_any (function_id raw f)) (args_low inner low_in m le args) (λ g es u k. acts (s.Invoke id l t g es) _ m (doings-Invoke id l t g es) (both_true h k)))))))
+      (then_from (λ t. target_below m t ≡ true) P _ (target_tree raw scope to) t_low (λ t h. both_from (λ g. Unit {0}) (λ es. list_all (names_below m) es ≡ true) P (s.Invoke id l t) (function_id raw f) (args_tree raw inner args) (always_any (function_id raw f)) (args_low inner low_in m le args) (λ g es u k. acts (s.Invoke id l t g es) _ m (doings-Invoke id l t g es) (and_from _ _ h k)))))))
 
   heap_low : (scope : Scope) (to : RawTarget) (id l m : ℕ) (c : Option (Option CType)) (n : RawAmount) → AreLow scope.variables scope.names → (with_target raw to scope).variables ≤ m
       → Always (IsBelow m) (option_and_then (λ (t : Target). option_and_then (λ (k : Option CType). option_map (s.Heap id l t k) (amount_tree raw (with_target raw to scope) n)) c) (target_tree raw scope to))
@@ -292,7 +288,7 @@ module _ (raw : RawProgram) where
       let low_in : AreLow inner.variables inner.names = (target_grows to).low scope low in
       let le_out : scope.variables ≤ m = (let g = (target_grows to).more scope in omega (arith, g, le)) in
       let P : Statement → Type 0 = IsBelow m in
-      then_from (λ t. target_below m t ≡ true) P _ (target_tree raw scope to) (target_low scope low m le_out to le) (λ t h. then_from (λ k. Unit {0}) P _ c (always_any c) (λ k u. map_from (λ z. amount_below m z ≡ true) P (s.Heap id l t k) (amount_tree raw inner n) (amount_low inner low_in m le n) (λ z y. acts (s.Heap id l t k z) _ m (doings-Heap id l t k z) (both_true h y))))
+      then_from (λ t. target_below m t ≡ true) P _ (target_tree raw scope to) (target_low scope low m le_out to le) (λ t h. then_from (λ k. Unit {0}) P _ c (always_any c) (λ k u. map_from (λ z. amount_below m z ≡ true) P (s.Heap id l t k) (amount_tree raw inner n) (amount_low inner low_in m le n) (λ z y. acts (s.Heap id l t k z) _ m (doings-Heap id l t k z) (and_from _ _ h y))))
 
   -- ---- forms
 
@@ -303,11 +299,11 @@ module _ (raw : RawProgram) where
   declare_below scope low v l (init.One a) x m e le =
       let k = map_some (s.Declare (Some scope.statements) l scope.variables) (init_of raw (with_variable raw v (init.One a) scope) (init.One a)) x e in
       let h = always_is (λ n. init_below m n ≡ true) (init_of raw (with_variable raw v (init.One a) scope) (init.One a)) k.0 (init_low (with_variable raw v (init.One a) scope) ((variable_grows v (init.One a)).low scope low) m le (init.One a)) k.1 in
-      subst (IsBelow m) (sym k.2) (acts (s.Declare (Some scope.statements) l scope.variables k.0) _ m (doings-Declare (Some scope.statements) l scope.variables k.0) (both_true (lt-ltb scope.variables m (omega (arith, le))) h))
+      subst (IsBelow m) (sym k.2) (acts (s.Declare (Some scope.statements) l scope.variables k.0) _ m (doings-Declare (Some scope.statements) l scope.variables k.0) (and_from _ _ (lt-ltb scope.variables m (omega (arith, le))) h))
   declare_below scope low v l (init.Items es) x m e le =
       let k = map_some (s.Declare (Some scope.statements) l scope.variables) (init_of raw (with_variable raw v (init.Items es) scope) (init.Items es)) x e in
       let h = always_is (λ n. init_below m n ≡ true) (init_of raw (with_variable raw v (init.Items es) scope) (init.Items es)) k.0 (init_low (with_variable raw v (init.Items es) scope) ((variable_grows v (init.Items es)).low scope low) m le (init.Items es)) k.1 in
-      subst (IsBelow m) (sym k.2) (acts (s.Declare (Some scope.statements) l scope.variables k.0) _ m (doings-Declare (Some scope.statements) l scope.variables k.0) (both_true (lt-ltb scope.variables m (omega (arith, le))) h))
+      subst (IsBelow m) (sym k.2) (acts (s.Declare (Some scope.statements) l scope.variables k.0) _ m (doings-Declare (Some scope.statements) l scope.variables k.0) (and_from _ _ (lt-ltb scope.variables m (omega (arith, le))) h))
 
   -- a part of a for
   abbrev part_after : Option Known → Scope → Scope
@@ -371,7 +367,7 @@ module _ (raw : RawProgram) where
     grows = next_grows;
     below = λ scope x low e m le.
         let k = both_some (λ (a b : Expr). s.Assign scope.statements l a op b) (expr_of raw scope left) (expr_of raw scope right) x e in
-        subst (IsBelow m) (sym k.4) (acts (s.Assign scope.statements l k.0 op k.1) _ m (doings-Assign scope.statements l k.0 op k.1) (both_true (expr_is scope left k.0 m low le k.2) (expr_is scope right k.1 m low le k.3)));
+        subst (IsBelow m) (sym k.4) (acts (s.Assign scope.statements l k.0 op k.1) _ m (doings-Assign scope.statements l k.0 op k.1) (and_from _ _ (expr_is scope left k.0 m low le k.2) (expr_is scope right k.1 m low le k.3)));
   }
   layer_case (RawStatement-F.Bump l left up before) = record {
     grows = next_grows;

@@ -15,7 +15,7 @@ use Rattle.built_forms.specs.IntegerForms.{IsIntegerMain}
 use Rattle.dep_model.specs.Doings.{Doing, doing_step, doing_arm, doings, body_doings, doings_of}
 use Rattle.dep_model.specs.MainVertices.{from}
 use Rattle.dep_model.specs.NumberedMains.{doing_number, doing_below, IsNumberedMain}
-use Rattle.projection_laws.proofs.Unlining.{zeroed, fold_unlined}
+use Rattle.c_tree.proofs.Unlining.{zeroed, fold_unlined}
 use Rattle.projection_laws.proofs.SamePrograms.{main_same}
 use Rattle.integer_texts.specs.Laws.{WellFormedAreNumbered}
 use Rattle.integer_texts.proofs.Texts.{texts_numbered}

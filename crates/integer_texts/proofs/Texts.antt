@@ -3,6 +3,7 @@ use Rattle.std.proofs.Common.{◌≡◌, ◌+◌, List, [], ◌∷◌, map, leng
 use Rattle.std.specs.Prelude.{cond}
 use Rattle.std.specs.List.{list_all}
 use Rattle.std.proofs.lemmas.Slice.Eq.{bytes_eq-Decides}
+use Rattle.c_language.proofs.PhraseLists.{kept_from}
 use Rattle.c_tree.specs.declared.program.Function.{Function}
 use Rattle.c_tree.specs.declared.program.Item.{Item}
 use Rattle.c_tree.specs.declared.program.Program.{Program}
@@ -18,11 +19,10 @@ use Rattle.c_language.specs.Phrases.{phrases, after_items, items_phrases, scope_
 use Rattle.c_language.specs.ProgramOf as trees
 use Rattle.c_language.specs.ProgramOf.{items_of, variables_of, collected, functions_from, variables_in, program_with}
 use Rattle.c_language.specs.Programs.{HasProgram}
-use Rattle.c_language.specs.Rules.{by_phrase, no_main}
+use Rattle.c_language.specs.Rules.{by_phrase, no_main, AreKept}
 use Rattle.c_language.specs.Scopes.{outset}
 use Rattle.built_forms.specs.IntegerForms.{IsIntegerMain}
-use Rattle.built_forms.proofs.Kept.{AreKept, kept_from}
-use Rattle.built_forms.proofs.Options.{then_some, both_some}
+use Rattle.built_forms.proofs.Options.{both_some}
 use Rattle.built_forms.proofs.Programs.{found_length}
 use Rattle.dep_model.specs.Doings.{body_doings, doings_of}
 use Rattle.dep_model.specs.MainVertices.{from}
@@ -31,6 +31,7 @@ use Rattle.dep_model.proofs.NumberedMain.{main_doings}
 use Rattle.dep_model.proofs.TextNumbers.{Takes}
 use Rattle.integer_texts.specs.Laws.{IntegerTextsAreNumbered}
 use Rattle.integer_texts.proofs.Items.{all_doings, items_count, items_take, items_below, names_are, give_ints}
+use Rattle.c_language.proofs.Options.{then_some}
 
 head_is : {x y : Bytes} {xs ys : List Bytes} → x ∷ xs ≡ y ∷ ys → x ≡ y
 head_is e = cc

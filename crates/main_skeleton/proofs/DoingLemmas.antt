@@ -3,7 +3,8 @@ use Rattle.std.proofs.Common.{◌≡◌, ℕ, zero, suc, ◌-◌, ◌<◌, ◌==
 use Rattle.std.specs.Prelude.{cond}
 use Rattle.std.specs.List.{find, list_all}
 use Rattle.std.specs.Option.{option_map_or}
-use Rattle.std.proofs.lemmas.Bool.{false≢true, and_parts, ne_eqb}
+use Rattle.std.proofs.lemmas.Bool.{false≢true, and_parts, ne_eqb, cases_Bool}
+use Rattle.std.proofs.lemmas.Option.{same_Some}
 use Rattle.bit_rows.specs.Sets.{has}
 use Rattle.bit_rows.specs.Tables.{Table, the_set, IsSized}
 use Rattle.dep_model.specs.Doings.{Doing, Does, Calls}
@@ -11,12 +12,13 @@ use Rattle.dep_model.specs.IntegerEffects.{act_read, act_set, act_named, gives_r
 use Rattle.dep_model.specs.MainVertices.{from}
 use Rattle.dep_model.specs.NumberedMains.{doing_number}
 use Rattle.dep_model.specs.VertexOrder.{has_number}
-use Rattle.dep_model.proofs.BoolLemmas.{or_none, or_assoc, and_or}
-use Rattle.dep_model.proofs.WholeVariables.{truth}
+use Rattle.dep_model.proofs.BoolLemmas.{and_or}
 use Rattle.main_skeleton.specs.declared.effects.Effects.{Effects}
 use Rattle.main_skeleton.specs.Facts.{with_variables, result_if}
 use Rattle.main_skeleton.specs.Marks.{with_doing, with_doings}
 use Rattle.main_skeleton.proofs.FactLemmas.{any_bit, variables_sized, variables_has, given_sized, given_has}
+use Rattle.c_language.proofs.Tests.{or_assoc, or_none}
+use Rattle.c_language.proofs.Lists.{head_is, tail_is, no_list}
 
 abbrev pub doing_read : Doing → List ℕ
 doing_read (Does i a) = act_read a
@@ -142,15 +144,6 @@ number_is : (j : ℕ) (d : Doing) → has_number j d ≡ (doing_number d == j)
 number_is j (Does i a) = refl
 number_is j (Calls i to f args) = refl
 
-head_is : {x y : ℕ} {xs ys : List ℕ} → x ∷ xs ≡ y ∷ ys → x ≡ y
-head_is e = cc
-
-tail_is : {x y : ℕ} {xs ys : List ℕ} → x ∷ xs ≡ y ∷ ys → xs ≡ ys
-tail_is e = cc
-
-no_list : {x : ℕ} {xs : List ℕ} {A : Type 0} → x ∷ xs ≡ [] → A
-no_list e = cc
-
 -- the numbers are those from i on
 none_later : (test : Doing → Bool) (ds : List Doing) (i n j : ℕ) → map doing_number ds ≡ from i n → j < i → any_at (suc j) test ds ≡ false
 none_later test [] i n j e lt = refl
@@ -163,7 +156,7 @@ none_later test (d ∷ ds) i (suc n) j e lt =
 pub any_found : (test : Doing → Bool) (ds : List Doing) (i n j : ℕ) → map doing_number ds ≡ from i n → any_at (suc j) test ds ≡ option_map_or test (find (has_number j) ds) false
 any_found test [] i n j e = refl
 any_found test (d ∷ ds) i zero j e = no_list e
-any_found test (d ∷ ds) i (suc n) j e = elim (truth (doing_number d == j)) [
+any_found test (d ∷ ds) i (suc n) j e = elim (cases_Bool (doing_number d == j)) [
   | inl same ↦
       let first : doing_number d ≡ i = head_is e in
       let is : doing_number d ≡ j = eqb-true (doing_number d) j same in
@@ -176,10 +169,7 @@ any_found test (d ∷ ds) i (suc n) j e = elim (truth (doing_number d == j)) [
 
 -- what is found passes the test that all pass
 found_by_test : (test : Doing → Bool) (d : Doing) (ds : List Doing) (j : ℕ) (b : Bool) → test d ≡ true → ((e : Doing) → find (has_number j) ds ≡ Some e → test e ≡ true) → (e : Doing) → cond b (Some d) (find (has_number j) ds) ≡ Some e → test e ≡ true
-found_by_test test d ds j true h rest e is = subst (λ z. test z ≡ true) (some_is is) h
-  where
-    some_is : {x y : Doing} → Some x ≡ Some y → x ≡ y
-    some_is s = cc
+found_by_test test d ds j true h rest e is = subst (λ z. test z ≡ true) (same_Some _ _ is) h
 found_by_test test d ds j false h rest e is = rest e is
 
 pub found_passes : (test : Doing → Bool) (ds : List Doing) (j : ℕ) → list_all test ds ≡ true → (e : Doing) → find (has_number j) ds ≡ Some e → test e ≡ true

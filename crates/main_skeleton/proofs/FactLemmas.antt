@@ -1,17 +1,14 @@
 -- What tables hold after marks.
-use Rattle.std.proofs.Common.{◌≡◌, ◌≢◌, ℕ, suc, ◌+◌, ◌-◌, ◌<◌, ◌≤◌, ◌==◌, List, [], ◌∷◌, length, set, nat_lt, Bool, true, false, ◌&&◌, ◌||◌, inl, inr, refl, sym, ap, ◌∙◌, subst, arith, eq-eqb, eqb-true, ltb-true, lt-ltb, ltb-false}
+use Rattle.std.proofs.Common.{◌≡◌, ℕ, suc, ◌+◌, ◌-◌, ◌<◌, ◌≤◌, ◌==◌, List, [], ◌∷◌, length, set, nat_lt, Bool, true, false, ◌&&◌, ◌||◌, inl, inr, refl, sym, ap, ◌∙◌, subst, arith, eq-eqb, eqb-true, ltb-true, lt-ltb, ltb-false}
 use Rattle.std.specs.Prelude.{if◌then◌else◌}
-use Rattle.std.proofs.lemmas.Bool.{and_parts, cases_eq, ne_eqb}
+use Rattle.std.proofs.lemmas.Bool.{and_parts, cases_eq, ne_eqb, and_right, or_right, cases_Bool}
 use Rattle.std.proofs.lemmas.List.{get_or-set_same, get_or-set_other, length-set}
 use Rattle.bit_rows.specs.Sets.{has}
 use Rattle.bit_rows.specs.Tables.{Table, the_set, IsSized}
 use Rattle.bit_rows.proofs.TableLemmas.{the_set-with_set, other-with_set, sized_with_set}
-use Rattle.dep_model.proofs.BoolLemmas.{or_none, or_true, or_assoc, and_false, and_or}
-use Rattle.dep_model.proofs.WholeVariables.{truth}
+use Rattle.dep_model.proofs.BoolLemmas.{and_or}
 use Rattle.main_skeleton.specs.Facts.{with_bit, with_variable, with_variables, with_result, result_if}
-
-not_equal : (i j : ℕ) → i ≢ j → (i == j) ≡ false
-not_equal i j ne = ne_eqb i j ne
+use Rattle.c_language.proofs.Tests.{or_assoc, or_none}
 
 -- ---- one bit
 
@@ -27,15 +24,15 @@ module _ (rows bits : ℕ) where
         let row : the_set (with_bit id j t) r ≡ set (the_set t (suc id)) j true = ap (the_set (with_bit id j t)) same ∙ the_set-with_set t (suc id) (set (the_set t (suc id)) j true) (omega (arith, lt, size.rows_are)) in
         ap (λ s. has s k) row ∙ in_row k ∙ ap (λ i. has (the_set t i) k || (k == j)) (sym same) ∙ ap (λ b. has (the_set t r) k || (b && (k == j))) (sym (eq-eqb r (suc id) same))
     | inr other ↦
-        ap (λ s. has s k) (other-with_set t (suc id) r (set (the_set t (suc id)) j true) other) ∙ sym (or_none (has (the_set t r) k)) ∙ ap (λ b. has (the_set t r) k || (b && (k == j))) (sym (not_equal r (suc id) other))
+        ap (λ s. has s k) (other-with_set t (suc id) r (set (the_set t (suc id)) j true) other) ∙ sym (or_none (has (the_set t r) k)) ∙ ap (λ b. has (the_set t r) k || (b && (k == j))) (sym (ne_eqb r (suc id) other))
   ]
     where
       in_row : (k : ℕ) → has (set (the_set t (suc id)) j true) k ≡ (has (the_set t (suc id)) k || (k == j))
       in_row k = elim (cases_eq k j) [
         | inl same ↦
-            ap (has (set (the_set t (suc id)) j true)) same ∙ get_or-set_same (the_set t (suc id)) j true false (let full = size.full (suc id) lt in omega (arith, full, in_)) ∙ sym (or_true (has (the_set t (suc id)) k)) ∙ ap (λ b. has (the_set t (suc id)) k || b) (sym (eq-eqb k j same))
+            ap (has (set (the_set t (suc id)) j true)) same ∙ get_or-set_same (the_set t (suc id)) j true false (let full = size.full (suc id) lt in omega (arith, full, in_)) ∙ sym (or_right (has (the_set t (suc id)) k) true refl) ∙ ap (λ b. has (the_set t (suc id)) k || b) (sym (eq-eqb k j same))
         | inr other ↦
-            get_or-set_other (the_set t (suc id)) j k true false other ∙ sym (or_none (has (the_set t (suc id)) k)) ∙ ap (λ b. has (the_set t (suc id)) k || b) (sym (not_equal k j other))
+            get_or-set_other (the_set t (suc id)) j k true false other ∙ sym (or_none (has (the_set t (suc id)) k)) ∙ ap (λ b. has (the_set t (suc id)) k || b) (sym (ne_eqb k j other))
       ]
 
   -- ---- a variable
@@ -58,7 +55,7 @@ module _ (rows bits : ℕ) where
   guard_is id x t size = ap (λ n. nat_lt (suc id) n && nat_lt (x + 2) t.bits) size.rows_are ∙ ap (λ n. nat_lt (suc id) rows && nat_lt (x + 2) n) size.bits_are
 
   pub variable_sized : (id x : ℕ) (t : Table) → IsSized rows bits t → IsSized rows bits (with_variable id x t)
-  variable_sized id x t size = elim (truth (nat_lt (suc id) rows && nat_lt (x + 2) bits)) [
+  variable_sized id x t size = elim (cases_Bool (nat_lt (suc id) rows && nat_lt (x + 2) bits)) [
     | inl yes_ ↦
         let w = and_parts (nat_lt (suc id) rows) (nat_lt (x + 2) bits) yes_ in
         subst (IsSized rows bits) (sym (guarded id x t true (guard_is id x t size ∙ yes_))) (bit_sized id (suc x) t (ltb-true (suc id) rows w.0) size)
@@ -66,16 +63,16 @@ module _ (rows bits : ℕ) where
   ]
 
   in_range : (r k id x : ℕ) → r < rows → k < bits → (nat_lt (suc id) rows && nat_lt (x + 2) bits) ≡ false → ((r == suc id) && is_bit k x) ≡ false
-  in_range r k id x low within none = elim (truth (r == suc id)) [
+  in_range r k id x low within none = elim (cases_Bool (r == suc id)) [
     | inl same ↦
         let lt : suc id < rows = (let e : r ≡ suc id = eqb-true r (suc id) same in omega (arith, e, low)) in
         let past : nat_lt (x + 2) bits ≡ false = ap (λ b. b && nat_lt (x + 2) bits) (sym (lt-ltb (suc id) rows lt)) ∙ none in
-        ap (λ b. b && is_bit k x) same ∙ ap (λ b. (k == suc x) && b) past ∙ and_false (k == suc x)
+        ap (λ b. b && is_bit k x) same ∙ ap (λ b. (k == suc x) && b) past ∙ and_right (k == suc x) false refl
     | inr other ↦ ap (λ b. b && is_bit k x) other
   ]
 
   pub variable_has : (id x : ℕ) (t : Table) → IsSized rows bits t → (r k : ℕ) → r < rows → k < bits → has (the_set (with_variable id x t) r) k ≡ (has (the_set t r) k || ((r == suc id) && is_bit k x))
-  variable_has id x t size r k low within = elim (truth (nat_lt (suc id) rows && nat_lt (x + 2) bits)) [
+  variable_has id x t size r k low within = elim (cases_Bool (nat_lt (suc id) rows && nat_lt (x + 2) bits)) [
     | inl yes_ ↦
         let w = and_parts (nat_lt (suc id) rows) (nat_lt (x + 2) bits) yes_ in
         let lt : x + 2 < bits = ltb-true (x + 2) bits w.1 in
@@ -95,7 +92,7 @@ module _ (rows bits : ℕ) where
   variables_sized id (x ∷ xs) t size = variables_sized id xs (with_variable id x t) (variable_sized id x t size)
 
   pub variables_has : (id : ℕ) (xs : List ℕ) (t : Table) → IsSized rows bits t → (r k : ℕ) → r < rows → k < bits → has (the_set (with_variables id xs t) r) k ≡ (has (the_set t r) k || ((r == suc id) && any_bit k xs))
-  variables_has id [] t size r k low within = sym (ap (λ b. has (the_set t r) k || b) (and_false (r == suc id)) ∙ or_none (has (the_set t r) k))
+  variables_has id [] t size r k low within = sym (ap (λ b. has (the_set t r) k || b) (and_right (r == suc id) false refl) ∙ or_none (has (the_set t r) k))
   variables_has id (x ∷ xs) t size r k low within =
       variables_has id xs (with_variable id x t) (variable_sized id x t size) r k low within
       ∙ ap (λ b. b || ((r == suc id) && any_bit k xs)) (variable_has id x t size r k low within)
@@ -111,16 +108,16 @@ module _ (rows bits : ℕ) where
   result_guard_is id t size = ap (nat_lt (suc id)) size.rows_are
 
   result_sized : (id : ℕ) (t : Table) → IsSized rows bits t → IsSized rows bits (with_result id t)
-  result_sized id t size = elim (truth (nat_lt (suc id) rows)) [
+  result_sized id t size = elim (cases_Bool (nat_lt (suc id) rows)) [
     | inl yes_ ↦ subst (IsSized rows bits) (sym (result_guard id t true (result_guard_is id t size ∙ yes_))) (bit_sized id (t.bits - 1) t (ltb-true (suc id) rows yes_) size)
     | inr no_ ↦ subst (IsSized rows bits) (sym (result_guard id t false (result_guard_is id t size ∙ no_))) size
   ]
 
   row_past : (r id : ℕ) → r < rows → nat_lt (suc id) rows ≡ false → (r == suc id) ≡ false
-  row_past r id low none = not_equal r (suc id) (λ e. let le : rows ≤ suc id = ltb-false (suc id) rows none in omega (arith, e, low, le))
+  row_past r id low none = ne_eqb r (suc id) (λ e. let le : rows ≤ suc id = ltb-false (suc id) rows none in omega (arith, e, low, le))
 
   result_has : (id : ℕ) (t : Table) → IsSized rows bits t → (r k : ℕ) → r < rows → k < bits → has (the_set (with_result id t) r) k ≡ (has (the_set t r) k || ((r == suc id) && (k == bits - 1)))
-  result_has id t size r k low within = elim (truth (nat_lt (suc id) rows)) [
+  result_has id t size r k low within = elim (cases_Bool (nat_lt (suc id) rows)) [
     | inl yes_ ↦
         ap (λ u. has (the_set u r) k) (result_guard id t true (result_guard_is id t size ∙ yes_)) ∙ bit_has id (t.bits - 1) t (ltb-true (suc id) rows yes_) (omega (arith, size.bits_are, within)) size r k ∙ ap (λ n. has (the_set t r) k || ((r == suc id) && (k == n - 1))) size.bits_are
     | inr no_ ↦
@@ -133,4 +130,4 @@ module _ (rows bits : ℕ) where
 
   pub given_has : (b : Bool) (id : ℕ) (t : Table) → IsSized rows bits t → (r k : ℕ) → r < rows → k < bits → has (the_set (result_if b id t) r) k ≡ (has (the_set t r) k || ((r == suc id) && (b && (k == bits - 1))))
   given_has true id t size r k low within = result_has id t size r k low within
-  given_has false id t size r k low within = sym (ap (λ b. has (the_set t r) k || b) (and_false (r == suc id)) ∙ or_none (has (the_set t r) k))
+  given_has false id t size r k low within = sym (ap (λ b. has (the_set t r) k || b) (and_right (r == suc id) false refl) ∙ or_none (has (the_set t r) k))

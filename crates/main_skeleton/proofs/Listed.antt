@@ -3,7 +3,8 @@ use Rattle.std.proofs.Common.{◌≡◌, ℕ, zero, suc, ◌<◌, ◌==◌, List
 use Rattle.std.specs.Prelude.{Contains}
 use Rattle.std.specs.List.{find}
 use Rattle.std.specs.Option.{option_map_or}
-use Rattle.std.proofs.lemmas.Bool.{false≢true, and_parts, or_cases}
+use Rattle.std.proofs.lemmas.Bool.{false≢true, and_parts, or_cases, and_right}
+use Rattle.std.proofs.lemmas.Option.{same_Some}
 use Rattle.c_tree.specs.declared.expr.Expr.{Expr, map-Expr, ind-Expr, roll-Expr, fold-roll-Expr}
 use Rattle.c_tree.specs.declared.expr.Expr.TheOpen.{Expr-F}
 use Rattle.c_tree.specs.declared.program.Init.{Init}
@@ -27,14 +28,14 @@ use Rattle.dep_model.specs.MainVertices.{vertices}
 use Rattle.dep_model.specs.NumberedMains.{init_below, act_below, doing_below, IsNumberedMain}
 use Rattle.dep_model.specs.SystemGraph.{places_at}
 use Rattle.dep_model.specs.VertexOrder.{has_number, statement_defines, vertex_effects}
-use Rattle.dep_model.proofs.BoolLemmas.{and_false}
 use Rattle.dep_model.proofs.IntegerActs.{is_integer_doing}
 use Rattle.rule_closure.proofs.ListLemmas.{contains_head, contains_cons, map_contains}
 use Rattle.dep_model.proofs.MainVertexLemmas.{IsMainVertex, entry, numbered, vertex_cases}
 use Rattle.dep_model.proofs.NumberedEdges.{numbered_vertices}
 use Rattle.dep_model.proofs.NumberedLocations.{numbered_locations, variable_listed, result_listed}
 use Rattle.dep_model.proofs.NumberedMain.{all_are, acts_on}
-use Rattle.main_skeleton.specs.Laws.{IsListed, LocationsAreListed}
+use Rattle.dep_model.specs.ListedLocations.{IsListed}
+use Rattle.main_skeleton.specs.Laws.{LocationsAreListed}
 use Rattle.main_skeleton.proofs.DoingLemmas.{found_passes}
 
 -- ---- variables that are set
@@ -100,7 +101,7 @@ module _ (n : ℕ) where
 
 no_path : (r s : Root) (hs : List Part) → (same_root r s && same_all same_part [] hs) ≡ true → hs ≡ []
 no_path r s [] h = refl
-no_path r s (g ∷ hs) h = absurd (false≢true (sym (and_false (same_root r s)) ∙ h))
+no_path r s (g ∷ hs) h = absurd (false≢true (sym (and_right (same_root r s) false refl) ∙ h))
 
 variable_root : (x : ℕ) (s : Root) (b : Bool) → (same_root (Variable x) s && b) ≡ true → s ≡ Variable x
 variable_root x Input b h = absurd (false≢true h)
@@ -128,12 +129,9 @@ result_is l h =
 
 -- ---- what is listed
 
-some_inj : {x y : Placed} → Some x ≡ Some y → x ≡ y
-some_inj e = cc
-
 contains_at : (os : List Placed) (k : ℕ) (o : Placed) → slice_get os k ≡ Some o → Contains os o
 contains_at [] k o e = cc
-contains_at (q ∷ os) zero o e = subst (Contains (q ∷ os)) (some_inj e) (contains_head q os)
+contains_at (q ∷ os) zero o e = subst (Contains (q ∷ os)) (same_Some _ _ e) (contains_head q os)
 contains_at (q ∷ os) (suc k) o e = contains_cons q os o (contains_at os k o e)
 
 module _ (p : Program) (h : IsNumberedMain p) where

@@ -2,7 +2,7 @@
 use Rattle.std.proofs.Common.{◌≡◌, ℕ, zero, suc, ◌+◌, ◌-◌, ◌<◌, ◌==◌, List, [], ◌∷◌, length, map, replicate, slice_get, nat_lt, Bool, true, false, ◌&&◌, inl, inr, Option, Some, None, refl, sym, ap, ◌∙◌, subst, arith, eq-eqb, eqb-true, lt-ltb, ltb-true}
 use Rattle.std.specs.List.{find}
 use Rattle.std.specs.Option.{option_map_or}
-use Rattle.std.proofs.lemmas.Bool.{cases_eq, ne_eqb}
+use Rattle.std.proofs.lemmas.Bool.{cases_eq, ne_eqb, and_right, cases_Bool}
 use Rattle.std.proofs.lemmas.List.{get_or-replicate}
 use Rattle.c_tree.specs.declared.program.Program.{Program}
 use Rattle.c_language.specs.Code.{Act}
@@ -23,13 +23,12 @@ use Rattle.dep_model.specs.NumberedMains.{IsNumberedMain}
 use Rattle.dep_model.specs.Skeletons.{AreRows, IsSkeleton}
 use Rattle.dep_model.specs.SystemGraph.{Analysis, IsAnalysis, vertices_of}
 use Rattle.dep_model.specs.VertexOrder.{has_number, in_function, statement_uses, statement_defines, statement_kills, vertex_effects}
-use Rattle.dep_model.proofs.BoolLemmas.{or_both, and_true, and_false}
+use Rattle.dep_model.proofs.BoolLemmas.{or_both, and_true}
 use Rattle.dep_model.proofs.IntegerActs.{is_integer_act, is_integer_doing, ActsOnVariables}
 use Rattle.dep_model.proofs.MainVertexLemmas.{IsMainVertex, entry, numbered, vertex_cases}
 use Rattle.dep_model.proofs.NumberedEdges.{numbered_vertices}
 use Rattle.dep_model.proofs.NumberedLocations.{IsMainLocation, the_input_, a_variable, the_result, location_cases, length_main, numbered_locations}
 use Rattle.dep_model.proofs.NumberedMain.{all_are, none_taken, acts_on}
-use Rattle.dep_model.proofs.WholeVariables.{truth}
 use Rattle.main_skeleton.specs.declared.effects.Effects.{Effects}
 use Rattle.main_skeleton.specs.Marks.{main_vertices, main_effects}
 use Rattle.main_skeleton.proofs.DoingLemmas.{used_by, defined_by, killed_by, by_all, used_all, defined_all, killed_all, Marks, all_sized, all_has, used_test, defined_test, killed_test, used_marks, defined_marks, killed_marks, none_at_entry, any_found, found_passes}
@@ -49,13 +48,13 @@ module _ (rows m : ℕ) where
   ]
 
   result_bit : (x : ℕ) → is_bit rows (m + 2) (suc m) x ≡ false
-  result_bit x = elim (truth (suc m == suc x)) [
-    | inl same ↦ elim (truth (nat_lt (x + 2) (m + 2))) [
+  result_bit x = elim (cases_Bool (suc m == suc x)) [
+    | inl same ↦ elim (cases_Bool (nat_lt (x + 2) (m + 2))) [
       | inl low ↦
           let lt : x + 2 < m + 2 = ltb-true (x + 2) (m + 2) low in
           let e : suc m ≡ suc x = eqb-true (suc m) (suc x) same in
           absurd (omega (arith, lt, e))
-      | inr high ↦ ap (λ b. (suc m == suc x) && b) high ∙ and_false (suc m == suc x)
+      | inr high ↦ ap (λ b. (suc m == suc x) && b) high ∙ and_right (suc m == suc x) false refl
     ]
     | inr other ↦ ap (λ b. b && nat_lt (x + 2) (m + 2)) other
   ]

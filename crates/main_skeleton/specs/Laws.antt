@@ -1,14 +1,14 @@
 -- Laws of programs of main alone over integers.
-use Rattle.std.specs.Prelude.{◌≡◌, ◌↔◌, ℕ, List, map, true, Contains}
+use Rattle.std.specs.Prelude.{◌≡◌, ◌↔◌, List}
 use Rattle.c_tree.specs.declared.program.Program.{Program}
 use Rattle.dep_model.specs.declared.edge.Edge.{Edge}
-use Rattle.dep_model.specs.declared.location.Location.{Location}
-use Rattle.dep_model.specs.Locations.{Placed, locations}
+use Rattle.dep_model.specs.Locations.{locations}
+use Rattle.dep_model.specs.ListedLocations.{AreListed}
 use Rattle.dep_model.specs.MainEdges.{AreMainEdges}
 use Rattle.dep_model.specs.MainLocations.{main_locations}
 use Rattle.dep_model.specs.MainVertices.{vertices}
 use Rattle.dep_model.specs.NumberedMains.{IsNumberedMain}
-use Rattle.dep_model.specs.SystemGraph.{Analysis, IsAnalysis, vertices_of, numbered_effects, AreSystemEdges}
+use Rattle.dep_model.specs.SystemGraph.{Analysis, IsAnalysis, vertices_of, AreSystemEdges}
 
 abbrev pub NumberedHaveAnalyses : Type 0
 NumberedHaveAnalyses = (p : Program) → IsNumberedMain p → (a : Analysis) × IsAnalysis p a
@@ -26,10 +26,6 @@ abbrev pub EdgesAreOfMain : Type 0
 EdgesAreOfMain =
     (p : Program) (a : Analysis) (edges : List Edge) → IsNumberedMain p → IsAnalysis p a → AreSystemEdges p a edges ↔ AreMainEdges p a edges
 
-abbrev pub IsListed : Program → Location → Type 0
-IsListed p l = Contains (map (λ (o : Placed). o.location) (locations p)) l
-
 -- each location that one vertex may define and another, or the same, may use is listed
 abbrev pub LocationsAreListed : Type 0
-LocationsAreListed =
-    (p : Program) (a : Analysis) → IsNumberedMain p → IsAnalysis p a → (v w : ℕ) (l : Location) → (numbered_effects p a.points (vertices_of p a)).defines v l ≡ true → (numbered_effects p a.points (vertices_of p a)).uses w l ≡ true → IsListed p l
+LocationsAreListed = (p : Program) (a : Analysis) → IsNumberedMain p → IsAnalysis p a → AreListed p a

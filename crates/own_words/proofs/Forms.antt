@@ -1,5 +1,5 @@
 -- What stays of a kept statement, form by form: one statement, with the same line and words.
-use Rattle.std.proofs.Common.{◌≡◌, ◌==◌, ℕ, List, [], ◌∷◌, ◌++◌, map, Option, Some, None, Bool, true, false, ◌&&◌, ◌||◌, codes, refl, sym, ap, ◌∙◌, eq-eqb}
+use Rattle.std.proofs.Common.{◌≡◌, ◌==◌, ℕ, List, [], ◌∷◌, ◌++◌, map, Option, Some, None, Bool, true, false, ◌&&◌, ◌||◌, codes, refl, sym, ap, ◌∙◌, eq-eqb, ap₂}
 use Rattle.std.specs.Prelude.{option_map}
 use Rattle.std.proofs.lemmas.Bool.{or_left, and_from}
 use Rattle.c_tree.specs.declared.expr.Expr.{Expr}
@@ -13,15 +13,16 @@ use Rattle.c_tree.specs.declared.statement.Target.TheVariants as target
 use Rattle.c_tree.specs.declared.numbered.Start.{Start}
 use Rattle.c_tree.specs.Numbered.{start, layer_start}
 use Rattle.c_language.specs.Words.{Bytes, assign_sign, name_of_function, expr_words}
-use Rattle.c_language.specs.Layout.{init_words, var_words, target_words, amount_words, cast_words, call_words, bump_words, return_words, Laid, statement_step, arm_step, laid, statement_words}
+use Rattle.c_language.specs.Layout.{init_words, var_words, target_words, amount_words, cast_words, call_words, bump_words, return_words, Laid, statement_step, arm_step, laid, statement_words, arm_laid}
 use Rattle.c_language.proofs.Options.{none_there, some_same}
 use Rattle.projection.specs.Kept.{rank}
 use Rattle.projection.specs.Names.{names, any_names, init_names, target_names, amount_names, value_names, refers_step, refers_arm, refers}
 use Rattle.projection.specs.Renumbering.{renamed, renamed_init, renamed_target, renamed_amount}
-use Rattle.projection.specs.Projection.{if_so, first_of, projected_step, projected, projected_arm, projected_all}
+use Rattle.projection.specs.Projection.{first_of, projected_step, projected, projected_arm, projected_all}
 use Rattle.own_words.specs.OwnWords.{layer_words, own_words}
-use Rattle.own_words.proofs.Lists.{two, three}
+use Rattle.own_words.proofs.Lists.{three}
 use Rattle.own_words.proofs.Words.{same_numbers, NamesPass, left_pass, right_pass, kept, staying, ranked, smaller, var_words_same, expr_says, all_say, function_same, cast_same, init_says, target_says, amount_says, return_says}
+use Rattle.c_scope_laws.proofs.TreeLevels.{chosen}
 
 -- a fold of a statement is one of its layer
 pub fold_layer : (A B : Type 0) (step : Statement-F A B → A) (arm : Arm-F A B → B) (x : Statement) → fold-Statement A B step arm x ≡ step (map-Statement Statement Arm A B (fold-Statement A B step arm) (fold-Arm A B step arm) (out-Statement x))
@@ -29,9 +30,6 @@ fold_layer A B step arm x =
     ap (fold-Statement A B step arm) (sym (roll-out-Statement x)) ∙ fold-roll-Statement A B step arm (out-Statement x)
 
 -- ---- words
-
-abbrev arm_laid : Program → Arm → ℕ → Bytes
-arm_laid q = fold-Arm Laid (ℕ → Bytes) (statement_step q) (arm_step q)
 
 -- the own words of a layer
 abbrev pub text : Program → Statement-F Statement Arm → Bytes
@@ -100,9 +98,6 @@ module _ (q : Program) (x : Statement) where
 
 -- ---- what stays
 
-pub so : {A : Type 0} (b : Bool) (xs ys : List A) → b ≡ true → if_so b xs ys ≡ xs
-so b xs ys h = ap (λ c. if_so c xs ys) h
-
 module _ (p : Program) (keeps : ℕ → Bool) where
   abbrev pub left : Statement → List Statement
   left = projected (kept p keeps) same_numbers
@@ -151,27 +146,27 @@ module _ (p : Program) (keeps : ℕ → Bool) where
   -- a kept statement leaves one statement
   pub left_is : (z : Statement-F Statement Arm) (i n : ℕ) → layer_start z ≡ Some (start i n) → keeps i ≡ true → step_left z ≡ roll-Statement (left_layer z) ∷ []
   left_is (Statement-F.Declare None l x a) i n is h = none_there is
-  left_is (Statement-F.Declare (Some id) l x a) i n is h = so (keeps id) _ _ (same_kept id l i n is h) ∙ only (sym (s.rolls-Declare _ _ _ _))
-  left_is (Statement-F.Assign id l a op b) i n is h = so (keeps id) _ _ (same_kept id l i n is h) ∙ only (sym (s.rolls-Assign _ _ _ _ _))
-  left_is (Statement-F.Bump id l a up before) i n is h = so (keeps id) _ _ (same_kept id l i n is h) ∙ only (sym (s.rolls-Bump _ _ _ _ _))
-  left_is (Statement-F.Invoke id l target.None f args) i n is h = so (keeps id) _ _ (same_kept id l i n is h) ∙ only (sym (s.rolls-Invoke _ _ _ _ _))
-  left_is (Statement-F.Invoke id l (target.Place a) f args) i n is h = so (keeps id) _ _ (same_kept id l i n is h) ∙ only (sym (s.rolls-Invoke _ _ _ _ _))
-  left_is (Statement-F.Invoke id l (target.Declared x) f args) i n is h = so (keeps id) _ _ (same_kept id l i n is h) ∙ only (sym (s.rolls-Invoke _ _ _ _ _))
-  left_is (Statement-F.Fetch id l to) i n is h = so (keeps id) _ _ (same_kept id l i n is h) ∙ only (sym (s.rolls-Fetch _ _ _))
-  left_is (Statement-F.Write id l a) i n is h = so (keeps id) _ _ (same_kept id l i n is h) ∙ only (sym (s.rolls-Write _ _ _))
-  left_is (Statement-F.Print id l format args) i n is h = so (keeps id) _ _ (same_kept id l i n is h) ∙ only (sym (s.rolls-Print _ _ _ _))
-  left_is (Statement-F.Heap id l to cast m) i n is h = so (keeps id) _ _ (same_kept id l i n is h) ∙ only (sym (s.rolls-Heap _ _ _ _ _))
-  left_is (Statement-F.Release id l a) i n is h = so (keeps id) _ _ (same_kept id l i n is h) ∙ only (sym (s.rolls-Release _ _ _))
-  left_is (Statement-F.If id l e a b) i n is h = so (keeps id) _ _ (same_kept id l i n is h) ∙ only (sym (s.rolls-If _ _ _ _ _))
-  left_is (Statement-F.While id l e b) i n is h = so (keeps id) _ _ (same_kept id l i n is h) ∙ only (sym (s.rolls-While _ _ _ _))
-  left_is (Statement-F.Do id l e b) i n is h = so (keeps id) _ _ (same_kept id l i n is h) ∙ only (sym (s.rolls-Do _ _ _ _))
-  left_is (Statement-F.For id l None e None b) i n is h = so (keeps id) _ _ (same_kept id l i n is h) ∙ only (sym (s.rolls-For _ _ _ _ _ _))
-  left_is (Statement-F.For id l None e (Some k) b) i n is h = so (keeps id) _ _ (same_kept id l i n is h) ∙ only (sym (s.rolls-For _ _ _ _ _ _))
-  left_is (Statement-F.For id l (Some a) e None b) i n is h = so (keeps id) _ _ (same_kept id l i n is h) ∙ only (sym (s.rolls-For _ _ _ _ _ _))
-  left_is (Statement-F.For id l (Some a) e (Some k) b) i n is h = so (keeps id) _ _ (same_kept id l i n is h) ∙ only (sym (s.rolls-For _ _ _ _ _ _))
-  left_is (Statement-F.Switch id l e arms) i n is h = so (keeps id) _ _ (same_kept id l i n is h) ∙ only (sym (s.rolls-Switch _ _ _ _))
+  left_is (Statement-F.Declare (Some id) l x a) i n is h = chosen _ _ (same_kept id l i n is h) ∙ only (sym (s.rolls-Declare _ _ _ _))
+  left_is (Statement-F.Assign id l a op b) i n is h = chosen _ _ (same_kept id l i n is h) ∙ only (sym (s.rolls-Assign _ _ _ _ _))
+  left_is (Statement-F.Bump id l a up before) i n is h = chosen _ _ (same_kept id l i n is h) ∙ only (sym (s.rolls-Bump _ _ _ _ _))
+  left_is (Statement-F.Invoke id l target.None f args) i n is h = chosen _ _ (same_kept id l i n is h) ∙ only (sym (s.rolls-Invoke _ _ _ _ _))
+  left_is (Statement-F.Invoke id l (target.Place a) f args) i n is h = chosen _ _ (same_kept id l i n is h) ∙ only (sym (s.rolls-Invoke _ _ _ _ _))
+  left_is (Statement-F.Invoke id l (target.Declared x) f args) i n is h = chosen _ _ (same_kept id l i n is h) ∙ only (sym (s.rolls-Invoke _ _ _ _ _))
+  left_is (Statement-F.Fetch id l to) i n is h = chosen _ _ (same_kept id l i n is h) ∙ only (sym (s.rolls-Fetch _ _ _))
+  left_is (Statement-F.Write id l a) i n is h = chosen _ _ (same_kept id l i n is h) ∙ only (sym (s.rolls-Write _ _ _))
+  left_is (Statement-F.Print id l format args) i n is h = chosen _ _ (same_kept id l i n is h) ∙ only (sym (s.rolls-Print _ _ _ _))
+  left_is (Statement-F.Heap id l to cast m) i n is h = chosen _ _ (same_kept id l i n is h) ∙ only (sym (s.rolls-Heap _ _ _ _ _))
+  left_is (Statement-F.Release id l a) i n is h = chosen _ _ (same_kept id l i n is h) ∙ only (sym (s.rolls-Release _ _ _))
+  left_is (Statement-F.If id l e a b) i n is h = chosen _ _ (same_kept id l i n is h) ∙ only (sym (s.rolls-If _ _ _ _ _))
+  left_is (Statement-F.While id l e b) i n is h = chosen _ _ (same_kept id l i n is h) ∙ only (sym (s.rolls-While _ _ _ _))
+  left_is (Statement-F.Do id l e b) i n is h = chosen _ _ (same_kept id l i n is h) ∙ only (sym (s.rolls-Do _ _ _ _))
+  left_is (Statement-F.For id l None e None b) i n is h = chosen _ _ (same_kept id l i n is h) ∙ only (sym (s.rolls-For _ _ _ _ _ _))
+  left_is (Statement-F.For id l None e (Some k) b) i n is h = chosen _ _ (same_kept id l i n is h) ∙ only (sym (s.rolls-For _ _ _ _ _ _))
+  left_is (Statement-F.For id l (Some a) e None b) i n is h = chosen _ _ (same_kept id l i n is h) ∙ only (sym (s.rolls-For _ _ _ _ _ _))
+  left_is (Statement-F.For id l (Some a) e (Some k) b) i n is h = chosen _ _ (same_kept id l i n is h) ∙ only (sym (s.rolls-For _ _ _ _ _ _))
+  left_is (Statement-F.Switch id l e arms) i n is h = chosen _ _ (same_kept id l i n is h) ∙ only (sym (s.rolls-Switch _ _ _ _))
   left_is (Statement-F.Block l b) i n is h = none_there is
-  left_is (Statement-F.Return id l a) i n is h = so (keeps id) _ _ (same_kept id l i n is h) ∙ only (sym (s.rolls-Return _ _ _))
+  left_is (Statement-F.Return id l a) i n is h = chosen _ _ (same_kept id l i n is h) ∙ only (sym (s.rolls-Return _ _ _))
 
   abbrev pub ranked_start : Start → Start
   ranked_start t = start (rank keeps t.id) t.line
@@ -202,9 +197,9 @@ module _ (p : Program) (keeps : ℕ → Bool) where
   -- its words are the same, where all that they name stays
   pub left_text : (z : Statement-F Statement Arm) → Passes (layer_names z) → text (smaller p keeps) (left_layer z) ≡ text p z
   left_text (Statement-F.Declare id l x i) h =
-      two (λ v w. v ++ w) (var_words_same p keeps x (left_pass (λ v. x == v) (init_names i) h x (eq-eqb x x refl))) (init_says p keeps i (right_pass (λ v. x == v) (init_names i) h))
+      ap₂ (λ v w. v ++ w) (var_words_same p keeps x (left_pass (λ v. x == v) (init_names i) h x (eq-eqb x x refl))) (init_says p keeps i (right_pass (λ v. x == v) (init_names i) h))
   left_text (Statement-F.Assign id l a op b) h =
-      two (λ v w. v ++ (codes " " ++ (assign_sign op ++ (codes " " ++ w)))) (expr_says p keeps a (left_pass (names a) (names b) h)) (expr_says p keeps b (right_pass (names a) (names b) h))
+      ap₂ (λ v w. v ++ (codes " " ++ (assign_sign op ++ (codes " " ++ w)))) (expr_says p keeps a (left_pass (names a) (names b) h)) (expr_says p keeps b (right_pass (names a) (names b) h))
   left_text (Statement-F.Bump id l a up before) h = ap (λ w. bump_words w up before) (expr_says p keeps a h)
   left_text (Statement-F.Invoke id l to f args) h =
       three (λ u v w. u ++ call_words v w) (target_says p keeps to (left_pass (target_names to) (any_names args) h)) (function_same p keeps f) (all_say p keeps args (right_pass (target_names to) (any_names args) h))

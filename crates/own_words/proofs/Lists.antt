@@ -1,15 +1,11 @@
 -- What stands in a list, and tests that hold of it.
-use Rattle.std.proofs.Common.{◌≡◌, ℕ, zero, suc, ◌<◌, List, [], ◌∷◌, ◌++◌, length, get_or, Contains, Bool, true, ◌⊎◌, inl, inr, refl, ap, ◌∙◌, subst, arith}
+use Rattle.std.proofs.Common.{◌≡◌, ℕ, zero, suc, ◌<◌, List, [], ◌∷◌, ◌++◌, length, get_or, Contains, Bool, true, ◌⊎◌, inl, inr, refl, ap, ◌∙◌, subst, arith, ap₂}
 use Rattle.std.specs.List.{list_all, list_any}
 use Rattle.std.proofs.lemmas.Bool.{and_parts, or_left, or_right}
 
--- a function of two things that are the same
-pub two : {A B C : Type 0} (f : A → B → C) {a b : A} {c d : B} → a ≡ b → c ≡ d → f a c ≡ f b d
-two f {a} {b} {c} {d} p q = ap (λ x. f x c) p ∙ ap (f b) q
-
 -- of three
 pub three : {A B C D : Type 0} (f : A → B → C → D) {a b : A} {c d : B} {x y : C} → a ≡ b → c ≡ d → x ≡ y → f a c x ≡ f b d y
-three f {a} {b} {c} {d} {x} {y} p q r = ap (λ z. f z c x) p ∙ two (f b) q r
+three f {a} {b} {c} {d} {x} {y} p q r = ap (λ z. f z c x) p ∙ ap₂ (f b) q r
 
 -- one of the list
 pub data Among {A : Type 0} : List A → A → Type 0 where

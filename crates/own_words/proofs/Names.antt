@@ -5,7 +5,7 @@ use Rattle.std.proofs.lemmas.Bool.{cases_lt}
 use Rattle.c_tree.specs.declared.program.Var.{Var}
 use Rattle.projection.specs.Kept.{Kept, rank}
 use Rattle.projection.specs.Projection.{projected_var, projected_vars}
-use Rattle.projection.proofs.RankLemmas.{by_bool}
+use Rattle.c_language.proofs.Tests.{by_answer}
 
 module _ (keeps : ℕ → Bool) where
   rank_step : (b : Bool) (m : ℕ) → m ≤ (if b then suc m else m)
@@ -23,11 +23,6 @@ module _ (keeps : ℕ → Bool) where
         | inr ge ↦ same_rank m (suc n) (omega arith)
       ]
 
--- where all is kept, each keeps its number
-pub same_number : (n : ℕ) → rank (λ f. true) n ≡ n
-same_number zero = refl
-same_number (suc n) = ap suc (same_number n)
-
 module _ (k : Kept) (g : ℕ → ℕ) where
   get_from : (n : ℕ) (vs : List Var) (i j : ℕ) → k.variable (n + i) ≡ true → rank k.variable n + j ≡ rank k.variable (n + i) → slice_get (projected_vars k g n vs) j ≡ option_map (projected_var k g) (slice_get vs i)
   get_from n [] i j passes is = refl
@@ -38,10 +33,10 @@ module _ (k : Kept) (g : ℕ → ℕ) where
       rw (here, first) refl
   get_from n (v ∷ vs) (suc i) zero passes is =
       let e : suc n + i ≡ n + suc i = omega arith in
-      by_bool (k.variable n) _ (λ here. let next : rank k.variable (suc n) ≡ suc (rank k.variable n) = rw here refl in absurd (omega (arith, is, next, ap (rank k.variable) e, rank_grows k.variable (suc n) (suc n + i) (omega arith)))) (λ other. let next : rank k.variable (suc n) ≡ rank k.variable n = rw other refl in rw other (get_from (suc n) vs i zero (ap k.variable e ∙ passes) (omega (arith, is, next, ap (rank k.variable) e))))
+      by_answer (k.variable n) (λ here. let next : rank k.variable (suc n) ≡ suc (rank k.variable n) = rw here refl in absurd (omega (arith, is, next, ap (rank k.variable) e, rank_grows k.variable (suc n) (suc n + i) (omega arith)))) (λ other. let next : rank k.variable (suc n) ≡ rank k.variable n = rw other refl in rw other (get_from (suc n) vs i zero (ap k.variable e ∙ passes) (omega (arith, is, next, ap (rank k.variable) e))))
   get_from n (v ∷ vs) (suc i) (suc j) passes is =
       let e : suc n + i ≡ n + suc i = omega arith in
-      by_bool (k.variable n) _ (λ here. let next : rank k.variable (suc n) ≡ suc (rank k.variable n) = rw here refl in rw here (get_from (suc n) vs i j (ap k.variable e ∙ passes) (omega (arith, is, next, ap (rank k.variable) e)))) (λ other. let next : rank k.variable (suc n) ≡ rank k.variable n = rw other refl in rw other (get_from (suc n) vs i (suc j) (ap k.variable e ∙ passes) (omega (arith, is, next, ap (rank k.variable) e))))
+      by_answer (k.variable n) (λ here. let next : rank k.variable (suc n) ≡ suc (rank k.variable n) = rw here refl in rw here (get_from (suc n) vs i j (ap k.variable e ∙ passes) (omega (arith, is, next, ap (rank k.variable) e)))) (λ other. let next : rank k.variable (suc n) ≡ rank k.variable n = rw other refl in rw other (get_from (suc n) vs i (suc j) (ap k.variable e ∙ passes) (omega (arith, is, next, ap (rank k.variable) e))))
 
   -- a variable that stays stands at its rank
   pub get-projected : (vs : List Var) (i : ℕ) → k.variable i ≡ true → slice_get (projected_vars k g 0 vs) (rank k.variable i) ≡ option_map (projected_var k g) (slice_get vs i)

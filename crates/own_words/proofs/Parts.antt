@@ -1,5 +1,5 @@
 -- What stands in a statement or in a list, by what is known of one of its parts.
-use Rattle.std.proofs.Common.{◌≡◌, ℕ, List, [], ◌∷◌, ◌++◌, map, Option, Some, None, Bool, true, false, ◌&&◌, ◌||◌, inl, inr, refl, sym, ap, subst}
+use Rattle.std.proofs.Common.{◌≡◌, ℕ, List, [], ◌∷◌, ◌++◌, map, Option, Some, None, Bool, true, false, ◌&&◌, ◌||◌, inl, inr, refl, sym, subst}
 use Rattle.std.specs.Option.{option_to_list}
 use Rattle.std.proofs.lemmas.Bool.{and_parts, or_left, or_right}
 use Rattle.c_tree.specs.declared.program.Program.{Program}
@@ -15,14 +15,15 @@ use Rattle.c_tree.proofs.LayerLemmas.{inner-Block}
 use Rattle.c_tree.proofs.SearchLemmas.{stands_left, stands_right}
 use Rattle.projection.specs.Names.{either, refers_step, refers_arm, refers}
 use Rattle.projection.specs.Projection.{if_so, first_of, is_declaring, bare, bare_target, alone, block_of, projected_step, projected_arm_step}
-use Rattle.projection.proofs.RankLemmas.{by_bool}
 use Rattle.projection_laws.specs.Nested.{Nest, any_kept, all_fit, governs, nest_step, nest_arm, nest}
 use Rattle.projection_laws.proofs.StatementForms.{arm_nest}
 use Rattle.projection_laws.proofs.Standing.{governs_back}
 use Rattle.own_words.proofs.Lists.{Among, among_split}
 use Rattle.own_words.proofs.Lists.Among.{first, next}
 use Rattle.own_words.proofs.Words.{same_numbers, kept}
-use Rattle.own_words.proofs.Forms.{fold_layer, so, left, arm_left, all_left, step_left, refers_to_arm}
+use Rattle.own_words.proofs.Forms.{fold_layer, left, arm_left, all_left, step_left, refers_to_arm}
+use Rattle.c_language.proofs.Tests.{by_answer}
+use Rattle.c_scope_laws.proofs.TreeLevels.{chosen, unchosen}
 
 pub among_none : {X A : Type 0} {x : X} → Among [] x → A
 among_none h = elim h [ ]
@@ -34,9 +35,6 @@ among_one (next h) = among_none h
 stands_none : {A : Type 0} {y : Statement} → StandsIn [] y → A
 stands_none h = elim h [ ]
 
-pub not_so : {A : Type 0} (b : Bool) (xs ys : List A) → b ≡ false → if_so b xs ys ≡ ys
-not_so b xs ys h = ap (λ c. if_so c xs ys) h
-
 -- ---- lists of one or none
 
 abbrev IsShort : List Statement → Type 0
@@ -47,15 +45,15 @@ short_so true x xs h = refl
 short_so false x xs h = h
 
 module _ (p : Program) (keeps : ℕ → Bool) where
-  short_alone : (l : ℕ) (o : Option Statement) → IsShort (alone (kept p keeps) same_numbers l o)
+  short_alone : (l : ℕ) (o : Option Statement) → IsShort (alone l o)
   short_alone l None = refl
   short_alone l (Some x) = short_so (is_declaring x) (s.Block l (x ∷ [])) (x ∷ []) refl
 
-  short_block : (l : ℕ) (xs : List Statement) → IsShort (block_of (kept p keeps) same_numbers l xs)
+  short_block : (l : ℕ) (xs : List Statement) → IsShort (block_of l xs)
   short_block l [] = refl
   short_block l (x ∷ xs) = refl
 
-  pub in_block : (l : ℕ) (xs : List Statement) (y : Statement) → StandsIn xs y → StandsIn (block_of (kept p keeps) same_numbers l xs) y
+  pub in_block : (l : ℕ) (xs : List Statement) (y : Statement) → StandsIn xs y → StandsIn (block_of l xs) y
   in_block l [] y h = stands_none h
   in_block l (x ∷ xs) y h = inside (subst (λ zs. StandsIn zs y) (sym (inner-Block l (x ∷ xs))) h)
 
@@ -63,7 +61,7 @@ module _ (p : Program) (keeps : ℕ → Bool) where
   in_chosen l x y true h = in_block l (x ∷ []) y h
   in_chosen l x y false h = h
 
-  pub in_alone : (l : ℕ) (o : Option Statement) (y : Statement) → StandsIn (option_to_list o) y → StandsIn (alone (kept p keeps) same_numbers l o) y
+  pub in_alone : (l : ℕ) (o : Option Statement) (y : Statement) → StandsIn (option_to_list o) y → StandsIn (alone l o) y
   in_alone l None y h = h
   in_alone l (Some x) y h = in_chosen l x y (is_declaring x) h
 
@@ -136,7 +134,7 @@ module _ (p : Program) (keeps : ℕ → Bool) where
     keeps_it = λ k. or_right (keeps id) a (h.keeps_it k);
     fits_it = λ g. h.fits_it (and_parts (governs (keeps id) a) e g).1;
     names_it = λ v r. or_right (own v) (m v) (h.names_it v r);
-    stands_it = λ k g y r. let both = and_parts (governs (keeps id) a) e g in subst (λ zs. StandsIn zs y) (sym (so (keeps id) (outer ∷ []) [] (governs_back (keeps id) a both.0 (h.keeps_it k)))) (inside (subst (λ zs. StandsIn zs y) (sym is) (h.stands_it k both.1 y r)));
+    stands_it = λ k g y r. let both = and_parts (governs (keeps id) a) e g in subst (λ zs. StandsIn zs y) (sym (chosen (outer ∷ []) [] (governs_back (keeps id) a both.0 (h.keeps_it k)))) (inside (subst (λ zs. StandsIn zs y) (sym is) (h.stands_it k both.1 y r)));
   }
 
   -- what a for begins with
@@ -146,9 +144,9 @@ module _ (p : Program) (keeps : ℕ → Bool) where
     keeps_it = λ k. or_right (keeps id) (a || b) (or_left a b (h.keeps_it k));
     fits_it = λ g. h.fits_it (and_parts e f (and_parts (governs (keeps id) b) (e && f) g).1).0;
     names_it = λ v r. or_right (own v) (m v || n v) (or_left (m v) (n v) (h.names_it v r));
-    stands_it = λ k g y r. let there = h.stands_it k (and_parts e f (and_parts (governs (keeps id) b) (e && f) g).1).0 y r in by_bool (keeps id) (StandsIn (if_so (keeps id) (outer ∷ []) zs) y)
-        (λ t. subst (λ ws. StandsIn ws y) (sym (so (keeps id) (outer ∷ []) zs t)) (inside (subst (λ ws. StandsIn ws y) (sym is) (stands_left there ys))))
-        (λ t. subst (λ ws. StandsIn ws y) (sym (not_so (keeps id) (outer ∷ []) zs t)) (bare_in y there));
+    stands_it = λ k g y r. let there = h.stands_it k (and_parts e f (and_parts (governs (keeps id) b) (e && f) g).1).0 y r in by_answer (keeps id)
+        (λ t. subst (λ ws. StandsIn ws y) (sym (chosen (outer ∷ []) zs t)) (inside (subst (λ ws. StandsIn ws y) (sym is) (stands_left there ys))))
+        (λ t. subst (λ ws. StandsIn ws y) (sym (unchosen (outer ∷ []) zs t)) (bare_in y there));
   }
 
   -- the step and the body of a for
@@ -158,7 +156,7 @@ module _ (p : Program) (keeps : ℕ → Bool) where
     keeps_it = λ k. or_right (keeps id) (a || b) (or_right a b (h.keeps_it k));
     fits_it = λ g. h.fits_it (and_parts e f (and_parts (governs (keeps id) b) (e && f) g).1).1;
     names_it = λ v r. or_right (own v) (m v || n v) (or_right (m v) (n v) (h.names_it v r));
-    stands_it = λ k g y r. let both = and_parts (governs (keeps id) b) (e && f) g in subst (λ ws. StandsIn ws y) (sym (so (keeps id) (outer ∷ []) zs (governs_back (keeps id) b both.0 (h.keeps_it k)))) (inside (subst (λ ws. StandsIn ws y) (sym is) (stands_right xs (h.stands_it k (and_parts e f both.1).1 y r))));
+    stands_it = λ k g y r. let both = and_parts (governs (keeps id) b) (e && f) g in subst (λ ws. StandsIn ws y) (sym (chosen (outer ∷ []) zs (governs_back (keeps id) b both.0 (h.keeps_it k)))) (inside (subst (λ ws. StandsIn ws y) (sym is) (stands_right xs (h.stands_it k (and_parts e f both.1).1 y r))));
   }
 
   -- ---- lists, arms and parts

@@ -97,12 +97,12 @@ module _ (p : Program) (keeps : ℕ → Bool) where
   layer_holds (Statement-F.For id l None e (Some k) b) x h =
       holds_repeated p keeps id (own id e) false true ((nest keeps k).keeps || any_keeps b) ((nest keeps k).fits && all_fits b) none (λ v. refers keeps k v || any_refers b v) [] (of_part p keeps k ++ stay b) [] (s.For (rank keeps id) l None (new e) (first_of (left p keeps k)) (stay b)) x (inner-For (rank keeps id) l None (new e) (first_of (left p keeps k)) (stay b)) (stepped k b x h)
   layer_holds (Statement-F.For id l (Some i) e None b) x h = elim (among_split (i ∷ []) h) [
-    | inl m ↦ holds_begun p keeps id (own id e) (nest keeps i).keeps (nest keeps i).fits (any_keeps b) (all_fits b) (refers keeps i) (any_refers b) (of_part p keeps i) (stay b) (alone (kept p keeps) same_numbers l (first_of (left p keeps i))) (s.For (rank keeps id) l (first_of (left p keeps i)) (new e) None (stay b)) x (inner-For (rank keeps id) l (first_of (left p keeps i)) (new e) None (stay b)) (in_alone p keeps l (first_of (left p keeps i))) (in_part p keeps i x m)
-    | inr m ↦ holds_repeated p keeps id (own id e) (nest keeps i).keeps (nest keeps i).fits (any_keeps b) (all_fits b) (refers keeps i) (any_refers b) (of_part p keeps i) (stay b) (alone (kept p keeps) same_numbers l (first_of (left p keeps i))) (s.For (rank keeps id) l (first_of (left p keeps i)) (new e) None (stay b)) x (inner-For (rank keeps id) l (first_of (left p keeps i)) (new e) None (stay b)) (in_list p keeps b m)
+    | inl m ↦ holds_begun p keeps id (own id e) (nest keeps i).keeps (nest keeps i).fits (any_keeps b) (all_fits b) (refers keeps i) (any_refers b) (of_part p keeps i) (stay b) (alone l (first_of (left p keeps i))) (s.For (rank keeps id) l (first_of (left p keeps i)) (new e) None (stay b)) x (inner-For (rank keeps id) l (first_of (left p keeps i)) (new e) None (stay b)) (in_alone p keeps l (first_of (left p keeps i))) (in_part p keeps i x m)
+    | inr m ↦ holds_repeated p keeps id (own id e) (nest keeps i).keeps (nest keeps i).fits (any_keeps b) (all_fits b) (refers keeps i) (any_refers b) (of_part p keeps i) (stay b) (alone l (first_of (left p keeps i))) (s.For (rank keeps id) l (first_of (left p keeps i)) (new e) None (stay b)) x (inner-For (rank keeps id) l (first_of (left p keeps i)) (new e) None (stay b)) (in_list p keeps b m)
   ]
   layer_holds (Statement-F.For id l (Some i) e (Some k) b) x h = elim (among_split (i ∷ []) h) [
-    | inl m ↦ holds_begun p keeps id (own id e) (nest keeps i).keeps (nest keeps i).fits ((nest keeps k).keeps || any_keeps b) ((nest keeps k).fits && all_fits b) (refers keeps i) (λ v. refers keeps k v || any_refers b v) (of_part p keeps i) (of_part p keeps k ++ stay b) (alone (kept p keeps) same_numbers l (first_of (left p keeps i))) (s.For (rank keeps id) l (first_of (left p keeps i)) (new e) (first_of (left p keeps k)) (stay b)) x (inner-For (rank keeps id) l (first_of (left p keeps i)) (new e) (first_of (left p keeps k)) (stay b)) (in_alone p keeps l (first_of (left p keeps i))) (in_part p keeps i x m)
-    | inr m ↦ holds_repeated p keeps id (own id e) (nest keeps i).keeps (nest keeps i).fits ((nest keeps k).keeps || any_keeps b) ((nest keeps k).fits && all_fits b) (refers keeps i) (λ v. refers keeps k v || any_refers b v) (of_part p keeps i) (of_part p keeps k ++ stay b) (alone (kept p keeps) same_numbers l (first_of (left p keeps i))) (s.For (rank keeps id) l (first_of (left p keeps i)) (new e) (first_of (left p keeps k)) (stay b)) x (inner-For (rank keeps id) l (first_of (left p keeps i)) (new e) (first_of (left p keeps k)) (stay b)) (stepped k b x m)
+    | inl m ↦ holds_begun p keeps id (own id e) (nest keeps i).keeps (nest keeps i).fits ((nest keeps k).keeps || any_keeps b) ((nest keeps k).fits && all_fits b) (refers keeps i) (λ v. refers keeps k v || any_refers b v) (of_part p keeps i) (of_part p keeps k ++ stay b) (alone l (first_of (left p keeps i))) (s.For (rank keeps id) l (first_of (left p keeps i)) (new e) (first_of (left p keeps k)) (stay b)) x (inner-For (rank keeps id) l (first_of (left p keeps i)) (new e) (first_of (left p keeps k)) (stay b)) (in_alone p keeps l (first_of (left p keeps i))) (in_part p keeps i x m)
+    | inr m ↦ holds_repeated p keeps id (own id e) (nest keeps i).keeps (nest keeps i).fits ((nest keeps k).keeps || any_keeps b) ((nest keeps k).fits && all_fits b) (refers keeps i) (λ v. refers keeps k v || any_refers b v) (of_part p keeps i) (of_part p keeps k ++ stay b) (alone l (first_of (left p keeps i))) (s.For (rank keeps id) l (first_of (left p keeps i)) (new e) (first_of (left p keeps k)) (stay b)) x (inner-For (rank keeps id) l (first_of (left p keeps i)) (new e) (first_of (left p keeps k)) (stay b)) (stepped k b x m)
   ]
 
   abbrev StatementHolds : Statement → Statement → Type 0

@@ -1,5 +1,5 @@
 -- What is written with names that stay is written the same in the projection.
-use Rattle.std.proofs.Common.{◌≡◌, ℕ, zero, suc, List, [], ◌∷◌, ◌++◌, map, Option, Some, None, Bool, true, false, codes, refl, sym, ap, ◌∙◌, subst, eq-eqb}
+use Rattle.std.proofs.Common.{◌≡◌, ℕ, zero, suc, List, [], ◌∷◌, ◌++◌, map, Option, Some, None, Bool, true, false, codes, refl, sym, ap, ◌∙◌, subst, eq-eqb, ap₂}
 use Rattle.std.specs.Prelude.{◌||◌, slice_get, option_map}
 use Rattle.std.specs.Option.{option_map_or}
 use Rattle.std.proofs.lemmas.Bool.{or_left, or_right}
@@ -24,9 +24,10 @@ use Rattle.projection.specs.Kept.{Kept, rank}
 use Rattle.projection.specs.Names.{names_step, names, any_names, init_names, target_names, size_names, amount_names, value_names}
 use Rattle.projection.specs.Renumbering.{renamed, renamed_init, renamed_target, renamed_size, renamed_amount}
 use Rattle.projection.specs.Projection.{projected_var, projected_function, projected_functions, kept_with, projection}
-use Rattle.own_words.proofs.Lists.{two, three}
+use Rattle.own_words.proofs.Lists.{three}
 use Rattle.own_words.proofs.Exprs.{renamed_layer, fold_renamed}
-use Rattle.own_words.proofs.Names.{get-projected, same_number}
+use Rattle.own_words.proofs.Names.{get-projected}
+use Rattle.projection.proofs.RankLemmas.{rank_of_each}
 
 -- each function keeps its number
 abbrev pub same_numbers : ℕ → ℕ
@@ -98,14 +99,14 @@ module _ (p : Program) (keeps : ℕ → Bool) where
   says_layer (Expr-F.Unary op a) h = ap (signed op) (a.1 h)
   says_layer (Expr-F.Deref a) h = ap (λ w. codes "*" ++ w) (a.1 h)
   says_layer (Expr-F.AddressOf a) h = ap (λ w. codes "&" ++ w) (a.1 h)
-  says_layer (Expr-F.Binary op a b) h = two (λ v w. v ++ (codes " " ++ (binary_sign op ++ (codes " " ++ w)))) (a.1 (left_pass (names a.0) (names b.0) h)) (b.1 (right_pass (names a.0) (names b.0) h))
-  says_layer (Expr-F.AndAlso a b) h = two (λ v w. v ++ (codes " && " ++ w)) (a.1 (left_pass (names a.0) (names b.0) h)) (b.1 (right_pass (names a.0) (names b.0) h))
-  says_layer (Expr-F.OrElse a b) h = two (λ v w. v ++ (codes " || " ++ w)) (a.1 (left_pass (names a.0) (names b.0) h)) (b.1 (right_pass (names a.0) (names b.0) h))
+  says_layer (Expr-F.Binary op a b) h = ap₂ (λ v w. v ++ (codes " " ++ (binary_sign op ++ (codes " " ++ w)))) (a.1 (left_pass (names a.0) (names b.0) h)) (b.1 (right_pass (names a.0) (names b.0) h))
+  says_layer (Expr-F.AndAlso a b) h = ap₂ (λ v w. v ++ (codes " && " ++ w)) (a.1 (left_pass (names a.0) (names b.0) h)) (b.1 (right_pass (names a.0) (names b.0) h))
+  says_layer (Expr-F.OrElse a b) h = ap₂ (λ v w. v ++ (codes " || " ++ w)) (a.1 (left_pass (names a.0) (names b.0) h)) (b.1 (right_pass (names a.0) (names b.0) h))
   says_layer (Expr-F.Choose c a b) h =
       let behind = right_pass (names c.0) (λ x. names a.0 x || names b.0 x) h in
       three (λ u v w. u ++ (codes " ? " ++ (v ++ (codes " : " ++ w)))) (c.1 (left_pass (names c.0) (λ x. names a.0 x || names b.0 x) h)) (a.1 (left_pass (names a.0) (names b.0) behind)) (b.1 (right_pass (names a.0) (names b.0) behind))
   says_layer (Expr-F.Cast t a) h = ap (λ w. codes "(" ++ (int_words t ++ (codes ")" ++ w))) (a.1 h)
-  says_layer (Expr-F.Index a i) h = two (λ v w. v ++ (codes "[" ++ (w ++ codes "]"))) (a.1 (left_pass (names a.0) (names i.0) h)) (i.1 (right_pass (names a.0) (names i.0) h))
+  says_layer (Expr-F.Index a i) h = ap₂ (λ v w. v ++ (codes "[" ++ (w ++ codes "]"))) (a.1 (left_pass (names a.0) (names i.0) h)) (i.1 (right_pass (names a.0) (names i.0) h))
   says_layer (Expr-F.Member a m) h = ap (λ w. w ++ (codes "." ++ name_of_member p m)) (a.1 h)
   says_layer (Expr-F.Arrow a m) h = ap (λ w. w ++ (codes "->" ++ name_of_member p m)) (a.1 h)
   says_layer (Expr-F.Paren a) h = ap (λ w. codes "(" ++ (w ++ codes ")")) (a.1 h)
@@ -117,7 +118,7 @@ module _ (p : Program) (keeps : ℕ → Bool) where
   pub all_say : (as_ : List Expr) → NamesPass (any_names as_) staying → map (expr_words smaller) (map (renamed ranked) as_) ≡ map (expr_words p) as_
   all_say [] h = refl
   all_say (a ∷ as_) h =
-      two (λ w ws. w ∷ ws) (expr_says a (left_pass (names a) (any_names as_) h)) (all_say as_ (right_pass (names a) (any_names as_) h))
+      ap₂ (λ w ws. w ∷ ws) (expr_says a (left_pass (names a) (any_names as_) h)) (all_say as_ (right_pass (names a) (any_names as_) h))
 
   -- ---- functions and types
 
@@ -132,7 +133,7 @@ module _ (p : Program) (keeps : ℕ → Bool) where
 
   pub function_same : (n : ℕ) → name_of_function smaller (same_numbers n) ≡ name_of_function p n
   function_same n =
-      ap (name_of_function smaller) (same_number n) ∙ ap (λ o. option_map_or (λ (f : Function). f.name) o []) (function_there p.functions n) ∙ function_named (slice_get p.functions n)
+      ap (name_of_function smaller) (rank_of_each n) ∙ ap (λ o. option_map_or (λ (f : Function). f.name) o []) (function_there p.functions n) ∙ function_named (slice_get p.functions n)
 
   type_same : (t : CType) → type_words smaller t ≡ type_words p t
   type_same t = refl
@@ -164,9 +165,9 @@ module _ (p : Program) (keeps : ℕ → Bool) where
   pub amount_says : (n : Amount) → NamesPass (amount_names n) staying → amount_words smaller (renamed_amount ranked n) ≡ amount_words p n
   amount_says (amount.Size m) h = size_says m h
   amount_says (amount.CountSize a m) h =
-      two (λ v w. v ++ (codes " * " ++ w)) (expr_says a (left_pass (names a) (size_names m) h)) (size_says m (right_pass (names a) (size_names m) h))
+      ap₂ (λ v w. v ++ (codes " * " ++ w)) (expr_says a (left_pass (names a) (size_names m) h)) (size_says m (right_pass (names a) (size_names m) h))
   amount_says (amount.SizeCount m a) h =
-      two (λ v w. v ++ (codes " * " ++ w)) (size_says m (left_pass (size_names m) (names a) h)) (expr_says a (right_pass (size_names m) (names a) h))
+      ap₂ (λ v w. v ++ (codes " * " ++ w)) (size_says m (left_pass (size_names m) (names a) h)) (expr_says a (right_pass (size_names m) (names a) h))
   amount_says (amount.Count a) h = expr_says a h
 
   pub return_says : (o : Option Expr) → NamesPass (value_names o) staying → return_words smaller (option_map (renamed ranked) o) ≡ return_words p o

@@ -1,11 +1,8 @@
 -- Sets that grow, one part after another.
-use Rattle.std.proofs.Common.{◌≡◌, ℕ, List, Bool, true, false, ◌||◌, refl, sym, ap, ◌∙◌}
+use Rattle.std.proofs.Common.{◌≡◌, ℕ, List, Bool, ◌||◌, refl, sym, ap, ◌∙◌}
+use Rattle.c_language.proofs.Tests.{or_assoc}
 use Rattle.bit_rows.specs.Sets.{has}
 use Rattle.projection.specs.Marks.{Adds}
-
-or_assoc : (a b c : Bool) → ((a || b) || c) ≡ (a || (b || c))
-or_assoc true b c = refl
-or_assoc false b c = refl
 
 -- what passes was added
 pub adds_same : (old new : List Bool) (f h : ℕ → Bool) → Adds old new f → ((x : ℕ) → h x ≡ f x) → Adds old new h

@@ -4,18 +4,14 @@ use Rattle.std.proofs.lemmas.Bool.{cases_lt}
 use Rattle.std.proofs.lemmas.List.{get_or_past, get_or_default}
 use Rattle.bit_rows.specs.Sets.{has}
 use Rattle.projection.specs.Kept.{rank}
-
--- cases, each with its equation
-pub by_bool : (b : Bool) (A : Type 0) → (b ≡ true → A) → (b ≡ false → A) → A
-by_bool true A x y = x refl
-by_bool false A x y = y refl
+use Rattle.c_language.proofs.Tests.{by_answer}
 
 module _ (keeps : ℕ → Bool) where
   pub rank_at_most : (n : ℕ) → rank keeps n ≤ n
   rank_at_most zero = omega arith
   rank_at_most (suc n) =
       let h = rank_at_most n in
-      by_bool (keeps n) _ (λ k. rw k (omega (arith, h))) (λ k. rw k (omega (arith, h)))
+      by_answer (keeps n) (λ k. rw k (omega (arith, h))) (λ k. rw k (omega (arith, h)))
 
   -- no rank grows past the last number that passes
   pub rank_past : (n m : ℕ) → ((x : ℕ) → n ≤ x → keeps x ≡ false) → n ≤ m → rank keeps m ≡ rank keeps n

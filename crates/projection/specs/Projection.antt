@@ -55,6 +55,16 @@ abbrev pub part_of : Option (List Statement) → Option Statement
 part_of None = None
 part_of (Some xs) = first_of xs
 
+-- what a for begins with, without the for: where it declares, in a block of its own
+abbrev pub alone : ℕ → Option Statement → List Statement
+alone l None = []
+alone l (Some x) = if_so (is_declaring x) (s.Block l (x ∷ []) ∷ []) (x ∷ [])
+
+-- a block that isn't empty
+abbrev pub block_of : ℕ → List Statement → List Statement
+block_of l [] = []
+block_of l (x ∷ xs) = s.Block l (x ∷ xs) ∷ []
+
 module _ (k : Kept) (g : ℕ → ℕ) where
   -- a declaration without its initialiser, where its variable stays
   abbrev pub bare : ℕ → ℕ → List Statement
@@ -76,16 +86,6 @@ module _ (k : Kept) (g : ℕ → ℕ) where
   projected_call id l to f args =
       if_so (k.result id) (s.Invoke (rank k.statement id) l (renamed_target (rank k.variable) to) (g f) (map (renamed (rank k.variable)) args) ∷ [])
       (bare_target l to ++ (s.Invoke (rank k.statement id) l target.None (g f) (map (renamed (rank k.variable)) args) ∷ []))
-
-  -- what a for begins with, without the for: where it declares, in a block of its own
-  abbrev pub alone : ℕ → Option Statement → List Statement
-  alone l None = []
-  alone l (Some x) = if_so (is_declaring x) (s.Block l (x ∷ []) ∷ []) (x ∷ [])
-
-  -- a block that isn't empty
-  abbrev pub block_of : ℕ → List Statement → List Statement
-  block_of l [] = []
-  block_of l (x ∷ xs) = s.Block l (x ∷ xs) ∷ []
 
   abbrev pub projected_step : Statement-F (List Statement) Arm → List Statement
   projected_step (Statement-F.Declare id l x i) = projected_declaration id l x i

@@ -12,7 +12,7 @@ use Rattle.c_tree.specs.declared.statement.Statement.TheVariants as s
 use Rattle.projection.specs.declared.statements.Selection.{Selection}
 use Rattle.projection.specs.Kept.{Kept, rank}
 use Rattle.projection.specs.Renumbering.{renamed}
-use Rattle.projection.specs.Projection.{if_so, first_of, is_declaring, projected, projected_arm, projected_all, projected_item, projected_items, projected_vars, projected_function, projected_functions}
+use Rattle.projection.specs.Projection.{if_so, first_of, projected, projected_arm, projected_all, projected_item, projected_items, projected_vars, projected_function, projected_functions, alone}
 
 -- the new number of a number that passes the test
 abbrev pub number_of : (ℕ → Bool) → ℕ → Option ℕ
@@ -45,15 +45,6 @@ arm_left c = projected_arm (kept_by c) same
 abbrev pub arms_left : Selection → List Arm → List Arm
 arms_left c = map (arm_left c)
 
--- a block that isn't empty, and what a for begins with without the for
-abbrev pub block_left : ℕ → List Statement → List Statement
-block_left l [] = []
-block_left l (x ∷ xs) = s.Block l (x ∷ xs) ∷ []
-
-abbrev pub alone_left : ℕ → Option Statement → List Statement
-alone_left l None = []
-alone_left l (Some x) = if_so (is_declaring x) (s.Block l (x ∷ []) ∷ []) (x ∷ [])
-
 -- what stays of statements that hold others, where this stays of these
 module _ (c : Selection) (id l : ℕ) where
   abbrev pub if_left : Expr → List Statement → List Statement → List Statement
@@ -67,7 +58,7 @@ module _ (c : Selection) (id l : ℕ) where
 
   abbrev pub for_left : Option Statement → Expr → Option Statement → List Statement → List Statement
   for_left i a step b =
-      if_so (has c.statements id) (s.For (rank (has c.statements) id) l i (renamed (rank (has c.variables)) a) step b ∷ []) (alone_left l i)
+      if_so (has c.statements id) (s.For (rank (has c.statements) id) l i (renamed (rank (has c.variables)) a) step b ∷ []) (alone l i)
 
   abbrev pub switch_left : Expr → List Arm → List Statement
   switch_left a arms = if_so (has c.statements id) (s.Switch (rank (has c.statements) id) l (renamed (rank (has c.variables)) a) arms ∷ []) []

@@ -1,7 +1,7 @@
 //! What stays of statements, by one walk down the tree.
 ghost use Rattle.std.specs.Prelude.{◌≡◌, IfOk};
 ghost use Rattle.std.specs.Option.{option_to_list};
-ghost use Rattle.projection.specs.Selected.{same, kept_by, left as left_of, all_left, part_left, arm_left, arms_left, if_left, while_left, do_left, for_left, switch_left, block_left, alone_left};
+ghost use Rattle.projection.specs.Selected.{same, kept_by, left as left_of, all_left, part_left, arm_left, arms_left, if_left, while_left, do_left, for_left, switch_left};
 ghost use Rattle.projection.specs.Projection as spec;
 ghost use Rattle.c_tree.specs.declared.statement.Statement.TheVariants as s;
 
@@ -553,7 +553,7 @@ impl Selection<'_> {
 
 // A block that isn't empty.
 fn block_of(line: u32, body: Items<Statement>) -> Option<Statement>
-    ensures { option_to_list result ≡ block_left line body }
+    ensures { option_to_list result ≡ spec.block_of line body }
 {
     if body.is_empty() {
         None
@@ -602,7 +602,7 @@ fn alone(
     line: u32,
     first: Option<Statement>,
 ) -> Result<Option<Statement>, AllocError>
-    ensures { IfOk result (λ left. option_to_list left ≡ alone_left line first) }
+    ensures { IfOk result (λ left. option_to_list left ≡ spec.alone line first) }
 {
     match first {
         None => Ok(None),

@@ -25,10 +25,9 @@ use Rattle.c_language.specs.Programs.{IsTree, HasProgram, IsWellFormed}
 use Rattle.projection.specs.Kept.{Kept}
 use Rattle.projection.specs.Names.{stays}
 use Rattle.built_forms.specs.IntegerForms.{IsIntegerMain}
-use Rattle.c_scope_laws.specs.Thinning.{declares, after_list, part_scope, arm}
+use Rattle.c_scope_laws.specs.Thinning.{declares, after_list, part_scope}
 use Rattle.c_scope_laws.specs.ThinnedBodies.{AreMet, Left, ArmLeft, these, all_left, strays, gone, beyond, part_needs, part_gone, arms_needs, arms_gone, alone, alone_all, alone_one, block_of, plain, declared, if_left, while_left, do_left, for_left, switch_left, left, left_arm, body_left}
 use Rattle.c_scope_laws.proofs.ThinnedBodies.{both_met, none_strays}
-use Rattle.c_scope_laws.proofs.ItemWalking.{nil_cons}
 use Rattle.c_thin_trees.proofs.LeftForms.{left-Declare, left-Assign, left-Bump, left-Call, left-While, left-Do, left-Switch, left-Block, left-Return, left-arm}
 use Rattle.projection_laws.specs.Nested.{governs, IsNested}
 use Rattle.projection_laws.specs.Staying.{Rest, any_stays, all_clear, part_stays, part_clear, rest_step, rest_arm, rest, is_clear, IsClear}
@@ -38,14 +37,16 @@ use Rattle.projection_laws.proofs.LeftScopes.{left_after, arm_after, left_of_if,
 use Rattle.projection_laws.proofs.Going.{kept_of}
 use Rattle.projection_laws.proofs.ClosedMains.{IsMetMain}
 use Rattle.projection_laws.proofs.WellFormedProjections.{text_met}
-use Rattle.projection_laws.proofs.Unlining.{zeroed, fold_unlined}
+use Rattle.c_tree.proofs.Unlining.{zeroed, fold_unlined}
 use Rattle.projection_laws.proofs.SamePrograms.{tests_same, main_same, nested_same, stays_same}
+use Rattle.c_language.proofs.Lists.{no_list}
+use Rattle.c_language.specs.StatementGrammar.{arm}
 
 -- ---- lists and tests
 
 both_empty : {A : Type 0} (xs ys : List A) → xs ++ ys ≡ [] → (xs ≡ []) × (ys ≡ [])
 both_empty [] ys h = (refl, h)
-both_empty (x ∷ xs) ys h = nil_cons (sym h)
+both_empty (x ∷ xs) ys h = no_list h
 
 -- where nothing stays, and all inside is clear
 none_governed : {inside others : Bool} → inside ≡ false → others ≡ true → (governs false inside && others) ≡ true
@@ -80,33 +81,33 @@ module _ (raw : RawProgram) (vars keeps : ℕ → Bool) where
 
   -- whether the variable is kept, and the initialiser
   declared_shows : (a b : Bool) (l : ℕ) (v : RawVar) (i : RawInit) (scope : Scope) → Shows (declared raw a b l v i scope) (simple (b || a))
-  declared_shows true true l v i scope m = (refl, λ h. nil_cons (sym h))
-  declared_shows true false l v i scope m = (refl, λ h. nil_cons (sym h))
+  declared_shows true true l v i scope m = (refl, λ h. no_list h)
+  declared_shows true false l v i scope m = (refl, λ h. no_list h)
   declared_shows false true l v i scope m = absurd m.0
   declared_shows false false l v i scope m = (refl, λ h. refl)
 
   bare_shows : (a : Bool) (l : ℕ) (v : RawVar) (scope : Scope) → Shows (declared raw a a l v init.None scope) (simple (false || a))
-  bare_shows true l v scope m = (refl, λ h. nil_cons (sym h))
+  bare_shows true l v scope m = (refl, λ h. no_list h)
   bare_shows false l v scope m = (refl, λ h. refl)
 
   plain_shows : (b : Bool) (x : RawStatement-F RawStatement RawArm) (scope : Scope) (part : Part) → Shows (plain b x scope part) (simple b)
-  plain_shows true x scope part m = (refl, λ h. nil_cons (sym h))
+  plain_shows true x scope part m = (refl, λ h. no_list h)
   plain_shows false x scope part m = (refl, λ h. refl)
 
   if_shows : (t : Bool) (l : ℕ) (a : RawExpr) (b c : Left) (scope : Scope) (rs ss : List Rest) → Shows b (together rs) → Shows c (together ss)
       → Shows (if_left raw t l a b c scope) (record { stays = t; clear = governs t (any_stays rs || any_stays ss) && (all_clear rs && all_clear ss) })
-  if_shows true l a b c scope rs ss f g m = let n = both_met k b.needs c.needs m.1 in (and_from _ _ (f n.0).0 (g n.1).0, λ h. nil_cons (sym h))
+  if_shows true l a b c scope rs ss f g m = let n = both_met k b.needs c.needs m.1 in (and_from _ _ (f n.0).0 (g n.1).0, λ h. no_list h)
   if_shows false l a b c scope rs ss f g m =
       let n = both_met k (gone b) (gone c) m in
       let p = bare b (together rs) f n.0 in
       let q = bare c (together ss) g n.1 in (none_governed (or_from _ _ p.1 q.1) (and_from _ _ p.0 q.0), λ h. refl)
 
   while_shows : (t : Bool) (l : ℕ) (a : RawExpr) (b : Left) (scope : Scope) (rs : List Rest) → Shows b (together rs) → Shows (while_left raw t l a b scope) (record { stays = t; clear = governs t (any_stays rs) && all_clear rs })
-  while_shows true l a b scope rs f m = ((f m.1).0, λ h. nil_cons (sym h))
+  while_shows true l a b scope rs f m = ((f m.1).0, λ h. no_list h)
   while_shows false l a b scope rs f m = let p = bare b (together rs) f m in (none_governed p.1 p.0, λ h. refl)
 
   do_shows : (t : Bool) (l : ℕ) (a : RawExpr) (b : Left) (scope : Scope) (rs : List Rest) → Shows b (together rs) → Shows (do_left raw t l a b scope) (record { stays = t; clear = governs t (any_stays rs) && all_clear rs })
-  do_shows true l a b scope rs f m = ((f m.1).0, λ h. nil_cons (sym h))
+  do_shows true l a b scope rs f m = ((f m.1).0, λ h. no_list h)
   do_shows false l a b scope rs f m = let p = bare b (together rs) f m in (none_governed p.1 p.0, λ h. refl)
 
   block_shows : (l : ℕ) (b : Left) (rs : List Rest) → Shows b (together rs) → Shows (these (block_of l b.some) b.needs) (together rs)
@@ -114,7 +115,7 @@ module _ (raw : RawProgram) (vars keeps : ℕ → Bool) where
     where
       no_block : (xs : List RawStatement) → block_of l xs ≡ [] → xs ≡ []
       no_block [] h = refl
-      no_block (x ∷ xs) h = nil_cons (sym h)
+      no_block (x ∷ xs) h = no_list h
 
   -- the arms of a switch, where it is kept and where it isn't
   record ArmsShow (arms : List ArmLeft) (rs : List Rest) : Type 0 where
@@ -122,7 +123,7 @@ module _ (raw : RawProgram) (vars keeps : ℕ → Bool) where
     pub unkept : AreMet k (arms_gone arms) → IsBare (together rs)
 
   switch_shows : (t : Bool) (l : ℕ) (a : RawExpr) (arms : List ArmLeft) (scope : Scope) (rs : List Rest) → ArmsShow arms rs → Shows (switch_left raw t l a arms scope) (record { stays = t; clear = governs t (any_stays rs) && all_clear rs })
-  switch_shows true l a arms scope rs f m = (f.kept m.1, λ h. nil_cons (sym h))
+  switch_shows true l a arms scope rs f m = (f.kept m.1, λ h. no_list h)
   switch_shows false l a arms scope rs f m = let p = f.unkept m in (none_governed p.1 p.0, λ h. refl)
 
   -- a part of a for
@@ -144,8 +145,8 @@ module _ (raw : RawProgram) (vars keeps : ℕ → Bool) where
   none_alone is_plain l (x ∷ []) m h = by_form (declares (out-RawStatement x)) is_plain m h
     where
       by_form : (b c : Bool) → AreMet k (alone_one b c l x).needs → (alone_one b c l x).some ≡ [] → x ∷ [] ≡ []
-      by_form true c m h = nil_cons (sym h)
-      by_form false true m h = nil_cons (sym h)
+      by_form true c m h = no_list h
+      by_form false true m h = no_list h
       by_form false false m h = absurd m.0
   none_alone is_plain l (x ∷ (y ∷ xs)) m h = absurd m.0
 
@@ -159,7 +160,7 @@ module _ (raw : RawProgram) (vars keeps : ℕ → Bool) where
       → Shows (for_left raw t l i a step b test) (record { stays = t || part_stays first; clear = governs t (part_stays next || any_stays rs) && (part_clear first && (part_clear next && all_clear rs)) })
   for_shows true l {i} a {step} b test rs f g h m =
       let n = both_met k (part_needs i) (part_needs step ++ b.needs) m.1 in
-      let o = both_met k (part_needs step) b.needs n.1 in (and_from _ _ (part_kept f n.0) (and_from _ _ (part_kept g o.0) (h o.1).0), λ q. nil_cons (sym q))
+      let o = both_met k (part_needs step) b.needs n.1 in (and_from _ _ (part_kept f n.0) (and_from _ _ (part_kept g o.0) (h o.1).0), λ q. no_list q)
   for_shows false l {i} a {step} b test rs f g h m =
       let n = both_met k (alone l i).needs (part_gone step ++ gone b) m in
       let o = both_met k (part_gone step) (gone b) n.1 in

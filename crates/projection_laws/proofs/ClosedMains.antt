@@ -33,25 +33,24 @@ use Rattle.c_language.specs.Programs.{HasProgram}
 use Rattle.c_language.specs.ProgramOf.{ctype_step, ctype_with, ctype_if, init_of, body_of, declared_by, variables_in, parameter_ids, function_tree, functions_from, item_tree, items_from, length_words}
 use Rattle.c_language.proofs.Options.{some_same}
 use Rattle.c_language.proofs.Tests.{false_true}
-use Rattle.c_language.proofs.Lists.{same_names}
+use Rattle.c_language.proofs.Lists.{same_bytes, head_is, tail_is, no_list}
 use Rattle.c_language.proofs.PhraseLists.{body_in_order}
 use Rattle.projection.specs.Kept.{Kept}
 use Rattle.projection.specs.Names.{either, refers, body_refers}
-use Rattle.built_forms.specs.IntegerForms.{IsPlainItem, all_true, is_integer_statement, IsIntegerLocal}
+use Rattle.built_forms.specs.IntegerForms.{IsPlainItem, is_integer_statement, IsIntegerLocal}
 use Rattle.c_scope_laws.specs.ThinTexts.{ParamStays, ParamsStay}
 use Rattle.c_scope_laws.specs.ThinnedBodies.{AreMet, body_left}
 use Rattle.c_scope_laws.specs.ThinnedTexts.{FunctionStays, ItemsAreClosed, IsClosed}
-use Rattle.c_scope_laws.proofs.ItemWalking.{nil_cons}
 use Rattle.c_print_laws.proofs.Definitions.{program_parts}
 use Rattle.c_print_laws.proofs.ForParts.{are_tidy, AreTidy}
 use Rattle.projection_laws.specs.Nested.{all_fit, nest, is_nested}
 use Rattle.projection_laws.proofs.Options.{map_there, both_there}
-use Rattle.projection_laws.proofs.ProjectedLines.{first_same, rest_same}
 use Rattle.projection_laws.proofs.IntegerTexts.{Are}
 use Rattle.projection_laws.proofs.Deriving.{IntegerPart, AreGood, good_later, good_left, good_right, all_derived}
 use Rattle.projection_laws.proofs.Reaching.{Spans}
 use Rattle.projection_laws.proofs.Going.{kept_of}
 use Rattle.projection_laws.proofs.Meeting.{Any, AreKept, all_meet}
+use Rattle.c_language.specs.Lists.{all_true}
 
 -- ---- types that are integers
 
@@ -99,10 +98,10 @@ module _ (raw : RawProgram) where
     pub integers : AllByRecursion IsIntegerLocal vs
 
   declared_integer : (l : ℕ) (scope : Scope) (part : Part) (os : List (Option Var)) (vs : List Var) → declared_by raw l scope part ++ os ≡ map Some vs → AllByRecursion IsIntegerLocal vs → IntegerPart raw part × Others os
-  declared_integer l scope (Declares stand v i) os [] h g = nil_cons (sym h)
+  declared_integer l scope (Declares stand v i) os [] h g = no_list h
   declared_integer l scope (Declares stand v i) os (w ∷ ws) h g =
-      let m = map_there _ (ctype_with raw (item_count i) v.shape) w (first_same h) in
-      (integer_shape (item_count i) v.shape g.0.integer (m.1.0 ∙ ap Some (ap (λ (u : Var). u.shape) m.1.1 ∙ g.0.shape_is)), record { vs = ws; are = rest_same h; integers = g.1 })
+      let m = map_there _ (ctype_with raw (item_count i) v.shape) w (head_is h) in
+      (integer_shape (item_count i) v.shape g.0.integer (m.1.0 ∙ ap Some (ap (λ (u : Var). u.shape) m.1.1 ∙ g.0.shape_is)), record { vs = ws; are = tail_is h; integers = g.1 })
   declared_integer l scope (NamesStruct tag) os vs h g = (tt, record { vs = vs; are = h; integers = g })
   declared_integer l scope (DefinesStruct tag) os vs h g = (tt, record { vs = vs; are = h; integers = g })
   declared_integer l scope (HasMember before m) os vs h g = (tt, record { vs = vs; are = h; integers = g })
@@ -132,7 +131,7 @@ module _ (raw : RawProgram) where
     where
       by_name : (o : Option Bytes) → (if is_some o then n ∷ parameter_ids ps (n + 1) else parameter_ids ps n) ≡ [] → (parameter_ids ps n ≡ [] → with_parameters raw ps scope ≡ scope) → with_parameters raw ps (with_named raw p o scope) ≡ scope
       by_name None q later = later q
-      by_name (Some name) q later = nil_cons (sym q)
+      by_name (Some name) q later = no_list q
 
   params_stay : (k : Kept) (ps : List RawParam) (scope : Scope) (n : ℕ) → parameter_ids ps n ≡ [] → ParamsStay k raw ps scope
   params_stay k [] scope n h = tt
@@ -140,7 +139,7 @@ module _ (raw : RawProgram) where
     where
       by_name : (o : Option Bytes) → (if is_some o then n ∷ parameter_ids ps (n + 1) else parameter_ids ps n) ≡ [] → (parameter_ids ps n ≡ [] → ParamsStay k raw ps scope) → ParamStays k scope p o × ParamsStay k raw ps (with_named raw p o scope)
       by_name None q later = (tt, later q)
-      by_name (Some name) q later = nil_cons (sym q)
+      by_name (Some name) q later = no_list q
 
   -- ---- items
 
@@ -208,8 +207,8 @@ module _ (raw : RawProgram) where
       pub plains : AllByRecursion IsPlainItem rest
 
     plain_more : (o : Option Item) (os : List (Option Item)) (all : List Item) → o ∷ os ≡ map Some all → AllByRecursion IsPlainItem all → PlainMore o os
-    plain_more o os [] h g = nil_cons (sym h)
-    plain_more o os (x ∷ xs) h g = record { first = x; rest = xs; is = first_same h; plain = g.0; are = rest_same h; plains = g.1 }
+    plain_more o os [] h g = no_list h
+    plain_more o os (x ∷ xs) h g = record { first = x; rest = xs; is = head_is h; plain = g.0; are = tail_is h; plains = g.1 }
 
     no_tag : {A : Type 0} (d : ℕ) → IsPlainItem (item.Tag d) → A
     no_tag d h = elim h [ ]
@@ -240,19 +239,19 @@ module _ (raw : RawProgram) where
     no_functions (Prototype l head ∷ xs) scope all h g none =
         let m = plain_more (item_tree raw (Prototype l head) scope) (items_from raw xs (after_item raw (Prototype l head) scope)) all h g in
         let o = map_there _ (function_id raw head.name) m.first m.is in no_prototype o.0 (map (λ (p : RawParam). p.name) head.params) head.is_static (subst IsPlainItem (sym o.1.1) m.plain)
-    no_functions (Define l head body ∷ xs) scope all h g none = nil_cons (sym none)
+    no_functions (Define l head body ∷ xs) scope all h g none = no_list none
 
     main_is : (head : RawHead) (rest : List RawHead) → rest ≡ [] → (find (λ (f : RawHead). bytes_eq f.name main_name) (head ∷ rest) ≡ None → ⊥) → head.name ≡ main_name
     main_is head rest none there =
         by_test (bytes_eq head.name main_name) refl (λ h. there (ap (λ (hs : List RawHead). find (λ (f : RawHead). bytes_eq f.name main_name) (head ∷ hs)) none ∙ h))
       where
         by_test : (b : Bool) → bytes_eq head.name main_name ≡ b → (find (λ (f : RawHead). bytes_eq f.name main_name) (head ∷ []) ≡ None → ⊥) → head.name ≡ main_name
-        by_test true h there = same_names head.name main_name h
+        by_test true h there = same_bytes head.name main_name h
         by_test false h there = absurd (there (ap (λ (b : Bool). if b then Some head else None) h))
 
     one_function : (xs : List RawItem) (all : List Item) (f : Function) → AreTidy xs → items_from raw xs outset ≡ map Some all → AllByRecursion IsPlainItem all → functions_from raw xs outset ≡ Some f ∷ [] → IsFine f
         → AreGood raw (items_phrases raw xs outset) → (find (λ (h : RawHead). bytes_eq h.name main_name) (functions_of xs) ≡ None → ⊥) → ItemsAreClosed k raw xs outset × IsMetMain f.body
-    one_function [] all f tidy h g one fine good main = nil_cons one
+    one_function [] all f tidy h g one fine good main = no_list (sym one)
     one_function (Include b ∷ xs) all f tidy h g one fine good main =
         let m = plain_more (Some (item.Include b)) (items_from raw xs outset) all h g in
         let r = one_function xs m.rest f tidy.1 m.are m.plains one fine good main in ((tt, r.0), r.1)
@@ -270,14 +269,14 @@ module _ (raw : RawProgram) where
     one_function (Define l head body ∷ xs) all f tidy h g one fine good main =
         let next = after_item raw (Define l head body) outset in
         let m = plain_more (Some (item.Define outset.functions)) (items_from raw xs next) all h g in
-        let behind = no_functions xs next m.rest m.are m.plains (rest_same one) in
+        let behind = no_functions xs next m.rest m.are m.plains (tail_is one) in
         let first = phrase l outset (DeclaresFunction head true) in
         let params = head_phrases raw head.params (scope_of_parameters head outset) in
         let inside = body_phrases raw body (entered raw head outset) in
         let end = phrase l outset (EndsFunction head body) ∷ [] in
         let here = good_left raw (first ∷ (params ++ (inside ++ end))) (items_phrases raw xs next) good in
         let statements = good_left raw inside end (good_right raw params (inside ++ end) (good_later raw first (params ++ (inside ++ end)) here)) in
-        let stays = function_stays l head body f (first_same one) fine (main_is head (functions_of xs) behind.1 main) tidy.0 statements in
+        let stays = function_stays l head body f (head_is one) fine (main_is head (functions_of xs) behind.1 main) tidy.0 statements in
         ((((λ q. stays.0), (λ q. false_true (sym q))), behind.0), stays.1)
 
     main_closes : (p : Program) (f : Function) → HasProgram raw p → AreTidy raw.items → AllByRecursion IsPlainItem p.items → AllByRecursion IsIntegerLocal p.vars → p.functions ≡ f ∷ [] → IsFine f

@@ -37,20 +37,21 @@ use Rattle.c_language.specs.Rules.{Breaks}
 use Rattle.c_language.specs.NameRules.{DeclaresLibraryName}
 use Rattle.c_language.specs.SwitchRules.{MisplacesDeclaration}
 use Rattle.c_language.specs.CallRules.{MisusesResult, without_result, format_in, only_arg, later_args}
-use Rattle.c_language.specs.ProgramOf.{collected, expr_of, args_tree, only_tree, print_tree, invoke_tree, call_tree, ArmTree, arm_tree, at_type, part_tree, block_tree, tree_step, treed_step, arm_tree_step, treed, target_tree, switch_type, label_tree, init_of, ctype_if, amount_tree}
+use Rattle.c_language.specs.ProgramOf.{collected, expr_of, args_tree, only_tree, print_tree, invoke_tree, call_tree, ArmTree, arm_tree, at_type, part_tree, block_tree, tree_step, treed_step, arm_tree_step, treed, target_tree, switch_type, label_tree, init_of, ctype_if, amount_tree, treed_arm}
 use Rattle.c_language.specs.TypeGrammar.{named_type}
-use Rattle.c_language.proofs.TreedForms.{treed_arm}
 use Rattle.c_language.proofs.Options.{none_there, some_same, optional_there}
 use Rattle.c_language.proofs.Tests.{false_true}
-use Rattle.c_language.proofs.Lists.{contains_first, contains_later, same_names}
+use Rattle.c_language.proofs.Lists.{contains_first, contains_later, same_bytes}
 use Rattle.c_language.proofs.TreeScopes.{after_same, list_after, block_after_same, part_after}
-use Rattle.built_forms.specs.IntegerForms.{integer_init, all_true, if_there, is_integer_statement}
-use Rattle.c_scope_laws.specs.Thinning.{found, after_list, block_after, part_scope, body_scope, arm}
+use Rattle.built_forms.specs.IntegerForms.{integer_init, is_integer_statement, is_integer_arm}
+use Rattle.c_scope_laws.specs.Thinning.{found, after_list, block_after, part_scope, body_scope}
 use Rattle.projection_laws.proofs.Options.{map_there, then_there, both_there, more_there}
 use Rattle.projection_laws.proofs.IntegerTexts.{NoVariable, IsQuiet, NoNames, StartsSimple, Is, Are, IsPart, ArmsAre}
 use Rattle.c_print_laws.proofs.ForParts.{Form, all_tidy, is_single_part, form_step, form_arm, form_of, form_of_arm, are_tidy}
-use Rattle.projection_laws.proofs.StatementForms.{is_integer_arm, integer-Declare, integer-Invoke, integer-Fetch, integer-Heap, integer-Release, integer-If, integer-While, integer-Do, integer-For, integer-Switch, integer-Block, integer-arm}
+use Rattle.projection_laws.proofs.StatementForms.{integer-Declare, integer-Invoke, integer-Fetch, integer-Heap, integer-Release, integer-If, integer-While, integer-Do, integer-For, integer-Switch, integer-Block, integer-arm}
 use Rattle.projection_laws.proofs.Constants.{labels_name}
+use Rattle.c_language.specs.StatementGrammar.{arm}
+use Rattle.c_language.specs.Lists.{if_there, all_true}
 
 -- ---- names of the library
 
@@ -83,7 +84,7 @@ clean_found x (e ∷ es) h c = by_name (bytes_eq x e.name) refl e.meaning refl (
     by_name false other m is later = later
     by_name true same (Meaning.Variable id t) is later =
         let clean : is_library_function e.name ≡ false = subst (CleanName e.name) is c.0 in
-        false_true (sym clean ∙ ap is_library_function (sym (same_names x e.name same)) ∙ h)
+        false_true (sym clean ∙ ap is_library_function (sym (same_bytes x e.name same)) ∙ h)
     by_name true same Meaning.Function is later = is
 
 -- ---- calls that have trees

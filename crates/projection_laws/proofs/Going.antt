@@ -18,7 +18,7 @@ use Rattle.c_language.specs.Phrases.{Stand, Part, Phrases, scoped, scoped_of_arm
 use Rattle.c_language.proofs.ScopedForms.{scoped-Declare, scoped-If, scoped-While, scoped-Do, scoped-For, scoped-Switch, scoped-Block, scoped_of_arm-arm}
 use Rattle.c_language.proofs.Tests.{false_true}
 use Rattle.projection.specs.Kept.{Kept}
-use Rattle.c_scope_laws.specs.Thinning.{after_list, part_scope, arm}
+use Rattle.c_scope_laws.specs.Thinning.{after_list, part_scope}
 use Rattle.c_scope_laws.specs.ThinnedBodies.{Need, AreMet, Left, ArmLeft, all_left, strays, gone, part_gone, arms_gone, alone, alone_all, block_of, plain, declared, if_left, while_left, do_left, for_left, switch_left, left, left_arm, body_left}
 use Rattle.projection_laws.specs.Nested.{any_kept, part_kept, nest}
 use Rattle.projection_laws.proofs.IntegerTexts.{Is, Are, IsPart, ArmsAre}
@@ -26,6 +26,7 @@ use Rattle.projection_laws.proofs.StatementForms.{arm_nest, nest-Declare, nest-A
 use Rattle.projection_laws.proofs.Reaching.{le_then, lt_then, le_same, grows, all_grow, part_grows, arms_grow}
 use Rattle.c_thin_trees.proofs.LeftForms.{left-Declare, left-Assign, left-Bump, left-Call, left-While, left-Do, left-Switch, left-Block, left-Return, left-arm}
 use Rattle.projection_laws.proofs.LeftScopes.{left_after, arm_after, left_of_if, left_of_for}
+use Rattle.c_language.specs.StatementGrammar.{arm}
 
 -- what is kept where these variables and statements are
 abbrev pub kept_of : (ℕ → Bool) → (ℕ → Bool) → Kept

@@ -29,7 +29,8 @@ use Rattle.c_language.specs.Uses.{arg_exprs}
 use Rattle.c_language.specs.ProgramOf.{optional, expr_of, args_tree, arm_tree}
 use Rattle.c_scope_laws.specs.Agreement.{NamedAmong}
 use Rattle.c_print_laws.proofs.ForParts.{form_of}
-use Rattle.c_scope_laws.specs.Thinning.{found, after_list, block_after, part_scope, body_scope, arm}
+use Rattle.c_scope_laws.specs.Thinning.{found, after_list, block_after, part_scope, body_scope}
+use Rattle.c_language.specs.StatementGrammar.{arm}
 
 -- what is found is no variable
 abbrev pub NoVariable : Option Entry → Type 0

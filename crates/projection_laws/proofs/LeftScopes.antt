@@ -9,9 +9,10 @@ use Rattle.c_language.specs.Scopes.{Scope, Scoped, opened, numbered, after_part,
 use Rattle.c_language.specs.Phrases.{scoped}
 use Rattle.c_language.proofs.ScopesAfter.{statement_after, statements_after, block_scope_after, part_scope_after}
 use Rattle.projection.specs.Kept.{Kept}
-use Rattle.c_scope_laws.specs.Thinning.{after_list, block_after, part_scope, body_scope, arm}
+use Rattle.c_scope_laws.specs.Thinning.{after_list, block_after, part_scope, body_scope}
 use Rattle.c_scope_laws.specs.ThinnedBodies.{Left, ArmLeft, if_left, for_left, block_left, left_step, left_arm_step, left, left_arm, body_left}
 use Rattle.c_thin_trees.proofs.LeftForms.{left-If, left-arm, left-For}
+use Rattle.c_language.specs.StatementGrammar.{arm}
 
 module _ (k : Kept) (raw : RawProgram) where
   pub left_after : (x : RawStatement) (scope : Scope) → (left k raw x).after scope ≡ (scoped raw x).after scope

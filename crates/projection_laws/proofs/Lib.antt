@@ -1,4 +1,3 @@
-pub mod Unlining
 pub mod ProjectedLines
 pub mod Options
 pub mod IntegerTexts

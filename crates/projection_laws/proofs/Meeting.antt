@@ -3,6 +3,7 @@ use Rattle.std.proofs.Common.{◌≡◌, ℕ, zero, suc, ◌==◌, ◌≤◌, �
 use Rattle.std.specs.Prelude.{Contains}
 use Rattle.std.proofs.lemmas.Bool.Decides.{nat_tests}
 use Rattle.std.proofs.lemmas.Bool.{and_parts, or_parts, or_left, or_right, and_from}
+use Rattle.c_language.specs.TypeGrammar.{written_step, is_written}
 use Rattle.c_arith.specs.declared.int_type.IntType.{IntType}
 use Rattle.c_tree.specs.declared.expr.Expr.{Expr}
 use Rattle.c_tree.specs.declared.program.Init.TheVariants as begins
@@ -33,12 +34,12 @@ use Rattle.c_language.specs.CallRules.{later_args}
 use Rattle.c_language.specs.ProgramOf.{optional, expr_of, arg_tree, args_tree, arm_tree}
 use Rattle.c_language.proofs.ScopedForms.{scoped-If, scoped-While, scoped-Do, scoped-For, scoped-Switch, scoped-Block, scoped_of_arm-arm}
 use Rattle.c_language.proofs.Options.{none_there, some_same}
-use Rattle.c_language.proofs.Tests.{false_true}
+use Rattle.c_language.proofs.Tests.{false_true, by_or}
 use Rattle.c_language.proofs.Lists.{contains_later}
 use Rattle.projection.specs.Kept.{Kept}
 use Rattle.projection.specs.Names.{names, any_names, value_names, either, if_any, refers}
-use Rattle.c_scope_laws.specs.Agreement.{NamedIn, NamedAmong, Names, written_step, is_written}
-use Rattle.c_scope_laws.specs.Thinning.{stays, found, IsKept, NamesStay, LabelsStay, declares, after_list, block_after, part_scope, body_scope, arm}
+use Rattle.c_scope_laws.specs.Agreement.{NamedIn, NamedAmong, Names}
+use Rattle.c_scope_laws.specs.Thinning.{stays, found, IsKept, NamesStay, LabelsStay, declares, after_list, block_after, part_scope, body_scope}
 use Rattle.c_scope_laws.specs.ThinnedBodies.{AreMet, Left, ArmLeft, all_left, gone, beyond, part_needs, part_gone, arms_labels, arms_needs, alone, alone_all, alone_one, block_of, plain, declared, counted_var, counted_type_step, counted_type, count_needs, if_left, while_left, do_left, for_left, switch_left, left, left_arm, body_left}
 use Rattle.c_scope_laws.proofs.Trees.{in_one}
 use Rattle.c_scope_laws.proofs.NamedTrees.{kept_by_tree}
@@ -50,10 +51,11 @@ use Rattle.projection_laws.proofs.Options.{more_there}
 use Rattle.projection_laws.proofs.IntegerTexts.{NoVariable, IsQuiet, NoNames, StartsSimple, Is, Are, IsPart, ArmsAre}
 use Rattle.projection_laws.proofs.Constants.{pick_two}
 use Rattle.projection_laws.proofs.StatementForms.{arm_refers, refers-Declare, refers-Assign, refers-Bump, refers-Write, refers-Print, refers-If, refers-While, refers-Do, refers-For, refers-Switch, refers-Block, refers-Return, refers-arm, arm_nest, nest-If, nest-While, nest-Do, nest-For, nest-Switch, nest-Block, nest-arm}
-use Rattle.projection_laws.proofs.Reaching.{either_way, le_then, lt_then, le_same, AllHold, holds_change, Spans, spans_later, grows, all_grow, part_grows, arms_grow, spans_after, all_spans, part_spans, expr_spans, reaches, all_reach, part_reaches, arms_reach}
+use Rattle.projection_laws.proofs.Reaching.{le_then, lt_then, le_same, AllHold, holds_change, Spans, spans_later, grows, all_grow, part_grows, arms_grow, spans_after, all_spans, part_spans, expr_spans, reaches, all_reach, part_reaches, arms_reach}
 use Rattle.c_thin_trees.proofs.LeftForms.{left-Declare, left-Assign, left-Bump, left-Call, left-While, left-Do, left-Switch, left-Block, left-Return, left-arm}
 use Rattle.projection_laws.proofs.LeftScopes.{left_after, arm_after, left_of_if, left_of_for}
 use Rattle.projection_laws.proofs.Going.{kept_of, join_met, IsGone, PartGone, Free, gone_needs, part_needs_gone, goes, all_go, part_goes}
+use Rattle.c_language.specs.StatementGrammar.{arm}
 
 -- ---- numbers that aren't between two others
 
@@ -423,8 +425,8 @@ module _ (raw : RawProgram) (vars keeps : ℕ → Bool) where
       let none = (or_parts (keeps n) _ (not_kept (keeps n) _ true t (and_from _ _ governed refl))).1 in
       let none_of = or_parts (part_kept (option_map (nest keeps) next)) (any_kept (map (nest keeps) zs)) none in
       let begins = λ (id : ℕ) (v : vars id ≡ true) (m : z0.variables ≤ id) (j : id < (after_list raw b (opened z2)).variables).
-      either_way (if_any (option_map refs first) id) _ (only id v m j) (λ r. (part_reaches raw keeps Any d s0 id r).below)
-      (λ h. either_way (if_any (option_map refs next) id) (either (map refs zs) id) h
+      by_or (if_any (option_map refs first) id) _ (only id v m j) (λ r. (part_reaches raw keeps Any d s0 id r).below)
+      (λ h. by_or (if_any (option_map refs next) id) (either (map refs zs) id) h
       (λ r. false_true (sym none_of.0 ∙ (part_reaches raw keeps Any g s1 id r).kept_too)) (λ r. false_true (sym none_of.1 ∙ (all_reach raw keeps Any q s3 id r).kept_too))) in
       record {
         first_alone = part_alone l d start met;
@@ -479,14 +481,14 @@ module _ (raw : RawProgram) (vars keeps : ℕ → Bool) where
         let f = and_parts (governs (keeps scope.statements) (any_kept (map (nest keeps) zs) || any_kept (map (nest keeps) ws))) _ (sym (ap (λ z. z.fits) (nest-If keeps scope.statements l u zs ws)) ∙ fit) in
         let f1 = and_parts (all_fit (map (nest keeps) zs)) (all_fit (map (nest keeps) ws)) f.1 in
         let first = all_meet d s1 f1.0 (λ id h. kept id (back id is (or_right (keeps scope.statements && names u id) _ (or_left (either (map refs zs) id) _ h))))
-        (λ id v m n. either_way (keeps scope.statements && names u id) _ (onward id is (here id v m (subst (λ (j : ℕ). id < j) (sym end) (lt_then n (all_grow raw g)))))
+        (λ id v m n. by_or (keeps scope.statements && names u id) _ (onward id is (here id v m (subst (λ (j : ℕ). id < j) (sym end) (lt_then n (all_grow raw g)))))
         (λ h. too_low (expr_spans raw Any scope s a u p id (and_parts (keeps scope.statements) (names u id) h).1).1 (le_same scope.variables) m)
-        (λ h. either_way (either (map refs zs) id) (either (map refs ws) id) h (λ r. r)
+        (λ h. by_or (either (map refs zs) id) (either (map refs ws) id) h (λ r. r)
         (λ r. not_between scope.variables middle.variables id (all_reach raw keeps (Gap scope.variables middle.variables) g (gap_spans scope middle s refl (all_grow raw d)) id r).place m n))) in
         let second = all_meet g s2 f1.1 (λ id h. kept id (back id is (or_right (keeps scope.statements && names u id) _ (or_right (either (map refs zs) id) _ h))))
-        (λ id v m n. either_way (keeps scope.statements && names u id) _ (onward id is (here id v (le_then (all_grow raw d) m) (subst (λ (j : ℕ). id < j) (sym end) n)))
+        (λ id v m n. by_or (keeps scope.statements && names u id) _ (onward id is (here id v (le_then (all_grow raw d) m) (subst (λ (j : ℕ). id < j) (sym end) n)))
         (λ h. too_low (expr_spans raw Any scope s a u p id (and_parts (keeps scope.statements) (names u id) h).1).1 (all_grow raw d) m)
-        (λ h. either_way (either (map refs zs) id) (either (map refs ws) id) h
+        (λ h. by_or (either (map refs zs) id) (either (map refs ws) id) h
         (λ r. too_low (all_reach raw keeps Any d s1 id r).below (le_same middle.variables) m) (λ r. r))) in
         subst Met (sym (left_of_if k raw l a b c scope))
         (if_met (keeps scope.statements) l a _ _ scope (λ t. tests_stay scope a (expr_stays scope a u p (λ id n. kept id (back id is (or_left (keeps scope.statements && names u id) _ (and_from _ _ t n)))))) first second
@@ -498,7 +500,7 @@ module _ (raw : RawProgram) (vars keeps : ℕ → Bool) where
         let end = ap (λ (u : Text). (u.after scope).variables) (scoped-While raw l a b) in
         let f = and_parts (governs (keeps scope.statements) (any_kept (map (nest keeps) zs))) _ (sym (ap (λ z. z.fits) (nest-While keeps scope.statements l u zs)) ∙ fit) in
         let inside = all_meet d (spans_later Any scope (opened (numbered scope)) refl (le_same scope.variables) s) f.1 (λ id h. kept id (back id is (or_right (keeps scope.statements && names u id) _ h)))
-        (λ id v m n. either_way (keeps scope.statements && names u id) _ (onward id is (here id v m (subst (λ (j : ℕ). id < j) (sym end) n)))
+        (λ id v m n. by_or (keeps scope.statements && names u id) _ (onward id is (here id v m (subst (λ (j : ℕ). id < j) (sym end) n)))
         (λ h. too_low (expr_spans raw Any scope s a u p id (and_parts (keeps scope.statements) (names u id) h).1).1 (le_same scope.variables) m) (λ r. r)) in
         met_at scope _ (left-While k raw l a b)
         (while_met (keeps scope.statements) l a _ scope (λ t. tests_stay scope a (expr_stays scope a u p (λ id n. kept id (back id is (or_left (keeps scope.statements && names u id) _ (and_from _ _ t n)))))) inside
@@ -510,7 +512,7 @@ module _ (raw : RawProgram) (vars keeps : ℕ → Bool) where
         let end = ap (λ (u : Text). (u.after scope).variables) (scoped-Do raw l a b) in
         let f = and_parts (governs (keeps scope.statements) (any_kept (map (nest keeps) zs))) _ (sym (ap (λ z. z.fits) (nest-Do keeps scope.statements l u zs)) ∙ fit) in
         let inside = all_meet d (spans_later Any scope (opened (numbered scope)) refl (le_same scope.variables) s) f.1 (λ id h. kept id (back id is (or_right (keeps scope.statements && names u id) _ h)))
-        (λ id v m n. either_way (keeps scope.statements && names u id) _ (onward id is (here id v m (subst (λ (j : ℕ). id < j) (sym end) n)))
+        (λ id v m n. by_or (keeps scope.statements && names u id) _ (onward id is (here id v m (subst (λ (j : ℕ). id < j) (sym end) n)))
         (λ h. too_low (expr_spans raw Any scope s a u p id (and_parts (keeps scope.statements) (names u id) h).1).1 (le_same scope.variables) m) (λ r. r)) in
         met_at scope _ (left-Do k raw l a b)
         (do_met (keeps scope.statements) l a _ scope (λ t. tests_stay scope a (expr_stays scope a u p (λ id n. kept id (back id is (or_left (keeps scope.statements && names u id) _ (and_from _ _ t n)))))) inside
@@ -522,7 +524,7 @@ module _ (raw : RawProgram) (vars keeps : ℕ → Bool) where
         let end = ap (λ (u : Text). (u.after scope).variables) (scoped-Switch raw l a arms) in
         let f = and_parts (governs (keeps scope.statements) (any_kept (map (arm_nest keeps) zs))) _ (sym (ap (λ z. z.fits) (nest-Switch keeps scope.statements l u zs)) ∙ fit) in
         let inside = arms_meet d (spans_later Any scope (opened (numbered scope)) refl (le_same scope.variables) s) f.1 (λ id h. kept id (back id is (or_right (keeps scope.statements && names u id) _ h)))
-        (λ id v m n. either_way (keeps scope.statements && names u id) _ (onward id is (here id v m (subst (λ (j : ℕ). id < j) (sym end) n)))
+        (λ id v m n. by_or (keeps scope.statements && names u id) _ (onward id is (here id v m (subst (λ (j : ℕ). id < j) (sym end) n)))
         (λ h. too_low (expr_spans raw Any scope s a u p id (and_parts (keeps scope.statements) (names u id) h).1).1 (le_same scope.variables) m) (λ r. r)) in
         met_at scope _ (left-Switch k raw l a arms)
         (switch_met (keeps scope.statements) l a _ scope (λ t. switches_stay scope a _ (expr_stays scope a u p (λ id n. kept id (back id is (or_left (keeps scope.statements && names u id) _ (and_from _ _ t n))))) (arms_nameless d)) inside
@@ -552,25 +554,25 @@ module _ (raw : RawProgram) (vars keeps : ℕ → Bool) where
         let tested = λ (id : ℕ) (h : (keeps scope.statements && names u id) ≡ true). expr_spans raw Any z1 s1 a u p id (and_parts (keeps scope.statements) (names u id) h).1 in
         let whole = λ (id : ℕ) (v : vars id ≡ true) (m : scope.variables ≤ id) (n : id < (after_list raw b (opened z2)).variables). onward id is (here id v m (subst (λ (j : ℕ). id < j) (sym end) n)) in
         let first_met = part_meets d s0 f1.0 (λ id h. kept id (back id is (or_right (keeps scope.statements && names u id) _ (or_left (if_any (option_map refs first) id) _ h))))
-        (λ same id v m n. either_way (keeps scope.statements && names u id) _ (whole id v m (lt_then n (le_then (part_grows raw g) (all_grow raw q))))
+        (λ same id v m n. by_or (keeps scope.statements && names u id) _ (whole id v m (lt_then n (le_then (part_grows raw g) (all_grow raw q))))
         (λ h. not_between z0.variables z1.variables id (expr_spans raw (Gap z0.variables z1.variables) z1 (gap_spans z0 z1 s0 same (part_grows raw d)) a u p id (and_parts (keeps scope.statements) (names u id) h).1).0 m n)
-        (λ h. either_way (if_any (option_map refs first) id) _ h (λ r. r)
-        (λ h. either_way (if_any (option_map refs next) id) _ h
+        (λ h. by_or (if_any (option_map refs first) id) _ h (λ r. r)
+        (λ h. by_or (if_any (option_map refs next) id) _ h
         (λ r. not_between z0.variables z1.variables id (part_reaches raw keeps (Gap z0.variables z1.variables) g (gap_spans z0 z1 s0 same (part_grows raw d)) id r).place m n)
         (λ r. not_between z0.variables z1.variables id
         (all_reach raw keeps (Gap z0.variables z1.variables) q (spans_later _ z2 (opened z2) refl (le_same z2.variables) (part_spans raw (Gap z0.variables z1.variables) g (gap_spans z0 z1 s0 same (part_grows raw d)))) id r).place m n)))) in
         let step_met = part_meets g s1 f2.0 (λ id h. kept id (back id is (or_right (keeps scope.statements && names u id) _ (or_right (if_any (option_map refs first) id) _ (or_left (if_any (option_map refs next) id) _ h)))))
-        (λ same id v m n. either_way (keeps scope.statements && names u id) _ (whole id v (le_then (part_grows raw d) m) (lt_then n (all_grow raw q)))
+        (λ same id v m n. by_or (keeps scope.statements && names u id) _ (whole id v (le_then (part_grows raw d) m) (lt_then n (all_grow raw q)))
         (λ h. too_low (tested id h).1 (le_same z1.variables) m)
-        (λ h. either_way (if_any (option_map refs first) id) _ h (λ r. too_low (part_reaches raw keeps Any d s0 id r).below (le_same z1.variables) m)
-        (λ h. either_way (if_any (option_map refs next) id) _ h (λ r. r)
+        (λ h. by_or (if_any (option_map refs first) id) _ h (λ r. too_low (part_reaches raw keeps Any d s0 id r).below (le_same z1.variables) m)
+        (λ h. by_or (if_any (option_map refs next) id) _ h (λ r. r)
         (λ r. not_between z1.variables z2.variables id
         (all_reach raw keeps (Gap z1.variables z2.variables) q (spans_later _ z2 (opened z2) refl (le_same z2.variables) (gap_spans z1 z2 s1 same (part_grows raw g))) id r).place m n)))) in
         let body_met = all_meet q s3 f2.1 (λ id h. kept id (back id is (or_right (keeps scope.statements && names u id) _ (or_right (if_any (option_map refs first) id) _ (or_right (if_any (option_map refs next) id) _ h)))))
-        (λ id v m n. either_way (keeps scope.statements && names u id) _ (whole id v (le_then (part_grows raw d) (le_then (part_grows raw g) m)) n)
+        (λ id v m n. by_or (keeps scope.statements && names u id) _ (whole id v (le_then (part_grows raw d) (le_then (part_grows raw g) m)) n)
         (λ h. too_low (tested id h).1 (part_grows raw g) m)
-        (λ h. either_way (if_any (option_map refs first) id) _ h (λ r. too_low (part_reaches raw keeps Any d s0 id r).below (part_grows raw g) m)
-        (λ h. either_way (if_any (option_map refs next) id) _ h (λ r. too_low (part_reaches raw keeps Any g s1 id r).below (le_same z2.variables) m) (λ r. r)))) in
+        (λ h. by_or (if_any (option_map refs first) id) _ h (λ r. too_low (part_reaches raw keeps Any d s0 id r).below (part_grows raw g) m)
+        (λ h. by_or (if_any (option_map refs next) id) _ h (λ r. too_low (part_reaches raw keeps Any g s1 id r).below (le_same z2.variables) m) (λ r. r)))) in
         subst Met (sym (left_of_for k raw l i a step b scope))
         (for_met (keeps scope.statements) l (Piece i z0) a (Piece step z1) _ z1
         (λ t. record {
@@ -579,7 +581,7 @@ module _ (raw : RawProgram) (vars keeps : ℕ → Bool) where
           step_met = step_met;
           body_met = body_met;
         })
-        (λ t. for_unkept start d g q s0 s1 s3 t f.0 (λ id v m n. either_way (keeps scope.statements && names u id) _ (whole id v m n) (λ h. false_true (sym t ∙ (and_parts (keeps scope.statements) (names u id) h).0)) (λ h. h)) first_met))
+        (λ t. for_unkept start d g q s0 s1 s3 t f.0 (λ id v m n. by_or (keeps scope.statements && names u id) _ (whole id v m n) (λ h. false_true (sym t ∙ (and_parts (keeps scope.statements) (names u id) h).0)) (λ h. h)) first_met))
 
     pub all_meet : {scope : Scope} {xs : List RawStatement} {zs : List Statement} → Are raw scope xs zs → Spans Any scope → all_fit (map (nest keeps) zs) ≡ true → AreKept (either (map refs zs))
         → Only scope.variables (after_list raw xs scope).variables (either (map refs zs)) → AreMet k (body_left k raw xs scope).needs
@@ -588,10 +590,10 @@ module _ (raw : RawProgram) (vars keeps : ℕ → Bool) where
         let next = (scoped raw x).after scope in
         let f = and_parts (fits_in z) (all_fit (map (nest keeps) zs)) fit in
         let first = meets d s f.0 (λ id h. kept id (or_left (refs z id) _ h))
-        (λ same id v m n. either_way (refs z id) (either (map refs zs) id) (only id v m (lt_then n (all_grow raw g))) (λ r. r)
+        (λ same id v m n. by_or (refs z id) (either (map refs zs) id) (only id v m (lt_then n (all_grow raw g))) (λ r. r)
         (λ r. not_between scope.variables next.variables id (all_reach raw keeps (Gap scope.variables next.variables) g (gap_spans scope next s same (grows raw d)) id r).place m n)) in
         let rest = all_meet g (spans_after raw Any d s) f.1 (λ id h. kept id (or_right (refs z id) _ h))
-        (λ id v m n. either_way (refs z id) (either (map refs zs) id) (only id v (le_then (grows raw d) m) n) (λ r. too_low (reaches raw keeps Any d s id r).below (le_same next.variables) m) (λ r. r)) in
+        (λ id v m n. by_or (refs z id) (either (map refs zs) id) (only id v (le_then (grows raw d) m) n) (λ r. too_low (reaches raw keeps Any d s id r).below (le_same next.variables) m) (λ r. r)) in
         subst (λ (y : Scope). AreMet k (all_left ((left k raw x).gives scope ∷ in_order (map (left k raw) xs) y)).needs) (sym (left_after k raw x scope))
         (join_met k ((left k raw x).gives scope).needs _ first.0 rest)
 
@@ -612,10 +614,10 @@ module _ (raw : RawProgram) (vars keeps : ℕ → Bool) where
         let f = and_parts (arm_nest keeps (arm_tree ls zs)).fits (all_fit (map (arm_nest keeps) arms)) fit in
         let whole = λ (id : ℕ) (v : vars id ≡ true) (m : scope.variables ≤ id) (n : id < (after_all (map (scoped_of_arm raw) rest) next).variables). only id v m (subst (λ (j : ℕ). id < j) (sym end) n) in
         let first = all_meet d s (sym (ap (λ z. z.fits) (nest-arm keeps ls zs)) ∙ f.0) (λ id h. kept id (or_left (here id) _ (back id is h)))
-        (λ id v m n. either_way (here id) (either (map (arm_refers keeps) arms) id) (whole id v m (lt_then n (arms_grow raw g))) (λ r. onward id is r)
+        (λ id v m n. by_or (here id) (either (map (arm_refers keeps) arms) id) (whole id v m (lt_then n (arms_grow raw g))) (λ r. onward id is r)
         (λ r. not_between scope.variables next.variables id (arms_reach raw keeps (Gap scope.variables next.variables) g (gap_spans scope next s still (all_grow raw d)) id r).place m n)) in
         let later = arms_meet g (all_spans raw Any d s) f.1 (λ id h. kept id (or_right (here id) _ h))
-        (λ id v m n. either_way (here id) (either (map (arm_refers keeps) arms) id) (whole id v (le_then (all_grow raw d) m) n) (λ r. too_low (all_reach raw keeps Any d s id (onward id is r)).below (le_same next.variables) m) (λ r. r)) in
+        (λ id v m n. by_or (here id) (either (map (arm_refers keeps) arms) id) (whole id v (le_then (all_grow raw d) m) n) (λ r. too_low (all_reach raw keeps Any d s id (onward id is r)).below (le_same next.variables) m) (λ r. r)) in
         subst (λ (z : Scope). AreMet k (arms_needs ((left_arm k raw (arm labels body)).gives scope ∷ in_order (map (left_arm k raw) rest) z))) (sym (arm_after k raw labels body scope))
         (subst (λ (u : Scoped ArmLeft). AreMet k (arms_needs (u.gives scope ∷ in_order (map (left_arm k raw) rest) next))) (sym (left-arm k raw labels body))
         (labels_stay scope labels free, join_met k (body_left k raw body scope).needs _ first later))

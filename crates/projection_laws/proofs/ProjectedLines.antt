@@ -16,27 +16,14 @@ use Rattle.c_tree.specs.declared.statement.Arm.{Arm, roll-Arm, map-Arm, fold-rol
 use Rattle.projection.specs.Renumbering.{renamed, renamed_label, renamed_init}
 use Rattle.projection.specs.Kept.{Kept, rank}
 use Rattle.projection.specs.Projection.{if_so, flat, declaring_step, declaring_arm, is_declaring, first_of, part_of, bare, bare_target, projected_declaration, projected_call, alone, block_of, projected_step, projected_arm_step, projected, projected_arm, projected_all}
-use Rattle.c_scope_laws.proofs.ItemWalking.{nil_cons}
-use Rattle.projection_laws.proofs.Unlining.{zeroed, unlined_roll, unlined_roll_of_arm, fold_unlined}
+use Rattle.c_tree.proofs.Unlining.{zeroed, unlined_roll, unlined_roll_of_arm, fold_unlined}
+use Rattle.c_tree.proofs.Trees.{statement_layer, arm_layer, StatementParts, ArmParts}
+use Rattle.c_language.proofs.Lists.{head_is, no_list}
 
 -- ---- lists that are the same but for lines
 
 abbrev pub Alike : List Statement → List Statement → Type 0
 Alike xs ys = map unlined xs ≡ map unlined ys
-
-abbrev head_or : {A : Type 0} → A → List A → A
-head_or a [] = a
-head_or a (x ∷ xs) = x
-
-abbrev tail_of : {A : Type 0} → List A → List A
-tail_of [] = []
-tail_of (x ∷ xs) = xs
-
-pub first_same : {A : Type 0} {x y : A} {xs ys : List A} → x ∷ xs ≡ y ∷ ys → x ≡ y
-first_same {x} h = ap (head_or x) h
-
-pub rest_same : {A : Type 0} {x y : A} {xs ys : List A} → x ∷ xs ≡ y ∷ ys → xs ≡ ys
-rest_same h = ap tail_of h
 
 appended : (xs ys xs' ys' : List Statement) → Alike xs xs' → Alike ys ys' → Alike (xs ++ ys) (xs' ++ ys')
 appended xs ys xs' ys' p q = map-append unlined xs ys ∙ ap₂ (λ (as_ bs : List Statement). as_ ++ bs) p q ∙ sym (map-append unlined xs' ys')
@@ -50,9 +37,9 @@ one x y h = ap (λ (z : Statement). z ∷ []) h
 
 firsts : (xs ys : List Statement) → Alike xs ys → option_map unlined (first_of xs) ≡ option_map unlined (first_of ys)
 firsts [] [] h = refl
-firsts [] (y ∷ ys) h = nil_cons h
-firsts (x ∷ xs) [] h = nil_cons (sym h)
-firsts (x ∷ xs) (y ∷ ys) h = ap Some (first_same h)
+firsts [] (y ∷ ys) h = no_list (sym h)
+firsts (x ∷ xs) [] h = no_list h
+firsts (x ∷ xs) (y ∷ ys) h = ap Some (head_is h)
 
 -- whether a statement declares
 declaring_unlined : (x : Statement) → is_declaring (unlined x) ≡ is_declaring x
@@ -87,16 +74,16 @@ module _ (k : Kept) (g : ℕ → ℕ) where
   ArmSame x = unlined_of_arm (projected_arm k g (unlined_of_arm x)) ≡ unlined_of_arm (projected_arm k g x)
 
   abbrev Layer : Type 0
-  Layer = Statement-F ((x : Statement) × Same x) ((x : Arm) × ArmSame x)
+  Layer = StatementParts Same ArmSame
 
   abbrev ArmLayer : Type 0
-  ArmLayer = Arm-F ((x : Statement) × Same x) ((x : Arm) × ArmSame x)
+  ArmLayer = ArmParts Same ArmSame
 
   abbrev shape : Layer → Statement-F Statement Arm
-  shape = map-Statement ((x : Statement) × Same x) ((x : Arm) × ArmSame x) Statement Arm (λ x. x.0) (λ x. x.0)
+  shape = statement_layer Same ArmSame
 
   abbrev arm_shape : ArmLayer → Arm-F Statement Arm
-  arm_shape = map-Arm ((x : Statement) × Same x) ((x : Arm) × ArmSame x) Statement Arm (λ x. x.0) (λ x. x.0)
+  arm_shape = arm_layer Same ArmSame
 
   abbrev bodies : List ((x : Statement) × Same x) → List Statement
   bodies = map (λ (x : (y : Statement) × Same y). x.0)
@@ -133,36 +120,36 @@ module _ (k : Kept) (g : ℕ → ℕ) where
   calls_same id l m (target.Declared x) f args =
       choice (k.result id) _ _ _ _ (invoke_same _ l m _ _ _) (appended (bare k g l x) _ (bare k g m x) _ (bare_same l m x) (invoke_same _ l m _ _ _))
 
-  alone_same : (l m : ℕ) (x y : Option Statement) → option_map unlined x ≡ option_map unlined y → Alike (alone k g l x) (alone k g m y)
+  alone_same : (l m : ℕ) (x y : Option Statement) → option_map unlined x ≡ option_map unlined y → Alike (alone l x) (alone m y)
   alone_same l m None None h = refl
-  alone_same l m None (Some y) h = nil_cons (ap listed h)
+  alone_same l m None (Some y) h = no_list (sym (ap listed h))
     where
       listed : Option Statement → List Statement
       listed None = []
       listed (Some x) = x ∷ []
-  alone_same l m (Some x) None h = nil_cons (sym (ap listed h))
+  alone_same l m (Some x) None h = no_list (ap listed h)
     where
       listed : Option Statement → List Statement
       listed None = []
       listed (Some x) = x ∷ []
-  alone_same l m (Some x) (Some y) h = by_test (is_declaring x) (is_declaring y) (declaring_same x y (first_same (ap listed h)))
+  alone_same l m (Some x) (Some y) h = by_test (is_declaring x) (is_declaring y) (declaring_same x y (head_is (ap listed h)))
     where
       listed : Option Statement → List Statement
       listed None = []
       listed (Some x) = x ∷ []
 
       same : unlined x ≡ unlined y
-      same = first_same (ap listed h)
+      same = head_is (ap listed h)
 
       by_test : (b c : Bool) → b ≡ c → Alike (if_so b (s.Block l (x ∷ []) ∷ []) (x ∷ [])) (if_so c (s.Block m (y ∷ []) ∷ []) (y ∷ []))
       by_test b c q =
           subst (λ (c : Bool). Alike (if_so b (s.Block l (x ∷ []) ∷ []) (x ∷ [])) (if_so c (s.Block m (y ∷ []) ∷ []) (y ∷ []))) q
           (choice b _ _ _ _ (one _ _ (unlined-Block l (x ∷ []) ∙ ap (λ (z : Statement). s.Block 0 (z ∷ [])) same ∙ sym (unlined-Block m (y ∷ [])))) (one _ _ same))
 
-  blocks_same : (l m : ℕ) (xs ys : List Statement) → Alike xs ys → Alike (block_of k g l xs) (block_of k g m ys)
+  blocks_same : (l m : ℕ) (xs ys : List Statement) → Alike xs ys → Alike (block_of l xs) (block_of m ys)
   blocks_same l m [] [] h = refl
-  blocks_same l m [] (y ∷ ys) h = nil_cons h
-  blocks_same l m (x ∷ xs) [] h = nil_cons (sym h)
+  blocks_same l m [] (y ∷ ys) h = no_list (sym h)
+  blocks_same l m (x ∷ xs) [] h = no_list h
   blocks_same l m (x ∷ xs) (y ∷ ys) h = one _ _ (unlined-Block l (x ∷ xs) ∙ ap (s.Block 0) h ∙ sym (unlined-Block m (y ∷ ys)))
 
   abbrev step_at : Statement-F Statement Arm → List Statement
@@ -172,7 +159,7 @@ module _ (k : Kept) (g : ℕ → ℕ) where
   bared y = zeroed (map-Statement Statement Arm Statement Arm unlined unlined_of_arm y)
 
   for_same : (id l : ℕ) (e : Expr) (i i' step step' : Option (List Statement)) (b b' : List Statement) → option_map unlined (part_of i) ≡ option_map unlined (part_of i') → option_map unlined (part_of step) ≡ option_map unlined (part_of step')
-      → Alike b b' → Alike (if_so (k.statement id) (s.For (rank k.statement id) 0 (part_of i) e (part_of step) b ∷ []) (alone k g 0 (part_of i))) (if_so (k.statement id) (s.For (rank k.statement id) l (part_of i') e (part_of step') b' ∷ []) (alone k g l (part_of i')))
+      → Alike b b' → Alike (if_so (k.statement id) (s.For (rank k.statement id) 0 (part_of i) e (part_of step) b ∷ []) (alone 0 (part_of i))) (if_so (k.statement id) (s.For (rank k.statement id) l (part_of i') e (part_of step') b' ∷ []) (alone l (part_of i')))
   for_same id l e i i' step step' b b' p q r =
       choice (k.statement id) _ _ _ _
       (one _ _ (unlined-For (rank k.statement id) 0 (part_of i) e (part_of step) b

@@ -26,7 +26,7 @@ use Rattle.c_language.specs.Uses.{operands_of}
 use Rattle.c_language.specs.ProgramOf.{Told, told_step, expr_of, optional, arg_tree, args_tree, variable_number, arm_tree, of_operand, of_pointed}
 use Rattle.c_language.proofs.ScopedForms.{scoped-Declare, scoped-Assign, scoped-Bump, scoped-Call, scoped-If, scoped-While, scoped-Do, scoped-For, scoped-Switch, scoped-Block, scoped-Return, scoped_of_arm-arm}
 use Rattle.c_language.proofs.Options.{none_there, some_same}
-use Rattle.c_language.proofs.Tests.{false_true}
+use Rattle.c_language.proofs.Tests.{false_true, by_or}
 use Rattle.c_language.proofs.Lists.{contains_first, contains_later}
 use Rattle.projection.specs.Names.{names_step, names, any_names, value_names, either, if_any, refers}
 use Rattle.c_scope_laws.specs.Thinning.{found, after_list, block_after, part_scope, body_scope}
@@ -35,10 +35,6 @@ use Rattle.projection_laws.specs.Nested.{any_kept, part_kept, nest}
 use Rattle.projection_laws.proofs.Options.{map_there, then_there, both_there, more_there}
 use Rattle.projection_laws.proofs.IntegerTexts.{Is, Are, IsPart, ArmsAre}
 use Rattle.projection_laws.proofs.StatementForms.{arm_refers, refers-Declare, refers-Assign, refers-Bump, refers-Write, refers-Print, refers-If, refers-While, refers-Do, refers-For, refers-Switch, refers-Block, refers-Return, refers-arm, arm_nest, nest-Declare, nest-Assign, nest-Bump, nest-Write, nest-Print, nest-If, nest-While, nest-Do, nest-For, nest-Switch, nest-Block, nest-Return, nest-arm}
-
-pub either_way : {A : Type 0} (a b : Bool) → (a || b) ≡ true → (a ≡ true → A) → (b ≡ true → A) → A
-either_way true b h f g = f refl
-either_way false b h f g = g h
 
 pub le_then : {a b c : ℕ} → a ≤ b → b ≤ c → a ≤ c
 le_then {a} {b} {c} p q = omega (arith, p, q)
@@ -116,28 +112,28 @@ module _ (raw : RawProgram) (scope : Scope) (R : ℕ → Type 0) (vars : (x : By
       let m = map_there e.AddressOf (expr_of raw scope a) w at in ops a (contains_first a []) m.0 m.1.0 id (names_at (Expr-F.AddressOf m.0) w id (e.rolls-AddressOf m.0 ∙ m.1.1) h)
   layer (RawExpr-F.Binary op a b) ops w at id h =
       let m = both_there (e.Binary op) (expr_of raw scope a) (expr_of raw scope b) w at in
-      either_way (names m.first id) (names m.second id) (names_at (Expr-F.Binary op m.first m.second) w id (e.rolls-Binary op m.first m.second ∙ m.same) h)
+      by_or (names m.first id) (names m.second id) (names_at (Expr-F.Binary op m.first m.second) w id (e.rolls-Binary op m.first m.second ∙ m.same) h)
       (λ p. ops a (contains_first a (b ∷ [])) m.first m.first_there id p) (λ p. ops b (contains_later a b (b ∷ []) (contains_first b [])) m.second m.second_there id p)
   layer (RawExpr-F.AndAlso a b) ops w at id h =
       let m = both_there e.AndAlso (expr_of raw scope a) (expr_of raw scope b) w at in
-      either_way (names m.first id) (names m.second id) (names_at (Expr-F.AndAlso m.first m.second) w id (e.rolls-AndAlso m.first m.second ∙ m.same) h)
+      by_or (names m.first id) (names m.second id) (names_at (Expr-F.AndAlso m.first m.second) w id (e.rolls-AndAlso m.first m.second ∙ m.same) h)
       (λ p. ops a (contains_first a (b ∷ [])) m.first m.first_there id p) (λ p. ops b (contains_later a b (b ∷ []) (contains_first b [])) m.second m.second_there id p)
   layer (RawExpr-F.OrElse a b) ops w at id h =
       let m = both_there e.OrElse (expr_of raw scope a) (expr_of raw scope b) w at in
-      either_way (names m.first id) (names m.second id) (names_at (Expr-F.OrElse m.first m.second) w id (e.rolls-OrElse m.first m.second ∙ m.same) h)
+      by_or (names m.first id) (names m.second id) (names_at (Expr-F.OrElse m.first m.second) w id (e.rolls-OrElse m.first m.second ∙ m.same) h)
       (λ p. ops a (contains_first a (b ∷ [])) m.first m.first_there id p) (λ p. ops b (contains_later a b (b ∷ []) (contains_first b [])) m.second m.second_there id p)
   layer (RawExpr-F.Choose c a b) ops w at id h =
       let o = then_there _ (expr_of raw scope c) w at in
       let m = both_there (e.Choose o.0) (expr_of raw scope a) (expr_of raw scope b) w o.1.1 in
-      either_way (names o.0 id) (names m.first id || names m.second id) (names_at (Expr-F.Choose o.0 m.first m.second) w id (e.rolls-Choose o.0 m.first m.second ∙ m.same) h)
+      by_or (names o.0 id) (names m.first id || names m.second id) (names_at (Expr-F.Choose o.0 m.first m.second) w id (e.rolls-Choose o.0 m.first m.second ∙ m.same) h)
       (λ p. ops c (contains_first c (a ∷ (b ∷ []))) o.0 o.1.0 id p)
-      (λ p. either_way (names m.first id) (names m.second id) p
+      (λ p. by_or (names m.first id) (names m.second id) p
       (λ q. ops a (contains_later c a (a ∷ (b ∷ [])) (contains_first a (b ∷ []))) m.first m.first_there id q) (λ q. ops b (contains_later c b (a ∷ (b ∷ [])) (contains_later a b (b ∷ []) (contains_first b []))) m.second m.second_there id q))
   layer (RawExpr-F.Cast z a) ops w at id h =
       let m = map_there (e.Cast z) (expr_of raw scope a) w at in ops a (contains_first a []) m.0 m.1.0 id (names_at (Expr-F.Cast z m.0) w id (e.rolls-Cast z m.0 ∙ m.1.1) h)
   layer (RawExpr-F.Index a b) ops w at id h =
       let m = both_there e.Index (expr_of raw scope a) (expr_of raw scope b) w at in
-      either_way (names m.first id) (names m.second id) (names_at (Expr-F.Index m.first m.second) w id (e.rolls-Index m.first m.second ∙ m.same) h)
+      by_or (names m.first id) (names m.second id) (names_at (Expr-F.Index m.first m.second) w id (e.rolls-Index m.first m.second ∙ m.same) h)
       (λ p. ops a (contains_first a (b ∷ [])) m.first m.first_there id p) (λ p. ops b (contains_later a b (b ∷ []) (contains_first b [])) m.second m.second_there id p)
   layer (RawExpr-F.Member a f) ops w at id h =
       let o = then_there _ (expr_of raw scope a) w at in
@@ -243,7 +239,7 @@ module _ (raw : RawProgram) where
   args_span P scope s [] ws at id h = false_true (ap (λ (z : List Expr). any_names z id) (some_same at) ∙ h)
   args_span P scope s (a ∷ args) ws at id h =
       let m = more_there (arg_tree raw scope a) (map (arg_tree raw scope) args) ws at in
-      either_way (names m.first id) (any_names m.rest id) (ap (λ (z : List Expr). any_names z id) m.same ∙ h)
+      by_or (names m.first id) (any_names m.rest id) (ap (λ (z : List Expr). any_names z id) m.same ∙ h)
       (λ p. by_arg a m.first m.first_there p) (λ p. args_span P scope s args m.rest m.rest_there id p)
     where
       by_arg : (a : RawArg) (w : Expr) → arg_tree raw scope a ≡ Some w → names w id ≡ true → P id × (id < scope.variables)
@@ -293,12 +289,12 @@ module _ (raw : RawProgram) where
           let k = and_parts (keeps scope.statements) _ (at_var id (refers-Declare keeps (Some scope.statements) l scope.variables (begins.One w)) h) in
           let inside = spans_more P scope v (init.One a) s in
           let grown = subst (λ (u : Text). scope.variables + 1 ≤ (u.after scope).variables) (sym (scoped-Declare raw l v (init.One a))) (le_same (scope.variables + 1)) in
-          reached (either_way (scope.variables == id) (names w id) k.1
+          reached (by_or (scope.variables == id) (names w id) k.1
           (λ p. subst (λ (z : ℕ). P z × (z < scope.variables + 1)) (eqb-true scope.variables id p) (s.fresh scope.variables (le_same scope.variables), omega arith))
           (λ p. expr_spans P (with_variable raw v (init.One a) scope) inside a w at id p)) grown (ap (λ z. z.keeps) (nest-Declare keeps (Some scope.statements) l scope.variables (begins.One w)) ∙ k.0)
       reaches P {scope} (Is.assigned {l} {a} {b} {op} {u} {w} p q) s id h =
           let k = and_parts (keeps scope.statements) _ (at_var id (refers-Assign keeps scope.statements l u op w) h) in
-          reached (either_way (names u id) (names w id) k.1 (λ r. expr_spans P scope s a u p id r) (λ r. expr_spans P scope s b w q id r)) (grows (Is.assigned {op = op} p q))
+          reached (by_or (names u id) (names w id) k.1 (λ r. expr_spans P scope s a u p id r) (λ r. expr_spans P scope s b w q id r)) (grows (Is.assigned {op = op} p q))
           (ap (λ z. z.keeps) (nest-Assign keeps scope.statements l u op w) ∙ k.0)
       reaches P {scope} (Is.bumped {l} {a} {up} {before} {u} p) s id h =
           let k = and_parts (keeps scope.statements) _ (at_var id (refers-Bump keeps scope.statements l u up before) h) in
@@ -315,21 +311,21 @@ module _ (raw : RawProgram) where
           let kept = ap (λ z. z.keeps) (nest-If keeps scope.statements l u zs ws) in
           let s1 = spans_later P scope (opened (numbered scope)) refl (le_same scope.variables) s in
           let s2 = spans_later P scope (opened (block_after raw b (numbered scope))) refl (all_grow d) s in
-          either_way (keeps scope.statements && names u id) _ (at_var id (refers-If keeps scope.statements l u zs ws) h)
+          by_or (keeps scope.statements && names u id) _ (at_var id (refers-If keeps scope.statements l u zs ws) h)
           (λ r. let k = and_parts (keeps scope.statements) (names u id) r in reached (expr_spans P scope s a u p id k.1) grown (kept ∙ or_left (keeps scope.statements) _ k.0))
-          (λ r. either_way (either (map refs zs) id) (either (map refs ws) id) r
+          (λ r. by_or (either (map refs zs) id) (either (map refs ws) id) r
           (λ r. later (all_reach P d s1 id r) (subst (λ (n : ℕ). (after_list raw b (opened (numbered scope))).variables ≤ n) (sym end) (all_grow g)) (λ k. kept ∙ or_right (keeps scope.statements) _ (or_left (all_kept_in zs) _ k)))
           (λ r. later (all_reach P g s2 id r) (subst (λ (n : ℕ). (after_list raw c (opened (block_after raw b (numbered scope)))).variables ≤ n) (sym end) (le_same _)) (λ k. kept ∙ or_right (keeps scope.statements) _ (or_right (all_kept_in zs) _ k))))
       reaches P {scope} (Is.while_loop {l} {a} {u} {b} {zs} p d) s id h =
           let kept = ap (λ z. z.keeps) (nest-While keeps scope.statements l u zs) in
           let end = ap (λ (u : Text). (u.after scope).variables) (scoped-While raw l a b) in
-          either_way (keeps scope.statements && names u id) _ (at_var id (refers-While keeps scope.statements l u zs) h)
+          by_or (keeps scope.statements && names u id) _ (at_var id (refers-While keeps scope.statements l u zs) h)
           (λ r. let k = and_parts (keeps scope.statements) (names u id) r in reached (expr_spans P scope s a u p id k.1) (grows (Is.while_loop p d)) (kept ∙ or_left (keeps scope.statements) _ k.0))
           (λ r. later (all_reach P d (spans_later P scope (opened (numbered scope)) refl (le_same scope.variables) s) id r) (subst (λ (n : ℕ). (after_list raw b (opened (numbered scope))).variables ≤ n) (sym end) (le_same _)) (λ k. kept ∙ or_right (keeps scope.statements) _ k))
       reaches P {scope} (Is.do_loop {l} {a} {u} {b} {zs} p d) s id h =
           let kept = ap (λ z. z.keeps) (nest-Do keeps scope.statements l u zs) in
           let end = ap (λ (u : Text). (u.after scope).variables) (scoped-Do raw l a b) in
-          either_way (keeps scope.statements && names u id) _ (at_var id (refers-Do keeps scope.statements l u zs) h)
+          by_or (keeps scope.statements && names u id) _ (at_var id (refers-Do keeps scope.statements l u zs) h)
           (λ r. let k = and_parts (keeps scope.statements) (names u id) r in reached (expr_spans P scope s a u p id k.1) (grows (Is.do_loop p d)) (kept ∙ or_left (keeps scope.statements) _ k.0))
           (λ r. later (all_reach P d (spans_later P scope (opened (numbered scope)) refl (le_same scope.variables) s) id r) (subst (λ (n : ℕ). (after_list raw b (opened (numbered scope))).variables ≤ n) (sym end) (le_same _)) (λ k. kept ∙ or_right (keeps scope.statements) _ k))
       reaches P {scope} (Is.for_loop {l} {a} {u} {i} {step} {b} {first} {next} {zs} start d p g k) s id h =
@@ -342,17 +338,17 @@ module _ (raw : RawProgram) where
           let from_body = subst (λ (n : ℕ). (after_list raw b (opened (body_scope raw i step scope))).variables ≤ n) (sym end) (le_same _) in
           let from_step = le_then (all_grow k) from_body in
           let from_test = le_then (part_grows g) from_step in
-          either_way (keeps scope.statements && names u id) _ (at_var id (refers-For keeps scope.statements l first u next zs) h)
+          by_or (keeps scope.statements && names u id) _ (at_var id (refers-For keeps scope.statements l first u next zs) h)
           (λ r. let q = and_parts (keeps scope.statements) (names u id) r in reached (expr_spans P (part_scope raw i scope) s1 a u p id q.1) from_test (kept ∙ or_left (keeps scope.statements) _ q.0))
-          (λ r. either_way (if_any (option_map refs first) id) _ r
+          (λ r. by_or (if_any (option_map refs first) id) _ r
           (λ r. later (part_reaches P d s0 id r) from_test (λ q. kept ∙ or_right (keeps scope.statements) _ (or_left (part_kept (option_map (nest keeps) first)) _ q)))
-          (λ r. either_way (if_any (option_map refs next) id) _ r
+          (λ r. by_or (if_any (option_map refs next) id) _ r
           (λ r. later (part_reaches P g s1 id r) from_step (λ q. kept ∙ or_right (keeps scope.statements) _ (or_right (part_kept (option_map (nest keeps) first)) _ (or_left (part_kept (option_map (nest keeps) next)) _ q))))
           (λ r. later (all_reach P k s3 id r) from_body (λ q. kept ∙ or_right (keeps scope.statements) _ (or_right (part_kept (option_map (nest keeps) first)) _ (or_right (part_kept (option_map (nest keeps) next)) _ q))))))
       reaches P {scope} (Is.switched {l} {a} {u} {arms} {zs} p d) s id h =
           let kept = ap (λ z. z.keeps) (nest-Switch keeps scope.statements l u zs) in
           let end = ap (λ (u : Text). (u.after scope).variables) (scoped-Switch raw l a arms) in
-          either_way (keeps scope.statements && names u id) _ (at_var id (refers-Switch keeps scope.statements l u zs) h)
+          by_or (keeps scope.statements && names u id) _ (at_var id (refers-Switch keeps scope.statements l u zs) h)
           (λ r. let k = and_parts (keeps scope.statements) (names u id) r in reached (expr_spans P scope s a u p id k.1) (grows (Is.switched p d)) (kept ∙ or_left (keeps scope.statements) _ k.0))
           (λ r. later (arms_reach P d (spans_later P scope (opened (numbered scope)) refl (le_same scope.variables) s) id r) (subst (λ (n : ℕ). (after_all (map (scoped_of_arm raw) arms) (opened (numbered scope))).variables ≤ n) (sym end) (le_same _)) (λ k. kept ∙ or_right (keeps scope.statements) _ k))
       reaches P {scope} (Is.blocked {l} {b} {zs} d) s id h =
@@ -366,7 +362,7 @@ module _ (raw : RawProgram) where
       pub all_reach : (P : ℕ → Type 0) {scope : Scope} {xs : List RawStatement} {zs : List Statement} → Are raw scope xs zs → Spans P scope → (id : ℕ) → either (map refs zs) id ≡ true → Reached P (after_list raw xs scope).variables (all_kept_in zs) id
       all_reach P Are.none s id h = false_true h
       all_reach P (Are.more {z} {zs} d g) s id h =
-          either_way (refs z id) (either (map refs zs) id) h (λ r. later (reaches P d s id r) (all_grow g) (λ k. or_left (kept_in z) _ k)) (λ r. later (all_reach P g (spans_after P d s) id r) (le_same _) (λ k. or_right (kept_in z) _ k))
+          by_or (refs z id) (either (map refs zs) id) h (λ r. later (reaches P d s id r) (all_grow g) (λ k. or_left (kept_in z) _ k)) (λ r. later (all_reach P g (spans_after P d s) id r) (le_same _) (λ k. or_right (kept_in z) _ k))
 
       pub part_reaches : (P : ℕ → Type 0) {scope : Scope} {x : Option RawStatement} {y : Option Statement} → IsPart raw scope x y → Spans P scope → (id : ℕ) → if_any (option_map refs y) id ≡ true
           → Reached P (after_part (option_map (scoped raw) x) scope).variables (part_kept (option_map (nest keeps) y)) id
@@ -380,6 +376,6 @@ module _ (raw : RawProgram) where
           let kept = ap (λ z. z.keeps) (nest-arm keeps ls zs) in
           let end = ap (λ (u : Scoped _). (after_all (map (scoped_of_arm raw) rest) (u.after scope)).variables) (scoped_of_arm-arm raw labels body) in
           let inside = arm_nest keeps (arm_tree ls zs) in
-          either_way (arm_refers keeps (arm_tree ls zs) id) (either (map (arm_refers keeps) arms) id) h
+          by_or (arm_refers keeps (arm_tree ls zs) id) (either (map (arm_refers keeps) arms) id) h
           (λ r. later (all_reach P d s id (at_var id (refers-arm keeps ls zs) r)) (subst (λ (n : ℕ). (after_list raw body scope).variables ≤ n) (sym end) (arms_grow g)) (λ k. or_left inside.keeps _ (kept ∙ k)))
           (λ r. later (arms_reach P g (all_spans P d s) id r) (subst (λ (n : ℕ). (after_all (map (scoped_of_arm raw) rest) (after_list raw body scope)).variables ≤ n) (sym end) (le_same _)) (λ k. or_right inside.keeps _ k))

@@ -12,17 +12,18 @@ use Rattle.c_tree.specs.declared.raw.program.RawHead.{RawHead}
 use Rattle.c_tree.specs.declared.raw.program.RawProgram.{RawProgram}
 use Rattle.c_tree.specs.declared.statement.Statement.{Statement, ind-Statement, roll-Statement, map-Statement, fold-roll-Statement}
 use Rattle.c_tree.specs.declared.statement.Statement.TheOpen.{Statement-F, Arm-F}
-use Rattle.c_tree.specs.declared.statement.Arm.{Arm, roll-Arm, map-Arm, fold-roll-Arm}
+use Rattle.c_tree.specs.declared.statement.Arm.{Arm, roll-Arm, fold-roll-Arm}
+use Rattle.c_tree.proofs.Trees.{statement_layer, arm_layer, StatementParts, ArmParts}
 use Rattle.c_language.specs.DeclaredTypes.{defined_functions, definition_of}
 use Rattle.c_language.specs.NameRules.{main_name}
 use Rattle.c_language.proofs.Tests.{false_true}
 use Rattle.projection.specs.Kept.{Kept, rank}
 use Rattle.projection.specs.Renumbering.{renamed_label}
 use Rattle.projection.specs.Projection.{if_so, flat, projected_step, projected_arm_step, projected, projected_arm, projected_all, projected_item, projected_items, projected_function, projected_functions, projected_var, projected_vars, projected_program}
-use Rattle.built_forms.specs.IntegerForms.{IsPlainItem, integer_label, all_true, statement_step, arm_step, is_integer_statement, IsIntegerLocal}
+use Rattle.built_forms.specs.IntegerForms.{IsPlainItem, integer_label, statement_step, arm_step, is_integer_statement, IsIntegerLocal, is_integer_arm}
 use Rattle.c_scope_laws.specs.Following.{kept_head, kept_functions}
-use Rattle.projection_laws.proofs.StatementForms.{is_integer_arm}
 use Rattle.projection_laws.proofs.Going.{kept_of}
+use Rattle.c_language.specs.Lists.{all_true}
 
 module _ (k : Kept) (g h : ℕ → ℕ) where
   abbrev Same : Statement → Type 0
@@ -32,16 +33,16 @@ module _ (k : Kept) (g h : ℕ → ℕ) where
   ArmSame x = is_integer_arm x ≡ true → projected_arm k g x ≡ projected_arm k h x
 
   abbrev Layer : Type 0
-  Layer = Statement-F ((x : Statement) × Same x) ((x : Arm) × ArmSame x)
+  Layer = StatementParts Same ArmSame
 
   abbrev ArmLayer : Type 0
-  ArmLayer = Arm-F ((x : Statement) × Same x) ((x : Arm) × ArmSame x)
+  ArmLayer = ArmParts Same ArmSame
 
   abbrev shape : Layer → Statement-F Statement Arm
-  shape = map-Statement ((x : Statement) × Same x) ((x : Arm) × ArmSame x) Statement Arm (λ x. x.0) (λ x. x.0)
+  shape = statement_layer Same ArmSame
 
   abbrev arm_shape : ArmLayer → Arm-F Statement Arm
-  arm_shape = map-Arm ((x : Statement) × Same x) ((x : Arm) × ArmSame x) Statement Arm (λ x. x.0) (λ x. x.0)
+  arm_shape = arm_layer Same ArmSame
 
   abbrev bodies : List ((x : Statement) × Same x) → List Statement
   bodies = map (λ (x : (y : Statement) × Same y). x.0)

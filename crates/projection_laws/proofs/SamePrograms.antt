@@ -15,10 +15,10 @@ use Rattle.projection.specs.Kept.{Kept, rank}
 use Rattle.projection.specs.Names.{refers_step, refers_arm, refers, body_refers, stays}
 use Rattle.projection.specs.Projection.{if_so, projected_function, projected_functions, projected_var, projected_vars, projected_program, kept_with, projection}
 use Rattle.built_forms.specs.IntegerForms.{IsPlainItem, statement_step, arm_step, is_integer_statement, IsIntegerLocal, IsIntegerMain}
-use Rattle.c_scope_laws.proofs.ItemWalking.{nil_cons}
 use Rattle.projection_laws.specs.Nested.{Nest, nest_step, nest_arm, is_nested, IsNested}
-use Rattle.projection_laws.proofs.Unlining.{zeroed, fold_unlined}
-use Rattle.projection_laws.proofs.ProjectedLines.{all_projected_unlined, first_same, rest_same}
+use Rattle.c_tree.proofs.Unlining.{zeroed, fold_unlined}
+use Rattle.projection_laws.proofs.ProjectedLines.{all_projected_unlined}
+use Rattle.c_language.proofs.Lists.{head_is, tail_is, no_list}
 
 -- ---- steps that read no line
 
@@ -167,9 +167,9 @@ record One (f : Function) (gs : List Function) : Type 0 where
   pub same : unlined_function f ≡ unlined_function other
 
 one_same : (f : Function) (gs : List Function) → unlined_function f ∷ [] ≡ map unlined_function gs → One f gs
-one_same f [] h = nil_cons (sym h)
-one_same f (g ∷ []) h = record { other = g; is = refl; same = first_same h }
-one_same f (g ∷ (e ∷ gs)) h = nil_cons (rest_same h)
+one_same f [] h = no_list h
+one_same f (g ∷ []) h = record { other = g; is = refl; same = head_is h }
+one_same f (g ∷ (e ∷ gs)) h = no_list (sym (tail_is h))
 
 pub main_same : (p q : Program) → SameButLines p q → IsIntegerMain p → IsIntegerMain q
 main_same p q h m =

@@ -6,12 +6,12 @@ use Rattle.c_tree.specs.declared.program.Function.{Function}
 use Rattle.c_tree.specs.declared.program.Program.{Program}
 use Rattle.c_tree.specs.declared.statement.Statement.{Statement, ind-Statement, roll-Statement, map-Statement, fold-roll-Statement}
 use Rattle.c_tree.specs.declared.statement.Statement.TheOpen.{Statement-F, Arm-F}
-use Rattle.c_tree.specs.declared.statement.Arm.{Arm, roll-Arm, map-Arm, fold-Arm, fold-roll-Arm}
-use Rattle.c_language.proofs.Tests.{false_true}
+use Rattle.c_tree.specs.declared.statement.Arm.{Arm, roll-Arm, fold-Arm, fold-roll-Arm}
+use Rattle.c_tree.proofs.Trees.{statement_layer, arm_layer, StatementParts, ArmParts}
+use Rattle.c_language.proofs.Tests.{false_true, by_or}
 use Rattle.c_scope_laws.proofs.NamedTrees.{itself_equal}
 use Rattle.projection_laws.specs.Nested.{Nest, any_kept, all_fit, governs, nest_step, nest_arm, nest, is_nested, IsNested, Stands, any_own, any_inside, stands_step, stands_arm, stands, stands_in}
 use Rattle.projection_laws.proofs.StatementForms.{arm_nest}
-use Rattle.projection_laws.proofs.Reaching.{either_way}
 
 governs_true : (b inside : Bool) → (inside ≡ true → b ≡ true) → governs b inside ≡ true
 governs_true true inside h = refl
@@ -56,19 +56,19 @@ module _ (keeps : ℕ → Bool) where
   tie_both : (a b e f : Bool) (own more : ℕ → Bool) (inside within : ℕ → ℕ → Bool) → Tie a e own inside → Tie b f more within → Tie (a || b) (e && f) (λ n. own n || more n) (λ o i. inside o i || within o i)
   tie_both a b e f own more inside within s t = record {
     fits = λ c. and_from _ _ (s.fits (λ o i h. c o i (or_left (inside o i) (within o i) h))) (t.fits (λ o i h. c o i (or_right (inside o i) (within o i) h)));
-    found = λ c h. either_way a b h
+    found = λ c h. by_or a b h
         (λ p. let w = s.found (λ o i h. c o i (or_left (inside o i) (within o i) h)) p in record { number = w.number; is = or_left (own w.number) (more w.number) w.is; kept = w.kept })
         (λ p. let w = t.found (λ o i h. c o i (or_right (inside o i) (within o i) h)) p in record { number = w.number; is = or_right (own w.number) (more w.number) w.is; kept = w.kept });
-    back = λ h o i p q. either_way (inside o i) (within o i) p (λ r. s.back (and_parts e f h).0 o i r q) (λ r. t.back (and_parts e f h).1 o i r q);
-    keeps_it = λ n p q. either_way (own n) (more n) p (λ r. or_left a b (s.keeps_it n r q)) (λ r. or_right a b (t.keeps_it n r q));
+    back = λ h o i p q. by_or (inside o i) (within o i) p (λ r. s.back (and_parts e f h).0 o i r q) (λ r. t.back (and_parts e f h).1 o i r q);
+    keeps_it = λ n p q. by_or (own n) (more n) p (λ r. or_left a b (s.keeps_it n r q)) (λ r. or_right a b (t.keeps_it n r q));
   }
 
   -- what stands in a statement
   tie_under : (id : ℕ) (a e : Bool) (own : ℕ → Bool) (inside : ℕ → ℕ → Bool) → Tie a e own inside → Tie (keeps id || a) (governs (keeps id) a && e) (λ n. id == n) (λ o i. (id == o && own i) || inside o i)
   tie_under id a e own inside t = record {
     fits = λ c. and_from _ _ (governs_true (keeps id) a (λ h. above c h)) (t.fits (λ o i h. c o i (or_right (id == o && own i) (inside o i) h)));
-    found = λ c h. record { number = id; is = itself_equal id; kept = either_way (keeps id) a h (λ p. p) (λ p. above c p) };
-    back = λ h o i p q. either_way (id == o && own i) (inside o i) p
+    found = λ c h. record { number = id; is = itself_equal id; kept = by_or (keeps id) a h (λ p. p) (λ p. above c p) };
+    back = λ h o i p q. by_or (id == o && own i) (inside o i) p
         (λ r. let b = and_parts (id == o) (own i) r in sym (ap keeps (eqb-true id o b.0)) ∙ governs_back (keeps id) a (and_parts (governs (keeps id) a) e h).0 (t.keeps_it i b.1 q))
         (λ r. t.back (and_parts (governs (keeps id) a) e h).1 o i r q);
     keeps_it = λ n p q. or_left (keeps id) a (ap keeps (eqb-true id n p) ∙ q);
@@ -83,14 +83,14 @@ module _ (keeps : ℕ → Bool) where
       → Tie (keeps id || (a || b)) (governs (keeps id) b && (e && f)) (λ n. id == n || own n) (λ o i. (id == o && more i) || (inside o i || within o i))
   tie_for id a b e f own more inside within s t = record {
     fits = λ c. and_from _ _ (governs_true (keeps id) b (λ h. above c h)) (and_from _ _ (s.fits (λ o i h. c o i (or_right (id == o && more i) _ (or_left (inside o i) (within o i) h)))) (t.fits (λ o i h. c o i (or_right (id == o && more i) _ (or_right (inside o i) (within o i) h)))));
-    found = λ c h. either_way (keeps id) (a || b) h (λ p. itself_found p)
-        (λ r. either_way a b r
+    found = λ c h. by_or (keeps id) (a || b) h (λ p. itself_found p)
+        (λ r. by_or a b r
         (λ p. let w = s.found (λ o i h. c o i (or_right (id == o && more i) _ (or_left (inside o i) (within o i) h))) p in record { number = w.number; is = or_right (id == w.number) (own w.number) w.is; kept = w.kept })
         (λ p. itself_found (above c p)));
-    back = λ h o i p q. either_way (id == o && more i) (inside o i || within o i) p
+    back = λ h o i p q. by_or (id == o && more i) (inside o i || within o i) p
         (λ r. let b2 = and_parts (id == o) (more i) r in sym (ap keeps (eqb-true id o b2.0)) ∙ governs_back (keeps id) b (and_parts (governs (keeps id) b) (e && f) h).0 (t.keeps_it i b2.1 q))
-        (λ r. let g = and_parts e f (and_parts (governs (keeps id) b) (e && f) h).1 in either_way (inside o i) (within o i) r (λ u. s.back g.0 o i u q) (λ u. t.back g.1 o i u q));
-    keeps_it = λ n p q. either_way (id == n) (own n) p (λ r. or_left (keeps id) (a || b) (ap keeps (eqb-true id n r) ∙ q)) (λ r. or_right (keeps id) (a || b) (or_left a b (s.keeps_it n r q)));
+        (λ r. let g = and_parts e f (and_parts (governs (keeps id) b) (e && f) h).1 in by_or (inside o i) (within o i) r (λ u. s.back g.0 o i u q) (λ u. t.back g.1 o i u q));
+    keeps_it = λ n p q. by_or (id == n) (own n) p (λ r. or_left (keeps id) (a || b) (ap keeps (eqb-true id n r) ∙ q)) (λ r. or_right (keeps id) (a || b) (or_left a b (s.keeps_it n r q)));
   }
     where
       itself_found : keeps id ≡ true → Found (λ n. id == n || own n)
@@ -112,16 +112,16 @@ module _ (keeps : ℕ → Bool) where
   ArmTied x = Tied (arm_nest keeps x) (arm_stands x)
 
   abbrev Layer : Type 0
-  Layer = Statement-F ((x : Statement) × IsTied x) ((x : Arm) × ArmTied x)
+  Layer = StatementParts IsTied ArmTied
 
   abbrev ArmLayer : Type 0
-  ArmLayer = Arm-F ((x : Statement) × IsTied x) ((x : Arm) × ArmTied x)
+  ArmLayer = ArmParts IsTied ArmTied
 
   abbrev shape : Layer → Statement-F Statement Arm
-  shape = map-Statement ((x : Statement) × IsTied x) ((x : Arm) × ArmTied x) Statement Arm (λ x. x.0) (λ x. x.0)
+  shape = statement_layer IsTied ArmTied
 
   abbrev arm_shape : ArmLayer → Arm-F Statement Arm
-  arm_shape = map-Arm ((x : Statement) × IsTied x) ((x : Arm) × ArmTied x) Statement Arm (λ x. x.0) (λ x. x.0)
+  arm_shape = arm_layer IsTied ArmTied
 
   abbrev bodies : List ((x : Statement) × IsTied x) → List Statement
   bodies = map (λ (x : (y : Statement) × IsTied y). x.0)
@@ -204,7 +204,7 @@ module _ (keeps : ℕ → Bool) where
   functions_stand [] h o i p q = false_true p
   functions_stand (f ∷ fs) h o i p q =
       let b = and_parts (list_all (is_nested keeps) f.body) (list_all (λ (g : Function). list_all (is_nested keeps) g.body) fs) h in
-      either_way (any_inside (map stands f.body) o i) (all_stand fs o i) p (λ r. (body_tied f.body).back b.0 o i r q) (λ r. functions_stand fs b.1 o i r q)
+      by_or (any_inside (map stands f.body) o i) (all_stand fs o i) p (λ r. (body_tied f.body).back b.0 o i r q) (λ r. functions_stand fs b.1 o i r q)
 
 pub standing_nested : (p : Program) (keeps : ℕ → Bool) → ((outer inner : ℕ) → stands_in p outer inner ≡ true → keeps inner ≡ true → keeps outer ≡ true) → IsNested keeps p
 standing_nested p keeps c = functions_nested keeps p.functions c

@@ -13,12 +13,9 @@ use Rattle.c_tree.specs.declared.statement.Statement.TheOpen.{Statement-F}
 use Rattle.c_tree.specs.declared.statement.Statement.TheVariants as t
 use Rattle.c_language.specs.Words.{Bytes}
 use Rattle.projection.specs.Names.{refers_step, refers_arm, refers}
-use Rattle.built_forms.specs.IntegerForms.{statement_step, arm_step, is_integer_statement}
+use Rattle.built_forms.specs.IntegerForms.{statement_step, arm_step, is_integer_statement, is_integer_arm}
 use Rattle.projection_laws.specs.Nested.{Nest, nest_step, nest_arm, nest}
 use Rattle.projection_laws.specs.Staying.{Rest, rest_step, rest_arm, rest}
-
-abbrev pub is_integer_arm : Arm → Bool
-is_integer_arm = fold-Arm Bool Bool statement_step arm_step
 
 pub integer-Declare : (id : Option ℕ) (l : ℕ) (x : ℕ) (i : Init) → is_integer_statement (t.Declare id l x i) ≡ statement_step (Statement-F.Declare id l x i)
 integer-Declare id l x i = ap is_integer_statement (sym (t.rolls-Declare id l x i)) ∙ fold-roll-Statement Bool Bool statement_step arm_step (Statement-F.Declare id l x i)

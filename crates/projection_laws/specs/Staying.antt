@@ -7,7 +7,7 @@ use Rattle.c_tree.specs.declared.statement.Target.{Target}
 use Rattle.c_tree.specs.declared.statement.Target.TheVariants as target
 use Rattle.c_tree.specs.declared.statement.Statement.{Statement, fold-Statement}
 use Rattle.c_tree.specs.declared.statement.Statement.TheOpen.{Statement-F, Arm-F}
-use Rattle.projection_laws.specs.Nested.{governs}
+use Rattle.projection_laws.specs.Nested.{governs, begun_kept}
 
 -- whether something of a statement stays, and whether nothing stays in each if, loop and switch in it that isn't kept
 pub record Rest : Type 0 where
@@ -34,17 +34,13 @@ part_clear None = true
 part_clear (Some r) = r.clear
 
 module _ (keeps vars : ℕ → Bool) where
-  abbrev pub begun_stays : Option ℕ → Bool
-  begun_stays None = false
-  begun_stays (Some id) = keeps id
-
   abbrev pub target_stays : Target → Bool
   target_stays target.None = false
   target_stays (target.Place e) = false
   target_stays (target.Declared x) = vars x
 
   abbrev pub rest_step : Statement-F Rest Rest → Rest
-  rest_step (Statement-F.Declare id l x i) = alone (begun_stays id || vars x)
+  rest_step (Statement-F.Declare id l x i) = alone (begun_kept keeps id || vars x)
   rest_step (Statement-F.Assign id l left op right) = alone (keeps id)
   rest_step (Statement-F.Bump id l a up before) = alone (keeps id)
   rest_step (Statement-F.Invoke id l to f args) = alone (keeps id || target_stays to)

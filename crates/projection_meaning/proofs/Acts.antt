@@ -1,5 +1,5 @@
 -- Acts: they read what they use, and store into what they define; a kept act does the same by other numbers.
-use Rattle.std.proofs.Common.{◌≡◌, ℕ, ◌==◌, ◌||◌, pos, List, [], ◌∷◌, map, Option, Some, None, Bool, true, false, ◌⊎◌, inl, inr, refl, sym, ap, ◌∙◌, subst, eq-eqb}
+use Rattle.std.proofs.Common.{◌≡◌, ℕ, ◌==◌, ◌||◌, pos, List, [], ◌∷◌, map, Option, Some, None, Bool, true, false, ◌⊎◌, inl, inr, refl, sym, ap, ◌∙◌, subst, eq-eqb, ap₂}
 use mathlib.Core.Path.{subst₂}
 use Rattle.std.proofs.lemmas.Bool.Decides.{eqb_tells}
 use Rattle.std.specs.Prelude.{option_map, if◌then◌else◌}
@@ -27,15 +27,16 @@ use Rattle.dep_model.specs.declared.location.Location.{Location}
 use Rattle.dep_model.specs.declared.location.Root.{Root}
 use Rattle.dep_model.specs.declared.location.Root.TheVariants.{Input, Variable, Site, Result}
 use Rattle.dep_model.proofs.PlainEffects as effect
-use Rattle.dep_model.proofs.PlainEffects.{variable, is_root_of, is_variable, is_input_root, is_input, is_result_root, is_result, reads, any_reads, init_reads, compound_reads, amount_reads, value_reads, target_places, uses, defines, kills}
+use Rattle.dep_model.proofs.PlainEffects.{is_root_of, is_variable, is_input_root, is_input, is_result_root, is_result, reads, any_reads, init_reads, compound_reads, amount_reads, value_reads, target_places, uses, defines, kills}
 use Rattle.projection_meaning.proofs.Targets.{place, target_place, begun_target, act_target}
 use Rattle.projection.specs.Names.{names, any_names, init_names, target_names, size_names, amount_names, value_names}
 use Rattle.projection_meaning.proofs.CodeNames.{act_names}
 use Rattle.projection.specs.Renumbering.{renamed, renamed_init}
 use Rattle.std.proofs.lemmas.Bool.{or_left, or_right, or_cases}
-use Rattle.own_words.proofs.Lists.{two}
-use Rattle.projection_meaning.proofs.Exprs.{one_variable, is_its_variable, eval_same, place_of, designates, reads_named, some_inj, left_of, place_renamed, whole_root}
+use Rattle.std.proofs.lemmas.Option.{same_Some}
+use Rattle.projection_meaning.proofs.Exprs.{one_variable, is_its_variable, eval_same, place_of, designates, reads_named, left_of, place_renamed, whole_root}
 use Rattle.projection_meaning.proofs.Projecting.{renamed_act}
+use Rattle.dep_model.specs.Denoted.{variable}
 
 -- ---- what an act uses, it names; what it kills, it may define
 
@@ -151,13 +152,13 @@ killed_target (Tests e) x l h k = cc
 target_stored : (to : Target) (x : ℕ) (l : Location) → target_place to ≡ Some x → is_variable x l ≡ true → target_places to l ≡ true
 target_stored target.None x l h k = cc
 target_stored (target.Place e) x l h k = (left_of e).stored x l h k
-target_stored (target.Declared y) x l h k = subst (λ z. is_variable z l ≡ true) (sym (some_inj y x h)) k
+target_stored (target.Declared y) x l h k = subst (λ z. is_variable z l ≡ true) (sym (same_Some y x h)) k
 
 -- it is one that the act may define
 target_defined : (a : Act) (x : ℕ) (l : Location) → act_target a ≡ Some x → is_variable x l ≡ true → defines a l ≡ true
 target_defined (Begins y init.None) x l h k = cc
-target_defined (Begins y (init.One a)) x l h k = subst (λ z. is_variable z l ≡ true) (sym (some_inj y x h)) k
-target_defined (Begins y (init.Items as_)) x l h k = subst (λ z. is_variable z l ≡ true) (sym (some_inj y x h)) k
+target_defined (Begins y (init.One a)) x l h k = subst (λ z. is_variable z l ≡ true) (sym (same_Some y x h)) k
+target_defined (Begins y (init.Items as_)) x l h k = subst (λ z. is_variable z l ≡ true) (sym (same_Some y x h)) k
 target_defined (Sets left op right) x l h k = (left_of left).stored x l h k
 target_defined (Bumps left up) x l h k = (left_of left).stored x l h k
 target_defined (Fetches to) x l h k = or_right (is_input l) (target_places to l) (target_stored to x l h k)
@@ -171,12 +172,12 @@ target_defined (Tests e) x l h k = cc
 target_named : (to : Target) (x : ℕ) → target_place to ≡ Some x → target_names to x ≡ true
 target_named target.None x h = cc
 target_named (target.Place e) x h = (left_of e).named_it x h
-target_named (target.Declared y) x h = eq-eqb y x (some_inj y x h)
+target_named (target.Declared y) x h = eq-eqb y x (same_Some y x h)
 
 act_target_named : (a : Act) (x : ℕ) → act_target a ≡ Some x → act_names a x ≡ true
 act_target_named (Begins y init.None) x h = cc
-act_target_named (Begins y (init.One a)) x h = or_left (y == x) (names a x) (eq-eqb y x (some_inj y x h))
-act_target_named (Begins y (init.Items as_)) x h = or_left (y == x) (any_names as_ x) (eq-eqb y x (some_inj y x h))
+act_target_named (Begins y (init.One a)) x h = or_left (y == x) (names a x) (eq-eqb y x (same_Some y x h))
+act_target_named (Begins y (init.Items as_)) x h = or_left (y == x) (any_names as_ x) (eq-eqb y x (same_Some y x h))
 act_target_named (Sets left op right) x h = or_left (names left x) (names right x) ((left_of left).named_it x h)
 act_target_named (Bumps left up) x h = (left_of left).named_it x h
 act_target_named (Fetches to) x h = target_named to x h
@@ -203,9 +204,6 @@ record IsStored (t : ExprType) (o : Option ℕ) (v : Option Value) (s : State) (
   pub value_is : v ≡ Some value
   pub made_is : x ≡ storing (whole block) (as_type t value)
 
-some_made : (x y : Made) → Some x ≡ Some y → x ≡ y
-some_made x y e = cc
-
 module _ (t : ExprType) (y : ℕ) (s : State) (x : Made) where
   of_value : (b : ℕ) → s.frame y ≡ Some b → (v : Option Value) → assigned t (Some (whole b)) v ≡ Some x → IsStored t (Some y) v s x
   of_value b is None e = cc
@@ -216,7 +214,7 @@ module _ (t : ExprType) (y : ℕ) (s : State) (x : Made) where
     variable_is = refl;
     block_is = is;
     value_is = refl;
-    made_is = sym (some_made _ _ e);
+    made_is = sym (same_Some _ _ e);
   }
 
   with_place : (b : ℕ) (v : Option Value) (l : Bool) → is_live s.memory b ≡ l → assigned t (if_live s.memory (whole b)) v ≡ assigned t (if l then Some (whole b) else None) v
@@ -242,7 +240,7 @@ stores t y b v s is live =
 -- ---- two memories
 
 module _ (f : ℕ → ℕ) (stays : ℕ → Bool) where
-  -- two memories hold the same at a location, where that is a variable that stays, by its new number
+  -- ap₂ memories hold the same at a location, where that is a variable that stays, by its new number
   abbrev pub Same : Location → State → State → Type 0
   Same l m n = (x : ℕ) → is_variable x l ≡ true → stays x ≡ true → variable_value x m ≡ variable_value (f x) n
 
@@ -270,7 +268,7 @@ module _ (f : ℕ → ℕ) (stays : ℕ → Bool) where
   -- the result of what makes something or nothing
   from_some : {A : Type 0} (g : A → Made) (o : Option A) (v : Made) → option_map g o ≡ Some v → (a : A) × (o ≡ Some a) × (g a ≡ v)
   from_some g None v e = cc
-  from_some g (Some a) v e = (a, refl, some_made (g a) v e)
+  from_some g (Some a) v e = (a, refl, same_Some (g a) v e)
 
   quiet : {A : Type 0} (g : A → Made) (p : Option ℕ) (o : Option A) (m : State) (v : Made) → ((a : A) → (g a).stores ≡ []) → option_map g o ≡ Some v → Stores p m v
   quiet g p o m v none_stored e =
@@ -286,7 +284,7 @@ module _ (f : ℕ → ℕ) (stays : ℕ → Bool) where
       stored_one (type_of types left) (place left) w m v (sym (ap (λ o. assigned (type_of types left) (writable m o) w) (designates types left m)) ∙ e)
 
   result_stores : (types : Types) (o : Option Expr) (m : State) (v : Made) → shown_result types o m ≡ Some v → Stores None m v
-  result_stores types None m v e = none (sym (ap (λ (x : Made). x.stores) (some_made _ _ e)))
+  result_stores types None m v e = none (sym (ap (λ (x : Made). x.stores) (same_Some _ _ e)))
   result_stores types (Some a) m v e = quiet _ None (eval types a m) m v (λ a. refl) e
 
   made_stores : (types : Types) (a : Act) (m : State) (v : Made) → made types a m ≡ Some v → Stores (act_target a) m v
@@ -352,7 +350,7 @@ module _ (f : ℕ → ℕ) (stays : ℕ → Bool) where
         subst₂ Fits before behind (record { here = written_framed m b w fits.here; there = written_framed n c w fits.there; begun = fits.begun }),
         λ l h. subst₂ (Same l) before behind (λ y isy sy. elim (eqb_tells x y) [
           | inl e ↦ subst (λ z. variable_value z (after_write b w m) ≡ variable_value (f z) (after_write c w n)) e.1 (written_here m x b w fits.here here ∙ sym (written_here n (f x) c w fits.there there))
-          | inr e ↦ written_elsewhere m x y b w fits.here here e.1 ∙ (elim h [ inl k ↦ absurd (e.1 (some_inj x y (sym at ∙ killed_target a y l k isy))) | inr s ↦ s y isy sy ] ∙ sym (written_elsewhere n (f x) (f y) c w fits.there there (λ same. e.1 (apart x y sx sy same))))
+          | inr e ↦ written_elsewhere m x y b w fits.here here e.1 ∙ (elim h [ inl k ↦ absurd (e.1 (same_Some x y (sym at ∙ killed_target a y l k isy))) | inr s ↦ s y isy sy ] ∙ sym (written_elsewhere n (f x) (f y) c w fits.there there (λ same. e.1 (apart x y sx sy same))))
         ]),
       )
 
@@ -365,7 +363,7 @@ module _ (f : ℕ → ℕ) (stays : ℕ → Bool) where
       let same_type : as_type t h.value ≡ as_type u h.value = ap (λ s. as_type s h.value) types in
       record {
         there = storing (whole c.0) (as_type u h.value);
-        is = two (λ p q. stored_in u (option_map f p) q n) h.variable_is (sym values ∙ h.value_is) ∙ stored_there;
+        is = ap₂ (λ p q. stored_in u (option_map f p) q n) h.variable_is (sym values ∙ h.value_is) ∙ stored_there;
         values = ap (λ (x : Made). x.values) h.made_is ∙ ap (λ a. a ∷ []) same_type;
         output = ap (λ (x : Made). x.output) h.made_is;
         both = one h.variable h.block c.0 (as_type t h.value) h.variable_is h.block_is c.1 h.made_is (ap (storing (whole c.0)) (sym same_type));
@@ -393,7 +391,7 @@ module _ (f : ℕ → ℕ) (stays : ℕ → Bool) where
     all_same : (es : List Expr) → AllStay (any_names es) → ReadsSame (any_reads es) → eval_all here es m ≡ eval_all there (map (renamed f) es) n
     all_same [] named read = refl
     all_same (e ∷ es) named read =
-        two beside (same_value e (λ x k. named x (or_left (names e x) (any_names es x) k)) (λ x r. read x (or_left (reads e (variable x)) (any_reads es (variable x)) r))) (all_same es (λ x k. named x (or_right (names e x) (any_names es x) k)) (λ x r. read x (or_right (reads e (variable x)) (any_reads es (variable x)) r)))
+        ap₂ beside (same_value e (λ x k. named x (or_left (names e x) (any_names es x) k)) (λ x r. read x (or_left (reads e (variable x)) (any_reads es (variable x)) r))) (all_same es (λ x k. named x (or_right (names e x) (any_names es x) k)) (λ x r. read x (or_right (reads e (variable x)) (any_reads es (variable x)) r)))
 
     right_same : (op : Option BinaryOp) (left right : Expr) → AllStay (λ x. names left x || names right x) → ReadsSame (λ l. compound_reads op left l || reads right l) → right_of here op left right m ≡ right_of there op (renamed f left) (renamed f right) n
     right_same None left right named read =
@@ -401,16 +399,16 @@ module _ (f : ℕ → ℕ) (stays : ℕ → Bool) where
     right_same (Some op) left right named read =
         let on_left : AllStay (names left) = λ x k. named x (or_left (names left x) (names right x) k) in
         let on_right : AllStay (names right) = λ x k. named x (or_right (names left x) (names right x) k) in
-        two (λ s t. binary_value op s t (eval here left m) (eval here right m)) (same_type left on_left) (same_type right on_right) ∙ two (binary_value op (type_of there (renamed f left)) (type_of there (renamed f right))) (same_value left on_left (λ x r. read x (or_left (reads left (variable x)) (reads right (variable x)) r))) (same_value right on_right (λ x r. read x (or_right (reads left (variable x)) (reads right (variable x)) r)))
+        ap₂ (λ s t. binary_value op s t (eval here left m) (eval here right m)) (same_type left on_left) (same_type right on_right) ∙ ap₂ (binary_value op (type_of there (renamed f left)) (type_of there (renamed f right))) (same_value left on_left (λ x r. read x (or_left (reads left (variable x)) (reads right (variable x)) r))) (same_value right on_right (λ x r. read x (or_right (reads left (variable x)) (reads right (variable x)) r)))
 
     bumped_same : (left : Expr) (up : Bool) → AllStay (names left) → ReadsSame (reads left) → bumped here left up m ≡ bumped there (renamed f left) up n
     bumped_same left up named read =
-        two (λ t a. binary_value (bump up) t (integer Int) a (Some (Number (pos 1)))) (same_type left named) (same_value left named read)
+        ap₂ (λ t a. binary_value (bump up) t (integer Int) a (Some (Number (pos 1)))) (same_type left named) (same_value left named read)
 
     result_same : (o : Option Expr) → AllStay (value_names o) → ReadsSame (value_reads o) → shown_result here o m ≡ shown_result there (option_map (renamed f) o) n
     result_same None named read = refl
     result_same (Some e) named read =
-        two (λ t o. option_map (λ (v : Value). shows (as_result t v ∷ []) []) o) results (same_value e named read)
+        ap₂ (λ t o. option_map (λ (v : Value). shows (as_result t v ∷ []) []) o) results (same_value e named read)
 
     set_is : (types : Types) (left : Expr) (w : Option Value) (s : State) → set_by types left w s ≡ stored_in (type_of types left) (place left) w s
     set_is types left w s = ap (λ o. assigned (type_of types left) (writable s o) w) (designates types left s)
@@ -424,7 +422,7 @@ module _ (f : ℕ → ℕ) (stays : ℕ → Bool) where
     begun_kept x init.None v named read fits e = cc
     begun_kept x (init.One a) v named read fits e =
         let sx = named x (or_left (x == x) (names a x) (eq-eqb x x refl)) in
-        assigned_kept (here.typing.variable x) (there.typing.variable (f x)) (Some x) (eval here a m) (eval there (renamed f a) n) m n v (agree x sx) (same_value a (λ y k. named y (or_right (x == y) (names a y) k)) read) (λ y p. subst (λ z. stays z ≡ true) (some_inj x y p) sx) fits e
+        assigned_kept (here.typing.variable x) (there.typing.variable (f x)) (Some x) (eval here a m) (eval there (renamed f a) n) m n v (agree x sx) (same_value a (λ y k. named y (or_right (x == y) (names a y) k)) read) (λ y p. subst (λ z. stays z ≡ true) (same_Some x y p) sx) fits e
     begun_kept x (init.Items as_) v named read fits e = cc
 
     -- stores of nothing
@@ -433,7 +431,7 @@ module _ (f : ℕ → ℕ) (stays : ℕ → Bool) where
         let h = from_some g o v e in sym (ap (λ (x : Made). x.stores) h.2) ∙ none_stored h.0
 
     nothing_returned : (o : Option Expr) (v : Made) → shown_result here o m ≡ Some v → v.stores ≡ []
-    nothing_returned None v e = sym (ap (λ (x : Made). x.stores) (some_made _ _ e))
+    nothing_returned None v e = sym (ap (λ (x : Made). x.stores) (same_Some _ _ e))
     nothing_returned (Some a) v e = nothing_stored _ (eval here a m) v (λ a. refl) e
 
     made_kept : (a : Act) (v : Made) → AllStay (act_names a) → ReadsSame (uses a) → Fits m n → made here a m ≡ Some v → Kept (act_target a) m n (made there (renamed_act f a) n) v

@@ -2,12 +2,9 @@
 use Rattle.std.proofs.Common.{◌≡◌}
 use Rattle.c_tree.specs.declared.statement.Statement.{Statement, fold-roll-Statement, roll-Statement, map-Statement}
 use Rattle.c_tree.specs.declared.statement.Statement.TheOpen.{Statement-F}
-use Rattle.c_tree.specs.declared.statement.Arm.{Arm, fold-Arm}
+use Rattle.c_tree.specs.declared.statement.Arm.{Arm}
 use Rattle.c_language.specs.Code.{Part, ArmPart, part_step, arm_step, part}
-
--- an arm of a switch
-abbrev pub arm_part : Arm → ArmPart
-arm_part = fold-Arm Part ArmPart part_step arm_step
+use Rattle.c_language.proofs.CodeLemmas.{arm_part}
 
 -- the part that a layer is
 abbrev pub layer_part : Statement-F Statement Arm → Part

@@ -1,5 +1,5 @@
 -- Facts about expressions: what they read they name, and other numbers for their variables change nothing.
-use Rattle.std.proofs.Common.{◌≡◌, ℕ, ◌==◌, List, [], ◌∷◌, Option, Some, None, Bool, true, false, ◌||◌, inl, inr, refl, sym, ap, ◌∙◌, subst, eq-eqb}
+use Rattle.std.proofs.Common.{◌≡◌, ℕ, ◌==◌, List, [], ◌∷◌, Option, Some, None, Bool, true, false, ◌||◌, inl, inr, refl, sym, ap, ◌∙◌, subst, eq-eqb, ap₂}
 use mathlib.Core.Path.{subst₂}
 use Rattle.std.proofs.lemmas.Bool.{eqb-true}
 use Rattle.std.specs.Option.{option_map}
@@ -23,13 +23,14 @@ use Rattle.dep_model.specs.declared.location.Root.{Root}
 use Rattle.dep_model.specs.declared.location.Root.TheVariants.{Input, Variable, Site, Result}
 use Rattle.dep_model.specs.declared.location.Part.{Part}
 use Rattle.dep_model.proofs.PlainEffects as effect
-use Rattle.dep_model.proofs.PlainEffects.{variable, is_root_of, is_whole, is_variable, reads_step, reads, places_step, places}
+use Rattle.dep_model.proofs.PlainEffects.{is_root_of, is_whole, is_variable, reads_step, reads, places_step, places}
 use Rattle.projection.specs.Names.{names_step, names}
 use Rattle.projection.specs.Renumbering.{renamed}
 use Rattle.std.proofs.lemmas.Bool.{or_left, or_right, or_cases}
+use Rattle.std.proofs.lemmas.Option.{same_Some}
 use Rattle.c_tree.proofs.Trees.{ExprParts, expr_layer, of_every_expr}
-use Rattle.own_words.proofs.Lists.{two}
 use Rattle.own_words.proofs.Exprs.{fold_renamed, renamed_layer}
+use Rattle.dep_model.specs.Denoted.{variable}
 
 -- ---- locations of variables
 
@@ -82,14 +83,14 @@ module _ (f : ℕ → ℕ) (here there : Types) where
   evaluated_roll z h =
       subst₂ (λ u g. likeness u (reads (roll-Expr z)) g (meant there (renamed f (roll-Expr z)))) (sym (fold-roll-Expr (ℕ → Bool) names_step z)) (sym (fold-roll-Expr Meant (meant_step here) z)) (subst₂ (λ r k. likeness (layer_named z) r (means_here z) k) (sym (fold-roll-Expr (Location → Bool) reads_step z)) (sym (fold_renamed Meant (meant_step there) f z)) h)
 
-  -- two operands
+  -- ap₂ operands
   both_like : (op : BinaryOp) (a b c d : Meant) (m n : State) → a.type ≡ c.type → b.type ≡ d.type → a.value m ≡ c.value n → b.value m ≡ d.value n → binary_value op a.type b.type (a.value m) (b.value m) ≡ binary_value op c.type d.type (c.value n) (d.value n)
   both_like op a b c d m n p q u v =
-      two (λ s t. binary_value op s t (a.value m) (b.value m)) p q ∙ two (binary_value op c.type d.type) u v
+      ap₂ (λ s t. binary_value op s t (a.value m) (b.value m)) p q ∙ ap₂ (binary_value op c.type d.type) u v
 
   chosen_three : (t u : ExprType) (a b c d e g : Option Value) → t ≡ u → a ≡ b → c ≡ d → e ≡ g → chosen_value t a c e ≡ chosen_value u b d g
   chosen_three t u a b c d e g p q r w =
-      two (λ s x. chosen_value s x c e) p q ∙ two (chosen_value u b) r w
+      ap₂ (λ s x. chosen_value s x c e) p q ∙ ap₂ (chosen_value u b) r w
 
   -- members have the same types
   abbrev SameMembers : Type 0
@@ -99,26 +100,26 @@ module _ (f : ℕ → ℕ) (here there : Types) where
   evaluated_layer members (Expr-F.Variable x) = λ types. (types x (eq-eqb x x refl), λ m n h. h x (is_its_variable x))
   evaluated_layer members (Expr-F.Unary op a) = λ types.
       let like = a.1 types in
-      (ap (λ t. integer (unary_type op (promote (int_type t)))) like.0, λ m n h. two (unary_value op) like.0 (like.1 m n h))
+      (ap (λ t. integer (unary_type op (promote (int_type t)))) like.0, λ m n h. ap₂ (unary_value op) like.0 (like.1 m n h))
   evaluated_layer members (Expr-F.Deref a) = λ types. (ap pointee (a.1 types).0, λ m n h. refl)
   evaluated_layer members (Expr-F.AddressOf a) = λ types. (ap pointer_to (a.1 types).0, λ m n h. refl)
   evaluated_layer members (Expr-F.Binary op a b) = λ types.
       let left = a.1 (λ x n. types x (or_left (names a.0 x) (names b.0 x) n)) in
       let right = b.1 (λ x n. types x (or_right (names a.0 x) (names b.0 x) n)) in
-      (two (binary_tree_type op) left.0 right.0, λ m n h. both_like op (meant here a.0) (meant here b.0) (meant there (renamed f a.0)) (meant there (renamed f b.0)) m n left.0 right.0 (left.1 m n (λ x r. h x (or_left (reads a.0 (variable x)) (reads b.0 (variable x)) r))) (right.1 m n (λ x r. h x (or_right (reads a.0 (variable x)) (reads b.0 (variable x)) r))))
+      (ap₂ (binary_tree_type op) left.0 right.0, λ m n h. both_like op (meant here a.0) (meant here b.0) (meant there (renamed f a.0)) (meant there (renamed f b.0)) m n left.0 right.0 (left.1 m n (λ x r. h x (or_left (reads a.0 (variable x)) (reads b.0 (variable x)) r))) (right.1 m n (λ x r. h x (or_right (reads a.0 (variable x)) (reads b.0 (variable x)) r))))
   evaluated_layer members (Expr-F.AndAlso a b) = λ types.
       let left = a.1 (λ x n. types x (or_left (names a.0 x) (names b.0 x) n)) in
       let right = b.1 (λ x n. types x (or_right (names a.0 x) (names b.0 x) n)) in
-      (refl, λ m n h. two and_both (left.1 m n (λ x r. h x (or_left (reads a.0 (variable x)) (reads b.0 (variable x)) r))) (right.1 m n (λ x r. h x (or_right (reads a.0 (variable x)) (reads b.0 (variable x)) r))))
+      (refl, λ m n h. ap₂ and_both (left.1 m n (λ x r. h x (or_left (reads a.0 (variable x)) (reads b.0 (variable x)) r))) (right.1 m n (λ x r. h x (or_right (reads a.0 (variable x)) (reads b.0 (variable x)) r))))
   evaluated_layer members (Expr-F.OrElse a b) = λ types.
       let left = a.1 (λ x n. types x (or_left (names a.0 x) (names b.0 x) n)) in
       let right = b.1 (λ x n. types x (or_right (names a.0 x) (names b.0 x) n)) in
-      (refl, λ m n h. two or_both (left.1 m n (λ x r. h x (or_left (reads a.0 (variable x)) (reads b.0 (variable x)) r))) (right.1 m n (λ x r. h x (or_right (reads a.0 (variable x)) (reads b.0 (variable x)) r))))
+      (refl, λ m n h. ap₂ or_both (left.1 m n (λ x r. h x (or_left (reads a.0 (variable x)) (reads b.0 (variable x)) r))) (right.1 m n (λ x r. h x (or_right (reads a.0 (variable x)) (reads b.0 (variable x)) r))))
   evaluated_layer members (Expr-F.Choose c a b) = λ types.
       let test = c.1 (λ x n. types x (or_left (names c.0 x) (names a.0 x || names b.0 x) n)) in
       let left = a.1 (λ x n. types x (or_right (names c.0 x) (names a.0 x || names b.0 x) (or_left (names a.0 x) (names b.0 x) n))) in
       let right = b.1 (λ x n. types x (or_right (names c.0 x) (names a.0 x || names b.0 x) (or_right (names a.0 x) (names b.0 x) n))) in
-      let same : chosen_type (meant here a.0).type (meant here b.0).type ≡ chosen_type (meant there (renamed f a.0)).type (meant there (renamed f b.0)).type = two chosen_type left.0 right.0 in
+      let same : chosen_type (meant here a.0).type (meant here b.0).type ≡ chosen_type (meant there (renamed f a.0)).type (meant there (renamed f b.0)).type = ap₂ chosen_type left.0 right.0 in
       (same, λ m n h. chosen_three _ _ _ _ _ _ _ _ same (test.1 m n (λ x r. h x (or_left (reads c.0 (variable x)) (reads a.0 (variable x) || reads b.0 (variable x)) r))) (left.1 m n (λ x r. h x (or_right (reads c.0 (variable x)) (reads a.0 (variable x) || reads b.0 (variable x)) (or_left (reads a.0 (variable x)) (reads b.0 (variable x)) r)))) (right.1 m n (λ x r. h x (or_right (reads c.0 (variable x)) (reads a.0 (variable x) || reads b.0 (variable x)) (or_right (reads a.0 (variable x)) (reads b.0 (variable x)) r)))))
   evaluated_layer members (Expr-F.Cast t a) = λ types.
       let like = a.1 types in
@@ -221,13 +222,10 @@ no_left : (named : ℕ → Bool) → IsLeft None named (λ l. false) (λ l. fals
 no_left named =
     record { named_it = λ x e. cc; stored = λ x l e k. cc; may_store = λ l h. h; alone_it = λ x l h k. cc }
 
-pub some_inj : (x y : ℕ) → Some x ≡ Some y → x ≡ y
-some_inj x y e = cc
-
 a_variable : (y : ℕ) → IsLeft (Some y) (λ x. y == x) (is_variable y) (is_variable y)
 a_variable y = record {
-  named_it = λ x e. eq-eqb y x (some_inj y x e);
-  stored = λ x l e k. subst (λ n. is_variable n l ≡ true) (sym (some_inj y x e)) k;
+  named_it = λ x e. eq-eqb y x (same_Some y x e);
+  stored = λ x l e k. subst (λ n. is_variable n l ≡ true) (sym (same_Some y x e)) k;
   may_store = λ l h. h;
   alone_it = λ x l h k. ap Some (one_variable y x l h k);
 }

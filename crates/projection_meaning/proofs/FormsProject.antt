@@ -1,5 +1,5 @@
 -- The projection of each form of statement, from those of its parts.
-use Rattle.std.proofs.Common.{◌≡◌, ℕ, ℤ, List, [], ◌∷◌, ◌++◌, map, Option, None, Bool, true, false, refl, sym, ap, ◌∙◌, eq-eqb}
+use Rattle.std.proofs.Common.{◌≡◌, ℕ, ℤ, List, [], ◌∷◌, ◌++◌, map, Option, None, Bool, true, false, refl, sym, ap, ◌∙◌, eq-eqb, ap₂}
 use Rattle.std.specs.Option.{option_to_list}
 use Rattle.std.proofs.lemmas.Bool.{false≢true}
 use mathlib.Core.Path.{fun_ext}
@@ -18,10 +18,9 @@ use Rattle.projection.specs.Names.{names, target_names, stays}
 use Rattle.projection.specs.Renumbering.{renamed, renamed_target}
 use Rattle.projection.specs.Projection as Projection
 use Rattle.projection.specs.Projection.{if_so, bare, bare_target, alone}
-use Rattle.own_words.proofs.Words.{NamesPass, kept}
-use Rattle.own_words.proofs.Lists.{two}
+use Rattle.own_words.proofs.Words.{NamesPass, kept, same_numbers}
 use Rattle.projection_meaning.proofs.CodeNames.{act_names}
-use Rattle.projection_meaning.proofs.Projecting.{same_numbers, renamed_act, choose, renamed_all, project_code, NamesStay, IsNested}
+use Rattle.projection_meaning.proofs.Projecting.{renamed_act, choose, renamed_all, project_code, NamesStay, IsNested}
 use Rattle.projection_meaning.proofs.Sequences.{in_turn-append, declared-append, renamed_all-append, project_then, project_leave, nested_then, nested_leave, names_then, names_leave}
 use Rattle.projection_meaning.proofs.PartsProject.{gathered, part_form, for_form, part_list-map, alone_is, alone_declares, one_turn, one_declares, begun_turn, begun_declares}
 
@@ -62,7 +61,7 @@ module _ (p : Program) (keeps : ℕ → Bool) where
 
   pub makes_both : (q : Part) (ss : List Part) (xs ys : List Statement) → Makes q xs → Makes (gathered ss) ys → Makes (gathered (q ∷ ss)) (xs ++ ys)
   makes_both q ss xs ys h k = record {
-    declares = declared-append xs ys ∙ two (λ m n. m ++ n) h.declares k.declares ∙ sym (renamed_all-append keeps vars q.declares (declared ss));
+    declares = declared-append xs ys ∙ ap₂ (λ m n. m ++ n) h.declares k.declares ∙ sym (renamed_all-append keeps vars q.declares (declared ss));
     before = λ r. in_turn-append xs ys (project r) ∙ (ap (in_turn (map part xs)) (k.before r) ∙ h.before (in_turn ss r));
     nested = λ r n. h.nested (in_turn ss r) (k.nested r n);
     names = λ r n. h.names (in_turn ss r) (k.names r n);
@@ -80,7 +79,7 @@ module _ (p : Program) (keeps : ℕ → Bool) where
 
   pub turns_then : (a b c d : Code) → Turns a c → Turns b d → Turns (a ⨟ b) (c ⨟ d)
   turns_then a b c d h k = record {
-    same = project_then keeps vars a b ∙ two (λ x y. x ⨟ y) h.same k.same;
+    same = project_then keeps vars a b ∙ ap₂ (λ x y. x ⨟ y) h.same k.same;
     nested = nested_then keeps vars a b h.nested k.nested;
     names = names_then keeps vars a b h.names k.names;
   }
@@ -147,7 +146,7 @@ module _ (p : Program) (keeps : ℕ → Bool) where
   puts_do id e c d n h ends =
       let turn = puts_loop id e c d n h ends in
       record {
-        same = λ r. project_then keeps vars c (Loop id e c r) ∙ two (λ x y. x ⨟ y) h.same (turn.same r) ∙ chosen_then (keeps id) d (Loop (rank keeps id) (renamed (rank vars) e) d (project r)) (project r) ends;
+        same = λ r. project_then keeps vars c (Loop id e c r) ∙ ap₂ (λ x y. x ⨟ y) h.same (turn.same r) ∙ chosen_then (keeps id) d (Loop (rank keeps id) (renamed (rank vars) e) d (project r)) (project r) ends;
         nested = λ r k. nested_then keeps vars c (Loop id e c r) h.nested (turn.nested r k);
         names = λ r k. names_then keeps vars c (Loop id e c r) h.names (turn.names r k);
       }
@@ -155,16 +154,16 @@ module _ (p : Program) (keeps : ℕ → Bool) where
   -- ---- a for
 
   for_turn : (b : Bool) (l : ℕ) (x : Statement) (i : Option Statement) (f : Code → Code) (r : Code) → part x ≡ doing (λ c. list_of (part_list i) ⨟ f (leave (declared (part_list i)) c))
-      → in_turn (map part (if_so b (x ∷ []) (alone (kept p keeps) same_numbers l i))) r ≡ list_of (part_list i) ⨟ choose b (f (leave (declared (part_list i)) r)) (leave (declared (part_list i)) r)
+      → in_turn (map part (if_so b (x ∷ []) (alone l i))) r ≡ list_of (part_list i) ⨟ choose b (f (leave (declared (part_list i)) r)) (leave (declared (part_list i)) r)
   for_turn true l x i f r is = ap (λ (q : Part). q.before r) is
   for_turn false l x i f r is = alone_is (kept p keeps) same_numbers l i r
 
-  for_declares : (b : Bool) (l : ℕ) (x : Statement) (i : Option Statement) (f : Code → Code) → part x ≡ doing f → declared (map part (if_so b (x ∷ []) (alone (kept p keeps) same_numbers l i))) ≡ []
+  for_declares : (b : Bool) (l : ℕ) (x : Statement) (i : Option Statement) (f : Code → Code) → part x ≡ doing f → declared (map part (if_so b (x ∷ []) (alone l i))) ≡ []
   for_declares true l x i f is = ap (λ (q : Part). q.declares ++ []) is
   for_declares false l x i f is = alone_declares (kept p keeps) same_numbers l i
 
   pub makes_for : (id l : ℕ) (ss : List Part) (i : Option Statement) (e : Expr) (step : Option Statement) (b : List Statement) (c : Code) → Makes (gathered ss) (option_to_list i) → Named id (names e) → Turns c (block_of b ⨟ list_of (part_list step)) → (keeps id ≡ false → block_of b ⨟ list_of (part_list step) ≡ End)
-      → Makes (doing (λ r. list_of ss ⨟ Loop id e c (leave (declared ss) r))) (if_so (keeps id) (s.For (rank keeps id) l i (renamed (rank vars) e) step b ∷ []) (alone (kept p keeps) same_numbers l i))
+      → Makes (doing (λ r. list_of ss ⨟ Loop id e c (leave (declared ss) r))) (if_so (keeps id) (s.For (rank keeps id) l i (renamed (rank vars) e) step b ∷ []) (alone l i))
   makes_for id l ss i e step b c first n body ends =
       let d : Code = block_of b ⨟ list_of (part_list step) in
       let begins = turns_list ss (option_to_list i) first in
@@ -174,7 +173,7 @@ module _ (p : Program) (keeps : ℕ → Bool) where
       record {
         declares = for_declares (keeps id) l _ i _ form;
         before = λ r. for_turn (keeps id) l (s.For (rank keeps id) l i (renamed (rank vars) e) step b) i (Loop (rank keeps id) (renamed (rank vars) e) d) (project r) form
-            ∙ two (λ x y. x ⨟ choose (keeps id) (Loop (rank keeps id) (renamed (rank vars) e) d y) y) (ap list_of (sym lists) ∙ sym begins.same) (ap (λ ps. leave (declared ps) (project r)) (sym lists) ∙ ap (λ ns. leave ns (project r)) first.declares ∙ sym (project_leave keeps vars (declared ss) r))
+            ∙ ap₂ (λ x y. x ⨟ choose (keeps id) (Loop (rank keeps id) (renamed (rank vars) e) d y) y) (ap list_of (sym lists) ∙ sym begins.same) (ap (λ ps. leave (declared ps) (project r)) (sym lists) ∙ ap (λ ns. leave ns (project r)) first.declares ∙ sym (project_leave keeps vars (declared ss) r))
             ∙ ap (λ y. project (list_of ss) ⨟ y) (sym (turn.same (leave (declared ss) r)))
             ∙ sym (project_then keeps vars (list_of ss) (Loop id e c (leave (declared ss) r)));
         nested = λ r k. nested_then keeps vars (list_of ss) (Loop id e c (leave (declared ss) r)) begins.nested (turn.nested (leave (declared ss) r) (nested_leave keeps vars (declared ss) r k));
@@ -183,15 +182,15 @@ module _ (p : Program) (keeps : ℕ → Bool) where
 
   -- ---- a block, which stays where something in it does
 
-  block_turn : (l : ℕ) (xs : List Statement) (r : Code) → in_turn (map part (Projection.block_of (kept p keeps) same_numbers l xs)) r ≡ block_of xs ⨟ r
+  block_turn : (l : ℕ) (xs : List Statement) (r : Code) → in_turn (map part (Projection.block_of l xs)) r ≡ block_of xs ⨟ r
   block_turn l [] r = refl
   block_turn l (x ∷ xs) r = ap (λ (q : Part). q.before r) (part_form (s.Block l (x ∷ xs)) (Statement-F.Block l (x ∷ xs)) (s.rolls-Block l (x ∷ xs)))
 
-  block_declares : (l : ℕ) (xs : List Statement) → declared (map part (Projection.block_of (kept p keeps) same_numbers l xs)) ≡ []
+  block_declares : (l : ℕ) (xs : List Statement) → declared (map part (Projection.block_of l xs)) ≡ []
   block_declares l [] = refl
   block_declares l (x ∷ xs) = ap (λ (q : Part). q.declares ++ []) (part_form (s.Block l (x ∷ xs)) (Statement-F.Block l (x ∷ xs)) (s.rolls-Block l (x ∷ xs)))
 
-  pub makes_block : (l : ℕ) (ss : List Part) (xs : List Statement) → Makes (gathered ss) xs → Makes (doing (λ r. block ss ⨟ r)) (Projection.block_of (kept p keeps) same_numbers l xs)
+  pub makes_block : (l : ℕ) (ss : List Part) (xs : List Statement) → Makes (gathered ss) xs → Makes (doing (λ r. block ss ⨟ r)) (Projection.block_of l xs)
   makes_block l ss xs h =
       let inside = turns_block ss xs h in
       record {

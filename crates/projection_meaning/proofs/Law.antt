@@ -1,9 +1,9 @@
 -- A slice follows its original: a law over what acts may use, define and kill, which looks at no form of statement.
 use Rattle.std.proofs.Common.{◌≡◌, ℕ, Option, Some, None, Bool, true, false, ◌⊎◌, inl, inr, refl, sym, ap, ◌∙◌, arith}
-use Rattle.projection.proofs.RankLemmas.{by_bool}
 use Rattle.c_meaning.specs.Meaning.{Trace, Ended}
 use Rattle.projection_meaning.proofs.Bools.{fails_too}
 use Rattle.projection_meaning.proofs.Runs.{Step, Stops, Fails, Acts, Moves, Machine, Runs, Replies, EndsToo, follows}
+use Rattle.c_language.proofs.Tests.{by_answer}
 
 -- how a place goes on: not at all, without an act, or by an act
 pub data Kind : Type 0 where
@@ -158,7 +158,7 @@ module _ (s : Setting) (shaped : Shaped s) (acting : Acting s) (moving : Moving 
           fine = shaped.fine_next p v r.fine active;
           place = shaped.kept_next like.world p v u r.fine active kept like.alike;
           fits = like.fits;
-          same = λ l want. by_bool (s.effects.kills p l) (s.Same like.world l (s.original.store p v a.memory) (s.slice.store (s.project p) u b.memory)) (λ k. like.same l (inl k)) (λ k. like.same l (inr (r.same l (later v active k want))));
+          same = λ l want. by_answer (s.effects.kills p l) (λ k. like.same l (inl k)) (λ k. like.same l (inr (r.same l (later v active k want))));
           traces = telling.both like.world p v u a.trace b.trace r.fine active kept like.alike r.traces;
         },
       )
@@ -172,7 +172,7 @@ module _ (s : Setting) (shaped : Shaped s) (acting : Acting s) (moving : Moving 
         fine = shaped.fine_next p v r.fine active;
         place = r.place ∙ sym (shaped.other_next p v r.fine active kept);
         fits = acting.other_fits r.world p a.memory b.memory v r.fine active kept r.fits made;
-        same = λ l want. by_bool (s.effects.defines p l) (s.Same r.world l (s.original.store p v a.memory) b.memory) (λ d. let k = closing.closed p v l r.fine active want d in cc) (λ d. acting.other_same r.world p a.memory b.memory v r.fine active kept r.fits made l d (r.same l (later v active (fails_too (s.effects.defines p l) (s.effects.kills p l) d (closing.killed p l)) want)));
+        same = λ l want. by_answer (s.effects.defines p l) (λ d. let k = closing.closed p v l r.fine active want d in cc) (λ d. acting.other_same r.world p a.memory b.memory v r.fine active kept r.fits made l d (r.same l (later v active (fails_too (s.effects.defines p l) (s.effects.kills p l) d (closing.killed p l)) want)));
         traces = telling.one p v a.trace b.trace r.fine active kept r.traces;
       }
 
@@ -210,12 +210,12 @@ module _ (s : Setting) (shaped : Shaped s) (acting : Acting s) (moving : Moving 
   by_values : (a b : Config s.P s.M) → Related s a b → s.original.kind a.place ≡ Active → (o : Option s.V) → s.original.values a.place a.memory ≡ o → Replied (on_values s.original a.place a.memory a.trace o) b
   by_values a b r active None made = tt
   by_values a b r active (Some v) made =
-      by_bool (s.effects.kept a.place) (Replied (on_values s.original a.place a.memory a.trace (Some v)) b) (λ k. inl (act_of_both a b r active k v made)) (λ k. inr (act_of_one a b r active k v made))
+      by_answer (s.effects.kept a.place) (λ k. inl (act_of_both a b r active k v made)) (λ k. inr (act_of_one a b r active k v made))
 
   by_kind : (a b : Config s.P s.M) → Related s a b → (k : Kind) → s.original.kind a.place ≡ k → Replied (on_kind s.original a.place a.memory a.trace k) b
   by_kind a b r Last e = ap (on_kind s.slice b.place b.memory b.trace) (ap s.slice.kind r.place ∙ shaped.last a.place r.fine e)
   by_kind a b r Silent e =
-      by_bool (s.effects.kept a.place) (Replied (on_kind s.original a.place a.memory a.trace Silent) b) (λ k. inl (move_of_both a b r e k)) (λ k. inr (move_of_one a b r e k))
+      by_answer (s.effects.kept a.place) (λ k. inl (move_of_both a b r e k)) (λ k. inr (move_of_one a b r e k))
   by_kind a b r Active e = by_values a b r e (s.original.values a.place a.memory) refl
 
   -- each step of the original is answered

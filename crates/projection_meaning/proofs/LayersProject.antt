@@ -1,5 +1,5 @@
 -- The projection of each layer of a statement, from what is known of the statements and arms in it.
-use Rattle.std.proofs.Common.{◌≡◌, ℕ, ℤ, List, [], ◌∷◌, append-nil, map, Option, Some, None, Bool, true, false, ◌&&◌, ◌||◌, ◌==◌, eq-eqb, refl, sym, ap, ◌∙◌, subst}
+use Rattle.std.proofs.Common.{◌≡◌, ℕ, ℤ, List, [], ◌∷◌, append-nil, map, Option, Some, None, Bool, true, false, ◌&&◌, ◌||◌, ◌==◌, eq-eqb, refl, sym, ap, ◌∙◌, subst, ap₂}
 use Rattle.std.specs.Option.{option_to_list}
 use Rattle.std.specs.Prelude.{option_map}
 use Rattle.std.proofs.lemmas.Bool.{false≢true, and_parts, or_parts, or_left, and_from}
@@ -24,12 +24,11 @@ use Rattle.projection.specs.Projection as Projection
 use Rattle.projection_laws.specs.Nested.{governs}
 use Rattle.projection_laws.specs.Staying.{Rest, any_stays, all_clear, rest_step, rest_arm}
 use Rattle.own_words.proofs.Parts.{short}
-use Rattle.own_words.proofs.Words.{NamesPass, left_pass, right_pass, kept}
+use Rattle.own_words.proofs.Words.{NamesPass, left_pass, right_pass, kept, same_numbers}
 use Rattle.own_words.proofs.Forms.{left, arm_left, all_left, part_left, step_left, refers_to_arm, step_refers}
-use Rattle.own_words.proofs.Lists.{two}
 use Rattle.projection_meaning.proofs.Codes.{layer_part, part-roll}
 use Rattle.projection_meaning.proofs.CodeNames.{act_names}
-use Rattle.projection_meaning.proofs.Projecting.{same_numbers, renamed_act}
+use Rattle.projection_meaning.proofs.Projecting.{renamed_act}
 use Rattle.projection_meaning.proofs.NothingLeft.{subjects, rested, arm_rested, layer_rest, rest-roll, left-roll, nothing_left, none_left}
 use Rattle.projection_meaning.proofs.PartsProject.{gathered, part_form, part_list-map}
 use Rattle.projection_meaning.proofs.FormsProject.{Makes, Turns, Puts, makes_none, makes_both, turns_list, turns_block, turns_then, makes_one, makes_begun, makes_bare, makes_given, puts_act, puts_fork, puts_loop, puts_do, makes_for, makes_block}
@@ -99,7 +98,7 @@ module _ (p : Program) (keeps : ℕ → Bool) where
       → (governs (keeps id) (part_stays (subject step) || any_stays (map (rested p keeps) (subjects ys))) && (part_clear (subject i) && (part_clear (subject step) && all_clear (map (rested p keeps) (subjects ys))))) ≡ true
       → NamesPass (λ v. (keeps id && names e v) || (part_refers (subject i) v || (part_refers (subject step) v || either (map (refers keeps) (subjects ys)) v))) vars
       → Makes p keeps (doing (λ r. list_of (part_list (subject i)) ⨟ Loop id e (block_of (subjects ys) ⨟ list_of (part_list (subject step))) (leave (declared (part_list (subject i))) r)))
-      (if_so (keeps id) (s.For (rank keeps id) l (part_left p keeps (subject i)) (renamed (rank vars) e) (part_left p keeps (subject step)) (all_left p keeps (subjects ys)) ∷ []) (Projection.alone (kept p keeps) same_numbers l (part_left p keeps (subject i))))
+      (if_so (keeps id) (s.For (rank keeps id) l (part_left p keeps (subject i)) (renamed (rank vars) e) (part_left p keeps (subject step)) (all_left p keeps (subjects ys)) ∷ []) (Projection.alone l (part_left p keeps (subject i))))
   for_fits id l i e step ys c n =
       let stay = any_stays (map (rested p keeps) (subjects ys)) in
       let clear = all_clear (map (rested p keeps) (subjects ys)) in
@@ -114,7 +113,7 @@ module _ (p : Program) (keeps : ℕ → Bool) where
       (part_fits i parts.0 (left_pass (part_refers (subject i)) (λ v. part_refers (subject step) v || inner v) inside))
       (own_named id (names e) (left_pass (λ v. keeps id && names e v) (λ v. part_refers (subject i) v || (part_refers (subject step) v || inner v)) n))
       (turns_then p keeps (block_of (subjects ys)) (list_of (part_list (subject step))) _ _ (block_fits ys repeated.1 (right_pass (part_refers (subject step)) inner behind)) (subst (λ ps. Turns p keeps (list_of (part_list (subject step))) (list_of ps)) (part_list-map (part_left p keeps (subject step))) steps))
-      (λ k. let none = or_parts (part_stays (subject step)) stay (unkept_none (keeps id) (part_stays (subject step) || stay) split.0 k) in two (λ b o. b ⨟ list_of (part_list o)) (no_block (subjects ys) none.1) (no_part (subject step) none.0))
+      (λ k. let none = or_parts (part_stays (subject step)) stay (unkept_none (keeps id) (part_stays (subject step) || stay) split.0 k) in ap₂ (λ b o. b ⨟ list_of (part_list o)) (no_block (subjects ys) none.1) (no_part (subject step) none.0))
 
   -- ---- the arms of a switch
 

@@ -2,13 +2,13 @@
 use Rattle.std.proofs.Common.{◌≡◌, ◌≢◌, ℕ, List, [], ◌∷◌, length, Some, Bool, true, false, ◌||◌, inl, inr, sym, ap, ◌∙◌, subst}
 use Rattle.std.proofs.lemmas.Bool.{or_left, or_right}
 use Rattle.std.proofs.lemmas.Bool.Decides.{eqb_tells}
+use Rattle.c_language.proofs.Tests.{by_answer}
 use Rattle.c_language.specs.Code.{Code, End, Opens, Plain, Fork, Loop, Leaves, Call}
 use Rattle.c_meaning.specs.Values.{Types, State, opened, closed, all_closed}
 use Rattle.c_meaning.proofs.Frames.{variable_value, opened_here, opened_other, unwritten_here, opened_elsewhere, opened_framed}
 use Rattle.c_meaning.proofs.Closing.{closed_other, gone_here, closed_elsewhere, before_closing, closed_framed}
 use Rattle.dep_model.specs.declared.location.Location.{Location}
 use Rattle.projection.specs.Kept.{rank}
-use Rattle.projection.proofs.RankLemmas.{by_bool}
 use Rattle.projection_meaning.proofs.Acts.{Same, Fits}
 use Rattle.projection_meaning.proofs.Bools.{fails_too}
 use Rattle.projection_meaning.proofs.Law.{Silent}
@@ -86,12 +86,12 @@ module _ (here there : Types) (keeps stays : ℕ → Bool) where
   pub all_closed_both : (xs : List ℕ) (m n : State) → Fits (rank stays) stays m n → Fits (rank stays) stays (all_closed xs m) (all_closed (renamed_all keeps stays xs) n)
   all_closed_both [] m n fits = fits
   all_closed_both (x ∷ xs) m n fits =
-      by_bool (stays x) (Fits (rank stays) stays (all_closed xs (closed x m)) (all_closed (renamed_all keeps stays (x ∷ xs)) n)) (λ sx. rw sx (all_closed_both xs (closed x m) (closed (rank stays x) n) (closed_both x m n sx fits))) (λ sx. rw sx (all_closed_both xs (closed x m) n (closed_one x m n fits)))
+      by_answer (stays x) (λ sx. rw sx (all_closed_both xs (closed x m) (closed (rank stays x) n) (closed_both x m n sx fits))) (λ sx. rw sx (all_closed_both xs (closed x m) n (closed_one x m n fits)))
 
   pub all_closed_same : (xs : List ℕ) (m n : State) (l : Location) → Fits (rank stays) stays m n → Same (rank stays) stays l m n → Same (rank stays) stays l (all_closed xs m) (all_closed (renamed_all keeps stays xs) n)
   all_closed_same [] m n l fits h = h
   all_closed_same (x ∷ xs) m n l fits h =
-      by_bool (stays x) (Same (rank stays) stays l (all_closed xs (closed x m)) (all_closed (renamed_all keeps stays (x ∷ xs)) n)) (λ sx. rw sx (all_closed_same xs (closed x m) (closed (rank stays x) n) l (closed_both x m n sx fits) (closed_same x m n l sx fits h))) (λ sx. rw sx (all_closed_same xs (closed x m) n l (closed_one x m n fits) (closed_one_same x m n l sx fits h)))
+      by_answer (stays x) (λ sx. rw sx (all_closed_same xs (closed x m) (closed (rank stays x) n) l (closed_both x m n sx fits) (closed_same x m n l sx fits h))) (λ sx. rw sx (all_closed_same xs (closed x m) n l (closed_one x m n fits) (closed_one_same x m n l sx fits h)))
 
   -- ---- the end of a block of which nothing stays
 

@@ -1,5 +1,5 @@
 -- Nothing is left of a statement of which nothing stays.
-use Rattle.std.proofs.Common.{◌≡◌, ℕ, List, [], ◌∷◌, ◌++◌, map, Some, None, Bool, false, ◌||◌, refl, sym, ap, ◌∙◌}
+use Rattle.std.proofs.Common.{◌≡◌, ℕ, List, [], ◌∷◌, ◌++◌, map, Some, None, Bool, false, ◌||◌, refl, sym, ap, ◌∙◌, ap₂}
 use Rattle.std.proofs.lemmas.Bool.{or_parts}
 use Rattle.c_tree.specs.declared.program.Program.{Program}
 use Rattle.c_tree.specs.declared.statement.Arm.{Arm, fold-Arm}
@@ -13,11 +13,9 @@ use Rattle.projection.specs.Projection.{if_so, first_of, projected_step, project
 use Rattle.projection.specs.Projection as Projection
 use Rattle.projection_laws.specs.Staying as Staying
 use Rattle.projection_laws.specs.Staying.{Rest, any_stays, rest_step, rest_arm, rest}
-use Rattle.own_words.proofs.Words.{kept}
+use Rattle.own_words.proofs.Words.{kept, same_numbers}
 use Rattle.own_words.proofs.Forms.{left, all_left, step_left}
-use Rattle.own_words.proofs.Parts.{not_so}
-use Rattle.own_words.proofs.Lists.{two}
-use Rattle.projection_meaning.proofs.Projecting.{same_numbers}
+use Rattle.c_scope_laws.proofs.TreeLevels.{unchosen}
 
 -- the subjects of facts
 abbrev pub subjects : {A : Type 0} {Q : A → Type 0} → List ((x : A) × Q x) → List A
@@ -50,36 +48,36 @@ module _ (p : Program) (keeps : ℕ → Bool) where
 
   all_leave : (ys : List ((x : Statement) × Leaves x)) → any_stays (map rested (subjects ys)) ≡ false → all_left p keeps (subjects ys) ≡ []
   all_leave [] h = refl
-  all_leave (y ∷ ys) h = let both = or_parts (rested y.0).stays (any_stays (map rested (subjects ys))) h in two (λ xs zs. xs ++ zs) (y.1 both.0) (all_leave ys both.1)
+  all_leave (y ∷ ys) h = let both = or_parts (rested y.0).stays (any_stays (map rested (subjects ys))) h in ap₂ (λ xs zs. xs ++ zs) (y.1 both.0) (all_leave ys both.1)
 
   leaves_either : (b c : Bool) (xs ys : List Statement) → (b || c) ≡ false → if_so b xs (if_so c ys []) ≡ []
-  leaves_either b c xs ys h = let both = or_parts b c h in not_so b xs (if_so c ys []) both.0 ∙ not_so c ys [] both.1
+  leaves_either b c xs ys h = let both = or_parts b c h in unchosen xs (if_so c ys []) both.0 ∙ unchosen ys [] both.1
 
   leaves_given : (b : Bool) (l : ℕ) (to : Target) (xs : List Statement) → (b || Staying.target_stays keeps vars to) ≡ false → if_so b xs (Projection.bare_target (kept p keeps) same_numbers l to) ≡ []
-  leaves_given b l target.None xs h = not_so b xs [] (or_parts b false h).0
-  leaves_given b l (target.Place a) xs h = not_so b xs [] (or_parts b false h).0
+  leaves_given b l target.None xs h = unchosen xs [] (or_parts b false h).0
+  leaves_given b l (target.Place a) xs h = unchosen xs [] (or_parts b false h).0
   leaves_given b l (target.Declared x) xs h = leaves_either b (vars x) xs _ h
 
   leaves_layer : (y : StatementParts Leaves LeavesArm) → (layer_rest (statement_layer Leaves LeavesArm y)).stays ≡ false → step_left p keeps (statement_layer Leaves LeavesArm y) ≡ []
-  leaves_layer (Statement-F.Declare None l x i) h = not_so (vars x) _ [] h
+  leaves_layer (Statement-F.Declare None l x i) h = unchosen _ [] h
   leaves_layer (Statement-F.Declare (Some id) l x i) h = leaves_either (keeps id) (vars x) _ _ h
-  leaves_layer (Statement-F.Assign id l a op b) h = not_so (keeps id) _ [] h
-  leaves_layer (Statement-F.Bump id l a up before) h = not_so (keeps id) _ [] h
+  leaves_layer (Statement-F.Assign id l a op b) h = unchosen _ [] h
+  leaves_layer (Statement-F.Bump id l a up before) h = unchosen _ [] h
   leaves_layer (Statement-F.Invoke id l to f args) h = leaves_given (keeps id) l to _ h
   leaves_layer (Statement-F.Fetch id l to) h = leaves_given (keeps id) l to _ h
-  leaves_layer (Statement-F.Write id l a) h = not_so (keeps id) _ [] h
-  leaves_layer (Statement-F.Print id l format args) h = not_so (keeps id) _ [] h
+  leaves_layer (Statement-F.Write id l a) h = unchosen _ [] h
+  leaves_layer (Statement-F.Print id l format args) h = unchosen _ [] h
   leaves_layer (Statement-F.Heap id l to cast n) h = leaves_given (keeps id) l to _ h
-  leaves_layer (Statement-F.Release id l a) h = not_so (keeps id) _ [] h
-  leaves_layer (Statement-F.If id l e a b) h = not_so (keeps id) _ [] h
-  leaves_layer (Statement-F.While id l e b) h = not_so (keeps id) _ [] h
-  leaves_layer (Statement-F.Do id l e b) h = not_so (keeps id) _ [] h
-  leaves_layer (Statement-F.For id l None e step b) h = not_so (keeps id) _ [] (or_parts (keeps id) false h).0
+  leaves_layer (Statement-F.Release id l a) h = unchosen _ [] h
+  leaves_layer (Statement-F.If id l e a b) h = unchosen _ [] h
+  leaves_layer (Statement-F.While id l e b) h = unchosen _ [] h
+  leaves_layer (Statement-F.Do id l e b) h = unchosen _ [] h
+  leaves_layer (Statement-F.For id l None e step b) h = unchosen _ [] (or_parts (keeps id) false h).0
   leaves_layer (Statement-F.For id l (Some i) e step b) h =
-      let both = or_parts (keeps id) (rested i.0).stays h in not_so (keeps id) _ _ both.0 ∙ ap (λ xs. Projection.alone (kept p keeps) same_numbers l (first_of xs)) (i.1 both.1)
-  leaves_layer (Statement-F.Switch id l e arms) h = not_so (keeps id) _ [] h
-  leaves_layer (Statement-F.Block l b) h = ap (Projection.block_of (kept p keeps) same_numbers l) (all_leave b h)
-  leaves_layer (Statement-F.Return id l a) h = not_so (keeps id) _ [] h
+      let both = or_parts (keeps id) (rested i.0).stays h in unchosen _ _ both.0 ∙ ap (λ xs. Projection.alone l (first_of xs)) (i.1 both.1)
+  leaves_layer (Statement-F.Switch id l e arms) h = unchosen _ [] h
+  leaves_layer (Statement-F.Block l b) h = ap (Projection.block_of l) (all_leave b h)
+  leaves_layer (Statement-F.Return id l a) h = unchosen _ [] h
 
   leaves_roll : (z : Statement-F Statement Arm) → ((layer_rest z).stays ≡ false → step_left p keeps z ≡ []) → Leaves (roll-Statement z)
   leaves_roll z h stay = left-roll z ∙ h (sym (ap (λ (r : Rest). r.stays) (rest-roll z)) ∙ stay)
@@ -91,4 +89,4 @@ module _ (p : Program) (keeps : ℕ → Bool) where
   pub none_left : (xs : List Statement) → any_stays (map rested xs) ≡ false → all_left p keeps xs ≡ []
   none_left [] h = refl
   none_left (x ∷ xs) h =
-      let both = or_parts (rested x).stays (any_stays (map rested xs)) h in two (λ ys zs. ys ++ zs) (nothing_left x both.0) (none_left xs both.1)
+      let both = or_parts (rested x).stays (any_stays (map rested xs)) h in ap₂ (λ ys zs. ys ++ zs) (nothing_left x both.0) (none_left xs both.1)

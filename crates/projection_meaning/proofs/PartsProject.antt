@@ -121,11 +121,11 @@ module _ (k : Kept) (g : ℕ → ℕ) where
   chosen_declares l x false h = ap (λ xs. xs ++ []) (h refl)
 
   -- what a for begins with, without the for, ends what it declares
-  pub alone_is : (l : ℕ) (o : Option Statement) (r : Code) → in_turn (map part (alone k g l o)) r ≡ list_of (part_list o) ⨟ leave (declared (part_list o)) r
+  pub alone_is : (l : ℕ) (o : Option Statement) (r : Code) → in_turn (map part (alone l o)) r ≡ list_of (part_list o) ⨟ leave (declared (part_list o)) r
   alone_is l None r = refl
   alone_is l (Some x) r = chosen_alone l x (is_declaring x) r (undeclaring x)
 
-  pub alone_declares : (l : ℕ) (o : Option Statement) → declared (map part (alone k g l o)) ≡ []
+  pub alone_declares : (l : ℕ) (o : Option Statement) → declared (map part (alone l o)) ≡ []
   alone_declares l None = refl
   alone_declares l (Some x) = chosen_declares l x (is_declaring x) (undeclaring x)
 

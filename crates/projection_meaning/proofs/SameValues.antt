@@ -1,5 +1,5 @@
 -- Where a program of main alone over integers ends, its projection to a closed set ends with the same values at kept statements.
-use Rattle.std.proofs.Common.{◌≡◌, ℕ, suc, List, [], ◌∷◌, ◌++◌, map, Option, Some, None, Bool, true, false, refl, sym, ap, ◌∙◌, subst}
+use Rattle.std.proofs.Common.{◌≡◌, ℕ, suc, List, [], ◌∷◌, ◌++◌, map, Option, Some, None, Bool, true, false, refl, sym, ap, ◌∙◌, subst, ap₂}
 use mathlib.Core.Path.{subst₂}
 use Rattle.std.specs.Prelude.{slice_get, option_map}
 use Rattle.std.specs.Option.{option_map_or}
@@ -31,7 +31,6 @@ use Rattle.projection.specs.Names.{stays}
 use Rattle.projection.specs.Projection.{projected_functions, projected_var, kept_with, projection}
 use Rattle.projection_laws.specs.Nested as laws
 use Rattle.projection_laws.proofs.Clearing.{nested_clear}
-use Rattle.own_words.proofs.Lists.{two}
 use Rattle.projection_meaning.specs.SameValues.{ranked, StandFor, HasSameValues}
 use Rattle.projection_meaning.specs.Laws.{keeps_of, IsFlowClosed}
 use Rattle.projection_meaning.proofs.Bools.{fails_too}
@@ -42,11 +41,12 @@ use Rattle.projection_meaning.proofs.Law.{Active, Setting, Shaped, Acting, Movin
 use Rattle.projection_meaning.proofs.Places.{kind_of, number, act_of, places, NoCalls-next, NoCalls-past, Within, Within-next, Within-past, kept_at, effects, kept_act, wanted_closed}
 use Rattle.projection_meaning.proofs.Steps.{begins, meaning_runs, runs_meaning}
 use Rattle.projection_meaning.proofs.Acts.{Same, Fits, act_kept, act_other, kills_defined}
-use Rattle.projection_meaning.proofs.Projecting.{same_numbers, renamed_act, project_code, NamesStay, IsNested}
+use Rattle.projection_meaning.proofs.Projecting.{renamed_act, project_code, NamesStay, IsNested}
 use Rattle.projection_meaning.proofs.Shape.{shape_last, shape_kind, shape_number, shape_act, shape_next, shape_past, shape_skips_act, shape_skips_move, IsNested-next, IsNested-past, NamesStay-next, NamesStay-past, stays_here}
 use Rattle.projection_meaning.proofs.Moves.{move_both_fits, move_both, move_one_fits, move_one}
 use Rattle.projection_meaning.proofs.StatementsProject.{main_projects}
 use Rattle.projection_meaning.proofs.Events.{SameAt, both_tell, one_tells}
+use Rattle.own_words.proofs.Words.{same_numbers}
 
 -- ---- the types of a projection
 
@@ -190,4 +190,4 @@ same_values p q a kept set ranks well numbered is nested closed held stand same 
     let there = main_projects p keeps numbered.integer (nested_clear p keeps numbered.integer nested well) in
     let flow = λ (v w : Step) (f : FlowEdge (main_code p) v w) (kw : keeps w.id ≡ true). closed (record { from = suc v.id; to = suc w.id; label = Flow }) (plain_flow p a numbered is v w f) kw in
     let r = main_follows p keeps flow set ranks held stand there.1.0 (integer_no_calls p numbered.integer) there.1.1 n input t ends in
-    (r.0, two (λ s c. code_meaning s n c input) (same_types q (projection p keeps) same) (same_main q (projection p keeps) same ∙ there.0) ∙ r.1, r.2)
+    (r.0, ap₂ (λ s c. code_meaning s n c input) (same_types q (projection p keeps) same) (same_main q (projection p keeps) same ∙ there.0) ∙ r.1, r.2)

@@ -5,8 +5,9 @@ use Rattle.c_language.specs.Code.{Code, End, Opens, Plain, Fork, Loop, Leaves, C
 use Rattle.projection.specs.Kept.{rank}
 use Rattle.projection.specs.Renumbering.{renamed, renamed_target}
 use Rattle.projection.specs.Projection.{if_so}
-use Rattle.projection.proofs.RankLemmas.{by_bool}
-use Rattle.projection_meaning.proofs.Projecting.{any_passes, same_numbers, renamed_act, choose, renamed_all, project_code, NamesStay, IsNested}
+use Rattle.projection_meaning.proofs.Projecting.{any_passes, renamed_act, choose, renamed_all, project_code, NamesStay, IsNested}
+use Rattle.c_language.proofs.Tests.{by_answer}
+use Rattle.own_words.proofs.Words.{same_numbers}
 
 pub then_end : (a : Code) → a ⨟ End ≡ a
 then_end End = refl
@@ -48,13 +49,13 @@ declared-append (x ∷ xs) ys =
 pub leaves_kept : (keeps stays : ℕ → Bool) (xs : List ℕ) (r : Code) → any_passes stays xs ≡ true → leave (renamed_all keeps stays xs) r ≡ Leaves (renamed_all keeps stays xs) r
 leaves_kept keeps stays [] r k = cc
 leaves_kept keeps stays (x ∷ xs) r k =
-    by_bool (stays x) (leave (renamed_all keeps stays (x ∷ xs)) r ≡ Leaves (renamed_all keeps stays (x ∷ xs)) r) (λ sx. rw sx refl) (λ sx. rw sx (leaves_kept keeps stays xs r (rw sx at k)))
+    by_answer (stays x) (λ sx. rw sx refl) (λ sx. rw sx (leaves_kept keeps stays xs r (rw sx at k)))
 
 -- and goes where none of them does
 pub leaves_gone : (keeps stays : ℕ → Bool) (xs : List ℕ) (r : Code) → any_passes stays xs ≡ false → leave (renamed_all keeps stays xs) r ≡ r
 leaves_gone keeps stays [] r k = refl
 leaves_gone keeps stays (x ∷ xs) r k =
-    by_bool (stays x) (leave (renamed_all keeps stays (x ∷ xs)) r ≡ r) (λ sx. let t = rw sx at k in cc) (λ sx. rw sx (leaves_gone keeps stays xs r (rw sx at k)))
+    by_answer (stays x) (λ sx. let t = rw sx at k in cc) (λ sx. rw sx (leaves_gone keeps stays xs r (rw sx at k)))
 
 module _ (keeps vars : ℕ → Bool) where
   abbrev project : Code → Code

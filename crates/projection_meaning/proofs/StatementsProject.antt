@@ -15,9 +15,9 @@ use Rattle.projection.specs.Names.{refers, body_refers, stays}
 use Rattle.projection.specs.Projection.{projection}
 use Rattle.projection.specs.Projection as Projection
 use Rattle.projection_laws.specs.Staying.{is_clear, IsClear}
-use Rattle.own_words.proofs.Words.{NamesPass, left_pass, right_pass, kept}
+use Rattle.own_words.proofs.Words.{NamesPass, left_pass, right_pass, kept, same_numbers}
 use Rattle.own_words.proofs.Forms.{left, all_left}
-use Rattle.projection_meaning.proofs.Projecting.{same_numbers, project_code, NamesStay, IsNested}
+use Rattle.projection_meaning.proofs.Projecting.{project_code, NamesStay, IsNested}
 use Rattle.projection_meaning.proofs.PartsProject.{gathered}
 use Rattle.projection_meaning.proofs.FormsProject.{Makes, makes_none, makes_both}
 use Rattle.projection_meaning.proofs.LayersProject.{fits}

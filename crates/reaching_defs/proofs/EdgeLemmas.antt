@@ -15,11 +15,11 @@ use Rattle.dep_model.specs.Follows.{Chain, last, more}
 use Rattle.dep_model.specs.EdgeOrder.{ends, AreAscendingEdges}
 use Rattle.dep_model.specs.PairOrder.{precedes, AreAscending}
 use Rattle.rule_closure.proofs.ListLemmas.{contains_map, contains_none}
-use Rattle.rule_closure.proofs.SetLemmas.{has_none}
 use Rattle.reaching_defs.specs.FlowEdges.{flow_edge, IsTargeted}
 use Rattle.reaching_defs.specs.RowFlow.{row_has, Leads, IsRowFlow}
 use Rattle.reaching_defs.specs.Spans.{IsPairAmong, FlowsAmong}
 use Rattle.reaching_defs.proofs.SearchLemmas.{pair_among}
+use Rattle.bit_rows.proofs.SetLemmas.{has-empty}
 
 -- ---- the edges to targets, one by one
 pub none_ascend : AreAscendingEdges []
@@ -148,7 +148,7 @@ module _ (base n : ℕ) (s : Skeleton) (pairs : List Pair) (among : All (IsPairA
   pub none_targeted : (v : ℕ) (targets : List Bool) → ((w : ℕ) → w < n → IsTrue (has targets w) ↔ FlowsAmong 0 s.defined.bits s pairs v (base + w)) → targets ≡ replicate n false → (e : Edge) → e.from ≡ v → IsRowFlow s (order_of pairs) e → ⊥
   none_targeted v targets exact none e from r =
       let t = (targeted_are v targets exact e).1 (from, r) in
-      false≢true (sym (ap (λ x. has x t.target) none ∙ has_none n t.target) ∙ t.member)
+      false≢true (sym (ap (λ x. has x t.target) none ∙ has-empty n t.target) ∙ t.member)
 
   pub appended : (v : ℕ) (targets : List Bool) (old new : List Edge) → ((w : ℕ) → w < n → IsTrue (has targets w) ↔ FlowsAmong 0 s.defined.bits s pairs v (base + w)) → ((e : Edge) → Contains new e ↔ (Contains old e ⊎ IsTargeted v base n targets e)) → (e : Edge) → Contains new e ↔ (Contains old e ⊎ ((e.from ≡ v) × IsRowFlow s (order_of pairs) e))
   appended v targets old new exact pushed e =

@@ -1,9 +1,10 @@
 -- Flow by rows is flow of a program: a location's place in the list for the location, and back.
-use Rattle.std.proofs.Common.{◌≡◌, ℕ, zero, suc, ◌<◌, ◌≤◌, inl, inr, Bool, false, Some, None, List, [], ◌∷◌, length, Contains, refl, sym, ap, ◌∙◌, arith}
+use Rattle.std.proofs.Common.{◌≡◌, ℕ, zero, suc, ◌<◌, inl, inr, Bool, false, Some, List, [], ◌∷◌, length, Contains, refl, sym, ap, ◌∙◌, arith}
 use Rattle.std.specs.Prelude.{slice_get}
 use Rattle.std.specs.Option.{option_map_or}
 use Rattle.std.proofs.lemmas.Bool.{cases_lt}
 use Rattle.std.proofs.lemmas.List.{get_or_past}
+use Rattle.std.proofs.lemmas.Option.{slice_get_past}
 use Rattle.bit_rows.specs.Sets.{has}
 use Rattle.bit_rows.specs.Tables.{Table}
 use Rattle.c_tree.specs.declared.program.Program.{Program}
@@ -20,18 +21,14 @@ use Rattle.dep_model.specs.SystemGraph.{Analysis, vertices_of, places_at, number
 use Rattle.dep_model.specs.VertexOrder.{vertex_effects}
 use Rattle.rule_closure.proofs.ListLemmas.{contains_map}
 use Rattle.reaching_defs.specs.RowFlow.{row_has, row_effects, Leads, IsRowFlow}
-use Rattle.reaching_defs.specs.Laws.{LocationsAreListed, AreOrderOf, RowFlowIsFlow}
+use Rattle.dep_model.specs.ListedLocations.{AreListed}
+use Rattle.reaching_defs.specs.Laws.{AreOrderOf, RowFlowIsFlow}
 
 -- an element of a list, by its place
 got : {X : Type 0} (xs : List X) (i : ℕ) → i < length xs → (x : X) × (slice_get xs i ≡ Some x)
 got [] i low = absurd (omega (arith, low))
 got (x ∷ xs) zero low = (x, refl)
 got (x ∷ xs) (suc i) low = got xs i (omega (arith, low))
-
-got_none : {X : Type 0} (xs : List X) (i : ℕ) → length xs ≤ i → slice_get xs i ≡ None
-got_none [] i h = refl
-got_none (x ∷ xs) zero h = absurd (omega (arith, h))
-got_none (x ∷ xs) (suc i) h = got_none xs i (omega (arith, h))
 
 -- a member of a list has a place below its length
 placed : {X : Type 0} (xs : List X) (x : X) → Contains xs x → (k : ℕ) × (k < length xs) × (slice_get xs k ≡ Some x)
@@ -52,7 +49,7 @@ row_is p vs places t rows k o at v = elim (cases_lt v (length vs)) [
       rows.exact v k x.0 o x.1 at ∙ sym (ap (λ q. option_map_or (λ (x : Vertex). places x o.location) q false) x.1)
   | inr high ↦
       ap (λ (s : List Bool). has s k) (get_or_past t.sets v [] (omega (arith, high, rows.long)))
-      ∙ sym (ap (λ q. option_map_or (λ (x : Vertex). places x o.location) q false) (got_none vs v high))
+      ∙ sym (ap (λ q. option_map_or (λ (x : Vertex). places x o.location) q false) (slice_get_past vs v high))
 ]
 
 module _ (p : Program) (a : Analysis) (s : Skeleton) (g : FlowGraph) (f : ℕ) (is : IsSkeleton p a s) (order : AreOrderOf p a f g.pairs) where
@@ -79,7 +76,7 @@ module _ (p : Program) (a : Analysis) (s : Skeleton) (g : FlowGraph) (f : ℕ) (
         };
       }
 
-  of_flow : LocationsAreListed p a → (e : Edge) → IsFlowIn p a.points (vertices_of p a) f e → IsRowFlow s g e
+  of_flow : AreListed p a → (e : Edge) → IsFlowIn p a.points (vertices_of p a) f e → IsRowFlow s g e
   of_flow listed e h =
       let vs = vertices_of p a in
       let effects = numbered_effects p a.points vs in

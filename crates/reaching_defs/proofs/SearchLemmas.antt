@@ -9,9 +9,10 @@ use Rattle.dep_model.specs.declared.skeleton.Pair.{Pair}
 use Rattle.dep_model.specs.Follows.{Chain, last, more}
 use Rattle.rule_closure.specs.Links.{IsListed}
 use Rattle.rule_closure.proofs.Marking.{listed_more}
-use Rattle.rule_closure.proofs.SetLemmas.{has_set, has_set_cases, has_none}
+use Rattle.rule_closure.proofs.SetLemmas.{has_set, has_set_cases}
 use Rattle.reaching_defs.specs.RowFlow.{Leads}
 use Rattle.reaching_defs.specs.Spans.{IsPairAmong, IsLastFrom}
+use Rattle.bit_rows.proofs.SetLemmas.{has-empty}
 
 -- one of some pairs is among the numbers of their span
 pub pair_among : (base n : ℕ) (pairs : List Pair) → All (IsPairAmong base n) pairs → (x : Pair) → Contains pairs x → IsPairAmong base n x
@@ -98,7 +99,7 @@ module _ (base n : ℕ) (pairs : List Pair) (among : All (IsPairAmong base n) pa
     listed = listed;
     size = size;
     sound = λ w h. elim (only w h) [
-      | inl e ↦ absurd (false≢true (sym (ap (λ k. has k w) none ∙ has_none n w) ∙ e))
+      | inl e ↦ absurd (false≢true (sym (ap (λ k. has k w) none ∙ has-empty n w) ∙ e))
       | inr m ↦ last m
     ];
     seeds = all;

@@ -6,12 +6,12 @@ use Rattle.std.proofs.lemmas.Bool.{cases_eq, cases_lt, false≢true}
 use Rattle.std.proofs.lemmas.Nat.Bits.{bit_at-trailing_zeros}
 use Rattle.bit_rows.specs.Sets.{has}
 use Rattle.bit_rows.specs.Words.{word_bit, set_of, IsClean}
-use Rattle.bit_rows.proofs.SetLemmas.{has_past}
+use Rattle.bit_rows.proofs.SetLemmas.{has_past, has-empty}
 use Rattle.bit_rows.proofs.WordLemmas.{length-set_of, has-set_of, no_bit}
 use Rattle.dep_model.specs.declared.skeleton.Pair.{Pair}
 use Rattle.dep_model.specs.declared.skeleton.Skeleton.{Skeleton}
 use Rattle.dep_model.specs.Follows.{Chain}
-use Rattle.rule_closure.proofs.SetLemmas.{has_none, has_set, has_set_cases, has_set_same}
+use Rattle.rule_closure.proofs.SetLemmas.{has_set, has_set_cases, has_set_same}
 use Rattle.reaching_defs.specs.RowFlow.{row_has, Leads}
 use Rattle.reaching_defs.specs.Spans.{FlowsBy, FlowsAmong}
 
@@ -219,7 +219,7 @@ module _ (base n : ℕ) (s : Skeleton) (pairs : List Pair) (v : ℕ) (old : List
   pub words_end : (bits at : ℕ) (t : List Bool) → old ≡ replicate n false → AreTargets base n 0 (64 * at) s pairs v old t → bits ≤ 64 * at → ((k : ℕ) → row_has s.defined v k ≡ true → k < bits) → (w : ℕ) → w < n → IsTrue (has t w) ↔ FlowsAmong 0 bits s pairs v (base + w)
   words_end bits at t none all end in_ w h = (
     λ m. elim ((all w h).0 m) [
-      | inl b ↦ absurd (false≢true (sym (ap (λ x. has x w) none ∙ has_none n w) ∙ b))
+      | inl b ↦ absurd (false≢true (sym (ap (λ x. has x w) none ∙ has-empty n w) ∙ b))
       | inr f ↦ record { location = f.location; above = f.above; below = in_ f.location f.flows.defined; flows = f.flows }
     ],
     λ f. (all w h).1 (inr (record { location = f.location; above = f.above; below = omega (arith, f.below, end); flows = f.flows })),

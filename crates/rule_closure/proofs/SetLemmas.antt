@@ -1,6 +1,6 @@
 -- Sets of numbers below a bound, as lists of tests: what they have after an addition, and how many.
-use Rattle.std.proofs.Common.{◌≡◌, ℕ, ◌+◌, ◌<◌, ◌⊎◌, inl, inr, Bool, true, false, cond, List, length, get_or, set, replicate, count_by, ◌↔◌, refl, sym, ap, ◌∙◌, arith}
-use Rattle.std.proofs.lemmas.List.{get_or-set_same, get_or-set_other, length-set, get_or_past, get_or-replicate, length-replicate, ext_get_or}
+use Rattle.std.proofs.Common.{◌≡◌, ℕ, ◌+◌, ◌<◌, ◌⊎◌, inl, inr, Bool, true, false, cond, List, length, get_or, set, count_by, ◌↔◌, refl, sym, ap, ◌∙◌, arith}
+use Rattle.std.proofs.lemmas.List.{get_or-set_same, get_or-set_other, length-set, get_or_past, ext_get_or}
 use Rattle.std.proofs.lemmas.List.Sums.{sum_by-set, count_by-le-length}
 use Rattle.std.proofs.lemmas.Bool.{cases_eq, cases_lt, false≢true}
 use Rattle.std.specs.Prelude.{IsTrue}
@@ -41,13 +41,6 @@ count-set s u h none =
 -- a set that lacks a number has fewer members than its length
 pub count_room : (s : List Bool) (u : ℕ) → u < length s → has s u ≡ false → count_by (λ b. b) s < length s
 count_room s u h none = omega (arith, count-set s u h none, count_by-le-length (λ (b : Bool). b) (set s u true), length-set s u true)
-
--- the empty set has no member
-pub has_none : (n v : ℕ) → has (replicate n false) v ≡ false
-has_none n v = elim (cases_lt v n) [
-  | inl h ↦ get_or-replicate n v false false h
-  | inr h ↦ get_or_past (replicate n false) v false (let l : length (replicate n false) ≡ n = length-replicate n false in omega arith)
-]
 
 same_test : (a b : Bool) → (IsTrue a ↔ IsTrue b) → a ≡ b
 same_test true true e = refl

@@ -1,7 +1,7 @@
 -- The set that was marked is the criterion, and the lines that were found are those of its statements.
-use Rattle.std.proofs.Common.{◌≡◌, ℕ, zero, suc, ◌+◌, ◌<◌, ◌≤◌, ◌==◌, List, [], ◌∷◌, length, set, replicate, map, Bool, true, false, ◌&&◌, ◌||◌, ◌⊎◌, inl, inr, refl, sym, ap, ◌∙◌, subst, arith, add-one, eq-eqb}
+use Rattle.std.proofs.Common.{◌≡◌, ℕ, zero, suc, ◌+◌, ◌<◌, ◌≤◌, ◌==◌, List, [], ◌∷◌, length, set, replicate, map, Bool, true, false, ◌&&◌, ◌||◌, inl, inr, refl, sym, ap, ◌∙◌, subst, arith, add-one, eq-eqb}
 use Rattle.std.specs.List.{list_any}
-use Rattle.std.proofs.lemmas.Bool.{eqb-true, cases_lt, or_left, or_right, and_from, and_parts}
+use Rattle.std.proofs.lemmas.Bool.{eqb-true, cases_lt, or_left, or_right, and_from, and_parts, or_cases}
 use Rattle.std.proofs.Common.{get_or-set_other, get_or-set_same}
 use Rattle.bit_rows.specs.Sets.{has}
 use Rattle.bit_rows.proofs.SetLemmas.{has-empty}
@@ -17,7 +17,7 @@ use Rattle.dep_model.specs.MainVertices.{from}
 use Rattle.dep_model.specs.declared.vertex.VertexKind.TheVariants.{Statement as AtStatement}
 use Rattle.slice_engine.proofs.CriterionLemmas.{length-marked_if, length-with_starts}
 use Rattle.dep_model.specs.VertexOrder.{in_function}
-use Rattle.dep_model.proofs.BoolLemmas.{or_none}
+use Rattle.c_language.proofs.Tests.{or_none}
 
 -- each number is below n
 abbrev pub AreNumbers : ℕ → Starts → Type 0
@@ -108,20 +108,16 @@ criterion_is p line h =
 
 -- ---- whether some statement starts on a line
 
-or_parts : (a b : Bool) → (a || b) ≡ true → (a ≡ true) ⊎ (b ≡ true)
-or_parts true b h = inl refl
-or_parts false b h = inr h
-
 pub some_start : (line : ℕ) (ss : Starts) → list_any (λ (s : Start). s.line == line) ss ≡ true → (i : ℕ) × (starts_in line ss i ≡ true)
 some_start line [] h = cc
-some_start line (s ∷ ss) h = elim (or_parts (s.line == line) (list_any (λ (s : Start). s.line == line) ss) h) [
+some_start line (s ∷ ss) h = elim (or_cases (s.line == line) (list_any (λ (s : Start). s.line == line) ss) h) [
   | inl here ↦ (s.id, or_left _ _ (and_from (s.id == s.id) (s.line == line) (eq-eqb s.id s.id refl) here))
   | inr later ↦ let w = some_start line ss later in (w.0, or_right _ _ w.1)
 ]
 
 pub start_some : (line : ℕ) (ss : Starts) (i : ℕ) → starts_in line ss i ≡ true → list_any (λ (s : Start). s.line == line) ss ≡ true
 start_some line [] i h = cc
-start_some line (s ∷ ss) i h = elim (or_parts ((s.id == i) && (s.line == line)) (starts_in line ss i) h) [
+start_some line (s ∷ ss) i h = elim (or_cases ((s.id == i) && (s.line == line)) (starts_in line ss i) h) [
   | inl here ↦ or_left _ _ (and_parts (s.id == i) (s.line == line) here).1
   | inr later ↦ or_right (s.line == line) _ (start_some line ss i later)
 ]

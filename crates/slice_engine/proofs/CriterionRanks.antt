@@ -6,10 +6,10 @@ use Rattle.c_tree.specs.declared.program.Program.{Program}
 use Rattle.c_tree.specs.declared.numbered.Start.{Start}
 use Rattle.c_tree.specs.Numbered.{program_starts}
 use Rattle.projection.specs.Kept.{rank}
-use Rattle.projection_meaning.proofs.Bools.{both_or_none}
 use Rattle.projection_meaning.proofs.Ranks.{rank_injective}
 use Rattle.slice_engine.specs.Slice.{starts_on, IsKept, keeps, is_criterion}
 use Rattle.slice_engine.proofs.Kept.{criterion_kept}
+use Rattle.dep_model.proofs.BoolLemmas.{both_or_none}
 
 -- a test that passes in a list passes at some item, and so does each other test that passes there
 pub record Passes {A : Type 0} (test : A → Bool) (xs : List A) : Type 0 where

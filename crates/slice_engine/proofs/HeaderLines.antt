@@ -1,5 +1,5 @@
 -- The lines in a header: each is that of a rank of the criterion.
-use Rattle.std.proofs.Common.{◌≡◌, ◌↔◌, ℕ, zero, suc, ◌+◌, ◌<◌, List, [], ◌∷◌, ◌++◌, length, get_or, slice_get, drop, Bool, true, false, Some, inl, inr, refl, sym, ap, ◌∙◌, subst, append_assoc}
+use Rattle.std.proofs.Common.{◌≡◌, ◌↔◌, ℕ, zero, suc, ◌<◌, List, [], ◌∷◌, get_or, slice_get, Bool, true, false, Some, inl, inr, refl, sym, subst}
 use Rattle.std.specs.Prelude.{Contains, AllPairs, nat_eq}
 use Rattle.std.specs.List.{dedup}
 use Rattle.std.specs.List.Sorted.{IsSorted, IsPermutation}
@@ -8,7 +8,6 @@ use Rattle.std.proofs.lemmas.List.Kept.{AllPairs-from_increasing, Contains-dedup
 use Rattle.std.proofs.lemmas.List.Sorted.{Contains-permutation, IsPermutation-sym}
 use Rattle.std.proofs.lemmas.Map.Keys.{IsStrictlyIncreasing-dedup}
 use Rattle.rule_closure.proofs.ListLemmas.{contains_none, contains_head, contains_cons, contains_cases}
-use Rattle.dep_model.proofs.NumberedFrom.{drop_item}
 use Rattle.slice_engine.specs.Criterion.{line_if, shown_lines}
 
 -- a rank of the criterion and its line
@@ -44,16 +43,6 @@ at_shown (true ∷ bs) (l ∷ ls) zero n w e = let same : l ≡ n = some_same e 
     some_same h = cc
 at_shown (false ∷ bs) (l ∷ ls) zero n w e = cc
 at_shown (b ∷ bs) (l ∷ ls) (suc r) n w e = contains_line b (suc l) (shown_lines bs ls) (suc n) (at_shown bs ls r n w e)
-
--- ---- rank by rank
-
-line_append : (b : Bool) (n : ℕ) (ks ls : List ℕ) → ks ++ line_if b n ls ≡ (ks ++ line_if b n []) ++ ls
-line_append true n ks ls = sym (append_assoc ks (n ∷ []) ls)
-line_append false n ks ls = sym (append_assoc ks [] ls)
-
-pub shown_step : (in_criterion : List Bool) (lines : List ℕ) (i : ℕ) (b : Bool) (l : ℕ) (whole old new : List ℕ) → i < length in_criterion → i < length lines → get_or in_criterion i b ≡ b → get_or lines i l ≡ l → old ++ shown_lines (drop i in_criterion) (drop i lines) ≡ whole → new ≡ old ++ line_if b (suc l) [] → new ++ shown_lines (drop (i + 1) in_criterion) (drop (i + 1) lines) ≡ whole
-shown_step in_criterion lines i b l whole old new lt low is at inv now =
-    ap (λ n. n ++ shown_lines (drop (i + 1) in_criterion) (drop (i + 1) lines)) now ∙ sym (line_append b (suc l) old (shown_lines (drop (i + 1) in_criterion) (drop (i + 1) lines))) ∙ ap (λ n. old ++ n) (sym (ap (λ bs. shown_lines bs (drop i lines)) (drop_item in_criterion i b lt is) ∙ ap (λ ls. shown_lines (b ∷ drop (i + 1) in_criterion) ls) (drop_item lines i l low at))) ∙ inv
 
 -- ---- sorted, each once
 

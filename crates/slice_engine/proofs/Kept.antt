@@ -1,30 +1,20 @@
 -- What a slice keeps: the criterion's statements, and all that may define what a kept statement may use.
-use Rattle.std.proofs.Common.{◌≡◌, ℕ, List, [], Bool, true, inr, refl, sym, ◌∙◌, subst, IsTrue}
-use Rattle.bit_rows.specs.Sets.{has}
+use Rattle.std.proofs.Common.{◌≡◌, ℕ, List, Bool, true, inr, sym, ◌∙◌, subst}
 use Rattle.c_tree.specs.declared.program.Program.{Program}
-use Rattle.dep_model.specs.declared.edge.Edge.{Edge}
 use Rattle.dep_model.specs.MainVertices.{vertices}
 use Rattle.dep_model.specs.NumberedMains.{IsNumberedMain}
-use Rattle.dep_model.specs.Words.{Rises, Falls, ReachesAny}
 use Rattle.dep_model.specs.SystemGraph.{IsFlowIn}
 use Rattle.dep_model.proofs.NumberedEdges.{numbered_vertices, system_main_edges}
 use Rattle.projection_meaning.specs.Laws.{IsFlowClosed}
 use Rattle.slice_engine.specs.Slice.{starts_on, IsKept, keeps}
 use Rattle.slice_engine.proofs.Vertices.{kept_grows}
+use Rattle.dep_model.proofs.WordLemmas.{reaches_itself}
 
 -- the kept vertices have what may define a location that one of them may use
 pub flow_closed : (p : Program) (line : ℕ) (kept : List Bool) → IsNumberedMain p → (k : IsKept p line kept) → IsFlowClosed p k.analysis kept
 flow_closed p line kept n k e f h =
     let here = subst (λ vs. IsFlowIn p k.analysis.points vs 0 e) (sym (numbered_vertices p k.analysis n k.is_analysis)) f in
     k.completes.closed.flows e ((system_main_edges p k.analysis k.edges n k.is_analysis k.are_edges e).1 (inr here)) f.labelled h
-
--- a vertex reaches itself
-reaches_itself : (edges : List Edge) (x : List Bool) (v : ℕ) → IsTrue (has x v) → ReachesAny edges x v
-reaches_itself edges x v h = record {
-  goal = v;
-  wanted = h;
-  reaches = record { path = []; joins = refl; up = []; down = []; rises = Rises.flat; falls = Falls.flat; spells = refl };
-}
 
 -- each statement of the criterion is kept
 pub criterion_kept : (p : Program) (line : ℕ) (kept : List Bool) → IsKept p line kept → (i : ℕ) → starts_on p line i ≡ true → keeps p kept i ≡ true

@@ -1,7 +1,8 @@
 -- The vertices of a function have numbers below the count of all, and so have the ends of its edges.
-use Rattle.std.proofs.Common.{◌≡◌, ℕ, zero, suc, ◌<◌, Bool, List, [], ◌∷◌, ◌++◌, length, slice_get, Option, Some, None, inl, inr, sym, subst, arith}
+use Rattle.std.proofs.Common.{ℕ, ◌<◌, Bool, List, [], ◌∷◌, ◌++◌, length, Option, Some, None, inl, inr, sym, subst}
 use Rattle.std.specs.Prelude.{Contains}
 use Rattle.std.proofs.lemmas.List.Elements.{Contains-append_cases}
+use Rattle.std.proofs.lemmas.Option.{slice_get_within}
 use Rattle.c_tree.specs.declared.program.Program.{Program}
 use Rattle.c_language.specs.Code.{Act, Code, Tests, End, Opens, Plain, Fork, Loop, Leaves, Call}
 use Rattle.dep_model.specs.declared.edge.Edge.{Edge}
@@ -70,13 +71,8 @@ module _ (n : ℕ) (at : VerticesAt ℕ) (each : (i : ℕ) (act : Option Act) �
 
 -- ---- the vertices of a function
 
-there_below : (vs : List Vertex) (k : ℕ) (v : Vertex) → slice_get vs k ≡ Some v → k < length vs
-there_below [] k v e = cc
-there_below (x ∷ vs) zero v e = omega arith
-there_below (x ∷ vs) (suc k) v e = let h = there_below vs k v e in omega (arith, h)
-
 numbers_low : (test : VertexKind → Bool) (f : ℕ) (vs : List Vertex) → AreLow (length vs) (numbers test f vs)
-numbers_low test f vs k h = let p = numbers_pass test f vs k h in there_below vs k p.one p.at
+numbers_low test f vs k h = let p = numbers_pass test f vs k h in slice_get_within vs k p.one p.at
 
 both_low : (n : ℕ) (xs ys : List ℕ) → AreLow n xs → AreLow n ys → AreLow n (xs ++ ys)
 both_low n xs ys a b v h = elim (Contains-append_cases xs ys v h) [ inl x ↦ a v x | inr y ↦ b v y ]

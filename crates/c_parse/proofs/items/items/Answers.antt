@@ -1,8 +1,8 @@
 use Rattle.std.proofs.Common.{arith, rules}
 use Rattle.std.proofs.lemmas.Grind.{common_steps}
 use Rattle.c_parse.specs.ItemReading.{items_from}
-use Rattle.c_parse_expr.proofs.Turns.{one_more}
 use Rattle.c_parse.proofs.items.items.Goals as goal
+use Rattle.c_language.proofs.Turns.{one_more}
 
 pub returns-then-none_left : goal.returns-then-none_left
 unfolding items_from

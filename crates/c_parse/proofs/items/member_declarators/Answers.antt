@@ -2,8 +2,8 @@ use Rattle.std.proofs.Common.{arith, rules, codes}
 use Rattle.std.proofs.lemmas.Grind.{common_steps}
 use Rattle.c_parse_simple.specs.SimpleReading.{separated}
 use Rattle.c_parse.specs.ItemReading.{member_of}
-use Rattle.c_parse_expr.proofs.Turns.{one_more}
 use Rattle.c_parse.proofs.items.member_declarators.Goals as goal
+use Rattle.c_language.proofs.Turns.{one_more}
 
 pub returns-in_err-member_of : goal.returns-in_err-member_of
 unfolding separated

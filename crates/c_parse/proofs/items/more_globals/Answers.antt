@@ -2,8 +2,8 @@ use Rattle.std.proofs.Common.{arith, rules, codes}
 use Rattle.std.proofs.lemmas.Grind.{common_steps}
 use Rattle.c_parse_simple.specs.SimpleReading.{separated}
 use Rattle.c_parse.specs.ItemReading.{global}
-use Rattle.c_parse_expr.proofs.Turns.{one_more}
 use Rattle.c_parse.proofs.items.more_globals.Goals as goal
+use Rattle.c_language.proofs.Turns.{one_more}
 
 pub returns-in_err-global : goal.returns-in_err-global
 unfolding separated

@@ -1,9 +1,9 @@
 use Rattle.std.proofs.Common.{◌-◌, arith, rules}
 use Rattle.std.proofs.lemmas.Grind.{common_steps}
 use Rattle.c_parse_expr.specs.ExprReading.{climb, nested}
-use Rattle.c_parse_expr.proofs.Turns.{one_more, no_more, deeper}
 use Rattle.c_parse_expr.proofs.ExprSound.{nested_sound}
 use Rattle.c_parse_expr.proofs.expr.+expression.Goals as goal
+use Rattle.c_language.proofs.Turns.{one_more, no_more, deeper}
 
 pub signed-applied-requires : goal.signed-applied-requires
 signed-applied-requires t c = omega (arith, (nested_sound c.args.depth _ _ c.in_ok-operand.operand _ (omega arith) (omega arith) c.in_ok-operand.ensures).low)

@@ -1,8 +1,8 @@
 use Rattle.std.proofs.Common.{arith, rules}
 use Rattle.std.proofs.lemmas.Grind.{common_steps}
 use Rattle.c_parse_expr.specs.TypeReading.{params_from}
-use Rattle.c_parse_expr.proofs.Turns.{one_more}
 use Rattle.c_parse_expr.proofs.params.params_from.Goals as goal
+use Rattle.c_language.proofs.Turns.{one_more}
 
 pub returns-in_err-expect : goal.returns-in_err-expect
 unfolding params_from

@@ -2,8 +2,8 @@ use Rattle.std.proofs.Common.{arith, rules}
 use Rattle.std.proofs.lemmas.Grind.{common_steps}
 use Rattle.c_language.proofs.NestingLemmas.{type_nesting-PointerTo}
 use Rattle.c_parse_expr.specs.TypeReading.{stars}
-use Rattle.c_parse_expr.proofs.Turns.{one_more}
 use Rattle.c_parse_expr.proofs.types.stars.Goals as goal
+use Rattle.c_language.proofs.Turns.{one_more}
 
 pub loop-star-preserved : goal.loop-star-preserved
 unfolding stars

@@ -3,9 +3,6 @@ use Rattle.std.specs.Option.{option_copied}
 use Rattle.c_parse_left_out.proofs.AroundLemmas.{braces_nearer}
 use Rattle.c_parse_left_out.proofs.around.has_open_brace.Goals as goal
 
-pub braces_behind-braces-requires : goal.braces_behind-braces-requires
-braces_behind-braces-requires c = let few = c.loop-turn.invariant.1 in omega (arith, few, c.loop-turn-test.true, c.loop-turn.auto.turn-end)
-
 pub loop-turn-preserved : goal.loop-turn-preserved
 loop-turn-preserved c =
     let here : slice_get c.args.before.now (length c.args.before.now - 1 - c.loop-turn.turn) ≡ Some c.in-Some.token.now = sym c.far.ensures ∙ ap option_copied c.in-Some.is in

@@ -9,9 +9,6 @@ returns-then-stops c =
     let here : slice_get c.args.before.now c.loop-at.at ≡ Some c.in-Some.token.now = sym c.get.ensures ∙ ap option_copied c.in-Some.is in
     c.finds.ensures ∙ stands_stopped (found_by c.args.sought) (ended_by c.args.sought) c.loop-at.at c.loop-at.closed c.args.before.now c.in-Some.token.now here c.loop-at.invariant.0 (sym c.stops.ensures ∙ c.if-stops.true)
 
-pub closed_behind-closed-requires : goal.closed_behind-closed-requires
-closed_behind-closed-requires c = let few = c.loop-at.invariant.1 in omega (arith, few, c.loop-at-test.true, c.loop-at.auto.at-end)
-
 pub loop-at-preserved : goal.loop-at-preserved
 loop-at-preserved c =
     let here : slice_get c.args.before.now c.loop-at.at ≡ Some c.in-Some.token.now = sym c.get.ensures ∙ ap option_copied c.in-Some.is in

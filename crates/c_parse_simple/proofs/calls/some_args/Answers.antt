@@ -1,8 +1,8 @@
 use Rattle.std.proofs.Common.{arith, rules, codes}
 use Rattle.std.proofs.lemmas.Grind.{common_steps}
 use Rattle.c_parse_simple.specs.SimpleReading.{separated, arg}
-use Rattle.c_parse_expr.proofs.Turns.{one_more}
 use Rattle.c_parse_simple.proofs.calls.some_args.Goals as goal
+use Rattle.c_language.proofs.Turns.{one_more}
 
 pub returns-in_err-arg : goal.returns-in_err-arg
 unfolding separated

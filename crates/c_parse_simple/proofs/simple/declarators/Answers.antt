@@ -1,8 +1,8 @@
 use Rattle.std.proofs.Common.{arith, rules, codes}
 use Rattle.std.proofs.lemmas.Grind.{common_steps}
 use Rattle.c_parse_simple.specs.SimpleReading.{separated, declared}
-use Rattle.c_parse_expr.proofs.Turns.{one_more}
 use Rattle.c_parse_simple.proofs.simple.declarators.Goals as goal
+use Rattle.c_language.proofs.Turns.{one_more}
 
 pub returns-in_err-declared : goal.returns-in_err-declared
 unfolding separated

@@ -1,7 +1,7 @@
 use Rattle.std.proofs.Common.{arith}
 use Rattle.c_parse_simple.specs.SimpleReading.{nested_declared}
-use Rattle.c_parse_expr.proofs.Turns.{deeper}
 use Rattle.c_parse_simple.proofs.simple.nested_declared.Goals as goal
+use Rattle.c_language.proofs.Turns.{deeper}
 
 pub returns : goal.returns
 unfolding nested_declared

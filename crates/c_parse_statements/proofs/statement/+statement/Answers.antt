@@ -1,8 +1,8 @@
 use Rattle.std.proofs.Common.{arith, rules}
 use Rattle.std.proofs.lemmas.Grind.{common_steps}
 use Rattle.c_parse_statements.specs.StatementReading.{nested_statement, statements_from, arms_from}
-use Rattle.c_parse_expr.proofs.Turns.{one_more, no_more, deeper}
 use Rattle.c_parse_statements.proofs.statement.+statement.Goals as goal
+use Rattle.c_language.proofs.Turns.{one_more, no_more, deeper}
 
 pub nested_statement-returns : goal.nested_statement-returns
 unfolding nested_statement

@@ -1,8 +1,8 @@
 use Rattle.std.proofs.Common.{arith, rules}
 use Rattle.std.proofs.lemmas.Grind.{common_steps}
 use Rattle.c_parse_statements.specs.StatementReading.{labels_from}
-use Rattle.c_parse_expr.proofs.Turns.{one_more}
 use Rattle.c_parse_statements.proofs.statement.labels.Goals as goal
+use Rattle.c_language.proofs.Turns.{one_more}
 
 pub returns-in_err-label : goal.returns-in_err-label
 unfolding labels_from

@@ -1,6 +1,5 @@
 use Rattle.std.proofs.Common.{◌≡◌, ◌++◌, map, take}
-use Rattle.c_language.specs.Layout.{body_lines, arms_lines}
-use Rattle.c_print.specs.Arms.{arm_laid}
+use Rattle.c_language.specs.Layout.{body_lines, arms_lines, arm_laid}
 use Rattle.c_print.proofs.statements.+statement.Given as goal
 
 abbrev pub invariant-arms-loop-child : goal.invariant-arms-loop-child

@@ -1,13 +1,9 @@
-use Rattle.std.proofs.Common.{sym, ap, ◌∙◌}
 use Rattle.c_types_program.specs.declared.walk.Walk.{Walk}
 use Rattle.c_types_program.specs.Items.{MakesProgram}
 use Rattle.c_types_program.proofs.FormedText.{text_fits}
-use Rattle.c_types_program.proofs.ProgramSteps.{walk_fits, program_long, walk_right, walk_structs, structs_stop_all, walk_makes}
+use Rattle.c_types_program.proofs.ProgramSteps.{walk_fits, program_long, walk_structs, structs_stop_all, walk_makes}
 use Rattle.c_types_program.proofs.StructSteps.{passes_stop}
 use Rattle.c_types_program.proofs.program.make_program.Goals as goal
-
-pub items-requires-clause-whole : goal.items-requires-clause-whole
-items-requires-clause-whole c = c.as_slice.ensures ∙ ap (λ r. r.items) (sym c.in_ok-tables.ensures.text)
 
 pub items-requires-clause-fits : goal.items-requires-clause-fits
 items-requires-clause-fits c =
@@ -20,12 +16,6 @@ returns-then-walk c =
     let raw = c.args.raw.now in
     let w : Walk = record { tables = c.in_ok-tables.tables; variables = c.new-variables.result } in
     program_long raw w c.in_ok-tables.ensures.text c.in_ok-tables.ensures.scope c.as_slice.result.now c.as_slice.ensures c.new-variables.ensures c.items.new.self c.in_ok-made.ensures.passes c.if-walk.true
-
-pub struct_trees-requires-clause-text : goal.struct_trees-requires-clause-text
-struct_trees-requires-clause-text c =
-    let raw = c.args.raw.now in
-    let w : Walk = record { tables = c.in_ok-tables.tables; variables = c.new-variables.result } in
-    (walk_right raw w c.in_ok-tables.ensures.text c.in_ok-tables.ensures.scope c.as_slice.result.now c.as_slice.ensures c.new-variables.ensures c.items.new.self c.in_ok-made.ensures.passes c.in_ok-tables.ensures.right).defined
 
 pub struct_trees-requires-clause-kept : goal.struct_trees-requires-clause-kept
 struct_trees-requires-clause-kept c =

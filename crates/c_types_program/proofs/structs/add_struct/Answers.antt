@@ -1,7 +1,7 @@
-use Rattle.std.proofs.Common.{refl, sym, ap, ◌∙◌}
+use Rattle.std.proofs.Common.{sym, ap, ◌∙◌}
 use Rattle.c_tree.specs.declared.raw.program.RawItem.TheVariants as item_of
 use Rattle.c_types_program.specs.Items.{AddsStruct}
-use Rattle.c_types_program.proofs.StructSteps.{passes_stop, own_members, adds_struct, stops_struct, adds_nothing}
+use Rattle.c_types_program.proofs.StructSteps.{passes_stop, own_members, stops_struct}
 use Rattle.c_types_program.proofs.structs.add_struct.Goals as goal
 
 pub struct_tree-requires-clause-kept : goal.struct_tree-requires-clause-kept
@@ -13,23 +13,3 @@ returns-in_err-tree-in-Struct c =
     passes_stop (AddsStruct c.args.defined.now.raw.now c.args.item.now c.args.made.now c.args.made.now) c.in_err-tree-in-Struct.field-0.0 c.from_residual.result c.from_residual.ensures.1
     (stops_struct c.args.defined.now.raw.now c.args.item.now c.in-Struct.line c.in-Struct.name c.as_slice.result.now (c.in-Struct.is ∙ ap (item_of.Struct c.in-Struct.line c.in-Struct.name) (sym c.as_slice.ensures)) c.args.made.now c.args.made.now
     c.in_err-tree-in-Struct.field-0.0 c.in_err-tree-in-Struct.ensures)
-
-pub returns-in_ok-push-in-Struct : goal.returns-in_ok-push-in-Struct
-returns-in_ok-push-in-Struct c =
-    adds_struct c.args.defined.now.raw.now c.args.item.now c.in-Struct.line c.in-Struct.name c.as_slice.result.now (c.in-Struct.is ∙ ap (item_of.Struct c.in-Struct.line c.in-Struct.name) (sym c.as_slice.ensures)) c.args.made.now c.push.new.self
-    c.in_ok-tree-in-Struct.tree c.in_ok-tree-in-Struct.ensures c.in_ok-push-in-Struct.ensures.ok
-
-pub returns-in-Include : goal.returns-in-Include
-returns-in-Include c = adds_nothing c.args.defined.now.raw.now c.args.item.now _ c.args.made.now c.in-Include.is refl
-
-pub returns-in-Tag : goal.returns-in-Tag
-returns-in-Tag c = adds_nothing c.args.defined.now.raw.now c.args.item.now _ c.args.made.now c.in-Tag.is refl
-
-pub returns-in-Global : goal.returns-in-Global
-returns-in-Global c = adds_nothing c.args.defined.now.raw.now c.args.item.now _ c.args.made.now c.in-Global.is refl
-
-pub returns-in-Prototype : goal.returns-in-Prototype
-returns-in-Prototype c = adds_nothing c.args.defined.now.raw.now c.args.item.now _ c.args.made.now c.in-Prototype.is refl
-
-pub returns-in-Define : goal.returns-in-Define
-returns-in-Define c = adds_nothing c.args.defined.now.raw.now c.args.item.now _ c.args.made.now c.in-Define.is refl

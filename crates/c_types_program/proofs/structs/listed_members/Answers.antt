@@ -1,6 +1,3 @@
-use Rattle.std.proofs.Common.{take, subst}
-use Rattle.c_types_base.specs.Listing.{HasMembers}
-use Rattle.c_types_base.proofs.TextSteps.{with_next}
 use Rattle.c_types_program.proofs.StructSteps.{member_typed, member_new}
 use Rattle.c_types_program.proofs.structs.listed_members.Goals as goal
 
@@ -12,9 +9,3 @@ pub list_member-requires-clause-fresh : goal.list_member-requires-clause-fresh
 list_member-requires-clause-fresh c =
     member_new c.args.tables.now.raw.now c.args.list.now c.requires.kept c.loop-member.member-index c.member-item.result c.loop-member-test.true c.member-item.is
     c.loop-member.listed c.loop-member.invariant
-
-pub loop-member-preserved : goal.loop-member-preserved
-loop-member-preserved c =
-    subst (λ ms. HasMembers c.args.tables.now.raw.now ms c.list_member.new.listed)
-    (with_next c.args.list.now c.loop-member.member-index c.member-item.result c.loop-member-test.true c.member-item.is)
-    (c.in_ok-list_member.ensures (take c.loop-member.member-index c.args.list.now) c.loop-member.invariant)

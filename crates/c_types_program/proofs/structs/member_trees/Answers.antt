@@ -1,11 +1,8 @@
 use Rattle.c_language.specs.ProgramOf.{member_tree}
 use Rattle.c_types_program.specs.Items.{MakesMembers}
 use Rattle.c_types_program.proofs.StructSteps.{passes_stop, member_kept, members_stop}
-use Rattle.c_types_program.proofs.Turns.{made_begin, made_turn, made_end}
+use Rattle.c_types_program.proofs.Turns.{made_turn, made_end}
 use Rattle.c_types_program.proofs.structs.member_trees.Goals as goal
-
-pub loop-member-init : goal.loop-member-init
-loop-member-init c = made_begin (member_tree c.args.defined.now.raw.now) c.args.list.now c.new-made.result c.new-made.ensures
 
 pub member_tree-requires-clause-kept : goal.member_tree-requires-clause-kept
 member_tree-requires-clause-kept c =

@@ -2,7 +2,7 @@ use Rattle.std.proofs.Common.{sym}
 use Rattle.c_types_checks.specs.Stands.{stand_of}
 use Rattle.c_types_base.specs.Stretches.{of_declaration}
 use Rattle.c_types_rules.specs.Walks.{Walks}
-use Rattle.c_types_rules.proofs.DeclaredSteps.{declaration_stops, declared_typed, declared_fresh, declaration_walks}
+use Rattle.c_types_rules.proofs.DeclaredSteps.{declaration_stops, declared_typed, declaration_walks}
 use Rattle.c_types_rules.proofs.WalkSteps.{passes_on}
 use Rattle.c_types_rules.proofs.steps.declaration.Goals as goal
 
@@ -15,11 +15,6 @@ pub declare-requires-clause-typed : goal.declare-requires-clause-typed
 declare-requires-clause-typed c =
     declared_typed c.args.tables.now c.requires c.args.line (stand_of c.args.stand) c.args.var.now c.args.init.now c.check_declared.result c.check_declared.ensures (sym c.in_ok-on_line.ensures)
     c.item_count.result c.item_count.ensures
-
-pub declare-requires-clause-fresh : goal.declare-requires-clause-fresh
-declare-requires-clause-fresh c =
-    declared_fresh c.args.tables.now c.requires c.args.line (stand_of c.args.stand) c.args.var.now c.args.init.now c.check_declared.result c.check_declared.ensures (sym c.in_ok-on_line.ensures)
-    c.bytes.result.now c.bytes.ensures
 
 pub returns : goal.returns
 returns c =

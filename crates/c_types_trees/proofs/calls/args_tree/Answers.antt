@@ -1,12 +1,8 @@
 use Rattle.std.proofs.Common.{Some, sym, ap, ◌∙◌}
 use Rattle.c_language.specs.ProgramOf.{arg_tree}
 use Rattle.c_types_base.specs.Tables.{scope_of}
-use Rattle.c_types_trees.proofs.OptionPaths.{collected_turn, contains_turn}
+use Rattle.c_types_trees.proofs.OptionPaths.{collected_turn}
 use Rattle.c_types_trees.proofs.calls.args_tree.Goals as goal
-
-pub arg_tree-requires-clause-value : goal.arg_tree-requires-clause-value
-arg_tree-requires-clause-value c =
-    c.requires.values c.arg-item.result (contains_turn c.args.args.now c.loop-arg.arg-index c.arg-item.result c.loop-arg-test.true c.arg-item.is)
 
 pub loop-arg-preserved : goal.loop-arg-preserved
 loop-arg-preserved c =

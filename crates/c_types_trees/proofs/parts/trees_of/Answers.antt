@@ -1,12 +1,8 @@
 use Rattle.std.proofs.Common.{Some, sym, ap, ◌∙◌}
 use Rattle.c_language.specs.ProgramOf.{expr_of}
 use Rattle.c_types_base.specs.Tables.{scope_of}
-use Rattle.c_types_trees.proofs.OptionPaths.{collected_turn, contains_turn}
+use Rattle.c_types_trees.proofs.OptionPaths.{collected_turn}
 use Rattle.c_types_trees.proofs.parts.trees_of.Goals as goal
-
-pub tree_of-requires-clause-operand : goal.tree_of-requires-clause-operand
-tree_of-requires-clause-operand c =
-    c.requires.operands c.expr-item.result (contains_turn c.args.exprs.now c.loop-expr.expr-index c.expr-item.result c.loop-expr-test.true c.expr-item.is)
 
 pub loop-expr-preserved : goal.loop-expr-preserved
 loop-expr-preserved c =

@@ -1,12 +1,8 @@
-use Rattle.std.proofs.Common.{subst, Err, ◌∙◌}
+use Rattle.std.proofs.Common.{subst, Err}
 use Rattle.c_language.specs.ProgramOf.{ctype}
 use Rattle.c_types_trees.specs.Shapes.{Shapes}
-use Rattle.c_types_trees.proofs.OptionPaths.{given_some}
 use Rattle.c_types_trees.proofs.ShapeLemmas.{never_long}
 use Rattle.c_types_trees.proofs.shapes.plain_shape.Goals as goal
-
-pub unreachable-requires : goal.unreachable-requires
-unreachable-requires c = given_some _ c.requires.there (c.in-Ok-None.ensures ∙ c.in-Ok-None.field-0-is)
 
 pub unreachable-requires-in-Err-Length : goal.unreachable-requires-in-Err-Length
 unreachable-requires-in-Err-Length c =

@@ -1,8 +1,5 @@
-use Rattle.c_types_trees.proofs.MadeLemmas.{own_result, own_plain}
+use Rattle.c_types_trees.proofs.MadeLemmas.{own_result}
 use Rattle.c_types_trees.proofs.shapes.result_shape.Goals as goal
-
-pub plain_shape-requires-clause-plain : goal.plain_shape-requires-clause-plain
-plain_shape-requires-clause-plain c = own_plain c.args.defined.now.raw.now c.args.head.now.result c.in-Some.shape c.in-Some.is c.requires.plain
 
 pub plain_shape-requires-clause-there : goal.plain_shape-requires-clause-there
 plain_shape-requires-clause-there c =

@@ -2,7 +2,7 @@ use Rattle.std.proofs.Common.{◌≡◌, Some, sym, subst}
 use Rattle.c_language.specs.ProgramOf as trees
 use Rattle.c_types_base.specs.Tables.{scope_of}
 use Rattle.c_types_trees.specs.KeptPhrases.{IsKeptCall}
-use Rattle.c_types_program.proofs.SimpleForms.{call_meant, call_target, call_right, call_kept, call_follows, call_has, call_passes}
+use Rattle.c_types_program.proofs.SimpleForms.{call_meant, call_target, call_kept, call_has, call_passes}
 use Rattle.c_types_program.proofs.walk.Walk.call.Goals as goal
 
 pub target-requires-clause-meant : goal.target-requires-clause-meant
@@ -11,18 +11,12 @@ target-requires-clause-meant c = call_meant c.args.self.now c.requires.right c.a
 pub target-requires-clause-fits : goal.target-requires-clause-fits
 target-requires-clause-fits c = call_target c.args.self.now c.requires.right c.args.line c.args.target.now c.args.function.now c.args.args.now c.requires.fits
 
-pub call_tree-requires-clause-right : goal.call_tree-requires-clause-right
-call_tree-requires-clause-right c = call_right c.args.self.now c.requires.right c.args.line c.args.target.now c.args.function.now c.args.args.now c.target.new.self c.in_ok-target.ensures.comes
-
 pub call_tree-requires-clause-kept : goal.call_tree-requires-clause-kept
 call_tree-requires-clause-kept c =
     let v = c.target.new.self in
     subst (λ f. IsKeptCall v.tables.raw.now (scope_of v.tables) f c.as_slice.result.now) (sym c.bytes.ensures)
     (subst (λ all. IsKeptCall v.tables.raw.now (scope_of v.tables) c.args.function.now all) (sym c.as_slice.ensures)
     (call_kept c.args.self.now c.requires.right c.args.line c.args.target.now c.args.function.now c.args.args.now v c.in_ok-target.ensures.comes c.requires.fits))
-
-pub pass-requires : goal.pass-requires
-pass-requires c = call_follows c.args.self.now c.requires.right c.args.line c.args.target.now c.args.function.now c.args.args.now c.target.new.self c.in_ok-target.ensures.comes c.in_ok-following.following c.in_ok-following.ensures
 
 pub returns-clause-tree : goal.returns-clause-tree
 returns-clause-tree c =

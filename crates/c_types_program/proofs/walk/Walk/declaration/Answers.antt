@@ -1,4 +1,4 @@
-use Rattle.c_types_program.proofs.SimpleForms.{declare_fresh, declare_typed, declare_shaped, declared_right, declare_begun, declare_tree, declare_passes}
+use Rattle.c_types_program.proofs.SimpleForms.{declare_fresh, declare_typed, declare_shaped, declare_begun, declare_tree, declare_passes}
 use Rattle.std.proofs.Common.{refl}
 use Rattle.c_types_program.proofs.walk.Walk.declaration.Goals as goal
 
@@ -10,9 +10,6 @@ declare-requires-clause-typed c = declare_typed c.args.self.now c.requires.right
 
 pub declare-requires-clause-shaped : goal.declare-requires-clause-shaped
 declare-requires-clause-shaped c = declare_shaped c.args.self.now c.requires.right c.args.line c.args.var.now c.args.init.now c.requires.fits c.item_count.result c.item_count.ensures
-
-pub init_tree-requires-clause-right : goal.init_tree-requires-clause-right
-init_tree-requires-clause-right c = declared_right c.args.self.now c.requires.right c.args.line c.declare.new.self c.item_count.result c.args.var.now c.args.init.now c.item_count.ensures c.in_ok-declare.ensures
 
 pub init_tree-requires-clause-kept : goal.init_tree-requires-clause-kept
 init_tree-requires-clause-kept c = declare_begun c.args.self.now c.requires.right c.args.line c.declare.new.self c.item_count.result c.args.var.now c.args.init.now c.item_count.ensures c.in_ok-declare.ensures c.requires.fits

@@ -1,19 +1,10 @@
 use Rattle.std.proofs.Common.{refl, ap, ◌∙◌}
 use Rattle.c_language.specs.ProgramOf.{parameter_ids}
-use Rattle.c_types_program.proofs.FunctionSteps.{definition_plain, definition_head, definition_inside, definition_has, definition_passes, function_record}
+use Rattle.c_types_program.proofs.FunctionSteps.{definition_head, definition_inside, definition_has, definition_passes, function_record}
 use Rattle.c_types_program.proofs.walk.Walk.definition.Goals as goal
-
-pub result_shape-requires-clause-text : goal.result_shape-requires-clause-text
-result_shape-requires-clause-text c = c.requires.right.defined
-
-pub result_shape-requires-clause-plain : goal.result_shape-requires-clause-plain
-result_shape-requires-clause-plain c = definition_plain c.args.self.now c.requires.right c.args.line c.args.head.now c.args.body.now c.requires.fits
 
 pub result_shape-requires-clause-kept : goal.result_shape-requires-clause-kept
 result_shape-requires-clause-kept c = definition_head c.args.self.now c.requires.right c.args.line c.args.head.now c.args.body.now c.requires.fits
-
-pub function-requires-clause-right : goal.function-requires-clause-right
-function-requires-clause-right c = c.in_ok-declare_function.ensures.right c.requires.right
 
 pub function-requires-clause-fits : goal.function-requires-clause-fits
 function-requires-clause-fits c =

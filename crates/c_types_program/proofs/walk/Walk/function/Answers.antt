@@ -1,11 +1,8 @@
 use Rattle.std.proofs.Common.{refl, subst, sym}
 use Rattle.c_types_base.specs.Stretches.{of_parameters}
 use Rattle.c_types_program.specs.Items.{FitsStretch, PassesStretch}
-use Rattle.c_types_program.proofs.FunctionSteps.{function_parameters, body_right, body_fits, function_has, function_passes}
+use Rattle.c_types_program.proofs.FunctionSteps.{function_parameters, body_fits, function_passes}
 use Rattle.c_types_program.proofs.walk.Walk.function.Goals as goal
-
-pub parameters-requires-clause-right : goal.parameters-requires-clause-right
-parameters-requires-clause-right c = c.in_ok-enter.ensures.at.right c.requires.right
 
 pub parameters-requires-clause-fits : goal.parameters-requires-clause-fits
 parameters-requires-clause-fits c =
@@ -13,26 +10,12 @@ parameters-requires-clause-fits c =
     subst (λ ps. FitsStretch (of_parameters ps) u) (sym c.as_slice.ensures)
     (function_parameters c.args.self.now c.requires.right c.args.head.now c.args.body.now u c.in_ok-enter.ensures.at c.requires.fits)
 
-pub statements-requires-clause-right : goal.statements-requires-clause-right
-statements-requires-clause-right c =
-    let u = record c.args.self.now { tables = c.enter.new.self } in
-    let v = c.parameters.new.self in
-    body_right c.args.self.now c.requires.right c.args.head.now c.args.body.now u c.in_ok-enter.ensures.at v
-    (subst (λ ps. PassesStretch (of_parameters ps) u v) c.as_slice.ensures c.in_ok-parameters.ensures)
-
 pub statements-requires-clause-fits : goal.statements-requires-clause-fits
 statements-requires-clause-fits c =
     let u = record c.args.self.now { tables = c.enter.new.self } in
     let v = c.parameters.new.self in
     body_fits c.args.self.now c.requires.right c.args.head.now c.args.body.now u c.in_ok-enter.ensures.at v
     (subst (λ ps. PassesStretch (of_parameters ps) u v) c.as_slice.ensures c.in_ok-parameters.ensures) c.requires.fits
-
-pub returns-clause-tree : goal.returns-clause-tree
-returns-clause-tree c =
-    let u = record c.args.self.now { tables = c.enter.new.self } in
-    let v = c.parameters.new.self in
-    function_has c.args.self.now c.requires.right c.args.head.now c.args.body.now u c.in_ok-enter.ensures.at v
-    (subst (λ ps. PassesStretch (of_parameters ps) u v) c.as_slice.ensures c.in_ok-parameters.ensures) c.in_ok-made.made c.in_ok-made.ensures.tree
 
 pub returns-clause-passes : goal.returns-clause-passes
 returns-clause-passes c =

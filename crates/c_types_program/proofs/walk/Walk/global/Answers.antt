@@ -1,4 +1,4 @@
-use Rattle.c_types_program.proofs.ItemForms.{global_fresh, global_typed, global_shaped, global_right, global_begun, global_has, global_passes}
+use Rattle.c_types_program.proofs.ItemForms.{global_fresh, global_typed, global_shaped, global_begun, global_has, global_passes}
 use Rattle.c_types_program.proofs.walk.Walk.global.Goals as goal
 
 pub declare-requires-clause-fresh : goal.declare-requires-clause-fresh
@@ -11,10 +11,6 @@ declare-requires-clause-typed c =
 pub declare-requires-clause-shaped : goal.declare-requires-clause-shaped
 declare-requires-clause-shaped c =
     global_shaped c.args.self.now c.requires.right c.args.line c.args.var.now c.args.init.now c.args.is_static c.requires.fits c.item_count.result c.item_count.ensures
-
-pub init_tree-requires-clause-right : goal.init_tree-requires-clause-right
-init_tree-requires-clause-right c =
-    global_right c.args.self.now c.requires.right c.args.line c.args.var.now c.args.init.now c.args.is_static c.requires.fits c.item_count.result c.item_count.ensures c.declare.new.self c.in_ok-declare.ensures
 
 pub init_tree-requires-clause-kept : goal.init_tree-requires-clause-kept
 init_tree-requires-clause-kept c =

@@ -1,24 +1,10 @@
 use Rattle.std.proofs.Common.{◌+◌, drop, sym, ap, ◌∙◌}
 use Rattle.c_tree.specs.declared.raw.program.RawProgram.{RawProgram}
-use Rattle.c_language.specs.Scopes.{Scope}
 use Rattle.c_language.proofs.Turns.{drop_turn}
 use Rattle.c_types_base.specs.Tables.{scope_of}
 use Rattle.c_types_base.proofs.ListingLaws.{structs_more, placed}
-use Rattle.c_types_program.proofs.ItemForms.{items_begin, item_comes, items_turn, counted_on, outside_on, next_item, last_item, items_made, functions_made, items_gone}
+use Rattle.c_types_program.proofs.ItemForms.{item_comes, items_turn, counted_on, outside_on, next_item, last_item, items_made, functions_made}
 use Rattle.c_types_program.proofs.walk.Walk.items.Goals as goal
-
-pub loop-item-init : goal.loop-item-init
-loop-item-init c = record {
-  going = items_begin c.args.list.now c.args.self.now c.new-made.result c.new-functions.result c.new-made.ensures c.new-functions.ensures c.requires.right c.requires.fits;
-  counted = ap (λ (x : Scope). x.structs) c.requires.start;
-  outside = ap (λ (x : Scope). x.outer) c.requires.start;
-}
-
-pub item-requires-clause-right : goal.item-requires-clause-right
-item-requires-clause-right c = c.loop-item.invariant.going.at.stands.right
-
-pub item-requires-clause-outside : goal.item-requires-clause-outside
-item-requires-clause-outside c = c.loop-item.invariant.outside
 
 pub item-requires-clause-place : goal.item-requires-clause-place
 item-requires-clause-place c =
@@ -51,6 +37,3 @@ returns-clause-items c = items_made (last_item c.args.list.now c.loop-item.item-
 
 pub returns-clause-functions : goal.returns-clause-functions
 returns-clause-functions c = functions_made (last_item c.args.list.now c.loop-item.item-index c.loop-item-test.false c.loop-item.invariant.going)
-
-pub returns-clause-passes : goal.returns-clause-passes
-returns-clause-passes c = items_gone (last_item c.args.list.now c.loop-item.item-index c.loop-item-test.false c.loop-item.invariant.going)

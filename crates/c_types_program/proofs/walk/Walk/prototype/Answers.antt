@@ -1,15 +1,10 @@
 use Rattle.std.proofs.Common.{refl}
-use Rattle.c_types_program.proofs.ItemForms.{prototype_defined, prototype_has, prototype_passes}
+use Rattle.c_types_program.proofs.ItemForms.{prototype_defined, prototype_passes}
 use Rattle.c_types_program.proofs.walk.Walk.prototype.Goals as goal
 
 pub function_of-function-requires-clause-defined : goal.function_of-function-requires-clause-defined
 function_of-function-requires-clause-defined c =
     prototype_defined c.args.self.now c.requires.right c.args.line c.args.head.now c.requires.fits c.bytes.result.now c.bytes.ensures
-
-pub returns-clause-tree : goal.returns-clause-tree
-returns-clause-tree c =
-    prototype_has c.args.self.now c.requires.right c.args.line c.args.head.now c.bytes.result.now c.as_slice.result.now c.function_of-function.result c.in_ok-names.names
-    c.bytes.ensures c.as_slice.ensures c.function_of-function.ensures c.in_ok-names.ensures
 
 pub returns-clause-passes : goal.returns-clause-passes
 returns-clause-passes c =

@@ -14,9 +14,3 @@ invariant_of-result c = record {
   has_edges = c.in_ok-edges.ensures;
   starts_are = c.in_ok-starts.ensures;
 }
-
-pub edges_of-requires-clause-few : goal.edges_of-requires-clause-few
-edges_of-requires-clause-few c = omega (arith, (few_enough c.args.p.statements (length c.args.p.vars) c.is_too_large.result c.is_too_large.ensures c.if-is_too_large.false).0)
-
-pub edges_of-requires-clause-narrow : goal.edges_of-requires-clause-narrow
-edges_of-requires-clause-narrow c = omega (arith, (few_enough c.args.p.statements (length c.args.p.vars) c.is_too_large.result c.is_too_large.ensures c.if-is_too_large.false).1)

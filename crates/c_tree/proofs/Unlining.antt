@@ -6,6 +6,7 @@ use Rattle.c_tree.specs.declared.statement.Statement.TheOpen.{Statement-F, Arm-F
 use Rattle.c_tree.specs.declared.statement.Statement.TheVariants as s
 use Rattle.c_tree.specs.declared.statement.Arm.{Arm, roll-Arm, map-Arm, fold-Arm, fold-roll-Arm}
 use Rattle.c_tree.proofs.UnlinedLemmas.{unlined_of_arm}
+use Rattle.c_tree.proofs.Trees.{statement_layer, arm_layer, StatementParts, ArmParts}
 
 -- a layer with line 0
 abbrev pub zeroed : {A Q : Type 0} → Statement-F A Q → Statement-F A Q
@@ -65,16 +66,16 @@ module _ {A Q : Type 0} (step : Statement-F A Q → A) (arm : Arm-F A Q → Q) (
   ArmSame x = arm_value (unlined_of_arm x) ≡ arm_value x
 
   abbrev Layer : Type 0
-  Layer = Statement-F ((x : Statement) × Same x) ((x : Arm) × ArmSame x)
+  Layer = StatementParts Same ArmSame
 
   abbrev ArmLayer : Type 0
-  ArmLayer = Arm-F ((x : Statement) × Same x) ((x : Arm) × ArmSame x)
+  ArmLayer = ArmParts Same ArmSame
 
   abbrev shape : Layer → Statement-F Statement Arm
-  shape = map-Statement ((x : Statement) × Same x) ((x : Arm) × ArmSame x) Statement Arm (λ x. x.0) (λ x. x.0)
+  shape = statement_layer Same ArmSame
 
   abbrev arm_shape : ArmLayer → Arm-F Statement Arm
-  arm_shape = map-Arm ((x : Statement) × Same x) ((x : Arm) × ArmSame x) Statement Arm (λ x. x.0) (λ x. x.0)
+  arm_shape = arm_layer Same ArmSame
 
   abbrev bodies : List ((x : Statement) × Same x) → List Statement
   bodies = map (λ (x : (y : Statement) × Same y). x.0)
