@@ -20,7 +20,7 @@ use Rattle.c_language.specs.Phrases.{Stand, InBlock, InArm, InFor, Part, Assigns
 use Rattle.c_language.specs.ProgramOf.{collected, optional, ctype_if, expr_of, target_tree, amount_tree, label_tree, arm_tree, ArmTree, arm_tree_step, block_tree, at_type, switch_type, for_tree, treed_step, treed, declared_by, variables_in, treed_arm}
 use Rattle.c_language.specs.Scopes.{Scope, Scoped, opened, closed, numbered, with_target, in_order, after_all, after_block}
 use Rattle.c_language.specs.TypeGrammar.{named_type}
-use Rattle.c_language.proofs.Options.{none_there, some_same, map_some, then_some}
+use Rattle.c_language.proofs.Options.{none_there, some_same, map_some, then_some, both_some}
 use Rattle.c_language.proofs.PhraseLists.{variables-append, kept_first, kept_second}
 use Rattle.built_forms.specs.IntegerForms.{is_integer}
 use Rattle.built_forms.specs.BuiltForms.{unless, or_else, statement_outside, body_outside, part_outside, arms_outside, integer_labels}
@@ -28,7 +28,7 @@ use Rattle.built_forms.proofs.Declaring.{AreIntegers, no_integers, more_integers
 use Rattle.built_forms.proofs.Layers.{outside-If, outside-While, outside-Do, outside-For, outside-Switch, outside-Block}
 use Rattle.built_forms.proofs.Lines.{first_none}
 use Rattle.built_forms.proofs.Moves.{AreOfMain, both_of_main, Moves, nothing_moves, number_moves, then_moves, numbered_moves, opened_moves, closed_moves, standing_moves, phrase_moves, declaration_moves, target_moves, count_both}
-use Rattle.built_forms.proofs.Options.{both_some, collected_some}
+use Rattle.built_forms.proofs.Options.{collected_some}
 
 module _ (raw : RawProgram) (vars : List Var) where
   -- a statement in the tree and as phrases

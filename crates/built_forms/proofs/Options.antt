@@ -1,14 +1,9 @@
 -- Options that are made of others.
-use Rattle.std.proofs.Common.{◌≡◌, List, ◌∷◌, Bool, true, false, Option, Some, None, option_map, option_and_then, refl, sym, subst}
+use Rattle.std.proofs.Common.{◌≡◌, List, ◌∷◌, Bool, true, false, Option, Some, None, option_map, option_and_then, subst}
 use Rattle.std.specs.Prelude.{if◌then◌else◌}
 use Rattle.c_language.specs.ConstantEvaluation.{both}
 use Rattle.c_language.specs.ProgramOf.{collected}
-use Rattle.c_language.proofs.Options.{none_there, some_same, map_some, then_some}
-
-pub both_some : {A B C : Type 0} (f : A → B → C) (a : Option A) (b : Option B) (z : C) → both f a b ≡ Some z → (x : A) × (y : B) × (a ≡ Some x) × (b ≡ Some y) × (z ≡ f x y)
-both_some f None b z e = none_there e
-both_some f (Some x) None z e = none_there e
-both_some f (Some x) (Some y) z e = (x, y, refl, refl, sym (some_same e))
+use Rattle.c_language.proofs.Options.{map_some, then_some}
 
 -- a value that is there has a property
 abbrev pub Always : {A : Type 0} → (A → Type 0) → Option A → Type 0

@@ -1,18 +1,17 @@
 -- A program of the built forms is of main alone over integers.
-use Rattle.std.proofs.Common.{◌≡◌, ℕ, suc, ◌+◌, ◌<◌, List, [], ◌∷◌, ◌++◌, length, map, Bool, true, false, Option, Some, None, option_and_then, slice_get, find, bytes_eq, append-nil, refl, sym, ap, subst, ◌∙◌, true≢false, arith}
+use Rattle.std.proofs.Common.{◌≡◌, ℕ, suc, ◌+◌, ◌<◌, List, [], ◌∷◌, ◌++◌, length, map, Bool, true, false, Option, Some, None, slice_get, find, bytes_eq, append-nil, refl, sym, ap, subst, ◌∙◌, true≢false, arith}
 use Rattle.std.specs.Prelude.{if◌then◌else◌, All}
 use Rattle.std.specs.Option.{option_map_or}
 use Rattle.std.proofs.lemmas.List.Elements.{All-nil, All-cons}
 use Rattle.std.proofs.lemmas.Slice.Eq.{bytes_eq-Decides}
 use Rattle.std.proofs.lemmas.Option.{slice_get_within}
+use Rattle.c_language.proofs.ProgramParts.{IsMadeOf, made_of}
 use Rattle.c_arith.specs.declared.int_type.IntType.{IntType}
 use Rattle.c_tree.specs.declared.types.CType.{CType, ind-CType, roll-CType, map-CType}
 use Rattle.c_tree.specs.declared.types.CType.TheOpen.{CType-F}
 use Rattle.c_tree.specs.declared.types.CType.TheVariants as type
 use Rattle.c_tree.specs.declared.program.Function.{Function}
-use Rattle.c_tree.specs.declared.program.Item.{Item}
 use Rattle.c_tree.specs.declared.program.Program.{Program}
-use Rattle.c_tree.specs.declared.program.StructDef.{StructDef}
 use Rattle.c_tree.specs.declared.program.Var.{Var}
 use Rattle.c_tree.specs.declared.raw.program.RawHead.{RawHead}
 use Rattle.c_tree.specs.declared.raw.program.RawItem.TheVariants.{Define}
@@ -21,20 +20,18 @@ use Rattle.c_tree.specs.declared.raw.program.RawProgram.{RawProgram}
 use Rattle.c_tree.specs.declared.raw.statement.RawStatement.{RawStatement}
 use Rattle.c_tree.specs.declared.statement.Statement.{Statement}
 use Rattle.c_language.specs.Words.{Bytes}
-use Rattle.c_language.specs.ConstantEvaluation.{both}
 use Rattle.c_language.specs.DeclaredTypes.{StructText, functions_of}
 use Rattle.c_language.specs.NameRules.{main_name, parameters}
-use Rattle.c_language.specs.Phrases.{Phrases, EndsFunction, phrase, phrases, item_phrases, items_phrases, after_item, scope_at_end, body_phrases, after_body, head_phrases}
-use Rattle.c_language.specs.ProgramOf as trees
-use Rattle.c_language.specs.ProgramOf.{items_of, variables_of, collected, ctype_if, body_of, parameter_ids, function_tree, struct_tree, variables_in, program_with, program_of}
+use Rattle.c_language.specs.Phrases.{Phrases, EndsFunction, phrase, phrases, item_phrases, items_phrases, after_item, body_phrases, after_body, head_phrases}
+use Rattle.c_language.specs.ProgramOf.{collected, ctype_if, body_of, parameter_ids, function_tree, struct_tree, variables_in, program_of}
 use Rattle.c_language.specs.Rules.{KeepsRules, by_phrase, no_main, main, AreKept}
 use Rattle.c_language.specs.Scopes.{Scope, outset, with_parameters, entered, scope_of_parameters}
-use Rattle.c_language.proofs.Options.{none_there, some_same, then_some}
+use Rattle.c_language.proofs.Options.{none_there, some_same, both_some}
 use Rattle.c_language.proofs.PhraseLists.{variables-append, kept_first, kept_second, kept_from}
-use Rattle.built_forms.specs.IntegerForms.{IsPlainItem, IsIntegerLocal, IsIntegerMain}
-use Rattle.built_forms.specs.BuiltForms.{is_integer_type, is_integer_variable, body_outside, is_main, function_outside, items_outside, not_yet}
+use Rattle.built_forms.specs.IntegerForms.{IsIntegerLocal, IsIntegerMain}
+use Rattle.built_forms.specs.BuiltForms.{is_integer_type, is_integer_variable, body_outside, is_main, function_outside, not_yet}
 use Rattle.built_forms.proofs.Layers.{type-PointerTo, type-Array, type-Struct}
-use Rattle.built_forms.proofs.Options.{both_some, collected_some}
+use Rattle.built_forms.proofs.Options.{collected_some}
 use Rattle.built_forms.proofs.IntegerLemmas.{body_integers}
 use Rattle.built_forms.proofs.MainHeads.{no_parameters}
 use Rattle.built_forms.proofs.MainItems.{OnlyIncludes, behind_main, MainAt, main_at}
@@ -130,21 +127,14 @@ module _ (raw : RawProgram) (line : ℕ) (head : RawHead) (body : List RawStatem
 -- ---- the law
 
 module _ (raw : RawProgram) (p : Program) (keeps : KeepsRules raw) (made : program_of raw ≡ Some p) (inside : not_yet p ≡ None) where
-  abbrev items_made : (items : List Item) × (items_of raw ≡ Some items) × (option_and_then (λ (vars : List Var). both (program_with (scope_at_end raw).statements items vars) (trees.structs_of raw) (trees.functions_of raw)) (variables_of raw) ≡ Some p)
-  items_made =
-      then_some (λ (items : List Item). option_and_then (λ (vars : List Var). both (program_with (scope_at_end raw).statements items vars) (trees.structs_of raw) (trees.functions_of raw)) (variables_of raw)) (items_of raw) p made
-
-  abbrev vars_made : (vars : List Var) × (variables_of raw ≡ Some vars) × (both (program_with (scope_at_end raw).statements items_made.0 vars) (trees.structs_of raw) (trees.functions_of raw) ≡ Some p)
-  vars_made = then_some (λ (vars : List Var). both (program_with (scope_at_end raw).statements items_made.0 vars) (trees.structs_of raw) (trees.functions_of raw)) (variables_of raw) p items_made.2
-
-  abbrev rest_made : (structs : List StructDef) × (functions : List Function) × (trees.structs_of raw ≡ Some structs) × (trees.functions_of raw ≡ Some functions) × (p ≡ program_with (scope_at_end raw).statements items_made.0 vars_made.0 structs functions)
-  rest_made = both_some (program_with (scope_at_end raw).statements items_made.0 vars_made.0) (trees.structs_of raw) (trees.functions_of raw) p vars_made.2
+  abbrev made_parts : IsMadeOf raw p
+  made_parts = made_of raw p made
 
   some_function : functions_of raw.items ≡ [] → ⊥
   some_function none = keeps 5 1 (no_main (ap (find (λ (f : RawHead). bytes_eq f.name main_name)) none))
 
-  abbrev at : MainAt raw p raw.items items_made.0 rest_made.1
-  at = main_at raw p raw.items some_function items_made.0 items_made.1 (ap (items_outside p) (sym (ap (λ (q : Program). q.items) rest_made.4)) ∙ inside) rest_made.1 rest_made.3
+  abbrev at : MainAt raw p raw.items p.items p.functions
+  at = main_at raw p raw.items some_function p.items made_parts.items inside p.functions made_parts.functions
 
   kept_all : AreKept raw (phrases raw)
   kept_all = kept_from raw (phrases raw) (λ q c n b. keeps n q.line (by_phrase c b))
@@ -152,11 +142,8 @@ module _ (raw : RawProgram) (p : Program) (keeps : KeepsRules raw) (made : progr
   kept_main : AreKept raw (item_phrases raw (Define at.line at.head at.body) outset)
   kept_main = kept_first raw (item_phrases raw (Define at.line at.head at.body) outset) (items_phrases raw at.rest (after_item raw (Define at.line at.head at.body) outset)) (subst (AreKept raw) at.phrases_are kept_all)
 
-  functions_is : p.functions ≡ at.f ∷ at.others
-  functions_is = ap (λ (q : Program). q.functions) rest_made.4 ∙ at.functions
-
   main_tested : (is_main at.f.name ≡ true) × (body_outside p.vars at.f.body ≡ None)
-  main_tested = main_inside (is_main at.f.name) (body_outside p.vars at.f.body) at.f.line (sym (ap (λ (fs : List Function). option_map_or (function_outside p.vars) (slice_get fs 0) None) functions_is) ∙ at.inside)
+  main_tested = main_inside (is_main at.f.name) (body_outside p.vars at.f.body) at.f.line (sym (ap (λ (fs : List Function). option_map_or (function_outside p.vars) (slice_get fs 0) None) at.functions) ∙ at.inside)
 
   abbrev of_main : (result : Option CType) × (statements : List Statement) × (ctype_if raw at.head.result ≡ Some result) × (body_of raw at.body (entered raw at.head outset) ≡ Some statements) × (at.f ≡ function_with at.head.name result (parameter_ids at.head.params 0) statements at.head.is_static at.line)
   of_main = both_some (λ (result : Option CType) (statements : List Statement). function_with at.head.name result (parameter_ids at.head.params 0) statements at.head.is_static at.line) (ctype_if raw at.head.result) (body_of raw at.body (entered raw at.head outset)) at.f at.tree
@@ -190,7 +177,7 @@ module _ (raw : RawProgram) (p : Program) (keeps : KeepsRules raw) (made : progr
   alone : OnlyIncludes raw p at.rest after at.behind at.others
   alone = behind_main raw p at.rest after one_function at.behind at.later_items at.later_inside at.others at.later_functions
 
-  found_is : collected found ≡ Some vars_made.0
+  found_is : collected found ≡ Some p.vars
   found_is =
       ap collected
       (sym (found_are raw at.line at.head at.body named kept_main)
@@ -198,32 +185,26 @@ module _ (raw : RawProgram) (p : Program) (keeps : KeepsRules raw) (made : progr
       ∙ ap (λ (ps : Phrases). variables_in raw (item_phrases raw (Define at.line at.head at.body) outset) ++ variables_in raw ps) (sym alone.no_phrases)
       ∙ sym (variables-append raw (item_phrases raw (Define at.line at.head at.body) outset) (items_phrases raw at.rest after))
       ∙ ap (variables_in raw) (sym at.phrases_are))
-      ∙ vars_made.1
-
-  vars_is : p.vars ≡ vars_made.0
-  vars_is = ap (λ (q : Program). q.vars) rest_made.4
+      ∙ made_parts.vars
 
   count_is : (after_body raw at.body start).variables ≡ length p.vars
   count_is =
-      let a : length vars_made.0 ≡ length found = found_length found vars_made.0 found_is in
+      let a : length p.vars ≡ length found = found_length found p.vars found_is in
       let b : (after_body raw at.body start).variables ≡ 0 + length found = all.count in
-      omega (arith, a, b, ap length vars_is)
+      omega (arith, a, b)
 
-  shaped : (k : ℕ) (v : Var) → slice_get vars_made.0 k ≡ Some v → (t : IntType) × (v.shape ≡ type.Integer t)
-  shaped k v is =
-      let here : slice_get p.vars k ≡ Some v = ap (λ (vs : List Var). slice_get vs k) vars_is ∙ is in
+  shaped : (k : ℕ) (v : Var) → slice_get p.vars k ≡ Some v → (t : IntType) × (v.shape ≡ type.Integer t)
+  shaped k v here =
       let low : k < length p.vars = slice_get_within p.vars k v here in
       integer_variable p.vars k v here (all.integers k (omega arith) (omega (arith, low, count_is)))
 
   pub built_integer_main : IsIntegerMain p
   built_integer_main = record {
     main = at.f;
-    items_are = subst (All IsPlainItem) (sym (ap (λ (q : Program). q.items) rest_made.4)) (at.plain alone.plain);
-    structs_are =
-        ap (λ (q : Program). q.structs) rest_made.4
-        ∙ sym (some_same (ap (λ (ds : List StructText). collected (map (struct_tree raw) ds)) (sym (at.structs ∙ alone.no_structs)) ∙ rest_made.2));
-    functions_are = functions_is ∙ ap (λ (fs : List Function). at.f ∷ fs) alone.no_functions;
+    items_are = at.plain alone.plain;
+    structs_are = sym (some_same (ap (λ (ds : List StructText). collected (map (struct_tree raw) ds)) (sym (at.structs ∙ alone.no_structs)) ∙ made_parts.structs));
+    functions_are = at.functions ∙ ap (λ (fs : List Function). at.f ∷ fs) alone.no_functions;
     no_parameters = takes_nothing raw at.line at.head at.body named kept_main at.f at.tree;
-    locals = subst (All IsIntegerLocal) (sym vars_is) (locals_of found vars_made.0 found_is all.of_main shaped);
+    locals = locals_of found p.vars found_is all.of_main shaped;
     statements_are = body_integers p.vars at.f.body main_tested.1;
   }

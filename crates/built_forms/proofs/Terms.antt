@@ -9,13 +9,13 @@ use Rattle.c_tree.specs.declared.expr.Expr.{Expr, fold-roll-Expr}
 use Rattle.c_tree.specs.declared.expr.Expr.TheOpen.{Expr-F}
 use Rattle.c_tree.specs.declared.expr.Expr.TheVariants as e
 use Rattle.c_tree.specs.declared.expr.MemberId.{MemberId}
-use Rattle.c_tree.specs.declared.raw.expr.RawExpr.{RawExpr, map-RawExpr, ind-RawExpr, roll-RawExpr, fold-RawExpr, fold-roll-RawExpr}
+use Rattle.c_tree.specs.declared.raw.expr.RawExpr.{RawExpr, map-RawExpr, ind-RawExpr, roll-RawExpr, fold-roll-RawExpr}
 use Rattle.c_tree.specs.declared.raw.expr.RawExpr.TheOpen.{RawExpr-F}
 use Rattle.c_tree.specs.declared.raw.program.RawProgram.{RawProgram}
 use Rattle.c_language.specs.Words.{Bytes}
 use Rattle.c_language.specs.ConstantEvaluation.{both}
 use Rattle.c_language.specs.Scopes.{Entry, Scope, Meaning, found_in, meaning_in}
-use Rattle.c_language.specs.ProgramOf.{Told, told_step, expr_of, variable_number}
+use Rattle.c_language.specs.ProgramOf.{Told, told_step, told_of, expr_of, variable_number}
 use Rattle.c_language.specs.declared.expr_type.ExprType.{ExprType}
 use Rattle.c_language.proofs.Options.{none_there, some_same}
 use Rattle.built_forms.specs.NamesBelow.{names_step, names_below}
@@ -108,7 +108,7 @@ module _ (raw : RawProgram) (scope : Scope) (n : ℕ) (low : AreBelow n scope) w
   low_name (Some (Meaning.Variable id t)) h = below-Variable n id ∙ grind (arith, nat_tests, h id t refl)
 
   abbrev IsLowRaw : RawExpr → Type 0
-  IsLowRaw a = LowTree (fold-RawExpr Told (told_step raw scope) a)
+  IsLowRaw a = LowTree (told_of raw scope a)
 
   abbrev Below : Type 0
   Below = (a : RawExpr) × IsLowRaw a
@@ -116,7 +116,7 @@ module _ (raw : RawProgram) (scope : Scope) (n : ℕ) (low : AreBelow n scope) w
   abbrev layer_of : RawExpr-F Below → RawExpr-F RawExpr
   layer_of = map-RawExpr Below RawExpr (λ a. a.0)
 
-  step_low : (y : RawExpr-F Below) → LowTree (told_step raw scope (map-RawExpr RawExpr Told (fold-RawExpr Told (told_step raw scope)) (layer_of y)))
+  step_low : (y : RawExpr-F Below) → LowTree (told_step raw scope (map-RawExpr RawExpr Told (told_of raw scope) (layer_of y)))
   step_low (RawExpr-F.Constant text) = below-Constant n text _ _
   step_low RawExpr-F.Null = below-Null n
   step_low RawExpr-F.Eof = below-Eof n

@@ -15,6 +15,7 @@ pub mod FormedTokens
 pub mod Options
 pub mod Operands
 pub mod PhraseLists
+pub mod ProgramParts
 pub mod RawWordLemmas
 pub mod Tests
 pub mod HeadLemmas

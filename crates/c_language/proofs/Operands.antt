@@ -1,17 +1,20 @@
 -- The types of operands that break no rule, and what the rules ask of an expression where two texts agree.
 use Rattle.std.proofs.Common.{◌≡◌, ℕ, Option, Some, None, Bool, true, false, not, ◌&&◌, ◌||◌, true≢false, refl, ap, ap₂}
 use Rattle.std.specs.Prelude.{option_and_then, is_none, nat_lt}
+use Rattle.c_language.specs.Uses.{IsWithin}
+use Rattle.c_tree.specs.declared.raw.expr.RawExpr.{RawExpr, map-RawExpr}
 use Rattle.c_tree.specs.declared.raw.expr.RawExpr.TheOpen.{RawExpr-F}
+use Rattle.c_tree.specs.declared.raw.expr.RawExpr.TheVariants as e
 use Rattle.c_tree.specs.declared.raw.program.RawProgram.{RawProgram}
 use Rattle.c_language.specs.Words.{Bytes}
 use Rattle.c_language.specs.Scopes.{Scope, Meaning, meaning_in}
-use Rattle.c_language.specs.ExprTypes.{operand_step, a_value, a_place, variable_in, unary_result, binary_result, logical_result, choose_result, cast_result, pointed, indexed, address_result, given, is_array, value_type, struct_of, selected, member_of, member_type}
+use Rattle.c_language.specs.ExprTypes.{operand_step, a_value, a_place, variable_in, unary_result, binary_result, logical_result, choose_result, cast_result, pointed, indexed, address_result, given, is_array, value_type, struct_of, selected, member_of, member_type, operand}
 use Rattle.c_language.specs.declared.expr_type.ExprType.{ExprType}
 use Rattle.c_language.specs.declared.expr_type.Operand.{Operand}
 use Rattle.c_language.specs.DeclaredTypes.{has_stdio, has_stdlib}
-use Rattle.c_language.specs.ExprRules.{Seen, is_undeclared, has_bad_operand, has_no_address, needs_struct, selects_missing, fails, holds_of, is_function, is_incomplete_struct, lacks_member, lacks_header}
+use Rattle.c_language.specs.ExprRules.{Seen, is_undeclared, has_bad_operand, has_no_address, needs_struct, selects_missing, fails, holds_of, is_function, is_incomplete_struct, lacks_member, lacks_header, seen}
 use Rattle.c_language.proofs.Options.{there_map}
-use Rattle.c_language.proofs.UseLemmas.{OfParts}
+use Rattle.c_language.proofs.UseLemmas.{OfParts, out-Constant}
 use Rattle.c_language.specs.Options.{IsThere}
 
 pub not_fails : {A : Type 0} (r : Option A) → fails (Some r) ≡ false → IsThere r
@@ -54,6 +57,9 @@ abbrev pub HasTypeIf : Option Meaning → Type 0
 HasTypeIf None = Unit {0}
 HasTypeIf (Some m) = HasType m
 
+pub seen-Constant : (raw : RawProgram) (scope : Scope) (text : Bytes) → seen raw scope (e.Constant text) ≡ RawExpr-F.Constant text
+seen-Constant raw scope text = ap (map-RawExpr RawExpr (Option Operand) (operand raw scope)) (out-Constant text)
+
 -- a form of an expression breaks none of these rules
 pub record IsClean (raw : RawProgram) (scope : Scope) (s : Seen) : Type 0 where
   pub declared : is_undeclared scope s ≡ false
@@ -61,6 +67,10 @@ pub record IsClean (raw : RawProgram) (scope : Scope) (s : Seen) : Type 0 where
   pub address : has_no_address s ≡ false
   pub complete : needs_struct scope s ≡ false
   pub member : selects_missing raw s ≡ false
+
+-- no part of an expression breaks one
+abbrev pub AreClean : RawProgram → Scope → RawExpr → Type 0
+AreClean raw scope a = (inner : RawExpr) → IsWithin inner a → IsClean raw scope (seen raw scope inner)
 
 -- a form that breaks none of them is an operand, where variables have types, and complete struct types their members
 module _ (raw : RawProgram) (scope : Scope)

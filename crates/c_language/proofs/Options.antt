@@ -47,3 +47,8 @@ optional_there (Some y) z h = (y, (refl, some_same h))
 pub then_some : {A B : Type 0} (f : A → Option B) (o : Option A) (y : B) → option_and_then f o ≡ Some y → (x : A) × (o ≡ Some x) × (f x ≡ Some y)
 then_some f None y e = none_there e
 then_some f (Some x) y e = (x, refl, e)
+
+pub both_some : {A B C : Type 0} (f : A → B → C) (a : Option A) (b : Option B) (z : C) → both f a b ≡ Some z → (x : A) × (y : B) × (a ≡ Some x) × (b ≡ Some y) × (z ≡ f x y)
+both_some f None b z e = none_there e
+both_some f (Some x) None z e = none_there e
+both_some f (Some x) (Some y) z e = (x, y, refl, refl, sym (some_same e))

@@ -30,3 +30,7 @@ or_none false = refl
 pub or_assoc : (a b c : Bool) → ((a || b) || c) ≡ (a || (b || c))
 or_assoc true b c = refl
 or_assoc false b c = refl
+
+-- none of four tests passes
+pub none_of : (a b c d : Bool) → a ≡ false → b ≡ false → c ≡ false → d ≡ false → (a || (b || (c || (d || false)))) ≡ false
+none_of a b c d first second third fourth = rw (first, second, third, fourth) refl

@@ -174,9 +174,12 @@ told_step raw scope (RawExpr-F.Arrow a m) =
     told raw scope (RawExpr-F.Arrow a.operand m) (option_and_then (λ (x : Expr). option_map (e.Arrow x) (of_pointed raw m a.operand)) a.tree)
 told_step raw scope (RawExpr-F.Paren a) = told raw scope (RawExpr-F.Paren a.operand) (option_map e.Paren a.tree)
 
+abbrev pub told_of : RawProgram → Scope → RawExpr → Told
+told_of raw scope = fold-RawExpr Told (told_step raw scope)
+
 -- an expression in the tree, where its scope is in force: None where a name or a member isn't there
 abbrev pub expr_of : RawProgram → Scope → RawExpr → Option Expr
-expr_of raw scope a = (fold-RawExpr Told (told_step raw scope) a).tree
+expr_of raw scope a = (told_of raw scope a).tree
 
 abbrev pub exprs_of : RawProgram → Scope → List RawExpr → Option (List Expr)
 exprs_of raw scope es = collected (map (expr_of raw scope) es)

@@ -1,4 +1,4 @@
--- Small programs of every form without calls, and what C99 says that they do: the events by statement, and the output.
+-- Small programs without calls and switches, and what C99 says that they do: the events by statement, and the output.
 use Rattle.std.proofs.Common.{ℕ, ℤ, pos, negsuc, List, [], ◌∷◌, Some, true, false, refl}
 use Rattle.std.specs.Prelude.{codes}
 use Rattle.std.specs.Fmt.{digits}

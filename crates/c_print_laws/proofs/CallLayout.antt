@@ -2,6 +2,7 @@
 use Rattle.std.proofs.Common.{◌≡◌, ◌≢◌, ℕ, suc, arith, List, [], ◌∷◌, ◌++◌, Bool, true, false, Option, Some, None, codes, refl, sym, ap, ap₂, subst, ◌∙◌, map}
 use Rattle.std.specs.Prelude.{Contains, option_map, option_and_then, if◌then◌else◌, bytes_eq}
 use Rattle.std.proofs.lemmas.Slice.Eq.{bytes_eq-Decides}
+use Rattle.c_language.proofs.Operands.{AreClean}
 use Rattle.c_tree.specs.declared.types.CType.{CType}
 use Rattle.c_tree.specs.declared.expr.Expr.{Expr}
 use Rattle.c_tree.specs.declared.program.Program.{Program}
@@ -41,7 +42,6 @@ use Rattle.c_language.specs.ProgramOf.{ctype, ctype_if, expr_of, exprs_of, init_
 use Rattle.c_language.proofs.LayoutLemmas.{laid-Invoke, laid-Fetch, laid-Write, laid-Print, laid-Heap, laid-Release}
 use Rattle.c_text_layout.specs.RawLayout.{raw_init_words, raw_target_words, raw_arg_words, raw_pointee_words, raw_size_words, raw_amount_words, raw_cast_words}
 use Rattle.c_print_laws.proofs.Options.{map_there, then_there, both_there, collected_are}
-use Rattle.c_print_laws.proofs.Operands.{KeepsAll}
 use Rattle.c_print_laws.proofs.Named.{IsNamed, Fits}
 use Rattle.c_print_laws.proofs.ExprLayout.{variable_named, expr_layout, exprs_layout}
 use Rattle.c_print_laws.proofs.TypeLayout.{nameless_layout}
@@ -61,9 +61,9 @@ IsNone (target.Declared v) = ⊥
 module _ (raw : RawProgram) (p : Program) (named : IsNamed raw p) (scope : Scope) (fits : Fits p scope) where
   -- the expressions break no rule
   abbrev pub AllKept : List RawExpr → Type 0
-  AllKept all = (a : RawExpr) → Contains all a → KeepsAll raw scope a
+  AllKept all = (a : RawExpr) → Contains all a → AreClean raw scope a
 
-  kept_first : (a : RawExpr) (all : List RawExpr) → AllKept (a ∷ all) → KeepsAll raw scope a
+  kept_first : (a : RawExpr) (all : List RawExpr) → AllKept (a ∷ all) → AreClean raw scope a
   kept_first a all keeps = keeps a (0, omega arith, refl)
 
   kept_later : (a : RawExpr) (all : List RawExpr) → AllKept (a ∷ all) → AllKept all

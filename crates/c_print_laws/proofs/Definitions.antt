@@ -4,6 +4,7 @@ use Rattle.std.specs.Prelude.{is_some, if◌then◌else◌, bytes_eq}
 use Rattle.std.specs.Option.{option_map_or}
 use Rattle.std.proofs.lemmas.Slice.Eq.{bytes_eq-Decides}
 use Rattle.std.proofs.lemmas.Bool.{and_parts}
+use Rattle.c_language.proofs.ProgramParts.{made_of}
 use Rattle.c_arith.specs.declared.int_type.IntType.{IntType}
 use Rattle.c_tree.specs.declared.raw.expr.RawType.{RawType}
 use Rattle.c_tree.specs.declared.raw.expr.RawType.TheVariants as type
@@ -21,14 +22,13 @@ use Rattle.c_language.specs.ItemGrammar.{are_named}
 use Rattle.c_language.specs.DeclaredTypes.{defined_functions, functions_of, function_id}
 use Rattle.c_language.specs.Scopes.{Scope, outset, with_named, scope_of_parameters, entered, with_parameter}
 use Rattle.c_language.specs.Phrases.{phrase, EndsFunction, DeclaresFunction, parameter_phrases, head_phrases, body_phrases, item_phrases, after_item, items_phrases, phrases}
-use Rattle.c_language.specs.ProgramOf.{ctype, ctype_with, ctype_if, variables_in, parameter_ids, function_tree, functions_from, body_of, items_of, variables_of, structs_of, program_with, program_of, struct_tree, items_from}
-use Rattle.c_language.specs.ProgramOf as tree
+use Rattle.c_language.specs.ProgramOf.{ctype, ctype_with, ctype_if, variables_in, parameter_ids, function_tree, functions_from, body_of, program_of, struct_tree, items_from}
 use Rattle.c_language.specs.DeclaredTypes.{defined_structs}
 use Rattle.c_language.specs.Phrases.{scope_at_end}
 use Rattle.c_language.proofs.Options.{none_there, some_same}
 use Rattle.c_language.proofs.Tests.{false_true}
 use Rattle.c_language.proofs.ScopeNumbers.{function_variables}
-use Rattle.c_print_laws.proofs.Options.{map_there, then_there, both_there, collected_are}
+use Rattle.c_print_laws.proofs.Options.{map_there, both_there, collected_are}
 use Rattle.c_print_laws.proofs.Named.{positioned}
 use Rattle.c_print_laws.proofs.Told.{AreTold, told_first, told_rest, told_later}
 use Rattle.c_print_laws.proofs.Numbers.{parameter_count, item_variables, define_functions, prototype_functions}
@@ -45,16 +45,14 @@ pub record IsProgramOf (raw : RawProgram) (p : Program) : Type 0 where
 
 pub program_parts : (raw : RawProgram) (p : Program) → program_of raw ≡ Some p → IsProgramOf raw p
 program_parts raw p h =
-    let a = then_there _ (items_of raw) p h in
-    let b = then_there _ (variables_of raw) p a.same in
-    let c = both_there (program_with (scope_at_end raw).statements a.value b.value) (structs_of raw) (tree.functions_of raw) p b.same in
-    subst (IsProgramOf raw) c.same (record {
-      items = collected_are (items_from raw raw.items outset) a.value a.there;
-      vars = collected_are (variables_in raw (phrases raw)) b.value b.there;
-      structs = collected_are (map (struct_tree raw) (defined_structs raw)) c.left c.left_there;
-      functions = collected_are (functions_from raw raw.items outset) c.right c.right_there;
-      statements = refl;
-    })
+    let made = made_of raw p h in
+    record {
+      items = collected_are (items_from raw raw.items outset) p.items made.items;
+      vars = collected_are (variables_in raw (phrases raw)) p.vars made.vars;
+      structs = collected_are (map (struct_tree raw) (defined_structs raw)) p.structs made.structs;
+      functions = collected_are (functions_from raw raw.items outset) p.functions made.functions;
+      statements = made.statements;
+    }
 
 -- ---- places behind a number
 

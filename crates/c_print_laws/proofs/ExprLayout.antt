@@ -1,11 +1,12 @@
 -- The words of an expression of a program are those of the text's expression.
 use Rattle.std.proofs.Common.{◌≡◌, ℕ, suc, List, [], ◌∷◌, ◌++◌, arith, Option, Some, None, codes, refl, sym, ap, ap₂, subst, ◌∙◌, map}
 use Rattle.std.specs.Prelude.{Contains, option_map, option_and_then}
+use Rattle.c_language.proofs.Operands.{AreClean}
 use Rattle.c_tree.specs.declared.expr.Expr.{Expr}
 use Rattle.c_tree.specs.declared.expr.Expr.TheVariants as e
 use Rattle.c_tree.specs.declared.expr.MemberId.{MemberId}
 use Rattle.c_tree.specs.declared.program.Program.{Program}
-use Rattle.c_tree.specs.declared.raw.expr.RawExpr.{RawExpr, map-RawExpr, fold-RawExpr, fold-roll-RawExpr}
+use Rattle.c_tree.specs.declared.raw.expr.RawExpr.{RawExpr, map-RawExpr, fold-roll-RawExpr}
 use Rattle.c_tree.specs.declared.raw.expr.RawExpr.TheOpen.{RawExpr-F}
 use Rattle.c_tree.specs.declared.raw.program.RawProgram.{RawProgram}
 use Rattle.c_tree.proofs.RawTrees.{ExprParts, expr_layer, of_every_expr}
@@ -13,13 +14,12 @@ use Rattle.c_language.specs.Words.{Bytes, signed, binary_sign, int_words, expr_w
 use Rattle.c_language.specs.ConstantEvaluation.{both, constant, literal_type, literal_value}
 use Rattle.c_language.specs.Scopes.{Meaning, Scope, meaning_in}
 use Rattle.c_language.specs.ExprTypes.{pointed, struct_of}
-use Rattle.c_language.specs.ProgramOf.{Told, told_step, expr_of, variable_number, of_operand, of_pointed, member_id, raw_words_step, raw_words}
+use Rattle.c_language.specs.ProgramOf.{Told, told_step, told_of, expr_of, variable_number, of_operand, of_pointed, member_id, raw_words_step, raw_words}
 use Rattle.c_language.specs.declared.expr_type.Operand.{Operand}
 use Rattle.c_language.specs.declared.expr_type.ExprType.{ExprType}
 use Rattle.c_language.proofs.WordLemmas.{expr_words-Constant, expr_words-Null, expr_words-Eof, expr_words-Variable, expr_words-Unary, expr_words-Deref, expr_words-AddressOf, expr_words-Binary, expr_words-AndAlso, expr_words-OrElse, expr_words-Choose, expr_words-Cast, expr_words-Index, expr_words-Member, expr_words-Arrow, expr_words-Paren}
 use Rattle.c_text_layout.specs.SpacedWords.{spaced_words}
 use Rattle.c_print_laws.proofs.Options.{map_there, then_there, both_there}
-use Rattle.c_print_laws.proofs.Operands.{KeepsAll}
 use Rattle.c_print_laws.proofs.SpacedWords.{constant_spaced, words_spaced}
 use Rattle.c_print_laws.proofs.Named.{IsNamed, Fits, fits_found, fits_typed}
 use Rattle.c_language.proofs.Options.{none_there, some_same}
@@ -49,15 +49,12 @@ module _ (raw : RawProgram) (p : Program) (named : IsNamed raw p) (scope : Scope
       let k = then_there (member_id raw name) (struct_of t.value) m t.same in
       (k.value, k.same)
 
-  abbrev told_of : RawExpr → Told
-  told_of = fold-RawExpr Told (told_step raw scope)
-
   abbrev layer_of : ExprParts HasWords → RawExpr-F RawExpr
   layer_of = expr_layer HasWords
 
   -- the words of a layer, from those of its parts
   abbrev Layered : RawExpr-F RawExpr → Type 0
-  Layered y = (x : Expr) → (told_step raw scope (map-RawExpr RawExpr Told told_of y)).tree ≡ Some x → expr_words p x ≡ raw_words_step (map-RawExpr RawExpr Bytes raw_words y)
+  Layered y = (x : Expr) → (told_step raw scope (map-RawExpr RawExpr Told (told_of raw scope) y)).tree ≡ Some x → expr_words p x ≡ raw_words_step (map-RawExpr RawExpr Bytes raw_words y)
 
   one : (f : Expr → Expr) (w : Bytes → Bytes) (a : RawExpr) → HasWords a → ((x : Expr) → expr_words p (f x) ≡ w (expr_words p x))
       → (x : Expr) → option_map f (expr_of raw scope a) ≡ Some x → expr_words p x ≡ w (raw_words a)
@@ -99,11 +96,11 @@ module _ (raw : RawProgram) (p : Program) (named : IsNamed raw p) (scope : Scope
   layered (RawExpr-F.Cast t a) x h = one (e.Cast t) (λ (w : Bytes). codes "(" ++ (int_words t ++ (codes ")" ++ w))) a.0 a.1 (expr_words-Cast p t) x h
   layered (RawExpr-F.Index a i) x h = two e.Index (λ (v w : Bytes). v ++ (codes "[" ++ (w ++ codes "]"))) a.0 i.0 a.1 i.1 (expr_words-Index p) x h
   layered (RawExpr-F.Member a m) x h =
-      selected e.Member (λ (v w : Bytes). v ++ (codes "." ++ w)) a.0 m (of_operand raw m (told_of a.0).operand) a.1
-      (λ k is x. let s = member_of_operand m (told_of a.0).operand k is in expr_words-Member p x k ∙ ap (λ (w : Bytes). expr_words p x ++ (codes "." ++ w)) (named.members m s.0 k s.1)) x h
+      selected e.Member (λ (v w : Bytes). v ++ (codes "." ++ w)) a.0 m (of_operand raw m (told_of raw scope a.0).operand) a.1
+      (λ k is x. let s = member_of_operand m (told_of raw scope a.0).operand k is in expr_words-Member p x k ∙ ap (λ (w : Bytes). expr_words p x ++ (codes "." ++ w)) (named.members m s.0 k s.1)) x h
   layered (RawExpr-F.Arrow a m) x h =
-      selected e.Arrow (λ (v w : Bytes). v ++ (codes "->" ++ w)) a.0 m (of_pointed raw m (told_of a.0).operand) a.1
-      (λ k is x. let s = member_of_pointed m (told_of a.0).operand k is in expr_words-Arrow p x k ∙ ap (λ (w : Bytes). expr_words p x ++ (codes "->" ++ w)) (named.members m s.0 k s.1)) x h
+      selected e.Arrow (λ (v w : Bytes). v ++ (codes "->" ++ w)) a.0 m (of_pointed raw m (told_of raw scope a.0).operand) a.1
+      (λ k is x. let s = member_of_pointed m (told_of raw scope a.0).operand k is in expr_words-Arrow p x k ∙ ap (λ (w : Bytes). expr_words p x ++ (codes "->" ++ w)) (named.members m s.0 k s.1)) x h
   layered (RawExpr-F.Paren a) x h = one e.Paren (λ (w : Bytes). codes "(" ++ (w ++ codes ")")) a.0 a.1 (expr_words-Paren p) x h
 
   plain_layout : (a : RawExpr) (x : Expr) → expr_of raw scope a ≡ Some x → expr_words p x ≡ raw_words a
@@ -112,7 +109,7 @@ module _ (raw : RawProgram) (p : Program) (named : IsNamed raw p) (scope : Scope
       ∙ sym (fold-roll-RawExpr Bytes raw_words_step (layer_of y)))
 
   -- an expression that breaks no rule has the words of the text's layout
-  pub expr_layout : (a : RawExpr) → KeepsAll raw scope a → (x : Expr) → expr_of raw scope a ≡ Some x → expr_words p x ≡ spaced_words a
+  pub expr_layout : (a : RawExpr) → AreClean raw scope a → (x : Expr) → expr_of raw scope a ≡ Some x → expr_words p x ≡ spaced_words a
   expr_layout a keeps x h = plain_layout a x h ∙ sym (words_spaced raw scope named.complete (λ name. fits_typed p scope.names name fits) a keeps)
 
   -- so has a constant expression
@@ -120,7 +117,7 @@ module _ (raw : RawProgram) (p : Program) (named : IsNamed raw p) (scope : Scope
   constant_layout a there x h = plain_layout a x h ∙ sym (constant_spaced a there)
 
   -- a list of expressions
-  pub exprs_layout : (all : List RawExpr) → ((a : RawExpr) → Contains all a → KeepsAll raw scope a) → (xs : List Expr) → map (expr_of raw scope) all ≡ map Some xs → map (expr_words p) xs ≡ map spaced_words all
+  pub exprs_layout : (all : List RawExpr) → ((a : RawExpr) → Contains all a → AreClean raw scope a) → (xs : List Expr) → map (expr_of raw scope) all ≡ map Some xs → map (expr_words p) xs ≡ map spaced_words all
   exprs_layout [] keeps [] h = refl
   exprs_layout [] keeps (x ∷ xs) h = no_list (sym h)
   exprs_layout (a ∷ all) keeps [] h = no_list h

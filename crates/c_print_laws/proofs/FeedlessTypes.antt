@@ -12,7 +12,7 @@ use Rattle.c_tree.specs.declared.types.CType.TheVariants as t
 use Rattle.c_tree.specs.declared.expr.Expr.{Expr, roll-Expr, map-Expr, fold-roll-Expr}
 use Rattle.c_tree.specs.declared.expr.Expr.TheOpen.{Expr-F}
 use Rattle.c_tree.specs.declared.expr.Expr.TheVariants as e
-use Rattle.c_tree.specs.declared.raw.expr.RawExpr.{RawExpr, map-RawExpr, fold-RawExpr, fold-roll-RawExpr}
+use Rattle.c_tree.specs.declared.raw.expr.RawExpr.{RawExpr, map-RawExpr, fold-roll-RawExpr}
 use Rattle.c_tree.specs.declared.raw.expr.RawExpr.TheOpen.{RawExpr-F}
 use Rattle.c_tree.specs.declared.raw.expr.RawLength.{RawLength}
 use Rattle.c_tree.specs.declared.raw.expr.RawLength.TheVariants.{Written, Listed}
@@ -27,7 +27,7 @@ use Rattle.c_language.specs.Scopes.{Scope, meaning_in}
 use Rattle.c_language.specs.ConstantEvaluation.{literal_type, literal_value}
 use Rattle.c_language.specs.DeclaredTypes.{struct_id, length_in}
 use Rattle.c_language.specs.TypeGrammar.{pointed_n}
-use Rattle.c_language.specs.ProgramOf.{optional, raw_words_step, raw_words, length_words, ctype_step, ctype_with, ctype, ctype_if, Told, told_step, variable_number, expr_of}
+use Rattle.c_language.specs.ProgramOf.{optional, raw_words_step, raw_words, length_words, ctype_step, ctype_with, ctype, ctype_if, Told, told_step, told_of, variable_number, expr_of}
 use Rattle.c_language.proofs.Options.{none_there, some_same}
 use Rattle.c_print.specs.Feedless.{feedless, type_step, type_feedless, expr_step, expr_feedless}
 use Rattle.c_print.proofs.FeedLemmas.{cat, int_feedless, sign_feedless, signed_feedless}
@@ -161,53 +161,50 @@ module _ (raw : RawProgram) (scope : Scope) where
   abbrev GivesExpr : RawExpr → Type 0
   GivesExpr a = raw_expr_feedless a ≡ true → (x : Expr) → expr_of raw scope a ≡ Some x → expr_feedless x ≡ true
 
-  abbrev as_told : RawExpr → Told
-  as_told = fold-RawExpr Told (told_step raw scope)
-
   expr_case : (y : ExprParts GivesExpr) → raw_expr_step (map-RawExpr RawExpr Bool raw_expr_feedless (expr_layer GivesExpr y)) ≡ true
-      → (x : Expr) → (told_step raw scope (map-RawExpr RawExpr Told as_told (expr_layer GivesExpr y))).tree ≡ Some x → expr_feedless x ≡ true
+      → (x : Expr) → (told_step raw scope (map-RawExpr RawExpr Told (told_of raw scope) (expr_layer GivesExpr y))).tree ≡ Some x → expr_feedless x ≡ true
   expr_case (RawExpr-F.Constant text) h x is = tree_by (Expr-F.Constant text (literal_type text) (literal_value text)) (e.rolls-Constant text (literal_type text) (literal_value text)) (some_same is) h
   expr_case RawExpr-F.Null h x is = tree_by Expr-F.Null e.rolls-Null (some_same is) refl
   expr_case RawExpr-F.Eof h x is = tree_by Expr-F.Eof e.rolls-Eof (some_same is) refl
   expr_case (RawExpr-F.Variable name) h x is = let g = map_there e.Variable (variable_number (meaning_in scope name)) x is in tree_by (Expr-F.Variable g.value) (e.rolls-Variable g.value) g.same refl
-  expr_case (RawExpr-F.Unary op a) h x is = let g = map_there (e.Unary op) (as_told a.0).tree x is in tree_by (Expr-F.Unary op g.value) (e.rolls-Unary op g.value) g.same (a.1 h g.value g.there)
-  expr_case (RawExpr-F.Deref a) h x is = let g = map_there e.Deref (as_told a.0).tree x is in tree_by (Expr-F.Deref g.value) (e.rolls-Deref g.value) g.same (a.1 h g.value g.there)
-  expr_case (RawExpr-F.AddressOf a) h x is = let g = map_there e.AddressOf (as_told a.0).tree x is in tree_by (Expr-F.AddressOf g.value) (e.rolls-AddressOf g.value) g.same (a.1 h g.value g.there)
+  expr_case (RawExpr-F.Unary op a) h x is = let g = map_there (e.Unary op) (told_of raw scope a.0).tree x is in tree_by (Expr-F.Unary op g.value) (e.rolls-Unary op g.value) g.same (a.1 h g.value g.there)
+  expr_case (RawExpr-F.Deref a) h x is = let g = map_there e.Deref (told_of raw scope a.0).tree x is in tree_by (Expr-F.Deref g.value) (e.rolls-Deref g.value) g.same (a.1 h g.value g.there)
+  expr_case (RawExpr-F.AddressOf a) h x is = let g = map_there e.AddressOf (told_of raw scope a.0).tree x is in tree_by (Expr-F.AddressOf g.value) (e.rolls-AddressOf g.value) g.same (a.1 h g.value g.there)
   expr_case (RawExpr-F.Binary op a b) h x is =
       let p = and_parts (raw_expr_feedless a.0) (raw_expr_feedless b.0) h in
-      let g = both_there (e.Binary op) (as_told a.0).tree (as_told b.0).tree x is in
+      let g = both_there (e.Binary op) (told_of raw scope a.0).tree (told_of raw scope b.0).tree x is in
       tree_by (Expr-F.Binary op g.left g.right) (e.rolls-Binary op g.left g.right) g.same (and_from _ _ (a.1 p.0 g.left g.left_there) (b.1 p.1 g.right g.right_there))
   expr_case (RawExpr-F.AndAlso a b) h x is =
       let p = and_parts (raw_expr_feedless a.0) (raw_expr_feedless b.0) h in
-      let g = both_there e.AndAlso (as_told a.0).tree (as_told b.0).tree x is in
+      let g = both_there e.AndAlso (told_of raw scope a.0).tree (told_of raw scope b.0).tree x is in
       tree_by (Expr-F.AndAlso g.left g.right) (e.rolls-AndAlso g.left g.right) g.same (and_from _ _ (a.1 p.0 g.left g.left_there) (b.1 p.1 g.right g.right_there))
   expr_case (RawExpr-F.OrElse a b) h x is =
       let p = and_parts (raw_expr_feedless a.0) (raw_expr_feedless b.0) h in
-      let g = both_there e.OrElse (as_told a.0).tree (as_told b.0).tree x is in
+      let g = both_there e.OrElse (told_of raw scope a.0).tree (told_of raw scope b.0).tree x is in
       tree_by (Expr-F.OrElse g.left g.right) (e.rolls-OrElse g.left g.right) g.same (and_from _ _ (a.1 p.0 g.left g.left_there) (b.1 p.1 g.right g.right_there))
   expr_case (RawExpr-F.Choose c a b) h x is =
       let p = and_parts (raw_expr_feedless c.0) (raw_expr_feedless a.0 && raw_expr_feedless b.0) h in
       let q = and_parts (raw_expr_feedless a.0) (raw_expr_feedless b.0) p.1 in
-      let f = then_there _ (as_told c.0).tree x is in
-      let g = both_there (e.Choose f.value) (as_told a.0).tree (as_told b.0).tree x f.same in
+      let f = then_there _ (told_of raw scope c.0).tree x is in
+      let g = both_there (e.Choose f.value) (told_of raw scope a.0).tree (told_of raw scope b.0).tree x f.same in
       tree_by (Expr-F.Choose f.value g.left g.right) (e.rolls-Choose f.value g.left g.right) g.same
       (and_from _ _ (c.1 p.0 f.value f.there) (and_from _ _ (a.1 q.0 g.left g.left_there) (b.1 q.1 g.right g.right_there)))
-  expr_case (RawExpr-F.Cast i a) h x is = let g = map_there (e.Cast i) (as_told a.0).tree x is in tree_by (Expr-F.Cast i g.value) (e.rolls-Cast i g.value) g.same (a.1 h g.value g.there)
+  expr_case (RawExpr-F.Cast i a) h x is = let g = map_there (e.Cast i) (told_of raw scope a.0).tree x is in tree_by (Expr-F.Cast i g.value) (e.rolls-Cast i g.value) g.same (a.1 h g.value g.there)
   expr_case (RawExpr-F.Index a b) h x is =
       let p = and_parts (raw_expr_feedless a.0) (raw_expr_feedless b.0) h in
-      let g = both_there e.Index (as_told a.0).tree (as_told b.0).tree x is in
+      let g = both_there e.Index (told_of raw scope a.0).tree (told_of raw scope b.0).tree x is in
       tree_by (Expr-F.Index g.left g.right) (e.rolls-Index g.left g.right) g.same (and_from _ _ (a.1 p.0 g.left g.left_there) (b.1 p.1 g.right g.right_there))
   expr_case (RawExpr-F.Member a m) h x is =
       let p = and_parts (raw_expr_feedless a.0) (feedless m) h in
-      let f = then_there _ (as_told a.0).tree x is in
+      let f = then_there _ (told_of raw scope a.0).tree x is in
       let g = map_there (e.Member f.value) _ x f.same in
       tree_by (Expr-F.Member f.value g.value) (e.rolls-Member f.value g.value) g.same (a.1 p.0 f.value f.there)
   expr_case (RawExpr-F.Arrow a m) h x is =
       let p = and_parts (raw_expr_feedless a.0) (feedless m) h in
-      let f = then_there _ (as_told a.0).tree x is in
+      let f = then_there _ (told_of raw scope a.0).tree x is in
       let g = map_there (e.Arrow f.value) _ x f.same in
       tree_by (Expr-F.Arrow f.value g.value) (e.rolls-Arrow f.value g.value) g.same (a.1 p.0 f.value f.there)
-  expr_case (RawExpr-F.Paren a) h x is = let g = map_there e.Paren (as_told a.0).tree x is in tree_by (Expr-F.Paren g.value) (e.rolls-Paren g.value) g.same (a.1 h g.value g.there)
+  expr_case (RawExpr-F.Paren a) h x is = let g = map_there e.Paren (told_of raw scope a.0).tree x is in tree_by (Expr-F.Paren g.value) (e.rolls-Paren g.value) g.same (a.1 h g.value g.there)
 
   pub expr_given : (a : RawExpr) → GivesExpr a
   expr_given = of_every_expr GivesExpr (λ y h x is.

@@ -36,8 +36,8 @@ use Rattle.c_language.specs.TypeGrammar.{named_type}
 use Rattle.c_language.specs.Scopes.{Scope, with_variable, with_target, entered, opened, numbered, Scoped, in_order, after_all, after_block, after_part, scope_of_test, scope_of_body, begun}
 use Rattle.c_language.specs.Phrases.{after_item, after_items}
 use Rattle.c_language.specs.CallRules.{format_in, later_args}
-use Rattle.c_language.specs.ProgramOf.{collected, optional, expr_of, init_of, declaration_id, target_tree, args_tree, only_tree, print_tree, invoke_tree, amount_tree, heap_tree, ctype_if, label_tree, arm_tree, ArmTree, arm_tree_step, block_tree, at_type, switch_type, part_tree, for_tree, treed_step, treed, body_of, functions_from, items_from, treed_arm}
-use Rattle.c_language.proofs.Options.{none_there, some_same}
+use Rattle.c_language.specs.ProgramOf.{collected, expr_of, init_of, declaration_id, target_tree, args_tree, only_tree, print_tree, invoke_tree, amount_tree, heap_tree, ctype_if, label_tree, arm_tree, ArmTree, arm_tree_step, block_tree, at_type, switch_type, part_tree, for_tree, treed_step, treed, body_of, functions_from, items_from, treed_arm}
+use Rattle.c_language.proofs.Options.{some_same, optional_there}
 use Rattle.c_language.proofs.Tests.{false_true}
 use Rattle.c_language.proofs.PhraseLists.{body_after}
 use Rattle.c_language.proofs.TreeScopes.{list_after}
@@ -178,18 +178,14 @@ module _ (raw : RawProgram) where
   PartTakes None = Unit {0}
   PartTakes (Some b) = Takes b true
 
-  given_part : (o : Option Statement) (t : Option Statement) → optional (Some o) ≡ Some t → (x : Statement) × (o ≡ Some x) × (t ≡ Some x)
-  given_part None t h = none_there h
-  given_part (Some x) t h = (x, refl, sym (some_same h))
-
   part_takes : (part : Option (Scoped (Option Statement))) → PartTakes part → (scope : Scope) (t : Option Statement) → part_tree part scope ≡ Some t → (m k : ℕ) → scope.statements ≤ m → m < (after_part part scope).statements
       → IsListed m (part_starts (std_option.option_map placed t) k)
   part_takes None x scope t h m k low high = absurd (omega (arith, low, high))
   part_takes (Some b) x scope t h m k low high =
-      let g = given_part (b.gives scope) t h in
-      let all = x.has scope g.0 g.1 m k low high in
-      let none = x.alone refl scope g.0 g.1 k in
-      subst (λ (o : Option Statement). IsListed m (part_starts (std_option.option_map placed o) k)) (sym g.2)
+      let g = optional_there (b.gives scope) t h in
+      let all = x.has scope g.0 g.1.0 m k low high in
+      let none = x.alone refl scope g.0 g.1.0 k in
+      subst (λ (o : Option Statement). IsListed m (part_starts (std_option.option_map placed o) k)) g.1.1
       (subst (IsListed m) (append-nil (declared_start (placed g.0).own k)) (subst (λ (y : Starts). IsListed m (declared_start (placed g.0).own k ++ y)) none all))
 
   for_takes : (l : ℕ) (i j : Option (Scoped (Option Statement))) (e : RawExpr) (bs : List (Scoped (Option Statement))) → PartTakes i → PartTakes j → ListTakes bs

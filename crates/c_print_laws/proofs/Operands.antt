@@ -1,5 +1,5 @@
 -- An expression in which no rule is broken is an operand, where each name in scope has a type.
-use Rattle.std.proofs.Common.{◌≡◌, ℕ, [], ◌∷◌, Bool, true, false, Option, Some, None, sym, ap, subst}
+use Rattle.std.proofs.Common.{◌≡◌, ℕ, [], ◌∷◌, Bool, true, false, Option, Some, None, sym, ap, subst, true≢false}
 use Rattle.std.specs.Prelude.{Contains, not, nat_lt, is_none, option_and_then, if◌then◌else◌}
 use Rattle.std.proofs.lemmas.Bool.{false_from_ne_true}
 use Rattle.c_tree.specs.declared.raw.expr.RawExpr.{RawExpr, map-RawExpr, roll-RawExpr, fold-roll-RawExpr}
@@ -12,30 +12,22 @@ use Rattle.c_language.specs.Words.{Bytes}
 use Rattle.c_language.specs.DeclaredTypes.{written_type}
 use Rattle.c_language.specs.Scopes.{Scope, Meaning, meaning_in}
 use Rattle.c_language.specs.ExprTypes.{operand, operand_step, a_place, variable_in, member_of, member_type}
-use Rattle.c_language.specs.ExprRules.{Seen, seen, holds_of, is_function}
+use Rattle.c_language.specs.ExprRules.{Seen, holds_of, is_function}
 use Rattle.c_language.specs.NameRules.{UsesUndeclared}
 use Rattle.c_language.specs.StructRules.{MisusesTag, MisnamesMember}
 use Rattle.c_language.specs.TypeRules.{MisusesOperator, MisusesAddress}
 use Rattle.c_language.specs.Phrases.{Part}
 use Rattle.c_language.specs.Rules.{Breaks, undeclared, tag, member, operator, address}
-use Rattle.c_language.specs.Uses.{operands_of, expressions, IsWithin, whole, deeper, holds}
+use Rattle.c_language.specs.Uses.{operands_of, expressions, whole, deeper, holds}
 use Rattle.c_language.specs.declared.expr_type.Operand.{Operand}
 use Rattle.c_language.proofs.Options.{there_map}
-use Rattle.c_language.proofs.Tests.{false_true}
 use Rattle.c_language.proofs.Lists.{contains_first, contains_later}
 use Rattle.c_language.proofs.UseLemmas.{OfParts}
-use Rattle.c_language.proofs.Operands.{IsClean, form_there, HasTypeIf}
+use Rattle.c_language.proofs.Operands.{IsClean, form_there, HasTypeIf, AreClean}
 use Rattle.c_language.specs.Options.{IsThere}
 
--- no part of an expression breaks them
-abbrev pub KeepsAll : RawProgram → Scope → RawExpr → Type 0
-KeepsAll raw scope a = (inner : RawExpr) → IsWithin inner a → IsClean raw scope (seen raw scope inner)
-
-pub true_false : {A : Type 0} → ◌≡◌ {A = Bool} true false → A
-true_false h = false_true (sym h)
-
 -- a phrase that breaks no rule has expressions that break none
-pub keeps_all : (raw : RawProgram) (scope : Scope) (part : Part) → ((n : ℕ) → Breaks raw scope part n → ⊥) → (a : RawExpr) → Contains (expressions part) a → KeepsAll raw scope a
+pub keeps_all : (raw : RawProgram) (scope : Scope) (part : Part) → ((n : ℕ) → Breaks raw scope part n → ⊥) → (a : RawExpr) → Contains (expressions part) a → AreClean raw scope a
 keeps_all raw scope part kept a c inner w = record {
   declared = false_from_ne_true _ (λ h. kept 1 (undeclared (UsesUndeclared.in_expression (holds c w) h)));
   operands = false_from_ne_true _ (λ h. kept 12 (operator (MisusesOperator.in_expression (holds c w) h)));
@@ -49,19 +41,19 @@ IsTypedIf raw None = Unit {0}
 IsTypedIf raw (Some m) = IsThere (written_type raw m.shape)
 
 variable_there : (m : Option Meaning) → HasTypeIf m → is_none m ≡ false → is_function m ≡ false → IsThere (variable_in m)
-variable_there None h none other = true_false none
+variable_there None h none other = true≢false none
 variable_there (Some (Meaning.Variable id t)) h none other = there_map a_place t h
-variable_there (Some Meaning.Function) h none other = true_false other
+variable_there (Some Meaning.Function) h none other = true≢false other
 
 module _ (raw : RawProgram) (scope : Scope) (complete : (s : ℕ) (name : Bytes) → IsTypedIf raw (member_of raw s name)) (typed : (name : Bytes) → HasTypeIf (meaning_in scope name)) where
   found_member : (m : Option RawMember) → IsTypedIf raw m → is_none m ≡ false → IsThere (option_and_then (λ (m : RawMember). written_type raw m.shape) m)
-  found_member None h none = true_false none
+  found_member None h none = true≢false none
   found_member (Some m) h none = h
 
   known_type : (b : Bool) (m : Option RawMember) → IsTypedIf raw m → not b ≡ false → is_none m ≡ false
       → IsThere (if b then option_and_then (λ (m : RawMember). written_type raw m.shape) m else None)
   known_type true m h isnt none = found_member m h none
-  known_type false m h isnt none = true_false isnt
+  known_type false m h isnt none = true≢false isnt
 
   -- a member that a complete struct type has
   in_struct : (name : Bytes) (s : Option ℕ) → IsThere s → holds_of (λ (k : ℕ). not (nat_lt k scope.structs)) s ≡ false
@@ -70,12 +62,12 @@ module _ (raw : RawProgram) (scope : Scope) (complete : (s : ℕ) (name : Bytes)
   in_struct name (Some s) h before has = known_type (nat_lt s scope.structs) (member_of raw s name) (complete s name) before has
 
   abbrev IsOperand : RawExpr → Type 0
-  IsOperand a = KeepsAll raw scope a → IsThere (operand raw scope a)
+  IsOperand a = AreClean raw scope a → IsThere (operand raw scope a)
 
   abbrev seen_layer : RawExpr-F RawExpr → Seen
   seen_layer = map-RawExpr RawExpr (Option Operand) (operand raw scope)
 
-  parts_there : (y : ExprParts IsOperand) → ((m : RawExpr) → Contains (operands_of (expr_layer IsOperand y)) m → KeepsAll raw scope m) → OfParts IsThere (seen_layer (expr_layer IsOperand y))
+  parts_there : (y : ExprParts IsOperand) → ((m : RawExpr) → Contains (operands_of (expr_layer IsOperand y)) m → AreClean raw scope m) → OfParts IsThere (seen_layer (expr_layer IsOperand y))
   parts_there (RawExpr-F.Constant text) keeps = tt
   parts_there RawExpr-F.Null keeps = tt
   parts_there RawExpr-F.Eof keeps = tt
@@ -98,11 +90,11 @@ module _ (raw : RawProgram) (scope : Scope) (complete : (s : ℕ) (name : Bytes)
   parts_there (RawExpr-F.Paren a) keeps = a.1 (keeps a.0 (contains_first a.0 []))
 
   -- the operands of a layer break no rule either
-  pub operands_keep : (layer : RawExpr-F RawExpr) → KeepsAll raw scope (roll-RawExpr layer) → (m : RawExpr) → Contains (operands_of layer) m → KeepsAll raw scope m
+  pub operands_keep : (layer : RawExpr-F RawExpr) → AreClean raw scope (roll-RawExpr layer) → (m : RawExpr) → Contains (operands_of layer) m → AreClean raw scope m
   operands_keep layer keeps m c i w = keeps i (deeper (subst (λ z. Contains (operands_of z) m) (sym (out-roll-RawExpr layer)) c) w)
 
   -- and the layer is clean
-  pub layer_clean : (layer : RawExpr-F RawExpr) → KeepsAll raw scope (roll-RawExpr layer) → IsClean raw scope (seen_layer layer)
+  pub layer_clean : (layer : RawExpr-F RawExpr) → AreClean raw scope (roll-RawExpr layer) → IsClean raw scope (seen_layer layer)
   layer_clean layer keeps = subst (IsClean raw scope) (ap seen_layer (out-roll-RawExpr layer)) (keeps (roll-RawExpr layer) whole)
 
   pub operand_there : (a : RawExpr) → IsOperand a

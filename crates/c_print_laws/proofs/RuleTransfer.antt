@@ -1,7 +1,7 @@
 -- A phrase breaks a rule where the phrase of a resembling text breaks it.
 use Rattle.std.proofs.Common.{◌≡◌, ℕ, suc, ◌&&◌, List, [], ◌∷◌, length, take, Bool, true, false, Option, Some, None, pos, refl, sym, ap, ap₂, subst, ◌∙◌, arith, slice_get, ◌⊎◌, inl, inr}
 use Rattle.std.specs.Prelude.{Contains, option_map, option_and_then}
-use Rattle.c_tree.specs.declared.raw.expr.RawExpr.{RawExpr, map-RawExpr}
+use Rattle.c_tree.specs.declared.raw.expr.RawExpr.{RawExpr}
 use Rattle.c_tree.specs.declared.raw.expr.RawExpr.TheOpen.{RawExpr-F}
 use Rattle.c_tree.specs.declared.raw.expr.RawExpr.TheVariants as e
 use Rattle.c_tree.specs.declared.raw.expr.RawType.{RawType}
@@ -38,9 +38,9 @@ use Rattle.c_language.specs.declared.expr_type.ExprType.{ExprType}
 use Rattle.c_language.specs.declared.expr_type.Operand.{Operand}
 use Rattle.c_language.proofs.Options.{none_there, some_same}
 use Rattle.c_language.proofs.Tests.{false_true}
-use Rattle.c_language.proofs.UseLemmas.{only_part, out-Constant}
+use Rattle.c_language.proofs.UseLemmas.{only_part}
 use Rattle.c_print_laws.proofs.Alike.{Pairwise, BothThere, pair_of, place_there, pairwise_take, pairwise_map, pairwise_length}
-use Rattle.c_language.proofs.Operands.{headers_same, missing_same}
+use Rattle.c_language.proofs.Operands.{headers_same, missing_same, seen-Constant}
 use Rattle.c_print_laws.proofs.Resembling.{MembersAgree, StructsAgree, ParamsAgree, HeadsAgree, Resembles, struct_ids, definitions_agree, types_same, ctypes_same, lacks_same, operands_same, seen_same}
 
 -- ---- parts that agree
@@ -207,15 +207,12 @@ module _ (raw other : RawProgram) (like : Resembles raw other) where
       | inr k ↦ inr (k.text, only_part a inner k.text k.is w)
     ]
 
-    seen-Constant : (text : Bytes) → seen raw scope (e.Constant text) ≡ RawExpr-F.Constant text
-    seen-Constant text = ap (map-RawExpr RawExpr (Option Operand) (operand raw scope)) (out-Constant text)
-
     -- what a test on forms tells of an expression of the other part, it tells of one of the part
     held_if : {part next : Part} (test : Seen → Bool) → ((text : Bytes) → test (RawExpr-F.Constant text) ≡ false) → (inner : RawExpr) → PartsAgree raw other part next → Holds next inner
         → test (seen raw scope inner) ≡ true → Holds part inner
     held_if test none inner h k is = elim (held inner h k) [
       | inl j ↦ j
-      | inr j ↦ false_true (sym (none j.0) ∙ ap test (sym (ap (seen raw scope) j.1 ∙ seen-Constant j.0)) ∙ is)
+      | inr j ↦ false_true (sym (none j.0) ∙ ap test (sym (ap (seen raw scope) j.1 ∙ seen-Constant raw scope j.0)) ∙ is)
     ]
 
     seen_true : (test : Seen → Bool) (inner : RawExpr) → test (seen other scope inner) ≡ true → test (seen raw scope inner) ≡ true
@@ -478,7 +475,7 @@ module _ (raw other : RawProgram) (like : Resembles raw other) where
         let k = headers_same raw other like.stdio like.stdlib (seen raw scope inner) ∙ seen_true (lacks_header other) inner is in
         elim (held inner a h) [
           | inl j ↦ LacksHeader.in_expression j k
-          | inr j ↦ false_true (sym (ap (lacks_header raw) (ap (seen raw scope) j.1 ∙ seen-Constant j.0)) ∙ k)
+          | inr j ↦ false_true (sym (ap (lacks_header raw) (ap (seen raw scope) j.1 ∙ seen-Constant raw scope j.0)) ∙ k)
         ]
     header_moves a (LacksHeader.allocation h) = moved (LacksHeader raw scope) refl a (LacksHeader.allocation (like.stdlib ∙ h))
     header_moves a (LacksHeader.release h) = moved (LacksHeader raw scope) refl a (LacksHeader.release (like.stdlib ∙ h))

@@ -1,5 +1,5 @@
 -- An expression in which no rule is broken, and one that is a constant, has the words that the layout of its text has.
-use Rattle.std.proofs.Common.{◌≡◌, ℕ, [], ◌∷◌, ◌++◌, codes, Bool, true, false, Option, Some, None, refl, sym, ap, ap₂, subst, ◌∙◌}
+use Rattle.std.proofs.Common.{◌≡◌, ℕ, [], ◌∷◌, ◌++◌, codes, Bool, true, false, Option, Some, None, refl, sym, ap, ap₂, subst, ◌∙◌, true≢false}
 use Rattle.std.specs.Prelude.{Contains, option_map, option_and_then}
 use Rattle.c_tree.specs.declared.raw.expr.RawExpr.{RawExpr, map-RawExpr, roll-RawExpr, fold-roll-RawExpr}
 use Rattle.c_tree.specs.declared.raw.expr.RawExpr.TheOpen.{RawExpr-F}
@@ -17,8 +17,8 @@ use Rattle.c_language.specs.declared.expr_type.ExprType.{ExprType}
 use Rattle.c_language.specs.declared.expr_type.Operand.{Operand}
 use Rattle.c_text_layout.specs.SpacedWords.{Spaced, blank_if, spaced_step, spaced, spaced_words}
 use Rattle.c_print_laws.proofs.Options.{map_there}
-use Rattle.c_language.proofs.Operands.{IsClean, HasTypeIf}
-use Rattle.c_print_laws.proofs.Operands.{KeepsAll, IsTypedIf, true_false, operands_keep, layer_clean, operand_there}
+use Rattle.c_language.proofs.Operands.{IsClean, HasTypeIf, AreClean}
+use Rattle.c_print_laws.proofs.Operands.{IsTypedIf, operands_keep, layer_clean, operand_there}
 use Rattle.c_language.proofs.Tests.{false_true}
 use Rattle.c_language.proofs.Lists.{contains_first, contains_later}
 use Rattle.c_language.proofs.Options.{some_same, value_there, there_of_map, there_of_both}
@@ -137,32 +137,32 @@ module _ (raw : RawProgram) (scope : Scope) (complete : (s : ℕ) (name : Bytes)
   no_address o x is place h = place_of x place (sym (ap (holds_of is_no_address) is) ∙ h)
     where
       place_of : (x : Operand) → x.is_place ≡ false → is_no_address x ≡ false → ⊥
-      place_of x place h = true_false (sym (ap (λ (b : Bool). b_or b x) place) ∙ h)
+      place_of x place h = true≢false (sym (ap (λ (b : Bool). b_or b x) place) ∙ h)
         where
           b_or : Bool → Operand → Bool
           b_or b x = is_no_address (record x { is_place = b })
 
   -- an operand whose address is taken is no address
-  joined_address : (a : RawExpr) → KeepsAll raw scope a → has_no_address (RawExpr-F.AddressOf (operand raw scope a)) ≡ false → (spaced a).is_address ≡ false
+  joined_address : (a : RawExpr) → AreClean raw scope a → has_no_address (RawExpr-F.AddressOf (operand raw scope a)) ≡ false → (spaced a).is_address ≡ false
   joined_address a keeps h = by_flag (spaced a).is_address (λ is.
       let v = value_there (operand raw scope a) (operand_there raw scope complete typed a keeps) in
       no_address (operand raw scope a) v.0 v.1 ((flagged a).address is v.0 v.1) h)
 
   -- a selected object is no constant
-  joined_member : (a : RawExpr) (m : Bytes) → KeepsAll raw scope a → has_bad_operand scope (RawExpr-F.Member (operand raw scope a) m) ≡ false → (spaced a).is_constant ≡ false
+  joined_member : (a : RawExpr) (m : Bytes) → AreClean raw scope a → has_bad_operand scope (RawExpr-F.Member (operand raw scope a) m) ≡ false → (spaced a).is_constant ≡ false
   joined_member a m keeps h = by_flag (spaced a).is_constant (λ is.
       let v = value_there (operand raw scope a) (operand_there raw scope complete typed a keeps) in
-      true_false (sym (ap (λ (o : Option Operand). fails (option_map (λ (x : Operand). struct_of x.shape) o)) v.1 ∙ ap (λ (o : Option ℕ). fails (Some o)) ((flagged a).constant is v.0 v.1).0) ∙ h))
+      true≢false (sym (ap (λ (o : Option Operand). fails (option_map (λ (x : Operand). struct_of x.shape) o)) v.1 ∙ ap (λ (o : Option ℕ). fails (Some o)) ((flagged a).constant is v.0 v.1).0) ∙ h))
 
-  joined_arrow : (a : RawExpr) (m : Bytes) → KeepsAll raw scope a → has_bad_operand scope (RawExpr-F.Arrow (operand raw scope a) m) ≡ false → (spaced a).is_constant ≡ false
+  joined_arrow : (a : RawExpr) (m : Bytes) → AreClean raw scope a → has_bad_operand scope (RawExpr-F.Arrow (operand raw scope a) m) ≡ false → (spaced a).is_constant ≡ false
   joined_arrow a m keeps h = by_flag (spaced a).is_constant (λ is.
       let v = value_there (operand raw scope a) (operand_there raw scope complete typed a keeps) in
-      true_false (sym (ap (λ (o : Option Operand). fails (option_map (λ (x : Operand). option_and_then struct_of (pointed x)) o)) v.1 ∙ ap (λ (o : Option ExprType). fails (Some (option_and_then struct_of o))) ((flagged a).constant is v.0 v.1).1) ∙ h))
+      true≢false (sym (ap (λ (o : Option Operand). fails (option_map (λ (x : Operand). option_and_then struct_of (pointed x)) o)) v.1 ∙ ap (λ (o : Option ExprType). fails (Some (option_and_then struct_of o))) ((flagged a).constant is v.0 v.1).1) ∙ h))
 
   abbrev WordsSame : RawExpr → Type 0
-  WordsSame a = KeepsAll raw scope a → spaced_words a ≡ raw_words a
+  WordsSame a = AreClean raw scope a → spaced_words a ≡ raw_words a
 
-  words_layered : (y : ExprParts WordsSame) → ((m : RawExpr) → Contains (operands_of (expr_layer WordsSame y)) m → KeepsAll raw scope m) → IsClean raw scope (operand_layer (expr_layer WordsSame y))
+  words_layered : (y : ExprParts WordsSame) → ((m : RawExpr) → Contains (operands_of (expr_layer WordsSame y)) m → AreClean raw scope m) → IsClean raw scope (operand_layer (expr_layer WordsSame y))
       → (spaced_step (spaced_layer (expr_layer WordsSame y))).words ≡ raw_words_step (words_layer (expr_layer WordsSame y))
   words_layered (RawExpr-F.Constant text) keeps clean = refl
   words_layered RawExpr-F.Null keeps clean = refl

@@ -2,6 +2,7 @@
 use Rattle.std.proofs.Common.{◌≡◌, ℕ, suc, arith, List, [], ◌∷◌, ◌++◌, Option, Some, None, codes, refl, sym, ap, ap₂, subst, ◌∙◌, map}
 use Rattle.std.specs.Prelude.{Contains, option_map, option_and_then, ℤ}
 use Rattle.std.proofs.lemmas.List.Elements.{Contains-append_left, Contains-append_right}
+use Rattle.c_language.proofs.Operands.{AreClean}
 use Rattle.c_arith.specs.declared.int_type.IntType.{IntType}
 use Rattle.c_arith.specs.IntType.{convert}
 use Rattle.c_tree.specs.declared.expr.Expr.{Expr}
@@ -41,7 +42,7 @@ use Rattle.c_text_layout.proofs.RawStatementLemmas.{raw_arm_laid}
 use Rattle.c_text_layout.specs.SpacedWords.{spaced_words}
 use Rattle.c_print_laws.proofs.Options.{map_there, then_there, both_there, collected_are}
 use Rattle.c_language.proofs.TreeScopes.{block_after_same}
-use Rattle.c_print_laws.proofs.Operands.{KeepsAll, keeps_all}
+use Rattle.c_print_laws.proofs.Operands.{keeps_all}
 use Rattle.c_print_laws.proofs.Named.{IsNamed, Fits}
 use Rattle.c_print_laws.proofs.ExprLayout.{expr_layout, constant_layout}
 use Rattle.c_print_laws.proofs.Scoping.{target_count, statement_scoped, arm_scoped, after_block_count, mapped, after_part_same, after_part_count}
@@ -94,10 +95,10 @@ labels_form w labels n = line n w ++ labels n
 
 module _ (raw : RawProgram) (p : Program) (named : IsNamed raw p) where
   -- the one expression of a phrase that breaks no rule
-  only_kept : (scope : Scope) (part : Part) (a : RawExpr) → ((n : ℕ) → Breaks raw scope part n → ⊥) → Contains (expressions part) a → KeepsAll raw scope a
+  only_kept : (scope : Scope) (part : Part) (a : RawExpr) → ((n : ℕ) → Breaks raw scope part n → ⊥) → Contains (expressions part) a → AreClean raw scope a
   only_kept scope part a kept c = keeps_all raw scope part kept a c
 
-  pub begins_kept : (l : ℕ) (scope : Scope) (stand : Stand) (v : RawVar) (i : RawInit) → AreTold raw p scope.variables (declaration raw l scope stand v i) → (a : RawExpr) → Contains (init_exprs i) a → KeepsAll raw (with_variable raw v i scope) a
+  pub begins_kept : (l : ℕ) (scope : Scope) (stand : Stand) (v : RawVar) (i : RawInit) → AreTold raw p scope.variables (declaration raw l scope stand v i) → (a : RawExpr) → Contains (init_exprs i) a → AreClean raw (with_variable raw v i scope) a
   begins_kept l scope stand v init.None told a c = absurd (omega (arith, c.1))
   begins_kept l scope stand v (init.One e) told a c = keeps_all raw (with_variable raw v (init.One e) scope) (Begins stand v (init.One e)) told.kept.1.0 a c
   begins_kept l scope stand v (init.Items es) told a c = keeps_all raw (with_variable raw v (init.Items es) scope) (Begins stand v (init.Items es)) told.kept.1.0 a c
@@ -229,7 +230,7 @@ module _ (raw : RawProgram) (p : Program) (named : IsNamed raw p) where
     pub fits : Fits p (with_target raw to scope)
     pub lays : (x : Target) → target_tree raw scope to ≡ Some x → target_words p x ≡ raw_target_words to
 
-  target_laid : (l : ℕ) (scope : Scope) (stand : Stand) (to : RawTarget) → ((a : RawExpr) → Contains (target_exprs to) a → KeepsAll raw (with_target raw to scope) a) → Fits p scope → AreTold raw p scope.variables (target_phrases raw l scope stand to) → IsTargetLaid scope to
+  target_laid : (l : ℕ) (scope : Scope) (stand : Stand) (to : RawTarget) → ((a : RawExpr) → Contains (target_exprs to) a → AreClean raw (with_target raw to scope) a) → Fits p scope → AreTold raw p scope.variables (target_phrases raw l scope stand to) → IsTargetLaid scope to
   target_laid l scope stand target.None keeps fits told = record { fits = fits; lays = λ x h. ap (target_words p) (sym (some_same h)) }
   target_laid l scope stand (target.Place a) keeps fits told = record {
     fits = fits;
@@ -295,7 +296,7 @@ module _ (raw : RawProgram) (p : Program) (named : IsNamed raw p) where
         ap (laid p) (sym g.same) ∙ laid-Return p scope.statements l g.value ∙ ap plain (words a (λ b c. only_kept scope (Returns a) b told.kept.0 c) g.value g.there);
   }
     where
-      words : (a : Option RawExpr) → ((b : RawExpr) → Contains (if_given a) b → KeepsAll raw scope b) → (x : Option Expr) → optional (option_map (expr_of raw scope) a) ≡ Some x → return_words p x ≡ raw_return_words a
+      words : (a : Option RawExpr) → ((b : RawExpr) → Contains (if_given a) b → AreClean raw scope b) → (x : Option Expr) → optional (option_map (expr_of raw scope) a) ≡ Some x → return_words p x ≡ raw_return_words a
       words None keeps x h = ap (return_words p) (sym (some_same h))
       words (Some a) keeps None h = none_there (sym (optional_there (Some (expr_of raw scope a)) None h))
       words (Some a) keeps (Some x) h = ap (λ (w : Bytes). codes "return " ++ w) (expr_layout raw p named scope fits a (keeps a (0, omega arith, refl)) x (some_same (optional_there (Some (expr_of raw scope a)) (Some x) h)))

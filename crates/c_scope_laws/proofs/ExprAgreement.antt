@@ -4,7 +4,7 @@ use Rattle.std.specs.Prelude.{option_map, option_and_then, nat_lt, if◌then◌e
 use Rattle.c_tree.specs.declared.expr.Expr.{Expr}
 use Rattle.c_tree.specs.declared.expr.Expr.TheVariants as e
 use Rattle.c_tree.specs.declared.expr.MemberId.{MemberId}
-use Rattle.c_tree.specs.declared.raw.expr.RawExpr.{RawExpr, out-RawExpr, roll-RawExpr, map-RawExpr, fold-RawExpr, fold-roll-RawExpr}
+use Rattle.c_tree.specs.declared.raw.expr.RawExpr.{RawExpr, out-RawExpr, roll-RawExpr, map-RawExpr, fold-roll-RawExpr}
 use Rattle.c_tree.specs.declared.raw.expr.RawExpr.TheOpen.{RawExpr-F}
 use Rattle.c_tree.specs.declared.raw.program.RawProgram.{RawProgram}
 use Rattle.c_language.specs.Words.{Bytes}
@@ -13,7 +13,7 @@ use Rattle.c_language.specs.Scopes.{Scope, Meaning, meaning_in}
 use Rattle.c_language.specs.ExprTypes.{a_place, struct_of, pointed, member_type, selected, variable_in, operand_step, operand}
 use Rattle.c_language.specs.ExprRules.{seen}
 use Rattle.c_language.specs.Uses.{operands_of, deeper}
-use Rattle.c_language.specs.ProgramOf.{Told, told_step, expr_of, member_id, variable_number, of_operand, of_pointed}
+use Rattle.c_language.specs.ProgramOf.{Told, told_step, told_of, expr_of, member_id, variable_number, of_operand, of_pointed}
 use Rattle.c_language.specs.declared.expr_type.ExprType.{ExprType}
 use Rattle.c_language.specs.declared.expr_type.Operand.{Operand}
 use Rattle.c_scope_laws.specs.Agreement.{NamedIn, SameOutside, moved_meaning, Agree}
@@ -181,9 +181,6 @@ module _ (f : ℕ → ℕ) (named : Bytes → Type 0) (raw other : RawProgram) (
       (ap (λ (k : Option MemberId). option_and_then (λ (x : Expr). option_map (e.Arrow x) k) (option_map (renamed f) (p a).tree)) (of_pointeds m (p a).operand)
       ∙ select_turns e.Arrow (λ x k. sym (renamed-Arrow f x k)) (of_pointed raw m (p a).operand) (p a).tree)
   told_steps p (RawExpr-F.Paren a) h = told_as refl (map_turns (renamed f) (renamed f) e.Paren e.Paren (λ x. sym (renamed-Paren f x)) (p a).tree)
-
-  abbrev told_of : RawProgram → Scope → RawExpr → Told
-  told_of text place = fold-RawExpr Told (told_step text place)
 
   told_same : (a : RawExpr) → Covers named a → told_of other next a ≡ moved_told (told_of raw scope a)
   told_same = by_operands (λ a. Covers named a → told_of other next a ≡ moved_told (told_of raw scope a)) (λ l h c.

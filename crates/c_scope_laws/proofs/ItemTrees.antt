@@ -23,7 +23,7 @@ use Rattle.c_language.specs.Words.{Bytes}
 use Rattle.c_language.specs.ConstantEvaluation.{both}
 use Rattle.c_language.specs.DeclaredTypes.{functions_of, defined_functions, function_id, struct_id}
 use Rattle.c_language.specs.Scopes.{Scope, with_variable, with_function, with_parameter, with_parameters, with_named, parameter_of, scope_of_parameters, entered, in_order, meaning_here}
-use Rattle.c_language.specs.Phrases.{Stand, InFile, InHead, InBlock, Part, NamesStruct, DefinesStruct, HasMember, Takes, DeclaresFunction, EndsFunction, Declares, Begins, Phrases, phrase, begun_phrases, joined_at, scoped, body_phrases, after_body, member_phrases, taken_phrases, parameter_phrases, head_phrases, after_item, after_items, items_phrases, item_phrases}
+use Rattle.c_language.specs.Phrases.{InFile, InHead, InBlock, Part, NamesStruct, DefinesStruct, HasMember, Takes, DeclaresFunction, EndsFunction, Declares, Begins, Phrases, phrase, joined_at, scoped, body_phrases, after_body, member_phrases, taken_phrases, parameter_phrases, head_phrases, after_item, after_items, items_phrases, item_phrases}
 use Rattle.c_language.specs.ProgramOf.{declared_by, collected, optional, ctype_if, init_of, body_of, parameter_ids, function_tree, functions_from, items_from}
 use Rattle.c_language.proofs.Options.{none_there, some_same}
 use Rattle.c_language.proofs.PhraseLists.{body_in_order, body_after}
@@ -40,7 +40,7 @@ use Rattle.c_scope_laws.proofs.StatementAgreement.{part_covers, inits_same}
 use Rattle.c_scope_laws.proofs.Following.{rank_kept, variable_kept, variable_gone, function_kept, function_gone, places_agree}
 use Rattle.c_scope_laws.proofs.TreeLevels.{chosen, unchosen}
 use Rattle.c_scope_laws.proofs.TreeWalking.{all_stay}
-use Rattle.c_scope_laws.proofs.VariableLists.{VarsStay, no_vars, both_vars, no_variable, phrase_gone, variable_stays, variable_goes}
+use Rattle.c_scope_laws.proofs.VariableLists.{VarsStay, no_vars, both_vars, no_variable, phrase_gone, variable_stays, variable_goes, begun_stays, begun_goes}
 use Rattle.c_scope_laws.proofs.VariableWalking.{vars_all}
 use Rattle.c_scope_laws.proofs.ItemWalking.{same_texts, param_walks, left_base, entered_alone, drop_next, get_next, enters, params_walk, leaves, define_stands, structs_follow, no_variable_there, rest_right, AreRight}
 use Rattle.c_scope_laws.proofs.FunctionNumbers.{FunctionNumbers}
@@ -227,16 +227,6 @@ module _ (k : Kept) (raw other : RawProgram) (texts : TextsAgree k raw other) (t
   taken_lost n scope before [] = no_vars k g raw other n
   taken_lost n scope before (p ∷ ps) = both_of [] [] (phrase p.line scope (Takes before p) ∷ []) _ (lost n p.line scope (Takes before p) refl) (taken_lost n scope (before ++ p ∷ []) ps)
 
-  begun_vars : (n l : ℕ) (scope next : Scope) (stand : Stand) (v : RawVar) (i : RawInit) → Vars n (begun_phrases l next stand v i) (begun_phrases l scope stand v i) n
-  begun_vars n l scope next stand v init.None = no_vars k g raw other n
-  begun_vars n l scope next stand v (init.One a) = plain n l scope next (Begins stand v (init.One a)) (Begins stand v (init.One a)) refl refl
-  begun_vars n l scope next stand v (init.Items all) = plain n l scope next (Begins stand v (init.Items all)) (Begins stand v (init.Items all)) refl refl
-
-  begun_lost : (n l : ℕ) (scope : Scope) (stand : Stand) (v : RawVar) (i : RawInit) → Vars n [] (begun_phrases l scope stand v i) n
-  begun_lost n l scope stand v init.None = no_vars k g raw other n
-  begun_lost n l scope stand v (init.One a) = lost n l scope (Begins stand v (init.One a)) refl
-  begun_lost n l scope stand v (init.Items all) = lost n l scope (Begins stand v (init.Items all)) refl
-
   param_vars : {here there : ℕ} {mine yours : Option ℕ} (scope next : Scope) (p : RawParam) (name : Option Bytes) → yours ≡ option_map g mine → ParamStays k scope p name → Follows k raw other here there mine yours scope next
       → Vars scope.variables (parameter_phrases other p name next) (parameter_phrases raw p name scope) (with_named raw p name scope).variables
   param_vars scope next p None own h c = no_vars k g raw other scope.variables
@@ -264,11 +254,11 @@ module _ (k : Kept) (raw other : RawProgram) (texts : TextsAgree k raw other) (t
   global_vars {here} {there} {mine} {yours} {scope} {next} l v i is_static own is c =
       both_of (phrase l next (Declares (InFile is_static) v i) ∷ []) _ (phrase l scope (Declares (InFile is_static) v i) ∷ []) _
       (variable_stays k g raw other l scope next (InFile is_static) (InFile is_static) v v i i is as_it_is (variable_same raw other texts.outside v i) (c.other_owner ∙ own ∙ ap (option_map g) (sym c.owner)))
-      (begun_vars _ l _ _ (InFile is_static) v i)
+      (begun_stays k g raw other _ l _ _ (InFile is_static) (InFile is_static) v i)
 
   global_lost : (scope : Scope) (l : ℕ) (v : RawVar) (i : RawInit) (is_static : Bool) → k.variable scope.variables ≡ false → Vars scope.variables [] (item_phrases raw (Global l v i is_static) scope) (scope.variables + 1)
   global_lost scope l v i is_static is =
-      both_of [] [] (phrase l scope (Declares (InFile is_static) v i) ∷ []) _ (variable_goes k g raw other l scope (InFile is_static) v i is) (begun_lost _ l _ (InFile is_static) v i)
+      both_of [] [] (phrase l scope (Declares (InFile is_static) v i) ∷ []) _ (variable_goes k g raw other l scope (InFile is_static) v i is) (begun_goes k g raw other _ l _ (InFile is_static) v i)
 
   prototype_vars : (scope next : Scope) (l : ℕ) (head : RawHead) → Vars scope.variables (item_phrases other (Prototype l head) next) (item_phrases raw (Prototype l head) scope) (with_function head.name scope).variables
   prototype_vars scope next l head =

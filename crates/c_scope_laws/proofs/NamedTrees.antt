@@ -1,15 +1,14 @@
 -- The variables that the tree of an expression names are those that its names stand for.
 use Rattle.std.proofs.Common.{◌≡◌, ℕ, zero, suc, ◌==◌, [], ◌∷◌, Bool, true, Option, Some, None, option_map, option_and_then, refl, sym, ap, subst, ◌∙◌, arith}
 use Rattle.std.specs.Prelude.{Contains}
-use Rattle.std.proofs.lemmas.Bool.Decides.{nat_tests}
-use Rattle.std.proofs.lemmas.Bool.{or_left, or_right}
+use Rattle.std.proofs.lemmas.Bool.{or_left, or_right, eq-eqb}
 use Rattle.c_arith.specs.declared.int_type.IntType.{IntType}
 use Rattle.c_arith.specs.declared.operators.UnaryOp.{UnaryOp}
 use Rattle.c_tree.specs.declared.expr.Expr.{Expr, fold-roll-Expr}
 use Rattle.c_tree.specs.declared.expr.Expr.TheOpen.{Expr-F}
 use Rattle.c_tree.specs.declared.expr.Expr.TheVariants as e
 use Rattle.c_tree.specs.declared.expr.MemberId.{MemberId}
-use Rattle.c_tree.specs.declared.raw.expr.RawExpr.{RawExpr, out-RawExpr, map-RawExpr, fold-RawExpr, fold-roll-RawExpr}
+use Rattle.c_tree.specs.declared.raw.expr.RawExpr.{RawExpr, out-RawExpr, map-RawExpr, fold-roll-RawExpr}
 use Rattle.c_tree.specs.declared.raw.expr.RawExpr.TheOpen.{RawExpr-F}
 use Rattle.c_tree.specs.declared.raw.expr.RawExpr.TheViews.{roll-out-RawExpr}
 use Rattle.c_tree.specs.declared.raw.expr.RawExpr.TheVariants as r
@@ -18,7 +17,7 @@ use Rattle.c_language.specs.Words.{Bytes}
 use Rattle.c_language.specs.ConstantEvaluation.{both}
 use Rattle.c_language.specs.Scopes.{Scope, Meaning, Entry, meaning_in}
 use Rattle.c_language.specs.Uses.{operands_of, whole, deeper}
-use Rattle.c_language.specs.ProgramOf.{Told, told_step, expr_of, variable_number, of_operand, of_pointed}
+use Rattle.c_language.specs.ProgramOf.{Told, told_step, told_of, expr_of, variable_number, of_operand, of_pointed}
 use Rattle.c_language.proofs.Options.{none_there, some_same}
 use Rattle.c_scope_laws.specs.Agreement.{NamedIn}
 use Rattle.projection.specs.Kept.{Kept}
@@ -56,9 +55,6 @@ names-Paren a x = ap (λ (t : Expr). names t x) (sym (e.rolls-Paren a)) ∙ ap (
 
 names-Variable : (y : ℕ) (x : ℕ) → names (e.Variable y) x ≡ (y == x)
 names-Variable y x = ap (λ (t : Expr). names t x) (sym (e.rolls-Variable y)) ∙ ap (λ (t : ℕ → Bool). t x) (fold-roll-Expr (ℕ → Bool) names_step (Expr-F.Variable y))
-
-pub itself_equal : (n : ℕ) → (n == n) ≡ true
-itself_equal n = grind (arith, nat_tests)
 
 -- the tree of a part, whose names the whole tree names
 record Part (o : Option Expr) (whole : Expr) : Type 0 where
@@ -114,14 +110,11 @@ pick_three P p q r m (zero, within, is) = subst P is p
 pick_three P p q r m (suc i, within, is) = pick_two P q r m (i, omega (arith, within), is)
 
 module _ (raw : RawProgram) (scope : Scope) where
-  abbrev told_of : RawExpr → Told
-  told_of = fold-RawExpr Told (told_step raw scope)
-
   pick_one : {a : RawExpr} {w : Expr} → Part (expr_of raw scope a) w → (m : RawExpr) → Contains (a ∷ []) m → Part (expr_of raw scope m) w
   pick_one {a} {w} p m c = subst (λ (b : RawExpr). Part (expr_of raw scope b) w) (in_one a m c) p
 
   -- each operand of a layer that has a tree has one
-  operand_part : (l : RawExpr-F RawExpr) (w : Expr) → (told_step raw scope (map-RawExpr RawExpr Told told_of l)).tree ≡ Some w → (m : RawExpr) → Contains (operands_of l) m → Part (expr_of raw scope m) w
+  operand_part : (l : RawExpr-F RawExpr) (w : Expr) → (told_step raw scope (map-RawExpr RawExpr Told (told_of raw scope) l)).tree ≡ Some w → (m : RawExpr) → Contains (operands_of l) m → Part (expr_of raw scope m) w
   operand_part (RawExpr-F.Constant text) w at m c = in_none m c
   operand_part RawExpr-F.Null w at m c = in_none m c
   operand_part RawExpr-F.Eof w at m c = in_none m c
@@ -144,11 +137,11 @@ module _ (raw : RawProgram) (scope : Scope) where
   operand_part (RawExpr-F.Index a i) w at m c =
       pick_two (λ (u : RawExpr). Part (expr_of raw scope u) w) (of_left e.Index (λ t u x n. names-Index t u x ∙ or_left (names t x) _ n) (expr_of raw scope a) (expr_of raw scope i) w at)
       (of_right e.Index (λ t u x n. names-Index t u x ∙ or_right (names t x) _ n) (expr_of raw scope a) (expr_of raw scope i) w at) m c
-  operand_part (RawExpr-F.Member a f) w at m c = pick_one (of_member e.Member (λ t i x n. names-Member t i x ∙ n) (expr_of raw scope a) (of_operand raw f (told_of a).operand) w at) m c
-  operand_part (RawExpr-F.Arrow a f) w at m c = pick_one (of_member e.Arrow (λ t i x n. names-Arrow t i x ∙ n) (expr_of raw scope a) (of_pointed raw f (told_of a).operand) w at) m c
+  operand_part (RawExpr-F.Member a f) w at m c = pick_one (of_member e.Member (λ t i x n. names-Member t i x ∙ n) (expr_of raw scope a) (of_operand raw f (told_of raw scope a).operand) w at) m c
+  operand_part (RawExpr-F.Arrow a f) w at m c = pick_one (of_member e.Arrow (λ t i x n. names-Arrow t i x ∙ n) (expr_of raw scope a) (of_pointed raw f (told_of raw scope a).operand) w at) m c
   operand_part (RawExpr-F.Paren a) w at m c = pick_one (of_one e.Paren (λ t x n. names-Paren t x ∙ n) (expr_of raw scope a) w at) m c
 
-  tree_of_layer : (a : RawExpr) → expr_of raw scope a ≡ (told_step raw scope (map-RawExpr RawExpr Told told_of (out-RawExpr a))).tree
+  tree_of_layer : (a : RawExpr) → expr_of raw scope a ≡ (told_step raw scope (map-RawExpr RawExpr Told (told_of raw scope) (out-RawExpr a))).tree
   tree_of_layer a = ap (expr_of raw scope) (sym (roll-out-RawExpr a)) ∙ ap (λ (t : Told). t.tree) (fold-roll-RawExpr Told (told_step raw scope) (out-RawExpr a))
 
   tree_of_variable : (x : Bytes) → expr_of raw scope (r.Variable x) ≡ option_map e.Variable (variable_number (meaning_in scope x))
@@ -156,7 +149,7 @@ module _ (raw : RawProgram) (scope : Scope) where
 
   by_number : (x : Bytes) (o : Option ℕ) → variable_number (meaning_in scope x) ≡ o → (w : Expr) → option_map e.Variable o ≡ Some w → IsNamedBy scope x w
   by_number x None p w at = none_there at
-  by_number x (Some n) p w at = record { id = n; stands = p; named = ap (λ (u : Expr). names u n) (sym (some_same at)) ∙ names-Variable n n ∙ itself_equal n }
+  by_number x (Some n) p w at = record { id = n; stands = p; named = ap (λ (u : Expr). names u n) (sym (some_same at)) ∙ names-Variable n n ∙ eq-eqb n n refl }
 
   -- each name of an expression that has a tree stands for a variable that the tree names
   pub named_by : {a : RawExpr} (x : Bytes) → NamedIn a x → (w : Expr) → expr_of raw scope a ≡ Some w → IsNamedBy scope x w

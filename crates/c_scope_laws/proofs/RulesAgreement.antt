@@ -2,8 +2,9 @@
 use Rattle.std.proofs.Common.{◌≡◌, ◌≢◌, ℕ, zero, suc, ◌&&◌, List, [], ◌∷◌, ◌++◌, length, take, Bool, true, false, Option, Some, None, codes, refl, sym, ap, ap₂, subst, ◌∙◌, arith, ◌⊎◌, inl, inr}
 use Rattle.std.specs.Prelude.{Contains, option_map}
 use Rattle.std.proofs.lemmas.List.Elements.{Contains-append_left, Contains-append_right}
+use Rattle.c_language.proofs.Operands.{seen-Constant}
 use Rattle.c_arith.specs.declared.operators.BinaryOp.{BinaryOp}
-use Rattle.c_tree.specs.declared.raw.expr.RawExpr.{RawExpr, map-RawExpr}
+use Rattle.c_tree.specs.declared.raw.expr.RawExpr.{RawExpr}
 use Rattle.c_tree.specs.declared.raw.expr.RawExpr.TheOpen.{RawExpr-F}
 use Rattle.c_tree.specs.declared.raw.expr.RawExpr.TheVariants as e
 use Rattle.c_tree.specs.declared.raw.expr.RawType.{RawType}
@@ -43,7 +44,7 @@ use Rattle.c_language.specs.declared.expr_type.Operand.{Operand}
 use Rattle.c_language.proofs.Options.{none_there, some_same}
 use Rattle.c_language.proofs.Tests.{false_true}
 use Rattle.c_language.proofs.Lists.{contains_first, contains_later}
-use Rattle.c_language.proofs.UseLemmas.{only_part, only_in, out-Constant}
+use Rattle.c_language.proofs.UseLemmas.{only_part, only_in}
 use Rattle.c_scope_laws.specs.Agreement.{Names, in_expression, measured, NamesFunction, DeclaresName, DeclaresHead, moved_meaning, PlacesAgree, IsCountConstant, SameVariable, StandsFor, there, CallStandsFor, as_it_is, elsewhere, StoresLess, kept, lost, EndsToo, PartsAgree, declares, begins, ends, calls}
 use Rattle.c_scope_laws.proofs.Within.{held_within}
 use Rattle.c_scope_laws.proofs.Outside.{struct_ids, types_same, ctypes_same, results_same, parameters_same}
@@ -181,15 +182,12 @@ module _ (f : ℕ → ℕ) (named functions declared headed : Bytes → Type 0) 
   tags_agree (ends h) = refl
   tags_agree (calls s k) = refl
 
-  seen-Constant : (text : Bytes) → seen raw scope (e.Constant text) ≡ RawExpr-F.Constant text
-  seen-Constant text = ap (map-RawExpr RawExpr (Option Operand) (operand raw scope)) (out-Constant text)
-
   -- what a test on forms tells of an expression of the other part, it tells of one of the part
   held_if : {part changed : Part} (test : Seen → Bool) → ((text : Bytes) → test (RawExpr-F.Constant text) ≡ false) → (inner : RawExpr) → PartsAgree raw other part changed → Holds changed inner
       → test (seen raw scope inner) ≡ true → Holds part inner
   held_if test none inner h (holds {e = a} c w) is = elim (expressions_agree h a c) [
     | inl k ↦ holds k w
-    | inr k ↦ false_true (sym (none k.text) ∙ ap test (sym (ap (seen raw scope) (only_part a inner k.text k.is w) ∙ seen-Constant k.text)) ∙ is)
+    | inr k ↦ false_true (sym (none k.text) ∙ ap test (sym (ap (seen raw scope) (only_part a inner k.text k.is w) ∙ seen-Constant raw scope k.text)) ∙ is)
   ]
 
   -- ---- what is said of expressions

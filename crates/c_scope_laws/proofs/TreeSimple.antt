@@ -19,7 +19,7 @@ use Rattle.c_language.specs.CallRules.{format_in, later_args, without_result}
 use Rattle.c_language.specs.Uses.{is_library_function, is_one_of}
 use Rattle.c_language.specs.ProgramOf.{args_tree, only_tree, print_tree, invoke_tree, call_tree}
 use Rattle.c_language.proofs.Options.{none_there, some_same}
-use Rattle.c_language.proofs.Tests.{false_true}
+use Rattle.c_language.proofs.Tests.{false_true, none_of}
 use Rattle.projection.specs.Renumbering.{Numbers, renamed, renumbered}
 use Rattle.projection.specs.Kept.{Kept, rank}
 use Rattle.projection.specs.Projection.{bare_target, projected_call, projected}
@@ -32,9 +32,6 @@ abbrev pub numbers_of : Kept → (ℕ → ℕ) → Numbers
 numbers_of k functions = record { variable = rank k.variable; statement = rank k.statement; function = functions }
 
 -- ---- calls, by what is called
-
-library_false : (a b c d : Bool) → a ≡ false → b ≡ false → c ≡ false → d ≡ false → (a || (b || (c || (d || false)))) ≡ false
-library_false a b c d p q r t = ap₂ (λ (x y : Bool). x || (y || (c || (d || false)))) p q ∙ ap₂ (λ (x y : Bool). x || (y || false)) r t
 
 by_tests : (a b c d : Bool) (x y z w v : Option Statement) → (a || (b || (c || (d || false)))) ≡ false → (if a then x else (if b then y else (if c then z else (if d then w else v)))) ≡ v
 by_tests true b c d x y z w v h = false_true (sym h)
@@ -82,7 +79,7 @@ module _ (raw : RawProgram) (place : Scope) (n l : ℕ) (to : Option Target) (f 
       by_getchar false p true q c r d t is = by_value (s.Write n l) (λ a. write a (ap (λ (x : Bool). x || (bytes_eq f (codes "printf") || (bytes_eq f (codes "free") || false))) q)) (only_tree raw place args) is
       by_getchar false p false q true r d t is = by_print (ap₂ (λ (x y : Bool). x || (y || (bytes_eq f (codes "free") || false))) q r) (format_in args) (args_tree raw place (later_args args)) is
       by_getchar false p false q false r true t is = by_value (s.Release n l) (λ a. release a (ap₂ (λ (x y : Bool). x || (y || (bytes_eq f (codes "free") || false))) q r ∙ ap (λ (z : Bool). false || (false || (z || false))) t)) (only_tree raw place args) is
-      by_getchar false p false q false r false t is = by_invoke to (function_id raw f) (args_tree raw place args) refl (library_false _ _ _ _ p q r t) is
+      by_getchar false p false q false r false t is = by_invoke to (function_id raw f) (args_tree raw place args) refl (none_of _ _ _ _ p q r t) is
 
   -- what isn't of the library is invoked
   pub invoked : is_library_function f ≡ false → call_tree raw place n l to f args ≡ invoke_tree raw place n l to f args

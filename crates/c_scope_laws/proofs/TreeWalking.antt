@@ -38,7 +38,7 @@ use Rattle.c_language.specs.Uses.{cases, is_library_function, is_one_of}
 use Rattle.c_language.specs.CallRules.{without_result}
 use Rattle.c_language.specs.ProgramOf.{for_tree, collected, optional, ctype_if, expr_of, init_of, declaration_id, target_tree, args_tree, call_tree, amount_tree, heap_tree, label_tree, switch_type, arm_tree, ArmTree, arm_tree_step, block_tree, at_type, part_tree, tree_step, treed_step, treed, treed_arm}
 use Rattle.c_language.proofs.TreedForms.{treed-Declare, treed-Call, treed-Heap, treed-If, treed-While, treed-Do, treed-For, treed-Switch, treed-Block, treed_arm-arm}
-use Rattle.c_language.proofs.Options.{none_there, some_same}
+use Rattle.c_language.proofs.Options.{none_there, some_same, optional_there}
 use Rattle.c_language.proofs.Tests.{false_true}
 use Rattle.c_language.proofs.Lists.{contains_first, contains_later}
 use Rattle.c_language.proofs.TreeScopes.{after_same, list_after, block_after_same, part_after}
@@ -418,10 +418,6 @@ module _ (k : Kept) (raw other : RawProgram) (texts : TextsAgree k raw other) (g
   begin_there n l None e step b y at = none_there at
   begin_there n l (Some z) e step b y at = (z, refl)
 
-  part_there : (o : Option Statement) (z : Option Statement) → optional (Some o) ≡ Some z → (w : Statement) × (o ≡ Some w) × (z ≡ Some w)
-  part_there None z at = none_there at
-  part_there (Some w) z at = (w, refl, sym (some_same at))
-
   -- a part at other places
   part_moved : (x y : Option RawStatement) {a b c d : Scope} → a ≡ b → c ≡ d
       → ((z : Option Statement) → part_tree (option_map (treed raw) x) b ≡ Some z → part_tree (option_map (treed other) y) d ≡ Some (part_of (option_map (projected k g) z)))
@@ -539,26 +535,26 @@ module _ (k : Kept) (raw other : RawProgram) (texts : TextsAgree k raw other) (g
     tree_stays {scope} (Thins.for_block {l} {a} {first} {begin} {step} {body} out declaring gives d e h) next c y at =
         let tree = given (treed-For raw l (Some first) a step body) scope at in
         let z = begin_there scope.statements l _ _ _ _ y tree in
-        let p = part_there ((treed raw first).gives (opened (numbered scope))) z.0 z.1 in
-        let r = one_there ((treed other begin).gives (opened next)) (projected k g p.0) (tree_stays d (opened next) (follows_opened k raw other (numbered_gone k raw other out c)) p.0 p.1) in
+        let p = optional_there ((treed raw first).gives (opened (numbered scope))) z.0 z.1 in
+        let r = one_there ((treed other begin).gives (opened next)) (projected k g p.0) (tree_stays d (opened next) (follows_opened k raw other (numbered_gone k raw other out c)) p.0 p.1.0) in
         let leaves = for_leaves k g scope.statements next.statements l c.statements _ (expr_of raw (scope_of_test (option_map (treed raw) (Some first)) scope) a) _ _ (Some r.value) out
-        (λ u q. ap (λ (o : Option Statement). part_of (option_map (projected k g) o)) (some_same (sym q ∙ z.1) ∙ p.2) ∙ ap first_of r.same) y tree in
+        (λ u q. ap (λ (o : Option Statement). part_of (option_map (projected k g) o)) (some_same (sym q ∙ z.1) ∙ sym p.1.1) ∙ ap first_of r.same) y tree in
         let declares_it = declaring_begin begin (opened next) declaring gives r.value r.there in
         one_result next (treed-Block other l (begin ∷ []))
         (ap (λ (o : Option Statement). collected (option_map (t.Block l) (collected (o ∷ [])) ∷ [])) r.there ∙ ap Some (sym (leaves ∙ chosen (t.Block l (r.value ∷ []) ∷ []) (r.value ∷ []) declares_it)))
     tree_stays {scope} (Thins.for_simple {l} {a} x part {step} {body} out is none kept whole stay e h) next c y at =
         let tree = given (treed-For raw l (Some (roll-RawStatement x)) a step body) scope at in
         let z = begin_there scope.statements l _ _ _ _ y tree in
-        let p = part_there ((treed raw (roll-RawStatement x)).gives (opened (numbered scope))) z.0 z.1 in
+        let p = optional_there ((treed raw (roll-RawStatement x)).gives (opened (numbered scope))) z.0 z.1 in
         let n = numbered_gone k raw other out c in
         let inner = at_number stay in
         let fit = fits n inner in
         let agree = agrees n inner in
         let stays = simple_stays {scope = opened (numbered scope)} {next = next} x part is none kept whole (record { outside = fit.outside; variables = fit.variables; statements = fit.statements; heads = fit.heads })
-        (record { names = agree.names; structs = agree.structs }) p.0 (given (treed-roll raw x) (opened (numbered scope)) p.1) in
+        (record { names = agree.names; structs = agree.structs }) p.0 (given (treed-roll raw x) (opened (numbered scope)) p.1.0) in
         let r = one_there (tree_step other (opened_tree other x) next) (projected k g p.0) stays in
         let leaves = for_leaves k g scope.statements next.statements l c.statements _ (expr_of raw (scope_of_test (option_map (treed raw) (Some (roll-RawStatement x))) scope) a) _ _ (Some r.value) out
-        (λ u q. ap (λ (o : Option Statement). part_of (option_map (projected k g) o)) (some_same (sym q ∙ z.1) ∙ p.2) ∙ ap first_of r.same) y tree in
+        (λ u q. ap (λ (o : Option Statement). part_of (option_map (projected k g) o)) (some_same (sym q ∙ z.1) ∙ sym p.1.1) ∙ ap first_of r.same) y tree in
         one_result next (treed-roll other x) (collect_one r.there ∙ ap Some (sym (leaves ∙ unchosen (t.Block l (r.value ∷ []) ∷ []) (r.value ∷ []) (simple_declaring other next x part is none r.value r.there))))
     tree_stays {scope} (Thins.switch {l} {a} {arms} {others} is stay d) next c y at =
         one_result next (treed-Switch other l a others) (switch_stays k g scope.statements next.statements l c.statements (expr_of raw scope a) (switch_type raw scope a) _ (expr_of other next a) (switch_type other next a) _ is
@@ -584,12 +580,12 @@ module _ (k : Kept) (raw other : RawProgram) (texts : TextsAgree k raw other) (g
         → (z : Option Statement) → part_tree (option_map (treed raw) x) scope ≡ Some z → part_tree (option_map (treed other) y) next ≡ Some (part_of (option_map (projected k g) z))
     part_stays ThinsPart.missing next c z at = ap (λ (o : Option Statement). Some (part_of (option_map (projected k g) o))) (some_same at)
     part_stays {scope} (ThinsPart.part_stays {x} {y} d) next c z at =
-        let p = part_there ((treed raw x).gives scope) z at in
-        let r = one_there ((treed other y).gives next) (projected k g p.0) (tree_stays d next c p.0 p.1) in
-        ap (λ (o : Option Statement). optional (Some o)) r.there ∙ ap Some (sym (ap (λ (o : Option Statement). part_of (option_map (projected k g) o)) p.2 ∙ ap first_of r.same))
+        let p = optional_there ((treed raw x).gives scope) z at in
+        let r = one_there ((treed other y).gives next) (projected k g p.0) (tree_stays d next c p.0 p.1.0) in
+        ap (λ (o : Option Statement). optional (Some o)) r.there ∙ ap Some (sym (ap (λ (o : Option Statement). part_of (option_map (projected k g) o)) (sym p.1.1) ∙ ap first_of r.same))
     part_stays {scope} (ThinsPart.part_goes {x} d) next c z at =
-        let p = part_there ((treed raw x).gives scope) z at in
-        ap Some (sym (ap (λ (o : Option Statement). part_of (option_map (projected k g) o)) p.2 ∙ ap first_of (sym (some_same (tree_stays d next c p.0 p.1)))))
+        let p = optional_there ((treed raw x).gives scope) z at in
+        ap Some (sym (ap (λ (o : Option Statement). part_of (option_map (projected k g) o)) (sym p.1.1) ∙ ap first_of (sym (some_same (tree_stays d next c p.0 p.1.0)))))
 
     pub arms_stay : {scope : Scope} {xs ys : List RawArm} → ThinArms k raw other scope xs ys → (next : Scope) → Comes scope next
         → (i : IntType) (zs : List Arm) → at_type i (in_order (map (treed_arm raw) xs) scope) ≡ Some zs → at_type i (in_order (map (treed_arm other) ys) next) ≡ Some (map (projected_arm k g) zs)

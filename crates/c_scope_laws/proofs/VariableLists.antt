@@ -1,13 +1,14 @@
 -- The variables that phrases declare, and those that stay.
-use Rattle.std.proofs.Common.{◌≡◌, ℕ, suc, ◌+◌, List, [], ◌∷◌, ◌++◌, length, Bool, true, false, Option, Some, None, option_map, refl, sym, ap, ap₂, subst, ◌∙◌, arith, length-append}
+use Rattle.std.proofs.Common.{◌≡◌, ℕ, suc, ◌+◌, List, [], ◌∷◌, ◌++◌, length, Bool, true, false, Option, Some, None, option_map, refl, sym, ap, ap₂, subst, ◌∙◌, arith, length-append, append-nil}
 use Rattle.c_tree.specs.declared.types.CType.{CType}
 use Rattle.c_tree.specs.declared.program.Var.{Var}
 use Rattle.c_tree.specs.declared.raw.expr.RawVar.{RawVar}
 use Rattle.c_tree.specs.declared.raw.program.RawInit.{RawInit}
+use Rattle.c_tree.specs.declared.raw.program.RawInit.TheVariants as init
 use Rattle.c_tree.specs.declared.raw.program.RawProgram.{RawProgram}
 use Rattle.c_language.specs.DeclaredTypes.{item_count}
 use Rattle.c_language.specs.Scopes.{Scope}
-use Rattle.c_language.specs.Phrases.{Stand, Part, Declares, Phrases, phrase}
+use Rattle.c_language.specs.Phrases.{Stand, Part, Declares, Begins, Phrases, phrase, begun_phrases}
 use Rattle.c_language.specs.ProgramOf.{collected, ctype_with, is_static_stand, is_parameter_stand, variable_of, declared_by, variables_in}
 use Rattle.c_language.proofs.Options.{none_there, some_same}
 use Rattle.c_language.proofs.PhraseLists.{variables-append}
@@ -99,15 +100,11 @@ module _ (k : Kept) (g : ℕ → ℕ) (raw other : RawProgram) where
           ∙ join (variables_in other qs) (variables_in other rs) (projected_vars k g m r.left) (projected_vars k g n r.right) (a.vars r.left r.at_left) (b.vars r.right r.at_right)
           ∙ ap Some (ap (λ (x : ℕ). projected_vars k g m r.left ++ projected_vars k g x r.right) (sym a.count ∙ ap (λ (x : ℕ). m + x) (sym r.count)) ∙ sym (projected-append k g m r.left r.right) ∙ ap (projected_vars k g m) (sym r.same))
 
-  append_none : (ps : Phrases) → ps ++ [] ≡ ps
-  append_none [] = refl
-  append_none (p ∷ ps) = ap (λ (all : Phrases). p ∷ all) (append_none ps)
-
   pub more_none : {m n : ℕ} (qs ps : Phrases) → VarsStay m qs ps n → VarsStay m (qs ++ []) ps n
-  more_none {m} {n} qs ps h = subst (λ (rs : Phrases). VarsStay m rs ps n) (sym (append_none qs)) h
+  more_none {m} {n} qs ps h = subst (λ (rs : Phrases). VarsStay m rs ps n) (sym (append-nil qs)) h
 
   pub less_none : {m n : ℕ} (qs ps : Phrases) → VarsStay m (qs ++ []) ps n → VarsStay m qs ps n
-  less_none {m} {n} qs ps h = subst (λ (rs : Phrases). VarsStay m rs ps n) (append_none qs) h
+  less_none {m} {n} qs ps h = subst (λ (rs : Phrases). VarsStay m rs ps n) (append-nil qs) h
 
   -- phrases that declare no variable
   pub no_variable : (m l l' : ℕ) (scope next : Scope) (p q : Part) → declared_by raw l scope p ≡ [] → declared_by other l' next q ≡ [] → VarsStay m (phrase l' next q ∷ []) (phrase l scope p ∷ []) m
@@ -127,6 +124,17 @@ module _ (k : Kept) (g : ℕ → ℕ) (raw other : RawProgram) where
     where
       none_more : (m : ℕ) → m + 0 ≡ m
       none_more m = omega arith
+
+  -- what an initialiser says declares none
+  pub begun_stays : (m l : ℕ) (scope next : Scope) (stand place : Stand) (v : RawVar) (i : RawInit) → VarsStay m (begun_phrases l next place v i) (begun_phrases l scope stand v i) m
+  begun_stays m l scope next stand place v init.None = no_vars m
+  begun_stays m l scope next stand place v (init.One a) = no_variable m l l scope next (Begins stand v (init.One a)) (Begins place v (init.One a)) refl refl
+  begun_stays m l scope next stand place v (init.Items all) = no_variable m l l scope next (Begins stand v (init.Items all)) (Begins place v (init.Items all)) refl refl
+
+  pub begun_goes : (m l : ℕ) (scope : Scope) (stand : Stand) (v : RawVar) (i : RawInit) → VarsStay m [] (begun_phrases l scope stand v i) m
+  begun_goes m l scope stand v init.None = no_vars m
+  begun_goes m l scope stand v (init.One a) = phrase_gone m l scope (Begins stand v (init.One a)) refl
+  begun_goes m l scope stand v (init.Items all) = phrase_gone m l scope (Begins stand v (init.Items all)) refl
 
   one_var : (o : Option Var) (vs : List Var) → collected (o ∷ []) ≡ Some vs → (v : Var) × (o ≡ Some v) × (vs ≡ v ∷ [])
   one_var None vs at = none_there at

@@ -1,16 +1,16 @@
 -- Going along a list of statements and the thinner one: the variables that are declared are those that stay.
-use Rattle.std.proofs.Common.{◌≡◌, ℕ, ◌+◌, List, [], ◌∷◌, ◌++◌, map, true, false, Option, Some, option_map, refl, sym, ap, ap₂, subst, ◌∙◌}
+use Rattle.std.proofs.Common.{◌≡◌, ℕ, ◌+◌, List, [], ◌∷◌, ◌++◌, map, true, false, Option, Some, option_map, refl, sym, ap, subst, ◌∙◌}
 use Rattle.c_tree.specs.declared.raw.expr.RawVar.{RawVar}
 use Rattle.c_tree.specs.declared.raw.program.RawInit.{RawInit}
 use Rattle.c_tree.specs.declared.raw.program.RawInit.TheVariants as init
 use Rattle.c_tree.specs.declared.raw.program.RawProgram.{RawProgram}
 use Rattle.c_tree.specs.declared.raw.statement.RawTarget.TheVariants as target
 use Rattle.c_tree.specs.declared.raw.statement.RawLabel.{RawLabel}
-use Rattle.c_tree.specs.declared.raw.statement.RawStatement.{RawStatement, roll-RawStatement, map-RawStatement}
+use Rattle.c_tree.specs.declared.raw.statement.RawStatement.{RawStatement, roll-RawStatement}
 use Rattle.c_tree.specs.declared.raw.statement.RawStatement.TheOpen.{RawStatement-F}
 use Rattle.c_tree.specs.declared.raw.statement.RawArm.{RawArm}
 use Rattle.c_language.specs.Scopes.{Scope, Scoped, with_variable, opened, numbered, in_order, after_all, after_block, part_gives, after_part, scope_of_test, scope_of_body}
-use Rattle.c_language.specs.Phrases.{Stand, InBlock, InArm, InFor, Part, Declares, Begins, Assigns, Bumps, Calls, Allocates, Tests, Switches, Returns, Phrases, phrase, begun_phrases, joined_at, at_stand, ArmText, labels_of, phrases_of_arms, scoped_step, scoped_arm, scoped, scoped_of_arm}
+use Rattle.c_language.specs.Phrases.{Stand, InBlock, InArm, InFor, Part, Declares, Assigns, Bumps, Calls, Allocates, Tests, Switches, Returns, Phrases, phrase, joined_at, at_stand, ArmText, labels_of, phrases_of_arms, scoped_step, scoped_arm, scoped, scoped_of_arm}
 use Rattle.c_language.specs.ProgramOf.{declared_by}
 use Rattle.c_language.proofs.ScopeNumbers.{begun_variables}
 use Rattle.c_language.proofs.ScopedForms.{scoped-Declare, scoped-Call, scoped-Heap, scoped-If, scoped-While, scoped-Do, scoped-For, scoped-Switch, scoped-Block, scoped_of_arm-arm}
@@ -22,12 +22,9 @@ use Rattle.c_scope_laws.specs.Thinning.{declares, Thins, ThinAll, ThinsPart, Thi
 use Rattle.c_scope_laws.specs.Following.{TextsAgree, Follows}
 use Rattle.c_scope_laws.proofs.Outside.{variable_same}
 use Rattle.c_scope_laws.proofs.Following.{numbered_kept, numbered_gone, follows_opened, follows_closed, follows_gone}
-use Rattle.c_scope_laws.proofs.Walking.{walks, all_walk, part_walks, joined-append, scoped-append, scoped-roll, simple_after}
-use Rattle.c_scope_laws.proofs.VariableLists.{VarsStay, no_vars, both_vars, more_none, less_none, no_variable, phrase_gone, variable_stays, variable_goes}
+use Rattle.c_scope_laws.proofs.Walking.{walks, all_walk, part_walks, joined-append, scoped-append, scoped-roll, simple_after, Statements, opened_form, one_same, two_same}
+use Rattle.c_scope_laws.proofs.VariableLists.{VarsStay, no_vars, both_vars, more_none, less_none, no_variable, phrase_gone, variable_stays, variable_goes, begun_stays, begun_goes}
 use Rattle.c_language.specs.StatementGrammar.{arm}
-
-abbrev Statements : Type 0
-Statements = Scoped (Stand → Phrases)
 
 module _ (k : Kept) (raw other : RawProgram) (texts : TextsAgree k raw other) (g : ℕ → ℕ) (here there_ : ℕ) (mine yours : Option ℕ) (own : yours ≡ option_map g mine) where
   abbrev Comes : Scope → Scope → Type 0
@@ -44,17 +41,8 @@ module _ (k : Kept) (raw other : RawProgram) (texts : TextsAgree k raw other) (g
   pub record Many (scope next : Scope) (stand place : Stand) (xs ys : List Statements) : Type 0 where
     pub vars : Vars scope.variables (joined_at place (in_order ys next)) (joined_at stand (in_order xs scope)) (after_all xs scope).variables
 
-  abbrev opened_form : RawProgram → RawStatement-F RawStatement RawArm → RawStatement-F Statements (Scoped ArmText)
-  opened_form text x = map-RawStatement RawStatement RawArm Statements (Scoped ArmText) (scoped text) (scoped_of_arm text) x
-
   restated : {scope next : Scope} {stand place : Stand} {x y : Statements} {xs ys : List Statements} → x ≡ y → xs ≡ ys → One scope next stand place x xs → One scope next stand place y ys
   restated {scope} {next} {stand} {place} {x} {y} {xs} {ys} p q w = subst (One scope next stand place y) q (subst (λ (z : Statements). One scope next stand place z xs) p w)
-
-  one_same : {x y : Statements} → x ≡ y → ◌≡◌ {A = List Statements} (x ∷ []) (y ∷ [])
-  one_same h = ap (λ (z : Statements). z ∷ []) h
-
-  two_same : {x y z w : Statements} → x ≡ y → z ≡ w → ◌≡◌ {A = List Statements} (x ∷ (z ∷ [])) (y ∷ (w ∷ []))
-  two_same h j = ap₂ (λ (p q : Statements). p ∷ (q ∷ [])) h j
 
   owned : {scope next : Scope} → Comes scope next → next.owner ≡ option_map g scope.owner
   owned c = c.other_owner ∙ own ∙ ap (option_map g) (sym c.owner)
@@ -117,16 +105,6 @@ module _ (k : Kept) (raw other : RawProgram) (texts : TextsAgree k raw other) (g
 
   -- ---- declarations
 
-  begun_vars : (n l : ℕ) (scope next : Scope) (stand place : Stand) (v : RawVar) (i : RawInit) → Vars n (begun_phrases l next place v i) (begun_phrases l scope stand v i) n
-  begun_vars n l scope next stand place v init.None = no_vars k g raw other n
-  begun_vars n l scope next stand place v (init.One a) = plain n l scope next (Begins stand v (init.One a)) (Begins place v (init.One a)) refl refl
-  begun_vars n l scope next stand place v (init.Items all) = plain n l scope next (Begins stand v (init.Items all)) (Begins place v (init.Items all)) refl refl
-
-  begun_lost : (n l : ℕ) (scope : Scope) (stand : Stand) (v : RawVar) (i : RawInit) → Vars n [] (begun_phrases l scope stand v i) n
-  begun_lost n l scope stand v init.None = no_vars k g raw other n
-  begun_lost n l scope stand v (init.One a) = lost n l scope (Begins stand v (init.One a)) refl
-  begun_lost n l scope stand v (init.Items all) = lost n l scope (Begins stand v (init.Items all)) refl
-
   same : (v : RawVar) (i : RawInit) → SameVariable raw other v i v i
   same v i = variable_same raw other texts.outside v i
 
@@ -178,13 +156,13 @@ module _ (k : Kept) (raw other : RawProgram) (texts : TextsAgree k raw other) (g
         (record { vars = plain scope.variables l scope next (Calls stand (target.Place a) w args) (Calls place target.None w args) refl refl })
     vars_walk {scope} (Thins.declaration {l} {v} {i} is kept stay begin) next stand place st c =
         restated (sym (scoped-Declare raw l v i)) (one_same (sym (scoped-Declare other l v i)))
-        (record { vars = ends (sym (begun_variables i (with_variable raw v i scope))) (whole _ _ (both _ _ _ _ (kept_variable l v v i i is st (same v i) c) (begun_vars _ l _ _ stand place v i))) })
+        (record { vars = ends (sym (begun_variables i (with_variable raw v i scope))) (whole _ _ (both _ _ _ _ (kept_variable l v v i i is st (same v i) c) (begun_stays k g raw other _ l _ _ stand place v i))) })
     vars_walk {scope} (Thins.initialiser_goes {l} {v} {w} {i} is out like stay) next stand place st c =
         restated (sym (scoped-Declare raw l v i)) (one_same (sym (scoped-Declare other l w init.None)))
-        (record { vars = ends (sym (begun_variables i (with_variable raw v i scope))) (both (phrase l next (Declares place w init.None) ∷ []) [] (phrase l scope (Declares stand v i) ∷ []) _ (kept_variable l v w i init.None is st like c) (begun_lost _ l _ stand v i)) })
+        (record { vars = ends (sym (begun_variables i (with_variable raw v i scope))) (both (phrase l next (Declares place w init.None) ∷ []) [] (phrase l scope (Declares stand v i) ∷ []) _ (kept_variable l v w i init.None is st like c) (begun_goes k g raw other _ l _ stand v i)) })
     vars_walk {scope} (Thins.declaration_goes {l} {v} {i} is out) next stand place st c =
         restated (sym (scoped-Declare raw l v i)) refl
-        (record { vars = ends (sym (begun_variables i (with_variable raw v i scope))) (both [] [] (phrase l scope (Declares stand v i) ∷ []) _ (gone_variable l stand v i is) (begun_lost _ l _ stand v i)) })
+        (record { vars = ends (sym (begun_variables i (with_variable raw v i scope))) (both [] [] (phrase l scope (Declares stand v i) ∷ []) _ (gone_variable l stand v i is) (begun_goes k g raw other _ l _ stand v i)) })
     vars_walk {scope} (Thins.call {l} {v} {f = w} {args} complete is kept stay stay_call) next stand place st c =
         restated (sym (scoped-Call raw l (target.Declared v) w args)) (one_same (sym (scoped-Call other l (target.Declared v) w args)))
         (record {

@@ -1,5 +1,5 @@
 -- Going along a list of statements and the thinner one: what comes at each place stands for something of the text, and scopes follow one another.
-use Rattle.std.proofs.Common.{◌≡◌, ℕ, List, [], ◌∷◌, ◌++◌, map, true, false, Option, Some, option_map, refl, sym, ap, ap₂, subst, ◌∙◌, append_assoc}
+use Rattle.std.proofs.Common.{◌≡◌, ℕ, List, [], ◌∷◌, ◌++◌, map, true, false, Option, Some, option_map, refl, sym, ap, ap₂, subst, ◌∙◌, append_assoc, append-nil}
 use Rattle.c_tree.specs.declared.raw.expr.RawExpr.{RawExpr}
 use Rattle.c_tree.specs.declared.raw.expr.RawVar.{RawVar}
 use Rattle.c_tree.specs.declared.raw.program.RawInit.{RawInit}
@@ -74,8 +74,17 @@ from_for InFor = as_it_is
 pub at_number : {k : Kept} {scope : Scope} {part : Part} → NamesStay k scope part → NamesStay k (numbered scope) part
 at_number h = record { names = h.names; functions = h.functions }
 
-abbrev Statements : Type 0
+abbrev pub Statements : Type 0
 Statements = Scoped (Stand → Phrases)
+
+abbrev pub opened_form : RawProgram → RawStatement-F RawStatement RawArm → RawStatement-F Statements (Scoped ArmText)
+opened_form text x = map-RawStatement RawStatement RawArm Statements (Scoped ArmText) (scoped text) (scoped_of_arm text) x
+
+pub one_same : {x y : Statements} → x ≡ y → ◌≡◌ {A = List Statements} (x ∷ []) (y ∷ [])
+one_same h = ap (λ (z : Statements). z ∷ []) h
+
+pub two_same : {x y z w : Statements} → x ≡ y → z ≡ w → ◌≡◌ {A = List Statements} (x ∷ (z ∷ [])) (y ∷ (w ∷ []))
+two_same h j = ap₂ (λ (p q : Statements). p ∷ (q ∷ [])) h j
 
 module _ (k : Kept) (raw other : RawProgram) (texts : TextsAgree k raw other) (defined_here defined_there : ℕ) (owner_here owner_there : Option ℕ) where
   -- a statement in a scope, and what stays of it at a place of the other text
@@ -116,9 +125,6 @@ module _ (k : Kept) (raw other : RawProgram) (texts : TextsAgree k raw other) (d
       → NamesStay k scope (Calls InBlock less f args) → Follows k raw other defined_here defined_there owner_here owner_there scope next → AreCounterparts k raw other (phrase l next (Calls place less f args) ∷ []) (phrase l scope (Calls stand to f args) ∷ [])
   call_stands {scope} {next} {stand} {place} l to less f args st stores stay h =
       one_stands k raw other l l scope next (Calls stand to f args) (Calls place less f args) (PartsAgree.calls (call_stands_for st) stores) (places_agree k raw other texts h (calls_anywhere place stay))
-
-  abbrev opened_form : RawProgram → RawStatement-F RawStatement RawArm → RawStatement-F Statements (Scoped ArmText)
-  opened_form text x = map-RawStatement RawStatement RawArm Statements (Scoped ArmText) (scoped text) (scoped_of_arm text) x
 
   simple_walks : {scope next : Scope} {stand place : Stand} (x : RawStatement-F RawStatement RawArm) (part : Part) → simple_part x ≡ Some part → declares x ≡ false → k.statement scope.statements ≡ true → NamesStay k scope part
       → StandsFor stand place → Follows k raw other defined_here defined_there owner_here owner_there scope next → Walks scope next stand place (scoped_step raw (opened_form raw x)) (scoped_step other (opened_form other x) ∷ [])
@@ -418,12 +424,6 @@ module _ (k : Kept) (raw other : RawProgram) (texts : TextsAgree k raw other) (d
   restated : {scope next : Scope} {stand place : Stand} {x y : Statements} {xs ys : List Statements} → x ≡ y → xs ≡ ys → Walks scope next stand place x xs → Walks scope next stand place y ys
   restated {scope} {next} {stand} {place} {x} {y} {xs} {ys} p q w = subst (Walks scope next stand place y) q (subst (λ (z : Statements). Walks scope next stand place z xs) p w)
 
-  one_same : {x y : Statements} → x ≡ y → ◌≡◌ {A = List Statements} (x ∷ []) (y ∷ [])
-  one_same h = ap (λ (z : Statements). z ∷ []) h
-
-  two_same : {x y z w : Statements} → x ≡ y → z ≡ w → ◌≡◌ {A = List Statements} (x ∷ (z ∷ [])) (y ∷ (w ∷ []))
-  two_same h j = ap₂ (λ (p q : Statements). p ∷ (q ∷ [])) h j
-
   -- ---- lists
 
   pub joined-append : (place : Stand) (xs ys : List Statements) (next : Scope) → joined_at place (in_order (xs ++ ys) next) ≡ joined_at place (in_order xs next) ++ joined_at place (in_order ys (after_all xs next))
@@ -451,13 +451,9 @@ module _ (k : Kept) (raw other : RawProgram) (texts : TextsAgree k raw other) (d
         after = subst (λ (z : Scope). Follows k raw other defined_here defined_there owner_here owner_there (after_all rest (x.after scope)) z) (sym (after-append (map (scoped other) some) (map (scoped other) others) next)) v.after;
       })
 
-  append_none : (ps : Phrases) → ps ++ [] ≡ ps
-  append_none [] = refl
-  append_none (p ∷ ps) = ap (λ (all : Phrases). p ∷ all) (append_none ps)
-
   whole_part : {scope next : Scope} {stand place : Stand} {x y : Statements} → Walks scope next stand place x (y ∷ []) → PartWalks scope next stand place (Some x) (Some y)
   whole_part {scope} {next} {stand} {place} {x} {y} w = record {
-    phrases = subst (λ (qs : Phrases). AreCounterparts k raw other qs (x.gives scope stand)) (append_none (y.gives next place)) w.phrases;
+    phrases = subst (λ (qs : Phrases). AreCounterparts k raw other qs (x.gives scope stand)) (append-nil (y.gives next place)) w.phrases;
     after = w.after;
   }
 

@@ -17,4 +17,5 @@ pub mod TableLaws
 pub mod TextSteps
 pub mod TreeLemmas
 pub mod TypeLemmas
+pub mod TypeTrees
 pub mod TypedLaws

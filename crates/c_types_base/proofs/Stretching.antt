@@ -102,5 +102,10 @@ module _ (raw : RawProgram) where
   parameters_grow [] x = stays x
   parameters_grow (p ∷ ps) x = then_extends x (with_parameter raw p x) (with_parameters raw ps (with_parameter raw p x)) (named_grows p p.name x) (parameters_grow ps (with_parameter raw p x))
 
+-- a list of statements from an element on
+pub statements_here : (stand : Stand) (ss : List RawStatement) (i : ℕ) (one : RawStatement) (raw : RawProgram) → i < length ss → one ≡ get_or ss i one
+    → of_statements stand (drop i ss) raw ≡ then_comes (of_statement stand one) (of_statements stand (drop (i + 1) ss)) raw
+statements_here stand ss i one raw within is = ap (λ xs. of_statements stand xs raw) (drop_turn ss i one within is)
+
 pub arms_here : (arms : List RawArm) (i : ℕ) (a : RawArm) (raw : RawProgram) → i < length arms → a ≡ get_or arms i a → of_arms (drop i arms) raw ≡ then_comes (of_arm a) (of_arms (drop (i + 1) arms)) raw
 arms_here arms i a raw within is = ap (λ xs. of_arms xs raw) (drop_turn arms i a within is)

@@ -5,7 +5,7 @@ use Rattle.c_arith.specs.declared.operators.UnaryOp.{UnaryOp}
 use Rattle.c_arith.specs.declared.operators.BinaryOp.{BinaryOp}
 use Rattle.c_tree.specs.declared.expr.Expr.{Expr}
 use Rattle.c_tree.specs.declared.expr.Expr.TheVariants as tree
-use Rattle.c_tree.specs.declared.raw.expr.RawExpr.{RawExpr, map-RawExpr, ind-RawExpr, roll-RawExpr, fold-RawExpr, fold-roll-RawExpr}
+use Rattle.c_tree.specs.declared.raw.expr.RawExpr.{RawExpr, map-RawExpr, ind-RawExpr, roll-RawExpr, fold-roll-RawExpr}
 use Rattle.c_tree.specs.declared.raw.expr.RawExpr.TheOpen.{RawExpr-F}
 use Rattle.c_tree.specs.declared.raw.expr.RawExpr.TheVariants as e
 use Rattle.c_tree.specs.declared.raw.program.RawProgram.{RawProgram}
@@ -14,15 +14,12 @@ use Rattle.c_language.specs.Words.{Bytes}
 use Rattle.c_language.specs.ConstantEvaluation.{literal_type, literal_value, both}
 use Rattle.c_language.specs.Scopes.{Scope, meaning_in}
 use Rattle.c_language.specs.ExprTypes.{operand, operand_step}
-use Rattle.c_language.specs.ProgramOf.{Told, told_step, expr_of, variable_number, of_operand, of_pointed}
+use Rattle.c_language.specs.ProgramOf.{Told, told_step, told_of, expr_of, variable_number, of_operand, of_pointed}
 use Rattle.c_language.specs.declared.expr_type.Operand.{Operand}
 use Rattle.c_types_base.specs.Judging.{judged}
 use Rattle.c_types_base.proofs.JudgingLaws.{Told as ToldBy, judged_truly}
 
 module _ (raw : RawProgram) (scope : Scope) where
-  abbrev pub both_of : RawExpr → Told
-  both_of = fold-RawExpr Told (told_step raw scope)
-
   abbrev operand_in : Told → Option Operand
   operand_in t = t.operand
 
@@ -47,13 +44,13 @@ module _ (raw : RawProgram) (scope : Scope) where
   step-operand (RawExpr-F.Paren a) = refl
 
   abbrev IsTold : RawExpr → Type 0
-  IsTold a = (both_of a).operand ≡ operand raw scope a
+  IsTold a = (told_of raw scope a).operand ≡ operand raw scope a
 
   abbrev layer_of : ExprParts IsTold → RawExpr-F RawExpr
   layer_of = expr_layer IsTold
 
   layer-operand : (y : ExprParts IsTold)
-      → map-RawExpr Told (Option Operand) operand_in (map-RawExpr RawExpr Told both_of (layer_of y)) ≡ map-RawExpr RawExpr (Option Operand) (operand raw scope) (layer_of y)
+      → map-RawExpr Told (Option Operand) operand_in (map-RawExpr RawExpr Told (told_of raw scope) (layer_of y)) ≡ map-RawExpr RawExpr (Option Operand) (operand raw scope) (layer_of y)
   layer-operand (RawExpr-F.Constant text) = refl
   layer-operand RawExpr-F.Null = refl
   layer-operand RawExpr-F.Eof = refl
@@ -71,10 +68,10 @@ module _ (raw : RawProgram) (scope : Scope) where
   layer-operand (RawExpr-F.Arrow a m) = rw a.1 refl
   layer-operand (RawExpr-F.Paren a) = rw a.1 refl
 
-  pub told-operand : (a : RawExpr) → (both_of a).operand ≡ operand raw scope a
+  pub told-operand : (a : RawExpr) → (told_of raw scope a).operand ≡ operand raw scope a
   told-operand =
       ind-RawExpr IsTold (λ x y is. subst (λ z. IsTold (roll-RawExpr z)) is
-      (ap operand_in (fold-roll-RawExpr Told (told_step raw scope) (layer_of y)) ∙ step-operand (map-RawExpr RawExpr Told both_of (layer_of y))
+      (ap operand_in (fold-roll-RawExpr Told (told_step raw scope) (layer_of y)) ∙ step-operand (map-RawExpr RawExpr Told (told_of raw scope) (layer_of y))
       ∙ ap (operand_step raw scope) (layer-operand y) ∙ sym (fold-roll-RawExpr (Option Operand) (operand_step raw scope) (layer_of y))))
 
   at_judged : (a : RawExpr) (r : Result Operand ℕ) (x : Operand) → ToldBy raw scope a r → r ≡ Ok x → operand raw scope a ≡ Some x
@@ -101,55 +98,55 @@ module _ (raw : RawProgram) (scope : Scope) where
   tree_in t = t.tree
 
   pub expr_of-Constant : (text : Bytes) → expr_of raw scope (e.Constant text) ≡ Some (tree.Constant text (literal_type text) (literal_value text))
-  expr_of-Constant text = ap tree_in (ap both_of (sym (e.rolls-Constant text)) ∙ fold-roll-RawExpr Told (told_step raw scope) (RawExpr-F.Constant text))
+  expr_of-Constant text = ap tree_in (ap (told_of raw scope) (sym (e.rolls-Constant text)) ∙ fold-roll-RawExpr Told (told_step raw scope) (RawExpr-F.Constant text))
 
   pub expr_of-Null : expr_of raw scope e.Null ≡ Some tree.Null
-  expr_of-Null = ap tree_in (ap both_of (sym e.rolls-Null) ∙ fold-roll-RawExpr Told (told_step raw scope) RawExpr-F.Null)
+  expr_of-Null = ap tree_in (ap (told_of raw scope) (sym e.rolls-Null) ∙ fold-roll-RawExpr Told (told_step raw scope) RawExpr-F.Null)
 
   pub expr_of-Eof : expr_of raw scope e.Eof ≡ Some tree.Eof
-  expr_of-Eof = ap tree_in (ap both_of (sym e.rolls-Eof) ∙ fold-roll-RawExpr Told (told_step raw scope) RawExpr-F.Eof)
+  expr_of-Eof = ap tree_in (ap (told_of raw scope) (sym e.rolls-Eof) ∙ fold-roll-RawExpr Told (told_step raw scope) RawExpr-F.Eof)
 
   pub expr_of-Variable : (name : Bytes) → expr_of raw scope (e.Variable name) ≡ option_map tree.Variable (variable_number (meaning_in scope name))
-  expr_of-Variable name = ap tree_in (ap both_of (sym (e.rolls-Variable name)) ∙ fold-roll-RawExpr Told (told_step raw scope) (RawExpr-F.Variable name))
+  expr_of-Variable name = ap tree_in (ap (told_of raw scope) (sym (e.rolls-Variable name)) ∙ fold-roll-RawExpr Told (told_step raw scope) (RawExpr-F.Variable name))
 
   pub expr_of-Unary : (op : UnaryOp) (a : RawExpr) → expr_of raw scope (e.Unary op a) ≡ option_map (tree.Unary op) (expr_of raw scope a)
-  expr_of-Unary op a = ap tree_in (ap both_of (sym (e.rolls-Unary op a)) ∙ fold-roll-RawExpr Told (told_step raw scope) (RawExpr-F.Unary op a))
+  expr_of-Unary op a = ap tree_in (ap (told_of raw scope) (sym (e.rolls-Unary op a)) ∙ fold-roll-RawExpr Told (told_step raw scope) (RawExpr-F.Unary op a))
 
   pub expr_of-Deref : (a : RawExpr) → expr_of raw scope (e.Deref a) ≡ option_map tree.Deref (expr_of raw scope a)
-  expr_of-Deref a = ap tree_in (ap both_of (sym (e.rolls-Deref a)) ∙ fold-roll-RawExpr Told (told_step raw scope) (RawExpr-F.Deref a))
+  expr_of-Deref a = ap tree_in (ap (told_of raw scope) (sym (e.rolls-Deref a)) ∙ fold-roll-RawExpr Told (told_step raw scope) (RawExpr-F.Deref a))
 
   pub expr_of-AddressOf : (a : RawExpr) → expr_of raw scope (e.AddressOf a) ≡ option_map tree.AddressOf (expr_of raw scope a)
-  expr_of-AddressOf a = ap tree_in (ap both_of (sym (e.rolls-AddressOf a)) ∙ fold-roll-RawExpr Told (told_step raw scope) (RawExpr-F.AddressOf a))
+  expr_of-AddressOf a = ap tree_in (ap (told_of raw scope) (sym (e.rolls-AddressOf a)) ∙ fold-roll-RawExpr Told (told_step raw scope) (RawExpr-F.AddressOf a))
 
   pub expr_of-Binary : (op : BinaryOp) (a b : RawExpr) → expr_of raw scope (e.Binary op a b) ≡ both (tree.Binary op) (expr_of raw scope a) (expr_of raw scope b)
-  expr_of-Binary op a b = ap tree_in (ap both_of (sym (e.rolls-Binary op a b)) ∙ fold-roll-RawExpr Told (told_step raw scope) (RawExpr-F.Binary op a b))
+  expr_of-Binary op a b = ap tree_in (ap (told_of raw scope) (sym (e.rolls-Binary op a b)) ∙ fold-roll-RawExpr Told (told_step raw scope) (RawExpr-F.Binary op a b))
 
   pub expr_of-AndAlso : (a b : RawExpr) → expr_of raw scope (e.AndAlso a b) ≡ both tree.AndAlso (expr_of raw scope a) (expr_of raw scope b)
-  expr_of-AndAlso a b = ap tree_in (ap both_of (sym (e.rolls-AndAlso a b)) ∙ fold-roll-RawExpr Told (told_step raw scope) (RawExpr-F.AndAlso a b))
+  expr_of-AndAlso a b = ap tree_in (ap (told_of raw scope) (sym (e.rolls-AndAlso a b)) ∙ fold-roll-RawExpr Told (told_step raw scope) (RawExpr-F.AndAlso a b))
 
   pub expr_of-OrElse : (a b : RawExpr) → expr_of raw scope (e.OrElse a b) ≡ both tree.OrElse (expr_of raw scope a) (expr_of raw scope b)
-  expr_of-OrElse a b = ap tree_in (ap both_of (sym (e.rolls-OrElse a b)) ∙ fold-roll-RawExpr Told (told_step raw scope) (RawExpr-F.OrElse a b))
+  expr_of-OrElse a b = ap tree_in (ap (told_of raw scope) (sym (e.rolls-OrElse a b)) ∙ fold-roll-RawExpr Told (told_step raw scope) (RawExpr-F.OrElse a b))
 
   pub expr_of-Choose : (c a b : RawExpr) → expr_of raw scope (e.Choose c a b) ≡ option_and_then (λ (x : Expr). both (tree.Choose x) (expr_of raw scope a) (expr_of raw scope b)) (expr_of raw scope c)
-  expr_of-Choose c a b = ap tree_in (ap both_of (sym (e.rolls-Choose c a b)) ∙ fold-roll-RawExpr Told (told_step raw scope) (RawExpr-F.Choose c a b))
+  expr_of-Choose c a b = ap tree_in (ap (told_of raw scope) (sym (e.rolls-Choose c a b)) ∙ fold-roll-RawExpr Told (told_step raw scope) (RawExpr-F.Choose c a b))
 
   pub expr_of-Cast : (t : IntType) (a : RawExpr) → expr_of raw scope (e.Cast t a) ≡ option_map (tree.Cast t) (expr_of raw scope a)
-  expr_of-Cast t a = ap tree_in (ap both_of (sym (e.rolls-Cast t a)) ∙ fold-roll-RawExpr Told (told_step raw scope) (RawExpr-F.Cast t a))
+  expr_of-Cast t a = ap tree_in (ap (told_of raw scope) (sym (e.rolls-Cast t a)) ∙ fold-roll-RawExpr Told (told_step raw scope) (RawExpr-F.Cast t a))
 
   pub expr_of-Index : (a i : RawExpr) → expr_of raw scope (e.Index a i) ≡ both tree.Index (expr_of raw scope a) (expr_of raw scope i)
-  expr_of-Index a i = ap tree_in (ap both_of (sym (e.rolls-Index a i)) ∙ fold-roll-RawExpr Told (told_step raw scope) (RawExpr-F.Index a i))
+  expr_of-Index a i = ap tree_in (ap (told_of raw scope) (sym (e.rolls-Index a i)) ∙ fold-roll-RawExpr Told (told_step raw scope) (RawExpr-F.Index a i))
 
   pub expr_of-Member : (a : RawExpr) (m : Bytes) → expr_of raw scope (e.Member a m) ≡ option_and_then (λ (x : Expr). option_map (tree.Member x) (of_operand raw m (operand raw scope a))) (expr_of raw scope a)
   expr_of-Member a m =
-      ap tree_in (ap both_of (sym (e.rolls-Member a m)) ∙ fold-roll-RawExpr Told (told_step raw scope) (RawExpr-F.Member a m))
+      ap tree_in (ap (told_of raw scope) (sym (e.rolls-Member a m)) ∙ fold-roll-RawExpr Told (told_step raw scope) (RawExpr-F.Member a m))
       ∙ ap (λ o. option_and_then (λ (x : Expr). option_map (tree.Member x) (of_operand raw m o)) (expr_of raw scope a)) (told-operand a)
 
   pub expr_of-Arrow : (a : RawExpr) (m : Bytes) → expr_of raw scope (e.Arrow a m) ≡ option_and_then (λ (x : Expr). option_map (tree.Arrow x) (of_pointed raw m (operand raw scope a))) (expr_of raw scope a)
   expr_of-Arrow a m =
-      ap tree_in (ap both_of (sym (e.rolls-Arrow a m)) ∙ fold-roll-RawExpr Told (told_step raw scope) (RawExpr-F.Arrow a m))
+      ap tree_in (ap (told_of raw scope) (sym (e.rolls-Arrow a m)) ∙ fold-roll-RawExpr Told (told_step raw scope) (RawExpr-F.Arrow a m))
       ∙ ap (λ o. option_and_then (λ (x : Expr). option_map (tree.Arrow x) (of_pointed raw m o)) (expr_of raw scope a)) (told-operand a)
 
   pub expr_of-Paren : (a : RawExpr) → expr_of raw scope (e.Paren a) ≡ option_map tree.Paren (expr_of raw scope a)
-  expr_of-Paren a = ap tree_in (ap both_of (sym (e.rolls-Paren a)) ∙ fold-roll-RawExpr Told (told_step raw scope) (RawExpr-F.Paren a))
+  expr_of-Paren a = ap tree_in (ap (told_of raw scope) (sym (e.rolls-Paren a)) ∙ fold-roll-RawExpr Told (told_step raw scope) (RawExpr-F.Paren a))
 
 pub ruleset trees_of = (expr_of-Constant, expr_of-Null, expr_of-Eof, expr_of-Variable, expr_of-Unary, expr_of-Deref, expr_of-AddressOf, expr_of-Binary, expr_of-AndAlso, expr_of-OrElse, expr_of-Choose, expr_of-Cast, expr_of-Index, expr_of-Member, expr_of-Arrow, expr_of-Paren)

@@ -1,28 +1,20 @@
 -- A declaration whose check is passed has a type, and its name is new.
-use Rattle.std.proofs.Common.{◌≡◌, ℕ, ℤ, List, [], ◌∷◌, ◌++◌, Bool, true, false, Option, Some, None, Ok, Err, refl, sym, subst, true≢false, inl, inr}
+use Rattle.std.proofs.Common.{◌≡◌, ℕ, ℤ, List, [], ◌∷◌, Bool, true, false, Option, Some, None, Ok, Err, refl, sym, subst, true≢false, inl, inr}
 use Rattle.std.specs.Prelude.{Contains, option_and_then, is_some, is_none}
+use Rattle.c_types_base.proofs.TypeTrees.{type_made}
 use Rattle.c_tree.specs.declared.raw.expr.RawExpr.{RawExpr}
-use Rattle.c_tree.specs.declared.raw.expr.RawLength.{RawLength}
-use Rattle.c_tree.specs.declared.raw.expr.RawLength.TheVariants as length_of
-use Rattle.c_tree.specs.declared.raw.expr.RawType.{RawType, map-RawType, ind-RawType, roll-RawType}
-use Rattle.c_tree.specs.declared.raw.expr.RawType.TheOpen.{RawType-F}
+use Rattle.c_tree.specs.declared.raw.expr.RawType.{RawType}
 use Rattle.c_tree.specs.declared.raw.expr.RawVar.{RawVar}
 use Rattle.c_tree.specs.declared.raw.program.RawInit.{RawInit}
 use Rattle.c_tree.specs.declared.raw.program.RawMember.{RawMember}
 use Rattle.c_tree.specs.declared.raw.program.RawProgram.{RawProgram}
 use Rattle.c_language.specs.Words.{Bytes}
 use Rattle.c_language.specs.ConstantEvaluation.{value_of_constant}
-use Rattle.c_language.specs.DeclaredTypes.{struct_id, positive, length_in, type_step, type_with, written_type, variable_type, item_count, of_base, pointer_to}
+use Rattle.c_language.specs.DeclaredTypes.{struct_id, positive, type_with, written_type, variable_type, item_count}
 use Rattle.c_language.specs.Phrases.{Stand}
 use Rattle.c_language.specs.Scopes.{Scope, meaning_in, meaning_here}
-use Rattle.c_language.specs.Uses.{lengths_in, lengths_step, written_lengths, tags_in, tags_step}
-use Rattle.c_language.specs.declared.expr_type.Base.TheVariants as base
-use Rattle.c_language.specs.declared.expr_type.ExprType.{ExprType}
-use Rattle.c_language.proofs.Options.{there_map}
-use Rattle.c_language.proofs.Lists.{contains_nil, contains_cons, contains_first, contains_later}
-use Rattle.c_language.proofs.UseLemmas.{tags-roll, lengths-roll}
-use Rattle.c_types_base.proofs.OptionLemmas.{there_then}
-use Rattle.c_types_base.proofs.TypeLemmas.{type-roll}
+use Rattle.c_language.specs.Uses.{lengths_in, tags_in}
+use Rattle.c_language.proofs.Lists.{contains_nil, contains_cons}
 use Rattle.c_types_checks.specs.Checking.{Verdict, kept, unless_broken, given_or, then_kept, all_kept, check_expr}
 use Rattle.c_types_checks.specs.DeclarationChecks.{check_tag, check_count, check_length, check_type, check_fresh, check_member, check_declared}
 use Rattle.c_types_checks.proofs.TestLemmas.{is_nothing_too}
@@ -64,42 +56,6 @@ there_if None h = absurd (true≢false (sym h))
 there_if (Some x) h = tt
 
 module _ (raw : RawProgram) (items : ℕ) where
-  abbrev AreDefined : List Bytes → Type 0
-  AreDefined ts = (t : Bytes) → Contains ts t → IsThere (struct_id raw t)
-
-  abbrev AreLengths : List RawExpr → Type 0
-  AreLengths ns = (n : RawExpr) → Contains ns n → IsThere (option_and_then positive (value_of_constant n))
-
-  abbrev IsSound : RawType → Type 0
-  IsSound t = AreDefined (tags_in t) → AreLengths (lengths_in t) → IsThere (type_with raw items t)
-
-  abbrev layer_of : RawType-F ((t : RawType) × IsSound t) → RawType-F RawType
-  layer_of = map-RawType ((t : RawType) × IsSound t) RawType (λ t. t.0)
-
-  length_there : (n : RawLength) (ns : List RawExpr) → AreLengths (written_lengths n ++ ns) → IsThere (length_in items n)
-  length_there (length_of.Written e) ns h = h e (contains_first e ns)
-  length_there length_of.Listed ns h = tt
-
-  others : (n : RawLength) (ns : List RawExpr) → AreLengths (written_lengths n ++ ns) → AreLengths ns
-  others (length_of.Written e) ns h = λ m c. h m (contains_later e m ns c)
-  others length_of.Listed ns h = h
-
-  layer_there : (y : RawType-F ((t : RawType) × IsSound t))
-      → AreDefined (tags_step (map-RawType RawType (List Bytes) tags_in (layer_of y)))
-      → AreLengths (lengths_step (map-RawType RawType (List RawExpr) lengths_in (layer_of y)))
-      → IsThere (type_step raw items (map-RawType RawType (Option ExprType) (type_with raw items) (layer_of y)))
-  layer_there (RawType-F.Integer t) d l = tt
-  layer_there (RawType-F.PointerTo a) d l = there_map pointer_to (type_with raw items a.0) (a.1 d l)
-  layer_there (RawType-F.Array a n) d l =
-      there_then _ (type_with raw items a.0) (a.1 d (others n (lengths_in a.0) l)) (λ t is. there_map _ (length_in items n) (length_there n (lengths_in a.0) l))
-  layer_there (RawType-F.Struct tag) d l = there_map (λ (s : ℕ). of_base (base.Struct s)) (struct_id raw tag) (d tag (contains_first tag []))
-
-  roll_there : (y : RawType-F ((t : RawType) × IsSound t)) → IsSound (roll-RawType (layer_of y))
-  roll_there y d l = subst IsThere (sym (type-roll raw items (layer_of y))) (layer_there y (subst AreDefined (tags-roll (layer_of y)) d) (subst AreLengths (lengths-roll (layer_of y)) l))
-
-  sound : (t : RawType) → IsSound t
-  sound = ind-RawType IsSound (λ x y is. subst (λ z. IsSound (roll-RawType z)) is (roll_there y))
-
   module _ (scope : Scope) where
     counted : (v : Option ℤ) → given_or 10 (check_count raw scope) v ≡ kept → IsThere (option_and_then positive v)
     counted None h = refused h
@@ -114,8 +70,8 @@ module _ (raw : RawProgram) (items : ℕ) where
     -- a type that passes its check is a type
     pub type_there : (t : RawType) → check_type raw scope t ≡ kept → IsThere (type_with raw items t)
     type_there t h =
-        sound t (λ w c. tag_kept w (each_kept (check_tag raw scope) (tags_in t) (second_kept (all_kept (check_length raw scope) (lengths_in t)) _ h) w c))
-        (λ e c. length_kept e (each_kept (check_length raw scope) (lengths_in t) (first_kept (all_kept (check_length raw scope) (lengths_in t)) _ h) e c))
+        (type_made raw items t (λ w c. tag_kept w (each_kept (check_tag raw scope) (tags_in t) (second_kept (all_kept (check_length raw scope) (lengths_in t)) _ h) w c))
+        (λ e c. length_kept e (each_kept (check_length raw scope) (lengths_in t) (first_kept (all_kept (check_length raw scope) (lengths_in t)) _ h) e c))).typed
 
 module _ (raw : RawProgram) (scope : Scope) where
   pub declared_there : (stand : Stand) (v : RawVar) (i : RawInit) → check_declared raw scope stand v i ≡ kept → IsThere (variable_type raw v i)

@@ -20,7 +20,7 @@ use Rattle.c_tree.specs.declared.raw.statement.RawStatement.TheVariants as s
 use Rattle.c_tree.specs.declared.raw.statement.RawTarget.{RawTarget}
 use Rattle.c_tree.specs.declared.raw.statement.RawTarget.TheVariants as target
 use Rattle.c_tree.specs.declared.raw.statement.RawTypeName.{RawTypeName}
-use Rattle.c_language.specs.ItemGrammar.{IsGlobal, AreGlobals, IsResult, IsHead, IsItem, AreItems}
+use Rattle.c_language.specs.ItemGrammar.{IsGlobal, AreGlobals, IsItem, AreItems}
 use Rattle.c_language.specs.Phrases.{Stand, InFile, InHead, InBlock, InArm, InFor, EndsFunction, Calls, Allocates, Tests, Phrases, phrase, ArmText, begun_phrases, declaration, target_phrases, joined_at, block_phrases, at_stand, phrases_of_arms, scoped, scoped_of_arm, body_phrases, member_phrases, taken_phrases, parameter_phrases, head_phrases, item_phrases, items_phrases, after_item, phrases}
 use Rattle.c_language.specs.Programs.{IsTree}
 use Rattle.c_language.specs.Rules.{KeepsRules, AreKept}
@@ -31,7 +31,7 @@ use Rattle.c_language.specs.Words.{Bytes}
 use Rattle.c_language.proofs.ScopedForms.{scoped-Declare, scoped-Assign, scoped-Bump, scoped-Call, scoped-Heap, scoped-If, scoped-While, scoped-Do, scoped-Switch, scoped-Block, scoped-Return}
 use Rattle.c_types_trees.specs.FitPhrases.{IsAllocation, IsFormed, AreFit}
 use Rattle.c_types_trees.specs.KeptPhrases.{HasNoLengthIf}
-use Rattle.c_types_program.proofs.GrammarTrees.{heap_plain, name_plain}
+use Rattle.c_types_program.proofs.GrammarTrees.{heap_plain, head_plain}
 use Rattle.c_types_program.proofs.RuleLaws.{phrases_kept}
 use Rattle.c_types_program.proofs.StatementForms.{scoped_part, scoped-For, scoped-arm}
 
@@ -262,13 +262,6 @@ module _ (raw : RawProgram) where
   items_both : (xs ys : List RawItem) → ItemsFormed xs → ItemsFormed ys → ItemsFormed (xs ++ ys)
   items_both [] ys h k = k
   items_both (x ∷ xs) ys h k = (h.0, items_both xs ys h.1 k)
-
-  result_plain : {ts rest : Tokens} {t : Option RawType} → IsResult ts t rest → HasNoLengthIf t
-  result_plain IsResult.nothing = tt
-  result_plain (IsResult.some h) = name_plain h
-
-  head_plain : {ts rest : Tokens} {head : RawHead} → IsHead ts head rest → HasNoLengthIf head.result
-  head_plain (IsHead.head is_static result keyword params) = result_plain result
 
   formed_global : {line : ℕ} {is_static : Bool} {base : RawType} {ts rest : Tokens} {x : RawItem} → IsGlobal line is_static base ts x rest → ItemFormed x
   formed_global {line} {is_static} (IsGlobal.plain {v} h listed) = λ scope. declaration_formed raw line scope (InFile is_static) v init.None

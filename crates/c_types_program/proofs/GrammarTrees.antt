@@ -1,5 +1,7 @@
 -- The statements that the tokens of a text make have their trees where their phrases keep their rules.
 use Rattle.std.proofs.Common.{◌≡◌, ℕ, Bool, true, false, List, [], ◌∷◌, ◌++◌, map, Option, Some, None, sym, ap, subst, ◌∙◌}
+use Rattle.c_tree.specs.declared.raw.program.RawHead.{RawHead}
+use Rattle.c_language.specs.ItemGrammar.{IsResult, IsHead}
 use Rattle.c_arith.specs.declared.int_type.IntType.{IntType}
 use Rattle.c_arith.specs.declared.operators.BinaryOp.{BinaryOp}
 use Rattle.c_tree.specs.declared.statement.Statement.{Statement}
@@ -34,7 +36,7 @@ use Rattle.c_language.proofs.ScopedForms.{scoped-Declare, scoped-Assign, scoped-
 use Rattle.c_language.proofs.TreedForms.{treed-Declare, treed-Assign, treed-Bump, treed-Call, treed-Heap, treed-If, treed-While, treed-Do, treed-Switch, treed-Block, treed-Return}
 use Rattle.c_language.proofs.UseLemmas.{lengths-PointerTo}
 use Rattle.c_types_trees.proofs.ScopeLemmas.{AreComplete}
-use Rattle.c_types_trees.specs.KeptPhrases.{HasNoLength, IsPlainName, IsPlainSize, IsPlainAmount}
+use Rattle.c_types_trees.specs.KeptPhrases.{HasNoLength, IsPlainName, IsPlainSize, IsPlainAmount, HasNoLengthIf}
 use Rattle.c_types_trees.specs.FitPhrases.{IsAllocation}
 use Rattle.c_types_program.proofs.StatementForms.{treed_part, scoped_part, treed-For, treed-arm, scoped-For, scoped-arm}
 use Rattle.c_types_program.proofs.TreedStatements.{IsTreed, AreTreed, IsTreedIf, IsTreedArm, AreTreedArms, is_treed-Declare, is_treed-Assign, is_treed-Bump, is_treed-Call, is_treed-Heap, is_treed-Return, is_treed-If, is_treed-While, is_treed-Do, is_treed-Block, is_treed-For, is_treed-arm, is_treed-Switch}
@@ -57,6 +59,13 @@ stars_plain (IsStars.star {a} h) plain = stars_plain h (lengths-PointerTo a ∙ 
 
 pub name_plain : {ts rest : Tokens} {t : RawType} → IsTypeName ts t rest → HasNoLength t
 name_plain (IsTypeName.pointed base stars) = stars_plain stars (base_plain base)
+
+result_plain : {ts rest : Tokens} {t : Option RawType} → IsResult ts t rest → HasNoLengthIf t
+result_plain IsResult.nothing = tt
+result_plain (IsResult.some h) = name_plain h
+
+pub head_plain : {ts rest : Tokens} {head : RawHead} → IsHead ts head rest → HasNoLengthIf head.result
+head_plain (IsHead.head is_static result keyword params) = result_plain result
 
 named_plain : {ts rest : Tokens} {t : RawTypeName} → NamesType ts t rest → HasNoLength t.base
 named_plain (NamesType.starred base stars) = base_plain base

@@ -16,7 +16,7 @@ use Rattle.c_language.specs.Words.{Bytes}
 use Rattle.c_language.specs.TokenForms.{Tokens}
 use Rattle.c_language.specs.DeclaredTypes.{StructText, defined_structs, defined_functions, definition_of, struct_id, function_id, item_count}
 use Rattle.c_language.specs.DeclaredTypes as declared
-use Rattle.c_language.specs.ItemGrammar.{IsGlobal, AreGlobals, IsResult, IsHead, IsItem, AreItems, IsProgram}
+use Rattle.c_language.specs.ItemGrammar.{IsGlobal, AreGlobals, IsItem, AreItems, IsProgram}
 use Rattle.c_language.specs.StatementGrammar.{IsSeparated}
 use Rattle.c_language.specs.Scopes.{Scope, outset, with_variable, with_named, with_parameters, scope_of_parameters, entered, parameter_of, in_order}
 use Rattle.c_language.specs.Phrases.{InFile, InHead, InBlock, Part, NamesStruct, DefinesStruct, HasMember, DeclaresFunction, Takes, EndsFunction, Declares, Begins, Assigns, Bumps, Calls, Allocates, Tests, Switches, Returns, Phrases, phrase, joined_at, scoped, body_phrases, member_phrases, parameter_phrases, head_phrases, item_phrases, items_phrases, after_item, phrases, scope_at_end}
@@ -32,7 +32,7 @@ use Rattle.c_types_trees.specs.KeptPhrases.{HasNoLengthIf, IsKept}
 use Rattle.c_types_trees.proofs.PhraseTrees.{kept_both, tag_defined, result_made, variable_made, member_made}
 use Rattle.c_types_program.proofs.TreedStatements.{init_there, list_there}
 use Rattle.c_types_program.proofs.RuleLaws.{phrases_kept}
-use Rattle.c_types_program.proofs.GrammarTrees.{HaveTrees, name_plain, statements_trees}
+use Rattle.c_types_program.proofs.GrammarTrees.{HaveTrees, statements_trees, head_plain}
 use Rattle.c_language.specs.Options.{IsThere}
 
 -- ---- struct types
@@ -131,13 +131,6 @@ module _ (raw : RawProgram) (complete : AreComplete raw (defined_structs raw)) w
   formed_both : (xs ys : List RawItem) → AreFormed xs → AreFormed ys → AreFormed (xs ++ ys)
   formed_both [] ys h k = k
   formed_both (x ∷ xs) ys h k = (h.0, formed_both xs ys h.1 k)
-
-  result_plain : {ts rest : Tokens} {t : Option RawType} → IsResult ts t rest → HasNoLengthIf t
-  result_plain IsResult.nothing = tt
-  result_plain (IsResult.some h) = name_plain h
-
-  head_plain : {ts rest : Tokens} {head : RawHead} → IsHead ts head rest → HasNoLengthIf head.result
-  head_plain (IsHead.head is_static result keyword params) = result_plain result
 
   global_formed : {line : ℕ} {is_static : Bool} {base : RawType} {ts rest : Tokens} {x : RawItem} → IsGlobal line is_static base ts x rest → IsFormed x
   global_formed (IsGlobal.plain h listed) = tt

@@ -1,6 +1,7 @@
 -- A text whose phrases are walked keeps all rules, or a rule that is told is broken.
-use Rattle.std.proofs.Common.{◌≡◌, ℕ, List, [], ◌∷◌, true, false, Option, Some, None, is_some, Ok, Err, refl, sym, ap, subst, ◌∙◌, inl, inr, true≢false}
+use Rattle.std.proofs.Common.{◌≡◌, ℕ, List, [], ◌∷◌, true, false, is_some, Ok, Err, refl, sym, ap, subst, ◌∙◌, inl, inr, true≢false}
 use Rattle.std.specs.Prelude.{Contains}
+use Rattle.c_types_base.proofs.ListingLaws.{gone}
 use Rattle.c_tree.specs.declared.raw.program.RawItem.{RawItem}
 use Rattle.c_tree.specs.declared.raw.program.RawProgram.{RawProgram}
 use Rattle.c_language.specs.DeclaredTypes.{definition_of}
@@ -74,7 +75,3 @@ module _ (raw : RawProgram) (t : Tables) (same : t.raw.now ≡ raw) (at : scope_
   pub text_lacks_main : (new : Tables) → Walks (of_items xs) t new (Ok tt) → is_some (definition_of new.raw.now main_name) ≡ false → IsBroken 5 1 raw
   text_lacks_main new (kept, is) main =
       IsBroken.no_main (gone (definition_of raw main_name) (subst (λ r. is_some (definition_of r main_name) ≡ false) (is.text ∙ same) main))
-    where
-      gone : {A : Type 0} (o : Option A) → is_some o ≡ false → o ≡ None
-      gone None h = refl
-      gone (Some x) h = absurd (true≢false h)

@@ -1,16 +1,14 @@
 -- The walk along stretches, one after another.
-use Rattle.std.proofs.Common.{◌≡◌, ℕ, ◌+◌, ◌<◌, List, [], ◌∷◌, ◌++◌, length, take, drop, get_or, Option, Result, Ok, Err, refl, sym, ap, subst, ◌∙◌, inl, inr}
+use Rattle.std.proofs.Common.{◌≡◌, ℕ, [], ◌∷◌, ◌++◌, length, take, Option, Result, Ok, Err, refl, sym, ap, subst, ◌∙◌, inl, inr}
 use Rattle.std.specs.Result.{IsErrAnd}
 use Rattle.c_tree.specs.declared.raw.program.RawProgram.{RawProgram}
-use Rattle.c_tree.specs.declared.raw.statement.RawStatement.{RawStatement}
 use Rattle.c_language.specs.Scopes.{Scope, Scoped, opened, closed}
-use Rattle.c_language.specs.Phrases.{Stand, Phrases}
-use Rattle.c_language.proofs.Turns.{drop_turn}
+use Rattle.c_language.specs.Phrases.{Phrases}
 use Rattle.c_types_base.specs.Tables.{scope_of, AreRight, IsAt}
 use Rattle.c_types_base.specs.declared.tables.Tables.{Tables}
 use Rattle.c_types_base.specs.declared.tables.Before.{Before}
 use Rattle.c_types_base.proofs.ScopeLaws.{Extends, front}
-use Rattle.c_types_base.specs.Stretches.{Stretch, then_comes, enclosed, of_statement, of_statements}
+use Rattle.c_types_base.specs.Stretches.{Stretch, then_comes, enclosed}
 use Rattle.c_types_rules.specs.Walks.{BreaksFirst, Tells, Walks}
 use Rattle.c_types_rules.specs.declared.check_fault.CheckFault.{CheckFault}
 use Rattle.c_types_rules.specs.declared.check_fault.CheckFault.TheVariants.{Rule, NoMemory}
@@ -23,11 +21,6 @@ Outcome = Result (Unit {0}) CheckFault
 pub passes_on : (P : Outcome → Type 0) (e : CheckFault) (r : Outcome) → IsErrAnd r (λ y. y ≡ e) → P (Err e) → P r
 passes_on P e (Ok x) h k = absurd h
 passes_on P e (Err y) h k = subst (λ (f : CheckFault). P (Err f)) (sym h) k
-
--- a list of statements from an element on
-pub statements_here : (stand : Stand) (ss : List RawStatement) (i : ℕ) (one : RawStatement) (raw : RawProgram) → i < length ss → one ≡ get_or ss i one
-    → of_statements stand (drop i ss) raw ≡ then_comes (of_statement stand one) (of_statements stand (drop (i + 1) ss)) raw
-statements_here stand ss i one raw within is = ap (λ xs. of_statements stand xs raw) (drop_turn ss i one within is)
 
 module _ (raw : RawProgram) where
   pub kept_both : (ps qs : Phrases) → AreKept raw ps → AreKept raw qs → AreKept raw (ps ++ qs)

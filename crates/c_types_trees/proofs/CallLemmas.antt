@@ -1,8 +1,9 @@
 -- What is known of the arguments of a call that breaks no rule.
-use Rattle.std.proofs.Common.{◌≡◌, ◌≢◌, ℕ, List, [], ◌∷◌, Bool, true, false, Some, None, option_map, option_and_then, refl, ap, subst, ◌∙◌, inl, inr}
+use Rattle.std.proofs.Common.{◌≡◌, ◌≢◌, ℕ, List, [], ◌∷◌, true, false, Some, None, option_map, option_and_then, ap, subst, ◌∙◌, inl, inr}
 use Rattle.std.proofs.lemmas.Slice.Eq.{bytes_eq-Decides}
-use Rattle.std.specs.Prelude.{◌||◌, bytes_eq, codes}
+use Rattle.std.specs.Prelude.{bytes_eq, codes}
 use Rattle.std.proofs.lemmas.List.Elements.{Contains-append_right}
+use Rattle.c_language.proofs.Tests.{none_of}
 use Rattle.c_tree.specs.declared.expr.Expr.{Expr}
 use Rattle.c_tree.specs.declared.statement.Statement.TheVariants as s
 use Rattle.c_tree.specs.declared.raw.expr.RawExpr.{RawExpr}
@@ -89,9 +90,6 @@ module _ (raw : RawProgram) (scope : Scope) where
         types_are raw scope found.0.params args
         (λ e. call.kept 16 (arguments (MisusesArguments.count other found.1 e))) (λ u. call.kept 16 (arguments (MisusesArguments.unfit other found.1 u)))
 
-    none_of : (a b c d : Bool) → a ≡ false → b ≡ false → c ≡ false → d ≡ false → (a || (b || (c || (d || false)))) ≡ false
-    none_of a b c d first second third fourth = rw (first, second, third, fourth) refl
-
     -- what is none of the functions of the library is one of the program
     pub function_defined : bytes_eq f (codes "getchar") ≡ false → bytes_eq f (codes "putchar") ≡ false → bytes_eq f (codes "printf") ≡ false
         → bytes_eq f (codes "free") ≡ false → IsThere (function_id raw f)
@@ -111,4 +109,4 @@ module _ (t : Tables) (right : AreRight t) (f : Bytes) (args : List RawArg) (cal
       → bytes_eq f (codes "free") ≡ false → AreValues t.raw.now (scope_of t) args
   function_values first second third fourth =
       values_from t.raw.now (scope_of t) args
-      (invoked_expressions t.raw.now (scope_of t) f args call (none_of t.raw.now (scope_of t) f args call _ _ _ _ first second third fourth)) call_operands
+      (invoked_expressions t.raw.now (scope_of t) f args call (none_of _ _ _ _ first second third fourth)) call_operands

@@ -1,8 +1,9 @@
 -- A call that keeps its rules has its tree.
 use Rattle.std.proofs.Common.{◌≡◌, ◌≢◌, ℕ, suc, List, [], ◌∷◌, length, map, Bool, true, false, Option, None, refl, subst, arith}
 use Rattle.std.proofs.lemmas.Slice.Eq.{bytes_eq-Decides}
-use Rattle.std.specs.Prelude.{Contains, ◌||◌, if◌then◌else◌, bytes_eq, codes}
+use Rattle.std.specs.Prelude.{Contains, if◌then◌else◌, bytes_eq, codes}
 use Rattle.std.proofs.lemmas.List.Elements.{Contains-append_right}
+use Rattle.c_language.proofs.Tests.{none_of}
 use Rattle.c_tree.specs.declared.statement.Target.{Target}
 use Rattle.c_tree.specs.declared.statement.Statement.TheVariants as s
 use Rattle.c_tree.specs.declared.raw.expr.RawExpr.{RawExpr}
@@ -129,9 +130,6 @@ module _ (raw : RawProgram) (complete : AreComplete raw (defined_structs raw)) (
         there_then _ t there (λ x is. there_both (s.Invoke id line x) (function_id raw f) (args_tree raw scope args)
         (there_position (λ (g : RawHead). bytes_eq g.name f) (defined_functions raw) (function_defined other))
         (args_there raw scope args (function_values other) arg_trees))
-
-    none_of : (a b c d : Bool) → a ≡ false → b ≡ false → c ≡ false → d ≡ false → (a || (b || (c || (d || false)))) ≡ false
-    none_of a b c d first second third fourth = rw (first, second, third, fourth) refl
 
     pub call_there : (id line : ℕ) (t : Option Target) → IsThere t → IsThere (call_tree raw scope id line t f args)
     call_there id line t there =

@@ -3,7 +3,7 @@ use Rattle.std.proofs.Common.{◌≡◌, ℕ, [], ◌∷◌, Bool, true, false, 
 use Rattle.std.specs.Prelude.{Contains, not, nat_lt, is_none, option_and_then, slice_get, if◌then◌else◌, bytes_eq}
 use Rattle.std.specs.List.{position}
 use Rattle.c_tree.specs.declared.expr.Expr.TheVariants as e
-use Rattle.c_tree.specs.declared.raw.expr.RawExpr.{RawExpr, map-RawExpr, ind-RawExpr, roll-RawExpr, fold-RawExpr, fold-roll-RawExpr}
+use Rattle.c_tree.specs.declared.raw.expr.RawExpr.{RawExpr, map-RawExpr, ind-RawExpr, roll-RawExpr, fold-roll-RawExpr}
 use Rattle.c_tree.specs.declared.raw.expr.RawExpr.TheOpen.{RawExpr-F}
 use Rattle.c_tree.specs.declared.raw.expr.RawExpr.TheViews.{out-roll-RawExpr}
 use Rattle.c_tree.specs.declared.raw.program.RawMember.{RawMember}
@@ -14,22 +14,17 @@ use Rattle.c_language.specs.DeclaredTypes.{StructText, defined_structs, written_
 use Rattle.c_language.specs.Scopes.{Scope, Meaning, meaning_in}
 use Rattle.c_language.specs.ExprTypes.{operand, operand_step, a_place, variable_in, pointed, struct_of, selected, member_named, member_of, member_type}
 use Rattle.c_language.specs.ExprRules.{Seen, seen, holds_of, is_function, is_incomplete_struct, lacks_member}
-use Rattle.c_language.specs.ProgramOf.{Told, told_step, variable_number, index_of_member, member_id, of_operand, of_pointed, expr_of}
-use Rattle.c_language.specs.Uses.{operands_of, IsWithin, whole, deeper}
+use Rattle.c_language.specs.ProgramOf.{Told, told_step, told_of, variable_number, index_of_member, member_id, of_operand, of_pointed, expr_of}
+use Rattle.c_language.specs.Uses.{operands_of, whole, deeper}
 use Rattle.c_language.specs.declared.expr_type.ExprType.{ExprType}
 use Rattle.c_language.specs.declared.expr_type.Operand.{Operand}
 use Rattle.c_language.proofs.Options.{there_map}
 use Rattle.c_language.proofs.Lists.{contains_first, contains_later}
 use Rattle.c_language.proofs.UseLemmas.{OfParts}
-use Rattle.c_types_base.proofs.PhraseLemmas.{IsClean}
 use Rattle.c_types_base.proofs.OptionLemmas.{there_none, there_then, there_both, there_position}
 use Rattle.c_types_trees.proofs.ScopeLemmas.{IsTyped, typed_meaning, IsMadeIf, AreComplete, made_member}
-use Rattle.c_language.proofs.Operands.{not_fails, form_there, HasTypeIf}
+use Rattle.c_language.proofs.Operands.{not_fails, form_there, HasTypeIf, IsClean, AreClean}
 use Rattle.c_language.specs.Options.{IsThere}
-
--- no part of an expression breaks a rule
-abbrev pub KeepsAll : RawProgram → Scope → RawExpr → Type 0
-KeepsAll raw scope a = (inner : RawExpr) → IsWithin inner a → IsClean raw scope (seen raw scope inner)
 
 -- a variable that is in scope has a type and a number
 variable_there : (m : Option Meaning) → HasTypeIf m → is_none m ≡ false → is_function m ≡ false → IsThere (variable_in m) × IsThere (variable_number m)
@@ -72,8 +67,7 @@ module _ (raw : RawProgram) (scope : Scope) (complete : AreComplete raw (defined
   operand_of_form : (s : Seen) → OfParts IsThere s → IsClean raw scope s → IsThere (operand_step raw scope s)
   operand_of_form s parts clean =
       form_there raw scope (λ name none other. (variable_there (meaning_in scope name) (typed_meaning scope name typed) none other).0)
-      (λ name k there before has. (in_struct name k there before has).0) s parts
-      (record { declared = clean.declared; operands = clean.operands; address = clean.address; complete = clean.complete; member = clean.member })
+      (λ name k there before has. (in_struct name k there before has).0) s parts clean
 
   -- the member that is selected has a number
   of_operand_there : (m : Bytes) (x : Option Operand) → IsThere x → IsClean raw scope (RawExpr-F.Member x m) → IsThere (of_operand raw m x)
@@ -151,11 +145,8 @@ module _ (raw : RawProgram) (scope : Scope) (complete : AreComplete raw (defined
 
   -- ---- all of an expression
 
-  abbrev told_of : RawExpr → Told
-  told_of = fold-RawExpr Told (told_step raw scope)
-
   abbrev IsSound : RawExpr → Type 0
-  IsSound a = ((told_of a).operand ≡ operand raw scope a) × (KeepsAll raw scope a → IsWhole (told_of a))
+  IsSound a = ((told_of raw scope a).operand ≡ operand raw scope a) × (AreClean raw scope a → IsWhole (told_of raw scope a))
 
   abbrev Layer : Type 0
   Layer = ExprParts IsSound
@@ -164,7 +155,7 @@ module _ (raw : RawProgram) (scope : Scope) (complete : AreComplete raw (defined
   layer_of = expr_layer IsSound
 
   abbrev told_layer : RawExpr-F RawExpr → RawExpr-F Told
-  told_layer = map-RawExpr RawExpr Told told_of
+  told_layer = map-RawExpr RawExpr Told (told_of raw scope)
 
   abbrev seen_layer : RawExpr-F RawExpr → Seen
   seen_layer = map-RawExpr RawExpr (Option Operand) (operand raw scope)
@@ -187,7 +178,7 @@ module _ (raw : RawProgram) (scope : Scope) (complete : AreComplete raw (defined
   same_seen (RawExpr-F.Arrow a m) = λ i. RawExpr-F.Arrow (a.1.0 i) m
   same_seen (RawExpr-F.Paren a) = ap RawExpr-F.Paren a.1.0
 
-  parts_whole : (y : Layer) → ((m : RawExpr) → Contains (operands_of (layer_of y)) m → KeepsAll raw scope m) → OfParts IsWhole (told_layer (layer_of y))
+  parts_whole : (y : Layer) → ((m : RawExpr) → Contains (operands_of (layer_of y)) m → AreClean raw scope m) → OfParts IsWhole (told_layer (layer_of y))
   parts_whole (RawExpr-F.Constant text) keeps = tt
   parts_whole RawExpr-F.Null keeps = tt
   parts_whole RawExpr-F.Eof keeps = tt
@@ -213,7 +204,7 @@ module _ (raw : RawProgram) (scope : Scope) (complete : AreComplete raw (defined
   parts_whole (RawExpr-F.Arrow a m) keeps = a.1.1 (keeps a.0 (contains_first a.0 []))
   parts_whole (RawExpr-F.Paren a) keeps = a.1.1 (keeps a.0 (contains_first a.0 []))
 
-  told-roll : (layer : RawExpr-F RawExpr) → told_of (roll-RawExpr layer) ≡ told_step raw scope (told_layer layer)
+  told-roll : (layer : RawExpr-F RawExpr) → (told_of raw scope) (roll-RawExpr layer) ≡ told_step raw scope (told_layer layer)
   told-roll layer = fold-roll-RawExpr Told (told_step raw scope) layer
 
   operand-roll : (layer : RawExpr-F RawExpr) → operand raw scope (roll-RawExpr layer) ≡ operand_step raw scope (seen_layer layer)
@@ -222,7 +213,7 @@ module _ (raw : RawProgram) (scope : Scope) (complete : AreComplete raw (defined
   seen-roll : (layer : RawExpr-F RawExpr) → seen raw scope (roll-RawExpr layer) ≡ seen_layer layer
   seen-roll layer = ap seen_layer (out-roll-RawExpr layer)
 
-  same_operand : (y : Layer) → (told_of (roll-RawExpr (layer_of y))).operand ≡ operand raw scope (roll-RawExpr (layer_of y))
+  same_operand : (y : Layer) → ((told_of raw scope) (roll-RawExpr (layer_of y))).operand ≡ operand raw scope (roll-RawExpr (layer_of y))
   same_operand y =
       ap (λ (t : Told). t.operand) (told-roll (layer_of y))
       ∙ (told_form (told_layer (layer_of y)) ∙ (ap (operand_step raw scope) (same_seen y) ∙ sym (operand-roll (layer_of y))))
@@ -230,7 +221,7 @@ module _ (raw : RawProgram) (scope : Scope) (complete : AreComplete raw (defined
   whole_step : (s : RawExpr-F Told) → OfParts IsWhole s → IsClean raw scope (as_seen s) → IsWhole (told_step raw scope s)
   whole_step s parts clean = (subst IsThere (sym (told_form s)) (operand_of_form (as_seen s) (parts_seen s parts) clean), tree_there s parts clean)
 
-  whole_layer : (y : Layer) → KeepsAll raw scope (roll-RawExpr (layer_of y)) → IsWhole (told_of (roll-RawExpr (layer_of y)))
+  whole_layer : (y : Layer) → AreClean raw scope (roll-RawExpr (layer_of y)) → IsWhole ((told_of raw scope) (roll-RawExpr (layer_of y)))
   whole_layer y keeps =
       subst IsWhole (sym (told-roll (layer_of y)))
       (whole_step (told_layer (layer_of y))
@@ -240,8 +231,8 @@ module _ (raw : RawProgram) (scope : Scope) (complete : AreComplete raw (defined
   sound : (a : RawExpr) → IsSound a
   sound = ind-RawExpr IsSound (λ x y is. subst (λ z. IsSound (roll-RawExpr z)) is (same_operand y, whole_layer y))
 
-  pub operand_there : (a : RawExpr) → KeepsAll raw scope a → IsThere (operand raw scope a)
+  pub operand_there : (a : RawExpr) → AreClean raw scope a → IsThere (operand raw scope a)
   operand_there a keeps = subst IsThere (sound a).0 ((sound a).1 keeps).0
 
-  pub expr_there : (a : RawExpr) → KeepsAll raw scope a → IsThere (expr_of raw scope a)
+  pub expr_there : (a : RawExpr) → AreClean raw scope a → IsThere (expr_of raw scope a)
   expr_there a keeps = ((sound a).1 keeps).1

@@ -12,4 +12,3 @@ pub mod PhraseTrees
 pub mod Rulesets
 pub mod ScopeLemmas
 pub mod ShapeLemmas
-pub mod TypeTrees

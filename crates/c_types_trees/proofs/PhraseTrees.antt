@@ -21,21 +21,21 @@ use Rattle.c_language.specs.ExprTypes.{operand}
 use Rattle.c_language.specs.ExprRules.{seen}
 use Rattle.c_language.specs.Phrases.{Stand, Part, Phrases, HasMember, Declares, target_phrases}
 use Rattle.c_language.specs.Uses.{expressions, lengths, lengths_in, tags, tags_in, tags_if, Holds, holds}
-use Rattle.c_language.specs.Rules.{undeclared, tag, member, no_element, no_constant, operator, address, no_header, AreKept}
-use Rattle.c_language.specs.NameRules.{UsesUndeclared, LacksHeader}
+use Rattle.c_language.specs.Rules.{undeclared, tag, member, no_element, no_constant, operator, address, AreKept}
+use Rattle.c_language.specs.NameRules.{UsesUndeclared}
 use Rattle.c_language.specs.StructRules.{MisusesTag, MisnamesMember}
 use Rattle.c_language.specs.ArrayRules.{HasNoElement, LacksConstant}
 use Rattle.c_language.specs.TypeRules.{MisusesOperator, MisusesAddress}
 use Rattle.c_language.specs.TypeGrammar.{pointed_n, named_type}
 use Rattle.c_language.specs.ProgramOf.{ctype, ctype_if, expr_of, exprs_of}
 use Rattle.c_language.proofs.Lists.{contains_nil, contains_first, contains_later}
+use Rattle.c_language.proofs.Operands.{IsClean, AreClean}
 use Rattle.c_language.proofs.UseLemmas.{tags-PointerTo, lengths-PointerTo}
-use Rattle.c_types_base.proofs.PhraseLemmas.{IsClean}
 use Rattle.c_types_trees.specs.KeptPhrases.{HasNoLength, HasNoLengthIf, IsKept}
 use Rattle.c_types_base.proofs.OptionLemmas.{not_none, there_then, there_optional, AreThere, there_collected}
-use Rattle.c_types_trees.proofs.ScopeLemmas.{IsTyped, typed_variable, IsMade, AreComplete}
-use Rattle.c_types_trees.proofs.TypeTrees.{type_made}
-use Rattle.c_types_trees.proofs.ExprTrees.{KeepsAll, operand_there, expr_there}
+use Rattle.c_types_trees.proofs.ScopeLemmas.{IsTyped, typed_variable, AreComplete}
+use Rattle.c_types_base.proofs.TypeTrees.{type_made, IsMade}
+use Rattle.c_types_trees.proofs.ExprTrees.{operand_there, expr_there}
 use Rattle.c_language.specs.Options.{IsThere}
 
 -- ---- phrases that keep all rules
@@ -48,7 +48,6 @@ module _ (raw : RawProgram) (scope : Scope) (part : Part) (keeps : IsKept raw sc
   clean_at : (inner : RawExpr) → Holds part inner → IsClean raw scope (seen raw scope inner)
   clean_at inner h = record {
     declared = false_from_ne_true _ (λ is. keeps 1 (undeclared (UsesUndeclared.in_expression h is)));
-    header = false_from_ne_true _ (λ is. keeps 24 (no_header (LacksHeader.in_expression h is)));
     operands = false_from_ne_true _ (λ is. keeps 12 (operator (MisusesOperator.in_expression h is)));
     address = false_from_ne_true _ (λ is. keeps 15 (address (MisusesAddress.in_expression h is)));
     complete = false_from_ne_true _ (λ is. keeps 7 (tag (MisusesTag.in_expression h is)));
@@ -56,7 +55,7 @@ module _ (raw : RawProgram) (scope : Scope) (part : Part) (keeps : IsKept raw sc
   }
 
   -- no part of its expressions breaks a rule
-  pub expression_keeps : (a : RawExpr) → Contains (expressions part) a → KeepsAll raw scope a
+  pub expression_keeps : (a : RawExpr) → Contains (expressions part) a → AreClean raw scope a
   expression_keeps a c inner w = clean_at inner (holds c w)
 
   -- its tags are defined

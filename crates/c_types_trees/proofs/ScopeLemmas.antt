@@ -2,15 +2,14 @@
 use Rattle.std.proofs.Common.{ℕ, zero, suc, List, [], ◌∷◌, ◌++◌, Bool, true, false, Option, Some, None}
 use Rattle.std.specs.Prelude.{option_map, option_and_then, bytes_eq, slice_get, cond}
 use Rattle.std.specs.List.{find}
-use Rattle.c_tree.specs.declared.raw.expr.RawType.{RawType}
+use Rattle.c_types_base.proofs.TypeTrees.{IsMade}
 use Rattle.c_tree.specs.declared.raw.expr.RawVar.{RawVar}
 use Rattle.c_tree.specs.declared.raw.program.RawInit.{RawInit}
 use Rattle.c_tree.specs.declared.raw.program.RawMember.{RawMember}
 use Rattle.c_tree.specs.declared.raw.program.RawProgram.{RawProgram}
 use Rattle.c_language.specs.Words.{Bytes}
-use Rattle.c_language.specs.DeclaredTypes.{StructText, defined_structs, type_with, variable_type}
+use Rattle.c_language.specs.DeclaredTypes.{StructText, defined_structs, variable_type}
 use Rattle.c_language.specs.ExprTypes.{member_named, member_of}
-use Rattle.c_language.specs.ProgramOf.{ctype_with}
 use Rattle.c_language.specs.Scopes.{Scope, Entry, Meaning, found_in, meaning_in, with_variable, with_function}
 use Rattle.c_language.proofs.ScopeNumbers.{function_declared}
 use Rattle.c_language.proofs.Operands.{HasTypeIf, HasType}
@@ -53,11 +52,6 @@ typed_function name scope h =
     function_declared IsTyped name scope h (typed_more scope.names (record { name = name; meaning = Meaning.Function }) h tt)
 
 -- ---- members
-
--- a written type is one of the language, and has its tree
-pub record IsMade (raw : RawProgram) (items : ℕ) (t : RawType) : Type 0 where
-  pub typed : IsThere (type_with raw items t)
-  pub tree : IsThere (ctype_with raw items t)
 
 abbrev pub AreMade : RawProgram → List RawMember → Type 0
 AreMade raw [] = Unit {0}

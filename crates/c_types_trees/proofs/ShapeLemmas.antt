@@ -18,7 +18,7 @@ use Rattle.c_language.specs.Limits.{length_step, longest}
 use Rattle.c_language.specs.ProgramOf.{ctype_step, ctype_with, ctype, length_words}
 use Rattle.c_language.specs.TypeGrammar.{pointed_n}
 use Rattle.c_language.specs.Uses.{lengths_in, lengths_step, written_lengths}
-use Rattle.c_language.proofs.Options.{some_same, none_there}
+use Rattle.c_language.proofs.Options.{some_same, none_there, there_of_map}
 use Rattle.c_types_trees.specs.KeptPhrases.{HasNoLength}
 use Rattle.c_types_trees.specs.Shapes.{IsLong}
 use Rattle.c_language.specs.Options.{IsThere}
@@ -113,14 +113,10 @@ module _ (raw : RawProgram) where
   pointed-last zero a = refl
   pointed-last (suc n) a = pointed-last n (type.PointerTo a)
 
-  map_given : {A B : Type 0} (f : A → B) (o : Option A) → IsThere (option_map f o) → IsThere o
-  map_given f None h = h
-  map_given f (Some x) h = tt
-
   -- what stars stand upon is a type
   pub base_given : (n : ℕ) (a : RawType) → IsThere (ctype raw (pointed_n n a)) → IsThere (ctype raw a)
   base_given zero a h = h
-  base_given (suc n) a h = map_given tree.PointerTo (ctype raw a) (subst IsThere (ctype-PointerTo raw 0 a) (base_given n (type.PointerTo a) h))
+  base_given (suc n) a h = there_of_map tree.PointerTo (ctype raw a) (subst IsThere (ctype-PointerTo raw 0 a) (base_given n (type.PointerTo a) h))
 
   -- one star more
   pub star_more : (n : ℕ) (a : RawType) (t : CType) → ctype raw (pointed_n n a) ≡ Some t → ctype raw (pointed_n (n + 1) a) ≡ Some (tree.PointerTo t)

@@ -7,7 +7,7 @@ use Rattle.dep_model.specs.declared.vertex.VertexKind.{VertexKind}
 use Rattle.dep_model.specs.declared.vertex.VertexKind.TheVariants.{Entry, FormalIn, FormalOut, Statement, Call, ActualIn, ActualOut}
 use Rattle.dep_model.specs.FunctionVertices.{is_actual, is_formal_in, is_formal_out, passes, numbers_from}
 use Rattle.std.proofs.lemmas.Bool.Decides.{nat_tests}
-use Rattle.std.proofs.lemmas.Bool.{and_parts, and_from}
+use Rattle.std.proofs.lemmas.Bool.{and_parts, and_from, eq-eqb}
 use Rattle.control_deps.specs.Walk.{from_all}
 use Rattle.control_deps.specs.Attached.{controllers_of, controllers, attached_from}
 use Rattle.dep_model.proofs.Membership.{IsIn, in_first, in_second, in_either, if_in, in_if}
@@ -34,9 +34,6 @@ later_at n m rest false h = h
 number_later : (test : Vertex → Bool) (n m : ℕ) (v : Vertex) (vs : List Vertex) → IsIn (numbers_from test (suc n) vs) m → IsIn (numbers_from test n (v ∷ vs)) m
 number_later test n m v vs h = later_at n m (numbers_from test (suc n) vs) (test v) h
 
-itself : (i : ℕ) → (i == i) ≡ true
-itself i = grind (arith, nat_tests)
-
 same : (i j : ℕ) → (i == j) ≡ true → i ≡ j
 same i j h = grind (arith, nat_tests)
 
@@ -47,8 +44,8 @@ module _ (entry : List ℕ) (own : ℕ → List ℕ) where
   controller_cases (FormalOut slot) k h = inl (refl, h)
   controller_cases (Statement i) k h = absurd h
   controller_cases (Call i) k h = absurd h
-  controller_cases (ActualIn i slot) k h = inr (i, itself i, h)
-  controller_cases (ActualOut i slot) k h = inr (i, itself i, h)
+  controller_cases (ActualIn i slot) k h = inr (i, eq-eqb i i refl, h)
+  controller_cases (ActualOut i slot) k h = inr (i, eq-eqb i i refl, h)
 
   formal_controller : (kind : VertexKind) (k : ℕ) → is_formal kind ≡ true → IsIn entry k → IsIn (controllers_of entry own kind) k
   formal_controller Entry k e h = let f : false ≡ true = e in absurd cc

@@ -1,6 +1,5 @@
 pub mod WalkLemmas
 pub mod Rules
-pub mod AttachedLemmas
 pub mod CodeLaws
 pub mod StatementLaws
 pub mod AttachedLaws

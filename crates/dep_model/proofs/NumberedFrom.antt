@@ -1,7 +1,6 @@
 -- The numbers of vertices that pass a test, one vertex after another.
-use Rattle.std.proofs.Common.{◌≡◌, ℕ, suc, ◌+◌, ◌<◌, ◌≤◌, List, [], ◌∷◌, ◌++◌, length, drop, get_or, Bool, true, false, append_assoc, append-nil, add-one, drop-cons, refl, sym, ap, ◌∙◌}
+use Rattle.std.proofs.Common.{◌≡◌, ℕ, suc, ◌+◌, ◌<◌, List, [], ◌∷◌, ◌++◌, length, drop, get_or, Bool, true, false, append_assoc, add-one, drop-cons, refl, sym, ap, ◌∙◌}
 use Rattle.std.specs.Prelude.{if◌then◌else◌}
-use Rattle.std.proofs.lemmas.List.{drop_all}
 use Rattle.dep_model.specs.declared.vertex.Vertex.{Vertex}
 use Rattle.dep_model.specs.FunctionVertices.{numbers_from}
 
@@ -17,8 +16,3 @@ pub numbers_turn : (test : Vertex → Bool) (vs : List Vertex) (i : ℕ) (v : Ve
 numbers_turn test vs i v n found new whole lt is inv now =
     let next : numbers_from test (n + 1) (drop (i + 1) vs) ≡ numbers_from test (suc n) (drop (i + 1) vs) = ap (λ k. numbers_from test k (drop (i + 1) vs)) (add-one n) in
     ap (λ xs. xs ++ numbers_from test (n + 1) (drop (i + 1) vs)) now ∙ append_assoc found (if test v then n ∷ [] else []) (numbers_from test (n + 1) (drop (i + 1) vs)) ∙ ap (λ xs. found ++ ((if test v then n ∷ [] else []) ++ xs)) next ∙ ap (λ xs. found ++ xs) (sym (one_number test n v (drop (i + 1) vs) (test v) refl)) ∙ ap (λ xs. found ++ numbers_from test n xs) (sym (drop_item vs i v lt is)) ∙ inv
-
--- all vertices were looked at
-pub numbers_end : (test : Vertex → Bool) (vs : List Vertex) (i n : ℕ) (found whole : List ℕ) → length vs ≤ i → found ++ numbers_from test n (drop i vs) ≡ whole → found ≡ whole
-numbers_end test vs i n found whole le inv =
-    sym (append-nil found) ∙ ap (λ xs. found ++ numbers_from test n xs) (sym (drop_all i vs le)) ∙ inv

@@ -27,9 +27,9 @@ use Rattle.c_language.specs.DeclaredTypes.{function_id}
 use Rattle.c_language.specs.ProgramOf.{collected, optional, ctype_if, expr_of, init_of, declaration_id, target_tree, args_tree, only_tree, amount_tree, call_tree, label_tree, arm_tree, ArmTree, arm_tree_step, block_tree, at_type, switch_type, part_tree, for_tree, treed_step, treed, body_of}
 use Rattle.c_language.specs.Scopes.{Scope, Scoped, opened, numbered, with_variable, with_target, begun, in_order, after_all, after_block}
 use Rattle.c_language.specs.TypeGrammar.{named_type}
-use Rattle.c_language.proofs.Options.{none_there, some_same, map_some, then_some}
+use Rattle.c_language.proofs.Options.{none_there, some_same, map_some, then_some, both_some}
 use Rattle.c_language.proofs.ScopeNumbers.{target_statements, begun_statements}
-use Rattle.built_forms.proofs.Options.{both_some, Always, always_map, always_then, always_both, always_if, always_is, collected_some}
+use Rattle.built_forms.proofs.Options.{Always, always_map, always_then, always_both, always_if, always_is, collected_some}
 use Rattle.dep_model.specs.Doings.{Doing, Does, doings, body_doings}
 use Rattle.dep_model.specs.MainVertices.{from}
 use Rattle.dep_model.specs.NumberedMains.{doing_number}

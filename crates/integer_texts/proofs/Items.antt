@@ -21,13 +21,13 @@ use Rattle.c_language.specs.ProgramOf.{collected, ctype_if, treed, body_of, para
 use Rattle.c_language.specs.Rules.{main, AreKept}
 use Rattle.c_language.specs.Scopes.{Scope, Meaning, with_function, after_all, parameter_of, with_named, with_parameter, with_parameters, scope_of_parameters, entered}
 use Rattle.c_language.proofs.Lists.{all_append}
-use Rattle.c_language.proofs.Options.{some_same}
+use Rattle.c_language.proofs.Options.{some_same, both_some}
 use Rattle.c_language.proofs.TreeScopes.{list_after}
 use Rattle.c_language.proofs.PhraseLists.{body_after, kept_second}
 use Rattle.c_language.proofs.ScopeNumbers.{function_declared, through_function, function_variables, entered_statements}
 use Rattle.c_print_laws.proofs.Scoping.{declared_count, count_append}
 use Rattle.c_print_laws.proofs.Numbers.{item_variables}
-use Rattle.built_forms.proofs.Options.{both_some, collected_some}
+use Rattle.built_forms.proofs.Options.{collected_some}
 use Rattle.built_forms.proofs.Terms.{AreLow}
 use Rattle.built_forms.proofs.MainHeads.{int_result, int_tree}
 use Rattle.dep_model.specs.Doings.{Doing, body_doings}

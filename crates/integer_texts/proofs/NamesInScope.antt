@@ -35,9 +35,9 @@ use Rattle.c_language.specs.ProgramOf.{collected, optional, ctype_if, expr_of, e
 use Rattle.c_language.specs.Scopes.{Entry, Scope, Meaning, Scoped, opened, closed, numbered, with_variable, with_target, begun, in_order, after_all, after_block}
 use Rattle.c_language.specs.TypeGrammar.{named_type}
 use Rattle.c_language.proofs.Lists.{all_append}
-use Rattle.c_language.proofs.Options.{none_there, some_same, map_some, then_some}
+use Rattle.c_language.proofs.Options.{none_there, some_same, map_some, then_some, both_some}
 use Rattle.built_forms.specs.NamesBelow.{names_below}
-use Rattle.built_forms.proofs.Options.{both_some, Always, always_if, always_is, collected_some}
+use Rattle.built_forms.proofs.Options.{Always, always_if, always_is, collected_some}
 use Rattle.dep_model.specs.Doings.{Doing, Does, doings, body_doings}
 use Rattle.dep_model.specs.NumberedMains.{value_below, init_below, target_below, amount_below, doing_below}
 use Rattle.dep_model.proofs.DoingForms.{arms_doings, part_doings, doings-Declare, doings-Assign, doings-Bump, doings-Invoke, doings-Fetch, doings-Write, doings-Print, doings-Heap, doings-Release, doings-Return, doings-If, doings-While, doings-Do, doings-Switch, doings-Block, doings-For}

@@ -1,28 +1,22 @@
 -- The program of a text that is of main alone over integers is numbered in text order.
-use Rattle.std.proofs.Common.{◌≡◌, ◌+◌, List, [], ◌∷◌, map, length, append-nil, Bool, true, false, Some, None, option_and_then, find, bytes_eq, refl, sym, ap, ◌∙◌, arith}
+use Rattle.std.proofs.Common.{◌≡◌, ◌+◌, List, [], ◌∷◌, map, length, append-nil, Bool, true, false, Some, None, find, bytes_eq, refl, sym, ap, ◌∙◌, arith}
 use Rattle.std.specs.Prelude.{cond}
 use Rattle.std.specs.List.{list_all}
 use Rattle.std.proofs.lemmas.Slice.Eq.{bytes_eq-Decides}
+use Rattle.c_language.proofs.ProgramParts.{IsMadeOf, made_of}
 use Rattle.c_language.proofs.PhraseLists.{kept_from}
-use Rattle.c_tree.specs.declared.program.Function.{Function}
-use Rattle.c_tree.specs.declared.program.Item.{Item}
 use Rattle.c_tree.specs.declared.program.Program.{Program}
-use Rattle.c_tree.specs.declared.program.StructDef.{StructDef}
-use Rattle.c_tree.specs.declared.program.Var.{Var}
 use Rattle.c_tree.specs.declared.raw.program.RawHead.{RawHead}
 use Rattle.c_tree.specs.declared.raw.program.RawProgram.{RawProgram}
 use Rattle.c_language.specs.Words.{Bytes}
-use Rattle.c_language.specs.ConstantEvaluation.{both}
 use Rattle.c_language.specs.DeclaredTypes.{functions_of}
 use Rattle.c_language.specs.NameRules.{main_name}
-use Rattle.c_language.specs.Phrases.{phrases, after_items, items_phrases, scope_at_end}
-use Rattle.c_language.specs.ProgramOf as trees
-use Rattle.c_language.specs.ProgramOf.{items_of, variables_of, collected, functions_from, variables_in, program_with}
+use Rattle.c_language.specs.Phrases.{phrases, after_items, items_phrases}
+use Rattle.c_language.specs.ProgramOf.{collected, functions_from, variables_in}
 use Rattle.c_language.specs.Programs.{HasProgram}
 use Rattle.c_language.specs.Rules.{by_phrase, no_main, AreKept}
 use Rattle.c_language.specs.Scopes.{outset}
 use Rattle.built_forms.specs.IntegerForms.{IsIntegerMain}
-use Rattle.built_forms.proofs.Options.{both_some}
 use Rattle.built_forms.proofs.Programs.{found_length}
 use Rattle.dep_model.specs.Doings.{body_doings, doings_of}
 use Rattle.dep_model.specs.MainVertices.{from}
@@ -31,7 +25,6 @@ use Rattle.dep_model.proofs.NumberedMain.{main_doings}
 use Rattle.dep_model.proofs.TextNumbers.{Takes}
 use Rattle.integer_texts.specs.Laws.{IntegerTextsAreNumbered}
 use Rattle.integer_texts.proofs.Items.{all_doings, items_count, items_take, items_below, names_are, give_ints}
-use Rattle.c_language.proofs.Options.{then_some}
 
 head_is : {x y : Bytes} {xs ys : List Bytes} → x ∷ xs ≡ y ∷ ys → x ≡ y
 head_is e = cc
@@ -56,30 +49,17 @@ only_main n (h ∷ hs) e some = by_rest hs (tail_is e) some
         by_test false is = absurd (some (ap (λ b. cond b (Some h) None) is))
 
 module _ (raw : RawProgram) (p : Program) (has : HasProgram raw p) (h : IsIntegerMain p) where
-  abbrev items_made : (items : List Item) × (items_of raw ≡ Some items) × (option_and_then (λ (vars : List Var). both (program_with (scope_at_end raw).statements items vars) (trees.structs_of raw) (trees.functions_of raw)) (variables_of raw) ≡ Some p)
-  items_made =
-      then_some (λ (items : List Item). option_and_then (λ (vars : List Var). both (program_with (scope_at_end raw).statements items vars) (trees.structs_of raw) (trees.functions_of raw)) (variables_of raw)) (items_of raw) p has.program
-
-  abbrev vars_made : (vars : List Var) × (variables_of raw ≡ Some vars) × (both (program_with (scope_at_end raw).statements items_made.0 vars) (trees.structs_of raw) (trees.functions_of raw) ≡ Some p)
-  vars_made = then_some (λ (vars : List Var). both (program_with (scope_at_end raw).statements items_made.0 vars) (trees.structs_of raw) (trees.functions_of raw)) (variables_of raw) p items_made.2
-
-  abbrev rest_made : (structs : List StructDef) × (functions : List Function) × (trees.structs_of raw ≡ Some structs) × (trees.functions_of raw ≡ Some functions) × (p ≡ program_with (scope_at_end raw).statements items_made.0 vars_made.0 structs functions)
-  rest_made = both_some (program_with (scope_at_end raw).statements items_made.0 vars_made.0) (trees.structs_of raw) (trees.functions_of raw) p vars_made.2
+  abbrev parts : IsMadeOf raw p
+  parts = made_of raw p has.program
 
   functions_made : collected (functions_from raw raw.items outset) ≡ Some (h.main ∷ [])
-  functions_made = rest_made.3 ∙ ap Some (sym (ap (λ (q : Program). q.functions) rest_made.4) ∙ h.functions_are)
-
-  vars_is : p.vars ≡ vars_made.0
-  vars_is = ap (λ (q : Program). q.vars) rest_made.4
-
-  statements_is : (after_items raw raw.items outset).statements ≡ p.statements
-  statements_is = sym (ap (λ (q : Program). q.statements) rest_made.4)
+  functions_made = parts.functions ∙ ap Some h.functions_are
 
   variables_is : (after_items raw raw.items outset).variables ≡ length p.vars
   variables_is =
-      let a : length vars_made.0 ≡ length (variables_in raw (phrases raw)) = found_length (variables_in raw (phrases raw)) vars_made.0 vars_made.1 in
+      let a : length p.vars ≡ length (variables_in raw (phrases raw)) = found_length (variables_in raw (phrases raw)) p.vars parts.vars in
       let b : 0 + length (variables_in raw (items_phrases raw raw.items outset)) ≡ (after_items raw raw.items outset).variables = items_count raw raw.items outset in
-      omega (arith, a, b, ap length vars_is)
+      omega (arith, a, b)
 
   kept_all : AreKept raw (phrases raw)
   kept_all = kept_from raw (phrases raw) (λ q c n b. has.rules n q.line (by_phrase c b))
@@ -94,7 +74,7 @@ module _ (raw : RawProgram) (p : Program) (has : HasProgram raw p) (h : IsIntege
   numbers : map doing_number (doings_of p 0) ≡ from 0 p.statements
   numbers =
       let t : Takes (all_doings (h.main ∷ [])) 0 (after_items raw raw.items outset).statements = items_take raw raw.items outset (h.main ∷ []) functions_made in
-      let n : t.count ≡ p.statements = omega (arith, t.ends, statements_is) in
+      let n : t.count ≡ p.statements = omega (arith, t.ends, parts.statements) in
       ap (map doing_number) doings_are ∙ t.numbers ∙ ap (from 0) n
 
   below : list_all (doing_below (length p.vars)) (doings_of p 0) ≡ true

@@ -1,8 +1,7 @@
 -- What is kept of an integer main has what it needs.
 use Rattle.std.proofs.Common.{◌≡◌, ℕ, zero, suc, ◌==◌, ◌≤◌, ◌<◌, List, [], ◌∷◌, ◌++◌, map, Bool, true, false, ◌&&◌, ◌||◌, Option, Some, None, option_map, refl, sym, ap, ap₂, subst, ◌∙◌, arith}
 use Rattle.std.specs.Prelude.{Contains}
-use Rattle.std.proofs.lemmas.Bool.Decides.{nat_tests}
-use Rattle.std.proofs.lemmas.Bool.{and_parts, or_parts, or_left, or_right, and_from}
+use Rattle.std.proofs.lemmas.Bool.{and_parts, or_parts, or_left, or_right, and_from, eq-eqb}
 use Rattle.c_language.specs.TypeGrammar.{written_step, is_written}
 use Rattle.c_arith.specs.declared.int_type.IntType.{IntType}
 use Rattle.c_tree.specs.declared.expr.Expr.{Expr}
@@ -51,7 +50,7 @@ use Rattle.projection_laws.proofs.Options.{more_there}
 use Rattle.projection_laws.proofs.IntegerTexts.{NoVariable, IsQuiet, NoNames, StartsSimple, Is, Are, IsPart, ArmsAre}
 use Rattle.projection_laws.proofs.Constants.{pick_two}
 use Rattle.projection_laws.proofs.StatementForms.{arm_refers, refers-Declare, refers-Assign, refers-Bump, refers-Write, refers-Print, refers-If, refers-While, refers-Do, refers-For, refers-Switch, refers-Block, refers-Return, refers-arm, arm_nest, nest-If, nest-While, nest-Do, nest-For, nest-Switch, nest-Block, nest-arm}
-use Rattle.projection_laws.proofs.Reaching.{le_then, lt_then, le_same, AllHold, holds_change, Spans, spans_later, grows, all_grow, part_grows, arms_grow, spans_after, all_spans, part_spans, expr_spans, reaches, all_reach, part_reaches, arms_reach}
+use Rattle.projection_laws.proofs.Reaching.{onward, le_then, lt_then, le_same, AllHold, holds_change, Spans, spans_later, grows, all_grow, part_grows, arms_grow, spans_after, all_spans, part_spans, expr_spans, reaches, all_reach, part_reaches, arms_reach}
 use Rattle.c_thin_trees.proofs.LeftForms.{left-Declare, left-Assign, left-Bump, left-Call, left-While, left-Do, left-Switch, left-Block, left-Return, left-arm}
 use Rattle.projection_laws.proofs.LeftScopes.{left_after, arm_after, left_of_if, left_of_for}
 use Rattle.projection_laws.proofs.Going.{kept_of, join_met, IsGone, PartGone, Free, gone_needs, part_needs_gone, goes, all_go, part_goes}
@@ -315,14 +314,8 @@ module _ (raw : RawProgram) (vars keeps : ℕ → Bool) where
   abbrev pub AreKept : (ℕ → Bool) → Type 0
   AreKept f = (id : ℕ) → f id ≡ true → vars id ≡ true
 
-  onward : {f g : ℕ → Bool} (id : ℕ) → f ≡ g → f id ≡ true → g id ≡ true
-  onward id p h = sym (ap (λ (u : ℕ → Bool). u id) p) ∙ h
-
   back : {f g : ℕ → Bool} (id : ℕ) → f ≡ g → g id ≡ true → f id ≡ true
   back id p h = ap (λ (u : ℕ → Bool). u id) p ∙ h
-
-  itself : (n : ℕ) → (n == n) ≡ true
-  itself n = grind (arith, nat_tests)
 
   free_by : (m n : ℕ) (f : ℕ → Bool) → Only m n f → ((id : ℕ) → f id ≡ true → m ≤ id → id < n → ⊥) → Free raw vars keeps m n
   free_by m n f only none id p q = by_test (vars id) refl
@@ -447,7 +440,7 @@ module _ (raw : RawProgram) (vars keeps : ℕ → Bool) where
     meets {scope} (Is.begun {l} {v} {a} {w} q at) s fit kept only =
         let is = refers-Declare keeps (Some scope.statements) l scope.variables (begins.One w) in
         met_at scope _ (left-Declare k raw l v (init.One a))
-        (begun_met (vars scope.variables) (keeps scope.statements) l v a scope q (λ c. kept scope.variables (back scope.variables is (and_from _ _ c (or_left (scope.variables == scope.variables) _ (itself scope.variables)))))
+        (begun_met (vars scope.variables) (keeps scope.statements) l v a scope q (λ c. kept scope.variables (back scope.variables is (and_from _ _ c (or_left (scope.variables == scope.variables) _ (eq-eqb scope.variables scope.variables refl)))))
         (λ c. expr_stays (with_variable raw v (init.One a) scope) a w at (λ id n. kept id (back id is (and_from _ _ c (or_right (scope.variables == id) (names w id) n))))))
     meets {scope} (Is.assigned {l} {a} {b} {op} {u} {w} p q) s fit kept only =
         let is = refers-Assign keeps scope.statements l u op w in

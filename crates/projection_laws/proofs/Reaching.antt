@@ -8,7 +8,7 @@ use Rattle.c_tree.specs.declared.expr.Expr.TheVariants as e
 use Rattle.c_tree.specs.declared.program.Init.TheVariants as begins
 use Rattle.c_tree.specs.declared.statement.Arm.{Arm}
 use Rattle.c_tree.specs.declared.statement.Statement.{Statement}
-use Rattle.c_tree.specs.declared.raw.expr.RawExpr.{RawExpr, map-RawExpr, fold-RawExpr, fold-roll-RawExpr}
+use Rattle.c_tree.specs.declared.raw.expr.RawExpr.{RawExpr, map-RawExpr, fold-roll-RawExpr}
 use Rattle.c_tree.specs.declared.raw.expr.RawExpr.TheOpen.{RawExpr-F}
 use Rattle.c_tree.specs.declared.raw.expr.RawVar.{RawVar}
 use Rattle.c_tree.specs.declared.raw.program.RawInit.{RawInit}
@@ -23,7 +23,7 @@ use Rattle.c_language.specs.Words.{Bytes}
 use Rattle.c_language.specs.Scopes.{Scope, Meaning, Entry, found_in, meaning_in, with_variable, opened, numbered, after_part, Scoped, after_all}
 use Rattle.c_language.specs.Phrases.{Stand, Phrases, scoped, scoped_of_arm}
 use Rattle.c_language.specs.Uses.{operands_of}
-use Rattle.c_language.specs.ProgramOf.{Told, told_step, expr_of, optional, arg_tree, args_tree, variable_number, arm_tree, of_operand, of_pointed}
+use Rattle.c_language.specs.ProgramOf.{Told, told_step, told_of, expr_of, optional, arg_tree, args_tree, variable_number, arm_tree, of_operand, of_pointed}
 use Rattle.c_language.proofs.ScopedForms.{scoped-Declare, scoped-Assign, scoped-Bump, scoped-Call, scoped-If, scoped-While, scoped-Do, scoped-For, scoped-Switch, scoped-Block, scoped-Return, scoped_of_arm-arm}
 use Rattle.c_language.proofs.Options.{none_there, some_same}
 use Rattle.c_language.proofs.Tests.{false_true, by_or}
@@ -88,16 +88,13 @@ module _ (raw : RawProgram) (scope : Scope) (R : ℕ → Type 0) (vars : (x : By
   abbrev Reaches : RawExpr → Type 0
   Reaches a = (w : Expr) → expr_of raw scope a ≡ Some w → (id : ℕ) → names w id ≡ true → R id
 
-  abbrev told_of : RawExpr → Told
-  told_of = fold-RawExpr Told (told_step raw scope)
-
   names_at : (l : Expr-F Expr) (w : Expr) (id : ℕ) → roll-Expr l ≡ w → names w id ≡ true → names_step (map-Expr Expr (ℕ → Bool) names l) id ≡ true
   names_at l w id h q = sym (ap (λ (z : Expr). names z id) (sym h) ∙ ap (λ (f : ℕ → Bool). f id) (fold-roll-Expr (ℕ → Bool) names_step l)) ∙ q
 
   abbrev All : RawExpr-F RawExpr → Type 0
   All l = (m : RawExpr) → Contains (operands_of l) m → Reaches m
 
-  layer : (l : RawExpr-F RawExpr) → All l → (w : Expr) → (told_step raw scope (map-RawExpr RawExpr Told told_of l)).tree ≡ Some w → (id : ℕ) → names w id ≡ true → R id
+  layer : (l : RawExpr-F RawExpr) → All l → (w : Expr) → (told_step raw scope (map-RawExpr RawExpr Told (told_of raw scope) l)).tree ≡ Some w → (id : ℕ) → names w id ≡ true → R id
   layer (RawExpr-F.Constant text) ops w at id h = false_true (names_at (Expr-F.Constant text _ _) w id (e.rolls-Constant text _ _ ∙ some_same at) h)
   layer RawExpr-F.Null ops w at id h = false_true (names_at Expr-F.Null w id (e.rolls-Null ∙ some_same at) h)
   layer RawExpr-F.Eof ops w at id h = false_true (names_at Expr-F.Eof w id (e.rolls-Eof ∙ some_same at) h)
@@ -137,11 +134,11 @@ module _ (raw : RawProgram) (scope : Scope) (R : ℕ → Type 0) (vars : (x : By
       (λ p. ops a (contains_first a (b ∷ [])) m.first m.first_there id p) (λ p. ops b (contains_later a b (b ∷ []) (contains_first b [])) m.second m.second_there id p)
   layer (RawExpr-F.Member a f) ops w at id h =
       let o = then_there _ (expr_of raw scope a) w at in
-      let m = map_there (e.Member o.0) (of_operand raw f (told_of a).operand) w o.1.1 in
+      let m = map_there (e.Member o.0) (of_operand raw f (told_of raw scope a).operand) w o.1.1 in
       ops a (contains_first a []) o.0 o.1.0 id (names_at (Expr-F.Member o.0 m.0) w id (e.rolls-Member o.0 m.0 ∙ m.1.1) h)
   layer (RawExpr-F.Arrow a f) ops w at id h =
       let o = then_there _ (expr_of raw scope a) w at in
-      let m = map_there (e.Arrow o.0) (of_pointed raw f (told_of a).operand) w o.1.1 in
+      let m = map_there (e.Arrow o.0) (of_pointed raw f (told_of raw scope a).operand) w o.1.1 in
       ops a (contains_first a []) o.0 o.1.0 id (names_at (Expr-F.Arrow o.0 m.0) w id (e.rolls-Arrow o.0 m.0 ∙ m.1.1) h)
   layer (RawExpr-F.Paren a) ops w at id h =
       let m = map_there e.Paren (expr_of raw scope a) w at in ops a (contains_first a []) m.0 m.1.0 id (names_at (Expr-F.Paren m.0) w id (e.rolls-Paren m.0 ∙ m.1.1) h)
@@ -161,6 +158,10 @@ spans_later P scope next same grown s = record {
   names = subst (AllHold P next.variables) (sym same) (holds_change P P scope.variables next.variables (λ id p q. (p, lt_then q grown)) scope.names s.names);
   fresh = λ id h. s.fresh id (le_then grown h);
 }
+
+-- the equation of a form, at a variable
+pub onward : {f g : ℕ → Bool} (id : ℕ) → f ≡ g → f id ≡ true → g id ≡ true
+onward id p h = sym (ap (λ (u : ℕ → Bool). u id) p) ∙ h
 
 module _ (raw : RawProgram) where
   spans_more : (P : ℕ → Type 0) (scope : Scope) (v : RawVar) (i : RawInit) → Spans P scope → Spans P (with_variable raw v i scope)
@@ -278,32 +279,28 @@ module _ (raw : RawProgram) where
     abbrev all_kept_in : List Statement → Bool
     all_kept_in zs = any_kept (map (nest keeps) zs)
 
-    -- the equation of a form, at a variable
-    at_var : {f g : ℕ → Bool} (id : ℕ) → f ≡ g → f id ≡ true → g id ≡ true
-    at_var id p h = sym (ap (λ (u : ℕ → Bool). u id) p) ∙ h
-
     mutual
       pub reaches : (P : ℕ → Type 0) {scope : Scope} {x : RawStatement} {y : Statement} → Is raw scope x y → Spans P scope → (id : ℕ) → refs y id ≡ true → Reached P ((scoped raw x).after scope).variables (kept_in y) id
-      reaches P {scope} (Is.declared {l} {v} q) s id h = false_true (at_var id (refers-Declare keeps None l scope.variables begins.None) h)
+      reaches P {scope} (Is.declared {l} {v} q) s id h = false_true (onward id (refers-Declare keeps None l scope.variables begins.None) h)
       reaches P {scope} (Is.begun {l} {v} {a} {w} q at) s id h =
-          let k = and_parts (keeps scope.statements) _ (at_var id (refers-Declare keeps (Some scope.statements) l scope.variables (begins.One w)) h) in
+          let k = and_parts (keeps scope.statements) _ (onward id (refers-Declare keeps (Some scope.statements) l scope.variables (begins.One w)) h) in
           let inside = spans_more P scope v (init.One a) s in
           let grown = subst (λ (u : Text). scope.variables + 1 ≤ (u.after scope).variables) (sym (scoped-Declare raw l v (init.One a))) (le_same (scope.variables + 1)) in
           reached (by_or (scope.variables == id) (names w id) k.1
           (λ p. subst (λ (z : ℕ). P z × (z < scope.variables + 1)) (eqb-true scope.variables id p) (s.fresh scope.variables (le_same scope.variables), omega arith))
           (λ p. expr_spans P (with_variable raw v (init.One a) scope) inside a w at id p)) grown (ap (λ z. z.keeps) (nest-Declare keeps (Some scope.statements) l scope.variables (begins.One w)) ∙ k.0)
       reaches P {scope} (Is.assigned {l} {a} {b} {op} {u} {w} p q) s id h =
-          let k = and_parts (keeps scope.statements) _ (at_var id (refers-Assign keeps scope.statements l u op w) h) in
+          let k = and_parts (keeps scope.statements) _ (onward id (refers-Assign keeps scope.statements l u op w) h) in
           reached (by_or (names u id) (names w id) k.1 (λ r. expr_spans P scope s a u p id r) (λ r. expr_spans P scope s b w q id r)) (grows (Is.assigned {op = op} p q))
           (ap (λ z. z.keeps) (nest-Assign keeps scope.statements l u op w) ∙ k.0)
       reaches P {scope} (Is.bumped {l} {a} {up} {before} {u} p) s id h =
-          let k = and_parts (keeps scope.statements) _ (at_var id (refers-Bump keeps scope.statements l u up before) h) in
+          let k = and_parts (keeps scope.statements) _ (onward id (refers-Bump keeps scope.statements l u up before) h) in
           reached (expr_spans P scope s a u p id k.1) (grows (Is.bumped p)) (ap (λ z. z.keeps) (nest-Bump keeps scope.statements l u up before) ∙ k.0)
       reaches P {scope} (Is.written {l} {a} {u} free one p) s id h =
-          let k = and_parts (keeps scope.statements) _ (at_var id (refers-Write keeps scope.statements l u) h) in
+          let k = and_parts (keeps scope.statements) _ (onward id (refers-Write keeps scope.statements l u) h) in
           reached (expr_spans P scope s a u p id k.1) (grows (Is.written free one p)) (ap (λ z. z.keeps) (nest-Write keeps scope.statements l u) ∙ k.0)
       reaches P {scope} (Is.printed {l} {text} {args} {us} free one p) s id h =
-          let k = and_parts (keeps scope.statements) _ (at_var id (refers-Print keeps scope.statements l text us) h) in
+          let k = and_parts (keeps scope.statements) _ (onward id (refers-Print keeps scope.statements l text us) h) in
           reached (args_span P scope s _ us p id k.1) (grows (Is.printed {text = text} free one p)) (ap (λ z. z.keeps) (nest-Print keeps scope.statements l text us) ∙ k.0)
       reaches P {scope} (Is.branched {l} {a} {u} {b} {c} {zs} {ws} p d g) s id h =
           let grown = grows (Is.branched p d g) in
@@ -311,7 +308,7 @@ module _ (raw : RawProgram) where
           let kept = ap (λ z. z.keeps) (nest-If keeps scope.statements l u zs ws) in
           let s1 = spans_later P scope (opened (numbered scope)) refl (le_same scope.variables) s in
           let s2 = spans_later P scope (opened (block_after raw b (numbered scope))) refl (all_grow d) s in
-          by_or (keeps scope.statements && names u id) _ (at_var id (refers-If keeps scope.statements l u zs ws) h)
+          by_or (keeps scope.statements && names u id) _ (onward id (refers-If keeps scope.statements l u zs ws) h)
           (λ r. let k = and_parts (keeps scope.statements) (names u id) r in reached (expr_spans P scope s a u p id k.1) grown (kept ∙ or_left (keeps scope.statements) _ k.0))
           (λ r. by_or (either (map refs zs) id) (either (map refs ws) id) r
           (λ r. later (all_reach P d s1 id r) (subst (λ (n : ℕ). (after_list raw b (opened (numbered scope))).variables ≤ n) (sym end) (all_grow g)) (λ k. kept ∙ or_right (keeps scope.statements) _ (or_left (all_kept_in zs) _ k)))
@@ -319,13 +316,13 @@ module _ (raw : RawProgram) where
       reaches P {scope} (Is.while_loop {l} {a} {u} {b} {zs} p d) s id h =
           let kept = ap (λ z. z.keeps) (nest-While keeps scope.statements l u zs) in
           let end = ap (λ (u : Text). (u.after scope).variables) (scoped-While raw l a b) in
-          by_or (keeps scope.statements && names u id) _ (at_var id (refers-While keeps scope.statements l u zs) h)
+          by_or (keeps scope.statements && names u id) _ (onward id (refers-While keeps scope.statements l u zs) h)
           (λ r. let k = and_parts (keeps scope.statements) (names u id) r in reached (expr_spans P scope s a u p id k.1) (grows (Is.while_loop p d)) (kept ∙ or_left (keeps scope.statements) _ k.0))
           (λ r. later (all_reach P d (spans_later P scope (opened (numbered scope)) refl (le_same scope.variables) s) id r) (subst (λ (n : ℕ). (after_list raw b (opened (numbered scope))).variables ≤ n) (sym end) (le_same _)) (λ k. kept ∙ or_right (keeps scope.statements) _ k))
       reaches P {scope} (Is.do_loop {l} {a} {u} {b} {zs} p d) s id h =
           let kept = ap (λ z. z.keeps) (nest-Do keeps scope.statements l u zs) in
           let end = ap (λ (u : Text). (u.after scope).variables) (scoped-Do raw l a b) in
-          by_or (keeps scope.statements && names u id) _ (at_var id (refers-Do keeps scope.statements l u zs) h)
+          by_or (keeps scope.statements && names u id) _ (onward id (refers-Do keeps scope.statements l u zs) h)
           (λ r. let k = and_parts (keeps scope.statements) (names u id) r in reached (expr_spans P scope s a u p id k.1) (grows (Is.do_loop p d)) (kept ∙ or_left (keeps scope.statements) _ k.0))
           (λ r. later (all_reach P d (spans_later P scope (opened (numbered scope)) refl (le_same scope.variables) s) id r) (subst (λ (n : ℕ). (after_list raw b (opened (numbered scope))).variables ≤ n) (sym end) (le_same _)) (λ k. kept ∙ or_right (keeps scope.statements) _ k))
       reaches P {scope} (Is.for_loop {l} {a} {u} {i} {step} {b} {first} {next} {zs} start d p g k) s id h =
@@ -338,7 +335,7 @@ module _ (raw : RawProgram) where
           let from_body = subst (λ (n : ℕ). (after_list raw b (opened (body_scope raw i step scope))).variables ≤ n) (sym end) (le_same _) in
           let from_step = le_then (all_grow k) from_body in
           let from_test = le_then (part_grows g) from_step in
-          by_or (keeps scope.statements && names u id) _ (at_var id (refers-For keeps scope.statements l first u next zs) h)
+          by_or (keeps scope.statements && names u id) _ (onward id (refers-For keeps scope.statements l first u next zs) h)
           (λ r. let q = and_parts (keeps scope.statements) (names u id) r in reached (expr_spans P (part_scope raw i scope) s1 a u p id q.1) from_test (kept ∙ or_left (keeps scope.statements) _ q.0))
           (λ r. by_or (if_any (option_map refs first) id) _ r
           (λ r. later (part_reaches P d s0 id r) from_test (λ q. kept ∙ or_right (keeps scope.statements) _ (or_left (part_kept (option_map (nest keeps) first)) _ q)))
@@ -348,15 +345,15 @@ module _ (raw : RawProgram) where
       reaches P {scope} (Is.switched {l} {a} {u} {arms} {zs} p d) s id h =
           let kept = ap (λ z. z.keeps) (nest-Switch keeps scope.statements l u zs) in
           let end = ap (λ (u : Text). (u.after scope).variables) (scoped-Switch raw l a arms) in
-          by_or (keeps scope.statements && names u id) _ (at_var id (refers-Switch keeps scope.statements l u zs) h)
+          by_or (keeps scope.statements && names u id) _ (onward id (refers-Switch keeps scope.statements l u zs) h)
           (λ r. let k = and_parts (keeps scope.statements) (names u id) r in reached (expr_spans P scope s a u p id k.1) (grows (Is.switched p d)) (kept ∙ or_left (keeps scope.statements) _ k.0))
           (λ r. later (arms_reach P d (spans_later P scope (opened (numbered scope)) refl (le_same scope.variables) s) id r) (subst (λ (n : ℕ). (after_all (map (scoped_of_arm raw) arms) (opened (numbered scope))).variables ≤ n) (sym end) (le_same _)) (λ k. kept ∙ or_right (keeps scope.statements) _ k))
       reaches P {scope} (Is.blocked {l} {b} {zs} d) s id h =
           let kept = ap (λ z. z.keeps) (nest-Block keeps l zs) in
           let end = ap (λ (u : Text). (u.after scope).variables) (scoped-Block raw l b) in
-          later (all_reach P d (spans_later P scope (opened scope) refl (le_same scope.variables) s) id (at_var id (refers-Block keeps l zs) h)) (subst (λ (n : ℕ). (after_list raw b (opened scope)).variables ≤ n) (sym end) (le_same _)) (λ k. kept ∙ k)
+          later (all_reach P d (spans_later P scope (opened scope) refl (le_same scope.variables) s) id (onward id (refers-Block keeps l zs) h)) (subst (λ (n : ℕ). (after_list raw b (opened scope)).variables ≤ n) (sym end) (le_same _)) (λ k. kept ∙ k)
       reaches P {scope} (Is.returned {l} {a} {u} p) s id h =
-          let k = and_parts (keeps scope.statements) _ (at_var id (refers-Return keeps scope.statements l u) h) in
+          let k = and_parts (keeps scope.statements) _ (onward id (refers-Return keeps scope.statements l u) h) in
           reached (value_span P scope s a u p id k.1) (grows (Is.returned p)) (ap (λ z. z.keeps) (nest-Return keeps scope.statements l u) ∙ k.0)
 
       pub all_reach : (P : ℕ → Type 0) {scope : Scope} {xs : List RawStatement} {zs : List Statement} → Are raw scope xs zs → Spans P scope → (id : ℕ) → either (map refs zs) id ≡ true → Reached P (after_list raw xs scope).variables (all_kept_in zs) id
@@ -377,5 +374,5 @@ module _ (raw : RawProgram) where
           let end = ap (λ (u : Scoped _). (after_all (map (scoped_of_arm raw) rest) (u.after scope)).variables) (scoped_of_arm-arm raw labels body) in
           let inside = arm_nest keeps (arm_tree ls zs) in
           by_or (arm_refers keeps (arm_tree ls zs) id) (either (map (arm_refers keeps) arms) id) h
-          (λ r. later (all_reach P d s id (at_var id (refers-arm keeps ls zs) r)) (subst (λ (n : ℕ). (after_list raw body scope).variables ≤ n) (sym end) (arms_grow g)) (λ k. or_left inside.keeps _ (kept ∙ k)))
+          (λ r. later (all_reach P d s id (onward id (refers-arm keeps ls zs) r)) (subst (λ (n : ℕ). (after_list raw body scope).variables ≤ n) (sym end) (arms_grow g)) (λ k. or_left inside.keeps _ (kept ∙ k)))
           (λ r. later (arms_reach P g (all_spans P d s) id r) (subst (λ (n : ℕ). (after_all (map (scoped_of_arm raw) rest) (after_list raw body scope)).variables ≤ n) (sym end) (le_same _)) (λ k. or_right inside.keeps _ k))

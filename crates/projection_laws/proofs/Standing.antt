@@ -1,7 +1,7 @@
 -- Each statement is kept in which a kept one stands: by direct steps, and anyhow.
 use Rattle.std.proofs.Common.{◌≡◌, ℕ, ◌==◌, List, [], ◌∷◌, map, Bool, true, false, ◌&&◌, ◌||◌, Some, None, refl, sym, ap, subst, ◌∙◌}
 use Rattle.std.specs.List.{list_all, list_any}
-use Rattle.std.proofs.lemmas.Bool.{eqb-true, and_parts, or_left, or_right, and_from}
+use Rattle.std.proofs.lemmas.Bool.{eqb-true, and_parts, or_left, or_right, and_from, eq-eqb}
 use Rattle.c_tree.specs.declared.program.Function.{Function}
 use Rattle.c_tree.specs.declared.program.Program.{Program}
 use Rattle.c_tree.specs.declared.statement.Statement.{Statement, ind-Statement, roll-Statement, map-Statement, fold-roll-Statement}
@@ -9,7 +9,6 @@ use Rattle.c_tree.specs.declared.statement.Statement.TheOpen.{Statement-F, Arm-F
 use Rattle.c_tree.specs.declared.statement.Arm.{Arm, roll-Arm, fold-Arm, fold-roll-Arm}
 use Rattle.c_tree.proofs.Trees.{statement_layer, arm_layer, StatementParts, ArmParts}
 use Rattle.c_language.proofs.Tests.{false_true, by_or}
-use Rattle.c_scope_laws.proofs.NamedTrees.{itself_equal}
 use Rattle.projection_laws.specs.Nested.{Nest, any_kept, all_fit, governs, nest_step, nest_arm, nest, is_nested, IsNested, Stands, any_own, any_inside, stands_step, stands_arm, stands, stands_in}
 use Rattle.projection_laws.proofs.StatementForms.{arm_nest}
 
@@ -48,7 +47,7 @@ module _ (keeps : ℕ → Bool) where
   tie_own : (id : ℕ) → Tie (keeps id) true (λ n. id == n) (λ o i. false)
   tie_own id = record {
     fits = λ c. refl;
-    found = λ c h. record { number = id; is = itself_equal id; kept = h };
+    found = λ c h. record { number = id; is = eq-eqb id id refl; kept = h };
     back = λ h o i p q. false_true p;
     keeps_it = λ n p q. ap keeps (eqb-true id n p) ∙ q;
   }
@@ -67,7 +66,7 @@ module _ (keeps : ℕ → Bool) where
   tie_under : (id : ℕ) (a e : Bool) (own : ℕ → Bool) (inside : ℕ → ℕ → Bool) → Tie a e own inside → Tie (keeps id || a) (governs (keeps id) a && e) (λ n. id == n) (λ o i. (id == o && own i) || inside o i)
   tie_under id a e own inside t = record {
     fits = λ c. and_from _ _ (governs_true (keeps id) a (λ h. above c h)) (t.fits (λ o i h. c o i (or_right (id == o && own i) (inside o i) h)));
-    found = λ c h. record { number = id; is = itself_equal id; kept = by_or (keeps id) a h (λ p. p) (λ p. above c p) };
+    found = λ c h. record { number = id; is = eq-eqb id id refl; kept = by_or (keeps id) a h (λ p. p) (λ p. above c p) };
     back = λ h o i p q. by_or (id == o && own i) (inside o i) p
         (λ r. let b = and_parts (id == o) (own i) r in sym (ap keeps (eqb-true id o b.0)) ∙ governs_back (keeps id) a (and_parts (governs (keeps id) a) e h).0 (t.keeps_it i b.1 q))
         (λ r. t.back (and_parts (governs (keeps id) a) e h).1 o i r q);
@@ -76,7 +75,7 @@ module _ (keeps : ℕ → Bool) where
     where
       above : Closed (λ o i. (id == o && own i) || inside o i) → a ≡ true → keeps id ≡ true
       above c h =
-          let w = t.found (λ o i h. c o i (or_right (id == o && own i) (inside o i) h)) h in c id w.number (or_left (id == id && own w.number) (inside id w.number) (and_from _ _ (itself_equal id) w.is)) w.kept
+          let w = t.found (λ o i h. c o i (or_right (id == o && own i) (inside o i) h)) h in c id w.number (or_left (id == id && own w.number) (inside id w.number) (and_from _ _ (eq-eqb id id refl) w.is)) w.kept
 
   -- a for, what it begins with, and what stands in it
   tie_for : (id : ℕ) (a b e f : Bool) (own more : ℕ → Bool) (inside within : ℕ → ℕ → Bool) → Tie a e own inside → Tie b f more within
@@ -94,11 +93,11 @@ module _ (keeps : ℕ → Bool) where
   }
     where
       itself_found : keeps id ≡ true → Found (λ n. id == n || own n)
-      itself_found h = record { number = id; is = or_left (id == id) (own id) (itself_equal id); kept = h }
+      itself_found h = record { number = id; is = or_left (id == id) (own id) (eq-eqb id id refl); kept = h }
 
       above : Closed (λ o i. (id == o && more i) || (inside o i || within o i)) → b ≡ true → keeps id ≡ true
       above c h =
-          let w = t.found (λ o i h. c o i (or_right (id == o && more i) _ (or_right (inside o i) (within o i) h))) h in c id w.number (or_left (id == id && more w.number) _ (and_from _ _ (itself_equal id) w.is)) w.kept
+          let w = t.found (λ o i h. c o i (or_right (id == o && more i) _ (or_right (inside o i) (within o i) h))) h in c id w.number (or_left (id == id && more w.number) _ (and_from _ _ (eq-eqb id id refl) w.is)) w.kept
 
   -- ---- by layers
 

@@ -1,4 +1,5 @@
 pub mod SpanLemmas
+pub mod SuccessorLemmas
 pub mod SearchLemmas
 pub mod TargetLemmas
 pub mod EdgeLemmas

@@ -5,7 +5,7 @@ use Rattle.std.specs.Ordering.{nat_cmp, ord_max, is_lt}
 use Rattle.std.proofs.lemmas.Bool.{eq-eqb}
 use Rattle.std.proofs.lemmas.Bool.Decides.{leb_tells}
 use Rattle.std.proofs.lemmas.List.Folds.{list_any_at}
-use Rattle.std.proofs.lemmas.List.Elements.{All-nil, All-more, All-weaker}
+use Rattle.std.proofs.lemmas.List.Elements.{All-more, All-weaker}
 use Rattle.std.specs.Option.{option_to_list}
 use Rattle.std.proofs.lemmas.List.{take_all}
 use Rattle.c_tree.specs.declared.expr.Expr.{Expr}
@@ -52,9 +52,6 @@ IsSomeLine starts line = list_any (λ (s : Start). s.line == line) starts ≡ tr
 pub record IsLatest (starts : Starts) (at last : ℕ) : Type 0 where
   pub after : All (λ (s : Start). s.line ≤ last) (take at starts)
   pub is_one : (last ≡ 0) ⊎ IsSomeLine starts last
-
-pub latest_none : (starts : Starts) → IsLatest starts 0 0
-latest_none starts = record { after = All-nil (λ (s : Start). s.line ≤ 0); is_one = inl refl }
 
 -- the greater of two numbers is one of them
 greater : (a b new : ℕ) → new ≡ ord_max nat_cmp a b → ((b < a) × (new ≡ a)) ⊎ ((a ≤ b) × (new ≡ b))

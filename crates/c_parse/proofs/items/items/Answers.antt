@@ -4,18 +4,6 @@ use Rattle.c_parse.specs.ItemReading.{items_from}
 use Rattle.c_parse.proofs.items.items.Goals as goal
 use Rattle.c_language.proofs.Turns.{one_more}
 
-pub returns-then-none_left : goal.returns-then-none_left
-unfolding items_from
-returns-then-none_left c =
-    let e = one_more (λ n. items_from c.args.depth n c.loop-turn.found c.loop-turn.tokens) _ c.loop-turn._turn c.loop-turn-test.true c.loop-turn.invariant in
-    first_of (search rules, grind (arith, common_steps))
-
-pub returns-in_err-item : goal.returns-in_err-item
-unfolding items_from
-returns-in_err-item c =
-    let e = one_more (λ n. items_from c.args.depth n c.loop-turn.found c.loop-turn.tokens) _ c.loop-turn._turn c.loop-turn-test.true c.loop-turn.invariant in
-    first_of (search rules, grind (arith, common_steps))
-
 pub loop-turn-preserved : goal.loop-turn-preserved
 unfolding items_from
 loop-turn-preserved c =

@@ -4,18 +4,6 @@ use Rattle.c_parse.specs.ItemReading.{members_from}
 use Rattle.c_parse.proofs.items.members.Goals as goal
 use Rattle.c_language.proofs.Turns.{one_more}
 
-pub returns-in_err-member : goal.returns-in_err-member
-unfolding members_from
-returns-in_err-member c =
-    let e = one_more (λ n. members_from c.args.depth n c.loop-turn.found c.loop-turn.tokens) _ c.loop-turn._turn c.loop-turn-test.true c.loop-turn.invariant in
-    first_of (search rules, grind (arith, common_steps))
-
-pub returns-then-sees : goal.returns-then-sees
-unfolding members_from
-returns-then-sees c =
-    let e = one_more (λ n. members_from c.args.depth n c.loop-turn.found c.loop-turn.tokens) _ c.loop-turn._turn c.loop-turn-test.true c.loop-turn.invariant in
-    first_of (search rules, grind (arith, common_steps))
-
 pub loop-turn-preserved : goal.loop-turn-preserved
 unfolding members_from
 loop-turn-preserved c =

@@ -4,18 +4,6 @@ use Rattle.c_parse_expr.specs.TypeReading.{params_from}
 use Rattle.c_parse_expr.proofs.params.params_from.Goals as goal
 use Rattle.c_language.proofs.Turns.{one_more}
 
-pub returns-in_err-expect : goal.returns-in_err-expect
-unfolding params_from
-returns-in_err-expect c =
-    let e = one_more (λ n. params_from c.args.depth n c.loop-turn.found c.loop-turn.tokens) _ c.loop-turn._turn c.loop-turn-test.true c.loop-turn.invariant in
-    first_of (search rules, grind (arith, common_steps))
-
-pub returns-in_err-param : goal.returns-in_err-param
-unfolding params_from
-returns-in_err-param c =
-    let e = one_more (λ n. params_from c.args.depth n c.loop-turn.found c.loop-turn.tokens) _ c.loop-turn._turn c.loop-turn-test.true c.loop-turn.invariant in
-    first_of (search rules, grind (arith, common_steps))
-
 pub loop-turn-preserved : goal.loop-turn-preserved
 unfolding params_from
 loop-turn-preserved c =

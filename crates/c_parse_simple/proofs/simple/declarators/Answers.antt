@@ -4,24 +4,6 @@ use Rattle.c_parse_simple.specs.SimpleReading.{separated, declared}
 use Rattle.c_parse_simple.proofs.simple.declarators.Goals as goal
 use Rattle.c_language.proofs.Turns.{one_more}
 
-pub returns-in_err-declared : goal.returns-in_err-declared
-unfolding separated
-returns-in_err-declared c =
-    let e = one_more (λ n. separated (codes ";") (declared c.args.depth c.args.line c.args.base.now) n c.loop-turn.found c.loop-turn.tokens) _ c.loop-turn._turn c.loop-turn-test.true c.loop-turn.invariant in
-    first_of (search rules, grind (arith, common_steps))
-
-pub returns-then-sees : goal.returns-then-sees
-unfolding separated
-returns-then-sees c =
-    let e = one_more (λ n. separated (codes ";") (declared c.args.depth c.args.line c.args.base.now) n c.loop-turn.found c.loop-turn.tokens) _ c.loop-turn._turn c.loop-turn-test.true c.loop-turn.invariant in
-    first_of (search rules, grind (arith, common_steps))
-
-pub returns-in_err-expect : goal.returns-in_err-expect
-unfolding separated
-returns-in_err-expect c =
-    let e = one_more (λ n. separated (codes ";") (declared c.args.depth c.args.line c.args.base.now) n c.loop-turn.found c.loop-turn.tokens) _ c.loop-turn._turn c.loop-turn-test.true c.loop-turn.invariant in
-    first_of (search rules, grind (arith, common_steps))
-
 pub loop-turn-preserved : goal.loop-turn-preserved
 unfolding separated
 loop-turn-preserved c =

@@ -4,30 +4,6 @@ use Rattle.c_parse_simple.specs.SimpleReading.{list_from}
 use Rattle.c_parse_simple.proofs.simple.list.Goals as goal
 use Rattle.c_language.proofs.Turns.{one_more}
 
-pub returns-in_err-expression : goal.returns-in_err-expression
-unfolding list_from
-returns-in_err-expression c =
-    let e = one_more (λ n. list_from c.args.depth n c.loop-turn.found c.loop-turn.tokens) _ c.loop-turn._turn c.loop-turn-test.true c.loop-turn.invariant in
-    first_of (search rules, grind (arith, common_steps))
-
-pub returns-then-sees : goal.returns-then-sees
-unfolding list_from
-returns-then-sees c =
-    let e = one_more (λ n. list_from c.args.depth n c.loop-turn.found c.loop-turn.tokens) _ c.loop-turn._turn c.loop-turn-test.true c.loop-turn.invariant in
-    first_of (search rules, grind (arith, common_steps))
-
-pub returns-in_err-expect : goal.returns-in_err-expect
-unfolding list_from
-returns-in_err-expect c =
-    let e = one_more (λ n. list_from c.args.depth n c.loop-turn.found c.loop-turn.tokens) _ c.loop-turn._turn c.loop-turn-test.true c.loop-turn.invariant in
-    first_of (search rules, grind (arith, common_steps))
-
-pub returns-then-sees-2 : goal.returns-then-sees-2
-unfolding list_from
-returns-then-sees-2 c =
-    let e = one_more (λ n. list_from c.args.depth n c.loop-turn.found c.loop-turn.tokens) _ c.loop-turn._turn c.loop-turn-test.true c.loop-turn.invariant in
-    first_of (search rules, grind (arith, common_steps))
-
 pub loop-turn-preserved : goal.loop-turn-preserved
 unfolding list_from
 loop-turn-preserved c =

@@ -4,8 +4,8 @@ use Rattle.c_types_checks.specs.Stands.{stand_of}
 use Rattle.c_types_base.specs.Stretches.{then_comes, of_statement, of_statements, of_arms}
 use Rattle.c_types_rules.specs.Walks.{Walks}
 use Rattle.c_types_rules.proofs.StatementSteps.{arm_walks, declare_walks, block_walks, while_walks, do_walks, fork_walks, yes_stops, no_walks, init_stops, test_stops, step_stops, for_parts_walk, for_stops, for_returns, head_stops, arms_walk}
-use Rattle.c_types_base.proofs.Stretching.{statements_grow, arms_grow, arms_here, of_arm}
-use Rattle.c_types_rules.proofs.WalkSteps.{statements_here, left_same, turn, stops, encloses, passes_on}
+use Rattle.c_types_base.proofs.Stretching.{statements_grow, arms_grow, statements_here, arms_here, of_arm}
+use Rattle.c_types_rules.proofs.WalkSteps.{left_same, turn, stops, encloses, passes_on}
 use Rattle.c_types_rules.proofs.walk.+statement.Goals as goal
 
 pub statements-returns-in_err-statement : goal.statements-returns-in_err-statement

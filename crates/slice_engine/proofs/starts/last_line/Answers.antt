@@ -1,10 +1,7 @@
 use Rattle.std.proofs.Common.{arith}
 use Rattle.c_tree.specs.Numbered.{start}
-use Rattle.slice_engine.proofs.StartLemmas.{latest_none, latest_next, latest_all}
+use Rattle.slice_engine.proofs.StartLemmas.{latest_next, latest_all}
 use Rattle.slice_engine.proofs.starts.last_line.Goals as goal
-
-pub loop-start-init : goal.loop-start-init
-loop-start-init c = latest_none c.args.starts.now
 
 pub loop-start-preserved : goal.loop-start-preserved
 loop-start-preserved c =
@@ -14,6 +11,3 @@ pub returns-clause-latest : goal.returns-clause-latest
 returns-clause-latest c =
     let end = c.loop-start-test.false in
     latest_all c.args.starts.now c.loop-start.start-index c.loop-start.last (omega (arith, end)) c.loop-start.invariant
-
-pub returns-clause-is_one : goal.returns-clause-is_one
-returns-clause-is_one c = c.loop-start.invariant.is_one

@@ -9,11 +9,6 @@ use Rattle.slicer_top.proofs.run.run_slicer.Goals as goal
 pub returns-in_default-clause-tells : goal.returns-in_default-clause-tells
 returns-in_default-clause-tells g c = told_tells _ _ _ _ _ _ _ _ _ of_usage c.tell.ensures.told
 
-pub returns-in-Ok-clause-no_slice : goal.returns-in-Ok-clause-no_slice
-returns-in-Ok-clause-no_slice g c = λ text named below none.
-    let starts = sliced_starts _ _ _ text _ _ _ c.in-Some.ensures.1 c.in-Some.ensures.2 named.holds c.in-Ok.ensures.ok in
-    absurd (none starts.program starts.built starts.starts)
-
 pub returns-in-Ok-clause-above : goal.returns-in-Ok-clause-above
 returns-in-Ok-clause-above g c = λ text name named above.
     let starts = sliced_starts _ _ _ text _ _ _ c.in-Some.ensures.1 c.in-Some.ensures.2 named.holds c.in-Ok.ensures.ok in

@@ -1,14 +1,11 @@
 use Rattle.std.proofs.Common.{refl}
 use Rattle.slicer_top.specs.Lines.{of_out}
 use Rattle.std.proofs.lemmas.Bool.{false≢true}
-use Rattle.slicer_top.proofs.Lines.{and_no_more, told_tells, told_or_cut_off}
+use Rattle.slicer_top.proofs.Lines.{and_no_more, told_tells}
 use Rattle.slicer_top.proofs.run.write_slice.Goals as goal
 
 pub returns-in-Err-clause-tells : goal.returns-in-Err-clause-tells
 returns-in-Err-clause-tells g c = λ file line. told_tells _ _ _ _ file line _ _ _ of_out c.tell.ensures.told
-
-pub returns-in-Err-clause-line : goal.returns-in-Err-clause-line
-returns-in-Err-clause-line g c = λ _. told_or_cut_off _ _ _ _ _ _ _ c.tell.ensures.told
 
 pub returns-in-Ok-clause-taken : goal.returns-in-Ok-clause-taken
 returns-in-Ok-clause-taken g c = λ takes.

@@ -21,8 +21,12 @@ use Rattle.c_language.proofs.Lists.{contains_first, contains_later}
 use Rattle.c_language.proofs.UseLemmas.{tags-roll, lengths-roll}
 use Rattle.c_types_base.proofs.OptionLemmas.{there_then, there_both}
 use Rattle.c_types_base.proofs.TypeLemmas.{type-roll}
-use Rattle.c_types_trees.proofs.ScopeLemmas.{IsMade}
 use Rattle.c_language.specs.Options.{IsThere}
+
+-- a written type is one of the language, and has its tree
+pub record IsMade (raw : RawProgram) (items : ℕ) (t : RawType) : Type 0 where
+  pub typed : IsThere (type_with raw items t)
+  pub tree : IsThere (ctype_with raw items t)
 
 module _ (raw : RawProgram) (items : ℕ) where
   -- each of these tags is defined
