@@ -4,11 +4,7 @@ use Rattle.std.proofs.Common.{◌≡◌, ℕ, zero, suc, ◌<◌, ◌≤◌, inl
 use Rattle.std.proofs.lemmas.List.{ext_get_or, get_or_past, get_or-replicate, length-replicate}
 use Rattle.std.proofs.lemmas.List.Sums.{sum_by-cons}
 use Rattle.std.proofs.lemmas.Bool.{cases_lt, or_left}
-use Rattle.bit_rows.specs.Sets.{has, union, count_of}
-
--- each member of the first set is a member of the second
-abbrev pub IsSubset : List Bool → List Bool → Type 0
-IsSubset s t = (i : ℕ) → has s i ≡ true → has t i ≡ true
+use Rattle.bit_rows.specs.Sets.{has, IsSubset, union, count_of}
 
 -- ---- members are below the bound
 pub has_past : (s : List Bool) (i : ℕ) → length s ≤ i → has s i ≡ false

@@ -4,9 +4,9 @@ use Rattle.std.proofs.Common.{◌≡◌, ◌≢◌, ℕ, suc, ◌<◌, ◌≤◌
 use Rattle.std.proofs.lemmas.List.{ext_get_or, get_or-set_same, get_or-set_other, length-set, get_or-replicate, length-replicate, set-get_or}
 use Rattle.std.proofs.lemmas.List.Sums.{sum_by-cons}
 use Rattle.std.proofs.lemmas.Bool.{cases_eq, cases_lt, false≢true}
-use Rattle.bit_rows.specs.Sets.{has, union, count_of}
+use Rattle.bit_rows.specs.Sets.{has, IsSubset, union, count_of}
 use Rattle.bit_rows.specs.Tables.{Table, the_set, with_set, empty_table, Holds, IsSized, IsSubtable, count_all, IsGrown}
-use Rattle.bit_rows.proofs.SetLemmas.{length-union, union_twice, union_left, same_set, count_monotone, same_from_count, IsSubset}
+use Rattle.bit_rows.proofs.SetLemmas.{length-union, union_twice, union_left, same_set, count_monotone, same_from_count}
 
 -- ---- sizes
 pub sized_empty : (rows bits : ℕ) → IsSized rows bits (empty_table rows bits)

@@ -8,7 +8,7 @@ use std::simd::prelude::*;
 // How many words a vector has.
 const LANES: usize = 8;
 
-// Makes `to` the union of both, and tells whether it changed.
+/// Makes `to` the union of both, and tells whether it changed.
 pub(crate) fn join(to: &mut [u64], from: &[u64]) -> bool
     requires { length to.old ≡ length from.now }
     ensures joined { to.new ≡ union_words to.old from.now }

@@ -4,7 +4,7 @@ ghost use Rattle.bit_rows.specs.Words.{IsJoinedAt, IsClearedAt, AreWords};
 
 use crate::kernel;
 
-// Joins `from` into the words from `at` on, and tells whether one of them changed.
+/// Joins `from` into the words from `at` on, and tells whether one of them changed.
 pub(crate) fn join_at(words: &mut [u64], at: usize, from: &[u64]) -> bool
     requires { at + length from.now ≤ length words.old }
     ensures joined { IsJoinedAt at from.now words.old words.new }
@@ -15,7 +15,7 @@ pub(crate) fn join_at(words: &mut [u64], at: usize, from: &[u64]) -> bool
     kernel::join(&mut words[at..end], from)
 }
 
-// Joins the `len` words from `from` on into those from `to` on, and tells whether one changed.
+/// Joins the `len` words from `from` on into those from `to` on, and tells whether one changed.
 pub(crate) fn join_within(words: &mut [u64], to: usize, from: usize, len: usize) -> bool
     requires apart { (to + len ≤ from) ⊎ (from + len ≤ to) }
     requires to_in { to + len ≤ length words.old }
@@ -33,7 +33,7 @@ pub(crate) fn join_within(words: &mut [u64], to: usize, from: usize, len: usize)
     }
 }
 
-// The `len` words from `start` on.
+/// The `len` words from `start` on.
 pub(crate) fn part(words: &[u64], start: usize, len: usize) -> &[u64]
     requires { start + len ≤ length words.now }
     ensures { result.now ≡ slice_range words.now start (start + len) }
@@ -41,7 +41,7 @@ pub(crate) fn part(words: &[u64], start: usize, len: usize) -> &[u64]
     &words[start..start + len]
 }
 
-// Makes the `len` words from `start` on 0.
+/// Makes the `len` words from `start` on 0.
 pub(crate) fn clear(words: &mut [u64], start: usize, len: usize)
     requires { start + len ≤ length words.old }
     ensures { IsClearedAt start len words.old words.new }

@@ -1,6 +1,7 @@
 -- The variables that the body of main declares, with all that stands in its statements, are local ones of integer types where nothing of it is outside the built forms.
 use Rattle.std.proofs.Common.{◌≡◌, ℕ, ◌+◌, List, [], ◌∷◌, ◌++◌, length, map, Option, Some, None, option_map, option_and_then, refl, sym, ap, subst, ◌∙◌, arith}
 use Rattle.std.specs.Prelude.{◌&&◌}
+use Rattle.std.specs.Option.{option_or}
 use Rattle.std.specs.List.{list_all}
 use Rattle.c_language.specs.Rules.{AreKept}
 use Rattle.c_arith.specs.declared.int_type.IntType.{IntType}
@@ -20,15 +21,14 @@ use Rattle.c_language.specs.Phrases.{Stand, InBlock, InArm, InFor, Part, Assigns
 use Rattle.c_language.specs.ProgramOf.{collected, optional, ctype_if, expr_of, target_tree, amount_tree, label_tree, arm_tree, ArmTree, arm_tree_step, block_tree, at_type, switch_type, for_tree, treed_step, treed, declared_by, variables_in, treed_arm}
 use Rattle.c_language.specs.Scopes.{Scope, Scoped, opened, closed, numbered, with_target, in_order, after_all, after_block}
 use Rattle.c_language.specs.TypeGrammar.{named_type}
-use Rattle.c_language.proofs.Options.{none_there, some_same, map_some, then_some, both_some}
+use Rattle.c_language.proofs.Options.{none_there, some_same, map_there, then_there, both_there, more_there}
 use Rattle.c_language.proofs.PhraseLists.{variables-append, kept_first, kept_second}
 use Rattle.built_forms.specs.IntegerForms.{is_integer}
-use Rattle.built_forms.specs.BuiltForms.{unless, or_else, statement_outside, body_outside, part_outside, arms_outside, integer_labels}
+use Rattle.built_forms.specs.BuiltForms.{unless, statement_outside, body_outside, part_outside, arms_outside, integer_labels}
 use Rattle.built_forms.proofs.Declaring.{AreIntegers, no_integers, more_integers, declared, called, allocated}
 use Rattle.built_forms.proofs.Layers.{outside-If, outside-While, outside-Do, outside-For, outside-Switch, outside-Block}
 use Rattle.built_forms.proofs.Lines.{first_none}
 use Rattle.built_forms.proofs.Moves.{AreOfMain, both_of_main, Moves, nothing_moves, number_moves, then_moves, numbered_moves, opened_moves, closed_moves, standing_moves, phrase_moves, declaration_moves, target_moves, count_both}
-use Rattle.built_forms.proofs.Options.{collected_some}
 
 module _ (raw : RawProgram) (vars : List Var) where
   -- a statement in the tree and as phrases
@@ -91,12 +91,12 @@ module _ (raw : RawProgram) (vars : List Var) where
   list_integers [] scope stand xs e none kept = no_integers vars scope.variables scope.variables refl
   list_integers (k ∷ ks) scope stand xs e none kept =
       let next = (scoped raw k.0).after scope in
-      let z = collected_some ((treed raw k.0).gives scope) (in_order (trees ks) ((treed raw k.0).after scope)) xs e in
-      let free = first_none (statement_outside vars z.0) (body_outside vars z.1) (ap (body_outside vars) (sym z.4) ∙ none) in
-      let rest : collected (in_order (trees ks) next) ≡ Some z.1 = ap (λ (y : Scope). collected (in_order (trees ks) y)) (sym (k.1.moves.same scope)) ∙ z.3 in
+      let z = more_there ((treed raw k.0).gives scope) (in_order (trees ks) ((treed raw k.0).after scope)) xs e in
+      let free = first_none (statement_outside vars z.first) (body_outside vars z.rest) (ap (body_outside vars) z.same ∙ none) in
+      let rest : collected (in_order (trees ks) next) ≡ Some z.rest = ap (λ (y : Scope). collected (in_order (trees ks) y)) (sym (k.1.moves.same scope)) ∙ z.rest_there in
       more_integers vars scope.variables next.variables (after_all (texts ks) next).variables
-      (k.1.integers scope stand z.0 z.2 free.0 (kept_first raw ((scoped raw k.0).gives scope stand) (list_phrases ks next stand) kept))
-      (list_integers ks next stand z.1 rest free.1 (kept_second raw ((scoped raw k.0).gives scope stand) (list_phrases ks next stand) kept))
+      (k.1.integers scope stand z.first z.first_there free.0 (kept_first raw ((scoped raw k.0).gives scope stand) (list_phrases ks next stand) kept))
+      (list_integers ks next stand z.rest rest free.1 (kept_second raw ((scoped raw k.0).gives scope stand) (list_phrases ks next stand) kept))
 
   -- a block of its own
   block_moves : (ks : List Known) → Moves raw (after_block (trees ks)) (after_block (texts ks)) (λ scope stand. block_phrases (texts ks) scope)
@@ -120,11 +120,11 @@ module _ (raw : RawProgram) (vars : List Var) where
   arms_integers (k ∷ ks) scope t xs e none kept =
       let next = (scoped_of_arm raw k.0).after scope in
       let own = ((scoped_of_arm raw k.0).gives scope).phrases in
-      let z = collected_some ((treed_arm raw k.0).gives scope t) (map (λ (a : ArmTree). a t) (in_order (arm_trees ks) ((treed_arm raw k.0).after scope))) xs e in
-      let free = first_none (body_outside vars z.0.body) (arms_outside vars z.1) (ap (arms_outside vars) (sym z.4) ∙ none) in
-      let rest : at_type t (in_order (arm_trees ks) next) ≡ Some z.1 = ap (λ (y : Scope). at_type t (in_order (arm_trees ks) y)) (sym (k.1.moves.same scope)) ∙ z.3 in
-      more_integers vars scope.variables next.variables (after_all (arm_texts ks) next).variables (k.1.integers scope t z.0 z.2 free.0 (kept_first raw own (arms_phrases ks next InArm) kept))
-      (arms_integers ks next t z.1 rest free.1 (kept_second raw own (arms_phrases ks next InArm) kept))
+      let z = more_there ((treed_arm raw k.0).gives scope t) (map (λ (a : ArmTree). a t) (in_order (arm_trees ks) ((treed_arm raw k.0).after scope))) xs e in
+      let free = first_none (body_outside vars z.first.body) (arms_outside vars z.rest) (ap (arms_outside vars) z.same ∙ none) in
+      let rest : at_type t (in_order (arm_trees ks) next) ≡ Some z.rest = ap (λ (y : Scope). at_type t (in_order (arm_trees ks) y)) (sym (k.1.moves.same scope)) ∙ z.rest_there in
+      more_integers vars scope.variables next.variables (after_all (arm_texts ks) next).variables (k.1.integers scope t z.first z.first_there free.0 (kept_first raw own (arms_phrases ks next InArm) kept))
+      (arms_integers ks next t z.rest rest free.1 (kept_second raw own (arms_phrases ks next InArm) kept))
 
   arms_block_moves : (ks : List KnownArm) → Moves raw (after_block (arm_trees ks)) (after_block (arm_texts ks)) (λ scope stand. arms_phrases ks (opened scope) stand)
   arms_block_moves ks =
@@ -134,7 +134,7 @@ module _ (raw : RawProgram) (vars : List Var) where
   -- ---- a test in front of blocks
 
   -- the line of a test is none, and nor is that of what stands behind it
-  behind_test : (x y : Statement) (t : Option ℕ) (o : Option ℕ) → x ≡ y → statement_outside vars y ≡ or_else t o → statement_outside vars x ≡ None → o ≡ None
+  behind_test : (x y : Statement) (t : Option ℕ) (o : Option ℕ) → x ≡ y → statement_outside vars y ≡ option_or t o → statement_outside vars x ≡ None → o ≡ None
   behind_test x y t o is out none = (first_none t o (sym out ∙ ap (statement_outside vars) (sym is) ∙ none)).1
 
   -- ---- a for
@@ -207,19 +207,19 @@ module _ (raw : RawProgram) (vars : List Var) where
       let second = text_after i first in
       let third = text_after step second in
       let body = block_phrases (texts b) third in
-      let t = then_some (λ (y : Option Statement). option_and_then (λ (z : Expr). both (s.For scope.statements l y z) (part_given step (part_after i first)) (block_tree (trees b) (part_after step (part_after i first)))) (expr_of raw (part_after i first) test)) (part_given i first) x e in
-      let u = then_some (λ (z : Expr). both (s.For scope.statements l t.0 z) (part_given step (part_after i first)) (block_tree (trees b) (part_after step (part_after i first)))) (expr_of raw (part_after i first) test) x t.2 in
-      let k = both_some (s.For scope.statements l t.0 u.0) (part_given step (part_after i first)) (block_tree (trees b) (part_after step (part_after i first))) x u.2 in
-      let inside = behind_test x (s.For scope.statements l t.0 u.0 k.0 k.1) (unless (is_integer u.0) l) (or_else (part_outside vars t.0) (or_else (part_outside vars k.0) (body_outside vars k.1))) k.4 (outside-For vars scope.statements l t.0 u.0 k.0 k.1) none in
-      let free = first_none (part_outside vars t.0) (or_else (part_outside vars k.0) (body_outside vars k.1)) inside in
-      let more = first_none (part_outside vars k.0) (body_outside vars k.1) free.1 in
-      let at_step : part_given step second ≡ Some k.0 = ap (part_given step) (sym ((part_moves i).same first)) ∙ k.2 in
-      let at_body : block_tree (trees b) third ≡ Some k.1 = ap (block_tree (trees b)) (sym (ap (part_after step) ((part_moves i).same first) ∙ (part_moves step).same second)) ∙ k.3 in
+      let t = then_there (λ (y : Option Statement). option_and_then (λ (z : Expr). both (s.For scope.statements l y z) (part_given step (part_after i first)) (block_tree (trees b) (part_after step (part_after i first)))) (expr_of raw (part_after i first) test)) (part_given i first) x e in
+      let u = then_there (λ (z : Expr). both (s.For scope.statements l t.value z) (part_given step (part_after i first)) (block_tree (trees b) (part_after step (part_after i first)))) (expr_of raw (part_after i first) test) x t.same in
+      let k = both_there (s.For scope.statements l t.value u.value) (part_given step (part_after i first)) (block_tree (trees b) (part_after step (part_after i first))) x u.same in
+      let inside = behind_test x (s.For scope.statements l t.value u.value k.left k.right) (unless (is_integer u.value) l) (option_or (part_outside vars t.value) (option_or (part_outside vars k.left) (body_outside vars k.right))) (sym k.same) (outside-For vars scope.statements l t.value u.value k.left k.right) none in
+      let free = first_none (part_outside vars t.value) (option_or (part_outside vars k.left) (body_outside vars k.right)) inside in
+      let more = first_none (part_outside vars k.left) (body_outside vars k.right) free.1 in
+      let at_step : part_given step second ≡ Some k.left = ap (part_given step) (sym ((part_moves i).same first)) ∙ k.left_there in
+      let at_body : block_tree (trees b) third ≡ Some k.right = ap (block_tree (trees b)) (sym (ap (part_after step) ((part_moves i).same first) ∙ (part_moves step).same second)) ∙ k.right_there in
       let later = (kept_second raw (part_phrases i first InFor) (phrase l second (Tests test) ∷ turn_phrases step b second stand) kept).1 in
       more_integers vars scope.variables second.variables (turn_text step b second).variables
-      (part_integers i first InFor t.0 t.1 free.0 (kept_first raw (part_phrases i first InFor) (phrase l second (Tests test) ∷ turn_phrases step b second stand) kept))
-      (more_integers vars second.variables third.variables (turn_text step b second).variables (part_integers step second InBlock k.0 at_step more.0 (kept_first raw (part_phrases step second InBlock) body later))
-      (list_integers b (opened third) InBlock k.1 at_body more.1 (kept_second raw (part_phrases step second InBlock) body later)))
+      (part_integers i first InFor t.value t.there free.0 (kept_first raw (part_phrases i first InFor) (phrase l second (Tests test) ∷ turn_phrases step b second stand) kept))
+      (more_integers vars second.variables third.variables (turn_text step b second).variables (part_integers step second InBlock k.left at_step more.0 (kept_first raw (part_phrases step second InBlock) body later))
+      (list_integers b (opened third) InBlock k.right at_body more.1 (kept_second raw (part_phrases step second InBlock) body later)))
 
   -- ---- each form
 
@@ -251,31 +251,31 @@ module _ (raw : RawProgram) (vars : List Var) where
         let middle = after_block (texts a) (numbered scope) in
         let ps = block_phrases (texts a) (numbered scope) in
         let qs = block_phrases (texts b) middle in
-        let t = then_some (λ (z : Expr). both (s.If n l z) (block_tree (trees a) (numbered scope)) (block_tree (trees b) (after_block (trees a) (numbered scope)))) (expr_of raw scope test) x e in
-        let k = both_some (s.If n l t.0) (block_tree (trees a) (numbered scope)) (block_tree (trees b) (after_block (trees a) (numbered scope))) x t.2 in
-        let inside = behind_test x (s.If n l t.0 k.0 k.1) (unless (is_integer t.0) l) (or_else (body_outside vars k.0) (body_outside vars k.1)) k.4 (outside-If vars n l t.0 k.0 k.1) none in
-        let free = first_none (body_outside vars k.0) (body_outside vars k.1) inside in
-        let other : block_tree (trees b) middle ≡ Some k.1 = ap (block_tree (trees b)) (sym ((block_moves a).same (numbered scope))) ∙ k.3 in
-        more_integers vars scope.variables middle.variables (after_block (texts b) middle).variables (list_integers a (opened (numbered scope)) InBlock k.0 k.2 free.0 (kept_first raw ps qs kept.1))
-        (list_integers b (opened middle) InBlock k.1 other free.1 (kept_second raw ps qs kept.1));
+        let t = then_there (λ (z : Expr). both (s.If n l z) (block_tree (trees a) (numbered scope)) (block_tree (trees b) (after_block (trees a) (numbered scope)))) (expr_of raw scope test) x e in
+        let k = both_there (s.If n l t.value) (block_tree (trees a) (numbered scope)) (block_tree (trees b) (after_block (trees a) (numbered scope))) x t.same in
+        let inside = behind_test x (s.If n l t.value k.left k.right) (unless (is_integer t.value) l) (option_or (body_outside vars k.left) (body_outside vars k.right)) (sym k.same) (outside-If vars n l t.value k.left k.right) none in
+        let free = first_none (body_outside vars k.left) (body_outside vars k.right) inside in
+        let other : block_tree (trees b) middle ≡ Some k.right = ap (block_tree (trees b)) (sym ((block_moves a).same (numbered scope))) ∙ k.right_there in
+        more_integers vars scope.variables middle.variables (after_block (texts b) middle).variables (list_integers a (opened (numbered scope)) InBlock k.left k.left_there free.0 (kept_first raw ps qs kept.1))
+        (list_integers b (opened middle) InBlock k.right other free.1 (kept_second raw ps qs kept.1));
   }
 
   while_case : (l : ℕ) (test : RawExpr) (b : List Known) → Case (as_tree (layer_of (RawStatement-F.While l test b))) (as_text (layer_of (RawStatement-F.While l test b)))
   while_case l test b = record {
     moves = loop_moves l test b;
     integers = λ scope stand x e none kept.
-        let k = both_some (s.While scope.statements l) (expr_of raw scope test) (block_tree (trees b) (numbered scope)) x e in
-        let inside = behind_test x (s.While scope.statements l k.0 k.1) (unless (is_integer k.0) l) (body_outside vars k.1) k.4 (outside-While vars scope.statements l k.0 k.1) none in
-        list_integers b (opened (numbered scope)) InBlock k.1 k.3 inside kept.1;
+        let k = both_there (s.While scope.statements l) (expr_of raw scope test) (block_tree (trees b) (numbered scope)) x e in
+        let inside = behind_test x (s.While scope.statements l k.left k.right) (unless (is_integer k.left) l) (body_outside vars k.right) (sym k.same) (outside-While vars scope.statements l k.left k.right) none in
+        list_integers b (opened (numbered scope)) InBlock k.right k.right_there inside kept.1;
   }
 
   do_case : (l : ℕ) (test : RawExpr) (b : List Known) → Case (as_tree (layer_of (RawStatement-F.Do l test b))) (as_text (layer_of (RawStatement-F.Do l test b)))
   do_case l test b = record {
     moves = loop_moves l test b;
     integers = λ scope stand x e none kept.
-        let k = both_some (s.Do scope.statements l) (expr_of raw scope test) (block_tree (trees b) (numbered scope)) x e in
-        let inside = behind_test x (s.Do scope.statements l k.0 k.1) (unless (is_integer k.0) l) (body_outside vars k.1) k.4 (outside-Do vars scope.statements l k.0 k.1) none in
-        list_integers b (opened (numbered scope)) InBlock k.1 k.3 inside kept.1;
+        let k = both_there (s.Do scope.statements l) (expr_of raw scope test) (block_tree (trees b) (numbered scope)) x e in
+        let inside = behind_test x (s.Do scope.statements l k.left k.right) (unless (is_integer k.left) l) (body_outside vars k.right) (sym k.same) (outside-Do vars scope.statements l k.left k.right) none in
+        list_integers b (opened (numbered scope)) InBlock k.right k.right_there inside kept.1;
   }
 
   switch_case : (l : ℕ) (test : RawExpr) (arms : List KnownArm) → Case (as_tree (layer_of (RawStatement-F.Switch l test arms))) (as_text (layer_of (RawStatement-F.Switch l test arms)))
@@ -286,11 +286,11 @@ module _ (raw : RawProgram) (vars : List Var) where
         (numbered_moves raw (after_block (arm_trees arms)) (after_block (arm_texts arms)) (λ scope stand. arms_phrases arms (opened scope) stand) (arms_block_moves arms));
     integers = λ scope stand x e none kept.
         let n = scope.statements in
-        let t = then_some (λ (z : Expr). option_and_then (λ (k : IntType). option_map (s.Switch n l z) (at_type k (in_order (arm_trees arms) (opened (numbered scope))))) (switch_type raw scope test)) (expr_of raw scope test) x e in
-        let u = then_some (λ (k : IntType). option_map (s.Switch n l t.0) (at_type k (in_order (arm_trees arms) (opened (numbered scope))))) (switch_type raw scope test) x t.2 in
-        let k = map_some (s.Switch n l t.0) (at_type u.0 (in_order (arm_trees arms) (opened (numbered scope)))) x u.2 in
-        let inside = behind_test x (s.Switch n l t.0 k.0) (unless (is_integer t.0 && list_all integer_labels k.0) l) (arms_outside vars k.0) k.2 (outside-Switch vars n l t.0 k.0) none in
-        arms_integers arms (opened (numbered scope)) u.0 k.0 k.1 inside kept.1;
+        let t = then_there (λ (z : Expr). option_and_then (λ (k : IntType). option_map (s.Switch n l z) (at_type k (in_order (arm_trees arms) (opened (numbered scope))))) (switch_type raw scope test)) (expr_of raw scope test) x e in
+        let u = then_there (λ (k : IntType). option_map (s.Switch n l t.value) (at_type k (in_order (arm_trees arms) (opened (numbered scope))))) (switch_type raw scope test) x t.same in
+        let k = map_there (s.Switch n l t.value) (at_type u.value (in_order (arm_trees arms) (opened (numbered scope)))) x u.same in
+        let inside = behind_test x (s.Switch n l t.value k.value) (unless (is_integer t.value && list_all integer_labels k.value) l) (arms_outside vars k.value) (sym k.same) (outside-Switch vars n l t.value k.value) none in
+        arms_integers arms (opened (numbered scope)) u.value k.value k.there inside kept.1;
   }
 
   layer_case : (y : RawStatement-F Known KnownArm) → Case (as_tree (layer_of y)) (as_text (layer_of y))
@@ -322,8 +322,8 @@ module _ (raw : RawProgram) (vars : List Var) where
   layer_case (RawStatement-F.Block l b) = record {
     moves = block_moves b;
     integers = λ scope stand x e none kept.
-        let k = map_some (s.Block l) (block_tree (trees b) scope) x e in
-        list_integers b (opened scope) InBlock k.0 k.1 (sym (ap (statement_outside vars) k.2 ∙ outside-Block vars l k.0) ∙ none) kept;
+        let k = map_there (s.Block l) (block_tree (trees b) scope) x e in
+        list_integers b (opened scope) InBlock k.value k.there (sym (ap (statement_outside vars) (sym k.same) ∙ outside-Block vars l k.value) ∙ none) kept;
   }
   layer_case (RawStatement-F.Return l a) = record {
     moves = alone_moves l (λ scope stand. Returns a) (λ scope stand. refl);
@@ -334,8 +334,8 @@ module _ (raw : RawProgram) (vars : List Var) where
   arm_case y = record {
     moves = standing_moves raw (after_all (trees y.body)) (after_all (texts y.body)) (list_phrases y.body) InArm tt (list_moves y.body);
     integers = λ scope k a e none kept.
-        let z = both_some arm_tree (collected (map (label_tree raw scope k) y.labels)) (collected (in_order (trees y.body) scope)) a e in
-        list_integers y.body scope InArm z.1 z.3 (ap (λ (w : Arm). body_outside vars w.body) (sym z.4) ∙ none) kept;
+        let z = both_there arm_tree (collected (map (label_tree raw scope k) y.labels)) (collected (in_order (trees y.body) scope)) a e in
+        list_integers y.body scope InArm z.right z.right_there (ap (λ (w : Arm). body_outside vars w.body) z.same ∙ none) kept;
   }
 
   statement_case : (one : RawStatement) → Case (treed raw one) (scoped raw one)
@@ -365,13 +365,13 @@ module _ (raw : RawProgram) (vars : List Var) where
       let next = (scoped raw one).after scope in
       let later = body_phrases raw ss next in
       let c = statement_case one in
-      let m = collected_some ((treed raw one).gives scope) (in_order (map (treed raw) ss) ((treed raw one).after scope)) xs e in
-      let free = first_none (statement_outside vars m.0) (body_outside vars m.1) (ap (body_outside vars) (sym m.4) ∙ none) in
-      let rest : collected (in_order (map (treed raw) ss) next) ≡ Some m.1 = ap (λ (y : Scope). collected (in_order (map (treed raw) ss) y)) (sym (c.moves.same scope)) ∙ m.3 in
-      let d = body_declares ss next (c.moves.owner scope ∙ owned) m.1 rest free.1 (kept_second raw own later kept) in
+      let m = more_there ((treed raw one).gives scope) (in_order (map (treed raw) ss) ((treed raw one).after scope)) xs e in
+      let free = first_none (statement_outside vars m.first) (body_outside vars m.rest) (ap (body_outside vars) m.same ∙ none) in
+      let rest : collected (in_order (map (treed raw) ss) next) ≡ Some m.rest = ap (λ (y : Scope). collected (in_order (map (treed raw) ss) y)) (sym (c.moves.same scope)) ∙ m.rest_there in
+      let d = body_declares ss next (c.moves.owner scope ∙ owned) m.rest rest free.1 (kept_second raw own later kept) in
       record {
         of_main = subst AreOfMain (sym (variables-append raw own later)) (both_of_main (variables_in raw own) (variables_in raw later) (c.moves.of_main scope InBlock tt owned) d.of_main);
         count = omega (arith, c.moves.count scope InBlock, d.count, count_both raw own later);
         functions = d.functions ∙ c.moves.functions scope;
-        integers = more_integers vars scope.variables next.variables (after_body raw ss next).variables (c.integers scope InBlock m.0 m.2 free.0 (kept_first raw own later kept)) d.integers;
+        integers = more_integers vars scope.variables next.variables (after_body raw ss next).variables (c.integers scope InBlock m.first m.first_there free.0 (kept_first raw own later kept)) d.integers;
       }

@@ -24,8 +24,8 @@ use Rattle.c_language.specs.ProgramOf.{init_of, declaration_id, args_tree, only_
 use Rattle.c_language.specs.Rules.{result, AreKept}
 use Rattle.c_language.specs.CallRules.{library, IsStored}
 use Rattle.c_language.specs.Scopes.{Scope, with_variable, with_target, begun}
-use Rattle.c_language.specs.Uses.{is_one_of}
-use Rattle.c_language.proofs.Options.{none_there, map_some}
+use Rattle.c_language.specs.Uses.{is_among}
+use Rattle.c_language.proofs.Options.{none_there, map_there}
 use Rattle.c_language.proofs.ScopeNumbers.{begun_variables}
 use Rattle.built_forms.specs.IntegerForms.{integer_init}
 use Rattle.built_forms.specs.BuiltForms.{is_integer_variable, unless, statement_outside}
@@ -61,14 +61,14 @@ module _ (raw : RawProgram) (vars : List Var) where
       → statement_outside vars x ≡ None → AreIntegers vars scope.variables (begun i (with_variable raw var i scope)).variables
   declared l var i scope x e none =
       let id = declaration_id i scope.statements in
-      let m = map_some (s.Declare id l scope.variables) (init_of raw (with_variable raw var i scope) i) x e in
-      let tests : unless (is_integer_variable vars scope.variables && integer_init m.0) l ≡ None = sym (outside-Declare vars id l scope.variables m.0) ∙ ap (statement_outside vars) (sym m.2) ∙ none in
-      one_integer vars scope.variables _ (begun_variables i (with_variable raw var i scope)) (and_parts (is_integer_variable vars scope.variables) (integer_init m.0) (unless_none _ l tests)).0
+      let m = map_there (s.Declare id l scope.variables) (init_of raw (with_variable raw var i scope) i) x e in
+      let tests : unless (is_integer_variable vars scope.variables && integer_init m.value) l ≡ None = sym (outside-Declare vars id l scope.variables m.value) ∙ ap (statement_outside vars) m.same ∙ none in
+      one_integer vars scope.variables _ (begun_variables i (with_variable raw var i scope)) (and_parts (is_integer_variable vars scope.variables) (integer_init m.value) (unless_none _ l tests)).0
 
   -- ---- calls
 
   -- a call of the library that gives no result declares nothing
-  without : (l : ℕ) (scope : Scope) (stand : Stand) (to : RawTarget) (f : Bytes) (args : List RawArg) → is_one_of without_result f ≡ true
+  without : (l : ℕ) (scope : Scope) (stand : Stand) (to : RawTarget) (f : Bytes) (args : List RawArg) → is_among without_result f ≡ true
       → AreKept raw (target_phrases raw l scope stand to ++ (phrase l (with_target raw to scope) (Calls stand to f args) ∷ []))
       → AreIntegers vars scope.variables (with_target raw to scope).variables
   without l scope stand target.None f args is kept = no_integers vars scope.variables scope.variables refl
@@ -90,8 +90,8 @@ module _ (raw : RawProgram) (vars : List Var) where
           else invoke_tree raw (with_target raw to scope) scope.statements l (target_tree raw scope to) f args)))) ≡ Some x
           → AreIntegers vars scope.variables (with_target raw to scope).variables
       by_name true p q r writes prints e = not_outside l _ x (always_map (IsOutside l) (s.Fetch scope.statements l) _ (outside-Fetch vars scope.statements l)) e none
-      by_name false true q r writes prints e = without l scope stand to f args (ap (is_one_of without_result) (writes refl)) kept
-      by_name false false true r writes prints e = without l scope stand to f args (ap (is_one_of without_result) (prints refl)) kept
+      by_name false true q r writes prints e = without l scope stand to f args (ap (is_among without_result) (writes refl)) kept
+      by_name false false true r writes prints e = without l scope stand to f args (ap (is_among without_result) (prints refl)) kept
       by_name false false false true writes prints e = not_outside l _ x (always_map (IsOutside l) (s.Release scope.statements l) _ (outside-Release vars scope.statements l)) e none
       by_name false false false false writes prints e =
           not_outside l _ x

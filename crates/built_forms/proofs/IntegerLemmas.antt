@@ -1,23 +1,21 @@
 -- A statement of the built forms is over integers.
 use Rattle.std.proofs.Common.{◌≡◌, ℕ, List, [], ◌∷◌, map, Bool, true, Option, Some, None, refl, sym, ◌∙◌, subst}
 use Rattle.std.specs.Prelude.{◌&&◌}
+use Rattle.std.specs.Option.{option_or}
 use Rattle.std.specs.List.{list_all}
 use Rattle.std.proofs.lemmas.Bool.{and_parts, and_from}
 use Rattle.c_tree.specs.declared.program.Var.{Var}
 use Rattle.c_tree.specs.declared.expr.Expr.{Expr}
-use Rattle.c_tree.specs.declared.statement.Arm.{Arm, roll-Arm, map-Arm, fold-Arm, fold-roll-Arm}
+use Rattle.c_tree.specs.declared.statement.Arm.{Arm, roll-Arm, map-Arm, fold-roll-Arm}
 use Rattle.c_tree.specs.declared.statement.Statement.{Statement, ind-Statement, roll-Statement, map-Statement, fold-roll-Statement}
 use Rattle.c_tree.specs.declared.statement.Statement.TheOpen.{Statement-F, Arm-F}
 use Rattle.c_language.proofs.Options.{none_there}
 use Rattle.built_forms.specs.IntegerForms as integer
-use Rattle.built_forms.specs.IntegerForms.{is_integer, are_integers, is_name, integer_init, integer_value, integer_label, is_integer_statement}
-use Rattle.built_forms.specs.BuiltForms.{is_integer_variable, unless, or_else, first_of, ArmOutside, labels_of_arms, first_of_arms, statement_step, arm_step, statement_outside, body_outside}
+use Rattle.built_forms.specs.IntegerForms.{is_integer, are_integers, is_name, integer_init, integer_value, integer_label, is_integer_statement, is_integer_arm}
+use Rattle.built_forms.specs.BuiltForms.{is_integer_variable, unless, first_line, ArmOutside, labels_of_arms, first_of_arms, statement_step, arm_step, statement_outside, body_outside}
 use Rattle.built_forms.proofs.Layers.{outside_of_arm}
 use Rattle.built_forms.proofs.Lines.{first_none, unless_none}
 use Rattle.c_language.specs.Lists.{all_true}
-
-abbrev is_integer_arm : Arm → Bool
-is_integer_arm = fold-Arm Bool Bool integer.statement_step integer.arm_step
 
 module _ (vars : List Var) where
   abbrev Of : Statement → Type 0
@@ -47,10 +45,10 @@ module _ (vars : List Var) where
   abbrev bare_arms : List KnownArm → List Arm
   bare_arms = map (λ (a : KnownArm). a.0)
 
-  each : (b : List Known) → first_of (map (statement_outside vars) (bare b)) ≡ None → all_true (map is_integer_statement (bare b)) ≡ true
+  each : (b : List Known) → first_line (map (statement_outside vars) (bare b)) ≡ None → all_true (map is_integer_statement (bare b)) ≡ true
   each [] h = refl
   each (x ∷ b) h =
-      let w = first_none (statement_outside vars x.0) (first_of (map (statement_outside vars) (bare b))) h in
+      let w = first_none (statement_outside vars x.0) (first_line (map (statement_outside vars) (bare b))) h in
       and_from (is_integer_statement x.0) (all_true (map is_integer_statement (bare b))) (x.1 w.0) (each b w.1)
 
   each_arm : (b : List KnownArm) → labels_of_arms (map (outside_of_arm vars) (bare_arms b)) ≡ true → first_of_arms (map (outside_of_arm vars) (bare_arms b)) ≡ None → all_true (map is_integer_arm (bare_arms b)) ≡ true
@@ -67,9 +65,9 @@ module _ (vars : List Var) where
   layer_test y = integer.statement_step (map-Statement Statement Arm Bool Bool is_integer_statement is_integer_arm y)
 
   -- a test, and a list behind it
-  tested : (e : Expr) (l : ℕ) (b : List Known) → or_else (unless (is_integer e) l) (first_of (map (statement_outside vars) (bare b))) ≡ None → (is_integer e && all_true (map is_integer_statement (bare b))) ≡ true
+  tested : (e : Expr) (l : ℕ) (b : List Known) → option_or (unless (is_integer e) l) (first_line (map (statement_outside vars) (bare b))) ≡ None → (is_integer e && all_true (map is_integer_statement (bare b))) ≡ true
   tested e l b h =
-      let w = first_none (unless (is_integer e) l) (first_of (map (statement_outside vars) (bare b))) h in
+      let w = first_none (unless (is_integer e) l) (first_line (map (statement_outside vars) (bare b))) h in
       and_from (is_integer e) (all_true (map is_integer_statement (bare b))) (unless_none (is_integer e) l w.0) (each b w.1)
 
   of_layer : (y : Statement-F Known KnownArm) → layer_line (layer y) ≡ None → layer_test (layer y) ≡ true
@@ -83,27 +81,27 @@ module _ (vars : List Var) where
   of_layer (Statement-F.Heap id l to cast n) h = none_there (sym h)
   of_layer (Statement-F.Release id l e) h = none_there (sym h)
   of_layer (Statement-F.If id l e a b) h =
-      let w = first_none (unless (is_integer e) l) (or_else (first_of (map (statement_outside vars) (bare a))) (first_of (map (statement_outside vars) (bare b)))) h in
-      let v = first_none (first_of (map (statement_outside vars) (bare a))) (first_of (map (statement_outside vars) (bare b))) w.1 in
+      let w = first_none (unless (is_integer e) l) (option_or (first_line (map (statement_outside vars) (bare a))) (first_line (map (statement_outside vars) (bare b)))) h in
+      let v = first_none (first_line (map (statement_outside vars) (bare a))) (first_line (map (statement_outside vars) (bare b))) w.1 in
       and_from (is_integer e) (all_true (map is_integer_statement (bare a)) && all_true (map is_integer_statement (bare b))) (unless_none (is_integer e) l w.0)
       (and_from (all_true (map is_integer_statement (bare a))) (all_true (map is_integer_statement (bare b))) (each a v.0) (each b v.1))
   of_layer (Statement-F.While id l e b) h = tested e l b h
   of_layer (Statement-F.Do id l e b) h = tested e l b h
   of_layer (Statement-F.For id l None e None b) h = tested e l b h
   of_layer (Statement-F.For id l None e (Some k) b) h =
-      let w = first_none (unless (is_integer e) l) (or_else (statement_outside vars k.0) (first_of (map (statement_outside vars) (bare b)))) h in
-      let v = first_none (statement_outside vars k.0) (first_of (map (statement_outside vars) (bare b))) w.1 in
+      let w = first_none (unless (is_integer e) l) (option_or (statement_outside vars k.0) (first_line (map (statement_outside vars) (bare b)))) h in
+      let v = first_none (statement_outside vars k.0) (first_line (map (statement_outside vars) (bare b))) w.1 in
       and_from (is_integer e) (is_integer_statement k.0 && all_true (map is_integer_statement (bare b))) (unless_none (is_integer e) l w.0)
       (and_from (is_integer_statement k.0) (all_true (map is_integer_statement (bare b))) (k.1 v.0) (each b v.1))
   of_layer (Statement-F.For id l (Some i) e None b) h =
-      let w = first_none (unless (is_integer e) l) (or_else (statement_outside vars i.0) (first_of (map (statement_outside vars) (bare b)))) h in
-      let v = first_none (statement_outside vars i.0) (first_of (map (statement_outside vars) (bare b))) w.1 in
+      let w = first_none (unless (is_integer e) l) (option_or (statement_outside vars i.0) (first_line (map (statement_outside vars) (bare b)))) h in
+      let v = first_none (statement_outside vars i.0) (first_line (map (statement_outside vars) (bare b))) w.1 in
       and_from (is_integer_statement i.0) (is_integer e && all_true (map is_integer_statement (bare b))) (i.1 v.0)
       (and_from (is_integer e) (all_true (map is_integer_statement (bare b))) (unless_none (is_integer e) l w.0) (each b v.1))
   of_layer (Statement-F.For id l (Some i) e (Some k) b) h =
-      let w = first_none (unless (is_integer e) l) (or_else (statement_outside vars i.0) (or_else (statement_outside vars k.0) (first_of (map (statement_outside vars) (bare b))))) h in
-      let v = first_none (statement_outside vars i.0) (or_else (statement_outside vars k.0) (first_of (map (statement_outside vars) (bare b)))) w.1 in
-      let u = first_none (statement_outside vars k.0) (first_of (map (statement_outside vars) (bare b))) v.1 in
+      let w = first_none (unless (is_integer e) l) (option_or (statement_outside vars i.0) (option_or (statement_outside vars k.0) (first_line (map (statement_outside vars) (bare b))))) h in
+      let v = first_none (statement_outside vars i.0) (option_or (statement_outside vars k.0) (first_line (map (statement_outside vars) (bare b)))) w.1 in
+      let u = first_none (statement_outside vars k.0) (first_line (map (statement_outside vars) (bare b))) v.1 in
       and_from (is_integer_statement i.0) (is_integer e && (is_integer_statement k.0 && all_true (map is_integer_statement (bare b)))) (i.1 v.0)
       (and_from (is_integer e) (is_integer_statement k.0 && all_true (map is_integer_statement (bare b))) (unless_none (is_integer e) l w.0)
       (and_from (is_integer_statement k.0) (all_true (map is_integer_statement (bare b))) (k.1 u.0) (each b u.1)))

@@ -1,6 +1,7 @@
 -- What the tests of the built forms give, a line a form.
 use Rattle.std.proofs.Common.{◌≡◌, ℕ, List, [], ◌∷◌, map, Bool, true, false, Option, Some, None, refl, sym, ap, ◌∙◌}
 use Rattle.std.specs.Prelude.{◌&&◌}
+use Rattle.std.specs.Option.{option_or}
 use Rattle.std.specs.List.{list_all}
 use Rattle.c_arith.specs.declared.int_type.IntType.{IntType}
 use Rattle.c_arith.specs.declared.operators.UnaryOp.{UnaryOp}
@@ -22,7 +23,7 @@ use Rattle.c_tree.specs.declared.statement.Statement.TheOpen.{Statement-F}
 use Rattle.c_tree.specs.declared.statement.Statement.TheVariants as s
 use Rattle.c_language.specs.Words.{Bytes}
 use Rattle.built_forms.specs.IntegerForms.{integer_step, is_integer, are_integers, name_step, is_name, integer_init, integer_value}
-use Rattle.built_forms.specs.BuiltForms.{type_step, is_integer_type, is_integer_variable, unless, or_else, first_of, ArmOutside, labels_of_arms, first_of_arms, statement_step, arm_step, statement_outside, body_outside, part_outside, arms_outside, integer_labels}
+use Rattle.built_forms.specs.BuiltForms.{type_step, is_integer_type, is_integer_variable, unless, first_line, ArmOutside, labels_of_arms, first_of_arms, statement_step, arm_step, statement_outside, body_outside, part_outside, arms_outside, integer_labels}
 
 -- ---- expressions
 
@@ -151,9 +152,9 @@ module _ (vars : List Var) where
   abbrev pub outside_of_arm : Arm → ArmOutside
   outside_of_arm = fold-Arm (Option ℕ) ArmOutside (statement_step vars) arm_step
 
-  pub first_mapped : (xs : List Statement) → first_of (map (statement_outside vars) xs) ≡ body_outside vars xs
+  pub first_mapped : (xs : List Statement) → first_line (map (statement_outside vars) xs) ≡ body_outside vars xs
   first_mapped [] = refl
-  first_mapped (x ∷ xs) = ap (or_else (statement_outside vars x)) (first_mapped xs)
+  first_mapped (x ∷ xs) = ap (option_or (statement_outside vars x)) (first_mapped xs)
 
   labels_mapped : (arms : List Arm) → labels_of_arms (map outside_of_arm arms) ≡ list_all integer_labels arms
   labels_mapped [] = refl
@@ -162,9 +163,9 @@ module _ (vars : List Var) where
   arms_mapped : (arms : List Arm) → first_of_arms (map outside_of_arm arms) ≡ arms_outside vars arms
   arms_mapped [] = refl
   arms_mapped (a ∷ arms) =
-      ap (λ (o : ArmOutside). or_else o.first (first_of_arms (map outside_of_arm arms))) (fold_out-Arm (Option ℕ) ArmOutside (statement_step vars) arm_step a)
-      ∙ ap (λ o. or_else o (first_of_arms (map outside_of_arm arms))) (first_mapped a.body)
-      ∙ ap (or_else (body_outside vars a.body)) (arms_mapped arms)
+      ap (λ (o : ArmOutside). option_or o.first (first_of_arms (map outside_of_arm arms))) (fold_out-Arm (Option ℕ) ArmOutside (statement_step vars) arm_step a)
+      ∙ ap (λ o. option_or o (first_of_arms (map outside_of_arm arms))) (first_mapped a.body)
+      ∙ ap (option_or (body_outside vars a.body)) (arms_mapped arms)
 
   pub outside-Declare : (id : Option ℕ) (l x : ℕ) (i : Init) → statement_outside vars (s.Declare id l x i) ≡ unless (is_integer_variable vars x && integer_init i) l
   outside-Declare id l x i = ap (statement_outside vars) (sym (s.rolls-Declare id l x i)) ∙ fold-roll-Statement (Option ℕ) ArmOutside (statement_step vars) arm_step (Statement-F.Declare id l x i)
@@ -193,17 +194,17 @@ module _ (vars : List Var) where
   pub outside-Release : (id l : ℕ) (a : Expr) → statement_outside vars (s.Release id l a) ≡ Some l
   outside-Release id l a = ap (statement_outside vars) (sym (s.rolls-Release id l a)) ∙ fold-roll-Statement (Option ℕ) ArmOutside (statement_step vars) arm_step (Statement-F.Release id l a)
 
-  pub outside-If : (id l : ℕ) (t : Expr) (a b : List Statement) → statement_outside vars (s.If id l t a b) ≡ or_else (unless (is_integer t) l) (or_else (body_outside vars a) (body_outside vars b))
-  outside-If id l t a b = ap (statement_outside vars) (sym (s.rolls-If id l t a b)) ∙ fold-roll-Statement (Option ℕ) ArmOutside (statement_step vars) arm_step (Statement-F.If id l t a b) ∙ ap (λ o. or_else (unless (is_integer t) l) (or_else o (first_of (map (statement_outside vars) b)))) (first_mapped a) ∙ ap (λ o. or_else (unless (is_integer t) l) (or_else (body_outside vars a) o)) (first_mapped b)
+  pub outside-If : (id l : ℕ) (t : Expr) (a b : List Statement) → statement_outside vars (s.If id l t a b) ≡ option_or (unless (is_integer t) l) (option_or (body_outside vars a) (body_outside vars b))
+  outside-If id l t a b = ap (statement_outside vars) (sym (s.rolls-If id l t a b)) ∙ fold-roll-Statement (Option ℕ) ArmOutside (statement_step vars) arm_step (Statement-F.If id l t a b) ∙ ap (λ o. option_or (unless (is_integer t) l) (option_or o (first_line (map (statement_outside vars) b)))) (first_mapped a) ∙ ap (λ o. option_or (unless (is_integer t) l) (option_or (body_outside vars a) o)) (first_mapped b)
 
-  pub outside-While : (id l : ℕ) (t : Expr) (b : List Statement) → statement_outside vars (s.While id l t b) ≡ or_else (unless (is_integer t) l) (body_outside vars b)
-  outside-While id l t b = ap (statement_outside vars) (sym (s.rolls-While id l t b)) ∙ fold-roll-Statement (Option ℕ) ArmOutside (statement_step vars) arm_step (Statement-F.While id l t b) ∙ ap (or_else (unless (is_integer t) l)) (first_mapped b)
+  pub outside-While : (id l : ℕ) (t : Expr) (b : List Statement) → statement_outside vars (s.While id l t b) ≡ option_or (unless (is_integer t) l) (body_outside vars b)
+  outside-While id l t b = ap (statement_outside vars) (sym (s.rolls-While id l t b)) ∙ fold-roll-Statement (Option ℕ) ArmOutside (statement_step vars) arm_step (Statement-F.While id l t b) ∙ ap (option_or (unless (is_integer t) l)) (first_mapped b)
 
-  pub outside-Do : (id l : ℕ) (t : Expr) (b : List Statement) → statement_outside vars (s.Do id l t b) ≡ or_else (unless (is_integer t) l) (body_outside vars b)
-  outside-Do id l t b = ap (statement_outside vars) (sym (s.rolls-Do id l t b)) ∙ fold-roll-Statement (Option ℕ) ArmOutside (statement_step vars) arm_step (Statement-F.Do id l t b) ∙ ap (or_else (unless (is_integer t) l)) (first_mapped b)
+  pub outside-Do : (id l : ℕ) (t : Expr) (b : List Statement) → statement_outside vars (s.Do id l t b) ≡ option_or (unless (is_integer t) l) (body_outside vars b)
+  outside-Do id l t b = ap (statement_outside vars) (sym (s.rolls-Do id l t b)) ∙ fold-roll-Statement (Option ℕ) ArmOutside (statement_step vars) arm_step (Statement-F.Do id l t b) ∙ ap (option_or (unless (is_integer t) l)) (first_mapped b)
 
-  pub outside-Switch : (id l : ℕ) (t : Expr) (arms : List Arm) → statement_outside vars (s.Switch id l t arms) ≡ or_else (unless (is_integer t && list_all integer_labels arms) l) (arms_outside vars arms)
-  outside-Switch id l t arms = ap (statement_outside vars) (sym (s.rolls-Switch id l t arms)) ∙ fold-roll-Statement (Option ℕ) ArmOutside (statement_step vars) arm_step (Statement-F.Switch id l t arms) ∙ ap (λ b. or_else (unless (is_integer t && b) l) (first_of_arms (map outside_of_arm arms))) (labels_mapped arms) ∙ ap (or_else (unless (is_integer t && list_all integer_labels arms) l)) (arms_mapped arms)
+  pub outside-Switch : (id l : ℕ) (t : Expr) (arms : List Arm) → statement_outside vars (s.Switch id l t arms) ≡ option_or (unless (is_integer t && list_all integer_labels arms) l) (arms_outside vars arms)
+  outside-Switch id l t arms = ap (statement_outside vars) (sym (s.rolls-Switch id l t arms)) ∙ fold-roll-Statement (Option ℕ) ArmOutside (statement_step vars) arm_step (Statement-F.Switch id l t arms) ∙ ap (λ b. option_or (unless (is_integer t && b) l) (first_of_arms (map outside_of_arm arms))) (labels_mapped arms) ∙ ap (option_or (unless (is_integer t && list_all integer_labels arms) l)) (arms_mapped arms)
 
   pub outside-Block : (l : ℕ) (b : List Statement) → statement_outside vars (s.Block l b) ≡ body_outside vars b
   outside-Block l b = ap (statement_outside vars) (sym (s.rolls-Block l b)) ∙ fold-roll-Statement (Option ℕ) ArmOutside (statement_step vars) arm_step (Statement-F.Block l b) ∙ first_mapped b
@@ -212,11 +213,11 @@ module _ (vars : List Var) where
   outside-Return id l value = ap (statement_outside vars) (sym (s.rolls-Return id l value)) ∙ fold-roll-Statement (Option ℕ) ArmOutside (statement_step vars) arm_step (Statement-F.Return id l value)
 
   pub outside-For : (id l : ℕ) (i : Option Statement) (t : Expr) (step : Option Statement) (b : List Statement)
-      → statement_outside vars (s.For id l i t step b) ≡ or_else (unless (is_integer t) l) (or_else (part_outside vars i) (or_else (part_outside vars step) (body_outside vars b)))
-  outside-For id l None t None b = ap (statement_outside vars) (sym (s.rolls-For id l None t None b)) ∙ fold-roll-Statement (Option ℕ) ArmOutside (statement_step vars) arm_step (Statement-F.For id l None t None b) ∙ ap (λ o. or_else (unless (is_integer t) l) (or_else (part_outside vars None) (or_else (part_outside vars None) o))) (first_mapped b)
-  outside-For id l None t (Some k) b = ap (statement_outside vars) (sym (s.rolls-For id l None t (Some k) b)) ∙ fold-roll-Statement (Option ℕ) ArmOutside (statement_step vars) arm_step (Statement-F.For id l None t (Some k) b) ∙ ap (λ o. or_else (unless (is_integer t) l) (or_else (part_outside vars None) (or_else (part_outside vars (Some k)) o))) (first_mapped b)
-  outside-For id l (Some i) t None b = ap (statement_outside vars) (sym (s.rolls-For id l (Some i) t None b)) ∙ fold-roll-Statement (Option ℕ) ArmOutside (statement_step vars) arm_step (Statement-F.For id l (Some i) t None b) ∙ ap (λ o. or_else (unless (is_integer t) l) (or_else (part_outside vars (Some i)) (or_else (part_outside vars None) o))) (first_mapped b)
-  outside-For id l (Some i) t (Some k) b = ap (statement_outside vars) (sym (s.rolls-For id l (Some i) t (Some k) b)) ∙ fold-roll-Statement (Option ℕ) ArmOutside (statement_step vars) arm_step (Statement-F.For id l (Some i) t (Some k) b) ∙ ap (λ o. or_else (unless (is_integer t) l) (or_else (part_outside vars (Some i)) (or_else (part_outside vars (Some k)) o))) (first_mapped b)
+      → statement_outside vars (s.For id l i t step b) ≡ option_or (unless (is_integer t) l) (option_or (part_outside vars i) (option_or (part_outside vars step) (body_outside vars b)))
+  outside-For id l None t None b = ap (statement_outside vars) (sym (s.rolls-For id l None t None b)) ∙ fold-roll-Statement (Option ℕ) ArmOutside (statement_step vars) arm_step (Statement-F.For id l None t None b) ∙ ap (λ o. option_or (unless (is_integer t) l) (option_or (part_outside vars None) (option_or (part_outside vars None) o))) (first_mapped b)
+  outside-For id l None t (Some k) b = ap (statement_outside vars) (sym (s.rolls-For id l None t (Some k) b)) ∙ fold-roll-Statement (Option ℕ) ArmOutside (statement_step vars) arm_step (Statement-F.For id l None t (Some k) b) ∙ ap (λ o. option_or (unless (is_integer t) l) (option_or (part_outside vars None) (option_or (part_outside vars (Some k)) o))) (first_mapped b)
+  outside-For id l (Some i) t None b = ap (statement_outside vars) (sym (s.rolls-For id l (Some i) t None b)) ∙ fold-roll-Statement (Option ℕ) ArmOutside (statement_step vars) arm_step (Statement-F.For id l (Some i) t None b) ∙ ap (λ o. option_or (unless (is_integer t) l) (option_or (part_outside vars (Some i)) (option_or (part_outside vars None) o))) (first_mapped b)
+  outside-For id l (Some i) t (Some k) b = ap (statement_outside vars) (sym (s.rolls-For id l (Some i) t (Some k) b)) ∙ fold-roll-Statement (Option ℕ) ArmOutside (statement_step vars) arm_step (Statement-F.For id l (Some i) t (Some k) b) ∙ ap (λ o. option_or (unless (is_integer t) l) (option_or (part_outside vars (Some i)) (option_or (part_outside vars (Some k)) o))) (first_mapped b)
 
 -- the forms without statements in them
 pub ruleset statements = (outside-Declare, outside-Assign, outside-Bump, outside-Invoke, outside-Fetch, outside-Write, outside-Print, outside-Heap, outside-Release, outside-Return)

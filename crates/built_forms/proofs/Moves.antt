@@ -11,7 +11,7 @@ use Rattle.c_tree.specs.declared.raw.statement.RawTarget.TheVariants as target
 use Rattle.c_language.specs.Phrases.{Stand, InFile, InHead, InBlock, InArm, InFor, Part, Phrases, phrase, declaration, target_phrases, IsInside}
 use Rattle.c_language.specs.ProgramOf.{variable_of, declared_by, variables_in}
 use Rattle.c_language.specs.Scopes.{Scope, opened, closed, numbered, with_variable, with_target, begun}
-use Rattle.c_language.proofs.Options.{map_some}
+use Rattle.c_language.proofs.Options.{map_there}
 use Rattle.c_language.proofs.PhraseLists.{variables-append}
 
 -- variables that are declared in main
@@ -117,9 +117,9 @@ module _ (raw : RawProgram) where
     local_of : (scope : Scope) (stand : Stand) (i : RawInit) → IsInside stand → scope.owner ≡ Some 0 → (v : Var) → variable_of raw l scope.owner stand var i ≡ Some v → (v.is_static ≡ false) × (v.owner ≡ Some 0) × (v.is_parameter ≡ false)
     local_of scope (InFile is_static) i inside owned v e = absurd inside
     local_of scope InHead i inside owned v e = absurd inside
-    local_of scope InBlock i inside owned v e = let m = map_some _ _ v e in (ap (λ (y : Var). y.is_static) m.2, ap (λ (y : Var). y.owner) m.2 ∙ owned, ap (λ (y : Var). y.is_parameter) m.2)
-    local_of scope InArm i inside owned v e = let m = map_some _ _ v e in (ap (λ (y : Var). y.is_static) m.2, ap (λ (y : Var). y.owner) m.2 ∙ owned, ap (λ (y : Var). y.is_parameter) m.2)
-    local_of scope InFor i inside owned v e = let m = map_some _ _ v e in (ap (λ (y : Var). y.is_static) m.2, ap (λ (y : Var). y.owner) m.2 ∙ owned, ap (λ (y : Var). y.is_parameter) m.2)
+    local_of scope InBlock i inside owned v e = let m = map_there _ _ v e in (ap (λ (y : Var). y.is_static) (sym m.same), ap (λ (y : Var). y.owner) (sym m.same) ∙ owned, ap (λ (y : Var). y.is_parameter) (sym m.same))
+    local_of scope InArm i inside owned v e = let m = map_there _ _ v e in (ap (λ (y : Var). y.is_static) (sym m.same), ap (λ (y : Var). y.owner) (sym m.same) ∙ owned, ap (λ (y : Var). y.is_parameter) (sym m.same))
+    local_of scope InFor i inside owned v e = let m = map_there _ _ v e in (ap (λ (y : Var). y.is_static) (sym m.same), ap (λ (y : Var). y.owner) (sym m.same) ∙ owned, ap (λ (y : Var). y.is_parameter) (sym m.same))
 
     pub declaration_moves : (i : RawInit) → Moves (λ scope. begun i (with_variable raw var i scope)) (λ scope. begun i (with_variable raw var i scope)) (λ scope stand. declaration raw l scope stand var i)
     declaration_moves init.None = record { same = λ scope. refl; owner = λ scope. refl; functions = λ scope. refl; count = λ scope stand. refl; of_main = λ scope stand inside owned. (local_of scope stand init.None inside owned, tt) }

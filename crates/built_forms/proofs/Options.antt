@@ -1,9 +1,7 @@
 -- Options that are made of others.
-use Rattle.std.proofs.Common.{◌≡◌, List, ◌∷◌, Bool, true, false, Option, Some, None, option_map, option_and_then, subst}
+use Rattle.std.proofs.Common.{◌≡◌, Bool, true, false, Option, Some, None, option_map, option_and_then, subst}
 use Rattle.std.specs.Prelude.{if◌then◌else◌}
 use Rattle.c_language.specs.ConstantEvaluation.{both}
-use Rattle.c_language.specs.ProgramOf.{collected}
-use Rattle.c_language.proofs.Options.{map_some, then_some}
 
 -- a value that is there has a property
 abbrev pub Always : {A : Type 0} → (A → Type 0) → Option A → Type 0
@@ -29,10 +27,3 @@ always_if P false o q h k = k
 
 pub always_is : {A : Type 0} (P : A → Type 0) (o : Option A) (x : A) → Always P o → o ≡ Some x → P x
 always_is P o x h e = subst (Always P) e h
-
--- a list of values that are there
-pub collected_some : {A : Type 0} (o : Option A) (os : List (Option A)) (ys : List A) → collected (o ∷ os) ≡ Some ys → (x : A) × (xs : List A) × (o ≡ Some x) × (collected os ≡ Some xs) × (ys ≡ x ∷ xs)
-collected_some o os ys e =
-    let a = then_some _ o ys e in
-    let b = map_some _ (collected os) ys a.2 in
-    (a.0, b.0, a.1, b.1, b.2)

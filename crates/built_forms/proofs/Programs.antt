@@ -5,7 +5,7 @@ use Rattle.std.specs.Option.{option_map_or}
 use Rattle.std.proofs.lemmas.List.Elements.{All-nil, All-cons}
 use Rattle.std.proofs.lemmas.Slice.Eq.{bytes_eq-Decides}
 use Rattle.std.proofs.lemmas.Option.{slice_get_within}
-use Rattle.c_language.proofs.ProgramParts.{IsMadeOf, made_of}
+use Rattle.c_language.proofs.ProgramParts.{IsMadeOf, made_of, IsFunctionOf, function_made}
 use Rattle.c_arith.specs.declared.int_type.IntType.{IntType}
 use Rattle.c_tree.specs.declared.types.CType.{CType, ind-CType, roll-CType, map-CType}
 use Rattle.c_tree.specs.declared.types.CType.TheOpen.{CType-F}
@@ -19,19 +19,17 @@ use Rattle.c_tree.specs.declared.raw.program.RawParam.{RawParam}
 use Rattle.c_tree.specs.declared.raw.program.RawProgram.{RawProgram}
 use Rattle.c_tree.specs.declared.raw.statement.RawStatement.{RawStatement}
 use Rattle.c_tree.specs.declared.statement.Statement.{Statement}
-use Rattle.c_language.specs.Words.{Bytes}
-use Rattle.c_language.specs.DeclaredTypes.{StructText, functions_of}
-use Rattle.c_language.specs.NameRules.{main_name, parameters}
-use Rattle.c_language.specs.Phrases.{Phrases, EndsFunction, phrase, phrases, item_phrases, items_phrases, after_item, body_phrases, after_body, head_phrases}
-use Rattle.c_language.specs.ProgramOf.{collected, ctype_if, body_of, parameter_ids, function_tree, struct_tree, variables_in, program_of}
-use Rattle.c_language.specs.Rules.{KeepsRules, by_phrase, no_main, main, AreKept}
+use Rattle.c_language.specs.DeclaredTypes.{StructText, function_texts}
+use Rattle.c_language.specs.NameRules.{main_name, is_main, parameters}
+use Rattle.c_language.specs.Phrases.{Phrases, EndsFunction, phrase, item_phrases, items_phrases, after_item, body_phrases, after_body, head_phrases}
+use Rattle.c_language.specs.ProgramOf.{collected, body_of, parameter_ids, function_tree, struct_tree, variables_in, program_of}
+use Rattle.c_language.specs.Rules.{KeepsRules, no_main, main, AreKept}
 use Rattle.c_language.specs.Scopes.{Scope, outset, with_parameters, entered, scope_of_parameters}
-use Rattle.c_language.proofs.Options.{none_there, some_same, both_some}
-use Rattle.c_language.proofs.PhraseLists.{variables-append, kept_first, kept_second, kept_from}
+use Rattle.c_language.proofs.Options.{none_there, some_same, more_there}
+use Rattle.c_language.proofs.PhraseLists.{variables-append, kept_first, kept_second, phrases_kept}
 use Rattle.built_forms.specs.IntegerForms.{IsIntegerLocal, IsIntegerMain}
-use Rattle.built_forms.specs.BuiltForms.{is_integer_type, is_integer_variable, body_outside, is_main, function_outside, not_yet}
+use Rattle.built_forms.specs.BuiltForms.{is_integer_type, is_integer_variable, body_outside, function_outside, not_yet}
 use Rattle.built_forms.proofs.Layers.{type-PointerTo, type-Array, type-Struct}
-use Rattle.built_forms.proofs.Options.{collected_some}
 use Rattle.built_forms.proofs.IntegerLemmas.{body_integers}
 use Rattle.built_forms.proofs.MainHeads.{no_parameters}
 use Rattle.built_forms.proofs.MainItems.{OnlyIncludes, behind_main, MainAt, main_at}
@@ -59,24 +57,21 @@ has_type =
 locals_of : (found : List (Option Var)) (vs : List Var) → collected found ≡ Some vs → AreOfMain found → ((k : ℕ) (v : Var) → slice_get vs k ≡ Some v → (t : IntType) × (v.shape ≡ type.Integer t)) → All IsIntegerLocal vs
 locals_of [] vs e h shaped = subst (All IsIntegerLocal) (some_same e) (All-nil IsIntegerLocal)
 locals_of (o ∷ found) vs e h shaped =
-    let m = collected_some o found vs e in
-    let own = h.0 m.0 m.2 in
-    let t = shaped 0 m.0 (ap (λ (ws : List Var). slice_get ws 0) m.4) in
-    let one : IsIntegerLocal m.0 = record { integer = t.0; shape_is = t.1; plain = own.0; of_main = own.1; local = own.2 } in
-    subst (All IsIntegerLocal) (sym m.4) (All-cons IsIntegerLocal m.0 m.1 one (locals_of found m.1 m.3 h.1 (λ k v is. shaped (suc k) v (ap (λ (ws : List Var). slice_get ws (suc k)) m.4 ∙ is))))
+    let m = more_there o found vs e in
+    let own = h.0 m.first m.first_there in
+    let t = shaped 0 m.first (ap (λ (ws : List Var). slice_get ws 0) (sym m.same)) in
+    let one : IsIntegerLocal m.first = record { integer = t.0; shape_is = t.1; plain = own.0; of_main = own.1; local = own.2 } in
+    subst (All IsIntegerLocal) m.same (All-cons IsIntegerLocal m.first m.rest one (locals_of found m.rest m.rest_there h.1 (λ k v is. shaped (suc k) v (ap (λ (ws : List Var). slice_get ws (suc k)) (sym m.same) ∙ is))))
 
 pub found_length : (found : List (Option Var)) (vs : List Var) → collected found ≡ Some vs → length vs ≡ length found
 found_length [] vs e = ap length (sym (some_same e))
-found_length (o ∷ found) vs e = let m = collected_some o found vs e in let k : length m.1 ≡ length found = found_length found m.1 m.3 in ap length m.4 ∙ ap suc k
+found_length (o ∷ found) vs e = let m = more_there o found vs e in let k : length m.rest ≡ length found = found_length found m.rest m.rest_there in ap length (sym m.same) ∙ ap suc k
 
 -- a variable that is there and tested to be of an integer type has one
 integer_variable : (vs : List Var) (k : ℕ) (v : Var) → slice_get vs k ≡ Some v → is_integer_variable vs k ≡ true → (t : IntType) × (v.shape ≡ type.Integer t)
 integer_variable vs k v is h = has_type v.shape (sym (ap (λ (o : Option Var). option_map_or (λ (w : Var). is_integer_type w.shape) o false) is) ∙ h)
 
 -- ---- the phrases of main
-
-abbrev function_with : Bytes → Option CType → List ℕ → List Statement → Bool → ℕ → Function
-function_with name result params body is_static line = record { name = name; result = result; params = params; body = body; is_static = is_static; line = line }
 
 main_inside : (b : Bool) (o : Option ℕ) (l : ℕ) → (if b then o else Some l) ≡ None → (b ≡ true) × (o ≡ None)
 main_inside true o l e = (refl, e)
@@ -112,17 +107,17 @@ module _ (raw : RawProgram) (line : ℕ) (head : RawHead) (body : List RawStatem
       ∙ append-nil (variables_in raw (body_phrases raw body begin))
 
   module _ (f : Function) (tree : function_tree raw line head body outset ≡ Some f) where
-    abbrev parts : (result : Option CType) × (statements : List Statement) × (ctype_if raw head.result ≡ Some result) × (body_of raw body (entered raw head outset) ≡ Some statements) × (f ≡ function_with head.name result (parameter_ids head.params 0) statements head.is_static line)
-    parts = both_some (λ (result : Option CType) (statements : List Statement). function_with head.name result (parameter_ids head.params 0) statements head.is_static line) (ctype_if raw head.result) (body_of raw body (entered raw head outset)) f tree
+    abbrev parts : IsFunctionOf raw line head body outset f
+    parts = function_made raw line head body outset f tree
 
     abbrev statements : List Statement
-    statements = parts.1
+    statements = parts.statements
 
     body_made : body_of raw body begin ≡ Some statements
-    body_made = ap (body_of raw body) (sym begins) ∙ parts.3
+    body_made = ap (body_of raw body) (sym begins) ∙ parts.statements_there
 
     takes_nothing : f.params ≡ []
-    takes_nothing = ap (λ (g : Function). g.params) parts.4 ∙ ap (λ (ps : List RawParam). parameter_ids ps 0) no_params
+    takes_nothing = ap (λ (g : Function). g.params) parts.is ∙ ap (λ (ps : List RawParam). parameter_ids ps 0) no_params
 
 -- ---- the law
 
@@ -130,32 +125,29 @@ module _ (raw : RawProgram) (p : Program) (keeps : KeepsRules raw) (made : progr
   abbrev made_parts : IsMadeOf raw p
   made_parts = made_of raw p made
 
-  some_function : functions_of raw.items ≡ [] → ⊥
+  some_function : function_texts raw.items ≡ [] → ⊥
   some_function none = keeps 5 1 (no_main (ap (find (λ (f : RawHead). bytes_eq f.name main_name)) none))
 
   abbrev at : MainAt raw p raw.items p.items p.functions
   at = main_at raw p raw.items some_function p.items made_parts.items inside p.functions made_parts.functions
 
-  kept_all : AreKept raw (phrases raw)
-  kept_all = kept_from raw (phrases raw) (λ q c n b. keeps n q.line (by_phrase c b))
-
   kept_main : AreKept raw (item_phrases raw (Define at.line at.head at.body) outset)
-  kept_main = kept_first raw (item_phrases raw (Define at.line at.head at.body) outset) (items_phrases raw at.rest (after_item raw (Define at.line at.head at.body) outset)) (subst (AreKept raw) at.phrases_are kept_all)
+  kept_main = kept_first raw (item_phrases raw (Define at.line at.head at.body) outset) (items_phrases raw at.rest (after_item raw (Define at.line at.head at.body) outset)) (subst (AreKept raw) at.phrases_are (phrases_kept raw keeps))
 
   main_tested : (is_main at.f.name ≡ true) × (body_outside p.vars at.f.body ≡ None)
   main_tested = main_inside (is_main at.f.name) (body_outside p.vars at.f.body) at.f.line (sym (ap (λ (fs : List Function). option_map_or (function_outside p.vars) (slice_get fs 0) None) at.functions) ∙ at.inside)
 
-  abbrev of_main : (result : Option CType) × (statements : List Statement) × (ctype_if raw at.head.result ≡ Some result) × (body_of raw at.body (entered raw at.head outset) ≡ Some statements) × (at.f ≡ function_with at.head.name result (parameter_ids at.head.params 0) statements at.head.is_static at.line)
-  of_main = both_some (λ (result : Option CType) (statements : List Statement). function_with at.head.name result (parameter_ids at.head.params 0) statements at.head.is_static at.line) (ctype_if raw at.head.result) (body_of raw at.body (entered raw at.head outset)) at.f at.tree
+  abbrev of_main : IsFunctionOf raw at.line at.head at.body outset at.f
+  of_main = function_made raw at.line at.head at.body outset at.f at.tree
 
   named : at.head.name ≡ main_name
-  named = sym (ap (λ (f : Function). f.name) of_main.4) ∙ (bytes_eq-Decides at.f.name main_name).0 main_tested.0
+  named = sym (ap (λ (f : Function). f.name) of_main.is) ∙ (bytes_eq-Decides at.f.name main_name).0 main_tested.0
 
   abbrev start : Scope
   start = scope_of_parameters at.head outset
 
   abbrev xs : List Statement
-  xs = of_main.1
+  xs = of_main.statements
 
   abbrev found : List (Option Var)
   found = variables_in raw (body_phrases raw at.body start)
@@ -163,7 +155,7 @@ module _ (raw : RawProgram) (p : Program) (keeps : KeepsRules raw) (made : progr
   all : Declares raw p.vars start (after_body raw at.body start) found
   all =
       body_declares raw p.vars at.body start refl xs (body_made raw at.line at.head at.body named kept_main at.f at.tree)
-      (ap (body_outside p.vars) (sym (ap (λ (f : Function). f.body) of_main.4)) ∙ main_tested.1) (kept_body raw at.line at.head at.body named kept_main)
+      (ap (body_outside p.vars) (sym (ap (λ (f : Function). f.body) of_main.is)) ∙ main_tested.1) (kept_body raw at.line at.head at.body named kept_main)
 
   abbrev after : Scope
   after = after_item raw (Define at.line at.head at.body) outset

@@ -1,7 +1,7 @@
 -- The built forms: which programs can be sliced so far, and the first place of a program that is outside them.
-use Rattle.std.specs.Prelude.{ℕ, ◌==◌, Bool, true, false, ◌&&◌, if◌then◌else◌, List, [], ◌∷◌, Option, Some, None, slice_get, bytes_eq, codes}
+use Rattle.std.specs.Prelude.{ℕ, ◌==◌, Bool, true, false, ◌&&◌, if◌then◌else◌, List, [], ◌∷◌, Option, Some, None, slice_get}
 use Rattle.std.specs.List.{list_all}
-use Rattle.std.specs.Option.{option_map_or}
+use Rattle.std.specs.Option.{option_map_or, option_or, option_flatten}
 use Rattle.c_tree.specs.declared.types.CType.{CType, fold-CType}
 use Rattle.c_tree.specs.declared.types.CType.TheOpen.{CType-F}
 use Rattle.c_tree.specs.declared.program.Function.{Function}
@@ -12,7 +12,7 @@ use Rattle.c_tree.specs.declared.program.Var.{Var}
 use Rattle.c_tree.specs.declared.statement.Arm.{Arm}
 use Rattle.c_tree.specs.declared.statement.Statement.{Statement, fold-Statement}
 use Rattle.c_tree.specs.declared.statement.Statement.TheOpen.{Statement-F, Arm-F}
-use Rattle.c_language.specs.Words.{Bytes}
+use Rattle.c_language.specs.NameRules.{is_main}
 use Rattle.built_forms.specs.IntegerForms.{is_integer, are_integers, is_name, integer_init, integer_value, integer_label}
 
 -- ---- variables
@@ -36,20 +36,10 @@ abbrev pub unless : Bool → ℕ → Option ℕ
 unless true line = None
 unless false line = Some line
 
--- the first of two lines
-abbrev pub or_else : Option ℕ → Option ℕ → Option ℕ
-or_else None other = other
-or_else (Some line) other = Some line
-
 -- the first of some lines
-abbrev pub first_of : List (Option ℕ) → Option ℕ
-first_of [] = None
-first_of (one ∷ rest) = or_else one (first_of rest)
-
--- the line of a part that may be missing
-abbrev pub line_of_part : Option (Option ℕ) → Option ℕ
-line_of_part None = None
-line_of_part (Some line) = line
+abbrev pub first_line : List (Option ℕ) → Option ℕ
+first_line [] = None
+first_line (one ∷ rest) = option_or one (first_line rest)
 
 -- an arm of a switch: whether its labels are integers, and the first line of its body
 pub record ArmOutside : Type 0 where
@@ -61,7 +51,7 @@ labels_of_arms = list_all (λ (a : ArmOutside). a.labels_are)
 
 abbrev pub first_of_arms : List ArmOutside → Option ℕ
 first_of_arms [] = None
-first_of_arms (a ∷ rest) = or_else a.first (first_of_arms rest)
+first_of_arms (a ∷ rest) = option_or a.first (first_of_arms rest)
 
 -- all statements over integers, with control flow; a statement's own line stands before what is in it, and labels are told at the line of their switch
 abbrev pub statement_step : List Var → Statement-F (Option ℕ) ArmOutside → Option ℕ
@@ -74,16 +64,16 @@ statement_step vars (Statement-F.Write id l e) = unless (is_integer e) l
 statement_step vars (Statement-F.Print id l format args) = unless (are_integers args) l
 statement_step vars (Statement-F.Heap id l to cast n) = Some l
 statement_step vars (Statement-F.Release id l e) = Some l
-statement_step vars (Statement-F.If id l e a b) = or_else (unless (is_integer e) l) (or_else (first_of a) (first_of b))
-statement_step vars (Statement-F.While id l e b) = or_else (unless (is_integer e) l) (first_of b)
-statement_step vars (Statement-F.Do id l e b) = or_else (unless (is_integer e) l) (first_of b)
-statement_step vars (Statement-F.For id l i e s b) = or_else (unless (is_integer e) l) (or_else (line_of_part i) (or_else (line_of_part s) (first_of b)))
-statement_step vars (Statement-F.Switch id l e arms) = or_else (unless (is_integer e && labels_of_arms arms) l) (first_of_arms arms)
-statement_step vars (Statement-F.Block l b) = first_of b
+statement_step vars (Statement-F.If id l e a b) = option_or (unless (is_integer e) l) (option_or (first_line a) (first_line b))
+statement_step vars (Statement-F.While id l e b) = option_or (unless (is_integer e) l) (first_line b)
+statement_step vars (Statement-F.Do id l e b) = option_or (unless (is_integer e) l) (first_line b)
+statement_step vars (Statement-F.For id l i e s b) = option_or (unless (is_integer e) l) (option_or (option_flatten i) (option_or (option_flatten s) (first_line b)))
+statement_step vars (Statement-F.Switch id l e arms) = option_or (unless (is_integer e && labels_of_arms arms) l) (first_of_arms arms)
+statement_step vars (Statement-F.Block l b) = first_line b
 statement_step vars (Statement-F.Return id l e) = unless (integer_value e) l
 
 abbrev pub arm_step : Arm-F (Option ℕ) ArmOutside → ArmOutside
-arm_step a = record { labels_are = list_all integer_label a.labels; first = first_of a.body }
+arm_step a = record { labels_are = list_all integer_label a.labels; first = first_line a.body }
 
 -- the line of the first place of a statement that is outside the built forms
 abbrev pub statement_outside : List Var → Statement → Option ℕ
@@ -92,7 +82,7 @@ statement_outside vars = fold-Statement (Option ℕ) ArmOutside (statement_step 
 -- the line of the first place of a list of statements that is outside
 abbrev pub body_outside : List Var → List Statement → Option ℕ
 body_outside vars [] = None
-body_outside vars (one ∷ rest) = or_else (statement_outside vars one) (body_outside vars rest)
+body_outside vars (one ∷ rest) = option_or (statement_outside vars one) (body_outside vars rest)
 
 -- the same of a part of a for, and of the arms of a switch
 abbrev pub part_outside : List Var → Option Statement → Option ℕ
@@ -101,15 +91,12 @@ part_outside vars (Some one) = statement_outside vars one
 
 abbrev pub arms_outside : List Var → List Arm → Option ℕ
 arms_outside vars [] = None
-arms_outside vars (a ∷ rest) = or_else (body_outside vars a.body) (arms_outside vars rest)
+arms_outside vars (a ∷ rest) = option_or (body_outside vars a.body) (arms_outside vars rest)
 
 abbrev pub integer_labels : Arm → Bool
 integer_labels a = list_all integer_label a.labels
 
 -- ---- items
-
-abbrev pub is_main : Bytes → Bool
-is_main name = bytes_eq name (codes "main")
 
 -- a function that isn't main is outside, at its line
 abbrev pub function_outside : List Var → Function → Option ℕ
@@ -143,7 +130,7 @@ items_outside p (Tag s ∷ xs) = Some (next_line p xs)
 items_outside p (Struct s ∷ xs) = Some (next_line p xs)
 items_outside p (Global x i ∷ xs) = Some (variable_line p x)
 items_outside p (Prototype f names is_static ∷ xs) = Some (next_line p xs)
-items_outside p (Define f ∷ xs) = or_else (defined_outside p f) (items_outside p xs)
+items_outside p (Define f ∷ xs) = option_or (defined_outside p f) (items_outside p xs)
 
 -- the line of the first place of a program that is outside the built forms
 abbrev pub not_yet : Program → Option ℕ

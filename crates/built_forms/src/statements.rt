@@ -1,6 +1,7 @@
 //! Declarations and statements of the built forms.
 ghost use Rattle.std.specs.Prelude.{◌≡◌, ◌&&◌};
 ghost use Rattle.std.specs.List.{list_all};
+ghost use Rattle.std.specs.Option.{option_or};
 ghost use Rattle.built_forms.specs.BuiltForms as forms;
 ghost use Rattle.built_forms.specs.IntegerForms as integer;
 
@@ -38,7 +39,7 @@ fn unless(is_built: bool, line: u32) -> Option<u32>
 
 // The first of two lines.
 fn first(one: Option<u32>, other: Option<u32>) -> Option<u32>
-    ensures { result ≡ forms.or_else one other }
+    ensures { result ≡ option_or one other }
 {
     match one {
         Some(line) => Some(line),
@@ -48,14 +49,14 @@ fn first(one: Option<u32>, other: Option<u32>) -> Option<u32>
 
 // The line of a test that isn't an integer, or else that of what stands inside.
 fn tested(test: &Expr, line: u32, inside: Option<u32>) -> Option<u32>
-    ensures { result ≡ forms.or_else (forms.unless (integer.is_integer test.now) line) inside }
+    ensures { result ≡ option_or (forms.unless (integer.is_integer test.now) line) inside }
 {
     first(unless(is_integer(test), line), inside)
 }
 
 // The same for a switch, whose labels are told at its line.
 fn switched(test: &Expr, arms: &[Arm], line: u32, inside: Option<u32>) -> Option<u32>
-    ensures { result ≡ forms.or_else (forms.unless (integer.is_integer test.now && list_all forms.integer_labels arms.now) line) inside }
+    ensures { result ≡ option_or (forms.unless (integer.is_integer test.now && list_all forms.integer_labels arms.now) line) inside }
 {
     let is_built = is_integer(test) && are_integer_labels(arms);
     first(unless(is_built, line), inside)

@@ -1,5 +1,5 @@
 -- The tests of a function's head and of its last statement.
-use Rattle.std.proofs.Common.{◌≡◌, ℕ, List, [], ◌∷◌, Bool, true, false, Option, Some, None, refl, sym, ap, subst, ◌∙◌}
+use Rattle.std.proofs.Common.{◌≡◌, ℕ, List, [], ◌∷◌, Bool, true, Option, Some, None, refl, sym, ap, subst, ◌∙◌}
 use Rattle.c_arith.specs.declared.int_type.IntType.{IntType}
 use Rattle.c_arith.specs.declared.int_type.IntType.TheVariants.{Int, Char, UChar, Short, UShort, UInt, Long, ULong}
 use Rattle.c_tree.specs.declared.raw.expr.RawExpr.{RawExpr}
@@ -28,17 +28,13 @@ int_alone UInt h = false_true h
 int_alone Long h = false_true h
 int_alone ULong h = false_true h
 
-abbrev int_layer : RawType-F RawType → Bool
-int_layer (RawType-F.Integer t) = is_int t
-int_layer _ = false
-
-is_int-roll : (y : RawType-F RawType) → is_int_type (roll-RawType y) ≡ int_layer y
+is_int-roll : (y : RawType-F RawType) → is_int_type (roll-RawType y) ≡ int_step y
 is_int-roll (RawType-F.Integer t) = fold-roll-RawType Bool int_step (RawType-F.Integer t)
 is_int-roll (RawType-F.PointerTo a) = fold-roll-RawType Bool int_step (RawType-F.PointerTo a)
 is_int-roll (RawType-F.Array a n) = fold-roll-RawType Bool int_step (RawType-F.Array a n)
 is_int-roll (RawType-F.Struct tag) = fold-roll-RawType Bool int_step (RawType-F.Struct tag)
 
-int_only_layer : (y : RawType-F RawType) → int_layer y ≡ true → roll-RawType y ≡ type.Integer Int
+int_only_layer : (y : RawType-F RawType) → int_step y ≡ true → roll-RawType y ≡ type.Integer Int
 int_only_layer (RawType-F.Integer t) h = type.rolls-Integer t ∙ ap (λ (i : IntType). type.Integer i) (int_alone t h)
 int_only_layer (RawType-F.PointerTo a) h = false_true h
 int_only_layer (RawType-F.Array a n) h = false_true h

@@ -18,6 +18,10 @@ use Rattle.c_language.specs.Layout.{line, init_words, var_words, target_words, a
 
 -- ---- plain statements
 
+-- a statement that is laid out as one line
+pub plain_lines : {x : Laid} {w : Bytes} (n : ℕ) → x ≡ plain w → x.lines n ≡ line n (x.words ++ codes ";")
+plain_lines n e = ap (λ (l : Laid). l.lines n) e ∙ ap (λ (l : Laid). line n (l.words ++ codes ";")) (sym e)
+
 pub laid-Declare : (p : Program) (id : Option ℕ) (l x : ℕ) (i : Init) → laid p (s.Declare id l x i) ≡ plain (var_words p x ++ init_words p i)
 laid-Declare p id l x i = ap (laid p) (sym (s.rolls-Declare id l x i)) ∙ fold-roll-Statement Laid (ℕ → Bytes) (statement_step p) (arm_step p) (Statement-F.Declare id l x i)
 

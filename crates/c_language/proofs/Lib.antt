@@ -1,4 +1,5 @@
 pub mod WordLemmas
+pub mod LayerForms
 pub mod LayoutLemmas
 mod ConstantRows
 pub mod NestingLemmas
@@ -13,8 +14,12 @@ pub mod Lists
 pub mod Keywords
 pub mod FormedTokens
 pub mod Options
+pub mod OptionMaps
 pub mod Operands
+pub mod CleanOperands
+pub mod SameStructs
 pub mod PhraseLists
+pub mod PlainTypes
 pub mod ProgramParts
 pub mod RawWordLemmas
 pub mod Tests

@@ -1,18 +1,24 @@
 -- The types of operands that break no rule, and what the rules ask of an expression where two texts agree.
 use Rattle.std.proofs.Common.{◌≡◌, ℕ, Option, Some, None, Bool, true, false, not, ◌&&◌, ◌||◌, true≢false, refl, ap, ap₂}
-use Rattle.std.specs.Prelude.{option_and_then, is_none, nat_lt}
-use Rattle.c_language.specs.Uses.{IsWithin}
+use Rattle.std.specs.Prelude.{Contains, option_and_then, is_none, nat_lt}
+use Rattle.std.proofs.lemmas.Bool.{false_from_ne_true}
 use Rattle.c_tree.specs.declared.raw.expr.RawExpr.{RawExpr, map-RawExpr}
 use Rattle.c_tree.specs.declared.raw.expr.RawExpr.TheOpen.{RawExpr-F}
 use Rattle.c_tree.specs.declared.raw.expr.RawExpr.TheVariants as e
 use Rattle.c_tree.specs.declared.raw.program.RawProgram.{RawProgram}
 use Rattle.c_language.specs.Words.{Bytes}
 use Rattle.c_language.specs.Scopes.{Scope, Meaning, meaning_in}
-use Rattle.c_language.specs.ExprTypes.{operand_step, a_value, a_place, variable_in, unary_result, binary_result, logical_result, choose_result, cast_result, pointed, indexed, address_result, given, is_array, value_type, struct_of, selected, member_of, member_type, operand}
+use Rattle.c_language.specs.ExprTypes.{operand_step, a_value, a_place, variable_in, unary_result, binary_result, logical_result, choose_result, cast_result, pointed, indexed, address_result, given, is_array, value_type, struct_of, selected_type, member_of, member_type, operand}
 use Rattle.c_language.specs.declared.expr_type.ExprType.{ExprType}
 use Rattle.c_language.specs.declared.expr_type.Operand.{Operand}
 use Rattle.c_language.specs.DeclaredTypes.{has_stdio, has_stdlib}
 use Rattle.c_language.specs.ExprRules.{Seen, is_undeclared, has_bad_operand, has_no_address, needs_struct, selects_missing, fails, holds_of, is_function, is_incomplete_struct, lacks_member, lacks_header, seen}
+use Rattle.c_language.specs.NameRules.{UsesUndeclared}
+use Rattle.c_language.specs.StructRules.{MisusesTag, MisnamesMember}
+use Rattle.c_language.specs.TypeRules.{MisusesOperator, MisusesAddress}
+use Rattle.c_language.specs.Phrases.{Part}
+use Rattle.c_language.specs.Uses.{IsWithin, expressions, holds}
+use Rattle.c_language.specs.Rules.{undeclared, tag, member, operator, address, BreaksNone}
 use Rattle.c_language.proofs.Options.{there_map}
 use Rattle.c_language.proofs.UseLemmas.{OfParts, out-Constant}
 use Rattle.c_language.specs.Options.{IsThere}
@@ -72,12 +78,22 @@ pub record IsClean (raw : RawProgram) (scope : Scope) (s : Seen) : Type 0 where
 abbrev pub AreClean : RawProgram → Scope → RawExpr → Type 0
 AreClean raw scope a = (inner : RawExpr) → IsWithin inner a → IsClean raw scope (seen raw scope inner)
 
+-- the expressions of what breaks no rule are clean
+pub kept_clean : (raw : RawProgram) (scope : Scope) (part : Part) → BreaksNone raw scope part → (a : RawExpr) → Contains (expressions part) a → AreClean raw scope a
+kept_clean raw scope part kept a c inner w = record {
+  declared = false_from_ne_true _ (λ h. kept 1 (undeclared (UsesUndeclared.in_expression (holds c w) h)));
+  operands = false_from_ne_true _ (λ h. kept 12 (operator (MisusesOperator.in_expression (holds c w) h)));
+  address = false_from_ne_true _ (λ h. kept 15 (address (MisusesAddress.in_expression (holds c w) h)));
+  complete = false_from_ne_true _ (λ h. kept 7 (tag (MisusesTag.in_expression (holds c w) h)));
+  member = false_from_ne_true _ (λ h. kept 8 (member (MisnamesMember.missing (holds c w) h)));
+}
+
 -- a form that breaks none of them is an operand, where variables have types, and complete struct types their members
 module _ (raw : RawProgram) (scope : Scope)
     (variables : (name : Bytes) → is_none (meaning_in scope name) ≡ false → is_function (meaning_in scope name) ≡ false → IsThere (variable_in (meaning_in scope name)))
     (members : (name : Bytes) (s : Option ℕ) → IsThere s → holds_of (λ (k : ℕ). not (nat_lt k scope.structs)) s ≡ false → holds_of (λ (k : ℕ). is_none (member_of raw k name)) s ≡ false → IsThere (option_and_then (member_type raw scope name) s)) where
   at_target : (name : Bytes) (t : Option ExprType) → IsThere (option_and_then struct_of t) → holds_of (is_incomplete_struct scope) t ≡ false
-      → holds_of (lacks_member raw name) t ≡ false → IsThere (option_and_then (selected raw scope name) t)
+      → holds_of (lacks_member raw name) t ≡ false → IsThere (option_and_then (selected_type raw scope name) t)
   at_target name None h before has = absurd h
   at_target name (Some t) h before has = members name (struct_of t) h before has
 
@@ -112,8 +128,8 @@ module _ (raw : RawProgram) (scope : Scope)
   form_there (RawExpr-F.Index (Some x) (Some y)) parts clean = there_map a_place (indexed x y) (not_fails _ clean.operands)
   form_there (RawExpr-F.Member None m) parts clean = absurd parts
   form_there (RawExpr-F.Member (Some x) m) parts clean =
-      there_map a_place (selected raw scope m x.shape) (members m (struct_of x.shape) (not_fails _ clean.operands) clean.complete clean.member)
+      there_map a_place (selected_type raw scope m x.shape) (members m (struct_of x.shape) (not_fails _ clean.operands) clean.complete clean.member)
   form_there (RawExpr-F.Arrow None m) parts clean = absurd parts
   form_there (RawExpr-F.Arrow (Some x) m) parts clean =
-      there_map a_place (option_and_then (selected raw scope m) (pointed x)) (at_target m (pointed x) (not_fails _ clean.operands) clean.complete clean.member)
+      there_map a_place (option_and_then (selected_type raw scope m) (pointed x)) (at_target m (pointed x) (not_fails _ clean.operands) clean.complete clean.member)
   form_there (RawExpr-F.Paren a) parts clean = parts

@@ -1,7 +1,7 @@
 -- Where a value is there, and the value of one that is.
-use Rattle.std.proofs.Common.{◌≡◌, Option, Some, None, option_map, refl, sym, ap, subst}
+use Rattle.std.proofs.Common.{◌≡◌, List, ◌∷◌, Option, Some, None, option_map, refl, sym, ap, subst}
 use Rattle.std.specs.Option.{unwrap_or, option_and_then}
-use Rattle.c_language.specs.ProgramOf.{optional}
+use Rattle.c_language.specs.ProgramOf.{collected, optional}
 use Rattle.c_language.specs.ConstantEvaluation.{both}
 use Rattle.c_language.specs.Options.{IsThere}
 
@@ -34,21 +34,56 @@ none_there h = absurd (subst IsThere (sym h) tt)
 pub some_same : {A : Type 0} {x y : A} → ◌≡◌ {A = Option A} (Some x) (Some y) → x ≡ y
 some_same {x} h = ap (λ (o : Option _). unwrap_or o x) h
 
--- what a value that is there was made of
-pub map_some : {A B : Type 0} (f : A → B) (o : Option A) (y : B) → option_map f o ≡ Some y → (x : A) × (o ≡ Some x) × (y ≡ f x)
-map_some f None y e = none_there e
-map_some f (Some x) y e = (x, refl, sym (some_same e))
+pub unmapped : {A B : Type 0} (f : A → B) (o : Option A) → option_map f o ≡ None → o ≡ None
+unmapped f None h = refl
+unmapped f (Some x) h = none_there (sym h)
 
 -- a part that is there is so with its value
 pub optional_there : {A : Type 0} (o : Option A) (z : Option A) → optional (Some o) ≡ Some z → (y : A) × ((o ≡ Some y) × (Some y ≡ z))
 optional_there None z h = none_there h
 optional_there (Some y) z h = (y, (refl, some_same h))
 
-pub then_some : {A B : Type 0} (f : A → Option B) (o : Option A) (y : B) → option_and_then f o ≡ Some y → (x : A) × (o ≡ Some x) × (f x ≡ Some y)
-then_some f None y e = none_there e
-then_some f (Some x) y e = (x, refl, e)
+-- ---- what a value that is there was made of
 
-pub both_some : {A B C : Type 0} (f : A → B → C) (a : Option A) (b : Option B) (z : C) → both f a b ≡ Some z → (x : A) × (y : B) × (a ≡ Some x) × (b ≡ Some y) × (z ≡ f x y)
-both_some f None b z e = none_there e
-both_some f (Some x) None z e = none_there e
-both_some f (Some x) (Some y) z e = (x, y, refl, refl, sym (some_same e))
+-- one value, with what it gives
+pub record MadeFrom {A B : Type 0} (x : Option A) (f : A → B) (y : B) : Type 0 where
+  pub value : A
+  pub there : x ≡ Some value
+  pub same : f value ≡ y
+
+pub map_there : {A B : Type 0} (f : A → B) (x : Option A) (y : B) → option_map f x ≡ Some y → MadeFrom x f y
+map_there f None y h = none_there h
+map_there f (Some a) y h = record { value = a; there = refl; same = some_same h }
+
+pub then_there : {A B : Type 0} (f : A → Option B) (x : Option A) (y : B) → option_and_then f x ≡ Some y → MadeFrom x f (Some y)
+then_there f None y h = none_there h
+then_there f (Some a) y h = record { value = a; there = refl; same = h }
+
+-- two values, with what they give
+pub record MadeFromBoth {A B C : Type 0} (x : Option A) (y : Option B) (f : A → B → C) (z : C) : Type 0 where
+  pub left : A
+  pub right : B
+  pub left_there : x ≡ Some left
+  pub right_there : y ≡ Some right
+  pub same : f left right ≡ z
+
+pub both_there : {A B C : Type 0} (f : A → B → C) (x : Option A) (y : Option B) (z : C) → both f x y ≡ Some z → MadeFromBoth x y f z
+both_there f None y z h = none_there h
+both_there f (Some a) None z h = none_there h
+both_there f (Some a) (Some b) z h = record { left = a; right = b; left_there = refl; right_there = refl; same = some_same h }
+
+-- the first of a list, and the rest
+pub record MadeFromMore {A : Type 0} (x : Option A) (xs : Option (List A)) (ys : List A) : Type 0 where
+  pub first : A
+  pub rest : List A
+  pub first_there : x ≡ Some first
+  pub rest_there : xs ≡ Some rest
+  pub same : first ∷ rest ≡ ys
+
+pub added_there : {A : Type 0} (x : Option A) (xs : Option (List A)) (ys : List A) → option_and_then (λ z. option_map (λ zs. z ∷ zs) xs) x ≡ Some ys → MadeFromMore x xs ys
+added_there None xs ys h = none_there h
+added_there (Some a) None ys h = none_there h
+added_there (Some a) (Some as_) ys h = record { first = a; rest = as_; first_there = refl; rest_there = refl; same = some_same h }
+
+pub more_there : {A : Type 0} (x : Option A) (xs : List (Option A)) (ys : List A) → collected (x ∷ xs) ≡ Some ys → MadeFromMore x (collected xs) ys
+more_there x xs ys h = added_there x (collected xs) ys h

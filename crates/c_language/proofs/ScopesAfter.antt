@@ -8,16 +8,16 @@ use Rattle.c_language.specs.Scopes.{Scope, Scoped, opened, closed, numbered, aft
 use Rattle.c_language.specs.Phrases.{Stand, Phrases, ArmText, scoped_step, scoped_arm, scoped, scoped_of_arm}
 
 module _ (raw : RawProgram) (R Q : Type 0) (gives : RawStatement-F (Scoped R) (Scoped Q) → Scope → R) (gives_arm : RawArm-F (Scoped R) (Scoped Q) → Scope → Q) where
-  abbrev said_step : RawStatement-F (Scoped R) (Scoped Q) → Scoped R
+  abbrev pub said_step : RawStatement-F (Scoped R) (Scoped Q) → Scoped R
   said_step x = record { gives = gives x; after = after_step raw x }
 
-  abbrev said_arm_step : RawArm-F (Scoped R) (Scoped Q) → Scoped Q
+  abbrev pub said_arm_step : RawArm-F (Scoped R) (Scoped Q) → Scoped Q
   said_arm_step a = record { gives = gives_arm a; after = after_arm a }
 
-  abbrev said : RawStatement → Scoped R
+  abbrev pub said : RawStatement → Scoped R
   said = fold-RawStatement (Scoped R) (Scoped Q) said_step said_arm_step
 
-  abbrev said_arm : RawArm → Scoped Q
+  abbrev pub said_arm : RawArm → Scoped Q
   said_arm = fold-RawArm (Scoped R) (Scoped Q) said_step said_arm_step
 
   abbrev Same : RawStatement → Type 0

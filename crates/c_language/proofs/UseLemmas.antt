@@ -16,7 +16,7 @@ use Rattle.c_tree.specs.declared.raw.statement.RawLabel.{RawLabel}
 use Rattle.c_tree.specs.declared.raw.statement.RawLabel.TheVariants as label
 use Rattle.c_language.specs.Words.{Bytes}
 use Rattle.c_language.specs.Uses.{operands_of, operands, IsWithin, whole, deeper, written_lengths, lengths_step, lengths_in, tags_step, tags_in, arg_exprs, cases}
-use Rattle.c_language.specs.CallRules.{only_arg}
+use Rattle.c_language.specs.CallRules.{only_arg, later_args}
 use Rattle.c_language.proofs.Lists.{contains_nil, contains_cons, contains_first, contains_later}
 use Rattle.c_language.proofs.Options.{none_there, some_same}
 
@@ -92,6 +92,12 @@ only_in [] a h = none_there h
 only_in (arg.Value x ∷ []) a h = subst (λ (y : RawExpr). Contains (x ∷ []) y) (some_same h) (contains_first x [])
 only_in (arg.Literal text ∷ []) a h = none_there h
 only_in (x ∷ (y ∷ rest)) a h = none_there h
+
+-- an argument behind the first is one of them
+pub later_in : (args : List RawArg) (m : RawExpr) → Contains (arg_exprs (later_args args)) m → Contains (arg_exprs args) m
+later_in [] m c = c
+later_in (arg.Value e ∷ rest) m c = contains_later e m (arg_exprs rest) c
+later_in (arg.Literal text ∷ rest) m c = c
 
 -- the expression of a case is one of those of the labels
 pub case_among : (ls : List RawLabel) (a : RawExpr) → Contains ls (label.Case a) → Contains (cases ls) a

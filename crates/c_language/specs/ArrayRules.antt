@@ -15,7 +15,7 @@ use Rattle.c_language.specs.DeclaredTypes.{positive, variable_type}
 use Rattle.c_language.specs.Scopes.{Scope}
 use Rattle.c_language.specs.ExprTypes.{operand, is_pointer, is_scalar, is_assignable}
 use Rattle.c_language.specs.Phrases.{Stand, InFile, Part, Begins, Calls, Allocates, Switches}
-use Rattle.c_language.specs.Uses.{is_null_name, lengths, cases}
+use Rattle.c_language.specs.Uses.{is_null_name, lengths_of, cases}
 use Rattle.c_language.specs.declared.expr_type.Layer.{Layer}
 use Rattle.c_language.specs.declared.expr_type.Layer.TheVariants.{Pointer, Array}
 use Rattle.c_language.specs.declared.expr_type.Base.{Base}
@@ -43,7 +43,7 @@ count_of t = count_in t.layers
 -- an array has a length below 1
 pub data HasNoElement : Part → Type 0 where
   too_short : {part : Part} {n : RawExpr} {z : ℤ}
-      → Contains (lengths part) n → value_of_constant n ≡ Some z → positive z ≡ None → HasNoElement part
+      → Contains (lengths_of part) n → value_of_constant n ≡ Some z → positive z ≡ None → HasNoElement part
 
 -- an initialiser of an object of static storage duration is no constant (6.7.8, paragraph 4); for a pointer, NULL is one
 pub data IsNoConstant (t : ExprType) : RawExpr → Type 0 where
@@ -52,7 +52,7 @@ pub data IsNoConstant (t : ExprType) : RawExpr → Type 0 where
 
 -- an array length, a case label or an initialiser of a global is no constant expression (6.6), or its evaluation has an undefined act
 pub data LacksConstant (raw : RawProgram) (scope : Scope) : Part → Type 0 where
-  written_length : {part : Part} {n : RawExpr} → Contains (lengths part) n → value_of_constant n ≡ None → LacksConstant raw scope part
+  written_length : {part : Part} {n : RawExpr} → Contains (lengths_of part) n → value_of_constant n ≡ None → LacksConstant raw scope part
   label : {test : RawExpr} {labels : List RawLabel} {e : RawExpr}
       → Contains (cases labels) e → value_of_constant e ≡ None → LacksConstant raw scope (Switches test labels)
   global : {is_static : Bool} {var : RawVar} {e : RawExpr} {t : ExprType}

@@ -26,7 +26,7 @@ use Rattle.c_language.specs.ExprTypes.{operand, type_of, a_value, value_type, in
 use Rattle.c_language.specs.Formats.{Conversion, Piece, format_pieces, conversions, conversion_width}
 use Rattle.c_language.specs.NameRules.{main_name}
 use Rattle.c_language.specs.Phrases.{Stand, Part, EndsFunction, Calls, Allocates, Returns}
-use Rattle.c_language.specs.Uses.{is_library_function, is_one_of, counts, sizes}
+use Rattle.c_language.specs.Uses.{is_library_function, is_among, counts, sizes}
 use Rattle.c_language.specs.TypeGrammar.{named_type}
 use Rattle.c_language.specs.declared.expr_type.ExprType.{ExprType}
 use Rattle.c_language.specs.declared.expr_type.Operand.{Operand}
@@ -68,7 +68,7 @@ without_result = codes "putchar" ∷ (codes "printf" ∷ (codes "free" ∷ []))
 -- a result is used that there isn't, or that isn't assignable to what it is stored in
 pub data MisusesResult (raw : RawProgram) (scope : Scope) : Part → Type 0 where
   library : {stand : Stand} {to : RawTarget} {f : Bytes} {args : List RawArg}
-      → to ≢ target.None → is_one_of without_result f ≡ true → MisusesResult raw scope (Calls stand to f args)
+      → to ≢ target.None → is_among without_result f ≡ true → MisusesResult raw scope (Calls stand to f args)
   input : {stand : Stand} {to : RawTarget} {args : List RawArg} {t : ExprType}
       → target_type raw scope to ≡ Some t → is_assignable t (a_value (integer Int)) ≡ false
       → MisusesResult raw scope (Calls stand to (codes "getchar") args)

@@ -75,28 +75,28 @@ leave [] r = r
 leave (x ∷ xs) r = Leaves (x ∷ xs) r
 
 -- a statement in a list: the variable that it declares there, and what it does before what comes after it
-pub record Part : Type 0 where
+pub record StatementPart : Type 0 where
   pub declares : List ℕ
   pub before : Code → Code
 
-abbrev pub doing : (Code → Code) → Part
+abbrev pub doing : (Code → Code) → StatementPart
 doing before = record { declares = []; before = before }
 
-abbrev pub declared : List Part → List ℕ
-declared [] = []
-declared (s ∷ ss) = s.declares ++ declared ss
+abbrev pub declared_in : List StatementPart → List ℕ
+declared_in [] = []
+declared_in (s ∷ ss) = s.declares ++ declared_in ss
 
-abbrev pub in_turn : List Part → Code → Code
+abbrev pub in_turn : List StatementPart → Code → Code
 in_turn [] r = r
 in_turn (s ∷ ss) r = s.before (in_turn ss r)
 
 -- the statements of a list alone
-abbrev pub list_of : List Part → Code
+abbrev pub list_of : List StatementPart → Code
 list_of ss = in_turn ss End
 
 -- a block: its statements, and the end of what they declared (6.2.4)
-abbrev pub block : List Part → Code
-block ss = in_turn ss (leave (declared ss) End)
+abbrev pub block : List StatementPart → Code
+block ss = in_turn ss (leave (declared_in ss) End)
 
 -- an arm of a switch
 pub record ArmPart : Type 0 where
@@ -133,27 +133,27 @@ case_arm (a ∷ as_) v other = if has_case v a.labels then a.does else case_arm 
 abbrev pub taken_arm : List ArmPart → ℤ → Code
 taken_arm as_ v = case_arm as_ v (default_arm as_)
 
-abbrev pub begun : Option ℕ → ℕ → Init → Code → Code
-begun None x init r = r
-begun (Some id) x init r = Plain id (Begins x init) r
+abbrev pub begun_code : Option ℕ → ℕ → Init → Code → Code
+begun_code None x init r = r
+begun_code (Some id) x init r = Plain id (Begins x init) r
 
-abbrev pub optional : Option Part → List Part
+abbrev pub optional : Option StatementPart → List StatementPart
 optional None = []
 optional (Some s) = s ∷ []
 
 -- a declaration of one variable
-abbrev pub declaring : ℕ → (Code → Code) → Part
+abbrev pub declaring : ℕ → (Code → Code) → StatementPart
 declaring x before = record { declares = x ∷ []; before = before }
 
 -- a call whose result goes to a place, or to a variable that is declared for it
-abbrev pub given_to : Target → (Code → Code) → Part
+abbrev pub given_to : Target → (Code → Code) → StatementPart
 given_to target.None before = doing before
 given_to (target.Place e) before = doing before
 given_to (target.Declared x) before = declaring x (λ r. Opens x (before r))
 
 -- a do is its body and then a loop; a for is its init and then a loop whose turns end with the step (6.8.5.2, 6.8.5.3)
-abbrev pub part_step : Statement-F Part ArmPart → Part
-part_step (Statement-F.Declare id l x init) = declaring x (λ r. Opens x (begun id x init r))
+abbrev pub part_step : Statement-F StatementPart ArmPart → StatementPart
+part_step (Statement-F.Declare id l x init) = declaring x (λ r. Opens x (begun_code id x init r))
 part_step (Statement-F.Assign id l left op right) = doing (Plain id (Sets left op right))
 part_step (Statement-F.Bump id l a up before) = doing (Plain id (Bumps a up))
 part_step (Statement-F.Invoke id l to f args) = given_to to (Call id to f args)
@@ -166,16 +166,16 @@ part_step (Statement-F.If id l e a b) = doing (Fork id e (λ v. either (is_true 
 part_step (Statement-F.While id l e b) = doing (Loop id e (block b))
 part_step (Statement-F.Do id l e b) = doing (λ r. block b ⨟ Loop id e (block b) r)
 part_step (Statement-F.For id l i e s b) =
-    doing (λ r. list_of (optional i) ⨟ Loop id e (block b ⨟ list_of (optional s)) (leave (declared (optional i)) r))
+    doing (λ r. list_of (optional i) ⨟ Loop id e (block b ⨟ list_of (optional s)) (leave (declared_in (optional i)) r))
 part_step (Statement-F.Switch id l e arms) = doing (Fork id e (taken_arm arms))
 part_step (Statement-F.Block l b) = doing (λ r. block b ⨟ r)
 part_step (Statement-F.Return id l e) = doing (Plain id (Returns e))
 
-abbrev pub arm_step : Arm-F Part ArmPart → ArmPart
+abbrev pub arm_step : Arm-F StatementPart ArmPart → ArmPart
 arm_step a = record { labels = a.labels; does = block a.body }
 
-abbrev pub part : Statement → Part
-part = fold-Statement Part ArmPart part_step arm_step
+abbrev pub part : Statement → StatementPart
+part = fold-Statement StatementPart ArmPart part_step arm_step
 
 -- a statement, and what comes after it
 abbrev pub code_of : Statement → Code → Code

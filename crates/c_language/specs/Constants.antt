@@ -20,7 +20,7 @@ is_hexadecimal text = (slice_index text 0 == 48) && is_one_of (codes "xX") (slic
 abbrev pub base : Bytes → ℕ
 base text = if is_hexadecimal text then 16 else (if slice_index text 0 == 48 then 8 else 10)
 
--- what a digit is worth, and 16 or more where the byte is none
+-- what a digit is worth, and 16 where the byte is none
 abbrev pub digit_value : ℕ → ℕ
 digit_value b =
     if nat_le 48 b && nat_le b 57 then b - 48

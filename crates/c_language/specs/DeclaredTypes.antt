@@ -28,31 +28,31 @@ pub record StructText : Type 0 where
   pub tag : Bytes
   pub members : List RawMember
 
-abbrev pub structs_of : List RawItem → List StructText
-structs_of [] = []
-structs_of (Include is_stdlib ∷ rest) = structs_of rest
-structs_of (Tag line name ∷ rest) = structs_of rest
-structs_of (Struct line name members ∷ rest) = record { tag = name; members = members } ∷ structs_of rest
-structs_of (Global line var i is_static ∷ rest) = structs_of rest
-structs_of (Prototype line head ∷ rest) = structs_of rest
-structs_of (Define line head body ∷ rest) = structs_of rest
+abbrev pub struct_texts : List RawItem → List StructText
+struct_texts [] = []
+struct_texts (Include is_stdlib ∷ rest) = struct_texts rest
+struct_texts (Tag line name ∷ rest) = struct_texts rest
+struct_texts (Struct line name members ∷ rest) = record { tag = name; members = members } ∷ struct_texts rest
+struct_texts (Global line var i is_static ∷ rest) = struct_texts rest
+struct_texts (Prototype line head ∷ rest) = struct_texts rest
+struct_texts (Define line head body ∷ rest) = struct_texts rest
 
-abbrev pub functions_of : List RawItem → List RawHead
-functions_of [] = []
-functions_of (Include is_stdlib ∷ rest) = functions_of rest
-functions_of (Tag line name ∷ rest) = functions_of rest
-functions_of (Struct line name members ∷ rest) = functions_of rest
-functions_of (Global line var i is_static ∷ rest) = functions_of rest
-functions_of (Prototype line head ∷ rest) = functions_of rest
-functions_of (Define line head body ∷ rest) = head ∷ functions_of rest
+abbrev pub function_texts : List RawItem → List RawHead
+function_texts [] = []
+function_texts (Include is_stdlib ∷ rest) = function_texts rest
+function_texts (Tag line name ∷ rest) = function_texts rest
+function_texts (Struct line name members ∷ rest) = function_texts rest
+function_texts (Global line var i is_static ∷ rest) = function_texts rest
+function_texts (Prototype line head ∷ rest) = function_texts rest
+function_texts (Define line head body ∷ rest) = head ∷ function_texts rest
 
 -- the struct types that a text defines, in text order
 abbrev pub defined_structs : RawProgram → List StructText
-defined_structs raw = structs_of raw.items
+defined_structs raw = struct_texts raw.items
 
 -- the heads of the functions that a text defines, in text order
 abbrev pub defined_functions : RawProgram → List RawHead
-defined_functions raw = functions_of raw.items
+defined_functions raw = function_texts raw.items
 
 -- the number of the struct type with the tag
 abbrev pub struct_id : RawProgram → Bytes → Option ℕ

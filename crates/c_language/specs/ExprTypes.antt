@@ -1,6 +1,7 @@
 -- The types of expressions (ISO C99 6.5): which operands an operator takes, and what it gives.
 use Rattle.std.specs.Prelude.{ℕ, Bool, true, false, not, ◌&&◌, ◌||◌, ◌==◌, nat_lt, if◌then◌else◌, List, [], ◌∷◌, Option, Some, None, option_map, option_and_then, is_some, bytes_eq, codes, slice_get}
 use Rattle.std.specs.List.{find}
+use Rattle.std.specs.Option.{option_or}
 use Rattle.c_arith.specs.declared.int_type.IntType.{IntType}
 use Rattle.c_arith.specs.declared.int_type.IntType.TheVariants.{Int, Long}
 use Rattle.c_arith.specs.declared.operators.UnaryOp.{UnaryOp}
@@ -131,10 +132,6 @@ integer_result op s t =
 abbrev pub moved : ExprType → ExprType → Option ExprType
 moved p i = given (is_object_pointer p && is_integer i) p
 
-abbrev pub first_of : Option ExprType → Option ExprType → Option ExprType
-first_of None b = b
-first_of (Some t) b = Some t
-
 -- two pointers to objects of one type
 abbrev pub are_alike : ExprType → ExprType → Bool
 are_alike s t = is_object_pointer s && same_type s t
@@ -150,21 +147,21 @@ are_comparable a b =
 
 -- a sum: of integers, or of a pointer and an integer (6.5.6)
 abbrev pub sum_result : Operand → Operand → Option ExprType
-sum_result a b = first_of (integer_result Add a.shape b.shape) (first_of (moved (value_type a.shape) b.shape) (moved (value_type b.shape) a.shape))
+sum_result a b = option_or (integer_result Add a.shape b.shape) (option_or (moved (value_type a.shape) b.shape) (moved (value_type b.shape) a.shape))
 
 -- a difference: of integers, of a pointer and an integer, or of two pointers, which is a long (6.5.6)
 abbrev pub difference_result : Operand → Operand → Option ExprType
 difference_result a b =
-    first_of (integer_result Sub a.shape b.shape)
-    (first_of (moved (value_type a.shape) b.shape) (given (are_alike (value_type a.shape) (value_type b.shape)) (integer Long)))
+    option_or (integer_result Sub a.shape b.shape)
+    (option_or (moved (value_type a.shape) b.shape) (given (are_alike (value_type a.shape) (value_type b.shape)) (integer Long)))
 
 -- a comparison of integers, or of two pointers (6.5.8)
 abbrev pub order_result : BinaryOp → Operand → Operand → Option ExprType
-order_result op a b = first_of (integer_result op a.shape b.shape) (given (are_alike (value_type a.shape) (value_type b.shape)) (integer Int))
+order_result op a b = option_or (integer_result op a.shape b.shape) (given (are_alike (value_type a.shape) (value_type b.shape)) (integer Int))
 
 -- a comparison for equality (6.5.9)
 abbrev pub equality_result : BinaryOp → Operand → Operand → Option ExprType
-equality_result op a b = first_of (integer_result op a.shape b.shape) (given (are_comparable a b) (integer Int))
+equality_result op a b = option_or (integer_result op a.shape b.shape) (given (are_comparable a b) (integer Int))
 
 -- what a binary operator gives at two operands (6.5.5 to 6.5.12)
 abbrev pub binary_result : BinaryOp → Operand → Operand → Option ExprType
@@ -188,8 +185,8 @@ common_result s t = both (λ (i j : IntType). integer (common i j)) (integer_of 
 -- the type of the chosen one: the common type of two integers, the one type of two pointers, or that of the pointer where the other stands for a null pointer (6.5.15)
 abbrev pub chosen_result : Operand → Operand → Option ExprType
 chosen_result a b =
-    first_of (common_result a.shape b.shape)
-    (first_of (given (are_alike (value_type a.shape) (value_type b.shape) || (is_object_pointer (value_type a.shape) && b.is_null)) (value_type a.shape))
+    option_or (common_result a.shape b.shape)
+    (option_or (given (are_alike (value_type a.shape) (value_type b.shape) || (is_object_pointer (value_type a.shape) && b.is_null)) (value_type a.shape))
     (given (is_object_pointer (value_type b.shape) && a.is_null) (value_type b.shape)))
 
 abbrev pub choose_result : Operand → Operand → Operand → Option ExprType
@@ -233,8 +230,8 @@ abbrev pub member_type : RawProgram → Scope → Bytes → ℕ → Option ExprT
 member_type raw scope name s =
     if nat_lt s scope.structs then option_and_then (λ (m : RawMember). written_type raw m.shape) (member_of raw s name) else None
 
-abbrev pub selected : RawProgram → Scope → Bytes → ExprType → Option ExprType
-selected raw scope name t = option_and_then (member_type raw scope name) (struct_of t)
+abbrev pub selected_type : RawProgram → Scope → Bytes → ExprType → Option ExprType
+selected_type raw scope name t = option_and_then (member_type raw scope name) (struct_of t)
 
 -- the variable that a name stands for; a function is no value here
 abbrev pub variable_in : Option Meaning → Option Operand
@@ -261,8 +258,8 @@ operand_step raw scope (RawExpr-F.Choose c a b) =
     option_map a_value (option_and_then (λ (x : Operand). option_and_then (λ (y : Operand). option_and_then (choose_result x y) b) a) c)
 operand_step raw scope (RawExpr-F.Cast t a) = option_map a_value (option_and_then (cast_result t) a)
 operand_step raw scope (RawExpr-F.Index a i) = option_map a_place (option_and_then (λ (x : Operand). option_and_then (indexed x) i) a)
-operand_step raw scope (RawExpr-F.Member a m) = option_map a_place (option_and_then (λ (x : Operand). selected raw scope m x.shape) a)
-operand_step raw scope (RawExpr-F.Arrow a m) = option_map a_place (option_and_then (λ (x : Operand). option_and_then (selected raw scope m) (pointed x)) a)
+operand_step raw scope (RawExpr-F.Member a m) = option_map a_place (option_and_then (λ (x : Operand). selected_type raw scope m x.shape) a)
+operand_step raw scope (RawExpr-F.Arrow a m) = option_map a_place (option_and_then (λ (x : Operand). option_and_then (selected_type raw scope m) (pointed x)) a)
 operand_step raw scope (RawExpr-F.Paren a) = a
 
 -- an expression as an operand, where its scope is in force: None where a rule is broken in it, or by a declaration that it names

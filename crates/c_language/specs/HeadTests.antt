@@ -13,7 +13,7 @@ abbrev pub is_int : IntType → Bool
 is_int Int = true
 is_int _ = false
 
-abbrev pub int_step : RawType-F Bool → Bool
+abbrev pub int_step : {A : Type 0} → RawType-F A → Bool
 int_step (RawType-F.Integer t) = is_int t
 int_step _ = false
 

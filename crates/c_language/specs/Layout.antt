@@ -117,6 +117,44 @@ arms_lines (a ∷ as_) n = a n ++ arms_lines as_ n
 abbrev pub braced : Bytes → Bytes → Bytes → ℕ → Bytes
 braced head body tail n = line n head ++ (body ++ line n tail)
 
+-- forms of statements, over the words of a test
+
+abbrev pub laid_if : Bytes → List Laid → List Laid → Laid
+laid_if w body other = record {
+  words = codes "if (" ++ (w ++ codes ")");
+  lines = λ n. line n (codes "if (" ++ (w ++ codes ") {")) ++ (block_lines body (suc n) ++ (else_lines other n ++ line n (codes "}")));
+}
+
+abbrev pub laid_while : Bytes → List Laid → Laid
+laid_while w b = record {
+  words = codes "while (" ++ (w ++ codes ")");
+  lines = λ n. braced (codes "while (" ++ (w ++ codes ") {")) (block_lines b (suc n)) (codes "}") n;
+}
+
+abbrev pub laid_do : Bytes → List Laid → Laid
+laid_do w b = record {
+  words = codes "do while (" ++ (w ++ codes ")");
+  lines = λ n. braced (codes "do {") (block_lines b (suc n)) (codes "} while (" ++ (w ++ codes ");")) n;
+}
+
+abbrev pub laid_for : Option Laid → Bytes → Option Laid → List Laid → Laid
+laid_for i w step b = record {
+  words = codes "for (" ++ (init_part i ++ (codes "; " ++ (w ++ (codes ";" ++ (step_part step ++ codes ")")))));
+  lines = λ n. braced (codes "for (" ++ (init_part i ++ (codes "; " ++ (w ++ (codes ";" ++ (step_part step ++ codes ") {")))))) (block_lines b (suc n)) (codes "}") n;
+}
+
+abbrev pub laid_switch : Bytes → List (ℕ → Bytes) → Laid
+laid_switch w arms = record {
+  words = codes "switch (" ++ (w ++ codes ")");
+  lines = λ n. braced (codes "switch (" ++ (w ++ codes ") {")) (arms_lines arms (suc n)) (codes "}") n;
+}
+
+abbrev pub laid_block : List Laid → Laid
+laid_block b = record { words = []; lines = λ n. braced (codes "{") (block_lines b (suc n)) (codes "}") n }
+
+abbrev pub laid_case : (ℕ → Bytes) → List Laid → ℕ → Bytes
+laid_case labels body n = labels n ++ (block_lines body (suc n) ++ line (suc n) (codes "break;"))
+
 abbrev pub statement_step : Program → Statement-F Laid (ℕ → Bytes) → Laid
 statement_step p (Statement-F.Declare id l x i) = plain (var_words p x ++ init_words p i)
 statement_step p (Statement-F.Assign id l a op b) =
@@ -131,34 +169,16 @@ statement_step p (Statement-F.Print id l format args) =
 statement_step p (Statement-F.Heap id l to cast n) =
     plain (target_words p to ++ (cast_words p cast ++ call_words (codes "malloc") (amount_words p n ∷ [])))
 statement_step p (Statement-F.Release id l e) = plain (call_words (codes "free") (expr_words p e ∷ []))
-statement_step p (Statement-F.If id l e a b) = record {
-  words = codes "if (" ++ (expr_words p e ++ codes ")");
-  lines = λ n. line n (codes "if (" ++ (expr_words p e ++ codes ") {")) ++ (block_lines a (suc n) ++ (else_lines b n ++ line n (codes "}")));
-}
-statement_step p (Statement-F.While id l e b) = record {
-  words = codes "while (" ++ (expr_words p e ++ codes ")");
-  lines = λ n. braced (codes "while (" ++ (expr_words p e ++ codes ") {")) (block_lines b (suc n)) (codes "}") n;
-}
-statement_step p (Statement-F.Do id l e b) = record {
-  words = codes "do while (" ++ (expr_words p e ++ codes ")");
-  lines = λ n. braced (codes "do {") (block_lines b (suc n)) (codes "} while (" ++ (expr_words p e ++ codes ");")) n;
-}
-statement_step p (Statement-F.For id l i e s b) = record {
-  words = codes "for (" ++ (init_part i ++ (codes "; " ++ (expr_words p e ++ (codes ";" ++ (step_part s ++ codes ")")))));
-  lines = λ n. braced (codes "for (" ++ (init_part i ++ (codes "; " ++ (expr_words p e ++ (codes ";" ++ (step_part s ++ codes ") {")))))) (block_lines b (suc n)) (codes "}") n;
-}
-statement_step p (Statement-F.Switch id l e arms) = record {
-  words = codes "switch (" ++ (expr_words p e ++ codes ")");
-  lines = λ n. braced (codes "switch (" ++ (expr_words p e ++ codes ") {")) (arms_lines arms (suc n)) (codes "}") n;
-}
-statement_step p (Statement-F.Block l b) = record {
-  words = [];
-  lines = λ n. braced (codes "{") (block_lines b (suc n)) (codes "}") n;
-}
+statement_step p (Statement-F.If id l e a b) = laid_if (expr_words p e) a b
+statement_step p (Statement-F.While id l e b) = laid_while (expr_words p e) b
+statement_step p (Statement-F.Do id l e b) = laid_do (expr_words p e) b
+statement_step p (Statement-F.For id l i e s b) = laid_for i (expr_words p e) s b
+statement_step p (Statement-F.Switch id l e arms) = laid_switch (expr_words p e) arms
+statement_step p (Statement-F.Block l b) = laid_block b
 statement_step p (Statement-F.Return id l e) = plain (return_words p e)
 
 abbrev pub arm_step : Program → Arm-F Laid (ℕ → Bytes) → ℕ → Bytes
-arm_step p a n = label_lines p a.labels n ++ (block_lines a.body (suc n) ++ line (suc n) (codes "break;"))
+arm_step p a = laid_case (label_lines p a.labels) a.body
 
 abbrev pub laid : Program → Statement → Laid
 laid p = fold-Statement Laid (ℕ → Bytes) (statement_step p) (arm_step p)

@@ -259,7 +259,7 @@ behind_words (t ∷ ts) = if is_kind Name t && is_int_word t.text then behind_wo
 
 -- ---- calls
 
--- the marks behind which a call is a statement's end, an initialiser or a head
+-- the marks before which a call is a statement's end, an initialiser or a head
 abbrev pub ends_call : Bytes → Bool
 ends_call w = bytes_eq w (codes ";") || (bytes_eq w (codes ",") || (bytes_eq w (codes ")") || (bytes_eq w (codes "{") || bytes_eq w (codes "}"))))
 
@@ -267,7 +267,7 @@ abbrev pub is_some_operator : Option Token → Bool
 is_some_operator None = false
 is_some_operator (Some t) = is_kind Mark t && not (ends_call t.text)
 
--- the marks before which no operand is a part of a larger expression
+-- the marks behind which no operand is a part of a larger expression
 abbrev pub parts_operands : Bytes → Bool
 parts_operands w = ends_call w || (bytes_eq w (codes "=") || (bytes_eq w (codes ":") || (bytes_eq w (codes "]") || bytes_eq w (codes "("))))
 
@@ -384,7 +384,7 @@ begins_declarator ts = sees Mark (codes "*") ts || (sees Mark (codes "(") ts || 
 unfoldable pub is_inner_definition : Tokens → Tokens → Bool
 is_inner_definition before behind = not (open_braces before == 0) || (is_in_parens before || begins_declarator (outside 0 behind))
 
--- a parameter's length ends here
+-- this stands in a parameter of a function's head
 unfoldable pub is_in_param : Tokens → Bool
 is_in_param before = (open_braces before == 0) && (is_in_parens before && declares before)
 

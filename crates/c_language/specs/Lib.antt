@@ -18,6 +18,7 @@ pub mod ItemGrammar
 pub mod StatementNesting
 pub mod LeftOut
 pub mod ConstantEvaluation
+pub mod CountConstants
 pub mod DeclaredTypes
 pub mod Scopes
 pub mod ExprTypes

@@ -1,5 +1,5 @@
 -- What breaks a rule on names: their scopes, their declarations, main, and the library's names.
-use Rattle.std.specs.Prelude.{◌≡◌, ◌≢◌, ℕ, ◌&&◌, Bool, true, false, List, [], ◌∷◌, Option, Some, None, Contains, codes, take}
+use Rattle.std.specs.Prelude.{◌≡◌, ◌≢◌, ℕ, ◌&&◌, Bool, true, false, List, [], ◌∷◌, Option, Some, None, Contains, bytes_eq, codes, take}
 use Rattle.c_arith.specs.declared.int_type.IntType.TheVariants.{Int}
 use Rattle.c_tree.specs.declared.raw.expr.RawExpr.{RawExpr}
 use Rattle.c_tree.specs.declared.raw.expr.RawType.TheVariants as type
@@ -25,6 +25,9 @@ use Rattle.c_language.specs.declared.expr_type.ExprType.{ExprType}
 
 abbrev pub main_name : Bytes
 main_name = codes "main"
+
+abbrev pub is_main : Bytes → Bool
+is_main name = bytes_eq name main_name
 
 -- one of the functions that are defined before the place has the name
 abbrev pub IsDefinedBefore : RawProgram → Scope → Bytes → Type 0

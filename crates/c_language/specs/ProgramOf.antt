@@ -342,9 +342,13 @@ is_parameter_stand InBlock = false
 is_parameter_stand InArm = false
 is_parameter_stand InFor = false
 
+-- the variable of a declaration, where a list of initialisers has so many items
+abbrev pub variable_with : RawProgram → ℕ → Option ℕ → Bool → Bool → Bytes → RawType → ℕ → Option Var
+variable_with raw line owner is_static is_parameter name shape items =
+    option_map (λ (t : CType). record { name = name; shape = t; line = line; is_static = is_static; owner = owner; is_parameter = is_parameter }) (ctype_with raw items shape)
+
 abbrev pub variable_of : RawProgram → ℕ → Option ℕ → Stand → RawVar → RawInit → Option Var
-variable_of raw line owner stand var i =
-    option_map (λ (t : CType). record { name = var.name; shape = t; line = line; is_static = is_static_stand stand; owner = owner; is_parameter = is_parameter_stand stand }) (ctype_with raw (item_count i) var.shape)
+variable_of raw line owner stand var i = variable_with raw line owner (is_static_stand stand) (is_parameter_stand stand) var.name var.shape (item_count i)
 
 abbrev pub declared_by : RawProgram → ℕ → Scope → Part → List (Option Var)
 declared_by raw line scope (Declares stand var i) = variable_of raw line scope.owner stand var i ∷ []

@@ -38,9 +38,13 @@ pub data Breaks (raw : RawProgram) (scope : Scope) (part : Part) : ℕ → Type 
   misplaced : MisplacesDeclaration raw scope part → Breaks raw scope part 23
   no_header : LacksHeader raw scope part → Breaks raw scope part 24
 
+-- what stands at a scope breaks no rule
+abbrev pub BreaksNone : RawProgram → Scope → Part → Type 0
+BreaksNone raw scope part = (n : ℕ) → Breaks raw scope part n → ⊥
+
 -- a phrase breaks no rule
 abbrev pub KeepsAll : RawProgram → Phrase → Type 0
-KeepsAll raw p = (n : ℕ) → Breaks raw p.scope p.part n → ⊥
+KeepsAll raw p = BreaksNone raw p.scope p.part
 
 -- none of the phrases breaks a rule
 abbrev pub AreKept : RawProgram → Phrases → Type 0

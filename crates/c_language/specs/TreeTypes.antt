@@ -38,18 +38,18 @@ pub record Typing : Type 0 where
   pub variable : ℕ → ExprType
   pub member : MemberId → ExprType
 
-abbrev pub variable_type : Program → ℕ → ExprType
-variable_type p x = option_map_or (λ (v : Var). shape_of v.shape) (slice_get p.vars x) (integer Int)
+abbrev pub type_of_variable : Program → ℕ → ExprType
+type_of_variable p x = option_map_or (λ (v : Var). shape_of v.shape) (slice_get p.vars x) (integer Int)
 
 abbrev pub members_of : Program → ℕ → List Member
 members_of p s = option_map_or (λ (d : StructDef). d.members) (slice_get p.structs s) []
 
-abbrev pub member_type : Program → MemberId → ExprType
-member_type p m = option_map_or (λ (k : Member). shape_of k.shape) (slice_get (members_of p m.owner) m.index) (integer Int)
+abbrev pub type_of_member : Program → MemberId → ExprType
+type_of_member p m = option_map_or (λ (k : Member). shape_of k.shape) (slice_get (members_of p m.owner) m.index) (integer Int)
 
 -- the types of a program's variables and members
 abbrev pub typing_of : Program → Typing
-typing_of p = record { variable = variable_type p; member = member_type p }
+typing_of p = record { variable = type_of_variable p; member = type_of_member p }
 
 -- the integer type of an operand; a pointer has none
 abbrev pub int_type : ExprType → IntType

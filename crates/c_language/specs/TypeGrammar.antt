@@ -14,7 +14,7 @@ use Rattle.c_language.specs.Words.{Bytes}
 use Rattle.c_language.specs.TokenForms.{Tokens, name, mark, line_of}
 use Rattle.c_language.specs.Sees.{sees, sees_name, is_keyword}
 use Rattle.c_language.specs.IntWords.{IsIntType}
-use Rattle.c_language.specs.ExprGrammar.{IsExpr}
+use Rattle.c_language.specs.ExprGrammar.{IsExpr, conditional_level}
 use Rattle.c_language.specs.declared.token.TokenKind.TheVariants.{Mark}
 
 -- the type that stands before declarators: a struct by its tag, or an integer type by all of its words
@@ -61,7 +61,7 @@ pub data IsLengths : Tokens → RawType → RawType → Tokens → Type 0 where
   done : {rest : Tokens} {a : RawType} → sees Mark (codes "[") rest ≡ false → IsLengths rest a a rest
   -- a length in brackets: an array of what the lengths behind it make
   length : {l m : ℕ} {ts mid rest : Tokens} {n : RawExpr} {a b : RawType}
-      → IsExpr 1 ts n (mark (codes "]") m ∷ mid) → IsLengths mid a b rest → IsLengths (mark (codes "[") l ∷ ts) a (type.Array b (Written n)) rest
+      → IsExpr conditional_level ts n (mark (codes "]") m ∷ mid) → IsLengths mid a b rest → IsLengths (mark (codes "[") l ∷ ts) a (type.Array b (Written n)) rest
 
 -- the lengths of a declarator, of which the first may be empty
 pub data IsOuterLengths : Tokens → RawType → RawType → Tokens → Type 0 where
@@ -97,7 +97,7 @@ pub data IsParam : Tokens → RawParam → Tokens → Type 0 where
       → IsParam ts (record { line = line_of ts; name = called; shape = type.PointerTo a; length = None }) rest
   -- a length in brackets
   sized : {l m : ℕ} {ts mid next rest : Tokens} {a : RawType} {called : Option Bytes} {n : RawExpr}
-      → IsTypeName ts a mid → IsParamName mid called (mark (codes "[") l ∷ next) → IsExpr 1 next n (mark (codes "]") m ∷ rest)
+      → IsTypeName ts a mid → IsParamName mid called (mark (codes "[") l ∷ next) → IsExpr conditional_level next n (mark (codes "]") m ∷ rest)
       → IsParam ts (record { line = line_of ts; name = called; shape = type.PointerTo a; length = Some n }) rest
 
 -- parameters, each behind a comma, up to the closing parenthesis and with it

@@ -74,10 +74,10 @@ abbrev pub lengths_in : RawType → List RawExpr
 lengths_in = fold-RawType (List RawExpr) lengths_step
 
 -- the lengths of a phrase's arrays
-abbrev pub lengths : Part → List RawExpr
-lengths (HasMember before m) = lengths_in m.shape
-lengths (Declares stand var i) = lengths_in var.shape
-lengths _ = []
+abbrev pub lengths_of : Part → List RawExpr
+lengths_of (HasMember before m) = lengths_in m.shape
+lengths_of (Declares stand var i) = lengths_in var.shape
+lengths_of _ = []
 
 abbrev pub init_exprs : RawInit → List RawExpr
 init_exprs init.None = []
@@ -176,14 +176,14 @@ library_names = codes "malloc" ∷ (codes "NULL" ∷ (codes "EOF" ∷ called_lib
 abbrev pub library_macros : List Bytes
 library_macros = codes "NULL" ∷ (codes "EOF" ∷ [])
 
-abbrev pub is_one_of : List Bytes → Bytes → Bool
-is_one_of names name = list_any (bytes_eq name) names
+abbrev pub is_among : List Bytes → Bytes → Bool
+is_among names name = list_any (bytes_eq name) names
 
 abbrev pub is_library_function : Bytes → Bool
-is_library_function = is_one_of called_library
+is_library_function = is_among called_library
 
 abbrev pub is_library_name : Bytes → Bool
-is_library_name = is_one_of library_names
+is_library_name = is_among library_names
 
 abbrev pub is_library_macro : Bytes → Bool
-is_library_macro = is_one_of library_macros
+is_library_macro = is_among library_macros

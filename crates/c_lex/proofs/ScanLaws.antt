@@ -16,8 +16,8 @@ use Rattle.c_lex.specs.declared.fault.LexFault.{LexFault}
 use Rattle.c_lex.specs.declared.fault.LexFault.TheVariants.{BadByte, BadNumber, OpenComment, NoMemory}
 use Rattle.c_lex.specs.declared.piece.Piece.{Piece}
 use Rattle.c_lex.specs.declared.piece.Piece.TheVariants as piece
-use Rattle.c_lex.specs.Lexed.{Finds, IsLexed}
-use Rattle.c_lex.specs.Scanning.{piece_of, after_space, Scan, turn, scan, Gives}
+use Rattle.c_lex.specs.Lexed.{Gives, IsLexed}
+use Rattle.c_lex.specs.Scanning.{piece_of, after_space, Scan, turn, scan, Scans}
 use Rattle.c_lex.proofs.PieceLaws.{piece_space, space_leads, space_some, TokenLens, piece_token}
 use Rattle.c_lex.proofs.FrontLaws.{Front, front_at}
 
@@ -114,19 +114,19 @@ scan_sound (suc n) before line found (b ∷ bs) enough =
 
 -- ---- what is answered
 
-pub lexed : (text : Bytes) (r : Result (Vec token.Token Global) LexFault) → Gives (scan (length text) Blank 1 [] text) r → IsLexed text r
+pub lexed : (text : Bytes) (r : Result (Vec token.Token Global) LexFault) → Scans (scan (length text) Blank 1 [] text) r → IsLexed text r
 lexed text (Ok v) h = let x : Scanned Blank 1 [] text (Ok v.items) = subst (Scanned Blank 1 [] text) h (scan_sound (length text) Blank 1 [] text (omega arith)) in rw x.1 x.2
 lexed text (Err NoMemory) h = tt
 lexed text (Err (BadByte line)) h = subst (Scanned Blank 1 [] text) h (scan_sound (length text) Blank 1 [] text (omega arith))
 lexed text (Err (BadNumber line)) h = subst (Scanned Blank 1 [] text) h (scan_sound (length text) Blank 1 [] text (omega arith))
 lexed text (Err (OpenComment line)) h = subst (Scanned Blank 1 [] text) h (scan_sound (length text) Blank 1 [] text (omega arith))
 
-pub finds : (text : Bytes) (r : Result (Vec token.Token Global) LexFault) → Gives (scan (length text) Blank 1 [] text) r → (ts : Tokens) → AreTokensOf text ts → Finds ts r
-finds text (Ok v) h ts is = let e = scan_finds is (length text) [] (omega arith) in cc
-finds text (Err NoMemory) h ts is = tt
-finds text (Err (BadByte line)) h ts is = let e = scan_finds is (length text) [] (omega arith) in cc
-finds text (Err (BadNumber line)) h ts is = let e = scan_finds is (length text) [] (omega arith) in cc
-finds text (Err (OpenComment line)) h ts is = let e = scan_finds is (length text) [] (omega arith) in cc
+pub gives : (text : Bytes) (r : Result (Vec token.Token Global) LexFault) → Scans (scan (length text) Blank 1 [] text) r → (ts : Tokens) → AreTokensOf text ts → Gives ts r
+gives text (Ok v) h ts is = let e = scan_finds is (length text) [] (omega arith) in cc
+gives text (Err NoMemory) h ts is = tt
+gives text (Err (BadByte line)) h ts is = let e = scan_finds is (length text) [] (omega arith) in cc
+gives text (Err (BadNumber line)) h ts is = let e = scan_finds is (length text) [] (omega arith) in cc
+gives text (Err (OpenComment line)) h ts is = let e = scan_finds is (length text) [] (omega arith) in cc
 
 -- ---- along the loop
 

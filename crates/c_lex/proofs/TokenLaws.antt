@@ -19,7 +19,7 @@ use Rattle.c_lex.specs.Scanning.{character_len, literal_len, scan}
 use Rattle.c_lex.proofs.CommentLemmas.{feed_parts, no_feed}
 use Rattle.c_lex.proofs.WordLemmas.{character_is, literal_is}
 use Rattle.c_lex.proofs.ScanLaws.{one_list, Scanned, scan_sound}
-use Rattle.c_language.proofs.Lists.{any_passes, feeds-append}
+use Rattle.c_language.proofs.Lists.{any_passes, feeds-append, head_is, tail_is}
 
 -- ---- a text has one list of tokens, or a fault
 
@@ -119,30 +119,24 @@ spread text ts h = spread_behind [] [] h Blank AreSpaces.none refl
 
 -- ---- the longest of each kind
 
-cons_head : (a b : ℕ) (as_ bs : Bytes) → a ∷ as_ ≡ b ∷ bs → a ≡ b
-cons_head a b as_ bs e = cc
-
-cons_tail : (a b : ℕ) (as_ bs : Bytes) → a ∷ as_ ≡ b ∷ bs → as_ ≡ bs
-cons_tail a b as_ bs e = cc
-
 run_longest : {g : ℕ → ℕ → Bool} {b d : ℕ} {run rest other : Bytes} (back : Bytes) → IsRun g b run rest → AreRun g d other → b ≡ d → run ++ rest ≡ other ++ back → length other ≤ length run
 run_longest back r AreRun.none same e = omega arith
 run_longest back IsRun.ends_text (AreRun.more h k) same e = absurd cc
 run_longest {g} back (IsRun.ends {b} {c} {rest} h) (AreRun.more {b = d} {c = x} {run} k l) same e =
-    let f : g b c ≡ true = ap (λ (y : ℕ). g y c) same ∙ ap (g d) (cons_head c x rest (run ++ back) e) ∙ k in absurd cc
+    let f : g b c ≡ true = ap (λ (y : ℕ). g y c) same ∙ ap (g d) (head_is e) ∙ k in absurd cc
 run_longest back (IsRun.more {b} {c} {run} {rest} h r) (AreRun.more {b = d} {c = x} {run = other} k l) same e =
-    let low = run_longest back r l (cons_head c x (run ++ rest) (other ++ back) e) (cons_tail c x (run ++ rest) (other ++ back) e) in omega arith
+    let low = run_longest back r l (head_is e) (tail_is e) in omega arith
 
 pub longest : {kind : TokenKind} {text rest other : Bytes} (back : Bytes) → IsTokenText kind text rest → HasForm kind other → text ++ rest ≡ other ++ back → length other ≤ length text
 longest back (IsTokenText.name {b} {run} {rest} h r) (HasForm.name {b = d} {run = other} k l) e =
-    let low = run_longest back r l (cons_head b d (run ++ rest) (other ++ back) e) (cons_tail b d (run ++ rest) (other ++ back) e) in omega arith
+    let low = run_longest back r l (head_is e) (tail_is e) in omega arith
 longest back (IsTokenText.number {b} {run} {rest} h r t) (HasForm.number {b = d} {run = other} k l) e =
-    let low = run_longest back r l (cons_head b d (run ++ rest) (other ++ back) e) (cons_tail b d (run ++ rest) (other ++ back) e) in omega arith
+    let low = run_longest back r l (head_is e) (tail_is e) in omega arith
 longest back (IsTokenText.character {text} {rest} c) (HasForm.character {text = other} d) e = omega (arith, character_is c rest, character_is d back, ap character_len e)
 longest back (IsTokenText.string {more} {rest} l t) (HasForm.string {more = other} k) e =
     let a : literal_len stage.Inside (more ++ rest) ≡ Some (length more) = literal_is l stage.Inside tt rest in
     let b : literal_len stage.Inside (other ++ back) ≡ Some (length other) = literal_is k stage.Inside tt back in
-    let f : literal_len stage.Inside (more ++ rest) ≡ literal_len stage.Inside (other ++ back) = ap (literal_len stage.Inside) (cons_tail 34 34 (more ++ rest) (other ++ back) e) in
+    let f : literal_len stage.Inside (more ++ rest) ≡ literal_len stage.Inside (other ++ back) = ap (literal_len stage.Inside) (tail_is e) in
     let same : length more ≡ length other = cc in
     omega (arith, same)
 longest back (IsTokenText.mark {text} {rest} l h most) (HasForm.mark {text = other} k) e = most other back k e

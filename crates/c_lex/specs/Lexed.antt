@@ -20,9 +20,9 @@ IsLexed text (Err (BadNumber line)) = IsFault Blank 1 text (BadNumber line)
 IsLexed text (Err (OpenComment line)) = IsFault Blank 1 text (OpenComment line)
 
 -- What is answered of a text that has these tokens: them, or that memory ran out.
-abbrev pub Finds : Tokens → Result (Vec token.Token Global) LexFault → Type 0
-Finds ts (Ok v) = v.items ≡ ts
-Finds ts (Err NoMemory) = Unit {0}
-Finds ts (Err (BadByte line)) = ⊥
-Finds ts (Err (BadNumber line)) = ⊥
-Finds ts (Err (OpenComment line)) = ⊥
+abbrev pub Gives : Tokens → Result (Vec token.Token Global) LexFault → Type 0
+Gives ts (Ok v) = v.items ≡ ts
+Gives ts (Err NoMemory) = Unit {0}
+Gives ts (Err (BadByte line)) = ⊥
+Gives ts (Err (BadNumber line)) = ⊥
+Gives ts (Err (OpenComment line)) = ⊥

@@ -259,9 +259,9 @@ scan (suc turns) before line found (b ∷ bs) = turn (piece_of before (b ∷ bs)
 -- ---- what is answered
 
 -- What a function answers, unless memory runs out.
-abbrev pub Gives : Result Tokens LexFault → Result (Vec token.Token Global) LexFault → Type 0
-Gives outcome (Ok v) = outcome ≡ Ok v.items
-Gives outcome (Err NoMemory) = Unit {0}
-Gives outcome (Err (BadByte line)) = outcome ≡ Err (BadByte line)
-Gives outcome (Err (BadNumber line)) = outcome ≡ Err (BadNumber line)
-Gives outcome (Err (OpenComment line)) = outcome ≡ Err (OpenComment line)
+abbrev pub Scans : Result Tokens LexFault → Result (Vec token.Token Global) LexFault → Type 0
+Scans outcome (Ok v) = outcome ≡ Ok v.items
+Scans outcome (Err NoMemory) = Unit {0}
+Scans outcome (Err (BadByte line)) = outcome ≡ Err (BadByte line)
+Scans outcome (Err (BadNumber line)) = outcome ≡ Err (BadNumber line)
+Scans outcome (Err (OpenComment line)) = outcome ≡ Err (OpenComment line)

@@ -4,8 +4,8 @@ ghost use Rattle.c_language.specs.TokenForms.{Tokens, of_kind};
 ghost use Rattle.c_language.specs.Tokens.{AreTokensOf};
 ghost use Rattle.c_language.specs.declared.token.Before.TheVariants.{Blank};
 ghost use Rattle.c_lex.specs.Scanning as spec;
-ghost use Rattle.c_lex.specs.Lexed.{IsLexed, Finds};
-ghost use Rattle.c_lex.specs.Scanning.{Gives};
+ghost use Rattle.c_lex.specs.Lexed.{IsLexed, Gives};
+ghost use Rattle.c_lex.specs.Scanning.{Scans};
 
 use crate::bytes::{behind, byte_at, front, has_feed, line_feeds};
 use crate::fault::LexFault;
@@ -44,7 +44,7 @@ fn push_token(
 
 fn scan(alloc: Global, text: &[u8]) -> Result<Vec<Token>, LexFault>
     requires { length text.now < 2 ^ 32 }
-    ensures { Gives (spec.scan (length text.now) Blank 1 [] text.now) result }
+    ensures { Scans (spec.scan (length text.now) Blank 1 [] text.now) result }
 {
     let mut found = Vec::new(alloc);
     let mut bytes = text;
@@ -89,7 +89,7 @@ pub fn lex(alloc: Global, text: &[u8]) -> Result<Vec<Token>, LexFault>
     // The text has the tokens that are answered, or its bytes show the fault.
     ensures right { IsLexed text.now result }
     // Tokens that it has are answered, unless memory runs out.
-    ensures found { (ts : Tokens) → AreTokensOf text.now ts → Finds ts result }
+    ensures found { (ts : Tokens) → AreTokensOf text.now ts → Gives ts result }
 {
     scan(alloc, text)
 }

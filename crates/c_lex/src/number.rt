@@ -66,7 +66,7 @@ fn digits_len(base: u8, bytes: &[u8]) -> usize
     bytes.len()
 }
 
-/// The value of the digits, or one above every type's where it is.
+/// The value of the digits, or a value above every type's, where theirs is.
 fn value_of(base: u8, digits: &[u8]) -> u128
     requires { base ≤ 16 }
     ensures { result ≡ spec.capped base 0 digits.now }

@@ -3,7 +3,7 @@ use Rattle.std.proofs.Common.{◌≡◌, ◌≢◌, ℕ, [], Option, Some, None,
 use Rattle.std.specs.Prelude.{option_map, option_and_then}
 use Rattle.std.proofs.lemmas.Bool.Decides.{eqb_tells}
 use Rattle.c_meaning.specs.Memory.{Memory, Block, read_block, read, is_live_block, is_live, gone}
-use Rattle.c_meaning.specs.Values.{State, whole, leave_block, closed}
+use Rattle.c_meaning.specs.Values.{State, whole, leave_block, variable_closed}
 use Rattle.c_meaning.proofs.Frames.{variable_value, IsFramed, get_other, bound_here, bound_other}
 
 -- ---- a block that is gone
@@ -23,35 +23,35 @@ held_beside m (Some b) (Some c) other =
 -- ---- a variable that is gone
 
 module _ (s : State) (x : ℕ) (framed : IsFramed s) where
-  pub closed_here : (closed x s).frame x ≡ None
+  pub closed_here : (variable_closed x s).frame x ≡ None
   closed_here = bound_here s.frame x None
 
-  pub closed_other : (y : ℕ) → x ≢ y → (closed x s).frame y ≡ s.frame y
+  pub closed_other : (y : ℕ) → x ≢ y → (variable_closed x s).frame y ≡ s.frame y
   closed_other y ne = bound_other s.frame x y None ne
 
   -- it holds nothing
-  pub gone_here : variable_value x (closed x s) ≡ None
-  gone_here = ap (λ o. option_and_then (read (closed x s).memory) (option_map whole o)) closed_here
+  pub gone_here : variable_value x (variable_closed x s) ≡ None
+  gone_here = ap (λ o. option_and_then (read (variable_closed x s).memory) (option_map whole o)) closed_here
 
   -- another holds what it held
-  pub closed_elsewhere : (y : ℕ) → x ≢ y → variable_value y (closed x s) ≡ variable_value y s
+  pub closed_elsewhere : (y : ℕ) → x ≢ y → variable_value y (variable_closed x s) ≡ variable_value y s
   closed_elsewhere y ne =
-      ap (λ o. option_and_then (read (closed x s).memory) (option_map whole o)) (closed_other y ne) ∙ held_beside s.memory (s.frame x) (s.frame y) (λ c e k. ne (framed.apart x y c e k))
+      ap (λ o. option_and_then (read (variable_closed x s).memory) (option_map whole o)) (closed_other y ne) ∙ held_beside s.memory (s.frame x) (s.frame y) (λ c e k. ne (framed.apart x y c e k))
 
   -- what has begun now is another variable, and had begun before
-  pub before_closing : (y b : ℕ) → (closed x s).frame y ≡ Some b → (x ≢ y) × (s.frame y ≡ Some b)
+  pub before_closing : (y b : ℕ) → (variable_closed x s).frame y ≡ Some b → (x ≢ y) × (s.frame y ≡ Some b)
   before_closing y b e =
       elim (eqb_tells x y) [
-        | inl w ↦ let none : None ≡ Some b = sym closed_here ∙ (ap (λ z. (closed x s).frame z) w.1 ∙ e) in cc
+        | inl w ↦ let none : None ≡ Some b = sym closed_here ∙ (ap (λ z. (variable_closed x s).frame z) w.1 ∙ e) in cc
         | inr w ↦ (w.1, sym (closed_other y w.1) ∙ e)
       ]
 
-  alive_closed : (y b : ℕ) → (closed x s).frame y ≡ Some b → is_live (closed x s).memory b ≡ true
+  alive_closed : (y b : ℕ) → (variable_closed x s).frame y ≡ Some b → is_live (variable_closed x s).memory b ≡ true
   alive_closed y b e =
       let h = before_closing y b e in
       live_beside s.memory (s.frame x) b (λ k. h.0 (framed.apart x y b k h.1)) ∙ framed.alive y b h.1
 
-  pub closed_framed : IsFramed (closed x s)
+  pub closed_framed : IsFramed (variable_closed x s)
   closed_framed = record {
     alive = alive_closed;
     apart = λ y z b e k. framed.apart y z b (before_closing y b e).1 (before_closing z b k).1;

@@ -3,9 +3,10 @@ use Rattle.std.proofs.Common.{◌≡◌, ◌≢◌, ℕ, zero, suc, ◌<◌, [],
 use Rattle.std.specs.Prelude.{slice_get, option_map, option_and_then}
 use Rattle.std.proofs.lemmas.Bool.Decides.{eqb_tells}
 use Rattle.std.proofs.lemmas.Bool.{ne_eqb}
+use Rattle.c_language.proofs.Options.{some_same}
 use Rattle.c_meaning.specs.declared.value.Value.{Value}
 use Rattle.c_meaning.specs.Memory.{Memory, Block, Entered, read_block, read, is_live_block, is_live, changed, with_cell, write, unwritten, enter}
-use Rattle.c_meaning.specs.Values.{Types, State, whole, variable_place, bound, opened}
+use Rattle.c_meaning.specs.Values.{Types, State, whole, variable_place, bound, variable_opened}
 
 -- what a variable holds, where it has begun and was written
 abbrev pub variable_value : ℕ → State → Option Value
@@ -90,14 +91,14 @@ pub bound_other : (frame : ℕ → Option ℕ) (x y : ℕ) (b : Option ℕ) → 
 bound_other frame x y b ne = rw (ne_eqb x y ne) refl
 
 module _ (types : Types) (s : State) (x : ℕ) (framed : IsFramed s) where
-  pub opened_here : (opened types x s).frame x ≡ Some (length s.memory)
+  pub opened_here : (variable_opened types x s).frame x ≡ Some (length s.memory)
   opened_here = bound_here s.frame x (Some (length s.memory))
 
-  pub opened_other : (y : ℕ) → x ≢ y → (opened types x s).frame y ≡ s.frame y
+  pub opened_other : (y : ℕ) → x ≢ y → (variable_opened types x s).frame y ≡ s.frame y
   opened_other y ne = bound_other s.frame x y (Some (length s.memory)) ne
 
   -- the new variable holds nothing
-  pub unwritten_here : variable_value x (opened types x s) ≡ None
+  pub unwritten_here : variable_value x (variable_opened types x s) ≡ None
   unwritten_here =
       ap (λ o. option_and_then (read (enter (types.typing.variable x) s.memory)) (option_map whole o)) opened_here ∙ ap (option_and_then (λ (k : Block). read_block k [])) (get_last s.memory (unwritten (types.typing.variable x) Entered))
 
@@ -106,43 +107,40 @@ module _ (types : Types) (s : State) (x : ℕ) (framed : IsFramed s) where
   kept_by_entry y (Some c) e =
       ap (option_and_then (λ (k : Block). read_block k [])) (get_front s.memory (unwritten (types.typing.variable x) Entered) c (live_within s.memory c (framed.alive y c e)))
 
-  pub opened_elsewhere : (y : ℕ) → x ≢ y → variable_value y (opened types x s) ≡ variable_value y s
+  pub opened_elsewhere : (y : ℕ) → x ≢ y → variable_value y (variable_opened types x s) ≡ variable_value y s
   opened_elsewhere y ne =
       ap (λ o. option_and_then (read (enter (types.typing.variable x) s.memory)) (option_map whole o)) (opened_other y ne) ∙ kept_by_entry y (s.frame y) refl
-
-  some_inj : (a b : ℕ) → Some a ≡ Some b → a ≡ b
-  some_inj a b e = cc
 
   live_entered : (c : ℕ) → is_live s.memory c ≡ true → is_live (enter (types.typing.variable x) s.memory) c ≡ true
   live_entered c h =
       ap is_live_block (get_front s.memory (unwritten (types.typing.variable x) Entered) c (live_within s.memory c h)) ∙ h
 
-  alive_opened : (y b : ℕ) → (opened types x s).frame y ≡ Some b → is_live (enter (types.typing.variable x) s.memory) b ≡ true
+  alive_opened : (y b : ℕ) → (variable_opened types x s).frame y ≡ Some b → is_live (enter (types.typing.variable x) s.memory) b ≡ true
   alive_opened y b e =
       elim (eqb_tells x y) [
-        | inl w ↦ subst (λ c. is_live (enter (types.typing.variable x) s.memory) c ≡ true) (some_inj (length s.memory) b (sym opened_here ∙ (ap (λ z. (opened types x s).frame z) w.1 ∙ e))) (ap is_live_block (get_last s.memory (unwritten (types.typing.variable x) Entered)))
+        | inl w ↦ subst (λ c. is_live (enter (types.typing.variable x) s.memory) c ≡ true) (some_same (sym opened_here ∙ (ap (λ z. (variable_opened types x s).frame z) w.1 ∙ e))) (ap is_live_block (get_last s.memory (unwritten (types.typing.variable x) Entered)))
         | inr w ↦ live_entered b (framed.alive y b (sym (opened_other y w.1) ∙ e))
       ]
 
   -- the block of another variable isn't the new one
-  not_new : (y b : ℕ) → x ≢ y → (opened types x s).frame y ≡ Some b → (opened types x s).frame x ≡ Some b → ⊥
+  not_new : (y b : ℕ) → x ≢ y → (variable_opened types x s).frame y ≡ Some b → (variable_opened types x s).frame x ≡ Some b → ⊥
   not_new y b ne e new =
       let lt = live_within s.memory b (framed.alive y b (sym (opened_other y ne) ∙ e)) in
-      let same : length s.memory ≡ b = some_inj (length s.memory) b (sym opened_here ∙ new) in
+      let same : length s.memory ≡ b = some_same (sym opened_here ∙ new) in
       omega (arith, lt, same)
 
-  apart_opened : (y z b : ℕ) → (opened types x s).frame y ≡ Some b → (opened types x s).frame z ≡ Some b → y ≡ z
+  apart_opened : (y z b : ℕ) → (variable_opened types x s).frame y ≡ Some b → (variable_opened types x s).frame z ≡ Some b → y ≡ z
   apart_opened y z b e k =
       elim (eqb_tells x y) [
         | inl w ↦ elim (eqb_tells x z) [
           | inl v ↦ sym w.1 ∙ v.1
-          | inr v ↦ absurd (not_new z b v.1 k (ap (λ q. (opened types x s).frame q) w.1 ∙ e))
+          | inr v ↦ absurd (not_new z b v.1 k (ap (λ q. (variable_opened types x s).frame q) w.1 ∙ e))
         ]
         | inr w ↦ elim (eqb_tells x z) [
-          | inl v ↦ absurd (not_new y b w.1 e (ap (λ q. (opened types x s).frame q) v.1 ∙ k))
+          | inl v ↦ absurd (not_new y b w.1 e (ap (λ q. (variable_opened types x s).frame q) v.1 ∙ k))
           | inr v ↦ framed.apart y z b (sym (opened_other y w.1) ∙ e) (sym (opened_other z v.1) ∙ k)
         ]
       ]
 
-  pub opened_framed : IsFramed (opened types x s)
+  pub opened_framed : IsFramed (variable_opened types x s)
   opened_framed = record { alive = alive_opened; apart = apart_opened }

@@ -18,7 +18,7 @@ use Rattle.c_meaning.specs.declared.value.Value.TheVariants.{Number}
 use Rattle.c_meaning.specs.declared.event.Event.{Event}
 use Rattle.c_meaning.specs.declared.event.Shown.{Shown}
 use Rattle.c_meaning.specs.declared.event.Shown.TheVariants as shown
-use Rattle.c_meaning.specs.Values.{Types, State, Meant, variable_place, opened, all_closed, tested, binary_value, meant_step, meant, eval_all, beside}
+use Rattle.c_meaning.specs.Values.{Types, State, Meant, variable_place, variable_opened, all_closed, tested, binary_value, meant_step, meant, eval_all, beside}
 use Rattle.c_meaning.specs.Acts.{Made, shows, writable, assigned, bump, put_out, printed_all, as_result, made, after, picked}
 use Rattle.c_meaning.specs.Meaning.{Trace, Answer, Ended, Undefined, More, Outcome, Done, Over, Go, then_do, after_made, take_act, exec, deep, answer, nothing, opening, code_meaning}
 
@@ -184,7 +184,7 @@ module _ (types : Types) where
 
   abbrev run : (SmallCode → Go) → SmallCode → Go
   run again Stop n s t = Done n s t
-  run again (Open x r) n s t = run again r n (opened types x s) t
+  run again (Open x r) n s t = run again r n (variable_opened types x s) t
   run again (Do i d r) n s t = take i d (λ x. run again r) n s t
   run again (Choice i a c r) n s t = take i (Test a) (λ x n s t. then_do (run again (c (picked x)) n s t) (run again r)) n s t
   run again (Turns i a b r) n s t =
@@ -216,7 +216,7 @@ module _ (types : Types) where
 
   run_same : (again : Code → Go) (once : SmallCode → Go) → ((c : SmallCode) (n : ℕ) (s : State) (t : Trace) → again (list c) n s t ≡ once c n s t) → (c : SmallCode) (n : ℕ) (s : State) (t : Trace) → exec types again (list c) n s t ≡ run types once c n s t
   run_same again once h Stop n s t = refl
-  run_same again once h (Open x r) n s t = run_same again once h r n (opened types x s) t
+  run_same again once h (Open x r) n s t = run_same again once h r n (variable_opened types x s) t
   run_same again once h (Do i d r) n s t =
       take_same i d (λ x. exec types again (list r)) (λ x. run types once r) (λ x n s t. run_same again once h r n s t) n s t
   run_same again once h (Choice i a c r) n s t =

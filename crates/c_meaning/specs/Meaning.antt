@@ -8,7 +8,7 @@ use Rattle.c_language.specs.Words.{Bytes}
 use Rattle.c_language.specs.TreeTypes.{shape_of, typing_of}
 use Rattle.c_language.specs.Code.{Act, Tests, Code, End, Opens, Plain, Fork, Loop, Leaves, Call, code, is_true, either}
 use Rattle.c_meaning.specs.declared.event.Event.{Event}
-use Rattle.c_meaning.specs.Values.{Types, State, opened, all_closed, shown_of}
+use Rattle.c_meaning.specs.Values.{Types, State, variable_opened, all_closed, shown_of}
 use Rattle.c_meaning.specs.Acts.{Made, made, after, picked}
 
 -- the events and the output of a run so far
@@ -59,7 +59,7 @@ module _ (types : Types) where
   -- a statement list; `again` is what a list does that is begun once more, after at least one act
   abbrev pub exec : (Code → Go) → Code → Go
   exec again End n s t = Done n s t
-  exec again (Opens x r) n s t = exec again r n (opened types x s) t
+  exec again (Opens x r) n s t = exec again r n (variable_opened types x s) t
   exec again (Plain i a r) n s t = take_act types i a (λ x. exec again r) n s t
   exec again (Fork i e c r) n s t = take_act types i (Tests e) (λ x n s t. then_do (exec again (c (picked x)) n s t) (exec again r)) n s t
   exec again (Loop i e b r) n s t =

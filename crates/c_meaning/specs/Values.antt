@@ -41,8 +41,8 @@ abbrev pub bound : (ℕ → Option ℕ) → ℕ → Option ℕ → ℕ → Optio
 bound frame x b y = if x == y then b else frame y
 
 -- the state once a variable has begun, in a block of its own
-abbrev pub opened : Types → ℕ → State → State
-opened types x s = record s {
+abbrev pub variable_opened : Types → ℕ → State → State
+variable_opened types x s = record s {
   frame = bound s.frame x (Some (length s.memory));
   memory = enter (types.typing.variable x) s.memory;
 }
@@ -52,12 +52,12 @@ leave_block None m = m
 leave_block (Some b) m = leave b m
 
 -- the state once a variable is gone
-abbrev pub closed : ℕ → State → State
-closed x s = record s { frame = bound s.frame x None; memory = leave_block (s.frame x) s.memory }
+abbrev pub variable_closed : ℕ → State → State
+variable_closed x s = record s { frame = bound s.frame x None; memory = leave_block (s.frame x) s.memory }
 
 abbrev pub all_closed : List ℕ → State → State
 all_closed [] s = s
-all_closed (x ∷ xs) s = all_closed xs (closed x s)
+all_closed (x ∷ xs) s = all_closed xs (variable_closed x s)
 
 -- an expression in a program: its type, the place that it designates, and the value that it gives; None where that is undefined
 pub record Meant : Type 0 where
@@ -101,17 +101,18 @@ at_numbers f Null v = None
 at_numbers f (To p) v = None
 
 -- both operands, from left to right
-abbrev pub both : (Value → Value → Option Value) → Option Value → Option Value → Option Value
-both f None o = None
-both f (Some x) None = None
-both f (Some x) (Some y) = f x y
+abbrev pub both_values : (Value → Value → Option Value) → Option Value → Option Value → Option Value
+both_values f None o = None
+both_values f (Some x) None = None
+both_values f (Some x) (Some y) = f x y
 
--- an operator at operands of two types, which are converted first (6.3.1.8)
+-- an operator at numbers, the operands converted to the type
 abbrev pub converted_binary : BinaryOp → IntType → ℤ → ℤ → Option ℤ
 converted_binary op t x y = binary op t (convert x t) (right_value op t y)
 
+-- an operator at operands of two types, which are converted first (6.3.1.8)
 abbrev pub binary_value : BinaryOp → ExprType → ExprType → Option Value → Option Value → Option Value
-binary_value op s t = both (at_numbers (converted_binary op (operand_type op (int_type s) (int_type t))))
+binary_value op s t = both_values (at_numbers (converted_binary op (operand_type op (int_type s) (int_type t))))
 
 abbrev pub unary_value : UnaryOp → ExprType → Option Value → Option Value
 unary_value op t o = option_and_then (at_number (unary op (promote (int_type t)))) o

@@ -19,7 +19,7 @@ use Rattle.c_parse_expr.specs.TypeReading.{base, declarator, params}
 use Rattle.c_parse_simple.specs.SimpleReading.{list}
 use Rattle.c_parse_statements.specs.StatementReading.{braced, nested_statement}
 use Rattle.c_parse.specs.ItemReading as r
-use Rattle.c_parse.specs.ItemReading.{member_of, members_from, tagged, sees_tag, global_init, global_of, global, globals, definition, headed, function, is_array, declares, void_function, external, item_of, none_left, items_from, items, program}
+use Rattle.c_parse.specs.ItemReading.{member_of, members_from, tagged, sees_tag, global_init, global_of, global, globals, definition, headed, function, is_array, declares, void_function, declared_or_defined, item_of, none_left, items_from, items, program}
 use Rattle.c_parse_expr.proofs.Tests.{by_fault, by_expect, by_name, expect_fault, name_fault}
 use Rattle.c_parse_expr.proofs.ExprDeep.{expr_tokens, IsDeep, drop_tokens, whole_expr_deep}
 use Rattle.c_parse_expr.proofs.TypeLaws.{base_flat}
@@ -169,9 +169,9 @@ function_deep d line is_static t w ts h = by_fault (params d ts) _ h (λ h. let 
     let y = params_tokens (params_sound d ts mid ps went).is in
     omega (arith, x, y))
 
-external_deep : (d line : ℕ) (is_static : Bool) → IsDeep (suc d) (external d line is_static)
-unfolding external void_function declares
-external_deep d line is_static ts h = by_test (sees Name (codes "void") ts) h
+declared_or_defined_deep : (d line : ℕ) (is_static : Bool) → IsDeep (suc d) (declared_or_defined d line is_static)
+unfolding declared_or_defined void_function declares
+declared_or_defined_deep d line is_static ts h = by_test (sees Name (codes "void") ts) h
     (λ _ h. by_fault (read_name (drop 1 ts)) _ h (name_fault (drop 1 ts)) (λ w mid went h.
     by_name (drop 1 ts) mid w went (λ l free at.
     let o = drop_tokens ts in
@@ -201,8 +201,8 @@ item_deep d ts h = by_test (sees Include (header false) ts) h (λ _ h. absurd cc
     (λ _ h. by_test (sees_tag ts) h
     (λ _ h. let x = tagged_deep d (line_of ts) (drop 1 ts) h in let y = drop_tokens ts in omega (arith, x, y))
     (λ _ h. by_test (sees Name (codes "static") ts) h
-    (λ _ h. let x = external_deep d (line_of ts) true (drop 1 ts) h in let y = drop_tokens ts in omega (arith, x, y))
-    (λ _ h. external_deep d (line_of ts) false ts h))))
+    (λ _ h. let x = declared_or_defined_deep d (line_of ts) true (drop 1 ts) h in let y = drop_tokens ts in omega (arith, x, y))
+    (λ _ h. declared_or_defined_deep d (line_of ts) false ts h))))
 
 items_deep : (d turns : ℕ) (found : List RawItem) → IsDeep (suc d) (items_from d turns found)
 unfolding items_from

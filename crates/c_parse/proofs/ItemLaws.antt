@@ -27,13 +27,14 @@ use Rattle.c_language.specs.declared.token.TokenKind.TheVariants.{Name, Mark, In
 use Rattle.c_parse_expr.specs.Outcome.{expect}
 use Rattle.c_parse_statements.specs.StatementReading.{statements_from, braced, nested_statement}
 use Rattle.c_parse.specs.ItemReading as r
-use Rattle.c_parse.specs.ItemReading.{member_of, members_from, tagged, sees_tag, global_init, global_of, global, globals, definition, headed, function, array_step, is_array, declares, void_function, external, item_of, none_left, items_from, program}
+use Rattle.c_parse.specs.ItemReading.{member_of, members_from, tagged, sees_tag, global_init, global_of, global, globals, definition, headed, function, array_step, is_array, declares, void_function, declared_or_defined, item_of, none_left, items_from, program}
+use Rattle.c_parse_words.proofs.SeenTokens.{apart_by}
 use Rattle.c_parse_expr.proofs.Tests.{read_name_at}
 use Rattle.c_parse_expr.proofs.IntLaws.{int_type_begins}
 use Rattle.c_parse_expr.proofs.ExprLaws.{Exact, expression_exact, shorter}
 use Rattle.c_parse_expr.proofs.TypeLaws.{base_read, base_flat, base_shorter, stars_shorter, declarator_exact, params_exact, param_shorter}
 use Rattle.c_parse_simple.proofs.Exact.{done, at_depth, same_read, same_tree, seq, after, greatest_append, separated_exact, separated_shorter}
-use Rattle.c_parse_simple.proofs.Begins.{starts, starts_no_mark, is_starter, apart_by}
+use Rattle.c_parse_simple.proofs.Begins.{starts, starts_no_mark}
 use Rattle.c_parse_simple.proofs.CallLaws.{base_no_mark}
 use Rattle.c_parse_simple.proofs.SimpleLaws.{Ends, at_semicolon, at_comma, list_exact, list_shorter, declarator_shorter}
 use Rattle.c_parse_statements.proofs.StatementLaws.{int_word_is, depths, depths_under, statements_exact, statements_shorter, brace_ends_list}
@@ -97,7 +98,7 @@ unfolding global_of
 global_of_plain d line is_static v ts p q = rw (q, p) done
 
 global_read : {line : ℕ} {is_static : Bool} {b : RawType} {ts rest : Tokens} {g : RawItem} → IsGlobal line is_static b ts g rest → Ends rest → (d : ℕ) → GlobalRead d line is_static b ts g rest
-unfolding global_of global_init sees is_starter
+unfolding global_of global_init sees
 global_read {line} {is_static} {rest} (IsGlobal.plain {v} h p) ends d =
     record { var = v; mid = rest; depth = 0; is = h; no_open = ends.no_open; exact = global_of_plain d line is_static v rest p ends.no_equals; nests = omega arith }
 global_read (IsGlobal.value {l} {mid} {v} {a} h p k) ends d =
@@ -209,10 +210,10 @@ record OpensExternal (ts : Tokens) : Type 0 where
   no_tag : sees_tag ts ≡ false
   no_static : sees Name (codes "static") ts ≡ false
 
-external_begins : {ts mid : Tokens} {is_static : Bool} (d : ℕ) → IsStatic ts is_static mid → OpensExternal mid → item_of d ts ≡ external d (line_of ts) is_static mid
+declared_or_defined_begins : {ts mid : Tokens} {is_static : Bool} (d : ℕ) → IsStatic ts is_static mid → OpensExternal mid → item_of d ts ≡ declared_or_defined d (line_of ts) is_static mid
 unfolding item_of sees_tag sees
-external_begins d IsStatic.static o = refl
-external_begins d IsStatic.external o = rw (o.no_stdio, o.no_stdlib, o.no_tag, o.no_static) refl
+declared_or_defined_begins d IsStatic.static o = refl
+declared_or_defined_begins d IsStatic.external o = rw (o.no_stdio, o.no_stdlib, o.no_tag, o.no_static) refl
 
 opens_void : (l : ℕ) (ts : Tokens) → OpensExternal (name (codes "void") l ∷ ts)
 unfolding sees sees_tag
@@ -236,20 +237,20 @@ unfolding sees
 base_no_void (structure free) = refl
 base_no_void {ts} (integer h) = int_word_is ts (int_type_begins h) (λ w l rest is at. rw at (apart_by is_int_word w (codes "void") is refl))
 
-external_base : {n : ℕ} {b : RawType} {v : RawVar} {ts mid next rest : Tokens} {all : List RawItem} (d line : ℕ) (is_static : Bool) → IsBase ts b mid → IsDeclarator mid b v next
-    → Exact d n (declares d line is_static b v next) all rest → Exact d (max (type_nesting v.shape) n) (external d line is_static ts) all rest
-unfolding external
-external_base d line is_static h k x = rw (base_no_void h) (after _ (base_read h) (seq _ (declarator_exact k (base_flat h) d) x))
+declared_or_defined_base : {n : ℕ} {b : RawType} {v : RawVar} {ts mid next rest : Tokens} {all : List RawItem} (d line : ℕ) (is_static : Bool) → IsBase ts b mid → IsDeclarator mid b v next
+    → Exact d n (declares d line is_static b v next) all rest → Exact d (max (type_nesting v.shape) n) (declared_or_defined d line is_static ts) all rest
+unfolding declared_or_defined
+declared_or_defined_base d line is_static h k x = rw (base_no_void h) (after _ (base_read h) (seq _ (declarator_exact k (base_flat h) d) x))
 
 declares_function : {n : ℕ} {rest : Tokens} {all : List RawItem} (d line : ℕ) (is_static : Bool) (b t : RawType) (w : Bytes) (ts : Tokens) (m : ℕ) → is_array t ≡ false → Exact d n (function d line is_static (Some t) w ts) all rest
     → Exact d n (declares d line is_static b (record { name = w; shape = t }) (mark (codes "(") m ∷ ts)) all rest
 unfolding declares sees
 declares_function d line is_static b t w ts m p x = rw p x
 
-external_void : {n : ℕ} {rest : Tokens} {all : List RawItem} (d line : ℕ) (is_static : Bool) (w : Bytes) (ts : Tokens) (l k m : ℕ) → is_keyword w ≡ false → Exact d n (function d line is_static None w ts) all rest
-    → Exact d n (external d line is_static (name (codes "void") l ∷ name w k ∷ mark (codes "(") m ∷ ts)) all rest
-unfolding external void_function expect sees
-external_void d line is_static w ts l k m free x = after _ (read_name_at w k _ free) x
+declared_or_defined_void : {n : ℕ} {rest : Tokens} {all : List RawItem} (d line : ℕ) (is_static : Bool) (w : Bytes) (ts : Tokens) (l k m : ℕ) → is_keyword w ≡ false → Exact d n (function d line is_static None w ts) all rest
+    → Exact d n (declared_or_defined d line is_static (name (codes "void") l ∷ name w k ∷ mark (codes "(") m ∷ ts)) all rest
+unfolding declared_or_defined void_function expect sees
+declared_or_defined_void d line is_static w ts l k m free x = after _ (read_name_at w k _ free) x
 
 -- a head, and what stands behind it
 no_length : (m : ℕ) (ts : Tokens) → sees Mark (codes "[") (mark (codes "(") m ∷ ts) ≡ false
@@ -258,11 +259,11 @@ no_length m ts = refl
 
 headed_item : {d n : ℕ} {ts mid rest : Tokens} {h : RawHead} {all : List RawItem} → IsHead ts h mid → Exact d n (headed d (line_of ts) h mid) all rest → Exact d (max (head_nesting h) n) (item_of d ts) all rest
 headed_item {d} {ts} (head {l} {m} {is_static} {w} {ps} s (IsResult.nothing {l = k}) free p) x =
-    same_read (external_begins d s (opens_void k _)) (at_depth (omega arith) (external_void d (line_of ts) is_static w _ k l m free (behind_params d (line_of ts) is_static None w p x)))
+    same_read (declared_or_defined_begins d s (opens_void k _)) (at_depth (omega arith) (declared_or_defined_void d (line_of ts) is_static w _ k l m free (behind_params d (line_of ts) is_static None w p x)))
 headed_item {d} {ts} (head {l} {m} {is_static} {w} {ps} s (IsResult.some {t} (pointed b stars)) free p) x =
     let begin = stars_begin stars in
-    same_read (external_begins d s (opens_base b begin.0 begin.1)) (at_depth (omega arith)
-    (external_base d (line_of ts) is_static b (IsDeclarator.named stars free (IsOuterLengths.written (IsLengths.done (no_length m _))))
+    same_read (declared_or_defined_begins d s (opens_base b begin.0 begin.1)) (at_depth (omega arith)
+    (declared_or_defined_base d (line_of ts) is_static b (IsDeclarator.named stars free (IsOuterLengths.written (IsLengths.done (no_length m _))))
     (declares_function d (line_of ts) is_static _ t w _ m (stars_no_array stars (base_no_array b)) (behind_params d (line_of ts) is_static (Some t) w p x))))
 
 -- ---- items
@@ -294,7 +295,7 @@ item_exact (IsItem.structure {l} {m} {k} {w} free h) d = at_depth (omega arith) 
 item_exact (IsItem.globals {ts} {mid} {next} {is_static} {base = b} s h k) d =
     let x = globals_read k (base_flat h) d in
     let begin = declarator_begins x.is in
-    at_depth x.nests (same_read (external_begins d s (opens_base h begin.0 begin.1)) (external_base d (line_of ts) is_static h x.is (declares_globals d (line_of ts) is_static b x.var x.mid x.no_open x.exact)))
+    at_depth x.nests (same_read (declared_or_defined_begins d s (opens_base h begin.0 begin.1)) (declared_or_defined_base d (line_of ts) is_static h x.is (declares_globals d (line_of ts) is_static b x.var x.mid x.no_open x.exact)))
 item_exact (IsItem.prototype {l} {ts} {rest} {h} is) d = at_depth (omega arith) (headed_item is (prototype_exact d (line_of ts) l h rest))
 item_exact (IsItem.definition {l} {ts} {h} is named k) d = at_depth (omega arith) (headed_item is (definition_exact d (line_of ts) l h named k))
 

@@ -21,7 +21,7 @@ use Rattle.c_parse_expr.specs.TypeReading.{base, declarator, params}
 use Rattle.c_parse_simple.specs.SimpleReading.{list}
 use Rattle.c_parse_statements.specs.StatementReading.{braced, nested_statement}
 use Rattle.c_parse.specs.ItemReading as r
-use Rattle.c_parse.specs.ItemReading.{member_of, members_from, tagged, sees_tag, global_init, global_of, global, globals, definition, headed, function, is_array, declares, void_function, external, item_of, none_left, items_from, items, program}
+use Rattle.c_parse.specs.ItemReading.{member_of, members_from, tagged, sees_tag, global_init, global_of, global, globals, definition, headed, function, is_array, declares, void_function, declared_or_defined, item_of, none_left, items_from, items, program}
 use Rattle.c_parse_words.proofs.SeenTokens.{by_seen}
 use Rattle.c_parse_expr.proofs.Tests.{by_step, by_expect, by_name, with_parts}
 use Rattle.c_parse_expr.proofs.TypeSound.{base_sound, declarator_sound, params_sound}
@@ -161,9 +161,9 @@ declares_sound d is_static b v start mid next ts all rest s is k h = by_test (se
     function_sound d m is_static (Some v.shape) v.name l start mid after all rest s (IsResult.some (pointed is stars)) free (rw at at h)))))
     (λ _ h. IsItem.globals s is (globals_sound d (line_of start) is_static b v next ts all rest k h))
 
-external_sound : (d : ℕ) (is_static : Bool) (start ts : Tokens) (all : List RawItem) (rest : Tokens) → IsStatic start is_static ts → external d (line_of start) is_static ts ≡ Ok (all, rest) → IsItem start all rest
-unfolding external void_function
-external_sound d is_static start ts all rest s h = by_test (sees Name (codes "void") ts) h
+declared_or_defined_sound : (d : ℕ) (is_static : Bool) (start ts : Tokens) (all : List RawItem) (rest : Tokens) → IsStatic start is_static ts → declared_or_defined d (line_of start) is_static ts ≡ Ok (all, rest) → IsItem start all rest
+unfolding declared_or_defined void_function
+declared_or_defined_sound d is_static start ts all rest s h = by_test (sees Name (codes "void") ts) h
     (λ there h. by_seen Name (codes "void") ts there (λ k mid at.
     by_step (read_name (drop 1 ts)) _ h (λ w after went h.
     let e : drop 1 ts ≡ mid = ap (drop 1) at in
@@ -189,8 +189,8 @@ item_sound d ts all rest h = by_test (sees Include (header false) ts) h
     (λ _ h. by_test (sees_tag ts) h
     (λ is h. let p = and_parts (sees Name (codes "struct") ts) _ is in by_seen Name (codes "struct") ts p.0 (λ l mid at. rw at (tagged_sound d l mid all rest (rw at at h))))
     (λ _ h. by_test (sees Name (codes "static") ts) h
-    (λ is h. by_seen Name (codes "static") ts is (λ l mid at. external_sound d true ts mid all rest (rw at IsStatic.static) (subst (λ r. external d (line_of ts) true r ≡ Ok (all, rest)) (ap (drop 1) at) h)))
-    (λ _ h. external_sound d false ts ts all rest IsStatic.external h))))
+    (λ is h. by_seen Name (codes "static") ts is (λ l mid at. declared_or_defined_sound d true ts mid all rest (rw at IsStatic.static) (subst (λ r. declared_or_defined d (line_of ts) true r ≡ Ok (all, rest)) (ap (drop 1) at) h)))
+    (λ _ h. declared_or_defined_sound d false ts ts all rest IsStatic.external h))))
 
 record ItemsRead (found : List RawItem) (ts : Tokens) (all : List RawItem) (rest : Tokens) : Type 0 where
   added : List RawItem

@@ -13,31 +13,31 @@ use Rattle.c_parse_left_out.proofs.NearLaws.{near_begins}
 use Rattle.c_parse.specs.declared.parse_fault.ParseFault.{ParseFault}
 use Rattle.c_parse.specs.declared.parse_fault.ParseFault.TheVariants as fault
 use Rattle.c_parse.specs.ItemReading.{program, items_from, none_left}
-use Rattle.c_parse.specs.Parser.{IsLineOf, left_out, named, some_line, line_before, NamesAt, Judges}
+use Rattle.c_parse.specs.Parser.{IsLineOf, left_out, named, some_line, line_before, NamesAt, Answers}
 
 -- ---- what is named
 
 -- The construct at the place that is named is told.
-named_judges : (ts : Tokens) (outcome : Outcome RawProgram) (at : ℕ) (f : ParseFault) → named ts outcome ≡ Some at → NamesAt ts at f → Judges ts outcome (Err f)
-named_judges ts outcome at (fault.LeftOut text line) h is = (is.0, (at, h, is.1))
-named_judges ts outcome at (fault.Syntax line) h is = absurd is
-named_judges ts outcome at (fault.Nesting line) h is = absurd is
-named_judges ts outcome at fault.NoMemory h is = tt
+named_answers : (ts : Tokens) (outcome : Outcome RawProgram) (at : ℕ) (f : ParseFault) → named ts outcome ≡ Some at → NamesAt ts at f → Answers ts outcome (Err f)
+named_answers ts outcome at (fault.LeftOut text line) h is = (is.0, (at, h, is.1))
+named_answers ts outcome at (fault.Syntax line) h is = absurd is
+named_answers ts outcome at (fault.Nesting line) h is = absurd is
+named_answers ts outcome at fault.NoMemory h is = tt
 
 -- in tokens that were read
-pub told_judges : (ts rest : Tokens) (all : RawProgram) (outcome : Outcome RawProgram) (at : ℕ) (f : ParseFault)
-    → outcome ≡ Ok (all, rest) → first_told 0 [] ts ≡ Some at → NamesAt ts at f → Judges ts outcome (Err f)
-told_judges ts rest all outcome at f e h is = named_judges ts outcome at f (ap (named ts) e ∙ h) is
+pub told_answers : (ts rest : Tokens) (all : RawProgram) (outcome : Outcome RawProgram) (at : ℕ) (f : ParseFault)
+    → outcome ≡ Ok (all, rest) → first_told 0 [] ts ≡ Some at → NamesAt ts at f → Answers ts outcome (Err f)
+told_answers ts rest all outcome at f e h is = named_answers ts outcome at f (ap (named ts) e ∙ h) is
 
 -- in tokens in which reading stopped
-pub stopped_judges : (ts : Tokens) (outcome : Outcome RawProgram) (left at : ℕ) (f : ParseFault)
-    → outcome ≡ Err (Syntax left) → left_out ts (length ts - left) ≡ Some at → NamesAt ts at f → Judges ts outcome (Err f)
-stopped_judges ts outcome left at f e h is = named_judges ts outcome at f (ap (named ts) e ∙ h) is
+pub stopped_answers : (ts : Tokens) (outcome : Outcome RawProgram) (left at : ℕ) (f : ParseFault)
+    → outcome ≡ Err (Syntax left) → left_out ts (length ts - left) ≡ Some at → NamesAt ts at f → Answers ts outcome (Err f)
+stopped_answers ts outcome left at f e h is = named_answers ts outcome at f (ap (named ts) e ∙ h) is
 
 -- Where none is named, the line is told in which reading stopped.
-pub unnamed_judges : (ts : Tokens) (outcome : Outcome RawProgram) (left line : ℕ)
-    → outcome ≡ Err (Syntax left) → left_out ts (length ts - left) ≡ None → line ≡ line_before left ts → Judges ts outcome (Err (fault.Syntax line))
-unnamed_judges ts outcome left line e h at = (left, e, ap (named ts) e ∙ h, at)
+pub unnamed_answers : (ts : Tokens) (outcome : Outcome RawProgram) (left line : ℕ)
+    → outcome ≡ Err (Syntax left) → left_out ts (length ts - left) ≡ None → line ≡ line_before left ts → Answers ts outcome (Err (fault.Syntax line))
+unnamed_answers ts outcome left line e h at = (left, e, ap (named ts) e ∙ h, at)
 
 -- A construct without a production is left out where the tokens have no tree.
 without_tree : (ts : Tokens) (at : ℕ) → ((all : RawProgram) → IsProgram ts all → ⊥) → IsWithoutProductionAt ts at → IsLeftOutAt ts at
@@ -75,6 +75,6 @@ unfolding first_told
 nothing_told_of = refl
 
 -- what is answered for no tokens
-pub nothing_judges : (limit : ℕ) (ts : Tokens) (all : List RawItem) → all ≡ [] → length ts ≡ 0 → Judges ts (program limit ts) (Ok (record { items = all }))
-nothing_judges limit [] all e h = ([], nothing_read limit ∙ ap (λ (x : List RawItem). Ok (record { items = x }, [])) (sym e), nothing_told_of)
-nothing_judges limit (t ∷ ts) all e h = absurd (omega (arith, h))
+pub nothing_answers : (limit : ℕ) (ts : Tokens) (all : List RawItem) → all ≡ [] → length ts ≡ 0 → Answers ts (program limit ts) (Ok (record { items = all }))
+nothing_answers limit [] all e h = ([], nothing_read limit ∙ ap (λ (x : List RawItem). Ok (record { items = x }, [])) (sym e), nothing_told_of)
+nothing_answers limit (t ∷ ts) all e h = absurd (omega (arith, h))

@@ -12,7 +12,7 @@ use Rattle.c_parse.specs.declared.parse_fault.ParseFault.TheVariants as fault
 use Rattle.c_parse_expr.specs.Outcome.{Outcome, Syntax, Deep}
 use Rattle.c_parse.specs.ItemReading.{program}
 use Rattle.c_parse_left_out.specs.Telling.{first_told}
-use Rattle.c_parse.specs.Parser.{IsRight, IsTree, IsTooDeep, Judges}
+use Rattle.c_parse.specs.Parser.{IsRight, Gives, IsTooDeep, Answers}
 use Rattle.c_parse_expr.proofs.Tests.{ok_parts}
 use Rattle.c_parse.proofs.ItemLaws.{program_exact}
 use Rattle.c_parse.proofs.ItemSound.{program_sound}
@@ -58,7 +58,7 @@ no_tree limit left ts h all is = elim (cases_lt limit (program_nesting all)) [
   | inr p ↦ let e = (program_exact is limit).fits p in absurd (let f : ◌≡◌ {A = Outcome RawProgram} (Err (Syntax left)) (Ok (all, [])) = sym h ∙ e in cc)
 ]
 
-pub right : (limit : ℕ) (ts : Tokens) (r : Result RawProgram ParseFault) → Judges ts (program limit ts) r → IsRight ts limit r
+pub right : (limit : ℕ) (ts : Tokens) (r : Result RawProgram ParseFault) → Answers ts (program limit ts) r → IsRight ts limit r
 right limit ts (Ok all) h =
     let is = program_sound limit ts all h.0 h.1 in
     (is, in_grammar ts all is h.2, fits_limit limit ts all h.0 h.1 is)
@@ -67,15 +67,15 @@ right limit ts (Err (fault.Syntax line)) h = no_tree limit h.0 ts h.1
 right limit ts (Err (fault.Nesting line)) h = (program_deep limit ts h, above_limit limit ts h)
 right limit ts (Err fault.NoMemory) h = tt
 
-pub accepted : (limit : ℕ) (ts : Tokens) (r : Result RawProgram ParseFault) → Judges ts (program limit ts) r
-    → (all : RawProgram) → IsProgram ts all → IsInGrammar ts → program_nesting all ≤ limit → IsTree all r
+pub accepted : (limit : ℕ) (ts : Tokens) (r : Result RawProgram ParseFault) → Answers ts (program limit ts) r
+    → (all : RawProgram) → IsProgram ts all → IsInGrammar ts → program_nesting all ≤ limit → Gives all r
 accepted limit ts (Ok found) h all is g p = (ok_parts (sym h.1 ∙ (program_exact is limit).fits p)).0
 accepted limit ts (Err (fault.LeftOut text line)) h all is g p = g.whole text line h.0
 accepted limit ts (Err (fault.Syntax line)) h all is g p = no_tree limit h.0 ts h.1 all is
 accepted limit ts (Err (fault.Nesting line)) h all is g p = absurd (let f : ◌≡◌ {A = Outcome RawProgram} (Err Deep) (Ok (all, [])) = sym h ∙ (program_exact is limit).fits p in cc)
 accepted limit ts (Err fault.NoMemory) h all is g p = tt
 
-pub deep : (limit : ℕ) (ts : Tokens) (r : Result RawProgram ParseFault) → Judges ts (program limit ts) r
+pub deep : (limit : ℕ) (ts : Tokens) (r : Result RawProgram ParseFault) → Answers ts (program limit ts) r
     → (all : RawProgram) → IsProgram ts all → IsInGrammar ts → limit < program_nesting all → IsTooDeep r
 deep limit ts (Ok found) h all is g p = absurd (let f : ◌≡◌ {A = Outcome RawProgram} (Ok (found, h.0)) (Err Deep) = sym h.1 ∙ (program_exact is limit).deep p in cc)
 deep limit ts (Err (fault.LeftOut text line)) h all is g p = g.whole text line h.0
@@ -83,6 +83,6 @@ deep limit ts (Err (fault.Syntax line)) h all is g p = no_tree limit h.0 ts h.1 
 deep limit ts (Err (fault.Nesting line)) h all is g p = tt
 deep limit ts (Err fault.NoMemory) h all is g p = tt
 
-pub only : (limit : ℕ) (ts : Tokens) (r : Result RawProgram ParseFault) → Judges ts (program limit ts) r → IfOk r (λ found. (all : RawProgram) → IsProgram ts all → found ≡ all)
+pub only : (limit : ℕ) (ts : Tokens) (r : Result RawProgram ParseFault) → Answers ts (program limit ts) r → IfOk r (λ found. (all : RawProgram) → IsProgram ts all → found ≡ all)
 only limit ts (Ok found) h = λ all is. one_tree ts found all (program_sound limit ts found h.0 h.1) is
 only limit ts (Err x) h = tt

@@ -1,5 +1,5 @@
 -- Reading items and whole texts from left to right, as the parser does it. A number `d` bounds how deep what is read may nest.
-use Rattle.std.specs.Prelude.{ℕ, zero, suc, ◌+◌, Bool, true, false, ◌&&◌, ◌||◌, List, [], ◌∷◌, ◌++◌, length, drop, codes, slice_get, Option, Some, None, Ok, if◌then◌else◌}
+use Rattle.std.specs.Prelude.{ℕ, zero, suc, ◌+◌, Bool, true, false, ◌&&◌, ◌||◌, List, [], ◌∷◌, ◌++◌, length, drop, codes, slice_get, Option, Some, None, is_none, Ok, if◌then◌else◌}
 use Rattle.c_tree.specs.declared.raw.expr.RawType.{RawType, fold-RawType}
 use Rattle.c_tree.specs.declared.raw.expr.RawType.TheOpen.{RawType-F}
 use Rattle.c_tree.specs.declared.raw.expr.RawVar.{RawVar}
@@ -116,8 +116,8 @@ unfoldable pub void_function : ℕ → ℕ → Bool → Parser (List RawItem)
 void_function d line is_static ts = and_then (read_name ts) (λ w ts. and_then (expect (codes "(") ts) (λ _ ts. function d line is_static None w ts))
 
 -- globals or a function, behind `static` or without it
-unfoldable pub external : ℕ → ℕ → Bool → Parser (List RawItem)
-external d line is_static ts =
+unfoldable pub declared_or_defined : ℕ → ℕ → Bool → Parser (List RawItem)
+declared_or_defined d line is_static ts =
     if sees Name (codes "void") ts then void_function d line is_static (drop 1 ts)
     else and_then (base ts) (λ b ts. and_then (declarator d b ts) (λ v ts. declares d line is_static b v ts))
 
@@ -128,18 +128,14 @@ item_of d ts =
     if sees Include (header false) ts then Ok (item.Include false ∷ [], drop 1 ts)
     else if sees Include (header true) ts then Ok (item.Include true ∷ [], drop 1 ts)
     else if sees_tag ts then tagged d (line_of ts) (drop 1 ts)
-    else if sees Name (codes "static") ts then external d (line_of ts) true (drop 1 ts)
-    else external d (line_of ts) false ts
-
-abbrev pub is_nothing : {A : Type 0} → Option A → Bool
-is_nothing None = true
-is_nothing (Some x) = false
+    else if sees Name (codes "static") ts then declared_or_defined d (line_of ts) true (drop 1 ts)
+    else declared_or_defined d (line_of ts) false ts
 
 -- no tokens are left
 unfoldable pub none_left : Tokens → Bool
-none_left ts = is_nothing (slice_get ts 0)
+none_left ts = is_none (slice_get ts 0)
 
--- each turn takes a token
+-- each turn reads an item, which takes at least one token
 unfoldable pub items_from : ℕ → ℕ → List RawItem → Parser (List RawItem)
 items_from d zero found ts = Ok (found, ts)
 items_from d (suc turns) found ts = if none_left ts then Ok (found, ts) else and_then (item_of d ts) (λ some ts. items_from d turns (found ++ some) ts)

@@ -25,12 +25,12 @@ IsRight ts limit (Err (fault.Nesting line)) = (limit < nesting_tokens ts) × ((a
 IsRight ts limit (Err fault.NoMemory) = Unit {0}
 
 -- the tree, unless memory runs out
-abbrev pub IsTree : RawProgram → Result RawProgram ParseFault → Type 0
-IsTree all (Ok found) = found ≡ all
-IsTree all (Err fault.NoMemory) = Unit {0}
-IsTree all (Err (fault.LeftOut text line)) = ⊥
-IsTree all (Err (fault.Syntax line)) = ⊥
-IsTree all (Err (fault.Nesting line)) = ⊥
+abbrev pub Gives : RawProgram → Result RawProgram ParseFault → Type 0
+Gives all (Ok found) = found ≡ all
+Gives all (Err fault.NoMemory) = Unit {0}
+Gives all (Err (fault.LeftOut text line)) = ⊥
+Gives all (Err (fault.Syntax line)) = ⊥
+Gives all (Err (fault.Nesting line)) = ⊥
 
 -- too deep, unless memory runs out
 abbrev pub IsTooDeep : Result RawProgram ParseFault → Type 0
@@ -96,16 +96,16 @@ NamesAt ts at (fault.Nesting line) = ⊥
 NamesAt ts at fault.NoMemory = Unit {0}
 
 -- What is answered by what was read, unless memory runs out.
-abbrev pub Judges : Tokens → Outcome RawProgram → Result RawProgram ParseFault → Type 0
-Judges ts outcome (Ok all) = (rest : Tokens) × (outcome ≡ Ok (all, rest)) × (first_told 0 [] ts ≡ None)
-Judges ts outcome (Err (fault.LeftOut text line)) = IsLeftOut ts text line × ((at : ℕ) × (named ts outcome ≡ Some at) × StandsAt ts at text line)
-Judges ts outcome (Err (fault.Syntax line)) = (left : ℕ) × (outcome ≡ Err (Syntax left)) × (named ts outcome ≡ None) × (line ≡ line_before left ts)
-Judges ts outcome (Err (fault.Nesting line)) = outcome ≡ Err Deep
-Judges ts outcome (Err fault.NoMemory) = Unit {0}
+abbrev pub Answers : Tokens → Outcome RawProgram → Result RawProgram ParseFault → Type 0
+Answers ts outcome (Ok all) = (rest : Tokens) × (outcome ≡ Ok (all, rest)) × (first_told 0 [] ts ≡ None)
+Answers ts outcome (Err (fault.LeftOut text line)) = IsLeftOut ts text line × ((at : ℕ) × (named ts outcome ≡ Some at) × StandsAt ts at text line)
+Answers ts outcome (Err (fault.Syntax line)) = (left : ℕ) × (outcome ≡ Err (Syntax left)) × (named ts outcome ≡ None) × (line ≡ line_before left ts)
+Answers ts outcome (Err (fault.Nesting line)) = outcome ≡ Err Deep
+Answers ts outcome (Err fault.NoMemory) = Unit {0}
 
 -- What is read of all the tokens, of which a rest may be left.
-abbrev pub Gives : Outcome RawProgram → Result RawProgram Stop → Type 0
-Gives outcome (Ok all) = (rest : Tokens) × (outcome ≡ Ok (all, rest))
-Gives outcome (Err stop.Memory) = Unit {0}
-Gives outcome (Err (stop.Syntax left)) = outcome ≡ Err (Syntax left)
-Gives outcome (Err (stop.Deep left)) = outcome ≡ Err Deep
+abbrev pub ReadsAll : Outcome RawProgram → Result RawProgram Stop → Type 0
+ReadsAll outcome (Ok all) = (rest : Tokens) × (outcome ≡ Ok (all, rest))
+ReadsAll outcome (Err stop.Memory) = Unit {0}
+ReadsAll outcome (Err (stop.Syntax left)) = outcome ≡ Err (Syntax left)
+ReadsAll outcome (Err (stop.Deep left)) = outcome ≡ Err Deep

@@ -8,11 +8,11 @@ ghost use Rattle.c_parse.specs.ItemReading as spec;
 use c_language::{Text, TokenKind};
 use c_parse_expr::cursor::Cursor;
 use c_parse_expr::expr::expression;
+use c_parse_expr::extension::CONDITIONAL_LEVEL;
 use c_parse_expr::fault::Stop;
 use c_parse_expr::forms::is_listed;
 use c_parse_expr::params::params;
 use c_parse_expr::shape::Base;
-use c_parse_expr::suffix::CONDITIONAL_LEVEL;
 use c_parse_expr::types::{base, declarator};
 use c_parse_simple::simple::list;
 use c_parse_statements::statement::braced;
@@ -404,8 +404,8 @@ fn void_function(
 }
 
 /// Globals or a function, behind `static` or without it.
-#[tactic(auto, unfolding(crate::specs::ItemReading::external))]
-fn external(
+#[tactic(auto, unfolding(crate::specs::ItemReading::declared_or_defined))]
+fn declared_or_defined(
     alloc: Global,
     tokens: &mut Cursor<'_>,
     depth: u32,
@@ -413,7 +413,7 @@ fn external(
     is_static: bool,
 ) -> Result<Items<RawItem>, Stop>
     requires { depth ≤ 100 }
-    ensures { Reads (spec.external depth line is_static tokens.old) result tokens.new }
+    ensures { Reads (spec.declared_or_defined depth line is_static tokens.old) result tokens.new }
 {
     if tokens.sees(TokenKind::Name, b"void") {
         tokens.skip();
@@ -445,9 +445,9 @@ fn item(alloc: Global, tokens: &mut Cursor<'_>, depth: u32) -> Result<Items<RawI
     }
     if tokens.sees(TokenKind::Name, b"static") {
         tokens.skip();
-        return external(alloc, tokens, depth, line, true);
+        return declared_or_defined(alloc, tokens, depth, line, true);
     }
-    external(alloc, tokens, depth, line, false)
+    declared_or_defined(alloc, tokens, depth, line, false)
 }
 
 /// Whether no tokens are left.

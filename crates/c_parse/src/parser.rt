@@ -8,7 +8,7 @@ ghost use Rattle.c_parse.specs.ItemReading as reading;
 ghost use Rattle.c_parse_expr.specs.Outcome.{Syntax};
 ghost use Rattle.c_parse_left_out.specs.Places.{IsLeftOutAt};
 ghost use Rattle.c_parse.specs.Parser as spec;
-ghost use Rattle.c_parse.specs.Parser.{IsRight, IsTree, IsTooDeep, IsLineOf, HasLine, Names, NamesAt, Judges, Gives, line_before};
+ghost use Rattle.c_parse.specs.Parser.{IsRight, Gives, IsTooDeep, IsLineOf, HasLine, Names, NamesAt, Answers, ReadsAll, line_before};
 
 use crate::items::program;
 use crate::parse_fault::ParseFault;
@@ -72,11 +72,11 @@ fn left_out(tokens: &[Token], stop: usize) -> Option<usize>
 }
 
 /// Why there is no tree, where reading stopped before so many tokens.
-#[tactic(auto, using(crate::proofs::ParserLaws::no_tree, crate::proofs::NamedLaws::stopped_judges, crate::proofs::NamedLaws::unnamed_judges))]
+#[tactic(auto, using(crate::proofs::ParserLaws::no_tree, crate::proofs::NamedLaws::stopped_answers, crate::proofs::NamedLaws::unnamed_answers))]
 fn refused(alloc: Global, tokens: &[Token], left: usize) -> ParseFault
     requires some { 0 < length tokens.now }
     requires stopped { reading.program 100 tokens.now ≡ Err (Syntax left) }
-    ensures exact { Judges tokens.now (reading.program 100 tokens.now) (Err result) }
+    ensures exact { Answers tokens.now (reading.program 100 tokens.now) (Err result) }
     ensures line { HasLine tokens.now (Err result) }
 {
     match left_out(tokens, tokens.len().saturating_sub(left)) {
@@ -87,16 +87,16 @@ fn refused(alloc: Global, tokens: &[Token], left: usize) -> ParseFault
 
 /// What is read of all the tokens.
 fn read(alloc: Global, tokens: &[Token]) -> Result<RawProgram, Stop>
-    ensures { Gives (reading.program 100 tokens.now) result }
+    ensures { ReadsAll (reading.program 100 tokens.now) result }
 {
     program(alloc, &mut Cursor::new(tokens), MAX_NESTING)
 }
 
 /// What is answered for tokens, of which there is one at least.
-#[tactic(auto, using(c_parse_left_out::proofs::TellingLaws::told_is_left_out, crate::proofs::NamedLaws::told_judges))]
-fn judge(alloc: Global, tokens: &[Token]) -> Result<RawProgram, ParseFault>
+#[tactic(auto, using(c_parse_left_out::proofs::TellingLaws::told_is_left_out, crate::proofs::NamedLaws::told_answers))]
+fn answer(alloc: Global, tokens: &[Token]) -> Result<RawProgram, ParseFault>
     requires { 0 < length tokens.now }
-    ensures exact { Judges tokens.now (reading.program 100 tokens.now) result }
+    ensures exact { Answers tokens.now (reading.program 100 tokens.now) result }
     ensures line { HasLine tokens.now result }
 {
     match read(alloc, tokens) {
@@ -111,8 +111,8 @@ fn judge(alloc: Global, tokens: &[Token]) -> Result<RawProgram, ParseFault>
 }
 
 /// What is answered for any tokens. Where there is none, the tree has no items.
-fn judged(alloc: Global, tokens: &[Token]) -> Result<RawProgram, ParseFault>
-    ensures exact { Judges tokens.now (reading.program 100 tokens.now) result }
+fn answered(alloc: Global, tokens: &[Token]) -> Result<RawProgram, ParseFault>
+    ensures exact { Answers tokens.now (reading.program 100 tokens.now) result }
     ensures line { HasLine tokens.now result }
 {
     if tokens.is_empty() {
@@ -120,7 +120,7 @@ fn judged(alloc: Global, tokens: &[Token]) -> Result<RawProgram, ParseFault>
             items: Items::new(alloc),
         });
     }
-    judge(alloc, tokens)
+    answer(alloc, tokens)
 }
 
 /// The tree of a text's tokens (ISO C99 6.5 to 6.9).
@@ -132,15 +132,15 @@ fn judged(alloc: Global, tokens: &[Token]) -> Result<RawProgram, ParseFault>
 #[tactic(auto, using(crate::proofs::ParserLaws::right, crate::proofs::ParserLaws::accepted, crate::proofs::ParserLaws::deep, crate::proofs::ParserLaws::only))]
 pub fn parse(alloc: Global, tokens: &[Token]) -> Result<RawProgram, ParseFault>
     ensures right { IsRight tokens.now 100 result }
-    ensures accepted { (all : RawProgram) → IsProgram tokens.now all → IsInGrammar tokens.now → program_nesting all ≤ 100 → IsTree all result }
+    ensures accepted { (all : RawProgram) → IsProgram tokens.now all → IsInGrammar tokens.now → program_nesting all ≤ 100 → Gives all result }
     ensures deep { (all : RawProgram) → IsProgram tokens.now all → IsInGrammar tokens.now → 100 < program_nesting all → IsTooDeep result }
     // No tokens have two trees.
     ensures only { IfOk result (λ found. (all : RawProgram) → IsProgram tokens.now all → found ≡ all) }
     // Of the constructs, the one is named because of which reading stopped, and where none is, the line is the one in
     // which it stopped.
-    ensures exact { Judges tokens.now (reading.program 100 tokens.now) result }
+    ensures exact { Answers tokens.now (reading.program 100 tokens.now) result }
     // The line of a fault is that of a token.
     ensures line { HasLine tokens.now result }
 {
-    judged(alloc, tokens)
+    answered(alloc, tokens)
 }

@@ -19,16 +19,16 @@ use Rattle.c_language.specs.declared.operators.Prefix.TheVariants.{Sign, Deref, 
 use Rattle.c_language.specs.declared.operators.Selector.{Selector}
 use Rattle.c_language.specs.declared.operators.Selector.TheVariants.{Dot, Arrow}
 use Rattle.c_language.proofs.NestingLemmas.{nesting-Constant, nesting-Null, nesting-Eof, nesting-Variable, nesting-Paren, nesting-Cast, nesting-Index, nesting-Choose, nesting-joint, nesting-applied, nesting-selected}
-use Rattle.c_parse_expr.specs.declared.suffix.Suffix.{Suffix}
-use Rattle.c_parse_expr.specs.declared.suffix.Suffix.TheVariants.{Operator, Question, Bracket, Select}
+use Rattle.c_parse_expr.specs.declared.extension.Extension.{Extension}
+use Rattle.c_parse_expr.specs.declared.extension.Extension.TheVariants.{Operator, Question, Bracket, Select}
 use Rattle.c_parse_expr.specs.Outcome.{Parser, Deep, expect}
-use Rattle.c_parse_expr.specs.IntReading.{int_type}
-use Rattle.c_parse_expr.specs.ExprReading.{suffix, prefix_at, atom, read_member, parenthesized, converted, signed, prefix, with_operand, with_choice, with_index, extended_by, extended, climb, expression_with, nested, expression}
+use Rattle.c_parse_expr.specs.IntReading.{int_type_name}
+use Rattle.c_parse_expr.specs.ExprReading.{extension, prefix_at, atom, read_member, parenthesized, converted, signed, prefix, with_operand, with_choice, with_index, extended_by, extended, climb, expression_with, nested, expression}
 use Rattle.c_parse_words.proofs.SeenTokens.{by_seen}
-use Rattle.c_parse_expr.proofs.Tests.{by_fault, by_expect, expect_fault, member_fault}
+use Rattle.c_parse_expr.proofs.Tests.{by_choice, by_fault, by_expect, expect_fault, member_fault}
 use Rattle.c_parse_expr.proofs.IntLaws.{int_type_fault, int_type_sound}
 use Rattle.c_parse_expr.proofs.ExprLaws.{level_low}
-use Rattle.c_parse_expr.proofs.ExprSound.{IsSound, Front, suffix_is, suffix_sign, prefix_op_is, by_suffix, by_prefix, prefix_is, extended_is, nested_sound}
+use Rattle.c_parse_expr.proofs.ExprSound.{IsSound, Front, extension_is, extension_sign, prefix_op_is, by_extension, prefix_is, extended_is, nested_sound}
 use Rattle.c_language.proofs.Tests.{by_test}
 
 -- ---- each node has a token of its own
@@ -65,11 +65,11 @@ selector_nests : (by : Selector) (l : ℕ) (ts : Tokens) → nesting_tokens (mar
 selector_nests Dot l ts = refl
 selector_nests Arrow l ts = refl
 
-suffix_nests : (x : Suffix) (l : ℕ) (ts : Tokens) → nesting_tokens (mark (suffix_sign x) l ∷ ts) ≡ 1 + nesting_tokens ts
-suffix_nests (Operator op) l ts = sign_nests op l ts
-suffix_nests Question l ts = refl
-suffix_nests Bracket l ts = refl
-suffix_nests (Select by) l ts = selector_nests by l ts
+extension_nests : (x : Extension) (l : ℕ) (ts : Tokens) → nesting_tokens (mark (extension_sign x) l ∷ ts) ≡ 1 + nesting_tokens ts
+extension_nests (Operator op) l ts = sign_nests op l ts
+extension_nests Question l ts = refl
+extension_nests Bracket l ts = refl
+extension_nests (Select by) l ts = selector_nests by l ts
 
 words_tokens : {ts rest : Tokens} {ws : List Bytes} → AreWords ts ws rest → nesting_tokens rest ≤ nesting_tokens ts
 words_tokens none = omega arith
@@ -118,7 +118,7 @@ module _ (deeper : ℕ → Parser RawExpr) (d : ℕ) (sound : IsSound d deeper) 
   converted_deep : IsDeep d (converted deeper)
   unfolding converted
   converted_deep ts h =
-      by_fault (int_type ts) _ h (int_type_fault ts) (λ t mid went h.
+      by_fault (int_type_name ts) _ h (int_type_fault ts) (λ t mid went h.
       by_fault (expect (codes ")") mid) _ h (expect_fault (codes ")") mid) (λ u after closed h.
       by_fault (deeper 12 after) _ h (λ h.
       by_expect (codes ")") mid after u closed (λ k at.
@@ -141,15 +141,15 @@ module _ (deeper : ℕ → Parser RawExpr) (d : ℕ) (sound : IsSound d deeper) 
       by_test (sees_int_word (drop 1 ts)) h
       (λ _ h. let x = converted_deep mid (rw e at h) in omega (arith, x, c))
       (λ _ h. let x = parenthesized_deep mid (rw e at h) in omega (arith, x, c))))
-      (λ _ h. by_prefix (prefix_at ts) (atom ts) _ h
-      (λ h. atom_fault ts h)
+      (λ _ h. by_choice (prefix_at ts) (atom ts) _ h
+      (λ _ h. atom_fault ts h)
       (λ op at h.
       let w = prefix_op_is op ts at in
       let e : drop 1 ts ≡ w.1 = ap (drop 1) w.2 in
       let c : nesting_tokens ts ≡ 1 + nesting_tokens w.1 = ap nesting_tokens w.2 ∙ prefix_nests op w.0 w.1 in
       let x = signed_deep op w.1 (rw e at h) in omega (arith, x, c)))
 
-  extended_by_deep : (x : Suffix) (a : RawExpr) → IsDeep d (extended_by deeper x a)
+  extended_by_deep : (x : Extension) (a : RawExpr) → IsDeep d (extended_by deeper x a)
   unfolding extended_by with_operand with_choice with_index
   extended_by_deep (Operator op) a ts h =
       let low = level_low op in
@@ -167,12 +167,12 @@ module _ (deeper : ℕ → Parser RawExpr) (d : ℕ) (sound : IsSound d deeper) 
   extended_by_deep Bracket a ts h = by_fault (deeper 1 ts) _ h (deep 1 (omega arith) (omega arith) ts) (λ i mid _ h. by_fault (expect (codes "]") mid) _ h (expect_fault (codes "]") mid) (λ _ _ _ h. absurd cc))
   extended_by_deep (Select by) a ts h = by_fault (read_member ts) _ h (member_fault ts) (λ _ _ _ h. absurd cc)
 
-  -- the suffix at the front has a token, and so does each node of a
-  extended_deep : (x : Suffix) (a : RawExpr) (start ts : Tokens) → suffix ts ≡ Some x → nesting a + nesting_tokens ts ≤ nesting_tokens start → extended deeper d x a ts ≡ Err Deep → d < nesting_tokens start
+  -- the extension at the front has a token, and so does each node of a
+  extended_deep : (x : Extension) (a : RawExpr) (start ts : Tokens) → extension ts ≡ Some x → nesting a + nesting_tokens ts ≤ nesting_tokens start → extended deeper d x a ts ≡ Err Deep → d < nesting_tokens start
   unfolding extended
   extended_deep x a start ts at enough h =
-      let w = suffix_is x ts at in
-      let e : nesting_tokens ts ≡ 1 + nesting_tokens w.1 = ap nesting_tokens w.2 ∙ suffix_nests x w.0 w.1 in
+      let w = extension_is x ts at in
+      let e : nesting_tokens ts ≡ 1 + nesting_tokens w.1 = ap nesting_tokens w.2 ∙ extension_nests x w.0 w.1 in
       let f : drop 1 ts ≡ w.1 = ap (drop 1) w.2 in
       by_test (nat_lt (nesting a) d) h
       (λ _ h. let x = extended_by_deep x a (drop 1 ts) h in let y : nesting_tokens (drop 1 ts) ≡ nesting_tokens w.1 = ap nesting_tokens f in omega (arith, x, y, e, enough))
@@ -182,7 +182,7 @@ module _ (deeper : ℕ → Parser RawExpr) (d : ℕ) (sound : IsSound d deeper) 
   unfolding climb
   climb_deep n start zero a ts one_up below p h = absurd cc
   climb_deep n start (suc turns) a ts one_up below p h =
-      by_suffix n ts (Ok (a, ts)) _ one_up h
+      by_extension n ts (Ok (a, ts)) _ one_up h
       (λ _ h. absurd cc)
       (λ x at above h. by_fault (extended deeper d x a ts) _ h
       (λ h. extended_deep x a start ts at (expr_tokens p.is) h)

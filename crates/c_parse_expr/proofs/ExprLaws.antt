@@ -1,7 +1,7 @@
 -- Each expression of the grammar is read, and those that nest too deep are refused for that.
-use Rattle.std.proofs.Common.{◌≡◌, ℕ, zero, suc, ◌+◌, ◌≤◌, ◌<◌, ◌∷◌, length, drop, refl, sym, ap, ◌∙◌, arith, Bool, true, false, not, ◌||◌, Option, Some, None, Ok, Err, codes, inl, inr}
+use Rattle.std.proofs.Common.{◌≡◌, ℕ, zero, suc, ◌+◌, ◌≤◌, ◌<◌, ◌∷◌, length, drop, refl, sym, ap, ◌∙◌, arith, Bool, true, false, not, ◌||◌, Option, Some, None, is_some, Ok, Err, codes, inl, inr}
 use Rattle.std.specs.Str.{bytes_eq}
-use Rattle.std.proofs.lemmas.Bool.{cases_lt, cases_Bool, and_parts, not-true}
+use Rattle.std.proofs.lemmas.Bool.{cases_lt, and_parts, not-true}
 use Rattle.std.proofs.lemmas.Bool.Decides.{nat_tests}
 use Rattle.c_arith.specs.declared.int_type.IntType.{IntType}
 use Rattle.c_arith.specs.declared.operators.BinaryOp.{BinaryOp}
@@ -24,14 +24,14 @@ use Rattle.c_language.specs.declared.operators.Prefix.TheVariants.{Sign, Deref, 
 use Rattle.c_language.specs.declared.operators.Selector.{Selector}
 use Rattle.c_language.specs.declared.operators.Selector.TheVariants.{Dot, Arrow}
 use Rattle.c_language.proofs.NestingLemmas.{nesting-Constant, nesting-Null, nesting-Eof, nesting-Variable, nesting-Paren, nesting-Cast, nesting-Index, nesting-Choose, nesting-joint, nesting-applied, nesting-selected}
-use Rattle.c_parse_expr.specs.declared.suffix.Suffix.{Suffix}
-use Rattle.c_parse_expr.specs.declared.suffix.Suffix.TheVariants.{Operator, Question, Bracket, Select}
-use Rattle.c_parse_expr.specs.Outcome.{Outcome, Parser, and_then, Deep, expect}
-use Rattle.c_parse_expr.specs.IntReading.{int_type}
-use Rattle.c_parse_expr.specs.ExprReading.{logical, comparison, arithmetic, infix_by, suffix_by, multiplies_size, suffix, goes_on, is_some_suffix, suffix_level, at_least, suffix_from, with_suffix, prefix_by, prefix_at, named, atom, parenthesized, converted, signed, prefix, with_operand, with_choice, with_index, extended_by, extended, climb, expression_with, nested, expression}
+use Rattle.c_parse_expr.specs.declared.extension.Extension.{Extension}
+use Rattle.c_parse_expr.specs.declared.extension.Extension.TheVariants.{Operator, Question, Bracket, Select}
+use Rattle.c_parse_expr.specs.Outcome.{Outcome, Parser, and_then, by_option, Deep, expect}
+use Rattle.c_parse_expr.specs.IntReading.{int_type_name}
+use Rattle.c_parse_expr.specs.ExprReading.{logical, comparison, arithmetic, infix_by, extension_by, multiplies_size, extension, goes_on, extension_level, at_least, extension_from, prefix_by, prefix_at, named, atom, parenthesized, converted, signed, prefix, with_operand, with_choice, with_index, extended_by, extended, climb, expression_with, nested, expression}
+use Rattle.c_parse_words.proofs.SeenTokens.{apart_by}
 use Rattle.c_parse_expr.proofs.Tests.{ok_parts, read_member_at}
 use Rattle.c_parse_expr.proofs.IntLaws.{int_type_read, int_type_shorter, int_type_begins}
-use Rattle.c_language.proofs.Lists.{same_bytes}
 use Rattle.c_language.proofs.Keywords.{no_keyword, no_int_word, null_free, eof_free}
 
 -- a tree has at least one token
@@ -79,15 +79,9 @@ pub name_begins : (w : Bytes) (l : ℕ) (ts : Tokens) → is_keyword w ≡ false
 unfolding sees sees_int_word
 name_begins w l ts h = record { no_word = λ text k. no_keyword w text h k; no_type = no_int_word w h; no_mark = λ text k. refl }
 
-other_mark : (w text : Bytes) → may_begin w ≡ true → may_begin text ≡ false → bytes_eq w text ≡ false
-other_mark w text h k = elim (cases_Bool (bytes_eq w text)) [
-  | inl is ↦ let e : may_begin w ≡ may_begin text = ap may_begin (same_bytes w text is) in absurd (let f : true ≡ false = sym h ∙ (e ∙ k) in cc)
-  | inr isnt ↦ isnt
-]
-
 mark_begins : (w : Bytes) (l : ℕ) (ts : Tokens) → may_begin w ≡ true → BeginsExpr (mark w l ∷ ts)
 unfolding sees sees_int_word
-mark_begins w l ts h = record { no_word = λ text k. refl; no_type = refl; no_mark = λ text k. other_mark w text h k }
+mark_begins w l ts h = record { no_word = λ text k. refl; no_type = refl; no_mark = λ text k. apart_by may_begin w text h k }
 
 number_begins : (w : Bytes) (l : ℕ) (ts : Tokens) → BeginsExpr (number w l ∷ ts)
 unfolding sees sees_int_word
@@ -97,7 +91,7 @@ character_begins : (w : Bytes) (l : ℕ) (ts : Tokens) → BeginsExpr (character
 unfolding sees sees_int_word
 character_begins w l ts = record { no_word = λ text k. refl; no_type = refl; no_mark = λ text k. refl }
 
-prefix_may : (op : Prefix) → may_begin (prefix_sign op) ≡ true
+pub prefix_may : (op : Prefix) → may_begin (prefix_sign op) ≡ true
 prefix_may (Sign Plus) = refl
 prefix_may (Sign Minus) = refl
 prefix_may (Sign Flip) = refl
@@ -126,18 +120,18 @@ begins_expr (choose p h k j) = begins_expr h
 no_size : {ts : Tokens} → BeginsExpr ts → sees Name (codes "sizeof") ts ≡ false
 no_size b = b.no_word (codes "sizeof") size_word
 
--- ---- suffixes
+-- ---- extensions
 
--- how tightly the suffix at the front binds, or 0
-abbrev pub level_by : Option Suffix → ℕ
+-- how tightly the extension at the front binds, or 0
+abbrev pub level_by : Option Extension → ℕ
 level_by None = 0
-level_by (Some x) = suffix_level x
+level_by (Some x) = extension_level x
 
 abbrev pub head_level : Tokens → ℕ
-head_level ts = level_by (suffix ts)
+head_level ts = level_by (extension ts)
 
-pub infix_at : (op : Infix) (l : ℕ) (ts : Tokens) → sees Name (codes "sizeof") ts ≡ false → suffix (mark (sign op) l ∷ ts) ≡ Some (Operator op)
-unfolding suffix suffix_by infix_by logical comparison arithmetic multiplies_size sees sees_second
+pub infix_at : (op : Infix) (l : ℕ) (ts : Tokens) → sees Name (codes "sizeof") ts ≡ false → extension (mark (sign op) l ∷ ts) ≡ Some (Operator op)
+unfolding extension extension_by infix_by logical comparison arithmetic multiplies_size sees sees_second
 infix_at OrElse l ts h = refl
 infix_at AndAlso l ts h = refl
 infix_at (Strict Mul) l ts h = rw h refl
@@ -157,94 +151,94 @@ infix_at (Strict And) l ts h = refl
 infix_at (Strict Xor) l ts h = refl
 infix_at (Strict Or) l ts h = refl
 
-pub bracket_at : (l : ℕ) (ts : Tokens) → suffix (mark (codes "[") l ∷ ts) ≡ Some Bracket
-unfolding suffix suffix_by multiplies_size sees
+pub bracket_at : (l : ℕ) (ts : Tokens) → extension (mark (codes "[") l ∷ ts) ≡ Some Bracket
+unfolding extension extension_by multiplies_size sees
 bracket_at l ts = refl
 
-pub question_at : (l : ℕ) (ts : Tokens) → suffix (mark (codes "?") l ∷ ts) ≡ Some Question
-unfolding suffix suffix_by multiplies_size sees
+pub question_at : (l : ℕ) (ts : Tokens) → extension (mark (codes "?") l ∷ ts) ≡ Some Question
+unfolding extension extension_by multiplies_size sees
 question_at l ts = refl
 
-pub selector_at : (by : Selector) (l : ℕ) (ts : Tokens) → suffix (mark (selector_sign by) l ∷ ts) ≡ Some (Select by)
-unfolding suffix suffix_by multiplies_size sees
+pub selector_at : (by : Selector) (l : ℕ) (ts : Tokens) → extension (mark (selector_sign by) l ∷ ts) ≡ Some (Select by)
+unfolding extension extension_by multiplies_size sees
 selector_at Dot l ts = refl
 selector_at Arrow l ts = refl
 
 -- what ends an expression within another form
-pub close_at : (l : ℕ) (ts : Tokens) → suffix (mark (codes ")") l ∷ ts) ≡ None
-unfolding suffix suffix_by infix_by logical comparison arithmetic multiplies_size sees
+pub close_at : (l : ℕ) (ts : Tokens) → extension (mark (codes ")") l ∷ ts) ≡ None
+unfolding extension extension_by infix_by logical comparison arithmetic multiplies_size sees
 close_at l ts = refl
 
-pub end_at : (l : ℕ) (ts : Tokens) → suffix (mark (codes "]") l ∷ ts) ≡ None
-unfolding suffix suffix_by infix_by logical comparison arithmetic multiplies_size sees
+pub end_at : (l : ℕ) (ts : Tokens) → extension (mark (codes "]") l ∷ ts) ≡ None
+unfolding extension extension_by infix_by logical comparison arithmetic multiplies_size sees
 end_at l ts = refl
 
-pub colon_at : (l : ℕ) (ts : Tokens) → suffix (mark (codes ":") l ∷ ts) ≡ None
-unfolding suffix suffix_by infix_by logical comparison arithmetic multiplies_size sees
+pub colon_at : (l : ℕ) (ts : Tokens) → extension (mark (codes ":") l ∷ ts) ≡ None
+unfolding extension extension_by infix_by logical comparison arithmetic multiplies_size sees
 colon_at l ts = refl
 
-ends_at : (o : Option Suffix) → is_some_suffix o ≡ false → level_by o ≡ 0
+ends_at : (o : Option Extension) → is_some o ≡ false → level_by o ≡ 0
 ends_at None h = refl
 ends_at (Some x) h = absurd cc
 
 pub no_level : (ts : Tokens) → goes_on ts ≡ false → head_level ts ≡ 0
 unfolding goes_on
-no_level ts h = ends_at (suffix ts) h
+no_level ts h = ends_at (extension ts) h
 
-at_least_taken : (n : ℕ) (x : Suffix) → n ≤ suffix_level x → at_least n (Some x) ≡ Some x
+at_least_taken : (n : ℕ) (x : Extension) → n ≤ extension_level x → at_least n (Some x) ≡ Some x
 at_least_taken n x p = grind (arith, nat_tests)
 
-at_least_left : (n : ℕ) (o : Option Suffix) → level_by o < n → at_least n o ≡ None
+at_least_left : (n : ℕ) (o : Option Extension) → level_by o < n → at_least n o ≡ None
 at_least_left n None p = refl
 at_least_left n (Some x) p = grind (arith, nat_tests)
 
-from_taken : (n : ℕ) (x : Suffix) (ts : Tokens) → suffix ts ≡ Some x → n ≤ suffix_level x → suffix_from n ts ≡ Some x
-unfolding suffix_from
+from_taken : (n : ℕ) (x : Extension) (ts : Tokens) → extension ts ≡ Some x → n ≤ extension_level x → extension_from n ts ≡ Some x
+unfolding extension_from
 from_taken n x ts h p = ap (at_least n) h ∙ at_least_taken n x p
 
-from_left : (n : ℕ) (ts : Tokens) → head_level ts < n → suffix_from n ts ≡ None
-unfolding suffix_from
-from_left n ts p = at_least_left n (suffix ts) p
+from_left : (n : ℕ) (ts : Tokens) → head_level ts < n → extension_from n ts ≡ None
+unfolding extension_from
+from_left n ts p = at_least_left n (extension ts) p
 
 module _ (deeper : ℕ → Parser RawExpr) (depth : ℕ) where
   climb_stops : (n turns : ℕ) (a : RawExpr) (ts : Tokens) → head_level ts < n → climb deeper depth n turns a ts ≡ Ok (a, ts)
   unfolding climb
   climb_stops n zero a ts p = refl
-  climb_stops n (suc turns) a ts p = ap (λ o. with_suffix o (Ok (a, ts)) (λ x. and_then (extended deeper depth x a ts) (climb deeper depth n turns))) (from_left n ts p)
+  climb_stops n (suc turns) a ts p = ap (λ o. by_option o (Ok (a, ts)) (λ x. and_then (extended deeper depth x a ts) (climb deeper depth n turns))) (from_left n ts p)
 
-  climb_goes : (n turns : ℕ) (a : RawExpr) (ts : Tokens) (x : Suffix) → suffix ts ≡ Some x → n ≤ suffix_level x
+  climb_goes : (n turns : ℕ) (a : RawExpr) (ts : Tokens) (x : Extension) → extension ts ≡ Some x → n ≤ extension_level x
       → climb deeper depth n (suc turns) a ts ≡ and_then (extended deeper depth x a ts) (climb deeper depth n turns)
   unfolding climb
-  climb_goes n turns a ts x h p = ap (λ o. with_suffix o (Ok (a, ts)) (λ x. and_then (extended deeper depth x a ts) (climb deeper depth n turns))) (from_taken n x ts h p)
+  climb_goes n turns a ts x h p = ap (λ o. by_option o (Ok (a, ts)) (λ x. and_then (extended deeper depth x a ts) (climb deeper depth n turns))) (from_taken n x ts h p)
 
-  extended_fits : (x : Suffix) (a : RawExpr) (ts : Tokens) → nesting a < depth → extended deeper depth x a ts ≡ extended_by deeper x a (drop 1 ts)
+  extended_fits : (x : Extension) (a : RawExpr) (ts : Tokens) → nesting a < depth → extended deeper depth x a ts ≡ extended_by deeper x a (drop 1 ts)
   unfolding extended
   extended_fits x a ts p = grind (arith, nat_tests)
 
-  extended_deep : (x : Suffix) (a : RawExpr) (ts : Tokens) → depth ≤ nesting a → extended deeper depth x a ts ≡ Err Deep
+  extended_deep : (x : Extension) (a : RawExpr) (ts : Tokens) → depth ≤ nesting a → extended deeper depth x a ts ≡ Err Deep
   unfolding extended
   extended_deep x a ts p = grind (arith, nat_tests)
 
-  -- one turn of the loop, with what the suffix gives
-  turn_read : (n turns : ℕ) (a b : RawExpr) (t : Token) (mid rest : Tokens) (x : Suffix) → suffix (t ∷ mid) ≡ Some x → n ≤ suffix_level x → nesting a < depth
+  -- one turn of the loop, with what the extension gives
+  turn_read : (n turns : ℕ) (a b : RawExpr) (t : Token) (mid rest : Tokens) (x : Extension) → extension (t ∷ mid) ≡ Some x → n ≤ extension_level x → nesting a < depth
       → extended_by deeper x a mid ≡ Ok (b, rest) → climb deeper depth n (suc turns) a (t ∷ mid) ≡ climb deeper depth n turns b rest
   turn_read n turns a b t mid rest x at below fits h =
       climb_goes n turns a (t ∷ mid) x at below
       ∙ ap (λ o. and_then o (climb deeper depth n turns)) (extended_fits x a (t ∷ mid) fits ∙ h)
 
-  -- one turn that stops too deep: in the suffix, or since no more may stand above a
-  turn_deep : (n turns : ℕ) (a : RawExpr) (t : Token) (mid : Tokens) (x : Suffix) → suffix (t ∷ mid) ≡ Some x → n ≤ suffix_level x → nesting a < depth
+  -- one turn that stops too deep: in the extension, or since no more may stand above a
+  turn_deep : (n turns : ℕ) (a : RawExpr) (t : Token) (mid : Tokens) (x : Extension) → extension (t ∷ mid) ≡ Some x → n ≤ extension_level x → nesting a < depth
       → extended_by deeper x a mid ≡ Err Deep → climb deeper depth n (suc turns) a (t ∷ mid) ≡ Err Deep
   turn_deep n turns a t mid x at below fits h =
       climb_goes n turns a (t ∷ mid) x at below
       ∙ ap (λ o. and_then o (climb deeper depth n turns)) (extended_fits x a (t ∷ mid) fits ∙ h)
 
-  turn_full : (n turns : ℕ) (a : RawExpr) (t : Token) (mid : Tokens) (x : Suffix) → suffix (t ∷ mid) ≡ Some x → n ≤ suffix_level x → depth ≤ nesting a
+  turn_full : (n turns : ℕ) (a : RawExpr) (t : Token) (mid : Tokens) (x : Extension) → extension (t ∷ mid) ≡ Some x → n ≤ extension_level x → depth ≤ nesting a
       → climb deeper depth n (suc turns) a (t ∷ mid) ≡ Err Deep
   turn_full n turns a t mid x at below full =
       climb_goes n turns a (t ∷ mid) x at below ∙ ap (λ o. and_then o (climb deeper depth n turns)) (extended_deep x a (t ∷ mid) full)
 
--- what each suffix gives, by what its parts give
+-- what each extension gives, by what its parts give
 module _ (deeper : ℕ → Parser RawExpr) where
   operand_read : (op : Infix) (a b : RawExpr) (mid rest : Tokens) → deeper (level op + 1) mid ≡ Ok (b, rest) → extended_by deeper (Operator op) a mid ≡ Ok (joint op a b, rest)
   unfolding extended_by with_operand
@@ -308,12 +302,12 @@ module _ (deeper : ℕ → Parser RawExpr) where
   unfolding prefix parenthesized sees
   paren_deep l ts isnt h = rw (isnt, h) refl
 
-  cast_read : (l k : ℕ) (ts mid rest : Tokens) (t : IntType) (a : RawExpr) → sees_int_word ts ≡ true → int_type ts ≡ Ok (t, mark (codes ")") k ∷ mid) → deeper 12 mid ≡ Ok (a, rest)
+  cast_read : (l k : ℕ) (ts mid rest : Tokens) (t : IntType) (a : RawExpr) → sees_int_word ts ≡ true → int_type_name ts ≡ Ok (t, mark (codes ")") k ∷ mid) → deeper 12 mid ≡ Ok (a, rest)
       → prefix deeper (mark (codes "(") l ∷ ts) ≡ Ok (e.Cast t a, rest)
   unfolding prefix converted sees expect
   cast_read l k ts mid rest t a is h j = rw (is, h, j) refl
 
-  cast_deep : (l k : ℕ) (ts mid : Tokens) (t : IntType) → sees_int_word ts ≡ true → int_type ts ≡ Ok (t, mark (codes ")") k ∷ mid) → deeper 12 mid ≡ Err Deep
+  cast_deep : (l k : ℕ) (ts mid : Tokens) (t : IntType) → sees_int_word ts ≡ true → int_type_name ts ≡ Ok (t, mark (codes ")") k ∷ mid) → deeper 12 mid ≡ Err Deep
       → prefix deeper (mark (codes "(") l ∷ ts) ≡ Err Deep
   unfolding prefix converted sees expect
   cast_deep l k ts mid t is h j = rw (is, h, j) refl
@@ -371,9 +365,9 @@ turn_left : {d n : ℕ} {ts : Tokens} {a : RawExpr} {t : Token} {mid : Tokens} �
     → (turns : ℕ) × (length mid ≤ turns) × (expression d n ts ≡ climb (nested d) d n (suc turns) a (t ∷ mid))
 turn_left {d} {n} {ts} {a} {t} {mid} r = turn_at d n ts a t mid r.turns r.enough r.same
 
--- one more suffix
-goes : {d n : ℕ} {ts : Tokens} {a : RawExpr} {t : Token} {mid : Tokens} (b : RawExpr) (rest : Tokens) (x : Suffix) → Reached d n ts a (t ∷ mid)
-    → suffix (t ∷ mid) ≡ Some x → n ≤ suffix_level x → nesting a < d → extended_by (nested d) x a mid ≡ Ok (b, rest) → length rest ≤ length mid → Reached d n ts b rest
+-- one more extension
+goes : {d n : ℕ} {ts : Tokens} {a : RawExpr} {t : Token} {mid : Tokens} (b : RawExpr) (rest : Tokens) (x : Extension) → Reached d n ts a (t ∷ mid)
+    → extension (t ∷ mid) ≡ Some x → n ≤ extension_level x → nesting a < d → extended_by (nested d) x a mid ≡ Ok (b, rest) → length rest ≤ length mid → Reached d n ts b rest
 goes {d} {n} {ts} {a} {t} {mid} b rest x r at below fits h fewer =
     let left = turn_left r in
     record { turns = left.0; enough = omega (arith, left.1); same = left.2 ∙ turn_read (nested d) d n left.0 a b t mid rest x at below fits h }
@@ -424,8 +418,8 @@ level_high OrElse = omega arith
 level_high AndAlso = omega arith
 level_high (Strict op) = binary_high op
 
--- no suffix binds as a sign or a cast does
-level_gap : (o : Option Suffix) → level_by o ≤ 13 → level_by o < 12
+-- no extension binds as a sign or a cast does
+level_gap : (o : Option Extension) → level_by o ≤ 13 → level_by o < 12
 level_gap None p = omega arith
 level_gap (Some (Operator OrElse)) p = omega arith
 level_gap (Some (Operator AndAlso)) p = omega arith
@@ -470,12 +464,12 @@ reached (paren {l} {m = k} {ts} {rest} {a} h) (suc d) n below some loose ends fi
     begun (suc d) n _ rest _ (paren_read (nested (suc d)) l k ts rest a (begins_expr h).no_type (level_down d 1 ts _ inner))
 reached (unary {a} op p h) zero n below some loose ends fits = absurd (omega (arith, nesting-applied op a))
 reached (unary {l} {ts} {rest} {a} op p h) (suc d) n below some loose ends fits =
-    let close : head_level rest < 12 = level_gap (suffix rest) (omega arith) in
+    let close : head_level rest < 12 = level_gap (extension rest) (omega arith) in
     let inner : expression d 12 ts ≡ Ok (a, rest) = closes (reached h d 12 (omega arith) (omega arith) (omega (arith, close)) (λ q. omega arith) (omega (arith, nesting-applied op a))) close in
     begun (suc d) n _ rest _ (unary_read (nested (suc d)) op l ts rest a (level_down d 12 ts _ inner))
 reached (cast {t} {a} p h k) zero n below some loose ends fits = absurd (omega (arith, nesting-Cast t a))
 reached (cast {l} {m = j} {ts} {mid} {rest} {t} {a} p h k) (suc d) n below some loose ends fits =
-    let close : head_level rest < 12 = level_gap (suffix rest) (omega arith) in
+    let close : head_level rest < 12 = level_gap (extension rest) (omega arith) in
     let inner : expression d 12 mid ≡ Ok (a, rest) = closes (reached k d 12 (omega arith) (omega arith) (omega (arith, close)) (λ q. omega arith) (omega (arith, nesting-Cast t a))) close in
     begun (suc d) n _ rest _ (cast_read (nested (suc d)) l j ts mid rest t a (int_type_begins h) (int_type_read h) (level_down d 12 mid _ inner))
 reached (index {a} {i} p h k) zero n below some loose ends fits = absurd (omega (arith, nesting-Index a i))
@@ -511,8 +505,8 @@ unfolding nested
 nested_deep zero n ts f = refl
 nested_deep (suc d) n ts f = f d refl
 
--- one more suffix would nest too deep
-full : {d n : ℕ} {ts : Tokens} {a : RawExpr} {t : Token} {mid : Tokens} (x : Suffix) → Reached d n ts a (t ∷ mid) → suffix (t ∷ mid) ≡ Some x → n ≤ suffix_level x
+-- one more extension would nest too deep
+full : {d n : ℕ} {ts : Tokens} {a : RawExpr} {t : Token} {mid : Tokens} (x : Extension) → Reached d n ts a (t ∷ mid) → extension (t ∷ mid) ≡ Some x → n ≤ extension_level x
     → (nesting a < d → extended_by (nested d) x a mid ≡ Err Deep) → expression d n ts ≡ Err Deep
 full {d} {n} {ts} {a} {t} {mid} x r at below inner =
     let left = turn_left r in
@@ -538,11 +532,11 @@ too_deep (paren {l} {m = k} {ts} {rest} {a} h) d n below some loose ends deep =
     prefix_fails d n _ (paren_deep (nested d) l ts (begins_expr h).no_type
     (nested_deep d 1 ts (λ b is. too_deep h b 1 (omega arith) (omega arith) (omega (arith, none)) (λ q. none) (omega (arith, nesting-Paren a)))))
 too_deep (unary {l} {ts} {rest} {a} op p h) d n below some loose ends deep =
-    let close : head_level rest < 12 = level_gap (suffix rest) (omega arith) in
+    let close : head_level rest < 12 = level_gap (extension rest) (omega arith) in
     prefix_fails d n _ (unary_deep (nested d) op l ts
     (nested_deep d 12 ts (λ b is. too_deep h b 12 (omega arith) (omega arith) (omega (arith, close)) (λ q. omega arith) (omega (arith, nesting-applied op a)))))
 too_deep (cast {l} {m = j} {ts} {mid} {rest} {t} {a} p h k) d n below some loose ends deep =
-    let close : head_level rest < 12 = level_gap (suffix rest) (omega arith) in
+    let close : head_level rest < 12 = level_gap (extension rest) (omega arith) in
     prefix_fails d n _ (cast_deep (nested d) l j ts mid t (int_type_begins h) (int_type_read h)
     (nested_deep d 12 mid (λ b is. too_deep k b 12 (omega arith) (omega arith) (omega (arith, close)) (λ q. omega arith) (omega (arith, nesting-Cast t a)))))
 too_deep (index {l} {m = j} {ts} {mid} {rest} {a} {i} p h k) d n below some loose ends deep =

@@ -1,6 +1,7 @@
 -- What is read as an expression is one.
 use Rattle.std.proofs.Common.{◌≡◌, ℕ, zero, suc, ◌+◌, ◌≤◌, ◌<◌, [], ◌∷◌, length, drop, refl, sym, ap, subst, ◌∙◌, arith, true, false, not, ◌&&◌, ◌||◌, Option, Some, None, Ok, codes, nat_le, nat_lt, inl, inr}
 use Rattle.std.specs.Str.{bytes_eq}
+use Rattle.std.specs.Option.{option_map, option_or}
 use Rattle.std.proofs.lemmas.Bool.{ltb-true, leb-true, leb-false, cases_Bool, cases_lt, and_parts, not-true}
 use Rattle.std.proofs.lemmas.Option.{same_Some}
 use Rattle.c_tree.specs.declared.raw.expr.RawExpr.{RawExpr}
@@ -15,13 +16,13 @@ use Rattle.c_language.specs.declared.token.TokenKind.TheVariants.{Name, Number, 
 use Rattle.c_language.specs.declared.operators.Infix.{Infix}
 use Rattle.c_language.specs.declared.operators.Prefix.{Prefix}
 use Rattle.c_language.proofs.NestingLemmas.{nesting-Constant, nesting-Null, nesting-Eof, nesting-Variable, nesting-Paren, nesting-Cast, nesting-Index, nesting-Choose, nesting-joint, nesting-applied, nesting-selected}
-use Rattle.c_parse_expr.specs.declared.suffix.Suffix.{Suffix}
-use Rattle.c_parse_expr.specs.declared.suffix.Suffix.TheVariants.{Operator, Question, Bracket, Select}
-use Rattle.c_parse_expr.specs.Outcome.{Parser, expect}
-use Rattle.c_parse_expr.specs.IntReading.{int_type}
-use Rattle.c_parse_expr.specs.ExprReading.{or_else, logical, comparison, arithmetic, infix_by, as_operator, suffix_by, multiplies_size, suffix, suffix_level, at_least, suffix_from, with_suffix, prefix_by, prefix_at, with_prefix, named, atom, read_member, parenthesized, converted, signed, prefix, with_operand, with_choice, with_index, extended_by, extended, climb, expression_with, nested, expression}
+use Rattle.c_parse_expr.specs.declared.extension.Extension.{Extension}
+use Rattle.c_parse_expr.specs.declared.extension.Extension.TheVariants.{Operator, Question, Bracket, Select}
+use Rattle.c_parse_expr.specs.Outcome.{Parser, by_option, expect}
+use Rattle.c_parse_expr.specs.IntReading.{int_type_name}
+use Rattle.c_parse_expr.specs.ExprReading.{logical, comparison, arithmetic, infix_by, extension_by, multiplies_size, extension, extension_level, at_least, extension_from, prefix_by, prefix_at, named, atom, read_member, parenthesized, converted, signed, prefix, with_operand, with_choice, with_index, extended_by, extended, climb, expression_with, nested, expression}
 use Rattle.c_parse_words.proofs.SeenTokens.{of_kind_is, by_seen}
-use Rattle.c_parse_expr.proofs.Tests.{by_step, by_expect, by_member, with_parts}
+use Rattle.c_parse_expr.proofs.Tests.{by_step, by_choice, by_expect, by_member, with_parts}
 use Rattle.c_parse_expr.proofs.IntLaws.{int_type_sound}
 use Rattle.c_parse_expr.proofs.ExprLaws.{shorter, head_level, level_by, level_low, level_high}
 use Rattle.c_language.proofs.Lists.{same_bytes}
@@ -43,13 +44,13 @@ weaken (choose q h j i) n p = choose (omega arith) h j i
 
 -- ---- operators told by their marks
 
-abbrev pub suffix_sign : Suffix → Bytes
-suffix_sign (Operator op) = sign op
-suffix_sign Question = codes "?"
-suffix_sign Bracket = codes "["
-suffix_sign (Select by) = selector_sign by
+abbrev pub extension_sign : Extension → Bytes
+extension_sign (Operator op) = sign op
+extension_sign Question = codes "?"
+extension_sign Bracket = codes "["
+extension_sign (Select by) = selector_sign by
 
-by_or : {A G : Type 0} {x : A} (o p : Option A) → or_else o p ≡ Some x → (o ≡ Some x → G) → (p ≡ Some x → G) → G
+by_or : {A G : Type 0} {x : A} (o p : Option A) → option_or o p ≡ Some x → (o ≡ Some x → G) → (p ≡ Some x → G) → G
 by_or None p h one two = two h
 by_or (Some y) p h one two = one h
 
@@ -87,30 +88,30 @@ infix_told : (w : Bytes) (op : Infix) → infix_by w ≡ Some op → w ≡ sign 
 unfolding infix_by
 infix_told w op h = by_or (logical w) _ h (logical_told w op) (λ h. by_or (comparison w) _ h (comparison_told w op) (arithmetic_told w op))
 
-operator_told : (w : Bytes) (o : Option Infix) (x : Suffix) → ((op : Infix) → o ≡ Some op → w ≡ sign op) → as_operator o ≡ Some x → w ≡ suffix_sign x
+operator_told : (w : Bytes) (o : Option Infix) (x : Extension) → ((op : Infix) → o ≡ Some op → w ≡ sign op) → option_map Operator o ≡ Some x → w ≡ extension_sign x
 operator_told w None x told h = absurd cc
-operator_told w (Some op) x told h = told op refl ∙ ap suffix_sign (same_Some _ _ h)
+operator_told w (Some op) x told h = told op refl ∙ ap extension_sign (same_Some _ _ h)
 
-suffix_told : (w : Bytes) (x : Suffix) → suffix_by w ≡ Some x → w ≡ suffix_sign x
-unfolding suffix_by
-suffix_told w x h =
-    by_test (bytes_eq w (codes "[")) h (λ is h. same_bytes w _ is ∙ ap suffix_sign (same_Some _ _ h)) (λ _ h.
-    by_test (bytes_eq w (codes ".")) h (λ is h. same_bytes w _ is ∙ ap suffix_sign (same_Some _ _ h)) (λ _ h.
-    by_test (bytes_eq w (codes "->")) h (λ is h. same_bytes w _ is ∙ ap suffix_sign (same_Some _ _ h)) (λ _ h.
-    by_test (bytes_eq w (codes "?")) h (λ is h. same_bytes w _ is ∙ ap suffix_sign (same_Some _ _ h)) (λ _ h.
+extension_told : (w : Bytes) (x : Extension) → extension_by w ≡ Some x → w ≡ extension_sign x
+unfolding extension_by
+extension_told w x h =
+    by_test (bytes_eq w (codes "[")) h (λ is h. same_bytes w _ is ∙ ap extension_sign (same_Some _ _ h)) (λ _ h.
+    by_test (bytes_eq w (codes ".")) h (λ is h. same_bytes w _ is ∙ ap extension_sign (same_Some _ _ h)) (λ _ h.
+    by_test (bytes_eq w (codes "->")) h (λ is h. same_bytes w _ is ∙ ap extension_sign (same_Some _ _ h)) (λ _ h.
+    by_test (bytes_eq w (codes "?")) h (λ is h. same_bytes w _ is ∙ ap extension_sign (same_Some _ _ h)) (λ _ h.
     operator_told w (infix_by w) x (infix_told w) h))))
 
 abbrev Begins : Bytes → Tokens → Type 0
 Begins text ts = (l : ℕ) × (mid : Tokens) × (ts ≡ mark text l ∷ mid)
 
--- the mark of the suffix is in front
-pub suffix_is : (x : Suffix) (ts : Tokens) → suffix ts ≡ Some x → Begins (suffix_sign x) ts
-unfolding suffix
-suffix_is x [] h = by_test (multiplies_size []) h (λ _ h. absurd cc) (λ _ h. absurd cc)
-suffix_is x (t ∷ ts) h =
+-- the mark of the extension is in front
+pub extension_is : (x : Extension) (ts : Tokens) → extension ts ≡ Some x → Begins (extension_sign x) ts
+unfolding extension
+extension_is x [] h = by_test (multiplies_size []) h (λ _ h. absurd cc) (λ _ h. absurd cc)
+extension_is x (t ∷ ts) h =
     by_test (multiplies_size (t ∷ ts)) h (λ _ h. absurd cc) (λ _ h.
     by_test (is_kind Mark t) h
-    (λ is h. (t.line, ts, ap (λ u. u ∷ ts) (sym (of_kind_is Mark t is)) ∙ ap (λ w. mark w t.line ∷ ts) (suffix_told t.text x h)))
+    (λ is h. (t.line, ts, ap (λ u. u ∷ ts) (sym (of_kind_is Mark t is)) ∙ ap (λ w. mark w t.line ∷ ts) (extension_told t.text x h)))
     (λ _ h. absurd cc))
 
 prefix_told : (w : Bytes) (op : Prefix) → prefix_by w ≡ Some op → w ≡ prefix_sign op
@@ -131,22 +132,18 @@ prefix_op_is op (t ∷ ts) h =
     (λ is h. (t.line, ts, ap (λ u. u ∷ ts) (sym (of_kind_is Mark t is)) ∙ ap (λ w. mark w t.line ∷ ts) (prefix_told t.text op h)))
     (λ _ h. absurd cc)
 
-pub by_prefix : {A G : Type 0} {z : A} (o : Option Prefix) (stay : A) (go : Prefix → A) → with_prefix o stay go ≡ z → (stay ≡ z → G) → ((op : Prefix) → o ≡ Some op → go op ≡ z → G) → G
-by_prefix None stay go h left taken = left h
-by_prefix (Some op) stay go h left taken = taken op refl h
-
-by_option : {A G : Type 0} {z : A} (n : ℕ) (o : Option Suffix) (stay : A) (go : Suffix → A) → 1 ≤ n → with_suffix (at_least n o) stay go ≡ z
-    → (level_by o < n → stay ≡ z → G) → ((x : Suffix) → o ≡ Some x → n ≤ suffix_level x → go x ≡ z → G) → G
-by_option n None stay go some h left taken = left (omega arith) h
-by_option n (Some x) stay go some h left taken = elim (cases_Bool (nat_le n (suffix_level x))) [
-  | inl t ↦ taken x refl (leb-true n (suffix_level x) t) (rw t at h)
-  | inr f ↦ left (leb-false n (suffix_level x) f) (rw f at h)
+by_tight : {A G : Type 0} {z : A} (n : ℕ) (o : Option Extension) (stay : A) (go : Extension → A) → 1 ≤ n → by_option (at_least n o) stay go ≡ z
+    → (level_by o < n → stay ≡ z → G) → ((x : Extension) → o ≡ Some x → n ≤ extension_level x → go x ≡ z → G) → G
+by_tight n None stay go some h left taken = left (omega arith) h
+by_tight n (Some x) stay go some h left taken = elim (cases_Bool (nat_le n (extension_level x))) [
+  | inl t ↦ taken x refl (leb-true n (extension_level x) t) (rw t at h)
+  | inr f ↦ left (leb-false n (extension_level x) f) (rw f at h)
 ]
 
-pub by_suffix : {A G : Type 0} {z : A} (n : ℕ) (ts : Tokens) (stay : A) (go : Suffix → A) → 1 ≤ n → with_suffix (suffix_from n ts) stay go ≡ z
-    → (head_level ts < n → stay ≡ z → G) → ((x : Suffix) → suffix ts ≡ Some x → n ≤ suffix_level x → go x ≡ z → G) → G
-unfolding suffix_from
-by_suffix n ts stay go some h left taken = by_option n (suffix ts) stay go some h left taken
+pub by_extension : {A G : Type 0} {z : A} (n : ℕ) (ts : Tokens) (stay : A) (go : Extension → A) → 1 ≤ n → by_option (extension_from n ts) stay go ≡ z
+    → (head_level ts < n → stay ≡ z → G) → ((x : Extension) → extension ts ≡ Some x → n ≤ extension_level x → go x ≡ z → G) → G
+unfolding extension_from
+by_extension n ts stay go some h left taken = by_tight n (extension ts) stay go some h left taken
 
 -- ---- expressions
 
@@ -169,26 +166,26 @@ pub record Front (d n : ℕ) (ts : Tokens) (a : RawExpr) (rest : Tokens) : Type 
   pub ends : tight ≤ 1 → head_level rest ≡ 0
   pub low : nesting a ≤ d
 
-any_level : (o : Option Suffix) → level_by o ≤ 14
+any_level : (o : Option Extension) → level_by o ≤ 14
 any_level None = omega arith
 any_level (Some (Operator op)) = let q = level_low op in omega (arith, q)
 any_level (Some Question) = omega arith
 any_level (Some Bracket) = omega arith
 any_level (Some (Select by)) = omega arith
 
-level_some : (x : Suffix) → 1 ≤ suffix_level x
+level_some : (x : Extension) → 1 ≤ extension_level x
 level_some (Operator op) = let q = level_high op in omega (arith, q)
 level_some Question = omega arith
 level_some Bracket = omega arith
 level_some (Select by) = omega arith
 
-no_suffix : head_level [] ≡ 0
-unfolding suffix multiplies_size sees
-no_suffix = refl
+no_extension : head_level [] ≡ 0
+unfolding extension multiplies_size sees
+no_extension = refl
 
 -- a primary expression, whatever follows
 primary : (d n : ℕ) (ts : Tokens) (a : RawExpr) (rest : Tokens) → n ≤ 15 → IsExpr 15 ts a rest → nesting a ≤ d → Front d n ts a rest
-primary d n ts a rest p is low = record { tight = 15; is = is; above = p; loose = let q = any_level (suffix rest) in omega (arith, q); ends = λ q. absurd (omega arith); low = low }
+primary d n ts a rest p is low = record { tight = 15; is = is; above = p; loose = let q = any_level (extension rest) in omega (arith, q); ends = λ q. absurd (omega arith); low = low }
 
 named_front : (d n : ℕ) (w : Bytes) (l : ℕ) (ts : Tokens) → n ≤ 15 → is_keyword w ≡ false → Front d n (name w l ∷ ts) (named w) ts
 unfolding is_plain_name
@@ -235,7 +232,7 @@ module _ (deeper : ℕ → Parser RawExpr) (d : ℕ) (sound : IsSound d deeper) 
   converted_is : (l : ℕ) (ts : Tokens) (a : RawExpr) (rest : Tokens) (n : ℕ) → n ≤ 12 → converted deeper ts ≡ Ok (a, rest) → Front d n (mark (codes "(") l ∷ ts) a rest
   unfolding converted
   converted_is l ts a rest n p h =
-      by_step (int_type ts) _ h (λ t mid words h.
+      by_step (int_type_name ts) _ h (λ t mid words h.
       by_step (expect (codes ")") mid) _ h (λ u after closed h.
       by_expect (codes ")") mid after u closed (λ k at.
       by_step (deeper 12 after) _ h (λ x behind went h.
@@ -261,16 +258,16 @@ module _ (deeper : ℕ → Parser RawExpr) (d : ℕ) (sound : IsSound d deeper) 
       by_test (sees_int_word (drop 1 ts)) h
       (λ _ h. rw at (converted_is l mid a rest n p (rw e at h)))
       (λ _ h. rw at (parenthesized_is l mid a rest n p (rw e at h)))))
-      (λ _ h. by_prefix (prefix_at ts) (atom ts) _ h
-      (λ h. atom_is d ts a rest n (omega arith) h)
+      (λ _ h. by_choice (prefix_at ts) (atom ts) _ h
+      (λ _ h. atom_is d ts a rest n (omega arith) h)
       (λ op at h. let s = prefix_op_is op ts at in rw s.2 (signed_is op s.0 s.1 a rest n p (rw s.2 at h))))
 
-  -- one more suffix
+  -- one more extension
   abbrev Grown : ℕ → Tokens → Tokens → RawExpr → Tokens → Type 0
   Grown n start mid c after = Front d n start c after × (length after < suc (length mid))
 
-  extended_by_is : (n : ℕ) (start : Tokens) (x : Suffix) (a c : RawExpr) (l : ℕ) (mid after : Tokens) → n ≤ suffix_level x → suffix_level x ≤ 14
-      → (q : Front d n start a (mark (suffix_sign x) l ∷ mid)) → suffix_level x ≤ q.tight → 2 ≤ q.tight → nesting a < d
+  extended_by_is : (n : ℕ) (start : Tokens) (x : Extension) (a c : RawExpr) (l : ℕ) (mid after : Tokens) → n ≤ extension_level x → extension_level x ≤ 14
+      → (q : Front d n start a (mark (extension_sign x) l ∷ mid)) → extension_level x ≤ q.tight → 2 ≤ q.tight → nesting a < d
       → extended_by deeper x a mid ≡ Ok (c, after) → Grown n start mid c after
   unfolding extended_by with_operand with_choice with_index
   extended_by_is n start (Operator op) a c l mid after p high q tight some fits h =
@@ -300,7 +297,7 @@ module _ (deeper : ℕ → Parser RawExpr) (d : ℕ) (sound : IsSound d deeper) 
       by_expect (codes "]") r r' u closed (λ k at.
       let s : Sound 1 d mid i r = sound 1 mid i r (omega arith) (omega arith) went in
       let inner : IsExpr 1 mid i (mark (codes "]") k ∷ r') = rw at at s.is in
-      let below = any_level (suffix r') in
+      let below = any_level (extension r') in
       with_parts (Grown n start mid) h (
         record { tight = 14; is = index (omega arith) (weaken q.is 14 tight) inner; above = p; loose = below; ends = λ q. absurd (omega arith); low = omega (arith, nesting-Index a i, s.low) },
         omega (arith, shorter inner),
@@ -309,16 +306,16 @@ module _ (deeper : ℕ → Parser RawExpr) (d : ℕ) (sound : IsSound d deeper) 
       by_step (read_member mid) _ h (λ text r named_at h.
       by_member mid r text named_at (λ k free at.
       let left : IsExpr 14 start a (mark (selector_sign by) l ∷ name text k ∷ r) = subst (λ (m : Tokens). IsExpr 14 start a (mark (selector_sign by) l ∷ m)) at (weaken q.is 14 tight) in
-      let below = any_level (suffix r) in
+      let below = any_level (extension r) in
       let long : length mid ≡ suc (length r) = ap length at in
       with_parts (Grown n start mid) h (
         record { tight = 14; is = member by (omega arith) left free; above = p; loose = below; ends = λ q. absurd (omega arith); low = omega (arith, nesting-selected by a text) },
         omega (arith, long),
       )))
 
-  tight_enough : (n : ℕ) (start : Tokens) (x : Suffix) (a : RawExpr) (ts : Tokens) → suffix ts ≡ Some x → (q : Front d n start a ts) → (suffix_level x ≤ q.tight) × (2 ≤ q.tight)
+  tight_enough : (n : ℕ) (start : Tokens) (x : Extension) (a : RawExpr) (ts : Tokens) → extension ts ≡ Some x → (q : Front d n start a ts) → (extension_level x ≤ q.tight) × (2 ≤ q.tight)
   tight_enough n start x a ts at q =
-      let e : head_level ts ≡ suffix_level x = ap level_by at in
+      let e : head_level ts ≡ extension_level x = ap level_by at in
       let some = level_some x in (
         omega (arith, q.loose, e),
         elim (cases_lt 1 q.tight) [
@@ -327,16 +324,16 @@ module _ (deeper : ℕ → Parser RawExpr) (d : ℕ) (sound : IsSound d deeper) 
         ],
       )
 
-  pub extended_is : (n : ℕ) (start : Tokens) (x : Suffix) (a c : RawExpr) (ts after : Tokens) → n ≤ suffix_level x → suffix ts ≡ Some x → Front d n start a ts
+  pub extended_is : (n : ℕ) (start : Tokens) (x : Extension) (a c : RawExpr) (ts after : Tokens) → n ≤ extension_level x → extension ts ≡ Some x → Front d n start a ts
       → extended deeper d x a ts ≡ Ok (c, after) → Front d n start c after × (length after < length ts)
   unfolding extended
   extended_is n start x a c ts after p at q h =
       by_test (nat_lt (nesting a) d) h
       (λ is h.
-      let s = suffix_is x ts at in
+      let s = extension_is x ts at in
       let tight = tight_enough n start x a ts at q in
-      let high : suffix_level x ≤ 14 = any_level (Some x) in
-      let here : (q : Front d n start a (mark (suffix_sign x) s.0 ∷ s.1)) × (suffix_level x ≤ q.tight) × (2 ≤ q.tight) = subst (λ (u : Tokens). (q : Front d n start a u) × (suffix_level x ≤ q.tight) × (2 ≤ q.tight)) s.2 (q, tight.0, tight.1) in
+      let high : extension_level x ≤ 14 = any_level (Some x) in
+      let here : (q : Front d n start a (mark (extension_sign x) s.0 ∷ s.1)) × (extension_level x ≤ q.tight) × (2 ≤ q.tight) = subst (λ (u : Tokens). (q : Front d n start a u) × (extension_level x ≤ q.tight) × (2 ≤ q.tight)) s.2 (q, tight.0, tight.1) in
       let e : drop 1 ts ≡ s.1 = ap (drop 1) s.2 in
       let grown : Grown n start s.1 c after = extended_by_is n start x a c s.0 s.1 after p high here.0 here.1 here.2 (ltb-true (nesting a) d is) (rw e at h) in
       let long : length ts ≡ suc (length s.1) = ap length s.2 in
@@ -347,10 +344,10 @@ module _ (deeper : ℕ → Parser RawExpr) (d : ℕ) (sound : IsSound d deeper) 
       → climb deeper d n turns a ts ≡ Ok (b, rest) → Sound n (suc d) start b rest
   unfolding climb
   climb_is n start zero a b [] rest some below enough p h =
-      with_parts (λ b r. Sound n (suc d) start b r) h (record { is = weaken p.is n p.above; loose = omega (arith, no_suffix); low = omega (arith, p.low) })
+      with_parts (λ b r. Sound n (suc d) start b r) h (record { is = weaken p.is n p.above; loose = omega (arith, no_extension); low = omega (arith, p.low) })
   climb_is n start zero a b (t ∷ ts) rest some below enough p h = absurd (omega arith)
   climb_is n start (suc turns) a b ts rest some below enough p h =
-      by_suffix n ts (Ok (a, ts)) _ some h
+      by_extension n ts (Ok (a, ts)) _ some h
       (λ loose h. with_parts (λ b r. Sound n (suc d) start b r) h (record { is = weaken p.is n p.above; loose = loose; low = omega (arith, p.low) }))
       (λ x at above h. by_step (extended deeper d x a ts) _ h (λ c after went h.
       let q = extended_is n start x a c ts after above at p went in

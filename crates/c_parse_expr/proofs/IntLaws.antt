@@ -1,5 +1,5 @@
 -- The words of an integer type are read exactly where they are one of its spellings in some order.
-use Rattle.std.proofs.Common.{◌≡◌, ℕ, zero, suc, ◌+◌, ◌≤◌, ◌<◌, drop, Bool, true, false, ◌||◌, List, [], ◌∷◌, ◌++◌, length, codes, refl, sym, ap, subst, ◌∙◌, arith, Option, Some, None, Ok, Err, Contains, if◌then◌else◌, ◌&&◌}
+use Rattle.std.proofs.Common.{◌≡◌, ℕ, zero, suc, ◌+◌, ◌≤◌, ◌<◌, drop, Bool, true, false, ◌||◌, List, [], ◌∷◌, ◌++◌, length, codes, refl, sym, ap, subst, ◌∙◌, arith, Option, Some, None, is_some, Ok, Err, Contains, if◌then◌else◌, ◌&&◌}
 use Rattle.std.specs.Str.{bytes_eq}
 use Rattle.std.proofs.lemmas.Slice.Eq.{bytes_eq-Decides}
 use Rattle.std.proofs.lemmas.Option.{same_Some}
@@ -18,10 +18,10 @@ use Rattle.c_parse_expr.specs.declared.int_words.Width.TheVariants as width
 use Rattle.c_parse_expr.specs.declared.int_words.Signedness.{Signedness}
 use Rattle.c_parse_expr.specs.declared.int_words.Signedness.TheVariants as signedness
 use Rattle.c_parse_expr.specs.declared.int_words.IntWords.{IntWords}
-use Rattle.c_parse_expr.specs.Outcome.{refused, Deep}
-use Rattle.c_parse_expr.specs.IntReading.{word_by, next_word, no_words, with_width, with_signedness, with_word, type_by, named_type, by_word, by_words, words_from, type_or_fault, int_type}
+use Rattle.c_parse_expr.specs.Outcome.{by_option, refused, Deep}
+use Rattle.c_parse_expr.specs.IntReading.{word_by, next_word, no_words, with_width, with_signedness, with_word, type_by, type_of_words, words_from, type_or_fault, int_type_name}
 use Rattle.c_parse_words.proofs.SeenTokens.{of_kind_is}
-use Rattle.c_parse_expr.proofs.Tests.{by_step, by_fault, with_parts, ok_parts}
+use Rattle.c_parse_expr.proofs.Tests.{by_step, by_choice, by_fault, with_parts, ok_parts}
 use Rattle.c_language.proofs.Lists.{same_bytes}
 use Rattle.c_language.proofs.Tests.{by_test}
 
@@ -254,15 +254,11 @@ text_told word.Long = refl
 text_told word.Signed = refl
 text_told word.Unsigned = refl
 
-abbrev pub is_some_word : Option IntWord → Bool
-is_some_word None = false
-is_some_word (Some k) = true
-
 by_cond : (P : Bool → Type 0) (b : Bool) → (b ≡ true → P true) → (b ≡ false → P false) → P b
 by_cond P true is isnt = is refl
 by_cond P false is isnt = isnt refl
 
-any_of : (a b c d e f : Bool) → (a || (b || (c || (d || (e || f))))) ≡ is_some_word (if a then Some word.Char else if b then Some word.Short else if c then Some word.Int else if d then Some word.Long else if e then Some word.Signed else if f then Some word.Unsigned else None)
+any_of : (a b c d e f : Bool) → (a || (b || (c || (d || (e || f))))) ≡ is_some (if a then Some word.Char else if b then Some word.Short else if c then Some word.Int else if d then Some word.Long else if e then Some word.Signed else if f then Some word.Unsigned else None)
 any_of true b c d e f = refl
 any_of false true c d e f = refl
 any_of false false true d e f = refl
@@ -271,18 +267,18 @@ any_of false false false false true f = refl
 any_of false false false false false true = refl
 any_of false false false false false false = refl
 
-is_word : (w : Bytes) → is_int_word w ≡ is_some_word (word_by w)
+is_word : (w : Bytes) → is_int_word w ≡ is_some (word_by w)
 unfolding word_by
 is_word w =
     any_of (bytes_eq w (codes "char")) (bytes_eq w (codes "short")) (bytes_eq w (codes "int")) (bytes_eq w (codes "long")) (bytes_eq w (codes "signed")) (bytes_eq w (codes "unsigned"))
 
 -- a word of a type is seen exactly where one is at the front
-pub word_seen : (ts : Tokens) → sees_int_word ts ≡ is_some_word (next_word ts)
+pub word_seen : (ts : Tokens) → sees_int_word ts ≡ is_some (next_word ts)
 unfolding sees_int_word next_word
 word_seen [] = refl
-word_seen (t ∷ ts) = by_cond (λ b. (b && is_int_word t.text) ≡ is_some_word (if b then word_by t.text else None)) (is_kind Name t) (λ _. is_word t.text) (λ _. refl)
+word_seen (t ∷ ts) = by_cond (λ b. (b && is_int_word t.text) ≡ is_some (if b then word_by t.text else None)) (is_kind Name t) (λ _. is_word t.text) (λ _. refl)
 
-no_word : (o : Option IntWord) → is_some_word o ≡ false → o ≡ None
+no_word : (o : Option IntWord) → is_some o ≡ false → o ≡ None
 no_word None h = refl
 no_word (Some k) h = absurd cc
 
@@ -291,7 +287,7 @@ unfolding next_word
 word_at k l ts = text_told k
 
 -- reading all words, by whether one is in front
-pub words_front : (x : IntWords) (ts : Tokens) → words_from x ts ≡ by_word (next_word ts) (Ok (x, ts)) (λ w. by_words (with_word x w) (refused ts) (λ y. words_from y (drop 1 ts)))
+pub words_front : (x : IntWords) (ts : Tokens) → words_from x ts ≡ by_option (next_word ts) (Ok (x, ts)) (λ w. by_option (with_word x w) (refused ts) (λ y. words_from y (drop 1 ts)))
 unfolding words_from next_word
 words_front x [] = refl
 words_front x (t ∷ ts) = refl
@@ -446,7 +442,7 @@ words_step : (x y : IntWords) (k : IntWord) (t : Token) (ts : Tokens) → next_w
 unfolding words_from
 words_step x y k t ts h j = rw (h, j) refl
 
-told_by : {G : Type 0} (v : Bytes) (o : Option IntWord) → word_by v ≡ o → is_some_word o ≡ true → ((k : IntWord) → v ≡ text_of k → G) → G
+told_by : {G : Type 0} (v : Bytes) (o : Option IntWord) → word_by v ≡ o → is_some o ≡ true → ((k : IntWord) → v ≡ text_of k → G) → G
 told_by v None e h go = absurd cc
 told_by v (Some k) e h go = word_told v k e (go k)
 
@@ -469,19 +465,19 @@ read_words (some {w = v} {l} {ts} {rest} {ws} h) ends x t s p makes =
     (λ _ isnt. let a = makes v in let b = only_words s v p.only isnt in let c = counted_first v ws in absurd (omega (arith, a, b, c)))
     refl
 
-named_counted : (x : IntWords) → named_type x ≡ counted_in (words_of x)
-unfolding named_type
+named_counted : (x : IntWords) → type_of_words x ≡ counted_in (words_of x)
+unfolding type_of_words
 named_counted x = sym (state_counted x.width x.signedness x.has_int)
 
 counts_same : (ws s : List Bytes) → ((w : Bytes) → times w ws ≡ times w s) → counted_in ws ≡ counted_in s
 counts_same ws s h = rw (h (codes "char"), h (codes "short"), h (codes "long"), h (codes "signed"), h (codes "unsigned"), h (codes "int")) refl
 
-named_at : (t : IntType) (x : IntWords) (s : List Bytes) → Spelling t s → Makes x [] s → named_type x ≡ Some t
+named_at : (t : IntType) (x : IntWords) (s : List Bytes) → Spelling t s → Makes x [] s → type_of_words x ≡ Some t
 named_at t x s p makes = named_counted x ∙ (counts_same (words_of x) s (λ w. let a = makes w in omega (arith, a)) ∙ p.names)
 
 -- Each type of the grammar is read.
-pub int_type_read : {ts rest : Tokens} {t : IntType} → IsIntType ts t rest → int_type ts ≡ Ok (t, rest)
-unfolding int_type
+pub int_type_read : {ts rest : Tokens} {t : IntType} → IsIntType ts t rest → int_type_name ts ≡ Ok (t, rest)
+unfolding int_type_name
 int_type_read {ts} {rest} {t} (words {ws} h (spelled {spelling = s} in_table same) ends) =
     let p = fine t s in_table in
     let makes : Makes no_words ws s = λ w. let a = same w in omega (arith, a) in
@@ -496,21 +492,13 @@ record WordsOf (x y : IntWords) (ts rest : Tokens) : Type 0 where
   ends : sees_int_word rest ≡ false
   made : (w : Bytes) → times w (words_of y) ≡ times w all + times w (words_of x)
 
-by_next : {A G : Type 0} {z : A} (o : Option IntWord) (end : A) (go : IntWord → A) → by_word o end go ≡ z → (o ≡ None → end ≡ z → G) → ((k : IntWord) → o ≡ Some k → go k ≡ z → G) → G
-by_next None end go h left taken = left refl h
-by_next (Some k) end go h left taken = taken k refl h
-
-by_more : {A G : Type 0} {z : A} (o : Option IntWords) (end : A) (go : IntWords → A) → by_words o end go ≡ z → (o ≡ None → end ≡ z → G) → ((y : IntWords) → o ≡ Some y → go y ≡ z → G) → G
-by_more None end go h left taken = left refl h
-by_more (Some y) end go h left taken = taken y refl h
-
 words_told : (ts rest : Tokens) (x y : IntWords) → words_from x ts ≡ Ok (y, rest) → WordsOf x y ts rest
 unfolding words_from next_word
 words_told [] rest x y h = with_parts (λ z r. WordsOf x z [] r) h (record { all = []; are = none; ends = word_seen []; made = λ w. omega arith })
 words_told (t ∷ ts) rest x y h =
-    by_next (next_word (t ∷ ts)) _ _ h
-    (λ nothing h. with_parts (λ z r. WordsOf x z (t ∷ ts) r) h (record { all = []; are = none; ends = word_seen (t ∷ ts) ∙ ap is_some_word nothing; made = λ w. omega arith }))
-    (λ k at h. by_more (with_word x k) _ _ h
+    by_choice (next_word (t ∷ ts)) _ _ h
+    (λ nothing h. with_parts (λ z r. WordsOf x z (t ∷ ts) r) h (record { all = []; are = none; ends = word_seen (t ∷ ts) ∙ ap is_some nothing; made = λ w. omega arith }))
+    (λ k at h. by_choice (with_word x k) _ _ h
     (λ _ h. absurd cc)
     (λ z more h. next_told k t ts at (λ same.
     let r = words_told ts rest z y h in
@@ -522,11 +510,11 @@ by_type None mid t rest h go = absurd cc
 by_type (Some u) mid t rest h go = let e = ok_parts h in go (ap (λ x. Some x) e.0) e.1
 
 -- What is read is a type of the grammar.
-pub int_type_sound : (ts rest : Tokens) (t : IntType) → int_type ts ≡ Ok (t, rest) → IsIntType ts t rest
-unfolding int_type named_type
+pub int_type_sound : (ts rest : Tokens) (t : IntType) → int_type_name ts ≡ Ok (t, rest) → IsIntType ts t rest
+unfolding int_type_name type_of_words
 int_type_sound ts rest t h =
     by_step (words_from no_words ts) _ h (λ x mid went h.
-    by_type (named_type x) mid t rest h (λ named ends.
+    by_type (type_of_words x) mid t rest h (λ named ends.
     let r = words_told ts mid no_words x went in
     let table = spelled_by x.width x.signedness x.has_int t named in
     let same : SameWords r.all (words_of x) = λ w. let a = r.made w in omega (arith, a) in
@@ -536,16 +524,16 @@ words_fault : {G : Type 0} (ts : Tokens) (x : IntWords) → words_from x ts ≡ 
 unfolding words_from
 words_fault [] x h = absurd cc
 words_fault (t ∷ ts) x h =
-    by_next (next_word (t ∷ ts)) _ _ h (λ _ h. absurd cc)
-    (λ k _ h. by_more (with_word x k) _ _ h (λ _ h. absurd cc) (λ y _ h. words_fault ts y h))
+    by_choice (next_word (t ∷ ts)) _ _ h (λ _ h. absurd cc)
+    (λ k _ h. by_choice (with_word x k) _ _ h (λ _ h. absurd cc) (λ y _ h. words_fault ts y h))
 
 type_fault : {G : Type 0} (o : Option IntType) (ts : Tokens) → type_or_fault o ts ≡ Err Deep → G
 type_fault None ts h = absurd cc
 type_fault (Some t) ts h = absurd cc
 
-pub int_type_fault : {G : Type 0} (ts : Tokens) → int_type ts ≡ Err Deep → G
-unfolding int_type
-int_type_fault ts h = by_fault (words_from no_words ts) _ h (words_fault ts no_words) (λ x mid _ h. type_fault (named_type x) mid h)
+pub int_type_fault : {G : Type 0} (ts : Tokens) → int_type_name ts ≡ Err Deep → G
+unfolding int_type_name
+int_type_fault ts h = by_fault (words_from no_words ts) _ h (words_fault ts no_words) (λ x mid _ h. type_fault (type_of_words x) mid h)
 
 -- ---- where its words end
 

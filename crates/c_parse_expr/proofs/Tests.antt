@@ -1,5 +1,5 @@
 -- The steps of a parser, passed on to what follows.
-use Rattle.std.proofs.Common.{◌≡◌, ℕ, [], ◌∷◌, drop, refl, sym, ap, subst, ◌∙◌, true, false, Ok, Err, not, ◌&&◌}
+use Rattle.std.proofs.Common.{◌≡◌, ℕ, [], ◌∷◌, drop, refl, sym, ap, subst, ◌∙◌, true, false, Option, Some, None, Ok, Err, not, ◌&&◌}
 use Rattle.std.proofs.lemmas.Bool.{and_parts, not-true}
 use Rattle.c_language.proofs.Tests.{by_test}
 use Rattle.c_language.specs.Words.{Bytes}
@@ -8,7 +8,7 @@ use Rattle.c_language.specs.Sees.{is_kind, sees, is_keyword}
 use Rattle.c_language.specs.declared.token.TokenKind.TheVariants.{Name, Mark}
 use Rattle.c_language.specs.ExprGrammar.{is_plain_name}
 use Rattle.c_parse_words.proofs.SeenTokens.{of_kind_is, sees_is}
-use Rattle.c_parse_expr.specs.Outcome.{Outcome, Parser, Fault, and_then, expect, read_name}
+use Rattle.c_parse_expr.specs.Outcome.{Outcome, Parser, Fault, and_then, by_option, expect, read_name}
 use Rattle.c_parse_expr.specs.ExprReading.{read_member}
 
 pub ok_parts : {A : Type 0} {a b : A} {r s : Tokens} → ◌≡◌ {A = Outcome A} (Ok (a, r)) (Ok (b, s)) → (a ≡ b) × (r ≡ s)
@@ -19,6 +19,10 @@ ok_parts {A} {a} {b} {r} {s} h =
 pub by_step : {A B G : Type 0} {y : B × Tokens} (r : Outcome A) (f : A → Parser B) → and_then r f ≡ Ok y → ((x : A) (ts : Tokens) → r ≡ Ok (x, ts) → f x ts ≡ Ok y → G) → G
 by_step (Ok p) f e go = go p.0 p.1 refl e
 by_step (Err x) f e go = absurd cc
+
+pub by_choice : {A B G : Type 0} {z : B} (o : Option A) (none : B) (some : A → B) → by_option o none some ≡ z → (o ≡ None → none ≡ z → G) → ((x : A) → o ≡ Some x → some x ≡ z → G) → G
+by_choice None none some h left taken = left refl h
+by_choice (Some x) none some h left taken = taken x refl h
 
 -- how a step can fail
 pub by_fault : {A B G : Type 0} {x : Fault} (o : Outcome A) (f : A → Parser B) → and_then o f ≡ Err x → (o ≡ Err x → G) → ((a : A) (ts : Tokens) → o ≡ Ok (a, ts) → f a ts ≡ Err x → G) → G

@@ -15,7 +15,7 @@ use Rattle.c_language.specs.Nesting.{type_nesting, nesting_tokens}
 use Rattle.c_language.specs.declared.token.TokenKind.TheVariants.{Name, Mark}
 use Rattle.c_language.proofs.NestingLemmas.{type_nesting-PointerTo, type_nesting-Array}
 use Rattle.c_parse_expr.specs.Outcome.{Deep, expect, read_name}
-use Rattle.c_parse_expr.specs.IntReading.{int_type}
+use Rattle.c_parse_expr.specs.IntReading.{int_type_name}
 use Rattle.c_parse_expr.specs.ExprReading.{nested}
 use Rattle.c_parse_expr.specs.TypeReading.{base, stars, fitting, with_length, lengths, sees_empty_length, empty_length, outer_lengths, declarator, param_name, param_length, param_end, param, params_from, params}
 use Rattle.c_parse_words.proofs.SeenTokens.{by_seen}
@@ -79,7 +79,7 @@ unfolding base
 base_fault ts h =
     by_test (sees Name (codes "struct") ts) h
     (λ _ h. by_fault (read_name (drop 1 ts)) _ h (name_fault (drop 1 ts)) (λ _ _ _ h. absurd cc))
-    (λ _ h. by_fault (int_type ts) _ h (int_type_fault ts) (λ _ _ _ h. absurd cc))
+    (λ _ h. by_fault (int_type_name ts) _ h (int_type_fault ts) (λ _ _ _ h. absurd cc))
 
 pub stars_deep : (limit : ℕ) (a : RawType) (ts : Tokens) → stars limit a ts ≡ Err Deep → limit < nesting_tokens ts
 unfolding stars

@@ -21,9 +21,9 @@ use Rattle.c_language.specs.declared.token.Token.{Token}
 use Rattle.c_language.specs.declared.token.TokenKind.TheVariants.{Name, Mark}
 use Rattle.c_language.proofs.NestingLemmas.{type_nesting-Integer, type_nesting-PointerTo, type_nesting-Array, type_nesting-Struct}
 use Rattle.c_parse_expr.specs.Outcome.{Parser, and_then, Deep, expect}
-use Rattle.c_parse_expr.specs.ExprReading.{goes_on, suffix, suffix_by, infix_by, logical, comparison, arithmetic, multiplies_size, nested}
+use Rattle.c_parse_expr.specs.ExprReading.{goes_on, extension, extension_by, infix_by, logical, comparison, arithmetic, multiplies_size, nested}
 use Rattle.c_parse_expr.specs.TypeReading.{base, stars, star_count, type_name, fitting, with_length, lengths, sees_empty_length, empty_length, outer_lengths, declarator, param_name, param_length, param_end, param, params_from, params}
-use Rattle.c_parse_words.proofs.SeenTokens.{of_kind_is}
+use Rattle.c_parse_words.proofs.SeenTokens.{apart_by, of_kind_is}
 use Rattle.c_parse_expr.proofs.Tests.{read_name_at}
 use Rattle.c_parse_expr.proofs.IntLaws.{int_type_read, int_type_shorter, int_type_begins}
 use Rattle.c_parse_expr.proofs.ExprLaws.{begins_expr, shorter, Exact, nested_exact}
@@ -39,19 +39,13 @@ pub record BeginsType (ts : Tokens) : Type 0 where
   pub no_mark : (text : Bytes) → sees Mark text ts ≡ false
   pub no_word : (text : Bytes) → is_type_word text ≡ false → sees Name text ts ≡ false
 
-other_type_word : (w text : Bytes) → is_type_word w ≡ true → is_type_word text ≡ false → bytes_eq w text ≡ false
-other_type_word w text h k = elim (cases_Bool (bytes_eq w text)) [
-  | inl is ↦ let e : is_type_word w ≡ is_type_word text = ap is_type_word (same_bytes w text is) in absurd (let f : true ≡ false = sym h ∙ (e ∙ k) in cc)
-  | inr isnt ↦ isnt
-]
-
 struct_begins : (l : ℕ) (ts : Tokens) → BeginsType (name (codes "struct") l ∷ ts)
 unfolding sees
-struct_begins l ts = record { no_mark = λ text. refl; no_word = λ text k. other_type_word (codes "struct") text refl k }
+struct_begins l ts = record { no_mark = λ text. refl; no_word = λ text k. apart_by is_type_word (codes "struct") text refl k }
 
 word_begins : (w : Bytes) (l : ℕ) (ts : Tokens) → is_type_word w ≡ true → BeginsType (name w l ∷ ts)
 unfolding sees
-word_begins w l ts h = record { no_mark = λ text. refl; no_word = λ text k. other_type_word w text h k }
+word_begins w l ts h = record { no_mark = λ text. refl; no_word = λ text k. apart_by is_type_word w text h k }
 
 int_word_begins : (ts : Tokens) → sees_int_word ts ≡ true → BeginsType ts
 unfolding sees_int_word
@@ -160,7 +154,7 @@ type_name_read (starred {n} {ts} {mid} {rest} {base = a} h k) =
 -- ---- lengths
 
 bracket_ends : (l : ℕ) (ts : Tokens) → goes_on (mark (codes "]") l ∷ ts) ≡ false
-unfolding goes_on suffix suffix_by infix_by logical comparison arithmetic multiplies_size sees
+unfolding goes_on extension extension_by infix_by logical comparison arithmetic multiplies_size sees
 bracket_ends l ts = refl
 
 fitting_fits : (depth : ℕ) (a : RawType) (ts : Tokens) → type_nesting a ≤ depth → fitting depth a ts ≡ Ok (a, ts)

@@ -20,7 +20,7 @@ use Rattle.c_language.specs.declared.token.Token.{Token}
 use Rattle.c_language.specs.declared.token.TokenKind.TheVariants.{Name, Mark}
 use Rattle.c_language.proofs.NestingLemmas.{type_nesting-PointerTo, type_nesting-Array}
 use Rattle.c_parse_expr.specs.Outcome.{expect, read_name}
-use Rattle.c_parse_expr.specs.IntReading.{int_type}
+use Rattle.c_parse_expr.specs.IntReading.{int_type_name}
 use Rattle.c_parse_expr.specs.ExprReading.{nested}
 use Rattle.c_parse_expr.specs.TypeReading.{base, stars, star_count, type_name, fitting, with_length, lengths, sees_empty_length, empty_length, outer_lengths, declarator, param_name, param_length, param_end, param, params_from, params}
 use Rattle.c_parse_words.proofs.SeenTokens.{by_seen, of_kind_is}
@@ -40,7 +40,7 @@ base_sound ts rest a h =
     by_step (read_name (drop 1 ts)) _ h (λ tag after went h.
     by_name mid after tag (rw e at went) (λ m free at2.
     with_parts (λ b r. IsBase ts b r) h (rw (at, at2) (structure free))))))
-    (λ _ h. by_step (int_type ts) _ h (λ t mid went h. with_parts (λ b r. IsBase ts b r) h (integer (int_type_sound ts mid t went))))
+    (λ _ h. by_step (int_type_name ts) _ h (λ t mid went h. with_parts (λ b r. IsBase ts b r) h (integer (int_type_sound ts mid t went))))
 
 -- what a parser of stars gives
 pub record StarsSound (limit : ℕ) (ts : Tokens) (a b : RawType) (rest : Tokens) : Type 0 where

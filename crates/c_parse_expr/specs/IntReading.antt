@@ -5,8 +5,6 @@ use Rattle.c_arith.specs.declared.int_type.IntType.{IntType}
 use Rattle.c_arith.specs.declared.int_type.IntType.TheVariants as int
 use Rattle.c_language.specs.Words.{Bytes}
 use Rattle.c_language.specs.TokenForms.{Tokens}
-use Rattle.c_language.specs.Sees.{is_kind}
-use Rattle.c_language.specs.declared.token.Token.{Token}
 use Rattle.c_language.specs.declared.token.TokenKind.TheVariants.{Name}
 use Rattle.c_parse_expr.specs.declared.int_words.IntWord.{IntWord}
 use Rattle.c_parse_expr.specs.declared.int_words.IntWord.TheVariants.{Char, Short, Int, Long, Signed, Unsigned}
@@ -15,7 +13,7 @@ use Rattle.c_parse_expr.specs.declared.int_words.Width.TheVariants as width
 use Rattle.c_parse_expr.specs.declared.int_words.Signedness.{Signedness}
 use Rattle.c_parse_expr.specs.declared.int_words.Signedness.TheVariants as signedness
 use Rattle.c_parse_expr.specs.declared.int_words.IntWords.{IntWords}
-use Rattle.c_parse_expr.specs.Outcome.{Parser, and_then, refused}
+use Rattle.c_parse_expr.specs.Outcome.{Parser, and_then, by_option, text_by, refused}
 
 unfoldable pub word_by : Bytes → Option IntWord
 word_by w =
@@ -27,13 +25,9 @@ word_by w =
     else if bytes_eq w (codes "unsigned") then Some Unsigned
     else None
 
-abbrev pub some_word : Option Token → Option IntWord
-some_word None = None
-some_word (Some t) = if is_kind Name t then word_by t.text else None
-
 -- the word of an integer type at the front
 unfoldable pub next_word : Tokens → Option IntWord
-next_word ts = some_word (slice_get ts 0)
+next_word ts = text_by Name word_by (slice_get ts 0)
 
 -- nothing was read yet
 abbrev pub no_words : IntWords
@@ -75,25 +69,17 @@ type_by (Some width.Short) s i = by_signedness s int.Short int.UShort
 type_by (Some width.Long) s i = by_signedness s int.Long int.ULong
 
 -- the type that the words name
-unfoldable pub named_type : IntWords → Option IntType
-named_type x = type_by x.width x.signedness x.has_int
-
-abbrev pub by_word : {A : Type 0} → Option IntWord → A → (IntWord → A) → A
-by_word None none some = none
-by_word (Some w) none some = some w
-
-abbrev pub by_words : {A : Type 0} → Option IntWords → A → (IntWords → A) → A
-by_words None none some = none
-by_words (Some x) none some = some x
+unfoldable pub type_of_words : IntWords → Option IntType
+type_of_words x = type_by x.width x.signedness x.has_int
 
 -- all the words at the front
 unfoldable pub words_from : IntWords → Parser IntWords
 words_from x [] = Ok (x, [])
-words_from x (t ∷ ts) = by_word (next_word (t ∷ ts)) (Ok (x, t ∷ ts)) (λ w. by_words (with_word x w) (refused (t ∷ ts)) (λ y. words_from y ts))
+words_from x (t ∷ ts) = by_option (next_word (t ∷ ts)) (Ok (x, t ∷ ts)) (λ w. by_option (with_word x w) (refused (t ∷ ts)) (λ y. words_from y ts))
 
 abbrev pub type_or_fault : Option IntType → Parser IntType
 type_or_fault None ts = refused ts
 type_or_fault (Some t) ts = Ok (t, ts)
 
-unfoldable pub int_type : Parser IntType
-int_type ts = and_then (words_from no_words ts) (λ x ts. type_or_fault (named_type x) ts)
+unfoldable pub int_type_name : Parser IntType
+int_type_name ts = and_then (words_from no_words ts) (λ x ts. type_or_fault (type_of_words x) ts)

@@ -1,8 +1,10 @@
 -- What reading from left to right gives, and the steps that all reading is made of.
-use Rattle.std.specs.Prelude.{◌≡◌, ℕ, not, ◌&&◌, [], ◌∷◌, length, drop, Result, Ok, Err, if◌then◌else◌}
+use Rattle.std.specs.Prelude.{◌≡◌, ℕ, not, ◌&&◌, [], ◌∷◌, length, drop, Option, Some, None, Result, Ok, Err, if◌then◌else◌}
 use Rattle.c_language.specs.Words.{Bytes}
 use Rattle.c_language.specs.TokenForms.{Tokens}
 use Rattle.c_language.specs.Sees.{sees, is_kind, is_keyword}
+use Rattle.c_language.specs.declared.token.Token.{Token}
+use Rattle.c_language.specs.declared.token.TokenKind.{TokenKind}
 use Rattle.c_language.specs.declared.token.TokenKind.TheVariants.{Name, Mark}
 use Rattle.c_parse_expr.specs.declared.fault.Stop.{Stop}
 use Rattle.c_parse_expr.specs.declared.fault.Stop.TheVariants as stop
@@ -27,6 +29,16 @@ refused ts = Err (Syntax (length ts))
 abbrev pub and_then : {A B : Type 0} → Outcome A → (A → Parser B) → Outcome B
 and_then (Ok p) f = f p.0 p.1
 and_then (Err e) f = Err e
+
+-- one way where there is none, and another where there is one
+abbrev pub by_option : {A B : Type 0} → Option A → B → (A → B) → B
+by_option None none some = none
+by_option (Some x) none some = some x
+
+-- what the text of a token of this kind stands for
+abbrev pub text_by : {A : Type 0} → TokenKind → (Bytes → Option A) → Option Token → Option A
+text_by kind f None = None
+text_by kind f (Some t) = if is_kind kind t then f t.text else None
 
 -- the next token is this mark
 unfoldable pub expect : Bytes → Parser (Unit {0})

@@ -11,12 +11,13 @@ use Rattle.c_language.specs.Words.{Bytes}
 use Rattle.c_language.specs.TokenForms.{Tokens, line_of}
 use Rattle.c_language.specs.Sees.{sees, sees_second, sees_name}
 use Rattle.c_language.specs.IntWords.{sees_int_word}
+use Rattle.c_language.specs.ExprGrammar.{conditional_level}
 use Rattle.c_language.specs.Nesting.{type_nesting}
 use Rattle.c_language.specs.declared.token.TokenKind.TheVariants.{Name, Mark}
 use Rattle.c_parse_expr.specs.declared.shape.BaseForm.{BaseForm}
 use Rattle.c_parse_expr.specs.declared.shape.BaseForm.TheVariants as form
 use Rattle.c_parse_expr.specs.Outcome.{Parser, and_then, refused, Deep, expect, read_name}
-use Rattle.c_parse_expr.specs.IntReading.{int_type}
+use Rattle.c_parse_expr.specs.IntReading.{int_type_name}
 use Rattle.c_parse_expr.specs.ExprReading.{nested}
 
 abbrev pub base_type : BaseForm → RawType
@@ -31,7 +32,7 @@ begins_type ts = sees Name (codes "struct") ts || sees_int_word ts
 unfoldable pub base : Parser RawType
 base ts =
     if sees Name (codes "struct") ts then and_then (read_name (drop 1 ts)) (λ tag ts. Ok (type.Struct tag, ts))
-    else and_then (int_type ts) (λ t ts. Ok (type.Integer t, ts))
+    else and_then (int_type_name ts) (λ t ts. Ok (type.Integer t, ts))
 
 -- all the stars at the front, of which there are at most so many
 unfoldable pub stars : ℕ → RawType → Parser RawType
@@ -54,7 +55,7 @@ fitting depth a ts = if nat_le (type_nesting a) depth then Ok (a, ts) else Err D
 -- one length, and what follows it
 abbrev pub with_length : ℕ → (Parser RawType) → Parser RawType
 with_length depth inner ts =
-    and_then (nested depth 1 ts) (λ n ts. and_then (expect (codes "]") ts) (λ _ ts. and_then (inner ts) (λ a ts. Ok (type.Array a (Written n), ts))))
+    and_then (nested depth conditional_level ts) (λ n ts. and_then (expect (codes "]") ts) (λ _ ts. and_then (inner ts) (λ a ts. Ok (type.Array a (Written n), ts))))
 
 -- all the lengths at the front, which make arrays of the element; the arrays nest at most so deep
 unfoldable pub lengths : ℕ → RawType → Parser RawType
@@ -84,7 +85,7 @@ param_name ts = if sees_name ts then and_then (read_name ts) (λ text ts. Ok (So
 unfoldable pub param_length : ℕ → Parser (Option RawExpr)
 param_length depth ts =
     if sees Mark (codes "]") ts then Ok (None, drop 1 ts)
-    else and_then (nested depth 1 ts) (λ n ts. and_then (expect (codes "]") ts) (λ _ ts. Ok (Some n, ts)))
+    else and_then (nested depth conditional_level ts) (λ n ts. and_then (expect (codes "]") ts) (λ _ ts. Ok (Some n, ts)))
 
 -- what a parameter of this line, type and name ends with
 unfoldable pub param_end : ℕ → ℕ → RawType → Option Bytes → Parser RawParam

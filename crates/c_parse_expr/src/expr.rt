@@ -6,10 +6,12 @@ ghost use Rattle.c_parse_expr.specs.ExprReading as spec;
 ghost use Rattle.c_parse_expr.specs.Outcome.{Reads};
 
 use crate::cursor::Cursor;
+use crate::extension::{
+    CAST_LEVEL, CONDITIONAL_LEVEL, Extension, extension_from, level, prefix_at,
+};
 use crate::fault::Stop;
-use crate::int_words::{int_type, sees_int_word};
+use crate::int_words::{int_type_name, sees_int_word};
 use crate::nested::Nested;
-use crate::suffix::{CAST_LEVEL, CONDITIONAL_LEVEL, Suffix, level, prefix_at, suffix_from};
 use c_language::{Infix, Prefix, Text, TokenKind};
 use c_parse_words::is_keyword;
 use std::alloc::Global;
@@ -92,15 +94,15 @@ pub fn nested(alloc: Global, tokens: &mut Cursor<'_>, depth: u32, least: u8) -> 
     let mut left = prefix(alloc, tokens, below)?;
     let turns = tokens.left();
     for _turn in 0..turns {
-        let Some(suffix) = suffix_from(tokens, least) else {
+        let Some(extension) = extension_from(tokens, least) else {
             return Ok(left);
         };
-        left = extended(alloc, tokens, below, suffix, left)?;
+        left = extended(alloc, tokens, below, extension, left)?;
     }
     Ok(left)
 }
 
-/// An expression without a suffix. A word of a type behind a parenthesis tells a cast.
+/// An expression without an extension. A word of a type behind a parenthesis tells a cast.
 #[cycle(expression)]
 #[tactic(auto, unfolding(crate::specs::ExprReading::prefix))]
 fn prefix(alloc: Global, tokens: &mut Cursor<'_>, depth: u32) -> Result<Nested, Stop>
@@ -135,7 +137,7 @@ fn parenthesized(alloc: Global, tokens: &mut Cursor<'_>, depth: u32) -> Result<N
 fn converted(alloc: Global, tokens: &mut Cursor<'_>, depth: u32) -> Result<Nested, Stop>
     ensures { Reads (spec.converted (spec.nested depth) tokens.old) result tokens.new }
 {
-    let to = int_type(tokens)?;
+    let to = int_type_name(tokens)?;
     tokens.expect(b")")?;
     let operand = nested(alloc, tokens, depth, CAST_LEVEL)?;
     Ok(operand.cast(alloc, to)?)
@@ -150,27 +152,27 @@ fn signed(alloc: Global, tokens: &mut Cursor<'_>, depth: u32, op: Prefix) -> Res
     Ok(operand.applied(alloc, op)?)
 }
 
-/// With one more suffix, where that nests no deeper than `depth`.
+/// With one more extension, where that nests no deeper than `depth`.
 #[cycle(expression)]
 #[tactic(auto, unfolding(crate::specs::ExprReading::extended, crate::specs::ExprReading::extended_by))]
 fn extended(
     alloc: Global,
     tokens: &mut Cursor<'_>,
     depth: u32,
-    suffix: Suffix,
+    extension: Extension,
     left: Nested,
 ) -> Result<Nested, Stop>
-    ensures { Reads (spec.extended (spec.nested depth) depth suffix left tokens.old) result tokens.new }
+    ensures { Reads (spec.extended (spec.nested depth) depth extension left tokens.old) result tokens.new }
 {
     if left.height() >= depth {
         return Err(tokens.too_deep());
     }
     tokens.skip();
-    match suffix {
-        Suffix::Operator(op) => with_operand(alloc, tokens, depth, op, left),
-        Suffix::Question => with_choice(alloc, tokens, depth, left),
-        Suffix::Bracket => with_index(alloc, tokens, depth, left),
-        Suffix::Select(by) => {
+    match extension {
+        Extension::Operator(op) => with_operand(alloc, tokens, depth, op, left),
+        Extension::Question => with_choice(alloc, tokens, depth, left),
+        Extension::Bracket => with_index(alloc, tokens, depth, left),
+        Extension::Select(by) => {
             let member = member_name(alloc, tokens)?;
             Ok(left.selected(alloc, by, member)?)
         }

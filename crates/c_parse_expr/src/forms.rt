@@ -6,8 +6,8 @@ ghost use Rattle.c_language.specs.TypeGrammar as types;
 ghost use Rattle.c_parse_expr.specs.TypeReading as spec;
 
 use crate::cursor::Cursor;
+use crate::extension::binary_level;
 use crate::int_words::sees_int_word;
-use crate::suffix::binary_level;
 use c_language::TokenKind;
 use c_tree::{RawExpr, RawLength, RawType};
 

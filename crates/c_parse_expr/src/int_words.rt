@@ -131,9 +131,9 @@ impl IntWords {
     }
 
     /// The type that the words name.
-    #[tactic(auto, unfolding(crate::specs::IntReading::named_type))]
-    fn named_type(self) -> Option<IntType>
-        ensures { result ≡ spec.named_type self }
+    #[tactic(auto, unfolding(crate::specs::IntReading::type_of_words))]
+    fn type_of_words(self) -> Option<IntType>
+        ensures { result ≡ spec.type_of_words self }
     {
         let is_unsigned = matches!(self.signedness, Some(Signedness::Unsigned));
         match (self.width, is_unsigned) {
@@ -167,9 +167,9 @@ fn words_from(tokens: &mut Cursor<'_>, words: IntWords) -> Result<IntWords, Stop
 }
 
 /// An integer type, by all of its words in any order.
-#[tactic(auto, unfolding(crate::specs::IntReading::int_type))]
-pub fn int_type(tokens: &mut Cursor<'_>) -> Result<IntType, Stop>
-    ensures { Reads (spec.int_type tokens.old) result tokens.new }
+#[tactic(auto, unfolding(crate::specs::IntReading::int_type_name))]
+pub fn int_type_name(tokens: &mut Cursor<'_>) -> Result<IntType, Stop>
+    ensures { Reads (spec.int_type_name tokens.old) result tokens.new }
 {
     let none = IntWords {
         width: None,
@@ -177,7 +177,7 @@ pub fn int_type(tokens: &mut Cursor<'_>) -> Result<IntType, Stop>
         has_int: false,
     };
     let words = words_from(tokens, none)?;
-    match words.named_type() {
+    match words.type_of_words() {
         Some(named) => Ok(named),
         None => Err(tokens.refuse()),
     }

@@ -6,11 +6,11 @@
 
 pub mod cursor;
 pub mod expr;
+pub mod extension;
 pub mod fault;
 pub mod forms;
 pub mod int_words;
 pub mod nested;
 pub mod params;
 pub mod shape;
-pub mod suffix;
 pub mod types;

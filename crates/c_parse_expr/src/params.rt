@@ -5,9 +5,9 @@ ghost use Rattle.c_parse_expr.specs.Outcome.{Reads};
 
 use crate::cursor::Cursor;
 use crate::expr::nested;
+use crate::extension::CONDITIONAL_LEVEL;
 use crate::fault::Stop;
 use crate::shape::Shape;
-use crate::suffix::CONDITIONAL_LEVEL;
 use crate::types::{base, stars};
 use c_language::{Text, TokenKind};
 use c_tree::{Items, RawExpr, RawParam};

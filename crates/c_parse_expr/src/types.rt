@@ -6,10 +6,10 @@ ghost use Rattle.c_parse_expr.specs.Outcome.{Reads};
 
 use crate::cursor::Cursor;
 use crate::expr::nested;
+use crate::extension::CONDITIONAL_LEVEL;
 use crate::fault::Stop;
-use crate::int_words::int_type;
+use crate::int_words::int_type_name;
 use crate::shape::{Base, Shape};
-use crate::suffix::CONDITIONAL_LEVEL;
 use c_language::TokenKind;
 use c_tree::{RawTypeName, RawVar};
 use std::alloc::Global;
@@ -24,7 +24,7 @@ pub fn base(alloc: Global, tokens: &mut Cursor<'_>) -> Result<Base, Stop>
         let tag = tokens.name(alloc)?;
         return Ok(Base::structure(tag));
     }
-    let to = int_type(tokens)?;
+    let to = int_type_name(tokens)?;
     Ok(Base::integer(to))
 }
 

@@ -7,7 +7,7 @@ use Rattle.c_language.specs.IntWords.{is_int_word}
 use Rattle.c_language.specs.LeftOut.{is_opening, is_closing, innermost, outside, behind_stars, behind_words, holds_long, behind_semicolon, stands_here, open_braces, owed_colons}
 use Rattle.c_language.specs.declared.token.Token.{Token}
 use Rattle.c_language.specs.declared.token.TokenKind.TheVariants.{Name, Mark}
-use Rattle.c_parse_left_out.specs.Naming.{owed_behind, stops, finds, closed_behind}
+use Rattle.c_parse_left_out.specs.Around.{owed_behind, stops, finds, closed_behind}
 use Rattle.c_parse_left_out.specs.Telling.{braces_behind}
 
 -- ---- the token at a place, and those behind it

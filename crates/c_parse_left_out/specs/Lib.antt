@@ -1,4 +1,5 @@
 pub mod Places
 pub mod Telling
+pub mod Around
 pub mod Naming
 pub mod Near

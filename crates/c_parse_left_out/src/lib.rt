@@ -5,6 +5,7 @@
 mod around;
 mod naming;
 mod near;
+mod neighbours;
 mod telling;
 
 pub use near::left_out_near;

@@ -6,9 +6,10 @@ ghost use Rattle.c_language.specs.LeftOut as grammar;
 ghost use Rattle.c_parse_left_out.specs.Naming as spec;
 
 use crate::around::{
-    Neighbours, Sought, behind_stars, behind_words, doubles_semicolon, has_open_brace, holds_long,
-    innermost, is_assignment_sign, is_bump_sign, is_int_word, outside, owes_no_colon, stands_here,
+    Sought, behind_stars, behind_words, doubles_semicolon, has_open_brace, holds_long, innermost,
+    is_assignment_sign, is_bump_sign, is_int_word, outside, owes_no_colon, stands_here,
 };
+use crate::neighbours::Neighbours;
 use c_language::{Token, TokenKind};
 use c_parse_words::{is_keyword, is_token};
 

@@ -2,8 +2,9 @@
 ghost use Rattle.std.specs.Prelude.{◌≡◌, ◌≤◌, length};
 ghost use Rattle.c_parse_left_out.specs.Near as spec;
 
-use crate::around::{Neighbours, innermost, is_bump_sign, is_closing};
+use crate::around::{innermost, is_bump_sign, is_closing};
 use crate::naming::names;
+use crate::neighbours::Neighbours;
 use c_language::{Token, TokenKind};
 
 /// Whether a construct without a production begins at a place.

@@ -1,5 +1,5 @@
 -- What the tests of a parser say where an expression begins.
-use Rattle.std.proofs.Common.{◌≡◌, ℕ, [], ◌∷◌, refl, sym, ap, ◌∙◌, Bool, true, false, ◌||◌, None, codes, inl, inr}
+use Rattle.std.proofs.Common.{◌≡◌, ℕ, [], ◌∷◌, refl, ◌∙◌, true, false, None, codes, inl, inr}
 use Rattle.std.specs.Str.{bytes_eq}
 use Rattle.std.proofs.lemmas.Bool.{cases_Bool, or_parts}
 use Rattle.c_arith.specs.declared.int_type.IntType.{IntType}
@@ -20,20 +20,14 @@ use Rattle.c_language.specs.declared.operators.Selector.TheVariants.{Dot, Arrow}
 use Rattle.c_arith.specs.declared.operators.UnaryOp.TheVariants.{Plus, Minus, Flip, Not}
 use Rattle.c_arith.specs.declared.operators.BinaryOp.TheVariants.{Mul, Div, Rem, Add, Sub, Shl, Shr, Less, Greater, AtMost, AtLeast, Equal, Unequal, And, Xor, Or}
 use Rattle.c_parse_expr.specs.Outcome.{refused}
-use Rattle.c_parse_expr.specs.IntReading.{word_by, next_word, words_from, named_type, int_type}
+use Rattle.c_parse_expr.specs.IntReading.{word_by, next_word, words_from, type_of_words, int_type_name}
 use Rattle.c_parse_expr.specs.TypeReading.{begins_type, base}
 use Rattle.c_parse_simple.specs.SimpleReading.{string_at, sees_call, sees_cast, ends_in_star}
+use Rattle.c_parse_words.proofs.SeenTokens.{apart_by}
 use Rattle.c_parse_expr.proofs.IntLaws.{int_type_read, int_type_begins}
-use Rattle.c_language.proofs.Lists.{same_bytes}
+use Rattle.c_parse_expr.proofs.ExprLaws.{may_begin, prefix_may}
 use Rattle.c_parse_expr.proofs.TypeLaws.{no_struct}
 use Rattle.c_language.proofs.Keywords.{no_keyword, no_int_word, null_free, eof_free}
-
--- a word that passes a test is none that fails it
-pub apart_by : (test : Bytes → Bool) (w text : Bytes) → test w ≡ true → test text ≡ false → bytes_eq w text ≡ false
-apart_by test w text h k = elim (cases_Bool (bytes_eq w text)) [
-  | inl is ↦ let e : test w ≡ test text = ap test (same_bytes w text is) in absurd (let f : true ≡ false = sym h ∙ (e ∙ k) in cc)
-  | inr isnt ↦ isnt
-]
 
 -- the first token of an expression
 pub data IsStart : Token → Type 0 where
@@ -73,28 +67,14 @@ starts_no_word (with_token (word {text = w} h)) text k = no_keyword w text h k
 starts_no_word (with_token parenthesis) text k = refl
 starts_no_word (with_token (operator op)) text k = refl
 
--- the marks that begin an expression
-unfoldable pub is_starter : Bytes → Bool
-is_starter w =
-    bytes_eq w (codes "(") || (bytes_eq w (codes "+") || (bytes_eq w (codes "-") || (bytes_eq w (codes "~") || (bytes_eq w (codes "!") || (bytes_eq w (codes "*") || bytes_eq w (codes "&"))))))
-
-prefix_starter : (op : Prefix) → is_starter (prefix_sign op) ≡ true
-unfolding is_starter
-prefix_starter (Sign Plus) = refl
-prefix_starter (Sign Minus) = refl
-prefix_starter (Sign Flip) = refl
-prefix_starter (Sign Not) = refl
-prefix_starter Deref = refl
-prefix_starter AddressOf = refl
-
--- no other mark begins an expression
-pub starts_no_mark : {ts : Tokens} → Starts ts → (text : Bytes) → is_starter text ≡ false → sees Mark text ts ≡ false
-unfolding sees is_starter
+-- no mark but those that may begin an expression begins one
+pub starts_no_mark : {ts : Tokens} → Starts ts → (text : Bytes) → may_begin text ≡ false → sees Mark text ts ≡ false
+unfolding sees
 starts_no_mark (with_token digits) text k = refl
 starts_no_mark (with_token letter) text k = refl
 starts_no_mark (with_token (word h)) text k = refl
-starts_no_mark (with_token parenthesis) text k = apart_by is_starter (codes "(") text refl k
-starts_no_mark (with_token (operator op)) text k = apart_by is_starter (prefix_sign op) text (prefix_starter op) k
+starts_no_mark (with_token parenthesis) text k = apart_by may_begin (codes "(") text refl k
+starts_no_mark (with_token (operator op)) text k = apart_by may_begin (prefix_sign op) text (prefix_may op) k
 
 pub starts_no_string : {ts : Tokens} → Starts ts → string_at ts ≡ None
 unfolding string_at
@@ -188,8 +168,8 @@ next_none t ts h = elim (cases_Bool (is_kind Name t)) [
   | inr isnt ↦ rw isnt refl
 ]
 
-pub no_int_type : (ts : Tokens) → sees_int_word ts ≡ false → int_type ts ≡ refused ts
-unfolding int_type words_from named_type
+pub no_int_type : (ts : Tokens) → sees_int_word ts ≡ false → int_type_name ts ≡ refused ts
+unfolding int_type_name words_from type_of_words
 no_int_type [] h = refl
 no_int_type (t ∷ ts) h = rw (next_none t ts h) refl
 

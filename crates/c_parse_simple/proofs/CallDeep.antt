@@ -27,12 +27,12 @@ use Rattle.c_parse_expr.specs.TypeReading.{base, type_name, declarator}
 use Rattle.c_parse_simple.specs.SimpleReading as r
 use Rattle.c_parse_simple.specs.SimpleReading.{word, string_at, separated, arg, args, sees_call, called, call_parts, call, pointee, size_inside, size_in_parens, size_of, sized, counted, amount_of, malloc_of, cast_amount, heap_parts, heap, sees_effect, effect, bumped, bump, compound_at, stored, assigned, changed, acted, placed, simple, list_from, list, initialised, declared}
 use Rattle.c_parse_words.proofs.SeenTokens.{by_seen}
-use Rattle.c_parse_expr.proofs.Tests.{by_fault, by_expect, by_name, expect_fault, name_fault}
+use Rattle.c_parse_expr.proofs.Tests.{by_choice, by_fault, by_expect, by_name, expect_fault, name_fault}
 use Rattle.c_parse_expr.proofs.ExprDeep.{expr_tokens, IsDeep, drop_tokens, nested_expr_deep, whole_expr_deep}
 use Rattle.c_parse_expr.proofs.TypeLaws.{base_flat}
 use Rattle.c_parse_expr.proofs.TypeSound.{base_sound, type_name_sound, declarator_sound}
 use Rattle.c_parse_expr.proofs.TypeDeep.{base_tokens, named_tokens, declarator_tokens, base_fault, declarator_deep}
-use Rattle.c_parse_simple.proofs.CallSound.{expression_is, by_choice, by_word, arg_sound, size_sound, multiplied_is}
+use Rattle.c_parse_simple.proofs.CallSound.{expression_is, by_word, arg_sound, size_sound, multiplied_is}
 use Rattle.c_parse_simple.proofs.SimpleSound.{compound_is, declared_sound}
 use Rattle.c_language.proofs.Tests.{by_test}
 

@@ -22,7 +22,7 @@ use Rattle.c_language.specs.StatementGrammar.{IsSeparated, IsArg, IsArgs, is_cal
 use Rattle.c_language.specs.StatementNesting.{arg_nesting, call_nesting, amount_nesting, heap_nesting}
 use Rattle.c_language.specs.declared.token.TokenKind.TheVariants.{Name, Mark}
 use Rattle.c_parse_expr.specs.Outcome.{and_then, expect}
-use Rattle.c_parse_expr.specs.ExprReading.{logical, comparison, arithmetic, infix_by, suffix_by, multiplies_size, suffix, goes_on, nested}
+use Rattle.c_parse_expr.specs.ExprReading.{logical, comparison, arithmetic, infix_by, extension_by, multiplies_size, extension, goes_on, nested}
 use Rattle.c_parse_simple.specs.SimpleReading.{word, string_at, arg, args, called, call_parts, call, pointee, size_inside, size_in_parens, size_of, sized, counted, amount_of, malloc_of, cast_amount, heap_parts, heap}
 use Rattle.c_parse_words.proofs.SeenTokens.{by_seen}
 use Rattle.c_parse_expr.proofs.Tests.{read_name_at}
@@ -31,30 +31,30 @@ use Rattle.c_parse_expr.proofs.ExprLaws.{Exact, expression_exact, nested_exact, 
 use Rattle.c_parse_expr.proofs.ExprSound.{weaken}
 use Rattle.c_parse_expr.proofs.TightLaws.{tight}
 use Rattle.c_parse_simple.proofs.Exact.{done, at_depth, seq, after, guarded, lowered, tested, greatest_above, separated_exact, separated_shorter}
-use Rattle.c_parse_simple.proofs.Begins.{starts, starts_no_word, starts_no_mark, is_starter, starts_no_string}
+use Rattle.c_parse_simple.proofs.Begins.{starts, starts_no_word, starts_no_mark, starts_no_string}
 use Rattle.c_parse_expr.proofs.TypeLaws.{type_name_read, named_shorter}
 use Rattle.c_language.specs.Lists.{greatest}
 
 -- ---- what ends an expression
 
 pub close_ends : (l : ℕ) (ts : Tokens) → goes_on (mark (codes ")") l ∷ ts) ≡ false
-unfolding goes_on suffix suffix_by infix_by logical comparison arithmetic multiplies_size sees
+unfolding goes_on extension extension_by infix_by logical comparison arithmetic multiplies_size sees
 close_ends l ts = refl
 
 pub brace_ends : (l : ℕ) (ts : Tokens) → goes_on (mark (codes "}") l ∷ ts) ≡ false
-unfolding goes_on suffix suffix_by infix_by logical comparison arithmetic multiplies_size sees
+unfolding goes_on extension extension_by infix_by logical comparison arithmetic multiplies_size sees
 brace_ends l ts = refl
 
 pub comma_ends : (l : ℕ) (ts : Tokens) → goes_on (mark (codes ",") l ∷ ts) ≡ false
-unfolding goes_on suffix suffix_by infix_by logical comparison arithmetic multiplies_size sees
+unfolding goes_on extension extension_by infix_by logical comparison arithmetic multiplies_size sees
 comma_ends l ts = refl
 
 pub semicolon_ends : (l : ℕ) (ts : Tokens) → goes_on (mark (codes ";") l ∷ ts) ≡ false
-unfolding goes_on suffix suffix_by infix_by logical comparison arithmetic multiplies_size sees
+unfolding goes_on extension extension_by infix_by logical comparison arithmetic multiplies_size sees
 semicolon_ends l ts = refl
 
 pub colon_ends : (l : ℕ) (ts : Tokens) → goes_on (mark (codes ":") l ∷ ts) ≡ false
-unfolding goes_on suffix suffix_by infix_by logical comparison arithmetic multiplies_size sees
+unfolding goes_on extension extension_by infix_by logical comparison arithmetic multiplies_size sees
 colon_ends l ts = refl
 
 -- ---- arguments
@@ -78,7 +78,7 @@ arg_exact (IsArg.value h) free d = rw (starts_no_string (starts h)) (at_depth (o
 arg_exact IsArg.literal free d = done
 
 arg_begins : {ts rest : Tokens} {a : RawArg} → IsArg ts a rest → sees Mark (codes ")") ts ≡ false
-unfolding sees is_starter
+unfolding sees
 arg_begins (IsArg.value h) = starts_no_mark (starts h) (codes ")") refl
 arg_begins IsArg.literal = refl
 
@@ -156,7 +156,7 @@ size_read (IsSize.of_pointee {j} {w} {rest} free) = record { begins = refl; read
 size_read (IsSize.of_bare_pointee {k} {w} {rest} free) = record { begins = refl; read = rw (read_name_at w k _ free) refl; short = omega arith; multiplied = λ l. refl }
 
 star_ends : (l : ℕ) (ts : Tokens) → multiplies_size (mark (codes "*") l ∷ ts) ≡ true → goes_on (mark (codes "*") l ∷ ts) ≡ false
-unfolding goes_on suffix
+unfolding goes_on extension
 star_ends l ts h = rw h refl
 
 -- an operand that stands under a node of its own

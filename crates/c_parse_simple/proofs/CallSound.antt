@@ -1,5 +1,5 @@
 -- What is read as a call or an allocation is one.
-use Rattle.std.proofs.Common.{◌≡◌, ℕ, zero, suc, ◌-◌, max, List, [], ◌∷◌, ◌++◌, append_assoc, length, drop, refl, sym, ap, subst, ◌∙◌, arith, true, false, Bool, Option, Some, None, Ok, codes, nat_lt, nat_le, ◌==◌}
+use Rattle.std.proofs.Common.{◌≡◌, ℕ, zero, suc, ◌-◌, max, List, [], ◌∷◌, ◌++◌, append_assoc, length, drop, refl, sym, ap, subst, ◌∙◌, arith, true, false, Bool, Option, Some, Ok, codes, nat_lt, nat_le, ◌==◌}
 use Rattle.std.proofs.lemmas.Bool.{and_parts, leb-true}
 use Rattle.c_tree.specs.declared.raw.expr.RawExpr.{RawExpr}
 use Rattle.c_tree.specs.declared.raw.statement.RawTarget.{RawTarget}
@@ -22,9 +22,9 @@ use Rattle.c_language.specs.declared.token.TokenKind.TheVariants.{Name, Str, Mar
 use Rattle.c_parse_expr.specs.Outcome.{Parser, expect, read_name}
 use Rattle.c_parse_expr.specs.ExprReading.{multiplies_size, nested, expression}
 use Rattle.c_parse_expr.specs.TypeReading.{type_name}
-use Rattle.c_parse_simple.specs.SimpleReading.{word, string_at, by_option, separated, arg, args, called, call_parts, call, pointee, size_inside, size_in_parens, size_of, sized, counted, amount_of, malloc_of, cast_amount, heap_parts, heap}
+use Rattle.c_parse_simple.specs.SimpleReading.{word, string_at, separated, arg, args, called, call_parts, call, pointee, size_inside, size_in_parens, size_of, sized, counted, amount_of, malloc_of, cast_amount, heap_parts, heap}
 use Rattle.c_parse_words.proofs.SeenTokens.{by_seen, of_kind_is}
-use Rattle.c_parse_expr.proofs.Tests.{by_step, by_expect, by_name, ok_parts, with_parts}
+use Rattle.c_parse_expr.proofs.Tests.{by_step, by_choice, by_expect, by_name, ok_parts, with_parts}
 use Rattle.c_parse_expr.proofs.ExprSound.{Sound, nested_sound, expression_sound}
 use Rattle.c_parse_expr.proofs.TightLaws.{tighten}
 use Rattle.c_parse_expr.proofs.TypeSound.{type_name_sound}
@@ -35,10 +35,6 @@ expression_is d ts a rest h = let x : Sound 1 (suc d) ts a rest = expression_sou
 
 pub nested_is : (d : ℕ) (ts : Tokens) (a : RawExpr) (rest : Tokens) → nested d 1 ts ≡ Ok (a, rest) → IsExpr 1 ts a rest
 nested_is d ts a rest h = let x : Sound 1 d ts a rest = nested_sound d 1 ts a rest (omega arith) (omega arith) h in x.is
-
-pub by_choice : {A B G : Type 0} {z : B} (o : Option A) (none : B) (some : A → B) → by_option o none some ≡ z → (o ≡ None → none ≡ z → G) → ((x : A) → o ≡ Some x → some x ≡ z → G) → G
-by_choice None none some h left taken = left refl h
-by_choice (Some x) none some h left taken = taken x refl h
 
 pub by_word : {G : Type 0} (text : Bytes) (ts rest : Tokens) (u : Unit {0}) → word text ts ≡ Ok (u, rest) → ((l : ℕ) → ts ≡ name text l ∷ rest → G) → G
 unfolding word

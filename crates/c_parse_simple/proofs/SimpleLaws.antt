@@ -26,7 +26,7 @@ use Rattle.c_language.specs.StatementNesting.{call_nesting, heap_nesting, statem
 use Rattle.c_language.specs.declared.token.TokenKind.TheVariants.{Mark}
 use Rattle.c_language.proofs.StatementNestingLemmas.{nesting-Declare, nesting-Assign, nesting-Bump, nesting-Call, nesting-Heap}
 use Rattle.c_parse_expr.specs.Outcome.{expect}
-use Rattle.c_parse_expr.specs.ExprReading.{logical, comparison, arithmetic, infix_by, suffix_by, multiplies_size, suffix, goes_on}
+use Rattle.c_parse_expr.specs.ExprReading.{logical, comparison, arithmetic, infix_by, extension_by, multiplies_size, extension, goes_on}
 use Rattle.c_parse_expr.specs.TypeReading.{base}
 use Rattle.c_parse_simple.specs.SimpleReading as r
 use Rattle.c_parse_simple.specs.SimpleReading.{sees_call, sees_cast, sees_effect, effect, bumped, bump, compound_by, compound_at, stored, assigned, changed, acted, simple, list_from, list, initialised, declared}
@@ -34,7 +34,7 @@ use Rattle.c_parse_expr.proofs.ExprLaws.{Exact, expression_exact, nested_exact, 
 use Rattle.c_parse_expr.proofs.ExprSound.{weaken}
 use Rattle.c_parse_expr.proofs.TightLaws.{tight}
 use Rattle.c_parse_simple.proofs.Exact.{done, at_depth, same_read, same_tree, seq, after, tested, under, separated_exact, separated_shorter}
-use Rattle.c_parse_simple.proofs.Begins.{starts, starts_no_mark, is_starter, no_call, no_cast}
+use Rattle.c_parse_simple.proofs.Begins.{starts, starts_no_mark, no_call, no_cast}
 use Rattle.c_parse_expr.proofs.TypeLaws.{base_read, base_flat, base_shorter, declarator_exact, stars_shorter, pointed_nests}
 use Rattle.c_parse_simple.proofs.CallLaws.{close_ends, brace_ends, comma_ends, semicolon_ends, call_exact, call_shorter, heap_exact, heap_shorter}
 use Rattle.c_language.specs.Lists.{greatest}
@@ -120,7 +120,7 @@ record ActsBy (w : Bytes) : Type 0 where
   no_open : (l : ℕ) (ts : Tokens) → sees Mark (codes "(") (mark w l ∷ ts) ≡ false
 
 assigns : (op : Option BinaryOp) → assigns_by op ≡ true → ActsBy (assign_sign op)
-unfolding goes_on suffix suffix_by infix_by logical comparison arithmetic multiplies_size sees
+unfolding goes_on extension extension_by infix_by logical comparison arithmetic multiplies_size sees
 assigns None h = record { ends = λ l ts. refl; no_open = λ l ts. refl }
 assigns (Some Mul) h = record { ends = λ l ts. refl; no_open = λ l ts. refl }
 assigns (Some Div) h = record { ends = λ l ts. refl; no_open = λ l ts. refl }
@@ -140,7 +140,7 @@ assigns (Some Equal) h = absurd cc
 assigns (Some Unequal) h = absurd cc
 
 bumps : (up : Bool) → ActsBy (bump_sign up)
-unfolding goes_on suffix suffix_by infix_by logical comparison arithmetic multiplies_size sees
+unfolding goes_on extension extension_by infix_by logical comparison arithmetic multiplies_size sees
 bumps true = record { ends = λ l ts. refl; no_open = λ l ts. refl }
 bumps false = record { ends = λ l ts. refl; no_open = λ l ts. refl }
 
@@ -175,7 +175,7 @@ acts_compound d line l a Unequal ts h = absurd cc
 -- an expression at the front that is a place, and what is done with it
 placed : {w : Bytes} {l d n : ℕ} {ts mid rest : Tokens} {a : RawExpr} {b : RawStatement} → IsExpr 1 ts a (mark w l ∷ mid) → is_place a ≡ true → ActsBy w
     → Exact d n (acted d (line_of ts) a (mark w l ∷ mid)) b rest → Exact d (max (nesting a) n) (simple d ts) b rest
-unfolding simple r.placed is_starter
+unfolding simple r.placed
 placed {w} {l} {d} {ts} {mid} h p by x =
     rw (starts_no_mark (starts h) (codes "++") refl, starts_no_mark (starts h) (codes "--") refl, no_call h (by.no_open l mid))
     (seq _ (expression_exact h (by.ends l mid) d) (rw p x))
@@ -250,7 +250,6 @@ list_shorter (IsList.trailing h) = omega (arith, shorter h)
 list_shorter (IsList.more h k) = omega (arith, shorter h, list_shorter k)
 
 list_goes_on : {ts rest : Tokens} {all : List RawExpr} → IsList ts all rest → sees Mark (codes "}") ts ≡ false
-unfolding is_starter
 list_goes_on (IsList.last h) = starts_no_mark (starts h) (codes "}") refl
 list_goes_on (IsList.trailing h) = starts_no_mark (starts h) (codes "}") refl
 list_goes_on (IsList.more h k) = starts_no_mark (starts h) (codes "}") refl
@@ -300,7 +299,7 @@ initialised_list m d line v h = at_depth (omega arith) (seq _ (list_exact h d) d
 
 initialised_value : {ts rest : Tokens} {a : RawExpr} (d line : ℕ) (v : RawVar) → IsExpr 1 ts a rest → is_listed v.shape ≡ false → Ends rest
     → Exact d (nesting a) (initialised d line v ts) (s.Declare line v (init.One a)) rest
-unfolding initialised is_starter
+unfolding initialised
 initialised_value d line v h p ends = rw (starts_no_mark (starts h) (codes "{") refl, p, no_effect h ends.no_open) (at_depth (omega arith) (seq _ (expression_exact h ends.free d) done))
 
 initialised_effect : {m : ℕ} {ts rest : Tokens} {a : RawStatement} (d line : ℕ) (v : RawVar) → EffectRead d m line (target.Declared v) ts a rest → is_listed v.shape ≡ false

@@ -28,10 +28,10 @@ use Rattle.c_parse_expr.specs.TypeReading.{base, declarator}
 use Rattle.c_parse_simple.specs.SimpleReading as r
 use Rattle.c_parse_simple.specs.SimpleReading.{sees_call, sees_effect, effect, heap, call, bumped, bump, compound_by, compound_at, stored, assigned, changed, acted, simple, list_from, list, initialised, declared}
 use Rattle.c_parse_words.proofs.SeenTokens.{by_seen, of_kind_is}
-use Rattle.c_parse_expr.proofs.Tests.{by_step, by_expect, with_parts}
+use Rattle.c_parse_expr.proofs.Tests.{by_step, by_choice, by_expect, with_parts}
 use Rattle.c_parse_expr.proofs.TypeSound.{base_sound, declarator_sound}
 use Rattle.c_parse_expr.proofs.TightLaws.{tighten}
-use Rattle.c_parse_simple.proofs.CallSound.{expression_is, nested_is, by_choice, separated_sound, call_sound, heap_sound}
+use Rattle.c_parse_simple.proofs.CallSound.{expression_is, nested_is, separated_sound, call_sound, heap_sound}
 use Rattle.c_language.proofs.Lists.{same_bytes}
 use Rattle.c_language.proofs.Tests.{by_test}
 

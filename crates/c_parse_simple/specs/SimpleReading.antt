@@ -20,14 +20,13 @@ use Rattle.c_tree.specs.declared.raw.statement.RawStatement.{RawStatement}
 use Rattle.c_tree.specs.declared.raw.statement.RawStatement.TheVariants as s
 use Rattle.c_language.specs.Words.{Bytes}
 use Rattle.c_language.specs.TokenForms.{Tokens, line_of}
-use Rattle.c_language.specs.Sees.{sees, sees_second, sees_name, is_kind}
+use Rattle.c_language.specs.Sees.{sees, sees_second, sees_name}
 use Rattle.c_language.specs.ExprGrammar.{is_place, tightness, conditional_level, multiplicative_level, cast_level, postfix_level}
 use Rattle.c_language.specs.TypeGrammar.{has_star, is_listed}
 use Rattle.c_language.specs.StatementGrammar.{is_callee}
 use Rattle.c_language.specs.Nesting.{nesting}
-use Rattle.c_language.specs.declared.token.Token.{Token}
 use Rattle.c_language.specs.declared.token.TokenKind.TheVariants.{Name, Str, Mark}
-use Rattle.c_parse_expr.specs.Outcome.{Outcome, Parser, and_then, refused, Deep, expect, read_name}
+use Rattle.c_parse_expr.specs.Outcome.{Outcome, Parser, and_then, by_option, text_by, refused, Deep, expect, read_name}
 use Rattle.c_parse_expr.specs.ExprReading.{nested, expression, multiplies_size}
 use Rattle.c_parse_expr.specs.TypeReading.{base, type_name, declarator}
 
@@ -37,17 +36,9 @@ use Rattle.c_parse_expr.specs.TypeReading.{base, type_name, declarator}
 unfoldable pub word : Bytes → Parser (Unit {0})
 word text ts = if sees Name text ts then Ok (tt, drop 1 ts) else refused ts
 
-abbrev pub some_string : Option Token → Option Bytes
-some_string None = None
-some_string (Some t) = if is_kind Str t then Some t.text else None
-
 -- the spelling of the string at the front
 unfoldable pub string_at : Tokens → Option Bytes
-string_at ts = some_string (slice_get ts 0)
-
-abbrev pub by_option : {A B : Type 0} → Option A → B → (A → B) → B
-by_option None none some = none
-by_option (Some x) none some = some x
+string_at ts = text_by Str Some (slice_get ts 0)
 
 -- one or more, with a comma between each two, up to a closing mark and with it
 module _ {A : Type 0} (close : Bytes) (read : Parser A) where
@@ -184,13 +175,9 @@ compound_by w =
     else if bytes_eq w (codes "|=") then Some Or
     else None
 
-abbrev pub some_compound : Option Token → Option BinaryOp
-some_compound None = None
-some_compound (Some t) = if is_kind Mark t then compound_by t.text else None
-
 -- the compound assignment at the front
 unfoldable pub compound_at : Tokens → Option BinaryOp
-compound_at ts = some_compound (slice_get ts 0)
+compound_at ts = text_by Mark compound_by (slice_get ts 0)
 
 -- what is stored behind `=`
 unfoldable pub stored : ℕ → ℕ → RawExpr → Parser RawStatement

@@ -8,17 +8,16 @@ ghost use Rattle.c_parse_simple.specs.SimpleReading as spec;
 use c_language::{Text, TokenKind};
 use c_parse_expr::cursor::Cursor;
 use c_parse_expr::expr::{expression, nested};
+use c_parse_expr::extension::{
+    CAST_LEVEL, CONDITIONAL_LEVEL, MULTIPLICATIVE_LEVEL, multiplies_size,
+};
 use c_parse_expr::fault::Stop;
 use c_parse_expr::forms::tightness;
 use c_parse_expr::nested::Nested;
-use c_parse_expr::suffix::{CAST_LEVEL, CONDITIONAL_LEVEL, multiplies_size};
 use c_parse_expr::types::{base, type_name};
 use c_parse_words::is_keyword;
 use c_tree::{Items, RawAmount, RawArg, RawSize, RawStatement, RawTarget, RawTypeName};
 use std::alloc::{AllocError, Global};
-
-/// The level of a multiplicative expression (ISO C99 6.5.5).
-const MULTIPLICATIVE_LEVEL: u8 = 11;
 
 /// Skips this word; where another token stands, it is refused.
 #[tactic(auto, unfolding(crate::specs::SimpleReading::word))]

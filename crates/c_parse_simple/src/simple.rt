@@ -7,17 +7,14 @@ use crate::calls::{call, effect, sees_call, sees_effect};
 use c_language::TokenKind;
 use c_parse_expr::cursor::Cursor;
 use c_parse_expr::expr::{expression, nested};
+use c_parse_expr::extension::{CONDITIONAL_LEVEL, POSTFIX_LEVEL};
 use c_parse_expr::fault::Stop;
 use c_parse_expr::forms::{is_listed, is_place, tightness};
 use c_parse_expr::nested::Nested;
 use c_parse_expr::shape::Base;
-use c_parse_expr::suffix::CONDITIONAL_LEVEL;
 use c_parse_expr::types::{base, declarator};
 use c_tree::{BinaryOp, Items, RawExpr, RawInit, RawStatement, RawTarget, RawVar};
 use std::alloc::Global;
-
-/// The level of a postfix expression (ISO C99 6.5.2).
-const POSTFIX_LEVEL: u8 = 14;
 
 /// `++` or `--`, and the place behind it.
 #[tactic(auto, unfolding(crate::specs::SimpleReading::bumped))]

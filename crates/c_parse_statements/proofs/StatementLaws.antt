@@ -29,11 +29,11 @@ use Rattle.c_parse_statements.specs.StatementReading as r
 use Rattle.c_parse_simple.specs.SimpleReading as reading
 use Rattle.c_parse_simple.specs.SimpleReading.{word, nested_simple, nested_declared, nested_declaration}
 use Rattle.c_parse_statements.specs.StatementReading.{condition, for_declared, for_simple, for_init, for_step, sees_label, label, labels_from, labels, is_at_end, simple_statement, returned, listed, statements_from, statements, braced, body, alternative, arm_end, arm_of, arms_from, statement_with, nested_statement}
-use Rattle.c_parse_words.proofs.SeenTokens.{of_kind_is}
+use Rattle.c_parse_words.proofs.SeenTokens.{apart_by, of_kind_is}
 use Rattle.c_parse_expr.proofs.IntLaws.{int_type_begins}
 use Rattle.c_parse_expr.proofs.ExprLaws.{Exact, expression_exact, nested_exact, shorter}
 use Rattle.c_parse_simple.proofs.Exact.{done, at_depth, same_read, same_tree, seq, after, guarded, greatest_above, greatest_append}
-use Rattle.c_parse_simple.proofs.Begins.{Starts, with_token, starts, starts_no_word, starts_no_mark, is_starter, apart_by, starts_no_type}
+use Rattle.c_parse_simple.proofs.Begins.{Starts, with_token, starts, starts_no_word, starts_no_mark, starts_no_type}
 use Rattle.c_parse_simple.proofs.Begins as begin
 use Rattle.c_parse_expr.proofs.TypeLaws.{base_read, base_flat, base_shorter}
 use Rattle.c_parse_simple.proofs.CallLaws.{close_ends, semicolon_ends, colon_ends, base_no_mark}
@@ -69,7 +69,7 @@ starts_not_at_end (with_token (begin.operator Deref)) = refl
 starts_not_at_end (with_token (begin.operator AddressOf)) = refl
 
 from_start : {ts : Tokens} → Starts ts → BeginsSimple ts
-unfolding is_starter sees_label is_keyword
+unfolding sees_label is_keyword
 from_start s = record {
   no_word = starts_no_word s;
   no_brace = starts_no_mark s (codes "{") refl;
@@ -126,21 +126,21 @@ int_word_is (t ∷ ts) h go = let p = and_parts (is_kind Name t) (is_int_word t.
 int_word_goes_on : (ts : Tokens) → sees_int_word ts ≡ true → (is_at_end ts ≡ false) × (sees_label ts ≡ false)
 int_word_goes_on ts h = int_word_is ts h (λ w l rest is at. rw at (int_word_at w l rest is))
 
--- what they say where a type begins
-pub record BeginsType (ts : Tokens) : Type 0 where
+-- what they say where a declaration begins
+pub record BeginsDeclaration (ts : Tokens) : Type 0 where
   pub no_semicolon : sees Mark (codes ";") ts ≡ false
   pub type : begins_type ts ≡ true
   pub goes_on : is_at_end ts ≡ false
   pub no_label : sees_label ts ≡ false
 
-pub base_begins : {ts rest : Tokens} {a : RawType} → IsBase ts a rest → BeginsType ts
+pub base_begins : {ts rest : Tokens} {a : RawType} → IsBase ts a rest → BeginsDeclaration ts
 unfolding sees sees_label begins_type is_at_end
 base_begins (structure free) = record { no_semicolon = refl; type = refl; goes_on = refl; no_label = refl }
 base_begins {ts} (integer h) =
     let e = int_word_goes_on ts (int_type_begins h) in
     record { no_semicolon = base_no_mark (codes ";") (integer h); type = rw (int_type_begins h) (or_right _ true refl); goes_on = e.0; no_label = e.1 }
 
-pub declaration_begins : {ts rest : Tokens} {all : List RawStatement} → IsDeclaration ts all rest → BeginsType ts
+pub declaration_begins : {ts rest : Tokens} {all : List RawStatement} → IsDeclaration ts all rest → BeginsDeclaration ts
 declaration_begins (declaration h k) = base_begins h
 
 -- statements before a place where no label stands begin with none
@@ -290,7 +290,7 @@ unfolding simple_statement expect sees
 simple_statement_exact {l} {rest} h d = at_depth (omega arith) (seq _ (simple_exact h (at_semicolon l rest) d) done)
 
 returned_exact : {m : ℕ} {ts rest : Tokens} {a : RawExpr} → IsExpr 1 ts a (mark (codes ";") m ∷ rest) → (d line : ℕ) → Exact d (nesting a) (returned d line ts) (s.Return line (Some a)) rest
-unfolding returned expect sees is_starter
+unfolding returned expect sees
 returned_exact {m} {rest} h d line = rw (starts_no_mark (starts h) (codes ";") refl) (at_depth (omega arith) (seq _ (expression_exact h (semicolon_ends m rest) d) done))
 
 -- ---- statements
@@ -336,7 +336,7 @@ module _ (inner : Parser RawStatement) (d : ℕ) where
   unfolding statements_from is_at_end listed sees
   statements_skip l ts all turns found x = same_tree (ap (λ f. f ++ all) (append-nil found)) x
 
-  statements_declare : {m n : ℕ} {ts mid rest : Tokens} {some : List RawStatement} (all : List RawStatement) (turns : ℕ) (found : List RawStatement) → BeginsType ts → Exact d m (nested_declaration d ts) some mid
+  statements_declare : {m n : ℕ} {ts mid rest : Tokens} {some : List RawStatement} (all : List RawStatement) (turns : ℕ) (found : List RawStatement) → BeginsDeclaration ts → Exact d m (nested_declaration d ts) some mid
       → Exact d n (statements_from inner d turns (found ++ some) mid) ((found ++ some) ++ all) rest → Exact d (max m n) (statements_from inner d (suc turns) found ts) (found ++ (some ++ all)) rest
   unfolding statements_from listed
   statements_declare {some} all turns found b x y = rw (b.goes_on, b.no_semicolon, b.type) (same_tree (append_assoc found some all) (seq _ x y))

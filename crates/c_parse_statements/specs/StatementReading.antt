@@ -90,7 +90,7 @@ module _ (inner : Parser RawStatement) (d : ℕ) where
       else if begins_type ts then nested_declaration d ts
       else and_then (inner ts) (λ a ts. Ok (a ∷ [], ts))
 
-  -- each turn takes a token
+  -- each turn reads a statement, which takes at least one token
   unfoldable pub statements_from : ℕ → List RawStatement → Parser (List RawStatement)
   statements_from zero found ts = Ok (found, ts)
   statements_from (suc turns) found ts = if is_at_end ts then Ok (found, ts) else and_then (listed ts) (λ some ts. statements_from turns (found ++ some) ts)
@@ -148,7 +148,7 @@ module _ (inner : Parser RawStatement) (d : ℕ) where
   unfoldable pub block : ℕ → Parser RawStatement
   block line ts = if d == 0 then Err Deep else and_then (braced ts) (λ all ts. Ok (s.Block line all, ts))
 
-  -- a statement that begins with a word for a loop or a choice
+  -- a statement other than a declaration and `;`
   unfoldable pub statement_with : Parser RawStatement
   statement_with ts =
       if sees Name (codes "if") ts then conditional (line_of ts) (drop 1 ts)

@@ -1,6 +1,6 @@
 -- What a test of the next token says of the tokens.
-use Rattle.std.proofs.Common.{◌≡◌, ℕ, [], ◌∷◌, refl, sym, ap, ◌∙◌, true}
-use Rattle.std.proofs.lemmas.Bool.{and_parts}
+use Rattle.std.proofs.Common.{◌≡◌, ℕ, [], ◌∷◌, refl, sym, ap, ◌∙◌, Bool, true, false, inl, inr}
+use Rattle.std.proofs.lemmas.Bool.{cases_Bool, and_parts}
 use Rattle.std.specs.Str.{bytes_eq}
 use Rattle.c_language.specs.Words.{Bytes}
 use Rattle.c_language.specs.TokenForms.{Tokens, of_kind}
@@ -9,6 +9,13 @@ use Rattle.c_language.specs.declared.token.Token.{Token}
 use Rattle.c_language.specs.declared.token.TokenKind.{TokenKind}
 use Rattle.c_language.specs.declared.token.TokenKind.TheVariants.{Name, Number, Character, Str, Mark, Include, Directive}
 use Rattle.c_language.proofs.Lists.{same_bytes}
+
+-- a word that passes a test is none that fails it
+pub apart_by : (test : Bytes → Bool) (w text : Bytes) → test w ≡ true → test text ≡ false → bytes_eq w text ≡ false
+apart_by test w text h k = elim (cases_Bool (bytes_eq w text)) [
+  | inl is ↦ let e : test w ≡ test text = ap test (same_bytes w text is) in absurd (let f : true ≡ false = sym h ∙ (e ∙ k) in cc)
+  | inr isnt ↦ isnt
+]
 
 same_kind_is : (k j : TokenKind) → same_kind k j ≡ true → j ≡ k
 same_kind_is Name Name h = refl

@@ -48,9 +48,6 @@ arm_feedless = fold-Arm Bool Bool statement_step arm_step
 pub cat : (a b : Bytes) → feedless a ≡ true → feedless b ≡ true → feedless (a ++ b) ≡ true
 cat a b f g = list_all-append (λ x. not (is_feed x)) a b ∙ rw (f, g) refl
 
-pub parts : {a b : Bool} → (a && b) ≡ true → (a ≡ true) × (b ≡ true)
-parts {a} {b} h = and_parts a b h
-
 feeds_cons : (b : ℕ) (bs : Bytes) (is : Bool) → is_feed b ≡ is → not is ≡ true → line_feeds bs ≡ 0 → line_feeds (b ∷ bs) ≡ 0
 feeds_cons b bs true e h r = absurd cc
 feeds_cons b bs false e h r = sum_by-cons (λ x. cond (is_feed x) 1 0) b bs ∙ rw (e, r) refl
@@ -153,15 +150,15 @@ module _ (p : Program) (ok : IsFeedless p) where
   name_of_var_feedless = found_feedless var_feedless (λ v. v.name) (λ v h. (and_parts (feedless v.name) (type_feedless v.shape) h).0) p.vars ok.vars
 
   name_of_function_feedless : (f : ℕ) → feedless (name_of_function p f) ≡ true
-  name_of_function_feedless = found_feedless function_feedless (λ g. g.name) (λ g h. (parts h).0) p.functions ok.functions
+  name_of_function_feedless = found_feedless function_feedless (λ g. g.name) (λ g h. (and_parts _ _ h).0) p.functions ok.functions
 
   pub name_of_struct_feedless : (s : ℕ) → feedless (name_of_struct p s) ≡ true
-  name_of_struct_feedless = found_feedless struct_feedless (λ d. d.name) (λ d h. (parts h).0) p.structs ok.structs
+  name_of_struct_feedless = found_feedless struct_feedless (λ d. d.name) (λ d h. (and_parts _ _ h).0) p.structs ok.structs
 
   name_of_member_feedless : (m : MemberId) → feedless (name_of_member p m) ≡ true
   name_of_member_feedless m =
       found_feedless struct_feedless (λ (d : StructDef). option_map_or (λ (x : Member). x.name) (slice_get d.members m.index) [])
-      (λ d h. found_feedless member_feedless (λ (x : Member). x.name) (λ x k. (parts k).0) d.members (parts h).1 m.index) p.structs ok.structs m.owner
+      (λ d h. found_feedless member_feedless (λ (x : Member). x.name) (λ x k. (and_parts _ _ k).0) d.members (and_parts _ _ h).1 m.index) p.structs ok.structs m.owner
 
   -- ---- types
 
@@ -218,7 +215,7 @@ module _ (p : Program) (ok : IsFeedless p) where
   type_words_feedless t = cat (base_words p t) (spaced_stars (stars t)) (base_feedless t) (spaced_feedless (stars t) (stars_feedless t))
 
   pub var_words_feedless : (x : ℕ) → feedless (var_words p x) ≡ true
-  var_words_feedless = found_feedless var_feedless (λ (v : Var). declared p v.shape v.name) (λ v h. declared_feedless v.shape v.name (parts h).0 (parts h).1) p.vars ok.vars
+  var_words_feedless = found_feedless var_feedless (λ (v : Var). declared p v.shape v.name) (λ v h. declared_feedless v.shape v.name (and_parts _ _ h).0 (and_parts _ _ h).1) p.vars ok.vars
 
   -- ---- expressions
 
@@ -280,8 +277,8 @@ module _ (p : Program) (ok : IsFeedless p) where
 
   pub amount_words_feedless : (a : Amount) → amount_feedless a ≡ true → feedless (amount_words p a) ≡ true
   amount_words_feedless (amount.Size x) h = size_words_feedless x h
-  amount_words_feedless (amount.CountSize e x) h = cat (expr_words p e) (codes " * " ++ size_words p x) (expr_words_feedless e (parts h).0) (size_words_feedless x (parts h).1)
-  amount_words_feedless (amount.SizeCount x e) h = cat (size_words p x) (codes " * " ++ expr_words p e) (size_words_feedless x (parts h).0) (expr_words_feedless e (parts h).1)
+  amount_words_feedless (amount.CountSize e x) h = cat (expr_words p e) (codes " * " ++ size_words p x) (expr_words_feedless e (and_parts _ _ h).0) (size_words_feedless x (and_parts _ _ h).1)
+  amount_words_feedless (amount.SizeCount x e) h = cat (size_words p x) (codes " * " ++ expr_words p e) (size_words_feedless x (and_parts _ _ h).0) (expr_words_feedless e (and_parts _ _ h).1)
   amount_words_feedless (amount.Count e) h = expr_words_feedless e h
 
   pub cast_words_feedless : (t : Option CType) → feedless (cast_words p t) ≡ true

@@ -3,7 +3,7 @@ pub mod Indentation
 pub mod Loops
 pub mod StatementWords
 pub mod StatementLines
-pub mod KeptLines
+pub mod NotedLines
 pub mod PlacedLemmas
 pub mod LayoutLength
 pub mod FeedLemmas

@@ -1,6 +1,6 @@
 -- Loops that append a text for each element of a list.
 use Rattle.std.proofs.Common.{◌≡◌, ℕ, zero, suc, ◌+◌, ◌<◌, ◌≤◌, min, Option, List, [], ◌∷◌, ◌++◌, length, take, get_or, map, codes, append_assoc, append-nil, arith, refl, sym, ap, ◌∙◌}
-use Rattle.c_tree.specs.declared.expr.Expr.{Expr}
+use Rattle.c_language.proofs.Turns.{IsEach}
 use Rattle.c_tree.specs.declared.program.Program.{Program}
 use Rattle.c_tree.specs.declared.program.Member.{Member}
 use Rattle.c_tree.specs.declared.statement.Arm.{Arm}
@@ -9,38 +9,7 @@ use Rattle.c_language.specs.Words.{Bytes, joined, declared}
 use Rattle.c_language.specs.Layout.{line, label_words, label_lines, arms_lines, statement_lines, body_lines, member_lines, item_lines, items_lines, param_words, named_params, arm_laid}
 use Rattle.c_print.specs.Lists.{behind_commas}
 
--- all is the text that one gives for each element, one after another
-pub record IsEach {X : Type 0} (one : X → Bytes) (all : List X → Bytes) : Type 0 where
-  pub at_nothing : all [] ≡ []
-  pub at_more : (x : X) (xs : List X) → all (x ∷ xs) ≡ one x ++ all xs
-
--- the text of one element more
-pub each_more : {X : Type 0} {one : X → Bytes} {all : List X → Bytes} → IsEach one all → (xs : List X) (i : ℕ) (d : X) → i < length xs
-    → all (take (i + 1) xs) ≡ all (take i xs) ++ one (get_or xs i d)
-each_more e [] i d h = absurd (omega arith)
-each_more {one} {all} e (x ∷ xs) zero d h =
-    e.at_more x [] ∙ ap (λ (y : Bytes). one x ++ y) e.at_nothing ∙ append-nil (one x) ∙ sym (ap (λ (y : Bytes). y ++ one x) e.at_nothing)
-each_more {one} {all} e (x ∷ xs) (suc i) d h =
-    let k : suc i + 1 ≡ suc (i + 1) = omega arith in
-    ap (λ (k : ℕ). all (take k (x ∷ xs))) k
-    ∙ e.at_more x (take (i + 1) xs)
-    ∙ ap (λ (y : Bytes). one x ++ y) (each_more e xs i d (omega arith))
-    ∙ sym (append_assoc (one x) (all (take i xs)) (one (get_or xs i d)))
-    ∙ sym (ap (λ (y : Bytes). y ++ one (get_or xs i d)) (e.at_more x (take i xs)))
-
--- a turn of the loop that appends them
-pub each_turn_at : {X : Type 0} {one : X → Bytes} {all : List X → Bytes} → IsEach one all → (xs : List X) (i : ℕ) (d : X) (start out new : Bytes)
-    → i < length xs → out ≡ start ++ all (take i xs) → new ≡ out ++ one (get_or xs i d) → new ≡ start ++ all (take (i + 1) xs)
-each_turn_at {one} {all} e xs i d start out new h p q =
-    q ∙ ap (λ (y : Bytes). y ++ one (get_or xs i d)) p ∙ append_assoc start (all (take i xs)) (one (get_or xs i d))
-    ∙ ap (λ (y : Bytes). start ++ y) (sym (each_more e xs i d h))
-
--- the same, where the element is known by a name
-pub each_turn : {X : Type 0} {one : X → Bytes} {all : List X → Bytes} → IsEach one all → (xs : List X) (i : ℕ) (x : X) (start out new : Bytes)
-    → i < length xs → x ≡ get_or xs i x → out ≡ start ++ all (take i xs) → new ≡ out ++ one x → new ≡ start ++ all (take (i + 1) xs)
-each_turn {one} e xs i x start out new h is p q = each_turn_at e xs i x start out new h p (q ∙ ap (λ y. out ++ one y) is)
-
-pub each_comma : (f : Expr → Bytes) → IsEach (λ x. codes ", " ++ f x) (λ xs. behind_commas (map f xs))
+pub each_comma : {X : Type 0} (f : X → Bytes) → IsEach (λ x. codes ", " ++ f x) (λ xs. behind_commas (map f xs))
 each_comma f = record { at_nothing = refl; at_more = λ x xs. refl }
 
 pub each_label : (p : Program) (n : ℕ) → IsEach (λ (x : Label). line n (label_words p x)) (λ xs. label_lines p xs n)
@@ -51,9 +20,6 @@ each_arm p n = record { at_nothing = refl; at_more = λ x xs. refl }
 
 pub each_statement : (p : Program) (n : ℕ) → IsEach (statement_lines p n) (body_lines p n)
 each_statement p n = record { at_nothing = refl; at_more = λ x xs. refl }
-
-pub each_variable : (f : ℕ → Bytes) → IsEach (λ x. codes ", " ++ f x) (λ xs. behind_commas (map f xs))
-each_variable f = record { at_nothing = refl; at_more = λ x xs. refl }
 
 pub each_member : (p : Program) → IsEach (λ (x : Member). line 1 (declared p x.shape x.name ++ codes ";")) (member_lines p)
 each_member p = record { at_nothing = refl; at_more = λ x xs. refl }

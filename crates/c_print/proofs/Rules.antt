@@ -4,7 +4,7 @@ use Rattle.c_language.proofs.WordLemmas.{types_of as types, expressions_of as ex
 use Rattle.c_print.proofs.FirstByte.{first_bytes as firsts, signs_of as signs}
 use Rattle.c_print.proofs.Loops.{joined-commas}
 use Rattle.c_print.proofs.StatementLines.{lines_of}
-use Rattle.c_print.proofs.KeptLines.{keep_nothing}
+use Rattle.c_print.proofs.NotedLines.{noted_nothing}
 use Rattle.c_print.proofs.PlacedLemmas.{placed_of as placed}
 
 pub ruleset types_of = (types, append_assoc, append-nil)
@@ -23,6 +23,6 @@ pub ruleset loops_of = (append_assoc, append-nil)
 
 pub ruleset statements_of = (lines_of, append_assoc, append-nil)
 
-pub ruleset kept_of = (keep_nothing, append-nil)
+pub ruleset noted_of = (noted_nothing, append-nil)
 
-pub ruleset placed_of = (placed, keep_nothing)
+pub ruleset placed_of = (placed, noted_nothing)

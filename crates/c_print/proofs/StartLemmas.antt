@@ -4,7 +4,8 @@ use Rattle.std.specs.Prelude.{All}
 use Rattle.std.specs.List.{list_all}
 use Rattle.std.specs.Option.{option_map, option_map_or}
 use Rattle.std.proofs.lemmas.Bool.{and_parts}
-use Rattle.std.proofs.lemmas.List.Elements.{All-nil, All-cons, All-append}
+use Rattle.std.proofs.lemmas.List.Elements.{All-nil, All-cons, All-append, All-weaker}
+use Rattle.c_language.specs.Lists.{all_true}
 use Rattle.c_tree.specs.declared.numbered.Start.{Start}
 use Rattle.c_tree.specs.Numbered.{Starts, start, own_id, declared_start}
 use Rattle.c_tree.specs.declared.expr.Expr.{Expr}
@@ -20,7 +21,7 @@ use Rattle.c_language.specs.Tokens.{line_feeds}
 use Rattle.c_language.specs.Layout.{indent, line, var_words, init_words, target_words, amount_words, cast_words, call_words, init_part, step_part, label_lines, else_lines, arms_lines, laid, statement_words, statement_lines, body_lines, arm_laid}
 use Rattle.c_language.proofs.LayoutLemmas.{block_lines-laid}
 use Rattle.c_print.specs.Lines.{Placed, placed, arm_placed, simple, heights, else_height, part_starts, starts_from, block_starts}
-use Rattle.c_print.specs.Feedless.{feedless, each, type_feedless, expr_feedless, target_feedless, amount_feedless, statement_feedless, statement_step, arm_step, label_feedless, IsFeedless}
+use Rattle.c_print.specs.Feedless.{feedless, type_feedless, expr_feedless, target_feedless, amount_feedless, statement_feedless, statement_step, arm_step, label_feedless, IsFeedless}
 use Rattle.c_print.proofs.FeedLemmas.{arm_feedless, cat, no_feeds, indent_feedless, indent_feeds, line_feeds-line, call_feedless, assign_feedless, var_words_feedless, expr_words_feedless, args_feedless, init_words_feedless, target_words_feedless, amount_words_feedless, cast_words_feedless, bump_words_feedless, return_words_feedless, call_of_feedless, label_feeds}
 use Rattle.c_print.specs.StartsOn.{opening, if_line, StandsBehind, itself, met, otherwise, while, repeated, block, first_part, step, turn, switch, ListBehind, first, later, ArmsBehind, inside, after}
 use Rattle.c_print.proofs.StatementWords.{words-Declare, words-Assign, words-Bump, words-Invoke, words-Fetch, words-Write, words-Print, words-Heap, words-Release, words-Return, words-If, words-While, words-Do, words-For, words-Switch, words-Block}
@@ -71,9 +72,6 @@ pub record IsLaidArms (p : Program) (all : List Arm) : Type 0 where
   pub tall : (n : ℕ) → line_feeds (arms_lines (map (arm_laid p) all) n) ≡ heights (map arm_placed all)
   pub started : (n k : ℕ) → All (ArmsStarted p n all k) (block_starts (map arm_placed all) k)
 
-each_of : {X : Type 0} (P Q : X → Type 0) (xs : List X) → ((x : X) → P x → Q x) → All P xs → All Q xs
-each_of P Q xs f h i d lt = f _ (h i d lt)
-
 -- ---- lists
 
 no_statement : (p : Program) → IsLaidList p []
@@ -84,15 +82,15 @@ next_statement p statement rest a b = record {
   tall = λ n. omega (arith, feeds-append (statement_lines p n statement) (body_lines p n rest), a.tall n, b.tall n);
   started = λ n k.
       All-append (ListStarted p n (statement ∷ rest) k) (starts_from (placed statement) k) (block_starts (map placed rest) (k + (placed statement).height))
-      (each_of (IsStarted p n statement k) (ListStarted p n (statement ∷ rest) k) (starts_from (placed statement) k) (λ x h. record { statement = h.statement; number = h.number; front = h.front; words = h.words; stands = first h.stands; counted = h.counted }) (a.started n k))
-      (each_of (ListStarted p n rest (k + (placed statement).height)) (ListStarted p n (statement ∷ rest) k) (block_starts (map placed rest) (k + (placed statement).height)) (λ x h. record {
+      (All-weaker (IsStarted p n statement k) (ListStarted p n (statement ∷ rest) k) (λ x h. record { statement = h.statement; number = h.number; front = h.front; words = h.words; stands = first h.stands; counted = h.counted }) (starts_from (placed statement) k) (a.started n k))
+      (All-weaker (ListStarted p n rest (k + (placed statement).height)) (ListStarted p n (statement ∷ rest) k) (λ x h. record {
         statement = h.statement;
         number = h.number;
         front = statement_lines p n statement ++ h.front;
         words = h.words;
         stands = later h.stands;
         counted = omega (arith, h.counted, feeds-append (statement_lines p n statement) h.front, a.tall n);
-      }) (b.started n (k + (placed statement).height)));
+      }) (block_starts (map placed rest) (k + (placed statement).height)) (b.started n (k + (placed statement).height)));
 }
 
 no_arm : (p : Program) → IsLaidArms p []
@@ -104,14 +102,14 @@ next_arm p statement rest a b = record {
   started = λ n k.
       All-append (ArmsStarted p n (statement ∷ rest) k) (starts_from (arm_placed statement) k) (block_starts (map arm_placed rest) (k + (arm_placed statement).height))
       (a.started n k rest)
-      (each_of (ArmsStarted p n rest (k + (arm_placed statement).height)) (ArmsStarted p n (statement ∷ rest) k) (block_starts (map arm_placed rest) (k + (arm_placed statement).height)) (λ x h. record {
+      (All-weaker (ArmsStarted p n rest (k + (arm_placed statement).height)) (ArmsStarted p n (statement ∷ rest) k) (λ x h. record {
         statement = h.statement;
         number = h.number;
         front = arm_laid p statement n ++ h.front;
         words = h.words;
         stands = after h.stands;
         counted = omega (arith, h.counted, feeds-append (arm_laid p statement n) h.front, a.tall n);
-      }) (b.started n (k + (arm_placed statement).height)));
+      }) (block_starts (map arm_placed rest) (k + (arm_placed statement).height)) (b.started n (k + (arm_placed statement).height)));
 }
 
 -- ---- one statement
@@ -153,27 +151,27 @@ in_body : (p : Program) (outer : Statement) (n k : ℕ) (head : Bytes) (b : List
     → ((statement : Statement) (front words : Bytes) → ListBehind p statement (suc n) b front words → StandsBehind p statement n outer (line n head ++ front) words)
     → IsLaidList p b → All (IsStarted p n outer k) (block_starts (map placed b) (k + 1))
 in_body p outer n k head b h f body =
-    each_of (ListStarted p (suc n) b (k + 1)) (IsStarted p n outer k) (block_starts (map placed b) (k + 1)) (λ x a. record {
+    All-weaker (ListStarted p (suc n) b (k + 1)) (IsStarted p n outer k) (λ x a. record {
       statement = a.statement;
       number = a.number;
       front = line n head ++ a.front;
       words = a.words;
       stands = f a.statement a.front a.words a.stands;
       counted = omega (arith, a.counted, feeds-append (line n head) a.front, line_feeds-line n head h);
-    }) (body.started (suc n) (k + 1))
+    }) (block_starts (map placed b) (k + 1)) (body.started (suc n) (k + 1))
 
 in_arms : (p : Program) (outer : Statement) (n k : ℕ) (head : Bytes) (b : List Arm) → feedless head ≡ true
     → ((statement : Statement) (front words : Bytes) → ArmsBehind p statement (suc n) b front words → StandsBehind p statement n outer (line n head ++ front) words)
     → IsLaidArms p b → All (IsStarted p n outer k) (block_starts (map arm_placed b) (k + 1))
 in_arms p outer n k head b h f body =
-    each_of (ArmsStarted p (suc n) b (k + 1)) (IsStarted p n outer k) (block_starts (map arm_placed b) (k + 1)) (λ x a. record {
+    All-weaker (ArmsStarted p (suc n) b (k + 1)) (IsStarted p n outer k) (λ x a. record {
       statement = a.statement;
       number = a.number;
       front = line n head ++ a.front;
       words = a.words;
       stands = f a.statement a.front a.words a.stands;
       counted = omega (arith, a.counted, feeds-append (line n head) a.front, line_feeds-line n head h);
-    }) (body.started (suc n) (k + 1))
+    }) (block_starts (map arm_placed b) (k + 1)) (body.started (suc n) (k + 1))
 
 -- ---- each form
 
@@ -197,7 +195,7 @@ module _ (p : Program) (ok : IsFeedless p) where
   in_else : (id l : ℕ) (e : Expr) (a b : List Statement) (n k : ℕ) → expr_feedless e ≡ true → IsLaidList p a → IsLaidList p b
       → All (IsStarted p n (s.If id l e a b) k) (block_starts (map placed b) (k + 1 + heights (map placed a) + 1))
   in_else id l e a b n k t h j =
-      each_of (ListStarted p (suc n) b (k + 1 + heights (map placed a) + 1)) (IsStarted p n (s.If id l e a b) k) (block_starts (map placed b) (k + 1 + heights (map placed a) + 1)) (λ x y. record {
+      All-weaker (ListStarted p (suc n) b (k + 1 + heights (map placed a) + 1)) (IsStarted p n (s.If id l e a b) k) (λ x y. record {
         statement = y.statement;
         number = y.number;
         words = y.words;
@@ -213,7 +211,7 @@ module _ (p : Program) (ok : IsFeedless p) where
           line_feeds-line n (codes "} else {") refl,
           h.tall (suc n),
         );
-      }) (j.started (suc n) (k + 1 + heights (map placed a) + 1))
+      }) (block_starts (map placed b) (k + 1 + heights (map placed a) + 1)) (j.started (suc n) (k + 1 + heights (map placed a) + 1))
 
   laid_If : (id l : ℕ) (e : Expr) (a b : List Statement) → expr_feedless e ≡ true → IsLaidList p a → IsLaidList p b → IsLaid p (s.If id l e a b)
   laid_If id l e a b t h j =
@@ -335,14 +333,14 @@ module _ (p : Program) (ok : IsFeedless p) where
             );
         started = λ n k rest.
             subst (λ (y : Placed). All (ArmsStarted p n (a ∷ rest) k) (starts_from y k)) (sym (placed-arm a))
-            (each_of (ListStarted p (suc n) body (k + length labels)) (ArmsStarted p n (a ∷ rest) k) (block_starts (map placed body) (k + length labels)) (λ x y. record {
+            (All-weaker (ListStarted p (suc n) body (k + length labels)) (ArmsStarted p n (a ∷ rest) k) (λ x y. record {
               statement = y.statement;
               number = y.number;
               front = label_lines p labels n ++ y.front;
               words = y.words;
               stands = inside labels body y.stands;
               counted = omega (arith, y.counted, feeds-append (label_lines p labels n) y.front, label_feeds p ok labels n t);
-            }) (h.started (suc n) (k + length labels)));
+            }) (block_starts (map placed body) (k + length labels)) (h.started (suc n) (k + length labels)));
       }
 
   -- ---- all forms
@@ -359,15 +357,15 @@ module _ (p : Program) (ok : IsFeedless p) where
   abbrev bare_arms : List ((x : Arm) × R x) → List Arm
   bare_arms = map (λ (x : (a : Arm) × R a). x.0)
 
-  list_laid : (all : List ((x : Statement) × Q x)) → each (map statement_feedless (bare all)) ≡ true → IsLaidList p (bare all)
+  list_laid : (all : List ((x : Statement) × Q x)) → all_true (map statement_feedless (bare all)) ≡ true → IsLaidList p (bare all)
   list_laid [] h = no_statement p
   list_laid (x ∷ all) h =
-      let both = and_parts (statement_feedless x.0) (each (map statement_feedless (bare all))) h in next_statement p x.0 (bare all) (x.1 both.0) (list_laid all both.1)
+      let both = and_parts (statement_feedless x.0) (all_true (map statement_feedless (bare all))) h in next_statement p x.0 (bare all) (x.1 both.0) (list_laid all both.1)
 
-  arms_laid : (all : List ((x : Arm) × R x)) → each (map arm_feedless (bare_arms all)) ≡ true → IsLaidArms p (bare_arms all)
+  arms_laid : (all : List ((x : Arm) × R x)) → all_true (map arm_feedless (bare_arms all)) ≡ true → IsLaidArms p (bare_arms all)
   arms_laid [] h = no_arm p
   arms_laid (x ∷ all) h =
-      let both = and_parts (arm_feedless x.0) (each (map arm_feedless (bare_arms all))) h in next_arm p x.0 (bare_arms all) (x.1 both.0) (arms_laid all both.1)
+      let both = and_parts (arm_feedless x.0) (all_true (map arm_feedless (bare_arms all))) h in next_arm p x.0 (bare_arms all) (x.1 both.0) (arms_laid all both.1)
 
   abbrev Parts : Type 0
   Parts = StatementParts Q R
@@ -418,40 +416,40 @@ module _ (p : Program) (ok : IsFeedless p) where
       subst (IsLaid p) (sym (s.rolls-Return id l e))
       (simple_laid p (s.Return id l e) (Some id) (placed-Return id l e) (lines-Return p id l e) (ap feedless (words-Return p id l e) ∙ return_words_feedless p ok e h))
   layer_laid (Statement-F.If id l e a b) h =
-      let both = and_parts (expr_feedless e) (each (map statement_feedless (bare a)) && each (map statement_feedless (bare b))) h in
-      let others = and_parts (each (map statement_feedless (bare a))) (each (map statement_feedless (bare b))) both.1 in
+      let both = and_parts (expr_feedless e) (all_true (map statement_feedless (bare a)) && all_true (map statement_feedless (bare b))) h in
+      let others = and_parts (all_true (map statement_feedless (bare a))) (all_true (map statement_feedless (bare b))) both.1 in
       subst (IsLaid p) (sym (s.rolls-If id l e (bare a) (bare b))) (laid_If id l e (bare a) (bare b) both.0 (list_laid a others.0) (list_laid b others.1))
   layer_laid (Statement-F.While id l e b) h =
-      let both = and_parts (expr_feedless e) (each (map statement_feedless (bare b))) h in
+      let both = and_parts (expr_feedless e) (all_true (map statement_feedless (bare b))) h in
       subst (IsLaid p) (sym (s.rolls-While id l e (bare b))) (laid_While id l e (bare b) both.0 (list_laid b both.1))
   layer_laid (Statement-F.Do id l e b) h =
-      let both = and_parts (expr_feedless e) (each (map statement_feedless (bare b))) h in
+      let both = and_parts (expr_feedless e) (all_true (map statement_feedless (bare b))) h in
       subst (IsLaid p) (sym (s.rolls-Do id l e (bare b))) (laid_Do id l e (bare b) both.0 (list_laid b both.1))
   layer_laid (Statement-F.For id l None e None b) h =
-      let both = and_parts (expr_feedless e) (each (map statement_feedless (bare b))) h in
+      let both = and_parts (expr_feedless e) (all_true (map statement_feedless (bare b))) h in
       subst (IsLaid p) (sym (s.rolls-For id l None e None (bare b))) (laid_For id l None e None (bare b) refl both.0 refl (list_laid b both.1))
   layer_laid (Statement-F.For id l None e (Some k) b) h =
-      let both = and_parts (expr_feedless e) (statement_feedless k.0 && each (map statement_feedless (bare b))) h in
-      let others = and_parts (statement_feedless k.0) (each (map statement_feedless (bare b))) both.1 in
+      let both = and_parts (expr_feedless e) (statement_feedless k.0 && all_true (map statement_feedless (bare b))) h in
+      let others = and_parts (statement_feedless k.0) (all_true (map statement_feedless (bare b))) both.1 in
       subst (IsLaid p) (sym (s.rolls-For id l None e (Some k.0) (bare b))) (laid_For id l None e (Some k.0) (bare b) refl both.0 (k.1 others.0).plain (list_laid b others.1))
   layer_laid (Statement-F.For id l (Some i) e None b) h =
-      let outer = and_parts (statement_feedless i.0) (expr_feedless e && each (map statement_feedless (bare b))) h in
-      let both = and_parts (expr_feedless e) (each (map statement_feedless (bare b))) outer.1 in
+      let outer = and_parts (statement_feedless i.0) (expr_feedless e && all_true (map statement_feedless (bare b))) h in
+      let both = and_parts (expr_feedless e) (all_true (map statement_feedless (bare b))) outer.1 in
       subst (IsLaid p) (sym (s.rolls-For id l (Some i.0) e None (bare b))) (laid_For id l (Some i.0) e None (bare b) (i.1 outer.0).plain both.0 refl (list_laid b both.1))
   layer_laid (Statement-F.For id l (Some i) e (Some k) b) h =
-      let outer = and_parts (statement_feedless i.0) (expr_feedless e && (statement_feedless k.0 && each (map statement_feedless (bare b)))) h in
-      let both = and_parts (expr_feedless e) (statement_feedless k.0 && each (map statement_feedless (bare b))) outer.1 in
-      let others = and_parts (statement_feedless k.0) (each (map statement_feedless (bare b))) both.1 in
+      let outer = and_parts (statement_feedless i.0) (expr_feedless e && (statement_feedless k.0 && all_true (map statement_feedless (bare b)))) h in
+      let both = and_parts (expr_feedless e) (statement_feedless k.0 && all_true (map statement_feedless (bare b))) outer.1 in
+      let others = and_parts (statement_feedless k.0) (all_true (map statement_feedless (bare b))) both.1 in
       subst (IsLaid p) (sym (s.rolls-For id l (Some i.0) e (Some k.0) (bare b))) (laid_For id l (Some i.0) e (Some k.0) (bare b) (i.1 outer.0).plain both.0 (k.1 others.0).plain (list_laid b others.1))
   layer_laid (Statement-F.Switch id l e arms) h =
-      let both = and_parts (expr_feedless e) (each (map arm_feedless (bare_arms arms))) h in
+      let both = and_parts (expr_feedless e) (all_true (map arm_feedless (bare_arms arms))) h in
       subst (IsLaid p) (sym (s.rolls-Switch id l e (bare_arms arms))) (laid_Switch id l e (bare_arms arms) both.0 (arms_laid arms both.1))
   layer_laid (Statement-F.Block l b) h =
       subst (IsLaid p) (sym (s.rolls-Block l (bare b))) (laid_Block l (bare b) (ap feedless (words-Block p l (bare b))) (list_laid b h))
 
   arm_case : (labels : List Label) (body : List ((x : Statement) × Q x)) → R (roll-Arm (record { labels = labels; body = bare body }))
   arm_case labels body h =
-      let both = and_parts (list_all label_feedless labels) (each (map statement_feedless (bare body))) (sym (fold-roll-Arm Bool Bool statement_step arm_step (record { labels = labels; body = bare body })) ∙ h) in
+      let both = and_parts (list_all label_feedless labels) (all_true (map statement_feedless (bare body))) (sym (fold-roll-Arm Bool Bool statement_step arm_step (record { labels = labels; body = bare body })) ∙ h) in
       laid_arm labels (bare body) both.0 (list_laid body both.1)
 
   pub statement_laid : (statement : Statement) → Q statement

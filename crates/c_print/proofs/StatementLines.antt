@@ -12,45 +12,41 @@ use Rattle.c_tree.specs.declared.statement.Arm.{Arm}
 use Rattle.c_tree.specs.declared.statement.Statement.{Statement}
 use Rattle.c_tree.specs.declared.statement.Statement.TheVariants as s
 use Rattle.c_language.specs.Words.{Bytes, expr_words}
-use Rattle.c_language.specs.Layout.{line, label_lines, braced, init_part, step_part, Laid, plain, block_lines, else_lines, arms_lines, laid, statement_words, statement_lines, body_lines, arm_laid}
-use Rattle.c_language.proofs.LayoutLemmas.{arm_laid-roll, laid-Declare, laid-Assign, laid-Bump, laid-Invoke, laid-Fetch, laid-Write, laid-Print, laid-Heap, laid-Release, laid-Return, laid-If, laid-While, laid-Do, laid-Switch, laid-Block, laid-For, block_lines-laid}
+use Rattle.c_language.specs.Layout.{line, label_lines, braced, init_part, step_part, Laid, block_lines, else_lines, arms_lines, laid, statement_words, statement_lines, body_lines, arm_laid}
+use Rattle.c_language.proofs.LayoutLemmas.{arm_laid-roll, laid-Declare, laid-Assign, laid-Bump, laid-Invoke, laid-Fetch, laid-Write, laid-Print, laid-Heap, laid-Release, laid-Return, laid-If, laid-While, laid-Do, laid-Switch, laid-Block, laid-For, block_lines-laid, plain_lines}
 use Rattle.c_print.proofs.StatementWords.{words-If, words-While, words-For, words-Switch}
 
 -- ---- statements of one line
 
--- a statement that is laid out as one line
-one_line : (a : Laid) (words : Bytes) (n : ℕ) → a ≡ plain words → a.lines n ≡ line n (a.words ++ codes ";")
-one_line a words n e = ap (λ (x : Laid). x.lines n) e ∙ sym (ap (λ (x : Laid). line n (x.words ++ codes ";")) e)
-
 pub lines-Declare : (p : Program) (id : Option ℕ) (l x : ℕ) (i : Init) (n : ℕ) → statement_lines p n (s.Declare id l x i) ≡ line n (statement_words p (s.Declare id l x i) ++ codes ";")
-lines-Declare p id l x i n = one_line (laid p (s.Declare id l x i)) _ n (laid-Declare p id l x i)
+lines-Declare p id l x i n = plain_lines n (laid-Declare p id l x i)
 
 pub lines-Assign : (p : Program) (id l : ℕ) (a : Expr) (op : Option BinaryOp) (b : Expr) (n : ℕ) → statement_lines p n (s.Assign id l a op b) ≡ line n (statement_words p (s.Assign id l a op b) ++ codes ";")
-lines-Assign p id l a op b n = one_line (laid p (s.Assign id l a op b)) _ n (laid-Assign p id l a op b)
+lines-Assign p id l a op b n = plain_lines n (laid-Assign p id l a op b)
 
 pub lines-Bump : (p : Program) (id l : ℕ) (a : Expr) (up before : Bool) (n : ℕ) → statement_lines p n (s.Bump id l a up before) ≡ line n (statement_words p (s.Bump id l a up before) ++ codes ";")
-lines-Bump p id l a up before n = one_line (laid p (s.Bump id l a up before)) _ n (laid-Bump p id l a up before)
+lines-Bump p id l a up before n = plain_lines n (laid-Bump p id l a up before)
 
 pub lines-Invoke : (p : Program) (id l : ℕ) (to : Target) (f : ℕ) (args : List Expr) (n : ℕ) → statement_lines p n (s.Invoke id l to f args) ≡ line n (statement_words p (s.Invoke id l to f args) ++ codes ";")
-lines-Invoke p id l to f args n = one_line (laid p (s.Invoke id l to f args)) _ n (laid-Invoke p id l to f args)
+lines-Invoke p id l to f args n = plain_lines n (laid-Invoke p id l to f args)
 
 pub lines-Fetch : (p : Program) (id l : ℕ) (to : Target) (n : ℕ) → statement_lines p n (s.Fetch id l to) ≡ line n (statement_words p (s.Fetch id l to) ++ codes ";")
-lines-Fetch p id l to n = one_line (laid p (s.Fetch id l to)) _ n (laid-Fetch p id l to)
+lines-Fetch p id l to n = plain_lines n (laid-Fetch p id l to)
 
 pub lines-Write : (p : Program) (id l : ℕ) (a : Expr) (n : ℕ) → statement_lines p n (s.Write id l a) ≡ line n (statement_words p (s.Write id l a) ++ codes ";")
-lines-Write p id l a n = one_line (laid p (s.Write id l a)) _ n (laid-Write p id l a)
+lines-Write p id l a n = plain_lines n (laid-Write p id l a)
 
 pub lines-Print : (p : Program) (id l : ℕ) (format : Bytes) (args : List Expr) (n : ℕ) → statement_lines p n (s.Print id l format args) ≡ line n (statement_words p (s.Print id l format args) ++ codes ";")
-lines-Print p id l format args n = one_line (laid p (s.Print id l format args)) _ n (laid-Print p id l format args)
+lines-Print p id l format args n = plain_lines n (laid-Print p id l format args)
 
 pub lines-Heap : (p : Program) (id l : ℕ) (to : Target) (cast : Option CType) (asked : Amount) (n : ℕ) → statement_lines p n (s.Heap id l to cast asked) ≡ line n (statement_words p (s.Heap id l to cast asked) ++ codes ";")
-lines-Heap p id l to cast asked n = one_line (laid p (s.Heap id l to cast asked)) _ n (laid-Heap p id l to cast asked)
+lines-Heap p id l to cast asked n = plain_lines n (laid-Heap p id l to cast asked)
 
 pub lines-Release : (p : Program) (id l : ℕ) (a : Expr) (n : ℕ) → statement_lines p n (s.Release id l a) ≡ line n (statement_words p (s.Release id l a) ++ codes ";")
-lines-Release p id l a n = one_line (laid p (s.Release id l a)) _ n (laid-Release p id l a)
+lines-Release p id l a n = plain_lines n (laid-Release p id l a)
 
 pub lines-Return : (p : Program) (id l : ℕ) (value : Option Expr) (n : ℕ) → statement_lines p n (s.Return id l value) ≡ line n (statement_words p (s.Return id l value) ++ codes ";")
-lines-Return p id l value n = one_line (laid p (s.Return id l value)) _ n (laid-Return p id l value)
+lines-Return p id l value n = plain_lines n (laid-Return p id l value)
 
 -- ---- statements with bodies
 

@@ -1,5 +1,5 @@
 -- Programs whose texts hold no line feed: names, spellings of constants, formats, and the words of lengths.
-use Rattle.std.specs.Prelude.{◌≡◌, List, Bool, true, ◌&&◌, not, Option, None}
+use Rattle.std.specs.Prelude.{◌≡◌, Bool, true, ◌&&◌, not, Option, None}
 use Rattle.std.specs.List.{list_all}
 use Rattle.std.specs.Option.{option_map_or}
 use Rattle.c_tree.specs.declared.types.CType.{CType, fold-CType}
@@ -27,14 +27,11 @@ use Rattle.c_tree.specs.declared.statement.Statement.{Statement, fold-Statement}
 use Rattle.c_tree.specs.declared.statement.Statement.TheOpen.{Statement-F, Arm-F}
 use Rattle.c_language.specs.Words.{Bytes}
 use Rattle.c_language.specs.Tokens.{is_feed}
-use Rattle.c_language.specs.Lists.{if_there}
+use Rattle.c_language.specs.Lists.{if_there, all_true}
 
 -- no byte is a line feed
 abbrev pub feedless : Bytes → Bool
 feedless = list_all (λ b. not (is_feed b))
-
-abbrev pub each : List Bool → Bool
-each = list_all (λ b. b)
 
 -- ---- types and expressions
 
@@ -104,16 +101,16 @@ statement_step (Statement-F.Write id l e) = expr_feedless e
 statement_step (Statement-F.Print id l format args) = feedless format && list_all expr_feedless args
 statement_step (Statement-F.Heap id l to cast n) = target_feedless to && (option_map_or type_feedless cast true && amount_feedless n)
 statement_step (Statement-F.Release id l e) = expr_feedless e
-statement_step (Statement-F.If id l e a b) = expr_feedless e && (each a && each b)
-statement_step (Statement-F.While id l e b) = expr_feedless e && each b
-statement_step (Statement-F.Do id l e b) = expr_feedless e && each b
-statement_step (Statement-F.For id l i e s b) = if_there i && (expr_feedless e && (if_there s && each b))
-statement_step (Statement-F.Switch id l e arms) = expr_feedless e && each arms
-statement_step (Statement-F.Block l b) = each b
+statement_step (Statement-F.If id l e a b) = expr_feedless e && (all_true a && all_true b)
+statement_step (Statement-F.While id l e b) = expr_feedless e && all_true b
+statement_step (Statement-F.Do id l e b) = expr_feedless e && all_true b
+statement_step (Statement-F.For id l i e s b) = if_there i && (expr_feedless e && (if_there s && all_true b))
+statement_step (Statement-F.Switch id l e arms) = expr_feedless e && all_true arms
+statement_step (Statement-F.Block l b) = all_true b
 statement_step (Statement-F.Return id l e) = option_map_or expr_feedless e true
 
 abbrev pub arm_step : Arm-F Bool Bool → Bool
-arm_step a = list_all label_feedless a.labels && each a.body
+arm_step a = list_all label_feedless a.labels && all_true a.body
 
 abbrev pub statement_feedless : Statement → Bool
 statement_feedless = fold-Statement Bool Bool statement_step arm_step

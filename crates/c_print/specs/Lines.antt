@@ -74,18 +74,18 @@ placed_step (Statement-F.Block l b) = enclosing None b
 placed_step (Statement-F.Return id l e) = simple (Some id)
 
 -- an arm: a line for each label, its statements, and a line for its break
-abbrev pub placed_arm : Arm-F Placed Placed → Placed
-placed_arm a = record {
+abbrev pub arm_placed_step : Arm-F Placed Placed → Placed
+arm_placed_step a = record {
   own = None;
   height = length a.labels + heights a.body + 1;
   inside = λ n. block_starts a.body (n + length a.labels);
 }
 
 abbrev pub placed : Statement → Placed
-placed = fold-Statement Placed Placed placed_step placed_arm
+placed = fold-Statement Placed Placed placed_step arm_placed_step
 
 abbrev pub arm_placed : Arm → Placed
-arm_placed = fold-Arm Placed Placed placed_step placed_arm
+arm_placed = fold-Arm Placed Placed placed_step arm_placed_step
 
 -- how many lines the statements have
 abbrev pub body_height : List Statement → ℕ
@@ -136,6 +136,6 @@ abbrev pub line_of : Program → ℕ → ℕ
 line_of p id = line_among id (layout_starts p) 0
 
 -- lines of numbers in a row from the first one: each that is among these is what it is there, and all else is as before
-abbrev pub kept : ℕ → Starts → List ℕ → List ℕ
-kept first ss [] = []
-kept first ss (l ∷ ls) = line_among first ss l ∷ kept (suc first) ss ls
+abbrev pub noted : ℕ → Starts → List ℕ → List ℕ
+noted first ss [] = []
+noted first ss (l ∷ ls) = line_among first ss l ∷ noted (suc first) ss ls

@@ -7,7 +7,7 @@ ghost use Rattle.c_print.specs.Feedless.{IsFeedless};
 ghost use Rattle.c_print.specs.FewLines.{HaveFewLines};
 ghost use Rattle.c_print.specs.StartsOn.{HasPlace, StartsOn};
 ghost use Rattle.c_print.specs.Lines as spec;
-ghost use Rattle.c_print.specs.Lines.{starts_from, placed, arm_placed, item_placed, heights, body_height, line_count, kept};
+ghost use Rattle.c_print.specs.Lines.{starts_from, placed, arm_placed, item_placed, heights, body_height, line_count, noted};
 
 use c_tree::numbered::own_start;
 use c_tree::{Arm, Boxed, FunctionId, Item, Program, Statement, StatementId, StructId};
@@ -15,7 +15,7 @@ use std::alloc::{AllocError, Global};
 
 /// Writes down the line of a number, where it is one of those in a row from the first.
 fn note(lines: &mut [u32], first: StatementId, id: StatementId, line: u32)
-    ensures { lines.new ≡ kept first (start id line ∷ []) lines.old }
+    ensures { lines.new ≡ noted first (start id line ∷ []) lines.old }
 {
     if id < first {
         return;
@@ -27,9 +27,9 @@ fn note(lines: &mut [u32], first: StatementId, id: StatementId, line: u32)
 }
 
 /// Writes down the line of a statement itself.
-#[tactic(auto, using(crate::proofs::Rules::kept_of))]
+#[tactic(auto, using(crate::proofs::Rules::noted_of))]
 fn own(lines: &mut [u32], first: StatementId, line: u32, statement: &Statement)
-    ensures { lines.new ≡ kept first (declared_start (own_id statement.now) line) lines.old }
+    ensures { lines.new ≡ noted first (declared_start (own_id statement.now) line) lines.old }
 {
     if let Some(start) = own_start(statement) {
         note(lines, first, start.id, line);
@@ -37,9 +37,9 @@ fn own(lines: &mut [u32], first: StatementId, line: u32, statement: &Statement)
 }
 
 /// Writes down the line of a part of a `for`'s head.
-#[tactic(auto, using(crate::proofs::Rules::kept_of))]
+#[tactic(auto, using(crate::proofs::Rules::noted_of))]
 fn part(lines: &mut [u32], first: StatementId, line: u32, part: &Option<Boxed<Statement>>)
-    ensures { lines.new ≡ kept first (spec.part_starts (option_map placed part.now) line) lines.old }
+    ensures { lines.new ≡ noted first (spec.part_starts (option_map placed part.now) line) lines.old }
 {
     if let Some(statement) = part {
         own(lines, first, line, statement.get());
@@ -50,7 +50,7 @@ fn part(lines: &mut [u32], first: StatementId, line: u32, part: &Option<Boxed<St
 #[cycle(lines)]
 fn statements(lines: &mut [u32], first: StatementId, line: u32, all: &[Statement]) -> u32
     requires fits { line + body_height all.now < 2 ^ 32 }
-    ensures lines { lines.new ≡ kept first (spec.body_starts all.now line) lines.old }
+    ensures lines { lines.new ≡ noted first (spec.body_starts all.now line) lines.old }
     ensures next { result ≡ line + body_height all.now }
 {
     let mut next = line;
@@ -64,7 +64,7 @@ fn statements(lines: &mut [u32], first: StatementId, line: u32, all: &[Statement
 #[cycle(lines)]
 fn else_part(lines: &mut [u32], first: StatementId, line: u32, all: &[Statement]) -> u32
     requires fits { line + spec.else_height (map placed all.now) < 2 ^ 32 }
-    ensures lines { lines.new ≡ kept first (spec.body_starts all.now (line + 1)) lines.old }
+    ensures lines { lines.new ≡ noted first (spec.body_starts all.now (line + 1)) lines.old }
     ensures next { result ≡ line + spec.else_height (map placed all.now) }
 {
     if all.is_empty() {
@@ -77,7 +77,7 @@ fn else_part(lines: &mut [u32], first: StatementId, line: u32, all: &[Statement]
 #[cycle(lines)]
 fn arm(lines: &mut [u32], first: StatementId, line: u32, arm: &Arm) -> u32
     requires fits { line + (arm_placed arm.now).height < 2 ^ 32 }
-    ensures lines { lines.new ≡ kept first (starts_from (arm_placed arm.now) line) lines.old }
+    ensures lines { lines.new ≡ noted first (starts_from (arm_placed arm.now) line) lines.old }
     ensures next { result ≡ line + (arm_placed arm.now).height }
 {
     let behind = line + arm.labels.as_slice().len() as u32;
@@ -88,7 +88,7 @@ fn arm(lines: &mut [u32], first: StatementId, line: u32, arm: &Arm) -> u32
 #[cycle(lines)]
 fn arms(lines: &mut [u32], first: StatementId, line: u32, all: &[Arm]) -> u32
     requires fits { line + heights (map arm_placed all.now) < 2 ^ 32 }
-    ensures lines { lines.new ≡ kept first (spec.block_starts (map arm_placed all.now) line) lines.old }
+    ensures lines { lines.new ≡ noted first (spec.block_starts (map arm_placed all.now) line) lines.old }
     ensures next { result ≡ line + heights (map arm_placed all.now) }
 {
     let mut next = line;
@@ -104,7 +104,7 @@ fn arms(lines: &mut [u32], first: StatementId, line: u32, all: &[Arm]) -> u32
 #[tactic(auto, using(crate::proofs::Rules::placed_of))]
 fn inside(lines: &mut [u32], first: StatementId, line: u32, statement: &Statement) -> u32
     requires fits { line + (placed statement.now).height < 2 ^ 32 }
-    ensures lines { lines.new ≡ kept first ((placed statement.now).inside line) lines.old }
+    ensures lines { lines.new ≡ noted first ((placed statement.now).inside line) lines.old }
     ensures next { result ≡ line + (placed statement.now).height }
 {
     match statement {
@@ -145,7 +145,7 @@ fn inside(lines: &mut [u32], first: StatementId, line: u32, statement: &Statemen
 #[cycle(lines)]
 fn statement(lines: &mut [u32], first: StatementId, line: u32, statement: &Statement) -> u32
     requires fits { line + (placed statement.now).height < 2 ^ 32 }
-    ensures lines { lines.new ≡ kept first (starts_from (placed statement.now) line) lines.old }
+    ensures lines { lines.new ≡ noted first (starts_from (placed statement.now) line) lines.old }
     ensures next { result ≡ line + (placed statement.now).height }
 {
     own(lines, first, line, statement);
@@ -153,7 +153,7 @@ fn statement(lines: &mut [u32], first: StatementId, line: u32, statement: &State
 }
 
 /// Writes down the lines of a function's statements, and gives the next line.
-#[tactic(auto, using(crate::proofs::Rules::kept_of))]
+#[tactic(auto, using(crate::proofs::Rules::noted_of))]
 fn define(
     lines: &mut [u32],
     first: StatementId,
@@ -162,7 +162,7 @@ fn define(
     id: FunctionId,
 ) -> u32
     requires fits { line + (item_placed program.now (Item.Define id)).height < 2 ^ 32 }
-    ensures lines { lines.new ≡ kept first (starts_from (item_placed program.now (Item.Define id)) line) lines.old }
+    ensures lines { lines.new ≡ noted first (starts_from (item_placed program.now (Item.Define id)) line) lines.old }
     ensures next { result ≡ line + (item_placed program.now (Item.Define id)).height }
 {
     let Some(found) = program.functions.get(id as usize) else {
@@ -183,10 +183,10 @@ fn struct_end(line: u32, program: &Program, id: StructId) -> u32
 }
 
 /// Writes down the lines of an item that begins on this line, and gives the next line.
-#[tactic(auto, using(crate::proofs::Rules::kept_of))]
+#[tactic(auto, using(crate::proofs::Rules::noted_of))]
 fn item(lines: &mut [u32], first: StatementId, line: u32, program: &Program, item: &Item) -> u32
     requires fits { line + (item_placed program.now item.now).height < 2 ^ 32 }
-    ensures lines { lines.new ≡ kept first (starts_from (item_placed program.now item.now) line) lines.old }
+    ensures lines { lines.new ≡ noted first (starts_from (item_placed program.now item.now) line) lines.old }
     ensures next { result ≡ line + (item_placed program.now item.now).height }
 {
     match item {
@@ -203,7 +203,7 @@ fn item(lines: &mut [u32], first: StatementId, line: u32, program: &Program, ite
 /// Writes down the lines of all statements whose numbers are those in a row from the first.
 fn write_lines(lines: &mut [u32], first: StatementId, program: &Program)
     requires fits { line_count program.now + 1 < 2 ^ 32 }
-    ensures { lines.new ≡ kept first (spec.layout_starts program.now) lines.old }
+    ensures { lines.new ≡ noted first (spec.layout_starts program.now) lines.old }
 {
     let mut next = 1;
     for child in program.items.as_slice() {
@@ -232,7 +232,7 @@ pub fn line_of(program: &Program, id: StatementId) -> u32
 /// The lines of all statements, by their numbers.
 fn written(alloc: Global, program: &Program) -> Result<Vec<u32>, AllocError>
     requires fits { line_count program.now + 1 < 2 ^ 32 }
-    ensures { IfOk result (λ lines. lines.items ≡ kept 0 (spec.layout_starts program.now) (replicate program.now.statements 0)) }
+    ensures { IfOk result (λ lines. lines.items ≡ noted 0 (spec.layout_starts program.now) (replicate program.now.statements 0)) }
 {
     let mut lines = vec![in alloc; 0u32; program.statements as usize]?;
     write_lines(lines.as_mut_slice(), 0, program);

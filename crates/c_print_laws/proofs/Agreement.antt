@@ -26,13 +26,12 @@ use Rattle.c_language.specs.declared.expr_type.Base.TheVariants as base
 use Rattle.c_language.specs.declared.expr_type.ExprType.{ExprType}
 use Rattle.c_text_layout.specs.RawLayout.{raw_base_step, raw_base, raw_stars_step, raw_stars, raw_lengths, raw_declared, raw_type_words}
 use Rattle.c_text_layout.proofs.RawTypeLemmas.{raw_lengths-Integer, raw_lengths-PointerTo, raw_lengths-Struct}
-use Rattle.c_print_laws.proofs.Options.{map_there, then_there}
 use Rattle.c_language.proofs.Tests.{false_true}
 use Rattle.c_language.proofs.UseLemmas.{tags-PointerTo, tags-Struct}
 use Rattle.c_print_laws.proofs.Named.{IsNamed}
 use Rattle.c_print_laws.proofs.TypeLayout.{type_layout, declared_layout, nameless_layout}
-use Rattle.c_print_laws.proofs.Definitions.{IsPlain}
-use Rattle.c_language.proofs.Options.{some_same}
+use Rattle.c_language.proofs.PlainTypes.{IsPlain}
+use Rattle.c_language.proofs.Options.{some_same, map_there, then_there}
 
 same_int_words : (s t : IntType) → same_int s t ≡ true → int_words s ≡ int_words t
 same_int_words Char Char h = refl

@@ -37,21 +37,21 @@ use Rattle.c_language.specs.Scopes.{Scope, meaning_in}
 use Rattle.c_language.specs.Phrases.{Stand, Calls}
 use Rattle.c_language.specs.Rules.{Breaks, result, library}
 use Rattle.c_language.specs.CallRules.{later_args, format_in, without_result, MisusesResult, MisusesLibrary}
-use Rattle.c_language.specs.Uses.{is_one_of, init_exprs, arg_exprs, counts}
+use Rattle.c_language.specs.Uses.{is_among, init_exprs, arg_exprs, counts}
 use Rattle.c_language.specs.ProgramOf.{ctype, ctype_if, expr_of, exprs_of, init_of, variable_number, arg_tree, args_tree, only_tree, print_tree, invoke_tree, call_tree, size_tree, amount_tree, heap_tree, optional}
 use Rattle.c_language.proofs.LayoutLemmas.{laid-Invoke, laid-Fetch, laid-Write, laid-Print, laid-Heap, laid-Release}
 use Rattle.c_text_layout.specs.RawLayout.{raw_init_words, raw_target_words, raw_arg_words, raw_pointee_words, raw_size_words, raw_amount_words, raw_cast_words}
-use Rattle.c_print_laws.proofs.Options.{map_there, then_there, both_there, collected_are}
+use Rattle.c_print_laws.proofs.Options.{collected_are}
 use Rattle.c_print_laws.proofs.Named.{IsNamed, Fits}
 use Rattle.c_print_laws.proofs.ExprLayout.{variable_named, expr_layout, exprs_layout}
 use Rattle.c_print_laws.proofs.TypeLayout.{nameless_layout}
-use Rattle.c_language.proofs.Options.{none_there, some_same}
+use Rattle.c_language.proofs.Options.{none_there, some_same, map_there, then_there, both_there}
 use Rattle.c_language.proofs.Lists.{no_list, head_is, tail_is}
 
-pub optional_there : {A : Type 0} (x : Option (Option A)) (y : Option A) → optional x ≡ Some y → x ≡ option_map Some y
-optional_there None y h = ap (option_map Some) (some_same h)
-optional_there (Some None) y h = none_there h
-optional_there (Some (Some a)) y h = ap (option_map Some) (some_same h)
+pub optional_is : {A : Type 0} (x : Option (Option A)) (y : Option A) → optional x ≡ Some y → x ≡ option_map Some y
+optional_is None y h = ap (option_map Some) (some_same h)
+optional_is (Some None) y h = none_there h
+optional_is (Some (Some a)) y h = ap (option_map Some) (some_same h)
 
 abbrev IsNone : RawTarget → Type 0
 IsNone target.None = Unit {0}
@@ -141,12 +141,12 @@ module _ (raw : RawProgram) (p : Program) (named : IsNamed raw p) (scope : Scope
 
   cast_layout : (c : Option RawTypeName) (x : Option CType) → ctype_if raw (option_map named_type c) ≡ Some x → cast_words p x ≡ raw_cast_words c
   cast_layout None x h = ap (cast_words p) (sym (some_same h))
-  cast_layout (Some c) None h = elim_none (ctype raw (named_type c)) (optional_there (Some (ctype raw (named_type c))) None h)
+  cast_layout (Some c) None h = elim_none (ctype raw (named_type c)) (optional_is (Some (ctype raw (named_type c))) None h)
     where
       elim_none : {A : Type 0} (o : Option CType) → ◌≡◌ {A = Option (Option CType)} (Some o) None → A
       elim_none o e = none_there (sym e)
   cast_layout (Some c) (Some t) h =
-      ap (λ (w : Bytes). codes "(" ++ (w ++ codes ")")) (nameless_layout raw p named 0 (named_type c) t (some_same (optional_there (Some (ctype raw (named_type c))) (Some t) h)))
+      ap (λ (w : Bytes). codes "(" ++ (w ++ codes ")")) (nameless_layout raw p named 0 (named_type c) t (some_same (optional_is (Some (ctype raw (named_type c))) (Some t) h)))
 
   -- a target of the program, in the words of the text
   abbrev pub TargetLaid : RawTarget → Option Target → Type 0
@@ -171,7 +171,7 @@ module _ (raw : RawProgram) (p : Program) (named : IsNamed raw p) (scope : Scope
     abbrev CallLaid : Bytes → Statement → Type 0
     CallLaid f x = laid p x ≡ plain (raw_target_words to ++ call_words f (map raw_arg_words args))
 
-    no_target : (f : Bytes) → Kept f → is_one_of without_result f ≡ true → raw_target_words to ≡ []
+    no_target : (f : Bytes) → Kept f → is_among without_result f ≡ true → raw_target_words to ≡ []
     no_target f kept is = by_target to (λ other. kept 17 (result (MisusesResult.library other is)))
       where
         by_target : (to : RawTarget) → (to ≢ target.None → ⊥) → raw_target_words to ≡ []

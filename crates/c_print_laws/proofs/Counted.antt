@@ -25,8 +25,7 @@ use Rattle.c_language.specs.declared.expr_type.Base.{Base}
 use Rattle.c_language.specs.declared.expr_type.Layer.TheVariants.{Pointer, Array}
 use Rattle.c_language.specs.declared.expr_type.Base.TheVariants as base
 use Rattle.c_language.specs.declared.expr_type.ExprType.{ExprType}
-use Rattle.c_language.proofs.Options.{none_there, some_same}
-use Rattle.c_print_laws.proofs.Options.{map_there, both_there}
+use Rattle.c_language.proofs.Options.{none_there, some_same, map_there, both_there}
 
 longest-Array : (a : CType) (n : ℕ) (words : _) → longest (t.Array a n words) ≡ max n (longest a)
 longest-Array a n words = ap longest (sym (t.rolls-Array a n words)) ∙ fold-roll-CType ℕ length_step (CType-F.Array a n words)

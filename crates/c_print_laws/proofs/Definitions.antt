@@ -5,9 +5,7 @@ use Rattle.std.specs.Option.{option_map_or}
 use Rattle.std.proofs.lemmas.Slice.Eq.{bytes_eq-Decides}
 use Rattle.std.proofs.lemmas.Bool.{and_parts}
 use Rattle.c_language.proofs.ProgramParts.{made_of}
-use Rattle.c_arith.specs.declared.int_type.IntType.{IntType}
 use Rattle.c_tree.specs.declared.raw.expr.RawType.{RawType}
-use Rattle.c_tree.specs.declared.raw.expr.RawType.TheVariants as type
 use Rattle.c_tree.specs.declared.program.Program.{Program}
 use Rattle.c_tree.specs.declared.program.Function.{Function}
 use Rattle.c_tree.specs.declared.program.Var.{Var}
@@ -19,16 +17,17 @@ use Rattle.c_tree.specs.declared.raw.program.RawProgram.{RawProgram}
 use Rattle.c_tree.specs.declared.raw.statement.RawStatement.{RawStatement}
 use Rattle.c_language.specs.Words.{Bytes, name_of_function}
 use Rattle.c_language.specs.ItemGrammar.{are_named}
-use Rattle.c_language.specs.DeclaredTypes.{defined_functions, functions_of, function_id}
+use Rattle.c_language.specs.DeclaredTypes.{defined_functions, function_texts, function_id}
 use Rattle.c_language.specs.Scopes.{Scope, outset, with_named, scope_of_parameters, entered, with_parameter}
 use Rattle.c_language.specs.Phrases.{phrase, EndsFunction, DeclaresFunction, parameter_phrases, head_phrases, body_phrases, item_phrases, after_item, items_phrases, phrases}
 use Rattle.c_language.specs.ProgramOf.{ctype, ctype_with, ctype_if, variables_in, parameter_ids, function_tree, functions_from, body_of, program_of, struct_tree, items_from}
 use Rattle.c_language.specs.DeclaredTypes.{defined_structs}
 use Rattle.c_language.specs.Phrases.{scope_at_end}
-use Rattle.c_language.proofs.Options.{none_there, some_same}
+use Rattle.c_language.proofs.Options.{none_there, some_same, map_there, both_there}
+use Rattle.c_language.proofs.PlainTypes.{IsPlain}
 use Rattle.c_language.proofs.Tests.{false_true}
 use Rattle.c_language.proofs.ScopeNumbers.{function_variables}
-use Rattle.c_print_laws.proofs.Options.{map_there, both_there, collected_are}
+use Rattle.c_print_laws.proofs.Options.{collected_are}
 use Rattle.c_print_laws.proofs.Named.{positioned}
 use Rattle.c_print_laws.proofs.Told.{AreTold, told_first, told_rest, told_later}
 use Rattle.c_print_laws.proofs.Numbers.{parameter_count, item_variables, define_functions, prototype_functions}
@@ -71,12 +70,6 @@ behind_at all n m some is h = subst (λ (k : ℕ). Behind all k some) (sym is) h
 
 -- ---- functions
 
--- a type that no length stands in: a base with stars
-pub data IsPlain : RawType → Type 0 where
-  integer : {t : IntType} → IsPlain (type.Integer t)
-  structure : {tag : Bytes} → IsPlain (type.Struct tag)
-  pointer : {a : RawType} → IsPlain a → IsPlain (type.PointerTo a)
-
 -- what the grammar says of heads
 abbrev pub ParamsPlain : List RawParam → Type 0
 ParamsPlain [] = Unit {0}
@@ -98,9 +91,9 @@ ItemFormed (Global l v i is_static) = Unit {0}
 ItemFormed (Prototype l h) = HeadPlain h
 ItemFormed (Define l h body) = HeadPlain h × (are_named h.params ≡ true)
 
-abbrev pub AreFormed : List RawItem → Type 0
-AreFormed [] = Unit {0}
-AreFormed (x ∷ xs) = ItemFormed x × AreFormed xs
+abbrev pub HeadsPlain : List RawItem → Type 0
+HeadsPlain [] = Unit {0}
+HeadsPlain (x ∷ xs) = ItemFormed x × HeadsPlain xs
 
 module _ (raw : RawProgram) (p : Program) where
   -- the variables of the program are those of the parameters
@@ -142,7 +135,7 @@ module _ (raw : RawProgram) (p : Program) where
     pub are : functions_from raw items scope ≡ map Some functions
     pub behind : Behind p.functions scope.functions functions
     pub told : AreTold raw p scope.variables (items_phrases raw items scope)
-    pub formed : AreFormed items
+    pub formed : HeadsPlain items
 
   pub define_told : (l : ℕ) (h : RawHead) (body : List RawStatement) (scope : Scope) → AreTold raw p scope.variables (item_phrases raw (Define l h body) scope)
       → AreTold raw p (scope_of_parameters h scope).variables (head_phrases raw h.params (scope_of_parameters h scope) ++ (body_phrases raw body (entered raw h scope) ++ (phrase l scope (EndsFunction h body) ∷ [])))
@@ -176,7 +169,7 @@ module _ (raw : RawProgram) (p : Program) where
 
   pub define_later : (l : ℕ) (hd : RawHead) (body : List RawStatement) (xs : List RawItem) (scope : Scope) (f : Function) (fs : List Function)
       → functions_from raw xs (after_item raw (Define l hd body) scope) ≡ map Some fs → Behind p.functions scope.functions (f ∷ fs)
-      → AreTold raw p scope.variables (items_phrases raw (Define l hd body ∷ xs) scope) → AreFormed xs → FunctionsAt (after_item raw (Define l hd body) scope) xs
+      → AreTold raw p scope.variables (items_phrases raw (Define l hd body ∷ xs) scope) → HeadsPlain xs → FunctionsAt (after_item raw (Define l hd body) scope) xs
   define_later l hd body xs scope f fs are behind told formed =
       let next = after_item raw (Define l hd body) scope in
       record {
@@ -188,7 +181,7 @@ module _ (raw : RawProgram) (p : Program) where
       }
 
   -- each function that the items define is one of the program, and has its head
-  pub definitions : (items : List RawItem) (scope : Scope) → FunctionsAt scope items → (k : ℕ) (h : RawHead) → slice_get (functions_of items) k ≡ Some h → IsDefinedAs (scope.functions + k) h
+  pub definitions : (items : List RawItem) (scope : Scope) → FunctionsAt scope items → (k : ℕ) (h : RawHead) → slice_get (function_texts items) k ≡ Some h → IsDefinedAs (scope.functions + k) h
   definitions [] scope at k h is = none_there is
   definitions (Include is_stdlib ∷ xs) scope at k h is = definitions xs scope (same_functions scope scope (Include is_stdlib) xs refl refl refl at) k h is
   definitions (Tag l tag ∷ xs) scope at k h is = definitions xs scope (same_functions scope scope (Tag l tag) xs refl refl refl at) k h is
@@ -202,9 +195,9 @@ module _ (raw : RawProgram) (p : Program) where
   definitions (Define l hd body ∷ xs) scope at k h is = by_functions at.functions at.are at.behind at.told at.formed (definitions xs (after_item raw (Define l hd body) scope)) k is
     where
       by_functions : (fs : List Function) → functions_from raw (Define l hd body ∷ xs) scope ≡ map Some fs → Behind p.functions scope.functions fs
-          → AreTold raw p scope.variables (items_phrases raw (Define l hd body ∷ xs) scope) → AreFormed (Define l hd body ∷ xs)
-          → (FunctionsAt (after_item raw (Define l hd body) scope) xs → (k : ℕ) (h : RawHead) → slice_get (functions_of xs) k ≡ Some h → IsDefinedAs ((after_item raw (Define l hd body) scope).functions + k) h)
-          → (k : ℕ) → slice_get (functions_of (Define l hd body ∷ xs)) k ≡ Some h → IsDefinedAs (scope.functions + k) h
+          → AreTold raw p scope.variables (items_phrases raw (Define l hd body ∷ xs) scope) → HeadsPlain (Define l hd body ∷ xs)
+          → (FunctionsAt (after_item raw (Define l hd body) scope) xs → (k : ℕ) (h : RawHead) → slice_get (function_texts xs) k ≡ Some h → IsDefinedAs ((after_item raw (Define l hd body) scope).functions + k) h)
+          → (k : ℕ) → slice_get (function_texts (Define l hd body ∷ xs)) k ≡ Some h → IsDefinedAs (scope.functions + k) h
       by_functions [] are behind told formed later k is = no_list are
       by_functions (f ∷ fs) are behind told formed later zero is =
           subst (λ (n : ℕ). IsDefinedAs n h) (omega arith) (subst (IsDefinedAs scope.functions) (some_same is)

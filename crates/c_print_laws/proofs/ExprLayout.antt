@@ -19,10 +19,9 @@ use Rattle.c_language.specs.declared.expr_type.Operand.{Operand}
 use Rattle.c_language.specs.declared.expr_type.ExprType.{ExprType}
 use Rattle.c_language.proofs.WordLemmas.{expr_words-Constant, expr_words-Null, expr_words-Eof, expr_words-Variable, expr_words-Unary, expr_words-Deref, expr_words-AddressOf, expr_words-Binary, expr_words-AndAlso, expr_words-OrElse, expr_words-Choose, expr_words-Cast, expr_words-Index, expr_words-Member, expr_words-Arrow, expr_words-Paren}
 use Rattle.c_text_layout.specs.SpacedWords.{spaced_words}
-use Rattle.c_print_laws.proofs.Options.{map_there, then_there, both_there}
 use Rattle.c_print_laws.proofs.SpacedWords.{constant_spaced, words_spaced}
 use Rattle.c_print_laws.proofs.Named.{IsNamed, Fits, fits_found, fits_typed}
-use Rattle.c_language.proofs.Options.{none_there, some_same}
+use Rattle.c_language.proofs.Options.{none_there, some_same, map_there, then_there, both_there}
 use Rattle.c_language.proofs.Lists.{no_list, head_is, tail_is}
 use Rattle.c_language.specs.Options.{IsThere}
 

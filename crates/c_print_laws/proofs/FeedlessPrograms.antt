@@ -19,14 +19,14 @@ use Rattle.c_tree.specs.declared.raw.program.RawItem.{RawItem}
 use Rattle.c_tree.specs.declared.raw.program.RawItem.TheVariants.{Include, Tag, Struct, Global, Prototype, Define}
 use Rattle.c_tree.specs.declared.raw.program.RawProgram.{RawProgram}
 use Rattle.c_tree.specs.declared.raw.statement.RawStatement.{RawStatement}
-use Rattle.c_language.specs.DeclaredTypes.{StructText, structs_of, defined_structs, struct_id, function_id}
+use Rattle.c_language.specs.DeclaredTypes.{StructText, struct_texts, defined_structs, struct_id, function_id}
 use Rattle.c_language.specs.Scopes.{Scope, outset, with_variable, entered}
 use Rattle.c_language.specs.Phrases.{after_item}
 use Rattle.c_language.specs.ProgramOf.{collected, ctype, ctype_if, init_of, member_tree, struct_tree, body_of, function_tree, functions_from, item_tree, items_from, program_of}
 use Rattle.c_language.specs.Programs.{IsWellFormed}
 use Rattle.c_print.specs.Feedless.{feedless, type_feedless, statement_step, arm_step, statement_feedless, var_feedless, member_feedless, struct_feedless, function_feedless, name_feedless, item_feedless, IsFeedless}
 use Rattle.c_text_layout.proofs.TextPrint.{formed_written}
-use Rattle.c_print_laws.proofs.Options.{map_there, both_there, collected_are}
+use Rattle.c_print_laws.proofs.Options.{collected_are}
 use Rattle.c_print_laws.proofs.Definitions.{program_parts}
 use Rattle.c_tree.proofs.Unlining.{zeroed, fold_unlined}
 use Rattle.c_print_laws.proofs.RawFeedless.{raw_type_feedless, raw_var_feedless, raw_init_feedless, raw_body_feedless, raw_member_feedless, raw_param_feedless, raw_head_feedless, raw_item_feedless, raw_items_feedless}
@@ -34,7 +34,7 @@ use Rattle.c_print_laws.proofs.FeedlessTokens.{program_of_tokens}
 use Rattle.c_print_laws.proofs.FeedlessTypes.{all_given, type_given, optional_type_given}
 use Rattle.c_print_laws.proofs.FeedlessStatements.{init_given, body_given}
 use Rattle.c_print_laws.proofs.FeedlessVariables.{variables_given}
-use Rattle.c_language.proofs.Options.{some_same}
+use Rattle.c_language.proofs.Options.{some_same, map_there, both_there}
 use Rattle.c_language.proofs.Lists.{no_list, head_is, tail_is}
 
 module _ (raw : RawProgram) where
@@ -56,7 +56,7 @@ module _ (raw : RawProgram) where
       ap struct_feedless (sym g.same)
       ∙ and_from _ _ p.0 (all_given (member_tree raw) raw_member_feedless member_feedless member_given d.members g.value p.1 (collected_are (map (member_tree raw) d.members) g.value g.there))
 
-  texts_feedless : (xs : List RawItem) → raw_items_feedless xs ≡ true → list_all text_feedless (structs_of xs) ≡ true
+  texts_feedless : (xs : List RawItem) → raw_items_feedless xs ≡ true → list_all text_feedless (struct_texts xs) ≡ true
   texts_feedless [] h = refl
   texts_feedless (Include is_stdlib ∷ xs) h = texts_feedless xs h
   texts_feedless (Tag l tag ∷ xs) h = texts_feedless xs h

@@ -4,6 +4,7 @@ use Rattle.std.specs.Prelude.{if◌then◌else◌, bytes_eq, option_map}
 use Rattle.std.specs.List.{list_all}
 use Rattle.std.specs.Option.{option_map_or}
 use Rattle.std.proofs.lemmas.Bool.{and_from, and_parts}
+use Rattle.c_language.specs.Lists.{all_true}
 use Rattle.c_arith.specs.declared.int_type.IntType.{IntType}
 use Rattle.c_tree.specs.declared.types.CType.{CType}
 use Rattle.c_tree.specs.declared.expr.Expr.{Expr}
@@ -37,7 +38,7 @@ use Rattle.c_tree.specs.declared.raw.statement.RawLabel.{RawLabel}
 use Rattle.c_tree.specs.declared.raw.statement.RawLabel.TheVariants.{Case, Default}
 use Rattle.c_tree.specs.declared.raw.statement.RawStatement.{RawStatement, map-RawStatement, fold-roll-RawStatement}
 use Rattle.c_tree.specs.declared.raw.statement.RawStatement.TheOpen.{RawStatement-F}
-use Rattle.c_tree.specs.declared.raw.statement.RawArm.{RawArm, map-RawArm, fold-RawArm, fold-roll-RawArm}
+use Rattle.c_tree.specs.declared.raw.statement.RawArm.{RawArm, map-RawArm, fold-roll-RawArm}
 use Rattle.c_tree.proofs.RawTrees.{StatementParts, ArmParts, statement_layer, arm_layer, of_every_statement}
 use Rattle.c_language.specs.Words.{Bytes}
 use Rattle.c_language.specs.TypeGrammar.{named_type}
@@ -45,13 +46,13 @@ use Rattle.c_language.specs.ConstantEvaluation.{value_of_constant}
 use Rattle.c_language.specs.DeclaredTypes.{function_id}
 use Rattle.c_language.specs.Scopes.{Scope, with_variable, with_target, opened, numbered, meaning_in, Scoped, in_order, after_block, scope_of_test, scope_of_body}
 use Rattle.c_language.specs.CallRules.{format_in, later_args, only_arg}
-use Rattle.c_language.specs.ProgramOf.{collected, optional, ctype, ctype_if, variable_number, expr_of, exprs_of, init_of, declaration_id, target_tree, arg_tree, args_tree, only_tree, print_tree, invoke_tree, size_tree, amount_tree, heap_tree, label_tree, ArmTree, arm_tree, arm_tree_step, block_tree, at_type, switch_type, part_tree, for_tree, treed_step, treed, body_of}
-use Rattle.c_print.specs.Feedless.{feedless, each, type_feedless, expr_feedless, init_feedless, target_feedless, size_feedless, amount_feedless, label_feedless, statement_step, arm_step, statement_feedless}
+use Rattle.c_language.specs.ProgramOf.{collected, optional, ctype, ctype_if, variable_number, expr_of, exprs_of, init_of, declaration_id, target_tree, arg_tree, args_tree, only_tree, print_tree, invoke_tree, size_tree, amount_tree, heap_tree, label_tree, ArmTree, arm_tree, arm_tree_step, block_tree, at_type, switch_type, part_tree, for_tree, treed_step, treed, body_of, treed_arm}
+use Rattle.c_print.specs.Feedless.{feedless, type_feedless, expr_feedless, init_feedless, target_feedless, size_feedless, amount_feedless, label_feedless, statement_step, arm_step, statement_feedless}
 use Rattle.c_print.proofs.FeedLemmas.{arm_feedless}
-use Rattle.c_print_laws.proofs.Options.{map_there, then_there, both_there, collected_are}
+use Rattle.c_print_laws.proofs.Options.{collected_are}
 use Rattle.c_print_laws.proofs.RawFeedless.{raw_expr_feedless, raw_type_feedless, raw_var_feedless, raw_init_feedless, raw_target_feedless, raw_arg_feedless, raw_name_feedless, raw_size_feedless, raw_amount_feedless, raw_label_feedless, raw_statement_step, raw_arm_step, raw_statement_feedless, raw_arm_feedless, raw_body_feedless}
 use Rattle.c_print_laws.proofs.FeedlessTypes.{all_given, given, type_given, pointed_feedless, optional_type_given, expr_given}
-use Rattle.c_language.proofs.Options.{none_there, some_same}
+use Rattle.c_language.proofs.Options.{none_there, some_same, map_there, then_there, both_there}
 use Rattle.c_language.proofs.Lists.{no_list, head_is, tail_is}
 
 -- ---- parts of statements
@@ -131,7 +132,7 @@ module _ (raw : RawProgram) (scope : Scope) where
 -- ---- statements by their outermost form
 
 abbrev list_feedless : List Statement → Bool
-list_feedless ts = each (map statement_feedless ts)
+list_feedless ts = all_true (map statement_feedless ts)
 
 statement_by : {a x : Statement} (y : Statement-F Statement Arm) → roll-Statement y ≡ a → a ≡ x → statement_step (map-Statement Statement Arm Bool Bool statement_feedless arm_feedless y) ≡ true → statement_feedless x ≡ true
 statement_by y is same h = ap statement_feedless (sym (is ∙ same)) ∙ fold-roll-Statement Bool Bool statement_step arm_step y ∙ h
@@ -198,9 +199,6 @@ module _ (raw : RawProgram) (before scope : Scope) where
 -- ---- statements
 
 module _ (raw : RawProgram) where
-  abbrev treed_arm : RawArm → Scoped ArmTree
-  treed_arm = fold-RawArm (Scoped (Option Statement)) (Scoped ArmTree) (treed_step raw) (arm_tree_step raw)
-
   abbrev Gives : Scoped (Option Statement) → Type 0
   Gives b = (scope : Scope) (t : Statement) → b.gives scope ≡ Some t → statement_feedless t ≡ true
 
@@ -211,7 +209,7 @@ module _ (raw : RawProgram) where
   Q x = raw_statement_feedless x ≡ true → Gives (treed raw x)
 
   abbrev R : RawArm → Type 0
-  R x = raw_arm_feedless x ≡ true → ArmGives (treed_arm x)
+  R x = raw_arm_feedless x ≡ true → ArmGives (treed_arm raw x)
 
   abbrev bodies : List ((x : RawStatement) × Q x) → List RawStatement
   bodies = map (λ (x : (y : RawStatement) × Q y). x.0)
@@ -230,14 +228,14 @@ module _ (raw : RawProgram) where
   block_gives : (xs : List ((x : RawStatement) × Q x)) → raw_body_feedless (bodies xs) ≡ true → (scope : Scope) (ts : List Statement) → block_tree (map (treed raw) (bodies xs)) scope ≡ Some ts → list_feedless ts ≡ true
   block_gives xs h scope ts is = all_give xs h (opened scope) ts (collected_are (in_order (map (treed raw) (bodies xs)) (opened scope)) ts is)
 
-  arms_give : (xs : List ((x : RawArm) × R x)) → each (map raw_arm_feedless (bodies_of_arms xs)) ≡ true → (scope : Scope) (type : IntType) (as_ : List Arm)
-      → map (λ (a : ArmTree). a type) (in_order (map treed_arm (bodies_of_arms xs)) scope) ≡ map Some as_ → each (map arm_feedless as_) ≡ true
+  arms_give : (xs : List ((x : RawArm) × R x)) → all_true (map raw_arm_feedless (bodies_of_arms xs)) ≡ true → (scope : Scope) (type : IntType) (as_ : List Arm)
+      → map (λ (a : ArmTree). a type) (in_order (map (treed_arm raw) (bodies_of_arms xs)) scope) ≡ map Some as_ → all_true (map arm_feedless as_) ≡ true
   arms_give [] h scope type [] is = refl
   arms_give [] h scope type (a ∷ as_) is = no_list (sym is)
   arms_give (x ∷ xs) h scope type [] is = no_list is
   arms_give (x ∷ xs) h scope type (a ∷ as_) is =
-      let p = and_parts (raw_arm_feedless x.0) (each (map raw_arm_feedless (bodies_of_arms xs))) h in
-      and_from _ _ (x.1 p.0 scope type a (head_is is)) (arms_give xs p.1 ((treed_arm x.0).after scope) type as_ (tail_is is))
+      let p = and_parts (raw_arm_feedless x.0) (all_true (map raw_arm_feedless (bodies_of_arms xs))) h in
+      and_from _ _ (x.1 p.0 scope type a (head_is is)) (arms_give xs p.1 ((treed_arm raw x.0).after scope) type as_ (tail_is is))
 
   -- ---- the parts of a for
 
@@ -277,7 +275,7 @@ module _ (raw : RawProgram) where
   layer = statement_layer Q R
 
   abbrev step_of : StatementParts Q R → Scoped (Option Statement)
-  step_of y = treed_step raw (map-RawStatement RawStatement RawArm (Scoped (Option Statement)) (Scoped ArmTree) (treed raw) treed_arm (layer y))
+  step_of y = treed_step raw (map-RawStatement RawStatement RawArm (Scoped (Option Statement)) (Scoped ArmTree) (treed raw) (treed_arm raw) (layer y))
 
   step_gives : (y : StatementParts Q R) → raw_statement_step (map-RawStatement RawStatement RawArm Bool Bool raw_statement_feedless raw_arm_feedless (layer y)) ≡ true → Gives (step_of y)
   step_gives (RawStatement-F.Declare l v i) h scope t is =
@@ -335,8 +333,8 @@ module _ (raw : RawProgram) where
       let r = and_parts (raw_statement_feedless k.0) (raw_body_feedless (bodies b)) q.1 in
       for_gives l (Some (treed raw i.0)) (Some (treed raw k.0)) e b (i.1 p.0) q.0 (k.1 r.0) r.1 scope t is
   step_gives (RawStatement-F.Switch l e arms) h scope t is =
-      let p = and_parts (raw_expr_feedless e) (each (map raw_arm_feedless (bodies_of_arms arms))) h in
-      let bs = map treed_arm (bodies_of_arms arms) in
+      let p = and_parts (raw_expr_feedless e) (all_true (map raw_arm_feedless (bodies_of_arms arms))) h in
+      let bs = map (treed_arm raw) (bodies_of_arms arms) in
       let inside = opened (numbered scope) in
       let x = then_there _ (expr_of raw scope e) t is in
       let y = then_there _ (switch_type raw scope e) t x.same in
@@ -351,7 +349,7 @@ module _ (raw : RawProgram) where
       return_by scope.statements l g.value g.same (return_gives scope a h g.value g.there)
 
   arm_step_gives : (y : ArmParts Q R) → raw_arm_step (map-RawArm RawStatement RawArm Bool Bool raw_statement_feedless raw_arm_feedless (arm_layer Q R y)) ≡ true
-      → ArmGives (arm_tree_step raw (map-RawArm RawStatement RawArm (Scoped (Option Statement)) (Scoped ArmTree) (treed raw) treed_arm (arm_layer Q R y)))
+      → ArmGives (arm_tree_step raw (map-RawArm RawStatement RawArm (Scoped (Option Statement)) (Scoped ArmTree) (treed raw) (treed_arm raw) (arm_layer Q R y)))
   arm_step_gives y h scope type a is =
       let bs = map (treed raw) (bodies y.body) in
       let p = and_parts (list_all raw_label_feedless y.labels) (raw_body_feedless (bodies y.body)) h in

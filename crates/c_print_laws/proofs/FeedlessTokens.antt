@@ -3,6 +3,7 @@ use Rattle.std.proofs.Common.{◌≡◌, ℕ, List, map, Bool, true, false, ◌&
 use Rattle.std.specs.List.{list_all}
 use Rattle.std.specs.Option.{option_map_or}
 use Rattle.std.proofs.lemmas.Bool.{and_from}
+use Rattle.c_language.specs.Lists.{all_true}
 use Rattle.c_tree.specs.declared.raw.expr.RawExpr.{RawExpr}
 use Rattle.c_tree.specs.declared.raw.expr.RawExpr.TheOpen.{RawExpr-F}
 use Rattle.c_tree.specs.declared.raw.expr.RawExpr.TheVariants as e
@@ -44,7 +45,7 @@ use Rattle.c_language.specs.declared.operators.Selector.{Selector}
 use Rattle.c_language.specs.declared.operators.Selector.TheVariants.{Dot, Arrow}
 use Rattle.c_language.specs.declared.token.TokenKind.TheVariants.{Name, Number, Character, Str}
 use Rattle.c_language.proofs.Lists.{all_append}
-use Rattle.c_print.specs.Feedless.{feedless, each}
+use Rattle.c_print.specs.Feedless.{feedless}
 use Rattle.c_text_layout.proofs.Written.{HasForm, AreWritten}
 use Rattle.c_text_layout.proofs.TokenPrint.{other_class}
 use Rattle.c_text_layout.proofs.ExprPrint.{int_rest, expr_rest}
@@ -302,7 +303,7 @@ mutual
   else_of_tokens (IsElse.otherwise h) w = body_of_tokens h w.1
   else_of_tokens (IsElse.without p) w = refl
 
-  arms_of_tokens : {ts rest : Tokens} {all : List RawArm} → AreArms ts all rest → AreWritten ts → each (map raw_arm_feedless all) ≡ true
+  arms_of_tokens : {ts rest : Tokens} {all : List RawArm} → AreArms ts all rest → AreWritten ts → all_true (map raw_arm_feedless all) ≡ true
   arms_of_tokens AreArms.none w = refl
   arms_of_tokens (AreArms.broken {labels} {body} h k j) w =
       let x = labels_rest h w in

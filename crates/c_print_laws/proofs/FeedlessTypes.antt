@@ -28,10 +28,9 @@ use Rattle.c_language.specs.ConstantEvaluation.{literal_type, literal_value}
 use Rattle.c_language.specs.DeclaredTypes.{struct_id, length_in}
 use Rattle.c_language.specs.TypeGrammar.{pointed_n}
 use Rattle.c_language.specs.ProgramOf.{optional, raw_words_step, raw_words, length_words, ctype_step, ctype_with, ctype, ctype_if, Told, told_step, told_of, variable_number, expr_of}
-use Rattle.c_language.proofs.Options.{none_there, some_same}
+use Rattle.c_language.proofs.Options.{none_there, some_same, map_there, then_there, both_there}
 use Rattle.c_print.specs.Feedless.{feedless, type_step, type_feedless, expr_step, expr_feedless}
 use Rattle.c_print.proofs.FeedLemmas.{cat, int_feedless, sign_feedless, signed_feedless}
-use Rattle.c_print_laws.proofs.Options.{map_there, then_there, both_there}
 use Rattle.c_print_laws.proofs.RawFeedless.{raw_expr_step, raw_expr_feedless, raw_length_feedless, raw_type_step, raw_type_feedless, type_by}
 use Rattle.c_language.proofs.Lists.{no_list, head_is, tail_is}
 

@@ -3,6 +3,7 @@ use Rattle.std.proofs.Common.{◌≡◌, ℕ, List, [], ◌∷◌, ◌++◌, map
 use Rattle.std.specs.List.{list_all}
 use Rattle.std.specs.Option.{option_map_or}
 use Rattle.std.proofs.lemmas.Bool.{and_from, and_parts}
+use Rattle.c_language.specs.Lists.{all_true}
 use Rattle.c_tree.specs.declared.program.Var.{Var}
 use Rattle.c_tree.specs.declared.raw.expr.RawExpr.{RawExpr}
 use Rattle.c_tree.specs.declared.raw.expr.RawVar.{RawVar}
@@ -25,8 +26,8 @@ use Rattle.c_language.specs.Scopes.{Scope, outset, with_variable, with_target, p
 use Rattle.c_language.specs.Phrases.{Stand, InFile, InHead, InBlock, InArm, InFor, Part, NamesStruct, DefinesStruct, HasMember, DeclaresFunction, Takes, EndsFunction, Declares, Begins, Assigns, Bumps, Calls, Allocates, Tests, Switches, Returns, Phrase, Phrases, phrase, begun_phrases, declaration, target_phrases, joined_at, block_phrases, at_stand, ArmText, phrases_of_arms, scoped_step, scoped_arm, scoped, scoped_of_arm, body_phrases, member_phrases, taken_phrases, parameter_phrases, head_phrases, item_phrases, after_item, items_phrases, phrases}
 use Rattle.c_language.specs.ProgramOf.{ctype_with, variables_in}
 use Rattle.c_language.proofs.Lists.{all_append, no_list, head_is, tail_is}
-use Rattle.c_print.specs.Feedless.{feedless, each, var_feedless}
-use Rattle.c_print_laws.proofs.Options.{map_there}
+use Rattle.c_print.specs.Feedless.{feedless, var_feedless}
+use Rattle.c_language.proofs.Options.{map_there}
 use Rattle.c_print_laws.proofs.RawFeedless.{raw_expr_feedless, raw_type_feedless, raw_var_feedless, raw_init_feedless, raw_target_feedless, raw_arg_feedless, raw_name_feedless, raw_amount_feedless, raw_label_feedless, raw_statement_step, raw_arm_step, raw_statement_feedless, raw_arm_feedless, raw_body_feedless, raw_param_feedless, raw_head_feedless, raw_item_feedless, raw_items_feedless}
 use Rattle.c_print_laws.proofs.FeedlessTypes.{type_given}
 
@@ -97,10 +98,10 @@ module _ (raw : RawProgram) where
   block_feedless : (xs : List ((x : RawStatement) × Q x)) → raw_body_feedless (bodies xs) ≡ true → (scope : Scope) → AreFeedless (block_phrases (map (scoped raw) (bodies xs)) scope)
   block_feedless xs h scope = all_phrases xs h (opened scope) InBlock
 
-  arms_phrases : (xs : List ((x : RawArm) × R x)) → each (map raw_arm_feedless (bodies_of_arms xs)) ≡ true → (scope : Scope) → AreFeedless (phrases_of_arms (in_order (map (scoped_of_arm raw) (bodies_of_arms xs)) scope))
+  arms_phrases : (xs : List ((x : RawArm) × R x)) → all_true (map raw_arm_feedless (bodies_of_arms xs)) ≡ true → (scope : Scope) → AreFeedless (phrases_of_arms (in_order (map (scoped_of_arm raw) (bodies_of_arms xs)) scope))
   arms_phrases [] h scope = refl
   arms_phrases (x ∷ xs) h scope =
-      let p = and_parts (raw_arm_feedless x.0) (each (map raw_arm_feedless (bodies_of_arms xs))) h in
+      let p = and_parts (raw_arm_feedless x.0) (all_true (map raw_arm_feedless (bodies_of_arms xs))) h in
       joined ((scoped_of_arm raw x.0).gives scope).phrases (phrases_of_arms (in_order (map (scoped_of_arm raw) (bodies_of_arms xs)) ((scoped_of_arm raw x.0).after scope)))
       (x.1 p.0 scope) (arms_phrases xs p.1 ((scoped_of_arm raw x.0).after scope))
 
@@ -161,7 +162,7 @@ module _ (raw : RawProgram) where
       let q = and_parts (raw_expr_feedless e) (raw_statement_feedless k.0 && raw_body_feedless (bodies b)) p.1 in
       let r = and_parts (raw_statement_feedless k.0) (raw_body_feedless (bodies b)) q.1 in
       for_phrases l (Some (scoped raw i.0)) (Some (scoped raw k.0)) e b (i.1 p.0) (k.1 r.0) r.1 scope
-  step_phrases (RawStatement-F.Switch l e arms) h scope stand = arms_phrases arms (and_parts (raw_expr_feedless e) (each (map raw_arm_feedless (bodies_of_arms arms))) h).1 (opened (numbered scope))
+  step_phrases (RawStatement-F.Switch l e arms) h scope stand = arms_phrases arms (and_parts (raw_expr_feedless e) (all_true (map raw_arm_feedless (bodies_of_arms arms))) h).1 (opened (numbered scope))
   step_phrases (RawStatement-F.Block l b) h scope stand = block_feedless b h scope
   step_phrases (RawStatement-F.Return l a) h scope stand = refl
 

@@ -26,8 +26,7 @@ use Rattle.c_tree.specs.declared.raw.statement.RawStatement.TheVariants as s
 use Rattle.c_tree.specs.declared.raw.statement.RawArm.{RawArm, fold-RawArm, fold-roll-RawArm}
 use Rattle.c_language.specs.Words.{Bytes}
 use Rattle.c_language.specs.StatementGrammar.{arm}
-use Rattle.c_text_layout.specs.Declarations.{all_true}
-use Rattle.c_language.specs.Lists.{if_there}
+use Rattle.c_language.specs.Lists.{if_there, all_true}
 
 -- ---- strings
 

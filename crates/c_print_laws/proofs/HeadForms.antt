@@ -7,20 +7,10 @@ use Rattle.c_tree.specs.declared.raw.program.RawItem.{RawItem}
 use Rattle.c_tree.specs.declared.raw.program.RawProgram.{RawProgram}
 use Rattle.c_language.specs.TokenForms.{Tokens}
 use Rattle.c_language.specs.StatementGrammar.{IsSeparated}
-use Rattle.c_language.specs.TypeGrammar.{IsBase, IsStars, IsTypeName, IsParam, IsMoreParams, IsParams}
+use Rattle.c_language.specs.TypeGrammar.{IsParam, IsMoreParams, IsParams}
 use Rattle.c_language.specs.ItemGrammar.{IsGlobal, IsResult, IsHead, IsItem, AreItems, IsProgram}
-use Rattle.c_print_laws.proofs.Definitions.{IsPlain, ParamsPlain, ResultPlain, HeadPlain, ItemFormed, AreFormed}
-
-base_plain : {ts rest : Tokens} {a : RawType} → IsBase ts a rest → IsPlain a
-base_plain (IsBase.structure key) = IsPlain.structure
-base_plain (IsBase.integer h) = IsPlain.integer
-
-stars_plain : {ts rest : Tokens} {a b : RawType} → IsStars ts a b rest → IsPlain a → IsPlain b
-stars_plain (IsStars.done h) k = k
-stars_plain (IsStars.star h) k = stars_plain h (IsPlain.pointer k)
-
-name_plain : {ts rest : Tokens} {a : RawType} → IsTypeName ts a rest → IsPlain a
-name_plain (IsTypeName.pointed h k) = stars_plain k (base_plain h)
+use Rattle.c_language.proofs.PlainTypes.{IsPlain, name_plain}
+use Rattle.c_print_laws.proofs.Definitions.{ParamsPlain, ResultPlain, HeadPlain, ItemFormed, HeadsPlain}
 
 param_plain : {ts rest : Tokens} {q : RawParam} → IsParam ts q rest → IsPlain q.shape
 param_plain (IsParam.plain h k s) = name_plain h
@@ -48,11 +38,11 @@ global_formed (IsGlobal.plain h p) = tt
 global_formed (IsGlobal.value h p k) = tt
 global_formed (IsGlobal.list h k) = tt
 
-globals_formed : {l : ℕ} {b : Bool} {base : RawType} {close : List ℕ} {ts rest : Tokens} {all : List RawItem} → IsSeparated (IsGlobal l b base) close ts all rest → AreFormed all
+globals_formed : {l : ℕ} {b : Bool} {base : RawType} {close : List ℕ} {ts rest : Tokens} {all : List RawItem} → IsSeparated (IsGlobal l b base) close ts all rest → HeadsPlain all
 globals_formed (IsSeparated.last h) = (global_formed h, tt)
 globals_formed (IsSeparated.more h k) = (global_formed h, globals_formed k)
 
-item_formed : {ts rest : Tokens} {some : List RawItem} → IsItem ts some rest → AreFormed some
+item_formed : {ts rest : Tokens} {some : List RawItem} → IsItem ts some rest → HeadsPlain some
 item_formed (IsItem.include is_stdlib) = (tt, tt)
 item_formed (IsItem.tag key) = (tt, tt)
 item_formed (IsItem.structure key h) = (tt, tt)
@@ -60,14 +50,14 @@ item_formed (IsItem.globals s b h) = globals_formed h
 item_formed (IsItem.prototype h) = (head_plain h, tt)
 item_formed (IsItem.definition h named k) = ((head_plain h, named), tt)
 
-formed_append : (xs ys : List RawItem) → AreFormed xs → AreFormed ys → AreFormed (xs ++ ys)
+formed_append : (xs ys : List RawItem) → HeadsPlain xs → HeadsPlain ys → HeadsPlain (xs ++ ys)
 formed_append [] ys h k = k
 formed_append (x ∷ xs) ys h k = (h.0, formed_append xs ys h.1 k)
 
-items_formed : {ts rest : Tokens} {all : List RawItem} → AreItems ts all rest → AreFormed all
+items_formed : {ts rest : Tokens} {all : List RawItem} → AreItems ts all rest → HeadsPlain all
 items_formed AreItems.done = tt
 items_formed (AreItems.more {some} {all} h k) = formed_append some all (item_formed h) (items_formed k)
 
 -- The heads of a text of the grammar.
-pub heads_formed : {ts : Tokens} (raw : RawProgram) → IsProgram ts raw → AreFormed raw.items
+pub heads_formed : {ts : Tokens} (raw : RawProgram) → IsProgram ts raw → HeadsPlain raw.items
 heads_formed raw h = items_formed h

@@ -30,7 +30,7 @@ use Rattle.c_tree.specs.declared.statement.Statement.{Statement}
 use Rattle.c_language.specs.Words.{Bytes, declared, type_words}
 use Rattle.c_language.specs.Layout.{line, var_words, Laid, block_lines, body_lines, static_words, result_words, param_words, named_params, params_words, head_words, member_lines, struct_lines, function_lines, global_words, item_lines, items_lines, layout}
 use Rattle.c_language.specs.ItemGrammar.{are_named}
-use Rattle.c_language.specs.DeclaredTypes.{item_count, structs_of, defined_structs, functions_of, defined_functions, struct_id, function_id, definition_of, result_type, parameter_types, type_or_void, written_type}
+use Rattle.c_language.specs.DeclaredTypes.{item_count, struct_texts, defined_structs, function_texts, defined_functions, struct_id, function_id, definition_of, result_type, parameter_types, type_or_void, written_type}
 use Rattle.c_language.specs.Scopes.{Scope, outset, Meaning, with_variable, with_function, with_named, with_parameter, with_parameters, parameter_of, scope_of_parameters, entered}
 use Rattle.c_language.specs.Phrases.{InBlock, InHead, InFile, phrase, DeclaresFunction, EndsFunction, taken_phrases, parameter_phrases, head_phrases, body_phrases, item_phrases, after_item, items_phrases, phrases}
 use Rattle.c_language.specs.Rules.{Breaks, KeepsRules, tag, no_definition, AreKept}
@@ -44,18 +44,19 @@ use Rattle.c_language.specs.declared.expr_type.ExprType.{ExprType}
 use Rattle.c_language.specs.ProgramOf.{ctype, ctype_with, ctype_if, init_of, member_tree, struct_tree, parameter_ids, function_tree, functions_from, body_of, items_from, program_of}
 use Rattle.c_language.proofs.LayoutLemmas.{block_lines-laid}
 use Rattle.c_text_layout.specs.RawLayout.{raw_declared, raw_body_lines, raw_result_words, raw_named_words, raw_param_words, raw_head_words, raw_member_lines, raw_item_lines, raw_items_lines, raw_layout}
-use Rattle.c_print_laws.proofs.Options.{map_there, both_there, collected_are}
+use Rattle.c_print_laws.proofs.Options.{collected_are}
 use Rattle.c_language.proofs.Tests.{false_true}
-use Rattle.c_language.proofs.PhraseLists.{body_in_order}
+use Rattle.c_language.proofs.PhraseLists.{body_in_order, phrases_kept}
 use Rattle.c_print_laws.proofs.Named.{IsNamed, Fits, fits_append, positioned, struct_at, struct_named, member_named, members_typed}
 use Rattle.c_print_laws.proofs.TypeLayout.{declared_layout, type_layout}
-use Rattle.c_print_laws.proofs.Told.{AreTold, AllStand, stand_all, phrases_kept, told_first, told_rest, is_declared}
-use Rattle.c_print_laws.proofs.CallLayout.{optional_there, init_layout}
+use Rattle.c_print_laws.proofs.Told.{AreTold, AllStand, stand_all, told_first, told_rest, is_declared}
+use Rattle.c_print_laws.proofs.CallLayout.{optional_is, init_layout}
 use Rattle.c_print_laws.proofs.StatementLayout.{begins_kept, list_laid}
 use Rattle.c_print_laws.proofs.Numbers.{parameter_count, head_count, define_structs, prototype_functions, prototype_structs}
-use Rattle.c_print_laws.proofs.Definitions.{program_parts, Behind, behind_first, behind_rest, behind_at, IsPlain, ParamsAre, IsDefinedAs, ParamsPlain, ResultPlain, HeadPlain, AreFormed, FunctionsAt, define_told, define_later, same_functions, definitions, function_named}
+use Rattle.c_print_laws.proofs.Definitions.{program_parts, Behind, behind_first, behind_rest, behind_at, ParamsAre, IsDefinedAs, ParamsPlain, ResultPlain, HeadPlain, HeadsPlain, FunctionsAt, define_told, define_later, same_functions, definitions, function_named}
 use Rattle.c_print_laws.proofs.Agreement.{IsObject, IsTyped, SameWords, typed, tagged, agreed, agreed_declared, agreed_nameless, agreed_result}
-use Rattle.c_language.proofs.Options.{none_there, some_same}
+use Rattle.c_language.proofs.Options.{none_there, some_same, map_there, both_there}
+use Rattle.c_language.proofs.PlainTypes.{IsPlain}
 use Rattle.c_language.proofs.ScopeNumbers.{function_declared, function_variables}
 use Rattle.c_language.proofs.Lists.{no_list, head_is, tail_is}
 
@@ -79,9 +80,9 @@ module _ (raw : RawProgram) (p : Program) (named : IsNamed raw p) where
 
   result_laid : (t : Option RawType) (c : Option CType) → ctype_if raw t ≡ Some c → result_words p c ≡ raw_result_words t
   result_laid None c h = ap (result_words p) (sym (some_same h))
-  result_laid (Some t) None h = none_there (sym (optional_there (Some (ctype raw t)) None h))
+  result_laid (Some t) None h = none_there (sym (optional_is (Some (ctype raw t)) None h))
   result_laid (Some t) (Some c) h =
-      let k = type_layout raw p named 0 t c (some_same (optional_there (Some (ctype raw t)) (Some c) h)) in
+      let k = type_layout raw p named 0 t c (some_same (optional_is (Some (ctype raw t)) (Some c) h)) in
       ap₂ (λ (x y : Bytes). x ++ (codes " " ++ y)) k.base k.star
 
   parameter_fits : (q : RawParam) (name : Option Bytes) (scope : Scope) → Fits p scope → AreTold raw p scope.variables (parameter_phrases raw q name scope) → Fits p (with_named raw q name scope)
@@ -216,12 +217,12 @@ module _ (raw : RawProgram) (p : Program) (named : IsNamed raw p) where
 
   results_laid : (a b : Option RawType) (c : Option CType) → ResultPlain a → ResultPlain b → ResultTagged a → ctype_if raw b ≡ Some c → agree (type_or_void raw a) (type_or_void raw b) ≡ true → result_words p c ≡ raw_result_words a
   results_laid None None c plain plains defined is h = ap (result_words p) (sym (some_same is))
-  results_laid None (Some b) None plain plains defined is h = none_there (sym (optional_there (Some (ctype raw b)) None is))
-  results_laid None (Some b) (Some c) plain plains defined is h = absurd (no_void b (typed raw p named plains c (some_same (optional_there (Some (ctype raw b)) (Some c) is))) h)
+  results_laid None (Some b) None plain plains defined is h = none_there (sym (optional_is (Some (ctype raw b)) None is))
+  results_laid None (Some b) (Some c) plain plains defined is h = absurd (no_void b (typed raw p named plains c (some_same (optional_is (Some (ctype raw b)) (Some c) is))) h)
   results_laid (Some a) None c plain plains defined is h = absurd (no_object a (tagged raw p named plain defined) h)
-  results_laid (Some a) (Some b) None plain plains defined is h = none_there (sym (optional_there (Some (ctype raw b)) None is))
+  results_laid (Some a) (Some b) None plain plains defined is h = none_there (sym (optional_is (Some (ctype raw b)) None is))
   results_laid (Some a) (Some b) (Some c) plain plains defined is h =
-      let t = some_same (optional_there (Some (ctype raw b)) (Some c) is) in
+      let t = some_same (optional_is (Some (ctype raw b)) (Some c) is) in
       agreed_result raw p named a b c t (agreed raw p named a b (tagged raw p named plain defined) (typed raw p named plains c t) h)
 
   result_tagged : (h : RawHead) (scope : Scope) → ((n : ℕ) → Breaks raw scope (DeclaresFunction h false) n → ⊥) → ResultTagged h.result
@@ -258,7 +259,7 @@ module _ (raw : RawProgram) (p : Program) (named : IsNamed raw p) where
   pub record ItemsAt (scope : Scope) (xs : List RawItem) : Type 0 where
     pub at : FunctionsAt raw p scope xs
     pub fits : Fits p scope
-    pub structs : Behind (defined_structs raw) scope.structs (structs_of xs)
+    pub structs : Behind (defined_structs raw) scope.structs (struct_texts xs)
 
   first_told : (x : RawItem) (xs : List RawItem) (scope : Scope) → AreTold raw p scope.variables (items_phrases raw (x ∷ xs) scope) → AreTold raw p scope.variables (item_phrases raw x scope)
   first_told x xs scope told = told_first raw p scope.variables (item_phrases raw x scope) (items_phrases raw xs (after_item raw x scope)) told
@@ -269,7 +270,7 @@ module _ (raw : RawProgram) (p : Program) (named : IsNamed raw p) where
     item_then x xs i is first rest = ap₂ (λ (a b : Bytes). a ++ b) first rest
 
     define_then : (l : ℕ) (h : RawHead) (body : List RawStatement) (xs : List RawItem) (scope : Scope) (fs : List Function) → functions_from raw (Define l h body ∷ xs) scope ≡ map Some fs → Behind p.functions scope.functions fs
-        → AreTold raw p scope.variables (items_phrases raw (Define l h body ∷ xs) scope) → AreFormed (Define l h body ∷ xs) → Fits p scope → Behind (defined_structs raw) scope.structs (structs_of xs)
+        → AreTold raw p scope.variables (items_phrases raw (Define l h body ∷ xs) scope) → HeadsPlain (Define l h body ∷ xs) → Fits p scope → Behind (defined_structs raw) scope.structs (struct_texts xs)
         → (item_lines p (item.Define scope.functions) ≡ raw_item_lines (Define l h body)) × ItemsAt (after_item raw (Define l h body) scope) xs
     define_then l h body xs scope [] is behind told formed fits structs = no_list is
     define_then l h body xs scope (f ∷ fs) is behind told formed fits structs = (
@@ -278,7 +279,7 @@ module _ (raw : RawProgram) (p : Program) (named : IsNamed raw p) where
       record {
         at = define_later raw p l h body xs scope f fs (tail_is is) behind told formed.1;
         fits = function_fits h.name scope fits;
-        structs = behind_at (defined_structs raw) scope.structs (after_item raw (Define l h body) scope).structs (structs_of xs) (define_structs raw l h body scope) structs;
+        structs = behind_at (defined_structs raw) scope.structs (after_item raw (Define l h body) scope).structs (struct_texts xs) (define_structs raw l h body scope) structs;
       },
     )
 
@@ -298,10 +299,10 @@ module _ (raw : RawProgram) (p : Program) (named : IsNamed raw p) where
         let next : ItemsAt after xs = record {
           at = same_functions raw p scope after (Struct l w members) xs refl refl refl k.at;
           fits = k.fits;
-          structs = behind_rest (defined_structs raw) scope.structs after.structs (record { tag = w; members = members }) (structs_of xs) refl k.structs;
+          structs = behind_rest (defined_structs raw) scope.structs after.structs (record { tag = w; members = members }) (struct_texts xs) refl k.structs;
         } in
         item_then (Struct l w members) xs i is
-        (ap (item_lines p) (sym (some_same (head_is h))) ∙ struct_laid are scope.structs l w members (behind_first (defined_structs raw) scope.structs (record { tag = w; members = members }) (structs_of xs) k.structs))
+        (ap (item_lines p) (sym (some_same (head_is h))) ∙ struct_laid are scope.structs l w members (behind_first (defined_structs raw) scope.structs (record { tag = w; members = members }) (struct_texts xs) k.structs))
         (items_laid xs after is next (tail_is h))
     items_laid (Global l v j is_static ∷ xs) scope (i ∷ is) k h =
         let after = after_item raw (Global l v j is_static) scope in
@@ -318,7 +319,7 @@ module _ (raw : RawProgram) (p : Program) (named : IsNamed raw p) where
         let next : ItemsAt after xs = record {
           at = same_functions raw p scope after (Prototype l hd) xs refl (prototype_functions raw l hd scope) refl k.at;
           fits = function_fits hd.name scope k.fits;
-          structs = behind_at (defined_structs raw) scope.structs after.structs (structs_of xs) (prototype_structs raw l hd scope) k.structs;
+          structs = behind_at (defined_structs raw) scope.structs after.structs (struct_texts xs) (prototype_structs raw l hd scope) k.structs;
         } in
         let g = map_there (λ (f : ℕ). item.Prototype f (map (λ (q : RawParam). q.name) hd.params) hd.is_static) (function_id raw hd.name) i (head_is h) in
         item_then (Prototype l hd) xs i is
@@ -330,7 +331,7 @@ module _ (raw : RawProgram) (p : Program) (named : IsNamed raw p) where
 
 -- ---- the whole text
 
-plain_heads : (xs : List RawItem) → AreFormed xs → (k : ℕ) (h : RawHead) → slice_get (functions_of xs) k ≡ Some h → HeadPlain h
+plain_heads : (xs : List RawItem) → HeadsPlain xs → (k : ℕ) (h : RawHead) → slice_get (function_texts xs) k ≡ Some h → HeadPlain h
 plain_heads [] formed k h is = none_there is
 plain_heads (Include is_stdlib ∷ xs) formed k h is = plain_heads xs formed.1 k h is
 plain_heads (Tag l w ∷ xs) formed k h is = plain_heads xs formed.1 k h is
@@ -341,7 +342,7 @@ plain_heads (Define l hd body ∷ xs) formed zero h is = subst HeadPlain (some_s
 plain_heads (Define l hd body ∷ xs) formed (suc k) h is = plain_heads xs formed.1 k h is
 
 -- The layout of the program of a text is that of the text's tree, where the text keeps the rules and is in the grammar as to its heads.
-pub layout_of_tree : (raw : RawProgram) (p : Program) → program_of raw ≡ Some p → KeepsRules raw → AreFormed raw.items → layout p ≡ raw_layout raw
+pub layout_of_tree : (raw : RawProgram) (p : Program) → program_of raw ≡ Some p → KeepsRules raw → HeadsPlain raw.items → layout p ≡ raw_layout raw
 layout_of_tree raw p is keeps formed =
     let parts = program_parts raw p is in
     let told : AreTold raw p 0 (phrases raw) = record { kept = phrases_kept raw keeps; stand = subst (AllStand p 0) (sym parts.vars) (stand_all p 0 p.vars (λ i. ap (slice_get p.vars) (omega arith))) } in

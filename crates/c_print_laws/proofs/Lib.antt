@@ -22,7 +22,6 @@ pub mod Named
 pub mod NestingKept
 pub mod Numbering
 pub mod Numbers
-pub mod Operands
 pub mod Options
 pub mod PhraseAgreement
 pub mod RawFeedless

@@ -27,9 +27,9 @@ use Rattle.c_tree.specs.Unlined.{unlined, unlined_var, unlined_function, unlined
 use Rattle.c_tree.proofs.UnlinedLemmas.{unlined_of_arm}
 use Rattle.c_tree.proofs.Unlining.{zeroed, unlined_roll, unlined_roll_of_arm}
 use Rattle.c_language.specs.Words.{Bytes, joined, assign_sign, name_of_var, name_of_function, declared, type_words, expr_step, expr_words}
-use Rattle.c_language.specs.Layout.{line, init_words, var_words, target_words, pointee_words, size_words, amount_words, cast_words, call_words, bump_words, return_words, Laid, plain, label_words, label_lines, statement_step, arm_step, laid, body_lines, static_words, param_words, named_params, head_words, function_lines, item_lines, items_lines, layout, arm_laid}
+use Rattle.c_language.specs.Layout.{line, init_words, var_words, target_words, pointee_words, size_words, amount_words, cast_words, call_words, bump_words, return_words, Laid, plain, label_words, label_lines, laid_if, laid_while, laid_do, laid_for, laid_switch, laid_block, laid_case, statement_step, arm_step, laid, body_lines, static_words, param_words, named_params, head_words, function_lines, item_lines, items_lines, layout, arm_laid}
 use Rattle.c_language.proofs.Lists.{maps_same}
-use Rattle.c_print_laws.proofs.StatementLayout.{if_form, while_form, do_form, for_form, switch_form, block_form, arm_form}
+use Rattle.c_print_laws.proofs.StatementLayout.{laid_labels}
 
 mapped_or : {A B : Type 0} (g : A → A) (f h : A → B) (d : B) → ((a : A) → f (g a) ≡ h a) → (o : Option A) → option_map_or f (option_map g o) d ≡ option_map_or h o d
 mapped_or g f h d same None = refl
@@ -144,12 +144,9 @@ module _ (p : Program) where
   label_same (label.Case a v) = ap (λ (w : Bytes). codes "case " ++ (w ++ codes ":")) (word a)
   label_same label.Default = refl
 
-  abbrev labels_form : Bytes → (ℕ → Bytes) → ℕ → Bytes
-  labels_form w labels n = line n w ++ labels n
-
   labels_same : (as_ : List Label) → label_lines q as_ ≡ label_lines p as_
   labels_same [] = refl
-  labels_same (a ∷ as_) = ap₂ labels_form (label_same a) (labels_same as_)
+  labels_same (a ∷ as_) = ap₂ laid_labels (label_same a) (labels_same as_)
 
   -- ---- statements
 
@@ -193,17 +190,17 @@ module _ (p : Program) where
   layer_same (Statement-F.Heap id l to cast n) =
       ap₂ (λ (v w : Bytes). plain (v ++ w)) (target_same to) (ap₂ (λ (v w : Bytes). v ++ call_words (codes "malloc") (w ∷ [])) (cast_same cast) (amount_same n))
   layer_same (Statement-F.Release id l e) = ap (λ (w : Bytes). plain (call_words (codes "free") (w ∷ []))) (word e)
-  layer_same (Statement-F.If id l e a b) = ap₂ (λ (w : Bytes) (x : List Laid). if_form w x (map (laid q) (map unlined (bare b)))) (word e) (all_same a) ∙ ap (if_form (expr_words p e) (map (laid p) (bare a))) (all_same b)
-  layer_same (Statement-F.While id l e b) = ap₂ while_form (word e) (all_same b)
-  layer_same (Statement-F.Do id l e b) = ap₂ do_form (word e) (all_same b)
-  layer_same (Statement-F.For id l None e None b) = ap₂ (λ (w : Bytes) (y : List Laid). for_form None w None y) (word e) (all_same b)
-  layer_same (Statement-F.For id l None e (Some k) b) = ap₂ (λ (w : Bytes) (y : List Laid). for_form None w (Some (laid q (unlined k.0))) y) (word e) (all_same b) ∙ ap (λ (z : Laid). for_form None (expr_words p e) (Some z) (map (laid p) (bare b))) k.1
-  layer_same (Statement-F.For id l (Some i) e None b) = ap₂ (λ (w : Bytes) (y : List Laid). for_form (Some (laid q (unlined i.0))) w None y) (word e) (all_same b) ∙ ap (λ (z : Laid). for_form (Some z) (expr_words p e) None (map (laid p) (bare b))) i.1
+  layer_same (Statement-F.If id l e a b) = ap₂ (λ (w : Bytes) (x : List Laid). laid_if w x (map (laid q) (map unlined (bare b)))) (word e) (all_same a) ∙ ap (laid_if (expr_words p e) (map (laid p) (bare a))) (all_same b)
+  layer_same (Statement-F.While id l e b) = ap₂ laid_while (word e) (all_same b)
+  layer_same (Statement-F.Do id l e b) = ap₂ laid_do (word e) (all_same b)
+  layer_same (Statement-F.For id l None e None b) = ap₂ (λ (w : Bytes) (y : List Laid). laid_for None w None y) (word e) (all_same b)
+  layer_same (Statement-F.For id l None e (Some k) b) = ap₂ (λ (w : Bytes) (y : List Laid). laid_for None w (Some (laid q (unlined k.0))) y) (word e) (all_same b) ∙ ap (λ (z : Laid). laid_for None (expr_words p e) (Some z) (map (laid p) (bare b))) k.1
+  layer_same (Statement-F.For id l (Some i) e None b) = ap₂ (λ (w : Bytes) (y : List Laid). laid_for (Some (laid q (unlined i.0))) w None y) (word e) (all_same b) ∙ ap (λ (z : Laid). laid_for (Some z) (expr_words p e) None (map (laid p) (bare b))) i.1
   layer_same (Statement-F.For id l (Some i) e (Some k) b) =
-      ap₂ (λ (w : Bytes) (y : List Laid). for_form (Some (laid q (unlined i.0))) w (Some (laid q (unlined k.0))) y) (word e) (all_same b)
-      ∙ ap₂ (λ (x z : Laid). for_form (Some x) (expr_words p e) (Some z) (map (laid p) (bare b))) i.1 k.1
-  layer_same (Statement-F.Switch id l e arms) = ap₂ switch_form (word e) (arms_same arms)
-  layer_same (Statement-F.Block l b) = ap block_form (all_same b)
+      ap₂ (λ (w : Bytes) (y : List Laid). laid_for (Some (laid q (unlined i.0))) w (Some (laid q (unlined k.0))) y) (word e) (all_same b)
+      ∙ ap₂ (λ (x z : Laid). laid_for (Some x) (expr_words p e) (Some z) (map (laid p) (bare b))) i.1 k.1
+  layer_same (Statement-F.Switch id l e arms) = ap₂ laid_switch (word e) (arms_same arms)
+  layer_same (Statement-F.Block l b) = ap laid_block (all_same b)
   layer_same (Statement-F.Return id l e) = ap plain (return_same e)
 
   statement_same : (x : Statement) → LineLess x
@@ -216,7 +213,7 @@ module _ (p : Program) where
       (let l = map-Arm ((x : Statement) × LineLess x) ((x : Arm) × ArmLineLess x) Statement Arm (λ x. x.0) (λ x. x.0) y in
       ap (arm_laid q) (unlined_roll_of_arm l)
       ∙ fold-roll-Arm Laid (ℕ → Bytes) (statement_step q) (arm_step q) (map-Arm Statement Arm Statement Arm unlined unlined_of_arm l)
-      ∙ ap₂ arm_form (labels_same y.labels) (all_same y.body)
+      ∙ ap₂ laid_case (labels_same y.labels) (all_same y.body)
       ∙ sym (fold-roll-Arm Laid (ℕ → Bytes) (statement_step p) (arm_step p) l)))
 
   bodies_same : (body : List Statement) → body_lines q 1 (map unlined body) ≡ body_lines p 1 body

@@ -2,7 +2,8 @@
 use Rattle.std.proofs.Common.{◌≡◌, ℕ, suc, ◌||◌, List, length, map, Bool, true, false, Option, Some, None, refl, sym, ap, ◌∙◌, arith, inl, inr}
 use Rattle.std.specs.Prelude.{nat_lt}
 use Rattle.std.proofs.lemmas.Bool.Decides.{nat_tests}
-use Rattle.std.proofs.lemmas.Bool.{or_right, or_left}
+use Rattle.std.proofs.lemmas.Bool.{or_right, or_left, and_from}
+use Rattle.c_language.specs.Lists.{all_true}
 use Rattle.c_arith.specs.declared.int_type.IntType.{IntType}
 use Rattle.c_tree.specs.declared.raw.expr.RawExpr.{RawExpr}
 use Rattle.c_tree.specs.declared.raw.expr.RawLength.TheVariants.{Written, Listed}
@@ -22,8 +23,8 @@ use Rattle.c_language.specs.DeclaredTypes.{item_count}
 use Rattle.c_language.specs.TypeGrammar.{IsBase, IsStars, IsLengths, IsOuterLengths, IsDeclarator, is_listed, written_step, is_written}
 use Rattle.c_language.specs.StatementGrammar.{IsSeparated, IsSimple, IsList, IsDeclared, IsDeclaration, IsInit, IsStep, IsStatement, AreStatements, IsBody, IsElse, AreArms}
 use Rattle.c_language.specs.ItemGrammar.{IsGlobal, IsItem, AreItems, IsProgram}
-use Rattle.c_text_layout.specs.Declarations.{all_true, declarations_pass, item_passes, items_pass}
-use Rattle.c_text_layout.proofs.DeclarationLemmas.{arm_passes, both_true, pass-Declare, pass-Assign, pass-Bump, pass-Call, pass-Heap, pass-Return, list_passes, pass-If, pass-While, pass-Do, part_passes, pass-For, pass-Switch, pass-Block, pass-arm, lists_append, items_append}
+use Rattle.c_text_layout.specs.Declarations.{declarations_pass, item_passes, items_pass}
+use Rattle.c_text_layout.proofs.DeclarationLemmas.{arm_passes, pass-Declare, pass-Assign, pass-Bump, pass-Call, pass-Heap, pass-Return, list_passes, pass-If, pass-While, pass-Do, part_passes, pass-For, pass-Switch, pass-Block, pass-arm, lists_append, items_append}
 use Rattle.c_text_layout.proofs.RawTypeLemmas.{is_listed-Array}
 use Rattle.c_print_laws.proofs.Settling.{IsCounted}
 use Rattle.c_print_laws.proofs.PhraseAgreement.{Fine}
@@ -91,8 +92,8 @@ declared_counts {l} (IsDeclared.call h none j) k = pass-Call is_counted l _ _ _
 declared_counts {l} (IsDeclared.heap h none j) k = pass-Heap is_counted l _ _ _
 
 separated_counts : {l : ℕ} {base : RawType} {close : Bytes} {ts rest : Tokens} {all : List RawStatement} → IsSeparated (IsDeclared l base) close ts all rest → is_written base ≡ true → list_passes is_counted all ≡ true
-separated_counts (IsSeparated.last h) k = both_true is_counted (declared_counts h k) refl
-separated_counts (IsSeparated.more h j) k = both_true is_counted (declared_counts h k) (separated_counts j k)
+separated_counts (IsSeparated.last h) k = and_from _ _ (declared_counts h k) refl
+separated_counts (IsSeparated.more h j) k = and_from _ _ (declared_counts h k) (separated_counts j k)
 
 declaration_counts : {ts rest : Tokens} {all : List RawStatement} → IsDeclaration ts all rest → list_passes is_counted all ≡ true
 declaration_counts (IsDeclaration.declaration h k) = separated_counts k (base_written h)
@@ -120,22 +121,22 @@ mutual
   statement_counts (IsStatement.returns {l}) = pass-Return is_counted l None
   statement_counts (IsStatement.returns_value {l} {a} h) = pass-Return is_counted l (Some a)
   statement_counts (IsStatement.block {l} {all} h) = pass-Block is_counted l all ∙ statements_count h
-  statement_counts (IsStatement.conditional {l} {a} {yes = met} {other} h k j) = pass-If is_counted l a met other ∙ both_true is_counted (body_counts k) (else_counts j)
+  statement_counts (IsStatement.conditional {l} {a} {yes = met} {other} h k j) = pass-If is_counted l a met other ∙ and_from _ _ (body_counts k) (else_counts j)
   statement_counts (IsStatement.while_loop {l} {a} {all} h k) = pass-While is_counted l a all ∙ body_counts k
   statement_counts (IsStatement.do_loop {l} {a} {all} h k) = pass-Do is_counted l a all ∙ body_counts h
-  statement_counts (IsStatement.for_loop {l} {first} {step} {a} {all} h e k j) = pass-For is_counted l first a step all ∙ both_true is_counted (init_counts h) (both_true is_counted (step_counts k) (body_counts j))
+  statement_counts (IsStatement.for_loop {l} {first} {step} {a} {all} h e k j) = pass-For is_counted l first a step all ∙ and_from _ _ (init_counts h) (and_from _ _ (step_counts k) (body_counts j))
   statement_counts (IsStatement.switch {l} {a} {arms} h k) = pass-Switch is_counted l a arms ∙ arms_count k
 
   statements_count : {ts rest : Tokens} {all : List RawStatement} → AreStatements ts all rest → list_passes is_counted all ≡ true
   statements_count AreStatements.done = refl
   statements_count (AreStatements.empty h) = statements_count h
   statements_count (AreStatements.declared {some} {all} h k) = lists_append is_counted some all (declaration_counts h) (statements_count k)
-  statements_count (AreStatements.more h k) = both_true is_counted (statement_counts h) (statements_count k)
+  statements_count (AreStatements.more h k) = and_from _ _ (statement_counts h) (statements_count k)
 
   body_counts : {ts rest : Tokens} {all : List RawStatement} → IsBody ts all rest → list_passes is_counted all ≡ true
   body_counts (IsBody.braces h) = statements_count h
   body_counts IsBody.nothing = refl
-  body_counts (IsBody.single b h) = both_true is_counted (statement_counts h) refl
+  body_counts (IsBody.single b h) = and_from _ _ (statement_counts h) refl
 
   else_counts : {ts rest : Tokens} {all : List RawStatement} → IsElse ts all rest → list_passes is_counted all ≡ true
   else_counts (IsElse.otherwise h) = body_counts h
@@ -143,8 +144,8 @@ mutual
 
   arms_count : {ts rest : Tokens} {all : List RawArm} → AreArms ts all rest → all_true (map (arm_passes is_counted) all) ≡ true
   arms_count AreArms.none = refl
-  arms_count (AreArms.broken {labels} {body} h k j) = both_true is_counted (pass-arm is_counted labels body ∙ statements_count k) (arms_count j)
-  arms_count (AreArms.unbroken {labels} {body} h b k) = both_true is_counted (pass-arm is_counted labels body ∙ statements_count k) refl
+  arms_count (AreArms.broken {labels} {body} h k j) = and_from _ _ (pass-arm is_counted labels body ∙ statements_count k) (arms_count j)
+  arms_count (AreArms.unbroken {labels} {body} h b k) = and_from _ _ (pass-arm is_counted labels body ∙ statements_count k) refl
 
 global_counts : {l : ℕ} {b : Bool} {base : RawType} {ts rest : Tokens} {x : RawItem} → IsGlobal l b base ts x rest → is_written base ≡ true → item_passes is_counted x ≡ true
 global_counts (IsGlobal.plain h none) k = or_left _ (nat_lt 0 0) (declarator_written h none k)
@@ -152,8 +153,8 @@ global_counts (IsGlobal.value h none j) k = or_left _ (nat_lt 0 0) (declarator_w
 global_counts (IsGlobal.list {v} {all} h j) k = or_right (is_written v.shape) (nat_lt 0 (length all)) (list_some j)
 
 globals_count : {l : ℕ} {b : Bool} {base : RawType} {close : Bytes} {ts rest : Tokens} {all : List RawItem} → IsSeparated (IsGlobal l b base) close ts all rest → is_written base ≡ true → items_pass is_counted all ≡ true
-globals_count (IsSeparated.last h) k = both_true is_counted (global_counts h k) refl
-globals_count (IsSeparated.more h j) k = both_true is_counted (global_counts h k) (globals_count j k)
+globals_count (IsSeparated.last h) k = and_from _ _ (global_counts h k) refl
+globals_count (IsSeparated.more h j) k = and_from _ _ (global_counts h k) (globals_count j k)
 
 item_counts : {ts rest : Tokens} {some : List RawItem} → IsItem ts some rest → items_pass is_counted some ≡ true
 item_counts (IsItem.include b) = refl
@@ -161,7 +162,7 @@ item_counts (IsItem.tag key) = refl
 item_counts (IsItem.structure key h) = refl
 item_counts (IsItem.globals s b h) = globals_count h (base_written b)
 item_counts (IsItem.prototype h) = refl
-item_counts (IsItem.definition h named k) = both_true is_counted (statements_count k) refl
+item_counts (IsItem.definition h named k) = and_from _ _ (statements_count k) refl
 
 items_count : {ts rest : Tokens} {all : List RawItem} → AreItems ts all rest → items_pass is_counted all ≡ true
 items_count AreItems.done = refl

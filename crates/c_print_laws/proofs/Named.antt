@@ -19,9 +19,9 @@ use Rattle.c_language.specs.Scopes.{Entry, Meaning, Scope, found_in}
 use Rattle.c_language.specs.ExprTypes.{member_of}
 use Rattle.c_language.specs.ExprTypes.{member_named as found_member}
 use Rattle.c_language.specs.ProgramOf.{ctype, member_tree, struct_tree, index_of_member, member_id}
-use Rattle.c_language.proofs.Options.{none_there, some_same}
-use Rattle.c_print_laws.proofs.Options.{map_there, then_there, collected_are, place_of}
-use Rattle.c_print_laws.proofs.Operands.{IsTypedIf}
+use Rattle.c_language.proofs.Options.{none_there, some_same, map_there, then_there}
+use Rattle.c_print_laws.proofs.Options.{collected_are, place_of}
+use Rattle.c_language.proofs.CleanOperands.{IsTypedIf}
 use Rattle.c_print_laws.proofs.Counted.{counted}
 use Rattle.c_language.proofs.Lists.{no_list, head_is, tail_is}
 use Rattle.c_language.proofs.Operands.{HasTypeIf, HasType}

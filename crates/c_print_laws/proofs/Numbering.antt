@@ -37,7 +37,7 @@ use Rattle.c_language.specs.Scopes.{Scope, with_variable, with_target, entered, 
 use Rattle.c_language.specs.Phrases.{after_item, after_items}
 use Rattle.c_language.specs.CallRules.{format_in, later_args}
 use Rattle.c_language.specs.ProgramOf.{collected, expr_of, init_of, declaration_id, target_tree, args_tree, only_tree, print_tree, invoke_tree, amount_tree, heap_tree, ctype_if, label_tree, arm_tree, ArmTree, arm_tree_step, block_tree, at_type, switch_type, part_tree, for_tree, treed_step, treed, body_of, functions_from, items_from, treed_arm}
-use Rattle.c_language.proofs.Options.{some_same, optional_there}
+use Rattle.c_language.proofs.Options.{some_same, optional_there, map_there, then_there, both_there}
 use Rattle.c_language.proofs.Tests.{false_true}
 use Rattle.c_language.proofs.PhraseLists.{body_after}
 use Rattle.c_language.proofs.TreeScopes.{list_after}
@@ -45,7 +45,7 @@ use Rattle.c_language.proofs.ScopeNumbers.{target_statements, begun_statements, 
 use Rattle.c_print.specs.Lines.{Placed, placed, arm_placed, item_placed, function_placed, bare, simple, heights, part_starts, starts_from, block_starts}
 use Rattle.c_print.proofs.PlacedLemmas.{placed-Declare, placed-Assign, placed-Bump, placed-Invoke, placed-Fetch, placed-Write, placed-Print, placed-Heap, placed-Release, placed-Return, placed-If, placed-While, placed-Do, placed-For, placed-Switch, placed-Block, placed-arm}
 use Rattle.c_print.proofs.OpeningLemmas.{IsListed, listed_left, listed_right, inside_listed}
-use Rattle.c_print_laws.proofs.Options.{map_there, then_there, both_there, collected_are}
+use Rattle.c_print_laws.proofs.Options.{collected_are}
 use Rattle.c_print_laws.proofs.Definitions.{Behind, behind_first, behind_rest, behind_at}
 use Rattle.c_print_laws.proofs.Numbers.{define_functions}
 use Rattle.c_print_laws.proofs.ForParts.{Form, all_tidy, is_single_part, form_step, form_arm, form_of, form_of_arm, are_tidy, AreTidy}

@@ -2,7 +2,6 @@
 use Rattle.std.proofs.Common.{◌≡◌, ℕ, ◌+◌, List, [], ◌∷◌, ◌++◌, length, map, Option, Some, None, refl, sym, ap, subst, ◌∙◌, arith}
 use Rattle.c_tree.specs.declared.raw.program.RawInit.{RawInit}
 use Rattle.c_tree.specs.declared.raw.program.RawInit.TheVariants as init
-use Rattle.c_tree.specs.declared.raw.program.RawMember.{RawMember}
 use Rattle.c_tree.specs.declared.raw.program.RawParam.{RawParam}
 use Rattle.c_tree.specs.declared.raw.program.RawHead.{RawHead}
 use Rattle.c_tree.specs.declared.raw.program.RawItem.{RawItem}
@@ -17,10 +16,9 @@ use Rattle.c_tree.proofs.RawTrees.{StatementParts, statement_layer, arm_layer, o
 use Rattle.c_language.specs.Words.{Bytes}
 use Rattle.c_language.specs.Scopes.{Scope, Scoped, with_variable, with_function, with_named, with_parameter, with_parameters, scope_of_parameters, entered, with_target, opened, closed, numbered, begun, in_order, after_all, after_block}
 use Rattle.c_language.specs.Phrases.{Stand, InBlock, InFile, Phrases, phrase, begun_phrases, joined_at, ArmText, EndsFunction, scoped_step, scoped_arm, scoped, scoped_of_arm, body_phrases, after_body, member_phrases, taken_phrases, parameter_phrases, head_phrases, item_phrases, after_item}
-use Rattle.c_language.specs.ProgramOf.{variables_in}
-use Rattle.c_language.proofs.PhraseLists.{body_in_order, body_after}
+use Rattle.c_language.proofs.PhraseLists.{body_in_order, body_after, begun_nothing, members_declare, taken_declare}
 use Rattle.c_language.proofs.ScopeNumbers.{through_function, function_variables}
-use Rattle.c_print_laws.proofs.Scoping.{declared_count, count_append, begun_count, after_count}
+use Rattle.c_print_laws.proofs.Scoping.{declared_count, count_append, after_count}
 
 -- the two scopes have as many functions and struct types before them
 pub record SameNumbers (a b : Scope) : Type 0 where
@@ -158,14 +156,6 @@ module _ (raw : RawProgram) where
 
   -- ---- items
 
-  members_declare : (scope : Scope) (before ms : List RawMember) → variables_in raw (member_phrases scope before ms) ≡ []
-  members_declare scope before [] = refl
-  members_declare scope before (m ∷ ms) = members_declare scope (before ++ m ∷ []) ms
-
-  taken_declare : (scope : Scope) (before ps : List RawParam) → variables_in raw (taken_phrases scope before ps) ≡ []
-  taken_declare scope before [] = refl
-  taken_declare scope before (p ∷ ps) = taken_declare scope (before ++ p ∷ []) ps
-
   pub define_count : (l : ℕ) (head : RawHead) (body : List RawStatement) (scope : Scope)
       → scope.variables + declared_count raw (item_phrases raw (Define l head body) scope) ≡ (after_item raw (Define l head body) scope).variables
   define_count l head body scope =
@@ -183,12 +173,12 @@ module _ (raw : RawProgram) where
   pub item_variables : (x : RawItem) (scope : Scope) → scope.variables + declared_count raw (item_phrases raw x scope) ≡ (after_item raw x scope).variables
   item_variables (Include is_stdlib) scope = omega arith
   item_variables (Tag l tag) scope = omega arith
-  item_variables (Struct l tag members) scope = let a : declared_count raw (member_phrases scope [] members) ≡ 0 = ap length (members_declare scope [] members) in omega (arith, a)
+  item_variables (Struct l tag members) scope = let a : declared_count raw (member_phrases scope [] members) ≡ 0 = ap length (members_declare raw scope [] members) in omega (arith, a)
   item_variables (Global l v i is_static) scope =
-      let a : declared_count raw (begun_phrases l (with_variable raw v i scope) (InFile is_static) v i) ≡ 0 = ap length (begun_count raw l (with_variable raw v i scope) (InFile is_static) v i) in
+      let a : declared_count raw (begun_phrases l (with_variable raw v i scope) (InFile is_static) v i) ≡ 0 = ap length (begun_nothing raw l (with_variable raw v i scope) (InFile is_static) v i) in
       omega (arith, a)
   item_variables (Prototype l head) scope =
-      let a : declared_count raw (taken_phrases scope [] head.params) ≡ 0 = ap length (taken_declare scope [] head.params) in
+      let a : declared_count raw (taken_phrases scope [] head.params) ≡ 0 = ap length (taken_declare raw scope [] head.params) in
       let b : (with_function head.name scope).variables ≡ scope.variables = function_variables head.name scope in
       omega (arith, a, b)
   item_variables (Define l head body) scope = define_count l head body scope

@@ -1,6 +1,8 @@
 -- The phrases of a text agree with those of what the layout keeps of it.
 use Rattle.std.proofs.Common.{◌≡◌, ℕ, ◌+◌, ◌&&◌, List, [], ◌∷◌, ◌++◌, map, Bool, true, Option, Some, None, refl, sym, ap, ap₂, subst, ◌∙◌}
 use Rattle.std.proofs.lemmas.Bool.{and_parts}
+use Rattle.std.specs.List.{AllZip}
+use Rattle.c_language.specs.Lists.{all_true}
 use Rattle.c_language.specs.TypeGrammar.{is_written}
 use Rattle.c_tree.specs.declared.raw.expr.RawExpr.{RawExpr}
 use Rattle.c_tree.specs.declared.raw.expr.RawVar.{RawVar}
@@ -22,9 +24,9 @@ use Rattle.c_language.specs.Phrases.{Stand, InBlock, InArm, InFor, Part, Phrase,
 use Rattle.c_language.specs.declared.expr_type.ExprType.{ExprType}
 use Rattle.c_text_layout.specs.Settled.{settled_var, settled_step, settled_arm_step, settled}
 use Rattle.c_text_layout.proofs.RawStatementLemmas.{settled_arm}
-use Rattle.c_text_layout.specs.Declarations.{all_true, declares_step, arm_declares, declarations_pass}
+use Rattle.c_text_layout.specs.Declarations.{declares_step, arm_declares, declarations_pass}
 use Rattle.c_text_layout.proofs.DeclarationLemmas.{arm_passes}
-use Rattle.c_print_laws.proofs.Alike.{Pairwise, pairwise_append}
+use Rattle.c_print_laws.proofs.Alike.{pairwise_append}
 use Rattle.c_print_laws.proofs.Resembling.{Resembles}
 use Rattle.c_print_laws.proofs.RuleTransfer.{VarsAgree, PartsAgree, vars_same}
 use Rattle.c_print_laws.proofs.Settling.{IsCounted, settled_var_agrees}
@@ -78,7 +80,7 @@ module _ (raw other : RawProgram) (like : Resembles raw other) (test : RawVar �
     pub part : PartsAgree raw other a.part b.part
 
   abbrev pub PhrasesAgree : Phrases → Phrases → Type 0
-  PhrasesAgree = Pairwise PhraseAgrees
+  PhrasesAgree = AllZip PhraseAgrees
 
   pub agree_append : (ps qs rs ss : Phrases) → PhrasesAgree ps qs → PhrasesAgree rs ss → PhrasesAgree (ps ++ rs) (qs ++ ss)
   agree_append ps qs rs ss h k = pairwise_append PhraseAgrees ps qs rs ss h k

@@ -32,8 +32,8 @@ use Rattle.c_tree.specs.declared.raw.statement.RawStatement.{RawStatement, roll-
 use Rattle.c_tree.specs.declared.raw.statement.RawStatement.TheOpen.{RawStatement-F, RawArm-F}
 use Rattle.c_tree.specs.declared.raw.statement.RawArm.{RawArm, fold-RawArm, fold-roll-RawArm}
 use Rattle.c_language.specs.StatementGrammar.{arm}
-use Rattle.c_print.specs.Feedless.{feedless, each}
-use Rattle.c_language.specs.Lists.{if_there}
+use Rattle.c_print.specs.Feedless.{feedless}
+use Rattle.c_language.specs.Lists.{if_there, all_true}
 
 -- ---- expressions and types
 
@@ -113,16 +113,16 @@ raw_statement_step (RawStatement-F.Assign l a op b) = raw_expr_feedless a && raw
 raw_statement_step (RawStatement-F.Bump l a up before) = raw_expr_feedless a
 raw_statement_step (RawStatement-F.Call l to f args) = raw_target_feedless to && list_all raw_arg_feedless args
 raw_statement_step (RawStatement-F.Heap l to cast n) = raw_target_feedless to && (option_map_or raw_name_feedless cast true && raw_amount_feedless n)
-raw_statement_step (RawStatement-F.If l e a b) = raw_expr_feedless e && (each a && each b)
-raw_statement_step (RawStatement-F.While l e b) = raw_expr_feedless e && each b
-raw_statement_step (RawStatement-F.Do l e b) = raw_expr_feedless e && each b
-raw_statement_step (RawStatement-F.For l i e k b) = if_there i && (raw_expr_feedless e && (if_there k && each b))
-raw_statement_step (RawStatement-F.Switch l e arms) = raw_expr_feedless e && each arms
-raw_statement_step (RawStatement-F.Block l b) = each b
+raw_statement_step (RawStatement-F.If l e a b) = raw_expr_feedless e && (all_true a && all_true b)
+raw_statement_step (RawStatement-F.While l e b) = raw_expr_feedless e && all_true b
+raw_statement_step (RawStatement-F.Do l e b) = raw_expr_feedless e && all_true b
+raw_statement_step (RawStatement-F.For l i e k b) = if_there i && (raw_expr_feedless e && (if_there k && all_true b))
+raw_statement_step (RawStatement-F.Switch l e arms) = raw_expr_feedless e && all_true arms
+raw_statement_step (RawStatement-F.Block l b) = all_true b
 raw_statement_step (RawStatement-F.Return l a) = option_map_or raw_expr_feedless a true
 
 abbrev pub raw_arm_step : RawArm-F Bool Bool → Bool
-raw_arm_step a = list_all raw_label_feedless a.labels && each a.body
+raw_arm_step a = list_all raw_label_feedless a.labels && all_true a.body
 
 abbrev pub raw_statement_feedless : RawStatement → Bool
 raw_statement_feedless = fold-RawStatement Bool Bool raw_statement_step raw_arm_step
@@ -131,7 +131,7 @@ abbrev pub raw_arm_feedless : RawArm → Bool
 raw_arm_feedless = fold-RawArm Bool Bool raw_statement_step raw_arm_step
 
 abbrev pub raw_body_feedless : List RawStatement → Bool
-raw_body_feedless body = each (map raw_statement_feedless body)
+raw_body_feedless body = all_true (map raw_statement_feedless body)
 
 -- ---- items
 

@@ -1,31 +1,29 @@
 -- Two texts whose struct types, functions and headers are the same but for lines and lengths of parameters: types and expressions are the same in both.
 use Rattle.std.proofs.Common.{◌≡◌, ℕ, Option, Some, None, refl, sym, ap, ap₂, ◌∙◌, slice_get}
 use Rattle.std.specs.Prelude.{option_map, option_and_then, is_none, nat_lt, if◌then◌else◌, bytes_eq}
-use Rattle.std.specs.List.{position}
-use Rattle.c_tree.specs.declared.types.CType.{CType}
-use Rattle.c_tree.specs.declared.types.CType.TheVariants as t
+use Rattle.std.specs.List.{position, AllZip}
 use Rattle.c_tree.specs.declared.expr.Expr.{Expr}
 use Rattle.c_tree.specs.declared.expr.Expr.TheVariants as e
 use Rattle.c_tree.specs.declared.expr.MemberId.{MemberId}
 use Rattle.c_tree.specs.declared.raw.expr.RawExpr.{RawExpr, out-RawExpr, map-RawExpr, fold-RawExpr, fold-roll-RawExpr}
 use Rattle.c_tree.specs.declared.raw.expr.RawExpr.TheOpen.{RawExpr-F}
 use Rattle.c_tree.specs.declared.raw.expr.RawType.{RawType}
-use Rattle.c_tree.specs.declared.raw.expr.RawType.TheOpen.{RawType-F}
 use Rattle.c_tree.specs.declared.raw.program.RawMember.{RawMember}
 use Rattle.c_tree.specs.declared.raw.program.RawParam.{RawParam}
 use Rattle.c_tree.specs.declared.raw.program.RawHead.{RawHead}
 use Rattle.c_tree.specs.declared.raw.program.RawProgram.{RawProgram}
-use Rattle.c_tree.proofs.RawTrees.{type_folds_same, ExprParts, expr_layer, of_every_expr}
+use Rattle.c_tree.proofs.RawTrees.{ExprParts, expr_layer, of_every_expr}
 use Rattle.c_language.specs.Words.{Bytes}
-use Rattle.c_language.specs.DeclaredTypes.{StructText, defined_structs, defined_functions, struct_id, function_id, definition_of, of_base, type_step, type_with, written_type, has_stdio, has_stdlib}
+use Rattle.c_language.specs.DeclaredTypes.{StructText, defined_structs, defined_functions, struct_id, function_id, definition_of, type_with, written_type, has_stdio, has_stdlib}
 use Rattle.c_language.specs.Scopes.{Scope}
-use Rattle.c_language.specs.ExprTypes.{a_place, struct_of, pointed, member_named, member_of, member_type, selected, operand_step, operand}
+use Rattle.c_language.specs.ExprTypes.{a_place, member_named, member_of, member_type, operand_step, operand}
 use Rattle.c_language.specs.ExprRules.{seen}
-use Rattle.c_language.specs.ProgramOf.{Told, told_step, expr_of, member_id, of_operand, of_pointed, ctype_step, ctype_with}
-use Rattle.c_language.specs.declared.expr_type.Base.TheVariants as base
+use Rattle.c_language.specs.ProgramOf.{Told, told_step, expr_of, member_id, ctype_with}
 use Rattle.c_language.specs.declared.expr_type.ExprType.{ExprType}
 use Rattle.c_language.specs.declared.expr_type.Operand.{Operand}
-use Rattle.c_print_laws.proofs.Alike.{Pairwise, BothThere, place_there, found_there, position_same, pairwise_back}
+use Rattle.c_language.proofs.SameStructs as texts
+use Rattle.c_language.proofs.SameStructs.{select_member, select_pointed, of_operands, of_pointeds}
+use Rattle.c_print_laws.proofs.Alike.{BothThere, place_there, found_there, position_same, pairwise_back}
 
 -- ---- folds by steps that agree
 
@@ -64,7 +62,7 @@ pub record MembersAgree (a b : RawMember) : Type 0 where
 
 pub record StructsAgree (a b : StructText) : Type 0 where
   pub tag : a.tag ≡ b.tag
-  pub members : Pairwise MembersAgree a.members b.members
+  pub members : AllZip MembersAgree a.members b.members
 
 pub record ParamsAgree (a b : RawParam) : Type 0 where
   pub name : a.name ≡ b.name
@@ -73,12 +71,12 @@ pub record ParamsAgree (a b : RawParam) : Type 0 where
 pub record HeadsAgree (a b : RawHead) : Type 0 where
   pub name : a.name ≡ b.name
   pub result : a.result ≡ b.result
-  pub params : Pairwise ParamsAgree a.params b.params
+  pub params : AllZip ParamsAgree a.params b.params
 
 -- the texts have the same struct types, functions and headers, but for lines and lengths of parameters
 pub record Resembles (raw other : RawProgram) : Type 0 where
-  pub structs : Pairwise StructsAgree (defined_structs raw) (defined_structs other)
-  pub functions : Pairwise HeadsAgree (defined_functions raw) (defined_functions other)
+  pub structs : AllZip StructsAgree (defined_structs raw) (defined_structs other)
+  pub functions : AllZip HeadsAgree (defined_functions raw) (defined_functions other)
   pub stdio : has_stdio raw ≡ has_stdio other
   pub stdlib : has_stdlib raw ≡ has_stdlib other
 
@@ -108,23 +106,11 @@ module _ (raw other : RawProgram) (like : Resembles raw other) where
 
   -- ---- types
 
-  type_steps : (items : ℕ) (y : RawType-F (Option ExprType)) → type_step raw items y ≡ type_step other items y
-  type_steps items (RawType-F.Integer i) = refl
-  type_steps items (RawType-F.PointerTo a) = refl
-  type_steps items (RawType-F.Array a n) = refl
-  type_steps items (RawType-F.Struct tag) = ap (option_map (λ (s : ℕ). of_base (base.Struct s))) (struct_ids tag)
-
   pub types_same : (items : ℕ) (a : RawType) → type_with raw items a ≡ type_with other items a
-  types_same items = type_folds_same (type_step raw items) (type_step other items) (type_steps items)
-
-  ctype_steps : (items : ℕ) (y : RawType-F (Option CType)) → ctype_step raw items y ≡ ctype_step other items y
-  ctype_steps items (RawType-F.Integer i) = refl
-  ctype_steps items (RawType-F.PointerTo a) = refl
-  ctype_steps items (RawType-F.Array a n) = refl
-  ctype_steps items (RawType-F.Struct tag) = ap (option_map t.Struct) (struct_ids tag)
+  types_same = texts.types_same raw other struct_ids
 
   pub ctypes_same : (items : ℕ) (a : RawType) → ctype_with raw items a ≡ ctype_with other items a
-  ctypes_same items = type_folds_same (ctype_step raw items) (ctype_step other items) (ctype_steps items)
+  ctypes_same = texts.ctypes_same raw other struct_ids
 
   -- ---- members
 
@@ -173,25 +159,9 @@ module _ (raw other : RawProgram) (like : Resembles raw other) where
   ids_same : (name : Bytes) (k : ℕ) → member_id raw name k ≡ member_id other name k
   ids_same name k = ap (option_map (λ (i : ℕ). record { owner = k; index = i })) (index_in (slice_get (defined_structs raw) k) (slice_get (defined_structs other) k) name (place_there StructsAgree (defined_structs raw) (defined_structs other) k like.structs))
 
-  id_in : (name : Bytes) (s : Option ℕ) → option_and_then (member_id raw name) s ≡ option_and_then (member_id other name) s
-  id_in name None = refl
-  id_in name (Some k) = ids_same name k
-
   -- ---- expressions
 
   module _ (scope : Scope) where
-    select_member : (m : Bytes) (a : Option Operand) → option_and_then (λ (x : Operand). selected raw scope m x.shape) a ≡ option_and_then (λ (x : Operand). selected other scope m x.shape) a
-    select_member m None = refl
-    select_member m (Some x) = selected_same scope m (struct_of x.shape)
-
-    select_in : (m : Bytes) (t : Option ExprType) → option_and_then (selected raw scope m) t ≡ option_and_then (selected other scope m) t
-    select_in m None = refl
-    select_in m (Some t) = selected_same scope m (struct_of t)
-
-    select_pointed : (m : Bytes) (a : Option Operand) → option_and_then (λ (x : Operand). option_and_then (selected raw scope m) (pointed x)) a ≡ option_and_then (λ (x : Operand). option_and_then (selected other scope m) (pointed x)) a
-    select_pointed m None = refl
-    select_pointed m (Some x) = select_in m (pointed x)
-
     operand_steps : (y : RawExpr-F (Option Operand)) → operand_step raw scope y ≡ operand_step other scope y
     operand_steps (RawExpr-F.Constant text) = refl
     operand_steps RawExpr-F.Null = refl
@@ -206,24 +176,12 @@ module _ (raw other : RawProgram) (like : Resembles raw other) where
     operand_steps (RawExpr-F.Choose c a b) = refl
     operand_steps (RawExpr-F.Cast i a) = refl
     operand_steps (RawExpr-F.Index a b) = refl
-    operand_steps (RawExpr-F.Member a m) = ap (option_map a_place) (select_member m a)
-    operand_steps (RawExpr-F.Arrow a m) = ap (option_map a_place) (select_pointed m a)
+    operand_steps (RawExpr-F.Member a m) = ap (option_map a_place) (select_member raw other scope scope (selected_same scope) m a)
+    operand_steps (RawExpr-F.Arrow a m) = ap (option_map a_place) (select_pointed raw other scope scope (selected_same scope) m a)
     operand_steps (RawExpr-F.Paren a) = refl
 
     pub operands_same : (a : RawExpr) → operand raw scope a ≡ operand other scope a
     operands_same = expr_folds_same (operand_step raw scope) (operand_step other scope) operand_steps
-
-    of_operands : (m : Bytes) (a : Option Operand) → of_operand raw m a ≡ of_operand other m a
-    of_operands m None = refl
-    of_operands m (Some x) = id_in m (struct_of x.shape)
-
-    of_pointed_in : (m : Bytes) (t : Option ExprType) → option_and_then (λ t. option_and_then (member_id raw m) (struct_of t)) t ≡ option_and_then (λ t. option_and_then (member_id other m) (struct_of t)) t
-    of_pointed_in m None = refl
-    of_pointed_in m (Some t) = id_in m (struct_of t)
-
-    of_pointeds : (m : Bytes) (a : Option Operand) → of_pointed raw m a ≡ of_pointed other m a
-    of_pointeds m None = refl
-    of_pointeds m (Some x) = of_pointed_in m (pointed x)
 
     told_as : (a b : Option Operand) (x y : Option Expr) → a ≡ b → x ≡ y → ◌≡◌ {A = Told} (record { operand = a; tree = x }) (record { operand = b; tree = y })
     told_as a b x y h k = ap₂ (λ (p : Option Operand) (q : Option Expr). record { operand = p; tree = q }) h k
@@ -243,9 +201,9 @@ module _ (raw other : RawProgram) (like : Resembles raw other) where
     told_steps (RawExpr-F.Cast i a) = refl
     told_steps (RawExpr-F.Index a b) = refl
     told_steps (RawExpr-F.Member a m) =
-        told_as _ _ _ _ (operand_steps (RawExpr-F.Member a.operand m)) (ap (λ (k : Option MemberId). option_and_then (λ (x : Expr). option_map (e.Member x) k) a.tree) (of_operands m a.operand))
+        told_as _ _ _ _ (operand_steps (RawExpr-F.Member a.operand m)) (ap (λ (k : Option MemberId). option_and_then (λ (x : Expr). option_map (e.Member x) k) a.tree) (of_operands raw other ids_same m a.operand))
     told_steps (RawExpr-F.Arrow a m) =
-        told_as _ _ _ _ (operand_steps (RawExpr-F.Arrow a.operand m)) (ap (λ (k : Option MemberId). option_and_then (λ (x : Expr). option_map (e.Arrow x) k) a.tree) (of_pointeds m a.operand))
+        told_as _ _ _ _ (operand_steps (RawExpr-F.Arrow a.operand m)) (ap (λ (k : Option MemberId). option_and_then (λ (x : Expr). option_map (e.Arrow x) k) a.tree) (of_pointeds raw other ids_same m a.operand))
     told_steps (RawExpr-F.Paren a) = refl
 
     pub exprs_same : (a : RawExpr) → expr_of raw scope a ≡ expr_of other scope a

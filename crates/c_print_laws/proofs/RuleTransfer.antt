@@ -1,6 +1,7 @@
 -- A phrase breaks a rule where the phrase of a resembling text breaks it.
-use Rattle.std.proofs.Common.{◌≡◌, ℕ, suc, ◌&&◌, List, [], ◌∷◌, length, take, Bool, true, false, Option, Some, None, pos, refl, sym, ap, ap₂, subst, ◌∙◌, arith, slice_get, ◌⊎◌, inl, inr}
+use Rattle.std.proofs.Common.{◌≡◌, ℕ, ◌&&◌, List, [], ◌∷◌, length, take, Bool, true, false, Option, Some, None, refl, sym, ap, ap₂, subst, ◌∙◌, arith, slice_get, ◌⊎◌, inl, inr}
 use Rattle.std.specs.Prelude.{Contains, option_map, option_and_then}
+use Rattle.std.specs.List.{AllZip}
 use Rattle.c_tree.specs.declared.raw.expr.RawExpr.{RawExpr}
 use Rattle.c_tree.specs.declared.raw.expr.RawExpr.TheOpen.{RawExpr-F}
 use Rattle.c_tree.specs.declared.raw.expr.RawExpr.TheVariants as e
@@ -17,7 +18,7 @@ use Rattle.c_tree.specs.declared.raw.statement.RawArg.{RawArg}
 use Rattle.c_tree.specs.declared.raw.statement.RawSize.{RawSize}
 use Rattle.c_tree.specs.declared.raw.statement.RawStatement.{RawStatement}
 use Rattle.c_language.specs.Words.{Bytes}
-use Rattle.c_language.specs.ConstantEvaluation.{value_of_constant}
+use Rattle.c_language.specs.CountConstants.{IsCountConstant, LengthsAmong}
 use Rattle.c_language.specs.TypeGrammar.{named_type}
 use Rattle.c_language.specs.DeclaredTypes.{defined_structs, defined_functions, definition_of, positive, written_type, variable_type, type_or_void, result_type, parameter_types, item_count}
 use Rattle.c_language.specs.ProgramOf.{ctype_with}
@@ -26,7 +27,7 @@ use Rattle.c_language.specs.ExprTypes.{operand}
 use Rattle.c_language.specs.ExprRules.{Seen, seen, is_undeclared, lacks_header, has_bad_operand, has_no_address, needs_struct, selects_missing, holds_of, points_to_incomplete, moves_incomplete}
 use Rattle.c_language.specs.Formats.{Conversion}
 use Rattle.c_language.specs.Phrases.{Stand, Part, NamesStruct, DefinesStruct, HasMember, DeclaresFunction, Takes, EndsFunction, Declares, Begins, Assigns, Bumps, Calls, Allocates, Tests, Switches, Returns}
-use Rattle.c_language.specs.Uses.{lengths_in, lengths, expressions, Holds, holds, tags_in, tags, tags_if, is_library_name, is_library_macro}
+use Rattle.c_language.specs.Uses.{lengths_in, lengths_of, expressions, Holds, holds, tags_in, tags, tags_if, is_library_name, is_library_macro}
 use Rattle.c_language.specs.Rules.{Breaks}
 use Rattle.c_language.specs.NameRules.{main_name, agree, all_agree, same_signature, IsDefinedBefore, UsesUndeclared, DeclaresAgain, Shadows, DeclaresLibraryName, MisusesMain, LacksDefinition, LacksHeader}
 use Rattle.c_language.specs.StructRules.{MisusesTag, MisnamesMember}
@@ -39,21 +40,11 @@ use Rattle.c_language.specs.declared.expr_type.Operand.{Operand}
 use Rattle.c_language.proofs.Options.{none_there, some_same}
 use Rattle.c_language.proofs.Tests.{false_true}
 use Rattle.c_language.proofs.UseLemmas.{only_part}
-use Rattle.c_print_laws.proofs.Alike.{Pairwise, BothThere, pair_of, place_there, pairwise_take, pairwise_map, pairwise_length}
+use Rattle.c_print_laws.proofs.Alike.{BothThere, pair_of, place_there, pairwise_take, pairwise_map, pairwise_length}
 use Rattle.c_language.proofs.Operands.{headers_same, missing_same, seen-Constant}
 use Rattle.c_print_laws.proofs.Resembling.{MembersAgree, StructsAgree, ParamsAgree, HeadsAgree, Resembles, struct_ids, definitions_agree, types_same, ctypes_same, lacks_same, operands_same, seen_same}
 
 -- ---- parts that agree
-
--- a length that a list gave, as a decimal constant of at least 1
-pub record IsListLength (a : RawExpr) : Type 0 where
-  pub text : Bytes
-  pub is : a ≡ e.Constant text
-  pub less : ℕ
-  pub value : value_of_constant a ≡ Some (pos (suc less))
-
-abbrev pub LengthsIn : List RawExpr → List RawExpr → Type 0
-LengthsIn some all = (a : RawExpr) → Contains some a → Contains all a ⊎ IsListLength a
 
 -- two variables have the same name and type, though a list may give a length of one that is written in the other
 pub record VarsAgree (raw other : RawProgram) (i : RawInit) (v w : RawVar) : Type 0 where
@@ -61,36 +52,36 @@ pub record VarsAgree (raw other : RawProgram) (i : RawInit) (v w : RawVar) : Typ
   pub type : variable_type raw v i ≡ variable_type other w i
   pub tree : ctype_with raw (item_count i) v.shape ≡ ctype_with other (item_count i) w.shape
   pub tag : tags_in v.shape ≡ tags_in w.shape
-  pub left : LengthsIn (lengths_in v.shape) (lengths_in w.shape)
-  pub right : LengthsIn (lengths_in w.shape) (lengths_in v.shape)
+  pub left : LengthsAmong (lengths_in v.shape) (lengths_in w.shape)
+  pub right : LengthsAmong (lengths_in w.shape) (lengths_in v.shape)
 
 pub data PartsAgree (raw other : RawProgram) : Part → Part → Type 0 where
   same : {part : Part} → PartsAgree raw other part part
   declares : {stand : Stand} {v w : RawVar} {i : RawInit} → VarsAgree raw other i v w → PartsAgree raw other (Declares stand v i) (Declares stand w i)
   begins : {stand : Stand} {v w : RawVar} {i : RawInit} → VarsAgree raw other i v w → PartsAgree raw other (Begins stand v i) (Begins stand w i)
-  member : {before others : List RawMember} {m k : RawMember} → Pairwise MembersAgree before others → MembersAgree m k → PartsAgree raw other (HasMember before m) (HasMember others k)
+  member : {before others : List RawMember} {m k : RawMember} → AllZip MembersAgree before others → MembersAgree m k → PartsAgree raw other (HasMember before m) (HasMember others k)
   function : {h k : RawHead} {is_definition : Bool} → HeadsAgree h k → PartsAgree raw other (DeclaresFunction h is_definition) (DeclaresFunction k is_definition)
-  takes : {before others : List RawParam} {p q : RawParam} → Pairwise ParamsAgree before others → ParamsAgree p q → PartsAgree raw other (Takes before p) (Takes others q)
+  takes : {before others : List RawParam} {p q : RawParam} → AllZip ParamsAgree before others → ParamsAgree p q → PartsAgree raw other (Takes before p) (Takes others q)
   ends : {h k : RawHead} {body next : List RawStatement} → HeadsAgree h k → (EndsWithValue body → EndsWithValue next) → (EndsWithValue next → EndsWithValue body)
       → PartsAgree raw other (EndsFunction h body) (EndsFunction k next)
 
--- a part that is the same in both texts
-abbrev pub is_kept : Part → Bool
-is_kept (NamesStruct t) = true
-is_kept (DefinesStruct t) = true
-is_kept (HasMember before m) = false
-is_kept (DeclaresFunction h d) = false
-is_kept (Takes before p) = false
-is_kept (EndsFunction h body) = false
-is_kept (Declares stand v i) = false
-is_kept (Begins stand v i) = false
-is_kept (Assigns a op b) = true
-is_kept (Bumps a) = true
-is_kept (Calls stand to f args) = true
-is_kept (Allocates to cast n) = true
-is_kept (Tests a) = true
-is_kept (Switches a labels) = true
-is_kept (Returns a) = true
+-- a part that agrees with itself alone
+abbrev pub is_unchanged : Part → Bool
+is_unchanged (NamesStruct t) = true
+is_unchanged (DefinesStruct t) = true
+is_unchanged (HasMember before m) = false
+is_unchanged (DeclaresFunction h d) = false
+is_unchanged (Takes before p) = false
+is_unchanged (EndsFunction h body) = false
+is_unchanged (Declares stand v i) = false
+is_unchanged (Begins stand v i) = false
+is_unchanged (Assigns a op b) = true
+is_unchanged (Bumps a) = true
+is_unchanged (Calls stand to f args) = true
+is_unchanged (Allocates to cast n) = true
+is_unchanged (Tests a) = true
+is_unchanged (Switches a labels) = true
+is_unchanged (Returns a) = true
 
 -- ---- what is there in both
 
@@ -108,15 +99,15 @@ there_none R (Some a) (Some b) h is = none_there (sym is)
 heads_same : (h : RawHead) → HeadsAgree h h
 heads_same h = record { name = refl; result = refl; params = params_same h.params }
   where
-    params_same : (ps : List RawParam) → Pairwise ParamsAgree ps ps
+    params_same : (ps : List RawParam) → AllZip ParamsAgree ps ps
     params_same [] = tt
     params_same (p ∷ ps) = (record { name = refl; shape = refl }, params_same ps)
 
-members_same : (ms : List RawMember) → Pairwise MembersAgree ms ms
+members_same : (ms : List RawMember) → AllZip MembersAgree ms ms
 members_same [] = tt
 members_same (m ∷ ms) = (record { name = refl; shape = refl }, members_same ms)
 
-pub params_same : (ps : List RawParam) → Pairwise ParamsAgree ps ps
+pub params_same : (ps : List RawParam) → AllZip ParamsAgree ps ps
 params_same [] = tt
 params_same (p ∷ ps) = (record { name = refl; shape = refl }, params_same ps)
 
@@ -133,7 +124,7 @@ module _ (raw other : RawProgram) (like : Resembles raw other) where
   begins_part (begins {v} h) = (v, refl, h)
 
   member_part : {part : Part} {others : List RawMember} {k : RawMember} → PartsAgree raw other part (HasMember others k)
-      → (before : List RawMember) × (m : RawMember) × (part ≡ HasMember before m) × Pairwise MembersAgree before others × MembersAgree m k
+      → (before : List RawMember) × (m : RawMember) × (part ≡ HasMember before m) × AllZip MembersAgree before others × MembersAgree m k
   member_part {others} {k} PartsAgree.same = (others, k, refl, members_same others, record { name = refl; shape = refl })
   member_part (member {before} {m} h r) = (before, m, refl, h, r)
 
@@ -142,7 +133,7 @@ module _ (raw other : RawProgram) (like : Resembles raw other) where
   function_part (function {h} r) = (h, refl, r)
 
   takes_part : {part : Part} {others : List RawParam} {q : RawParam} → PartsAgree raw other part (Takes others q)
-      → (before : List RawParam) × (p : RawParam) × (part ≡ Takes before p) × Pairwise ParamsAgree before others × ParamsAgree p q
+      → (before : List RawParam) × (p : RawParam) × (part ≡ Takes before p) × AllZip ParamsAgree before others × ParamsAgree p q
   takes_part {others} {q} PartsAgree.same = (others, q, refl, params_same others, record { name = refl; shape = refl })
   takes_part (takes {before} {p} h r) = (before, p, refl, h, r)
 
@@ -151,22 +142,22 @@ module _ (raw other : RawProgram) (like : Resembles raw other) where
   ends_part {k} {next} PartsAgree.same = (k, next, refl, heads_same k, (λ x. x))
   ends_part (ends {h} {body} r to back) = (h, body, refl, r, to)
 
-  kept_part : {part next : Part} → is_kept next ≡ true → PartsAgree raw other part next → part ≡ next
-  kept_part h PartsAgree.same = refl
-  kept_part h (declares k) = false_true h
-  kept_part h (begins k) = false_true h
-  kept_part h (member k r) = false_true h
-  kept_part h (function k) = false_true h
-  kept_part h (takes k r) = false_true h
-  kept_part h (ends k to back) = false_true h
+  unchanged_part : {part next : Part} → is_unchanged next ≡ true → PartsAgree raw other part next → part ≡ next
+  unchanged_part h PartsAgree.same = refl
+  unchanged_part h (declares k) = false_true h
+  unchanged_part h (begins k) = false_true h
+  unchanged_part h (member k r) = false_true h
+  unchanged_part h (function k) = false_true h
+  unchanged_part h (takes k r) = false_true h
+  unchanged_part h (ends k to back) = false_true h
 
-  -- a fact about a kept part
-  moved : {part next : Part} (X : Part → Type 0) → is_kept next ≡ true → PartsAgree raw other part next → X next → X part
-  moved X is h x = subst X (sym (kept_part is h)) x
+  -- a fact about a part that agrees with itself alone
+  moved : {part next : Part} (X : Part → Type 0) → is_unchanged next ≡ true → PartsAgree raw other part next → X next → X part
+  moved X is h x = subst X (sym (unchanged_part is h)) x
 
   -- ---- expressions, tags and lengths of a part
 
-  expressions_agree : {part next : Part} → PartsAgree raw other part next → (a : RawExpr) → Contains (expressions next) a → Contains (expressions part) a ⊎ IsListLength a
+  expressions_agree : {part next : Part} → PartsAgree raw other part next → (a : RawExpr) → Contains (expressions next) a → Contains (expressions part) a ⊎ IsCountConstant a
   expressions_agree PartsAgree.same a c = inl c
   expressions_agree (declares h) a c = h.right a c
   expressions_agree (begins h) a c = inl c
@@ -175,7 +166,7 @@ module _ (raw other : RawProgram) (like : Resembles raw other) where
   expressions_agree (takes h r) a c = inl c
   expressions_agree (ends h to back) a c = inl c
 
-  lengths_agree : {part next : Part} → PartsAgree raw other part next → (a : RawExpr) → Contains (lengths next) a → Contains (lengths part) a ⊎ IsListLength a
+  lengths_agree : {part next : Part} → PartsAgree raw other part next → (a : RawExpr) → Contains (lengths_of next) a → Contains (lengths_of part) a ⊎ IsCountConstant a
   lengths_agree PartsAgree.same a c = inl c
   lengths_agree (declares h) a c = h.right a c
   lengths_agree (begins h) a c = inl c

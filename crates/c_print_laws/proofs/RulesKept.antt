@@ -1,6 +1,8 @@
 -- What the layout keeps of a text keeps the rules exactly where the text does.
 use Rattle.std.proofs.Common.{◌≡◌, List, [], ◌∷◌, ◌++◌, map, Bool, true, Option, Some, None, refl, sym, ap, subst, ◌∙◌}
 use Rattle.std.proofs.lemmas.Bool.{and_parts}
+use Rattle.std.specs.List.{AllZip}
+use Rattle.c_language.specs.Lists.{all_true}
 use Rattle.c_language.proofs.HeadLemmas.{ends_from, ends_told}
 use Rattle.c_language.specs.HeadTests.{value_layer, returns_value, ends_with_value}
 use Rattle.c_tree.specs.declared.raw.expr.RawVar.{RawVar}
@@ -24,8 +26,8 @@ use Rattle.c_language.specs.Rules.{Breaks, IsBroken, KeepsRules}
 use Rattle.c_language.specs.NameRules.{main_name}
 use Rattle.c_language.specs.CallRules.{EndsWithValue}
 use Rattle.c_text_layout.specs.Settled.{settled_var, settled, settled_member, settled_param, settled_head, settled_item}
-use Rattle.c_text_layout.specs.Declarations.{all_true, declarations_pass, item_passes, items_pass}
-use Rattle.c_print_laws.proofs.Alike.{Pairwise, pair_of, pairwise_append, pairwise_back}
+use Rattle.c_text_layout.specs.Declarations.{declarations_pass, item_passes, items_pass}
+use Rattle.c_print_laws.proofs.Alike.{pair_of, pairwise_append, pairwise_back}
 use Rattle.c_print_laws.proofs.Resembling.{MembersAgree, ParamsAgree, HeadsAgree, heads_back, members_back, Resembles, resembles_back, definitions_agree}
 use Rattle.c_print_laws.proofs.RuleTransfer.{VarsAgree, PartsAgree, vars_same, breaks_moves, there_none}
 use Rattle.c_print_laws.proofs.Settling.{settled_program, settled_resembles, heads_agree, settled_var_agrees}
@@ -84,13 +86,13 @@ module _ (raw other : RawProgram) (like : Resembles raw other) (test : RawVar �
       agree_append raw other like test fine ((scoped raw x).gives scope InBlock) ((scoped other (settled x)).gives scope InBlock) _ _ (a.phrases scope InBlock)
       (subst (λ (z : Scope). Agree (body_phrases raw xs ((scoped raw x).after scope)) (body_phrases other (map settled xs) z)) (a.after scope) (body_agrees xs p.1 ((scoped raw x).after scope)))
 
-  members_at : (scope : Scope) (before others ms : List RawMember) → Pairwise MembersAgree before others → Agree (member_phrases scope before ms) (member_phrases scope others (map settled_member ms))
+  members_at : (scope : Scope) (before others ms : List RawMember) → AllZip MembersAgree before others → Agree (member_phrases scope before ms) (member_phrases scope others (map settled_member ms))
   members_at scope before others [] h = tt
   members_at scope before others (m ∷ ms) h =
       let a : MembersAgree m (settled_member m) = record { name = refl; shape = refl } in
       (record { scope = refl; part = PartsAgree.member h a }, members_at scope (before ++ m ∷ []) (others ++ settled_member m ∷ []) ms (pairwise_append MembersAgree before others (m ∷ []) (settled_member m ∷ []) h (a, tt)))
 
-  taken_at : (scope : Scope) (before others ps : List RawParam) → Pairwise ParamsAgree before others → Agree (taken_phrases scope before ps) (taken_phrases scope others (map settled_param ps))
+  taken_at : (scope : Scope) (before others ps : List RawParam) → AllZip ParamsAgree before others → Agree (taken_phrases scope before ps) (taken_phrases scope others (map settled_param ps))
   taken_at scope before others [] h = tt
   taken_at scope before others (p ∷ ps) h =
       let a : ParamsAgree p (settled_param p) = record { name = refl; shape = refl } in
@@ -170,7 +172,7 @@ parts_back (PartsAgree.takes {before} {others} {p} {q} h r) =
     PartsAgree.takes (pairwise_back ParamsAgree ParamsAgree (λ a b x. record { name = sym x.name; shape = sym x.shape }) before others h) (record { name = sym r.name; shape = sym r.shape })
 parts_back (PartsAgree.ends {h} {k} r to back) = PartsAgree.ends (heads_back h k r) back to
 
-rules_move : (raw other : RawProgram) → Resembles raw other → Pairwise (Meet raw other) (phrases raw) (phrases other) → KeepsRules raw → KeepsRules other
+rules_move : (raw other : RawProgram) → Resembles raw other → AllZip (Meet raw other) (phrases raw) (phrases other) → KeepsRules raw → KeepsRules other
 rules_move raw other like agree keeps n l (IsBroken.by_phrase {p} c b) =
     let x = pair_of (Meet raw other) (phrases raw) (phrases other) p agree c in
     keeps n x.left.line (IsBroken.by_phrase x.stands (breaks_moves raw other like x.left.scope x.related.1 (subst (λ (z : Scope). Breaks other z p.part n) (sym x.related.0) b)))
@@ -178,12 +180,12 @@ rules_move raw other like agree keeps n l (IsBroken.no_main h) =
     keeps 5 1 (IsBroken.no_main (there_none HeadsAgree (definition_of raw main_name) (definition_of other main_name) (definitions_agree raw other like main_name) h))
 
 module _ (raw : RawProgram) (test : RawVar → RawInit → Bool) (fine : Fine test) (pass : items_pass test raw.items ≡ true) where
-  pub settled_meets : Pairwise (Meet raw (settled_program raw)) (phrases raw) (phrases (settled_program raw))
+  pub settled_meets : AllZip (Meet raw (settled_program raw)) (phrases raw) (phrases (settled_program raw))
   settled_meets =
       let like = settled_resembles raw in
       weaker (phrases raw) (phrases (settled_program raw)) (items_agree raw (settled_program raw) like test fine raw.items pass outset)
     where
-      weaker : (ps qs : Phrases) → PhrasesAgree raw (settled_program raw) (settled_resembles raw) test fine ps qs → Pairwise (Meet raw (settled_program raw)) ps qs
+      weaker : (ps qs : Phrases) → PhrasesAgree raw (settled_program raw) (settled_resembles raw) test fine ps qs → AllZip (Meet raw (settled_program raw)) ps qs
       weaker [] [] h = tt
       weaker [] (q ∷ qs) h = absurd h
       weaker (p ∷ ps) [] h = absurd h

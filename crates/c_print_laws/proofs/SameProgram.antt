@@ -3,6 +3,8 @@ use Rattle.std.proofs.Common.{◌≡◌, ℕ, ◌+◌, List, [], ◌∷◌, ◌+
 use Rattle.std.specs.Prelude.{option_map, option_and_then, is_some, if◌then◌else◌}
 use Rattle.std.proofs.lemmas.List.{map-append}
 use Rattle.std.proofs.lemmas.Bool.{and_parts}
+use Rattle.std.specs.List.{AllZip}
+use Rattle.c_language.specs.Lists.{all_true}
 use Rattle.c_tree.specs.declared.types.CType.{CType}
 use Rattle.c_tree.specs.declared.program.Program.{Program}
 use Rattle.c_tree.specs.declared.program.Function.{Function}
@@ -30,19 +32,16 @@ use Rattle.c_language.specs.Scopes.{Scope, outset, entered, in_order, with_varia
 use Rattle.c_language.specs.Phrases.{Stand, Part, NamesStruct, DefinesStruct, HasMember, DeclaresFunction, Takes, EndsFunction, Declares, Begins, Assigns, Bumps, Calls, Allocates, Tests, Switches, Returns, Phrases, phrases, after_item, after_items, scope_at_end}
 use Rattle.c_language.specs.ProgramOf.{collected, optional, ctype, ctype_with, ctype_if, init_of, treed, body_of, is_static_stand, is_parameter_stand, variable_of, declared_by, variables_in, variables_of, member_tree, struct_tree, structs_of, parameter_ids, function_tree, functions_from, functions_of, item_tree, items_from, items_of, program_with, program_of}
 use Rattle.c_text_layout.specs.Settled.{settled_var, settled, settled_param, settled_head, settled_item}
-use Rattle.c_text_layout.specs.Declarations.{all_true, declarations_pass, item_passes, items_pass}
-use Rattle.c_print_laws.proofs.Options.{map_there}
-use Rattle.c_print_laws.proofs.Alike.{Pairwise, pairwise_map}
+use Rattle.c_text_layout.specs.Declarations.{declarations_pass, item_passes, items_pass}
+use Rattle.c_language.proofs.Options.{map_there}
+use Rattle.c_language.proofs.OptionMaps.{map_twice, map_both, map_then, both_mapped, then_mapped, collected_map}
+use Rattle.c_print_laws.proofs.Alike.{pairwise_map}
 use Rattle.c_print_laws.proofs.Resembling.{MembersAgree, StructsAgree, Resembles, struct_ids, function_ids, ctypes_same}
 use Rattle.c_print_laws.proofs.RuleTransfer.{VarsAgree, PartsAgree, vars_same}
 use Rattle.c_print_laws.proofs.Settling.{settled_program, settled_resembles, settled_var_agrees}
 use Rattle.c_print_laws.proofs.PhraseAgreement.{Fine, variable_same}
 use Rattle.c_print_laws.proofs.RulesKept.{item_after, entered_same, Meet, settled_meets}
-use Rattle.c_print_laws.proofs.SameTrees.{map_twice, map_both, map_then, both_mapped, collected_map, inits_same, bodies_same}
-
-then_mapped : {A B C : Type 0} (h : B → Option C) (f : A → B) (o : Option A) → option_and_then (λ x. h (f x)) o ≡ option_and_then h (option_map f o)
-then_mapped h f None = refl
-then_mapped h f (Some a) = refl
+use Rattle.c_print_laws.proofs.SameTrees.{inits_same, bodies_same}
 
 -- ---- variables
 
@@ -90,7 +89,7 @@ module _ (raw other : RawProgram) (like : Resembles raw other) where
   part_declares l m scope (PartsAgree.takes h r) = refl
   part_declares l m scope (PartsAgree.ends h to back) = refl
 
-  variables_same : (ps qs : Phrases) → Pairwise (Meet raw other) ps qs → bare_vars (variables_in raw ps) ≡ bare_vars (variables_in other qs)
+  variables_same : (ps qs : Phrases) → AllZip (Meet raw other) ps qs → bare_vars (variables_in raw ps) ≡ bare_vars (variables_in other qs)
   variables_same [] [] h = refl
   variables_same [] (q ∷ qs) h = absurd h
   variables_same (p ∷ ps) [] h = absurd h

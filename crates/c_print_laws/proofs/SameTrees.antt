@@ -2,6 +2,7 @@
 use Rattle.std.proofs.Common.{◌≡◌, ℕ, ◌&&◌, List, [], ◌∷◌, map, Bool, true, false, Option, Some, None, codes, refl, sym, ap, ap₂, ◌∙◌}
 use Rattle.std.specs.Prelude.{option_map, option_and_then, if◌then◌else◌, bytes_eq, ℤ}
 use Rattle.std.proofs.lemmas.Bool.{and_parts}
+use Rattle.c_language.specs.Lists.{all_true}
 use Rattle.c_arith.specs.declared.int_type.IntType.{IntType}
 use Rattle.c_arith.specs.IntType.{convert, promote}
 use Rattle.c_tree.specs.declared.types.CType.{CType}
@@ -51,50 +52,16 @@ use Rattle.c_language.specs.CallRules.{only_arg, later_args, format_in}
 use Rattle.c_language.specs.ProgramOf.{collected, optional, ctype_if, expr_of, exprs_of, init_of, declaration_id, target_tree, arg_tree, args_tree, only_tree, print_tree, invoke_tree, call_tree, size_tree, amount_tree, heap_tree, label_tree, arm_tree, ArmTree, arm_tree_step, block_tree, at_type, switch_type, part_tree, for_tree, treed_step, treed, treed_arm}
 use Rattle.c_text_layout.specs.Settled.{settled_var, settled}
 use Rattle.c_text_layout.proofs.RawStatementLemmas.{settled_arm}
-use Rattle.c_text_layout.specs.Declarations.{all_true, declares_step, arm_declares, declarations_pass}
+use Rattle.c_text_layout.specs.Declarations.{declares_step, arm_declares, declarations_pass}
 use Rattle.c_text_layout.proofs.DeclarationLemmas.{arm_passes}
 use Rattle.c_print_laws.proofs.Scoping.{statement_scoped, arm_scoped}
 use Rattle.c_language.proofs.Lists.{maps_same}
+use Rattle.c_language.proofs.OptionMaps.{map_twice, map_both, map_then, then_pointwise, both_mapped, map_mapped, then_mapped, collected_map}
 use Rattle.c_print_laws.proofs.Resembling.{Resembles, function_ids, ctypes_same, operands_same, exprs_same}
 use Rattle.c_print_laws.proofs.Settling.{settled_var_agrees}
 use Rattle.c_print_laws.proofs.PhraseAgreement.{Fine, kept_layer, settled_layer, settled_arm_layer, variable_same, target_same, statement_agrees, arm_agrees_kept}
 
--- ---- options and lists
-
-pub map_twice : {A B C : Type 0} (f : B → C) (g : A → B) (h : A → C) → ((a : A) → f (g a) ≡ h a) → (o : Option A) → option_map f (option_map g o) ≡ option_map h o
-map_twice f g h same None = refl
-map_twice f g h same (Some a) = ap Some (same a)
-
-pub map_both : {A B C D : Type 0} (f : C → D) (g : A → B → C) (h : A → B → D) → ((a : A) (b : B) → f (g a b) ≡ h a b) → (x : Option A) (y : Option B) → option_map f (both g x y) ≡ both h x y
-map_both f g h same None y = refl
-map_both f g h same (Some a) None = refl
-map_both f g h same (Some a) (Some b) = ap Some (same a b)
-
-pub map_then : {A B C : Type 0} (f : B → C) (g : A → Option B) (h : A → Option C) → ((a : A) → option_map f (g a) ≡ h a) → (o : Option A) → option_map f (option_and_then g o) ≡ option_and_then h o
-map_then f g h same None = refl
-map_then f g h same (Some a) = same a
-
-then_same : {A B : Type 0} (g h : A → Option B) → ((a : A) → g a ≡ h a) → (o : Option A) → option_and_then g o ≡ option_and_then h o
-then_same g h same None = refl
-then_same g h same (Some a) = same a
-
-pub both_mapped : {A B C D E : Type 0} (g : D → E → C) (f : A → D) (k : B → E) (x : Option A) (y : Option B) → both (λ a b. g (f a) (k b)) x y ≡ both g (option_map f x) (option_map k y)
-both_mapped g f k None y = refl
-both_mapped g f k (Some a) None = refl
-both_mapped g f k (Some a) (Some b) = refl
-
-map_mapped : {A B C : Type 0} (g : B → C) (f : A → B) (x : Option A) → option_map (λ a. g (f a)) x ≡ option_map g (option_map f x)
-map_mapped g f None = refl
-map_mapped g f (Some a) = refl
-
-pub collected_map : {A B : Type 0} (f : A → B) (os : List (Option A)) → option_map (map f) (collected os) ≡ collected (map (option_map f) os)
-collected_map f [] = refl
-collected_map f (None ∷ os) = refl
-collected_map f (Some x ∷ os) = cons_map (collected os) ∙ ap (option_map (λ ys. f x ∷ ys)) (collected_map f os)
-  where
-    cons_map : (o : Option (List _)) → option_map (map f) (option_map (λ ys. x ∷ ys) o) ≡ option_map (λ ys. f x ∷ ys) (option_map (map f) o)
-    cons_map None = refl
-    cons_map (Some ys) = refl
+-- ---- options
 
 if_mapped : {A B : Type 0} (f : A → B) (b : Bool) (x y z w : Option A) → option_map f x ≡ option_map f z → option_map f y ≡ option_map f w → option_map f (if b then x else y) ≡ option_map f (if b then z else w)
 if_mapped f true x y z w h k = h
@@ -131,7 +98,7 @@ module _ (raw other : RawProgram) (like : Resembles raw other) where
   args_same scope all = ap collected (maps_same (arg_tree raw scope) (arg_tree other scope) (arg_same scope) all)
 
   only_same : (scope : Scope) (all : List RawArg) → only_tree raw scope all ≡ only_tree other scope all
-  only_same scope all = then_same (expr_of raw scope) (expr_of other scope) (exprs_same raw other like scope) (only_arg all)
+  only_same scope all = then_pointwise (expr_of raw scope) (expr_of other scope) (exprs_same raw other like scope) (only_arg all)
 
   size_same : (scope : Scope) (m : RawSize) → size_tree raw scope m ≡ size_tree other scope m
   size_same scope (size.Type t) = ap (option_map measure.Type) (ctypes_same raw other like 0 (named_type t))
@@ -212,10 +179,6 @@ module _ (raw other : RawProgram) (like : Resembles raw other) where
 
   abbrev bare_part : Option (Option Statement) → Option (Option Statement)
   bare_part o = option_map (option_map unlined) o
-
-  pub then_mapped : {A B C : Type 0} (h : B → Option C) (f : A → B) (o : Option A) → option_and_then (λ x. h (f x)) o ≡ option_and_then h (option_map f o)
-  then_mapped h f None = refl
-  then_mapped h f (Some a) = refl
 
   for_line : (n l : ℕ) (i : Option (Option Statement)) (a : Option Expr) (step : Option (Option Statement)) (b : Option (List Statement)) → bare_line (for_tree n l i a step b) ≡ for_tree n 0 (bare_part i) a (bare_part step) (bare_lines b)
   for_line n l i a step b =
@@ -408,7 +371,7 @@ module _ (raw other : RawProgram) (like : Resembles raw other) where
         let second = λ (t : IntType). at_type t (in_order (map (treed_arm other) (map settled_arm (bare_arms arms))) (opened (numbered scope))) in
         switch_line n l (expr_of raw scope a) (switch_type raw scope a) first
         ∙ ap₂ (λ (e : Option Expr) (t : Option IntType). option_and_then (λ (x : Expr). option_and_then (λ (t : IntType). option_map (s.Switch n 0 x) (option_map (map unlined_of_arm) (first t))) t) e) (exprs_same raw other like scope a) (switch_same scope a)
-        ∙ then_same _ _ (λ x. then_same _ _ (λ t. ap (option_map (s.Switch n 0 x)) (arms_same arms h (opened (numbered scope)) t)) (switch_type other scope a)) (expr_of other scope a)
+        ∙ then_pointwise _ _ (λ x. then_pointwise _ _ (λ t. ap (option_map (s.Switch n 0 x)) (arms_same arms h (opened (numbered scope)) t)) (switch_type other scope a)) (expr_of other scope a)
         ∙ sym (switch_line n 0 (expr_of other scope a) (switch_type other scope a) second)
     layer_same (RawStatement-F.Block l b) h scope = block_line l (block_tree (first_list b) scope) ∙ ap (option_map (s.Block 0)) (blocks_same b h scope scope refl) ∙ sym (block_line 0 (block_tree (second_list b) scope))
     layer_same (RawStatement-F.Return l a) h scope =

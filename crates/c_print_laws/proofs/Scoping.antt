@@ -4,7 +4,6 @@ use Rattle.c_tree.specs.declared.program.Var.{Var}
 use Rattle.c_tree.specs.declared.statement.Statement.{Statement}
 use Rattle.c_tree.specs.declared.raw.expr.RawVar.{RawVar}
 use Rattle.c_tree.specs.declared.raw.program.RawInit.{RawInit}
-use Rattle.c_tree.specs.declared.raw.program.RawInit.TheVariants as init
 use Rattle.c_tree.specs.declared.raw.program.RawProgram.{RawProgram}
 use Rattle.c_tree.specs.declared.raw.statement.RawTarget.{RawTarget}
 use Rattle.c_tree.specs.declared.raw.statement.RawTarget.TheVariants as target
@@ -15,7 +14,7 @@ use Rattle.c_tree.proofs.RawTrees.{StatementParts, statement_layer, ArmParts, ar
 use Rattle.c_language.specs.Scopes.{Scope, Scoped, with_variable, with_target, opened, closed, numbered, begun, in_order, after_all, after_block, part_gives, after_part, scope_of_test, scope_of_body}
 use Rattle.c_language.specs.Phrases.{Stand, InBlock, InArm, InFor, Part, Phrases, phrase, declaration, begun_phrases, target_phrases, joined_at, block_phrases, at_stand, ArmText, phrases_of_arms, Tests, phrases_step, scoped_step, scoped_arm, scoped, scoped_of_arm}
 use Rattle.c_language.specs.ProgramOf.{ArmTree, treed_step, arm_tree_step, treed, declared_by, variables_in, treed_arm}
-use Rattle.c_language.proofs.PhraseLists.{variables-append}
+use Rattle.c_language.proofs.PhraseLists.{variables-append, begun_nothing}
 use Rattle.c_language.proofs.ScopeNumbers.{begun_variables}
 
 module _ (raw : RawProgram) where
@@ -24,11 +23,6 @@ module _ (raw : RawProgram) where
 
   pub count_append : (ps qs : Phrases) → declared_count (ps ++ qs) ≡ declared_count ps + declared_count qs
   count_append ps qs = ap length (variables-append raw ps qs) ∙ length-append (variables_in raw ps) (variables_in raw qs)
-
-  pub begun_count : (l : ℕ) (scope : Scope) (stand : Stand) (var : RawVar) (i : RawInit) → variables_in raw (begun_phrases l scope stand var i) ≡ []
-  begun_count l scope stand var init.None = refl
-  begun_count l scope stand var (init.One a) = refl
-  begun_count l scope stand var (init.Items all) = refl
 
   pub target_count : (l : ℕ) (scope : Scope) (stand : Stand) (to : RawTarget) → scope.variables + declared_count (target_phrases raw l scope stand to) ≡ (with_target raw to scope).variables
   target_count l scope stand target.None = omega arith
@@ -106,7 +100,7 @@ module _ (raw : RawProgram) where
 
   declare_count : (l : ℕ) (var : RawVar) (i : RawInit) (scope : Scope) (stand : Stand) → scope.variables + declared_count (declaration raw l scope stand var i) ≡ (begun i (with_variable raw var i scope)).variables
   declare_count l var i scope stand =
-      let a : declared_count (begun_phrases l (with_variable raw var i scope) stand var i) ≡ 0 = ap length (begun_count l (with_variable raw var i scope) stand var i) in
+      let a : declared_count (begun_phrases l (with_variable raw var i scope) stand var i) ≡ 0 = ap length (begun_nothing raw l (with_variable raw var i scope) stand var i) in
       let b : (begun i (with_variable raw var i scope)).variables ≡ scope.variables + 1 = begun_variables i (with_variable raw var i scope) in
       omega (arith, a, b)
 

@@ -2,8 +2,10 @@
 use Rattle.std.proofs.Common.{◌≡◌, ℕ, zero, suc, pred, ◌<◌, ◌&&◌, ◌||◌, List, [], ◌∷◌, ◌++◌, map, Bool, true, false, not, Option, Some, pos, decimal, refl, sym, ap, ap₂, subst, ◌∙◌, arith, ◌⊎◌, inl, inr}
 use Rattle.std.specs.Prelude.{Contains, nat_lt, option_map, option_and_then, if◌then◌else◌}
 use Rattle.std.proofs.lemmas.Bool.Decides.{nat_tests}
-use Rattle.std.specs.List.{list_any}
+use Rattle.std.specs.List.{list_any, AllZip}
 use Rattle.std.proofs.lemmas.Bool.{and_parts}
+use Rattle.std.proofs.lemmas.List.Elements.{Contains-append_cases, Contains-append_left, Contains-append_right}
+use Rattle.c_language.proofs.LayerForms.{type-roll, ctype-roll}
 use Rattle.c_tree.specs.declared.types.CType.{CType}
 use Rattle.c_tree.specs.declared.types.CType.TheVariants as t
 use Rattle.c_tree.specs.declared.raw.expr.RawExpr.{RawExpr, fold-roll-RawExpr}
@@ -26,8 +28,9 @@ use Rattle.c_language.specs.Words.{Bytes}
 use Rattle.c_language.specs.TypeGrammar.{is_empty_length, is_written, written_step}
 use Rattle.c_language.specs.ProgramOf.{length_words, ctype_step, ctype_with}
 use Rattle.c_language.specs.ConstantEvaluation.{both, constant, constant_step, value_of_constant, literal_value}
+use Rattle.c_language.specs.CountConstants.{IsCountConstant, LengthsAmong}
 use Rattle.c_language.specs.declared.constant.Constant.{Constant}
-use Rattle.c_language.specs.DeclaredTypes.{structs_of, functions_of, positive, length_in, with_layer, type_step, type_with, item_count, is_include}
+use Rattle.c_language.specs.DeclaredTypes.{struct_texts, function_texts, positive, length_in, with_layer, type_step, type_with, item_count, is_include}
 use Rattle.c_language.specs.Uses.{written_lengths, lengths_step, lengths_in, tags_step, tags_in}
 use Rattle.c_language.specs.declared.expr_type.Layer.TheVariants.{Array}
 use Rattle.c_language.specs.declared.expr_type.ExprType.{ExprType}
@@ -35,9 +38,9 @@ use Rattle.c_text_layout.specs.Settled.{settled_length, settled_type_step, settl
 use Rattle.c_text_layout.proofs.DecimalPrint.{decimal_literal}
 use Rattle.c_language.proofs.RawWordLemmas.{raw_words-Constant}
 use Rattle.c_language.proofs.ConstantLemmas.{counted_positive}
-use Rattle.c_print_laws.proofs.Alike.{Pairwise, pairwise_of}
+use Rattle.c_print_laws.proofs.Alike.{pairwise_of}
 use Rattle.c_print_laws.proofs.Resembling.{MembersAgree, StructsAgree, ParamsAgree, HeadsAgree, Resembles, types_same, ctypes_same}
-use Rattle.c_print_laws.proofs.RuleTransfer.{IsListLength, LengthsIn, VarsAgree}
+use Rattle.c_print_laws.proofs.RuleTransfer.{VarsAgree}
 use Rattle.c_language.proofs.Tests.{false_true, by_answer}
 
 -- what the layout keeps of a text
@@ -49,10 +52,10 @@ settled_program raw = record { items = map settled_item raw.items }
 pub heads_agree : (h : RawHead) → HeadsAgree h (settled_head h)
 heads_agree h = record { name = refl; result = refl; params = pairwise_of ParamsAgree settled_param (λ p. record { name = refl; shape = refl }) h.params }
 
-pub members_agree : (ms : List RawMember) → Pairwise MembersAgree ms (map settled_member ms)
+pub members_agree : (ms : List RawMember) → AllZip MembersAgree ms (map settled_member ms)
 members_agree ms = pairwise_of MembersAgree settled_member (λ m. record { name = refl; shape = refl }) ms
 
-structs_agree : (xs : List RawItem) → Pairwise StructsAgree (structs_of xs) (structs_of (map settled_item xs))
+structs_agree : (xs : List RawItem) → AllZip StructsAgree (struct_texts xs) (struct_texts (map settled_item xs))
 structs_agree [] = tt
 structs_agree (Include is_stdlib ∷ xs) = structs_agree xs
 structs_agree (Tag l w ∷ xs) = structs_agree xs
@@ -61,7 +64,7 @@ structs_agree (Global l v i is_static ∷ xs) = structs_agree xs
 structs_agree (Prototype l h ∷ xs) = structs_agree xs
 structs_agree (Define l h body ∷ xs) = structs_agree xs
 
-functions_agree : (xs : List RawItem) → Pairwise HeadsAgree (functions_of xs) (functions_of (map settled_item xs))
+functions_agree : (xs : List RawItem) → AllZip HeadsAgree (function_texts xs) (function_texts (map settled_item xs))
 functions_agree [] = tt
 functions_agree (Include is_stdlib ∷ xs) = functions_agree xs
 functions_agree (Tag l w ∷ xs) = functions_agree xs
@@ -128,28 +131,25 @@ module _ (items : ℕ) where
     abbrev IsSettled : RawType → Type 0
     IsSettled a = IsCounted (is_written a) → type_with raw items (settled_type items a) ≡ type_with raw items a
 
-    type_rolled : (y : RawType-F RawType) → type_with raw items (roll-RawType y) ≡ type_step raw items (map-RawType RawType (Option ExprType) (type_with raw items) y)
-    type_rolled y = fold-roll-RawType (Option ExprType) (type_step raw items) y
-
     settled_rolled : (y : RawType-F RawType) → settled_type items (roll-RawType y) ≡ settled_type_step items (map-RawType RawType RawType (settled_type items) y)
     settled_rolled y = fold-roll-RawType RawType (settled_type_step items) y
 
     settled_layer : (y : TypeParts IsSettled) → IsCounted (written_step (map-RawType RawType Bool is_written (type_layer IsSettled y)))
         → type_with raw items (settled_type_step items (map-RawType RawType RawType (settled_type items) (type_layer IsSettled y))) ≡ type_step raw items (map-RawType RawType (Option ExprType) (type_with raw items) (type_layer IsSettled y))
-    settled_layer (RawType-F.Integer i) h = ap (type_with raw items) (sym (type.rolls-Integer i)) ∙ type_rolled (RawType-F.Integer i)
+    settled_layer (RawType-F.Integer i) h = ap (type_with raw items) (sym (type.rolls-Integer i)) ∙ type-roll raw items (RawType-F.Integer i)
     settled_layer (RawType-F.PointerTo a) h =
-        ap (type_with raw items) (sym (type.rolls-PointerTo (settled_type items a.0))) ∙ type_rolled (RawType-F.PointerTo (settled_type items a.0)) ∙ ap (λ (x : Option ExprType). type_step raw items (RawType-F.PointerTo x)) (a.1 h)
+        ap (type_with raw items) (sym (type.rolls-PointerTo (settled_type items a.0))) ∙ type-roll raw items (RawType-F.PointerTo (settled_type items a.0)) ∙ ap (λ (x : Option ExprType). type_step raw items (RawType-F.PointerTo x)) (a.1 h)
     settled_layer (RawType-F.Array a n) h =
         let k = both_counted (not (is_empty_length n)) (is_written a.0) h in
-        ap (type_with raw items) (sym (type.rolls-Array (settled_type items a.0) (settled_length items n))) ∙ type_rolled (RawType-F.Array (settled_type items a.0) (settled_length items n))
+        ap (type_with raw items) (sym (type.rolls-Array (settled_type items a.0) (settled_length items n))) ∙ type-roll raw items (RawType-F.Array (settled_type items a.0) (settled_length items n))
         ∙ ap₂ (λ (x : Option ExprType) (m : Option ℕ). option_and_then (λ (t : ExprType). option_map (λ (k : ℕ). with_layer (Array k) t) m) x) (a.1 k.1) (settled_length_same n k.0)
-    settled_layer (RawType-F.Struct w) h = ap (type_with raw items) (sym (type.rolls-Struct w)) ∙ type_rolled (RawType-F.Struct w)
+    settled_layer (RawType-F.Struct w) h = ap (type_with raw items) (sym (type.rolls-Struct w)) ∙ type-roll raw items (RawType-F.Struct w)
 
     pub settled_type_same : (a : RawType) → IsCounted (is_written a) → type_with raw items (settled_type items a) ≡ type_with raw items a
     settled_type_same = of_every_type IsSettled (λ y h.
         ap (type_with raw items) (settled_rolled (type_layer IsSettled y))
         ∙ settled_layer y (subst IsCounted (fold-roll-RawType Bool written_step (type_layer IsSettled y)) h)
-        ∙ sym (type_rolled (type_layer IsSettled y)))
+        ∙ sym (type-roll raw items (type_layer IsSettled y)))
 
     -- ---- in the program
 
@@ -160,26 +160,23 @@ module _ (items : ℕ) where
     abbrev IsSameTree : RawType → Type 0
     IsSameTree a = IsCounted (is_written a) → ctype_with raw items (settled_type items a) ≡ ctype_with raw items a
 
-    tree_rolled : (y : RawType-F RawType) → ctype_with raw items (roll-RawType y) ≡ ctype_step raw items (map-RawType RawType (Option CType) (ctype_with raw items) y)
-    tree_rolled y = fold-roll-RawType (Option CType) (ctype_step raw items) y
-
     tree_layer : (y : TypeParts IsSameTree) → IsCounted (written_step (map-RawType RawType Bool is_written (type_layer IsSameTree y)))
         → ctype_with raw items (settled_type_step items (map-RawType RawType RawType (settled_type items) (type_layer IsSameTree y))) ≡ ctype_step raw items (map-RawType RawType (Option CType) (ctype_with raw items) (type_layer IsSameTree y))
-    tree_layer (RawType-F.Integer i) h = ap (ctype_with raw items) (sym (type.rolls-Integer i)) ∙ tree_rolled (RawType-F.Integer i)
+    tree_layer (RawType-F.Integer i) h = ap (ctype_with raw items) (sym (type.rolls-Integer i)) ∙ ctype-roll raw items (RawType-F.Integer i)
     tree_layer (RawType-F.PointerTo a) h =
-        ap (ctype_with raw items) (sym (type.rolls-PointerTo (settled_type items a.0))) ∙ tree_rolled (RawType-F.PointerTo (settled_type items a.0)) ∙ ap (option_map t.PointerTo) (a.1 h)
+        ap (ctype_with raw items) (sym (type.rolls-PointerTo (settled_type items a.0))) ∙ ctype-roll raw items (RawType-F.PointerTo (settled_type items a.0)) ∙ ap (option_map t.PointerTo) (a.1 h)
     tree_layer (RawType-F.Array a n) h =
         let k = both_counted (not (is_empty_length n)) (is_written a.0) h in
-        ap (ctype_with raw items) (sym (type.rolls-Array (settled_type items a.0) (settled_length items n))) ∙ tree_rolled (RawType-F.Array (settled_type items a.0) (settled_length items n))
+        ap (ctype_with raw items) (sym (type.rolls-Array (settled_type items a.0) (settled_length items n))) ∙ ctype-roll raw items (RawType-F.Array (settled_type items a.0) (settled_length items n))
         ∙ ap (λ (w : Bytes). both (λ (b : CType) (k : ℕ). t.Array b k w) (ctype_with raw items (settled_type items a.0)) (length_in items (settled_length items n))) (words_same n)
         ∙ ap₂ (λ (x : Option CType) (m : Option ℕ). both (λ (b : CType) (k : ℕ). t.Array b k (length_words items n)) x m) (a.1 k.1) (settled_length_same n k.0)
-    tree_layer (RawType-F.Struct w) h = ap (ctype_with raw items) (sym (type.rolls-Struct w)) ∙ tree_rolled (RawType-F.Struct w)
+    tree_layer (RawType-F.Struct w) h = ap (ctype_with raw items) (sym (type.rolls-Struct w)) ∙ ctype-roll raw items (RawType-F.Struct w)
 
     pub settled_tree_same : (a : RawType) → IsCounted (is_written a) → ctype_with raw items (settled_type items a) ≡ ctype_with raw items a
     settled_tree_same = of_every_type IsSameTree (λ y h.
         ap (ctype_with raw items) (settled_rolled (type_layer IsSameTree y))
         ∙ tree_layer y (subst IsCounted (fold-roll-RawType Bool written_step (type_layer IsSameTree y)) h)
-        ∙ sym (tree_rolled (type_layer IsSameTree y)))
+        ∙ sym (ctype-roll raw items (type_layer IsSameTree y)))
 
   -- ---- tags
 
@@ -201,33 +198,16 @@ module _ (items : ℕ) where
 
   -- the written lengths of the first, and at most lengths that the list gives
   pub record SameLengths (some all : List RawExpr) : Type 0 where
-    pub left : LengthsIn some all
-    pub right : LengthsIn all some
+    pub left : LengthsAmong some all
+    pub right : LengthsAmong all some
 
-  contains_part : (xs ys : List RawExpr) (a : RawExpr) → Contains (xs ++ ys) a → Contains xs a ⊎ Contains ys a
-  contains_part [] ys a c = inr c
-  contains_part (x ∷ xs) ys a (zero, within, is) = inl (0, omega arith, is)
-  contains_part (x ∷ xs) ys a (suc k, within, is) = elim (contains_part xs ys a (k, omega (arith, within), is)) [
-    | inl (m, b, at) ↦ inl (suc m, omega (arith, b), at)
-    | inr c ↦ inr c
+  append_lengths : (xs ys zs ws : List RawExpr) → LengthsAmong xs ys → LengthsAmong zs ws → LengthsAmong (xs ++ zs) (ys ++ ws)
+  append_lengths xs ys zs ws h k a c = elim (Contains-append_cases xs zs a c) [
+    | inl d ↦ elim (h a d) [ inl x ↦ inl (Contains-append_left ys ws a x) | inr x ↦ inr x ]
+    | inr d ↦ elim (k a d) [ inl x ↦ inl (Contains-append_right ys ws a x) | inr x ↦ inr x ]
   ]
 
-  contains_left : (xs ys : List RawExpr) (a : RawExpr) → Contains xs a → Contains (xs ++ ys) a
-  contains_left [] ys a (k, within, is) = absurd (omega (arith, within))
-  contains_left (x ∷ xs) ys a (zero, within, is) = (0, omega arith, is)
-  contains_left (x ∷ xs) ys a (suc k, within, is) = let c = contains_left xs ys a (k, omega (arith, within), is) in (suc c.0, omega (arith, c.1), c.2)
-
-  contains_right : (xs ys : List RawExpr) (a : RawExpr) → Contains ys a → Contains (xs ++ ys) a
-  contains_right [] ys a c = c
-  contains_right (x ∷ xs) ys a c = let d = contains_right xs ys a c in (suc d.0, omega (arith, d.1), d.2)
-
-  append_lengths : (xs ys zs ws : List RawExpr) → LengthsIn xs ys → LengthsIn zs ws → LengthsIn (xs ++ zs) (ys ++ ws)
-  append_lengths xs ys zs ws h k a c = elim (contains_part xs zs a c) [
-    | inl d ↦ elim (h a d) [ inl x ↦ inl (contains_left ys ws a x) | inr x ↦ inr x ]
-    | inr d ↦ elim (k a d) [ inl x ↦ inl (contains_right ys ws a x) | inr x ↦ inr x ]
-  ]
-
-  list_length : CanCount items → nat_lt items 4294967296 ≡ true → IsListLength (e.Constant (decimal items))
+  list_length : CanCount items → nat_lt items 4294967296 ≡ true → IsCountConstant (e.Constant (decimal items))
   list_length h few = record { text = decimal items; is = refl; less = pred items; value = counted_value items h few ∙ ap (λ (n : ℕ). Some (pos n)) (omega (arith, h)) }
 
   length_lists : (n : RawLength) → IsCounted (not (is_empty_length n)) → SameLengths (written_lengths n) (written_lengths (settled_length items n))
@@ -239,11 +219,11 @@ module _ (items : ℕ) where
       one_member x y (zero, within, is) = is
       one_member x y (suc k, within, is) = absurd (omega (arith, within))
 
-      by_test : (t : Bool) → nat_lt items 4294967296 ≡ t → (b : RawExpr) → Contains (written_lengths (if t then Written (e.Constant (decimal items)) else Listed)) b → IsListLength b
-      by_test true few b c = subst IsListLength (one_member (e.Constant (decimal items)) b c) (list_length h few)
+      by_test : (t : Bool) → nat_lt items 4294967296 ≡ t → (b : RawExpr) → Contains (written_lengths (if t then Written (e.Constant (decimal items)) else Listed)) b → IsCountConstant b
+      by_test true few b c = subst IsCountConstant (one_member (e.Constant (decimal items)) b c) (list_length h few)
       by_test false many b c = absurd (omega (arith, c.1))
 
-      by_length : (b : RawExpr) → Contains (written_lengths (settled_length items Listed)) b → IsListLength b
+      by_length : (b : RawExpr) → Contains (written_lengths (settled_length items Listed)) b → IsCountConstant b
       by_length = by_test (nat_lt items 4294967296) refl
 
   abbrev HasLengths : RawType → Type 0

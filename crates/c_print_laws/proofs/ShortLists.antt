@@ -1,6 +1,8 @@
 -- A text that keeps the rules, and whose program has no array longer than the limit, has short lists of initialisers.
 use Rattle.std.proofs.Common.{◌≡◌, ℕ, ◌+◌, ◌<◌, ◌≤◌, ◌&&◌, List, [], ◌∷◌, ◌++◌, length, map, Bool, true, Option, Some, None, refl, sym, ap, subst, ◌∙◌, arith, slice_get}
 use Rattle.std.proofs.lemmas.Bool.Decides.{nat_tests}
+use Rattle.std.proofs.lemmas.Bool.{and_from}
+use Rattle.c_language.proofs.PhraseLists.{phrases_kept}
 use Rattle.c_tree.specs.declared.types.CType.{CType}
 use Rattle.c_tree.specs.declared.program.Program.{Program}
 use Rattle.c_tree.specs.declared.program.Var.{Var}
@@ -21,13 +23,13 @@ use Rattle.c_language.specs.Rules.{Breaks, KeepsRules, AreKept}
 use Rattle.c_language.specs.Scopes.{Scope, Scoped, outset, with_variable, scope_of_parameters, entered, opened, numbered, in_order, after_block, part_gives, scope_of_test, scope_of_body}
 use Rattle.c_language.specs.Phrases.{Stand, InBlock, InArm, InFor, InFile, Part, Phrases, phrase, NamesStruct, DefinesStruct, HasMember, DeclaresFunction, Takes, EndsFunction, Declares, Begins, Assigns, Bumps, Calls, Allocates, Tests, Switches, Returns, declaration, joined_at, block_phrases, at_stand, ArmText, phrases_of_arms, phrases_step, scoped_step, scoped_arm, scoped, scoped_of_arm, body_phrases, head_phrases, item_phrases, after_item, items_phrases, phrases}
 use Rattle.c_language.specs.ProgramOf.{ctype_with, declared_by, variables_in, program_of}
-use Rattle.c_text_layout.specs.Declarations.{all_true, declares_step, arm_declares, declarations_pass, item_passes, items_pass, is_short, HasShortLists}
-use Rattle.c_text_layout.proofs.DeclarationLemmas.{arm_passes, list_passes, both_true}
-use Rattle.c_print_laws.proofs.Options.{map_there}
+use Rattle.c_text_layout.specs.Declarations.{declares_step, arm_declares, declarations_pass, item_passes, items_pass, is_short, HasShortLists}
+use Rattle.c_text_layout.proofs.DeclarationLemmas.{arm_passes, list_passes}
+use Rattle.c_language.proofs.Options.{map_there}
 use Rattle.c_print_laws.proofs.Counted.{variable_long, items_within}
 use Rattle.c_print_laws.proofs.Definitions.{program_parts}
-use Rattle.c_print_laws.proofs.Told.{AllStand, stand_all, stand_rest, phrases_kept}
-use Rattle.c_language.specs.Lists.{if_there}
+use Rattle.c_print_laws.proofs.Told.{AllStand, stand_all, stand_rest}
+use Rattle.c_language.specs.Lists.{if_there, all_true}
 
 module _ (raw : RawProgram) where
   -- a declared variable has a type, without long arrays
@@ -90,7 +92,7 @@ module _ (raw : RawProgram) where
       let next = (scoped raw x.0).after scope in
       let one = (scoped raw x.0).gives scope stand in
       let rest = joined_at stand (in_order (map (scoped raw) (bare xs)) next) in
-      both_true is_short (x.1 scope stand (known_first one rest h)) (all_short xs next stand (known_rest one rest h))
+      and_from _ _ (x.1 scope stand (known_first one rest h)) (all_short xs next stand (known_rest one rest h))
 
   block_short : (xs : Statements) (scope : Scope) → AreKnown (block_phrases (map (scoped raw) (bare xs)) scope) → list_passes is_short (bare xs) ≡ true
   block_short xs scope h = all_short xs (opened scope) InBlock h
@@ -101,7 +103,7 @@ module _ (raw : RawProgram) where
       let next = (scoped_of_arm raw x.0).after scope in
       let one = ((scoped_of_arm raw x.0).gives scope).phrases in
       let rest = phrases_of_arms (in_order (map (scoped_of_arm raw) (bare_arms xs)) next) in
-      both_true is_short (x.1 scope (known_first one rest h)) (arms_short xs next (known_rest one rest h))
+      and_from _ _ (x.1 scope (known_first one rest h)) (arms_short xs next (known_rest one rest h))
 
   -- ---- parts of a for
 
@@ -129,8 +131,8 @@ module _ (raw : RawProgram) where
       let second = at_stand InBlock (part_gives (in_scope step) (scope_of_test (in_scope i) scope)) in
       let third = block_phrases (map (scoped raw) (bare b)) (scope_of_body (in_scope i) (in_scope step) scope) in
       let rest = (known_rest first (test ∷ (second ++ third)) h).1 in
-      both_true is_short (part_short i (opened (numbered scope)) InFor (known_first first (test ∷ (second ++ third)) h))
-      (both_true is_short (part_short step (scope_of_test (in_scope i) scope) InBlock (known_first second third rest)) (block_short b (scope_of_body (in_scope i) (in_scope step) scope) (known_rest second third rest)))
+      and_from _ _ (part_short i (opened (numbered scope)) InFor (known_first first (test ∷ (second ++ third)) h))
+      (and_from _ _ (part_short step (scope_of_test (in_scope i) scope) InBlock (known_first second third rest)) (block_short b (scope_of_body (in_scope i) (in_scope step) scope) (known_rest second third rest)))
 
   -- ---- each form
 
@@ -153,7 +155,7 @@ module _ (raw : RawProgram) where
       let ps = block_phrases (map (scoped raw) (bare body)) (numbered scope) in
       let middle = after_block (map (scoped raw) (bare body)) (numbered scope) in
       let qs = block_phrases (map (scoped raw) (bare other)) middle in
-      both_true is_short (block_short body (numbered scope) (known_first ps qs h.1)) (block_short other middle (known_rest ps qs h.1))
+      and_from _ _ (block_short body (numbered scope) (known_first ps qs h.1)) (block_short other middle (known_rest ps qs h.1))
   layer_short (RawStatement-F.While l a b) scope stand h = block_short b (numbered scope) h.1
   layer_short (RawStatement-F.Do l a b) scope stand h = block_short b (numbered scope) h.1
   layer_short (RawStatement-F.For l None a None b) scope stand h = for_short l None a None b scope h
@@ -185,13 +187,13 @@ module _ (raw : RawProgram) where
   body_short (x ∷ xs) scope h =
       let next = (scoped raw x).after scope in
       let one = (scoped raw x).gives scope InBlock in
-      both_true is_short (statement_short x scope InBlock (known_first one (body_phrases raw xs next) h)) (body_short xs next (known_rest one (body_phrases raw xs next) h))
+      and_from _ _ (statement_short x scope InBlock (known_first one (body_phrases raw xs next) h)) (body_short xs next (known_rest one (body_phrases raw xs next) h))
 
   items_short : (xs : List RawItem) (scope : Scope) → AreKnown (items_phrases raw xs scope) → items_pass is_short xs ≡ true
   items_short [] scope h = refl
   items_short (x ∷ xs) scope h =
       let next = after_item raw x scope in
-      both_true is_short (item_short x (known_first (item_phrases raw x scope) (items_phrases raw xs next) h)) (items_short xs next (known_rest (item_phrases raw x scope) (items_phrases raw xs next) h))
+      and_from _ _ (item_short x (known_first (item_phrases raw x scope) (items_phrases raw xs next) h)) (items_short xs next (known_rest (item_phrases raw x scope) (items_phrases raw xs next) h))
     where
       item_short : (x : RawItem) → AreKnown (item_phrases raw x scope) → item_passes is_short x ≡ true
       item_short (Include is_stdlib) h = refl

@@ -1,6 +1,7 @@
 -- An expression in which no rule is broken, and one that is a constant, has the words that the layout of its text has.
 use Rattle.std.proofs.Common.{◌≡◌, ℕ, [], ◌∷◌, ◌++◌, codes, Bool, true, false, Option, Some, None, refl, sym, ap, ap₂, subst, ◌∙◌, true≢false}
 use Rattle.std.specs.Prelude.{Contains, option_map, option_and_then}
+use Rattle.std.proofs.lemmas.Bool.{false_from_ne_true}
 use Rattle.c_tree.specs.declared.raw.expr.RawExpr.{RawExpr, map-RawExpr, roll-RawExpr, fold-roll-RawExpr}
 use Rattle.c_tree.specs.declared.raw.expr.RawExpr.TheOpen.{RawExpr-F}
 use Rattle.c_tree.specs.declared.raw.program.RawProgram.{RawProgram}
@@ -16,12 +17,11 @@ use Rattle.c_language.specs.Uses.{operands_of}
 use Rattle.c_language.specs.declared.expr_type.ExprType.{ExprType}
 use Rattle.c_language.specs.declared.expr_type.Operand.{Operand}
 use Rattle.c_text_layout.specs.SpacedWords.{Spaced, blank_if, spaced_step, spaced, spaced_words}
-use Rattle.c_print_laws.proofs.Options.{map_there}
 use Rattle.c_language.proofs.Operands.{IsClean, HasTypeIf, AreClean}
-use Rattle.c_print_laws.proofs.Operands.{IsTypedIf, operands_keep, layer_clean, operand_there}
+use Rattle.c_language.proofs.CleanOperands.{IsTypedIf, operands_keep, layer_clean, operand_there}
 use Rattle.c_language.proofs.Tests.{false_true}
 use Rattle.c_language.proofs.Lists.{contains_first, contains_later}
-use Rattle.c_language.proofs.Options.{some_same, value_there, there_of_map, there_of_both}
+use Rattle.c_language.proofs.Options.{value_there, there_of_map, there_of_both, some_same, map_there}
 use Rattle.c_language.specs.Options.{IsThere}
 
 -- where no blank is needed, there is none
@@ -129,10 +129,6 @@ module _ (raw : RawProgram) (scope : Scope) (complete : (s : ℕ) (name : Bytes)
       subst (λ (s : Spaced). Flagged s (operand raw scope (roll-RawExpr l))) (sym (fold-roll-RawExpr Spaced spaced_step l))
       (subst (Flagged (spaced_step (spaced_layer l))) (sym (fold-roll-RawExpr (Option Operand) (operand_step raw scope) l)) (flags_layered l)))
 
-  by_flag : (b : Bool) → (b ≡ true → ⊥) → b ≡ false
-  by_flag true h = absurd (h refl)
-  by_flag false h = refl
-
   no_address : (o : Option Operand) (x : Operand) → o ≡ Some x → x.is_place ≡ false → holds_of is_no_address o ≡ false → ⊥
   no_address o x is place h = place_of x place (sym (ap (holds_of is_no_address) is) ∙ h)
     where
@@ -144,18 +140,18 @@ module _ (raw : RawProgram) (scope : Scope) (complete : (s : ℕ) (name : Bytes)
 
   -- an operand whose address is taken is no address
   joined_address : (a : RawExpr) → AreClean raw scope a → has_no_address (RawExpr-F.AddressOf (operand raw scope a)) ≡ false → (spaced a).is_address ≡ false
-  joined_address a keeps h = by_flag (spaced a).is_address (λ is.
+  joined_address a keeps h = false_from_ne_true (spaced a).is_address (λ is.
       let v = value_there (operand raw scope a) (operand_there raw scope complete typed a keeps) in
       no_address (operand raw scope a) v.0 v.1 ((flagged a).address is v.0 v.1) h)
 
   -- a selected object is no constant
   joined_member : (a : RawExpr) (m : Bytes) → AreClean raw scope a → has_bad_operand scope (RawExpr-F.Member (operand raw scope a) m) ≡ false → (spaced a).is_constant ≡ false
-  joined_member a m keeps h = by_flag (spaced a).is_constant (λ is.
+  joined_member a m keeps h = false_from_ne_true (spaced a).is_constant (λ is.
       let v = value_there (operand raw scope a) (operand_there raw scope complete typed a keeps) in
       true≢false (sym (ap (λ (o : Option Operand). fails (option_map (λ (x : Operand). struct_of x.shape) o)) v.1 ∙ ap (λ (o : Option ℕ). fails (Some o)) ((flagged a).constant is v.0 v.1).0) ∙ h))
 
   joined_arrow : (a : RawExpr) (m : Bytes) → AreClean raw scope a → has_bad_operand scope (RawExpr-F.Arrow (operand raw scope a) m) ≡ false → (spaced a).is_constant ≡ false
-  joined_arrow a m keeps h = by_flag (spaced a).is_constant (λ is.
+  joined_arrow a m keeps h = false_from_ne_true (spaced a).is_constant (λ is.
       let v = value_there (operand raw scope a) (operand_there raw scope complete typed a keeps) in
       true≢false (sym (ap (λ (o : Option Operand). fails (option_map (λ (x : Operand). option_and_then struct_of (pointed x)) o)) v.1 ∙ ap (λ (o : Option ExprType). fails (Some (option_and_then struct_of o))) ((flagged a).constant is v.0 v.1).1) ∙ h))
 
@@ -198,5 +194,5 @@ module _ (raw : RawProgram) (scope : Scope) (complete : (s : ℕ) (name : Bytes)
   words_spaced = of_every_expr WordsSame (λ y keeps.
       let l = expr_layer WordsSame y in
       ap (λ (x : Spaced). x.words) (fold-roll-RawExpr Spaced spaced_step l)
-      ∙ words_layered y (operands_keep raw scope complete typed l keeps) (layer_clean raw scope complete typed l keeps)
+      ∙ words_layered y (operands_keep raw scope l keeps) (layer_clean raw scope l keeps)
       ∙ sym (fold-roll-RawExpr Bytes raw_words_step l))

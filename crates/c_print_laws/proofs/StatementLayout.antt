@@ -1,8 +1,8 @@
 -- The layout of a statement of a program is that of the text's statement.
-use Rattle.std.proofs.Common.{◌≡◌, ℕ, suc, arith, List, [], ◌∷◌, ◌++◌, Option, Some, None, codes, refl, sym, ap, ap₂, subst, ◌∙◌, map}
+use Rattle.std.proofs.Common.{◌≡◌, ℕ, arith, List, [], ◌∷◌, ◌++◌, Option, Some, None, codes, refl, sym, ap, ap₂, subst, ◌∙◌, map}
 use Rattle.std.specs.Prelude.{Contains, option_map, option_and_then, ℤ}
 use Rattle.std.proofs.lemmas.List.Elements.{Contains-append_left, Contains-append_right}
-use Rattle.c_language.proofs.Operands.{AreClean}
+use Rattle.c_language.proofs.Operands.{AreClean, kept_clean}
 use Rattle.c_arith.specs.declared.int_type.IntType.{IntType}
 use Rattle.c_arith.specs.IntType.{convert}
 use Rattle.c_tree.specs.declared.expr.Expr.{Expr}
@@ -28,7 +28,7 @@ use Rattle.c_tree.specs.declared.raw.statement.RawStatement.TheOpen.{RawStatemen
 use Rattle.c_tree.specs.declared.raw.statement.RawArm.{RawArm, roll-RawArm, map-RawArm, fold-roll-RawArm}
 use Rattle.c_tree.proofs.RawTrees.{StatementParts, statement_layer, ArmParts, arm_layer, of_every_statement}
 use Rattle.c_language.specs.Words.{Bytes, assign_sign}
-use Rattle.c_language.specs.Layout.{line, bump_words, return_words, Laid, plain, block_lines, else_lines, init_part, step_part, label_words, label_lines, arms_lines, braced, target_words, statement_step, arm_step, laid, arm_laid}
+use Rattle.c_language.specs.Layout.{line, bump_words, return_words, Laid, plain, label_words, label_lines, target_words, laid_if, laid_while, laid_do, laid_for, laid_switch, laid_block, laid_case, statement_step, arm_step, laid, arm_laid}
 use Rattle.c_language.specs.ConstantEvaluation.{both, constant, value_of_constant}
 use Rattle.c_language.specs.declared.constant.Constant.{Constant}
 use Rattle.c_language.specs.Rules.{Breaks}
@@ -40,68 +40,29 @@ use Rattle.c_language.proofs.LayoutLemmas.{laid-Declare, laid-Assign, laid-Bump,
 use Rattle.c_text_layout.specs.RawLayout.{raw_target_words, raw_return_words, raw_label_words, raw_label_lines, raw_statement_step, raw_arm_step, raw_laid}
 use Rattle.c_text_layout.proofs.RawStatementLemmas.{raw_arm_laid}
 use Rattle.c_text_layout.specs.SpacedWords.{spaced_words}
-use Rattle.c_print_laws.proofs.Options.{map_there, then_there, both_there, collected_are}
+use Rattle.c_print_laws.proofs.Options.{collected_are}
 use Rattle.c_language.proofs.TreeScopes.{block_after_same}
-use Rattle.c_print_laws.proofs.Operands.{keeps_all}
 use Rattle.c_print_laws.proofs.Named.{IsNamed, Fits}
 use Rattle.c_print_laws.proofs.ExprLayout.{expr_layout, constant_layout}
 use Rattle.c_print_laws.proofs.Scoping.{target_count, statement_scoped, arm_scoped, after_block_count, mapped, after_part_same, after_part_count}
 use Rattle.c_print_laws.proofs.Told.{AreTold, told_first, told_rest, told_later, is_declared}
-use Rattle.c_print_laws.proofs.CallLayout.{optional_there, init_layout, heap_layout, call_layout}
-use Rattle.c_language.proofs.Options.{none_there, some_same}
+use Rattle.c_print_laws.proofs.CallLayout.{optional_is, init_layout, heap_layout, call_layout}
+use Rattle.c_language.proofs.Options.{none_there, some_same, map_there, then_there, both_there}
 use Rattle.c_language.proofs.Lists.{no_list, head_is, tail_is}
 use Rattle.c_language.specs.Options.{IsThere}
 
--- ---- forms of statements, over the words of a test
-
-abbrev pub if_form : Bytes → List Laid → List Laid → Laid
-if_form w body other = record {
-  words = codes "if (" ++ (w ++ codes ")");
-  lines = λ n. line n (codes "if (" ++ (w ++ codes ") {")) ++ (block_lines body (suc n) ++ (else_lines other n ++ line n (codes "}")));
-}
-
-abbrev pub while_form : Bytes → List Laid → Laid
-while_form w b = record {
-  words = codes "while (" ++ (w ++ codes ")");
-  lines = λ n. braced (codes "while (" ++ (w ++ codes ") {")) (block_lines b (suc n)) (codes "}") n;
-}
-
-abbrev pub do_form : Bytes → List Laid → Laid
-do_form w b = record {
-  words = codes "do while (" ++ (w ++ codes ")");
-  lines = λ n. braced (codes "do {") (block_lines b (suc n)) (codes "} while (" ++ (w ++ codes ");")) n;
-}
-
-abbrev pub for_form : Option Laid → Bytes → Option Laid → List Laid → Laid
-for_form i w step b = record {
-  words = codes "for (" ++ (init_part i ++ (codes "; " ++ (w ++ (codes ";" ++ (step_part step ++ codes ")")))));
-  lines = λ n. braced (codes "for (" ++ (init_part i ++ (codes "; " ++ (w ++ (codes ";" ++ (step_part step ++ codes ") {")))))) (block_lines b (suc n)) (codes "}") n;
-}
-
-abbrev pub switch_form : Bytes → List (ℕ → Bytes) → Laid
-switch_form w arms = record {
-  words = codes "switch (" ++ (w ++ codes ")");
-  lines = λ n. braced (codes "switch (" ++ (w ++ codes ") {")) (arms_lines arms (suc n)) (codes "}") n;
-}
-
-abbrev pub block_form : List Laid → Laid
-block_form b = record { words = []; lines = λ n. braced (codes "{") (block_lines b (suc n)) (codes "}") n }
-
-abbrev pub arm_form : (ℕ → Bytes) → List Laid → ℕ → Bytes
-arm_form labels body n = labels n ++ (block_lines body (suc n) ++ line (suc n) (codes "break;"))
-
-abbrev labels_form : Bytes → (ℕ → Bytes) → ℕ → Bytes
-labels_form w labels n = line n w ++ labels n
+abbrev pub laid_labels : Bytes → (ℕ → Bytes) → ℕ → Bytes
+laid_labels w labels n = line n w ++ labels n
 
 module _ (raw : RawProgram) (p : Program) (named : IsNamed raw p) where
   -- the one expression of a phrase that breaks no rule
   only_kept : (scope : Scope) (part : Part) (a : RawExpr) → ((n : ℕ) → Breaks raw scope part n → ⊥) → Contains (expressions part) a → AreClean raw scope a
-  only_kept scope part a kept c = keeps_all raw scope part kept a c
+  only_kept scope part a kept c = kept_clean raw scope part kept a c
 
   pub begins_kept : (l : ℕ) (scope : Scope) (stand : Stand) (v : RawVar) (i : RawInit) → AreTold raw p scope.variables (declaration raw l scope stand v i) → (a : RawExpr) → Contains (init_exprs i) a → AreClean raw (with_variable raw v i scope) a
   begins_kept l scope stand v init.None told a c = absurd (omega (arith, c.1))
-  begins_kept l scope stand v (init.One e) told a c = keeps_all raw (with_variable raw v (init.One e) scope) (Begins stand v (init.One e)) told.kept.1.0 a c
-  begins_kept l scope stand v (init.Items es) told a c = keeps_all raw (with_variable raw v (init.Items es) scope) (Begins stand v (init.Items es)) told.kept.1.0 a c
+  begins_kept l scope stand v (init.One e) told a c = kept_clean raw (with_variable raw v (init.One e) scope) (Begins stand v (init.One e)) told.kept.1.0 a c
+  begins_kept l scope stand v (init.Items es) told a c = kept_clean raw (with_variable raw v (init.Items es) scope) (Begins stand v (init.Items es)) told.kept.1.0 a c
 
   begun_fits : (i : RawInit) (scope : Scope) → Fits p scope → Fits p (begun i scope)
   begun_fits init.None scope fits = fits
@@ -188,9 +149,9 @@ module _ (raw : RawProgram) (p : Program) (named : IsNamed raw p) where
   part_lays : (x : Part_of) (scope : Scope) (stand : Stand) → Fits p scope → AreTold raw p scope.variables (part_phrases x scope stand)
       → (t : Option Statement) → part_tree (mapped raw (treed raw) (bare_part x)) scope ≡ Some t → option_map (laid p) t ≡ mapped raw raw_laid (bare_part x)
   part_lays None scope stand fits told t h = ap (option_map (laid p)) (sym (some_same h))
-  part_lays (Some x) scope stand fits told None h = none_there (sym (optional_there (Some ((treed raw x.0).gives scope)) None h))
+  part_lays (Some x) scope stand fits told None h = none_there (sym (optional_is (Some ((treed raw x.0).gives scope)) None h))
   part_lays (Some x) scope stand fits told (Some t) h =
-      ap Some ((x.1 scope stand fits told).lays t (some_same (optional_there (Some ((treed raw x.0).gives scope)) (Some t) h)))
+      ap Some ((x.1 scope stand fits told).lays t (some_same (optional_is (Some ((treed raw x.0).gives scope)) (Some t) h)))
 
   -- ---- arms of a switch
 
@@ -222,7 +183,7 @@ module _ (raw : RawProgram) (p : Program) (named : IsNamed raw p) where
   labels_lay scope fits t [] (x ∷ xs) h = no_list (sym h)
   labels_lay scope fits t (a ∷ as_) [] h = no_list h
   labels_lay scope fits t (a ∷ as_) (x ∷ xs) h =
-      ap₂ labels_form (label_lays scope fits t a x (head_is h)) (labels_lay scope fits t as_ xs (tail_is h))
+      ap₂ laid_labels (label_lays scope fits t a x (head_is h)) (labels_lay scope fits t as_ xs (tail_is h))
 
   -- ---- targets
 
@@ -298,15 +259,15 @@ module _ (raw : RawProgram) (p : Program) (named : IsNamed raw p) where
     where
       words : (a : Option RawExpr) → ((b : RawExpr) → Contains (if_given a) b → AreClean raw scope b) → (x : Option Expr) → optional (option_map (expr_of raw scope) a) ≡ Some x → return_words p x ≡ raw_return_words a
       words None keeps x h = ap (return_words p) (sym (some_same h))
-      words (Some a) keeps None h = none_there (sym (optional_there (Some (expr_of raw scope a)) None h))
-      words (Some a) keeps (Some x) h = ap (λ (w : Bytes). codes "return " ++ w) (expr_layout raw p named scope fits a (keeps a (0, omega arith, refl)) x (some_same (optional_there (Some (expr_of raw scope a)) (Some x) h)))
+      words (Some a) keeps None h = none_there (sym (optional_is (Some (expr_of raw scope a)) None h))
+      words (Some a) keeps (Some x) h = ap (λ (w : Bytes). codes "return " ++ w) (expr_layout raw p named scope fits a (keeps a (0, omega arith, refl)) x (some_same (optional_is (Some (expr_of raw scope a)) (Some x) h)))
 
   call_lays : (l : ℕ) (to : RawTarget) (f : Bytes) (args : _) → LayerLays (RawStatement-F.Call l to f args)
   call_lays l to f args scope stand fits told =
       let at = with_target raw to scope in
       let last = phrase l at (Calls stand to f args) ∷ [] in
       let e = told_rest raw p scope.variables at.variables (target_phrases raw l scope stand to) last (target_count raw l scope stand to) told in
-      let all = keeps_all raw at (Calls stand to f args) e.kept.0 in
+      let all = kept_clean raw at (Calls stand to f args) e.kept.0 in
       let k = target_laid l scope stand to (λ a c. all a (Contains-append_left (target_exprs to) (arg_exprs args) a c)) fits (told_first raw p scope.variables (target_phrases raw l scope stand to) last told) in
       record { fits = k.fits; lays = λ t h. call_layout raw p named at k.fits stand to (target_tree raw scope to) k.lays args (λ a c. all a (Contains-append_right (target_exprs to) (arg_exprs args) a c)) scope.statements l f t e.kept.0 h }
 
@@ -315,7 +276,7 @@ module _ (raw : RawProgram) (p : Program) (named : IsNamed raw p) where
       let at = with_target raw to scope in
       let last = phrase l at (Allocates to cast n) ∷ [] in
       let e = told_rest raw p scope.variables at.variables (target_phrases raw l scope stand to) last (target_count raw l scope stand to) told in
-      let all = keeps_all raw at (Allocates to cast n) e.kept.0 in
+      let all = kept_clean raw at (Allocates to cast n) e.kept.0 in
       let k = target_laid l scope stand to (λ a c. all a (Contains-append_left (target_exprs to) (counts n) a c)) fits (told_first raw p scope.variables (target_phrases raw l scope stand to) last told) in
       record { fits = k.fits; lays = λ t h. heap_layout raw p named at k.fits scope.statements l to (target_tree raw scope to) cast n t (λ a c. all a (Contains-append_right (target_exprs to) (counts n) a c)) k.lays h }
 
@@ -331,9 +292,9 @@ module _ (raw : RawProgram) (p : Program) (named : IsNamed raw p) where
         let g = then_there (λ (x : Expr). both (s.If scope.statements l x) (block_tree (map (treed raw) (bare body)) (numbered scope)) (block_tree (map (treed raw) (bare other)) (after_block (map (treed raw) (bare body)) (numbered scope)))) (expr_of raw scope a) t h in
         let k = both_there (s.If scope.statements l g.value) _ _ t g.same in
         ap (laid p) (sym k.same) ∙ laid-If p scope.statements l g.value k.left k.right
-        ∙ ap₂ (λ (x : Bytes) (y : List Laid). if_form x y (map (laid p) k.right)) (expr_layout raw p named scope fits a tested g.value g.there)
+        ∙ ap₂ (λ (x : Bytes) (y : List Laid). laid_if x y (map (laid p) k.right)) (expr_layout raw p named scope fits a tested g.value g.there)
         (block_lay body (numbered scope) fits (told_first raw p scope.variables ps qs told) k.left k.left_there)
-        ∙ ap (if_form (spaced_words a) (map raw_laid (bare body)))
+        ∙ ap (laid_if (spaced_words a) (map raw_laid (bare body)))
         (block_lay other middle fits (told_rest raw p scope.variables middle.variables ps qs (after_block_count raw (bare body) (numbered scope)) told) k.right
         (ap (block_tree (map (treed raw) (bare other))) (sym (block_after_same raw (bare body) (numbered scope))) ∙ k.right_there));
   }
@@ -346,7 +307,7 @@ module _ (raw : RawProgram) (p : Program) (named : IsNamed raw p) where
         let told = told_later raw p scope.variables (phrase l scope (Tests a)) (block_phrases (map (scoped raw) (bare b)) (numbered scope)) refl told in
         let g = both_there (s.While scope.statements l) (expr_of raw scope a) (block_tree (map (treed raw) (bare b)) (numbered scope)) t h in
         ap (laid p) (sym g.same) ∙ laid-While p scope.statements l g.left g.right
-        ∙ ap₂ while_form (expr_layout raw p named scope fits a tested g.left g.left_there) (block_lay b (numbered scope) fits told g.right g.right_there);
+        ∙ ap₂ laid_while (expr_layout raw p named scope fits a tested g.left g.left_there) (block_lay b (numbered scope) fits told g.right g.right_there);
   }
 
   do_lays : (l : ℕ) (a : RawExpr) (b : Statements) → LayerLays (RawStatement-F.Do l a (bare b))
@@ -357,7 +318,7 @@ module _ (raw : RawProgram) (p : Program) (named : IsNamed raw p) where
         let told = told_later raw p scope.variables (phrase l scope (Tests a)) (block_phrases (map (scoped raw) (bare b)) (numbered scope)) refl told in
         let g = both_there (s.Do scope.statements l) (expr_of raw scope a) (block_tree (map (treed raw) (bare b)) (numbered scope)) t h in
         ap (laid p) (sym g.same) ∙ laid-Do p scope.statements l g.left g.right
-        ∙ ap₂ do_form (expr_layout raw p named scope fits a tested g.left g.left_there) (block_lay b (numbered scope) fits told g.right g.right_there);
+        ∙ ap₂ laid_do (expr_layout raw p named scope fits a tested g.left g.left_there) (block_lay b (numbered scope) fits told g.right g.right_there);
   }
 
   -- a for, over the parts that it has
@@ -369,7 +330,7 @@ module _ (raw : RawProgram) (p : Program) (named : IsNamed raw p) where
       → for_tree scope.statements l (part_tree (mapped raw (treed raw) (bare_part i)) (opened (numbered scope))) (expr_of raw (scope_of_test (mapped raw (treed raw) (bare_part i)) scope) a)
       (part_tree (mapped raw (treed raw) (bare_part step)) (scope_of_test (mapped raw (treed raw) (bare_part i)) scope))
       (block_tree (map (treed raw) (bare b)) (scope_of_body (mapped raw (treed raw) (bare_part i)) (mapped raw (treed raw) (bare_part step)) scope)) ≡ Some t
-      → laid p t ≡ for_form (mapped raw raw_laid (bare_part i)) (spaced_words a) (mapped raw raw_laid (bare_part step)) (map raw_laid (bare b))
+      → laid p t ≡ laid_for (mapped raw raw_laid (bare_part i)) (spaced_words a) (mapped raw raw_laid (bare_part step)) (map raw_laid (bare b))
   for_lay l i a step b scope fits told t h =
       let begin = opened (numbered scope) in
       let first = after_part (mapped raw (scoped raw) (bare_part i)) begin in
@@ -390,10 +351,10 @@ module _ (raw : RawProgram) (p : Program) (named : IsNamed raw p) where
       let k = then_there (λ (y : Expr). both (s.For scope.statements l g.value y) (part_tree (mapped raw (treed raw) (bare_part step)) first) (block_tree (map (treed raw) (bare b)) second)) (expr_of raw first a) t g.same in
       let m = both_there (s.For scope.statements l g.value k.value) (part_tree (mapped raw (treed raw) (bare_part step)) first) (block_tree (map (treed raw) (bare b)) second) t k.same in
       ap (laid p) (sym m.same) ∙ laid-For p scope.statements l g.value k.value m.left m.right
-      ∙ ap₂ (λ (x : Option Laid) (w : Bytes). for_form x w (option_map (laid p) m.left) (map (laid p) m.right))
+      ∙ ap₂ (λ (x : Option Laid) (w : Bytes). laid_for x w (option_map (laid p) m.left) (map (laid p) m.right))
       (part_lays i begin InFor fits (told_first raw p scope.variables ps (phrase l first (Tests a) ∷ (qs ++ rs)) told) g.value g.there)
       (expr_layout raw p named first fit_first a tested k.value k.there)
-      ∙ ap₂ (for_form (mapped raw raw_laid (bare_part i)) (spaced_words a))
+      ∙ ap₂ (laid_for (mapped raw raw_laid (bare_part i)) (spaced_words a))
       (part_lays step first InBlock fit_first (told_first raw p first.variables qs rs behind) m.left m.left_there)
       (block_lay b second fit_second (told_rest raw p first.variables second.variables qs rs (after_part_count raw (bare_part step) first InBlock) behind) m.right m.right_there)
 
@@ -407,7 +368,7 @@ module _ (raw : RawProgram) (p : Program) (named : IsNamed raw p) where
         let k = then_there (λ (t : IntType). option_map (s.Switch scope.statements l g.value) (at_type t (in_order (map (treed_arm raw) (bare_arms arms)) (opened (numbered scope))))) (switch_type raw scope a) t g.same in
         let m = map_there (s.Switch scope.statements l g.value) (at_type k.value (in_order (map (treed_arm raw) (bare_arms arms)) (opened (numbered scope)))) t k.same in
         ap (laid p) (sym m.same) ∙ laid-Switch p scope.statements l g.value m.value
-        ∙ ap₂ switch_form (expr_layout raw p named scope fits a tested g.value g.there) (arms_lay arms (opened (numbered scope)) fits told k.value m.value (collected_are _ m.value m.there));
+        ∙ ap₂ laid_switch (expr_layout raw p named scope fits a tested g.value g.there) (arms_lay arms (opened (numbered scope)) fits told k.value m.value (collected_are _ m.value m.there));
   }
 
   block_lays : (l : ℕ) (b : Statements) → LayerLays (RawStatement-F.Block l (bare b))
@@ -415,7 +376,7 @@ module _ (raw : RawProgram) (p : Program) (named : IsNamed raw p) where
     fits = fits;
     lays = λ t h.
         let g = map_there (s.Block l) (block_tree (map (treed raw) (bare b)) scope) t h in
-        ap (laid p) (sym g.same) ∙ laid-Block p l g.value ∙ ap block_form (block_lay b scope fits told g.value g.there);
+        ap (laid p) (sym g.same) ∙ laid-Block p l g.value ∙ ap laid_block (block_lay b scope fits told g.value g.there);
   }
 
   layer_lays : (y : StatementParts IsLaid IsArmLaid) → LayerLays (shape y)
@@ -462,7 +423,7 @@ module _ (raw : RawProgram) (p : Program) (named : IsNamed raw p) where
     lays = λ t m h.
         let g = both_there arm_tree (collected (map (label_tree raw scope t) y.labels)) (collected (in_order (map (treed raw) (bare y.body)) scope)) m h in
         ap (arm_laid p) (sym g.same) ∙ fold-roll-Arm Laid (ℕ → Bytes) (statement_step p) (arm_step p) (record { labels = g.left; body = g.right })
-        ∙ ap₂ arm_form (labels_lay scope fits t y.labels g.left (collected_are _ g.left g.left_there)) (all_lay y.body scope InArm fits told g.right (collected_are _ g.right g.right_there));
+        ∙ ap₂ laid_case (labels_lay scope fits t y.labels g.left (collected_are _ g.left g.left_there)) (all_lay y.body scope InArm fits told g.right (collected_are _ g.right g.right_there));
   }
 
   arm_rolled : (y : ArmParts IsLaid IsArmLaid) → IsArmLaid (roll-RawArm (arm_shape y))

@@ -10,7 +10,7 @@ use Rattle.c_tree.specs.declared.statement.Statement.TheOpen.{Statement-F}
 use Rattle.c_language.specs.Scopes.{outset}
 use Rattle.c_language.specs.Programs.{IsWellFormed}
 use Rattle.c_language.proofs.Lists.{maps_same}
-use Rattle.c_print.specs.Lines.{Placed, placed, placed_step, placed_arm, enclosing, function_placed, bare, item_placed, block_starts, layout_starts}
+use Rattle.c_print.specs.Lines.{Placed, placed, placed_step, arm_placed_step, enclosing, function_placed, bare, item_placed, block_starts, layout_starts}
 use Rattle.c_print.proofs.LineLaws.{listed_starts}
 use Rattle.c_print.proofs.OpeningLemmas.{IsListed}
 use Rattle.c_print_laws.specs.Places.{StatementsStart}
@@ -28,7 +28,7 @@ placed_free (Statement-F.Declare id l x i) = refl
 placed_free _ = refl
 
 statement_same : (x : Statement) → placed (unlined x) ≡ placed x
-statement_same = fold_unlined placed_step placed_arm placed_free
+statement_same = fold_unlined placed_step arm_placed_step placed_free
 
 body_same : (xs : List Statement) → map placed (map unlined xs) ≡ map placed xs
 body_same [] = refl

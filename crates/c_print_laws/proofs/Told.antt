@@ -11,12 +11,12 @@ use Rattle.c_language.specs.Words.{Bytes, name_of_var, declared}
 use Rattle.c_language.specs.Layout.{var_words}
 use Rattle.c_language.specs.DeclaredTypes.{item_count, variable_type}
 use Rattle.c_language.specs.Scopes.{Scope, Meaning, with_variable}
-use Rattle.c_language.specs.Phrases.{Stand, Phrase, Phrases, phrases}
+use Rattle.c_language.specs.Phrases.{Stand, Phrase, Phrases}
 use Rattle.c_language.specs.ProgramOf.{ctype_with, is_static_stand, is_parameter_stand, variable_of, declared_by, variables_in}
-use Rattle.c_language.specs.Rules.{IsBroken, KeepsRules, AreKept}
+use Rattle.c_language.specs.Rules.{AreKept}
 use Rattle.c_text_layout.specs.RawLayout.{raw_declared}
-use Rattle.c_print_laws.proofs.Options.{map_there}
-use Rattle.c_language.proofs.PhraseLists.{variables-append, kept_first, kept_second, kept_from}
+use Rattle.c_language.proofs.Options.{map_there}
+use Rattle.c_language.proofs.PhraseLists.{variables-append, kept_first, kept_second}
 use Rattle.c_print_laws.proofs.Counted.{counted}
 use Rattle.c_print_laws.proofs.Named.{IsNamed, Fits, fits_append}
 use Rattle.c_print_laws.proofs.TypeLayout.{declared_layout}
@@ -48,10 +48,6 @@ stand_all p n (x ∷ xs) h =
     (record { var = x; at = ap (slice_get p.vars) (omega arith) ∙ h 0; is = refl }, stand_all p (n + 1) xs (λ i. ap (slice_get p.vars) (omega arith) ∙ h (suc i)))
 
 module _ (raw : RawProgram) where
-  -- a text that keeps all rules has no phrase that breaks one
-  pub phrases_kept : KeepsRules raw → AreKept raw (phrases raw)
-  phrases_kept keeps = kept_from raw (phrases raw) (λ x c n b. keeps n x.line (IsBroken.by_phrase c b))
-
   module _ (p : Program) where
     -- the program has the variables that the phrases declare, from the number on, and they break no rule
     pub record AreTold (n : ℕ) (ps : Phrases) : Type 0 where

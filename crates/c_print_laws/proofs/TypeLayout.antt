@@ -16,10 +16,9 @@ use Rattle.c_language.specs.DeclaredTypes.{struct_id, positive, length_in}
 use Rattle.c_language.specs.ProgramOf.{length_words, ctype_step, ctype_with}
 use Rattle.c_language.proofs.WordLemmas.{base_words-Integer, base_words-PointerTo, base_words-Array, base_words-Struct, stars-Integer, stars-PointerTo, stars-Array, stars-Struct, lengths-Integer, lengths-PointerTo, lengths-Array, lengths-Struct}
 use Rattle.c_text_layout.specs.RawLayout.{raw_base_step, raw_base, raw_stars_step, raw_stars, raw_length_words, raw_lengths_step, raw_lengths, raw_declared, raw_type_words}
-use Rattle.c_print_laws.proofs.Options.{map_there, then_there, both_there}
 use Rattle.c_print_laws.proofs.SpacedWords.{constant_spaced}
 use Rattle.c_print_laws.proofs.Named.{IsNamed}
-use Rattle.c_language.proofs.Options.{some_same}
+use Rattle.c_language.proofs.Options.{some_same, map_there, then_there, both_there}
 use Rattle.c_language.specs.Options.{IsThere}
 
 -- a type of the program has these words

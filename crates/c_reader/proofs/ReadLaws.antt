@@ -14,11 +14,11 @@ use Rattle.c_lex.proofs.TokenLaws.{tokens_unique}
 use Rattle.c_lex.proofs.FaultLaws.{fault_lacks}
 use Rattle.c_parse.specs.declared.parse_fault.ParseFault.{ParseFault}
 use Rattle.c_parse.specs.declared.parse_fault.ParseFault.TheVariants as parse
-use Rattle.c_types.specs.Checker.{IsWithin}
+use Rattle.c_types.specs.Checker.{IsWithinNumbers}
 use Rattle.c_types.specs.declared.rule_fault.RuleFault.{RuleFault}
 use Rattle.c_types.specs.declared.rule_fault.RuleFault.TheVariants as rule
 use Rattle.c_types.proofs.CheckerLaws.{not_within}
-use Rattle.c_reader.specs.Reading.{ReadsProgram, ReadsTree, IsLexFault, IsParseFault, IsRuleFault, IsRight, Gives, IsNesting, IsTooDeep, IsChecked, IsReadAs, IsJudgement}
+use Rattle.c_reader.specs.Reading.{ReadsProgram, ReadsTree, IsLexFault, IsParseFault, IsRight, Gives, IsNesting, IsTooDeep, IsChecked, IsReadAs, IsAnswer, IsRuleFault}
 use Rattle.c_reader.specs.declared.refusal.ReadRefusal.{ReadRefusal}
 use Rattle.c_reader.specs.declared.refusal.ReadRefusal.TheVariants.{Lex, Parse, Check, NoMemory}
 use Rattle.c_language.proofs.FormedTokens.{formed_tokens}
@@ -31,7 +31,7 @@ module _ (text : Bytes) where
   has_tree : (ts : Tokens) (raw : RawProgram) → IsReadAs text ts raw → ReadsTree text raw
   has_tree ts raw h = record { tokens = ts; are = h.are; tree = h.read.tree }
 
-  pub right : (r : Result Program ReadRefusal) → IsJudgement text r → IsRight text r
+  pub right : (r : Result Program ReadRefusal) → IsAnswer text r → IsRight text r
   right (Ok p) (ts, raw, h, w) = record {
     raw = raw;
     accepted = record { tokens = ts; are = h.are; tree = h.read.tree; has = w.has };
@@ -63,27 +63,27 @@ module _ (text : Bytes) where
   tree_here : (ts : Tokens) (other : RawProgram) → AreTokensOf text ts → ReadsTree text other → IsTreeOf ts other
   tree_here ts other are also = subst (λ us. IsTreeOf us other) (tokens_unique text also.tokens ts also.are are) also.tree
 
-  no_fault : (raw : RawProgram) (fault : RuleFault) → IsRuleFault raw fault → (p : Program) → IsWithin raw p → ⊥
+  no_fault : (raw : RawProgram) (fault : RuleFault) → IsRuleFault raw fault → (p : Program) → IsWithinNumbers raw p → ⊥
   no_fault raw (rule.Rule number line) is p w = w.has.rules number line is
   no_fault raw (rule.Limit name) is p w = not_within raw is p w
   no_fault raw rule.NoMemory is p w = is
 
-  one_program : (raw : RawProgram) {p q : Program} → IsWithin raw p → IsWithin raw q → p ≡ q
+  one_program : (raw : RawProgram) {p q : Program} → IsWithinNumbers raw p → IsWithinNumbers raw q → p ≡ q
   one_program raw {p} {q} w v = let e : ◌≡◌ {A = Option Program} (Some p) (Some q) = sym w.has.program ∙ v.has.program in cc
 
-  tree_of_program : {p : Program} → (h : ReadsProgram text p) → ReadsTree text h.raw
+  pub tree_of_program : {p : Program} → (h : ReadsProgram text p) → ReadsTree text h.raw
   tree_of_program h = record { tokens = h.accepted.tokens; are = h.accepted.are; tree = h.accepted.tree }
 
-  within_of : {p : Program} → (h : ReadsProgram text p) → IsWithin h.raw p
+  within_of : {p : Program} → (h : ReadsProgram text p) → IsWithinNumbers h.raw p
   within_of h = record { has = h.accepted.has; lengths = h.within.lengths; cells = h.within.cells }
 
   -- a program of the text is given
-  pub accepted : (r : Result Program ReadRefusal) → IsJudgement text r → (p : Program) → ReadsProgram text p → Gives p r
-  accepted (Ok q) (ts, raw, h, w) p has = one_program raw w (subst (λ x. IsWithin x p) (sym (same_tree ts raw has.raw h (tree_of_program has))) (within_of has))
+  pub accepted : (r : Result Program ReadRefusal) → IsAnswer text r → (p : Program) → ReadsProgram text p → Gives p r
+  accepted (Ok q) (ts, raw, h, w) p has = one_program raw w (subst (λ x. IsWithinNumbers x p) (sym (same_tree ts raw has.raw h (tree_of_program has))) (within_of has))
   accepted (Err (Lex fault)) is p has = no_tokens fault is has.accepted.tokens has.accepted.are
   accepted (Err (Parse fault)) is p has = no_tree is.tokens fault is.shows has.raw (tree_here is.tokens has.raw is.are (tree_of_program has)) has.within.nesting
   accepted (Err (Check fault)) (ts, raw, h, shows, first) p has =
-      no_fault raw fault shows p (subst (λ x. IsWithin x p) (sym (same_tree ts raw has.raw h (tree_of_program has))) (within_of has))
+      no_fault raw fault shows p (subst (λ x. IsWithinNumbers x p) (sym (same_tree ts raw has.raw h (tree_of_program has))) (within_of has))
   accepted (Err NoMemory) is p has = tt
 
   -- a text whose tree nests too deep is told so
@@ -96,7 +96,7 @@ module _ (text : Bytes) where
   too_deep : (ts : Tokens) (raw other : RawProgram) → IsReadAs text ts raw → ReadsTree text other → 100 < program_nesting other → ⊥
   too_deep ts raw other h tree many = let e = ap program_nesting (same_tree ts raw other h tree) in let few = h.read.nesting in omega (arith, e, few, many)
 
-  pub deep : (r : Result Program ReadRefusal) → IsJudgement text r → (raw : RawProgram) → ReadsTree text raw → 100 < program_nesting raw → IsTooDeep r
+  pub deep : (r : Result Program ReadRefusal) → IsAnswer text r → (raw : RawProgram) → ReadsTree text raw → 100 < program_nesting raw → IsTooDeep r
   deep (Ok q) (ts, found, h, w) raw tree many = too_deep ts found raw h tree many
   deep (Err (Lex fault)) is raw tree many = no_tokens fault is tree.tokens tree.are
   deep (Err (Parse fault)) is raw tree many = deep_fault is.tokens fault is.shows raw (tree_here is.tokens raw is.are tree)
@@ -104,8 +104,8 @@ module _ (text : Bytes) where
   deep (Err NoMemory) is raw tree many = tt
 
   -- a text whose tree breaks a rule, or is above a limit, is told so
-  pub refused : (r : Result Program ReadRefusal) → IsJudgement text r → (raw : RawProgram) (fault : RuleFault) → ReadsTree text raw → program_nesting raw ≤ 100 → IsRuleFault raw fault → IsChecked r
-  refused (Ok q) (ts, found, h, w) raw fault tree few shows = no_fault raw fault shows q (subst (λ x. IsWithin x q) (same_tree ts found raw h tree) w)
+  pub refused : (r : Result Program ReadRefusal) → IsAnswer text r → (raw : RawProgram) (fault : RuleFault) → ReadsTree text raw → program_nesting raw ≤ 100 → IsRuleFault raw fault → IsChecked r
+  refused (Ok q) (ts, found, h, w) raw fault tree few shows = no_fault raw fault shows q (subst (λ x. IsWithinNumbers x q) (same_tree ts found raw h tree) w)
   refused (Err (Lex told)) is raw fault tree few shows = no_tokens told is tree.tokens tree.are
   refused (Err (Parse told)) is raw fault tree few shows = no_tree is.tokens told is.shows raw (tree_here is.tokens raw is.are tree) few
   refused (Err (Check told)) is raw fault tree few shows = tt

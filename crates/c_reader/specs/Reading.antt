@@ -19,10 +19,10 @@ use Rattle.c_lex.specs.declared.fault.LexFault.{LexFault}
 use Rattle.c_lex.specs.declared.fault.LexFault.TheVariants as lex
 use Rattle.c_lex.specs.Faults.{IsFault}
 use Rattle.c_parse.specs.ItemReading as reading
-use Rattle.c_parse.specs.Parser.{IsLineOf, Judges}
+use Rattle.c_parse.specs.Parser.{IsLineOf, Answers}
 use Rattle.c_parse.specs.declared.parse_fault.ParseFault.{ParseFault}
 use Rattle.c_parse.specs.declared.parse_fault.ParseFault.TheVariants as parse
-use Rattle.c_types.specs.Checker.{IsAbove, IsWithin, IsFirst}
+use Rattle.c_types.specs.Checker.{IsAbove, IsWithinNumbers, IsFirst}
 use Rattle.c_types.specs.declared.rule_fault.RuleFault.{RuleFault}
 use Rattle.c_types.specs.declared.rule_fault.RuleFault.TheVariants as rule
 use Rattle.c_reader.specs.declared.refusal.ReadRefusal.{ReadRefusal}
@@ -62,7 +62,7 @@ IsRuleFault raw rule.NoMemory = ⊥
 
 -- the fault is the one that is told of the tokens, by what is read of them and where reading stops
 abbrev pub IsToldOf : Tokens → ParseFault → Type 0
-IsToldOf ts fault = Judges ts (reading.program 100 ts) (Err fault)
+IsToldOf ts fault = Answers ts (reading.program 100 ts) (Err fault)
 
 -- the tokens of the text show the fault, and it is the one that is told of them
 pub record HasParseFault (text : Bytes) (fault : ParseFault) : Type 0 where
@@ -140,7 +140,7 @@ Parses ts (Err (Check fault)) = ⊥
 Parses ts (Err NoMemory) = Unit {0}
 
 abbrev pub Checks : RawProgram → Result Program ReadRefusal → Type 0
-Checks raw (Ok p) = IsWithin raw p
+Checks raw (Ok p) = IsWithinNumbers raw p
 Checks raw (Err (Lex fault)) = ⊥
 Checks raw (Err (Parse fault)) = ⊥
 Checks raw (Err (Check fault)) = IsRuleFault raw fault × IsFirst raw fault
@@ -152,9 +152,9 @@ pub record IsReadAs (text : Bytes) (tokens : Tokens) (raw : RawProgram) : Type 0
   pub read : IsReadTree tokens raw
 
 -- what is answered, with the tokens and the tree that it is answered for
-abbrev pub IsJudgement : Bytes → Result Program ReadRefusal → Type 0
-IsJudgement text (Ok p) = (ts : Tokens) × (raw : RawProgram) × IsReadAs text ts raw × IsWithin raw p
-IsJudgement text (Err (Lex fault)) = IsLexFault text fault
-IsJudgement text (Err (Parse fault)) = HasParseFault text fault
-IsJudgement text (Err (Check fault)) = (ts : Tokens) × (raw : RawProgram) × IsReadAs text ts raw × IsRuleFault raw fault × IsFirst raw fault
-IsJudgement text (Err NoMemory) = Unit {0}
+abbrev pub IsAnswer : Bytes → Result Program ReadRefusal → Type 0
+IsAnswer text (Ok p) = (ts : Tokens) × (raw : RawProgram) × IsReadAs text ts raw × IsWithinNumbers raw p
+IsAnswer text (Err (Lex fault)) = IsLexFault text fault
+IsAnswer text (Err (Parse fault)) = HasParseFault text fault
+IsAnswer text (Err (Check fault)) = (ts : Tokens) × (raw : RawProgram) × IsReadAs text ts raw × IsRuleFault raw fault × IsFirst raw fault
+IsAnswer text (Err NoMemory) = Unit {0}

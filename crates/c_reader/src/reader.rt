@@ -4,8 +4,8 @@ ghost use Rattle.c_tree.specs.declared.program.Program.{Program};
 ghost use Rattle.c_tree.specs.declared.raw.program.RawProgram.{RawProgram};
 ghost use Rattle.c_language.specs.Programs.{IsFormed, IsTree};
 ghost use Rattle.c_language.specs.StatementNesting.{program_nesting};
+ghost use Rattle.c_reader.specs.Reading.{ReadsProgram, ReadsTree, IsRight, Gives, IsTooDeep, IsChecked, Lexes, Parses, Checks, IsAnswer, IsRuleFault};
 ghost use Rattle.c_types.specs.declared.rule_fault.RuleFault.{RuleFault};
-ghost use Rattle.c_reader.specs.Reading.{ReadsProgram, ReadsTree, IsRuleFault, IsRight, Gives, IsTooDeep, IsChecked, Lexes, Parses, Checks, IsJudgement};
 
 use crate::refusal::ReadRefusal;
 use c_language::Token;
@@ -54,9 +54,9 @@ fn checked(alloc: Global, raw: RawProgram) -> Result<Program, ReadRefusal>
 
 /// What is answered, with the tokens and the tree that it is answered for.
 #[tactic(auto, using(crate::proofs::ReadLaws::tokens_formed))]
-fn judged(alloc: Global, text: &[u8]) -> Result<Program, ReadRefusal>
+fn answered(alloc: Global, text: &[u8]) -> Result<Program, ReadRefusal>
     requires { length text.now < 2 ^ 32 }
-    ensures { IsJudgement text.now result }
+    ensures { IsAnswer text.now result }
 {
     let tokens = lexed(alloc, text)?;
     let raw = parsed(alloc, tokens.as_slice())?;
@@ -76,5 +76,5 @@ pub fn read_program(alloc: Global, text: &[u8]) -> Result<Program, ReadRefusal>
     ensures deep { (raw : RawProgram) → ReadsTree text.now raw → 100 < program_nesting raw → IsTooDeep result }
     ensures refused { (raw : RawProgram) (fault : RuleFault) → ReadsTree text.now raw → program_nesting raw ≤ 100 → IsRuleFault raw fault → IsChecked result }
 {
-    judged(alloc, text)
+    answered(alloc, text)
 }

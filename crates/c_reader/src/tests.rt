@@ -255,8 +255,8 @@ fn operators_and_assignments(rt: HostRuntime) {
 }
 
 #[test]
-fn calls_and_returns(rt: HostRuntime) {
-    let broken: [Broken<'_>; 8] = [
+fn wrong_calls(rt: HostRuntime) {
+    let broken: [Broken<'_>; 5] = [
         (
             b"void f(int a) {\n}\nint main(void) {\n    f();\n}\n",
             16,
@@ -278,6 +278,18 @@ fn calls_and_returns(rt: HostRuntime) {
             3,
         ),
         (
+            b"int f(void) {\n    return 1;\n}\nint main(void) {\n    for (int i = f(); i < 2; i++) {\n    }\n}\n",
+            23,
+            5,
+        ),
+    ];
+    all_break(&rt, &broken);
+}
+
+#[test]
+fn wrong_returns(rt: HostRuntime) {
+    let broken: [Broken<'_>; 3] = [
+        (
             b"int f(void) {\n    return;\n}\nint main(void) {\n}\n",
             18,
             2,
@@ -288,13 +300,12 @@ fn calls_and_returns(rt: HostRuntime) {
             18,
             2,
         ),
-        (
-            b"int f(void) {\n    return 1;\n}\nint main(void) {\n    for (int i = f(); i < 2; i++) {\n    }\n}\n",
-            23,
-            5,
-        ),
     ];
     all_break(&rt, &broken);
+}
+
+#[test]
+fn right_calls_and_returns(rt: HostRuntime) {
     let kept: [&[u8]; 4] = [
         b"void f(int a) {\n}\nint main(void) {\n    f(1);\n}\n",
         b"int f(void) {\n    return 1;\n}\nint main(void) {\n    int x = f();\n}\n",
@@ -305,8 +316,8 @@ fn calls_and_returns(rt: HostRuntime) {
 }
 
 #[test]
-fn calls_of_the_library(rt: HostRuntime) {
-    let broken: [Broken<'_>; 10] = [
+fn wrong_calls_of_printf(rt: HostRuntime) {
+    let broken: [Broken<'_>; 4] = [
         (
             b"#include <stdio.h>\nint main(void) {\n    printf(\"%d\\n\");\n}\n",
             19,
@@ -327,6 +338,13 @@ fn calls_of_the_library(rt: HostRuntime) {
             19,
             3,
         ),
+    ];
+    all_break(&rt, &broken);
+}
+
+#[test]
+fn wrong_calls_of_the_library(rt: HostRuntime) {
+    let broken: [Broken<'_>; 6] = [
         (
             b"#include <stdlib.h>\nint main(void) {\n    int *p = malloc(4);\n}\n",
             20,
@@ -355,6 +373,10 @@ fn calls_of_the_library(rt: HostRuntime) {
         ),
     ];
     all_break(&rt, &broken);
+}
+
+#[test]
+fn right_calls_of_the_library(rt: HostRuntime) {
     let kept: [&[u8]; 4] = [
         b"#include <stdio.h>\nint main(void) {\n    printf(\"%d%%\\n\", 1);\n    printf(\"%lu\", 1L);\n}\n",
         b"#include <stdlib.h>\nint main(void) {\n    char *p = malloc(4);\n    int *q = malloc(2 * sizeof *q);\n    q = (int *)malloc(sizeof(int) * 3);\n    free(NULL);\n    free(p);\n}\n",
@@ -365,7 +387,7 @@ fn calls_of_the_library(rt: HostRuntime) {
 }
 
 #[test]
-fn names_of_the_library(rt: HostRuntime) {
+fn wrong_uses_of_names_of_the_library(rt: HostRuntime) {
     let broken: [Broken<'_>; 15] = [
         (b"int getchar;\nint main(void) {\n}\n", 4, 1),
         (b"int putchar;\nint main(void) {\n}\n", 4, 1),
@@ -404,6 +426,10 @@ fn names_of_the_library(rt: HostRuntime) {
         (b"int a[3 + EOF];\nint main(void) {\n}\n", 24, 1),
     ];
     all_break(&rt, &broken);
+}
+
+#[test]
+fn right_uses_of_names_of_the_library(rt: HostRuntime) {
     let kept: [&[u8]; 5] = [
         b"int getchars;\nint main(void) {\n    int eof;\n    int null;\n}\n",
         b"#include <stdio.h>\nint *p = NULL;\nint a[3 + EOF];\nint main(void) {\n    int c = EOF;\n}\n",
@@ -473,8 +499,8 @@ fn of_several_broken_rules_the_first_is_told(rt: HostRuntime) {
 }
 
 #[test]
-fn types_of_operands_targets_and_results(rt: HostRuntime) {
-    let broken: [Broken<'_>; 14] = [
+fn wrong_types_of_operands(rt: HostRuntime) {
+    let broken: [Broken<'_>; 5] = [
         (
             b"int main(void) {\n    int *p = 0;\n    switch (p) {\n    default:\n        break;\n    }\n}\n",
             11,
@@ -496,6 +522,13 @@ fn types_of_operands_targets_and_results(rt: HostRuntime) {
             15,
             3,
         ),
+    ];
+    all_break(&rt, &broken);
+}
+
+#[test]
+fn wrong_types_of_calls_and_returns(rt: HostRuntime) {
+    let broken: [Broken<'_>; 7] = [
         (
             b"void f(int a) {\n}\nint main(void) {\n    f(1, 2);\n}\n",
             16,
@@ -531,6 +564,13 @@ fn types_of_operands_targets_and_results(rt: HostRuntime) {
             21,
             3,
         ),
+    ];
+    all_break(&rt, &broken);
+}
+
+#[test]
+fn wrong_declarations(rt: HostRuntime) {
+    let broken: [Broken<'_>; 2] = [
         (
             b"struct s {\n    int a;\n};\nstruct s x = 1;\nint main(void) {\n}\n",
             22,
@@ -543,6 +583,10 @@ fn types_of_operands_targets_and_results(rt: HostRuntime) {
         ),
     ];
     all_break(&rt, &broken);
+}
+
+#[test]
+fn right_types(rt: HostRuntime) {
     let kept: [&[u8]; 4] = [
         b"int *f(void) {\n    return 0;\n}\nint main(void) {\n    int *p = f();\n    switch (p == 0) {\n    default:\n        break;\n    }\n}\n",
         b"#include <stdlib.h>\nint main(void) {\n    int *p = (int *)malloc(sizeof(int));\n    *p = 1;\n}\n",

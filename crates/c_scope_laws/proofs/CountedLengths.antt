@@ -17,6 +17,7 @@ use Rattle.c_tree.specs.declared.raw.program.RawInit.TheVariants as init
 use Rattle.c_tree.specs.declared.raw.program.RawProgram.{RawProgram}
 use Rattle.c_language.specs.Words.{Bytes}
 use Rattle.c_language.specs.ConstantEvaluation.{both}
+use Rattle.c_language.specs.CountConstants.{IsCountConstant, LengthsAmong}
 use Rattle.c_language.specs.DeclaredTypes.{positive, length_in, of_base, pointer_to, with_layer, type_step, type_with, item_count}
 use Rattle.c_language.specs.Uses.{lengths_step, lengths_in, tags_step, tags_in}
 use Rattle.c_language.specs.ProgramOf.{raw_words, length_words, ctype_step, ctype_with}
@@ -27,7 +28,7 @@ use Rattle.c_language.proofs.Tests.{false_true}
 use Rattle.c_language.proofs.Lists.{contains_later}
 use Rattle.c_language.proofs.RawWordLemmas.{raw_words-Constant}
 use Rattle.c_language.proofs.ConstantLemmas.{counted_positive}
-use Rattle.c_scope_laws.specs.Agreement.{SameOutside, IsCountConstant, SameVariable, IsCount, CountWritten, integer, pointer, written, counted, structure}
+use Rattle.c_scope_laws.specs.Agreement.{SameOutside, SameVariable, IsCount, CountWritten, integer, pointer, written, counted, structure}
 use Rattle.c_scope_laws.proofs.Outside.{struct_ids}
 
 -- ---- what folds make of each form
@@ -59,10 +60,6 @@ count_constant items n h = record { text = decimal items; is = h.is; less = pred
     positive_suc : (items : ℕ) → 0 < items → items ≡ suc (pred items)
     positive_suc zero h = absurd (omega (arith, h))
     positive_suc (suc n) h = refl
-
--- the lengths of one type are among those of the other, but for constants
-abbrev LengthsAmong : List RawExpr → List RawExpr → Type 0
-LengthsAmong some all = (n : RawExpr) → Contains some n → Contains all n ⊎ IsCountConstant n
 
 among_same : (some all : List RawExpr) (x : RawExpr) → LengthsAmong some all → LengthsAmong (x ∷ some) (x ∷ all)
 among_same some all x h n (zero, within, is) = inl (0, omega arith, is)

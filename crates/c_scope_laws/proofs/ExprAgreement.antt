@@ -10,16 +10,17 @@ use Rattle.c_tree.specs.declared.raw.program.RawProgram.{RawProgram}
 use Rattle.c_language.specs.Words.{Bytes}
 use Rattle.c_language.specs.ConstantEvaluation.{both}
 use Rattle.c_language.specs.Scopes.{Scope, Meaning, meaning_in}
-use Rattle.c_language.specs.ExprTypes.{a_place, struct_of, pointed, member_type, selected, variable_in, operand_step, operand}
+use Rattle.c_language.specs.ExprTypes.{a_place, member_type, variable_in, operand_step, operand}
 use Rattle.c_language.specs.ExprRules.{seen}
 use Rattle.c_language.specs.Uses.{operands_of, deeper}
-use Rattle.c_language.specs.ProgramOf.{Told, told_step, told_of, expr_of, member_id, variable_number, of_operand, of_pointed}
+use Rattle.c_language.specs.ProgramOf.{Told, told_step, told_of, expr_of, variable_number, of_operand, of_pointed}
 use Rattle.c_language.specs.declared.expr_type.ExprType.{ExprType}
 use Rattle.c_language.specs.declared.expr_type.Operand.{Operand}
+use Rattle.c_language.proofs.OptionMaps.{map_turns, both_turns, then_turns}
+use Rattle.c_language.proofs.SameStructs.{select_member, select_pointed, of_operands, of_pointeds}
 use Rattle.c_scope_laws.specs.Agreement.{NamedIn, SameOutside, moved_meaning, Agree}
 use Rattle.projection.specs.Renumbering.{renamed}
 use Rattle.c_scope_laws.proofs.Trees.{by_operands, layers_same}
-use Rattle.c_scope_laws.proofs.Options.{map_turns, both_turns, then_turns}
 use Rattle.c_scope_laws.proofs.Within.{below, itself}
 use Rattle.c_scope_laws.proofs.Outside.{member_types_same, member_ids_same}
 use Rattle.c_scope_laws.proofs.RenumberingLemmas.{renamed-Constant, renamed-Null, renamed-Eof, renamed-Variable, renamed-Unary, renamed-Deref, renamed-AddressOf, renamed-Binary, renamed-AndAlso, renamed-OrElse, renamed-Choose, renamed-Cast, renamed-Index, renamed-Member, renamed-Arrow, renamed-Paren}
@@ -59,19 +60,6 @@ module _ (f : ℕ → ℕ) (named : Bytes → Type 0) (raw other : RawProgram) (
   selected_same m (Some k) =
       ap₂ (λ (n : ℕ) (t : Option ExprType). if nat_lt k n then t else None) agree.structs (member_types_same raw other like k m)
 
-  select_member : (m : Bytes) (a : Option Operand) → option_and_then (λ (x : Operand). selected other next m x.shape) a ≡ option_and_then (λ (x : Operand). selected raw scope m x.shape) a
-  select_member m None = refl
-  select_member m (Some x) = selected_same m (struct_of x.shape)
-
-  select_in : (m : Bytes) (t : Option ExprType) → option_and_then (selected other next m) t ≡ option_and_then (selected raw scope m) t
-  select_in m None = refl
-  select_in m (Some t) = selected_same m (struct_of t)
-
-  select_pointed : (m : Bytes) (a : Option Operand)
-      → option_and_then (λ (x : Operand). option_and_then (selected other next m) (pointed x)) a ≡ option_and_then (λ (x : Operand). option_and_then (selected raw scope m) (pointed x)) a
-  select_pointed m None = refl
-  select_pointed m (Some x) = select_in m (pointed x)
-
   -- a variable with another number is the same operand
   moved_operand : (m : Option Meaning) → variable_in (option_map (moved_meaning f) m) ≡ variable_in m
   moved_operand None = refl
@@ -92,8 +80,8 @@ module _ (f : ℕ → ℕ) (named : Bytes → Type 0) (raw other : RawProgram) (
   operand_steps (RawExpr-F.Choose c a b) h = refl
   operand_steps (RawExpr-F.Cast i a) h = refl
   operand_steps (RawExpr-F.Index a b) h = refl
-  operand_steps (RawExpr-F.Member a m) h = ap (option_map a_place) (select_member m a)
-  operand_steps (RawExpr-F.Arrow a m) h = ap (option_map a_place) (select_pointed m a)
+  operand_steps (RawExpr-F.Member a m) h = ap (option_map a_place) (select_member other raw next scope selected_same m a)
+  operand_steps (RawExpr-F.Arrow a m) h = ap (option_map a_place) (select_pointed other raw next scope selected_same m a)
   operand_steps (RawExpr-F.Paren a) h = refl
 
   -- what an operand of a layer names is covered
@@ -112,22 +100,6 @@ module _ (f : ℕ → ℕ) (named : Bytes → Type 0) (raw other : RawProgram) (
   seen_same a c = layers_same (operand raw scope) (operand other next) (out-RawExpr a) (λ m k. operands_same m (λ x n. c x (deeper k n)))
 
   -- ---- trees
-
-  ids_in : (m : Bytes) (s : Option ℕ) → option_and_then (member_id other m) s ≡ option_and_then (member_id raw m) s
-  ids_in m None = refl
-  ids_in m (Some k) = member_ids_same raw other like m k
-
-  of_operands : (m : Bytes) (a : Option Operand) → of_operand other m a ≡ of_operand raw m a
-  of_operands m None = refl
-  of_operands m (Some x) = ids_in m (struct_of x.shape)
-
-  of_pointed_in : (m : Bytes) (t : Option ExprType) → option_and_then (λ t. option_and_then (member_id other m) (struct_of t)) t ≡ option_and_then (λ t. option_and_then (member_id raw m) (struct_of t)) t
-  of_pointed_in m None = refl
-  of_pointed_in m (Some t) = ids_in m (struct_of t)
-
-  of_pointeds : (m : Bytes) (a : Option Operand) → of_pointed other m a ≡ of_pointed raw m a
-  of_pointeds m None = refl
-  of_pointeds m (Some x) = of_pointed_in m (pointed x)
 
   pub moved_number : (m : Option Meaning) → variable_number (option_map (moved_meaning f) m) ≡ option_map f (variable_number m)
   moved_number None = refl
@@ -174,11 +146,11 @@ module _ (f : ℕ → ℕ) (named : Bytes → Type 0) (raw other : RawProgram) (
   told_steps p (RawExpr-F.Index a i) h = told_as refl (both_turns (renamed f) (renamed f) (renamed f) e.Index e.Index (λ x y. sym (renamed-Index f x y)) (p a).tree (p i).tree)
   told_steps p (RawExpr-F.Member a m) h =
       told_as (operand_steps (RawExpr-F.Member (p a).operand m) tt)
-      (ap (λ (k : Option MemberId). option_and_then (λ (x : Expr). option_map (e.Member x) k) (option_map (renamed f) (p a).tree)) (of_operands m (p a).operand)
+      (ap (λ (k : Option MemberId). option_and_then (λ (x : Expr). option_map (e.Member x) k) (option_map (renamed f) (p a).tree)) (of_operands other raw (member_ids_same raw other like) m (p a).operand)
       ∙ select_turns e.Member (λ x k. sym (renamed-Member f x k)) (of_operand raw m (p a).operand) (p a).tree)
   told_steps p (RawExpr-F.Arrow a m) h =
       told_as (operand_steps (RawExpr-F.Arrow (p a).operand m) tt)
-      (ap (λ (k : Option MemberId). option_and_then (λ (x : Expr). option_map (e.Arrow x) k) (option_map (renamed f) (p a).tree)) (of_pointeds m (p a).operand)
+      (ap (λ (k : Option MemberId). option_and_then (λ (x : Expr). option_map (e.Arrow x) k) (option_map (renamed f) (p a).tree)) (of_pointeds other raw (member_ids_same raw other like) m (p a).operand)
       ∙ select_turns e.Arrow (λ x k. sym (renamed-Arrow f x k)) (of_pointed raw m (p a).operand) (p a).tree)
   told_steps p (RawExpr-F.Paren a) h = told_as refl (map_turns (renamed f) (renamed f) e.Paren e.Paren (λ x. sym (renamed-Paren f x)) (p a).tree)
 

@@ -5,7 +5,7 @@ use Rattle.c_tree.specs.declared.raw.program.RawHead.{RawHead}
 use Rattle.c_tree.specs.declared.raw.program.RawItem.{RawItem}
 use Rattle.c_tree.specs.declared.raw.program.RawProgram.{RawProgram}
 use Rattle.c_language.specs.Words.{Bytes}
-use Rattle.c_language.specs.DeclaredTypes.{functions_of, defined_functions, function_id}
+use Rattle.c_language.specs.DeclaredTypes.{function_texts, defined_functions, function_id}
 use Rattle.c_language.specs.Scopes.{Scope, outset}
 use Rattle.c_language.proofs.Options.{none_there, some_same}
 use Rattle.c_language.proofs.Tests.{false_true}
@@ -38,7 +38,7 @@ module _ (k : Kept) where
   kept_heads [] = []
   kept_heads (h ∷ hs) = if k.function h.name then h ∷ kept_heads hs else kept_heads hs
 
-  heads_kept : (raw other : RawProgram) {scope : Scope} {xs ys : List RawItem} → ItemsThin k raw other scope xs ys → functions_of ys ≡ kept_heads (functions_of xs)
+  heads_kept : (raw other : RawProgram) {scope : Scope} {xs ys : List RawItem} → ItemsThin k raw other scope xs ys → function_texts ys ≡ kept_heads (function_texts xs)
   unfolding kept_heads
   heads_kept raw other ItemsThin.none = refl
   heads_kept raw other (ItemsThin.include d) = heads_kept raw other d
@@ -49,9 +49,9 @@ module _ (k : Kept) where
   heads_kept raw other (ItemsThin.prototype is d) = heads_kept raw other d
   heads_kept raw other (ItemsThin.prototype_goes is d) = heads_kept raw other d
   heads_kept raw other (ItemsThin.define {head} {rest} is ps body ends d) =
-      ap (λ (hs : List RawHead). head ∷ hs) (heads_kept raw other d) ∙ ap (λ (b : Bool). if b then head ∷ kept_heads (functions_of rest) else kept_heads (functions_of rest)) (sym is)
+      ap (λ (hs : List RawHead). head ∷ hs) (heads_kept raw other d) ∙ ap (λ (b : Bool). if b then head ∷ kept_heads (function_texts rest) else kept_heads (function_texts rest)) (sym is)
   heads_kept raw other (ItemsThin.define_goes {head} {rest} is ps body d) =
-      heads_kept raw other d ∙ ap (λ (b : Bool). if b then head ∷ kept_heads (functions_of rest) else kept_heads (functions_of rest)) (sym is)
+      heads_kept raw other d ∙ ap (λ (b : Bool). if b then head ∷ kept_heads (function_texts rest) else kept_heads (function_texts rest)) (sym is)
 
   abbrev named : Bytes → RawHead → Bool
   named x h = bytes_eq h.name x

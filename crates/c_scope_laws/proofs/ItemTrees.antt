@@ -21,18 +21,19 @@ use Rattle.c_tree.specs.declared.raw.program.RawProgram.{RawProgram}
 use Rattle.c_tree.specs.declared.raw.statement.RawStatement.{RawStatement}
 use Rattle.c_language.specs.Words.{Bytes}
 use Rattle.c_language.specs.ConstantEvaluation.{both}
-use Rattle.c_language.specs.DeclaredTypes.{functions_of, defined_functions, function_id, struct_id}
+use Rattle.c_language.specs.DeclaredTypes.{function_texts, defined_functions, function_id, struct_id}
 use Rattle.c_language.specs.Scopes.{Scope, with_variable, with_function, with_parameter, with_parameters, with_named, parameter_of, scope_of_parameters, entered, in_order, meaning_here}
 use Rattle.c_language.specs.Phrases.{InFile, InHead, InBlock, Part, NamesStruct, DefinesStruct, HasMember, Takes, DeclaresFunction, EndsFunction, Declares, Begins, Phrases, phrase, joined_at, scoped, body_phrases, after_body, member_phrases, taken_phrases, parameter_phrases, head_phrases, after_item, after_items, items_phrases, item_phrases}
 use Rattle.c_language.specs.ProgramOf.{declared_by, collected, optional, ctype_if, init_of, body_of, parameter_ids, function_tree, functions_from, items_from}
-use Rattle.c_language.proofs.Options.{none_there, some_same}
-use Rattle.c_language.proofs.PhraseLists.{body_in_order, body_after}
+use Rattle.c_language.proofs.Options.{none_there, some_same, added_there}
+use Rattle.c_language.proofs.PhraseLists.{body_in_order, body_after, kept_second}
 use Rattle.c_language.proofs.ScopeNumbers.{function_variables}
+use Rattle.c_language.specs.Rules.{AreKept}
 use Rattle.c_scope_laws.specs.Agreement.{Names, IsVariable}
 use Rattle.c_scope_laws.specs.Agreement.StandsFor.{there as as_it_is}
 use Rattle.projection.specs.Kept.{Kept, rank}
 use Rattle.c_scope_laws.specs.Thinning.{NamesStay, ThinAll}
-use Rattle.c_scope_laws.specs.Following.{TextsAgree, Follows}
+use Rattle.c_scope_laws.specs.Following.{TextsAgree, ScopesAgree}
 use Rattle.c_scope_laws.specs.ThinTexts.{ParamStays, ParamsStay, ParamGoes, ParamsGo, ItemsThin}
 use Rattle.projection.specs.Projection.{if_so, projected_var, projected_vars, projected_all, projected_item, projected_items, projected_function, projected_functions}
 use Rattle.c_scope_laws.proofs.Outside.{struct_ids, ctypes_same, variable_same}
@@ -42,16 +43,8 @@ use Rattle.c_scope_laws.proofs.TreeLevels.{chosen, unchosen}
 use Rattle.c_scope_laws.proofs.TreeWalking.{all_stay}
 use Rattle.c_scope_laws.proofs.VariableLists.{VarsStay, no_vars, both_vars, no_variable, phrase_gone, variable_stays, variable_goes, begun_stays, begun_goes}
 use Rattle.c_scope_laws.proofs.VariableWalking.{vars_all}
-use Rattle.c_scope_laws.proofs.ItemWalking.{same_texts, param_walks, left_base, entered_alone, drop_next, get_next, enters, params_walk, leaves, define_stands, structs_follow, no_variable_there, rest_right, AreRight}
+use Rattle.c_scope_laws.proofs.ItemWalking.{same_texts, param_walks, left_base, entered_alone, drop_next, get_next, enters, params_walk, leaves, define_stands, structs_follow, no_variable_there}
 use Rattle.c_scope_laws.proofs.FunctionNumbers.{FunctionNumbers}
-
--- ---- lists of options
-
-collected_more : {A : Type 0} (o : Option A) (q : Option (List A)) (zs : List A) → option_and_then (λ y. option_map (λ ys. y ∷ ys) q) o ≡ Some zs
-    → (a : A) × (rest : List A) × (o ≡ Some a) × (q ≡ Some rest) × (zs ≡ a ∷ rest)
-collected_more None q zs at = none_there at
-collected_more (Some a) None zs at = none_there at
-collected_more (Some a) (Some rest) zs at = (a, rest, refl, refl, sym (some_same at))
 
 abbrev as_function : RawHead → ℕ → List ℕ → Option CType → List Statement → Function
 as_function head line ps result statements = record { name = head.name; result = result; params = ps; body = statements; is_static = head.is_static; line = line }
@@ -89,16 +82,16 @@ module _ (k : Kept) (raw other : RawProgram) (texts : TextsAgree k raw other) (t
   item_kept : (o o' : Option Item) (q q' : Option (List Item)) → ((z : Item) → o ≡ Some z → (w : Item) × (o' ≡ Some w) × (projected_item k g test z ≡ w ∷ [])) → ((zs : List Item) → q ≡ Some zs → q' ≡ Some (projected_items k g test zs))
       → (zs : List Item) → option_and_then (λ y. option_map (λ ys. y ∷ ys) q) o ≡ Some zs → option_and_then (λ y. option_map (λ ys. y ∷ ys) q') o' ≡ Some (projected_items k g test zs)
   item_kept o o' q q' p r zs at =
-      let m = collected_more o q zs at in
-      let w = p m.0 m.2 in
-      ap₂ (λ (x : Option Item) (y : Option (List Item)). option_and_then (λ z. option_map (λ ys. z ∷ ys) y) x) w.1 (r m.1 m.3)
-      ∙ ap Some (sym (ap (projected_items k g test) m.4 ∙ ap (λ (all : List Item). all ++ projected_items k g test m.1) w.2))
+      let m = added_there o q zs at in
+      let w = p m.first m.first_there in
+      ap₂ (λ (x : Option Item) (y : Option (List Item)). option_and_then (λ z. option_map (λ ys. z ∷ ys) y) x) w.1 (r m.rest m.rest_there)
+      ∙ ap Some (sym (ap (projected_items k g test) (sym m.same) ∙ ap (λ (all : List Item). all ++ projected_items k g test m.rest) w.2))
 
   item_gone : (o : Option Item) (q q' : Option (List Item)) → ((z : Item) → o ≡ Some z → projected_item k g test z ≡ []) → ((zs : List Item) → q ≡ Some zs → q' ≡ Some (projected_items k g test zs))
       → (zs : List Item) → option_and_then (λ y. option_map (λ ys. y ∷ ys) q) o ≡ Some zs → q' ≡ Some (projected_items k g test zs)
   item_gone o q q' p r zs at =
-      let m = collected_more o q zs at in
-      r m.1 m.3 ∙ ap Some (sym (ap (projected_items k g test) m.4 ∙ ap (λ (all : List Item). all ++ projected_items k g test m.1) (p m.0 m.2)))
+      let m = added_there o q zs at in
+      r m.rest m.rest_there ∙ ap Some (sym (ap (projected_items k g test) (sym m.same) ∙ ap (λ (all : List Item). all ++ projected_items k g test m.rest) (p m.first m.first_there)))
 
   by_option : {A : Type 0} (P : Item → Type 0) (form : A → Item) (o : Option A) → ((a : A) → o ≡ Some a → P (form a)) → (z : Item) → option_map form o ≡ Some z → P z
   by_option P form None each z at = none_there at
@@ -110,7 +103,7 @@ module _ (k : Kept) (raw other : RawProgram) (texts : TextsAgree k raw other) (t
   tag_item w = by_option (λ z. (u : Item) × (option_map item.Tag (struct_id other w) ≡ Some u) × (projected_item k g test z ≡ u ∷ [])) item.Tag (struct_id raw w)
       (λ d at. (item.Tag d, ap (option_map item.Tag) (struct_ids raw other texts.outside w ∙ at), refl))
 
-  global_item : {here there : ℕ} {mine yours : Option ℕ} {scope next : Scope} (v : RawVar) (i : RawInit) (is_static : Bool) → k.variable scope.variables ≡ true → NamesStay k (with_variable raw v i scope) (Begins (InFile is_static) v i) → Follows k raw other here there mine yours scope next
+  global_item : {here there : ℕ} {mine yours : Option ℕ} {scope next : Scope} (v : RawVar) (i : RawInit) (is_static : Bool) → k.variable scope.variables ≡ true → NamesStay k (with_variable raw v i scope) (Begins (InFile is_static) v i) → ScopesAgree k raw other here there mine yours scope next
       → (z : Item) → option_map (item.Global scope.variables) (init_of raw (with_variable raw v i scope) i) ≡ Some z
       → (u : Item) × (option_map (item.Global next.variables) (init_of other (with_variable other v i next) i) ≡ Some u) × (projected_item k g test z ≡ u ∷ [])
   global_item {scope} {next} v i is_static is begin c =
@@ -164,7 +157,7 @@ module _ (k : Kept) (raw other : RawProgram) (texts : TextsAgree k raw other) (t
   name_as line head ps (Some r) None fn at = none_there at
   name_as line head ps (Some r) (Some zs) fn at = ap (λ (o : Function). o.name) (sym (some_same at))
 
-  function_stays : {here there : ℕ} {mine yours : Option ℕ} {scope next : Scope} (line : ℕ) (head : RawHead) (body some : List RawStatement) (rest more : List RawHead) → Follows k raw other here there mine yours scope next → k.function head.name ≡ true
+  function_stays : {here there : ℕ} {mine yours : Option ℕ} {scope next : Scope} (line : ℕ) (head : RawHead) (body some : List RawStatement) (rest more : List RawHead) → ScopesAgree k raw other here there mine yours scope next → k.function head.name ≡ true
       → (IsVariable (meaning_here scope head.name) → ⊥) → ParamsStay k raw head.params (scope_of_parameters head scope) → ThinAll k raw other (entered raw head scope) body some
       → drop here (defined_functions raw) ≡ head ∷ rest → drop there (defined_functions other) ≡ head ∷ more
       → (fn : Function) → function_tree raw line head body scope ≡ Some fn → (function_tree other line head some next ≡ Some (projected_function k g fn)) × (k.function fn.name ≡ true)
@@ -182,16 +175,16 @@ module _ (k : Kept) (raw other : RawProgram) (texts : TextsAgree k raw other) (t
   functions_kept : (o o' : Option Function) (q q' : Option (List Function)) → ((z : Function) → o ≡ Some z → (o' ≡ Some (projected_function k g z)) × (k.function z.name ≡ true)) → ((zs : List Function) → q ≡ Some zs → q' ≡ Some (projected_functions k g zs))
       → (zs : List Function) → option_and_then (λ y. option_map (λ ys. y ∷ ys) q) o ≡ Some zs → option_and_then (λ y. option_map (λ ys. y ∷ ys) q') o' ≡ Some (projected_functions k g zs)
   functions_kept o o' q q' p r zs at =
-      let m = collected_more o q zs at in
-      let w = p m.0 m.2 in
-      ap₂ (λ (x : Option Function) (y : Option (List Function)). option_and_then (λ z. option_map (λ ys. z ∷ ys) y) x) w.0 (r m.1 m.3)
-      ∙ ap Some (sym (ap (projected_functions k g) m.4 ∙ chosen _ (projected_functions k g m.1) w.1))
+      let m = added_there o q zs at in
+      let w = p m.first m.first_there in
+      ap₂ (λ (x : Option Function) (y : Option (List Function)). option_and_then (λ z. option_map (λ ys. z ∷ ys) y) x) w.0 (r m.rest m.rest_there)
+      ∙ ap Some (sym (ap (projected_functions k g) (sym m.same) ∙ chosen _ (projected_functions k g m.rest) w.1))
 
   functions_gone : (o : Option Function) (q q' : Option (List Function)) → ((z : Function) → o ≡ Some z → k.function z.name ≡ false) → ((zs : List Function) → q ≡ Some zs → q' ≡ Some (projected_functions k g zs))
       → (zs : List Function) → option_and_then (λ y. option_map (λ ys. y ∷ ys) q) o ≡ Some zs → q' ≡ Some (projected_functions k g zs)
   functions_gone o q q' p r zs at =
-      let m = collected_more o q zs at in
-      r m.1 m.3 ∙ ap Some (sym (ap (projected_functions k g) m.4 ∙ unchosen (projected_function k g m.0 ∷ projected_functions k g m.1) (projected_functions k g m.1) (p m.0 m.2)))
+      let m = added_there o q zs at in
+      r m.rest m.rest_there ∙ ap Some (sym (ap (projected_functions k g) (sym m.same) ∙ unchosen (projected_function k g m.first ∷ projected_functions k g m.rest) (projected_functions k g m.rest) (p m.first m.first_there)))
 
   -- ---- variables
 
@@ -227,14 +220,14 @@ module _ (k : Kept) (raw other : RawProgram) (texts : TextsAgree k raw other) (t
   taken_lost n scope before [] = no_vars k g raw other n
   taken_lost n scope before (p ∷ ps) = both_of [] [] (phrase p.line scope (Takes before p) ∷ []) _ (lost n p.line scope (Takes before p) refl) (taken_lost n scope (before ++ p ∷ []) ps)
 
-  param_vars : {here there : ℕ} {mine yours : Option ℕ} (scope next : Scope) (p : RawParam) (name : Option Bytes) → yours ≡ option_map g mine → ParamStays k scope p name → Follows k raw other here there mine yours scope next
+  param_vars : {here there : ℕ} {mine yours : Option ℕ} (scope next : Scope) (p : RawParam) (name : Option Bytes) → yours ≡ option_map g mine → ParamStays k scope p name → ScopesAgree k raw other here there mine yours scope next
       → Vars scope.variables (parameter_phrases other p name next) (parameter_phrases raw p name scope) (with_named raw p name scope).variables
   param_vars scope next p None own h c = no_vars k g raw other scope.variables
   param_vars scope next p (Some name) own h c =
       variable_stays k g raw other p.line scope next InHead InHead (parameter_of p name) (parameter_of p name) init.None init.None h.0 as_it_is (variable_same raw other texts.outside (parameter_of p name) init.None)
       (c.other_owner ∙ own ∙ ap (option_map g) (sym c.owner))
 
-  params_vars : {here there : ℕ} {mine yours : Option ℕ} (ps : List RawParam) (scope next : Scope) → yours ≡ option_map g mine → ParamsStay k raw ps scope → Follows k raw other here there mine yours scope next
+  params_vars : {here there : ℕ} {mine yours : Option ℕ} (ps : List RawParam) (scope next : Scope) → yours ≡ option_map g mine → ParamsStay k raw ps scope → ScopesAgree k raw other here there mine yours scope next
       → Vars scope.variables (head_phrases other ps next) (head_phrases raw ps scope) (with_parameters raw ps scope).variables
   params_vars [] scope next own h c = no_vars k g raw other scope.variables
   params_vars (p ∷ ps) scope next own h c =
@@ -249,7 +242,7 @@ module _ (k : Kept) (raw other : RawProgram) (texts : TextsAgree k raw other) (t
   params_lost [] scope h = no_vars k g raw other scope.variables
   params_lost (p ∷ ps) scope h = both_of [] [] _ _ (param_lost scope p p.name h.0) (params_lost ps (with_parameter raw p scope) h.1)
 
-  global_vars : {here there : ℕ} {mine yours : Option ℕ} {scope next : Scope} (l : ℕ) (v : RawVar) (i : RawInit) (is_static : Bool) → yours ≡ option_map g mine → k.variable scope.variables ≡ true → Follows k raw other here there mine yours scope next
+  global_vars : {here there : ℕ} {mine yours : Option ℕ} {scope next : Scope} (l : ℕ) (v : RawVar) (i : RawInit) (is_static : Bool) → yours ≡ option_map g mine → k.variable scope.variables ≡ true → ScopesAgree k raw other here there mine yours scope next
       → Vars scope.variables (item_phrases other (Global l v i is_static) next) (item_phrases raw (Global l v i is_static) scope) (scope.variables + 1)
   global_vars {here} {there} {mine} {yours} {scope} {next} l v i is_static own is c =
       both_of (phrase l next (Declares (InFile is_static) v i) ∷ []) _ (phrase l scope (Declares (InFile is_static) v i) ∷ []) _
@@ -269,7 +262,7 @@ module _ (k : Kept) (raw other : RawProgram) (texts : TextsAgree k raw other) (t
   prototype_lost scope l head =
       ends (sym (function_variables head.name scope)) (both_of [] [] (phrase l scope (DeclaresFunction head false) ∷ []) _ (lost scope.variables l scope (DeclaresFunction head false) refl) (taken_lost scope.variables scope [] head.params))
 
-  define_vars : {here there : ℕ} {mine yours : Option ℕ} {scope next : Scope} (line : ℕ) (head : RawHead) (body some : List RawStatement) (rest more : List RawHead) → Follows k raw other here there mine yours scope next → there ≡ rank test here → k.function head.name ≡ true
+  define_vars : {here there : ℕ} {mine yours : Option ℕ} {scope next : Scope} (line : ℕ) (head : RawHead) (body some : List RawStatement) (rest more : List RawHead) → ScopesAgree k raw other here there mine yours scope next → there ≡ rank test here → k.function head.name ≡ true
       → (IsVariable (meaning_here scope head.name) → ⊥) → ParamsStay k raw head.params (scope_of_parameters head scope) → ThinAll k raw other (entered raw head scope) body some
       → drop here (defined_functions raw) ≡ head ∷ rest → drop there (defined_functions other) ≡ head ∷ more
       → Vars scope.variables (item_phrases other (Define line head some) next) (item_phrases raw (Define line head body) scope) (after_item raw (Define line head body) scope).variables
@@ -303,7 +296,7 @@ module _ (k : Kept) (raw other : RawProgram) (texts : TextsAgree k raw other) (t
   other_numbering : {m n : ℕ} (ps : Phrases) → VarsStay k (λ x. x) raw raw m [] ps n → Vars m [] ps n
   other_numbering {m} ps v = record { vars = λ vs at. none_kept m vs (v.vars vs at); count = v.count }
 
-  define_lost : {here there : ℕ} {mine yours : Option ℕ} {scope next : Scope} (line : ℕ) (head : RawHead) (body : List RawStatement) → Follows k raw other here there mine yours scope next → k.function head.name ≡ false
+  define_lost : {here there : ℕ} {mine yours : Option ℕ} {scope next : Scope} (line : ℕ) (head : RawHead) (body : List RawStatement) → ScopesAgree k raw other here there mine yours scope next → k.function head.name ≡ false
       → ParamsGo k raw head.params (scope_of_parameters head scope) → ThinAll k raw raw (entered raw head scope) body []
       → Vars scope.variables [] (item_phrases raw (Define line head body) scope) (after_item raw (Define line head body) scope).variables
   define_lost {here} {there} {mine} {yours} {scope} {next} line head body c is gone d =
@@ -320,7 +313,7 @@ module _ (k : Kept) (raw other : RawProgram) (texts : TextsAgree k raw other) (t
 
   -- ---- going along
 
-  define_item : {here there : ℕ} {mine yours : Option ℕ} {scope next : Scope} (h : RawHead) → Follows k raw other here there mine yours scope next → there ≡ rank test here → test here ≡ true
+  define_item : {here there : ℕ} {mine yours : Option ℕ} {scope next : Scope} (h : RawHead) → ScopesAgree k raw other here there mine yours scope next → there ≡ rank test here → test here ≡ true
       → (z : Item) → Some (item.Define scope.functions) ≡ Some z → (u : Item) × (Some (item.Define next.functions) ≡ Some u) × (projected_item k g test z ≡ u ∷ [])
   define_item {here} {there} {mine} {yours} {scope} {next} h c num is z at = (
     item.Define next.functions,
@@ -329,8 +322,8 @@ module _ (k : Kept) (raw other : RawProgram) (texts : TextsAgree k raw other) (t
         ∙ ap (λ (n : ℕ). item.Define n ∷ []) (ap g c.functions ∙ sym num ∙ sym c.others),
   )
 
-  pub stay : {scope : Scope} {xs ys : List RawItem} → ItemsThin k raw other scope xs ys → (here there : ℕ) (mine yours : Option ℕ) (next : Scope) → Follows k raw other here there mine yours scope next → there ≡ rank test here → yours ≡ option_map g mine
-      → drop here (defined_functions raw) ≡ functions_of xs → drop there (defined_functions other) ≡ functions_of ys → AreRight raw (items_phrases raw xs scope) → Stay scope next xs ys
+  pub stay : {scope : Scope} {xs ys : List RawItem} → ItemsThin k raw other scope xs ys → (here there : ℕ) (mine yours : Option ℕ) (next : Scope) → ScopesAgree k raw other here there mine yours scope next → there ≡ rank test here → yours ≡ option_map g mine
+      → drop here (defined_functions raw) ≡ function_texts xs → drop there (defined_functions other) ≡ function_texts ys → AreKept raw (items_phrases raw xs scope) → Stay scope next xs ys
   stay {scope} ItemsThin.none here there mine yours next c num own at_raw at_other right = record {
     items = λ zs at. ap (λ (all : List Item). Some (projected_items k g test all)) (some_same at);
     functions = λ zs at. ap (λ (all : List Function). Some (projected_functions k g all)) (some_same at);
@@ -341,10 +334,10 @@ module _ (k : Kept) (raw other : RawProgram) (texts : TextsAgree k raw other) (t
       let r = stay d here there mine yours next c num own at_raw at_other right in
       record { items = item_kept _ _ _ _ (λ z at. (item.Include is_stdlib, refl, ap (projected_item k g test) (sym (some_same at)))) r.items; functions = r.functions; statements = r.statements; vars = r.vars }
   stay {scope} (ItemsThin.tag {l} {w} {rest} d) here there mine yours next c num own at_raw at_other right =
-      let r = stay d here there mine yours next c num own at_raw at_other (rest_right k raw other texts (item_phrases raw (Tag l w) scope) (items_phrases raw rest scope) right) in
+      let r = stay d here there mine yours next c num own at_raw at_other (kept_second raw (item_phrases raw (Tag l w) scope) (items_phrases raw rest scope) right) in
       record { items = item_kept _ _ _ _ (tag_item w) r.items; functions = r.functions; statements = r.statements; vars = both_of (phrase l next (NamesStruct w) ∷ []) _ (phrase l scope (NamesStruct w) ∷ []) _ (plain scope.variables l scope next (NamesStruct w) (NamesStruct w) refl refl) r.vars }
   stay {scope} (ItemsThin.structure {l} {w} {members} {rest} fits d) here there mine yours next c num own at_raw at_other right =
-      let r = stay d here there mine yours (after_item other (Struct l w members) next) (structs_follow k raw other texts c) num own at_raw at_other (rest_right k raw other texts (item_phrases raw (Struct l w members) scope) _ right) in
+      let r = stay d here there mine yours (after_item other (Struct l w members) next) (structs_follow k raw other texts c) num own at_raw at_other (kept_second raw (item_phrases raw (Struct l w members) scope) _ right) in
       record {
         items = item_kept _ _ _ _ (λ z at. (item.Struct next.structs, refl, ap (projected_item k g test) (sym (some_same at)) ∙ ap (λ (n : ℕ). item.Struct n ∷ []) (sym c.structs))) r.items;
         functions = r.functions;
@@ -353,10 +346,10 @@ module _ (k : Kept) (raw other : RawProgram) (texts : TextsAgree k raw other) (t
       }
   stay {scope} (ItemsThin.global {l} {v} {i} {is_static} {rest} is names begin d) here there mine yours next c num own at_raw at_other right =
       let like = variable_same raw other texts.outside v i in
-      let r = stay d here there mine yours (with_variable other v i next) (variable_kept k raw other v v i i is like.name like.type c) num own at_raw at_other (rest_right k raw other texts (item_phrases raw (Global l v i is_static) scope) _ right) in
+      let r = stay d here there mine yours (with_variable other v i next) (variable_kept k raw other v v i i is like.name like.type c) num own at_raw at_other (kept_second raw (item_phrases raw (Global l v i is_static) scope) _ right) in
       record { items = item_kept _ _ _ _ (global_item v i is_static is begin c) r.items; functions = r.functions; statements = r.statements; vars = both_of (item_phrases other (Global l v i is_static) next) _ (item_phrases raw (Global l v i is_static) scope) _ (global_vars l v i is_static own is c) r.vars }
   stay {scope} (ItemsThin.global_goes {l} {v} {i} {is_static} is d) here there mine yours next c num own at_raw at_other right =
-      let r = stay d here there mine yours next (variable_gone k raw other v i is c) num own at_raw at_other (rest_right k raw other texts (item_phrases raw (Global l v i is_static) scope) _ right) in
+      let r = stay d here there mine yours next (variable_gone k raw other v i is c) num own at_raw at_other (kept_second raw (item_phrases raw (Global l v i is_static) scope) _ right) in
       record {
         items = item_gone _ _ _ (by_option (λ z. projected_item k g test z ≡ []) (item.Global scope.variables) (init_of raw (with_variable raw v i scope) i) (λ j at. unchosen _ [] is)) r.items;
         functions = r.functions;
@@ -365,27 +358,27 @@ module _ (k : Kept) (raw other : RawProgram) (texts : TextsAgree k raw other) (t
       }
   stay {scope} (ItemsThin.prototype {l} {head} is d) here there mine yours next c num own at_raw at_other right =
       let r = stay d here there mine yours (with_function head.name next) (function_kept k raw other head.name is (no_variable_there k raw other texts l scope head false _ right) c) num own at_raw at_other
-      (rest_right k raw other texts (item_phrases raw (Prototype l head) scope) _ right) in
+      (kept_second raw (item_phrases raw (Prototype l head) scope) _ right) in
       record { items = item_kept _ _ _ _ (prototype_item head is) r.items; functions = r.functions; statements = r.statements; vars = both_of (item_phrases other (Prototype l head) next) _ (item_phrases raw (Prototype l head) scope) _ (prototype_vars scope next l head) r.vars }
   stay {scope} (ItemsThin.prototype_goes {l} {head} is d) here there mine yours next c num own at_raw at_other right =
-      let r = stay d here there mine yours next (function_gone k raw other head.name is c) num own at_raw at_other (rest_right k raw other texts (item_phrases raw (Prototype l head) scope) _ right) in
+      let r = stay d here there mine yours next (function_gone k raw other head.name is c) num own at_raw at_other (kept_second raw (item_phrases raw (Prototype l head) scope) _ right) in
       record { items = item_gone _ _ _ (prototype_gone head is) r.items; functions = r.functions; statements = r.statements; vars = both_of [] _ (item_phrases raw (Prototype l head) scope) _ (prototype_lost scope l head) r.vars }
   stay {scope} (ItemsThin.define {l} {head} {body} {some} {rest} {others} is params thin ends d) here there mine yours next c num own at_raw at_other right =
       let none = no_variable_there k raw other texts l scope head true _ right in
-      let tests : test here ≡ true = fns.places here head (get_next here (defined_functions raw) head (functions_of rest) at_raw) ∙ is in
-      let w = define_stands k raw other texts l head body some (functions_of rest) (functions_of others) c is none params thin ends at_raw at_other in
+      let tests : test here ≡ true = fns.places here head (get_next here (defined_functions raw) head (function_texts rest) at_raw) ∙ is in
+      let w = define_stands k raw other texts l head body some (function_texts rest) (function_texts others) c is none params thin ends at_raw at_other in
       let r = stay d (suc here) (suc there) mine yours (after_item other (Define l head some) next) w.1 (ap suc num ∙ sym (ap (λ (b : Bool). if b then suc (rank test here) else rank test here) tests)) own
-      (drop_next here (defined_functions raw) head (functions_of rest) at_raw) (drop_next there (defined_functions other) head (functions_of others) at_other) (rest_right k raw other texts (item_phrases raw (Define l head body) scope) _ right) in
+      (drop_next here (defined_functions raw) head (function_texts rest) at_raw) (drop_next there (defined_functions other) head (function_texts others) at_other) (kept_second raw (item_phrases raw (Define l head body) scope) _ right) in
       record {
         items = item_kept _ _ _ _ (define_item head c num tests) r.items;
-        functions = functions_kept _ _ _ _ (function_stays l head body some (functions_of rest) (functions_of others) c is none params thin at_raw at_other) r.functions;
+        functions = functions_kept _ _ _ _ (function_stays l head body some (function_texts rest) (function_texts others) c is none params thin at_raw at_other) r.functions;
         statements = r.statements;
-        vars = both_of (item_phrases other (Define l head some) next) _ (item_phrases raw (Define l head body) scope) _ (define_vars l head body some (functions_of rest) (functions_of others) c num is none params thin at_raw at_other) r.vars;
+        vars = both_of (item_phrases other (Define l head some) next) _ (item_phrases raw (Define l head body) scope) _ (define_vars l head body some (function_texts rest) (function_texts others) c num is none params thin at_raw at_other) r.vars;
       }
   stay {scope} (ItemsThin.define_goes {l} {head} {body} {rest} is gone thin d) here there mine yours next c num own at_raw at_other right =
-      let tests : test here ≡ false = fns.places here head (get_next here (defined_functions raw) head (functions_of rest) at_raw) ∙ is in
+      let tests : test here ≡ false = fns.places here head (get_next here (defined_functions raw) head (function_texts rest) at_raw) ∙ is in
       let r = stay d (suc here) there mine yours next (leaves k raw other c l head body is gone thin) (num ∙ sym (ap (λ (b : Bool). if b then suc (rank test here) else rank test here) tests)) own
-      (drop_next here (defined_functions raw) head (functions_of rest) at_raw) at_other (rest_right k raw other texts (item_phrases raw (Define l head body) scope) _ right) in
+      (drop_next here (defined_functions raw) head (function_texts rest) at_raw) at_other (kept_second raw (item_phrases raw (Define l head body) scope) _ right) in
       record {
         items = item_gone _ _ _ (λ z at. ap (projected_item k g test) (sym (some_same at)) ∙ unchosen _ [] (ap test c.functions ∙ tests)) r.items;
         functions = functions_gone _ _ _ (λ z at. ap k.function (name_as l head (parameter_ids head.params scope.variables) (ctype_if raw head.result) (body_of raw body (entered raw head scope)) z at) ∙ is) r.functions;

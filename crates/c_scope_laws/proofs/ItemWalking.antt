@@ -12,22 +12,22 @@ use Rattle.c_tree.specs.declared.raw.program.RawItem.TheVariants.{Include, Struc
 use Rattle.c_tree.specs.declared.raw.program.RawProgram.{RawProgram}
 use Rattle.c_tree.specs.declared.raw.statement.RawStatement.{RawStatement}
 use Rattle.c_language.specs.Words.{Bytes}
-use Rattle.c_language.specs.DeclaredTypes.{StructText, structs_of, functions_of, defined_functions, is_include}
+use Rattle.c_language.specs.DeclaredTypes.{StructText, struct_texts, function_texts, defined_functions, is_include}
 use Rattle.c_language.specs.Scopes.{Scope, outset, meaning_here, with_variable, with_function, with_parameter, with_parameters, with_named, parameter_of, scope_of_parameters, entered, opened, closed, in_order, after_all}
-use Rattle.c_language.specs.Phrases.{InFile, InHead, InBlock, Part, NamesStruct, DefinesStruct, HasMember, DeclaresFunction, Takes, EndsFunction, Declares, Phrase, Phrases, phrase, begun_phrases, joined_at, scoped, body_phrases, after_body, member_phrases, taken_phrases, parameter_phrases, head_phrases, item_phrases, after_item, items_phrases}
+use Rattle.c_language.specs.Phrases.{InFile, InHead, InBlock, Part, NamesStruct, DefinesStruct, HasMember, DeclaresFunction, Takes, EndsFunction, Declares, Phrases, phrase, begun_phrases, joined_at, scoped, body_phrases, after_body, member_phrases, taken_phrases, parameter_phrases, head_phrases, item_phrases, after_item, items_phrases, phrases}
 use Rattle.c_language.specs.Uses.{holds}
-use Rattle.c_language.specs.Rules.{Breaks, IsBroken, KeepsRules}
+use Rattle.c_language.specs.Rules.{Breaks, IsBroken, KeepsRules, AreKept}
 use Rattle.c_language.specs.NameRules.{main_name, IsDefinedBefore, DeclaresAgain}
 use Rattle.c_language.proofs.Tests.{false_true}
 use Rattle.c_language.proofs.Lists.{contains_first, contains_later, same_bytes, no_list}
-use Rattle.c_language.proofs.PhraseLists.{body_in_order, body_after}
+use Rattle.c_language.proofs.PhraseLists.{body_in_order, body_after, kept_second, kept_from}
 use Rattle.c_scope_laws.specs.Agreement.{Names, NamesFunction, IsVariable, EndsToo, PartsAgree}
 use Rattle.c_scope_laws.specs.Agreement.StandsFor.{there as as_it_is}
 use Rattle.projection.specs.Kept.{Kept}
 use Rattle.c_scope_laws.specs.Thinning.{NamesStay, ThinAll}
 use Rattle.c_scope_laws.specs.ThinTexts.{ParamStays, ParamsStay, ParamGoes, ParamsGo, MembersStay, ItemsThin, IsThinner}
 use Rattle.c_scope_laws.proofs.Outside.{variable_same}
-use Rattle.c_scope_laws.specs.Following.{TextsAgree, Follows}
+use Rattle.c_scope_laws.specs.Following.{TextsAgree, ScopesAgree}
 use Rattle.c_scope_laws.proofs.Following.{follows_opened, follows_closed, variable_kept, variable_gone, function_kept, function_gone, places_agree}
 use Rattle.c_scope_laws.proofs.Counterparts.{AreCounterparts, none_stand, one_stands, both_stand, front_gone, counterpart_breaks}
 use Rattle.c_scope_laws.proofs.Walking.{all_walk, same_stands, begun_stand_as_it_is}
@@ -74,7 +74,7 @@ module _ {A : Type 0} where
 -- ---- texts
 
 module _ (k : Kept) (raw other : RawProgram) where
-  structs_same : {scope : Scope} {xs ys : List RawItem} → ItemsThin k raw other scope xs ys → structs_of ys ≡ structs_of xs
+  structs_same : {scope : Scope} {xs ys : List RawItem} → ItemsThin k raw other scope xs ys → struct_texts ys ≡ struct_texts xs
   structs_same ItemsThin.none = refl
   structs_same (ItemsThin.include d) = structs_same d
   structs_same (ItemsThin.tag d) = structs_same d
@@ -113,7 +113,7 @@ module _ (k : Kept) (raw other : RawProgram) where
   abbrev head_of : Bytes → List RawHead → Option RawHead
   head_of x heads = find (λ (h : RawHead). bytes_eq h.name x) heads
 
-  definitions_same : {scope : Scope} {xs ys : List RawItem} (x : Bytes) → k.function x ≡ true → ItemsThin k raw other scope xs ys → head_of x (functions_of ys) ≡ head_of x (functions_of xs)
+  definitions_same : {scope : Scope} {xs ys : List RawItem} (x : Bytes) → k.function x ≡ true → ItemsThin k raw other scope xs ys → head_of x (function_texts ys) ≡ head_of x (function_texts xs)
   definitions_same x stays ItemsThin.none = refl
   definitions_same x stays (ItemsThin.include d) = definitions_same x stays d
   definitions_same x stays (ItemsThin.tag d) = definitions_same x stays d
@@ -125,7 +125,7 @@ module _ (k : Kept) (raw other : RawProgram) where
   definitions_same x stays (ItemsThin.define {head} is ps body ends d) = ap (λ (o : Option RawHead). if bytes_eq head.name x then Some head else o) (definitions_same x stays d)
   definitions_same x stays (ItemsThin.define_goes {head} {rest} is ps body d) = definitions_same x stays d ∙ by_name (bytes_eq head.name x) refl
     where
-      by_name : (b : Bool) → bytes_eq head.name x ≡ b → head_of x (functions_of rest) ≡ (if b then Some head else head_of x (functions_of rest))
+      by_name : (b : Bool) → bytes_eq head.name x ≡ b → head_of x (function_texts rest) ≡ (if b then Some head else head_of x (function_texts rest))
       by_name true same = false_true (sym is ∙ ap k.function (same_bytes head.name x same) ∙ stays)
       by_name false differs = refl
 
@@ -178,7 +178,7 @@ module _ (k : Kept) (raw other : RawProgram) (texts : TextsAgree k raw other) wh
       no_name : (x : Bytes) → Names (EndsFunction head body) x → ⊥
       no_name x (Names.in_expression (holds (i, within, same) h)) = absurd (omega (arith, within))
 
-  module _ {here there : ℕ} {mine yours : Option ℕ} {scope next : Scope} (f : Follows k raw other here there mine yours scope next) where
+  module _ {here there : ℕ} {mine yours : Option ℕ} {scope next : Scope} (f : ScopesAgree k raw other here there mine yours scope next) where
     stands : (l : ℕ) (part : Part) → NamesStay k scope part → AreCounterparts k raw other (phrase l next part ∷ []) (phrase l scope part ∷ [])
     stands l part stay = same_stands k raw other texts here there mine yours l part stay f
 
@@ -195,7 +195,7 @@ module _ (k : Kept) (raw other : RawProgram) (texts : TextsAgree k raw other) wh
         (stands p.line (Takes before p) (taken_stays before p)) (taken_stand (before ++ p ∷ []) ps)
 
     -- with more struct types that are complete
-    pub structs_follow : Follows k raw other here there mine yours (record scope { structs = scope.structs + 1 }) (record next { structs = next.structs + 1 })
+    pub structs_follow : ScopesAgree k raw other here there mine yours (record scope { structs = scope.structs + 1 }) (record next { structs = next.structs + 1 })
     structs_follow = record {
       names = f.names;
       within = f.within;
@@ -214,7 +214,7 @@ module _ (k : Kept) (raw other : RawProgram) (texts : TextsAgree k raw other) wh
     -- in another function
     placed : (o q : Option ℕ) (a b : ℕ) → ((x : Bytes) → IsDefinedBefore other (record next { owner = q; functions = b }) x → IsDefinedBefore raw (record scope { owner = o; functions = a }) x)
         → option_and_then (slice_get (defined_functions other)) q ≡ option_and_then (slice_get (defined_functions raw)) o
-        → Follows k raw other a b o q (record scope { owner = o; functions = a }) (record next { owner = q; functions = b })
+        → ScopesAgree k raw other a b o q (record scope { owner = o; functions = a }) (record next { owner = q; functions = b })
     placed o q a b before around = record {
       names = f.names;
       within = f.within;
@@ -234,38 +234,38 @@ module _ (k : Kept) (raw other : RawProgram) (texts : TextsAgree k raw other) wh
 
   pub record ParamsWalk (here there : ℕ) (mine yours : Option ℕ) (scope next : Scope) (ps : List RawParam) : Type 0 where
     pub phrases : AreCounterparts k raw other (head_phrases other ps next) (head_phrases raw ps scope)
-    pub after : Follows k raw other here there mine yours (with_parameters raw ps scope) (with_parameters other ps next)
+    pub after : ScopesAgree k raw other here there mine yours (with_parameters raw ps scope) (with_parameters other ps next)
 
-  pub param_walks : {here there : ℕ} {mine yours : Option ℕ} {scope next : Scope} (p : RawParam) (name : Option Bytes) → ParamStays k scope p name → Follows k raw other here there mine yours scope next
-      → AreCounterparts k raw other (parameter_phrases other p name next) (parameter_phrases raw p name scope) × Follows k raw other here there mine yours (with_named raw p name scope) (with_named other p name next)
+  pub param_walks : {here there : ℕ} {mine yours : Option ℕ} {scope next : Scope} (p : RawParam) (name : Option Bytes) → ParamStays k scope p name → ScopesAgree k raw other here there mine yours scope next
+      → AreCounterparts k raw other (parameter_phrases other p name next) (parameter_phrases raw p name scope) × ScopesAgree k raw other here there mine yours (with_named raw p name scope) (with_named other p name next)
   param_walks p None h f = (none_stand k raw other [], f)
   param_walks {scope} {next} p (Some name) h f = (
     stands f p.line (Declares InHead (parameter_of p name) init.None) h.1,
     variable_kept k raw other (parameter_of p name) (parameter_of p name) init.None init.None h.0 refl (variable_same raw other texts.outside (parameter_of p name) init.None).type f,
   )
 
-  pub params_walk : {here there : ℕ} {mine yours : Option ℕ} (ps : List RawParam) (scope next : Scope) → ParamsStay k raw ps scope → Follows k raw other here there mine yours scope next → ParamsWalk here there mine yours scope next ps
+  pub params_walk : {here there : ℕ} {mine yours : Option ℕ} (ps : List RawParam) (scope next : Scope) → ParamsStay k raw ps scope → ScopesAgree k raw other here there mine yours scope next → ParamsWalk here there mine yours scope next ps
   params_walk [] scope next h f = record { phrases = none_stand k raw other []; after = f }
   params_walk (p ∷ ps) scope next h f =
       let w = param_walks p p.name h.0 f in
       let v = params_walk ps (with_parameter raw p scope) (with_parameter other p next) h.1 w.1 in
       record { phrases = both_stand k raw other _ _ _ _ w.0 v.phrases; after = v.after }
 
-  param_gone : {here there : ℕ} {mine yours : Option ℕ} {scope next : Scope} (p : RawParam) (name : Option Bytes) → ParamGoes k scope name → Follows k raw other here there mine yours scope next → Follows k raw other here there mine yours (with_named raw p name scope) next
+  param_gone : {here there : ℕ} {mine yours : Option ℕ} {scope next : Scope} (p : RawParam) (name : Option Bytes) → ParamGoes k scope name → ScopesAgree k raw other here there mine yours scope next → ScopesAgree k raw other here there mine yours (with_named raw p name scope) next
   param_gone p None h f = f
   param_gone p (Some name) h f = variable_gone k raw other (parameter_of p name) init.None h f
 
-  pub params_gone : {here there : ℕ} {mine yours : Option ℕ} (ps : List RawParam) (scope next : Scope) → ParamsGo k raw ps scope → Follows k raw other here there mine yours scope next → Follows k raw other here there mine yours (with_parameters raw ps scope) next
+  pub params_gone : {here there : ℕ} {mine yours : Option ℕ} (ps : List RawParam) (scope next : Scope) → ParamsGo k raw ps scope → ScopesAgree k raw other here there mine yours scope next → ScopesAgree k raw other here there mine yours (with_parameters raw ps scope) next
   params_gone [] scope next h f = f
   params_gone (p ∷ ps) scope next h f = params_gone ps (with_parameter raw p scope) next h.1 (param_gone p p.name h.0 f)
 
   -- ---- functions
 
-  module _ {here there : ℕ} {mine yours : Option ℕ} {scope next : Scope} (f : Follows k raw other here there mine yours scope next) (head : RawHead) where
+  module _ {here there : ℕ} {mine yours : Option ℕ} {scope next : Scope} (f : ScopesAgree k raw other here there mine yours scope next) (head : RawHead) where
     -- where the functions that are still to come begin with one that stays, its parameters begin at both places
     pub enters : (rest more : List RawHead) → k.function head.name ≡ true → (IsVariable (meaning_here scope head.name) → ⊥)
         → drop here (defined_functions raw) ≡ head ∷ rest → drop there (defined_functions other) ≡ head ∷ more
-        → Follows k raw other (suc here) (suc there) (Some here) (Some there) (scope_of_parameters head scope) (scope_of_parameters head next)
+        → ScopesAgree k raw other (suc here) (suc there) (Some here) (Some there) (scope_of_parameters head scope) (scope_of_parameters head next)
     enters rest more is none at_raw at_other =
         let g = follows_opened k raw other (function_kept k raw other head.name is none f) in
         recounted (placed g (Some scope.functions) (Some next.functions) (scope.functions + 1) (next.functions + 1) before
@@ -273,10 +273,10 @@ module _ (k : Kept) (raw other : RawProgram) (texts : TextsAgree k raw other) wh
         ∙ sym (ap (slice_get (defined_functions raw)) f.functions ∙ get_next here (defined_functions raw) head rest at_raw)))
         (ap (λ (n : ℕ). n + 1) f.functions ∙ next_place here) (ap (λ (n : ℕ). n + 1) f.others ∙ next_place there) (ap Some f.functions) (ap Some f.others)
       where
-        recounted : {a b c d : ℕ} {o q u v : Option ℕ} {x y : Scope} → Follows k raw other a b o q x y → a ≡ c → b ≡ d → o ≡ u → q ≡ v → Follows k raw other c d u v x y
+        recounted : {a b c d : ℕ} {o q u v : Option ℕ} {x y : Scope} → ScopesAgree k raw other a b o q x y → a ≡ c → b ≡ d → o ≡ u → q ≡ v → ScopesAgree k raw other c d u v x y
         recounted {a} {b} {c} {d} {o} {q} {u} {v} {x} {y} g p r t w =
-            subst (λ (m : Option ℕ). Follows k raw other c d u m x y) w (subst (λ (m : Option ℕ). Follows k raw other c d m q x y) t
-            (subst (λ (m : ℕ). Follows k raw other c m o q x y) r (subst (λ (m : ℕ). Follows k raw other m b o q x y) p g)))
+            subst (λ (m : Option ℕ). ScopesAgree k raw other c d u m x y) w (subst (λ (m : Option ℕ). ScopesAgree k raw other c d m q x y) t
+            (subst (λ (m : ℕ). ScopesAgree k raw other c m o q x y) r (subst (λ (m : ℕ). ScopesAgree k raw other m b o q x y) p g)))
 
         -- the functions that are defined once this one is
         all_other : take (next.functions + 1) (defined_functions other) ≡ take there (defined_functions other) ++ (head ∷ [])
@@ -305,9 +305,9 @@ module _ (k : Kept) (raw other : RawProgram) (texts : TextsAgree k raw other) wh
 abbrev pub left_base : Scope → Scope → Scope
 left_base next scope = record (opened next) { owner = Some scope.functions; functions = scope.functions + 1 }
 
-pub entered_alone : (k : Kept) (raw other : RawProgram) {here there : ℕ} {mine yours : Option ℕ} {scope next : Scope} → Follows k raw other here there mine yours scope next → (head : RawHead) → k.function head.name ≡ false
+pub entered_alone : (k : Kept) (raw other : RawProgram) {here there : ℕ} {mine yours : Option ℕ} {scope next : Scope} → ScopesAgree k raw other here there mine yours scope next → (head : RawHead) → k.function head.name ≡ false
     → ParamsGo k raw head.params (scope_of_parameters head scope)
-    → Follows k raw raw (scope.functions + 1) (scope.functions + 1) (Some scope.functions) (Some scope.functions) (entered raw head scope) (left_base next scope)
+    → ScopesAgree k raw raw (scope.functions + 1) (scope.functions + 1) (Some scope.functions) (Some scope.functions) (entered raw head scope) (left_base next scope)
 entered_alone k raw other {here} {there} {mine} {yours} {scope} {next} f head is gone =
     params_gone k raw raw (same_texts k raw) head.params (scope_of_parameters head scope) (left_base next scope) gone
     (record {
@@ -325,13 +325,13 @@ entered_alone k raw other {here} {there} {mine} {yours} {scope} {next} f head is
       other_owner = refl;
     })
   where
-    og : Follows k raw other here there mine yours (opened (with_function head.name scope)) (opened next)
+    og : ScopesAgree k raw other here there mine yours (opened (with_function head.name scope)) (opened next)
     og = follows_opened k raw other (function_gone k raw other head.name is f)
 
 -- after a function of which nothing stays
-module _ (k : Kept) (raw other : RawProgram) {here there : ℕ} {mine yours : Option ℕ} {scope next : Scope} (f : Follows k raw other here there mine yours scope next) (line : ℕ) (head : RawHead) (body : List RawStatement) where
+module _ (k : Kept) (raw other : RawProgram) {here there : ℕ} {mine yours : Option ℕ} {scope next : Scope} (f : ScopesAgree k raw other here there mine yours scope next) (line : ℕ) (head : RawHead) (body : List RawStatement) where
   pub leaves : k.function head.name ≡ false → ParamsGo k raw head.params (scope_of_parameters head scope) → ThinAll k raw raw (entered raw head scope) body []
-      → Follows k raw other (suc here) there mine yours (after_item raw (Define line head body) scope) next
+      → ScopesAgree k raw other (suc here) there mine yours (after_item raw (Define line head body) scope) next
   leaves is gone d = record {
     names = g.names;
     within = g.within;
@@ -347,43 +347,36 @@ module _ (k : Kept) (raw other : RawProgram) {here there : ℕ} {mine yours : Op
     before = λ x h. inside.before x (later x (f.before x h));
   }
     where
-      g : Follows k raw other here there mine yours (with_function head.name scope) next
+      g : ScopesAgree k raw other here there mine yours (with_function head.name scope) next
       g = function_gone k raw other head.name is f
 
       base : Scope
       base = left_base next scope
 
-      inside : Follows k raw raw (scope.functions + 1) (scope.functions + 1) (Some scope.functions) (Some scope.functions) (after_body raw body (entered raw head scope)) base
+      inside : ScopesAgree k raw raw (scope.functions + 1) (scope.functions + 1) (Some scope.functions) (Some scope.functions) (after_body raw body (entered raw head scope)) base
       inside =
           let h = entered_alone k raw other f head is gone in
           let w = all_walk k raw raw (same_texts k raw) (scope.functions + 1) (scope.functions + 1) (Some scope.functions) (Some scope.functions) d base InBlock InBlock as_it_is h in
-          subst (λ (z : Scope). Follows k raw raw (scope.functions + 1) (scope.functions + 1) (Some scope.functions) (Some scope.functions) z base) (sym (body_after raw body (entered raw head scope))) w.after
+          subst (λ (z : Scope). ScopesAgree k raw raw (scope.functions + 1) (scope.functions + 1) (Some scope.functions) (Some scope.functions) z base) (sym (body_after raw body (entered raw head scope))) w.after
 
       later : (x : Bytes) → IsDefinedBefore raw scope x → IsDefinedBefore raw base x
       later x h = (h.0, subst (λ (n : ℕ). Contains (take n (defined_functions raw)) h.0) (sym (next_place scope.functions)) (in_next scope.functions (defined_functions raw) h.0 h.1), h.2)
 
 -- ---- the walk
 
--- no phrase of these breaks a rule
-abbrev pub AreRight : RawProgram → Phrases → Type 0
-AreRight raw ps = (p : Phrase) → Contains ps p → (n : ℕ) → Breaks raw p.scope p.part n → ⊥
-
 module _ (k : Kept) (raw other : RawProgram) (texts : TextsAgree k raw other) where
-  pub no_variable_there : (line : ℕ) (scope : Scope) (head : RawHead) (is_definition : Bool) (rest : Phrases) → AreRight raw (phrase line scope (DeclaresFunction head is_definition) ∷ rest) → IsVariable (meaning_here scope head.name) → ⊥
+  pub no_variable_there : (line : ℕ) (scope : Scope) (head : RawHead) (is_definition : Bool) (rest : Phrases) → AreKept raw (phrase line scope (DeclaresFunction head is_definition) ∷ rest) → IsVariable (meaning_here scope head.name) → ⊥
   no_variable_there line scope head is_definition rest right v =
-      right (phrase line scope (DeclaresFunction head is_definition)) (contains_first _ rest) 2 (Breaks.declared_again (DeclaresAgain.function v.2))
-
-  pub rest_right : (ps qs : Phrases) → AreRight raw (ps ++ qs) → AreRight raw qs
-  rest_right ps qs right p c = right p (Contains-append_right ps qs p c)
+      right.0 2 (Breaks.declared_again (DeclaresAgain.function v.2))
 
   abbrev Walk : (scope next : Scope) (xs ys : List RawItem) → Type 0
   Walk scope next xs ys = AreCounterparts k raw other (items_phrases other ys next) (items_phrases raw xs scope)
 
-  pub define_stands : {here there : ℕ} {mine yours : Option ℕ} {scope next : Scope} (line : ℕ) (head : RawHead) (body some : List RawStatement) (rest more : List RawHead) → Follows k raw other here there mine yours scope next → k.function head.name ≡ true
+  pub define_stands : {here there : ℕ} {mine yours : Option ℕ} {scope next : Scope} (line : ℕ) (head : RawHead) (body some : List RawStatement) (rest more : List RawHead) → ScopesAgree k raw other here there mine yours scope next → k.function head.name ≡ true
       → (IsVariable (meaning_here scope head.name) → ⊥) → ParamsStay k raw head.params (scope_of_parameters head scope) → ThinAll k raw other (entered raw head scope) body some → EndsToo head body some
       → drop here (defined_functions raw) ≡ head ∷ rest → drop there (defined_functions other) ≡ head ∷ more
       → AreCounterparts k raw other (item_phrases other (Define line head some) next) (item_phrases raw (Define line head body) scope)
-      × Follows k raw other (suc here) (suc there) mine yours (after_item raw (Define line head body) scope) (after_item other (Define line head some) next)
+      × ScopesAgree k raw other (suc here) (suc there) mine yours (after_item raw (Define line head body) scope) (after_item other (Define line head some) next)
   define_stands {here} {there} {mine} {yours} {scope} {next} line head body some rest more f is none stay d ends at_raw at_other =
       let e = enters k raw other texts f head rest more is none at_raw at_other in
       let p = params_walk k raw other texts head.params (scope_of_parameters head scope) (scope_of_parameters head next) stay e in
@@ -395,24 +388,24 @@ module _ (k : Kept) (raw other : RawProgram) (texts : TextsAgree k raw other) wh
             (subst (λ (qs : Phrases). AreCounterparts k raw other qs (body_phrases raw body (entered raw head scope))) (sym (body_in_order other some (entered other head next)))
             (subst (λ (ps : Phrases). AreCounterparts k raw other (joined_at InBlock (in_order (map (scoped other) some) (entered other head next))) ps) (sym (body_in_order raw body (entered raw head scope))) w.phrases))
             (one_stands k raw other line line scope next (EndsFunction head body) (EndsFunction head some) (PartsAgree.ends ends) (places_agree k raw other texts f (end_stays k raw other texts head some))))),
-        subst (λ (z : Scope). Follows k raw other (suc here) (suc there) mine yours (after_item raw (Define line head body) scope) (closed (with_function head.name next) z)) (sym (body_after other some (entered other head next)))
-            (subst (λ (z : Scope). Follows k raw other (suc here) (suc there) mine yours (closed (with_function head.name scope) z) (closed (with_function head.name next) (after_all (map (scoped other) some) (entered other head next))))
+        subst (λ (z : Scope). ScopesAgree k raw other (suc here) (suc there) mine yours (after_item raw (Define line head body) scope) (closed (with_function head.name next) z)) (sym (body_after other some (entered other head next)))
+            (subst (λ (z : Scope). ScopesAgree k raw other (suc here) (suc there) mine yours (closed (with_function head.name scope) z) (closed (with_function head.name next) (after_all (map (scoped other) some) (entered other head next))))
             (sym (body_after raw body (entered raw head scope))) (follows_closed k raw other (function_kept k raw other head.name is none f) w.after)),
       )
 
-  items_walk : {scope : Scope} {xs ys : List RawItem} → ItemsThin k raw other scope xs ys → (here there : ℕ) (mine yours : Option ℕ) (next : Scope) → Follows k raw other here there mine yours scope next
-      → drop here (defined_functions raw) ≡ functions_of xs → drop there (defined_functions other) ≡ functions_of ys → AreRight raw (items_phrases raw xs scope) → Walk scope next xs ys
+  items_walk : {scope : Scope} {xs ys : List RawItem} → ItemsThin k raw other scope xs ys → (here there : ℕ) (mine yours : Option ℕ) (next : Scope) → ScopesAgree k raw other here there mine yours scope next
+      → drop here (defined_functions raw) ≡ function_texts xs → drop there (defined_functions other) ≡ function_texts ys → AreKept raw (items_phrases raw xs scope) → Walk scope next xs ys
   items_walk ItemsThin.none here there mine yours next f at_raw at_other right = none_stand k raw other []
   items_walk (ItemsThin.include d) here there mine yours next f at_raw at_other right = items_walk d here there mine yours next f at_raw at_other right
   items_walk {scope} (ItemsThin.tag {l} {w} {rest} {others} d) here there mine yours next f at_raw at_other right =
       both_stand k raw other (phrase l next (NamesStruct w) ∷ []) (items_phrases other others next) (phrase l scope (NamesStruct w) ∷ []) (items_phrases raw rest scope)
       (stands k raw other texts f l (NamesStruct w) (tag_stays k raw other texts w))
-      (items_walk d here there mine yours next f at_raw at_other (rest_right (phrase l scope (NamesStruct w) ∷ []) (items_phrases raw rest scope) right))
+      (items_walk d here there mine yours next f at_raw at_other (kept_second raw (phrase l scope (NamesStruct w) ∷ []) (items_phrases raw rest scope) right))
   items_walk {scope} (ItemsThin.structure {l} {w} {members} {rest} {others} stay d) here there mine yours next f at_raw at_other right =
       both_stand k raw other (item_phrases other (Struct l w members) next) _ (item_phrases raw (Struct l w members) scope) _
       (both_stand k raw other (phrase l next (DefinesStruct w) ∷ []) (member_phrases next [] members) (phrase l scope (DefinesStruct w) ∷ []) (member_phrases scope [] members)
       (stands k raw other texts f l (DefinesStruct w) (struct_stays k raw other texts w)) (members_stand k raw other texts f [] members stay))
-      (items_walk d here there mine yours (after_item other (Struct l w members) next) (structs_follow k raw other texts f) at_raw at_other (rest_right (item_phrases raw (Struct l w members) scope) _ right))
+      (items_walk d here there mine yours (after_item other (Struct l w members) next) (structs_follow k raw other texts f) at_raw at_other (kept_second raw (item_phrases raw (Struct l w members) scope) _ right))
   items_walk {scope} (ItemsThin.global {l} {v} {i} {is_static} {rest} {others} is stay begin d) here there mine yours next f at_raw at_other right =
       let like = variable_same raw other texts.outside v i in
       let g = variable_kept k raw other v v i i is like.name like.type f in
@@ -420,31 +413,31 @@ module _ (k : Kept) (raw other : RawProgram) (texts : TextsAgree k raw other) wh
       (both_stand k raw other (phrase l next (Declares (InFile is_static) v i) ∷ []) (begun_phrases l (with_variable other v i next) (InFile is_static) v i)
       (phrase l scope (Declares (InFile is_static) v i) ∷ []) (begun_phrases l (with_variable raw v i scope) (InFile is_static) v i)
       (stands k raw other texts f l (Declares (InFile is_static) v i) stay) (begun_stand_as_it_is k raw other texts here there mine yours l (InFile is_static) v i begin g))
-      (items_walk d here there mine yours (with_variable other v i next) g at_raw at_other (rest_right (item_phrases raw (Global l v i is_static) scope) _ right))
+      (items_walk d here there mine yours (with_variable other v i next) g at_raw at_other (kept_second raw (item_phrases raw (Global l v i is_static) scope) _ right))
   items_walk {scope} (ItemsThin.global_goes {l} {v} {i} {is_static} is d) here there mine yours next f at_raw at_other right =
       front_gone k raw other _ (item_phrases raw (Global l v i is_static) scope) _
-      (items_walk d here there mine yours next (variable_gone k raw other v i is f) at_raw at_other (rest_right (item_phrases raw (Global l v i is_static) scope) _ right))
+      (items_walk d here there mine yours next (variable_gone k raw other v i is f) at_raw at_other (kept_second raw (item_phrases raw (Global l v i is_static) scope) _ right))
   items_walk {scope} (ItemsThin.prototype {l} {head} {rest} {others} is d) here there mine yours next f at_raw at_other right =
       both_stand k raw other (item_phrases other (Prototype l head) next) _ (item_phrases raw (Prototype l head) scope) _
       (both_stand k raw other (phrase l next (DeclaresFunction head false) ∷ []) (taken_phrases next [] head.params) (phrase l scope (DeclaresFunction head false) ∷ []) (taken_phrases scope [] head.params)
       (stands k raw other texts f l (DeclaresFunction head false) (head_stays k raw other texts head false is)) (taken_stand k raw other texts f [] head.params))
       (items_walk d here there mine yours (with_function head.name next) (function_kept k raw other head.name is (no_variable_there l scope head false _ right) f) at_raw at_other
-      (rest_right (item_phrases raw (Prototype l head) scope) _ right))
+      (kept_second raw (item_phrases raw (Prototype l head) scope) _ right))
   items_walk {scope} (ItemsThin.prototype_goes {l} {head} is d) here there mine yours next f at_raw at_other right =
       front_gone k raw other _ (item_phrases raw (Prototype l head) scope) _
-      (items_walk d here there mine yours next (function_gone k raw other head.name is f) at_raw at_other (rest_right (item_phrases raw (Prototype l head) scope) _ right))
+      (items_walk d here there mine yours next (function_gone k raw other head.name is f) at_raw at_other (kept_second raw (item_phrases raw (Prototype l head) scope) _ right))
   items_walk {scope} (ItemsThin.define {l} {head} {body} {some} {rest} {others} is stay thin ends d) here there mine yours next f at_raw at_other right =
-      let w = define_stands l head body some (functions_of rest) (functions_of others) f is (no_variable_there l scope head true _ right) stay thin ends at_raw at_other in
+      let w = define_stands l head body some (function_texts rest) (function_texts others) f is (no_variable_there l scope head true _ right) stay thin ends at_raw at_other in
       both_stand k raw other (item_phrases other (Define l head some) next) _ (item_phrases raw (Define l head body) scope) _ w.0
-      (items_walk d (suc here) (suc there) mine yours (after_item other (Define l head some) next) w.1 (drop_next here (defined_functions raw) head (functions_of rest) at_raw) (drop_next there (defined_functions other) head (functions_of others) at_other)
-      (rest_right (item_phrases raw (Define l head body) scope) _ right))
+      (items_walk d (suc here) (suc there) mine yours (after_item other (Define l head some) next) w.1 (drop_next here (defined_functions raw) head (function_texts rest) at_raw) (drop_next there (defined_functions other) head (function_texts others) at_other)
+      (kept_second raw (item_phrases raw (Define l head body) scope) _ right))
   items_walk {scope} (ItemsThin.define_goes {l} {head} {body} {rest} is gone thin d) here there mine yours next f at_raw at_other right =
       front_gone k raw other _ (item_phrases raw (Define l head body) scope) _
-      (items_walk d (suc here) there mine yours next (leaves k raw other f l head body is gone thin) (drop_next here (defined_functions raw) head (functions_of rest) at_raw) at_other
-      (rest_right (item_phrases raw (Define l head body) scope) _ right))
+      (items_walk d (suc here) there mine yours next (leaves k raw other f l head body is gone thin) (drop_next here (defined_functions raw) head (function_texts rest) at_raw) at_other
+      (kept_second raw (item_phrases raw (Define l head body) scope) _ right))
 
 -- at the beginning of both texts
-pub begins_follow : (k : Kept) (raw other : RawProgram) → Follows k raw other 0 0 None None outset outset
+pub begins_follow : (k : Kept) (raw other : RawProgram) → ScopesAgree k raw other 0 0 None None outset outset
 begins_follow k raw other = record {
   names = refl;
   within = omega arith;
@@ -475,7 +468,7 @@ drop_none (x ∷ xs) = refl
 pub thinner_keeps : (k : Kept) (raw other : RawProgram) → IsThinner k raw other → KeepsRules raw → KeepsRules other
 thinner_keeps k raw other thin keeps number line (IsBroken.by_phrase {n} {p = q} c breaks) =
     let texts = texts_agree k raw other thin.items in
-    let p = items_walk k raw other texts thin.items 0 0 None None outset (begins_follow k raw other) (drop_none (defined_functions raw)) (drop_none (defined_functions other)) (λ p c n b. keeps n p.line (IsBroken.by_phrase c b)) q c in
+    let p = items_walk k raw other texts thin.items 0 0 None None outset (begins_follow k raw other) (drop_none (defined_functions raw)) (drop_none (defined_functions other)) (kept_from raw (phrases raw) (λ p c n b. keeps n p.line (IsBroken.by_phrase c b))) q c in
     keeps n p.phrase.line (IsBroken.by_phrase p.stands (counterpart_breaks k raw other p breaks))
 thinner_keeps k raw other thin keeps number line (IsBroken.no_main none) =
     let texts = texts_agree k raw other thin.items in

@@ -1,5 +1,4 @@
 pub mod Trees
-pub mod Options
 pub mod Within
 pub mod Outside
 pub mod RenumberingLemmas

@@ -28,10 +28,6 @@ module _ (f : ℕ → ℕ) where
   is_function_moved (Some (Meaning.Variable id t)) = refl
   is_function_moved (Some Meaning.Function) = refl
 
-  pub none_back : (m : Option Meaning) → option_map (moved_meaning f) m ≡ None → m ≡ None
-  none_back None h = refl
-  none_back (Some m) h = none_there (sym h)
-
   pub function_back : (m : Option Meaning) → option_map (moved_meaning f) m ≡ Some Meaning.Function → m ≡ Some Meaning.Function
   function_back None h = none_there h
   function_back (Some (Meaning.Variable id t)) h = function_variable (sym (some_same h))

@@ -2,6 +2,7 @@
 use Rattle.std.proofs.Common.{◌≡◌, ℕ, zero, suc, ◌==◌, [], ◌∷◌, Bool, true, Option, Some, None, option_map, option_and_then, refl, sym, ap, subst, ◌∙◌, arith}
 use Rattle.std.specs.Prelude.{Contains}
 use Rattle.std.proofs.lemmas.Bool.{or_left, or_right, eq-eqb}
+use Rattle.c_language.proofs.LayerForms.{expr_of-Variable}
 use Rattle.c_arith.specs.declared.int_type.IntType.{IntType}
 use Rattle.c_arith.specs.declared.operators.UnaryOp.{UnaryOp}
 use Rattle.c_tree.specs.declared.expr.Expr.{Expr, fold-roll-Expr}
@@ -11,7 +12,6 @@ use Rattle.c_tree.specs.declared.expr.MemberId.{MemberId}
 use Rattle.c_tree.specs.declared.raw.expr.RawExpr.{RawExpr, out-RawExpr, map-RawExpr, fold-roll-RawExpr}
 use Rattle.c_tree.specs.declared.raw.expr.RawExpr.TheOpen.{RawExpr-F}
 use Rattle.c_tree.specs.declared.raw.expr.RawExpr.TheViews.{roll-out-RawExpr}
-use Rattle.c_tree.specs.declared.raw.expr.RawExpr.TheVariants as r
 use Rattle.c_tree.specs.declared.raw.program.RawProgram.{RawProgram}
 use Rattle.c_language.specs.Words.{Bytes}
 use Rattle.c_language.specs.ConstantEvaluation.{both}
@@ -21,7 +21,7 @@ use Rattle.c_language.specs.ProgramOf.{Told, told_step, told_of, expr_of, variab
 use Rattle.c_language.proofs.Options.{none_there, some_same}
 use Rattle.c_scope_laws.specs.Agreement.{NamedIn}
 use Rattle.projection.specs.Kept.{Kept}
-use Rattle.c_scope_laws.specs.Thinning.{stays, found, IsKept}
+use Rattle.c_scope_laws.specs.Thinning.{name_stays, found, EntryStays}
 use Rattle.projection.specs.Names.{names_step, names}
 use Rattle.projection.proofs.NameForms.{names-Binary, names-AndAlso, names-OrElse, names-Choose, names-Index}
 use Rattle.c_scope_laws.proofs.Trees.{in_none, in_one}
@@ -144,30 +144,27 @@ module _ (raw : RawProgram) (scope : Scope) where
   tree_of_layer : (a : RawExpr) → expr_of raw scope a ≡ (told_step raw scope (map-RawExpr RawExpr Told (told_of raw scope) (out-RawExpr a))).tree
   tree_of_layer a = ap (expr_of raw scope) (sym (roll-out-RawExpr a)) ∙ ap (λ (t : Told). t.tree) (fold-roll-RawExpr Told (told_step raw scope) (out-RawExpr a))
 
-  tree_of_variable : (x : Bytes) → expr_of raw scope (r.Variable x) ≡ option_map e.Variable (variable_number (meaning_in scope x))
-  tree_of_variable x = ap (expr_of raw scope) (sym (r.rolls-Variable x)) ∙ ap (λ (t : Told). t.tree) (fold-roll-RawExpr Told (told_step raw scope) (RawExpr-F.Variable x))
-
   by_number : (x : Bytes) (o : Option ℕ) → variable_number (meaning_in scope x) ≡ o → (w : Expr) → option_map e.Variable o ≡ Some w → IsNamedBy scope x w
   by_number x None p w at = none_there at
   by_number x (Some n) p w at = record { id = n; stands = p; named = ap (λ (u : Expr). names u n) (sym (some_same at)) ∙ names-Variable n n ∙ eq-eqb n n refl }
 
   -- each name of an expression that has a tree stands for a variable that the tree names
   pub named_by : {a : RawExpr} (x : Bytes) → NamedIn a x → (w : Expr) → expr_of raw scope a ≡ Some w → IsNamedBy scope x w
-  named_by x whole w at = by_number x (variable_number (meaning_in scope x)) refl w (sym (tree_of_variable x) ∙ at)
+  named_by x whole w at = by_number x (variable_number (meaning_in scope x)) refl w (sym (expr_of-Variable raw scope x) ∙ at)
   named_by {a} x (deeper {middle = m} c n) w at =
       let p = operand_part (out-RawExpr a) w (sym (tree_of_layer a) ∙ at) m c in
       let h = named_by x n p.tree p.there in
       record { id = h.id; stands = h.stands; named = p.names_too h.id h.named }
 
 -- what the tree of an expression names is kept, so that what the expression names is
-pub kept_by_tree : (k : Kept) (raw : RawProgram) (scope : Scope) (a : RawExpr) (w : Expr) → expr_of raw scope a ≡ Some w → ((id : ℕ) → names w id ≡ true → k.variable id ≡ true) → (x : Bytes) → NamedIn a x → IsKept k (found x scope.names)
+pub kept_by_tree : (k : Kept) (raw : RawProgram) (scope : Scope) (a : RawExpr) (w : Expr) → expr_of raw scope a ≡ Some w → ((id : ℕ) → names w id ≡ true → k.variable id ≡ true) → (x : Bytes) → NamedIn a x → EntryStays k (found x scope.names)
 kept_by_tree k raw scope a w at stay x n =
     let h = named_by raw scope x n w at in by_found (found x scope.names) refl h.id h.stands (stay h.id h.named)
   where
-    by_meaning : (y : Bytes) (m : Meaning) (id : ℕ) → variable_number (Some m) ≡ Some id → k.variable id ≡ true → stays k y m ≡ true
+    by_meaning : (y : Bytes) (m : Meaning) (id : ℕ) → variable_number (Some m) ≡ Some id → k.variable id ≡ true → name_stays k y m ≡ true
     by_meaning y (Meaning.Variable n t) id p q = ap k.variable (some_same p) ∙ q
     by_meaning y Meaning.Function id p q = none_there p
 
-    by_found : (o : Option Entry) → found x scope.names ≡ o → (id : ℕ) → variable_number (meaning_in scope x) ≡ Some id → k.variable id ≡ true → IsKept k o
+    by_found : (o : Option Entry) → found x scope.names ≡ o → (id : ℕ) → variable_number (meaning_in scope x) ≡ Some id → k.variable id ≡ true → EntryStays k o
     by_found None p id q s = tt
     by_found (Some entry) p id q s = by_meaning entry.name entry.meaning id (sym (ap (λ (o : Option Entry). variable_number (option_map (λ (y : Entry). y.meaning) o)) p) ∙ q) s

@@ -2,23 +2,19 @@
 use Rattle.std.proofs.Common.{◌≡◌, ℕ, List, [], ◌∷◌, map, Option, Some, None, refl, inl, ap, ap₂, ◌∙◌, slice_get}
 use Rattle.std.specs.Prelude.{option_map, option_and_then, bytes_eq}
 use Rattle.std.specs.List.{position}
-use Rattle.c_tree.specs.declared.types.CType.{CType}
-use Rattle.c_tree.specs.declared.types.CType.TheVariants as t
 use Rattle.c_tree.specs.declared.raw.expr.RawType.{RawType}
-use Rattle.c_tree.specs.declared.raw.expr.RawType.TheOpen.{RawType-F}
 use Rattle.c_tree.specs.declared.raw.expr.RawVar.{RawVar}
 use Rattle.c_tree.specs.declared.raw.program.RawInit.{RawInit}
 use Rattle.c_tree.specs.declared.raw.program.RawMember.{RawMember}
 use Rattle.c_tree.specs.declared.raw.program.RawHead.{RawHead}
 use Rattle.c_tree.specs.declared.raw.program.RawParam.{RawParam}
 use Rattle.c_tree.specs.declared.raw.program.RawProgram.{RawProgram}
-use Rattle.c_tree.proofs.RawTrees.{type_folds_same}
 use Rattle.c_language.specs.Words.{Bytes}
-use Rattle.c_language.specs.DeclaredTypes.{StructText, item_count, struct_id, of_base, type_step, type_with, written_type, type_or_void, result_type, parameter_types}
+use Rattle.c_language.specs.DeclaredTypes.{StructText, item_count, struct_id, type_with, written_type, type_or_void, result_type, parameter_types}
 use Rattle.c_language.specs.ExprTypes.{member_named, member_of}
-use Rattle.c_language.specs.ProgramOf.{member_id, ctype_step, ctype_with}
-use Rattle.c_language.specs.declared.expr_type.Base.TheVariants as base
+use Rattle.c_language.specs.ProgramOf.{member_id, ctype_with}
 use Rattle.c_language.specs.declared.expr_type.ExprType.{ExprType}
+use Rattle.c_language.proofs.SameStructs as texts
 use Rattle.c_scope_laws.specs.Agreement.{SameOutside, SameVariable}
 
 module _ (raw other : RawProgram) (like : SameOutside raw other) where
@@ -27,23 +23,11 @@ module _ (raw other : RawProgram) (like : SameOutside raw other) where
 
   -- ---- types
 
-  type_steps : (items : ℕ) (y : RawType-F (Option ExprType)) → type_step other items y ≡ type_step raw items y
-  type_steps items (RawType-F.Integer i) = refl
-  type_steps items (RawType-F.PointerTo a) = refl
-  type_steps items (RawType-F.Array a n) = refl
-  type_steps items (RawType-F.Struct tag) = ap (option_map (λ (s : ℕ). of_base (base.Struct s))) (struct_ids tag)
-
   pub types_same : (items : ℕ) (a : RawType) → type_with other items a ≡ type_with raw items a
-  types_same items = type_folds_same (type_step other items) (type_step raw items) (type_steps items)
-
-  ctype_steps : (items : ℕ) (y : RawType-F (Option CType)) → ctype_step other items y ≡ ctype_step raw items y
-  ctype_steps items (RawType-F.Integer i) = refl
-  ctype_steps items (RawType-F.PointerTo a) = refl
-  ctype_steps items (RawType-F.Array a n) = refl
-  ctype_steps items (RawType-F.Struct tag) = ap (option_map t.Struct) (struct_ids tag)
+  types_same = texts.types_same other raw struct_ids
 
   pub ctypes_same : (items : ℕ) (a : RawType) → ctype_with other items a ≡ ctype_with raw items a
-  ctypes_same items = type_folds_same (ctype_step other items) (ctype_step raw items) (ctype_steps items)
+  ctypes_same = texts.ctypes_same other raw struct_ids
 
   -- ---- members
 

@@ -12,11 +12,12 @@ use Rattle.c_tree.specs.declared.raw.program.RawProgram.{RawProgram}
 use Rattle.c_language.specs.ConstantEvaluation.{both}
 use Rattle.c_language.specs.DeclaredTypes.{StructText, defined_structs, defined_functions}
 use Rattle.c_language.specs.Scopes.{outset}
-use Rattle.c_language.specs.Phrases.{scope_at_end}
+use Rattle.c_language.specs.Phrases.{scope_at_end, phrases}
 use Rattle.c_language.specs.Rules.{IsBroken, KeepsRules}
 use Rattle.c_language.specs.ProgramOf.{collected, member_tree, struct_tree, structs_of, items_of, variables_of, functions_of, program_with, program_of}
 use Rattle.c_language.proofs.Options.{none_there, some_same}
 use Rattle.c_language.proofs.Lists.{maps_same}
+use Rattle.c_language.proofs.PhraseLists.{kept_from}
 use Rattle.c_scope_laws.specs.Agreement.{SameOutside}
 use Rattle.projection.specs.Kept.{Kept, rank}
 use Rattle.c_scope_laws.specs.ThinTexts.{IsThinner}
@@ -58,6 +59,6 @@ whole_program k test n m num (Some is) items' (Some vs) vars' (Some ss) structs'
 pub program_thins : (k : Kept) (test : ℕ → Bool) (raw other : RawProgram) (p : Program) → IsThinner k raw other → FunctionNumbers k raw other test → KeepsRules raw → program_of raw ≡ Some p → program_of other ≡ Some (projected_program k test p)
 program_thins k test raw other p thin fns keeps at =
     let texts = texts_agree k raw other thin.items in
-    let r = stay k raw other texts test fns thin.items 0 0 None None outset (begins_follow k raw other) refl refl (drop_none (defined_functions raw)) (drop_none (defined_functions other)) (λ p c n b. keeps n p.line (IsBroken.by_phrase c b)) in
+    let r = stay k raw other texts test fns thin.items 0 0 None None outset (begins_follow k raw other) refl refl (drop_none (defined_functions raw)) (drop_none (defined_functions other)) (kept_from raw (phrases raw) (λ p c n b. keeps n p.line (IsBroken.by_phrase c b))) in
     whole_program k test (scope_at_end raw).statements (scope_at_end other).statements r.statements (items_of raw) (items_of other) (variables_of raw) (variables_of other) (structs_of raw) (structs_of other) (functions_of raw) (functions_of other)
     r.items r.vars.vars (structs_same raw other texts.outside) r.functions p at

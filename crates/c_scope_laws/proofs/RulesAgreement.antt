@@ -6,7 +6,6 @@ use Rattle.c_language.proofs.Operands.{seen-Constant}
 use Rattle.c_arith.specs.declared.operators.BinaryOp.{BinaryOp}
 use Rattle.c_tree.specs.declared.raw.expr.RawExpr.{RawExpr}
 use Rattle.c_tree.specs.declared.raw.expr.RawExpr.TheOpen.{RawExpr-F}
-use Rattle.c_tree.specs.declared.raw.expr.RawExpr.TheVariants as e
 use Rattle.c_tree.specs.declared.raw.expr.RawType.{RawType}
 use Rattle.c_tree.specs.declared.raw.expr.RawVar.{RawVar}
 use Rattle.c_tree.specs.declared.raw.program.RawInit.{RawInit}
@@ -16,7 +15,6 @@ use Rattle.c_tree.specs.declared.raw.program.RawProgram.{RawProgram}
 use Rattle.c_tree.specs.declared.raw.statement.RawTarget.{RawTarget}
 use Rattle.c_tree.specs.declared.raw.statement.RawTarget.TheVariants as target
 use Rattle.c_tree.specs.declared.raw.statement.RawArg.{RawArg}
-use Rattle.c_tree.specs.declared.raw.statement.RawArg.TheVariants as arg
 use Rattle.c_tree.specs.declared.raw.statement.RawStatement.{RawStatement}
 use Rattle.c_tree.specs.declared.raw.statement.RawTypeName.{RawTypeName}
 use Rattle.c_tree.specs.declared.raw.statement.RawSize.{RawSize}
@@ -25,44 +23,34 @@ use Rattle.c_tree.specs.declared.raw.statement.RawAmount.{RawAmount}
 use Rattle.c_tree.specs.declared.raw.statement.RawAmount.TheVariants as amount
 use Rattle.c_language.specs.Words.{Bytes}
 use Rattle.c_language.specs.TypeGrammar.{named_type}
-use Rattle.c_language.specs.DeclaredTypes.{StructText, definition_of, positive, type_with, result_type, parameter_types, item_count}
+use Rattle.c_language.specs.DeclaredTypes.{StructText, definition_of, positive, type_with, result_type, parameter_types}
 use Rattle.c_language.specs.Scopes.{Scope, meaning_in, meaning_here}
 use Rattle.c_language.specs.ExprTypes.{operand}
 use Rattle.c_language.specs.ExprRules.{Seen, seen, is_undeclared, lacks_header, has_bad_operand, has_no_address, needs_struct, selects_missing, holds_of, points_to_incomplete, moves_incomplete}
 use Rattle.c_language.specs.Formats.{Conversion}
 use Rattle.c_language.specs.Phrases.{Stand, InFile, InArm, InFor, Part, NamesStruct, DefinesStruct, HasMember, DeclaresFunction, Takes, EndsFunction, Declares, Begins, Assigns, Bumps, Calls, Allocates, Tests, Switches, Returns}
-use Rattle.c_language.specs.Uses.{lengths, expressions, arg_exprs, target_exprs, counts, sizes, cases, Holds, holds, tags, is_library_name}
+use Rattle.c_language.specs.Uses.{lengths_of, expressions, arg_exprs, target_exprs, counts, sizes, cases, Holds, holds, tags, is_library_name}
 use Rattle.c_language.specs.Rules.{Breaks}
 use Rattle.c_language.specs.NameRules.{main_name, agree, all_agree, same_signature, UsesUndeclared, DeclaresAgain, Shadows, DeclaresLibraryName, MisusesMain, LacksDefinition, LacksHeader}
 use Rattle.c_language.specs.StructRules.{MisusesTag, MisnamesMember}
 use Rattle.c_language.specs.ArrayRules.{HasNoElement, LacksConstant, HasUnfit, MisusesInitialiser}
 use Rattle.c_language.specs.SwitchRules.{MisusesSwitch, MisplacesDeclaration}
 use Rattle.c_language.specs.TypeRules.{MisusesOperator, AssignsOtherType, IsNoTarget, AssignsNoPlace, MisusesAddress}
-use Rattle.c_language.specs.CallRules.{HasUnfitArgument, MisusesArguments, target_type, MisusesResult, later_args, MisusesReturn, HasUnfitWidth, MisusesFormat, HasOtherSize, MisusesAllocation, MisusesLibrary}
+use Rattle.c_language.specs.CallRules.{HasUnfitArgument, MisusesArguments, target_type, MisusesResult, MisusesReturn, HasUnfitWidth, MisusesFormat, HasOtherSize, MisusesAllocation, MisusesLibrary}
 use Rattle.c_language.specs.declared.expr_type.ExprType.{ExprType}
 use Rattle.c_language.specs.declared.expr_type.Operand.{Operand}
-use Rattle.c_language.proofs.Options.{none_there, some_same}
+use Rattle.c_language.specs.CountConstants.{IsCountConstant}
+use Rattle.c_language.proofs.Options.{none_there, some_same, unmapped}
 use Rattle.c_language.proofs.Tests.{false_true}
 use Rattle.c_language.proofs.Lists.{contains_first, contains_later}
 use Rattle.c_language.proofs.UseLemmas.{only_part, only_in}
-use Rattle.c_scope_laws.specs.Agreement.{Names, in_expression, measured, NamesFunction, DeclaresName, DeclaresHead, moved_meaning, PlacesAgree, IsCountConstant, SameVariable, StandsFor, there, CallStandsFor, as_it_is, elsewhere, StoresLess, kept, lost, EndsToo, PartsAgree, declares, begins, ends, calls}
+use Rattle.c_scope_laws.specs.Agreement.{Names, in_expression, measured, NamesFunction, DeclaresName, DeclaresHead, moved_meaning, PlacesAgree, SameVariable, StandsFor, there, CallStandsFor, as_it_is, elsewhere, StoresLess, kept, lost, EndsToo, PartsAgree, declares, begins, ends, calls}
 use Rattle.c_scope_laws.proofs.Within.{held_within}
-use Rattle.c_scope_laws.proofs.Outside.{struct_ids, types_same, ctypes_same, results_same, parameters_same}
-use Rattle.c_scope_laws.proofs.Meanings.{none_back, function_back, variable_back}
+use Rattle.c_scope_laws.proofs.Outside.{struct_ids, types_same, variable_same, results_same, parameters_same}
+use Rattle.c_scope_laws.proofs.Meanings.{function_back, variable_back}
 use Rattle.c_scope_laws.proofs.ExprAgreement.{Covers, operands_same}
-use Rattle.c_scope_laws.proofs.StatementAgreement.{CoversAll, part_covers, left_covered, right_covered}
+use Rattle.c_scope_laws.proofs.StatementAgreement.{CoversAll, rest_args, later_covered, part_covers, left_covered, right_covered}
 use Rattle.c_scope_laws.proofs.SeenTests.{complete_same, points_in_same, moves_same, undeclared_at, operators_at, headers_at, needs_at, missing_at, address_at}
-
--- ---- arguments
-
--- the first of the expressions of arguments is covered, and those of the rest are
-rest_args : {named : Bytes → Type 0} (a : RawArg) (rest : List RawArg) → CoversAll named (arg_exprs (a ∷ rest)) → CoversAll named (arg_exprs rest)
-rest_args (arg.Value x) rest c b k = c b (contains_later x b (arg_exprs rest) k)
-rest_args (arg.Literal text) rest c b k = c b k
-
-later_args_covered : {named : Bytes → Type 0} (args : List RawArg) → CoversAll named (arg_exprs args) → CoversAll named (arg_exprs (later_args args))
-later_args_covered [] c = c
-later_args_covered (a ∷ rest) c = rest_args a rest c
 
 -- ---- parts
 
@@ -80,22 +68,22 @@ pub record Allows (named functions declared headed : Bytes → Type 0) (part : P
   pub declares_head : (x : Bytes) → DeclaresHead part x → headed x
 
 -- a part that is the same in both texts
-abbrev is_kept : Part → Bool
-is_kept (NamesStruct t) = true
-is_kept (DefinesStruct t) = true
-is_kept (HasMember before m) = true
-is_kept (DeclaresFunction h d) = true
-is_kept (Takes before p) = true
-is_kept (EndsFunction h body) = false
-is_kept (Declares stand v i) = false
-is_kept (Begins stand v i) = false
-is_kept (Assigns a op b) = true
-is_kept (Bumps a) = true
-is_kept (Calls stand to f args) = false
-is_kept (Allocates to cast n) = true
-is_kept (Tests a) = true
-is_kept (Switches a labels) = true
-is_kept (Returns a) = true
+abbrev keeps_part : Part → Bool
+keeps_part (NamesStruct t) = true
+keeps_part (DefinesStruct t) = true
+keeps_part (HasMember before m) = true
+keeps_part (DeclaresFunction h d) = true
+keeps_part (Takes before p) = true
+keeps_part (EndsFunction h body) = false
+keeps_part (Declares stand v i) = false
+keeps_part (Begins stand v i) = false
+keeps_part (Assigns a op b) = true
+keeps_part (Bumps a) = true
+keeps_part (Calls stand to f args) = false
+keeps_part (Allocates to cast n) = true
+keeps_part (Tests a) = true
+keeps_part (Switches a labels) = true
+keeps_part (Returns a) = true
 
 -- ---- stands and targets
 
@@ -124,13 +112,10 @@ stored_in kept a c = c
 stored_in lost a (k, within, is) = absurd (omega (arith, within))
 
 module _ (f : ℕ → ℕ) (named functions declared headed : Bytes → Type 0) (raw other : RawProgram) (scope next : Scope) (fit : PlacesAgree f named functions declared headed raw other scope next) where
-  same_variable : (v : RawVar) (i : RawInit) → SameVariable raw other v i v i
-  same_variable v i = record { name = refl; type = types_same raw other fit.outside (item_count i) v.shape; tree = ctypes_same raw other fit.outside (item_count i) v.shape; tags = refl; lengths = λ a c. inl c }
-
   -- a fact about what a declaration, an initialiser or a call stands for
   declared_moves : {part : Part} {place : Stand} {w : RawVar} {j : RawInit} (X : Part → Type 0) → PartsAgree raw other part (Declares place w j)
       → ((stand : Stand) (v : RawVar) (i : RawInit) → StandsFor stand place → SameVariable raw other v i w j → X (Declares stand v i)) → X part
-  declared_moves {place} {w} {j} X PartsAgree.same h = h place w j there (same_variable w j)
+  declared_moves {place} {w} {j} X PartsAgree.same h = h place w j there (variable_same raw other fit.outside w j)
   declared_moves X (declares {stand} {v} {i} s like) h = h stand v i s like
 
   begun_moves : {part : Part} {place : Stand} {v : RawVar} {i : RawInit} (X : Part → Type 0) → PartsAgree raw other part (Begins place v i)
@@ -148,7 +133,7 @@ module _ (f : ℕ → ℕ) (named functions declared headed : Bytes → Type 0) 
   ended_moves {less} X PartsAgree.same h = h less (λ other x. x)
   ended_moves X (ends {body} k) h = h body k
 
-  kept_part : {part changed : Part} → is_kept changed ≡ true → PartsAgree raw other part changed → part ≡ changed
+  kept_part : {part changed : Part} → keeps_part changed ≡ true → PartsAgree raw other part changed → part ≡ changed
   kept_part h PartsAgree.same = refl
   kept_part h (declares s k) = false_true h
   kept_part h (begins s) = false_true h
@@ -156,7 +141,7 @@ module _ (f : ℕ → ℕ) (named functions declared headed : Bytes → Type 0) 
   kept_part h (calls s k) = false_true h
 
   -- a fact about a kept part
-  moved : {part changed : Part} (X : Part → Type 0) → is_kept changed ≡ true → PartsAgree raw other part changed → X changed → X part
+  moved : {part changed : Part} (X : Part → Type 0) → keeps_part changed ≡ true → PartsAgree raw other part changed → X changed → X part
   moved X is h x = subst X (sym (kept_part is h)) x
 
   -- ---- expressions, tags and lengths of a part
@@ -168,7 +153,7 @@ module _ (f : ℕ → ℕ) (named functions declared headed : Bytes → Type 0) 
   expressions_agree (ends h) a c = inl c
   expressions_agree (calls {to} {less} {args} s k) a c = inl (in_parts (target_exprs less) (target_exprs to) (arg_exprs args) (stored_in k) a c)
 
-  lengths_agree : {part changed : Part} → PartsAgree raw other part changed → (a : RawExpr) → Contains (lengths changed) a → Contains (lengths part) a ⊎ IsCountConstant a
+  lengths_agree : {part changed : Part} → PartsAgree raw other part changed → (a : RawExpr) → Contains (lengths_of changed) a → Contains (lengths_of part) a ⊎ IsCountConstant a
   lengths_agree PartsAgree.same a c = inl c
   lengths_agree (declares s h) a c = h.lengths a c
   lengths_agree (begins s) a c = inl c
@@ -256,7 +241,7 @@ module _ (f : ℕ → ℕ) (named functions declared headed : Bytes → Type 0) 
   undeclared_moves a c (UsesUndeclared.called {f = g} x y) =
       called_moves (UsesUndeclared raw scope) a (λ spot to_ fits stores. UsesUndeclared.called x (λ is. y (sym (meaning g (c.names g Names.called)) ∙ ap (option_map (moved_meaning f)) is)))
   undeclared_moves a c (UsesUndeclared.measured {name} x y) =
-      moved (UsesUndeclared raw scope) refl a (UsesUndeclared.measured x (none_back f (meaning_in scope name) (meaning name (c.names name (measured x)) ∙ y)))
+      moved (UsesUndeclared raw scope) refl a (UsesUndeclared.measured x (unmapped (moved_meaning f) (meaning_in scope name) (meaning name (c.names name (measured x)) ∙ y)))
 
   again_moves : {part changed : Part} → PartsAgree raw other part changed → Allows named functions declared headed changed → DeclaresAgain other next changed → DeclaresAgain raw scope part
   again_moves a c (DeclaresAgain.variable {var = w} h) =
@@ -426,7 +411,7 @@ module _ (f : ℕ → ℕ) (named functions declared headed : Bytes → Type 0) 
   format_moves a c (MisusesFormat.conversion h) = called_moves (MisusesFormat raw scope) a (λ spot to_ fits stores. MisusesFormat.conversion h)
   format_moves a c (MisusesFormat.count h k) = called_moves (MisusesFormat raw scope) a (λ spot to_ fits stores. MisusesFormat.count h k)
   format_moves a c (MisusesFormat.unfit {stand} {to} {args} h k) =
-      called_moves (MisusesFormat raw scope) a (λ spot to_ fits stores. MisusesFormat.unfit h (unfit_width (later_args_covered args (call_args stand to (codes "printf") args c)) k))
+      called_moves (MisusesFormat raw scope) a (λ spot to_ fits stores. MisusesFormat.unfit h (unfit_width (later_covered args (call_args stand to (codes "printf") args c)) k))
 
   -- what an allocation stores in is covered
   heap_target : (to : RawTarget) (cast : Option RawTypeName) (n : RawAmount) → Allows named functions declared headed (Allocates to cast n) → CoversAll named (target_exprs to)

@@ -47,9 +47,9 @@ use Rattle.c_language.specs.ProgramOf.{collected, optional, ctype, ctype_if, exp
 use Rattle.c_language.specs.declared.expr_type.Operand.{Operand}
 use Rattle.c_language.proofs.Options.{none_there, some_same}
 use Rattle.c_language.proofs.Lists.{contains_first, contains_later}
+use Rattle.c_language.proofs.OptionMaps.{map_turns, both_turns, then_turns, collected_map}
 use Rattle.c_scope_laws.specs.Agreement.{Names, NamesFunction, in_expression, measured, SameOutside, Agree, TreesAgree, simple_part, simple_scope}
 use Rattle.projection.specs.Renumbering.{Numbers, renamed, renamed_init, renamed_target, renamed_size, renamed_amount, renamed_label, renumbered}
-use Rattle.c_scope_laws.proofs.Options.{map_turns, both_turns, then_turns, collected_turns}
 use Rattle.c_scope_laws.proofs.Outside.{ctypes_same}
 use Rattle.c_scope_laws.proofs.ExprAgreement.{Covers, operands_same, numbers_same, exprs_same}
 use Rattle.c_scope_laws.proofs.RenumberingLemmas.{renumbered-Declare, renumbered-Assign, renumbered-Bump, renumbered-Invoke, renumbered-Fetch, renumbered-Write, renumbered-Print, renumbered-Heap, renumbered-Release, renumbered-Return}
@@ -65,6 +65,15 @@ CoversAll named all = (a : RawExpr) → Contains all a → Covers named a
 -- and all that sizes measure
 abbrev pub CoversSizes : (Bytes → Type 0) → List RawSize → Type 0
 CoversSizes named all = (x : Bytes) (closed : Bool) → Contains all (size.Pointee x closed) → named x
+
+-- the expressions of the arguments behind the first are covered
+pub rest_args : {named : Bytes → Type 0} (a : RawArg) (rest : List RawArg) → CoversAll named (arg_exprs (a ∷ rest)) → CoversAll named (arg_exprs rest)
+rest_args (arg.Value x) rest c b k = c b (contains_later x b (arg_exprs rest) k)
+rest_args (arg.Literal text) rest c b k = c b k
+
+pub later_covered : {named : Bytes → Type 0} (args : List RawArg) → CoversAll named (arg_exprs args) → CoversAll named (arg_exprs (later_args args))
+later_covered [] c = c
+later_covered (a ∷ rest) c = rest_args a rest c
 
 module _ (f : ℕ → ℕ) (named : Bytes → Type 0) (raw other : RawProgram) (scope next : Scope) (like : SameOutside raw other) (agree : Agree f named scope next) where
   tree : (a : RawExpr) → Covers named a → expr_of other next a ≡ option_map (renamed f) (expr_of raw scope a)
@@ -83,7 +92,7 @@ module _ (f : ℕ → ℕ) (named : Bytes → Type 0) (raw other : RawProgram) (
   each_tree (a ∷ rest) c = ap₂ (λ (x : Option Expr) (xs : List (Option Expr)). x ∷ xs) (first_tree a rest c) (each_tree rest (rest_covered a rest c))
 
   expr_lists : (all : List RawExpr) → CoversAll named all → exprs_of other next all ≡ option_map (map (renamed f)) (exprs_of raw scope all)
-  expr_lists all c = ap collected (each_tree all c) ∙ collected_turns (renamed f) (map (expr_of raw scope) all)
+  expr_lists all c = ap collected (each_tree all c) ∙ sym (collected_map (renamed f) (map (expr_of raw scope) all))
 
   pub inits_same : (i : RawInit) → CoversAll named (init_exprs i) → init_of other next i ≡ option_map (renamed_init f) (init_of raw scope i)
   inits_same init.None c = refl
@@ -105,12 +114,7 @@ module _ (f : ℕ → ℕ) (named : Bytes → Type 0) (raw other : RawProgram) (
   each_arg (arg.Literal text ∷ rest) c = ap (λ (xs : List (Option Expr)). None ∷ xs) (each_arg rest c)
 
   pub args_same : (args : List RawArg) → CoversAll named (arg_exprs args) → args_tree other next args ≡ option_map (map (renamed f)) (args_tree raw scope args)
-  args_same args c = ap collected (each_arg args c) ∙ collected_turns (renamed f) (map (arg_tree raw scope) args)
-
-  later_covered : (args : List RawArg) → CoversAll named (arg_exprs args) → CoversAll named (arg_exprs (later_args args))
-  later_covered [] c = c
-  later_covered (arg.Value a ∷ rest) c = rest_covered a (arg_exprs rest) c
-  later_covered (arg.Literal text ∷ rest) c = c
+  args_same args c = ap collected (each_arg args c) ∙ sym (collected_map (renamed f) (map (arg_tree raw scope) args))
 
   only_same : (args : List RawArg) → CoversAll named (arg_exprs args) → only_tree other next args ≡ option_map (renamed f) (only_tree raw scope args)
   only_same [] c = refl
@@ -224,7 +228,7 @@ module _ (ns : Numbers) (named : Bytes → Type 0) (raw other : RawProgram) (sco
       prints : print_tree other next k l args ≡ moved (print_tree raw scope n l args)
       prints =
           ap (λ (x : Option (List Expr)). option_and_then (λ (text : Bytes). option_map (s.Print k l text) x) (format_in args))
-          (args_same ns.variable named raw other scope next like agree (later_args args) (later_covered ns.variable named raw other scope next like agree args c))
+          (args_same ns.variable named raw other scope next like agree (later_args args) (later_covered args c))
           ∙ print_by (format_in args) (args_tree raw scope (later_args args))
 
       invoke_by : (t : Option Target) (i : Option ℕ) (x : Option (List Expr))

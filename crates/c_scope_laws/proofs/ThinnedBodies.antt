@@ -3,7 +3,6 @@ use Rattle.std.proofs.Common.{◌≡◌, ℕ, List, [], ◌∷◌, ◌++◌, map
 use Rattle.c_tree.specs.declared.raw.expr.RawExpr.{RawExpr}
 use Rattle.c_tree.specs.declared.raw.expr.RawExpr.TheVariants as e
 use Rattle.std.specs.Prelude.{decimal}
-use Rattle.std.proofs.lemmas.List.Elements.{Contains-append_left, Contains-append_right}
 use Rattle.c_language.specs.TypeGrammar.{is_written, written_step}
 use Rattle.c_tree.specs.declared.raw.expr.RawLength.TheVariants.{Written, Listed}
 use Rattle.c_tree.specs.declared.raw.expr.RawType.{RawType, ind-RawType, roll-RawType, map-RawType, fold-roll-RawType}
@@ -26,21 +25,21 @@ use Rattle.c_tree.specs.declared.raw.statement.RawArm.{RawArm, roll-RawArm, map-
 use Rattle.c_language.specs.Words.{Bytes}
 use Rattle.c_language.specs.DeclaredTypes.{item_count}
 use Rattle.c_tree.specs.declared.raw.statement.RawStatement.TheViews.{out-roll-RawStatement}
-use Rattle.c_language.specs.Rules.{Breaks}
+use Rattle.c_language.specs.Rules.{Breaks, AreKept}
 use Rattle.c_language.specs.CallRules.{without_result, MisusesResult}
 use Rattle.c_language.specs.Scopes.{Scope, Scoped, with_variable, opened, numbered, in_order, after_all, after_block, part_gives, after_part, scope_of_test, scope_of_body}
-use Rattle.c_language.specs.Phrases.{Phrase, Phrases, phrase, joined_at, at_stand, InArm, InFor, phrases_of_arms, target_phrases, phrases_step, scoped_step, scoped_arm, body_phrases, Stand, InBlock, Part, Assigns, Bumps, Calls, Allocates, Returns, Switches, ArmText, scoped, scoped_of_arm, Tests}
-use Rattle.c_language.specs.Uses.{is_library_function, is_one_of}
+use Rattle.c_language.specs.Phrases.{Phrases, phrase, joined_at, at_stand, InArm, InFor, phrases_of_arms, target_phrases, phrases_step, scoped_step, scoped_arm, body_phrases, Stand, InBlock, Part, Assigns, Bumps, Calls, Allocates, Returns, Switches, ArmText, scoped, scoped_of_arm, Tests}
+use Rattle.c_language.specs.Uses.{is_library_function, is_among}
 use Rattle.c_language.proofs.ScopedForms.{scoped_of_arm-arm}
 use Rattle.c_language.proofs.Tests.{false_true}
-use Rattle.c_language.proofs.Lists.{contains_first, contains_later}
 use Rattle.c_language.proofs.ScopesAfter.{statement_after, statements_after, block_scope_after, part_scope_after}
 use Rattle.c_scope_laws.specs.Agreement.{SameOutside, IsCount, CountWritten, simple_part}
 use Rattle.projection.specs.Kept.{Kept}
 use Rattle.c_scope_laws.specs.Thinning.{NamesStay, BeginIs, StaysWhole, LabelsStay, GivesResult, target_declares, declares, block_after, part_scope, body_scope, after_list, arm_labels, Thins, ThinAll, ThinsPart, ThinArms, ArmsGo}
-use Rattle.c_scope_laws.specs.ThinnedBodies.{KeepRules, Need, AreMet, Left, ArmLeft, these, strays, gone, counted_type_step, counted_type, counted_var, count_needs, only, beyond, part_left, part_needs, part_gone, alone_one, alone_all, alone, arms_left, arms_labels, arms_needs, arms_gone, block_of, plain, declared, call_placed, call_declared, heap_declared, if_left, while_left, do_left, for_left, switch_left, result_kept, declare_left, call_left, heap_left, block_left, left_step, left_scoped, left_arm_step, left, left_arm, body_left}
+use Rattle.c_scope_laws.specs.ThinnedBodies.{Need, AreMet, Left, ArmLeft, these, strays, gone, counted_type_step, counted_type, counted_var, count_needs, only, beyond, part_left, part_needs, part_gone, alone_one, alone_all, left_alone, arms_left, arms_labels, arms_needs, arms_gone, block_of, plain, declared, call_placed, call_declared, heap_declared, if_left, while_left, do_left, for_left, switch_left, result_kept, declare_left, call_left, heap_left, block_left, left_step, left_scoped, left_arm_step, left, left_arm, body_left, part_given}
 use Rattle.c_scope_laws.proofs.CountedLengths.{initialiser_drops}
 use Rattle.c_language.specs.StatementGrammar.{arm}
+use Rattle.c_language.proofs.PhraseLists.{kept_first, kept_second}
 
 -- ---- lengths
 
@@ -77,6 +76,18 @@ pub both_met : (k : Kept) (a b : List Need) → AreMet k (a ++ b) → AreMet k a
 both_met k [] b h = (tt, h)
 both_met k (n ∷ a) b h = let r = both_met k a b h.1 in ((h.0, r.0), r.1)
 
+pub join_met : (k : Kept) (a b : List Need) → AreMet k a → AreMet k b → AreMet k (a ++ b)
+join_met k [] b h q = q
+join_met k (n ∷ a) b h q = (h.0, join_met k a b h.1 q)
+
+-- what a statement needs is met, and what stays of it is one statement or none
+abbrev pub Met : Kept → Left → Type 0
+Met k l = AreMet k l.needs × AreMet k (beyond l.some)
+
+pub block_alone : (k : Kept) (l : ℕ) (ys : List RawStatement) → AreMet k (beyond (block_of l ys))
+block_alone k l [] = tt
+block_alone k l (y ∷ ys) = tt
+
 pub none_strays : (k : Kept) (xs : List RawStatement) → AreMet k (strays xs) → xs ≡ []
 none_strays k [] h = refl
 none_strays k (x ∷ xs) h = absurd h.0
@@ -93,24 +104,14 @@ loses_result false result h = (refl, h)
 
 -- ---- rules
 
-pub later_keep : (raw : RawProgram) (p : Phrase) (ps : Phrases) → KeepRules raw (p ∷ ps) → KeepRules raw ps
-later_keep raw p ps h n q c b = h n q (contains_later p q ps c) b
-
-pub left_keep : (raw : RawProgram) (ps qs : Phrases) → KeepRules raw (ps ++ qs) → KeepRules raw ps
-left_keep raw ps qs h n q c b = h n q (Contains-append_left ps qs q c) b
-
-pub right_keep : (raw : RawProgram) (ps qs : Phrases) → KeepRules raw (ps ++ qs) → KeepRules raw qs
-right_keep raw ps qs h n q c b = h n q (Contains-append_right ps qs q c) b
-
 -- what is declared with a call is declared with one that gives a result
 result_given : (raw : RawProgram) (l : ℕ) (scope : Scope) (stand : Stand) (v : RawVar) (f : Bytes) (args : List RawArg)
-    → KeepRules raw (phrase l scope (Calls stand (target.Declared v) f args) ∷ []) → is_one_of without_result f ≡ false
-result_given raw l scope stand v f args h = by_name (is_one_of without_result f) refl
+    → AreKept raw (phrase l scope (Calls stand (target.Declared v) f args) ∷ []) → is_among without_result f ≡ false
+result_given raw l scope stand v f args h = by_name (is_among without_result f) refl
   where
-    by_name : (b : Bool) → is_one_of without_result f ≡ b → b ≡ false
+    by_name : (b : Bool) → is_among without_result f ≡ b → b ≡ false
     by_name true q =
-        absurd (h 17 (phrase l scope (Calls stand (target.Declared v) f args)) (contains_first (phrase l scope (Calls stand (target.Declared v) f args)) [])
-        (Breaks.result (MisusesResult.library (λ e. false_true (sym (ap target_declares e))) q)))
+        absurd (h.0 17 (Breaks.result (MisusesResult.library (λ e. false_true (sym (ap target_declares e))) q)))
     by_name false q = refl
 
 -- ---- what stays gives the results that it declares
@@ -140,6 +141,21 @@ for_gives l (Some i) a (Some n) b = gives_at (RawStatement-F.For l (Some i) a (S
 block_gives : (l : ℕ) (ys : List RawStatement) → AllGive (block_of l ys)
 block_gives l [] = tt
 block_gives l (y ∷ ys) = (gives_at (RawStatement-F.Block l (y ∷ ys)) (s.rolls-Block l (y ∷ ys)) (λ q. tt), tt)
+
+-- ---- the scope behind what stays
+
+module _ (k : Kept) (raw : RawProgram) where
+  pub left_after : (x : RawStatement) (scope : Scope) → (left k raw x).after scope ≡ (scoped raw x).after scope
+  left_after = statement_after raw Left ArmLeft (left_step k raw) (λ a. (left_arm_step k raw a).gives)
+
+  left_after_list : (xs : List RawStatement) (scope : Scope) → after_all (map (left k raw) xs) scope ≡ after_list raw xs scope
+  left_after_list = statements_after raw Left ArmLeft (left_step k raw) (λ a. (left_arm_step k raw a).gives)
+
+  pub left_after_block : (xs : List RawStatement) (scope : Scope) → after_block (map (left k raw) xs) scope ≡ block_after raw xs scope
+  left_after_block = block_scope_after raw Left ArmLeft (left_step k raw) (λ a. (left_arm_step k raw a).gives)
+
+  pub left_after_part : (x : Option RawStatement) (scope : Scope) → after_part (option_map (left k raw) x) scope ≡ after_part (option_map (scoped raw) x) scope
+  left_after_part = part_scope_after raw Left ArmLeft (left_step k raw) (λ a. (left_arm_step k raw a).gives)
 
 module _ (k : Kept) (raw other : RawProgram) (like : SameOutside raw other) where
   -- a statement without parts that declares nothing, which stays as it is
@@ -196,7 +212,7 @@ module _ (k : Kept) (raw other : RawProgram) (like : SameOutside raw other) wher
       at_form (s.rolls-Call l (target.Place a) f args) (compound (call_gives l f args, tt) (Thins.result_goes g.0 g.1 q m.0))
   placed_stays l a f args scope false false h q m = compound tt (Thins.simple_goes (RawStatement-F.Call l (target.Place a) f args) (Calls InBlock (target.Place a) f args) refl refl q)
 
-  call_declared_stays : (l : ℕ) (v : RawVar) (f : Bytes) (args : List RawArg) (scope : Scope) → is_one_of without_result f ≡ false → (a b r : Bool) → k.variable scope.variables ≡ a → k.statement scope.statements ≡ b
+  call_declared_stays : (l : ℕ) (v : RawVar) (f : Bytes) (args : List RawArg) (scope : Scope) → is_among without_result f ≡ false → (a b r : Bool) → k.variable scope.variables ≡ a → k.statement scope.statements ≡ b
       → result_kept (is_library_function f) (k.result scope.statements) ≡ r
       → AreMet k (call_declared raw a b r l v f args scope).needs → Stays scope (s.Call l (target.Declared v) f args) (call_declared raw a b r l v f args scope)
   call_declared_stays l v f args scope given true true true h q w m = compound (gives_at (RawStatement-F.Call l (target.Declared v) f args) (s.rolls-Call l (target.Declared v) f args) (λ z. given), tt) (Thins.call (keeps_result (is_library_function f) (k.result scope.statements) w) h q m.0 m.1.0)
@@ -208,14 +224,14 @@ module _ (k : Kept) (raw other : RawProgram) (like : SameOutside raw other) wher
   call_declared_stays l v f args scope given true false r h q w m = compound (declare_gives l v init.None, tt) (Thins.call_goes given h q m.0)
   call_declared_stays l v f args scope given false false r h q w m = compound tt (Thins.called_goes h q)
 
-  call_stays : (l : ℕ) (to : RawTarget) (f : Bytes) (args : List RawArg) (scope : Scope) (stand : Stand) → KeepRules raw (phrases_step raw (RawStatement-F.Call l to f args) scope stand) → AreMet k (call_left k raw l to f args scope).needs
+  call_stays : (l : ℕ) (to : RawTarget) (f : Bytes) (args : List RawArg) (scope : Scope) (stand : Stand) → AreKept raw (phrases_step raw (RawStatement-F.Call l to f args) scope stand) → AreMet k (call_left k raw l to f args scope).needs
       → Stays scope (roll-RawStatement (RawStatement-F.Call l to f args)) (call_left k raw l to f args scope)
   call_stays l target.None f args scope stand rules m = plain_stays (RawStatement-F.Call l target.None f args) (Calls InBlock target.None f args) refl refl scope tt (k.statement scope.statements) refl m
   call_stays l (target.Place a) f args scope stand rules m = placed_stays l a f args scope (result_kept (is_library_function f) (k.result scope.statements)) (k.statement scope.statements) refl refl m
   call_stays l (target.Declared v) f args scope stand rules m =
       at_form (s.rolls-Call l (target.Declared v) f args)
       (call_declared_stays l v f args scope
-      (result_given raw l (with_variable raw v init.None scope) stand v f args (right_keep raw (target_phrases raw l scope stand (target.Declared v)) (phrase l (with_variable raw v init.None scope) (Calls stand (target.Declared v) f args) ∷ []) rules)) (k.variable scope.variables) (k.statement scope.statements) (result_kept (is_library_function f) (k.result scope.statements)) refl refl refl m)
+      (result_given raw l (with_variable raw v init.None scope) stand v f args (kept_second raw (target_phrases raw l scope stand (target.Declared v)) (phrase l (with_variable raw v init.None scope) (Calls stand (target.Declared v) f args) ∷ []) rules)) (k.variable scope.variables) (k.statement scope.statements) (result_kept (is_library_function f) (k.result scope.statements)) refl refl refl m)
 
   heap_declared_stays : (l : ℕ) (v : RawVar) (cast : Option RawTypeName) (n : RawAmount) (scope : Scope) (a b : Bool) → k.variable scope.variables ≡ a → k.statement scope.statements ≡ b
       → AreMet k (heap_declared raw a b l v cast n scope).needs → Stays scope (s.Heap l (target.Declared v) cast n) (heap_declared raw a b l v cast n scope)
@@ -234,7 +250,7 @@ module _ (k : Kept) (raw other : RawProgram) (like : SameOutside raw other) wher
   -- ---- what stays of statements and arms
 
   abbrev Holds : RawStatement → Type 0
-  Holds x = (scope : Scope) (stand : Stand) → KeepRules raw ((scoped raw x).gives scope stand) → AreMet k ((left k raw x).gives scope).needs → Stays scope x ((left k raw x).gives scope)
+  Holds x = (scope : Scope) (stand : Stand) → AreKept raw ((scoped raw x).gives scope stand) → AreMet k ((left k raw x).gives scope).needs → Stays scope x ((left k raw x).gives scope)
 
   abbrev list_phrases : Stand → List RawStatement → Scope → Phrases
   list_phrases stand xs scope = joined_at stand (in_order (map (scoped raw) xs) scope)
@@ -246,7 +262,7 @@ module _ (k : Kept) (raw other : RawProgram) (like : SameOutside raw other) wher
     pub same : (scope : Scope) → (t.gives scope).labels ≡ labels
     pub place : (scope : Scope) → (t.gives scope).scope ≡ scope
     pub after : (scope : Scope) → t.after scope ≡ after_list raw body scope
-    pub thins : (scope : Scope) → KeepRules raw (list_phrases InArm body scope) → AreMet k (t.gives scope).body.needs → ThinAll k raw other scope body (t.gives scope).body.some
+    pub thins : (scope : Scope) → AreKept raw (list_phrases InArm body scope) → AreMet k (t.gives scope).body.needs → ThinAll k raw other scope body (t.gives scope).body.some
 
   abbrev ArmHolds : RawArm → Type 0
   ArmHolds a = ArmStays a (left_arm k raw a)
@@ -263,37 +279,25 @@ module _ (k : Kept) (raw other : RawProgram) (like : SameOutside raw other) wher
   abbrev bare_arms : Arms → List RawArm
   bare_arms = map (λ (x : (y : RawArm) × ArmHolds y). x.0)
 
-  abbrev arm_gives : RawArm-F (Scoped Left) (Scoped ArmLeft) → Scope → ArmLeft
-  arm_gives a = (left_arm_step k raw a).gives
-
-  all_after : (xs : List RawStatement) (scope : Scope) → after_all (map (left k raw) xs) scope ≡ after_list raw xs scope
-  all_after = statements_after raw Left ArmLeft (left_step k raw) arm_gives
-
-  one_after : (x : RawStatement) (scope : Scope) → (left k raw x).after scope ≡ (scoped raw x).after scope
-  one_after = statement_after raw Left ArmLeft (left_step k raw) arm_gives
-
-  blocks_after : (xs : List RawStatement) (scope : Scope) → after_block (map (left k raw) xs) scope ≡ block_after raw xs scope
-  blocks_after = block_scope_after raw Left ArmLeft (left_step k raw) arm_gives
-
   test_after : (i : Option RawStatement) (scope : Scope) → scope_of_test (option_map (left k raw) i) scope ≡ part_scope raw i scope
-  test_after i scope = part_scope_after raw Left ArmLeft (left_step k raw) arm_gives i (opened (numbered scope))
+  test_after i scope = left_after_part k raw i (opened (numbered scope))
 
   body_after : (i step : Option RawStatement) (scope : Scope) → scope_of_body (option_map (left k raw) i) (option_map (left k raw) step) scope ≡ body_scope raw i step scope
   body_after i step scope =
-      ap (after_part (option_map (left k raw) step)) (test_after i scope) ∙ part_scope_after raw Left ArmLeft (left_step k raw) arm_gives step (part_scope raw i scope)
+      ap (after_part (option_map (left k raw) step)) (test_after i scope) ∙ left_after_part k raw step (part_scope raw i scope)
 
   -- a list in a scope stays as in the same scope
   abbrev ListStays : Scope → List RawStatement → Scope → Type 0
   ListStays scope xs next = AreMet k (body_left k raw xs next).needs → ThinAll k raw other scope xs (body_left k raw xs next).some
 
-  lists : (xs : Statements) (scope : Scope) (stand : Stand) → KeepRules raw (list_phrases stand (bare xs) scope) → ListStays scope (bare xs) scope
+  lists : (xs : Statements) (scope : Scope) (stand : Stand) → AreKept raw (list_phrases stand (bare xs) scope) → ListStays scope (bare xs) scope
   lists [] scope stand rules m = ThinAll.none
   lists (x ∷ xs) scope stand rules m =
       let next = (scoped raw x.0).after scope in
       let p = both_met k ((left k raw x.0).gives scope).needs (body_left k raw (bare xs) ((left k raw x.0).after scope)).needs m in
-      ThinAll.more (x.1 scope stand (left_keep raw ((scoped raw x.0).gives scope stand) (list_phrases stand (bare xs) next) rules) p.0).thins (subst (ListStays ((scoped raw x.0).after scope) (bare xs)) (sym (one_after x.0 scope)) (lists xs next stand (right_keep raw ((scoped raw x.0).gives scope stand) (list_phrases stand (bare xs) next) rules)) p.1)
+      ThinAll.more (x.1 scope stand (kept_first raw ((scoped raw x.0).gives scope stand) (list_phrases stand (bare xs) next) rules) p.0).thins (subst (ListStays ((scoped raw x.0).after scope) (bare xs)) (sym (left_after k raw x.0 scope)) (lists xs next stand (kept_second raw ((scoped raw x.0).gives scope stand) (list_phrases stand (bare xs) next) rules)) p.1)
 
-  lists_at : (xs : Statements) {scope next : Scope} (stand : Stand) → KeepRules raw (list_phrases stand (bare xs) scope) → next ≡ scope → ListStays scope (bare xs) next
+  lists_at : (xs : Statements) {scope next : Scope} (stand : Stand) → AreKept raw (list_phrases stand (bare xs) scope) → next ≡ scope → ListStays scope (bare xs) next
   lists_at xs {scope} stand rules h = subst (ListStays scope (bare xs)) (sym h) (lists xs scope stand rules)
 
   gone_list : {scope : Scope} {xs : List RawStatement} (l : Left) → (AreMet k l.needs → ThinAll k raw other scope xs l.some) → AreMet k (gone l) → ThinAll k raw other scope xs []
@@ -310,8 +314,8 @@ module _ (k : Kept) (raw other : RawProgram) (like : SameOutside raw other) wher
 
   -- ---- ifs and loops
 
-  if_stays : (l : ℕ) (a : RawExpr) (b c : Statements) (scope : Scope) → KeepRules raw (list_phrases InBlock (bare b) (opened (numbered scope)))
-      → KeepRules raw (list_phrases InBlock (bare c) (opened (block_after raw (bare b) (numbered scope)))) → (kept : Bool) → k.statement scope.statements ≡ kept
+  if_stays : (l : ℕ) (a : RawExpr) (b c : Statements) (scope : Scope) → AreKept raw (list_phrases InBlock (bare b) (opened (numbered scope)))
+      → AreKept raw (list_phrases InBlock (bare c) (opened (block_after raw (bare b) (numbered scope)))) → (kept : Bool) → k.statement scope.statements ≡ kept
       → AreMet k (if_left raw kept l a (block_left k raw (map (left k raw) (bare b)) (numbered scope)) (block_left k raw (map (left k raw) (bare c)) (after_block (map (left k raw) (bare b)) (numbered scope))) scope).needs
       → Stays scope (s.If l a (bare b) (bare c))
       (if_left raw kept l a (block_left k raw (map (left k raw) (bare b)) (numbered scope)) (block_left k raw (map (left k raw) (bare c)) (after_block (map (left k raw) (bare b)) (numbered scope))) scope)
@@ -319,20 +323,20 @@ module _ (k : Kept) (raw other : RawProgram) (like : SameOutside raw other) wher
       let first = block_left k raw (map (left k raw) (bare b)) (numbered scope) in
       let second = block_left k raw (map (left k raw) (bare c)) (after_block (map (left k raw) (bare b)) (numbered scope)) in
       let p = both_met k first.needs second.needs m.1 in
-      compound (gives_at (RawStatement-F.If l a first.some second.some) (s.rolls-If l a first.some second.some) (λ q. tt), tt) (Thins.conditional h m.0 (lists b (opened (numbered scope)) InBlock rb p.0) (lists_at c InBlock rc (ap opened (blocks_after (bare b) (numbered scope))) p.1))
+      compound (gives_at (RawStatement-F.If l a first.some second.some) (s.rolls-If l a first.some second.some) (λ q. tt), tt) (Thins.conditional h m.0 (lists b (opened (numbered scope)) InBlock rb p.0) (lists_at c InBlock rc (ap opened (left_after_block k raw (bare b) (numbered scope))) p.1))
   if_stays l a b c scope rb rc false h m =
       let first = block_left k raw (map (left k raw) (bare b)) (numbered scope) in
       let second = block_left k raw (map (left k raw) (bare c)) (after_block (map (left k raw) (bare b)) (numbered scope)) in
       let p = both_met k (gone first) (gone second) m in
-      compound tt (Thins.conditional_goes h (gone_list first (lists b (opened (numbered scope)) InBlock rb) p.0) (gone_list second (lists_at c InBlock rc (ap opened (blocks_after (bare b) (numbered scope)))) p.1))
+      compound tt (Thins.conditional_goes h (gone_list first (lists b (opened (numbered scope)) InBlock rb) p.0) (gone_list second (lists_at c InBlock rc (ap opened (left_after_block k raw (bare b) (numbered scope)))) p.1))
 
-  while_stays : (l : ℕ) (a : RawExpr) (b : Statements) (scope : Scope) → KeepRules raw (list_phrases InBlock (bare b) (opened (numbered scope))) → (kept : Bool) → k.statement scope.statements ≡ kept
+  while_stays : (l : ℕ) (a : RawExpr) (b : Statements) (scope : Scope) → AreKept raw (list_phrases InBlock (bare b) (opened (numbered scope))) → (kept : Bool) → k.statement scope.statements ≡ kept
       → AreMet k (while_left raw kept l a (block_left k raw (map (left k raw) (bare b)) (numbered scope)) scope).needs
       → Stays scope (s.While l a (bare b)) (while_left raw kept l a (block_left k raw (map (left k raw) (bare b)) (numbered scope)) scope)
   while_stays l a b scope rb true h m = compound (gives_at (RawStatement-F.While l a (block_left k raw (map (left k raw) (bare b)) (numbered scope)).some) (s.rolls-While l a (block_left k raw (map (left k raw) (bare b)) (numbered scope)).some) (λ q. tt), tt) (Thins.while_loop h m.0 (lists b (opened (numbered scope)) InBlock rb m.1))
   while_stays l a b scope rb false h m = compound tt (Thins.while_goes h (gone_list (block_left k raw (map (left k raw) (bare b)) (numbered scope)) (lists b (opened (numbered scope)) InBlock rb) m))
 
-  do_stays : (l : ℕ) (a : RawExpr) (b : Statements) (scope : Scope) → KeepRules raw (list_phrases InBlock (bare b) (opened (numbered scope))) → (kept : Bool) → k.statement scope.statements ≡ kept
+  do_stays : (l : ℕ) (a : RawExpr) (b : Statements) (scope : Scope) → AreKept raw (list_phrases InBlock (bare b) (opened (numbered scope))) → (kept : Bool) → k.statement scope.statements ≡ kept
       → AreMet k (do_left raw kept l a (block_left k raw (map (left k raw) (bare b)) (numbered scope)) scope).needs
       → Stays scope (s.Do l a (bare b)) (do_left raw kept l a (block_left k raw (map (left k raw) (bare b)) (numbered scope)) scope)
   do_stays l a b scope rb true h m = compound (gives_at (RawStatement-F.Do l a (block_left k raw (map (left k raw) (bare b)) (numbered scope)).some) (s.rolls-Do l a (block_left k raw (map (left k raw) (bare b)) (numbered scope)).some) (λ q. tt), tt) (Thins.do_loop h m.0 (lists b (opened (numbered scope)) InBlock rb m.1))
@@ -344,33 +348,30 @@ module _ (k : Kept) (raw other : RawProgram) (like : SameOutside raw other) wher
   PartHolds None = Unit {0}
   PartHolds (Some x) = Holds x
 
-  abbrev part_given : Option RawStatement → Scope → Option Left
-  part_given x scope = part_gives (option_map (left k raw) x) scope
-
   only_stays : {scope : Scope} {x : RawStatement} (ys : List RawStatement) → Thins k raw other scope x ys → AreMet k (beyond ys) → ThinsPart k raw other scope (Some x) (only ys)
   only_stays [] t m = ThinsPart.part_goes t
   only_stays (y ∷ []) t m = ThinsPart.part_stays t
   only_stays (y ∷ (z ∷ rest)) t m = absurd m.0
 
   abbrev PartStays : Scope → Option RawStatement → Scope → Type 0
-  PartStays scope x next = AreMet k (part_needs (part_given x next)) → ThinsPart k raw other scope x (part_left (part_given x next))
+  PartStays scope x next = AreMet k (part_needs (part_given k raw x next)) → ThinsPart k raw other scope x (part_left (part_given k raw x next))
 
-  part_stays_here : (x : Option RawStatement) → PartHolds x → (scope : Scope) (stand : Stand) → KeepRules raw (at_stand stand (part_gives (option_map (scoped raw) x) scope)) → PartStays scope x scope
+  part_stays_here : (x : Option RawStatement) → PartHolds x → (scope : Scope) (stand : Stand) → AreKept raw (at_stand stand (part_gives (option_map (scoped raw) x) scope)) → PartStays scope x scope
   part_stays_here None h scope stand rules m = ThinsPart.missing
   part_stays_here (Some x) h scope stand rules m =
       let l = (left k raw x).gives scope in let p = both_met k l.needs (beyond l.some) m in only_stays l.some (h scope stand rules p.0).thins p.1
 
-  part_stays_at : (x : Option RawStatement) → PartHolds x → {scope next : Scope} (stand : Stand) → KeepRules raw (at_stand stand (part_gives (option_map (scoped raw) x) scope)) → next ≡ scope → PartStays scope x next
+  part_stays_at : (x : Option RawStatement) → PartHolds x → {scope next : Scope} (stand : Stand) → AreKept raw (at_stand stand (part_gives (option_map (scoped raw) x) scope)) → next ≡ scope → PartStays scope x next
   part_stays_at x h {scope} stand rules q = subst (PartStays scope x) (sym q) (part_stays_here x h scope stand rules)
 
   abbrev PartGoes : Scope → Option RawStatement → Scope → Type 0
-  PartGoes scope x next = AreMet k (part_gone (part_given x next)) → ThinsPart k raw other scope x None
+  PartGoes scope x next = AreMet k (part_gone (part_given k raw x next)) → ThinsPart k raw other scope x None
 
-  part_goes_here : (x : Option RawStatement) → PartHolds x → (scope : Scope) (stand : Stand) → KeepRules raw (at_stand stand (part_gives (option_map (scoped raw) x) scope)) → PartGoes scope x scope
+  part_goes_here : (x : Option RawStatement) → PartHolds x → (scope : Scope) (stand : Stand) → AreKept raw (at_stand stand (part_gives (option_map (scoped raw) x) scope)) → PartGoes scope x scope
   part_goes_here None h scope stand rules m = ThinsPart.missing
   part_goes_here (Some x) h scope stand rules m = ThinsPart.part_goes (gone_one ((left k raw x).gives scope) (h scope stand rules) m)
 
-  part_goes_at : (x : Option RawStatement) → PartHolds x → {scope next : Scope} (stand : Stand) → KeepRules raw (at_stand stand (part_gives (option_map (scoped raw) x) scope)) → next ≡ scope → PartGoes scope x next
+  part_goes_at : (x : Option RawStatement) → PartHolds x → {scope next : Scope} (stand : Stand) → AreKept raw (at_stand stand (part_gives (option_map (scoped raw) x) scope)) → next ≡ scope → PartGoes scope x next
   part_goes_at x h {scope} stand rules q = subst (PartGoes scope x) (sym q) (part_goes_here x h scope stand rules)
 
   -- what a for begins with, without it
@@ -408,9 +409,9 @@ module _ (k : Kept) (raw other : RawProgram) (like : SameOutside raw other) wher
     all_gives is_plain (y ∷ []) g = one_gives y (declares (out-RawStatement y)) is_plain g.0
     all_gives is_plain (y ∷ (z ∷ rest)) g = tt
 
-    begin_alone : (i : Option RawStatement) → PartHolds i → KeepRules raw (at_stand InFor (part_gives (option_map (scoped raw) i) (opened (numbered scope)))) → ThinsPart k raw other (part_scope raw i scope) step None → ThinAll k raw other (opened (body_scope raw i step scope)) body []
-        → AreMet k (alone l (part_given i (opened (numbered scope)))).needs
-        → AllGive (alone l (part_given i (opened (numbered scope)))).some × Thins k raw other scope (s.For l i a step body) (alone l (part_given i (opened (numbered scope)))).some
+    begin_alone : (i : Option RawStatement) → PartHolds i → AreKept raw (at_stand InFor (part_gives (option_map (scoped raw) i) (opened (numbered scope)))) → ThinsPart k raw other (part_scope raw i scope) step None → ThinAll k raw other (opened (body_scope raw i step scope)) body []
+        → AreMet k (left_alone l (part_given k raw i (opened (numbered scope)))).needs
+        → AllGive (left_alone l (part_given k raw i (opened (numbered scope)))).some × Thins k raw other scope (s.For l i a step body) (left_alone l (part_given k raw i (opened (numbered scope)))).some
     begin_alone None h rules t r m = (tt, Thins.for_goes goes ThinsPart.missing t r)
     begin_alone (Some x) h rules t r m =
         let x_left = (left k raw x).gives (opened (numbered scope)) in
@@ -420,27 +421,27 @@ module _ (k : Kept) (raw other : RawProgram) (like : SameOutside raw other) wher
 
   abbrev for_of : Bool → ℕ → Option RawStatement → RawExpr → Option RawStatement → Statements → Scope → Left
   for_of kept l i a step b scope =
-      for_left raw kept l (part_given i (opened (numbered scope))) a (part_given step (scope_of_test (option_map (left k raw) i) scope))
+      for_left raw kept l (part_given k raw i (opened (numbered scope))) a (part_given k raw step (scope_of_test (option_map (left k raw) i) scope))
       (block_left k raw (map (left k raw) (bare b)) (scope_of_body (option_map (left k raw) i) (option_map (left k raw) step) scope)) (scope_of_test (option_map (left k raw) i) scope)
 
   for_stays : (l : ℕ) (i : Option RawStatement) (a : RawExpr) (step : Option RawStatement) (b : Statements) → PartHolds i → PartHolds step → (scope : Scope)
-      → KeepRules raw (at_stand InFor (part_gives (option_map (scoped raw) i) (opened (numbered scope)))) → KeepRules raw (at_stand InBlock (part_gives (option_map (scoped raw) step) (part_scope raw i scope)))
-      → KeepRules raw (list_phrases InBlock (bare b) (opened (body_scope raw i step scope))) → (kept : Bool)
+      → AreKept raw (at_stand InFor (part_gives (option_map (scoped raw) i) (opened (numbered scope)))) → AreKept raw (at_stand InBlock (part_gives (option_map (scoped raw) step) (part_scope raw i scope)))
+      → AreKept raw (list_phrases InBlock (bare b) (opened (body_scope raw i step scope))) → (kept : Bool)
       → k.statement scope.statements ≡ kept → AreMet k (for_of kept l i a step b scope).needs → Stays scope (s.For l i a step (bare b)) (for_of kept l i a step b scope)
   for_stays l i a step b hi hs scope ri rs rb true h m =
       let test = scope_of_test (option_map (left k raw) i) scope in
       let body = block_left k raw (map (left k raw) (bare b)) (scope_of_body (option_map (left k raw) i) (option_map (left k raw) step) scope) in
-      let p = both_met k (part_needs (part_given i (opened (numbered scope)))) (part_needs (part_given step test) ++ body.needs) m.1 in
-      let q = both_met k (part_needs (part_given step test)) body.needs p.1 in
-      let begin = part_left (part_given i (opened (numbered scope))) in
-      let next = part_left (part_given step test) in
+      let p = both_met k (part_needs (part_given k raw i (opened (numbered scope)))) (part_needs (part_given k raw step test) ++ body.needs) m.1 in
+      let q = both_met k (part_needs (part_given k raw step test)) body.needs p.1 in
+      let begin = part_left (part_given k raw i (opened (numbered scope))) in
+      let next = part_left (part_given k raw step test) in
       compound (for_gives l begin a next body.some, tt) (Thins.for_loop h (subst (λ (z : Scope). NamesStay k z (Tests a)) (test_after i scope) m.0)
       (part_stays_here i hi (opened (numbered scope)) InFor ri p.0) (part_stays_at step hs InBlock rs (test_after i scope) q.0) (lists_at b InBlock rb (ap opened (body_after i step scope)) q.1))
   for_stays l i a step b hi hs scope ri rs rb false h m =
       let test = scope_of_test (option_map (left k raw) i) scope in
       let body = block_left k raw (map (left k raw) (bare b)) (scope_of_body (option_map (left k raw) i) (option_map (left k raw) step) scope) in
-      let p = both_met k (alone l (part_given i (opened (numbered scope)))).needs (part_gone (part_given step test) ++ gone body) m in
-      let q = both_met k (part_gone (part_given step test)) (gone body) p.1 in
+      let p = both_met k (left_alone l (part_given k raw i (opened (numbered scope)))).needs (part_gone (part_given k raw step test) ++ gone body) m in
+      let q = both_met k (part_gone (part_given k raw step test)) (gone body) p.1 in
       let r = begin_alone l a step (bare b) scope h i hi ri (part_goes_at step hs InBlock rs (test_after i scope) q.0) (gone_list body (lists_at b InBlock rb (ap opened (body_after i step scope))) q.1) p.0 in
       compound r.0 r.1
 
@@ -467,17 +468,17 @@ module _ (k : Kept) (raw other : RawProgram) (like : SameOutside raw other) wher
   arm_phrases xs scope = phrases_of_arms (in_order (map (scoped_of_arm raw) xs) scope)
 
   -- the rules of an arm, and of those behind it
-  front_rules : (a : RawArm) (rest : List RawArm) (w : ArmHolds a) (scope : Scope) → KeepRules raw (arm_phrases (a ∷ rest) scope) → KeepRules raw (list_phrases InArm w.body scope)
+  front_rules : (a : RawArm) (rest : List RawArm) (w : ArmHolds a) (scope : Scope) → AreKept raw (arm_phrases (a ∷ rest) scope) → AreKept raw (list_phrases InArm w.body scope)
   front_rules a rest w scope rules =
-      subst (λ (t : Scoped ArmText). KeepRules raw (t.gives scope).phrases) (text_arm w.labels w.body w.is)
-      (left_keep raw ((scoped_of_arm raw a).gives scope).phrases (arm_phrases rest ((scoped_of_arm raw a).after scope)) rules)
+      subst (λ (t : Scoped ArmText). AreKept raw (t.gives scope).phrases) (text_arm w.labels w.body w.is)
+      (kept_first raw ((scoped_of_arm raw a).gives scope).phrases (arm_phrases rest ((scoped_of_arm raw a).after scope)) rules)
 
-  behind_rules : (a : RawArm) (rest : List RawArm) (w : ArmHolds a) (scope : Scope) → KeepRules raw (arm_phrases (a ∷ rest) scope) → KeepRules raw (arm_phrases rest (after_list raw w.body scope))
+  behind_rules : (a : RawArm) (rest : List RawArm) (w : ArmHolds a) (scope : Scope) → AreKept raw (arm_phrases (a ∷ rest) scope) → AreKept raw (arm_phrases rest (after_list raw w.body scope))
   behind_rules a rest w scope rules =
-      subst (λ (t : Scoped ArmText). KeepRules raw (arm_phrases rest (t.after scope))) (text_arm w.labels w.body w.is)
-      (right_keep raw ((scoped_of_arm raw a).gives scope).phrases (arm_phrases rest ((scoped_of_arm raw a).after scope)) rules)
+      subst (λ (t : Scoped ArmText). AreKept raw (arm_phrases rest (t.after scope))) (text_arm w.labels w.body w.is)
+      (kept_second raw ((scoped_of_arm raw a).gives scope).phrases (arm_phrases rest ((scoped_of_arm raw a).after scope)) rules)
 
-  arms_stay : (xs : Arms) (scope : Scope) → KeepRules raw (arm_phrases (bare_arms xs) scope) → ArmsStay scope (bare_arms xs) scope
+  arms_stay : (xs : Arms) (scope : Scope) → AreKept raw (arm_phrases (bare_arms xs) scope) → ArmsStay scope (bare_arms xs) scope
   arms_stay [] scope rules m = ThinArms.no_arms
   arms_stay (x ∷ xs) scope rules m =
       let w = x.1 in
@@ -489,7 +490,7 @@ module _ (k : Kept) (raw other : RawProgram) (like : SameOutside raw other) wher
   abbrev ArmsAllGo : Scope → List RawArm → Scope → Type 0
   ArmsAllGo scope xs next = AreMet k (arms_gone (arms_given xs next)) → ArmsGo k raw other scope xs
 
-  arms_go : (xs : Arms) (scope : Scope) → KeepRules raw (arm_phrases (bare_arms xs) scope) → ArmsAllGo scope (bare_arms xs) scope
+  arms_go : (xs : Arms) (scope : Scope) → AreKept raw (arm_phrases (bare_arms xs) scope) → ArmsAllGo scope (bare_arms xs) scope
   arms_go [] scope rules m = ArmsGo.no_arms_left
   arms_go (x ∷ xs) scope rules m =
       let w = x.1 in
@@ -506,7 +507,7 @@ module _ (k : Kept) (raw other : RawProgram) (like : SameOutside raw other) wher
       ap₂ (λ (some others : List RawLabel). some ++ others) (w.same scope ∙ sym (ap (λ (t : Scoped ArmText). (t.gives next).labels) (text_arm w.labels w.body w.is)))
       (same_labels xs ((left_arm k raw x.0).after scope) ((scoped_of_arm raw x.0).after next))
 
-  switch_stays : (l : ℕ) (a : RawExpr) (arms : Arms) (scope : Scope) → KeepRules raw (arm_phrases (bare_arms arms) (opened (numbered scope))) → (kept : Bool) → k.statement scope.statements ≡ kept
+  switch_stays : (l : ℕ) (a : RawExpr) (arms : Arms) (scope : Scope) → AreKept raw (arm_phrases (bare_arms arms) (opened (numbered scope))) → (kept : Bool) → k.statement scope.statements ≡ kept
       → AreMet k (switch_left raw kept l a (arms_given (bare_arms arms) (opened (numbered scope))) scope).needs
       → Stays scope (s.Switch l a (bare_arms arms)) (switch_left raw kept l a (arms_given (bare_arms arms) (opened (numbered scope))) scope)
   switch_stays l a arms scope rules true h m =
@@ -532,7 +533,7 @@ module _ (k : Kept) (raw other : RawProgram) (like : SameOutside raw other) wher
 
   -- the rules of the parts of a for
   for_layer : (l : ℕ) (i : Option RawStatement) (a : RawExpr) (step : Option RawStatement) (b : Statements) → PartHolds i → PartHolds step → (scope : Scope)
-      → KeepRules raw (at_stand InFor (part_gives (option_map (scoped raw) i) (opened (numbered scope)))
+      → AreKept raw (at_stand InFor (part_gives (option_map (scoped raw) i) (opened (numbered scope)))
       ++ (phrase l (part_scope raw i scope) (Tests a)
       ∷ (at_stand InBlock (part_gives (option_map (scoped raw) step) (part_scope raw i scope)) ++ list_phrases InBlock (bare b) (opened (body_scope raw i step scope)))))
       → AreMet k (for_of (k.statement scope.statements) l i a step b scope).needs → Stays scope (s.For l i a step (bare b)) (for_of (k.statement scope.statements) l i a step b scope)
@@ -541,10 +542,10 @@ module _ (k : Kept) (raw other : RawProgram) (like : SameOutside raw other) wher
       let test = phrase l (part_scope raw i scope) (Tests a) in
       let next = at_stand InBlock (part_gives (option_map (scoped raw) step) (part_scope raw i scope)) in
       let body = list_phrases InBlock (bare b) (opened (body_scope raw i step scope)) in
-      let rest = later_keep raw test (next ++ body) (right_keep raw first (test ∷ (next ++ body)) rules) in
-      for_stays l i a step b hi hs scope (left_keep raw first (test ∷ (next ++ body)) rules) (left_keep raw next body rest) (right_keep raw next body rest) (k.statement scope.statements) refl m
+      let rest = (kept_second raw first (test ∷ (next ++ body)) rules).1 in
+      for_stays l i a step b hi hs scope (kept_first raw first (test ∷ (next ++ body)) rules) (kept_first raw next body rest) (kept_second raw next body rest) (k.statement scope.statements) refl m
 
-  of_layer : (y : Layer) (scope : Scope) (stand : Stand) → KeepRules raw (phrases_step raw (texts (shape y)) scope stand) → AreMet k (left_step k raw (lefts (shape y)) scope).needs
+  of_layer : (y : Layer) (scope : Scope) (stand : Stand) → AreKept raw (phrases_step raw (texts (shape y)) scope stand) → AreMet k (left_step k raw (lefts (shape y)) scope).needs
       → Stays scope (roll-RawStatement (shape y)) (left_step k raw (lefts (shape y)) scope)
   of_layer (RawStatement-F.Declare l v i) scope stand rules m = at_form (s.rolls-Declare l v i) (declare_stays l v i scope m)
   of_layer (RawStatement-F.Assign l a op b) scope stand rules m = plain_stays (RawStatement-F.Assign l a op b) (Assigns a op b) refl refl scope tt (k.statement scope.statements) refl m
@@ -554,13 +555,13 @@ module _ (k : Kept) (raw other : RawProgram) (like : SameOutside raw other) wher
   of_layer (RawStatement-F.If l a b c) scope stand rules m =
       let first = list_phrases InBlock (bare b) (opened (numbered scope)) in
       let second = list_phrases InBlock (bare c) (opened (block_after raw (bare b) (numbered scope))) in
-      let rest = later_keep raw (phrase l scope (Tests a)) (first ++ second) rules in
-      at_form (s.rolls-If l a (bare b) (bare c)) (if_stays l a b c scope (left_keep raw first second rest) (right_keep raw first second rest) (k.statement scope.statements) refl m)
+      let rest = rules.1 in
+      at_form (s.rolls-If l a (bare b) (bare c)) (if_stays l a b c scope (kept_first raw first second rest) (kept_second raw first second rest) (k.statement scope.statements) refl m)
   of_layer (RawStatement-F.While l a b) scope stand rules m =
-      let rest = later_keep raw (phrase l scope (Tests a)) (list_phrases InBlock (bare b) (opened (numbered scope))) rules in
+      let rest = rules.1 in
       at_form (s.rolls-While l a (bare b)) (while_stays l a b scope rest (k.statement scope.statements) refl m)
   of_layer (RawStatement-F.Do l a b) scope stand rules m =
-      let rest = later_keep raw (phrase l scope (Tests a)) (list_phrases InBlock (bare b) (opened (numbered scope))) rules in
+      let rest = rules.1 in
       at_form (s.rolls-Do l a (bare b)) (do_stays l a b scope rest (k.statement scope.statements) refl m)
   of_layer (RawStatement-F.For l None a None b) scope stand rules m = at_form (s.rolls-For l None a None (bare b)) (for_layer l None a None b tt tt scope rules m)
   of_layer (RawStatement-F.For l None a (Some n) b) scope stand rules m = at_form (s.rolls-For l None a (Some n.0) (bare b)) (for_layer l None a (Some n.0) b tt n.1 scope rules m)
@@ -568,7 +569,7 @@ module _ (k : Kept) (raw other : RawProgram) (like : SameOutside raw other) wher
   of_layer (RawStatement-F.For l (Some i) a (Some n) b) scope stand rules m = at_form (s.rolls-For l (Some i.0) a (Some n.0) (bare b)) (for_layer l (Some i.0) a (Some n.0) b i.1 n.1 scope rules m)
   of_layer (RawStatement-F.Switch l a arms) scope stand rules m =
       let all = arm_phrases (bare_arms arms) (opened (numbered scope)) in
-      let rest = later_keep raw (phrase l scope (Switches a (arm_labels raw (bare_arms arms) (opened (numbered scope))))) all rules in
+      let rest = rules.1 in
       at_form (s.rolls-Switch l a (bare_arms arms)) (switch_stays l a arms scope rest (k.statement scope.statements) refl m)
   of_layer (RawStatement-F.Block l b) scope stand rules m =
       let some = (block_left k raw (map (left k raw) (bare b)) scope).some in
@@ -580,7 +581,7 @@ module _ (k : Kept) (raw other : RawProgram) (like : SameOutside raw other) wher
       subst (λ (t : Scoped Left). AreMet k (t.gives scope).needs → Stays scope (roll-RawStatement (shape y)) (t.gives scope))
       (sym (fold-roll-RawStatement (Scoped Left) (Scoped ArmLeft) (left_scoped k raw) (left_arm_step k raw) (shape y)))
       (of_layer y scope stand
-      (subst (λ (t : Scoped (Stand → Phrases)). KeepRules raw (t.gives scope stand)) (fold-roll-RawStatement (Scoped (Stand → Phrases)) (Scoped ArmText) (scoped_step raw) scoped_arm (shape y)) rules))
+      (subst (λ (t : Scoped (Stand → Phrases)). AreKept raw (t.gives scope stand)) (fold-roll-RawStatement (Scoped (Stand → Phrases)) (Scoped ArmText) (scoped_step raw) scoped_arm (shape y)) rules))
 
   abbrev arm_shape : RawArm-F ((x : RawStatement) × Holds x) ((a : RawArm) × ArmHolds a) → RawArm-F RawStatement RawArm
   arm_shape = map-RawArm ((x : RawStatement) × Holds x) ((a : RawArm) × ArmHolds a) RawStatement RawArm (λ x. x.0) (λ a. a.0)
@@ -594,20 +595,20 @@ module _ (k : Kept) (raw other : RawProgram) (like : SameOutside raw other) wher
         is = refl;
         same = λ scope. refl;
         place = λ scope. refl;
-        after = λ scope. all_after (bare y.body) scope;
+        after = λ scope. left_after_list k raw (bare y.body) scope;
         thins = λ scope rules. lists y.body scope InArm rules;
       })
 
   statement_stays : (x : RawStatement) → Holds x
   statement_stays = ind-RawStatement Holds ArmHolds (λ x y is. subst (λ z. Holds (roll-RawStatement z)) is (statement_layer y)) (λ x y is. subst (λ z. ArmHolds (roll-RawArm z)) is (arm_layer y))
 
-  pub body_stays : (xs : List RawStatement) (scope : Scope) → KeepRules raw (body_phrases raw xs scope) → AreMet k (body_left k raw xs scope).needs → ThinAll k raw other scope xs (body_left k raw xs scope).some
+  pub body_stays : (xs : List RawStatement) (scope : Scope) → AreKept raw (body_phrases raw xs scope) → AreMet k (body_left k raw xs scope).needs → ThinAll k raw other scope xs (body_left k raw xs scope).some
   body_stays [] scope rules m = ThinAll.none
   body_stays (x ∷ xs) scope rules m =
       let next = (scoped raw x).after scope in
       let p = both_met k ((left k raw x).gives scope).needs (body_left k raw xs ((left k raw x).after scope)).needs m in
-      ThinAll.more (statement_stays x scope InBlock (left_keep raw ((scoped raw x).gives scope InBlock) (body_phrases raw xs next) rules) p.0).thins
-      (subst (ListStays next xs) (sym (one_after x scope)) (body_stays xs next (right_keep raw ((scoped raw x).gives scope InBlock) (body_phrases raw xs next) rules)) p.1)
+      ThinAll.more (statement_stays x scope InBlock (kept_first raw ((scoped raw x).gives scope InBlock) (body_phrases raw xs next) rules) p.0).thins
+      (subst (ListStays next xs) (sym (left_after k raw x scope)) (body_stays xs next (kept_second raw ((scoped raw x).gives scope InBlock) (body_phrases raw xs next) rules)) p.1)
 
-  pub body_goes : (xs : List RawStatement) (scope : Scope) → KeepRules raw (body_phrases raw xs scope) → AreMet k (gone (body_left k raw xs scope)) → ThinAll k raw other scope xs []
+  pub body_goes : (xs : List RawStatement) (scope : Scope) → AreKept raw (body_phrases raw xs scope) → AreMet k (gone (body_left k raw xs scope)) → ThinAll k raw other scope xs []
   body_goes xs scope rules m = gone_list (body_left k raw xs scope) (body_stays xs scope rules) m

@@ -11,19 +11,20 @@ use Rattle.c_tree.specs.declared.raw.expr.RawExpr.{RawExpr}
 use Rattle.c_tree.specs.declared.raw.statement.RawStatement.{RawStatement, fold-roll-RawStatement}
 use Rattle.c_tree.specs.declared.raw.statement.RawStatement.TheOpen.{RawStatement-F, RawArm-F}
 use Rattle.c_tree.specs.declared.raw.statement.RawStatement.TheVariants as s
-use Rattle.c_language.specs.DeclaredTypes.{StructText, structs_of, is_include}
+use Rattle.c_language.specs.DeclaredTypes.{StructText, struct_texts, is_include}
 use Rattle.c_language.specs.Scopes.{Scope, Scoped, outset, scope_of_parameters, entered}
-use Rattle.c_language.specs.Phrases.{scoped, Returns, phrase, DeclaresFunction, EndsFunction, head_phrases, body_phrases, item_phrases, items_phrases, after_item}
-use Rattle.c_language.specs.Rules.{IsBroken, KeepsRules}
+use Rattle.c_language.specs.Phrases.{scoped, Returns, phrase, DeclaresFunction, EndsFunction, head_phrases, body_phrases, item_phrases, items_phrases, after_item, phrases}
+use Rattle.c_language.specs.Rules.{IsBroken, KeepsRules, AreKept}
 use Rattle.c_scope_laws.specs.Agreement.{SameOutside}
 use Rattle.projection.specs.Kept.{Kept}
 use Rattle.c_scope_laws.specs.ThinTexts.{ItemsThin, IsThinner}
-use Rattle.c_scope_laws.specs.ThinnedBodies.{KeepRules, body_left, Left, ArmLeft, plain, left_step, left_scoped, left_arm_step, left}
-use Rattle.c_scope_laws.specs.ThinnedTexts.{LastStays, chosen, items_left, VariableStays, ItemIsClosed, ItemsAreClosed, thinned_text, IsClosed}
+use Rattle.c_scope_laws.specs.ThinnedBodies.{body_left, Left, ArmLeft, plain, left_step, left_scoped, left_arm_step, left}
+use Rattle.c_scope_laws.specs.ThinnedTexts.{LastStays, chosen, items_left, VariableStays, ItemIsClosed, ItemsAreClosed, thinned_text, KeepsText}
 use Rattle.c_language.specs.CallRules.{EndsWithValue}
 use Rattle.c_language.proofs.Tests.{false_true}
 use Rattle.c_language.proofs.ScopesAfter.{statement_after}
-use Rattle.c_scope_laws.proofs.ThinnedBodies.{later_keep, left_keep, right_keep, body_stays, body_goes}
+use Rattle.c_language.proofs.PhraseLists.{kept_first, kept_second, kept_from}
+use Rattle.c_scope_laws.proofs.ThinnedBodies.{body_stays, body_goes}
 
 -- ---- the same struct types and headers
 
@@ -43,15 +44,15 @@ is_define : (is_stdlib : Bool) (l : ℕ) (head : RawHead) (body : List RawStatem
 is_define true l head body = refl
 is_define false l head body = refl
 
-no_struct_global : (b : Bool) (l : ℕ) (v : RawVar) (i : RawInit) (is_static : Bool) (rest : List RawItem) → structs_of (chosen b (Global l v i is_static) ++ rest) ≡ structs_of rest
+no_struct_global : (b : Bool) (l : ℕ) (v : RawVar) (i : RawInit) (is_static : Bool) (rest : List RawItem) → struct_texts (chosen b (Global l v i is_static) ++ rest) ≡ struct_texts rest
 no_struct_global true l v i is_static rest = refl
 no_struct_global false l v i is_static rest = refl
 
-no_struct_prototype : (b : Bool) (l : ℕ) (head : RawHead) (rest : List RawItem) → structs_of (chosen b (Prototype l head) ++ rest) ≡ structs_of rest
+no_struct_prototype : (b : Bool) (l : ℕ) (head : RawHead) (rest : List RawItem) → struct_texts (chosen b (Prototype l head) ++ rest) ≡ struct_texts rest
 no_struct_prototype true l head rest = refl
 no_struct_prototype false l head rest = refl
 
-no_struct_define : (b : Bool) (l : ℕ) (head : RawHead) (body : List RawStatement) (rest : List RawItem) → structs_of (chosen b (Define l head body) ++ rest) ≡ structs_of rest
+no_struct_define : (b : Bool) (l : ℕ) (head : RawHead) (body : List RawStatement) (rest : List RawItem) → struct_texts (chosen b (Define l head body) ++ rest) ≡ struct_texts rest
 no_struct_define true l head body rest = refl
 no_struct_define false l head body rest = refl
 
@@ -59,7 +60,7 @@ not_first : (is_stdlib : Bool) (x : RawItem) (rest : List RawItem) → is_includ
 not_first is_stdlib x rest h = sym (ap (λ (c : Bool). c || list_any (is_include is_stdlib) rest) h)
 
 module _ (k : Kept) (raw : RawProgram) where
-  structs_left : (xs : List RawItem) (scope : Scope) → structs_of (items_left k raw xs scope) ≡ structs_of xs
+  structs_left : (xs : List RawItem) (scope : Scope) → struct_texts (items_left k raw xs scope) ≡ struct_texts xs
   structs_left [] scope = refl
   structs_left (Include is_stdlib ∷ xs) scope = structs_left xs _
   structs_left (Tag l w ∷ xs) scope = structs_left xs _
@@ -136,7 +137,7 @@ module _ (k : Kept) (raw : RawProgram) where
   prototype_left l head scope rest others true h d = ItemsThin.prototype h d
   prototype_left l head scope rest others false h d = ItemsThin.prototype_goes h d
 
-  define_left : (l : ℕ) (head : RawHead) (body : List RawStatement) (scope : Scope) → KeepRules raw (body_phrases raw body (entered raw head scope)) → (rest others : List RawItem) (b : Bool) → k.function head.name ≡ b
+  define_left : (l : ℕ) (head : RawHead) (body : List RawStatement) (scope : Scope) → AreKept raw (body_phrases raw body (entered raw head scope)) → (rest others : List RawItem) (b : Bool) → k.function head.name ≡ b
       → ItemIsClosed k raw (Define l head body) scope → Here (after_item raw (Define l head body) scope) rest others
       → Here scope (Define l head body ∷ rest) (chosen b (Define l head (body_left k raw body (entered raw head scope)).some) ++ others)
   define_left l head body scope rules rest others true h c d =
@@ -145,20 +146,20 @@ module _ (k : Kept) (raw : RawProgram) where
       let f = c.1 h in
       ItemsThin.define_goes h f.parameters (body_goes k raw raw (record { structs = refl; stdio = refl; stdlib = refl }) body (entered raw head scope) rules f.statements) d
 
-  behind : (x : RawItem) (xs : List RawItem) (scope : Scope) → KeepRules raw (items_phrases raw (x ∷ xs) scope) → KeepRules raw (items_phrases raw xs (after_item raw x scope))
-  behind x xs scope = right_keep raw (item_phrases raw x scope) (items_phrases raw xs (after_item raw x scope))
+  behind : (x : RawItem) (xs : List RawItem) (scope : Scope) → AreKept raw (items_phrases raw (x ∷ xs) scope) → AreKept raw (items_phrases raw xs (after_item raw x scope))
+  behind x xs scope = kept_second raw (item_phrases raw x scope) (items_phrases raw xs (after_item raw x scope))
 
-  body_rules : (l : ℕ) (head : RawHead) (body : List RawStatement) (xs : List RawItem) (scope : Scope) → KeepRules raw (items_phrases raw (Define l head body ∷ xs) scope)
-      → KeepRules raw (body_phrases raw body (entered raw head scope))
+  body_rules : (l : ℕ) (head : RawHead) (body : List RawStatement) (xs : List RawItem) (scope : Scope) → AreKept raw (items_phrases raw (Define l head body ∷ xs) scope)
+      → AreKept raw (body_phrases raw body (entered raw head scope))
   body_rules l head body xs scope rules =
       let first = phrase l scope (DeclaresFunction head true) in
       let params = head_phrases raw head.params (scope_of_parameters head scope) in
       let inside = body_phrases raw body (entered raw head scope) in
       let end = phrase l scope (EndsFunction head body) ∷ [] in
-      let all = left_keep raw (first ∷ (params ++ (inside ++ end))) (items_phrases raw xs (after_item raw (Define l head body) scope)) rules in
-      left_keep raw inside end (right_keep raw params (inside ++ end) (later_keep raw first (params ++ (inside ++ end)) all))
+      let all = kept_first raw (first ∷ (params ++ (inside ++ end))) (items_phrases raw xs (after_item raw (Define l head body) scope)) rules in
+      kept_first raw inside end (kept_second raw params (inside ++ end) all.1)
 
-  all_items_left : (xs : List RawItem) (scope : Scope) → KeepRules raw (items_phrases raw xs scope) → ItemsAreClosed k raw xs scope → Here scope xs (items_left k raw xs scope)
+  all_items_left : (xs : List RawItem) (scope : Scope) → AreKept raw (items_phrases raw xs scope) → ItemsAreClosed k raw xs scope → Here scope xs (items_left k raw xs scope)
   all_items_left [] scope rules c = ItemsThin.none
   all_items_left (Include is_stdlib ∷ xs) scope rules c = ItemsThin.include (all_items_left xs scope rules c.1)
   all_items_left (Tag l w ∷ xs) scope rules c = ItemsThin.tag (all_items_left xs scope (behind (Tag l w) xs scope rules) c.1)
@@ -170,5 +171,5 @@ module _ (k : Kept) (raw : RawProgram) where
   all_items_left (Define l head body ∷ xs) scope rules c =
       let next = after_item raw (Define l head body) scope in define_left l head body scope (body_rules l head body xs scope rules) xs (items_left k raw xs next) (k.function head.name) refl c.0 (all_items_left xs next (behind (Define l head body) xs scope rules) c.1)
 
-  pub text_left : KeepsRules raw → IsClosed k raw → IsThinner k raw (thinned_text k raw)
-  text_left rules c = record { items = all_items_left raw.items outset (λ n p c b. rules n p.line (IsBroken.by_phrase c b)) c.items; main = c.main }
+  pub text_left : KeepsRules raw → KeepsText k raw → IsThinner k raw (thinned_text k raw)
+  text_left rules c = record { items = all_items_left raw.items outset (kept_from raw (phrases raw) (λ p c n b. rules n p.line (IsBroken.by_phrase c b))) c.items; main = c.main }

@@ -16,7 +16,7 @@ use Rattle.c_language.specs.ConstantEvaluation.{both}
 use Rattle.c_language.specs.DeclaredTypes.{function_id}
 use Rattle.c_language.specs.Scopes.{Scope}
 use Rattle.c_language.specs.CallRules.{format_in, later_args, without_result}
-use Rattle.c_language.specs.Uses.{is_library_function, is_one_of}
+use Rattle.c_language.specs.Uses.{is_library_function, is_among}
 use Rattle.c_language.specs.ProgramOf.{args_tree, only_tree, print_tree, invoke_tree, call_tree}
 use Rattle.c_language.proofs.Options.{none_there, some_same}
 use Rattle.c_language.proofs.Tests.{false_true, none_of}
@@ -43,8 +43,8 @@ by_tests false false false false x y z w v h = refl
 module _ (raw : RawProgram) (place : Scope) (n l : ℕ) (to : Option Target) (f : Bytes) (args : List RawArg) where
   -- a fact about each tree that a call can have
   pub call_by : (P : Statement → Type 0)
-      → ((t : Target) → to ≡ Some t → is_library_function f ≡ true → P (s.Fetch n l t)) → ((a : Expr) → is_one_of without_result f ≡ true → P (s.Write n l a)) → ((text : Bytes) (as_ : List Expr) → is_one_of without_result f ≡ true → P (s.Print n l text as_))
-      → ((a : Expr) → is_one_of without_result f ≡ true → P (s.Release n l a))
+      → ((t : Target) → to ≡ Some t → is_library_function f ≡ true → P (s.Fetch n l t)) → ((a : Expr) → is_among without_result f ≡ true → P (s.Write n l a)) → ((text : Bytes) (as_ : List Expr) → is_among without_result f ≡ true → P (s.Print n l text as_))
+      → ((a : Expr) → is_among without_result f ≡ true → P (s.Release n l a))
       → ((t : Target) (i : ℕ) (as_ : List Expr) → to ≡ Some t → is_library_function f ≡ false → P (s.Invoke n l t i as_))
       → (y : Statement) → call_tree raw place n l to f args ≡ Some y → P y
   call_by P fetch write print release invoke y is =
@@ -61,7 +61,7 @@ module _ (raw : RawProgram) (place : Scope) (n l : ℕ) (to : Option Target) (f 
       by_value form each None is = none_there is
       by_value form each (Some a) is = moved (each a) is
 
-      by_print : is_one_of without_result f ≡ true → (o : Option Bytes) (x : Option (List Expr)) → option_and_then (λ (text : Bytes). option_map (s.Print n l text) x) o ≡ Some y → P y
+      by_print : is_among without_result f ≡ true → (o : Option Bytes) (x : Option (List Expr)) → option_and_then (λ (text : Bytes). option_map (s.Print n l text) x) o ≡ Some y → P y
       by_print h None x is = none_there is
       by_print h (Some text) None is = none_there is
       by_print h (Some text) (Some as_) is = moved (print text as_ h) is
@@ -159,7 +159,7 @@ module _ (k : Kept) (g : ℕ → ℕ) where
         call_by raw place n l to w args Whole (λ u at h. fetch_whole n l kept u) (λ a h. write_whole n l kept a) (λ text as_ h. print_whole n l kept text as_) (λ a h. release_whole n l kept a) invoke
 
     -- what stays of a call that goes is what it declares, where it gives a result
-    pub call_gone : (to : Option Target) (zs : List Statement) → k.statement n ≡ false → ((t : Target) → to ≡ Some t → bare_target k g l t ≡ zs) → (is_one_of without_result w ≡ true → zs ≡ [])
+    pub call_gone : (to : Option Target) (zs : List Statement) → k.statement n ≡ false → ((t : Target) → to ≡ Some t → bare_target k g l t ≡ zs) → (is_among without_result w ≡ true → zs ≡ [])
         → (y : Statement) → call_tree raw place n l to w args ≡ Some y → projected k g y ≡ zs
     call_gone to zs out each none =
         call_by raw place n l to w args (λ y. projected k g y ≡ zs)

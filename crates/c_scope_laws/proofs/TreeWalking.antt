@@ -34,27 +34,28 @@ use Rattle.c_language.specs.DeclaredTypes.{function_id}
 use Rattle.c_language.specs.TypeGrammar.{named_type}
 use Rattle.c_language.specs.Scopes.{Scope, Scoped, with_variable, with_target, opened, numbered, in_order, after_all, after_block, after_part, scope_of_test, scope_of_body}
 use Rattle.c_language.specs.Phrases.{InFor, InArm, InBlock, Part, Begins, Calls, Allocates, Tests, Switches, scoped}
-use Rattle.c_language.specs.Uses.{cases, is_library_function, is_one_of}
+use Rattle.c_language.specs.Uses.{cases, is_library_function, is_among}
 use Rattle.c_language.specs.CallRules.{without_result}
 use Rattle.c_language.specs.ProgramOf.{for_tree, collected, optional, ctype_if, expr_of, init_of, declaration_id, target_tree, args_tree, call_tree, amount_tree, heap_tree, label_tree, switch_type, arm_tree, ArmTree, arm_tree_step, block_tree, at_type, part_tree, tree_step, treed_step, treed, treed_arm}
 use Rattle.c_language.proofs.TreedForms.{treed-Declare, treed-Call, treed-Heap, treed-If, treed-While, treed-Do, treed-For, treed-Switch, treed-Block, treed_arm-arm}
-use Rattle.c_language.proofs.Options.{none_there, some_same, optional_there}
+use Rattle.c_language.proofs.Options.{none_there, some_same, optional_there, more_there}
 use Rattle.c_language.proofs.Tests.{false_true}
 use Rattle.c_language.proofs.Lists.{contains_first, contains_later}
 use Rattle.c_language.proofs.TreeScopes.{after_same, list_after, block_after_same, part_after}
+use Rattle.c_language.proofs.OptionMaps.{collected_map}
 use Rattle.c_scope_laws.specs.Agreement.{NamedAmong, Names, NamesFunction, Agree, TreesAgree, SameVariable, there, simple_part}
 use Rattle.projection.specs.Renumbering.{Numbers, renamed, renamed_label, renumbered}
 use Rattle.projection.specs.Kept.{Kept, rank}
 use Rattle.c_scope_laws.specs.Thinning.{LabelsStay, arm_labels, NamesStay, BeginIs, declares, StaysWhole, GivesResult, Thins, ThinAll, ThinsPart, ThinArms}
-use Rattle.projection.specs.Projection.{declares_target, is_declaring, first_of, part_of, bare, bare_target, projected, projected_arm, projected_all}
-use Rattle.c_scope_laws.proofs.Options.{collected_turns}
+use Rattle.projection.specs.Projection.{declares_target, is_declaring, first_statement, part_of, bare, bare_target, projected, projected_arm, projected_all}
 use Rattle.c_scope_laws.proofs.Trees.{in_one}
 use Rattle.c_scope_laws.proofs.ExprAgreement.{exprs_same}
 use Rattle.c_scope_laws.proofs.StatementAgreement.{CoversAll, part_covers, args_same, switch_types_same, labels_same, simple_fits}
-use Rattle.c_scope_laws.specs.Following.{TextsAgree, Follows}
+use Rattle.c_scope_laws.specs.Following.{TextsAgree, ScopesAgree}
 use Rattle.c_scope_laws.proofs.Following.{meaning_kept, numbered_kept, numbered_gone, follows_opened, follows_closed, variable_kept, variable_gone, places_agree}
 use Rattle.c_scope_laws.proofs.Outside.{variable_same}
 use Rattle.c_scope_laws.proofs.RenumberingLemmas.{renumbered-Declare}
+use Rattle.c_scope_laws.proofs.VariableLists.{join}
 use Rattle.c_scope_laws.proofs.Walking.{part_walks, at_number, walks, all_walk}
 use Rattle.c_scope_laws.proofs.TreeForms.{projected_arm-arm, declaring-Declare, declaring-Invoke, declaring-Fetch, declaring-Write, declaring-Print, declaring-Heap, declaring-Release, declaring-Assign, declaring-Bump, declaring-Return, projected-Declare}
 use Rattle.c_scope_laws.proofs.TreeLevels.{chosen, unchosen, one_there, collect_one, ListStays, settled, if_stays, while_stays, do_stays, for_stays, switch_stays, if_gone, while_gone, do_gone, switch_gone, for_leaves, block_stays, block_gone}
@@ -81,16 +82,6 @@ by_heap P n l (Some u) (Some d) (Some a) each y is = subst P (some_same is) (eac
 
 -- ---- lists
 
-collected-append : (xs ys : List (Option Statement)) (as_ bs : List Statement) → collected xs ≡ Some as_ → collected ys ≡ Some bs → collected (xs ++ ys) ≡ Some (as_ ++ bs)
-collected-append [] ys as_ bs p q = q ∙ ap (λ (zs : List Statement). Some (zs ++ bs)) (some_same p)
-collected-append (None ∷ xs) ys as_ bs p q = none_there p
-collected-append (Some x ∷ xs) ys as_ bs p q = by_rest (collected xs) refl (λ cs at. collected-append xs ys cs bs at q) p
-  where
-    by_rest : (o : Option (List Statement)) → collected xs ≡ o → ((cs : List Statement) → collected xs ≡ Some cs → collected (xs ++ ys) ≡ Some (cs ++ bs)) → option_map (λ zs. x ∷ zs) o ≡ Some as_
-        → collected (Some x ∷ (xs ++ ys)) ≡ Some (as_ ++ bs)
-    by_rest None at later h = none_there h
-    by_rest (Some cs) at later h = ap (option_map (λ zs. x ∷ zs)) (later cs at) ∙ ap (λ (zs : List Statement). Some (zs ++ bs)) (some_same h)
-
 in_order-append : {R : Type 0} (xs ys : List (Scoped R)) (scope : Scope) → in_order (xs ++ ys) scope ≡ in_order xs scope ++ in_order ys (after_all xs scope)
 in_order-append [] ys scope = refl
 in_order-append (x ∷ xs) ys scope = ap (λ (all : List _). x.gives scope ∷ all) (in_order-append xs ys (x.after scope))
@@ -103,7 +94,7 @@ module _ (k : Kept) (raw other : RawProgram) (texts : TextsAgree k raw other) (g
   f = rank k.variable
 
   abbrev Comes : Scope → Scope → Type 0
-  Comes scope next = Follows k raw other defined_here defined_there owner_here owner_there scope next
+  Comes scope next = ScopesAgree k raw other defined_here defined_there owner_here owner_there scope next
 
   agrees : {scope next : Scope} {part : Part} → Comes scope next → NamesStay k scope part → Agree f (Names part) scope next
   agrees c stay = (places_agree k raw other texts c stay).scopes
@@ -258,7 +249,7 @@ module _ (k : Kept) (raw other : RawProgram) (texts : TextsAgree k raw other) (g
           y (sym (invoked raw within scope.statements l (Some (to_place.Declared scope.variables)) w args strange) ∙ at) in
           (r.0, invoked other place m l (Some to_place.None) w args strange ∙ r.1, r.2)
 
-      call_gone_by : k.statement scope.statements ≡ false → (is_one_of without_result w ≡ true → bare k g l scope.variables ≡ []) → (y : Statement) → call ≡ Some y → projected k g y ≡ bare k g l scope.variables
+      call_gone_by : k.statement scope.statements ≡ false → (is_among without_result w ≡ true → bare k g l scope.variables ≡ []) → (y : Statement) → call ≡ Some y → projected k g y ≡ bare k g l scope.variables
       call_gone_by out none y at = call_gone k g raw within scope.statements l w args (Some (to_place.Declared scope.variables)) (bare k g l scope.variables) out (λ u h. ap (bare_target k g l) (sym (some_same h))) none y at
 
     module _ (cast : Option RawTypeName) (n : RawAmount) where
@@ -365,7 +356,7 @@ module _ (k : Kept) (raw other : RawProgram) (texts : TextsAgree k raw other) (g
   -- ---- labels
 
   labels_stay : {scope next : Scope} (i : IntType) (all : List RawLabel) → Comes scope next → LabelsStay k scope all → collected (map (label_tree other next i) all) ≡ option_map (map (renamed_label f)) (collected (map (label_tree raw scope i) all))
-  labels_stay {scope} {next} i all c stay = ap collected (each all (λ a p. p)) ∙ collected_turns (renamed_label f) (map (label_tree raw scope i) all)
+  labels_stay {scope} {next} i all c stay = ap collected (each all (λ a p. p)) ∙ sym (collected_map (renamed_label f) (map (label_tree raw scope i) all))
     where
       agree : Agree f (NamedAmong (cases all)) scope next
       agree = record { names = λ x n. meaning_kept k raw other x c (stay x n); structs = c.structs }
@@ -390,28 +381,19 @@ module _ (k : Kept) (raw other : RawProgram) (texts : TextsAgree k raw other) (g
   arm_stays i (Some ls) ls' (Some zs) b' p q a at = ap₂ (both arm_tree) p (q zs refl) ∙ ap Some (sym (projected_arm-arm k g ls zs) ∙ ap (projected_arm k g) (some_same at))
 
   -- two lists of options, one after the other
-  more_there : {A B : Type 0} (h : A → B) (o : Option A) (q : Option (List A)) (o' : Option B) (q' : Option (List B)) → ((a : A) → o ≡ Some a → o' ≡ Some (h a)) → ((as_ : List A) → q ≡ Some as_ → q' ≡ Some (map h as_))
+  more_projected : {A B : Type 0} (h : A → B) (o : Option A) (q : Option (List A)) (o' : Option B) (q' : Option (List B)) → ((a : A) → o ≡ Some a → o' ≡ Some (h a)) → ((as_ : List A) → q ≡ Some as_ → q' ≡ Some (map h as_))
       → (zs : List A) → option_and_then (λ y. option_map (λ ys. y ∷ ys) q) o ≡ Some zs → option_and_then (λ y. option_map (λ ys. y ∷ ys) q') o' ≡ Some (map h zs)
-  more_there h None q o' q' p r zs at = none_there at
-  more_there h (Some a) None o' q' p r zs at = none_there at
-  more_there h (Some a) (Some as_) o' q' p r zs at =
+  more_projected h None q o' q' p r zs at = none_there at
+  more_projected h (Some a) None o' q' p r zs at = none_there at
+  more_projected h (Some a) (Some as_) o' q' p r zs at =
       ap₂ (λ (x : Option _) (y : Option (List _)). option_and_then (λ z. option_map (λ ys. z ∷ ys) y) x) (p a refl) (r as_ refl) ∙ ap (λ (all : List _). Some (map h all)) (some_same at)
-
-  -- a list that is there begins with what is there
-  first_there : (o : Option Statement) (os : List (Option Statement)) (zs : List Statement) → collected (o ∷ os) ≡ Some zs → (w : Statement) × (ws : List Statement) × (zs ≡ w ∷ ws)
-  first_there None os zs at = none_there at
-  first_there (Some w) os zs at = by_rest (collected os) at
-    where
-      by_rest : (q : Option (List Statement)) → option_map (λ ws. w ∷ ws) q ≡ Some zs → (w : Statement) × (ws : List Statement) × (zs ≡ w ∷ ws)
-      by_rest None at = none_there at
-      by_rest (Some ws) at = (w, ws, sym (some_same at))
 
   whole_block : (l : ℕ) (b : Option (List Statement)) (o : Option Statement) (os : List (Option Statement)) → ListStays k g b (collected (o ∷ os)) → (y : Statement) → option_map (t.Block l) b ≡ Some y
       → collected (option_map (t.Block l) (collected (o ∷ os)) ∷ []) ≡ Some (projected k g y)
   whole_block l None o os q y at = none_there at
   whole_block l (Some zs) o os q y at =
-      let r = first_there o os (projected_all k g zs) (q zs refl) in
-      block_stays k g l (Some zs) (collected (o ∷ os)) r.0 r.1 q (q zs refl ∙ ap Some r.2) y at
+      let r = more_there o os (projected_all k g zs) (q zs refl) in
+      block_stays k g l (Some zs) (collected (o ∷ os)) r.first r.rest q (q zs refl ∙ ap Some (sym r.same)) y at
 
   -- a for's beginning is there where the for is
   begin_there : (n l : ℕ) (i : Option (Option Statement)) (e : Option Expr) (step : Option (Option Statement)) (b : Option (List Statement)) (y : Statement) → for_tree n l i e step b ≡ Some y → (z : Option Statement) × (i ≡ Some z)
@@ -442,7 +424,7 @@ module _ (k : Kept) (raw other : RawProgram) (texts : TextsAgree k raw other) (g
       joined y ws p r =
           ap (λ (all : List (Scoped (Option Statement))). collected (in_order all next)) (map-append (treed other) some others)
           ∙ ap collected (in_order-append (map (treed other) some) (map (treed other) others) next)
-          ∙ collected-append (in_order (map (treed other) some) next) (in_order (map (treed other) others) (after_all (map (treed other) some) next)) (projected k g y) (projected_all k g ws) (first y p)
+          ∙ join (in_order (map (treed other) some) next) (in_order (map (treed other) others) (after_all (map (treed other) some) next)) (projected k g y) (projected_all k g ws) (first y p)
           (ap (λ (z : Scope). collected (in_order (map (treed other) others) z)) (list_after other some next)
           ∙ later ws (ap (λ (z : Scope). collected (in_order (map (treed raw) rest) z)) (sym (after_same raw x scope)) ∙ r))
 
@@ -460,7 +442,7 @@ module _ (k : Kept) (raw other : RawProgram) (texts : TextsAgree k raw other) (g
       → (zs : List Arm) → at_type i (in_order (map (treed_arm raw) (arm labels body ∷ rest)) scope) ≡ Some zs → at_type i (in_order (map (treed_arm other) (arm labels some ∷ others)) next) ≡ Some (map (projected_arm k g) zs)
   arm_more labels body some rest others scope next i p q later zs at =
       ap (λ (a : Scoped ArmTree). at_type i (a.gives next ∷ in_order (map (treed_arm other) others) (a.after next))) (treed_arm-arm other labels some)
-      ∙ more_there (projected_arm k g) (both arm_tree (collected (map (label_tree raw scope i) labels)) (collected (in_order (map (treed raw) body) scope))) _
+      ∙ more_projected (projected_arm k g) (both arm_tree (collected (map (label_tree raw scope i) labels)) (collected (in_order (map (treed raw) body) scope))) _
       (both arm_tree (collected (map (label_tree other next i) labels)) (collected (in_order (map (treed other) some) next))) _
       (arm_stays i (collected (map (label_tree raw scope i) labels)) (collected (map (label_tree other next i) labels)) (collected (in_order (map (treed raw) body) scope)) (collected (in_order (map (treed other) some) next)) p q)
       (λ ws r. ap (λ (z : Scope). at_type i (in_order (map (treed_arm other) others) z)) (list_after other some next) ∙ later ws (ap (λ (z : Scope). at_type i (in_order (map (treed_arm raw) rest) z)) (sym (list_after raw body scope)) ∙ r))
@@ -538,7 +520,7 @@ module _ (k : Kept) (raw other : RawProgram) (texts : TextsAgree k raw other) (g
         let p = optional_there ((treed raw first).gives (opened (numbered scope))) z.0 z.1 in
         let r = one_there ((treed other begin).gives (opened next)) (projected k g p.0) (tree_stays d (opened next) (follows_opened k raw other (numbered_gone k raw other out c)) p.0 p.1.0) in
         let leaves = for_leaves k g scope.statements next.statements l c.statements _ (expr_of raw (scope_of_test (option_map (treed raw) (Some first)) scope) a) _ _ (Some r.value) out
-        (λ u q. ap (λ (o : Option Statement). part_of (option_map (projected k g) o)) (some_same (sym q ∙ z.1) ∙ sym p.1.1) ∙ ap first_of r.same) y tree in
+        (λ u q. ap (λ (o : Option Statement). part_of (option_map (projected k g) o)) (some_same (sym q ∙ z.1) ∙ sym p.1.1) ∙ ap first_statement r.same) y tree in
         let declares_it = declaring_begin begin (opened next) declaring gives r.value r.there in
         one_result next (treed-Block other l (begin ∷ []))
         (ap (λ (o : Option Statement). collected (option_map (t.Block l) (collected (o ∷ [])) ∷ [])) r.there ∙ ap Some (sym (leaves ∙ chosen (t.Block l (r.value ∷ []) ∷ []) (r.value ∷ []) declares_it)))
@@ -554,7 +536,7 @@ module _ (k : Kept) (raw other : RawProgram) (texts : TextsAgree k raw other) (g
         (record { names = agree.names; structs = agree.structs }) p.0 (given (treed-roll raw x) (opened (numbered scope)) p.1.0) in
         let r = one_there (tree_step other (opened_tree other x) next) (projected k g p.0) stays in
         let leaves = for_leaves k g scope.statements next.statements l c.statements _ (expr_of raw (scope_of_test (option_map (treed raw) (Some (roll-RawStatement x))) scope) a) _ _ (Some r.value) out
-        (λ u q. ap (λ (o : Option Statement). part_of (option_map (projected k g) o)) (some_same (sym q ∙ z.1) ∙ sym p.1.1) ∙ ap first_of r.same) y tree in
+        (λ u q. ap (λ (o : Option Statement). part_of (option_map (projected k g) o)) (some_same (sym q ∙ z.1) ∙ sym p.1.1) ∙ ap first_statement r.same) y tree in
         one_result next (treed-roll other x) (collect_one r.there ∙ ap Some (sym (leaves ∙ unchosen (t.Block l (r.value ∷ []) ∷ []) (r.value ∷ []) (simple_declaring other next x part is none r.value r.there))))
     tree_stays {scope} (Thins.switch {l} {a} {arms} {others} is stay d) next c y at =
         one_result next (treed-Switch other l a others) (switch_stays k g scope.statements next.statements l c.statements (expr_of raw scope a) (switch_type raw scope a) _ (expr_of other next a) (switch_type other next a) _ is
@@ -582,10 +564,10 @@ module _ (k : Kept) (raw other : RawProgram) (texts : TextsAgree k raw other) (g
     part_stays {scope} (ThinsPart.part_stays {x} {y} d) next c z at =
         let p = optional_there ((treed raw x).gives scope) z at in
         let r = one_there ((treed other y).gives next) (projected k g p.0) (tree_stays d next c p.0 p.1.0) in
-        ap (λ (o : Option Statement). optional (Some o)) r.there ∙ ap Some (sym (ap (λ (o : Option Statement). part_of (option_map (projected k g) o)) (sym p.1.1) ∙ ap first_of r.same))
+        ap (λ (o : Option Statement). optional (Some o)) r.there ∙ ap Some (sym (ap (λ (o : Option Statement). part_of (option_map (projected k g) o)) (sym p.1.1) ∙ ap first_statement r.same))
     part_stays {scope} (ThinsPart.part_goes {x} d) next c z at =
         let p = optional_there ((treed raw x).gives scope) z at in
-        ap Some (sym (ap (λ (o : Option Statement). part_of (option_map (projected k g) o)) (sym p.1.1) ∙ ap first_of (sym (some_same (tree_stays d next c p.0 p.1.0)))))
+        ap Some (sym (ap (λ (o : Option Statement). part_of (option_map (projected k g) o)) (sym p.1.1) ∙ ap first_statement (sym (some_same (tree_stays d next c p.0 p.1.0)))))
 
     pub arms_stay : {scope : Scope} {xs ys : List RawArm} → ThinArms k raw other scope xs ys → (next : Scope) → Comes scope next
         → (i : IntType) (zs : List Arm) → at_type i (in_order (map (treed_arm raw) xs) scope) ≡ Some zs → at_type i (in_order (map (treed_arm other) ys) next) ≡ Some (map (projected_arm k g) zs)

@@ -44,7 +44,7 @@ split (Some x ∷ xs) ys zs at = by_rest (collected (xs ++ ys)) refl (λ ws p. s
           count = ap suc r.count;
         }
 
-join : {A : Type 0} (xs ys : List (Option A)) (as_ bs : List A) → collected xs ≡ Some as_ → collected ys ≡ Some bs → collected (xs ++ ys) ≡ Some (as_ ++ bs)
+pub join : {A : Type 0} (xs ys : List (Option A)) (as_ bs : List A) → collected xs ≡ Some as_ → collected ys ≡ Some bs → collected (xs ++ ys) ≡ Some (as_ ++ bs)
 join [] ys as_ bs p q = q ∙ ap (λ (zs : List _). Some (zs ++ bs)) (some_same p)
 join (None ∷ xs) ys as_ bs p q = none_there p
 join (Some x ∷ xs) ys as_ bs p q = by_rest (collected xs) refl (λ cs at. join xs ys cs bs at q) p

@@ -19,7 +19,7 @@ use Rattle.c_language.proofs.Tests.{false_true}
 use Rattle.c_scope_laws.specs.Agreement.{SameVariable, StandsFor, there, out_of_for, simple_part}
 use Rattle.projection.specs.Kept.{Kept}
 use Rattle.c_scope_laws.specs.Thinning.{declares, Thins, ThinAll, ThinsPart, ThinArms, ArmsGo}
-use Rattle.c_scope_laws.specs.Following.{TextsAgree, Follows}
+use Rattle.c_scope_laws.specs.Following.{TextsAgree, ScopesAgree}
 use Rattle.c_scope_laws.proofs.Outside.{variable_same}
 use Rattle.c_scope_laws.proofs.Following.{numbered_kept, numbered_gone, follows_opened, follows_closed, follows_gone}
 use Rattle.c_scope_laws.proofs.Walking.{walks, all_walk, part_walks, joined-append, scoped-append, scoped-roll, simple_after, Statements, opened_form, one_same, two_same}
@@ -28,7 +28,7 @@ use Rattle.c_language.specs.StatementGrammar.{arm}
 
 module _ (k : Kept) (raw other : RawProgram) (texts : TextsAgree k raw other) (g : ℕ → ℕ) (here there_ : ℕ) (mine yours : Option ℕ) (own : yours ≡ option_map g mine) where
   abbrev Comes : Scope → Scope → Type 0
-  Comes scope next = Follows k raw other here there_ mine yours scope next
+  Comes scope next = ScopesAgree k raw other here there_ mine yours scope next
 
   abbrev Vars : ℕ → Phrases → Phrases → ℕ → Type 0
   Vars m qs ps n = VarsStay k g raw other m qs ps n

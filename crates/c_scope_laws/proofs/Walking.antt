@@ -25,7 +25,7 @@ use Rattle.c_scope_laws.specs.Agreement.{Names, in_expression, NamesFunction, Sa
 use Rattle.projection.specs.Kept.{Kept}
 use Rattle.c_scope_laws.specs.Thinning.{NamesStay, BeginIs, declares, Thins, ThinAll, ThinsPart, ThinArms, ArmsGo}
 use Rattle.c_scope_laws.proofs.Outside.{variable_same}
-use Rattle.c_scope_laws.specs.Following.{TextsAgree, Follows}
+use Rattle.c_scope_laws.specs.Following.{TextsAgree, ScopesAgree}
 use Rattle.c_scope_laws.proofs.Following.{numbered_kept, numbered_gone, follows_opened, follows_closed, follows_gone, variable_kept, variable_gone, follows_numbered, places_agree, places_beside}
 use Rattle.c_scope_laws.proofs.Counterparts.{AreCounterparts, none_stand, one_stands, both_stand, front_gone, rest_gone, no_more}
 use Rattle.c_language.specs.StatementGrammar.{arm}
@@ -90,44 +90,44 @@ module _ (k : Kept) (raw other : RawProgram) (texts : TextsAgree k raw other) (d
   -- a statement in a scope, and what stays of it at a place of the other text
   pub record Walks (scope next : Scope) (stand place : Stand) (x : Statements) (ys : List Statements) : Type 0 where
     pub phrases : AreCounterparts k raw other (joined_at place (in_order ys next)) (x.gives scope stand)
-    pub after : Follows k raw other defined_here defined_there owner_here owner_there (x.after scope) (after_all ys next)
+    pub after : ScopesAgree k raw other defined_here defined_there owner_here owner_there (x.after scope) (after_all ys next)
 
   -- a list of statements
   pub record AllWalk (scope next : Scope) (stand place : Stand) (xs ys : List Statements) : Type 0 where
     pub phrases : AreCounterparts k raw other (joined_at place (in_order ys next)) (joined_at stand (in_order xs scope))
-    pub after : Follows k raw other defined_here defined_there owner_here owner_there (after_all xs scope) (after_all ys next)
+    pub after : ScopesAgree k raw other defined_here defined_there owner_here owner_there (after_all xs scope) (after_all ys next)
 
   -- a part of a for
   pub record PartWalks (scope next : Scope) (stand place : Stand) (x y : Option Statements) : Type 0 where
     pub phrases : AreCounterparts k raw other (at_stand place (part_gives y next)) (at_stand stand (part_gives x scope))
-    pub after : Follows k raw other defined_here defined_there owner_here owner_there (after_part x scope) (after_part y next)
+    pub after : ScopesAgree k raw other defined_here defined_there owner_here owner_there (after_part x scope) (after_part y next)
 
   -- the arms of a switch
   pub record ArmsWalk (scope next : Scope) (xs ys : List (Scoped ArmText)) : Type 0 where
     pub labels : labels_of (in_order ys next) ≡ labels_of (in_order xs scope)
     pub phrases : AreCounterparts k raw other (phrases_of_arms (in_order ys next)) (phrases_of_arms (in_order xs scope))
-    pub after : Follows k raw other defined_here defined_there owner_here owner_there (after_all xs scope) (after_all ys next)
+    pub after : ScopesAgree k raw other defined_here defined_there owner_here owner_there (after_all xs scope) (after_all ys next)
 
-  one_walks : {scope next : Scope} {stand place : Stand} (x y : Statements) → AreCounterparts k raw other (y.gives next place) (x.gives scope stand) → Follows k raw other defined_here defined_there owner_here owner_there (x.after scope) (y.after next)
+  one_walks : {scope next : Scope} {stand place : Stand} (x y : Statements) → AreCounterparts k raw other (y.gives next place) (x.gives scope stand) → ScopesAgree k raw other defined_here defined_there owner_here owner_there (x.after scope) (y.after next)
       → Walks scope next stand place x (y ∷ [])
   one_walks {scope} {next} {stand} {place} x y h f = record { phrases = no_more k raw other (y.gives next place) (x.gives scope stand) h; after = f }
 
-  gone_walks : {scope next : Scope} {stand place : Stand} (x : Statements) → Follows k raw other defined_here defined_there owner_here owner_there (x.after scope) next → Walks scope next stand place x []
+  gone_walks : {scope next : Scope} {stand place : Stand} (x : Statements) → ScopesAgree k raw other defined_here defined_there owner_here owner_there (x.after scope) next → Walks scope next stand place x []
   gone_walks {scope} {next} {stand} {place} x f = record { phrases = none_stand k raw other (x.gives scope stand); after = f }
 
   -- a phrase stands for the same phrase
-  pub same_stands : {scope next : Scope} (l : ℕ) (part : Part) → NamesStay k scope part → Follows k raw other defined_here defined_there owner_here owner_there scope next → AreCounterparts k raw other (phrase l next part ∷ []) (phrase l scope part ∷ [])
+  pub same_stands : {scope next : Scope} (l : ℕ) (part : Part) → NamesStay k scope part → ScopesAgree k raw other defined_here defined_there owner_here owner_there scope next → AreCounterparts k raw other (phrase l next part ∷ []) (phrase l scope part ∷ [])
   same_stands {scope} {next} l part stay f = one_stands k raw other l l scope next part part PartsAgree.same (places_agree k raw other texts f stay)
 
   -- ---- statements without parts
 
   call_stands : {scope next : Scope} {stand place : Stand} (l : ℕ) (to less : RawTarget) (f : Bytes) (args : List RawArg) → StandsFor stand place → StoresLess to less
-      → NamesStay k scope (Calls InBlock less f args) → Follows k raw other defined_here defined_there owner_here owner_there scope next → AreCounterparts k raw other (phrase l next (Calls place less f args) ∷ []) (phrase l scope (Calls stand to f args) ∷ [])
+      → NamesStay k scope (Calls InBlock less f args) → ScopesAgree k raw other defined_here defined_there owner_here owner_there scope next → AreCounterparts k raw other (phrase l next (Calls place less f args) ∷ []) (phrase l scope (Calls stand to f args) ∷ [])
   call_stands {scope} {next} {stand} {place} l to less f args st stores stay h =
       one_stands k raw other l l scope next (Calls stand to f args) (Calls place less f args) (PartsAgree.calls (call_stands_for st) stores) (places_agree k raw other texts h (calls_anywhere place stay))
 
   simple_walks : {scope next : Scope} {stand place : Stand} (x : RawStatement-F RawStatement RawArm) (part : Part) → simple_part x ≡ Some part → declares x ≡ false → k.statement scope.statements ≡ true → NamesStay k scope part
-      → StandsFor stand place → Follows k raw other defined_here defined_there owner_here owner_there scope next → Walks scope next stand place (scoped_step raw (opened_form raw x)) (scoped_step other (opened_form other x) ∷ [])
+      → StandsFor stand place → ScopesAgree k raw other defined_here defined_there owner_here owner_there scope next → Walks scope next stand place (scoped_step raw (opened_form raw x)) (scoped_step other (opened_form other x) ∷ [])
   simple_walks (RawStatement-F.Declare l v i) part h none is stay st f = false_true (sym none)
   simple_walks {scope} (RawStatement-F.Assign l left op right) part h none is stay st f =
       one_walks _ _ (same_stands l (Assigns left op right) (subst (NamesStay k scope) (sym (some_same h)) stay) f) (numbered_kept k raw other is f)
@@ -153,7 +153,7 @@ module _ (k : Kept) (raw other : RawProgram) (texts : TextsAgree k raw other) (d
   simple_walks (RawStatement-F.Block l b) part h none is stay st f = none_there h
 
   simple_goes_walks : {scope next : Scope} {stand place : Stand} (x : RawStatement-F RawStatement RawArm) (part : Part) → simple_part x ≡ Some part → declares x ≡ false → k.statement scope.statements ≡ false
-      → Follows k raw other defined_here defined_there owner_here owner_there scope next → Walks scope next stand place (scoped_step raw (opened_form raw x)) []
+      → ScopesAgree k raw other defined_here defined_there owner_here owner_there scope next → Walks scope next stand place (scoped_step raw (opened_form raw x)) []
   simple_goes_walks (RawStatement-F.Declare l v i) part h none is f = false_true (sym none)
   simple_goes_walks (RawStatement-F.Assign l left op right) part h none is f = gone_walks _ (numbered_gone k raw other is f)
   simple_goes_walks (RawStatement-F.Bump l left up before) part h none is f = gone_walks _ (numbered_gone k raw other is f)
@@ -192,7 +192,7 @@ module _ (k : Kept) (raw other : RawProgram) (texts : TextsAgree k raw other) (d
 
   -- what a for begins with, outside of its block
   simple_begins : {scope next : Scope} (place : Stand) (x : RawStatement-F RawStatement RawArm) (part : Part) → simple_part x ≡ Some part → declares x ≡ false → NamesStay k scope part
-      → Follows k raw other defined_here defined_there owner_here owner_there (numbered scope) next
+      → ScopesAgree k raw other defined_here defined_there owner_here owner_there (numbered scope) next
       → AreCounterparts k raw other ((scoped_step other (opened_form other x)).gives next place) ((scoped_step raw (opened_form raw x)).gives (opened (numbered scope)) InFor)
   simple_begins {scope} {next} place (RawStatement-F.Assign l left op right) part h none stay f =
       one_stands k raw other l l (opened (numbered scope)) next (Assigns left op right) (Assigns left op right) PartsAgree.same
@@ -227,7 +227,7 @@ module _ (k : Kept) (raw other : RawProgram) (texts : TextsAgree k raw other) (d
 
   -- ---- declarations
 
-  begun_stand : {scope next : Scope} {stand place : Stand} (l : ℕ) (v : RawVar) (i : RawInit) → StandsFor stand place → NamesStay k scope (Begins InBlock v i) → Follows k raw other defined_here defined_there owner_here owner_there scope next
+  begun_stand : {scope next : Scope} {stand place : Stand} (l : ℕ) (v : RawVar) (i : RawInit) → StandsFor stand place → NamesStay k scope (Begins InBlock v i) → ScopesAgree k raw other defined_here defined_there owner_here owner_there scope next
       → AreCounterparts k raw other (begun_phrases l next place v i) (begun_phrases l scope stand v i)
   begun_stand l v init.None st stay f = none_stand k raw other []
   begun_stand {scope} {next} {stand} {place} l v (init.One a) st stay f =
@@ -235,31 +235,31 @@ module _ (k : Kept) (raw other : RawProgram) (texts : TextsAgree k raw other) (d
   begun_stand {scope} {next} {stand} {place} l v (init.Items all) st stay f =
       one_stands k raw other l l scope next (Begins stand v (init.Items all)) (Begins place v (init.Items all)) (PartsAgree.begins st) (places_agree k raw other texts f (begins_anywhere place stay))
 
-  begun_kept : {scope next : Scope} (i : RawInit) → BeginIs k true i scope.statements → Follows k raw other defined_here defined_there owner_here owner_there scope next → Follows k raw other defined_here defined_there owner_here owner_there (begun i scope) (begun i next)
+  begun_kept : {scope next : Scope} (i : RawInit) → BeginIs k true i scope.statements → ScopesAgree k raw other defined_here defined_there owner_here owner_there scope next → ScopesAgree k raw other defined_here defined_there owner_here owner_there (begun i scope) (begun i next)
   begun_kept init.None is f = f
   begun_kept (init.One a) is f = numbered_kept k raw other is f
   begun_kept (init.Items all) is f = numbered_kept k raw other is f
 
-  begun_gone : {scope next : Scope} (i : RawInit) → BeginIs k false i scope.statements → Follows k raw other defined_here defined_there owner_here owner_there scope next → Follows k raw other defined_here defined_there owner_here owner_there (begun i scope) next
+  begun_gone : {scope next : Scope} (i : RawInit) → BeginIs k false i scope.statements → ScopesAgree k raw other defined_here defined_there owner_here owner_there scope next → ScopesAgree k raw other defined_here defined_there owner_here owner_there (begun i scope) next
   begun_gone init.None is f = f
   begun_gone (init.One a) is f = numbered_gone k raw other is f
   begun_gone (init.Items all) is f = numbered_gone k raw other is f
 
   -- a variable that stays, with its initialiser or another one
   variable_stands : {scope next : Scope} {stand place : Stand} (l : ℕ) (v w : RawVar) (i j : RawInit) → StandsFor stand place → SameVariable raw other v i w j → NamesStay k scope (Declares InBlock w j)
-      → Follows k raw other defined_here defined_there owner_here owner_there scope next → AreCounterparts k raw other (phrase l next (Declares place w j) ∷ []) (phrase l scope (Declares stand v i) ∷ [])
+      → ScopesAgree k raw other defined_here defined_there owner_here owner_there scope next → AreCounterparts k raw other (phrase l next (Declares place w j) ∷ []) (phrase l scope (Declares stand v i) ∷ [])
   variable_stands {scope} {next} {stand} {place} l v w i j st like stay f =
       one_stands k raw other l l scope next (Declares stand v i) (Declares place w j) (PartsAgree.declares st like) (places_agree k raw other texts f (declares_anywhere place stay))
 
-  variable_follows : {scope next : Scope} (v w : RawVar) (i j : RawInit) → k.variable scope.variables ≡ true → SameVariable raw other v i w j → Follows k raw other defined_here defined_there owner_here owner_there scope next
-      → Follows k raw other defined_here defined_there owner_here owner_there (with_variable raw v i scope) (with_variable other w j next)
+  variable_follows : {scope next : Scope} (v w : RawVar) (i j : RawInit) → k.variable scope.variables ≡ true → SameVariable raw other v i w j → ScopesAgree k raw other defined_here defined_there owner_here owner_there scope next
+      → ScopesAgree k raw other defined_here defined_there owner_here owner_there (with_variable raw v i scope) (with_variable other w j next)
   variable_follows v w i j is like f = variable_kept k raw other v w i j is like.name like.type f
 
   same : (v : RawVar) (i : RawInit) → SameVariable raw other v i v i
   same v i = variable_same raw other texts.outside v i
 
   declaration_walks : {scope next : Scope} {stand place : Stand} (l : ℕ) (v : RawVar) (i : RawInit) → k.variable scope.variables ≡ true → BeginIs k true i scope.statements
-      → NamesStay k scope (Declares InBlock v i) → NamesStay k (with_variable raw v i scope) (Begins InBlock v i) → StandsFor stand place → Follows k raw other defined_here defined_there owner_here owner_there scope next
+      → NamesStay k scope (Declares InBlock v i) → NamesStay k (with_variable raw v i scope) (Begins InBlock v i) → StandsFor stand place → ScopesAgree k raw other defined_here defined_there owner_here owner_there scope next
       → Walks scope next stand place (scoped_step raw (RawStatement-F.Declare l v i)) (scoped_step other (RawStatement-F.Declare l v i) ∷ [])
   declaration_walks {scope} {next} {stand} {place} l v i is begins stay stay_begin st f =
       let g = variable_follows v v i i is (same v i) f in
@@ -269,20 +269,20 @@ module _ (k : Kept) (raw other : RawProgram) (texts : TextsAgree k raw other) (d
       (begun_kept i begins g)
 
   bare_walks : {scope next : Scope} {stand place : Stand} (l : ℕ) (v w : RawVar) (i : RawInit) → k.variable scope.variables ≡ true → BeginIs k false i scope.statements
-      → SameVariable raw other v i w init.None → NamesStay k scope (Declares InBlock w init.None) → StandsFor stand place → Follows k raw other defined_here defined_there owner_here owner_there scope next
+      → SameVariable raw other v i w init.None → NamesStay k scope (Declares InBlock w init.None) → StandsFor stand place → ScopesAgree k raw other defined_here defined_there owner_here owner_there scope next
       → Walks scope next stand place (scoped_step raw (RawStatement-F.Declare l v i)) (scoped_step other (RawStatement-F.Declare l w init.None) ∷ [])
   bare_walks {scope} {next} {stand} {place} l v w i is begins like stay st f =
       one_walks _ _ (rest_gone k raw other (phrase l next (Declares place w init.None) ∷ []) (phrase l scope (Declares stand v i) ∷ []) (begun_phrases l (with_variable raw v i scope) stand v i)
       (variable_stands l v w i init.None st like stay f))
       (begun_gone i begins (variable_follows v w i init.None is like f))
 
-  undeclared_walks : {scope next : Scope} {stand place : Stand} (l : ℕ) (v : RawVar) (i : RawInit) → k.variable scope.variables ≡ false → BeginIs k false i scope.statements → Follows k raw other defined_here defined_there owner_here owner_there scope next
+  undeclared_walks : {scope next : Scope} {stand place : Stand} (l : ℕ) (v : RawVar) (i : RawInit) → k.variable scope.variables ≡ false → BeginIs k false i scope.statements → ScopesAgree k raw other defined_here defined_there owner_here owner_there scope next
       → Walks scope next stand place (scoped_step raw (RawStatement-F.Declare l v i)) []
   undeclared_walks l v i is begins f = gone_walks _ (begun_gone i begins (variable_gone k raw other v i is f))
 
   -- ---- declarations with a call or an allocation
 
-  module _ {scope next : Scope} {stand place : Stand} (l : ℕ) (v : RawVar) (st : StandsFor stand place) (f : Follows k raw other defined_here defined_there owner_here owner_there scope next) where
+  module _ {scope next : Scope} {stand place : Stand} (l : ℕ) (v : RawVar) (st : StandsFor stand place) (f : ScopesAgree k raw other defined_here defined_there owner_here owner_there scope next) where
     abbrev inside : Scope
     inside = with_variable raw v init.None scope
 
@@ -292,7 +292,7 @@ module _ (k : Kept) (raw other : RawProgram) (texts : TextsAgree k raw other) (d
     bare_stands : NamesStay k scope (Declares InBlock v init.None) → AreCounterparts k raw other (phrase l next (Declares place v init.None) ∷ []) (phrase l scope (Declares stand v init.None) ∷ [])
     bare_stands stay = variable_stands l v v init.None init.None st (same v init.None) stay f
 
-    inside_follows : k.variable scope.variables ≡ true → Follows k raw other defined_here defined_there owner_here owner_there inside beside
+    inside_follows : k.variable scope.variables ≡ true → ScopesAgree k raw other defined_here defined_there owner_here owner_there inside beside
     inside_follows is = variable_follows v v init.None init.None is (same v init.None) f
 
     module _ (g : Bytes) (args : List RawArg) where
@@ -360,10 +360,10 @@ module _ (k : Kept) (raw other : RawProgram) (texts : TextsAgree k raw other) (d
   -- ---- statements with parts
 
   -- the test of a statement, and its part
-  test_stands : {scope next : Scope} (l : ℕ) (a : RawExpr) → NamesStay k scope (Tests a) → Follows k raw other defined_here defined_there owner_here owner_there scope next → AreCounterparts k raw other (phrase l next (Tests a) ∷ []) (phrase l scope (Tests a) ∷ [])
+  test_stands : {scope next : Scope} (l : ℕ) (a : RawExpr) → NamesStay k scope (Tests a) → ScopesAgree k raw other defined_here defined_there owner_here owner_there scope next → AreCounterparts k raw other (phrase l next (Tests a) ∷ []) (phrase l scope (Tests a) ∷ [])
   test_stands l a stay f = same_stands l (Tests a) stay f
 
-  module _ {scope next : Scope} {stand place : Stand} (l : ℕ) (a : RawExpr) (f : Follows k raw other defined_here defined_there owner_here owner_there scope next) where
+  module _ {scope next : Scope} {stand place : Stand} (l : ℕ) (a : RawExpr) (f : ScopesAgree k raw other defined_here defined_there owner_here owner_there scope next) where
     if_walks : (first second some others : List Statements) → k.statement scope.statements ≡ true → NamesStay k scope (Tests a)
         → AllWalk (opened (numbered scope)) (opened (numbered next)) InBlock InBlock first some
         → AllWalk (opened (after_block first (numbered scope))) (opened (after_block some (numbered next))) InBlock InBlock second others
@@ -405,14 +405,14 @@ module _ (k : Kept) (raw other : RawProgram) (texts : TextsAgree k raw other) (d
         w.phrases)
         (follows_closed k raw other (numbered_kept k raw other is f) w.after)
 
-  block_walks : {scope next : Scope} {stand place : Stand} (l : ℕ) (body some : List Statements) → Follows k raw other defined_here defined_there owner_here owner_there scope next → AllWalk (opened scope) (opened next) InBlock InBlock body some
+  block_walks : {scope next : Scope} {stand place : Stand} (l : ℕ) (body some : List Statements) → ScopesAgree k raw other defined_here defined_there owner_here owner_there scope next → AllWalk (opened scope) (opened next) InBlock InBlock body some
       → Walks scope next stand place (scoped_step raw (RawStatement-F.Block l body)) (scoped_step other (RawStatement-F.Block l some) ∷ [])
   block_walks l body some f w = one_walks _ _ w.phrases (follows_closed k raw other f w.after)
 
   -- what a for begins with, in a block of its own
-  begin_walks : {scope next : Scope} {stand place : Stand} (l m : ℕ) (a : RawExpr) (first begin : Statements) (step : Option Statements) (body : List Statements) → Follows k raw other defined_here defined_there owner_here owner_there scope next
+  begin_walks : {scope next : Scope} {stand place : Stand} (l m : ℕ) (a : RawExpr) (first begin : Statements) (step : Option Statements) (body : List Statements) → ScopesAgree k raw other defined_here defined_there owner_here owner_there scope next
       → Walks (opened (numbered scope)) (opened next) InFor InBlock first (begin ∷ [])
-      → Follows k raw other defined_here defined_there owner_here owner_there (after_block body (scope_of_body (Some first) step scope)) (begin.after (opened next))
+      → ScopesAgree k raw other defined_here defined_there owner_here owner_there (after_block body (scope_of_body (Some first) step scope)) (begin.after (opened next))
       → Walks scope next stand place (scoped_step raw (RawStatement-F.For l (Some first) a step body)) (scoped_step other (RawStatement-F.Block m (begin ∷ [])) ∷ [])
   begin_walks l m a first begin step body f w g = one_walks _ _ (rest_gone k raw other _ _ _ w.phrases) (follows_closed k raw other f g)
 
@@ -448,7 +448,7 @@ module _ (k : Kept) (raw other : RawProgram) (texts : TextsAgree k raw other) (d
       subst (AllWalk scope next stand place (x ∷ rest)) (sym (scoped-append some others)) (record {
         phrases = subst (λ (qs : Phrases). AreCounterparts k raw other qs (x.gives scope stand ++ joined_at stand (in_order rest (x.after scope))))
             (sym (joined-append place (map (scoped other) some) (map (scoped other) others) next)) (both_stand k raw other _ _ _ _ w.phrases v.phrases);
-        after = subst (λ (z : Scope). Follows k raw other defined_here defined_there owner_here owner_there (after_all rest (x.after scope)) z) (sym (after-append (map (scoped other) some) (map (scoped other) others) next)) v.after;
+        after = subst (λ (z : Scope). ScopesAgree k raw other defined_here defined_there owner_here owner_there (after_all rest (x.after scope)) z) (sym (after-append (map (scoped other) some) (map (scoped other) others) next)) v.after;
       })
 
   whole_part : {scope next : Scope} {stand place : Stand} {x y : Statements} → Walks scope next stand place x (y ∷ []) → PartWalks scope next stand place (Some x) (Some y)
@@ -472,7 +472,7 @@ module _ (k : Kept) (raw other : RawProgram) (texts : TextsAgree k raw other) (d
   -- ---- the walk
 
   mutual
-    pub walks : {scope : Scope} {x : RawStatement} {xs : List RawStatement} → Thins k raw other scope x xs → (next : Scope) (stand place : Stand) → StandsFor stand place → Follows k raw other defined_here defined_there owner_here owner_there scope next
+    pub walks : {scope : Scope} {x : RawStatement} {xs : List RawStatement} → Thins k raw other scope x xs → (next : Scope) (stand place : Stand) → StandsFor stand place → ScopesAgree k raw other defined_here defined_there owner_here owner_there scope next
         → Walks scope next stand place (scoped raw x) (map (scoped other) xs)
     walks {scope} (Thins.simple x part is none kept_too whole stay) next stand place st f =
         subst (λ (y : Statements). Walks scope next stand place y (scoped other (roll-RawStatement x) ∷ [])) (sym (scoped-roll raw x))
@@ -560,19 +560,19 @@ module _ (k : Kept) (raw other : RawProgram) (texts : TextsAgree k raw other) (d
         (block_walks l (map (scoped raw) body) (map (scoped other) (x ∷ rest)) f (all_walk d (opened next) InBlock InBlock there (follows_opened k raw other f)))
     walks {scope} (Thins.for_simple {l} {a} x part {step} {body} is simple none kept_too whole stay e h) next stand place st f =
         let n = numbered_gone k raw other is f in
-        let g = subst (λ (z : Scope). Follows k raw other defined_here defined_there owner_here owner_there z (numbered (opened next))) (sym (ap (λ (y : Statements). y.after (opened (numbered scope))) (scoped-roll raw x) ∙ simple_after raw x part simple none (opened (numbered scope))))
+        let g = subst (λ (z : Scope). ScopesAgree k raw other defined_here defined_there owner_here owner_there z (numbered (opened next))) (sym (ap (λ (y : Statements). y.after (opened (numbered scope))) (scoped-roll raw x) ∙ simple_after raw x part simple none (opened (numbered scope))))
         (numbered_kept k raw other kept_too (follows_opened k raw other n)) in
         let q = part_walks e (numbered (opened next)) InBlock InBlock there g in
         let w = all_walk h (opened (numbered (opened next))) InBlock InBlock there (follows_opened k raw other q.after) in
         restated (sym (scoped-For raw l (Some (roll-RawStatement x)) a step body)) (one_same (sym (scoped-roll other x)))
         (one_walks _ _ (rest_gone k raw other _ _ _ (subst (λ (y : Statements). AreCounterparts k raw other ((scoped_step other (opened_form other x)).gives next place) (y.gives (opened (numbered scope)) InFor)) (sym (scoped-roll raw x))
         (simple_begins place x part simple none stay n)))
-        (subst (λ (z : Scope). Follows k raw other defined_here defined_there owner_here owner_there (closed scope (after_block (map (scoped raw) body) (scope_of_body (Some (scoped raw (roll-RawStatement x))) (option_map (scoped raw) step) scope))) z) (sym (simple_after other x part simple none next)) (follows_numbered k raw other f (follows_gone k raw other q.after w.after))))
+        (subst (λ (z : Scope). ScopesAgree k raw other defined_here defined_there owner_here owner_there (closed scope (after_block (map (scoped raw) body) (scope_of_body (Some (scoped raw (roll-RawStatement x))) (option_map (scoped raw) step) scope))) z) (sym (simple_after other x part simple none next)) (follows_numbered k raw other f (follows_gone k raw other q.after w.after))))
     walks (Thins.block_goes {l} {body} d) next stand place st f =
         let w = all_walk d (opened next) InBlock InBlock there (follows_opened k raw other f) in
         restated (sym (scoped-Block raw l body)) refl (gone_walks _ (follows_gone k raw other f w.after))
 
-    pub all_walk : {scope : Scope} {xs ys : List RawStatement} → ThinAll k raw other scope xs ys → (next : Scope) (stand place : Stand) → StandsFor stand place → Follows k raw other defined_here defined_there owner_here owner_there scope next
+    pub all_walk : {scope : Scope} {xs ys : List RawStatement} → ThinAll k raw other scope xs ys → (next : Scope) (stand place : Stand) → StandsFor stand place → ScopesAgree k raw other defined_here defined_there owner_here owner_there scope next
         → AllWalk scope next stand place (map (scoped raw) xs) (map (scoped other) ys)
     all_walk ThinAll.none next stand place st f = record { phrases = none_stand k raw other []; after = f }
     all_walk {scope} (ThinAll.more {x} {rest} {some} {others} d e) next stand place st f =
@@ -580,28 +580,28 @@ module _ (k : Kept) (raw other : RawProgram) (texts : TextsAgree k raw other) (d
         let v = all_walk e (after_all (map (scoped other) some) next) stand place st w.after in
         then_walk scope next stand place (scoped raw x) (map (scoped raw) rest) some others w v
 
-    pub part_walks : {scope : Scope} {x y : Option RawStatement} → ThinsPart k raw other scope x y → (next : Scope) (stand place : Stand) → StandsFor stand place → Follows k raw other defined_here defined_there owner_here owner_there scope next
+    pub part_walks : {scope : Scope} {x y : Option RawStatement} → ThinsPart k raw other scope x y → (next : Scope) (stand place : Stand) → StandsFor stand place → ScopesAgree k raw other defined_here defined_there owner_here owner_there scope next
         → PartWalks scope next stand place (option_map (scoped raw) x) (option_map (scoped other) y)
     part_walks ThinsPart.missing next stand place st f = record { phrases = none_stand k raw other []; after = f }
     part_walks {scope} (ThinsPart.part_stays {x} {y} d) next stand place st f = whole_part (walks d next stand place st f)
     part_walks (ThinsPart.part_goes d) next stand place st f = let w = walks d next stand place st f in record { phrases = none_stand k raw other _; after = w.after }
 
-    pub arms_walk : {scope : Scope} {xs ys : List RawArm} → ThinArms k raw other scope xs ys → (next : Scope) → Follows k raw other defined_here defined_there owner_here owner_there scope next → ArmsWalk scope next (map (scoped_of_arm raw) xs) (map (scoped_of_arm other) ys)
+    pub arms_walk : {scope : Scope} {xs ys : List RawArm} → ThinArms k raw other scope xs ys → (next : Scope) → ScopesAgree k raw other defined_here defined_there owner_here owner_there scope next → ArmsWalk scope next (map (scoped_of_arm raw) xs) (map (scoped_of_arm other) ys)
     arms_walk ThinArms.no_arms next f = record { labels = refl; phrases = none_stand k raw other []; after = f }
     arms_walk (ThinArms.arm_stays {labels} {body} {some} {rest} {others} stay d e) next f =
         let w = all_walk d next InArm InArm there f in
         let v = arms_walk e (after_all (map (scoped other) some) next) w.after in
         then_arm labels body some (map (scoped_of_arm raw) rest) (map (scoped_of_arm other) others) w v
 
-    arms_gone : {scope : Scope} {xs : List RawArm} → ArmsGo k raw other scope xs → (next : Scope) → Follows k raw other defined_here defined_there owner_here owner_there scope next → Follows k raw other defined_here defined_there owner_here owner_there (after_all (map (scoped_of_arm raw) xs) scope) next
+    arms_gone : {scope : Scope} {xs : List RawArm} → ArmsGo k raw other scope xs → (next : Scope) → ScopesAgree k raw other defined_here defined_there owner_here owner_there scope next → ScopesAgree k raw other defined_here defined_there owner_here owner_there (after_all (map (scoped_of_arm raw) xs) scope) next
     arms_gone ArmsGo.no_arms_left next f = f
     arms_gone {scope} (ArmsGo.arm_goes {labels} {body} {rest} d e) next f =
         let w = all_walk d next InArm InArm there f in
-        subst (λ (y : Scoped ArmText). Follows k raw other defined_here defined_there owner_here owner_there (after_all (map (scoped_of_arm raw) rest) (y.after scope)) next) (sym (scoped_of_arm-arm raw labels body)) (arms_gone e next w.after)
+        subst (λ (y : Scoped ArmText). ScopesAgree k raw other defined_here defined_there owner_here owner_there (after_all (map (scoped_of_arm raw) rest) (y.after scope)) next) (sym (scoped_of_arm-arm raw labels body)) (arms_gone e next w.after)
 
   -- ---- what a place has by itself
 
-  pub begun_stand_as_it_is : {scope next : Scope} (l : ℕ) (stand : Stand) (v : RawVar) (i : RawInit) → NamesStay k scope (Begins stand v i) → Follows k raw other defined_here defined_there owner_here owner_there scope next
+  pub begun_stand_as_it_is : {scope next : Scope} (l : ℕ) (stand : Stand) (v : RawVar) (i : RawInit) → NamesStay k scope (Begins stand v i) → ScopesAgree k raw other defined_here defined_there owner_here owner_there scope next
       → AreCounterparts k raw other (begun_phrases l next stand v i) (begun_phrases l scope stand v i)
   begun_stand_as_it_is l stand v init.None stay f = none_stand k raw other []
   begun_stand_as_it_is l stand v (init.One a) stay f = same_stands l (Begins stand v (init.One a)) stay f

@@ -17,25 +17,14 @@ use Rattle.c_language.specs.Phrases.{scoped, after_item}
 use Rattle.c_language.specs.Uses.{is_library_function}
 use Rattle.c_language.proofs.Tests.{false_true}
 use Rattle.c_scope_laws.specs.ThinTexts.{all_kept}
-use Rattle.c_scope_laws.specs.ThinnedBodies.{Need, AreMet, Left, ArmLeft, beyond, part_needs, arms_needs, block_of, result_kept, call_placed, call_declared, block_left, left_step, left_scoped, left_arm_step, left, left_arm, body_left}
-use Rattle.c_scope_laws.specs.ThinnedTexts.{LastStays, ItemsAreClosed, IsClosed}
+use Rattle.c_scope_laws.specs.ThinnedBodies.{AreMet, Left, ArmLeft, beyond, part_needs, arms_needs, result_kept, call_placed, call_declared, block_left, left_step, left_scoped, left_arm_step, left, left_arm, body_left}
+use Rattle.c_scope_laws.specs.ThinnedTexts.{LastStays, ItemsAreClosed, KeepsText}
+use Rattle.c_scope_laws.proofs.ThinnedBodies.{join_met, Met, block_alone}
 use Rattle.c_scope_laws.proofs.WholeTexts.{all_stay, labels_stay, params_whole}
 
-join_met : (a b : List Need) → AreMet all_kept a → AreMet all_kept b → AreMet all_kept (a ++ b)
-join_met [] b h q = q
-join_met (n ∷ a) b h q = (h.0, join_met a b h.1 q)
-
-block_alone : (l : ℕ) (ys : List RawStatement) → AreMet all_kept (beyond (block_of l ys))
-block_alone l [] = tt
-block_alone l (y ∷ ys) = tt
-
 module _ (raw : RawProgram) where
-  -- what a statement needs is met, and what stays of it is one statement or none
-  abbrev Met : Left → Type 0
-  Met l = AreMet all_kept l.needs × AreMet all_kept (beyond l.some)
-
   abbrev Fine : RawStatement → Type 0
-  Fine x = (scope : Scope) → Met ((left all_kept raw x).gives scope)
+  Fine x = (scope : Scope) → Met all_kept ((left all_kept raw x).gives scope)
 
   abbrev ArmFine : RawArm → Type 0
   ArmFine a = (scope : Scope) → AreMet all_kept ((left_arm all_kept raw a).gives scope).body.needs
@@ -56,23 +45,23 @@ module _ (raw : RawProgram) where
   lists [] scope = tt
   lists (x ∷ xs) scope =
       let next = (left all_kept raw x.0).after scope in
-      join_met ((left all_kept raw x.0).gives scope).needs (body_left all_kept raw (bare xs) next).needs (x.1 scope).0 (lists xs next)
+      join_met all_kept ((left all_kept raw x.0).gives scope).needs (body_left all_kept raw (bare xs) next).needs (x.1 scope).0 (lists xs next)
 
   arms : (xs : Arms) (scope : Scope) → AreMet all_kept (arms_needs (in_order (map (left_arm all_kept raw) (bare_arms xs)) scope))
   arms [] scope = tt
   arms (x ∷ xs) scope =
       let l = (left_arm all_kept raw x.0).gives scope in
       let next = (left_arm all_kept raw x.0).after scope in
-      (labels_stay l.scope l.labels, join_met l.body.needs (arms_needs (in_order (map (left_arm all_kept raw) (bare_arms xs)) next)) (x.1 scope) (arms xs next))
+      (labels_stay l.scope l.labels, join_met all_kept l.body.needs (arms_needs (in_order (map (left_arm all_kept raw) (bare_arms xs)) next)) (x.1 scope) (arms xs next))
 
   part : (x : RawStatement) → Fine x → (scope : Scope) → AreMet all_kept (part_needs (Some ((left all_kept raw x).gives scope)))
-  part x h scope = let l = (left all_kept raw x).gives scope in join_met l.needs (beyond l.some) (h scope).0 (h scope).1
+  part x h scope = let l = (left all_kept raw x).gives scope in join_met all_kept l.needs (beyond l.some) (h scope).0 (h scope).1
 
-  placed : (library : Bool) (l : ℕ) (a : RawExpr) (f : Bytes) (args : List RawArg) (scope : Scope) → Met (call_placed raw (result_kept library true) true l a f args scope)
+  placed : (library : Bool) (l : ℕ) (a : RawExpr) (f : Bytes) (args : List RawArg) (scope : Scope) → Met all_kept (call_placed raw (result_kept library true) true l a f args scope)
   placed true l a f args scope = ((all_stay, tt), tt)
   placed false l a f args scope = ((all_stay, tt), tt)
 
-  with_call : (library : Bool) (l : ℕ) (v : RawVar) (f : Bytes) (args : List RawArg) (scope : Scope) → Met (call_declared raw true true (result_kept library true) l v f args scope)
+  with_call : (library : Bool) (l : ℕ) (v : RawVar) (f : Bytes) (args : List RawArg) (scope : Scope) → Met all_kept (call_declared raw true true (result_kept library true) l v f args scope)
   with_call true l v f args scope = ((all_stay, (all_stay, tt)), tt)
   with_call false l v f args scope = ((all_stay, (all_stay, tt)), tt)
 
@@ -88,7 +77,7 @@ module _ (raw : RawProgram) where
   abbrev block : Statements → Scope → Left
   block b scope = block_left all_kept raw (map (left all_kept raw) (bare b)) scope
 
-  of_layer : (y : Layer) (scope : Scope) → Met (left_step all_kept raw (lefts (shape y)) scope)
+  of_layer : (y : Layer) (scope : Scope) → Met all_kept (left_step all_kept raw (lefts (shape y)) scope)
   of_layer (RawStatement-F.Declare l v init.None) scope = ((all_stay, (all_stay, tt)), tt)
   of_layer (RawStatement-F.Declare l v (init.One a)) scope = ((all_stay, (all_stay, tt)), tt)
   of_layer (RawStatement-F.Declare l v (init.Items all)) scope = ((all_stay, (all_stay, tt)), tt)
@@ -102,18 +91,18 @@ module _ (raw : RawProgram) where
   of_layer (RawStatement-F.Heap l (target.Declared v) cast n) scope = ((all_stay, (all_stay, tt)), tt)
   of_layer (RawStatement-F.If l a b c) scope =
       let after = after_block (map (left all_kept raw) (bare b)) (numbered scope) in
-      ((all_stay, join_met (block b (numbered scope)).needs (block c after).needs (lists b (opened (numbered scope))) (lists c (opened after))), tt)
+      ((all_stay, join_met all_kept (block b (numbered scope)).needs (block c after).needs (lists b (opened (numbered scope))) (lists c (opened after))), tt)
   of_layer (RawStatement-F.While l a b) scope = ((all_stay, lists b (opened (numbered scope))), tt)
   of_layer (RawStatement-F.Do l a b) scope = ((all_stay, lists b (opened (numbered scope))), tt)
   of_layer (RawStatement-F.For l None a None b) scope = ((all_stay, lists b (opened (opened (numbered scope)))), tt)
   of_layer (RawStatement-F.For l None a (Some n) b) scope =
       let test = opened (numbered scope) in
       let body = (left all_kept raw n.0).after test in
-      ((all_stay, join_met (part_needs (Some ((left all_kept raw n.0).gives test))) (block b body).needs (part n.0 n.1 test) (lists b (opened body))), tt)
+      ((all_stay, join_met all_kept (part_needs (Some ((left all_kept raw n.0).gives test))) (block b body).needs (part n.0 n.1 test) (lists b (opened body))), tt)
   of_layer (RawStatement-F.For l (Some i) a None b) scope =
       let first = opened (numbered scope) in
       let test = (left all_kept raw i.0).after first in
-      ((all_stay, join_met (part_needs (Some ((left all_kept raw i.0).gives first))) (block b test).needs (part i.0 i.1 first) (lists b (opened test))), tt)
+      ((all_stay, join_met all_kept (part_needs (Some ((left all_kept raw i.0).gives first))) (block b test).needs (part i.0 i.1 first) (lists b (opened test))), tt)
   of_layer (RawStatement-F.For l (Some i) a (Some n) b) scope =
       let first = opened (numbered scope) in
       let test = (left all_kept raw i.0).after first in
@@ -121,18 +110,18 @@ module _ (raw : RawProgram) where
       let next = part_needs (Some ((left all_kept raw n.0).gives test)) in (
         (
           all_stay,
-          join_met (part_needs (Some ((left all_kept raw i.0).gives first))) (next ++ (block b body).needs) (part i.0 i.1 first)
-              (join_met next (block b body).needs (part n.0 n.1 test) (lists b (opened body))),
+          join_met all_kept (part_needs (Some ((left all_kept raw i.0).gives first))) (next ++ (block b body).needs) (part i.0 i.1 first)
+              (join_met all_kept next (block b body).needs (part n.0 n.1 test) (lists b (opened body))),
         ),
         tt,
       )
   of_layer (RawStatement-F.Switch l a xs) scope = ((all_stay, arms xs (opened (numbered scope))), tt)
-  of_layer (RawStatement-F.Block l b) scope = (lists b (opened scope), block_alone l (block b scope).some)
+  of_layer (RawStatement-F.Block l b) scope = (lists b (opened scope), block_alone all_kept l (block b scope).some)
   of_layer (RawStatement-F.Return l a) scope = ((all_stay, tt), tt)
 
   statement_layer : (y : Layer) → Fine (roll-RawStatement (shape y))
   statement_layer y scope =
-      subst (λ (t : Scoped Left). Met (t.gives scope)) (sym (fold-roll-RawStatement (Scoped Left) (Scoped ArmLeft) (left_scoped all_kept raw) (left_arm_step all_kept raw) (shape y))) (of_layer y scope)
+      subst (λ (t : Scoped Left). Met all_kept (t.gives scope)) (sym (fold-roll-RawStatement (Scoped Left) (Scoped ArmLeft) (left_scoped all_kept raw) (left_arm_step all_kept raw) (shape y))) (of_layer y scope)
 
   abbrev arm_shape : RawArm-F ((x : RawStatement) × Fine x) ((a : RawArm) × ArmFine a) → RawArm-F RawStatement RawArm
   arm_shape = map-RawArm ((x : RawStatement) × Fine x) ((a : RawArm) × ArmFine a) RawStatement RawArm (λ x. x.0) (λ a. a.0)
@@ -149,7 +138,7 @@ module _ (raw : RawProgram) where
   body_fine [] scope = tt
   body_fine (x ∷ xs) scope =
       let next = (left all_kept raw x).after scope in
-      join_met ((left all_kept raw x).gives scope).needs (body_left all_kept raw xs next).needs (statement_fine x scope).0 (body_fine xs next)
+      join_met all_kept ((left all_kept raw x).gives scope).needs (body_left all_kept raw xs next).needs (statement_fine x scope).0 (body_fine xs next)
 
   last_stays : (xs : List RawStatement) (scope : Scope) → LastStays all_kept raw xs scope
   last_stays [] scope = tt
@@ -175,5 +164,5 @@ module _ (raw : RawProgram) where
     items_fine xs (after_item raw (Define l head body) scope),
   )
 
-  pub whole_closed : IsClosed all_kept raw
+  pub whole_closed : KeepsText all_kept raw
   whole_closed = record { items = items_fine raw.items outset; main = refl }

@@ -17,16 +17,16 @@ use Rattle.c_language.specs.Words.{Bytes}
 use Rattle.c_language.specs.Scopes.{Scope, Meaning, Entry, outset, with_parameter, opened, numbered}
 use Rattle.c_language.specs.Phrases.{InBlock, Part, Assigns, Bumps, Calls, Allocates, Returns}
 use Rattle.c_language.proofs.Tests.{false_true}
-use Rattle.c_scope_laws.specs.Thinning.{stays, found, IsKept, NamesStay, LabelsStay, BeginIs, block_after, part_scope, body_scope, after_list, Thins, ThinAll, ThinsPart, ThinArms}
+use Rattle.c_scope_laws.specs.Thinning.{name_stays, found, EntryStays, NamesStay, LabelsStay, BeginIs, block_after, part_scope, body_scope, after_list, Thins, ThinAll, ThinsPart, ThinArms}
 use Rattle.c_scope_laws.specs.ThinTexts.{ParamStays, ParamsStay, ItemsThin, IsThinner, all_kept, is_cons, full_step, full_arm, is_full, full_item}
 use Rattle.c_language.specs.StatementGrammar.{arm}
 use Rattle.c_language.specs.Lists.{all_true}
 
-any_kept : (o : Option Entry) → IsKept all_kept o
+any_kept : (o : Option Entry) → EntryStays all_kept o
 any_kept None = tt
 any_kept (Some e) = by_meaning e.name e.meaning
   where
-    by_meaning : (x : Bytes) (m : Meaning) → stays all_kept x m ≡ true
+    by_meaning : (x : Bytes) (m : Meaning) → name_stays all_kept x m ≡ true
     by_meaning x (Meaning.Variable id t) = refl
     by_meaning x Meaning.Function = refl
 

@@ -1,5 +1,5 @@
 -- Places of two texts that agree: of the other text declarations, statements and functions are missing, so that its variables, statements and functions have other numbers; what occurs at its place stands for the same in both.
-use Rattle.std.specs.Prelude.{◌≡◌, ◌≢◌, ℕ, ◌<◌, suc, pos, Bool, true, false, List, Option, Some, None, option_map, Contains, decimal, ◌⊎◌}
+use Rattle.std.specs.Prelude.{◌≡◌, ◌≢◌, ℕ, ◌<◌, pos, Bool, true, false, List, Option, Some, None, option_map, Contains, decimal}
 use Rattle.c_arith.specs.declared.int_type.IntType.{IntType}
 use Rattle.c_tree.specs.declared.raw.expr.RawExpr.{RawExpr}
 use Rattle.c_tree.specs.declared.raw.expr.RawExpr.TheVariants as e
@@ -20,6 +20,7 @@ use Rattle.c_tree.specs.declared.raw.statement.RawStatement.{RawStatement}
 use Rattle.c_tree.specs.declared.raw.statement.RawStatement.TheOpen.{RawStatement-F}
 use Rattle.c_language.specs.Words.{Bytes}
 use Rattle.c_language.specs.ConstantEvaluation.{value_of_constant}
+use Rattle.c_language.specs.CountConstants.{LengthsAmong}
 use Rattle.c_language.specs.DeclaredTypes.{defined_structs, has_stdio, has_stdlib, definition_of, function_id, item_count, variable_type}
 use Rattle.c_language.specs.Scopes.{Scope, Meaning, meaning_in, meaning_here, with_variable, with_target}
 use Rattle.c_language.specs.Phrases.{Stand, InBlock, InFor, Part, DeclaresFunction, EndsFunction, Declares, Begins, Assigns, Bumps, Calls, Allocates, Returns}
@@ -135,20 +136,13 @@ simple_scope raw _ scope = scope
 
 -- ---- a declaration whose initialiser is dropped
 
--- a length as a constant of at least 1
-pub record IsCountConstant (a : RawExpr) : Type 0 where
-  pub text : Bytes
-  pub is : a ≡ e.Constant text
-  pub less : ℕ
-  pub value : value_of_constant a ≡ Some (pos (suc less))
-
 -- the variables have one name and one type, though one has another initialiser, and a length that a list gave is written as a constant
 pub record SameVariable (raw other : RawProgram) (v : RawVar) (i : RawInit) (w : RawVar) (j : RawInit) : Type 0 where
   pub name : w.name ≡ v.name
   pub type : variable_type other w j ≡ variable_type raw v i
   pub tree : ctype_with other (item_count j) w.shape ≡ ctype_with raw (item_count i) v.shape
   pub tags : tags_in w.shape ≡ tags_in v.shape
-  pub lengths : (a : RawExpr) → Contains (lengths_in w.shape) a → Contains (lengths_in v.shape) a ⊎ IsCountConstant a
+  pub lengths : LengthsAmong (lengths_in w.shape) (lengths_in v.shape)
 
 -- a decimal constant for the number of items of a list, which are at least one
 pub record IsCount (items : ℕ) (a : RawExpr) : Type 0 where

@@ -9,7 +9,7 @@ use Rattle.c_language.specs.NameRules.{IsDefinedBefore}
 use Rattle.c_language.specs.CallRules.{head_around}
 use Rattle.c_scope_laws.specs.Agreement.{SameOutside, moved_meaning}
 use Rattle.projection.specs.Kept.{Kept, rank}
-use Rattle.c_scope_laws.specs.Thinning.{stays}
+use Rattle.c_scope_laws.specs.Thinning.{name_stays}
 
 module _ (k : Kept) where
   abbrev pub moved_entry : Entry → Entry
@@ -22,7 +22,7 @@ module _ (k : Kept) where
   -- the declared names that stay
   abbrev pub kept_entries : List Entry → List Entry
   kept_entries [] = []
-  kept_entries (e ∷ rest) = kept_more (stays k e.name e.meaning) e (kept_entries rest)
+  kept_entries (e ∷ rest) = kept_more (name_stays k e.name e.meaning) e (kept_entries rest)
 
 -- what both texts have in common
 pub record TextsAgree (k : Kept) (raw other : RawProgram) : Type 0 where
@@ -30,7 +30,7 @@ pub record TextsAgree (k : Kept) (raw other : RawProgram) : Type 0 where
   pub definitions : (x : Bytes) → k.function x ≡ true → definition_of other x ≡ definition_of raw x
 
 -- the next numbers and the names at a place of the thinner text are those that stay
-pub record Follows (k : Kept) (raw other : RawProgram) (defined_here defined_there : ℕ) (owner_here owner_there : Option ℕ) (scope next : Scope) : Type 0 where
+pub record ScopesAgree (k : Kept) (raw other : RawProgram) (defined_here defined_there : ℕ) (owner_here owner_there : Option ℕ) (scope next : Scope) : Type 0 where
   pub names : next.names ≡ kept_entries k scope.names
   pub within : scope.outer ≤ length scope.names
   pub outer : next.outer ≡ length (kept_entries k (take scope.outer scope.names))

@@ -24,17 +24,17 @@ use Rattle.c_language.specs.Scopes.{Scope, Scoped}
 use Rattle.c_language.specs.ExprTypes.{operand}
 use Rattle.c_language.specs.Phrases.{Part, Allocates, body_phrases}
 use Rattle.c_language.specs.Uses.{init_exprs, target_exprs, arg_exprs, cases}
-use Rattle.c_language.specs.Rules.{Breaks, KeepsRules}
+use Rattle.c_language.specs.Rules.{Breaks, KeepsRules, AreKept}
 use Rattle.c_language.specs.ProgramOf.{expr_of, init_of, target_tree, args_tree, amount_tree, label_tree, switch_type, ArmTree, tree_step, body_of, program_of}
 use Rattle.c_scope_laws.specs.Agreement.{NamedIn, NamedAmong, Names, NamesFunction, DeclaresName, DeclaresHead, SameOutside, Agree, PlacesAgree, SameVariable, CountWritten, PartsAgree, TreesAgree, simple_part, simple_scope}
-use Rattle.c_scope_laws.specs.Following.{TextsAgree, Follows, kept_functions}
+use Rattle.c_scope_laws.specs.Following.{TextsAgree, ScopesAgree, kept_functions}
 use Rattle.projection.specs.Kept.{Kept}
-use Rattle.c_scope_laws.specs.Thinning.{found, IsKept, ThinAll}
+use Rattle.c_scope_laws.specs.Thinning.{found, EntryStays, ThinAll}
 use Rattle.projection.specs.Names.{names}
 use Rattle.projection.specs.Projection.{projected_all, projected_program}
 use Rattle.c_scope_laws.specs.ThinTexts.{IsThinner, all_kept, full_item}
-use Rattle.c_scope_laws.specs.ThinnedBodies.{KeepRules, AreMet, body_left}
-use Rattle.c_scope_laws.specs.ThinnedTexts.{IsClosed, thinned_text}
+use Rattle.c_scope_laws.specs.ThinnedBodies.{AreMet, body_left}
+use Rattle.c_scope_laws.specs.ThinnedTexts.{KeepsText, thinned_text}
 use Rattle.projection.specs.Renumbering.{Numbers, renamed, renamed_init, renamed_target, renamed_amount, renamed_label, renumbered}
 use Rattle.c_language.specs.Lists.{all_true}
 
@@ -112,7 +112,7 @@ ThinnerKeepsRules = (k : Kept) (raw other : RawProgram) → IsThinner k raw othe
 abbrev pub BodiesThin : Type 0
 BodiesThin =
     (k : Kept) (functions : ℕ → ℕ) (raw other : RawProgram) (here there : ℕ) (mine yours : Option ℕ) (scope next : Scope) (xs ys : List RawStatement) (zs : List Statement) → TextsAgree k raw other
-    → ((x : Bytes) → k.function x ≡ true → function_id other x ≡ option_map functions (function_id raw x)) → Follows k raw other here there mine yours scope next → ThinAll k raw other scope xs ys
+    → ((x : Bytes) → k.function x ≡ true → function_id other x ≡ option_map functions (function_id raw x)) → ScopesAgree k raw other here there mine yours scope next → ThinAll k raw other scope xs ys
     → body_of raw xs scope ≡ Some zs → body_of other ys next ≡ Some (projected_all k functions zs)
 
 -- the program of what stays of a text is what stays of the program of the text
@@ -125,7 +125,7 @@ ProgramsThin =
 abbrev pub TreesKeepNames : Type 0
 TreesKeepNames =
     (k : Kept) (raw : RawProgram) (scope : Scope) (a : RawExpr) (w : Expr) → expr_of raw scope a ≡ Some w → ((id : ℕ) → names w id ≡ true → k.variable id ≡ true)
-    → (x : Bytes) → NamedIn a x → IsKept k (found x scope.names)
+    → (x : Bytes) → NamedIn a x → EntryStays k (found x scope.names)
 
 -- where all is kept, a text without empty blocks is what stays of it
 abbrev pub WholeStays : Type 0
@@ -134,16 +134,16 @@ WholeStays = (raw : RawProgram) → all_true (map full_item raw.items) ≡ true 
 -- what stays of a list of statements where this is kept is what stays of it, where its needs are met
 abbrev pub BodiesStay : Type 0
 BodiesStay =
-    (k : Kept) (raw other : RawProgram) (scope : Scope) (xs : List RawStatement) → SameOutside raw other → KeepRules raw (body_phrases raw xs scope) → AreMet k (body_left k raw xs scope).needs
+    (k : Kept) (raw other : RawProgram) (scope : Scope) (xs : List RawStatement) → SameOutside raw other → AreKept raw (body_phrases raw xs scope) → AreMet k (body_left k raw xs scope).needs
     → ThinAll k raw other scope xs (body_left k raw xs scope).some
 
 -- the thinner text of a text is what stays of it, where what is kept is a text
 abbrev pub ThinnerText : Type 0
-ThinnerText = (k : Kept) (raw : RawProgram) → KeepsRules raw → IsClosed k raw → IsThinner k raw (thinned_text k raw)
+ThinnerText = (k : Kept) (raw : RawProgram) → KeepsRules raw → KeepsText k raw → IsThinner k raw (thinned_text k raw)
 
 -- where all is kept, this is a text, whatever the text is
 abbrev pub WholeIsClosed : Type 0
-WholeIsClosed = (raw : RawProgram) → IsClosed all_kept raw
+WholeIsClosed = (raw : RawProgram) → KeepsText all_kept raw
 
 -- it keeps the rules, and its program is what stays of the program of the text
 pub record HasThinnedProgram (k : Kept) (raw : RawProgram) (p : Program) : Type 0 where
@@ -151,4 +151,4 @@ pub record HasThinnedProgram (k : Kept) (raw : RawProgram) (p : Program) : Type 
   pub program : program_of (thinned_text k raw) ≡ Some (projected_program k (kept_functions k raw) p)
 
 abbrev pub ThinnerProgram : Type 0
-ThinnerProgram = (k : Kept) (raw : RawProgram) (p : Program) → KeepsRules raw → IsClosed k raw → program_of raw ≡ Some p → HasThinnedProgram k raw p
+ThinnerProgram = (k : Kept) (raw : RawProgram) (p : Program) → KeepsRules raw → KeepsText k raw → program_of raw ≡ Some p → HasThinnedProgram k raw p

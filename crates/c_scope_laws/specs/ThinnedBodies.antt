@@ -1,5 +1,5 @@
 -- What stays of statements where this is kept, and what it needs.
-use Rattle.std.specs.Prelude.{ℕ, Contains, Bool, true, false, List, [], ◌∷◌, ◌++◌, map, Option, Some, None, decimal}
+use Rattle.std.specs.Prelude.{ℕ, option_map, Bool, true, false, List, [], ◌∷◌, ◌++◌, map, Option, Some, None, decimal}
 use Rattle.c_language.specs.TypeGrammar.{is_written}
 use Rattle.c_tree.specs.declared.raw.expr.RawExpr.{RawExpr}
 use Rattle.c_tree.specs.declared.raw.expr.RawExpr.TheVariants as e
@@ -25,9 +25,8 @@ use Rattle.c_tree.specs.declared.raw.statement.RawArm.{RawArm, fold-RawArm}
 use Rattle.c_language.specs.Words.{Bytes}
 use Rattle.c_language.specs.DeclaredTypes.{item_count}
 use Rattle.c_language.specs.Scopes.{Scope, Scoped, with_variable, opened, numbered, in_order, after_block, part_gives, scope_of_test, scope_of_body, after_step, after_arm}
-use Rattle.c_language.specs.Phrases.{InBlock, Phrase, Phrases, Part, Declares, Begins, Assigns, Bumps, Calls, Allocates, Tests, Switches, Returns}
+use Rattle.c_language.specs.Phrases.{InBlock, Part, Declares, Begins, Assigns, Bumps, Calls, Allocates, Tests, Switches, Returns}
 use Rattle.c_language.specs.Uses.{is_library_function}
-use Rattle.c_language.specs.Rules.{Breaks}
 use Rattle.c_scope_laws.specs.Agreement.{IsCount}
 use Rattle.projection.specs.Kept.{Kept}
 use Rattle.c_scope_laws.specs.Thinning.{NamesStay, LabelsStay, declares}
@@ -55,10 +54,6 @@ IsMet k (Strays x) = ⊥
 abbrev pub AreMet : Kept → List Need → Type 0
 AreMet k [] = Unit {0}
 AreMet k (n ∷ ns) = IsMet k n × AreMet k ns
-
--- phrases keep all rules
-abbrev pub KeepRules : RawProgram → Phrases → Type 0
-KeepRules raw ps = (number : ℕ) (p : Phrase) → Contains ps p → Breaks raw p.scope p.part number → ⊥
 
 -- ---- what stays
 
@@ -151,9 +146,9 @@ alone_all is_plain l [] = nothing
 alone_all is_plain l (x ∷ []) = alone_one (declares (out-RawStatement x)) is_plain l x
 alone_all is_plain l (x ∷ (y ∷ rest)) = these [] (Strays x ∷ [])
 
-abbrev pub alone : ℕ → Option Left → Left
-alone l None = nothing
-alone l (Some x) = these (alone_all x.is_plain l x.some).some (x.needs ++ (alone_all x.is_plain l x.some).needs)
+abbrev pub left_alone : ℕ → Option Left → Left
+left_alone l None = nothing
+left_alone l (Some x) = these (alone_all x.is_plain l x.some).some (x.needs ++ (alone_all x.is_plain l x.some).needs)
 
 -- ---- arms
 
@@ -232,7 +227,7 @@ module _ (raw : RawProgram) where
 
   abbrev pub for_left : Bool → ℕ → Option Left → RawExpr → Option Left → Left → Scope → Left
   for_left true l i a step b test = these (s.For l (part_left i) a (part_left step) b.some ∷ []) (Names test (Tests a) ∷ (part_needs i ++ (part_needs step ++ b.needs)))
-  for_left false l i a step b test = these (alone l i).some ((alone l i).needs ++ (part_gone step ++ gone b))
+  for_left false l i a step b test = these (left_alone l i).some ((left_alone l i).needs ++ (part_gone step ++ gone b))
 
   abbrev pub switch_left : Bool → ℕ → RawExpr → List ArmLeft → Scope → Left
   switch_left true l a arms scope = these (s.Switch l a (arms_left arms) ∷ []) (Names scope (Switches a (arms_labels arms)) ∷ arms_needs arms)
@@ -291,6 +286,10 @@ module _ (k : Kept) (raw : RawProgram) where
 
   abbrev pub left_arm : RawArm → Scoped ArmLeft
   left_arm = fold-RawArm (Scoped Left) (Scoped ArmLeft) left_scoped left_arm_step
+
+  -- what stays of a part of a for
+  abbrev pub part_given : Option RawStatement → Scope → Option Left
+  part_given x scope = part_gives (option_map left x) scope
 
   -- what stays of a list of statements
   abbrev pub body_left : List RawStatement → Scope → Left

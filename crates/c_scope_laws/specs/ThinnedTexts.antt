@@ -75,6 +75,6 @@ abbrev pub thinned_text : Kept → RawProgram → RawProgram
 thinned_text k raw = record { items = items_left k raw raw.items outset }
 
 -- what is kept is a text: all that it names is kept, what stands in something that is kept, and main
-pub record IsClosed (k : Kept) (raw : RawProgram) : Type 0 where
+pub record KeepsText (k : Kept) (raw : RawProgram) : Type 0 where
   pub items : ItemsAreClosed k raw raw.items outset
   pub main : k.function main_name ≡ true

@@ -21,33 +21,33 @@ use Rattle.projection.specs.Kept.{Kept}
 use Rattle.c_language.specs.Scopes.{Scope, Meaning, Entry, with_variable, opened, numbered, in_order, after_all, after_block, scope_of_test, scope_of_body}
 use Rattle.c_language.specs.Phrases.{InBlock, Part, Declares, Begins, Calls, Allocates, Tests, Switches, labels_of, scoped, scoped_of_arm}
 use Rattle.c_language.specs.CallRules.{without_result}
-use Rattle.c_language.specs.Uses.{cases, is_library_function, is_one_of}
+use Rattle.c_language.specs.Uses.{cases, is_library_function, is_among}
 use Rattle.c_scope_laws.specs.Agreement.{NamedAmong, Names, NamesFunction, SameVariable, simple_part}
 use Rattle.c_language.specs.StatementGrammar.{arm}
 
 -- ---- scopes
 
-abbrev pub stays : Kept → Bytes → Meaning → Bool
-stays k x (Meaning.Variable id t) = k.variable id
-stays k x Meaning.Function = k.function x
+abbrev pub name_stays : Kept → Bytes → Meaning → Bool
+name_stays k x (Meaning.Variable id t) = k.variable id
+name_stays k x Meaning.Function = k.function x
 
 -- the declared name that is found
 abbrev pub found : Bytes → List Entry → Option Entry
 found x entries = find (λ (e : Entry). bytes_eq x e.name) entries
 
 -- it is kept where it is there
-abbrev pub IsKept : Kept → Option Entry → Type 0
-IsKept k None = Unit {0}
-IsKept k (Some e) = stays k e.name e.meaning ≡ true
+abbrev pub EntryStays : Kept → Option Entry → Type 0
+EntryStays k None = Unit {0}
+EntryStays k (Some e) = name_stays k e.name e.meaning ≡ true
 
 -- all that a phrase names is kept
 pub record NamesStay (k : Kept) (scope : Scope) (part : Part) : Type 0 where
-  pub names : (x : Bytes) → Names part x → IsKept k (found x scope.names)
+  pub names : (x : Bytes) → Names part x → EntryStays k (found x scope.names)
   pub functions : (x : Bytes) → NamesFunction part x → k.function x ≡ true
 
 -- all that labels name is kept
 abbrev pub LabelsStay : Kept → Scope → List RawLabel → Type 0
-LabelsStay k scope labels = (x : Bytes) → NamedAmong (cases labels) x → IsKept k (found x scope.names)
+LabelsStay k scope labels = (x : Bytes) → NamedAmong (cases labels) x → EntryStays k (found x scope.names)
 
 -- ---- statements
 
@@ -67,12 +67,13 @@ abbrev pub StaysWhole : {R Q : Type 0} → Kept → RawStatement-F R Q → ℕ �
 StaysWhole k (RawStatement-F.Call l to f args) n = KeepsResult k to f n
 StaysWhole k _ n = Unit {0}
 
--- a statement declares a variable
+-- a target declares a variable
 abbrev pub target_declares : RawTarget → Bool
 target_declares target.None = false
 target_declares (target.Place a) = false
 target_declares (target.Declared v) = true
 
+-- a statement declares a variable
 abbrev pub declares : {R Q : Type 0} → RawStatement-F R Q → Bool
 declares (RawStatement-F.Declare l v i) = true
 declares (RawStatement-F.Call l to f args) = target_declares to
@@ -81,7 +82,7 @@ declares _ = false
 
 -- what is called gives a result
 abbrev pub GivesResult : {R Q : Type 0} → RawStatement-F R Q → Type 0
-GivesResult (RawStatement-F.Call l to f args) = is_one_of without_result f ≡ false
+GivesResult (RawStatement-F.Call l to f args) = is_among without_result f ≡ false
 GivesResult _ = Unit {0}
 
 abbrev pub after_list : RawProgram → List RawStatement → Scope → Scope
@@ -141,7 +142,7 @@ mutual
         → NamesStay k (with_variable raw v init.None scope) (Calls InBlock target.None f args)
         → Thins k raw other scope (s.Call l (target.Declared v) f args) (s.Call l target.None f args ∷ [])
     call_goes : {scope : Scope} {l : ℕ} {v : RawVar} {f : Bytes} {args : List RawArg}
-        → is_one_of without_result f ≡ false
+        → is_among without_result f ≡ false
         → k.variable scope.variables ≡ true → k.statement scope.statements ≡ false → NamesStay k scope (Declares InBlock v init.None)
         → Thins k raw other scope (s.Call l (target.Declared v) f args) (s.Declare l v init.None ∷ [])
     called_goes : {scope : Scope} {l : ℕ} {v : RawVar} {f : Bytes} {args : List RawArg}

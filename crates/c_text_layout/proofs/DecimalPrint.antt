@@ -1,8 +1,9 @@
 -- The decimal digits of a number are a constant.
-use Rattle.std.proofs.Common.{◌≡◌, ℕ, ◌+◌, ◌*◌, ◌/◌, ◌%◌, ◌<◌, ◌≤◌, ◌^◌, [], ◌∷◌, ◌++◌, length, drop, refl, ap, ap₂, ◌∙◌, true, false, Some, decimal, arith}
+use Rattle.std.proofs.Common.{◌≡◌, ℕ, ◌+◌, ◌*◌, ◌/◌, ◌%◌, ◌<◌, ◌≤◌, ◌^◌, [], ◌∷◌, ◌++◌, length, refl, ap, ap₂, ◌∙◌, true, false, Some, decimal, arith}
 use Rattle.std.proofs.lemmas.Bool.{and_parts}
 use Rattle.std.proofs.lemmas.Bool.Decides.{nat_tests}
 use Rattle.std.proofs.lemmas.Fmt.{decimal_by_steps}
+use Rattle.std.proofs.lemmas.List.{drop_all}
 use Rattle.std.proofs.lemmas.List.Sums.{take_while-cons}
 use Rattle.std.specs.List.{list_all}
 use Rattle.std.specs.Prelude.{nat_le, nat_lt, ◌==◌, slice_index}
@@ -86,10 +87,6 @@ all_leading (b ∷ ds) h =
     let p = and_parts _ _ h in
     take_while-cons (λ (c : ℕ). nat_lt (digit_value c) 10) b ds ∙ rw (below_ten b p.0) (ap (λ (y : Bytes). b ∷ y) (all_leading ds p.1))
 
-drop_all : (ds : Bytes) → drop (length ds) ds ≡ []
-drop_all [] = refl
-drop_all (b ∷ ds) = drop_all ds
-
 plain_type : (v : ℕ) → v < 2 ^ 32 → (t : IntType) × (first_type true v Suffix.plain ≡ Some t)
 plain_type v h = by_answer (nat_le v 2147483647)
     (λ t. (Int, rw t refl))
@@ -104,7 +101,7 @@ constant_of n ds some small p =
     let all : digits ds ≡ ds = ap (λ (b : ℕ). leading_digits b (unprefixed ds)) ten ∙ ap (leading_digits 10) bare ∙ all_leading ds p.all in
     let t = plain_type n small in
     let len : (length ds == 0) ≡ false = grind (arith, nat_tests, p.some) in
-    (t.0, rw (all, len, ten, bare, drop_all ds, p.value) t.1)
+    (t.0, rw (all, len, ten, bare, drop_all (length ds) ds (omega arith), p.value) t.1)
 
 pub goes_on : (b c : ℕ) → is_digit c ≡ true → number_goes_on b c ≡ true
 goes_on b c h = rw h (by_answer (is_letter c) (λ t. rw t refl) (λ f. rw f refl))

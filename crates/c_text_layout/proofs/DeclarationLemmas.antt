@@ -1,6 +1,7 @@
 -- Tests of the declarations of a text, at each form.
-use Rattle.std.proofs.Common.{◌≡◌, ℕ, ◌&&◌, List, [], ◌∷◌, ◌++◌, map, Bool, true, Option, Some, None, refl, sym, ap, ap₂, ◌∙◌}
-use Rattle.std.proofs.lemmas.Bool.{and_parts}
+use Rattle.std.proofs.Common.{◌≡◌, ℕ, ◌&&◌, List, [], ◌∷◌, ◌++◌, map, Bool, true, Option, Some, None, refl, sym, ap, ◌∙◌}
+use Rattle.std.proofs.lemmas.Bool.{and_parts, and_from}
+use Rattle.c_language.specs.Lists.{all_true}
 use Rattle.c_arith.specs.declared.operators.BinaryOp.{BinaryOp}
 use Rattle.c_tree.specs.declared.raw.expr.RawExpr.{RawExpr}
 use Rattle.c_tree.specs.declared.raw.expr.RawVar.{RawVar}
@@ -17,7 +18,7 @@ use Rattle.c_tree.specs.declared.raw.statement.RawStatement.TheVariants as s
 use Rattle.c_tree.specs.declared.raw.statement.RawArm.{RawArm, fold-RawArm, fold-roll-RawArm}
 use Rattle.c_language.specs.Words.{Bytes}
 use Rattle.c_language.specs.StatementGrammar.{arm}
-use Rattle.c_text_layout.specs.Declarations.{all_true, declares_step, arm_declares, declarations_pass, item_passes, items_pass}
+use Rattle.c_text_layout.specs.Declarations.{declares_step, arm_declares, declarations_pass, item_passes, items_pass}
 
 -- each declaration of the arm passes the test
 abbrev pub arm_passes : (RawVar → RawInit → Bool) → RawArm → Bool
@@ -78,22 +79,19 @@ module _ (test : RawVar → RawInit → Bool) where
   pub pass-arm : (labels : List RawLabel) (body : List RawStatement) → arm_passes test (arm labels body) ≡ list_passes body
   pass-arm labels body = fold-roll-RawArm Bool Bool (declares_step test) arm_declares (record { labels = labels; body = body })
 
-  pub both_true : {a b : Bool} → a ≡ true → b ≡ true → (a && b) ≡ true
-  both_true h k = ap₂ (λ (x y : Bool). x && y) h k
-
   pub lists_append : (xs ys : List RawStatement) → list_passes xs ≡ true → list_passes ys ≡ true → list_passes (xs ++ ys) ≡ true
   lists_append [] ys h k = k
-  lists_append (x ∷ xs) ys h k = let p = and_parts (declarations_pass test x) (list_passes xs) h in both_true p.0 (lists_append xs ys p.1 k)
+  lists_append (x ∷ xs) ys h k = let p = and_parts (declarations_pass test x) (list_passes xs) h in and_from _ _ p.0 (lists_append xs ys p.1 k)
 
   -- the two parts of a list pass
   pub lists_parts : (xs ys : List RawStatement) → list_passes (xs ++ ys) ≡ true → (list_passes xs ≡ true) × (list_passes ys ≡ true)
   lists_parts [] ys h = (refl, h)
-  lists_parts (x ∷ xs) ys h = let p = and_parts (declarations_pass test x) (list_passes (xs ++ ys)) h in let q = lists_parts xs ys p.1 in (both_true p.0 q.0, q.1)
+  lists_parts (x ∷ xs) ys h = let p = and_parts (declarations_pass test x) (list_passes (xs ++ ys)) h in let q = lists_parts xs ys p.1 in (and_from _ _ p.0 q.0, q.1)
 
   pub items_append : (xs ys : List RawItem) → items_pass test xs ≡ true → items_pass test ys ≡ true → items_pass test (xs ++ ys) ≡ true
   items_append [] ys h k = k
-  items_append (x ∷ xs) ys h k = let p = and_parts (item_passes test x) (items_pass test xs) h in both_true p.0 (items_append xs ys p.1 k)
+  items_append (x ∷ xs) ys h k = let p = and_parts (item_passes test x) (items_pass test xs) h in and_from _ _ p.0 (items_append xs ys p.1 k)
 
   pub items_parts : (xs ys : List RawItem) → items_pass test (xs ++ ys) ≡ true → (items_pass test xs ≡ true) × (items_pass test ys ≡ true)
   items_parts [] ys h = (refl, h)
-  items_parts (x ∷ xs) ys h = let p = and_parts (item_passes test x) (items_pass test (xs ++ ys)) h in let q = items_parts xs ys p.1 in (both_true p.0 q.0, q.1)
+  items_parts (x ∷ xs) ys h = let p = and_parts (item_passes test x) (items_pass test (xs ++ ys)) h in let q = items_parts xs ys p.1 in (and_from _ _ p.0 q.0, q.1)

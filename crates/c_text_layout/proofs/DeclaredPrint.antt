@@ -29,7 +29,7 @@ use Rattle.c_text_layout.specs.Declarations.{is_short, declarations_pass}
 use Rattle.c_text_layout.proofs.DeclarationLemmas.{pass-Declare}
 use Rattle.c_text_layout.proofs.TokenPrint.{print_blank, print_mark, Stops, stops_name}
 use Rattle.c_text_layout.proofs.ExprPrint.{expr_rest, stops_expr, print_expr}
-use Rattle.c_text_layout.proofs.TypePrint.{base_plain, Counts, declarator_rest, print_base, print_declarator, declared_base, settled_twice, settled_unlisted, unlisted_stays}
+use Rattle.c_text_layout.proofs.TypePrint.{base_laid, Counts, declarator_rest, print_base, print_declarator, declared_base, settled_twice, settled_unlisted, unlisted_stays}
 use Rattle.c_text_layout.proofs.SimplePrint.{Has, has_as, call_rest, heap_rest, print_call, print_heap, print_equals, malloc_words, store_join, words_of}
 
 -- ---- what follows is written too
@@ -94,7 +94,7 @@ named_join base x y z more = append_assoc base _ more ∙ ap (λ (u : Bytes). ba
 pub print_named : {bs ms ts rest : Tokens} {base : RawType} {v : RawVar} (items : ℕ) → IsBase bs base ms → AreWritten bs → IsDeclarator ts base v rest → AreWritten ts → Counts items v.shape → (line : ℕ) (more : Bytes) (after : Tokens) → Stops name_goes_on more → sees Mark (codes "[") after ≡ false → IsTokens Token line more after
     → PrintedNamed items line (raw_declared items v.shape v.name ++ more) v after
 print_named {base = base} {v} items b wb h w c line more after s f t =
-    let x = print_declarator items h w (base_plain b) c line more after s f t in
+    let x = print_declarator items h w (base_laid b) c line more after s f t in
     let y = print_base b wb line (32 ∷ (raw_stars v.shape ++ (v.name ++ (raw_lengths items v.shape ++ more)))) x.tokens (λ d. refl) x.no_int (print_blank x.lexed) in
     subst (λ (z : Bytes). PrintedNamed items line z v after)
     (sym (ap (λ (z : Bytes). (z ++ (32 ∷ (raw_stars v.shape ++ (v.name ++ raw_lengths items v.shape)))) ++ more) (declared_base h) ∙ named_join (raw_base base) (raw_stars v.shape) v.name (raw_lengths items v.shape) more))
@@ -146,8 +146,8 @@ print_declared {l} b wb (plain {v = v} h p) w short line more after stop f t =
       is_base = x.is_base;
       no_else = x.no_else;
       found = s.Declare (line_of x.tokens) (settled_var 0 v) init.None;
-      is = plain x.is (settled_unlisted 0 h (base_plain b) p);
-      same = settled-Declare (line_of x.tokens) (settled_var 0 v) init.None ∙ ap (λ (z : RawVar). s.Declare 0 z init.None) (settled_twice 0 h (base_plain b)) ∙ sym (settled-Declare l v init.None);
+      is = plain x.is (settled_unlisted 0 h (base_laid b) p);
+      same = settled-Declare (line_of x.tokens) (settled_var 0 v) init.None ∙ ap (λ (z : RawVar). s.Declare 0 z init.None) (settled_twice 0 h (base_laid b)) ∙ sym (settled-Declare l v init.None);
     })
 print_declared {l} b wb (value {v = v} {a} h p k) w short line more after stop f t =
     let y = print_expr k (declarator_rest h w).1 line more after (stops_expr k more stop) t in
@@ -161,8 +161,8 @@ print_declared {l} b wb (value {v = v} {a} h p k) w short line more after stop f
       is_base = x.is_base;
       no_else = x.no_else;
       found = s.Declare (line_of x.tokens) (settled_var 0 v) (init.One a);
-      is = value x.is (settled_unlisted 0 h (base_plain b) p) y.is;
-      same = settled-Declare (line_of x.tokens) (settled_var 0 v) (init.One a) ∙ ap (λ (z : RawVar). s.Declare 0 z (init.One a)) (settled_twice 0 h (base_plain b)) ∙ sym (settled-Declare l v (init.One a));
+      is = value x.is (settled_unlisted 0 h (base_laid b) p) y.is;
+      same = settled-Declare (line_of x.tokens) (settled_var 0 v) (init.One a) ∙ ap (λ (z : RawVar). s.Declare 0 z (init.One a)) (settled_twice 0 h (base_laid b)) ∙ sym (settled-Declare l v (init.One a));
     })
 print_declared {l} b wb (list {v = v} {all} h k) w short line more after stop f t =
     let n = length all in
@@ -180,7 +180,7 @@ print_declared {l} b wb (list {v = v} {all} h k) w short line more after stop f 
       no_else = x.no_else;
       found = s.Declare (line_of x.tokens) (settled_var n v) (init.Items all);
       is = list x.is y.is;
-      same = settled-Declare (line_of x.tokens) (settled_var n v) (init.Items all) ∙ ap (λ (z : RawVar). s.Declare 0 z (init.Items all)) (settled_twice n h (base_plain b)) ∙ sym (settled-Declare l v (init.Items all));
+      same = settled-Declare (line_of x.tokens) (settled_var n v) (init.Items all) ∙ ap (λ (z : RawVar). s.Declare 0 z (init.Items all)) (settled_twice n h (base_laid b)) ∙ sym (settled-Declare l v (init.Items all));
     })
 print_declared {l} b wb (call {v = v} {w = g} {all} h p k) w short line more after stop f t =
     let y = print_call k (declarator_rest h w).1 line more after t in
@@ -194,7 +194,7 @@ print_declared {l} b wb (call {v = v} {w = g} {all} h p k) w short line more aft
       is_base = x.is_base;
       no_else = x.no_else;
       found = s.Call (line_of x.tokens) (target.Declared v) g all;
-      is = call (subst (λ (z : RawVar). IsDeclarator x.mid x.base z (mark (codes "=") line ∷ y.tokens)) (unlisted_stays 0 h (base_plain b) p) x.is) p y.is;
+      is = call (subst (λ (z : RawVar). IsDeclarator x.mid x.base z (mark (codes "=") line ∷ y.tokens)) (unlisted_stays 0 h (base_laid b) p) x.is) p y.is;
       same = settled-Call (line_of x.tokens) (target.Declared v) g all ∙ sym (settled-Call l (target.Declared v) g all);
     })
 print_declared {l} b wb (heap {v = v} {t = c} {n} h p k) w short line more after stop f t =
@@ -209,6 +209,6 @@ print_declared {l} b wb (heap {v = v} {t = c} {n} h p k) w short line more after
       is_base = x.is_base;
       no_else = x.no_else;
       found = s.Heap (line_of x.tokens) (target.Declared v) c n;
-      is = heap (subst (λ (z : RawVar). IsDeclarator x.mid x.base z (mark (codes "=") line ∷ y.tokens)) (unlisted_stays 0 h (base_plain b) p) x.is) p y.is;
+      is = heap (subst (λ (z : RawVar). IsDeclarator x.mid x.base z (mark (codes "=") line ∷ y.tokens)) (unlisted_stays 0 h (base_laid b) p) x.is) p y.is;
       same = settled-Heap (line_of x.tokens) (target.Declared v) c n ∙ sym (settled-Heap l (target.Declared v) c n);
     })

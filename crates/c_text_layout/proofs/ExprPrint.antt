@@ -171,23 +171,23 @@ print_int ULong line more after s k h = two_words ULong (codes "unsigned") (code
 -- ---- an expression
 
 -- the last token of the expression ends where these bytes begin
-unfoldable pub Follows : {n : ℕ} {ts rest : Tokens} {a : RawExpr} → IsExpr n ts a rest → Bytes → Type 0
-Follows number_constant more = Stops number_goes_on more
-Follows character_constant more = Unit {0}
-Follows null more = Stops name_goes_on more
-Follows eof more = Stops name_goes_on more
-Follows (variable h) more = Stops name_goes_on more
-Follows (paren h) more = Unit {0}
-Follows (index p h k) more = Unit {0}
-Follows (member by p h k) more = Stops name_goes_on more
-Follows (unary op p h) more = Follows h more
-Follows (cast p h k) more = Follows k more
-Follows (binary op p h k) more = Follows k more
-Follows (choose p h k j) more = Follows j more
+unfoldable pub EndsBefore : {n : ℕ} {ts rest : Tokens} {a : RawExpr} → IsExpr n ts a rest → Bytes → Type 0
+EndsBefore number_constant more = Stops number_goes_on more
+EndsBefore character_constant more = Unit {0}
+EndsBefore null more = Stops name_goes_on more
+EndsBefore eof more = Stops name_goes_on more
+EndsBefore (variable h) more = Stops name_goes_on more
+EndsBefore (paren h) more = Unit {0}
+EndsBefore (index p h k) more = Unit {0}
+EndsBefore (member by p h k) more = Stops name_goes_on more
+EndsBefore (unary op p h) more = EndsBefore h more
+EndsBefore (cast p h k) more = EndsBefore k more
+EndsBefore (binary op p h k) more = EndsBefore k more
+EndsBefore (choose p h k j) more = EndsBefore j more
 
 -- where a number ends, each expression ends
-pub stops_expr : {n : ℕ} {ts rest : Tokens} {a : RawExpr} (h : IsExpr n ts a rest) (more : Bytes) → Stops number_goes_on more → Follows h more
-unfolding Follows
+pub stops_expr : {n : ℕ} {ts rest : Tokens} {a : RawExpr} (h : IsExpr n ts a rest) (more : Bytes) → Stops number_goes_on more → EndsBefore h more
+unfolding EndsBefore
 stops_expr number_constant more s = s
 stops_expr character_constant more s = tt
 stops_expr null more s = stops_name more s
@@ -230,8 +230,8 @@ level_low AndAlso = omega arith
 level_low OrElse = omega arith
 
 -- an expression before a selector ends there: a blank stands behind a constant
-selects : {n : ℕ} {ts rest : Tokens} {a : RawExpr} (by : Selector) (m : Bytes) (h : IsExpr n ts a rest) → postfix_level ≤ n → Follows h (blank_if (spaced a).is_constant ++ (selector_sign by ++ m))
-unfolding Follows
+selects : {n : ℕ} {ts rest : Tokens} {a : RawExpr} (by : Selector) (m : Bytes) (h : IsExpr n ts a rest) → postfix_level ≤ n → EndsBefore h (blank_if (spaced a).is_constant ++ (selector_sign by ++ m))
+unfolding EndsBefore
 selects by m (number_constant {text}) p = subst (λ (x : Spaced). Stops number_goes_on (blank_if x.is_constant ++ (selector_sign by ++ m))) (sym (spaced-Constant text)) (λ b. refl)
 selects by m character_constant p = tt
 selects by m null p = gap_stops by m _
@@ -416,9 +416,9 @@ no_int_word : (l : ℕ) (ts : Tokens) → sees_int_word (mark (codes ")") l ∷ 
 unfolding sees_int_word
 no_int_word l ts = refl
 
-pub print_expr : {n : ℕ} {ts rest : Tokens} {a : RawExpr} (h : IsExpr n ts a rest) → AreWritten ts → (line : ℕ) (more : Bytes) (after : Tokens) → Follows h more → IsTokens Token line more after
+pub print_expr : {n : ℕ} {ts rest : Tokens} {a : RawExpr} (h : IsExpr n ts a rest) → AreWritten ts → (line : ℕ) (more : Bytes) (after : Tokens) → EndsBefore h more → IsTokens Token line more after
     → Printed n line (spaced_words a ++ more) a after
-unfolding Follows
+unfolding EndsBefore
 print_expr (number_constant {text}) w line more after s k =
     printed_as (ap (λ (y : Bytes). y ++ more) (spaced_words-Constant text)) (record { tokens = number text line ∷ after; lexed = λ before. print_number text w.0 s k; is = number_constant })
 print_expr (character_constant {text}) w line more after s k =

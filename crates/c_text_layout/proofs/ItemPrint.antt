@@ -30,7 +30,7 @@ use Rattle.c_text_layout.specs.RawLayout.{raw_base, raw_stars, raw_declared, raw
 use Rattle.c_text_layout.specs.Settled.{settled_var, settled_member, settled_param, settled_head, settled_item, SameInLayout, lack_lengths, item_lacks_lengths, items_lack_lengths}
 use Rattle.c_text_layout.proofs.TokenPrint.{blank_no_feed, print_blank, print_line, print_mark, Stops, stops_name, print_name, word_form}
 use Rattle.c_text_layout.proofs.ExprPrint.{expr_rest, stops_expr, print_expr}
-use Rattle.c_text_layout.proofs.TypePrint.{base_rest, base_plain, IsPlain, declarator_rest, type_rest, name_no_int, print_base, pointed_base, plain_stars, star_count, print_stars, name_sure, name_no_star, params_rest, print_params, settled_twice, settled_unlisted, unlisted_stays}
+use Rattle.c_text_layout.proofs.TypePrint.{base_rest, base_laid, LaidAsBase, declarator_rest, type_rest, name_no_int, print_base, pointed_base, plain_stars, star_count, print_stars, name_sure, name_no_star, params_rest, print_params, settled_twice, settled_unlisted, unlisted_stays}
 use Rattle.c_text_layout.proofs.SimplePrint.{Has, has_as, print_equals}
 use Rattle.c_text_layout.specs.Declarations.{is_short, HasShortLists, item_passes, items_pass}
 use Rattle.c_text_layout.proofs.DeclarationLemmas.{list_passes, items_parts}
@@ -66,7 +66,7 @@ print_static {line} true x = record {
 }
 print_static false x = record { tokens = x.tokens; lexed = x.lexed; is = record { mid = x.tokens; is = external; has = x.is } }
 
-result_join : (k : ℕ) (base : RawType) (f more : Bytes) → IsPlain base → (raw_base (pointed_n k base) ++ (32 ∷ raw_stars (pointed_n k base))) ++ (f ++ more) ≡ raw_base base ++ (32 ∷ (replicate {A = ℕ} k 42 ++ (f ++ more)))
+result_join : (k : ℕ) (base : RawType) (f more : Bytes) → LaidAsBase base → (raw_base (pointed_n k base) ++ (32 ∷ raw_stars (pointed_n k base))) ++ (f ++ more) ≡ raw_base base ++ (32 ∷ (replicate {A = ℕ} k 42 ++ (f ++ more)))
 result_join k base f more p =
     ap (λ (z : Bytes). (z ++ (32 ∷ raw_stars (pointed_n k base))) ++ (f ++ more)) (pointed_base k base)
     ∙ ap (λ (z : Bytes). (raw_base base ++ (32 ∷ z)) ++ (f ++ more)) (plain_stars k base p) ∙ append_assoc (raw_base base) _ (f ++ more)
@@ -80,7 +80,7 @@ print_result (IsResult.some (pointed {base} h k)) w f g key line more after s t 
     let x = print_stars made.0 base line (f ++ more) (name f line ∷ after) (name_sure f more g) (name_no_star f (codes "*") line after) (print_name f g s t) in
     let y = print_base h w line (32 ∷ (replicate {A = ℕ} made.0 42 ++ (f ++ more))) x.tokens (λ d. refl) (x.no_int (name_no_int f line after key)) (print_blank x.lexed) in
     subst (λ (z : RawType). Has line (raw_result_words (Some z) ++ (f ++ more)) (λ ts. IsResult ts (Some z) (name f line ∷ after))) (sym made.1)
-    (has_as (result_join made.0 base f more (base_plain h)) (record { tokens = y.tokens; lexed = y.lexed; is = IsResult.some (pointed y.is x.is) }))
+    (has_as (result_join made.0 base f more (base_laid h)) (record { tokens = y.tokens; lexed = y.lexed; is = IsResult.some (pointed y.is x.is) }))
 
 -- tokens of a head that is the same in all that the layout keeps, and then these
 record PrintedHead (line : ℕ) (bytes : Bytes) (h : RawHead) (after : Tokens) : Type 0 where
@@ -197,7 +197,7 @@ print_field : {l : ℕ} {base : RawType} {bs ms ts rest : Tokens} {m : RawMember
 print_field b wb (IsMemberDeclarator.named {v = v} h p) w tl R t = tails_as (ended_join 1 (raw_declared 0 v.shape v.name) tl) (λ line.
     let x = t (line + 1) in
     let n = print_named 0 b wb h w (no_counts v 0 p) line (59 ∷ 10 ∷ tl) (mark (codes ";") line ∷ x.tokens) (λ d. refl) (semicolon_no_length line x.tokens) (end_line line x) in
-    let d : IsDeclarator n.mid n.base v (mark (codes ";") line ∷ x.tokens) = subst (λ (z : RawVar). IsDeclarator n.mid n.base z (mark (codes ";") line ∷ x.tokens)) (unlisted_stays 0 h (base_plain b) p) n.is in
+    let d : IsDeclarator n.mid n.base v (mark (codes ";") line ∷ x.tokens) = subst (λ (z : RawVar). IsDeclarator n.mid n.base z (mark (codes ";") line ∷ x.tokens)) (unlisted_stays 0 h (base_laid b) p) n.is in
     record {
       tokens = n.tokens;
       lexed = print_indent 1 (n.lexed Blank);
@@ -296,8 +296,8 @@ print_global {l} {b} hb wb (IsGlobal.plain {v = v} h p) w short line more after 
         base = n.base;
         is_base = n.is_base;
         found = λ k. item.Global k (settled_var 0 v) init.None b;
-        is = λ k. IsGlobal.plain n.is (settled_unlisted 0 h (base_plain hb) p);
-        same = λ k. ap (λ (z : RawVar). item.Global 0 z init.None b) (settled_twice 0 h (base_plain hb));
+        is = λ k. IsGlobal.plain n.is (settled_unlisted 0 h (base_laid hb) p);
+        same = λ k. ap (λ (z : RawVar). item.Global 0 z init.None b) (settled_twice 0 h (base_laid hb));
         bare = λ k. refl;
       };
     })
@@ -313,8 +313,8 @@ print_global {l} {b} hb wb (IsGlobal.value {v = v} {a} h p k) w short line more 
         base = n.base;
         is_base = n.is_base;
         found = λ k. item.Global k (settled_var 0 v) (init.One a) b;
-        is = λ k. IsGlobal.value n.is (settled_unlisted 0 h (base_plain hb) p) y.is;
-        same = λ k. ap (λ (z : RawVar). item.Global 0 z (init.One a) b) (settled_twice 0 h (base_plain hb));
+        is = λ k. IsGlobal.value n.is (settled_unlisted 0 h (base_laid hb) p) y.is;
+        same = λ k. ap (λ (z : RawVar). item.Global 0 z (init.One a) b) (settled_twice 0 h (base_laid hb));
         bare = λ k. refl;
       };
     })
@@ -333,7 +333,7 @@ print_global {l} {b} hb wb (IsGlobal.list {v = v} {all} h k) w short line more a
         is_base = n.is_base;
         found = λ k. item.Global k (settled_var c v) (init.Items all) b;
         is = λ k. IsGlobal.list n.is y.is;
-        same = λ k. ap (λ (z : RawVar). item.Global 0 z (init.Items all) b) (settled_twice c h (base_plain hb));
+        same = λ k. ap (λ (z : RawVar). item.Global 0 z (init.Items all) b) (settled_twice c h (base_laid hb));
         bare = λ k. refl;
       };
     })

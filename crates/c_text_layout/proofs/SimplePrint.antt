@@ -26,7 +26,7 @@ use Rattle.c_text_layout.specs.RawLayout.{raw_type_words, raw_arg_words, raw_siz
 use Rattle.c_text_layout.specs.Settled.{settled}
 use Rattle.c_text_layout.proofs.RawStatementLemmas.{raw_laid-Assign, raw_laid-Bump, raw_laid-Call, raw_laid-Heap, settled-Assign, settled-Bump, settled-Call, settled-Heap}
 use Rattle.c_text_layout.proofs.TokenPrint.{print_blank, is_sure, print_mark, Stops, stops_name, print_name, print_string}
-use Rattle.c_text_layout.proofs.ExprPrint.{expr_rest, Follows, stops_expr, level_low, print_expr}
+use Rattle.c_text_layout.proofs.ExprPrint.{expr_rest, EndsBefore, stops_expr, level_low, print_expr}
 use Rattle.c_language.specs.TypeGrammar.{named_type}
 use Rattle.c_text_layout.proofs.TypePrint.{named_rest, closes_paren, print_type_name, name_sure}
 
@@ -196,8 +196,8 @@ bump_stops true more = λ b. refl
 bump_stops false more = λ b. refl
 
 -- a place before `++` ends there, since it is no number
-bumps : {n : ℕ} {ts rest : Tokens} {a : RawExpr} (up : Bool) (more : Bytes) (h : IsExpr n ts a rest) → postfix_level ≤ n → is_place a ≡ true → Follows h (bump_sign up ++ more)
-unfolding Follows
+bumps : {n : ℕ} {ts rest : Tokens} {a : RawExpr} (up : Bool) (more : Bytes) (h : IsExpr n ts a rest) → postfix_level ≤ n → is_place a ≡ true → EndsBefore h (bump_sign up ++ more)
+unfolding EndsBefore
 bumps up more (number_constant {text = text}) p q = let x : false ≡ true = sym (is_place-Constant text) ∙ q in absurd cc
 bumps up more character_constant p q = tt
 bumps up more null p q = bump_stops up more

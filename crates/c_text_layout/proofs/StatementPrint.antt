@@ -4,6 +4,8 @@ use Rattle.std.proofs.lemmas.Bool.{and_parts, not-true, both_ways, false_from_ne
 use Rattle.std.specs.Option.{option_map}
 use Rattle.std.specs.Prelude.{bytes_eq}
 use Rattle.std.proofs.lemmas.Slice.Eq.{bytes_eq-Decides}
+use Rattle.c_language.specs.Lists.{all_true}
+use Rattle.c_language.proofs.LayoutLemmas.{plain_lines}
 use Rattle.c_tree.specs.declared.raw.expr.RawExpr.{RawExpr}
 use Rattle.c_tree.specs.declared.raw.expr.RawType.{RawType}
 use Rattle.c_tree.specs.declared.raw.program.RawInit.TheVariants as init
@@ -15,7 +17,6 @@ use Rattle.c_tree.specs.declared.raw.statement.RawStatement.{RawStatement}
 use Rattle.c_tree.specs.declared.raw.statement.RawStatement.TheVariants as s
 use Rattle.c_language.specs.Words.{Bytes}
 use Rattle.c_language.specs.Layout.{indent, Laid, block_lines, else_lines, init_part, step_part, arms_lines, braced}
-use Rattle.c_language.specs.Layout.{plain as laid_plain}
 use Rattle.c_language.specs.Layout.{line as whole_line}
 use Rattle.c_text_layout.specs.SpacedWords.{spaced_words}
 use Rattle.c_language.specs.TokenForms.{Tokens, name, mark, line_of}
@@ -35,7 +36,7 @@ use Rattle.c_text_layout.proofs.TokenPrint.{print_blank, print_line, print_mark,
 use Rattle.c_text_layout.proofs.ExprPrint.{expr_rest, stops_expr, print_expr}
 use Rattle.c_text_layout.proofs.TypePrint.{base_rest}
 use Rattle.c_text_layout.proofs.SimplePrint.{Has, simple_rest, print_simple}
-use Rattle.c_text_layout.specs.Declarations.{all_true, is_short, declarations_pass}
+use Rattle.c_text_layout.specs.Declarations.{is_short, declarations_pass}
 use Rattle.c_text_layout.proofs.DeclarationLemmas.{arm_passes, list_passes, part_passes, pass-If, pass-While, pass-Do, pass-For, pass-Switch, pass-Block, pass-arm, lists_parts}
 use Rattle.c_text_layout.proofs.DeclaredPrint.{declared_rest, print_declared}
 
@@ -279,9 +280,6 @@ safe_many : {bytes : Bytes} {all : List RawStatement} {R : Tokens → Type 0} �
 safe_many t line = let x = t line in record { tokens = x.tokens; lexed = x.lexed; has = (x.has.no_else, x.has) }
 
 -- ---- lines of one statement
-
-plain_lines : {x : Laid} {w : Bytes} (n : ℕ) → x ≡ laid_plain w → x.lines n ≡ whole_line n (x.words ++ codes ";")
-plain_lines n e = ap (λ (l : Laid). l.lines n) e ∙ ap (λ (l : Laid). whole_line n (l.words ++ codes ";")) (sym e)
 
 simple_lines : {ts rest : Tokens} {a : RawStatement} (n : ℕ) → IsSimple ts a rest → (raw_laid a).lines n ≡ whole_line n ((raw_laid a).words ++ codes ";")
 simple_lines n (assign {ts = ts} {a = a} {b} op q h p k) = plain_lines n (raw_laid-Assign (line_of ts) a op b)

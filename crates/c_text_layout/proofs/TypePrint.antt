@@ -87,14 +87,14 @@ print_base (integer {t} k) w line more after s f h =
     (record { tokens = x.tokens; lexed = x.lexed; is = integer x.is; no_else = x.no_else })
 
 -- what the layout says of a type that stands before declarators
-pub record IsPlain (a : RawType) : Type 0 where
+pub record LaidAsBase (a : RawType) : Type 0 where
   pub no_stars : raw_stars a ≡ []
   pub no_lengths : (items : ℕ) → raw_lengths items a ≡ []
   pub stays : (items : ℕ) → settled_type items a ≡ a
 
-pub base_plain : {ts rest : Tokens} {a : RawType} → IsBase ts a rest → IsPlain a
-base_plain (structure {tag} h) = record { no_stars = raw_stars-Struct tag; no_lengths = λ n. raw_lengths-Struct n tag; stays = λ n. settled_type-Struct n tag }
-base_plain (integer {t} h) = record { no_stars = raw_stars-Integer t; no_lengths = λ n. raw_lengths-Integer n t; stays = λ n. settled_type-Integer n t }
+pub base_laid : {ts rest : Tokens} {a : RawType} → IsBase ts a rest → LaidAsBase a
+base_laid (structure {tag} h) = record { no_stars = raw_stars-Struct tag; no_lengths = λ n. raw_lengths-Struct n tag; stays = λ n. settled_type-Struct n tag }
+base_laid (integer {t} h) = record { no_stars = raw_stars-Integer t; no_lengths = λ n. raw_lengths-Integer n t; stays = λ n. settled_type-Integer n t }
 
 -- ---- stars
 
@@ -123,7 +123,7 @@ pointed_stays items zero a p = p
 pointed_stays items (suc k) a p = pointed_stays items k (type.PointerTo a) (settled_type-PointerTo items a ∙ ap type.PointerTo p)
 
 -- behind the base, so many stars and nothing else
-pub plain_stars : (k : ℕ) (a : RawType) → IsPlain a → raw_stars (pointed_n k a) ≡ replicate {A = ℕ} k 42
+pub plain_stars : (k : ℕ) (a : RawType) → LaidAsBase a → raw_stars (pointed_n k a) ≡ replicate {A = ℕ} k 42
 plain_stars k a p = pointed_stars k a ∙ ap (λ (y : Bytes). replicate {A = ℕ} k 42 ++ y) p.no_stars ∙ append-nil (replicate {A = ℕ} k 42)
 
 -- how many stars there are
@@ -262,7 +262,7 @@ pub name_no_star : (text w : Bytes) (l : ℕ) (ts : Tokens) → sees Mark w (nam
 unfolding sees
 name_no_star text w l ts = refl
 
-pub print_declarator : {ts rest : Tokens} {base : RawType} {v : RawVar} (items : ℕ) → IsDeclarator ts base v rest → AreWritten ts → IsPlain base → Counts items v.shape → (line : ℕ) (more : Bytes) (after : Tokens) → Stops name_goes_on more → sees Mark (codes "[") after ≡ false → IsTokens Token line more after
+pub print_declarator : {ts rest : Tokens} {base : RawType} {v : RawVar} (items : ℕ) → IsDeclarator ts base v rest → AreWritten ts → LaidAsBase base → Counts items v.shape → (line : ℕ) (more : Bytes) (after : Tokens) → Stops name_goes_on more → sees Mark (codes "[") after ≡ false → IsTokens Token line more after
     → PrintedVar items line (raw_stars v.shape ++ (v.name ++ (raw_lengths items v.shape ++ more))) base v after
 print_declarator {base = base} items (IsDeclarator.named {a = a} {b} {text} h k j) w p c line more after s f t =
     let ws = stars_rest h w in
@@ -279,7 +279,7 @@ print_declarator {base = base} items (IsDeclarator.named {a = a} {b} {text} h k 
 abbrev var_of : Bytes → RawType → RawVar
 var_of text a = record { name = text; shape = a }
 
-declarator_stays : {ts rest : Tokens} {base a : RawType} (items : ℕ) → IsStars ts base a rest → IsPlain base → settled_type items a ≡ a
+declarator_stays : {ts rest : Tokens} {base a : RawType} (items : ℕ) → IsStars ts base a rest → LaidAsBase base → settled_type items a ≡ a
 declarator_stays {base = base} items h p = let made = star_count h in ap (settled_type items) made.1 ∙ pointed_stays items made.0 base (p.stays items) ∙ sym made.1
 
 length_twice : (items : ℕ) → settled_length items (settled_length items Listed) ≡ settled_length items Listed
@@ -293,14 +293,14 @@ outer_twice items (empty {b} h) q =
     ∙ ap₂ (λ (z : RawType) (n : RawLength). type.Array z n) ((arrayed_by items h).stays q) (length_twice items) ∙ sym t
 
 -- what is settled stays so
-pub settled_twice : {ts rest : Tokens} {base : RawType} {v : RawVar} (items : ℕ) → IsDeclarator ts base v rest → IsPlain base → settled_var items (settled_var items v) ≡ settled_var items v
+pub settled_twice : {ts rest : Tokens} {base : RawType} {v : RawVar} (items : ℕ) → IsDeclarator ts base v rest → LaidAsBase base → settled_var items (settled_var items v) ≡ settled_var items v
 settled_twice items (IsDeclarator.named {text} h k j) p = ap (var_of text) (outer_twice items j (declarator_stays items h p))
 
 outer_unlisted : {ts rest : Tokens} {a b : RawType} (items : ℕ) → IsOuterLengths ts a b rest → settled_type items a ≡ a → is_listed b ≡ false → is_listed (settled_type items b) ≡ false
 outer_unlisted items (written h) q f = ap is_listed ((arrayed_by items h).stays q) ∙ f
 outer_unlisted items (empty {b} h) q f = let x : true ≡ false = sym (is_listed-Array b Listed) ∙ f in absurd cc
 
-pub settled_unlisted : {ts rest : Tokens} {base : RawType} {v : RawVar} (items : ℕ) → IsDeclarator ts base v rest → IsPlain base → is_listed v.shape ≡ false → is_listed (settled_type items v.shape) ≡ false
+pub settled_unlisted : {ts rest : Tokens} {base : RawType} {v : RawVar} (items : ℕ) → IsDeclarator ts base v rest → LaidAsBase base → is_listed v.shape ≡ false → is_listed (settled_type items v.shape) ≡ false
 settled_unlisted items (IsDeclarator.named h k j) p f = outer_unlisted items j (declarator_stays items h p) f
 
 outer_stays : {ts rest : Tokens} {a b : RawType} (items : ℕ) → IsOuterLengths ts a b rest → settled_type items a ≡ a → is_listed b ≡ false → settled_type items b ≡ b
@@ -308,7 +308,7 @@ outer_stays items (written h) q f = (arrayed_by items h).stays q
 outer_stays items (empty {b} h) q f = let x : true ≡ false = sym (is_listed-Array b Listed) ∙ f in absurd cc
 
 -- a declarator whose lengths are all written is settled
-pub unlisted_stays : {ts rest : Tokens} {base : RawType} {v : RawVar} (items : ℕ) → IsDeclarator ts base v rest → IsPlain base → is_listed v.shape ≡ false → settled_var items v ≡ v
+pub unlisted_stays : {ts rest : Tokens} {base : RawType} {v : RawVar} (items : ℕ) → IsDeclarator ts base v rest → LaidAsBase base → is_listed v.shape ≡ false → settled_var items v ≡ v
 unlisted_stays items (IsDeclarator.named {text} h k j) p f = ap (var_of text) (outer_stays items j (declarator_stays items h p) f)
 
 -- the words of the base of a declared name
@@ -347,7 +347,7 @@ pub closes_comma : (more : Bytes) (line : ℕ) (after : Tokens) → Closes (44 �
 unfolding sees sees_name sees_int_word
 closes_comma more line after = record { stops = λ b. refl; sure = refl; no_star = refl; no_length = refl; no_name = refl; no_int = refl }
 
-type_join : (k : ℕ) (base : RawType) (more : Bytes) → IsPlain base → raw_type_words (pointed_n k base) ++ more ≡ raw_base base ++ (spaced_stars (replicate {A = ℕ} k 42) ++ more)
+type_join : (k : ℕ) (base : RawType) (more : Bytes) → LaidAsBase base → raw_type_words (pointed_n k base) ++ more ≡ raw_base base ++ (spaced_stars (replicate {A = ℕ} k 42) ++ more)
 type_join k base more p =
     ap (λ (z : Bytes). (z ++ spaced_stars (raw_stars (pointed_n k base))) ++ more) (pointed_base k base)
     ∙ ap (λ (z : Bytes). (raw_base base ++ spaced_stars z) ++ more) (plain_stars k base p) ∙ append_assoc (raw_base base) _ more
@@ -365,7 +365,7 @@ print_starred : {ts rest : Tokens} {base : RawType} (k : ℕ) → IsBase ts base
 print_starred {base = base} k h w line more after c t =
     let x = print_stars k base line more after c.sure c.no_star t in
     let y = print_base h w line (spaced_stars (replicate {A = ℕ} k 42) ++ more) x.tokens (spaced_stops k more c.stops) (x.no_int c.no_int) (print_spaced k line more x.tokens x.lexed) in
-    subst (λ (z : Bytes). PrintedStarred line z base k after) (sym (type_join k base more (base_plain h)))
+    subst (λ (z : Bytes). PrintedStarred line z base k after) (sym (type_join k base more (base_laid h)))
     (record { tokens = y.tokens; mid = x.tokens; lexed = y.lexed; begins = y.is; stars = x.is })
 
 print_pointed : {ts rest : Tokens} {base : RawType} (k : ℕ) → IsBase ts base rest → AreWritten ts → (line : ℕ) (more : Bytes) (after : Tokens) → Closes more after → IsTokens Token line more after
@@ -402,7 +402,7 @@ IsNamed : Option Bytes → Type 0
 IsNamed None = Unit {0}
 IsNamed (Some text) = HasForm Name text × (is_keyword text ≡ false)
 
-declared_join : (k : ℕ) (base : RawType) (text more : Bytes) → IsPlain base → raw_declared 0 (pointed_n k base) text ++ more ≡ raw_base base ++ (32 ∷ (replicate {A = ℕ} k 42 ++ (text ++ more)))
+declared_join : (k : ℕ) (base : RawType) (text more : Bytes) → LaidAsBase base → raw_declared 0 (pointed_n k base) text ++ more ≡ raw_base base ++ (32 ∷ (replicate {A = ℕ} k 42 ++ (text ++ more)))
 declared_join k base text more p =
     ap (λ (z : Bytes). (z ++ (32 ∷ (raw_stars (pointed_n k base) ++ (text ++ raw_lengths 0 (pointed_n k base))))) ++ more) (pointed_base k base)
     ∙ ap (λ (z : Bytes). (raw_base base ++ (32 ∷ (z ++ (text ++ raw_lengths 0 (pointed_n k base))))) ++ more) (plain_stars k base p)
@@ -430,7 +430,7 @@ print_called {base = base} k (Some text) p h w named a b line more after c t =
     let n = print_name {before = Token} text named.0 c.stops t in
     let x = print_stars k base line (text ++ more) (name text line ∷ after) (name_sure text more named.0) (name_no_star text (codes "*") line after) n in
     let y = print_base h w line (32 ∷ (replicate {A = ℕ} k 42 ++ (text ++ more))) x.tokens (λ d. refl) (x.no_int (name_no_int text line after named.1)) (print_blank x.lexed) in
-    subst (λ (z : Bytes). PrintedParam line z p after) (sym (declared_join k base text more (base_plain h)))
+    subst (λ (z : Bytes). PrintedParam line z p after) (sym (declared_join k base text more (base_laid h)))
     (record {
       tokens = y.tokens;
       lexed = y.lexed;

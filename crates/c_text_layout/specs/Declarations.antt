@@ -1,6 +1,5 @@
 -- Tests of the declarations of a text; the lists of initialisers that are short.
 use Rattle.std.specs.Prelude.{◌≡◌, ◌&&◌, nat_lt, List, [], ◌∷◌, map, Bool, true}
-use Rattle.std.specs.List.{list_all}
 use Rattle.c_tree.specs.declared.raw.expr.RawVar.{RawVar}
 use Rattle.c_tree.specs.declared.raw.program.RawInit.{RawInit}
 use Rattle.c_tree.specs.declared.raw.program.RawItem.{RawItem}
@@ -9,11 +8,7 @@ use Rattle.c_tree.specs.declared.raw.program.RawProgram.{RawProgram}
 use Rattle.c_tree.specs.declared.raw.statement.RawStatement.{RawStatement, fold-RawStatement}
 use Rattle.c_tree.specs.declared.raw.statement.RawStatement.TheOpen.{RawStatement-F, RawArm-F}
 use Rattle.c_language.specs.DeclaredTypes.{item_count}
-use Rattle.c_language.specs.Lists.{if_there}
-
--- each test is true
-abbrev pub all_true : List Bool → Bool
-all_true bs = list_all (λ (b : Bool). b) bs
+use Rattle.c_language.specs.Lists.{if_there, all_true}
 
 -- the declarations of a statement pass the test, given which of its parts' do
 abbrev pub declares_step : (RawVar → RawInit → Bool) → RawStatement-F Bool Bool → Bool

@@ -1,6 +1,6 @@
 -- The layout of the tree of a text, with names as they stand there. It is the layout of the text's program, where the text
 -- keeps all rules; any other text has one, too.
-use Rattle.std.specs.Prelude.{ℕ, suc, List, [], ◌∷◌, ◌++◌, Bool, true, false, Option, Some, None, codes, map, decimal}
+use Rattle.std.specs.Prelude.{ℕ, List, [], ◌∷◌, ◌++◌, Bool, true, false, Option, Some, None, codes, map, decimal}
 use Rattle.c_tree.specs.declared.raw.expr.RawExpr.{RawExpr}
 use Rattle.c_tree.specs.declared.raw.expr.RawLength.{RawLength}
 use Rattle.c_tree.specs.declared.raw.expr.RawLength.TheVariants.{Written, Listed}
@@ -28,7 +28,7 @@ use Rattle.c_tree.specs.declared.raw.statement.RawLabel.TheVariants.{Case, Defau
 use Rattle.c_tree.specs.declared.raw.statement.RawStatement.{RawStatement, fold-RawStatement}
 use Rattle.c_tree.specs.declared.raw.statement.RawStatement.TheOpen.{RawStatement-F, RawArm-F}
 use Rattle.c_language.specs.Words.{Bytes, joined, int_words, assign_sign, spaced_stars}
-use Rattle.c_language.specs.Layout.{line, call_words, bump_words, Laid, plain, block_lines, else_lines, init_part, step_part, arms_lines, braced, static_words, params_words, include_words}
+use Rattle.c_language.specs.Layout.{line, call_words, bump_words, Laid, plain, block_lines, laid_if, laid_while, laid_do, laid_for, laid_switch, laid_block, laid_case, static_words, params_words, include_words}
 use Rattle.c_language.specs.TypeGrammar.{named_type}
 use Rattle.c_language.specs.DeclaredTypes.{item_count}
 use Rattle.c_text_layout.specs.SpacedWords.{spaced_words}
@@ -133,34 +133,16 @@ raw_statement_step (RawStatement-F.Bump l a up before) = plain (bump_words (spac
 raw_statement_step (RawStatement-F.Call l to f args) = plain (raw_target_words to ++ call_words f (map raw_arg_words args))
 raw_statement_step (RawStatement-F.Heap l to cast n) =
     plain (raw_target_words to ++ (raw_cast_words cast ++ call_words (codes "malloc") (raw_amount_words n ∷ [])))
-raw_statement_step (RawStatement-F.If l a body other) = record {
-  words = codes "if (" ++ (spaced_words a ++ codes ")");
-  lines = λ n. line n (codes "if (" ++ (spaced_words a ++ codes ") {")) ++ (block_lines body (suc n) ++ (else_lines other n ++ line n (codes "}")));
-}
-raw_statement_step (RawStatement-F.While l a b) = record {
-  words = codes "while (" ++ (spaced_words a ++ codes ")");
-  lines = λ n. braced (codes "while (" ++ (spaced_words a ++ codes ") {")) (block_lines b (suc n)) (codes "}") n;
-}
-raw_statement_step (RawStatement-F.Do l a b) = record {
-  words = codes "do while (" ++ (spaced_words a ++ codes ")");
-  lines = λ n. braced (codes "do {") (block_lines b (suc n)) (codes "} while (" ++ (spaced_words a ++ codes ");")) n;
-}
-raw_statement_step (RawStatement-F.For l i a step b) = record {
-  words = codes "for (" ++ (init_part i ++ (codes "; " ++ (spaced_words a ++ (codes ";" ++ (step_part step ++ codes ")")))));
-  lines = λ n. braced (codes "for (" ++ (init_part i ++ (codes "; " ++ (spaced_words a ++ (codes ";" ++ (step_part step ++ codes ") {")))))) (block_lines b (suc n)) (codes "}") n;
-}
-raw_statement_step (RawStatement-F.Switch l a arms) = record {
-  words = codes "switch (" ++ (spaced_words a ++ codes ")");
-  lines = λ n. braced (codes "switch (" ++ (spaced_words a ++ codes ") {")) (arms_lines arms (suc n)) (codes "}") n;
-}
-raw_statement_step (RawStatement-F.Block l b) = record {
-  words = [];
-  lines = λ n. braced (codes "{") (block_lines b (suc n)) (codes "}") n;
-}
+raw_statement_step (RawStatement-F.If l a body other) = laid_if (spaced_words a) body other
+raw_statement_step (RawStatement-F.While l a b) = laid_while (spaced_words a) b
+raw_statement_step (RawStatement-F.Do l a b) = laid_do (spaced_words a) b
+raw_statement_step (RawStatement-F.For l i a step b) = laid_for i (spaced_words a) step b
+raw_statement_step (RawStatement-F.Switch l a arms) = laid_switch (spaced_words a) arms
+raw_statement_step (RawStatement-F.Block l b) = laid_block b
 raw_statement_step (RawStatement-F.Return l a) = plain (raw_return_words a)
 
 abbrev pub raw_arm_step : RawArm-F Laid (ℕ → Bytes) → ℕ → Bytes
-raw_arm_step a n = raw_label_lines a.labels n ++ (block_lines a.body (suc n) ++ line (suc n) (codes "break;"))
+raw_arm_step a = laid_case (raw_label_lines a.labels) a.body
 
 -- a statement: its words, and its lines at each level
 abbrev pub raw_laid : RawStatement → Laid

@@ -31,7 +31,7 @@ CountsMet [] = Unit {0}
 CountsMet (n ∷ ns) = CountMet n × CountsMet ns
 
 module _ (n : ℕ) where
-  counted-Integer : (t : IntType) → counted_type n (type.Integer t) ≡ type.Integer t
+  pub counted-Integer : (t : IntType) → counted_type n (type.Integer t) ≡ type.Integer t
   counted-Integer t = ap (counted_type n) (sym (type.rolls-Integer t)) ∙ fold-roll-RawType RawType (counted_type_step n) (RawType-F.Integer t)
 
   counted-Struct : (tag : Bytes) → counted_type n (type.Struct tag) ≡ type.Struct tag

@@ -23,7 +23,7 @@ use Rattle.c_tree.specs.declared.raw.statement.RawTypeName.{RawTypeName}
 use Rattle.c_tree.proofs.RawTrees.{TypeParts, type_layer, of_every_type, StatementParts, statement_layer, ArmParts, arm_layer, of_every_statement}
 use Rattle.c_language.specs.Words.{Bytes}
 use Rattle.c_language.specs.DeclaredTypes.{item_count}
-use Rattle.c_language.specs.Scopes.{Scope, Scoped, opened, numbered, in_order, after_block, part_gives, scope_of_test, scope_of_body}
+use Rattle.c_language.specs.Scopes.{Scope, Scoped, opened, numbered, in_order, after_block, scope_of_test, scope_of_body}
 use Rattle.c_language.specs.Phrases.{Part, Assigns, Bumps, Calls, Allocates, InBlock, Returns}
 use Rattle.c_language.specs.Uses.{is_library_function}
 use Rattle.c_language.specs.StatementGrammar.{arm}
@@ -33,7 +33,7 @@ use Rattle.c_language.proofs.NestingLemmas.{nesting-Constant, type_nesting-Point
 use Rattle.c_language.proofs.StatementNestingLemmas.{nesting-Declare, nesting-Call, nesting-Heap, nesting-If, nesting-While, nesting-Do, part_nesting, nesting-For, nesting-Switch, nesting-Block, nesting-arm, arm_nesting, arms_nesting}
 use Rattle.projection.specs.Kept.{Kept}
 use Rattle.c_scope_laws.specs.Thinning.{declares}
-use Rattle.c_scope_laws.specs.ThinnedBodies.{Left, ArmLeft, counted_length, counted_type_step, counted_type, counted_var, only, part_left, alone_one, alone_all, alone, arms_left, block_of, plain, declared, call_placed, call_declared, heap_declared, if_left, while_left, do_left, for_left, switch_left, result_kept, declare_left, call_left, heap_left, block_left, left_scoped, left_arm_step, left, left_arm, body_left}
+use Rattle.c_scope_laws.specs.ThinnedBodies.{Left, ArmLeft, counted_length, counted_type_step, counted_type, counted_var, only, part_left, alone_one, alone_all, left_alone, arms_left, block_of, plain, declared, call_placed, call_declared, heap_declared, if_left, while_left, do_left, for_left, switch_left, result_kept, declare_left, call_left, heap_left, block_left, left_scoped, left_arm_step, left, left_arm, body_left, part_given}
 use Rattle.c_print_laws.proofs.Fitting.{fits, arm_fits, list_fits, part_fits, arms_fit, return_step, of_arm, is_return, body_fits, fits-Declare, fits-Call, fits-If, fits-While, fits-Do, fits-For, fits-Switch, fits-Block, fits-arm, return-Call, return-Heap, return-If, return-While, return-Do, return-For, return-Switch, return-Block}
 use Rattle.c_print_laws.proofs.ToldItems.{body_append}
 use Rattle.c_print_laws.proofs.ToldStatements.{fits_append}
@@ -256,7 +256,7 @@ for_less_all l i a step xs p [] h = nothing_left (s.For l (Some i) a step xs)
 for_less_all l i a step xs p (y ∷ []) h = for_less_one l i a step xs (declares (out-RawStatement y)) p y h
 for_less_all l i a step xs p (y ∷ (z ∷ rest)) h = nothing_left (s.For l (Some i) a step xs)
 
-alone_less : (l : ℕ) (i : Option RawStatement) (a : RawExpr) (step : Option RawStatement) (xs : List RawStatement) (j : Option Left) → IfLess i j → Less (s.For l i a step xs) (alone l j).some
+alone_less : (l : ℕ) (i : Option RawStatement) (a : RawExpr) (step : Option RawStatement) (xs : List RawStatement) (j : Option Left) → IfLess i j → Less (s.For l i a step xs) (left_alone l j).some
 alone_less l None a step xs None h = nothing_left (s.For l None a step xs)
 alone_less l None a step xs (Some x) h = absurd h
 alone_less l (Some i) a step xs None h = absurd h
@@ -344,16 +344,13 @@ module _ (k : Kept) (raw : RawProgram) where
       let next = (left_arm k raw x.0).after scope in
       arms_more x.0 (bare_arms xs) ((left_arm k raw x.0).gives scope) (arms_left (in_order (map (left_arm k raw) (bare_arms xs)) next)) (x.1 scope) (arms_less xs next)
 
-  abbrev part_at : Option RawStatement → Scope → Option Left
-  part_at i scope = part_gives (option_map (left k raw) i) scope
-
   for_here : (l : ℕ) (i : Option RawStatement) (a : RawExpr) (step : Option RawStatement) (b : List ((x : RawStatement) × IsLess x)) (scope : Scope)
-      → ((scope : Scope) → IfLess i (part_at i scope)) → ((scope : Scope) → IfLess step (part_at step scope))
+      → ((scope : Scope) → IfLess i (part_given k raw i scope)) → ((scope : Scope) → IfLess step (part_given k raw step scope))
       → Less (s.For l i a step (bare b)) ((left_scoped k raw (RawStatement-F.For l (option_map (left k raw) i) a (option_map (left k raw) step) (map (left k raw) (bare b)))).gives scope).some
   for_here l i a step b scope hi hs =
       let test = scope_of_test (option_map (left k raw) i) scope in
       let inner = scope_of_body (option_map (left k raw) i) (option_map (left k raw) step) scope in
-      for_less raw (k.statement scope.statements) l i a step (bare b) (part_at i (opened (numbered scope))) (part_at step test) (block_left k raw (map (left k raw) (bare b)) inner) test
+      for_less raw (k.statement scope.statements) l i a step (bare b) (part_given k raw i (opened (numbered scope))) (part_given k raw step test) (block_left k raw (map (left k raw) (bare b)) inner) test
       (hi (opened (numbered scope))) (hs test) (lists_less b (opened inner))
 
   abbrev shape : StatementParts IsLess ArmIsLess → RawStatement-F RawStatement RawArm

@@ -9,7 +9,7 @@ use Rattle.c_tree.specs.declared.raw.statement.RawStatement.{RawStatement, out-R
 use Rattle.c_tree.specs.declared.raw.statement.RawStatement.TheOpen.{RawStatement-F}
 use Rattle.c_tree.specs.declared.raw.statement.RawStatement.TheVariants as s
 use Rattle.c_language.specs.TokenForms.{Tokens, line_of, name, mark}
-use Rattle.c_language.specs.Scopes.{Scope, Scoped, opened, numbered, in_order, after_block, part_gives, scope_of_test, scope_of_body}
+use Rattle.c_language.specs.Scopes.{Scope, Scoped, opened, numbered, in_order, after_block, scope_of_test, scope_of_body}
 use Rattle.c_language.specs.Phrases.{Returns}
 use Rattle.c_language.specs.Programs.{IsFormed}
 use Rattle.c_language.specs.TypeGrammar.{IsBase}
@@ -17,7 +17,7 @@ use Rattle.c_language.specs.ExprGrammar.{IsExpr, conditional_level}
 use Rattle.c_language.specs.StatementGrammar.{IsSeparated, IsDeclared, AreDeclared, declaration, IsInit, IsStep, AreLabels, IsTest, IsStatement, AreStatements, IsBody, IsElse, AreArms, arm}
 use Rattle.projection.specs.Kept.{Kept}
 use Rattle.c_scope_laws.specs.Thinning.{declares}
-use Rattle.c_scope_laws.specs.ThinnedBodies.{Need, Left, ArmLeft, only, beyond, part_left, part_needs, part_gone, gone, alone_one, alone_all, alone, arms_left, arms_needs, block_of, if_left, while_left, do_left, for_left, switch_left, block_left, left, left_arm, left_arm_step, body_left}
+use Rattle.c_scope_laws.specs.ThinnedBodies.{Need, Left, ArmLeft, only, beyond, part_left, part_needs, part_gone, gone, alone_one, alone_all, left_alone, arms_left, arms_needs, block_of, if_left, while_left, do_left, for_left, switch_left, block_left, left, left_arm, left_arm_step, body_left, part_given}
 use Rattle.c_thin_trees.proofs.Pieces.{AreFormed}
 use Rattle.c_thin_trees.proofs.Exprs.{expr_moved, base_moved, declarator_moved}
 use Rattle.c_thin_trees.proofs.Simples.{call_moved, heap_moved, simple_moved, list_moved, test_moved, labels_moved}
@@ -102,7 +102,7 @@ all_alone p l [] h = tt
 all_alone p l (y ∷ []) h = one_alone (declares (out-RawStatement y)) p l y h.0
 all_alone p l (y ∷ (z ∷ rest)) h = tt
 
-alone_leaves : (l : ℕ) (i : Option Left) → PartLeaves Begun i → Leaves Written (alone l i)
+alone_leaves : (l : ℕ) (i : Option Left) → PartLeaves Begun i → Leaves Written (left_alone l i)
 alone_leaves l None h m = tt
 alone_leaves l (Some x) h m = all_alone x.is_plain l x.some (h (counts_both x.needs (alone_all x.is_plain l x.some).needs m).0)
 
@@ -164,7 +164,7 @@ module _ (k : Kept) (raw : RawProgram) where
         }),
         tt,
       )
-  for_leaves false l j i a step b scope n o hi t hs hb m = alone_leaves l i hi (counts_both (alone l i).needs (part_gone step ++ gone b) m).0
+  for_leaves false l j i a step b scope n o hi t hs hb m = alone_leaves l i hi (counts_both (left_alone l i).needs (part_gone step ++ gone b) m).0
 
   switch_leaves : (kept : Bool) (l j : ℕ) (a : RawExpr) (arms : List ArmLeft) (scope : Scope) → IsFormed (name (codes "switch") l) → IsFormed (mark (codes "{") j)
       → Tokened (λ ts r. IsTest ts a r) → (CountsMet (arms_needs arms) → Tokened (λ ts r. AreArms ts (arms_left arms) r)) → Leaves Written (switch_left raw kept l a arms scope)
@@ -214,15 +214,12 @@ module _ (k : Kept) (raw : RawProgram) where
 
   -- ---- parts of a for
 
-  abbrev part_at : Option RawStatement → Scope → Option Left
-  part_at i scope = part_gives (option_map (left k raw) i) scope
-
-  init_left : {ts rest : Tokens} {i : Option RawStatement} → IsInit ts i rest → AreFormed ts → Behind rest (λ scope. PartLeaves Begun (part_at i scope))
+  init_left : {ts rest : Tokens} {i : Option RawStatement} → IsInit ts i rest → AreFormed ts → Behind rest (λ scope. PartLeaves Begun (part_given k raw i scope))
   init_left IsInit.nothing f = (f.1, λ scope. tt)
   init_left (IsInit.simple {a = x} h) f = (((simple_moved h).piece.behind f).1, λ scope. simple_begun ((left k raw x).gives scope) (simple_left k raw h f scope))
   init_left (IsInit.declared b d) f = let g = (base_moved b).piece.behind f in ((declared_behind d g).1, λ scope. declarator_left k raw b f d g scope)
 
-  step_left : {ts rest : Tokens} {i : Option RawStatement} → IsStep ts i rest → AreFormed ts → Behind rest (λ scope. PartLeaves Simple (part_at i scope))
+  step_left : {ts rest : Tokens} {i : Option RawStatement} → IsStep ts i rest → AreFormed ts → Behind rest (λ scope. PartLeaves Simple (part_given k raw i scope))
   step_left IsStep.nothing f = (f.1, λ scope. tt)
   step_left (IsStep.simple h) f = (((simple_moved h).piece.behind f).1, λ scope. simple_left k raw h f scope)
 
@@ -314,7 +311,7 @@ module _ (k : Kept) (raw : RawProgram) where
         let p = body_leaves g v.0 in (
           p.0,
           λ scope. at_form k raw Written _ scope (left-For k raw l first a step all)
-              (for_leaves (k.statement scope.statements) l m (part_at first (opened (numbered scope))) a (part_at step (scope_of_test (option_map (left k raw) first) scope))
+              (for_leaves (k.statement scope.statements) l m (part_given k raw first (opened (numbered scope))) a (part_given k raw step (scope_of_test (option_map (left k raw) first) scope))
               (block_left k raw (map (left k raw) all) (scope_of_body (option_map (left k raw) first) (option_map (left k raw) step) scope)) (scope_of_test (option_map (left k raw) first) scope)
               f.0 f.1.0 (u.1 (opened (numbered scope))) (record { front = x.piece.front; formed = x.piece.formed u.0; is = x.is }) (v.1 (scope_of_test (option_map (left k raw) first) scope))
               (p.1 (opened (scope_of_body (option_map (left k raw) first) (option_map (left k raw) step) scope)))),

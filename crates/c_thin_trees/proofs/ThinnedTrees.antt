@@ -10,7 +10,7 @@ use Rattle.c_language.specs.Programs.{IsTree}
 use Rattle.c_language.specs.StatementNesting.{item_nesting, items_nesting, program_nesting}
 use Rattle.projection.specs.Kept.{Kept}
 use Rattle.c_scope_laws.specs.ThinnedBodies.{body_left}
-use Rattle.c_scope_laws.specs.ThinnedTexts.{chosen, item_left, items_left, IsClosed, thinned_text}
+use Rattle.c_scope_laws.specs.ThinnedTexts.{chosen, item_left, items_left, KeepsText, thinned_text}
 use Rattle.c_print_laws.proofs.Fitting.{body_fits, head_fits, item_fits, items_fit}
 use Rattle.c_print_laws.proofs.ToldItems.{tree_fits, items_append}
 use Rattle.c_print_laws.proofs.UntoldItems.{fitting_untold}
@@ -69,7 +69,7 @@ thinned_nests k raw = (items_less k raw raw.items outset).nests
 -- ---- left-out constructs of tokens
 
 -- what stays of the tree of some tokens is the tree of some tokens, where what is kept is a text
-pub thinned_tree : (k : Kept) (raw : RawProgram) → IsTree raw → IsClosed k raw → IsTree (thinned_text k raw)
+pub thinned_tree : (k : Kept) (raw : RawProgram) → IsTree raw → KeepsText k raw → IsTree (thinned_text k raw)
 thinned_tree k raw tree closed =
     let g = tree.is.grammar in
     let l = items_listed (items_left k raw raw.items outset) (items_itemed k raw g (are_formed tree.tokens tree.is.formed) outset closed.items) in

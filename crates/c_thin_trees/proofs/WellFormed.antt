@@ -8,7 +8,7 @@ use Rattle.c_language.specs.Programs.{IsTree, HasProgram, IsWithinLimits, IsWell
 use Rattle.projection.specs.Kept.{Kept, rank}
 use Rattle.projection.specs.Projection.{if_so, projected_var, projected_vars, projected_program}
 use Rattle.c_scope_laws.specs.Following.{kept_functions}
-use Rattle.c_scope_laws.specs.ThinnedTexts.{IsClosed, thinned_text}
+use Rattle.c_scope_laws.specs.ThinnedTexts.{KeepsText, thinned_text}
 use Rattle.c_scope_laws.proofs.FunctionNumbers.{numbers_kept}
 use Rattle.c_scope_laws.proofs.ItemWalking.{thinner_keeps}
 use Rattle.c_scope_laws.proofs.ProgramThinning.{program_thins}
@@ -40,7 +40,7 @@ module _ (k : Kept) (g : ℕ → ℕ) where
 -- ---- programs
 
 -- what stays of the program of a text that keeps all limits is well formed, where what is kept is a text
-pub thinned_well_formed : (k : Kept) (raw : RawProgram) (p : Program) → IsTree raw → HasProgram raw p → IsWithinLimits raw p → IsClosed k raw → IsWellFormed (projected_program k (kept_functions k raw) p)
+pub thinned_well_formed : (k : Kept) (raw : RawProgram) (p : Program) → IsTree raw → HasProgram raw p → IsWithinLimits raw p → KeepsText k raw → IsWellFormed (projected_program k (kept_functions k raw) p)
 thinned_well_formed k raw p tree has within closed =
     let other = thinned_text k raw in
     let q = projected_program k (kept_functions k raw) p in

@@ -198,7 +198,7 @@ function_contains all i f x lt e h =
     (Contains-append_left (function_starts (take i all) ++ last) (function_starts (drop (i + 1) all)) x
     (Contains-append_right (function_starts (take i all)) last x (subst R e h)))
 
-own_of : (id : ℕ) (own : Option Start) → option_map (λ (x : Start). x.id) own ≡ Some id → (line : ℕ) × (own ≡ Some (start id line))
+pub own_of : (id : ℕ) (own : Option Start) → option_map (λ (x : Start). x.id) own ≡ Some id → (line : ℕ) × (own ≡ Some (start id line))
 own_of id None e = absurd (cc)
 own_of id (Some x) e = (x.line, ap (λ (k : ℕ). Some (start k x.line)) (cc))
 

@@ -10,10 +10,10 @@ use Rattle.c_language.specs.ProgramOf.{program_of}
 use Rattle.c_language.specs.Programs.{HasProgram, IsTree}
 use Rattle.c_language.specs.Rules.{IsBroken, KeepsRules}
 use Rattle.c_types_program.proofs.ProgramTrees.{tree_has_program}
-use Rattle.c_types.specs.Capped.{capped}
+use Rattle.c_types.specs.Limits.{capped}
 use Rattle.c_types.specs.declared.rule_fault.RuleFault.{RuleFault}
 use Rattle.c_types.specs.declared.rule_fault.RuleFault.TheVariants.{Rule, Limit, NoMemory}
-use Rattle.c_types.specs.Checker.{IsAbove, IsWithin, Answers, Gives, NamesRule, NamesLimit}
+use Rattle.c_types.specs.Checker.{IsAbove, IsWithinNumbers, Answers, Gives, NamesRule, NamesLimit}
 
 uncapped : (n : ℕ) → 1048576 < capped n → 1048576 < n
 uncapped n h = grind (arith, nat_tests)
@@ -45,11 +45,11 @@ module _ (raw : RawProgram) where
   pub cells_above : (p : Program) (n : ℕ) → HasProgram raw p → array_length p ≤ 65536 → n ≡ capped (object_cells p) → 1048576 < n → IsAbove raw ObjectCells
   cells_above p n has few is h = IsAbove.cells has few (uncapped (object_cells p) (subst (λ k. 1048576 < k) is h))
 
-  pub within : (p : Program) (n : ℕ) → HasProgram raw p → array_length p ≤ 65536 → n ≡ capped (object_cells p) → n ≤ 1048576 → IsWithin raw p
+  pub within : (p : Program) (n : ℕ) → HasProgram raw p → array_length p ≤ 65536 → n ≡ capped (object_cells p) → n ≤ 1048576 → IsWithinNumbers raw p
   within p n has few is h = record { has = has; lengths = few; cells = capped_few (object_cells p) (subst (λ k. k ≤ 1048576) is h) }
 
   -- a quantity above its number is not within it
-  pub not_within : {name : LimitName} → IsAbove raw name → (p : Program) → IsWithin raw p → ⊥
+  pub not_within : {name : LimitName} → IsAbove raw name → (p : Program) → IsWithinNumbers raw p → ⊥
   not_within (IsAbove.lengths has long) p w = omega (arith, long, w.lengths, ap array_length (one_program has w.has))
   not_within (IsAbove.cells has few many) p w = omega (arith, many, w.cells, ap object_cells (one_program has w.has))
 
@@ -59,14 +59,14 @@ module _ (raw : RawProgram) where
   rules_hold (IsAbove.cells has few many) = has.rules
 
   -- one quantity is told of
-  one_quantity : {name wanted : LimitName} → IsAbove raw name → IsAbove raw wanted → name ≡ wanted
+  pub one_quantity : {name wanted : LimitName} → IsAbove raw name → IsAbove raw wanted → name ≡ wanted
   one_quantity (IsAbove.lengths has long) (IsAbove.lengths also more) = refl
   one_quantity (IsAbove.lengths has long) (IsAbove.cells also few many) = absurd (omega (arith, long, few, ap array_length (one_program has also)))
   one_quantity (IsAbove.cells has few many) (IsAbove.lengths also long) = absurd (omega (arith, long, few, ap array_length (one_program has also)))
   one_quantity (IsAbove.cells has few many) (IsAbove.cells also less more) = refl
 
   -- a program within the limits is given
-  pub accepted : (r : Result Program RuleFault) → Answers raw r → (p : Program) → IsWithin raw p → Gives p r
+  pub accepted : (r : Result Program RuleFault) → Answers raw r → (p : Program) → IsWithinNumbers raw p → Gives p r
   accepted (Ok q) is p w = one_program is.has w.has
   accepted (Err (Rule number line)) is p w = w.has.rules number line is
   accepted (Err (Limit name)) is p w = not_within is p w

@@ -1,5 +1,5 @@
 -- The quantities of a program, form by form and element by element.
-use Rattle.std.proofs.Common.{◌≡◌, ℕ, zero, suc, ◌+◌, ◌*◌, ◌<◌, ◌≤◌, max, List, [], ◌∷◌, ◌++◌, length, take, get_or, Bool, true, false, arith, refl, sym, ap, ◌∙◌}
+use Rattle.std.proofs.Common.{◌≡◌, ℕ, zero, suc, ◌+◌, ◌*◌, ◌<◌, ◌≤◌, max, List, [], ◌∷◌, ◌++◌, length, take, get_or, Bool, true, false, arith, refl, sym, ap, ◌∙◌, ltb-true}
 use Rattle.std.proofs.lemmas.Bool.Decides.{nat_tests}
 use Rattle.std.specs.Prelude.{nat_lt, slice_index_or}
 use Rattle.c_arith.specs.declared.int_type.IntType.{IntType}
@@ -12,7 +12,7 @@ use Rattle.c_tree.specs.declared.program.StructDef.{StructDef}
 use Rattle.c_language.specs.Words.{Bytes}
 use Rattle.c_language.specs.Limits.{longest, longest_member, longest_in_structs, longest_in_variables, cells_step, cells, member_cells, cells_behind, greatest_variable}
 use Rattle.c_types_trees.proofs.ShapeLemmas.{longest-Integer, longest-PointerTo, longest-Array, longest-Struct}
-use Rattle.c_types.specs.Capped.{capped_if, capped, all_capped}
+use Rattle.c_types.specs.Limits.{capped_if, capped, all_capped}
 use Rattle.c_language.specs.Lists.{greatest}
 
 -- ---- types
@@ -153,9 +153,6 @@ struct_turn ds i d found new sum h is p q r =
 capped_large : (n : ℕ) → 1048576 < n → capped n ≡ 1048577
 capped_large n h = grind (arith, nat_tests)
 
-is_large : (a : ℕ) → nat_lt 1048576 a ≡ true → 1048576 < a
-is_large a e = grind (arith, nat_tests)
-
 -- more than the greatest, that many times, is more than the greatest
 times_large : (m a : ℕ) → 1048576 < a → 1048576 < suc m * a
 times_large m a h = omega arith
@@ -163,7 +160,7 @@ times_large m a h = omega arith
 array_at : (b : Bool) (n a : ℕ) → nat_lt 1048576 a ≡ b → capped (n * capped_if b a) ≡ capped (n * a)
 array_at false n a e = refl
 array_at true zero a e = let z : 0 * 1048577 ≡ 0 * a = omega arith in ap capped z
-array_at true (suc m) a e = capped_large (suc m * 1048577) (times_large m 1048577 (omega arith)) ∙ sym (capped_large (suc m * a) (times_large m a (is_large a e)))
+array_at true (suc m) a e = capped_large (suc m * 1048577) (times_large m 1048577 (omega arith)) ∙ sym (capped_large (suc m * a) (times_large m a (ltb-true 1048576 a e)))
 
 pub array_capped : (n a count : ℕ) → count ≡ capped a → capped (n * count) ≡ capped (n * a)
 array_capped n a count e = ap (λ y. capped (n * y)) e ∙ array_at (nat_lt 1048576 a) n a refl

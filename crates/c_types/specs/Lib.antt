@@ -1,2 +1,2 @@
-pub mod Capped
 pub mod Checker
+pub mod Limits

@@ -5,13 +5,13 @@ ghost use Rattle.c_tree.specs.declared.program.Program.{Program};
 ghost use Rattle.c_language.specs.Programs.{HasProgram, IsTree};
 ghost use Rattle.c_language.specs.Rules.{IsBroken, KeepsRules};
 ghost use Rattle.c_language.specs.StatementNesting.{program_nesting};
-ghost use Rattle.c_types.specs.Checker.{IsAbove, IsWithin, Answers, Gives, NamesRule, NamesLimit, TellsFirst, Told, Made};
+ghost use Rattle.c_types.specs.Checker.{IsAbove, IsWithinNumbers, Answers, Gives, NamesRule, NamesLimit, TellsFirst, Told, Made};
 
 use crate::limits::{MAX_ARRAY_LENGTH, MAX_OBJECT_CELLS, array_length, object_cells};
 use crate::rule_fault::RuleFault;
 use c_tree::{LimitName, Program, RawProgram};
 use c_types_program::{MakeFault, make_program};
-use c_types_rules::{CheckFault, check_rules};
+use c_types_rules::{WalkFault, check_rules};
 use std::alloc::Global;
 
 /// The rules of the text, one by one.
@@ -21,8 +21,8 @@ fn keep_rules(alloc: Global, raw: &RawProgram) -> Result<(), RuleFault>
 {
     match check_rules(alloc, raw) {
         Ok(()) => Ok(()),
-        Err(CheckFault::Rule(number, line)) => Err(RuleFault::Rule(number, line)),
-        Err(CheckFault::NoMemory) => Err(RuleFault::NoMemory),
+        Err(WalkFault::Rule(number, line)) => Err(RuleFault::Rule(number, line)),
+        Err(WalkFault::NoMemory) => Err(RuleFault::NoMemory),
     }
 }
 
@@ -78,7 +78,7 @@ pub fn check(alloc: Global, raw: RawProgram) -> Result<Program, RuleFault>
     requires tree { IsTree raw }
     requires nesting { program_nesting raw ≤ 100 }
     ensures right { Answers raw result }
-    ensures accepted { (p : Program) → IsWithin raw p → Gives p result }
+    ensures accepted { (p : Program) → IsWithinNumbers raw p → Gives p result }
     ensures broken { (number line : ℕ) → IsBroken number line raw → NamesRule result }
     ensures above { (name : LimitName) → IsAbove raw name → NamesLimit name result }
     // Of the rules that are broken, the one is named that the first phrase with a broken rule breaks.

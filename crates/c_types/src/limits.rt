@@ -4,8 +4,8 @@
 ghost use Rattle.std.specs.Prelude.{◌≡◌, ◌≤◌, ℕ, List, [], IfOk};
 ghost use Rattle.c_language.specs.Limits as limits;
 ghost use Rattle.c_language.specs.Lists as lists;
-ghost use Rattle.c_types.specs.Capped as spec;
-ghost use Rattle.c_types.specs.Capped.{all_capped};
+ghost use Rattle.c_types.specs.Limits as spec;
+ghost use Rattle.c_types.specs.Limits.{all_capped};
 
 use c_tree::{CType, Member, Program, StructDef, Var};
 use std::alloc::{AllocError, Global};

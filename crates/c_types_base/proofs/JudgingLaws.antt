@@ -111,7 +111,7 @@ module _ (raw : RawProgram) (scope : Scope) where
   abbrev IsJudged : RawExpr → Type 0
   IsJudged e = Told raw scope e (judged raw scope e)
 
-  keeps_all : (a : RawExpr) (parts : List RawExpr) → Keeps raw scope a → ((m : RawExpr) → Contains parts m → Keeps raw scope m)
+  pub keeps_all : (a : RawExpr) (parts : List RawExpr) → Keeps raw scope a → ((m : RawExpr) → Contains parts m → Keeps raw scope m)
       → (m : RawExpr) → Contains (a ∷ parts) m → Keeps raw scope m
   keeps_all a parts first rest m c = elim (contains_cons a m parts c) [ inl is ↦ subst (Keeps raw scope) is first | inr c ↦ rest m c ]
 

@@ -6,7 +6,6 @@ pub mod LiteralLemmas
 pub mod MemberLaws
 pub mod MemberTrees
 pub mod NameLemmas
-pub mod NameSteps
 pub mod NumberingLemmas
 pub mod OptionLemmas
 pub mod PhraseLemmas

@@ -13,7 +13,7 @@ use Rattle.c_tree.specs.declared.raw.program.RawItem.TheVariants.{Include, Tag, 
 use Rattle.c_tree.specs.declared.raw.program.RawProgram.{RawProgram}
 use Rattle.c_tree.specs.declared.raw.statement.RawStatement.{RawStatement}
 use Rattle.c_language.specs.Words.{Bytes}
-use Rattle.c_language.specs.DeclaredTypes.{structs_of, written_type}
+use Rattle.c_language.specs.DeclaredTypes.{struct_texts, written_type}
 use Rattle.c_language.specs.ExprTypes.{member_named}
 use Rattle.c_language.specs.Phrases.{after_body, after_item, InBlock}
 use Rattle.c_language.specs.Scopes.{Scope, with_function, entered, scope_of_parameters}
@@ -137,7 +137,7 @@ module _ (raw : RawProgram) (scope : Scope) where
   item_outer (Prototype line head) = function_outer head.name
   item_outer (Define line head body) = function_outer head.name
 
-  pub item_structs : (x : RawItem) → (after_item raw x scope).structs ≡ scope.structs + length (structs_of (x ∷ []))
+  pub item_structs : (x : RawItem) → (after_item raw x scope).structs ≡ scope.structs + length (struct_texts (x ∷ []))
   item_structs (Include is_stdlib) = omega arith
   item_structs (Tag line tag) = omega arith
   item_structs (Struct line tag members) = refl
@@ -150,25 +150,25 @@ at_length [] y ys = refl
 at_length (x ∷ xs) y ys = at_length xs y ys
 
 -- the struct types among the items so far
-pub structs_more : (xs : List RawItem) (i : ℕ) (x : RawItem) (count next : ℕ) → i < length xs → x ≡ get_or xs i x → count ≡ length (structs_of (take i xs)) → next ≡ count + length (structs_of (x ∷ []))
-    → next ≡ length (structs_of (take (i + 1) xs))
+pub structs_more : (xs : List RawItem) (i : ℕ) (x : RawItem) (count next : ℕ) → i < length xs → x ≡ get_or xs i x → count ≡ length (struct_texts (take i xs)) → next ≡ count + length (struct_texts (x ∷ []))
+    → next ≡ length (struct_texts (take (i + 1) xs))
 structs_more xs i x count next within is so_far grows =
-    let e : structs_of (take (i + 1) xs) ≡ structs_of (take i xs) ++ structs_of (x ∷ []) =
-    ap structs_of (take_more xs i x within ∙ ap (λ y. take i xs ++ y ∷ []) (sym is)) ∙ structs-append (take i xs) (x ∷ []) in
-    let n : length (structs_of (take (i + 1) xs)) ≡ length (structs_of (take i xs) ++ structs_of (x ∷ [])) = ap length e in
-    omega (arith, so_far, grows, n, length-append (structs_of (take i xs)) (structs_of (x ∷ [])))
+    let e : struct_texts (take (i + 1) xs) ≡ struct_texts (take i xs) ++ struct_texts (x ∷ []) =
+    ap struct_texts (take_more xs i x within ∙ ap (λ y. take i xs ++ y ∷ []) (sym is)) ∙ structs-append (take i xs) (x ∷ []) in
+    let n : length (struct_texts (take (i + 1) xs)) ≡ length (struct_texts (take i xs) ++ struct_texts (x ∷ [])) = ap length e in
+    omega (arith, so_far, grows, n, length-append (struct_texts (take i xs)) (struct_texts (x ∷ [])))
 
-module _ (raw : RawProgram) (xs : List RawItem) (i : ℕ) (rest : List RawItem) (whole : xs ≡ raw.items) (count : ℕ) (so_far : count ≡ length (structs_of (take i xs))) where
-  all_structs : (x : RawItem) → drop i xs ≡ x ∷ rest → structs_of raw.items ≡ structs_of (take i xs) ++ structs_of (x ∷ rest)
-  all_structs x e = ap structs_of (sym whole ∙ sym (take-append-drop i xs) ∙ ap (λ ys. take i xs ++ ys) e) ∙ structs-append (take i xs) (x ∷ rest)
+module _ (raw : RawProgram) (xs : List RawItem) (i : ℕ) (rest : List RawItem) (whole : xs ≡ raw.items) (count : ℕ) (so_far : count ≡ length (struct_texts (take i xs))) where
+  all_structs : (x : RawItem) → drop i xs ≡ x ∷ rest → struct_texts raw.items ≡ struct_texts (take i xs) ++ struct_texts (x ∷ rest)
+  all_structs x e = ap struct_texts (sym whole ∙ sym (take-append-drop i xs) ∙ ap (λ ys. take i xs ++ ys) e) ∙ structs-append (take i xs) (x ∷ rest)
 
   -- the item that comes next has its place among the struct types
   pub placed : (x : RawItem) → drop i xs ≡ x ∷ rest → HasPlace raw count x
   placed (Include is_stdlib) e = tt
   placed (Tag line name) e = tt
   placed (Struct line tag members) e =
-      ap (slice_get (structs_of raw.items)) so_far ∙ ap (λ ss. slice_get ss (length (structs_of (take i xs)))) (all_structs (Struct line tag members) e)
-      ∙ at_length (structs_of (take i xs)) (record { tag = tag; members = members }) (structs_of rest)
+      ap (slice_get (struct_texts raw.items)) so_far ∙ ap (λ ss. slice_get ss (length (struct_texts (take i xs)))) (all_structs (Struct line tag members) e)
+      ∙ at_length (struct_texts (take i xs)) (record { tag = tag; members = members }) (struct_texts rest)
   placed (Global line var i is_static) e = tt
   placed (Prototype line head) e = tt
   placed (Define line head body) e = tt

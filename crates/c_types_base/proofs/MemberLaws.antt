@@ -11,7 +11,7 @@ use Rattle.c_language.specs.ExprTypes.{a_place, struct_of, member_of, member_typ
 use Rattle.c_language.specs.ExprRules.{holds_of, fails}
 use Rattle.c_language.specs.declared.expr_type.ExprType.{ExprType}
 use Rattle.c_language.specs.declared.expr_type.Operand.{Operand}
-use Rattle.c_types_base.specs.Judging.{fault_or, judge_seen, member_or, selected_of, selected}
+use Rattle.c_types_base.specs.Judging.{fault_or, judge_seen, member_or, selected_of, judge_selected}
 
 typed_or : (t : Option ExprType) → fault_or None (option_map a_place t) ≡ member_or true t
 typed_or None = refl
@@ -38,12 +38,12 @@ module _ (raw : RawProgram) (scope : Scope) (name : Bytes) where
   of_struct None = refl
   of_struct (Some s) = complete_or (nat_lt s scope.structs) (λ (m : RawMember). written_type raw m.shape) (member_of raw s name)
 
-  pub member_judged : (a : Operand) → judge_seen raw scope (RawExpr-F.Member (Some a) name) ≡ selected raw scope name a.shape
+  pub member_judged : (a : Operand) → judge_seen raw scope (RawExpr-F.Member (Some a) name) ≡ judge_selected raw scope name a.shape
   member_judged a = of_struct (struct_of a.shape)
 
   abbrev pub selected_from : Option ExprType → Result Operand ℕ
   selected_from None = Err 12
-  selected_from (Some t) = selected raw scope name t
+  selected_from (Some t) = judge_selected raw scope name t
 
   of_target : (t : Option ExprType)
       → fault_or (if fails (Some (option_and_then struct_of t)) then Some 12

@@ -16,7 +16,7 @@ use Rattle.c_language.proofs.Lists.{position-cons}
 use Rattle.c_types_base.specs.declared.numbering.Numbering.{Numbering}
 use Rattle.c_types_base.specs.Numbering.{number_in}
 use Rattle.c_types_base.specs.Definitions.{NumberMembers}
-use Rattle.c_types_base.specs.Judging.{judge_seen, member_or, selected, selected_of}
+use Rattle.c_types_base.specs.Judging.{judge_seen, member_or, judge_selected, selected_of}
 use Rattle.c_types_base.proofs.DefinitionLemmas.{position-map}
 use Rattle.c_types_base.proofs.MemberLaws.{member_judged}
 
@@ -64,7 +64,7 @@ module _ (raw : RawProgram) (scope : Scope) (name : Bytes) where
   of_struct None y h none = no_operand h
   of_struct (Some s) y h none = when_complete s (nat_lt s scope.structs) y h none
 
-  pub select_numbered : (t : ExprType) (y : Operand) → selected raw scope name t ≡ Ok y → option_and_then (member_id raw name) (struct_of t) ≡ None → ⊥
+  pub select_numbered : (t : ExprType) (y : Operand) → judge_selected raw scope name t ≡ Ok y → option_and_then (member_id raw name) (struct_of t) ≡ None → ⊥
   select_numbered t y h none = of_struct (struct_of t) y h none
 
   pub member_numbered : (a y : Operand) → judge_seen raw scope (RawExpr-F.Member (Some a) name) ≡ Ok y → of_operand raw name (Some a) ≡ None → ⊥

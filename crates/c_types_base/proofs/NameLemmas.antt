@@ -1,5 +1,5 @@
 -- A look-up in a table of names is that of a scope.
-use Rattle.std.proofs.Common.{◌≡◌, ℕ, zero, suc, ◌<◌, ◌≤◌, List, [], ◌∷◌, drop, Bool, true, false, cond, refl, sym, ap, ◌∙◌, arith}
+use Rattle.std.proofs.Common.{◌≡◌, ℕ, zero, suc, ◌<◌, ◌≤◌, List, [], ◌∷◌, drop, Bool, true, false, cond, refl, sym, ap, ◌∙◌, arith, lt-ltb, le-ltb}
 use Rattle.std.specs.Prelude.{map, option_map, bytes_eq, nat_lt, if◌then◌else◌, Option, Some, None, position}
 use Rattle.std.specs.List.{AllByRecursion, IsDistinct}
 use Rattle.std.specs.Map.{lookup, keys_of}
@@ -82,19 +82,13 @@ names_behind q n es o found h =
     ∙ ap (option_map meaning_of) (sym (found_behind same_bytes (λ (k : Bor (List ℕ)). bytes_eq q k.now) (other_name q) n es h))
     ∙ found_lookup q (drop n es) ∙ ap (found_in q) (sym (drop-map entry_of n es))
 
-is_before : (i n : ℕ) → i < n → nat_lt i n ≡ true
-is_before i n h = grind (arith, nat_tests)
-
-is_behind : (i n : ℕ) → n ≤ i → nat_lt i n ≡ false
-is_behind i n h = grind (arith, nat_tests)
-
 module _ (q : List ℕ) (n i : ℕ) (es : List (Bor (List ℕ) × Meaning)) (found : Some i ≡ position (λ (k : Bor (List ℕ)). bytes_eq q k.now) (keys_of es)) (distinct : IsDistinct same_bytes (keys_of es)) where
   pub none_behind : i < n → None ≡ found_in q (drop n (map entry_of es))
   none_behind h =
-      ap (λ (b : Bool). option_map meaning_of (if b then None else lookup (λ (k : Bor (List ℕ)). bytes_eq q k.now) es)) (sym (is_before i n h))
+      ap (λ (b : Bool). option_map meaning_of (if b then None else lookup (λ (k : Bor (List ℕ)). bytes_eq q k.now) es)) (sym (lt-ltb i n h))
       ∙ names_behind q n es (Some i) found distinct
 
   pub same_behind : n ≤ i → option_map meaning_of (lookup (λ (k : Bor (List ℕ)). bytes_eq q k.now) es) ≡ found_in q (drop n (map entry_of es))
   same_behind h =
-      ap (λ (b : Bool). option_map meaning_of (if b then None else lookup (λ (k : Bor (List ℕ)). bytes_eq q k.now) es)) (sym (is_behind i n h))
+      ap (λ (b : Bool). option_map meaning_of (if b then None else lookup (λ (k : Bor (List ℕ)). bytes_eq q k.now) es)) (sym (le-ltb i n h))
       ∙ names_behind q n es (Some i) found distinct

@@ -1,5 +1,5 @@
 -- What a judgement of expressions tells of the phrase that holds them.
-use Rattle.std.proofs.Common.{◌≡◌, ℕ, ◌<◌, Bool, true, false, Option, Some, None, refl, sym, subst, ◌∙◌, arith}
+use Rattle.std.proofs.Common.{◌≡◌, ℕ, ◌<◌, Bool, true, false, Option, Some, None, refl, sym, ◌∙◌, true≢false, arith}
 use Rattle.std.specs.Prelude.{Contains, if◌then◌else◌}
 use Rattle.c_tree.specs.declared.raw.expr.RawExpr.{RawExpr}
 use Rattle.c_tree.specs.declared.raw.program.RawProgram.{RawProgram}
@@ -11,54 +11,41 @@ use Rattle.c_language.specs.Rules.{Breaks, undeclared, tag, member, operator, ad
 use Rattle.c_language.specs.NameRules.{UsesUndeclared, LacksHeader}
 use Rattle.c_language.specs.StructRules.{MisusesTag, MisnamesMember}
 use Rattle.c_language.specs.TypeRules.{MisusesOperator, MisusesAddress}
+use Rattle.c_language.proofs.Operands.{IsClean}
+use Rattle.c_language.proofs.Options.{none_there}
 use Rattle.c_types_base.specs.Judging.{first_fault}
 use Rattle.c_types_base.proofs.JudgingLaws.{FormBreaks, IsBrokenIn, Keeps}
 
 -- a test isn't both
 pub clash : {A : Type 0} {b : Bool} → b ≡ false → b ≡ true → A
-clash f t = absurd (subst (λ (x : Bool). is_true x) (sym f ∙ t) tt)
-  where
-    is_true : Bool → Type 0
-    is_true true = ⊥
-    is_true false = Unit {0}
+clash f t = absurd (true≢false (sym t ∙ f))
 
 passed : (b : Bool) (m : ℕ) (rest : Option ℕ) → (if b then Some m else rest) ≡ None → (b ≡ false) × (rest ≡ None)
-passed true m rest h = elim (none_is h) [ ]
-  where
-    none_is : {m : ℕ} → ◌≡◌ {A = Option ℕ} (Some m) None → ⊥
-    none_is h = subst (λ (o : Option ℕ). is_there o) h tt
-      where
-        is_there : Option ℕ → Type 0
-        is_there None = ⊥
-        is_there (Some n) = Unit {0}
+passed true m rest h = none_there (sym h)
 passed false m rest h = (refl, h)
 
 -- the outermost form of an expression breaks none of the rules on expressions
-pub record IsClean (raw : RawProgram) (scope : Scope) (s : Seen) : Type 0 where
-  pub declared : is_undeclared scope s ≡ false
+pub record IsFaultless (raw : RawProgram) (scope : Scope) (s : Seen) : Type 0 where
   pub header : lacks_header raw s ≡ false
-  pub operands : has_bad_operand scope s ≡ false
-  pub address : has_no_address s ≡ false
-  pub complete : needs_struct scope s ≡ false
-  pub member : selects_missing raw s ≡ false
+  pub clean : IsClean raw scope s
 
-pub clean : (raw : RawProgram) (scope : Scope) (s : Seen) → first_fault raw scope s ≡ None → IsClean raw scope s
-clean raw scope s h =
+faultless : (raw : RawProgram) (scope : Scope) (s : Seen) → first_fault raw scope s ≡ None → IsFaultless raw scope s
+faultless raw scope s h =
     let a = passed (is_undeclared scope s) 1 _ h in
     let b = passed (lacks_header raw s) 24 _ a.1 in
     let c = passed (has_bad_operand scope s) 12 _ b.1 in
     let d = passed (has_no_address s) 15 _ c.1 in
     let e = passed (needs_struct scope s) 7 _ d.1 in
     let f = passed (selects_missing raw s) 8 None e.1 in
-    record { declared = a.0; header = b.0; operands = c.0; address = d.0; complete = e.0; member = f.0 }
+    record { header = b.0; clean = record { declared = a.0; operands = c.0; address = d.0; complete = e.0; member = f.0 } }
 
 module _ (raw : RawProgram) (scope : Scope) (part : Part) where
   -- every expression of the phrase breaks none
-  abbrev pub AreClean : Type 0
-  AreClean = (inner : RawExpr) → Holds part inner → IsClean raw scope (seen raw scope inner)
+  abbrev pub AreFaultless : Type 0
+  AreFaultless = (inner : RawExpr) → Holds part inner → IsFaultless raw scope (seen raw scope inner)
 
-  pub are_clean : ((e : RawExpr) → Contains (expressions part) e → Keeps raw scope e) → (inner : RawExpr) → Holds part inner → IsClean raw scope (seen raw scope inner)
-  are_clean keeps inner (holds {e} c w) = clean raw scope (seen raw scope inner) (keeps e c inner w)
+  pub are_faultless : ((e : RawExpr) → Contains (expressions part) e → Keeps raw scope e) → AreFaultless
+  are_faultless keeps inner (holds {e} c w) = faultless raw scope (seen raw scope inner) (keeps e c inner w)
 
   form_breaks : (inner : RawExpr) (n : ℕ) → Holds part inner → FormBreaks raw scope (seen raw scope inner) n → 0 < n → Breaks raw scope part n
   form_breaks inner n h (FormBreaks.undeclared is) some = undeclared (UsesUndeclared.in_expression h is)

@@ -7,11 +7,12 @@ use Rattle.c_tree.specs.declared.raw.program.RawInit.TheVariants as init
 use Rattle.c_tree.specs.declared.raw.program.RawProgram.{RawProgram}
 use Rattle.c_tree.specs.declared.raw.statement.RawTarget.{RawTarget}
 use Rattle.c_tree.specs.declared.raw.statement.RawTarget.TheVariants as target
-use Rattle.c_tree.specs.declared.raw.statement.RawStatement.{RawStatement, fold-RawStatement, ind-RawStatement, roll-RawStatement, map-RawStatement, fold-roll-RawStatement}
+use Rattle.c_tree.specs.declared.raw.statement.RawStatement.{RawStatement, ind-RawStatement, roll-RawStatement, map-RawStatement, fold-roll-RawStatement}
 use Rattle.c_tree.specs.declared.raw.statement.RawStatement.TheOpen.{RawStatement-F, RawArm-F}
-use Rattle.c_tree.specs.declared.raw.statement.RawArm.{RawArm, fold-RawArm, roll-RawArm, fold-roll-RawArm}
+use Rattle.c_tree.specs.declared.raw.statement.RawArm.{RawArm, roll-RawArm, fold-roll-RawArm}
 use Rattle.c_tree.proofs.RawTrees.{statement_layer, StatementParts}
-use Rattle.c_language.specs.Scopes.{Scope, Entry, Scoped, with_variable, with_target, begun, numbered, opened, closed, after_all, after_block, after_step, after_arm}
+use Rattle.c_language.specs.Scopes.{Scope, Entry, Scoped, with_variable, with_target, begun, numbered, opened, closed, after_all, after_block, after_step}
+use Rattle.c_language.proofs.ScopesAfter.{said_step, said_arm_step, said, said_arm}
 
 -- the names of the first scope stand at the front of those of the second, and the rest is the same but for numbers
 pub record Extends (x y : Scope) : Type 0 where
@@ -70,17 +71,11 @@ module _ (raw : RawProgram) where
   block_extends x y e = as_before x (closed x y) refl refl refl e.structs e.functions
 
 module _ {R Q : Type 0} (raw : RawProgram) (gives : RawStatement-F (Scoped R) (Scoped Q) → Scope → R) (arm_gives : RawArm-F (Scoped R) (Scoped Q) → Scope → Q) where
-  abbrev pub step_of : RawStatement-F (Scoped R) (Scoped Q) → Scoped R
-  step_of one = record { gives = gives one; after = after_step raw one }
+  abbrev of_statement : RawStatement → Scoped R
+  of_statement = said raw R Q gives arm_gives
 
-  abbrev pub arm_of : RawArm-F (Scoped R) (Scoped Q) → Scoped Q
-  arm_of a = record { gives = arm_gives a; after = after_arm a }
-
-  abbrev pub of_statement : RawStatement → Scoped R
-  of_statement = fold-RawStatement (Scoped R) (Scoped Q) step_of arm_of
-
-  abbrev pub of_arm : RawArm → Scoped Q
-  of_arm = fold-RawArm (Scoped R) (Scoped Q) step_of arm_of
+  abbrev of_arm : RawArm → Scoped Q
+  of_arm = said_arm raw R Q gives arm_gives
 
   abbrev pub Grows : RawStatement → Type 0
   Grows one = (x : Scope) → Extends x ((of_statement one).after x)
@@ -153,5 +148,5 @@ module _ {R Q : Type 0} (raw : RawProgram) (gives : RawStatement-F (Scoped R) (S
   pub statement_grows : (one : RawStatement) → Grows one
   statement_grows =
       ind-RawStatement Grows ArmGrows
-      (λ z y is. subst (λ w. Grows (roll-RawStatement w)) is (λ x. subst (λ (s : Scoped R). Extends x (s.after x)) (sym (fold-roll-RawStatement (Scoped R) (Scoped Q) step_of arm_of (layer_of y))) (layer_grows y x)))
-      (λ z y is. subst (λ w. ArmGrows (roll-RawArm w)) is (λ x. subst (λ (s : Scoped Q). Extends x (s.after x)) (sym (fold-roll-RawArm (Scoped R) (Scoped Q) step_of arm_of _)) (list_extends y.body x)))
+      (λ z y is. subst (λ w. Grows (roll-RawStatement w)) is (λ x. subst (λ (s : Scoped R). Extends x (s.after x)) (sym (fold-roll-RawStatement (Scoped R) (Scoped Q) (said_step raw R Q gives arm_gives) (said_arm_step raw R Q gives arm_gives) (layer_of y))) (layer_grows y x)))
+      (λ z y is. subst (λ w. ArmGrows (roll-RawArm w)) is (λ x. subst (λ (s : Scoped Q). Extends x (s.after x)) (sym (fold-roll-RawArm (Scoped R) (Scoped Q) (said_step raw R Q gives arm_gives) (said_arm_step raw R Q gives arm_gives) _)) (list_extends y.body x)))

@@ -1,5 +1,6 @@
 -- Each form of expression in the tree, as equations.
 use Rattle.std.proofs.Common.{◌≡◌, ℕ, Option, Some, option_map, option_and_then, Result, Ok, Err, refl, sym, ap, subst, ◌∙◌}
+use Rattle.c_language.proofs.LayerForms.{expr_of-Variable}
 use Rattle.c_arith.specs.declared.int_type.IntType.{IntType}
 use Rattle.c_arith.specs.declared.operators.UnaryOp.{UnaryOp}
 use Rattle.c_arith.specs.declared.operators.BinaryOp.{BinaryOp}
@@ -12,9 +13,9 @@ use Rattle.c_tree.specs.declared.raw.program.RawProgram.{RawProgram}
 use Rattle.c_tree.proofs.RawTrees.{expr_layer, ExprParts}
 use Rattle.c_language.specs.Words.{Bytes}
 use Rattle.c_language.specs.ConstantEvaluation.{literal_type, literal_value, both}
-use Rattle.c_language.specs.Scopes.{Scope, meaning_in}
+use Rattle.c_language.specs.Scopes.{Scope}
 use Rattle.c_language.specs.ExprTypes.{operand, operand_step}
-use Rattle.c_language.specs.ProgramOf.{Told, told_step, told_of, expr_of, variable_number, of_operand, of_pointed}
+use Rattle.c_language.specs.ProgramOf.{Told, told_step, told_of, expr_of, of_operand, of_pointed}
 use Rattle.c_language.specs.declared.expr_type.Operand.{Operand}
 use Rattle.c_types_base.specs.Judging.{judged}
 use Rattle.c_types_base.proofs.JudgingLaws.{Told as ToldBy, judged_truly}
@@ -105,9 +106,6 @@ module _ (raw : RawProgram) (scope : Scope) where
 
   pub expr_of-Eof : expr_of raw scope e.Eof ≡ Some tree.Eof
   expr_of-Eof = ap tree_in (ap (told_of raw scope) (sym e.rolls-Eof) ∙ fold-roll-RawExpr Told (told_step raw scope) RawExpr-F.Eof)
-
-  pub expr_of-Variable : (name : Bytes) → expr_of raw scope (e.Variable name) ≡ option_map tree.Variable (variable_number (meaning_in scope name))
-  expr_of-Variable name = ap tree_in (ap (told_of raw scope) (sym (e.rolls-Variable name)) ∙ fold-roll-RawExpr Told (told_step raw scope) (RawExpr-F.Variable name))
 
   pub expr_of-Unary : (op : UnaryOp) (a : RawExpr) → expr_of raw scope (e.Unary op a) ≡ option_map (tree.Unary op) (expr_of raw scope a)
   expr_of-Unary op a = ap tree_in (ap (told_of raw scope) (sym (e.rolls-Unary op a)) ∙ fold-roll-RawExpr Told (told_step raw scope) (RawExpr-F.Unary op a))

@@ -2,7 +2,7 @@
 use Rattle.std.proofs.Common.{◌≡◌, ℕ, Option, sym, ap, ◌∙◌}
 use Rattle.c_arith.specs.declared.int_type.IntType.{IntType}
 use Rattle.c_tree.specs.declared.raw.expr.RawLength.{RawLength}
-use Rattle.c_tree.specs.declared.raw.expr.RawType.{RawType, roll-RawType, map-RawType, fold-roll-RawType}
+use Rattle.c_tree.specs.declared.raw.expr.RawType.{RawType, fold-roll-RawType}
 use Rattle.c_tree.specs.declared.raw.expr.RawType.TheOpen.{RawType-F}
 use Rattle.c_tree.specs.declared.raw.expr.RawType.TheVariants as type
 use Rattle.c_tree.specs.declared.raw.program.RawProgram.{RawProgram}
@@ -22,9 +22,5 @@ module _ (raw : RawProgram) (items : ℕ) where
 
   pub type_with-Struct : (tag : Bytes) → type_with raw items (type.Struct tag) ≡ type_step raw items (RawType-F.Struct tag)
   type_with-Struct tag = ap (type_with raw items) (sym (type.rolls-Struct tag)) ∙ fold-roll-RawType (Option ExprType) (type_step raw items) (RawType-F.Struct tag)
-
-  -- and of a type by its layer
-  pub type-roll : (layer : RawType-F RawType) → type_with raw items (roll-RawType layer) ≡ type_step raw items (map-RawType RawType (Option ExprType) (type_with raw items) layer)
-  type-roll layer = fold-roll-RawType (Option ExprType) (type_step raw items) layer
 
 pub ruleset types_of = (type_with-Integer, type_with-PointerTo, type_with-Array, type_with-Struct)

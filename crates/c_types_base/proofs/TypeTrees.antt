@@ -1,12 +1,12 @@
 -- A type whose tags are defined and whose lengths are constants of at least 1 has its tree.
-use Rattle.std.proofs.Common.{◌≡◌, ℕ, List, [], ◌++◌, Option, sym, subst}
+use Rattle.std.proofs.Common.{ℕ, List, [], ◌++◌, Option, sym, subst}
 use Rattle.std.specs.Prelude.{Contains, option_and_then}
 use Rattle.c_tree.specs.declared.types.CType.{CType}
 use Rattle.c_tree.specs.declared.types.CType.TheVariants as type
 use Rattle.c_tree.specs.declared.raw.expr.RawExpr.{RawExpr}
 use Rattle.c_tree.specs.declared.raw.expr.RawLength.{RawLength}
 use Rattle.c_tree.specs.declared.raw.expr.RawLength.TheVariants as length_of
-use Rattle.c_tree.specs.declared.raw.expr.RawType.{RawType, map-RawType, ind-RawType, roll-RawType, fold-roll-RawType}
+use Rattle.c_tree.specs.declared.raw.expr.RawType.{RawType, map-RawType, ind-RawType, roll-RawType}
 use Rattle.c_tree.specs.declared.raw.expr.RawType.TheOpen.{RawType-F}
 use Rattle.c_tree.specs.declared.raw.program.RawProgram.{RawProgram}
 use Rattle.c_language.specs.Words.{Bytes}
@@ -20,7 +20,7 @@ use Rattle.c_language.proofs.Options.{there_map}
 use Rattle.c_language.proofs.Lists.{contains_first, contains_later}
 use Rattle.c_language.proofs.UseLemmas.{tags-roll, lengths-roll}
 use Rattle.c_types_base.proofs.OptionLemmas.{there_then, there_both}
-use Rattle.c_types_base.proofs.TypeLemmas.{type-roll}
+use Rattle.c_language.proofs.LayerForms.{type-roll, ctype-roll}
 use Rattle.c_language.specs.Options.{IsThere}
 
 -- a written type is one of the language, and has its tree
@@ -42,9 +42,6 @@ module _ (raw : RawProgram) (items : ℕ) where
 
   abbrev layer_of : RawType-F ((t : RawType) × IsSound t) → RawType-F RawType
   layer_of = map-RawType ((t : RawType) × IsSound t) RawType (λ t. t.0)
-
-  ctype-roll : (layer : RawType-F RawType) → ctype_with raw items (roll-RawType layer) ≡ ctype_step raw items (map-RawType RawType (Option CType) (ctype_with raw items) layer)
-  ctype-roll layer = fold-roll-RawType (Option CType) (ctype_step raw items) layer
 
   length_there : (n : RawLength) (ns : List RawExpr) → AreLengths (written_lengths n ++ ns) → IsThere (length_in items n)
   length_there (length_of.Written e) ns h = h e (contains_first e ns)
@@ -76,7 +73,7 @@ module _ (raw : RawProgram) (items : ℕ) where
   made_roll : (y : RawType-F ((t : RawType) × IsSound t)) → IsSound (roll-RawType (layer_of y))
   made_roll y d l =
       let made = made_layer y (subst AreDefined (tags-roll (layer_of y)) d) (subst AreLengths (lengths-roll (layer_of y)) l) in
-      record { typed = subst IsThere (sym (type-roll raw items (layer_of y))) made.0; tree = subst IsThere (sym (ctype-roll (layer_of y))) made.1 }
+      record { typed = subst IsThere (sym (type-roll raw items (layer_of y))) made.0; tree = subst IsThere (sym (ctype-roll raw items (layer_of y))) made.1 }
 
   -- a type keeps the rules on tags and lengths, and then it is made
   pub type_made : (t : RawType) → AreDefined (tags_in t) → AreLengths (lengths_in t) → IsMade raw items t

@@ -5,7 +5,7 @@ use Rattle.c_tree.specs.declared.raw.program.RawMember.{RawMember}
 use Rattle.c_tree.specs.declared.raw.program.RawHead.{RawHead}
 use Rattle.c_tree.specs.declared.raw.program.RawItem.{RawItem}
 use Rattle.c_language.specs.Words.{Bytes}
-use Rattle.c_language.specs.DeclaredTypes.{StructText, structs_of, functions_of}
+use Rattle.c_language.specs.DeclaredTypes.{StructText, struct_texts, function_texts}
 use Rattle.c_types_base.specs.Numbering.{Numbers}
 use Rattle.c_types_base.specs.declared.numbering.Numbering.{Numbering}
 use Rattle.c_types_base.specs.declared.definitions.Definitions.{Definitions}
@@ -28,10 +28,10 @@ NumberMembers (s ∷ ss) (n ∷ ns) = Numbers (names_of_members s.members) n × 
 
 -- the tables have what the items define
 pub record Defines (items : List RawItem) (d : Definitions) : Type 0 where
-  pub tags : Numbers (tags_of (structs_of items)) d.tags
-  pub members : NumberMembers (structs_of items) d.members
-  pub functions : Numbers (names_of_functions (functions_of items)) d.functions
-  pub heads : map (λ (h : Bor RawHead). h.now) d.heads.items ≡ functions_of items
+  pub tags : Numbers (tags_of (struct_texts items)) d.tags
+  pub members : NumberMembers (struct_texts items) d.members
+  pub functions : Numbers (names_of_functions (function_texts items)) d.functions
+  pub heads : map (λ (h : Bor RawHead). h.now) d.heads.items ≡ function_texts items
 
 -- the tables have what their text defines
 abbrev pub IsOfText : Definitions → Type 0

@@ -87,8 +87,8 @@ selected_of raw scope name None = Err 12
 selected_of raw scope name (Some s) = selected_in raw scope name s
 
 -- a member selected from an object of the type
-abbrev pub selected : RawProgram → Scope → Bytes → ExprType → Result Operand ℕ
-selected raw scope name t = selected_of raw scope name (struct_of t)
+abbrev pub judge_selected : RawProgram → Scope → Bytes → ExprType → Result Operand ℕ
+judge_selected raw scope name t = selected_of raw scope name (struct_of t)
 
 -- what code answers is the judgement, but for want of memory
 abbrev pub Judges : Result Operand ℕ → Result Operand Fault → Type 0

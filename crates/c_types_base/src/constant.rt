@@ -240,3 +240,10 @@ pub fn constant(expr: &RawExpr) -> Option<Constant>
         | RawExpr::Arrow(_, _) => None,
     }
 }
+
+/// The value of a constant expression. None where it is none, or its evaluation has an undefined act.
+pub fn value_of_constant(expr: &RawExpr) -> Option<i128>
+    ensures { result ≡ spec.value_of_constant expr.now }
+{
+    constant(expr)?.value
+}

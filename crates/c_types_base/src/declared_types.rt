@@ -23,7 +23,7 @@ fn length_of(c: Constant) -> Option<u64>
 }
 
 /// The length of an array, where a list of initialisers has so many items (6.7.8, paragraph 22).
-pub fn array_length(items: usize, length: &RawLength) -> Option<u64>
+pub fn length_in(items: usize, length: &RawLength) -> Option<u64>
     ensures { result ≡ types.length_in items length.now }
 {
     match length {
@@ -56,7 +56,7 @@ pub fn type_with(
             let Some(element) = type_with(alloc, defined, items, inner.get())? else {
                 return Ok(None);
             };
-            let Some(length) = array_length(items, length) else {
+            let Some(length) = length_in(items, length) else {
                 return Ok(None);
             };
             Ok(Some(array_of(alloc, element, length)?))

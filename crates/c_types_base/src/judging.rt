@@ -3,7 +3,7 @@ ghost use Rattle.std.specs.Prelude.{◌≡◌, Some};
 ghost use Rattle.c_tree.specs.declared.raw.expr.RawExpr.TheOpen.{RawExpr-F};
 ghost use Rattle.c_language.specs.ExprRules as rules;
 ghost use Rattle.c_language.specs.ExprTypes as types;
-ghost use Rattle.c_types_base.specs.Judging.{Judges, judge_seen, judged, selected};
+ghost use Rattle.c_types_base.specs.Judging.{Judges, judge_seen, judged, judge_selected};
 ghost use Rattle.c_types_base.specs.Tables.{scope_of, AreRight};
 
 use crate::expr_type::{copy, integer, is_array, pointer_to, struct_of, value_type};
@@ -241,7 +241,7 @@ fn index(tables: &Tables<'_>, a: Operand, i: Operand) -> Result<Operand, Fault>
 /// A member of a struct type, which is a place.
 fn select(alloc: Global, tables: &Tables<'_>, t: &ExprType, name: &[u8]) -> Result<Operand, Fault>
     requires { AreRight tables.now }
-    ensures { Judges (selected tables.now.raw.now (scope_of tables.now) name.now t.now) result }
+    ensures { Judges (judge_selected tables.now.raw.now (scope_of tables.now) name.now t.now) result }
 {
     let Some(s) = struct_of(t) else {
         return Err(Fault::Rule(12));

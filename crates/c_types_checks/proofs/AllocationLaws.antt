@@ -27,9 +27,9 @@ use Rattle.c_language.specs.CallRules.{MisusesAllocation, HasOtherSize, target_t
 use Rattle.c_language.specs.declared.expr_type.ExprType.{ExprType}
 use Rattle.c_language.specs.declared.expr_type.Operand.{Operand}
 use Rattle.c_types_checks.specs.Checking.{kept, when_given}
-use Rattle.c_types_checks.specs.CallChecks.{is_same, is_count, check_object, check_pointed, check_pointee, check_size, check_factor, check_bytes, check_amount, cast_type, check_pointer, check_tags, check_allocation}
+use Rattle.c_types_checks.specs.AllocationChecks.{is_same, is_count, check_object, check_pointed, check_pointee, check_size, check_factor, check_bytes, check_amount, cast_type, check_pointer, check_tags, check_allocation}
 use Rattle.c_types_base.proofs.JudgingLaws.{Keeps}
-use Rattle.c_types_base.proofs.PhraseLemmas.{clash, are_clean}
+use Rattle.c_types_base.proofs.PhraseLemmas.{clash, are_faultless}
 use Rattle.c_types_checks.proofs.KeptPhrases.{OfOperand}
 use Rattle.c_types_checks.proofs.KeptDeclarations.{AreNamed}
 use Rattle.c_types_checks.proofs.KeptCalls.{keeps-Allocates}
@@ -40,7 +40,7 @@ use Rattle.c_types_checks.proofs.CheckLaws.{of_operand}
 use Rattle.c_types_checks.proofs.DeclarationLaws.{tags_true}
 use Rattle.c_types_checks.proofs.InitialiserLaws.{then_is}
 use Rattle.c_types_checks.proofs.CallLaws.{target_values, target_true}
-use Rattle.c_language.proofs.Options.{then_some}
+use Rattle.c_language.proofs.Options.{then_there}
 
 -- a name isn't both a variable and a function
 no_variable : {A : Type 0} {o : Option Meaning} (id : ℕ) (t : Option ExprType) → o ≡ Some (Meaning.Variable id t) → o ≡ Some Meaning.Function → A
@@ -119,8 +119,8 @@ module _ (raw : RawProgram) (scope : Scope) (typed : IsTyped raw scope) (to : Ra
   -- a size that isn't that of the objects
   other_size : (s : RawSize) → Contains (sizes n) s → (o : ExprType) → object ≡ Some o → HasOtherSize raw scope o s → B 20
   other_size s c o is other =
-      let found = then_some target_of (target_type raw scope to) o is in
-      allocation (MisusesAllocation.other_size found.1 found.2 c other)
+      let found = then_there target_of (target_type raw scope to) o is in
+      allocation (MisusesAllocation.other_size found.there found.same c other)
 
   object_true : (u : ExprType) → (is_complete scope u ≡ false → B 7) → ((o : ExprType) → object ≡ Some o → same_type u o ≡ false → B 20)
       → Finds B (ObjectIsRight raw scope object u) (check_object raw scope object u)
@@ -212,7 +212,7 @@ module _ (raw : RawProgram) (scope : Scope) (typed : IsTyped raw scope) (to : Ra
   bytes_true None is = λ o some. none_some refl some
   bytes_true (Some o) is =
       by_test B _ (not (is_count n) || is_char (integer_of o)) 20 kept
-      (λ isnt. let found = then_some target_of (target_type raw scope to) o is in bytes_broken raw scope to cast n found.0 o found.1 found.2 isnt)
+      (λ isnt. let found = then_there target_of (target_type raw scope to) o is in bytes_broken raw scope to cast n found.value o found.there found.same isnt)
       (λ right u also. subst (λ (w : ExprType). (not (is_count n) || is_char (integer_of w)) ≡ true) (same_some refl also) right)
 
   amount_true : Finds B (AmountIsRight raw scope object n) (check_amount raw scope n object)
@@ -268,7 +268,7 @@ module _ (raw : RawProgram) (scope : Scope) (typed : IsTyped raw scope) (to : Ra
       by_both B (PointerIsRight raw scope to cast) _ _ _ pointer_right (λ pointer.
       by_facts B (AmountIsRight raw scope object n) _ _ (λ right.
       keeps-Allocates raw scope to cast n
-      (are_clean raw scope (Allocates to cast n) (λ e c. elim (Contains-append_cases (target_exprs to) (counts n) e c) [
+      (are_faultless raw scope (Allocates to cast n) (λ e c. elim (Contains-append_cases (target_exprs to) (counts n) e c) [
         | inl c ↦ target_values raw scope to target e c
         | inr c ↦ right.values e c
       ])) header named target (λ name closed c. (right.sized (size.Pointee name closed) c).declared)

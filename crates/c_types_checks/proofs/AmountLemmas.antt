@@ -8,7 +8,7 @@ use Rattle.c_tree.specs.declared.raw.statement.RawAmount.TheVariants as amount
 use Rattle.c_language.specs.Scopes.{Scope}
 use Rattle.c_language.specs.declared.expr_type.ExprType.{ExprType}
 use Rattle.c_types_base.specs.declared.fault.Fault.{Fault}
-use Rattle.c_types_checks.specs.CallChecks.{check_factor, check_size, check_bytes, check_amount}
+use Rattle.c_types_checks.specs.AllocationChecks.{check_factor, check_size, check_bytes, check_amount}
 use Rattle.c_types_checks.specs.Checking.{Verdict, kept, when_given, then_kept, Decides}
 
 join : (u v w : Verdict) → w ≡ kept → then_kept (then_kept u kept) (then_kept (then_kept v kept) w) ≡ then_kept u v

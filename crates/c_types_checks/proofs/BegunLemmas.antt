@@ -12,7 +12,7 @@ use Rattle.c_language.specs.declared.expr_type.ExprType.{ExprType}
 use Rattle.c_language.specs.declared.expr_type.Operand.{Operand}
 use Rattle.c_types_base.specs.declared.fault.Fault.{Fault}
 use Rattle.c_types_checks.specs.Checking.{Decides, judging, when_given}
-use Rattle.c_types_checks.specs.DeclarationChecks.{check_first, check_items, check_begun}
+use Rattle.c_types_checks.specs.InitialiserChecks.{check_first, check_items, check_begun}
 
 module _ (raw : RawProgram) (scope : Scope) (stand : Stand) (var : RawVar) (t : Option ExprType) (x : Result (Unit {0}) Fault) where
   abbrev HasCheck : RawInit → Type 0

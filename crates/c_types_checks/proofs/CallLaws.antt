@@ -21,9 +21,9 @@ use Rattle.c_language.specs.ExprTypes.{operand, a_value, value_type, is_integer,
 use Rattle.c_language.specs.ExprRules.{is_function}
 use Rattle.c_language.specs.Formats.{Conversion, Piece, format_pieces, conversions}
 use Rattle.c_language.specs.Phrases.{Stand, InFile, InHead, InBlock, InArm, InFor, Part, Calls}
-use Rattle.c_language.specs.Uses.{expressions, target_exprs, arg_exprs, is_library_function, is_one_of}
+use Rattle.c_language.specs.Uses.{expressions, target_exprs, arg_exprs, is_library_function, is_among}
 use Rattle.c_language.specs.Rules.{Breaks, undeclared, main, no_definition, no_place, arguments, result, format, library, initialiser, misplaced, no_header}
-use Rattle.c_language.specs.NameRules.{main_name, UsesUndeclared, MisusesMain, LacksDefinition, LacksHeader}
+use Rattle.c_language.specs.NameRules.{main_name, is_main, UsesUndeclared, MisusesMain, LacksDefinition, LacksHeader}
 use Rattle.c_language.specs.ArrayRules.{MisusesInitialiser}
 use Rattle.c_language.specs.TypeRules.{AssignsNoPlace, IsNoTarget}
 use Rattle.c_language.specs.SwitchRules.{MisplacesDeclaration}
@@ -31,12 +31,11 @@ use Rattle.c_language.specs.CallRules.{HasUnfitArgument, MisusesArguments, Misus
 use Rattle.c_language.specs.declared.expr_type.ExprType.{ExprType}
 use Rattle.c_language.specs.declared.expr_type.Operand.{Operand}
 use Rattle.c_language.proofs.Lists.{contains_nil, contains_cons, contains_first, contains_later, same_bytes}
-use Rattle.c_language.proofs.UseLemmas.{only_in}
+use Rattle.c_language.proofs.UseLemmas.{only_in, later_in}
 use Rattle.c_types_checks.specs.Checking.{Verdict, kept, is_target}
-use Rattle.c_types_checks.specs.DeclarationChecks.{is_main}
 use Rattle.c_types_checks.specs.CallChecks.{is_no_target, begins_for, fits_parameter, fits_conversion, has_null_byte, check_target, check_each, check_result, check_own, check_only, check_free, check_putchar, check_getchar, check_printf, check_named, check_call}
-use Rattle.c_types_base.proofs.JudgingLaws.{Keeps}
-use Rattle.c_types_base.proofs.PhraseLemmas.{clash, are_clean}
+use Rattle.c_types_base.proofs.JudgingLaws.{Keeps, keeps_all}
+use Rattle.c_types_base.proofs.PhraseLemmas.{clash, are_faultless}
 use Rattle.c_types_checks.proofs.KeptPhrases.{OfOperand}
 use Rattle.c_types_checks.proofs.KeptCalls.{TargetIsRight, CallIsRight, keeps-Calls}
 use Rattle.c_types_checks.proofs.TestLemmas.{same_some, none_some, is_something, any_passes, none_passes, is_empty, is_no_empty}
@@ -72,16 +71,12 @@ module _ (raw : RawProgram) (scope : Scope) where
   AllFit fits (w ∷ ws) (arg.Value e ∷ args) = Keeps raw scope e × (OfOperand raw scope e (λ x. fits w x ≡ true) × AllFit fits ws args)
   AllFit fits (w ∷ ws) (arg.Literal text ∷ args) = ⊥
 
-  value_first : (e : RawExpr) (args : List RawArg) → Keeps raw scope e → ((m : RawExpr) → Contains (arg_exprs args) m → Keeps raw scope m)
-      → (m : RawExpr) → Contains (e ∷ arg_exprs args) m → Keeps raw scope m
-  value_first e args keeps rest m c = elim (contains_cons e m (arg_exprs args) c) [ inl is ↦ subst (Keeps raw scope) is keeps | inr c ↦ rest m c ]
-
   values_of : {A : Type 0} (fits : A → Operand → Bool) (ws : List A) (args : List RawArg) → AllFit fits ws args
       → (m : RawExpr) → Contains (arg_exprs args) m → Keeps raw scope m
   values_of fits ws [] right m c = absurd (contains_nil m c)
-  values_of fits [] (arg.Value e ∷ args) right m c = value_first e args right.0 (values_of fits [] args right.1) m c
+  values_of fits [] (arg.Value e ∷ args) right m c = keeps_all raw scope e (arg_exprs args) right.0 (values_of fits [] args right.1) m c
   values_of fits [] (arg.Literal text ∷ args) right m c = values_of fits [] args right m c
-  values_of fits (w ∷ ws) (arg.Value e ∷ args) right m c = value_first e args right.0 (values_of fits ws args right.1.1) m c
+  values_of fits (w ∷ ws) (arg.Value e ∷ args) right m c = keeps_all raw scope e (arg_exprs args) right.0 (values_of fits ws args right.1.1) m c
   values_of fits (w ∷ ws) (arg.Literal text ∷ args) right m c = absurd right
 
   no_unfit_argument : (ts : List (Option ExprType)) (args : List RawArg) → AllFit fits_parameter ts args → HasUnfitArgument raw scope ts args → ⊥
@@ -160,7 +155,7 @@ pub record IsOwn (f : Bytes) : Type 0 where
 own_function : (f : Bytes) → IsOwn f → is_library_function f ≡ false
 own_function f own = or_from _ _ own.getchar (or_from _ _ own.putchar (or_from _ _ own.printf (or_from _ _ own.free refl)))
 
-own_result_used : (f : Bytes) → IsOwn f → is_one_of without_result f ≡ false
+own_result_used : (f : Bytes) → IsOwn f → is_among without_result f ≡ false
 own_result_used f own = or_from _ _ own.putchar (or_from _ _ own.printf (or_from _ _ own.free refl))
 
 only_is : (args : List RawArg) (e : RawExpr) → only_arg args ≡ Some e → args ≡ arg.Value e ∷ []
@@ -180,11 +175,6 @@ in_format : (args : List RawArg) (text : Bytes) → format_in args ≡ Some text
 in_format [] text h m c = none_some refl h
 in_format (arg.Value e ∷ rest) text h m c = none_some refl h
 in_format (arg.Literal t ∷ rest) text h m c = c
-
-format_holds : (args : List RawArg) (text : Bytes) → format_in args ≡ Some text → (m : RawExpr) → Contains (arg_exprs (later_args args)) m → Contains (arg_exprs args) m
-format_holds [] text h m c = none_some refl h
-format_holds (arg.Value e ∷ rest) text h m c = none_some refl h
-format_holds (arg.Literal t ∷ rest) text h m c = c
 
 -- ---- what a call keeps, by the name of its function
 
@@ -231,7 +221,7 @@ module _ (raw : RawProgram) (scope : Scope) where
   unused_result stand to f args listed other none (MisusesResult.no_result own used is lacks) = clash own listed
   unused_result stand to f args listed other none (MisusesResult.unfit own is of_result typed isnt) = clash own listed
 
-  read_result : (stand : Stand) (to : RawTarget) (f : Bytes) (args : List RawArg) → is_library_function f ≡ true → is_one_of without_result f ≡ false
+  read_result : (stand : Stand) (to : RawTarget) (f : Bytes) (args : List RawArg) → is_library_function f ≡ true → is_among without_result f ≡ false
       → ((t : ExprType) → target_type raw scope to ≡ Some t → is_assignable t (a_value (integer Int)) ≡ true) → MisusesResult raw scope (Calls stand to f args) → ⊥
   read_result stand to f args listed used_one fits (MisusesResult.library used one) = clash used_one one
   read_result stand to f args listed used_one fits (MisusesResult.input {t} typed isnt) = clash isnt (fits t typed)
@@ -403,7 +393,7 @@ module _ (raw : RawProgram) (scope : Scope) (typed : IsTyped raw scope) (stand :
   getchar_true : f ≡ codes "getchar" → Finds B AsCall (check_getchar raw scope args (target_type raw scope to))
   getchar_true is =
       let listed : is_library_function f ≡ true = subst (λ (g : Bytes). is_library_function g ≡ true) (sym is) refl in
-      let used : is_one_of without_result f ≡ false = subst (λ (g : Bytes). is_one_of without_result g ≡ false) (sym is) refl in
+      let used : is_among without_result f ≡ false = subst (λ (g : Bytes). is_among without_result g ≡ false) (sym is) refl in
       let no_free : bytes_eq f (codes "free") ≡ false = subst (λ (g : Bytes). bytes_eq g (codes "free") ≡ false) (sym is) refl in
       let no_put : bytes_eq f (codes "putchar") ≡ false = subst (λ (g : Bytes). bytes_eq g (codes "putchar") ≡ false) (sym is) refl in
       let no_print : bytes_eq f (codes "printf") ≡ false = subst (λ (g : Bytes). bytes_eq g (codes "printf") ≡ false) (sym is) refl in
@@ -460,7 +450,7 @@ module _ (raw : RawProgram) (scope : Scope) (typed : IsTyped raw scope) (stand :
       })
       (each_true raw scope typed (Calls stand to f args) 19 fits_conversion (HasUnfitWidth raw scope)
       (λ w ws e rest x judged isnt. HasUnfitWidth.value judged isnt) (λ w ws t rest. HasUnfitWidth.literal) (λ w ws a rest h. HasUnfitWidth.later h)
-      (conversions ps) (later_args args) (λ e c. argument_in e (format_holds args text first e c))
+      (conversions ps) (later_args args) (λ e c. argument_in e (later_in args e c))
       (λ h. as_print 19 is (format (MisusesFormat.unfit (pieces_of text first ∙ read) h))))))))))
     where
       pieces_of : (text : Bytes) → format_in args ≡ Some text → pieces_in args ≡ format_pieces (literal_bytes text)
@@ -532,7 +522,7 @@ module _ (raw : RawProgram) (scope : Scope) (typed : IsTyped raw scope) (stand :
       (λ target.
       by_facts B AsCall _ _ (λ right.
       keeps-Calls raw scope stand to f args
-      (are_clean raw scope (Calls stand to f args) (λ e c. elim (Contains-append_cases (target_exprs to) (arg_exprs args) e c) [
+      (are_faultless raw scope (Calls stand to f args) (λ e c. elim (Contains-append_cases (target_exprs to) (arg_exprs args) e c) [
         | inl c ↦ target_values raw scope to target e c
         | inr c ↦ right.values e c
       ])) (not-true _ other) defined target right) (named_true defined))))

@@ -21,7 +21,7 @@ use Rattle.c_language.specs.declared.expr_type.Operand.{Operand}
 use Rattle.c_language.proofs.Lists.{contains_nil, contains_cons, contains_first, contains_later}
 use Rattle.c_types_checks.specs.Checking.{kept, unless_broken, check_test, is_target, check_assignment, check_bump, check_value, check_left, check_return}
 use Rattle.c_types_base.proofs.JudgingLaws.{Keeps}
-use Rattle.c_types_base.proofs.PhraseLemmas.{are_clean}
+use Rattle.c_types_base.proofs.PhraseLemmas.{are_faultless}
 use Rattle.c_types_checks.proofs.KeptPhrases.{OfOperand, keeps-Tests, keeps-Bumps, keeps-Assigns, keeps-Compound, keeps-Returns, keeps-Leaves}
 use Rattle.c_types_checks.proofs.TestLemmas.{same_some, none_some, is_something, is_nothing_too, is_something_too}
 use Rattle.c_types_base.proofs.TypedLaws.{IsTyped}
@@ -48,7 +48,7 @@ module _ (raw : RawProgram) (scope : Scope) (typed : IsTyped raw scope) where
   test_true e =
       by_judged raw scope (Tests e) typed _ e (λ x. unless_broken (is_scalar (value_type x.shape)) 12 kept) (contains_first e []) (λ x is keeps.
       by_test (Breaks raw scope (Tests e)) _ (is_scalar (value_type x.shape)) 12 kept (λ isnt. operator (MisusesOperator.test is isnt)) (λ scalar.
-      keeps-Tests raw scope e (are_clean raw scope (Tests e) (keeps_only raw scope e keeps))
+      keeps-Tests raw scope e (are_faultless raw scope (Tests e) (keeps_only raw scope e keeps))
       (of_operand raw scope e x (λ (z : Operand). is_scalar (value_type z.shape) ≡ true) is scalar)))
 
   pub bump_true : (left : RawExpr) → IsTrue raw scope (Bumps left) (check_bump raw scope left)
@@ -59,7 +59,7 @@ module _ (raw : RawProgram) (scope : Scope) (typed : IsTyped raw scope) where
       by_test B _ (not (points_to_incomplete scope x)) 7 _
       (λ isnt. tag (MisusesTag.bumped (subst (λ (o : Option Operand). holds_of (points_to_incomplete scope) o ≡ true) (sym is) (not-false _ isnt)))) (λ whole.
       by_given B _ 12 (λ (t : ExprType). kept) (binary_result Add x one) (λ none. operator (MisusesOperator.bump is none)) (λ t gives.
-      keeps-Bumps raw scope left (are_clean raw scope (Bumps left) (keeps_only raw scope left keeps))
+      keeps-Bumps raw scope left (are_faultless raw scope (Bumps left) (keeps_only raw scope left keeps))
       (of_operand raw scope left x (λ (z : Operand). (z.is_place && is_scalar z.shape) ≡ true) is target)
       (subst (λ (o : Option Operand). holds_of (points_to_incomplete scope) o ≡ false) (sym is) (not-true _ whole))
       (of_operand raw scope left x (λ (z : Operand). binary_result Add z one ≢ None) is (λ none. none_some none gives))))))
@@ -71,7 +71,7 @@ module _ (raw : RawProgram) (scope : Scope) (typed : IsTyped raw scope) where
       by_judged raw scope (Assigns left None right) typed _ right _ (contains_later left right (right ∷ []) (contains_first right [])) (λ y also second.
       by_test B _ (is_target raw scope x) 14 _ (λ isnt. no_place (AssignsNoPlace.assignment (no_target raw scope left x is isnt))) (λ target.
       by_test B _ (is_assignable x.shape y) 13 kept (λ isnt. other_type (AssignsOtherType.simple is also (and_parts x.is_place _ target).1 isnt)) (λ fits.
-      keeps-Assigns raw scope left right (are_clean raw scope (Assigns left None right) (keeps_both raw scope left right first second))
+      keeps-Assigns raw scope left right (are_faultless raw scope (Assigns left None right) (keeps_both raw scope left right first second))
       (of_operand raw scope left x (λ (z : Operand). (z.is_place && is_scalar z.shape) ≡ true) is target)
       (of_operand raw scope left x (λ (z : Operand). OfOperand raw scope right (λ w. is_assignable z.shape w ≡ true)) is
       (of_operand raw scope right y (λ (w : Operand). is_assignable x.shape w ≡ true) also fits))))))
@@ -86,7 +86,7 @@ module _ (raw : RawProgram) (scope : Scope) (typed : IsTyped raw scope) where
       (λ isnt. tag (MisusesTag.compound (both_are left right x y (λ a b. moves_incomplete scope op a b ≡ true) is also (not-false _ isnt)))) (λ whole.
       by_given B _ 12 _ (binary_result op x y) (λ none. operator (MisusesOperator.compound is also none)) (λ t gives.
       by_test B _ (is_assignable x.shape (a_value t)) 13 kept (λ isnt. other_type (AssignsOtherType.compound is also gives (and_parts x.is_place _ target).1 isnt)) (λ fits.
-      keeps-Compound raw scope left op right (are_clean raw scope (Assigns left (Some op) right) (keeps_both raw scope left right first second))
+      keeps-Compound raw scope left op right (are_faultless raw scope (Assigns left (Some op) right) (keeps_both raw scope left right first second))
       (of_operand raw scope left x (λ (z : Operand). (z.is_place && is_scalar z.shape) ≡ true) is target)
       (both_are left right x y (λ a b. moves_incomplete scope op a b ≡ false) is also (not-true _ whole))
       (of_operand raw scope left x (λ (z : Operand). OfOperand raw scope right (λ w. binary_result op z w ≢ None)) is
@@ -108,16 +108,16 @@ module _ (raw : RawProgram) (scope : Scope) (typed : IsTyped raw scope) where
   left_true =
       let B = Breaks raw scope (Returns None) in
       by_option B _ (check_left raw scope) (head_around raw scope)
-      (λ none. keeps-Leaves raw scope (are_clean raw scope (Returns None) (λ m c. absurd (contains_nil m c))) (λ head is. none_some none is)) (λ head is.
+      (λ none. keeps-Leaves raw scope (are_faultless raw scope (Returns None) (λ m c. absurd (contains_nil m c))) (λ head is. none_some none is)) (λ head is.
       by_test B _ (is_none head.result) 18 kept (λ isnt. return (MisusesReturn.no_value is (is_something_too head.result isnt))) (λ void.
-      keeps-Leaves raw scope (are_clean raw scope (Returns None) (λ m c. absurd (contains_nil m c)))
+      keeps-Leaves raw scope (are_faultless raw scope (Returns None) (λ m c. absurd (contains_nil m c)))
       (λ other also. subst (λ (h : RawHead). h.result ≡ None) (same_some is also) (is_nothing_too head.result void))))
 
   value_true : (e : RawExpr) → IsTrue raw scope (Returns (Some e)) (check_return raw scope (Some e))
   value_true e =
       let B = Breaks raw scope (Returns (Some e)) in
       by_judged raw scope (Returns (Some e)) typed _ e _ (contains_first e []) (λ x is keeps.
-      let clean = are_clean raw scope (Returns (Some e)) (keeps_only raw scope e keeps) in
+      let clean = are_faultless raw scope (Returns (Some e)) (keeps_only raw scope e keeps) in
       by_option B _ (check_value raw scope x) (head_around raw scope)
       (λ none. keeps-Returns raw scope e clean (λ head around. none_some none around) (λ head around. none_some none around)) (λ head around.
       by_test B _ (is_some head.result) 18 _ (λ isnt. return (MisusesReturn.value_of_void around (gone head.result isnt))) (λ gives.

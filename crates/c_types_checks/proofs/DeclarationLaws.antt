@@ -20,9 +20,9 @@ use Rattle.c_language.specs.DeclaredTypes.{defined_structs, defined_functions, s
 use Rattle.c_language.specs.Scopes.{Scope, Meaning, meaning_in, meaning_here}
 use Rattle.c_language.specs.ExprRules.{is_complete}
 use Rattle.c_language.specs.Phrases.{Stand, InFile, InHead, InBlock, InArm, InFor, Part, NamesStruct, DefinesStruct, HasMember, DeclaresFunction, Takes, EndsFunction, Declares}
-use Rattle.c_language.specs.Uses.{tags, lengths, expressions, tags_in, lengths_in, tags_if, is_library_name, is_library_macro}
+use Rattle.c_language.specs.Uses.{tags, lengths_of, expressions, tags_in, lengths_in, tags_if, is_library_name, is_library_macro}
 use Rattle.c_language.specs.Rules.{Breaks, declared_again, shadowing, library_name, main, no_definition, tag, member, no_element, no_constant, return, misplaced}
-use Rattle.c_language.specs.NameRules.{main_name, IsDefinedBefore, same_signature, DeclaresAgain, Shadows, DeclaresLibraryName, MisusesMain, LacksDefinition}
+use Rattle.c_language.specs.NameRules.{main_name, is_main, IsDefinedBefore, same_signature, DeclaresAgain, Shadows, DeclaresLibraryName, MisusesMain, LacksDefinition}
 use Rattle.c_language.specs.StructRules.{MisusesTag, MisnamesMember}
 use Rattle.c_language.specs.ArrayRules.{HasNoElement, LacksConstant}
 use Rattle.c_language.specs.CallRules.{MisusesReturn}
@@ -30,10 +30,11 @@ use Rattle.c_language.specs.SwitchRules.{MisplacesDeclaration}
 use Rattle.c_language.specs.declared.expr_type.ExprType.{ExprType}
 use Rattle.c_language.proofs.Lists.{contains_nil, contains_cons, contains_first, same_bytes}
 use Rattle.c_types_checks.specs.Checking.{kept, when_given, all_kept, check_expr}
-use Rattle.c_types_checks.specs.DeclarationChecks.{is_complete_tag, is_defined_before, is_main, is_variable, stands_in_arm, check_tag, check_count, check_length, check_type, check_complete, check_struct, check_member, check_head, check_prototype, check_main, check_definition, check_taken, check_parameter, check_end, check_fresh, check_declared}
+use Rattle.c_types_checks.specs.DeclarationChecks.{is_complete_tag, stands_in_arm, check_tag, check_count, check_length, check_type, check_complete, check_struct, check_member, check_fresh, check_declared}
+use Rattle.c_types_checks.specs.HeadChecks.{is_defined_before, is_variable, check_head, check_prototype, check_main, check_definition, check_taken, check_parameter, check_end}
 use Rattle.c_types_base.specs.Listing.{has_name}
 use Rattle.c_types_base.proofs.JudgingLaws.{Keeps}
-use Rattle.c_types_base.proofs.PhraseLemmas.{clash, AreClean, are_clean}
+use Rattle.c_types_base.proofs.PhraseLemmas.{clash, AreFaultless, are_faultless}
 use Rattle.c_types_checks.proofs.KeptDeclarations.{keeps-NamesStruct, keeps-DefinesStruct, keeps-HasMember, keeps-Prototype, keeps-Definition, keeps-Takes, keeps-EndsFunction, keeps-Declares}
 use Rattle.c_types_checks.proofs.TestLemmas.{same_some, none_some, is_something, is_nothing_too, is_something_too, any_passes, none_passes, other_names, has_name_is, has_name_own, is_empty, is_no_empty}
 use Rattle.c_types_base.proofs.TypedLaws.{IsTyped}
@@ -46,9 +47,9 @@ variable_is (Some Meaning.Function) h = clash refl h
 variable_is (Some (Meaning.Variable id t)) h = (id, t, refl)
 
 -- a phrase without expressions breaks no rule on them
-pub are_none : (raw : RawProgram) (scope : Scope) (part : Part) → expressions part ≡ [] → AreClean raw scope part
+pub are_none : (raw : RawProgram) (scope : Scope) (part : Part) → expressions part ≡ [] → AreFaultless raw scope part
 are_none raw scope part none =
-    are_clean raw scope part (λ e c. absurd (contains_nil e (subst (λ (es : List RawExpr). Contains es e) none c)))
+    are_faultless raw scope part (λ e c. absurd (contains_nil e (subst (λ (es : List RawExpr). Contains es e) none c)))
 
 -- a length is a constant of at least 1
 pub record LengthIsRight (raw : RawProgram) (scope : Scope) (m : RawExpr) : Type 0 where
@@ -179,7 +180,7 @@ module _ (raw : RawProgram) (scope : Scope) where
 
 -- phrases where all that is in scope has a type
 module _ (raw : RawProgram) (scope : Scope) (typed : IsTyped raw scope) where
-  length_true : (part : Part) (m : RawExpr) → Contains (lengths part) m → Contains (expressions part) m
+  length_true : (part : Part) (m : RawExpr) → Contains (lengths_of part) m → Contains (expressions part) m
       → Finds (Breaks raw scope part) (LengthIsRight raw scope m) (check_length raw scope m)
   length_true part m c inside =
       let B = Breaks raw scope part in
@@ -193,7 +194,7 @@ module _ (raw : RawProgram) (scope : Scope) (typed : IsTyped raw scope) where
       })))
 
   pub type_true : (part : Part) (t : RawType) → ((w : Bytes) → Contains (tags_in t) w → Contains (tags part) w)
-      → ((m : RawExpr) → Contains (lengths_in t) m → Contains (lengths part) m) → ((m : RawExpr) → Contains (lengths_in t) m → Contains (expressions part) m)
+      → ((m : RawExpr) → Contains (lengths_in t) m → Contains (lengths_of part) m) → ((m : RawExpr) → Contains (lengths_in t) m → Contains (expressions part) m)
       → Finds (Breaks raw scope part) (TypeIsRight raw scope t) (check_type raw scope t)
   type_true part t named long inside =
       let B = Breaks raw scope part in
@@ -217,7 +218,7 @@ module _ (raw : RawProgram) (scope : Scope) (typed : IsTyped raw scope) where
       by_test B _ (not (list_any _ before)) 8 _
       (λ isnt. let found = any_passes _ before (not-false _ isnt) in member (MisnamesMember.again found.1 (same_bytes found.0.name m.name found.2))) (λ fresh.
       by_test B _ (not (is_library_macro m.name)) 4 kept (λ isnt. library_name (DeclaresLibraryName.member (not-false _ isnt))) (λ allowed.
-      keeps-HasMember raw scope before m (are_clean raw scope (HasMember before m) (λ e c. (right.lengths e c).keeps)) right.named
+      keeps-HasMember raw scope before m (are_faultless raw scope (HasMember before m) (λ e c. (right.lengths e c).keeps)) right.named
       (λ e c. (right.lengths e c).constant) (λ e z c. (right.lengths e c).at_least_one z) complete
       (λ other c. other_names other.name m.name (none_passes _ before (not-true _ fresh) other c)) (not-true _ allowed)))))
 
@@ -244,6 +245,6 @@ module _ (raw : RawProgram) (scope : Scope) (typed : IsTyped raw scope) where
       by_both B (IsFresh scope var.name) _ _ _ (fresh_true stand var i) (λ fresh.
       by_both B _ _ _ _ (complete_true (Declares stand var i) (variable_type raw var i) (λ u is isnt. tag (MisusesTag.object is isnt))) (λ complete.
       by_test B _ (not (stands_in_arm stand)) 23 kept (λ isnt. in_arm stand var i (not-false _ isnt)) (λ placed.
-      keeps-Declares raw scope stand var i (are_clean raw scope (Declares stand var i) (λ e c. (right.lengths e c).keeps)) right.named
+      keeps-Declares raw scope stand var i (are_faultless raw scope (Declares stand var i) (λ e c. (right.lengths e c).keeps)) right.named
       (λ e c. (right.lengths e c).constant) (λ e z c. (right.lengths e c).at_least_one z) fresh.there fresh.here fresh.allowed complete
       (λ e. clash {b = stands_in_arm stand} (not-true _ placed) (ap stands_in_arm e))))))

@@ -1,17 +1,10 @@
 -- The conversions of a format, byte by byte.
-use Rattle.std.proofs.Common.{◌≡◌, ℕ, ◌+◌, ◌<◌, List, [], ◌∷◌, ◌++◌, drop, length, get_or, drop-cons, Bool, true, false, Option, Some, None, refl, sym, ap, ◌∙◌, arith, append_assoc}
-use Rattle.std.specs.Prelude.{◌==◌, option_map, option_and_then}
-use Rattle.std.proofs.lemmas.Bool.Decides.{nat_tests}
+use Rattle.std.proofs.Common.{◌≡◌, ℕ, ◌+◌, ◌<◌, List, [], ◌∷◌, ◌++◌, drop, length, get_or, Bool, true, false, Option, Some, None, refl, sym, ap, ◌∙◌, append_assoc, ne_eqb, eq-eqb}
+use Rattle.std.specs.Prelude.{option_map, option_and_then}
+use Rattle.std.proofs.lemmas.List.{drop_more}
 use Rattle.c_language.specs.Words.{Bytes}
 use Rattle.c_language.specs.Formats.{Conversion, Piece, Converts, Behind, Nothing, Percent, Long, conversion_of, plain_piece, converted_piece, pieces_from, conversions}
 use Rattle.c_types_checks.specs.Conversions.{converted, converted_from}
-use Rattle.c_types_checks.proofs.DecidedLemmas.{one_more}
-
-differs : (a b : ℕ) → (a ≡ b → ⊥) → (a == b) ≡ false
-differs a b h = grind (arith, nat_tests)
-
-equals : (a b : ℕ) → a ≡ b → (a == b) ≡ true
-equals a b h = grind (arith, nat_tests)
 
 plain : (b : ℕ) (o : Option (List Piece)) → option_map conversions o ≡ option_map conversions (plain_piece b o)
 plain b None = refl
@@ -34,13 +27,13 @@ long_converts b rest c is = letter true b rest c is
 
 pub percent_converts : (b : ℕ) (rest : Bytes) (c : Conversion) → (b ≡ 37 → ⊥) → (b ≡ 108 → ⊥) → Some c ≡ conversion_of false b
     → option_map (λ (cs : List Conversion). c ∷ cs) (converted_from Nothing rest) ≡ converted_from Percent (b ∷ rest)
-percent_converts b rest c percent long is = rw (differs b 37 percent) (rw (differs b 108 long) (letter false b rest c is))
+percent_converts b rest c percent long is = rw (ne_eqb b 37 percent) (rw (ne_eqb b 108 long) (letter false b rest c is))
 
 pub percent_written : (b : ℕ) (rest : Bytes) → b ≡ 37 → converted_from Nothing rest ≡ converted_from Percent (b ∷ rest)
-percent_written b rest is = rw (equals b 37 is) (plain 37 (pieces_from Nothing rest))
+percent_written b rest is = rw (eq-eqb b 37 is) (plain 37 (pieces_from Nothing rest))
 
 pub byte_written : (b : ℕ) (rest : Bytes) → (b ≡ 37 → ⊥) → converted_from Nothing rest ≡ converted_from Nothing (b ∷ rest)
-byte_written b rest isnt = rw (differs b 37 isnt) (plain b (pieces_from Nothing rest))
+byte_written b rest isnt = rw (ne_eqb b 37 isnt) (plain b (pieces_from Nothing rest))
 
 -- what stands before the conversions of the rest
 abbrev pub behind_found : List Conversion → Option (List Conversion) → Option (List Conversion)
@@ -54,7 +47,7 @@ one_found done c (Some cs) = ap (λ (x : List Conversion). Some x) (sym (append_
 module _ (format : Bytes) (i : ℕ) (done : List Conversion) (behind : Behind) (within : i < length format)
     (so_far : converted format ≡ behind_found done (converted_from behind (drop i format))) where
   next : drop i format ≡ get_or format i 0 ∷ drop (i + 1) format
-  next = drop-cons format i 0 within ∙ ap (λ (j : ℕ). get_or format i 0 ∷ drop j format) (one_more i)
+  next = drop_more format i 0 within
 
   went : (o : Option (List Conversion)) → o ≡ converted_from behind (get_or format i 0 ∷ drop (i + 1) format) → converted format ≡ behind_found done o
   went o is = so_far ∙ ap (λ (bs : Bytes). behind_found done (converted_from behind bs)) next ∙ ap (behind_found done) (sym is)

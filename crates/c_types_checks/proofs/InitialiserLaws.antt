@@ -26,10 +26,10 @@ use Rattle.c_language.specs.declared.expr_type.Operand.{Operand}
 use Rattle.c_language.proofs.Lists.{contains_cons, contains_first, contains_later}
 use Rattle.c_language.proofs.UseLemmas.{case_among}
 use Rattle.c_types_checks.specs.Checking.{kept}
-use Rattle.c_types_checks.specs.DeclarationChecks.{is_constant_for, are_few, check_constant, check_first, check_item, check_listed, check_items, check_begun}
-use Rattle.c_types_checks.specs.CallChecks.{case_values, are_distinct, default_count, check_label, check_labels, check_switch}
+use Rattle.c_types_checks.specs.InitialiserChecks.{is_constant_for, are_few, check_constant, check_first, check_item, check_listed, check_items, check_begun}
+use Rattle.c_types_checks.specs.SwitchChecks.{case_values, are_distinct, default_count, check_label, check_labels, check_switch}
 use Rattle.c_types_base.proofs.JudgingLaws.{Keeps}
-use Rattle.c_types_base.proofs.PhraseLemmas.{clash, are_clean}
+use Rattle.c_types_base.proofs.PhraseLemmas.{clash, are_faultless}
 use Rattle.c_types_checks.proofs.KeptPhrases.{OfOperand}
 use Rattle.c_types_checks.proofs.KeptDeclarations.{keeps-BeginsOne, keeps-BeginsItems}
 use Rattle.c_types_checks.proofs.KeptCalls.{keeps-BeginsNone, keeps-Switches}
@@ -40,7 +40,7 @@ use Rattle.c_types_checks.proofs.Findings.{Finds, IsTrue, by_test, by_given, by_
 use Rattle.c_types_checks.proofs.CheckLaws.{keeps_only, of_operand}
 use Rattle.c_types_checks.proofs.DeclarationLaws.{are_none}
 use Rattle.c_types_base.proofs.ListingLaws.{gone}
-use Rattle.c_language.proofs.Options.{then_some}
+use Rattle.c_language.proofs.Options.{then_there}
 
 pub then_is : {A B : Type 0} (f : A → Option B) (o : Option A) (t : A) (u : B) → o ≡ Some t → f t ≡ Some u → option_and_then f o ≡ Some u
 then_is {A} f o t u is gives = ap (λ (x : Option A). option_and_then f x) is ∙ gives
@@ -106,7 +106,7 @@ module _ (raw : RawProgram) (scope : Scope) (typed : IsTyped raw scope) where
       let part = Begins stand var (init.One e) in
       let B = Breaks raw scope part in
       by_judged raw scope part typed _ e _ (contains_first e []) (λ y is keeps.
-      let clean = are_clean raw scope part (keeps_only raw scope e keeps) in
+      let clean = are_faultless raw scope part (keeps_only raw scope e keeps) in
       by_option B _ (check_first raw scope stand e y) (variable_type raw var (init.One e))
       (λ none.
       keeps-BeginsOne raw scope stand var e clean (λ s place t of_type. none_some none of_type) (λ t of_type. none_some none of_type)
@@ -132,15 +132,15 @@ module _ (raw : RawProgram) (scope : Scope) (typed : IsTyped raw scope) where
       by_judged raw scope part typed (ItemIsRight raw scope stand element e) e _ c (λ y is keeps.
       by_option B (ItemIsRight raw scope stand element e) _ element
       (λ none. record { keeps = keeps; fits = λ u of_type. none_some none of_type; constant = λ s place u of_type. none_some none of_type }) (λ u of_type.
-      let array = then_some element_of (variable_type raw var (init.Items es)) u of_type in
+      let array = then_there element_of (variable_type raw var (init.Items es)) u of_type in
       by_test B (ItemIsRight raw scope stand element e) (is_assignable u y) 22 _
-      (λ isnt. initialiser (MisusesInitialiser.unfit array.1 array.2 (e, c, (y, is, isnt)))) (λ fits.
+      (λ isnt. initialiser (MisusesInitialiser.unfit array.there array.same (e, c, (y, is, isnt)))) (λ fits.
       by_facts B ((is_static : Bool) → stand ≡ InFile is_static → IsNoConstant u e → ⊥) (ItemIsRight raw scope stand element e) _ (λ constant. record {
         keeps = keeps;
         fits = λ v also. of_operand raw scope e y (λ (z : Operand). is_assignable v z ≡ true) is (subst (λ (w : ExprType). is_assignable w y ≡ true) (same_some of_type also) fits);
         constant = λ s place v also. subst (λ (w : ExprType). IsNoConstant w e → ⊥) (same_some of_type also) (constant s place);
       }) (constant_true part stand u e (λ s place isnt.
-      subst (λ (st : Stand). Breaks raw scope (Begins st var (init.Items es)) 10) (sym place) (no_constant (LacksConstant.item array.1 array.2 c isnt)))))))
+      subst (λ (st : Stand). Breaks raw scope (Begins st var (init.Items es)) 10) (sym place) (no_constant (LacksConstant.item array.there array.same c isnt)))))))
 
   items_true : (stand : Stand) (var : RawVar) (es : List RawExpr)
       → IsTrue raw scope (Begins stand var (init.Items es)) (check_items raw scope stand es (variable_type raw var (init.Items es)))
@@ -151,7 +151,7 @@ module _ (raw : RawProgram) (scope : Scope) (typed : IsTyped raw scope) where
       let element = option_and_then element_of array in
       by_both B ((e : RawExpr) → Contains es e → ItemIsRight raw scope stand element e) _ _ _
       (by_all B (ItemIsRight raw scope stand element) (check_item raw scope stand element) es (item_true stand var es)) (λ right.
-      let clean = are_clean raw scope part (λ e c. (right e c).keeps) in
+      let clean = are_faultless raw scope part (λ e c. (right e c).keeps) in
       let finish = keeps-BeginsItems raw scope stand var es clean
       (λ s place t of_type u of_element e c. (right e c).constant s place u (then_is element_of array t u of_type of_element)) in
       let fit = λ (t : ExprType) (of_type : array ≡ Some t) (u : ExprType) (of_element : element_of t ≡ Some u) (h : HasUnfit raw scope u es).
@@ -204,7 +204,7 @@ module _ (raw : RawProgram) (scope : Scope) (typed : IsTyped raw scope) where
       (λ isnt. switch (MisusesSwitch.defaults (two_defaults labels (ltb-false (default_count labels) 2 isnt)))) (λ few.
       by_test B _ (are_distinct (case_values (promote t) labels)) 11 kept
       (λ isnt. switch (MisusesSwitch.equal_labels is integer (two_cases (promote t) labels isnt))) (λ distinct.
-      keeps-Switches raw scope test labels (are_clean raw scope part (labels_clean test labels keeps right))
+      keeps-Switches raw scope test labels (are_faultless raw scope part (labels_clean test labels keeps right))
       (no_misuse test labels x t is integer few distinct) (λ e c. (right (label.Case e) (case_in labels e c)).1))))))
     where
       no_misuse : (test : RawExpr) (labels : List RawLabel) (x : Operand) (t : IntType) → operand raw scope test ≡ Some x → integer_of x.shape ≡ Some t

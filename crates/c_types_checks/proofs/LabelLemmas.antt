@@ -1,27 +1,11 @@
 -- The labels of a switch, one by one.
-use Rattle.std.proofs.Common.{◌≡◌, ℤ, List, [], ◌∷◌, Bool, true, false, cond, Option, Some, None, refl, sym, ap, ◌∙◌}
-use Rattle.std.specs.Prelude.{not, ◌&&◌, ◌||◌, option_map}
-use Rattle.std.specs.List.{list_any}
+use Rattle.std.proofs.Common.{◌≡◌, ℤ, List, [], ◌∷◌, Bool, true, false, cond, Option, Some, refl, sym, ap, ◌∙◌}
+use Rattle.std.specs.Prelude.{not, ◌&&◌, ◌||◌}
+use Rattle.std.specs.List.{list_any, cons_option}
 use Rattle.std.specs.Ordering.{int_eq}
 use Rattle.c_arith.specs.declared.int_type.IntType.{IntType}
-use Rattle.c_arith.specs.IntType.{convert}
 use Rattle.c_tree.specs.declared.raw.statement.RawLabel.{RawLabel}
-use Rattle.c_tree.specs.declared.raw.statement.RawLabel.TheVariants as label
-use Rattle.c_language.specs.ConstantEvaluation.{value_of_constant}
-use Rattle.c_types_checks.specs.CallChecks.{with_case, case_values, are_distinct}
-use Rattle.c_types_checks.specs.Labels.{value_of_case, none_passes, are_apart}
-
-abbrev with_value : Option ℤ → List ℤ → List ℤ
-with_value None zs = zs
-with_value (Some z) zs = z ∷ zs
-
-converted : (t : IntType) (o : Option ℤ) (zs : List ℤ) → with_case t o zs ≡ with_value (option_map (λ (v : ℤ). convert v t) o) zs
-converted t None zs = refl
-converted t (Some v) zs = refl
-
-values : (t : IntType) (l : RawLabel) (rest : List RawLabel) → case_values t (l ∷ rest) ≡ with_value (value_of_case t l) (case_values t rest)
-values t label.Default rest = refl
-values t (label.Case e) rest = converted t (value_of_constant e) (case_values t rest)
+use Rattle.c_types_checks.specs.SwitchChecks.{case_values, are_distinct, value_of_case, none_passes, are_apart}
 
 sooner : (e b a m : Bool) → (not (cond e true b) && (not a && m)) ≡ (not (e || a) && (not b && m))
 sooner true true a m = refl
@@ -54,7 +38,7 @@ pub apart_added : (test new : ℤ → Bool) (t : IntType) (l : RawLabel) (rest :
     → is_new ≡ not (test z) → ((y : ℤ) → new y ≡ cond (int_eq z y) true (test y))
     → are_apart test (case_values t (l ∷ rest)) ≡ (is_new && are_apart new (case_values t rest))
 apart_added test new t l rest z is_new some is more =
-    ap (are_apart test) (values t l rest ∙ ap (λ (o : Option ℤ). with_value o (case_values t rest)) (sym some))
+    ap (λ (o : Option ℤ). are_apart test (cons_option o (case_values t rest))) (sym some)
     ∙ apart_more test new z more (case_values t rest) ∙ ap (λ (b : Bool). b && are_apart new (case_values t rest)) (sym is)
 
 none_there : (test : ℤ → Bool) → ((y : ℤ) → test y ≡ false) → (zs : List ℤ) → none_passes test zs ≡ true

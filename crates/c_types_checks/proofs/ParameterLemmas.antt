@@ -9,7 +9,8 @@ use Rattle.c_language.specs.Uses.{tags_in, is_library_name}
 use Rattle.c_language.specs.Words.{Bytes}
 use Rattle.c_types_base.specs.declared.fault.Fault.{Fault}
 use Rattle.c_types_checks.specs.Checking.{Verdict, kept, unless_broken, when_given, then_kept, all_kept, Decides}
-use Rattle.c_types_checks.specs.DeclarationChecks.{check_tag, check_taken, check_parameter}
+use Rattle.c_types_checks.specs.DeclarationChecks.{check_tag}
+use Rattle.c_types_checks.specs.HeadChecks.{check_taken, check_parameter}
 use Rattle.c_types_base.specs.Listing.{has_name}
 
 module _ (raw : RawProgram) (scope : Scope) (before : List RawParam) (p : RawParam) (name : Bytes) (is : p.name ≡ Some name)

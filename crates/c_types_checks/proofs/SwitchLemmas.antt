@@ -1,7 +1,7 @@
 -- The tests of the labels of a switch.
 use Rattle.std.proofs.Common.{◌≡◌, ◌<◌, ◌≤◌, ℤ, List, [], ◌∷◌, true, false, Option, Some, None, refl, sym, ap, subst, ◌∙◌, arith, inl, inr}
-use Rattle.std.specs.Prelude.{not, Contains}
-use Rattle.std.specs.List.{list_any}
+use Rattle.std.specs.Prelude.{not, Contains, option_map}
+use Rattle.std.specs.List.{list_any, cons_option}
 use Rattle.std.specs.Ordering.{int_eq}
 use Rattle.std.proofs.lemmas.Bool.Decides.{Decides-int_eq}
 use Rattle.std.proofs.lemmas.Bool.{not-true, not-false, and_cases, and_parts}
@@ -14,7 +14,7 @@ use Rattle.c_language.specs.ConstantEvaluation.{value_of_constant}
 use Rattle.c_language.specs.SwitchRules.{HasTwo, SameCase, BothDefault, same, both}
 use Rattle.c_language.specs.Uses.{cases}
 use Rattle.c_language.proofs.Lists.{contains_nil, contains_cons, contains_first, contains_later}
-use Rattle.c_types_checks.specs.CallChecks.{with_case, case_values, are_distinct, default_count}
+use Rattle.c_types_checks.specs.SwitchChecks.{case_values, are_distinct, default_count}
 use Rattle.c_types_base.proofs.PhraseLemmas.{clash}
 use Rattle.c_types_checks.proofs.TestLemmas.{any_passes, none_passes}
 
@@ -64,6 +64,9 @@ defaults_counted (l ∷ rest) (HasTwo.first c both) = let h = default_counted re
 defaults_counted (l ∷ rest) (HasTwo.later w) = let h = defaults_counted rest w in let k = no_less l rest in omega (arith, h, k)
 
 -- ---- equal cases
+
+abbrev with_case : IntType → Option ℤ → List ℤ → List ℤ
+with_case t o values = cons_option (option_map (λ (v : ℤ). convert v t) o) values
 
 -- a label has the value, once it is converted
 abbrev HasCase : IntType → List RawLabel → ℤ → Type 0

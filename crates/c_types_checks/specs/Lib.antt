@@ -1,9 +1,12 @@
+pub mod AllocationChecks
 pub mod CallChecks
 pub mod Checking
 pub mod Conversions
 pub mod DeclarationChecks
-pub mod Labels
+pub mod HeadChecks
+pub mod InitialiserChecks
 pub mod PhraseChecks
 pub mod Pointers
 pub mod Stands
+pub mod SwitchChecks
 pub mod Targets

@@ -5,8 +5,12 @@ use Rattle.c_tree.specs.declared.raw.program.RawProgram.{RawProgram}
 use Rattle.c_language.specs.Scopes.{Scope}
 use Rattle.c_language.specs.Phrases.{Part, NamesStruct, DefinesStruct, HasMember, DeclaresFunction, Takes, EndsFunction, Declares, Begins, Assigns, Bumps, Calls, Allocates, Tests, Switches, Returns}
 use Rattle.c_types_checks.specs.Checking.{Verdict, check_test, check_assignment, check_bump, check_return}
-use Rattle.c_types_checks.specs.DeclarationChecks.{check_tag, check_struct, check_member, check_prototype, check_definition, check_parameter, check_end, check_declared, check_begun}
-use Rattle.c_types_checks.specs.CallChecks.{check_call, check_allocation, check_switch}
+use Rattle.c_types_checks.specs.DeclarationChecks.{check_tag, check_struct, check_member, check_declared}
+use Rattle.c_types_checks.specs.HeadChecks.{check_prototype, check_definition, check_parameter, check_end}
+use Rattle.c_types_checks.specs.InitialiserChecks.{check_begun}
+use Rattle.c_types_checks.specs.CallChecks.{check_call}
+use Rattle.c_types_checks.specs.AllocationChecks.{check_allocation}
+use Rattle.c_types_checks.specs.SwitchChecks.{check_switch}
 
 module _ (raw : RawProgram) (scope : Scope) where
   -- a function's head, in a definition or not

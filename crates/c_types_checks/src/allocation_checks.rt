@@ -12,7 +12,7 @@ ghost use Rattle.c_language.specs.Scopes.{Scope};
 ghost use Rattle.c_language.specs.TypeGrammar.{named_type};
 ghost use Rattle.c_language.specs.Uses as uses;
 ghost use Rattle.c_types_base.specs.Tables.{scope_of, AreRight};
-ghost use Rattle.c_types_checks.specs.CallChecks as spec;
+ghost use Rattle.c_types_checks.specs.AllocationChecks as spec;
 ghost use Rattle.c_types_checks.specs.Checking.{Decides, all_kept, given_or, then_kept, when_given};
 ghost use Rattle.c_types_checks.specs.DeclarationChecks as checks;
 

@@ -14,7 +14,8 @@ ghost use Rattle.c_language.specs.Words.{Bytes};
 ghost use Rattle.c_types_base.specs.Listing as listing;
 ghost use Rattle.c_types_base.specs.Tables.{scope_of, AreRight};
 ghost use Rattle.c_types_checks.specs.Checking.{Decides, all_kept, given_or, kept, unless_broken};
-ghost use Rattle.c_types_checks.specs.DeclarationChecks as spec;
+ghost use Rattle.c_types_checks.specs.DeclarationChecks as checks;
+ghost use Rattle.c_types_checks.specs.HeadChecks as spec;
 
 use crate::checking::unless_broken;
 use crate::declaration_checks::{check_tags, is_library_name};
@@ -30,7 +31,7 @@ use std::alloc::{AllocError, Global};
 
 /// Whether a name is that of the function at which a program begins (5.1.2.2.1).
 pub fn is_main(name: &[u8]) -> bool
-    ensures { result ≡ spec.is_main name.now }
+    ensures { result ≡ rules.is_main name.now }
 {
     name == b"main".as_slice()
 }
@@ -38,7 +39,7 @@ pub fn is_main(name: &[u8]) -> bool
 /// The tags of a type, where there is one.
 pub fn check_tags_if(tables: &Tables<'_>, shape: &Option<RawType>) -> Result<(), Fault>
     requires { AreRight tables.now }
-    ensures { Decides (all_kept (spec.check_tag tables.now.raw.now (scope_of tables.now)) (uses.tags_if shape.now)) result }
+    ensures { Decides (all_kept (checks.check_tag tables.now.raw.now (scope_of tables.now)) (uses.tags_if shape.now)) result }
 {
     match shape {
         None => Ok(()),

@@ -5,15 +5,15 @@ ghost use Rattle.c_language.specs.Uses as uses;
 ghost use Rattle.c_language.specs.declared.expr_type.Operand.{Operand};
 ghost use Rattle.c_types_base.specs.Tables.{scope_of, AreRight};
 ghost use Rattle.c_types_checks.specs.Checking.{Decides, all_kept, judging, when_given};
-ghost use Rattle.c_types_checks.specs.DeclarationChecks as spec;
+ghost use Rattle.c_types_checks.specs.InitialiserChecks as spec;
 ghost use Rattle.c_types_checks.specs.Stands.{stand_of};
 
 use crate::checking::unless_broken;
 use crate::stand::Stand;
-use crate::switch_checks::value_of_constant;
 use crate::text::variable_type;
 use c_language::{ExprType, Layer, Operand};
 use c_tree::{RawExpr, RawInit, RawVar};
+use c_types_base::constant::value_of_constant;
 use c_types_base::expr_type::{copy, is_pointer, is_scalar};
 use c_types_base::fault::Fault;
 use c_types_base::judging::judge;

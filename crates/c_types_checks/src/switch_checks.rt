@@ -4,29 +4,21 @@ ghost use Rattle.std.specs.Borrow.{Bor};
 ghost use Rattle.std.specs.Ordering.{int_eq};
 ghost use Rattle.indexmap.specs.IndexSet.{contains};
 ghost use Rattle.c_tree.specs.declared.raw.statement.RawLabel.{RawLabel};
-ghost use Rattle.c_language.specs.ConstantEvaluation as constants;
-ghost use Rattle.c_types_checks.specs.CallChecks as spec;
+ghost use Rattle.c_types_checks.specs.SwitchChecks as spec;
+ghost use Rattle.c_types_checks.specs.SwitchChecks.{are_apart, is_default, value_of_case};
 ghost use Rattle.c_types_checks.specs.Checking.{Decides, all_kept};
-ghost use Rattle.c_types_checks.specs.Labels.{are_apart, is_default, value_of_case};
 ghost use Rattle.c_types_base.specs.Tables.{scope_of, AreRight};
 
 use crate::checking::{check_expr, unless_broken};
 use c_arith::{IntType, convert, promote};
 use c_tree::{RawExpr, RawLabel};
-use c_types_base::constant::constant;
+use c_types_base::constant::value_of_constant;
 use c_types_base::expr_type::integer_of;
 use c_types_base::fault::Fault;
 use c_types_base::judging::judge;
 use c_types_base::tables::Tables;
 use indexmap::IndexSet;
 use std::alloc::{AllocError, Global};
-
-/// The value of a constant expression, where it is one and has a value.
-pub fn value_of_constant(expr: &RawExpr) -> Option<i128>
-    ensures { result ≡ constants.value_of_constant expr.now }
-{
-    constant(expr)?.value
-}
 
 /// A label of a switch.
 fn check_label(alloc: Global, tables: &Tables<'_>, label: &RawLabel) -> Result<(), Fault>

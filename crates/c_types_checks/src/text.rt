@@ -4,7 +4,8 @@ ghost use Rattle.c_language.specs.CallRules.{head_around};
 ghost use Rattle.c_language.specs.DeclaredTypes as types;
 ghost use Rattle.c_language.specs.TypeGrammar.{named_type};
 ghost use Rattle.c_types_base.specs.Tables.{scope_of, AreRight};
-ghost use Rattle.c_types_checks.specs.DeclarationChecks as spec;
+ghost use Rattle.c_types_checks.specs.DeclarationChecks as declarations;
+ghost use Rattle.c_types_checks.specs.HeadChecks as heads;
 ghost use Rattle.c_types_checks.specs.Pointers.{pointers_to};
 
 use c_language::{ExprType, Layer};
@@ -52,7 +53,7 @@ pub fn head_around<'a>(tables: &'a Tables<'_>) -> Option<&'a RawHead>
 /// Whether a struct type that is complete has the tag.
 pub fn is_complete_tag(tables: &Tables<'_>, tag: &[u8]) -> bool
     requires { AreRight tables.now }
-    ensures { result ≡ spec.is_complete_tag tables.now.raw.now (scope_of tables.now) tag.now }
+    ensures { result ≡ declarations.is_complete_tag tables.now.raw.now (scope_of tables.now) tag.now }
 {
     match struct_id(tables, tag) {
         None => false,
@@ -63,7 +64,7 @@ pub fn is_complete_tag(tables: &Tables<'_>, tag: &[u8]) -> bool
 /// Whether a function that is defined before the place has the name.
 pub fn is_defined_before(tables: &Tables<'_>, name: &[u8]) -> bool
     requires { AreRight tables.now }
-    ensures { result ≡ spec.is_defined_before tables.now.raw.now (scope_of tables.now) name.now }
+    ensures { result ≡ heads.is_defined_before tables.now.raw.now (scope_of tables.now) name.now }
 {
     match function_id(tables, name) {
         None => false,

@@ -1,5 +1,6 @@
 -- The phrases of a text of the grammar have the forms that tokens give them; those that keep the rules fit.
 use Rattle.std.proofs.Common.{◌≡◌, ℕ, List, [], ◌∷◌, ◌++◌, map, Bool, true, false, Option, Some, None, sym, subst}
+use Rattle.c_language.proofs.PhraseLists.{phrases_kept}
 use Rattle.c_tree.specs.declared.raw.expr.RawExpr.{RawExpr}
 use Rattle.c_tree.specs.declared.raw.expr.RawType.{RawType}
 use Rattle.c_tree.specs.declared.raw.expr.RawVar.{RawVar}
@@ -32,7 +33,6 @@ use Rattle.c_language.proofs.ScopedForms.{scoped-Declare, scoped-Assign, scoped-
 use Rattle.c_types_trees.specs.FitPhrases.{IsAllocation, IsFormed, AreFit}
 use Rattle.c_types_trees.specs.KeptPhrases.{HasNoLengthIf}
 use Rattle.c_types_program.proofs.GrammarTrees.{heap_plain, head_plain}
-use Rattle.c_types_program.proofs.RuleLaws.{phrases_kept}
 use Rattle.c_types_program.proofs.StatementForms.{scoped_part, scoped-For, scoped-arm}
 
 abbrev AreFormed : Phrases → Type 0

@@ -12,7 +12,8 @@ use Rattle.c_tree.specs.declared.types.CType.{CType}
 use Rattle.c_language.specs.ConstantEvaluation.{both}
 use Rattle.c_language.specs.DeclaredTypes.{type_with}
 use Rattle.c_language.specs.Phrases.{InHead, InBlock, DeclaresFunction, EndsFunction, Declares, Phrases, phrase, joined_at, scoped, parameter_phrases, head_phrases, item_phrases}
-use Rattle.c_language.specs.ProgramOf.{collected, ctype_with, ctype_if, treed, body_of, parameter_ids, variables_in}
+use Rattle.c_language.specs.ProgramOf.{collected, ctype_with, ctype_if, treed, body_of, parameter_ids, variable_with, variables_in}
+use Rattle.c_language.specs.Rules.{BreaksNone}
 use Rattle.c_language.specs.Scopes.{Scope, Meaning, meaning_in, with_entry, with_function, with_named, with_parameters, parameter_of, entered, in_order, after_all}
 use Rattle.c_language.specs.Words.{Bytes}
 use Rattle.c_language.proofs.PhraseLists.{variables-append}
@@ -23,9 +24,10 @@ use Rattle.c_types_base.specs.Stretches.{Stretch, then_comes, of_parameter, of_p
 use Rattle.c_types_base.proofs.TextSteps.{parameters_here, define_phrases, define_after, begins_at}
 use Rattle.c_types_base.proofs.Stretching.{parameters_grow, statements_grow}
 use Rattle.c_types_program.specs.declared.walk.Walk.{Walk}
-use Rattle.c_types_trees.specs.KeptPhrases.{HasNoLengthIf, IsKept, IsKeptHead}
+use Rattle.c_types_trees.specs.KeptPhrases.{HasNoLengthIf, IsKeptHead}
 use Rattle.c_types_trees.specs.FitPhrases.{AreFit, IsFit, AreFitInside}
-use Rattle.c_types_program.specs.Statements.{Grow, Comes, FitAll, HaveTrees, PassesAll, variable_with}
+use Rattle.c_types_program.specs.Statements.{Comes, FitAll, HaveTrees, PassesAll}
+use Rattle.c_types_program.specs.Variables.{Grow}
 use Rattle.c_types_program.specs.Items.{FitsStretch, PassesStretch, HasBody, HasFunction}
 use Rattle.c_types_program.proofs.Growing.{grow_none, grow_then, fit_both}
 use Rattle.c_types_program.proofs.Passing.{cut, cut_closes}
@@ -50,7 +52,7 @@ module _ (w : Walk) (p : RawParam) where
   parameter_unnamed is = subst (λ o. Comes w w (with_named raw_of p o begin) (variables_in raw_of (parameter_phrases raw_of p o begin))) (sym is) (stays_here w)
 
   module _ (name : Bytes) (is : p.name ≡ Some name) where
-    declares : FitsStretch (of_parameter p) w → IsKept raw_of begin (Declares InHead (parameter_of p name) init.None)
+    declares : FitsStretch (of_parameter p) w → BreaksNone raw_of begin (Declares InHead (parameter_of p name) init.None)
     declares h = (subst (λ o. AreFit raw_of (parameter_phrases raw_of p o begin)) is h).0.kept
 
     pub parameter_fresh : FitsStretch (of_parameter p) w → meaning_in begin name ≡ None
@@ -161,7 +163,7 @@ module _ (w : Walk) (right : AreRight w.tables) (line : ℕ) (head : RawHead) (b
     definition_plain = opened_fit.0.formed
 
     pub definition_head : IsKeptHead w.tables.defined.raw.now head
-    definition_head = record { scope = before; is_definition = true; kept = subst (λ r. IsKept r before (DeclaresFunction head true)) (sym right.text) opened_fit.0.kept }
+    definition_head = record { scope = before; is_definition = true; kept = subst (λ r. BreaksNone r before (DeclaresFunction head true)) (sym right.text) opened_fit.0.kept }
 
     module _ (u : Walk) (name : Bytes) (same : name ≡ head.name) (at : IsAt w.tables u.tables (with_function name before)) where
       abbrev named : Stands source declared u.tables

@@ -1,14 +1,11 @@
 -- The statements that the tokens of a text make have their trees where their phrases keep their rules.
-use Rattle.std.proofs.Common.{◌≡◌, ℕ, Bool, true, false, List, [], ◌∷◌, ◌++◌, map, Option, Some, None, sym, ap, subst, ◌∙◌}
+use Rattle.std.proofs.Common.{◌≡◌, ℕ, Bool, true, false, List, [], ◌∷◌, ◌++◌, map, Option, Some, None, sym, subst}
 use Rattle.c_tree.specs.declared.raw.program.RawHead.{RawHead}
 use Rattle.c_language.specs.ItemGrammar.{IsResult, IsHead}
-use Rattle.c_arith.specs.declared.int_type.IntType.{IntType}
 use Rattle.c_arith.specs.declared.operators.BinaryOp.{BinaryOp}
 use Rattle.c_tree.specs.declared.statement.Statement.{Statement}
 use Rattle.c_tree.specs.declared.raw.expr.RawExpr.{RawExpr}
-use Rattle.c_tree.specs.declared.raw.expr.RawType.{RawType, fold-roll-RawType}
-use Rattle.c_tree.specs.declared.raw.expr.RawType.TheOpen.{RawType-F}
-use Rattle.c_tree.specs.declared.raw.expr.RawType.TheVariants as type
+use Rattle.c_tree.specs.declared.raw.expr.RawType.{RawType}
 use Rattle.c_tree.specs.declared.raw.expr.RawVar.{RawVar}
 use Rattle.c_tree.specs.declared.raw.program.RawInit.{RawInit}
 use Rattle.c_tree.specs.declared.raw.program.RawInit.TheVariants as init
@@ -29,12 +26,11 @@ use Rattle.c_language.specs.DeclaredTypes.{defined_structs}
 use Rattle.c_language.specs.Scopes.{Scoped}
 use Rattle.c_language.specs.Phrases.{Stand, Phrases, scoped_arm, scoped, scoped_of_arm}
 use Rattle.c_language.specs.ProgramOf.{treed, treed_arm}
-use Rattle.c_language.specs.Uses.{lengths_in, lengths_step}
-use Rattle.c_language.specs.TypeGrammar.{IsBase, IsStars, IsTypeName, NamesType}
+use Rattle.c_language.specs.TypeGrammar.{NamesType}
 use Rattle.c_language.specs.StatementGrammar.{arm, IsSeparated, IsSize, IsAmount, IsMalloc, IsHeap, IsSimple, IsDeclared, AreDeclared, IsDeclaration, IsInit, IsStep, IsStatement, AreStatements, IsBody, IsElse, AreArms}
 use Rattle.c_language.proofs.ScopedForms.{scoped-Declare, scoped-Assign, scoped-Bump, scoped-Call, scoped-Heap, scoped-If, scoped-While, scoped-Do, scoped-Switch, scoped-Block, scoped-Return}
 use Rattle.c_language.proofs.TreedForms.{treed-Declare, treed-Assign, treed-Bump, treed-Call, treed-Heap, treed-If, treed-While, treed-Do, treed-Switch, treed-Block, treed-Return}
-use Rattle.c_language.proofs.UseLemmas.{lengths-PointerTo}
+use Rattle.c_language.proofs.PlainTypes.{has_no_length, base_plain, name_plain}
 use Rattle.c_types_trees.proofs.ScopeLemmas.{AreComplete}
 use Rattle.c_types_trees.specs.KeptPhrases.{HasNoLength, IsPlainName, IsPlainSize, IsPlainAmount, HasNoLengthIf}
 use Rattle.c_types_trees.specs.FitPhrases.{IsAllocation}
@@ -43,32 +39,15 @@ use Rattle.c_types_program.proofs.TreedStatements.{IsTreed, AreTreed, IsTreedIf,
 
 -- ---- types
 
-lengths-Integer : (t : IntType) → HasNoLength (type.Integer t)
-lengths-Integer t = ap lengths_in (sym (type.rolls-Integer t)) ∙ fold-roll-RawType (List RawExpr) lengths_step (RawType-F.Integer t)
-
-lengths-Struct : (tag : Bytes) → HasNoLength (type.Struct tag)
-lengths-Struct tag = ap lengths_in (sym (type.rolls-Struct tag)) ∙ fold-roll-RawType (List RawExpr) lengths_step (RawType-F.Struct tag)
-
-base_plain : {ts rest : Tokens} {t : RawType} → IsBase ts t rest → HasNoLength t
-base_plain (IsBase.structure {tag} h) = lengths-Struct tag
-base_plain (IsBase.integer {t} h) = lengths-Integer t
-
-stars_plain : {ts rest : Tokens} {a b : RawType} → IsStars ts a b rest → HasNoLength a → HasNoLength b
-stars_plain (IsStars.done h) plain = plain
-stars_plain (IsStars.star {a} h) plain = stars_plain h (lengths-PointerTo a ∙ plain)
-
-pub name_plain : {ts rest : Tokens} {t : RawType} → IsTypeName ts t rest → HasNoLength t
-name_plain (IsTypeName.pointed base stars) = stars_plain stars (base_plain base)
-
 result_plain : {ts rest : Tokens} {t : Option RawType} → IsResult ts t rest → HasNoLengthIf t
 result_plain IsResult.nothing = tt
-result_plain (IsResult.some h) = name_plain h
+result_plain (IsResult.some h) = has_no_length (name_plain h)
 
 pub head_plain : {ts rest : Tokens} {head : RawHead} → IsHead ts head rest → HasNoLengthIf head.result
 head_plain (IsHead.head is_static result keyword params) = result_plain result
 
 named_plain : {ts rest : Tokens} {t : RawTypeName} → NamesType ts t rest → HasNoLength t.base
-named_plain (NamesType.starred base stars) = base_plain base
+named_plain (NamesType.starred base stars) = has_no_length (base_plain base)
 
 -- ---- allocations
 

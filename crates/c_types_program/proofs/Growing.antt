@@ -5,7 +5,7 @@ use Rattle.c_tree.specs.declared.raw.program.RawProgram.{RawProgram}
 use Rattle.c_language.specs.Phrases.{Phrases}
 use Rattle.c_types_program.specs.declared.variables.Variables.{Variables}
 use Rattle.c_types_trees.specs.FitPhrases.{AreFit}
-use Rattle.c_types_program.specs.Statements.{AreMade, Grow}
+use Rattle.c_types_program.specs.Variables.{AreMade, Grow}
 
 pub grow_none : (a : Variables) → Grow a a []
 grow_none a found h = subst (AreMade a) (sym (append-nil found)) h

@@ -2,6 +2,7 @@
 use Rattle.std.proofs.Common.{◌≡◌, ℕ, ◌+◌, ◌<◌, ◌≤◌, List, [], ◌∷◌, ◌++◌, length, drop, get_or, map, Bool, false, Option, Some, None, option_map, append_assoc, append-nil, refl, sym, ap, subst, ◌∙◌}
 use Rattle.std.specs.Prelude.{vec_len, bytes_eq}
 use Rattle.std.proofs.lemmas.List.{map-append, drop_all}
+use Rattle.c_language.proofs.PhraseLists.{begun_nothing, members_declare, taken_declare}
 use Rattle.c_tree.specs.declared.program.Function.{Function}
 use Rattle.c_tree.specs.declared.program.Init.{Init}
 use Rattle.c_tree.specs.declared.program.Item.{Item}
@@ -15,10 +16,10 @@ use Rattle.c_tree.specs.declared.raw.program.RawParam.{RawParam}
 use Rattle.c_tree.specs.declared.raw.program.RawProgram.{RawProgram}
 use Rattle.c_tree.specs.declared.raw.expr.RawVar.{RawVar}
 use Rattle.c_tree.specs.declared.raw.statement.RawStatement.{RawStatement}
-use Rattle.c_language.specs.DeclaredTypes.{defined_functions, definition_of, struct_id, function_id, type_with, item_count, structs_of}
+use Rattle.c_language.specs.DeclaredTypes.{defined_functions, definition_of, struct_id, function_id, type_with, item_count, struct_texts}
 use Rattle.c_language.specs.NameRules.{LacksDefinition}
-use Rattle.c_language.specs.Phrases.{InFile, NamesStruct, member_phrases, taken_phrases, after_item}
-use Rattle.c_language.specs.ProgramOf.{collected, ctype_with, init_of, variable_of, variables_in, item_tree, items_from, functions_from}
+use Rattle.c_language.specs.Phrases.{InFile, NamesStruct, after_item}
+use Rattle.c_language.specs.ProgramOf.{collected, ctype_with, init_of, variable_with, variable_of, item_tree, items_from, functions_from}
 use Rattle.c_language.specs.Rules.{no_definition}
 use Rattle.c_language.specs.Scopes.{Scope, Meaning, meaning_in, with_entry, with_variable, with_function}
 use Rattle.c_language.specs.Words.{Bytes}
@@ -30,25 +31,17 @@ use Rattle.c_types_base.specs.Stretches.{then_comes, nothing, of_item, of_items}
 use Rattle.c_types_base.proofs.ListingLaws.{item_outer, item_structs}
 use Rattle.c_types_program.specs.declared.walk.Walk.{Walk}
 use Rattle.c_types_trees.specs.KeptPhrases.{IsKeptInit}
-use Rattle.c_types_program.specs.Statements.{Grow, Comes, variable_with}
-use Rattle.c_types_program.specs.Items.{FitsStretch, PassesStretch, HasFunction, HasItem, AddsFunction, HasItems, HasFunctions, AreKeptMembers}
-use Rattle.c_types_trees.proofs.OptionPaths.{given_some}
+use Rattle.c_types_program.specs.Statements.{Comes}
+use Rattle.c_types_program.specs.Variables.{Grow}
+use Rattle.c_types_program.specs.Items.{FitsStretch, PassesStretch, HasFunction, HasItem, AddsFunction, HasItems, HasFunctions, AreFitMembers}
+use Rattle.c_types_trees.proofs.Collected.{given_some}
 use Rattle.c_types_program.proofs.Passing.{same_variables}
 use Rattle.c_types_trees.proofs.PhraseTrees.{tag_defined}
 use Rattle.c_types_program.proofs.Progress.{Place, left_as, next_fits, comes_on, all_gone}
-use Rattle.c_types_program.proofs.SimpleForms.{declares_fresh, declares_typed, declares_shaped, begun_kept, begun_nothing}
+use Rattle.c_types_program.proofs.SimpleForms.{declares_fresh, declares_typed, declares_shaped, begun_kept}
 use Rattle.c_types_program.proofs.Standing.{Stands, here, told, given, goes}
 use Rattle.c_types_program.proofs.Turns.{collected_made}
 use Rattle.c_language.specs.Options.{IsThere}
-
--- members and parameters of a prototype declare no variables
-members_declare : (raw : RawProgram) (scope : Scope) (before ms : List RawMember) → variables_in raw (member_phrases scope before ms) ≡ []
-members_declare raw scope before [] = refl
-members_declare raw scope before (m ∷ ms) = members_declare raw scope (before ++ m ∷ []) ms
-
-taken_declare : (raw : RawProgram) (scope : Scope) (before ps : List RawParam) → variables_in raw (taken_phrases scope before ps) ≡ []
-taken_declare raw scope before [] = refl
-taken_declare raw scope before (p ∷ ps) = taken_declare raw scope (before ++ p ∷ []) ps
 
 module _ (w : Walk) (right : AreRight w.tables) (line : ℕ) where
   abbrev raw_of : RawProgram
@@ -70,7 +63,7 @@ module _ (w : Walk) (right : AreRight w.tables) (line : ℕ) where
   -- ---- a struct type
 
   module _ (tag : Bytes) (ms : List RawMember) (h : FitsStretch (of_item (Struct line tag ms)) w) where
-    pub structure_kept : AreKeptMembers raw_of ms
+    pub structure_kept : AreFitMembers raw_of ms
     structure_kept = record { scope = begin; fit = h.1 }
 
   pub structure_passes : (tag : Bytes) (ms : List RawMember) (v : Walk) → IsAt w.tables v.tables (record begin { structs = vec_len w.tables.structs + 1 }) → v.variables ≡ w.variables
@@ -211,7 +204,7 @@ module _ {whole rest : List RawItem} {raw : RawProgram} {scope : Scope} {old new
       }
 
   -- the count of struct types and the place of names go on
-  pub counted_on : (later : Walk) → PassesStretch (of_item one) new later → (scope_of later.tables).structs ≡ (scope_of new.tables).structs + length (structs_of (one ∷ []))
+  pub counted_on : (later : Walk) → PassesStretch (of_item one) new later → (scope_of later.tables).structs ≡ (scope_of new.tables).structs + length (struct_texts (one ∷ []))
   counted_on later passes = ap (λ (x : Scope). x.structs) passes.arrives.scope_is ∙ item_structs new.tables.raw.now (scope_of new.tables) one
 
   pub outside_on : (later : Walk) → PassesStretch (of_item one) new later → new.tables.outer ≡ 0 → later.tables.outer ≡ 0

@@ -8,7 +8,6 @@ pub mod PassingLoops
 pub mod ProgramSteps
 pub mod ProgramTrees
 pub mod Progress
-pub mod RuleLaws
 pub mod SimpleForms
 pub mod Sizes
 pub mod Standing

@@ -9,6 +9,7 @@ use Rattle.c_tree.specs.declared.raw.statement.RawArm.{RawArm}
 use Rattle.c_tree.specs.declared.raw.statement.RawStatement.{RawStatement}
 use Rattle.c_tree.specs.declared.raw.statement.RawStatement.TheVariants as s
 use Rattle.c_language.specs.ConstantEvaluation.{both}
+use Rattle.c_language.specs.Rules.{BreaksNone}
 use Rattle.c_language.specs.Scopes.{Scope, Scoped, opened, closed, numbered, in_order, after_all, after_block, after_part, part_gives}
 use Rattle.c_language.specs.Phrases.{Stand, InBlock, Tests, Phrases, phrase, ArmText, joined_at, block_phrases, at_stand, scoped, scoped_of_arm, IsInside}
 use Rattle.c_language.specs.ProgramOf.{collected, expr_of, ArmTree, arm_tree_step, tree_step, treed, block_tree, part_tree, variables_in, treed_arm}
@@ -19,9 +20,9 @@ use Rattle.c_language.proofs.TreeScopes.{list_after, block_after_same}
 use Rattle.c_types_base.specs.Tables.{scope_of, AreRight, IsAt}
 use Rattle.c_types_base.proofs.ScopeLaws.{Extends, stays, then_extends, front, block_extends, statement_grows}
 use Rattle.c_types_program.specs.declared.walk.Walk.{Walk}
-use Rattle.c_types_trees.specs.KeptPhrases.{IsKept}
 use Rattle.c_types_trees.specs.FitPhrases.{AreFit, AreFitInside, IsFitPart}
-use Rattle.c_types_program.specs.Statements.{Grow, Comes, Fits, HasTree, Passes, FitAll, HaveTrees, PassesAll, FitsBlock, HasBlock, PassesBlock, FitsPart, HasPart, PassesPart}
+use Rattle.c_types_program.specs.Statements.{Comes, Fits, HasTree, Passes, FitAll, HaveTrees, PassesAll, FitsBlock, HasBlock, PassesBlock, FitsPart, HasPart, PassesPart}
+use Rattle.c_types_program.specs.Variables.{Grow}
 use Rattle.c_types_program.proofs.Growing.{grow_none, grow_then, fit_both}
 use Rattle.c_types_program.proofs.Standing.{Stands, here, told, given, goes, came}
 use Rattle.c_types_program.proofs.StatementForms.{treed-arm, scoped-arm}
@@ -110,8 +111,8 @@ module _ {raw : RawProgram} {scope : Scope} (w : Walk) (stands : StandsAt raw sc
   pub block_grows : (v : Walk) (body : List RawStatement) → PassesBlock w v body → Grow w.variables v.variables (variables_in raw (block_phrases (map (scoped raw) body) scope))
   block_grows v body passes = told (λ r x. Grow w.variables v.variables (variables_in r (block_phrases (map (scoped r) body) x))) stands passes.grow
 
-  pub test_given : (e : RawExpr) → IsKept raw scope (Tests e) → IsKept w.tables.raw.now (scope_of w.tables) (Tests e)
-  test_given e = given (λ r x. IsKept r x (Tests e)) stands
+  pub test_given : (e : RawExpr) → BreaksNone raw scope (Tests e) → BreaksNone w.tables.raw.now (scope_of w.tables) (Tests e)
+  test_given e = given (λ r x. BreaksNone r x (Tests e)) stands
 
   pub test_told : (e : RawExpr) (x : Expr) → expr_of w.tables.raw.now (scope_of w.tables) e ≡ Some x → expr_of raw scope e ≡ Some x
   test_told e x = told (λ r y. expr_of r y e ≡ Some x) stands
@@ -185,10 +186,10 @@ module _ (w : Walk) (right : AreRight w.tables) (body : List RawStatement) where
     do_phrases : Fits w (s.Do l e body) → AreFit raw_here (phrase l scope_here (Tests e) ∷ block_phrases (map (scoped raw_here) body) (numbered scope_here))
     do_phrases h = fits_as w (s.Do l e body) _ (scoped-Do raw_here l e body) h
 
-    pub while_test : Fits w (s.While l e body) → IsKept raw_here scope_here (Tests e)
+    pub while_test : Fits w (s.While l e body) → BreaksNone raw_here scope_here (Tests e)
     while_test h = (while_phrases h).0.kept
 
-    pub do_test : Fits w (s.Do l e body) → IsKept raw_here scope_here (Tests e)
+    pub do_test : Fits w (s.Do l e body) → BreaksNone raw_here scope_here (Tests e)
     do_test h = (do_phrases h).0.kept
 
     module _ (u : Walk) (is : IsAt w.tables u.tables (numbered scope_here)) where
@@ -246,7 +247,7 @@ module _ (w : Walk) (right : AreRight w.tables) (l : ℕ) (e : RawExpr) (a b : L
       → AreFit raw_of (phrase l begin (Tests e) ∷ (block_phrases (map (scoped raw_of) a) (numbered begin) ++ block_phrases (map (scoped raw_of) b) (after_block (map (scoped raw_of) a) (numbered begin))))
   if_phrases h = fits_as w (s.If l e a b) _ (scoped-If raw_of l e a b) h
 
-  pub if_test : Fits w (s.If l e a b) → IsKept raw_of begin (Tests e)
+  pub if_test : Fits w (s.If l e a b) → BreaksNone raw_of begin (Tests e)
   if_test h = (if_phrases h).0.kept
 
   if_parts : Fits w (s.If l e a b)

@@ -13,6 +13,7 @@ use Rattle.c_tree.specs.declared.raw.statement.RawStatement.{RawStatement}
 use Rattle.c_tree.specs.declared.raw.statement.RawStatement.TheOpen.{RawStatement-F}
 use Rattle.c_tree.specs.declared.raw.statement.RawStatement.TheVariants as s
 use Rattle.c_language.specs.ConstantEvaluation.{both}
+use Rattle.c_language.specs.Rules.{BreaksNone}
 use Rattle.c_language.specs.Scopes.{Scope, Scoped, opened, numbered, in_order, after_all, after_block, after_part, part_gives, scope_of_test, scope_of_body}
 use Rattle.c_language.specs.Phrases.{Stand, InFor, InBlock, InArm, Tests, Switches, Phrases, phrase, ArmText, joined_at, block_phrases, at_stand, labels_of, phrases_of_arms, scoped_step, scoped, scoped_of_arm, IsInside}
 use Rattle.c_language.specs.ProgramOf.{collected, label_tree, arm_tree, expr_of, switch_type, ArmTree, for_tree, at_type, treed, variables_in, treed_arm}
@@ -23,9 +24,10 @@ use Rattle.c_language.proofs.TreeScopes.{part_after}
 use Rattle.c_types_base.specs.Tables.{scope_of, AreRight, IsAt}
 use Rattle.c_types_base.proofs.ScopeLaws.{Extends, then_extends, front}
 use Rattle.c_types_program.specs.declared.walk.Walk.{Walk}
-use Rattle.c_types_trees.specs.KeptPhrases.{IsKept, IsKeptSwitch}
+use Rattle.c_types_trees.specs.KeptPhrases.{IsKeptSwitch}
 use Rattle.c_types_trees.specs.FitPhrases.{AreFit, IsFitPart}
-use Rattle.c_types_program.specs.Statements.{Grow, Comes, Fits, HasTree, Passes, FitAll, HaveTrees, PassesAll, FitsBlock, HasBlock, PassesBlock, FitsPart, HasPart, PassesPart, AreLabels, arm_text, arm_texts, HasArm, PassesArm, HaveArms, PassesArms}
+use Rattle.c_types_program.specs.Statements.{Comes, Fits, HasTree, Passes, FitAll, HaveTrees, PassesAll, FitsBlock, HasBlock, PassesBlock, FitsPart, HasPart, PassesPart, AreLabels, arm_text, arm_texts, HasArm, PassesArm, HaveArms, PassesArms}
+use Rattle.c_types_program.specs.Variables.{Grow}
 use Rattle.c_types_program.proofs.Growing.{grow_then, fit_both}
 use Rattle.c_types_program.proofs.Passing.{part_extends, body_extends, arms_extend, cut, cut_closes, fits_as, tree_as, passes_as, StandsAt, block_given, block_told, block_goes, block_grows, test_given, test_told, part_given, part_told, part_goes, part_grows}
 use Rattle.c_types_program.proofs.Standing.{here, told, given, goes, came}
@@ -103,7 +105,7 @@ module _ (w : Walk) (right : AreRight w.tables) (l : ℕ) (i : Option RawStateme
       abbrev testing : StandsAt raw at_test x
       testing = part_goes v ready x i first
 
-      pub for_test : Fits w (s.For l i e step b) → IsKept x.tables.raw.now (scope_of x.tables) (Tests e)
+      pub for_test : Fits w (s.For l i e step b) → BreaksNone x.tables.raw.now (scope_of x.tables) (Tests e)
       for_test h = test_given x testing e (for_parts h).1.0.kept
 
       pub for_right : AreRight x.tables

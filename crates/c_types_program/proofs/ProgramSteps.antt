@@ -20,7 +20,7 @@ use Rattle.c_language.specs.Limits.{longest, longest_member, longest_in_structs,
 use Rattle.c_language.specs.Phrases.{phrases, item_phrases, items_phrases, after_item, member_phrases, scope_at_end}
 use Rattle.c_language.specs.ProgramOf.{collected, variables_in, variables_of, member_tree, struct_tree, structs_of, functions_of, functions_from, items_of, items_from, program_with, program_of}
 use Rattle.c_language.specs.Scopes.{Scope, outset}
-use Rattle.c_language.proofs.Options.{some_same, none_there, map_some}
+use Rattle.c_language.proofs.Options.{none_there, some_same, map_there}
 use Rattle.c_language.proofs.Lists.{contains_nil, contains_cons}
 use Rattle.c_types_base.specs.Tables.{scope_of, AreRight}
 use Rattle.c_types_base.specs.Stretches.{of_items}
@@ -28,22 +28,22 @@ use Rattle.c_types_trees.specs.declared.make_fault.MakeFault.{MakeFault}
 use Rattle.c_types_trees.specs.declared.make_fault.MakeFault.TheVariants.{Length, NoMemory}
 use Rattle.c_types_program.specs.declared.walk.Walk.{Walk}
 use Rattle.c_types_trees.specs.FitPhrases.{AreFit}
-use Rattle.c_types_program.specs.Statements.{HasLong, AreMade}
-use Rattle.c_types_program.specs.Items.{FitsStretch, PassesStretch, HasItems, HasFunctions, AreKeptMembers, AreKeptStructs, HasLongMember, HasLongStruct, MakesStructs, MakesProgram}
+use Rattle.c_types_program.specs.Variables.{HasLong, AreMade}
+use Rattle.c_types_program.specs.Items.{FitsStretch, PassesStretch, HasItems, HasFunctions, AreFitMembers, AreFitStructs, HasLongMember, HasLongStruct, MakesStructs, MakesProgram}
 use Rattle.c_types_program.proofs.Growing.{fit_both}
 use Rattle.c_types_program.proofs.Turns.{collected_made}
 
 -- ---- struct types
 
 -- the members of each struct type that items define keep the rules
-pub structs_kept : (raw : RawProgram) (items : List RawItem) (scope : Scope) → AreFit raw (items_phrases raw items scope) → AreKeptStructs raw items
+pub structs_kept : (raw : RawProgram) (items : List RawItem) (scope : Scope) → AreFit raw (items_phrases raw items scope) → AreFitStructs raw items
 structs_kept raw [] scope h = λ d c. absurd (contains_nil d c)
 structs_kept raw (Include is_stdlib ∷ rest) scope h = structs_kept raw rest scope h
 structs_kept raw (Tag line tag ∷ rest) scope h = structs_kept raw rest scope h.1
 structs_kept raw (Struct line tag members ∷ rest) scope h =
     let parts = fit_both raw (member_phrases scope [] members) (items_phrases raw rest (after_item raw (Struct line tag members) scope)) h.1 in
-    λ d c. elim (contains_cons (record { tag = tag; members = members }) d (declared.structs_of rest) c) [
-      | inl is ↦ subst (λ (t : StructText). AreKeptMembers raw t.members) is (record { scope = scope; fit = parts.0 })
+    λ d c. elim (contains_cons (record { tag = tag; members = members }) d (declared.struct_texts rest) c) [
+      | inl is ↦ subst (λ (t : StructText). AreFitMembers raw t.members) is (record { scope = scope; fit = parts.0 })
       | inr c ↦ structs_kept raw rest (after_item raw (Struct line tag members) scope) parts.1 d c
     ]
 structs_kept raw (Global line var i is_static ∷ rest) scope h =
@@ -99,8 +99,8 @@ module _ (raw : RawProgram) where
 
   long_struct : (d : StructText) → HasLongMember raw d.members → (y : StructDef) → struct_tree raw d ≡ Some y → 4294967296 ≤ longest_member y.members
   long_struct d h y is =
-      let p = map_some (λ (ms : List Member). record { name = d.tag; members = ms }) (collected (map (member_tree raw) d.members)) y is in
-      subst (λ (z : StructDef). 4294967296 ≤ longest_member z.members) (sym p.2) (long_members d.members h p.0 p.1)
+      let p = map_there (λ (ms : List Member). record { name = d.tag; members = ms }) (collected (map (member_tree raw) d.members)) y is in
+      subst (λ (z : StructDef). 4294967296 ≤ longest_member z.members) p.same (long_members d.members h p.value p.there)
 
   long_structs : HasLongStruct raw raw.items → (out : List StructDef) → structs_of raw ≡ Some out → 4294967296 ≤ longest_in_structs out
   long_structs h out is =
@@ -197,10 +197,10 @@ module _ (raw : RawProgram) (w : Walk) (text : w.tables.raw.now ≡ raw) (start 
     defined_text right = (walk_right right).text ∙ walk_text
 
     module _ (right : AreRight w.tables) (items : List RawItem) (again : items ≡ raw.items) where
-      pub walk_structs : AreFit raw (phrases raw) → AreKeptStructs v.tables.defined.raw.now items
+      pub walk_structs : AreFit raw (phrases raw) → AreFitStructs v.tables.defined.raw.now items
       walk_structs h =
-          subst (λ (xs : List RawItem). AreKeptStructs v.tables.defined.raw.now xs) (sym again)
-          (subst (λ (r : RawProgram). AreKeptStructs r raw.items) (sym (defined_text right)) (structs_kept raw raw.items outset h))
+          subst (λ (xs : List RawItem). AreFitStructs v.tables.defined.raw.now xs) (sym again)
+          (subst (λ (r : RawProgram). AreFitStructs r raw.items) (sym (defined_text right)) (structs_kept raw raw.items outset h))
 
       structs_told : (r : Result (List StructDef) MakeFault) → MakesStructs v.tables.defined.raw.now items r → MakesStructs raw raw.items r
       structs_told r h =

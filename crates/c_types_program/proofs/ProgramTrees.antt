@@ -1,6 +1,7 @@
 -- A text that keeps all rules has a program.
-use Rattle.std.proofs.Common.{◌≡◌, ℕ, List, [], ◌∷◌, ◌++◌, map, Bool, true, Option, Some, None, refl, ap, subst}
+use Rattle.std.proofs.Common.{ℕ, List, [], ◌∷◌, ◌++◌, map, Bool, true, Option, Some, None, subst}
 use Rattle.std.specs.Prelude.{bytes_eq}
+use Rattle.c_language.proofs.PhraseLists.{body_in_order, kept_both, phrases_kept}
 use Rattle.c_tree.specs.declared.program.Item.TheVariants as item
 use Rattle.c_tree.specs.declared.program.Program.{Program}
 use Rattle.c_tree.specs.declared.raw.expr.RawType.{RawType}
@@ -18,20 +19,19 @@ use Rattle.c_language.specs.DeclaredTypes.{StructText, defined_structs, defined_
 use Rattle.c_language.specs.DeclaredTypes as declared
 use Rattle.c_language.specs.ItemGrammar.{IsGlobal, AreGlobals, IsItem, AreItems, IsProgram}
 use Rattle.c_language.specs.StatementGrammar.{IsSeparated}
-use Rattle.c_language.specs.Scopes.{Scope, outset, with_variable, with_named, with_parameters, scope_of_parameters, entered, parameter_of, in_order}
-use Rattle.c_language.specs.Phrases.{InFile, InHead, InBlock, Part, NamesStruct, DefinesStruct, HasMember, DeclaresFunction, Takes, EndsFunction, Declares, Begins, Assigns, Bumps, Calls, Allocates, Tests, Switches, Returns, Phrases, phrase, joined_at, scoped, body_phrases, member_phrases, parameter_phrases, head_phrases, item_phrases, items_phrases, after_item, phrases, scope_at_end}
+use Rattle.c_language.specs.Scopes.{Scope, outset, with_variable, with_named, with_parameters, scope_of_parameters, entered, parameter_of}
+use Rattle.c_language.specs.Phrases.{InFile, InHead, InBlock, Part, NamesStruct, DefinesStruct, HasMember, DeclaresFunction, Takes, EndsFunction, Declares, Begins, Assigns, Bumps, Calls, Allocates, Tests, Switches, Returns, Phrases, phrase, scoped, body_phrases, member_phrases, parameter_phrases, head_phrases, item_phrases, items_phrases, after_item, phrases, scope_at_end}
 use Rattle.c_language.specs.NameRules.{LacksDefinition}
 use Rattle.c_language.specs.ProgramOf.{collected, ctype, ctype_with, ctype_if, init_of, treed, body_of, declared_by, variables_in, variables_of, member_tree, struct_tree, structs_of, function_tree, functions_from, functions_of, item_tree, items_from, items_of, program_with, program_of}
-use Rattle.c_language.specs.Rules.{no_definition, KeepsRules, AreKept}
+use Rattle.c_language.specs.Rules.{no_definition, KeepsRules, AreKept, BreaksNone}
 use Rattle.c_language.specs.Programs.{IsTree, HasProgram}
 use Rattle.c_language.proofs.Options.{value_there, there_map}
 use Rattle.c_language.proofs.Lists.{contains_first}
 use Rattle.c_types_base.proofs.OptionLemmas.{not_none, there_then, there_both, AreThere, there_collected, there_append, there_position}
 use Rattle.c_types_trees.proofs.ScopeLemmas.{IsTyped, typed_variable, typed_function, AreMade, AreComplete}
-use Rattle.c_types_trees.specs.KeptPhrases.{HasNoLengthIf, IsKept}
-use Rattle.c_types_trees.proofs.PhraseTrees.{kept_both, tag_defined, result_made, variable_made, member_made}
+use Rattle.c_types_trees.specs.KeptPhrases.{HasNoLengthIf}
+use Rattle.c_types_trees.proofs.PhraseTrees.{tag_defined, result_made, variable_made, member_made}
 use Rattle.c_types_program.proofs.TreedStatements.{init_there, list_there}
-use Rattle.c_types_program.proofs.RuleLaws.{phrases_kept}
 use Rattle.c_types_program.proofs.GrammarTrees.{HaveTrees, statements_trees, head_plain}
 use Rattle.c_language.specs.Options.{IsThere}
 
@@ -41,7 +41,7 @@ members_made : (raw : RawProgram) (scope : Scope) (before ms : List RawMember) �
 members_made raw scope before [] h = tt
 members_made raw scope before (m ∷ ms) h = (member_made raw scope before m h.0, members_made raw scope (before ++ m ∷ []) ms h.1)
 
-complete_from : (raw : RawProgram) (items : List RawItem) (scope : Scope) → AreKept raw (items_phrases raw items scope) → AreComplete raw (declared.structs_of items)
+complete_from : (raw : RawProgram) (items : List RawItem) (scope : Scope) → AreKept raw (items_phrases raw items scope) → AreComplete raw (declared.struct_texts items)
 complete_from raw [] scope h = tt
 complete_from raw (Include is_stdlib ∷ rest) scope h = complete_from raw rest scope h
 complete_from raw (Tag line tag ∷ rest) scope h = complete_from raw rest scope h.1
@@ -73,7 +73,7 @@ defined_there raw (d ∷ ds) h =
 
 -- ---- variables
 
-variable_there : (raw : RawProgram) (line : ℕ) (scope : Scope) (part : Part) → IsKept raw scope part → AreThere (declared_by raw line scope part)
+variable_there : (raw : RawProgram) (line : ℕ) (scope : Scope) (part : Part) → BreaksNone raw scope part → AreThere (declared_by raw line scope part)
 variable_there raw line scope (NamesStruct tag) keeps = tt
 variable_there raw line scope (DefinesStruct tag) keeps = tt
 variable_there raw line scope (HasMember before m) keeps = tt
@@ -97,10 +97,6 @@ variables_there raw (p ∷ ps) h =
     there_append (declared_by raw p.line p.scope p.part) (variables_in raw ps) (variable_there raw p.line p.scope p.part h.0) (variables_there raw ps h.1)
 
 -- ---- functions
-
-same_phrases : (raw : RawProgram) (body : List RawStatement) (scope : Scope) → body_phrases raw body scope ≡ joined_at InBlock (in_order (map (scoped raw) body) scope)
-same_phrases raw [] scope = refl
-same_phrases raw (a ∷ body) scope = ap (λ ps. (scoped raw a).gives scope InBlock ++ ps) (same_phrases raw body ((scoped raw a).after scope))
 
 typed_named : (raw : RawProgram) (p : RawParam) (name : Option Bytes) (scope : Scope) → IsTyped scope → AreKept raw (parameter_phrases raw p name scope)
     → IsTyped (with_named raw p name scope)
@@ -186,7 +182,7 @@ module _ (raw : RawProgram) (complete : AreComplete raw (defined_structs raw)) w
       (result_made raw head.result formed.0 (tag_defined raw scope (DeclaresFunction head true) h.0))
       (list_there raw complete InBlock (map (treed raw) body) (map (scoped raw) body) formed.1 (entered raw head scope)
       (typed_parameters raw head.params (scope_of_parameters head scope) (typed_function head.name scope typed) parts.0)
-      (subst (AreKept raw) (same_phrases raw body (entered raw head scope)) inner.0))
+      (subst (AreKept raw) (body_in_order raw body (entered raw head scope)) inner.0))
 
   -- what a function is made of, where the item defines one
   functions_step : (x : RawItem) (rest : List RawItem) (scope : Scope) → IsTyped scope → IsFormed x → AreKept raw (item_phrases raw x scope)

@@ -9,7 +9,7 @@ use Rattle.c_types_base.specs.Tables.{scope_of}
 use Rattle.c_types_base.specs.Stretches.{Stretch, then_comes, nothing}
 use Rattle.c_types_program.specs.declared.walk.Walk.{Walk}
 use Rattle.c_types_trees.specs.FitPhrases.{AreFit}
-use Rattle.c_types_program.specs.Statements.{Grow}
+use Rattle.c_types_program.specs.Variables.{Grow}
 use Rattle.c_types_program.specs.Items.{FitsStretch, PassesStretch}
 use Rattle.c_types_program.proofs.Growing.{fit_both}
 use Rattle.c_types_program.proofs.Standing.{Stands, told, given, goes, came}

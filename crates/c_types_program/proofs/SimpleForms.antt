@@ -27,26 +27,28 @@ use Rattle.c_language.specs.ExprTypes.{operand}
 use Rattle.c_language.specs.NameRules.{Shadows}
 use Rattle.c_language.specs.Scopes.{Scope, Meaning, meaning_in, with_variable, with_target, begun, numbered}
 use Rattle.c_language.specs.Phrases.{Stand, InFile, InHead, InBlock, InArm, InFor, Part, Declares, Assigns, Bumps, Calls, Allocates, Returns, phrase, declaration, begun_phrases, target_phrases, IsInside}
-use Rattle.c_language.specs.ProgramOf.{ctype_with, expr_of, init_of, declaration_id, call_tree, heap_tree, target_tree, optional, variable_of, variables_in}
-use Rattle.c_language.specs.Rules.{shadowing}
+use Rattle.c_language.specs.ProgramOf.{ctype_with, expr_of, init_of, declaration_id, call_tree, heap_tree, target_tree, optional, variable_with, variable_of, variables_in}
+use Rattle.c_language.specs.Rules.{shadowing, BreaksNone}
 use Rattle.c_language.specs.Uses.{expressions, target_exprs, arg_exprs, counts}
 use Rattle.c_language.specs.declared.expr_type.Operand.{Operand}
 use Rattle.c_language.proofs.TreedForms.{treed-Declare, treed-Assign, treed-Bump, treed-Call, treed-Heap, treed-Return}
 use Rattle.c_language.proofs.ScopeNumbers.{target_statements}
 use Rattle.c_language.proofs.ScopedForms.{scoped-Declare, scoped-Assign, scoped-Bump, scoped-Call, scoped-Heap, scoped-Return}
 use Rattle.c_language.proofs.Lists.{contains_first}
-use Rattle.c_language.proofs.PhraseLists.{variables-append}
+use Rattle.c_language.proofs.Options.{there_map}
+use Rattle.c_language.proofs.PhraseLists.{variables-append, begun_nothing}
 use Rattle.c_types_base.specs.declared.tables.Tables.{Tables}
 use Rattle.c_types_base.specs.Judging.{judged}
 use Rattle.c_types_base.specs.Tables.{scope_of, AreRight, IsAt}
 use Rattle.c_types_base.proofs.JudgingLaws.{Told, judged_truly}
 use Rattle.c_types_program.specs.declared.walk.Walk.{Walk}
-use Rattle.c_types_trees.specs.KeptPhrases.{IsKept, IsJudged, IsKeptInit, IsMeantTarget, IsKeptCall, IsKeptAllocation}
+use Rattle.c_types_trees.specs.KeptPhrases.{IsJudged, IsKeptInit, IsMeantTarget, IsKeptCall, IsKeptAllocation}
 use Rattle.c_types_trees.specs.FitPhrases.{AreFit, AreFitTarget}
-use Rattle.c_types_program.specs.Statements.{variable_with, Grow, Comes, Fits, HasTree, Passes}
+use Rattle.c_types_program.specs.Statements.{Comes, Fits, HasTree, Passes}
+use Rattle.c_types_program.specs.Variables.{Grow}
 use Rattle.c_types_program.proofs.Growing.{grow_then, fit_both}
 use Rattle.c_types_trees.proofs.KeptLemmas.{kept_operand}
-use Rattle.c_types_trees.proofs.OptionPaths.{given_some}
+use Rattle.c_types_trees.proofs.Collected.{given_some}
 use Rattle.c_types_program.proofs.Passing.{fits_as, tree_as, passes_as, same_variables}
 use Rattle.c_types_trees.proofs.PhraseTrees.{variable_made}
 use Rattle.c_types_program.proofs.Standing.{Stands, here, told, given, goes, came}
@@ -58,7 +60,7 @@ is_none_of : {A : Type 0} (o : Option A) → (o ≢ None → ⊥) → o ≡ None
 is_none_of None h = refl
 is_none_of (Some x) h = absurd (h (λ e. subst IsThere e tt))
 
-module _ (raw : RawProgram) (scope : Scope) (stand : Stand) (var : RawVar) (i : RawInit) (kept : IsKept raw scope (Declares stand var i)) where
+module _ (raw : RawProgram) (scope : Scope) (stand : Stand) (var : RawVar) (i : RawInit) (kept : BreaksNone raw scope (Declares stand var i)) where
   -- a variable's name isn't in scope before, and its type is one
   pub declares_fresh : meaning_in scope var.name ≡ None
   declares_fresh = is_none_of (meaning_in scope var.name) (λ h. kept 3 (shadowing (Shadows.variable h)))
@@ -82,11 +84,6 @@ pub begun_kept : (raw : RawProgram) (l : ℕ) (scope : Scope) (stand : Stand) (v
 begun_kept raw l scope stand var init.None h = IsKeptInit.none
 begun_kept raw l scope stand var (init.One a) h = IsKeptInit.kept h.0.kept
 begun_kept raw l scope stand var (init.Items es) h = IsKeptInit.kept h.0.kept
-
-pub begun_nothing : (raw : RawProgram) (l : ℕ) (scope : Scope) (stand : Stand) (var : RawVar) (i : RawInit) → variables_in raw (begun_phrases l scope stand var i) ≡ []
-begun_nothing raw l scope stand var init.None = refl
-begun_nothing raw l scope stand var (init.One a) = refl
-begun_nothing raw l scope stand var (init.Items es) = refl
 
 module _ (w : Walk) (right : AreRight w.tables) (l : ℕ) where
   abbrev raw_of : RawProgram
@@ -156,7 +153,7 @@ module _ (w : Walk) (right : AreRight w.tables) (l : ℕ) where
 
   -- ---- an assignment, a step by one and a return
 
-  pub assign_kept : (a : RawExpr) (op : Option BinaryOp) (b : RawExpr) → Fits w (s.Assign l a op b) → IsKept raw_of begin (Assigns a op b)
+  pub assign_kept : (a : RawExpr) (op : Option BinaryOp) (b : RawExpr) → Fits w (s.Assign l a op b) → BreaksNone raw_of begin (Assigns a op b)
   assign_kept a op b h = (fits_as w (s.Assign l a op b) _ (scoped-Assign raw_of l a op b) h).0.kept
 
   pub assign_has : (a : RawExpr) (op : Option BinaryOp) (b : RawExpr) (x : Statement)
@@ -167,7 +164,7 @@ module _ (w : Walk) (right : AreRight w.tables) (l : ℕ) where
   assign_passes v a op b is same =
       passes_as w v (s.Assign l a op b) _ _ (treed-Assign raw_of l a op b) (scoped-Assign raw_of l a op b) (λ stand inside. numbers v is same)
 
-  pub bump_kept : (a : RawExpr) (up before : Bool) → Fits w (s.Bump l a up before) → IsKept raw_of begin (Bumps a)
+  pub bump_kept : (a : RawExpr) (up before : Bool) → Fits w (s.Bump l a up before) → BreaksNone raw_of begin (Bumps a)
   bump_kept a up before h = (fits_as w (s.Bump l a up before) _ (scoped-Bump raw_of l a up before) h).0.kept
 
   pub bump_has : (a : RawExpr) (up before : Bool) (x : Statement) → option_map (λ (p : Expr). made.Bump w.tables.statements l p up before) (expr_of raw_of begin a) ≡ Some x
@@ -178,7 +175,7 @@ module _ (w : Walk) (right : AreRight w.tables) (l : ℕ) where
   bump_passes v a up before is same =
       passes_as w v (s.Bump l a up before) _ _ (treed-Bump raw_of l a up before) (scoped-Bump raw_of l a up before) (λ stand inside. numbers v is same)
 
-  pub return_kept : (a : Option RawExpr) → Fits w (s.Return l a) → IsKept raw_of begin (Returns a)
+  pub return_kept : (a : Option RawExpr) → Fits w (s.Return l a) → BreaksNone raw_of begin (Returns a)
   return_kept a h = (fits_as w (s.Return l a) _ (scoped-Return raw_of l a) h).0.kept
 
   pub return_has : (a : Option RawExpr) (x : Statement) → option_map (made.Return w.tables.statements l) (optional (option_map (expr_of raw_of begin) a)) ≡ Some x → HasTree w (s.Return l a) x
@@ -190,7 +187,7 @@ module _ (w : Walk) (right : AreRight w.tables) (l : ℕ) where
 -- ---- targets
 
 -- a place that a phrase stores in is an operand
-target_meant : (t : Tables) → AreRight t → (to : RawTarget) (part : Part) → IsKept t.raw.now (with_target t.raw.now to (scope_of t)) part
+target_meant : (t : Tables) → AreRight t → (to : RawTarget) (part : Part) → BreaksNone t.raw.now (with_target t.raw.now to (scope_of t)) part
     → ((a : RawExpr) → Contains (target_exprs to) a → Contains (expressions part) a) → IsMeantTarget t.raw.now (scope_of t) to
 target_meant t right target.None part kept within = tt
 target_meant t right (target.Place a) part kept within = kept_operand t right part kept a (within a (contains_first a []))
@@ -200,16 +197,12 @@ operand_there : (raw : RawProgram) (scope : Scope) (a : RawExpr) (r : Result Ope
 operand_there raw scope a (Ok x) truly h = subst IsThere (sym truly.0) tt
 operand_there raw scope a (Err n) truly h = absurd h
 
-shape_given : (o : Option Operand) → IsThere o → IsThere (option_map (λ (x : Operand). x.shape) o)
-shape_given None h = h
-shape_given (Some x) h = tt
-
 -- what a stored result has is a type
 stored_typed : (t : Tables) → AreRight t → (line : ℕ) (stand : Stand) (to : RawTarget) → IsStored to → AreFit t.raw.now (target_phrases t.raw.now line (scope_of t) stand to)
     → IsMeantTarget t.raw.now (scope_of t) to → IsThere (target_type t.raw.now (with_target t.raw.now to (scope_of t)) to)
 stored_typed t right line stand target.None stored fit meant = stored
 stored_typed t right line stand (target.Place a) stored fit meant =
-    shape_given (operand t.raw.now (scope_of t) a) (operand_there t.raw.now (scope_of t) a (judged t.raw.now (scope_of t) a) (judged_truly t.raw.now (scope_of t) a) meant)
+    there_map (λ (x : Operand). x.shape) (operand t.raw.now (scope_of t) a) (operand_there t.raw.now (scope_of t) a (judged t.raw.now (scope_of t) a) (judged_truly t.raw.now (scope_of t) a) meant)
 stored_typed t right line stand (target.Declared var) stored fit meant =
     (variable_made t.raw.now (scope_of t) stand var init.None fit.0.kept).typed
 
@@ -317,7 +310,7 @@ module _ (w : Walk) (right : AreRight w.tables) (l : ℕ) (to : RawTarget) where
 
 module _ (w : Walk) (right : AreRight w.tables) (l : ℕ) (to : RawTarget) (var : RawVar) (is : to ≡ target.Declared var)
     (fits : AreFitTarget w.tables.raw.now l (scope_of w.tables) to) where
-  target_declares : IsKept w.tables.raw.now (scope_of w.tables) (Declares fits.stand var init.None)
+  target_declares : BreaksNone w.tables.raw.now (scope_of w.tables) (Declares fits.stand var init.None)
   target_declares = (subst (λ x. AreFit w.tables.raw.now (target_phrases w.tables.raw.now l (scope_of w.tables) fits.stand x)) is fits.fit).0.kept
 
   pub target_fresh : meaning_in (scope_of w.tables) var.name ≡ None

@@ -11,10 +11,10 @@ use Rattle.c_tree.specs.declared.raw.program.RawItem.{RawItem}
 use Rattle.c_tree.specs.declared.raw.program.RawItem.TheVariants.{Struct}
 use Rattle.c_tree.specs.declared.raw.program.RawMember.{RawMember}
 use Rattle.c_tree.specs.declared.raw.program.RawProgram.{RawProgram}
-use Rattle.c_language.specs.DeclaredTypes.{StructText, structs_of, written_type}
+use Rattle.c_language.specs.DeclaredTypes.{StructText, struct_texts, written_type}
 use Rattle.c_language.specs.Phrases.{HasMember, member_phrases}
 use Rattle.c_language.specs.ProgramOf.{collected, member_tree, struct_tree}
-use Rattle.c_language.specs.Rules.{member}
+use Rattle.c_language.specs.Rules.{member, BreaksNone}
 use Rattle.c_language.specs.Scopes.{Scope}
 use Rattle.c_language.specs.StructRules.{MisnamesMember}
 use Rattle.c_language.specs.Words.{Bytes}
@@ -29,10 +29,10 @@ use Rattle.c_types_base.proofs.ListingLaws.{named_before, gone}
 use Rattle.c_types_trees.specs.declared.make_fault.MakeFault.{MakeFault}
 use Rattle.c_types_trees.specs.declared.make_fault.MakeFault.TheVariants.{Length, NoMemory}
 use Rattle.c_types_trees.specs.FitPhrases.{AreFit}
-use Rattle.c_types_trees.specs.KeptPhrases.{IsKept, IsKeptMember}
+use Rattle.c_types_trees.specs.KeptPhrases.{IsKeptMember}
 use Rattle.c_types_trees.specs.Shapes.{MakesMember}
-use Rattle.c_types_program.specs.Items.{AreKeptMembers, AreKeptStructs, HasLongStruct, MakesMembers, MakesStruct, AddsStruct, MakesStructs}
-use Rattle.c_types_trees.proofs.OptionPaths.{contains_turn}
+use Rattle.c_types_program.specs.Items.{AreFitMembers, AreFitStructs, HasLongStruct, MakesMembers, MakesStruct, AddsStruct, MakesStructs}
+use Rattle.c_types_trees.proofs.Collected.{contains_turn}
 use Rattle.c_types_trees.proofs.PhraseTrees.{member_made}
 use Rattle.c_types_program.proofs.Turns.{collected_made}
 
@@ -44,13 +44,13 @@ passes_stop P e (Err y) h k = subst (λ (f : MakeFault). P (Err f)) (sym h) k
 -- ---- the members of a struct type that keep the rules
 
 member_at : (raw : RawProgram) (scope : Scope) (before ms : List RawMember) (i : ℕ) (m : RawMember) → i < length ms → m ≡ get_or ms i m
-    → AreFit raw (member_phrases scope before ms) → IsKept raw scope (HasMember (before ++ take i ms) m)
+    → AreFit raw (member_phrases scope before ms) → BreaksNone raw scope (HasMember (before ++ take i ms) m)
 member_at raw scope before [] i m within is h = absurd (omega (arith, within))
 member_at raw scope before (x ∷ ms) zero m within is h =
-    subst (λ (y : RawMember). IsKept raw scope (HasMember (before ++ []) y)) (sym is)
-    (subst (λ (ys : List RawMember). IsKept raw scope (HasMember ys x)) (sym (append-nil before)) h.0.kept)
+    subst (λ (y : RawMember). BreaksNone raw scope (HasMember (before ++ []) y)) (sym is)
+    (subst (λ (ys : List RawMember). BreaksNone raw scope (HasMember ys x)) (sym (append-nil before)) h.0.kept)
 member_at raw scope before (x ∷ ms) (suc i) m within is h =
-    subst (λ (ys : List RawMember). IsKept raw scope (HasMember ys m)) (append_assoc before (x ∷ []) (take i ms))
+    subst (λ (ys : List RawMember). BreaksNone raw scope (HasMember ys m)) (append_assoc before (x ∷ []) (take i ms))
     (member_at raw scope (before ++ x ∷ []) ms i m (omega (arith, within)) is h.1)
 
 or_false : (a b : Bool) → (a ≡ true → ⊥) → b ≡ false → (a || b) ≡ false
@@ -61,8 +61,8 @@ none_any : {A : Type 0} (p : A → Bool) (xs : List A) → ((x : A) → Contains
 none_any p [] h = refl
 none_any p (x ∷ xs) h = or_false (p x) (list_any p xs) (h x (contains_first x xs)) (none_any p xs (λ y c. h y (contains_later x y xs c)))
 
-module _ (raw : RawProgram) (ms : List RawMember) (h : AreKeptMembers raw ms) (i : ℕ) (m : RawMember) (within : i < length ms) (is : m ≡ get_or ms i m) where
-  kept_here : IsKept raw h.scope (HasMember (take i ms) m)
+module _ (raw : RawProgram) (ms : List RawMember) (h : AreFitMembers raw ms) (i : ℕ) (m : RawMember) (within : i < length ms) (is : m ≡ get_or ms i m) where
+  kept_here : BreaksNone raw h.scope (HasMember (take i ms) m)
   kept_here = member_at raw h.scope [] ms i m within is h.fit
 
   pub member_kept : IsKeptMember raw m
@@ -87,13 +87,13 @@ module _ (raw : RawProgram) (ms : List RawMember) (h : AreKeptMembers raw ms) (i
 -- ---- an item
 
 module _ (raw : RawProgram) (one : RawItem) (line : ℕ) (tag : Bytes) (ms : List RawMember) (is : one ≡ Struct line tag ms) where
-  pub own_members : AreKeptStructs raw (one ∷ []) → AreKeptMembers raw ms
-  own_members h = subst (λ (x : RawItem). AreKeptStructs raw (x ∷ [])) is h (record { tag = tag; members = ms }) (contains_first (record { tag = tag; members = ms }) [])
+  pub own_members : AreFitStructs raw (one ∷ []) → AreFitMembers raw ms
+  own_members h = subst (λ (x : RawItem). AreFitStructs raw (x ∷ [])) is h (record { tag = tag; members = ms }) (contains_first (record { tag = tag; members = ms }) [])
 
   pub adds_struct : (old new : List StructDef) (x : StructDef) → struct_tree raw (record { tag = tag; members = ms }) ≡ Some x → new ≡ old ++ x ∷ []
       → AddsStruct raw one old new (Ok tt)
   adds_struct old new x tree pushed =
-      subst (λ (y : RawItem). map Some new ≡ map Some old ++ map (struct_tree raw) (structs_of (y ∷ []))) (sym is)
+      subst (λ (y : RawItem). map Some new ≡ map Some old ++ map (struct_tree raw) (struct_texts (y ∷ []))) (sym is)
       (ap (map Some) pushed ∙ map-append Some old (x ∷ []) ∙ ap (λ o. map Some old ++ o ∷ []) (sym tree))
 
   pub stops_struct : (old new : List StructDef) (e : MakeFault) → MakesStruct raw (record { tag = tag; members = ms }) (Err e) → AddsStruct raw one old new (Err e)
@@ -104,22 +104,22 @@ module _ (raw : RawProgram) (one : RawItem) (line : ℕ) (tag : Bytes) (ms : Lis
 -- ---- all items
 
 module _ (raw : RawProgram) (items : List RawItem) (i : ℕ) (one : RawItem) (within : i < length items) (is : one ≡ get_or items i one) where
-  structs_here : structs_of (drop i items) ≡ structs_of (one ∷ []) ++ structs_of (drop (i + 1) items)
-  structs_here = ap structs_of (drop_turn items i one within is) ∙ structs-append (one ∷ []) (drop (i + 1) items)
+  structs_here : struct_texts (drop i items) ≡ struct_texts (one ∷ []) ++ struct_texts (drop (i + 1) items)
+  structs_here = ap struct_texts (drop_turn items i one within is) ∙ structs-append (one ∷ []) (drop (i + 1) items)
 
-  structs_among : (d : StructText) → Contains (structs_of (one ∷ [])) d → Contains (structs_of items) d
+  structs_among : (d : StructText) → Contains (struct_texts (one ∷ [])) d → Contains (struct_texts items) d
   structs_among d c =
       among items i within is d c
     where
-      among : (xs : List RawItem) (k : ℕ) → k < length xs → one ≡ get_or xs k one → (d : StructText) → Contains (structs_of (one ∷ [])) d → Contains (structs_of xs) d
+      among : (xs : List RawItem) (k : ℕ) → k < length xs → one ≡ get_or xs k one → (d : StructText) → Contains (struct_texts (one ∷ [])) d → Contains (struct_texts xs) d
       among [] k low same d c = absurd (omega (arith, low))
       among (x ∷ xs) zero low same d c =
           subst (λ ds. Contains ds d) (sym (structs-append (x ∷ []) xs))
-          (Contains-append_left (structs_of (x ∷ [])) (structs_of xs) d (subst (λ (y : RawItem). Contains (structs_of (y ∷ [])) d) same c))
+          (Contains-append_left (struct_texts (x ∷ [])) (struct_texts xs) d (subst (λ (y : RawItem). Contains (struct_texts (y ∷ [])) d) same c))
       among (x ∷ xs) (suc k) low same d c =
-          subst (λ ds. Contains ds d) (sym (structs-append (x ∷ []) xs)) (Contains-append_right (structs_of (x ∷ [])) (structs_of xs) d (among xs k (omega (arith, low)) same d c))
+          subst (λ ds. Contains ds d) (sym (structs-append (x ∷ []) xs)) (Contains-append_right (struct_texts (x ∷ [])) (struct_texts xs) d (among xs k (omega (arith, low)) same d c))
 
-  pub struct_kept : AreKeptStructs raw items → AreKeptStructs raw (one ∷ [])
+  pub struct_kept : AreFitStructs raw items → AreFitStructs raw (one ∷ [])
   struct_kept h = λ d c. h d (structs_among d c)
 
   pub structs_stop : (old new : List StructDef) (e : MakeFault) → AddsStruct raw one old new (Err e) → MakesStructs raw items (Err e)
@@ -127,12 +127,12 @@ module _ (raw : RawProgram) (items : List RawItem) (i : ℕ) (one : RawItem) (wi
   structs_stop old new NoMemory h = tt
 
   pub structs_turn : (old new : List StructDef) → AddsStruct raw one old new (Ok tt)
-      → map Some old ++ map (struct_tree raw) (structs_of (drop i items)) ≡ map (struct_tree raw) (structs_of items)
-      → map Some new ++ map (struct_tree raw) (structs_of (drop (i + 1) items)) ≡ map (struct_tree raw) (structs_of items)
+      → map Some old ++ map (struct_tree raw) (struct_texts (drop i items)) ≡ map (struct_tree raw) (struct_texts items)
+      → map Some new ++ map (struct_tree raw) (struct_texts (drop (i + 1) items)) ≡ map (struct_tree raw) (struct_texts items)
   structs_turn old new adds so_far =
       let f = struct_tree raw in
-      let rest = structs_of (drop (i + 1) items) in
-      let own = structs_of (one ∷ []) in
+      let rest = struct_texts (drop (i + 1) items) in
+      let own = struct_texts (one ∷ []) in
       ap (λ os. os ++ map f rest) adds
       ∙ append_assoc (map Some old) (map f own) (map f rest)
       ∙ ap (λ os. map Some old ++ os) (sym (map-append f own rest))
@@ -140,6 +140,6 @@ module _ (raw : RawProgram) (items : List RawItem) (i : ℕ) (one : RawItem) (wi
       ∙ so_far
 
 pub structs_end : (raw : RawProgram) (items : List RawItem) (i : ℕ) (out : List StructDef) → length items ≤ i
-    → map Some out ++ map (struct_tree raw) (structs_of (drop i items)) ≡ map (struct_tree raw) (structs_of items) → MakesStructs raw items (Ok out)
+    → map Some out ++ map (struct_tree raw) (struct_texts (drop i items)) ≡ map (struct_tree raw) (struct_texts items) → MakesStructs raw items (Ok out)
 structs_end raw items i out low h =
-    ap collected (sym h ∙ ap (λ xs. map Some out ++ map (struct_tree raw) (structs_of xs)) (drop_all i items low) ∙ append-nil (map Some out)) ∙ collected_made out
+    ap collected (sym h ∙ ap (λ xs. map Some out ++ map (struct_tree raw) (struct_texts xs)) (drop_all i items low) ∙ append-nil (map Some out)) ∙ collected_made out

@@ -30,22 +30,22 @@ use Rattle.c_language.specs.Scopes.{Scope, with_variable, with_target, begun, op
 use Rattle.c_language.specs.ExprTypes.{operand, integer_of}
 use Rattle.c_language.specs.Phrases.{Stand, InFor, InBlock, InArm, Part, Begins, Assigns, Bumps, Calls, Allocates, Tests, Switches, Returns, Phrases, phrase, begun_phrases, target_phrases, joined_at, block_phrases, at_stand, ArmText, labels_of, phrases_of_arms, scoped_step, scoped_arm}
 use Rattle.c_language.specs.Uses.{expressions, target_exprs, arg_exprs, counts, cases}
-use Rattle.c_language.specs.Rules.{no_constant, switch, AreKept}
+use Rattle.c_language.specs.Rules.{no_constant, switch, AreKept, BreaksNone}
 use Rattle.c_language.specs.ArrayRules.{LacksConstant}
 use Rattle.c_language.specs.SwitchRules.{MisusesSwitch}
 use Rattle.c_language.specs.ProgramOf.{collected, optional, expr_of, exprs_of, init_of, declaration_id, target_tree, label_tree, arm_tree, ArmTree, arm_tree_step, block_tree, at_type, switch_type, part_tree, for_tree, tree_step, treed_step}
 use Rattle.c_language.specs.declared.expr_type.Operand.{Operand}
 use Rattle.c_language.proofs.Options.{there_map}
 use Rattle.c_language.proofs.Lists.{contains_first, contains_later}
+use Rattle.c_language.proofs.PhraseLists.{kept_both}
 use Rattle.c_types_base.proofs.OptionLemmas.{not_none, there_then, there_both, there_optional, AreThere, there_collected}
 use Rattle.c_types_trees.proofs.ScopeLemmas.{IsTyped, typed_variable, AreComplete}
 use Rattle.c_types_trees.proofs.ConstantTrees.{constant_tree}
-use Rattle.c_types_trees.proofs.PhraseTrees.{kept_both, variable_made, target_made, typed_target, phrase_tree, phrase_operand, exprs_there}
+use Rattle.c_types_trees.proofs.PhraseTrees.{variable_made, target_made, typed_target, phrase_tree, phrase_operand, exprs_there}
 use Rattle.c_types_trees.proofs.CallTrees.{call_there}
 use Rattle.c_types_trees.specs.FitPhrases.{IsAllocation}
 use Rattle.c_types_trees.proofs.AllocationTrees.{heap_there}
 use Rattle.c_language.specs.Options.{IsThere}
-use Rattle.c_types_trees.specs.KeptPhrases.{IsKept}
 
 -- each case of these labels is a constant
 abbrev AreConstant : List RawLabel → Type 0
@@ -197,7 +197,7 @@ module _ (raw : RawProgram) (complete : AreComplete raw (defined_structs raw)) w
   }
 
   -- a target, by what stores into it
-  target_there : (scope : Scope) (to : RawTarget) (part : Part) → IsTyped scope → IsKept raw (with_target raw to scope) part
+  target_there : (scope : Scope) (to : RawTarget) (part : Part) → IsTyped scope → BreaksNone raw (with_target raw to scope) part
       → ((e : RawExpr) → Contains (target_exprs to) e → Contains (expressions part) e) → IsThere (target_tree raw scope to)
   target_there scope target.None part typed keeps within = tt
   target_there scope (target.Place a) part typed keeps within =
@@ -232,7 +232,7 @@ module _ (raw : RawProgram) (complete : AreComplete raw (defined_structs raw)) w
         (target_there scope to (Allocates to cast n) typed parts.1.0 (λ e c. Contains-append_left (target_exprs to) (counts n) e c));
   }
 
-  returned_there : (scope : Scope) (a : Option RawExpr) → IsTyped scope → IsKept raw scope (Returns a) → IsThere (optional (option_map (expr_of raw scope) a))
+  returned_there : (scope : Scope) (a : Option RawExpr) → IsTyped scope → BreaksNone raw scope (Returns a) → IsThere (optional (option_map (expr_of raw scope) a))
   returned_there scope None typed keeps = tt
   returned_there scope (Some a) typed keeps =
       there_optional (Some (expr_of raw scope a)) (phrase_tree raw complete scope typed (Returns (Some a)) keeps a (contains_first a []))
@@ -246,7 +246,7 @@ module _ (raw : RawProgram) (complete : AreComplete raw (defined_structs raw)) w
 
   -- ---- tests, loops and blocks
 
-  test_there : (scope : Scope) (a : RawExpr) → IsTyped scope → IsKept raw scope (Tests a) → IsThere (expr_of raw scope a)
+  test_there : (scope : Scope) (a : RawExpr) → IsTyped scope → BreaksNone raw scope (Tests a) → IsThere (expr_of raw scope a)
   test_there scope a typed keeps = phrase_tree raw complete scope typed (Tests a) keeps a (contains_first a [])
 
   pub is_treed-If : (l : ℕ) (a : RawExpr) (xs zs : List (Scoped (Option Statement))) (ys ws : List (Scoped (Stand → Phrases))) → AreTreed xs ys → AreTreed zs ws
@@ -359,7 +359,7 @@ module _ (raw : RawProgram) (complete : AreComplete raw (defined_structs raw)) w
             (arms_there t xs ys h.1 (y.after scope) (h.0.typed scope typed parts.0) parts.1 labels.1),
       )
 
-  switched : (scope : Scope) (a : RawExpr) (labels : List RawLabel) → IsKept raw scope (Switches a labels) → (o : Option Operand) → operand raw scope a ≡ o → IsThere o
+  switched : (scope : Scope) (a : RawExpr) (labels : List RawLabel) → BreaksNone raw scope (Switches a labels) → (o : Option Operand) → operand raw scope a ≡ o → IsThere o
       → IsThere (option_map promote (option_and_then integer_of (option_map (λ (x : Operand). x.shape) o)))
   switched scope a labels keeps None is there = there
   switched scope a labels keeps (Some x) is there =

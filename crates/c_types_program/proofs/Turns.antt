@@ -18,7 +18,8 @@ use Rattle.c_language.proofs.TreeScopes.{after_same}
 use Rattle.c_types_base.specs.Tables.{scope_of}
 use Rattle.c_types_program.specs.declared.walk.Walk.{Walk}
 use Rattle.c_types_trees.specs.FitPhrases.{AreFit, AreFitInside, IsFitInside}
-use Rattle.c_types_program.specs.Statements.{Grow, Fits, HasTree, Passes, HaveTrees, AreLabels, HasArm, PassesArm, HaveArms}
+use Rattle.c_types_program.specs.Statements.{Fits, HasTree, Passes, HaveTrees, AreLabels, HasArm, PassesArm, HaveArms}
+use Rattle.c_types_program.specs.Variables.{Grow}
 use Rattle.c_types_program.proofs.Growing.{grow_then, fit_both}
 use Rattle.c_types_program.proofs.Passing.{same_arm}
 use Rattle.c_types_program.proofs.Standing.{Stands, told, given, goes}

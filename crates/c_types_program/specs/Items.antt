@@ -11,7 +11,7 @@ use Rattle.c_tree.specs.declared.raw.program.RawMember.{RawMember}
 use Rattle.c_tree.specs.declared.raw.program.RawProgram.{RawProgram}
 use Rattle.c_tree.specs.declared.raw.statement.RawStatement.{RawStatement}
 use Rattle.c_tree.specs.declared.statement.Statement.{Statement}
-use Rattle.c_language.specs.DeclaredTypes.{StructText, structs_of}
+use Rattle.c_language.specs.DeclaredTypes.{StructText, struct_texts}
 use Rattle.c_language.specs.Limits.{longest, array_length}
 use Rattle.c_language.specs.Phrases.{member_phrases}
 use Rattle.c_language.specs.ProgramOf.{collected, body_of, function_tree, functions_from, item_tree, items_from, member_tree, struct_tree, program_of, variables_in}
@@ -59,14 +59,14 @@ HasFunctions w all fs = collected (functions_from w.tables.raw.now all (scope_of
 
 -- ---- struct types
 
--- the members of a struct type keep the rules, wherever it is defined
-pub record AreKeptMembers (raw : RawProgram) (ms : List RawMember) : Type 0 where
+-- the members of a struct type are fit, wherever it is defined
+pub record AreFitMembers (raw : RawProgram) (ms : List RawMember) : Type 0 where
   pub scope : Scope
   pub fit : AreFit raw (member_phrases scope [] ms)
 
 -- and so for each struct type that items define
-abbrev pub AreKeptStructs : RawProgram → List RawItem → Type 0
-AreKeptStructs raw items = (d : StructText) → Contains (structs_of items) d → AreKeptMembers raw d.members
+abbrev pub AreFitStructs : RawProgram → List RawItem → Type 0
+AreFitStructs raw items = (d : StructText) → Contains (struct_texts items) d → AreFitMembers raw d.members
 
 -- a member has an array of 2^32 elements or more
 abbrev pub IsLongMember : RawProgram → RawMember → Type 0
@@ -76,7 +76,7 @@ abbrev pub HasLongMember : RawProgram → List RawMember → Type 0
 HasLongMember raw ms = (m : RawMember) × Contains ms m × IsLongMember raw m
 
 abbrev pub HasLongStruct : RawProgram → List RawItem → Type 0
-HasLongStruct raw items = (d : StructText) × Contains (structs_of items) d × HasLongMember raw d.members
+HasLongStruct raw items = (d : StructText) × Contains (struct_texts items) d × HasLongMember raw d.members
 
 -- the members where their types are made
 abbrev pub MakesMembers : RawProgram → List RawMember → Result (List Member) MakeFault → Type 0
@@ -92,13 +92,13 @@ MakesStruct raw d (Err NoMemory) = Unit {0}
 
 -- the struct type of an item is added, where it defines one and its members are made
 abbrev pub AddsStruct : RawProgram → RawItem → List StructDef → List StructDef → Result (Unit {0}) MakeFault → Type 0
-AddsStruct raw one old new (Ok x) = map Some new ≡ map Some old ++ map (struct_tree raw) (structs_of (one ∷ []))
+AddsStruct raw one old new (Ok x) = map Some new ≡ map Some old ++ map (struct_tree raw) (struct_texts (one ∷ []))
 AddsStruct raw one old new (Err Length) = HasLongStruct raw (one ∷ [])
 AddsStruct raw one old new (Err NoMemory) = Unit {0}
 
 -- the struct types that items define, where they are made
 abbrev pub MakesStructs : RawProgram → List RawItem → Result (List StructDef) MakeFault → Type 0
-MakesStructs raw items (Ok out) = collected (map (struct_tree raw) (structs_of items)) ≡ Some out
+MakesStructs raw items (Ok out) = collected (map (struct_tree raw) (struct_texts items)) ≡ Some out
 MakesStructs raw items (Err Length) = HasLongStruct raw items
 MakesStructs raw items (Err NoMemory) = Unit {0}
 

@@ -1,2 +1,3 @@
-pub mod Statements
 pub mod Items
+pub mod Statements
+pub mod Variables

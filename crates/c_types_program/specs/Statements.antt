@@ -1,46 +1,21 @@
 -- What the walk that makes a program has made so far.
-use Rattle.std.specs.Prelude.{◌≡◌, ℕ, ◌≤◌, Bool, true, false, List, ◌++◌, map, Option, Some, option_map, Contains}
+use Rattle.std.specs.Prelude.{◌≡◌, List, map, Option, Some, option_map, Contains}
 use Rattle.c_arith.specs.declared.int_type.IntType.{IntType}
-use Rattle.c_tree.specs.declared.types.CType.{CType}
 use Rattle.c_tree.specs.declared.program.Var.{Var}
 use Rattle.c_tree.specs.declared.statement.Arm.{Arm}
 use Rattle.c_tree.specs.declared.statement.Statement.{Statement}
-use Rattle.c_tree.specs.declared.raw.expr.RawType.{RawType}
 use Rattle.c_tree.specs.declared.raw.program.RawProgram.{RawProgram}
 use Rattle.c_tree.specs.declared.raw.statement.RawLabel.{RawLabel}
 use Rattle.c_tree.specs.declared.raw.statement.RawArm.{RawArm}
 use Rattle.c_tree.specs.declared.raw.statement.RawStatement.{RawStatement}
-use Rattle.c_language.specs.Words.{Bytes}
-use Rattle.c_language.specs.Limits.{longest}
 use Rattle.c_language.specs.Scopes.{Scope, in_order, after_all, after_block, after_part, part_gives}
 use Rattle.c_language.specs.Phrases.{Stand, ArmText, joined_at, block_phrases, at_stand, phrases_of_arms, scoped, scoped_of_arm, IsInside}
-use Rattle.c_language.specs.ProgramOf.{ctype_with, collected, treed, block_tree, part_tree, at_type, variables_in, treed_arm}
+use Rattle.c_language.specs.ProgramOf.{collected, treed, block_tree, part_tree, at_type, variables_in, treed_arm}
 use Rattle.c_types_base.specs.Tables.{scope_of, IsAt}
 use Rattle.c_types_trees.specs.KeptPhrases.{IsKeptLabel}
 use Rattle.c_types_trees.specs.FitPhrases.{AreFit, AreFitInside, IsFitInside, IsFitPart}
-use Rattle.c_types_program.specs.declared.variables.Variables.{Variables}
 use Rattle.c_types_program.specs.declared.walk.Walk.{Walk}
-
--- the variable of a declaration, where a list of initialisers has so many items
-abbrev pub variable_with : RawProgram → ℕ → Option ℕ → Bool → Bool → Bytes → RawType → ℕ → Option Var
-variable_with raw line owner is_static is_parameter name shape items =
-    option_map (λ (t : CType). record { name = name; shape = t; line = line; is_static = is_static; owner = owner; is_parameter = is_parameter }) (ctype_with raw items shape)
-
--- a variable has an array of 2^32 elements or more
-abbrev pub IsLong : Option Var → Type 0
-IsLong o = (v : Var) → o ≡ Some v → 4294967296 ≤ longest v.shape
-
-abbrev pub HasLong : List (Option Var) → Type 0
-HasLong found = (o : Option Var) × Contains found o × IsLong o
-
--- the variables that are found so far are made, or one of them is too long
-pub record AreMade (vs : Variables) (found : List (Option Var)) : Type 0 where
-  pub made : vs.is_long ≡ false → map Some vs.made ≡ found
-  pub long : vs.is_long ≡ true → HasLong found
-
--- these variables are made besides
-abbrev pub Grow : Variables → Variables → List (Option Var) → Type 0
-Grow old new more = (found : List (Option Var)) → AreMade old found → AreMade new (found ++ more)
+use Rattle.c_types_program.specs.Variables.{Grow}
 
 -- the walk has come to a scope, and has made variables besides
 pub record Comes (old new : Walk) (scope : Scope) (more : List (Option Var)) : Type 0 where
@@ -101,7 +76,7 @@ PassesPart old new part =
     → Comes old new (after_part (option_map (treed old.tables.raw.now) part) (scope_of old.tables))
     (variables_in old.tables.raw.now (at_stand stand (part_gives (option_map (scoped old.tables.raw.now) part) (scope_of old.tables))))
 
--- for the arms of a switch, and one of them
+-- each of the labels is one of a switch that breaks no rule
 abbrev pub AreLabels : RawProgram → List RawLabel → Type 0
 AreLabels raw labels = (one : RawLabel) → Contains labels one → IsKeptLabel raw one
 

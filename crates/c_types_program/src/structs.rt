@@ -4,7 +4,7 @@ ghost use Rattle.c_tree.specs.declared.raw.program.RawMember.{RawMember};
 ghost use Rattle.c_types_base.specs.Definitions.{IsOfText};
 ghost use Rattle.c_types_base.specs.Tables.{AreRight};
 ghost use Rattle.c_types_base.specs.Listing.{HasMembers};
-ghost use Rattle.c_types_program.specs.Items.{AreKeptMembers, AreKeptStructs, MakesMembers, MakesStruct, AddsStruct, MakesStructs};
+ghost use Rattle.c_types_program.specs.Items.{AreFitMembers, AreFitStructs, MakesMembers, MakesStruct, AddsStruct, MakesStructs};
 
 use c_tree::{Items, Member, RawItem, RawMember, StructDef, Text};
 use c_types_base::definitions::Definitions;
@@ -23,7 +23,7 @@ pub fn listed_members<'a>(
     list: &'a [RawMember],
 ) -> Result<StructMembers<'a>, AllocError>
     requires right { AreRight tables.now }
-    requires kept { AreKeptMembers tables.now.raw.now list.now }
+    requires kept { AreFitMembers tables.now.raw.now list.now }
     ensures { IfOk result (HasMembers tables.now.raw.now list.now) }
 {
     let mut listed = StructMembers {
@@ -42,7 +42,7 @@ fn member_trees(
     list: &[RawMember],
 ) -> Result<Items<Member>, MakeFault>
     requires text { IsOfText defined.now }
-    requires kept { AreKeptMembers defined.now.raw.now list.now }
+    requires kept { AreFitMembers defined.now.raw.now list.now }
     ensures { MakesMembers defined.now.raw.now list.now result }
 {
     let mut made = Items::new(alloc);
@@ -61,7 +61,7 @@ fn struct_tree(
     list: &[RawMember],
 ) -> Result<StructDef, MakeFault>
     requires text { IsOfText defined.now }
-    requires kept { AreKeptMembers defined.now.raw.now list.now }
+    requires kept { AreFitMembers defined.now.raw.now list.now }
     ensures { MakesStruct defined.now.raw.now (record { tag = tag.now; members = list.now }) result }
 {
     let name = tag.copy(alloc)?;
@@ -78,7 +78,7 @@ fn add_struct(
     made: &mut Items<StructDef>,
 ) -> Result<(), MakeFault>
     requires text { IsOfText defined.now }
-    requires kept { AreKeptStructs defined.now.raw.now (item.now ∷ []) }
+    requires kept { AreFitStructs defined.now.raw.now (item.now ∷ []) }
     ensures { AddsStruct defined.now.raw.now item.now made.old made.new result }
 {
     match item {
@@ -103,7 +103,7 @@ pub fn struct_trees(
     items: &[RawItem],
 ) -> Result<Items<StructDef>, MakeFault>
     requires text { IsOfText defined.now }
-    requires kept { AreKeptStructs defined.now.raw.now items.now }
+    requires kept { AreFitStructs defined.now.raw.now items.now }
     ensures { MakesStructs defined.now.raw.now items.now result }
 {
     let mut made = Items::new(alloc);

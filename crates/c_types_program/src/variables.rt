@@ -2,7 +2,7 @@
 ghost use Rattle.std.specs.Prelude.{◌≡◌, None, [], ◌∷◌, OnOk};
 ghost use Rattle.c_language.specs.ProgramOf as trees;
 ghost use Rattle.c_types_base.specs.Tables.{AreRight};
-ghost use Rattle.c_types_program.specs.Statements.{variable_with, AreMade, Grow};
+ghost use Rattle.c_types_program.specs.Variables.{AreMade, Grow};
 
 use c_tree::{Items, RawType, Text, Var};
 use c_types_base::tables::Tables;
@@ -56,7 +56,7 @@ impl Variables {
     ) -> Result<(), AllocError>
         requires right { AreRight tables.now }
         requires shaped { trees.ctype_with tables.now.raw.now declaration.items declaration.shape.now ≡ None → ⊥ }
-        ensures { OnOk result (Grow self.old self.new (variable_with tables.now.raw.now declaration.entry.line tables.now.owner declaration.entry.is_static declaration.entry.is_parameter declaration.entry.name.now declaration.entry.shape.now declaration.entry.items ∷ [])) }
+        ensures { OnOk result (Grow self.old self.new (trees.variable_with tables.now.raw.now declaration.entry.line tables.now.owner declaration.entry.is_static declaration.entry.is_parameter declaration.entry.name.now declaration.entry.shape.now declaration.entry.items ∷ [])) }
     {
         let name = declaration.name.copy(alloc)?;
         match ctype_with(alloc, &tables.defined, declaration.items, declaration.shape) {

@@ -4,7 +4,7 @@ ghost use Rattle.c_language.specs.DeclaredTypes as types;
 ghost use Rattle.c_language.specs.Scopes as scopes;
 ghost use Rattle.c_language.specs.ProgramOf as trees;
 ghost use Rattle.c_types_base.specs.Tables.{scope_of, AreRight, IsAt};
-ghost use Rattle.c_types_program.specs.Statements.{variable_with, Comes};
+ghost use Rattle.c_types_program.specs.Statements.{Comes};
 
 use crate::variables::{Declaration, Variables};
 use c_tree::{RawInit, StatementId};
@@ -30,7 +30,7 @@ impl<'a> Walk<'a> {
         requires shaped { trees.ctype_with self.now.tables.raw.now declaration.items declaration.shape.now ≡ None → ⊥ }
         ensures { OnOk result (Comes self.old self.new
             (scopes.with_entry declaration.entry.name.now (scopes.Meaning.Variable self.old.tables.variables (types.type_with self.old.tables.raw.now declaration.entry.items declaration.entry.shape.now)) (record (scope_of self.old.tables) { variables = self.old.tables.variables + 1 }))
-            (variable_with self.old.tables.raw.now declaration.entry.line self.old.tables.owner declaration.entry.is_static declaration.entry.is_parameter declaration.entry.name.now declaration.entry.shape.now declaration.entry.items ∷ [])) }
+            (trees.variable_with self.old.tables.raw.now declaration.entry.line self.old.tables.owner declaration.entry.is_static declaration.entry.is_parameter declaration.entry.name.now declaration.entry.shape.now declaration.entry.items ∷ [])) }
     {
         let Some(t) = type_with(
             alloc,

@@ -18,16 +18,17 @@ use Rattle.c_types_base.specs.declared.tables.Tables.{Tables}
 use Rattle.c_types_base.proofs.OptionLemmas.{is_there}
 use Rattle.c_types_base.proofs.TableLaws.{tables_typed}
 use Rattle.c_types_checks.specs.Checking.{Verdict, kept, Decides}
-use Rattle.c_types_checks.specs.DeclarationChecks.{check_declared, check_begun}
+use Rattle.c_types_checks.specs.DeclarationChecks.{check_declared}
+use Rattle.c_types_checks.specs.InitialiserChecks.{check_begun}
 use Rattle.c_types_base.specs.Stretches.{Stretch, of_declaration, of_parameter}
 use Rattle.c_types_base.proofs.Stretching.{one_phrase}
-use Rattle.c_types_rules.specs.Walks.{Answers, Walks, on_line}
-use Rattle.c_types_rules.specs.declared.check_fault.CheckFault.{CheckFault}
+use Rattle.c_types_rules.specs.Walks.{AnswersOf, Walks, on_line}
+use Rattle.c_types_rules.specs.declared.walk_fault.WalkFault.{WalkFault}
 use Rattle.c_types_rules.proofs.Checked.{check_answers, walks_phrase}
 use Rattle.c_types_checks.proofs.DeclaredLaws.{declared_there, declared_new}
 use Rattle.c_types_rules.proofs.WalkSteps.{Outcome, two, first_stops, at_scope}
 
-no_fault : {e : CheckFault} {A : Type 0} → ◌≡◌ {A = Outcome} (Err e) (Ok tt) → A
+no_fault : {e : WalkFault} {A : Type 0} → ◌≡◌ {A = Outcome} (Err e) (Ok tt) → A
 no_fault h = absurd (subst (λ (r : Outcome). is_fault r) h tt)
   where
     is_fault : Outcome → Type 0
@@ -46,7 +47,7 @@ of_begun line stand v i raw = record { gives = λ (scope : Scope). begun_phrases
 
 module _ (t : Tables) (right : AreRight t) (line : ℕ) (stand : Stand) (v : RawVar) (d : Result (Unit {0}) Fault) (r : Outcome) (tells : r ≡ on_line line d) where
   abbrev InitAnswers : RawInit → Type 0
-  InitAnswers i = Decides (check_begun t.raw.now (scope_of t) stand v i) d → Answers t.raw.now (begun_phrases line (scope_of t) stand v i) r
+  InitAnswers i = Decides (check_begun t.raw.now (scope_of t) stand v i) d → AnswersOf t.raw.now (begun_phrases line (scope_of t) stand v i) r
 
   pub begins_one : (i : RawInit) (e : RawExpr) → i ≡ init.One e → InitAnswers i
   begins_one i e is = subst InitAnswers (sym is) (λ h. check_answers t.raw.now (scope_of t) (tables_typed t right) line (Begins stand v (init.One e)) d r h tells)
@@ -56,7 +57,7 @@ module _ (t : Tables) (right : AreRight t) (line : ℕ) (stand : Stand) (v : Raw
 
 module _ (t : Tables) (right : AreRight t) (line : ℕ) (stand : Stand) (v : RawVar) (i : RawInit) (d : Result (Unit {0}) Fault)
     (h : Decides (check_declared t.raw.now (scope_of t) stand v i) d) where
-  pub declaration_stops : (new : Tables) (e : CheckFault) → Err e ≡ on_line line d → Walks (of_declaration line stand v i) t new (Err e)
+  pub declaration_stops : (new : Tables) (e : WalkFault) → Err e ≡ on_line line d → Walks (of_declaration line stand v i) t new (Err e)
   declaration_stops new e is = first_stops (one_phrase line (Declares stand v i)) (of_begun line stand v i) t t e (walks_phrase t right line (Declares stand v i) d h (Err e) is)
 
   module _ (ok : on_line line d ≡ Ok tt) where
@@ -78,15 +79,15 @@ module _ (t : Tables) (right : AreRight t) (line : ℕ) (stand : Stand) (v : Raw
           ∙ ap (λ n. with_entry v.name (Meaning.Variable t.variables (type_with t.raw.now n v.shape)) (record (scope_of t) { variables = t.variables + 1 })) same_items)
           at
 
-      begun_walks : (r : Outcome) → Answers t.raw.now (begun_phrases line (with_variable t.raw.now v i (scope_of t)) stand v i) r → Walks (of_begun line stand v i) t new r
+      begun_walks : (r : Outcome) → AnswersOf t.raw.now (begun_phrases line (with_variable t.raw.now v i (scope_of t)) stand v i) r → Walks (of_begun line stand v i) t new r
       begun_walks (Ok x) k = (k, at_variable)
       begun_walks (Err e) k = k
 
-      pub declaration_walks : (r : Outcome) → Answers new.raw.now (begun_phrases line (scope_of new) stand v i) r → Walks (of_declaration line stand v i) t new r
+      pub declaration_walks : (r : Outcome) → AnswersOf new.raw.now (begun_phrases line (scope_of new) stand v i) r → Walks (of_declaration line stand v i) t new r
       declaration_walks r k =
           two (one_phrase line (Declares stand v i)) (of_begun line stand v i) t t new r (walks_phrase t right line (Declares stand v i) d h (Ok tt) (sym ok))
-          (begun_walks r (subst (λ (x : Scope). Answers t.raw.now (begun_phrases line x stand v i) r) at_variable.scope_is
-          (subst (λ (raw : RawProgram). Answers raw (begun_phrases line (scope_of new) stand v i) r) at_variable.text k)))
+          (begun_walks r (subst (λ (x : Scope). AnswersOf t.raw.now (begun_phrases line x stand v i) r) at_variable.scope_is
+          (subst (λ (raw : RawProgram). AnswersOf raw (begun_phrases line (scope_of new) stand v i) r) at_variable.text k)))
 
 -- a parameter with a name is declared so
 module _ (p : RawParam) (name : Bytes) (is : p.name ≡ Some name) (old new : Tables) (r : Outcome) where

@@ -1,6 +1,7 @@
 -- Members, parameters and items, as steps of the walk.
-use Rattle.std.proofs.Common.{◌≡◌, ℕ, ◌+◌, List, [], ◌∷◌, ◌++◌, length, take, Bool, true, false, Some, None, is_some, Result, Ok, Err, refl, sym, ap, subst, ◌∙◌, append-nil, true≢false}
-use Rattle.std.specs.Prelude.{vec_len, not}
+use Rattle.std.proofs.Common.{◌≡◌, ℕ, ◌+◌, List, [], ◌∷◌, ◌++◌, length, take, Bool, true, false, Some, None, is_some, Result, Ok, Err, refl, sym, ap, subst, ◌∙◌, append-nil}
+use Rattle.std.proofs.lemmas.Bool.{not-true}
+use Rattle.std.specs.Prelude.{vec_len}
 use Rattle.std.specs.List.{list_any}
 use Rattle.std.specs.Result.{IsErrAnd}
 use Rattle.c_tree.specs.declared.raw.program.RawHead.{RawHead}
@@ -15,6 +16,7 @@ use Rattle.c_language.specs.DeclaredTypes.{written_type}
 use Rattle.c_language.specs.Phrases.{DefinesStruct, DeclaresFunction, EndsFunction, Phrases, member_phrases, taken_phrases, item_phrases, after_item}
 use Rattle.c_language.specs.Scopes.{Scope, closed, with_function}
 use Rattle.c_language.proofs.Options.{some_same}
+use Rattle.c_language.proofs.PhraseLists.{kept_joined}
 use Rattle.c_types_base.specs.Names.{listed_type}
 use Rattle.c_types_base.specs.Numbering.{Numbers, number_in}
 use Rattle.c_types_base.specs.Tables.{scope_of, AreRight, IsAt}
@@ -26,23 +28,24 @@ use Rattle.c_types_base.specs.declared.tables.Tables.{Tables}
 use Rattle.c_types_base.proofs.ScopeLaws.{Extends}
 use Rattle.c_types_base.proofs.TableLaws.{tables_typed}
 use Rattle.c_types_checks.specs.Checking.{Decides, kept, when_given}
-use Rattle.c_types_checks.specs.DeclarationChecks.{check_type, check_complete, check_member, check_struct, check_prototype, check_definition, check_end}
+use Rattle.c_types_checks.specs.DeclarationChecks.{check_type, check_complete, check_member, check_struct}
+use Rattle.c_types_checks.specs.HeadChecks.{check_prototype, check_definition, check_end}
 use Rattle.c_types_base.specs.Listing.{has_name, HasMembers, name_before, names_given, IsGiven}
 use Rattle.c_types_base.specs.Stretches.{Stretch, of_function, inside_function, of_item}
-use Rattle.c_types_rules.specs.Walks.{Tells, Answers, Walks, on_line}
-use Rattle.c_types_rules.specs.declared.check_fault.CheckFault.{CheckFault}
+use Rattle.c_types_rules.specs.Walks.{Tells, AnswersOf, Walks, on_line}
+use Rattle.c_types_rules.specs.declared.walk_fault.WalkFault.{WalkFault}
 use Rattle.c_types_rules.proofs.Checked.{check_answers, walks_phrase}
 use Rattle.c_types_base.proofs.ListingLaws.{gone, named_before, given_push, all_given}
 use Rattle.c_types_base.proofs.TextSteps.{of_inside, inside_grows, inside, begin_phrase, end_phrase, define_phrases, define_after}
 use Rattle.c_types_base.proofs.Stretching.{one_phrase}
 use Rattle.c_types_checks.proofs.DeclaredLaws.{second_kept, test_passed}
-use Rattle.c_types_rules.proofs.WalkSteps.{Outcome, two, first_stops, kept_both, told_before, told_behind, cut}
+use Rattle.c_types_rules.proofs.WalkSteps.{Outcome, two, first_stops, told_before, told_behind, cut}
 use Rattle.c_language.specs.Rules.{AreKept}
 
 -- what holds of a fault holds of any answer that passes it on
-pub passes_fault : {A : Type 0} (P : Result A CheckFault → Type 0) (e : CheckFault) (r : Result A CheckFault) → IsErrAnd r (λ y. y ≡ e) → P (Err e) → P r
+pub passes_fault : {A : Type 0} (P : Result A WalkFault → Type 0) (e : WalkFault) (r : Result A WalkFault) → IsErrAnd r (λ y. y ≡ e) → P (Err e) → P r
 passes_fault P e (Ok x) h k = absurd h
-passes_fault P e (Err y) h k = subst (λ (f : CheckFault). P (Err f)) (sym h) k
+passes_fault P e (Err y) h k = subst (λ (f : WalkFault). P (Err f)) (sym h) k
 
 pub given_is : (before : List RawParam) (p : RawParam) (names : Numbering) (own : Bytes) (b : Bool) → Numbers (names_given before) names → p.name ≡ Some own → b ≡ is_some (number_in names own)
     → IsGiven before p b
@@ -64,14 +67,14 @@ abbrev of_listed : List RawMember → Stretch
 of_listed ms raw = record { gives = λ (scope : Scope). member_phrases scope [] ms; after = λ (scope : Scope). record scope { structs = scope.structs + 1 } }
 
 module _ (t : Tables) (right : AreRight t) (line : ℕ) (tag : Bytes) (ms : List RawMember) (d : Result (Unit {0}) Fault) (h : Decides (check_struct t.raw.now (scope_of t) tag) d) where
-  pub struct_stops : (new : Tables) (e : CheckFault) → Err e ≡ on_line line d → Walks (of_item (Struct line tag ms)) t new (Err e)
+  pub struct_stops : (new : Tables) (e : WalkFault) → Err e ≡ on_line line d → Walks (of_item (Struct line tag ms)) t new (Err e)
   struct_stops new e is = first_stops (one_phrase line (DefinesStruct tag)) (of_listed ms) t new e (walks_phrase t right line (DefinesStruct tag) d h (Err e) is)
 
   module _ (is : Ok tt ≡ on_line line d) where
     pub struct_walks : (new : Tables) → AreKept t.raw.now (member_phrases (scope_of t) [] ms) → IsAt t new (record (scope_of t) { structs = vec_len t.structs + 1 }) → Walks (of_item (Struct line tag ms)) t new (Ok tt)
     struct_walks new k at = two (one_phrase line (DefinesStruct tag)) (of_listed ms) t t new (Ok tt) (walks_phrase t right line (DefinesStruct tag) d h (Ok tt) is) (k, at)
 
-    pub members_stop : (new : Tables) (e : CheckFault) → Tells t.raw.now (member_phrases (scope_of t) [] ms) e → Walks (of_item (Struct line tag ms)) t new (Err e)
+    pub members_stop : (new : Tables) (e : WalkFault) → Tells t.raw.now (member_phrases (scope_of t) [] ms) e → Walks (of_item (Struct line tag ms)) t new (Err e)
     members_stop new e told = two (one_phrase line (DefinesStruct tag)) (of_listed ms) t t new (Err e) (walks_phrase t right line (DefinesStruct tag) d h (Ok tt) is) told
 
 -- a prototype
@@ -79,11 +82,11 @@ abbrev of_signature : RawHead → Stretch
 of_signature head raw = record { gives = λ (scope : Scope). taken_phrases scope [] head.params; after = with_function head.name }
 
 module _ (t : Tables) (right : AreRight t) (line : ℕ) (head : RawHead) (d : Result (Unit {0}) Fault) (h : Decides (check_prototype t.raw.now (scope_of t) head) d) where
-  pub prototype_stops : (new : Tables) (e : CheckFault) → Err e ≡ on_line line d → Walks (of_item (Prototype line head)) t new (Err e)
+  pub prototype_stops : (new : Tables) (e : WalkFault) → Err e ≡ on_line line d → Walks (of_item (Prototype line head)) t new (Err e)
   prototype_stops new e is = first_stops (one_phrase line (DeclaresFunction head false)) (of_signature head) t new e (walks_phrase t right line (DeclaresFunction head false) d h (Err e) is)
 
   module _ (is : Ok tt ≡ on_line line d) where
-    pub signature_stops : (new : Tables) (e : CheckFault) (ps : List RawParam) → ps ≡ head.params → Tells t.raw.now (taken_phrases (scope_of t) [] ps) e → Walks (of_item (Prototype line head)) t new (Err e)
+    pub signature_stops : (new : Tables) (e : WalkFault) (ps : List RawParam) → ps ≡ head.params → Tells t.raw.now (taken_phrases (scope_of t) [] ps) e → Walks (of_item (Prototype line head)) t new (Err e)
     signature_stops new e ps same told =
         two (one_phrase line (DeclaresFunction head false)) (of_signature head) t t new (Err e) (walks_phrase t right line (DeclaresFunction head false) d h (Ok tt) is)
         (subst (λ qs. Tells t.raw.now (taken_phrases (scope_of t) [] qs) e) same told)
@@ -96,7 +99,7 @@ module _ (t : Tables) (right : AreRight t) (line : ℕ) (head : RawHead) (d : Re
 
 -- the parameters and the body of a function
 module _ (head : RawHead) (body : List RawStatement) (old opens : Tables) (enters : IsAt old opens (inside_function (scope_of old))) where
-  pub function_stops : (new : Tables) (e : CheckFault) → Walks (of_inside head body) opens new (Err e) → Walks (of_function head body) old new (Err e)
+  pub function_stops : (new : Tables) (e : WalkFault) → Walks (of_inside head body) opens new (Err e) → Walks (of_function head body) old new (Err e)
   function_stops new e h =
       subst (λ (r : RawProgram). Tells r ((of_inside head body r).gives (inside_function (scope_of old))) e) enters.text
       (subst (λ (x : Scope). Tells opens.raw.now ((of_inside head body opens.raw.now).gives x) e) enters.scope_is h)
@@ -127,26 +130,26 @@ module _ (t : Tables) (right : AreRight t) (line : ℕ) (head : RawHead) (body :
   abbrev parts : Phrases
   parts = begin_phrase t.raw.now line head body (scope_of t) ++ (inside t.raw.now line head body (scope_of t) ++ end_phrase t.raw.now line head body (scope_of t))
 
-  tells_whole : (e : CheckFault) → Tells t.raw.now parts e → Tells t.raw.now whole e
+  tells_whole : (e : WalkFault) → Tells t.raw.now parts e → Tells t.raw.now whole e
   tells_whole e k = subst (λ ps. Tells t.raw.now ps e) (define_phrases t.raw.now line head body (scope_of t)) k
 
   module _ (d : Result (Unit {0}) Fault) (h : Decides (check_definition t.raw.now (scope_of t) head) d) where
-    first : (r : Outcome) → r ≡ on_line line d → Answers t.raw.now (begin_phrase t.raw.now line head body (scope_of t)) r
+    first : (r : Outcome) → r ≡ on_line line d → AnswersOf t.raw.now (begin_phrase t.raw.now line head body (scope_of t)) r
     first r is = check_answers t.raw.now (scope_of t) (tables_typed t right) line (DeclaresFunction head true) d r h is
 
-    pub define_stops : (new : Tables) (e : CheckFault) → Err e ≡ on_line line d → Walks (of_item (Define line head body)) t new (Err e)
+    pub define_stops : (new : Tables) (e : WalkFault) → Err e ≡ on_line line d → Walks (of_item (Define line head body)) t new (Err e)
     define_stops new e is = tells_whole e (told_before t.raw.now e (begin_phrase t.raw.now line head body (scope_of t)) _ (first (Err e) is))
 
     module _ (is : Ok tt ≡ on_line line d) (mid : Tables) (name : Bytes) (same : name ≡ head.name) (at : IsAt t mid (with_function name (scope_of t))) where
       at_declared : scope_of mid ≡ with_function head.name (scope_of t)
       at_declared = at.scope_is ∙ ap (λ w. with_function w (scope_of t)) same
 
-      tells_inside : (e : CheckFault) → Tells mid.raw.now ((of_function head body mid.raw.now).gives (scope_of mid)) e → Tells t.raw.now (inside t.raw.now line head body (scope_of t)) e
+      tells_inside : (e : WalkFault) → Tells mid.raw.now ((of_function head body mid.raw.now).gives (scope_of mid)) e → Tells t.raw.now (inside t.raw.now line head body (scope_of t)) e
       tells_inside e k =
           subst (λ (x : Scope). Tells t.raw.now ((of_function head body t.raw.now).gives x) e) at_declared
           (subst (λ (r : RawProgram). Tells r ((of_function head body r).gives (scope_of mid)) e) at.text k)
 
-      pub inside_stops : (new : Tables) (e : CheckFault) → Walks (of_function head body) mid new (Err e) → Walks (of_item (Define line head body)) t new (Err e)
+      pub inside_stops : (new : Tables) (e : WalkFault) → Walks (of_function head body) mid new (Err e) → Walks (of_item (Define line head body)) t new (Err e)
       inside_stops new e k =
           tells_whole e (told_behind t.raw.now e (begin_phrase t.raw.now line head body (scope_of t)) _ (first (Ok tt) is)
           (told_before t.raw.now e (inside t.raw.now line head body (scope_of t)) (end_phrase t.raw.now line head body (scope_of t)) (tells_inside e k)))
@@ -157,7 +160,7 @@ module _ (t : Tables) (right : AreRight t) (line : ℕ) (head : RawHead) (body :
           (subst (λ (r : RawProgram). AreKept r ((of_function head body r).gives (scope_of mid))) at.text k)
 
       module _ (new : Tables) (k : Walks (of_function head body) mid new (Ok tt)) (f : Result (Unit {0}) Fault) (g : Decides (check_end t.raw.now (scope_of t) head body) f) where
-        last : (r : Outcome) → r ≡ on_line line f → Answers t.raw.now (end_phrase t.raw.now line head body (scope_of t)) r
+        last : (r : Outcome) → r ≡ on_line line f → AnswersOf t.raw.now (end_phrase t.raw.now line head body (scope_of t)) r
         last r ends_so = check_answers t.raw.now (scope_of t) (tables_typed t right) line (EndsFunction head body) f r g ends_so
 
         after_all_of : scope_of new ≡ after_item t.raw.now (Define line head body) (scope_of t)
@@ -166,10 +169,10 @@ module _ (t : Tables) (right : AreRight t) (line : ℕ) (head : RawHead) (body :
             ∙ ap (λ (r : RawProgram). (of_function head body r).after (with_function head.name (scope_of t))) at.text
             ∙ define_after t.raw.now line head body (scope_of t)
 
-        finish : (r : Outcome) → Answers t.raw.now (end_phrase t.raw.now line head body (scope_of t)) r → Walks (of_item (Define line head body)) t new r
+        finish : (r : Outcome) → AnswersOf t.raw.now (end_phrase t.raw.now line head body (scope_of t)) r → Walks (of_item (Define line head body)) t new r
         finish (Ok x) e = (
           subst (AreKept t.raw.now) (define_phrases t.raw.now line head body (scope_of t))
-              (kept_both t.raw.now (begin_phrase t.raw.now line head body (scope_of t)) _ (first (Ok tt) is) (kept_both t.raw.now (inside t.raw.now line head body (scope_of t)) _ (kept_inside k.0) e)),
+              (kept_joined t.raw.now (begin_phrase t.raw.now line head body (scope_of t)) _ (first (Ok tt) is) (kept_joined t.raw.now (inside t.raw.now line head body (scope_of t)) _ (kept_inside k.0) e)),
           record { scope_is = after_all_of; text = k.1.text ∙ at.text; right = λ r. k.1.right (at.right r) },
         )
         finish (Err x) e =
@@ -184,12 +187,8 @@ pub item_walks : (one x : RawItem) (old new : Tables) (r : Outcome) → one ≡ 
 item_walks one x old new r is h = subst (λ y. Walks (of_item y) old new r) (sym is) h
 
 module _ (raw : RawProgram) (scope : Scope) (before : List RawMember) (m : RawMember) (listed : StructMembers) (is : HasMembers raw before listed) where
-  not_named : (b : Bool) → not b ≡ true → b ≡ false
-  not_named true h = absurd (true≢false (sym h))
-  not_named false h = refl
-
   -- a member that passes its check has a new name
   pub member_fresh : check_member raw scope before m ≡ kept → listed_type m.name listed ≡ None
   member_fresh h =
       gone (listed_type m.name listed)
-      (named_before raw scope before m listed is ∙ not_named _ (test_passed _ 8 _ (second_kept (when_given (check_complete raw scope) (written_type raw m.shape)) _ (second_kept (check_type raw scope m.shape) _ h))))
+      (named_before raw scope before m listed is ∙ not-true _ (test_passed _ 8 _ (second_kept (when_given (check_complete raw scope) (written_type raw m.shape)) _ (second_kept (check_type raw scope m.shape) _ h))))

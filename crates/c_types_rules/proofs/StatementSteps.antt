@@ -20,7 +20,7 @@ use Rattle.c_types_base.specs.declared.tables.Tables.{Tables}
 use Rattle.c_types_checks.specs.Checking.{Decides, check_test}
 use Rattle.c_types_base.specs.Stretches.{Stretch, then_comes, enclosed, a_statement, standing, of_statement, of_form, of_statements, of_block, of_arms, of_part, labels_in}
 use Rattle.c_types_rules.specs.Walks.{Tells, Walks, on_line}
-use Rattle.c_types_rules.specs.declared.check_fault.CheckFault.{CheckFault}
+use Rattle.c_types_rules.specs.declared.walk_fault.WalkFault.{WalkFault}
 use Rattle.c_types_rules.proofs.Checked.{walks_phrase}
 use Rattle.c_types_base.proofs.Stretching.{arm_is, for_is, for_grows, labels-arms, a_number, one_phrase, of_arm, of_for}
 use Rattle.c_types_rules.proofs.WalkSteps.{Outcome, Passed, begins, turn, stops, ends, restated, two, first_stops, encloses, enclosed_stops}
@@ -103,7 +103,7 @@ module _ (old : Tables) (stand : Stand) (one : RawStatement) (new : Tables) (r :
 
 -- an if, whose first block or second is walked last
 module _ (l : ℕ) (e : RawExpr) (main rest : List RawStatement) (old tested : Tables) (first : Walks (a_statement l (Tests e)) old tested (Ok tt)) where
-  pub yes_stops : (new : Tables) (f : CheckFault) → Walks (of_block main) tested new (Err f) → Walks (then_comes (a_statement l (Tests e)) (then_comes (of_block main) (of_block rest))) old new (Err f)
+  pub yes_stops : (new : Tables) (f : WalkFault) → Walks (of_block main) tested new (Err f) → Walks (then_comes (a_statement l (Tests e)) (then_comes (of_block main) (of_block rest))) old new (Err f)
   yes_stops new f h =
       two (a_statement l (Tests e)) (then_comes (of_block main) (of_block rest)) old tested new (Err f) first (first_stops (of_block main) (of_block rest) tested new f h)
 
@@ -120,7 +120,7 @@ module _ (l : ℕ) (i : Option RawStatement) (e : RawExpr) (step : Option RawSta
   abbrev last_parts : Stretch
   last_parts = then_comes (of_part InBlock step) (of_block body)
 
-  pub init_stops : (new : Tables) (f : CheckFault) → Walks (of_part InFor i) old new (Err f) → Walks whole old new (Err f)
+  pub init_stops : (new : Tables) (f : WalkFault) → Walks (of_part InFor i) old new (Err f) → Walks whole old new (Err f)
   init_stops new f h = first_stops (of_part InFor i) (then_comes (one_phrase l (Tests e)) last_parts) old new f h
 
   module _ (begun : Tables) (init : Walks (of_part InFor i) old begun (Ok tt)) where
@@ -131,14 +131,14 @@ module _ (l : ℕ) (i : Option RawStatement) (e : RawExpr) (step : Option RawSta
     right_begun = past_init.right right
 
     module _ (d : Result (Unit {0}) Fault) (h : Decides (check_test begun.raw.now (scope_of begun) e) d) where
-      pub test_stops : (f : CheckFault) → Err f ≡ on_line l d → Walks whole old begun (Err f)
+      pub test_stops : (f : WalkFault) → Err f ≡ on_line l d → Walks whole old begun (Err f)
       test_stops f is = stops whole old begun (one_phrase l (Tests e)) last_parts past_init begun f (walks_phrase begun right_begun l (Tests e) d h (Err f) is)
 
       module _ (is : Ok tt ≡ on_line l d) where
         past_test : Passed whole last_parts old begun
         past_test = turn whole old begun (one_phrase l (Tests e)) last_parts past_init begun (walks_phrase begun right_begun l (Tests e) d h (Ok tt) is)
 
-        pub step_stops : (new : Tables) (f : CheckFault) → Walks (of_part InBlock step) begun new (Err f) → Walks whole old new (Err f)
+        pub step_stops : (new : Tables) (f : WalkFault) → Walks (of_part InBlock step) begun new (Err f) → Walks whole old new (Err f)
         step_stops new f w = stops whole old begun (of_part InBlock step) (of_block body) past_test new f w
 
         module _ (stepped : Tables) (w : Walks (of_part InBlock step) begun stepped (Ok tt)) where
@@ -154,7 +154,7 @@ module _ (stand : Stand) (one : RawStatement) (l : ℕ) (i : Option RawStatement
   abbrev parts : Stretch
   parts = of_for l i e step body
 
-  pub for_stops : (new : Tables) (f : CheckFault) → Walks parts opens new (Err f) → Walks (of_statement stand one) old new (Err f)
+  pub for_stops : (new : Tables) (f : WalkFault) → Walks parts opens new (Err f) → Walks (of_statement stand one) old new (Err f)
   for_stops new f h =
       for_walks old stand one new (Err f) l i e step b body is same
       (two a_number (enclosed parts) old counted new (Err f) (tt, number) (enclosed_stops parts counted opens new new (record { names = 0; outer = 0; owner = None }) f opening h))
@@ -173,7 +173,7 @@ module _ (stand : Stand) (one : RawStatement) (l : ℕ) (e : RawExpr) (arms : Li
   abbrev head_of : List RawArm → Stretch
   head_of as_ = a_statement l (Switches e (labels_in as_))
 
-  pub head_stops : (list : List RawArm) → list ≡ arms → (new : Tables) (f : CheckFault) → Walks (head_of list) old new (Err f) → Walks (of_statement stand one) old new (Err f)
+  pub head_stops : (list : List RawArm) → list ≡ arms → (new : Tables) (f : WalkFault) → Walks (head_of list) old new (Err f) → Walks (of_statement stand one) old new (Err f)
   head_stops list same new f h =
       switch_walks old stand one new (Err f) l e arms is
       (first_stops (head_of arms) (enclosed (of_arms arms)) old new f (subst (λ as_. Walks (head_of as_) old new (Err f)) same h))

@@ -14,8 +14,8 @@ use Rattle.c_types_base.specs.Tables.{scope_of}
 use Rattle.c_types_base.specs.declared.tables.Tables.{Tables}
 use Rattle.c_types_base.specs.Stretches.{of_items}
 use Rattle.c_types_rules.specs.Walks.{BreaksOn, BreaksFirst, Tells, Walks, NamesBroken, NamesFirst}
-use Rattle.c_types_rules.specs.declared.check_fault.CheckFault.{CheckFault}
-use Rattle.c_types_rules.specs.declared.check_fault.CheckFault.TheVariants.{Rule, NoMemory}
+use Rattle.c_types_rules.specs.declared.walk_fault.WalkFault.{WalkFault}
+use Rattle.c_types_rules.specs.declared.walk_fault.WalkFault.TheVariants.{Rule, NoMemory}
 
 module _ (raw : RawProgram) where
   each_keeps : (ps : Phrases) → AreKept raw ps → (p : Phrase) → Contains ps p → KeepsAll raw p
@@ -38,13 +38,13 @@ module _ (raw : RawProgram) where
   none_broken kept main number line (IsBroken.by_phrase {p} c b) = each_keeps (phrases raw) kept p c number b
   none_broken kept main number line (IsBroken.no_main none) = true≢false (sym main ∙ ap is_some none)
 
-  tells_broken : (e : CheckFault) → Tells raw (phrases raw) e → NamesBroken raw (Err e)
+  tells_broken : (e : WalkFault) → Tells raw (phrases raw) e → NamesBroken raw (Err e)
   tells_broken (Rule n line) h =
       let found = one_broken n line (phrases raw) h in
       subst (λ l. IsBroken n l raw) found.breaks.0 (IsBroken.by_phrase found.among found.breaks.1)
   tells_broken NoMemory h = tt
 
-  tells_first : (e : CheckFault) → Tells raw (phrases raw) e → NamesFirst raw (Err e)
+  tells_first : (e : WalkFault) → Tells raw (phrases raw) e → NamesFirst raw (Err e)
   tells_first (Rule n line) h = inl h
   tells_first NoMemory h = tt
 
@@ -60,13 +60,13 @@ module _ (raw : RawProgram) (t : Tables) (same : t.raw.now ≡ raw) (at : scope_
       none_broken raw (kept_in_text new (kept, is))
       (subst (λ r. is_some (definition_of r main_name) ≡ true) (is.text ∙ same) main)
 
-  told_in_text : (new : Tables) (e : CheckFault) → Walks (of_items xs) t new (Err e) → Tells raw (phrases raw) e
+  told_in_text : (new : Tables) (e : WalkFault) → Walks (of_items xs) t new (Err e) → Tells raw (phrases raw) e
   told_in_text new e h = subst (λ ps. Tells raw ps e) phrases_are (subst (λ r. Tells r (items_phrases r xs (scope_of t)) e) same h)
 
-  pub text_broken : (new : Tables) (e : CheckFault) → Walks (of_items xs) t new (Err e) → NamesBroken raw (Err e)
+  pub text_broken : (new : Tables) (e : WalkFault) → Walks (of_items xs) t new (Err e) → NamesBroken raw (Err e)
   text_broken new e h = tells_broken raw e (told_in_text new e h)
 
-  pub text_broken_first : (new : Tables) (e : CheckFault) → Walks (of_items xs) t new (Err e) → NamesFirst raw (Err e)
+  pub text_broken_first : (new : Tables) (e : WalkFault) → Walks (of_items xs) t new (Err e) → NamesFirst raw (Err e)
   text_broken_first new e h = tells_first raw e (told_in_text new e h)
 
   pub main_asked_last : (new : Tables) → Walks (of_items xs) t new (Ok tt) → NamesFirst raw (Err (Rule 5 1))

@@ -10,23 +10,20 @@ use Rattle.c_types_base.specs.declared.tables.Before.{Before}
 use Rattle.c_types_base.proofs.ScopeLaws.{Extends, front}
 use Rattle.c_types_base.specs.Stretches.{Stretch, then_comes, enclosed}
 use Rattle.c_types_rules.specs.Walks.{BreaksFirst, Tells, Walks}
-use Rattle.c_types_rules.specs.declared.check_fault.CheckFault.{CheckFault}
-use Rattle.c_types_rules.specs.declared.check_fault.CheckFault.TheVariants.{Rule, NoMemory}
+use Rattle.c_types_rules.specs.declared.walk_fault.WalkFault.{WalkFault}
+use Rattle.c_types_rules.specs.declared.walk_fault.WalkFault.TheVariants.{Rule, NoMemory}
 use Rattle.c_language.specs.Rules.{AreKept}
+use Rattle.c_language.proofs.PhraseLists.{kept_joined}
 
 abbrev pub Outcome : Type 0
-Outcome = Result (Unit {0}) CheckFault
+Outcome = Result (Unit {0}) WalkFault
 
 -- what holds of a fault holds of the answer that passes it on
-pub passes_on : (P : Outcome → Type 0) (e : CheckFault) (r : Outcome) → IsErrAnd r (λ y. y ≡ e) → P (Err e) → P r
+pub passes_on : (P : Outcome → Type 0) (e : WalkFault) (r : Outcome) → IsErrAnd r (λ y. y ≡ e) → P (Err e) → P r
 passes_on P e (Ok x) h k = absurd h
-passes_on P e (Err y) h k = subst (λ (f : CheckFault). P (Err f)) (sym h) k
+passes_on P e (Err y) h k = subst (λ (f : WalkFault). P (Err f)) (sym h) k
 
 module _ (raw : RawProgram) where
-  pub kept_both : (ps qs : Phrases) → AreKept raw ps → AreKept raw qs → AreKept raw (ps ++ qs)
-  kept_both [] qs first second = second
-  kept_both (p ∷ ps) qs (here, first) second = (here, kept_both ps qs first second)
-
   pub broken_before : (n line : ℕ) (ps qs : Phrases) → BreaksFirst raw n line ps → BreaksFirst raw n line (ps ++ qs)
   broken_before n line [] qs h = absurd h
   broken_before n line (p ∷ ps) qs (inl h) = inl h
@@ -36,11 +33,11 @@ module _ (raw : RawProgram) where
   broken_behind n line [] qs kept h = h
   broken_behind n line (p ∷ ps) qs (here, kept) h = inr (here, broken_behind n line ps qs kept h)
 
-  pub told_before : (e : CheckFault) (ps qs : Phrases) → Tells raw ps e → Tells raw (ps ++ qs) e
+  pub told_before : (e : WalkFault) (ps qs : Phrases) → Tells raw ps e → Tells raw (ps ++ qs) e
   told_before (Rule n line) ps qs h = broken_before n line ps qs h
   told_before NoMemory ps qs h = tt
 
-  pub told_behind : (e : CheckFault) (ps qs : Phrases) → AreKept raw ps → Tells raw qs e → Tells raw (ps ++ qs) e
+  pub told_behind : (e : WalkFault) (ps qs : Phrases) → AreKept raw ps → Tells raw qs e → Tells raw (ps ++ qs) e
   told_behind (Rule n line) ps qs kept h = broken_behind n line ps qs kept h
   told_behind NoMemory ps qs kept h = tt
 
@@ -54,7 +51,7 @@ at_scope a b s t e h = subst (IsAt a b) e h
 -- how far the walk along a stretch has come: what is left of it answers for the whole
 pub record Passed (whole left : Stretch) (old now : Tables) : Type 0 where
   pub kept : AreKept old.raw.now ((left old.raw.now).gives (scope_of now)) → AreKept old.raw.now ((whole old.raw.now).gives (scope_of old))
-  pub told : (e : CheckFault) → Tells old.raw.now ((left old.raw.now).gives (scope_of now)) e → Tells old.raw.now ((whole old.raw.now).gives (scope_of old)) e
+  pub told : (e : WalkFault) → Tells old.raw.now ((left old.raw.now).gives (scope_of now)) e → Tells old.raw.now ((whole old.raw.now).gives (scope_of old)) e
   pub after : (whole old.raw.now).after (scope_of old) ≡ (left old.raw.now).after (scope_of now)
   pub text : now.raw.now ≡ old.raw.now
   pub right : AreRight old → AreRight now
@@ -81,7 +78,7 @@ module _ (whole : Stretch) (old now : Tables) where
     turn_with : AreKept old.raw.now ((w old.raw.now).gives (scope_of now)) → scope_of next ≡ (w old.raw.now).after (scope_of now)
         → next.raw.now ≡ now.raw.now → (AreRight now → AreRight next) → Passed whole rest old next
     turn_with kept at text right = record {
-      kept = λ h. p.kept (kept_both old.raw.now _ _ kept (subst (λ (s : Scope). AreKept old.raw.now ((rest old.raw.now).gives s)) at h));
+      kept = λ h. p.kept (kept_joined old.raw.now _ _ kept (subst (λ (s : Scope). AreKept old.raw.now ((rest old.raw.now).gives s)) at h));
       told = λ e h. p.told e (told_behind old.raw.now e ((w old.raw.now).gives (scope_of now)) _ kept (subst (λ (s : Scope). Tells old.raw.now ((rest old.raw.now).gives s) e) at h));
       after = p.after ∙ ap (rest old.raw.now).after (sym at);
       text = text ∙ p.text;
@@ -92,7 +89,7 @@ module _ (whole : Stretch) (old now : Tables) where
     turn (kept, is) =
         turn_with (of_text (λ raw. AreKept raw ((w raw).gives (scope_of now))) kept) (is.scope_is ∙ ap (λ (raw : RawProgram). (w raw).after (scope_of now)) p.text) is.text is.right
 
-    pub stops : (e : CheckFault) → Walks w now next (Err e) → Walks whole old next (Err e)
+    pub stops : (e : WalkFault) → Walks w now next (Err e) → Walks whole old next (Err e)
     stops e h =
         p.told e (told_before old.raw.now e ((w old.raw.now).gives (scope_of now)) ((rest old.raw.now).gives ((w old.raw.now).after (scope_of now)))
         (of_text (λ raw. Tells raw ((w raw).gives (scope_of now)) e) h))
@@ -117,7 +114,7 @@ restated w v old new r e h = ends v old old w (left_same v old old v w (sym e) (
 pub two : (w v : Stretch) (old now new : Tables) (r : Outcome) → Walks w old now (Ok tt) → Walks v now new r → Walks (then_comes w v) old new r
 two w v old now new r first second = ends (then_comes w v) old now v (turn (then_comes w v) old old w v (begins (then_comes w v) old) now first) new r second
 
-pub first_stops : (w v : Stretch) (old now : Tables) (e : CheckFault) → Walks w old now (Err e) → Walks (then_comes w v) old now (Err e)
+pub first_stops : (w v : Stretch) (old now : Tables) (e : WalkFault) → Walks w old now (Err e) → Walks (then_comes w v) old now (Err e)
 first_stops w v old now e h = stops (then_comes w v) old old w v (begins (then_comes w v) old) now e h
 
 -- a block takes away the names that it declares
@@ -147,6 +144,6 @@ module _ (w : Stretch) (old opens inside closes : Tables) (b : Before) where
         },
       )
 
-  pub enclosed_stops : (e : CheckFault) → IsAt old opens (opened (scope_of old)) → Walks w opens inside (Err e) → Walks (enclosed w) old closes (Err e)
+  pub enclosed_stops : (e : WalkFault) → IsAt old opens (opened (scope_of old)) → Walks w opens inside (Err e) → Walks (enclosed w) old closes (Err e)
   enclosed_stops e opening h =
       subst (λ (r : RawProgram). Tells r ((w r).gives (opened (scope_of old))) e) opening.text (subst (λ (x : Scope). Tells opens.raw.now ((w opens.raw.now).gives x) e) opening.scope_is h)

@@ -9,13 +9,13 @@ ghost use Rattle.c_language.specs.Scopes as scopes;
 ghost use Rattle.c_types_base.specs.Numbering.{Numbers};
 ghost use Rattle.c_types_base.specs.Tables.{scope_of, AreRight};
 ghost use Rattle.c_types_base.specs.Stretches.{of_parameter, of_parameters, of_function, of_item, of_items};
-ghost use Rattle.c_types_rules.specs.Walks.{Answers, Walks};
+ghost use Rattle.c_types_rules.specs.Walks.{AnswersOf, Walks};
 ghost use Rattle.c_types_base.specs.Listing as spec;
 ghost use Rattle.c_types_base.specs.Listing.{HasMembers, HasPlace};
 
-use crate::check_fault::CheckFault;
 use crate::steps::{declaration, declare, on_line};
 use crate::walk::statements;
+use crate::walk_fault::WalkFault;
 use c_tree::{RawHead, RawItem, RawMember, RawParam, RawStatement};
 use c_types_base::listing::list_member;
 use c_types_base::names::StructMembers;
@@ -33,9 +33,9 @@ fn members<'a>(
     alloc: Global,
     tables: &Tables<'_>,
     list: &'a [RawMember],
-) -> Result<StructMembers<'a>, CheckFault>
+) -> Result<StructMembers<'a>, WalkFault>
     requires { AreRight tables.now }
-    ensures answers { Answers tables.now.raw.now (phrases.member_phrases (scope_of tables.now) [] list.now) result }
+    ensures answers { AnswersOf tables.now.raw.now (phrases.member_phrases (scope_of tables.now) [] list.now) result }
     ensures listed { IfOk result (HasMembers tables.now.raw.now list.now) }
 {
     let mut listed = StructMembers {
@@ -56,7 +56,7 @@ fn define_struct<'a>(
     line: u32,
     tag: &[u8],
     list: &'a [RawMember],
-) -> Result<(), CheckFault>
+) -> Result<(), WalkFault>
     requires right { AreRight tables.old }
     requires place { slice_get (types.defined_structs tables.old.raw.now) (vec_len tables.old.structs) ≡ Some (record { tag = tag.now; members = list.now }) }
     ensures { Walks (of_item (item_of.Struct line tag.now list.now)) tables.old tables.new result }
@@ -91,9 +91,9 @@ fn give_name<'a>(names: &mut Numbering<'a>, parameter: &'a RawParam) -> Result<(
 }
 
 /// The parameters of a prototype.
-fn taken(alloc: Global, tables: &Tables<'_>, list: &[RawParam]) -> Result<(), CheckFault>
+fn taken(alloc: Global, tables: &Tables<'_>, list: &[RawParam]) -> Result<(), WalkFault>
     requires { AreRight tables.now }
-    ensures { Answers tables.now.raw.now (phrases.taken_phrases (scope_of tables.now) [] list.now) result }
+    ensures { AnswersOf tables.now.raw.now (phrases.taken_phrases (scope_of tables.now) [] list.now) result }
 {
     let mut names = Numbering::new(alloc);
     for parameter in list {
@@ -110,7 +110,7 @@ fn prototype<'a>(
     tables: &mut Tables<'a>,
     line: u32,
     head: &'a RawHead,
-) -> Result<(), CheckFault>
+) -> Result<(), WalkFault>
     requires right { AreRight tables.old }
     requires outside { tables.old.outer ≡ 0 }
     ensures { Walks (of_item (item_of.Prototype line head.now)) tables.old tables.new result }
@@ -126,7 +126,7 @@ fn parameter<'a>(
     alloc: Global,
     tables: &mut Tables<'a>,
     parameter: &'a RawParam,
-) -> Result<(), CheckFault>
+) -> Result<(), WalkFault>
     requires { AreRight tables.old }
     ensures { Walks (of_parameter parameter.now) tables.old tables.new result }
 {
@@ -149,7 +149,7 @@ fn parameters<'a>(
     alloc: Global,
     tables: &mut Tables<'a>,
     list: &'a [RawParam],
-) -> Result<(), CheckFault>
+) -> Result<(), WalkFault>
     requires { AreRight tables.old }
     ensures { Walks (of_parameters list.now) tables.old tables.new result }
 {
@@ -165,7 +165,7 @@ fn function<'a>(
     tables: &mut Tables<'a>,
     head: &'a RawHead,
     body: &'a [RawStatement],
-) -> Result<(), CheckFault>
+) -> Result<(), WalkFault>
     requires { AreRight tables.old }
     ensures { Walks (of_function head.now body.now) tables.old tables.new result }
 {
@@ -184,7 +184,7 @@ fn define<'a>(
     line: u32,
     head: &'a RawHead,
     body: &'a [RawStatement],
-) -> Result<(), CheckFault>
+) -> Result<(), WalkFault>
     requires right { AreRight tables.old }
     requires outside { tables.old.outer ≡ 0 }
     ensures { Walks (of_item (item_of.Define line head.now body.now)) tables.old tables.new result }
@@ -196,7 +196,7 @@ fn define<'a>(
 }
 
 /// An item.
-fn item<'a>(alloc: Global, tables: &mut Tables<'a>, item: &'a RawItem) -> Result<(), CheckFault>
+fn item<'a>(alloc: Global, tables: &mut Tables<'a>, item: &'a RawItem) -> Result<(), WalkFault>
     requires right { AreRight tables.old }
     requires outside { tables.old.outer ≡ 0 }
     requires place { HasPlace tables.old.raw.now (vec_len tables.old.structs) item.now }
@@ -229,11 +229,13 @@ fn item<'a>(alloc: Global, tables: &mut Tables<'a>, item: &'a RawItem) -> Result
 }
 
 /// The items of a text.
+///
+/// Err: the first broken rule and its line; or no memory, or no number, was left.
 pub fn items<'a>(
     alloc: Global,
     tables: &mut Tables<'a>,
     list: &'a [RawItem],
-) -> Result<(), CheckFault>
+) -> Result<(), WalkFault>
     requires right { AreRight tables.old }
     requires whole { list.now ≡ tables.old.raw.now.items }
     requires start { scope_of tables.old ≡ scopes.outset }

@@ -6,8 +6,8 @@ ghost use Rattle.c_language.specs.Rules.{KeepsRules};
 ghost use Rattle.c_types_base.specs.Tables.{AreRight};
 ghost use Rattle.c_types_rules.specs.Walks.{NamesBroken, NamesFirst};
 
-use crate::check_fault::CheckFault;
 use crate::items::items;
+use crate::walk_fault::WalkFault;
 use c_tree::RawProgram;
 use c_types_base::tables::Tables;
 use std::alloc::Global;
@@ -24,8 +24,8 @@ fn has_main(tables: &Tables<'_>) -> bool
 ///
 /// Err: `Rule`, with the number of a rule that the first phrase of the text with a broken rule breaks, and the line
 /// of that phrase; a text without main breaks rule 5 at line 1, which is told where no phrase breaks a rule;
-/// `NoMemory`, no memory was left.
-pub fn check_rules(alloc: Global, raw: &RawProgram) -> Result<(), CheckFault>
+/// `NoMemory`, no memory or no number was left.
+pub fn check_rules(alloc: Global, raw: &RawProgram) -> Result<(), WalkFault>
     ensures kept { OnOk result (KeepsRules raw.now) }
     ensures broken { NamesBroken raw.now result }
     ensures first { NamesFirst raw.now result }
@@ -35,6 +35,6 @@ pub fn check_rules(alloc: Global, raw: &RawProgram) -> Result<(), CheckFault>
     if has_main(&tables) {
         Ok(())
     } else {
-        Err(CheckFault::Rule(5, 1))
+        Err(WalkFault::Rule(5, 1))
     }
 }

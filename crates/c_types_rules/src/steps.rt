@@ -9,10 +9,10 @@ ghost use Rattle.c_types_checks.specs.PhraseChecks.{check_part};
 ghost use Rattle.c_types_checks.specs.Stands.{stand_of};
 ghost use Rattle.c_types_base.specs.Stretches.{then_comes, a_statement, of_declaration, of_target, of_form};
 ghost use Rattle.c_types_rules.specs.Walks as spec;
-ghost use Rattle.c_types_rules.specs.Walks.{Answers, Walks};
+ghost use Rattle.c_types_rules.specs.Walks.{AnswersOf, Walks};
 ghost use Rattle.c_tree.specs.declared.raw.statement.RawStatement.TheOpen.{RawStatement-F};
 
-use crate::check_fault::CheckFault;
+use crate::walk_fault::WalkFault;
 use c_arith::BinaryOp;
 use c_tree::{RawAmount, RawArg, RawExpr, RawInit, RawTarget, RawType, RawTypeName, RawVar};
 use c_types_base::declared_types::{item_count, type_with};
@@ -28,22 +28,26 @@ use c_types_checks::stand::Stand;
 use std::alloc::{AllocError, Global};
 
 /// What is told where the check of a phrase on a line answers so.
-pub fn on_line(line: u32, verdict: Result<(), Fault>) -> Result<(), CheckFault>
+///
+/// Err: the rule that the check tells, at the line; or no memory was left.
+pub fn on_line(line: u32, verdict: Result<(), Fault>) -> Result<(), WalkFault>
     ensures { result ≡ spec.on_line line verdict }
 {
     match verdict {
         Ok(()) => Ok(()),
-        Err(Fault::Rule(number)) => Err(CheckFault::Rule(number, line)),
-        Err(Fault::NoMemory) => Err(CheckFault::NoMemory),
+        Err(Fault::Rule(number)) => Err(WalkFault::Rule(number, line)),
+        Err(Fault::NoMemory) => Err(WalkFault::NoMemory),
     }
 }
 
 /// Numbers a statement, where its check answers so.
+///
+/// Err: the first broken rule and its line; or no memory, or no number, was left.
 pub fn number_on(
     tables: &mut Tables<'_>,
     line: u32,
     verdict: Result<(), Fault>,
-) -> Result<(), CheckFault>
+) -> Result<(), WalkFault>
     requires { AreRight tables.old }
     ensures { (part : phrases.Part) → Decides (check_part tables.old.raw.now (scope_of tables.old) part) verdict → Walks (a_statement line part) tables.old tables.new result }
 {
@@ -77,9 +81,9 @@ fn begin(
     stand: Stand,
     var: &RawVar,
     init: &RawInit,
-) -> Result<(), CheckFault>
+) -> Result<(), WalkFault>
     requires { AreRight tables.now }
-    ensures { Answers tables.now.raw.now (phrases.begun_phrases line (scope_of tables.now) (stand_of stand) var.now init.now) result }
+    ensures { AnswersOf tables.now.raw.now (phrases.begun_phrases line (scope_of tables.now) (stand_of stand) var.now init.now) result }
 {
     match init {
         RawInit::None => Ok(()),
@@ -89,6 +93,8 @@ fn begin(
 }
 
 /// A declaration of a variable.
+///
+/// Err: the first broken rule and its line; or no memory, or no number, was left.
 pub fn declaration<'a>(
     alloc: Global,
     tables: &mut Tables<'a>,
@@ -96,7 +102,7 @@ pub fn declaration<'a>(
     stand: Stand,
     var: &'a RawVar,
     init: &RawInit,
-) -> Result<(), CheckFault>
+) -> Result<(), WalkFault>
     requires { AreRight tables.old }
     ensures { Walks (of_declaration line (stand_of stand) var.now init.now) tables.old tables.new result }
 {
@@ -129,6 +135,8 @@ fn number_begun(tables: &mut Tables<'_>, init: &RawInit) -> Result<(), AllocErro
 }
 
 /// A declaration among statements.
+///
+/// Err: the first broken rule and its line; or no memory, or no number, was left.
 pub fn declared<'a>(
     alloc: Global,
     tables: &mut Tables<'a>,
@@ -136,7 +144,7 @@ pub fn declared<'a>(
     stand: Stand,
     var: &'a RawVar,
     init: &RawInit,
-) -> Result<(), CheckFault>
+) -> Result<(), WalkFault>
     requires { AreRight tables.old }
     ensures { Walks (of_form (stand_of stand) (λ raw. RawStatement-F.Declare line var.now init.now)) tables.old tables.new result }
 {
@@ -146,6 +154,8 @@ pub fn declared<'a>(
 }
 
 /// An assignment.
+///
+/// Err: the first broken rule and its line; or no memory, or no number, was left.
 pub fn assigned(
     alloc: Global,
     tables: &mut Tables<'_>,
@@ -153,7 +163,7 @@ pub fn assigned(
     left: &RawExpr,
     op: Option<BinaryOp>,
     right: &RawExpr,
-) -> Result<(), CheckFault>
+) -> Result<(), WalkFault>
     requires { AreRight tables.old }
     ensures { Walks (a_statement line (phrases.Assigns left.now op right.now)) tables.old tables.new result }
 {
@@ -162,12 +172,14 @@ pub fn assigned(
 }
 
 /// `++` or `--`.
+///
+/// Err: the first broken rule and its line; or no memory, or no number, was left.
 pub fn bumped(
     alloc: Global,
     tables: &mut Tables<'_>,
     line: u32,
     left: &RawExpr,
-) -> Result<(), CheckFault>
+) -> Result<(), WalkFault>
     requires { AreRight tables.old }
     ensures { Walks (a_statement line (phrases.Bumps left.now)) tables.old tables.new result }
 {
@@ -176,12 +188,14 @@ pub fn bumped(
 }
 
 /// The test of an if, a while or a do.
+///
+/// Err: the first broken rule and its line; or no memory, or no number, was left.
 pub fn tested(
     alloc: Global,
     tables: &mut Tables<'_>,
     line: u32,
     test: &RawExpr,
-) -> Result<(), CheckFault>
+) -> Result<(), WalkFault>
     requires { AreRight tables.old }
     ensures { Walks (a_statement line (phrases.Tests test.now)) tables.old tables.new result }
 {
@@ -190,12 +204,14 @@ pub fn tested(
 }
 
 /// A return.
+///
+/// Err: the first broken rule and its line; or no memory, or no number, was left.
 pub fn returned(
     alloc: Global,
     tables: &mut Tables<'_>,
     line: u32,
     value: &Option<RawExpr>,
-) -> Result<(), CheckFault>
+) -> Result<(), WalkFault>
     requires { AreRight tables.old }
     ensures { Walks (a_statement line (phrases.Returns value.now)) tables.old tables.new result }
 {
@@ -210,7 +226,7 @@ fn target<'a>(
     line: u32,
     stand: Stand,
     to: &'a RawTarget,
-) -> Result<(), CheckFault>
+) -> Result<(), WalkFault>
     requires { AreRight tables.old }
     ensures { Walks (of_target line (stand_of stand) to.now) tables.old tables.new result }
 {
@@ -225,6 +241,8 @@ fn target<'a>(
 }
 
 /// A call of a function by its name.
+///
+/// Err: the first broken rule and its line; or no memory, or no number, was left.
 pub fn call<'a>(
     alloc: Global,
     tables: &mut Tables<'a>,
@@ -233,7 +251,7 @@ pub fn call<'a>(
     to: &'a RawTarget,
     function: &[u8],
     args: &[RawArg],
-) -> Result<(), CheckFault>
+) -> Result<(), WalkFault>
     requires { AreRight tables.old }
     ensures { Walks (then_comes (of_target line (stand_of stand) to.now) (a_statement line (phrases.Calls (stand_of stand) to.now function.now args.now))) tables.old tables.new result }
 {
@@ -243,6 +261,8 @@ pub fn call<'a>(
 }
 
 /// A call of `malloc`.
+///
+/// Err: the first broken rule and its line; or no memory, or no number, was left.
 pub fn heap<'a>(
     alloc: Global,
     tables: &mut Tables<'a>,
@@ -251,7 +271,7 @@ pub fn heap<'a>(
     to: &'a RawTarget,
     cast: &Option<RawTypeName>,
     amount: &RawAmount,
-) -> Result<(), CheckFault>
+) -> Result<(), WalkFault>
     requires { AreRight tables.old }
     ensures { Walks (then_comes (of_target line (stand_of stand) to.now) (a_statement line (phrases.Allocates to.now cast.now amount.now))) tables.old tables.new result }
 {

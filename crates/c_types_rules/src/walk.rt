@@ -8,8 +8,8 @@ ghost use Rattle.c_types_checks.specs.Stands.{stand_of};
 ghost use Rattle.c_types_base.specs.Stretches.{enclosed, a_statement, of_statement, of_statements, of_block, of_arms, of_part, labels_in};
 ghost use Rattle.c_types_rules.specs.Walks.{Walks};
 
-use crate::check_fault::CheckFault;
 use crate::steps::{assigned, bumped, call, declared, heap, number_on, on_line, returned, tested};
+use crate::walk_fault::WalkFault;
 use c_tree::{RawArm, RawExpr, RawLabel, RawStatement};
 use c_types_base::tables::Tables;
 use c_types_checks::checking::check_test;
@@ -46,7 +46,7 @@ fn switch_head(
     line: u32,
     test: &RawExpr,
     list: &[RawArm],
-) -> Result<(), CheckFault>
+) -> Result<(), WalkFault>
     requires { AreRight tables.old }
     ensures { Walks (a_statement line (phrases.Switches test.now (labels_in list.now))) tables.old tables.new result }
 {
@@ -62,7 +62,7 @@ pub fn statements<'a>(
     tables: &mut Tables<'a>,
     stand: Stand,
     list: &'a [RawStatement],
-) -> Result<(), CheckFault>
+) -> Result<(), WalkFault>
     requires { AreRight tables.old }
     ensures { Walks (of_statements (stand_of stand) list.now) tables.old tables.new result }
 {
@@ -78,7 +78,7 @@ fn block<'a>(
     alloc: Global,
     tables: &mut Tables<'a>,
     list: &'a [RawStatement],
-) -> Result<(), CheckFault>
+) -> Result<(), WalkFault>
     requires { AreRight tables.old }
     ensures { Walks (of_block list.now) tables.old tables.new result }
 {
@@ -96,7 +96,7 @@ fn part<'a>(
     tables: &mut Tables<'a>,
     stand: Stand,
     part: &'a Option<Boxed<RawStatement>>,
-) -> Result<(), CheckFault>
+) -> Result<(), WalkFault>
     requires { AreRight tables.old }
     ensures { Walks (of_part (stand_of stand) part.now) tables.old tables.new result }
 {
@@ -108,7 +108,7 @@ fn part<'a>(
 
 /// The arms of a switch, one after another.
 #[cycle(statement)]
-fn arms<'a>(alloc: Global, tables: &mut Tables<'a>, list: &'a [RawArm]) -> Result<(), CheckFault>
+fn arms<'a>(alloc: Global, tables: &mut Tables<'a>, list: &'a [RawArm]) -> Result<(), WalkFault>
     requires { AreRight tables.old }
     ensures { Walks (of_arms list.now) tables.old tables.new result }
 {
@@ -124,7 +124,7 @@ fn arms_block<'a>(
     alloc: Global,
     tables: &mut Tables<'a>,
     list: &'a [RawArm],
-) -> Result<(), CheckFault>
+) -> Result<(), WalkFault>
     requires { AreRight tables.old }
     ensures { Walks (enclosed (of_arms list.now)) tables.old tables.new result }
 {
@@ -142,7 +142,7 @@ fn statement<'a>(
     tables: &mut Tables<'a>,
     stand: Stand,
     statement: &'a RawStatement,
-) -> Result<(), CheckFault>
+) -> Result<(), WalkFault>
     requires { AreRight tables.old }
     ensures { Walks (of_statement (stand_of stand) statement.now) tables.old tables.new result }
 {

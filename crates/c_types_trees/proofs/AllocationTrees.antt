@@ -21,7 +21,7 @@ use Rattle.c_language.specs.Scopes.{Scope, Meaning, meaning_in}
 use Rattle.c_language.specs.ExprTypes.{operand, target_of}
 use Rattle.c_language.specs.Phrases.{Part, Allocates}
 use Rattle.c_language.specs.Uses.{expressions, tags, tags_in, tags_if, tags_of_size, sizes, counts, target_exprs}
-use Rattle.c_language.specs.Rules.{undeclared, allocation}
+use Rattle.c_language.specs.Rules.{undeclared, allocation, BreaksNone}
 use Rattle.c_language.specs.NameRules.{UsesUndeclared}
 use Rattle.c_language.specs.CallRules.{target_type, HasOtherSize, MisusesAllocation, IsStored}
 use Rattle.c_language.specs.TypeGrammar.{named_type}
@@ -32,12 +32,12 @@ use Rattle.c_language.proofs.Options.{value_there, there_map}
 use Rattle.c_language.proofs.Lists.{contains_first}
 use Rattle.c_types_base.proofs.OptionLemmas.{not_none, there_then, there_optional}
 use Rattle.c_types_trees.specs.FitPhrases.{IsAllocation}
-use Rattle.c_types_trees.specs.KeptPhrases.{IsPlainName, IsPlainSize, IsPlainAmount, IsKept}
+use Rattle.c_types_trees.specs.KeptPhrases.{IsPlainName, IsPlainSize, IsPlainAmount}
 use Rattle.c_types_trees.proofs.ScopeLemmas.{IsTyped, AreComplete}
 use Rattle.c_types_trees.proofs.PhraseTrees.{tag_defined, named_made, IsMadeTarget, phrase_tree, phrase_operand}
 use Rattle.c_language.specs.Options.{IsThere}
 
-module _ (raw : RawProgram) (scope : Scope) (to : RawTarget) (cast : Option RawTypeName) (n : RawAmount) (keeps : IsKept raw scope (Allocates to cast n))
+module _ (raw : RawProgram) (scope : Scope) (to : RawTarget) (cast : Option RawTypeName) (n : RawAmount) (keeps : BreaksNone raw scope (Allocates to cast n))
     (stored_type : IsThere (target_type raw scope to)) where
   -- the target is a pointer, so that what it points to has a type
   stored_object : (t : ExprType) → target_type raw scope to ≡ Some t → IsThere (target_of t)
@@ -90,7 +90,7 @@ module _ (raw : RawProgram) (scope : Scope) (to : RawTarget) (cast : Option RawT
 
 module _ (raw : RawProgram) (complete : AreComplete raw (defined_structs raw)) (scope : Scope) (typed : IsTyped scope) where
   -- what a call's result is stored in has a type
-  target_typed : (part : Part) → IsKept raw scope part → (to : RawTarget) → IsStored to → IsMadeTarget raw to
+  target_typed : (part : Part) → BreaksNone raw scope part → (to : RawTarget) → IsStored to → IsMadeTarget raw to
       → ((e : RawExpr) → Contains (target_exprs to) e → Contains (expressions part) e) → IsThere (target_type raw scope to)
   target_typed part keeps target.None stored made within = stored
   target_typed part keeps (target.Place a) stored made within =
@@ -98,7 +98,7 @@ module _ (raw : RawProgram) (complete : AreComplete raw (defined_structs raw)) (
   target_typed part keeps (target.Declared var) stored made within = made.typed
 
   module _ (to : RawTarget) (cast : Option RawTypeName) (n : RawAmount) (form : IsAllocation to cast n) (made : IsMadeTarget raw to)
-      (keeps : IsKept raw scope (Allocates to cast n)) where
+      (keeps : BreaksNone raw scope (Allocates to cast n)) where
     count_tree : (e : RawExpr) → Contains (counts n) e → IsThere (expr_of raw scope e)
     count_tree e c = phrase_tree raw complete scope typed (Allocates to cast n) keeps e (Contains-append_right (target_exprs to) (counts n) e c)
 

@@ -16,17 +16,18 @@ use Rattle.c_language.specs.DeclaredTypes.{defined_functions, function_id, defin
 use Rattle.c_language.specs.Scopes.{Scope}
 use Rattle.c_language.specs.Phrases.{Calls}
 use Rattle.c_language.specs.Uses.{arg_exprs, target_exprs, is_library_function}
-use Rattle.c_language.specs.Rules.{undeclared, no_definition, arguments, format, library}
+use Rattle.c_language.specs.Rules.{undeclared, no_definition, arguments, format, library, BreaksNone}
 use Rattle.c_language.specs.NameRules.{UsesUndeclared, LacksDefinition}
 use Rattle.c_language.specs.CallRules.{MisusesArguments, format_in, later_args, pieces_in, MisusesFormat, only_arg, MisusesLibrary}
 use Rattle.c_language.specs.ProgramOf.{args_tree, print_tree}
 use Rattle.c_language.specs.Formats.{conversions}
 use Rattle.c_language.proofs.Options.{value_there, some_same, none_there}
 use Rattle.c_language.proofs.Lists.{contains_nil, contains_cons, contains_first, contains_later}
+use Rattle.c_language.proofs.UseLemmas.{later_in}
 use Rattle.c_types_base.specs.declared.tables.Tables.{Tables}
 use Rattle.c_types_base.specs.Tables.{scope_of, AreRight}
 use Rattle.c_types_base.proofs.OptionLemmas.{not_none, there_position}
-use Rattle.c_types_trees.specs.KeptPhrases.{IsKept, IsOperand, AreOperands, IsValue, AreValues, IsKeptCall}
+use Rattle.c_types_trees.specs.KeptPhrases.{IsOperand, AreOperands, IsValue, AreValues, IsKeptCall}
 use Rattle.c_types_trees.proofs.CallTrees.{AreExpressions, widths_are, types_are}
 use Rattle.c_types_trees.proofs.KeptLemmas.{kept_operand}
 use Rattle.c_language.specs.Options.{IsThere}
@@ -54,15 +55,10 @@ module _ (raw : RawProgram) (scope : Scope) where
   printed id line args text es has are =
       ap (option_and_then (λ (w : Bytes). option_map (s.Print id line w) (args_tree raw scope (later_args args)))) has ∙ ap (option_map (s.Print id line text)) are
 
-  later_operands : (args : List RawArg) → AreOperands raw scope (arg_exprs args) → AreOperands raw scope (arg_exprs (later_args args))
-  later_operands [] operands = operands
-  later_operands (arg.Value e ∷ rest) operands = λ b c. operands b (contains_later e b (arg_exprs rest) c)
-  later_operands (arg.Literal text ∷ rest) operands = operands
-
   module _ (f : Bytes) (args : List RawArg) (call : IsKeptCall raw scope f args) where
     -- what is said of a function of the library holds of this one, where it has the name
-    named : (w : Bytes) → bytes_eq f w ≡ true → IsKept raw scope (Calls call.stand call.to w args)
-    named w is = subst (λ g. IsKept raw scope (Calls call.stand call.to g args)) ((bytes_eq-Decides f w).0 is) call.kept
+    named : (w : Bytes) → bytes_eq f w ≡ true → BreaksNone raw scope (Calls call.stand call.to w args)
+    named w is = subst (λ g. BreaksNone raw scope (Calls call.stand call.to g args)) ((bytes_eq-Decides f w).0 is) call.kept
 
     pub putchar_only : bytes_eq f (codes "putchar") ≡ true → only_arg args ≢ None
     putchar_only is none = named (codes "putchar") is 21 (library (MisusesLibrary.putchar_count none))
@@ -103,7 +99,7 @@ module _ (t : Tables) (right : AreRight t) (f : Bytes) (args : List RawArg) (cal
   pub printf_values : bytes_eq f (codes "printf") ≡ true → AreValues t.raw.now (scope_of t) (later_args args)
   printf_values is =
       values_from t.raw.now (scope_of t) (later_args args) (printf_expressions t.raw.now (scope_of t) f args call is)
-      (later_operands t.raw.now (scope_of t) args call_operands)
+      (λ e c. call_operands e (later_in args e c))
 
   pub function_values : bytes_eq f (codes "getchar") ≡ false → bytes_eq f (codes "putchar") ≡ false → bytes_eq f (codes "printf") ≡ false
       → bytes_eq f (codes "free") ≡ false → AreValues t.raw.now (scope_of t) args

@@ -18,18 +18,18 @@ use Rattle.c_language.specs.DeclaredTypes.{defined_structs, defined_functions, f
 use Rattle.c_language.specs.Scopes.{Scope}
 use Rattle.c_language.specs.Phrases.{Stand, Calls}
 use Rattle.c_language.specs.Uses.{arg_exprs, target_exprs, is_library_function}
-use Rattle.c_language.specs.Rules.{undeclared, no_definition, arguments, format, library}
+use Rattle.c_language.specs.Rules.{undeclared, no_definition, arguments, format, library, BreaksNone}
 use Rattle.c_language.specs.NameRules.{UsesUndeclared, LacksDefinition}
 use Rattle.c_language.specs.CallRules.{HasUnfitArgument, MisusesArguments, format_in, later_args, pieces_in, HasUnfitWidth, MisusesFormat, only_arg, MisusesLibrary}
 use Rattle.c_language.specs.Formats.{Conversion, conversions}
 use Rattle.c_language.specs.ProgramOf.{expr_of, arg_tree, args_tree, only_tree, print_tree, invoke_tree, call_tree}
 use Rattle.c_language.proofs.Options.{value_there, there_map}
 use Rattle.c_language.proofs.Lists.{contains_first, contains_later}
+use Rattle.c_language.proofs.UseLemmas.{later_in}
 use Rattle.c_types_base.proofs.OptionLemmas.{not_none, there_then, there_both, AreThere, there_collected, there_position}
 use Rattle.c_types_trees.proofs.ScopeLemmas.{IsTyped, AreComplete}
 use Rattle.c_types_trees.proofs.PhraseTrees.{phrase_tree}
 use Rattle.c_language.specs.Options.{IsThere}
-use Rattle.c_types_trees.specs.KeptPhrases.{IsKept}
 
 -- of two values, the one that a test chooses
 there_if : {A : Type 0} (b : Bool) (x y : Option A) → (b ≡ true → IsThere x) → (b ≡ false → IsThere y) → IsThere (if b then x else y)
@@ -75,11 +75,6 @@ module _ (raw : RawProgram) (scope : Scope) where
   args_there : (args : List RawArg) → AreExpressions args → AreTrees (arg_exprs args) → IsThere (args_tree raw scope args)
   args_there args h trees = there_collected (map (arg_tree raw scope) args) (values_there args h trees)
 
-  later_trees : (args : List RawArg) → AreTrees (arg_exprs args) → AreTrees (arg_exprs (later_args args))
-  later_trees [] trees = trees
-  later_trees (arg.Value e ∷ rest) trees = λ m c. trees m (contains_later e m (arg_exprs rest) c)
-  later_trees (arg.Literal text ∷ rest) trees = trees
-
   only_there : (args : List RawArg) → (only_arg args ≡ None → ⊥) → AreTrees (arg_exprs args) → IsThere (only_tree raw scope args)
   only_there [] one trees = one refl
   only_there (arg.Value e ∷ []) one trees = trees e (contains_first e [])
@@ -88,13 +83,13 @@ module _ (raw : RawProgram) (scope : Scope) where
   only_there (arg.Literal text ∷ (b ∷ rest)) one trees = one refl
 
 module _ (raw : RawProgram) (complete : AreComplete raw (defined_structs raw)) (scope : Scope) (typed : IsTyped scope) where
-  module _ (stand : Stand) (to : RawTarget) (f : Bytes) (args : List RawArg) (keeps : IsKept raw scope (Calls stand to f args)) where
+  module _ (stand : Stand) (to : RawTarget) (f : Bytes) (args : List RawArg) (keeps : BreaksNone raw scope (Calls stand to f args)) where
     arg_trees : (e : RawExpr) → Contains (arg_exprs args) e → IsThere (expr_of raw scope e)
     arg_trees e c = phrase_tree raw complete scope typed (Calls stand to f args) keeps e (Contains-append_right (target_exprs to) (arg_exprs args) e c)
 
     -- what is said of a function of the library holds of this one, where it has the name
-    keeps_named : (w : Bytes) → bytes_eq f w ≡ true → IsKept raw scope (Calls stand to w args)
-    keeps_named w is = subst (λ g. IsKept raw scope (Calls stand to g args)) ((bytes_eq-Decides f w).0 is) keeps
+    keeps_named : (w : Bytes) → bytes_eq f w ≡ true → BreaksNone raw scope (Calls stand to w args)
+    keeps_named w is = subst (λ g. BreaksNone raw scope (Calls stand to g args)) ((bytes_eq-Decides f w).0 is) keeps
 
     putchar_there : bytes_eq f (codes "putchar") ≡ true → IsThere (only_tree raw scope args)
     putchar_there is = only_there raw scope args (λ e. keeps_named (codes "putchar") is 21 (library (MisusesLibrary.putchar_count e))) arg_trees
@@ -113,7 +108,7 @@ module _ (raw : RawProgram) (complete : AreComplete raw (defined_structs raw)) (
     printf_there id line is =
         there_then _ (format_in args) (not_none (format_in args) (λ e. keeps_named (codes "printf") is 19 (format (MisusesFormat.no_format e))))
         (λ text found. there_map (s.Print id line text) (args_tree raw scope (later_args args))
-        (args_there raw scope (later_args args) (printf_values is) (later_trees raw scope args arg_trees)))
+        (args_there raw scope (later_args args) (printf_values is) (λ e c. arg_trees e (later_in args e c))))
 
     -- a function of the program is in scope, and so it is defined
     function_defined : is_library_function f ≡ false → IsThere (definition_of raw f)

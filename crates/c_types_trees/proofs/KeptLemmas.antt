@@ -11,6 +11,7 @@ use Rattle.c_tree.specs.declared.raw.expr.RawExpr.{RawExpr}
 use Rattle.c_tree.specs.declared.raw.expr.RawExpr.TheOpen.{RawExpr-F}
 use Rattle.c_tree.specs.declared.raw.expr.RawExpr.TheVariants as e
 use Rattle.c_tree.specs.declared.raw.program.RawProgram.{RawProgram}
+use Rattle.c_language.specs.Rules.{BreaksNone}
 use Rattle.c_language.specs.Words.{Bytes}
 use Rattle.c_language.specs.ConstantEvaluation.{constant, unary_constant, binary_constant, and_constant, or_constant, chosen_constant, cast_constant}
 use Rattle.c_language.specs.ExprRules.{Seen, is_function}
@@ -34,7 +35,7 @@ use Rattle.c_types_base.proofs.PhraseLemmas.{broken_by}
 use Rattle.c_types_base.proofs.TableLaws.{tables_typed}
 use Rattle.c_types_base.proofs.TreeLemmas.{expr_of-Member, expr_of-Arrow}
 use Rattle.c_types_base.proofs.TypedLaws.{NamesRule, judged_names}
-use Rattle.c_types_trees.specs.KeptPhrases.{IsKept, IsJudged, IsOperand, IsMeant}
+use Rattle.c_types_trees.specs.KeptPhrases.{IsJudged, IsOperand, IsMeant}
 use Rattle.c_language.specs.Options.{IsThere}
 use Rattle.c_language.proofs.Options.{there_of_three, there_of_both, there_of_map}
 
@@ -45,7 +46,7 @@ judged_value (Err n) h = absurd h
 -- ---- phrases
 
 -- an expression of a phrase that breaks no rule is an operand
-pub kept_operand : (t : Tables) → AreRight t → (part : Part) → IsKept t.raw.now (scope_of t) part → (a : RawExpr) → Contains (expressions part) a
+pub kept_operand : (t : Tables) → AreRight t → (part : Part) → BreaksNone t.raw.now (scope_of t) part → (a : RawExpr) → Contains (expressions part) a
     → IsOperand t.raw.now (scope_of t) a
 kept_operand t right part kept a c =
     from_told (judged t.raw.now (scope_of t) a) (judged_truly t.raw.now (scope_of t) a) (judged_names t.raw.now (scope_of t) (tables_typed t right) a)

@@ -1,12 +1,12 @@
 pub mod AllocationTrees
 pub mod CallLemmas
 pub mod CallTrees
+pub mod Collected
 pub mod ConstantTrees
 pub mod ExprTrees
 pub mod HeapLemmas
 pub mod KeptLemmas
 pub mod MadeLemmas
-pub mod OptionPaths
 pub mod PartLemmas
 pub mod PhraseTrees
 pub mod Rulesets

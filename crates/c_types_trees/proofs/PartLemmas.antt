@@ -1,5 +1,5 @@
 -- What is known of the parts of statements that break no rule.
-use Rattle.std.proofs.Common.{◌≡◌, List, [], ◌∷◌, Option, Some, None, option_map, option_and_then, Ok, refl, ap, subst, ◌∙◌}
+use Rattle.std.proofs.Common.{◌≡◌, List, [], ◌∷◌, Option, Some, None, option_map, option_and_then, Ok, ap, subst, ◌∙◌}
 use Rattle.c_arith.specs.declared.int_type.IntType.{IntType}
 use Rattle.c_arith.specs.declared.operators.BinaryOp.{BinaryOp}
 use Rattle.c_arith.specs.IntType.{promote}
@@ -14,7 +14,7 @@ use Rattle.c_language.specs.Phrases.{Assigns, Bumps, Tests, Switches, Returns}
 use Rattle.c_language.specs.ProgramOf.{switch_type}
 use Rattle.c_language.specs.Scopes.{Scope}
 use Rattle.c_language.specs.Uses.{init_exprs, cases}
-use Rattle.c_language.specs.Rules.{no_constant, switch}
+use Rattle.c_language.specs.Rules.{no_constant, switch, BreaksNone}
 use Rattle.c_language.specs.ArrayRules.{LacksConstant}
 use Rattle.c_language.specs.SwitchRules.{MisusesSwitch}
 use Rattle.c_language.specs.declared.expr_type.Operand.{Operand}
@@ -24,8 +24,9 @@ use Rattle.c_language.proofs.UseLemmas.{case_among}
 use Rattle.c_types_base.specs.declared.tables.Tables.{Tables}
 use Rattle.c_types_base.specs.Judging.{judged}
 use Rattle.c_types_base.specs.Tables.{scope_of, AreRight}
+use Rattle.c_types_base.proofs.OptionLemmas.{not_none}
 use Rattle.c_types_base.proofs.TreeLemmas.{operand-judged}
-use Rattle.c_types_trees.specs.KeptPhrases.{IsKept, IsOperand, AreOperands, IsKeptInit, none, kept, IsKeptSwitch, IsKeptLabel}
+use Rattle.c_types_trees.specs.KeptPhrases.{IsOperand, AreOperands, IsKeptInit, none, kept, IsKeptSwitch, IsKeptLabel}
 use Rattle.c_types_trees.proofs.KeptLemmas.{kept_operand}
 use Rattle.c_language.specs.Options.{IsThere}
 
@@ -48,22 +49,22 @@ module _ (t : Tables) (right : AreRight t) where
   items_operands es h = init_operands (init.Items es) h
 
   -- the places and values of simple statements
-  pub assigned_operand : (a : RawExpr) (op : Option BinaryOp) (b : RawExpr) → IsKept raw scope (Assigns a op b) → IsOperand raw scope a
+  pub assigned_operand : (a : RawExpr) (op : Option BinaryOp) (b : RawExpr) → BreaksNone raw scope (Assigns a op b) → IsOperand raw scope a
   assigned_operand a op b keeps = kept_operand t right (Assigns a op b) keeps a (contains_first a (b ∷ []))
 
-  pub stored_operand : (a : RawExpr) (op : Option BinaryOp) (b : RawExpr) → IsKept raw scope (Assigns a op b) → IsOperand raw scope b
+  pub stored_operand : (a : RawExpr) (op : Option BinaryOp) (b : RawExpr) → BreaksNone raw scope (Assigns a op b) → IsOperand raw scope b
   stored_operand a op b keeps = kept_operand t right (Assigns a op b) keeps b (contains_later a b (b ∷ []) (contains_first b []))
 
-  pub bumped_operand : (a : RawExpr) → IsKept raw scope (Bumps a) → IsOperand raw scope a
+  pub bumped_operand : (a : RawExpr) → BreaksNone raw scope (Bumps a) → IsOperand raw scope a
   bumped_operand a keeps = kept_operand t right (Bumps a) keeps a (contains_first a [])
 
-  pub tested_operand : (a : RawExpr) → IsKept raw scope (Tests a) → IsOperand raw scope a
+  pub tested_operand : (a : RawExpr) → BreaksNone raw scope (Tests a) → IsOperand raw scope a
   tested_operand a keeps = kept_operand t right (Tests a) keeps a (contains_first a [])
 
-  pub returned_operand : (v : Option RawExpr) (a : RawExpr) → v ≡ Some a → IsKept raw scope (Returns v) → IsOperand raw scope a
+  pub returned_operand : (v : Option RawExpr) (a : RawExpr) → v ≡ Some a → BreaksNone raw scope (Returns v) → IsOperand raw scope a
   returned_operand None a is keeps = none_there is
   returned_operand (Some b) a is keeps =
-      kept_operand t right (Returns (Some a)) (subst (λ v. IsKept raw scope (Returns v)) is keeps) a (contains_first a [])
+      kept_operand t right (Returns (Some a)) (subst (λ v. BreaksNone raw scope (Returns v)) is keeps) a (contains_first a [])
 
   -- ---- switches
 
@@ -80,10 +81,6 @@ module _ (t : Tables) (right : AreRight t) where
       ∙ ap (option_map promote) of
 
 -- ---- labels
-
-not_none : {A : Type 0} (o : Option A) → (o ≡ None → ⊥) → IsThere o
-not_none None h = h refl
-not_none (Some x) h = tt
 
 -- the expression of a case is a constant one with a value
 pub case_constant : (text : RawProgram) (a : RawExpr) → IsKeptLabel text (label.Case a) → IsThere (value_of_constant a)

@@ -1,7 +1,6 @@
 -- What a phrase of a text gives where it keeps its rules: the trees of its types and its expressions.
-use Rattle.std.proofs.Common.{◌≡◌, ℕ, zero, suc, List, [], ◌∷◌, ◌++◌, map, Option, Some, None, refl, subst, ◌∙◌}
+use Rattle.std.proofs.Common.{◌≡◌, ℕ, zero, suc, List, [], ◌∷◌, map, Option, Some, None, refl, subst, ◌∙◌}
 use Rattle.std.specs.Prelude.{Contains, option_and_then}
-use Rattle.std.proofs.lemmas.Bool.{false_from_ne_true}
 use Rattle.c_tree.specs.declared.raw.expr.RawExpr.{RawExpr}
 use Rattle.c_tree.specs.declared.raw.expr.RawType.{RawType}
 use Rattle.c_tree.specs.declared.raw.expr.RawType.TheVariants as raw_type
@@ -18,20 +17,17 @@ use Rattle.c_language.specs.ConstantEvaluation.{value_of_constant}
 use Rattle.c_language.specs.DeclaredTypes.{defined_structs, struct_id, positive, item_count}
 use Rattle.c_language.specs.Scopes.{Scope, with_target}
 use Rattle.c_language.specs.ExprTypes.{operand}
-use Rattle.c_language.specs.ExprRules.{seen}
-use Rattle.c_language.specs.Phrases.{Stand, Part, Phrases, HasMember, Declares, target_phrases}
-use Rattle.c_language.specs.Uses.{expressions, lengths, lengths_in, tags, tags_in, tags_if, Holds, holds}
-use Rattle.c_language.specs.Rules.{undeclared, tag, member, no_element, no_constant, operator, address, AreKept}
-use Rattle.c_language.specs.NameRules.{UsesUndeclared}
-use Rattle.c_language.specs.StructRules.{MisusesTag, MisnamesMember}
+use Rattle.c_language.specs.Phrases.{Stand, Part, HasMember, Declares, target_phrases}
+use Rattle.c_language.specs.Uses.{expressions, lengths_of, lengths_in, tags, tags_in, tags_if}
+use Rattle.c_language.specs.Rules.{tag, no_element, no_constant, AreKept, BreaksNone}
+use Rattle.c_language.specs.StructRules.{MisusesTag}
 use Rattle.c_language.specs.ArrayRules.{HasNoElement, LacksConstant}
-use Rattle.c_language.specs.TypeRules.{MisusesOperator, MisusesAddress}
 use Rattle.c_language.specs.TypeGrammar.{pointed_n, named_type}
 use Rattle.c_language.specs.ProgramOf.{ctype, ctype_if, expr_of, exprs_of}
 use Rattle.c_language.proofs.Lists.{contains_nil, contains_first, contains_later}
-use Rattle.c_language.proofs.Operands.{IsClean, AreClean}
+use Rattle.c_language.proofs.Operands.{kept_clean}
 use Rattle.c_language.proofs.UseLemmas.{tags-PointerTo, lengths-PointerTo}
-use Rattle.c_types_trees.specs.KeptPhrases.{HasNoLength, HasNoLengthIf, IsKept}
+use Rattle.c_types_trees.specs.KeptPhrases.{HasNoLength, HasNoLengthIf}
 use Rattle.c_types_base.proofs.OptionLemmas.{not_none, there_then, there_optional, AreThere, there_collected}
 use Rattle.c_types_trees.proofs.ScopeLemmas.{IsTyped, typed_variable, AreComplete}
 use Rattle.c_types_base.proofs.TypeTrees.{type_made, IsMade}
@@ -40,30 +36,13 @@ use Rattle.c_language.specs.Options.{IsThere}
 
 -- ---- phrases that keep all rules
 
-pub kept_both : (raw : RawProgram) (ps qs : Phrases) → AreKept raw (ps ++ qs) → AreKept raw ps × AreKept raw qs
-kept_both raw [] qs h = (tt, h)
-kept_both raw (p ∷ ps) qs h = let rest = kept_both raw ps qs h.1 in ((h.0, rest.0), rest.1)
-
-module _ (raw : RawProgram) (scope : Scope) (part : Part) (keeps : IsKept raw scope part) where
-  clean_at : (inner : RawExpr) → Holds part inner → IsClean raw scope (seen raw scope inner)
-  clean_at inner h = record {
-    declared = false_from_ne_true _ (λ is. keeps 1 (undeclared (UsesUndeclared.in_expression h is)));
-    operands = false_from_ne_true _ (λ is. keeps 12 (operator (MisusesOperator.in_expression h is)));
-    address = false_from_ne_true _ (λ is. keeps 15 (address (MisusesAddress.in_expression h is)));
-    complete = false_from_ne_true _ (λ is. keeps 7 (tag (MisusesTag.in_expression h is)));
-    member = false_from_ne_true _ (λ is. keeps 8 (member (MisnamesMember.missing h is)));
-  }
-
-  -- no part of its expressions breaks a rule
-  pub expression_keeps : (a : RawExpr) → Contains (expressions part) a → AreClean raw scope a
-  expression_keeps a c inner w = clean_at inner (holds c w)
-
+module _ (raw : RawProgram) (scope : Scope) (part : Part) (keeps : BreaksNone raw scope part) where
   -- its tags are defined
   pub tag_defined : (t : Bytes) → Contains (tags part) t → IsThere (struct_id raw t)
   tag_defined t c = not_none (struct_id raw t) (λ e. keeps 7 (tag (MisusesTag.undefined c e)))
 
   -- its lengths are constants of at least 1
-  pub length_constant : (n : RawExpr) → Contains (lengths part) n → IsThere (option_and_then positive (value_of_constant n))
+  pub length_constant : (n : RawExpr) → Contains (lengths_of part) n → IsThere (option_and_then positive (value_of_constant n))
   length_constant n c =
       there_then positive (value_of_constant n) (not_none (value_of_constant n) (λ e. keeps 10 (no_constant (LacksConstant.written_length c e))))
       (λ z is. not_none (positive z) (λ e. keeps 9 (no_element (HasNoElement.too_short c is e))))
@@ -91,11 +70,11 @@ result_made raw (Some t) none defined = there_optional (Some (ctype raw t)) (pla
 
 -- ---- declarations
 
-pub variable_made : (raw : RawProgram) (scope : Scope) (stand : Stand) (var : RawVar) (i : RawInit) → IsKept raw scope (Declares stand var i) → IsMade raw (item_count i) var.shape
+pub variable_made : (raw : RawProgram) (scope : Scope) (stand : Stand) (var : RawVar) (i : RawInit) → BreaksNone raw scope (Declares stand var i) → IsMade raw (item_count i) var.shape
 variable_made raw scope stand var i keeps =
     type_made raw (item_count i) var.shape (tag_defined raw scope (Declares stand var i) keeps) (length_constant raw scope (Declares stand var i) keeps)
 
-pub member_made : (raw : RawProgram) (scope : Scope) (before : List RawMember) (m : RawMember) → IsKept raw scope (HasMember before m) → IsMade raw 0 m.shape
+pub member_made : (raw : RawProgram) (scope : Scope) (before : List RawMember) (m : RawMember) → BreaksNone raw scope (HasMember before m) → IsMade raw 0 m.shape
 member_made raw scope before m keeps = type_made raw 0 m.shape (tag_defined raw scope (HasMember before m) keeps) (length_constant raw scope (HasMember before m) keeps)
 
 -- a target that is declared has a type
@@ -126,8 +105,8 @@ module _ (raw : RawProgram) (scope : Scope) where
 
 module _ (raw : RawProgram) (complete : AreComplete raw (defined_structs raw)) (scope : Scope) (typed : IsTyped scope) where
   -- each expression of a phrase has its tree
-  pub phrase_tree : (part : Part) → IsKept raw scope part → (e : RawExpr) → Contains (expressions part) e → IsThere (expr_of raw scope e)
-  phrase_tree part keeps e c = expr_there raw scope complete typed e (expression_keeps raw scope part keeps e c)
+  pub phrase_tree : (part : Part) → BreaksNone raw scope part → (e : RawExpr) → Contains (expressions part) e → IsThere (expr_of raw scope e)
+  phrase_tree part keeps e c = expr_there raw scope complete typed e (kept_clean raw scope part keeps e c)
 
-  pub phrase_operand : (part : Part) → IsKept raw scope part → (e : RawExpr) → Contains (expressions part) e → IsThere (operand raw scope e)
-  phrase_operand part keeps e c = operand_there raw scope complete typed e (expression_keeps raw scope part keeps e c)
+  pub phrase_operand : (part : Part) → BreaksNone raw scope part → (e : RawExpr) → Contains (expressions part) e → IsThere (operand raw scope e)
+  phrase_operand part keeps e c = operand_there raw scope complete typed e (kept_clean raw scope part keeps e c)

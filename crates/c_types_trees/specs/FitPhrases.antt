@@ -6,9 +6,10 @@ use Rattle.c_tree.specs.declared.raw.statement.RawTarget.{RawTarget}
 use Rattle.c_tree.specs.declared.raw.statement.RawTypeName.{RawTypeName}
 use Rattle.c_tree.specs.declared.raw.statement.RawAmount.{RawAmount}
 use Rattle.c_tree.specs.declared.raw.statement.RawStatement.{RawStatement}
+use Rattle.c_language.specs.Rules.{BreaksNone}
 use Rattle.c_language.specs.Scopes.{Scope, in_order}
 use Rattle.c_language.specs.Phrases.{Stand, Part, NamesStruct, DefinesStruct, HasMember, DeclaresFunction, Takes, EndsFunction, Declares, Begins, Assigns, Bumps, Calls, Allocates, Tests, Switches, Returns, Phrases, joined_at, target_phrases, scoped, IsInside}
-use Rattle.c_types_trees.specs.KeptPhrases.{IsKept, HasNoLengthIf, IsPlainName, IsPlainAmount}
+use Rattle.c_types_trees.specs.KeptPhrases.{HasNoLengthIf, IsPlainName, IsPlainAmount}
 
 -- what is allocated is stored, and no length stands in the type names
 pub record IsAllocation (to : RawTarget) (cast : Option RawTypeName) (n : RawAmount) : Type 0 where
@@ -36,7 +37,7 @@ IsFormed (Returns a) = Unit {0}
 
 -- a phrase keeps the rules and has its form
 pub record IsFit (raw : RawProgram) (scope : Scope) (part : Part) : Type 0 where
-  pub kept : IsKept raw scope part
+  pub kept : BreaksNone raw scope part
   pub formed : IsFormed part
 
 abbrev pub AreFit : RawProgram → Phrases → Type 0

@@ -21,18 +21,14 @@ use Rattle.c_tree.specs.declared.raw.statement.RawLabel.{RawLabel}
 use Rattle.c_language.specs.Words.{Bytes}
 use Rattle.c_language.specs.CallRules.{target_type}
 use Rattle.c_language.specs.ConstantEvaluation.{constant}
-use Rattle.c_language.specs.Phrases.{Stand, Part, HasMember, DeclaresFunction, Declares, Begins, Calls, Allocates, Switches}
+use Rattle.c_language.specs.Phrases.{Stand, HasMember, DeclaresFunction, Declares, Begins, Calls, Allocates, Switches}
 use Rattle.c_language.specs.ProgramOf.{size_tree}
-use Rattle.c_language.specs.Rules.{Breaks}
+use Rattle.c_language.specs.Rules.{BreaksNone}
 use Rattle.c_language.specs.Scopes.{Scope}
 use Rattle.c_language.specs.Uses.{lengths_in, sizes}
 use Rattle.c_language.specs.declared.expr_type.Operand.{Operand}
 use Rattle.c_types_base.specs.Judging.{judged}
 use Rattle.c_language.specs.Options.{IsThere}
-
--- a phrase breaks no rule
-abbrev pub IsKept : RawProgram → Scope → Part → Type 0
-IsKept raw scope part = (n : ℕ) → Breaks raw scope part n → ⊥
 
 -- a judgement tells an operand
 abbrev pub IsJudged : Result Operand ℕ → Type 0
@@ -67,7 +63,7 @@ AreValues raw scope args = (a : RawArg) → Contains args a → IsValue raw scop
 -- an initialiser is none, or breaks no rule
 pub data IsKeptInit (raw : RawProgram) (scope : Scope) : RawInit → Type 0 where
   none : IsKeptInit raw scope init.None
-  kept : {i : RawInit} {stand : Stand} {var : RawVar} → IsKept raw scope (Begins stand var i) → IsKeptInit raw scope i
+  kept : {i : RawInit} {stand : Stand} {var : RawVar} → BreaksNone raw scope (Begins stand var i) → IsKeptInit raw scope i
 
 -- a target is an operand where it is a place
 abbrev pub IsMeantTarget : RawProgram → Scope → RawTarget → Type 0
@@ -79,38 +75,38 @@ IsMeantTarget raw scope (target.Declared var) = Unit {0}
 pub record IsKeptCall (raw : RawProgram) (scope : Scope) (f : Bytes) (args : List RawArg) : Type 0 where
   pub stand : Stand
   pub to : RawTarget
-  pub kept : IsKept raw scope (Calls stand to f args)
+  pub kept : BreaksNone raw scope (Calls stand to f args)
 
 -- a switch breaks no rule
 pub record IsKeptSwitch (raw : RawProgram) (scope : Scope) (test : RawExpr) : Type 0 where
   pub labels : List RawLabel
-  pub kept : IsKept raw scope (Switches test labels)
+  pub kept : BreaksNone raw scope (Switches test labels)
 
 -- a label of a switch that breaks no rule, wherever the switch stands
 pub record IsKeptLabel (raw : RawProgram) (one : RawLabel) : Type 0 where
   pub scope : Scope
   pub test : RawExpr
   pub labels : List RawLabel
-  pub kept : IsKept raw scope (Switches test labels)
+  pub kept : BreaksNone raw scope (Switches test labels)
   pub among : Contains labels one
 
 -- a member of a struct type breaks no rule
 pub record IsKeptMember (raw : RawProgram) (m : RawMember) : Type 0 where
   pub scope : Scope
   pub before : List RawMember
-  pub kept : IsKept raw scope (HasMember before m)
+  pub kept : BreaksNone raw scope (HasMember before m)
 
 -- the declaration of a variable breaks no rule
 pub record IsKeptVariable (raw : RawProgram) (var : RawVar) (i : RawInit) : Type 0 where
   pub scope : Scope
   pub stand : Stand
-  pub kept : IsKept raw scope (Declares stand var i)
+  pub kept : BreaksNone raw scope (Declares stand var i)
 
 -- the head of a function breaks no rule
 pub record IsKeptHead (raw : RawProgram) (head : RawHead) : Type 0 where
   pub scope : Scope
   pub is_definition : Bool
-  pub kept : IsKept raw scope (DeclaresFunction head is_definition)
+  pub kept : BreaksNone raw scope (DeclaresFunction head is_definition)
 
 -- ---- types without lengths
 
@@ -143,7 +139,7 @@ AreMeasured raw scope n = (z : RawSize) → IsPlainSize z → sizes n ≡ z ∷ 
 -- an allocation breaks no rule, its result is stored in what has a type, and no length stands in its type names
 pub record IsKeptAllocation (raw : RawProgram) (scope : Scope) (cast : Option RawTypeName) (n : RawAmount) : Type 0 where
   pub to : RawTarget
-  pub kept : IsKept raw scope (Allocates to cast n)
+  pub kept : BreaksNone raw scope (Allocates to cast n)
   pub typed : IsThere (target_type raw scope to)
   pub name : IsPlainName cast
   pub amount : IsPlainAmount n

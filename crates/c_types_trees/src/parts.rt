@@ -6,15 +6,16 @@ ghost use Rattle.c_language.specs.ConstantEvaluation as constants;
 ghost use Rattle.c_language.specs.ConstantEvaluation.{both};
 ghost use Rattle.c_language.specs.Phrases.{Assigns, Bumps, Tests, Returns};
 ghost use Rattle.c_language.specs.ProgramOf as trees;
+ghost use Rattle.c_language.specs.Rules.{BreaksNone};
 ghost use Rattle.c_types_base.specs.Tables.{scope_of, AreRight};
-ghost use Rattle.c_types_trees.specs.KeptPhrases.{IsKept, AreOperands, IsKeptInit, IsMeantTarget, IsKeptSwitch, IsKeptLabel};
+ghost use Rattle.c_types_trees.specs.KeptPhrases.{AreOperands, IsKeptInit, IsMeantTarget, IsKeptSwitch, IsKeptLabel};
 
 use crate::expressions::{constant_tree, operand_of, tree_of};
 use c_arith::{BinaryOp, IntType, convert, promote};
 use c_tree::{
     Expr, Init, Items, Label, RawExpr, RawInit, RawLabel, RawTarget, Statement, StatementId, Target,
 };
-use c_types_base::constant::constant;
+use c_types_base::constant::value_of_constant;
 use c_types_base::expr_type::integer_of;
 use c_types_base::tables::Tables;
 use std::alloc::{AllocError, Global};
@@ -61,7 +62,7 @@ pub fn assign_tree(
     right: &RawExpr,
 ) -> Result<Statement, AllocError>
     requires right { AreRight tables.now }
-    requires kept { IsKept tables.now.raw.now (scope_of tables.now) (Assigns left.now op right.now) }
+    requires kept { BreaksNone tables.now.raw.now (scope_of tables.now) (Assigns left.now op right.now) }
     ensures { IfOk result (λ s. both (λ a b. statement.Assign id line a op b) (trees.expr_of tables.now.raw.now (scope_of tables.now) left.now) (trees.expr_of tables.now.raw.now (scope_of tables.now) right.now) ≡ Some s) }
 {
     let place = tree_of(alloc, tables, left)?;
@@ -86,7 +87,7 @@ pub fn bump_tree(
     before: bool,
 ) -> Result<Statement, AllocError>
     requires right { AreRight tables.now }
-    requires kept { IsKept tables.now.raw.now (scope_of tables.now) (Bumps left.now) }
+    requires kept { BreaksNone tables.now.raw.now (scope_of tables.now) (Bumps left.now) }
     ensures { IfOk result (λ s. option_map (λ a. statement.Bump id line a up before) (trees.expr_of tables.now.raw.now (scope_of tables.now) left.now) ≡ Some s) }
 {
     let place = tree_of(alloc, tables, left)?;
@@ -108,7 +109,7 @@ pub fn return_tree(
     value: &Option<RawExpr>,
 ) -> Result<Statement, AllocError>
     requires right { AreRight tables.now }
-    requires kept { IsKept tables.now.raw.now (scope_of tables.now) (Returns value.now) }
+    requires kept { BreaksNone tables.now.raw.now (scope_of tables.now) (Returns value.now) }
     ensures { IfOk result (λ s. option_map (statement.Return id line) (trees.optional (option_map (trees.expr_of tables.now.raw.now (scope_of tables.now)) value.now)) ≡ Some s) }
 {
     let value = match value {
@@ -121,7 +122,7 @@ pub fn return_tree(
 /// The test of an if, a while, a do or a for in the tree (6.8.4, 6.8.5). Err: no memory was left.
 pub fn test_tree(alloc: Global, tables: &Tables<'_>, test: &RawExpr) -> Result<Expr, AllocError>
     requires right { AreRight tables.now }
-    requires kept { IsKept tables.now.raw.now (scope_of tables.now) (Tests test.now) }
+    requires kept { BreaksNone tables.now.raw.now (scope_of tables.now) (Tests test.now) }
     ensures { IfOk result (λ t. trees.expr_of tables.now.raw.now (scope_of tables.now) test.now ≡ Some t) }
 {
     tree_of(alloc, tables, test)
@@ -171,13 +172,6 @@ pub fn switch_tree(
     let promoted = switch_type(alloc, tables, test)?;
     let tree = tree_of(alloc, tables, test)?;
     Ok((tree, promoted))
-}
-
-/// The value of a constant expression, where it is one and has a value.
-fn value_of_constant(expr: &RawExpr) -> Option<i128>
-    ensures { result ≡ constants.value_of_constant expr.now }
-{
-    constant(expr)?.value
 }
 
 /// A case of a switch over a promoted type, with its value. Err: no memory was left.

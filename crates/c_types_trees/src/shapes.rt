@@ -16,7 +16,7 @@ use c_tree::{
     Boxed, CType, Items, Member, RawHead, RawLength, RawMember, RawParam, RawType, RawTypeName,
     Text, VarId,
 };
-use c_types_base::declared_types::array_length;
+use c_types_base::declared_types::length_in;
 use c_types_base::definitions::Definitions;
 use c_types_base::tables::Tables;
 use std::alloc::{AllocError, Global};
@@ -50,7 +50,7 @@ fn array_shape(
 ) -> Result<Option<CType>, MakeFault>
     ensures { Shapes (both (λ t k. CType.Array t k (trees.length_words items length.now)) (Some element) (types.length_in items length.now)) result }
 {
-    let Some(count) = array_length(items, length) else {
+    let Some(count) = length_in(items, length) else {
         return Ok(None);
     };
     let Ok(count) = u32::try_from(count) else {

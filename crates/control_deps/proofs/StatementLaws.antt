@@ -1,6 +1,7 @@
 -- The walk finds exactly the pairs of the code that a statement is.
 use Rattle.std.proofs.Common.{◌≡◌, ℕ, zero, suc, pos, List, [], ◌∷◌, ◌++◌, ◌⊎◌, inl, inr, Bool, true, false, Option, Some, None, map, refl, sym, subst}
-use Rattle.std.specs.Prelude.{if◌then◌else◌, ⊤}
+use Rattle.std.specs.Prelude.{if◌then◌else◌}
+use Rattle.std.specs.List.{AllZip}
 use Rattle.c_tree.specs.declared.expr.Expr.{Expr}
 use Rattle.c_tree.specs.declared.statement.Label.{Label}
 use Rattle.c_tree.specs.declared.statement.Target.{Target}
@@ -8,10 +9,11 @@ use Rattle.c_tree.specs.declared.statement.Target.TheVariants as target
 use Rattle.c_tree.specs.declared.statement.Statement.{Statement, ind-Statement, roll-Statement, map-Statement, fold-roll-Statement}
 use Rattle.c_tree.specs.declared.statement.Statement.TheOpen.{Statement-F, Arm-F}
 use Rattle.c_tree.specs.declared.statement.Arm.{Arm, roll-Arm, map-Arm, fold-roll-Arm}
-use Rattle.c_language.specs.Code.{Act, Code, End, Plain, Fork, Loop, Call, ◌⨟◌, is_true, either, leave, Part, doing, declared, in_turn, list_of, block, ArmPart, taken_arm, optional, given_to, part_step, arm_step, part, code}
+use Rattle.c_language.specs.Code.{Act, Code, End, Plain, Fork, Loop, Call, ◌⨟◌, is_true, either, leave, StatementPart, doing, declared_in, in_turn, list_of, block, ArmPart, taken_arm, optional, given_to, part_step, arm_step, part, code}
 use Rattle.c_language.proofs.CodeLemmas.{arm_part}
 use Rattle.dep_model.specs.declared.skeleton.Pair.{Pair}
 use Rattle.dep_model.specs.SwitchArms.{has_first, with_labels}
+use Rattle.dep_model.proofs.Parts.{BothOrNone}
 use Rattle.dep_model.proofs.SwitchLaws.{HoldsOfTaken, taken_at, value_taken}
 use Rattle.control_deps.specs.Walk.{Walk, ArmWalk, joined, all, if_some, all_taken, walk_step, walk, arm_walk, walks}
 use Rattle.control_deps.specs.Walk as w
@@ -23,7 +25,7 @@ module _ (own : ℕ → List ℕ) where
   U = Under own
 
   -- a statement as code and as a walk
-  pub record Agrees (p : Part) (f : Walk) : Type 0 where
+  pub record Agrees (p : StatementPart) (f : Walk) : Type 0 where
     pub into : (r : Code) (ks : List ℕ) (x : Pair) → IsIn (f ks) x → Under own (p.before r) ks x
     pub rest : (r : Code) (ks : List ℕ) (x : Pair) → Under own r ks x → Under own (p.before r) ks x
     pub from : (r : Code) (ks : List ℕ) (x : Pair) → Under own (p.before r) ks x → IsIn (f ks) x ⊎ Under own r ks x
@@ -57,13 +59,7 @@ module _ (own : ℕ → List ℕ) where
 
   -- ---- lists
 
-  abbrev AreAll : List Part → List Walk → Type 0
-  AreAll [] [] = ⊤
-  AreAll [] (f ∷ fs) = ⊥
-  AreAll (p ∷ ps) [] = ⊥
-  AreAll (p ∷ ps) (f ∷ fs) = Agrees p f × AreAll ps fs
-
-  turn_into : (ps : List Part) (fs : List Walk) → AreAll ps fs → (r : Code) (ks : List ℕ) (x : Pair) → IsIn (all fs ks) x → Under own (in_turn ps r) ks x
+  turn_into : (ps : List StatementPart) (fs : List Walk) → AllZip Agrees ps fs → (r : Code) (ks : List ℕ) (x : Pair) → IsIn (all fs ks) x → Under own (in_turn ps r) ks x
   turn_into [] [] e r ks x h = absurd h
   turn_into [] (f ∷ fs) e r ks x h = absurd e
   turn_into (p ∷ ps) [] e r ks x h = absurd e
@@ -72,13 +68,13 @@ module _ (own : ℕ → List ℕ) where
     | inr t ↦ e.0.rest (in_turn ps r) ks x (turn_into ps fs e.1 r ks x t)
   ]
 
-  turn_rest : (ps : List Part) (fs : List Walk) → AreAll ps fs → (r : Code) (ks : List ℕ) (x : Pair) → Under own r ks x → Under own (in_turn ps r) ks x
+  turn_rest : (ps : List StatementPart) (fs : List Walk) → AllZip Agrees ps fs → (r : Code) (ks : List ℕ) (x : Pair) → Under own r ks x → Under own (in_turn ps r) ks x
   turn_rest [] [] e r ks x h = h
   turn_rest [] (f ∷ fs) e r ks x h = absurd e
   turn_rest (p ∷ ps) [] e r ks x h = absurd e
   turn_rest (p ∷ ps) (f ∷ fs) e r ks x h = e.0.rest (in_turn ps r) ks x (turn_rest ps fs e.1 r ks x h)
 
-  turn_from : (ps : List Part) (fs : List Walk) → AreAll ps fs → (r : Code) (ks : List ℕ) (x : Pair) → Under own (in_turn ps r) ks x → IsIn (all fs ks) x ⊎ Under own r ks x
+  turn_from : (ps : List StatementPart) (fs : List Walk) → AllZip Agrees ps fs → (r : Code) (ks : List ℕ) (x : Pair) → Under own (in_turn ps r) ks x → IsIn (all fs ks) x ⊎ Under own r ks x
   turn_from [] [] e r ks x h = inr h
   turn_from [] (f ∷ fs) e r ks x h = absurd e
   turn_from (p ∷ ps) [] e r ks x h = absurd e
@@ -95,29 +91,24 @@ module _ (own : ℕ → List ℕ) where
   leave_from [] r ks x h = h
   leave_from (v ∷ vs) r ks x h = h
 
-  block_into : (ps : List Part) (fs : List Walk) → AreAll ps fs → (ks : List ℕ) (x : Pair) → IsIn (all fs ks) x → Under own (block ps) ks x
-  block_into ps fs e ks x h = turn_into ps fs e (leave (declared ps) End) ks x h
+  block_into : (ps : List StatementPart) (fs : List Walk) → AllZip Agrees ps fs → (ks : List ℕ) (x : Pair) → IsIn (all fs ks) x → Under own (block ps) ks x
+  block_into ps fs e ks x h = turn_into ps fs e (leave (declared_in ps) End) ks x h
 
-  block_from : (ps : List Part) (fs : List Walk) → AreAll ps fs → (ks : List ℕ) (x : Pair) → Under own (block ps) ks x → IsIn (all fs ks) x
-  block_from ps fs e ks x h = elim (turn_from ps fs e (leave (declared ps) End) ks x h) [
+  block_from : (ps : List StatementPart) (fs : List Walk) → AllZip Agrees ps fs → (ks : List ℕ) (x : Pair) → Under own (block ps) ks x → IsIn (all fs ks) x
+  block_from ps fs e ks x h = elim (turn_from ps fs e (leave (declared_in ps) End) ks x h) [
     | inl t ↦ t
-    | inr t ↦ absurd (leave_from (declared ps) End ks x t)
+    | inr t ↦ absurd (leave_from (declared_in ps) End ks x t)
   ]
 
-  -- a part that may be missing
-  abbrev IsPart : Option Part → Option Walk → Type 0
-  IsPart None None = ⊤
-  IsPart None (Some f) = ⊥
-  IsPart (Some p) None = ⊥
-  IsPart (Some p) (Some f) = Agrees p f
+  -- ---- a part that may be missing
 
-  part_into : (p : Option Part) (f : Option Walk) → IsPart p f → (ks : List ℕ) (x : Pair) → IsIn (if_some f ks) x → Under own (list_of (optional p)) ks x
+  part_into : (p : Option StatementPart) (f : Option Walk) → BothOrNone Agrees p f → (ks : List ℕ) (x : Pair) → IsIn (if_some f ks) x → Under own (list_of (optional p)) ks x
   part_into None None e ks x h = absurd h
   part_into None (Some f) e ks x h = absurd e
   part_into (Some p) None e ks x h = absurd e
   part_into (Some p) (Some f) e ks x h = e.into End ks x h
 
-  part_from : (p : Option Part) (f : Option Walk) → IsPart p f → (ks : List ℕ) (x : Pair) → Under own (list_of (optional p)) ks x → IsIn (if_some f ks) x
+  part_from : (p : Option StatementPart) (f : Option Walk) → BothOrNone Agrees p f → (ks : List ℕ) (x : Pair) → Under own (list_of (optional p)) ks x → IsIn (if_some f ks) x
   part_from None None e ks x h = absurd h
   part_from None (Some f) e ks x h = absurd e
   part_from (Some p) None e ks x h = absurd e
@@ -129,7 +120,7 @@ module _ (own : ℕ → List ℕ) where
   from_either true c d ks x h = inl h
   from_either false c d ks x h = inr h
 
-  if_agrees : (id : ℕ) (e : Expr) (ps qs : List Part) (fs gs : List Walk) → AreAll ps fs → AreAll qs gs → Agrees (doing (Fork id e (λ v. either (is_true v) (block ps) (block qs)))) (λ ks. joined ks (own id) ++ (all fs (own id) ++ all gs (own id)))
+  if_agrees : (id : ℕ) (e : Expr) (ps qs : List StatementPart) (fs gs : List Walk) → AllZip Agrees ps fs → AllZip Agrees qs gs → Agrees (doing (Fork id e (λ v. either (is_true v) (block ps) (block qs)))) (λ ks. joined ks (own id) ++ (all fs (own id) ++ all gs (own id)))
   if_agrees id e ps qs fs gs p q = record {
     into = λ r ks x h. elim (in_either (joined ks (own id)) (all fs (own id) ++ all gs (own id)) x h) [
       | inl t ↦ inl (of_joined ks (own id) x t)
@@ -164,7 +155,7 @@ module _ (own : ℕ → List ℕ) where
   test_second : (id : ℕ) (ks : List ℕ) (x : Pair) → Joins (own id) (own id) x → IsIn (joined (ks ++ own id) (own id)) x
   test_second id ks x h = in_joined (ks ++ own id) (own id) x (in_second ks (own id) x.from h.0, h.1)
 
-  while_agrees : (id : ℕ) (e : Expr) (ps : List Part) (fs : List Walk) → AreAll ps fs → Agrees (doing (Loop id e (block ps))) (λ ks. joined (ks ++ own id) (own id) ++ all fs (own id))
+  while_agrees : (id : ℕ) (e : Expr) (ps : List StatementPart) (fs : List Walk) → AllZip Agrees ps fs → Agrees (doing (Loop id e (block ps))) (λ ks. joined (ks ++ own id) (own id) ++ all fs (own id))
   while_agrees id e ps fs p = record {
     into = λ r ks x h. elim (in_either (joined (ks ++ own id) (own id)) (all fs (own id)) x h) [
       | inl t ↦ test_into id e (block ps) r ks x t
@@ -179,7 +170,7 @@ module _ (own : ℕ → List ℕ) where
     ];
   }
 
-  do_agrees : (id : ℕ) (e : Expr) (ps : List Part) (fs : List Walk) → AreAll ps fs → Agrees (doing (λ r. block ps ⨟ Loop id e (block ps) r)) (λ ks. joined (ks ++ own id) (own id) ++ all fs (ks ++ own id))
+  do_agrees : (id : ℕ) (e : Expr) (ps : List StatementPart) (fs : List Walk) → AllZip Agrees ps fs → Agrees (doing (λ r. block ps ⨟ Loop id e (block ps) r)) (λ ks. joined (ks ++ own id) (own id) ++ all fs (ks ++ own id))
   do_agrees id e ps fs p = record {
     into = λ r ks x h. elim (in_either (joined (ks ++ own id) (own id)) (all fs (ks ++ own id)) x h) [
       | inl t ↦ under_second own (block ps) (Loop id e (block ps) r) ks x (test_into id e (block ps) r ks x t)
@@ -201,14 +192,14 @@ module _ (own : ℕ → List ℕ) where
   for_body : (b s : Code) (ks : List ℕ) (x : Pair) (f g : List Pair) → (Under own b ks x → IsIn g x) → (Under own s ks x → IsIn f x) → Under own (b ⨟ s) ks x → IsIn (f ++ g) x
   for_body b s ks x f g p q h = elim (under_seq own b s ks x h) [ inl t ↦ in_second f g x (p t) | inr t ↦ in_first f g x (q t) ]
 
-  for_agrees : (id : ℕ) (e : Expr) (i s : Option Part) (fi fs : Option Walk) (ps : List Part) (fb : List Walk) → IsPart i fi → IsPart s fs → AreAll ps fb
-      → Agrees (doing (λ r. list_of (optional i) ⨟ Loop id e (block ps ⨟ list_of (optional s)) (leave (declared (optional i)) r))) (λ ks. joined (ks ++ own id) (own id) ++ (if_some fi ks ++ (if_some fs (own id) ++ all fb (own id))))
+  for_agrees : (id : ℕ) (e : Expr) (i s : Option StatementPart) (fi fs : Option Walk) (ps : List StatementPart) (fb : List Walk) → BothOrNone Agrees i fi → BothOrNone Agrees s fs → AllZip Agrees ps fb
+      → Agrees (doing (λ r. list_of (optional i) ⨟ Loop id e (block ps ⨟ list_of (optional s)) (leave (declared_in (optional i)) r))) (λ ks. joined (ks ++ own id) (own id) ++ (if_some fi ks ++ (if_some fs (own id) ++ all fb (own id))))
   for_agrees id e i s fi fs ps fb pi ps_ pb =
-      let loop = λ (r : Code). Loop id e (block ps ⨟ list_of (optional s)) (leave (declared (optional i)) r) in
+      let loop = λ (r : Code). Loop id e (block ps ⨟ list_of (optional s)) (leave (declared_in (optional i)) r) in
       let first = list_of (optional i) in
       record {
         into = λ r ks x h. elim (in_either (joined (ks ++ own id) (own id)) (if_some fi ks ++ (if_some fs (own id) ++ all fb (own id))) x h) [
-          | inl t ↦ under_second own first (loop r) ks x (test_into id e (block ps ⨟ list_of (optional s)) (leave (declared (optional i)) r) ks x t)
+          | inl t ↦ under_second own first (loop r) ks x (test_into id e (block ps ⨟ list_of (optional s)) (leave (declared_in (optional i)) r) ks x t)
           | inr t ↦ elim (in_either (if_some fi ks) (if_some fs (own id) ++ all fb (own id)) x t) [
             | inl u ↦ under_first own first (loop r) ks x (part_into i fi pi ks x u)
             | inr u ↦ under_second own first (loop r) ks x (inr (inr (inl (elim (in_either (if_some fs (own id)) (all fb (own id)) x u) [
@@ -217,26 +208,20 @@ module _ (own : ℕ → List ℕ) where
             ]))))
           ]
         ];
-        rest = λ r ks x h. under_second own first (loop r) ks x (inr (inr (inr (leave_rest (declared (optional i)) r ks x h))));
+        rest = λ r ks x h. under_second own first (loop r) ks x (inr (inr (inr (leave_rest (declared_in (optional i)) r ks x h))));
         from = λ r ks x h. elim (under_seq own first (loop r) ks x h) [
           | inl t ↦ inl (in_second (joined (ks ++ own id) (own id)) (if_some fi ks ++ (if_some fs (own id) ++ all fb (own id))) x (in_first (if_some fi ks) (if_some fs (own id) ++ all fb (own id)) x (part_from i fi pi ks x t)))
           | inr (inl t) ↦ inl (in_first (joined (ks ++ own id) (own id)) (if_some fi ks ++ (if_some fs (own id) ++ all fb (own id))) x (test_first id ks x t))
           | inr (inr (inl t)) ↦ inl (in_first (joined (ks ++ own id) (own id)) (if_some fi ks ++ (if_some fs (own id) ++ all fb (own id))) x (test_second id ks x t))
           | inr (inr (inr (inl t))) ↦ inl (in_second (joined (ks ++ own id) (own id)) (if_some fi ks ++ (if_some fs (own id) ++ all fb (own id))) x (in_second (if_some fi ks) (if_some fs (own id) ++ all fb (own id)) x
               (for_body (block ps) (list_of (optional s)) (own id) x (if_some fs (own id)) (all fb (own id)) (block_from ps fb pb (own id) x) (part_from s fs ps_ (own id) x) t)))
-          | inr (inr (inr (inr t))) ↦ inr (leave_from (declared (optional i)) r ks x t)
+          | inr (inr (inr (inr t))) ↦ inr (leave_from (declared_in (optional i)) r ks x t)
         ];
       }
 
   -- ---- a switch
 
-  abbrev AreArms : List ArmPart → List ArmWalk → Type 0
-  AreArms [] [] = ⊤
-  AreArms [] (f ∷ fs) = ⊥
-  AreArms (a ∷ as_) [] = ⊥
-  AreArms (a ∷ as_) (f ∷ fs) = ArmAgrees a f × AreArms as_ fs
-
-  arms_into : (before : List Label) (as_ : List ArmPart) (fs : List ArmWalk) → AreArms as_ fs → (ks : List ℕ) (x : Pair) → IsIn (all_taken before fs ks) x → HoldsOfTaken (λ c. Under own c ks x) before as_
+  arms_into : (before : List Label) (as_ : List ArmPart) (fs : List ArmWalk) → AllZip ArmAgrees as_ fs → (ks : List ℕ) (x : Pair) → IsIn (all_taken before fs ks) x → HoldsOfTaken (λ c. Under own c ks x) before as_
   arms_into before [] [] e ks x h = absurd h
   arms_into before [] (f ∷ fs) e ks x h = absurd e
   arms_into before (a ∷ as_) [] e ks x h = absurd e
@@ -247,7 +232,7 @@ module _ (own : ℕ → List ℕ) where
         | inr t ↦ inr (arms_into (with_labels before a.labels) as_ fs e.1 ks x (subst (λ y. IsIn (all_taken (with_labels before y) fs ks) x) l t))
       ]
 
-  arms_from : (before : List Label) (as_ : List ArmPart) (fs : List ArmWalk) → AreArms as_ fs → (ks : List ℕ) (x : Pair) → HoldsOfTaken (λ c. Under own c ks x) before as_ → IsIn (all_taken before fs ks) x
+  arms_from : (before : List Label) (as_ : List ArmPart) (fs : List ArmWalk) → AllZip ArmAgrees as_ fs → (ks : List ℕ) (x : Pair) → HoldsOfTaken (λ c. Under own c ks x) before as_ → IsIn (all_taken before fs ks) x
   arms_from before [] [] e ks x h = absurd h
   arms_from before [] (f ∷ fs) e ks x h = absurd e
   arms_from before (a ∷ as_) [] e ks x h = absurd e
@@ -256,7 +241,7 @@ module _ (own : ℕ → List ℕ) where
   arms_from before (a ∷ as_) (f ∷ fs) e ks x (inr h) =
       in_second (if has_first before f.labels then f.walk ks else []) (all_taken (with_labels before f.labels) fs ks) x (subst (λ y. IsIn (all_taken (with_labels before y) fs ks) x) e.0.labels (arms_from (with_labels before a.labels) as_ fs e.1 ks x h))
 
-  switch_agrees : (id : ℕ) (e : Expr) (as_ : List ArmPart) (fs : List ArmWalk) → AreArms as_ fs → Agrees (doing (Fork id e (taken_arm as_))) (λ ks. joined ks (own id) ++ all_taken [] fs (own id))
+  switch_agrees : (id : ℕ) (e : Expr) (as_ : List ArmPart) (fs : List ArmWalk) → AllZip ArmAgrees as_ fs → Agrees (doing (Fork id e (taken_arm as_))) (λ ks. joined ks (own id) ++ all_taken [] fs (own id))
   switch_agrees id e as_ fs p = record {
     into = λ r ks x h. elim (in_either (joined ks (own id)) (all_taken [] fs (own id)) x h) [
       | inl t ↦ inl (of_joined ks (own id) x t)
@@ -293,16 +278,16 @@ module _ (own : ℕ → List ℕ) where
   abbrev arm_layer : ArmParts → Arm-F Statement Arm
   arm_layer = map-Arm ((x : Statement) × Of x) ((a : Arm) × OfArm a) Statement Arm (λ x. x.0) (λ a. a.0)
 
-  are_all : (b : List ((x : Statement) × Of x)) → AreAll (map part (map (λ (y : (x : Statement) × Of x). y.0) b)) (map (walk own) (map (λ (y : (x : Statement) × Of x). y.0) b))
+  are_all : (b : List ((x : Statement) × Of x)) → AllZip Agrees (map part (map (λ (y : (x : Statement) × Of x). y.0) b)) (map (walk own) (map (λ (y : (x : Statement) × Of x). y.0) b))
   are_all [] = tt
   are_all (x ∷ b) = (x.1, are_all b)
 
-  are_arms : (b : List ((a : Arm) × OfArm a)) → AreArms (map arm_part (map (λ (y : (a : Arm) × OfArm a). y.0) b)) (map (arm_walk own) (map (λ (y : (a : Arm) × OfArm a). y.0) b))
+  are_arms : (b : List ((a : Arm) × OfArm a)) → AllZip ArmAgrees (map arm_part (map (λ (y : (a : Arm) × OfArm a). y.0) b)) (map (arm_walk own) (map (λ (y : (a : Arm) × OfArm a). y.0) b))
   are_arms [] = tt
   are_arms (x ∷ b) = (x.1, are_arms b)
 
-  abbrev part_of_layer : Statement-F Statement Arm → Part
-  part_of_layer y = part_step (map-Statement Statement Arm Part ArmPart part arm_part y)
+  abbrev part_of_layer : Statement-F Statement Arm → StatementPart
+  part_of_layer y = part_step (map-Statement Statement Arm StatementPart ArmPart part arm_part y)
 
   abbrev walk_of_layer : Statement-F Statement Arm → Walk
   walk_of_layer y = walk_step own (map-Statement Statement Arm Walk ArmWalk (walk own) (arm_walk own) y)
@@ -339,7 +324,7 @@ module _ (own : ℕ → List ℕ) where
   }
   of_layer (Statement-F.Return id l a) = plain id _
 
-  of_arm_layer : (y : ArmParts) → ArmAgrees (arm_step (map-Arm Statement Arm Part ArmPart part arm_part (arm_layer y))) (w.arm_step own (map-Arm Statement Arm Walk ArmWalk (walk own) (arm_walk own) (arm_layer y)))
+  of_arm_layer : (y : ArmParts) → ArmAgrees (arm_step (map-Arm Statement Arm StatementPart ArmPart part arm_part (arm_layer y))) (w.arm_step own (map-Arm Statement Arm Walk ArmWalk (walk own) (arm_walk own) (arm_layer y)))
   of_arm_layer y = record {
     labels = refl;
     into = block_into (map part (fsts y.body)) (map (walk own) (fsts y.body)) (are_all y.body);
@@ -348,11 +333,11 @@ module _ (own : ℕ → List ℕ) where
 
   rolled : (y : Statement-F Statement Arm) → Agrees (part_of_layer y) (walk_of_layer y) → Of (roll-Statement y)
   rolled y h =
-      subst (λ p. Agrees p (walk own (roll-Statement y))) (sym (fold-roll-Statement Part ArmPart part_step arm_step y)) (subst (λ f. Agrees (part_of_layer y) f) (sym (fold-roll-Statement Walk ArmWalk (walk_step own) (w.arm_step own) y)) h)
+      subst (λ p. Agrees p (walk own (roll-Statement y))) (sym (fold-roll-Statement StatementPart ArmPart part_step arm_step y)) (subst (λ f. Agrees (part_of_layer y) f) (sym (fold-roll-Statement Walk ArmWalk (walk_step own) (w.arm_step own) y)) h)
 
-  rolled_arm : (y : Arm-F Statement Arm) → ArmAgrees (arm_step (map-Arm Statement Arm Part ArmPart part arm_part y)) (w.arm_step own (map-Arm Statement Arm Walk ArmWalk (walk own) (arm_walk own) y)) → OfArm (roll-Arm y)
+  rolled_arm : (y : Arm-F Statement Arm) → ArmAgrees (arm_step (map-Arm Statement Arm StatementPart ArmPart part arm_part y)) (w.arm_step own (map-Arm Statement Arm Walk ArmWalk (walk own) (arm_walk own) y)) → OfArm (roll-Arm y)
   rolled_arm y h =
-      subst (λ p. ArmAgrees p (arm_walk own (roll-Arm y))) (sym (fold-roll-Arm Part ArmPart part_step arm_step y)) (subst (λ f. ArmAgrees (arm_step (map-Arm Statement Arm Part ArmPart part arm_part y)) f) (sym (fold-roll-Arm Walk ArmWalk (walk_step own) (w.arm_step own) y)) h)
+      subst (λ p. ArmAgrees p (arm_walk own (roll-Arm y))) (sym (fold-roll-Arm StatementPart ArmPart part_step arm_step y)) (subst (λ f. ArmAgrees (arm_step (map-Arm Statement Arm StatementPart ArmPart part arm_part y)) f) (sym (fold-roll-Arm Walk ArmWalk (walk_step own) (w.arm_step own) y)) h)
 
   pub of_statement : (s : Statement) → Of s
   of_statement =

@@ -14,7 +14,8 @@ use Rattle.c_tree.specs.declared.statement.Arm.{Arm, fold-roll-Arm}
 use Rattle.dep_model.specs.declared.skeleton.Pair.{Pair}
 use Rattle.c_tree.specs.declared.statement.Label.{Label}
 use Rattle.dep_model.specs.SwitchArms.{has_first, with_labels, taken, taken_from}
-use Rattle.dep_model.proofs.Grown.{IsEach, AreBoth}
+use Rattle.c_language.proofs.Turns.{IsEach}
+use Rattle.dep_model.proofs.Grown.{AreBoth}
 use Rattle.dep_model.specs.Pairs.{pair}
 use Rattle.control_deps.specs.Walk.{Walk, ArmWalk, from_all, joined, all, if_some, all_taken, declared, walk_step, arm_step, walk, arm_walk, walks, if_taken, arm_walks, walked_part}
 

@@ -19,7 +19,7 @@ controllers_of entry own (ActualOut i slot) = own i
 abbrev pub controllers : List ℕ → (ℕ → List ℕ) → ℕ → Vertex → List ℕ
 controllers entry own f v = if v.function == f then controllers_of entry own v.kind else []
 
--- the first of the vertices has the number n
+-- the pairs of each vertex with those it hangs on; the first has the number n
 abbrev pub attached_from : (Vertex → List ℕ) → ℕ → List Vertex → List Pair
 attached_from controllers n [] = []
 attached_from controllers n (v ∷ vs) = from_all (controllers v) n ++ attached_from controllers (suc n) vs

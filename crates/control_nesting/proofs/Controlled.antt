@@ -12,10 +12,10 @@ use Rattle.c_language.proofs.Tests.{false_true, by_or}
 use Rattle.dep_model.specs.declared.edge.Edge.{Edge}
 use Rattle.dep_model.specs.declared.edge.Label.TheVariants.{Control}
 use Rattle.dep_model.specs.Controls.{Controls}
-use Rattle.dep_model.specs.Doings.{body_doings}
+use Rattle.dep_model.specs.Doings.{body_doings, doing_number}
 use Rattle.dep_model.specs.FunctionVertices.{IsControlIn, nested, code_in, is_own, numbers}
 use Rattle.dep_model.specs.MainVertices.{from, vertices}
-use Rattle.dep_model.specs.NumberedMains.{IsNumberedMain, doing_number}
+use Rattle.dep_model.specs.NumberedMains.{IsNumberedMain}
 use Rattle.dep_model.proofs.MainVertexLemmas.{vertex_at, vertex_own}
 use Rattle.dep_model.proofs.Membership.{IsIn, in_map}
 use Rattle.dep_model.proofs.NumberedMain.{main_doings}
@@ -23,9 +23,9 @@ use Rattle.control_deps.specs.Walk.{walks}
 use Rattle.control_deps.proofs.CodeLaws.{IsControlled, controlled_of}
 use Rattle.control_deps.proofs.StatementLaws.{walks_into}
 use Rattle.projection_laws.specs.Nested.{IsNested, any_own, any_inside, stands, stands_in}
-use Rattle.projection_laws.proofs.Standing.{standing_nested}
+use Rattle.projection_laws.proofs.StandsNested.{standing_nested}
 use Rattle.control_nesting.specs.TakenArms.{TakesAll, takes_all}
-use Rattle.control_nesting.proofs.Standing.{own_vertex, IsDone, Nests, body_nests}
+use Rattle.control_nesting.proofs.StandsInWalk.{own_vertex, IsDone, Nests, body_nests}
 use Rattle.dep_model.proofs.FunctionCode.{code_at}
 use Rattle.dep_model.specs.Pairs.{pair}
 

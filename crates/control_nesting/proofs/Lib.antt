@@ -1,4 +1,4 @@
-pub mod Standing
+pub mod StandsInWalk
 pub mod Controlled
 pub mod TakenForms
 pub mod TakenLabels

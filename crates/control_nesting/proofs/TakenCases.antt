@@ -18,11 +18,10 @@ use Rattle.c_language.specs.ConstantEvaluation.{value_of_constant}
 use Rattle.c_language.specs.ProgramOf.{collected, expr_of, label_tree}
 use Rattle.c_language.specs.Scopes.{Scope}
 use Rattle.c_language.specs.SwitchRules.{HasTwo, SameCase, BothDefault}
-use Rattle.c_language.proofs.Options.{some_same}
+use Rattle.c_language.proofs.Options.{some_same, map_there, then_there, more_there}
 use Rattle.c_language.proofs.Tests.{false_true}
 use Rattle.c_language.proofs.Lists.{contains_first, contains_later}
 use Rattle.dep_model.specs.SwitchArms.{is_first, has_first, with_labels}
-use Rattle.projection_laws.proofs.Options.{map_there, then_there, more_there}
 use Rattle.control_nesting.proofs.TakenLabels.{has_label}
 
 untrue : (b : Bool) → (b ≡ true → ⊥) → not b ≡ true
@@ -61,9 +60,9 @@ module _ (t : IntType) where
     one_apart : (before : List Label) (l : RawLabel) (rest : List RawLabel) (y : Label) → label_tree raw scope t l ≡ Some y → Apart before (l ∷ rest) → (is_first before y ≡ true) × Apart (y ∷ before) rest
     one_apart before (label.Case a) rest y at h =
         let x = then_there _ (expr_of raw scope a) y at in
-        let v = map_there (λ (z : ℤ). tree.Case x.0 (convert z t)) (value_of_constant a) y x.1.1 in
-        subst (λ (w : Label). (is_first before w ≡ true) × Apart (w ∷ before) rest) v.1.1
-        (untrue (has_case (convert v.0 t) before) (λ q. h.cases (convert v.0 t) a v.0 q (contains_first (label.Case a) rest) v.1.0 refl), case_apart before a x.0 v.0 rest v.1.0 h)
+        let v = map_there (λ (z : ℤ). tree.Case x.value (convert z t)) (value_of_constant a) y x.same in
+        subst (λ (w : Label). (is_first before w ≡ true) × Apart (w ∷ before) rest) v.same
+        (untrue (has_case (convert v.value t) before) (λ q. h.cases (convert v.value t) a v.value q (contains_first (label.Case a) rest) v.there refl), case_apart before a x.value v.value rest v.there h)
     one_apart before label.Default rest y at h =
         subst (λ (w : Label). (is_first before w ≡ true) × Apart (w ∷ before) rest) (some_same at)
         (untrue (has_default before) (λ q. h.default_ q (contains_first label.Default rest)), default_apart before rest h)

@@ -7,15 +7,12 @@ use Rattle.c_tree.specs.declared.program.Init.{Init}
 use Rattle.c_tree.specs.declared.statement.Target.{Target}
 use Rattle.c_tree.specs.declared.statement.Amount.{Amount}
 use Rattle.c_tree.specs.declared.statement.Label.{Label}
-use Rattle.c_tree.specs.declared.statement.Arm.{Arm, roll-Arm, fold-Arm, fold-roll-Arm}
+use Rattle.c_tree.specs.declared.statement.Arm.{Arm, roll-Arm, fold-roll-Arm}
 use Rattle.c_tree.specs.declared.statement.Statement.{Statement, fold-roll-Statement}
 use Rattle.c_tree.specs.declared.statement.Statement.TheOpen.{Statement-F}
 use Rattle.c_tree.specs.declared.statement.Statement.TheVariants as t
 use Rattle.c_language.specs.Words.{Bytes}
-use Rattle.control_nesting.specs.TakenArms.{ArmTakes, takes_step, takes_arm, takes_all}
-
-abbrev pub arm_takes : Arm → ArmTakes
-arm_takes = fold-Arm Bool ArmTakes takes_step takes_arm
+use Rattle.control_nesting.specs.TakenArms.{ArmTakes, takes_step, takes_arm, takes_all, arm_takes}
 
 pub takes-Declare : (id : Option ℕ) (l : ℕ) (x : ℕ) (i : Init) → takes_all (t.Declare id l x i) ≡ takes_step (Statement-F.Declare id l x i)
 takes-Declare id l x i = ap takes_all (sym (t.rolls-Declare id l x i)) ∙ fold-roll-Statement Bool ArmTakes takes_step takes_arm (Statement-F.Declare id l x i)

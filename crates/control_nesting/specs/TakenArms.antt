@@ -4,6 +4,7 @@ use Rattle.std.specs.List.{list_all}
 use Rattle.c_tree.specs.declared.program.Function.{Function}
 use Rattle.c_tree.specs.declared.program.Program.{Program}
 use Rattle.c_tree.specs.declared.statement.Label.{Label}
+use Rattle.c_tree.specs.declared.statement.Arm.{Arm, fold-Arm}
 use Rattle.c_tree.specs.declared.statement.Statement.{Statement, fold-Statement}
 use Rattle.c_tree.specs.declared.statement.Statement.TheOpen.{Statement-F, Arm-F}
 use Rattle.dep_model.specs.SwitchArms.{has_first, with_labels}
@@ -43,6 +44,9 @@ takes_arm a = record { labels = a.labels; takes = all_true a.body }
 -- each arm of each switch in a statement is taken
 abbrev pub takes_all : Statement → Bool
 takes_all = fold-Statement Bool ArmTakes takes_step takes_arm
+
+abbrev pub arm_takes : Arm → ArmTakes
+arm_takes = fold-Arm Bool ArmTakes takes_step takes_arm
 
 -- each arm of each switch of a program is taken
 abbrev pub TakesAll : Program → Type 0

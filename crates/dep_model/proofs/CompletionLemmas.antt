@@ -3,15 +3,14 @@ use Rattle.std.proofs.Common.{◌≡◌, ℕ, ◌<◌, ◌↔◌, inl, inr, Bool
 use Rattle.std.proofs.lemmas.List.{length-set, append-nil}
 use Rattle.std.proofs.lemmas.List.Elements.{Contains-append_left, Contains-append_right, Contains-append_cases, All-map, All-weaker}
 use Rattle.std.specs.Prelude.{IsTrue}
-use Rattle.bit_rows.specs.Sets.{has}
+use Rattle.bit_rows.specs.Sets.{has, IsSubset}
 use Rattle.dep_model.specs.declared.edge.Edge.{Edge}
 use Rattle.dep_model.specs.declared.edge.Label.{Label}
 use Rattle.dep_model.specs.declared.edge.Label.TheVariants.{Control, Flow, Call, In, Out}
 use Rattle.rule_closure.specs.declared.closure.Rule.{Rule}
-use Rattle.rule_closure.specs.Rules.{Derived, Holds, IsRuleWithin}
-use Rattle.dep_model.specs.Plain.{back}
+use Rattle.rule_closure.specs.Rules.{Derived, IsRuleWithin}
+use Rattle.dep_model.specs.Plain.{back, IsPlain, IsEdgeWithin}
 use Rattle.rule_closure.specs.Rules as rules_
-use Rattle.dep_model.specs.Words.{IsPlain, IsEdgeWithin}
 use Rattle.dep_model.specs.Completion.{IsClosed, IsCompletion, Completed, seed, control, flow, formal_out, callee, actual_in, parameter, entry, NamesNone}
 use Rattle.rule_closure.proofs.ListLemmas.{contains_none, contains_head, contains_cons, contains_map, map_contains}
 use Rattle.rule_closure.proofs.SetLemmas.{has_in_range, has_set, has_set_same, has_set_cases, same_members}
@@ -26,7 +25,7 @@ module _ (edges : List Edge) (Names : ℕ → ℕ → Type 0) (main : ℕ) where
   -- ---- what the closures derive
 
   -- what is completed is in each closed set that holds the given one
-  pub completed_least : (x t : List Bool) → Holds t x → IsClosed edges Names main t → {v : ℕ} → Completed edges Names main x v → IsTrue (has t v)
+  pub completed_least : (x t : List Bool) → IsSubset x t → IsClosed edges Names main t → {v : ℕ} → Completed edges Names main x v → IsTrue (has t v)
   completed_least x t holds closed (seed {v = v} h) = holds v h
   completed_least x t holds closed (control e m q a) = closed.controls e m q (completed_least x t holds closed a)
   completed_least x t holds closed (flow e m q a) = closed.flows e m q (completed_least x t holds closed a)

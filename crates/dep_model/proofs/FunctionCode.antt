@@ -1,5 +1,5 @@
 -- The code of a function that is there.
-use Rattle.std.proofs.Common.{◌≡◌, ℕ, zero, suc, ◌<◌, List, [], ◌∷◌, Some, length, get_or, slice_get, sym, ap, arith}
+use Rattle.std.proofs.Common.{◌≡◌, ℕ, Some, slice_get, ap}
 use Rattle.std.specs.Option.{option_map_or}
 use Rattle.c_tree.specs.declared.program.Program.{Program}
 use Rattle.c_tree.specs.declared.program.Function.{Function}
@@ -8,9 +8,3 @@ use Rattle.dep_model.specs.FunctionVertices.{code_in}
 
 pub code_at : (p : Program) (f : ℕ) (g : Function) → slice_get p.functions f ≡ Some g → code_in p f ≡ code g.body
 code_at p f g is = ap (λ o. option_map_or (λ (h : Function). code h.body) o End) is
-
--- an element by its place
-pub got : {X : Type 0} (xs : List X) (i : ℕ) (x : X) → i < length xs → x ≡ get_or xs i x → slice_get xs i ≡ Some x
-got [] i x lt is = absurd (omega (arith, lt))
-got (y ∷ xs) zero x lt is = ap Some (sym is)
-got (y ∷ xs) (suc i) x lt is = got xs i x (omega (arith, lt)) is

@@ -12,30 +12,7 @@ pub grown_four : {A : Type 0} (o p q r s a b c d w : List A) → p ≡ o ++ a �
 grown_four o p q r s a b c d w e f g h k =
     grown_two o p s a (b ++ (c ++ d)) w e (grown_three p q r s b c d (b ++ (c ++ d)) f g h refl) k
 
--- all is what one gives for each element, one after another
-pub record IsEach {X Y : Type 0} (one : X → List Y) (all : List X → List Y) : Type 0 where
-  pub at_nothing : all [] ≡ []
-  pub at_more : (x : X) (xs : List X) → all (x ∷ xs) ≡ one x ++ all xs
-
--- one element more
-each_more : {X Y : Type 0} {one : X → List Y} {all : List X → List Y} → IsEach one all → (xs : List X) (i : ℕ) (d : X) → i < length xs → all (take (i + 1) xs) ≡ all (take i xs) ++ one (get_or xs i d)
-each_more e [] i d h = absurd (omega arith)
-each_more {one} {all} e (x ∷ xs) zero d h =
-    e.at_more x [] ∙ ap (λ y. one x ++ y) e.at_nothing ∙ append-nil (one x) ∙ sym (ap (λ y. y ++ one x) e.at_nothing)
-each_more {one} {all} e (x ∷ xs) (suc i) d h =
-    let k : suc i + 1 ≡ suc (i + 1) = omega arith in
-    ap (λ (k : ℕ). all (take k (x ∷ xs))) k ∙ e.at_more x (take (i + 1) xs) ∙ ap (λ y. one x ++ y) (each_more e xs i d (omega arith)) ∙ sym (append_assoc (one x) (all (take i xs)) (one (get_or xs i d))) ∙ sym (ap (λ y. y ++ one (get_or xs i d)) (e.at_more x (take i xs)))
-
--- a turn of the loop that appends them
-pub each_turn_at : {X Y : Type 0} {one : X → List Y} {all : List X → List Y} → IsEach one all → (xs : List X) (i : ℕ) (d : X) (start out new : List Y) → i < length xs → out ≡ start ++ all (take i xs) → new ≡ out ++ one (get_or xs i d) → new ≡ start ++ all (take (i + 1) xs)
-each_turn_at {one} {all} e xs i d start out new h p q =
-    q ∙ ap (λ y. y ++ one (get_or xs i d)) p ∙ append_assoc start (all (take i xs)) (one (get_or xs i d)) ∙ ap (λ y. start ++ y) (sym (each_more e xs i d h))
-
--- the same, where the element is known by a name
-pub each_turn : {X Y : Type 0} {one : X → List Y} {all : List X → List Y} → IsEach one all → (xs : List X) (i : ℕ) (x : X) (start out new : List Y) → i < length xs → x ≡ get_or xs i x → out ≡ start ++ all (take i xs) → new ≡ out ++ one x → new ≡ start ++ all (take (i + 1) xs)
-each_turn {one} e xs i x start out new h is p q = each_turn_at e xs i x start out new h p (q ∙ ap (λ y. out ++ one y) is)
-
--- the same for two lists of one length
+-- all is what one gives for the elements of two lists of one length, place by place
 pub record AreBoth {W X Y : Type 0} (one : W → X → List Y) (all : List W → List X → List Y) : Type 0 where
   pub at_nothing : all [] [] ≡ []
   pub at_more : (w : W) (ws : List W) (x : X) (xs : List X) → all (w ∷ ws) (x ∷ xs) ≡ one w x ++ all ws xs

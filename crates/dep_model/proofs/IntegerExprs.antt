@@ -16,7 +16,7 @@ use Rattle.c_language.specs.declared.expr_type.ExprType.{ExprType}
 use Rattle.c_language.specs.DeclaredTypes.{integer}
 use Rattle.c_language.specs.ExprTypes.{is_scalar, is_array, is_pointer}
 use Rattle.c_language.specs.ConstantEvaluation.{operand_type}
-use Rattle.c_language.specs.TreeTypes.{variable_type, int_type, binary_tree_type, chosen_type}
+use Rattle.c_language.specs.TreeTypes.{type_of_variable, int_type, binary_tree_type, chosen_type}
 use Rattle.built_forms.specs.IntegerForms as forms
 use Rattle.built_forms.specs.IntegerForms.{is_name, is_integer, integer_step}
 use Rattle.dep_model.specs.declared.location.Location.{Location}
@@ -30,7 +30,7 @@ use Rattle.c_language.proofs.Tests.{or_assoc, or_none}
 
 -- the variables are integers
 abbrev pub AreIntegers : Program → Type 0
-AreIntegers p = (x : ℕ) → (k : IntType) × (variable_type p x ≡ integer k)
+AreIntegers p = (x : ℕ) → (k : IntType) × (type_of_variable p x ≡ integer k)
 
 pub any_append : (xs ys : List ℕ) (l : Location) → any_whole (xs ++ ys) l ≡ (any_whole xs l || any_whole ys l)
 any_append [] ys l = refl
@@ -98,7 +98,7 @@ module _ (p : Program) (points : PointsTo) where
     points_nowhere = h.points_nowhere;
   }
 
-  variable_value : (x : ℕ) (k : IntType) → variable_type p x ≡ integer k → IsPlainValue (D (Expr-F.Variable x)) (G (Expr-F.Variable x)) (x ∷ [])
+  variable_value : (x : ℕ) (k : IntType) → type_of_variable p x ≡ integer k → IsPlainValue (D (Expr-F.Variable x)) (G (Expr-F.Variable x)) (x ∷ [])
   variable_value x k is = record {
     kind = k;
     type = is;

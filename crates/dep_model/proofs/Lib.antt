@@ -17,6 +17,7 @@ pub mod NumberedLocations
 pub mod NumberedMain
 pub mod OneAnalysis
 pub mod PairLemmas
+pub mod Parts
 pub mod PlainActs
 pub mod PlainCode
 pub mod PlainEffects

@@ -9,33 +9,30 @@ use Rattle.dep_model.specs.declared.vertex.Vertex.{Vertex}
 use Rattle.dep_model.specs.declared.vertex.VertexKind.{VertexKind}
 use Rattle.dep_model.specs.declared.vertex.VertexKind.TheVariants.{Entry, Statement}
 use Rattle.dep_model.specs.FunctionVertices.{is_own, is_actual, is_entry, is_formal_in, is_formal_out, passes, numbers_from, numbers, vertices_at}
-use Rattle.dep_model.specs.MainVertices.{from, vertices}
+use Rattle.dep_model.specs.MainVertices.{from, statement_vertex, vertices}
 use Rattle.rule_closure.proofs.ListLemmas.{contains_head}
 use Rattle.dep_model.proofs.VertexNumbers.{numbers_pass, passes_numbers}
 use Rattle.dep_model.specs.VertexOrder.{in_function}
 
-abbrev statement : ℕ → Vertex
-statement i = in_function 0 (Statement i)
-
-statement_at : (i n k : ℕ) → k < n → slice_get (map statement (from i n)) k ≡ Some (statement (i + k))
+statement_at : (i n k : ℕ) → k < n → slice_get (map statement_vertex (from i n)) k ≡ Some (statement_vertex (i + k))
 statement_at i zero k lt = absurd (omega (arith, lt))
-statement_at i (suc n) zero lt = let e : i ≡ i + 0 = omega arith in ap (λ j. Some (statement j)) e
+statement_at i (suc n) zero lt = let e : i ≡ i + 0 = omega arith in ap (λ j. Some (statement_vertex j)) e
 statement_at i (suc n) (suc k) lt =
     let e : suc i + k ≡ i + suc k = omega arith in
-    statement_at (suc i) n k (omega (arith, lt)) ∙ ap (λ j. Some (statement j)) e
+    statement_at (suc i) n k (omega (arith, lt)) ∙ ap (λ j. Some (statement_vertex j)) e
 
-statement_only : (i n k : ℕ) (v : Vertex) → slice_get (map statement (from i n)) k ≡ Some v → (k < n) × (v ≡ statement (i + k))
+statement_only : (i n k : ℕ) (v : Vertex) → slice_get (map statement_vertex (from i n)) k ≡ Some v → (k < n) × (v ≡ statement_vertex (i + k))
 statement_only i zero k v e = cc
 statement_only i (suc n) zero v e =
-    let q : i ≡ i + 0 = omega arith in (omega arith, sym (same_Some _ _ e) ∙ ap statement q)
+    let q : i ≡ i + 0 = omega arith in (omega arith, sym (same_Some _ _ e) ∙ ap statement_vertex q)
 statement_only i (suc n) (suc k) v e =
     let w = statement_only (suc i) n k v e in
     let q : suc i + k ≡ i + suc k = omega arith in
-    (omega (arith, w.0), w.1 ∙ ap statement q)
+    (omega (arith, w.0), w.1 ∙ ap statement_vertex q)
 
 pub vertex_at : (p : Program) (k : ℕ) → k < p.statements → slice_get (vertices p) (suc k) ≡ Some (in_function 0 (Statement k))
 vertex_at p k lt =
-    let e : 0 + k ≡ k = omega arith in statement_at 0 p.statements k lt ∙ ap (λ j. Some (statement j)) e
+    let e : 0 + k ≡ k = omega arith in statement_at 0 p.statements k lt ∙ ap (λ j. Some (statement_vertex j)) e
 
 -- number v is the entry, or a statement
 pub data IsMainVertex (p : Program) : ℕ → Vertex → Type 0 where
@@ -47,7 +44,7 @@ vertex_cases p zero x e = subst (IsMainVertex p 0) (same_Some _ _ e) entry
 vertex_cases p (suc i) x e =
     let w = statement_only 0 p.statements i x e in
     let q : 0 + i ≡ i = omega arith in
-    subst (IsMainVertex p (suc i)) (ap statement (sym q) ∙ sym w.1) (numbered w.0)
+    subst (IsMainVertex p (suc i)) (ap statement_vertex (sym q) ∙ sym w.1) (numbered w.0)
 
 -- ---- numbers of the entry and of statements
 
@@ -59,7 +56,7 @@ own_case : (p : Program) (i f k : ℕ) (x : Vertex) → IsMainVertex p k x → s
 own_case p i f k x entry at h = absurd (false≢true (same_function f false h).1)
 own_case p i f k x (numbered {i = j} lt) at h =
     let w = same_function f (j == i) h in
-    (w.0, at ∙ ap (λ m. Some (statement m)) (eqb-true j i w.1))
+    (w.0, at ∙ ap (λ m. Some (statement_vertex m)) (eqb-true j i w.1))
 
 pub own_vertex : (p : Program) (i f k : ℕ) → Contains (numbers (is_own i) f (vertices p)) k → (f ≡ 0) × (slice_get (vertices p) k ≡ Some (in_function 0 (Statement i)))
 own_vertex p i f k c =
@@ -104,25 +101,25 @@ no_tails p = empty_list (numbers is_formal_out 0 (vertices p)) (no_formal_out p 
 abbrev is_at : ℕ → Vertex → Bool
 is_at i = passes (λ k. is_own i k || is_actual i k) 0
 
-elsewhere : (i a : ℕ) → (a ≡ i → ⊥) → is_at i (statement a) ≡ false
+elsewhere : (i a : ℕ) → (a ≡ i → ⊥) → is_at i (statement_vertex a) ≡ false
 elsewhere i a ne = ap (λ b. b || false) (ne_eqb a i ne)
 
-here : (i a : ℕ) → a ≡ i → is_at i (statement a) ≡ true
+here : (i a : ℕ) → a ≡ i → is_at i (statement_vertex a) ≡ true
 here i a e = ap (λ b. b || false) (eq-eqb a i e)
 
-own_past : (i a n o : ℕ) → i < a → numbers_from (is_at i) o (map statement (from a n)) ≡ []
+own_past : (i a n o : ℕ) → i < a → numbers_from (is_at i) o (map statement_vertex (from a n)) ≡ []
 own_past i a zero o lt = refl
 own_past i a (suc n) o lt =
-    ap (λ b. if b then o ∷ numbers_from (is_at i) (suc o) (map statement (from (suc a) n)) else numbers_from (is_at i) (suc o) (map statement (from (suc a) n))) (elsewhere i a (λ e. omega (arith, e, lt))) ∙ own_past i (suc a) n (suc o) (omega (arith, lt))
+    ap (λ b. if b then o ∷ numbers_from (is_at i) (suc o) (map statement_vertex (from (suc a) n)) else numbers_from (is_at i) (suc o) (map statement_vertex (from (suc a) n))) (elsewhere i a (λ e. omega (arith, e, lt))) ∙ own_past i (suc a) n (suc o) (omega (arith, lt))
 
-own_in : (i a n o d : ℕ) → i ≡ a + d → d < n → numbers_from (is_at i) o (map statement (from a n)) ≡ (o + d) ∷ []
+own_in : (i a n o d : ℕ) → i ≡ a + d → d < n → numbers_from (is_at i) o (map statement_vertex (from a n)) ≡ (o + d) ∷ []
 own_in i a zero o d e lt = absurd (omega (arith, lt))
 own_in i a (suc n) o zero e lt =
     let q : o ≡ o + 0 = omega arith in
-    ap (λ b. if b then o ∷ numbers_from (is_at i) (suc o) (map statement (from (suc a) n)) else numbers_from (is_at i) (suc o) (map statement (from (suc a) n))) (here i a (omega (arith, e))) ∙ ap (λ ks. o ∷ ks) (own_past i (suc a) n (suc o) (omega (arith, e))) ∙ ap (λ k. k ∷ []) q
+    ap (λ b. if b then o ∷ numbers_from (is_at i) (suc o) (map statement_vertex (from (suc a) n)) else numbers_from (is_at i) (suc o) (map statement_vertex (from (suc a) n))) (here i a (omega (arith, e))) ∙ ap (λ ks. o ∷ ks) (own_past i (suc a) n (suc o) (omega (arith, e))) ∙ ap (λ k. k ∷ []) q
 own_in i a (suc n) o (suc d) e lt =
     let q : suc o + d ≡ o + suc d = omega arith in
-    ap (λ b. if b then o ∷ numbers_from (is_at i) (suc o) (map statement (from (suc a) n)) else numbers_from (is_at i) (suc o) (map statement (from (suc a) n))) (elsewhere i a (λ s. omega (arith, e, s))) ∙ own_in i (suc a) n (suc o) d (omega (arith, e)) (omega (arith, lt)) ∙ ap (λ k. k ∷ []) q
+    ap (λ b. if b then o ∷ numbers_from (is_at i) (suc o) (map statement_vertex (from (suc a) n)) else numbers_from (is_at i) (suc o) (map statement_vertex (from (suc a) n))) (elsewhere i a (λ s. omega (arith, e, s))) ∙ own_in i (suc a) n (suc o) d (omega (arith, e)) (omega (arith, lt)) ∙ ap (λ k. k ∷ []) q
 
 pub own_numbers : (p : Program) (i : ℕ) (a : Option Act) → i < p.statements → vertices_at (vertices p) 0 i a ≡ suc i ∷ []
 own_numbers p i a lt =

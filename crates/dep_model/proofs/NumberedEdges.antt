@@ -12,16 +12,16 @@ use Rattle.dep_model.specs.declared.vertex.Slot.TheVariants.{Result, At}
 use Rattle.dep_model.specs.declared.vertex.Vertex.{Vertex}
 use Rattle.dep_model.specs.declared.vertex.VertexKind.TheVariants.{Entry, FormalIn, FormalOut, Statement}
 use Rattle.dep_model.specs.Denoted.{Places, PointsTo}
-use Rattle.dep_model.specs.Doings.{Doing, Does, Calls, doings_of}
+use Rattle.dep_model.specs.Doings.{Doing, Does, Calls, doings_of, doing_number}
 use Rattle.dep_model.specs.Follows as general
 use Rattle.dep_model.specs.Follows.{InTurn, enters, last, more}
 use Rattle.dep_model.specs.FunctionVertices.{is_entry, is_formal_in, is_formal_out, is_actual, numbers, heads, tails, vertices_at, FollowsIn, IsControlIn, nested, formal, actual}
-use Rattle.dep_model.specs.Locations.{Placed, locations}
+use Rattle.dep_model.specs.Locations.{TypedLocation, locations}
 use Rattle.dep_model.specs.MainEdges.{IsMainEdge, AreMainEdges}
 use Rattle.dep_model.specs.MainVertices.{from, vertices}
 use Rattle.dep_model.specs.MayPoint.{parameters}
 use Rattle.dep_model.specs.ModRef.{FunctionEffects, AreFunctionEffects}
-use Rattle.dep_model.specs.NumberedMains.{doing_number, IsNumberedMain}
+use Rattle.dep_model.specs.NumberedMains.{IsNumberedMain}
 use Rattle.dep_model.specs.SystemGraph.{Analysis, IsAnalysis, vertices_of, numbered_effects, IsFlowIn, IsCallEdge, call, in_, out, IsSystemEdge, control, flow, between, AreSystemEdges}
 use Rattle.dep_model.specs.VertexOrder.{slots_from, arguments_from, touched, result_slots, formal_ins, formal_outs, all_vertices, function_kinds, in_function, vertices_from}
 use Rattle.rule_closure.proofs.ListLemmas.{contains_head, contains_cons}
@@ -31,7 +31,7 @@ use Rattle.dep_model.proofs.NumberedMain.{all_are, other_code, no_calls, modifie
 
 -- ---- vertices
 
-no_slots : (test : Places) → ((l : Location) → test l ≡ false) → (k : ℕ) (os : List Placed) → slots_from test k os ≡ []
+no_slots : (test : Places) → ((l : Location) → test l ≡ false) → (k : ℕ) (os : List TypedLocation) → slots_from test k os ≡ []
 no_slots test none k [] = refl
 no_slots test none k (o ∷ os) =
     ap (λ b. if b then At k ∷ slots_from test (suc k) os else slots_from test (suc k) os) (none o.location) ∙ no_slots test none (suc k) os

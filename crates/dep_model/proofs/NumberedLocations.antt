@@ -22,7 +22,7 @@ use Rattle.dep_model.specs.declared.location.Root.TheVariants.{Variable, Result}
 use Rattle.dep_model.specs.Denoted.{variable}
 use Rattle.dep_model.specs.Doings.{Doing, Does, Calls, body_doings}
 use Rattle.dep_model.specs.DoingEffects.{result_of, the_input}
-use Rattle.dep_model.specs.Locations.{Placed, Heap, input, rooted, act_heaps, heaps, function_heaps, site_locations, variable_locations, result_parts, result_locations, locations}
+use Rattle.dep_model.specs.Locations.{TypedLocation, Heap, input, rooted, act_heaps, heaps, function_heaps, site_locations, variable_locations, result_parts, result_locations, locations}
 use Rattle.dep_model.specs.MainLocations.{whole_variable, whole_variables, main_result, main_locations}
 use Rattle.dep_model.specs.NumberedMains.{IsNumberedMain}
 use Rattle.dep_model.proofs.IntegerActs.{is_integer_act, all_integer}
@@ -37,7 +37,7 @@ module _ (p : Program) where
   variables_are x [] h = refl
   variables_are x (v ∷ vs) h =
       let w = All-head IsIntegerLocal v vs h in
-      ap (λ (os : List Placed). os ++ variable_locations p (suc x) vs) (one_location (Variable x) (shape_of v.shape) w.integer (local_shape v w)) ∙ ap (λ (os : List Placed). whole_variable x v ∷ os) (variables_are (suc x) vs (All-tail IsIntegerLocal v vs h))
+      ap (λ (os : List TypedLocation). os ++ variable_locations p (suc x) vs) (one_location (Variable x) (shape_of v.shape) w.integer (local_shape v w)) ∙ ap (λ (os : List TypedLocation). whole_variable x v ∷ os) (variables_are (suc x) vs (All-tail IsIntegerLocal v vs h))
 
   act_none : (i : ℕ) (a : Act) → is_integer_act a ≡ true → act_heaps p i a ≡ []
   act_none i (Begins x n) h = refl
@@ -68,9 +68,9 @@ module _ (p : Program) where
       let heaps_are : function_heaps p p.functions ≡ [] = ap (function_heaps p) m.functions_are ∙ append-nil (heaps p (body_doings m.main.body)) ∙ none in
       let result_is : result_locations p 0 p.functions ≡ main_result ∷ [] =
       ap (result_locations p 0) m.functions_are ∙ append-nil (result_parts p 0 m.main.result) ∙ ap (result_parts p 0) h.result_is ∙ ap (rooted p (Result 0)) shape-Int in
-      ap (λ (os : List Placed). input ∷ (os ++ (site_locations p (function_heaps p p.functions) ++ result_locations p 0 p.functions))) (variables_are 0 p.vars m.locals)
+      ap (λ (os : List TypedLocation). input ∷ (os ++ (site_locations p (function_heaps p p.functions) ++ result_locations p 0 p.functions))) (variables_are 0 p.vars m.locals)
       ∙ ap (λ (hs : List Heap). input ∷ (whole_variables 0 p.vars ++ (site_locations p hs ++ result_locations p 0 p.functions))) heaps_are
-      ∙ ap (λ (os : List Placed). input ∷ (whole_variables 0 p.vars ++ os)) result_is
+      ∙ ap (λ (os : List TypedLocation). input ∷ (whole_variables 0 p.vars ++ os)) result_is
 
 -- place k of the locations, where there are n variables
 pub data IsMainLocation (n : ℕ) : ℕ → Location → Type 0 where
@@ -78,19 +78,19 @@ pub data IsMainLocation (n : ℕ) : ℕ → Location → Type 0 where
   a_variable : {x : ℕ} → x < n → IsMainLocation n (suc x) (variable x)
   the_result : IsMainLocation n (suc n) (result_of 0)
 
-whole_cases : (x : ℕ) (vs : List Var) (k : ℕ) (o : Placed) → slice_get (whole_variables x vs ++ main_result ∷ []) k ≡ Some o → ((k < length vs) × (o.location ≡ variable (x + k))) ⊎ ((k ≡ length vs) × (o.location ≡ result_of 0))
-whole_cases x [] zero o e = inr (refl, sym (ap (λ (q : Placed). q.location) (same_Some _ _ e)))
+whole_cases : (x : ℕ) (vs : List Var) (k : ℕ) (o : TypedLocation) → slice_get (whole_variables x vs ++ main_result ∷ []) k ≡ Some o → ((k < length vs) × (o.location ≡ variable (x + k))) ⊎ ((k ≡ length vs) × (o.location ≡ result_of 0))
+whole_cases x [] zero o e = inr (refl, sym (ap (λ (q : TypedLocation). q.location) (same_Some _ _ e)))
 whole_cases x [] (suc k) o e = cc
 whole_cases x (v ∷ vs) zero o e =
     let n : x ≡ x + 0 = omega arith in
-    inl (omega arith, sym (ap (λ (q : Placed). q.location) (same_Some _ _ e)) ∙ ap variable n)
+    inl (omega arith, sym (ap (λ (q : TypedLocation). q.location) (same_Some _ _ e)) ∙ ap variable n)
 whole_cases x (v ∷ vs) (suc k) o e = elim (whole_cases (suc x) vs k o e) [
   | inl w ↦ let n : suc x + k ≡ x + suc k = omega arith in inl (omega (arith, w.0), w.1 ∙ ap variable n)
   | inr w ↦ inr (ap suc w.0, w.1)
 ]
 
-pub location_cases : (p : Program) (k : ℕ) (o : Placed) → slice_get (main_locations p) k ≡ Some o → IsMainLocation (length p.vars) k o.location
-location_cases p zero o e = subst (IsMainLocation (length p.vars) 0) (ap (λ (q : Placed). q.location) (same_Some _ _ e)) the_input_
+pub location_cases : (p : Program) (k : ℕ) (o : TypedLocation) → slice_get (main_locations p) k ≡ Some o → IsMainLocation (length p.vars) k o.location
+location_cases p zero o e = subst (IsMainLocation (length p.vars) 0) (ap (λ (q : TypedLocation). q.location) (same_Some _ _ e)) the_input_
 location_cases p (suc k) o e = elim (whole_cases 0 p.vars k o e) [
   | inl w ↦
       let n : 0 + k ≡ k = omega arith in
@@ -107,7 +107,7 @@ length_main p = let w = length_whole 0 p.vars in omega (arith, w)
 
 -- ---- each has its place
 
-variable_in : (x : ℕ) (vs : List Var) (k : ℕ) → k < length vs → (o : Placed) × (slice_get (whole_variables x vs ++ main_result ∷ []) k ≡ Some o) × (o.location ≡ variable (x + k))
+variable_in : (x : ℕ) (vs : List Var) (k : ℕ) → k < length vs → (o : TypedLocation) × (slice_get (whole_variables x vs ++ main_result ∷ []) k ≡ Some o) × (o.location ≡ variable (x + k))
 variable_in x [] k lt = absurd (omega (arith, lt))
 variable_in x (v ∷ vs) zero lt = let n : x ≡ x + 0 = omega arith in (whole_variable x v, refl, ap variable n)
 variable_in x (v ∷ vs) (suc k) lt =
@@ -115,7 +115,7 @@ variable_in x (v ∷ vs) (suc k) lt =
     let n : suc x + k ≡ x + suc k = omega arith in
     (w.0, w.1, w.2 ∙ ap variable n)
 
-pub variable_listed : (p : Program) (x : ℕ) → x < length p.vars → (o : Placed) × (slice_get (main_locations p) (suc x) ≡ Some o) × (o.location ≡ variable x)
+pub variable_listed : (p : Program) (x : ℕ) → x < length p.vars → (o : TypedLocation) × (slice_get (main_locations p) (suc x) ≡ Some o) × (o.location ≡ variable x)
 variable_listed p x lt =
     let w = variable_in 0 p.vars x lt in
     let n : 0 + x ≡ x = omega arith in

@@ -1,6 +1,7 @@
 -- A program has one analysis, and so one set of edges.
 use mathlib.Core.Path.{fun_ext}
 use Rattle.std.proofs.Common.{◌≡◌, ℕ, List, Bool, Contains, ap, subst, ◌∙◌}
+use Rattle.rule_closure.proofs.SetLemmas.{same_test}
 use Rattle.c_tree.specs.declared.program.Program.{Program}
 use Rattle.dep_model.specs.declared.edge.Edge.{Edge}
 use Rattle.dep_model.specs.declared.location.Location.{Location}
@@ -9,20 +10,19 @@ use Rattle.dep_model.specs.MayPoint.{IsPointsTo}
 use Rattle.dep_model.specs.ModRef.{FunctionEffects, AreFunctionEffects}
 use Rattle.dep_model.specs.SystemGraph.{Analysis, IsAnalysis, IsSystemEdge, AreSystemEdges}
 use Rattle.dep_model.proofs.MayPointLaws.{points_one}
-use Rattle.dep_model.proofs.BoolLemmas.{both_or_none}
 
 module _ (p : Program) where
   -- may-point is one relation
   pub one_points : (x y : PointsTo) → IsPointsTo p x → IsPointsTo p y → x ≡ y
-  one_points x y a b = fun_ext (λ l. fun_ext (λ m. both_or_none (x l m) (y l m) (points_one p x y a b l m) (points_one p y x b a l m)))
+  one_points x y a b = fun_ext (λ l. fun_ext (λ m. same_test (x l m) (y l m) (points_one p x y a b l m, points_one p y x b a l m)))
 
   -- what functions modify and use is one for one may-point
   pub one_effects : (points : PointsTo) (e f : FunctionEffects) → AreFunctionEffects p points e → AreFunctionEffects p points f → e ≡ f
   one_effects points e f a b =
       let modified : e.modified ≡ f.modified =
-      fun_ext (λ g. fun_ext (λ l. both_or_none (e.modified g l) (f.modified g l) (λ h. (b.modified_are g l).1 ((a.modified_are g l).0 h)) (λ h. (a.modified_are g l).1 ((b.modified_are g l).0 h)))) in
+      fun_ext (λ g. fun_ext (λ l. same_test (e.modified g l) (f.modified g l) (λ h. (b.modified_are g l).1 ((a.modified_are g l).0 h), λ h. (a.modified_are g l).1 ((b.modified_are g l).0 h)))) in
       let used : e.used ≡ f.used =
-      fun_ext (λ g. fun_ext (λ l. both_or_none (e.used g l) (f.used g l) (λ h. (b.used_are g l).1 ((a.used_are g l).0 h)) (λ h. (a.used_are g l).1 ((b.used_are g l).0 h)))) in
+      fun_ext (λ g. fun_ext (λ l. same_test (e.used g l) (f.used g l) (λ h. (b.used_are g l).1 ((a.used_are g l).0 h), λ h. (a.used_are g l).1 ((b.used_are g l).0 h)))) in
       ap (λ (m : ℕ → Location → Bool). record { modified = m; used = e.used }) modified ∙ ap (λ (u : ℕ → Location → Bool). record { modified = f.modified; used = u }) used
 
   pub one_analysis : (a b : Analysis) → IsAnalysis p a → IsAnalysis p b → a ≡ b

@@ -6,7 +6,7 @@ use Rattle.c_tree.specs.declared.statement.Statement.TheOpen.{Statement-F, Arm-F
 use Rattle.c_tree.specs.declared.statement.Arm.{Arm, roll-Arm, map-Arm, fold-roll-Arm}
 use Rattle.c_tree.specs.declared.statement.Target.{Target}
 use Rattle.c_tree.specs.declared.statement.Target.TheVariants as target
-use Rattle.c_language.specs.Code.{Code, End, Opens, Plain, Fork, Loop, Leaves, Call, ◌⨟◌, is_true, either, leave, Part, declared, in_turn, block, ArmPart, has_case, has_default, default_arm, case_arm, given_to, part_step, arm_step, part, code}
+use Rattle.c_language.specs.Code.{Code, End, Opens, Plain, Fork, Loop, Leaves, Call, ◌⨟◌, is_true, either, leave, StatementPart, declared_in, in_turn, block, ArmPart, has_case, has_default, default_arm, case_arm, given_to, part_step, arm_step, part, code}
 use Rattle.c_language.proofs.CodeLemmas.{arm_part}
 use Rattle.dep_model.specs.Doings.{Doing, Does, Calls, joined, doing_step, doing_arm, doings, body_doings}
 use Rattle.dep_model.proofs.DoingForms.{arm_doings}
@@ -75,7 +75,7 @@ module _ (P : Step → Type 0) where
   -- ---- statements
 
   -- a part has these steps before what comes after it
-  abbrev IsBefore : Part → Type 0
+  abbrev IsBefore : StatementPart → Type 0
   IsBefore q = (r : Code) → Each P r → Each P (q.before r)
 
   abbrev Of : Statement → Type 0
@@ -109,7 +109,7 @@ module _ (P : Step → Type 0) where
       x.1 w.0 (in_turn (map part (fsts b)) r) (turns b r w.1 k)
 
   each_block : (b : List Known) → Did P (joined (map doings (fsts b))) → Each P (block (map part (fsts b)))
-  each_block b h = turns b (leave (declared (map part (fsts b))) End) h (each_leave (declared (map part (fsts b))) End tt)
+  each_block b h = turns b (leave (declared_in (map part (fsts b))) End) h (each_leave (declared_in (map part (fsts b))) End tt)
 
   each_default : (as_ : List KnownArm) → Did P (joined (map arm_doings (arms as_))) → Each P (default_arm (map arm_part (arms as_)))
   each_default [] h = tt
@@ -131,8 +131,8 @@ module _ (P : Step → Type 0) where
   abbrev layer_doings : Statement-F Statement Arm → List Doing
   layer_doings y = doing_step (map-Statement Statement Arm (List Doing) (List Doing) doings arm_doings y)
 
-  abbrev layer_part : Statement-F Statement Arm → Part
-  layer_part y = part_step (map-Statement Statement Arm Part ArmPart part arm_part y)
+  abbrev layer_part : Statement-F Statement Arm → StatementPart
+  layer_part y = part_step (map-Statement Statement Arm StatementPart ArmPart part arm_part y)
 
   of_layer : (y : Statement-F Known KnownArm) → Did P (layer_doings (layer y)) → IsBefore (layer_part (layer y))
   of_layer (Statement-F.Declare None l x i) h r k = k
@@ -158,26 +158,26 @@ module _ (P : Step → Type 0) where
       (h.0, (each_seq (block (map part (fsts b))) ((part s.0).before End) (each_block b w.1) (s.1 w.0 End tt), k))
   of_layer (Statement-F.For id l (Some i) e None b) h r k =
       let u = did_both (doings i.0) (joined (map doings (fsts b))) h.1 in
-      each_seq ((part i.0).before End) (Loop id e (block (map part (fsts b)) ⨟ End) (leave (declared (part i.0 ∷ [])) r)) (i.1 u.0 End tt) (h.0, (each_seq (block (map part (fsts b))) End (each_block b u.1) tt, each_leave (declared (part i.0 ∷ [])) r k))
+      each_seq ((part i.0).before End) (Loop id e (block (map part (fsts b)) ⨟ End) (leave (declared_in (part i.0 ∷ [])) r)) (i.1 u.0 End tt) (h.0, (each_seq (block (map part (fsts b))) End (each_block b u.1) tt, each_leave (declared_in (part i.0 ∷ [])) r k))
   of_layer (Statement-F.For id l (Some i) e (Some s) b) h r k =
       let u = did_both (doings i.0) (doings s.0 ++ joined (map doings (fsts b))) h.1 in
       let w = did_both (doings s.0) (joined (map doings (fsts b))) u.1 in
-      each_seq ((part i.0).before End) (Loop id e (block (map part (fsts b)) ⨟ (part s.0).before End) (leave (declared (part i.0 ∷ [])) r)) (i.1 u.0 End tt) (h.0, (each_seq (block (map part (fsts b))) ((part s.0).before End) (each_block b w.1) (s.1 w.0 End tt), each_leave (declared (part i.0 ∷ [])) r k))
+      each_seq ((part i.0).before End) (Loop id e (block (map part (fsts b)) ⨟ (part s.0).before End) (leave (declared_in (part i.0 ∷ [])) r)) (i.1 u.0 End tt) (h.0, (each_seq (block (map part (fsts b))) ((part s.0).before End) (each_block b w.1) (s.1 w.0 End tt), each_leave (declared_in (part i.0 ∷ [])) r k))
   of_layer (Statement-F.Switch id l e as_) h r k =
       (h.0, (λ v. each_case as_ v (default_arm (map arm_part (arms as_))) h.1 (each_default as_ h.1), k))
   of_layer (Statement-F.Block l b) h r k = each_seq (block (map part (fsts b))) r (each_block b h) k
   of_layer (Statement-F.Return id l e) h r k = (h.0, k)
 
-  of_arm_layer : (y : Arm-F Known KnownArm) → Did P (doing_arm (map-Arm Statement Arm (List Doing) (List Doing) doings arm_doings (arm_layer y))) → Each P (arm_step (map-Arm Statement Arm Part ArmPart part arm_part (arm_layer y))).does
+  of_arm_layer : (y : Arm-F Known KnownArm) → Did P (doing_arm (map-Arm Statement Arm (List Doing) (List Doing) doings arm_doings (arm_layer y))) → Each P (arm_step (map-Arm Statement Arm StatementPart ArmPart part arm_part (arm_layer y))).does
   of_arm_layer y h = each_block y.body h
 
   rolled : (y : Statement-F Statement Arm) → (Did P (layer_doings y) → IsBefore (layer_part y)) → Of (roll-Statement y)
   rolled y h done =
-      subst IsBefore (sym (fold-roll-Statement Part ArmPart part_step arm_step y)) (h (subst (Did P) (fold-roll-Statement (List Doing) (List Doing) doing_step doing_arm y) done))
+      subst IsBefore (sym (fold-roll-Statement StatementPart ArmPart part_step arm_step y)) (h (subst (Did P) (fold-roll-Statement (List Doing) (List Doing) doing_step doing_arm y) done))
 
-  rolled_arm : (y : Arm-F Statement Arm) → (Did P (doing_arm (map-Arm Statement Arm (List Doing) (List Doing) doings arm_doings y)) → Each P (arm_step (map-Arm Statement Arm Part ArmPart part arm_part y)).does) → OfArm (roll-Arm y)
+  rolled_arm : (y : Arm-F Statement Arm) → (Did P (doing_arm (map-Arm Statement Arm (List Doing) (List Doing) doings arm_doings y)) → Each P (arm_step (map-Arm Statement Arm StatementPart ArmPart part arm_part y)).does) → OfArm (roll-Arm y)
   rolled_arm y h done =
-      subst (λ (a : ArmPart). Each P a.does) (sym (fold-roll-Arm Part ArmPart part_step arm_step y)) (h (subst (Did P) (fold-roll-Arm (List Doing) (List Doing) doing_step doing_arm y) done))
+      subst (λ (a : ArmPart). Each P a.does) (sym (fold-roll-Arm StatementPart ArmPart part_step arm_step y)) (h (subst (Did P) (fold-roll-Arm (List Doing) (List Doing) doing_step doing_arm y) done))
 
   pub each_part : (s : Statement) → Of s
   each_part =

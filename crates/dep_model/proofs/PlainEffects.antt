@@ -1,6 +1,6 @@
 -- Which locations an act may define, may use and kills where all variables are integers whose addresses aren't taken: a working form of
 -- the effects of acts.
-use Rattle.std.specs.Prelude.{ℕ, ◌==◌, List, [], ◌∷◌, Bool, true, false, ◌&&◌, ◌||◌, Option, Some, None}
+use Rattle.std.specs.Prelude.{ℕ, ◌==◌, List, [], ◌∷◌, Bool, true, false, ◌&&◌, ◌||◌, Option, Some, None, is_some}
 use Rattle.c_arith.specs.declared.operators.BinaryOp.{BinaryOp}
 use Rattle.c_tree.specs.declared.expr.Expr.{Expr, fold-Expr}
 use Rattle.c_tree.specs.declared.expr.Expr.TheOpen.{Expr-F}
@@ -15,7 +15,6 @@ use Rattle.dep_model.specs.declared.location.Location.{Location}
 use Rattle.dep_model.specs.declared.location.Root.{Root}
 use Rattle.dep_model.specs.declared.location.Root.TheVariants.{Input, Variable, Site, Result}
 use Rattle.dep_model.specs.declared.location.Part.{Part}
-use Rattle.dep_model.specs.IntegerEffects.{gives_value}
 
 abbrev pub is_root_of : ℕ → Root → Bool
 is_root_of x Input = false
@@ -181,7 +180,7 @@ defines (Writes e) l = false
 defines (Prints format args) l = false
 defines (Allocates to n) l = target_places to l
 defines (Frees e) l = false
-defines (Returns e) l = gives_value e && is_result l
+defines (Returns e) l = is_some e && is_result l
 defines (Tests e) l = false
 
 -- an assignment to a name kills what it held
@@ -194,5 +193,5 @@ kills (Writes e) l = false
 kills (Prints format args) l = false
 kills (Allocates to n) l = target_names to l
 kills (Frees e) l = false
-kills (Returns e) l = gives_value e && is_result l
+kills (Returns e) l = is_some e && is_result l
 kills (Tests e) l = false

@@ -6,6 +6,7 @@ use Rattle.c_tree.specs.declared.expr.Expr.TheOpen.{Expr-F}
 use Rattle.built_forms.specs.IntegerForms.{is_name}
 use Rattle.built_forms.specs.IntegerForms as forms
 use Rattle.dep_model.specs.declared.location.Location.{Location}
+use Rattle.dep_model.specs.Denoted.{Places}
 use Rattle.dep_model.specs.IntegerEffects.{reads_step, variables_read, place_step, variables_set, name_step, variables_named, all_read, any_whole}
 use Rattle.dep_model.proofs.BoolLemmas.{or_both}
 use Rattle.dep_model.proofs.IntegerExprs.{any_append}
@@ -17,9 +18,6 @@ use Rattle.c_language.proofs.Tests.{or_none}
 -- a list of variables and a working form have the same locations
 abbrev AreSame : List ℕ → (Location → Bool) → Type 0
 AreSame xs f = (l : Location) → any_whole xs l ≡ f l
-
-abbrev Places : Type 0
-Places = Location → Bool
 
 abbrev ReadsAgree : Expr → Type 0
 ReadsAgree a = AreSame (variables_read a) (reads a)

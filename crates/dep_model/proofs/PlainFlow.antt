@@ -13,12 +13,12 @@ use Rattle.dep_model.specs.declared.location.Location.{Location}
 use Rattle.dep_model.specs.declared.vertex.Vertex.{Vertex}
 use Rattle.dep_model.specs.declared.vertex.VertexKind.TheVariants.{Statement}
 use Rattle.dep_model.specs.Denoted.{PointsTo, Places}
-use Rattle.dep_model.specs.Doings.{Doing, Does, Calls, doings_of}
+use Rattle.dep_model.specs.Doings.{Doing, Does, Calls, doings_of, doing_number}
 use Rattle.dep_model.specs.Follows as general
 use Rattle.dep_model.specs.Follows.{enters, last, more}
 use Rattle.dep_model.specs.FunctionVertices.{code_in, FollowsIn}
 use Rattle.dep_model.specs.MainVertices.{from, vertices}
-use Rattle.dep_model.specs.NumberedMains.{doing_number, IsNumberedMain}
+use Rattle.dep_model.specs.NumberedMains.{IsNumberedMain}
 use Rattle.dep_model.specs.SystemGraph.{Analysis, IsAnalysis, places_at, numbered_effects, IsFlowIn}
 use Rattle.dep_model.specs.VertexOrder.{in_function, has_number, statement_uses, statement_defines, statement_kills, vertex_effects}
 use Rattle.dep_model.proofs.IntegerActs.{is_integer_act, all_integer}

@@ -7,8 +7,7 @@ use Rattle.c_tree.specs.declared.statement.Arm.{Arm, roll-Arm, map-Arm, fold-rol
 use Rattle.c_tree.specs.declared.numbered.Start.{Start}
 use Rattle.c_tree.specs.Numbered.{Starts, all, starts_step, arm_starts, starts, body_starts}
 use Rattle.c_tree.proofs.NumberedLemmas.{starts_of_arm}
-use Rattle.dep_model.specs.Doings.{Doing, joined, doing_step, doing_arm, doings, body_doings}
-use Rattle.dep_model.specs.NumberedMains.{doing_number}
+use Rattle.dep_model.specs.Doings.{Doing, joined, doing_step, doing_arm, doings, body_doings, doing_number}
 use Rattle.dep_model.proofs.DoingForms.{arm_doings}
 
 abbrev pub ids : Starts → List ℕ

@@ -4,6 +4,7 @@ use Rattle.std.specs.Prelude.{◌||◌, if◌then◌else◌}
 use Rattle.std.specs.Ordering.{int_eq}
 use Rattle.std.proofs.lemmas.Bool.Decides.{nat_tests}
 use Rattle.std.proofs.lemmas.Bool.{or_parts, or_cases, not-true, or_from, or_left, or_right, not_from_false}
+use Rattle.std.specs.List.{list_any}
 use Rattle.c_tree.specs.declared.statement.Label.{Label}
 use Rattle.c_tree.specs.declared.statement.Label.TheVariants as label
 use Rattle.c_language.specs.Code.{Code, End, ArmPart, is_case, has_case, is_default, has_default, default_arm, case_arm, taken_arm}
@@ -86,8 +87,7 @@ kind_of before (l ∷ ls) h =
 -- ---- the arms
 
 abbrev pub some_arm_default : List ArmPart → Bool
-some_arm_default [] = false
-some_arm_default (a ∷ as_) = has_default a.labels || some_arm_default as_
+some_arm_default = list_any (λ (a : ArmPart). has_default a.labels)
 
 no_default : (as_ : List ArmPart) → some_arm_default as_ ≡ false → default_arm as_ ≡ End
 no_default [] h = refl

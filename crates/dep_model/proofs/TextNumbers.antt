@@ -10,7 +10,7 @@ use Rattle.c_tree.specs.declared.raw.program.RawInit.{RawInit}
 use Rattle.c_tree.specs.declared.raw.program.RawInit.TheVariants as init
 use Rattle.c_tree.specs.declared.raw.program.RawProgram.{RawProgram}
 use Rattle.c_tree.specs.declared.raw.statement.RawArg.{RawArg}
-use Rattle.c_tree.specs.declared.raw.statement.RawArm.{RawArm, fold-RawArm, roll-RawArm, map-RawArm, fold-roll-RawArm}
+use Rattle.c_tree.specs.declared.raw.statement.RawArm.{RawArm, roll-RawArm, map-RawArm, fold-roll-RawArm}
 use Rattle.c_tree.specs.declared.raw.statement.RawStatement.{RawStatement, ind-RawStatement, roll-RawStatement, map-RawStatement, fold-roll-RawStatement}
 use Rattle.c_tree.specs.declared.raw.statement.RawStatement.TheOpen.{RawStatement-F, RawArm-F}
 use Rattle.c_tree.specs.declared.raw.statement.RawTarget.{RawTarget}
@@ -24,15 +24,14 @@ use Rattle.c_language.specs.Code.{Tests}
 use Rattle.c_language.specs.CallRules.{format_in, later_args}
 use Rattle.c_language.specs.ConstantEvaluation.{both}
 use Rattle.c_language.specs.DeclaredTypes.{function_id}
-use Rattle.c_language.specs.ProgramOf.{collected, optional, ctype_if, expr_of, init_of, declaration_id, target_tree, args_tree, only_tree, amount_tree, call_tree, label_tree, arm_tree, ArmTree, arm_tree_step, block_tree, at_type, switch_type, part_tree, for_tree, treed_step, treed, body_of}
+use Rattle.c_language.specs.ProgramOf.{collected, ctype_if, expr_of, init_of, declaration_id, target_tree, args_tree, only_tree, amount_tree, call_tree, label_tree, arm_tree, ArmTree, arm_tree_step, block_tree, at_type, switch_type, part_tree, for_tree, treed_step, treed, body_of, treed_arm}
 use Rattle.c_language.specs.Scopes.{Scope, Scoped, opened, numbered, with_variable, with_target, begun, in_order, after_all, after_block}
 use Rattle.c_language.specs.TypeGrammar.{named_type}
-use Rattle.c_language.proofs.Options.{none_there, some_same, map_some, then_some, both_some}
+use Rattle.c_language.proofs.Options.{some_same, optional_there, map_there, then_there, both_there, more_there}
 use Rattle.c_language.proofs.ScopeNumbers.{target_statements, begun_statements}
-use Rattle.built_forms.proofs.Options.{Always, always_map, always_then, always_both, always_if, always_is, collected_some}
-use Rattle.dep_model.specs.Doings.{Doing, Does, doings, body_doings}
+use Rattle.built_forms.proofs.Options.{Always, always_map, always_then, always_both, always_if, always_is}
+use Rattle.dep_model.specs.Doings.{Doing, Does, doings, body_doings, doing_number}
 use Rattle.dep_model.specs.MainVertices.{from}
-use Rattle.dep_model.specs.NumberedMains.{doing_number}
 use Rattle.dep_model.proofs.DoingForms.{arms_doings, part_doings, doings-Declare, doings-Assign, doings-Bump, doings-Invoke, doings-Fetch, doings-Write, doings-Print, doings-Heap, doings-Release, doings-Return, doings-If, doings-While, doings-Do, doings-Switch, doings-Block, doings-For}
 
 -- ---- statements with the numbers from i up to j
@@ -78,6 +77,15 @@ IsOne i x = Takes (doings x) i (i + 1)
 one_of : (x : Statement) (d : Doing) (i : ℕ) → doings x ≡ d ∷ [] → doing_number d ≡ i → IsOne i x
 one_of x d i is e = subst (λ ds. Takes ds i (i + 1)) (sym is) (takes_one d i e)
 
+-- what a for was made of
+pub for_some : (id l : ℕ) (i : Option (Option Statement)) (o : Option Expr) (k : Option (Option Statement)) (b : Option (List Statement)) (x : Statement) → for_tree id l i o k b ≡ Some x
+    → (i_ : Option Statement) × (e : Expr) × (k_ : Option Statement) × (b_ : List Statement) × (i ≡ Some i_) × (o ≡ Some e) × (k ≡ Some k_) × (b ≡ Some b_) × (x ≡ s.For id l i_ e k_ b_)
+for_some id l i o k b x h =
+    let a = then_there (λ (y : Option Statement). option_and_then (λ (e : Expr). both (s.For id l y e) k b) o) i x h in
+    let c = then_there (λ (e : Expr). both (s.For id l a.value e) k b) o x a.same in
+    let d = both_there (s.For id l a.value c.value) k b x c.same in
+    (a.value, c.value, d.left, d.right, a.there, c.there, d.left_there, d.right_there, (sym d.same))
+
 module _ (raw : RawProgram) where
   -- a statement where it stands takes the numbers up to those after it
   abbrev Case : Scoped (Option Statement) → Type 0
@@ -86,14 +94,11 @@ module _ (raw : RawProgram) where
   abbrev ArmCase : Scoped ArmTree → Type 0
   ArmCase t = (scope : Scope) (k : IntType) (a : Arm) → t.gives scope k ≡ Some a → Takes (body_doings a.body) scope.statements (t.after scope).statements
 
-  abbrev of_arm : RawArm → Scoped ArmTree
-  of_arm = fold-RawArm (Scoped (Option Statement)) (Scoped ArmTree) (treed_step raw) (arm_tree_step raw)
-
   abbrev Known : Type 0
   Known = (one : RawStatement) × Case (treed raw one)
 
   abbrev KnownArm : Type 0
-  KnownArm = (a : RawArm) × ArmCase (of_arm a)
+  KnownArm = (a : RawArm) × ArmCase (treed_arm raw a)
 
   abbrev layer_of : RawStatement-F Known KnownArm → RawStatement-F RawStatement RawArm
   layer_of = map-RawStatement Known KnownArm RawStatement RawArm (λ p. p.0) (λ p. p.0)
@@ -102,16 +107,16 @@ module _ (raw : RawProgram) where
   arm_layer_of = map-RawArm Known KnownArm RawStatement RawArm (λ p. p.0) (λ p. p.0)
 
   abbrev as_tree : RawStatement-F RawStatement RawArm → Scoped (Option Statement)
-  as_tree y = treed_step raw (map-RawStatement RawStatement RawArm (Scoped (Option Statement)) (Scoped ArmTree) (treed raw) of_arm y)
+  as_tree y = treed_step raw (map-RawStatement RawStatement RawArm (Scoped (Option Statement)) (Scoped ArmTree) (treed raw) (treed_arm raw) y)
 
   abbrev as_arm : RawArm-F RawStatement RawArm → Scoped ArmTree
-  as_arm y = arm_tree_step raw (map-RawArm RawStatement RawArm (Scoped (Option Statement)) (Scoped ArmTree) (treed raw) of_arm y)
+  as_arm y = arm_tree_step raw (map-RawArm RawStatement RawArm (Scoped (Option Statement)) (Scoped ArmTree) (treed raw) (treed_arm raw) y)
 
   abbrev trees : List Known → List (Scoped (Option Statement))
   trees ks = map (treed raw) (map (λ (p : Known). p.0) ks)
 
   abbrev arm_trees : List KnownArm → List (Scoped ArmTree)
-  arm_trees ks = map of_arm (map (λ (p : KnownArm). p.0) ks)
+  arm_trees ks = map (treed_arm raw) (map (λ (p : KnownArm). p.0) ks)
 
   -- ---- lists
 
@@ -119,17 +124,17 @@ module _ (raw : RawProgram) where
   list_takes [] scope xs e = subst (λ ys. Takes (body_doings ys) scope.statements scope.statements) (some_same e) (takes_none scope.statements)
   list_takes (one ∷ ks) scope xs e =
       let t = treed raw one.0 in
-      let m = collected_some (t.gives scope) (in_order (trees ks) (t.after scope)) xs e in
-      subst (λ ys. Takes (body_doings ys) scope.statements (after_all (trees ks) (t.after scope)).statements) (sym m.4)
-      (takes_both (doings m.0) (body_doings m.1) scope.statements (t.after scope).statements (after_all (trees ks) (t.after scope)).statements (one.1 scope m.0 m.2) (list_takes ks (t.after scope) m.1 m.3))
+      let m = more_there (t.gives scope) (in_order (trees ks) (t.after scope)) xs e in
+      subst (λ ys. Takes (body_doings ys) scope.statements (after_all (trees ks) (t.after scope)).statements) m.same
+      (takes_both (doings m.first) (body_doings m.rest) scope.statements (t.after scope).statements (after_all (trees ks) (t.after scope)).statements (one.1 scope m.first m.first_there) (list_takes ks (t.after scope) m.rest m.rest_there))
 
   arms_take : (ks : List KnownArm) (scope : Scope) (k : IntType) (as_ : List Arm) → at_type k (in_order (arm_trees ks) scope) ≡ Some as_ → Takes (arms_doings as_) scope.statements (after_all (arm_trees ks) scope).statements
   arms_take [] scope k as_ e = subst (λ ys. Takes (arms_doings ys) scope.statements scope.statements) (some_same e) (takes_none scope.statements)
   arms_take (one ∷ ks) scope k as_ e =
-      let t = of_arm one.0 in
-      let m = collected_some (t.gives scope k) (map (λ (a : ArmTree). a k) (in_order (arm_trees ks) (t.after scope))) as_ e in
-      subst (λ ys. Takes (arms_doings ys) scope.statements (after_all (arm_trees ks) (t.after scope)).statements) (sym m.4)
-      (takes_both (body_doings m.0.body) (arms_doings m.1) scope.statements (t.after scope).statements (after_all (arm_trees ks) (t.after scope)).statements (one.1 scope k m.0 m.2) (arms_take ks (t.after scope) k m.1 m.3))
+      let t = treed_arm raw one.0 in
+      let m = more_there (t.gives scope k) (map (λ (a : ArmTree). a k) (in_order (arm_trees ks) (t.after scope))) as_ e in
+      subst (λ ys. Takes (arms_doings ys) scope.statements (after_all (arm_trees ks) (t.after scope)).statements) m.same
+      (takes_both (body_doings m.first.body) (arms_doings m.rest) scope.statements (t.after scope).statements (after_all (arm_trees ks) (t.after scope)).statements (one.1 scope k m.first m.first_there) (arms_take ks (t.after scope) k m.rest m.rest_there))
 
   -- a test and what it decides
   tested : (x : Statement) (id : ℕ) (e : Expr) (ds : List Doing) (k : ℕ) → doings x ≡ Does id (Tests e) ∷ ds → Takes ds (id + 1) k → Takes (doings x) id k
@@ -166,32 +171,18 @@ module _ (raw : RawProgram) where
   for_of x id l i e k b m n o is hi hk hb =
       tested x id e (part_doings i ++ (part_doings k ++ body_doings b)) o (ap doings is ∙ doings-For id l i e k b) (takes_both (part_doings i) (part_doings k ++ body_doings b) (id + 1) m o hi (takes_both (part_doings k) (body_doings b) m n o hk hb))
 
-  -- what a for was made of
-  for_some : (id l : ℕ) (i : Option (Option Statement)) (o : Option Expr) (k : Option (Option Statement)) (b : Option (List Statement)) (x : Statement) → for_tree id l i o k b ≡ Some x
-      → (i_ : Option Statement) × (e : Expr) × (k_ : Option Statement) × (b_ : List Statement) × (i ≡ Some i_) × (k ≡ Some k_) × (b ≡ Some b_) × (x ≡ s.For id l i_ e k_ b_)
-  for_some id l i o k b x h =
-      let a = then_some (λ (y : Option Statement). option_and_then (λ (e : Expr). both (s.For id l y e) k b) o) i x h in
-      let c = then_some (λ (e : Expr). both (s.For id l a.0 e) k b) o x a.2 in
-      let d = both_some (s.For id l a.0 c.0) k b x c.2 in
-      (a.0, c.0, d.0, d.1, a.1, d.2, d.3, d.4)
-
   none_takes : (scope : Scope) (x : Option Statement) → Some None ≡ Some x → Takes (part_doings x) scope.statements scope.statements
   none_takes scope x e = subst (λ y. Takes (part_doings y) scope.statements scope.statements) (some_same e) (takes_none scope.statements)
 
   some_takes : (one : Known) (scope : Scope) (x : Option Statement) → part_tree (Some (treed raw one.0)) scope ≡ Some x → Takes (part_doings x) scope.statements ((treed raw one.0).after scope).statements
-  some_takes one scope x e = by_value ((treed raw one.0).gives scope) refl e
-    where
-      by_value : (o : Option Statement) → (treed raw one.0).gives scope ≡ o → part_tree (Some (treed raw one.0)) scope ≡ Some x → Takes (part_doings x) scope.statements ((treed raw one.0).after scope).statements
-      by_value o is h = given o is (sym (ap (λ (z : Option Statement). optional (Some z)) is) ∙ h)
-        where
-          given : (o : Option Statement) → (treed raw one.0).gives scope ≡ o → optional (Some o) ≡ Some x → Takes (part_doings x) scope.statements ((treed raw one.0).after scope).statements
-          given None is h = none_there h
-          given (Some y) is h = subst (λ z. Takes (part_doings z) scope.statements ((treed raw one.0).after scope).statements) (some_same h) (one.1 scope y is)
+  some_takes one scope x e =
+      let p = optional_there ((treed raw one.0).gives scope) x e in
+      subst (λ z. Takes (part_doings z) scope.statements ((treed raw one.0).after scope).statements) p.1.1 (one.1 scope p.0 p.1.0)
 
   layer_case : (y : RawStatement-F Known KnownArm) → Case (as_tree (layer_of y))
   layer_case (RawStatement-F.Declare l v i) scope x e =
-      let m = map_some (s.Declare (declaration_id i scope.statements) l scope.variables) (init_of raw (with_variable raw v i scope) i) x e in
-      subst (λ n. Takes (doings x) scope.statements n) (begun_statements i scope (with_variable raw v i scope) refl) (subst (λ z. Takes (doings z) scope.statements (begun i scope).statements) (sym m.2) (declares scope l scope.variables i m.0))
+      let m = map_there (s.Declare (declaration_id i scope.statements) l scope.variables) (init_of raw (with_variable raw v i scope) i) x e in
+      subst (λ n. Takes (doings x) scope.statements n) (begun_statements i scope (with_variable raw v i scope) refl) (subst (λ z. Takes (doings z) scope.statements (begun i scope).statements) m.same (declares scope l scope.variables i m.value))
   layer_case (RawStatement-F.Assign l left op right) scope x e =
       always_is (IsOne scope.statements) _ x (always_both (IsOne scope.statements) (λ (a b : Expr). s.Assign scope.statements l a op b) (expr_of raw scope left) (expr_of raw scope right) (λ a b. one_of (s.Assign scope.statements l a op b) _ scope.statements (doings-Assign scope.statements l a op b) refl)) e
   layer_case (RawStatement-F.Bump l left up before) scope x e =
@@ -201,56 +192,56 @@ module _ (raw : RawProgram) where
   layer_case (RawStatement-F.Heap l to cast n) scope x e =
       behind to scope x (always_is (IsOne scope.statements) _ x (heap_one scope.statements l (target_tree raw scope to) (ctype_if raw (option_map named_type cast)) (amount_tree raw (with_target raw to scope) n)) e)
   layer_case (RawStatement-F.If l test a b) scope x e =
-      let t = then_some (λ (z : Expr). both (s.If scope.statements l z) (block_tree (trees a) (numbered scope)) (block_tree (trees b) (after_block (trees a) (numbered scope)))) (expr_of raw scope test) x e in
-      let m = both_some (s.If scope.statements l t.0) (block_tree (trees a) (numbered scope)) (block_tree (trees b) (after_block (trees a) (numbered scope))) x t.2 in
-      tested x scope.statements t.0 (body_doings m.0 ++ body_doings m.1) _ (ap doings m.4 ∙ doings-If scope.statements l t.0 m.0 m.1)
-      (takes_both (body_doings m.0) (body_doings m.1) (scope.statements + 1) _ _ (list_takes a (opened (numbered scope)) m.0 m.2) (list_takes b (opened (after_block (trees a) (numbered scope))) m.1 m.3))
+      let t = then_there (λ (z : Expr). both (s.If scope.statements l z) (block_tree (trees a) (numbered scope)) (block_tree (trees b) (after_block (trees a) (numbered scope)))) (expr_of raw scope test) x e in
+      let m = both_there (s.If scope.statements l t.value) (block_tree (trees a) (numbered scope)) (block_tree (trees b) (after_block (trees a) (numbered scope))) x t.same in
+      tested x scope.statements t.value (body_doings m.left ++ body_doings m.right) _ (ap doings (sym m.same) ∙ doings-If scope.statements l t.value m.left m.right)
+      (takes_both (body_doings m.left) (body_doings m.right) (scope.statements + 1) _ _ (list_takes a (opened (numbered scope)) m.left m.left_there) (list_takes b (opened (after_block (trees a) (numbered scope))) m.right m.right_there))
   layer_case (RawStatement-F.While l test b) scope x e =
-      let m = both_some (s.While scope.statements l) (expr_of raw scope test) (block_tree (trees b) (numbered scope)) x e in
-      tested x scope.statements m.0 (body_doings m.1) _ (ap doings m.4 ∙ doings-While scope.statements l m.0 m.1) (list_takes b (opened (numbered scope)) m.1 m.3)
+      let m = both_there (s.While scope.statements l) (expr_of raw scope test) (block_tree (trees b) (numbered scope)) x e in
+      tested x scope.statements m.left (body_doings m.right) _ (ap doings (sym m.same) ∙ doings-While scope.statements l m.left m.right) (list_takes b (opened (numbered scope)) m.right m.right_there)
   layer_case (RawStatement-F.Do l test b) scope x e =
-      let m = both_some (s.Do scope.statements l) (expr_of raw scope test) (block_tree (trees b) (numbered scope)) x e in
-      tested x scope.statements m.0 (body_doings m.1) _ (ap doings m.4 ∙ doings-Do scope.statements l m.0 m.1) (list_takes b (opened (numbered scope)) m.1 m.3)
+      let m = both_there (s.Do scope.statements l) (expr_of raw scope test) (block_tree (trees b) (numbered scope)) x e in
+      tested x scope.statements m.left (body_doings m.right) _ (ap doings (sym m.same) ∙ doings-Do scope.statements l m.left m.right) (list_takes b (opened (numbered scope)) m.right m.right_there)
   layer_case (RawStatement-F.For l None test None b) scope x e =
       let m = for_some _ l _ _ _ _ x e in
       let first = opened (numbered scope) in
-      for_of x _ l m.0 m.1 m.2 m.3 _ _ _ m.7 (none_takes first m.0 m.4) (none_takes first m.2 m.5) (list_takes b (opened first) m.3 m.6)
+      for_of x _ l m.0 m.1 m.2 m.3 _ _ _ m.8 (none_takes first m.0 m.4) (none_takes first m.2 m.6) (list_takes b (opened first) m.3 m.7)
   layer_case (RawStatement-F.For l None test (Some k) b) scope x e =
       let m = for_some _ l _ _ _ _ x e in
       let first = opened (numbered scope) in
-      for_of x _ l m.0 m.1 m.2 m.3 _ _ _ m.7 (none_takes first m.0 m.4) (some_takes k first m.2 m.5) (list_takes b (opened ((treed raw k.0).after first)) m.3 m.6)
+      for_of x _ l m.0 m.1 m.2 m.3 _ _ _ m.8 (none_takes first m.0 m.4) (some_takes k first m.2 m.6) (list_takes b (opened ((treed raw k.0).after first)) m.3 m.7)
   layer_case (RawStatement-F.For l (Some i) test None b) scope x e =
       let m = for_some _ l _ _ _ _ x e in
       let first = opened (numbered scope) in
       let next = (treed raw i.0).after first in
-      for_of x _ l m.0 m.1 m.2 m.3 _ _ _ m.7 (some_takes i first m.0 m.4) (none_takes next m.2 m.5) (list_takes b (opened next) m.3 m.6)
+      for_of x _ l m.0 m.1 m.2 m.3 _ _ _ m.8 (some_takes i first m.0 m.4) (none_takes next m.2 m.6) (list_takes b (opened next) m.3 m.7)
   layer_case (RawStatement-F.For l (Some i) test (Some k) b) scope x e =
       let m = for_some _ l _ _ _ _ x e in
       let first = opened (numbered scope) in
       let next = (treed raw i.0).after first in
-      for_of x _ l m.0 m.1 m.2 m.3 _ _ _ m.7 (some_takes i first m.0 m.4) (some_takes k next m.2 m.5) (list_takes b (opened ((treed raw k.0).after next)) m.3 m.6)
+      for_of x _ l m.0 m.1 m.2 m.3 _ _ _ m.8 (some_takes i first m.0 m.4) (some_takes k next m.2 m.6) (list_takes b (opened ((treed raw k.0).after next)) m.3 m.7)
   layer_case (RawStatement-F.Switch l test arms) scope x e =
-      let t = then_some (λ (z : Expr). option_and_then (λ (k : IntType). option_map (s.Switch scope.statements l z) (at_type k (in_order (arm_trees arms) (opened (numbered scope))))) (switch_type raw scope test)) (expr_of raw scope test) x e in
-      let u = then_some (λ (k : IntType). option_map (s.Switch scope.statements l t.0) (at_type k (in_order (arm_trees arms) (opened (numbered scope))))) (switch_type raw scope test) x t.2 in
-      let m = map_some (s.Switch scope.statements l t.0) (at_type u.0 (in_order (arm_trees arms) (opened (numbered scope)))) x u.2 in
-      tested x scope.statements t.0 (arms_doings m.0) _ (ap doings m.2 ∙ doings-Switch scope.statements l t.0 m.0) (arms_take arms (opened (numbered scope)) u.0 m.0 m.1)
+      let t = then_there (λ (z : Expr). option_and_then (λ (k : IntType). option_map (s.Switch scope.statements l z) (at_type k (in_order (arm_trees arms) (opened (numbered scope))))) (switch_type raw scope test)) (expr_of raw scope test) x e in
+      let u = then_there (λ (k : IntType). option_map (s.Switch scope.statements l t.value) (at_type k (in_order (arm_trees arms) (opened (numbered scope))))) (switch_type raw scope test) x t.same in
+      let m = map_there (s.Switch scope.statements l t.value) (at_type u.value (in_order (arm_trees arms) (opened (numbered scope)))) x u.same in
+      tested x scope.statements t.value (arms_doings m.value) _ (ap doings (sym m.same) ∙ doings-Switch scope.statements l t.value m.value) (arms_take arms (opened (numbered scope)) u.value m.value m.there)
   layer_case (RawStatement-F.Block l b) scope x e =
-      let m = map_some (s.Block l) (block_tree (trees b) scope) x e in
-      subst (λ ds. Takes ds scope.statements (after_all (trees b) (opened scope)).statements) (sym (ap doings m.2 ∙ doings-Block l m.0)) (list_takes b (opened scope) m.0 m.1)
+      let m = map_there (s.Block l) (block_tree (trees b) scope) x e in
+      subst (λ ds. Takes ds scope.statements (after_all (trees b) (opened scope)).statements) (sym (ap doings (sym m.same) ∙ doings-Block l m.value)) (list_takes b (opened scope) m.value m.there)
   layer_case (RawStatement-F.Return l a) scope x e =
       always_is (IsOne scope.statements) _ x (always_map (IsOne scope.statements) (s.Return scope.statements l) _ (λ v. one_of (s.Return scope.statements l v) _ scope.statements (doings-Return scope.statements l v) refl)) e
 
   arm_case : (y : RawArm-F Known KnownArm) → ArmCase (as_arm (arm_layer_of y))
   arm_case y scope k a e =
-      let m = both_some arm_tree (collected (map (label_tree raw scope k) y.labels)) (collected (in_order (trees y.body) scope)) a e in
-      subst (λ (z : Arm). Takes (body_doings z.body) scope.statements (after_all (trees y.body) scope).statements) (sym m.4) (list_takes y.body scope m.1 m.3)
+      let m = both_there arm_tree (collected (map (label_tree raw scope k) y.labels)) (collected (in_order (trees y.body) scope)) a e in
+      subst (λ (z : Arm). Takes (body_doings z.body) scope.statements (after_all (trees y.body) scope).statements) m.same (list_takes y.body scope m.right m.right_there)
 
   -- a statement of a text takes the numbers from those before it up to those after it
   pub statement_takes : (one : RawStatement) → Case (treed raw one)
   statement_takes =
-      ind-RawStatement (λ one. Case (treed raw one)) (λ a. ArmCase (of_arm a))
+      ind-RawStatement (λ one. Case (treed raw one)) (λ a. ArmCase (treed_arm raw a))
       (λ z y is. subst (λ w. Case (treed raw (roll-RawStatement w))) is (subst Case (sym (fold-roll-RawStatement (Scoped (Option Statement)) (Scoped ArmTree) (treed_step raw) (arm_tree_step raw) (layer_of y))) (layer_case y)))
-      (λ z y is. subst (λ w. ArmCase (of_arm (roll-RawArm w))) is (subst ArmCase (sym (fold-roll-RawArm (Scoped (Option Statement)) (Scoped ArmTree) (treed_step raw) (arm_tree_step raw) (arm_layer_of y))) (arm_case y)))
+      (λ z y is. subst (λ w. ArmCase (treed_arm raw (roll-RawArm w))) is (subst ArmCase (sym (fold-roll-RawArm (Scoped (Option Statement)) (Scoped ArmTree) (treed_step raw) (arm_tree_step raw) (arm_layer_of y))) (arm_case y)))
 
   abbrev all_known : List RawStatement → List Known
   all_known b = map (λ (one : RawStatement). let k : Known = (one, statement_takes one) in k) b

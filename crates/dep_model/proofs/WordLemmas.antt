@@ -7,9 +7,9 @@ use Rattle.dep_model.specs.declared.edge.Edge.{Edge}
 use Rattle.dep_model.specs.declared.edge.Label.TheVariants.{Control, Flow}
 use Rattle.rule_closure.specs.declared.closure.Rule.{Rule}
 use Rattle.rule_closure.specs.Rules.{Derived}
-use Rattle.dep_model.specs.Plain.{back}
+use Rattle.dep_model.specs.Plain.{back, IsPlain}
 use Rattle.rule_closure.specs.Rules as rules_
-use Rattle.dep_model.specs.Words.{letters, word, IsPath, Reaches, ReachesAny, IsPlain}
+use Rattle.dep_model.specs.Words.{letters, word, IsPath, Reaches, ReachesAny}
 use Rattle.dep_model.specs.Words as words
 use Rattle.rule_closure.proofs.ListLemmas.{contains_map, map_contains}
 

@@ -1,7 +1,6 @@
 -- The completion of a set of vertices: the least closed set that holds it (after Binkley 1993).
 use Rattle.std.specs.Prelude.{ℕ, ◌≡◌, Bool, List, length, Contains, IsTrue}
-use Rattle.bit_rows.specs.Sets.{has}
-use Rattle.rule_closure.specs.Rules.{Holds}
+use Rattle.bit_rows.specs.Sets.{has, IsSubset}
 use Rattle.dep_model.specs.declared.edge.Edge.{Edge}
 use Rattle.dep_model.specs.declared.edge.Label.TheVariants.{Control, Flow, Call, In, Out}
 
@@ -26,9 +25,9 @@ pub record IsClosed (edges : List Edge) (Names : ℕ → ℕ → Type 0) (main :
 -- k is the least closed set of its length that holds x
 pub record IsCompletion (edges : List Edge) (Names : ℕ → ℕ → Type 0) (main : ℕ) (x k : List Bool) : Type 0 where
   pub size : length k ≡ length x
-  pub holds : Holds k x
+  pub holds : IsSubset x k
   pub closed : IsClosed edges Names main k
-  pub least : (t : List Bool) → length t ≡ length x → Holds t x → IsClosed edges Names main t → Holds t k
+  pub least : (t : List Bool) → length t ≡ length x → IsSubset x t → IsClosed edges Names main t → IsSubset k t
 
 -- a vertex is in x, or the closures give it from x in finitely many steps: one case for each
 pub data Completed (edges : List Edge) (Names : ℕ → ℕ → Type 0) (main : ℕ) (x : List Bool) : ℕ → Type 0 where

@@ -9,7 +9,7 @@ use Rattle.dep_model.specs.declared.location.Location.{Location}
 use Rattle.dep_model.specs.declared.location.Root.TheVariants.{Variable}
 use Rattle.dep_model.specs.declared.location.Part.{Part}
 use Rattle.dep_model.specs.declared.location.Part.TheVariants as part
-use Rattle.dep_model.specs.Locations.{Placed, locations, same_location}
+use Rattle.dep_model.specs.Locations.{TypedLocation, locations, same_location}
 use Rattle.dep_model.specs.Designated.{Designated, is_array_place, designated_step}
 
 -- a set of locations
@@ -38,11 +38,11 @@ inside l h = record { root = l.root; path = l.path ++ h ∷ [] }
 
 -- this part of each of some locations
 abbrev pub part_of : Program → Part → Places → Places
-part_of p h places l = list_any (λ (o : Placed). places o.location && same_location (inside o.location h) l) (locations p)
+part_of p h places l = list_any (λ (o : TypedLocation). places o.location && same_location (inside o.location h) l) (locations p)
 
 -- what some locations may point to
 abbrev pub targets : Program → PointsTo → Places → Places
-targets p points places l = list_any (λ (o : Placed). places o.location && points o.location l) (locations p)
+targets p points places l = list_any (λ (o : TypedLocation). places o.location && points o.location l) (locations p)
 
 -- an expression: what it designates; the locations that its object may be; what its value may point to, where it
 -- designates none; and what is read to find its object, or else its value

@@ -15,6 +15,11 @@ pub data Doing : Type 0 where
   Does : (id : ℕ) → Act → Doing
   Calls : (id : ℕ) → (to : Target) → (function : ℕ) → (args : List Expr) → Doing
 
+-- the number of a statement
+abbrev pub doing_number : Doing → ℕ
+doing_number (Does i a) = i
+doing_number (Calls i to f args) = i
+
 abbrev pub joined : List (List Doing) → List Doing
 joined [] = []
 joined (ds ∷ more) = ds ++ joined more

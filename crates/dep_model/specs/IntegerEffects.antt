@@ -1,5 +1,5 @@
 -- The variables that the statements of an integer main may define, may use and kill, as lists.
-use Rattle.std.specs.Prelude.{ℕ, List, [], ◌∷◌, ◌++◌, Bool, true, false, ◌||◌, Option, Some, None}
+use Rattle.std.specs.Prelude.{ℕ, List, [], ◌∷◌, ◌++◌, Bool, false, ◌||◌, Option, Some, None, is_some}
 use Rattle.c_arith.specs.declared.operators.BinaryOp.{BinaryOp}
 use Rattle.c_tree.specs.declared.expr.Expr.{Expr, fold-Expr}
 use Rattle.c_tree.specs.declared.expr.Expr.TheOpen.{Expr-F}
@@ -134,10 +134,6 @@ act_named (Frees e) = []
 act_named (Returns e) = []
 act_named (Tests e) = []
 
-abbrev pub gives_value : Option Expr → Bool
-gives_value None = false
-gives_value (Some e) = true
-
 -- whether an act gives the function's result
 abbrev pub gives_result : Act → Bool
 gives_result (Begins x i) = false
@@ -148,7 +144,7 @@ gives_result (Writes e) = false
 gives_result (Prints format args) = false
 gives_result (Allocates to n) = false
 gives_result (Frees e) = false
-gives_result (Returns e) = gives_value e
+gives_result (Returns e) = is_some e
 gives_result (Tests e) = false
 
 -- the locations of some whole variables

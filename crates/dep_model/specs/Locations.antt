@@ -1,5 +1,5 @@
 -- The locations of a program: roots with paths of members and merged array elements, in their order.
-use Rattle.std.specs.Prelude.{ℕ, zero, suc, ◌==◌, List, [], ◌∷◌, ◌++◌, map, Bool, true, false, ◌&&◌, Option, Some, None}
+use Rattle.std.specs.Prelude.{ℕ, zero, suc, ◌==◌, List, [], ◌∷◌, ◌++◌, length, map, Bool, true, false, ◌&&◌, Option, Some, None}
 use Rattle.c_tree.specs.declared.program.Function.{Function}
 use Rattle.c_tree.specs.declared.program.Member.{Member}
 use Rattle.c_tree.specs.declared.program.Program.{Program}
@@ -15,7 +15,7 @@ use Rattle.c_language.specs.declared.expr_type.ExprType.{ExprType}
 use Rattle.c_language.specs.Lists.{same_all}
 use Rattle.c_language.specs.Code.{Act, Allocates}
 use Rattle.c_language.specs.DeclaredTypes.{void}
-use Rattle.c_language.specs.TreeTypes.{shape_of, members_of, pointee, variable_type, tree_type}
+use Rattle.c_language.specs.TreeTypes.{shape_of, members_of, pointee, type_of_variable, tree_type}
 use Rattle.dep_model.specs.Doings.{Doing, Does, Calls, body_doings}
 use Rattle.dep_model.specs.declared.location.Location.{Location}
 use Rattle.dep_model.specs.declared.location.Root.{Root}
@@ -56,25 +56,21 @@ abbrev pub struct_parts : Program → ℕ → ℕ → List Located
 struct_parts p zero s = []
 struct_parts p (suc n) s = member_parts (struct_parts p n) 0 (members_of p s)
 
-abbrev pub count : {A : Type 0} → List A → ℕ
-count [] = zero
-count (x ∷ xs) = suc (count xs)
-
 abbrev pub parts : Program → ExprType → List Located
-parts p t = parts_with (struct_parts p (count p.structs)) t.layers t.base
+parts p t = parts_with (struct_parts p (length p.structs)) t.layers t.base
 
 -- a location, with its type
-pub record Placed : Type 0 where
+pub record TypedLocation : Type 0 where
   pub location : Location
   pub type : ExprType
 
-abbrev pub placed : Root → Located → Placed
+abbrev pub placed : Root → Located → TypedLocation
 placed r o = record { location = record { root = r; path = o.path }; type = o.type }
 
-abbrev pub rooted : Program → Root → ExprType → List Placed
+abbrev pub rooted : Program → Root → ExprType → List TypedLocation
 rooted p r t = map (placed r) (parts p t)
 
-abbrev pub variable_locations : Program → ℕ → List Var → List Placed
+abbrev pub variable_locations : Program → ℕ → List Var → List TypedLocation
 variable_locations p x [] = []
 variable_locations p x (v ∷ vs) = rooted p (Variable x) (shape_of v.shape) ++ variable_locations p (suc x) vs
 
@@ -87,7 +83,7 @@ pub record Heap : Type 0 where
 abbrev pub target_type : Program → Target → ExprType
 target_type p target.None = void
 target_type p (target.Place e) = tree_type p e
-target_type p (target.Declared x) = variable_type p x
+target_type p (target.Declared x) = type_of_variable p x
 
 abbrev pub act_heaps : Program → ℕ → Act → List Heap
 act_heaps p i (Allocates to n) = record { id = i; elements = pointee (target_type p to) } ∷ []
@@ -105,23 +101,23 @@ abbrev pub function_heaps : Program → List Function → List Heap
 function_heaps p [] = []
 function_heaps p (f ∷ fs) = heaps p (body_doings f.body) ++ function_heaps p fs
 
-abbrev pub site_locations : Program → List Heap → List Placed
+abbrev pub site_locations : Program → List Heap → List TypedLocation
 site_locations p [] = []
 site_locations p (h ∷ hs) = rooted p (Site h.id) h.elements ++ site_locations p hs
 
-abbrev pub result_parts : Program → ℕ → Option CType → List Placed
+abbrev pub result_parts : Program → ℕ → Option CType → List TypedLocation
 result_parts p f None = []
 result_parts p f (Some t) = rooted p (Result f) (shape_of t)
 
-abbrev pub result_locations : Program → ℕ → List Function → List Placed
+abbrev pub result_locations : Program → ℕ → List Function → List TypedLocation
 result_locations p k [] = []
 result_locations p k (f ∷ fs) = result_parts p k f.result ++ result_locations p (suc k) fs
 
-abbrev pub input : Placed
+abbrev pub input : TypedLocation
 input = record { location = record { root = Input; path = [] }; type = void }
 
 -- the locations of a program: the unread input, variables, sites and results, in text order
-abbrev pub locations : Program → List Placed
+abbrev pub locations : Program → List TypedLocation
 locations p =
     input ∷ (variable_locations p 0 p.vars ++ (site_locations p (function_heaps p p.functions) ++ result_locations p 0 p.functions))
 

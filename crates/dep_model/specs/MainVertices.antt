@@ -10,6 +10,14 @@ abbrev pub from : ℕ → ℕ → List ℕ
 from i zero = []
 from i (suc n) = i ∷ from (suc i) n
 
+-- the vertex of a statement
+abbrev pub statement_vertex : ℕ → Vertex
+statement_vertex i = in_function 0 (Statement i)
+
+-- the entry of main and n statements
+abbrev pub main_vertices : ℕ → List Vertex
+main_vertices n = in_function 0 Entry ∷ map statement_vertex (from 0 n)
+
 -- the vertices in their order: so far the entry of main and its statements, by number
 abbrev pub vertices : Program → List Vertex
-vertices p = in_function 0 Entry ∷ map (λ i. in_function 0 (Statement i)) (from 0 p.statements)
+vertices p = main_vertices p.statements

@@ -14,13 +14,8 @@ use Rattle.c_tree.specs.declared.types.CType.TheVariants as type
 use Rattle.c_language.specs.Code.{Act, Begins, Sets, Bumps, Fetches, Writes, Prints, Allocates, Frees, Returns, Tests}
 use Rattle.built_forms.specs.IntegerForms.{IsIntegerMain}
 use Rattle.built_forms.specs.NamesBelow.{names_below}
-use Rattle.dep_model.specs.Doings.{Doing, Does, Calls, doings_of}
+use Rattle.dep_model.specs.Doings.{Doing, Does, Calls, doing_number, doings_of}
 use Rattle.dep_model.specs.MainVertices.{from}
-
--- the number of a statement
-abbrev pub doing_number : Doing → ℕ
-doing_number (Does i a) = i
-doing_number (Calls i to f args) = i
 
 -- ---- the variables that a statement names have numbers below n
 

@@ -13,15 +13,15 @@ use Rattle.dep_model.specs.declared.vertex.Vertex.{Vertex}
 use Rattle.dep_model.specs.declared.vertex.VertexKind.{VertexKind}
 use Rattle.dep_model.specs.declared.vertex.VertexKind.TheVariants.{Entry, FormalIn, FormalOut, Statement, Call, ActualIn, ActualOut}
 use Rattle.dep_model.specs.Follows.{EffectsOf}
-use Rattle.dep_model.specs.Locations.{Placed, locations, same_location}
+use Rattle.dep_model.specs.Locations.{TypedLocation, locations, same_location}
 use Rattle.dep_model.specs.Denoted.{Places, PointsTo, whole, no_places}
-use Rattle.dep_model.specs.Doings.{Doing, Does, Calls, doings_of}
+use Rattle.dep_model.specs.Doings.{doing_number, Doing, Does, Calls, doings_of}
 use Rattle.dep_model.specs.DoingEffects.{result_of, maybe_reads, target_reads, target_places, target_kills, act_uses, act_defines, act_kills}
 use Rattle.dep_model.specs.MayPoint.{parameters}
 use Rattle.dep_model.specs.ModRef.{FunctionEffects}
 
 -- the places in the list of locations, from the k-th on, of those that pass
-abbrev pub slots_from : Places → ℕ → List Placed → List Slot
+abbrev pub slots_from : Places → ℕ → List TypedLocation → List Slot
 slots_from test k [] = []
 slots_from test k (o ∷ os) = if test o.location then At k ∷ slots_from test (suc k) os else slots_from test (suc k) os
 
@@ -80,14 +80,13 @@ module _ (p : Program) (effects : FunctionEffects) where
 -- ---- what each vertex may define, may use and kills
 
 abbrev pub has_number : ℕ → Doing → Bool
-has_number i (Does j a) = j == i
-has_number i (Calls j to g args) = j == i
+has_number i d = doing_number d == i
 
 module _ (p : Program) (points : PointsTo) where
   abbrev pub doing_at : ℕ → ℕ → Option Doing
   doing_at f i = find (has_number i) (doings_of p f)
 
-  abbrev pub of_location : Option Placed → Places
+  abbrev pub of_location : Option TypedLocation → Places
   of_location None l = false
   of_location (Some o) l = same_location o.location l
 

@@ -1,5 +1,5 @@
 -- Paths of a graph, their words, and what is reached by matched words.
-use Rattle.std.specs.Prelude.{ℕ, ◌≡◌, ◌<◌, ◌⊎◌, Bool, List, [], ◌∷◌, ◌++◌, Contains, All, IsTrue}
+use Rattle.std.specs.Prelude.{ℕ, ◌≡◌, Bool, List, [], ◌∷◌, ◌++◌, Contains, IsTrue}
 use Rattle.bit_rows.specs.Sets.{has}
 use Rattle.dep_model.specs.declared.edge.Edge.{Edge}
 use Rattle.dep_model.specs.declared.edge.Label.{Label}
@@ -61,12 +61,3 @@ pub record ReachesAny (edges : List Edge) (s : List Bool) (a : ℕ) : Type 0 whe
   pub goal : ℕ
   pub wanted : IsTrue (has s goal)
   pub reaches : Reaches edges a goal
-
--- no edge enters or leaves a call
-pub record IsPlain (edges : List Edge) : Type 0 where
-  pub plain : All (λ e. (e.label ≡ Control) ⊎ (e.label ≡ Flow)) edges
-
--- the ends of an edge are below n
-pub record IsEdgeWithin (n : ℕ) (e : Edge) : Type 0 where
-  pub from_in : e.from < n
-  pub to_in : e.to < n

@@ -1,8 +1,8 @@
 //! Dependence graphs without calls, which are followed backward to find what a set of vertices depends on.
 ghost use Rattle.std.specs.Prelude.{◌≡◌, ℕ, ◌<◌, ◌↔◌, IsTrue, length, map, All, IfOk};
 ghost use Rattle.bit_rows.specs.Sets.{has};
-ghost use Rattle.dep_model.specs.Plain.{back};
-ghost use Rattle.dep_model.specs.Words.{IsPlain, IsEdgeWithin, ReachesAny};
+ghost use Rattle.dep_model.specs.Plain.{back, IsPlain, IsEdgeWithin};
+ghost use Rattle.dep_model.specs.Words.{ReachesAny};
 ghost use Rattle.dep_model.specs.Completion.{IsCompletion, NamesNone};
 
 use crate::edge::Edge;

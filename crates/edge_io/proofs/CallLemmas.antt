@@ -16,10 +16,10 @@ some_left rest is_empty told none = grind (arith, nat_tests)
 pub other_kind : {K : Type 0} {kind named : K} (is_named : Bool) → (IsTrue is_named ↔ (kind ≡ named)) → is_named ≡ false → kind ≢ named
 other_kind is_named told none = λ same. true≢false (sym (told.1 same) ∙ none)
 
--- a fault that is passed on as it is
-pub passed_on : {A F : Type 0} (P : F → Type 0) (fault : F) (passed : Result A F) → IsErrAnd passed (λ y. y ≡ fault) → P fault → IfErr passed P
+-- what holds of a fault holds of an answer that passes it on
+pub passed_on : {A F : Type 0} (P : Result A F → Type 0) (fault : F) (passed : Result A F) → IsErrAnd passed (λ y. y ≡ fault) → P (Err fault) → P passed
 passed_on P fault (Ok x) is holds = absurd is
-passed_on P fault (Err y) is holds = subst P (sym is) holds
+passed_on {F} P fault (Err y) is holds = subst (λ (f : F). P (Err f)) (sym is) holds
 
 -- ---- writing
 

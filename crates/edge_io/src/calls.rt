@@ -79,7 +79,7 @@ impl<R: Files> Opener for R {
     }
 }
 
-// Whether a call is to be made again: a signal came before it moved a byte.
+/// Whether a call is to be made again: a signal came before it moved a byte.
 pub(crate) fn is_interrupted(error: &io::Error) -> bool
     ensures { IsTrue result ↔ (error_kind error.now ≡ ErrorKind.Interrupted) }
 {

@@ -1,6 +1,7 @@
 -- The walk finds exactly the pairs of the code that a statement is.
 use Rattle.std.proofs.Common.{◌≡◌, ℕ, zero, suc, ℤ, pos, List, [], ◌∷◌, ◌++◌, ◌⊎◌, inl, inr, Bool, true, false, Option, Some, None, map, refl, sym, ap, ◌∙◌, subst}
-use Rattle.std.specs.Prelude.{if◌then◌else◌, ◌||◌, ⊤}
+use Rattle.std.specs.Prelude.{if◌then◌else◌, ◌||◌}
+use Rattle.std.specs.List.{AllZip}
 use Rattle.c_tree.specs.declared.expr.Expr.{Expr}
 use Rattle.c_tree.specs.declared.statement.Label.{Label}
 use Rattle.c_tree.specs.declared.statement.Target.{Target}
@@ -8,12 +9,13 @@ use Rattle.c_tree.specs.declared.statement.Target.TheVariants as target
 use Rattle.c_tree.specs.declared.statement.Statement.{Statement, ind-Statement, roll-Statement, map-Statement, fold-roll-Statement}
 use Rattle.c_tree.specs.declared.statement.Statement.TheOpen.{Statement-F, Arm-F}
 use Rattle.c_tree.specs.declared.statement.Arm.{Arm, roll-Arm, map-Arm, fold-roll-Arm}
-use Rattle.c_language.specs.Code.{Act, Code, End, Plain, Fork, Loop, Call, ◌⨟◌, is_true, either, leave, Part, doing, declared, in_turn, list_of, block, ArmPart, taken_arm, has_default, optional, given_to, part_step, arm_step, part, code}
+use Rattle.c_language.specs.Code.{Act, Code, End, Plain, Fork, Loop, Call, ◌⨟◌, is_true, either, leave, StatementPart, doing, declared_in, in_turn, list_of, block, ArmPart, taken_arm, has_default, optional, given_to, part_step, arm_step, part, code}
 use Rattle.c_language.proofs.CodeLemmas.{arm_part}
 use Rattle.dep_model.specs.Follows.{enters, InTurn, VerticesAt, start, Follows}
 use Rattle.dep_model.specs.declared.skeleton.Pair.{Pair}
 use Rattle.dep_model.specs.SwitchArms.{has_first, with_labels}
 use Rattle.dep_model.proofs.FollowsLemmas.{start-seq, Follows-seq, seq-first, seq-second}
+use Rattle.dep_model.proofs.Parts.{BothOrNone}
 use Rattle.dep_model.proofs.SwitchLaws.{HoldsOfTaken, some_arm_default, taken_or_past, value_taken, past_value}
 use Rattle.flow_graph.specs.Walk.{Flow, ArmFlow, to_next, linked, nothing, simple, in_order, if_some, led_to, all_taken, any_default, past, forked, looped, flow_step, flow, arm_flow, flows}
 use Rattle.flow_graph.specs.Walk as w
@@ -59,7 +61,7 @@ module _ (own : ℕ → List ℕ) where
   begins c k = start at c k
 
   -- a statement as code and as a part of the walk
-  pub record Agrees (p : Part) (f : Flow) : Type 0 where
+  pub record Agrees (p : StatementPart) (f : Flow) : Type 0 where
     pub starts : (r : Code) (k : Option ℕ) → start at (p.before r) k ≡ f.start (start at r k)
     pub into : (r : Code) (k : Option ℕ) (x : Pair) → IsIn (f.pairs (start at r k)) x → P (p.before r) k x
     pub rest : (r : Code) (k : Option ℕ) (x : Pair) → P r k x → P (p.before r) k x
@@ -100,19 +102,13 @@ module _ (own : ℕ → List ℕ) where
 
   -- ---- lists
 
-  abbrev AreAll : List Part → List Flow → Type 0
-  AreAll [] [] = ⊤
-  AreAll [] (f ∷ fs) = ⊥
-  AreAll (p ∷ ps) [] = ⊥
-  AreAll (p ∷ ps) (f ∷ fs) = Agrees p f × AreAll ps fs
-
-  turn_start : (ps : List Part) (fs : List Flow) → AreAll ps fs → (r : Code) (k : Option ℕ) → start at (in_turn ps r) k ≡ (in_order fs).start (start at r k)
+  turn_start : (ps : List StatementPart) (fs : List Flow) → AllZip Agrees ps fs → (r : Code) (k : Option ℕ) → start at (in_turn ps r) k ≡ (in_order fs).start (start at r k)
   turn_start [] [] e r k = refl
   turn_start [] (f ∷ fs) e r k = absurd e
   turn_start (p ∷ ps) [] e r k = absurd e
   turn_start (p ∷ ps) (f ∷ fs) e r k = e.0.starts (in_turn ps r) k ∙ ap f.start (turn_start ps fs e.1 r k)
 
-  turn_into : (ps : List Part) (fs : List Flow) → AreAll ps fs → (r : Code) (k : Option ℕ) (x : Pair) → IsIn ((in_order fs).pairs (start at r k)) x → P (in_turn ps r) k x
+  turn_into : (ps : List StatementPart) (fs : List Flow) → AllZip Agrees ps fs → (r : Code) (k : Option ℕ) (x : Pair) → IsIn ((in_order fs).pairs (start at r k)) x → P (in_turn ps r) k x
   turn_into [] [] e r k x h = absurd h
   turn_into [] (f ∷ fs) e r k x h = absurd e
   turn_into (p ∷ ps) [] e r k x h = absurd e
@@ -121,7 +117,7 @@ module _ (own : ℕ → List ℕ) where
     | inr t ↦ e.0.into (in_turn ps r) k x (subst (λ y. IsIn (f.pairs y) x) (sym (turn_start ps fs e.1 r k)) t)
   ]
 
-  turn_from : (ps : List Part) (fs : List Flow) → AreAll ps fs → (r : Code) (k : Option ℕ) (x : Pair) → P (in_turn ps r) k x → IsIn ((in_order fs).pairs (start at r k)) x ⊎ P r k x
+  turn_from : (ps : List StatementPart) (fs : List Flow) → AllZip Agrees ps fs → (r : Code) (k : Option ℕ) (x : Pair) → P (in_turn ps r) k x → IsIn ((in_order fs).pairs (start at r k)) x ⊎ P r k x
   turn_from [] [] e r k x h = inr h
   turn_from [] (f ∷ fs) e r k x h = absurd e
   turn_from (p ∷ ps) [] e r k x h = absurd e
@@ -142,26 +138,21 @@ module _ (own : ℕ → List ℕ) where
   leave_from [] r k x h = h
   leave_from (v ∷ vs) r k x h = h
 
-  block_is : (ps : List Part) (fs : List Flow) → AreAll ps fs → Is (block ps) (in_order fs)
+  block_is : (ps : List StatementPart) (fs : List Flow) → AllZip Agrees ps fs → Is (block ps) (in_order fs)
   block_is ps fs e =
-      let done = leave (declared ps) End in
+      let done = leave (declared_in ps) End in
       record {
-        starts = λ k. turn_start ps fs e done k ∙ ap (in_order fs).start (leave_start (declared ps) End k);
-        into = λ k x h. turn_into ps fs e done k x (subst (λ y. IsIn ((in_order fs).pairs y) x) (sym (leave_start (declared ps) End k)) h);
+        starts = λ k. turn_start ps fs e done k ∙ ap (in_order fs).start (leave_start (declared_in ps) End k);
+        into = λ k x h. turn_into ps fs e done k x (subst (λ y. IsIn ((in_order fs).pairs y) x) (sym (leave_start (declared_in ps) End k)) h);
         from = λ k x h. elim (turn_from ps fs e done k x h) [
-          | inl t ↦ subst (λ y. IsIn ((in_order fs).pairs y) x) (leave_start (declared ps) End k) t
-          | inr t ↦ absurd (leave_from (declared ps) End k x t)
+          | inl t ↦ subst (λ y. IsIn ((in_order fs).pairs y) x) (leave_start (declared_in ps) End k) t
+          | inr t ↦ absurd (leave_from (declared_in ps) End k x t)
         ];
       }
 
-  -- a part that may be missing
-  abbrev IsPart : Option Part → Option Flow → Type 0
-  IsPart None None = ⊤
-  IsPart None (Some f) = ⊥
-  IsPart (Some p) None = ⊥
-  IsPart (Some p) (Some f) = Agrees p f
+  -- ---- a part that may be missing
 
-  part_is : (p : Option Part) (f : Option Flow) → IsPart p f → Is (list_of (optional p)) (if_some f)
+  part_is : (p : Option StatementPart) (f : Option Flow) → BothOrNone Agrees p f → Is (list_of (optional p)) (if_some f)
   part_is None None e = record { starts = λ k. refl; into = λ k x h. absurd h; from = λ k x h. absurd h }
   part_is None (Some f) e = absurd e
   part_is (Some p) None e = absurd e
@@ -327,12 +318,6 @@ module _ (own : ℕ → List ℕ) where
 
   -- ---- a switch
 
-  abbrev AreArms : List ArmPart → List ArmFlow → Type 0
-  AreArms [] [] = ⊤
-  AreArms [] (f ∷ fs) = ⊥
-  AreArms (a ∷ as_) [] = ⊥
-  AreArms (a ∷ as_) (f ∷ fs) = ArmAgrees a f × AreArms as_ fs
-
   of_past : (test : List ℕ) (b : Bool) (k : Option ℕ) (x : Pair) → IsIn (past test b k) x → (b ≡ false) × Turns test k x
   of_past test true k x h = absurd h
   of_past test false k x h = (refl, of_linked test k x h)
@@ -343,7 +328,7 @@ module _ (own : ℕ → List ℕ) where
   abbrev Reaches : List ℕ → Option ℕ → Pair → Code → Type 0
   Reaches test k x c = Turns test (start at c k) x ⊎ P c k x
 
-  arms_into : (test : List ℕ) (before : List Label) (as_ : List ArmPart) (fs : List ArmFlow) → AreArms as_ fs → (k : Option ℕ) (x : Pair) → IsIn (all_taken test before fs k) x → HoldsOfTaken (Reaches test k x) before as_
+  arms_into : (test : List ℕ) (before : List Label) (as_ : List ArmPart) (fs : List ArmFlow) → AllZip ArmAgrees as_ fs → (k : Option ℕ) (x : Pair) → IsIn (all_taken test before fs k) x → HoldsOfTaken (Reaches test k x) before as_
   arms_into test before [] [] e k x h = absurd h
   arms_into test before [] (f ∷ fs) e k x h = absurd e
   arms_into test before (a ∷ as_) [] e k x h = absurd e
@@ -354,7 +339,7 @@ module _ (own : ℕ → List ℕ) where
         | inr t ↦ inr (arms_into test (with_labels before a.labels) as_ fs e.1 k x (subst (λ y. IsIn (all_taken test (with_labels before y) fs k) x) l t))
       ]
 
-  arms_from : (test : List ℕ) (before : List Label) (as_ : List ArmPart) (fs : List ArmFlow) → AreArms as_ fs → (k : Option ℕ) (x : Pair) → HoldsOfTaken (Reaches test k x) before as_ → IsIn (all_taken test before fs k) x
+  arms_from : (test : List ℕ) (before : List Label) (as_ : List ArmPart) (fs : List ArmFlow) → AllZip ArmAgrees as_ fs → (k : Option ℕ) (x : Pair) → HoldsOfTaken (Reaches test k x) before as_ → IsIn (all_taken test before fs k) x
   arms_from test before [] [] e k x h = absurd h
   arms_from test before [] (f ∷ fs) e k x h = absurd e
   arms_from test before (a ∷ as_) [] e k x h = absurd e
@@ -363,19 +348,19 @@ module _ (own : ℕ → List ℕ) where
   arms_from test before (a ∷ as_) (f ∷ fs) e k x (inr h) =
       in_second (if has_first before f.labels then led_to test f.flow k else []) (all_taken test (with_labels before f.labels) fs k) x (subst (λ y. IsIn (all_taken test (with_labels before y) fs k) x) e.0.labels (arms_from test (with_labels before a.labels) as_ fs e.1 k x h))
 
-  same_default : (as_ : List ArmPart) (fs : List ArmFlow) → AreArms as_ fs → some_arm_default as_ ≡ any_default fs
+  same_default : (as_ : List ArmPart) (fs : List ArmFlow) → AllZip ArmAgrees as_ fs → some_arm_default as_ ≡ any_default fs
   same_default [] [] e = refl
   same_default [] (f ∷ fs) e = absurd e
   same_default (a ∷ as_) [] e = absurd e
   same_default (a ∷ as_) (f ∷ fs) e = ap (λ y. has_default y || some_arm_default as_) e.0.labels ∙ ap (λ b. has_default f.labels || b) (same_default as_ fs e.1)
 
-  reached : (id : ℕ) (as_ : List ArmPart) (fs : List ArmFlow) → AreArms as_ fs → (y : Option ℕ) (x : Pair) (v : ℤ) → Reaches (own id) y x (taken_arm as_ v) → IsIn (all_taken (own id) [] fs y ++ past (own id) (any_default fs) y) x
+  reached : (id : ℕ) (as_ : List ArmPart) (fs : List ArmFlow) → AllZip ArmAgrees as_ fs → (y : Option ℕ) (x : Pair) (v : ℤ) → Reaches (own id) y x (taken_arm as_ v) → IsIn (all_taken (own id) [] fs y ++ past (own id) (any_default fs) y) x
   reached id as_ fs p y x v t = elim (taken_or_past (Reaches (own id) y x) as_ v t) [
     | inl u ↦ in_first (all_taken (own id) [] fs y) (past (own id) (any_default fs) y) x (arms_from (own id) [] as_ fs p y x u)
     | inr u ↦ in_second (all_taken (own id) [] fs y) (past (own id) (any_default fs) y) x (elim u.1 [ inl z ↦ in_past (own id) (any_default fs) y x (sym (same_default as_ fs p) ∙ u.0) z | inr z ↦ absurd z ])
   ]
 
-  switch_agrees : (id : ℕ) (e : Expr) (as_ : List ArmPart) (fs : List ArmFlow) → AreArms as_ fs → Agrees (doing (Fork id e (taken_arm as_))) (record { start = enters (own id); pairs = λ k. all_taken (own id) [] fs k ++ past (own id) (any_default fs) k })
+  switch_agrees : (id : ℕ) (e : Expr) (as_ : List ArmPart) (fs : List ArmFlow) → AllZip ArmAgrees as_ fs → Agrees (doing (Fork id e (taken_arm as_))) (record { start = enters (own id); pairs = λ k. all_taken (own id) [] fs k ++ past (own id) (any_default fs) k })
   switch_agrees id e as_ fs p = record {
     starts = λ r k. refl;
     into = λ r k x h.
@@ -417,19 +402,19 @@ module _ (own : ℕ → List ℕ) where
   abbrev fsts : List ((x : Statement) × Of x) → List Statement
   fsts = map (λ y. y.0)
 
-  are_all : (b : List ((x : Statement) × Of x)) → AreAll (map part (fsts b)) (map (flow own) (fsts b))
+  are_all : (b : List ((x : Statement) × Of x)) → AllZip Agrees (map part (fsts b)) (map (flow own) (fsts b))
   are_all [] = tt
   are_all (x ∷ b) = (x.1, are_all b)
 
-  are_arms : (b : List ((a : Arm) × OfArm a)) → AreArms (map arm_part (map (λ (y : (a : Arm) × OfArm a). y.0) b)) (map (arm_flow own) (map (λ (y : (a : Arm) × OfArm a). y.0) b))
+  are_arms : (b : List ((a : Arm) × OfArm a)) → AllZip ArmAgrees (map arm_part (map (λ (y : (a : Arm) × OfArm a). y.0) b)) (map (arm_flow own) (map (λ (y : (a : Arm) × OfArm a). y.0) b))
   are_arms [] = tt
   are_arms (x ∷ b) = (x.1, are_arms b)
 
   blocks : (b : List ((x : Statement) × Of x)) → Is (block (map part (fsts b))) (in_order (map (flow own) (fsts b)))
   blocks b = block_is (map part (fsts b)) (map (flow own) (fsts b)) (are_all b)
 
-  abbrev part_of_layer : Statement-F Statement Arm → Part
-  part_of_layer y = part_step (map-Statement Statement Arm Part ArmPart part arm_part y)
+  abbrev part_of_layer : Statement-F Statement Arm → StatementPart
+  part_of_layer y = part_step (map-Statement Statement Arm StatementPart ArmPart part arm_part y)
 
   abbrev flow_of_layer : Statement-F Statement Arm → Flow
   flow_of_layer y = flow_step own (map-Statement Statement Arm Flow ArmFlow (flow own) (arm_flow own) y)
@@ -449,9 +434,9 @@ module _ (own : ℕ → List ℕ) where
   of_layer (Statement-F.While id l e b) = while_agrees id e (block (map part (fsts b))) _ (blocks b)
   of_layer (Statement-F.Do id l e b) = do_agrees id e (block (map part (fsts b))) _ (blocks b)
   of_layer (Statement-F.For id l None e None b) = for_agrees id e [] (list_of (optional None)) (block (map part (fsts b))) (list_of (optional None)) nothing _ nothing (part_is None None tt) (blocks b) (part_is None None tt)
-  of_layer (Statement-F.For id l (Some i) e None b) = for_agrees id e (declared (optional (Some (part i.0)))) (list_of (optional (Some (part i.0)))) (block (map part (fsts b))) (list_of (optional None)) (flow own i.0) _ nothing (part_is (Some (part i.0)) (Some (flow own i.0)) i.1) (blocks b) (part_is None None tt)
+  of_layer (Statement-F.For id l (Some i) e None b) = for_agrees id e (declared_in (optional (Some (part i.0)))) (list_of (optional (Some (part i.0)))) (block (map part (fsts b))) (list_of (optional None)) (flow own i.0) _ nothing (part_is (Some (part i.0)) (Some (flow own i.0)) i.1) (blocks b) (part_is None None tt)
   of_layer (Statement-F.For id l None e (Some s) b) = for_agrees id e [] (list_of (optional None)) (block (map part (fsts b))) (list_of (optional (Some (part s.0)))) nothing _ (flow own s.0) (part_is None None tt) (blocks b) (part_is (Some (part s.0)) (Some (flow own s.0)) s.1)
-  of_layer (Statement-F.For id l (Some i) e (Some s) b) = for_agrees id e (declared (optional (Some (part i.0)))) (list_of (optional (Some (part i.0)))) (block (map part (fsts b))) (list_of (optional (Some (part s.0)))) (flow own i.0) _ (flow own s.0) (part_is (Some (part i.0)) (Some (flow own i.0)) i.1) (blocks b) (part_is (Some (part s.0)) (Some (flow own s.0)) s.1)
+  of_layer (Statement-F.For id l (Some i) e (Some s) b) = for_agrees id e (declared_in (optional (Some (part i.0)))) (list_of (optional (Some (part i.0)))) (block (map part (fsts b))) (list_of (optional (Some (part s.0)))) (flow own i.0) _ (flow own s.0) (part_is (Some (part i.0)) (Some (flow own i.0)) i.1) (blocks b) (part_is (Some (part s.0)) (Some (flow own s.0)) s.1)
   of_layer (Statement-F.Switch id l e arms) = switch_agrees id e (map arm_part (map (λ y. y.0) arms)) (map (arm_flow own) (map (λ y. y.0) arms)) (are_arms arms)
   of_layer (Statement-F.Block l b) =
       let c = block (map part (fsts b)) in
@@ -468,16 +453,16 @@ module _ (own : ℕ → List ℕ) where
       }
   of_layer (Statement-F.Return id l a) = plain id _
 
-  of_arm_layer : (y : ArmParts) → ArmAgrees (arm_step (map-Arm Statement Arm Part ArmPart part arm_part (arm_layer y))) (w.arm_step own (map-Arm Statement Arm Flow ArmFlow (flow own) (arm_flow own) (arm_layer y)))
+  of_arm_layer : (y : ArmParts) → ArmAgrees (arm_step (map-Arm Statement Arm StatementPart ArmPart part arm_part (arm_layer y))) (w.arm_step own (map-Arm Statement Arm Flow ArmFlow (flow own) (arm_flow own) (arm_layer y)))
   of_arm_layer y = record { labels = refl; is = blocks y.body }
 
   rolled : (y : Statement-F Statement Arm) → Agrees (part_of_layer y) (flow_of_layer y) → Of (roll-Statement y)
   rolled y h =
-      subst (λ p. Agrees p (flow own (roll-Statement y))) (sym (fold-roll-Statement Part ArmPart part_step arm_step y)) (subst (λ f. Agrees (part_of_layer y) f) (sym (fold-roll-Statement Flow ArmFlow (flow_step own) (w.arm_step own) y)) h)
+      subst (λ p. Agrees p (flow own (roll-Statement y))) (sym (fold-roll-Statement StatementPart ArmPart part_step arm_step y)) (subst (λ f. Agrees (part_of_layer y) f) (sym (fold-roll-Statement Flow ArmFlow (flow_step own) (w.arm_step own) y)) h)
 
-  rolled_arm : (y : Arm-F Statement Arm) → ArmAgrees (arm_step (map-Arm Statement Arm Part ArmPart part arm_part y)) (w.arm_step own (map-Arm Statement Arm Flow ArmFlow (flow own) (arm_flow own) y)) → OfArm (roll-Arm y)
+  rolled_arm : (y : Arm-F Statement Arm) → ArmAgrees (arm_step (map-Arm Statement Arm StatementPart ArmPart part arm_part y)) (w.arm_step own (map-Arm Statement Arm Flow ArmFlow (flow own) (arm_flow own) y)) → OfArm (roll-Arm y)
   rolled_arm y h =
-      subst (λ p. ArmAgrees p (arm_flow own (roll-Arm y))) (sym (fold-roll-Arm Part ArmPart part_step arm_step y)) (subst (λ f. ArmAgrees (arm_step (map-Arm Statement Arm Part ArmPart part arm_part y)) f) (sym (fold-roll-Arm Flow ArmFlow (flow_step own) (w.arm_step own) y)) h)
+      subst (λ p. ArmAgrees p (arm_flow own (roll-Arm y))) (sym (fold-roll-Arm StatementPart ArmPart part_step arm_step y)) (subst (λ f. ArmAgrees (arm_step (map-Arm Statement Arm StatementPart ArmPart part arm_part y)) f) (sym (fold-roll-Arm Flow ArmFlow (flow_step own) (w.arm_step own) y)) h)
 
   pub of_statement : (s : Statement) → Of s
   of_statement =

@@ -1,5 +1,6 @@
 -- The order of statement lists as one walk from their ends finds it.
-use Rattle.std.specs.Prelude.{ℕ, Bool, false, ◌||◌, if◌then◌else◌, List, [], ◌∷◌, ◌++◌, Option, Some, None}
+use Rattle.std.specs.Prelude.{ℕ, Bool, if◌then◌else◌, List, [], ◌∷◌, ◌++◌, Option, Some, None}
+use Rattle.std.specs.List.{list_any}
 use Rattle.c_tree.specs.declared.statement.Label.{Label}
 use Rattle.c_tree.specs.declared.statement.Statement.{Statement, fold-Statement}
 use Rattle.c_tree.specs.declared.statement.Statement.TheOpen.{Statement-F, Arm-F}
@@ -57,8 +58,7 @@ all_taken own before [] k = []
 all_taken own before (a ∷ as_) k = (if has_first before a.labels then led_to own a.flow k else []) ++ all_taken own (with_labels before a.labels) as_ k
 
 abbrev pub any_default : List ArmFlow → Bool
-any_default [] = false
-any_default (a ∷ as_) = has_default a.labels || any_default as_
+any_default = list_any (λ (a : ArmFlow). has_default a.labels)
 
 abbrev pub past : List ℕ → Bool → Option ℕ → List Pair
 past own has k = if has then [] else linked own k
@@ -121,15 +121,14 @@ module _ (own : ℕ → List ℕ) where
   flow_part None = nothing
   flow_part (Some s) = flow s
 
-  -- the arms that are taken
   abbrev pub if_taken : List ℕ → Bool → List Statement → Option ℕ → List Pair
   if_taken test is_taken body k = if is_taken then led_to test (flows body) k else []
 
+  -- the arms that are taken
   abbrev pub arm_flows : List ℕ → List Bool → List Arm → Option ℕ → List Pair
   arm_flows test [] as_ k = []
   arm_flows test (b ∷ bs) [] k = []
   arm_flows test (b ∷ bs) (a ∷ as_) k = if_taken test b a.body k ++ arm_flows test bs as_ k
 
 abbrev pub some_default : List Arm → Bool
-some_default [] = false
-some_default (a ∷ as_) = has_default a.labels || some_default as_
+some_default = list_any (λ (a : Arm). has_default a.labels)

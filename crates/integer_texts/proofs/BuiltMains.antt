@@ -3,7 +3,7 @@
 use Rattle.std.proofs.Common.{◌≡◌, ℕ, ◌==◌, List, [], ◌∷◌, map, Bool, true, false, ◌&&◌, Option, Some, None, refl, sym, ap, ap₂, ◌∙◌, subst}
 use Rattle.std.specs.Prelude.{is_none, slice_get, option_map, if◌then◌else◌}
 use Rattle.std.specs.List.{list_all}
-use Rattle.std.specs.Option.{option_map_or}
+use Rattle.std.specs.Option.{option_map_or, option_or}
 use Rattle.std.proofs.lemmas.Option.{slice_get-map}
 use mathlib.Core.Path.{fun_ext}
 use Rattle.c_tree.specs.declared.program.Function.{Function}
@@ -16,14 +16,15 @@ use Rattle.c_tree.specs.declared.statement.Statement.{Statement, fold-Statement,
 use Rattle.c_tree.specs.declared.statement.Statement.TheOpen.{Statement-F, Arm-F}
 use Rattle.c_tree.specs.Unlined.{unlined, unlined_var, unlined_function, unlined_program, SameButLines}
 use Rattle.built_forms.specs.IntegerForms.{is_integer, are_integers, is_name, integer_init, integer_value, integer_label}
-use Rattle.built_forms.specs.BuiltForms.{is_integer_type, is_integer_variable, unless, or_else, first_of, ArmOutside, labels_of_arms, first_of_arms, statement_step, arm_step, statement_outside, body_outside, is_main, function_outside, defined_outside, items_outside, not_yet}
+use Rattle.built_forms.specs.BuiltForms.{is_integer_type, is_integer_variable, unless, ArmOutside, labels_of_arms, first_of_arms, statement_step, arm_step, statement_outside, body_outside, function_outside, defined_outside, items_outside, not_yet, first_line}
 use Rattle.built_forms.proofs.Programs.{built_integer_main}
 use Rattle.projection_laws.proofs.SamePrograms.{main_same}
 use Rattle.c_tree.proofs.Unlining.{zeroed, fold_unlined}
 use Rattle.c_tree.proofs.Trees.{statement_layer, arm_layer, StatementParts, ArmParts}
 use Rattle.integer_texts.specs.Laws.{BuiltAreNumbered}
-use Rattle.integer_texts.proofs.SameNumbers.{well_formed_numbered}
+use Rattle.integer_texts.proofs.NumbersButLines.{well_formed_numbered}
 use Rattle.c_language.specs.Lists.{if_there, all_true}
+use Rattle.c_language.specs.NameRules.{is_main}
 
 -- an arm of a switch: whether its labels are integers, and nothing of its body is outside
 record ArmInside : Type 0 where
@@ -71,11 +72,11 @@ none_unless : (b : Bool) (l : ℕ) → is_none (unless b l) ≡ b
 none_unless true l = refl
 none_unless false l = refl
 
-none_or : (a b : Option ℕ) → is_none (or_else a b) ≡ (is_none a && is_none b)
+none_or : (a b : Option ℕ) → is_none (option_or a b) ≡ (is_none a && is_none b)
 none_or None b = refl
 none_or (Some l) b = refl
 
-both_none : (a b : Option ℕ) {x y : Bool} → is_none a ≡ x → is_none b ≡ y → is_none (or_else a b) ≡ (x && y)
+both_none : (a b : Option ℕ) {x y : Bool} → is_none a ≡ x → is_none b ≡ y → is_none (option_or a b) ≡ (x && y)
 both_none a b p q = none_or a b ∙ ap₂ (λ (x y : Bool). x && y) p q
 
 module _ (vs : List Var) where
@@ -98,7 +99,7 @@ module _ (vs : List Var) where
   abbrev shape : Layer → Statement-F Statement Arm
   shape = statement_layer Tells ArmTells
 
-  all_tell : (xs : List ((x : Statement) × Tells x)) → is_none (first_of (map (statement_outside vs) (map (λ x. x.0) xs))) ≡ all_true (map (inside vars) (map (λ x. x.0) xs))
+  all_tell : (xs : List ((x : Statement) × Tells x)) → is_none (first_line (map (statement_outside vs) (map (λ x. x.0) xs))) ≡ all_true (map (inside vars) (map (λ x. x.0) xs))
   all_tell [] = refl
   all_tell (x ∷ xs) = both_none _ _ x.1 (all_tell xs)
 

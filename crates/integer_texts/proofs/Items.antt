@@ -1,8 +1,8 @@
 -- The functions of a text, item by item: the numbers of their statements, the variables that they name, and main.
-use Rattle.std.proofs.Common.{◌≡◌, ℕ, ◌+◌, ◌≤◌, List, [], ◌∷◌, ◌++◌, map, Bool, true, Option, Some, None, refl, sym, ap, subst, ◌∙◌, arith}
+use Rattle.std.proofs.Common.{◌≡◌, ℕ, ◌+◌, ◌≤◌, List, [], ◌∷◌, ◌++◌, map, true, Option, Some, None, refl, sym, ap, subst, ◌∙◌, arith}
 use Rattle.std.specs.List.{list_all}
+use Rattle.c_language.proofs.ProgramParts.{function_made}
 use Rattle.c_arith.specs.declared.int_type.IntType.TheVariants.{Int}
-use Rattle.c_tree.specs.declared.types.CType.{CType}
 use Rattle.c_tree.specs.declared.types.CType.TheVariants as type
 use Rattle.c_tree.specs.declared.program.Function.{Function}
 use Rattle.c_tree.specs.declared.raw.program.RawHead.{RawHead}
@@ -12,22 +12,20 @@ use Rattle.c_tree.specs.declared.raw.program.RawItem.TheVariants.{Include, Tag, 
 use Rattle.c_tree.specs.declared.raw.program.RawParam.{RawParam}
 use Rattle.c_tree.specs.declared.raw.program.RawProgram.{RawProgram}
 use Rattle.c_tree.specs.declared.raw.statement.RawStatement.{RawStatement}
-use Rattle.c_tree.specs.declared.statement.Statement.{Statement}
 use Rattle.c_language.specs.Words.{Bytes}
-use Rattle.c_language.specs.DeclaredTypes.{functions_of}
+use Rattle.c_language.specs.DeclaredTypes.{function_texts}
 use Rattle.c_language.specs.NameRules.{main_name, no_int}
 use Rattle.c_language.specs.Phrases.{after_body, item_phrases, after_item, items_phrases, after_items}
-use Rattle.c_language.specs.ProgramOf.{collected, ctype_if, treed, body_of, parameter_ids, function_tree, functions_from}
+use Rattle.c_language.specs.ProgramOf.{collected, treed, function_tree, functions_from}
 use Rattle.c_language.specs.Rules.{main, AreKept}
 use Rattle.c_language.specs.Scopes.{Scope, Meaning, with_function, after_all, parameter_of, with_named, with_parameter, with_parameters, scope_of_parameters, entered}
 use Rattle.c_language.proofs.Lists.{all_append}
-use Rattle.c_language.proofs.Options.{some_same, both_some}
+use Rattle.c_language.proofs.Options.{some_same, more_there}
 use Rattle.c_language.proofs.TreeScopes.{list_after}
 use Rattle.c_language.proofs.PhraseLists.{body_after, kept_second}
 use Rattle.c_language.proofs.ScopeNumbers.{function_declared, through_function, function_variables, entered_statements}
 use Rattle.c_print_laws.proofs.Scoping.{declared_count, count_append}
 use Rattle.c_print_laws.proofs.Numbers.{item_variables}
-use Rattle.built_forms.proofs.Options.{collected_some}
 use Rattle.built_forms.proofs.Terms.{AreLow}
 use Rattle.built_forms.proofs.MainHeads.{int_result, int_tree}
 use Rattle.dep_model.specs.Doings.{Doing, body_doings}
@@ -81,17 +79,6 @@ module _ (raw : RawProgram) where
 
   -- ---- functions
 
-  abbrev function_with : Bytes → Option CType → List ℕ → List Statement → Bool → ℕ → Function
-  function_with name result params body is_static line = record { name = name; result = result; params = params; body = body; is_static = is_static; line = line }
-
-  abbrev Parts : RawHead → List RawStatement → ℕ → Scope → Function → Type 0
-  Parts head body line scope f =
-      (result : Option CType) × (statements : List Statement) × (ctype_if raw head.result ≡ Some result) × (body_of raw body (entered raw head scope) ≡ Some statements) × (f ≡ function_with head.name result (parameter_ids head.params scope.variables) statements head.is_static line)
-
-  parts_of : (line : ℕ) (head : RawHead) (body : List RawStatement) (scope : Scope) (f : Function) → function_tree raw line head body scope ≡ Some f → Parts head body line scope f
-  parts_of line head body scope f e =
-      both_some (λ (result : Option CType) (statements : List Statement). function_with head.name result (parameter_ids head.params scope.variables) statements head.is_static line) (ctype_if raw head.result) (body_of raw body (entered raw head scope)) f e
-
   -- where the items from a scope on have these functions
   abbrev HasFunctions : List RawItem → Scope → List Function → Type 0
   HasFunctions xs scope fs = collected (functions_from raw xs scope) ≡ Some fs
@@ -109,14 +96,14 @@ module _ (raw : RawProgram) where
       same_takes (all_doings fs) scope.statements (with_function head.name scope).statements _ (through_function (λ (z : Scope). z.statements) head.name scope refl) (items_take xs (with_function head.name scope) fs e)
   items_take (Define line head body ∷ xs) scope fs e =
       let after = after_item raw (Define line head body) scope in
-      let g = collected_some (function_tree raw line head body scope) (functions_from raw xs after) fs e in
-      let q = parts_of line head body scope g.0 g.2 in
+      let g = more_there (function_tree raw line head body scope) (functions_from raw xs after) fs e in
+      let q = function_made raw line head body scope g.first g.first_there in
       let inside = entered raw head scope in
-      let here : Takes (body_doings q.1) inside.statements (after_all (map (treed raw) body) inside).statements = body_takes raw body inside q.1 q.3 in
-      let own : Takes (body_doings g.0.body) scope.statements after.statements =
-      subst (λ (f : Function). Takes (body_doings f.body) scope.statements after.statements) (sym q.4) (same_takes (body_doings q.1) scope.statements inside.statements after.statements (entered_statements raw head scope) (subst (λ (z : Scope). Takes (body_doings q.1) inside.statements z.statements) (after_trees body inside) here)) in
-      subst (λ gs. Takes (all_doings gs) scope.statements (after_items raw xs after).statements) (sym g.4)
-      (takes_both (body_doings g.0.body) (all_doings g.1) scope.statements after.statements (after_items raw xs after).statements own (items_take xs after g.1 g.3))
+      let here : Takes (body_doings q.statements) inside.statements (after_all (map (treed raw) body) inside).statements = body_takes raw body inside q.statements q.statements_there in
+      let own : Takes (body_doings g.first.body) scope.statements after.statements =
+      subst (λ (f : Function). Takes (body_doings f.body) scope.statements after.statements) (sym q.is) (same_takes (body_doings q.statements) scope.statements inside.statements after.statements (entered_statements raw head scope) (subst (λ (z : Scope). Takes (body_doings q.statements) inside.statements z.statements) (after_trees body inside) here)) in
+      subst (λ gs. Takes (all_doings gs) scope.statements (after_items raw xs after).statements) g.same
+      (takes_both (body_doings g.first.body) (all_doings g.rest) scope.statements after.statements (after_items raw xs after).statements own (items_take xs after g.rest g.rest_there))
 
   item_low : (x : RawItem) (scope : Scope) → AreLow scope.variables scope.names → AreLow (after_item raw x scope).variables (after_item raw x scope).names
   item_low (Include b) scope h = h
@@ -142,19 +129,19 @@ module _ (raw : RawProgram) where
       items_below xs (after_item raw (Prototype line head) scope) fs (item_low (Prototype line head) scope low) e m le
   items_below (Define line head body ∷ xs) scope fs low e m le =
       let after = after_item raw (Define line head body) scope in
-      let g = collected_some (function_tree raw line head body scope) (functions_from raw xs after) fs e in
-      let q = parts_of line head body scope g.0 g.2 in
+      let g = more_there (function_tree raw line head body scope) (functions_from raw xs after) fs e in
+      let q = function_made raw line head body scope g.first g.first_there in
       let inside = entered raw head scope in
       let more : after.variables ≤ (after_items raw xs after).variables = (let c = items_count xs after in omega (arith, c)) in
       let bound : (after_all (map (treed raw) body) inside).variables ≤ m = subst (λ (z : Scope). z.variables ≤ m) (sym (after_trees body inside)) (omega (arith, more, le)) in
-      let own : list_all (doing_below m) (body_doings g.0.body) ≡ true =
-      subst (λ (f : Function). list_all (doing_below m) (body_doings f.body) ≡ true) (sym q.4) (body_below raw body inside q.1 ((entered_grows head).low scope low) q.3 m bound) in
-      subst (λ gs. list_all (doing_below m) (all_doings gs) ≡ true) (sym g.4)
-      (all_append (doing_below m) (body_doings g.0.body) (all_doings g.1) own (items_below xs after g.1 (item_low (Define line head body) scope low) g.3 m le))
+      let own : list_all (doing_below m) (body_doings g.first.body) ≡ true =
+      subst (λ (f : Function). list_all (doing_below m) (body_doings f.body) ≡ true) (sym q.is) (body_below raw body inside q.statements ((entered_grows head).low scope low) q.statements_there m bound) in
+      subst (λ gs. list_all (doing_below m) (all_doings gs) ≡ true) g.same
+      (all_append (doing_below m) (body_doings g.first.body) (all_doings g.rest) own (items_below xs after g.rest (item_low (Define line head body) scope low) g.rest_there m le))
 
   -- ---- main
 
-  pub names_are : (xs : List RawItem) (scope : Scope) (fs : List Function) → HasFunctions xs scope fs → map (λ (f : Function). f.name) fs ≡ map (λ (h : RawHead). h.name) (functions_of xs)
+  pub names_are : (xs : List RawItem) (scope : Scope) (fs : List Function) → HasFunctions xs scope fs → map (λ (f : Function). f.name) fs ≡ map (λ (h : RawHead). h.name) (function_texts xs)
   names_are [] scope fs e = ap (map (λ (f : Function). f.name)) (sym (some_same e))
   names_are (Include b ∷ xs) scope fs e = names_are xs scope fs e
   names_are (Tag line tag ∷ xs) scope fs e = names_are xs scope fs e
@@ -163,9 +150,9 @@ module _ (raw : RawProgram) where
   names_are (Prototype line head ∷ xs) scope fs e = names_are xs (with_function head.name scope) fs e
   names_are (Define line head body ∷ xs) scope fs e =
       let after = after_item raw (Define line head body) scope in
-      let g = collected_some (function_tree raw line head body scope) (functions_from raw xs after) fs e in
-      let q = parts_of line head body scope g.0 g.2 in
-      ap (map (λ (f : Function). f.name)) g.4 ∙ ap (λ n. n ∷ map (λ (f : Function). f.name) g.1) (ap (λ (f : Function). f.name) q.4) ∙ ap (λ ns. head.name ∷ ns) (names_are xs after g.1 g.3)
+      let g = more_there (function_tree raw line head body scope) (functions_from raw xs after) fs e in
+      let q = function_made raw line head body scope g.first g.first_there in
+      ap (map (λ (f : Function). f.name)) (sym g.same) ∙ ap (λ n. n ∷ map (λ (f : Function). f.name) g.rest) (ap (λ (f : Function). f.name) q.is) ∙ ap (λ ns. head.name ∷ ns) (names_are xs after g.rest g.rest_there)
 
   -- a function that is named main gives an int
   abbrev pub GiveInts : List Function → Type 0
@@ -184,8 +171,8 @@ module _ (raw : RawProgram) where
       give_ints xs (with_function head.name scope) fs (kept_second raw (item_phrases raw (Prototype line head) scope) (items_phrases raw xs (with_function head.name scope)) kept) e
   give_ints (Define line head body ∷ xs) scope fs kept e =
       let after = after_item raw (Define line head body) scope in
-      let g = collected_some (function_tree raw line head body scope) (functions_from raw xs after) fs e in
-      let q = parts_of line head body scope g.0 g.2 in
-      let gives : head.name ≡ main_name → q.0 ≡ Some (type.Integer Int) = λ named. some_same (sym q.2 ∙ int_tree raw head.result (int_result head.result (λ ne. kept.0 5 (main (no_int named ne))))) in
-      subst GiveInts (sym g.4)
-      (λ named. ap (λ (f : Function). f.result) q.4 ∙ gives (sym (ap (λ (f : Function). f.name) q.4) ∙ named), give_ints xs after g.1 (kept_second raw (item_phrases raw (Define line head body) scope) (items_phrases raw xs after) kept) g.3)
+      let g = more_there (function_tree raw line head body scope) (functions_from raw xs after) fs e in
+      let q = function_made raw line head body scope g.first g.first_there in
+      let gives : head.name ≡ main_name → q.result ≡ Some (type.Integer Int) = λ named. some_same (sym q.result_there ∙ int_tree raw head.result (int_result head.result (λ ne. kept.0 5 (main (no_int named ne))))) in
+      subst GiveInts g.same
+      (λ named. ap (λ (f : Function). f.result) q.is ∙ gives (sym (ap (λ (f : Function). f.name) q.is) ∙ named), give_ints xs after g.rest (kept_second raw (item_phrases raw (Define line head body) scope) (items_phrases raw xs after) kept) g.rest_there)

@@ -1,5 +1,5 @@
 pub mod Items
 pub mod NamesInScope
 pub mod Texts
-pub mod SameNumbers
+pub mod NumbersButLines
 pub mod BuiltMains

@@ -3,6 +3,7 @@ use Rattle.std.proofs.Common.{◌≡◌, ℕ, ◌+◌, ◌<◌, ◌≤◌, List,
 use Rattle.std.specs.Prelude.{bytes_eq, codes}
 use Rattle.std.specs.List.{list_all}
 use Rattle.std.proofs.lemmas.Bool.{and_from}
+use Rattle.dep_model.proofs.TextNumbers.{for_some}
 use Rattle.c_arith.specs.declared.int_type.IntType.{IntType}
 use Rattle.c_tree.specs.declared.types.CType.{CType}
 use Rattle.c_tree.specs.declared.expr.Expr.{Expr}
@@ -35,9 +36,9 @@ use Rattle.c_language.specs.ProgramOf.{collected, optional, ctype_if, expr_of, e
 use Rattle.c_language.specs.Scopes.{Entry, Scope, Meaning, Scoped, opened, closed, numbered, with_variable, with_target, begun, in_order, after_all, after_block}
 use Rattle.c_language.specs.TypeGrammar.{named_type}
 use Rattle.c_language.proofs.Lists.{all_append}
-use Rattle.c_language.proofs.Options.{none_there, some_same, map_some, then_some, both_some}
+use Rattle.c_language.proofs.Options.{some_same, optional_there, map_there, then_there, both_there, more_there}
 use Rattle.built_forms.specs.NamesBelow.{names_below}
-use Rattle.built_forms.proofs.Options.{Always, always_if, always_is, collected_some}
+use Rattle.built_forms.proofs.Options.{Always, always_if, always_is}
 use Rattle.dep_model.specs.Doings.{Doing, Does, doings, body_doings}
 use Rattle.dep_model.specs.NumberedMains.{value_below, init_below, target_below, amount_below, doing_below}
 use Rattle.dep_model.proofs.DoingForms.{arms_doings, part_doings, doings-Declare, doings-Assign, doings-Bump, doings-Invoke, doings-Fetch, doings-Write, doings-Print, doings-Heap, doings-Release, doings-Return, doings-If, doings-While, doings-Do, doings-Switch, doings-Block, doings-For}
@@ -220,19 +221,19 @@ module _ (raw : RawProgram) where
   list_below [] scope xs low e m le = subst (λ ys. list_all (doing_below m) (body_doings ys) ≡ true) (some_same e) refl
   list_below (k ∷ ks) scope xs low e m le =
       let t = treed raw k.0 in
-      let z = collected_some (t.gives scope) (in_order (trees ks) (t.after scope)) xs e in
+      let z = more_there (t.gives scope) (in_order (trees ks) (t.after scope)) xs e in
       let more : (t.after scope).variables ≤ (after_all (trees ks) (t.after scope)).variables = (list_grows ks).more (t.after scope) in
-      subst (λ ys. list_all (doing_below m) (body_doings ys) ≡ true) (sym z.4)
-      (all_append (doing_below m) (doings z.0) (body_doings z.1) (k.1.below scope z.0 low z.2 m (omega (arith, more, le))) (list_below ks (t.after scope) z.1 (k.1.grows.low scope low) z.3 m le))
+      subst (λ ys. list_all (doing_below m) (body_doings ys) ≡ true) z.same
+      (all_append (doing_below m) (doings z.first) (body_doings z.rest) (k.1.below scope z.first low z.first_there m (omega (arith, more, le))) (list_below ks (t.after scope) z.rest (k.1.grows.low scope low) z.rest_there m le))
 
   arms_below : (ks : List KnownArm) (scope : Scope) (i : IntType) (as_ : List Arm) → AreLow scope.variables scope.names → at_type i (in_order (arm_trees ks) scope) ≡ Some as_ → (m : ℕ) → (after_all (arm_trees ks) scope).variables ≤ m → list_all (doing_below m) (arms_doings as_) ≡ true
   arms_below [] scope i as_ low e m le = subst (λ ys. list_all (doing_below m) (arms_doings ys) ≡ true) (some_same e) refl
   arms_below (k ∷ ks) scope i as_ low e m le =
       let t = treed_arm raw k.0 in
-      let z = collected_some (t.gives scope i) (map (λ (a : ArmTree). a i) (in_order (arm_trees ks) (t.after scope))) as_ e in
+      let z = more_there (t.gives scope i) (map (λ (a : ArmTree). a i) (in_order (arm_trees ks) (t.after scope))) as_ e in
       let more : (t.after scope).variables ≤ (after_all (arm_trees ks) (t.after scope)).variables = (arms_grow ks).more (t.after scope) in
-      subst (λ ys. list_all (doing_below m) (arms_doings ys) ≡ true) (sym z.4)
-      (all_append (doing_below m) (body_doings z.0.body) (arms_doings z.1) (k.1.below scope i z.0 low z.2 m (omega (arith, more, le))) (arms_below ks (t.after scope) i z.1 (k.1.grows.low scope low) z.3 m le))
+      subst (λ ys. list_all (doing_below m) (arms_doings ys) ≡ true) z.same
+      (all_append (doing_below m) (body_doings z.first.body) (arms_doings z.rest) (k.1.below scope i z.first low z.first_there m (omega (arith, more, le))) (arms_below ks (t.after scope) i z.rest (k.1.grows.low scope low) z.rest_there m le))
 
   -- a statement of one act, of a call, or of a test and what it decides
   acts : (x : Statement) (d : Doing) (m : ℕ) → doings x ≡ d ∷ [] → doing_below m d ≡ true → IsBelow m x
@@ -297,13 +298,13 @@ module _ (raw : RawProgram) where
   declare_below scope low v l init.None x m e le =
       subst (IsBelow m) (some_same e) (subst (λ ds. list_all (doing_below m) ds ≡ true) (sym (doings-Declare None l scope.variables begins.None)) refl)
   declare_below scope low v l (init.One a) x m e le =
-      let k = map_some (s.Declare (Some scope.statements) l scope.variables) (init_of raw (with_variable raw v (init.One a) scope) (init.One a)) x e in
-      let h = always_is (λ n. init_below m n ≡ true) (init_of raw (with_variable raw v (init.One a) scope) (init.One a)) k.0 (init_low (with_variable raw v (init.One a) scope) ((variable_grows v (init.One a)).low scope low) m le (init.One a)) k.1 in
-      subst (IsBelow m) (sym k.2) (acts (s.Declare (Some scope.statements) l scope.variables k.0) _ m (doings-Declare (Some scope.statements) l scope.variables k.0) (and_from _ _ (lt-ltb scope.variables m (omega (arith, le))) h))
+      let k = map_there (s.Declare (Some scope.statements) l scope.variables) (init_of raw (with_variable raw v (init.One a) scope) (init.One a)) x e in
+      let h = always_is (λ n. init_below m n ≡ true) (init_of raw (with_variable raw v (init.One a) scope) (init.One a)) k.value (init_low (with_variable raw v (init.One a) scope) ((variable_grows v (init.One a)).low scope low) m le (init.One a)) k.there in
+      subst (IsBelow m) k.same (acts (s.Declare (Some scope.statements) l scope.variables k.value) _ m (doings-Declare (Some scope.statements) l scope.variables k.value) (and_from _ _ (lt-ltb scope.variables m (omega (arith, le))) h))
   declare_below scope low v l (init.Items es) x m e le =
-      let k = map_some (s.Declare (Some scope.statements) l scope.variables) (init_of raw (with_variable raw v (init.Items es) scope) (init.Items es)) x e in
-      let h = always_is (λ n. init_below m n ≡ true) (init_of raw (with_variable raw v (init.Items es) scope) (init.Items es)) k.0 (init_low (with_variable raw v (init.Items es) scope) ((variable_grows v (init.Items es)).low scope low) m le (init.Items es)) k.1 in
-      subst (IsBelow m) (sym k.2) (acts (s.Declare (Some scope.statements) l scope.variables k.0) _ m (doings-Declare (Some scope.statements) l scope.variables k.0) (and_from _ _ (lt-ltb scope.variables m (omega (arith, le))) h))
+      let k = map_there (s.Declare (Some scope.statements) l scope.variables) (init_of raw (with_variable raw v (init.Items es) scope) (init.Items es)) x e in
+      let h = always_is (λ n. init_below m n ≡ true) (init_of raw (with_variable raw v (init.Items es) scope) (init.Items es)) k.value (init_low (with_variable raw v (init.Items es) scope) ((variable_grows v (init.Items es)).low scope low) m le (init.Items es)) k.there in
+      subst (IsBelow m) k.same (acts (s.Declare (Some scope.statements) l scope.variables k.value) _ m (doings-Declare (Some scope.statements) l scope.variables k.value) (and_from _ _ (lt-ltb scope.variables m (omega (arith, le))) h))
 
   -- a part of a for
   abbrev part_after : Option Known → Scope → Scope
@@ -320,14 +321,9 @@ module _ (raw : RawProgram) where
 
   part_below : (o : Option Known) (scope : Scope) (x : Option Statement) → AreLow scope.variables scope.names → part_given o scope ≡ Some x → (m : ℕ) → (part_after o scope).variables ≤ m → list_all (doing_below m) (part_doings x) ≡ true
   part_below None scope x low e m le = subst (λ y. list_all (doing_below m) (part_doings y) ≡ true) (some_same e) refl
-  part_below (Some k) scope x low e m le = by_value ((treed raw k.0).gives scope) refl e
-    where
-      by_value : (o : Option Statement) → (treed raw k.0).gives scope ≡ o → optional (Some ((treed raw k.0).gives scope)) ≡ Some x → list_all (doing_below m) (part_doings x) ≡ true
-      by_value o is h = given o is (sym (ap (λ (z : Option Statement). optional (Some z)) is) ∙ h)
-        where
-          given : (o : Option Statement) → (treed raw k.0).gives scope ≡ o → optional (Some o) ≡ Some x → list_all (doing_below m) (part_doings x) ≡ true
-          given None is h = none_there h
-          given (Some y) is h = subst (λ z. list_all (doing_below m) (part_doings z) ≡ true) (some_same h) (k.1.below scope y low is m le)
+  part_below (Some k) scope x low e m le =
+      let p = optional_there ((treed raw k.0).gives scope) x e in
+      subst (λ z. list_all (doing_below m) (part_doings z) ≡ true) p.1.1 (k.1.below scope p.0 low p.1.0 m le)
 
   -- the scope behind the first part and the step of a for, from where its test is numbered
   abbrev parts_after : Option Known → Option Known → Scope → Scope
@@ -350,13 +346,11 @@ module _ (raw : RawProgram) where
       let low_body : AreLow (parts_after i k scope).variables (parts_after i k scope).names = (parts_grow i k).low scope low in
       let g1 : (part_after i first).variables ≤ (parts_after i k scope).variables = (part_grows k).more (part_after i first) in
       let g2 : (parts_after i k scope).variables ≤ (after_block (trees b) (parts_after i k scope)).variables = (block_grows b).more (parts_after i k scope) in
-      let a = then_some (λ (y : Option Statement). option_and_then (λ (z : Expr). both (s.For scope.statements l y z) (part_given k (part_after i first)) (block_tree (trees b) (parts_after i k scope))) (expr_of raw (part_after i first) test)) (part_given i first) x e in
-      let c = then_some (λ (z : Expr). both (s.For scope.statements l a.0 z) (part_given k (part_after i first)) (block_tree (trees b) (parts_after i k scope))) (expr_of raw (part_after i first) test) x a.2 in
-      let d = both_some (s.For scope.statements l a.0 c.0) (part_given k (part_after i first)) (block_tree (trees b) (parts_after i k scope)) x c.2 in
-      tested x scope.statements c.0 (part_doings a.0 ++ (part_doings d.0 ++ body_doings d.1)) m (ap doings d.4 ∙ doings-For scope.statements l a.0 c.0 d.0 d.1)
-      (expr_is (part_after i first) test c.0 m low_test (omega (arith, g1, g2, le)) c.1)
-      (all_append (doing_below m) (part_doings a.0) (part_doings d.0 ++ body_doings d.1) (part_below i first a.0 low a.1 m (omega (arith, g1, g2, le)))
-      (all_append (doing_below m) (part_doings d.0) (body_doings d.1) (part_below k (part_after i first) d.0 low_test d.2 m (omega (arith, g2, le))) (list_below b (opened (parts_after i k scope)) d.1 low_body d.3 m le)))
+      let f = for_some scope.statements l _ _ _ _ x e in
+      tested x scope.statements f.1 (part_doings f.0 ++ (part_doings f.2 ++ body_doings f.3)) m (ap doings f.8 ∙ doings-For scope.statements l f.0 f.1 f.2 f.3)
+      (expr_is (part_after i first) test f.1 m low_test (omega (arith, g1, g2, le)) f.5)
+      (all_append (doing_below m) (part_doings f.0) (part_doings f.2 ++ body_doings f.3) (part_below i first f.0 low f.4 m (omega (arith, g1, g2, le)))
+      (all_append (doing_below m) (part_doings f.2) (body_doings f.3) (part_below k (part_after i first) f.2 low_test f.6 m (omega (arith, g2, le))) (list_below b (opened (parts_after i k scope)) f.3 low_body f.7 m le)))
 
   layer_case : (y : RawStatement-F Known KnownArm) → Case (as_tree (layer_of y))
   layer_case (RawStatement-F.Declare l v i) = record {
@@ -366,14 +360,14 @@ module _ (raw : RawProgram) where
   layer_case (RawStatement-F.Assign l left op right) = record {
     grows = next_grows;
     below = λ scope x low e m le.
-        let k = both_some (λ (a b : Expr). s.Assign scope.statements l a op b) (expr_of raw scope left) (expr_of raw scope right) x e in
-        subst (IsBelow m) (sym k.4) (acts (s.Assign scope.statements l k.0 op k.1) _ m (doings-Assign scope.statements l k.0 op k.1) (and_from _ _ (expr_is scope left k.0 m low le k.2) (expr_is scope right k.1 m low le k.3)));
+        let k = both_there (λ (a b : Expr). s.Assign scope.statements l a op b) (expr_of raw scope left) (expr_of raw scope right) x e in
+        subst (IsBelow m) k.same (acts (s.Assign scope.statements l k.left op k.right) _ m (doings-Assign scope.statements l k.left op k.right) (and_from _ _ (expr_is scope left k.left m low le k.left_there) (expr_is scope right k.right m low le k.right_there)));
   }
   layer_case (RawStatement-F.Bump l left up before) = record {
     grows = next_grows;
     below = λ scope x low e m le.
-        let k = map_some (λ (a : Expr). s.Bump scope.statements l a up before) (expr_of raw scope left) x e in
-        subst (IsBelow m) (sym k.2) (acts (s.Bump scope.statements l k.0 up before) _ m (doings-Bump scope.statements l k.0 up before) (expr_is scope left k.0 m low le k.1));
+        let k = map_there (λ (a : Expr). s.Bump scope.statements l a up before) (expr_of raw scope left) x e in
+        subst (IsBelow m) k.same (acts (s.Bump scope.statements l k.value up before) _ m (doings-Bump scope.statements l k.value up before) (expr_is scope left k.value m low le k.there));
   }
   layer_case (RawStatement-F.Call l to f args) = record {
     grows = then_grows (with_target raw to) numbered (target_grows to) next_grows;
@@ -390,24 +384,24 @@ module _ (raw : RawProgram) where
         let low_next : AreLow next.variables next.names = (block_grows a).low (numbered scope) low in
         let g1 : scope.variables ≤ next.variables = (block_grows a).more (numbered scope) in
         let g2 : next.variables ≤ (after_block (trees b) next).variables = (block_grows b).more next in
-        let t = then_some (λ (z : Expr). both (s.If scope.statements l z) (block_tree (trees a) (numbered scope)) (block_tree (trees b) next)) (expr_of raw scope test) x e in
-        let k = both_some (s.If scope.statements l t.0) (block_tree (trees a) (numbered scope)) (block_tree (trees b) next) x t.2 in
-        tested x scope.statements t.0 (body_doings k.0 ++ body_doings k.1) m (ap doings k.4 ∙ doings-If scope.statements l t.0 k.0 k.1) (expr_is scope test t.0 m low (omega (arith, g1, g2, le)) t.1)
-        (all_append (doing_below m) (body_doings k.0) (body_doings k.1) (list_below a (opened (numbered scope)) k.0 low k.2 m (omega (arith, g2, le))) (list_below b (opened next) k.1 low_next k.3 m le));
+        let t = then_there (λ (z : Expr). both (s.If scope.statements l z) (block_tree (trees a) (numbered scope)) (block_tree (trees b) next)) (expr_of raw scope test) x e in
+        let k = both_there (s.If scope.statements l t.value) (block_tree (trees a) (numbered scope)) (block_tree (trees b) next) x t.same in
+        tested x scope.statements t.value (body_doings k.left ++ body_doings k.right) m (ap doings (sym k.same) ∙ doings-If scope.statements l t.value k.left k.right) (expr_is scope test t.value m low (omega (arith, g1, g2, le)) t.there)
+        (all_append (doing_below m) (body_doings k.left) (body_doings k.right) (list_below a (opened (numbered scope)) k.left low k.left_there m (omega (arith, g2, le))) (list_below b (opened next) k.right low_next k.right_there m le));
   }
   layer_case (RawStatement-F.While l test b) = record {
     grows = numbered_grows (after_block (trees b)) (block_grows b);
     below = λ scope x low e m le.
-        let k = both_some (s.While scope.statements l) (expr_of raw scope test) (block_tree (trees b) (numbered scope)) x e in
+        let k = both_there (s.While scope.statements l) (expr_of raw scope test) (block_tree (trees b) (numbered scope)) x e in
         let g : scope.variables ≤ (after_block (trees b) (numbered scope)).variables = (block_grows b).more (numbered scope) in
-        tested x scope.statements k.0 (body_doings k.1) m (ap doings k.4 ∙ doings-While scope.statements l k.0 k.1) (expr_is scope test k.0 m low (omega (arith, g, le)) k.2) (list_below b (opened (numbered scope)) k.1 low k.3 m le);
+        tested x scope.statements k.left (body_doings k.right) m (ap doings (sym k.same) ∙ doings-While scope.statements l k.left k.right) (expr_is scope test k.left m low (omega (arith, g, le)) k.left_there) (list_below b (opened (numbered scope)) k.right low k.right_there m le);
   }
   layer_case (RawStatement-F.Do l test b) = record {
     grows = numbered_grows (after_block (trees b)) (block_grows b);
     below = λ scope x low e m le.
-        let k = both_some (s.Do scope.statements l) (expr_of raw scope test) (block_tree (trees b) (numbered scope)) x e in
+        let k = both_there (s.Do scope.statements l) (expr_of raw scope test) (block_tree (trees b) (numbered scope)) x e in
         let g : scope.variables ≤ (after_block (trees b) (numbered scope)).variables = (block_grows b).more (numbered scope) in
-        tested x scope.statements k.0 (body_doings k.1) m (ap doings k.4 ∙ doings-Do scope.statements l k.0 k.1) (expr_is scope test k.0 m low (omega (arith, g, le)) k.2) (list_below b (opened (numbered scope)) k.1 low k.3 m le);
+        tested x scope.statements k.left (body_doings k.right) m (ap doings (sym k.same) ∙ doings-Do scope.statements l k.left k.right) (expr_is scope test k.left m low (omega (arith, g, le)) k.left_there) (list_below b (opened (numbered scope)) k.right low k.right_there m le);
   }
   layer_case (RawStatement-F.For l None test None b) = record { grows = for_grows None None b; below = λ scope x low e m le. for_below None None l test b scope x low e m le }
   layer_case (RawStatement-F.For l None test (Some k) b) = record { grows = for_grows None (Some k) b; below = λ scope x low e m le. for_below None (Some k) l test b scope x low e m le }
@@ -416,32 +410,32 @@ module _ (raw : RawProgram) where
   layer_case (RawStatement-F.Switch l test arms) = record {
     grows = numbered_grows (after_block (arm_trees arms)) (arms_block_grows arms);
     below = λ scope x low e m le.
-        let t = then_some (λ (z : Expr). option_and_then (λ (k : IntType). option_map (s.Switch scope.statements l z) (at_type k (in_order (arm_trees arms) (opened (numbered scope))))) (switch_type raw scope test)) (expr_of raw scope test) x e in
-        let u = then_some (λ (k : IntType). option_map (s.Switch scope.statements l t.0) (at_type k (in_order (arm_trees arms) (opened (numbered scope))))) (switch_type raw scope test) x t.2 in
-        let k = map_some (s.Switch scope.statements l t.0) (at_type u.0 (in_order (arm_trees arms) (opened (numbered scope)))) x u.2 in
+        let t = then_there (λ (z : Expr). option_and_then (λ (k : IntType). option_map (s.Switch scope.statements l z) (at_type k (in_order (arm_trees arms) (opened (numbered scope))))) (switch_type raw scope test)) (expr_of raw scope test) x e in
+        let u = then_there (λ (k : IntType). option_map (s.Switch scope.statements l t.value) (at_type k (in_order (arm_trees arms) (opened (numbered scope))))) (switch_type raw scope test) x t.same in
+        let k = map_there (s.Switch scope.statements l t.value) (at_type u.value (in_order (arm_trees arms) (opened (numbered scope)))) x u.same in
         let g : scope.variables ≤ (after_block (arm_trees arms) (numbered scope)).variables = (arms_block_grows arms).more (numbered scope) in
-        tested x scope.statements t.0 (arms_doings k.0) m (ap doings k.2 ∙ doings-Switch scope.statements l t.0 k.0) (expr_is scope test t.0 m low (omega (arith, g, le)) t.1) (arms_below arms (opened (numbered scope)) u.0 k.0 low k.1 m le);
+        tested x scope.statements t.value (arms_doings k.value) m (ap doings (sym k.same) ∙ doings-Switch scope.statements l t.value k.value) (expr_is scope test t.value m low (omega (arith, g, le)) t.there) (arms_below arms (opened (numbered scope)) u.value k.value low k.there m le);
   }
   layer_case (RawStatement-F.Block l b) = record {
     grows = block_grows b;
     below = λ scope x low e m le.
-        let k = map_some (s.Block l) (block_tree (trees b) scope) x e in
-        subst (λ ds. list_all (doing_below m) ds ≡ true) (sym (ap doings k.2 ∙ doings-Block l k.0)) (list_below b (opened scope) k.0 low k.1 m le);
+        let k = map_there (s.Block l) (block_tree (trees b) scope) x e in
+        subst (λ ds. list_all (doing_below m) ds ≡ true) (sym (ap doings (sym k.same) ∙ doings-Block l k.value)) (list_below b (opened scope) k.value low k.there m le);
   }
   layer_case (RawStatement-F.Return l a) = record {
     grows = next_grows;
     below = λ scope x low e m le.
-        let k = map_some (s.Return scope.statements l) (optional (option_map (expr_of raw scope) a)) x e in
-        let h = always_is (λ v. value_below m v ≡ true) (optional (option_map (expr_of raw scope) a)) k.0 (value_low scope low m le a) k.1 in
-        subst (IsBelow m) (sym k.2) (acts (s.Return scope.statements l k.0) _ m (doings-Return scope.statements l k.0) h);
+        let k = map_there (s.Return scope.statements l) (optional (option_map (expr_of raw scope) a)) x e in
+        let h = always_is (λ v. value_below m v ≡ true) (optional (option_map (expr_of raw scope) a)) k.value (value_low scope low m le a) k.there in
+        subst (IsBelow m) k.same (acts (s.Return scope.statements l k.value) _ m (doings-Return scope.statements l k.value) h);
   }
 
   arm_case : (y : RawArm-F Known KnownArm) → ArmCase (as_arm (arm_layer_of y))
   arm_case y = record {
     grows = list_grows y.body;
     below = λ scope k a low e m le.
-        let z = both_some arm_tree (collected (map (label_tree raw scope k) y.labels)) (collected (in_order (trees y.body) scope)) a e in
-        subst (λ (w : Arm). list_all (doing_below m) (body_doings w.body) ≡ true) (sym z.4) (list_below y.body scope z.1 low z.3 m le);
+        let z = both_there arm_tree (collected (map (label_tree raw scope k) y.labels)) (collected (in_order (trees y.body) scope)) a e in
+        subst (λ (w : Arm). list_all (doing_below m) (body_doings w.body) ≡ true) z.same (list_below y.body scope z.right low z.right_there m le);
   }
 
   statement_case : (one : RawStatement) → Case (treed raw one)

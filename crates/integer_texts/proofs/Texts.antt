@@ -4,36 +4,28 @@ use Rattle.std.specs.Prelude.{cond}
 use Rattle.std.specs.List.{list_all}
 use Rattle.std.proofs.lemmas.Slice.Eq.{bytes_eq-Decides}
 use Rattle.c_language.proofs.ProgramParts.{IsMadeOf, made_of}
-use Rattle.c_language.proofs.PhraseLists.{kept_from}
+use Rattle.c_language.proofs.Lists.{head_is, tail_is, no_list}
+use Rattle.c_language.proofs.PhraseLists.{phrases_kept}
 use Rattle.c_tree.specs.declared.program.Program.{Program}
 use Rattle.c_tree.specs.declared.raw.program.RawHead.{RawHead}
 use Rattle.c_tree.specs.declared.raw.program.RawProgram.{RawProgram}
 use Rattle.c_language.specs.Words.{Bytes}
-use Rattle.c_language.specs.DeclaredTypes.{functions_of}
+use Rattle.c_language.specs.DeclaredTypes.{function_texts}
 use Rattle.c_language.specs.NameRules.{main_name}
 use Rattle.c_language.specs.Phrases.{phrases, after_items, items_phrases}
 use Rattle.c_language.specs.ProgramOf.{collected, functions_from, variables_in}
 use Rattle.c_language.specs.Programs.{HasProgram}
-use Rattle.c_language.specs.Rules.{by_phrase, no_main, AreKept}
+use Rattle.c_language.specs.Rules.{no_main}
 use Rattle.c_language.specs.Scopes.{outset}
 use Rattle.built_forms.specs.IntegerForms.{IsIntegerMain}
 use Rattle.built_forms.proofs.Programs.{found_length}
-use Rattle.dep_model.specs.Doings.{body_doings, doings_of}
+use Rattle.dep_model.specs.Doings.{body_doings, doings_of, doing_number}
 use Rattle.dep_model.specs.MainVertices.{from}
-use Rattle.dep_model.specs.NumberedMains.{doing_number, doing_below, IsNumberedMain}
+use Rattle.dep_model.specs.NumberedMains.{doing_below, IsNumberedMain}
 use Rattle.dep_model.proofs.NumberedMain.{main_doings}
 use Rattle.dep_model.proofs.TextNumbers.{Takes}
 use Rattle.integer_texts.specs.Laws.{IntegerTextsAreNumbered}
 use Rattle.integer_texts.proofs.Items.{all_doings, items_count, items_take, items_below, names_are, give_ints}
-
-head_is : {x y : Bytes} {xs ys : List Bytes} → x ∷ xs ≡ y ∷ ys → x ≡ y
-head_is e = cc
-
-no_list : {x : Bytes} {xs : List Bytes} {A : Type 0} → x ∷ xs ≡ [] → A
-no_list e = cc
-
-tail_is : {x y : Bytes} {xs ys : List Bytes} → x ∷ xs ≡ y ∷ ys → xs ≡ ys
-tail_is e = cc
 
 -- the only function of a text that defines main is main
 only_main : (n : Bytes) (hs : List RawHead) → n ∷ [] ≡ map (λ (h : RawHead). h.name) hs → (find (λ (h : RawHead). bytes_eq h.name main_name) hs ≡ None → ⊥) → n ≡ main_name
@@ -61,15 +53,12 @@ module _ (raw : RawProgram) (p : Program) (has : HasProgram raw p) (h : IsIntege
       let b : 0 + length (variables_in raw (items_phrases raw raw.items outset)) ≡ (after_items raw raw.items outset).variables = items_count raw raw.items outset in
       omega (arith, a, b)
 
-  kept_all : AreKept raw (phrases raw)
-  kept_all = kept_from raw (phrases raw) (λ q c n b. has.rules n q.line (by_phrase c b))
-
   doings_are : doings_of p 0 ≡ all_doings (h.main ∷ [])
   doings_are = main_doings p h ∙ sym (append-nil (body_doings h.main.body))
 
   named : h.main.name ≡ main_name
   named =
-      only_main h.main.name (functions_of raw.items) (names_are raw raw.items outset (h.main ∷ []) functions_made) (λ none. has.rules 5 1 (no_main none))
+      only_main h.main.name (function_texts raw.items) (names_are raw raw.items outset (h.main ∷ []) functions_made) (λ none. has.rules 5 1 (no_main none))
 
   numbers : map doing_number (doings_of p 0) ≡ from 0 p.statements
   numbers =
@@ -85,7 +74,7 @@ module _ (raw : RawProgram) (p : Program) (has : HasProgram raw p) (h : IsIntege
   numbered = record {
     integer = h;
     name_is = named;
-    result_is = (give_ints raw raw.items outset (h.main ∷ []) kept_all functions_made).0 named;
+    result_is = (give_ints raw raw.items outset (h.main ∷ []) (phrases_kept raw has.rules) functions_made).0 named;
     numbers_are = numbers;
     named_are = below;
   }

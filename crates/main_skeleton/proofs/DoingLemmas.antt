@@ -7,15 +7,14 @@ use Rattle.std.proofs.lemmas.Bool.{false≢true, and_parts, ne_eqb, cases_Bool}
 use Rattle.std.proofs.lemmas.Option.{same_Some}
 use Rattle.bit_rows.specs.Sets.{has}
 use Rattle.bit_rows.specs.Tables.{Table, the_set, IsSized}
-use Rattle.dep_model.specs.Doings.{Doing, Does, Calls}
+use Rattle.dep_model.specs.Doings.{Doing, Does, Calls, doing_number}
 use Rattle.dep_model.specs.IntegerEffects.{act_read, act_set, act_named, gives_result}
 use Rattle.dep_model.specs.MainVertices.{from}
-use Rattle.dep_model.specs.NumberedMains.{doing_number}
 use Rattle.dep_model.specs.VertexOrder.{has_number}
 use Rattle.dep_model.proofs.BoolLemmas.{and_or}
 use Rattle.main_skeleton.specs.declared.effects.Effects.{Effects}
 use Rattle.main_skeleton.specs.Facts.{with_variables, result_if}
-use Rattle.main_skeleton.specs.Marks.{with_doing, with_doings}
+use Rattle.main_skeleton.specs.Effects.{with_doing, with_doings}
 use Rattle.main_skeleton.proofs.FactLemmas.{any_bit, variables_sized, variables_has, given_sized, given_has}
 use Rattle.c_language.proofs.Tests.{or_assoc, or_none}
 use Rattle.c_language.proofs.Lists.{head_is, tail_is, no_list}
@@ -140,10 +139,6 @@ none_at_entry test [] = refl
 none_at_entry test (d ∷ ds) =
     ap (λ b. (b && test d) || any_at 0 test ds) (ne_eqb 0 (suc (doing_number d)) (λ e. omega (arith, e))) ∙ none_at_entry test ds
 
-number_is : (j : ℕ) (d : Doing) → has_number j d ≡ (doing_number d == j)
-number_is j (Does i a) = refl
-number_is j (Calls i to f args) = refl
-
 -- the numbers are those from i on
 none_later : (test : Doing → Bool) (ds : List Doing) (i n j : ℕ) → map doing_number ds ≡ from i n → j < i → any_at (suc j) test ds ≡ false
 none_later test [] i n j e lt = refl
@@ -161,10 +156,10 @@ any_found test (d ∷ ds) i (suc n) j e = elim (cases_Bool (doing_number d == j)
       let first : doing_number d ≡ i = head_is e in
       let is : doing_number d ≡ j = eqb-true (doing_number d) j same in
       let here : (suc j == suc (doing_number d)) ≡ true = eq-eqb (suc j) (suc (doing_number d)) (ap suc (sym is)) in
-      ap (λ b. (b && test d) || any_at (suc j) test ds) here ∙ ap (λ b. test d || b) (none_later test ds (suc i) n j (tail_is e) (omega (arith, first, is))) ∙ or_none (test d) ∙ sym (ap (λ b. option_map_or test (cond b (Some d) (find (has_number j) ds)) false) (number_is j d ∙ same))
+      ap (λ b. (b && test d) || any_at (suc j) test ds) here ∙ ap (λ b. test d || b) (none_later test ds (suc i) n j (tail_is e) (omega (arith, first, is))) ∙ or_none (test d) ∙ sym (ap (λ b. option_map_or test (cond b (Some d) (find (has_number j) ds)) false) same)
   | inr other ↦
       let apart : (suc j == suc (doing_number d)) ≡ false = ne_eqb (suc j) (suc (doing_number d)) (λ s. false≢true (sym other ∙ eq-eqb (doing_number d) j (omega (arith, s)))) in
-      ap (λ b. (b && test d) || any_at (suc j) test ds) apart ∙ any_found test ds (suc i) n j (tail_is e) ∙ sym (ap (λ b. option_map_or test (cond b (Some d) (find (has_number j) ds)) false) (number_is j d ∙ other))
+      ap (λ b. (b && test d) || any_at (suc j) test ds) apart ∙ any_found test ds (suc i) n j (tail_is e) ∙ sym (ap (λ b. option_map_or test (cond b (Some d) (find (has_number j) ds)) false) other)
 ]
 
 -- what is found passes the test that all pass

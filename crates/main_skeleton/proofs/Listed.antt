@@ -22,7 +22,7 @@ use Rattle.dep_model.specs.Denoted.{PointsTo, variable, whole}
 use Rattle.dep_model.specs.Doings.{Doing, Does, Calls, doings_of}
 use Rattle.dep_model.specs.DoingEffects.{result_of}
 use Rattle.dep_model.specs.IntegerEffects.{place_step, variables_set, begun, act_set, gives_result, any_whole}
-use Rattle.dep_model.specs.Locations.{Placed, locations, same_root, same_part, same_location}
+use Rattle.dep_model.specs.Locations.{TypedLocation, locations, same_root, same_part, same_location}
 use Rattle.dep_model.specs.MainLocations.{main_locations, main_result}
 use Rattle.dep_model.specs.MainVertices.{vertices}
 use Rattle.dep_model.specs.NumberedMains.{init_below, act_below, doing_below, IsNumberedMain}
@@ -129,15 +129,15 @@ result_is l h =
 
 -- ---- what is listed
 
-contains_at : (os : List Placed) (k : ℕ) (o : Placed) → slice_get os k ≡ Some o → Contains os o
+contains_at : (os : List TypedLocation) (k : ℕ) (o : TypedLocation) → slice_get os k ≡ Some o → Contains os o
 contains_at [] k o e = cc
 contains_at (q ∷ os) zero o e = subst (Contains (q ∷ os)) (same_Some _ _ e) (contains_head q os)
 contains_at (q ∷ os) (suc k) o e = contains_cons q os o (contains_at os k o e)
 
 module _ (p : Program) (h : IsNumberedMain p) where
-  place_listed : (k : ℕ) (o : Placed) (l : Location) → slice_get (main_locations p) k ≡ Some o → o.location ≡ l → IsListed p l
+  place_listed : (k : ℕ) (o : TypedLocation) (l : Location) → slice_get (main_locations p) k ≡ Some o → o.location ≡ l → IsListed p l
   place_listed k o l at is =
-      subst (IsListed p) is (map_contains (λ (q : Placed). q.location) (locations p) o (contains_at (locations p) k o (ap (λ os. slice_get os k) (numbered_locations p h) ∙ at)))
+      subst (IsListed p) is (map_contains (λ (q : TypedLocation). q.location) (locations p) o (contains_at (locations p) k o (ap (λ os. slice_get os k) (numbered_locations p h) ∙ at)))
 
   some_listed : (xs : List ℕ) (l : Location) → AllBelow (length p.vars) xs → any_whole xs l ≡ true → IsListed p l
   some_listed [] l below t = absurd (false≢true t)

@@ -18,7 +18,7 @@ use Rattle.dep_model.specs.Doings.{Doing, Does, Calls, doings_of}
 use Rattle.dep_model.specs.DoingEffects.{result_of}
 use Rattle.dep_model.specs.IntegerEffects.{any_whole, act_read, act_set, act_named, gives_result}
 use Rattle.dep_model.specs.Locations.{locations, same_location}
-use Rattle.dep_model.specs.MainVertices.{from, vertices}
+use Rattle.dep_model.specs.MainVertices.{from, vertices, main_vertices}
 use Rattle.dep_model.specs.NumberedMains.{IsNumberedMain}
 use Rattle.dep_model.specs.Skeletons.{AreRows, IsSkeleton}
 use Rattle.dep_model.specs.SystemGraph.{Analysis, IsAnalysis, vertices_of}
@@ -30,7 +30,7 @@ use Rattle.dep_model.proofs.NumberedEdges.{numbered_vertices}
 use Rattle.dep_model.proofs.NumberedLocations.{IsMainLocation, the_input_, a_variable, the_result, location_cases, length_main, numbered_locations}
 use Rattle.dep_model.proofs.NumberedMain.{all_are, none_taken, acts_on}
 use Rattle.main_skeleton.specs.declared.effects.Effects.{Effects}
-use Rattle.main_skeleton.specs.Marks.{main_vertices, main_effects}
+use Rattle.main_skeleton.specs.Effects.{main_effects}
 use Rattle.main_skeleton.proofs.DoingLemmas.{used_by, defined_by, killed_by, by_all, used_all, defined_all, killed_all, Marks, all_sized, all_has, used_test, defined_test, killed_test, used_marks, defined_marks, killed_marks, none_at_entry, any_found, found_passes}
 use Rattle.main_skeleton.proofs.FactLemmas.{is_bit, any_bit}
 

@@ -17,7 +17,7 @@ use Rattle.c_language.specs.Code.{Begins, Sets, Bumps, Writes, Prints, Returns, 
 use Rattle.dep_model.specs.Doings.{Doing, doings, body_doings, doings_of}
 use Rattle.dep_model.proofs.DoingForms.{arms_doings, part_doings, doings-Declare, doings-Assign, doings-Bump, doings-Invoke, doings-Fetch, doings-Write, doings-Print, doings-Heap, doings-Release, doings-Return, doings-If, doings-While, doings-Do, doings-Switch, doings-Block, doings-For}
 use Rattle.main_skeleton.specs.declared.effects.Effects.{Effects}
-use Rattle.main_skeleton.specs.Marks.{with_act, with_doing, with_doings, with_body, with_arms, with_part, none_marked, main_effects, first_body}
+use Rattle.main_skeleton.specs.Effects.{with_act, with_doing, with_doings, with_body, with_arms, with_part, none_marked, main_effects, first_body}
 
 pub doings-append : (ds es : List Doing) (m : Effects) → with_doings (ds ++ es) m ≡ with_doings es (with_doings ds m)
 doings-append [] es m = refl

@@ -20,7 +20,7 @@ abbrev pub with_variables : ℕ → List ℕ → Table → Table
 with_variables id [] t = t
 with_variables id (x ∷ xs) t = with_variables id xs (with_variable id x t)
 
--- main's result, the last of the locations
+-- the bit of main's result, the last location, set in the row of a statement
 abbrev pub with_result : ℕ → Table → Table
 with_result id t = if nat_lt (suc id) (length t.sets) then with_bit id (t.bits - 1) t else t
 

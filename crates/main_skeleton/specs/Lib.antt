@@ -1,3 +1,3 @@
+pub mod Effects
 pub mod Facts
 pub mod Laws
-pub mod Marks

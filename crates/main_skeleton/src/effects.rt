@@ -2,7 +2,7 @@
 ghost use Rattle.std.specs.Prelude.{◌≡◌, ◌+◌, ◌<◌, ◌^◌, Bool, IfOk};
 ghost use Rattle.c_language.specs.Code as code;
 ghost use Rattle.c_language.specs.Words.{Bytes};
-ghost use Rattle.main_skeleton.specs.Marks.{with_act, none_marked};
+ghost use Rattle.main_skeleton.specs.Effects.{with_act, none_marked};
 
 use crate::expressions::{mark_all_read, mark_compound, mark_named, mark_read, mark_set};
 use crate::facts::Facts;

@@ -2,10 +2,11 @@
 #![tactic(auto)]
 
 ghost use Rattle.std.specs.Prelude.{◌≡◌, ◌+◌, ◌<◌, ◌^◌, IfOk, length};
+ghost use Rattle.dep_model.specs.MainVertices.{main_vertices};
 ghost use Rattle.dep_model.specs.NumberedMains.{IsNumberedMain};
 ghost use Rattle.dep_model.specs.Skeletons.{IsSkeleton};
 ghost use Rattle.dep_model.specs.SystemGraph.{Analysis, IsAnalysis};
-ghost use Rattle.main_skeleton.specs.Marks.{first_body, main_effects, main_vertices};
+ghost use Rattle.main_skeleton.specs.Effects.{first_body, main_effects};
 
 mod effects;
 mod expressions;

@@ -1,7 +1,7 @@
 //! One walk over a body.
 ghost use Rattle.std.specs.Prelude.{◌≡◌};
 ghost use Rattle.dep_model.specs.Doings.{doings};
-ghost use Rattle.main_skeleton.specs.Marks.{with_doings, with_body, with_arms, with_part};
+ghost use Rattle.main_skeleton.specs.Effects.{with_doings, with_body, with_arms, with_part};
 
 use crate::effects::Effects;
 use c_tree::{Arm, Statement};

@@ -16,12 +16,13 @@ use Rattle.c_language.specs.Words.{Bytes, assign_sign, name_of_function, expr_wo
 use Rattle.c_language.specs.Layout.{init_words, var_words, target_words, amount_words, cast_words, call_words, bump_words, return_words, Laid, statement_step, arm_step, laid, statement_words, arm_laid}
 use Rattle.c_language.proofs.Options.{none_there, some_same}
 use Rattle.projection.specs.Kept.{rank}
-use Rattle.projection.specs.Names.{names, any_names, init_names, target_names, amount_names, value_names, refers_step, refers_arm, refers}
+use Rattle.projection.specs.Names.{names, any_names, init_names, target_names, amount_names, value_names, refers_step, refers, arm_refers}
 use Rattle.projection.specs.Renumbering.{renamed, renamed_init, renamed_target, renamed_amount}
-use Rattle.projection.specs.Projection.{first_of, projected_step, projected, projected_arm, projected_all}
+use Rattle.projection.specs.Projection.{first_statement, projected_step, projected, projected_arm, projected_all}
+use Rattle.projection.proofs.NamesPass.{NamesPass, left_pass, right_pass}
 use Rattle.own_words.specs.OwnWords.{layer_words, own_words}
 use Rattle.own_words.proofs.Lists.{three}
-use Rattle.own_words.proofs.Words.{same_numbers, NamesPass, left_pass, right_pass, kept, staying, ranked, smaller, var_words_same, expr_says, all_say, function_same, cast_same, init_says, target_says, amount_says, return_says}
+use Rattle.own_words.proofs.Words.{same_numbers, kept, staying, ranked, smaller, var_words_same, expr_says, all_say, function_same, cast_same, init_says, target_says, amount_says, return_says}
 use Rattle.c_scope_laws.proofs.TreeLevels.{chosen}
 
 -- a fold of a statement is one of its layer
@@ -113,7 +114,7 @@ module _ (p : Program) (keeps : ℕ → Bool) where
 
   abbrev pub part_left : Option Statement → Option Statement
   part_left None = None
-  part_left (Some x) = first_of (left x)
+  part_left (Some x) = first_statement (left x)
 
   -- the layer of what stays of a kept statement
   abbrev pub left_layer : Statement-F Statement Arm → Statement-F Statement Arm
@@ -217,11 +218,8 @@ module _ (p : Program) (keeps : ℕ → Bool) where
   left_text (Statement-F.Block l b) h = refl
   left_text (Statement-F.Return id l a) h = return_says p keeps a h
 
-  abbrev pub refers_to_arm : Arm → ℕ → Bool
-  refers_to_arm = fold-Arm (ℕ → Bool) (ℕ → Bool) (refers_step keeps) (refers_arm keeps)
-
   abbrev pub step_refers : Statement-F Statement Arm → ℕ → Bool
-  step_refers z = refers_step keeps (map-Statement Statement Arm (ℕ → Bool) (ℕ → Bool) (refers keeps) refers_to_arm z)
+  step_refers z = refers_step keeps (map-Statement Statement Arm (ℕ → Bool) (ℕ → Bool) (refers keeps) (arm_refers keeps) z)
 
   -- a kept statement refers to what its own words name
   pub own_refers : (z : Statement-F Statement Arm) (i n : ℕ) → layer_start z ≡ Some (start i n) → keeps i ≡ true → (v : ℕ) → layer_names z v ≡ true → step_refers z v ≡ true

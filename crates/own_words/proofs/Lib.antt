@@ -4,4 +4,4 @@ pub mod Names
 pub mod Words
 pub mod Forms
 pub mod Parts
-pub mod Standing
+pub mod StandingWords

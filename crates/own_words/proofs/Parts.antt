@@ -13,15 +13,14 @@ use Rattle.c_tree.specs.Numbered.{arms_inner, inner, StandsIn}
 use Rattle.c_tree.specs.Numbered.StandsIn.{inside}
 use Rattle.c_tree.proofs.LayerLemmas.{inner-Block}
 use Rattle.c_tree.proofs.SearchLemmas.{stands_left, stands_right}
-use Rattle.projection.specs.Names.{either, refers_step, refers_arm, refers}
-use Rattle.projection.specs.Projection.{if_so, first_of, is_declaring, bare, bare_target, alone, block_of, projected_step, projected_arm_step}
-use Rattle.projection_laws.specs.Nested.{Nest, any_kept, all_fit, governs, nest_step, nest_arm, nest}
-use Rattle.projection_laws.proofs.StatementForms.{arm_nest}
-use Rattle.projection_laws.proofs.Standing.{governs_back}
+use Rattle.projection.specs.Names.{any_of, refers_step, refers_arm, refers, arm_refers}
+use Rattle.projection.specs.Projection.{if_so, first_statement, is_declaring, bare, bare_target, alone, block_of, projected_step, projected_arm_step}
+use Rattle.projection_laws.specs.Nested.{Nest, any_kept, all_fit, governs, nest_step, nest_arm, nest, arm_nest}
+use Rattle.projection_laws.proofs.StandsNested.{governs_back}
 use Rattle.own_words.proofs.Lists.{Among, among_split}
 use Rattle.own_words.proofs.Lists.Among.{first, next}
 use Rattle.own_words.proofs.Words.{same_numbers, kept}
-use Rattle.own_words.proofs.Forms.{fold_layer, left, arm_left, all_left, step_left, refers_to_arm}
+use Rattle.own_words.proofs.Forms.{fold_layer, left, arm_left, all_left, step_left}
 use Rattle.c_language.proofs.Tests.{by_answer}
 use Rattle.c_scope_laws.proofs.TreeLevels.{chosen, unchosen}
 
@@ -38,7 +37,7 @@ stands_none h = elim h [ ]
 -- ---- lists of one or none
 
 abbrev IsShort : List Statement → Type 0
-IsShort xs = option_to_list (first_of xs) ≡ xs
+IsShort xs = option_to_list (first_statement xs) ≡ xs
 
 short_so : (b : Bool) (x : Statement) (xs : List Statement) → IsShort xs → IsShort (if_so b (x ∷ []) xs)
 short_so true x xs h = refl
@@ -90,7 +89,7 @@ module _ (p : Program) (keeps : ℕ → Bool) where
   short_layer (Statement-F.While id l e b) = short_so (keeps id) _ [] refl
   short_layer (Statement-F.Do id l e b) = short_so (keeps id) _ [] refl
   short_layer (Statement-F.For id l None e step b) = short_so (keeps id) _ [] refl
-  short_layer (Statement-F.For id l (Some a) e step b) = short_so (keeps id) _ _ (short_alone l (first_of (left p keeps a)))
+  short_layer (Statement-F.For id l (Some a) e step b) = short_so (keeps id) _ _ (short_alone l (first_statement (left p keeps a)))
   short_layer (Statement-F.Switch id l e arms) = short_so (keeps id) _ [] refl
   short_layer (Statement-F.Block l b) = short_block l (all_left p keeps b)
   short_layer (Statement-F.Return id l a) = short_so (keeps id) _ [] refl
@@ -162,34 +161,34 @@ module _ (p : Program) (keeps : ℕ → Bool) where
   -- ---- lists, arms and parts
 
   abbrev pub InList : List Statement → Statement → Type 0
-  InList xs x = Holds (any_kept (map (nest keeps) xs)) (all_fit (map (nest keeps) xs)) (either (map (refers keeps) xs)) (all_left p keeps xs) x
+  InList xs x = Holds (any_kept (map (nest keeps) xs)) (all_fit (map (nest keeps) xs)) (any_of (map (refers keeps) xs)) (all_left p keeps xs) x
 
   pub in_list : (xs : List Statement) {x : Statement} → Among xs x → InList xs x
   in_list [] h = among_none h
-  in_list (x ∷ xs) first = holds_first _ _ _ _ (refers keeps x) (either (map (refers keeps) xs)) (left p keeps x) (all_left p keeps xs) x (holds_itself x)
-  in_list (z ∷ xs) {x} (next h) = holds_second _ _ _ _ (refers keeps z) (either (map (refers keeps) xs)) (left p keeps z) (all_left p keeps xs) x (in_list xs h)
+  in_list (x ∷ xs) first = holds_first _ _ _ _ (refers keeps x) (any_of (map (refers keeps) xs)) (left p keeps x) (all_left p keeps xs) x (holds_itself x)
+  in_list (z ∷ xs) {x} (next h) = holds_second _ _ _ _ (refers keeps z) (any_of (map (refers keeps) xs)) (left p keeps z) (all_left p keeps xs) x (in_list xs h)
 
   abbrev InArm : Arm → Statement → Type 0
-  InArm a x = Holds (arm_nest keeps a).keeps (arm_nest keeps a).fits (refers_to_arm p keeps a) (out-Arm (arm_left p keeps a)).body x
+  InArm a x = Holds (arm_nest keeps a).keeps (arm_nest keeps a).fits (arm_refers keeps a) (out-Arm (arm_left p keeps a)).body x
 
   in_arm : (a : Arm) (x : Statement) → Among (out-Arm a).body x → InArm a x
   in_arm a x h =
-      subst (λ (m : Nest). Holds m.keeps m.fits (refers_to_arm p keeps a) (out-Arm (arm_left p keeps a)).body x) (sym (fold_out-Arm Nest Nest (nest_step keeps) (nest_arm keeps) a))
+      subst (λ (m : Nest). Holds m.keeps m.fits (arm_refers keeps a) (out-Arm (arm_left p keeps a)).body x) (sym (fold_out-Arm Nest Nest (nest_step keeps) (nest_arm keeps) a))
       (subst (λ (n : ℕ → Bool). Holds (any_kept (map (nest keeps) (out-Arm a).body)) (all_fit (map (nest keeps) (out-Arm a).body)) n (out-Arm (arm_left p keeps a)).body x) (sym (fold_out-Arm (ℕ → Bool) (ℕ → Bool) (refers_step keeps) (refers_arm keeps) a))
-      (subst (λ (b : Arm). Holds (any_kept (map (nest keeps) (out-Arm a).body)) (all_fit (map (nest keeps) (out-Arm a).body)) (either (map (refers keeps) (out-Arm a).body)) (out-Arm b).body x) (sym (fold_out-Arm (List Statement) Arm (projected_step (kept p keeps) same_numbers) (projected_arm_step (kept p keeps) same_numbers) a)) (in_list (out-Arm a).body h)))
+      (subst (λ (b : Arm). Holds (any_kept (map (nest keeps) (out-Arm a).body)) (all_fit (map (nest keeps) (out-Arm a).body)) (any_of (map (refers keeps) (out-Arm a).body)) (out-Arm b).body x) (sym (fold_out-Arm (List Statement) Arm (projected_step (kept p keeps) same_numbers) (projected_arm_step (kept p keeps) same_numbers) a)) (in_list (out-Arm a).body h)))
 
   abbrev pub InArms : List Arm → Statement → Type 0
-  InArms arms x = Holds (any_kept (map (arm_nest keeps) arms)) (all_fit (map (arm_nest keeps) arms)) (either (map (refers_to_arm p keeps) arms)) (arms_inner (map (arm_left p keeps) arms)) x
+  InArms arms x = Holds (any_kept (map (arm_nest keeps) arms)) (all_fit (map (arm_nest keeps) arms)) (any_of (map (arm_refers keeps) arms)) (arms_inner (map (arm_left p keeps) arms)) x
 
   pub in_arms : (arms : List Arm) (x : Statement) → Among (arms_inner arms) x → InArms arms x
   in_arms [] x h = among_none h
   in_arms (a ∷ arms) x h = elim (among_split (out-Arm a).body h) [
-    | inl b ↦ holds_first _ _ _ _ (refers_to_arm p keeps a) (either (map (refers_to_arm p keeps) arms)) (out-Arm (arm_left p keeps a)).body (arms_inner (map (arm_left p keeps) arms)) x (in_arm a x b)
-    | inr r ↦ holds_second _ _ _ _ (refers_to_arm p keeps a) (either (map (refers_to_arm p keeps) arms)) (out-Arm (arm_left p keeps a)).body (arms_inner (map (arm_left p keeps) arms)) x (in_arms arms x r)
+    | inl b ↦ holds_first _ _ _ _ (arm_refers keeps a) (any_of (map (arm_refers keeps) arms)) (out-Arm (arm_left p keeps a)).body (arms_inner (map (arm_left p keeps) arms)) x (in_arm a x b)
+    | inr r ↦ holds_second _ _ _ _ (arm_refers keeps a) (any_of (map (arm_refers keeps) arms)) (out-Arm (arm_left p keeps a)).body (arms_inner (map (arm_left p keeps) arms)) x (in_arms arms x r)
   ]
 
   abbrev pub of_part : Statement → List Statement
-  of_part a = option_to_list (first_of (left p keeps a))
+  of_part a = option_to_list (first_statement (left p keeps a))
 
   abbrev pub InPart : Statement → Statement → Type 0
   InPart a x = Holds (nest keeps a).keeps (nest keeps a).fits (refers keeps a) (of_part a) x

@@ -2,7 +2,6 @@
 use Rattle.std.proofs.Common.{◌≡◌, ℕ, zero, suc, List, [], ◌∷◌, ◌++◌, map, Option, Some, None, Bool, true, false, codes, refl, sym, ap, ◌∙◌, subst, eq-eqb, ap₂}
 use Rattle.std.specs.Prelude.{◌||◌, slice_get, option_map}
 use Rattle.std.specs.Option.{option_map_or}
-use Rattle.std.proofs.lemmas.Bool.{or_left, or_right}
 use Rattle.c_tree.specs.declared.types.CType.{CType}
 use Rattle.c_tree.specs.declared.expr.Expr.{Expr, fold-roll-Expr, roll-Expr, map-Expr}
 use Rattle.c_tree.specs.declared.expr.Expr.TheOpen.{Expr-F}
@@ -28,20 +27,11 @@ use Rattle.own_words.proofs.Lists.{three}
 use Rattle.own_words.proofs.Exprs.{renamed_layer, fold_renamed}
 use Rattle.own_words.proofs.Names.{get-projected}
 use Rattle.projection.proofs.RankLemmas.{rank_of_each}
+use Rattle.projection.proofs.NamesPass.{NamesPass, left_pass, right_pass}
 
 -- each function keeps its number
 abbrev pub same_numbers : ℕ → ℕ
 same_numbers = rank (λ f. true)
-
--- each variable that an expression names passes the test
-abbrev pub NamesPass : (ℕ → Bool) → (ℕ → Bool) → Type 0
-NamesPass named test = (x : ℕ) → named x ≡ true → test x ≡ true
-
-pub left_pass : (a b : ℕ → Bool) {test : ℕ → Bool} → NamesPass (λ x. a x || b x) test → NamesPass a test
-left_pass a b h x n = h x (or_left (a x) (b x) n)
-
-pub right_pass : (a b : ℕ → Bool) {test : ℕ → Bool} → NamesPass (λ x. a x || b x) test → NamesPass b test
-right_pass a b h x n = h x (or_right (a x) (b x) n)
 
 module _ (p : Program) (keeps : ℕ → Bool) where
   abbrev pub kept : Kept

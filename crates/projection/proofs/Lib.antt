@@ -1,4 +1,5 @@
 pub mod RankLemmas
 pub mod MarkLemmas
 pub mod NameForms
+pub mod NamesPass
 pub mod WholeLemmas

@@ -7,9 +7,9 @@ use Rattle.c_tree.specs.declared.expr.Expr.TheVariants as e
 use Rattle.c_tree.specs.declared.statement.Statement.{Statement, fold-roll-Statement}
 use Rattle.c_tree.specs.declared.statement.Statement.TheOpen.{Statement-F}
 use Rattle.c_tree.specs.declared.statement.Statement.TheVariants as s
-use Rattle.c_tree.specs.declared.statement.Arm.{Arm, fold-Arm, fold-roll-Arm}
-use Rattle.projection.specs.Names.{names_step, names, either, refers_step, refers_arm, refers, body_refers}
-use Rattle.projection.specs.Marks.{part_refers, arms_refer}
+use Rattle.c_tree.specs.declared.statement.Arm.{Arm, fold-roll-Arm}
+use Rattle.projection.specs.Names.{names_step, names, any_of, refers_step, refers_arm, refers, arm_refers, body_refers}
+use Rattle.projection.specs.Referring.{part_refers, arms_refer}
 
 pub names-Binary : (op : BinaryOp) (a b : Expr) (x : ℕ) → names (e.Binary op a b) x ≡ (names a x || names b x)
 names-Binary op a b x =
@@ -39,36 +39,33 @@ names_two t a b (inr (inr (inl is))) x = ap (λ z. names z x) is ∙ names-OrEls
 names_two t a b (inr (inr (inr is))) x = ap (λ z. names z x) is ∙ names-Index a b x
 
 module _ (keeps : ℕ → Bool) where
-  either-body : (b : List Statement) (x : ℕ) → either (map (refers keeps) b) x ≡ body_refers keeps b x
-  either-body [] x = refl
-  either-body (y ∷ b) x = ap (λ r. refers keeps y x || r) (either-body b x)
+  pub any_of-body : (b : List Statement) (x : ℕ) → any_of (map (refers keeps) b) x ≡ body_refers keeps b x
+  any_of-body [] x = refl
+  any_of-body (y ∷ b) x = ap (λ r. refers keeps y x || r) (any_of-body b x)
 
-  abbrev of_arm : Arm → ℕ → Bool
-  of_arm = fold-Arm (ℕ → Bool) (ℕ → Bool) (refers_step keeps) (refers_arm keeps)
-
-  arm_is : (a : Arm) (x : ℕ) → of_arm a x ≡ body_refers keeps a.body x
+  arm_is : (a : Arm) (x : ℕ) → arm_refers keeps a x ≡ body_refers keeps a.body x
   arm_is a x =
-      ap (λ (f : ℕ → Bool). f x) (fold-roll-Arm (ℕ → Bool) (ℕ → Bool) (refers_step keeps) (refers_arm keeps) (record { labels = a.labels; body = a.body })) ∙ either-body a.body x
+      ap (λ (f : ℕ → Bool). f x) (fold-roll-Arm (ℕ → Bool) (ℕ → Bool) (refers_step keeps) (refers_arm keeps) (record { labels = a.labels; body = a.body })) ∙ any_of-body a.body x
 
-  either-arms : (arms : List Arm) (x : ℕ) → either (map of_arm arms) x ≡ arms_refer keeps arms x
-  either-arms [] x = refl
-  either-arms (a ∷ arms) x = ap (λ r. r || either (map of_arm arms) x) (arm_is a x) ∙ ap (λ r. body_refers keeps a.body x || r) (either-arms arms x)
+  any_of-arms : (arms : List Arm) (x : ℕ) → any_of (map (arm_refers keeps) arms) x ≡ arms_refer keeps arms x
+  any_of-arms [] x = refl
+  any_of-arms (a ∷ arms) x = ap (λ r. r || any_of (map (arm_refers keeps) arms) x) (arm_is a x) ∙ ap (λ r. body_refers keeps a.body x || r) (any_of-arms arms x)
 
   pub refers-Block : (l : ℕ) (b : List Statement) (x : ℕ) → refers keeps (s.Block l b) x ≡ body_refers keeps b x
   refers-Block l b x =
-      ap (λ t. refers keeps t x) (sym (s.rolls-Block l b)) ∙ ap (λ (f : ℕ → Bool). f x) (fold-roll-Statement (ℕ → Bool) (ℕ → Bool) (refers_step keeps) (refers_arm keeps) (Statement-F.Block l b)) ∙ either-body b x
+      ap (λ t. refers keeps t x) (sym (s.rolls-Block l b)) ∙ ap (λ (f : ℕ → Bool). f x) (fold-roll-Statement (ℕ → Bool) (ℕ → Bool) (refers_step keeps) (refers_arm keeps) (Statement-F.Block l b)) ∙ any_of-body b x
 
   pub refers-If : (id l : ℕ) (e : Expr) (a b : List Statement) (x : ℕ) → refers keeps (s.If id l e a b) x ≡ ((keeps id && names e x) || (body_refers keeps a x || body_refers keeps b x))
   refers-If id l e a b x =
-      ap (λ t. refers keeps t x) (sym (s.rolls-If id l e a b)) ∙ ap (λ (f : ℕ → Bool). f x) (fold-roll-Statement (ℕ → Bool) (ℕ → Bool) (refers_step keeps) (refers_arm keeps) (Statement-F.If id l e a b)) ∙ (ap (λ r. (keeps id && names e x) || (r || either (map (refers keeps) b) x)) (either-body a x) ∙ ap (λ r. (keeps id && names e x) || (body_refers keeps a x || r)) (either-body b x))
+      ap (λ t. refers keeps t x) (sym (s.rolls-If id l e a b)) ∙ ap (λ (f : ℕ → Bool). f x) (fold-roll-Statement (ℕ → Bool) (ℕ → Bool) (refers_step keeps) (refers_arm keeps) (Statement-F.If id l e a b)) ∙ (ap (λ r. (keeps id && names e x) || (r || any_of (map (refers keeps) b) x)) (any_of-body a x) ∙ ap (λ r. (keeps id && names e x) || (body_refers keeps a x || r)) (any_of-body b x))
 
   refers-While : (id l : ℕ) (e : Expr) (b : List Statement) (x : ℕ) → refers keeps (s.While id l e b) x ≡ ((keeps id && names e x) || body_refers keeps b x)
   refers-While id l e b x =
-      ap (λ t. refers keeps t x) (sym (s.rolls-While id l e b)) ∙ ap (λ (f : ℕ → Bool). f x) (fold-roll-Statement (ℕ → Bool) (ℕ → Bool) (refers_step keeps) (refers_arm keeps) (Statement-F.While id l e b)) ∙ ap (λ r. (keeps id && names e x) || r) (either-body b x)
+      ap (λ t. refers keeps t x) (sym (s.rolls-While id l e b)) ∙ ap (λ (f : ℕ → Bool). f x) (fold-roll-Statement (ℕ → Bool) (ℕ → Bool) (refers_step keeps) (refers_arm keeps) (Statement-F.While id l e b)) ∙ ap (λ r. (keeps id && names e x) || r) (any_of-body b x)
 
   refers-Do : (id l : ℕ) (e : Expr) (b : List Statement) (x : ℕ) → refers keeps (s.Do id l e b) x ≡ ((keeps id && names e x) || body_refers keeps b x)
   refers-Do id l e b x =
-      ap (λ t. refers keeps t x) (sym (s.rolls-Do id l e b)) ∙ ap (λ (f : ℕ → Bool). f x) (fold-roll-Statement (ℕ → Bool) (ℕ → Bool) (refers_step keeps) (refers_arm keeps) (Statement-F.Do id l e b)) ∙ ap (λ r. (keeps id && names e x) || r) (either-body b x)
+      ap (λ t. refers keeps t x) (sym (s.rolls-Do id l e b)) ∙ ap (λ (f : ℕ → Bool). f x) (fold-roll-Statement (ℕ → Bool) (ℕ → Bool) (refers_step keeps) (refers_arm keeps) (Statement-F.Do id l e b)) ∙ ap (λ r. (keeps id && names e x) || r) (any_of-body b x)
 
   -- both loops that test alone refer to what their tests and bodies do
   pub refers_loop : (t : Statement) (id : ℕ) (e : Expr) (b : List Statement) → ((l : ℕ) × (t ≡ s.While id l e b)) ⊎ ((l : ℕ) × (t ≡ s.Do id l e b)) → (x : ℕ) → refers keeps t x ≡ ((keeps id && names e x) || body_refers keeps b x)
@@ -77,10 +74,10 @@ module _ (keeps : ℕ → Bool) where
 
   pub refers-Switch : (id l : ℕ) (e : Expr) (arms : List Arm) (x : ℕ) → refers keeps (s.Switch id l e arms) x ≡ ((keeps id && names e x) || arms_refer keeps arms x)
   refers-Switch id l e arms x =
-      ap (λ t. refers keeps t x) (sym (s.rolls-Switch id l e arms)) ∙ ap (λ (f : ℕ → Bool). f x) (fold-roll-Statement (ℕ → Bool) (ℕ → Bool) (refers_step keeps) (refers_arm keeps) (Statement-F.Switch id l e arms)) ∙ ap (λ r. (keeps id && names e x) || r) (either-arms arms x)
+      ap (λ t. refers keeps t x) (sym (s.rolls-Switch id l e arms)) ∙ ap (λ (f : ℕ → Bool). f x) (fold-roll-Statement (ℕ → Bool) (ℕ → Bool) (refers_step keeps) (refers_arm keeps) (Statement-F.Switch id l e arms)) ∙ ap (λ r. (keeps id && names e x) || r) (any_of-arms arms x)
 
-  for_is : (own : Bool) (i step : Bool) (b : List Statement) (x : ℕ) → (own || (i || (step || either (map (refers keeps) b) x))) ≡ (own || (i || (step || body_refers keeps b x)))
-  for_is own i step b x = ap (λ r. own || (i || (step || r))) (either-body b x)
+  for_is : (own : Bool) (i step : Bool) (b : List Statement) (x : ℕ) → (own || (i || (step || any_of (map (refers keeps) b) x))) ≡ (own || (i || (step || body_refers keeps b x)))
+  for_is own i step b x = ap (λ r. own || (i || (step || r))) (any_of-body b x)
 
   pub refers-For : (id l : ℕ) (i : Option Statement) (e : Expr) (step : Option Statement) (b : List Statement) (x : ℕ) → refers keeps (s.For id l i e step b) x ≡ ((keeps id && names e x) || (part_refers keeps i x || (part_refers keeps step x || body_refers keeps b x)))
   refers-For id l None e None b x =

@@ -2,5 +2,5 @@ pub mod Kept
 pub mod Names
 pub mod Renumbering
 pub mod Projection
-pub mod Marks
+pub mod Referring
 pub mod Selected

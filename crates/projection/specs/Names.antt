@@ -13,6 +13,7 @@ use Rattle.c_tree.specs.declared.statement.Size.{Size}
 use Rattle.c_tree.specs.declared.statement.Size.TheVariants as size
 use Rattle.c_tree.specs.declared.statement.Target.{Target}
 use Rattle.c_tree.specs.declared.statement.Target.TheVariants as target
+use Rattle.c_tree.specs.declared.statement.Arm.{Arm, fold-Arm}
 use Rattle.c_tree.specs.declared.statement.Statement.{Statement, fold-Statement}
 use Rattle.c_tree.specs.declared.statement.Statement.TheOpen.{Statement-F, Arm-F}
 
@@ -66,9 +67,9 @@ value_names None x = false
 value_names (Some e) x = names e x
 
 -- one of these names it
-abbrev pub either : List (ℕ → Bool) → ℕ → Bool
-either [] x = false
-either (a ∷ as_) x = a x || either as_ x
+abbrev pub any_of : List (ℕ → Bool) → ℕ → Bool
+any_of [] x = false
+any_of (a ∷ as_) x = a x || any_of as_ x
 
 abbrev pub if_any : Option (ℕ → Bool) → ℕ → Bool
 if_any None x = false
@@ -91,20 +92,23 @@ module _ (keeps : ℕ → Bool) where
   refers_step (Statement-F.Print id l format args) x = keeps id && any_names args x
   refers_step (Statement-F.Heap id l to cast n) x = keeps id && (target_names to x || amount_names n x)
   refers_step (Statement-F.Release id l e) x = keeps id && names e x
-  refers_step (Statement-F.If id l e a b) x = (keeps id && names e x) || (either a x || either b x)
-  refers_step (Statement-F.While id l e b) x = (keeps id && names e x) || either b x
-  refers_step (Statement-F.Do id l e b) x = (keeps id && names e x) || either b x
-  refers_step (Statement-F.For id l i e s b) x = (keeps id && names e x) || (if_any i x || (if_any s x || either b x))
-  refers_step (Statement-F.Switch id l e arms) x = (keeps id && names e x) || either arms x
-  refers_step (Statement-F.Block l b) x = either b x
+  refers_step (Statement-F.If id l e a b) x = (keeps id && names e x) || (any_of a x || any_of b x)
+  refers_step (Statement-F.While id l e b) x = (keeps id && names e x) || any_of b x
+  refers_step (Statement-F.Do id l e b) x = (keeps id && names e x) || any_of b x
+  refers_step (Statement-F.For id l i e s b) x = (keeps id && names e x) || (if_any i x || (if_any s x || any_of b x))
+  refers_step (Statement-F.Switch id l e arms) x = (keeps id && names e x) || any_of arms x
+  refers_step (Statement-F.Block l b) x = any_of b x
   refers_step (Statement-F.Return id l e) x = keeps id && value_names e x
 
   abbrev pub refers_arm : Arm-F (ℕ → Bool) (ℕ → Bool) → ℕ → Bool
-  refers_arm a x = either a.body x
+  refers_arm a x = any_of a.body x
 
   -- whether the kept statements of a statement refer to a variable
   abbrev pub refers : Statement → ℕ → Bool
   refers = fold-Statement (ℕ → Bool) (ℕ → Bool) refers_step refers_arm
+
+  abbrev pub arm_refers : Arm → ℕ → Bool
+  arm_refers = fold-Arm (ℕ → Bool) (ℕ → Bool) refers_step refers_arm
 
   abbrev pub body_refers : List Statement → ℕ → Bool
   body_refers [] x = false

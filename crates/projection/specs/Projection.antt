@@ -47,13 +47,13 @@ abbrev pub is_declaring : Statement → Bool
 is_declaring = fold-Statement Bool Bool declaring_step declaring_arm
 
 -- the first statement of what stays of a part of a for
-abbrev pub first_of : List Statement → Option Statement
-first_of [] = None
-first_of (x ∷ xs) = Some x
+abbrev pub first_statement : List Statement → Option Statement
+first_statement [] = None
+first_statement (x ∷ xs) = Some x
 
 abbrev pub part_of : Option (List Statement) → Option Statement
 part_of None = None
-part_of (Some xs) = first_of xs
+part_of (Some xs) = first_statement xs
 
 -- what a for begins with, without the for: where it declares, in a block of its own
 abbrev pub alone : ℕ → Option Statement → List Statement

@@ -12,7 +12,7 @@ use Rattle.c_tree.specs.declared.statement.Statement.TheVariants as s
 use Rattle.projection.specs.declared.statements.Selection.{Selection}
 use Rattle.projection.specs.Kept.{Kept, rank}
 use Rattle.projection.specs.Renumbering.{renamed}
-use Rattle.projection.specs.Projection.{if_so, first_of, projected, projected_arm, projected_all, projected_item, projected_items, projected_vars, projected_function, projected_functions, alone}
+use Rattle.projection.specs.Projection.{if_so, first_statement, projected, projected_arm, projected_all, projected_item, projected_items, projected_vars, projected_function, projected_functions, alone}
 
 -- the new number of a number that passes the test
 abbrev pub number_of : (ℕ → Bool) → ℕ → Option ℕ
@@ -37,7 +37,7 @@ all_left c = projected_all (kept_by c) same
 
 abbrev pub part_left : Selection → Option Statement → Option Statement
 part_left c None = None
-part_left c (Some x) = first_of (left c x)
+part_left c (Some x) = first_statement (left c x)
 
 abbrev pub arm_left : Selection → Arm → Arm
 arm_left c = projected_arm (kept_by c) same

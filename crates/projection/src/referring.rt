@@ -1,7 +1,7 @@
 //! The variables that kept text refers to, by one walk down the tree.
 ghost use Rattle.std.specs.Prelude.{◌≡◌, ℕ, ◌==◌, ◌&&◌, ◌||◌, OnOk, IfOk};
 ghost use Rattle.bit_rows.specs.Sets.{has};
-ghost use Rattle.projection.specs.Marks.{Adds, part_refers, arms_refer, functions_refer};
+ghost use Rattle.projection.specs.Referring.{Adds, part_refers, arms_refer, functions_refer};
 ghost use Rattle.projection.specs.Names as spec;
 
 use crate::ranks::is_kept;

@@ -26,14 +26,14 @@ use Rattle.projection.specs.Kept.{Kept}
 use Rattle.projection.specs.Names.{stays}
 use Rattle.built_forms.specs.IntegerForms.{IsIntegerMain}
 use Rattle.c_scope_laws.specs.Thinning.{declares, after_list, part_scope}
-use Rattle.c_scope_laws.specs.ThinnedBodies.{AreMet, Left, ArmLeft, these, all_left, strays, gone, beyond, part_needs, part_gone, arms_needs, arms_gone, alone, alone_all, alone_one, block_of, plain, declared, if_left, while_left, do_left, for_left, switch_left, left, left_arm, body_left}
-use Rattle.c_scope_laws.proofs.ThinnedBodies.{both_met, none_strays}
+use Rattle.c_scope_laws.specs.ThinnedBodies.{AreMet, Left, ArmLeft, these, all_left, strays, gone, beyond, part_needs, part_gone, arms_needs, arms_gone, left_alone, alone_all, alone_one, block_of, plain, declared, if_left, while_left, do_left, for_left, switch_left, left, left_arm, body_left}
+use Rattle.c_scope_laws.proofs.ThinnedBodies.{both_met, none_strays, left_after}
 use Rattle.c_thin_trees.proofs.LeftForms.{left-Declare, left-Assign, left-Bump, left-Call, left-While, left-Do, left-Switch, left-Block, left-Return, left-arm}
 use Rattle.projection_laws.specs.Nested.{governs, IsNested}
-use Rattle.projection_laws.specs.Staying.{Rest, any_stays, all_clear, part_stays, part_clear, rest_step, rest_arm, rest, is_clear, IsClear}
+use Rattle.projection_laws.specs.Staying.{Rest, any_stays, all_clear, part_stays, part_clear, rest_step, rest_arm, rest, arm_rest, is_clear, IsClear}
 use Rattle.projection_laws.proofs.IntegerTexts.{Is, Are, IsPart, ArmsAre}
-use Rattle.projection_laws.proofs.StatementForms.{arm_rest, rest-Declare, rest-Assign, rest-Bump, rest-Write, rest-Print, rest-If, rest-While, rest-Do, rest-For, rest-Switch, rest-Block, rest-Return, rest-arm}
-use Rattle.projection_laws.proofs.LeftScopes.{left_after, arm_after, left_of_if, left_of_for}
+use Rattle.projection_laws.proofs.StatementForms.{rest-Declare, rest-Assign, rest-Bump, rest-Write, rest-Print, rest-If, rest-While, rest-Do, rest-For, rest-Switch, rest-Block, rest-Return, rest-arm}
+use Rattle.projection_laws.proofs.LeftScopes.{arm_after, left_of_if, left_of_for}
 use Rattle.projection_laws.proofs.Going.{kept_of}
 use Rattle.projection_laws.proofs.ClosedMains.{IsMetMain}
 use Rattle.projection_laws.proofs.WellFormedProjections.{text_met}
@@ -150,7 +150,7 @@ module _ (raw : RawProgram) (vars keeps : ℕ → Bool) where
       by_form false false m h = absurd m.0
   none_alone is_plain l (x ∷ (y ∷ xs)) m h = absurd m.0
 
-  part_alone : {i : Option Left} {r : Option Rest} (l : ℕ) → PartShows i r → AreMet k (alone l i).needs → (part_clear r ≡ true) × ((alone l i).some ≡ [] → part_stays r ≡ false)
+  part_alone : {i : Option Left} {r : Option Rest} (l : ℕ) → PartShows i r → AreMet k (left_alone l i).needs → (part_clear r ≡ true) × ((left_alone l i).some ≡ [] → part_stays r ≡ false)
   part_alone n PartShows.missing m = (refl, λ h. refl)
   part_alone n (PartShows.there {l} f) m =
       let s = both_met k l.needs (alone_all l.is_plain n l.some).needs m in
@@ -162,7 +162,7 @@ module _ (raw : RawProgram) (vars keeps : ℕ → Bool) where
       let n = both_met k (part_needs i) (part_needs step ++ b.needs) m.1 in
       let o = both_met k (part_needs step) b.needs n.1 in (and_from _ _ (part_kept f n.0) (and_from _ _ (part_kept g o.0) (h o.1).0), λ q. no_list q)
   for_shows false l {i} a {step} b test rs f g h m =
-      let n = both_met k (alone l i).needs (part_gone step ++ gone b) m in
+      let n = both_met k (left_alone l i).needs (part_gone step ++ gone b) m in
       let o = both_met k (part_gone step) (gone b) n.1 in
       let begun = part_alone l f n.0 in
       let p = part_bare g o.0 in

@@ -16,10 +16,9 @@ use Rattle.c_language.specs.ConstantEvaluation.{both, constant_step, constant, v
 use Rattle.c_language.specs.Scopes.{Scope}
 use Rattle.c_language.specs.Uses.{operands_of, whole, deeper, cases}
 use Rattle.c_language.specs.ProgramOf.{collected, expr_of, label_tree}
-use Rattle.c_language.proofs.Options.{none_there}
+use Rattle.c_language.proofs.Options.{none_there, map_there, then_there, more_there}
 use Rattle.c_scope_laws.specs.Agreement.{NamedIn}
 use Rattle.c_scope_laws.proofs.Trees.{in_none, in_one}
-use Rattle.projection_laws.proofs.Options.{map_there, then_there, more_there}
 use Rattle.projection_laws.proofs.IntegerTexts.{NoNames}
 
 map_none : {A B : Type 0} (f : A → B) (o : Option A) → o ≡ None → option_map f o ≡ None
@@ -84,8 +83,8 @@ labels_name raw scope i [] ls h x (a, (k, within, is), n) = absurd (omega (arith
 labels_name raw scope i (Case a ∷ rest) ls h x (b, (zero, within, is), n) =
     let m = more_there (label_tree raw scope i (Case a)) (map (label_tree raw scope i) rest) ls h in
     let p = then_there _ (expr_of raw scope a) m.first m.first_there in
-    let q = map_there _ (value_of_constant a) m.first p.1.1 in
-    value_names x q.1.0 (subst (λ (z : RawExpr). NamedIn z x) (sym is) n)
+    let q = map_there _ (value_of_constant a) m.first p.same in
+    value_names x q.there (subst (λ (z : RawExpr). NamedIn z x) (sym is) n)
 labels_name raw scope i (Case a ∷ rest) ls h x (b, (suc k, within, is), n) =
     let m = more_there (label_tree raw scope i (Case a)) (map (label_tree raw scope i) rest) ls h in
     labels_name raw scope i rest m.rest m.rest_there x (b, (k, omega (arith, within), is), n)

@@ -32,20 +32,19 @@ use Rattle.c_tree.specs.declared.raw.statement.RawStatement.TheVariants as s
 use Rattle.c_language.specs.Words.{Bytes}
 use Rattle.c_language.specs.Scopes.{Scope, Meaning, Entry, with_variable, with_target, opened, numbered, begun, Scoped, in_order, after_part, part_gives, scope_of_test, after_step}
 use Rattle.c_language.specs.Phrases.{Stand, InBlock, InArm, InFor, Part, Declares, Calls, Allocates, Phrase, Phrases, phrase, begun_phrases, declaration, target_phrases, joined_at, at_stand, ArmText, phrases_of_arms, block_phrases, phrases_step, scoped_step, scoped_arm, scoped, scoped_of_arm}
-use Rattle.c_language.specs.Uses.{is_library_function, is_library_name, is_one_of, cases, arg_exprs}
+use Rattle.c_language.specs.Uses.{is_library_function, is_library_name, is_among, cases, arg_exprs}
 use Rattle.c_language.specs.Rules.{Breaks}
 use Rattle.c_language.specs.NameRules.{DeclaresLibraryName}
 use Rattle.c_language.specs.SwitchRules.{MisplacesDeclaration}
 use Rattle.c_language.specs.CallRules.{MisusesResult, without_result, format_in, only_arg, later_args}
 use Rattle.c_language.specs.ProgramOf.{collected, expr_of, args_tree, only_tree, print_tree, invoke_tree, call_tree, ArmTree, arm_tree, at_type, part_tree, block_tree, tree_step, treed_step, arm_tree_step, treed, target_tree, switch_type, label_tree, init_of, ctype_if, amount_tree, treed_arm}
 use Rattle.c_language.specs.TypeGrammar.{named_type}
-use Rattle.c_language.proofs.Options.{none_there, some_same, optional_there}
+use Rattle.c_language.proofs.Options.{none_there, some_same, optional_there, map_there, then_there, both_there, more_there}
 use Rattle.c_language.proofs.Tests.{false_true}
 use Rattle.c_language.proofs.Lists.{contains_first, contains_later, same_bytes}
 use Rattle.c_language.proofs.TreeScopes.{after_same, list_after, block_after_same, part_after}
 use Rattle.built_forms.specs.IntegerForms.{integer_init, is_integer_statement, is_integer_arm}
 use Rattle.c_scope_laws.specs.Thinning.{found, after_list, block_after, part_scope, body_scope}
-use Rattle.projection_laws.proofs.Options.{map_there, then_there, both_there, more_there}
 use Rattle.projection_laws.proofs.IntegerTexts.{NoVariable, IsQuiet, NoNames, StartsSimple, Is, Are, IsPart, ArmsAre}
 use Rattle.c_print_laws.proofs.ForParts.{Form, all_tidy, is_single_part, form_step, form_arm, form_of, form_of_arm, are_tidy}
 use Rattle.projection_laws.proofs.StatementForms.{integer-Declare, integer-Invoke, integer-Fetch, integer-Heap, integer-Release, integer-If, integer-While, integer-Do, integer-For, integer-Switch, integer-Block, integer-arm}
@@ -55,8 +54,8 @@ use Rattle.c_language.specs.Lists.{if_there, all_true}
 
 -- ---- names of the library
 
-called_is : (f : Bytes) → is_one_of without_result f ≡ true → is_library_function f ≡ true
-called_is f h = or_right (bytes_eq f (codes "getchar")) (is_one_of without_result f) h
+called_is : (f : Bytes) → is_among without_result f ≡ true → is_library_function f ≡ true
+called_is f h = or_right (bytes_eq f (codes "getchar")) (is_among without_result f) h
 
 library_is : (f : Bytes) → is_library_function f ≡ true → is_library_name f ≡ true
 library_is f h =
@@ -68,15 +67,15 @@ abbrev CleanName : Bytes → Meaning → Type 0
 CleanName x (Meaning.Variable id t) = is_library_function x ≡ false
 CleanName x Meaning.Function = Unit {0}
 
-abbrev pub AreClean : List Entry → Type 0
-AreClean [] = Unit {0}
-AreClean (e ∷ es) = CleanName e.name e.meaning × AreClean es
+abbrev pub AreOwnNames : List Entry → Type 0
+AreOwnNames [] = Unit {0}
+AreOwnNames (e ∷ es) = CleanName e.name e.meaning × AreOwnNames es
 
-pub clean_more : (es : List Entry) (e : Entry) → AreClean es → CleanName e.name e.meaning → AreClean (es ++ e ∷ [])
+pub clean_more : (es : List Entry) (e : Entry) → AreOwnNames es → CleanName e.name e.meaning → AreOwnNames (es ++ e ∷ [])
 clean_more [] e c h = (h, tt)
 clean_more (x ∷ es) e c h = (c.0, clean_more es e c.1 h)
 
-clean_found : (x : Bytes) (es : List Entry) → is_library_function x ≡ true → AreClean es → NoVariable (found x es)
+clean_found : (x : Bytes) (es : List Entry) → is_library_function x ≡ true → AreOwnNames es → NoVariable (found x es)
 clean_found x [] h c = tt
 clean_found x (e ∷ es) h c = by_name (bytes_eq x e.name) refl e.meaning refl (clean_found x es h c.1)
   where
@@ -106,27 +105,27 @@ module _ (raw : RawProgram) where
     prints : {text : Bytes} {ws : List Expr} → format_in args ≡ Some text → args_tree raw scope (later_args args) ≡ Some ws → CallIs scope n l args (t.Print n l text ws)
 
   module _ (scope : Scope) (n l : ℕ) (to : Option Target) (f : Bytes) (args : List RawArg) where
-    call_is : (y : Statement) → call_tree raw scope n l to f args ≡ Some y → is_integer_statement y ≡ true → CallIs scope n l args y × (is_one_of without_result f ≡ true)
+    call_is : (y : Statement) → call_tree raw scope n l to f args ≡ Some y → is_integer_statement y ≡ true → CallIs scope n l args y × (is_among without_result f ≡ true)
     call_is y at h = by_getchar (bytes_eq f (codes "getchar")) refl (bytes_eq f (codes "putchar")) refl (bytes_eq f (codes "printf")) refl (bytes_eq f (codes "free")) refl at
       where
         by_getchar : (a : Bool) → bytes_eq f (codes "getchar") ≡ a → (b : Bool) → bytes_eq f (codes "putchar") ≡ b → (c : Bool) → bytes_eq f (codes "printf") ≡ c → (d : Bool) → bytes_eq f (codes "free") ≡ d
             → (if a then option_map (t.Fetch n l) to else (if b then option_map (t.Write n l) (only_tree raw scope args) else (if c then print_tree raw scope n l args
-            else (if d then option_map (t.Release n l) (only_tree raw scope args) else invoke_tree raw scope n l to f args)))) ≡ Some y → CallIs scope n l args y × (is_one_of without_result f ≡ true)
-        by_getchar true p b q c r d u is = let g = map_there (t.Fetch n l) to y is in false_true (sym (integer-Fetch n l g.0) ∙ ap is_integer_statement g.1.1 ∙ h)
+            else (if d then option_map (t.Release n l) (only_tree raw scope args) else invoke_tree raw scope n l to f args)))) ≡ Some y → CallIs scope n l args y × (is_among without_result f ≡ true)
+        by_getchar true p b q c r d u is = let g = map_there (t.Fetch n l) to y is in false_true (sym (integer-Fetch n l g.value) ∙ ap is_integer_statement g.same ∙ h)
         by_getchar false p true q c r d u is =
             let g = map_there (t.Write n l) (only_tree raw scope args) y is in
-            let o = then_there (expr_of raw scope) (only_arg args) g.0 g.1.0 in
-            (subst (CallIs scope n l args) g.1.1 (writes o.1.0 o.1.1), ap (λ (x : Bool). x || (bytes_eq f (codes "printf") || (bytes_eq f (codes "free") || false))) q)
+            let o = then_there (expr_of raw scope) (only_arg args) g.value g.there in
+            (subst (CallIs scope n l args) g.same (writes o.there o.same), ap (λ (x : Bool). x || (bytes_eq f (codes "printf") || (bytes_eq f (codes "free") || false))) q)
         by_getchar false p false q true r d u is =
             let g = then_there (λ (text : Bytes). option_map (t.Print n l text) (args_tree raw scope (later_args args))) (format_in args) y is in
-            let o = map_there (t.Print n l g.0) (args_tree raw scope (later_args args)) y g.1.1 in
-            (subst (CallIs scope n l args) o.1.1 (prints g.1.0 o.1.0), ap₂ (λ (x z : Bool). x || (z || (bytes_eq f (codes "free") || false))) q r)
+            let o = map_there (t.Print n l g.value) (args_tree raw scope (later_args args)) y g.same in
+            (subst (CallIs scope n l args) o.same (prints g.there o.there), ap₂ (λ (x z : Bool). x || (z || (bytes_eq f (codes "free") || false))) q r)
         by_getchar false p false q false r true u is =
-            let g = map_there (t.Release n l) (only_tree raw scope args) y is in false_true (sym (integer-Release n l g.0) ∙ ap is_integer_statement g.1.1 ∙ h)
+            let g = map_there (t.Release n l) (only_tree raw scope args) y is in false_true (sym (integer-Release n l g.value) ∙ ap is_integer_statement g.same ∙ h)
         by_getchar false p false q false r false u is =
             let g = then_there _ to y is in
-            let o = both_there (t.Invoke n l g.0) _ (args_tree raw scope args) y g.1.1 in
-            false_true (sym (integer-Invoke n l g.0 o.first o.second) ∙ ap is_integer_statement o.same ∙ h)
+            let o = both_there (t.Invoke n l g.value) _ (args_tree raw scope args) y g.same in
+            false_true (sym (integer-Invoke n l g.value o.left o.right) ∙ ap is_integer_statement o.same ∙ h)
 
   -- ---- phrases that break no rule, whose variables are of integer types
 
@@ -171,17 +170,17 @@ module _ (raw : RawProgram) where
   abbrev trees : RawStatement-F RawStatement RawArm → RawStatement-F (Scoped (Option Statement)) (Scoped ArmTree)
   trees y = map-RawStatement RawStatement RawArm (Scoped (Option Statement)) (Scoped ArmTree) (treed raw) (treed_arm raw) y
 
-  clean_begun : (i : RawInit) (scope : Scope) → AreClean scope.names → AreClean (begun i scope).names
+  clean_begun : (i : RawInit) (scope : Scope) → AreOwnNames scope.names → AreOwnNames (begun i scope).names
   clean_begun init.None scope c = c
   clean_begun (init.One a) scope c = c
   clean_begun (init.Items all) scope c = c
 
-  clean_target : (l : ℕ) (scope : Scope) (stand : Stand) (to : RawTarget) (qs : Phrases) → AreGood (target_phrases raw l scope stand to ++ qs) → AreClean scope.names → AreClean (with_target raw to scope).names
+  clean_target : (l : ℕ) (scope : Scope) (stand : Stand) (to : RawTarget) (qs : Phrases) → AreGood (target_phrases raw l scope stand to ++ qs) → AreOwnNames scope.names → AreOwnNames (with_target raw to scope).names
   clean_target l scope stand target.None qs g c = c
   clean_target l scope stand (target.Place a) qs g c = c
   clean_target l scope stand (target.Declared v) qs g c = clean_more scope.names _ c (quiet l scope stand v init.None (good_first _ _ g)).strange
 
-  clean_layer : (o : RawStatement-F RawStatement RawArm) (scope : Scope) (stand : Stand) → AreGood (phrases_step raw (texts o) scope stand) → AreClean scope.names → AreClean (after_step raw (texts o) scope).names
+  clean_layer : (o : RawStatement-F RawStatement RawArm) (scope : Scope) (stand : Stand) → AreGood (phrases_step raw (texts o) scope stand) → AreOwnNames scope.names → AreOwnNames (after_step raw (texts o) scope).names
   clean_layer (RawStatement-F.Declare l v i) scope stand g c = clean_begun i (with_variable raw v i scope) (clean_more scope.names _ c (quiet l scope stand v i (good_first _ _ g)).strange)
   clean_layer (RawStatement-F.Assign l a op b) scope stand g c = c
   clean_layer (RawStatement-F.Bump l a up before) scope stand g c = c
@@ -198,17 +197,17 @@ module _ (raw : RawProgram) where
   text_of : (x : RawStatement) → scoped raw x ≡ scoped_step raw (texts (out-RawStatement x))
   text_of x = ap (scoped raw) (sym (roll-out-RawStatement x)) ∙ fold-roll-RawStatement (Scoped (Stand → Phrases)) (Scoped ArmText) (scoped_step raw) scoped_arm (out-RawStatement x)
 
-  clean_statement : (x : RawStatement) (scope : Scope) (stand : Stand) → AreGood ((scoped raw x).gives scope stand) → AreClean scope.names → AreClean ((scoped raw x).after scope).names
+  clean_statement : (x : RawStatement) (scope : Scope) (stand : Stand) → AreGood ((scoped raw x).gives scope stand) → AreOwnNames scope.names → AreOwnNames ((scoped raw x).after scope).names
   clean_statement x scope stand =
-      subst (λ (u : Scoped (Stand → Phrases)). AreGood (u.gives scope stand) → AreClean scope.names → AreClean (u.after scope).names) (sym (text_of x)) (clean_layer (out-RawStatement x) scope stand)
+      subst (λ (u : Scoped (Stand → Phrases)). AreGood (u.gives scope stand) → AreOwnNames scope.names → AreOwnNames (u.after scope).names) (sym (text_of x)) (clean_layer (out-RawStatement x) scope stand)
 
-  clean_list : (xs : List RawStatement) (scope : Scope) (stand : Stand) → AreGood (joined_at stand (in_order (map (scoped raw) xs) scope)) → AreClean scope.names → AreClean (after_list raw xs scope).names
+  clean_list : (xs : List RawStatement) (scope : Scope) (stand : Stand) → AreGood (joined_at stand (in_order (map (scoped raw) xs) scope)) → AreOwnNames scope.names → AreOwnNames (after_list raw xs scope).names
   clean_list [] scope stand g c = c
   clean_list (x ∷ xs) scope stand g c =
       let rest = joined_at stand (in_order (map (scoped raw) xs) ((scoped raw x).after scope)) in
       clean_list xs ((scoped raw x).after scope) stand (good_right ((scoped raw x).gives scope stand) rest g) (clean_statement x scope stand (good_left ((scoped raw x).gives scope stand) rest g) c)
 
-  clean_part : (x : Option RawStatement) (scope : Scope) (stand : Stand) → AreGood (at_stand stand (part_gives (option_map (scoped raw) x) scope)) → AreClean scope.names → AreClean (after_part (option_map (scoped raw) x) scope).names
+  clean_part : (x : Option RawStatement) (scope : Scope) (stand : Stand) → AreGood (at_stand stand (part_gives (option_map (scoped raw) x) scope)) → AreOwnNames scope.names → AreOwnNames (after_part (option_map (scoped raw) x) scope).names
   clean_part None scope stand g c = c
   clean_part (Some x) scope stand g c = clean_statement x scope stand g c
 
@@ -246,7 +245,7 @@ module _ (raw : RawProgram) where
   -- ---- by layers
 
   abbrev Derived : RawStatement → Type 0
-  Derived x = (scope : Scope) (stand : Stand) (y : Statement) → (treed raw x).gives scope ≡ Some y → is_integer_statement y ≡ true → (form_of x).tidy ≡ true → AreGood ((scoped raw x).gives scope stand) → AreClean scope.names → Is raw scope x y
+  Derived x = (scope : Scope) (stand : Stand) (y : Statement) → (treed raw x).gives scope ≡ Some y → is_integer_statement y ≡ true → (form_of x).tidy ≡ true → AreGood ((scoped raw x).gives scope stand) → AreOwnNames scope.names → Is raw scope x y
 
   -- an arm of a switch
   record IsArm (scope : Scope) (x : RawArm) (y : Arm) : Type 0 where
@@ -258,11 +257,11 @@ module _ (raw : RawProgram) where
     pub tree : arm_tree given zs ≡ y
     pub none : NoNames (cases labels)
     pub are : Are raw scope body zs
-    pub clean : AreClean (after_list raw body scope).names
+    pub clean : AreOwnNames (after_list raw body scope).names
     pub still : (after_list raw body scope).names ≡ scope.names
 
   abbrev ArmDerived : RawArm → Type 0
-  ArmDerived x = (scope : Scope) (i : IntType) (y : Arm) → (treed_arm raw x).gives scope i ≡ Some y → is_integer_arm y ≡ true → (form_of_arm x).tidy ≡ true → AreGood ((scoped_of_arm raw x).gives scope).phrases → AreClean scope.names → IsArm scope x y
+  ArmDerived x = (scope : Scope) (i : IntType) (y : Arm) → (treed_arm raw x).gives scope i ≡ Some y → is_integer_arm y ≡ true → (form_of_arm x).tidy ≡ true → AreGood ((scoped_of_arm raw x).gives scope).phrases → AreOwnNames scope.names → IsArm scope x y
 
   abbrev Statements : Type 0
   Statements = List ((x : RawStatement) × Derived x)
@@ -284,7 +283,7 @@ module _ (raw : RawProgram) where
   bare_part (Some x) = Some x.0
 
   lists : (xs : Statements) (scope : Scope) (stand : Stand) (zs : List Statement) → collected (in_order (map (treed raw) (bare xs)) scope) ≡ Some zs → all_true (map is_integer_statement zs) ≡ true → are_tidy (bare xs) ≡ true
-      → AreGood (joined_at stand (in_order (map (scoped raw) (bare xs)) scope)) → AreClean scope.names → Are raw scope (bare xs) zs
+      → AreGood (joined_at stand (in_order (map (scoped raw) (bare xs)) scope)) → AreOwnNames scope.names → Are raw scope (bare xs) zs
   lists [] scope stand zs at h d g c = subst (Are raw scope []) (some_same at) Are.none
   lists (x ∷ xs) scope stand zs at h d g c =
       let next = (scoped raw x.0).after scope in
@@ -306,7 +305,7 @@ module _ (raw : RawProgram) where
   text_after labels body scope = ap (λ (u : Scoped ArmText). u.after scope) (fold-roll-RawArm (Scoped (Stand → Phrases)) (Scoped ArmText) (scoped_step raw) scoped_arm (record { labels = labels; body = body }))
 
   arms_lists : (xs : Arms) (scope : Scope) (i : IntType) (zs : List Arm) → at_type i (in_order (map (treed_arm raw) (bare_arms xs)) scope) ≡ Some zs → all_true (map is_integer_arm zs) ≡ true → all_tidy (map form_of_arm (bare_arms xs)) ≡ true
-      → AreGood (phrases_of_arms (in_order (map (scoped_of_arm raw) (bare_arms xs)) scope)) → AreClean scope.names → ArmsAre raw scope (bare_arms xs) zs
+      → AreGood (phrases_of_arms (in_order (map (scoped_of_arm raw) (bare_arms xs)) scope)) → AreOwnNames scope.names → ArmsAre raw scope (bare_arms xs) zs
   arms_lists [] scope i zs at h k g c = subst (ArmsAre raw scope []) (some_same at) ArmsAre.no_arms
   arms_lists (x ∷ xs) scope i zs at h k g c =
       let m = more_there ((treed_arm raw x.0).gives scope i) (map (λ (a : ArmTree). a i) (in_order (map (treed_arm raw) (bare_arms xs)) ((treed_arm raw x.0).after scope))) zs at in
@@ -324,7 +323,7 @@ module _ (raw : RawProgram) where
       (subst (λ (a : Arm). ArmsAre raw scope (arm d.labels d.body ∷ bare_arms xs) (a ∷ m.rest)) d.tree (ArmsAre.more_arms d.none d.still d.are later)))
 
   parts : (x : Piece) (scope : Scope) (stand : Stand) (z : Option Statement) → part_tree (option_map (treed raw) (bare_part x)) scope ≡ Some z → if_there (option_map is_integer_statement z) ≡ true → is_single_part (option_map form_of (bare_part x)) ≡ true
-      → AreGood (at_stand stand (part_gives (option_map (scoped raw) (bare_part x)) scope)) → AreClean scope.names → IsPart raw scope (bare_part x) z
+      → AreGood (at_stand stand (part_gives (option_map (scoped raw) (bare_part x)) scope)) → AreOwnNames scope.names → IsPart raw scope (bare_part x) z
   parts None scope stand z at h d g c = subst (IsPart raw scope None) (some_same at) IsPart.missing
   parts (Some x) scope stand z at h d g c =
       let o = optional_there ((treed raw x.0).gives scope) z at in
@@ -337,7 +336,7 @@ module _ (raw : RawProgram) where
   for_is : (i step : Piece) (b : Statements) (l : ℕ) (a : RawExpr) (scope : Scope) (stand : Stand) (z : Statement)
       → tree_step raw (RawStatement-F.For l (option_map (treed raw) (bare_part i)) a (option_map (treed raw) (bare_part step)) (map (treed raw) (bare b))) scope ≡ Some z → is_integer_statement z ≡ true
       → (is_single_part (option_map form_of (bare_part i)) && (is_single_part (option_map form_of (bare_part step)) && are_tidy (bare b))) ≡ true
-      → AreGood (phrases_step raw (RawStatement-F.For l (option_map (scoped raw) (bare_part i)) a (option_map (scoped raw) (bare_part step)) (map (scoped raw) (bare b))) scope stand) → AreClean scope.names
+      → AreGood (phrases_step raw (RawStatement-F.For l (option_map (scoped raw) (bare_part i)) a (option_map (scoped raw) (bare_part step)) (map (scoped raw) (bare b))) scope stand) → AreOwnNames scope.names
       → Is raw scope (s.For l (bare_part i) a (bare_part step) (bare b)) z
   for_is i step b l a scope stand z at h d g c =
       let start = opened (numbered scope) in
@@ -346,12 +345,12 @@ module _ (raw : RawProgram) where
       let to_test = part_after raw (bare_part i) start in
       let to_body = ap (after_part (option_map (treed raw) (bare_part step))) to_test ∙ part_after raw (bare_part step) test in
       let p = then_there _ (part_tree (option_map (treed raw) (bare_part i)) start) z at in
-      let q = then_there _ (expr_of raw (scope_of_test (option_map (treed raw) (bare_part i)) scope) a) z p.1.1 in
-      let r = both_there (t.For scope.statements l p.0 q.0) _ _ z q.1.1 in
-      let k = sym (integer-For scope.statements l p.0 q.0 r.first r.second) ∙ ap is_integer_statement r.same ∙ h in
-      let k1 = and_parts (if_there (option_map is_integer_statement p.0)) _ k in
+      let q = then_there _ (expr_of raw (scope_of_test (option_map (treed raw) (bare_part i)) scope) a) z p.same in
+      let r = both_there (t.For scope.statements l p.value q.value) _ _ z q.same in
+      let k = sym (integer-For scope.statements l p.value q.value r.left r.right) ∙ ap is_integer_statement r.same ∙ h in
+      let k1 = and_parts (if_there (option_map is_integer_statement p.value)) _ k in
       let k2 = and_parts _ _ k1.1 in
-      let k3 = and_parts (if_there (option_map is_integer_statement r.first)) _ k2.1 in
+      let k3 = and_parts (if_there (option_map is_integer_statement r.left)) _ k2.1 in
       let f1 = and_parts (is_single_part (option_map form_of (bare_part i))) _ d in
       let f2 = and_parts (is_single_part (option_map form_of (bare_part step))) (are_tidy (bare b)) f1.1 in
       let first_phrases = at_stand InFor (part_gives (option_map (scoped raw) (bare_part i)) start) in
@@ -362,9 +361,9 @@ module _ (raw : RawProgram) where
       let c1 = clean_part (bare_part i) start InFor g1 c in
       let c2 = clean_part (bare_part step) test InBlock (good_left step_phrases body_phrases g2) c1 in
       subst (Is raw scope (s.For l (bare_part i) a (bare_part step) (bare b))) r.same
-      (Is.for_loop (starts_simple i f1.0) (parts i start InFor p.0 p.1.0 k1.0 f1.0 g1 c) (ap (λ (y : Scope). expr_of raw y a) (sym to_test) ∙ q.1.0)
-      (parts step test InBlock r.first (ap (part_tree (option_map (treed raw) (bare_part step))) (sym to_test) ∙ r.first_there) k3.0 f2.0 (good_left step_phrases body_phrases g2) c1)
-      (lists b (opened inside) InBlock r.second (ap (block_tree (map (treed raw) (bare b))) (sym to_body) ∙ r.second_there) k3.1 f2.1 (good_right step_phrases body_phrases g2) c2))
+      (Is.for_loop (starts_simple i f1.0) (parts i start InFor p.value p.there k1.0 f1.0 g1 c) (ap (λ (y : Scope). expr_of raw y a) (sym to_test) ∙ q.there)
+      (parts step test InBlock r.left (ap (part_tree (option_map (treed raw) (bare_part step))) (sym to_test) ∙ r.left_there) k3.0 f2.0 (good_left step_phrases body_phrases g2) c1)
+      (lists b (opened inside) InBlock r.right (ap (block_tree (map (treed raw) (bare b))) (sym to_body) ∙ r.right_there) k3.1 f2.1 (good_right step_phrases body_phrases g2) c2))
 
   abbrev Layer : Type 0
   Layer = RawStatement-F ((x : RawStatement) × Derived x) ((a : RawArm) × ArmDerived a)
@@ -382,7 +381,7 @@ module _ (raw : RawProgram) where
   has_target (target.Place a) = true
   has_target (target.Declared v) = true
 
-  no_target : {A : Type 0} (l : ℕ) (scope place : Scope) (stand : Stand) (to : RawTarget) (f : Bytes) (args : List RawArg) → has_target to ≡ true → is_one_of without_result f ≡ true
+  no_target : {A : Type 0} (l : ℕ) (scope place : Scope) (stand : Stand) (to : RawTarget) (f : Bytes) (args : List RawArg) → has_target to ≡ true → is_among without_result f ≡ true
       → AreGood (target_phrases raw l scope stand to ++ (phrase l place (Calls stand to f args) ∷ [])) → A
   no_target l scope place stand to f args h q g =
       absurd ((good_first _ [] (good_right (target_phrases raw l scope stand to) _ g)).rules 17 (Breaks.result (MisusesResult.library (λ e. false_true (sym (ap has_target e) ∙ h)) q)))
@@ -394,30 +393,30 @@ module _ (raw : RawProgram) where
   heap_not n l (Some u) (Some c) None z at h = none_there at
   heap_not n l (Some u) (Some c) (Some m) z at h = false_true (sym (integer-Heap n l u c m) ∙ ap is_integer_statement (some_same at) ∙ h)
 
-  call_form : (l : ℕ) (f : Bytes) (args : List RawArg) (scope : Scope) (z : Statement) → CallIs scope scope.statements l args z → is_one_of without_result f ≡ true → AreClean scope.names → Is raw scope (s.Call l target.None f args) z
+  call_form : (l : ℕ) (f : Bytes) (args : List RawArg) (scope : Scope) (z : Statement) → CallIs scope scope.statements l args z → is_among without_result f ≡ true → AreOwnNames scope.names → Is raw scope (s.Call l target.None f args) z
   call_form l f args scope z (writes {a} one at) h c = Is.written (clean_found f scope.names (called_is f h) c) (only_is args a one) at
   call_form l f args scope z (prints {text} format at) h c = Is.printed (clean_found f scope.names (called_is f h) c) (later_is args text format) at
 
   abbrev forms : RawStatement-F RawStatement RawArm → RawStatement-F Form Form
   forms y = map-RawStatement RawStatement RawArm Form Form form_of form_of_arm y
 
-  of_layer : (y : Layer) (scope : Scope) (stand : Stand) (z : Statement) → tree_step raw (trees (shape y)) scope ≡ Some z → is_integer_statement z ≡ true → (form_step (forms (shape y))).tidy ≡ true → AreGood (phrases_step raw (texts (shape y)) scope stand) → AreClean scope.names
+  of_layer : (y : Layer) (scope : Scope) (stand : Stand) (z : Statement) → tree_step raw (trees (shape y)) scope ≡ Some z → is_integer_statement z ≡ true → (form_step (forms (shape y))).tidy ≡ true → AreGood (phrases_step raw (texts (shape y)) scope stand) → AreOwnNames scope.names
       → Is raw scope (roll-RawStatement (shape y)) z
   of_layer (RawStatement-F.Declare l v init.None) scope stand z at h d g c =
       at_form (s.rolls-Declare l v init.None) (some_same at) (Is.declared (quiet_first l scope stand v init.None g))
   of_layer (RawStatement-F.Declare l v (init.One a)) scope stand z at h d g c =
       let m = map_there (t.Declare (Some scope.statements) l scope.variables) (init_of raw (with_variable raw v (init.One a) scope) (init.One a)) z at in
-      let o = map_there begins.One (expr_of raw (with_variable raw v (init.One a) scope) a) m.0 m.1.0 in
-      at_form (s.rolls-Declare l v (init.One a)) (ap (t.Declare (Some scope.statements) l scope.variables) o.1.1 ∙ m.1.1) (Is.begun (quiet_first l scope stand v (init.One a) g) o.1.0)
+      let o = map_there begins.One (expr_of raw (with_variable raw v (init.One a) scope) a) m.value m.there in
+      at_form (s.rolls-Declare l v (init.One a)) (ap (t.Declare (Some scope.statements) l scope.variables) o.same ∙ m.same) (Is.begun (quiet_first l scope stand v (init.One a) g) o.there)
   of_layer (RawStatement-F.Declare l v (init.Items all)) scope stand z at h d g c =
       let m = map_there (t.Declare (Some scope.statements) l scope.variables) (init_of raw (with_variable raw v (init.Items all) scope) (init.Items all)) z at in
-      let o = map_there begins.Items _ m.0 m.1.0 in
-      let k = sym (integer-Declare (Some scope.statements) l scope.variables m.0) ∙ ap is_integer_statement m.1.1 ∙ h in
-      false_true (ap integer_init o.1.1 ∙ k)
+      let o = map_there begins.Items _ m.value m.there in
+      let k = sym (integer-Declare (Some scope.statements) l scope.variables m.value) ∙ ap is_integer_statement m.same ∙ h in
+      false_true (ap integer_init o.same ∙ k)
   of_layer (RawStatement-F.Assign l a op b) scope stand z at h d g c =
-      let m = both_there _ (expr_of raw scope a) (expr_of raw scope b) z at in at_form (s.rolls-Assign l a op b) m.same (Is.assigned m.first_there m.second_there)
+      let m = both_there _ (expr_of raw scope a) (expr_of raw scope b) z at in at_form (s.rolls-Assign l a op b) m.same (Is.assigned m.left_there m.right_there)
   of_layer (RawStatement-F.Bump l a up before) scope stand z at h d g c =
-      let m = map_there _ (expr_of raw scope a) z at in at_form (s.rolls-Bump l a up before) m.1.1 (Is.bumped m.1.0)
+      let m = map_there _ (expr_of raw scope a) z at in at_form (s.rolls-Bump l a up before) m.same (Is.bumped m.there)
   of_layer (RawStatement-F.Call l target.None f args) scope stand z at h d g c =
       let m = call_is scope scope.statements l (target_tree raw scope target.None) f args z at h in
       at_form (s.rolls-Call l target.None f args) refl (call_form l f args scope z m.0 m.1 c)
@@ -432,39 +431,39 @@ module _ (raw : RawProgram) where
       let start = opened (numbered scope) in
       let between = block_after raw (bare x) (numbered scope) in
       let m = then_there _ (expr_of raw scope a) z at in
-      let o = both_there (t.If scope.statements l m.0) _ _ z m.1.1 in
-      let k = sym (integer-If scope.statements l m.0 o.first o.second) ∙ ap is_integer_statement o.same ∙ h in
+      let o = both_there (t.If scope.statements l m.value) _ _ z m.same in
+      let k = sym (integer-If scope.statements l m.value o.left o.right) ∙ ap is_integer_statement o.same ∙ h in
       let k1 = and_parts _ _ (and_parts _ _ k).1 in
       let first_phrases = block_phrases (map (scoped raw) (bare x)) (numbered scope) in
       let rest = block_phrases (map (scoped raw) (bare y)) between in
       let g1 = good_later _ (first_phrases ++ rest) g in
       at_form (s.rolls-If l a (bare x) (bare y)) o.same
-      (Is.branched m.1.0 (lists x start InBlock o.first o.first_there k1.0 (and_parts (are_tidy (bare x)) (are_tidy (bare y)) d).0 (good_left first_phrases rest g1) c)
-      (lists y (opened between) InBlock o.second (ap (block_tree (map (treed raw) (bare y))) (sym (block_after_same raw (bare x) (numbered scope))) ∙ o.second_there) k1.1 (and_parts (are_tidy (bare x)) (are_tidy (bare y)) d).1 (good_right first_phrases rest g1) c))
+      (Is.branched m.there (lists x start InBlock o.left o.left_there k1.0 (and_parts (are_tidy (bare x)) (are_tidy (bare y)) d).0 (good_left first_phrases rest g1) c)
+      (lists y (opened between) InBlock o.right (ap (block_tree (map (treed raw) (bare y))) (sym (block_after_same raw (bare x) (numbered scope))) ∙ o.right_there) k1.1 (and_parts (are_tidy (bare x)) (are_tidy (bare y)) d).1 (good_right first_phrases rest g1) c))
   of_layer (RawStatement-F.While l a x) scope stand z at h d g c =
       let o = both_there (t.While scope.statements l) (expr_of raw scope a) _ z at in
-      let k = sym (integer-While scope.statements l o.first o.second) ∙ ap is_integer_statement o.same ∙ h in
-      at_form (s.rolls-While l a (bare x)) o.same (Is.while_loop o.first_there (lists x (opened (numbered scope)) InBlock o.second o.second_there (and_parts _ _ k).1 d (good_later _ _ g) c))
+      let k = sym (integer-While scope.statements l o.left o.right) ∙ ap is_integer_statement o.same ∙ h in
+      at_form (s.rolls-While l a (bare x)) o.same (Is.while_loop o.left_there (lists x (opened (numbered scope)) InBlock o.right o.right_there (and_parts _ _ k).1 d (good_later _ _ g) c))
   of_layer (RawStatement-F.Do l a x) scope stand z at h d g c =
       let o = both_there (t.Do scope.statements l) (expr_of raw scope a) _ z at in
-      let k = sym (integer-Do scope.statements l o.first o.second) ∙ ap is_integer_statement o.same ∙ h in
-      at_form (s.rolls-Do l a (bare x)) o.same (Is.do_loop o.first_there (lists x (opened (numbered scope)) InBlock o.second o.second_there (and_parts _ _ k).1 d (good_later _ _ g) c))
+      let k = sym (integer-Do scope.statements l o.left o.right) ∙ ap is_integer_statement o.same ∙ h in
+      at_form (s.rolls-Do l a (bare x)) o.same (Is.do_loop o.left_there (lists x (opened (numbered scope)) InBlock o.right o.right_there (and_parts _ _ k).1 d (good_later _ _ g) c))
   of_layer (RawStatement-F.For l None a None b) scope stand z at h d g c = at_form (s.rolls-For l None a None (bare b)) refl (for_is None None b l a scope stand z at h d g c)
   of_layer (RawStatement-F.For l None a (Some n) b) scope stand z at h d g c = at_form (s.rolls-For l None a (Some n.0) (bare b)) refl (for_is None (Some n) b l a scope stand z at h d g c)
   of_layer (RawStatement-F.For l (Some i) a None b) scope stand z at h d g c = at_form (s.rolls-For l (Some i.0) a None (bare b)) refl (for_is (Some i) None b l a scope stand z at h d g c)
   of_layer (RawStatement-F.For l (Some i) a (Some n) b) scope stand z at h d g c = at_form (s.rolls-For l (Some i.0) a (Some n.0) (bare b)) refl (for_is (Some i) (Some n) b l a scope stand z at h d g c)
   of_layer (RawStatement-F.Switch l a arms) scope stand z at h d g c =
       let m = then_there _ (expr_of raw scope a) z at in
-      let o = then_there _ (switch_type raw scope a) z m.1.1 in
-      let q = map_there _ (at_type o.0 (in_order (map (treed_arm raw) (bare_arms arms)) (opened (numbered scope)))) z o.1.1 in
-      let k = sym (integer-Switch scope.statements l m.0 q.0) ∙ ap is_integer_statement q.1.1 ∙ h in
-      at_form (s.rolls-Switch l a (bare_arms arms)) q.1.1 (Is.switched m.1.0 (arms_lists arms (opened (numbered scope)) o.0 q.0 q.1.0 (and_parts _ _ k).1 d (good_later _ _ g) c))
+      let o = then_there _ (switch_type raw scope a) z m.same in
+      let q = map_there _ (at_type o.value (in_order (map (treed_arm raw) (bare_arms arms)) (opened (numbered scope)))) z o.same in
+      let k = sym (integer-Switch scope.statements l m.value q.value) ∙ ap is_integer_statement q.same ∙ h in
+      at_form (s.rolls-Switch l a (bare_arms arms)) q.same (Is.switched m.there (arms_lists arms (opened (numbered scope)) o.value q.value q.there (and_parts _ _ k).1 d (good_later _ _ g) c))
   of_layer (RawStatement-F.Block l x) scope stand z at h d g c =
       let m = map_there (t.Block l) _ z at in
-      let k = sym (integer-Block l m.0) ∙ ap is_integer_statement m.1.1 ∙ h in
-      at_form (s.rolls-Block l (bare x)) m.1.1 (Is.blocked (lists x (opened scope) InBlock m.0 m.1.0 k d g c))
+      let k = sym (integer-Block l m.value) ∙ ap is_integer_statement m.same ∙ h in
+      at_form (s.rolls-Block l (bare x)) m.same (Is.blocked (lists x (opened scope) InBlock m.value m.there k d g c))
   of_layer (RawStatement-F.Return l a) scope stand z at h d g c =
-      let m = map_there (t.Return scope.statements l) _ z at in at_form (s.rolls-Return l a) m.1.1 (Is.returned m.1.0)
+      let m = map_there (t.Return scope.statements l) _ z at in at_form (s.rolls-Return l a) m.same (Is.returned m.there)
 
   statement_layer : (y : Layer) → Derived (roll-RawStatement (shape y))
   statement_layer y scope stand z at h d g c =
@@ -481,17 +480,17 @@ module _ (raw : RawProgram) where
   arm_layer y scope i z at h d g c =
       let at_tree = sym (ap (λ (u : Scoped ArmTree). u.gives scope i) (fold-roll-RawArm (Scoped (Option Statement)) (Scoped ArmTree) (treed_step raw) (arm_tree_step raw) (arm_shape y))) ∙ at in
       let m = both_there arm_tree (collected (map (label_tree raw scope i) y.labels)) (collected (in_order (map (treed raw) (bare y.body)) scope)) z at_tree in
-      let k = and_parts _ _ (sym (integer-arm m.first m.second) ∙ ap is_integer_arm m.same ∙ h) in
+      let k = and_parts _ _ (sym (integer-arm m.left m.right) ∙ ap is_integer_arm m.same ∙ h) in
       let good = subst (λ (u : Scoped ArmText). AreGood (u.gives scope).phrases) (fold-roll-RawArm (Scoped (Stand → Phrases)) (Scoped ArmText) (scoped_step raw) scoped_arm (arm_shape y)) g in
       record {
         labels = y.labels;
         body = bare y.body;
-        given = m.first;
-        zs = m.second;
+        given = m.left;
+        zs = m.right;
         is = refl;
         tree = m.same;
-        none = labels_name raw scope i y.labels m.first m.first_there;
-        are = lists y.body scope InArm m.second m.second_there k.1 (sym (ap (λ (u : Form). u.tidy) (fold-roll-RawArm Form Form form_step form_arm (arm_shape y))) ∙ d) good c;
+        none = labels_name raw scope i y.labels m.left m.left_there;
+        are = lists y.body scope InArm m.right m.right_there k.1 (sym (ap (λ (u : Form). u.tidy) (fold-roll-RawArm Form Form form_step form_arm (arm_shape y))) ∙ d) good c;
         clean = clean_list (bare y.body) scope InArm good c;
         still = still_list (bare y.body) scope good;
       }
@@ -510,9 +509,9 @@ module _ (raw : RawProgram) where
 
   -- so are those of a list
   pub all_derived : (xs : List RawStatement) (scope : Scope) (stand : Stand) (zs : List Statement) → collected (in_order (map (treed raw) xs) scope) ≡ Some zs → all_true (map is_integer_statement zs) ≡ true → are_tidy xs ≡ true
-      → AreGood (joined_at stand (in_order (map (scoped raw) xs) scope)) → AreClean scope.names → Are raw scope xs zs
+      → AreGood (joined_at stand (in_order (map (scoped raw) xs) scope)) → AreOwnNames scope.names → Are raw scope xs zs
   all_derived xs scope stand zs =
       subst
       (λ (ys : List RawStatement). collected (in_order (map (treed raw) ys) scope) ≡ Some zs → all_true (map is_integer_statement zs) ≡ true → are_tidy ys ≡ true
-      → AreGood (joined_at stand (in_order (map (scoped raw) ys) scope)) → AreClean scope.names → Are raw scope ys zs)
+      → AreGood (joined_at stand (in_order (map (scoped raw) ys) scope)) → AreOwnNames scope.names → Are raw scope ys zs)
       (facts_bare xs) (lists (facts xs) scope stand zs)

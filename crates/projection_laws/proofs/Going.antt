@@ -1,5 +1,5 @@
 -- Nothing stays of a statement in which nothing is kept, and none of whose variables is.
-use Rattle.std.proofs.Common.{◌≡◌, ℕ, ◌≤◌, ◌<◌, List, [], ◌∷◌, ◌++◌, map, Bool, true, false, Option, Some, None, option_map, refl, sym, ap, ap₂, subst, ◌∙◌, arith}
+use Rattle.std.proofs.Common.{◌≡◌, ℕ, ◌≤◌, ◌<◌, List, [], ◌∷◌, ◌++◌, map, Bool, true, false, Option, Some, None, option_map, refl, sym, ap, ap₂, subst, ◌∙◌, arith, le_trans, lt_of_lt_of_le, le_refl}
 use Rattle.std.proofs.lemmas.Bool.{or_parts}
 use Rattle.c_tree.specs.declared.program.Init.TheVariants as begins
 use Rattle.c_tree.specs.declared.statement.Arm.{Arm}
@@ -19,22 +19,19 @@ use Rattle.c_language.proofs.ScopedForms.{scoped-Declare, scoped-If, scoped-Whil
 use Rattle.c_language.proofs.Tests.{false_true}
 use Rattle.projection.specs.Kept.{Kept}
 use Rattle.c_scope_laws.specs.Thinning.{after_list, part_scope}
-use Rattle.c_scope_laws.specs.ThinnedBodies.{Need, AreMet, Left, ArmLeft, all_left, strays, gone, part_gone, arms_gone, alone, alone_all, block_of, plain, declared, if_left, while_left, do_left, for_left, switch_left, left, left_arm, body_left}
-use Rattle.projection_laws.specs.Nested.{any_kept, part_kept, nest}
+use Rattle.c_scope_laws.specs.ThinnedBodies.{AreMet, Left, ArmLeft, all_left, strays, gone, part_gone, arms_gone, left_alone, alone_all, block_of, plain, declared, if_left, while_left, do_left, for_left, switch_left, left, left_arm, body_left}
+use Rattle.projection_laws.specs.Nested.{any_kept, part_kept, nest, arm_nest}
 use Rattle.projection_laws.proofs.IntegerTexts.{Is, Are, IsPart, ArmsAre}
-use Rattle.projection_laws.proofs.StatementForms.{arm_nest, nest-Declare, nest-Assign, nest-Bump, nest-Write, nest-Print, nest-If, nest-While, nest-Do, nest-For, nest-Switch, nest-Block, nest-Return, nest-arm}
-use Rattle.projection_laws.proofs.Reaching.{le_then, lt_then, le_same, grows, all_grow, part_grows, arms_grow}
+use Rattle.projection_laws.proofs.StatementForms.{nest-Declare, nest-Assign, nest-Bump, nest-Write, nest-Print, nest-If, nest-While, nest-Do, nest-For, nest-Switch, nest-Block, nest-Return, nest-arm}
+use Rattle.projection_laws.proofs.Reaching.{grows, all_grow, part_grows, arms_grow}
 use Rattle.c_thin_trees.proofs.LeftForms.{left-Declare, left-Assign, left-Bump, left-Call, left-While, left-Do, left-Switch, left-Block, left-Return, left-arm}
-use Rattle.projection_laws.proofs.LeftScopes.{left_after, arm_after, left_of_if, left_of_for}
+use Rattle.c_scope_laws.proofs.ThinnedBodies.{join_met, left_after}
+use Rattle.projection_laws.proofs.LeftScopes.{arm_after, left_of_if, left_of_for}
 use Rattle.c_language.specs.StatementGrammar.{arm}
 
 -- what is kept where these variables and statements are
 abbrev pub kept_of : (ℕ → Bool) → (ℕ → Bool) → Kept
 kept_of vars keeps = record { variable = vars; statement = keeps; result = λ i. true; function = λ x. true }
-
-pub join_met : (k : Kept) (a b : List Need) → AreMet k a → AreMet k b → AreMet k (a ++ b)
-join_met k [] b h q = q
-join_met k (n ∷ a) b h q = (h.0, join_met k a b h.1 q)
 
 module _ (raw : RawProgram) (vars keeps : ℕ → Bool) where
   abbrev k : Kept
@@ -87,7 +84,7 @@ module _ (raw : RawProgram) (vars keeps : ℕ → Bool) where
   part_needs_gone None h = tt
   part_needs_gone (Some x) h = gone_needs x h
 
-  alone_goes : (l : ℕ) (x : Option Left) → PartGone x → IsGone (alone l x)
+  alone_goes : (l : ℕ) (x : Option Left) → PartGone x → IsGone (left_alone l x)
   alone_goes l None h = (tt, refl)
   alone_goes l (Some x) h =
       let none = ap (alone_all x.is_plain l) h.1 in
@@ -97,7 +94,7 @@ module _ (raw : RawProgram) (vars keeps : ℕ → Bool) where
   for_goes true l i a step b test h p q r = false_true (sym h)
   for_goes false l i a step b test h p q r =
       let first = alone_goes l i p in
-      (join_met k (alone l i).needs (part_gone step ++ gone b) first.0 (join_met k (part_gone step) (gone b) (part_needs_gone step q) (gone_needs b r)), first.1)
+      (join_met k (left_alone l i).needs (part_gone step ++ gone b) first.0 (join_met k (part_gone step) (gone b) (part_needs_gone step q) (gone_needs b r)), first.1)
 
   -- ---- along the text
 
@@ -123,10 +120,10 @@ module _ (raw : RawProgram) (vars keeps : ℕ → Bool) where
   mutual
     pub goes : {scope : Scope} {x : RawStatement} {y : Statement} → Is raw scope x y → kept_in y ≡ false → Free scope.variables ((scoped raw x).after scope).variables → Gone x scope
     goes {scope} (Is.declared {l} {v} q) h f =
-        let g = freed _ (scoped-Declare raw l v init.None) f scope.variables (le_same scope.variables) (omega arith) in
+        let g = freed _ (scoped-Declare raw l v init.None) f scope.variables (le_refl scope.variables) (omega arith) in
         at_form _ (left-Declare k raw l v init.None) (declared_goes (vars scope.variables) (vars scope.variables) l v init.None scope g g)
     goes {scope} (Is.begun {l} {v} {a} {w} q at) h f =
-        let g = freed _ (scoped-Declare raw l v (init.One a)) f scope.variables (le_same scope.variables) (omega arith) in
+        let g = freed _ (scoped-Declare raw l v (init.One a)) f scope.variables (le_refl scope.variables) (omega arith) in
         at_form _ (left-Declare k raw l v (init.One a)) (declared_goes (vars scope.variables) (keeps scope.statements) l v (init.One a) scope g (unkept _ (ap (λ z. z.keeps) (nest-Declare keeps (Some scope.statements) l scope.variables (begins.One w))) h))
     goes {scope} (Is.assigned {l} {a} {b} {op} {u} {w} p q) h f =
         at_form _ (left-Assign k raw l a op b) (plain_goes (keeps scope.statements) _ scope _ (unkept _ (ap (λ z. z.keeps) (nest-Assign keeps scope.statements l u op w)) h))
@@ -141,7 +138,7 @@ module _ (raw : RawProgram) (vars keeps : ℕ → Bool) where
         let e = or_parts (keeps scope.statements) _ (unkept _ (ap (λ z. z.keeps) (nest-If keeps scope.statements l u zs ws)) h) in
         let i = or_parts (any_kept (map (nest keeps) zs)) _ e.1 in
         subst IsGone (sym (left_of_if k raw l a b c scope))
-        (if_goes (keeps scope.statements) l a _ _ scope e.0 (all_go d i.0 (λ id m n. end id m (lt_then n (all_grow raw g)))) (all_go g i.1 (λ id m n. end id (le_then (all_grow raw d) m) n)))
+        (if_goes (keeps scope.statements) l a _ _ scope e.0 (all_go d i.0 (λ id m n. end id m (lt_of_lt_of_le n (all_grow raw g)))) (all_go g i.1 (λ id m n. end id (le_trans (all_grow raw d) m) n)))
     goes {scope} (Is.while_loop {l} {a} {u} {b} {zs} p d) h f =
         let e = or_parts (keeps scope.statements) _ (unkept _ (ap (λ z. z.keeps) (nest-While keeps scope.statements l u zs)) h) in
         at_form _ (left-While k raw l a b) (while_goes (keeps scope.statements) l a _ scope e.0 (all_go d e.1 (freed _ (scoped-While raw l a b) f)))
@@ -155,9 +152,9 @@ module _ (raw : RawProgram) (vars keeps : ℕ → Bool) where
         let e2 = or_parts (part_kept (option_map (nest keeps) next)) _ e1.1 in
         subst IsGone (sym (left_of_for k raw l i a step b scope))
         (for_goes (keeps scope.statements) l _ a _ _ (part_scope raw i scope) e.0
-        (part_goes d e1.0 (λ id m n. end id m (lt_then n (le_then (part_grows raw g) (all_grow raw q)))))
-        (part_goes g e2.0 (λ id m n. end id (le_then (part_grows raw d) m) (lt_then n (all_grow raw q))))
-        (all_go q e2.1 (λ id m n. end id (le_then (part_grows raw d) (le_then (part_grows raw g) m)) n)))
+        (part_goes d e1.0 (λ id m n. end id m (lt_of_lt_of_le n (le_trans (part_grows raw g) (all_grow raw q)))))
+        (part_goes g e2.0 (λ id m n. end id (le_trans (part_grows raw d) m) (lt_of_lt_of_le n (all_grow raw q))))
+        (all_go q e2.1 (λ id m n. end id (le_trans (part_grows raw d) (le_trans (part_grows raw g) m)) n)))
     goes {scope} (Is.switched {l} {a} {u} {arms} {zs} p d) h f =
         let e = or_parts (keeps scope.statements) _ (unkept _ (ap (λ z. z.keeps) (nest-Switch keeps scope.statements l u zs)) h) in
         at_form _ (left-Switch k raw l a arms) (switch_goes (keeps scope.statements) l a _ scope e.0 (arms_go d e.1 (freed _ (scoped-Switch raw l a arms) f)))
@@ -172,8 +169,8 @@ module _ (raw : RawProgram) (vars keeps : ℕ → Bool) where
     all_go {scope} (Are.more {x} {xs} {z} {zs} d g) h f =
         let e = or_parts (kept_in z) _ h in
         let first = (left k raw x).gives scope in
-        let p = goes d e.0 (λ id m n. f id m (lt_then n (all_grow raw g))) in
-        let q = all_go g e.1 (λ id m n. f id (le_then (grows raw d) m) n) in
+        let p = goes d e.0 (λ id m n. f id m (lt_of_lt_of_le n (all_grow raw g))) in
+        let q = all_go g e.1 (λ id m n. f id (le_trans (grows raw d) m) n) in
         subst (λ (z : Scope). IsGone (all_left (first ∷ in_order (map (left k raw) xs) z))) (sym (left_after k raw x scope))
         (join_met k first.needs _ p.0 q.0, ap₂ (λ (as_ bs : List RawStatement). as_ ++ bs) p.1 q.1)
 
@@ -188,7 +185,7 @@ module _ (raw : RawProgram) (vars keeps : ℕ → Bool) where
     arms_go {scope} (ArmsAre.more_arms {labels} {body} {rest} {ls} {zs} free still d g) h f =
         let e = or_parts _ _ h in
         let end = subst (λ (u : Scoped _). Free scope.variables (after_all (map (scoped_of_arm raw) rest) (u.after scope)).variables) (scoped_of_arm-arm raw labels body) f in
-        let p = all_go d (sym (ap (λ z. z.keeps) (nest-arm keeps ls zs)) ∙ e.0) (λ id m n. end id m (lt_then n (arms_grow raw g))) in
-        let q = arms_go g e.1 (λ id m n. end id (le_then (all_grow raw d) m) n) in
+        let p = all_go d (sym (ap (λ z. z.keeps) (nest-arm keeps ls zs)) ∙ e.0) (λ id m n. end id m (lt_of_lt_of_le n (arms_grow raw g))) in
+        let q = arms_go g e.1 (λ id m n. end id (le_trans (all_grow raw d) m) n) in
         subst (λ (z : Scope). AreMet k (gone ((left_arm k raw (arm labels body)).gives scope).body ++ arms_gone (in_order (map (left_arm k raw) rest) z))) (sym (arm_after k raw labels body scope))
         (join_met k (gone ((left_arm k raw (arm labels body)).gives scope).body) _ (subst (λ (u : Scoped ArmLeft). AreMet k (gone (u.gives scope).body)) (sym (left-arm k raw labels body)) (gone_needs (body_left k raw body scope) p)) q)

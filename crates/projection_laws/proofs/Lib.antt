@@ -1,5 +1,4 @@
 pub mod ProjectedLines
-pub mod Options
 pub mod IntegerTexts
 pub mod StatementForms
 pub mod Constants
@@ -9,8 +8,8 @@ pub mod LeftScopes
 pub mod Going
 pub mod Meeting
 pub mod ClosedMains
-pub mod SameNumbers
+pub mod FirstFunction
 pub mod SamePrograms
 pub mod WellFormedProjections
 pub mod Clearing
-pub mod Standing
+pub mod StandsNested

@@ -15,7 +15,7 @@ use Rattle.c_tree.specs.declared.statement.Statement.TheVariants as s
 use Rattle.c_tree.specs.declared.statement.Arm.{Arm, roll-Arm, map-Arm, fold-roll-Arm}
 use Rattle.projection.specs.Renumbering.{renamed, renamed_label, renamed_init}
 use Rattle.projection.specs.Kept.{Kept, rank}
-use Rattle.projection.specs.Projection.{if_so, flat, declaring_step, declaring_arm, is_declaring, first_of, part_of, bare, bare_target, projected_declaration, projected_call, alone, block_of, projected_step, projected_arm_step, projected, projected_arm, projected_all}
+use Rattle.projection.specs.Projection.{if_so, flat, declaring_step, declaring_arm, is_declaring, first_statement, part_of, bare, bare_target, projected_declaration, projected_call, alone, block_of, projected_step, projected_arm_step, projected, projected_arm, projected_all}
 use Rattle.c_tree.proofs.Unlining.{zeroed, unlined_roll, unlined_roll_of_arm, fold_unlined}
 use Rattle.c_tree.proofs.Trees.{statement_layer, arm_layer, StatementParts, ArmParts}
 use Rattle.c_language.proofs.Lists.{head_is, no_list}
@@ -35,7 +35,7 @@ choice false xs ys xs' ys' p q = q
 one : (x y : Statement) → unlined x ≡ unlined y → Alike (x ∷ []) (y ∷ [])
 one x y h = ap (λ (z : Statement). z ∷ []) h
 
-firsts : (xs ys : List Statement) → Alike xs ys → option_map unlined (first_of xs) ≡ option_map unlined (first_of ys)
+firsts : (xs ys : List Statement) → Alike xs ys → option_map unlined (first_statement xs) ≡ option_map unlined (first_statement ys)
 firsts [] [] h = refl
 firsts [] (y ∷ ys) h = no_list (sym h)
 firsts (x ∷ xs) [] h = no_list h

@@ -1,5 +1,5 @@
 -- The variables that the statements of an integer main refer to: those in scope, and those that they declare.
-use Rattle.std.proofs.Common.{◌≡◌, ℕ, ◌+◌, ◌==◌, ◌≤◌, ◌<◌, List, [], ◌∷◌, ◌++◌, map, Bool, true, false, ◌&&◌, ◌||◌, Option, Some, None, option_map, refl, sym, ap, subst, ◌∙◌, arith}
+use Rattle.std.proofs.Common.{◌≡◌, ℕ, ◌+◌, ◌==◌, ◌≤◌, ◌<◌, List, [], ◌∷◌, ◌++◌, map, Bool, true, false, ◌&&◌, ◌||◌, Option, Some, None, option_map, refl, sym, ap, subst, ◌∙◌, arith, le_trans, lt_of_lt_of_le, le_refl}
 use Rattle.std.specs.Prelude.{Contains, if◌then◌else◌, bytes_eq}
 use Rattle.std.proofs.lemmas.Bool.{eqb-true, and_parts, or_left, or_right}
 use Rattle.c_tree.specs.declared.expr.Expr.{Expr, roll-Expr, map-Expr, fold-roll-Expr}
@@ -25,25 +25,15 @@ use Rattle.c_language.specs.Phrases.{Stand, Phrases, scoped, scoped_of_arm}
 use Rattle.c_language.specs.Uses.{operands_of}
 use Rattle.c_language.specs.ProgramOf.{Told, told_step, told_of, expr_of, optional, arg_tree, args_tree, variable_number, arm_tree, of_operand, of_pointed}
 use Rattle.c_language.proofs.ScopedForms.{scoped-Declare, scoped-Assign, scoped-Bump, scoped-Call, scoped-If, scoped-While, scoped-Do, scoped-For, scoped-Switch, scoped-Block, scoped-Return, scoped_of_arm-arm}
-use Rattle.c_language.proofs.Options.{none_there, some_same}
+use Rattle.c_language.proofs.Options.{none_there, some_same, map_there, then_there, both_there, more_there}
 use Rattle.c_language.proofs.Tests.{false_true, by_or}
 use Rattle.c_language.proofs.Lists.{contains_first, contains_later}
-use Rattle.projection.specs.Names.{names_step, names, any_names, value_names, either, if_any, refers}
+use Rattle.projection.specs.Names.{names_step, names, any_names, value_names, any_of, if_any, refers, arm_refers}
 use Rattle.c_scope_laws.specs.Thinning.{found, after_list, block_after, part_scope, body_scope}
 use Rattle.c_scope_laws.proofs.Trees.{by_operands}
-use Rattle.projection_laws.specs.Nested.{any_kept, part_kept, nest}
-use Rattle.projection_laws.proofs.Options.{map_there, then_there, both_there, more_there}
+use Rattle.projection_laws.specs.Nested.{any_kept, part_kept, nest, arm_nest}
 use Rattle.projection_laws.proofs.IntegerTexts.{Is, Are, IsPart, ArmsAre}
-use Rattle.projection_laws.proofs.StatementForms.{arm_refers, refers-Declare, refers-Assign, refers-Bump, refers-Write, refers-Print, refers-If, refers-While, refers-Do, refers-For, refers-Switch, refers-Block, refers-Return, refers-arm, arm_nest, nest-Declare, nest-Assign, nest-Bump, nest-Write, nest-Print, nest-If, nest-While, nest-Do, nest-For, nest-Switch, nest-Block, nest-Return, nest-arm}
-
-pub le_then : {a b c : ℕ} → a ≤ b → b ≤ c → a ≤ c
-le_then {a} {b} {c} p q = omega (arith, p, q)
-
-pub lt_then : {a b c : ℕ} → a < b → b ≤ c → a < c
-lt_then {a} {b} {c} p q = omega (arith, p, q)
-
-pub le_same : (n : ℕ) → n ≤ n
-le_same n = omega arith
+use Rattle.projection_laws.proofs.StatementForms.{refers-Declare, refers-Assign, refers-Bump, refers-Write, refers-Print, refers-If, refers-While, refers-Do, refers-For, refers-Switch, refers-Block, refers-Return, refers-arm, nest-Declare, nest-Assign, nest-Bump, nest-Write, nest-Print, nest-If, nest-While, nest-Do, nest-For, nest-Switch, nest-Block, nest-Return, nest-arm}
 
 pub le_more : (n : ℕ) → n ≤ n + 1
 le_more n = omega arith
@@ -100,48 +90,48 @@ module _ (raw : RawProgram) (scope : Scope) (R : ℕ → Type 0) (vars : (x : By
   layer RawExpr-F.Eof ops w at id h = false_true (names_at Expr-F.Eof w id (e.rolls-Eof ∙ some_same at) h)
   layer (RawExpr-F.Variable x) ops w at id h =
       let m = map_there e.Variable (variable_number (meaning_in scope x)) w at in
-      subst R (eqb-true m.0 id (names_at (Expr-F.Variable m.0) w id (e.rolls-Variable m.0 ∙ m.1.1) h)) (vars x m.0 m.1.0)
+      subst R (eqb-true m.value id (names_at (Expr-F.Variable m.value) w id (e.rolls-Variable m.value ∙ m.same) h)) (vars x m.value m.there)
   layer (RawExpr-F.Unary op a) ops w at id h =
-      let m = map_there (e.Unary op) (expr_of raw scope a) w at in ops a (contains_first a []) m.0 m.1.0 id (names_at (Expr-F.Unary op m.0) w id (e.rolls-Unary op m.0 ∙ m.1.1) h)
+      let m = map_there (e.Unary op) (expr_of raw scope a) w at in ops a (contains_first a []) m.value m.there id (names_at (Expr-F.Unary op m.value) w id (e.rolls-Unary op m.value ∙ m.same) h)
   layer (RawExpr-F.Deref a) ops w at id h =
-      let m = map_there e.Deref (expr_of raw scope a) w at in ops a (contains_first a []) m.0 m.1.0 id (names_at (Expr-F.Deref m.0) w id (e.rolls-Deref m.0 ∙ m.1.1) h)
+      let m = map_there e.Deref (expr_of raw scope a) w at in ops a (contains_first a []) m.value m.there id (names_at (Expr-F.Deref m.value) w id (e.rolls-Deref m.value ∙ m.same) h)
   layer (RawExpr-F.AddressOf a) ops w at id h =
-      let m = map_there e.AddressOf (expr_of raw scope a) w at in ops a (contains_first a []) m.0 m.1.0 id (names_at (Expr-F.AddressOf m.0) w id (e.rolls-AddressOf m.0 ∙ m.1.1) h)
+      let m = map_there e.AddressOf (expr_of raw scope a) w at in ops a (contains_first a []) m.value m.there id (names_at (Expr-F.AddressOf m.value) w id (e.rolls-AddressOf m.value ∙ m.same) h)
   layer (RawExpr-F.Binary op a b) ops w at id h =
       let m = both_there (e.Binary op) (expr_of raw scope a) (expr_of raw scope b) w at in
-      by_or (names m.first id) (names m.second id) (names_at (Expr-F.Binary op m.first m.second) w id (e.rolls-Binary op m.first m.second ∙ m.same) h)
-      (λ p. ops a (contains_first a (b ∷ [])) m.first m.first_there id p) (λ p. ops b (contains_later a b (b ∷ []) (contains_first b [])) m.second m.second_there id p)
+      by_or (names m.left id) (names m.right id) (names_at (Expr-F.Binary op m.left m.right) w id (e.rolls-Binary op m.left m.right ∙ m.same) h)
+      (λ p. ops a (contains_first a (b ∷ [])) m.left m.left_there id p) (λ p. ops b (contains_later a b (b ∷ []) (contains_first b [])) m.right m.right_there id p)
   layer (RawExpr-F.AndAlso a b) ops w at id h =
       let m = both_there e.AndAlso (expr_of raw scope a) (expr_of raw scope b) w at in
-      by_or (names m.first id) (names m.second id) (names_at (Expr-F.AndAlso m.first m.second) w id (e.rolls-AndAlso m.first m.second ∙ m.same) h)
-      (λ p. ops a (contains_first a (b ∷ [])) m.first m.first_there id p) (λ p. ops b (contains_later a b (b ∷ []) (contains_first b [])) m.second m.second_there id p)
+      by_or (names m.left id) (names m.right id) (names_at (Expr-F.AndAlso m.left m.right) w id (e.rolls-AndAlso m.left m.right ∙ m.same) h)
+      (λ p. ops a (contains_first a (b ∷ [])) m.left m.left_there id p) (λ p. ops b (contains_later a b (b ∷ []) (contains_first b [])) m.right m.right_there id p)
   layer (RawExpr-F.OrElse a b) ops w at id h =
       let m = both_there e.OrElse (expr_of raw scope a) (expr_of raw scope b) w at in
-      by_or (names m.first id) (names m.second id) (names_at (Expr-F.OrElse m.first m.second) w id (e.rolls-OrElse m.first m.second ∙ m.same) h)
-      (λ p. ops a (contains_first a (b ∷ [])) m.first m.first_there id p) (λ p. ops b (contains_later a b (b ∷ []) (contains_first b [])) m.second m.second_there id p)
+      by_or (names m.left id) (names m.right id) (names_at (Expr-F.OrElse m.left m.right) w id (e.rolls-OrElse m.left m.right ∙ m.same) h)
+      (λ p. ops a (contains_first a (b ∷ [])) m.left m.left_there id p) (λ p. ops b (contains_later a b (b ∷ []) (contains_first b [])) m.right m.right_there id p)
   layer (RawExpr-F.Choose c a b) ops w at id h =
       let o = then_there _ (expr_of raw scope c) w at in
-      let m = both_there (e.Choose o.0) (expr_of raw scope a) (expr_of raw scope b) w o.1.1 in
-      by_or (names o.0 id) (names m.first id || names m.second id) (names_at (Expr-F.Choose o.0 m.first m.second) w id (e.rolls-Choose o.0 m.first m.second ∙ m.same) h)
-      (λ p. ops c (contains_first c (a ∷ (b ∷ []))) o.0 o.1.0 id p)
-      (λ p. by_or (names m.first id) (names m.second id) p
-      (λ q. ops a (contains_later c a (a ∷ (b ∷ [])) (contains_first a (b ∷ []))) m.first m.first_there id q) (λ q. ops b (contains_later c b (a ∷ (b ∷ [])) (contains_later a b (b ∷ []) (contains_first b []))) m.second m.second_there id q))
+      let m = both_there (e.Choose o.value) (expr_of raw scope a) (expr_of raw scope b) w o.same in
+      by_or (names o.value id) (names m.left id || names m.right id) (names_at (Expr-F.Choose o.value m.left m.right) w id (e.rolls-Choose o.value m.left m.right ∙ m.same) h)
+      (λ p. ops c (contains_first c (a ∷ (b ∷ []))) o.value o.there id p)
+      (λ p. by_or (names m.left id) (names m.right id) p
+      (λ q. ops a (contains_later c a (a ∷ (b ∷ [])) (contains_first a (b ∷ []))) m.left m.left_there id q) (λ q. ops b (contains_later c b (a ∷ (b ∷ [])) (contains_later a b (b ∷ []) (contains_first b []))) m.right m.right_there id q))
   layer (RawExpr-F.Cast z a) ops w at id h =
-      let m = map_there (e.Cast z) (expr_of raw scope a) w at in ops a (contains_first a []) m.0 m.1.0 id (names_at (Expr-F.Cast z m.0) w id (e.rolls-Cast z m.0 ∙ m.1.1) h)
+      let m = map_there (e.Cast z) (expr_of raw scope a) w at in ops a (contains_first a []) m.value m.there id (names_at (Expr-F.Cast z m.value) w id (e.rolls-Cast z m.value ∙ m.same) h)
   layer (RawExpr-F.Index a b) ops w at id h =
       let m = both_there e.Index (expr_of raw scope a) (expr_of raw scope b) w at in
-      by_or (names m.first id) (names m.second id) (names_at (Expr-F.Index m.first m.second) w id (e.rolls-Index m.first m.second ∙ m.same) h)
-      (λ p. ops a (contains_first a (b ∷ [])) m.first m.first_there id p) (λ p. ops b (contains_later a b (b ∷ []) (contains_first b [])) m.second m.second_there id p)
+      by_or (names m.left id) (names m.right id) (names_at (Expr-F.Index m.left m.right) w id (e.rolls-Index m.left m.right ∙ m.same) h)
+      (λ p. ops a (contains_first a (b ∷ [])) m.left m.left_there id p) (λ p. ops b (contains_later a b (b ∷ []) (contains_first b [])) m.right m.right_there id p)
   layer (RawExpr-F.Member a f) ops w at id h =
       let o = then_there _ (expr_of raw scope a) w at in
-      let m = map_there (e.Member o.0) (of_operand raw f (told_of raw scope a).operand) w o.1.1 in
-      ops a (contains_first a []) o.0 o.1.0 id (names_at (Expr-F.Member o.0 m.0) w id (e.rolls-Member o.0 m.0 ∙ m.1.1) h)
+      let m = map_there (e.Member o.value) (of_operand raw f (told_of raw scope a).operand) w o.same in
+      ops a (contains_first a []) o.value o.there id (names_at (Expr-F.Member o.value m.value) w id (e.rolls-Member o.value m.value ∙ m.same) h)
   layer (RawExpr-F.Arrow a f) ops w at id h =
       let o = then_there _ (expr_of raw scope a) w at in
-      let m = map_there (e.Arrow o.0) (of_pointed raw f (told_of raw scope a).operand) w o.1.1 in
-      ops a (contains_first a []) o.0 o.1.0 id (names_at (Expr-F.Arrow o.0 m.0) w id (e.rolls-Arrow o.0 m.0 ∙ m.1.1) h)
+      let m = map_there (e.Arrow o.value) (of_pointed raw f (told_of raw scope a).operand) w o.same in
+      ops a (contains_first a []) o.value o.there id (names_at (Expr-F.Arrow o.value m.value) w id (e.rolls-Arrow o.value m.value ∙ m.same) h)
   layer (RawExpr-F.Paren a) ops w at id h =
-      let m = map_there e.Paren (expr_of raw scope a) w at in ops a (contains_first a []) m.0 m.1.0 id (names_at (Expr-F.Paren m.0) w id (e.rolls-Paren m.0 ∙ m.1.1) h)
+      let m = map_there e.Paren (expr_of raw scope a) w at in ops a (contains_first a []) m.value m.there id (names_at (Expr-F.Paren m.value) w id (e.rolls-Paren m.value ∙ m.same) h)
 
   pub expr_reaches : (a : RawExpr) → Reaches a
   expr_reaches = by_operands Reaches (λ l ops w at id h. layer l ops w (sym (ap (λ (u : Told). u.tree) (fold-roll-RawExpr Told (told_step raw scope) l)) ∙ at) id h)
@@ -155,8 +145,8 @@ pub record Spans (P : ℕ → Type 0) (scope : Scope) : Type 0 where
 
 pub spans_later : (P : ℕ → Type 0) (scope next : Scope) → next.names ≡ scope.names → scope.variables ≤ next.variables → Spans P scope → Spans P next
 spans_later P scope next same grown s = record {
-  names = subst (AllHold P next.variables) (sym same) (holds_change P P scope.variables next.variables (λ id p q. (p, lt_then q grown)) scope.names s.names);
-  fresh = λ id h. s.fresh id (le_then grown h);
+  names = subst (AllHold P next.variables) (sym same) (holds_change P P scope.variables next.variables (λ id p q. (p, lt_of_lt_of_le q grown)) scope.names s.names);
+  fresh = λ id h. s.fresh id (le_trans grown h);
 }
 
 -- the equation of a form, at a variable
@@ -166,9 +156,9 @@ onward id p h = sym (ap (λ (u : ℕ → Bool). u id) p) ∙ h
 module _ (raw : RawProgram) where
   spans_more : (P : ℕ → Type 0) (scope : Scope) (v : RawVar) (i : RawInit) → Spans P scope → Spans P (with_variable raw v i scope)
   spans_more P scope v i s = record {
-    names = holds_more P (scope.variables + 1) scope.names _ (holds_change P P scope.variables (scope.variables + 1) (λ id p q. (p, lt_then q (le_more scope.variables))) scope.names s.names)
-        (s.fresh scope.variables (le_same scope.variables), omega arith);
-    fresh = λ id h. s.fresh id (le_then (le_more scope.variables) h);
+    names = holds_more P (scope.variables + 1) scope.names _ (holds_change P P scope.variables (scope.variables + 1) (λ id p q. (p, lt_of_lt_of_le q (le_more scope.variables))) scope.names s.names)
+        (s.fresh scope.variables (le_refl scope.variables), omega arith);
+    fresh = λ id h. s.fresh id (le_trans (le_more scope.variables) h);
   }
 
   abbrev Text : Type 0
@@ -182,36 +172,36 @@ module _ (raw : RawProgram) where
     pub grows : {scope : Scope} {x : RawStatement} {y : Statement} → Is raw scope x y → scope.variables ≤ ((scoped raw x).after scope).variables
     grows {scope} (Is.declared {l} {v} q) = subst (Wider scope) (sym (scoped-Declare raw l v init.None)) (le_more scope.variables)
     grows {scope} (Is.begun {l} {v} {a} q at) = subst (Wider scope) (sym (scoped-Declare raw l v (init.One a))) (le_more scope.variables)
-    grows {scope} (Is.assigned {l} {a} {b} {op} p q) = subst (Wider scope) (sym (scoped-Assign raw l a op b)) (le_same scope.variables)
-    grows {scope} (Is.bumped {l} {a} {up} {before} p) = subst (Wider scope) (sym (scoped-Bump raw l a up before)) (le_same scope.variables)
-    grows {scope} (Is.written {l} {f} {args} free one p) = subst (Wider scope) (sym (scoped-Call raw l target.None f args)) (le_same scope.variables)
-    grows {scope} (Is.printed {l} {f} {args} free one p) = subst (Wider scope) (sym (scoped-Call raw l target.None f args)) (le_same scope.variables)
-    grows {scope} (Is.branched {l} {a} {b} {c} p d g) = subst (Wider scope) (sym (scoped-If raw l a b c)) (le_then (all_grow d) (all_grow g))
+    grows {scope} (Is.assigned {l} {a} {b} {op} p q) = subst (Wider scope) (sym (scoped-Assign raw l a op b)) (le_refl scope.variables)
+    grows {scope} (Is.bumped {l} {a} {up} {before} p) = subst (Wider scope) (sym (scoped-Bump raw l a up before)) (le_refl scope.variables)
+    grows {scope} (Is.written {l} {f} {args} free one p) = subst (Wider scope) (sym (scoped-Call raw l target.None f args)) (le_refl scope.variables)
+    grows {scope} (Is.printed {l} {f} {args} free one p) = subst (Wider scope) (sym (scoped-Call raw l target.None f args)) (le_refl scope.variables)
+    grows {scope} (Is.branched {l} {a} {b} {c} p d g) = subst (Wider scope) (sym (scoped-If raw l a b c)) (le_trans (all_grow d) (all_grow g))
     grows {scope} (Is.while_loop {l} {a} {b} p d) = subst (Wider scope) (sym (scoped-While raw l a b)) (all_grow d)
     grows {scope} (Is.do_loop {l} {a} {b} p d) = subst (Wider scope) (sym (scoped-Do raw l a b)) (all_grow d)
-    grows {scope} (Is.for_loop {l} {a} {i} {step} {b} start d p g k) = subst (Wider scope) (sym (scoped-For raw l i a step b)) (le_then (part_grows d) (le_then (part_grows g) (all_grow k)))
+    grows {scope} (Is.for_loop {l} {a} {i} {step} {b} start d p g k) = subst (Wider scope) (sym (scoped-For raw l i a step b)) (le_trans (part_grows d) (le_trans (part_grows g) (all_grow k)))
     grows {scope} (Is.switched {l} {a} {arms} p d) = subst (Wider scope) (sym (scoped-Switch raw l a arms)) (arms_grow d)
     grows {scope} (Is.blocked {l} {b} d) = subst (Wider scope) (sym (scoped-Block raw l b)) (all_grow d)
-    grows {scope} (Is.returned {l} {a} p) = subst (Wider scope) (sym (scoped-Return raw l a)) (le_same scope.variables)
+    grows {scope} (Is.returned {l} {a} p) = subst (Wider scope) (sym (scoped-Return raw l a)) (le_refl scope.variables)
 
     pub all_grow : {scope : Scope} {xs : List RawStatement} {zs : List Statement} → Are raw scope xs zs → scope.variables ≤ (after_list raw xs scope).variables
-    all_grow {scope} Are.none = le_same scope.variables
-    all_grow (Are.more d g) = le_then (grows d) (all_grow g)
+    all_grow {scope} Are.none = le_refl scope.variables
+    all_grow (Are.more d g) = le_trans (grows d) (all_grow g)
 
     pub part_grows : {scope : Scope} {x : Option RawStatement} {y : Option Statement} → IsPart raw scope x y → scope.variables ≤ (after_part (option_map (scoped raw) x) scope).variables
-    part_grows {scope} IsPart.missing = le_same scope.variables
+    part_grows {scope} IsPart.missing = le_refl scope.variables
     part_grows (IsPart.there d) = grows d
 
     pub arms_grow : {scope : Scope} {xs : List RawArm} {zs : List Arm} → ArmsAre raw scope xs zs → scope.variables ≤ (after_all (map (scoped_of_arm raw) xs) scope).variables
-    arms_grow {scope} ArmsAre.no_arms = le_same scope.variables
+    arms_grow {scope} ArmsAre.no_arms = le_refl scope.variables
     arms_grow {scope} (ArmsAre.more_arms {labels} {body} {rest} free still d g) =
-        subst (λ (u : Scoped _). scope.variables ≤ (after_all (map (scoped_of_arm raw) rest) (u.after scope)).variables) (sym (scoped_of_arm-arm raw labels body)) (le_then (all_grow d) (arms_grow g))
+        subst (λ (u : Scoped _). scope.variables ≤ (after_all (map (scoped_of_arm raw) rest) (u.after scope)).variables) (sym (scoped_of_arm-arm raw labels body)) (le_trans (all_grow d) (arms_grow g))
 
   -- the names after a statement that declares none for what follows
   pub spans_after : (P : ℕ → Type 0) {scope : Scope} {x : RawStatement} {y : Statement} → Is raw scope x y → Spans P scope → Spans P ((scoped raw x).after scope)
   spans_after P {scope} (Is.declared {l} {v} q) s = subst (λ (u : Text). Spans P (u.after scope)) (sym (scoped-Declare raw l v init.None)) (spans_more P scope v init.None s)
   spans_after P {scope} (Is.begun {l} {v} {a} q at) s =
-      subst (λ (u : Text). Spans P (u.after scope)) (sym (scoped-Declare raw l v (init.One a))) (spans_later P (with_variable raw v (init.One a) scope) _ refl (le_same (scope.variables + 1)) (spans_more P scope v (init.One a) s))
+      subst (λ (u : Text). Spans P (u.after scope)) (sym (scoped-Declare raw l v (init.One a))) (spans_later P (with_variable raw v (init.One a) scope) _ refl (le_refl (scope.variables + 1)) (spans_more P scope v (init.One a) s))
   spans_after P {scope} (Is.assigned {l} {a} {b} {op} p q) s = spans_later P scope _ (ap (λ (u : Text). (u.after scope).names) (scoped-Assign raw l a op b)) (grows (Is.assigned {op = op} p q)) s
   spans_after P {scope} (Is.bumped {l} {a} {up} {before} p) s = spans_later P scope _ (ap (λ (u : Text). (u.after scope).names) (scoped-Bump raw l a up before)) (grows (Is.bumped p)) s
   spans_after P {scope} (Is.written {l} {f} {args} free one p) s = spans_later P scope _ (ap (λ (u : Text). (u.after scope).names) (scoped-Call raw l target.None f args)) (grows (Is.written free one p)) s
@@ -265,10 +255,10 @@ module _ (raw : RawProgram) where
       pub kept_too : kept ≡ true
 
     reached : {P : ℕ → Type 0} {n m : ℕ} {kept : Bool} {id : ℕ} → P id × (id < n) → n ≤ m → kept ≡ true → Reached P m kept id
-    reached h g k = record { place = h.0; below = lt_then h.1 g; kept_too = k }
+    reached h g k = record { place = h.0; below = lt_of_lt_of_le h.1 g; kept_too = k }
 
     later : {P : ℕ → Type 0} {n m : ℕ} {kept now : Bool} {id : ℕ} → Reached P n kept id → n ≤ m → (kept ≡ true → now ≡ true) → Reached P m now id
-    later r g k = record { place = r.place; below = lt_then r.below g; kept_too = k r.kept_too }
+    later r g k = record { place = r.place; below = lt_of_lt_of_le r.below g; kept_too = k r.kept_too }
 
     abbrev refs : Statement → ℕ → Bool
     refs = refers keeps
@@ -285,9 +275,9 @@ module _ (raw : RawProgram) where
       reaches P {scope} (Is.begun {l} {v} {a} {w} q at) s id h =
           let k = and_parts (keeps scope.statements) _ (onward id (refers-Declare keeps (Some scope.statements) l scope.variables (begins.One w)) h) in
           let inside = spans_more P scope v (init.One a) s in
-          let grown = subst (λ (u : Text). scope.variables + 1 ≤ (u.after scope).variables) (sym (scoped-Declare raw l v (init.One a))) (le_same (scope.variables + 1)) in
+          let grown = subst (λ (u : Text). scope.variables + 1 ≤ (u.after scope).variables) (sym (scoped-Declare raw l v (init.One a))) (le_refl (scope.variables + 1)) in
           reached (by_or (scope.variables == id) (names w id) k.1
-          (λ p. subst (λ (z : ℕ). P z × (z < scope.variables + 1)) (eqb-true scope.variables id p) (s.fresh scope.variables (le_same scope.variables), omega arith))
+          (λ p. subst (λ (z : ℕ). P z × (z < scope.variables + 1)) (eqb-true scope.variables id p) (s.fresh scope.variables (le_refl scope.variables), omega arith))
           (λ p. expr_spans P (with_variable raw v (init.One a) scope) inside a w at id p)) grown (ap (λ z. z.keeps) (nest-Declare keeps (Some scope.statements) l scope.variables (begins.One w)) ∙ k.0)
       reaches P {scope} (Is.assigned {l} {a} {b} {op} {u} {w} p q) s id h =
           let k = and_parts (keeps scope.statements) _ (onward id (refers-Assign keeps scope.statements l u op w) h) in
@@ -306,35 +296,35 @@ module _ (raw : RawProgram) where
           let grown = grows (Is.branched p d g) in
           let end = ap (λ (u : Text). (u.after scope).variables) (scoped-If raw l a b c) in
           let kept = ap (λ z. z.keeps) (nest-If keeps scope.statements l u zs ws) in
-          let s1 = spans_later P scope (opened (numbered scope)) refl (le_same scope.variables) s in
+          let s1 = spans_later P scope (opened (numbered scope)) refl (le_refl scope.variables) s in
           let s2 = spans_later P scope (opened (block_after raw b (numbered scope))) refl (all_grow d) s in
           by_or (keeps scope.statements && names u id) _ (onward id (refers-If keeps scope.statements l u zs ws) h)
           (λ r. let k = and_parts (keeps scope.statements) (names u id) r in reached (expr_spans P scope s a u p id k.1) grown (kept ∙ or_left (keeps scope.statements) _ k.0))
-          (λ r. by_or (either (map refs zs) id) (either (map refs ws) id) r
+          (λ r. by_or (any_of (map refs zs) id) (any_of (map refs ws) id) r
           (λ r. later (all_reach P d s1 id r) (subst (λ (n : ℕ). (after_list raw b (opened (numbered scope))).variables ≤ n) (sym end) (all_grow g)) (λ k. kept ∙ or_right (keeps scope.statements) _ (or_left (all_kept_in zs) _ k)))
-          (λ r. later (all_reach P g s2 id r) (subst (λ (n : ℕ). (after_list raw c (opened (block_after raw b (numbered scope)))).variables ≤ n) (sym end) (le_same _)) (λ k. kept ∙ or_right (keeps scope.statements) _ (or_right (all_kept_in zs) _ k))))
+          (λ r. later (all_reach P g s2 id r) (subst (λ (n : ℕ). (after_list raw c (opened (block_after raw b (numbered scope)))).variables ≤ n) (sym end) (le_refl _)) (λ k. kept ∙ or_right (keeps scope.statements) _ (or_right (all_kept_in zs) _ k))))
       reaches P {scope} (Is.while_loop {l} {a} {u} {b} {zs} p d) s id h =
           let kept = ap (λ z. z.keeps) (nest-While keeps scope.statements l u zs) in
           let end = ap (λ (u : Text). (u.after scope).variables) (scoped-While raw l a b) in
           by_or (keeps scope.statements && names u id) _ (onward id (refers-While keeps scope.statements l u zs) h)
           (λ r. let k = and_parts (keeps scope.statements) (names u id) r in reached (expr_spans P scope s a u p id k.1) (grows (Is.while_loop p d)) (kept ∙ or_left (keeps scope.statements) _ k.0))
-          (λ r. later (all_reach P d (spans_later P scope (opened (numbered scope)) refl (le_same scope.variables) s) id r) (subst (λ (n : ℕ). (after_list raw b (opened (numbered scope))).variables ≤ n) (sym end) (le_same _)) (λ k. kept ∙ or_right (keeps scope.statements) _ k))
+          (λ r. later (all_reach P d (spans_later P scope (opened (numbered scope)) refl (le_refl scope.variables) s) id r) (subst (λ (n : ℕ). (after_list raw b (opened (numbered scope))).variables ≤ n) (sym end) (le_refl _)) (λ k. kept ∙ or_right (keeps scope.statements) _ k))
       reaches P {scope} (Is.do_loop {l} {a} {u} {b} {zs} p d) s id h =
           let kept = ap (λ z. z.keeps) (nest-Do keeps scope.statements l u zs) in
           let end = ap (λ (u : Text). (u.after scope).variables) (scoped-Do raw l a b) in
           by_or (keeps scope.statements && names u id) _ (onward id (refers-Do keeps scope.statements l u zs) h)
           (λ r. let k = and_parts (keeps scope.statements) (names u id) r in reached (expr_spans P scope s a u p id k.1) (grows (Is.do_loop p d)) (kept ∙ or_left (keeps scope.statements) _ k.0))
-          (λ r. later (all_reach P d (spans_later P scope (opened (numbered scope)) refl (le_same scope.variables) s) id r) (subst (λ (n : ℕ). (after_list raw b (opened (numbered scope))).variables ≤ n) (sym end) (le_same _)) (λ k. kept ∙ or_right (keeps scope.statements) _ k))
+          (λ r. later (all_reach P d (spans_later P scope (opened (numbered scope)) refl (le_refl scope.variables) s) id r) (subst (λ (n : ℕ). (after_list raw b (opened (numbered scope))).variables ≤ n) (sym end) (le_refl _)) (λ k. kept ∙ or_right (keeps scope.statements) _ k))
       reaches P {scope} (Is.for_loop {l} {a} {u} {i} {step} {b} {first} {next} {zs} start d p g k) s id h =
           let kept = ap (λ z. z.keeps) (nest-For keeps scope.statements l first u next zs) in
           let end = ap (λ (u : Text). (u.after scope).variables) (scoped-For raw l i a step b) in
-          let s0 = spans_later P scope (opened (numbered scope)) refl (le_same scope.variables) s in
+          let s0 = spans_later P scope (opened (numbered scope)) refl (le_refl scope.variables) s in
           let s1 = part_spans P d s0 in
           let s2 = part_spans P g s1 in
-          let s3 = spans_later P (body_scope raw i step scope) (opened (body_scope raw i step scope)) refl (le_same _) s2 in
-          let from_body = subst (λ (n : ℕ). (after_list raw b (opened (body_scope raw i step scope))).variables ≤ n) (sym end) (le_same _) in
-          let from_step = le_then (all_grow k) from_body in
-          let from_test = le_then (part_grows g) from_step in
+          let s3 = spans_later P (body_scope raw i step scope) (opened (body_scope raw i step scope)) refl (le_refl _) s2 in
+          let from_body = subst (λ (n : ℕ). (after_list raw b (opened (body_scope raw i step scope))).variables ≤ n) (sym end) (le_refl _) in
+          let from_step = le_trans (all_grow k) from_body in
+          let from_test = le_trans (part_grows g) from_step in
           by_or (keeps scope.statements && names u id) _ (onward id (refers-For keeps scope.statements l first u next zs) h)
           (λ r. let q = and_parts (keeps scope.statements) (names u id) r in reached (expr_spans P (part_scope raw i scope) s1 a u p id q.1) from_test (kept ∙ or_left (keeps scope.statements) _ q.0))
           (λ r. by_or (if_any (option_map refs first) id) _ r
@@ -347,32 +337,32 @@ module _ (raw : RawProgram) where
           let end = ap (λ (u : Text). (u.after scope).variables) (scoped-Switch raw l a arms) in
           by_or (keeps scope.statements && names u id) _ (onward id (refers-Switch keeps scope.statements l u zs) h)
           (λ r. let k = and_parts (keeps scope.statements) (names u id) r in reached (expr_spans P scope s a u p id k.1) (grows (Is.switched p d)) (kept ∙ or_left (keeps scope.statements) _ k.0))
-          (λ r. later (arms_reach P d (spans_later P scope (opened (numbered scope)) refl (le_same scope.variables) s) id r) (subst (λ (n : ℕ). (after_all (map (scoped_of_arm raw) arms) (opened (numbered scope))).variables ≤ n) (sym end) (le_same _)) (λ k. kept ∙ or_right (keeps scope.statements) _ k))
+          (λ r. later (arms_reach P d (spans_later P scope (opened (numbered scope)) refl (le_refl scope.variables) s) id r) (subst (λ (n : ℕ). (after_all (map (scoped_of_arm raw) arms) (opened (numbered scope))).variables ≤ n) (sym end) (le_refl _)) (λ k. kept ∙ or_right (keeps scope.statements) _ k))
       reaches P {scope} (Is.blocked {l} {b} {zs} d) s id h =
           let kept = ap (λ z. z.keeps) (nest-Block keeps l zs) in
           let end = ap (λ (u : Text). (u.after scope).variables) (scoped-Block raw l b) in
-          later (all_reach P d (spans_later P scope (opened scope) refl (le_same scope.variables) s) id (onward id (refers-Block keeps l zs) h)) (subst (λ (n : ℕ). (after_list raw b (opened scope)).variables ≤ n) (sym end) (le_same _)) (λ k. kept ∙ k)
+          later (all_reach P d (spans_later P scope (opened scope) refl (le_refl scope.variables) s) id (onward id (refers-Block keeps l zs) h)) (subst (λ (n : ℕ). (after_list raw b (opened scope)).variables ≤ n) (sym end) (le_refl _)) (λ k. kept ∙ k)
       reaches P {scope} (Is.returned {l} {a} {u} p) s id h =
           let k = and_parts (keeps scope.statements) _ (onward id (refers-Return keeps scope.statements l u) h) in
           reached (value_span P scope s a u p id k.1) (grows (Is.returned p)) (ap (λ z. z.keeps) (nest-Return keeps scope.statements l u) ∙ k.0)
 
-      pub all_reach : (P : ℕ → Type 0) {scope : Scope} {xs : List RawStatement} {zs : List Statement} → Are raw scope xs zs → Spans P scope → (id : ℕ) → either (map refs zs) id ≡ true → Reached P (after_list raw xs scope).variables (all_kept_in zs) id
+      pub all_reach : (P : ℕ → Type 0) {scope : Scope} {xs : List RawStatement} {zs : List Statement} → Are raw scope xs zs → Spans P scope → (id : ℕ) → any_of (map refs zs) id ≡ true → Reached P (after_list raw xs scope).variables (all_kept_in zs) id
       all_reach P Are.none s id h = false_true h
       all_reach P (Are.more {z} {zs} d g) s id h =
-          by_or (refs z id) (either (map refs zs) id) h (λ r. later (reaches P d s id r) (all_grow g) (λ k. or_left (kept_in z) _ k)) (λ r. later (all_reach P g (spans_after P d s) id r) (le_same _) (λ k. or_right (kept_in z) _ k))
+          by_or (refs z id) (any_of (map refs zs) id) h (λ r. later (reaches P d s id r) (all_grow g) (λ k. or_left (kept_in z) _ k)) (λ r. later (all_reach P g (spans_after P d s) id r) (le_refl _) (λ k. or_right (kept_in z) _ k))
 
       pub part_reaches : (P : ℕ → Type 0) {scope : Scope} {x : Option RawStatement} {y : Option Statement} → IsPart raw scope x y → Spans P scope → (id : ℕ) → if_any (option_map refs y) id ≡ true
           → Reached P (after_part (option_map (scoped raw) x) scope).variables (part_kept (option_map (nest keeps) y)) id
       part_reaches P IsPart.missing s id h = false_true h
       part_reaches P (IsPart.there d) s id h = reaches P d s id h
 
-      pub arms_reach : (P : ℕ → Type 0) {scope : Scope} {xs : List RawArm} {zs : List Arm} → ArmsAre raw scope xs zs → Spans P scope → (id : ℕ) → either (map (arm_refers keeps) zs) id ≡ true
+      pub arms_reach : (P : ℕ → Type 0) {scope : Scope} {xs : List RawArm} {zs : List Arm} → ArmsAre raw scope xs zs → Spans P scope → (id : ℕ) → any_of (map (arm_refers keeps) zs) id ≡ true
           → Reached P (after_all (map (scoped_of_arm raw) xs) scope).variables (any_kept (map (arm_nest keeps) zs)) id
       arms_reach P ArmsAre.no_arms s id h = false_true h
       arms_reach P {scope} (ArmsAre.more_arms {labels} {body} {rest} {ls} {zs} {arms} free still d g) s id h =
           let kept = ap (λ z. z.keeps) (nest-arm keeps ls zs) in
           let end = ap (λ (u : Scoped _). (after_all (map (scoped_of_arm raw) rest) (u.after scope)).variables) (scoped_of_arm-arm raw labels body) in
           let inside = arm_nest keeps (arm_tree ls zs) in
-          by_or (arm_refers keeps (arm_tree ls zs) id) (either (map (arm_refers keeps) arms) id) h
+          by_or (arm_refers keeps (arm_tree ls zs) id) (any_of (map (arm_refers keeps) arms) id) h
           (λ r. later (all_reach P d s id (onward id (refers-arm keeps ls zs) r)) (subst (λ (n : ℕ). (after_list raw body scope).variables ≤ n) (sym end) (arms_grow g)) (λ k. or_left inside.keeps _ (kept ∙ k)))
-          (λ r. later (arms_reach P g (all_spans P d s) id r) (subst (λ (n : ℕ). (after_all (map (scoped_of_arm raw) rest) (after_list raw body scope)).variables ≤ n) (sym end) (le_same _)) (λ k. or_right inside.keeps _ k))
+          (λ r. later (arms_reach P g (all_spans P d s) id r) (subst (λ (n : ℕ). (after_all (map (scoped_of_arm raw) rest) (after_list raw body scope)).variables ≤ n) (sym end) (le_refl _)) (λ k. or_right inside.keeps _ k))

@@ -7,15 +7,15 @@ use Rattle.c_tree.specs.declared.program.Init.{Init}
 use Rattle.c_tree.specs.declared.statement.Target.{Target}
 use Rattle.c_tree.specs.declared.statement.Amount.{Amount}
 use Rattle.c_tree.specs.declared.statement.Label.{Label}
-use Rattle.c_tree.specs.declared.statement.Arm.{Arm, roll-Arm, fold-Arm, fold-roll-Arm}
+use Rattle.c_tree.specs.declared.statement.Arm.{Arm, roll-Arm, fold-roll-Arm}
 use Rattle.c_tree.specs.declared.statement.Statement.{Statement, fold-roll-Statement}
 use Rattle.c_tree.specs.declared.statement.Statement.TheOpen.{Statement-F}
 use Rattle.c_tree.specs.declared.statement.Statement.TheVariants as t
 use Rattle.c_language.specs.Words.{Bytes}
-use Rattle.projection.specs.Names.{refers_step, refers_arm, refers}
+use Rattle.projection.specs.Names.{refers_step, refers_arm, refers, arm_refers}
 use Rattle.built_forms.specs.IntegerForms.{statement_step, arm_step, is_integer_statement, is_integer_arm}
-use Rattle.projection_laws.specs.Nested.{Nest, nest_step, nest_arm, nest}
-use Rattle.projection_laws.specs.Staying.{Rest, rest_step, rest_arm, rest}
+use Rattle.projection_laws.specs.Nested.{Nest, nest_step, nest_arm, nest, arm_nest}
+use Rattle.projection_laws.specs.Staying.{Rest, rest_step, rest_arm, rest, arm_rest}
 
 pub integer-Declare : (id : Option ℕ) (l : ℕ) (x : ℕ) (i : Init) → is_integer_statement (t.Declare id l x i) ≡ statement_step (Statement-F.Declare id l x i)
 integer-Declare id l x i = ap is_integer_statement (sym (t.rolls-Declare id l x i)) ∙ fold-roll-Statement Bool Bool statement_step arm_step (Statement-F.Declare id l x i)
@@ -57,9 +57,6 @@ pub integer-arm : (labels : List Label) (b : List Statement) → is_integer_arm 
 integer-arm labels b = fold-roll-Arm Bool Bool statement_step arm_step (record { labels = labels; body = b })
 
 module _ (keeps : ℕ → Bool) where
-  abbrev pub arm_refers : Arm → ℕ → Bool
-  arm_refers = fold-Arm (ℕ → Bool) (ℕ → Bool) (refers_step keeps) (refers_arm keeps)
-
   pub refers-Declare : (id : Option ℕ) (l : ℕ) (x : ℕ) (i : Init) → (refers keeps) (t.Declare id l x i) ≡ (refers_step keeps) (Statement-F.Declare id l x i)
   refers-Declare id l x i = ap (refers keeps) (sym (t.rolls-Declare id l x i)) ∙ fold-roll-Statement (ℕ → Bool) (ℕ → Bool) (refers_step keeps) (refers_arm keeps) (Statement-F.Declare id l x i)
 
@@ -90,7 +87,7 @@ module _ (keeps : ℕ → Bool) where
   refers-For id l (Some i) a None b = ap (refers keeps) (sym (t.rolls-For id l (Some i) a None b)) ∙ fold-roll-Statement (ℕ → Bool) (ℕ → Bool) (refers_step keeps) (refers_arm keeps) (Statement-F.For id l (Some i) a None b)
   refers-For id l (Some i) a (Some step) b = ap (refers keeps) (sym (t.rolls-For id l (Some i) a (Some step) b)) ∙ fold-roll-Statement (ℕ → Bool) (ℕ → Bool) (refers_step keeps) (refers_arm keeps) (Statement-F.For id l (Some i) a (Some step) b)
 
-  pub refers-Switch : (id : ℕ) (l : ℕ) (a : Expr) (arms : List Arm) → (refers keeps) (t.Switch id l a arms) ≡ (refers_step keeps) (Statement-F.Switch id l a (map arm_refers arms))
+  pub refers-Switch : (id : ℕ) (l : ℕ) (a : Expr) (arms : List Arm) → (refers keeps) (t.Switch id l a arms) ≡ (refers_step keeps) (Statement-F.Switch id l a (map (arm_refers keeps) arms))
   refers-Switch id l a arms = ap (refers keeps) (sym (t.rolls-Switch id l a arms)) ∙ fold-roll-Statement (ℕ → Bool) (ℕ → Bool) (refers_step keeps) (refers_arm keeps) (Statement-F.Switch id l a arms)
 
   pub refers-Block : (l : ℕ) (b : List Statement) → (refers keeps) (t.Block l b) ≡ (refers_step keeps) (Statement-F.Block l (map (refers keeps) b))
@@ -99,11 +96,8 @@ module _ (keeps : ℕ → Bool) where
   pub refers-Return : (id : ℕ) (l : ℕ) (value : Option Expr) → (refers keeps) (t.Return id l value) ≡ (refers_step keeps) (Statement-F.Return id l value)
   refers-Return id l value = ap (refers keeps) (sym (t.rolls-Return id l value)) ∙ fold-roll-Statement (ℕ → Bool) (ℕ → Bool) (refers_step keeps) (refers_arm keeps) (Statement-F.Return id l value)
 
-  pub refers-arm : (labels : List Label) (b : List Statement) → arm_refers (roll-Arm (record { labels = labels; body = b })) ≡ refers_arm keeps (record { labels = labels; body = map (refers keeps) b })
+  pub refers-arm : (labels : List Label) (b : List Statement) → arm_refers keeps (roll-Arm (record { labels = labels; body = b })) ≡ refers_arm keeps (record { labels = labels; body = map (refers keeps) b })
   refers-arm labels b = fold-roll-Arm (ℕ → Bool) (ℕ → Bool) (refers_step keeps) (refers_arm keeps) (record { labels = labels; body = b })
-
-  abbrev pub arm_nest : Arm → Nest
-  arm_nest = fold-Arm Nest Nest (nest_step keeps) (nest_arm keeps)
 
   pub nest-Declare : (id : Option ℕ) (l : ℕ) (x : ℕ) (i : Init) → (nest keeps) (t.Declare id l x i) ≡ (nest_step keeps) (Statement-F.Declare id l x i)
   nest-Declare id l x i = ap (nest keeps) (sym (t.rolls-Declare id l x i)) ∙ fold-roll-Statement Nest Nest (nest_step keeps) (nest_arm keeps) (Statement-F.Declare id l x i)
@@ -135,7 +129,7 @@ module _ (keeps : ℕ → Bool) where
   nest-For id l (Some i) a None b = ap (nest keeps) (sym (t.rolls-For id l (Some i) a None b)) ∙ fold-roll-Statement Nest Nest (nest_step keeps) (nest_arm keeps) (Statement-F.For id l (Some i) a None b)
   nest-For id l (Some i) a (Some step) b = ap (nest keeps) (sym (t.rolls-For id l (Some i) a (Some step) b)) ∙ fold-roll-Statement Nest Nest (nest_step keeps) (nest_arm keeps) (Statement-F.For id l (Some i) a (Some step) b)
 
-  pub nest-Switch : (id : ℕ) (l : ℕ) (a : Expr) (arms : List Arm) → (nest keeps) (t.Switch id l a arms) ≡ (nest_step keeps) (Statement-F.Switch id l a (map arm_nest arms))
+  pub nest-Switch : (id : ℕ) (l : ℕ) (a : Expr) (arms : List Arm) → (nest keeps) (t.Switch id l a arms) ≡ (nest_step keeps) (Statement-F.Switch id l a (map (arm_nest keeps) arms))
   nest-Switch id l a arms = ap (nest keeps) (sym (t.rolls-Switch id l a arms)) ∙ fold-roll-Statement Nest Nest (nest_step keeps) (nest_arm keeps) (Statement-F.Switch id l a arms)
 
   pub nest-Block : (l : ℕ) (b : List Statement) → (nest keeps) (t.Block l b) ≡ (nest_step keeps) (Statement-F.Block l (map (nest keeps) b))
@@ -144,13 +138,10 @@ module _ (keeps : ℕ → Bool) where
   pub nest-Return : (id : ℕ) (l : ℕ) (value : Option Expr) → (nest keeps) (t.Return id l value) ≡ (nest_step keeps) (Statement-F.Return id l value)
   nest-Return id l value = ap (nest keeps) (sym (t.rolls-Return id l value)) ∙ fold-roll-Statement Nest Nest (nest_step keeps) (nest_arm keeps) (Statement-F.Return id l value)
 
-  pub nest-arm : (labels : List Label) (b : List Statement) → arm_nest (roll-Arm (record { labels = labels; body = b })) ≡ nest_arm keeps (record { labels = labels; body = map (nest keeps) b })
+  pub nest-arm : (labels : List Label) (b : List Statement) → arm_nest keeps (roll-Arm (record { labels = labels; body = b })) ≡ nest_arm keeps (record { labels = labels; body = map (nest keeps) b })
   nest-arm labels b = fold-roll-Arm Nest Nest (nest_step keeps) (nest_arm keeps) (record { labels = labels; body = b })
 
 module _ (keeps vars : ℕ → Bool) where
-  abbrev pub arm_rest : Arm → Rest
-  arm_rest = fold-Arm Rest Rest (rest_step keeps vars) (rest_arm keeps vars)
-
   pub rest-Declare : (id : Option ℕ) (l : ℕ) (x : ℕ) (i : Init) → (rest keeps vars) (t.Declare id l x i) ≡ (rest_step keeps vars) (Statement-F.Declare id l x i)
   rest-Declare id l x i = ap (rest keeps vars) (sym (t.rolls-Declare id l x i)) ∙ fold-roll-Statement Rest Rest (rest_step keeps vars) (rest_arm keeps vars) (Statement-F.Declare id l x i)
 
@@ -181,7 +172,7 @@ module _ (keeps vars : ℕ → Bool) where
   rest-For id l (Some i) a None b = ap (rest keeps vars) (sym (t.rolls-For id l (Some i) a None b)) ∙ fold-roll-Statement Rest Rest (rest_step keeps vars) (rest_arm keeps vars) (Statement-F.For id l (Some i) a None b)
   rest-For id l (Some i) a (Some step) b = ap (rest keeps vars) (sym (t.rolls-For id l (Some i) a (Some step) b)) ∙ fold-roll-Statement Rest Rest (rest_step keeps vars) (rest_arm keeps vars) (Statement-F.For id l (Some i) a (Some step) b)
 
-  pub rest-Switch : (id : ℕ) (l : ℕ) (a : Expr) (arms : List Arm) → (rest keeps vars) (t.Switch id l a arms) ≡ (rest_step keeps vars) (Statement-F.Switch id l a (map arm_rest arms))
+  pub rest-Switch : (id : ℕ) (l : ℕ) (a : Expr) (arms : List Arm) → (rest keeps vars) (t.Switch id l a arms) ≡ (rest_step keeps vars) (Statement-F.Switch id l a (map (arm_rest keeps vars) arms))
   rest-Switch id l a arms = ap (rest keeps vars) (sym (t.rolls-Switch id l a arms)) ∙ fold-roll-Statement Rest Rest (rest_step keeps vars) (rest_arm keeps vars) (Statement-F.Switch id l a arms)
 
   pub rest-Block : (l : ℕ) (b : List Statement) → (rest keeps vars) (t.Block l b) ≡ (rest_step keeps vars) (Statement-F.Block l (map (rest keeps vars) b))
@@ -190,5 +181,5 @@ module _ (keeps vars : ℕ → Bool) where
   pub rest-Return : (id : ℕ) (l : ℕ) (value : Option Expr) → (rest keeps vars) (t.Return id l value) ≡ (rest_step keeps vars) (Statement-F.Return id l value)
   rest-Return id l value = ap (rest keeps vars) (sym (t.rolls-Return id l value)) ∙ fold-roll-Statement Rest Rest (rest_step keeps vars) (rest_arm keeps vars) (Statement-F.Return id l value)
 
-  pub rest-arm : (labels : List Label) (b : List Statement) → arm_rest (roll-Arm (record { labels = labels; body = b })) ≡ rest_arm keeps vars (record { labels = labels; body = map (rest keeps vars) b })
+  pub rest-arm : (labels : List Label) (b : List Statement) → arm_rest keeps vars (roll-Arm (record { labels = labels; body = b })) ≡ rest_arm keeps vars (record { labels = labels; body = map (rest keeps vars) b })
   rest-arm labels b = fold-roll-Arm Rest Rest (rest_step keeps vars) (rest_arm keeps vars) (record { labels = labels; body = b })

@@ -17,7 +17,7 @@ use Rattle.c_thin_trees.proofs.WellFormed.{thinned_well_formed}
 use Rattle.projection_laws.specs.Nested.{is_nested, IsNested}
 use Rattle.projection_laws.proofs.Going.{kept_of}
 use Rattle.projection_laws.proofs.ClosedMains.{IsFine, IsMetMain, main_closed, main_met}
-use Rattle.projection_laws.proofs.SameNumbers.{program_same, first_kept}
+use Rattle.projection_laws.proofs.FirstFunction.{program_same, first_kept}
 use Rattle.projection_laws.proofs.SamePrograms.{projections_same, main_same, nested_same}
 
 or_false : (b : Bool) → (b || false) ≡ true → b ≡ true

@@ -3,6 +3,7 @@ use Rattle.std.specs.Prelude.{◌≡◌, ℕ, ◌==◌, Bool, true, false, not, 
 use Rattle.std.specs.List.{list_all, list_any}
 use Rattle.c_tree.specs.declared.program.Function.{Function}
 use Rattle.c_tree.specs.declared.program.Program.{Program}
+use Rattle.c_tree.specs.declared.statement.Arm.{Arm, fold-Arm}
 use Rattle.c_tree.specs.declared.statement.Statement.{Statement, fold-Statement}
 use Rattle.c_tree.specs.declared.statement.Statement.TheOpen.{Statement-F, Arm-F}
 
@@ -11,8 +12,8 @@ pub record Nest : Type 0 where
   pub keeps : Bool
   pub fits : Bool
 
-abbrev pub alone : Bool → Nest
-alone keeps = record { keeps = keeps; fits = true }
+abbrev pub nest_alone : Bool → Nest
+nest_alone keeps = record { keeps = keeps; fits = true }
 
 abbrev pub any_kept : List Nest → Bool
 any_kept [] = false
@@ -42,15 +43,15 @@ module _ (keeps : ℕ → Bool) where
 
   -- what a for begins with, and what stands in a bare block, stands in nothing else
   abbrev pub nest_step : Statement-F Nest Nest → Nest
-  nest_step (Statement-F.Declare id l x i) = alone (begun_kept id)
-  nest_step (Statement-F.Assign id l left op right) = alone (keeps id)
-  nest_step (Statement-F.Bump id l a up before) = alone (keeps id)
-  nest_step (Statement-F.Invoke id l to f args) = alone (keeps id)
-  nest_step (Statement-F.Fetch id l to) = alone (keeps id)
-  nest_step (Statement-F.Write id l a) = alone (keeps id)
-  nest_step (Statement-F.Print id l format args) = alone (keeps id)
-  nest_step (Statement-F.Heap id l to cast n) = alone (keeps id)
-  nest_step (Statement-F.Release id l a) = alone (keeps id)
+  nest_step (Statement-F.Declare id l x i) = nest_alone (begun_kept id)
+  nest_step (Statement-F.Assign id l left op right) = nest_alone (keeps id)
+  nest_step (Statement-F.Bump id l a up before) = nest_alone (keeps id)
+  nest_step (Statement-F.Invoke id l to f args) = nest_alone (keeps id)
+  nest_step (Statement-F.Fetch id l to) = nest_alone (keeps id)
+  nest_step (Statement-F.Write id l a) = nest_alone (keeps id)
+  nest_step (Statement-F.Print id l format args) = nest_alone (keeps id)
+  nest_step (Statement-F.Heap id l to cast n) = nest_alone (keeps id)
+  nest_step (Statement-F.Release id l a) = nest_alone (keeps id)
   nest_step (Statement-F.If id l e a b) = record { keeps = keeps id || (any_kept a || any_kept b); fits = governs (keeps id) (any_kept a || any_kept b) && (all_fit a && all_fit b) }
   nest_step (Statement-F.While id l e b) = record { keeps = keeps id || any_kept b; fits = governs (keeps id) (any_kept b) && all_fit b }
   nest_step (Statement-F.Do id l e b) = record { keeps = keeps id || any_kept b; fits = governs (keeps id) (any_kept b) && all_fit b }
@@ -60,13 +61,16 @@ module _ (keeps : ℕ → Bool) where
   }
   nest_step (Statement-F.Switch id l e arms) = record { keeps = keeps id || any_kept arms; fits = governs (keeps id) (any_kept arms) && all_fit arms }
   nest_step (Statement-F.Block l b) = record { keeps = any_kept b; fits = all_fit b }
-  nest_step (Statement-F.Return id l e) = alone (keeps id)
+  nest_step (Statement-F.Return id l e) = nest_alone (keeps id)
 
   abbrev pub nest_arm : Arm-F Nest Nest → Nest
   nest_arm a = record { keeps = any_kept a.body; fits = all_fit a.body }
 
   abbrev pub nest : Statement → Nest
   nest = fold-Statement Nest Nest nest_step nest_arm
+
+  abbrev pub arm_nest : Arm → Nest
+  arm_nest = fold-Arm Nest Nest nest_step nest_arm
 
   abbrev pub is_nested : Statement → Bool
   is_nested x = (nest x).fits
@@ -132,6 +136,9 @@ stands_arm a = record { own = any_own a.body; inside = any_inside a.body }
 
 abbrev pub stands : Statement → Stands
 stands = fold-Statement Stands Stands stands_step stands_arm
+
+abbrev pub arm_stands : Arm → Stands
+arm_stands = fold-Arm Stands Stands stands_step stands_arm
 
 -- the statement with the second number stands in the one with the first, with none between
 abbrev pub stands_in : Program → ℕ → ℕ → Bool

@@ -5,6 +5,7 @@ use Rattle.c_tree.specs.declared.program.Function.{Function}
 use Rattle.c_tree.specs.declared.program.Program.{Program}
 use Rattle.c_tree.specs.declared.statement.Target.{Target}
 use Rattle.c_tree.specs.declared.statement.Target.TheVariants as target
+use Rattle.c_tree.specs.declared.statement.Arm.{Arm, fold-Arm}
 use Rattle.c_tree.specs.declared.statement.Statement.{Statement, fold-Statement}
 use Rattle.c_tree.specs.declared.statement.Statement.TheOpen.{Statement-F, Arm-F}
 use Rattle.projection_laws.specs.Nested.{governs, begun_kept}
@@ -14,8 +15,8 @@ pub record Rest : Type 0 where
   pub stays : Bool
   pub clear : Bool
 
-abbrev pub alone : Bool → Rest
-alone stays = record { stays = stays; clear = true }
+abbrev pub rest_alone : Bool → Rest
+rest_alone stays = record { stays = stays; clear = true }
 
 abbrev pub any_stays : List Rest → Bool
 any_stays [] = false
@@ -40,15 +41,15 @@ module _ (keeps vars : ℕ → Bool) where
   target_stays (target.Declared x) = vars x
 
   abbrev pub rest_step : Statement-F Rest Rest → Rest
-  rest_step (Statement-F.Declare id l x i) = alone (begun_kept keeps id || vars x)
-  rest_step (Statement-F.Assign id l left op right) = alone (keeps id)
-  rest_step (Statement-F.Bump id l a up before) = alone (keeps id)
-  rest_step (Statement-F.Invoke id l to f args) = alone (keeps id || target_stays to)
-  rest_step (Statement-F.Fetch id l to) = alone (keeps id || target_stays to)
-  rest_step (Statement-F.Write id l a) = alone (keeps id)
-  rest_step (Statement-F.Print id l format args) = alone (keeps id)
-  rest_step (Statement-F.Heap id l to cast n) = alone (keeps id || target_stays to)
-  rest_step (Statement-F.Release id l a) = alone (keeps id)
+  rest_step (Statement-F.Declare id l x i) = rest_alone (begun_kept keeps id || vars x)
+  rest_step (Statement-F.Assign id l left op right) = rest_alone (keeps id)
+  rest_step (Statement-F.Bump id l a up before) = rest_alone (keeps id)
+  rest_step (Statement-F.Invoke id l to f args) = rest_alone (keeps id || target_stays to)
+  rest_step (Statement-F.Fetch id l to) = rest_alone (keeps id || target_stays to)
+  rest_step (Statement-F.Write id l a) = rest_alone (keeps id)
+  rest_step (Statement-F.Print id l format args) = rest_alone (keeps id)
+  rest_step (Statement-F.Heap id l to cast n) = rest_alone (keeps id || target_stays to)
+  rest_step (Statement-F.Release id l a) = rest_alone (keeps id)
   rest_step (Statement-F.If id l e a b) = record { stays = keeps id; clear = governs (keeps id) (any_stays a || any_stays b) && (all_clear a && all_clear b) }
   rest_step (Statement-F.While id l e b) = record { stays = keeps id; clear = governs (keeps id) (any_stays b) && all_clear b }
   rest_step (Statement-F.Do id l e b) = record { stays = keeps id; clear = governs (keeps id) (any_stays b) && all_clear b }
@@ -58,13 +59,16 @@ module _ (keeps vars : ℕ → Bool) where
   }
   rest_step (Statement-F.Switch id l e arms) = record { stays = keeps id; clear = governs (keeps id) (any_stays arms) && all_clear arms }
   rest_step (Statement-F.Block l b) = record { stays = any_stays b; clear = all_clear b }
-  rest_step (Statement-F.Return id l e) = alone (keeps id)
+  rest_step (Statement-F.Return id l e) = rest_alone (keeps id)
 
   abbrev pub rest_arm : Arm-F Rest Rest → Rest
   rest_arm a = record { stays = any_stays a.body; clear = all_clear a.body }
 
   abbrev pub rest : Statement → Rest
   rest = fold-Statement Rest Rest rest_step rest_arm
+
+  abbrev pub arm_rest : Arm → Rest
+  arm_rest = fold-Arm Rest Rest rest_step rest_arm
 
   abbrev pub is_clear : Statement → Bool
   is_clear x = (rest x).clear

@@ -32,6 +32,7 @@ use Rattle.projection_meaning.proofs.Targets.{place, target_place, begun_target,
 use Rattle.projection.specs.Names.{names, any_names, init_names, target_names, size_names, amount_names, value_names}
 use Rattle.projection_meaning.proofs.CodeNames.{act_names}
 use Rattle.projection.specs.Renumbering.{renamed, renamed_init}
+use Rattle.projection.proofs.NamesPass.{NamesPass}
 use Rattle.std.proofs.lemmas.Bool.{or_left, or_right, or_cases}
 use Rattle.std.proofs.lemmas.Option.{same_Some}
 use Rattle.projection_meaning.proofs.Exprs.{one_variable, is_its_variable, eval_same, place_of, designates, reads_named, left_of, place_renamed, whole_root}
@@ -379,33 +380,30 @@ module _ (f : ℕ → ℕ) (stays : ℕ → Bool) where
     abbrev ReadsSame : (Location → Bool) → Type 0
     ReadsSame r = (x : ℕ) → r (variable x) ≡ true → variable_value x m ≡ variable_value (f x) n
 
-    abbrev AllStay : (ℕ → Bool) → Type 0
-    AllStay named = (x : ℕ) → named x ≡ true → stays x ≡ true
-
-    same_type : (e : Expr) → AllStay (names e) → type_of here e ≡ type_of there (renamed f e)
+    same_type : (e : Expr) → NamesPass (names e) stays → type_of here e ≡ type_of there (renamed f e)
     same_type e named = (eval_same f here there members e (λ x k. agree x (named x k))).0
 
-    same_value : (e : Expr) → AllStay (names e) → ReadsSame (reads e) → eval here e m ≡ eval there (renamed f e) n
+    same_value : (e : Expr) → NamesPass (names e) stays → ReadsSame (reads e) → eval here e m ≡ eval there (renamed f e) n
     same_value e named read = (eval_same f here there members e (λ x k. agree x (named x k))).1 m n read
 
-    all_same : (es : List Expr) → AllStay (any_names es) → ReadsSame (any_reads es) → eval_all here es m ≡ eval_all there (map (renamed f) es) n
+    all_same : (es : List Expr) → NamesPass (any_names es) stays → ReadsSame (any_reads es) → eval_all here es m ≡ eval_all there (map (renamed f) es) n
     all_same [] named read = refl
     all_same (e ∷ es) named read =
         ap₂ beside (same_value e (λ x k. named x (or_left (names e x) (any_names es x) k)) (λ x r. read x (or_left (reads e (variable x)) (any_reads es (variable x)) r))) (all_same es (λ x k. named x (or_right (names e x) (any_names es x) k)) (λ x r. read x (or_right (reads e (variable x)) (any_reads es (variable x)) r)))
 
-    right_same : (op : Option BinaryOp) (left right : Expr) → AllStay (λ x. names left x || names right x) → ReadsSame (λ l. compound_reads op left l || reads right l) → right_of here op left right m ≡ right_of there op (renamed f left) (renamed f right) n
+    right_same : (op : Option BinaryOp) (left right : Expr) → NamesPass (λ x. names left x || names right x) stays → ReadsSame (λ l. compound_reads op left l || reads right l) → right_of here op left right m ≡ right_of there op (renamed f left) (renamed f right) n
     right_same None left right named read =
         same_value right (λ x k. named x (or_right (names left x) (names right x) k)) (λ x r. read x (or_right false (reads right (variable x)) r))
     right_same (Some op) left right named read =
-        let on_left : AllStay (names left) = λ x k. named x (or_left (names left x) (names right x) k) in
-        let on_right : AllStay (names right) = λ x k. named x (or_right (names left x) (names right x) k) in
+        let on_left : NamesPass (names left) stays = λ x k. named x (or_left (names left x) (names right x) k) in
+        let on_right : NamesPass (names right) stays = λ x k. named x (or_right (names left x) (names right x) k) in
         ap₂ (λ s t. binary_value op s t (eval here left m) (eval here right m)) (same_type left on_left) (same_type right on_right) ∙ ap₂ (binary_value op (type_of there (renamed f left)) (type_of there (renamed f right))) (same_value left on_left (λ x r. read x (or_left (reads left (variable x)) (reads right (variable x)) r))) (same_value right on_right (λ x r. read x (or_right (reads left (variable x)) (reads right (variable x)) r)))
 
-    bumped_same : (left : Expr) (up : Bool) → AllStay (names left) → ReadsSame (reads left) → bumped here left up m ≡ bumped there (renamed f left) up n
+    bumped_same : (left : Expr) (up : Bool) → NamesPass (names left) stays → ReadsSame (reads left) → bumped here left up m ≡ bumped there (renamed f left) up n
     bumped_same left up named read =
         ap₂ (λ t a. binary_value (bump up) t (integer Int) a (Some (Number (pos 1)))) (same_type left named) (same_value left named read)
 
-    result_same : (o : Option Expr) → AllStay (value_names o) → ReadsSame (value_reads o) → shown_result here o m ≡ shown_result there (option_map (renamed f) o) n
+    result_same : (o : Option Expr) → NamesPass (value_names o) stays → ReadsSame (value_reads o) → shown_result here o m ≡ shown_result there (option_map (renamed f) o) n
     result_same None named read = refl
     result_same (Some e) named read =
         ap₂ (λ t o. option_map (λ (v : Value). shows (as_result t v ∷ []) []) o) results (same_value e named read)
@@ -413,12 +411,12 @@ module _ (f : ℕ → ℕ) (stays : ℕ → Bool) where
     set_is : (types : Types) (left : Expr) (w : Option Value) (s : State) → set_by types left w s ≡ stored_in (type_of types left) (place left) w s
     set_is types left w s = ap (λ o. assigned (type_of types left) (writable s o) w) (designates types left s)
 
-    set_kept : (left : Expr) (w z : Option Value) (v : Made) → w ≡ z → AllStay (names left) → Fits m n → set_by here left w m ≡ Some v → Kept (place left) m n (set_by there (renamed f left) z n) v
+    set_kept : (left : Expr) (w z : Option Value) (v : Made) → w ≡ z → NamesPass (names left) stays → Fits m n → set_by here left w m ≡ Some v → Kept (place left) m n (set_by there (renamed f left) z n) v
     set_kept left w z v values named fits e =
         let back : stored_in (type_of there (renamed f left)) (option_map f (place left)) z n ≡ set_by there (renamed f left) z n = ap (λ o. stored_in (type_of there (renamed f left)) o z n) (sym (place_renamed f left)) ∙ sym (set_is there (renamed f left) z n) in
         subst (λ o. Kept (place left) m n o v) back (assigned_kept (type_of here left) (type_of there (renamed f left)) (place left) w z m n v (same_type left named) values (λ x p. named x ((left_of left).named_it x p)) fits (sym (set_is here left w m) ∙ e))
 
-    begun_kept : (x : ℕ) (i : Init) (v : Made) → AllStay (λ y. (x == y) || init_names i y) → ReadsSame (init_reads i) → Fits m n → begun_with here x i m ≡ Some v → Kept (begun_target x i) m n (begun_with there (f x) (renamed_init f i) n) v
+    begun_kept : (x : ℕ) (i : Init) (v : Made) → NamesPass (λ y. (x == y) || init_names i y) stays → ReadsSame (init_reads i) → Fits m n → begun_with here x i m ≡ Some v → Kept (begun_target x i) m n (begun_with there (f x) (renamed_init f i) n) v
     begun_kept x init.None v named read fits e = cc
     begun_kept x (init.One a) v named read fits e =
         let sx = named x (or_left (x == x) (names a x) (eq-eqb x x refl)) in
@@ -434,7 +432,7 @@ module _ (f : ℕ → ℕ) (stays : ℕ → Bool) where
     nothing_returned None v e = sym (ap (λ (x : Made). x.stores) (same_Some _ _ e))
     nothing_returned (Some a) v e = nothing_stored _ (eval here a m) v (λ a. refl) e
 
-    made_kept : (a : Act) (v : Made) → AllStay (act_names a) → ReadsSame (uses a) → Fits m n → made here a m ≡ Some v → Kept (act_target a) m n (made there (renamed_act f a) n) v
+    made_kept : (a : Act) (v : Made) → NamesPass (act_names a) stays → ReadsSame (uses a) → Fits m n → made here a m ≡ Some v → Kept (act_target a) m n (made there (renamed_act f a) n) v
     made_kept (Begins x i) v named read fits e = begun_kept x i v named read fits e
     made_kept (Sets left op right) v named read fits e =
         set_kept left (right_of here op left right m) (right_of there op (renamed f left) (renamed f right) n) v (right_same op left right named read) (λ x k. named x (or_left (names left x) (names right x) k)) fits e

@@ -11,16 +11,17 @@ use Rattle.c_tree.specs.declared.statement.Statement.TheOpen.{Statement-F}
 use Rattle.c_tree.specs.declared.statement.Statement.TheVariants as s
 use Rattle.c_tree.specs.declared.statement.Target.{Target}
 use Rattle.c_tree.specs.declared.statement.Target.TheVariants as target
-use Rattle.c_language.specs.Code.{Act, Code, End, Opens, Plain, Fork, Loop, ◌⨟◌, leave, Part, doing, declared, in_turn, list_of, block, declaring, given_to, part}
+use Rattle.c_language.specs.Code.{Act, Code, End, Opens, Plain, Fork, Loop, ◌⨟◌, leave, StatementPart, doing, declared_in, in_turn, list_of, block, declaring, given_to, part, either}
 use Rattle.c_language.proofs.CodeLemmas.{part_list, block_of}
 use Rattle.projection.specs.Kept.{rank}
 use Rattle.projection.specs.Names.{names, target_names, stays}
 use Rattle.projection.specs.Renumbering.{renamed, renamed_target}
 use Rattle.projection.specs.Projection as Projection
 use Rattle.projection.specs.Projection.{if_so, bare, bare_target, alone}
-use Rattle.own_words.proofs.Words.{NamesPass, kept, same_numbers}
+use Rattle.projection.proofs.NamesPass.{NamesPass}
+use Rattle.own_words.proofs.Words.{kept, same_numbers}
 use Rattle.projection_meaning.proofs.CodeNames.{act_names}
-use Rattle.projection_meaning.proofs.Projecting.{renamed_act, choose, renamed_all, project_code, NamesStay, IsNested}
+use Rattle.projection_meaning.proofs.Projecting.{renamed_act, renamed_all, project_code, NamesStay, IsNested}
 use Rattle.projection_meaning.proofs.Sequences.{in_turn-append, declared-append, renamed_all-append, project_then, project_leave, nested_then, nested_leave, names_then, names_leave}
 use Rattle.projection_meaning.proofs.PartsProject.{gathered, part_form, for_form, part_list-map, alone_is, alone_declares, one_turn, one_declares, begun_turn, begun_declares}
 
@@ -36,8 +37,8 @@ module _ (p : Program) (keeps : ℕ → Bool) where
   Named id named = keeps id ≡ true → NamesPass named vars
 
   -- these statements make the projection of what a statement does, or a list
-  pub record Makes (q : Part) (xs : List Statement) : Type 0 where
-    pub declares : declared (map part xs) ≡ renamed_all keeps vars q.declares
+  pub record Makes (q : StatementPart) (xs : List Statement) : Type 0 where
+    pub declares : declared_in (map part xs) ≡ renamed_all keeps vars q.declares
     pub before : (r : Code) → in_turn (map part xs) (project r) ≡ project (q.before r)
     pub nested : (r : Code) → IsNested keeps vars r → IsNested keeps vars (q.before r)
     pub names : (r : Code) → NamesStay keeps vars r → NamesStay keeps vars (q.before r)
@@ -50,7 +51,7 @@ module _ (p : Program) (keeps : ℕ → Bool) where
 
   -- what a statement puts before a list
   pub record Puts (id : ℕ) (f g : Code → Code) : Type 0 where
-    pub same : (r : Code) → project (f r) ≡ choose (keeps id) (g (project r)) (project r)
+    pub same : (r : Code) → project (f r) ≡ either (keeps id) (g (project r)) (project r)
     pub nested : (r : Code) → IsNested keeps vars r → IsNested keeps vars (f r)
     pub names : (r : Code) → NamesStay keeps vars r → NamesStay keeps vars (f r)
 
@@ -59,22 +60,22 @@ module _ (p : Program) (keeps : ℕ → Bool) where
   pub makes_none : Makes (gathered []) []
   makes_none = record { declares = refl; before = λ r. refl; nested = λ r h. h; names = λ r h. h }
 
-  pub makes_both : (q : Part) (ss : List Part) (xs ys : List Statement) → Makes q xs → Makes (gathered ss) ys → Makes (gathered (q ∷ ss)) (xs ++ ys)
+  pub makes_both : (q : StatementPart) (ss : List StatementPart) (xs ys : List Statement) → Makes q xs → Makes (gathered ss) ys → Makes (gathered (q ∷ ss)) (xs ++ ys)
   makes_both q ss xs ys h k = record {
-    declares = declared-append xs ys ∙ ap₂ (λ m n. m ++ n) h.declares k.declares ∙ sym (renamed_all-append keeps vars q.declares (declared ss));
+    declares = declared-append xs ys ∙ ap₂ (λ m n. m ++ n) h.declares k.declares ∙ sym (renamed_all-append keeps vars q.declares (declared_in ss));
     before = λ r. in_turn-append xs ys (project r) ∙ (ap (in_turn (map part xs)) (k.before r) ∙ h.before (in_turn ss r));
     nested = λ r n. h.nested (in_turn ss r) (k.nested r n);
     names = λ r n. h.names (in_turn ss r) (k.names r n);
   }
 
-  pub turns_list : (ss : List Part) (xs : List Statement) → Makes (gathered ss) xs → Turns (list_of ss) (list_of (map part xs))
+  pub turns_list : (ss : List StatementPart) (xs : List Statement) → Makes (gathered ss) xs → Turns (list_of ss) (list_of (map part xs))
   turns_list ss xs h = record { same = sym (h.before End); nested = h.nested End tt; names = h.names End tt }
 
-  pub turns_block : (ss : List Part) (xs : List Statement) → Makes (gathered ss) xs → Turns (block ss) (block (map part xs))
+  pub turns_block : (ss : List StatementPart) (xs : List Statement) → Makes (gathered ss) xs → Turns (block ss) (block (map part xs))
   turns_block ss xs h = record {
-    same = sym (h.before (leave (declared ss) End)) ∙ ap (in_turn (map part xs)) (project_leave keeps vars (declared ss) End ∙ ap (λ ns. leave ns End) (sym h.declares));
-    nested = h.nested (leave (declared ss) End) (nested_leave keeps vars (declared ss) End tt);
-    names = h.names (leave (declared ss) End) (names_leave keeps vars (declared ss) End tt);
+    same = sym (h.before (leave (declared_in ss) End)) ∙ ap (in_turn (map part xs)) (project_leave keeps vars (declared_in ss) End ∙ ap (λ ns. leave ns End) (sym h.declares));
+    nested = h.nested (leave (declared_in ss) End) (nested_leave keeps vars (declared_in ss) End tt);
+    names = h.names (leave (declared_in ss) End) (names_leave keeps vars (declared_in ss) End tt);
   }
 
   pub turns_then : (a b c d : Code) → Turns a c → Turns b d → Turns (a ⨟ b) (c ⨟ d)
@@ -98,11 +99,11 @@ module _ (p : Program) (keeps : ℕ → Bool) where
   bare_form l y = part_form (s.Declare None l y init.None) (Statement-F.Declare None l y init.None) (s.rolls-Declare None l y init.None)
 
   pub makes_begun : (b : Bool) (l y : ℕ) (x : Statement) (f g : Code → Code) → part x ≡ declaring (rank vars y) (λ r. Opens (rank vars y) (g r)) → (b ≡ true → vars y ≡ true)
-      → ((r : Code) → project (f r) ≡ choose b (g (project r)) (project r)) → ((r : Code) → IsNested keeps vars r → IsNested keeps vars (f r)) → ((r : Code) → NamesStay keeps vars r → NamesStay keeps vars (f r))
+      → ((r : Code) → project (f r) ≡ either b (g (project r)) (project r)) → ((r : Code) → IsNested keeps vars r → IsNested keeps vars (f r)) → ((r : Code) → NamesStay keeps vars r → NamesStay keeps vars (f r))
       → Makes (declaring y (λ r. Opens y (f r))) (if_so b (x ∷ []) (bare (kept p keeps) same_numbers l y))
   makes_begun b l y x f g is stay same nested names_ = record {
     declares = begun_declares b (vars y) x (s.Declare None l (rank vars y) init.None) (rank vars y) (λ r. Opens (rank vars y) (g r)) is (bare_form l (rank vars y)) stay;
-    before = λ r. begun_turn b (vars y) x (s.Declare None l (rank vars y) init.None) (rank vars y) g (project r) is (bare_form l (rank vars y)) stay ∙ sym (ap (λ c. choose (vars y) (Opens (rank vars y) c) c) (same r));
+    before = λ r. begun_turn b (vars y) x (s.Declare None l (rank vars y) init.None) (rank vars y) g (project r) is (bare_form l (rank vars y)) stay ∙ sym (ap (λ c. either (vars y) (Opens (rank vars y) c) c) (same r));
     nested = nested;
     names = names_;
   }
@@ -126,19 +127,19 @@ module _ (p : Program) (keeps : ℕ → Bool) where
 
   pub puts_fork : (id : ℕ) (e : Expr) (c d : ℤ → Code) → Named id (names e) → ((v : ℤ) → Turns (c v) (d v)) → (keeps id ≡ false → (v : ℤ) → d v ≡ End) → Puts id (Fork id e c) (Fork (rank keeps id) (renamed (rank vars) e) d)
   puts_fork id e c d n h ends = record {
-    same = λ r. ap (λ m. choose (keeps id) (Fork (rank keeps id) (renamed (rank vars) e) m (project r)) (project r)) (fun_ext (λ v. (h v).same));
+    same = λ r. ap (λ m. either (keeps id) (Fork (rank keeps id) (renamed (rank vars) e) m (project r)) (project r)) (fun_ext (λ v. (h v).same));
     nested = λ r k. (λ f v. (h v).same ∙ ends f v, ((λ v. (h v).nested), k));
     names = λ r k. (n, ((λ v. (h v).names), k));
   }
 
   pub puts_loop : (id : ℕ) (e : Expr) (c d : Code) → Named id (names e) → Turns c d → (keeps id ≡ false → d ≡ End) → Puts id (Loop id e c) (Loop (rank keeps id) (renamed (rank vars) e) d)
   puts_loop id e c d n h ends = record {
-    same = λ r. ap (λ m. choose (keeps id) (Loop (rank keeps id) (renamed (rank vars) e) m (project r)) (project r)) h.same;
+    same = λ r. ap (λ m. either (keeps id) (Loop (rank keeps id) (renamed (rank vars) e) m (project r)) (project r)) h.same;
     nested = λ r k. (λ f. h.same ∙ ends f, (h.nested, k));
     names = λ r k. (n, (h.names, k));
   }
 
-  chosen_then : (b : Bool) (d x y : Code) → (b ≡ false → d ≡ End) → d ⨟ choose b x y ≡ choose b (d ⨟ x) y
+  chosen_then : (b : Bool) (d x y : Code) → (b ≡ false → d ≡ End) → d ⨟ either b x y ≡ either b (d ⨟ x) y
   chosen_then true d x y ends = refl
   chosen_then false d x y ends = ap (λ c. c ⨟ y) (ends refl)
 
@@ -153,17 +154,17 @@ module _ (p : Program) (keeps : ℕ → Bool) where
 
   -- ---- a for
 
-  for_turn : (b : Bool) (l : ℕ) (x : Statement) (i : Option Statement) (f : Code → Code) (r : Code) → part x ≡ doing (λ c. list_of (part_list i) ⨟ f (leave (declared (part_list i)) c))
-      → in_turn (map part (if_so b (x ∷ []) (alone l i))) r ≡ list_of (part_list i) ⨟ choose b (f (leave (declared (part_list i)) r)) (leave (declared (part_list i)) r)
-  for_turn true l x i f r is = ap (λ (q : Part). q.before r) is
+  for_turn : (b : Bool) (l : ℕ) (x : Statement) (i : Option Statement) (f : Code → Code) (r : Code) → part x ≡ doing (λ c. list_of (part_list i) ⨟ f (leave (declared_in (part_list i)) c))
+      → in_turn (map part (if_so b (x ∷ []) (alone l i))) r ≡ list_of (part_list i) ⨟ either b (f (leave (declared_in (part_list i)) r)) (leave (declared_in (part_list i)) r)
+  for_turn true l x i f r is = ap (λ (q : StatementPart). q.before r) is
   for_turn false l x i f r is = alone_is (kept p keeps) same_numbers l i r
 
-  for_declares : (b : Bool) (l : ℕ) (x : Statement) (i : Option Statement) (f : Code → Code) → part x ≡ doing f → declared (map part (if_so b (x ∷ []) (alone l i))) ≡ []
-  for_declares true l x i f is = ap (λ (q : Part). q.declares ++ []) is
+  for_declares : (b : Bool) (l : ℕ) (x : Statement) (i : Option Statement) (f : Code → Code) → part x ≡ doing f → declared_in (map part (if_so b (x ∷ []) (alone l i))) ≡ []
+  for_declares true l x i f is = ap (λ (q : StatementPart). q.declares ++ []) is
   for_declares false l x i f is = alone_declares (kept p keeps) same_numbers l i
 
-  pub makes_for : (id l : ℕ) (ss : List Part) (i : Option Statement) (e : Expr) (step : Option Statement) (b : List Statement) (c : Code) → Makes (gathered ss) (option_to_list i) → Named id (names e) → Turns c (block_of b ⨟ list_of (part_list step)) → (keeps id ≡ false → block_of b ⨟ list_of (part_list step) ≡ End)
-      → Makes (doing (λ r. list_of ss ⨟ Loop id e c (leave (declared ss) r))) (if_so (keeps id) (s.For (rank keeps id) l i (renamed (rank vars) e) step b ∷ []) (alone l i))
+  pub makes_for : (id l : ℕ) (ss : List StatementPart) (i : Option Statement) (e : Expr) (step : Option Statement) (b : List Statement) (c : Code) → Makes (gathered ss) (option_to_list i) → Named id (names e) → Turns c (block_of b ⨟ list_of (part_list step)) → (keeps id ≡ false → block_of b ⨟ list_of (part_list step) ≡ End)
+      → Makes (doing (λ r. list_of ss ⨟ Loop id e c (leave (declared_in ss) r))) (if_so (keeps id) (s.For (rank keeps id) l i (renamed (rank vars) e) step b ∷ []) (alone l i))
   makes_for id l ss i e step b c first n body ends =
       let d : Code = block_of b ⨟ list_of (part_list step) in
       let begins = turns_list ss (option_to_list i) first in
@@ -173,24 +174,24 @@ module _ (p : Program) (keeps : ℕ → Bool) where
       record {
         declares = for_declares (keeps id) l _ i _ form;
         before = λ r. for_turn (keeps id) l (s.For (rank keeps id) l i (renamed (rank vars) e) step b) i (Loop (rank keeps id) (renamed (rank vars) e) d) (project r) form
-            ∙ ap₂ (λ x y. x ⨟ choose (keeps id) (Loop (rank keeps id) (renamed (rank vars) e) d y) y) (ap list_of (sym lists) ∙ sym begins.same) (ap (λ ps. leave (declared ps) (project r)) (sym lists) ∙ ap (λ ns. leave ns (project r)) first.declares ∙ sym (project_leave keeps vars (declared ss) r))
-            ∙ ap (λ y. project (list_of ss) ⨟ y) (sym (turn.same (leave (declared ss) r)))
-            ∙ sym (project_then keeps vars (list_of ss) (Loop id e c (leave (declared ss) r)));
-        nested = λ r k. nested_then keeps vars (list_of ss) (Loop id e c (leave (declared ss) r)) begins.nested (turn.nested (leave (declared ss) r) (nested_leave keeps vars (declared ss) r k));
-        names = λ r k. names_then keeps vars (list_of ss) (Loop id e c (leave (declared ss) r)) begins.names (turn.names (leave (declared ss) r) (names_leave keeps vars (declared ss) r k));
+            ∙ ap₂ (λ x y. x ⨟ either (keeps id) (Loop (rank keeps id) (renamed (rank vars) e) d y) y) (ap list_of (sym lists) ∙ sym begins.same) (ap (λ ps. leave (declared_in ps) (project r)) (sym lists) ∙ ap (λ ns. leave ns (project r)) first.declares ∙ sym (project_leave keeps vars (declared_in ss) r))
+            ∙ ap (λ y. project (list_of ss) ⨟ y) (sym (turn.same (leave (declared_in ss) r)))
+            ∙ sym (project_then keeps vars (list_of ss) (Loop id e c (leave (declared_in ss) r)));
+        nested = λ r k. nested_then keeps vars (list_of ss) (Loop id e c (leave (declared_in ss) r)) begins.nested (turn.nested (leave (declared_in ss) r) (nested_leave keeps vars (declared_in ss) r k));
+        names = λ r k. names_then keeps vars (list_of ss) (Loop id e c (leave (declared_in ss) r)) begins.names (turn.names (leave (declared_in ss) r) (names_leave keeps vars (declared_in ss) r k));
       }
 
   -- ---- a block, which stays where something in it does
 
   block_turn : (l : ℕ) (xs : List Statement) (r : Code) → in_turn (map part (Projection.block_of l xs)) r ≡ block_of xs ⨟ r
   block_turn l [] r = refl
-  block_turn l (x ∷ xs) r = ap (λ (q : Part). q.before r) (part_form (s.Block l (x ∷ xs)) (Statement-F.Block l (x ∷ xs)) (s.rolls-Block l (x ∷ xs)))
+  block_turn l (x ∷ xs) r = ap (λ (q : StatementPart). q.before r) (part_form (s.Block l (x ∷ xs)) (Statement-F.Block l (x ∷ xs)) (s.rolls-Block l (x ∷ xs)))
 
-  block_declares : (l : ℕ) (xs : List Statement) → declared (map part (Projection.block_of l xs)) ≡ []
+  block_declares : (l : ℕ) (xs : List Statement) → declared_in (map part (Projection.block_of l xs)) ≡ []
   block_declares l [] = refl
-  block_declares l (x ∷ xs) = ap (λ (q : Part). q.declares ++ []) (part_form (s.Block l (x ∷ xs)) (Statement-F.Block l (x ∷ xs)) (s.rolls-Block l (x ∷ xs)))
+  block_declares l (x ∷ xs) = ap (λ (q : StatementPart). q.declares ++ []) (part_form (s.Block l (x ∷ xs)) (Statement-F.Block l (x ∷ xs)) (s.rolls-Block l (x ∷ xs)))
 
-  pub makes_block : (l : ℕ) (ss : List Part) (xs : List Statement) → Makes (gathered ss) xs → Makes (doing (λ r. block ss ⨟ r)) (Projection.block_of l xs)
+  pub makes_block : (l : ℕ) (ss : List StatementPart) (xs : List Statement) → Makes (gathered ss) xs → Makes (doing (λ r. block ss ⨟ r)) (Projection.block_of l xs)
   makes_block l ss xs h =
       let inside = turns_block ss xs h in
       record {

@@ -14,18 +14,19 @@ use Rattle.c_tree.specs.declared.statement.Target.{Target}
 use Rattle.c_tree.specs.declared.statement.Target.TheVariants as target
 use Rattle.c_tree.proofs.Trees.{StatementParts, statement_layer, ArmParts, arm_layer, of_every_statement}
 use Rattle.c_language.specs.Code as language
-use Rattle.c_language.specs.Code.{Act, Begins, Sets, Bumps, Fetches, Writes, Prints, Allocates, Frees, Returns, Code, End, Plain, Fork, Loop, Call, ◌⨟◌, leave, is_true, Part, doing, declared, list_of, given_to, has_case, has_default, ArmPart, default_arm, case_arm, taken_arm, part_step, arm_step, part}
+use Rattle.c_language.specs.Code.{Act, Begins, Sets, Bumps, Fetches, Writes, Prints, Allocates, Frees, Returns, Code, End, Plain, Fork, Loop, Call, ◌⨟◌, leave, is_true, StatementPart, doing, declared_in, list_of, given_to, has_case, has_default, ArmPart, default_arm, case_arm, taken_arm, part_step, arm_step, part}
 use Rattle.c_language.proofs.CodeLemmas.{arm_part, part_list, block_of}
 use Rattle.projection.specs.Kept.{rank}
-use Rattle.projection.specs.Names.{names, any_names, init_names, target_names, amount_names, either, refers_step, refers_arm, refers, stays}
+use Rattle.projection.specs.Names.{names, any_names, init_names, target_names, amount_names, any_of, refers_step, refers_arm, refers, arm_refers, stays}
 use Rattle.projection.specs.Renumbering.{renamed, renamed_init, renamed_target, renamed_amount, renamed_label}
-use Rattle.projection.specs.Projection.{if_so, first_of, projected_step, projected_arm_step}
+use Rattle.projection.specs.Projection.{if_so, first_statement, projected_step, projected_arm_step}
 use Rattle.projection.specs.Projection as Projection
+use Rattle.projection.proofs.NamesPass.{NamesPass, left_pass, right_pass}
 use Rattle.projection_laws.specs.Nested.{governs}
 use Rattle.projection_laws.specs.Staying.{Rest, any_stays, all_clear, rest_step, rest_arm}
 use Rattle.own_words.proofs.Parts.{short}
-use Rattle.own_words.proofs.Words.{NamesPass, left_pass, right_pass, kept, same_numbers}
-use Rattle.own_words.proofs.Forms.{left, arm_left, all_left, part_left, step_left, refers_to_arm, step_refers}
+use Rattle.own_words.proofs.Words.{kept, same_numbers}
+use Rattle.own_words.proofs.Forms.{left, arm_left, all_left, part_left, step_left, step_refers}
 use Rattle.projection_meaning.proofs.Codes.{layer_part, part-roll}
 use Rattle.projection_meaning.proofs.CodeNames.{act_names}
 use Rattle.projection_meaning.proofs.Projecting.{renamed_act}
@@ -49,19 +50,19 @@ module _ (p : Program) (keeps : ℕ → Bool) where
   Fits x = (rested p keeps x).clear ≡ true → NamesPass (refers keeps x) vars → Makes p keeps (part x) (left p keeps x)
 
   abbrev ArmFits : Arm → Type 0
-  ArmFits a = (arm_rested p keeps a).clear ≡ true → NamesPass (refers_to_arm p keeps a) vars → ArmTurns p keeps (arm_rested p keeps a).stays (arm_part a) (arm_part (arm_left p keeps a))
+  ArmFits a = (arm_rested p keeps a).clear ≡ true → NamesPass (arm_refers keeps a) vars → ArmTurns p keeps (arm_rested p keeps a).stays (arm_part a) (arm_part (arm_left p keeps a))
 
   own_named : (id : ℕ) (named : ℕ → Bool) → NamesPass (λ v. keeps id && named v) vars → keeps id ≡ true → NamesPass named vars
   own_named id named h k v n = h v (and_from _ _ k n)
 
-  list_fits : (ys : List ((x : Statement) × Fits x)) → all_clear (map (rested p keeps) (subjects ys)) ≡ true → NamesPass (either (map (refers keeps) (subjects ys))) vars → Makes p keeps (gathered (map part (subjects ys))) (all_left p keeps (subjects ys))
+  list_fits : (ys : List ((x : Statement) × Fits x)) → all_clear (map (rested p keeps) (subjects ys)) ≡ true → NamesPass (any_of (map (refers keeps) (subjects ys))) vars → Makes p keeps (gathered (map part (subjects ys))) (all_left p keeps (subjects ys))
   list_fits [] c n = makes_none p keeps
   list_fits (y ∷ ys) c n =
       let both = and_parts (rested p keeps y.0).clear (all_clear (map (rested p keeps) (subjects ys))) c in
-      makes_both p keeps (part y.0) (map part (subjects ys)) (left p keeps y.0) (all_left p keeps (subjects ys)) (y.1 both.0 (left_pass (refers keeps y.0) (either (map (refers keeps) (subjects ys))) n)) (list_fits ys both.1 (right_pass (refers keeps y.0) (either (map (refers keeps) (subjects ys))) n))
+      makes_both p keeps (part y.0) (map part (subjects ys)) (left p keeps y.0) (all_left p keeps (subjects ys)) (y.1 both.0 (left_pass (refers keeps y.0) (any_of (map (refers keeps) (subjects ys))) n)) (list_fits ys both.1 (right_pass (refers keeps y.0) (any_of (map (refers keeps) (subjects ys))) n))
 
   -- a block, where this is known of its statements
-  block_fits : (ys : List ((x : Statement) × Fits x)) → all_clear (map (rested p keeps) (subjects ys)) ≡ true → NamesPass (either (map (refers keeps) (subjects ys))) vars → Turns p keeps (block_of (subjects ys)) (block_of (all_left p keeps (subjects ys)))
+  block_fits : (ys : List ((x : Statement) × Fits x)) → all_clear (map (rested p keeps) (subjects ys)) ≡ true → NamesPass (any_of (map (refers keeps) (subjects ys))) vars → Turns p keeps (block_of (subjects ys)) (block_of (all_left p keeps (subjects ys)))
   block_fits ys c n = turns_block p keeps (map part (subjects ys)) (all_left p keeps (subjects ys)) (list_fits ys c n)
 
   no_block : (xs : List Statement) → any_stays (map (rested p keeps) xs) ≡ false → block_of (all_left p keeps xs) ≡ End
@@ -92,12 +93,12 @@ module _ (p : Program) (keeps : ℕ → Bool) where
 
   no_part : (o : Option Statement) → part_stays o ≡ false → part_left p keeps o ≡ None
   no_part None h = refl
-  no_part (Some x) h = ap first_of (nothing_left p keeps x h)
+  no_part (Some x) h = ap first_statement (nothing_left p keeps x h)
 
   for_fits : (id l : ℕ) (i : Option ((x : Statement) × Fits x)) (e : Expr) (step : Option ((x : Statement) × Fits x)) (ys : List ((x : Statement) × Fits x))
       → (governs (keeps id) (part_stays (subject step) || any_stays (map (rested p keeps) (subjects ys))) && (part_clear (subject i) && (part_clear (subject step) && all_clear (map (rested p keeps) (subjects ys))))) ≡ true
-      → NamesPass (λ v. (keeps id && names e v) || (part_refers (subject i) v || (part_refers (subject step) v || either (map (refers keeps) (subjects ys)) v))) vars
-      → Makes p keeps (doing (λ r. list_of (part_list (subject i)) ⨟ Loop id e (block_of (subjects ys) ⨟ list_of (part_list (subject step))) (leave (declared (part_list (subject i))) r)))
+      → NamesPass (λ v. (keeps id && names e v) || (part_refers (subject i) v || (part_refers (subject step) v || any_of (map (refers keeps) (subjects ys)) v))) vars
+      → Makes p keeps (doing (λ r. list_of (part_list (subject i)) ⨟ Loop id e (block_of (subjects ys) ⨟ list_of (part_list (subject step))) (leave (declared_in (part_list (subject i))) r)))
       (if_so (keeps id) (s.For (rank keeps id) l (part_left p keeps (subject i)) (renamed (rank vars) e) (part_left p keeps (subject step)) (all_left p keeps (subjects ys)) ∷ []) (Projection.alone l (part_left p keeps (subject i))))
   for_fits id l i e step ys c n =
       let stay = any_stays (map (rested p keeps) (subjects ys)) in
@@ -105,7 +106,7 @@ module _ (p : Program) (keeps : ℕ → Bool) where
       let split = and_parts (governs (keeps id) (part_stays (subject step) || stay)) (part_clear (subject i) && (part_clear (subject step) && clear)) c in
       let parts = and_parts (part_clear (subject i)) (part_clear (subject step) && clear) split.1 in
       let repeated = and_parts (part_clear (subject step)) clear parts.1 in
-      let inner : ℕ → Bool = either (map (refers keeps) (subjects ys)) in
+      let inner : ℕ → Bool = any_of (map (refers keeps) (subjects ys)) in
       let inside = right_pass (λ v. keeps id && names e v) (λ v. part_refers (subject i) v || (part_refers (subject step) v || inner v)) n in
       let behind = right_pass (part_refers (subject i)) (λ v. part_refers (subject step) v || inner v) inside in
       let steps = turns_list p keeps (part_list (subject step)) (option_to_list (part_left p keeps (subject step))) (part_fits step repeated.0 (left_pass (part_refers (subject step)) inner behind)) in
@@ -120,25 +121,25 @@ module _ (p : Program) (keeps : ℕ → Bool) where
   abbrev bodies : List Arm → List ArmPart
   bodies as_ = map arm_part (map (arm_left p keeps) as_)
 
-  default_ends : (ys : List ((a : Arm) × ArmFits a)) → all_clear (map (arm_rested p keeps) (subjects ys)) ≡ true → NamesPass (either (map (refers_to_arm p keeps) (subjects ys))) vars → any_stays (map (arm_rested p keeps) (subjects ys)) ≡ false → default_arm (bodies (subjects ys)) ≡ End
+  default_ends : (ys : List ((a : Arm) × ArmFits a)) → all_clear (map (arm_rested p keeps) (subjects ys)) ≡ true → NamesPass (any_of (map (arm_refers keeps) (subjects ys))) vars → any_stays (map (arm_rested p keeps) (subjects ys)) ≡ false → default_arm (bodies (subjects ys)) ≡ End
   default_ends [] c n h = refl
   default_ends (y ∷ ys) c n h =
       let both = and_parts (arm_rested p keeps y.0).clear (all_clear (map (arm_rested p keeps) (subjects ys))) c in
       let none = or_parts (arm_rested p keeps y.0).stays (any_stays (map (arm_rested p keeps) (subjects ys))) h in
-      if_ends p keeps (has_default (arm_part (arm_left p keeps y.0)).labels) _ _ ((y.1 both.0 (left_pass (refers_to_arm p keeps y.0) (either (map (refers_to_arm p keeps) (subjects ys))) n)).nothing none.0) (default_ends ys both.1 (right_pass (refers_to_arm p keeps y.0) (either (map (refers_to_arm p keeps) (subjects ys))) n) none.1)
+      if_ends p keeps (has_default (arm_part (arm_left p keeps y.0)).labels) _ _ ((y.1 both.0 (left_pass (arm_refers keeps y.0) (any_of (map (arm_refers keeps) (subjects ys))) n)).nothing none.0) (default_ends ys both.1 (right_pass (arm_refers keeps y.0) (any_of (map (arm_refers keeps) (subjects ys))) n) none.1)
 
-  case_ends : (ys : List ((a : Arm) × ArmFits a)) (v : ℤ) (d : Code) → all_clear (map (arm_rested p keeps) (subjects ys)) ≡ true → NamesPass (either (map (refers_to_arm p keeps) (subjects ys))) vars → any_stays (map (arm_rested p keeps) (subjects ys)) ≡ false → d ≡ End → case_arm (bodies (subjects ys)) v d ≡ End
+  case_ends : (ys : List ((a : Arm) × ArmFits a)) (v : ℤ) (d : Code) → all_clear (map (arm_rested p keeps) (subjects ys)) ≡ true → NamesPass (any_of (map (arm_refers keeps) (subjects ys))) vars → any_stays (map (arm_rested p keeps) (subjects ys)) ≡ false → d ≡ End → case_arm (bodies (subjects ys)) v d ≡ End
   case_ends [] v d c n h e = e
   case_ends (y ∷ ys) v d c n h e =
       let both = and_parts (arm_rested p keeps y.0).clear (all_clear (map (arm_rested p keeps) (subjects ys))) c in
       let none = or_parts (arm_rested p keeps y.0).stays (any_stays (map (arm_rested p keeps) (subjects ys))) h in
-      if_ends p keeps (has_case v (arm_part (arm_left p keeps y.0)).labels) _ _ ((y.1 both.0 (left_pass (refers_to_arm p keeps y.0) (either (map (refers_to_arm p keeps) (subjects ys))) n)).nothing none.0) (case_ends ys v d both.1 (right_pass (refers_to_arm p keeps y.0) (either (map (refers_to_arm p keeps) (subjects ys))) n) none.1 e)
+      if_ends p keeps (has_case v (arm_part (arm_left p keeps y.0)).labels) _ _ ((y.1 both.0 (left_pass (arm_refers keeps y.0) (any_of (map (arm_refers keeps) (subjects ys))) n)).nothing none.0) (case_ends ys v d both.1 (right_pass (arm_refers keeps y.0) (any_of (map (arm_refers keeps) (subjects ys))) n) none.1 e)
 
-  arms_fit : (ys : List ((a : Arm) × ArmFits a)) → all_clear (map (arm_rested p keeps) (subjects ys)) ≡ true → NamesPass (either (map (refers_to_arm p keeps) (subjects ys))) vars → ArmsTurn p keeps (map arm_part (subjects ys)) (bodies (subjects ys))
+  arms_fit : (ys : List ((a : Arm) × ArmFits a)) → all_clear (map (arm_rested p keeps) (subjects ys)) ≡ true → NamesPass (any_of (map (arm_refers keeps) (subjects ys))) vars → ArmsTurn p keeps (map arm_part (subjects ys)) (bodies (subjects ys))
   arms_fit [] c n = none
   arms_fit (y ∷ ys) c n =
       let both = and_parts (arm_rested p keeps y.0).clear (all_clear (map (arm_rested p keeps) (subjects ys))) c in
-      more (y.1 both.0 (left_pass (refers_to_arm p keeps y.0) (either (map (refers_to_arm p keeps) (subjects ys))) n)) (arms_fit ys both.1 (right_pass (refers_to_arm p keeps y.0) (either (map (refers_to_arm p keeps) (subjects ys))) n))
+      more (y.1 both.0 (left_pass (arm_refers keeps y.0) (any_of (map (arm_refers keeps) (subjects ys))) n)) (arms_fit ys both.1 (right_pass (arm_refers keeps y.0) (any_of (map (arm_refers keeps) (subjects ys))) n))
 
   -- ---- each layer
 
@@ -176,7 +177,7 @@ module _ (p : Program) (keeps : ℕ → Bool) where
   clear_in ys = all_clear (map (rested p keeps) (subjects ys))
 
   abbrev refers_in : List ((x : Statement) × Fits x) → ℕ → Bool
-  refers_in ys = either (map (refers keeps) (subjects ys))
+  refers_in ys = any_of (map (refers keeps) (subjects ys))
 
   if_fits : (id l : ℕ) (e : Expr) (xs ys : List ((x : Statement) × Fits x)) → (governs (keeps id) (stay_in xs || stay_in ys) && (clear_in xs && clear_in ys)) ≡ true → NamesPass (λ v. (keeps id && names e v) || (refers_in xs v || refers_in ys v)) vars
       → Makes p keeps (doing (Fork id e (λ v. language.either (is_true v) (block_of (subjects xs)) (block_of (subjects ys))))) (if_so (keeps id) (s.If (rank keeps id) l (new e) (all_left p keeps (subjects xs)) (all_left p keeps (subjects ys)) ∷ []) [])
@@ -217,16 +218,16 @@ module _ (p : Program) (keeps : ℕ → Bool) where
       let body = all_left p keeps (subjects ys) in
       makes_one p keeps id (s.Do (rank keeps id) l (new e) body) _ _ (part_form _ (Statement-F.Do (rank keeps id) l (new e) body) (s.rolls-Do (rank keeps id) l (new e) body)) (puts_do p keeps id e (block_of (subjects ys)) (block_of body) t.named t.turns t.ends)
 
-  switch_fits : (id l : ℕ) (e : Expr) (ys : List ((a : Arm) × ArmFits a)) → (governs (keeps id) (any_stays (map (arm_rested p keeps) (subjects ys))) && all_clear (map (arm_rested p keeps) (subjects ys))) ≡ true → NamesPass (λ v. (keeps id && names e v) || either (map (refers_to_arm p keeps) (subjects ys)) v) vars
+  switch_fits : (id l : ℕ) (e : Expr) (ys : List ((a : Arm) × ArmFits a)) → (governs (keeps id) (any_stays (map (arm_rested p keeps) (subjects ys))) && all_clear (map (arm_rested p keeps) (subjects ys))) ≡ true → NamesPass (λ v. (keeps id && names e v) || any_of (map (arm_refers keeps) (subjects ys)) v) vars
       → Makes p keeps (doing (Fork id e (taken_arm (map arm_part (subjects ys))))) (if_so (keeps id) (s.Switch (rank keeps id) l (new e) (map (arm_left p keeps) (subjects ys)) ∷ []) [])
   switch_fits id l e ys c n =
       let stay = any_stays (map (arm_rested p keeps) (subjects ys)) in
       let split = and_parts (governs (keeps id) stay) (all_clear (map (arm_rested p keeps) (subjects ys))) c in
       let arms = map (arm_left p keeps) (subjects ys) in
-      let inside = right_pass (λ v. keeps id && names e v) (either (map (refers_to_arm p keeps) (subjects ys))) n in
+      let inside = right_pass (λ v. keeps id && names e v) (any_of (map (arm_refers keeps) (subjects ys))) n in
       makes_one p keeps id (s.Switch (rank keeps id) l (new e) arms) _ _ (part_form _ (Statement-F.Switch (rank keeps id) l (new e) arms) (s.rolls-Switch (rank keeps id) l (new e) arms))
       (puts_fork p keeps id e (taken_arm (map arm_part (subjects ys))) (taken_arm (bodies (subjects ys)))
-      (own_named id (names e) (left_pass (λ v. keeps id && names e v) (either (map (refers_to_arm p keeps) (subjects ys))) n))
+      (own_named id (names e) (left_pass (λ v. keeps id && names e v) (any_of (map (arm_refers keeps) (subjects ys))) n))
       (taken_turns p keeps (map arm_part (subjects ys)) (bodies (subjects ys)) (arms_fit ys split.1 inside))
       (λ k v. let none = unkept_none (keeps id) stay split.0 k in case_ends ys v (default_arm (bodies (subjects ys))) split.1 inside none (default_ends ys split.1 inside none)))
 
@@ -280,7 +281,7 @@ module _ (p : Program) (keeps : ℕ → Bool) where
   same_turns t u a b c d e f g h = subst (λ x. ArmTurns p keeps x a b) (sym e) (subst (λ x. ArmTurns p keeps u x b) (sym f) (subst (ArmTurns p keeps u c) (sym g) h))
 
   arm_part_is : (z : Arm-F Statement Arm) → arm_part (roll-Arm z) ≡ record { labels = z.labels; does = block_of z.body }
-  arm_part_is z = fold-roll-Arm Part ArmPart part_step arm_step z
+  arm_part_is z = fold-roll-Arm StatementPart ArmPart part_step arm_step z
 
   arm_left_is : (z : Arm-F Statement Arm) → arm_left p keeps (roll-Arm z) ≡ roll-Arm (record { labels = map (renamed_label (rank vars)) z.labels; body = all_left p keeps z.body })
   arm_left_is z = fold-roll-Arm (List Statement) Arm (projected_step (kept p keeps) same_numbers) (projected_arm_step (kept p keeps) same_numbers) z
@@ -289,7 +290,7 @@ module _ (p : Program) (keeps : ℕ → Bool) where
   fits_arm y c n =
       let z : Arm-F Statement Arm = arm_layer Fits ArmFits y in
       let rests : arm_rested p keeps (roll-Arm z) ≡ record { stays = stay_in y.body; clear = clear_in y.body } = fold-roll-Arm Rest Rest (rest_step keeps vars) (rest_arm keeps vars) z in
-      let refers_is : refers_to_arm p keeps (roll-Arm z) ≡ refers_in y.body = fold-roll-Arm (ℕ → Bool) (ℕ → Bool) (refers_step keeps) (refers_arm keeps) z in
+      let refers_is : arm_refers keeps (roll-Arm z) ≡ refers_in y.body = fold-roll-Arm (ℕ → Bool) (ℕ → Bool) (refers_step keeps) (refers_arm keeps) z in
       same_turns (arm_rested p keeps (roll-Arm z)).stays (stay_in y.body) (arm_part (roll-Arm z)) (arm_part (arm_left p keeps (roll-Arm z))) _ _ (ap (λ (r : Rest). r.stays) rests) (arm_part_is z) (ap arm_part (arm_left_is z) ∙ arm_part_is _)
       (arm_fits y.labels y.body (sym (ap (λ (r : Rest). r.clear) rests) ∙ c) (subst (λ m. NamesPass m vars) refers_is n))
 

@@ -8,18 +8,18 @@ use Rattle.c_tree.specs.declared.program.Function.{Function}
 use Rattle.c_tree.specs.declared.statement.Statement.{Statement}
 use Rattle.c_tree.specs.declared.statement.Statement.TheOpen.{Statement-F}
 use Rattle.c_tree.specs.Unlined.{unlined, unlined_var, unlined_function, unlined_program, SameButLines}
-use Rattle.c_language.specs.Code.{End, Part, ArmPart, part_step, arm_step, part, code_of, code}
+use Rattle.c_language.specs.Code.{End, StatementPart, ArmPart, part_step, arm_step, part, code_of, code}
 use Rattle.c_arith.specs.declared.int_type.IntType.TheVariants.{Int}
 use Rattle.c_tree.specs.declared.program.Var.{Var}
 use Rattle.c_language.specs.DeclaredTypes.{integer}
-use Rattle.c_language.specs.TreeTypes.{shape_of, variable_type, member_type}
+use Rattle.c_language.specs.TreeTypes.{shape_of, type_of_variable, type_of_member}
 use Rattle.c_meaning.specs.Meaning.{types_of, main_code}
 use Rattle.std.proofs.lemmas.Option.{slice_get-map}
 use mathlib.Core.Path.{fun_ext}
 use Rattle.c_tree.proofs.Unlining.{zeroed, fold_unlined}
 use Rattle.own_words.proofs.Lists.{three}
 
-part_free : (y : Statement-F Part ArmPart) → part_step (zeroed y) ≡ part_step y
+part_free : (y : Statement-F StatementPart ArmPart) → part_step (zeroed y) ≡ part_step y
 part_free (Statement-F.Declare id l x i) = refl
 part_free _ = refl
 
@@ -28,7 +28,7 @@ statement_same = fold_unlined part_step arm_step part_free
 
 pub code-unlined : (xs : List Statement) → code (map unlined xs) ≡ code xs
 code-unlined [] = refl
-code-unlined (x ∷ xs) = ap (λ (q : Part). q.before (code (map unlined xs))) (statement_same x) ∙ ap (code_of x) (code-unlined xs)
+code-unlined (x ∷ xs) = ap (λ (q : StatementPart). q.before (code (map unlined xs))) (statement_same x) ∙ ap (code_of x) (code-unlined xs)
 
 first_same : (fs : List Function) → option_map_or (λ (f : Function). code f.body) (slice_get (map unlined_function fs) 0) End ≡ option_map_or (λ (f : Function). code f.body) (slice_get fs 0) End
 first_same [] = refl
@@ -47,11 +47,11 @@ shape_unlined : (o : Option Var) → option_map_or (λ (v : Var). shape_of v.sha
 shape_unlined None = refl
 shape_unlined (Some v) = refl
 
-variable_unlined : (p : Program) (x : ℕ) → variable_type (unlined_program p) x ≡ variable_type p x
+variable_unlined : (p : Program) (x : ℕ) → type_of_variable (unlined_program p) x ≡ type_of_variable p x
 variable_unlined p x =
     ap (λ o. option_map_or (λ (v : Var). shape_of v.shape) o (integer Int)) (slice_get-map unlined_var p.vars x) ∙ shape_unlined (slice_get p.vars x)
 
-member_unlined : (p : Program) (m : MemberId) → member_type (unlined_program p) m ≡ member_type p m
+member_unlined : (p : Program) (m : MemberId) → type_of_member (unlined_program p) m ≡ type_of_member p m
 member_unlined p m = refl
 
 result_unlined : (fs : List Function) → option_map_or (λ (f : Function). option_map shape_of f.result) (slice_get (map unlined_function fs) 0) None ≡ option_map_or (λ (f : Function). option_map shape_of f.result) (slice_get fs 0) None

@@ -2,9 +2,10 @@
 use Rattle.std.proofs.Common.{◌≡◌, ◌≢◌, ℕ, List, [], ◌∷◌, length, Some, Bool, true, false, ◌||◌, inl, inr, sym, ap, ◌∙◌, subst}
 use Rattle.std.proofs.lemmas.Bool.{or_left, or_right}
 use Rattle.std.proofs.lemmas.Bool.Decides.{eqb_tells}
+use Rattle.std.specs.List.{list_any}
 use Rattle.c_language.proofs.Tests.{by_answer}
 use Rattle.c_language.specs.Code.{Code, End, Opens, Plain, Fork, Loop, Leaves, Call}
-use Rattle.c_meaning.specs.Values.{Types, State, opened, closed, all_closed}
+use Rattle.c_meaning.specs.Values.{Types, State, variable_opened, variable_closed, all_closed}
 use Rattle.c_meaning.proofs.Frames.{variable_value, opened_here, opened_other, unwritten_here, opened_elsewhere, opened_framed}
 use Rattle.c_meaning.proofs.Closing.{closed_other, gone_here, closed_elsewhere, before_closing, closed_framed}
 use Rattle.dep_model.specs.declared.location.Location.{Location}
@@ -13,7 +14,7 @@ use Rattle.projection_meaning.proofs.Acts.{Same, Fits}
 use Rattle.projection_meaning.proofs.Bools.{fails_too}
 use Rattle.projection_meaning.proofs.Law.{Silent}
 use Rattle.projection_meaning.proofs.Places.{kind_of, change, kept_at}
-use Rattle.projection_meaning.proofs.Projecting.{any_passes, renamed_all, project_code}
+use Rattle.projection_meaning.proofs.Projecting.{renamed_all, project_code}
 use Rattle.projection_meaning.proofs.Ranks.{rank_injective}
 use Rattle.projection_meaning.proofs.Sequences.{leaves_kept}
 
@@ -21,19 +22,19 @@ use Rattle.projection_meaning.proofs.Sequences.{leaves_kept}
 module _ (here there : Types) (keeps stays : ℕ → Bool) where
   -- ---- a declaration
 
-  opened_both : (x : ℕ) (m n : State) → stays x ≡ true → Fits (rank stays) stays m n → Fits (rank stays) stays (opened here x m) (opened there (rank stays x) n)
+  opened_both : (x : ℕ) (m n : State) → stays x ≡ true → Fits (rank stays) stays m n → Fits (rank stays) stays (variable_opened here x m) (variable_opened there (rank stays x) n)
   opened_both x m n sx fits = record {
     here = opened_framed here m x fits.here;
     there = opened_framed there n (rank stays x) fits.there;
     begun = λ y b sy e. elim (eqb_tells x y) [
-      | inl w ↦ (length n.memory, subst (λ z. (opened there (rank stays x) n).frame (rank stays z) ≡ Some (length n.memory)) w.1 (opened_here there n (rank stays x) fits.there))
+      | inl w ↦ (length n.memory, subst (λ z. (variable_opened there (rank stays x) n).frame (rank stays z) ≡ Some (length n.memory)) w.1 (opened_here there n (rank stays x) fits.there))
       | inr w ↦ let c = fits.begun y b sy (sym (opened_other here m x fits.here y w.1) ∙ e) in (c.0, opened_other there n (rank stays x) fits.there (rank stays y) (λ q. w.1 (rank_injective stays x y sx sy q)) ∙ c.1)
     ];
   }
 
-  opened_same : (x : ℕ) (m n : State) (l : Location) → stays x ≡ true → Fits (rank stays) stays m n → Same (rank stays) stays l m n → Same (rank stays) stays l (opened here x m) (opened there (rank stays x) n)
+  opened_same : (x : ℕ) (m n : State) (l : Location) → stays x ≡ true → Fits (rank stays) stays m n → Same (rank stays) stays l m n → Same (rank stays) stays l (variable_opened here x m) (variable_opened there (rank stays x) n)
   opened_same x m n l sx fits h y isy sy = elim (eqb_tells x y) [
-    | inl w ↦ subst (λ z. variable_value z (opened here x m) ≡ variable_value (rank stays z) (opened there (rank stays x) n)) w.1 (unwritten_here here m x fits.here ∙ sym (unwritten_here there n (rank stays x) fits.there))
+    | inl w ↦ subst (λ z. variable_value z (variable_opened here x m) ≡ variable_value (rank stays z) (variable_opened there (rank stays x) n)) w.1 (unwritten_here here m x fits.here ∙ sym (unwritten_here there n (rank stays x) fits.there))
     | inr w ↦ opened_elsewhere here m x fits.here y w.1 ∙ (h y isy sy ∙ sym (opened_elsewhere there n (rank stays x) fits.there (rank stays y) (λ q. w.1 (rank_injective stays x y sx sy q))))
   ]
 
@@ -41,20 +42,20 @@ module _ (here there : Types) (keeps stays : ℕ → Bool) where
   other_stays : (x y : ℕ) → stays x ≡ false → stays y ≡ true → x ≢ y
   other_stays x y sx sy e = let t = ap stays e in cc
 
-  opened_one : (x : ℕ) (m n : State) → stays x ≡ false → Fits (rank stays) stays m n → Fits (rank stays) stays (opened here x m) n
+  opened_one : (x : ℕ) (m n : State) → stays x ≡ false → Fits (rank stays) stays m n → Fits (rank stays) stays (variable_opened here x m) n
   opened_one x m n sx fits = record {
     here = opened_framed here m x fits.here;
     there = fits.there;
     begun = λ y b sy e. fits.begun y b sy (sym (opened_other here m x fits.here y (other_stays x y sx sy)) ∙ e);
   }
 
-  opened_one_same : (x : ℕ) (m n : State) (l : Location) → stays x ≡ false → Fits (rank stays) stays m n → Same (rank stays) stays l m n → Same (rank stays) stays l (opened here x m) n
+  opened_one_same : (x : ℕ) (m n : State) (l : Location) → stays x ≡ false → Fits (rank stays) stays m n → Same (rank stays) stays l m n → Same (rank stays) stays l (variable_opened here x m) n
   opened_one_same x m n l sx fits h y isy sy =
       opened_elsewhere here m x fits.here y (other_stays x y sx sy) ∙ h y isy sy
 
   -- ---- the end of a variable
 
-  closed_both : (x : ℕ) (m n : State) → stays x ≡ true → Fits (rank stays) stays m n → Fits (rank stays) stays (closed x m) (closed (rank stays x) n)
+  closed_both : (x : ℕ) (m n : State) → stays x ≡ true → Fits (rank stays) stays m n → Fits (rank stays) stays (variable_closed x m) (variable_closed (rank stays x) n)
   closed_both x m n sx fits = record {
     here = closed_framed m x fits.here;
     there = closed_framed n (rank stays x) fits.there;
@@ -64,20 +65,20 @@ module _ (here there : Types) (keeps stays : ℕ → Bool) where
         (c.0, closed_other n (rank stays x) fits.there (rank stays y) (λ q. before.0 (rank_injective stays x y sx sy q)) ∙ c.1);
   }
 
-  closed_same : (x : ℕ) (m n : State) (l : Location) → stays x ≡ true → Fits (rank stays) stays m n → Same (rank stays) stays l m n → Same (rank stays) stays l (closed x m) (closed (rank stays x) n)
+  closed_same : (x : ℕ) (m n : State) (l : Location) → stays x ≡ true → Fits (rank stays) stays m n → Same (rank stays) stays l m n → Same (rank stays) stays l (variable_closed x m) (variable_closed (rank stays x) n)
   closed_same x m n l sx fits h y isy sy = elim (eqb_tells x y) [
-    | inl w ↦ subst (λ z. variable_value z (closed x m) ≡ variable_value (rank stays z) (closed (rank stays x) n)) w.1 (gone_here m x fits.here ∙ sym (gone_here n (rank stays x) fits.there))
+    | inl w ↦ subst (λ z. variable_value z (variable_closed x m) ≡ variable_value (rank stays z) (variable_closed (rank stays x) n)) w.1 (gone_here m x fits.here ∙ sym (gone_here n (rank stays x) fits.there))
     | inr w ↦ closed_elsewhere m x fits.here y w.1 ∙ (h y isy sy ∙ sym (closed_elsewhere n (rank stays x) fits.there (rank stays y) (λ q. w.1 (rank_injective stays x y sx sy q))))
   ]
 
-  closed_one : (x : ℕ) (m n : State) → Fits (rank stays) stays m n → Fits (rank stays) stays (closed x m) n
+  closed_one : (x : ℕ) (m n : State) → Fits (rank stays) stays m n → Fits (rank stays) stays (variable_closed x m) n
   closed_one x m n fits = record {
     here = closed_framed m x fits.here;
     there = fits.there;
     begun = λ y b sy e. fits.begun y b sy (before_closing m x fits.here y b e).1;
   }
 
-  closed_one_same : (x : ℕ) (m n : State) (l : Location) → stays x ≡ false → Fits (rank stays) stays m n → Same (rank stays) stays l m n → Same (rank stays) stays l (closed x m) n
+  closed_one_same : (x : ℕ) (m n : State) (l : Location) → stays x ≡ false → Fits (rank stays) stays m n → Same (rank stays) stays l m n → Same (rank stays) stays l (variable_closed x m) n
   closed_one_same x m n l sx fits h y isy sy =
       closed_elsewhere m x fits.here y (other_stays x y sx sy) ∙ h y isy sy
 
@@ -86,28 +87,28 @@ module _ (here there : Types) (keeps stays : ℕ → Bool) where
   pub all_closed_both : (xs : List ℕ) (m n : State) → Fits (rank stays) stays m n → Fits (rank stays) stays (all_closed xs m) (all_closed (renamed_all keeps stays xs) n)
   all_closed_both [] m n fits = fits
   all_closed_both (x ∷ xs) m n fits =
-      by_answer (stays x) (λ sx. rw sx (all_closed_both xs (closed x m) (closed (rank stays x) n) (closed_both x m n sx fits))) (λ sx. rw sx (all_closed_both xs (closed x m) n (closed_one x m n fits)))
+      by_answer (stays x) (λ sx. rw sx (all_closed_both xs (variable_closed x m) (variable_closed (rank stays x) n) (closed_both x m n sx fits))) (λ sx. rw sx (all_closed_both xs (variable_closed x m) n (closed_one x m n fits)))
 
   pub all_closed_same : (xs : List ℕ) (m n : State) (l : Location) → Fits (rank stays) stays m n → Same (rank stays) stays l m n → Same (rank stays) stays l (all_closed xs m) (all_closed (renamed_all keeps stays xs) n)
   all_closed_same [] m n l fits h = h
   all_closed_same (x ∷ xs) m n l fits h =
-      by_answer (stays x) (λ sx. rw sx (all_closed_same xs (closed x m) (closed (rank stays x) n) l (closed_both x m n sx fits) (closed_same x m n l sx fits h))) (λ sx. rw sx (all_closed_same xs (closed x m) n l (closed_one x m n fits) (closed_one_same x m n l sx fits h)))
+      by_answer (stays x) (λ sx. rw sx (all_closed_same xs (variable_closed x m) (variable_closed (rank stays x) n) l (closed_both x m n sx fits) (closed_same x m n l sx fits h))) (λ sx. rw sx (all_closed_same xs (variable_closed x m) n l (closed_one x m n fits) (closed_one_same x m n l sx fits h)))
 
   -- ---- the end of a block of which nothing stays
 
-  none_stays : (x : ℕ) (xs : List ℕ) → any_passes stays (x ∷ xs) ≡ false → (stays x ≡ false) × (any_passes stays xs ≡ false)
+  none_stays : (x : ℕ) (xs : List ℕ) → list_any stays (x ∷ xs) ≡ false → (stays x ≡ false) × (list_any stays xs ≡ false)
   none_stays x xs k =
-      (fails_too (stays x || any_passes stays xs) (stays x) k (or_left (stays x) (any_passes stays xs)), fails_too (stays x || any_passes stays xs) (any_passes stays xs) k (or_right (stays x) (any_passes stays xs)))
+      (fails_too (stays x || list_any stays xs) (stays x) k (or_left (stays x) (list_any stays xs)), fails_too (stays x || list_any stays xs) (list_any stays xs) k (or_right (stays x) (list_any stays xs)))
 
-  pub all_closed_one : (xs : List ℕ) (m n : State) → any_passes stays xs ≡ false → Fits (rank stays) stays m n → Fits (rank stays) stays (all_closed xs m) n
+  pub all_closed_one : (xs : List ℕ) (m n : State) → list_any stays xs ≡ false → Fits (rank stays) stays m n → Fits (rank stays) stays (all_closed xs m) n
   all_closed_one [] m n k fits = fits
-  all_closed_one (x ∷ xs) m n k fits = all_closed_one xs (closed x m) n (none_stays x xs k).1 (closed_one x m n fits)
+  all_closed_one (x ∷ xs) m n k fits = all_closed_one xs (variable_closed x m) n (none_stays x xs k).1 (closed_one x m n fits)
 
-  pub all_closed_one_same : (xs : List ℕ) (m n : State) (l : Location) → any_passes stays xs ≡ false → Fits (rank stays) stays m n → Same (rank stays) stays l m n → Same (rank stays) stays l (all_closed xs m) n
+  pub all_closed_one_same : (xs : List ℕ) (m n : State) (l : Location) → list_any stays xs ≡ false → Fits (rank stays) stays m n → Same (rank stays) stays l m n → Same (rank stays) stays l (all_closed xs m) n
   all_closed_one_same [] m n l k fits h = h
   all_closed_one_same (x ∷ xs) m n l k fits h =
       let none = none_stays x xs k in
-      all_closed_one_same xs (closed x m) n l none.1 (closed_one x m n fits) (closed_one_same x m n l none.0 fits h)
+      all_closed_one_same xs (variable_closed x m) n l none.1 (closed_one x m n fits) (closed_one_same x m n l none.0 fits h)
 
   -- ---- a silent move
 

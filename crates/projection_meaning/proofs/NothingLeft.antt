@@ -2,17 +2,17 @@
 use Rattle.std.proofs.Common.{◌≡◌, ℕ, List, [], ◌∷◌, ◌++◌, map, Some, None, Bool, false, ◌||◌, refl, sym, ap, ◌∙◌, ap₂}
 use Rattle.std.proofs.lemmas.Bool.{or_parts}
 use Rattle.c_tree.specs.declared.program.Program.{Program}
-use Rattle.c_tree.specs.declared.statement.Arm.{Arm, fold-Arm}
+use Rattle.c_tree.specs.declared.statement.Arm.{Arm}
 use Rattle.c_tree.specs.declared.statement.Statement.{Statement, roll-Statement, map-Statement, fold-roll-Statement}
 use Rattle.c_tree.specs.declared.statement.Statement.TheOpen.{Statement-F}
 use Rattle.c_tree.specs.declared.statement.Target.{Target}
 use Rattle.c_tree.specs.declared.statement.Target.TheVariants as target
 use Rattle.c_tree.proofs.Trees.{StatementParts, statement_layer, of_every_statement}
 use Rattle.projection.specs.Names.{stays}
-use Rattle.projection.specs.Projection.{if_so, first_of, projected_step, projected_arm_step}
+use Rattle.projection.specs.Projection.{if_so, first_statement, projected_step, projected_arm_step}
 use Rattle.projection.specs.Projection as Projection
 use Rattle.projection_laws.specs.Staying as Staying
-use Rattle.projection_laws.specs.Staying.{Rest, any_stays, rest_step, rest_arm, rest}
+use Rattle.projection_laws.specs.Staying.{Rest, any_stays, rest_step, rest_arm, rest, arm_rest}
 use Rattle.own_words.proofs.Words.{kept, same_numbers}
 use Rattle.own_words.proofs.Forms.{left, all_left, step_left}
 use Rattle.c_scope_laws.proofs.TreeLevels.{unchosen}
@@ -29,7 +29,7 @@ module _ (p : Program) (keeps : ℕ → Bool) where
   rested = rest keeps vars
 
   abbrev pub arm_rested : Arm → Rest
-  arm_rested = fold-Arm Rest Rest (rest_step keeps vars) (rest_arm keeps vars)
+  arm_rested = arm_rest keeps vars
 
   abbrev pub layer_rest : Statement-F Statement Arm → Rest
   layer_rest z = rest_step keeps vars (map-Statement Statement Arm Rest Rest rested arm_rested z)
@@ -74,7 +74,7 @@ module _ (p : Program) (keeps : ℕ → Bool) where
   leaves_layer (Statement-F.Do id l e b) h = unchosen _ [] h
   leaves_layer (Statement-F.For id l None e step b) h = unchosen _ [] (or_parts (keeps id) false h).0
   leaves_layer (Statement-F.For id l (Some i) e step b) h =
-      let both = or_parts (keeps id) (rested i.0).stays h in unchosen _ _ both.0 ∙ ap (λ xs. Projection.alone l (first_of xs)) (i.1 both.1)
+      let both = or_parts (keeps id) (rested i.0).stays h in unchosen _ _ both.0 ∙ ap (λ xs. Projection.alone l (first_statement xs)) (i.1 both.1)
   leaves_layer (Statement-F.Switch id l e arms) h = unchosen _ [] h
   leaves_layer (Statement-F.Block l b) h = ap (Projection.block_of l) (all_leave b h)
   leaves_layer (Statement-F.Return id l a) h = unchosen _ [] h

@@ -9,18 +9,17 @@ use Rattle.c_tree.specs.declared.statement.Statement.TheOpen.{Statement-F}
 use Rattle.c_tree.specs.declared.statement.Statement.TheVariants as s
 use Rattle.c_tree.specs.declared.statement.Target.{Target}
 use Rattle.c_tree.specs.declared.statement.Target.TheVariants as target
-use Rattle.c_language.specs.Code.{Code, End, Opens, Loop, ◌⨟◌, leave, Part, doing, declared, in_turn, list_of, block, declaring, given_to, ArmPart, part_step, arm_step, part}
+use Rattle.c_language.specs.Code.{Code, End, Opens, Loop, ◌⨟◌, leave, StatementPart, doing, declared_in, in_turn, list_of, block, declaring, given_to, ArmPart, part_step, arm_step, part, either}
 use Rattle.c_language.proofs.CodeLemmas.{part_list, block_of}
 use Rattle.projection.specs.Kept.{Kept}
 use Rattle.projection.specs.Projection.{if_so, declares_target, declaring_step, declaring_arm, is_declaring, alone}
 use Rattle.own_words.proofs.Forms.{fold_layer}
 use Rattle.projection_meaning.proofs.Codes.{layer_part, part-roll}
-use Rattle.projection_meaning.proofs.Projecting.{choose}
 use Rattle.projection_meaning.proofs.Sequences.{then_then, leave_then}
 
 -- statements one after another, as one
-abbrev pub gathered : List Part → Part
-gathered ss = record { declares = declared ss; before = in_turn ss }
+abbrev pub gathered : List StatementPart → StatementPart
+gathered ss = record { declares = declared_in ss; before = in_turn ss }
 
 -- ---- what comes after a statement stays after it
 
@@ -29,9 +28,9 @@ linear_given target.None f h a k = h a k
 linear_given (target.Place e) f h a k = h a k
 linear_given (target.Declared x) f h a k = ap (Opens x) (h a k)
 
-linear_for : (ss : List Part) (id : ℕ) (e : Expr) (body a k : Code) → list_of ss ⨟ Loop id e body (leave (declared ss) (a ⨟ k)) ≡ (list_of ss ⨟ Loop id e body (leave (declared ss) a)) ⨟ k
+linear_for : (ss : List StatementPart) (id : ℕ) (e : Expr) (body a k : Code) → list_of ss ⨟ Loop id e body (leave (declared_in ss) (a ⨟ k)) ≡ (list_of ss ⨟ Loop id e body (leave (declared_in ss) a)) ⨟ k
 linear_for ss id e body a k =
-    ap (λ c. list_of ss ⨟ Loop id e body c) (sym (leave_then (declared ss) a k)) ∙ sym (then_then (list_of ss) (Loop id e body (leave (declared ss) a)) k)
+    ap (λ c. list_of ss ⨟ Loop id e body c) (sym (leave_then (declared_in ss) a k)) ∙ sym (then_then (list_of ss) (Loop id e body (leave (declared_in ss) a)) k)
 
 linear_layer : (z : Statement-F Statement Arm) (a k : Code) → (layer_part z).before (a ⨟ k) ≡ (layer_part z).before a ⨟ k
 linear_layer (Statement-F.Declare None l x i) a k = refl
@@ -57,10 +56,10 @@ linear_layer (Statement-F.Return id l e) a k = refl
 
 -- a statement is a layer
 pub part_layer : (x : Statement) → part x ≡ layer_part (out-Statement x)
-part_layer x = fold_layer Part ArmPart part_step arm_step x
+part_layer x = fold_layer StatementPart ArmPart part_step arm_step x
 
 pub before_then : (x : Statement) (a k : Code) → (part x).before (a ⨟ k) ≡ (part x).before a ⨟ k
-before_then x a k = subst (λ (q : Part). q.before (a ⨟ k) ≡ q.before a ⨟ k) (sym (part_layer x)) (linear_layer (out-Statement x) a k)
+before_then x a k = subst (λ (q : StatementPart). q.before (a ⨟ k) ≡ q.before a ⨟ k) (sym (part_layer x)) (linear_layer (out-Statement x) a k)
 
 -- and a layer rolled up is its part
 pub part_form : (x : Statement) (z : Statement-F Statement Arm) → ◌≡◌ {A = Statement} (roll-Statement z) x → part x ≡ layer_part z
@@ -93,11 +92,11 @@ undeclaring_layer (Statement-F.Return id l e) h = refl
 
 pub undeclaring : (x : Statement) → is_declaring x ≡ false → (part x).declares ≡ []
 undeclaring x h =
-    ap (λ (q : Part). q.declares) (part_layer x) ∙ undeclaring_layer (out-Statement x) (sym (fold_layer Bool Bool declaring_step declaring_arm x) ∙ h)
+    ap (λ (q : StatementPart). q.declares) (part_layer x) ∙ undeclaring_layer (out-Statement x) (sym (fold_layer Bool Bool declaring_step declaring_arm x) ∙ h)
 
 -- ---- a for
 
-pub for_form : (id l : ℕ) (i : Option Statement) (e : Expr) (step : Option Statement) (b : List Statement) → part (s.For id l i e step b) ≡ doing (λ r. list_of (part_list i) ⨟ Loop id e (block_of b ⨟ list_of (part_list step)) (leave (declared (part_list i)) r))
+pub for_form : (id l : ℕ) (i : Option Statement) (e : Expr) (step : Option Statement) (b : List Statement) → part (s.For id l i e step b) ≡ doing (λ r. list_of (part_list i) ⨟ Loop id e (block_of b ⨟ list_of (part_list step)) (leave (declared_in (part_list i)) r))
 for_form id l None e None b = part_form _ (Statement-F.For id l None e None b) (s.rolls-For id l None e None b)
 for_form id l None e (Some y) b = part_form _ (Statement-F.For id l None e (Some y) b) (s.rolls-For id l None e (Some y) b)
 for_form id l (Some x) e None b = part_form _ (Statement-F.For id l (Some x) e None b) (s.rolls-For id l (Some x) e None b)
@@ -108,46 +107,46 @@ part_list-map None = refl
 part_list-map (Some x) = refl
 
 module _ (k : Kept) (g : ℕ → ℕ) where
-  chosen_alone : (l : ℕ) (x : Statement) (b : Bool) (r : Code) → (b ≡ false → (part x).declares ≡ []) → in_turn (map part (if_so b (s.Block l (x ∷ []) ∷ []) (x ∷ []))) r ≡ list_of (part x ∷ []) ⨟ leave (declared (part x ∷ [])) r
+  chosen_alone : (l : ℕ) (x : Statement) (b : Bool) (r : Code) → (b ≡ false → (part x).declares ≡ []) → in_turn (map part (if_so b (s.Block l (x ∷ []) ∷ []) (x ∷ []))) r ≡ list_of (part x ∷ []) ⨟ leave (declared_in (part x ∷ [])) r
   chosen_alone l x true r h =
-      ap (λ (q : Part). q.before r) (part_form (s.Block l (x ∷ [])) (Statement-F.Block l (x ∷ [])) (s.rolls-Block l (x ∷ [])))
-      ∙ ap (λ c. c ⨟ r) (before_then x End (leave (declared (part x ∷ [])) End))
-      ∙ then_then ((part x).before End) (leave (declared (part x ∷ [])) End) r
-      ∙ ap (λ c. (part x).before End ⨟ c) (leave_then (declared (part x ∷ [])) End r)
+      ap (λ (q : StatementPart). q.before r) (part_form (s.Block l (x ∷ [])) (Statement-F.Block l (x ∷ [])) (s.rolls-Block l (x ∷ [])))
+      ∙ ap (λ c. c ⨟ r) (before_then x End (leave (declared_in (part x ∷ [])) End))
+      ∙ then_then ((part x).before End) (leave (declared_in (part x ∷ [])) End) r
+      ∙ ap (λ c. (part x).before End ⨟ c) (leave_then (declared_in (part x ∷ [])) End r)
   chosen_alone l x false r h = before_then x End r ∙ ap (λ xs. (part x).before End ⨟ leave (xs ++ []) r) (sym (h refl))
 
-  chosen_declares : (l : ℕ) (x : Statement) (b : Bool) → (b ≡ false → (part x).declares ≡ []) → declared (map part (if_so b (s.Block l (x ∷ []) ∷ []) (x ∷ []))) ≡ []
-  chosen_declares l x true h = ap (λ (q : Part). q.declares ++ []) (part_form (s.Block l (x ∷ [])) (Statement-F.Block l (x ∷ [])) (s.rolls-Block l (x ∷ [])))
+  chosen_declares : (l : ℕ) (x : Statement) (b : Bool) → (b ≡ false → (part x).declares ≡ []) → declared_in (map part (if_so b (s.Block l (x ∷ []) ∷ []) (x ∷ []))) ≡ []
+  chosen_declares l x true h = ap (λ (q : StatementPart). q.declares ++ []) (part_form (s.Block l (x ∷ [])) (Statement-F.Block l (x ∷ [])) (s.rolls-Block l (x ∷ [])))
   chosen_declares l x false h = ap (λ xs. xs ++ []) (h refl)
 
   -- what a for begins with, without the for, ends what it declares
-  pub alone_is : (l : ℕ) (o : Option Statement) (r : Code) → in_turn (map part (alone l o)) r ≡ list_of (part_list o) ⨟ leave (declared (part_list o)) r
+  pub alone_is : (l : ℕ) (o : Option Statement) (r : Code) → in_turn (map part (alone l o)) r ≡ list_of (part_list o) ⨟ leave (declared_in (part_list o)) r
   alone_is l None r = refl
   alone_is l (Some x) r = chosen_alone l x (is_declaring x) r (undeclaring x)
 
-  pub alone_declares : (l : ℕ) (o : Option Statement) → declared (map part (alone l o)) ≡ []
+  pub alone_declares : (l : ℕ) (o : Option Statement) → declared_in (map part (alone l o)) ≡ []
   alone_declares l None = refl
   alone_declares l (Some x) = chosen_declares l x (is_declaring x) (undeclaring x)
 
 -- ---- one statement or none
 
-pub one_turn : (b : Bool) (x : Statement) (f : Code → Code) (r : Code) → part x ≡ doing f → in_turn (map part (if_so b (x ∷ []) [])) r ≡ choose b (f r) r
-one_turn true x f r is = ap (λ (q : Part). q.before r) is
+pub one_turn : (b : Bool) (x : Statement) (f : Code → Code) (r : Code) → part x ≡ doing f → in_turn (map part (if_so b (x ∷ []) [])) r ≡ either b (f r) r
+one_turn true x f r is = ap (λ (q : StatementPart). q.before r) is
 one_turn false x f r is = refl
 
-pub one_declares : (b : Bool) (x : Statement) (f : Code → Code) → part x ≡ doing f → declared (map part (if_so b (x ∷ []) [])) ≡ []
-one_declares true x f is = ap (λ (q : Part). q.declares ++ []) is
+pub one_declares : (b : Bool) (x : Statement) (f : Code → Code) → part x ≡ doing f → declared_in (map part (if_so b (x ∷ []) [])) ≡ []
+one_declares true x f is = ap (λ (q : StatementPart). q.declares ++ []) is
 one_declares false x f is = refl
 
 -- a declaration with what it does, where that is kept, or else the bare declaration where its variable stays
-pub begun_turn : (b c : Bool) (x y : Statement) (n : ℕ) (f : Code → Code) (r : Code) → part x ≡ declaring n (λ d. Opens n (f d)) → part y ≡ declaring n (Opens n) → (b ≡ true → c ≡ true) → in_turn (map part (if_so b (x ∷ []) (if_so c (y ∷ []) []))) r ≡ choose c (Opens n (choose b (f r) r)) (choose b (f r) r)
-begun_turn true true x y n f r is bare_is h = ap (λ (q : Part). q.before r) is
+pub begun_turn : (b c : Bool) (x y : Statement) (n : ℕ) (f : Code → Code) (r : Code) → part x ≡ declaring n (λ d. Opens n (f d)) → part y ≡ declaring n (Opens n) → (b ≡ true → c ≡ true) → in_turn (map part (if_so b (x ∷ []) (if_so c (y ∷ []) []))) r ≡ either c (Opens n (either b (f r) r)) (either b (f r) r)
+begun_turn true true x y n f r is bare_is h = ap (λ (q : StatementPart). q.before r) is
 begun_turn true false x y n f r is bare_is h = absurd (false≢true (h refl))
-begun_turn false true x y n f r is bare_is h = ap (λ (q : Part). q.before r) bare_is
+begun_turn false true x y n f r is bare_is h = ap (λ (q : StatementPart). q.before r) bare_is
 begun_turn false false x y n f r is bare_is h = refl
 
-pub begun_declares : (b c : Bool) (x y : Statement) (n : ℕ) (f : Code → Code) → part x ≡ declaring n f → part y ≡ declaring n (Opens n) → (b ≡ true → c ≡ true) → declared (map part (if_so b (x ∷ []) (if_so c (y ∷ []) []))) ≡ if_so c (n ∷ []) []
-begun_declares true true x y n f is bare_is h = ap (λ (q : Part). q.declares ++ []) is
+pub begun_declares : (b c : Bool) (x y : Statement) (n : ℕ) (f : Code → Code) → part x ≡ declaring n f → part y ≡ declaring n (Opens n) → (b ≡ true → c ≡ true) → declared_in (map part (if_so b (x ∷ []) (if_so c (y ∷ []) []))) ≡ if_so c (n ∷ []) []
+begun_declares true true x y n f is bare_is h = ap (λ (q : StatementPart). q.declares ++ []) is
 begun_declares true false x y n f is bare_is h = absurd (false≢true (h refl))
-begun_declares false true x y n f is bare_is h = ap (λ (q : Part). q.declares ++ []) bare_is
+begun_declares false true x y n f is bare_is h = ap (λ (q : StatementPart). q.declares ++ []) bare_is
 begun_declares false false x y n f is bare_is h = refl

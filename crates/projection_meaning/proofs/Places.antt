@@ -1,9 +1,10 @@
 -- A statement list as a place: what is done next there, and what may follow.
 use Rattle.std.proofs.Common.{◌≡◌, ℕ, [], Option, Some, None, Bool, true, false, inl, inr, refl, sym, ◌∙◌, subst}
+use Rattle.std.specs.List.{list_any}
 use Rattle.c_tree.specs.declared.expr.Expr.{Expr}
 use Rattle.c_tree.specs.declared.statement.Target.TheVariants as target
 use Rattle.c_language.specs.Code.{Act, Fetches, Prints, Tests, Code, End, Opens, Plain, Fork, Loop, Leaves, Call, ◌⨟◌, is_true, either}
-use Rattle.c_meaning.specs.Values.{Types, State, opened, all_closed}
+use Rattle.c_meaning.specs.Values.{Types, State, variable_opened, all_closed}
 use Rattle.c_meaning.specs.Acts.{Made, made, after, picked}
 use Rattle.c_meaning.specs.Meaning.{told}
 use Rattle.dep_model.specs.declared.location.Location.{Location}
@@ -12,7 +13,6 @@ use Rattle.dep_model.proofs.PlainSteps as dep
 use Rattle.dep_model.proofs.PlainSteps.{Step, step_at, start, Follows, Chain, FlowEdge, NoCalls}
 use Rattle.dep_model.specs.Follows.{last, more}
 use Rattle.dep_model.proofs.FollowsLemmas.{start-seq, Follows-seq}
-use Rattle.projection_meaning.proofs.Projecting.{any_passes}
 use Rattle.projection_meaning.proofs.Law.{Kind, Last, Silent, Active, Places, Effects, Wanted, here, later, past as over}
 
 -- a call is an act that gives nothing, as long as calls are not built
@@ -63,7 +63,7 @@ past (Call i to f args r) = Call i to f args r
 
 abbrev pub change : Types → Code → State → State
 change types End s = s
-change types (Opens x r) s = opened types x s
+change types (Opens x r) s = variable_opened types x s
 change types (Plain i a r) s = s
 change types (Fork i e c r) s = s
 change types (Loop i e b r) s = s
@@ -196,7 +196,7 @@ module _ (keeps stays : ℕ → Bool) where
   kept_at (Plain i a r) = keeps i
   kept_at (Fork i e c r) = keeps i
   kept_at (Loop i e b r) = keeps i
-  kept_at (Leaves xs r) = any_passes stays xs
+  kept_at (Leaves xs r) = list_any stays xs
   kept_at (Call i to f args r) = keeps i
 
   -- the effects are those of a list's next act

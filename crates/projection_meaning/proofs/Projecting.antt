@@ -1,7 +1,7 @@
 -- The projection of a list of statements, as code.
 use Rattle.std.proofs.Common.{◌≡◌, ℕ, ℤ, List, [], ◌∷◌, map, Bool, true, false}
 use Rattle.std.specs.Prelude.{option_map, ◌||◌}
-use Rattle.c_language.specs.Code.{Act, Begins, Sets, Bumps, Fetches, Writes, Prints, Allocates, Frees, Returns, Tests, Code, End, Opens, Plain, Fork, Loop, Leaves, Call, leave}
+use Rattle.c_language.specs.Code.{Act, Begins, Sets, Bumps, Fetches, Writes, Prints, Allocates, Frees, Returns, Tests, Code, End, Opens, Plain, Fork, Loop, Leaves, Call, leave, either}
 use Rattle.projection.specs.Kept.{rank}
 use Rattle.projection.specs.Names.{names, any_names, target_names}
 use Rattle.projection.specs.Renumbering.{renamed, renamed_init, renamed_target, renamed_amount}
@@ -22,16 +22,6 @@ renamed_act f (Frees a) = Frees (renamed f a)
 renamed_act f (Returns a) = Returns (option_map (renamed f) a)
 renamed_act f (Tests a) = Tests (renamed f a)
 
--- a choice of lists
-abbrev pub choose : Bool → Code → Code → Code
-choose true a b = a
-choose false a b = b
-
--- some of these numbers pass
-abbrev pub any_passes : (ℕ → Bool) → List ℕ → Bool
-any_passes test [] = false
-any_passes test (x ∷ xs) = test x || any_passes test xs
-
 module _ (keeps stays : ℕ → Bool) where
   -- the variables of a block that stay
   abbrev pub renamed_all : List ℕ → List ℕ
@@ -41,15 +31,15 @@ module _ (keeps stays : ℕ → Bool) where
   -- the variables that stay are declared, the kept acts are done, by their ranks; a block's end stays where one of its variables does
   abbrev pub project_code : Code → Code
   project_code End = End
-  project_code (Opens x r) = choose (stays x) (Opens (rank stays x) (project_code r)) (project_code r)
-  project_code (Plain i a r) = choose (keeps i) (Plain (rank keeps i) (renamed_act (rank stays) a) (project_code r)) (project_code r)
+  project_code (Opens x r) = either (stays x) (Opens (rank stays x) (project_code r)) (project_code r)
+  project_code (Plain i a r) = either (keeps i) (Plain (rank keeps i) (renamed_act (rank stays) a) (project_code r)) (project_code r)
   project_code (Fork i e c r) =
-      choose (keeps i) (Fork (rank keeps i) (renamed (rank stays) e) (λ v. project_code (c v)) (project_code r)) (project_code r)
+      either (keeps i) (Fork (rank keeps i) (renamed (rank stays) e) (λ v. project_code (c v)) (project_code r)) (project_code r)
   project_code (Loop i e b r) =
-      choose (keeps i) (Loop (rank keeps i) (renamed (rank stays) e) (project_code b) (project_code r)) (project_code r)
+      either (keeps i) (Loop (rank keeps i) (renamed (rank stays) e) (project_code b) (project_code r)) (project_code r)
   project_code (Leaves xs r) = leave (renamed_all xs) (project_code r)
   project_code (Call i to f args r) =
-      choose (keeps i) (Call (rank keeps i) (renamed_target (rank stays) to) (same_numbers f) (map (renamed (rank stays)) args) (project_code r)) (project_code r)
+      either (keeps i) (Call (rank keeps i) (renamed_target (rank stays) to) (same_numbers f) (map (renamed (rank stays)) args) (project_code r)) (project_code r)
 
   -- kept acts name variables that stay
   abbrev pub NamesStay : Code → Type 0

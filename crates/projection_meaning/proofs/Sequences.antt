@@ -1,11 +1,12 @@
 -- One list of code after another, and what the projection makes of it.
 use Rattle.std.proofs.Common.{◌≡◌, ℕ, List, [], ◌∷◌, ◌++◌, append_assoc, map, Bool, true, false, refl, sym, ap, ◌∙◌}
+use Rattle.std.specs.List.{list_any}
 use Rattle.c_tree.specs.declared.statement.Statement.{Statement}
-use Rattle.c_language.specs.Code.{Code, End, Opens, Plain, Fork, Loop, Leaves, Call, ◌⨟◌, leave, declared, in_turn, part}
+use Rattle.c_language.specs.Code.{Code, End, Opens, Plain, Fork, Loop, Leaves, Call, ◌⨟◌, leave, declared_in, in_turn, part, either}
 use Rattle.projection.specs.Kept.{rank}
 use Rattle.projection.specs.Renumbering.{renamed, renamed_target}
 use Rattle.projection.specs.Projection.{if_so}
-use Rattle.projection_meaning.proofs.Projecting.{any_passes, renamed_act, choose, renamed_all, project_code, NamesStay, IsNested}
+use Rattle.projection_meaning.proofs.Projecting.{renamed_act, renamed_all, project_code, NamesStay, IsNested}
 use Rattle.c_language.proofs.Tests.{by_answer}
 use Rattle.own_words.proofs.Words.{same_numbers}
 
@@ -31,28 +32,28 @@ pub leave_then : (xs : List ℕ) (r k : Code) → leave xs r ⨟ k ≡ leave xs 
 leave_then [] r k = refl
 leave_then (x ∷ xs) r k = refl
 
-pub choose_then : (b : Bool) (x y k : Code) → choose b x y ⨟ k ≡ choose b (x ⨟ k) (y ⨟ k)
-choose_then true x y k = refl
-choose_then false x y k = refl
+pub either_then : (b : Bool) (x y k : Code) → either b x y ⨟ k ≡ either b (x ⨟ k) (y ⨟ k)
+either_then true x y k = refl
+either_then false x y k = refl
 
 -- statements one after another
 pub in_turn-append : (xs ys : List Statement) (r : Code) → in_turn (map part (xs ++ ys)) r ≡ in_turn (map part xs) (in_turn (map part ys) r)
 in_turn-append [] ys r = refl
 in_turn-append (x ∷ xs) ys r = ap (part x).before (in_turn-append xs ys r)
 
-pub declared-append : (xs ys : List Statement) → declared (map part (xs ++ ys)) ≡ declared (map part xs) ++ declared (map part ys)
+pub declared-append : (xs ys : List Statement) → declared_in (map part (xs ++ ys)) ≡ declared_in (map part xs) ++ declared_in (map part ys)
 declared-append [] ys = refl
 declared-append (x ∷ xs) ys =
-    ap (λ zs. (part x).declares ++ zs) (declared-append xs ys) ∙ sym (append_assoc (part x).declares (declared (map part xs)) (declared (map part ys)))
+    ap (λ zs. (part x).declares ++ zs) (declared-append xs ys) ∙ sym (append_assoc (part x).declares (declared_in (map part xs)) (declared_in (map part ys)))
 
 -- the end of a block stays where one of its variables does
-pub leaves_kept : (keeps stays : ℕ → Bool) (xs : List ℕ) (r : Code) → any_passes stays xs ≡ true → leave (renamed_all keeps stays xs) r ≡ Leaves (renamed_all keeps stays xs) r
+pub leaves_kept : (keeps stays : ℕ → Bool) (xs : List ℕ) (r : Code) → list_any stays xs ≡ true → leave (renamed_all keeps stays xs) r ≡ Leaves (renamed_all keeps stays xs) r
 leaves_kept keeps stays [] r k = cc
 leaves_kept keeps stays (x ∷ xs) r k =
     by_answer (stays x) (λ sx. rw sx refl) (λ sx. rw sx (leaves_kept keeps stays xs r (rw sx at k)))
 
 -- and goes where none of them does
-pub leaves_gone : (keeps stays : ℕ → Bool) (xs : List ℕ) (r : Code) → any_passes stays xs ≡ false → leave (renamed_all keeps stays xs) r ≡ r
+pub leaves_gone : (keeps stays : ℕ → Bool) (xs : List ℕ) (r : Code) → list_any stays xs ≡ false → leave (renamed_all keeps stays xs) r ≡ r
 leaves_gone keeps stays [] r k = refl
 leaves_gone keeps stays (x ∷ xs) r k =
     by_answer (stays x) (λ sx. let t = rw sx at k in cc) (λ sx. rw sx (leaves_gone keeps stays xs r (rw sx at k)))
@@ -74,16 +75,16 @@ module _ (keeps vars : ℕ → Bool) where
   pub project_then : (a b : Code) → project (a ⨟ b) ≡ project a ⨟ project b
   project_then End b = refl
   project_then (Opens x r) b =
-      ap (λ c. choose (vars x) (Opens (rank vars x) c) c) (project_then r b) ∙ sym (choose_then (vars x) (Opens (rank vars x) (project r)) (project r) (project b))
+      ap (λ c. either (vars x) (Opens (rank vars x) c) c) (project_then r b) ∙ sym (either_then (vars x) (Opens (rank vars x) (project r)) (project r) (project b))
   project_then (Plain i a r) b =
-      ap (λ c. choose (keeps i) (Plain (rank keeps i) (renamed_act (rank vars) a) c) c) (project_then r b) ∙ sym (choose_then (keeps i) (Plain (rank keeps i) (renamed_act (rank vars) a) (project r)) (project r) (project b))
+      ap (λ c. either (keeps i) (Plain (rank keeps i) (renamed_act (rank vars) a) c) c) (project_then r b) ∙ sym (either_then (keeps i) (Plain (rank keeps i) (renamed_act (rank vars) a) (project r)) (project r) (project b))
   project_then (Fork i e d r) b =
-      ap (λ c. choose (keeps i) (Fork (rank keeps i) (renamed (rank vars) e) (λ v. project (d v)) c) c) (project_then r b) ∙ sym (choose_then (keeps i) (Fork (rank keeps i) (renamed (rank vars) e) (λ v. project (d v)) (project r)) (project r) (project b))
+      ap (λ c. either (keeps i) (Fork (rank keeps i) (renamed (rank vars) e) (λ v. project (d v)) c) c) (project_then r b) ∙ sym (either_then (keeps i) (Fork (rank keeps i) (renamed (rank vars) e) (λ v. project (d v)) (project r)) (project r) (project b))
   project_then (Loop i e d r) b =
-      ap (λ c. choose (keeps i) (Loop (rank keeps i) (renamed (rank vars) e) (project d) c) c) (project_then r b) ∙ sym (choose_then (keeps i) (Loop (rank keeps i) (renamed (rank vars) e) (project d) (project r)) (project r) (project b))
+      ap (λ c. either (keeps i) (Loop (rank keeps i) (renamed (rank vars) e) (project d) c) c) (project_then r b) ∙ sym (either_then (keeps i) (Loop (rank keeps i) (renamed (rank vars) e) (project d) (project r)) (project r) (project b))
   project_then (Leaves xs r) b = ap (leave (renamed_all keeps vars xs)) (project_then r b) ∙ sym (leave_then (renamed_all keeps vars xs) (project r) (project b))
   project_then (Call i to f args r) b =
-      ap (λ c. choose (keeps i) (Call (rank keeps i) (renamed_target (rank vars) to) (same_numbers f) (map (renamed (rank vars)) args) c) c) (project_then r b) ∙ sym (choose_then (keeps i) (Call (rank keeps i) (renamed_target (rank vars) to) (same_numbers f) (map (renamed (rank vars)) args) (project r)) (project r) (project b))
+      ap (λ c. either (keeps i) (Call (rank keeps i) (renamed_target (rank vars) to) (same_numbers f) (map (renamed (rank vars)) args) c) c) (project_then r b) ∙ sym (either_then (keeps i) (Call (rank keeps i) (renamed_target (rank vars) to) (same_numbers f) (map (renamed (rank vars)) args) (project r)) (project r) (project b))
 
   pub project_leave : (xs : List ℕ) (r : Code) → project (leave xs r) ≡ leave (renamed_all keeps vars xs) (project r)
   project_leave [] r = refl

@@ -14,8 +14,9 @@ use Rattle.built_forms.specs.IntegerForms.{IsIntegerMain}
 use Rattle.projection.specs.Names.{refers, body_refers, stays}
 use Rattle.projection.specs.Projection.{projection}
 use Rattle.projection.specs.Projection as Projection
+use Rattle.projection.proofs.NamesPass.{NamesPass, left_pass, right_pass}
 use Rattle.projection_laws.specs.Staying.{is_clear, IsClear}
-use Rattle.own_words.proofs.Words.{NamesPass, left_pass, right_pass, kept, same_numbers}
+use Rattle.own_words.proofs.Words.{kept, same_numbers}
 use Rattle.own_words.proofs.Forms.{left, all_left}
 use Rattle.projection_meaning.proofs.Projecting.{project_code, NamesStay, IsNested}
 use Rattle.projection_meaning.proofs.PartsProject.{gathered}

@@ -1,7 +1,7 @@
 -- The meaning, a recursion over whole lists, is what the small steps come to, for every number of acts.
 use Rattle.std.proofs.Common.{◌≡◌, ℕ, zero, suc, ◌<◌, ◌≤◌, List, Option, Some, None, Bool, true, false, refl, ap, subst, arith}
 use Rattle.c_language.specs.Code.{Code, End, Opens, Plain, Fork, Loop, Leaves, Call, ◌⨟◌, is_true, either}
-use Rattle.c_meaning.specs.Values.{Types, State, opened, all_closed}
+use Rattle.c_meaning.specs.Values.{Types, State, variable_opened, all_closed}
 use Rattle.c_meaning.specs.Acts.{Made, made, after, picked}
 use Rattle.c_meaning.specs.Meaning.{Trace, Answer, Ended, More, Outcome, Done, Over, Go, told, then_do, after_made, take_act, not_built, exec, deep, answer, nothing, opening, code_meaning}
 use Rattle.projection_meaning.proofs.Runs.{Fails, Acts, Moves, Machine, Runs, stop, fail, fail_none, act_none, act, move, unique}
@@ -69,7 +69,7 @@ module _ (types : Types) where
     exec_good : (c : Code) → Good (suc d) c (exec types again c)
     exec_good End k n m t lt = (omega arith, λ a r. r)
     exec_good (Opens x r) k n m t lt =
-        after_move k n (config (Opens x (r ⨟ k)) m t) _ (exec types again r n (opened types x m) t) refl (exec_good r k n (opened types x m) t lt)
+        after_move k n (config (Opens x (r ⨟ k)) m t) _ (exec types again r n (variable_opened types x m) t) refl (exec_good r k n (variable_opened types x m) t lt)
     exec_good (Plain i a r) k n m t lt =
         takes (Plain i a (r ⨟ k)) k (λ x. exec types again r) d refl (λ x n m t lt. exec_good r k n m t (omega arith)) n m t lt
     exec_good (Fork i e c r) k n m t lt =

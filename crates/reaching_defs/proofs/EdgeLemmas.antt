@@ -18,7 +18,7 @@ use Rattle.rule_closure.proofs.ListLemmas.{contains_map, contains_none}
 use Rattle.reaching_defs.specs.FlowEdges.{flow_edge, IsTargeted}
 use Rattle.reaching_defs.specs.RowFlow.{row_has, Leads, IsRowFlow}
 use Rattle.reaching_defs.specs.Spans.{IsPairAmong, FlowsAmong}
-use Rattle.reaching_defs.proofs.SearchLemmas.{pair_among}
+use Rattle.reaching_defs.proofs.SearchLemmas.{leads_among}
 use Rattle.bit_rows.proofs.SetLemmas.{has-empty}
 
 -- ---- the edges to targets, one by one
@@ -87,15 +87,12 @@ module _ (v base : ℕ) (targets : List Bool) (old : List Edge) where
 
 -- ---- the ends of a chain
 module _ (base n : ℕ) (pairs : List Pair) (among : All (IsPairAmong base n) pairs) (kills : ℕ → ℕ → Bool) (l : ℕ) where
-  leads_among : (u w : ℕ) → Leads pairs u w → IsPairAmong base n (record { from = u; to = w })
-  leads_among u w m = pair_among base n pairs among (record { from = u; to = w }) m
-
   pub chain_from : {v w : ℕ} → Chain (Leads pairs) kills l v w → (base ≤ v) × (v < base + n)
-  chain_from {v = v} {w = w} (last m) = let e = leads_among v w m in (e.from_low, e.from_high)
-  chain_from {v = v} (more {u = u} m k c) = let e = leads_among v u m in (e.from_low, e.from_high)
+  chain_from {v = v} {w = w} (last m) = let e = leads_among base n pairs among v w m in (e.from_low, e.from_high)
+  chain_from {v = v} (more {u = u} m k c) = let e = leads_among base n pairs among v u m in (e.from_low, e.from_high)
 
   pub chain_to : {v w : ℕ} → Chain (Leads pairs) kills l v w → (base ≤ w) × (w < base + n)
-  chain_to {v = v} {w = w} (last m) = let e = leads_among v w m in (e.to_low, e.to_high)
+  chain_to {v = v} {w = w} (last m) = let e = leads_among base n pairs among v w m in (e.to_low, e.to_high)
   chain_to (more m k c) = chain_to c
 
 -- ---- flow edges by targets

@@ -1,10 +1,10 @@
 -- Flow by rows is flow of a program: a location's place in the list for the location, and back.
-use Rattle.std.proofs.Common.{◌≡◌, ℕ, zero, suc, ◌<◌, inl, inr, Bool, false, Some, List, [], ◌∷◌, length, Contains, refl, sym, ap, ◌∙◌, arith}
+use Rattle.std.proofs.Common.{◌≡◌, ℕ, ◌<◌, inl, inr, Bool, false, Some, List, [], length, Contains, refl, sym, ap, ◌∙◌, arith}
 use Rattle.std.specs.Prelude.{slice_get}
 use Rattle.std.specs.Option.{option_map_or}
 use Rattle.std.proofs.lemmas.Bool.{cases_lt}
 use Rattle.std.proofs.lemmas.List.{get_or_past}
-use Rattle.std.proofs.lemmas.Option.{slice_get_past}
+use Rattle.std.proofs.lemmas.Option.{slice_get_past, slice_get_cases, slice_get_read}
 use Rattle.bit_rows.specs.Sets.{has}
 use Rattle.bit_rows.specs.Tables.{Table}
 use Rattle.c_tree.specs.declared.program.Program.{Program}
@@ -15,7 +15,7 @@ use Rattle.dep_model.specs.declared.vertex.Vertex.{Vertex}
 use Rattle.dep_model.specs.Denoted.{Places}
 use Rattle.dep_model.specs.Follows.{Chain, last, more}
 use Rattle.dep_model.specs.FunctionVertices.{FollowsIn}
-use Rattle.dep_model.specs.Locations.{Placed, locations}
+use Rattle.dep_model.specs.Locations.{TypedLocation, locations}
 use Rattle.dep_model.specs.Skeletons.{AreRows, IsSkeleton}
 use Rattle.dep_model.specs.SystemGraph.{Analysis, vertices_of, places_at, numbered_effects, IsFlowIn}
 use Rattle.dep_model.specs.VertexOrder.{vertex_effects}
@@ -26,15 +26,11 @@ use Rattle.reaching_defs.specs.Laws.{AreOrderOf, RowFlowIsFlow}
 
 -- an element of a list, by its place
 got : {X : Type 0} (xs : List X) (i : ℕ) → i < length xs → (x : X) × (slice_get xs i ≡ Some x)
-got [] i low = absurd (omega (arith, low))
-got (x ∷ xs) zero low = (x, refl)
-got (x ∷ xs) (suc i) low = got xs i (omega (arith, low))
+got xs i low = elim (slice_get_cases xs i).1 [ inl s ↦ (s.0, s.2) | inr s ↦ absurd (omega (arith, low, s.0)) ]
 
 -- a member of a list has a place below its length
 placed : {X : Type 0} (xs : List X) (x : X) → Contains xs x → (k : ℕ) × (k < length xs) × (slice_get xs k ≡ Some x)
-placed [] x (k, low, e) = absurd (omega (arith, low))
-placed (y ∷ ys) x (zero, low, e) = (zero, omega arith, ap Some e)
-placed (y ∷ ys) x (suc k, low, e) = let p = placed ys x (k, omega (arith, low), e) in (suc p.0, omega (arith, p.1), p.2)
+placed xs x c = (c.0, c.1, slice_get_read xs (length xs) c.0 x refl c.1 (sym c.2))
 
 -- a chain in one order and by kills of one location is one in another order and by kills of another location
 chain_as : {L M : Type 0} (order order' : ℕ → ℕ → Type 0) (kills : ℕ → L → Bool) (kills' : ℕ → M → Bool) (l : L) (m : M) → ((v w : ℕ) → order v w → order' v w) → ((u : ℕ) → kills u l ≡ kills' u m) → {v w : ℕ} → Chain order kills l v w → Chain order' kills' m v w
@@ -42,7 +38,7 @@ chain_as order order' kills kills' l m leads same {v = v} {w = w} (last h) = las
 chain_as order order' kills kills' l m leads same {v = v} (more {u = u} h k c) = more (leads v u h) (sym (same u) ∙ k) (chain_as order order' kills kills' l m leads same c)
 
 -- the row of a vertex number has a listed location where the vertex with the number has it
-pub row_is : (p : Program) (vs : List Vertex) (places : Vertex → Places) (t : Table) → AreRows p vs places t → (k : ℕ) (o : Placed) → slice_get (locations p) k ≡ Some o → (v : ℕ) → row_has t v k ≡ places_at places vs v o.location
+pub row_is : (p : Program) (vs : List Vertex) (places : Vertex → Places) (t : Table) → AreRows p vs places t → (k : ℕ) (o : TypedLocation) → slice_get (locations p) k ≡ Some o → (v : ℕ) → row_has t v k ≡ places_at places vs v o.location
 row_is p vs places t rows k o at v = elim (cases_lt v (length vs)) [
   | inl low ↦
       let x = got vs v low in
@@ -81,7 +77,7 @@ module _ (p : Program) (a : Analysis) (s : Skeleton) (g : FlowGraph) (f : ℕ) (
       let vs = vertices_of p a in
       let effects = numbered_effects p a.points vs in
       let l = h.flows.location in
-      let m = contains_map (λ (o : Placed). o.location) (locations p) l (listed e.from e.to l h.flows.defined h.flows.used) in
+      let m = contains_map (λ (o : TypedLocation). o.location) (locations p) l (listed e.from e.to l h.flows.defined h.flows.used) in
       let o = m.0 in
       let at = placed (locations p) o m.1 in
       let k = at.0 in

@@ -18,6 +18,9 @@ use Rattle.bit_rows.proofs.SetLemmas.{has-empty}
 pub pair_among : (base n : ℕ) (pairs : List Pair) → All (IsPairAmong base n) pairs → (x : Pair) → Contains pairs x → IsPairAmong base n x
 pair_among base n pairs all x m = All-contains (IsPairAmong base n) pairs x all m
 
+pub leads_among : (base n : ℕ) (pairs : List Pair) → All (IsPairAmong base n) pairs → (u w : ℕ) → Leads pairs u w → IsPairAmong base n (record { from = u; to = w })
+leads_among base n pairs all u w m = pair_among base n pairs all (record { from = u; to = w }) m
+
 -- ---- one vertex visited: from v, whose place is told from `base` on
 pub record IsVisiting (base : ℕ) (pairs : List Pair) (v : ℕ) (order₀ : List ℕ) (filled₀ : ℕ) (s₀ : List Bool) (cursor : ℕ) (order : List ℕ) (filled : ℕ) (s : List Bool) : Type 0 where
   pub within : cursor ≤ length pairs
@@ -146,12 +149,9 @@ module _ (base n : ℕ) (pairs : List Pair) (among : All (IsPairAmong base n) pa
       }
 
   -- what is reached and doesn't kill is gone on from
-  among_is : (u w : ℕ) → Leads pairs u w → IsPairAmong base n (record { from = u; to = w })
-  among_is u w m = pair_among base n pairs among (record { from = u; to = w }) m
-
   reached_on : (done : ℕ) (order : List ℕ) (filled : ℕ) (s : List Bool) → IsSpreading base n pairs kills l v done order filled s → filled ≤ done → (u w : ℕ) → IsTrue (has s (u - base)) → kills u l ≡ false → Leads pairs u w → IsTrue (has s (w - base))
   reached_on done order filled s i end u w h k m =
-      let e = among_is u w m in
+      let e = leads_among base n pairs among u w m in
       let from_is : base + (u - base) ≡ u = omega (arith, e.from_low) in
       let to_is : w ≡ base + (w - base) = omega (arith, e.to_low) in
       let c = i.listed.covers (u - base) h in
@@ -165,7 +165,7 @@ module _ (base n : ℕ) (pairs : List Pair) (among : All (IsPairAmong base n) pa
 
   seed_at : (done : ℕ) (order : List ℕ) (filled : ℕ) (s : List Bool) → IsSpreading base n pairs kills l v done order filled s → (w : ℕ) → Leads pairs v w → IsTrue (has s (w - base))
   seed_at done order filled s i w m =
-      let e = among_is v w m in
+      let e = leads_among base n pairs among v w m in
       let back : w ≡ base + (w - base) = omega (arith, e.to_low) in
       i.seeds (w - base) (subst (λ y. Leads pairs v y) back m)
 

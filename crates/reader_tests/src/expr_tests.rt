@@ -45,7 +45,7 @@ fn shown(alloc: Global, text: &[u8]) -> Result<Text, AllocError> {
 
 #[test]
 fn neighbouring_levels(rt: HostRuntime) -> Result<(), Fail> {
-    let rows: [(&[u8], &[u8]); 36] = [
+    let rows: [(&[u8], &[u8]); 28] = [
         (b"a ? b : c ? d : e ", b"(? a b (? c d e)) at end"),
         (b"a ? b ? c : d : e ", b"(? a (? b c d) e) at end"),
         (b"a || b ? c : d ", b"(? (|| a b) c d) at end"),
@@ -74,6 +74,17 @@ fn neighbouring_levels(rt: HostRuntime) -> Result<(), Fail> {
         (b"- a * b ", b"(* (- a) b) at end"),
         (b"a - - b ", b"(- a (- b)) at end"),
         (b"- a [ b ] ", b"(- ([] a b)) at end"),
+    ];
+    for (text, want) in rows {
+        let got = shown(rt.alloc(), text)?;
+        assert_eq!(rt; got.bytes(), want, "{text:?}");
+    }
+    Ok(())
+}
+
+#[test]
+fn operators_of_one_level(rt: HostRuntime) -> Result<(), Fail> {
+    let rows: [(&[u8], &[u8]); 8] = [
         (b"a - b - c ", b"(- (- a b) c) at end"),
         (b"a / b * c ", b"(* (/ a b) c) at end"),
         (b"a << b >> c ", b"(>> (<< a b) c) at end"),

@@ -318,8 +318,8 @@ fn declarations_and_calls(rt: HostRuntime) -> Result<(), Fail> {
 }
 
 #[test]
-fn amounts(rt: HostRuntime) -> Result<(), Fail> {
-    let rows: [(&[u8], &[u8]); 16] = [
+fn amounts_of_one(rt: HostRuntime) -> Result<(), Fail> {
+    let rows: [(&[u8], &[u8]); 5] = [
         (
             b"p = malloc ( sizeof ( int ) ) ; } ",
             b"p malloc size of integer ; at end",
@@ -340,6 +340,17 @@ fn amounts(rt: HostRuntime) -> Result<(), Fail> {
             b"p = malloc ( sizeof * p ) ; } ",
             b"p malloc size of p ; at end",
         ),
+    ];
+    for (text, want) in rows {
+        let got = shown(rt.alloc(), text)?;
+        assert_eq!(rt; got.bytes(), want, "{text:?}");
+    }
+    Ok(())
+}
+
+#[test]
+fn amounts_of_several(rt: HostRuntime) -> Result<(), Fail> {
+    let rows: [(&[u8], &[u8]); 7] = [
         (
             b"p = malloc ( n * sizeof ( int ) ) ; } ",
             b"p malloc n size of integer ; at end",
@@ -365,6 +376,17 @@ fn amounts(rt: HostRuntime) -> Result<(), Fail> {
             b"p = malloc ( c ? 1 : 2 ) ; } ",
             b"p malloc choose ; at end",
         ),
+    ];
+    for (text, want) in rows {
+        let got = shown(rt.alloc(), text)?;
+        assert_eq!(rt; got.bytes(), want, "{text:?}");
+    }
+    Ok(())
+}
+
+#[test]
+fn refused_amounts(rt: HostRuntime) -> Result<(), Fail> {
+    let rows: [(&[u8], &[u8]); 4] = [
         (
             b"p = malloc ( n + 1 * sizeof ( int ) ) ; } ",
             b"syntax at *",

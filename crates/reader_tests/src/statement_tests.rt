@@ -123,8 +123,8 @@ fn shown(alloc: Global, text: &[u8]) -> Result<Text, AllocError> {
 }
 
 #[test]
-fn choices_and_loops(rt: HostRuntime) -> Result<(), Fail> {
-    let rows: [(&[u8], &[u8]); 22] = [
+fn lists_and_choices(rt: HostRuntime) -> Result<(), Fail> {
+    let rows: [(&[u8], &[u8]); 11] = [
         (b"} ", b"at end"),
         (b"; ; } } ", b"at }"),
         (b"int x = 1 , y ; } ", b"declare declare at end"),
@@ -145,6 +145,17 @@ fn choices_and_loops(rt: HostRuntime) -> Result<(), Fail> {
         (b"else ; } ", b"syntax at else"),
         (b"if a ; } ", b"syntax at a"),
         (b"if ( a ) int x ; } ", b"syntax at int"),
+    ];
+    for (text, want) in rows {
+        let got = shown(rt.alloc(), text)?;
+        assert_eq!(rt; got.bytes(), want, "{text:?}");
+    }
+    Ok(())
+}
+
+#[test]
+fn loops_and_blocks(rt: HostRuntime) -> Result<(), Fail> {
+    let rows: [(&[u8], &[u8]); 11] = [
         (
             b"while ( a ) { -- x ; return ; } } ",
             b"while [ bump return ] at end",

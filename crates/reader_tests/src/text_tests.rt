@@ -18,8 +18,8 @@ fn answer(alloc: Global, text: &[u8]) -> Result<(Text, u32), AllocError> {
 }
 
 #[test]
-fn accepted_texts(rt: HostRuntime) -> Result<(), Fail> {
-    let rows: [&[u8]; 40] = [
+fn accepted_items(rt: HostRuntime) -> Result<(), Fail> {
+    let rows: [&[u8]; 10] = [
         b"int main ( void ) { } ",
         b"int main ( ) { return 0 ; } ",
         b"<stdio.h>\n<stdlib.h>\nint main ( void ) {\n} ",
@@ -29,6 +29,18 @@ fn accepted_texts(rt: HostRuntime) -> Result<(), Fail> {
         b"int f ( int , int * , struct s [ 3 ] ) ; ",
         b"static void f ( void ) { } ",
         b"struct s * * f ( void ) { return p ; } ",
+        b"int x ; int f ( void ) ; int y = 2 ; ",
+    ];
+    for row in rows {
+        let (text, line) = answer(rt.alloc(), row)?;
+        assert_eq!(rt; (text.bytes(), line), (b"ok".as_slice(), 0), "{row:?}");
+    }
+    Ok(())
+}
+
+#[test]
+fn accepted_simple_statements(rt: HostRuntime) -> Result<(), Fail> {
+    let rows: [&[u8]; 15] = [
         b"void f ( void ) { int x ; int y = 1 , * p = & y ; struct s z ; } ",
         b"void f ( void ) { int a [ ] = { 1 , 2 } , b [ 2 ] = { 3 , } ; } ",
         b"void f ( void ) { int x = g ( 1 , y ) ; int z = getchar ( ) ; } ",
@@ -44,6 +56,17 @@ fn accepted_texts(rt: HostRuntime) -> Result<(), Fail> {
         b"void f ( void ) { x = ( int ) y ; x = ( unsigned char ) - y ; } ",
         b"void f ( void ) { g ( ) ; g ( 1 ) ; x = g ( a , b ) ; } ",
         b"void f ( void ) { printf ( \"%d\" , x ) ; printf ( \"\" ) ; } ",
+    ];
+    for row in rows {
+        let (text, line) = answer(rt.alloc(), row)?;
+        assert_eq!(rt; (text.bytes(), line), (b"ok".as_slice(), 0), "{row:?}");
+    }
+    Ok(())
+}
+
+#[test]
+fn accepted_statements(rt: HostRuntime) -> Result<(), Fail> {
+    let rows: [&[u8]; 15] = [
         b"void f ( void ) { ; ; { } { x = 1 ; } } ",
         b"void f ( void ) { if ( x ) y = 1 ; if ( x ) { } else y = 2 ; } ",
         b"void f ( void ) { if ( x ) if ( y ) ; else z = 1 ; else { z = 2 ; } } ",
@@ -59,7 +82,6 @@ fn accepted_texts(rt: HostRuntime) -> Result<(), Fail> {
         b"void f ( void ) { switch ( x ) { default : ; } } ",
         b"void f ( void ) { switch ( x ) { case 1 : switch ( y ) { case 2 : break ; } break ; } } ",
         b"int f ( void ) { x = 1 ; { } return x + 1 ; } ",
-        b"int x ; int f ( void ) ; int y = 2 ; ",
     ];
     for row in rows {
         let (text, line) = answer(rt.alloc(), row)?;
@@ -102,8 +124,8 @@ fn texts_without_a_tree(rt: HostRuntime) -> Result<(), Fail> {
 }
 
 #[test]
-fn left_out_constructs(rt: HostRuntime) -> Result<(), Fail> {
-    let rows: [(&[u8], &[u8], u32); 27] = [
+fn left_out_words(rt: HostRuntime) -> Result<(), Fail> {
+    let rows: [(&[u8], &[u8], u32); 15] = [
         (b"int main (\nvoid ) {\ngoto end ;\n} ", b"goto", 3),
         (
             b"void f ( void ) { while ( x ) { continue ; } } ",
@@ -123,6 +145,17 @@ fn left_out_constructs(rt: HostRuntime) -> Result<(), Fail> {
         (b"void f ( void ) { register int x ; } ", b"register", 1),
         (b"void f ( void ) { auto int x ; } ", b"auto", 1),
         (b"inline int f ( void ) ; ", b"inline", 1),
+    ];
+    for (row, token, at) in rows {
+        let (text, line) = answer(rt.alloc(), row)?;
+        assert_eq!(rt; (text.bytes(), line), (token, at), "{row:?}");
+    }
+    Ok(())
+}
+
+#[test]
+fn left_out_marks_and_places(rt: HostRuntime) -> Result<(), Fail> {
+    let rows: [(&[u8], &[u8], u32); 12] = [
         (b"#\nint x ; ", b"#", 1),
         (b"int f ( int a , ... ) ; ", b"...", 1),
         (b"int f ( void ) {\nreturn 1 ;\nx = 2 ;\n} ", b"return", 2),
@@ -183,13 +216,8 @@ fn nested_parens(alloc: Global, depth: usize) -> Result<Text, AllocError> {
 }
 
 #[test]
-fn constructs_without_a_production(rt: HostRuntime) -> Result<(), Fail> {
-    let rows: [(&[u8], &[u8], u32); 41] = [
-        (
-            b"int main (\nvoid ) {\n;\n;\nint x = 1 + f ( 2 ) ; } ",
-            b"f",
-            5,
-        ),
+fn labels_and_breaks_without_a_production(rt: HostRuntime) -> Result<(), Fail> {
+    let rows: [(&[u8], &[u8], u32); 5] = [
         (b"void f ( void ) {\nend : x = 1 ; } ", b"end", 2),
         (b"void f ( void ) { if ( x ) end : y = 1 ; } ", b"end", 1),
         (b"void f ( void ) { while ( x ) { break ; } } ", b"break", 1),
@@ -202,6 +230,22 @@ fn constructs_without_a_production(rt: HostRuntime) -> Result<(), Fail> {
             b"void f ( void ) { switch ( x ) { case 1 : if ( y ) break ; } } ",
             b"break",
             1,
+        ),
+    ];
+    for (row, token, at) in rows {
+        let (text, line) = answer(rt.alloc(), row)?;
+        assert_eq!(rt; (text.bytes(), line), (token, at), "{row:?}");
+    }
+    Ok(())
+}
+
+#[test]
+fn calls_without_a_production(rt: HostRuntime) -> Result<(), Fail> {
+    let rows: [(&[u8], &[u8], u32); 15] = [
+        (
+            b"int main (\nvoid ) {\n;\n;\nint x = 1 + f ( 2 ) ; } ",
+            b"f",
+            5,
         ),
         (b"void f ( void ) { x = g ( 2 ) + 1 ; } ", b"g", 1),
         (b"void f ( void ) { x = ( int ) g ( 2 ) ; } ", b"g", 1),
@@ -221,6 +265,17 @@ fn constructs_without_a_production(rt: HostRuntime) -> Result<(), Fail> {
         (b"void f ( void ) { x . g ( 1 ) ; } ", b"(", 1),
         (b"void f ( void ) { x = p -> g ( 1 ) + 2 ; } ", b"(", 1),
         (b"void f ( void ) { int ( * g ) ( int ) ; } ", b"(", 1),
+    ];
+    for (row, token, at) in rows {
+        let (text, line) = answer(rt.alloc(), row)?;
+        assert_eq!(rt; (text.bytes(), line), (token, at), "{row:?}");
+    }
+    Ok(())
+}
+
+#[test]
+fn words_and_marks_without_a_production(rt: HostRuntime) -> Result<(), Fail> {
+    let rows: [(&[u8], &[u8], u32); 21] = [
         (b"long\nlong x ; ", b"long", 2),
         (b"void f ( void ) { static int x ; } ", b"static", 1),
         (b"void f ( void ) { x = sizeof ( int ) ; } ", b"sizeof", 1),

@@ -1,11 +1,11 @@
 -- What closing a set by links keeps from step to step.
-use Rattle.std.proofs.Common.{◌≡◌, ℕ, ◌+◌, ◌-◌, ◌<◌, ◌≤◌, ◌⊎◌, ◌↔◌, inl, inr, Bool, true, false, List, map, length, get_or, set, take, Contains, All, count_by, refl, sym, ap, ◌∙◌, subst, arith}
+use Rattle.std.proofs.Common.{◌≡◌, ℕ, ◌+◌, ◌-◌, ◌<◌, ◌≤◌, ◌⊎◌, ◌↔◌, inl, inr, Bool, true, false, List, map, length, get_or, set, take, Contains, All, refl, sym, ap, ◌∙◌, subst, arith}
 use Rattle.std.proofs.lemmas.List.{get_or-set_same, get_or-set_other, length-set, get_or_default}
 use Rattle.std.proofs.lemmas.List.Sums.{count_by_more_yes, count_by_more_no}
 use Rattle.std.proofs.lemmas.List.Elements.{Contains-append_left, Contains-append_right, Contains-append_cases, All-contains}
 use Rattle.std.proofs.lemmas.Bool.{cases_eq, cases_lt, false≢true}
 use Rattle.std.specs.Prelude.{IsTrue}
-use Rattle.bit_rows.specs.Sets.{has}
+use Rattle.bit_rows.specs.Sets.{has, count_of}
 use Rattle.rule_closure.specs.declared.closure.Rule.{Rule}
 use Rattle.rule_closure.specs.declared.engine.Link.{Link}
 use Rattle.rule_closure.specs.Rules.{Derived, IsRuleWithin}
@@ -34,7 +34,7 @@ pub record IsListing (s : List Bool) (at : ℕ) (order : List ℕ) (filled : ℕ
   pub within : filled ≤ at
   pub inside : (i : ℕ) → i < filled → IsTrue (has s (get_or order i 0))
   pub covers : (u : ℕ) → u < at → IsTrue (has s u) → (i : ℕ) × (i < filled) × (get_or order i 0 ≡ u)
-  pub count : count_by (λ b. b) (take at s) ≡ filled
+  pub count : count_of (take at s) ≡ filled
 
 pub listing_adds : (s : List Bool) (at : ℕ) (order : List ℕ) (filled : ℕ) → IsListing s at order filled → at < length s → IsTrue (has s at) → filled < length order → IsListing s (at + 1) (set order filled at) (filled + 1)
 listing_adds s at order filled l h here room = record {

@@ -1,12 +1,12 @@
 -- The least set closed under rules: it exists, there is one, and it is what the rules derive.
-use Rattle.std.proofs.Common.{◌≡◌, ℕ, zero, suc, ◌+◌, ◌<◌, ◌≤◌, ◌⊎◌, ◌↔◌, inl, inr, Bool, true, false, List, [], ◌∷◌, length, set, Contains, All, count_by, refl, sym, ◌∙◌, subst, arith}
+use Rattle.std.proofs.Common.{◌≡◌, ℕ, zero, suc, ◌+◌, ◌<◌, ◌≤◌, ◌⊎◌, ◌↔◌, inl, inr, Bool, true, false, List, [], ◌∷◌, length, set, Contains, All, refl, sym, ◌∙◌, subst, arith}
 use Rattle.std.proofs.lemmas.List.{length-set}
 use Rattle.std.proofs.lemmas.List.Elements.{All-contains}
 use Rattle.std.proofs.lemmas.Bool.{cases_Bool, false≢true}
 use Rattle.std.specs.Prelude.{IsTrue}
-use Rattle.bit_rows.specs.Sets.{has}
+use Rattle.bit_rows.specs.Sets.{has, IsSubset, count_of}
 use Rattle.rule_closure.specs.declared.closure.Rule.{Rule}
-use Rattle.rule_closure.specs.Rules.{Derived, seed, by, Holds, IsClosedUnder, IsLeast, IsRuleWithin}
+use Rattle.rule_closure.specs.Rules.{Derived, seed, by, IsClosedUnder, IsLeast, IsRuleWithin}
 use Rattle.rule_closure.proofs.ListLemmas.{contains_none, contains_head, contains_cons, contains_cases}
 use Rattle.rule_closure.proofs.SetLemmas.{has_in_range, has_set, has_set_cases, count-set, count_room, same_members}
 
@@ -18,7 +18,7 @@ derived_in rules s P begins keeps (seed {v = v} h) = begins v h
 derived_in rules s P begins keeps (by {r = r} m a b) = keeps r m (derived_in rules s P begins keeps a) (derived_in rules s P begins keeps b)
 
 -- it is in each set that holds the given one and is closed under the rules
-pub derived_least : (rules : List Rule) (s t : List Bool) → Holds t s → IsClosedUnder rules t → {v : ℕ} → Derived rules s v → IsTrue (has t v)
+pub derived_least : (rules : List Rule) (s t : List Bool) → IsSubset s t → IsClosedUnder rules t → {v : ℕ} → Derived rules s v → IsTrue (has t v)
 derived_least rules s t holds closed d = derived_in rules s (λ v. IsTrue (has t v)) holds closed d
 
 -- it is below the length of the set, where the rules are
@@ -26,7 +26,7 @@ pub derived_within : (rules : List Rule) (s : List Bool) → All (IsRuleWithin (
 derived_within rules s within d = derived_in rules s (λ v. v < length s) (has_in_range s) (λ r m a b. let w = All-contains (IsRuleWithin (length s)) rules r within m in w.gives_in) d
 
 -- more is derived from more
-pub derived_more : (rules : List Rule) (s t : List Bool) → Holds t s → {v : ℕ} → Derived rules s v → Derived rules t v
+pub derived_more : (rules : List Rule) (s t : List Bool) → IsSubset s t → {v : ℕ} → Derived rules s v → Derived rules t v
 derived_more rules s t holds d = derived_in rules s (λ v. Derived rules t v) (λ v h. seed (holds v h)) (λ r m a b. by m a b) d
 
 -- more is derived by more rules
@@ -99,7 +99,7 @@ pub record DerivedSet (rules : List Rule) (s : List Bool) : Type 0 where
   pub exact : (v : ℕ) → IsTrue (has members v) ↔ Derived rules s v
 
 -- what a broken rule gives is added, until none is broken
-derived_set_from : (room : ℕ) (rules : List Rule) (s t : List Bool) → All (IsRuleWithin (length s)) rules → length t ≡ length s → Holds t s → ((v : ℕ) → IsTrue (has t v) → Derived rules s v) → length t ≤ count_by (λ b. b) t + room → DerivedSet rules s
+derived_set_from : (room : ℕ) (rules : List Rule) (s t : List Bool) → All (IsRuleWithin (length s)) rules → length t ≡ length s → IsSubset s t → ((v : ℕ) → IsTrue (has t v) → Derived rules s v) → length t ≤ count_of t + room → DerivedSet rules s
 derived_set_from zero rules s t within size holds sound few = elim (find_broken rules t) [
   | inl closed ↦ record { members = t; size = size; exact = λ v. (sound v, λ d. derived_least rules s t holds closed d) }
   | inr w ↦

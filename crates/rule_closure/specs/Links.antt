@@ -1,6 +1,6 @@
 -- Rules as they are found at their premises, and how they lie in memory.
-use Rattle.std.specs.Prelude.{ℕ, ◌≡◌, ◌≢◌, ◌<◌, ◌≤◌, ◌-◌, ◌^◌, Bool, List, ◌++◌, map, length, get_or, Contains, count_by, IsTrue}
-use Rattle.bit_rows.specs.Sets.{has}
+use Rattle.std.specs.Prelude.{ℕ, ◌≡◌, ◌≢◌, ◌<◌, ◌≤◌, ◌-◌, ◌^◌, Bool, List, ◌++◌, map, length, get_or, Contains, IsTrue}
+use Rattle.bit_rows.specs.Sets.{has, count_of}
 use Rattle.rule_closure.specs.declared.closure.Rule.{Rule}
 use Rattle.rule_closure.specs.declared.engine.Link.{Link}
 
@@ -59,4 +59,4 @@ pub record IsReady (rules : List Rule) (links : List Link) (heads nexts order : 
 pub record IsListed (order : List ℕ) (filled : ℕ) (s : List Bool) : Type 0 where
   pub inside : (i : ℕ) → i < filled → IsTrue (has s (get_or order i 0))
   pub covers : (v : ℕ) → IsTrue (has s v) → (i : ℕ) × (i < filled) × (get_or order i 0 ≡ v)
-  pub count : count_by (λ b. b) s ≡ filled
+  pub count : count_of s ≡ filled

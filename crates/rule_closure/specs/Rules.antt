@@ -1,6 +1,6 @@
 -- Rules with one or two premises, and the least sets that they close.
 use Rattle.std.specs.Prelude.{ℕ, ◌≡◌, ◌<◌, Bool, List, length, Contains, IsTrue}
-use Rattle.bit_rows.specs.Sets.{has}
+use Rattle.bit_rows.specs.Sets.{has, IsSubset}
 use Rattle.rule_closure.specs.declared.closure.Rule.{Rule}
 
 -- a number is in the set, or the rules give it from the set in finitely many steps
@@ -12,16 +12,12 @@ pub data Derived (rules : List Rule) (s : List Bool) : ℕ → Type 0 where
 abbrev pub IsClosedUnder : List Rule → List Bool → Type 0
 IsClosedUnder rules s = (r : Rule) → Contains rules r → IsTrue (has s r.first) → IsTrue (has s r.second) → IsTrue (has s r.gives)
 
--- one set has each number of the other
-abbrev pub Holds : List Bool → List Bool → Type 0
-Holds t s = (v : ℕ) → IsTrue (has s v) → IsTrue (has t v)
-
 -- t is the least of the sets of its length that hold s and are closed under the rules
 pub record IsLeast (rules : List Rule) (s t : List Bool) : Type 0 where
   pub size : length t ≡ length s
-  pub holds : Holds t s
+  pub holds : IsSubset s t
   pub closed : IsClosedUnder rules t
-  pub least : (u : List Bool) → length u ≡ length s → Holds u s → IsClosedUnder rules u → Holds u t
+  pub least : (u : List Bool) → length u ≡ length s → IsSubset s u → IsClosedUnder rules u → IsSubset t u
 
 -- the numbers of a rule are below n
 pub record IsRuleWithin (n : ℕ) (r : Rule) : Type 0 where

@@ -16,7 +16,7 @@ pub(crate) struct Link {
     pub(crate) gives: u32,
 }
 
-// Each rule, from each of its premises.
+/// Each rule, from each of its premises. Err: no memory was left.
 pub(crate) fn links_of(alloc: Global, rules: &[Rule]) -> Result<Vec<Link>, AllocError>
     ensures { IfOk result (λ links. links.items ≡ links_of rules.now) }
 {
@@ -44,7 +44,7 @@ fn first_links(alloc: Global, rules: &[Rule]) -> Result<Vec<Link>, AllocError>
         .collect(alloc)
 }
 
-// Joins the links at each number into a chain, from the last to the first.
+/// Joins the links at each number into a chain, from the last to the first.
 pub(crate) fn index(links: &[Link], heads: &mut [usize], nexts: &mut [usize])
     requires in_range { (e : ℕ) (l : Link) → e < length links.now → slice_index_or links.now e l ≡ l
         → IsLinkWithin (length heads.old) l }
@@ -113,7 +113,7 @@ fn visit(
     filled
 }
 
-// Closes the set by the links.
+/// Closes the set by the links.
 pub(crate) fn close(
     links: &[Link],
     heads: &[usize],

@@ -9,8 +9,7 @@ use Rattle.c_tree.specs.declared.program.Program.{Program}
 use Rattle.c_tree.specs.declared.numbered.Start.{Start}
 use Rattle.c_tree.specs.Numbered.{Starts, program_starts}
 use Rattle.dep_model.specs.MainVertices.{vertices}
-use Rattle.slice_engine.specs.KeptStatements.{is_kept}
-use Rattle.slice_engine.specs.Slice.{IsCriterion}
+use Rattle.slice_engine.specs.Slice.{keeps_statement, IsCriterion}
 use Rattle.slice_engine.specs.Criterion.{marked_if, with_starts}
 use Rattle.slice_engine.proofs.Vertices.{length-vertices, kept_vertex}
 use Rattle.dep_model.specs.MainVertices.{from}
@@ -75,17 +74,17 @@ entry_stays line (s ∷ ss) x = entry_stays line ss (marked_if (s.line == line) 
 
 -- ---- the criterion
 
-kept_nowhere : (s n i : ℕ) (bs : List Bool) → s + n ≤ i → is_kept (map (λ j. in_function 0 (AtStatement j)) (from s n)) bs i ≡ false
+kept_nowhere : (s n i : ℕ) (bs : List Bool) → s + n ≤ i → keeps_statement (map (λ j. in_function 0 (AtStatement j)) (from s n)) bs i ≡ false
 kept_nowhere s zero i bs le = refl
 kept_nowhere s (suc n) i [] le = refl
 kept_nowhere s (suc n) i (b ∷ bs) le =
     let ne : (s == i) ≡ false = apart s i (omega (arith, le)) in
-    ap (λ q. (q && b) || is_kept (map (λ j. in_function 0 (AtStatement j)) (from (suc s) n)) bs i) ne ∙ kept_nowhere (suc s) n i bs (omega (arith, le))
+    ap (λ q. (q && b) || keeps_statement (map (λ j. in_function 0 (AtStatement j)) (from (suc s) n)) bs i) ne ∙ kept_nowhere (suc s) n i bs (omega (arith, le))
   where
     apart : (a b : ℕ) → a < b → (a == b) ≡ false
     apart a b lt = grind (arith)
 
-pub kept_past : (p : Program) (bs : List Bool) (i : ℕ) → p.statements ≤ i → is_kept (vertices p) bs i ≡ false
+pub kept_past : (p : Program) (bs : List Bool) (i : ℕ) → p.statements ≤ i → keeps_statement (vertices p) bs i ≡ false
 kept_past p [] i le = refl
 kept_past p (b ∷ bs) i le = kept_nowhere 0 p.statements i bs (omega (arith, le))
 

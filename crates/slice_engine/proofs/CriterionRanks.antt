@@ -2,14 +2,14 @@
 use Rattle.std.proofs.Common.{◌≡◌, ℕ, List, [], ◌∷◌, Bool, true, ◌==◌, ◌&&◌, inl, inr, refl, ap, subst, eq-eqb}
 use Rattle.std.specs.List.{list_any}
 use Rattle.std.proofs.lemmas.Bool.{eqb-true, or_left, or_right, or_cases, and_from, and_parts}
+use Rattle.rule_closure.proofs.SetLemmas.{same_test}
 use Rattle.c_tree.specs.declared.program.Program.{Program}
 use Rattle.c_tree.specs.declared.numbered.Start.{Start}
 use Rattle.c_tree.specs.Numbered.{program_starts}
 use Rattle.projection.specs.Kept.{rank}
 use Rattle.projection_meaning.proofs.Ranks.{rank_injective}
-use Rattle.slice_engine.specs.Slice.{starts_on, IsKept, keeps, is_criterion}
+use Rattle.slice_engine.specs.Slice.{starts_on, IsKeptSet, keeps, is_criterion}
 use Rattle.slice_engine.proofs.Kept.{criterion_kept}
-use Rattle.dep_model.proofs.BoolLemmas.{both_or_none}
 
 -- a test that passes in a list passes at some item, and so does each other test that passes there
 pub record Passes {A : Type 0} (test : A → Bool) (xs : List A) : Type 0 where
@@ -25,7 +25,7 @@ passes test (x ∷ xs) h =
       | inr b ↦ let r = passes test xs b in record { item = r.item; here = r.here; others = λ other b. or_right (other x) (list_any other xs) (r.others other b) }
     ]
 
-module _ (p : Program) (line : ℕ) (kept : List Bool) (k : IsKept p line kept) where
+module _ (p : Program) (line : ℕ) (kept : List Bool) (k : IsKeptSet p line kept) where
   to_rank : (i : ℕ) → starts_on p line i ≡ true → is_criterion p line kept (rank (keeps p kept) i) ≡ true
   to_rank i h =
       let r = passes (λ (s : Start). (s.id == i) && (s.line == line)) (program_starts p) h in
@@ -44,4 +44,4 @@ module _ (p : Program) (line : ℕ) (kept : List Bool) (k : IsKept p line kept) 
   -- a kept statement is one of the criterion where its rank is one of the slice's
   pub criterion_rank : (i : ℕ) → keeps p kept i ≡ true → is_criterion p line kept (rank (keeps p kept) i) ≡ starts_on p line i
   criterion_rank i ki =
-      both_or_none (is_criterion p line kept (rank (keeps p kept) i)) (starts_on p line i) (from_rank i ki) (to_rank i)
+      same_test (is_criterion p line kept (rank (keeps p kept) i)) (starts_on p line i) (from_rank i ki, to_rank i)

@@ -14,7 +14,7 @@ use Rattle.dep_model.specs.MainEdges.{IsMainEdge}
 use Rattle.dep_model.specs.NumberedMains.{IsNumberedMain}
 use Rattle.dep_model.specs.Skeletons.{IsSkeleton}
 use Rattle.dep_model.specs.SystemGraph.{Analysis, IsAnalysis, vertices_of, IsFlowIn}
-use Rattle.dep_model.specs.Words.{IsEdgeWithin}
+use Rattle.dep_model.specs.Plain.{IsEdgeWithin}
 use Rattle.dep_model.proofs.NumberedEdges.{numbered_vertices, numbered_edges}
 use Rattle.dep_model.proofs.NumberedMain.{main_analysis, is_main_analysis}
 use Rattle.main_skeleton.proofs.Listed.{defined_listed}

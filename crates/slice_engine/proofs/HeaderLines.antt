@@ -8,7 +8,8 @@ use Rattle.std.proofs.lemmas.List.Kept.{AllPairs-from_increasing, Contains-dedup
 use Rattle.std.proofs.lemmas.List.Sorted.{Contains-permutation, IsPermutation-sym}
 use Rattle.std.proofs.lemmas.Map.Keys.{IsStrictlyIncreasing-dedup}
 use Rattle.rule_closure.proofs.ListLemmas.{contains_none, contains_head, contains_cons, contains_cases}
-use Rattle.slice_engine.specs.Criterion.{line_if, shown_lines}
+use Rattle.slice_engine.specs.Criterion.{put_if}
+use Rattle.slice_engine.specs.Header.{shown_lines}
 
 -- a rank of the criterion and its line
 pub record IsShown (in_criterion : List Bool) (lines : List ℕ) (k : ℕ) : Type 0 where
@@ -30,7 +31,7 @@ shown_at (true ∷ bs) (l ∷ ls) k h = elim (contains_cases (suc l) (shown_line
 ]
 shown_at (false ∷ bs) (l ∷ ls) k h = shown_later false bs l ls k (shown_at bs ls k h)
 
-contains_line : (b : Bool) (n : ℕ) (ls : List ℕ) (k : ℕ) → Contains ls k → Contains (line_if b n ls) k
+contains_line : (b : Bool) (n : ℕ) (ls : List ℕ) (k : ℕ) → Contains ls k → Contains (put_if b n ls) k
 contains_line true n ls k h = contains_cons n ls k h
 contains_line false n ls k h = h
 

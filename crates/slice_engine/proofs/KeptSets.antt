@@ -5,7 +5,7 @@ use Rattle.dep_model.specs.declared.edge.Edge.{Edge}
 use Rattle.dep_model.specs.Words.{ReachesAny}
 use Rattle.dep_model.specs.Plain.{PlainEdges}
 use Rattle.dep_model.specs.Completion.{IsCompletion, NamesNone}
-use Rattle.slice_engine.specs.Engine.{KeepsFrom}
+use Rattle.slice_engine.specs.Slice.{KeepsFrom}
 
 pub keeps_from : (edges : List Edge) (g after : PlainEdges) (n : ℕ) (x r k : List Bool) → g ≡ record { size = n; edges = edges } → after ≡ g → ((v : ℕ) → IsTrue (has r v) ↔ ReachesAny g.edges x v) → length r ≡ length x → IsCompletion after.edges NamesNone 0 r k → KeepsFrom edges x k
 keeps_from edges g after n x r k is same reaches long completes =

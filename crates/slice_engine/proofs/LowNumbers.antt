@@ -14,7 +14,7 @@ use Rattle.dep_model.specs.Denoted.{PointsTo}
 use Rattle.dep_model.specs.Follows.{enters, InTurn, VerticesAt, start, Follows, Chain, last, more}
 use Rattle.dep_model.specs.FunctionVertices.{numbers, code_in, vertices_at, heads, tails, FollowsIn, controller_vertices, IsControlIn, nested, formal, actual, is_entry, is_formal_in}
 use Rattle.dep_model.specs.SystemGraph.{IsFlowIn}
-use Rattle.dep_model.specs.Words.{IsEdgeWithin}
+use Rattle.dep_model.specs.Plain.{IsEdgeWithin}
 use Rattle.rule_closure.proofs.ListLemmas.{contains_head, contains_cons}
 use Rattle.dep_model.proofs.VertexNumbers.{numbers_pass}
 
@@ -23,21 +23,21 @@ abbrev pub IsLow : ℕ → Option ℕ → Type 0
 IsLow n None = Unit {0}
 IsLow n (Some v) = v < n
 
-abbrev AreLow : ℕ → List ℕ → Type 0
-AreLow n xs = (v : ℕ) → Contains xs v → v < n
+abbrev AreLowNumbers : ℕ → List ℕ → Type 0
+AreLowNumbers n xs = (v : ℕ) → Contains xs v → v < n
 
 module _ (n : ℕ) where
-  enters_low : (xs : List ℕ) (k : Option ℕ) → AreLow n xs → IsLow n k → IsLow n (enters xs k)
+  enters_low : (xs : List ℕ) (k : Option ℕ) → AreLowNumbers n xs → IsLow n k → IsLow n (enters xs k)
   enters_low [] k low b = b
   enters_low (x ∷ xs) k low b = low x (contains_head x xs)
 
-  turn_low : (xs : List ℕ) (k : Option ℕ) (v : ℕ) (w : Option ℕ) → AreLow n xs → IsLow n k → InTurn xs k v w → (v < n) × IsLow n w
+  turn_low : (xs : List ℕ) (k : Option ℕ) (v : ℕ) (w : Option ℕ) → AreLowNumbers n xs → IsLow n k → InTurn xs k v w → (v < n) × IsLow n w
   turn_low [] k v w low b h = elim h [ ]
   turn_low (x ∷ xs) k v w low b (inl e) =
       (subst (λ u. u < n) (sym e.0) (low x (contains_head x xs)), subst (IsLow n) (sym e.1) (enters_low xs k (λ u c. low u (contains_cons x xs u c)) b))
   turn_low (x ∷ xs) k v w low b (inr h) = turn_low xs k v w (λ u c. low u (contains_cons x xs u c)) b h
 
-module _ (n : ℕ) (at : VerticesAt ℕ) (each : (i : ℕ) (act : Option Act) → AreLow n (at i act)) where
+module _ (n : ℕ) (at : VerticesAt ℕ) (each : (i : ℕ) (act : Option Act) → AreLowNumbers n (at i act)) where
   start_low : (c : Code) (k : Option ℕ) → IsLow n k → IsLow n (start at c k)
   start_low End k b = b
   start_low (Opens x r) k b = start_low r k b
@@ -71,14 +71,14 @@ module _ (n : ℕ) (at : VerticesAt ℕ) (each : (i : ℕ) (act : Option Act) �
 
 -- ---- the vertices of a function
 
-numbers_low : (test : VertexKind → Bool) (f : ℕ) (vs : List Vertex) → AreLow (length vs) (numbers test f vs)
+numbers_low : (test : VertexKind → Bool) (f : ℕ) (vs : List Vertex) → AreLowNumbers (length vs) (numbers test f vs)
 numbers_low test f vs k h = let p = numbers_pass test f vs k h in slice_get_within vs k p.one p.at
 
-both_low : (n : ℕ) (xs ys : List ℕ) → AreLow n xs → AreLow n ys → AreLow n (xs ++ ys)
+both_low : (n : ℕ) (xs ys : List ℕ) → AreLowNumbers n xs → AreLowNumbers n ys → AreLowNumbers n (xs ++ ys)
 both_low n xs ys a b v h = elim (Contains-append_cases xs ys v h) [ inl x ↦ a v x | inr y ↦ b v y ]
 
 module _ (p : Program) (vs : List Vertex) (f : ℕ) where
-  at_low : (i : ℕ) (act : Option Act) → AreLow (length vs) (vertices_at vs f i act)
+  at_low : (i : ℕ) (act : Option Act) → AreLowNumbers (length vs) (vertices_at vs f i act)
   at_low i act = numbers_low _ f vs
 
   tails_low : IsLow (length vs) (enters (tails vs f) None)
@@ -91,7 +91,7 @@ module _ (p : Program) (vs : List Vertex) (f : ℕ) where
   follows_in_low v w (inr (inl h)) = follows_low (length vs) (vertices_at vs f) at_low (code_in p f) (enters (tails vs f) None) v w tails_low h
   follows_in_low v w (inr (inr h)) = turn_low (length vs) (tails vs f) None v w (numbers_low _ f vs) tt h
 
-  controller_low : (c : Controller) → AreLow (length vs) (controller_vertices vs f c)
+  controller_low : (c : Controller) → AreLowNumbers (length vs) (controller_vertices vs f c)
   controller_low None = numbers_low is_entry f vs
   controller_low (Some i) = numbers_low _ f vs
 

@@ -16,11 +16,11 @@ use Rattle.dep_model.specs.NumberedMains.{IsNumberedMain}
 use Rattle.dep_model.proofs.NumberedEdges.{numbered_vertices, system_main_edges}
 use Rattle.projection_laws.specs.Nested.{IsNested}
 use Rattle.projection_laws.proofs.WellFormedProjections.{projection_well_formed}
-use Rattle.slice_engine.specs.Slice.{keeps, sliced, IsKept}
+use Rattle.slice_engine.specs.Slice.{keeps, sliced, IsKeptSet}
 use Rattle.slice_engine.proofs.CriterionLaws.{kept_past}
 use Rattle.slice_engine.proofs.Vertices.{length-vertices, kept_vertex}
 
-module _ (p : Program) (line : ℕ) (kept : List Bool) (well : IsWellFormed p) (n : IsNumberedMain p) (k : IsKept p line kept) where
+module _ (p : Program) (line : ℕ) (kept : List Bool) (well : IsWellFormed p) (n : IsNumberedMain p) (k : IsKeptSet p line kept) where
   labelled_control : (e : Edge) → IsControlIn p (vertices p) 0 e → e.label ≡ Control
   labelled_control e (nested c i labelled controls from to) = labelled
   labelled_control e (formal labelled from to) = labelled
@@ -29,14 +29,14 @@ module _ (p : Program) (line : ℕ) (kept : List Bool) (well : IsWellFormed p) (
   controllers_kept : (e : Edge) → IsControlIn p (vertices p) 0 e → has kept e.to ≡ true → has kept e.from ≡ true
   controllers_kept e c h =
       let here = subst (λ vs. IsControlIn p vs 0 e) (sym (numbered_vertices p k.analysis n k.is_analysis)) c in
-      k.completes.closed.controls e ((system_main_edges p k.analysis k.edges n k.is_analysis k.are_edges e).1 (inl here)) (labelled_control e c) h
+      k.keeps_from.completes.closed.controls e ((system_main_edges p k.analysis k.edges n k.is_analysis k.are_edges e).1 (inl here)) (labelled_control e c) h
 
   -- a statement is kept where its vertex is
   pub same_keeps : (λ i. has kept (suc i)) ≡ keeps p kept
   same_keeps = fun_ext (λ i. elim (cases_lt i p.statements) [
     | inl lt ↦ sym (kept_vertex p kept i lt)
     | inr ge ↦
-        let long = k.completes.size ∙ k.is_reached.size ∙ k.is_criterion.size ∙ length-vertices p in
+        let long = k.keeps_from.completes.size ∙ k.keeps_from.is_reached.size ∙ k.is_criterion.size ∙ length-vertices p in
         get_or_past kept (suc i) false (omega (arith, long, ge)) ∙ sym (kept_past p kept i ge)
   ])
 

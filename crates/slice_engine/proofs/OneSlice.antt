@@ -14,7 +14,7 @@ use Rattle.dep_model.specs.Completion.{IsClosed, IsCompletion, NamesNone}
 use Rattle.rule_closure.proofs.ListLemmas.{contains_none, contains_head, contains_cons, contains_cases}
 use Rattle.rule_closure.proofs.SetLemmas.{has_in_range, same_members}
 use Rattle.dep_model.proofs.CompletionLemmas.{completion_unique}
-use Rattle.slice_engine.specs.Slice.{IsCriterion, IsKept, sliced, AreLines, header, IsSlice}
+use Rattle.slice_engine.specs.Slice.{IsCriterion, IsKeptSet, sliced, AreLines, header, IsSlice}
 use Rattle.slice_engine.proofs.Vertices.{length-vertices, kept_vertex}
 
 -- ---- ascending lists
@@ -118,16 +118,16 @@ module _ (p : Program) (line : ℕ) where
       same_members x y (a.size ∙ sym b.size) (λ v. (criterion_member x y a b v, criterion_member y x b a v))
 
   -- the vertices that a slice keeps are one set
-  pub kept_one : (k m : List Bool) → IsKept p line k → IsKept p line m → k ≡ m
+  pub kept_one : (k m : List Bool) → IsKeptSet p line k → IsKeptSet p line m → k ≡ m
   kept_one k m a b =
       let each : (e : Edge) → Contains a.edges e → Contains b.edges e = same_edges p a.analysis b.analysis a.edges b.edges a.is_analysis b.is_analysis a.are_edges b.are_edges in
       let back : (e : Edge) → Contains b.edges e → Contains a.edges e = same_edges p b.analysis a.analysis b.edges a.edges b.is_analysis a.is_analysis b.are_edges a.are_edges in
       let from : a.criterion ≡ b.criterion = criterion_one a.criterion b.criterion a.is_criterion b.is_criterion in
-      let reached : a.reached ≡ b.reached = same_members a.reached b.reached (a.is_reached.size ∙ ap length from ∙ sym b.is_reached.size) (λ v. (
-        λ h. (b.is_reached.members v).1 (reaches_among a.edges b.edges each b.criterion v (subst (λ s. ReachesAny a.edges s v) from ((a.is_reached.members v).0 h))),
-        λ h. (a.is_reached.members v).1 (reaches_among b.edges a.edges back a.criterion v (subst (λ s. ReachesAny b.edges s v) (sym from) ((b.is_reached.members v).0 h))),
+      let reached : a.keeps_from.reached ≡ b.keeps_from.reached = same_members a.keeps_from.reached b.keeps_from.reached (a.keeps_from.is_reached.size ∙ ap length from ∙ sym b.keeps_from.is_reached.size) (λ v. (
+        λ h. (b.keeps_from.is_reached.members v).1 (reaches_among a.edges b.edges each b.criterion v (subst (λ s. ReachesAny a.edges s v) from ((a.keeps_from.is_reached.members v).0 h))),
+        λ h. (a.keeps_from.is_reached.members v).1 (reaches_among b.edges a.edges back a.criterion v (subst (λ s. ReachesAny b.edges s v) (sym from) ((b.keeps_from.is_reached.members v).0 h))),
       )) in
-      completion_unique b.edges NamesNone 0 b.reached k m (completion_among a.edges b.edges each back b.reached k (subst (λ s. IsCompletion a.edges NamesNone 0 s k) reached a.completes)) b.completes
+      completion_unique b.edges NamesNone 0 b.keeps_from.reached k m (completion_among a.edges b.edges each back b.keeps_from.reached k (subst (λ s. IsCompletion a.edges NamesNone 0 s k) reached a.keeps_from.completes)) b.keeps_from.completes
 
   lines_one : (kept : List Bool) (xs ys : List ℕ) → AreLines p line kept xs → AreLines p line kept ys → xs ≡ ys
   lines_one kept xs ys a b =

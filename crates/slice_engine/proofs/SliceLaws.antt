@@ -18,27 +18,27 @@ use Rattle.c_print.specs.StartsOn.{StartsOn}
 use Rattle.c_print_laws.specs.ReadAgain.{IsReadAgain}
 use Rattle.c_print_laws.proofs.ReadAgain.{commented_is_read_again}
 use Rattle.c_print_laws.proofs.StatementStarts.{statements_start}
-use Rattle.own_words.proofs.Standing.{has_own_words}
+use Rattle.own_words.proofs.StandingWords.{has_own_words}
 use Rattle.dep_model.specs.NumberedMains.{IsNumberedMain}
 use Rattle.rule_closure.proofs.ListLemmas.{contains_head, contains_cons}
 use Rattle.dep_model.specs.declared.edge.Edge.{Edge}
 use Rattle.projection.specs.Kept.{rank}
 use Rattle.projection.specs.Projection.{projection}
-use Rattle.slice_engine.specs.Slice.{starts_on, keeps, sliced, IsCriterion, IsKept, IsLineOf, header, IsSlice, is_criterion, HasSameValues, IsReadAs, IsFaithful}
-use Rattle.slice_engine.specs.Criterion.{with_starts, by_rank, shown_lines}
-use Rattle.slice_engine.specs.Engine.{IsPrepared, AreMarks, KeepsFrom, IsSlicedAt}
+use Rattle.slice_engine.specs.Slice.{starts_on, keeps, sliced, IsCriterion, KeepsFrom, IsKeptSet, IsStartLine, header, IsSlice, is_criterion, GivesCriterion, IsAcceptedSlice, IsFaithful}
+use Rattle.slice_engine.specs.Criterion.{with_starts, by_rank}
+use Rattle.slice_engine.specs.Header.{shown_lines}
+use Rattle.slice_engine.specs.Engine.{IsPrepared, AreMarks, IsSlicedAt}
 use Rattle.slice_engine.proofs.CriterionLaws.{criterion_is, kept_past, empty_long}
 use Rattle.slice_engine.proofs.CriterionLemmas.{length-with_starts}
 use Rattle.slice_engine.proofs.Vertices.{kept_vertex}
 use Rattle.slice_engine.proofs.Kept.{criterion_kept, flow_closed}
 use Rattle.slice_engine.proofs.CriterionRanks.{criterion_rank}
-use Rattle.slice_engine.proofs.RankTests.{at_mark, at_rank, of_rank, length-by_rank}
+use Rattle.slice_engine.proofs.RankTests.{at_rank, of_rank, length-by_rank}
 use Rattle.slice_engine.proofs.Nesting.{same_keeps, kept_nested, slice_well_formed}
 use Rattle.slice_engine.proofs.StartNumbers.{numbers_are}
 use Rattle.slice_engine.proofs.HeaderLines.{shown_at, at_shown}
 use Rattle.slice_engine.proofs.HeaderLemmas.{AreShort, inside, inside_feedless, inside_starless, header_is_comment}
-use Rattle.projection_meaning.specs.SameValues as values
-use Rattle.projection_meaning.specs.SameValues.{StandFor}
+use Rattle.projection_meaning.specs.SameValues.{StandFor, HasSameValues}
 use Rattle.projection_meaning.specs.Laws.{keeps_of}
 use Rattle.projection_meaning.proofs.SameValues.{same_values}
 use Rattle.projection_laws.specs.Nested.{IsNested}
@@ -65,9 +65,7 @@ are_marks p edges starts line criterion kept in_criterion marks g made keeps_fro
         are_edges = g.has_edges.are_edges;
         criterion = criterion;
         is_criterion = c;
-        reached = keeps_from.reached;
-        is_reached = keeps_from.is_reached;
-        completes = keeps_from.completes;
+        keeps_from = keeps_from;
       };
       in_criterion_long = in_criterion_long;
       marks_long = marks_long;
@@ -81,21 +79,21 @@ criterion_long line v starts x e = ap length e ∙ length-with_starts line start
 -- ---- the program of the slice
 
 module _ (p : Program) (line : ℕ) (in_criterion marks : List Bool) (m : AreMarks p line in_criterion marks) where
-  keeps_marked : keeps p m.kept ≡ at_mark marks
+  keeps_marked : keeps p m.kept ≡ has marks
   keeps_marked = fun_ext (λ i. sym (m.marks_are i))
 
   long : length in_criterion ≡ length marks
   long = m.in_criterion_long ∙ sym m.marks_long
 
-  pub is_sliced : (q : Program) (ranks : List Bool) → q ≡ projection p (at_mark marks) → ranks ≡ by_rank marks in_criterion → IsSlicedAt p line q ranks
+  pub is_sliced : (q : Program) (ranks : List Bool) → q ≡ projection p (has marks) → ranks ≡ by_rank marks in_criterion → IsSlicedAt p line q ranks
   is_sliced q ranks is ranks_are = record {
     kept = m.kept;
     is_kept = m.is_kept;
     program_is = is ∙ ap (projection p) (sym keeps_marked);
-    in_criterion_long = ap length ranks_are ∙ length-by_rank marks in_criterion long ∙ ap (rank (at_mark marks)) m.marks_long ∙ sym (ap (λ (x : Program). x.statements) is);
-    in_criterion_are = λ i k. ap (λ (f : ℕ → Bool). at_mark ranks (rank f i)) keeps_marked ∙ ap (λ xs. at_mark xs (rank (at_mark marks) i)) ranks_are ∙ at_rank marks in_criterion i long (m.marks_are i ∙ k) ∙ m.in_criterion_are i;
+    in_criterion_long = ap length ranks_are ∙ length-by_rank marks in_criterion long ∙ ap (rank (has marks)) m.marks_long ∙ sym (ap (λ (x : Program). x.statements) is);
+    in_criterion_are = λ i k. ap (λ (f : ℕ → Bool). has ranks (rank f i)) keeps_marked ∙ ap (λ xs. has xs (rank (has marks) i)) ranks_are ∙ at_rank marks in_criterion i long (m.marks_are i ∙ k) ∙ m.in_criterion_are i;
     in_criterion_only = λ r h.
-        let w = of_rank marks in_criterion r (ap (λ xs. at_mark xs r) (sym ranks_are) ∙ h) in
+        let w = of_rank marks in_criterion r (ap (λ xs. has xs r) (sym ranks_are) ∙ h) in
         (w.0, sym (m.marks_are w.0) ∙ w.1, ap (λ f. rank f w.0) keeps_marked ∙ w.2);
   }
 
@@ -145,13 +143,13 @@ module _ (p : Program) (line : ℕ) (q : Program) (in_criterion : List Bool) (we
   line_there : (i r : ℕ) → at i ≡ r → line_of q r ≡ line_of (sliced p s.kept) (at i)
   line_there i r e = ap (line_of q) (sym e) ∙ ap (λ x. line_of x (at i)) s.program_is
 
-  line_is : (i k : ℕ) → at i < q.statements → k ≡ suc (line_of (sliced p s.kept) (at i)) → IsLineOf p s.kept i k
+  line_is : (i k : ℕ) → at i < q.statements → k ≡ suc (line_of (sliced p s.kept) (at i)) → IsStartLine p s.kept i k
   line_is i k lt e = record {
     starts = statements_start (sliced p s.kept) well_there (at i) (subst (λ (x : Program). at i < x.statements) s.program_is lt);
     behind_header = e;
   }
 
-  lines_found : (lines shown : List ℕ) → AreAll lines → Shown lines shown → (k : ℕ) → Contains shown k → (i : ℕ) × (starts_on p line i ≡ true) × IsLineOf p s.kept i k
+  lines_found : (lines shown : List ℕ) → AreAll lines → Shown lines shown → (k : ℕ) → Contains shown k → (i : ℕ) × (starts_on p line i ≡ true) × IsStartLine p s.kept i k
   lines_found lines shown all exact k h =
       let f = shown_at in_criterion lines k ((exact k).0 h) in
       let w = s.in_criterion_only f.rank f.is_shown in
@@ -160,7 +158,7 @@ module _ (p : Program) (line : ℕ) (q : Program) (in_criterion : List Bool) (we
       let is : k ≡ suc (line_of (sliced p s.kept) (at w.0)) = f.behind ∙ ap suc (some_line lines all f.rank f.line lt f.line_is ∙ line_there w.0 f.rank w.2) in
       (w.0, on, line_is w.0 k (subst (λ r. r < q.statements) (sym w.2) lt) is)
 
-  found_lines : (lines shown : List ℕ) → AreAll lines → Shown lines shown → (k i : ℕ) → starts_on p line i ≡ true → IsLineOf p s.kept i k → Contains shown k
+  found_lines : (lines shown : List ℕ) → AreAll lines → Shown lines shown → (k i : ℕ) → starts_on p line i ≡ true → IsStartLine p s.kept i k → Contains shown k
   found_lines lines shown all exact k i on l =
       let want : get_or in_criterion (at i) false ≡ true = s.in_criterion_are i (criterion_kept p line s.kept s.is_kept i on) ∙ on in
       let lt = rank_low (at i) want in
@@ -187,7 +185,7 @@ module _ (p : Program) (line : ℕ) (q : Program) (in_criterion : List Bool) (we
       let same = some_line lines all f.rank f.line lt f.line_is in
       omega (arith, is, low, same, fits))
 
-  pub is_read : (lines shown : List ℕ) (text : Bytes) → AreAll lines → Shown lines shown → line < 2 ^ 64 → length (layout q) ≤ 2 ^ 32 → text ≡ header line shown ++ layout q → IsReadAs p line text
+  pub is_read : (lines shown : List ℕ) (text : Bytes) → AreAll lines → Shown lines shown → line < 2 ^ 64 → length (layout q) ≤ 2 ^ 32 → text ≡ header line shown ++ layout q → IsAcceptedSlice p line text
   is_read lines shown text all exact low fits is =
       let short = shown_short lines shown all exact fits in
       let again : IsReadAgain (header line shown ++ layout q) q = subst (λ front. IsReadAgain (front ++ layout q) q) (header_is_comment line shown) (commented_is_read_again (inside line shown) q (inside_feedless line shown low short) (inside_starless line shown low short) well_q) in
@@ -203,25 +201,20 @@ module _ (p : Program) (line : ℕ) (q : Program) (in_criterion : List Bool) (we
 -- ---- the same values
 
 -- what is kept gives the values of the program
-same_values_at : (p q : Program) (line : ℕ) (kept : List Bool) → IsWellFormed p → IsNumberedMain p → IsKept p line kept → SameButLines q (sliced p kept) → HasSameValues p line kept q
+same_values_at : (p q : Program) (line : ℕ) (kept : List Bool) → IsWellFormed p → IsNumberedMain p → IsKeptSet p line kept → SameButLines q (sliced p kept) → GivesCriterion p line kept q
 same_values_at p q line kept well numbered k =
     law (keeps p kept) (same_keeps p line kept well numbered k) (kept_nested p line kept well numbered k) (criterion_kept p line kept k) (criterion_rank p line kept k)
   where
     set : ℕ → Bool
     set = starts_on p line
 
-    law : (keeps : ℕ → Bool) → keeps_of kept ≡ keeps → IsNested keeps p → ((i : ℕ) → set i ≡ true → keeps i ≡ true) → StandFor keeps set (is_criterion p line kept) → SameButLines q (projection p keeps) → values.HasSameValues keeps set (is_criterion p line kept) p q
-    law keeps same = subst (λ (test : ℕ → Bool). IsNested test p → ((i : ℕ) → set i ≡ true → test i ≡ true) → StandFor test set (is_criterion p line kept) → SameButLines q (projection p test) → values.HasSameValues test set (is_criterion p line kept) p q) same
+    law : (keeps : ℕ → Bool) → keeps_of kept ≡ keeps → IsNested keeps p → ((i : ℕ) → set i ≡ true → keeps i ≡ true) → StandFor keeps set (is_criterion p line kept) → SameButLines q (projection p keeps) → HasSameValues keeps set (is_criterion p line kept) p q
+    law keeps same = subst (λ (test : ℕ → Bool). IsNested test p → ((i : ℕ) → set i ≡ true → test i ≡ true) → StandFor test set (is_criterion p line kept) → SameButLines q (projection p test) → HasSameValues test set (is_criterion p line kept) p q) same
         (λ nested held stand but_lines. same_values p q k.analysis kept set (is_criterion p line kept) well numbered k.is_analysis nested (flow_closed p line kept numbered k) held stand but_lines)
 
 -- a program gives the same values as what is read of its slice
-pub is_faithful : (p : Program) (line : ℕ) (text : Bytes) → IsWellFormed p → IsNumberedMain p → IsReadAs p line text → IsFaithful p line text
+pub is_faithful : (p : Program) (line : ℕ) (text : Bytes) → IsWellFormed p → IsNumberedMain p → IsAcceptedSlice p line text → IsFaithful p line text
 is_faithful p line text well numbered r = record {
-  kept = r.kept;
-  is_kept = r.is_kept;
-  program = r.program;
-  reads = r.reads;
-  same_program = r.same_program;
-  own_words = r.own_words;
+  accepted = r;
   same_values = same_values_at p r.program line r.kept well numbered r.is_kept r.same_program;
 }

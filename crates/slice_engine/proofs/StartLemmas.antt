@@ -16,7 +16,8 @@ use Rattle.c_tree.specs.declared.statement.Statement.TheVariants as s
 use Rattle.c_tree.specs.declared.numbered.Start.{Start}
 use Rattle.c_tree.specs.Numbered.{Starts, own_start, starts, body_starts, function_starts, inner, arms_inner}
 use Rattle.c_tree.proofs.LayerLemmas.{inner-If, inner-For, body_starts-append, starts-inner}
-use Rattle.dep_model.proofs.Grown.{IsEach, grown_two, grown_three}
+use Rattle.c_language.proofs.Turns.{IsEach}
+use Rattle.dep_model.proofs.Grown.{grown_two, grown_three}
 
 pub each_statement : IsEach starts body_starts
 each_statement = record { at_nothing = refl; at_more = λ x xs. refl }

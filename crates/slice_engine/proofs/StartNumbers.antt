@@ -4,7 +4,8 @@ use Rattle.std.proofs.lemmas.List.{append-nil}
 use Rattle.c_tree.specs.declared.program.Program.{Program}
 use Rattle.c_tree.specs.Numbered.{Starts, body_starts, function_starts, program_starts}
 use Rattle.dep_model.specs.MainVertices.{from}
-use Rattle.dep_model.specs.NumberedMains.{IsNumberedMain, doing_number}
+use Rattle.dep_model.specs.Doings.{doing_number}
+use Rattle.dep_model.specs.NumberedMains.{IsNumberedMain}
 use Rattle.dep_model.proofs.NumberedMain.{main_doings}
 use Rattle.dep_model.proofs.StartDoings.{ids, body_agree}
 use Rattle.slice_engine.proofs.CriterionLaws.{AreNumbers}

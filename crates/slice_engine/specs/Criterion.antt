@@ -1,5 +1,5 @@
 -- Sets of statements as lists of tests, as they are found in one pass.
-use Rattle.std.specs.Prelude.{ℕ, suc, ◌+◌, ◌==◌, List, [], ◌∷◌, Bool, true, false, slice_set}
+use Rattle.std.specs.Prelude.{ℕ, ◌+◌, ◌==◌, List, [], ◌∷◌, Bool, true, false, slice_set}
 use Rattle.c_tree.specs.Numbered.{Starts}
 
 abbrev pub marked_if : Bool → ℕ → List Bool → List Bool
@@ -11,22 +11,12 @@ abbrev pub with_starts : ℕ → Starts → List Bool → List Bool
 with_starts line [] x = x
 with_starts line (s ∷ ss) x = with_starts line ss (marked_if (s.line == line) (s.id + 1) x)
 
-abbrev pub if_mark : Bool → Bool → List Bool → List Bool
-if_mark true b bs = b ∷ bs
-if_mark false b bs = bs
+abbrev pub put_if : {A : Type 0} → Bool → A → List A → List A
+put_if true x xs = x ∷ xs
+put_if false x xs = xs
 
 -- of the tests of the second list those that stand where the first list's test holds: for each rank that of its statement
 abbrev pub by_rank : List Bool → List Bool → List Bool
 by_rank [] bs = []
 by_rank (m ∷ ms) [] = []
-by_rank (m ∷ ms) (b ∷ bs) = if_mark m b (by_rank ms bs)
-
-abbrev pub line_if : Bool → ℕ → List ℕ → List ℕ
-line_if true n ls = n ∷ ls
-line_if false n ls = ls
-
--- the lines where the first list's test holds, each behind a header of one line
-abbrev pub shown_lines : List Bool → List ℕ → List ℕ
-shown_lines [] ls = []
-shown_lines (b ∷ bs) [] = []
-shown_lines (b ∷ bs) (l ∷ ls) = line_if b (suc l) (shown_lines bs ls)
+by_rank (m ∷ ms) (b ∷ bs) = put_if m b (by_rank ms bs)

@@ -6,10 +6,9 @@ use Rattle.c_language.specs.Programs.{IsWellFormed}
 use Rattle.dep_model.specs.NumberedMains.{IsNumberedMain}
 use Rattle.dep_model.specs.declared.edge.Edge.{Edge}
 use Rattle.dep_model.specs.SystemGraph.{Analysis, IsAnalysis, AreSystemEdges}
-use Rattle.dep_model.specs.Words.{IsPlain, IsEdgeWithin}
-use Rattle.dep_model.specs.Completion.{IsCompletion, NamesNone}
+use Rattle.dep_model.specs.Plain.{IsPlain, IsEdgeWithin}
 use Rattle.projection.specs.Kept.{rank}
-use Rattle.slice_engine.specs.Slice.{starts_on, keeps, sliced, IsReached, IsKept}
+use Rattle.slice_engine.specs.Slice.{starts_on, keeps, sliced, IsKeptSet}
 
 -- the edges of a program's system graph
 pub record HasEdges (p : Program) (edges : List Edge) : Type 0 where
@@ -27,16 +26,10 @@ pub record IsPrepared (p : Program) (edges : List Edge) (starts : Starts) : Type
   pub has_edges : HasEdges p edges
   pub starts_are : starts ≡ program_starts p
 
--- a set is the completion of what reaches another one
-pub record KeepsFrom (edges : List Edge) (criterion kept : List Bool) : Type 0 where
-  pub reached : List Bool
-  pub is_reached : IsReached edges criterion reached
-  pub completes : IsCompletion edges NamesNone 0 reached kept
-
 -- for each statement whether it starts on the line, and whether the slice keeps it
 pub record AreMarks (p : Program) (line : ℕ) (in_criterion marks : List Bool) : Type 0 where
   pub kept : List Bool
-  pub is_kept : IsKept p line kept
+  pub is_kept : IsKeptSet p line kept
   pub in_criterion_long : length in_criterion ≡ p.statements
   pub marks_long : length marks ≡ p.statements
   pub in_criterion_are : (i : ℕ) → slice_index_or in_criterion i false ≡ starts_on p line i
@@ -45,7 +38,7 @@ pub record AreMarks (p : Program) (line : ℕ) (in_criterion marks : List Bool) 
 -- a program is that of the slice at a line, and these of its statements are the criterion's
 pub record IsSlicedAt (p : Program) (line : ℕ) (q : Program) (in_criterion : List Bool) : Type 0 where
   pub kept : List Bool
-  pub is_kept : IsKept p line kept
+  pub is_kept : IsKeptSet p line kept
   pub program_is : q ≡ sliced p kept
   pub in_criterion_long : length in_criterion ≡ q.statements
   -- each kept statement stands at its rank

@@ -1,4 +1,4 @@
 pub mod Criterion
-pub mod KeptStatements
+pub mod Header
 pub mod Slice
 pub mod Engine

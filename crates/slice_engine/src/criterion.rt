@@ -81,7 +81,7 @@ pub(crate) fn by_rank(
 }
 
 fn push_if(mark: bool, test: bool, chosen: &mut Vec<bool>) -> Result<(), AllocError>
-    ensures { OnOk result (chosen.new.items ≡ chosen.old.items ++ spec.if_mark mark test []) }
+    ensures { OnOk result (chosen.new.items ≡ chosen.old.items ++ spec.put_if mark test []) }
 {
     if mark {
         chosen.push(test)?;

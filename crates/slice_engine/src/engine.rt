@@ -4,7 +4,7 @@ ghost use Rattle.built_forms.specs.BuiltForms.{not_yet};
 ghost use Rattle.c_language.specs.Programs.{IsWellFormed};
 ghost use Rattle.c_language.specs.Layout.{layout};
 ghost use Rattle.slice_engine.specs.Criterion as marks;
-ghost use Rattle.slice_engine.specs.Slice.{HasStart, IsSlice, IsReadAs, IsFaithful};
+ghost use Rattle.slice_engine.specs.Slice.{HasStart, IsSlice, IsAcceptedSlice, IsFaithful};
 ghost use Rattle.slice_engine.specs.Engine.{IsPrepared, AreMarks, IsSlicedAt};
 
 use crate::criterion::{any_starts_on, by_rank, criterion_set, marks_of};
@@ -191,7 +191,7 @@ fn text_of(
 ) -> Result<Text, AllocError>
     requires { IsPrepared p.now edges.now starts.now }
     ensures slice { IfOk result (λ t. IsSlice p.now line t) }
-    ensures read { IfOk result (λ t. IsReadAs p.now line t) }
+    ensures read { IfOk result (λ t. IsAcceptedSlice p.now line t) }
 {
     let sliced = sliced_at(alloc, p, edges, starts, line)?;
     let layout = print(alloc, &sliced.program)?;

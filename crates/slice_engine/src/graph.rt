@@ -1,8 +1,9 @@
 //! The edges of a program's system dependence graph, and what a slice keeps.
 ghost use Rattle.std.specs.Prelude.{◌≡◌, ◌+◌, ◌^◌, ◌<◌, All, IfOk, OnOk, length};
 ghost use Rattle.dep_model.specs.NumberedMains.{IsNumberedMain};
-ghost use Rattle.dep_model.specs.Words.{IsPlain, IsEdgeWithin};
-ghost use Rattle.slice_engine.specs.Engine.{HasEdges, KeepsFrom};
+ghost use Rattle.dep_model.specs.Plain.{IsPlain, IsEdgeWithin};
+ghost use Rattle.slice_engine.specs.Slice.{KeepsFrom};
+ghost use Rattle.slice_engine.specs.Engine.{HasEdges};
 
 use c_tree::Program;
 use dep_model::{Edge, PlainGraph, VertexSet};

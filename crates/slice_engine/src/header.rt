@@ -2,7 +2,8 @@
 ghost use Rattle.std.specs.Prelude.{◌≡◌, ◌<◌, ◌↔◌, ◌++◌, ℕ, suc, [], length, AllPairs, Contains, IfOk, OnOk};
 ghost use Rattle.std.specs.Fmt.{decimal};
 ghost use Rattle.slice_engine.specs.Slice as spec;
-ghost use Rattle.slice_engine.specs.Criterion.{line_if, shown_lines};
+ghost use Rattle.slice_engine.specs.Criterion.{put_if};
+ghost use Rattle.slice_engine.specs.Header.{shown_lines};
 
 use c_tree::Text;
 use std::alloc::{AllocError, Global};
@@ -40,7 +41,7 @@ fn criterion_lines(
 }
 
 fn push_line(is_shown: bool, line: u32, found: &mut Vec<u64>) -> Result<(), AllocError>
-    ensures { OnOk result (found.new.items ≡ found.old.items ++ line_if is_shown (suc line) []) }
+    ensures { OnOk result (found.new.items ≡ found.old.items ++ put_if is_shown (suc line) []) }
 {
     if is_shown {
         found.push(u64::from(line) + 1)?;

@@ -1,8 +1,8 @@
 //! Runs of the top call over files and sinks in memory.
 ghost use Rattle.std.specs.Prelude.{◌≡◌, ◌⊎◌, ◌≤◌, IfOk, length};
 ghost use Rattle.c_language.specs.Words.{Bytes};
-ghost use Rattle.slicer_top.specs.Words.{IsInForm, file_of, line_of};
-ghost use Rattle.slicer_top.specs.Slices.{StartsOn, IsSliceOf};
+ghost use Rattle.slicer_top.specs.Words.{IsInForm, file_of, line_asked};
+ghost use Rattle.slicer_top.specs.Slices.{StartsSome, IsSliceOf};
 
 use crate::programs::TWO;
 use crate::running::{Ended, Failing, NONE_FAILING, Row, all_end, file, program, run, split_words};
@@ -51,8 +51,8 @@ fn run_without_failing(
     room: usize,
 ) -> Result<Status, AllocError>
     ensures { IfOk result (λ status. IsInForm words.now → name ≡ file_of words.now → length text ≤ 1048576
-        → StartsOn text (line_of words.now)
-        → ((written : Bytes) → IsSliceOf text (line_of words.now) written → length written ≤ room)
+        → StartsSome text (line_asked words.now)
+        → ((written : Bytes) → IsSliceOf text (line_asked words.now) written → length written ≤ room)
         → (status ≡ Status.Done) ⊎ (status ≡ Status.NoMemory)) }
 {
     let mut files = Vec::new(alloc);
@@ -69,75 +69,73 @@ fn run_on_two(alloc: Global, line: &str, failing: &Failing<'_>) -> Result<Ended,
     run(alloc, &words, file(alloc, "two.c", TWO)?, failing)
 }
 
+// These words over `two.c` end so: the status, and what out and err have gained.
+fn ends_on_two<R: std::process::Abort + AllocGlobal>(
+    rt: &R,
+    line: &str,
+    failing: &Failing<'_>,
+    wanted: (Status, &str, &str),
+) -> Result<(), Fail> {
+    let (status, out, err) = wanted;
+    let ended = run_on_two(rt.alloc(), line, failing)?;
+    assert_eq!(rt; ended.status, status, "{line}");
+    assert_eq!(rt; ended.out.bytes(), out.as_bytes(), "{line}");
+    assert_eq!(rt; ended.err.bytes(), err.as_bytes(), "{line}");
+    Ok(())
+}
+
 #[test]
-fn two_is_sliced_or_refused(rt: HostRuntime) -> Result<(), Fail> {
-    // The words, the status, and what out and err have gained.
+fn a_line_where_a_statement_starts_is_sliced(rt: HostRuntime) -> Result<(), Fail> {
+    // The words, and the slice.
     let rows = [
-        ("slice two.c 7", Status::Done, TWO_AT_7, ""),
-        ("slice two.c 007", Status::Done, TWO_AT_7, ""),
-        ("slice two.c 0000000004", Status::Done, TWO_AT_4, ""),
-        ("slice two.c 4", Status::Done, TWO_AT_4, ""),
-        (
-            "slice two.c 2",
-            Status::Refused,
-            "",
-            "2: no statement starts here\n",
-        ),
-        (
-            "slice two.c 0",
-            Status::Refused,
-            "",
-            "0: no statement starts here\n",
-        ),
-        (
-            "slice two.c 99",
-            Status::Refused,
-            "",
-            "99: no statement starts here\n",
-        ),
-        (
-            "slice two.c 0099",
-            Status::Refused,
-            "",
-            "99: no statement starts here\n",
-        ),
-        (
-            "slice two.c 9",
-            Status::Refused,
-            "",
-            "9: no statement starts here\n",
-        ),
+        ("slice two.c 7", TWO_AT_7),
+        ("slice two.c 007", TWO_AT_7),
+        ("slice two.c 0000000004", TWO_AT_4),
+        ("slice two.c 4", TWO_AT_4),
+    ];
+    for (line, out) in rows {
+        ends_on_two(&rt, line, &NONE_FAILING, (Status::Done, out, ""))?;
+    }
+    Ok(())
+}
+
+#[test]
+fn a_line_where_no_statement_starts_is_refused(rt: HostRuntime) -> Result<(), Fail> {
+    // The words, and the line on err.
+    let rows = [
+        ("slice two.c 2", "2: no statement starts here\n"),
+        ("slice two.c 0", "0: no statement starts here\n"),
+        ("slice two.c 99", "99: no statement starts here\n"),
+        ("slice two.c 0099", "99: no statement starts here\n"),
+        ("slice two.c 9", "9: no statement starts here\n"),
         (
             "slice two.c 4294967295",
-            Status::Refused,
-            "",
             "4294967295: no statement starts here\n",
         ),
         (
             "slice two.c 4294967303",
-            Status::Refused,
-            "",
             "4294967303: no statement starts here\n",
         ),
         (
             "slice two.c 9999999999",
-            Status::Refused,
-            "",
             "9999999999: no statement starts here\n",
         ),
-        ("slice no.c 1", Status::ReadFault, "", "cannot read no.c\n"),
-        (
-            "slice two.c/ 7",
-            Status::ReadFault,
-            "",
-            "cannot read two.c/\n",
-        ),
     ];
-    for (line, status, out, err) in rows {
-        let ended = run_on_two(rt.alloc(), line, &NONE_FAILING)?;
-        assert_eq!(rt; ended.status, status, "{line}");
-        assert_eq!(rt; ended.out.bytes(), out.as_bytes(), "{line}");
-        assert_eq!(rt; ended.err.bytes(), err.as_bytes(), "{line}");
+    for (line, err) in rows {
+        ends_on_two(&rt, line, &NONE_FAILING, (Status::Refused, "", err))?;
+    }
+    Ok(())
+}
+
+#[test]
+fn a_file_that_is_not_there_is_told(rt: HostRuntime) -> Result<(), Fail> {
+    // The words, and the line on err.
+    let rows = [
+        ("slice no.c 1", "cannot read no.c\n"),
+        ("slice two.c/ 7", "cannot read two.c/\n"),
+    ];
+    for (line, err) in rows {
+        ends_on_two(&rt, line, &NONE_FAILING, (Status::ReadFault, "", err))?;
     }
     Ok(())
 }
@@ -187,10 +185,7 @@ fn other_words_are_told_the_usage(rt: HostRuntime) -> Result<(), Fail> {
         "slice --workers=4 two.c 7",
     ];
     for line in rows {
-        let ended = run_on_two(rt.alloc(), line, &NONE_FAILING)?;
-        assert_eq!(rt; ended.status, Status::Usage, "{line}");
-        assert_eq!(rt; ended.out.bytes(), b"".as_slice(), "{line}");
-        assert_eq!(rt; ended.err.bytes(), USAGE.as_bytes(), "{line}");
+        ends_on_two(&rt, line, &NONE_FAILING, (Status::Usage, "", USAGE))?;
     }
     Ok(())
 }
@@ -221,7 +216,7 @@ fn a_name_is_utf8(rt: HostRuntime) -> Result<(), Fail> {
 }
 
 #[test]
-fn a_fault_of_the_outside_is_told(rt: HostRuntime) -> Result<(), Fail> {
+fn a_fault_of_the_files_is_told(rt: HostRuntime) -> Result<(), Fail> {
     // The words, what fails, the status, and what out and err have gained.
     let rows = [
         (
@@ -246,6 +241,17 @@ fn a_fault_of_the_outside_is_told(rt: HostRuntime) -> Result<(), Fail> {
             TWO_AT_7,
             "",
         ),
+    ];
+    for (line, failing, status, out, err) in rows {
+        ends_on_two(&rt, line, &failing, (status, out, err))?;
+    }
+    Ok(())
+}
+
+#[test]
+fn a_fault_of_out_is_told(rt: HostRuntime) -> Result<(), Fail> {
+    // The words, what fails, the status, and what out and err have gained.
+    let rows = [
         (
             "slice two.c 7",
             Failing {
@@ -268,56 +274,35 @@ fn a_fault_of_the_outside_is_told(rt: HostRuntime) -> Result<(), Fail> {
             "",
             "can",
         ),
-        (
-            "slice two.c 7",
-            Failing {
-                fetches: &[],
-                out: &[],
-                err: &[(0, 0)],
-            },
-            Status::Done,
-            TWO_AT_7,
-            "",
-        ),
-        (
-            "slice two.c 2",
-            Failing {
-                fetches: &[],
-                out: &[],
-                err: &[(0, 4)],
-            },
-            Status::WriteFault,
-            "",
-            "2: n",
-        ),
-        (
-            "slice two.c",
-            Failing {
-                fetches: &[],
-                out: &[],
-                err: &[(0, 0)],
-            },
-            Status::WriteFault,
-            "",
-            "",
-        ),
+    ];
+    for (line, failing, status, out, err) in rows {
+        ends_on_two(&rt, line, &failing, (status, out, err))?;
+    }
+    Ok(())
+}
+
+#[test]
+fn a_fault_of_err_is_told(rt: HostRuntime) -> Result<(), Fail> {
+    // The words, the put on err that fails and how much it takes before, the status, and what out and err have gained.
+    let rows = [
+        ("slice two.c 7", [(0, 0)], Status::Done, TWO_AT_7, ""),
+        ("slice two.c 2", [(0, 4)], Status::WriteFault, "", "2: n"),
+        ("slice two.c", [(0, 0)], Status::WriteFault, "", ""),
         (
             "slice no.c 7",
-            Failing {
-                fetches: &[],
-                out: &[],
-                err: &[(0, 99)],
-            },
+            [(0, 99)],
             Status::WriteFault,
             "",
             "cannot read no.c\n",
         ),
     ];
-    for (line, failing, status, out, err) in rows {
-        let ended = run_on_two(rt.alloc(), line, &failing)?;
-        assert_eq!(rt; ended.status, status, "{line}");
-        assert_eq!(rt; ended.out.bytes(), out.as_bytes(), "{line}");
-        assert_eq!(rt; ended.err.bytes(), err.as_bytes(), "{line}");
+    for (line, fails, status, out, err) in rows {
+        let failing = Failing {
+            fetches: &[],
+            out: &[],
+            err: &fails,
+        };
+        ends_on_two(&rt, line, &failing, (status, out, err))?;
     }
     Ok(())
 }
@@ -360,11 +345,31 @@ fn a_slice_is_sliced(rt: HostRuntime) -> Result<(), Fail> {
     all_end(&rt, &rows)
 }
 
-#[test]
-fn a_slice_keeps_what_its_line_depends_on(rt: HostRuntime) -> Result<(), Fail> {
+// The lines of main, the first of which is line 3; the words; the header; the lines of the slice's main.
+type MainRow<'a> = (&'a str, &'a str, &'a str, &'a str);
+
+// The words over each of these mains end well, and out has gained the slice.
+fn all_keep<R: std::process::Abort + AllocGlobal>(
+    rt: &R,
+    rows: &[MainRow<'_>],
+) -> Result<(), Fail> {
     let alloc = rt.alloc();
-    // The lines of main, the first of which is line 3; the words; the header; the lines of the slice's main.
-    let rows = [
+    for row in rows.iter() {
+        let (lines, line, header, kept) = *row;
+        let text = program(alloc, "", lines)?;
+        let want = program(alloc, header, kept)?;
+        let words = split_words(alloc, line)?;
+        let ended = run(alloc, &words, file(alloc, "t.c", &text)?, &NONE_FAILING)?;
+        assert_eq!(rt; ended.status, Status::Done, "{line} of {lines}");
+        assert_eq!(rt; ended.out.bytes(), want.as_bytes(), "{line} of {lines}");
+        assert_eq!(rt; ended.err.bytes(), b"".as_slice(), "{line} of {lines}");
+    }
+    Ok(())
+}
+
+#[test]
+fn a_slice_keeps_what_its_line_uses(rt: HostRuntime) -> Result<(), Fail> {
+    let rows: [MainRow<'_>; 5] = [
         // A chain of uses: what comes after the line goes.
         (
             r#"int x = 1;|int y = x + 2;|int z = y - 3;|printf("%d\n", z);"#,
@@ -377,40 +382,6 @@ fn a_slice_keeps_what_its_line_depends_on(rt: HostRuntime) -> Result<(), Fail> {
             "slice t.c 3",
             "/* slice 3: 4 */\n",
             "int x = 1;",
-        ),
-        // A value that is overwritten goes; the declaration stays without it.
-        (
-            r#"int a = 1;|a = 2;|printf("%d\n", a);"#,
-            "slice t.c 5",
-            "/* slice 5: 6 */\n",
-            r#"int a;|a = 2;|printf("%d\n", a);"#,
-        ),
-        // A value that is overwritten by one made of it stays.
-        (
-            r#"int a = 1;|a = a - a;|a = a + 1;|printf("%d\n", a);"#,
-            "slice t.c 6",
-            "/* slice 6: 7 */\n",
-            r#"int a = 1;|a = a - a;|a = a + 1;|printf("%d\n", a);"#,
-        ),
-        // A declaration without a value stays where kept text names its variable.
-        (
-            r#"int a;|int b;|a = 3;|b = a + a;|printf("%d\n", b);|printf("%d\n", a);"#,
-            "slice t.c 8",
-            "/* slice 8: 6 */\n",
-            r#"int a;|a = 3;|printf("%d\n", a);"#,
-        ),
-        (
-            r#"int a;|int b;|a = 3;|b = a + a;|printf("%d\n", b);|printf("%d\n", a);"#,
-            "slice t.c 7",
-            "/* slice 7: 8 */\n",
-            r#"int a;|int b;|a = 3;|b = a + a;|printf("%d\n", b);"#,
-        ),
-        // A constant depends on nothing.
-        (
-            r#"int a = 1;|printf("%d\n", 5);|printf("%d\n", a);"#,
-            "slice t.c 4",
-            "/* slice 4: 4 */\n",
-            r#"printf("%d\n", 5);"#,
         ),
         // Both operands are used.
         (
@@ -425,19 +396,33 @@ fn a_slice_keeps_what_its_line_depends_on(rt: HostRuntime) -> Result<(), Fail> {
             "/* slice 6: 7 */\n",
             "int a;|int b = 2;|int c = 3;|a = b - c;",
         ),
-        // A variable that never got a value.
+        // A constant depends on nothing.
         (
-            "int u;|int v = u + 1;|int w = 2;",
+            r#"int a = 1;|printf("%d\n", 5);|printf("%d\n", a);"#,
             "slice t.c 4",
-            "/* slice 4: 5 */\n",
-            "int u;|int v = u + 1;",
+            "/* slice 4: 4 */\n",
+            r#"printf("%d\n", 5);"#,
         ),
-        // Names and constants at their limits.
+    ];
+    all_keep(&rt, &rows)
+}
+
+#[test]
+fn a_slice_drops_what_its_line_does_not_use(rt: HostRuntime) -> Result<(), Fail> {
+    let rows: [MainRow<'_>; 4] = [
+        // A value that is overwritten goes; the declaration stays without it.
         (
-            r#"int _x9 = 2147483647;|int Y_ = 0;|Y_ = Y_ - _x9;|printf("%d\n", Y_);"#,
+            r#"int a = 1;|a = 2;|printf("%d\n", a);"#,
+            "slice t.c 5",
+            "/* slice 5: 6 */\n",
+            r#"int a;|a = 2;|printf("%d\n", a);"#,
+        ),
+        // A value that is overwritten by one made of it stays.
+        (
+            r#"int a = 1;|a = a - a;|a = a + 1;|printf("%d\n", a);"#,
             "slice t.c 6",
             "/* slice 6: 7 */\n",
-            r#"int _x9 = 2147483647;|int Y_ = 0;|Y_ = Y_ - _x9;|printf("%d\n", Y_);"#,
+            r#"int a = 1;|a = a - a;|a = a + 1;|printf("%d\n", a);"#,
         ),
         // What is printed before doesn't count.
         (
@@ -454,16 +439,41 @@ fn a_slice_keeps_what_its_line_depends_on(rt: HostRuntime) -> Result<(), Fail> {
             "int a;|int b;|b = 7;|a = b;",
         ),
     ];
-    for (lines, line, header, kept) in rows {
-        let text = program(alloc, "", lines)?;
-        let want = program(alloc, header, kept)?;
-        let words = split_words(alloc, line)?;
-        let ended = run(alloc, &words, file(alloc, "t.c", &text)?, &NONE_FAILING)?;
-        assert_eq!(rt; ended.status, Status::Done, "{line} of {lines}");
-        assert_eq!(rt; ended.out.bytes(), want.as_bytes(), "{line} of {lines}");
-        assert_eq!(rt; ended.err.bytes(), b"".as_slice(), "{line} of {lines}");
-    }
-    Ok(())
+    all_keep(&rt, &rows)
+}
+
+#[test]
+fn a_slice_keeps_the_declarations_that_it_names(rt: HostRuntime) -> Result<(), Fail> {
+    let rows: [MainRow<'_>; 4] = [
+        // A declaration without a value stays where kept text names its variable.
+        (
+            r#"int a;|int b;|a = 3;|b = a + a;|printf("%d\n", b);|printf("%d\n", a);"#,
+            "slice t.c 8",
+            "/* slice 8: 6 */\n",
+            r#"int a;|a = 3;|printf("%d\n", a);"#,
+        ),
+        (
+            r#"int a;|int b;|a = 3;|b = a + a;|printf("%d\n", b);|printf("%d\n", a);"#,
+            "slice t.c 7",
+            "/* slice 7: 8 */\n",
+            r#"int a;|int b;|a = 3;|b = a + a;|printf("%d\n", b);"#,
+        ),
+        // A variable that never got a value.
+        (
+            "int u;|int v = u + 1;|int w = 2;",
+            "slice t.c 4",
+            "/* slice 4: 5 */\n",
+            "int u;|int v = u + 1;",
+        ),
+        // Names and constants at their limits.
+        (
+            r#"int _x9 = 2147483647;|int Y_ = 0;|Y_ = Y_ - _x9;|printf("%d\n", Y_);"#,
+            "slice t.c 6",
+            "/* slice 6: 7 */\n",
+            r#"int _x9 = 2147483647;|int Y_ = 0;|Y_ = Y_ - _x9;|printf("%d\n", Y_);"#,
+        ),
+    ];
+    all_keep(&rt, &rows)
 }
 
 #[test]

@@ -10,21 +10,16 @@ use Rattle.c_types.specs.declared.rule_fault.RuleFault.TheVariants as rule
 use Rattle.slicer_top.specs.declared.refusal.Refusal.{Refusal}
 use Rattle.slicer_top.specs.declared.refusal.Refusal.TheVariants.{Unreadable, TooLong, Lex, Parse, Check, NotYet, NoStart, NoMemory}
 use Rattle.slicer_top.specs.declared.status.Status.{Status}
-use Rattle.slicer_top.specs.Lines.{IsLineOf, of_usage, of_file, of_length, of_byte, of_number, of_comment, of_token, of_tokens, of_rule, of_form, of_line, of_limit, of_out, of_memory, Tells, PutOrCutOff}
-use Rattle.slicer_top.specs.Reports.{IsTold, IsReported, status_of, line_of}
+use Rattle.slicer_top.specs.Lines.{IsToldBy, of_usage, of_file, of_length, of_byte, of_number, of_comment, of_token, of_tokens, of_rule, of_form, of_line, of_limit, of_out, of_memory, Tells}
+use Rattle.slicer_top.specs.Reports.{PutsLine, IsReported, status_of, words_of}
 
 -- all that a sink takes, and nothing more
 pub and_no_more : (T : ℕ → Type 0) (n : ℕ) → T n → T (n + 0)
 and_no_more T n h = let same : n ≡ n + 0 = omega arith in subst T same h
 
 module _ (faults faults' : ℕ) (before after : Option Bytes) where
-  -- a line that was told was put, or the put of it failed
-  pub told_or_cut_off : (answer : Status) (words : Bytes) (result : Status) → IsTold faults faults' before after answer words result → PutOrCutOff faults faults' before after words
-  told_or_cut_off answer words result (inl put) = inl put.1
-  told_or_cut_off answer words result (inr cut) = inr (cut.1, cut.2)
-
   module _ (file : Bytes) (at : ℕ) where
-    put_tells : (answer : Status) (words : Bytes) → IsLineOf file at answer words → Gains before after words → Tells faults faults' before after file at answer
+    put_tells : (answer : Status) (words : Bytes) → IsToldBy file at answer words → Gains before after words → Tells faults faults' before after file at answer
     put_tells answer words (of_usage) gained = (_, of_usage, gained)
     put_tells answer words (of_file) gained = (_, of_file, gained)
     put_tells answer words (of_length) gained = (_, of_length, gained)
@@ -41,11 +36,11 @@ module _ (faults faults' : ℕ) (before after : Option Bytes) where
     put_tells answer words (of_memory) gained = (_, of_memory, gained)
 
     -- the line of a status tells it
-    pub told_tells : (answer : Status) (words : Bytes) (result : Status) → IsLineOf file at answer words → IsTold faults faults' before after answer words result → Tells faults faults' before after file at result
+    pub told_tells : (answer : Status) (words : Bytes) (result : Status) → IsToldBy file at answer words → PutsLine faults faults' before after answer words result → Tells faults faults' before after file at result
     told_tells answer words result line (inl put) = subst (Tells faults faults' before after file at) (sym put.0) (put_tells answer words line put.1)
-    told_tells answer words result line (inr cut) = subst (Tells faults faults' before after file at) (sym cut.0) (inr (answer, words, line, (cut.1, cut.2)))
+    told_tells answer words result line (inr cut) = subst (Tells faults faults' before after file at) (sym cut.0) (inr (answer, words, line, cut.1))
 
-    refusal_line : (refusal : Refusal) → IsLineOf file at (status_of refusal) (line_of file at refusal)
+    refusal_line : (refusal : Refusal) → IsToldBy file at (status_of refusal) (words_of file at refusal)
     refusal_line Unreadable = of_file
     refusal_line TooLong = of_length
     refusal_line (Lex (lex.BadByte l)) = of_byte l

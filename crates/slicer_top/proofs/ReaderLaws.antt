@@ -1,5 +1,5 @@
 -- A text has one tree and one program, and what is answered for it is fixed.
-use Rattle.std.proofs.Common.{◌≡◌, ◌≤◌, ◌<◌, Err, Option, Some, refl, sym, ap, subst, ◌∙◌, arith}
+use Rattle.std.proofs.Common.{◌≡◌, ◌≤◌, ◌<◌, Err, Option, Some, sym, ap, subst, ◌∙◌, arith}
 use Rattle.c_tree.specs.declared.limits.LimitName.{LimitName}
 use Rattle.c_tree.specs.declared.program.Program.{Program}
 use Rattle.c_tree.specs.declared.raw.program.RawProgram.{RawProgram}
@@ -14,13 +14,14 @@ use Rattle.c_language.specs.Rules.{IsBroken}
 use Rattle.c_lex.proofs.TokenLaws.{tokens_unique}
 use Rattle.c_parse.proofs.ParserLaws.{one_tree}
 use Rattle.c_types.specs.Checker.{IsAbove}
-use Rattle.c_types.proofs.CheckerLaws.{rules_hold}
+use Rattle.c_types.proofs.CheckerLaws.{rules_hold, one_quantity}
+use Rattle.c_reader.specs.Reading.{ReadsProgram, ReadsTree, IsRight, Gives, IsTooDeep, IsChecked, IsAnswer, HasRuleFault, IsRuleFault}
 use Rattle.c_types.specs.declared.rule_fault.RuleFault.{RuleFault}
 use Rattle.c_types.specs.declared.rule_fault.RuleFault.TheVariants as rule
-use Rattle.c_reader.specs.Reading.{ReadsProgram, ReadsTree, HasRuleFault, IsRuleFault, IsRight, Gives, IsTooDeep, IsChecked, IsJudgement}
 use Rattle.c_reader.specs.declared.refusal.ReadRefusal.{ReadRefusal}
 use Rattle.c_reader.specs.declared.refusal.ReadRefusal.TheVariants.{Lex, Parse, Check, NoMemory}
 use Rattle.c_reader.proofs.ReadLaws as laws
+use Rattle.c_reader.proofs.ReadLaws.{tree_of_program}
 use Rattle.slicer_top.specs.Limits.{IsAboveLimit}
 
 module _ (text : Bytes) where
@@ -32,22 +33,19 @@ module _ (text : Bytes) where
   pub one_text_tree : (a b : RawProgram) → ReadsTree text a → ReadsTree text b → a ≡ b
   one_text_tree a b h k = one_tree k.tokens a b (grammar_of k.tokens a k.are h) k.tree.grammar
 
-  tree_of : (p : Program) → (h : ReadsProgram text p) → ReadsTree text h.raw
-  tree_of p h = record { tokens = h.accepted.tokens; are = h.accepted.are; tree = h.accepted.tree }
-
   same_program : (raw : RawProgram) (p q : Program) → programs.HasProgram raw p → programs.HasProgram raw q → p ≡ q
   same_program raw p q h k = let e : ◌≡◌ {A = Option Program} (Some p) (Some q) = sym h.program ∙ k.program in cc
 
   -- a text has one program
   pub one_program : (p q : Program) → ReadsProgram text p → ReadsProgram text q → p ≡ q
   one_program p q h k =
-      same_program k.raw p q (subst (λ raw. programs.HasProgram raw p) (one_text_tree h.raw k.raw (tree_of p h) (tree_of q k)) h.accepted.has) k.accepted.has
+      same_program k.raw p q (subst (λ raw. programs.HasProgram raw p) (one_text_tree h.raw k.raw (tree_of_program text h) (tree_of_program text k)) h.accepted.has) k.accepted.has
 
   -- a refusal that the text shows is one that is answered for its tokens and its tree
-  judged : (r : ReadRefusal) → IsRight text (Err r) → IsJudgement text (Err r)
-  judged (Lex fault) is = is
-  judged (Parse fault) is = is
-  judged (Check fault) is = (
+  answered : (r : ReadRefusal) → IsRight text (Err r) → IsAnswer text (Err r)
+  answered (Lex fault) is = is
+  answered (Parse fault) is = is
+  answered (Check fault) is = (
     is.tree.tokens,
     is.raw,
     record {
@@ -61,31 +59,31 @@ module _ (text : Bytes) where
     is.shows,
     is.first,
   )
-  judged NoMemory is = tt
+  answered NoMemory is = tt
 
   -- a text with a program is refused for want of memory alone
   pub only_memory : (r : ReadRefusal) → IsRight text (Err r) → (p : Program) → ReadsProgram text p → Gives p (Err r)
-  only_memory r is p has = laws.accepted text (Err r) (judged r is) p has
+  only_memory r is p has = laws.accepted text (Err r) (answered r is) p has
 
   pub only_nesting : (r : ReadRefusal) → IsRight text (Err r) → (raw : RawProgram) → ReadsTree text raw → 100 < program_nesting raw → IsTooDeep (Err r)
-  only_nesting r is raw tree many = laws.deep text (Err r) (judged r is) raw tree many
+  only_nesting r is raw tree many = laws.deep text (Err r) (answered r is) raw tree many
 
   pub only_check : (r : ReadRefusal) → IsRight text (Err r) → (raw : RawProgram) (fault : RuleFault) → ReadsTree text raw → program_nesting raw ≤ 100 → IsRuleFault raw fault → IsChecked (Err r)
-  only_check r is raw fault tree few shows = laws.refused text (Err r) (judged r is) raw fault tree few shows
+  only_check r is raw fault tree few shows = laws.refused text (Err r) (answered r is) raw fault tree few shows
 
   -- a text that is above a limit has no program
   pub above_lacks : (name : LimitName) → IsAboveLimit text name → (p : Program) → ReadsProgram text p → ⊥
   above_lacks name (IsAboveLimit.nesting {raw} tree many) p has =
-      let e = ap program_nesting (one_text_tree raw has.raw tree (tree_of p has)) in
+      let e = ap program_nesting (one_text_tree raw has.raw tree (tree_of_program text has)) in
       let few = has.within.nesting in
       omega (arith, e, few, many)
   above_lacks name (IsAboveLimit.length {raw} {p = q} tree few made many) p has =
-      let e : q ≡ p = same_program has.raw q p (subst (λ raw. programs.HasProgram raw q) (one_text_tree raw has.raw tree (tree_of p has)) made) has.accepted.has in
+      let e : q ≡ p = same_program has.raw q p (subst (λ raw. programs.HasProgram raw q) (one_text_tree raw has.raw tree (tree_of_program text has)) made) has.accepted.has in
       let long = ap array_length e in
       let short = has.within.lengths in
       omega (arith, long, short, many)
   above_lacks name (IsAboveLimit.cells {raw} {p = q} tree few made short many) p has =
-      let e : q ≡ p = same_program has.raw q p (subst (λ raw. programs.HasProgram raw q) (one_text_tree raw has.raw tree (tree_of p has)) made) has.accepted.has in
+      let e : q ≡ p = same_program has.raw q p (subst (λ raw. programs.HasProgram raw q) (one_text_tree raw has.raw tree (tree_of_program text has)) made) has.accepted.has in
       let wide = ap object_cells e in
       let narrow = has.within.cells in
       omega (arith, wide, narrow, many)
@@ -98,18 +96,10 @@ module _ (text : Bytes) where
   pub limit_is : (name : LimitName) → HasRuleFault text (rule.Limit name) → IsAboveLimit text name
   limit_is name h = above_of h.raw name h.tree h.nesting h.shows
 
-  same_above : (raw : RawProgram) (a b : LimitName) → IsAbove raw a → IsAbove raw b → a ≡ b
-  same_above raw a b (IsAbove.lengths made many) (IsAbove.lengths also more) = refl
-  same_above raw a b (IsAbove.lengths {p} made many) (IsAbove.cells {p = q} also short more) =
-      let e = ap array_length (same_program raw p q made also) in absurd (omega (arith, e, many, short))
-  same_above raw a b (IsAbove.cells {p} made short many) (IsAbove.lengths {p = q} also more) =
-      let e = ap array_length (same_program raw p q made also) in absurd (omega (arith, e, more, short))
-  same_above raw a b (IsAbove.cells made short many) (IsAbove.cells also small more) = refl
-
   -- where the tree is above a limit, what the text shows of its tree is that limit
   pub above_is : (raw : RawProgram) (name : LimitName) → ReadsTree text raw → IsAbove raw name → (fault : RuleFault) → HasRuleFault text fault → fault ≡ rule.Limit name
   above_is raw name tree above (rule.Rule number line) h =
       absurd (rules_hold raw above number line (subst (λ x. IsBroken number line x) (one_text_tree h.raw raw h.tree tree) h.shows))
   above_is raw name tree above (rule.Limit other) h =
-      ap rule.Limit (same_above raw other name (subst (λ x. IsAbove x other) (one_text_tree h.raw raw h.tree tree) h.shows) above)
+      ap rule.Limit (one_quantity raw (subst (λ x. IsAbove x other) (one_text_tree h.raw raw h.tree tree) h.shows) above)
   above_is raw name tree above rule.NoMemory h = absurd h.shows

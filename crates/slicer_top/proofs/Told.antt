@@ -24,7 +24,7 @@ use Rattle.slicer_top.specs.declared.status.Status.TheVariants as status
 use Rattle.slicer_top.specs.Files.{OfFile}
 use Rattle.slicer_top.specs.Limits.{IsAboveLimit, IsBelowLimits, IsDeep}
 use Rattle.slicer_top.specs.Lines as lines
-use Rattle.slicer_top.specs.Reports.{IsReason, IsShown, IsCause, IsReported, status_of, line_of}
+use Rattle.slicer_top.specs.Reports.{IsReason, IsShown, IsCause, IsReported, status_of, words_of}
 use Rattle.slicer_top.specs.Statuses.{IsOrYieldsToFault}
 use Rattle.slicer_top.specs.Truths.{IsTrueOf, TellsTruth}
 use Rattle.slicer_top.proofs.Files.{of_file_map}
@@ -49,7 +49,7 @@ true_limit text asked name above raw (IsAbove.cells made short many) = IsTrueOf.
 
 module _ (file text : Bytes) (at : ℕ) where
   -- the line of a refusal that the text shows is true of it
-  is_true : (refusal : Refusal) → IsOfText (status_of refusal) → IsReason text at refusal → IsTrueOf text at (status_of refusal) (line_of file at refusal)
+  is_true : (refusal : Refusal) → IsOfText (status_of refusal) → IsReason text at refusal → IsTrueOf text at (status_of refusal) (words_of file at refusal)
   is_true Unreadable of reason = absurd of
   is_true TooLong of reason = absurd of
   is_true (Lex (lex.BadByte l)) of reason = IsTrueOf.bad_byte l reason
@@ -81,10 +81,10 @@ module _ (told : Told) (file : Bytes) (at f f' l l' : ℕ) where
   shown NoMemory of cause = absurd of
 
   -- what is told of the file's text is true
-  told_true : (refusal : Refusal) (wanted : Status) (before after : Option Bytes) → IsOfText wanted → status_of refusal ≡ wanted → IsCause told file at f f' l l' refusal → Gains before after (line_of file at refusal) → OfFile told file (λ text. TellsTruth wanted text at before after)
+  told_true : (refusal : Refusal) (wanted : Status) (before after : Option Bytes) → IsOfText wanted → status_of refusal ≡ wanted → IsCause told file at f f' l l' refusal → Gains before after (words_of file at refusal) → OfFile told file (λ text. TellsTruth wanted text at before after)
   told_true refusal wanted before after of same cause gained =
       let here : IsOfText (status_of refusal) = subst IsOfText (sym same) of in
-      of_file_map told file _ _ (λ text found. (line_of file at refusal, subst (λ s. IsTrueOf text at s (line_of file at refusal)) same (is_true file text at refusal here found.1), gained)) (shown refusal here cause)
+      of_file_map told file _ _ (λ text found. (words_of file at refusal, subst (λ s. IsTrueOf text at s (words_of file at refusal)) same (is_true file text at refusal here found.1), gained)) (shown refusal here cause)
 
   module _ (e e' : ℕ) (before after : Option Bytes) where
     report_true : (refusal : Refusal) (wanted result : Status) → IsOfText wanted → result ≡ wanted → IsCause told file at f f' l l' refusal → IsReported e e' before after file at refusal result → OfFile told file (λ text. TellsTruth wanted text at before after)
@@ -112,7 +112,7 @@ deep_fault text line below h = record {
 -- the status of a text of which no quantity is above its number: it is refused, or memory was wanting, or it is deep
 abbrev RefusedOrDeep : Bytes → Bytes → ℕ → Refusal → Type 0
 RefusedOrDeep file text at r =
-    (status_of r ≡ status.Refused) ⊎ (status_of r ≡ status.NoMemory) ⊎ ((status_of r ≡ status.Limit) × IsDeep text × (line_of file at r ≡ lines.limit limit.Nesting))
+    (status_of r ≡ status.Refused) ⊎ (status_of r ≡ status.NoMemory) ⊎ ((status_of r ≡ status.Limit) × IsDeep text × (words_of file at r ≡ lines.limit limit.Nesting))
 
 refused_or_deep : (file text : Bytes) (at : ℕ) (refusal : Refusal) → IsBelowLimits text → IsReason text at refusal → RefusedOrDeep file text at refusal
 refused_or_deep file text at Unreadable below reason = absurd reason
@@ -134,7 +134,7 @@ refused_or_deep file text at NoMemory below reason = inr (inl refl)
 
 -- the status of a text that is above a limit: the limit is told, or memory was wanting
 abbrev LimitOrMemory : Bytes → ℕ → LimitName → Refusal → Type 0
-LimitOrMemory file at name refusal = ((status_of refusal ≡ status.Limit) × (line_of file at refusal ≡ lines.limit name)) ⊎ (status_of refusal ≡ status.NoMemory)
+LimitOrMemory file at name refusal = ((status_of refusal ≡ status.Limit) × (words_of file at refusal ≡ lines.limit name)) ⊎ (status_of refusal ≡ status.NoMemory)
 
 module _ (file text : Bytes) (at : ℕ) where
   told_nesting : (fault : ParseFault) → IsNesting fault → LimitOrMemory file at limit.Nesting (Parse fault)
@@ -178,13 +178,13 @@ module _ (file text : Bytes) (at : ℕ) where
 module _ (file : Bytes) (at e e' f f' : ℕ) (before after : Option Bytes) where
   -- what is told is the status of the refusal, or one to which each answer yields
   abbrev Ends : Refusal → Status → Type 0
-  Ends refusal result = ((result ≡ status_of refusal) × Gains before after (line_of file at refusal)) ⊎ (result ≡ status.NoMemory) ⊎ ((result ≡ status.WriteFault) × Rose e e')
+  Ends refusal result = ((result ≡ status_of refusal) × Gains before after (words_of file at refusal)) ⊎ (result ≡ status.NoMemory) ⊎ ((result ≡ status.WriteFault) × Rose e e')
 
   ends : (refusal : Refusal) (result : Status) → IsReported e e' before after file at refusal result → Ends refusal result
   ends refusal result (inl (inl put)) = inl put
-  ends refusal result (inl (inr cut)) = inr (inr (cut.0, cut.1))
+  ends refusal result (inl (inr cut)) = inr (inr (cut.0, cut.1.0))
   ends refusal result (inr (inl put)) = inr (inl put.0)
-  ends refusal result (inr (inr cut)) = inr (inr (cut.0, cut.1))
+  ends refusal result (inr (inr cut)) = inr (inr (cut.0, cut.1.0))
 
   yields : (wanted result : Status) → (result ≡ status.NoMemory) ⊎ ((result ≡ status.WriteFault) × Rose e e') → IsOrYieldsToFault e e' f f' result wanted
   yields wanted result (inl memory) = inl (inr (inl memory))

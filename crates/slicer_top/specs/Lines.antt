@@ -76,25 +76,25 @@ abbrev pub out_of_memory : Bytes
 out_of_memory = codes "out of memory\n"
 
 -- the line of a status, for this file and this line of it
-pub data IsLineOf (file : Bytes) (line : ℕ) : Status → Bytes → Type 0 where
-  of_usage : IsLineOf file line Usage usage
-  of_file : IsLineOf file line ReadFault (cannot_read file)
-  of_length : IsLineOf file line TooLong (too_long file)
-  of_byte : (at : ℕ) → IsLineOf file line Refused (bad_byte at)
-  of_number : (at : ℕ) → IsLineOf file line Refused (bad_number at)
-  of_comment : (at : ℕ) → IsLineOf file line Refused (open_comment at)
-  of_token : (at : ℕ) (token : Bytes) → IsLineOf file line Refused (left_out at token)
-  of_tokens : (at : ℕ) → IsLineOf file line Refused (syntax at)
-  of_rule : (at number : ℕ) → IsLineOf file line Refused (rule at number)
-  of_form : (at : ℕ) → IsLineOf file line Refused (not_yet at)
-  of_line : IsLineOf file line Refused (no_start line)
-  of_limit : (name : LimitName) → IsLineOf file line Limit (limit name)
-  of_out : IsLineOf file line WriteFault cannot_write
-  of_memory : IsLineOf file line NoMemory out_of_memory
+pub data IsToldBy (file : Bytes) (line : ℕ) : Status → Bytes → Type 0 where
+  of_usage : IsToldBy file line Usage usage
+  of_file : IsToldBy file line ReadFault (cannot_read file)
+  of_length : IsToldBy file line TooLong (too_long file)
+  of_byte : (at : ℕ) → IsToldBy file line Refused (bad_byte at)
+  of_number : (at : ℕ) → IsToldBy file line Refused (bad_number at)
+  of_comment : (at : ℕ) → IsToldBy file line Refused (open_comment at)
+  of_token : (at : ℕ) (token : Bytes) → IsToldBy file line Refused (left_out at token)
+  of_tokens : (at : ℕ) → IsToldBy file line Refused (syntax at)
+  of_rule : (at number : ℕ) → IsToldBy file line Refused (rule at number)
+  of_form : (at : ℕ) → IsToldBy file line Refused (not_yet at)
+  of_line : IsToldBy file line Refused (no_start line)
+  of_limit : (name : LimitName) → IsToldBy file line Limit (limit name)
+  of_out : IsToldBy file line WriteFault cannot_write
+  of_memory : IsToldBy file line NoMemory out_of_memory
 
 -- the line of this status was put
 abbrev pub Puts : Bytes → ℕ → Status → Option Bytes → Option Bytes → Type 0
-Puts file line status before after = (words : Bytes) × IsLineOf file line status words × Gains before after words
+Puts file line status before after = (words : Bytes) × IsToldBy file line status words × Gains before after words
 
 -- err has these counts of faults and tells these bytes, before and after
 module _ (faults faults' : ℕ) (before after : Option Bytes) where
@@ -108,7 +108,7 @@ module _ (faults faults' : ℕ) (before after : Option Bytes) where
 
   -- `cannot write` was put, or the put of the line of one status failed
   abbrev pub TellsFault : Bytes → ℕ → Type 0
-  TellsFault file line = Gains before after cannot_write ⊎ ((status : Status) × (words : Bytes) × IsLineOf file line status words × CutOff words)
+  TellsFault file line = Gains before after cannot_write ⊎ ((status : Status) × (words : Bytes) × IsToldBy file line status words × CutOff words)
 
   -- what err has gained when a call ends: nothing after Done, the line of the status after others, and after WriteFault that or a front of a line
   abbrev pub Tells : Bytes → ℕ → Status → Type 0

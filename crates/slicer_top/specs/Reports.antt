@@ -2,7 +2,7 @@
 use Rattle.std.specs.Prelude.{◌≡◌, ◌⊎◌, ℕ, ◌≤◌, length, Option, Some, IsSome}
 use Rattle.edge_io.specs.Contents.{Told, Lacks, HoldsMoreThan}
 use Rattle.edge_io.specs.Count.{Rose}
-use Rattle.edge_io.specs.Written.{Gains, GainsFront}
+use Rattle.edge_io.specs.Written.{Gains}
 use Rattle.c_tree.specs.declared.limits.LimitName.TheVariants as limit
 use Rattle.c_tree.specs.declared.program.Program.{Program}
 use Rattle.c_language.specs.Words.{Bytes}
@@ -95,22 +95,22 @@ rule_line (rule.Rule number at) = line.rule at number
 rule_line (rule.Limit name) = line.limit name
 rule_line rule.NoMemory = line.out_of_memory
 
-abbrev pub line_of : Bytes → ℕ → Refusal → Bytes
-line_of file at Unreadable = line.cannot_read file
-line_of file at TooLong = line.too_long file
-line_of file at (Lex fault) = lex_line fault
-line_of file at (Parse fault) = parse_line fault
-line_of file at (Check fault) = rule_line fault
-line_of file at (NotYet first) = line.not_yet first
-line_of file at NoStart = line.no_start at
-line_of file at NoMemory = line.out_of_memory
+abbrev pub words_of : Bytes → ℕ → Refusal → Bytes
+words_of file at Unreadable = line.cannot_read file
+words_of file at TooLong = line.too_long file
+words_of file at (Lex fault) = lex_line fault
+words_of file at (Parse fault) = parse_line fault
+words_of file at (Check fault) = rule_line fault
+words_of file at (NotYet first) = line.not_yet first
+words_of file at NoStart = line.no_start at
+words_of file at NoMemory = line.out_of_memory
 
 -- the line was put and the status is this one, or the put failed
 module _ (faults faults' : ℕ) (before after : Option Bytes) where
-  abbrev pub IsTold : Status → Bytes → Status → Type 0
-  IsTold answer words result = ((result ≡ answer) × Gains before after words) ⊎ ((result ≡ status.WriteFault) × Rose faults faults' × GainsFront before after words)
+  abbrev pub PutsLine : Status → Bytes → Status → Type 0
+  PutsLine answer words result = ((result ≡ answer) × Gains before after words) ⊎ ((result ≡ status.WriteFault) × line.CutOff faults faults' before after words)
 
   -- the refusal was told, or that memory was wanting for its line
   abbrev pub IsReported : Bytes → ℕ → Refusal → Status → Type 0
   IsReported file at refusal result =
-      IsTold (status_of refusal) (line_of file at refusal) result ⊎ IsTold status.NoMemory line.out_of_memory result
+      PutsLine (status_of refusal) (words_of file at refusal) result ⊎ PutsLine status.NoMemory line.out_of_memory result

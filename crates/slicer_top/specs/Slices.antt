@@ -17,7 +17,7 @@ abbrev pub LacksStart : Bytes → ℕ → Type 0
 LacksStart text line = (p : Program) × HasBuilt text p × (HasStart p line → ⊥)
 
 -- the text has such a program, and on the line starts a statement of it
-pub record StartsOn (text : Bytes) (line : ℕ) : Type 0 where
+pub record StartsSome (text : Bytes) (line : ℕ) : Type 0 where
   pub program : Program
   pub built : HasBuilt text program
   pub starts : HasStart program line

@@ -45,5 +45,5 @@ abbrev pub file_of : List Bytes → Bytes
 file_of words = word words 1
 
 -- the number of the line
-abbrev pub line_of : List Bytes → ℕ
-line_of words = decimal_from 0 (word words 2)
+abbrev pub line_asked : List Bytes → ℕ
+line_asked words = decimal_from 0 (word words 2)

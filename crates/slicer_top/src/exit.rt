@@ -8,10 +8,10 @@ ghost use Rattle.edge_io.specs.Written.{Gains};
 ghost use Rattle.c_tree.specs.declared.limits.LimitName.{LimitName};
 ghost use Rattle.c_tree.specs.declared.limits.LimitName.TheVariants.{Nesting};
 ghost use Rattle.c_language.specs.Words.{Bytes};
-ghost use Rattle.slicer_top.specs.Words.{IsInForm, words_in, file_of, line_of};
+ghost use Rattle.slicer_top.specs.Words.{IsInForm, words_in, file_of, line_asked};
 ghost use Rattle.slicer_top.specs.Files.{OfFile, NamesText};
 ghost use Rattle.slicer_top.specs.Limits.{IsAboveLimit, IsBelowLimits, IsDeep};
-ghost use Rattle.slicer_top.specs.Slices.{StartsNone, StartsOn, IsSliceOf, WritesSlice, WritesFront};
+ghost use Rattle.slicer_top.specs.Slices.{StartsNone, StartsSome, IsSliceOf, WritesSlice, WritesFront};
 ghost use Rattle.slicer_top.specs.Statuses.{IsOrYields, IsOrYieldsToFault, NoFault, IsFaultless, code_of, ended_in, status_in};
 ghost use Rattle.slicer_top.specs.Lines.{Tells, PutOrCutOff, cannot_write, limit};
 ghost use Rattle.slicer_top.specs.Truths.{TellsTruth};
@@ -72,17 +72,17 @@ pub fn run_call<F: Shelf, O: Sink, E: Sink>(
     // The text: Refused comes exactly where it isn't accepted, something of it isn't built or no statement starts on
     // the line, but for deep texts, and what is told is true of it.
     ensures refused { status_in result ≡ Status.Refused → OfFile (F.contents shelf.old) (file_of (words_in arguments))
-        (λ text. TellsTruth Status.Refused text (line_of (words_in arguments)) (E.written err.old) (E.written err.new)) }
+        (λ text. TellsTruth Status.Refused text (line_asked (words_in arguments)) (E.written err.old) (E.written err.new)) }
     ensures no_slice { (text : Bytes) → NamesText (words_in arguments) (F.contents shelf.old) text
         → IsBelowLimits text
-        → StartsNone text (line_of (words_in arguments))
+        → StartsNone text (line_asked (words_in arguments))
         → IsOrYieldsToFault (E.faults err.old) (E.faults err.new) (F.faults shelf.old) (F.faults shelf.new)
         (status_in result) Status.Refused
         ⊎ ((status_in result ≡ Status.Limit) × IsDeep text × Gains (E.written err.old) (E.written err.new) (limit Nesting)) }
 
     // The limits: Limit comes exactly where a quantity of a text in the grammar is above its number, and for deep texts.
     ensures limit { status_in result ≡ Status.Limit → OfFile (F.contents shelf.old) (file_of (words_in arguments))
-        (λ text. TellsTruth Status.Limit text (line_of (words_in arguments)) (E.written err.old) (E.written err.new)) }
+        (λ text. TellsTruth Status.Limit text (line_asked (words_in arguments)) (E.written err.old) (E.written err.new)) }
     ensures above { (text : Bytes) (name : LimitName) → NamesText (words_in arguments) (F.contents shelf.old) text
         → IsAboveLimit text name
         → IsOrYieldsToFault (E.faults err.old) (E.faults err.new) (F.faults shelf.old) (F.faults shelf.new)
@@ -93,9 +93,9 @@ pub fn run_call<F: Shelf, O: Sink, E: Sink>(
 
     // The slice: after Done it is written, and where no fault came and memory sufficed, Done comes.
     ensures done { status_in result ≡ Status.Done → OfFile (F.contents shelf.old) (file_of (words_in arguments))
-        (λ text. WritesSlice text (line_of (words_in arguments)) (O.written out.old) (O.written out.new)) }
+        (λ text. WritesSlice text (line_asked (words_in arguments)) (O.written out.old) (O.written out.new)) }
     ensures complete { (text : Bytes) → NamesText (words_in arguments) (F.contents shelf.old) text
-        → StartsOn text (line_of (words_in arguments))
+        → StartsSome text (line_asked (words_in arguments))
         → NoFault (F.faults shelf.old) (F.faults shelf.new)
         → NoFault (O.faults out.old) (O.faults out.new)
         → NoFault (E.faults err.old) (E.faults err.new)
@@ -103,9 +103,9 @@ pub fn run_call<F: Shelf, O: Sink, E: Sink>(
 
     // No fault comes where the shelf never fails, `out` has room for the slice and `err` for `out of memory`.
     ensures faultless { (text : Bytes) → NamesText (words_in arguments) (F.contents shelf.old) text
-        → StartsOn text (line_of (words_in arguments))
+        → StartsSome text (line_asked (words_in arguments))
         → F.never_fails shelf.old
-        → ((written : Bytes) → IsSliceOf text (line_of (words_in arguments)) written → O.takes out.old (length written))
+        → ((written : Bytes) → IsSliceOf text (line_asked (words_in arguments)) written → O.takes out.old (length written))
         → E.takes err.old 14
         → IsFaultless (F.faults shelf.old) (F.faults shelf.new) (O.faults out.old) (O.faults out.new)
         (E.faults err.old) (E.faults err.new) (status_in result) }
@@ -119,10 +119,10 @@ pub fn run_call<F: Shelf, O: Sink, E: Sink>(
         → ((out.new ≡ out.old) × Rose (E.faults err.old) (E.faults err.new))
         ⊎ (Rose (O.faults out.old) (O.faults out.new)
         × OfFile (F.contents shelf.old) (file_of (words_in arguments))
-        (λ text. WritesFront text (line_of (words_in arguments)) (O.written out.old) (O.written out.new))
+        (λ text. WritesFront text (line_asked (words_in arguments)) (O.written out.old) (O.written out.new))
         × PutOrCutOff (E.faults err.old) (E.faults err.new) (E.written err.old) (E.written err.new) cannot_write) }
     ensures tells { IfSome (ended_in result) (λ status. Tells (E.faults err.old) (E.faults err.new)
-        (E.written err.old) (E.written err.new) (file_of (words_in arguments)) (line_of (words_in arguments)) status) }
+        (E.written err.old) (E.written err.new) (file_of (words_in arguments)) (line_asked (words_in arguments)) status) }
     ensures silent { status_in result ≡ Status.Done → err.new ≡ err.old }
 
     // The shelf holds what it held.

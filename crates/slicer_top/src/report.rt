@@ -2,7 +2,7 @@
 ghost use Rattle.std.specs.Prelude.{◌≡◌, IfOk, IsErr, MatchResult, length};
 ghost use Rattle.slicer_top.specs.Lines as lines;
 ghost use Rattle.slicer_top.specs.Reports as spec;
-ghost use Rattle.slicer_top.specs.Reports.{IsTold, IsReported};
+ghost use Rattle.slicer_top.specs.Reports.{PutsLine, IsReported};
 
 use crate::refusal::Refusal;
 use crate::status::Status;
@@ -29,8 +29,8 @@ pub(crate) fn report<E: Sink>(
 // Puts a line that was made, or where there was no memory for it, tells that.
 fn tell_made<E: Sink>(made: Result<Text, AllocError>, status: Status, err: &mut E) -> Status
     ensures told { MatchResult made
-        (λ line. IsTold (E.faults err.old) (E.faults err.new) (E.written err.old) (E.written err.new) status line result)
-        (λ _. IsTold (E.faults err.old) (E.faults err.new) (E.written err.old) (E.written err.new) Status.NoMemory lines.out_of_memory result) }
+        (λ line. PutsLine (E.faults err.old) (E.faults err.new) (E.written err.old) (E.written err.new) status line result)
+        (λ _. PutsLine (E.faults err.old) (E.faults err.new) (E.written err.old) (E.written err.new) Status.NoMemory lines.out_of_memory result) }
     ensures taken { IsErr made → E.takes err.old 14
         → (result ≡ Status.NoMemory) × (E.faults err.new ≡ E.faults err.old) }
 {
@@ -42,7 +42,7 @@ fn tell_made<E: Sink>(made: Result<Text, AllocError>, status: Status, err: &mut 
 
 /// Puts on `err` that there was no memory, and answers that, or `WriteFault` where the put fails.
 pub(crate) fn tell_no_memory<E: Sink>(err: &mut E) -> Status
-    ensures told { IsTold (E.faults err.old) (E.faults err.new) (E.written err.old) (E.written err.new)
+    ensures told { PutsLine (E.faults err.old) (E.faults err.new) (E.written err.old) (E.written err.new)
         Status.NoMemory lines.out_of_memory result }
     ensures taken { E.takes err.old 14 → (result ≡ Status.NoMemory) × (E.faults err.new ≡ E.faults err.old) }
 {
@@ -51,7 +51,7 @@ pub(crate) fn tell_no_memory<E: Sink>(err: &mut E) -> Status
 
 /// Puts one line, and answers this status, or `WriteFault` where the put fails.
 pub(crate) fn tell<E: Sink>(line: &[u8], status: Status, err: &mut E) -> Status
-    ensures told { IsTold (E.faults err.old) (E.faults err.new) (E.written err.old) (E.written err.new) status line.now result }
+    ensures told { PutsLine (E.faults err.old) (E.faults err.new) (E.written err.old) (E.written err.new) status line.now result }
     ensures taken { E.takes err.old (length line.now) → (result ≡ status) × (E.faults err.new ≡ E.faults err.old) }
 {
     match err.put(line) {
@@ -113,7 +113,7 @@ fn rule_status(fault: &RuleFault) -> Status
 
 // The line of a refusal; for one that says that there was no memory none is made.
 fn line_of(alloc: Global, refusal: &Refusal, request: Request<'_>) -> Result<Text, AllocError>
-    ensures made { IfOk result (λ made. made ≡ spec.line_of request.entry.file.now request.entry.line refusal.now) }
+    ensures made { IfOk result (λ made. made ≡ spec.words_of request.entry.file.now request.entry.line refusal.now) }
     ensures none { refusal.now ≡ Refusal.NoMemory → IsErr result }
 {
     match refusal {

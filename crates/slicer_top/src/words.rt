@@ -1,7 +1,7 @@
 //! The words of a call, taken from its arguments and read by hand.
 ghost use Rattle.std.specs.Prelude.{◌≡◌, ◌≢◌, IfOk, IfErr, IsOk, IsErr, MatchOption};
 ghost use Rattle.std.specs.IoError.{error_kind};
-ghost use Rattle.slicer_top.specs.Words.{IsFileName, IsNumber, IsInForm, words_in, file_of, line_of, decimal_from};
+ghost use Rattle.slicer_top.specs.Words.{IsFileName, IsNumber, IsInForm, words_in, file_of, line_asked, decimal_from};
 
 use edge_io::Text;
 use std::alloc::{AllocError, Global};
@@ -41,7 +41,7 @@ pub(crate) struct Request<'a> {
 /// The request of the words `slice FILE LINE`, `None` where they are others.
 pub(crate) fn read_words(words: &[Text]) -> Option<Request<'_>>
     ensures { MatchOption result (IsInForm words.now → ⊥)
-        (λ request. IsInForm words.now × (request.file.now ≡ file_of words.now) × (request.line ≡ line_of words.now)) }
+        (λ request. IsInForm words.now × (request.file.now ≡ file_of words.now) × (request.line ≡ line_asked words.now)) }
 {
     let [command, file, line] = words else {
         return None;

@@ -4,7 +4,7 @@ use c_tree::{Amount, CType, Expr, Size, Statement, Target};
 use std::process::Abort;
 
 #[test]
-fn calls(rt: HostRuntime) {
+fn calls_of_functions(rt: HostRuntime) {
     let rt = &rt;
     let args = two(rt, Expr::Variable(A), Expr::Null);
     let target = Target::Place(Expr::Variable(P));
@@ -25,6 +25,11 @@ fn calls(rt: HostRuntime) {
         args: none(rt),
     };
     expect_lines(rt, call, b"g();\n");
+}
+
+#[test]
+fn calls_of_the_library(rt: HostRuntime) {
+    let rt = &rt;
     let read = Statement::Fetch {
         id: 0,
         line: 1,
@@ -43,6 +48,11 @@ fn calls(rt: HostRuntime) {
         value: Expr::Variable(P),
     };
     expect_lines(rt, freed, b"free(p);\n");
+}
+
+#[test]
+fn calls_of_printf(rt: HostRuntime) {
+    let rt = &rt;
     let format = text(rt, b"\"%d %d\\n\"");
     let args = two(rt, Expr::Variable(A), Expr::Variable(B));
     let printed = Statement::Print {

@@ -1,4 +1,4 @@
-use Rattle.integer_texts.proofs.SameNumbers.{well_formed_numbered}
+use Rattle.integer_texts.proofs.NumbersButLines.{well_formed_numbered}
 use Rattle.integer_texts.proofs.well_formed_are_numbered.Goals as goal
 
 pub returns : goal.returns

@@ -1,5 +1,5 @@
 use Rattle.std.proofs.Common.{◌≡◌}
-use Rattle.main_skeleton.specs.Marks.{main_vertices}
+use Rattle.dep_model.specs.MainVertices.{main_vertices}
 use Rattle.main_skeleton.proofs.vertices_of.Given as goal
 
 abbrev pub invariant-loop-id : goal.invariant-loop-id

@@ -1,4 +1,4 @@
-use Rattle.own_words.proofs.Standing.{has_own_words}
+use Rattle.own_words.proofs.StandingWords.{has_own_words}
 use Rattle.own_words.proofs.own_words_stay.Goals as goal
 
 pub returns : goal.returns

@@ -3,7 +3,7 @@ use Rattle.std.specs.Prelude.{IfOk}
 use mathlib.Core.Path.{fun_ext}
 use Rattle.bit_rows.specs.Sets.{has}
 use Rattle.projection.specs.declared.statements.Selection.{Selection}
-use Rattle.projection.specs.Marks.{functions_refer}
+use Rattle.projection.specs.Referring.{functions_refer}
 use Rattle.projection.proofs.WholeLemmas.{left_is_projection}
 use Rattle.projection.proofs.project.Goals as goal
 

@@ -1,4 +1,4 @@
-use Rattle.projection_laws.proofs.Standing.{nested_standing}
+use Rattle.projection_laws.proofs.StandsNested.{nested_standing}
 use Rattle.projection_laws.proofs.nested_is_standing.Goals as goal
 
 pub returns : goal.returns

@@ -1,4 +1,4 @@
-use Rattle.projection_laws.proofs.Standing.{standing_nested}
+use Rattle.projection_laws.proofs.StandsNested.{standing_nested}
 use Rattle.projection_laws.proofs.standing_is_nested.Goals as goal
 
 pub returns : goal.returns

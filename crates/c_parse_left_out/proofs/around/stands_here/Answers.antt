@@ -2,7 +2,7 @@ use Rattle.std.proofs.Common.{arith, ◌≡◌, ap, sym, ◌∙◌, slice_get, S
 use Rattle.std.specs.Option.{option_copied}
 use Rattle.c_parse_left_out.proofs.AroundLemmas.{stands_stopped, stands_later}
 use Rattle.c_parse_left_out.proofs.around.stands_here.Goals as goal
-use Rattle.c_parse_left_out.specs.Naming.{found_by, ended_by}
+use Rattle.c_parse_left_out.specs.Around.{found_by, ended_by}
 
 pub returns-then-stops : goal.returns-then-stops
 returns-then-stops c =

@@ -1,6 +1,6 @@
 use Rattle.std.proofs.Common.{◌≡◌, ◌≤◌, drop}
 use Rattle.c_language.specs.LeftOut as grammar
-use Rattle.c_parse_left_out.specs.Naming as spec
+use Rattle.c_parse_left_out.specs.Around as spec
 use Rattle.c_parse_left_out.proofs.around.stands_here.Given as goal
 
 abbrev pub invariant-loop-at : goal.invariant-loop-at

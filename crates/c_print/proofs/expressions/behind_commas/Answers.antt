@@ -1,6 +1,7 @@
 use Rattle.std.proofs.Common.{◌++◌, codes, ap, ◌∙◌, append_assoc}
 use Rattle.c_language.specs.Words.{Bytes, expr_words}
-use Rattle.c_print.proofs.Loops.{each_turn, each_comma}
+use Rattle.c_language.proofs.Turns.{each_turn}
+use Rattle.c_print.proofs.Loops.{each_comma}
 use Rattle.c_print.proofs.expressions.behind_commas.Goals as goal
 
 pub loop-child-preserved : goal.loop-child-preserved

@@ -1,4 +1,5 @@
-use Rattle.c_print.proofs.Loops.{each_turn, each_member}
+use Rattle.c_language.proofs.Turns.{each_turn}
+use Rattle.c_print.proofs.Loops.{each_member}
 use Rattle.c_print.proofs.items.members.Goals as goal
 
 pub loop-member-preserved : goal.loop-member-preserved

@@ -1,5 +1,6 @@
 use Rattle.std.proofs.Common.{[]}
-use Rattle.c_print.proofs.Loops.{each_turn, each_item}
+use Rattle.c_language.proofs.Turns.{each_turn}
+use Rattle.c_print.proofs.Loops.{each_item}
 use Rattle.c_print.proofs.items.print.Goals as goal
 
 pub loop-item-preserved : goal.loop-item-preserved

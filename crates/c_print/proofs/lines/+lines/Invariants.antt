@@ -1,16 +1,16 @@
 use Rattle.std.proofs.Common.{◌≡◌, ◌+◌, ◌*◌, map, take}
-use Rattle.c_print.specs.Lines.{placed, arm_placed, heights, else_height, block_starts, kept}
+use Rattle.c_print.specs.Lines.{placed, arm_placed, heights, else_height, block_starts, noted}
 use Rattle.c_print.proofs.lines.+lines.Given as goal
 
 abbrev pub invariant-arms-loop-child : goal.invariant-arms-loop-child
 invariant-arms-loop-child l = record {
-  lines : l.lines ≡ kept l.first (block_starts (map arm_placed (take l.child-index l.all)) l.line) l.initial.lines;
+  lines : l.lines ≡ noted l.first (block_starts (map arm_placed (take l.child-index l.all)) l.line) l.initial.lines;
   next : l.next ≡ l.line + heights (map arm_placed (take l.child-index l.all));
 }
 
 abbrev pub invariant-statements-loop-child : goal.invariant-statements-loop-child
 invariant-statements-loop-child l = record {
-  lines : l.lines ≡ kept l.first (block_starts (map placed (take l.child-index l.all)) l.line) l.initial.lines;
+  lines : l.lines ≡ noted l.first (block_starts (map placed (take l.child-index l.all)) l.line) l.initial.lines;
   next : l.next ≡ l.line + heights (map placed (take l.child-index l.all));
 }
 

@@ -1,7 +1,8 @@
 use Rattle.std.proofs.Common.{◌≡◌, ℕ, suc, ◌++◌, codes, map, ap, sym, ◌∙◌, append_assoc, inl, inr}
 use Rattle.c_language.specs.Words.{Bytes, expr_words}
 use Rattle.c_language.specs.Layout.{line, label_lines, else_lines, arms_lines, laid, statement_words, statement_lines, body_lines, arm_laid}
-use Rattle.c_print.proofs.Loops.{each_turn, each_arm, each_statement}
+use Rattle.c_language.proofs.Turns.{each_turn}
+use Rattle.c_print.proofs.Loops.{each_arm, each_statement}
 use Rattle.c_print.proofs.StatementLines.{at-If, at-While, at-Do, at-For, at-Switch, at-Block, both, else_lines-some, arm_laid-parts, on_ok, closed}
 use Rattle.c_print.proofs.statements.+statement.Goals as goal
 

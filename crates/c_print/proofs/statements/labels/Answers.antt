@@ -1,4 +1,5 @@
-use Rattle.c_print.proofs.Loops.{each_turn, each_label}
+use Rattle.c_language.proofs.Turns.{each_turn}
+use Rattle.c_print.proofs.Loops.{each_label}
 use Rattle.c_print.proofs.statements.labels.Goals as goal
 
 pub loop-label-preserved : goal.loop-label-preserved

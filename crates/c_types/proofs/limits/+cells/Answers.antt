@@ -1,7 +1,7 @@
 use Rattle.std.proofs.Common.{rules, ◌≡◌, ◌∙◌, ap, sym}
 use Rattle.std.specs.Prelude.{slice_index_or}
 use Rattle.c_language.specs.Limits.{cells}
-use Rattle.c_types.specs.Capped.{capped}
+use Rattle.c_types.specs.Limits.{capped}
 use Rattle.c_types.proofs.LimitLemmas.{array_capped, struct_capped, capped_again, cells-Array, cells-Struct}
 use Rattle.c_types.proofs.limits.+cells.Goals as goal
 

@@ -1,6 +1,6 @@
 use Rattle.std.proofs.Common.{◌≡◌, ◌≤◌, ℕ, List, take}
 use Rattle.c_language.specs.Limits.{member_cells}
-use Rattle.c_types.specs.Capped.{capped, all_capped}
+use Rattle.c_types.specs.Limits.{capped, all_capped}
 use Rattle.c_types.proofs.limits.member_cells.Given as goal
 
 abbrev pub invariant-loop-member : goal.invariant-loop-member

@@ -1,6 +1,6 @@
 use Rattle.std.proofs.Common.{rules, ◌≡◌, [], max, ◌∙◌, ap}
 use Rattle.c_language.specs.Limits.{struct_cells, cells_behind, greatest_variable}
-use Rattle.c_types.specs.Capped.{capped, all_capped}
+use Rattle.c_types.specs.Limits.{capped, all_capped}
 use Rattle.c_types.proofs.LimitLemmas.{greatest_capped, capped_max}
 use Rattle.c_types.proofs.limits.object_cells.Goals as goal
 use Rattle.c_language.specs.Lists.{greatest}

@@ -1,6 +1,6 @@
 use Rattle.std.proofs.Common.{rules, [], take, ap, ◌∙◌}
 use Rattle.c_language.specs.Limits.{member_cells, cells_behind}
-use Rattle.c_types.specs.Capped.{capped}
+use Rattle.c_types.specs.Limits.{capped}
 use Rattle.c_types.proofs.LimitLemmas.{struct_turn}
 use Rattle.c_types.proofs.limits.struct_cells.Goals as goal
 

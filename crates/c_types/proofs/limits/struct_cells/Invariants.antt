@@ -1,6 +1,6 @@
 use Rattle.std.proofs.Common.{◌≡◌, [], take}
 use Rattle.c_language.specs.Limits.{cells_behind}
-use Rattle.c_types.specs.Capped.{all_capped}
+use Rattle.c_types.specs.Limits.{all_capped}
 use Rattle.c_types.proofs.limits.struct_cells.Given as goal
 
 abbrev pub invariant-loop-structure : goal.invariant-loop-structure

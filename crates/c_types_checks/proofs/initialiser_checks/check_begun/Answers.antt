@@ -2,7 +2,7 @@ use Rattle.std.proofs.Common.{List, subst}
 use Rattle.c_tree.specs.declared.raw.expr.RawExpr.{RawExpr}
 use Rattle.c_types_base.specs.Tables.{scope_of}
 use Rattle.c_types_checks.specs.Checking.{Decides}
-use Rattle.c_types_checks.specs.DeclarationChecks.{check_items}
+use Rattle.c_types_checks.specs.InitialiserChecks.{check_items}
 use Rattle.c_types_checks.specs.Stands.{stand_of}
 use Rattle.c_types_checks.proofs.BegunLemmas.{begun_one, begun_items}
 use Rattle.c_types_checks.proofs.initialiser_checks.check_begun.Goals as goal

@@ -1,7 +1,7 @@
 use Rattle.std.proofs.Common.{◌≡◌, drop}
 use Rattle.c_types_base.specs.Tables.{scope_of}
 use Rattle.c_types_checks.specs.Checking.{all_kept}
-use Rattle.c_types_checks.specs.DeclarationChecks.{check_item}
+use Rattle.c_types_checks.specs.InitialiserChecks.{check_item}
 use Rattle.c_types_checks.specs.Stands.{stand_of}
 use Rattle.c_types_checks.proofs.initialiser_checks.check_each_item.Given as goal
 

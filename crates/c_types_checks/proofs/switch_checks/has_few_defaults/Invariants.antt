@@ -1,7 +1,7 @@
 use Rattle.std.proofs.Common.{◌≡◌, ◌+◌, cond, drop, map}
 use Rattle.std.specs.Borrow.{Bor}
 use Rattle.c_tree.specs.declared.raw.statement.RawLabel.{RawLabel}
-use Rattle.c_types_checks.specs.CallChecks.{default_count}
+use Rattle.c_types_checks.specs.SwitchChecks.{default_count}
 use Rattle.c_types_checks.proofs.switch_checks.has_few_defaults.Given as goal
 
 abbrev pub invariant-loop-label : goal.invariant-loop-label

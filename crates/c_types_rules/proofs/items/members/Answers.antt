@@ -4,7 +4,7 @@ use Rattle.c_types_base.specs.Names.{listed_type}
 use Rattle.c_types_base.specs.Tables.{scope_of}
 use Rattle.c_types_base.specs.Listing.{HasMembers}
 use Rattle.c_types_base.specs.Stretches.{then_comes}
-use Rattle.c_types_rules.specs.Walks.{Answers}
+use Rattle.c_types_rules.specs.Walks.{AnswersOf}
 use Rattle.c_types_rules.proofs.Checked.{walks_phrase}
 use Rattle.c_types_checks.proofs.DeclaredLaws.{member_there}
 use Rattle.c_types_rules.proofs.DeclaredSteps.{passed}
@@ -25,7 +25,7 @@ returns-in_err-on_line-clause-answers c =
     let one = one_phrase m.line (phrases.HasMember (take i list) m) in
     let rest = of_members (take (i + 1) list) (drop (i + 1) list) in
     let found : c.is_some-is_named.result ≡ is_some (listed_type m.name c.loop-member.listed) = search rules in
-    passes_fault (Answers t.raw.now (phrases.member_phrases (scope_of t) [] list)) c.in_err-on_line.field-0.0 c.from_residual.result c.from_residual.ensures.1
+    passes_fault (AnswersOf t.raw.now (phrases.member_phrases (scope_of t) [] list)) c.in_err-on_line.field-0.0 c.from_residual.result c.from_residual.ensures.1
     (stops (of_members [] list) t t one rest
     (left_same (of_members [] list) t t (of_members (take i list) (drop i list)) (then_comes one rest) (members_here list i m t.raw.now c.loop-member-test.true c.member-item.is) c.loop-member.invariant.passed)
     t c.in_err-on_line.field-0.0

@@ -4,7 +4,7 @@ use Rattle.c_types_base.specs.Numbering.{Numbers}
 use Rattle.c_types_base.specs.Tables.{scope_of}
 use Rattle.c_types_base.specs.Listing.{names_given}
 use Rattle.c_types_base.specs.Stretches.{then_comes}
-use Rattle.c_types_rules.specs.Walks.{Answers}
+use Rattle.c_types_rules.specs.Walks.{AnswersOf}
 use Rattle.c_types_rules.proofs.Checked.{walks_phrase}
 use Rattle.c_types_rules.proofs.ItemSteps.{passes_fault}
 use Rattle.c_types_base.proofs.TextSteps.{taken_here, with_next, of_taken}
@@ -20,7 +20,7 @@ returns-in_err-on_line c =
     let p = c.parameter-item.result in
     let one = one_phrase p.line (phrases.Takes (take i list) p) in
     let rest = of_taken (take (i + 1) list) (drop (i + 1) list) in
-    passes_fault (Answers t.raw.now (phrases.taken_phrases (scope_of t) [] list)) c.in_err-on_line.field-0.0 c.from_residual.result c.from_residual.ensures.1
+    passes_fault (AnswersOf t.raw.now (phrases.taken_phrases (scope_of t) [] list)) c.in_err-on_line.field-0.0 c.from_residual.result c.from_residual.ensures.1
     (stops (of_taken [] list) t t one rest
     (left_same (of_taken [] list) t t (of_taken (take i list) (drop i list)) (then_comes one rest) (taken_here list i p t.raw.now c.loop-parameter-test.true c.parameter-item.is) c.loop-parameter.invariant.passed)
     t c.in_err-on_line.field-0.0

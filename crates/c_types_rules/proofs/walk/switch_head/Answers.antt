@@ -3,7 +3,7 @@ use Rattle.std.specs.Borrow.{Bor}
 use Rattle.c_tree.specs.declared.raw.statement.RawLabel.{RawLabel}
 use Rattle.c_language.specs.Phrases as phrases
 use Rattle.c_types_base.specs.Tables.{scope_of}
-use Rattle.c_types_checks.specs.CallChecks.{check_switch}
+use Rattle.c_types_checks.specs.SwitchChecks.{check_switch}
 use Rattle.c_types_checks.specs.Checking.{Decides}
 use Rattle.c_types_base.specs.Stretches.{labels_in}
 use Rattle.c_types_rules.proofs.walk.switch_head.Goals as goal

@@ -1,7 +1,7 @@
 use Rattle.std.proofs.Common.{Some, sym, ap, ◌∙◌}
 use Rattle.c_language.specs.ProgramOf.{arg_tree}
 use Rattle.c_types_base.specs.Tables.{scope_of}
-use Rattle.c_types_trees.proofs.OptionPaths.{collected_turn}
+use Rattle.c_types_trees.proofs.Collected.{collected_turn}
 use Rattle.c_types_trees.proofs.calls.args_tree.Goals as goal
 
 pub loop-arg-preserved : goal.loop-arg-preserved

@@ -1,7 +1,7 @@
 use Rattle.std.proofs.Common.{Some, sym, ap, ◌∙◌}
 use Rattle.c_language.specs.ProgramOf.{expr_of}
 use Rattle.c_types_base.specs.Tables.{scope_of}
-use Rattle.c_types_trees.proofs.OptionPaths.{collected_turn}
+use Rattle.c_types_trees.proofs.Collected.{collected_turn}
 use Rattle.c_types_trees.proofs.parts.trees_of.Goals as goal
 
 pub loop-expr-preserved : goal.loop-expr-preserved

@@ -3,7 +3,8 @@ use Rattle.std.proofs.lemmas.List.{get_or_default}
 use Rattle.dep_model.specs.Groups.{row}
 use Rattle.dep_model.specs.SwitchArms.{taken}
 use Rattle.control_deps.specs.Walk.{joined, walk, walks, walked_part, arm_walks}
-use Rattle.dep_model.proofs.Grown.{grown_two, grown_three, grown_four, each_turn, both_turn}
+use Rattle.c_language.proofs.Turns.{each_turn}
+use Rattle.dep_model.proofs.Grown.{grown_two, grown_three, grown_four, both_turn}
 use Rattle.control_deps.proofs.WalkLemmas.{each_statement, each_arm, walk-If, walk-While, walk-Do, walk-Switch, walk-Block, walk-For}
 use Rattle.control_deps.proofs.walk.+statement.Goals as goal
 

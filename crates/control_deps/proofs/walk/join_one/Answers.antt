@@ -1,4 +1,4 @@
-use Rattle.dep_model.proofs.Grown.{each_turn_at}
+use Rattle.c_language.proofs.Turns.{each_turn_at}
 use Rattle.control_deps.proofs.WalkLemmas.{each_controller}
 use Rattle.control_deps.proofs.walk.join_one.Goals as goal
 

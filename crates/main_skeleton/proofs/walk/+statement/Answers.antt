@@ -1,6 +1,6 @@
 use Rattle.std.proofs.Common.{sym, ap, ◌∙◌}
 use Rattle.dep_model.specs.Doings.{doings}
-use Rattle.main_skeleton.specs.Marks.{with_doings}
+use Rattle.main_skeleton.specs.Effects.{with_doings}
 use Rattle.main_skeleton.proofs.Statements.{marked-Bump, print_form, for_form}
 use Rattle.main_skeleton.proofs.walk.+statement.Goals as goal
 

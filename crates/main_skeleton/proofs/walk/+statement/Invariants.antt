@@ -1,5 +1,5 @@
 use Rattle.std.proofs.Common.{◌≡◌, drop}
-use Rattle.main_skeleton.specs.Marks.{with_body, with_arms}
+use Rattle.main_skeleton.specs.Effects.{with_body, with_arms}
 use Rattle.main_skeleton.proofs.walk.+statement.Given as goal
 
 abbrev pub invariant-arms-loop-arm : goal.invariant-arms-loop-arm

@@ -1,6 +1,6 @@
 use Rattle.std.proofs.Common.{◌&&◌}
 use Rattle.bit_rows.specs.Sets.{has}
-use Rattle.projection.specs.Marks.{part_refers, arms_refer}
+use Rattle.projection.specs.Referring.{part_refers, arms_refer}
 use Rattle.projection.specs.Names.{names, refers, body_refers}
 use Rattle.projection.proofs.MarkLemmas.{adds_same, adds_both, adds_three, adds_four}
 use Rattle.projection.proofs.NameForms.{refers-Block, refers-If, refers-For, refers-Switch, refers_loop}

@@ -1,6 +1,6 @@
 use Rattle.std.proofs.Common.{◌≡◌, ℕ, ◌||◌, drop}
 use Rattle.bit_rows.specs.Sets.{has}
-use Rattle.projection.specs.Marks.{arms_refer}
+use Rattle.projection.specs.Referring.{arms_refer}
 use Rattle.projection.specs.Names.{body_refers}
 use Rattle.projection.proofs.referring.+statement.Given as goal
 

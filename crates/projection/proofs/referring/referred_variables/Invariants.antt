@@ -1,6 +1,6 @@
 use Rattle.std.proofs.Common.{◌≡◌, ℕ, ◌||◌, drop}
 use Rattle.bit_rows.specs.Sets.{has}
-use Rattle.projection.specs.Marks.{functions_refer}
+use Rattle.projection.specs.Referring.{functions_refer}
 use Rattle.projection.proofs.referring.referred_variables.Given as goal
 
 abbrev pub invariant-loop-function : goal.invariant-loop-function

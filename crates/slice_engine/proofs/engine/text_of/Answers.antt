@@ -3,7 +3,7 @@ use Rattle.std.specs.Prelude.{Contains}
 use Rattle.c_language.specs.Layout.{layout}
 use Rattle.c_print.proofs.LayoutLength.{few_lines}
 use Rattle.slice_engine.specs.Slice.{header}
-use Rattle.slice_engine.specs.Criterion.{shown_lines}
+use Rattle.slice_engine.specs.Header.{shown_lines}
 use Rattle.slice_engine.proofs.EngineLaws.{short_enough}
 use Rattle.slice_engine.proofs.SliceLaws.{is_slice, is_read}
 use Rattle.slice_engine.proofs.engine.text_of.Goals as goal

@@ -1,5 +1,5 @@
 use Rattle.std.proofs.Common.{◌≡◌, ◌++◌, drop}
-use Rattle.slice_engine.specs.Criterion.{shown_lines}
+use Rattle.slice_engine.specs.Header.{shown_lines}
 use Rattle.slice_engine.proofs.header.criterion_lines.Given as goal
 
 abbrev pub invariant-loop-i : goal.invariant-loop-i

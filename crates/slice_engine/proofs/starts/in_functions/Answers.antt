@@ -1,6 +1,6 @@
 use Rattle.std.proofs.Common.{◌++◌, ap, ◌∙◌}
 use Rattle.c_tree.specs.Numbered.{body_starts}
-use Rattle.dep_model.proofs.Grown.{each_turn}
+use Rattle.c_language.proofs.Turns.{each_turn}
 use Rattle.slice_engine.proofs.StartLemmas.{each_function}
 use Rattle.slice_engine.proofs.starts.in_functions.Goals as goal
 

@@ -1,7 +1,7 @@
 use Rattle.std.proofs.Common.{◌≡◌, ℕ, inl, inr, Option, Result, Ok, Err, IfOk, MatchResult, subst}
 use Rattle.c_language.specs.Words.{Bytes}
 use Rattle.slicer_top.specs.Lines as lines
-use Rattle.slicer_top.specs.Reports.{IsTold, IsReported, status_of, line_of}
+use Rattle.slicer_top.specs.Reports.{PutsLine, IsReported, status_of, words_of}
 use Rattle.slicer_top.specs.declared.refusal.Refusal.{Refusal}
 use Rattle.slicer_top.specs.declared.status.Status.{Status}
 use Rattle.slicer_top.specs.declared.status.Status.TheVariants.{NoMemory}
@@ -9,11 +9,11 @@ use Rattle.slicer_top.proofs.report.report.Goals as goal
 
 -- the line was made and told, or that memory was wanting for it
 module _ (faults faults' : ℕ) (before after : Option Bytes) (file : Bytes) (at : ℕ) (refusal : Refusal) (status result : Status) where
-  reported : {E : Type 0} (made : Result Bytes E) → IfOk made (λ line. line ≡ line_of file at refusal) → status ≡ status_of refusal
-      → MatchResult made (λ line. IsTold faults faults' before after status line result) (λ e. IsTold faults faults' before after NoMemory lines.out_of_memory result)
+  reported : {E : Type 0} (made : Result Bytes E) → IfOk made (λ line. line ≡ words_of file at refusal) → status ≡ status_of refusal
+      → MatchResult made (λ line. PutsLine faults faults' before after status line result) (λ e. PutsLine faults faults' before after NoMemory lines.out_of_memory result)
       → IsReported faults faults' before after file at refusal result
   reported (Ok line) is same told =
-      inl (subst (λ s. IsTold faults faults' before after s (line_of file at refusal) result) same (subst (λ words. IsTold faults faults' before after status words result) is told))
+      inl (subst (λ s. PutsLine faults faults' before after s (words_of file at refusal) result) same (subst (λ words. PutsLine faults faults' before after status words result) is told))
   reported (Err e) is same told = inr told
 
 pub returns-clause-told : goal.returns-clause-told

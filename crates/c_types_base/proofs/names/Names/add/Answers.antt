@@ -1,9 +1,9 @@
 use Rattle.std.proofs.Common.{map, ap, ◌∙◌, [], ◌∷◌}
 use Rattle.std.proofs.lemmas.List.{map-append}
 use Rattle.indexmap.proofs.CallerLemmas.{insert_entry-new}
+use Rattle.c_language.proofs.Options.{unmapped}
 use Rattle.c_types_base.specs.Names.{meaning_of, entry_of}
 use Rattle.c_types_base.proofs.NameLemmas.{found_lookup}
-use Rattle.c_types_base.proofs.NameSteps.{unmapped}
 use Rattle.c_types_base.proofs.names.Names.add.Goals as goal
 
 pub returns : goal.returns

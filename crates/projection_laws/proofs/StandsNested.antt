@@ -6,11 +6,10 @@ use Rattle.c_tree.specs.declared.program.Function.{Function}
 use Rattle.c_tree.specs.declared.program.Program.{Program}
 use Rattle.c_tree.specs.declared.statement.Statement.{Statement, ind-Statement, roll-Statement, map-Statement, fold-roll-Statement}
 use Rattle.c_tree.specs.declared.statement.Statement.TheOpen.{Statement-F, Arm-F}
-use Rattle.c_tree.specs.declared.statement.Arm.{Arm, roll-Arm, fold-Arm, fold-roll-Arm}
+use Rattle.c_tree.specs.declared.statement.Arm.{Arm, roll-Arm, fold-roll-Arm}
 use Rattle.c_tree.proofs.Trees.{statement_layer, arm_layer, StatementParts, ArmParts}
 use Rattle.c_language.proofs.Tests.{false_true, by_or}
-use Rattle.projection_laws.specs.Nested.{Nest, any_kept, all_fit, governs, nest_step, nest_arm, nest, is_nested, IsNested, Stands, any_own, any_inside, stands_step, stands_arm, stands, stands_in}
-use Rattle.projection_laws.proofs.StatementForms.{arm_nest}
+use Rattle.projection_laws.specs.Nested.{Nest, any_kept, all_fit, governs, nest_step, nest_arm, nest, arm_nest, is_nested, IsNested, Stands, any_own, any_inside, stands_step, stands_arm, stands, arm_stands, stands_in}
 
 governs_true : (b inside : Bool) → (inside ≡ true → b ≡ true) → governs b inside ≡ true
 governs_true true inside h = refl
@@ -21,9 +20,6 @@ pub governs_back : (b inside : Bool) → governs b inside ≡ true → inside �
 governs_back true inside g h = refl
 governs_back false true g h = g
 governs_back false false g h = h
-
-abbrev arm_stands : Arm → Stands
-arm_stands = fold-Arm Stands Stands stands_step stands_arm
 
 module _ (keeps : ℕ → Bool) where
   abbrev Closed : (ℕ → ℕ → Bool) → Type 0

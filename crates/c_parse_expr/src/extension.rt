@@ -9,7 +9,7 @@ use c_tree::{BinaryOp, UnaryOp};
 
 /// What goes on with an expression.
 #[derive(Clone, Copy, Debug, PartialEq, Eq)]
-pub enum Suffix {
+pub enum Extension {
     /// An operator, with its right operand behind it.
     Operator(Infix),
     /// `?`
@@ -97,24 +97,24 @@ fn infix_by(mark: &[u8]) -> Option<Infix>
     arithmetic(mark)
 }
 
-#[tactic(auto, unfolding(crate::specs::ExprReading::suffix_by))]
-fn suffix_by(mark: &[u8]) -> Option<Suffix>
-    ensures { result ≡ spec.suffix_by mark.now }
+#[tactic(auto, unfolding(crate::specs::ExprReading::extension_by))]
+fn extension_by(mark: &[u8]) -> Option<Extension>
+    ensures { result ≡ spec.extension_by mark.now }
 {
     if mark == b"[".as_slice() {
-        return Some(Suffix::Bracket);
+        return Some(Extension::Bracket);
     }
     if mark == b".".as_slice() {
-        return Some(Suffix::Select(Selector::Dot));
+        return Some(Extension::Select(Selector::Dot));
     }
     if mark == b"->".as_slice() {
-        return Some(Suffix::Select(Selector::Arrow));
+        return Some(Extension::Select(Selector::Arrow));
     }
     if mark == b"?".as_slice() {
-        return Some(Suffix::Question);
+        return Some(Extension::Question);
     }
     match infix_by(mark) {
-        Some(op) => Some(Suffix::Operator(op)),
+        Some(op) => Some(Extension::Operator(op)),
         None => None,
     }
 }
@@ -128,15 +128,15 @@ pub fn multiplies_size(tokens: &Cursor<'_>) -> bool
 }
 
 /// What goes on with an expression in front of these tokens; a `*` before a size does not.
-#[tactic(auto, unfolding(crate::specs::ExprReading::suffix))]
-pub fn next_suffix(tokens: &Cursor<'_>) -> Option<Suffix>
-    ensures { result ≡ spec.suffix tokens.now }
+#[tactic(auto, unfolding(crate::specs::ExprReading::extension))]
+pub fn next_extension(tokens: &Cursor<'_>) -> Option<Extension>
+    ensures { result ≡ spec.extension tokens.now }
 {
     if multiplies_size(tokens) {
         return None;
     }
     match tokens.first() {
-        Some(token) if token.kind == TokenKind::Mark => suffix_by(token.text.bytes()),
+        Some(token) if token.kind == TokenKind::Mark => extension_by(token.text.bytes()),
         _ => None,
     }
 }
@@ -173,29 +173,33 @@ pub fn level(op: Infix) -> u8
 /// The level of `?:`, and of any expression.
 pub const CONDITIONAL_LEVEL: u8 = 1;
 
+/// The level of a multiplicative expression (6.5.5).
+pub const MULTIPLICATIVE_LEVEL: u8 = 11;
+
 /// The level of the operand of a cast or a sign.
 pub const CAST_LEVEL: u8 = 12;
 
-const POSTFIX_LEVEL: u8 = 14;
+/// The level of a postfix expression (6.5.2).
+pub const POSTFIX_LEVEL: u8 = 14;
 
-fn suffix_level(suffix: Suffix) -> u8
-    ensures { result ≡ spec.suffix_level suffix }
+fn extension_level(extension: Extension) -> u8
+    ensures { result ≡ spec.extension_level extension }
 {
-    match suffix {
-        Suffix::Operator(op) => level(op),
-        Suffix::Question => CONDITIONAL_LEVEL,
-        Suffix::Bracket | Suffix::Select(_) => POSTFIX_LEVEL,
+    match extension {
+        Extension::Operator(op) => level(op),
+        Extension::Question => CONDITIONAL_LEVEL,
+        Extension::Bracket | Extension::Select(_) => POSTFIX_LEVEL,
     }
 }
 
-/// The suffix at the front, where it binds at least as tightly.
-#[tactic(auto, unfolding(crate::specs::ExprReading::suffix_from))]
-pub fn suffix_from(tokens: &Cursor<'_>, least: u8) -> Option<Suffix>
-    ensures { result ≡ spec.suffix_from least tokens.now }
+/// The extension at the front, where it binds at least as tightly.
+#[tactic(auto, unfolding(crate::specs::ExprReading::extension_from))]
+pub fn extension_from(tokens: &Cursor<'_>, least: u8) -> Option<Extension>
+    ensures { result ≡ spec.extension_from least tokens.now }
 {
-    let suffix = next_suffix(tokens)?;
-    if least <= suffix_level(suffix) {
-        Some(suffix)
+    let extension = next_extension(tokens)?;
+    if least <= extension_level(extension) {
+        Some(extension)
     } else {
         None
     }

@@ -1,5 +1,5 @@
 -- What one walk over main's body marks: a row for each vertex, with a bit for each location that it may define, may use or kills.
-use Rattle.std.specs.Prelude.{ℕ, ◌+◌, List, [], ◌∷◌, length, map, Option, Some, None}
+use Rattle.std.specs.Prelude.{ℕ, ◌+◌, List, [], ◌∷◌, length, Option, Some, None}
 use Rattle.c_tree.specs.declared.program.Function.{Function}
 use Rattle.c_tree.specs.declared.program.Program.{Program}
 use Rattle.c_tree.specs.declared.statement.Arm.{Arm}
@@ -9,10 +9,6 @@ use Rattle.bit_rows.specs.Tables.{empty_table}
 use Rattle.main_skeleton.specs.Facts.{with_variables, result_if}
 use Rattle.dep_model.specs.Doings.{Doing, Does, Calls, doings, doings_of}
 use Rattle.dep_model.specs.IntegerEffects.{act_read, act_set, act_named, gives_result}
-use Rattle.dep_model.specs.MainVertices.{from}
-use Rattle.dep_model.specs.VertexOrder.{in_function}
-use Rattle.dep_model.specs.declared.vertex.Vertex.{Vertex}
-use Rattle.dep_model.specs.declared.vertex.VertexKind.TheVariants.{Entry, Statement}
 use Rattle.main_skeleton.specs.declared.effects.Effects.{Effects}
 
 abbrev pub with_act : ℕ → Act → Effects → Effects
@@ -47,10 +43,6 @@ none_marked n m = record { defined = empty_table (n + 1) (m + 2); used = empty_t
 
 abbrev pub main_effects : Program → Effects
 main_effects p = with_doings (doings_of p 0) (none_marked p.statements (length p.vars))
-
--- the entry of main and n statements
-abbrev pub main_vertices : ℕ → List Vertex
-main_vertices n = in_function 0 Entry ∷ map (λ i. in_function 0 (Statement i)) (from 0 n)
 
 abbrev pub first_body : List Function → List tree.Statement
 first_body [] = []

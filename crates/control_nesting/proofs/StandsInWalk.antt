@@ -7,21 +7,20 @@ use Rattle.c_tree.specs.declared.expr.Expr.{Expr}
 use Rattle.c_tree.specs.declared.statement.Label.{Label}
 use Rattle.c_tree.specs.declared.statement.Statement.{Statement, ind-Statement, roll-Statement, map-Statement, fold-roll-Statement}
 use Rattle.c_tree.specs.declared.statement.Statement.TheOpen.{Statement-F, Arm-F}
-use Rattle.c_tree.specs.declared.statement.Arm.{Arm, roll-Arm, map-Arm, fold-Arm, fold-roll-Arm}
+use Rattle.c_tree.specs.declared.statement.Arm.{Arm, roll-Arm, map-Arm, fold-roll-Arm}
 use Rattle.c_tree.proofs.Trees.{statement_layer, arm_layer, StatementParts, ArmParts}
 use Rattle.c_language.specs.Code.{Tests}
 use Rattle.c_language.proofs.Tests.{false_true, by_or}
-use Rattle.dep_model.specs.Doings.{Doing, Does, doing_step, doing_arm, doings, body_doings}
+use Rattle.dep_model.specs.Doings.{Doing, Does, doing_step, doing_arm, doings, body_doings, doing_number}
 use Rattle.dep_model.specs.Doings as done
-use Rattle.dep_model.specs.NumberedMains.{doing_number}
 use Rattle.dep_model.specs.SwitchArms.{has_first, with_labels}
 use Rattle.dep_model.proofs.DoingForms.{arm_doings}
 use Rattle.dep_model.proofs.Membership.{IsIn, in_first, in_second}
 use Rattle.dep_model.specs.Pairs.{pair}
 use Rattle.control_deps.specs.Walk.{joined, Walk, ArmWalk, all, all_taken, walk_step, arm_step, walk, arm_walk, walks}
 use Rattle.control_deps.proofs.CodeLaws.{in_joined}
-use Rattle.projection_laws.specs.Nested.{Stands, any_own, any_inside, stands_step, stands_arm, stands}
-use Rattle.control_nesting.specs.TakenArms.{ArmTakes, arms_taken, takes_step, takes_arm, takes_all}
+use Rattle.projection_laws.specs.Nested.{Stands, any_own, any_inside, stands_step, stands_arm, stands, arm_stands}
+use Rattle.control_nesting.specs.TakenArms.{ArmTakes, arms_taken, takes_step, takes_arm, takes_all, arm_takes}
 use Rattle.c_language.specs.Lists.{all_true}
 
 -- a statement has one vertex, with the number behind its own
@@ -43,12 +42,6 @@ done_here d ds n e = (d, inl refl, e)
 
 done_later : (d : Doing) (ds : List Doing) (n : ℕ) → IsDone ds n → IsDone (d ∷ ds) n
 done_later d ds n h = (h.0, inr h.1, h.2)
-
-abbrev arm_takes : Arm → ArmTakes
-arm_takes = fold-Arm Bool ArmTakes takes_step takes_arm
-
-abbrev arm_stands : Arm → Stands
-arm_stands = fold-Arm Stands Stands stands_step stands_arm
 
 -- one statement, and one in which it may stand
 module _ (outer inner : ℕ) where

@@ -12,9 +12,9 @@ use Rattle.c_tree.specs.declared.types.CType.{CType}
 use Rattle.c_tree.specs.Unlined.{unlined, unlined_function, unlined_var, SameButLines}
 use Rattle.c_language.specs.Words.{Bytes}
 use Rattle.built_forms.specs.IntegerForms.{IsIntegerMain}
-use Rattle.dep_model.specs.Doings.{Doing, doing_step, doing_arm, doings, body_doings, doings_of}
+use Rattle.dep_model.specs.Doings.{Doing, doing_step, doing_arm, doings, body_doings, doings_of, doing_number}
 use Rattle.dep_model.specs.MainVertices.{from}
-use Rattle.dep_model.specs.NumberedMains.{doing_number, doing_below, IsNumberedMain}
+use Rattle.dep_model.specs.NumberedMains.{doing_below, IsNumberedMain}
 use Rattle.c_tree.proofs.Unlining.{zeroed, fold_unlined}
 use Rattle.projection_laws.proofs.SamePrograms.{main_same}
 use Rattle.integer_texts.specs.Laws.{WellFormedAreNumbered}

@@ -1,5 +1,5 @@
 -- Where a kept statement stands, what stays of it stands in the projection.
-use Rattle.std.proofs.Common.{◌≡◌, ℕ, List, [], ◌∷◌, ◌++◌, map, Option, Some, None, Bool, true, false, ◌&&◌, ◌||◌, inl, inr, sym, ap, ◌∙◌, subst}
+use Rattle.std.proofs.Common.{◌≡◌, ℕ, List, [], ◌∷◌, ◌++◌, map, Some, None, Bool, true, false, ◌&&◌, ◌||◌, inl, inr, sym, ap, ◌∙◌, subst}
 use Rattle.std.specs.Prelude.{option_map}
 use Rattle.std.specs.List.{list_all}
 use Rattle.std.proofs.lemmas.Bool.{or_left, or_right}
@@ -14,20 +14,19 @@ use Rattle.c_tree.specs.declared.statement.Statement.TheVariants as s
 use Rattle.c_tree.specs.declared.numbered.Start.{Start}
 use Rattle.c_tree.specs.Numbered.{start, arms_inner, layer_inner, inner, layer_start, own_start, StandsIn, IsNumbered}
 use Rattle.c_tree.specs.Numbered.StandsIn.{here, inside, later}
-use Rattle.c_tree.proofs.SearchLemmas.{stands_left, stands_right}
+use Rattle.c_tree.proofs.SearchLemmas.{stands_left, stands_right, own_of}
 use Rattle.c_tree.proofs.LayerLemmas.{inner-If, inner-While, inner-Do, inner-For, inner-Switch}
-use Rattle.c_language.proofs.Options.{none_there, some_same}
+use Rattle.c_language.proofs.Options.{none_there}
 use Rattle.projection.specs.Kept.{rank}
-use Rattle.projection.specs.Names.{names, either, refers_step, refers_arm, refers, body_refers, stays}
+use Rattle.projection.specs.Names.{names, any_of, refers_step, refers_arm, refers, arm_refers, body_refers, stays}
 use Rattle.projection.specs.Renumbering.{renamed}
-use Rattle.projection.specs.Projection.{first_of, alone, projected_step, projected_arm_step, projected_function, projected_functions}
-use Rattle.projection_laws.specs.Nested.{Nest, any_kept, all_fit, nest_step, nest_arm, nest, is_nested, IsNested}
-use Rattle.projection_laws.proofs.StatementForms.{arm_nest}
+use Rattle.projection.specs.Projection.{first_statement, alone, projected_step, projected_arm_step, projected_function, projected_functions}
+use Rattle.projection_laws.specs.Nested.{Nest, any_kept, all_fit, nest_step, nest_arm, nest, arm_nest, is_nested, IsNested}
 use Rattle.own_words.specs.OwnWords.{own_words, HasOwnWords}
 use Rattle.own_words.proofs.Lists.{Among, among_split, among_contains, contains_among, all_hold, any_holds}
 use Rattle.own_words.proofs.Lists.Among.{first, next}
 use Rattle.own_words.proofs.Words.{same_numbers, kept, ranked, smaller}
-use Rattle.own_words.proofs.Forms.{fold_layer, text, own_text, left, arm_left, all_left, left_layer, step_left, same_kept, left_is, ranked_start, left_start, left_text, refers_to_arm, step_refers, own_refers}
+use Rattle.own_words.proofs.Forms.{fold_layer, text, own_text, left, arm_left, all_left, left_layer, step_left, same_kept, left_is, ranked_start, left_start, left_text, step_refers, own_refers}
 use Rattle.own_words.proofs.Parts.{among_none, in_alone, in_block, Holds, holds_under, holds_begun, holds_repeated, holds_first, holds_second, in_list, in_arms, in_part, of_part}
 
 module _ (p : Program) (keeps : ℕ → Bool) where
@@ -50,7 +49,7 @@ module _ (p : Program) (keeps : ℕ → Bool) where
   all_fits b = all_fit (map (nest keeps) b)
 
   abbrev any_refers : List Statement → ℕ → Bool
-  any_refers b = either (map (refers keeps) b)
+  any_refers b = any_of (map (refers keeps) b)
 
   abbrev stay : List Statement → List Statement
   stay = all_left p keeps
@@ -89,20 +88,20 @@ module _ (p : Program) (keeps : ℕ → Bool) where
   layer_holds (Statement-F.Do id l e b) x h =
       holds_under p keeps id (own id e) (any_keeps b) (all_fits b) (any_refers b) (stay b) (s.Do (rank keeps id) l (new e) (stay b)) x (inner-Do (rank keeps id) l (new e) (stay b)) (in_list p keeps b h)
   layer_holds (Statement-F.Switch id l e arms) x h =
-      holds_under p keeps id (own id e) (any_kept (map (arm_nest keeps) arms)) (all_fit (map (arm_nest keeps) arms)) (either (map (refers_to_arm p keeps) arms)) (arms_inner (map (arm_left p keeps) arms)) (s.Switch (rank keeps id) l (new e) (map (arm_left p keeps) arms)) x (inner-Switch (rank keeps id) l (new e) (map (arm_left p keeps) arms)) (in_arms p keeps arms x h)
+      holds_under p keeps id (own id e) (any_kept (map (arm_nest keeps) arms)) (all_fit (map (arm_nest keeps) arms)) (any_of (map (arm_refers keeps) arms)) (arms_inner (map (arm_left p keeps) arms)) (s.Switch (rank keeps id) l (new e) (map (arm_left p keeps) arms)) x (inner-Switch (rank keeps id) l (new e) (map (arm_left p keeps) arms)) (in_arms p keeps arms x h)
   layer_holds (Statement-F.Block l b) x h =
       let k = in_list p keeps b h in record { keeps_it = k.keeps_it; fits_it = k.fits_it; names_it = k.names_it; stands_it = λ c g y r. in_block p keeps l (stay b) y (k.stands_it c g y r) }
   layer_holds (Statement-F.For id l None e None b) x h =
       holds_repeated p keeps id (own id e) false true (any_keeps b) (all_fits b) none (any_refers b) [] (stay b) [] (s.For (rank keeps id) l None (new e) None (stay b)) x (inner-For (rank keeps id) l None (new e) None (stay b)) (in_list p keeps b h)
   layer_holds (Statement-F.For id l None e (Some k) b) x h =
-      holds_repeated p keeps id (own id e) false true ((nest keeps k).keeps || any_keeps b) ((nest keeps k).fits && all_fits b) none (λ v. refers keeps k v || any_refers b v) [] (of_part p keeps k ++ stay b) [] (s.For (rank keeps id) l None (new e) (first_of (left p keeps k)) (stay b)) x (inner-For (rank keeps id) l None (new e) (first_of (left p keeps k)) (stay b)) (stepped k b x h)
+      holds_repeated p keeps id (own id e) false true ((nest keeps k).keeps || any_keeps b) ((nest keeps k).fits && all_fits b) none (λ v. refers keeps k v || any_refers b v) [] (of_part p keeps k ++ stay b) [] (s.For (rank keeps id) l None (new e) (first_statement (left p keeps k)) (stay b)) x (inner-For (rank keeps id) l None (new e) (first_statement (left p keeps k)) (stay b)) (stepped k b x h)
   layer_holds (Statement-F.For id l (Some i) e None b) x h = elim (among_split (i ∷ []) h) [
-    | inl m ↦ holds_begun p keeps id (own id e) (nest keeps i).keeps (nest keeps i).fits (any_keeps b) (all_fits b) (refers keeps i) (any_refers b) (of_part p keeps i) (stay b) (alone l (first_of (left p keeps i))) (s.For (rank keeps id) l (first_of (left p keeps i)) (new e) None (stay b)) x (inner-For (rank keeps id) l (first_of (left p keeps i)) (new e) None (stay b)) (in_alone p keeps l (first_of (left p keeps i))) (in_part p keeps i x m)
-    | inr m ↦ holds_repeated p keeps id (own id e) (nest keeps i).keeps (nest keeps i).fits (any_keeps b) (all_fits b) (refers keeps i) (any_refers b) (of_part p keeps i) (stay b) (alone l (first_of (left p keeps i))) (s.For (rank keeps id) l (first_of (left p keeps i)) (new e) None (stay b)) x (inner-For (rank keeps id) l (first_of (left p keeps i)) (new e) None (stay b)) (in_list p keeps b m)
+    | inl m ↦ holds_begun p keeps id (own id e) (nest keeps i).keeps (nest keeps i).fits (any_keeps b) (all_fits b) (refers keeps i) (any_refers b) (of_part p keeps i) (stay b) (alone l (first_statement (left p keeps i))) (s.For (rank keeps id) l (first_statement (left p keeps i)) (new e) None (stay b)) x (inner-For (rank keeps id) l (first_statement (left p keeps i)) (new e) None (stay b)) (in_alone p keeps l (first_statement (left p keeps i))) (in_part p keeps i x m)
+    | inr m ↦ holds_repeated p keeps id (own id e) (nest keeps i).keeps (nest keeps i).fits (any_keeps b) (all_fits b) (refers keeps i) (any_refers b) (of_part p keeps i) (stay b) (alone l (first_statement (left p keeps i))) (s.For (rank keeps id) l (first_statement (left p keeps i)) (new e) None (stay b)) x (inner-For (rank keeps id) l (first_statement (left p keeps i)) (new e) None (stay b)) (in_list p keeps b m)
   ]
   layer_holds (Statement-F.For id l (Some i) e (Some k) b) x h = elim (among_split (i ∷ []) h) [
-    | inl m ↦ holds_begun p keeps id (own id e) (nest keeps i).keeps (nest keeps i).fits ((nest keeps k).keeps || any_keeps b) ((nest keeps k).fits && all_fits b) (refers keeps i) (λ v. refers keeps k v || any_refers b v) (of_part p keeps i) (of_part p keeps k ++ stay b) (alone l (first_of (left p keeps i))) (s.For (rank keeps id) l (first_of (left p keeps i)) (new e) (first_of (left p keeps k)) (stay b)) x (inner-For (rank keeps id) l (first_of (left p keeps i)) (new e) (first_of (left p keeps k)) (stay b)) (in_alone p keeps l (first_of (left p keeps i))) (in_part p keeps i x m)
-    | inr m ↦ holds_repeated p keeps id (own id e) (nest keeps i).keeps (nest keeps i).fits ((nest keeps k).keeps || any_keeps b) ((nest keeps k).fits && all_fits b) (refers keeps i) (λ v. refers keeps k v || any_refers b v) (of_part p keeps i) (of_part p keeps k ++ stay b) (alone l (first_of (left p keeps i))) (s.For (rank keeps id) l (first_of (left p keeps i)) (new e) (first_of (left p keeps k)) (stay b)) x (inner-For (rank keeps id) l (first_of (left p keeps i)) (new e) (first_of (left p keeps k)) (stay b)) (stepped k b x m)
+    | inl m ↦ holds_begun p keeps id (own id e) (nest keeps i).keeps (nest keeps i).fits ((nest keeps k).keeps || any_keeps b) ((nest keeps k).fits && all_fits b) (refers keeps i) (λ v. refers keeps k v || any_refers b v) (of_part p keeps i) (of_part p keeps k ++ stay b) (alone l (first_statement (left p keeps i))) (s.For (rank keeps id) l (first_statement (left p keeps i)) (new e) (first_statement (left p keeps k)) (stay b)) x (inner-For (rank keeps id) l (first_statement (left p keeps i)) (new e) (first_statement (left p keeps k)) (stay b)) (in_alone p keeps l (first_statement (left p keeps i))) (in_part p keeps i x m)
+    | inr m ↦ holds_repeated p keeps id (own id e) (nest keeps i).keeps (nest keeps i).fits ((nest keeps k).keeps || any_keeps b) ((nest keeps k).fits && all_fits b) (refers keeps i) (λ v. refers keeps k v || any_refers b v) (of_part p keeps i) (of_part p keeps k ++ stay b) (alone l (first_statement (left p keeps i))) (s.For (rank keeps id) l (first_statement (left p keeps i)) (new e) (first_statement (left p keeps k)) (stay b)) x (inner-For (rank keeps id) l (first_statement (left p keeps i)) (new e) (first_statement (left p keeps k)) (stay b)) (stepped k b x m)
   ]
 
   abbrev StatementHolds : Statement → Statement → Type 0
@@ -175,10 +174,6 @@ module _ (p : Program) (keeps : ℕ → Bool) where
   layer_keeps (Statement-F.Switch id l e arms) i n is h = or_left (keeps id) _ (same_kept p keeps id l i n is h)
   layer_keeps (Statement-F.Block l b) i n is h = none_there is
 
-  start_of : (o : Option Start) (i : ℕ) → option_map (λ (t : Start). t.id) o ≡ Some i → (n : ℕ) × (o ≡ Some (start i n))
-  start_of None i h = none_there h
-  start_of (Some t) i h = (t.line, ap (λ k. Some (start k t.line)) (some_same h))
-
   -- what stays of a kept statement
   abbrev stayed : Statement → Statement
   stayed x = roll-Statement (left_layer p keeps (out-Statement x))
@@ -196,7 +191,7 @@ module _ (p : Program) (keeps : ℕ → Bool) where
   has_own_words nested i x numbered h =
       let f = numbered.stands.function in
       let among : Among p.functions f = contains_among p.functions f numbered.stands.defined in
-      let begun = start_of (own_start x) i numbered.number in
+      let begun = own_of i (own_start x) numbered.number in
       let starts_it : own_start x ≡ Some (start i begun.0) = begun.1 in
       let keeps_it : (nest keeps x).keeps ≡ true = ap (λ (m : Nest). m.keeps) (nest_is x) ∙ layer_keeps (out-Statement x) i begun.0 starts_it h in
       let stands_itself : StandsIn (left p keeps x) (stayed x) = subst (λ ws. StandsIn ws (stayed x)) (sym (left_out x ∙ left_is p keeps (out-Statement x) i begun.0 starts_it h)) here in

@@ -3,7 +3,7 @@ use Rattle.std.proofs.Common.{◌≡◌, ◌≢◌, ℕ, zero, suc, ◌+◌, ◌
 use Rattle.std.proofs.lemmas.Bool.{eq-eqb, ne_eqb}
 use Rattle.std.proofs.lemmas.List.{set_past}
 use Rattle.c_tree.specs.Numbered.{Starts, start}
-use Rattle.c_print.specs.Lines.{Placed, heights, starts_from, block_starts, line_if, line_among, kept}
+use Rattle.c_print.specs.Lines.{Placed, heights, starts_from, block_starts, line_if, line_among, noted}
 
 -- the number itself, and another one
 met : (id l before : ℕ) → line_if (id == id) l before ≡ l
@@ -16,53 +16,53 @@ pub cons_both : {A : Type 0} {a b : A} {xs ys : List A} → a ≡ b → xs ≡ y
 cons_both {A} {a} {b} {xs} {ys} e es = ap (λ (x : A). x ∷ xs) e ∙ ap (λ (x : List A). b ∷ x) es
 
 -- nothing is written down
-pub keep_nothing : (first : ℕ) (ls : List ℕ) → kept first [] ls ≡ ls
-keep_nothing first [] = refl
-keep_nothing first (l ∷ ls) = ap (λ (x : List ℕ). l ∷ x) (keep_nothing (suc first) ls)
+pub noted_nothing : (first : ℕ) (ls : List ℕ) → noted first [] ls ≡ ls
+noted_nothing first [] = refl
+noted_nothing first (l ∷ ls) = ap (λ (x : List ℕ). l ∷ x) (noted_nothing (suc first) ls)
 
 among-append : (id : ℕ) (ss ts : Starts) (before : ℕ) → line_among id (ss ++ ts) before ≡ line_among id ts (line_among id ss before)
 among-append id [] ts before = refl
 among-append id (s ∷ ss) ts before = among-append id ss ts (line_if (s.id == id) s.line before)
 
 -- some, and then others
-pub keep_both : (first : ℕ) (ss ts : Starts) (ls : List ℕ) → kept first (ss ++ ts) ls ≡ kept first ts (kept first ss ls)
-keep_both first ss ts [] = refl
-keep_both first ss ts (l ∷ ls) = cons_both (among-append first ss ts l) (keep_both (suc first) ss ts ls)
+pub noted_both : (first : ℕ) (ss ts : Starts) (ls : List ℕ) → noted first (ss ++ ts) ls ≡ noted first ts (noted first ss ls)
+noted_both first ss ts [] = refl
+noted_both first ss ts (l ∷ ls) = cons_both (among-append first ss ts l) (noted_both (suc first) ss ts ls)
 
 -- a number below the first
-pub keep_below : (first id l : ℕ) (ls : List ℕ) → id < first → kept first (start id l ∷ []) ls ≡ ls
-keep_below first id l [] h = refl
-keep_below first id l (x ∷ ls) h =
-    cons_both (missed id first l x (λ e. omega (arith, h, e))) (keep_below (suc first) id l ls (omega (arith, h)))
+pub noted_below : (first id l : ℕ) (ls : List ℕ) → id < first → noted first (start id l ∷ []) ls ≡ ls
+noted_below first id l [] h = refl
+noted_below first id l (x ∷ ls) h =
+    cons_both (missed id first l x (λ e. omega (arith, h, e))) (noted_below (suc first) id l ls (omega (arith, h)))
 
-keep_at : (ls : List ℕ) (k first id l : ℕ) → id ≡ first + k → set ls k l ≡ kept first (start id l ∷ []) ls
-keep_at [] k first id l h = refl
-keep_at (x ∷ ls) zero first id l h =
+noted_one_at : (ls : List ℕ) (k first id l : ℕ) → id ≡ first + k → set ls k l ≡ noted first (start id l ∷ []) ls
+noted_one_at [] k first id l h = refl
+noted_one_at (x ∷ ls) zero first id l h =
     let e : id ≡ first = omega (arith, h) in
-    sym (cons_both (ap (λ (n : ℕ). line_if (n == first) l x) e ∙ met first l x) (keep_below (suc first) id l ls (omega (arith, h))))
-keep_at (x ∷ ls) (suc k) first id l h =
-    cons_both (sym (missed id first l x (λ e. omega (arith, h, e)))) (keep_at ls k (suc first) id l (omega (arith, h)))
+    sym (cons_both (ap (λ (n : ℕ). line_if (n == first) l x) e ∙ met first l x) (noted_below (suc first) id l ls (omega (arith, h))))
+noted_one_at (x ∷ ls) (suc k) first id l h =
+    cons_both (sym (missed id first l x (λ e. omega (arith, h, e)))) (noted_one_at ls k (suc first) id l (omega (arith, h)))
 
 -- a number from the first on
-pub keep_one : (ls : List ℕ) (first id l : ℕ) → first ≤ id → set ls (id - first) l ≡ kept first (start id l ∷ []) ls
-keep_one ls first id l h = keep_at ls (id - first) first id l (omega (arith, h))
+pub noted_one : (ls : List ℕ) (first id l : ℕ) → first ≤ id → set ls (id - first) l ≡ noted first (start id l ∷ []) ls
+noted_one ls first id l h = noted_one_at ls (id - first) first id l (omega (arith, h))
 
 -- a number past the last
-pub keep_past : (ls : List ℕ) (first id l : ℕ) → first ≤ id → length ls ≤ id - first → ls ≡ kept first (start id l ∷ []) ls
-keep_past ls first id l h past = sym (set_past ls (id - first) l past) ∙ keep_one ls first id l h
+pub noted_past : (ls : List ℕ) (first id l : ℕ) → first ≤ id → length ls ≤ id - first → ls ≡ noted first (start id l ∷ []) ls
+noted_past ls first id l h past = sym (set_past ls (id - first) l past) ∙ noted_one ls first id l h
 
-pub keep_length : (first : ℕ) (ss : Starts) (ls : List ℕ) → length (kept first ss ls) ≡ length ls
-keep_length first ss [] = refl
-keep_length first ss (l ∷ ls) = ap suc (keep_length (suc first) ss ls)
+pub noted_length : (first : ℕ) (ss : Starts) (ls : List ℕ) → length (noted first ss ls) ≡ length ls
+noted_length first ss [] = refl
+noted_length first ss (l ∷ ls) = ap suc (noted_length (suc first) ss ls)
 
 -- what stands at each number
-kept_at : (first : ℕ) (ss : Starts) (n k id : ℕ) → k < n → id ≡ first + k → slice_get (kept first ss (replicate n 0)) k ≡ Some (line_among id ss 0)
-kept_at first ss zero k id h e = absurd (omega (arith, h))
-kept_at first ss (suc n) zero id h e = let f : first ≡ id = omega (arith, e) in ap (λ (x : ℕ). Some (line_among x ss 0)) f
-kept_at first ss (suc n) (suc k) id h e = kept_at (suc first) ss n k id (omega (arith, h)) (omega (arith, e))
+noted_at : (first : ℕ) (ss : Starts) (n k id : ℕ) → k < n → id ≡ first + k → slice_get (noted first ss (replicate n 0)) k ≡ Some (line_among id ss 0)
+noted_at first ss zero k id h e = absurd (omega (arith, h))
+noted_at first ss (suc n) zero id h e = let f : first ≡ id = omega (arith, e) in ap (λ (x : ℕ). Some (line_among x ss 0)) f
+noted_at first ss (suc n) (suc k) id h e = noted_at (suc first) ss n k id (omega (arith, h)) (omega (arith, e))
 
-pub all_kept : (ss : Starts) (n id : ℕ) → id < n → slice_get (kept 0 ss (replicate n 0)) id ≡ Some (line_among id ss 0)
-all_kept ss n id h = kept_at 0 ss n id id h (omega arith)
+pub all_noted : (ss : Starts) (n id : ℕ) → id < n → slice_get (noted 0 ss (replicate n 0)) id ≡ Some (line_among id ss 0)
+all_noted ss n id h = noted_at 0 ss n id id h (omega arith)
 
 -- ---- one statement after another
 
@@ -120,16 +120,16 @@ turn_fits f xs i x line next most h is n m =
     omega (arith, e, w, m)
 
 -- what is written down for one more
-pub turn_kept : {X : Type 0} (f : X → Placed) (xs : List X) (i : ℕ) (x : X) (first line next : ℕ) (old out new : List ℕ) → i < length xs → x ≡ get_or xs i x
-    → next ≡ line + heights (map f (take i xs)) → out ≡ kept first (block_starts (map f (take i xs)) line) old → new ≡ kept first (starts_from (f x) next) out
-    → new ≡ kept first (block_starts (map f (take (i + 1) xs)) line) old
-turn_kept f xs i x first line next old out new h is n p q =
-    q ∙ ap (kept first (starts_from (f x) next)) p
-    ∙ sym (keep_both first (block_starts (map f (take i xs)) line) (starts_from (f x) next) old)
-    ∙ ap (λ (y : Starts). kept first (block_starts (map f (take i xs)) line ++ y) old) (ap (λ y. starts_from (f y) next) is ∙ ap (starts_from (f (get_or xs i x))) n)
-    ∙ ap (λ (y : Starts). kept first y old) (sym (starts_more f xs i x line h))
+pub turn_noted : {X : Type 0} (f : X → Placed) (xs : List X) (i : ℕ) (x : X) (first line next : ℕ) (old out new : List ℕ) → i < length xs → x ≡ get_or xs i x
+    → next ≡ line + heights (map f (take i xs)) → out ≡ noted first (block_starts (map f (take i xs)) line) old → new ≡ noted first (starts_from (f x) next) out
+    → new ≡ noted first (block_starts (map f (take (i + 1) xs)) line) old
+turn_noted f xs i x first line next old out new h is n p q =
+    q ∙ ap (noted first (starts_from (f x) next)) p
+    ∙ sym (noted_both first (block_starts (map f (take i xs)) line) (starts_from (f x) next) old)
+    ∙ ap (λ (y : Starts). noted first (block_starts (map f (take i xs)) line ++ y) old) (ap (λ y. starts_from (f y) next) is ∙ ap (starts_from (f (get_or xs i x))) n)
+    ∙ ap (λ (y : Starts). noted first y old) (sym (starts_more f xs i x line h))
 
 -- ---- one part after another
 
-pub then_kept : (first : ℕ) (ss ts : Starts) (old between new : List ℕ) → between ≡ kept first ss old → new ≡ kept first ts between → new ≡ kept first (ss ++ ts) old
-then_kept first ss ts old between new p q = q ∙ ap (kept first ts) p ∙ sym (keep_both first ss ts old)
+pub then_noted : (first : ℕ) (ss ts : Starts) (old between new : List ℕ) → between ≡ noted first ss old → new ≡ noted first ts between → new ≡ noted first (ss ++ ts) old
+then_noted first ss ts old between new p q = q ∙ ap (noted first ts) p ∙ sym (noted_both first ss ts old)
