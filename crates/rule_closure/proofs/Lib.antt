@@ -1,3 +1,4 @@
+pub mod Chains
 pub mod ListLemmas
 pub mod Marking
 pub mod RuleLemmas
