@@ -11,6 +11,7 @@ pub mod ScopedForms
 pub mod ScopeNumbers
 pub mod TreedForms
 pub mod Lists
+pub mod MainLemmas
 pub mod Keywords
 pub mod FormedTokens
 pub mod Options

@@ -27,6 +27,8 @@ pub mod Phrases
 pub mod Uses
 pub mod ExprRules
 pub mod NameRules
+pub mod Mains
+pub mod Names
 pub mod StructRules
 pub mod ArrayRules
 pub mod TypeRules

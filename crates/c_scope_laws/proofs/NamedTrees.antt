@@ -22,7 +22,7 @@ use Rattle.c_language.proofs.Options.{none_there, some_same}
 use Rattle.c_scope_laws.specs.Agreement.{NamedIn}
 use Rattle.projection.specs.Kept.{Kept}
 use Rattle.c_scope_laws.specs.Thinning.{name_stays, found, EntryStays}
-use Rattle.projection.specs.Names.{names_step, names}
+use Rattle.c_language.specs.Names.{names_step, names}
 use Rattle.projection.proofs.NameForms.{names-Binary, names-AndAlso, names-OrElse, names-Choose, names-Index}
 use Rattle.c_scope_laws.proofs.Trees.{in_none, in_one}
 

@@ -30,7 +30,7 @@ use Rattle.c_scope_laws.specs.Agreement.{NamedIn, NamedAmong, Names, NamesFuncti
 use Rattle.c_scope_laws.specs.Following.{TextsAgree, ScopesAgree, kept_functions}
 use Rattle.projection.specs.Kept.{Kept}
 use Rattle.c_scope_laws.specs.Thinning.{found, EntryStays, ThinAll}
-use Rattle.projection.specs.Names.{names}
+use Rattle.c_language.specs.Names.{names}
 use Rattle.projection.specs.Projection.{projected_all, projected_program}
 use Rattle.c_scope_laws.specs.ThinTexts.{IsThinner, all_kept, full_item}
 use Rattle.c_scope_laws.specs.ThinnedBodies.{AreMet, body_left}

@@ -18,7 +18,8 @@ use Rattle.c_tree.proofs.SearchLemmas.{stands_left, stands_right, own_of}
 use Rattle.c_tree.proofs.LayerLemmas.{inner-If, inner-While, inner-Do, inner-For, inner-Switch}
 use Rattle.c_language.proofs.Options.{none_there}
 use Rattle.projection.specs.Kept.{rank}
-use Rattle.projection.specs.Names.{names, any_of, refers_step, refers_arm, refers, arm_refers, body_refers, stays}
+use Rattle.c_language.specs.Names.{names}
+use Rattle.projection.specs.Names.{any_of, refers_step, refers_arm, refers, arm_refers, body_refers, stays}
 use Rattle.projection.specs.Renumbering.{renamed}
 use Rattle.projection.specs.Projection.{first_statement, alone, projected_step, projected_arm_step, projected_function, projected_functions}
 use Rattle.projection_laws.specs.Nested.{Nest, any_kept, all_fit, nest_step, nest_arm, nest, arm_nest, is_nested, IsNested}

@@ -8,7 +8,8 @@ use Rattle.c_tree.specs.declared.statement.Statement.{Statement, fold-roll-State
 use Rattle.c_tree.specs.declared.statement.Statement.TheOpen.{Statement-F}
 use Rattle.c_tree.specs.declared.statement.Statement.TheVariants as s
 use Rattle.c_tree.specs.declared.statement.Arm.{Arm, fold-roll-Arm}
-use Rattle.projection.specs.Names.{names_step, names, any_of, refers_step, refers_arm, refers, arm_refers, body_refers}
+use Rattle.c_language.specs.Names.{names_step, names}
+use Rattle.projection.specs.Names.{any_of, refers_step, refers_arm, refers, arm_refers, body_refers}
 use Rattle.projection.specs.Referring.{part_refers, arms_refer}
 
 pub names-Binary : (op : BinaryOp) (a b : Expr) (x : ℕ) → names (e.Binary op a b) x ≡ (names a x || names b x)

@@ -2,6 +2,7 @@
 ghost use Rattle.std.specs.Prelude.{◌≡◌, ℕ, ◌==◌, ◌&&◌, ◌||◌, OnOk, IfOk};
 ghost use Rattle.bit_rows.specs.Sets.{has};
 ghost use Rattle.projection.specs.Referring.{Adds, part_refers, arms_refer, functions_refer};
+ghost use Rattle.c_language.specs.Names as words;
 ghost use Rattle.projection.specs.Names as spec;
 
 use crate::ranks::is_kept;
@@ -40,7 +41,7 @@ fn mark(used: &mut Vec<bool>, var: VarId) -> Result<(), AllocError>
 
 // Marks the variables that an expression names.
 fn mark_names(used: &mut Vec<bool>, e: &Expr) -> Result<(), AllocError>
-    ensures { OnOk result (Adds used.old.items used.new.items (spec.names e.now)) }
+    ensures { OnOk result (Adds used.old.items used.new.items (words.names e.now)) }
 {
     match e {
         Expr::Constant(_, _, _) => Ok(()),
@@ -75,7 +76,7 @@ fn mark_names(used: &mut Vec<bool>, e: &Expr) -> Result<(), AllocError>
 }
 
 fn mark_all(used: &mut Vec<bool>, list: &[Expr]) -> Result<(), AllocError>
-    ensures { OnOk result (Adds used.old.items used.new.items (spec.any_names list.now)) }
+    ensures { OnOk result (Adds used.old.items used.new.items (words.any_names list.now)) }
 {
     for e in list {
         mark_names(used, e)?;
@@ -84,7 +85,7 @@ fn mark_all(used: &mut Vec<bool>, list: &[Expr]) -> Result<(), AllocError>
 }
 
 fn mark_init(used: &mut Vec<bool>, init: &Init) -> Result<(), AllocError>
-    ensures { OnOk result (Adds used.old.items used.new.items (spec.init_names init.now)) }
+    ensures { OnOk result (Adds used.old.items used.new.items (words.init_names init.now)) }
 {
     match init {
         Init::None => Ok(()),
@@ -100,7 +101,7 @@ fn mark_init(used: &mut Vec<bool>, init: &Init) -> Result<(), AllocError>
 }
 
 fn mark_target(used: &mut Vec<bool>, to: &Target) -> Result<(), AllocError>
-    ensures { OnOk result (Adds used.old.items used.new.items (spec.target_names to.now)) }
+    ensures { OnOk result (Adds used.old.items used.new.items (words.target_names to.now)) }
 {
     match to {
         Target::None => Ok(()),
@@ -116,7 +117,7 @@ fn mark_target(used: &mut Vec<bool>, to: &Target) -> Result<(), AllocError>
 }
 
 fn mark_size(used: &mut Vec<bool>, size: &Size) -> Result<(), AllocError>
-    ensures { OnOk result (Adds used.old.items used.new.items (spec.size_names size.now)) }
+    ensures { OnOk result (Adds used.old.items used.new.items (words.size_names size.now)) }
 {
     match size {
         Size::Type(_) => Ok(()),
@@ -128,7 +129,7 @@ fn mark_size(used: &mut Vec<bool>, size: &Size) -> Result<(), AllocError>
 }
 
 fn mark_amount(used: &mut Vec<bool>, amount: &Amount) -> Result<(), AllocError>
-    ensures { OnOk result (Adds used.old.items used.new.items (spec.amount_names amount.now)) }
+    ensures { OnOk result (Adds used.old.items used.new.items (words.amount_names amount.now)) }
 {
     match amount {
         Amount::Size(size) => {
@@ -155,7 +156,7 @@ fn mark_amount(used: &mut Vec<bool>, amount: &Amount) -> Result<(), AllocError>
 // ---- the words of a statement, where it is kept
 
 fn mark_word(used: &mut Vec<bool>, keeps: bool, e: &Expr) -> Result<(), AllocError>
-    ensures { OnOk result (Adds used.old.items used.new.items (λ x. keeps && spec.names e.now x)) }
+    ensures { OnOk result (Adds used.old.items used.new.items (λ x. keeps && words.names e.now x)) }
 {
     if !keeps {
         return Ok(());
@@ -192,7 +193,7 @@ fn mark_assigned(
     left: &Expr,
     right: &Expr,
 ) -> Result<(), AllocError>
-    ensures { OnOk result (Adds used.old.items used.new.items (λ x. keeps && (spec.names left.now x || spec.names right.now x))) }
+    ensures { OnOk result (Adds used.old.items used.new.items (λ x. keeps && (words.names left.now x || words.names right.now x))) }
 {
     if !keeps {
         return Ok(());
@@ -208,7 +209,7 @@ fn mark_called(
     to: &Target,
     args: &[Expr],
 ) -> Result<(), AllocError>
-    ensures { OnOk result (Adds used.old.items used.new.items (λ x. keeps && (spec.target_names to.now x || spec.any_names args.now x))) }
+    ensures { OnOk result (Adds used.old.items used.new.items (λ x. keeps && (words.target_names to.now x || words.any_names args.now x))) }
 {
     if !keeps {
         return Ok(());
@@ -219,7 +220,7 @@ fn mark_called(
 }
 
 fn mark_fetched(used: &mut Vec<bool>, keeps: bool, to: &Target) -> Result<(), AllocError>
-    ensures { OnOk result (Adds used.old.items used.new.items (λ x. keeps && spec.target_names to.now x)) }
+    ensures { OnOk result (Adds used.old.items used.new.items (λ x. keeps && words.target_names to.now x)) }
 {
     if !keeps {
         return Ok(());
@@ -229,7 +230,7 @@ fn mark_fetched(used: &mut Vec<bool>, keeps: bool, to: &Target) -> Result<(), Al
 }
 
 fn mark_printed(used: &mut Vec<bool>, keeps: bool, args: &[Expr]) -> Result<(), AllocError>
-    ensures { OnOk result (Adds used.old.items used.new.items (λ x. keeps && spec.any_names args.now x)) }
+    ensures { OnOk result (Adds used.old.items used.new.items (λ x. keeps && words.any_names args.now x)) }
 {
     if !keeps {
         return Ok(());
@@ -244,7 +245,7 @@ fn mark_allocated(
     to: &Target,
     amount: &Amount,
 ) -> Result<(), AllocError>
-    ensures { OnOk result (Adds used.old.items used.new.items (λ x. keeps && (spec.target_names to.now x || spec.amount_names amount.now x))) }
+    ensures { OnOk result (Adds used.old.items used.new.items (λ x. keeps && (words.target_names to.now x || words.amount_names amount.now x))) }
 {
     if !keeps {
         return Ok(());
@@ -255,7 +256,7 @@ fn mark_allocated(
 }
 
 fn mark_returned(used: &mut Vec<bool>, keeps: bool, value: &Option<Expr>) -> Result<(), AllocError>
-    ensures { OnOk result (Adds used.old.items used.new.items (λ x. keeps && spec.value_names value.now x)) }
+    ensures { OnOk result (Adds used.old.items used.new.items (λ x. keeps && words.value_names value.now x)) }
 {
     match value {
         None => Ok(()),

@@ -36,7 +36,8 @@ use Rattle.c_language.proofs.Options.{none_there, some_same, more_there}
 use Rattle.c_language.proofs.Tests.{false_true, by_or}
 use Rattle.c_language.proofs.Lists.{contains_later}
 use Rattle.projection.specs.Kept.{Kept}
-use Rattle.projection.specs.Names.{names, any_names, value_names, any_of, if_any, refers, arm_refers}
+use Rattle.c_language.specs.Names.{names, any_names, value_names}
+use Rattle.projection.specs.Names.{any_of, if_any, refers, arm_refers}
 use Rattle.projection.proofs.NamesPass.{NamesPass}
 use Rattle.c_scope_laws.specs.Agreement.{NamedIn, NamedAmong, Names}
 use Rattle.c_scope_laws.specs.Thinning.{name_stays, found, EntryStays, NamesStay, LabelsStay, declares, after_list, block_after, part_scope, body_scope}

@@ -28,7 +28,8 @@ use Rattle.c_language.proofs.ScopedForms.{scoped-Declare, scoped-Assign, scoped-
 use Rattle.c_language.proofs.Options.{none_there, some_same, map_there, then_there, both_there, more_there}
 use Rattle.c_language.proofs.Tests.{false_true, by_or}
 use Rattle.c_language.proofs.Lists.{contains_first, contains_later}
-use Rattle.projection.specs.Names.{names_step, names, any_names, value_names, any_of, if_any, refers, arm_refers}
+use Rattle.c_language.specs.Names.{names_step, names, any_names, value_names}
+use Rattle.projection.specs.Names.{any_of, if_any, refers, arm_refers}
 use Rattle.c_scope_laws.specs.Thinning.{found, after_list, block_after, part_scope, body_scope}
 use Rattle.c_scope_laws.proofs.Trees.{by_operands}
 use Rattle.projection_laws.specs.Nested.{any_kept, part_kept, nest, arm_nest}

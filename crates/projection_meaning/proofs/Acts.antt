@@ -29,7 +29,7 @@ use Rattle.dep_model.specs.declared.location.Root.TheVariants.{Input, Variable, 
 use Rattle.dep_model.proofs.PlainEffects as effect
 use Rattle.dep_model.proofs.PlainEffects.{is_root_of, is_variable, is_input_root, is_input, is_result_root, is_result, reads, any_reads, init_reads, compound_reads, amount_reads, value_reads, target_places, uses, defines, kills}
 use Rattle.projection_meaning.proofs.Targets.{place, target_place, begun_target, act_target}
-use Rattle.projection.specs.Names.{names, any_names, init_names, target_names, size_names, amount_names, value_names}
+use Rattle.c_language.specs.Names.{names, any_names, init_names, target_names, size_names, amount_names, value_names}
 use Rattle.projection_meaning.proofs.CodeNames.{act_names}
 use Rattle.projection.specs.Renumbering.{renamed, renamed_init}
 use Rattle.projection.proofs.NamesPass.{NamesPass}

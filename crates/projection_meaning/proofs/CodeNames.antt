@@ -1,7 +1,7 @@
 -- The variables that the words of acts name.
 use Rattle.std.specs.Prelude.{ℕ, ◌==◌, Bool, ◌||◌}
 use Rattle.c_language.specs.Code.{Act, Begins, Sets, Bumps, Fetches, Writes, Prints, Allocates, Frees, Returns, Tests}
-use Rattle.projection.specs.Names.{names, any_names, init_names, target_names, amount_names, value_names}
+use Rattle.c_language.specs.Names.{names, any_names, init_names, target_names, amount_names, value_names}
 
 -- whether the words of an act name a variable
 abbrev pub act_names : Act → ℕ → Bool

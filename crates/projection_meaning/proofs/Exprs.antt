@@ -24,7 +24,7 @@ use Rattle.dep_model.specs.declared.location.Root.TheVariants.{Input, Variable, 
 use Rattle.dep_model.specs.declared.location.Part.{Part}
 use Rattle.dep_model.proofs.PlainEffects as effect
 use Rattle.dep_model.proofs.PlainEffects.{is_root_of, is_whole, is_variable, reads_step, reads, places_step, places}
-use Rattle.projection.specs.Names.{names_step, names}
+use Rattle.c_language.specs.Names.{names_step, names}
 use Rattle.projection.specs.Renumbering.{renamed}
 use Rattle.std.proofs.lemmas.Bool.{or_left, or_right, or_cases}
 use Rattle.std.proofs.lemmas.Option.{same_Some}

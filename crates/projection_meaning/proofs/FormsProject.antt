@@ -14,7 +14,8 @@ use Rattle.c_tree.specs.declared.statement.Target.TheVariants as target
 use Rattle.c_language.specs.Code.{Act, Code, End, Opens, Plain, Fork, Loop, ◌⨟◌, leave, StatementPart, doing, declared_in, in_turn, list_of, block, declaring, given_to, part, either}
 use Rattle.c_language.proofs.CodeLemmas.{part_list, block_of}
 use Rattle.projection.specs.Kept.{rank}
-use Rattle.projection.specs.Names.{names, target_names, stays}
+use Rattle.c_language.specs.Names.{names, target_names}
+use Rattle.projection.specs.Names.{stays}
 use Rattle.projection.specs.Renumbering.{renamed, renamed_target}
 use Rattle.projection.specs.Projection as Projection
 use Rattle.projection.specs.Projection.{if_so, bare, bare_target, alone}

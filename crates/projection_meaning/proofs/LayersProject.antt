@@ -17,7 +17,8 @@ use Rattle.c_language.specs.Code as language
 use Rattle.c_language.specs.Code.{Act, Begins, Sets, Bumps, Fetches, Writes, Prints, Allocates, Frees, Returns, Code, End, Plain, Fork, Loop, Call, ◌⨟◌, leave, is_true, StatementPart, doing, declared_in, list_of, given_to, has_case, has_default, ArmPart, default_arm, case_arm, taken_arm, part_step, arm_step, part}
 use Rattle.c_language.proofs.CodeLemmas.{arm_part, part_list, block_of}
 use Rattle.projection.specs.Kept.{rank}
-use Rattle.projection.specs.Names.{names, any_names, init_names, target_names, amount_names, any_of, refers_step, refers_arm, refers, arm_refers, stays}
+use Rattle.c_language.specs.Names.{names, any_names, init_names, target_names, amount_names}
+use Rattle.projection.specs.Names.{any_of, refers_step, refers_arm, refers, arm_refers, stays}
 use Rattle.projection.specs.Renumbering.{renamed, renamed_init, renamed_target, renamed_amount, renamed_label}
 use Rattle.projection.specs.Projection.{if_so, first_statement, projected_step, projected_arm_step}
 use Rattle.projection.specs.Projection as Projection

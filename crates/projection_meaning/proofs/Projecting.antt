@@ -3,7 +3,7 @@ use Rattle.std.proofs.Common.{◌≡◌, ℕ, ℤ, List, [], ◌∷◌, map, Boo
 use Rattle.std.specs.Prelude.{option_map, ◌||◌}
 use Rattle.c_language.specs.Code.{Act, Begins, Sets, Bumps, Fetches, Writes, Prints, Allocates, Frees, Returns, Tests, Code, End, Opens, Plain, Fork, Loop, Leaves, Call, leave, either}
 use Rattle.projection.specs.Kept.{rank}
-use Rattle.projection.specs.Names.{names, any_names, target_names}
+use Rattle.c_language.specs.Names.{names, any_names, target_names}
 use Rattle.projection.specs.Renumbering.{renamed, renamed_init, renamed_target, renamed_amount}
 use Rattle.projection.specs.Projection.{if_so}
 use Rattle.projection_meaning.proofs.CodeNames.{act_names}

@@ -1,4 +1,4 @@
-use Rattle.projection.specs.Names.{names}
+use Rattle.c_language.specs.Names.{names}
 use Rattle.projection.proofs.MarkLemmas.{adds_both, adds_three}
 use Rattle.projection.proofs.NameForms.{names-Choose, names_two}
 use Rattle.projection.proofs.referring.+mark_names.Goals as goal

@@ -1,6 +1,6 @@
 use Rattle.std.proofs.Common.{◌≡◌, ℕ, ◌||◌, drop}
 use Rattle.bit_rows.specs.Sets.{has}
-use Rattle.projection.specs.Names.{any_names}
+use Rattle.c_language.specs.Names.{any_names}
 use Rattle.projection.proofs.referring.mark_all.Given as goal
 
 abbrev pub invariant-loop-e : goal.invariant-loop-e
