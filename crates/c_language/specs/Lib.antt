@@ -15,6 +15,8 @@ pub mod TypeGrammar
 pub mod Nesting
 pub mod StatementGrammar
 pub mod ItemGrammar
+pub mod Spellings
+pub mod Syntax
 pub mod StatementNesting
 pub mod LeftOut
 pub mod ConstantEvaluation
