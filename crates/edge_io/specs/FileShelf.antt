@@ -13,3 +13,7 @@ faults_of shelf = shelf.faults
 -- its count of files found too long
 abbrev pub long_files_of : {R : Type 0} → FileShelf R → ℕ
 long_files_of shelf = shelf.long_files
+
+-- how many fetches it made
+abbrev pub fetches_of : {R : Type 0} → FileShelf R → ℕ
+fetches_of shelf = shelf.fetches

@@ -1,6 +1,6 @@
 //! The shelf over real files, which reads at most so many bytes of each and counts faults.
 ghost use Rattle.std.specs.Prelude.{◌≡◌, ◌≢◌, ◌⊎◌, ◌<◌, ◌≤◌, ◌^◌, None, IfOk, IfErr, IfSome, IsErrOf, take, length, vec_len};
-ghost use Rattle.edge_io.specs.Count.{Rose, NeverFalls, Counts};
+ghost use Rattle.edge_io.specs.Count.{Rose, NeverFalls, Counts, one_more};
 ghost use Rattle.edge_io.specs.ReadCalls.{Gives, GivesAll, GivesMoreThan, IsUnreadable, IsOpened, IsUnfetchable};
 
 use crate::calls::is_interrupted;
@@ -16,31 +16,36 @@ pub struct FileShelf<R> {
     files: R,
     faults: u64,
     long_files: u64,
+    fetches: u64,
 }
 
 impl<R: Opener + Drop> FileShelf<R> {
-    ghost use Rattle.edge_io.specs.FileShelf.{files_of, faults_of, long_files_of};
+    ghost use Rattle.edge_io.specs.FileShelf.{files_of, faults_of, long_files_of, fetches_of};
 
-    /// The files that this runtime reaches. Both counts are 0.
+    /// The files that this runtime reaches. All counts are 0.
     pub fn new(files: R) -> FileShelf<R>
         ensures files { files_of result ≡ files }
         ensures faults { faults_of result ≡ 0 }
         ensures long_files { long_files_of result ≡ 0 }
+        ensures fetches { fetches_of result ≡ 0 }
     {
         FileShelf {
             files,
             faults: 0,
             long_files: 0,
+            fetches: 0,
         }
     }
 }
 
 impl<R: Opener + Drop> Shelf for FileShelf<R> {
-    ghost use Rattle.edge_io.specs.FileShelf.{files_of, faults_of, long_files_of};
+    ghost use Rattle.edge_io.specs.FileShelf.{files_of, faults_of, long_files_of, fetches_of};
 
     ghost faults = { faults_of };
 
     ghost long_files = { long_files_of };
+
+    ghost fetches = { fetches_of };
 
     ghost contents = { λ _. None };
 
@@ -52,6 +57,7 @@ impl<R: Opener + Drop> Shelf for FileShelf<R> {
         // What every shelf ensures, of one that tells no contents and may fail at any time.
         ensures faults { NeverFalls (faults_of self.old) (faults_of self.new) }
         ensures long_files { NeverFalls (long_files_of self.old) (long_files_of self.new) }
+        ensures fetches { fetches_of self.new ≡ one_more (fetches_of self.old) }
         ensures at_most { IfOk result (λ bytes. vec_len bytes ≤ most) }
         ensures failed { IfErr result (λ fault. fault ≡ FetchFault.Failed
             → Rose (faults_of self.old) (faults_of self.new)) }
@@ -74,6 +80,7 @@ impl<R: Opener + Drop> Shelf for FileShelf<R> {
         ensures unfetchable { IfErr result (λ fault. fault ≡ FetchFault.Failed
             → IsUnfetchable R.may_open ⟦<R::File as Source>⟧.may_read (files_of self.old) name.now) }
     {
+        self.fetches = self.fetches.saturating_add(1);
         let fetched = read_file(&self.files, alloc, name, most);
         match &fetched {
             Err(FetchFault::Failed) => self.faults = self.faults.saturating_add(1),

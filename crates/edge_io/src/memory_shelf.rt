@@ -58,6 +58,8 @@ impl Shelf for MemoryShelf {
 
     ghost long_files = { long_files_of };
 
+    ghost fetches = { fetches_of };
+
     ghost contents = { contents_of };
 
     ghost never_fails = { NeverFails };
@@ -70,6 +72,7 @@ impl Shelf for MemoryShelf {
         // What every shelf ensures.
         ensures faults { NeverFalls (faults_of self.old) (faults_of self.new) }
         ensures long_files { NeverFalls (long_files_of self.old) (long_files_of self.new) }
+        ensures fetches { fetches_of self.new ≡ one_more (fetches_of self.old) }
         ensures contents { contents_of self.new ≡ contents_of self.old }
         ensures at_most { IfOk result (λ bytes. vec_len bytes ≤ most) }
         ensures bytes { IfOk result (λ bytes. IsAsTold (contents_of self.old) name.now bytes.items) }
@@ -85,8 +88,7 @@ impl Shelf for MemoryShelf {
         ensures missing { NeverFails self.old → IfErr result (λ fault. fault ≡ FetchFault.Failed
             → Lacks (contents_of self.old) name.now) }
 
-        // The next fetch has the next number. The files and the failing numbers stay.
-        ensures fetches { fetches_of self.new ≡ one_more (fetches_of self.old) }
+        // The files and the failing numbers stay.
         ensures files { files_of self.new ≡ files_of self.old }
         ensures failing { failing_of self.new ≡ failing_of self.old }
 

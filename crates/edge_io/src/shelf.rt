@@ -1,7 +1,7 @@
 //! A shelf: files that are fetched by name. Its trait says what a fetch may give.
 ghost use Rattle.std.specs.Prelude.{◌≡◌, ◌⊎◌, ◌≤◌, ◌^◌, ℕ, List, Option, IsSome, IfOk, IfErr, OnOk, vec_len};
 ghost use Rattle.edge_io.specs.declared.shelf.FetchFault.TheVariants.{NoMemory};
-ghost use Rattle.edge_io.specs.Count.{Rose, NeverFalls};
+ghost use Rattle.edge_io.specs.Count.{Rose, NeverFalls, one_more};
 ghost use Rattle.edge_io.specs.Contents.{Lacks, IsAsTold, HoldsMoreThan};
 
 use std::alloc::{AllocError, Global};
@@ -37,6 +37,9 @@ pub trait Shelf {
     /// How many files were found too long, up to 2^64 - 1.
     ghost long_files: { Self → ℕ };
 
+    /// How many fetches there were, up to 2^64 - 1.
+    ghost fetches: { Self → ℕ };
+
     /// The bytes under each name, of a shelf that tells them.
     ghost contents: { Self → Option (List ℕ → Option (List ℕ)) };
 
@@ -52,6 +55,7 @@ pub trait Shelf {
 
         ensures faults { NeverFalls (faults self.old) (faults self.new) }
         ensures long_files { NeverFalls (long_files self.old) (long_files self.new) }
+        ensures fetches { fetches self.new ≡ one_more (fetches self.old) }
         ensures contents { contents self.new ≡ contents self.old }
 
         ensures at_most { IfOk result (λ bytes. vec_len bytes ≤ most) }
