@@ -25,6 +25,3 @@ pub use raw::{
 pub use sqlite_items::{Boxed, Items};
 pub use statement::{Amount, Arm, Label, Size, Statement, Target};
 pub use types::{CType, FunctionId, StatementId, StructId, VarId};
-
-#[cfg(test)]
-mod tests;

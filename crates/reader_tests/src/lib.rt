@@ -17,6 +17,8 @@ mod text_tests;
 #[cfg(test)]
 mod tokens;
 #[cfg(test)]
+mod tree_tests;
+#[cfg(test)]
 mod trees;
 #[cfg(test)]
 mod type_tests;

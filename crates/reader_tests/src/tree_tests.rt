@@ -1,7 +1,6 @@
 //! Tests that statements are found by their numbers, and that a copy prints as what it is a copy of.
-use crate::copies::Copies;
-use crate::numbered::{Start, own_start, statement};
-use crate::{
+use c_tree::numbered::{Start, own_start, statement};
+use c_tree::{
     Amount, Arm, Boxed, CType, Expr, Function, Init, IntType, Item, Items, Label, Member, Program,
     Size, Statement, StructDef, Target, Text, Var,
 };
@@ -260,6 +259,17 @@ fn prototype(alloc: Global) -> Result<Item, AllocError> {
         names,
         is_static: false,
     })
+}
+
+/// What can be copied.
+trait Copies: Drop {
+    fn duplicate(&self, alloc: Global) -> Result<Self, AllocError>;
+}
+
+impl Copies for Expr {
+    fn duplicate(&self, alloc: Global) -> Result<Expr, AllocError> {
+        self.copy(alloc)
+    }
 }
 
 impl Copies for Init {
