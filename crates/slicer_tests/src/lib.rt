@@ -5,6 +5,8 @@
 #[cfg(test)]
 mod exit_tests;
 #[cfg(test)]
+mod graph_tests;
+#[cfg(test)]
 mod layout_tests;
 #[cfg(test)]
 mod order_tests;
@@ -16,3 +18,5 @@ mod projection_tests;
 mod run_tests;
 #[cfg(test)]
 mod running;
+#[cfg(test)]
+mod skeleton_tests;
