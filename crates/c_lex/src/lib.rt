@@ -14,8 +14,6 @@ mod mark;
 mod number;
 mod piece;
 mod place;
-#[cfg(test)]
-mod tests;
 mod word;
 
 pub use c_language::{Token, TokenKind};

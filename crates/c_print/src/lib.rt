@@ -13,8 +13,6 @@ mod margin;
 mod names;
 mod parts;
 mod statements;
-#[cfg(test)]
-mod trees;
 mod types;
 mod words;
 

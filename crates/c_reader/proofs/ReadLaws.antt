@@ -18,7 +18,8 @@ use Rattle.c_types.specs.Checker.{IsWithinNumbers}
 use Rattle.c_types.specs.declared.rule_fault.RuleFault.{RuleFault}
 use Rattle.c_types.specs.declared.rule_fault.RuleFault.TheVariants as rule
 use Rattle.c_types.proofs.CheckerLaws.{not_within}
-use Rattle.c_reader.specs.Reading.{ReadsProgram, ReadsTree, IsLexFault, IsParseFault, IsRight, Gives, IsNesting, IsTooDeep, IsChecked, IsReadAs, IsAnswer, IsRuleFault}
+use Rattle.c_reader.specs.Reading.{ReadsProgram, ReadsTree}
+use Rattle.c_reader.specs.Refusals.{IsLexFault, IsParseFault, IsRight, Gives, IsNesting, IsTooDeep, IsChecked, IsReadAs, IsAnswer, IsRuleFault}
 use Rattle.c_reader.specs.declared.refusal.ReadRefusal.{ReadRefusal}
 use Rattle.c_reader.specs.declared.refusal.ReadRefusal.TheVariants.{Lex, Parse, Check, NoMemory}
 use Rattle.c_language.proofs.FormedTokens.{formed_tokens}

@@ -1,12 +1,8 @@
 //! The reader as a whole: from the bytes of a text to its program, or a refusal that the text shows.
 #![tactic(auto)]
 
-#[cfg(test)]
-mod answer_tests;
 mod reader;
 mod refusal;
-#[cfg(test)]
-mod tests;
 
 pub use c_lex::LexFault;
 pub use c_parse::ParseFault;

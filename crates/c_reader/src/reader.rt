@@ -4,7 +4,8 @@ ghost use Rattle.c_tree.specs.declared.program.Program.{Program};
 ghost use Rattle.c_tree.specs.declared.raw.program.RawProgram.{RawProgram};
 ghost use Rattle.c_language.specs.Programs.{IsFormed, IsTree};
 ghost use Rattle.c_language.specs.StatementNesting.{program_nesting};
-ghost use Rattle.c_reader.specs.Reading.{ReadsProgram, ReadsTree, IsRight, Gives, IsTooDeep, IsChecked, Lexes, Parses, Checks, IsAnswer, IsRuleFault};
+ghost use Rattle.c_reader.specs.Reading.{ReadsProgram, ReadsTree};
+ghost use Rattle.c_reader.specs.Refusals.{IsRight, Gives, IsTooDeep, IsChecked, Lexes, Parses, Checks, IsAnswer, IsRuleFault};
 ghost use Rattle.c_types.specs.declared.rule_fault.RuleFault.{RuleFault};
 
 use crate::refusal::ReadRefusal;

@@ -21,6 +21,3 @@ pub use rule_closure::{Closure, Rule, VertexSet};
 pub use skeleton::{FlowGraph, Pair, PairList, Skeleton, VertexList};
 pub use switch_arms::taken_arms;
 pub use vertex::{Slot, Vertex, VertexId, VertexKind};
-
-#[cfg(test)]
-mod tests;

@@ -81,6 +81,3 @@ fn main_body(functions: &[Function]) -> &[Statement]
         None => &[],
     }
 }
-
-#[cfg(test)]
-mod tests;

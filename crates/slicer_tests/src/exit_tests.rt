@@ -31,7 +31,8 @@ fn ends_with<R: std::process::Abort + AllocGlobal + io::Eprint>(
     let mut out = MemorySink::new(alloc, 4096, Vec::new(alloc))?;
     let mut err = MemorySink::new(alloc, 4096, Vec::new(alloc))?;
     let exit: Exit = run_call(alloc, arguments, &mut shelf, &mut out, &mut err);
-    assert_eq!(rt; err.bytes(), told.as_bytes());
+    let written = String::from_utf8_lossy(alloc, err.bytes())?;
+    assert_eq!(rt; written.as_str(), told);
     assert_eq!(rt; out.bytes().is_empty(), code != 0);
     assert_eq!(rt; exit.report(rt), ExitCode::from(code));
     Ok(())

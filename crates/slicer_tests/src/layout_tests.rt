@@ -23,7 +23,8 @@ type Row<'a> = (&'a str, &'a str);
 fn prints<R: Abort + AllocGlobal>(rt: &R, row: Row<'_>) {
     let (text, layout) = row;
     let printed = laid_out(rt, text);
-    assert!(rt; printed.bytes() == layout.as_bytes());
+    let printed = String::from_utf8_lossy(rt.alloc(), printed.bytes()).expect(rt, "memory");
+    assert_eq!(rt; printed.as_str(), layout);
 }
 
 fn all_print<R: Abort + AllocGlobal>(rt: &R, rows: &[Row<'_>]) {

@@ -1,25 +1,13 @@
 //! Tests that go across crates: texts that are read, and what the crates above make of them, typed by hand
-//! from the language.
+//! from the language. Calls of the slicer that are a file, words and expected texts are cases of slicer_cases.
 #![tactic(auto)]
 
 #[cfg(test)]
-mod block_tests;
-#[cfg(test)]
-mod built_tests;
-#[cfg(test)]
 mod exit_tests;
 #[cfg(test)]
-mod for_tests;
-#[cfg(test)]
-mod if_tests;
-#[cfg(test)]
-mod integer_tests;
+mod graph_tests;
 #[cfg(test)]
 mod layout_tests;
-#[cfg(test)]
-mod line_tests;
-#[cfg(test)]
-mod loop_tests;
 #[cfg(test)]
 mod order_tests;
 #[cfg(test)]
@@ -27,12 +15,8 @@ mod programs;
 #[cfg(test)]
 mod projection_tests;
 #[cfg(test)]
-mod refusal_tests;
-#[cfg(test)]
 mod run_tests;
 #[cfg(test)]
 mod running;
 #[cfg(test)]
-mod spelling_tests;
-#[cfg(test)]
-mod switch_tests;
+mod skeleton_tests;

@@ -5,7 +5,7 @@ ghost use Rattle.slicer_top.specs.Words.{IsInForm, file_of, line_asked};
 ghost use Rattle.slicer_top.specs.Slices.{StartsSome, IsSliceOf};
 
 use crate::programs::TWO;
-use crate::running::{Ended, Failing, NONE_FAILING, Row, all_end, file, program, run, split_words};
+use crate::running::{Ended, Failing, NONE_FAILING, file, is_end, run, split_words};
 use edge_io::{MemoryShelf, MemorySink};
 use slicer_top::{Status, Text, run_slicer};
 use std::alloc::{AllocError, Global};
@@ -24,16 +24,6 @@ const TWO_AT_4: &str = r#"/* slice 4: 4 */
 #include <stdio.h>
 int main(void) {
     int b = 2;
-}
-"#;
-
-// The slice of that text again, at its own line.
-const TWO_AT_7_AT_6: &str = r#"/* slice 6: 6 */
-#include <stdio.h>
-int main(void) {
-    int a = 1;
-    a = a + 3;
-    printf("%d\n", a);
 }
 "#;
 
@@ -76,55 +66,8 @@ fn ends_on_two<R: std::process::Abort + AllocGlobal>(
     failing: &Failing<'_>,
     wanted: (Status, &str, &str),
 ) -> Result<(), Fail> {
-    let (status, out, err) = wanted;
     let ended = run_on_two(rt.alloc(), line, failing)?;
-    assert_eq!(rt; ended.status, status, "{line}");
-    assert_eq!(rt; ended.out.bytes(), out.as_bytes(), "{line}");
-    assert_eq!(rt; ended.err.bytes(), err.as_bytes(), "{line}");
-    Ok(())
-}
-
-#[test]
-fn a_line_where_a_statement_starts_is_sliced(rt: HostRuntime) -> Result<(), Fail> {
-    // The words, and the slice.
-    let rows = [
-        ("slice two.c 7", TWO_AT_7),
-        ("slice two.c 007", TWO_AT_7),
-        ("slice two.c 0000000004", TWO_AT_4),
-        ("slice two.c 4", TWO_AT_4),
-    ];
-    for (line, out) in rows {
-        ends_on_two(&rt, line, &NONE_FAILING, (Status::Done, out, ""))?;
-    }
-    Ok(())
-}
-
-#[test]
-fn a_line_where_no_statement_starts_is_refused(rt: HostRuntime) -> Result<(), Fail> {
-    // The words, and the line on err.
-    let rows = [
-        ("slice two.c 2", "2: no statement starts here\n"),
-        ("slice two.c 0", "0: no statement starts here\n"),
-        ("slice two.c 99", "99: no statement starts here\n"),
-        ("slice two.c 0099", "99: no statement starts here\n"),
-        ("slice two.c 9", "9: no statement starts here\n"),
-        (
-            "slice two.c 4294967295",
-            "4294967295: no statement starts here\n",
-        ),
-        (
-            "slice two.c 4294967303",
-            "4294967303: no statement starts here\n",
-        ),
-        (
-            "slice two.c 9999999999",
-            "9999999999: no statement starts here\n",
-        ),
-    ];
-    for (line, err) in rows {
-        ends_on_two(&rt, line, &NONE_FAILING, (Status::Refused, "", err))?;
-    }
-    Ok(())
+    is_end(rt, &ended, wanted, line)
 }
 
 #[test]
@@ -329,151 +272,9 @@ fn a_long_file_is_told(rt: HostRuntime) -> Result<(), Fail> {
         ))?;
         let words = split_words(alloc, "slice a.c 7")?;
         let ended = run(alloc, &words, files, &NONE_FAILING)?;
-        assert_eq!(rt; ended.status, status, "{length}");
-        assert_eq!(rt; ended.out.bytes(), b"".as_slice(), "{length}");
-        assert_eq!(rt; ended.err.bytes(), err.as_bytes(), "{length}");
+        is_end(&rt, &ended, (status, "", err), "slice a.c 7")?;
     }
     Ok(())
-}
-
-#[test]
-fn a_slice_is_sliced(rt: HostRuntime) -> Result<(), Fail> {
-    let rows: [Row<'_>; 2] = [
-        (TWO_AT_7, "slice t.c 6", TWO_AT_7_AT_6),
-        (TWO_AT_4, "slice t.c 4", TWO_AT_4),
-    ];
-    all_end(&rt, &rows)
-}
-
-// The lines of main, the first of which is line 3; the words; the header; the lines of the slice's main.
-type MainRow<'a> = (&'a str, &'a str, &'a str, &'a str);
-
-// The words over each of these mains end well, and out has gained the slice.
-fn all_keep<R: std::process::Abort + AllocGlobal>(
-    rt: &R,
-    rows: &[MainRow<'_>],
-) -> Result<(), Fail> {
-    let alloc = rt.alloc();
-    for row in rows.iter() {
-        let (lines, line, header, kept) = *row;
-        let text = program(alloc, "", lines)?;
-        let want = program(alloc, header, kept)?;
-        let words = split_words(alloc, line)?;
-        let ended = run(alloc, &words, file(alloc, "t.c", &text)?, &NONE_FAILING)?;
-        assert_eq!(rt; ended.status, Status::Done, "{line} of {lines}");
-        assert_eq!(rt; ended.out.bytes(), want.as_bytes(), "{line} of {lines}");
-        assert_eq!(rt; ended.err.bytes(), b"".as_slice(), "{line} of {lines}");
-    }
-    Ok(())
-}
-
-#[test]
-fn a_slice_keeps_what_its_line_uses(rt: HostRuntime) -> Result<(), Fail> {
-    let rows: [MainRow<'_>; 5] = [
-        // A chain of uses: what comes after the line goes.
-        (
-            r#"int x = 1;|int y = x + 2;|int z = y - 3;|printf("%d\n", z);"#,
-            "slice t.c 5",
-            "/* slice 5: 6 */\n",
-            "int x = 1;|int y = x + 2;|int z = y - 3;",
-        ),
-        (
-            r#"int x = 1;|int y = x + 2;|int z = y - 3;|printf("%d\n", z);"#,
-            "slice t.c 3",
-            "/* slice 3: 4 */\n",
-            "int x = 1;",
-        ),
-        // Both operands are used.
-        (
-            r#"int a = 1;|int b = 2;|int c = 3;|a = b - c;|b = a + 1;|printf("%d\n", b);"#,
-            "slice t.c 8",
-            "/* slice 8: 9 */\n",
-            r#"int a;|int b = 2;|int c = 3;|a = b - c;|b = a + 1;|printf("%d\n", b);"#,
-        ),
-        (
-            r#"int a = 1;|int b = 2;|int c = 3;|a = b - c;|b = a + 1;|printf("%d\n", b);"#,
-            "slice t.c 6",
-            "/* slice 6: 7 */\n",
-            "int a;|int b = 2;|int c = 3;|a = b - c;",
-        ),
-        // A constant depends on nothing.
-        (
-            r#"int a = 1;|printf("%d\n", 5);|printf("%d\n", a);"#,
-            "slice t.c 4",
-            "/* slice 4: 4 */\n",
-            r#"printf("%d\n", 5);"#,
-        ),
-    ];
-    all_keep(&rt, &rows)
-}
-
-#[test]
-fn a_slice_drops_what_its_line_does_not_use(rt: HostRuntime) -> Result<(), Fail> {
-    let rows: [MainRow<'_>; 4] = [
-        // A value that is overwritten goes; the declaration stays without it.
-        (
-            r#"int a = 1;|a = 2;|printf("%d\n", a);"#,
-            "slice t.c 5",
-            "/* slice 5: 6 */\n",
-            r#"int a;|a = 2;|printf("%d\n", a);"#,
-        ),
-        // A value that is overwritten by one made of it stays.
-        (
-            r#"int a = 1;|a = a - a;|a = a + 1;|printf("%d\n", a);"#,
-            "slice t.c 6",
-            "/* slice 6: 7 */\n",
-            r#"int a = 1;|a = a - a;|a = a + 1;|printf("%d\n", a);"#,
-        ),
-        // What is printed before doesn't count.
-        (
-            r#"int a = 1;|printf("%d\n", a);|printf("%d\n", a);|a = 2;"#,
-            "slice t.c 5",
-            "/* slice 5: 5 */\n",
-            r#"int a = 1;|printf("%d\n", a);"#,
-        ),
-        // An assignment that nothing uses, as the line itself.
-        (
-            r#"int a = 1;|int b = a;|b = 7;|a = b;"#,
-            "slice t.c 6",
-            "/* slice 6: 7 */\n",
-            "int a;|int b;|b = 7;|a = b;",
-        ),
-    ];
-    all_keep(&rt, &rows)
-}
-
-#[test]
-fn a_slice_keeps_the_declarations_that_it_names(rt: HostRuntime) -> Result<(), Fail> {
-    let rows: [MainRow<'_>; 4] = [
-        // A declaration without a value stays where kept text names its variable.
-        (
-            r#"int a;|int b;|a = 3;|b = a + a;|printf("%d\n", b);|printf("%d\n", a);"#,
-            "slice t.c 8",
-            "/* slice 8: 6 */\n",
-            r#"int a;|a = 3;|printf("%d\n", a);"#,
-        ),
-        (
-            r#"int a;|int b;|a = 3;|b = a + a;|printf("%d\n", b);|printf("%d\n", a);"#,
-            "slice t.c 7",
-            "/* slice 7: 8 */\n",
-            r#"int a;|int b;|a = 3;|b = a + a;|printf("%d\n", b);"#,
-        ),
-        // A variable that never got a value.
-        (
-            "int u;|int v = u + 1;|int w = 2;",
-            "slice t.c 4",
-            "/* slice 4: 5 */\n",
-            "int u;|int v = u + 1;",
-        ),
-        // Names and constants at their limits.
-        (
-            r#"int _x9 = 2147483647;|int Y_ = 0;|Y_ = Y_ - _x9;|printf("%d\n", Y_);"#,
-            "slice t.c 6",
-            "/* slice 6: 7 */\n",
-            r#"int _x9 = 2147483647;|int Y_ = 0;|Y_ = Y_ - _x9;|printf("%d\n", Y_);"#,
-        ),
-    ];
-    all_keep(&rt, &rows)
 }
 
 #[test]

@@ -68,49 +68,31 @@ pub(crate) fn file(
     Ok(files)
 }
 
-/// A program: the include, and main with these lines, between each two of which stands a `|`.
-pub(crate) fn program(alloc: Global, head: &str, lines: &str) -> Result<String, AllocError> {
-    let mut text = String::from_str(alloc, head)?;
-    text.push_str("#include <stdio.h>\nint main(void) {\n")?;
-    if !lines.is_empty() {
-        for line in lines.split('|') {
-            text.push_str("    ")?;
-            text.push_str(line)?;
-            text.push_str("\n")?;
-        }
-    }
-    text.push_str("}\n")?;
-    Ok(text)
+/// A call ended with this status, and out and err have gained these texts.
+pub(crate) fn is_end<R: std::process::Abort + AllocGlobal>(
+    rt: &R,
+    ended: &Ended,
+    wanted: (Status, &str, &str),
+    what: &str,
+) -> Result<(), Fail> {
+    let (status, out, err) = wanted;
+    let written = String::from_utf8_lossy(rt.alloc(), ended.out.bytes())?;
+    let told = String::from_utf8_lossy(rt.alloc(), ended.err.bytes())?;
+    assert_eq!(rt; ended.status, status, "{what}");
+    assert_eq!(rt; written.as_str(), out, "{what}");
+    assert_eq!(rt; told.as_str(), err, "{what}");
+    Ok(())
 }
 
-/// The words `slice t.c LINE` over this text end with this status, and out and err have gained this.
+/// The words of this line over this text, the file `t.c`, end with this status, and out and err have gained this.
 pub(crate) fn ends<R: std::process::Abort + AllocGlobal>(
     rt: &R,
     text: &str,
     line: &str,
     wanted: (Status, &str, &str),
 ) -> Result<(), Fail> {
-    let (status, out, err) = wanted;
     let alloc = rt.alloc();
     let words = split_words(alloc, line)?;
     let ended = run(alloc, &words, file(alloc, "t.c", text)?, &NONE_FAILING)?;
-    assert_eq!(rt; ended.status, status, "{line} of {text}");
-    assert_eq!(rt; ended.out.bytes(), out.as_bytes(), "{line} of {text}");
-    assert_eq!(rt; ended.err.bytes(), err.as_bytes(), "{line} of {text}");
-    Ok(())
-}
-
-/// A text, the words, and the slice.
-pub(crate) type Row<'a> = (&'a str, &'a str, &'a str);
-
-/// The words over each of these texts end well, and out has gained the slice.
-pub(crate) fn all_end<R: std::process::Abort + AllocGlobal>(
-    rt: &R,
-    rows: &[Row<'_>],
-) -> Result<(), Fail> {
-    for row in rows.iter() {
-        let (text, line, out) = *row;
-        ends(rt, text, line, (Status::Done, out, ""))?;
-    }
-    Ok(())
+    is_end(rt, &ended, wanted, line)
 }

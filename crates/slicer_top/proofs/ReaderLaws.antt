@@ -15,7 +15,8 @@ use Rattle.c_lex.proofs.TokenLaws.{tokens_unique}
 use Rattle.c_parse.proofs.ParserLaws.{one_tree}
 use Rattle.c_types.specs.Checker.{IsAbove}
 use Rattle.c_types.proofs.CheckerLaws.{rules_hold, one_quantity}
-use Rattle.c_reader.specs.Reading.{ReadsProgram, ReadsTree, IsRight, Gives, IsTooDeep, IsChecked, IsAnswer, HasRuleFault, IsRuleFault}
+use Rattle.c_reader.specs.Reading.{ReadsProgram, ReadsTree}
+use Rattle.c_reader.specs.Refusals.{IsRight, Gives, IsTooDeep, IsChecked, IsAnswer, HasRuleFault, IsRuleFault}
 use Rattle.c_types.specs.declared.rule_fault.RuleFault.{RuleFault}
 use Rattle.c_types.specs.declared.rule_fault.RuleFault.TheVariants as rule
 use Rattle.c_reader.specs.declared.refusal.ReadRefusal.{ReadRefusal}

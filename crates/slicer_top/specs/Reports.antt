@@ -12,7 +12,8 @@ use Rattle.c_parse.specs.declared.parse_fault.ParseFault.{ParseFault}
 use Rattle.c_parse.specs.declared.parse_fault.ParseFault.TheVariants as parse
 use Rattle.c_types.specs.declared.rule_fault.RuleFault.{RuleFault}
 use Rattle.c_types.specs.declared.rule_fault.RuleFault.TheVariants as rule
-use Rattle.c_reader.specs.Reading.{ReadsProgram, IsLexFault, HasParseFault, HasRuleFault}
+use Rattle.c_reader.specs.Reading.{ReadsProgram}
+use Rattle.c_reader.specs.Refusals.{IsLexFault, HasParseFault, HasRuleFault}
 use Rattle.built_forms.specs.BuiltForms as forms
 use Rattle.slicer_top.specs.declared.refusal.Refusal.{Refusal}
 use Rattle.slicer_top.specs.declared.refusal.Refusal.TheVariants.{Unreadable, TooLong, Lex, Parse, Check, NotYet, NoStart, NoMemory}

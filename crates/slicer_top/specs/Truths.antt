@@ -7,7 +7,8 @@ use Rattle.c_language.specs.Words.{Bytes}
 use Rattle.c_lex.specs.declared.fault.LexFault.TheVariants as lex
 use Rattle.c_parse.specs.declared.parse_fault.ParseFault.TheVariants as parse
 use Rattle.c_types.specs.declared.rule_fault.RuleFault.TheVariants as fault
-use Rattle.c_reader.specs.Reading.{ReadsProgram, IsLexFault, HasParseFault, HasRuleFault}
+use Rattle.c_reader.specs.Reading.{ReadsProgram}
+use Rattle.c_reader.specs.Refusals.{IsLexFault, HasParseFault, HasRuleFault}
 use Rattle.built_forms.specs.BuiltForms as forms
 use Rattle.slicer_top.specs.Limits.{CanBeDeep, IsAboveLimit}
 use Rattle.slicer_top.specs.Lines as line

@@ -1,0 +1,6 @@
+#include <stdio.h>
+int main(void) {
+    int c = getchar();
+    getchar();
+    putchar(c);
+}

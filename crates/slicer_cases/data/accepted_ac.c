@@ -1,0 +1,4 @@
+int main(void) {
+    putchar(65);
+}
+#include <stdio.h>

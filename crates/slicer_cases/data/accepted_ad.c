@@ -1,0 +1,5 @@
+int getchars;
+int main(void) {
+    int eof;
+    int null;
+}

@@ -1,0 +1,6 @@
+#include <stdio.h>
+int *p = NULL;
+int a[3 + EOF];
+int main(void) {
+    int c = EOF;
+}

@@ -1,0 +1,8 @@
+int main(void) {
+    {
+        int x;
+    }
+    {
+        int x;
+    }
+}

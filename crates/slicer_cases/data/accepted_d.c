@@ -1,0 +1,4 @@
+int y;
+int main(void) {
+    int x;
+}

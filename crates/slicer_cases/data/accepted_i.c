@@ -1,0 +1,6 @@
+int f(int a);
+int f(int b) {
+    return b;
+}
+int main(void) {
+}

@@ -1,0 +1,7 @@
+int f(int);
+int f(int);
+int f(int b) {
+    return b;
+}
+int main(void) {
+}

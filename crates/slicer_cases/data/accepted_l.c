@@ -1,0 +1,10 @@
+struct t;
+struct s {
+    struct t *a;
+    int b;
+};
+struct t {
+    int b;
+};
+int main(void) {
+}

@@ -1,0 +1,9 @@
+struct s {
+    int a;
+};
+int main(void) {
+    struct s x;
+    x.a = 1;
+    if (x.a) {
+    }
+}

@@ -1,0 +1,6 @@
+void f(void) {
+    return;
+}
+int main(void) {
+    f();
+}

@@ -1,0 +1,1 @@
+int main(void){int a=5;int b=a*2/3%5+1-(a<<2>>1)&7^a|1;int c=a<1==a>2!=a<=3;int d=-~+!a>=4&&a||b?c:7;}

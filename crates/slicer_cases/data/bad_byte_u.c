@@ -1,0 +1,1 @@
+x #include <stdio.h>

@@ -1,0 +1,12 @@
+int main(void) {
+    int x = 1;
+    x++;
+    --x;
+    (x)--;
+    {
+        {
+        }
+        int y = x;
+    }
+    return 0;
+}

@@ -1,0 +1,6 @@
+/* a */
+/* b */
+#include <stdio.h>
+int main(void) {
+    int a = 1;
+}

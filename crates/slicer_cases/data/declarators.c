@@ -1,0 +1,6 @@
+int main() {
+    int a = 1,
+        b = a
+        ,c;
+    c = b;
+}

@@ -1,0 +1,1 @@
+int main(void){int x=0,i;i=x+1;}

@@ -1,0 +1,5 @@
+int main(void) {
+    y = 1;
+    goto end;
+    @
+}

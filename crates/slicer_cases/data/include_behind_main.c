@@ -1,0 +1,2 @@
+int main(){int a=0x1f;}
+#include <stdio.h>

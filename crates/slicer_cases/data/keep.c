@@ -1,0 +1,10 @@
+int g;
+int f(int a) {
+    g = a;
+    return a + 1;
+}
+int main(void) {
+    int x = f(3);
+    x = g;
+    x = x + 1;
+}

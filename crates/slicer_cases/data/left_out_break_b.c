@@ -1,0 +1,2 @@
+void f ( void ) { switch ( x ) { case 1 :
+break ; ; } } 

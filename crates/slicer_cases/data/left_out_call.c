@@ -1,0 +1,6 @@
+int f(int a) {
+    return a;
+}
+int main(void) {
+    int x = 1 + f(2);
+}

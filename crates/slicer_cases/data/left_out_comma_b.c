@@ -1,0 +1,1 @@
+void f ( void ) { for ( i = 0 , j = 0 ; i ; ) { } } 

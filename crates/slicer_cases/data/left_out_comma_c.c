@@ -1,0 +1,1 @@
+void f ( void ) { x = a [ 1 , 2 ] ; } 

@@ -1,0 +1,1 @@
+void f ( void ) { while ( x ) { continue ; } } 

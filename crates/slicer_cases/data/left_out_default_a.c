@@ -1,0 +1,1 @@
+void f ( void ) { switch ( x ) { case 1 : ; default : break ; } } 

@@ -1,0 +1,3 @@
+#define N 1
+int main(void) {
+}

@@ -1,0 +1,2 @@
+void f ( void ) {
+end : x = 1 ; } 

@@ -1,0 +1,1 @@
+void f ( void ) { if ( x ) end : y = 1 ; } 

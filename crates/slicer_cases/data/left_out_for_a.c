@@ -1,0 +1,2 @@
+void f ( void ) {
+for ( i = 0 ; ; i ++ ) { } } 

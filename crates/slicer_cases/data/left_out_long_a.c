@@ -1,0 +1,2 @@
+long
+long x ; 

@@ -1,0 +1,1 @@
+void f ( void ) { x = p -> g ( 1 ) + 2 ; } 

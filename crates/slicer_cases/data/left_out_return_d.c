@@ -1,0 +1,1 @@
+int f ( void ) { if ( x ) return 1 ; } 

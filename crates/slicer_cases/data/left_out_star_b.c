@@ -1,0 +1,1 @@
+void f ( void ) { return ( struct s * ) q ; } 

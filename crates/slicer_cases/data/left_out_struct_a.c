@@ -1,0 +1,1 @@
+struct s f ( void ) ; 

@@ -1,0 +1,1 @@
+void f ( void ) { x = y += 1 ; } 

@@ -1,0 +1,3 @@
+int a[65537];
+int main(void) {
+}

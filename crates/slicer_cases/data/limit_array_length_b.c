@@ -1,0 +1,3 @@
+int a[4294967296];
+int main(void) {
+}

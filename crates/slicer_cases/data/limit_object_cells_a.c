@@ -1,0 +1,3 @@
+int a[1024][1025];
+int main(void) {
+}

@@ -1,0 +1,4 @@
+#include <stdio.h>
+int main(void) {
+    char a[] = {1, 'b'};
+}

@@ -1,0 +1,5 @@
+#include <stdio.h>
+int main(void) {
+    a = 1;
+    int a;
+}

@@ -1,0 +1,4 @@
+#include <stdio.h>
+int main(void) {
+    int 9a = 1;
+}

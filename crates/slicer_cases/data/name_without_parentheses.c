@@ -1,0 +1,5 @@
+int main(void) {
+    int x = 5;
+    x = 1;
+    int y = x;
+}

@@ -1,0 +1,2 @@
+#include<stdio.h>
+int main(void){int a=1;int b=2;a=a+3;printf("%d\n",a);}

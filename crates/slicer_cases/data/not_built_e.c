@@ -1,0 +1,7 @@
+#include <stdio.h>
+int main(void) {
+    int c;
+    c = EOF;
+    c = getchar();
+    getchar();
+}

@@ -1,0 +1,5 @@
+#include <stdlib.h>
+int main(void) {
+    int x = 1;
+    free(NULL);
+}

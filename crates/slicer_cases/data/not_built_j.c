@@ -1,0 +1,4 @@
+static char g = 1;
+int main(void) {
+    int *p;
+}

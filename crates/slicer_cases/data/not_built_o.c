@@ -1,0 +1,8 @@
+struct s;
+
+int main(void) {
+    int *p;
+}
+struct s {
+    int a;
+};

@@ -1,0 +1,6 @@
+int f(void);
+int main(void) {
+}
+int f(void) {
+    return 1;
+}

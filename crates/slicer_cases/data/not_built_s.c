@@ -1,0 +1,8 @@
+int main(void) {
+    for (int x = 1; x; x--)
+    {
+        {
+            int *p;
+        }
+    }
+}

@@ -1,0 +1,9 @@
+#include <stdio.h>
+int main(void) {
+    int x = 1;
+    if (x)
+        getchar();
+    else {
+        int a[2];
+    }
+}

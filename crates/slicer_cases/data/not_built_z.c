@@ -1,0 +1,8 @@
+int main(void) {
+    int x = 1;
+    switch (x) {
+    default: {
+        int a[2];
+    }
+    }
+}

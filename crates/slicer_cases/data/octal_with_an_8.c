@@ -1,0 +1,4 @@
+#include <stdio.h>
+int main(void) {
+    int a = 08;
+}

@@ -1,0 +1,1 @@
+int main(void){int x=0,i;for(i=0;i<3;++i)x+=i;}

@@ -1,0 +1,1 @@
+int main(void){int x=0,*p;for(x=0;x<3;++x)p=&x;}

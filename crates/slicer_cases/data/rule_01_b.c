@@ -1,0 +1,5 @@
+int main(void) {
+    f();
+}
+void f(void) {
+}

@@ -1,0 +1,7 @@
+int main(void) {
+    int i = 0;
+    for (;
+        i < 2;
+        j++) {
+    }
+}

@@ -1,0 +1,5 @@
+int main(void) {
+    do {
+        ;
+    } while (x);
+}

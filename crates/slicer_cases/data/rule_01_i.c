@@ -1,0 +1,5 @@
+int main(void) {
+    x = 1;
+    int a;
+    int a;
+}

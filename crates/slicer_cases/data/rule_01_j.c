@@ -1,0 +1,4 @@
+int f(void) {
+    x = 1;
+    return 0;
+}

@@ -1,0 +1,5 @@
+int f(void) {
+    x = 1;
+}
+int main(void) {
+}

@@ -1,0 +1,4 @@
+int a[65537];
+int main(void) {
+    x = 1;
+}

@@ -1,0 +1,4 @@
+void f(int a, int a) {
+}
+int main(void) {
+}

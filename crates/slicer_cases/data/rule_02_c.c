@@ -1,0 +1,6 @@
+void f(void) {
+}
+void f(void) {
+}
+int main(void) {
+}

@@ -1,0 +1,6 @@
+void f(
+    int a,
+    int a) {
+}
+int main(void) {
+}

@@ -1,0 +1,5 @@
+int a;
+int a;
+int main(void) {
+    x = 1;
+}

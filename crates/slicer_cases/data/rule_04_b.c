@@ -1,0 +1,4 @@
+void free(void) {
+}
+int main(void) {
+}

@@ -1,0 +1,3 @@
+int getchar;
+int main(void) {
+}

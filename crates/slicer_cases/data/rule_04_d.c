@@ -1,0 +1,3 @@
+int putchar;
+int main(void) {
+}

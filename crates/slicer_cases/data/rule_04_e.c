@@ -1,0 +1,3 @@
+int malloc;
+int main(void) {
+}

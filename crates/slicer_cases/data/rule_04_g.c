@@ -1,0 +1,5 @@
+struct NULL {
+    int a;
+};
+int main(void) {
+}

@@ -1,0 +1,6 @@
+struct s {
+    int a;
+    int EOF;
+};
+int main(void) {
+}

@@ -1,0 +1,5 @@
+int EOF(void) {
+    return 1;
+}
+int main(void) {
+}

@@ -1,0 +1,4 @@
+void f(int free) {
+}
+int main(void) {
+}

@@ -1,0 +1,8 @@
+struct s {
+    int a;
+};
+struct s {
+    int a;
+};
+int main(void) {
+}

@@ -1,0 +1,7 @@
+struct s {
+    int a;
+};
+int main(void) {
+    struct s x;
+    x.b = 1;
+}

@@ -1,0 +1,4 @@
+int x = 1;
+int y = x;
+int main(void) {
+}

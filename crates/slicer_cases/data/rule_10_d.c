@@ -1,0 +1,7 @@
+int main(void) {
+    int x;
+    switch (1) {
+    case x:
+        break;
+    }
+}

@@ -1,0 +1,8 @@
+int main(void) {
+    switch (1) {
+    case 1:
+        break;
+    case 1:
+        break;
+    }
+}

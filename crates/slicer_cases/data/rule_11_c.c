@@ -1,0 +1,8 @@
+int main(void) {
+    switch (1) {
+    default:
+        break;
+    default:
+        break;
+    }
+}

@@ -1,0 +1,8 @@
+struct s {
+    int a;
+};
+int main(void) {
+    struct s x;
+    if (x) {
+    }
+}

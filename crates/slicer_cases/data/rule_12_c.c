@@ -1,0 +1,4 @@
+int main(void) {
+    int *p = 0;
+    p *= 2;
+}

@@ -1,0 +1,5 @@
+void f(int *a) {
+}
+int main(void) {
+    f(1);
+}

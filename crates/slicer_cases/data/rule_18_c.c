@@ -1,0 +1,5 @@
+void f(void) {
+    return 1;
+}
+int main(void) {
+}

@@ -1,0 +1,5 @@
+int f(void) {
+}
+int main(void) {
+    x = 1;
+}

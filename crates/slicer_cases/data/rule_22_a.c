@@ -1,0 +1,6 @@
+struct s {
+    int a;
+};
+struct s x = 1;
+int main(void) {
+}

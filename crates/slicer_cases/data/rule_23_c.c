@@ -1,0 +1,6 @@
+int main(void) {
+    switch (0) {
+    default:
+        int x = 1;
+    }
+}

@@ -1,0 +1,5 @@
+int main(void) {
+    int c = 0;
+    c =
+        EOF;
+}

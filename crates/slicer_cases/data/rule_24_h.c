@@ -1,0 +1,3 @@
+int *p = NULL;
+int main(void) {
+}

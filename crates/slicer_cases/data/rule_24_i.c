@@ -1,0 +1,3 @@
+int a[3 + EOF];
+int main(void) {
+}

@@ -1,0 +1,5 @@
+int main(void) {
+    signed a = 1;
+    signed int b = a;
+    int signed c = b;
+}

@@ -1,0 +1,3 @@
+static int main(void) {
+    int x = x;
+}

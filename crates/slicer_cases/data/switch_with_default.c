@@ -1,0 +1,13 @@
+#include <stdio.h>
+int main(void) {
+    int k = 2;
+    int r = 0;
+    switch (k) {
+    case 1:
+        r = 1;
+        break;
+    default:
+        r = 2;
+    }
+    printf("%d\n", r);
+}

@@ -1,0 +1,5 @@
+int main (
+void ) {
+x = ;
+y = 1 ;
+} 

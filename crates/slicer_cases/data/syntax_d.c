@@ -1,0 +1,1 @@
+void f ( void ) { 1 = x ; } 

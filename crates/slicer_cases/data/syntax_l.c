@@ -1,0 +1,1 @@
+void f ( void ) { for ( int i = 0 , j = 0 ; i ; ) ; } 

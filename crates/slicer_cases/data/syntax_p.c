@@ -1,0 +1,1 @@
+void f ( void ) { else x = 1 ; } 

@@ -1,0 +1,39 @@
+//! The end of a call of the slicer over files and sinks in memory.
+use crate::case::Case;
+use edge_io::{MemoryShelf, MemorySink};
+use slicer_top::{Text, run_slicer};
+use std::alloc::{AllocError, Global};
+
+// What each of the sinks has room for.
+const ROOM: usize = 1_048_576;
+
+/// How a call ended: the code of its status, and what out and err have gained.
+#[derive(Drop, PartialEq)]
+pub struct Ended {
+    pub code: u8,
+    pub out: Text,
+    pub err: Text,
+}
+
+impl Ended {
+    /// The code and both texts, as they are read.
+    pub fn shown(&self, alloc: Global) -> Result<String, AllocError> {
+        let code = self.code;
+        let out = String::from_utf8_lossy(alloc, self.out.bytes())?;
+        let err = String::from_utf8_lossy(alloc, self.err.bytes())?;
+        format!(in alloc; "status {code}, on out:\n{out}and on err:\n{err}")
+    }
+}
+
+/// Calls the slicer with the words of the case over these files.
+pub fn run(alloc: Global, case: &Case, files: Vec<(Text, Text)>) -> Result<Ended, AllocError> {
+    let mut shelf = MemoryShelf::new(files, Vec::new(alloc));
+    let mut out = MemorySink::new(alloc, ROOM, Vec::new(alloc))?;
+    let mut err = MemorySink::new(alloc, ROOM, Vec::new(alloc))?;
+    let status = run_slicer(alloc, case.words(), &mut shelf, &mut out, &mut err);
+    Ok(Ended {
+        code: status.code(),
+        out: Text::from_slice(alloc, out.bytes())?,
+        err: Text::from_slice(alloc, err.bytes())?,
+    })
+}
