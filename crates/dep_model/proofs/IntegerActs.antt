@@ -11,7 +11,7 @@ use Rattle.c_tree.specs.declared.program.Program.{Program}
 use Rattle.c_language.specs.Code.{Act, Begins, Sets, Bumps, Fetches, Writes, Prints, Allocates, Frees, Returns, Tests}
 use Rattle.built_forms.specs.IntegerForms.{is_name, is_integer, are_integers, integer_init, integer_value}
 use Rattle.dep_model.specs.declared.location.Location.{Location}
-use Rattle.dep_model.specs.Denoted.{PointsTo, Places, whole, expr_reads, expr_points, expr_places}
+use Rattle.dep_model.specs.Denoted.{TargetsOf, Places, whole, expr_reads, expr_points, expr_places}
 use Rattle.dep_model.specs.Doings.{Doing, Does, Calls}
 use Rattle.dep_model.specs.DoingEffects.{result_of, expr_takes, act_takes, is_global, is_taken, is_killable, compound_reads, act_uses, act_defines, act_kills}
 use Rattle.dep_model.specs.IntegerEffects.{variables_read, variables_set, variables_named, all_read, compound_read, act_read, act_set, act_named, gives_result, any_whole}
@@ -46,7 +46,7 @@ all_integer = list_all is_integer_doing
 abbrev pub with_result : List ℕ → Bool → Places
 with_result xs b l = any_whole xs l || (b && same_location (result_of 0) l)
 
-module _ (p : Program) (points : PointsTo) where
+module _ (p : Program) (points : TargetsOf) where
   -- an act has these effects by the definitions for all forms
   pub record ActsOnVariables (a : Act) : Type 0 where
     pub uses_are : (l : Location) → act_uses p points a l ≡ any_whole (act_read a) l

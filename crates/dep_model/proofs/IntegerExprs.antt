@@ -22,7 +22,7 @@ use Rattle.built_forms.specs.IntegerForms.{is_name, is_integer, integer_step}
 use Rattle.dep_model.specs.declared.location.Location.{Location}
 use Rattle.dep_model.specs.declared.location.Part.TheVariants as part
 use Rattle.dep_model.specs.Designated.{Designated, designated, designated_step, value_takes}
-use Rattle.dep_model.specs.Denoted.{PointsTo, Denoted, whole, part_of, targets, denoted, denoted_step, value_reads, value_points}
+use Rattle.dep_model.specs.Denoted.{TargetsOf, Denoted, whole, part_of, targets, denoted, denoted_step, value_reads, value_points}
 use Rattle.dep_model.specs.DoingEffects.{is_killable, named_kills}
 use Rattle.dep_model.specs.IntegerEffects.{reads_step, variables_read, place_step, variables_set, name_step, variables_named, any_whole}
 use Rattle.dep_model.proofs.BoolLemmas.{or_both}
@@ -54,7 +54,7 @@ both_integer And j k = refl
 both_integer Xor j k = refl
 both_integer Or j k = refl
 
-module _ (p : Program) (points : PointsTo) where
+module _ (p : Program) (points : TargetsOf) where
   -- ---- expressions as values
 
   -- what is read are these variables; no address is taken, and the value points nowhere

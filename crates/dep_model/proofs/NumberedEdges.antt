@@ -1,17 +1,19 @@
 -- The vertices and edges of a program of main alone over integers, by the definitions for all forms.
-use Rattle.std.proofs.Common.{append-nil, ◌≡◌, ◌↔◌, ℕ, zero, suc, List, [], ◌∷◌, ◌++◌, map, slice_get, Bool, true, false, not, ◌&&◌, ◌||◌, inl, inr, Option, Some, None, codes, refl, sym, ap, ◌∙◌, subst, arith}
-use Rattle.std.specs.Prelude.{Contains, is_some, bytes_eq, if◌then◌else◌}
+use Rattle.std.proofs.Common.{append-nil, ◌≡◌, ◌↔◌, ℕ, zero, suc, List, [], ◌∷◌, ◌++◌, map, slice_get, Bool, true, false, not, ◌&&◌, ◌||◌, inl, inr, Option, Some, None, refl, sym, ap, ◌∙◌, subst, arith}
+use Rattle.std.specs.Prelude.{Contains, ◌==◌, if◌then◌else◌}
 use Rattle.std.specs.Option.{option_map_or}
 use Rattle.std.proofs.lemmas.Bool.{false≢true, and_parts, false_from_ne_true}
 use Rattle.std.proofs.lemmas.List.Elements.{Contains-append_cases}
 use Rattle.c_tree.specs.declared.program.Function.{Function}
 use Rattle.c_tree.specs.declared.program.Program.{Program}
+use Rattle.c_language.specs.Mains.{is_main_of}
+use Rattle.c_language.proofs.MainLemmas.{main_is_first}
 use Rattle.dep_model.specs.declared.edge.Edge.{Edge}
 use Rattle.dep_model.specs.declared.location.Location.{Location}
 use Rattle.dep_model.specs.declared.vertex.Slot.TheVariants.{Result, At}
 use Rattle.dep_model.specs.declared.vertex.Vertex.{Vertex}
 use Rattle.dep_model.specs.declared.vertex.VertexKind.TheVariants.{Entry, FormalIn, FormalOut, Statement}
-use Rattle.dep_model.specs.Denoted.{Places, PointsTo}
+use Rattle.dep_model.specs.Denoted.{Places, TargetsOf}
 use Rattle.dep_model.specs.Doings.{Doing, Does, Calls, doings_of, doing_number}
 use Rattle.dep_model.specs.Follows as general
 use Rattle.dep_model.specs.Follows.{InTurn, enters, last, more}
@@ -23,7 +25,7 @@ use Rattle.dep_model.specs.MayPoint.{parameters}
 use Rattle.dep_model.specs.ModRef.{FunctionEffects, AreFunctionEffects}
 use Rattle.dep_model.specs.NumberedMains.{IsNumberedMain}
 use Rattle.dep_model.specs.SystemGraph.{Analysis, IsAnalysis, vertices_of, numbered_effects, IsFlowIn, IsCallEdge, call, in_, out, IsSystemEdge, control, flow, between, AreSystemEdges}
-use Rattle.dep_model.specs.VertexOrder.{slots_from, arguments_from, touched, result_slots, formal_ins, formal_outs, all_vertices, function_kinds, in_function, vertices_from}
+use Rattle.dep_model.specs.VertexOrder.{has_result, slots_from, arguments_from, touched, result_slots, formal_ins, formal_outs, all_vertices, function_kinds, in_function, vertices_from}
 use Rattle.rule_closure.proofs.ListLemmas.{contains_head, contains_cons}
 use Rattle.dep_model.proofs.MainVertexLemmas.{own_vertex, entry_vertex, no_others, no_formal_in, no_formal_out}
 use Rattle.dep_model.proofs.IntegerActs.{is_integer_act, all_integer}
@@ -49,15 +51,6 @@ kinds_are p effects (Does i a ∷ ds) h =
     ap (λ ks. Statement i ∷ ks) (kinds_are p effects ds (and_parts (is_integer_act a) (all_integer ds) h).1)
 kinds_are p effects (Calls i to f args ∷ ds) h = absurd (false≢true h)
 
-no_result_of : (g : Function) → g.name ≡ codes "main" → (if is_some g.result && not (bytes_eq g.name (codes "main")) then Result ∷ [] else []) ≡ []
-no_result_of g e =
-    let named : bytes_eq g.name (codes "main") ≡ true = ap (λ n. bytes_eq n (codes "main")) e in
-    ap (λ b. if is_some g.result && not b then Result ∷ [] else []) named ∙ by_test (is_some g.result)
-  where
-    by_test : (b : Bool) → (if b && false then Result ∷ [] else []) ≡ []
-    by_test true = refl
-    by_test false = refl
-
 module _ (p : Program) (a : Analysis) (h : IsNumberedMain p) (are : AreFunctionEffects p a.points a.effects) where
   modified_none : (f : ℕ) (l : Location) → a.effects.modified f l ≡ false
   modified_none f l = false_from_ne_true (a.effects.modified f l) (λ t. modifies_none p h.integer a.points f l ((are.modified_are f l).0 t))
@@ -71,9 +64,15 @@ module _ (p : Program) (a : Analysis) (h : IsNumberedMain p) (are : AreFunctionE
   no_parameters : parameters p 0 ≡ []
   no_parameters = ap (λ fs. option_map_or (λ (g : Function). g.params) (slice_get fs 0) []) h.integer.functions_are ∙ h.integer.no_parameters
 
+  is_main : is_main_of p 0 ≡ true
+  is_main = ap (λ m. option_map_or (λ n. n == 0) m false) (main_is_first p h.integer.main [] h.integer.functions_are h.name_is)
+
   no_result : result_slots p a.effects 0 ≡ []
-  no_result =
-      ap (λ fs. option_map_or (λ (g : Function). if is_some g.result && not (bytes_eq g.name (codes "main")) then Result ∷ [] else []) (slice_get fs 0) []) h.integer.functions_are ∙ no_result_of h.integer.main h.name_is
+  no_result = ap (λ b. if has_result p 0 && not b then Result ∷ [] else []) is_main ∙ by_test (has_result p 0)
+    where
+      by_test : (b : Bool) → (if b && false then Result ∷ [] else []) ≡ []
+      by_test true = refl
+      by_test false = refl
 
   no_formal_ins : formal_ins p a.effects 0 ≡ []
   no_formal_ins =
@@ -124,7 +123,7 @@ module _ (p : Program) (h : IsNumberedMain p) where
   no_follows f v w (inr (inr t)) =
       no_formal_out p (suc f) v (in_turn_in (tails (vertices p) (suc f)) None v (Some w) t)
 
-  module _ (points : PointsTo) where
+  module _ (points : TargetsOf) where
     no_chain : (f : ℕ) (l : Location) (x y : ℕ) → general.Chain (λ (v w : ℕ). FollowsIn p (vertices p) (suc f) v (Some w)) (numbered_effects p points (vertices p)).kills l x y → ⊥
     no_chain f l x y (last o) = no_follows f x y o
     no_chain f l x y (more {u = u} o k rest) = no_follows f x u o

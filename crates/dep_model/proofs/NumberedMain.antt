@@ -25,7 +25,7 @@ use Rattle.built_forms.specs.IntegerForms.{IsPlainItem, include, main, IsInteger
 use Rattle.dep_model.specs.declared.location.Location.{Location}
 use Rattle.dep_model.specs.declared.location.Root.{Root}
 use Rattle.dep_model.specs.declared.location.Root.TheVariants.{Input, Variable, Site, Result}
-use Rattle.dep_model.specs.Denoted.{PointsTo, whole}
+use Rattle.dep_model.specs.Denoted.{TargetsOf, whole}
 use Rattle.dep_model.specs.Doings.{Doing, Does, Calls, body_doings, doings_of}
 use Rattle.dep_model.specs.DoingEffects.{result_of, is_taken, function_takes, doing_takes, doing_uses, doing_defines}
 use Rattle.dep_model.specs.FunctionVertices.{code_in}
@@ -119,7 +119,7 @@ module _ (p : Program) (h : IsIntegerMain p) where
   stays_inside : (l : Location) → IsInVariable l → is_outside p l ≡ false
   stays_inside l v = inside_root l.root v.0 v.1
 
-  module _ (points : PointsTo) where
+  module _ (points : TargetsOf) where
     pub acts_on : (a : Act) → is_integer_act a ≡ true → ActsOnVariables p points a
     acts_on = integer_act p points main_integers
 

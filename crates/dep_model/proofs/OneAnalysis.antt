@@ -5,7 +5,7 @@ use Rattle.rule_closure.proofs.SetLemmas.{same_test}
 use Rattle.c_tree.specs.declared.program.Program.{Program}
 use Rattle.dep_model.specs.declared.edge.Edge.{Edge}
 use Rattle.dep_model.specs.declared.location.Location.{Location}
-use Rattle.dep_model.specs.Denoted.{PointsTo}
+use Rattle.dep_model.specs.Denoted.{TargetsOf}
 use Rattle.dep_model.specs.MayPoint.{IsPointsTo}
 use Rattle.dep_model.specs.ModRef.{FunctionEffects, AreFunctionEffects}
 use Rattle.dep_model.specs.SystemGraph.{Analysis, IsAnalysis, IsSystemEdge, AreSystemEdges}
@@ -13,11 +13,11 @@ use Rattle.dep_model.proofs.MayPointLaws.{points_one}
 
 module _ (p : Program) where
   -- may-point is one relation
-  pub one_points : (x y : PointsTo) → IsPointsTo p x → IsPointsTo p y → x ≡ y
+  pub one_points : (x y : TargetsOf) → IsPointsTo p x → IsPointsTo p y → x ≡ y
   one_points x y a b = fun_ext (λ l. fun_ext (λ m. same_test (x l m) (y l m) (points_one p x y a b l m, points_one p y x b a l m)))
 
   -- what functions modify and use is one for one may-point
-  pub one_effects : (points : PointsTo) (e f : FunctionEffects) → AreFunctionEffects p points e → AreFunctionEffects p points f → e ≡ f
+  pub one_effects : (points : TargetsOf) (e f : FunctionEffects) → AreFunctionEffects p points e → AreFunctionEffects p points f → e ≡ f
   one_effects points e f a b =
       let modified : e.modified ≡ f.modified =
       fun_ext (λ g. fun_ext (λ l. same_test (e.modified g l) (f.modified g l) (λ h. (b.modified_are g l).1 ((a.modified_are g l).0 h), λ h. (a.modified_are g l).1 ((b.modified_are g l).0 h)))) in
@@ -29,7 +29,7 @@ module _ (p : Program) where
   one_analysis a b first second =
       let points : a.points ≡ b.points = one_points a.points b.points first.points_are second.points_are in
       let effects : a.effects ≡ b.effects = one_effects b.points a.effects b.effects (subst (λ x. AreFunctionEffects p x a.effects) points first.effects_are) second.effects_are in
-      ap (λ (x : PointsTo). record { points = x; effects = a.effects }) points ∙ ap (λ (e : FunctionEffects). record { points = b.points; effects = e }) effects
+      ap (λ (x : TargetsOf). record { points = x; effects = a.effects }) points ∙ ap (λ (e : FunctionEffects). record { points = b.points; effects = e }) effects
 
   -- two lists of the edges of a program have the same edges
   pub same_edges : (a b : Analysis) (es fs : List Edge) → IsAnalysis p a → IsAnalysis p b → AreSystemEdges p a es → AreSystemEdges p b fs → (e : Edge) → Contains es e → Contains fs e

@@ -8,7 +8,7 @@ use Rattle.c_tree.specs.declared.program.Program.{Program}
 use Rattle.c_language.specs.Code.{Act, Begins, Sets, Bumps, Fetches, Writes, Prints, Allocates, Frees, Returns, Tests}
 use Rattle.built_forms.specs.IntegerForms.{is_name, is_integer}
 use Rattle.dep_model.specs.declared.location.Location.{Location}
-use Rattle.dep_model.specs.Denoted.{PointsTo, whole}
+use Rattle.dep_model.specs.Denoted.{TargetsOf, whole}
 use Rattle.dep_model.specs.DoingEffects.{is_taken, act_uses, act_defines, act_kills}
 use Rattle.dep_model.specs.IntegerEffects.{variables_read, variables_set, variables_named, compound_read, act_read, act_set, act_named, gives_result, any_whole}
 use Rattle.dep_model.proofs.BoolLemmas.{or_both}
@@ -81,7 +81,7 @@ kills_listed (Tests e) l h = refl
 
 -- ---- by the definitions for all forms
 
-module _ (p : Program) (points : PointsTo) where
+module _ (p : Program) (points : TargetsOf) where
   -- an act has the same effects by both definitions
   pub record ActsPlainly (a : Act) : Type 0 where
     pub uses_are : (l : Location) → act_uses p points a l ≡ uses a l

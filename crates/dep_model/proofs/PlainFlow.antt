@@ -12,7 +12,7 @@ use Rattle.dep_model.specs.declared.edge.Label.TheVariants.{Flow}
 use Rattle.dep_model.specs.declared.location.Location.{Location}
 use Rattle.dep_model.specs.declared.vertex.Vertex.{Vertex}
 use Rattle.dep_model.specs.declared.vertex.VertexKind.TheVariants.{Statement}
-use Rattle.dep_model.specs.Denoted.{PointsTo, Places}
+use Rattle.dep_model.specs.Denoted.{TargetsOf, Places}
 use Rattle.dep_model.specs.Doings.{Doing, Does, Calls, doings_of, doing_number}
 use Rattle.dep_model.specs.Follows as general
 use Rattle.dep_model.specs.Follows.{enters, last, more}
@@ -106,7 +106,7 @@ module _ (p : Program) (h : IsNumberedMain p) where
   chain_of_main l v w (last o) = both_of_main v w o
   chain_of_main l v w (more {u = u} o k rest) = ((both_of_main v u o).0, (chain_of_main l u w rest).1)
 
-  module _ (points : PointsTo) where
+  module _ (points : TargetsOf) where
     -- ---- effects by number
 
     acts_plainly : (s : Step) → IsOfMain s → ActsPlainly p points s.act

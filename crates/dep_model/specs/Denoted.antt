@@ -16,9 +16,9 @@ use Rattle.dep_model.specs.Designated.{Designated, is_array_place, designated_st
 abbrev pub Places : Type 0
 Places = Location → Bool
 
--- whether the first location may point to the second
-abbrev pub PointsTo : Type 0
-PointsTo = Location → Location → Bool
+-- for each location those to which it may point
+abbrev pub TargetsOf : Type 0
+TargetsOf = Location → Places
 
 abbrev pub no_places : Places
 no_places l = false
@@ -36,13 +36,18 @@ whole x = same_location (variable x)
 abbrev pub inside : Location → Part → Location
 inside l h = record { root = l.root; path = l.path ++ h ∷ [] }
 
+-- the locations of the program: those of its list
+abbrev pub is_location : Program → Places
+is_location p l = list_any (λ (o : TypedLocation). same_location o.location l) (locations p)
+
 -- this part of each of some locations
 abbrev pub part_of : Program → Part → Places → Places
-part_of p h places l = list_any (λ (o : TypedLocation). places o.location && same_location (inside o.location h) l) (locations p)
+part_of p h places l =
+    is_location p l && list_any (λ (o : TypedLocation). places o.location && same_location (inside o.location h) l) (locations p)
 
--- what some locations may point to
-abbrev pub targets : Program → PointsTo → Places → Places
-targets p points places l = list_any (λ (o : TypedLocation). places o.location && points o.location l) (locations p)
+-- the locations to which some may point
+abbrev pub targets : Program → TargetsOf → Places → Places
+targets p points places l = is_location p l && list_any (λ (o : TypedLocation). places o.location && points o.location l) (locations p)
 
 -- an expression: what it designates; the locations that its object may be; what its value may point to, where it
 -- designates none; and what is read to find its object, or else its value
@@ -52,7 +57,7 @@ pub record Denoted : Type 0 where
   pub points : Places
   pub reads : Places
 
-module _ (p : Program) (points : PointsTo) where
+module _ (p : Program) (points : TargetsOf) where
   -- what is read for the value of an expression: an array isn't read
   abbrev pub value_reads : Denoted → Places
   value_reads d l = d.reads l || ((d.form.is_place && is_scalar d.form.type) && d.places l)

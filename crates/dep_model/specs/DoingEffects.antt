@@ -19,7 +19,7 @@ use Rattle.dep_model.specs.declared.location.Root.TheVariants.{Input, Result}
 use Rattle.dep_model.specs.declared.location.Part.TheVariants as part
 use Rattle.dep_model.specs.Locations.{same_location}
 use Rattle.dep_model.specs.Designated.{designated, value_takes}
-use Rattle.dep_model.specs.Denoted.{Places, PointsTo, whole, part_of, expr_reads, expr_places, left_reads}
+use Rattle.dep_model.specs.Denoted.{Places, TargetsOf, whole, part_of, expr_reads, expr_places, left_reads}
 use Rattle.dep_model.specs.Doings.{Doing, Does, Calls, body_doings}
 
 -- the unread input, and what a function returns
@@ -93,7 +93,7 @@ module _ (p : Program) where
   abbrev pub is_killable : ℕ → Bool
   is_killable x = is_global x || not (is_taken x)
 
-module _ (p : Program) (points : PointsTo) where
+module _ (p : Program) (points : TargetsOf) where
   -- ---- left sides
 
   -- a left side kills what it names, where it is a name with `.` selections alone

@@ -13,7 +13,7 @@ use Rattle.dep_model.specs.declared.location.Location.{Location}
 use Rattle.dep_model.specs.declared.location.Root.TheVariants.{Site}
 use Rattle.dep_model.specs.declared.location.Part.TheVariants as part
 use Rattle.dep_model.specs.Locations.{same_location}
-use Rattle.dep_model.specs.Denoted.{Places, PointsTo, whole, part_of, expr_points, expr_places}
+use Rattle.dep_model.specs.Denoted.{Places, TargetsOf, whole, part_of, expr_points, expr_places}
 use Rattle.dep_model.specs.Doings.{Doing, Does, Calls, doings_of}
 use Rattle.dep_model.specs.DoingEffects.{result_of, target_places}
 
@@ -31,7 +31,7 @@ site i = record { root = Site i; path = [] }
 abbrev pub parameters : Program → ℕ → List ℕ
 parameters p f = option_map_or (λ (g : Function). g.params) (slice_get p.functions f) []
 
-module _ (p : Program) (points : PointsTo) where
+module _ (p : Program) (points : TargetsOf) where
   -- the items of a list go into the elements
   abbrev pub listed : ℕ → List Expr → List Pointing
   listed x [] = []
@@ -84,8 +84,8 @@ module _ (p : Program) (points : PointsTo) where
 
 -- the first location may point to the second: a derivation ends in the pair, by a pointing that uses pairs which are derived themselves
 pub data MayPoint (p : Program) : Location → Location → Type 0 where
-  by : {l m : Location} (points : PointsTo) (a : Pointing) → ((k n : Location) → points k n ≡ true → MayPoint p k n) → IsPointing p points a → a.into l ≡ true → a.from m ≡ true → MayPoint p l m
+  by : {l m : Location} (points : TargetsOf) (a : Pointing) → ((k n : Location) → points k n ≡ true → MayPoint p k n) → IsPointing p points a → a.into l ≡ true → a.from m ≡ true → MayPoint p l m
 
 -- exactly the pairs that are derived
-abbrev pub IsPointsTo : Program → PointsTo → Type 0
+abbrev pub IsPointsTo : Program → TargetsOf → Type 0
 IsPointsTo p points = (l m : Location) → (points l m ≡ true) ↔ MayPoint p l m

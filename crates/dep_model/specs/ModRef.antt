@@ -6,7 +6,7 @@ use Rattle.c_tree.specs.declared.statement.Target.{Target}
 use Rattle.dep_model.specs.declared.location.Location.{Location}
 use Rattle.dep_model.specs.declared.location.Root.{Root}
 use Rattle.dep_model.specs.declared.location.Root.TheVariants.{Input, Variable, Site, Result}
-use Rattle.dep_model.specs.Denoted.{PointsTo}
+use Rattle.dep_model.specs.Denoted.{TargetsOf}
 use Rattle.dep_model.specs.Doings.{Doing, Calls, doings_of}
 use Rattle.dep_model.specs.DoingEffects.{is_global, is_taken, doing_uses, doing_defines}
 
@@ -25,7 +25,7 @@ is_outside_root p (Result f) = false
 abbrev pub is_outside : Program → Location → Bool
 is_outside p l = is_outside_root p l.root
 
-module _ (p : Program) (points : PointsTo) where
+module _ (p : Program) (points : TargetsOf) where
   -- some statement of a function that is called from f may define l
   pub record Modifies (f : ℕ) (l : Location) : Type 0 where
     pub function : ℕ
@@ -50,6 +50,6 @@ pub record FunctionEffects : Type 0 where
   pub used : ℕ → Location → Bool
 
 -- exactly these
-pub record AreFunctionEffects (p : Program) (points : PointsTo) (e : FunctionEffects) : Type 0 where
+pub record AreFunctionEffects (p : Program) (points : TargetsOf) (e : FunctionEffects) : Type 0 where
   pub modified_are : (f : ℕ) (l : Location) → (e.modified f l ≡ true) ↔ Modifies p points f l
   pub used_are : (f : ℕ) (l : Location) → (e.used f l ≡ true) ↔ MayUse p points f l

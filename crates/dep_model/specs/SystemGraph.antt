@@ -13,7 +13,7 @@ use Rattle.dep_model.specs.declared.vertex.VertexKind.{VertexKind}
 use Rattle.dep_model.specs.declared.vertex.VertexKind.TheVariants.{Entry, FormalIn, FormalOut, Call, ActualIn, ActualOut}
 use Rattle.dep_model.specs.Follows.{EffectsOf, Flows}
 use Rattle.dep_model.specs.FunctionVertices.{FollowsIn, IsControlIn}
-use Rattle.dep_model.specs.Denoted.{Places, PointsTo}
+use Rattle.dep_model.specs.Denoted.{Places, TargetsOf}
 use Rattle.dep_model.specs.Doings.{Calls, doings_of}
 use Rattle.dep_model.specs.MayPoint.{IsPointsTo}
 use Rattle.dep_model.specs.ModRef.{FunctionEffects, AreFunctionEffects}
@@ -21,7 +21,7 @@ use Rattle.dep_model.specs.VertexOrder.{in_function, program_vertices, vertex_ef
 
 -- what dependence is found from: where each location may point, and what each function may modify and use
 pub record Analysis : Type 0 where
-  pub points : PointsTo
+  pub points : TargetsOf
   pub effects : FunctionEffects
 
 -- that of a program
@@ -37,7 +37,7 @@ vertices_of p a = program_vertices p a.effects
 abbrev pub places_at : (Vertex → Places) → List Vertex → ℕ → Places
 places_at places vs v l = option_map_or (λ (x : Vertex). places x l) (slice_get vs v) false
 
-abbrev pub numbered_effects : Program → PointsTo → List Vertex → EffectsOf ℕ Location
+abbrev pub numbered_effects : Program → TargetsOf → List Vertex → EffectsOf ℕ Location
 numbered_effects p points vs = record {
   defines = places_at (vertex_effects p points).defines vs;
   uses = places_at (vertex_effects p points).uses vs;
@@ -45,7 +45,7 @@ numbered_effects p points vs = record {
 }
 
 -- a flow edge of a function
-pub record IsFlowIn (p : Program) (points : PointsTo) (vs : List Vertex) (f : ℕ) (e : Edge) : Type 0 where
+pub record IsFlowIn (p : Program) (points : TargetsOf) (vs : List Vertex) (f : ℕ) (e : Edge) : Type 0 where
   pub labelled : e.label ≡ label.Flow
   pub flows : Flows (λ (v w : ℕ). FollowsIn p vs f v (Some w)) (numbered_effects p points vs) e.from e.to
 

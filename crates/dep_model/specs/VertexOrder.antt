@@ -1,11 +1,12 @@
 -- The vertices of a program in their order, and what each may define, may use and kills (Horwitz, Reps and Binkley 1990).
-use Rattle.std.specs.Prelude.{ℕ, suc, ◌==◌, List, [], ◌∷◌, ◌++◌, map, Bool, false, ◌&&◌, ◌||◌, not, if◌then◌else◌, Option, Some, None, slice_get, bytes_eq, codes, is_some}
+use Rattle.std.specs.Prelude.{ℕ, suc, ◌==◌, List, [], ◌∷◌, ◌++◌, map, Bool, false, ◌&&◌, ◌||◌, not, if◌then◌else◌, Option, Some, None, slice_get, is_some}
 use Rattle.std.specs.List.{find}
 use Rattle.std.specs.Option.{option_map_or}
 use Rattle.c_tree.specs.declared.program.Function.{Function}
 use Rattle.c_tree.specs.declared.program.Program.{Program}
 use Rattle.c_tree.specs.declared.statement.Target.{Target}
 use Rattle.c_tree.specs.declared.statement.Target.TheVariants as target
+use Rattle.c_language.specs.Mains.{is_main_of}
 use Rattle.dep_model.specs.declared.location.Location.{Location}
 use Rattle.dep_model.specs.declared.vertex.Slot.{Slot}
 use Rattle.dep_model.specs.declared.vertex.Slot.TheVariants.{Argument, Result, At}
@@ -14,7 +15,7 @@ use Rattle.dep_model.specs.declared.vertex.VertexKind.{VertexKind}
 use Rattle.dep_model.specs.declared.vertex.VertexKind.TheVariants.{Entry, FormalIn, FormalOut, Statement, Call, ActualIn, ActualOut}
 use Rattle.dep_model.specs.Follows.{EffectsOf}
 use Rattle.dep_model.specs.Locations.{TypedLocation, locations, same_location}
-use Rattle.dep_model.specs.Denoted.{Places, PointsTo, whole, no_places}
+use Rattle.dep_model.specs.Denoted.{Places, TargetsOf, whole, no_places}
 use Rattle.dep_model.specs.Doings.{doing_number, Doing, Does, Calls, doings_of}
 use Rattle.dep_model.specs.DoingEffects.{result_of, maybe_reads, target_reads, target_places, target_kills, act_uses, act_defines, act_kills}
 use Rattle.dep_model.specs.MayPoint.{parameters}
@@ -32,6 +33,10 @@ arguments_from k (a ∷ as_) = Argument k ∷ arguments_from (suc k) as_
 abbrev pub in_function : ℕ → VertexKind → Vertex
 in_function f k = record { function = f; kind = k }
 
+-- whether a function isn't void
+abbrev pub has_result : Program → ℕ → Bool
+has_result p f = option_map_or (λ (g : Function). is_some g.result) (slice_get p.functions f) false
+
 module _ (p : Program) (effects : FunctionEffects) where
   abbrev pub touched : ℕ → Places
   touched f l = effects.modified f l || effects.used f l
@@ -41,7 +46,7 @@ module _ (p : Program) (effects : FunctionEffects) where
 
   -- void functions and main have no result that goes out
   abbrev pub result_slots : ℕ → List Slot
-  result_slots f = option_map_or (λ (g : Function). if is_some g.result && not (bytes_eq g.name (codes "main")) then Result ∷ [] else []) (slice_get p.functions f) []
+  result_slots f = if has_result p f && not (is_main_of p f) then Result ∷ [] else []
 
   -- the parameters, and each location that the function modifies or uses
   abbrev pub formal_ins : ℕ → List VertexKind
@@ -82,10 +87,11 @@ module _ (p : Program) (effects : FunctionEffects) where
 abbrev pub has_number : ℕ → Doing → Bool
 has_number i d = doing_number d == i
 
-module _ (p : Program) (points : PointsTo) where
-  abbrev pub doing_at : ℕ → ℕ → Option Doing
-  doing_at f i = find (has_number i) (doings_of p f)
+-- statement i of a function
+abbrev pub doing_at : Program → ℕ → ℕ → Option Doing
+doing_at p f i = find (has_number i) (doings_of p f)
 
+module _ (p : Program) (points : TargetsOf) where
   abbrev pub of_location : Option TypedLocation → Places
   of_location None l = false
   of_location (Some o) l = same_location o.location l
@@ -136,28 +142,28 @@ module _ (p : Program) (points : PointsTo) where
   kind_uses f Entry = no_places
   kind_uses f (FormalIn slot) = no_places
   kind_uses f (FormalOut slot) = slot_places f slot
-  kind_uses f (Statement i) = statement_uses (doing_at f i)
+  kind_uses f (Statement i) = statement_uses (doing_at p f i)
   kind_uses f (Call i) = no_places
-  kind_uses f (ActualIn i slot) = actual_uses f (doing_at f i) slot
-  kind_uses f (ActualOut i slot) = out_uses (doing_at f i) slot
+  kind_uses f (ActualIn i slot) = actual_uses f (doing_at p f i) slot
+  kind_uses f (ActualOut i slot) = out_uses (doing_at p f i) slot
 
   abbrev pub kind_defines : ℕ → VertexKind → Places
   kind_defines f Entry = no_places
   kind_defines f (FormalIn slot) = slot_places f slot
   kind_defines f (FormalOut slot) = no_places
-  kind_defines f (Statement i) = statement_defines f (doing_at f i)
+  kind_defines f (Statement i) = statement_defines f (doing_at p f i)
   kind_defines f (Call i) = no_places
   kind_defines f (ActualIn i slot) = no_places
-  kind_defines f (ActualOut i slot) = out_defines f (doing_at f i) slot
+  kind_defines f (ActualOut i slot) = out_defines f (doing_at p f i) slot
 
   abbrev pub kind_kills : ℕ → VertexKind → Places
   kind_kills f Entry = no_places
   kind_kills f (FormalIn slot) = no_places
   kind_kills f (FormalOut slot) = no_places
-  kind_kills f (Statement i) = statement_kills f (doing_at f i)
+  kind_kills f (Statement i) = statement_kills f (doing_at p f i)
   kind_kills f (Call i) = no_places
   kind_kills f (ActualIn i slot) = no_places
-  kind_kills f (ActualOut i slot) = out_kills f (doing_at f i) slot
+  kind_kills f (ActualOut i slot) = out_kills f (doing_at p f i) slot
 
   abbrev pub vertex_effects : EffectsOf Vertex Location
   vertex_effects = record {

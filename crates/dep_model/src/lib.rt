@@ -3,20 +3,28 @@
 #![tactic(auto)]
 
 mod edge;
+mod facts;
+mod graph;
+mod graph_fault;
 mod groups;
 mod location;
 mod pair_order;
 mod plain_graph;
+mod points_to;
 mod skeleton;
 mod switch_arms;
 mod vertex;
 
-pub use c_tree::Text;
+pub use c_tree::{LimitName, Text};
 pub use edge::{Edge, Label};
+pub use facts::{Facts, WordList};
+pub use graph::{EdgeList, FunctionGraph, Graph, OutRow, OutRowList};
+pub use graph_fault::GraphFault;
 pub use groups::{Group, StatementVertices, numbers_of};
 pub use location::{Location, LocationId, LocationPath, Part, Root};
 pub use pair_order::ascend;
 pub use plain_graph::PlainGraph;
+pub use points_to::{Effects, PointsTo};
 pub use rule_closure::{Closure, Rule, VertexSet};
 pub use skeleton::{FlowGraph, Pair, PairList, Skeleton, VertexList};
 pub use switch_arms::taken_arms;

@@ -18,7 +18,7 @@ use Rattle.dep_model.specs.declared.location.Part.{Part}
 use Rattle.dep_model.specs.declared.location.Root.{Root}
 use Rattle.dep_model.specs.declared.location.Root.TheVariants.{Input, Variable, Site, Result}
 use Rattle.dep_model.specs.declared.vertex.Vertex.{Vertex}
-use Rattle.dep_model.specs.Denoted.{PointsTo, variable, whole}
+use Rattle.dep_model.specs.Denoted.{TargetsOf, variable, whole}
 use Rattle.dep_model.specs.Doings.{Doing, Does, Calls, doings_of}
 use Rattle.dep_model.specs.DoingEffects.{result_of}
 use Rattle.dep_model.specs.IntegerEffects.{place_step, variables_set, begun, act_set, gives_result, any_whole}
@@ -148,7 +148,7 @@ module _ (p : Program) (h : IsNumberedMain p) where
     | inr later ↦ some_listed xs l below.1 later
   ]
 
-  module _ (points : PointsTo) where
+  module _ (points : TargetsOf) where
     found_listed : (o : Option Doing) (l : Location) → ((d : Doing) → o ≡ Some d → is_integer_doing d ≡ true) → ((d : Doing) → o ≡ Some d → doing_below (length p.vars) d ≡ true) → statement_defines p points 0 o l ≡ true → IsListed p l
     found_listed None l is below t = absurd (false≢true t)
     found_listed (Some (Does i a)) l is below t = elim (or_cases (any_whole (act_set a) l) (gives_result a && same_location (result_of 0) l) (sym ((acts_on p h.integer points a (is (Does i a) refl)).defines_are l) ∙ t)) [

@@ -10,7 +10,7 @@ use Rattle.dep_model.specs.declared.location.Location.{Location}
 use Rattle.dep_model.specs.declared.vertex.Vertex.{Vertex}
 use Rattle.dep_model.specs.declared.vertex.VertexKind.{VertexKind}
 use Rattle.dep_model.specs.Controls.{Controller}
-use Rattle.dep_model.specs.Denoted.{PointsTo}
+use Rattle.dep_model.specs.Denoted.{TargetsOf}
 use Rattle.dep_model.specs.Follows.{enters, InTurn, VerticesAt, start, Follows, Chain, last, more}
 use Rattle.dep_model.specs.FunctionVertices.{numbers, code_in, vertices_at, heads, tails, FollowsIn, controller_vertices, IsControlIn, nested, formal, actual, is_entry, is_formal_in}
 use Rattle.dep_model.specs.SystemGraph.{IsFlowIn}
@@ -104,7 +104,7 @@ module _ (p : Program) (vs : List Vertex) (f : ℕ) where
   chain_low kills l v w (last h) = follows_in_low v (Some w) h
   chain_low kills l v w (more {u} h free rest) = ((follows_in_low v (Some u) h).0, (chain_low kills l u w rest).1)
 
-  pub flow_low : (points : PointsTo) (e : Edge) → IsFlowIn p points vs f e → IsEdgeWithin (length vs) e
+  pub flow_low : (points : TargetsOf) (e : Edge) → IsFlowIn p points vs f e → IsEdgeWithin (length vs) e
   flow_low points e h =
       let c = chain_low _ h.flows.location e.from e.to h.flows.chain in
       record { from_in = c.0; to_in = c.1 }
