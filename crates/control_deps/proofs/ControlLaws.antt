@@ -17,7 +17,8 @@ use Rattle.dep_model.proofs.Membership.{IsIn, in_of_contains, contains_of_in, in
 use Rattle.control_deps.proofs.CodeLaws.{vertices_of, controlled_of, of_controlled}
 use Rattle.control_deps.proofs.StatementLaws.{walks_into, walks_from}
 use Rattle.control_deps.proofs.AttachedLaws.{is_formal, attached_of, formal_attached, actual_attached}
-use Rattle.dep_model.specs.EdgeOrder.{AreAscendingEdges, ends}
+use Rattle.dep_model.specs.EdgeOrder.{AreAscendingEdges}
+use Rattle.dep_model.proofs.EdgeOrderLemmas.{ends, ascending_by_ends}
 
 module _ (p : Program) (vs : List Vertex) (f : ℕ) (own : ℕ → List ℕ) (owns : (i : ℕ) → own i ≡ numbers (is_own i) f vs) where
   abbrev entry : List ℕ
@@ -86,7 +87,7 @@ ends_back [] = refl
 ends_back (x ∷ xs) = ap (λ ys. x ∷ ys) (ends_back xs)
 
 pub edges_ascending : (xs : List Pair) (es : List Edge) → AreAscending xs → es ≡ map control_edge xs → AreAscendingEdges es
-edges_ascending xs es h is = subst AreAscending (sym (ends_back xs) ∙ ap (map ends) (sym is)) h
+edges_ascending xs es h is = ascending_by_ends es (subst AreAscending (sym (ends_back xs) ∙ ap (map ends) (sym is)) h)
 
 -- what the two walks leave
 pub walked : (own : ℕ → List ℕ) (f : ℕ) (vs : List Vertex) (none first all : List Pair) (body body_ : List Statement) (e e1 e2 : List ℕ) → none ≡ [] → body_ ≡ body → e1 ≡ e → e2 ≡ e → first ≡ none ++ walks own body_ e1 → all ≡ first ++ attached_from (controllers e2 own f) 0 vs → all ≡ walks own body e ++ attached_from (controllers e own f) 0 vs

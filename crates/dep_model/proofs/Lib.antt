@@ -1,6 +1,8 @@
 pub mod BoolLemmas
 pub mod CompletionLemmas
 pub mod DoingForms
+pub mod EdgeOrderLemmas
+pub mod EntryLaws
 pub mod FollowsLemmas
 pub mod FunctionCode
 pub mod Grown

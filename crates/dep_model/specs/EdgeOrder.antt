@@ -23,6 +23,9 @@ IsLess [] ys = ⊥
 IsLess (x ∷ xs) [] = ⊥
 IsLess (x ∷ xs) (y ∷ ys) = (x < y) ⊎ ((x ≡ y) × IsLess xs ys)
 
--- each edge comes before those after it, so that none stands twice
+abbrev pub IsBefore : Edge → Edge → Type 0
+IsBefore e f = IsLess (edge_keys e) (edge_keys f)
+
+-- each edge is before those behind it, so that none stands twice
 abbrev pub AreAscendingEdges : List Edge → Type 0
-AreAscendingEdges = AllPairs (λ (e f : Edge). IsLess (edge_keys e) (edge_keys f))
+AreAscendingEdges = AllPairs IsBefore

@@ -20,7 +20,8 @@ use Rattle.dep_model.specs.IntegerEffects.{any_whole, act_read, act_set, act_nam
 use Rattle.dep_model.specs.Locations.{locations, same_location}
 use Rattle.dep_model.specs.MainVertices.{from, vertices, main_vertices}
 use Rattle.dep_model.specs.NumberedMains.{IsNumberedMain}
-use Rattle.dep_model.specs.Skeletons.{AreRows, IsSkeleton}
+use Rattle.dep_model.specs.LocationRows.{AreRows}
+use Rattle.dep_model.specs.Skeletons.{IsSkeleton}
 use Rattle.dep_model.specs.SystemGraph.{Analysis, IsAnalysis, vertices_of}
 use Rattle.dep_model.specs.VertexOrder.{has_number, in_function, statement_uses, statement_defines, statement_kills, vertex_effects}
 use Rattle.dep_model.proofs.BoolLemmas.{or_both, and_true}

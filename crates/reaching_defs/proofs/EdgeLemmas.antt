@@ -2,8 +2,7 @@
 use Rattle.std.proofs.Common.{◌≡◌, ℕ, ◌+◌, ◌-◌, ◌<◌, ◌≤◌, ◌⊎◌, ◌↔◌, inl, inr, Bool, false, List, [], ◌∷◌, ◌++◌, map, get_or, replicate, Contains, All, refl, sym, ap, ◌∙◌, subst, arith}
 use Rattle.std.specs.Prelude.{IsTrue}
 use Rattle.std.proofs.lemmas.Bool.{cases_eq, false≢true}
-use Rattle.std.proofs.lemmas.List.{map-append, get_or_default}
-use Rattle.std.proofs.lemmas.List.Elements.{Contains-push, Contains-push_cases, Contains-append_left}
+use Rattle.std.proofs.lemmas.List.Elements.{Contains-get_or, Contains-push, Contains-push_cases, Contains-append_left}
 use Rattle.std.proofs.lemmas.List.Quantifiers.{all_pairs_push}
 use Rattle.bit_rows.specs.Sets.{has}
 use Rattle.dep_model.specs.declared.edge.Edge.{Edge}
@@ -12,9 +11,8 @@ use Rattle.dep_model.specs.declared.skeleton.Pair.{Pair}
 use Rattle.dep_model.specs.declared.skeleton.Skeleton.{Skeleton}
 use Rattle.dep_model.specs.declared.skeleton.FlowGraph.{FlowGraph}
 use Rattle.dep_model.specs.Follows.{Chain, last, more}
-use Rattle.dep_model.specs.EdgeOrder.{ends, AreAscendingEdges}
-use Rattle.dep_model.specs.PairOrder.{precedes, AreAscending}
-use Rattle.rule_closure.proofs.ListLemmas.{contains_map, contains_none}
+use Rattle.dep_model.specs.EdgeOrder.{IsBefore, AreAscendingEdges}
+use Rattle.rule_closure.proofs.ListLemmas.{contains_none}
 use Rattle.reaching_defs.specs.FlowEdges.{flow_edge, IsTargeted}
 use Rattle.reaching_defs.specs.RowFlow.{row_has, Leads, IsRowFlow}
 use Rattle.reaching_defs.specs.Spans.{IsPairAmong, FlowsAmong}
@@ -53,15 +51,12 @@ module _ (v base : ℕ) (targets : List Bool) (old : List Edge) where
       ],
     );
     ascending =
-        let one : Pair = record { from = v; to = base + w } in
-        subst AreAscending (sym (map-append ends new (flow_edge v (base + w) ∷ [])))
-        (all_pairs_push precedes (map ends new) one i.ascending (λ k d low.
-        let x = get_or (map ends new) k d in
-        let m = contains_map ends new x (k, low, get_or_default (map ends new) k x d low) in
-        subst (λ y. precedes y one) m.2 (elim ((i.exact m.0).0 m.1) [
-          | inl b ↦ inl (before m.0 b)
-          | inr t ↦ inr (ap (λ (y : Edge). y.from) t.is, (let q : m.0.to ≡ base + t.target = ap (λ (y : Edge). y.to) t.is in omega (arith, q, t.early)))
-        ])));
+        all_pairs_push IsBefore new (flow_edge v (base + w)) i.ascending (λ k d low.
+        let e : Edge = get_or new k d in
+        elim ((i.exact e).0 (Contains-get_or new k d low)) [
+          | inl b ↦ inl (before e b)
+          | inr t ↦ inr (ap (λ (y : Edge). y.from) t.is, inl (let q : e.to ≡ base + t.target = ap (λ (y : Edge). y.to) t.is in omega (arith, q, t.early)))
+        ]);
   }
 
   pub pushed_pass : (w : ℕ) (new : List Edge) → ArePushed v base w targets old new → has targets w ≡ false → ArePushed v base (w + 1) targets old new

@@ -16,7 +16,8 @@ use Rattle.dep_model.specs.Denoted.{Places}
 use Rattle.dep_model.specs.Follows.{Chain, last, more}
 use Rattle.dep_model.specs.FunctionVertices.{FollowsIn}
 use Rattle.dep_model.specs.Locations.{TypedLocation, locations}
-use Rattle.dep_model.specs.Skeletons.{AreRows, IsSkeleton}
+use Rattle.dep_model.specs.LocationRows.{AreRows}
+use Rattle.dep_model.specs.Skeletons.{IsSkeleton}
 use Rattle.dep_model.specs.SystemGraph.{Analysis, vertices_of, places_at, numbered_effects, IsFlowIn}
 use Rattle.dep_model.specs.VertexOrder.{vertex_effects}
 use Rattle.rule_closure.proofs.ListLemmas.{contains_map}

@@ -5,14 +5,17 @@ use Rattle.std.proofs.lemmas.Bool.{eqb-true, cases_lt, or_left, or_right, and_fr
 use Rattle.std.proofs.Common.{get_or-set_other, get_or-set_same}
 use Rattle.bit_rows.specs.Sets.{has}
 use Rattle.bit_rows.proofs.SetLemmas.{has-empty}
+use Rattle.rule_closure.proofs.SetLemmas.{has_in_range, same_members}
 use Rattle.c_tree.specs.declared.program.Program.{Program}
 use Rattle.c_tree.specs.declared.numbered.Start.{Start}
 use Rattle.c_tree.specs.Numbered.{Starts, program_starts}
 use Rattle.dep_model.specs.MainVertices.{vertices}
-use Rattle.slice_engine.specs.Slice.{keeps_statement, IsCriterion}
+use Rattle.slice_engine.specs.Slice.{keeps_statement, starts_on}
 use Rattle.slice_engine.specs.Criterion.{marked_if, with_starts}
 use Rattle.slice_engine.proofs.Vertices.{length-vertices, kept_vertex}
-use Rattle.dep_model.specs.MainVertices.{from}
+use Rattle.dep_model.specs.Criteria.{is_wanted, criterion_of}
+use Rattle.dep_model.specs.MainVertices.{from, statement_vertex}
+use Rattle.dep_model.specs.declared.vertex.Vertex.{Vertex}
 use Rattle.dep_model.specs.declared.vertex.VertexKind.TheVariants.{Statement as AtStatement}
 use Rattle.slice_engine.proofs.CriterionLemmas.{length-marked_if, length-with_starts}
 use Rattle.dep_model.specs.VertexOrder.{in_function}
@@ -92,18 +95,54 @@ pub empty_long : (n : ℕ) → length (replicate n false) ≡ n
 empty_long zero = refl
 empty_long (suc n) = ap suc (empty_long n)
 
-pub criterion_is : (p : Program) (line : ℕ) → AreNumbers p.statements (program_starts p) → IsCriterion p line (with_starts line (program_starts p) (replicate (p.statements + 1) false))
-criterion_is p line h =
-    let found = program_starts p in
-    let none = replicate (p.statements + 1) false in
-    record {
-      size = length-with_starts line found none ∙ empty_long (p.statements + 1) ∙ sym (length-vertices p ∙ sym (add-one p.statements));
-      members = λ i. elim (cases_lt i p.statements) [
-        | inl lt ↦ kept_vertex p (with_starts line found none) i lt ∙ ap (has (with_starts line found none)) (sym (add-one i)) ∙ has-with_starts line found i p.statements none h (empty_long (p.statements + 1)) ∙ ap (λ b. starts_in line found i || b) (has-empty (p.statements + 1) (i + 1)) ∙ or_none (starts_in line found i)
-        | inr ge ↦ kept_past p (with_starts line found none) i ge ∙ sym (marked_past line found i p.statements h ge)
-      ];
-      no_entry = entry_stays line found none ∙ has-empty (p.statements + 1) 0;
-    }
+module _ (set : ℕ → Bool) where
+  wanted_from : (s n i : ℕ) → i < n → get_or (map (λ (v : Vertex). is_wanted set v.kind) (map statement_vertex (from s n))) i false ≡ set (s + i)
+  wanted_from s zero i lt = absurd (omega (arith, lt))
+  wanted_from s (suc n) zero lt = let e : s ≡ s + 0 = omega arith in ap set e
+  wanted_from s (suc n) (suc i) lt = let e : suc s + i ≡ s + suc i = omega arith in wanted_from (suc s) n i (omega (arith, lt)) ∙ ap set e
+
+  -- the vertex of a statement is wanted where the statement is
+  pub wanted_is : (p : Program) (i : ℕ) → i < p.statements → has (criterion_of set (vertices p)) (suc i) ≡ set i
+  wanted_is p i lt = let e : 0 + i ≡ i = omega arith in wanted_from 0 p.statements i lt ∙ ap set e
+
+  length_wanted : (vs : List Vertex) → length (criterion_of set vs) ≡ length vs
+  length_wanted [] = refl
+  length_wanted (v ∷ vs) = ap suc (length_wanted vs)
+
+  pub criterion_long : (p : Program) → length (criterion_of set (vertices p)) ≡ suc p.statements
+  criterion_long p = length_wanted (vertices p) ∙ length-vertices p
+
+module _ (p : Program) (line : ℕ) (h : AreNumbers p.statements (program_starts p)) where
+  abbrev marked : List Bool
+  marked = with_starts line (program_starts p) (replicate (p.statements + 1) false)
+
+  abbrev wanted : List Bool
+  wanted = criterion_of (starts_on p line) (vertices p)
+
+  marked_is : (i : ℕ) → has marked (suc i) ≡ starts_on p line i
+  marked_is i =
+      ap (has marked) (sym (add-one i)) ∙ has-with_starts line (program_starts p) i p.statements (replicate (p.statements + 1) false) h (empty_long (p.statements + 1)) ∙ ap (λ b. starts_in line (program_starts p) i || b) (has-empty (p.statements + 1) (i + 1)) ∙ or_none (starts_in line (program_starts p) i)
+
+  each_marked : (v : ℕ) → v < p.statements + 1 → has marked v ≡ has wanted v
+  each_marked zero lt = entry_stays line (program_starts p) (replicate (p.statements + 1) false) ∙ has-empty (p.statements + 1) 0
+  each_marked (suc i) lt = marked_is i ∙ sym (wanted_is (starts_on p line) p i (omega (arith, lt)))
+
+  -- the set that was marked is the criterion
+  pub criterion_is : marked ≡ wanted
+  criterion_is =
+      let long : length marked ≡ p.statements + 1 = length-with_starts line (program_starts p) (replicate (p.statements + 1) false) ∙ empty_long (p.statements + 1) in
+      let also : length wanted ≡ p.statements + 1 = criterion_long (starts_on p line) p ∙ sym (add-one p.statements) in
+      same_members marked wanted (long ∙ sym also) (λ v. (
+        λ t. let lt = has_in_range marked v t in sym (each_marked v (omega (arith, lt, long))) ∙ t,
+        λ t. let lt = has_in_range wanted v t in each_marked v (omega (arith, lt, also)) ∙ t,
+      ))
+
+  -- it keeps exactly the statements that start on the line
+  pub criterion_members : (i : ℕ) → keeps_statement (vertices p) wanted i ≡ starts_on p line i
+  criterion_members i = elim (cases_lt i p.statements) [
+    | inl lt ↦ kept_vertex p wanted i lt ∙ wanted_is (starts_on p line) p i lt
+    | inr ge ↦ kept_past p wanted i ge ∙ sym (marked_past line (program_starts p) i p.statements h ge)
+  ]
 
 -- ---- whether some statement starts on a line
 

@@ -1,21 +1,22 @@
 -- A program has one slice at a line: the definitions leave no byte of it open.
 use Rattle.std.proofs.Common.{◌≡◌, ◌↔◌, ℕ, zero, suc, ◌<◌, List, [], ◌∷◌, ◌++◌, length, Bool, inl, inr, refl, sym, ap, ◌∙◌, subst, arith, IsTrue}
 use Rattle.std.specs.Prelude.{Contains, AllPairs}
-use Rattle.std.proofs.lemmas.Bool.{false≢true}
 use Rattle.std.proofs.lemmas.List.Elements.{All-contains}
 use Rattle.bit_rows.specs.Sets.{has}
 use Rattle.c_tree.specs.declared.program.Program.{Program}
 use Rattle.c_language.specs.Words.{Bytes}
 use Rattle.c_language.specs.Layout.{layout}
 use Rattle.dep_model.specs.declared.edge.Edge.{Edge}
-use Rattle.dep_model.proofs.OneAnalysis.{same_edges}
+use Rattle.dep_model.proofs.OneAnalysis.{one_analysis, same_edges}
+use Rattle.dep_model.proofs.EntryLaws.{main_entry_one}
+use Rattle.dep_model.specs.NamedParameters.{NamesParameter}
+use Rattle.dep_model.specs.SystemGraph.{Analysis, vertices_of}
 use Rattle.dep_model.specs.Words.{IsPath, ReachesAny}
-use Rattle.dep_model.specs.Completion.{IsClosed, IsCompletion, NamesNone}
+use Rattle.dep_model.specs.Completion.{IsClosed, IsCompletion}
 use Rattle.rule_closure.proofs.ListLemmas.{contains_none, contains_head, contains_cons, contains_cases}
-use Rattle.rule_closure.proofs.SetLemmas.{has_in_range, same_members}
+use Rattle.rule_closure.proofs.SetLemmas.{same_members}
 use Rattle.dep_model.proofs.CompletionLemmas.{completion_unique}
-use Rattle.slice_engine.specs.Slice.{IsCriterion, IsKeptSet, sliced, AreLines, header, IsSlice}
-use Rattle.slice_engine.proofs.Vertices.{length-vertices, kept_vertex}
+use Rattle.slice_engine.specs.Slice.{criterion, IsKeptSet, sliced, AreLines, header, IsSlice}
 
 -- ---- ascending lists
 
@@ -83,8 +84,8 @@ module _ (es fs : List Edge) (each : (e : Edge) → Contains es e → Contains f
         };
       }
 
-  closed_among : (s : List Bool) → IsClosed fs NamesNone 0 s → IsClosed es NamesNone 0 s
-  closed_among s c = record {
+  closed_among : (Names : ℕ → ℕ → Type 0) (main : ℕ) (s : List Bool) → IsClosed fs Names main s → IsClosed es Names main s
+  closed_among Names main s c = record {
     controls = λ e m. c.controls e (each e m);
     flows = λ e m. c.flows e (each e m);
     formal_outs = λ e n m. c.formal_outs e n (each e m);
@@ -94,48 +95,45 @@ module _ (es fs : List Edge) (each : (e : Edge) → Contains es e → Contains f
     entry = c.entry;
   }
 
-completion_among : (es fs : List Edge) → ((e : Edge) → Contains es e → Contains fs e) → ((e : Edge) → Contains fs e → Contains es e) → (x k : List Bool) → IsCompletion es NamesNone 0 x k → IsCompletion fs NamesNone 0 x k
-completion_among es fs each back x k c = record {
+completion_among : (es fs : List Edge) → ((e : Edge) → Contains es e → Contains fs e) → ((e : Edge) → Contains fs e → Contains es e) → (Names : ℕ → ℕ → Type 0) (main : ℕ) (x k : List Bool) → IsCompletion es Names main x k → IsCompletion fs Names main x k
+completion_among es fs each back Names main x k c = record {
   size = c.size;
   holds = c.holds;
-  closed = closed_among fs es back k c.closed;
-  least = λ t size holds closed. c.least t size holds (closed_among es fs each t closed);
+  closed = closed_among fs es back Names main k c.closed;
+  least = λ t size holds closed. c.least t size holds (closed_among es fs each Names main t closed);
 }
 
 -- ---- one slice
 
 module _ (p : Program) (line : ℕ) where
-  criterion_member : (x y : List Bool) → IsCriterion p line x → IsCriterion p line y → (v : ℕ) → IsTrue (has x v) → IsTrue (has y v)
-  criterion_member x y a b zero h = absurd (false≢true (sym a.no_entry ∙ h))
-  criterion_member x y a b (suc i) h =
-      let low = has_in_range x (suc i) h in
-      let size = a.size in
-      let lt : i < p.statements = omega (arith, low, size, length-vertices p) in
-      sym (kept_vertex p y i lt) ∙ b.members i ∙ sym (a.members i) ∙ kept_vertex p x i lt ∙ h
-
-  criterion_one : (x y : List Bool) → IsCriterion p line x → IsCriterion p line y → x ≡ y
-  criterion_one x y a b =
-      same_members x y (a.size ∙ sym b.size) (λ v. (criterion_member x y a b v, criterion_member y x b a v))
-
-  -- the vertices that a slice keeps are one set
-  pub kept_one : (k m : List Bool) → IsKeptSet p line k → IsKeptSet p line m → k ≡ m
-  kept_one k m a b =
-      let each : (e : Edge) → Contains a.edges e → Contains b.edges e = same_edges p a.analysis b.analysis a.edges b.edges a.is_analysis b.is_analysis a.are_edges b.are_edges in
-      let back : (e : Edge) → Contains b.edges e → Contains a.edges e = same_edges p b.analysis a.analysis b.edges a.edges b.is_analysis a.is_analysis b.are_edges a.are_edges in
-      let from : a.criterion ≡ b.criterion = criterion_one a.criterion b.criterion a.is_criterion b.is_criterion in
-      let reached : a.keeps_from.reached ≡ b.keeps_from.reached = same_members a.keeps_from.reached b.keeps_from.reached (a.keeps_from.is_reached.size ∙ ap length from ∙ sym b.keeps_from.is_reached.size) (λ v. (
-        λ h. (b.keeps_from.is_reached.members v).1 (reaches_among a.edges b.edges each b.criterion v (subst (λ s. ReachesAny a.edges s v) from ((a.keeps_from.is_reached.members v).0 h))),
-        λ h. (a.keeps_from.is_reached.members v).1 (reaches_among b.edges a.edges back a.criterion v (subst (λ s. ReachesAny b.edges s v) (sym from) ((b.keeps_from.is_reached.members v).0 h))),
+  -- by one analysis the vertices that a slice keeps are one set
+  kept_by_one : (a : Analysis) (k m : List Bool) → IsKeptSet p a line k → IsKeptSet p a line m → k ≡ m
+  kept_by_one a k m h j =
+      let each : (e : Edge) → Contains h.edges e → Contains j.edges e = same_edges p a a h.edges j.edges h.is_analysis j.is_analysis h.are_edges j.are_edges in
+      let back : (e : Edge) → Contains j.edges e → Contains h.edges e = same_edges p a a j.edges h.edges j.is_analysis h.is_analysis j.are_edges h.are_edges in
+      let from = criterion p a line in
+      let reached : h.reached ≡ j.reached = same_members h.reached j.reached (h.is_reached.size ∙ sym j.is_reached.size) (λ v. (
+        λ t. (j.is_reached.members v).1 (reaches_among h.edges j.edges each from v ((h.is_reached.members v).0 t)),
+        λ t. (h.is_reached.members v).1 (reaches_among j.edges h.edges back from v ((j.is_reached.members v).0 t)),
       )) in
-      completion_unique b.edges NamesNone 0 b.keeps_from.reached k m (completion_among a.edges b.edges each back b.keeps_from.reached k (subst (λ s. IsCompletion a.edges NamesNone 0 s k) reached a.keeps_from.completes)) b.keeps_from.completes
+      let Names = NamesParameter p (vertices_of p a) in
+      let main : h.completes.main ≡ j.completes.main = main_entry_one p a h.completes.main j.completes.main h.completes.is_entry j.completes.is_entry in
+      let there : IsCompletion h.edges Names j.completes.main j.reached k = subst (λ s. IsCompletion h.edges Names j.completes.main s k) reached (subst (λ v. IsCompletion h.edges Names v h.reached k) main h.completes.completes) in
+      completion_unique j.edges Names j.completes.main j.reached k m (completion_among h.edges j.edges each back Names j.completes.main j.reached k there) j.completes.completes
 
-  lines_one : (kept : List Bool) (xs ys : List ℕ) → AreLines p line kept xs → AreLines p line kept ys → xs ≡ ys
-  lines_one kept xs ys a b =
-      ascending_one xs ys a.ascending b.ascending (λ k. (λ c. (b.members k).1 ((a.members k).0 c), λ c. (a.members k).1 ((b.members k).0 c)))
+  -- and they are one set by all analyses, since there is one analysis
+  pub kept_one : (a b : Analysis) (k m : List Bool) → IsKeptSet p a line k → IsKeptSet p b line m → k ≡ m
+  kept_one a b k m h j =
+      kept_by_one b k m (subst (λ c. IsKeptSet p c line k) (one_analysis p a b h.is_analysis j.is_analysis) h) j
+
+  lines_one : (a : Analysis) (kept : List Bool) (xs ys : List ℕ) → AreLines p a line kept xs → AreLines p a line kept ys → xs ≡ ys
+  lines_one a kept xs ys b c =
+      ascending_one xs ys b.ascending c.ascending (λ k. (λ h. (c.members k).1 ((b.members k).0 h), λ h. (b.members k).1 ((c.members k).0 h)))
 
   -- two texts that are the slice are equal
   pub slice_one : (t u : Bytes) → IsSlice p line t → IsSlice p line u → t ≡ u
-  slice_one t u a b =
-      let same : a.kept ≡ b.kept = kept_one a.kept b.kept a.is_kept b.is_kept in
-      let lines : a.lines ≡ b.lines = lines_one b.kept a.lines b.lines (subst (λ k. AreLines p line k a.lines) same a.are_lines) b.are_lines in
-      a.text_is ∙ ap (λ ls. header line ls ++ layout (sliced p a.kept)) lines ∙ ap (λ k. header line b.lines ++ layout (sliced p k)) same ∙ sym b.text_is
+  slice_one t u h j =
+      let by : h.analysis ≡ j.analysis = one_analysis p h.analysis j.analysis h.is_kept.is_analysis j.is_kept.is_analysis in
+      let same : h.kept ≡ j.kept = kept_one h.analysis j.analysis h.kept j.kept h.is_kept j.is_kept in
+      let lines : h.lines ≡ j.lines = lines_one j.analysis j.kept h.lines j.lines (subst (λ k. AreLines p j.analysis line k h.lines) same (subst (λ a. AreLines p a line h.kept h.lines) by h.are_lines)) j.are_lines in
+      h.text_is ∙ ap (λ ls. header line ls ++ layout (sliced p h.analysis h.kept)) lines ∙ ap (λ a. header line j.lines ++ layout (sliced p a h.kept)) by ∙ ap (λ k. header line j.lines ++ layout (sliced p j.analysis k)) same ∙ sym j.text_is

@@ -19,18 +19,22 @@ use Rattle.c_print_laws.specs.ReadAgain.{IsReadAgain}
 use Rattle.c_print_laws.proofs.ReadAgain.{commented_is_read_again}
 use Rattle.c_print_laws.proofs.StatementStarts.{statements_start}
 use Rattle.own_words.proofs.StandingWords.{has_own_words}
+use Rattle.dep_model.specs.Criteria.{criterion_of}
+use Rattle.dep_model.specs.MainVertices.{vertices}
 use Rattle.dep_model.specs.NumberedMains.{IsNumberedMain}
+use Rattle.dep_model.specs.SystemGraph.{Analysis}
 use Rattle.rule_closure.proofs.ListLemmas.{contains_head, contains_cons}
 use Rattle.dep_model.specs.declared.edge.Edge.{Edge}
 use Rattle.projection.specs.Kept.{rank}
 use Rattle.projection.specs.Projection.{projection}
-use Rattle.slice_engine.specs.Slice.{starts_on, keeps, sliced, IsCriterion, KeepsFrom, IsKeptSet, IsStartLine, header, IsSlice, is_criterion, GivesCriterion, IsAcceptedSlice, IsFaithful}
+use Rattle.slice_engine.specs.Slice.{starts_on, keeps_statement, keeps, sliced, IsKeptSet, IsStartLine, header, IsSlice, is_criterion, GivesCriterion, IsAcceptedSlice, IsFaithful}
 use Rattle.slice_engine.specs.Criterion.{with_starts, by_rank}
 use Rattle.slice_engine.specs.Header.{shown_lines}
-use Rattle.slice_engine.specs.Engine.{IsPrepared, AreMarks, IsSlicedAt}
-use Rattle.slice_engine.proofs.CriterionLaws.{criterion_is, kept_past, empty_long}
+use Rattle.slice_engine.specs.Engine.{IsPrepared, KeepsFrom, AreMarks, IsSlicedAt}
+use Rattle.slice_engine.proofs.CriterionLaws.{criterion_is, criterion_members, kept_past, empty_long}
 use Rattle.slice_engine.proofs.CriterionLemmas.{length-with_starts}
-use Rattle.slice_engine.proofs.Vertices.{kept_vertex}
+use Rattle.slice_engine.proofs.KeptSets.{kept_set}
+use Rattle.slice_engine.proofs.Vertices.{kept_vertex, keeps_main}
 use Rattle.slice_engine.proofs.Kept.{criterion_kept, flow_closed}
 use Rattle.slice_engine.proofs.CriterionRanks.{criterion_rank}
 use Rattle.slice_engine.proofs.RankTests.{at_rank, of_rank, length-by_rank}
@@ -46,7 +50,7 @@ use Rattle.projection_laws.specs.Nested.{IsNested}
 -- ---- marks
 
 -- the tests of the vertices of a set, by number, say which statements it keeps
-marks_keep : (p : Program) (x marks : List Bool) → length marks ≡ p.statements → ((k : ℕ) → k < p.statements → get_or marks k false ≡ has x (k + 1)) → (i : ℕ) → get_or marks i false ≡ keeps p x i
+marks_keep : (p : Program) (x marks : List Bool) → length marks ≡ p.statements → ((k : ℕ) → k < p.statements → get_or marks k false ≡ has x (k + 1)) → (i : ℕ) → get_or marks i false ≡ keeps_statement (vertices p) x i
 marks_keep p x marks long each i = elim (cases_lt i p.statements) [
   | inl lt ↦ each i lt ∙ ap (has x) (add-one i) ∙ sym (kept_vertex p x i lt)
   | inr ge ↦ get_or_past marks i false (omega (arith, long, ge)) ∙ sym (kept_past p x i ge)
@@ -54,23 +58,18 @@ marks_keep p x marks long each i = elim (cases_lt i p.statements) [
 
 pub are_marks : (p : Program) (edges : List Edge) (starts : Starts) (line : ℕ) (criterion kept in_criterion marks : List Bool) → IsPrepared p edges starts → criterion ≡ with_starts line starts (replicate (p.statements + 1) false) → KeepsFrom edges criterion kept → length in_criterion ≡ p.statements → ((k : ℕ) → k < p.statements → get_or in_criterion k false ≡ has criterion (k + 1)) → length marks ≡ p.statements → ((k : ℕ) → k < p.statements → get_or marks k false ≡ has kept (k + 1)) → AreMarks p line in_criterion marks
 are_marks p edges starts line criterion kept in_criterion marks g made keeps_from in_criterion_long in_criterion_are marks_long marks_are =
-    let same : criterion ≡ with_starts line (program_starts p) (replicate (p.statements + 1) false) = made ∙ ap (λ ss. with_starts line ss (replicate (p.statements + 1) false)) g.starts_are in
-    let c : IsCriterion p line criterion = subst (IsCriterion p line) (sym same) (criterion_is p line (numbers_are p g.numbered)) in
+    let a = g.has_edges.analysis in
+    let is = g.has_edges.is_analysis in
+    let below = numbers_are p g.numbered in
+    let same : criterion ≡ criterion_of (starts_on p line) (vertices p) = made ∙ ap (λ ss. with_starts line ss (replicate (p.statements + 1) false)) g.starts_are ∙ criterion_is p line below in
     record {
+      analysis = a;
       kept = kept;
-      is_kept = record {
-        analysis = g.has_edges.analysis;
-        is_analysis = g.has_edges.is_analysis;
-        edges = edges;
-        are_edges = g.has_edges.are_edges;
-        criterion = criterion;
-        is_criterion = c;
-        keeps_from = keeps_from;
-      };
+      is_kept = kept_set p a g.numbered is line edges criterion kept g.has_edges.are_edges same keeps_from;
       in_criterion_long = in_criterion_long;
       marks_long = marks_long;
-      in_criterion_are = λ i. marks_keep p criterion in_criterion in_criterion_long in_criterion_are i ∙ c.members i;
-      marks_are = marks_keep p kept marks marks_long marks_are;
+      in_criterion_are = λ i. marks_keep p criterion in_criterion in_criterion_long in_criterion_are i ∙ ap (λ x. keeps_statement (vertices p) x i) same ∙ criterion_members p line below i;
+      marks_are = λ i. marks_keep p kept marks marks_long marks_are i ∙ ap (λ (test : ℕ → Bool). test i) (sym (keeps_main p a kept g.numbered is));
     }
 
 pub criterion_long : (line v : ℕ) (starts : Starts) (x : List Bool) → x ≡ with_starts line starts (replicate v false) → length x ≡ v
@@ -79,7 +78,7 @@ criterion_long line v starts x e = ap length e ∙ length-with_starts line start
 -- ---- the program of the slice
 
 module _ (p : Program) (line : ℕ) (in_criterion marks : List Bool) (m : AreMarks p line in_criterion marks) where
-  keeps_marked : keeps p m.kept ≡ has marks
+  keeps_marked : keeps p m.analysis m.kept ≡ has marks
   keeps_marked = fun_ext (λ i. sym (m.marks_are i))
 
   long : length in_criterion ≡ length marks
@@ -87,6 +86,7 @@ module _ (p : Program) (line : ℕ) (in_criterion marks : List Bool) (m : AreMar
 
   pub is_sliced : (q : Program) (ranks : List Bool) → q ≡ projection p (has marks) → ranks ≡ by_rank marks in_criterion → IsSlicedAt p line q ranks
   is_sliced q ranks is ranks_are = record {
+    analysis = m.analysis;
     kept = m.kept;
     is_kept = m.is_kept;
     program_is = is ∙ ap (projection p) (sym keeps_marked);
@@ -113,10 +113,10 @@ short_each (k ∷ ks) h = (h k (contains_head k ks), short_each ks (λ x c. h x 
 
 module _ (p : Program) (line : ℕ) (q : Program) (in_criterion : List Bool) (well : IsWellFormed p) (numbered : IsNumberedMain p) (s : IsSlicedAt p line q in_criterion) where
   abbrev at : ℕ → ℕ
-  at i = rank (keeps p s.kept) i
+  at i = rank (keeps p s.analysis s.kept) i
 
-  well_there : IsWellFormed (sliced p s.kept)
-  well_there = slice_well_formed p line s.kept well numbered s.is_kept
+  well_there : IsWellFormed (sliced p s.analysis s.kept)
+  well_there = slice_well_formed p s.analysis line s.kept well numbered s.is_kept
 
   well_q : IsWellFormed q
   well_q = subst IsWellFormed (sym s.program_is) well_there
@@ -140,32 +140,33 @@ module _ (p : Program) (line : ℕ) (q : Program) (in_criterion : List Bool) (we
       some_same : {a b : ℕ} → Some a ≡ Some b → a ≡ b
       some_same h = cc
 
-  line_there : (i r : ℕ) → at i ≡ r → line_of q r ≡ line_of (sliced p s.kept) (at i)
+  line_there : (i r : ℕ) → at i ≡ r → line_of q r ≡ line_of (sliced p s.analysis s.kept) (at i)
   line_there i r e = ap (line_of q) (sym e) ∙ ap (λ x. line_of x (at i)) s.program_is
 
-  line_is : (i k : ℕ) → at i < q.statements → k ≡ suc (line_of (sliced p s.kept) (at i)) → IsStartLine p s.kept i k
+  line_is : (i k : ℕ) → at i < q.statements → k ≡ suc (line_of (sliced p s.analysis s.kept) (at i)) → IsStartLine p s.analysis s.kept i k
   line_is i k lt e = record {
-    starts = statements_start (sliced p s.kept) well_there (at i) (subst (λ (x : Program). at i < x.statements) s.program_is lt);
+    starts = statements_start (sliced p s.analysis s.kept) well_there (at i) (subst (λ (x : Program). at i < x.statements) s.program_is lt);
     behind_header = e;
   }
 
-  lines_found : (lines shown : List ℕ) → AreAll lines → Shown lines shown → (k : ℕ) → Contains shown k → (i : ℕ) × (starts_on p line i ≡ true) × IsStartLine p s.kept i k
+  lines_found : (lines shown : List ℕ) → AreAll lines → Shown lines shown → (k : ℕ) → Contains shown k → (i : ℕ) × (starts_on p line i ≡ true) × IsStartLine p s.analysis s.kept i k
   lines_found lines shown all exact k h =
       let f = shown_at in_criterion lines k ((exact k).0 h) in
       let w = s.in_criterion_only f.rank f.is_shown in
       let lt = rank_low f.rank f.is_shown in
       let on : starts_on p line w.0 ≡ true = sym (s.in_criterion_are w.0 w.1) ∙ ap (λ r. get_or in_criterion r false) w.2 ∙ f.is_shown in
-      let is : k ≡ suc (line_of (sliced p s.kept) (at w.0)) = f.behind ∙ ap suc (some_line lines all f.rank f.line lt f.line_is ∙ line_there w.0 f.rank w.2) in
+      let is : k ≡ suc (line_of (sliced p s.analysis s.kept) (at w.0)) = f.behind ∙ ap suc (some_line lines all f.rank f.line lt f.line_is ∙ line_there w.0 f.rank w.2) in
       (w.0, on, line_is w.0 k (subst (λ r. r < q.statements) (sym w.2) lt) is)
 
-  found_lines : (lines shown : List ℕ) → AreAll lines → Shown lines shown → (k i : ℕ) → starts_on p line i ≡ true → IsStartLine p s.kept i k → Contains shown k
+  found_lines : (lines shown : List ℕ) → AreAll lines → Shown lines shown → (k i : ℕ) → starts_on p line i ≡ true → IsStartLine p s.analysis s.kept i k → Contains shown k
   found_lines lines shown all exact k i on l =
-      let want : get_or in_criterion (at i) false ≡ true = s.in_criterion_are i (criterion_kept p line s.kept s.is_kept i on) ∙ on in
+      let want : get_or in_criterion (at i) false ≡ true = s.in_criterion_are i (criterion_kept p s.analysis line s.kept numbered s.is_kept i on) ∙ on in
       let lt = rank_low (at i) want in
       (exact k).1 (subst (Contains (shown_lines in_criterion lines)) (sym (l.behind_header ∙ ap suc (sym (line_there i (at i) refl)))) (at_shown in_criterion lines (at i) (line_of q (at i)) want (all (at i) lt)))
 
   pub is_slice : (lines shown : List ℕ) (text : Bytes) → AreAll lines → AllPairs (λ a b. a < b) shown → Shown lines shown → text ≡ header line shown ++ layout q → IsSlice p line text
   is_slice lines shown text all ascending exact is = record {
+    analysis = s.analysis;
     kept = s.kept;
     is_kept = s.is_kept;
     lines = shown;
@@ -190,31 +191,35 @@ module _ (p : Program) (line : ℕ) (q : Program) (in_criterion : List Bool) (we
       let short = shown_short lines shown all exact fits in
       let again : IsReadAgain (header line shown ++ layout q) q = subst (λ front. IsReadAgain (front ++ layout q) q) (header_is_comment line shown) (commented_is_read_again (inside line shown) q (inside_feedless line shown low short) (inside_starless line shown low short) well_q) in
       record {
+        analysis = s.analysis;
         kept = s.kept;
         is_kept = s.is_kept;
         program = again.again;
         reads = record { raw = again.found; accepted = subst (λ t. IsAccepted t again.found again.again) (sym is) again.accepted; within = again.within };
         same_program = sym again.same ∙ ap unlined_program s.program_is;
-        own_words = has_own_words p (keeps p s.kept) (kept_nested p line s.kept well numbered s.is_kept);
+        own_words = has_own_words p (keeps p s.analysis s.kept) (kept_nested p s.analysis line s.kept well numbered s.is_kept);
       }
 
 -- ---- the same values
 
 -- what is kept gives the values of the program
-same_values_at : (p q : Program) (line : ℕ) (kept : List Bool) → IsWellFormed p → IsNumberedMain p → IsKeptSet p line kept → SameButLines q (sliced p kept) → GivesCriterion p line kept q
-same_values_at p q line kept well numbered k =
-    law (keeps p kept) (same_keeps p line kept well numbered k) (kept_nested p line kept well numbered k) (criterion_kept p line kept k) (criterion_rank p line kept k)
+same_values_at : (p q : Program) (a : Analysis) (line : ℕ) (kept : List Bool) → IsWellFormed p → IsNumberedMain p → IsKeptSet p a line kept → SameButLines q (sliced p a kept) → GivesCriterion p a line kept q
+same_values_at p q a line kept well numbered k =
+    law (keeps p a kept) (same_keeps p a line kept well numbered k) (kept_nested p a line kept well numbered k) (criterion_kept p a line kept numbered k) (criterion_rank p a line kept numbered k)
   where
     set : ℕ → Bool
     set = starts_on p line
 
-    law : (keeps : ℕ → Bool) → keeps_of kept ≡ keeps → IsNested keeps p → ((i : ℕ) → set i ≡ true → keeps i ≡ true) → StandFor keeps set (is_criterion p line kept) → SameButLines q (projection p keeps) → HasSameValues keeps set (is_criterion p line kept) p q
-    law keeps same = subst (λ (test : ℕ → Bool). IsNested test p → ((i : ℕ) → set i ≡ true → test i ≡ true) → StandFor test set (is_criterion p line kept) → SameButLines q (projection p test) → HasSameValues test set (is_criterion p line kept) p q) same
-        (λ nested held stand but_lines. same_values p q k.analysis kept set (is_criterion p line kept) well numbered k.is_analysis nested (flow_closed p line kept numbered k) held stand but_lines)
+    ranks : ℕ → Bool
+    ranks = is_criterion p a line kept
+
+    law : (keeps : ℕ → Bool) → keeps_of kept ≡ keeps → IsNested keeps p → ((i : ℕ) → set i ≡ true → keeps i ≡ true) → StandFor keeps set ranks → SameButLines q (projection p keeps) → HasSameValues keeps set ranks p q
+    law keeps same = subst (λ (test : ℕ → Bool). IsNested test p → ((i : ℕ) → set i ≡ true → test i ≡ true) → StandFor test set ranks → SameButLines q (projection p test) → HasSameValues test set ranks p q) same
+        (λ nested held stand but_lines. same_values p q a kept set ranks well numbered k.is_analysis nested (flow_closed p a line kept numbered k) held stand but_lines)
 
 -- a program gives the same values as what is read of its slice
 pub is_faithful : (p : Program) (line : ℕ) (text : Bytes) → IsWellFormed p → IsNumberedMain p → IsAcceptedSlice p line text → IsFaithful p line text
 is_faithful p line text well numbered r = record {
   accepted = r;
-  same_values = same_values_at p r.program line r.kept well numbered r.is_kept r.same_program;
+  same_values = same_values_at p r.program r.analysis line r.kept well numbered r.is_kept r.same_program;
 }

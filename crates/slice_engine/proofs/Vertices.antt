@@ -5,7 +5,10 @@ use Rattle.c_tree.specs.declared.program.Program.{Program}
 use Rattle.dep_model.specs.declared.vertex.Vertex.{Vertex}
 use Rattle.dep_model.specs.MainVertices.{from, statement_vertex, vertices}
 use Rattle.dep_model.specs.FunctionVertices.{is_own}
-use Rattle.slice_engine.specs.Slice.{keeps_statement}
+use Rattle.dep_model.specs.NumberedMains.{IsNumberedMain}
+use Rattle.dep_model.specs.SystemGraph.{Analysis, IsAnalysis}
+use Rattle.dep_model.proofs.NumberedEdges.{numbered_vertices}
+use Rattle.slice_engine.specs.Slice.{keeps_statement, keeps}
 use Rattle.std.proofs.lemmas.Bool.{or_left, or_right, or_cases, and_from, and_parts, ne_eqb}
 use Rattle.projection_meaning.proofs.Bools.{or_false}
 
@@ -48,6 +51,10 @@ pub length-vertices : (p : Program) → length (vertices p) ≡ suc p.statements
 length-vertices p = ap suc (length_map (from 0 p.statements) ∙ length_from 0 p.statements)
 
 -- ---- sets of vertices
+
+-- the vertices by which a set keeps statements are those of main
+pub keeps_main : (p : Program) (a : Analysis) (kept : List Bool) → IsNumberedMain p → IsAnalysis p a → keeps p a kept ≡ keeps_statement (vertices p) kept
+keeps_main p a kept n is = ap (λ vs. keeps_statement vs kept) (numbered_vertices p a n is)
 
 kept_none : (vs : List Vertex) (i : ℕ) → keeps_statement vs [] i ≡ false
 kept_none [] i = refl

@@ -2,8 +2,7 @@
 ghost use Rattle.std.specs.Prelude.{◌≡◌, ◌+◌, ◌^◌, ◌<◌, All, IfOk, OnOk, length};
 ghost use Rattle.dep_model.specs.NumberedMains.{IsNumberedMain};
 ghost use Rattle.dep_model.specs.Plain.{IsPlain, IsEdgeWithin};
-ghost use Rattle.slice_engine.specs.Slice.{KeepsFrom};
-ghost use Rattle.slice_engine.specs.Engine.{HasEdges};
+ghost use Rattle.slice_engine.specs.Engine.{HasEdges, KeepsFrom};
 
 use c_tree::Program;
 use dep_model::{Edge, PlainGraph, VertexSet};
