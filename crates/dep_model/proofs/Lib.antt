@@ -1,4 +1,5 @@
 pub mod BoolLemmas
+pub mod CallClosure
 pub mod CompletionLemmas
 pub mod DoingForms
 pub mod EdgeOrderLemmas

@@ -1,4 +1,4 @@
--- A program has one analysis, and so one set of edges.
+-- A program has one analysis for its points-to relation, and so one set of edges.
 use mathlib.Core.Path.{fun_ext}
 use Rattle.std.proofs.Common.{◌≡◌, ℕ, List, Bool, Contains, ap, subst, ◌∙◌}
 use Rattle.rule_closure.proofs.SetLemmas.{same_test}
@@ -9,6 +9,8 @@ use Rattle.dep_model.specs.Denoted.{TargetsOf}
 use Rattle.dep_model.specs.MayPoint.{IsPointsTo}
 use Rattle.dep_model.specs.ModRef.{FunctionEffects, AreFunctionEffects}
 use Rattle.dep_model.specs.SystemGraph.{Analysis, IsAnalysis, IsSystemEdge, AreSystemEdges}
+use Rattle.dep_model.specs.Laws.{IsOneAnalysis}
+use Rattle.dep_model.proofs.CallClosure.{found_effects, are_found_effects}
 use Rattle.dep_model.proofs.MayPointLaws.{points_one}
 
 module _ (p : Program) where
@@ -30,6 +32,13 @@ module _ (p : Program) where
       let points : a.points ≡ b.points = one_points a.points b.points first.points_are second.points_are in
       let effects : a.effects ≡ b.effects = one_effects b.points a.effects b.effects (subst (λ x. AreFunctionEffects p x a.effects) points first.effects_are) second.effects_are in
       ap (λ (x : TargetsOf). record { points = x; effects = a.effects }) points ∙ ap (λ (e : FunctionEffects). record { points = b.points; effects = e }) effects
+
+  -- where it is known what each location may point to, there is an analysis
+  pub has_analysis : (points : TargetsOf) → IsPointsTo p points → (a : Analysis) × IsOneAnalysis p a
+  has_analysis points is =
+      let a : Analysis = record { points = points; effects = found_effects p points } in
+      let here : IsAnalysis p a = record { points_are = is; effects_are = are_found_effects p points } in
+      (a, record { is_analysis = here; one = λ b there. one_analysis b a there here })
 
   -- two lists of the edges of a program have the same edges
   pub same_edges : (a b : Analysis) (es fs : List Edge) → IsAnalysis p a → IsAnalysis p b → AreSystemEdges p a es → AreSystemEdges p b fs → (e : Edge) → Contains es e → Contains fs e

@@ -13,6 +13,7 @@ pub mod FunctionVertices
 pub mod Graphs
 pub mod Groups
 pub mod IntegerEffects
+pub mod Laws
 pub mod ListedLocations
 pub mod LocationRows
 pub mod Locations

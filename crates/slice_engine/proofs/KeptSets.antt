@@ -9,7 +9,7 @@ use Rattle.dep_model.specs.declared.edge.Edge.{Edge}
 use Rattle.dep_model.specs.declared.vertex.Vertex.{Vertex}
 use Rattle.dep_model.specs.declared.vertex.VertexKind.TheVariants.{Entry}
 use Rattle.dep_model.specs.ClosedSets.{IsMainEntry, IsCompletionIn}
-use Rattle.dep_model.specs.Completion.{IsClosed, IsCompletion, NamesNone}
+use Rattle.dep_model.specs.Completion.{IsCompletion, NamesNone}
 use Rattle.dep_model.specs.Criteria.{criterion_of}
 use Rattle.dep_model.specs.MainVertices.{vertices}
 use Rattle.dep_model.specs.MayPoint.{parameters}
@@ -18,6 +18,7 @@ use Rattle.dep_model.specs.NumberedMains.{IsNumberedMain}
 use Rattle.dep_model.specs.Plain.{PlainEdges}
 use Rattle.dep_model.specs.SystemGraph.{Analysis, IsAnalysis, IsVertex, vertices_of, AreSystemEdges}
 use Rattle.dep_model.specs.Words.{ReachesAny}
+use Rattle.dep_model.proofs.CompletionLemmas.{completion_by_names}
 use Rattle.dep_model.proofs.NumberedEdges.{numbered_vertices}
 use Rattle.slice_engine.specs.Engine.{KeepsFrom}
 use Rattle.slice_engine.specs.Slice.{starts_on, IsReached, IsKeptSet}
@@ -41,10 +42,7 @@ module _ (p : Program) (a : Analysis) (n : IsNumberedMain p) (is : IsAnalysis p 
       none zero h = let e = subst (λ (xs : List ℕ). slice_get xs k ≡ Some x) n.integer.no_parameters h in cc
       none (suc f) h = cc
 
-  abbrev Names : ℕ → ℕ → Type 0
-  Names = NamesParameter p (vertices_of p a)
-
-  names_none : (v u : ℕ) → Names v u → ⊥
+  names_none : (v u : ℕ) → NamesParameter p (vertices_of p a) v u → ⊥
   names_none v u h = no_parameter h.vertex.function h.number h.variable h.parameter
 
   pub main_entry : IsMainEntry p (vertices_of p a) 0
@@ -54,38 +52,11 @@ module _ (p : Program) (a : Analysis) (n : IsNumberedMain p) (is : IsAnalysis p 
     entry = subst (λ (vs : List Vertex). IsVertex vs 0 Entry 0) (sym (numbered_vertices p a n is)) refl;
   }
 
-  closed_there : (edges : List Edge) (s : List Bool) → IsClosed edges NamesNone 0 s → IsClosed edges Names 0 s
-  closed_there edges s c = record {
-    controls = c.controls;
-    flows = c.flows;
-    formal_outs = c.formal_outs;
-    callees = c.callees;
-    actual_ins = c.actual_ins;
-    parameters = λ v u h. absurd (names_none v u h);
-    entry = c.entry;
-  }
-
-  closed_here : (edges : List Edge) (s : List Bool) → IsClosed edges Names 0 s → IsClosed edges NamesNone 0 s
-  closed_here edges s c = record {
-    controls = c.controls;
-    flows = c.flows;
-    formal_outs = c.formal_outs;
-    callees = c.callees;
-    actual_ins = c.actual_ins;
-    parameters = λ v u h. absurd h;
-    entry = c.entry;
-  }
-
   completion_there : (edges : List Edge) (x k : List Bool) → IsCompletion edges NamesNone 0 x k → IsCompletionIn p (vertices_of p a) edges x k
   completion_there edges x k c = record {
     main = 0;
     is_entry = main_entry;
-    completes = record {
-      size = c.size;
-      holds = c.holds;
-      closed = closed_there edges k c.closed;
-      least = λ t size holds closed. c.least t size holds (closed_here edges t closed);
-    };
+    completes = completion_by_names edges NamesNone (NamesParameter p (vertices_of p a)) 0 x k (λ v u. (λ none. absurd none, λ h. absurd (names_none v u h))) c;
   }
 
   -- what is kept from the criterion is what the slice keeps
