@@ -61,6 +61,14 @@ abbrev pub body_doings : List Statement → List Doing
 body_doings [] = []
 body_doings (s ∷ ss) = doings s ++ body_doings ss
 
+abbrev pub functions_doings : List Function → List Doing
+functions_doings [] = []
+functions_doings (f ∷ fs) = body_doings f.body ++ functions_doings fs
+
+-- the statements of a program, function by function
+abbrev pub program_doings : Program → List Doing
+program_doings p = functions_doings p.functions
+
 -- the statements of a function
 abbrev pub doings_of : Program → ℕ → List Doing
 doings_of p f = option_map_or (λ (g : Function). body_doings g.body) (slice_get p.functions f) []

@@ -28,15 +28,10 @@ use Rattle.c_print_laws.proofs.Scoping.{declared_count, count_append}
 use Rattle.c_print_laws.proofs.Numbers.{item_variables}
 use Rattle.built_forms.proofs.Terms.{AreLow}
 use Rattle.built_forms.proofs.MainHeads.{int_result, int_tree}
-use Rattle.dep_model.specs.Doings.{Doing, body_doings}
+use Rattle.dep_model.specs.Doings.{Doing, body_doings, functions_doings}
 use Rattle.dep_model.specs.NumberedMains.{doing_below}
 use Rattle.dep_model.proofs.TextNumbers.{Takes, takes_none, takes_both, body_takes}
 use Rattle.integer_texts.proofs.NamesInScope.{low_more, low_push, Grows, same_grows, then_grows, variable_grows, body_below, body_grows}
-
--- the statements of functions, one function after another
-abbrev pub all_doings : List Function → List Doing
-all_doings [] = []
-all_doings (f ∷ fs) = body_doings f.body ++ all_doings fs
 
 module _ (raw : RawProgram) where
   -- ---- scopes
@@ -86,14 +81,14 @@ module _ (raw : RawProgram) where
   same_takes : (ds : List Doing) (i j k : ℕ) → j ≡ i → Takes ds j k → Takes ds i k
   same_takes ds i j k e h = subst (λ n. Takes ds n k) e h
 
-  pub items_take : (xs : List RawItem) (scope : Scope) (fs : List Function) → HasFunctions xs scope fs → Takes (all_doings fs) scope.statements (after_items raw xs scope).statements
-  items_take [] scope fs e = subst (λ gs. Takes (all_doings gs) scope.statements scope.statements) (some_same e) (takes_none scope.statements)
+  pub items_take : (xs : List RawItem) (scope : Scope) (fs : List Function) → HasFunctions xs scope fs → Takes (functions_doings fs) scope.statements (after_items raw xs scope).statements
+  items_take [] scope fs e = subst (λ gs. Takes (functions_doings gs) scope.statements scope.statements) (some_same e) (takes_none scope.statements)
   items_take (Include b ∷ xs) scope fs e = items_take xs scope fs e
   items_take (Tag line tag ∷ xs) scope fs e = items_take xs scope fs e
   items_take (Struct line tag members ∷ xs) scope fs e = items_take xs (after_item raw (Struct line tag members) scope) fs e
   items_take (Global line var i is_static ∷ xs) scope fs e = items_take xs (after_item raw (Global line var i is_static) scope) fs e
   items_take (Prototype line head ∷ xs) scope fs e =
-      same_takes (all_doings fs) scope.statements (with_function head.name scope).statements _ (through_function (λ (z : Scope). z.statements) head.name scope refl) (items_take xs (with_function head.name scope) fs e)
+      same_takes (functions_doings fs) scope.statements (with_function head.name scope).statements _ (through_function (λ (z : Scope). z.statements) head.name scope refl) (items_take xs (with_function head.name scope) fs e)
   items_take (Define line head body ∷ xs) scope fs e =
       let after = after_item raw (Define line head body) scope in
       let g = more_there (function_tree raw line head body scope) (functions_from raw xs after) fs e in
@@ -102,8 +97,8 @@ module _ (raw : RawProgram) where
       let here : Takes (body_doings q.statements) inside.statements (after_all (map (treed raw) body) inside).statements = body_takes raw body inside q.statements q.statements_there in
       let own : Takes (body_doings g.first.body) scope.statements after.statements =
       subst (λ (f : Function). Takes (body_doings f.body) scope.statements after.statements) (sym q.is) (same_takes (body_doings q.statements) scope.statements inside.statements after.statements (entered_statements raw head scope) (subst (λ (z : Scope). Takes (body_doings q.statements) inside.statements z.statements) (after_trees body inside) here)) in
-      subst (λ gs. Takes (all_doings gs) scope.statements (after_items raw xs after).statements) g.same
-      (takes_both (body_doings g.first.body) (all_doings g.rest) scope.statements after.statements (after_items raw xs after).statements own (items_take xs after g.rest g.rest_there))
+      subst (λ gs. Takes (functions_doings gs) scope.statements (after_items raw xs after).statements) g.same
+      (takes_both (body_doings g.first.body) (functions_doings g.rest) scope.statements after.statements (after_items raw xs after).statements own (items_take xs after g.rest g.rest_there))
 
   item_low : (x : RawItem) (scope : Scope) → AreLow scope.variables scope.names → AreLow (after_item raw x scope).variables (after_item raw x scope).names
   item_low (Include b) scope h = h
@@ -118,8 +113,8 @@ module _ (raw : RawProgram) where
       let g2 : inside.variables ≤ (after_body raw body inside).variables = subst (λ (z : Scope). inside.variables ≤ z.variables) (after_trees body inside) ((body_grows raw body).more inside) in
       low_more before.variables (after_body raw body inside).variables before.names (omega (arith, g1, g2)) ((function_grows head.name).low scope h)
 
-  pub items_below : (xs : List RawItem) (scope : Scope) (fs : List Function) → AreLow scope.variables scope.names → HasFunctions xs scope fs → (m : ℕ) → (after_items raw xs scope).variables ≤ m → list_all (doing_below m) (all_doings fs) ≡ true
-  items_below [] scope fs low e m le = subst (λ gs. list_all (doing_below m) (all_doings gs) ≡ true) (some_same e) refl
+  pub items_below : (xs : List RawItem) (scope : Scope) (fs : List Function) → AreLow scope.variables scope.names → HasFunctions xs scope fs → (m : ℕ) → (after_items raw xs scope).variables ≤ m → list_all (doing_below m) (functions_doings fs) ≡ true
+  items_below [] scope fs low e m le = subst (λ gs. list_all (doing_below m) (functions_doings gs) ≡ true) (some_same e) refl
   items_below (Include b ∷ xs) scope fs low e m le = items_below xs scope fs low e m le
   items_below (Tag line tag ∷ xs) scope fs low e m le = items_below xs scope fs low e m le
   items_below (Struct line tag members ∷ xs) scope fs low e m le = items_below xs (after_item raw (Struct line tag members) scope) fs low e m le
@@ -136,8 +131,8 @@ module _ (raw : RawProgram) where
       let bound : (after_all (map (treed raw) body) inside).variables ≤ m = subst (λ (z : Scope). z.variables ≤ m) (sym (after_trees body inside)) (omega (arith, more, le)) in
       let own : list_all (doing_below m) (body_doings g.first.body) ≡ true =
       subst (λ (f : Function). list_all (doing_below m) (body_doings f.body) ≡ true) (sym q.is) (body_below raw body inside q.statements ((entered_grows head).low scope low) q.statements_there m bound) in
-      subst (λ gs. list_all (doing_below m) (all_doings gs) ≡ true) g.same
-      (all_append (doing_below m) (body_doings g.first.body) (all_doings g.rest) own (items_below xs after g.rest (item_low (Define line head body) scope low) g.rest_there m le))
+      subst (λ gs. list_all (doing_below m) (functions_doings gs) ≡ true) g.same
+      (all_append (doing_below m) (body_doings g.first.body) (functions_doings g.rest) own (items_below xs after g.rest (item_low (Define line head body) scope low) g.rest_there m le))
 
   -- ---- main
 

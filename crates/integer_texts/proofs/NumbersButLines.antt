@@ -1,7 +1,7 @@
--- A well-formed program of main alone over integers is numbered in text order.
-use Rattle.std.proofs.Common.{◌≡◌, ℕ, List, [], ◌∷◌, ◌++◌, length, map, Option, None, refl, sym, ap, ap₂, ◌∙◌}
+-- A well-formed program is numbered in text order.
+use Rattle.std.proofs.Common.{◌≡◌, ℕ, zero, suc, ◌+◌, List, [], ◌∷◌, ◌++◌, length, map, Option, None, refl, sym, ap, ap₂, ◌∙◌, arith}
 use Rattle.std.specs.Prelude.{slice_get}
-use Rattle.std.specs.List.{list_all}
+use Rattle.std.specs.List.{list_all, range_with_len}
 use Rattle.std.specs.Option.{option_map_or}
 use Rattle.std.proofs.lemmas.List.{length-map}
 use Rattle.c_tree.specs.declared.program.Function.{Function}
@@ -12,13 +12,13 @@ use Rattle.c_tree.specs.declared.types.CType.{CType}
 use Rattle.c_tree.specs.Unlined.{unlined, unlined_function, unlined_var, SameButLines}
 use Rattle.c_language.specs.Words.{Bytes}
 use Rattle.built_forms.specs.IntegerForms.{IsIntegerMain}
-use Rattle.dep_model.specs.Doings.{Doing, doing_step, doing_arm, doings, body_doings, doings_of, doing_number}
+use Rattle.dep_model.specs.Doings.{Doing, doing_step, doing_arm, doings, body_doings, functions_doings, program_doings, doings_of, doing_number}
 use Rattle.dep_model.specs.MainVertices.{from}
 use Rattle.dep_model.specs.NumberedMains.{doing_below, IsNumberedMain}
 use Rattle.c_tree.proofs.Unlining.{zeroed, fold_unlined}
 use Rattle.projection_laws.proofs.SamePrograms.{main_same}
-use Rattle.integer_texts.specs.Laws.{WellFormedAreNumbered}
-use Rattle.integer_texts.proofs.Texts.{texts_numbered}
+use Rattle.integer_texts.specs.Laws.{StatementsAreNumbered, NamedVariablesExist, WellFormedAreNumbered}
+use Rattle.integer_texts.proofs.Texts.{text_numbers, text_names, texts_numbered}
 
 doing_free : (x : Statement-F (List Doing) (List Doing)) → doing_step (zeroed x) ≡ doing_step x
 doing_free (Statement-F.Declare id l x i) = refl
@@ -44,6 +44,15 @@ doings_unlined = fold_unlined doing_step doing_arm doing_free
 body_unlined : (xs : List Statement) → body_doings (map unlined xs) ≡ body_doings xs
 body_unlined [] = refl
 body_unlined (x ∷ xs) = ap₂ (λ (a b : List Doing). a ++ b) (doings_unlined x) (body_unlined xs)
+
+functions_unlined : (fs : List Function) → functions_doings (map unlined_function fs) ≡ functions_doings fs
+functions_unlined [] = refl
+functions_unlined (f ∷ fs) = ap₂ (λ (a b : List Doing). a ++ b) (body_unlined f.body) (functions_unlined fs)
+
+-- the statements are the same in programs that are the same but for lines
+all_same : (p q : Program) → SameButLines p q → program_doings p ≡ program_doings q
+all_same p q same =
+    sym (functions_unlined p.functions) ∙ ap (λ (r : Program). functions_doings r.functions) same ∙ functions_unlined q.functions
 
 abbrev first_doings : List Function → List Doing
 first_doings fs = option_map_or (λ (g : Function). body_doings g.body) (slice_get fs 0) []
@@ -80,6 +89,22 @@ module _ (p q : Program) (same : SameButLines p q) (h : IsIntegerMain p) (n : Is
     numbers_are = ap (map doing_number) (doings_same p q same) ∙ n.numbers_are ∙ ap (λ (r : Program). from 0 r.statements) (sym same);
     named_are = ap₂ (λ (k : ℕ) (ds : List Doing). list_all (doing_below k) ds) (count_same p q same) (doings_same p q same) ∙ n.named_are;
   }
+
+-- ---- every form
+
+from_range : (i n : ℕ) → from i n ≡ range_with_len i n
+from_range i zero = refl
+from_range i (suc n) = let e : suc i ≡ i + 1 = omega arith in ap (λ ks. i ∷ ks) (from_range (suc i) n ∙ ap (λ k. range_with_len k n) e)
+
+pub statements_numbered : StatementsAreNumbered
+statements_numbered p ok =
+    ap (map doing_number) (all_same p ok.same ok.but_lines) ∙ text_numbers ok.raw ok.same ok.has ∙ from_range 0 ok.same.statements ∙ ap (λ (r : Program). range_with_len 0 r.statements) (sym ok.but_lines)
+
+pub named_exist : NamedVariablesExist
+named_exist p ok =
+    ap₂ (λ (k : ℕ) (ds : List Doing). list_all (doing_below k) ds) (count_same p ok.same ok.but_lines) (all_same p ok.same ok.but_lines) ∙ text_names ok.raw ok.same ok.has
+
+-- ---- main alone
 
 pub well_formed_numbered : WellFormedAreNumbered
 well_formed_numbered p ok h =

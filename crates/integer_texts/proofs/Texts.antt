@@ -19,13 +19,13 @@ use Rattle.c_language.specs.Rules.{no_main}
 use Rattle.c_language.specs.Scopes.{outset}
 use Rattle.built_forms.specs.IntegerForms.{IsIntegerMain}
 use Rattle.built_forms.proofs.Programs.{found_length}
-use Rattle.dep_model.specs.Doings.{body_doings, doings_of, doing_number}
+use Rattle.dep_model.specs.Doings.{body_doings, functions_doings, program_doings, doings_of, doing_number}
 use Rattle.dep_model.specs.MainVertices.{from}
 use Rattle.dep_model.specs.NumberedMains.{doing_below, IsNumberedMain}
 use Rattle.dep_model.proofs.NumberedMain.{main_doings}
 use Rattle.dep_model.proofs.TextNumbers.{Takes}
 use Rattle.integer_texts.specs.Laws.{IntegerTextsAreNumbered}
-use Rattle.integer_texts.proofs.Items.{all_doings, items_count, items_take, items_below, names_are, give_ints}
+use Rattle.integer_texts.proofs.Items.{items_count, items_take, items_below, names_are, give_ints}
 
 -- the only function of a text that defines main is main
 only_main : (n : Bytes) (hs : List RawHead) → n ∷ [] ≡ map (λ (h : RawHead). h.name) hs → (find (λ (h : RawHead). bytes_eq h.name main_name) hs ≡ None → ⊥) → n ≡ main_name
@@ -40,35 +40,46 @@ only_main n (h ∷ hs) e some = by_rest hs (tail_is e) some
         by_test true is = head_is e ∙ (bytes_eq-Decides h.name main_name).0 is
         by_test false is = absurd (some (ap (λ b. cond b (Some h) None) is))
 
-module _ (raw : RawProgram) (p : Program) (has : HasProgram raw p) (h : IsIntegerMain p) where
+-- ---- every form
+
+module _ (raw : RawProgram) (p : Program) (has : HasProgram raw p) where
   abbrev parts : IsMadeOf raw p
   parts = made_of raw p has.program
 
-  functions_made : collected (functions_from raw raw.items outset) ≡ Some (h.main ∷ [])
-  functions_made = parts.functions ∙ ap Some h.functions_are
-
-  variables_is : (after_items raw raw.items outset).variables ≡ length p.vars
-  variables_is =
+  pub text_variables : (after_items raw raw.items outset).variables ≡ length p.vars
+  text_variables =
       let a : length p.vars ≡ length (variables_in raw (phrases raw)) = found_length (variables_in raw (phrases raw)) p.vars parts.vars in
       let b : 0 + length (variables_in raw (items_phrases raw raw.items outset)) ≡ (after_items raw raw.items outset).variables = items_count raw raw.items outset in
       omega (arith, a, b)
 
-  doings_are : doings_of p 0 ≡ all_doings (h.main ∷ [])
-  doings_are = main_doings p h ∙ sym (append-nil (body_doings h.main.body))
+  pub text_numbers : map doing_number (program_doings p) ≡ from 0 p.statements
+  text_numbers =
+      let t : Takes (program_doings p) 0 (after_items raw raw.items outset).statements = items_take raw raw.items outset p.functions parts.functions in
+      let n : t.count ≡ p.statements = omega (arith, t.ends, parts.statements) in
+      t.numbers ∙ ap (from 0) n
+
+  pub text_names : list_all (doing_below (length p.vars)) (program_doings p) ≡ true
+  text_names = items_below raw raw.items outset p.functions tt parts.functions (length p.vars) (omega (arith, text_variables))
+
+-- ---- main alone
+
+module _ (raw : RawProgram) (p : Program) (has : HasProgram raw p) (h : IsIntegerMain p) where
+
+  functions_made : collected (functions_from raw raw.items outset) ≡ Some (h.main ∷ [])
+  functions_made = (parts raw p has).functions ∙ ap Some h.functions_are
+
+  doings_are : doings_of p 0 ≡ program_doings p
+  doings_are = main_doings p h ∙ sym (append-nil (body_doings h.main.body)) ∙ ap functions_doings (sym h.functions_are)
 
   named : h.main.name ≡ main_name
   named =
       only_main h.main.name (function_texts raw.items) (names_are raw raw.items outset (h.main ∷ []) functions_made) (λ none. has.rules 5 1 (no_main none))
 
   numbers : map doing_number (doings_of p 0) ≡ from 0 p.statements
-  numbers =
-      let t : Takes (all_doings (h.main ∷ [])) 0 (after_items raw raw.items outset).statements = items_take raw raw.items outset (h.main ∷ []) functions_made in
-      let n : t.count ≡ p.statements = omega (arith, t.ends, parts.statements) in
-      ap (map doing_number) doings_are ∙ t.numbers ∙ ap (from 0) n
+  numbers = ap (map doing_number) doings_are ∙ text_numbers raw p has
 
   below : list_all (doing_below (length p.vars)) (doings_of p 0) ≡ true
-  below =
-      ap (list_all (doing_below (length p.vars))) doings_are ∙ items_below raw raw.items outset (h.main ∷ []) tt functions_made (length p.vars) (omega (arith, variables_is))
+  below = ap (list_all (doing_below (length p.vars))) doings_are ∙ text_names raw p has
 
   numbered : IsNumberedMain p
   numbered = record {

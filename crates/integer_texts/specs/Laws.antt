@@ -1,11 +1,23 @@
--- The programs of texts that are of main alone over integers are numbered in text order.
-use Rattle.std.specs.Prelude.{◌≡◌, None}
+-- The programs of texts are numbered in text order.
+use Rattle.std.specs.Prelude.{◌≡◌, true, length, map, None}
+use Rattle.std.specs.List.{list_all, range_with_len}
 use Rattle.c_tree.specs.declared.program.Program.{Program}
 use Rattle.c_tree.specs.declared.raw.program.RawProgram.{RawProgram}
 use Rattle.c_language.specs.Programs.{HasProgram, IsWellFormed}
 use Rattle.built_forms.specs.BuiltForms.{not_yet}
 use Rattle.built_forms.specs.IntegerForms.{IsIntegerMain}
-use Rattle.dep_model.specs.NumberedMains.{IsNumberedMain}
+use Rattle.dep_model.specs.Doings.{doing_number, program_doings}
+use Rattle.dep_model.specs.NumberedMains.{doing_below, IsNumberedMain}
+
+-- the statements of a well-formed program, function by function, have the numbers 0, 1, and so on up to their count
+abbrev pub StatementsAreNumbered : Type 0
+StatementsAreNumbered = (p : Program) → IsWellFormed p → map doing_number (program_doings p) ≡ range_with_len 0 p.statements
+
+-- each variable that one of them names is one of the program
+abbrev pub NamedVariablesExist : Type 0
+NamedVariablesExist = (p : Program) → IsWellFormed p → list_all (doing_below (length p.vars)) (program_doings p) ≡ true
+
+-- ---- main alone over integers
 
 abbrev pub IntegerTextsAreNumbered : Type 0
 IntegerTextsAreNumbered = (raw : RawProgram) (p : Program) → HasProgram raw p → IsIntegerMain p → IsNumberedMain p

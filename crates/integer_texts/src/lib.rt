@@ -1,7 +1,18 @@
-//! Texts of main alone over integers. Each function is a law, and holds no code: its contract is the law.
+//! The numbers of a text. Each function is a law, and holds no code: its contract is the law.
 #![tactic(auto)]
 
-ghost use Rattle.integer_texts.specs.Laws.{BuiltAreNumbered, IntegerTextsAreNumbered, WellFormedAreNumbered};
+ghost use Rattle.integer_texts.specs.Laws.{StatementsAreNumbered, NamedVariablesExist, BuiltAreNumbered, IntegerTextsAreNumbered, WellFormedAreNumbered};
+
+/// A law: the statements of a well-formed program, function by function and in each a test before what it
+/// decides, have the numbers 0, 1, and so on up to their count.
+pub fn statements_are_numbered()
+    ensures { StatementsAreNumbered }
+{}
+
+/// A law: each variable that a statement of a well-formed program names is one of the program.
+pub fn named_variables_exist()
+    ensures { NamedVariablesExist }
+{}
 
 /// A law: where the program of a text that keeps all rules is of main alone over integers, main is named so
 /// and gives an int, its statements have the numbers from 0 on in the order in which they stand, and each

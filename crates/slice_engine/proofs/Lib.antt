@@ -14,4 +14,4 @@ pub mod EngineLaws
 pub mod SliceLaws
 pub mod OneSlice
 pub mod StartNumbers
-pub mod Nesting
+pub mod Projections

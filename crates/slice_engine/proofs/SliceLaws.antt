@@ -12,7 +12,7 @@ use Rattle.std.proofs.lemmas.List.Sums.{count_by-le-length}
 use Rattle.c_language.specs.Tokens.{is_feed}
 use Rattle.c_language.specs.Layout.{layout}
 use Rattle.c_language.specs.Programs.{IsAccepted, IsWellFormed}
-use Rattle.c_tree.specs.Unlined.{unlined_program, SameButLines}
+use Rattle.c_tree.specs.Unlined.{unlined_program}
 use Rattle.c_print.specs.Lines.{line_of}
 use Rattle.c_print.specs.StartsOn.{StartsOn}
 use Rattle.c_print_laws.specs.ReadAgain.{IsReadAgain}
@@ -22,12 +22,11 @@ use Rattle.own_words.proofs.StandingWords.{has_own_words}
 use Rattle.dep_model.specs.Criteria.{criterion_of}
 use Rattle.dep_model.specs.MainVertices.{vertices}
 use Rattle.dep_model.specs.NumberedMains.{IsNumberedMain}
-use Rattle.dep_model.specs.SystemGraph.{Analysis}
 use Rattle.rule_closure.proofs.ListLemmas.{contains_head, contains_cons}
 use Rattle.dep_model.specs.declared.edge.Edge.{Edge}
 use Rattle.projection.specs.Kept.{rank}
 use Rattle.projection.specs.Projection.{projection}
-use Rattle.slice_engine.specs.Slice.{starts_on, keeps_statement, keeps, sliced, IsKeptSet, IsStartLine, header, IsSlice, is_criterion, GivesCriterion, IsAcceptedSlice, IsFaithful}
+use Rattle.slice_engine.specs.Slice.{starts_on, keeps_statement, keeps, sliced, IsKeptSet, IsStartLine, header, IsSlice, is_criterion, IsAcceptedSlice, IsFaithful}
 use Rattle.slice_engine.specs.Criterion.{with_starts, by_rank}
 use Rattle.slice_engine.specs.Header.{shown_lines}
 use Rattle.slice_engine.specs.Engine.{IsPrepared, KeepsFrom, AreMarks, IsSlicedAt}
@@ -35,17 +34,13 @@ use Rattle.slice_engine.proofs.CriterionLaws.{criterion_is, criterion_members, k
 use Rattle.slice_engine.proofs.CriterionLemmas.{length-with_starts}
 use Rattle.slice_engine.proofs.KeptSets.{kept_set}
 use Rattle.slice_engine.proofs.Vertices.{kept_vertex, keeps_main}
-use Rattle.slice_engine.proofs.Kept.{criterion_kept, flow_closed}
+use Rattle.slice_engine.proofs.Kept.{criterion_kept, kept_projectable}
 use Rattle.slice_engine.proofs.CriterionRanks.{criterion_rank}
 use Rattle.slice_engine.proofs.RankTests.{at_rank, of_rank, length-by_rank}
-use Rattle.slice_engine.proofs.Nesting.{same_keeps, kept_nested, slice_well_formed}
+use Rattle.slice_engine.proofs.Projections.{projected_nested, projected_well_formed, projected_values}
 use Rattle.slice_engine.proofs.StartNumbers.{numbers_are}
 use Rattle.slice_engine.proofs.HeaderLines.{shown_at, at_shown}
 use Rattle.slice_engine.proofs.HeaderLemmas.{AreShort, inside, inside_feedless, inside_starless, header_is_comment}
-use Rattle.projection_meaning.specs.SameValues.{StandFor, HasSameValues}
-use Rattle.projection_meaning.specs.Laws.{keeps_of}
-use Rattle.projection_meaning.proofs.SameValues.{same_values}
-use Rattle.projection_laws.specs.Nested.{IsNested}
 
 -- ---- marks
 
@@ -116,7 +111,7 @@ module _ (p : Program) (line : ℕ) (q : Program) (in_criterion : List Bool) (we
   at i = rank (keeps p s.analysis s.kept) i
 
   well_there : IsWellFormed (sliced p s.analysis s.kept)
-  well_there = slice_well_formed p s.analysis line s.kept well numbered s.is_kept
+  well_there = projected_well_formed p s.analysis s.kept well numbered (kept_projectable p s.analysis line s.kept numbered s.is_kept)
 
   well_q : IsWellFormed q
   well_q = subst IsWellFormed (sym s.program_is) well_there
@@ -197,29 +192,16 @@ module _ (p : Program) (line : ℕ) (q : Program) (in_criterion : List Bool) (we
         program = again.again;
         reads = record { raw = again.found; accepted = subst (λ t. IsAccepted t again.found again.again) (sym is) again.accepted; within = again.within };
         same_program = sym again.same ∙ ap unlined_program s.program_is;
-        own_words = has_own_words p (keeps p s.analysis s.kept) (kept_nested p s.analysis line s.kept well numbered s.is_kept);
+        own_words = has_own_words p (keeps p s.analysis s.kept) (projected_nested p s.analysis s.kept well numbered (kept_projectable p s.analysis line s.kept numbered s.is_kept));
       }
 
 -- ---- the same values
-
--- what is kept gives the values of the program
-same_values_at : (p q : Program) (a : Analysis) (line : ℕ) (kept : List Bool) → IsWellFormed p → IsNumberedMain p → IsKeptSet p a line kept → SameButLines q (sliced p a kept) → GivesCriterion p a line kept q
-same_values_at p q a line kept well numbered k =
-    law (keeps p a kept) (same_keeps p a line kept well numbered k) (kept_nested p a line kept well numbered k) (criterion_kept p a line kept numbered k) (criterion_rank p a line kept numbered k)
-  where
-    set : ℕ → Bool
-    set = starts_on p line
-
-    ranks : ℕ → Bool
-    ranks = is_criterion p a line kept
-
-    law : (keeps : ℕ → Bool) → keeps_of kept ≡ keeps → IsNested keeps p → ((i : ℕ) → set i ≡ true → keeps i ≡ true) → StandFor keeps set ranks → SameButLines q (projection p keeps) → HasSameValues keeps set ranks p q
-    law keeps same = subst (λ (test : ℕ → Bool). IsNested test p → ((i : ℕ) → set i ≡ true → test i ≡ true) → StandFor test set ranks → SameButLines q (projection p test) → HasSameValues test set ranks p q) same
-        (λ nested held stand but_lines. same_values p q a kept set ranks well numbered k.is_analysis nested (flow_closed p a line kept numbered k) held stand but_lines)
 
 -- a program gives the same values as what is read of its slice
 pub is_faithful : (p : Program) (line : ℕ) (text : Bytes) → IsWellFormed p → IsNumberedMain p → IsAcceptedSlice p line text → IsFaithful p line text
 is_faithful p line text well numbered r = record {
   accepted = r;
-  same_values = same_values_at p r.program r.analysis line r.kept well numbered r.is_kept r.same_program;
+  same_values =
+      let there = kept_projectable p r.analysis line r.kept numbered r.is_kept in
+      projected_values p r.analysis r.kept well numbered there r.program (starts_on p line) (is_criterion p r.analysis line r.kept) (criterion_kept p r.analysis line r.kept numbered r.is_kept) (criterion_rank p r.analysis line r.kept numbered r.is_kept) r.same_program;
 }

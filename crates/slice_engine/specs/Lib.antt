@@ -2,3 +2,4 @@ pub mod Criterion
 pub mod Header
 pub mod Slice
 pub mod Engine
+pub mod Laws
