@@ -174,7 +174,7 @@ module _ (p : Program) (h : IsIntegerMain p) where
     plain_item i main a c = contains_none a c
 
     no_pointing : (a : Pointing) (m : Location) → IsPointing p points a → a.from m ≡ true → ⊥
-    no_pointing a m (of_statement f d k c) t = false≢true (sym (statement_points f d a m k c) ∙ t)
+    no_pointing a m (of_statement f h) t = false≢true (sym (statement_points f h.doing a m h.member h.given) ∙ t)
     no_pointing a m (of_global i k c) t = plain_item i (All-contains IsPlainItem p.items i h.items_are k) a c
 
 -- no location points anywhere

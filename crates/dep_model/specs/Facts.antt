@@ -1,6 +1,6 @@
 -- The facts of a graph: which formal-outs depend on which formal-ins of their functions, where calls and returns match; the words
 -- that hold facts; and what facts of the functions called say of one function (summary edges, Horwitz, Reps and Binkley 1990).
-use Rattle.std.specs.Prelude.{◌≡◌, ◌↔◌, ℕ, ◌≤◌, ◌<◌, ◌*◌, ◌⊎◌, true, false, List, drop, length, Some, Contains, slice_get}
+use Rattle.std.specs.Prelude.{◌≡◌, ◌↔◌, ℕ, ◌≤◌, ◌<◌, ◌+◌, ◌*◌, ◌⊎◌, true, false, List, length, Some, Contains, slice_get}
 use Rattle.bit_rows.specs.Words.{word_bit}
 use Rattle.dep_model.specs.declared.edge.Edge.{Edge}
 use Rattle.dep_model.specs.declared.edge.Label.TheVariants as label
@@ -10,7 +10,7 @@ use Rattle.dep_model.specs.declared.vertex.Slot.{Slot}
 use Rattle.dep_model.specs.declared.vertex.Vertex.{Vertex}
 use Rattle.dep_model.specs.declared.vertex.VertexKind.TheVariants.{FormalIn, FormalOut}
 use Rattle.dep_model.specs.FunctionVertices.{is_formal_in, numbers}
-use Rattle.dep_model.specs.Graphs.{edge, row_words}
+use Rattle.dep_model.specs.Graphs.{edge, row_width}
 use Rattle.dep_model.specs.SystemGraph.{IsVertex}
 use Rattle.dep_model.specs.Words.{word, IsPath, Matched}
 
@@ -45,21 +45,27 @@ pub record IsIn (vs : List Vertex) (f v : ℕ) : Type 0 where
   pub at : slice_get vs v ≡ Some vertex
   pub in_function : vertex.function ≡ f
 
--- the words hold a fact: in the row of the formal-out b the bit of a, formal-in number i of the function, is set
-pub record HoldsFact (g : Graph) (ws : List ℕ) (a b : ℕ) : Type 0 where
+-- the bit of a fact, counted from the first word of all: in the row of the formal-out b, that of a, formal-in number i of the function
+pub record IsFactBit (g : Graph) (a b bit : ℕ) : Type 0 where
   pub function : ℕ
   pub number : ℕ
   pub first_word : ℕ
   pub goes_in : slice_get (numbers is_formal_in function g.vertices) number ≡ Some a
   pub row : Contains g.outs (record { vertex = b; word = first_word })
   pub comes_out : IsIn g.vertices function b
-  pub set : word_bit (drop first_word ws) number ≡ true
+  pub bit_is : bit ≡ 64 * first_word + number
+
+-- the words hold a fact: its bit is set
+pub record HoldsFact (g : Graph) (ws : List ℕ) (a b : ℕ) : Type 0 where
+  pub bit : ℕ
+  pub is_bit : IsFactBit g a b bit
+  pub set : word_bit ws bit ≡ true
 
 -- the words of a graph's facts: as many as its rows take, and in the row of a function's formal-out no bit is set past its formal-ins
 pub record AreFactWords (g : Graph) (ws : List ℕ) : Type 0 where
   pub long : length ws ≡ g.fact_words
   pub clean : (r : OutRow) (x : Vertex) (i : ℕ) → Contains g.outs r → slice_get g.vertices r.vertex ≡ Some x
-      → length (numbers is_formal_in x.function g.vertices) ≤ i → i < 64 * row_words g.vertices x.function → word_bit (drop r.word ws) i ≡ false
+      → length (numbers is_formal_in x.function g.vertices) ≤ i → i < 64 * row_width g.vertices x.function → word_bit ws (64 * r.word + i) ≡ false
 
 -- exactly the true facts
 pub record AreTrueFacts (g : Graph) (ws : List ℕ) : Type 0 where

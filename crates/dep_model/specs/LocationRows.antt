@@ -10,13 +10,13 @@ use Rattle.dep_model.specs.declared.points_to.Effects.{Effects}
 use Rattle.dep_model.specs.declared.points_to.PointsTo.{PointsTo}
 use Rattle.dep_model.specs.Denoted.{Places, TargetsOf, no_places}
 use Rattle.dep_model.specs.Locations.{TypedLocation, locations, same_location}
-use Rattle.dep_model.specs.ModRef.{FunctionEffects}
+use Rattle.dep_model.specs.MayPoint.{IsPointsTo}
+use Rattle.dep_model.specs.ModRef.{FunctionEffects, AreFunctionEffects}
 use Rattle.dep_model.specs.SystemGraph.{Analysis}
 
 -- the row of each of some things has its locations
 pub record AreRows (p : Program) {A : Type 0} (xs : List A) (places : A → Places) (t : Table) : Type 0 where
-  pub long : length t.sets ≡ length xs
-  pub wide : t.bits ≡ length (locations p)
+  pub sized : IsSized (length xs) (length (locations p)) t
   pub exact : (v k : ℕ) (x : A) (o : TypedLocation)
       → slice_get xs v ≡ Some x → slice_get (locations p) k ≡ Some o → has (the_set t v) k ≡ places x o.location
 
@@ -45,10 +45,20 @@ abbrev pub analysis_of : Program → PointsTo → Effects → Analysis
 analysis_of p t e = record { points = points_of p t; effects = effects_of p e }
 
 -- a row of a program's locations for each of them
-pub record ArePointsRows (p : Program) (t : PointsTo) : Type 0 where
+pub record HasPointsRows (p : Program) (t : PointsTo) : Type 0 where
   pub sized : IsSized (length (locations p)) (length (locations p)) t.rows
 
 -- two rows of a program's locations for each of its functions
-pub record AreEffectRows (p : Program) (e : Effects) : Type 0 where
+pub record HasEffectRows (p : Program) (e : Effects) : Type 0 where
   pub modified_sized : IsSized (length p.functions) (length (locations p)) e.modified
   pub used_sized : IsSized (length p.functions) (length (locations p)) e.used
+
+-- the rows of a program: where each location may point
+pub record ArePointsRows (p : Program) (t : PointsTo) : Type 0 where
+  pub sized : HasPointsRows p t
+  pub exact : IsPointsTo p (points_of p t)
+
+-- the rows of a program, where locations may point so: what each function modifies and uses
+pub record AreEffectRows (p : Program) (points : TargetsOf) (e : Effects) : Type 0 where
+  pub sized : HasEffectRows p e
+  pub exact : AreFunctionEffects p points (effects_of p e)

@@ -77,9 +77,15 @@ module _ (p : Program) (points : TargetsOf) where
   item_pointings (Prototype f names is_static) = []
   item_pointings (Define f) = []
 
+  -- a pointing of a statement of the function
+  pub record IsPointingIn (f : ℕ) (a : Pointing) : Type 0 where
+    pub doing : Doing
+    pub member : Contains (doings_of p f) doing
+    pub given : Contains (doing_pointings f doing) a
+
   -- a pointing of a statement, or of a global's initialiser
   pub data IsPointing (a : Pointing) : Type 0 where
-    of_statement : (f : ℕ) (d : Doing) → Contains (doings_of p f) d → Contains (doing_pointings f d) a → IsPointing a
+    of_statement : (f : ℕ) → IsPointingIn f a → IsPointing a
     of_global : (i : Item) → Contains p.items i → Contains (item_pointings i) a → IsPointing a
 
 -- the first location may point to the second: a derivation ends in the pair, by a pointing that uses pairs which are derived themselves

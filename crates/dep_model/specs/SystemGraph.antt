@@ -1,5 +1,5 @@
 -- The edges of the system dependence graph of a program of any form (Horwitz, Reps and Binkley 1990).
-use Rattle.std.specs.Prelude.{◌≡◌, ◌↔◌, ℕ, List, false, Some, Contains, slice_get}
+use Rattle.std.specs.Prelude.{◌≡◌, ◌↔◌, ◌⊎◌, ℕ, List, false, Some, Contains, slice_get}
 use Rattle.std.specs.Option.{option_map_or}
 use Rattle.c_tree.specs.declared.expr.Expr.{Expr}
 use Rattle.c_tree.specs.declared.program.Program.{Program}
@@ -48,6 +48,10 @@ numbered_effects p points vs = record {
 pub record IsFlowIn (p : Program) (points : TargetsOf) (vs : List Vertex) (f : ℕ) (e : Edge) : Type 0 where
   pub labelled : e.label ≡ label.Flow
   pub flows : Flows (λ (v w : ℕ). FollowsIn p vs f v (Some w)) (numbered_effects p points vs) e.from e.to
+
+-- an edge of the graph of one function: a control or a flow edge
+abbrev pub IsFunctionEdge : Program → Analysis → ℕ → Edge → Type 0
+IsFunctionEdge p a f e = IsControlIn p (vertices_of p a) f e ⊎ IsFlowIn p a.points (vertices_of p a) f e
 
 -- vertex number v is of this kind, in the function
 abbrev pub IsVertex : List Vertex → ℕ → VertexKind → ℕ → Type 0

@@ -142,10 +142,13 @@ module _ (p : Program) (a : Analysis) (h : IsNumberedMain p) where
       let size = all_sized rows bits mark test marks (doings_of p 0) empty (sized_empty rows bits) in
       let listed = numbered_locations p h in
       let wide : length (locations p) ≡ bits = ap length listed ∙ length_main p in
-      let n = length_from 0 p.statements in
+      let high : p.statements + 1 ≡ length (vertices p) = (let e : p.statements + 1 ≡ suc p.statements = omega arith in e ∙ ap suc (sym (length_from 0 p.statements))) in
       record {
-        long = size.rows_are ∙ (let e : p.statements + 1 ≡ suc p.statements = omega arith in e ∙ ap suc (sym n));
-        wide = size.bits_are ∙ sym wide;
+        sized = record {
+          rows_are = size.rows_are ∙ high;
+          bits_are = size.bits_are ∙ sym wide;
+          full = λ r low. size.full r (subst (λ m. r < m) (sym high) low) ∙ sym wide;
+        };
         exact = λ v k x o at in_. row_is mark test places of marks agree main v k x o.location (vertex_cases p v x at) (location_cases p k o (ap (λ os. slice_get os k) (sym listed) ∙ in_));
       }
 

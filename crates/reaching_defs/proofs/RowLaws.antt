@@ -45,7 +45,7 @@ row_is p vs places t rows k o at v = elim (cases_lt v (length vs)) [
       let x = got vs v low in
       rows.exact v k x.0 o x.1 at ∙ sym (ap (λ q. option_map_or (λ (x : Vertex). places x o.location) q false) x.1)
   | inr high ↦
-      ap (λ (s : List Bool). has s k) (get_or_past t.sets v [] (omega (arith, high, rows.long)))
+      ap (λ (s : List Bool). has s k) (get_or_past t.sets v [] (omega (arith, high, rows.sized.rows_are)))
       ∙ sym (ap (λ q. option_map_or (λ (x : Vertex). places x o.location) q false) (slice_get_past vs v high))
 ]
 
@@ -58,7 +58,7 @@ module _ (p : Program) (a : Analysis) (s : Skeleton) (g : FlowGraph) (f : ℕ) (
       let k = r.flows.location in
       let vs = vertices_of p a in
       let effects = numbered_effects p a.points vs in
-      let o = got (locations p) k (omega (arith, r.numbered, is.defined_are.wide)) in
+      let o = got (locations p) k (omega (arith, r.numbered, is.defined_are.sized.bits_are)) in
       record {
         labelled = r.labelled;
         flows = record {
@@ -95,7 +95,7 @@ module _ (p : Program) (a : Analysis) (s : Skeleton) (g : FlowGraph) (f : ℕ) (
               (λ u. ap (effects.kills u) (sym moved) ∙ sym (row_is p vs (vertex_effects p a.points).kills s.killed is.killed_are k o at.2 u))
               h.flows.chain;
         };
-        numbered = omega (arith, at.1, is.defined_are.wide);
+        numbered = omega (arith, at.1, is.defined_are.sized.bits_are);
       }
 
 pub row_flow_is_flow : RowFlowIsFlow

@@ -44,11 +44,11 @@ module _ (p : Program) (s : Skeleton) (h : IsNumberedMain p) (is : (a : Analysis
 
   pub even_rows : AreEvenRows s
   even_rows = record {
-    defined_long = skeleton.defined_are.long ∙ ap length same_vertices;
-    used_long = skeleton.used_are.long ∙ ap length same_vertices;
-    killed_long = skeleton.killed_are.long ∙ ap length same_vertices;
-    used_wide = skeleton.used_are.wide ∙ sym skeleton.defined_are.wide;
-    killed_wide = skeleton.killed_are.wide ∙ sym skeleton.defined_are.wide;
+    defined_long = skeleton.defined_are.sized.rows_are ∙ ap length same_vertices;
+    used_long = skeleton.used_are.sized.rows_are ∙ ap length same_vertices;
+    killed_long = skeleton.killed_are.sized.rows_are ∙ ap length same_vertices;
+    used_wide = skeleton.used_are.sized.bits_are ∙ sym skeleton.defined_are.sized.bits_are;
+    killed_wide = skeleton.killed_are.sized.bits_are ∙ sym skeleton.defined_are.sized.bits_are;
   }
 
   module _ (order : FlowGraph) (follows : (x : Pair) → Contains order.pairs x ↔ FollowsIn p s.vertices 0 x.from (Some x.to)) where
