@@ -1,7 +1,6 @@
 pub mod Agreement
 pub mod Alike
 pub mod CallLayout
-pub mod CalmTokens
 pub mod Commented
 pub mod Counted
 pub mod Definitions

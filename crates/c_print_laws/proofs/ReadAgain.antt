@@ -32,7 +32,7 @@ use Rattle.c_print_laws.proofs.RulesKept.{settled_keeps, kept_by_settled}
 use Rattle.c_print_laws.proofs.SameProgram.{settled_has, has_settled}
 use Rattle.c_print_laws.proofs.LineLess.{layouts_same}
 use Rattle.c_print_laws.proofs.NestingKept.{nesting_kept}
-use Rattle.c_print_laws.proofs.CalmTokens.{AreUntold, told_all, untold_at}
+use Rattle.text_syntax.proofs.CalmTokens.{AreUntold, told_all, untold_at}
 use Rattle.c_print_laws.proofs.ToldItems.{tree_fits}
 use Rattle.c_print_laws.proofs.UntoldItems.{fitting_untold}
 use Rattle.c_print_laws.proofs.FittingKept.{fitting_kept}

@@ -22,7 +22,7 @@ use Rattle.c_language.specs.ItemGrammar.{IsMemberDeclarator, IsMember, AreMember
 use Rattle.c_language.specs.LeftOut.{struct_result, struct_param, open_braces, names_function, begins_param, names_param, ends_param}
 use Rattle.c_language.specs.declared.operators.Prefix.TheVariants.{Sign, Deref, AddressOf}
 use Rattle.c_language.specs.declared.token.TokenKind.TheVariants.{Mark}
-use Rattle.c_print_laws.proofs.CalmTokens.{AreUntold, done, more, calm_braces, expr_calm, calm_then}
+use Rattle.text_syntax.proofs.CalmTokens.{AreUntold, done, more, calm_braces, expr_calm, calm_then}
 use Rattle.c_print_laws.proofs.Fitting.{fits, list_fits, is_return, body_fits, is_struct, struct-PointerTo, struct-Integer, result_fits, params_fit, head_fits, items_fit}
 use Rattle.c_print_laws.proofs.ToldStatements.{Went, Goes, goes_then, goes_calm, goes_name, goes_end, went_then, name_level, end_level, opens_level, closes_level, back_level, base_goes, type_goes, declarator_goes, list_init_goes, Inside, inside_at, Gone, declaration_goes, statement_goes}
 use Rattle.c_language.proofs.Keywords.{no_keyword}

@@ -22,7 +22,7 @@ use Rattle.c_language.specs.TypeGrammar.{IsBase, structure, integer, IsStars, Is
 use Rattle.c_language.specs.StatementGrammar.{IsSeparated, IsArg, IsArgs, IsCall, bare, with_args, IsSize, of_type, of_pointee, of_bare_pointee, IsAmount, IsMalloc, IsHeap, IsSimple, IsList, trailing, IsDeclared, AreDeclared, IsDeclaration, declaration, IsInit, IsStep, IsLabel, AreLabels, IsTest, test, IsStatement, AreStatements, IsBody, IsElse, AreArms}
 use Rattle.c_language.specs.LeftOut.{early_return, other_string, open_braces, behind_semicolon, ends_function, stands_in_list, begins_format}
 use Rattle.c_language.specs.declared.token.TokenKind.TheVariants.{Mark}
-use Rattle.c_print_laws.proofs.CalmTokens.{is_calm, AreUntold, AreCalm, done, more, calm_braces, calm_behind, expr_calm, int_calm, calm_then}
+use Rattle.text_syntax.proofs.CalmTokens.{is_calm, AreUntold, AreCalm, done, more, calm_braces, calm_behind, expr_calm, int_calm, calm_then}
 use Rattle.c_print_laws.proofs.Fitting.{lacks_strings, strings_fit, fits, list_fits, part_fits, arms_fit, is_return, fits-Declare, fits-Assign, fits-Bump, fits-Call, fits-Heap, fits-If, fits-While, fits-Do, fits-For, fits-Switch, fits-Block, fits-arm, return-Return}
 
 -- ---- going on behind some tokens

@@ -19,7 +19,7 @@ use Rattle.c_language.specs.declared.token.TokenKind.TheVariants.{Name, Mark, In
 use Rattle.c_language.specs.declared.token.TokenKind.{TokenKind}
 use Rattle.c_text_layout.proofs.StatementPrint.{IsLean}
 use Rattle.c_text_layout.proofs.ItemPrint.{IsLeanItem, AreLeanItems}
-use Rattle.c_print_laws.proofs.CalmTokens.{AreUntold, AreCalm, done, more, calm_then, calm_braces, name_calm, expr_calm, int_calm, include_untold}
+use Rattle.text_syntax.proofs.CalmTokens.{AreUntold, AreCalm, done, more, calm_then, calm_braces, name_calm, expr_calm, int_calm, include_untold}
 use Rattle.c_print_laws.proofs.Fitting.{fits, list_fits, is_return, body_fits, is_struct, struct-Struct, result_fits, params_fit, head_fits, item_fits, items_fit, fits-Declare, fits-Heap, return-Call}
 use Rattle.c_print_laws.proofs.ToldStatements.{name_level, end_level, opens_level, closes_level, stars_calm, stands_opened, inside_at, Inside}
 -- ---- tokens before others at which none is told

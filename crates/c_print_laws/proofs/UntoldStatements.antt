@@ -20,7 +20,7 @@ use Rattle.c_language.specs.TypeGrammar.{IsBase, structure, integer, IsStars, Na
 use Rattle.c_language.specs.StatementGrammar.{IsSeparated, IsArg, IsArgs, IsCall, bare, with_args, is_callee, IsSize, of_type, of_pointee, of_bare_pointee, IsAmount, IsMalloc, IsHeap, IsSimple, IsList, trailing, IsDeclared, AreDeclared, IsDeclaration, declaration, IsInit, IsStep, IsLabel, AreLabels, IsTest, test, IsStatement, AreStatements, IsBody, IsElse, AreArms}
 use Rattle.c_language.specs.LeftOut.{is_left_out_word, IsTold, open_braces, behind_semicolon, ends_function, stands_in_list, begins_label, names_function, begins_param, names_param, is_some_kind}
 use Rattle.c_language.specs.declared.token.TokenKind.TheVariants.{Name, Mark}
-use Rattle.c_print_laws.proofs.CalmTokens.{is_watched, AreUntold, AreCalm, done, more, calm_then, calm_braces, calm_behind, calm_untold, name_calm, expr_calm, int_calm, mark_untold, string_untold, return_untold, case_untold, default_untold, struct_untold}
+use Rattle.text_syntax.proofs.CalmTokens.{is_watched, AreUntold, AreCalm, done, more, calm_then, calm_braces, calm_behind, calm_untold, name_calm, expr_calm, int_calm, mark_untold, string_untold, return_untold, case_untold, default_untold, struct_untold}
 use Rattle.c_print_laws.proofs.Fitting.{lacks_strings, strings_fit, fits, list_fits, part_fits, arms_fit, arm_fits, is_return, fits-Call, fits-If, fits-While, fits-Do, fits-For, fits-Switch, fits-Block, fits-Return, fits-arm, return-Assign, return-Bump, return-Call, return-Heap, return-If, return-While, return-Do, return-For, return-Switch, return-Block}
 use Rattle.c_print_laws.proofs.ToldStatements.{name_level, string_level, end_level, opens_level, closes_level, back_level, stars_calm, outer_calm, assign_calm, bump_calm, end_behind, stands_end, stands_closed, inside_at, format_name, Inside}
 

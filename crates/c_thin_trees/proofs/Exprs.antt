@@ -14,7 +14,7 @@ use Rattle.c_language.specs.IntWords.{spellings, times, IsIntWords, spelled, Are
 use Rattle.c_language.specs.ExprGrammar.{IsExpr, number_constant, character_constant, null, eof, variable, paren, index, member, unary, cast, binary, choose, sign, selector_sign}
 use Rattle.c_language.specs.TypeGrammar.{IsBase, structure, integer, IsStars, IsTypeName, pointed, IsLengths, IsOuterLengths, written, empty, IsDeclarator}
 use Rattle.c_language.specs.declared.token.TokenKind.TheVariants.{Mark}
-use Rattle.c_print_laws.proofs.CalmTokens.{contained}
+use Rattle.text_syntax.proofs.CalmTokens.{contained}
 use Rattle.c_thin_trees.proofs.Pieces.{nowhere, token, join, Moved, Lined, MovedBefore, LinedBefore}
 use Rattle.c_language.proofs.Keywords.{no_keyword}
 

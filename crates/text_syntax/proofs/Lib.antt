@@ -1,0 +1,6 @@
+pub mod CalmTokens
+pub mod Spelled
+pub mod Forms
+pub mod Exprs
+pub mod Statements
+pub mod Items
