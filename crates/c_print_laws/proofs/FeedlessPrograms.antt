@@ -25,12 +25,12 @@ use Rattle.c_language.specs.Phrases.{after_item}
 use Rattle.c_language.specs.ProgramOf.{collected, ctype, ctype_if, init_of, member_tree, struct_tree, body_of, function_tree, functions_from, item_tree, items_from, program_of}
 use Rattle.c_language.specs.Programs.{IsWellFormed}
 use Rattle.c_print.specs.Feedless.{feedless, type_feedless, statement_step, arm_step, statement_feedless, var_feedless, member_feedless, struct_feedless, function_feedless, name_feedless, item_feedless, IsFeedless}
-use Rattle.c_text_layout.proofs.TextPrint.{formed_written}
 use Rattle.c_print_laws.proofs.Options.{collected_are}
 use Rattle.c_print_laws.proofs.Definitions.{program_parts}
 use Rattle.c_tree.proofs.Unlining.{zeroed, fold_unlined}
 use Rattle.c_print_laws.proofs.RawFeedless.{raw_type_feedless, raw_var_feedless, raw_init_feedless, raw_body_feedless, raw_member_feedless, raw_param_feedless, raw_head_feedless, raw_item_feedless, raw_items_feedless}
-use Rattle.c_print_laws.proofs.FeedlessTokens.{program_of_tokens}
+use Rattle.c_print_laws.proofs.SyntaxFeedless.{syntax_feedless}
+use Rattle.text_syntax.proofs.Items.{text_is_syntax}
 use Rattle.c_print_laws.proofs.FeedlessTypes.{all_given, type_given, optional_type_given}
 use Rattle.c_print_laws.proofs.FeedlessStatements.{init_given, body_given}
 use Rattle.c_print_laws.proofs.FeedlessVariables.{variables_given}
@@ -163,5 +163,4 @@ same_feedless p q same h = record {
 -- No text of a well-formed program holds a line feed.
 pub well_formed_feedless : (p : Program) → IsWellFormed p → IsFeedless p
 well_formed_feedless p ok =
-    let tokens = formed_written ok.tree.tokens ok.tree.is.formed in
-    same_feedless p ok.same ok.but_lines (program_given ok.raw ok.same (program_of_tokens ok.raw ok.tree.is.grammar tokens) ok.has.program)
+    same_feedless p ok.same ok.but_lines (program_given ok.raw ok.same (syntax_feedless ok.raw (text_is_syntax ok.raw ok.tree)) ok.has.program)

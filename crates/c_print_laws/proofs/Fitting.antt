@@ -1,11 +1,11 @@
 -- What a tree shows of the left-out constructs that tokens alone tell: returns, strings, and struct types of results and parameters.
-use Rattle.std.proofs.Common.{◌≡◌, ℕ, List, [], ◌∷◌, map, Bool, true, false, not, ◌&&◌, ◌||◌, codes, Option, Some, None, sym, ap, ◌∙◌}
+use Rattle.std.proofs.Common.{◌≡◌, ℕ, List, [], ◌∷◌, ◌++◌, map, Bool, true, false, not, ◌&&◌, ◌||◌, codes, Option, Some, None, sym, ap, ◌∙◌}
 use Rattle.std.specs.Prelude.{bytes_eq}
 use Rattle.std.specs.List.{list_all}
-use Rattle.c_arith.specs.declared.int_type.IntType.{IntType}
+use Rattle.std.proofs.lemmas.Bool.{and_parts, and_from, or_left}
 use Rattle.c_arith.specs.declared.operators.BinaryOp.{BinaryOp}
 use Rattle.c_tree.specs.declared.raw.expr.RawExpr.{RawExpr}
-use Rattle.c_tree.specs.declared.raw.expr.RawType.{RawType, fold-RawType, fold-roll-RawType}
+use Rattle.c_tree.specs.declared.raw.expr.RawType.{RawType, fold-roll-RawType}
 use Rattle.c_tree.specs.declared.raw.expr.RawType.TheOpen.{RawType-F}
 use Rattle.c_tree.specs.declared.raw.expr.RawType.TheVariants as type
 use Rattle.c_tree.specs.declared.raw.expr.RawVar.{RawVar}
@@ -27,6 +27,7 @@ use Rattle.c_tree.specs.declared.raw.statement.RawArm.{RawArm, fold-RawArm, fold
 use Rattle.c_language.specs.Words.{Bytes}
 use Rattle.c_language.specs.StatementGrammar.{arm}
 use Rattle.c_language.specs.Lists.{if_there, all_true}
+use Rattle.c_language.specs.Syntax.{struct_step, is_struct}
 
 -- ---- strings
 
@@ -93,7 +94,7 @@ body_fits [] = true
 body_fits (x ∷ []) = fits x || is_return x
 body_fits (x ∷ (y ∷ ys)) = fits x && body_fits (y ∷ ys)
 
-fits_as : (y : RawStatement-F RawStatement RawArm) → fits (roll-RawStatement y) ≡ fits_step (map-RawStatement RawStatement RawArm Bool Bool fits arm_fits y)
+pub fits_as : (y : RawStatement-F RawStatement RawArm) → fits (roll-RawStatement y) ≡ fits_step (map-RawStatement RawStatement RawArm Bool Bool fits arm_fits y)
 fits_as y = fold-roll-RawStatement Bool Bool fits_step arm_fits_step y
 
 pub fits-Declare : (l : ℕ) (v : RawVar) (i : RawInit) → fits (s.Declare l v i) ≡ true
@@ -176,24 +177,8 @@ return-For l (Some i) a (Some x) b = ap is_return (sym (s.rolls-For l (Some i) a
 
 -- ---- heads of functions
 
-abbrev pub bare_step : RawType-F Bool → Bool
-bare_step (RawType-F.Integer t) = false
-bare_step (RawType-F.PointerTo a) = false
-bare_step (RawType-F.Array a n) = false
-bare_step (RawType-F.Struct tag) = true
-
--- a struct type alone
-abbrev pub is_struct : RawType → Bool
-is_struct = fold-RawType Bool bare_step
-
 pub struct-Struct : (tag : Bytes) → is_struct (type.Struct tag) ≡ true
-struct-Struct tag = ap is_struct (sym (type.rolls-Struct tag)) ∙ fold-roll-RawType Bool bare_step (RawType-F.Struct tag)
-
-pub struct-PointerTo : (a : RawType) → is_struct (type.PointerTo a) ≡ false
-struct-PointerTo a = ap is_struct (sym (type.rolls-PointerTo a)) ∙ fold-roll-RawType Bool bare_step (RawType-F.PointerTo a)
-
-pub struct-Integer : (t : IntType) → is_struct (type.Integer t) ≡ false
-struct-Integer t = ap is_struct (sym (type.rolls-Integer t)) ∙ fold-roll-RawType Bool bare_step (RawType-F.Integer t)
+struct-Struct tag = ap is_struct (sym (type.rolls-Struct tag)) ∙ fold-roll-RawType Bool struct_step (RawType-F.Struct tag)
 
 abbrev pub result_fits : Option RawType → Bool
 result_fits None = true
@@ -217,3 +202,21 @@ item_fits (item.Define l h body) = head_fits h && body_fits body
 abbrev pub items_fit : List RawItem → Bool
 items_fit [] = true
 items_fit (x ∷ xs) = item_fits x && items_fit xs
+
+-- ---- lists one after another
+
+pub fits_append : (xs ys : List RawStatement) → list_fits xs ≡ true → list_fits ys ≡ true → list_fits (xs ++ ys) ≡ true
+fits_append [] ys h k = k
+fits_append (x ∷ xs) ys h k = let p = and_parts (fits x) (list_fits xs) h in and_from _ _ p.0 (fits_append xs ys p.1 k)
+
+body_cons : (x : RawStatement) (xs : List RawStatement) → fits x ≡ true → body_fits xs ≡ true → body_fits (x ∷ xs) ≡ true
+body_cons x [] h k = or_left (fits x) (is_return x) h
+body_cons x (y ∷ ys) h k = and_from _ _ h k
+
+pub body_append : (xs ys : List RawStatement) → list_fits xs ≡ true → body_fits ys ≡ true → body_fits (xs ++ ys) ≡ true
+body_append [] ys h k = k
+body_append (x ∷ xs) ys h k = let p = and_parts (fits x) (list_fits xs) h in body_cons x (xs ++ ys) p.0 (body_append xs ys p.1 k)
+
+pub items_append : (xs ys : List RawItem) → items_fit xs ≡ true → items_fit ys ≡ true → items_fit (xs ++ ys) ≡ true
+items_append [] ys h k = k
+items_append (x ∷ xs) ys h k = let p = and_parts _ (items_fit xs) h in and_from _ _ p.0 (items_append xs ys p.1 k)

@@ -10,7 +10,8 @@ use Rattle.c_tree.specs.declared.raw.statement.RawStatement.TheOpen.{RawStatemen
 use Rattle.c_text_layout.specs.Settled.{settled, settled_param, settled_item, SameInLayout}
 use Rattle.c_text_layout.proofs.RawStatementLemmas.{settled_arm}
 use Rattle.c_print_laws.proofs.PhraseAgreement.{kept_layer, settled_layer, settled_arm_layer}
-use Rattle.c_print_laws.proofs.Fitting.{fits_step, arm_fits_step, fits, arm_fits, list_fits, arms_fit, return_step, of_arm, is_return, body_fits, is_struct, params_fit, result_fits, item_fits, items_fit}
+use Rattle.c_language.specs.Syntax.{is_struct}
+use Rattle.c_print_laws.proofs.Fitting.{fits_step, arm_fits_step, fits, arm_fits, list_fits, arms_fit, return_step, of_arm, is_return, body_fits, params_fit, result_fits, item_fits, items_fit}
 use Rattle.c_tree.proofs.RawTrees.{StatementParts, statement_layer, arm_layer, of_every_statement}
 
 abbrev Kept : RawStatement → Type 0

@@ -7,7 +7,6 @@ pub mod Definitions
 pub mod ExprLayout
 pub mod FeedlessPrograms
 pub mod FeedlessStatements
-pub mod FeedlessTokens
 pub mod FeedlessTypes
 pub mod FeedlessVariables
 pub mod Fitting
@@ -36,9 +35,9 @@ pub mod ShortLists
 pub mod SpacedWords
 pub mod StatementLayout
 pub mod StatementStarts
+pub mod SyntaxFeedless
+pub mod SyntaxFits
 pub mod Told
-pub mod ToldItems
-pub mod ToldStatements
 pub mod TypeLayout
 pub mod UntoldItems
 pub mod UntoldStatements

@@ -1,9 +1,8 @@
 -- Trees of texts in which no text holds a line feed: names, spellings of constants, and strings.
-use Rattle.std.proofs.Common.{◌≡◌, List, [], ◌∷◌, ◌++◌, map, Bool, true, ◌&&◌, sym, ap, ◌∙◌}
+use Rattle.std.proofs.Common.{◌≡◌, List, map, Bool, true, ◌&&◌, sym, ap, ◌∙◌}
 use Rattle.std.specs.List.{list_all}
 use Rattle.std.specs.Option.{option_map_or}
-use Rattle.std.proofs.lemmas.Bool.{and_from, and_parts}
-use Rattle.c_tree.specs.declared.raw.expr.RawExpr.{RawExpr, roll-RawExpr, map-RawExpr, fold-RawExpr, fold-roll-RawExpr}
+use Rattle.c_tree.specs.declared.raw.expr.RawExpr.{RawExpr, fold-RawExpr}
 use Rattle.c_tree.specs.declared.raw.expr.RawExpr.TheOpen.{RawExpr-F}
 use Rattle.c_tree.specs.declared.raw.expr.RawLength.{RawLength}
 use Rattle.c_tree.specs.declared.raw.expr.RawLength.TheVariants.{Written, Listed}
@@ -30,8 +29,7 @@ use Rattle.c_tree.specs.declared.raw.statement.RawLabel.{RawLabel}
 use Rattle.c_tree.specs.declared.raw.statement.RawLabel.TheVariants.{Case, Default}
 use Rattle.c_tree.specs.declared.raw.statement.RawStatement.{RawStatement, roll-RawStatement, map-RawStatement, fold-RawStatement, fold-roll-RawStatement}
 use Rattle.c_tree.specs.declared.raw.statement.RawStatement.TheOpen.{RawStatement-F, RawArm-F}
-use Rattle.c_tree.specs.declared.raw.statement.RawArm.{RawArm, fold-RawArm, fold-roll-RawArm}
-use Rattle.c_language.specs.StatementGrammar.{arm}
+use Rattle.c_tree.specs.declared.raw.statement.RawArm.{RawArm, fold-RawArm}
 use Rattle.c_print.specs.Feedless.{feedless}
 use Rattle.c_language.specs.Lists.{if_there, all_true}
 
@@ -157,19 +155,9 @@ raw_items_feedless items = list_all raw_item_feedless items
 
 -- ---- a tree by its outermost form
 
-pub expr_by : {a : RawExpr} (y : RawExpr-F RawExpr) → roll-RawExpr y ≡ a → raw_expr_step (map-RawExpr RawExpr Bool raw_expr_feedless y) ≡ true → raw_expr_feedless a ≡ true
-expr_by y is h = ap raw_expr_feedless (sym is) ∙ fold-roll-RawExpr Bool raw_expr_step y ∙ h
-
 pub type_by : {a : RawType} (y : RawType-F RawType) → roll-RawType y ≡ a → raw_type_step (map-RawType RawType Bool raw_type_feedless y) ≡ true → raw_type_feedless a ≡ true
 type_by y is h = ap raw_type_feedless (sym is) ∙ fold-roll-RawType Bool raw_type_step y ∙ h
 
 pub statement_by : {a : RawStatement} (y : RawStatement-F RawStatement RawArm) → roll-RawStatement y ≡ a
     → raw_statement_step (map-RawStatement RawStatement RawArm Bool Bool raw_statement_feedless raw_arm_feedless y) ≡ true → raw_statement_feedless a ≡ true
 statement_by y is h = ap raw_statement_feedless (sym is) ∙ fold-roll-RawStatement Bool Bool raw_statement_step raw_arm_step y ∙ h
-
-pub arm_by : (labels : List RawLabel) (body : List RawStatement) → list_all raw_label_feedless labels ≡ true → raw_body_feedless body ≡ true → raw_arm_feedless (arm labels body) ≡ true
-arm_by labels body h k = fold-roll-RawArm Bool Bool raw_statement_step raw_arm_step (record { labels = labels; body = body }) ∙ and_from _ _ h k
-
-pub bodies_append : (xs ys : List RawStatement) → raw_body_feedless xs ≡ true → raw_body_feedless ys ≡ true → raw_body_feedless (xs ++ ys) ≡ true
-bodies_append [] ys h k = k
-bodies_append (x ∷ xs) ys h k = let p = and_parts (raw_statement_feedless x) (raw_body_feedless xs) h in and_from _ _ p.0 (bodies_append xs ys p.1 k)

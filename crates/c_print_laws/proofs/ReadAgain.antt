@@ -32,8 +32,9 @@ use Rattle.c_print_laws.proofs.RulesKept.{settled_keeps, kept_by_settled}
 use Rattle.c_print_laws.proofs.SameProgram.{settled_has, has_settled}
 use Rattle.c_print_laws.proofs.LineLess.{layouts_same}
 use Rattle.c_print_laws.proofs.NestingKept.{nesting_kept}
-use Rattle.text_syntax.proofs.CalmTokens.{AreUntold, told_all, untold_at}
-use Rattle.c_print_laws.proofs.ToldItems.{tree_fits}
+use Rattle.text_syntax.proofs.CalmTokens.{AreUntold, untold_at}
+use Rattle.c_print_laws.proofs.SyntaxFits.{tree_fits}
+use Rattle.text_syntax.proofs.Items.{text_is_syntax}
 use Rattle.c_print_laws.proofs.UntoldItems.{fitting_untold}
 use Rattle.c_print_laws.proofs.FittingKept.{fitting_kept}
 use Rattle.c_print_laws.proofs.ListForms.{is_counted, fine, lists_counted}
@@ -87,19 +88,6 @@ limits_kept raw found p q same bare but_lines h =
 
 -- ---- left-out constructs
 
--- Where no left-out construct begins among the tokens, none is told at one of them.
-pub untold_tokens : (ts : Tokens) → ((text : Bytes) (line : ℕ) → IsLeftOut ts text line → ⊥) → AreUntold [] ts
-untold_tokens ts whole = told_all [] ts (λ front t behind is told.
-    whole t.text t.line (record {
-      front = front;
-      token = t;
-      behind = behind;
-      split = is;
-      text_is = refl;
-      line_is = refl;
-      begins = BeginsLeftOut.told (subst (λ (x : Tokens). IsTold x t behind) (append-nil (reverse front)) told);
-    }))
-
 none_begins : {ts front behind : Tokens} {t : Token} (all : RawProgram) → IsProgram ts all → AreUntold [] (front ++ t ∷ behind) → BeginsLeftOut ts front t behind → ⊥
 none_begins {front = front} {behind} {t} all is h (BeginsLeftOut.told told) = untold_at front [] t behind h (subst (λ (x : Tokens). IsTold x t behind) (sym (append-nil (reverse front))) told)
 none_begins all is h (BeginsLeftOut.without_tree none k) = none all is
@@ -117,7 +105,7 @@ read_behind front line behind p h =
     let r = printed_is_read line raw g (formed_written ts h.tree.is.formed) (short_lists raw h.same h.has.program h.has.rules h.within.lengths) in
     let k = same_in_layout raw r.found h.same g r.is (ap (λ (xs : List RawItem). record { items = xs }) r.same) h.has.rules h.has.program in
     let laid : layout p ≡ raw_layout raw = layouts_same p h.same h.but_lines ∙ layout_of_text raw h.same g h.has.rules h.has.program in
-    let untold = fitting_untold r.is r.lean (fitting_kept raw r.found r.same (tree_fits g (untold_tokens ts h.tree.is.whole))) in
+    let untold = fitting_untold r.is r.lean (fitting_kept raw r.found r.same (tree_fits raw (text_is_syntax raw h.tree))) in
     record {
       found = r.found;
       again = k.1.0;

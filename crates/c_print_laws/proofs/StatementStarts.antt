@@ -16,6 +16,7 @@ use Rattle.c_print.proofs.OpeningLemmas.{IsListed}
 use Rattle.c_print_laws.specs.Places.{StatementsStart}
 use Rattle.c_print_laws.proofs.Definitions.{program_parts}
 use Rattle.c_print_laws.proofs.ForParts.{program_tidy}
+use Rattle.text_syntax.proofs.Items.{text_is_syntax}
 use Rattle.c_tree.proofs.Unlining.{zeroed, fold_unlined}
 use Rattle.c_print_laws.proofs.LineLess.{got_or}
 use Rattle.c_print_laws.proofs.FeedlessPrograms.{well_formed_feedless}
@@ -56,7 +57,7 @@ numbers_listed p ok id low =
     let parts = program_parts ok.raw ok.same ok.has.program in
     let count : p.statements ≡ ok.same.statements = ap (λ (q : Program). q.statements) ok.but_lines in
     subst (IsListed id) (sym (layout_starts_same p ok.same ok.but_lines))
-    (items_take ok.raw ok.same ok.raw.items (program_tidy ok.raw ok.tree.is.grammar) outset ok.same.items ok.same.functions parts.items parts.functions (λ i. ap (slice_get ok.same.functions) (omega arith)) id 1 (omega arith) (omega (arith, low, count, parts.statements)))
+    (items_take ok.raw ok.same ok.raw.items (program_tidy ok.raw (text_is_syntax ok.raw ok.tree)) outset ok.same.items ok.same.functions parts.items parts.functions (λ i. ap (slice_get ok.same.functions) (omega arith)) id 1 (omega arith) (omega (arith, low, count, parts.statements)))
 
 pub statements_start : StatementsStart
 statements_start = λ p ok id low. listed_starts p id (well_formed_feedless p ok) (numbers_listed p ok id low)

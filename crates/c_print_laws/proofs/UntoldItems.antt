@@ -20,8 +20,10 @@ use Rattle.c_language.specs.declared.token.TokenKind.{TokenKind}
 use Rattle.c_text_layout.proofs.StatementPrint.{IsLean}
 use Rattle.c_text_layout.proofs.ItemPrint.{IsLeanItem, AreLeanItems}
 use Rattle.text_syntax.proofs.CalmTokens.{AreUntold, AreCalm, done, more, calm_then, calm_braces, name_calm, expr_calm, int_calm, include_untold}
-use Rattle.c_print_laws.proofs.Fitting.{fits, list_fits, is_return, body_fits, is_struct, struct-Struct, result_fits, params_fit, head_fits, item_fits, items_fit, fits-Declare, fits-Heap, return-Call}
-use Rattle.c_print_laws.proofs.ToldStatements.{name_level, end_level, opens_level, closes_level, stars_calm, stands_opened, inside_at, Inside}
+use Rattle.c_language.specs.Syntax.{is_struct}
+use Rattle.c_print_laws.proofs.Fitting.{fits, list_fits, is_return, body_fits, struct-Struct, result_fits, params_fit, head_fits, item_fits, items_fit, fits-Declare, fits-Heap, return-Call}
+use Rattle.text_syntax.proofs.Exprs.{stars_calm}
+use Rattle.text_syntax.proofs.Statements.{name_level, end_level, opens_level, closes_level, stands_opened, inside_at, Inside}
 -- ---- tokens before others at which none is told
 use Rattle.c_print_laws.proofs.UntoldStatements.{Behind, NoParam, base_clear, calm_clear, calm_static, calm_void, declaration_clear, declarator_calm, declarator_no_function, end_clear, function_follows, inside_opened, inside_param, list_init_clear, mark_here, opened_back, or_first, statement_clear, word_here}
 

@@ -22,7 +22,8 @@ use Rattle.c_language.specs.LeftOut.{is_left_out_word, IsTold, open_braces, behi
 use Rattle.c_language.specs.declared.token.TokenKind.TheVariants.{Name, Mark}
 use Rattle.text_syntax.proofs.CalmTokens.{is_watched, AreUntold, AreCalm, done, more, calm_then, calm_braces, calm_behind, calm_untold, name_calm, expr_calm, int_calm, mark_untold, string_untold, return_untold, case_untold, default_untold, struct_untold}
 use Rattle.c_print_laws.proofs.Fitting.{lacks_strings, strings_fit, fits, list_fits, part_fits, arms_fit, arm_fits, is_return, fits-Call, fits-If, fits-While, fits-Do, fits-For, fits-Switch, fits-Block, fits-Return, fits-arm, return-Assign, return-Bump, return-Call, return-Heap, return-If, return-While, return-Do, return-For, return-Switch, return-Block}
-use Rattle.c_print_laws.proofs.ToldStatements.{name_level, string_level, end_level, opens_level, closes_level, back_level, stars_calm, outer_calm, assign_calm, bump_calm, end_behind, stands_end, stands_closed, inside_at, format_name, Inside}
+use Rattle.text_syntax.proofs.Exprs.{stars_calm, outer_calm}
+use Rattle.text_syntax.proofs.Statements.{name_level, string_level, end_level, opens_level, closes_level, back_level, assign_calm, bump_calm, end_behind, stands_end, stands_closed, inside_at, format_name, Inside}
 
 -- ---- tokens before others at which none is told
 

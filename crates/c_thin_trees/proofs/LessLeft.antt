@@ -34,9 +34,7 @@ use Rattle.c_language.proofs.StatementNestingLemmas.{nesting-Declare, nesting-Ca
 use Rattle.projection.specs.Kept.{Kept}
 use Rattle.c_scope_laws.specs.Thinning.{declares}
 use Rattle.c_scope_laws.specs.ThinnedBodies.{Left, ArmLeft, counted_length, counted_type_step, counted_type, counted_var, only, part_left, alone_one, alone_all, left_alone, arms_left, block_of, plain, declared, call_placed, call_declared, heap_declared, if_left, while_left, do_left, for_left, switch_left, result_kept, declare_left, call_left, heap_left, block_left, left_scoped, left_arm_step, left, left_arm, body_left, part_given}
-use Rattle.c_print_laws.proofs.Fitting.{fits, arm_fits, list_fits, part_fits, arms_fit, return_step, of_arm, is_return, body_fits, fits-Declare, fits-Call, fits-If, fits-While, fits-Do, fits-For, fits-Switch, fits-Block, fits-arm, return-Call, return-Heap, return-If, return-While, return-Do, return-For, return-Switch, return-Block}
-use Rattle.c_print_laws.proofs.ToldItems.{body_append}
-use Rattle.c_print_laws.proofs.ToldStatements.{fits_append}
+use Rattle.c_print_laws.proofs.Fitting.{fits_append, body_append, fits, arm_fits, list_fits, part_fits, arms_fit, return_step, of_arm, is_return, body_fits, fits-Declare, fits-Call, fits-If, fits-While, fits-Do, fits-For, fits-Switch, fits-Block, fits-arm, return-Call, return-Heap, return-If, return-While, return-Do, return-For, return-Switch, return-Block}
 use Rattle.c_thin_trees.proofs.LeftForms.{layer_left}
 use Rattle.c_language.specs.Lists.{greatest}
 

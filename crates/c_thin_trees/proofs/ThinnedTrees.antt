@@ -11,10 +11,11 @@ use Rattle.c_language.specs.StatementNesting.{item_nesting, items_nesting, progr
 use Rattle.projection.specs.Kept.{Kept}
 use Rattle.c_scope_laws.specs.ThinnedBodies.{body_left}
 use Rattle.c_scope_laws.specs.ThinnedTexts.{chosen, item_left, items_left, KeepsText, thinned_text}
-use Rattle.c_print_laws.proofs.Fitting.{body_fits, head_fits, item_fits, items_fit}
-use Rattle.c_print_laws.proofs.ToldItems.{tree_fits, items_append}
+use Rattle.text_syntax.proofs.Items.{text_is_syntax}
+use Rattle.c_print_laws.proofs.Fitting.{body_fits, head_fits, item_fits, items_fit, items_append}
+use Rattle.c_print_laws.proofs.SyntaxFits.{tree_fits}
 use Rattle.c_print_laws.proofs.UntoldItems.{fitting_untold}
-use Rattle.c_print_laws.proofs.ReadAgain.{untold_tokens, none_left_out}
+use Rattle.c_print_laws.proofs.ReadAgain.{none_left_out}
 use Rattle.c_thin_trees.proofs.Pieces.{are_formed, all_formed}
 use Rattle.c_thin_trees.proofs.LessLeft.{body_less}
 use Rattle.c_thin_trees.proofs.ItemLeft.{items_itemed, items_listed}
@@ -73,7 +74,7 @@ pub thinned_tree : (k : Kept) (raw : RawProgram) → IsTree raw → KeepsText k 
 thinned_tree k raw tree closed =
     let g = tree.is.grammar in
     let l = items_listed (items_left k raw raw.items outset) (items_itemed k raw g (are_formed tree.tokens tree.is.formed) outset closed.items) in
-    let fit = (items_less k raw raw.items outset).fitting (tree_fits g (untold_tokens tree.tokens tree.is.whole)) in
+    let fit = (items_less k raw raw.items outset).fitting (tree_fits raw (text_is_syntax raw tree)) in
     record {
       tokens = l.tokens;
       is = record {

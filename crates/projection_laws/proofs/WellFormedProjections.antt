@@ -13,6 +13,7 @@ use Rattle.projection.specs.Projection.{projection}
 use Rattle.built_forms.specs.IntegerForms.{IsPlainItem, IsIntegerLocal, IsIntegerMain}
 use Rattle.c_scope_laws.specs.Following.{kept_functions}
 use Rattle.c_print_laws.proofs.ForParts.{program_tidy}
+use Rattle.text_syntax.proofs.Items.{text_is_syntax}
 use Rattle.c_thin_trees.proofs.WellFormed.{thinned_well_formed}
 use Rattle.projection_laws.specs.Nested.{is_nested, IsNested}
 use Rattle.projection_laws.proofs.Going.{kept_of}
@@ -49,11 +50,11 @@ module _ (raw : RawProgram) (q : Program) (keeps : ℕ → Bool) (m : IsIntegerM
 
   -- what is kept of its main has what it needs
   pub text_met : IsTree raw → HasProgram raw q → IsMetMain raw vars keeps m.main.body
-  text_met tree has = main_met raw vars keeps q m.main has (program_tidy raw tree.is.grammar) plain locals m.functions_are fine
+  text_met tree has = main_met raw vars keeps q m.main has (program_tidy raw (text_is_syntax raw tree)) plain locals m.functions_are fine
 
   text_projects : IsTree raw → HasProgram raw q → IsWithinLimits raw q → IsWellFormed (projection q keeps)
   text_projects tree has within =
-      let closed = main_closed raw vars keeps q m.main has (program_tidy raw tree.is.grammar) plain locals m.functions_are fine in
+      let closed = main_closed raw vars keeps q m.main has (program_tidy raw (text_is_syntax raw tree)) plain locals m.functions_are fine in
       subst IsWellFormed
       (program_same vars keeps (kept_functions (kept_of vars keeps) raw) (first_kept vars keeps raw (λ h. has.rules 5 1 (IsBroken.no_main h))) q m.main plain locals m.functions_are m.statements_are)
       (thinned_well_formed (kept_of vars keeps) raw q tree has within closed)

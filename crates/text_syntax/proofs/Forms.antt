@@ -1,5 +1,5 @@
 -- Trees that are syntax by their outermost form.
-use Rattle.std.proofs.Common.{◌≡◌, ℕ, ◌≤◌, List, [], ◌∷◌, ◌++◌, map, Bool, true, ◌&&◌, sym, ap, ◌∙◌, arith}
+use Rattle.std.proofs.Common.{◌≡◌, ℕ, ◌≤◌, List, [], ◌∷◌, ◌++◌, map, Bool, true, ◌&&◌, Option, refl, sym, ap, ◌∙◌, arith, ◌⊎◌, inl, inr}
 use Rattle.std.specs.Prelude.{nat_le}
 use Rattle.std.specs.List.{list_all}
 use Rattle.std.proofs.lemmas.Bool.{and_from, and_parts}
@@ -14,6 +14,8 @@ use Rattle.c_tree.specs.declared.raw.statement.RawStatement.{RawStatement, roll-
 use Rattle.c_tree.specs.declared.raw.statement.RawStatement.TheOpen.{RawStatement-F}
 use Rattle.c_tree.specs.declared.raw.statement.RawTarget.{RawTarget}
 use Rattle.c_tree.specs.declared.raw.statement.RawTarget.TheVariants as target
+use Rattle.c_tree.specs.declared.raw.statement.RawStatement.TheVariants as s
+use Rattle.c_tree.proofs.RawTrees.{statement_layer, of_every_statement}
 use Rattle.c_language.specs.StatementGrammar.{arm}
 use Rattle.c_language.specs.Syntax.{is_there, binds_step, binds, Extent, reaches_step, reaches, Position, inner, final, is_target, is_call, is_stored, is_heap, all_inner, is_label, stands_step, arm_step, stands, is_arm}
 
@@ -68,3 +70,54 @@ ends_too x h =
     let y = map-RawStatement RawStatement RawArm (Position → Bool) Bool stands is_arm (out-RawStatement x) in
     let e : (p : Position) → stands x p ≡ stands_step y p = λ p. ap (λ (f : Position → Bool). f p) (fold_out-RawStatement (Position → Bool) Bool stands_step arm_step x) in
     e final ∙ step_ends y (sym (e inner) ∙ h)
+
+target_stays : (to : RawTarget) → is_target final to ≡ true → is_target inner to ≡ true
+target_stays target.None h = h
+target_stays (target.Place a) h = h
+target_stays (target.Declared v) h = h
+
+module _ (is_return : RawStatement → Bool) (returns : (l : ℕ) (a : Option RawExpr) → is_return (s.Return l a) ≡ true) where
+  abbrev EndsAs : RawStatement → Type 0
+  EndsAs x = stands x final ≡ true → (stands x inner ≡ true) ⊎ (is_return x ≡ true)
+
+  step_stays : (y : RawStatement-F (Position → Bool) Bool) (x : RawStatement) → stands_step y final ≡ true → ((l : ℕ) (a : Option RawExpr) → y ≡ RawStatement-F.Return l a → is_return x ≡ true)
+      → (stands_step y inner ≡ true) ⊎ (is_return x ≡ true)
+  step_stays (RawStatement-F.Declare l v i) x h r = inl h
+  step_stays (RawStatement-F.Assign l a op b) x h r = inl h
+  step_stays (RawStatement-F.Bump l a up before) x h r = inl h
+  step_stays (RawStatement-F.Call l to f args) x h r = let p = and_parts (is_target final to) (is_call f args) h in inl (and_from _ _ (target_stays to p.0) p.1)
+  step_stays (RawStatement-F.Heap l to cast n) x h r = let p = and_parts (is_target final to) (is_stored to && is_heap cast n) h in inl (and_from _ _ (target_stays to p.0) p.1)
+  step_stays (RawStatement-F.If l a body other) x h r = inl h
+  step_stays (RawStatement-F.While l a b) x h r = inl h
+  step_stays (RawStatement-F.Do l a b) x h r = inl h
+  step_stays (RawStatement-F.For l i a k b) x h r = inl h
+  step_stays (RawStatement-F.Switch l a arms) x h r = inl h
+  step_stays (RawStatement-F.Block l b) x h r = inl h
+  step_stays (RawStatement-F.Return l a) x h r = inr (r l a refl)
+
+  return_layer : (y : RawStatement-F RawStatement RawArm) (l : ℕ) (a : Option RawExpr) → map-RawStatement RawStatement RawArm (Position → Bool) Bool stands is_arm y ≡ RawStatement-F.Return l a → is_return (roll-RawStatement y) ≡ true
+  return_layer (RawStatement-F.Return m b) l a e = ap is_return (s.rolls-Return m b) ∙ returns m b
+  return_layer (RawStatement-F.Declare m v i) l a e = absurd cc
+  return_layer (RawStatement-F.Assign m b op c) l a e = absurd cc
+  return_layer (RawStatement-F.Bump m b up before) l a e = absurd cc
+  return_layer (RawStatement-F.Call m to f args) l a e = absurd cc
+  return_layer (RawStatement-F.Heap m to cast n) l a e = absurd cc
+  return_layer (RawStatement-F.If m b body other) l a e = absurd cc
+  return_layer (RawStatement-F.While m b body) l a e = absurd cc
+  return_layer (RawStatement-F.Do m b body) l a e = absurd cc
+  return_layer (RawStatement-F.For m i b k body) l a e = absurd cc
+  return_layer (RawStatement-F.Switch m b arms) l a e = absurd cc
+  return_layer (RawStatement-F.Block m body) l a e = absurd cc
+
+  as_inner : (x : RawStatement) {b : Bool} → stands x inner ≡ b → (b ≡ true) ⊎ (is_return x ≡ true) → (stands x inner ≡ true) ⊎ (is_return x ≡ true)
+  as_inner x e (inl h) = inl (e ∙ h)
+  as_inner x e (inr h) = inr h
+
+  -- what may end a function may stand in a list, or is a return
+  pub ends_as : (x : RawStatement) → EndsAs x
+  ends_as = of_every_statement EndsAs (λ a. Unit {0})
+      (λ y h.
+      let z = statement_layer EndsAs (λ a. Unit {0}) y in
+      let e : (p : Position) → stands (roll-RawStatement z) p ≡ stands_step (map-RawStatement RawStatement RawArm (Position → Bool) Bool stands is_arm z) p = λ p. ap (λ (f : Position → Bool). f p) (fold-roll-RawStatement (Position → Bool) Bool stands_step arm_step z) in
+      as_inner (roll-RawStatement z) (e inner) (step_stays (map-RawStatement RawStatement RawArm (Position → Bool) Bool stands is_arm z) (roll-RawStatement z) (sym (e final) ∙ h) (return_layer z)))
+      (λ y. tt)

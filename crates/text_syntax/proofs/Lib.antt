@@ -4,3 +4,4 @@ pub mod Forms
 pub mod Exprs
 pub mod Statements
 pub mod Items
+pub mod Folds
