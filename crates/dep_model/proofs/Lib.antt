@@ -10,6 +10,11 @@ pub mod Grown
 pub mod IntegerActs
 pub mod IntegerExprs
 pub mod IntegerStatements
+pub mod LocationCounts
+pub mod LocationLaws
+pub mod LocationParts
+pub mod LocationRules
+pub mod LocationSites
 pub mod MainVertexLemmas
 pub mod MayPointLaws
 pub mod Membership

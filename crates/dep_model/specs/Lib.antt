@@ -15,6 +15,8 @@ pub mod Groups
 pub mod IntegerEffects
 pub mod Laws
 pub mod ListedLocations
+pub mod LocationLists
+pub mod LocationObjects
 pub mod LocationRows
 pub mod Locations
 pub mod MainEdges

@@ -1,0 +1,2 @@
+pub mod TypeForms
+pub mod Rulesets
