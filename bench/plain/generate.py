@@ -32,8 +32,8 @@ class Generator:
         self.level = 0
         self.fresh_names = 0
         self.loops = 0
-        # integer places that may be stored into, readable ones besides, and counters with their bounds: (text, type), (text, bound)
-        self.places, self.readable, self.counters = [], [], []
+        # integer places, those that are only read and those that are only stored into: (text, type); counters: (name, bound)
+        self.places, self.readable, self.write_only, self.counters = [], [], [], []
 
     # choices
 
@@ -191,7 +191,8 @@ class Generator:
         return None
 
     def place(self):
-        text, t = self.pick(self.places[-8:] if self.chance(60) else self.places)
+        found = self.places + self.write_only
+        text, t = self.pick(self.places[-8:] if self.chance(50) else found)
         text = self.filled(text)
         return (f"({text})" if self.chance(3) else text), t
 

@@ -21,8 +21,7 @@ class CallGenerator(Generator):
     def __init__(self, seed, size):
         super().__init__(seed, size, reads_input=True)
         self.functions = []
-        self.current = None
-        self.result = None
+        self.current, self.last = None, None
 
     # calls
 
@@ -32,7 +31,7 @@ class CallGenerator(Generator):
         return f"{words} {name}" if name else words
 
     def argument(self, t):
-        return self.bounded()[0] if self.chance(70) else self.leaf()[0]
+        return self.bounded()[0] if self.chance(40) else self.leaf()[0]
 
     def call_words(self, f, counter):
         return f"{f.name}({', '.join([counter] + [self.argument(t) for t in f.params])})"
@@ -53,7 +52,9 @@ class CallGenerator(Generator):
         if not self.functions:
             return self.assign()
         if self.current is None:
-            return self.called(self.pick(self.functions), str(self.below(3)))
+            if self.last is None or self.chance(50):
+                self.last = self.pick(self.functions)
+            return self.called(self.last, str(self.below(3)))
         lower = self.functions[:self.functions.index(self.current)]
         if lower and self.chance(35):
             return self.called(self.pick(lower), str(self.below(2)))
@@ -67,7 +68,7 @@ class CallGenerator(Generator):
         return self.close()
 
     def simple_forms(self):
-        return super().simple_forms() + ([(14, self.call)] if self.loops < 2 else [])
+        return super().simple_forms() + ([(24, self.call)] if self.loops < 2 else [])
 
     # items
 
@@ -91,7 +92,16 @@ class CallGenerator(Generator):
     def returned(self, t):
         return self.bounded()[0]
 
+    def see_some(self):
+        """A function reads and stores into some of the globals, and only stores into others; gives all of them."""
+        all_places = list(self.places)
+        kinds = [(place, self.below(10)) for place in all_places]
+        self.places[:] = [place for place, kind in kinds if kind < 5]
+        self.write_only[:] = [place for place, kind in kinds if 5 <= kind < 8]
+        return all_places
+
     def function(self, f, count):
+        all_places = self.see_some()
         names = ["n"] + [self.fresh("a") for _ in f.params]
         self.lines.append(self.head(f, names) + " {")
         marks = self.marks()
@@ -108,6 +118,7 @@ class CallGenerator(Generator):
         self.level, self.current = 0, None
         self.lines.append("}")
         self.forget(marks)
+        self.places[:], self.write_only[:] = all_places, []
 
     def global_(self):
         name, t = self.fresh("g"), self.pick(TYPES)
@@ -130,7 +141,7 @@ class CallGenerator(Generator):
         share = self.left // (count + 1) + 1
         for f in self.random.sample(self.functions, count):
             self.function(f, 1 + self.below(2 * share))
-        self.left = share + 2
+        self.left = share + 4
         self.main()
         return self.text()
 

@@ -2,6 +2,7 @@
 
 An address has a level, that of the block in which its object lives, so that a pointer is given only what lives at least as long.
 """
+from generate import ATOM
 from generate_calls import CallGenerator
 from integers import CHAR, INT, LONG
 
@@ -41,10 +42,10 @@ class MemoryGenerator(CallGenerator):
         found = [text for text, shape, own in self.addresses if shape == t and own <= level]
         if not found:
             return None
-        text = self.filled(self.pick(found[-6:] if self.chance(60) else found))
+        text = self.filled(self.pick(found[-5:] if self.chance(80) else found))
         if self.chance(4):
             return f"({text})"
-        if self.chance(4):
+        if self.chance(10):
             return f"{self.within(self.test(0), -1)} ? {text} : {self.filled(self.pick(found))}"
         return text
 
@@ -102,7 +103,8 @@ class MemoryGenerator(CallGenerator):
             return self.declare_matrix(name)
         if kind == 1:
             items = [self.bounded()[0] for _ in range(1 + self.below(length))]
-            self.put(f"{t} {name}[{self.pick([str(length), f'{length} * 1'])}] = {{{', '.join(items)}{self.pick(['', ','])}}};")
+            words = self.pick([str(length), f"{length} * 1"])
+            self.put(f"{t} {name}[{words}] = {{{', '.join(items)}{self.pick(['', ','])}}};")
         elif kind == 2:
             items = [self.leaf()[0] for _ in range(length)]
             self.put(f"{t} {name}[] = {{{', '.join(items)}}};")
@@ -110,11 +112,13 @@ class MemoryGenerator(CallGenerator):
             counter = self.fresh("i")
             self.put(f"{t} {name}[{length}];")
             self.put(f"for (int {counter} = 0; {counter} < {length}; {counter}++) {{")
-            self.lines.append("    " * (self.level + 1) + f"{name}[{counter}] = {self.operation('+', (counter, INT, 10), self.leaf())[0]};")
+            value = self.operation("+", (counter, INT, ATOM), self.leaf())[0]
+            self.lines.append("    " * (self.level + 1) + f"{name}[{counter}] = {value};")
             self.close()
         self.places.append((f"{name}[{{{length}}}]", t))
         if self.chance(70):
-            self.addresses += [(name, t, self.level), (f"&{name}[{{{length}}}]", t, self.level), (f"{name} + {self.below(length)}", t, self.level)]
+            found = [name, f"&{name}[{{{length}}}]", f"{name} + {self.below(length)}"]
+            self.addresses += [(text, t, self.level) for text in found]
         return None
 
     def declare_matrix(self, name):
@@ -266,6 +270,22 @@ class MemoryGenerator(CallGenerator):
         self.places.append((total, INT))
         self.nullable.append((head, NODE))
 
+    def recursion_by_address(self):
+        """A store behind a parameter, and then a call of the function itself with the address of a variable of its own."""
+        found = [name for name, t, _ in self.pointers if t == INT and self.current and name in self.parameters]
+        if not found:
+            return self.call()
+        name, result = self.fresh("x"), self.fresh("v")
+        self.put(f"*{self.pick(found)} = {self.bounded()[0]};")
+        self.put(f"int {name} = {self.bounded()[0]};")
+        args = [f"&{name}" if t == ("pointer", INT) else self.argument(t) for t in self.current.params]
+        self.put("if (n > 0) {")
+        self.lines.append("    " * (self.level + 1) + f"{self.current.name}({', '.join(['n - 1'] + args)});")
+        self.close()
+        self.put(f"int {result} = {name};")
+        self.add_object(name, INT, self.level)
+        return self.places.append((result, INT))
+
     def print_pointers(self):
         if len(self.pointers) < 2:
             return self.print()
@@ -276,7 +296,8 @@ class MemoryGenerator(CallGenerator):
 
     def simple_forms(self):
         forms = super().simple_forms()
-        forms += [(5, self.declare_object), (6, self.declare_pointer), (4, self.point_elsewhere), (4, self.behind_null), (2, self.print_pointers)]
+        forms += [(8, self.declare_object), (6, self.declare_pointer), (4, self.point_elsewhere), (4, self.behind_null)]
+        forms += [(2, self.print_pointers), (8 if self.current and self.loops == 0 else 0, self.recursion_by_address)]
         if self.level < 4:
             forms += [(3, self.declare_struct), (4, self.declare_array), (2, self.pointer_to_pointer)]
         if self.level < 4 and self.loops < 2:
@@ -287,7 +308,7 @@ class MemoryGenerator(CallGenerator):
 
     def signature(self, number):
         f = super().signature(number)
-        f.params += [self.pointer_type() for _ in range(self.below(3))]
+        f.params += [("pointer", INT)] * (self.below(3) > 0) + [self.pointer_type() for _ in range(self.below(3))]
         self.random.shuffle(f.params)
         if self.chance(25):
             f.result = self.pointer_type()
