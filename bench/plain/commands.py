@@ -41,6 +41,12 @@ def members_(program, line):
     return printed_vertices(slicer.graph, slicer.members(int(line)))
 
 
+def kept_(program, line):
+    """The vertices of the completion, which the slice keeps."""
+    slicer = Slicer(program)
+    return printed_vertices(slicer.graph, slicer.kept(int(line)))
+
+
 def points_(program):
     return printed_pairs(Slicer(program).graph)
 
@@ -110,8 +116,8 @@ def answer(words, texts):
         return run_(program, text, most)
     if command == "trace":
         return trace_(program, others, text, most)
-    if command == "members":
-        return members_(program, *others)
+    if command in ("members", "kept"):
+        return (members_ if command == "members" else kept_)(program, *others)
     if command == "layout":
         return layout(program)
     simple = {"graph": graph_, "points": points_, "facts": facts_, "effects": effects_, "counts": counts_}
