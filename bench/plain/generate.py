@@ -338,6 +338,8 @@ class Generator:
         self.readable.append((name, INT))
 
     def for_(self):
+        if self.chance(10):
+            return self.for_with_declaration()
         name, bound = self.counter()
         kind = self.below(4)
         if kind:
@@ -352,18 +354,40 @@ class Generator:
             head = f"for (int {name} = 0; {name} < {bound}; ++{name})"
         else:
             self.put(f"int {name} = 0;")
-            init = f"{self.place()[0]} = {self.bounded()[0]}" if self.places else ""
-            self.put(f"for ({init}; {name} < {bound}; {self.bump_words() if self.places else ''}) {{")
-            self.inside(1 + self.below(3))
-            self.lines.append("    " * (self.level + 1) + f"{name}++;")
-            self.close()
-            return self.end_loop(name)
+            return self.for_of(name, bound)
         self.body(head)
         self.close()
         self.end_loop(name)
         if kind == 2:
             self.readable.pop()
         return None
+
+    def init_words(self):
+        return f"{self.place()[0]} = {self.bounded()[0]}" if self.places else ""
+
+    def step_words(self):
+        return self.bump_words() if self.places else ""
+
+    def for_of(self, name, bound):
+        """A for whose init and step aren't those of its counter."""
+        self.put(f"for ({self.init_words()}; {name} < {bound}; {self.step_words()}) {{")
+        self.inside(1 + self.below(3))
+        self.lines.append("    " * (self.level + 1) + f"{name}++;")
+        self.close()
+        return self.end_loop(name)
+
+    def for_with_declaration(self):
+        """A for that declares a variable without a value."""
+        name, bound = self.counter()
+        own = self.fresh("v")
+        self.put(f"int {name} = 0;")
+        self.put(f"for (int {own}; {name} < {bound}; {name}++) {{")
+        self.lines.append("    " * (self.level + 1) + f"{own} = {self.bounded()[0]};")
+        self.places.append((own, INT))
+        self.inside(1 + self.below(3))
+        self.places.pop()
+        self.close()
+        return self.end_loop(name)
 
     def switch(self):
         labels = self.random.sample(range(6), 2 + self.below(3))

@@ -3,7 +3,7 @@ from dataclasses import dataclass
 from typing import Any
 
 from generate import SPELLINGS, TYPES, Generator
-from integers import CHAR
+from integers import CHAR, INT
 
 
 @dataclass
@@ -67,8 +67,44 @@ class CallGenerator(Generator):
         self.forget(marks)
         return self.close()
 
+    def plain_call(self):
+        """A call of a function before this one, as the init or the step of a for, or nothing."""
+        lower = self.functions if self.current is None else self.functions[:self.functions.index(self.current)]
+        lower = [f for f in lower if not isinstance(f.result, tuple)]
+        if not lower or self.loops > 2:
+            return None
+        f = self.pick(lower)
+        words = self.call_words(f, "0")
+        return f"{self.place()[0]} = {words}" if f.result and self.chance(60) else words
+
+    def init_words(self):
+        return self.chance(30) and self.plain_call() or super().init_words()
+
+    def step_words(self):
+        return self.chance(30) and self.plain_call() or super().step_words()
+
+    def read_loop(self):
+        """A loop over the rest of the input."""
+        name = self.fresh("c")
+        self.put(f"int {name} = getchar();")
+        self.readable.append((name, INT))
+        self.loops += 1
+        self.put(f"while ({name} {self.pick(['!= EOF', '>= 0', '!= -1'])}) {{")
+        self.inside(1 + self.below(3))
+        self.lines.append("    " * (self.level + 1) + f"{name} = getchar();")
+        self.close()
+        self.loops -= 1
+
+    def skip(self):
+        self.put("getchar();")
+
     def simple_forms(self):
-        return super().simple_forms() + ([(24, self.call)] if self.loops < 2 else [])
+        forms = super().simple_forms() + [(1, self.skip)]
+        if self.loops < 2:
+            forms.append((24, self.call))
+        if self.loops == 0 and self.level < 3:
+            forms.append((2, self.read_loop))
+        return forms
 
     # items
 

@@ -192,13 +192,14 @@ class MemoryGenerator(CallGenerator):
             return self.declare_pointer()
         name, t, level = self.pick(self.pointers)
         found = self.address(t, level)
-        return self.put(f"{name} = {found};") if found else self.assign()
+        return self.put(f"{self.filled(name)} = {found};") if found else self.assign()
 
     def behind_null(self):
         """A pointer that may be null is given an address that lives for ever, or is used where it isn't null."""
         if not self.nullable:
             return self.declare_struct()
         name, t = self.pick(self.nullable)
+        name = self.filled(name)
         if self.chance(35):
             return self.put(f"{name} = {self.address(t, 0) or 'NULL'};")
         test = self.pick([f"{name} != NULL", name, f"!({name} == 0)", f"NULL != {name}"])
@@ -209,11 +210,38 @@ class MemoryGenerator(CallGenerator):
                                                                  if self.places else ";"]))
         return self.close() if is_braced else None
 
+    def array_of_pointers(self):
+        """An array of pointers with a list, all of which point to something."""
+        name, length, t = self.fresh("r"), 2 + self.below(2), self.pick(POINTED)
+        items = [self.address(t, self.level) for _ in range(length)]
+        if None in items:
+            return self.declare_pointer()
+        self.put(f"{t} *{name}[{length}] = {{{', '.join(items)}}};")
+        return self.add_pointer(f"{name}[{{{length}}}]", t, self.level)
+
+    def allocate_into(self):
+        """An allocation whose pointer is stored into a place that isn't a bare name."""
+        found = [(name, t) for name, t in self.nullable if name.isidentifier() or "->" in name or "." in name]
+        if not found:
+            return self.allocate_bytes()
+        name, t = self.pick(found)
+        name = self.filled(name)
+        self.put(f"{name} = malloc(sizeof({t}));")
+        return self.first_values(name, t)
+
+    def allocate_bytes(self):
+        name, counter = self.fresh("p"), self.fresh("i")
+        self.put(f"char *{name} = malloc({self.operation('+', self.small(self.leaf(), 3), self.number(3))[0]});")
+        self.put(f"for (int {counter} = 0; {counter} < 3; {counter}++) {{")
+        self.lines.append("    " * (self.level + 1) + f"{name}[{counter}] = {self.bounded()[0]};")
+        self.close()
+        self.places.append((f"{name}[{{3}}]", CHAR))
+
     def pointer_to_pointer(self):
         if not self.pointers:
             return self.declare_pointer()
-        found = [pointer for pointer in self.pointers if pointer[0].isalnum()]
-        name, t, level = self.pick(found or self.pointers)
+        name, t, level = self.pick(self.pointers)
+        name = self.filled(name)
         double = self.fresh("d")
         self.put(f"{t} **{double} = &{name};")
         other = self.address(t, level)
@@ -289,17 +317,19 @@ class MemoryGenerator(CallGenerator):
     def print_pointers(self):
         if len(self.pointers) < 2:
             return self.print()
-        a, b = self.pick(self.pointers), self.pick(self.pointers)
-        if a[1] != b[1] or self.chance(30):
-            return self.put(f'printf("%d\\n", {a[0]} {self.pick(["!=", "=="])} NULL || !{b[0]});')
-        return self.put(f'printf("%d\\n", {a[0]} {self.pick(["==", "!="])} {b[0]});')
+        (one, a, _), (two, b, _) = self.pick(self.pointers), self.pick(self.pointers)
+        one, two, sign = self.filled(one), self.filled(two), self.pick(["==", "!="])
+        if a != b or self.chance(30):
+            return self.put(f'printf("%d\\n", {one} {sign} NULL || !{two});')
+        return self.put(f'printf("%d\\n", {one} {sign} {two});')
 
     def simple_forms(self):
         forms = super().simple_forms()
         forms += [(8, self.declare_object), (6, self.declare_pointer), (4, self.point_elsewhere), (4, self.behind_null)]
         forms += [(2, self.print_pointers), (8 if self.current and self.loops == 0 else 0, self.recursion_by_address)]
         if self.level < 4:
-            forms += [(3, self.declare_struct), (4, self.declare_array), (2, self.pointer_to_pointer)]
+            forms += [(3, self.declare_struct), (4, self.declare_array), (2, self.pointer_to_pointer), (2, self.array_of_pointers)]
+            forms += [(2, self.allocate_into), (1, self.allocate_bytes)]
         if self.level < 4 and self.loops < 2:
             forms += [(2, self.walk_array), (1, self.build_list), (2, self.allocate_and_free)]
         return forms
@@ -343,6 +373,8 @@ class MemoryGenerator(CallGenerator):
         if isinstance(t, tuple):
             self.parameters.append(name)
             return self.add_pointer(name, t[1], 1)
+        if t in (INT, LONG) and self.chance(40):
+            return self.add_object(name, t, 1)
         return super().add_parameter(name, t)
 
     def function(self, f, count):
