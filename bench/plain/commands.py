@@ -1,8 +1,9 @@
 """What each command writes: slice, trace, run, graph, members, points, facts, effects and big."""
-from graph import at, fact_words, printed_graph, printed_pairs, printed_vertices, slot_words
+from graph import at, fact_words
 from layout import layout
 from machine import run, trace
 from names import read_program
+from printed import printed_graph, printed_pairs, printed_vertices, slot_words
 from reach import Words
 from slices import Slicer
 

@@ -2,7 +2,8 @@
 from dataclasses import dataclass
 from typing import Any
 
-from generate import SPELLINGS, TYPES, Generator
+from generate import Generator
+from generate_expr import SPELLINGS, TYPES
 from integers import CHAR, INT
 
 

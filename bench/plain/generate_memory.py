@@ -2,8 +2,8 @@
 
 An address has a level, that of the block in which its object lives, so that a pointer is given only what lives at least as long.
 """
-from generate import ATOM
 from generate_calls import CallGenerator
+from generate_expr import ATOM
 from integers import CHAR, INT, LONG
 
 PAIR, NODE = "struct pair", "struct node"

@@ -1,5 +1,5 @@
 """The layout of a program, and the line on which each statement starts in it."""
-from tree import Array, Integer, Pointer, StructType
+from tree import Array, Integer, Pointer
 
 
 def words_of(e):

@@ -3,10 +3,10 @@ import operator
 import sys
 from dataclasses import dataclass
 
+from expr_types import constant_value
 from integers import INT, LONG, UCHAR, UINT, ULONG, Undefined, binary, convert, promote, unary
 from lexer import literal_bytes
 from memory import Block, designated, free, is_equal, is_same_array, move, read, write
-from names import constant_value
 from tree import Array, Integer, Pointer, decayed, inner
 
 ORDER = {"<": operator.lt, ">": operator.gt, "<=": operator.le, ">=": operator.ge}
