@@ -1,24 +1,25 @@
 -- Variables that are gone: what the others hold once a block has ended.
 use Rattle.std.proofs.Common.{◌≡◌, ◌≢◌, ℕ, [], Option, Some, None, true, inl, inr, refl, sym, ap, ◌∙◌}
-use Rattle.std.specs.Prelude.{option_map, option_and_then}
+use Rattle.std.specs.Prelude.{is_some, option_map, option_and_then}
 use Rattle.std.proofs.lemmas.Bool.Decides.{eqb_tells}
-use Rattle.c_meaning.specs.Memory.{Memory, Block, read_block, read, is_live_block, is_live, gone}
+use Rattle.c_meaning.specs.Memory.{Memory, cell_in, is_cell, held, read, gone}
 use Rattle.c_meaning.specs.Values.{State, whole, leave_block, variable_closed}
 use Rattle.c_meaning.proofs.Frames.{variable_value, IsFramed, get_other, bound_here, bound_other}
 
 -- ---- a block that is gone
 
--- another block is as live as it was
-live_beside : (m : Memory) (o : Option ℕ) (c : ℕ) → (o ≡ Some c → ⊥) → is_live (leave_block o m) c ≡ is_live m c
+-- another block has the cell that it had
+live_beside : (m : Memory) (o : Option ℕ) (c : ℕ) → (o ≡ Some c → ⊥) → is_cell (leave_block o m) (whole c) ≡ is_cell m (whole c)
 live_beside m None c other = refl
-live_beside m (Some b) c other = ap is_live_block (get_other gone b c m (λ e. other (ap Some e)))
+live_beside m (Some b) c other =
+    ap (λ k. is_some (option_and_then (cell_in m.structs []) k)) (get_other gone b c m.blocks (λ e. other (ap Some e)))
 
 -- and holds what it held
 held_beside : (m : Memory) (o p : Option ℕ) → ((c : ℕ) → o ≡ Some c → p ≡ Some c → ⊥) → option_and_then (read (leave_block o m)) (option_map whole p) ≡ option_and_then (read m) (option_map whole p)
 held_beside m None p other = refl
 held_beside m (Some b) None other = refl
 held_beside m (Some b) (Some c) other =
-    ap (option_and_then (λ (k : Block). read_block k [])) (get_other gone b c m (λ e. other c (ap Some e) refl))
+    ap (λ k. option_and_then held (option_and_then (cell_in m.structs []) k)) (get_other gone b c m.blocks (λ e. other c (ap Some e) refl))
 
 -- ---- a variable that is gone
 
@@ -46,7 +47,7 @@ module _ (s : State) (x : ℕ) (framed : IsFramed s) where
         | inr w ↦ (w.1, sym (closed_other y w.1) ∙ e)
       ]
 
-  alive_closed : (y b : ℕ) → (variable_closed x s).frame y ≡ Some b → is_live (variable_closed x s).memory b ≡ true
+  alive_closed : (y b : ℕ) → (variable_closed x s).frame y ≡ Some b → is_cell (variable_closed x s).memory (whole b) ≡ true
   alive_closed y b e =
       let h = before_closing y b e in
       live_beside s.memory (s.frame x) b (λ k. h.0 (framed.apart x y b k h.1)) ∙ framed.alive y b h.1

@@ -2,3 +2,5 @@ pub mod Frames
 pub mod Closing
 pub mod Small
 mod SmallPrograms
+mod SmallObjects
+mod SmallCalls

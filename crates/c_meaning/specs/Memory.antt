@@ -1,81 +1,116 @@
--- Memory: blocks, with what was written in their cells (ISO C99 6.2.4, 6.5.6).
-use Rattle.std.specs.Prelude.{ℕ, zero, suc, ◌==◌, List, [], ◌∷◌, ◌++◌, Bool, true, false, if◌then◌else◌, Option, Some, None, option_and_then, slice_get}
-use Rattle.c_language.specs.Lists.{same_all}
+-- Memory: blocks with their cells, by the calls that change and read it (ISO C99 6.2.4, 6.5.6, 7.20.3).
+use Rattle.std.specs.Prelude.{ℕ, zero, suc, ◌==◌, List, [], ◌∷◌, ◌++◌, map, Bool, true, false, ◌&&◌, Option, Some, None, option_and_then, is_some, slice_get}
+use Rattle.std.specs.Option.{option_map_or}
+use Rattle.c_language.specs.DeclaredTypes.{with_layer}
 use Rattle.c_language.specs.declared.expr_type.ExprType.{ExprType}
+use Rattle.c_language.specs.declared.expr_type.Layer.TheVariants.{Array}
 use Rattle.c_meaning.specs.declared.value.Hop.{Hop}
-use Rattle.c_meaning.specs.declared.value.Hop.TheVariants as hop
 use Rattle.c_meaning.specs.declared.value.Place.{Place}
+use Rattle.c_meaning.specs.declared.value.Pointer.{Pointer}
 use Rattle.c_meaning.specs.declared.value.Value.{Value}
+use Rattle.c_meaning.specs.Cells.{Structs, cells, cell_number}
 
 -- the block of a variable, or one that malloc made
 pub data Kind : Type 0 where
   Entered : Kind
   Allocated : Kind
 
--- the cell at the end of a path holds a value
-pub record Cell : Type 0 where
-  pub path : List Hop
-  pub value : Value
-
--- a block; a cell that was never written holds nothing, and of several writes to one the first of the list is the last
+-- a block: the type of the whole, and its cells, each with a value or nothing; one that is gone keeps its type and has no cells
 pub record Block : Type 0 where
   pub shape : ExprType
   pub kind : Kind
   pub is_live : Bool
-  pub cells : List Cell
+  pub cells : List (Option Value)
 
--- the block with number k is the k-th: a new block has the least number that no block has had
-abbrev pub Memory : Type 0
-Memory = List Block
+-- all blocks there ever were, and the struct types of the program: the block with number k is the k-th, so no number is used twice
+pub record Memory : Type 0 where
+  pub structs : Structs
+  pub blocks : List Block
 
-abbrev pub same_hop : Hop → Hop → Bool
-same_hop (hop.Member i) (hop.Member j) = i == j
-same_hop (hop.Element i) (hop.Element j) = i == j
-same_hop _ _ = false
+-- ---- reading and writing
 
--- what the cell at a path holds
-abbrev pub held : List Cell → List Hop → Option Value
-held [] path = None
-held (c ∷ cs) path = if same_all same_hop c.path path then Some c.value else held cs path
+-- what the cell at the end of a path holds, where there is one
+abbrev pub cell_in : Structs → List Hop → Block → Option (Option Value)
+cell_in structs path b = option_and_then (slice_get b.cells) (cell_number structs path b.shape)
 
-abbrev pub read_block : Block → List Hop → Option Value
-read_block b path = if b.is_live then held b.cells path else None
+abbrev pub cell : Memory → Place → Option (Option Value)
+cell m p = option_and_then (cell_in m.structs p.path) (slice_get m.blocks p.block)
 
--- the value at a place; reading is undefined where its cell is unwritten, or its block is gone
+-- the place is a cell of a live block, which alone can be written
+abbrev pub is_cell : Memory → Place → Bool
+is_cell m p = is_some (cell m p)
+
+abbrev pub held : Option Value → Option Value
+held o = o
+
+-- the value at a place; reading is undefined where there is no cell of a live block, or nothing was written in it
 abbrev pub read : Memory → Place → Option Value
-read m p = option_and_then (λ (b : Block). read_block b p.path) (slice_get m p.block)
+read m p = option_and_then held (cell m p)
 
-abbrev pub is_live_block : Option Block → Bool
-is_live_block None = false
-is_live_block (Some b) = b.is_live
+-- a list with another item at a number
+abbrev pub changed : {A : Type 0} → (A → A) → ℕ → List A → List A
+changed f n [] = []
+changed f zero (x ∷ xs) = f x ∷ xs
+changed f (suc n) (x ∷ xs) = x ∷ changed f n xs
 
--- writing is undefined in a block that is gone
-abbrev pub is_live : Memory → ℕ → Bool
-is_live m n = is_live_block (slice_get m n)
+abbrev pub filled : Value → Option ℕ → List (Option Value) → List (Option Value)
+filled v None os = os
+filled v (Some n) os = changed (λ (o : Option Value). Some v) n os
+
+abbrev pub with_cell : Structs → List Hop → Value → Block → Block
+with_cell structs path v b = record b { cells = filled v (cell_number structs path b.shape) b.cells }
 
 -- the blocks, with another one at a number
-abbrev pub changed : (Block → Block) → ℕ → Memory → Memory
-changed f n [] = []
-changed f zero (b ∷ bs) = f b ∷ bs
-changed f (suc n) (b ∷ bs) = b ∷ changed f n bs
-
-abbrev pub with_cell : List Hop → Value → Block → Block
-with_cell path v b = record b { cells = (record { path = path; value = v }) ∷ b.cells }
+abbrev pub with_block : (Block → Block) → ℕ → Memory → Memory
+with_block f n m = record m { blocks = changed f n m.blocks }
 
 -- the memory after a write
 abbrev pub write : Place → Value → Memory → Memory
-write p v m = changed (with_cell p.path v) p.block m
+write p v m = with_block (with_cell m.structs p.path v) p.block m
 
-abbrev pub unwritten : ExprType → Kind → Block
-unwritten shape kind = record { shape = shape; kind = kind; is_live = true; cells = [] }
+-- ---- blocks that begin and go
 
--- the memory with a new block, whose number is the count of the blocks before it
+-- a block in which nothing is written
+abbrev pub unwritten : Structs → ExprType → Kind → Block
+unwritten structs shape kind = record {
+  shape = shape;
+  kind = kind;
+  is_live = true;
+  cells = map (λ (t : ExprType). None) (cells structs shape);
+}
+
+abbrev pub with_new : Block → Memory → Memory
+with_new b m = record m { blocks = m.blocks ++ b ∷ [] }
+
+-- the memory with a new block for a variable, whose number is the count of the blocks before it
 abbrev pub enter : ExprType → Memory → Memory
-enter shape m = m ++ unwritten shape Entered ∷ []
+enter shape m = with_new (unwritten m.structs shape Entered) m
+
+-- the type of a block that malloc makes: an array of so many objects
+abbrev pub array_of : ℕ → ExprType → ExprType
+array_of count shape = with_layer (Array count) shape
+
+-- the memory with a new block of so many objects
+abbrev pub allocate : ExprType → ℕ → Memory → Memory
+allocate shape count m = with_new (unwritten m.structs (array_of count shape) Allocated) m
 
 abbrev pub gone : Block → Block
-gone b = record b { is_live = false }
+gone b = record b { is_live = false; cells = [] }
 
 -- the memory where a block is gone
 abbrev pub leave : ℕ → Memory → Memory
-leave n m = changed gone n m
+leave n m = with_block gone n m
+
+abbrev pub is_allocated : Kind → Bool
+is_allocated Entered = false
+is_allocated Allocated = true
+
+abbrev pub is_whole : List Hop → Bool
+is_whole [] = true
+is_whole (h ∷ hs) = false
+
+-- the start of a live block that malloc made, which alone can be freed (7.20.3.2)
+abbrev pub can_free : Memory → Pointer → Bool
+can_free m p =
+    option_map_or (λ (b : Block). b.is_live && is_allocated b.kind) (slice_get m.blocks p.block) false
+    && (is_whole p.path && (p.index == 0))

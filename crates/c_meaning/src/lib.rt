@@ -1,4 +1,4 @@
-//! What a program means: values, events, and the meaning as a definition (`specs/Meaning.antt`).
+//! What a program means: values, events, the meaning as a definition (`specs/Meaning.antt`), and its laws.
 #![tactic(auto)]
 
 mod event;
