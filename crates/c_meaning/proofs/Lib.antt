@@ -1,5 +1,7 @@
 pub mod Frames
 pub mod Closing
+pub mod Runs
+pub mod MeaningSteps
 pub mod Small
 mod SmallPrograms
 mod SmallObjects

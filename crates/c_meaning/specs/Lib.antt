@@ -6,3 +6,5 @@ pub mod Formats
 pub mod Acts
 pub mod Activations
 pub mod Meaning
+pub mod Steps
+pub mod Laws

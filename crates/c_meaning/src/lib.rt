@@ -2,9 +2,11 @@
 #![tactic(auto)]
 
 mod event;
+mod laws;
 mod value;
 
 pub use event::{Event, Shown, ShownList};
+pub use laws::{ends_stay, meaning_is_steps, traces_grow};
 pub use value::{Hop, Path, Place, Pointer, Value};
 
 #[cfg(test)]
