@@ -1,21 +1,27 @@
 -- Facts about expressions: what they read they name, and other numbers for their variables change nothing.
-use Rattle.std.proofs.Common.{◌≡◌, ℕ, ◌==◌, List, [], ◌∷◌, Option, Some, None, Bool, true, false, ◌||◌, inl, inr, refl, sym, ap, ◌∙◌, subst, eq-eqb, ap₂}
+use Rattle.std.proofs.Common.{◌≡◌, ℕ, ◌==◌, List, [], ◌∷◌, Option, Some, None, Bool, true, false, ◌&&◌, ◌||◌, inl, inr, refl, sym, ap, ◌∙◌, subst, eq-eqb, ap₂}
 use mathlib.Core.Path.{subst₂}
-use Rattle.std.proofs.lemmas.Bool.{eqb-true}
-use Rattle.std.specs.Option.{option_map}
+use Rattle.std.proofs.lemmas.Bool.{eqb-true, false≢true, and_parts}
+use Rattle.std.specs.Option.{option_map, option_and_then}
+use Rattle.c_arith.specs.declared.int_type.IntType.{IntType}
+use Rattle.c_arith.specs.declared.int_type.IntType.TheVariants.{Int}
 use Rattle.c_arith.specs.declared.operators.BinaryOp.{BinaryOp}
-use Rattle.c_arith.specs.IntType.{promote}
-use Rattle.c_arith.specs.Operators.{unary_type}
+use Rattle.c_arith.specs.declared.operators.BinaryOp.TheVariants.{Mul, Div, Rem, Add, Sub, Shl, Shr, Less, Greater, AtMost, AtLeast, Equal, Unequal, And, Xor, Or}
+use Rattle.c_arith.specs.IntType.{promote, common}
+use Rattle.c_arith.specs.Operators.{unary_type, binary_type}
 use Rattle.c_language.specs.declared.expr_type.ExprType.{ExprType}
-use Rattle.c_language.specs.DeclaredTypes.{integer, pointer_to}
-use Rattle.c_language.specs.TreeTypes.{int_type, pointee, binary_tree_type, chosen_type}
+use Rattle.c_language.specs.ConstantEvaluation.{operand_type}
+use Rattle.c_language.specs.DeclaredTypes.{integer}
+use Rattle.c_language.specs.TreeTypes.{int_type, binary_tree_type, chosen_type}
+use Rattle.built_forms.specs.IntegerForms.{integer_step, is_integer, name_step, is_name}
 use Rattle.c_tree.specs.declared.expr.MemberId.{MemberId}
 use Rattle.c_tree.specs.declared.expr.Expr.{Expr, fold-roll-Expr, roll-Expr, map-Expr}
 use Rattle.c_tree.specs.declared.expr.Expr.TheOpen.{Expr-F}
 use Rattle.c_meaning.specs.declared.value.Value.{Value}
 use Rattle.c_meaning.specs.declared.value.Place.{Place}
 use Rattle.c_meaning.specs.Values as meaning
-use Rattle.c_meaning.specs.Values.{Types, State, Meant, variable_place, as_type, unary_value, binary_value, and_both, or_both, chosen_value, meant_step, meant}
+use Rattle.c_meaning.specs.Memory.{Memory}
+use Rattle.c_meaning.specs.Values.{Types, State, Meant, variable_place, as_type, unary_value, binary_value, and_both, or_both, chosen_value, object_value, meant_step, meant}
 use Rattle.c_meaning.proofs.Frames.{variable_value}
 use Rattle.projection_meaning.proofs.Targets.{place_step, place}
 use Rattle.dep_model.specs.declared.location.Location.{Location}
@@ -54,14 +60,46 @@ is_its_variable x = eq-eqb x x refl
 
 -- ---- what an expression gives
 
--- g here is h by other numbers: it has the same type where the variables that are named have the same types, and gives the same where the variables that are read hold the same
+-- the variables are integers
+abbrev pub AreIntegers : Types → Type 0
+AreIntegers types = (x : ℕ) → (k : IntType) × (types.typing.variable x ≡ integer k)
+
+-- g here is h by other numbers: where the variables that are named have the same types, it has the same type, that of an integer, and gives the same where the variables that are read hold the same
 abbrev pub IsLike : (ℕ → ℕ) → Types → Types → (ℕ → Bool) → (Location → Bool) → Meant → Meant → Type 0
 IsLike f here there named read g h =
-    ((x : ℕ) → named x ≡ true → here.typing.variable x ≡ there.typing.variable (f x)) → (g.type ≡ h.type) × ((m n : State) → ((x : ℕ) → read (variable x) ≡ true → variable_value x m ≡ variable_value (f x) n) → g.value m ≡ h.value n)
+    ((x : ℕ) → named x ≡ true → here.typing.variable x ≡ there.typing.variable (f x)) → (g.type ≡ h.type) × ((k : IntType) × (g.type ≡ integer k)) × ((m n : State) → ((x : ℕ) → read (variable x) ≡ true → variable_value x m ≡ variable_value (f x) n) → g.value m ≡ h.value n)
 
-module _ (f : ℕ → ℕ) (here there : Types) where
+-- an operator at two integers gives one
+both_integer : (op : BinaryOp) (j k : IntType) → binary_tree_type op (integer j) (integer k) ≡ integer (binary_type op (operand_type op j k))
+both_integer Mul j k = refl
+both_integer Div j k = refl
+both_integer Rem j k = refl
+both_integer Add j k = refl
+both_integer Sub j k = refl
+both_integer Shl j k = refl
+both_integer Shr j k = refl
+both_integer Less j k = refl
+both_integer Greater j k = refl
+both_integer AtMost j k = refl
+both_integer AtLeast j k = refl
+both_integer Equal j k = refl
+both_integer Unequal j k = refl
+both_integer And j k = refl
+both_integer Xor j k = refl
+both_integer Or j k = refl
+
+-- an integer variable is read
+read_variable : (types : Types) (x : ℕ) (k : IntType) (m : State) → types.typing.variable x ≡ integer k → option_and_then (object_value (types.typing.variable x) m.memory) (variable_place x m) ≡ variable_value x m
+read_variable types x k m is = ap (λ t. option_and_then (object_value t m.memory) (variable_place x m)) is
+
+-- an operator at integers asks no memory
+pub binary_apart : (op : BinaryOp) (s t : ExprType) (j k : IntType) (m n : Memory) (a b : Option Value) → s ≡ integer j → t ≡ integer k → binary_value op s t m a b ≡ binary_value op s t n a b
+binary_apart op s t j k m n a b p q =
+    ap₂ (λ u v. binary_value op u v m a b) p q ∙ sym (ap₂ (λ u v. binary_value op u v n a b) p q)
+
+module _ (f : ℕ → ℕ) (here there : Types) (integers : AreIntegers here) where
   abbrev pub Evaluated : Expr → Type 0
-  Evaluated a = IsLike f here there (names a) (reads a) (meant here a) (meant there (renamed f a))
+  Evaluated a = is_integer a ≡ true → IsLike f here there (names a) (reads a) (meant here a) (meant there (renamed f a))
 
   abbrev likeness : (ℕ → Bool) → (Location → Bool) → Meant → Meant → Type 0
   likeness = IsLike f here there
@@ -79,14 +117,17 @@ module _ (f : ℕ → ℕ) (here there : Types) where
   abbrev layer_named : Expr-F Expr → ℕ → Bool
   layer_named z = names_step (map-Expr Expr (ℕ → Bool) names z)
 
-  evaluated_roll : (z : Expr-F Expr) → likeness (layer_named z) (layer_reads z) (means_here z) (means_there z) → Evaluated (roll-Expr z)
-  evaluated_roll z h =
-      subst₂ (λ u g. likeness u (reads (roll-Expr z)) g (meant there (renamed f (roll-Expr z)))) (sym (fold-roll-Expr (ℕ → Bool) names_step z)) (sym (fold-roll-Expr Meant (meant_step here) z)) (subst₂ (λ r k. likeness (layer_named z) r (means_here z) k) (sym (fold-roll-Expr (Location → Bool) reads_step z)) (sym (fold_renamed Meant (meant_step there) f z)) h)
+  abbrev layer_integer : Expr-F Expr → Bool
+  layer_integer z = integer_step (map-Expr Expr Bool is_integer z)
 
-  -- ap₂ operands
-  both_like : (op : BinaryOp) (a b c d : Meant) (m n : State) → a.type ≡ c.type → b.type ≡ d.type → a.value m ≡ c.value n → b.value m ≡ d.value n → binary_value op a.type b.type (a.value m) (b.value m) ≡ binary_value op c.type d.type (c.value n) (d.value n)
-  both_like op a b c d m n p q u v =
-      ap₂ (λ s t. binary_value op s t (a.value m) (b.value m)) p q ∙ ap₂ (binary_value op c.type d.type) u v
+  evaluated_roll : (z : Expr-F Expr) → (layer_integer z ≡ true → likeness (layer_named z) (layer_reads z) (means_here z) (means_there z)) → Evaluated (roll-Expr z)
+  evaluated_roll z h is =
+      subst₂ (λ u g. likeness u (reads (roll-Expr z)) g (meant there (renamed f (roll-Expr z)))) (sym (fold-roll-Expr (ℕ → Bool) names_step z)) (sym (fold-roll-Expr Meant (meant_step here) z)) (subst₂ (λ r k. likeness (layer_named z) r (means_here z) k) (sym (fold-roll-Expr (Location → Bool) reads_step z)) (sym (fold_renamed Meant (meant_step there) f z)) (h (sym (fold-roll-Expr Bool integer_step z) ∙ is)))
+
+  -- two integers
+  both_like : (op : BinaryOp) (a b c d : Meant) (j k : IntType) (m n : State) → a.type ≡ c.type → b.type ≡ d.type → a.type ≡ integer j → b.type ≡ integer k → a.value m ≡ c.value n → b.value m ≡ d.value n → binary_value op a.type b.type m.memory (a.value m) (b.value m) ≡ binary_value op c.type d.type n.memory (c.value n) (d.value n)
+  both_like op a b c d j k m n p q aj bk u v =
+      binary_apart op a.type b.type j k m.memory n.memory (a.value m) (b.value m) aj bk ∙ (ap₂ (λ s t. binary_value op s t n.memory (a.value m) (b.value m)) p q ∙ ap₂ (binary_value op c.type d.type n.memory) u v)
 
   chosen_three : (t u : ExprType) (a b c d e g : Option Value) → t ≡ u → a ≡ b → c ≡ d → e ≡ g → chosen_value t a c e ≡ chosen_value u b d g
   chosen_three t u a b c d e g p q r w =
@@ -96,41 +137,52 @@ module _ (f : ℕ → ℕ) (here there : Types) where
   abbrev SameMembers : Type 0
   SameMembers = (m : MemberId) → here.typing.member m ≡ there.typing.member m
 
-  evaluated_layer : SameMembers → (y : ExprParts Evaluated) → likeness (layer_named (expr_layer Evaluated y)) (layer_reads (expr_layer Evaluated y)) (means_here (expr_layer Evaluated y)) (means_there (expr_layer Evaluated y))
-  evaluated_layer members (Expr-F.Variable x) = λ types. (types x (eq-eqb x x refl), λ m n h. h x (is_its_variable x))
-  evaluated_layer members (Expr-F.Unary op a) = λ types.
-      let like = a.1 types in
-      (ap (λ t. integer (unary_type op (promote (int_type t)))) like.0, λ m n h. ap₂ (unary_value op) like.0 (like.1 m n h))
-  evaluated_layer members (Expr-F.Deref a) = λ types. (ap pointee (a.1 types).0, λ m n h. refl)
-  evaluated_layer members (Expr-F.AddressOf a) = λ types. (ap pointer_to (a.1 types).0, λ m n h. refl)
-  evaluated_layer members (Expr-F.Binary op a b) = λ types.
-      let left = a.1 (λ x n. types x (or_left (names a.0 x) (names b.0 x) n)) in
-      let right = b.1 (λ x n. types x (or_right (names a.0 x) (names b.0 x) n)) in
-      (ap₂ (binary_tree_type op) left.0 right.0, λ m n h. both_like op (meant here a.0) (meant here b.0) (meant there (renamed f a.0)) (meant there (renamed f b.0)) m n left.0 right.0 (left.1 m n (λ x r. h x (or_left (reads a.0 (variable x)) (reads b.0 (variable x)) r))) (right.1 m n (λ x r. h x (or_right (reads a.0 (variable x)) (reads b.0 (variable x)) r))))
-  evaluated_layer members (Expr-F.AndAlso a b) = λ types.
-      let left = a.1 (λ x n. types x (or_left (names a.0 x) (names b.0 x) n)) in
-      let right = b.1 (λ x n. types x (or_right (names a.0 x) (names b.0 x) n)) in
-      (refl, λ m n h. ap₂ and_both (left.1 m n (λ x r. h x (or_left (reads a.0 (variable x)) (reads b.0 (variable x)) r))) (right.1 m n (λ x r. h x (or_right (reads a.0 (variable x)) (reads b.0 (variable x)) r))))
-  evaluated_layer members (Expr-F.OrElse a b) = λ types.
-      let left = a.1 (λ x n. types x (or_left (names a.0 x) (names b.0 x) n)) in
-      let right = b.1 (λ x n. types x (or_right (names a.0 x) (names b.0 x) n)) in
-      (refl, λ m n h. ap₂ or_both (left.1 m n (λ x r. h x (or_left (reads a.0 (variable x)) (reads b.0 (variable x)) r))) (right.1 m n (λ x r. h x (or_right (reads a.0 (variable x)) (reads b.0 (variable x)) r))))
-  evaluated_layer members (Expr-F.Choose c a b) = λ types.
-      let test = c.1 (λ x n. types x (or_left (names c.0 x) (names a.0 x || names b.0 x) n)) in
-      let left = a.1 (λ x n. types x (or_right (names c.0 x) (names a.0 x || names b.0 x) (or_left (names a.0 x) (names b.0 x) n))) in
-      let right = b.1 (λ x n. types x (or_right (names c.0 x) (names a.0 x || names b.0 x) (or_right (names a.0 x) (names b.0 x) n))) in
+  evaluated_layer : SameMembers → (y : ExprParts Evaluated) → layer_integer (expr_layer Evaluated y) ≡ true → likeness (layer_named (expr_layer Evaluated y)) (layer_reads (expr_layer Evaluated y)) (means_here (expr_layer Evaluated y)) (means_there (expr_layer Evaluated y))
+  evaluated_layer members (Expr-F.Constant text t v) is = λ types. (refl, (t, refl), λ m n h. refl)
+  evaluated_layer members Expr-F.Null is = absurd (false≢true is)
+  evaluated_layer members Expr-F.Eof is = λ types. (refl, (Int, refl), λ m n h. refl)
+  evaluated_layer members (Expr-F.Variable x) is = λ types.
+      let k = integers x in
+      let same = types x (eq-eqb x x refl) in
+      (same, k, λ m n h. read_variable here x k.0 m k.1 ∙ (h x (is_its_variable x) ∙ sym (read_variable there (f x) k.0 n (sym same ∙ k.1))))
+  evaluated_layer members (Expr-F.Unary op a) is = λ types.
+      let like = a.1 is types in
+      (ap (λ t. integer (unary_type op (promote (int_type t)))) like.0, (unary_type op (promote (int_type (meant here a.0).type)), refl), λ m n h. ap₂ (unary_value op) like.0 (like.2 m n h))
+  evaluated_layer members (Expr-F.Deref a) is = absurd (false≢true is)
+  evaluated_layer members (Expr-F.AddressOf a) is = absurd (false≢true is)
+  evaluated_layer members (Expr-F.Binary op a b) is = λ types.
+      let are = and_parts (is_integer a.0) (is_integer b.0) is in
+      let left = a.1 are.0 (λ x n. types x (or_left (names a.0 x) (names b.0 x) n)) in
+      let right = b.1 are.1 (λ x n. types x (or_right (names a.0 x) (names b.0 x) n)) in (
+        ap₂ (binary_tree_type op) left.0 right.0,
+        (binary_type op (operand_type op left.1.0 right.1.0), ap₂ (binary_tree_type op) left.1.1 right.1.1 ∙ both_integer op left.1.0 right.1.0),
+        λ m n h. both_like op (meant here a.0) (meant here b.0) (meant there (renamed f a.0)) (meant there (renamed f b.0)) left.1.0 right.1.0 m n left.0 right.0 left.1.1 right.1.1 (left.2 m n (λ x r. h x (or_left (reads a.0 (variable x)) (reads b.0 (variable x)) r))) (right.2 m n (λ x r. h x (or_right (reads a.0 (variable x)) (reads b.0 (variable x)) r))),
+      )
+  evaluated_layer members (Expr-F.AndAlso a b) is = λ types.
+      let are = and_parts (is_integer a.0) (is_integer b.0) is in
+      let left = a.1 are.0 (λ x n. types x (or_left (names a.0 x) (names b.0 x) n)) in
+      let right = b.1 are.1 (λ x n. types x (or_right (names a.0 x) (names b.0 x) n)) in
+      (refl, (Int, refl), λ m n h. ap₂ and_both (left.2 m n (λ x r. h x (or_left (reads a.0 (variable x)) (reads b.0 (variable x)) r))) (right.2 m n (λ x r. h x (or_right (reads a.0 (variable x)) (reads b.0 (variable x)) r))))
+  evaluated_layer members (Expr-F.OrElse a b) is = λ types.
+      let are = and_parts (is_integer a.0) (is_integer b.0) is in
+      let left = a.1 are.0 (λ x n. types x (or_left (names a.0 x) (names b.0 x) n)) in
+      let right = b.1 are.1 (λ x n. types x (or_right (names a.0 x) (names b.0 x) n)) in
+      (refl, (Int, refl), λ m n h. ap₂ or_both (left.2 m n (λ x r. h x (or_left (reads a.0 (variable x)) (reads b.0 (variable x)) r))) (right.2 m n (λ x r. h x (or_right (reads a.0 (variable x)) (reads b.0 (variable x)) r))))
+  evaluated_layer members (Expr-F.Choose c a b) is = λ types.
+      let all = and_parts (is_integer c.0) (is_integer a.0 && is_integer b.0) is in
+      let are = and_parts (is_integer a.0) (is_integer b.0) all.1 in
+      let test = c.1 all.0 (λ x n. types x (or_left (names c.0 x) (names a.0 x || names b.0 x) n)) in
+      let left = a.1 are.0 (λ x n. types x (or_right (names c.0 x) (names a.0 x || names b.0 x) (or_left (names a.0 x) (names b.0 x) n))) in
+      let right = b.1 are.1 (λ x n. types x (or_right (names c.0 x) (names a.0 x || names b.0 x) (or_right (names a.0 x) (names b.0 x) n))) in
       let same : chosen_type (meant here a.0).type (meant here b.0).type ≡ chosen_type (meant there (renamed f a.0)).type (meant there (renamed f b.0)).type = ap₂ chosen_type left.0 right.0 in
-      (same, λ m n h. chosen_three _ _ _ _ _ _ _ _ same (test.1 m n (λ x r. h x (or_left (reads c.0 (variable x)) (reads a.0 (variable x) || reads b.0 (variable x)) r))) (left.1 m n (λ x r. h x (or_right (reads c.0 (variable x)) (reads a.0 (variable x) || reads b.0 (variable x)) (or_left (reads a.0 (variable x)) (reads b.0 (variable x)) r)))) (right.1 m n (λ x r. h x (or_right (reads c.0 (variable x)) (reads a.0 (variable x) || reads b.0 (variable x)) (or_right (reads a.0 (variable x)) (reads b.0 (variable x)) r)))))
-  evaluated_layer members (Expr-F.Cast t a) = λ types.
-      let like = a.1 types in
-      (refl, λ m n h. ap (option_map (as_type (integer t))) (like.1 m n h))
-  evaluated_layer members (Expr-F.Index a i) = λ types.
-      let like = a.1 (λ x n. types x (or_left (names a.0 x) (names i.0 x) n)) in
-      (ap pointee like.0, λ m n h. refl)
-  evaluated_layer members (Expr-F.Member a m) = λ types. (members m, λ x n h. refl)
-  evaluated_layer members (Expr-F.Arrow a m) = λ types. (members m, λ x n h. refl)
-  evaluated_layer members (Expr-F.Paren a) = a.1
-  evaluated_layer members _ = λ types. (refl, λ m n h. refl)
+      (same, (common left.1.0 right.1.0, ap₂ chosen_type left.1.1 right.1.1), λ m n h. chosen_three _ _ _ _ _ _ _ _ same (test.2 m n (λ x r. h x (or_left (reads c.0 (variable x)) (reads a.0 (variable x) || reads b.0 (variable x)) r))) (left.2 m n (λ x r. h x (or_right (reads c.0 (variable x)) (reads a.0 (variable x) || reads b.0 (variable x)) (or_left (reads a.0 (variable x)) (reads b.0 (variable x)) r)))) (right.2 m n (λ x r. h x (or_right (reads c.0 (variable x)) (reads a.0 (variable x) || reads b.0 (variable x)) (or_right (reads a.0 (variable x)) (reads b.0 (variable x)) r)))))
+  evaluated_layer members (Expr-F.Cast t a) is = λ types.
+      let like = a.1 is types in
+      (refl, (t, refl), λ m n h. ap (option_and_then (as_type (integer t))) (like.2 m n h))
+  evaluated_layer members (Expr-F.Index a i) is = absurd (false≢true is)
+  evaluated_layer members (Expr-F.Member a m) is = absurd (false≢true is)
+  evaluated_layer members (Expr-F.Arrow a m) is = absurd (false≢true is)
+  evaluated_layer members (Expr-F.Paren a) is = a.1 is
 
   -- an expression is the same by other numbers
   pub eval_same : SameMembers → (a : Expr) → Evaluated a
@@ -145,18 +197,68 @@ place_of (Some x) s = variable_place x s
 
 module _ (types : Types) where
   abbrev Designates : Expr → Type 0
-  Designates a = (s : State) → meaning.place types a s ≡ place_of (place a) s
+  Designates a = is_name a ≡ true → (s : State) → meaning.place types a s ≡ place_of (place a) s
 
-  designates_roll : (z : Expr-F Expr) → ((s : State) → (meant_step types (map-Expr Expr Meant (meant types) z)).place s ≡ place_of (place_step (map-Expr Expr (Option ℕ) place z)) s) → Designates (roll-Expr z)
-  designates_roll z h s =
-      ap (λ (g : Meant). g.place s) (fold-roll-Expr Meant (meant_step types) z) ∙ (h s ∙ ap (λ o. place_of o s) (sym (fold-roll-Expr (Option ℕ) place_step z)))
+  abbrev LayerDesignates : Expr-F Expr → Type 0
+  LayerDesignates z =
+      name_step (map-Expr Expr Bool is_name z) ≡ true → (s : State) → (meant_step types (map-Expr Expr Meant (meant types) z)).place s ≡ place_of (place_step (map-Expr Expr (Option ℕ) place z)) s
 
-  designates_layer : (y : ExprParts Designates) → (s : State) → (meant_step types (map-Expr Expr Meant (meant types) (expr_layer Designates y))).place s ≡ place_of (place_step (map-Expr Expr (Option ℕ) place (expr_layer Designates y))) s
+  designates_roll : (z : Expr-F Expr) → LayerDesignates z → Designates (roll-Expr z)
+  designates_roll z h is s =
+      ap (λ (g : Meant). g.place s) (fold-roll-Expr Meant (meant_step types) z) ∙ (h (sym (fold-roll-Expr Bool name_step z) ∙ is) s ∙ ap (λ o. place_of o s) (sym (fold-roll-Expr (Option ℕ) place_step z)))
+
+  designates_layer : (y : ExprParts Designates) → LayerDesignates (expr_layer Designates y)
+  designates_layer (Expr-F.Variable x) = λ is s. refl
   designates_layer (Expr-F.Paren a) = a.1
-  designates_layer _ = λ s. refl
+  designates_layer (Expr-F.Constant text t v) = λ is s. absurd (false≢true is)
+  designates_layer Expr-F.Null = λ is s. absurd (false≢true is)
+  designates_layer Expr-F.Eof = λ is s. absurd (false≢true is)
+  designates_layer (Expr-F.Unary op a) = λ is s. absurd (false≢true is)
+  designates_layer (Expr-F.Deref a) = λ is s. absurd (false≢true is)
+  designates_layer (Expr-F.AddressOf a) = λ is s. absurd (false≢true is)
+  designates_layer (Expr-F.Binary op a b) = λ is s. absurd (false≢true is)
+  designates_layer (Expr-F.AndAlso a b) = λ is s. absurd (false≢true is)
+  designates_layer (Expr-F.OrElse a b) = λ is s. absurd (false≢true is)
+  designates_layer (Expr-F.Choose c a b) = λ is s. absurd (false≢true is)
+  designates_layer (Expr-F.Cast t a) = λ is s. absurd (false≢true is)
+  designates_layer (Expr-F.Index a i) = λ is s. absurd (false≢true is)
+  designates_layer (Expr-F.Member a m) = λ is s. absurd (false≢true is)
+  designates_layer (Expr-F.Arrow a m) = λ is s. absurd (false≢true is)
 
   pub designates : (a : Expr) → Designates a
   designates = of_every_expr Designates (λ y. designates_roll (expr_layer Designates y) (designates_layer y))
+
+-- ---- a name is an integer expression
+
+abbrev NameIsInteger : Expr → Type 0
+NameIsInteger a = is_name a ≡ true → is_integer a ≡ true
+
+abbrev LayerIsInteger : Expr-F Expr → Type 0
+LayerIsInteger z = name_step (map-Expr Expr Bool is_name z) ≡ true → integer_step (map-Expr Expr Bool is_integer z) ≡ true
+
+name_roll : (z : Expr-F Expr) → LayerIsInteger z → NameIsInteger (roll-Expr z)
+name_roll z h is = fold-roll-Expr Bool integer_step z ∙ h (sym (fold-roll-Expr Bool name_step z) ∙ is)
+
+name_layer : (y : ExprParts NameIsInteger) → LayerIsInteger (expr_layer NameIsInteger y)
+name_layer (Expr-F.Variable x) = λ is. refl
+name_layer (Expr-F.Paren a) = a.1
+name_layer (Expr-F.Constant text t v) = λ is. absurd (false≢true is)
+name_layer Expr-F.Null = λ is. absurd (false≢true is)
+name_layer Expr-F.Eof = λ is. absurd (false≢true is)
+name_layer (Expr-F.Unary op a) = λ is. absurd (false≢true is)
+name_layer (Expr-F.Deref a) = λ is. absurd (false≢true is)
+name_layer (Expr-F.AddressOf a) = λ is. absurd (false≢true is)
+name_layer (Expr-F.Binary op a b) = λ is. absurd (false≢true is)
+name_layer (Expr-F.AndAlso a b) = λ is. absurd (false≢true is)
+name_layer (Expr-F.OrElse a b) = λ is. absurd (false≢true is)
+name_layer (Expr-F.Choose c a b) = λ is. absurd (false≢true is)
+name_layer (Expr-F.Cast t a) = λ is. absurd (false≢true is)
+name_layer (Expr-F.Index a i) = λ is. absurd (false≢true is)
+name_layer (Expr-F.Member a m) = λ is. absurd (false≢true is)
+name_layer (Expr-F.Arrow a m) = λ is. absurd (false≢true is)
+
+pub name_integer : (a : Expr) → NameIsInteger a
+name_integer = of_every_expr NameIsInteger (λ y. name_roll (expr_layer NameIsInteger y) (name_layer y))
 
 -- ---- what an expression reads, it names
 
@@ -262,3 +364,35 @@ module _ (f : ℕ → ℕ) where
   -- the left side stores in the variable of the new number
   pub place_renamed : (a : Expr) → PlaceRenamed a
   place_renamed = of_every_expr PlaceRenamed (λ y. place_roll (expr_layer PlaceRenamed y) (place_layer y))
+
+  abbrev NameRenamed : Expr → Type 0
+  NameRenamed a = is_name a ≡ true → is_name (renamed f a) ≡ true
+
+  abbrev LayerNamed : Expr-F Expr → Type 0
+  LayerNamed z =
+      name_step (map-Expr Expr Bool is_name z) ≡ true → name_step (map-Expr Expr Bool is_name (renamed_layer f (map-Expr Expr Expr (renamed f) z))) ≡ true
+
+  renamed_roll : (z : Expr-F Expr) → LayerNamed z → NameRenamed (roll-Expr z)
+  renamed_roll z h is = fold_renamed Bool name_step f z ∙ h (sym (fold-roll-Expr Bool name_step z) ∙ is)
+
+  renamed_named : (y : ExprParts NameRenamed) → LayerNamed (expr_layer NameRenamed y)
+  renamed_named (Expr-F.Variable x) = λ is. refl
+  renamed_named (Expr-F.Paren a) = a.1
+  renamed_named (Expr-F.Constant text t v) = λ is. absurd (false≢true is)
+  renamed_named Expr-F.Null = λ is. absurd (false≢true is)
+  renamed_named Expr-F.Eof = λ is. absurd (false≢true is)
+  renamed_named (Expr-F.Unary op a) = λ is. absurd (false≢true is)
+  renamed_named (Expr-F.Deref a) = λ is. absurd (false≢true is)
+  renamed_named (Expr-F.AddressOf a) = λ is. absurd (false≢true is)
+  renamed_named (Expr-F.Binary op a b) = λ is. absurd (false≢true is)
+  renamed_named (Expr-F.AndAlso a b) = λ is. absurd (false≢true is)
+  renamed_named (Expr-F.OrElse a b) = λ is. absurd (false≢true is)
+  renamed_named (Expr-F.Choose c a b) = λ is. absurd (false≢true is)
+  renamed_named (Expr-F.Cast t a) = λ is. absurd (false≢true is)
+  renamed_named (Expr-F.Index a i) = λ is. absurd (false≢true is)
+  renamed_named (Expr-F.Member a m) = λ is. absurd (false≢true is)
+  renamed_named (Expr-F.Arrow a m) = λ is. absurd (false≢true is)
+
+  -- a name is one by other numbers
+  pub name_renamed : (a : Expr) → NameRenamed a
+  name_renamed = of_every_expr NameRenamed (λ y. renamed_roll (expr_layer NameRenamed y) (renamed_named y))

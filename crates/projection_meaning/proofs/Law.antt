@@ -2,7 +2,8 @@
 use Rattle.std.proofs.Common.{◌≡◌, ℕ, Option, Some, None, Bool, true, false, ◌⊎◌, inl, inr, refl, sym, ap, ◌∙◌, arith}
 use Rattle.c_meaning.specs.Meaning.{Trace, Ended}
 use Rattle.projection_meaning.proofs.Bools.{fails_too}
-use Rattle.projection_meaning.proofs.Runs.{Step, Stops, Fails, Acts, Moves, Machine, Runs, Replies, EndsToo, follows}
+use Rattle.c_meaning.specs.Steps.{Step, Stops, Fails, Acts, Moves, Machine, Runs}
+use Rattle.c_meaning.proofs.Runs.{Replies, EndsToo, follows}
 use Rattle.c_language.proofs.Tests.{by_answer}
 
 -- how a place goes on: not at all, without an act, or by an act

@@ -3,8 +3,8 @@ pub mod Targets
 pub mod CodeNames
 pub mod Codes
 pub mod Ranks
+pub mod Mains
 pub mod Lines
-pub mod Runs
 pub mod Law
 pub mod Projecting
 pub mod Sequences

@@ -4,6 +4,7 @@ use Rattle.std.proofs.lemmas.Bool.{or_left, or_right}
 use Rattle.std.proofs.lemmas.Bool.Decides.{eqb_tells}
 use Rattle.std.specs.List.{list_any}
 use Rattle.c_language.proofs.Tests.{by_answer}
+use Rattle.c_language.specs.DeclaredTypes.{integer}
 use Rattle.c_language.specs.Code.{Code, End, Opens, Plain, Fork, Loop, Leaves, Call}
 use Rattle.c_meaning.specs.Values.{Types, State, variable_opened, variable_closed, all_closed}
 use Rattle.c_meaning.proofs.Frames.{variable_value, opened_here, opened_other, unwritten_here, opened_elsewhere, opened_framed}
@@ -12,6 +13,7 @@ use Rattle.dep_model.specs.declared.location.Location.{Location}
 use Rattle.projection.specs.Kept.{rank}
 use Rattle.projection_meaning.proofs.Acts.{Same, Fits}
 use Rattle.projection_meaning.proofs.Bools.{fails_too}
+use Rattle.projection_meaning.proofs.Exprs.{AreIntegers}
 use Rattle.projection_meaning.proofs.Law.{Silent}
 use Rattle.projection_meaning.proofs.Places.{kind_of, change, kept_at}
 use Rattle.projection_meaning.proofs.Projecting.{renamed_all, project_code}
@@ -19,23 +21,27 @@ use Rattle.projection_meaning.proofs.Ranks.{rank_injective}
 use Rattle.projection_meaning.proofs.Sequences.{leaves_kept}
 
 -- a silent move of both, or of the original alone
-module _ (here there : Types) (keeps stays : ℕ → Bool) where
+module _ (here there : Types) (keeps stays : ℕ → Bool) (integers : AreIntegers here) (agree : (x : ℕ) → stays x ≡ true → here.typing.variable x ≡ there.typing.variable (rank stays x)) where
+  -- the variable is an integer there too
+  integer_there : (x : ℕ) → stays x ≡ true → there.typing.variable (rank stays x) ≡ integer (integers x).0
+  integer_there x sx = sym (agree x sx) ∙ (integers x).1
+
   -- ---- a declaration
 
   opened_both : (x : ℕ) (m n : State) → stays x ≡ true → Fits (rank stays) stays m n → Fits (rank stays) stays (variable_opened here x m) (variable_opened there (rank stays x) n)
   opened_both x m n sx fits = record {
-    here = opened_framed here m x fits.here;
-    there = opened_framed there n (rank stays x) fits.there;
+    here = opened_framed here m x (integers x).0 (integers x).1 fits.here;
+    there = opened_framed there n (rank stays x) (integers x).0 (integer_there x sx) fits.there;
     begun = λ y b sy e. elim (eqb_tells x y) [
-      | inl w ↦ (length n.memory, subst (λ z. (variable_opened there (rank stays x) n).frame (rank stays z) ≡ Some (length n.memory)) w.1 (opened_here there n (rank stays x) fits.there))
-      | inr w ↦ let c = fits.begun y b sy (sym (opened_other here m x fits.here y w.1) ∙ e) in (c.0, opened_other there n (rank stays x) fits.there (rank stays y) (λ q. w.1 (rank_injective stays x y sx sy q)) ∙ c.1)
+      | inl w ↦ (length n.memory.blocks, subst (λ z. (variable_opened there (rank stays x) n).frame (rank stays z) ≡ Some (length n.memory.blocks)) w.1 (opened_here there n (rank stays x) (integers x).0 (integer_there x sx) fits.there))
+      | inr w ↦ let c = fits.begun y b sy (sym (opened_other here m x (integers x).0 (integers x).1 fits.here y w.1) ∙ e) in (c.0, opened_other there n (rank stays x) (integers x).0 (integer_there x sx) fits.there (rank stays y) (λ q. w.1 (rank_injective stays x y sx sy q)) ∙ c.1)
     ];
   }
 
   opened_same : (x : ℕ) (m n : State) (l : Location) → stays x ≡ true → Fits (rank stays) stays m n → Same (rank stays) stays l m n → Same (rank stays) stays l (variable_opened here x m) (variable_opened there (rank stays x) n)
   opened_same x m n l sx fits h y isy sy = elim (eqb_tells x y) [
-    | inl w ↦ subst (λ z. variable_value z (variable_opened here x m) ≡ variable_value (rank stays z) (variable_opened there (rank stays x) n)) w.1 (unwritten_here here m x fits.here ∙ sym (unwritten_here there n (rank stays x) fits.there))
-    | inr w ↦ opened_elsewhere here m x fits.here y w.1 ∙ (h y isy sy ∙ sym (opened_elsewhere there n (rank stays x) fits.there (rank stays y) (λ q. w.1 (rank_injective stays x y sx sy q))))
+    | inl w ↦ subst (λ z. variable_value z (variable_opened here x m) ≡ variable_value (rank stays z) (variable_opened there (rank stays x) n)) w.1 (unwritten_here here m x (integers x).0 (integers x).1 fits.here ∙ sym (unwritten_here there n (rank stays x) (integers x).0 (integer_there x sx) fits.there))
+    | inr w ↦ opened_elsewhere here m x (integers x).0 (integers x).1 fits.here y w.1 ∙ (h y isy sy ∙ sym (opened_elsewhere there n (rank stays x) (integers x).0 (integer_there x sx) fits.there (rank stays y) (λ q. w.1 (rank_injective stays x y sx sy q))))
   ]
 
   -- another variable that stays
@@ -44,14 +50,14 @@ module _ (here there : Types) (keeps stays : ℕ → Bool) where
 
   opened_one : (x : ℕ) (m n : State) → stays x ≡ false → Fits (rank stays) stays m n → Fits (rank stays) stays (variable_opened here x m) n
   opened_one x m n sx fits = record {
-    here = opened_framed here m x fits.here;
+    here = opened_framed here m x (integers x).0 (integers x).1 fits.here;
     there = fits.there;
-    begun = λ y b sy e. fits.begun y b sy (sym (opened_other here m x fits.here y (other_stays x y sx sy)) ∙ e);
+    begun = λ y b sy e. fits.begun y b sy (sym (opened_other here m x (integers x).0 (integers x).1 fits.here y (other_stays x y sx sy)) ∙ e);
   }
 
   opened_one_same : (x : ℕ) (m n : State) (l : Location) → stays x ≡ false → Fits (rank stays) stays m n → Same (rank stays) stays l m n → Same (rank stays) stays l (variable_opened here x m) n
   opened_one_same x m n l sx fits h y isy sy =
-      opened_elsewhere here m x fits.here y (other_stays x y sx sy) ∙ h y isy sy
+      opened_elsewhere here m x (integers x).0 (integers x).1 fits.here y (other_stays x y sx sy) ∙ h y isy sy
 
   -- ---- the end of a variable
 

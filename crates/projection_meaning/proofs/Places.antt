@@ -10,7 +10,9 @@ use Rattle.c_meaning.specs.Meaning.{told}
 use Rattle.dep_model.specs.declared.location.Location.{Location}
 use Rattle.dep_model.proofs.PlainEffects.{uses, defines, kills}
 use Rattle.dep_model.proofs.PlainSteps as dep
-use Rattle.dep_model.proofs.PlainSteps.{Step, step_at, start, Follows, Chain, FlowEdge, NoCalls}
+use Rattle.dep_model.proofs.IntegerActs.{is_integer_act}
+use Rattle.dep_model.proofs.PlainCode.{each_no_calls, each_seq}
+use Rattle.dep_model.proofs.PlainSteps.{Step, step_at, start, Follows, Chain, FlowEdge, NoCalls, Each}
 use Rattle.dep_model.specs.Follows.{last, more}
 use Rattle.dep_model.proofs.FollowsLemmas.{start-seq, Follows-seq}
 use Rattle.projection_meaning.proofs.Law.{Kind, Last, Silent, Active, Places, Effects, Wanted, here, later, past as over}
@@ -75,7 +77,7 @@ places types = record {
   kind = kind_of;
   name = number;
   values = λ c. made types (act_of c);
-  store = λ c. after;
+  store = λ c. after (number c);
   tell = λ c. told (number c);
   next = next;
   change = change types;
@@ -179,6 +181,50 @@ NoCalls-past (Fork i e c r) n = n
 NoCalls-past (Loop i e b r) n = n
 NoCalls-past (Leaves xs r) n = n
 NoCalls-past (Call i to f args r) n = n
+
+-- ---- acts over integers
+
+abbrev pub Plainly : Step → Type 0
+Plainly s = is_integer_act s.act ≡ true
+
+-- each act of a list is one of an integer main
+abbrev pub IsInteger : Code → Type 0
+IsInteger = Each Plainly
+
+pub integer_here : (c : Code) → IsInteger c → kind_of c ≡ Active → is_integer_act (act_of c) ≡ true
+integer_here End n e = cc
+integer_here (Opens x r) n e = cc
+integer_here (Plain i a r) n e = n.0
+integer_here (Fork i e c r) n k = n.0
+integer_here (Loop i e b r) n k = n.0
+integer_here (Leaves xs r) n e = cc
+integer_here (Call i to f args r) n e = absurd n
+
+IsInteger-turn : (i : ℕ) (e : Expr) (b r : Code) (t : Bool) → IsInteger (Loop i e b r) → IsInteger (either t (b ⨟ Loop i e b r) r)
+IsInteger-turn i e b r true n = each_seq Plainly b (Loop i e b r) n.1.0 n
+IsInteger-turn i e b r false n = n.1.1
+
+pub IsInteger-next : (c : Code) (x : Made) → IsInteger c → IsInteger (next c x)
+IsInteger-next End x n = n
+IsInteger-next (Opens y r) x n = n
+IsInteger-next (Plain i a r) x n = n.1
+IsInteger-next (Fork i e c r) x n = each_seq Plainly (c (picked x)) r (n.1.0 (picked x)) n.1.1
+IsInteger-next (Loop i e b r) x n = IsInteger-turn i e b r (is_true (picked x)) n
+IsInteger-next (Leaves xs r) x n = n
+IsInteger-next (Call i to f args r) x n = absurd n
+
+pub IsInteger-past : (c : Code) → IsInteger c → IsInteger (past c)
+IsInteger-past End n = n
+IsInteger-past (Opens x r) n = n
+IsInteger-past (Plain i a r) n = n
+IsInteger-past (Fork i e c r) n = n
+IsInteger-past (Loop i e b r) n = n
+IsInteger-past (Leaves xs r) n = n
+IsInteger-past (Call i to f args r) n = n
+
+-- it has no calls
+pub no_calls : (c : Code) → IsInteger c → NoCalls c
+no_calls c n = each_no_calls Plainly c n
 
 pub Within-next : (p c : Code) (x : Made) → Within p c → Within p (next c x)
 Within-next p c x inside v w h = inside v w (Follows-next c x v w h)

@@ -10,15 +10,6 @@ use Rattle.projection_meaning.proofs.Projecting.{renamed_act, renamed_all, proje
 use Rattle.c_language.proofs.Tests.{by_answer}
 use Rattle.own_words.proofs.Words.{same_numbers}
 
-pub then_end : (a : Code) → a ⨟ End ≡ a
-then_end End = refl
-then_end (Opens x r) = ap (Opens x) (then_end r)
-then_end (Plain i a r) = ap (Plain i a) (then_end r)
-then_end (Fork i e c r) = ap (Fork i e c) (then_end r)
-then_end (Loop i e b r) = ap (Loop i e b) (then_end r)
-then_end (Leaves xs r) = ap (Leaves xs) (then_end r)
-then_end (Call i to f args r) = ap (Call i to f args) (then_end r)
-
 pub then_then : (a b c : Code) → (a ⨟ b) ⨟ c ≡ a ⨟ (b ⨟ c)
 then_then End b c = refl
 then_then (Opens x r) b c = ap (Opens x) (then_then r b c)

@@ -1,14 +1,15 @@
 -- The projection of a place: a kept act or move goes on there as in the original, and at another it stays.
-use Rattle.std.proofs.Common.{◌≡◌, ℕ, Bool, true, false, refl, sym, ap, ◌∙◌}
+use Rattle.std.proofs.Common.{◌≡◌, ℕ, List, [], ◌∷◌, Bool, true, false, refl, sym, ap, ◌∙◌}
 use Rattle.c_tree.specs.declared.expr.Expr.{Expr}
-use Rattle.c_language.specs.Code.{Code, End, Opens, Plain, Fork, Loop, Leaves, Call, ◌⨟◌, is_true, either}
+use Rattle.c_language.specs.Code.{Code, End, Opens, Plain, Fork, Loop, Leaves, Call, ◌⨟◌, is_true, either, leave}
 use Rattle.c_meaning.specs.Acts.{Made, picked, first_number}
+use Rattle.dep_model.proofs.PlainSteps.{NoCalls}
 use Rattle.projection.specs.Kept.{rank}
 use Rattle.projection.specs.Renumbering.{renamed}
 use Rattle.projection_meaning.proofs.CodeNames.{act_names}
 use Rattle.projection_meaning.proofs.Law.{Last, Silent, Active}
 use Rattle.projection_meaning.proofs.Places.{kind_of, number, act_of, next, past, kept_at}
-use Rattle.projection_meaning.proofs.Projecting.{renamed_act, project_code, NamesStay, IsNested}
+use Rattle.projection_meaning.proofs.Projecting.{renamed_act, renamed_all, project_code, NamesStay, IsNested}
 use Rattle.projection_meaning.proofs.Sequences.{leaves_kept, leaves_gone, project_then, nested_then, names_then}
 
 module _ (keeps stays : ℕ → Bool) where
@@ -158,3 +159,28 @@ module _ (keeps stays : ℕ → Bool) where
   stays_here (Loop i t b r) n e k = n.0 k
   stays_here (Leaves xs r) n e k = cc
   stays_here (Call i to f args r) n e k = λ x h. cc
+
+  -- ---- calls
+
+  no_calls_either : (b : Bool) (x y : Code) → NoCalls x → NoCalls y → NoCalls (either b x y)
+  no_calls_either true x y n k = n
+  no_calls_either false x y n k = k
+
+  no_calls_leave : (xs : List ℕ) (r : Code) → NoCalls r → NoCalls (leave xs r)
+  no_calls_leave [] r n = n
+  no_calls_leave (x ∷ xs) r n = n
+
+  -- the projection of a list without calls has none
+  pub shape_no_calls : (c : Code) → NoCalls c → NoCalls (project_code keeps stays c)
+  shape_no_calls End n = n
+  shape_no_calls (Opens x r) n = let rest = shape_no_calls r n in no_calls_either (stays x) (Opens (rank stays x) (project r)) (project r) rest rest
+  shape_no_calls (Plain i a r) n =
+      let rest = shape_no_calls r n in no_calls_either (keeps i) (Plain (rank keeps i) (renamed_act (rank stays) a) (project r)) (project r) rest rest
+  shape_no_calls (Fork i e c r) n =
+      let rest = shape_no_calls r n.1 in
+      no_calls_either (keeps i) (Fork (rank keeps i) (renamed (rank stays) e) (λ v. project (c v)) (project r)) (project r) (λ v. shape_no_calls (c v) (n.0 v), rest) rest
+  shape_no_calls (Loop i e b r) n =
+      let rest = shape_no_calls r n.1 in
+      no_calls_either (keeps i) (Loop (rank keeps i) (renamed (rank stays) e) (project b) (project r)) (project r) (shape_no_calls b n.0, rest) rest
+  shape_no_calls (Leaves xs r) n = no_calls_leave (renamed_all keeps stays xs) (project r) (shape_no_calls r n)
+  shape_no_calls (Call i to f args r) n = absurd n

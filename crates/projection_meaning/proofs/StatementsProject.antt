@@ -9,7 +9,6 @@ use Rattle.c_tree.specs.declared.program.Program.{Program}
 use Rattle.c_tree.specs.declared.statement.Statement.{Statement}
 use Rattle.c_language.specs.Code.{Code, End, part, code}
 use Rattle.c_language.proofs.CodeLemmas.{list_of-code}
-use Rattle.c_meaning.specs.Meaning.{main_code}
 use Rattle.built_forms.specs.IntegerForms.{IsIntegerMain}
 use Rattle.projection.specs.Names.{refers, body_refers, stays}
 use Rattle.projection.specs.Projection.{projection}
@@ -18,6 +17,7 @@ use Rattle.projection.proofs.NamesPass.{NamesPass, left_pass, right_pass}
 use Rattle.projection_laws.specs.Staying.{is_clear, IsClear}
 use Rattle.own_words.proofs.Words.{kept, same_numbers}
 use Rattle.own_words.proofs.Forms.{left, all_left}
+use Rattle.projection_meaning.proofs.Mains.{main_code}
 use Rattle.projection_meaning.proofs.Projecting.{project_code, NamesStay, IsNested}
 use Rattle.projection_meaning.proofs.PartsProject.{gathered}
 use Rattle.projection_meaning.proofs.FormsProject.{Makes, makes_none, makes_both}
