@@ -35,6 +35,7 @@ pub mod PlainOrder
 pub mod PlainSteps
 pub mod RowLemmas
 pub mod StartDoings
+pub mod StructOrder
 pub mod SwitchLaws
 pub mod SwitchLemmas
 pub mod TextNumbers
