@@ -3,3 +3,4 @@ pub mod NamesInScope
 pub mod Texts
 pub mod NumbersButLines
 pub mod BuiltMains
+pub mod HavingMain

@@ -64,7 +64,6 @@ module _ (raw : RawProgram) (p : Program) (has : HasProgram raw p) where
 -- ---- main alone
 
 module _ (raw : RawProgram) (p : Program) (has : HasProgram raw p) (h : IsIntegerMain p) where
-
   functions_made : collected (functions_from raw raw.items outset) ≡ Some (h.main ∷ [])
   functions_made = (parts raw p has).functions ∙ ap Some h.functions_are
 

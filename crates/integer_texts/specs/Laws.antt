@@ -1,8 +1,9 @@
 -- The programs of texts are numbered in text order.
-use Rattle.std.specs.Prelude.{◌≡◌, true, length, map, None}
+use Rattle.std.specs.Prelude.{◌≡◌, ℕ, true, length, map, Some, None}
 use Rattle.std.specs.List.{list_all, range_with_len}
 use Rattle.c_tree.specs.declared.program.Program.{Program}
 use Rattle.c_tree.specs.declared.raw.program.RawProgram.{RawProgram}
+use Rattle.c_language.specs.Mains.{main_of}
 use Rattle.c_language.specs.Programs.{HasProgram, IsWellFormed}
 use Rattle.built_forms.specs.BuiltForms.{not_yet}
 use Rattle.built_forms.specs.IntegerForms.{IsIntegerMain}
@@ -13,9 +14,13 @@ use Rattle.dep_model.specs.NumberedMains.{doing_below, IsNumberedMain}
 abbrev pub StatementsAreNumbered : Type 0
 StatementsAreNumbered = (p : Program) → IsWellFormed p → map doing_number (program_doings p) ≡ range_with_len 0 p.statements
 
--- each variable that one of them names is one of the program
+-- each variable that one of them names, but in a size, is one of the program
 abbrev pub NamedVariablesExist : Type 0
 NamedVariablesExist = (p : Program) → IsWellFormed p → list_all (doing_below (length p.vars)) (program_doings p) ≡ true
+
+-- a function named main is among its functions
+abbrev pub ProgramsHaveMain : Type 0
+ProgramsHaveMain = (p : Program) → IsWellFormed p → (f : ℕ) × (main_of p ≡ Some f)
 
 -- ---- main alone over integers
 

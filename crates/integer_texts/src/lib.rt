@@ -1,34 +1,39 @@
 //! The numbers of a text. Each function is a law, and holds no code: its contract is the law.
 #![tactic(auto)]
 
-ghost use Rattle.integer_texts.specs.Laws.{StatementsAreNumbered, NamedVariablesExist, BuiltAreNumbered, IntegerTextsAreNumbered, WellFormedAreNumbered};
+ghost use Rattle.integer_texts.specs.Laws as law;
 
 /// A law: the statements of a well-formed program, function by function and in each a test before what it
 /// decides, have the numbers 0, 1, and so on up to their count.
 pub fn statements_are_numbered()
-    ensures { StatementsAreNumbered }
+    ensures { law.StatementsAreNumbered }
 {}
 
-/// A law: each variable that a statement of a well-formed program names is one of the program.
+/// A law: each variable that a statement of a well-formed program names, but in a size, is one of the program.
 pub fn named_variables_exist()
-    ensures { NamedVariablesExist }
+    ensures { law.NamedVariablesExist }
+{}
+
+/// A law: a well-formed program has a function named main.
+pub fn programs_have_main()
+    ensures { law.ProgramsHaveMain }
 {}
 
 /// A law: where the program of a text that keeps all rules is of main alone over integers, main is named so
 /// and gives an int, its statements have the numbers from 0 on in the order in which they stand, and each
 /// variable that they name is one of the program.
 pub fn integer_texts_are_numbered()
-    ensures { IntegerTextsAreNumbered }
+    ensures { law.IntegerTextsAreNumbered }
 {}
 
 /// A law: of a well-formed program of main alone over integers, main is named so and gives an int, its
 /// statements have the numbers from 0 on in the order in which they stand, and each variable that they name
 /// is one of the program.
 pub fn well_formed_are_numbered()
-    ensures { WellFormedAreNumbered }
+    ensures { law.WellFormedAreNumbered }
 {}
 
 /// A law: the same holds of a well-formed program of which nothing is outside the built forms.
 pub fn built_are_numbered()
-    ensures { BuiltAreNumbered }
+    ensures { law.BuiltAreNumbered }
 {}
