@@ -1,5 +1,6 @@
 pub mod Frames
 pub mod Closing
+pub mod Codes
 pub mod Runs
 pub mod MeaningSteps
 pub mod Small

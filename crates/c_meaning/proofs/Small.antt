@@ -31,7 +31,7 @@ use Rattle.c_meaning.specs.declared.event.Shown.TheVariants as shown
 use Rattle.c_meaning.specs.Cells.{Structs}
 use Rattle.c_meaning.specs.Values.{Types, State, Meant, variable_place, variable_opened, all_closed, tested, number_in, binary_value, meant_step, meant, eval_all, beside}
 use Rattle.c_meaning.specs.Acts.{Made, shows, writable, assigned, begun_by, listed, begun_with, given, next_byte, taking, bump, put_out, printed_all, asked_count, target_type, next_block, allocated_by, freed_at, as_result, returning, made, after, picked}
-use Rattle.c_meaning.specs.Activations.{Routine, Global, Executable, code_at, types_in, blank, global_opened, initialised, all_begun, opening, passed, fresh, called, resumed, received}
+use Rattle.c_meaning.specs.Activations.{Routine, Global, Executable, code_at, outside, types_in, blank, global_opened, initialised, all_begun, opening, passed, fresh, called, resumed, received}
 use Rattle.c_meaning.specs.Meaning.{Trace, Answer, Ended, Undefined, More, Outcome, Done, Over, Go, then_do, after_made, take_act, after_called, take_call, receive, come_back, exec, deep, answer, nothing, code_meaning, main_meaning}
 
 -- ---- expressions
@@ -308,14 +308,14 @@ pub record SmallRoutine : Type 0 where
   pub code : SmallCode
 
 -- what a global begins with
-pub data Value0 : Type 0 where
-  Zero : Value0
-  Alone : Small → Value0
-  Listed : List Small → Value0
+pub data SmallInit : Type 0 where
+  Zero : SmallInit
+  Alone : Small → SmallInit
+  Listed : List Small → SmallInit
 
 pub record SmallGlobal : Type 0 where
   pub variable : ℕ
-  pub init : Value0
+  pub init : SmallInit
 
 pub record SmallProgram : Type 0 where
   pub typing : Typing
@@ -324,7 +324,7 @@ pub record SmallProgram : Type 0 where
   pub functions : List SmallRoutine
   pub main : ℕ
 
-abbrev init_tree : Value0 → Init
+abbrev init_tree : SmallInit → Init
 init_tree Zero = init.None
 init_tree (Alone a) = init.One (tree a)
 init_tree (Listed as_) = init.Items (map tree as_)
@@ -358,15 +358,15 @@ module _ (p : SmallProgram) where
 
   -- ---- before main
 
-  abbrev begun : ℕ → Value0 → State → Option Made
+  abbrev begun : ℕ → SmallInit → State → Option Made
   begun x Zero s = None
-  begun x (Alone a) s = begun_by (types p.main) x ((means (types p.main) a).value s) s
-  begun x (Listed as_) s = listed (p.typing.variable x) s (variable_place x s) (values_of (types p.main) as_ s)
+  begun x (Alone a) s = begun_by (outside (built p)) x ((means (outside (built p)) a).value s) s
+  begun x (Listed as_) s = listed (p.typing.variable x) s (variable_place x s) (values_of (outside (built p)) as_ s)
 
-  begun_same : (x : ℕ) (i : Value0) (s : State) → begun_with (types p.main) x (init_tree i) s ≡ begun x i s
+  begun_same : (x : ℕ) (i : SmallInit) (s : State) → begun_with (outside (built p)) x (init_tree i) s ≡ begun x i s
   begun_same x Zero s = refl
-  begun_same x (Alone a) s = ap (λ (m : Meant). begun_by (types p.main) x (m.value s) s) (means_tree (types p.main) a)
-  begun_same x (Listed as_) s = ap (listed (p.typing.variable x) s (variable_place x s)) (all_mean (types p.main) as_ s)
+  begun_same x (Alone a) s = ap (λ (m : Meant). begun_by (outside (built p)) x (m.value s) s) (means_tree (outside (built p)) a)
+  begun_same x (Listed as_) s = ap (listed (p.typing.variable x) s (variable_place x s)) (all_mean (outside (built p)) as_ s)
 
   abbrev globals_begun : List SmallGlobal → State → State
   globals_begun [] s = s
@@ -377,7 +377,7 @@ module _ (p : SmallProgram) where
   globals_same [] s = refl
   globals_same (g ∷ gs) s =
       let opened = global_opened (built p) g.variable s in
-      globals_same gs (initialised (begun_with (types p.main) g.variable (init_tree g.init) opened) opened) ∙ ap (λ o. globals_begun gs (initialised o opened)) (begun_same g.variable g.init opened)
+      globals_same gs (initialised (begun_with (outside (built p)) g.variable (init_tree g.init) opened) opened) ∙ ap (λ o. globals_begun gs (initialised o opened)) (begun_same g.variable g.init opened)
 
   abbrev start : List ℕ → State
   start input = record (globals_begun p.globals (blank (built p))) { unread = input }

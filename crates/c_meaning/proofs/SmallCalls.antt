@@ -182,6 +182,11 @@ array_parameter : Comes (gives_none (7 ∷ []) [] (Do 0 (Set (Item p (num 2)) (n
 unfolding convert unary binary digits unescaped
 array_parameter = tells refl
 
+-- int *f(int *p) { return p; } main: int y; int *p = f(&y); *p = 2; z = y;
+pointer_result : Comes (record { params = 7 ∷ []; locals = []; result = Some (pointer_to int); code = Do 0 (Give p) Stop }) (Open 9 (Open 3 (Invoke 1 (New 3) 0 (Amp y ∷ []) (Do 2 (Set (Star n) (num 2)) (Do 3 (Set z y) Stop))))) (Ends ((0, pos 0 ∷ []) ∷ (1, pos 0 ∷ []) ∷ (2, pos 2 ∷ []) ∷ (3, pos 2 ∷ []) ∷ []) ([]))
+unfolding convert unary binary digits unescaped
+pointer_result = tells refl
+
 -- int f(int *p) { return !p; } main: z = f(0);
 null_parameter : Comes (gives (7 ∷ []) [] (Do 0 (Give (Un Not p)) Stop)) (Invoke 1 (In z) 0 (num 0 ∷ []) Stop) (Ends ((0, pos 1 ∷ []) ∷ (1, pos 1 ∷ []) ∷ []) ([]))
 unfolding convert unary binary digits unescaped

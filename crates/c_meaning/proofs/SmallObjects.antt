@@ -17,7 +17,7 @@ use Rattle.c_language.specs.Code.{is_true, either}
 use Rattle.c_language.specs.TreeTypes.{Typing}
 use Rattle.c_tree.specs.declared.expr.MemberId.{MemberId}
 use Rattle.c_meaning.specs.Cells.{Structs}
-use Rattle.c_meaning.proofs.Small.{Small, K, Name, Un, Bin, Both, Pick, Par, NullName, Star, Amp, Item, Dot, Arrow, In, One, Many, Chars, Start, StartAll, Set, SetBy, Bump, Heap, Free, SmallCode, Stop, Open, Do, Choice, Close, SmallProgram, Tale, Ends, Fails, Tells, tells}
+use Rattle.c_meaning.proofs.Small.{Small, K, Name, Un, Bin, Both, Pick, Par, NullName, Star, Amp, Item, Dot, Arrow, In, One, Many, Chars, Start, StartAll, Set, SetBy, Bump, Heap, Free, SmallCode, Stop, Open, Do, Choice, Close, SmallProgram, Zero, Tale, Ends, Fails, Tells, tells}
 
 -- ---- the variables of all these programs
 
@@ -243,10 +243,10 @@ null_is_not_moved : Comes (Do 0 (Set (p) (NullName)) (Do 1 (Set (q) (Bin Add p (
 unfolding convert unary binary digits unescaped
 null_is_not_moved = tells refl
 
--- p = NULL; q = &*p; x = !q; but &p[0] is p + 0
-address_of_target : Comes (Do 0 (Set (p) (NullName)) (Do 1 (Set (q) (Amp (Star p))) (Do 2 (Set (x) (Un Not q)) (Do 3 (Set (q) (Amp (Item p (num 0)))) Stop)))) (Fails 3)
+-- p = NULL; q = &*p; x = !q; q = &p[0]; the last one is p + 0
+null_has_no_element : Comes (Do 0 (Set (p) (NullName)) (Do 1 (Set (q) (Amp (Star p))) (Do 2 (Set (x) (Un Not q)) (Do 3 (Set (q) (Amp (Item p (num 0)))) Stop)))) (Fails 3)
 unfolding convert unary binary digits unescaped
-address_of_target = tells refl
+null_has_no_element = tells refl
 
 -- p = NULL; q = &*p; x = !q;
 address_of_target_is_null : Comes (Do 0 (Set (p) (NullName)) (Do 1 (Set (q) (Amp (Star p))) (Do 2 (Set (x) (Un Not q)) Stop))) (Ends ((0, pos 0 ∷ []) ∷ (1, pos 0 ∷ []) ∷ (2, pos 1 ∷ []) ∷ []) [])
@@ -312,6 +312,36 @@ two_dimensions = tells refl
 row_has_its_own_end : Comes (Do 0 (Set (p) (Item m (num 0))) (Do 1 (Set (p) (Bin Add p (num 3))) (Do 2 (Set (x) (Star p)) Stop))) (Fails 2)
 unfolding convert unary binary digits unescaped
 row_has_its_own_end = tells refl
+
+-- p = &t.n; *p = 4; x = t.n; p++; a member that is no array has length 1
+pointer_to_member : Comes (Do 0 (Set (p) (Amp (Dot t n_of))) (Do 1 (Set (Star p) (num 4)) (Do 2 (Set (x) (Dot t n_of)) (Do 3 (Bump p true) Stop)))) (Ends ((0, pos 0 ∷ []) ∷ (1, pos 4 ∷ []) ∷ (2, pos 4 ∷ []) ∷ (3, pos 1 ∷ []) ∷ []) [])
+unfolding convert unary binary digits unescaped
+pointer_to_member = tells refl
+
+-- int *b[2] = {&x, a + 1}; *b[0] = 2; *b[1] = 3; x = x + a[1];
+pointers_in_a_list : Comes (Do 0 (StartAll 9 (Amp x ∷ Bin Add a (num 1) ∷ [])) (Do 1 (Set (Star (Item b (num 0))) (num 2)) (Do 2 (Set (Star (Item b (num 1))) (num 3)) (Do 3 (Set (x) (Bin Add x (Item a (num 1)))) Stop)))) (Ends ((0, pos 0 ∷ pos 1 ∷ []) ∷ (1, pos 2 ∷ []) ∷ (2, pos 3 ∷ []) ∷ (3, pos 5 ∷ []) ∷ []) [])
+unfolding convert unary binary digits unescaped
+pointers_in_a_list = tells refl
+
+-- p = &t; x = *p; which no rule lets pass: there is no int
+another_type : Comes (Do 0 (Set (p) (Amp t)) (Do 1 (Set (x) (Star p)) Stop)) (Fails 1)
+unfolding convert unary binary digits unescaped
+another_type = tells refl
+
+-- h = &g; x = h->n; which no rule lets pass: there is no struct s
+another_struct : Comes (Do 0 (Set (h) (Amp g)) (Do 1 (Set (x) (Arrow h n_of)) Stop)) (Fails 1)
+unfolding convert unary binary digits unescaped
+another_struct = tells refl
+
+-- x = &t; which no rule lets pass
+pointer_as_integer : Comes (Do 0 (Set (x) (Amp t)) Stop) (Fails 0)
+unfolding convert unary binary digits unescaped
+pointer_as_integer = tells refl
+
+-- struct g g, as a global: x = g.parts[1].v[1]; x = !g.parts[1].next; all is 0 and null
+global_struct : Tells (record (doing (Stop)) { globals = (record { variable = 8; init = Zero }) ∷ []; functions = (record { params = []; locals = []; result = Some int; code = Open 0 (Do 0 (Set (x) (Item (Dot (Item (Dot g parts_of) (num 1)) v_of) (num 1))) (Do 1 (Set (x) (Un Not (Dot (Item (Dot g parts_of) (num 1)) next_of))) Stop)) }) ∷ [] }) 20 [] (Ends ((0, pos 0 ∷ []) ∷ (1, pos 1 ∷ []) ∷ []) [])
+unfolding convert unary binary digits unescaped
+global_struct = tells refl
 
 -- p = malloc(2 * sizeof *p); p[1] = 6; x = p[1]; free(p);
 heap : Comes (Do 0 (Heap (In p) (Many (num 2) 1)) (Do 1 (Set (Item p (num 1)) (num 6)) (Do 2 (Set (x) (Item p (num 1))) (Do 3 (Free p) Stop)))) (Ends ((0, pos 0 ∷ []) ∷ (1, pos 6 ∷ []) ∷ (2, pos 6 ∷ []) ∷ (3, pos 0 ∷ []) ∷ []) [])

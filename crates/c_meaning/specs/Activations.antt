@@ -89,6 +89,10 @@ module _ (p : Executable) where
   abbrev pub variables_at : ℕ → List ℕ
   variables_at f = option_map_or (λ (r : Routine). r.params ++ r.locals) (slice_get p.functions f) []
 
+  -- the types where no function runs
+  abbrev pub outside : Types
+  outside = record { typing = p.typing; result = None }
+
   -- the types in function f
   abbrev pub types_in : ℕ → Types
   types_in f = record { typing = p.typing; result = result_at f }
@@ -115,7 +119,7 @@ module _ (p : Executable) where
   abbrev pub global_begun : Global → State → State
   global_begun g s =
       let opened = global_opened g.variable s in
-      initialised (begun_with (types_in p.main) g.variable g.init opened) opened
+      initialised (begun_with outside g.variable g.init opened) opened
 
   abbrev pub all_begun : List Global → State → State
   all_begun [] s = s
@@ -130,7 +134,7 @@ module _ (p : Executable) where
   -- parameters begin as blocks of their own, with the values converted to their types (6.5.2.2, paragraph 7)
   abbrev pub parameter_begun : ℕ → State → Value → State
   parameter_begun x s v =
-      let opened = variable_opened (types_in p.main) x s in
+      let opened = variable_opened outside x s in
       record opened { memory = write (whole (length s.memory.blocks)) v opened.memory }
 
   abbrev pub passed : List ℕ → List Value → State → Option State

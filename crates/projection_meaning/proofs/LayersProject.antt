@@ -28,7 +28,7 @@ use Rattle.projection_laws.specs.Staying.{Rest, any_stays, all_clear, rest_step,
 use Rattle.own_words.proofs.Parts.{short}
 use Rattle.own_words.proofs.Words.{kept, same_numbers}
 use Rattle.own_words.proofs.Forms.{left, arm_left, all_left, part_left, step_left, step_refers}
-use Rattle.projection_meaning.proofs.Codes.{layer_part, part-roll}
+use Rattle.c_meaning.proofs.Codes.{layer_part, part-roll}
 use Rattle.projection_meaning.proofs.CodeNames.{act_names}
 use Rattle.projection_meaning.proofs.Projecting.{renamed_act}
 use Rattle.projection_meaning.proofs.NothingLeft.{subjects, rested, arm_rested, layer_rest, rest-roll, left-roll, nothing_left, none_left}

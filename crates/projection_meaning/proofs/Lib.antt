@@ -1,7 +1,6 @@
 pub mod Bools
 pub mod Targets
 pub mod CodeNames
-pub mod Codes
 pub mod Ranks
 pub mod Mains
 pub mod Lines

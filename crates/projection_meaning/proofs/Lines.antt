@@ -1,5 +1,5 @@
 -- Line numbers change nothing of what runs need.
-use Rattle.std.proofs.Common.{◌≡◌, ℕ, List, [], ◌∷◌, ◌++◌, length, map, cond, suc, Option, Some, None, refl, sym, ap, ◌∙◌, ap₂}
+use Rattle.std.proofs.Common.{◌≡◌, ℕ, List, [], ◌∷◌, ◌++◌, map, cond, suc, Option, Some, None, refl, sym, ap, ◌∙◌, ap₂}
 use Rattle.std.specs.List.{position}
 use Rattle.std.specs.Option.{option_map_or}
 use Rattle.std.specs.Prelude.{slice_get, option_map, unwrap_or}
@@ -20,7 +20,7 @@ use Rattle.c_language.specs.NameRules.{is_main}
 use Rattle.c_language.specs.TreeTypes.{Typing, shape_of, type_of_variable, type_of_member, typing_of}
 use Rattle.c_language.proofs.Lists.{position-cons}
 use Rattle.c_meaning.specs.Cells.{structs_of}
-use Rattle.c_meaning.specs.Activations.{Routine, Executable, routine_of, globals_in, executable}
+use Rattle.c_meaning.specs.Activations.{Routine, routine_of, globals_in, executable}
 use Rattle.own_words.proofs.Lists.{three}
 
 part_free : (y : Statement-F StatementPart ArmPart) → part_step (zeroed y) ≡ part_step y

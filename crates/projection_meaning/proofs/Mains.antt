@@ -1,5 +1,5 @@
 -- A program of main alone: what its runs need, and its meaning by the code of its first function.
-use Rattle.std.proofs.Common.{◌≡◌, ℕ, List, [], ◌∷◌, ◌++◌, length, map, Bool, true, Some, All, refl, ap, ◌∙◌, ap₂}
+use Rattle.std.proofs.Common.{◌≡◌, ℕ, List, [], ◌∷◌, length, map, Bool, true, Some, All, refl, ap, ◌∙◌, ap₂}
 use Rattle.std.specs.Option.{option_map_or}
 use Rattle.std.specs.Prelude.{slice_get, unwrap_or}
 use Rattle.std.proofs.lemmas.List.Elements.{All-head, All-tail}
@@ -18,7 +18,7 @@ use Rattle.built_forms.specs.IntegerForms.{IsPlainItem, include, main}
 use Rattle.dep_model.specs.NumberedMains.{IsNumberedMain}
 use Rattle.own_words.proofs.Words.{same_numbers}
 use Rattle.projection.specs.Kept.{Kept}
-use Rattle.projection.specs.Projection.{projected_item, projected_items, projected_function, projected_functions, kept_with, projection}
+use Rattle.projection.specs.Projection.{projected_items, projected_function, projected_functions, kept_with, projection}
 
 -- the code of the first function
 abbrev pub main_code : Program → Code

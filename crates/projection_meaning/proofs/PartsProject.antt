@@ -14,7 +14,7 @@ use Rattle.c_language.proofs.CodeLemmas.{part_list, block_of}
 use Rattle.projection.specs.Kept.{Kept}
 use Rattle.projection.specs.Projection.{if_so, declares_target, declaring_step, declaring_arm, is_declaring, alone}
 use Rattle.own_words.proofs.Forms.{fold_layer}
-use Rattle.projection_meaning.proofs.Codes.{layer_part, part-roll}
+use Rattle.c_meaning.proofs.Codes.{layer_part, part-roll}
 use Rattle.projection_meaning.proofs.Sequences.{then_then, leave_then}
 
 -- statements one after another, as one

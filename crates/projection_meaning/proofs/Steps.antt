@@ -1,8 +1,8 @@
 -- A list without calls as places: what its steps come to is its meaning, for every number of acts.
-use Rattle.std.proofs.Common.{◌≡◌, ℕ, suc, List, [], Option, Some, None, Bool, true, false, refl, sym, ap, ◌∙◌, subst}
-use Rattle.c_language.specs.Code.{Act, Tests, Code, End, Opens, Plain, Fork, Loop, Leaves, Call, ◌⨟◌, is_true, either}
+use Rattle.std.proofs.Common.{◌≡◌, ℕ, suc, List, [], Option, Some, None, refl, sym, ap, ◌∙◌, subst}
+use Rattle.c_language.specs.Code.{Tests, Code, End, Opens, Plain, Fork, Loop, Leaves, Call}
 use Rattle.c_meaning.specs.Values.{State}
-use Rattle.c_meaning.specs.Acts.{Made, made, picked}
+use Rattle.c_meaning.specs.Acts.{Made, made}
 use Rattle.c_meaning.specs.Activations.{Executable, types_in, opening}
 use Rattle.c_meaning.specs.Meaning.{Answer, Ended, Undefined, More, nothing, code_meaning}
 use Rattle.c_meaning.specs.Steps as steps
@@ -11,7 +11,7 @@ use Rattle.c_meaning.proofs.Runs.{unique}
 use Rattle.c_meaning.proofs.MeaningSteps.{list_runs}
 use Rattle.dep_model.proofs.PlainSteps.{NoCalls}
 use Rattle.projection_meaning.proofs.Law.{Config, config, on_values, step, machine}
-use Rattle.projection_meaning.proofs.Places.{places, number, act_of, next, NoCalls-next}
+use Rattle.projection_meaning.proofs.Places.{places, number, next, NoCalls-next}
 
 -- a list of function f without calls
 module _ (p : Executable) (f : ℕ) where
