@@ -4,10 +4,9 @@ use Rattle.std.specs.Prelude.{◌==◌}
 use Rattle.std.specs.List.{list_all}
 use Rattle.std.specs.Option.{option_map_or}
 use Rattle.std.proofs.lemmas.Bool.{and_parts, not_from_false, and_from, or_left}
-use Rattle.c_arith.specs.declared.int_type.IntType.{IntType}
 use Rattle.c_arith.specs.declared.operators.UnaryOp.TheVariants.{Plus, Minus, Flip, Not}
 use Rattle.c_tree.specs.declared.raw.expr.RawExpr.{RawExpr}
-use Rattle.c_tree.specs.declared.raw.expr.RawType.{RawType, fold-roll-RawType}
+use Rattle.c_tree.specs.declared.raw.expr.RawType.{RawType}
 use Rattle.c_tree.specs.declared.raw.expr.RawType.TheOpen.{RawType-F}
 use Rattle.c_tree.specs.declared.raw.expr.RawType.TheVariants as type
 use Rattle.c_tree.specs.declared.raw.expr.RawVar.{RawVar}
@@ -27,7 +26,7 @@ use Rattle.c_language.specs.TypeGrammar.{structure, integer, IsStars, pointed, I
 use Rattle.c_language.specs.StatementGrammar.{IsSeparated, bare, with_args, IsSimple, IsDeclared, AreDeclared, IsDeclaration, declaration, IsStatement, AreStatements}
 use Rattle.c_language.specs.ItemGrammar.{IsMemberDeclarator, IsMember, AreMembers, IsGlobal, AreGlobals, IsStatic, IsResult, IsHead, head, IsItem, AreItems}
 use Rattle.c_language.specs.LeftOut.{IsTold, BeginsLeftOut, IsLeftOut, struct_result, struct_param, open_braces, names_function, begins_param, names_param, ends_param}
-use Rattle.c_language.specs.Syntax.{is_there, reaches, starred, struct_step, is_struct, pointer_step, is_pointer, inner, final, stands, is_body, is_member, is_param, is_result, is_head, is_item, is_syntax, IsSyntax}
+use Rattle.c_language.specs.Syntax.{is_there, reaches, starred, is_struct, inner, final, stands, is_body, is_member, is_param, is_result, is_head, is_item, is_syntax, IsSyntax}
 use Rattle.c_language.specs.Programs.{IsTree}
 use Rattle.c_language.specs.declared.operators.Prefix.TheVariants.{Sign, Deref, AddressOf}
 use Rattle.c_language.specs.declared.token.TokenKind.TheVariants.{Mark}
@@ -36,6 +35,7 @@ use Rattle.c_language.proofs.Lists.{all_append}
 use Rattle.text_syntax.proofs.CalmTokens.{AreUntold, told_all, done, more, calm_braces, expr_calm, calm_then}
 use Rattle.text_syntax.proofs.Spelled.{AreSpelled, formed_spelled}
 use Rattle.text_syntax.proofs.Forms.{are_inner, ends_too, type_by}
+use Rattle.text_syntax.proofs.Equations.{struct-Integer, struct-PointerTo, pointer-PointerTo}
 use Rattle.text_syntax.proofs.Exprs.{own_name, expr_is, HasStars, base_is, type_is}
 use Rattle.text_syntax.proofs.Statements.{AreSound, are_spelled, IsBaseType, Went, Goes, goes_then, goes_calm, goes_name, goes_end, went_then, went_behind, rest_spelled, name_level, end_level, opens_level, closes_level, back_level, base_goes, type_goes, variable_goes, begun_value, begun_list, Inside, inside_at, Gone, declaration_goes, statement_goes}
 
@@ -145,15 +145,6 @@ function_goes (AreStatements.more {mid = mid} {first = x} {all} k j) before h i 
     by_end (s, inr r) g = body_last x all r.ends (closing_empty j r.closes)
 
 -- ---- heads of functions
-
-struct-PointerTo : (a : RawType) → is_struct (type.PointerTo a) ≡ false
-struct-PointerTo a = ap is_struct (sym (type.rolls-PointerTo a)) ∙ fold-roll-RawType Bool struct_step (RawType-F.PointerTo a)
-
-struct-Integer : (t : IntType) → is_struct (type.Integer t) ≡ false
-struct-Integer t = ap is_struct (sym (type.rolls-Integer t)) ∙ fold-roll-RawType Bool struct_step (RawType-F.Integer t)
-
-pointer-PointerTo : (a : RawType) → is_pointer (type.PointerTo a) ≡ true
-pointer-PointerTo a = ap is_pointer (sym (type.rolls-PointerTo a)) ∙ fold-roll-RawType Bool pointer_step (RawType-F.PointerTo a)
 
 pointer_struct : {ts rest : Tokens} {a b : RawType} → IsStars ts a b rest → is_struct a ≡ false → is_struct b ≡ false
 pointer_struct (IsStars.done h) k = k

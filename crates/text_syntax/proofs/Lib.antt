@@ -5,3 +5,6 @@ pub mod Exprs
 pub mod Statements
 pub mod Items
 pub mod Folds
+pub mod Types
+pub mod Equations
+pub mod Table
