@@ -210,6 +210,16 @@ class MemoryGenerator(CallGenerator):
                                                                  if self.places else ";"]))
         return self.close() if is_braced else None
 
+    def choose_object(self):
+        """A store into one of two variables, as a test says."""
+        one, two, pointer = self.fresh("x"), self.fresh("x"), self.fresh("p")
+        self.put(f"int {one} = {self.bounded()[0]}, {two} = {self.bounded()[0]};")
+        self.put(f"int *{pointer} = {self.within(self.test(0), -1)} ? &{one} : &{two};")
+        self.put(f"*{pointer} = {self.bounded()[0]};")
+        self.add_object(one, INT, self.level)
+        self.add_object(two, INT, self.level)
+        self.add_pointer(pointer, INT, self.level)
+
     def array_of_pointers(self):
         """An array of pointers with a list, all of which point to something."""
         name, length, t = self.fresh("r"), 2 + self.below(2), self.pick(POINTED)
@@ -329,7 +339,7 @@ class MemoryGenerator(CallGenerator):
         forms += [(2, self.print_pointers), (8 if self.current and self.loops == 0 else 0, self.recursion_by_address)]
         if self.level < 4:
             forms += [(3, self.declare_struct), (4, self.declare_array), (2, self.pointer_to_pointer), (2, self.array_of_pointers)]
-            forms += [(2, self.allocate_into), (1, self.allocate_bytes)]
+            forms += [(2, self.allocate_into), (1, self.allocate_bytes), (3, self.choose_object)]
         if self.level < 4 and self.loops < 2:
             forms += [(2, self.walk_array), (1, self.build_list), (2, self.allocate_and_free)]
         return forms
