@@ -2,7 +2,7 @@
 use Rattle.std.proofs.Common.{◌≡◌, ℕ, zero, suc, ◌+◌, ◌<◌, ◌≤◌, ◌==◌, List, [], ◌∷◌, length, set, replicate, map, Bool, true, false, ◌&&◌, ◌||◌, inl, inr, refl, sym, ap, ◌∙◌, subst, arith, add-one, eq-eqb}
 use Rattle.std.specs.List.{list_any}
 use Rattle.std.proofs.lemmas.Bool.{eqb-true, cases_lt, or_left, or_right, and_from, and_parts, or_cases}
-use Rattle.std.proofs.Common.{get_or-set_other, get_or-set_same}
+use Rattle.std.proofs.Common.{get_or, get_or-set_other, get_or-set_same}
 use Rattle.bit_rows.specs.Sets.{has}
 use Rattle.bit_rows.proofs.SetLemmas.{has-empty}
 use Rattle.rule_closure.proofs.SetLemmas.{has_in_range, same_members}

@@ -24,7 +24,7 @@ use Rattle.projection_meaning.specs.Laws.{IsFlowClosed, keeps_of}
 use Rattle.projection_meaning.specs.SameValues.{StandFor, HasSameValues}
 use Rattle.projection_meaning.proofs.SameValues.{same_values}
 use Rattle.slice_engine.specs.Laws.{CanBeProjected}
-use Rattle.slice_engine.specs.Slice.{keeps, sliced}
+use Rattle.slice_engine.specs.Slice.{keeps_statement, keeps, sliced}
 use Rattle.slice_engine.proofs.CriterionLaws.{kept_past}
 use Rattle.slice_engine.proofs.Vertices.{length-vertices, kept_vertex, keeps_main}
 
@@ -48,12 +48,15 @@ module _ (p : Program) (a : Analysis) (s : List Bool) (well : IsWellFormed p) (n
   main_long : length s ≡ suc p.statements
   main_long = k.long ∙ ap length (numbered_vertices p a n k.is_analysis) ∙ length-vertices p
 
-  -- a statement is kept where its vertex is
-  same_keeps : keeps_of s ≡ keeps p a s
-  same_keeps = fun_ext (λ i. elim (cases_lt i p.statements) [
+  at_main : keeps_of s ≡ keeps_statement (vertices p) s
+  at_main = fun_ext (λ i. elim (cases_lt i p.statements) [
     | inl lt ↦ sym (kept_vertex p s i lt)
     | inr ge ↦ get_or_past s (suc i) false (omega (arith, main_long, ge)) ∙ sym (kept_past p s i ge)
-  ]) ∙ sym (keeps_main p a s n k.is_analysis)
+  ])
+
+  -- a statement is kept where its vertex is
+  same_keeps : keeps_of s ≡ keeps p a s
+  same_keeps = at_main ∙ sym (keeps_main p a s n k.is_analysis)
 
   pub projected_nested : IsNested (keeps p a s) p
   projected_nested = subst (λ f. IsNested f p) same_keeps (closed_nested p s n (well_formed_taken p well) controllers_kept)
