@@ -1,0 +1,3 @@
+pub mod ClapLaws
+pub mod Rows
+pub mod Words
