@@ -12,23 +12,11 @@ use Rattle.clap.specs.declared.builder.action.ArgAction.TheVariants.{Append}
 use Rattle.clap.proofs.TakesLemmas.{leaf_takes}
 use Rattle.call_words.specs.Sorting.{Bytes, Sorted, and_sorted, next_sorted, none_sorted, option_in, other_sorted, sorted}
 use Rattle.call_words.specs.Requests.{value_given}
+use Rattle.call_words.specs.Clap.{words_rule, option_rule, with_rules, app_for, listed}
 use Rattle.call_words.proofs.Words.{dashes, plain_long, plain_short, plain_escape, long_escape, same_name, is_name, other_name, knows, Each, each_split, Given, Others, Once, once_split, none_given, given_last, given_other}
 use Rattle.call_words.proofs.Rows.{row_is, no_row, with_same, with_other, without_none}
 
--- ---- the command as it is made, and as it is built
-
-abbrev pub words_rule : Rule
-words_rule = record (new_rule (codes "words")) { action = Some Append }
-
-abbrev pub option_rule : Bytes → Rule
-option_rule name = record (new_rule name) { long = Some name }
-
--- a command with these rules and no help flag
-abbrev pub with_rules : Bytes → List Rule → App
-with_rules name rules = record { top = record (new_shape name) { rules = rules; disable_help_flag = true }; subs = [] }
-
-abbrev pub app_for : Bytes → List Bytes → App
-app_for name names = with_rules name (words_rule ∷ map option_rule names)
+-- ---- the command as it is built
 
 abbrev words_built : Rule
 words_built = with_index 1 (filled words_rule)
@@ -105,10 +93,6 @@ and_false false = refl
 
 abbrev single : Option Bytes → Option (List Text)
 single = option_map (λ v. v ∷ [])
-
-abbrev listed : List Bytes → Option (List Text)
-listed [] = None
-listed (x ∷ xs) = Some (x ∷ xs)
 
 listed_push : (xs : List Bytes) (v : Bytes) → ◌≡◌ {A = Option (List Text)} (Some (unwrap_or (listed xs) [] ++ v ∷ [])) (listed (xs ++ v ∷ []))
 listed_push [] v = refl

@@ -1,5 +1,5 @@
 -- The commands as a table, and which words are in the form of a row.
-use Rattle.std.specs.Prelude.{◌≡◌, ◌≢◌, ℕ, ◌+◌, ◌-◌, ◌*◌, ◌<◌, ◌≤◌, List, [], ◌∷◌, length, map, drop, min, Bool, true, false, if◌then◌else◌, Option, None, Some, IsSomeAnd, All, AllPairs, codes, slice_get, slice_index, slice_index_or}
+use Rattle.std.specs.Prelude.{◌≡◌, ◌≢◌, ℕ, ◌+◌, ◌-◌, ◌*◌, ◌<◌, ◌≤◌, List, [], ◌∷◌, length, map, drop, min, Bool, true, false, if◌then◌else◌, Option, None, Some, Contains, IsSomeAnd, All, AllPairs, codes, slice_get, slice_index, slice_index_or}
 use Rattle.std.specs.List.{find}
 use Rattle.std.specs.Option.{option_map}
 use Rattle.std.specs.Char.{IsAsciiDigit}
@@ -83,18 +83,34 @@ pub record AreWanted (r : Row) (others : List Bytes) : Type 0 where
   pub enough : length r.wanted ≤ length others
   pub each : (i : ℕ) → i < length others → IsSomeAnd (kind_at r i) (λ kind. IsOf kind (word others i))
 
--- the options are the command's, each given once, with a value of its kind, and those that it has to have are there
-pub record AreOptions (r : Row) (given : List (Bytes × Bytes)) : Type 0 where
-  pub each : All (λ (o : Bytes × Bytes). IsSomeAnd (kind_of r o.0) (λ kind. IsOf kind o.1)) given
-  pub once : AllPairs (λ (o p : Bytes × Bytes). o.0 ≢ p.0) given
-  pub required : All (λ name. IsSomeAnd (find (λ (o : Bytes × Bytes). bytes_eq o.0 name) given) (λ o. Unit {0})) r.required
+-- each option is one of the command's, with a value of its kind
+abbrev pub EachKnown : Row → List (Bytes × Bytes) → Type 0
+EachKnown r given = All (λ (o : Bytes × Bytes). IsSomeAnd (kind_of r o.0) (λ kind. IsOf kind o.1)) given
 
--- the words behind the command's name are in the form of its row
+-- no option is given twice
+abbrev pub EachOnce : List (Bytes × Bytes) → Type 0
+EachOnce given = AllPairs (λ (o p : Bytes × Bytes). o.0 ≢ p.0) given
+
+-- the options with these names are given
+abbrev pub EachThere : List Bytes → List (Bytes × Bytes) → Type 0
+EachThere names given = All (λ name. Contains (map (λ (o : Bytes × Bytes). o.0) given) name) names
+
+-- the options are the command's, each given once, and those that it has to have are there
+pub record AreOptions (r : Row) (given : List (Bytes × Bytes)) : Type 0 where
+  pub known : EachKnown r given
+  pub once : EachOnce given
+  pub required : EachThere r.required given
+
+-- sorted words are in the form of a row
+pub record IsSortedInForm (r : Row) (s : Sorted) : Type 0 where
+  pub whole : s.waiting ≡ None
+  pub others : AreWanted r s.others
+  pub options : AreOptions r s.given
+
+-- the words are UTF-8, and those behind the command's name are in the form of its row
 pub record IsInForm (r : Row) (words : List Bytes) : Type 0 where
   pub utf8 : All IsUtf8 words
-  pub whole : (sorted words).waiting ≡ None
-  pub others : AreWanted r (sorted words).others
-  pub options : AreOptions r (sorted words).given
+  pub sorted : IsSortedInForm r (sorted words)
 
 -- the command that the first word names
 abbrev pub command_of : List Bytes → Option Command
