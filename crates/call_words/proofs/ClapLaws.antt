@@ -12,7 +12,7 @@ use Rattle.clap.specs.declared.builder.action.ArgAction.TheVariants.{Append}
 use Rattle.clap.proofs.TakesLemmas.{leaf_takes}
 use Rattle.call_words.specs.Sorting.{Bytes, Sorted, and_sorted, next_sorted, none_sorted, option_in, other_sorted, sorted}
 use Rattle.call_words.specs.Requests.{value_given}
-use Rattle.call_words.specs.Clap.{words_rule, option_rule, with_rules, app_for, listed}
+use Rattle.call_words.specs.Clap.{words_rule, option_rule, with_rules, app_for}
 use Rattle.call_words.proofs.Words.{dashes, plain_long, plain_short, plain_escape, long_escape, same_name, is_name, other_name, knows, Each, each_split, Given, Others, Once, once_split, none_given, given_last, given_other}
 use Rattle.call_words.proofs.Rows.{row_is, no_row, with_same, with_other, without_none}
 
@@ -91,8 +91,12 @@ and_false : (b : Bool) → (b && false) ≡ false
 and_false true = refl
 and_false false = refl
 
-abbrev single : Option Bytes → Option (List Text)
+abbrev pub single : Option Bytes → Option (List Text)
 single = option_map (λ v. v ∷ [])
+
+abbrev pub listed : List Bytes → Option (List Text)
+listed [] = None
+listed (x ∷ xs) = Some (x ∷ xs)
 
 listed_push : (xs : List Bytes) (v : Bytes) → ◌≡◌ {A = Option (List Text)} (Some (unwrap_or (listed xs) [] ++ v ∷ [])) (listed (xs ++ v ∷ []))
 listed_push [] v = refl

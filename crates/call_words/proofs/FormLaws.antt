@@ -5,19 +5,23 @@ use Rattle.std.specs.List.{find, list_any, All}
 use Rattle.std.specs.Option.{option_map, option_map_or}
 use Rattle.std.specs.Str.{bytes_eq}
 use Rattle.std.proofs.lemmas.Bool.Decides.{nat_tests}
-use Rattle.clap.specs.Matches.{found_of}
-use Rattle.clap.specs.Walk.{all_of, rows_of}
+use Rattle.std.specs.Prelude.{option_and_then, slice_get}
+use Rattle.clap.specs.Matches.{found_of, raw_values}
+use Rattle.clap.specs.Walk.{Row, all_of, first_of, rows_of}
+use Rattle.clap.specs.declared.parser.matches.MatchedArg.{MatchedArg}
 use Rattle.clap.specs.Simple.{matches_of}
 use Rattle.clap.specs.Takes.{takes}
 use Rattle.clap.specs.declared.parser.matches.ArgMatches.{ArgMatches}
-use Rattle.clap.proofs.WalkLemmas.{raw_values-rows}
+use Rattle.clap.proofs.WalkLemmas.{raw_values-rows, first_value-rows}
 use Rattle.call_words.specs.Sorting.{Bytes, Sorted, sorted}
-use Rattle.call_words.specs.Grammar.{Row, AreWanted, EachKnown, IsOf, IsSortedInForm, kind_of, word}
+use Rattle.call_words.specs.Grammar as grammar
+use Rattle.call_words.specs.Grammar.{AreWanted, EachKnown, IsOf, IsSortedInForm, kind_of, word}
+use Rattle.call_words.specs.Requests.{value_given}
 use Rattle.call_words.specs.Clap.{HasMatches, app_for, is_apart, option_names}
 use Rattle.call_words.specs.declared.grammar.Kind.{Kind}
 use Rattle.call_words.specs.declared.grammar.Kind.TheVariants.{File, Number}
 use Rattle.call_words.proofs.Words.{dashes, knows, Each, each_of, each_map, once_of}
-use Rattle.call_words.proofs.ClapLaws.{Right, Holds, taken, found}
+use Rattle.call_words.proofs.ClapLaws.{Right, Holds, listed, single, taken, found}
 
 -- a word of a kind doesn't begin with a hyphen
 no_dash : (kind : Kind) (w : Bytes) → IsOf kind w → dashes w ≡ false
@@ -53,7 +57,25 @@ not_true : (b : Bool) → not b ≡ true → b ≡ false
 not_true true e = absurd (true≢false (sym e))
 not_true false e = refl
 
-module _ (r : Row) (apart : is_apart r ≡ true) where
+-- the values of a name, and the first of them
+all_words : (o : Option MatchedArg) (others : List Bytes) → option_map raw_values o ≡ listed others → option_map_or raw_values o [] ≡ others
+all_words None [] is = refl
+all_words None (x ∷ xs) is = absurd (let e : ◌≡◌ {A = Option (List Bytes)} None (Some (x ∷ xs)) = is in cc)
+all_words (Some a) [] is = absurd (let e : ◌≡◌ {A = Option (List Bytes)} (Some (raw_values a)) None = is in cc)
+all_words (Some a) (x ∷ xs) is = let e : ◌≡◌ {A = Option (List Bytes)} (Some (raw_values a)) (Some (x ∷ xs)) = is in cc
+
+first_all : (name : Bytes) (rows : List Row) → first_of name rows ≡ option_and_then (λ vs. slice_get vs 0) (all_of name rows)
+first_all name rows = go (find (λ (r : Row). bytes_eq r.id name) rows)
+  where
+    go : (o : Option Row) → option_and_then (λ (r : Row). slice_get r.values 0) o ≡ option_and_then (λ vs. slice_get vs 0) (option_map (λ (r : Row). r.values) o)
+    go None = refl
+    go (Some r) = refl
+
+first_single : (o : Option Bytes) → option_and_then (λ vs. slice_get vs 0) (single o) ≡ o
+first_single None = refl
+first_single (Some v) = refl
+
+module _ (r : grammar.Row) (apart : is_apart r ≡ true) where
   abbrev names : List Bytes
   names = option_names r
 
@@ -80,6 +102,8 @@ module _ (r : Row) (apart : is_apart r ≡ true) where
         let holds : Holds r.name names apart_is (sorted words).others (sorted words).given (matches_of (app_for r.name names) words) =
             found r.name names apart_is words (right (sorted words) form) form.whole in
         record {
-          words = raw_values-rows (found_of m) (codes "words") ∙ ap (all_of (codes "words")) is ∙ holds.words;
-          values = λ name known. raw_values-rows (found_of m) name ∙ ap (all_of name) is ∙ holds.values name known;
+          words = all_words _ _ (raw_values-rows (found_of m) (codes "words") ∙ ap (all_of (codes "words")) is ∙ holds.words);
+          values = λ name known.
+              first_value-rows (found_of m) name ∙ ap (first_of name) is ∙ first_all name _
+              ∙ ap (option_and_then (λ vs. slice_get vs 0)) (holds.values name known) ∙ first_single (value_given (sorted words).given name);
         }

@@ -1,14 +1,16 @@
 -- Lists of options and words, place by place.
 use Rattle.std.proofs.lemmas.Bool.{cases_lt}
-use Rattle.std.proofs.Common.{◌≡◌, ◌≢◌, inl, inr, ℕ, ◌+◌, ◌<◌, ◌≤◌, List, [], ◌∷◌, length, map, take, drop, zero, suc, refl, sym, ap, ◌∙◌, subst, arith, slice_index_or, Bool, true, false, cond, Option, Some, None}
+use Rattle.std.proofs.lemmas.List.{map-append}
+use Rattle.std.proofs.Math.Seq.{take-suc}
+use Rattle.std.proofs.Common.{◌≡◌, ◌≢◌, inl, inr, ℕ, ◌+◌, ◌<◌, ◌≤◌, List, [], ◌∷◌, ◌++◌, length, map, take, drop, ap₂, add-one, zero, suc, refl, sym, ap, ◌∙◌, subst, arith, slice_index_or, Bool, true, false, cond, Option, Some, None}
 use Rattle.std.specs.Prelude.{Contains, IsSomeAnd}
 use Rattle.std.specs.List.{All, AllPairs, find}
 use Rattle.std.specs.Option.{option_map}
-use Rattle.std.specs.Str.{bytes_eq}
+use Rattle.std.specs.Str.{IsUtf8, bytes_eq}
 use Rattle.std.specs.Borrow.{Bor}
 use Rattle.clap.proofs.WalkLemmas.{find_here}
 use Rattle.call_words.specs.Sorting.{Bytes}
-use Rattle.call_words.specs.Grammar.{Row, AreWanted, EachKnown, EachOnce, EachThere, IsOf, kind_at, kind_of, word}
+use Rattle.call_words.specs.Grammar.{Row, AreWanted, EachKnown, EachOnce, EachThere, IsNumber, IsOf, kind_at, kind_of, word}
 use Rattle.call_words.specs.Forms.{texts, pairs, option_view}
 use Rattle.call_words.specs.declared.grammar.Kind.{Kind}
 use Rattle.call_words.specs.declared.grammar.OptionForm.{OptionForm}
@@ -202,3 +204,26 @@ more_once given i d lt none before k j e less below same = elim (cases_lt j i) [
 pub first_here : {A : Type 0} (p : A → Bool) (xs : List A) (i : ℕ) (d : A) → i < length xs → p (slice_index_or xs i d) ≡ true → find p (drop i xs) ≡ find p xs
     → Some (slice_index_or xs i d) ≡ find p xs
 first_here p xs i d lt passes same = find_here p xs i (slice_index_or xs i d) lt (any_default xs i d (slice_index_or xs i d) lt) passes same
+
+-- ---- words as texts and as numbers
+
+pub number_at : (words : List (Bor Bytes)) (i : ℕ) (d : Bor Bytes) → i < length words → All IsNumber (texts words) → IsNumber (slice_index_or words i d).now
+number_at words i d lt all = let long = texts_length words in subst IsNumber (text_at words i [] d lt) (all i [] (omega (arith, lt, long)))
+
+pub not_all_utf8 : (words : List Bytes) (i : ℕ) (d : Bytes) → i < length words → (IsUtf8 (slice_index_or words i d) → ⊥) → All IsUtf8 words → ⊥
+not_all_utf8 words i d lt none all = none (all i d lt)
+
+pub text_pushed : (xs ys : List (Bor Bytes)) (x : Bor Bytes) (words : List Bytes) (i : ℕ) (d : Bytes) → i < length words → ys ≡ xs ++ x ∷ [] → x.now ≡ slice_index_or words i d
+    → texts xs ≡ take i words → texts ys ≡ take (i + 1) words
+text_pushed xs ys x words i d lt pushed is before =
+    ap texts pushed ∙ map-append (λ (s : Bor Bytes). s.now) xs (x ∷ []) ∙ ap₂ (λ a b. a ++ b ∷ []) before is
+    ∙ sym (take-suc words i d lt) ∙ ap (λ n. take n words) (sym (add-one i))
+
+pub utf8_pushed : (words : List Bytes) (i : ℕ) (d : Bytes) → i < length words → IsUtf8 (slice_index_or words i d) → ((k : ℕ) (e : Bytes) → k < i → IsUtf8 (slice_index_or words k e))
+    → (k : ℕ) (e : Bytes) → k < i + 1 → IsUtf8 (slice_index_or words k e)
+utf8_pushed words i d lt here before k e below = elim (cases_lt k i) [
+  | inl less ↦ before k e less
+  | inr not_less ↦
+      let same : i ≡ k = omega (arith, below, not_less) in
+      subst (λ n. IsUtf8 (slice_index_or words n e)) same (subst IsUtf8 (any_default words i d e lt) here)
+]

@@ -1,9 +1,9 @@
 -- What `clap` is told of a row, and what it finds.
 use Rattle.std.specs.Prelude.{◌≡◌, ◌∷◌, List, [], map, Bool, true, Option, None, Some, codes, not}
 use Rattle.std.specs.List.{list_any}
-use Rattle.std.specs.Option.{option_map}
+use Rattle.std.specs.Option.{option_map_or}
 use Rattle.std.specs.Str.{bytes_eq}
-use Rattle.clap.specs.Matches.{found_of, matched_of, raw_values}
+use Rattle.clap.specs.Matches.{first_value, found_of, matched_of, raw_values}
 use Rattle.clap.specs.Walk.{Rule}
 use Rattle.clap.specs.Simple.{App, app_of, new_rule, new_shape}
 use Rattle.clap.specs.declared.builder.action.ArgAction.TheVariants.{Append}
@@ -38,14 +38,14 @@ is_apart r = not (list_any (λ name. bytes_eq name (codes "words")) (option_name
 abbrev pub IsCommandFor : Row → Command → Type 0
 IsCommandFor r command = app_of command ≡ app_for r.name (option_names r)
 
-abbrev pub found_for : ArgMatches → Bytes → Option (List Bytes)
-found_for m name = option_map raw_values (matched_of (found_of m) name)
+-- the values that were found of the argument of all other words
+abbrev pub others_found : ArgMatches → List Bytes
+others_found m = option_map_or raw_values (matched_of (found_of m) (codes "words")) []
 
-abbrev pub listed : List Bytes → Option (List Bytes)
-listed [] = None
-listed (x ∷ xs) = Some (x ∷ xs)
+abbrev pub value_found : ArgMatches → Bytes → Option Bytes
+value_found m = first_value (found_of m)
 
 -- what was found is what was sorted, of a row with these options
 pub record HasMatches (r : Row) (s : Sorted) (m : ArgMatches) : Type 0 where
-  pub words : found_for m (codes "words") ≡ listed s.others
-  pub values : (name : Bytes) → list_any (λ other. bytes_eq other name) (option_names r) ≡ true → found_for m name ≡ option_map (λ v. v ∷ []) (value_given s.given name)
+  pub words : others_found m ≡ s.others
+  pub values : (name : Bytes) → list_any (λ other. bytes_eq other name) (option_names r) ≡ true → value_found m name ≡ value_given s.given name

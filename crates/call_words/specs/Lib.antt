@@ -1,3 +1,4 @@
+pub mod Arguments
 pub mod Clap
 pub mod Forms
 pub mod Grammar

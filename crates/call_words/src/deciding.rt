@@ -1,5 +1,5 @@
 //! Which words are in the form of a command's row.
-ghost use Rattle.std.specs.Prelude.{◌≡◌, ◌↔◌, IsTrue, IsSomeAnd, Contains, MatchOption, map};
+ghost use Rattle.std.specs.Prelude.{◌≡◌, ◌↔◌, IsTrue, IsSomeAnd, Contains, map};
 ghost use Rattle.std.specs.Str.{bytes_eq};
 ghost use Rattle.call_words.specs.Grammar as spec;
 ghost use Rattle.call_words.specs.Grammar.{IsFileName, IsNumber, IsOf, AreWanted, AreOptions, IsSortedInForm, decimal_from};
@@ -130,11 +130,19 @@ fn is_of(kind: Kind, word: &str) -> bool
 {
     match kind {
         Kind::File => is_file_name(word),
-        Kind::Number(least, greatest) => match read_number(word.as_bytes()) {
-            Some(number) => least <= number && number <= greatest,
-            None => false,
-        },
+        Kind::Number(least, greatest) => is_number_within(least, greatest, word.as_bytes()),
     }
+}
+
+// Whether the word is a number from the first to the second.
+fn is_number_within(least: u64, greatest: u64, word: &[u8]) -> bool
+    ensures { IsTrue result ↔ spec.IsNumberWithin least greatest word.now }
+{
+    if !is_number(word) {
+        return false;
+    }
+    let number = decimal(word);
+    least <= number && number <= greatest
 }
 
 // Whether the word is the name of a file.
@@ -145,19 +153,29 @@ fn is_file_name(word: &str) -> bool
     !bytes.is_empty() && bytes[0] != b'-'
 }
 
-/// The value of one to ten decimal digits, `None` where the word is another.
-pub(crate) fn read_number(word: &[u8]) -> Option<u64>
-    ensures { MatchOption result (IsNumber word.now → ⊥) (λ number. IsNumber word.now × (number ≡ decimal_from 0 word.now)) }
+// Whether the word is one to ten decimal digits.
+fn is_number(word: &[u8]) -> bool
+    ensures { IsTrue result ↔ IsNumber word.now }
 {
     if word.is_empty() || word.len() > 10 {
-        return None;
+        return false;
     }
-    let mut value: u64 = 0;
     for byte in word {
         if !byte.is_ascii_digit() {
-            return None;
+            return false;
         }
+    }
+    true
+}
+
+/// The value of one to ten decimal digits.
+pub(crate) fn decimal(digits: &[u8]) -> u64
+    requires { IsNumber digits.now }
+    ensures { result ≡ decimal_from 0 digits.now }
+{
+    let mut value: u64 = 0;
+    for byte in digits {
         value = 10 * value + u64::from(*byte - b'0');
     }
-    Some(value)
+    value
 }
