@@ -1,20 +1,19 @@
 -- `clap` takes words in the form of a row, and its matches are what sorting gives.
-use Rattle.std.proofs.Common.{◌≡◌, ◌||◌, ◌&&◌, ◌+◌, ℕ, Bool, true, false, cond, not, zero, suc, List, [], ◌∷◌, ◌++◌, map, drop, length, refl, sym, ap, ap₂, ◌∙◌, subst, Option, Some, None, true≢false, arith, codes, inl, inr, ◌⊎◌}
+use Rattle.std.proofs.Common.{◌≡◌, ◌||◌, ◌&&◌, ◌+◌, ℕ, Bool, true, false, cond, not, List, [], ◌∷◌, ◌++◌, map, drop, refl, sym, ap, ap₂, ◌∙◌, subst, Option, Some, None, true≢false, arith, codes}
 use Rattle.std.specs.Prelude.{is_some}
 use Rattle.std.specs.List.{find, fold, list_all, list_any, count_by}
 use Rattle.std.specs.Option.{option_map, option_map_or, unwrap_or}
 use Rattle.std.specs.Str.{bytes_eq}
 use Rattle.clap.specs.Lexer.{long_of}
-use Rattle.clap.specs.Walk.{Held, Row, Rule, Text, Waiting, Walk, idle, option, positional, all_of, has_row, used, without, settled_rows, finished, rows_after, walk, walk_from, walked, with_default, arg_by_id, arg_by_index, arg_by_long, nothing_held, is_early_multiple}
-use Rattle.clap.specs.Simple.{App, Shape, built, filled, filled_from, is_buildable, is_ready_leaf, is_simple, matches_of, names_of, new_app, new_rule, new_shape, with_index, with_rule, is_ready, has_simple_rules, is_in_order}
+use Rattle.clap.specs.Walk.{Held, Row, Rule, Text, Waiting, Walk, idle, option, positional, all_of, has_row, used, without, settled_rows, finished, rows_after, walk, walk_from, walked, with_default, arg_by_id, arg_by_long, nothing_held, is_early_multiple}
+use Rattle.clap.specs.Simple.{App, Shape, built, filled, filled_from, is_buildable, is_ready_leaf, is_simple, matches_of, names_of, new_shape, with_index, is_ready}
 use Rattle.clap.specs.Takes.{takes, built_takes, level_passes, settle_passes, turn_passes, walk_passes, is_valid, default_passes, is_given}
-use Rattle.clap.specs.declared.builder.action.ArgAction.TheVariants.{Append}
 use Rattle.clap.proofs.TakesLemmas.{leaf_takes}
 use Rattle.call_words.specs.Sorting.{Bytes, Sorted, and_sorted, next_sorted, none_sorted, option_in, other_sorted, sorted}
 use Rattle.call_words.specs.Requests.{value_given}
-use Rattle.call_words.specs.Clap.{words_rule, option_rule, with_rules, app_for}
+use Rattle.call_words.specs.Clap.{words_rule, option_rule, app_for}
 use Rattle.call_words.proofs.Words.{dashes, plain_long, plain_short, plain_escape, long_escape, same_name, is_name, other_name, knows, Each, each_split, Given, Others, Once, once_split, none_given, given_last, given_other}
-use Rattle.call_words.proofs.Rows.{row_is, no_row, with_same, with_other, without_none}
+use Rattle.call_words.proofs.Rows.{no_row, with_same, with_other, without_none}
 
 -- ---- the command as it is built
 
@@ -272,15 +271,13 @@ module _ (name : Bytes) (names : List Bytes) (apart : knows names (codes "words"
       → long_of v ≡ o → Right (other_sorted s v o) → (turn_passes S [] (at rows p w) v ≡ true) × Stands (other_sorted s v o) (walked C [] (at rows p w) v)
   free_turn s rows p w v None none fr settles h is r =
       let plain : dashes v ≡ false = (each_split _ s.others v r.others).1 in
-      let next = record s { others = s.others ++ v ∷ [] } in
-      (
+      let next = record s { others = s.others ++ v ∷ [] } in (
         other_passes_here rows p w v fr plain settles,
         subst (Stands next) (sym (other_walked rows p w v fr plain))
-        (free (settled_rows C p rows) (Some (codes "words", v ∷ [])) positional none tt refl (holds_word s.others s.given (settled_rows C p rows) v h)),
+            (free (settled_rows C p rows) (Some (codes "words", v ∷ [])) positional none tt refl (holds_word s.others s.given (settled_rows C p rows) v h)),
       )
   free_turn s rows p w v (Some (n, None)) none fr settles h is r =
-      let next = record s { waiting = Some n } in
-      (
+      let next = record s { waiting = Some n } in (
         name_passes rows p w v n fr is r.waiting settles,
         subst (Stands next) (sym (name_walked rows p w v n fr is r.waiting)) (waits (settled_rows C p rows) n refl h),
       )
@@ -288,11 +285,10 @@ module _ (name : Bytes) (names : List Bytes) (apart : knows names (codes "words"
       let last = (each_split _ s.given (n, x) r.given).1 in
       let new = (once_split s.given (n, x) r.once).1 in
       let next = record s { given = s.given ++ (n, x) ∷ [] } in
-      let no = no_row_yet s.others s.given (settled_rows C p rows) n x h last.0 new in
-      (
+      let no = no_row_yet s.others s.given (settled_rows C p rows) n x h last.0 new in (
         with_passes rows p w v n x fr is last.0 settles no,
         subst (Stands next) (sym (with_walked rows p w v n x fr is last.0))
-        (free (used (option_built n) (x ∷ []) (settled_rows C p rows)) None idle none tt refl (holds_option s.others s.given (settled_rows C p rows) n x h last.0 new)),
+            (free (used (option_built n) (x ∷ []) (settled_rows C p rows)) None idle none tt refl (holds_option s.others s.given (settled_rows C p rows) n x h last.0 new)),
       )
 
   waiting_turn : (s : Sorted) (rows : List Row) (n v : Bytes) → Holds s.others s.given rows → Right (next_sorted s v (Some n))
@@ -302,12 +298,11 @@ module _ (name : Bytes) (names : List Bytes) (apart : knows names (codes "words"
       let new = (once_split s.given (n, v) r.once).1 in
       let next = record s { given = s.given ++ (n, v) ∷ []; waiting = None } in
       let no = no_row_yet s.others s.given rows n v h last.0 new in
-      let holds = holds_option s.others s.given rows n v h last.0 new in
-      (
+      let holds = holds_option s.others s.given rows n v h last.0 new in (
         value_passes_here rows n v last.1,
         subst (Stands next) (sym (value_walked rows n v last.0 last.1))
-        (free rows (Some (n, v ∷ [])) idle refl tt (option_settles rows n v last.0 no)
-        (subst (Holds next.others next.given) (sym (option_settled rows n v last.0)) holds)),
+            (free rows (Some (n, v ∷ [])) idle refl tt (option_settles rows n v last.0 no)
+            (subst (Holds next.others next.given) (sym (option_settled rows n v last.0)) holds)),
       )
 
   turn : (s : Sorted) (w : Walk) (v : Bytes) → Stands s w → Right (and_sorted s v) → (turn_passes S [] w v ≡ true) × Stands (and_sorted s v) (walked C [] w v)

@@ -1,17 +1,20 @@
 -- Lists of options and words, place by place.
 use Rattle.std.proofs.lemmas.Bool.{cases_lt}
-use Rattle.std.proofs.lemmas.List.{map-append}
+use Rattle.std.proofs.lemmas.List.{map-append, take_all}
 use Rattle.std.proofs.Math.Seq.{take-suc}
-use Rattle.std.proofs.Common.{◌≡◌, ◌≢◌, inl, inr, ℕ, ◌+◌, ◌<◌, ◌≤◌, List, [], ◌∷◌, ◌++◌, length, map, take, drop, ap₂, add-one, zero, suc, refl, sym, ap, ◌∙◌, subst, arith, slice_index_or, Bool, true, false, cond, Option, Some, None}
+use Rattle.std.proofs.Common.{◌≡◌, ◌≢◌, inl, inr, ℕ, ◌+◌, ◌-◌, ◌<◌, ◌≤◌, List, [], ◌∷◌, ◌++◌, length, map, take, drop, ap₂, add-one, zero, suc, refl, sym, ap, ◌∙◌, subst, arith, slice_index_or, Bool, true, false, cond, Option, Some}
 use Rattle.std.specs.Prelude.{Contains, IsSomeAnd}
-use Rattle.std.specs.List.{All, AllPairs, find}
+use Rattle.std.specs.List.{All, find}
 use Rattle.std.specs.Option.{option_map}
 use Rattle.std.specs.Str.{IsUtf8, bytes_eq}
 use Rattle.std.specs.Borrow.{Bor}
 use Rattle.clap.proofs.WalkLemmas.{find_here}
 use Rattle.call_words.specs.Sorting.{Bytes}
-use Rattle.call_words.specs.Grammar.{Row, AreWanted, EachKnown, EachOnce, EachThere, IsNumber, IsOf, kind_at, kind_of, word}
+use Rattle.call_words.specs.Grammar.{Row, AreWanted, EachKnown, EachOnce, EachThere, IsNumber, IsOf, kind_at, kind_of}
 use Rattle.call_words.specs.Forms.{texts, pairs, option_view}
+use Rattle.call_words.specs.Requests.{CanAsk}
+use Rattle.call_words.specs.declared.grammar.Command.{Command}
+use Rattle.call_words.specs.declared.grammar.Command.TheVariants.{Slice}
 use Rattle.call_words.specs.declared.grammar.Kind.{Kind}
 use Rattle.call_words.specs.declared.grammar.OptionForm.{OptionForm}
 
@@ -161,7 +164,7 @@ too_few r others few wanted =
 
 -- ---- one more turn
 
-any_default : {A : Type 0} (xs : List A) (k : ℕ) (d e : A) → k < length xs → slice_index_or xs k d ≡ slice_index_or xs k e
+pub any_default : {A : Type 0} (xs : List A) (k : ℕ) (d e : A) → k < length xs → slice_index_or xs k d ≡ slice_index_or xs k e
 any_default [] k d e lt = absurd (omega arith)
 any_default (x ∷ xs) zero d e lt = refl
 any_default (x ∷ xs) (suc k) d e lt = any_default xs k d e (omega arith)
@@ -227,3 +230,13 @@ utf8_pushed words i d lt here before k e below = elim (cases_lt k i) [
       let same : i ≡ k = omega (arith, below, not_less) in
       subst (λ n. IsUtf8 (slice_index_or words n e)) same (subst IsUtf8 (any_default words i d e lt) here)
 ]
+
+rest_numbers : (others : List (Bor Bytes)) → All IsNumber (drop 1 (texts others)) → All IsNumber (texts (take (length others - 1) (drop 1 others)))
+rest_numbers [] all = λ k d lt. absurd (omega (arith, lt))
+rest_numbers (o ∷ os) all =
+    let whole : take (length (o ∷ os) - 1) os ≡ os = take_all (length (o ∷ os) - 1) os (omega arith) in
+    subst (λ rest. All IsNumber (texts rest)) (sym whole) all
+
+-- behind the file stand numbers of lines
+pub line_numbers : (c : Command) (others : List (Bor Bytes)) (value : Bytes → Option Bytes) → CanAsk c (texts others) value → All IsNumber (texts (take (length others - 1) (drop 1 others)))
+line_numbers Slice others value can = rest_numbers others can.1

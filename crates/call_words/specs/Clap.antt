@@ -1,5 +1,5 @@
 -- What `clap` is told of a row, and what it finds.
-use Rattle.std.specs.Prelude.{◌≡◌, ◌∷◌, List, [], map, Bool, true, Option, None, Some, codes, not}
+use Rattle.std.specs.Prelude.{◌≡◌, ◌∷◌, List, [], map, Bool, true, Option, Some, codes, not}
 use Rattle.std.specs.List.{list_any}
 use Rattle.std.specs.Option.{option_map_or}
 use Rattle.std.specs.Str.{bytes_eq}
@@ -10,9 +10,8 @@ use Rattle.clap.specs.declared.builder.action.ArgAction.TheVariants.{Append}
 use Rattle.clap.specs.declared.builder.command.Command.{Command}
 use Rattle.clap.specs.declared.parser.matches.ArgMatches.{ArgMatches}
 use Rattle.call_words.specs.Sorting.{Bytes, Sorted}
-use Rattle.call_words.specs.Grammar.{Row, kind_of}
+use Rattle.call_words.specs.Grammar.{Row}
 use Rattle.call_words.specs.Requests.{value_given}
-use Rattle.std.specs.Prelude.{is_some}
 
 -- the argument of all other words
 abbrev pub words_rule : Rule

@@ -1,5 +1,5 @@
 -- The commands as a table, and which words are in the form of a row.
-use Rattle.std.specs.Prelude.{◌≡◌, ◌≢◌, ℕ, ◌+◌, ◌-◌, ◌*◌, ◌<◌, ◌≤◌, List, [], ◌∷◌, length, map, drop, min, Bool, true, false, if◌then◌else◌, Option, None, Some, Contains, IsSomeAnd, All, AllPairs, codes, slice_get, slice_index, slice_index_or}
+use Rattle.std.specs.Prelude.{◌≡◌, ◌≢◌, ℕ, ◌+◌, ◌-◌, ◌*◌, ◌<◌, ◌≤◌, List, [], ◌∷◌, length, map, min, Bool, true, if◌then◌else◌, Option, None, Contains, IsSomeAnd, All, AllPairs, codes, slice_get, slice_index, slice_index_or}
 use Rattle.std.specs.List.{find}
 use Rattle.std.specs.Option.{option_map}
 use Rattle.std.specs.Char.{IsAsciiDigit}

@@ -1,10 +1,10 @@
 -- What words in the grammar ask for.
-use Rattle.std.specs.Prelude.{◌≡◌, ℕ, ◌<◌, List, [], map, drop, length, All, Option, None, Some, IfSome, codes}
+use Rattle.std.specs.Prelude.{◌≡◌, ℕ, ◌<◌, List, [], map, drop, length, All, Option, Some, IfSome, codes}
 use Rattle.std.specs.List.{find}
 use Rattle.std.specs.Option.{option_map, option_map_or}
 use Rattle.std.specs.Str.{bytes_eq}
 use Rattle.std.specs.String.{string_bytes}
-use Rattle.call_words.specs.Sorting.{Bytes, Sorted, sorted}
+use Rattle.call_words.specs.Sorting.{Bytes, sorted}
 use Rattle.call_words.specs.Grammar.{word, decimal_from, command_of, IsInGrammar, IsNumber}
 use Rattle.call_words.specs.declared.grammar.Command.{Command}
 use Rattle.call_words.specs.declared.grammar.Command.TheVariants.{Slice}
@@ -48,3 +48,17 @@ CanAsk Slice others value = (0 < length others) × All IsNumber (drop 1 others) 
 pub record IsRead (words : List Bytes) (r : Request) : Type 0 where
   pub in_grammar : IsInGrammar words
   pub asks_for : asked words ≡ Some (asked_by r)
+
+-- the file and the lines of what is asked for
+abbrev pub file_in : Asked → Bytes
+file_in (Asked.slice file lines workers) = file
+
+abbrev pub lines_in : Asked → List ℕ
+lines_in (Asked.slice file lines workers) = lines
+
+-- and of the words: of words outside the grammar none
+abbrev pub file_of : List Bytes → Bytes
+file_of words = option_map_or file_in (asked words) []
+
+abbrev pub lines_of : List Bytes → List ℕ
+lines_of words = option_map_or lines_in (asked words) []

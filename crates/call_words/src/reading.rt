@@ -12,7 +12,11 @@ use clap::{Arg, ArgAction, ArgMatches, Command, Error};
 use std::alloc::{AllocError, Global};
 
 /// What `clap` finds in words in the form of a row. Err: no memory was left.
-pub(crate) fn read<'a>(alloc: Global, form: &Form, words: &'a [&'a str]) -> Result<ArgMatches<'a>, Error>
+pub(crate) fn read<'a>(
+    alloc: Global,
+    form: &Form,
+    words: &'a [&'a str],
+) -> Result<ArgMatches<'a>, Error>
     requires form { IsInForm (view form.now) (texts words.now) }
     requires apart { is_apart (view form.now) ≡ true }
     ensures found { IfOk result (λ m. HasMatches (view form.now) (sorted (texts words.entry.now)) m) }

@@ -115,7 +115,11 @@ fn fault_of(error: &Error) -> WordsFault
 }
 
 // The request that a command's other words and options make.
-fn request_of(alloc: Global, command: Command, matches: &ArgMatches<'_>) -> Result<Request, AllocError>
+fn request_of(
+    alloc: Global,
+    command: Command,
+    matches: &ArgMatches<'_>,
+) -> Result<Request, AllocError>
     requires { CanAsk command (others_found matches.now) (value_found matches.now) }
     ensures { IfOk result (λ r. asked_by r ≡ asks command (others_found matches.now) (value_found matches.now)) }
 {

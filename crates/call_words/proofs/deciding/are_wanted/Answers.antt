@@ -1,5 +1,4 @@
-use Rattle.std.proofs.Common.{◌≡◌, ◌∙◌, refl, sym, ap, arith}
-use Rattle.std.proofs.lemmas.Bool.{false≢true}
+use Rattle.std.proofs.Common.{refl, arith}
 use Rattle.call_words.proofs.Places.{all_wanted}
 use Rattle.call_words.specs.Forms.{view}
 use Rattle.call_words.proofs.deciding.are_wanted.Goals as goal

@@ -1,4 +1,4 @@
-use Rattle.std.proofs.Common.{◌≡◌, ◌∙◌, refl, sym, ap, arith}
+use Rattle.std.proofs.Common.{◌∙◌, refl, sym, arith}
 use Rattle.std.proofs.lemmas.Bool.{false≢true}
 use Rattle.call_words.proofs.Places.{all_there, more_there, not_there}
 use Rattle.std.specs.Prelude.{Contains, map}
@@ -10,7 +10,7 @@ pub returns-then-not-is_given : goal.returns-then-not-is_given
 returns-then-not-is_given c = (
   λ t. absurd (false≢true t),
   λ there. absurd (not_there c.args.names.now (pairs c.args.given.now) c.loop-name.name-index _ c.loop-name-test.true
-  (λ has. false≢true (sym c.if-not-is_given.true ∙ c.is_given.ensures.1 has)) there),
+      (λ has. false≢true (sym c.if-not-is_given.true ∙ c.is_given.ensures.1 has)) there),
 )
 
 pub loop-name-preserved : goal.loop-name-preserved

@@ -1,4 +1,4 @@
-use Rattle.std.proofs.Common.{◌≡◌, ◌∙◌, refl, sym, ap, arith}
+use Rattle.std.proofs.Common.{refl, arith}
 use Rattle.std.proofs.lemmas.Bool.{false≢true}
 use Rattle.call_words.proofs.Places.{given_here, given_nowhere}
 use Rattle.call_words.proofs.deciding.is_given.Goals as goal

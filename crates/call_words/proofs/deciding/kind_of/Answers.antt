@@ -1,5 +1,4 @@
-use Rattle.std.proofs.Common.{◌≡◌, ◌∙◌, refl, sym, ap, arith}
-use Rattle.std.proofs.lemmas.Bool.{false≢true}
+use Rattle.std.proofs.Common.{◌∙◌, sym, ap}
 use Rattle.call_words.proofs.Places.{kind_found, first_here}
 use Rattle.std.proofs.lemmas.List.{drop_all}
 use Rattle.std.specs.List.{find}

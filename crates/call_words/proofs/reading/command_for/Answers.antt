@@ -1,6 +1,5 @@
-use Rattle.std.proofs.Common.{rules, ◌≡◌}
+use Rattle.std.proofs.Common.{rules}
 use Rattle.clap.specs.Words.{app_of, rule_of}
-use Rattle.call_words.specs.Clap.{option_rule}
 use Rattle.call_words.proofs.Commands.{option_added, all_added}
 use Rattle.call_words.proofs.reading.command_for.Goals as goal
 

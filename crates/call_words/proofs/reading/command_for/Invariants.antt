@@ -1,5 +1,4 @@
 use Rattle.std.proofs.Common.{◌≡◌, ◌∷◌, map, take}
-use Rattle.std.specs.Prelude.{false}
 use Rattle.clap.specs.Words.{app_of}
 use Rattle.call_words.specs.Clap.{words_rule, option_rule, with_rules}
 use Rattle.call_words.specs.declared.grammar.OptionForm.{OptionForm}

@@ -1,4 +1,4 @@
-use Rattle.std.proofs.Common.{◌≡◌, ◌∙◌, ap, sym, subst, arith}
+use Rattle.std.proofs.Common.{◌∙◌, sym, subst}
 use Rattle.std.specs.Str.{IsUtf8}
 use Rattle.call_words.proofs.Places.{not_all_utf8, text_pushed, utf8_pushed}
 use Rattle.call_words.proofs.request.texts_of.Goals as goal
