@@ -75,11 +75,9 @@ pub record Promises (words : List Bytes) (shelf : ShelfSeen) (out err : SinkSeen
   pub outcome : Outcome words shelf out err answer
   pub tells : Tells err.faults err.faults' err.written err.written' (file_of words) (lines_of words) answer
 
--- what holds of a call of the slicer holds but for its line of a call of the program, which may have ended before it, with nothing done
-abbrev pub CallsKeepPromises : Type 1
-CallsKeepPromises = {F O E : Type 0} (faults long_files : F → ℕ) (contents : F → Told) (never_fails : F → Type 0)
-    (out_faults : O → ℕ) (written : O → Option Bytes) (out_takes : O → ℕ → Type 0)
-    (err_faults : E → ℕ) (told : E → Option Bytes) (err_takes : E → ℕ → Type 0)
+-- what holds of a call of the slicer holds but for its line of a call of the program, which may have ended before it, with nothing done; of a shelf and sinks that tell these things
+abbrev pub CallsKeepPromises : {F O E : Type 0} → (F → ℕ) → (F → ℕ) → (F → Told) → (F → Type 0) → (O → ℕ) → (O → Option Bytes) → (O → ℕ → Type 0) → (E → ℕ) → (E → Option Bytes) → (E → ℕ → Type 0) → Type 0
+CallsKeepPromises {F} {O} {E} faults long_files contents never_fails out_faults written out_takes err_faults told err_takes =
     (words : List Bytes) (shelf shelf' : F) (out out' : O) (err err' : E) (ended : Option Status)
     → IfSome ended (Promises words (shelf_seen faults long_files contents never_fails shelf shelf') (sink_seen out_faults written out_takes out out') (sink_seen err_faults told err_takes err err'))
     → (ended ≡ None → (shelf' ≡ shelf) × (out' ≡ out) × (err' ≡ err))

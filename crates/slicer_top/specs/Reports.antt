@@ -1,5 +1,5 @@
 -- Why a file gives no slice, and how that is told.
-use Rattle.std.specs.Prelude.{◌≡◌, ◌⊎◌, ℕ, ◌≤◌, List, length, Option, Some, IsSome}
+use Rattle.std.specs.Prelude.{◌≡◌, ◌⊎◌, ℕ, ◌≤◌, List, Contains, length, Option, Some, IsSome}
 use Rattle.edge_io.specs.Contents.{Told, Lacks, HoldsMoreThan}
 use Rattle.edge_io.specs.Count.{Rose}
 use Rattle.edge_io.specs.Written.{Gains}
@@ -50,6 +50,18 @@ module _ (told : Told) (file : Bytes) (at : List ℕ) (faults faults' long_files
   IsCause (NoStart line) = IsShown told file at (NoStart line)
   IsCause TooMany = IsShown told file at TooMany
   IsCause NoMemory = Unit {0}
+
+-- a line without a statement that is told is one of those that were asked for
+abbrev pub IsAmong : List ℕ → Refusal → Type 0
+IsAmong lines (NoStart l) = Contains lines l
+IsAmong lines Unreadable = Unit {0}
+IsAmong lines TooLong = Unit {0}
+IsAmong lines (Lex fault) = Unit {0}
+IsAmong lines (Parse fault) = Unit {0}
+IsAmong lines (Check fault) = Unit {0}
+IsAmong lines (NotYet first) = Unit {0}
+IsAmong lines TooMany = Unit {0}
+IsAmong lines NoMemory = Unit {0}
 
 -- the status of a refusal
 abbrev pub lex_status : LexFault → Status

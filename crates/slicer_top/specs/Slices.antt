@@ -47,22 +47,28 @@ pub record StartsSome (text : Bytes) (lines : List ℕ) : Type 0 where
 abbrev pub StartsNone : Bytes → List ℕ → Type 0
 StartsNone text lines = (p : Program) → HasBuilt text p → StartOn p lines → ⊥
 
--- what is written is the slice of the text's program at the line, which is a text again and gives the same values
+-- what is written is the slice of a program at a line, on which a statement starts; it is a text again and gives the same values
+pub record IsSliceAt (p : Program) (line : ℕ) (written : Bytes) : Type 0 where
+  pub starts : HasStart p line
+  pub slice : IsSlice p line written
+  pub faithful : IsFaithful p line written
+
+-- it is the slice of the text's program
 pub record IsSliceOf (text : Bytes) (line : ℕ) (written : Bytes) : Type 0 where
   pub program : Program
   pub built : HasBuilt text program
-  pub starts : HasStart program line
-  pub slice : IsSlice program line written
-  pub faithful : IsFaithful program line written
+  pub is : IsSliceAt program line written
 
 abbrev pub text_at : List Bytes → ℕ → Bytes
 text_at texts i = slice_index_or texts i []
 
--- the texts are the slices at the lines, in their order; the lines are at most 64
+-- the texts are the slices of the text's program at the lines, in their order; the lines are at most 64
 pub record AreSlices (text : Bytes) (lines : List ℕ) (texts : List Bytes) : Type 0 where
+  pub program : Program
+  pub built : HasBuilt text program
   pub few : length lines ≤ 64
   pub as_many : length texts ≡ length lines
-  pub each : (i : ℕ) → i < length lines → IsSliceOf text (line_at lines i) (text_at texts i)
+  pub each : (i : ℕ) → i < length lines → IsSliceAt program (line_at lines i) (text_at texts i)
 
 -- texts one behind the other
 abbrev pub joined : List Bytes → Bytes

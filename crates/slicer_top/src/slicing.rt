@@ -5,7 +5,7 @@ ghost use Rattle.slice_engine.specs.Slice.{HasStart};
 ghost use Rattle.slicer_top.specs.Criteria.{AreCriteria, IsCriteriaFault};
 ghost use Rattle.slicer_top.specs.Files.{OfFile};
 ghost use Rattle.slicer_top.specs.Slices.{HasBuilt, AreSlices};
-ghost use Rattle.slicer_top.specs.Reports.{IsReason, IsCause};
+ghost use Rattle.slicer_top.specs.Reports.{IsReason, IsAmong, IsCause};
 
 use crate::refusal::Refusal;
 use c_tree::Program;
@@ -32,6 +32,7 @@ pub(crate) fn slice_file<F: Shelf>(
         (λ text. (length text ≤ 1048576) × AreSlices text lines.now texts.items)) }
     ensures err { IfErr result (IsCause (F.contents shelf.old) file.now lines.now
         (F.faults shelf.old) (F.faults shelf.new) (F.long_files shelf.old) (F.long_files shelf.new)) }
+    ensures among { IfErr result (IsAmong lines.now) }
     ensures no_fault { F.never_fails shelf.old → F.faults shelf.new ≡ F.faults shelf.old }
     ensures missing { F.never_fails shelf.old → IfErr result (λ refusal. refusal ≡ Refusal.Unreadable
         → Lacks (F.contents shelf.old) file.now) }
@@ -43,7 +44,7 @@ pub(crate) fn slice_file<F: Shelf>(
 // The texts of the slices at these lines, or why this text gives none.
 fn slices_of(alloc: Global, text: &[u8], lines: &[u64]) -> Result<Vec<Text>, Refusal>
     requires { length text.now ≤ 1048576 }
-    ensures ok { IfOk result (AreSlices text.now lines.now) }
+    ensures ok { IfOk result (λ texts. AreSlices text.now lines.now texts.items) }
     ensures err { IfErr result (IsReason text.now lines.now) }
 {
     let program = built(alloc, text)?;
