@@ -31,7 +31,7 @@ module _ (p : Program) (lines : List ℕ) where
     each = λ i c lt. elim (cases_lt i many) [
       | inl less ↦
           let long = first.as_many in
-          ap (λ (d : Criterion). d.line) (get_or_append_left found (x ∷ []) i c (omega (arith, less, long))) ∙ first.each i c less
+          ap (λ (d : Criterion). d.line) (get_or_append_left found (x ∷ []) c i (omega (arith, less, long))) ∙ first.each i c less
       | inr not_less ↦
           let same : i ≡ many = omega (arith, lt, not_less) in
           ap (λ (d : Criterion). d.line) (ap (λ n. slice_index_or (found ++ x ∷ []) n c) same ∙ get_or_at found x [] c many first.as_many) ∙ line ∙ ap (line_at lines) (sym same)

@@ -340,8 +340,29 @@ calls_keep faults long_files contents never_fails out_faults written out_takes e
 
 -- ---- a request for slices
 
-pub file_is : (words : List Bytes) (file : Bytes) (asked_lines : List ℕ) (workers : ℕ) → asked words ≡ Some (Asked.slice file asked_lines workers) → file ≡ file_of words
-file_is words file asked_lines workers e = sym (ap (λ o. option_map_or file_in o []) e)
+pub file_is : (words : List Bytes) (a : Asked) → asked words ≡ Some a → file_in a ≡ file_of words
+file_is words a e = sym (ap (λ o. option_map_or file_in o []) e)
 
-pub lines_are : (words : List Bytes) (file : Bytes) (asked_lines : List ℕ) (workers : ℕ) → asked words ≡ Some (Asked.slice file asked_lines workers) → asked_lines ≡ lines_of words
-lines_are words file asked_lines workers e = sym (ap (λ o. option_map_or lines_in o []) e)
+pub lines_are : (words : List Bytes) (a : Asked) → asked words ≡ Some a → lines_in a ≡ lines_of words
+lines_are words a e = sym (ap (λ o. option_map_or lines_in o []) e)
+
+module _ (words : List Bytes) (shelf : ShelfSeen) (out err : SinkSeen) (answer : Status) (file : Bytes) (ls : List ℕ) (g : IsInGrammar words) (is_file : file ≡ file_of words) (are_lines : ls ≡ lines_of words) where
+  pub written_for : (made put : List Bytes) → put ≡ made → OfFile shelf.contents file (λ text. (length text ≤ 1048576) × AreSlices text ls made)
+      → shelf.contents' ≡ shelf.contents → (shelf.never_fails → shelf.faults' ≡ shelf.faults) → Wrote put out err answer → Promises words shelf out err answer
+  written_for made put same of contents no_fault wrote =
+      written_promised words shelf out err answer made g
+      (subst (λ n. OfFile shelf.contents n (λ text. (length text ≤ 1048576) × AreSlices text (lines_of words) made)) is_file
+      (subst (λ l. OfFile shelf.contents file (λ text. (length text ≤ 1048576) × AreSlices text l made)) are_lines of))
+      contents no_fault (subst (λ ts. Wrote ts out err answer) same wrote)
+
+  pub refused_for : (r : Refusal) → IsCause shelf.contents file ls shelf.faults shelf.faults' shelf.long_files shelf.long_files' r → IsAmong ls r
+      → IsReported err.faults err.faults' err.written err.written' file r answer → shelf.contents' ≡ shelf.contents → out.stays → out.faults' ≡ out.faults
+      → (shelf.never_fails → shelf.faults' ≡ shelf.faults) → (shelf.never_fails → r ≡ refusal.Unreadable → Lacks shelf.contents file)
+      → (r ≡ refusal.NoMemory → err.takes 14 → (answer ≡ status.NoMemory) × (err.faults' ≡ err.faults)) → Promises words shelf out err answer
+  refused_for r cause among reported contents out_stays out_faults no_fault missing taken =
+      refused_promised words shelf out err answer r g
+      (subst (λ n. IsCause shelf.contents n (lines_of words) shelf.faults shelf.faults' shelf.long_files shelf.long_files' r) is_file
+      (subst (λ l. IsCause shelf.contents file l shelf.faults shelf.faults' shelf.long_files shelf.long_files' r) are_lines cause))
+      (subst (λ l. IsAmong l r) are_lines among)
+      (subst (λ n. IsReported err.faults err.faults' err.written err.written' n r answer) is_file reported)
+      contents out_stays out_faults no_fault (λ never is. subst (Lacks shelf.contents) is_file (missing never is)) taken
