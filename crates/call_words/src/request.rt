@@ -31,6 +31,28 @@ pub enum Request {
     },
 }
 
+impl Request {
+    ghost use Rattle.call_words.specs.Requests.{asked_by, file_in, lines_in};
+
+    /// The name of the file.
+    pub fn file(&self) -> &str
+        ensures { result.now ≡ file_in (asked_by self.now) }
+    {
+        match self {
+            Request::Slice { file, .. } => file.as_str(),
+        }
+    }
+
+    /// The lines that are asked for, in their order.
+    pub fn lines(&self) -> &[u64]
+        ensures { result.now ≡ lines_in (asked_by self.now) }
+    {
+        match self {
+            Request::Slice { lines, .. } => lines.as_slice(),
+        }
+    }
+}
+
 /// Why words make no request.
 #[derive(Clone, Copy, Debug, PartialEq, Eq, ErrorText)]
 pub enum WordsFault {

@@ -6,7 +6,7 @@ ghost use Rattle.slicer_top.specs.Writing.{Wrote};
 use crate::report::{report, tell, tell_no_memory};
 use crate::slicing::slice_file;
 use crate::status::Status;
-use call_words::{Request, WordsFault, read_words};
+use call_words::{WordsFault, read_words};
 use edge_io::{PutFailed, Shelf, Sink, Text};
 use std::alloc::Global;
 
@@ -30,14 +30,10 @@ pub fn run_slicer<F: Shelf, O: Sink, E: Sink>(
         Err(WordsFault::Usage) => return tell(b"usage: slicer slice FILE LINE..\n", Status::Usage, err),
         Err(WordsFault::NoMemory) => return tell_no_memory(err),
     };
-    match &request {
-        Request::Slice { file, lines, .. } => {
-            let file = file.as_str();
-            match slice_file(alloc, file, lines.as_slice(), shelf) {
-                Ok(texts) => write_texts(texts.as_slice(), out, err),
-                Err(refusal) => report(alloc, &refusal, file, err),
-            }
-        }
+    let file = request.file();
+    match slice_file(alloc, file, request.lines(), shelf) {
+        Ok(texts) => write_texts(texts.as_slice(), out, err),
+        Err(refusal) => report(alloc, &refusal, file, err),
     }
 }
 

@@ -16,16 +16,16 @@ returns-in-Err-NoMemory g c =
 pub returns-in-Ok-slice_file : goal.returns-in-Ok-slice_file
 returns-in-Ok-slice_file g c =
     let read = c.in-Ok.ensures.read in
-    let is_file : c.as_str-file.result.now ≡ file_of c.args.words.now = c.as_str-file.ensures.value ∙ file_is c.args.words.now _ read.asks_for in
-    let are_lines : c.as_slice.result.now ≡ lines_of c.args.words.now = c.as_slice.ensures.value ∙ lines_are c.args.words.now _ read.asks_for in
-    written_for c.args.words.now _ _ _ c.write_texts.result c.as_str-file.result.now c.as_slice.result.now read.in_grammar is_file are_lines
-    c.in-Ok-slice_file.texts.items c.as_slice-in-Ok-slice_file.result.now c.as_slice-in-Ok-slice_file.ensures.value c.in-Ok-slice_file.ensures.ok
+    let is_file : c.file-file.result.now ≡ file_of c.args.words.now = c.file-file.ensures ∙ file_is c.args.words.now _ read.asks_for in
+    let are_lines : c.lines.result.now ≡ lines_of c.args.words.now = c.lines.ensures ∙ lines_are c.args.words.now _ read.asks_for in
+    written_for c.args.words.now _ _ _ c.write_texts.result c.file-file.result.now c.lines.result.now read.in_grammar is_file are_lines
+    c.in-Ok-slice_file.texts.items c.as_slice.result.now c.as_slice.ensures.value c.in-Ok-slice_file.ensures.ok
     c.slice_file.ensures.contents c.slice_file.ensures.no_fault c.write_texts.ensures
 
 pub returns : goal.returns
 returns g c =
     let read = c.in-Ok.ensures.read in
-    let is_file : c.as_str-file.result.now ≡ file_of c.args.words.now = c.as_str-file.ensures.value ∙ file_is c.args.words.now _ read.asks_for in
-    let are_lines : c.as_slice.result.now ≡ lines_of c.args.words.now = c.as_slice.ensures.value ∙ lines_are c.args.words.now _ read.asks_for in
-    refused_for c.args.words.now _ _ _ c.report.result c.as_str-file.result.now c.as_slice.result.now read.in_grammar is_file are_lines
+    let is_file : c.file-file.result.now ≡ file_of c.args.words.now = c.file-file.ensures ∙ file_is c.args.words.now _ read.asks_for in
+    let are_lines : c.lines.result.now ≡ lines_of c.args.words.now = c.lines.ensures ∙ lines_are c.args.words.now _ read.asks_for in
+    refused_for c.args.words.now _ _ _ c.report.result c.file-file.result.now c.lines.result.now read.in_grammar is_file are_lines
     c.in-Err.refusal c.in-Err.ensures.err c.in-Err.ensures.among c.report.ensures.told c.slice_file.ensures.contents refl refl c.slice_file.ensures.no_fault c.in-Err.ensures.missing c.report.ensures.taken
