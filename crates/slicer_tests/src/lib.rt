@@ -21,6 +21,8 @@ mod line_tests;
 #[cfg(test)]
 mod loop_tests;
 #[cfg(test)]
+mod many_tests;
+#[cfg(test)]
 mod order_tests;
 #[cfg(test)]
 mod programs;

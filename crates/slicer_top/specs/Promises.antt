@@ -24,7 +24,6 @@ pub record Outcome (words : List Bytes) (shelf : ShelfSeen) (out err : SinkSeen)
   pub usage : answer ≡ status.Usage → IsInGrammar words → ⊥
   pub other_words : (IsInGrammar words → ⊥) → IsOrYields err.faults err.faults' answer status.Usage
   pub unasked : (IsInGrammar words → ⊥) → shelf.stays
-
   -- the file: it is read, or the shelf had a fault, lacks it or found it too long
   pub read_fault : answer ≡ status.ReadFault → Rose shelf.faults shelf.faults' ⊎ Lacks shelf.contents (file_of words)
   pub lacking : IsInGrammar words → Lacks shelf.contents (file_of words) → IsOrYields err.faults err.faults' answer status.ReadFault
@@ -32,31 +31,26 @@ pub record Outcome (words : List Bytes) (shelf : ShelfSeen) (out err : SinkSeen)
   pub longer : answer ≡ status.TooLong → IsSome shelf.contents → HoldsMoreThan shelf.contents (file_of words) 1048576
   pub longer_file : IsInGrammar words → HoldsMoreThan shelf.contents (file_of words) 1048576
       → IsOrYieldsToFault err.faults err.faults' shelf.faults shelf.faults' answer status.TooLong
-
   -- the text: Refused comes exactly where it isn't accepted, something of it isn't built or no statement starts on one of the lines, but for deep texts, and what is told is true of it
   pub refused : answer ≡ status.Refused → OfFile shelf.contents (file_of words) (λ text. TellsTruth status.Refused text (lines_of words) err.written err.written')
   pub no_slice : (text : Bytes) → NamesText words shelf.contents text → IsBelowLimits text (lines_of words) → StartsNone text (lines_of words)
       → IsOrYieldsToFault err.faults err.faults' shelf.faults shelf.faults' answer status.Refused
       ⊎ ((answer ≡ status.Limit) × IsDeep text × Gains err.written err.written' (limit Nesting))
-
   -- the limits: Limit comes exactly where a quantity of a text in the grammar is above its number, and for deep texts
   pub limits : answer ≡ status.Limit → OfFile shelf.contents (file_of words) (λ text. TellsTruth status.Limit text (lines_of words) err.written err.written')
   pub above : (text : Bytes) (name : LimitName) → NamesText words shelf.contents text → IsAboveLimit text (lines_of words) name
       → IsOrYieldsToFault err.faults err.faults' shelf.faults shelf.faults' answer status.Limit
   pub names_limit : (text : Bytes) (name : LimitName) → NamesText words shelf.contents text → IsAboveLimit text (lines_of words) name → answer ≡ status.Limit
       → Gains err.written err.written' (limit name)
-
   -- the slices: after Done they are written, in the order of the lines, and where no fault came and memory sufficed, Done comes
   pub done : answer ≡ status.Done → OfFile shelf.contents (file_of words) (λ text. WritesSlices text (lines_of words) out.written out.written')
   pub complete : (text : Bytes) → NamesText words shelf.contents text → StartsSome text (lines_of words)
       → NoFault shelf.faults shelf.faults' → NoFault out.faults out.faults' → NoFault err.faults err.faults'
       → (answer ≡ status.Done) ⊎ (answer ≡ status.NoMemory)
-
   -- no fault comes where the shelf never fails, out has room for the slices and err for `out of memory`
   pub faultless : (text : Bytes) → NamesText words shelf.contents text → StartsSome text (lines_of words) → shelf.never_fails
       → ((texts : List Bytes) → AreSlices text (lines_of words) texts → out.takes (length (joined texts))) → err.takes 14
       → IsFaultless shelf.faults shelf.faults' out.faults out.faults' err.faults err.faults' answer
-
   -- the sinks: out is as it was but after Done and WriteFault
   pub write_fault : answer ≡ status.WriteFault → Rose out.faults out.faults' ⊎ Rose err.faults err.faults'
   pub unwritten : answer ≢ status.Done → answer ≢ status.WriteFault → out.stays
@@ -66,7 +60,6 @@ pub record Outcome (words : List Bytes) (shelf : ShelfSeen) (out err : SinkSeen)
       × OfFile shelf.contents (file_of words) (λ text. WritesFront text (lines_of words) out.written out.written')
       × PutOrCutOff err.faults err.faults' err.written err.written' cannot_write)
   pub silent : answer ≡ status.Done → err.stays
-
   -- the shelf holds what it held
   pub contents : shelf.contents' ≡ shelf.contents
 

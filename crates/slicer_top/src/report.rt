@@ -11,12 +11,7 @@ use slice_engine::{LexFault, LimitName, ParseFault, RuleFault};
 use std::alloc::{AllocError, Global};
 
 /// Puts the line of a refusal, and answers its status. Where there is no memory for the line, that is told instead.
-pub(crate) fn report<E: Sink>(
-    alloc: Global,
-    refusal: &Refusal,
-    file: &str,
-    err: &mut E,
-) -> Status
+pub(crate) fn report<E: Sink>(alloc: Global, refusal: &Refusal, file: &str, err: &mut E) -> Status
     ensures told { IsReported (E.faults err.old) (E.faults err.new) (E.written err.old) (E.written err.new)
         file.now refusal.now result }
     ensures taken { refusal.now ≡ Refusal.NoMemory → E.takes err.old 14

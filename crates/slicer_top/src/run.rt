@@ -27,7 +27,11 @@ pub fn run_slicer<F: Shelf, O: Sink, E: Sink>(
 {
     let request = match read_words(alloc, words) {
         Ok(request) => request,
-        Err(WordsFault::Usage) => return tell(b"usage: slicer slice FILE LINE..\n", Status::Usage, err),
+        Err(WordsFault::Usage) => return tell(
+            b"usage: slicer slice FILE LINE..\n",
+            Status::Usage,
+            err,
+        ),
         Err(WordsFault::NoMemory) => return tell_no_memory(err),
     };
     let file = request.file();
