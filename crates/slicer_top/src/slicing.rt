@@ -86,7 +86,8 @@ fn criteria_at(alloc: Global, engine: &Engine, lines: &[u64]) -> Result<Vec<Crit
 
 // The criterion of a line. Err: no statement starts there.
 fn criterion_at(engine: &Engine, line: u64) -> Result<Criterion, Refusal>
-    ensures { MatchResult result (λ c. (c.line ≡ line) × HasStart engine.now line) (λ refusal. (refusal ≡ Refusal.NoStart line) × (HasStart engine.now line → ⊥)) }
+    ensures { MatchResult result (λ c. (c.line ≡ line) × HasStart engine.now line)
+        (λ refusal. (refusal ≡ Refusal.NoStart line) × (HasStart engine.now line → ⊥)) }
 {
     if line > u64::from(engine.last_line()) {
         return Err(Refusal::NoStart(line));
