@@ -1,4 +1,4 @@
-//! The slicer: `slicer slice FILE LINE` writes the slice of the C program in FILE at LINE.
+//! The slicer: `slicer slice FILE LINE..` writes the slice of the C program in FILE at each LINE.
 #![tactic(auto)]
 
 use slicer_top::{Exit, FileShelf, StreamSink, run_call};

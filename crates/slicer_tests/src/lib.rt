@@ -9,6 +9,8 @@ mod graph_tests;
 #[cfg(test)]
 mod layout_tests;
 #[cfg(test)]
+mod many_tests;
+#[cfg(test)]
 mod order_tests;
 #[cfg(test)]
 mod programs;

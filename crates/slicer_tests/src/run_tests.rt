@@ -1,8 +1,9 @@
 //! Runs of the top call over files and sinks in memory.
-ghost use Rattle.std.specs.Prelude.{◌≡◌, ◌⊎◌, ◌≤◌, IfOk, length};
+ghost use Rattle.std.specs.Prelude.{◌≡◌, ◌⊎◌, ◌≤◌, List, IfOk, length};
 ghost use Rattle.c_language.specs.Words.{Bytes};
-ghost use Rattle.slicer_top.specs.Words.{IsInForm, file_of, line_asked};
-ghost use Rattle.slicer_top.specs.Slices.{StartsSome, IsSliceOf};
+ghost use Rattle.call_words.specs.Grammar.{IsInGrammar};
+ghost use Rattle.call_words.specs.Requests.{file_of, lines_of};
+ghost use Rattle.slicer_top.specs.Slices.{StartsSome, AreSlices, joined};
 
 use crate::programs::TWO;
 use crate::running::{Ended, Failing, NONE_FAILING, file, is_end, run, split_words};
@@ -27,12 +28,22 @@ int main(void) {
 }
 "#;
 
-const USAGE: &str = "usage: slicer slice FILE LINE\n";
+// The slice of that text again, at its own line.
+const TWO_AT_7_AT_6: &str = r#"/* slice 6: 6 */
+#include <stdio.h>
+int main(void) {
+    int a = 1;
+    a = a + 3;
+    printf("%d\n", a);
+}
+"#;
+
+const USAGE: &str = "usage: slicer slice FILE LINE..\n";
 
 const MAX_FILE_BYTES: usize = 1_048_576;
 
-// Over one file and sinks in memory without failing numbers, with room for the slice and for `out of memory`:
-// the slice is written, or memory was wanting.
+// Over one file and sinks in memory without failing numbers, with room for the slices and for `out of memory`:
+// the slices are written, or memory was wanting.
 fn run_without_failing(
     alloc: Global,
     words: &[Text],
@@ -40,9 +51,9 @@ fn run_without_failing(
     text: Text,
     room: usize,
 ) -> Result<Status, AllocError>
-    ensures { IfOk result (λ status. IsInForm words.now → name ≡ file_of words.now → length text ≤ 1048576
-        → StartsSome text (line_asked words.now)
-        → ((written : Bytes) → IsSliceOf text (line_asked words.now) written → length written ≤ room)
+    ensures { IfOk result (λ status. IsInGrammar words.now → name ≡ file_of words.now → length text ≤ 1048576
+        → StartsSome text (lines_of words.now)
+        → ((texts : List Bytes) → AreSlices text (lines_of words.now) texts → length (joined texts) ≤ room)
         → (status ≡ Status.Done) ⊎ (status ≡ Status.NoMemory)) }
 {
     let mut files = Vec::new(alloc);
@@ -118,14 +129,12 @@ fn other_words_are_told_the_usage(rt: HostRuntime) -> Result<(), Fail> {
         "slice  7",
         "slice -two.c 7",
         "slice - 7",
-        "slice two.c 7 4",
         "Slice two.c 7",
         "slices two.c 7",
         "run two.c",
         "two.c 7",
         "--help",
         "help",
-        "slice --workers=4 two.c 7",
     ];
     for line in rows {
         ends_on_two(&rt, line, &NONE_FAILING, (Status::Usage, "", USAGE))?;

@@ -1,6 +1,8 @@
+pub mod CriteriaLaws
 pub mod Files
 pub mod Lines
-pub mod Numbers
+pub mod Promised
+pub mod Puts
 pub mod ReaderLaws
 pub mod Slices
 pub mod Told

@@ -1,6 +1,7 @@
 -- A text has one tree and one program, and what is answered for it is fixed.
-use Rattle.std.proofs.Common.{◌≡◌, ◌≤◌, ◌<◌, Err, Option, Some, sym, ap, subst, ◌∙◌, arith}
+use Rattle.std.proofs.Common.{◌≡◌, ℕ, List, length, ◌≤◌, ◌<◌, Err, Option, Some, sym, ap, subst, ◌∙◌, arith}
 use Rattle.c_tree.specs.declared.limits.LimitName.{LimitName}
+use Rattle.c_tree.specs.declared.limits.LimitName.TheVariants as limit
 use Rattle.c_tree.specs.declared.program.Program.{Program}
 use Rattle.c_tree.specs.declared.raw.program.RawProgram.{RawProgram}
 use Rattle.c_language.specs.Words.{Bytes}
@@ -72,30 +73,49 @@ module _ (text : Bytes) where
   pub only_check : (r : ReadRefusal) → IsRight text (Err r) → (raw : RawProgram) (fault : RuleFault) → ReadsTree text raw → program_nesting raw ≤ 100 → IsRuleFault raw fault → IsChecked (Err r)
   only_check r is raw fault tree few shows = laws.refused text (Err r) (answered r is) raw fault tree few shows
 
-  -- a text that is above a limit has no program
-  pub above_lacks : (name : LimitName) → IsAboveLimit text name → (p : Program) → ReadsProgram text p → ⊥
-  above_lacks name (IsAboveLimit.nesting {raw} tree many) p has =
-      let e = ap program_nesting (one_text_tree raw has.raw tree (tree_of_program text has)) in
-      let few = has.within.nesting in
-      omega (arith, e, few, many)
-  above_lacks name (IsAboveLimit.length {raw} {p = q} tree few made many) p has =
-      let e : q ≡ p = same_program has.raw q p (subst (λ raw. programs.HasProgram raw q) (one_text_tree raw has.raw tree (tree_of_program text has)) made) has.accepted.has in
-      let long = ap array_length e in
-      let short = has.within.lengths in
-      omega (arith, long, short, many)
-  above_lacks name (IsAboveLimit.cells {raw} {p = q} tree few made short many) p has =
-      let e : q ≡ p = same_program has.raw q p (subst (λ raw. programs.HasProgram raw q) (one_text_tree raw has.raw tree (tree_of_program text has)) made) has.accepted.has in
-      let wide = ap object_cells e in
-      let narrow = has.within.cells in
-      omega (arith, wide, narrow, many)
+  -- a text that is above a limit has no program, or more than 64 lines were asked for
+  module _ (lines : List ℕ) where
+    -- a quantity of the tree
+    abbrev pub IsOfTree : LimitName → Type 0
+    IsOfTree limit.Nesting = Unit {0}
+    IsOfTree limit.ArrayLength = Unit {0}
+    IsOfTree limit.ObjectCells = Unit {0}
+    IsOfTree limit.Locations = Unit {0}
+    IsOfTree limit.Vertices = Unit {0}
+    IsOfTree limit.FactWords = Unit {0}
+    IsOfTree limit.Criteria = ⊥
 
-  above_of : (raw : RawProgram) (name : LimitName) → ReadsTree text raw → program_nesting raw ≤ 100 → IsAbove raw name → IsAboveLimit text name
-  above_of raw name tree few (IsAbove.lengths made many) = IsAboveLimit.length tree few made many
-  above_of raw name tree few (IsAbove.cells made short many) = IsAboveLimit.cells tree few made short many
+    -- where such a one is above its number there is no program
+    pub tree_lacks : (name : LimitName) → IsOfTree name → IsAboveLimit text lines name → (p : Program) → ReadsProgram text p → ⊥
+    tree_lacks name of (IsAboveLimit.nesting {raw} tree many) p has =
+        let e = ap program_nesting (one_text_tree raw has.raw tree (tree_of_program text has)) in
+        let few = has.within.nesting in
+        omega (arith, e, few, many)
+    tree_lacks name of (IsAboveLimit.length {raw} {p = q} tree few made many) p has =
+        let e : q ≡ p = same_program has.raw q p (subst (λ raw. programs.HasProgram raw q) (one_text_tree raw has.raw tree (tree_of_program text has)) made) has.accepted.has in
+        let long = ap array_length e in
+        let short = has.within.lengths in
+        omega (arith, long, short, many)
+    tree_lacks name of (IsAboveLimit.cells {raw} {p = q} tree few made short many) p has =
+        let e : q ≡ p = same_program has.raw q p (subst (λ raw. programs.HasProgram raw q) (one_text_tree raw has.raw tree (tree_of_program text has)) made) has.accepted.has in
+        let wide = ap object_cells e in
+        let narrow = has.within.cells in
+        omega (arith, wide, narrow, many)
+    tree_lacks name of (IsAboveLimit.criteria many) p has = absurd of
 
-  -- a limit that the text shows is one that it is above
-  pub limit_is : (name : LimitName) → HasRuleFault text (rule.Limit name) → IsAboveLimit text name
-  limit_is name h = above_of h.raw name h.tree h.nesting h.shows
+    pub above_lacks : (name : LimitName) → IsAboveLimit text lines name → (p : Program) → ReadsProgram text p → length lines ≤ 64 → ⊥
+    above_lacks name (IsAboveLimit.nesting tree many) p has few = tree_lacks limit.Nesting tt (IsAboveLimit.nesting tree many) p has
+    above_lacks name (IsAboveLimit.length tree low made many) p has few = tree_lacks limit.ArrayLength tt (IsAboveLimit.length tree low made many) p has
+    above_lacks name (IsAboveLimit.cells tree low made short many) p has few = tree_lacks limit.ObjectCells tt (IsAboveLimit.cells tree low made short many) p has
+    above_lacks name (IsAboveLimit.criteria (q, built, many)) p has few = absurd (omega (arith, many, few))
+
+    above_of : (raw : RawProgram) (name : LimitName) → ReadsTree text raw → program_nesting raw ≤ 100 → IsAbove raw name → IsAboveLimit text lines name
+    above_of raw name tree few (IsAbove.lengths made many) = IsAboveLimit.length tree few made many
+    above_of raw name tree few (IsAbove.cells made short many) = IsAboveLimit.cells tree few made short many
+
+    -- a limit that the text shows is one that it is above
+    pub limit_is : (name : LimitName) → HasRuleFault text (rule.Limit name) → IsAboveLimit text lines name
+    limit_is name h = above_of h.raw name h.tree h.nesting h.shows
 
   -- where the tree is above a limit, what the text shows of its tree is that limit
   pub above_is : (raw : RawProgram) (name : LimitName) → ReadsTree text raw → IsAbove raw name → (fault : RuleFault) → HasRuleFault text fault → fault ≡ rule.Limit name

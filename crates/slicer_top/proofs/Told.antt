@@ -1,5 +1,5 @@
 -- What is told of a text is true of it, and a text that gives no slice is told so.
-use Rattle.std.proofs.Common.{◌≡◌, ◌⊎◌, inl, inr, ℕ, ◌<◌, ◌≤◌, refl, sym, ap, subst, ◌∙◌}
+use Rattle.std.proofs.Common.{◌≡◌, ◌⊎◌, inl, inr, ℕ, List, arith, ◌<◌, ◌≤◌, refl, sym, ap, subst, ◌∙◌}
 use Rattle.std.specs.Prelude.{Option}
 use Rattle.edge_io.specs.Contents.{Told}
 use Rattle.edge_io.specs.Count.{Rose}
@@ -19,17 +19,18 @@ use Rattle.c_reader.specs.Reading.{ReadsTree}
 use Rattle.c_reader.specs.Refusals.{HasParseFault, IsNesting}
 use Rattle.c_reader.specs.declared.refusal.ReadRefusal.TheVariants as read
 use Rattle.slicer_top.specs.declared.refusal.Refusal.{Refusal}
-use Rattle.slicer_top.specs.declared.refusal.Refusal.TheVariants.{Unreadable, TooLong, Lex, Parse, Check, NotYet, NoStart, NoMemory}
+use Rattle.slicer_top.specs.declared.refusal.Refusal.TheVariants.{Unreadable, TooLong, Lex, Parse, Check, NotYet, NoStart, TooMany, NoMemory}
 use Rattle.slicer_top.specs.declared.status.Status.{Status}
 use Rattle.slicer_top.specs.declared.status.Status.TheVariants as status
 use Rattle.slicer_top.specs.Files.{OfFile}
 use Rattle.slicer_top.specs.Limits.{IsAboveLimit, IsBelowLimits, IsDeep}
 use Rattle.slicer_top.specs.Lines as lines
 use Rattle.slicer_top.specs.Reports.{IsReason, IsShown, IsCause, IsReported, status_of, words_of}
+use Rattle.slicer_top.specs.Slices.{AsksTooMany}
 use Rattle.slicer_top.specs.Statuses.{IsOrYieldsToFault}
 use Rattle.slicer_top.specs.Truths.{IsTrueOf, TellsTruth}
 use Rattle.slicer_top.proofs.Files.{of_file_map}
-use Rattle.slicer_top.proofs.ReaderLaws.{grammar_of, only_nesting, only_check, above_lacks, above_is, limit_is}
+use Rattle.slicer_top.proofs.ReaderLaws.{IsOfTree, grammar_of, one_program, only_memory, only_nesting, only_check, tree_lacks, above_is, limit_is}
 
 -- ---- what is told is true
 
@@ -44,13 +45,13 @@ IsOfText status.NoMemory = ⊥
 IsOfText status.Limit = Unit {0}
 IsOfText status.TooLong = ⊥
 
-true_limit : (text : Bytes) (asked : ℕ) (name : LimitName) → IsAboveLimit text name → (raw : RawProgram) → IsAbove raw name → IsTrueOf text asked status.Limit (lines.limit name)
+true_limit : (text : Bytes) (asked : List ℕ) (name : LimitName) → IsAboveLimit text asked name → (raw : RawProgram) → IsAbove raw name → IsTrueOf text asked status.Limit (lines.limit name)
 true_limit text asked name above raw (IsAbove.lengths made many) = IsTrueOf.length above
 true_limit text asked name above raw (IsAbove.cells made short many) = IsTrueOf.cells above
 
-module _ (file text : Bytes) (at : ℕ) where
+module _ (file text : Bytes) (at : List ℕ) where
   -- the line of a refusal that the text shows is true of it
-  is_true : (refusal : Refusal) → IsOfText (status_of refusal) → IsReason text at refusal → IsTrueOf text at (status_of refusal) (words_of file at refusal)
+  is_true : (refusal : Refusal) → IsOfText (status_of refusal) → IsReason text at refusal → IsTrueOf text at (status_of refusal) (words_of file refusal)
   is_true Unreadable of reason = absurd of
   is_true TooLong of reason = absurd of
   is_true (Lex (lex.BadByte l)) of reason = IsTrueOf.bad_byte l reason
@@ -63,13 +64,14 @@ module _ (file text : Bytes) (at : ℕ) where
       IsTrueOf.deep (record { tokens = reason.tokens; are = reason.are; many = reason.shows.0; above = reason.shows.1 })
   is_true (Parse parse.NoMemory) of reason = absurd of
   is_true (Check (rule.Rule number l)) of reason = IsTrueOf.rule number l reason
-  is_true (Check (rule.Limit name)) of reason = true_limit text at name (limit_is text name reason) reason.raw reason.shows
+  is_true (Check (rule.Limit name)) of reason = true_limit text at name (limit_is text at name reason) reason.raw reason.shows
   is_true (Check rule.NoMemory) of reason = absurd of
   is_true (NotYet first) of (p, has, outside) = IsTrueOf.not_yet first has outside
-  is_true NoStart of reason = IsTrueOf.no_start reason
+  is_true (NoStart line) of reason = IsTrueOf.no_start line reason
+  is_true TooMany of reason = IsTrueOf.criteria (IsAboveLimit.criteria reason)
   is_true NoMemory of reason = absurd of
 
-module _ (told : Told) (file : Bytes) (at f f' l l' : ℕ) where
+module _ (told : Told) (file : Bytes) (at : List ℕ) (f f' l l' : ℕ) where
   -- what speaks of the text has its cause in the text
   shown : (refusal : Refusal) → IsOfText (status_of refusal) → IsCause told file at f f' l l' refusal → IsShown told file at refusal
   shown Unreadable of cause = absurd of
@@ -78,32 +80,33 @@ module _ (told : Told) (file : Bytes) (at f f' l l' : ℕ) where
   shown (Parse fault) of cause = cause
   shown (Check fault) of cause = cause
   shown (NotYet first) of cause = cause
-  shown NoStart of cause = cause
+  shown (NoStart line) of cause = cause
+  shown TooMany of cause = cause
   shown NoMemory of cause = absurd of
 
   -- what is told of the file's text is true
-  told_true : (refusal : Refusal) (wanted : Status) (before after : Option Bytes) → IsOfText wanted → status_of refusal ≡ wanted → IsCause told file at f f' l l' refusal → Gains before after (words_of file at refusal) → OfFile told file (λ text. TellsTruth wanted text at before after)
+  told_true : (refusal : Refusal) (wanted : Status) (before after : Option Bytes) → IsOfText wanted → status_of refusal ≡ wanted → IsCause told file at f f' l l' refusal → Gains before after (words_of file refusal) → OfFile told file (λ text. TellsTruth wanted text at before after)
   told_true refusal wanted before after of same cause gained =
       let here : IsOfText (status_of refusal) = subst IsOfText (sym same) of in
-      of_file_map told file _ _ (λ text found. (words_of file at refusal, subst (λ s. IsTrueOf text at s (words_of file at refusal)) same (is_true file text at refusal here found.1), gained)) (shown refusal here cause)
+      of_file_map told file _ _ (λ text found. (words_of file refusal, subst (λ s. IsTrueOf text at s (words_of file refusal)) same (is_true file text at refusal here found.1), gained)) (shown refusal here cause)
 
   module _ (e e' : ℕ) (before after : Option Bytes) where
-    report_true : (refusal : Refusal) (wanted result : Status) → IsOfText wanted → result ≡ wanted → IsCause told file at f f' l l' refusal → IsReported e e' before after file at refusal result → OfFile told file (λ text. TellsTruth wanted text at before after)
+    report_true : (refusal : Refusal) (wanted result : Status) → IsOfText wanted → result ≡ wanted → IsCause told file at f f' l l' refusal → IsReported e e' before after file refusal result → OfFile told file (λ text. TellsTruth wanted text at before after)
     report_true refusal wanted result of is cause (inl (inl put)) = told_true refusal wanted before after of (sym put.0 ∙ is) cause put.1
     report_true refusal wanted result of is cause (inl (inr cut)) = absurd (subst IsOfText (sym is ∙ cut.0) of)
     report_true refusal wanted result of is cause (inr (inl put)) = absurd (subst IsOfText (sym is ∙ put.0) of)
     report_true refusal wanted result of is cause (inr (inr cut)) = absurd (subst IsOfText (sym is ∙ cut.0) of)
 
-    pub refused_true : (refusal : Refusal) (result : Status) → IsCause told file at f f' l l' refusal → IsReported e e' before after file at refusal result → result ≡ status.Refused → OfFile told file (λ text. TellsTruth status.Refused text at before after)
+    pub refused_true : (refusal : Refusal) (result : Status) → IsCause told file at f f' l l' refusal → IsReported e e' before after file refusal result → result ≡ status.Refused → OfFile told file (λ text. TellsTruth status.Refused text at before after)
     refused_true refusal result cause reported is = report_true refusal status.Refused result tt is cause reported
 
-    pub limit_true : (refusal : Refusal) (result : Status) → IsCause told file at f f' l l' refusal → IsReported e e' before after file at refusal result → result ≡ status.Limit → OfFile told file (λ text. TellsTruth status.Limit text at before after)
+    pub limit_true : (refusal : Refusal) (result : Status) → IsCause told file at f f' l l' refusal → IsReported e e' before after file refusal result → result ≡ status.Limit → OfFile told file (λ text. TellsTruth status.Limit text at before after)
     limit_true refusal result cause reported is = report_true refusal status.Limit result tt is cause reported
 
 -- ---- a text that gives no slice
 
-deep_fault : (text : Bytes) (line : ℕ) → IsBelowLimits text → HasParseFault text (parse.Nesting line) → IsDeep text
-deep_fault text line below h = record {
+deep_fault : (text : Bytes) (at : List ℕ) (line : ℕ) → IsBelowLimits text at → HasParseFault text (parse.Nesting line) → IsDeep text
+deep_fault text at line below h = record {
   tokens = h.tokens;
   are = h.are;
   many = h.shows.0;
@@ -111,11 +114,11 @@ deep_fault text line below h = record {
 }
 
 -- the status of a text of which no quantity is above its number: it is refused, or memory was wanting, or it is deep
-abbrev RefusedOrDeep : Bytes → Bytes → ℕ → Refusal → Type 0
-RefusedOrDeep file text at r =
-    (status_of r ≡ status.Refused) ⊎ (status_of r ≡ status.NoMemory) ⊎ ((status_of r ≡ status.Limit) × IsDeep text × (words_of file at r ≡ lines.limit limit.Nesting))
+abbrev RefusedOrDeep : Bytes → Bytes → Refusal → Type 0
+RefusedOrDeep file text r =
+    (status_of r ≡ status.Refused) ⊎ (status_of r ≡ status.NoMemory) ⊎ ((status_of r ≡ status.Limit) × IsDeep text × (words_of file r ≡ lines.limit limit.Nesting))
 
-refused_or_deep : (file text : Bytes) (at : ℕ) (refusal : Refusal) → IsBelowLimits text → IsReason text at refusal → RefusedOrDeep file text at refusal
+refused_or_deep : (file text : Bytes) (at : List ℕ) (refusal : Refusal) → IsBelowLimits text at → IsReason text at refusal → RefusedOrDeep file text refusal
 refused_or_deep file text at Unreadable below reason = absurd reason
 refused_or_deep file text at TooLong below reason = absurd reason
 refused_or_deep file text at (Lex (lex.BadByte l)) below reason = inl refl
@@ -124,64 +127,83 @@ refused_or_deep file text at (Lex (lex.OpenComment l)) below reason = inl refl
 refused_or_deep file text at (Lex lex.NoMemory) below reason = inr (inl refl)
 refused_or_deep file text at (Parse (parse.LeftOut token l)) below reason = inl refl
 refused_or_deep file text at (Parse (parse.Syntax l)) below reason = inl refl
-refused_or_deep file text at (Parse (parse.Nesting l)) below reason = inr (inr (refl, deep_fault text l below reason, refl))
+refused_or_deep file text at (Parse (parse.Nesting l)) below reason = inr (inr (refl, deep_fault text at l below reason, refl))
 refused_or_deep file text at (Parse parse.NoMemory) below reason = inr (inl refl)
 refused_or_deep file text at (Check (rule.Rule number l)) below reason = inl refl
-refused_or_deep file text at (Check (rule.Limit name)) below reason = absurd (below name (limit_is text name reason))
+refused_or_deep file text at (Check (rule.Limit name)) below reason = absurd (below name (limit_is text at name reason))
 refused_or_deep file text at (Check rule.NoMemory) below reason = inr (inl refl)
 refused_or_deep file text at (NotYet first) below reason = inl refl
-refused_or_deep file text at NoStart below reason = inl refl
+refused_or_deep file text at (NoStart line) below reason = inl refl
+refused_or_deep file text at TooMany below reason = absurd (below limit.Criteria (IsAboveLimit.criteria reason))
 refused_or_deep file text at NoMemory below reason = inr (inl refl)
 
 -- the status of a text that is above a limit: the limit is told, or memory was wanting
-abbrev LimitOrMemory : Bytes → ℕ → LimitName → Refusal → Type 0
-LimitOrMemory file at name refusal = ((status_of refusal ≡ status.Limit) × (words_of file at refusal ≡ lines.limit name)) ⊎ (status_of refusal ≡ status.NoMemory)
+abbrev LimitOrMemory : Bytes → LimitName → Refusal → Type 0
+LimitOrMemory file name refusal = ((status_of refusal ≡ status.Limit) × (words_of file refusal ≡ lines.limit name)) ⊎ (status_of refusal ≡ status.NoMemory)
 
-module _ (file text : Bytes) (at : ℕ) where
-  told_nesting : (fault : ParseFault) → IsNesting fault → LimitOrMemory file at limit.Nesting (Parse fault)
+module _ (file text : Bytes) (at : List ℕ) where
+  told_nesting : (fault : ParseFault) → IsNesting fault → LimitOrMemory file limit.Nesting (Parse fault)
   told_nesting (parse.LeftOut token l) is = absurd is
   told_nesting (parse.Syntax l) is = absurd is
   told_nesting (parse.Nesting l) is = inl (refl, refl)
   told_nesting parse.NoMemory is = absurd is
 
-  nests : (refusal : Refusal) → IsReason text at refusal → (raw : RawProgram) → ReadsTree text raw → 100 < program_nesting raw → LimitOrMemory file at limit.Nesting refusal
+  nests : (refusal : Refusal) → IsReason text at refusal → (raw : RawProgram) → ReadsTree text raw → 100 < program_nesting raw → LimitOrMemory file limit.Nesting refusal
   nests Unreadable reason raw tree many = absurd reason
   nests TooLong reason raw tree many = absurd reason
   nests (Lex fault) reason raw tree many = absurd (only_nesting text (read.Lex fault) reason raw tree many)
   nests (Parse fault) reason raw tree many = told_nesting fault (only_nesting text (read.Parse fault) reason raw tree many)
   nests (Check fault) reason raw tree many = absurd (only_nesting text (read.Check fault) reason raw tree many)
-  nests (NotYet first) (p, has, outside) raw tree many = absurd (above_lacks text limit.Nesting (IsAboveLimit.nesting tree many) p has)
-  nests NoStart (p, built, none) raw tree many = absurd (above_lacks text limit.Nesting (IsAboveLimit.nesting tree many) p built.reads)
+  nests (NotYet first) (p, has, outside) raw tree many = absurd (tree_lacks text at limit.Nesting tt (IsAboveLimit.nesting tree many) p has)
+  nests (NoStart line) (p, built, none) raw tree many = absurd (tree_lacks text at limit.Nesting tt (IsAboveLimit.nesting tree many) p built.reads)
+  nests TooMany (p, built, more) raw tree many = absurd (tree_lacks text at limit.Nesting tt (IsAboveLimit.nesting tree many) p built.reads)
   nests NoMemory reason raw tree many = inr refl
 
-  told_limit : (name : LimitName) (fault : RuleFault) → fault ≡ rule.Limit name → LimitOrMemory file at name (Check fault)
-  told_limit name fault is = subst (λ x. LimitOrMemory file at name (Check x)) (sym is) (inl (refl, refl))
+  told_limit : (name : LimitName) (fault : RuleFault) → fault ≡ rule.Limit name → LimitOrMemory file name (Check fault)
+  told_limit name fault is = subst (λ x. LimitOrMemory file name (Check x)) (sym is) (inl (refl, refl))
 
-  exceeds : (refusal : Refusal) → IsReason text at refusal → (raw : RawProgram) (name : LimitName) → ReadsTree text raw → program_nesting raw ≤ 100 → IsAbove raw name → IsAboveLimit text name → LimitOrMemory file at name refusal
-  exceeds Unreadable reason raw name tree few above exceeded = absurd reason
-  exceeds TooLong reason raw name tree few above exceeded = absurd reason
-  exceeds (Lex fault) reason raw name tree few above exceeded = absurd (only_check text (read.Lex fault) reason raw (rule.Limit name) tree few above)
-  exceeds (Parse fault) reason raw name tree few above exceeded = absurd (only_check text (read.Parse fault) reason raw (rule.Limit name) tree few above)
-  exceeds (Check fault) reason raw name tree few above exceeded = told_limit name fault (above_is text raw name tree above fault reason)
-  exceeds (NotYet first) (p, has, outside) raw name tree few above exceeded = absurd (above_lacks text name exceeded p has)
-  exceeds NoStart (p, built, none) raw name tree few above exceeded = absurd (above_lacks text name exceeded p built.reads)
-  exceeds NoMemory reason raw name tree few above exceeded = inr refl
+  exceeds : (refusal : Refusal) → IsReason text at refusal → (raw : RawProgram) (name : LimitName) → ReadsTree text raw → program_nesting raw ≤ 100 → IsAbove raw name → IsOfTree text at name → IsAboveLimit text at name → LimitOrMemory file name refusal
+  exceeds Unreadable reason raw name tree few above of exceeded = absurd reason
+  exceeds TooLong reason raw name tree few above of exceeded = absurd reason
+  exceeds (Lex fault) reason raw name tree few above of exceeded = absurd (only_check text (read.Lex fault) reason raw (rule.Limit name) tree few above)
+  exceeds (Parse fault) reason raw name tree few above of exceeded = absurd (only_check text (read.Parse fault) reason raw (rule.Limit name) tree few above)
+  exceeds (Check fault) reason raw name tree few above of exceeded = told_limit name fault (above_is text raw name tree above fault reason)
+  exceeds (NotYet first) (p, has, outside) raw name tree few above of exceeded = absurd (tree_lacks text at name of exceeded p has)
+  exceeds (NoStart line) (p, built, none) raw name tree few above of exceeded = absurd (tree_lacks text at name of exceeded p built.reads)
+  exceeds TooMany (p, built, more) raw name tree few above of exceeded = absurd (tree_lacks text at name of exceeded p built.reads)
+  exceeds NoMemory reason raw name tree few above of exceeded = inr refl
 
-  limit_or_memory : (refusal : Refusal) (name : LimitName) → IsAboveLimit text name → IsReason text at refusal → LimitOrMemory file at name refusal
+  -- more than 64 lines of a text with a program of which nothing is outside the built forms
+  asks_more : (refusal : Refusal) → IsReason text at refusal → AsksTooMany text at → LimitOrMemory file limit.Criteria refusal
+  asks_more Unreadable reason many = absurd reason
+  asks_more TooLong reason many = absurd reason
+  asks_more (Lex fault) reason (p, built, more) = absurd (only_memory text (read.Lex fault) reason p built.reads)
+  asks_more (Parse fault) reason (p, built, more) = absurd (only_memory text (read.Parse fault) reason p built.reads)
+  asks_more (Check fault) reason (p, built, more) = absurd (only_memory text (read.Check fault) reason p built.reads)
+  asks_more (NotYet first) (q, has, outside) (p, built, more) =
+      let same : q ≡ p = one_program text q p has built.reads in
+      let none = built.built in
+      absurd cc
+  asks_more (NoStart line) (q, has, lacks) (p, built, more) = let few = lacks.few in absurd (omega (arith, more, few))
+  asks_more TooMany reason many = inl (refl, refl)
+  asks_more NoMemory reason many = inr refl
+
+  limit_or_memory : (refusal : Refusal) (name : LimitName) → IsAboveLimit text at name → IsReason text at refusal → LimitOrMemory file name refusal
   limit_or_memory refusal name (IsAboveLimit.nesting {raw} tree many) reason = nests refusal reason raw tree many
   limit_or_memory refusal name (IsAboveLimit.length {raw} tree few made many) reason =
-      exceeds refusal reason raw limit.ArrayLength tree few (IsAbove.lengths made many) (IsAboveLimit.length tree few made many)
+      exceeds refusal reason raw limit.ArrayLength tree few (IsAbove.lengths made many) tt (IsAboveLimit.length tree few made many)
   limit_or_memory refusal name (IsAboveLimit.cells {raw} tree few made short many) reason =
-      exceeds refusal reason raw limit.ObjectCells tree few (IsAbove.cells made short many) (IsAboveLimit.cells tree few made short many)
+      exceeds refusal reason raw limit.ObjectCells tree few (IsAbove.cells made short many) tt (IsAboveLimit.cells tree few made short many)
+  limit_or_memory refusal name (IsAboveLimit.criteria many) reason = asks_more refusal reason many
 
 -- ---- how such a text ends
 
-module _ (file : Bytes) (at e e' f f' : ℕ) (before after : Option Bytes) where
+module _ (file : Bytes) (at : List ℕ) (e e' f f' : ℕ) (before after : Option Bytes) where
   -- what is told is the status of the refusal, or one to which each answer yields
-  abbrev Ends : Refusal → Status → Type 0
-  Ends refusal result = ((result ≡ status_of refusal) × Gains before after (words_of file at refusal)) ⊎ (result ≡ status.NoMemory) ⊎ ((result ≡ status.WriteFault) × Rose e e')
+  abbrev pub Ends : Refusal → Status → Type 0
+  Ends refusal result = ((result ≡ status_of refusal) × Gains before after (words_of file refusal)) ⊎ (result ≡ status.NoMemory) ⊎ ((result ≡ status.WriteFault) × Rose e e')
 
-  ends : (refusal : Refusal) (result : Status) → IsReported e e' before after file at refusal result → Ends refusal result
+  pub ends : (refusal : Refusal) (result : Status) → IsReported e e' before after file refusal result → Ends refusal result
   ends refusal result (inl (inl put)) = inl put
   ends refusal result (inl (inr cut)) = inr (inr (cut.0, cut.1.0))
   ends refusal result (inr (inl put)) = inr (inl put.0)
@@ -196,7 +218,7 @@ module _ (file : Bytes) (at e e' f f' : ℕ) (before after : Option Bytes) where
   unreadable wanted result refusal is rose (inr other) = yields wanted result other
 
   -- a text of which no quantity is above its number, and on whose line no statement starts
-  pub is_refused : (text : Bytes) (refusal : Refusal) (result : Status) → IsBelowLimits text → ((refusal ≡ Unreadable) × Rose f f') ⊎ IsReason text at refusal → IsReported e e' before after file at refusal result → IsOrYieldsToFault e e' f f' result status.Refused ⊎ ((result ≡ status.Limit) × IsDeep text × Gains before after (lines.limit limit.Nesting))
+  pub is_refused : (text : Bytes) (refusal : Refusal) (result : Status) → IsBelowLimits text at → ((refusal ≡ Unreadable) × Rose f f') ⊎ IsReason text at refusal → IsReported e e' before after file refusal result → IsOrYieldsToFault e e' f f' result status.Refused ⊎ ((result ≡ status.Limit) × IsDeep text × Gains before after (lines.limit limit.Nesting))
   is_refused text refusal result below (inl fault) told = inl (unreadable status.Refused result refusal fault.0 fault.1 (ends refusal result told))
   is_refused text refusal result below (inr reason) told = elim (ends refusal result told) [
     | inl put ↦ elim (refused_or_deep file text at refusal below reason) [
@@ -208,7 +230,7 @@ module _ (file : Bytes) (at e e' f f' : ℕ) (before after : Option Bytes) where
   ]
 
   -- a text that is above a limit
-  pub is_above : (text : Bytes) (name : LimitName) (refusal : Refusal) (result : Status) → IsAboveLimit text name → ((refusal ≡ Unreadable) × Rose f f') ⊎ IsReason text at refusal → IsReported e e' before after file at refusal result → IsOrYieldsToFault e e' f f' result status.Limit
+  pub is_above : (text : Bytes) (name : LimitName) (refusal : Refusal) (result : Status) → IsAboveLimit text at name → ((refusal ≡ Unreadable) × Rose f f') ⊎ IsReason text at refusal → IsReported e e' before after file refusal result → IsOrYieldsToFault e e' f f' result status.Limit
   is_above text name refusal result above (inl fault) told = unreadable status.Limit result refusal fault.0 fault.1 (ends refusal result told)
   is_above text name refusal result above (inr reason) told = elim (ends refusal result told) [
     | inl put ↦ elim (limit_or_memory file text at refusal name above reason) [
@@ -221,7 +243,7 @@ module _ (file : Bytes) (at e e' f f' : ℕ) (before after : Option Bytes) where
   no_limit : (s : Status) {A : Type 0} → s ≡ status.Limit → s ≡ status.NoMemory → A
   no_limit s is memory = absurd (let e : status.Limit ≡ status.NoMemory = sym is ∙ memory in cc)
 
-  pub names_it : (text : Bytes) (name : LimitName) (refusal : Refusal) (result : Status) → IsAboveLimit text name → ((refusal ≡ Unreadable) × Rose f f') ⊎ IsReason text at refusal → IsReported e e' before after file at refusal result → result ≡ status.Limit → Gains before after (lines.limit name)
+  pub names_it : (text : Bytes) (name : LimitName) (refusal : Refusal) (result : Status) → IsAboveLimit text at name → ((refusal ≡ Unreadable) × Rose f f') ⊎ IsReason text at refusal → IsReported e e' before after file refusal result → result ≡ status.Limit → Gains before after (lines.limit name)
   names_it text name refusal result above (inl fault) told is = elim (ends refusal result told) [
     | inl put ↦ absurd (let e : status.Limit ≡ status.ReadFault = sym is ∙ put.0 ∙ ap status_of fault.0 in cc)
     | inr (inl memory) ↦ no_limit result is memory

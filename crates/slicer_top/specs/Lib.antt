@@ -1,9 +1,12 @@
+pub mod Criteria
 pub mod Files
 pub mod Limits
 pub mod Lines
+pub mod Promises
 pub mod Refusals
 pub mod Reports
+pub mod Seen
 pub mod Slices
 pub mod Statuses
 pub mod Truths
-pub mod Words
+pub mod Writing

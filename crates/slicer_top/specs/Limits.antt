@@ -1,5 +1,5 @@
 -- The quantities of a text that have a greatest number, and the texts that can nest too deep.
-use Rattle.std.specs.Prelude.{◌<◌, ◌≤◌}
+use Rattle.std.specs.Prelude.{ℕ, ◌<◌, ◌≤◌, List}
 use Rattle.c_tree.specs.declared.limits.LimitName.{LimitName}
 use Rattle.c_tree.specs.declared.limits.LimitName.TheVariants as limit
 use Rattle.c_tree.specs.declared.program.Program.{Program}
@@ -13,16 +13,18 @@ use Rattle.c_language.specs.StatementNesting.{program_nesting}
 use Rattle.c_language.specs.Limits.{array_length, object_cells}
 use Rattle.c_language.specs.Programs as programs
 use Rattle.c_reader.specs.Reading.{ReadsTree}
+use Rattle.slicer_top.specs.Slices.{AsksTooMany}
 
--- the tokens of the text are in the grammar, and this quantity is above its number: nesting before all, then, where all rules hold, the length of an array, and then the cells of an object
-pub data IsAboveLimit (text : Bytes) : LimitName → Type 0 where
-  nesting : {raw : RawProgram} → ReadsTree text raw → 100 < program_nesting raw → IsAboveLimit text limit.Nesting
-  length : {raw : RawProgram} {p : Program} → ReadsTree text raw → program_nesting raw ≤ 100 → programs.HasProgram raw p → 65536 < array_length p → IsAboveLimit text limit.ArrayLength
-  cells : {raw : RawProgram} {p : Program} → ReadsTree text raw → program_nesting raw ≤ 100 → programs.HasProgram raw p → array_length p ≤ 65536 → 1048576 < object_cells p → IsAboveLimit text limit.ObjectCells
+-- the tokens of the text are in the grammar, and this quantity is above its number: nesting before all, then, where all rules hold, the length of an array, then the cells of an object, and then, where nothing is outside the built forms, how many lines were asked for
+pub data IsAboveLimit (text : Bytes) (lines : List ℕ) : LimitName → Type 0 where
+  nesting : {raw : RawProgram} → ReadsTree text raw → 100 < program_nesting raw → IsAboveLimit text lines limit.Nesting
+  length : {raw : RawProgram} {p : Program} → ReadsTree text raw → program_nesting raw ≤ 100 → programs.HasProgram raw p → 65536 < array_length p → IsAboveLimit text lines limit.ArrayLength
+  cells : {raw : RawProgram} {p : Program} → ReadsTree text raw → program_nesting raw ≤ 100 → programs.HasProgram raw p → array_length p ≤ 65536 → 1048576 < object_cells p → IsAboveLimit text lines limit.ObjectCells
+  criteria : AsksTooMany text lines → IsAboveLimit text lines limit.Criteria
 
 -- no quantity of the text is above its number
-abbrev pub IsBelowLimits : Bytes → Type 0
-IsBelowLimits text = (name : LimitName) → IsAboveLimit text name → ⊥
+abbrev pub IsBelowLimits : Bytes → List ℕ → Type 0
+IsBelowLimits text lines = (name : LimitName) → IsAboveLimit text lines name → ⊥
 
 -- the text holds more than 100 nesting tokens, and each tree of its tokens nests deeper than 100
 pub record CanBeDeep (text : Bytes) : Type 0 where

@@ -1,5 +1,5 @@
 -- The lines that a call puts on err.
-use Rattle.std.specs.Prelude.{◌≡◌, ◌⊎◌, ℕ, ◌++◌, Option, codes}
+use Rattle.std.specs.Prelude.{◌≡◌, ◌⊎◌, ℕ, ◌++◌, List, Contains, Option, codes}
 use Rattle.std.specs.Fmt.{decimal}
 use Rattle.edge_io.specs.Count.{Rose}
 use Rattle.edge_io.specs.Written.{Gains, GainsFront}
@@ -9,9 +9,9 @@ use Rattle.c_language.specs.Words.{Bytes}
 use Rattle.slicer_top.specs.declared.status.Status.{Status}
 use Rattle.slicer_top.specs.declared.status.Status.TheVariants.{Done, Refused, Usage, ReadFault, WriteFault, NoMemory, Limit, TooLong}
 
--- the words aren't `slice FILE LINE`
+-- the words are outside the grammar
 abbrev pub usage : Bytes
-usage = codes "usage: slicer slice FILE LINE\n"
+usage = codes "usage: slicer slice FILE LINE..\n"
 
 -- the file couldn't be read
 abbrev pub cannot_read : Bytes → Bytes
@@ -75,26 +75,26 @@ cannot_write = codes "cannot write\n"
 abbrev pub out_of_memory : Bytes
 out_of_memory = codes "out of memory\n"
 
--- the line of a status, for this file and this line of it
-pub data IsToldBy (file : Bytes) (line : ℕ) : Status → Bytes → Type 0 where
-  of_usage : IsToldBy file line Usage usage
-  of_file : IsToldBy file line ReadFault (cannot_read file)
-  of_length : IsToldBy file line TooLong (too_long file)
-  of_byte : (at : ℕ) → IsToldBy file line Refused (bad_byte at)
-  of_number : (at : ℕ) → IsToldBy file line Refused (bad_number at)
-  of_comment : (at : ℕ) → IsToldBy file line Refused (open_comment at)
-  of_token : (at : ℕ) (token : Bytes) → IsToldBy file line Refused (left_out at token)
-  of_tokens : (at : ℕ) → IsToldBy file line Refused (syntax at)
-  of_rule : (at number : ℕ) → IsToldBy file line Refused (rule at number)
-  of_form : (at : ℕ) → IsToldBy file line Refused (not_yet at)
-  of_line : IsToldBy file line Refused (no_start line)
-  of_limit : (name : LimitName) → IsToldBy file line Limit (limit name)
-  of_out : IsToldBy file line WriteFault cannot_write
-  of_memory : IsToldBy file line NoMemory out_of_memory
+-- the line of a status, for this file and these lines of it
+pub data IsToldBy (file : Bytes) (lines : List ℕ) : Status → Bytes → Type 0 where
+  of_usage : IsToldBy file lines Usage usage
+  of_file : IsToldBy file lines ReadFault (cannot_read file)
+  of_length : IsToldBy file lines TooLong (too_long file)
+  of_byte : (at : ℕ) → IsToldBy file lines Refused (bad_byte at)
+  of_number : (at : ℕ) → IsToldBy file lines Refused (bad_number at)
+  of_comment : (at : ℕ) → IsToldBy file lines Refused (open_comment at)
+  of_token : (at : ℕ) (token : Bytes) → IsToldBy file lines Refused (left_out at token)
+  of_tokens : (at : ℕ) → IsToldBy file lines Refused (syntax at)
+  of_rule : (at number : ℕ) → IsToldBy file lines Refused (rule at number)
+  of_form : (at : ℕ) → IsToldBy file lines Refused (not_yet at)
+  of_line : (at : ℕ) → Contains lines at → IsToldBy file lines Refused (no_start at)
+  of_limit : (name : LimitName) → IsToldBy file lines Limit (limit name)
+  of_out : IsToldBy file lines WriteFault cannot_write
+  of_memory : IsToldBy file lines NoMemory out_of_memory
 
 -- the line of this status was put
-abbrev pub Puts : Bytes → ℕ → Status → Option Bytes → Option Bytes → Type 0
-Puts file line status before after = (words : Bytes) × IsToldBy file line status words × Gains before after words
+abbrev pub Puts : Bytes → List ℕ → Status → Option Bytes → Option Bytes → Type 0
+Puts file lines status before after = (words : Bytes) × IsToldBy file lines status words × Gains before after words
 
 -- err has these counts of faults and tells these bytes, before and after
 module _ (faults faults' : ℕ) (before after : Option Bytes) where
@@ -107,16 +107,16 @@ module _ (faults faults' : ℕ) (before after : Option Bytes) where
   PutOrCutOff words = Gains before after words ⊎ CutOff words
 
   -- `cannot write` was put, or the put of the line of one status failed
-  abbrev pub TellsFault : Bytes → ℕ → Type 0
-  TellsFault file line = Gains before after cannot_write ⊎ ((status : Status) × (words : Bytes) × IsToldBy file line status words × CutOff words)
+  abbrev pub TellsFault : Bytes → List ℕ → Type 0
+  TellsFault file lines = Gains before after cannot_write ⊎ ((status : Status) × (words : Bytes) × IsToldBy file lines status words × CutOff words)
 
   -- what err has gained when a call ends: nothing after Done, the line of the status after others, and after WriteFault that or a front of a line
-  abbrev pub Tells : Bytes → ℕ → Status → Type 0
-  Tells file line Done = after ≡ before
-  Tells file line Refused = Puts file line Refused before after
-  Tells file line Usage = Puts file line Usage before after
-  Tells file line ReadFault = Puts file line ReadFault before after
-  Tells file line WriteFault = TellsFault file line
-  Tells file line NoMemory = Puts file line NoMemory before after
-  Tells file line Limit = Puts file line Limit before after
-  Tells file line TooLong = Puts file line TooLong before after
+  abbrev pub Tells : Bytes → List ℕ → Status → Type 0
+  Tells file lines Done = after ≡ before
+  Tells file lines Refused = Puts file lines Refused before after
+  Tells file lines Usage = Puts file lines Usage before after
+  Tells file lines ReadFault = Puts file lines ReadFault before after
+  Tells file lines WriteFault = TellsFault file lines
+  Tells file lines NoMemory = Puts file lines NoMemory before after
+  Tells file lines Limit = Puts file lines Limit before after
+  Tells file lines TooLong = Puts file lines TooLong before after

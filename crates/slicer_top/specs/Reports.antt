@@ -1,5 +1,5 @@
 -- Why a file gives no slice, and how that is told.
-use Rattle.std.specs.Prelude.{◌≡◌, ◌⊎◌, ℕ, ◌≤◌, length, Option, Some, IsSome}
+use Rattle.std.specs.Prelude.{◌≡◌, ◌⊎◌, ℕ, ◌≤◌, List, Contains, length, Option, Some, IsSome}
 use Rattle.edge_io.specs.Contents.{Told, Lacks, HoldsMoreThan}
 use Rattle.edge_io.specs.Count.{Rose}
 use Rattle.edge_io.specs.Written.{Gains}
@@ -16,30 +16,31 @@ use Rattle.c_reader.specs.Reading.{ReadsProgram}
 use Rattle.c_reader.specs.Refusals.{IsLexFault, HasParseFault, HasRuleFault}
 use Rattle.built_forms.specs.BuiltForms as forms
 use Rattle.slicer_top.specs.declared.refusal.Refusal.{Refusal}
-use Rattle.slicer_top.specs.declared.refusal.Refusal.TheVariants.{Unreadable, TooLong, Lex, Parse, Check, NotYet, NoStart, NoMemory}
+use Rattle.slicer_top.specs.declared.refusal.Refusal.TheVariants.{Unreadable, TooLong, Lex, Parse, Check, NotYet, NoStart, TooMany, NoMemory}
 use Rattle.slicer_top.specs.declared.status.Status.{Status}
 use Rattle.slicer_top.specs.declared.status.Status.TheVariants as status
 use Rattle.slicer_top.specs.Files.{OfFile}
-use Rattle.slicer_top.specs.Slices.{LacksStart}
+use Rattle.slicer_top.specs.Slices.{LacksStart, AsksTooMany}
 use Rattle.slicer_top.specs.Lines as line
 
--- the text shows the refusal, where its statements on a line were asked for
-abbrev pub IsReason : Bytes → ℕ → Refusal → Type 0
+-- the text shows the refusal, where its statements on these lines were asked for
+abbrev pub IsReason : Bytes → List ℕ → Refusal → Type 0
 IsReason text at Unreadable = ⊥
 IsReason text at TooLong = ⊥
 IsReason text at (Lex fault) = IsLexFault text fault
 IsReason text at (Parse fault) = HasParseFault text fault
 IsReason text at (Check fault) = HasRuleFault text fault
 IsReason text at (NotYet first) = (p : Program) × ReadsProgram text p × (forms.not_yet p ≡ Some first)
-IsReason text at NoStart = LacksStart text at
+IsReason text at (NoStart line) = LacksStart text at line
+IsReason text at TooMany = AsksTooMany text at
 IsReason text at NoMemory = Unit {0}
 
 -- the file holds a text that shows the refusal
-abbrev pub IsShown : Told → Bytes → ℕ → Refusal → Type 0
+abbrev pub IsShown : Told → Bytes → List ℕ → Refusal → Type 0
 IsShown told file at refusal = OfFile told file (λ text. (length text ≤ 1048576) × IsReason text at refusal)
 
 -- the cause of a refusal: the counts of faults and of long files before and after the fetch, or the bytes of the file
-module _ (told : Told) (file : Bytes) (at faults faults' long_files long_files' : ℕ) where
+module _ (told : Told) (file : Bytes) (at : List ℕ) (faults faults' long_files long_files' : ℕ) where
   abbrev pub IsCause : Refusal → Type 0
   IsCause Unreadable = Rose faults faults' ⊎ Lacks told file
   IsCause TooLong = Rose long_files long_files' × (IsSome told → HoldsMoreThan told file 1048576)
@@ -47,8 +48,21 @@ module _ (told : Told) (file : Bytes) (at faults faults' long_files long_files' 
   IsCause (Parse fault) = IsShown told file at (Parse fault)
   IsCause (Check fault) = IsShown told file at (Check fault)
   IsCause (NotYet first) = IsShown told file at (NotYet first)
-  IsCause NoStart = IsShown told file at NoStart
+  IsCause (NoStart line) = IsShown told file at (NoStart line)
+  IsCause TooMany = IsShown told file at TooMany
   IsCause NoMemory = Unit {0}
+
+-- a line without a statement that is told is one of those that were asked for
+abbrev pub IsAmong : List ℕ → Refusal → Type 0
+IsAmong lines (NoStart l) = Contains lines l
+IsAmong lines Unreadable = Unit {0}
+IsAmong lines TooLong = Unit {0}
+IsAmong lines (Lex fault) = Unit {0}
+IsAmong lines (Parse fault) = Unit {0}
+IsAmong lines (Check fault) = Unit {0}
+IsAmong lines (NotYet first) = Unit {0}
+IsAmong lines TooMany = Unit {0}
+IsAmong lines NoMemory = Unit {0}
 
 -- the status of a refusal
 abbrev pub lex_status : LexFault → Status
@@ -75,7 +89,8 @@ status_of (Lex fault) = lex_status fault
 status_of (Parse fault) = parse_status fault
 status_of (Check fault) = rule_status fault
 status_of (NotYet first) = status.Refused
-status_of NoStart = status.Refused
+status_of (NoStart line) = status.Refused
+status_of TooMany = status.Limit
 status_of NoMemory = status.NoMemory
 
 -- its line on err
@@ -96,15 +111,16 @@ rule_line (rule.Rule number at) = line.rule at number
 rule_line (rule.Limit name) = line.limit name
 rule_line rule.NoMemory = line.out_of_memory
 
-abbrev pub words_of : Bytes → ℕ → Refusal → Bytes
-words_of file at Unreadable = line.cannot_read file
-words_of file at TooLong = line.too_long file
-words_of file at (Lex fault) = lex_line fault
-words_of file at (Parse fault) = parse_line fault
-words_of file at (Check fault) = rule_line fault
-words_of file at (NotYet first) = line.not_yet first
-words_of file at NoStart = line.no_start at
-words_of file at NoMemory = line.out_of_memory
+abbrev pub words_of : Bytes → Refusal → Bytes
+words_of file Unreadable = line.cannot_read file
+words_of file TooLong = line.too_long file
+words_of file (Lex fault) = lex_line fault
+words_of file (Parse fault) = parse_line fault
+words_of file (Check fault) = rule_line fault
+words_of file (NotYet first) = line.not_yet first
+words_of file (NoStart at) = line.no_start at
+words_of file TooMany = line.limit limit.Criteria
+words_of file NoMemory = line.out_of_memory
 
 -- the line was put and the status is this one, or the put failed
 module _ (faults faults' : ℕ) (before after : Option Bytes) where
@@ -112,6 +128,6 @@ module _ (faults faults' : ℕ) (before after : Option Bytes) where
   PutsLine answer words result = ((result ≡ answer) × Gains before after words) ⊎ ((result ≡ status.WriteFault) × line.CutOff faults faults' before after words)
 
   -- the refusal was told, or that memory was wanting for its line
-  abbrev pub IsReported : Bytes → ℕ → Refusal → Status → Type 0
-  IsReported file at refusal result =
-      PutsLine (status_of refusal) (words_of file at refusal) result ⊎ PutsLine status.NoMemory line.out_of_memory result
+  abbrev pub IsReported : Bytes → Refusal → Status → Type 0
+  IsReported file refusal result =
+      PutsLine (status_of refusal) (words_of file refusal) result ⊎ PutsLine status.NoMemory line.out_of_memory result

@@ -1,6 +1,6 @@
--- What a text and a line have to do with each other, and with the text that is written for them.
-use Rattle.std.specs.Prelude.{◌≡◌, ℕ, Option, None}
-use Rattle.edge_io.specs.Written.{Gains, GainsFront}
+-- What a text and lines of it have to do with each other, and with the texts that are written for them.
+use Rattle.std.specs.Prelude.{◌≡◌, ℕ, ◌<◌, ◌≤◌, List, [], ◌∷◌, ◌++◌, length, take, Option, None, slice_index_or}
+use Rattle.edge_io.specs.Written.{Gains}
 use Rattle.c_tree.specs.declared.program.Program.{Program}
 use Rattle.c_language.specs.Words.{Bytes}
 use Rattle.built_forms.specs.BuiltForms.{not_yet}
@@ -12,35 +12,83 @@ pub record HasBuilt (text : Bytes) (p : Program) : Type 0 where
   pub reads : ReadsProgram text p
   pub built : not_yet p ≡ None
 
--- the text has such a program, and on the line starts no statement of it
-abbrev pub LacksStart : Bytes → ℕ → Type 0
-LacksStart text line = (p : Program) × HasBuilt text p × (HasStart p line → ⊥)
+abbrev pub line_at : List ℕ → ℕ → ℕ
+line_at lines i = slice_index_or lines i 0
 
--- the text has such a program, and on the line starts a statement of it
-pub record StartsSome (text : Bytes) (line : ℕ) : Type 0 where
+-- on each of the lines starts a statement of the program
+abbrev pub StartOn : Program → List ℕ → Type 0
+StartOn p lines = (i : ℕ) → i < length lines → HasStart p (line_at lines i)
+
+-- this is the first of at most 64 lines on which no statement starts
+pub record IsFirstWithout (p : Program) (lines : List ℕ) (line : ℕ) : Type 0 where
+  pub few : length lines ≤ 64
+  pub place : ℕ
+  pub within : place < length lines
+  pub is_line : line ≡ line_at lines place
+  pub before : (i : ℕ) → i < place → HasStart p (line_at lines i)
+  pub none : HasStart p line → ⊥
+
+-- the text has such a program, and so it is of a line
+abbrev pub LacksStart : Bytes → List ℕ → ℕ → Type 0
+LacksStart text lines line = (p : Program) × HasBuilt text p × IsFirstWithout p lines line
+
+-- the text has such a program, and more than 64 lines were asked for
+abbrev pub AsksTooMany : Bytes → List ℕ → Type 0
+AsksTooMany text lines = (p : Program) × HasBuilt text p × (64 < length lines)
+
+-- the text has such a program, and on each of the lines, which are at most 64, starts a statement of it
+pub record StartsSome (text : Bytes) (lines : List ℕ) : Type 0 where
   pub program : Program
   pub built : HasBuilt text program
-  pub starts : HasStart program line
+  pub few : length lines ≤ 64
+  pub starts : StartOn program lines
 
--- the text has no such program, or on the line starts no statement of it
-abbrev pub StartsNone : Bytes → ℕ → Type 0
-StartsNone text line = (p : Program) → HasBuilt text p → HasStart p line → ⊥
+-- the text has no such program, or on one of the lines starts no statement of it
+abbrev pub StartsNone : Bytes → List ℕ → Type 0
+StartsNone text lines = (p : Program) → HasBuilt text p → StartOn p lines → ⊥
 
--- what is written is the slice of the text's program at the line, which is a text again and gives the same values
+-- what is written is the slice of a program at a line, on which a statement starts; it is a text again and gives the same values
+pub record IsSliceAt (p : Program) (line : ℕ) (written : Bytes) : Type 0 where
+  pub starts : HasStart p line
+  pub slice : IsSlice p line written
+  pub faithful : IsFaithful p line written
+
+-- it is the slice of the text's program
 pub record IsSliceOf (text : Bytes) (line : ℕ) (written : Bytes) : Type 0 where
   pub program : Program
   pub built : HasBuilt text program
-  pub starts : HasStart program line
-  pub slice : IsSlice program line written
-  pub faithful : IsFaithful program line written
+  pub is : IsSliceAt program line written
 
--- the slice was written behind what was there, whole
-abbrev pub WritesSlice : Bytes → ℕ → Option Bytes → Option Bytes → Type 0
-WritesSlice text line before after = (written : Bytes) × IsSliceOf text line written × Gains before after written
+abbrev pub text_at : List Bytes → ℕ → Bytes
+text_at texts i = slice_index_or texts i []
 
--- a front of the slice was written
-abbrev pub WritesFront : Bytes → ℕ → Option Bytes → Option Bytes → Type 0
-WritesFront text line before after = (written : Bytes) × IsSliceOf text line written × GainsFront before after written
+-- the texts are the slices of the text's program at the lines, in their order; the lines are at most 64
+pub record AreSlices (text : Bytes) (lines : List ℕ) (texts : List Bytes) : Type 0 where
+  pub program : Program
+  pub built : HasBuilt text program
+  pub few : length lines ≤ 64
+  pub as_many : length texts ≡ length lines
+  pub each : (i : ℕ) → i < length lines → IsSliceAt program (line_at lines i) (text_at texts i)
+
+-- texts one behind the other
+abbrev pub joined : List Bytes → Bytes
+joined [] = []
+joined (t ∷ ts) = t ++ joined ts
+
+-- the slices were written behind what was there, whole, and nothing else
+abbrev pub WritesSlices : Bytes → List ℕ → Option Bytes → Option Bytes → Type 0
+WritesSlices text lines before after = (texts : List Bytes) × AreSlices text lines texts × Gains before after (joined texts)
+
+-- the texts before one of them were written, and a front of that one
+pub record GainsUpTo (before after : Option Bytes) (texts : List Bytes) : Type 0 where
+  pub place : ℕ
+  pub within : place < length texts
+  pub count : ℕ
+  pub front : Gains before after (joined (take place texts) ++ take count (text_at texts place))
+
+-- so it is of the slices
+abbrev pub WritesFront : Bytes → List ℕ → Option Bytes → Option Bytes → Type 0
+WritesFront text lines before after = (texts : List Bytes) × AreSlices text lines texts × GainsUpTo before after texts
 
 -- a text has at most one slice at a line
 abbrev pub SlicesAreOne : Type 0

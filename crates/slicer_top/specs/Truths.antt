@@ -1,5 +1,5 @@
 -- What the lines of a refusal and of a limit say of the text.
-use Rattle.std.specs.Prelude.{◌≡◌, ℕ, Option, Some}
+use Rattle.std.specs.Prelude.{◌≡◌, ℕ, List, Option, Some}
 use Rattle.edge_io.specs.Written.{Gains}
 use Rattle.c_tree.specs.declared.limits.LimitName.TheVariants as limit
 use Rattle.c_tree.specs.declared.program.Program.{Program}
@@ -16,8 +16,8 @@ use Rattle.slicer_top.specs.Slices.{LacksStart}
 use Rattle.slicer_top.specs.declared.status.Status.{Status}
 use Rattle.slicer_top.specs.declared.status.Status.TheVariants.{Refused, Limit}
 
--- what the line of the status says is true of the text, whose statements on a line were asked for
-pub data IsTrueOf (text : Bytes) (asked : ℕ) : Status → Bytes → Type 0 where
+-- what the line of the status says is true of the text, whose statements on these lines were asked for
+pub data IsTrueOf (text : Bytes) (asked : List ℕ) : Status → Bytes → Type 0 where
   -- the bytes show the fault at that line
   bad_byte : (at : ℕ) → IsLexFault text (lex.BadByte at) → IsTrueOf text asked Refused (line.bad_byte at)
   bad_number : (at : ℕ) → IsLexFault text (lex.BadNumber at) → IsTrueOf text asked Refused (line.bad_number at)
@@ -31,14 +31,15 @@ pub data IsTrueOf (text : Bytes) (asked : ℕ) : Status → Bytes → Type 0 whe
   rule : (number at : ℕ) → HasRuleFault text (fault.Rule number at) → IsTrueOf text asked Refused (line.rule at number)
   -- what stands first outside the built forms stands at that line, or has none in the tree, and what stands for it does
   not_yet : (at : ℕ) {p : Program} → ReadsProgram text p → forms.not_yet p ≡ Some at → IsTrueOf text asked Refused (line.not_yet at)
-  -- on the line starts no statement
-  no_start : LacksStart text asked → IsTrueOf text asked Refused (line.no_start asked)
+  -- this is the first of the lines on which no statement starts
+  no_start : (at : ℕ) → LacksStart text asked at → IsTrueOf text asked Refused (line.no_start at)
   -- the text can be deep
   deep : CanBeDeep text → IsTrueOf text asked Limit (line.limit limit.Nesting)
   -- the quantity is above its number
-  length : IsAboveLimit text limit.ArrayLength → IsTrueOf text asked Limit (line.limit limit.ArrayLength)
-  cells : IsAboveLimit text limit.ObjectCells → IsTrueOf text asked Limit (line.limit limit.ObjectCells)
+  length : IsAboveLimit text asked limit.ArrayLength → IsTrueOf text asked Limit (line.limit limit.ArrayLength)
+  cells : IsAboveLimit text asked limit.ObjectCells → IsTrueOf text asked Limit (line.limit limit.ObjectCells)
+  criteria : IsAboveLimit text asked limit.Criteria → IsTrueOf text asked Limit (line.limit limit.Criteria)
 
 -- err has gained a line of the status that is true of the text
-abbrev pub TellsTruth : Status → Bytes → ℕ → Option Bytes → Option Bytes → Type 0
+abbrev pub TellsTruth : Status → Bytes → List ℕ → Option Bytes → Option Bytes → Type 0
 TellsTruth status text asked before after = (words : Bytes) × IsTrueOf text asked status words × Gains before after words

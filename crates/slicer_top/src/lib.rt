@@ -1,8 +1,8 @@
-//! The top call of the slicer: from the words of a command line to the bytes of a slice.
+//! The top call of the slicer: from the words of a command line to the bytes of slices.
 //!
 //! [`run_slicer`] works over any shelf and any sinks. The program gives it [`FileShelf`] and
 //! [`StreamSink`], tests give it files in memory and sinks that fail. [`run_call`] is what `main` calls: it makes the
-//! words of the program's arguments ([`call_words`]), and its answer, an [`Exit`], has the code of the status.
+//! words of the program's arguments, and its answer, an [`Exit`], has the code of the status.
 #![tactic(auto)]
 
 mod exit;
@@ -12,11 +12,9 @@ mod report;
 mod run;
 mod slicing;
 mod status;
-mod words;
 
 pub use edge_io::{FileShelf, StreamSink, Text};
 pub use exit::{Exit, run_call};
-pub use laws::slices_are_one;
+pub use laws::{calls_keep_promises, slices_are_one};
 pub use run::run_slicer;
 pub use status::Status;
-pub use words::call_words;

@@ -1,4 +1,4 @@
-//! Why a file gives no slice, with the faults of fetching and reading as causes.
+//! Why a file gives no slices, with the faults of fetching and reading as causes.
 ghost use Rattle.std.specs.Prelude.{◌≡◌};
 ghost use Rattle.slicer_top.specs.declared.refusal.Refusal.TheVariants.{NoMemory};
 ghost use Rattle.slicer_top.specs.Refusals.{of_fetch, of_reading};
@@ -7,7 +7,7 @@ use edge_io::FetchFault;
 use slice_engine::{LexFault, ParseFault, ReadRefusal, RuleFault};
 use std::alloc::AllocError;
 
-/// Why a file gives no slice at a line. No inner fault is `NoMemory`.
+/// Why a file gives no slices at lines. No inner fault is `NoMemory`.
 #[derive(Debug, Drop)]
 pub(crate) enum Refusal {
     /// The file couldn't be read.
@@ -22,8 +22,10 @@ pub(crate) enum Refusal {
     Check(RuleFault),
     /// What stands first outside the built forms stands at this line.
     NotYet(u32),
-    /// No statement starts on the line.
-    NoStart,
+    /// More lines are asked for than 64.
+    TooMany,
+    /// No statement starts on this line, and one starts on each line that was asked for before it.
+    NoStart(u64),
     /// There was no memory for the work.
     NoMemory,
 }

@@ -6,24 +6,18 @@ ghost use Rattle.slicer_top.specs.Reports.{PutsLine, IsReported};
 
 use crate::refusal::Refusal;
 use crate::status::Status;
-use crate::words::Request;
 use edge_io::{PutFailed, Sink, Text};
 use slice_engine::{LexFault, LimitName, ParseFault, RuleFault};
 use std::alloc::{AllocError, Global};
 
 /// Puts the line of a refusal, and answers its status. Where there is no memory for the line, that is told instead.
-pub(crate) fn report<E: Sink>(
-    alloc: Global,
-    refusal: &Refusal,
-    request: Request<'_>,
-    err: &mut E,
-) -> Status
+pub(crate) fn report<E: Sink>(alloc: Global, refusal: &Refusal, file: &str, err: &mut E) -> Status
     ensures told { IsReported (E.faults err.old) (E.faults err.new) (E.written err.old) (E.written err.new)
-        request.entry.file.now request.entry.line refusal.now result }
+        file.now refusal.now result }
     ensures taken { refusal.now ≡ Refusal.NoMemory → E.takes err.old 14
         → (result ≡ Status.NoMemory) × (E.faults err.new ≡ E.faults err.old) }
 {
-    tell_made(line_of(alloc, refusal, request), status_of(refusal), err)
+    tell_made(line_of(alloc, refusal, file), status_of(refusal), err)
 }
 
 // Puts a line that was made, or where there was no memory for it, tells that.
@@ -72,7 +66,8 @@ fn status_of(refusal: &Refusal) -> Status
         Refusal::Parse(fault) => parse_status(fault),
         Refusal::Check(fault) => rule_status(fault),
         Refusal::NotYet(_) => Status::Refused,
-        Refusal::NoStart => Status::Refused,
+        Refusal::TooMany => Status::Limit,
+        Refusal::NoStart(_) => Status::Refused,
         Refusal::NoMemory => Status::NoMemory,
     }
 }
@@ -112,18 +107,19 @@ fn rule_status(fault: &RuleFault) -> Status
 // ---- lines
 
 // The line of a refusal; for one that says that there was no memory none is made.
-fn line_of(alloc: Global, refusal: &Refusal, request: Request<'_>) -> Result<Text, AllocError>
-    ensures made { IfOk result (λ made. made ≡ spec.words_of request.entry.file.now request.entry.line refusal.now) }
+fn line_of(alloc: Global, refusal: &Refusal, file: &str) -> Result<Text, AllocError>
+    ensures made { IfOk result (λ made. made ≡ spec.words_of file.now refusal.now) }
     ensures none { refusal.now ≡ Refusal.NoMemory → IsErr result }
 {
     match refusal {
-        Refusal::Unreadable => unreadable_line(alloc, request.file),
-        Refusal::TooLong => too_long_line(alloc, request.file),
+        Refusal::Unreadable => unreadable_line(alloc, file),
+        Refusal::TooLong => too_long_line(alloc, file),
         Refusal::Lex(fault) => lex_line(alloc, fault),
         Refusal::Parse(fault) => parse_line(alloc, fault),
         Refusal::Check(fault) => rule_line(alloc, fault),
         Refusal::NotYet(at) => numbered(alloc, u64::from(*at), b"not yet"),
-        Refusal::NoStart => numbered(alloc, request.line, b"no statement starts here"),
+        Refusal::TooMany => limit_line(alloc, LimitName::Criteria),
+        Refusal::NoStart(line) => numbered(alloc, *line, b"no statement starts here"),
         Refusal::NoMemory => Err(AllocError),
     }
 }

@@ -1,60 +1,64 @@
-//! From the name of a file to the text of a slice.
-ghost use Rattle.std.specs.Prelude.{◌≡◌, ℕ, ◌≤◌, IfOk, IfErr, MatchOption, length};
+//! From the name of a file and lines of it to the texts of the slices.
+ghost use Rattle.std.specs.Prelude.{◌≡◌, ℕ, List, ◌≤◌, IfOk, IfErr, MatchResult, length};
 ghost use Rattle.edge_io.specs.Contents.{Lacks};
 ghost use Rattle.slice_engine.specs.Slice.{HasStart};
+ghost use Rattle.slicer_top.specs.Criteria.{AreCriteria, IsCriteriaFault};
 ghost use Rattle.slicer_top.specs.Files.{OfFile};
-ghost use Rattle.slicer_top.specs.Slices.{HasBuilt, IsSliceOf};
-ghost use Rattle.slicer_top.specs.Reports.{IsReason, IsCause};
+ghost use Rattle.slicer_top.specs.Slices.{HasBuilt, AreSlices};
+ghost use Rattle.slicer_top.specs.Reports.{IsReason, IsAmong, IsCause};
 
 use crate::refusal::Refusal;
-use crate::words::Request;
 use c_tree::Program;
 use edge_io::{Shelf, Text};
+use slice_batch::slices;
 use slice_engine::{Criterion, Engine, not_yet, read_program};
 use std::alloc::Global;
 
 // The most bytes that a file may have.
 const MAX_FILE_BYTES: usize = 1_048_576;
 
-/// The text of the slice that is asked for.
+// How many lines may be asked for at most.
+const MAX_CRITERIA: usize = 64;
+
+/// The texts of the slices of a file at these lines.
 pub(crate) fn slice_file<F: Shelf>(
     alloc: Global,
-    request: Request<'_>,
+    file: &str,
+    lines: &[u64],
     shelf: &mut F,
-) -> Result<Text, Refusal>
+) -> Result<Vec<Text>, Refusal>
     ensures contents { F.contents shelf.new ≡ F.contents shelf.old }
-    ensures ok { IfOk result (λ written. OfFile (F.contents shelf.old) request.entry.file.now
-        (λ text. (length text ≤ 1048576) × IsSliceOf text request.entry.line written)) }
-    ensures err { IfErr result (IsCause (F.contents shelf.old) request.entry.file.now request.entry.line
+    ensures ok { IfOk result (λ texts. OfFile (F.contents shelf.old) file.now
+        (λ text. (length text ≤ 1048576) × AreSlices text lines.now texts.items)) }
+    ensures err { IfErr result (IsCause (F.contents shelf.old) file.now lines.now
         (F.faults shelf.old) (F.faults shelf.new) (F.long_files shelf.old) (F.long_files shelf.new)) }
+    ensures among { IfErr result (IsAmong lines.now) }
     ensures no_fault { F.never_fails shelf.old → F.faults shelf.new ≡ F.faults shelf.old }
     ensures missing { F.never_fails shelf.old → IfErr result (λ refusal. refusal ≡ Refusal.Unreadable
-        → Lacks (F.contents shelf.old) request.entry.file.now) }
+        → Lacks (F.contents shelf.old) file.now) }
 {
-    let bytes = shelf.fetch(alloc, request.file, MAX_FILE_BYTES)?;
-    slice_text_at(alloc, bytes.as_slice(), request.line)
+    let bytes = shelf.fetch(alloc, file, MAX_FILE_BYTES)?;
+    slices_of(alloc, bytes.as_slice(), lines)
 }
 
-// The text of the slice at a line, or why this text gives none.
-fn slice_text_at(alloc: Global, text: &[u8], line: u64) -> Result<Text, Refusal>
+// The texts of the slices at these lines, or why this text gives none.
+fn slices_of(alloc: Global, text: &[u8], lines: &[u64]) -> Result<Vec<Text>, Refusal>
     requires { length text.now ≤ 1048576 }
-    ensures ok { IfOk result (IsSliceOf text.now line) }
-    ensures err { IfErr result (IsReason text.now line) }
+    ensures ok { IfOk result (λ texts. AreSlices text.now lines.now texts.items) }
+    ensures err { IfErr result (IsReason text.now lines.now) }
 {
     let program = built(alloc, text)?;
     let engine = Engine::new(alloc, program)?;
-    let Some(criterion) = criterion_at(&engine, line) else {
-        return Err(Refusal::NoStart);
-    };
-    let written = engine.slice_text(alloc, criterion)?;
-    Ok(written)
+    let criteria = criteria_at(alloc, &engine, lines)?;
+    let texts = slices(alloc, &engine, criteria.as_slice())?;
+    Ok(texts)
 }
 
 // The program of a text of which nothing is outside the built forms.
 fn built(alloc: Global, text: &[u8]) -> Result<Program, Refusal>
     requires { length text.now ≤ 1048576 }
     ensures ok { IfOk result (HasBuilt text.now) }
-    ensures err { (line : ℕ) → IfErr result (IsReason text.now line) }
+    ensures err { (lines : List ℕ) → IfErr result (IsReason text.now lines) }
 {
     let program = read_program(alloc, text)?;
     match not_yet(&program) {
@@ -63,15 +67,36 @@ fn built(alloc: Global, text: &[u8]) -> Result<Program, Refusal>
     }
 }
 
-// The criterion of a line, `None` where no statement starts there.
-fn criterion_at(engine: &Engine, line: u64) -> Option<Criterion>
-    ensures { MatchOption result (HasStart engine.now line → ⊥) (λ c. (c.line ≡ line) × HasStart engine.now line) }
+// The criteria of these lines, at most 64, or the first line on which no statement starts.
+fn criteria_at(alloc: Global, engine: &Engine, lines: &[u64]) -> Result<Vec<Criterion>, Refusal>
+    ensures { MatchResult result (λ found. AreCriteria engine.now lines.now found.items) (IsCriteriaFault engine.now lines.now) }
+{
+    if lines.len() > MAX_CRITERIA {
+        return Err(Refusal::TooMany);
+    }
+    let mut found = Vec::new(alloc);
+    for line in lines {
+        let criterion = criterion_at(engine, *line)?;
+        if found.push(criterion).is_err() {
+            return Err(Refusal::NoMemory);
+        }
+    }
+    Ok(found)
+}
+
+// The criterion of a line. Err: no statement starts there.
+fn criterion_at(engine: &Engine, line: u64) -> Result<Criterion, Refusal>
+    ensures { MatchResult result (λ c. (c.line ≡ line) × HasStart engine.now line)
+        (λ refusal. (refusal ≡ Refusal.NoStart line) × (HasStart engine.now line → ⊥)) }
 {
     if line > u64::from(engine.last_line()) {
-        return None;
+        return Err(Refusal::NoStart(line));
     }
-    match u32::try_from(line) {
-        Ok(line) => engine.criterion(line),
-        Err(_) => None,
+    let Ok(number) = u32::try_from(line) else {
+        return Err(Refusal::NoStart(line));
+    };
+    match engine.criterion(number) {
+        Some(criterion) => Ok(criterion),
+        None => Err(Refusal::NoStart(line)),
     }
 }

@@ -9,19 +9,19 @@ use std::process::ExitCode;
 /// takes it.
 #[derive(Clone, Copy, Debug, PartialEq, Eq)]
 pub enum Status {
-    /// The slice is written. Code 0.
+    /// The slices are written. Code 0.
     Done,
-    /// The text isn't accepted, something of it isn't built, or no statement starts on the line. Code 1.
+    /// The text isn't accepted, something of it isn't built, or no statement starts on one of the lines. Code 1.
     Refused,
-    /// The words aren't `slice FILE LINE`. Code 2.
+    /// The words are outside the grammar. Code 2.
     Usage,
     /// The file couldn't be read. Code 3.
     ReadFault,
-    /// The slice, or the line of another status on err, couldn't be written. Code 4.
+    /// A slice, or the line of another status on err, couldn't be written. Code 4.
     WriteFault,
     /// There was no memory for the work. Code 5.
     NoMemory,
-    /// The program nests too deep, or an array or an object of it is too large. Code 8.
+    /// The program nests too deep, an array or an object of it is too large, or more than 64 lines are asked for. Code 8.
     Limit,
     /// The file is longer than 1,048,576 bytes. Code 9.
     TooLong,

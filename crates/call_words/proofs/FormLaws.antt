@@ -1,0 +1,193 @@
+-- Words in the form of a row are such as `clap` takes, and what it finds in them is what was sorted.
+use Rattle.std.proofs.Common.{◌≡◌, ◌≢◌, ◌||◌, ℕ, ◌+◌, ◌<◌, min, Bool, true, false, cond, not, zero, suc, List, [], ◌∷◌, map, drop, length, refl, sym, ap, ap₂, add-one, ◌∙◌, subst, arith, Option, Some, None, true≢false, codes}
+use Rattle.std.specs.Prelude.{IsSomeAnd, IfSome, fold, slice_index_or}
+use Rattle.std.specs.Borrow.{Bor}
+use Rattle.std.specs.List.{find, All}
+use Rattle.std.specs.Option.{option_map, option_map_or}
+use Rattle.std.specs.Str.{IsUtf8, bytes_eq}
+use Rattle.std.proofs.lemmas.Bool.Decides.{nat_tests}
+use Rattle.std.specs.Prelude.{option_and_then, slice_get}
+use Rattle.clap.specs.Matches.{found_of, raw_values}
+use Rattle.clap.specs.Walk.{Row, all_of, first_of, rows_of}
+use Rattle.clap.specs.declared.parser.matches.MatchedArg.{MatchedArg}
+use Rattle.clap.specs.Simple.{matches_of}
+use Rattle.clap.specs.Takes.{takes}
+use Rattle.clap.specs.declared.parser.matches.ArgMatches.{ArgMatches}
+use Rattle.clap.proofs.WalkLemmas.{raw_values-rows, first_value-rows}
+use Rattle.call_words.specs.Sorting.{Bytes, Sorted, and_sorted, none_sorted, sorted}
+use Rattle.call_words.specs.Forms.{texts}
+use Rattle.call_words.specs.declared.grammar.Command.{Command}
+use Rattle.call_words.specs.declared.grammar.Command.TheVariants.{Slice}
+use Rattle.call_words.specs.Grammar as grammar
+use Rattle.call_words.specs.Grammar.{AreWanted, IsInForm, IsNumber, IsOf, IsSortedInForm, command_of, kind_at, kind_of, word}
+use Rattle.call_words.specs.Requests.{Asked, CanAsk, asks, number_or, numbers_of, value_given}
+use Rattle.call_words.specs.Clap.{HasMatches, app_for, is_apart, option_names, others_found, value_found}
+use Rattle.call_words.specs.declared.grammar.Kind.{Kind}
+use Rattle.call_words.specs.declared.grammar.Kind.TheVariants.{File, Number}
+use Rattle.call_words.proofs.Words.{dashes, is_name, knows, Each, each_of, each_map, once_of}
+use Rattle.call_words.proofs.Places.{any_default}
+use Rattle.call_words.proofs.ClapLaws.{Right, Holds, listed, single, taken, found}
+
+-- a word of a kind doesn't begin with a hyphen
+no_dash : (kind : Kind) (w : Bytes) → IsOf kind w → dashes w ≡ false
+no_dash File [] is = refl
+no_dash File (b ∷ bs) is = let ne : b ≢ 45 = is.no_dash in grind (arith, nat_tests)
+no_dash (Number least greatest) [] is = refl
+no_dash (Number least greatest) (b ∷ bs) is =
+    let digit = is.number.all_digits 0 b (omega arith) in
+    let ne : b ≢ 45 = λ e. absurd (omega (arith, e, digit)) in
+    grind (arith, nat_tests)
+
+some_no_dash : (o : Option Kind) (w : Bytes) → IsSomeAnd o (λ kind. IsOf kind w) → dashes w ≡ false
+some_no_dash None w is = absurd is
+some_no_dash (Some kind) w is = no_dash kind w is
+
+each_at : (P : Bytes → Type 0) (xs : List Bytes) → ((i : ℕ) → i < length xs → P (slice_index_or xs i [])) → Each P xs
+each_at P [] at_all = tt
+each_at P (x ∷ xs) at_all = (at_all 0 (omega arith), each_at P xs (λ i lt. at_all (suc i) (omega arith)))
+
+-- an option that has a kind is one of the row
+is_known : (options : List (Bytes × Kind)) (name : Bytes) (P : Kind → Type 0) → IsSomeAnd (option_map (λ (o : Bytes × Kind). o.1) (find (λ (o : Bytes × Kind). bytes_eq o.0 name) options)) P
+    → knows (map (λ o. o.0) options) name ≡ true
+is_known [] name P is = absurd is
+is_known (o ∷ os) name P is = go (bytes_eq o.0 name) is (λ rest. is_known os name P rest)
+  where
+    go : (t : Bool) → IsSomeAnd (option_map (λ (o : Bytes × Kind). o.1) (cond t (Some o) (find (λ (o : Bytes × Kind). bytes_eq o.0 name) os))) P
+        → (IsSomeAnd (option_map (λ (o : Bytes × Kind). o.1) (find (λ (o : Bytes × Kind). bytes_eq o.0 name) os)) P → knows (map (λ o. o.0) os) name ≡ true)
+        → (t || knows (map (λ o. o.0) os) name) ≡ true
+    go true is rest = refl
+    go false is rest = rest is
+
+not_true : (b : Bool) → not b ≡ true → b ≡ false
+not_true true e = absurd (true≢false (sym e))
+not_true false e = refl
+
+-- the values of a name, and the first of them
+all_words : (o : Option MatchedArg) (others : List Bytes) → option_map raw_values o ≡ listed others → option_map_or raw_values o [] ≡ others
+all_words None [] is = refl
+all_words None (x ∷ xs) is = absurd (let e : ◌≡◌ {A = Option (List Bytes)} None (Some (x ∷ xs)) = is in cc)
+all_words (Some a) [] is = absurd (let e : ◌≡◌ {A = Option (List Bytes)} (Some (raw_values a)) None = is in cc)
+all_words (Some a) (x ∷ xs) is = let e : ◌≡◌ {A = Option (List Bytes)} (Some (raw_values a)) (Some (x ∷ xs)) = is in cc
+
+first_all : (name : Bytes) (rows : List Row) → first_of name rows ≡ option_and_then (λ vs. slice_get vs 0) (all_of name rows)
+first_all name rows = go (find (λ (r : Row). bytes_eq r.id name) rows)
+  where
+    go : (o : Option Row) → option_and_then (λ (r : Row). slice_get r.values 0) o ≡ option_and_then (λ vs. slice_get vs 0) (option_map (λ (r : Row). r.values) o)
+    go None = refl
+    go (Some r) = refl
+
+first_single : (o : Option Bytes) → option_and_then (λ vs. slice_get vs 0) (single o) ≡ o
+first_single None = refl
+first_single (Some v) = refl
+
+module _ (r : grammar.Row) (apart : is_apart r ≡ true) where
+  abbrev names : List Bytes
+  names = option_names r
+
+  apart_is : knows names (codes "words") ≡ false
+  apart_is = not_true _ apart
+
+  abbrev IsKnown : Bytes × Bytes → Type 0
+  IsKnown o = IsSomeAnd (kind_of r o.0) (λ kind. IsOf kind o.1)
+
+  right : (s : Sorted) → IsSortedInForm r s → Right r.name names apart_is s
+  right s form = record {
+    others = each_at (λ w. dashes w ≡ false) s.others (λ i lt. some_no_dash _ (word s.others i) (form.others.each i lt));
+    given = each_map IsKnown _ s.given (λ o is. (is_known r.options o.0 (λ kind. IsOf kind o.1) is, some_no_dash (kind_of r o.0) o.1 is)) (each_of IsKnown s.given form.options.known);
+    once = once_of s.given form.options.once;
+    waiting = rw form.whole refl;
+  }
+
+  module _ (words : List Bytes) (form : IsSortedInForm r (sorted words)) where
+    pub all_taken : takes (app_for r.name names) words ≡ true
+    all_taken = taken r.name names apart_is words (right (sorted words) form) form.whole
+
+    pub all_found : (m : ArgMatches) → rows_of (found_of m) ≡ matches_of (app_for r.name names) words → HasMatches r (sorted words) m
+    all_found m is =
+        let holds : Holds r.name names apart_is (sorted words).others (sorted words).given (matches_of (app_for r.name names) words) =
+        found r.name names apart_is words (right (sorted words) form) form.whole in
+        record {
+          words = all_words _ _ (raw_values-rows (found_of m) (codes "words") ∙ ap (all_of (codes "words")) is ∙ holds.words);
+          values = λ name known.
+              first_value-rows (found_of m) name ∙ ap (first_of name) is ∙ first_all name _
+              ∙ ap (option_and_then (λ vs. slice_get vs 0)) (holds.values name known) ∙ first_single (value_given (sorted words).given name);
+        }
+
+-- ---- what words in the form of a row ask for
+
+behind_first : (all : List (Bor Bytes)) → texts (drop 1 all) ≡ drop 1 (texts all)
+behind_first [] = refl
+behind_first (x ∷ xs) = refl
+
+sorted_is : (all rest : List (Bor Bytes)) (s : Sorted) → rest ≡ drop 1 all → s ≡ fold and_sorted none_sorted (texts rest) → s ≡ sorted (texts all)
+sorted_is all rest s tail is = is ∙ ap (λ ws. fold and_sorted none_sorted (texts ws)) tail ∙ ap (fold and_sorted none_sorted) (behind_first all)
+
+pub is_in_form : (r : grammar.Row) (all rest : List (Bor Bytes)) (words : List Bytes) (s : Sorted) → texts all ≡ words → All IsUtf8 words → rest ≡ drop 1 all → s ≡ fold and_sorted none_sorted (texts rest)
+    → IsSortedInForm r s → IsInForm r (texts all)
+is_in_form r all rest words s same utf8 tail is form = record {
+  utf8 = subst (All IsUtf8) (sym same) utf8;
+  sorted = subst (IsSortedInForm r) (sorted_is all rest s tail is) form;
+}
+
+-- of words in the form of a command's row a request can be made
+line_number : (least greatest : ℕ) (w : Bytes) → IsOf (Number least greatest) w → IsNumber w
+line_number least greatest w is = is.number
+
+-- the kinds behind the file, and of the one option, are numbers
+slice_line : (i : ℕ) → kind_at (grammar.row Slice) (i + 1) ≡ Some grammar.line
+slice_line zero = refl
+slice_line (suc i) = let last : min (suc i + 1) 1 ≡ 1 = omega arith in ap (λ n. slice_get (File ∷ grammar.line ∷ []) n) last
+
+tail_at : (others : List Bytes) (k : ℕ) (d : Bytes) → k < length (drop 1 others) → slice_index_or (drop 1 others) k d ≡ word others (k + 1)
+tail_at [] k d lt = absurd (omega (arith, lt))
+tail_at (x ∷ xs) k d lt = any_default xs k d [] lt ∙ ap (λ n. slice_index_or (x ∷ xs) n []) (sym (add-one k))
+
+tail_long : (others : List Bytes) (k : ℕ) → k < length (drop 1 others) → k + 1 < length others
+tail_long [] k lt = absurd (omega (arith, lt))
+tail_long (x ∷ xs) k lt = omega (arith, lt)
+
+slice_lines : (others : List Bytes) → AreWanted (grammar.row Slice) others → All IsNumber (drop 1 others)
+slice_lines others wanted = λ k d lt.
+    let is = wanted.each (k + 1) (tail_long others k lt) in
+    subst IsNumber (sym (tail_at others k d lt))
+    (line_number 0 9999999999 (word others (k + 1)) (subst (λ o. IsSomeAnd o (λ kind. IsOf kind (word others (k + 1)))) (slice_line k) is))
+
+abbrev IsSliceOption : Bytes × Bytes → Type 0
+IsSliceOption o = IsSomeAnd (kind_of (grammar.row Slice) o.0) (λ kind. IsOf kind o.1)
+
+workers_number : (given : List (Bytes × Bytes)) → Each IsSliceOption given → IfSome (value_given given (codes "workers")) IsNumber
+workers_number [] all = tt
+workers_number (o ∷ os) all = go (bytes_eq o.0 (codes "workers")) refl (workers_number os all.1)
+  where
+    go : (t : Bool) → bytes_eq o.0 (codes "workers") ≡ t → IfSome (value_given os (codes "workers")) IsNumber
+        → IfSome (option_map (λ (p : Bytes × Bytes). p.1) (cond t (Some o) (find (λ (p : Bytes × Bytes). bytes_eq p.0 (codes "workers")) os))) IsNumber
+    go true e rest =
+        line_number 1 16 o.1 (subst (λ n. IsSomeAnd (kind_of (grammar.row Slice) n) (λ kind. IsOf kind o.1)) (is_name o.0 (codes "workers") e) all.0)
+    go false e rest = rest
+
+pub can_ask : (c : Command) (s : Sorted) → IsSortedInForm (grammar.row c) s → CanAsk c s.others (value_given s.given)
+can_ask Slice s form = (
+  (let enough = form.others.enough in omega (arith, enough)),
+  slice_lines s.others form.others,
+  workers_number s.given (each_of IsSliceOption s.given form.options.known),
+)
+
+-- what was found asks for what was sorted
+pub asks_found : (c : Command) (s : Sorted) (m : ArgMatches) → HasMatches (grammar.row c) s m → asks c (others_found m) (value_found m) ≡ asks c s.others (value_given s.given)
+asks_found Slice s m has = ap₂ (λ others value. Asked.slice (word others 0) (numbers_of (drop 1 others)) (number_or 4 value)) has.words (has.values (codes "workers") refl)
+
+pub can_ask_found : (c : Command) (s : Sorted) (m : ArgMatches) → HasMatches (grammar.row c) s m → CanAsk c s.others (value_given s.given) → CanAsk c (others_found m) (value_found m)
+can_ask_found Slice s m has can = (
+  subst (λ others. 0 < length others) (sym has.words) can.0,
+  subst (λ others. All IsNumber (drop 1 others)) (sym has.words) can.1,
+  subst (λ value. IfSome value IsNumber) (sym (has.values (codes "workers") refl)) can.2,
+)
+
+-- no option of a row has the name of the argument of all other words
+pub rows_apart : (c : Command) → is_apart (grammar.row c) ≡ true
+rows_apart Slice = refl
+
+-- the command that the first word names
+pub command_is : (all : List (Bor Bytes)) (name : Bytes) (c : Option Command) → 0 < length all → (d : Bor Bytes) → name ≡ (slice_index_or all 0 d).now → c ≡ command_of (name ∷ []) → c ≡ command_of (texts all)
+command_is [] name c some d is found = absurd (omega (arith, some))
+command_is (x ∷ xs) name c some d is found = found ∙ ap (λ n. command_of (n ∷ [])) is

@@ -1,0 +1,27 @@
+use Rattle.std.proofs.Common.{◌≡◌, ◌∙◌, ap, sym, subst, drop}
+use Rattle.std.specs.Prelude.{All}
+use Rattle.std.specs.Str.{IsUtf8}
+use Rattle.call_words.specs.Sorting.{sorted}
+use Rattle.call_words.specs.Grammar.{Row, IsSortedInForm}
+use Rattle.call_words.specs.Clap.{HasMatches}
+use Rattle.call_words.specs.Forms.{texts, sorted_view, view}
+use Rattle.call_words.proofs.FormLaws.{is_in_form, can_ask, can_ask_found}
+use Rattle.call_words.proofs.request.read_words.Goals as goal
+
+pub read-requires-clause-form : goal.read-requires-clause-form
+read-requires-clause-form c =
+    let here : (texts c.in-Some.texts.items ≡ c.args.words.now) × All IsUtf8 c.args.words.now = rw c.in-Some.is at c.in_ok-texts.ensures in
+    let tail = ap (drop 1) (sym c.in-Some-split_first.ensures.cases.0 ∙ c.as_slice.ensures.value ∙ sym c.as_slice-2.ensures.value) in
+    is_in_form (view c.form_of-form.result) c.as_slice-2.result.now c.in-Some-split_first.rest.now c.args.words.now (sorted_view c.in_ok-sorted.sorted)
+    (ap texts c.as_slice-2.ensures.value ∙ here.0) here.1 tail c.in_ok-sorted.ensures (c.is_in_form.ensures.0 c.if-not-is_in_form.false)
+
+pub request_of-requires : goal.request_of-requires
+request_of-requires c =
+    let command = c.in-Some-command_named.command in
+    let s = sorted (texts c.as_slice-2.result.now) in
+    let here : (texts c.in-Some.texts.items ≡ c.args.words.now) × All IsUtf8 c.args.words.now = rw c.in-Some.is at c.in_ok-texts.ensures in
+    let tail = ap (drop 1) (sym c.in-Some-split_first.ensures.cases.0 ∙ c.as_slice.ensures.value ∙ sym c.as_slice-2.ensures.value) in
+    let form = is_in_form (view c.form_of-form.result) c.as_slice-2.result.now c.in-Some-split_first.rest.now c.args.words.now (sorted_view c.in_ok-sorted.sorted)
+    (ap texts c.as_slice-2.ensures.value ∙ here.0) here.1 tail c.in_ok-sorted.ensures (c.is_in_form.ensures.0 c.if-not-is_in_form.false) in
+    can_ask_found command s c.in-Ok.matches (subst (λ (r : Row). HasMatches r s c.in-Ok.matches) c.form_of-form.ensures c.in-Ok.ensures.found)
+    (can_ask command s (subst (λ (r : Row). IsSortedInForm r s) c.form_of-form.ensures form.sorted))

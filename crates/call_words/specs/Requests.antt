@@ -1,0 +1,64 @@
+-- What words in the grammar ask for.
+use Rattle.std.specs.Prelude.{◌≡◌, ℕ, ◌<◌, List, [], map, drop, length, All, Option, Some, IfSome, codes}
+use Rattle.std.specs.List.{find}
+use Rattle.std.specs.Option.{option_map, option_map_or}
+use Rattle.std.specs.Str.{bytes_eq}
+use Rattle.std.specs.String.{string_bytes}
+use Rattle.call_words.specs.Sorting.{Bytes, sorted}
+use Rattle.call_words.specs.Grammar.{word, decimal_from, command_of, IsInGrammar, IsNumber}
+use Rattle.call_words.specs.declared.grammar.Command.{Command}
+use Rattle.call_words.specs.declared.grammar.Command.TheVariants.{Slice}
+use Rattle.call_words.specs.declared.request.Request.{Request}
+use Rattle.call_words.specs.declared.request.Request.TheVariants as request
+
+-- what is asked for
+pub data Asked : Type 0 where
+  -- the slices of a file's program at these lines, by so many workers
+  slice : (file : Bytes) (lines : List ℕ) (workers : ℕ) → Asked
+
+-- the value of an option
+abbrev pub value_given : List (Bytes × Bytes) → Bytes → Option Bytes
+value_given given name = option_map (λ o. o.1) (find (λ (o : Bytes × Bytes). bytes_eq o.0 name) given)
+
+abbrev pub numbers_of : List Bytes → List ℕ
+numbers_of = map (decimal_from 0)
+
+-- the number of an option, or this one where it is absent
+abbrev pub number_or : ℕ → Option Bytes → ℕ
+number_or absent value = option_map_or (decimal_from 0) value absent
+
+-- what a command's other words and the values of its options ask for
+abbrev pub asks : Command → List Bytes → (Bytes → Option Bytes) → Asked
+asks Slice others value = Asked.slice (word others 0) (numbers_of (drop 1 others)) (number_or 4 (value (codes "workers")))
+
+-- what the words ask for, where they are in the grammar
+abbrev pub asked : List Bytes → Option Asked
+asked words = option_map (λ c. asks c (sorted words).others (value_given (sorted words).given)) (command_of words)
+
+-- ---- requests as the code holds them
+
+abbrev pub asked_by : Request → Asked
+asked_by (request.Slice file lines workers) = Asked.slice (string_bytes file) lines.items workers
+
+-- the other words and the values of the options are such as a command's request can be made of
+abbrev pub CanAsk : Command → List Bytes → (Bytes → Option Bytes) → Type 0
+CanAsk Slice others value = (0 < length others) × All IsNumber (drop 1 others) × IfSome (value (codes "workers")) IsNumber
+
+-- the words are in the grammar, and this request is what they ask for
+pub record IsRead (words : List Bytes) (r : Request) : Type 0 where
+  pub in_grammar : IsInGrammar words
+  pub asks_for : asked words ≡ Some (asked_by r)
+
+-- the file and the lines of what is asked for
+abbrev pub file_in : Asked → Bytes
+file_in (Asked.slice file lines workers) = file
+
+abbrev pub lines_in : Asked → List ℕ
+lines_in (Asked.slice file lines workers) = lines
+
+-- and of the words: of words outside the grammar none
+abbrev pub file_of : List Bytes → Bytes
+file_of words = option_map_or file_in (asked words) []
+
+abbrev pub lines_of : List Bytes → List ℕ
+lines_of words = option_map_or lines_in (asked words) []

@@ -1,0 +1,71 @@
+//! The commands as a table: what other words each wants, and which options.
+ghost use Rattle.std.specs.Prelude.{◌≡◌};
+ghost use Rattle.call_words.specs.Grammar.{row};
+ghost use Rattle.call_words.specs.Forms.{view};
+
+/// What a word may be.
+#[derive(Clone, Copy, Debug, PartialEq, Eq)]
+pub enum Kind {
+    /// The name of a file: it isn't empty, and doesn't begin with `-`.
+    File,
+    /// One to ten decimal digits, a number from the first to the second.
+    Number(u64, u64),
+}
+
+/// The commands that there are.
+#[derive(Clone, Copy, Debug, PartialEq, Eq)]
+pub enum Command {
+    /// The slices of a file's program at lines.
+    Slice,
+}
+
+/// An option, `--name value` or `--name=value`, and what its value may be.
+#[derive(Clone, Copy, Debug)]
+pub struct OptionForm {
+    /// Its name, without the hyphens.
+    pub name: &'static str,
+    /// What its value may be.
+    pub kind: Kind,
+}
+
+/// What a command wants: a row of the table.
+#[derive(Clone, Copy, Debug)]
+pub struct Form {
+    /// The word that names the command.
+    pub name: &'static str,
+    /// What its other words are, in order.
+    pub wanted: &'static [Kind],
+    /// Whether the last of them may come more than once.
+    pub repeats: bool,
+    /// The options, each of which may be given once.
+    pub options: &'static [OptionForm],
+    /// The names of those that have to be given.
+    pub required: &'static [&'static str],
+}
+
+// The number of a line: any number.
+const LINE: Kind = Kind::Number(0, 9_999_999_999);
+
+static FILE_AND_LINES: [Kind; 2] = [Kind::File, LINE];
+
+static WORKERS: [OptionForm; 1] = [OptionForm {
+    name: "workers",
+    kind: Kind::Number(1, 16),
+}];
+
+static NONE_REQUIRED: [&str; 0] = [];
+
+/// The row of a command.
+pub fn form_of(command: Command) -> Form
+    ensures { view result ≡ row command }
+{
+    match command {
+        Command::Slice => Form {
+            name: "slice",
+            wanted: FILE_AND_LINES.as_slice(),
+            repeats: true,
+            options: WORKERS.as_slice(),
+            required: NONE_REQUIRED.as_slice(),
+        },
+    }
+}

@@ -1,0 +1,200 @@
+//! What a call asks for, as plain data, and how its words are read.
+ghost use Rattle.std.specs.Prelude.{◌≡◌, ◌∷◌, [], IfOk, IfSome, MatchOption, MatchResult, All};
+ghost use Rattle.std.specs.Str.{IsUtf8};
+ghost use Rattle.clap.specs.Values.{kind_of};
+ghost use Rattle.call_words.specs.Grammar.{IsInGrammar, IsNumber, command_of};
+ghost use Rattle.call_words.specs.Requests.{CanAsk, IsRead, asked_by, asks, number_or, numbers_of};
+ghost use Rattle.call_words.specs.Clap.{others_found, value_found};
+ghost use Rattle.call_words.specs.Forms.{texts};
+
+use crate::deciding::{decimal, is_in_form};
+use crate::grammar::{Command, form_of};
+use crate::reading::read;
+use crate::sorting::sort;
+use clap::error::ErrorKind;
+use clap::{ArgMatches, Error};
+use edge_io::Text;
+use std::alloc::{AllocError, Global};
+use thiserror::Error as ErrorText;
+
+/// What a call asks for.
+#[derive(Debug, Drop)]
+pub enum Request {
+    /// The slices of the program in a file at these lines, in their order, by so many workers.
+    Slice {
+        /// The name of the file.
+        file: String,
+        /// The lines, counted from 1. A line may be above the range of `u32`.
+        lines: Vec<u64>,
+        /// The number of workers, from 1 to 16.
+        workers: u64,
+    },
+}
+
+impl Request {
+    ghost use Rattle.call_words.specs.Requests.{asked_by, file_in, lines_in};
+
+    /// The name of the file.
+    pub fn file(&self) -> &str
+        ensures { result.now ≡ file_in (asked_by self.now) }
+    {
+        match self {
+            Request::Slice { file, .. } => file.as_str(),
+        }
+    }
+
+    /// The lines that are asked for, in their order.
+    pub fn lines(&self) -> &[u64]
+        ensures { result.now ≡ lines_in (asked_by self.now) }
+    {
+        match self {
+            Request::Slice { lines, .. } => lines.as_slice(),
+        }
+    }
+}
+
+/// Why words make no request.
+#[derive(Clone, Copy, Debug, PartialEq, Eq, ErrorText)]
+pub enum WordsFault {
+    /// They are outside the grammar.
+    #[error("the words are outside the grammar")]
+    Usage,
+    /// There was no memory for what they ask for.
+    #[error("out of memory")]
+    NoMemory,
+}
+
+impl From<AllocError> for WordsFault {
+    ghost use Rattle.call_words.specs.declared.request.WordsFault.TheVariants.{NoMemory};
+
+    ghost from_gives = { λ _ fault. fault ≡ NoMemory };
+
+    fn from(_: AllocError) -> WordsFault {
+        WordsFault::NoMemory
+    }
+}
+
+/// What the words of a call ask for; the first of them is the command's name.
+///
+/// Err: `Usage` exactly where they are outside the grammar, but that `NoMemory` may come at any time.
+pub fn read_words(alloc: Global, words: &[Text]) -> Result<Request, WordsFault>
+    ensures read { MatchResult result (IsRead words.now) (λ fault. fault ≡ WordsFault.Usage → IsInGrammar words.now → ⊥) }
+{
+    let Some(texts) = texts_of(alloc, words)? else {
+        return Err(WordsFault::Usage);
+    };
+    let Some((name, rest)) = texts.as_slice().split_first() else {
+        return Err(WordsFault::Usage);
+    };
+    let Some(command) = command_named(name) else {
+        return Err(WordsFault::Usage);
+    };
+    let form = form_of(command);
+    let sorted = sort(alloc, rest)?;
+    if !is_in_form(&form, &sorted) {
+        return Err(WordsFault::Usage);
+    }
+    match read(alloc, &form, texts.as_slice()) {
+        Ok(matches) => Ok(request_of(alloc, command, &matches)?),
+        Err(error) => Err(fault_of(&error)),
+    }
+}
+
+// The words as texts, `None` where one of them isn't UTF-8. Err: no memory was left.
+fn texts_of(alloc: Global, words: &[Text]) -> Result<Option<Vec<&str>>, AllocError>
+    ensures { IfOk result (λ found. MatchOption found (All IsUtf8 words.now → ⊥) (λ v. (texts v.items ≡ words.now) × All IsUtf8 words.now)) }
+{
+    let mut found = Vec::new(alloc);
+    for word in words {
+        let Ok(text) = std::str::from_utf8(word.bytes()) else {
+            return Ok(None);
+        };
+        found.push(text)?;
+    }
+    Ok(Some(found))
+}
+
+// The command with this name.
+fn command_named(name: &str) -> Option<Command>
+    ensures { result ≡ command_of (name.now ∷ []) }
+{
+    if name == "slice" {
+        Some(Command::Slice)
+    } else {
+        None
+    }
+}
+
+// An error for words that the command takes says that there was no memory.
+fn fault_of(error: &Error) -> WordsFault
+    requires { kind_of error.now ≡ ErrorKind.OutOfMemory }
+    ensures { result ≡ WordsFault.NoMemory }
+{
+    match error.kind() {
+        ErrorKind::OutOfMemory => WordsFault::NoMemory,
+        _ => WordsFault::Usage,
+    }
+}
+
+// The request that a command's other words and options make.
+fn request_of(
+    alloc: Global,
+    command: Command,
+    matches: &ArgMatches<'_>,
+) -> Result<Request, AllocError>
+    requires { CanAsk command (others_found matches.now) (value_found matches.now) }
+    ensures { IfOk result (λ r. asked_by r ≡ asks command (others_found matches.now) (value_found matches.now)) }
+{
+    match matches.get_strs("words") {
+        Some(others) => made(alloc, command, others, matches),
+        None => made(alloc, command, &[], matches),
+    }
+}
+
+// The request of these other words, with the options that were found.
+fn made(
+    alloc: Global,
+    command: Command,
+    others: &[&str],
+    matches: &ArgMatches<'_>,
+) -> Result<Request, AllocError>
+    requires { CanAsk command (texts others.now) (value_found matches.now) }
+    ensures { IfOk result (λ r. asked_by r ≡ asks command (texts others.now) (value_found matches.now)) }
+{
+    match command {
+        Command::Slice => {
+            let file = String::from_str(alloc, others[0])?;
+            let lines = numbers(alloc, &others[1..])?;
+            let workers = number_of(matches, "workers", 4);
+            Ok(Request::Slice {
+                file,
+                lines,
+                workers,
+            })
+        }
+    }
+}
+
+// The number that an option has, or this one where it is absent.
+fn number_of(matches: &ArgMatches<'_>, name: &str, absent: u64) -> u64
+    requires { IfSome (value_found matches.now name.now) IsNumber }
+    ensures { result ≡ number_or absent (value_found matches.now name.now) }
+{
+    match matches.get_str(name) {
+        Some(value) => decimal(value.as_bytes()),
+        None => absent,
+    }
+}
+
+// The values of these numbers.
+#[tactic(auto, using(crate::proofs::Places::number_at))]
+fn numbers(alloc: Global, words: &[&str]) -> Result<Vec<u64>, AllocError>
+    requires { All IsNumber (texts words.now) }
+    ensures { IfOk result (λ found. found.items ≡ numbers_of (texts words.now)) }
+{
+    let mut found = Vec::new(alloc);
+    for word in words {
+        found.push(decimal(word.as_bytes()))?;
+    }
+    Ok(found)
+}

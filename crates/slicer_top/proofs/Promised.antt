@@ -1,0 +1,368 @@
+-- What a call has promised, by the way that it went.
+use Rattle.std.proofs.Common.{◌≡◌, ◌≢◌, ◌⊎◌, inl, inr, ℕ, List, length, ◌≤◌, refl, sym, ap, subst, ◌∙◌}
+use Rattle.std.specs.Prelude.{Option, None, Some, IfSome, IsSome, unwrap_or, []}
+use Rattle.std.specs.Option.{option_map_or}
+use Rattle.edge_io.specs.Contents.{Told, Lacks, HoldsMoreThan}
+use Rattle.edge_io.specs.Count.{Rose}
+use Rattle.edge_io.specs.Written.{Gains}
+use Rattle.c_language.specs.Words.{Bytes}
+use Rattle.call_words.specs.Grammar.{IsInGrammar}
+use Rattle.call_words.specs.Requests.{Asked, asked, file_in, file_of, lines_in, lines_of}
+use Rattle.c_lex.specs.declared.fault.LexFault.TheVariants as lex
+use Rattle.c_parse.specs.declared.parse_fault.ParseFault.TheVariants as parse
+use Rattle.c_types.specs.declared.rule_fault.RuleFault.TheVariants as rule
+use Rattle.slicer_top.specs.declared.refusal.Refusal.{Refusal}
+use Rattle.slicer_top.specs.declared.refusal.Refusal.TheVariants as refusal
+use Rattle.slicer_top.specs.declared.status.Status.{Status}
+use Rattle.slicer_top.specs.declared.status.Status.TheVariants as status
+use Rattle.slicer_top.specs.Files.{OfFile}
+use Rattle.slicer_top.specs.Lines as lines
+use Rattle.slicer_top.specs.Lines.{PutOrCutOff, Tells}
+use Rattle.slicer_top.specs.Promises.{Outcome, Promises}
+use Rattle.slicer_top.specs.Reports.{IsAmong, IsCause, IsReported, PutsLine, status_of, words_of}
+use Rattle.slicer_top.specs.Seen.{ShelfSeen, SinkSeen, shelf_seen, sink_seen}
+use Rattle.slicer_top.specs.Slices.{AreSlices}
+use Rattle.slicer_top.specs.Statuses.{IsOrYields}
+use Rattle.slicer_top.specs.Writing.{Wrote}
+use Rattle.slicer_top.proofs.Files.{fault_or_reason, lacking_is, long_cause, longer_is, of_file, of_file_lacks, of_file_longer, of_file_map, read_cause, refused_for_memory, refused_without_fault}
+use Rattle.slicer_top.proofs.Lines.{report_tells, told_tells}
+use Rattle.slicer_top.proofs.ReaderLaws.{above_lacks}
+use Rattle.slicer_top.proofs.Told.{ends, is_above, is_refused, limit_true, names_it, refused_true}
+
+-- ---- kinds of statuses
+
+-- before the file is fetched
+abbrev IsEarly : Status → Type 0
+IsEarly status.Done = ⊥
+IsEarly status.Refused = ⊥
+IsEarly status.Usage = Unit {0}
+IsEarly status.ReadFault = ⊥
+IsEarly status.WriteFault = Unit {0}
+IsEarly status.NoMemory = Unit {0}
+IsEarly status.Limit = ⊥
+IsEarly status.TooLong = ⊥
+
+-- once the slices are made
+abbrev IsLate : Status → Type 0
+IsLate status.Done = Unit {0}
+IsLate status.Refused = ⊥
+IsLate status.Usage = ⊥
+IsLate status.ReadFault = ⊥
+IsLate status.WriteFault = Unit {0}
+IsLate status.NoMemory = ⊥
+IsLate status.Limit = ⊥
+IsLate status.TooLong = ⊥
+
+-- of a refusal
+abbrev IsOwn : Status → Type 0
+IsOwn status.Done = ⊥
+IsOwn status.Refused = Unit {0}
+IsOwn status.Usage = ⊥
+IsOwn status.ReadFault = Unit {0}
+IsOwn status.WriteFault = ⊥
+IsOwn status.NoMemory = Unit {0}
+IsOwn status.Limit = Unit {0}
+IsOwn status.TooLong = Unit {0}
+
+module _ (words : List Bytes) (shelf : ShelfSeen) (out err : SinkSeen) (answer : Status) where
+  abbrev Yields : Status → Type 0
+  Yields wanted = IsOrYields err.faults err.faults' answer wanted
+
+  -- ---- nothing was done
+
+  pub record IsUndone : Type 0 where
+    pub shelf_stays : shelf.stays
+    pub shelf_faults : shelf.faults' ≡ shelf.faults
+    pub contents : shelf.contents' ≡ shelf.contents
+    pub out_stays : out.stays
+    pub out_faults : out.faults' ≡ out.faults
+
+  early : IsUndone → IsEarly answer → (answer ≡ status.Usage → IsInGrammar words → ⊥) → ((IsInGrammar words → ⊥) → Yields status.Usage) → ((wanted : Status) → IsInGrammar words → Yields wanted)
+      → (IsInGrammar words → (Rose err.faults err.faults' → ⊥) → answer ≡ status.NoMemory) → (IsInGrammar words → err.takes 14 → (answer ≡ status.NoMemory) × (err.faults' ≡ err.faults))
+      → (answer ≡ status.WriteFault → Rose err.faults err.faults') → Outcome words shelf out err answer
+  early undone is_early usage others yields calm taken failed = record {
+    usage = usage;
+    other_words = others;
+    unasked = λ nf. undone.shelf_stays;
+    read_fault = λ e. absurd (subst IsEarly e is_early);
+    lacking = λ g lacks. yields status.ReadFault g;
+    too_long = λ e. absurd (subst IsEarly e is_early);
+    longer = λ e some. absurd (subst IsEarly e is_early);
+    longer_file = λ g more. inl (yields status.TooLong g);
+    refused = λ e. absurd (subst IsEarly e is_early);
+    no_slice = λ text named below none. inl (inl (yields status.Refused named.in_grammar));
+    limits = λ e. absurd (subst IsEarly e is_early);
+    above = λ text name named above. inl (yields status.Limit named.in_grammar);
+    names_limit = λ text name named above e. absurd (subst IsEarly e is_early);
+    done = λ e. absurd (subst IsEarly e is_early);
+    complete = λ text named starts shelf_calm out_calm err_calm. inr (calm named.in_grammar err_calm);
+    faultless = λ text named starts never room takes.
+        let free = taken named.in_grammar takes in
+        record { ends = inr free.0; shelf_stays = undone.shelf_faults; out_stays = undone.out_faults; err_stays = free.1 };
+    write_fault = λ e. inr (failed e);
+    unwritten = λ not_done not_failed. undone.out_stays;
+    cut = λ e. inl (undone.out_stays, failed e);
+    silent = λ e. absurd (subst IsEarly e is_early);
+    contents = undone.contents;
+  }
+
+  pub usage_promised : IsUndone → (IsInGrammar words → ⊥) → PutsLine err.faults err.faults' err.written err.written' status.Usage lines.usage answer → Promises words shelf out err answer
+  usage_promised undone nf (inl put) = record {
+    outcome = early undone (subst IsEarly (sym put.0) tt) (λ e. nf) (λ n. inl put.0) (λ wanted g. absurd (nf g)) (λ g. absurd (nf g)) (λ g. absurd (nf g))
+        (λ e. absurd (let d : status.Usage ≡ status.WriteFault = sym put.0 ∙ e in cc));
+    tells = told_tells err.faults err.faults' err.written err.written' (file_of words) (lines_of words) _ _ answer lines.of_usage (inl put);
+  }
+  usage_promised undone nf (inr cut) = record {
+    outcome = early undone (subst IsEarly (sym cut.0) tt) (λ e. nf) (λ n. inr (inr (cut.0, cut.1.0))) (λ wanted g. absurd (nf g)) (λ g. absurd (nf g)) (λ g. absurd (nf g)) (λ e. cut.1.0);
+    tells = told_tells err.faults err.faults' err.written err.written' (file_of words) (lines_of words) _ _ answer lines.of_usage (inr cut);
+  }
+
+  pub memory_promised : IsUndone → PutsLine err.faults err.faults' err.written err.written' status.NoMemory lines.out_of_memory answer
+      → (err.takes 14 → (answer ≡ status.NoMemory) × (err.faults' ≡ err.faults)) → Promises words shelf out err answer
+  memory_promised undone (inl put) taken = record {
+    outcome = early undone (subst IsEarly (sym put.0) tt) (λ e. absurd (let d : status.NoMemory ≡ status.Usage = sym put.0 ∙ e in cc)) (λ n. inr (inl put.0)) (λ wanted g. inr (inl put.0))
+        (λ g calm. put.0) (λ g. taken) (λ e. absurd (let d : status.NoMemory ≡ status.WriteFault = sym put.0 ∙ e in cc));
+    tells = told_tells err.faults err.faults' err.written err.written' (file_of words) (lines_of words) _ _ answer lines.of_memory (inl put);
+  }
+  memory_promised undone (inr cut) taken = record {
+    outcome = early undone (subst IsEarly (sym cut.0) tt) (λ e. absurd (let d : status.WriteFault ≡ status.Usage = sym cut.0 ∙ e in cc)) (λ n. inr (inr (cut.0, cut.1.0))) (λ wanted g. inr (inr (cut.0, cut.1.0)))
+        (λ g calm. absurd (calm cut.1.0)) (λ g. taken) (λ e. cut.1.0);
+    tells = told_tells err.faults err.faults' err.written err.written' (file_of words) (lines_of words) _ _ answer lines.of_memory (inr cut);
+  }
+
+  -- ---- the slices were made
+
+  late : (texts : List Bytes) → Wrote texts out err answer → IsLate answer
+  late texts wrote = elim wrote.ends [
+    | inl all ↦ subst IsLate (sym all.is) tt
+    | inr front ↦ subst IsLate (sym front.is) tt
+  ]
+
+  -- the slices that were made of the file's text, at the lines that the words name
+  abbrev AreMade : List Bytes → Type 0
+  AreMade texts = OfFile shelf.contents (file_of words) (λ text. (length text ≤ 1048576) × AreSlices text (lines_of words) texts)
+
+  written_outcome : (texts : List Bytes) → IsInGrammar words → AreMade texts → shelf.contents' ≡ shelf.contents → (shelf.never_fails → shelf.faults' ≡ shelf.faults) → Wrote texts out err answer
+      → Outcome words shelf out err answer
+  written_outcome texts g made contents no_fault wrote =
+      let is_late : IsLate answer = late texts wrote in
+      record {
+        usage = λ e. absurd (subst IsLate e is_late);
+        other_words = λ nf. absurd (nf g);
+        unasked = λ nf. absurd (nf g);
+        read_fault = λ e. absurd (subst IsLate e is_late);
+        lacking = λ _ lacks. absurd (of_file_lacks shelf.contents (file_of words) _ made lacks);
+        too_long = λ e. absurd (subst IsLate e is_late);
+        longer = λ e some. absurd (subst IsLate e is_late);
+        longer_file = λ _ more. absurd (of_file_longer shelf.contents (file_of words) 1048576 _ made more);
+        refused = λ e. absurd (subst IsLate e is_late);
+        no_slice = λ text named below none.
+            let are = (of_file shelf.contents (file_of words) text _ named.holds made).1 in
+            absurd (none are.program are.built (λ i lt. (are.each i lt).starts));
+        limits = λ e. absurd (subst IsLate e is_late);
+        above = λ text name named above.
+            let are = (of_file shelf.contents (file_of words) text _ named.holds made).1 in
+            absurd (above_lacks text (lines_of words) name above are.program are.built.reads are.few);
+        names_limit = λ text name named above e. absurd (subst IsLate e is_late);
+        done = λ e. elim wrote.ends [
+          | inl all ↦ of_file_map shelf.contents (file_of words) _ _ (λ text found. (texts, found.1, all.gained)) made
+          | inr front ↦ absurd (let d : status.WriteFault ≡ status.Done = sym front.is ∙ e in cc)
+        ];
+        complete = λ text named starts shelf_calm out_calm err_calm. elim wrote.ends [
+          | inl all ↦ inl all.is
+          | inr front ↦ absurd (out_calm front.rose)
+        ];
+        faultless = λ text named starts never room takes.
+            let are = (of_file shelf.contents (file_of words) text _ named.holds made).1 in
+            let calm = wrote.taken (room texts are) in
+            record { ends = inl calm.is; shelf_stays = no_fault never; out_stays = calm.out_stays; err_stays = calm.err_stays };
+        write_fault = λ e. elim wrote.ends [
+          | inl all ↦ absurd (let d : status.Done ≡ status.WriteFault = sym all.is ∙ e in cc)
+          | inr front ↦ inl front.rose
+        ];
+        unwritten = λ not_done not_failed. elim wrote.ends [
+          | inl all ↦ absurd (not_done all.is)
+          | inr front ↦ absurd (not_failed front.is)
+        ];
+        cut = λ e. elim wrote.ends [
+          | inl all ↦ absurd (let d : status.Done ≡ status.WriteFault = sym all.is ∙ e in cc)
+          | inr front ↦ inr (front.rose, of_file_map shelf.contents (file_of words) _ _ (λ text found. (texts, found.1, front.front)) made, front.told)
+        ];
+        silent = λ e. elim wrote.ends [
+          | inl all ↦ all.silent
+          | inr front ↦ absurd (let d : status.WriteFault ≡ status.Done = sym front.is ∙ e in cc)
+        ];
+        contents = contents;
+      }
+
+  fault_told : PutOrCutOff err.faults err.faults' err.written err.written' lines.cannot_write → Tells err.faults err.faults' err.written err.written' (file_of words) (lines_of words) status.WriteFault
+  fault_told (inl gained) = inl gained
+  fault_told (inr cut) = inr (status.WriteFault, lines.cannot_write, lines.of_out, cut)
+
+  pub written_promised : (texts : List Bytes) → IsInGrammar words → AreMade texts → shelf.contents' ≡ shelf.contents → (shelf.never_fails → shelf.faults' ≡ shelf.faults) → Wrote texts out err answer
+      → Promises words shelf out err answer
+  written_promised texts g made contents no_fault wrote = record {
+    outcome = written_outcome texts g made contents no_fault wrote;
+    tells = elim wrote.ends [
+      | inl all ↦ subst (Tells err.faults err.faults' err.written err.written' (file_of words) (lines_of words)) (sym all.is) all.untold
+      | inr front ↦ subst (Tells err.faults err.faults' err.written err.written' (file_of words) (lines_of words)) (sym front.is) (fault_told front.told)
+    ];
+  }
+
+  -- ---- the file gives no slices
+
+  own : (r : Refusal) → IsOwn (status_of r)
+  own refusal.Unreadable = tt
+  own refusal.TooLong = tt
+  own (refusal.Lex (lex.BadByte n)) = tt
+  own (refusal.Lex (lex.BadNumber n)) = tt
+  own (refusal.Lex (lex.OpenComment n)) = tt
+  own (refusal.Lex lex.NoMemory) = tt
+  own (refusal.Parse (parse.LeftOut t n)) = tt
+  own (refusal.Parse (parse.Syntax n)) = tt
+  own (refusal.Parse (parse.Nesting n)) = tt
+  own (refusal.Parse parse.NoMemory) = tt
+  own (refusal.Check (rule.Rule m n)) = tt
+  own (refusal.Check (rule.Limit n)) = tt
+  own (refusal.Check rule.NoMemory) = tt
+  own (refusal.NotYet n) = tt
+  own refusal.TooMany = tt
+  own (refusal.NoStart n) = tt
+  own refusal.NoMemory = tt
+
+  -- the status is the refusal's, or one to which each answer yields
+  abbrev EndsAs : Refusal → Type 0
+  EndsAs r = ((answer ≡ status_of r) × Gains err.written err.written' (words_of (file_of words) r)) ⊎ (answer ≡ status.NoMemory) ⊎ ((answer ≡ status.WriteFault) × Rose err.faults err.faults')
+
+  -- an answer that no refusal has, but for want of memory and a failed put
+  not_own : (r : Refusal) → EndsAs r → IsOwn answer ⊎ ((answer ≡ status.WriteFault) × Rose err.faults err.faults')
+  not_own r (inl put) = inl (subst IsOwn (sym put.0) (own r))
+  not_own r (inr (inl memory)) = inl (subst IsOwn (sym memory) tt)
+  not_own r (inr (inr cut)) = inr cut
+
+  yields_for : (r : Refusal) (wanted : Status) → EndsAs r → (status_of r ≡ wanted) ⊎ (status_of r ≡ status.NoMemory) → Yields wanted
+  yields_for r wanted (inl put) (inl is) = inl (put.0 ∙ is)
+  yields_for r wanted (inl put) (inr memory) = inr (inl (put.0 ∙ memory))
+  yields_for r wanted (inr (inl memory)) is = inr (inl memory)
+  yields_for r wanted (inr (inr cut)) is = inr (inr cut)
+
+  no_own : {A : Type 0} (r : Refusal) (wanted : Status) → EndsAs r → (IsOwn wanted → ⊥) → (wanted ≡ status.WriteFault → ⊥) → answer ≡ wanted → A
+  no_own r wanted ending none no_fault e = elim (not_own r ending) [
+    | inl is_own ↦ absurd (none (subst IsOwn e is_own))
+    | inr cut ↦ absurd (no_fault (sym e ∙ cut.0))
+  ]
+
+  -- where the answer is a status of a refusal, it is that of this one
+  same_status : (r : Refusal) (wanted : Status) → EndsAs r → (wanted ≡ status.NoMemory → ⊥) → (wanted ≡ status.WriteFault → ⊥) → answer ≡ wanted → status_of r ≡ wanted
+  same_status r wanted (inl put) no_memory no_fault e = sym put.0 ∙ e
+  same_status r wanted (inr (inl memory)) no_memory no_fault e = absurd (no_memory (sym e ∙ memory))
+  same_status r wanted (inr (inr cut)) no_memory no_fault e = absurd (no_fault (sym e ∙ cut.0))
+
+  rose_of : (r : Refusal) → EndsAs r → answer ≡ status.WriteFault → Rose err.faults err.faults'
+  rose_of r ending e = elim (not_own r ending) [
+    | inl is_own ↦ absurd (subst IsOwn e is_own)
+    | inr cut ↦ cut.1
+  ]
+
+  abbrev Cause : Refusal → Type 0
+  Cause r = IsCause shelf.contents (file_of words) (lines_of words) shelf.faults shelf.faults' shelf.long_files shelf.long_files' r
+
+  abbrev Reported : Refusal → Type 0
+  Reported r = IsReported err.faults err.faults' err.written err.written' (file_of words) r answer
+
+  refused_outcome : (r : Refusal) → IsInGrammar words → Cause r → Reported r → shelf.contents' ≡ shelf.contents → out.stays → out.faults' ≡ out.faults
+      → (shelf.never_fails → shelf.faults' ≡ shelf.faults) → (shelf.never_fails → r ≡ refusal.Unreadable → Lacks shelf.contents (file_of words))
+      → (r ≡ refusal.NoMemory → err.takes 14 → (answer ≡ status.NoMemory) × (err.faults' ≡ err.faults)) → Outcome words shelf out err answer
+  refused_outcome r g cause reported contents out_stays out_faults no_fault missing taken =
+      let ending : EndsAs r = ends (file_of words) (lines_of words) err.faults err.faults' shelf.faults shelf.faults' err.written err.written' r answer reported in
+      record {
+        usage = no_own r status.Usage ending (λ is. is) (λ d. absurd cc);
+        other_words = λ nf. absurd (nf g);
+        unasked = λ nf. absurd (nf g);
+        read_fault = λ e. read_cause shelf.contents (file_of words) (lines_of words) _ _ _ _ r (same_status r status.ReadFault ending (λ d. absurd cc) (λ d. absurd cc) e) cause;
+        lacking = λ _ lacks. yields_for r status.ReadFault ending (lacking_is shelf.contents (file_of words) (lines_of words) _ _ _ _ r cause lacks);
+        too_long = λ e. (long_cause shelf.contents (file_of words) (lines_of words) _ _ _ _ r (same_status r status.TooLong ending (λ d. absurd cc) (λ d. absurd cc) e) cause).0;
+        longer = λ e. (long_cause shelf.contents (file_of words) (lines_of words) _ _ _ _ r (same_status r status.TooLong ending (λ d. absurd cc) (λ d. absurd cc) e) cause).1;
+        longer_file = λ _ more. longer r ending (longer_is shelf.contents (file_of words) (lines_of words) _ _ _ _ r cause more);
+        refused = λ e. refused_true shelf.contents (file_of words) (lines_of words) _ _ _ _ _ _ _ _ r answer cause reported e;
+        no_slice = λ text named below none.
+            is_refused (file_of words) (lines_of words) _ _ _ _ _ _ text r answer below (fault_or_reason shelf.contents (file_of words) (lines_of words) _ _ _ _ text r named.holds named.no_longer cause) reported;
+        limits = λ e. limit_true shelf.contents (file_of words) (lines_of words) _ _ _ _ _ _ _ _ r answer cause reported e;
+        above = λ text name named above.
+            is_above (file_of words) (lines_of words) _ _ _ _ _ _ text name r answer above (fault_or_reason shelf.contents (file_of words) (lines_of words) _ _ _ _ text r named.holds named.no_longer cause) reported;
+        names_limit = λ text name named above e.
+            names_it (file_of words) (lines_of words) _ _ shelf.faults shelf.faults' _ _ text name r answer above (fault_or_reason shelf.contents (file_of words) (lines_of words) _ _ _ _ text r named.holds named.no_longer cause) reported e;
+        done = no_own r status.Done ending (λ is. is) (λ d. absurd cc);
+        complete = λ text named starts shelf_calm out_calm err_calm.
+            inr (refused_for_memory shelf.contents (file_of words) text (lines_of words) _ _ _ _ r _ _ _ _ answer named.holds named.no_longer starts shelf_calm err_calm cause reported);
+        faultless = λ text named starts never room takes.
+            let memory = refused_without_fault shelf.contents (file_of words) text (lines_of words) _ _ _ _ r named.holds named.no_longer starts (missing never) cause in
+            let told = taken memory takes in
+            record { ends = inr told.0; shelf_stays = no_fault never; out_stays = out_faults; err_stays = told.1 };
+        write_fault = λ e. inr (rose_of r ending e);
+        unwritten = λ not_done not_failed. out_stays;
+        cut = λ e. inl (out_stays, rose_of r ending e);
+        silent = no_own r status.Done ending (λ is. is) (λ d. absurd cc);
+        contents = contents;
+      }
+    where
+      longer : (r : Refusal) → EndsAs r → (status_of r ≡ status.TooLong) ⊎ (status_of r ≡ status.NoMemory) ⊎ ((status_of r ≡ status.ReadFault) × Rose shelf.faults shelf.faults')
+          → Yields status.TooLong ⊎ ((answer ≡ status.ReadFault) × Rose shelf.faults shelf.faults')
+      longer r ending (inl is) = inl (yields_for r status.TooLong ending (inl is))
+      longer r ending (inr (inl memory)) = inl (yields_for r status.TooLong ending (inr memory))
+      longer r (inl put) (inr (inr fault)) = inr (put.0 ∙ fault.0, fault.1)
+      longer r (inr (inl memory)) (inr (inr fault)) = inl (inr (inl memory))
+      longer r (inr (inr cut)) (inr (inr fault)) = inl (inr (inr cut))
+
+  pub refused_promised : (r : Refusal) → IsInGrammar words → Cause r → IsAmong (lines_of words) r → Reported r → shelf.contents' ≡ shelf.contents → out.stays → out.faults' ≡ out.faults
+      → (shelf.never_fails → shelf.faults' ≡ shelf.faults) → (shelf.never_fails → r ≡ refusal.Unreadable → Lacks shelf.contents (file_of words))
+      → (r ≡ refusal.NoMemory → err.takes 14 → (answer ≡ status.NoMemory) × (err.faults' ≡ err.faults)) → Promises words shelf out err answer
+  refused_promised r g cause among reported contents out_stays out_faults no_fault missing taken = record {
+    outcome = refused_outcome r g cause reported contents out_stays out_faults no_fault missing taken;
+    tells = report_tells err.faults err.faults' err.written err.written' (file_of words) (lines_of words) r answer among reported;
+  }
+
+-- ---- a call of the program
+
+pub calls_keep : {F O E : Type 0} (faults long_files : F → ℕ) (contents : F → Told) (never_fails : F → Type 0) (out_faults : O → ℕ) (written : O → Option Bytes) (out_takes : O → ℕ → Type 0)
+    (err_faults : E → ℕ) (told : E → Option Bytes) (err_takes : E → ℕ → Type 0)
+    (words : List Bytes) (shelf shelf' : F) (out out' : O) (err err' : E) (ended : Option Status)
+    → IfSome ended (Promises words (shelf_seen faults long_files contents never_fails shelf shelf') (sink_seen out_faults written out_takes out out') (sink_seen err_faults told err_takes err err'))
+    → (ended ≡ None → (shelf' ≡ shelf) × (out' ≡ out) × (err' ≡ err))
+    → Outcome words (shelf_seen faults long_files contents never_fails shelf shelf') (sink_seen out_faults written out_takes out out') (sink_seen err_faults told err_takes err err') (unwrap_or ended status.NoMemory)
+calls_keep faults long_files contents never_fails out_faults written out_takes err_faults told err_takes words shelf shelf' out out' err err' (Some answer) promised untouched = promised.outcome
+calls_keep faults long_files contents never_fails out_faults written out_takes err_faults told err_takes words shelf shelf' out out' err err' None promised untouched =
+    let same = untouched refl in
+    early words _ _ _ status.NoMemory
+    (record { shelf_stays = same.0; shelf_faults = ap faults same.0; contents = ap contents same.0; out_stays = same.1; out_faults = ap out_faults same.1 })
+    tt (λ e. absurd (let d : status.NoMemory ≡ status.Usage = e in cc)) (λ nf. inr (inl refl)) (λ wanted g. inr (inl refl)) (λ g calm. refl) (λ g takes. (refl, ap err_faults same.2))
+    (λ e. absurd (let d : status.NoMemory ≡ status.WriteFault = e in cc))
+
+-- ---- a request for slices
+
+pub file_is : (words : List Bytes) (a : Asked) → asked words ≡ Some a → file_in a ≡ file_of words
+file_is words a e = sym (ap (λ o. option_map_or file_in o []) e)
+
+pub lines_are : (words : List Bytes) (a : Asked) → asked words ≡ Some a → lines_in a ≡ lines_of words
+lines_are words a e = sym (ap (λ o. option_map_or lines_in o []) e)
+
+module _ (words : List Bytes) (shelf : ShelfSeen) (out err : SinkSeen) (answer : Status) (file : Bytes) (ls : List ℕ) (g : IsInGrammar words) (is_file : file ≡ file_of words) (are_lines : ls ≡ lines_of words) where
+  pub written_for : (made put : List Bytes) → put ≡ made → OfFile shelf.contents file (λ text. (length text ≤ 1048576) × AreSlices text ls made)
+      → shelf.contents' ≡ shelf.contents → (shelf.never_fails → shelf.faults' ≡ shelf.faults) → Wrote put out err answer → Promises words shelf out err answer
+  written_for made put same of contents no_fault wrote =
+      written_promised words shelf out err answer made g
+      (subst (λ n. OfFile shelf.contents n (λ text. (length text ≤ 1048576) × AreSlices text (lines_of words) made)) is_file
+      (subst (λ l. OfFile shelf.contents file (λ text. (length text ≤ 1048576) × AreSlices text l made)) are_lines of))
+      contents no_fault (subst (λ ts. Wrote ts out err answer) same wrote)
+
+  pub refused_for : (r : Refusal) → IsCause shelf.contents file ls shelf.faults shelf.faults' shelf.long_files shelf.long_files' r → IsAmong ls r
+      → IsReported err.faults err.faults' err.written err.written' file r answer → shelf.contents' ≡ shelf.contents → out.stays → out.faults' ≡ out.faults
+      → (shelf.never_fails → shelf.faults' ≡ shelf.faults) → (shelf.never_fails → r ≡ refusal.Unreadable → Lacks shelf.contents file)
+      → (r ≡ refusal.NoMemory → err.takes 14 → (answer ≡ status.NoMemory) × (err.faults' ≡ err.faults)) → Promises words shelf out err answer
+  refused_for r cause among reported contents out_stays out_faults no_fault missing taken =
+      refused_promised words shelf out err answer r g
+      (subst (λ n. IsCause shelf.contents n (lines_of words) shelf.faults shelf.faults' shelf.long_files shelf.long_files' r) is_file
+      (subst (λ l. IsCause shelf.contents file l shelf.faults shelf.faults' shelf.long_files shelf.long_files' r) are_lines cause))
+      (subst (λ l. IsAmong l r) are_lines among)
+      (subst (λ n. IsReported err.faults err.faults' err.written err.written' n r answer) is_file reported)
+      contents out_stays out_faults no_fault (λ never is. subst (Lacks shelf.contents) is_file (missing never is)) taken

@@ -1,0 +1,18 @@
+use Rattle.std.proofs.Common.{sym, subst}
+use Rattle.slice_batch.specs.Batch.{AreTexts}
+use Rattle.slicer_top.specs.Reports.{IsReason}
+use Rattle.slicer_top.specs.Slices.{HasBuilt}
+use Rattle.slicer_top.proofs.CriteriaLaws.{are_slices}
+use Rattle.slicer_top.proofs.Files.{passes_on}
+use Rattle.slicer_top.proofs.slicing.slices_of.Goals as goal
+
+pub returns-in_err-program-clause-err : goal.returns-in_err-program-clause-err
+returns-in_err-program-clause-err c =
+    passes_on (IsReason c.args.text.now c.args.lines.now) c.in_err-program.field-0.0 c.from_residual.result c.from_residual.ensures.1 (c.in_err-program.ensures.err c.args.lines.now)
+
+pub returns-clause-ok : goal.returns-clause-ok
+returns-clause-ok c =
+    are_slices c.in_ok-engine.engine c.args.lines.now c.args.text.now c.in_ok-criteria.criteria.items c.in_ok-texts.texts.items
+    (subst (HasBuilt c.args.text.now) (sym c.in_ok-engine.ensures) c.in_ok-program.ensures.ok)
+    c.in_ok-criteria.ensures
+    (subst (λ list. AreTexts c.in_ok-engine.engine list c.in_ok-texts.texts.items) c.as_slice.ensures.value c.in_ok-texts.ensures)

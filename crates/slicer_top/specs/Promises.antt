@@ -1,0 +1,77 @@
+-- What a call of the slicer promises, over its words, what shelf, out and err tell before it and after it, and its status.
+use Rattle.std.specs.Prelude.{◌≡◌, ◌≢◌, ◌⊎◌, ℕ, List, Option, None, IsSome, IfSome, unwrap_or, length, ◌≤◌}
+use Rattle.edge_io.specs.Contents.{Told, Lacks, HoldsMoreThan}
+use Rattle.edge_io.specs.Count.{Rose}
+use Rattle.edge_io.specs.Written.{Gains}
+use Rattle.c_tree.specs.declared.limits.LimitName.{LimitName}
+use Rattle.c_tree.specs.declared.limits.LimitName.TheVariants.{Nesting}
+use Rattle.c_language.specs.Words.{Bytes}
+use Rattle.call_words.specs.Grammar.{IsInGrammar}
+use Rattle.call_words.specs.Requests.{file_of, lines_of}
+use Rattle.slicer_top.specs.Files.{OfFile, NamesText}
+use Rattle.slicer_top.specs.Limits.{IsAboveLimit, IsBelowLimits, IsDeep}
+use Rattle.slicer_top.specs.Seen.{ShelfSeen, SinkSeen, shelf_seen, sink_seen}
+use Rattle.slicer_top.specs.Slices.{StartsNone, StartsSome, AreSlices, joined, WritesSlices, WritesFront}
+use Rattle.slicer_top.specs.Statuses.{IsOrYields, IsOrYieldsToFault, NoFault, IsFaultless}
+use Rattle.slicer_top.specs.Lines.{Tells, PutOrCutOff, cannot_write, limit}
+use Rattle.slicer_top.specs.Truths.{TellsTruth}
+use Rattle.slicer_top.specs.declared.status.Status.{Status}
+use Rattle.slicer_top.specs.declared.status.Status.TheVariants as status
+
+-- all that a call promises but for the line that err gains
+pub record Outcome (words : List Bytes) (shelf : ShelfSeen) (out err : SinkSeen) (answer : Status) : Type 0 where
+  -- the words: Usage comes exactly where they are others
+  pub usage : answer ≡ status.Usage → IsInGrammar words → ⊥
+  pub other_words : (IsInGrammar words → ⊥) → IsOrYields err.faults err.faults' answer status.Usage
+  pub unasked : (IsInGrammar words → ⊥) → shelf.stays
+  -- the file: it is read, or the shelf had a fault, lacks it or found it too long
+  pub read_fault : answer ≡ status.ReadFault → Rose shelf.faults shelf.faults' ⊎ Lacks shelf.contents (file_of words)
+  pub lacking : IsInGrammar words → Lacks shelf.contents (file_of words) → IsOrYields err.faults err.faults' answer status.ReadFault
+  pub too_long : answer ≡ status.TooLong → Rose shelf.long_files shelf.long_files'
+  pub longer : answer ≡ status.TooLong → IsSome shelf.contents → HoldsMoreThan shelf.contents (file_of words) 1048576
+  pub longer_file : IsInGrammar words → HoldsMoreThan shelf.contents (file_of words) 1048576
+      → IsOrYieldsToFault err.faults err.faults' shelf.faults shelf.faults' answer status.TooLong
+  -- the text: Refused comes exactly where it isn't accepted, something of it isn't built or no statement starts on one of the lines, but for deep texts, and what is told is true of it
+  pub refused : answer ≡ status.Refused → OfFile shelf.contents (file_of words) (λ text. TellsTruth status.Refused text (lines_of words) err.written err.written')
+  pub no_slice : (text : Bytes) → NamesText words shelf.contents text → IsBelowLimits text (lines_of words) → StartsNone text (lines_of words)
+      → IsOrYieldsToFault err.faults err.faults' shelf.faults shelf.faults' answer status.Refused
+      ⊎ ((answer ≡ status.Limit) × IsDeep text × Gains err.written err.written' (limit Nesting))
+  -- the limits: Limit comes exactly where a quantity of a text in the grammar is above its number, and for deep texts
+  pub limits : answer ≡ status.Limit → OfFile shelf.contents (file_of words) (λ text. TellsTruth status.Limit text (lines_of words) err.written err.written')
+  pub above : (text : Bytes) (name : LimitName) → NamesText words shelf.contents text → IsAboveLimit text (lines_of words) name
+      → IsOrYieldsToFault err.faults err.faults' shelf.faults shelf.faults' answer status.Limit
+  pub names_limit : (text : Bytes) (name : LimitName) → NamesText words shelf.contents text → IsAboveLimit text (lines_of words) name → answer ≡ status.Limit
+      → Gains err.written err.written' (limit name)
+  -- the slices: after Done they are written, in the order of the lines, and where no fault came and memory sufficed, Done comes
+  pub done : answer ≡ status.Done → OfFile shelf.contents (file_of words) (λ text. WritesSlices text (lines_of words) out.written out.written')
+  pub complete : (text : Bytes) → NamesText words shelf.contents text → StartsSome text (lines_of words)
+      → NoFault shelf.faults shelf.faults' → NoFault out.faults out.faults' → NoFault err.faults err.faults'
+      → (answer ≡ status.Done) ⊎ (answer ≡ status.NoMemory)
+  -- no fault comes where the shelf never fails, out has room for the slices and err for `out of memory`
+  pub faultless : (text : Bytes) → NamesText words shelf.contents text → StartsSome text (lines_of words) → shelf.never_fails
+      → ((texts : List Bytes) → AreSlices text (lines_of words) texts → out.takes (length (joined texts))) → err.takes 14
+      → IsFaultless shelf.faults shelf.faults' out.faults out.faults' err.faults err.faults' answer
+  -- the sinks: out is as it was but after Done and WriteFault
+  pub write_fault : answer ≡ status.WriteFault → Rose out.faults out.faults' ⊎ Rose err.faults err.faults'
+  pub unwritten : answer ≢ status.Done → answer ≢ status.WriteFault → out.stays
+  pub cut : answer ≡ status.WriteFault
+      → (out.stays × Rose err.faults err.faults')
+      ⊎ (Rose out.faults out.faults'
+      × OfFile shelf.contents (file_of words) (λ text. WritesFront text (lines_of words) out.written out.written')
+      × PutOrCutOff err.faults err.faults' err.written err.written' cannot_write)
+  pub silent : answer ≡ status.Done → err.stays
+  -- the shelf holds what it held
+  pub contents : shelf.contents' ≡ shelf.contents
+
+-- all that a call promises: also that err has gained the line of the status
+pub record Promises (words : List Bytes) (shelf : ShelfSeen) (out err : SinkSeen) (answer : Status) : Type 0 where
+  pub outcome : Outcome words shelf out err answer
+  pub tells : Tells err.faults err.faults' err.written err.written' (file_of words) (lines_of words) answer
+
+-- what holds of a call of the slicer holds but for its line of a call of the program, which may have ended before it, with nothing done; of a shelf and sinks that tell these things
+abbrev pub CallsKeepPromises : {F O E : Type 0} → (F → ℕ) → (F → ℕ) → (F → Told) → (F → Type 0) → (O → ℕ) → (O → Option Bytes) → (O → ℕ → Type 0) → (E → ℕ) → (E → Option Bytes) → (E → ℕ → Type 0) → Type 0
+CallsKeepPromises {F} {O} {E} faults long_files contents never_fails out_faults written out_takes err_faults told err_takes =
+    (words : List Bytes) (shelf shelf' : F) (out out' : O) (err err' : E) (ended : Option Status)
+    → IfSome ended (Promises words (shelf_seen faults long_files contents never_fails shelf shelf') (sink_seen out_faults written out_takes out out') (sink_seen err_faults told err_takes err err'))
+    → (ended ≡ None → (shelf' ≡ shelf) × (out' ≡ out) × (err' ≡ err))
+    → Outcome words (shelf_seen faults long_files contents never_fails shelf shelf') (sink_seen out_faults written out_takes out out') (sink_seen err_faults told err_takes err err') (unwrap_or ended status.NoMemory)
