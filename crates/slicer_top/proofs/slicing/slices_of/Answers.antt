@@ -1,8 +1,11 @@
-use Rattle.std.proofs.Common.{sym, subst}
+use Rattle.std.proofs.Common.{List, sym, subst}
+use Rattle.std.specs.Prelude.{All}
 use Rattle.slice_batch.specs.Batch.{AreTexts}
+use Rattle.slice_engine.specs.Slice.{HasStart}
+use Rattle.slice_engine.specs.declared.engine.Criterion.{Criterion}
 use Rattle.slicer_top.specs.Reports.{IsReason}
 use Rattle.slicer_top.specs.Slices.{HasBuilt}
-use Rattle.slicer_top.proofs.CriteriaLaws.{are_slices}
+use Rattle.slicer_top.proofs.CriteriaLaws.{all_start, are_slices}
 use Rattle.slicer_top.proofs.Files.{passes_on}
 use Rattle.slicer_top.proofs.slicing.slices_of.Goals as goal
 
@@ -16,3 +19,8 @@ returns-clause-ok c =
     (subst (HasBuilt c.args.text.now) (sym c.in_ok-engine.ensures) c.in_ok-program.ensures.ok)
     c.in_ok-criteria.ensures
     (subst (λ list. AreTexts c.in_ok-engine.engine list c.in_ok-texts.texts.items) c.as_slice.ensures.value c.in_ok-texts.ensures)
+
+pub slices-requires-clause-starts : goal.slices-requires-clause-starts
+slices-requires-clause-starts c =
+    subst (λ (list : List Criterion). All (λ (x : Criterion). HasStart c.in_ok-engine.engine x.line) list) (sym c.as_slice.ensures.value)
+    (all_start c.in_ok-engine.engine c.args.lines.now c.in_ok-criteria.criteria.items c.in_ok-criteria.ensures)
