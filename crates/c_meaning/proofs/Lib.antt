@@ -3,6 +3,7 @@ pub mod Closing
 pub mod Codes
 pub mod Runs
 pub mod MeaningSteps
+pub mod Origins
 pub mod Small
 mod SmallPrograms
 mod SmallObjects

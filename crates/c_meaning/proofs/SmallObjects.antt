@@ -193,6 +193,11 @@ end_of_object : Comes (Do 0 (Set (p) (Amp x)) (Do 1 (Bump p true) (Do 2 (Bump p 
 unfolding convert unary binary digits unescaped
 end_of_object = tells refl
 
+-- x = 5; p = &x; p++; x = *p;
+end_of_object_is_not_read : Comes (Do 0 (Set (x) (num 5)) (Do 1 (Set (p) (Amp x)) (Do 2 (Bump p true) (Do 3 (Set (x) (Star p)) Stop)))) (Fails 3)
+unfolding convert unary binary digits unescaped
+end_of_object_is_not_read = tells refl
+
 -- p = &a[2]; x = p - a;
 difference : Comes (Do 0 (Set (p) (Amp (Item a (num 2)))) (Do 1 (Set (x) (Bin Sub p a)) Stop)) (Ends ((0, pos 2 ∷ []) ∷ (1, pos 2 ∷ []) ∷ []) [])
 unfolding convert unary binary digits unescaped
@@ -307,6 +312,16 @@ nested_structs = tells refl
 two_dimensions : Comes (Do 0 (Set (Item (Item m (num 1)) (num 2)) (num 5)) (Do 1 (Set (p) (Item m (num 1))) (Do 2 (Set (x) (Item p (num 2))) (Do 3 (Set (x) (Item (Par (Star (Par (Bin Add m (num 1))))) (num 2))) (Do 4 (Set (x) (Item (Item m (num 0)) (num 2))) Stop))))) (Fails 4)
 unfolding convert unary binary digits unescaped
 two_dimensions = tells refl
+
+-- m[1][0] = 5; x = m[0][1]; is unwritten
+rows_apart : Comes (Do 0 (Set (Item (Item m (num 1)) (num 0)) (num 5)) (Do 1 (Set (x) (Item (Item m (num 0)) (num 1))) Stop)) (Fails 1)
+unfolding convert unary binary digits unescaped
+rows_apart = tells refl
+
+-- g.parts[1].n = 5; x = g.parts[0].v[0]; is unwritten
+structs_apart : Comes (Do 0 (Set (Dot (Item (Dot g parts_of) (num 1)) n_of) (num 5)) (Do 1 (Set (x) (Item (Dot (Item (Dot g parts_of) (num 0)) v_of) (num 0))) Stop)) (Fails 1)
+unfolding convert unary binary digits unescaped
+structs_apart = tells refl
 
 -- p = m[0]; p = p + 3; x = *p; a row ends at its length
 row_has_its_own_end : Comes (Do 0 (Set (p) (Item m (num 0))) (Do 1 (Set (p) (Bin Add p (num 3))) (Do 2 (Set (x) (Star p)) Stop))) (Fails 2)

@@ -1,11 +1,11 @@
 -- Laws of the meaning: what small steps come to, and what more acts change.
-use Rattle.std.specs.Prelude.{◌≡◌, ◌↔◌, ℕ, ◌≤◌, List, ◌++◌}
+use Rattle.std.specs.Prelude.{◌≡◌, ◌↔◌, ℕ, ◌≤◌, List, ◌++◌, length}
 use Rattle.c_tree.specs.declared.program.Program.{Program}
 use Rattle.c_language.specs.Words.{Bytes}
 use Rattle.c_meaning.specs.declared.event.Event.{Event}
 use Rattle.c_meaning.specs.Activations.{executable}
 use Rattle.c_meaning.specs.Meaning.{Trace, Answer, Ended, Undefined, More, meaning}
-use Rattle.c_meaning.specs.Steps.{Runs, machine, beginning}
+use Rattle.c_meaning.specs.Steps.{Runs, Reaches, Point, machine, beginning}
 
 -- with each number of acts, the meaning of a program is the one answer to which its small steps come
 abbrev pub MeaningIsSteps : Type 0
@@ -36,3 +36,9 @@ pub record IsFront (t u : Trace) : Type 0 where
 abbrev pub TracesGrow : Type 0
 TracesGrow =
     (p : Program) (m n : ℕ) (input : List ℕ) → m ≤ n → IsFront (trace_of (meaning m p input)) (trace_of (meaning n p input))
+
+-- wherever a run stands, each block has what made it
+abbrev pub BlocksHaveOrigins : Type 0
+BlocksHaveOrigins =
+    (p : Program) (input : List ℕ) (x : Point)
+    → Reaches (machine (executable p)) (beginning (executable p) input) x → length x.state.origins ≡ length x.state.memory.blocks

@@ -35,6 +35,12 @@ pub data Runs (g : Machine) : ℕ → g.State → Answer → Type 0 where
   move : {n : ℕ} {s t : g.State} {a : Answer} → g.step s ≡ Moves t → Runs g n t a → Runs g n s a
   broken : {n i : ℕ} {s : g.State} → g.step s ≡ Breaks i → Runs g n s (Undefined i (g.trace s))
 
+-- a state that some steps lead to from another
+pub data Reaches (g : Machine) : g.State → g.State → Type 0 where
+  here : {s : g.State} → Reaches g s s
+  by_act : {s t u : g.State} → g.step s ≡ Acts t → Reaches g t u → Reaches g s u
+  by_move : {s t u : g.State} → g.step s ≡ Moves t → Reaches g t u → Reaches g s u
+
 -- ---- programs as machines
 
 -- a caller that waits: its call with the target, its function with what it does next, and what it can name and has returned

@@ -6,7 +6,7 @@ mod laws;
 mod value;
 
 pub use event::{Event, Shown, ShownList};
-pub use laws::{ends_stay, meaning_is_steps, traces_grow};
+pub use laws::{blocks_have_origins, ends_stay, meaning_is_steps, traces_grow};
 pub use value::{Hop, Path, Place, Pointer, Value};
 
 #[cfg(test)]
