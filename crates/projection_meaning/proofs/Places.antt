@@ -17,7 +17,7 @@ use Rattle.dep_model.specs.Follows.{last, more}
 use Rattle.dep_model.proofs.FollowsLemmas.{start-seq, Follows-seq}
 use Rattle.projection_meaning.proofs.Law.{Kind, Last, Silent, Active, Places, Effects, Wanted, here, later, past as over}
 
--- a call is an act that gives nothing, as long as calls are not built
+-- a call counts as an act here; the lists that the law speaks of have none
 abbrev pub kind_of : Code → Kind
 kind_of End = Last
 kind_of (Opens x r) = Silent
