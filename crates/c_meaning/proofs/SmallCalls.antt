@@ -112,6 +112,11 @@ result_is_printed : Comes add (Open 6 (Invoke 1 (New 6) 0 (num 2 ∷ num 3 ∷ [
 unfolding convert unary binary digits unescaped
 result_is_printed = tells refl
 
+-- int f(int a, int b) { return a - b; } main: z = f(7, 2);
+arguments_in_order : Comes (gives (4 ∷ 5 ∷ []) [] (Do 0 (Give (Bin Sub a b)) Stop)) (Invoke 1 (In z) 0 (num 7 ∷ num 2 ∷ []) Stop) (Ends ((0, pos 5 ∷ []) ∷ (1, pos 5 ∷ []) ∷ []) ([]))
+unfolding convert unary binary digits unescaped
+arguments_in_order = tells refl
+
 -- main: add(2, 3); told before the callee
 result_is_dropped : Comes add (Invoke 1 Nowhere 0 (num 2 ∷ num 3 ∷ []) Stop) (Ends ((1, []) ∷ (0, pos 5 ∷ []) ∷ []) ([]))
 unfolding convert unary binary digits unescaped
