@@ -1,5 +1,5 @@
 -- Small programs whose meaning can be computed: trees that are written out, and what they come to.
-use Rattle.std.proofs.Common.{◌≡◌, ℕ, zero, suc, ℤ, pos, List, [], ◌∷◌, map, Option, Some, None, Bool, false, refl, sym, ap, ◌∙◌, ap₂}
+use Rattle.std.proofs.Common.{◌≡◌, ℕ, zero, suc, ℤ, pos, negsuc, List, [], ◌∷◌, map, Option, Some, None, Bool, false, refl, sym, ap, ◌∙◌, ap₂}
 use Rattle.std.specs.Prelude.{option_map, option_and_then, slice_get}
 use Rattle.std.specs.Option.{option_map_or}
 use Rattle.c_arith.specs.declared.int_type.IntType.{IntType}
@@ -496,9 +496,10 @@ pub data Tale : Type 0 where
   Fails : (statement : ℕ) → Tale
   NeedsMore : Tale
 
+-- a pointer that isn't null is told by its index, and a null pointer as -1
 abbrev number : Shown → ℤ
 number (shown.Number z) = z
-number shown.Null = pos 0
+number shown.Null = negsuc 0
 number (shown.Index i) = pos i
 
 abbrev pairs : List Event → List (ℕ × List ℤ)

@@ -1,4 +1,4 @@
--- Small programs with pointers, arrays, structs and malloc, and what C99 says that they do: the events by statement (a pointer by its index, a null pointer as 0), or the undefined act.
+-- Small programs with pointers, arrays, structs and malloc, and what C99 says that they do: the events by statement (a pointer by its index, a null pointer as -1), or the undefined act.
 use Rattle.std.proofs.Common.{ℕ, pos, negsuc, List, [], ◌∷◌, Some, true, refl}
 use Rattle.std.specs.Prelude.{slice_get, slice_index_or}
 use Rattle.std.specs.Fmt.{digits}
@@ -234,7 +234,7 @@ unfolding convert unary binary digits unescaped
 end_of_its_own = tells refl
 
 -- p = 0; x = p == NULL; x = !p; x = &x == 0;
-null_is_zero : Comes (Do 0 (Set (p) (num 0)) (Do 1 (Set (x) (Bin Equal p NullName)) (Do 2 (Set (x) (Un Not p)) (Do 3 (Set (x) (Bin Equal (Amp x) (num 0))) Stop)))) (Ends ((0, pos 0 ∷ []) ∷ (1, pos 1 ∷ []) ∷ (2, pos 1 ∷ []) ∷ (3, pos 0 ∷ []) ∷ []) [])
+null_is_zero : Comes (Do 0 (Set (p) (num 0)) (Do 1 (Set (x) (Bin Equal p NullName)) (Do 2 (Set (x) (Un Not p)) (Do 3 (Set (x) (Bin Equal (Amp x) (num 0))) Stop)))) (Ends ((0, negsuc 0 ∷ []) ∷ (1, pos 1 ∷ []) ∷ (2, pos 1 ∷ []) ∷ (3, pos 0 ∷ []) ∷ []) [])
 unfolding convert unary binary digits unescaped
 null_is_zero = tells refl
 
@@ -254,7 +254,7 @@ unfolding convert unary binary digits unescaped
 null_has_no_element = tells refl
 
 -- p = NULL; q = &*p; x = !q;
-address_of_target_is_null : Comes (Do 0 (Set (p) (NullName)) (Do 1 (Set (q) (Amp (Star p))) (Do 2 (Set (x) (Un Not q)) Stop))) (Ends ((0, pos 0 ∷ []) ∷ (1, pos 0 ∷ []) ∷ (2, pos 1 ∷ []) ∷ []) [])
+address_of_target_is_null : Comes (Do 0 (Set (p) (NullName)) (Do 1 (Set (q) (Amp (Star p))) (Do 2 (Set (x) (Un Not q)) Stop))) (Ends ((0, negsuc 0 ∷ []) ∷ (1, negsuc 0 ∷ []) ∷ (2, pos 1 ∷ []) ∷ []) [])
 unfolding convert unary binary digits unescaped
 address_of_target_is_null = tells refl
 
@@ -269,7 +269,7 @@ unfolding convert unary binary digits unescaped
 array_as_test = tells refl
 
 -- p = 0 ? &x : 0; x = !p; p = 1 ? a + 1 : 0;
-chosen_pointer : Comes (Do 0 (Set (p) (Pick (num 0) (Amp x) (num 0))) (Do 1 (Set (x) (Un Not p)) (Do 2 (Set (p) (Pick (num 1) (Bin Add a (num 1)) (num 0))) Stop))) (Ends ((0, pos 0 ∷ []) ∷ (1, pos 1 ∷ []) ∷ (2, pos 1 ∷ []) ∷ []) [])
+chosen_pointer : Comes (Do 0 (Set (p) (Pick (num 0) (Amp x) (num 0))) (Do 1 (Set (x) (Un Not p)) (Do 2 (Set (p) (Pick (num 1) (Bin Add a (num 1)) (num 0))) Stop))) (Ends ((0, negsuc 0 ∷ []) ∷ (1, pos 1 ∷ []) ∷ (2, pos 1 ∷ []) ∷ []) [])
 unfolding convert unary binary digits unescaped
 chosen_pointer = tells refl
 
@@ -343,6 +343,11 @@ another_type : Comes (Do 0 (Set (p) (Amp t)) (Do 1 (Set (x) (Star p)) Stop)) (Fa
 unfolding convert unary binary digits unescaped
 another_type = tells refl
 
+-- x = 5; c = &x; x = *c; which no rule lets pass: an int is no char
+another_integer : Comes (Do 0 (Set (x) (num 5)) (Do 1 (Set (Name 7) (Amp x)) (Do 2 (Set (x) (Star (Name 7))) Stop))) (Fails 2)
+unfolding convert unary binary digits unescaped
+another_integer = tells refl
+
 -- h = &g; x = h->n; which no rule lets pass: there is no struct s
 another_struct : Comes (Do 0 (Set (h) (Amp g)) (Do 1 (Set (x) (Arrow h n_of)) Stop)) (Fails 1)
 unfolding convert unary binary digits unescaped
@@ -369,7 +374,7 @@ unfolding convert unary binary digits unescaped
 heap_unwritten = tells refl
 
 -- h = malloc(sizeof *h); h->n = 4; h->next = NULL; x = h->n + !h->next;
-heap_node : Comes (Do 0 (Heap (In h) (One 5)) (Do 1 (Set (Arrow h n_of) (num 4)) (Do 2 (Set (Arrow h next_of) (NullName)) (Do 3 (Set (x) (Bin Add (Arrow h n_of) (Un Not (Arrow h next_of)))) Stop)))) (Ends ((0, pos 0 ∷ []) ∷ (1, pos 4 ∷ []) ∷ (2, pos 0 ∷ []) ∷ (3, pos 5 ∷ []) ∷ []) [])
+heap_node : Comes (Do 0 (Heap (In h) (One 5)) (Do 1 (Set (Arrow h n_of) (num 4)) (Do 2 (Set (Arrow h next_of) (NullName)) (Do 3 (Set (x) (Bin Add (Arrow h n_of) (Un Not (Arrow h next_of)))) Stop)))) (Ends ((0, pos 0 ∷ []) ∷ (1, pos 4 ∷ []) ∷ (2, negsuc 0 ∷ []) ∷ (3, pos 5 ∷ []) ∷ []) [])
 unfolding convert unary binary digits unescaped
 heap_node = tells refl
 
@@ -399,7 +404,7 @@ unfolding convert unary binary digits unescaped
 freed_variable = tells refl
 
 -- free(NULL);
-freed_null : Comes (Do 0 (Free NullName) Stop) (Ends ((0, pos 0 ∷ []) ∷ []) [])
+freed_null : Comes (Do 0 (Free NullName) Stop) (Ends ((0, negsuc 0 ∷ []) ∷ []) [])
 unfolding convert unary binary digits unescaped
 freed_null = tells refl
 
