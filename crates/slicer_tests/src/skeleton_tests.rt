@@ -1,4 +1,6 @@
 //! What the vertices of a small main define, use and kill.
+ghost use Rattle.c_reader.specs.Reading.{ReadsProgram};
+
 use bit_rows::Rows;
 use built_forms::not_yet;
 use c_reader::read_program;
@@ -24,7 +26,9 @@ int main(void) {
 ";
 
 /// The program of the text, of which nothing is outside the built forms.
-fn read<R: Abort + AllocGlobal>(rt: &R, text: &str) -> Program {
+fn read<R: Abort + AllocGlobal>(rt: &R, text: &str) -> Program
+    ensures { ReadsProgram text.now result }
+{
     let bytes = text.as_bytes();
     assert!(rt; bytes.len() < SHORT);
     read_program(rt.alloc(), bytes).expect(rt, "a program")
