@@ -3,7 +3,7 @@ use Rattle.std.proofs.Common.{◌≡◌, ◌≢◌, ◌⊎◌, inl, inr, ℕ, Li
 use Rattle.std.specs.Prelude.{Option, None, Some, IfSome, IsSome, unwrap_or, []}
 use Rattle.std.specs.Option.{option_map_or}
 use Rattle.edge_io.specs.Contents.{Told, Lacks, HoldsMoreThan}
-use Rattle.edge_io.specs.Count.{Rose}
+use Rattle.edge_io.specs.Count.{Rose, one_more}
 use Rattle.edge_io.specs.Written.{Gains}
 use Rattle.c_language.specs.Words.{Bytes}
 use Rattle.call_words.specs.Grammar.{IsInGrammar}
@@ -73,6 +73,7 @@ module _ (words : List Bytes) (shelf : ShelfSeen) (out err : SinkSeen) (answer :
   pub record IsUndone : Type 0 where
     pub shelf_stays : shelf.stays
     pub shelf_faults : shelf.faults' ≡ shelf.faults
+    pub shelf_fetches : shelf.fetches' ≡ shelf.fetches
     pub contents : shelf.contents' ≡ shelf.contents
     pub out_stays : out.stays
     pub out_faults : out.faults' ≡ out.faults
@@ -104,6 +105,7 @@ module _ (words : List Bytes) (shelf : ShelfSeen) (out err : SinkSeen) (answer :
     cut = λ e. inl (undone.out_stays, failed e);
     silent = λ e. absurd (subst IsEarly e is_early);
     contents = undone.contents;
+    fetched = inl undone.shelf_fetches;
   }
 
   pub usage_promised : IsUndone → (IsInGrammar words → ⊥) → PutsLine err.faults err.faults' err.written err.written' status.Usage lines.usage answer → Promises words shelf out err answer
@@ -142,9 +144,9 @@ module _ (words : List Bytes) (shelf : ShelfSeen) (out err : SinkSeen) (answer :
   abbrev AreMade : List Bytes → Type 0
   AreMade texts = OfFile shelf.contents (file_of words) (λ text. (length text ≤ 1048576) × AreSlices text (lines_of words) texts)
 
-  written_outcome : (texts : List Bytes) → IsInGrammar words → AreMade texts → shelf.contents' ≡ shelf.contents → (shelf.never_fails → shelf.faults' ≡ shelf.faults) → Wrote texts out err answer
+  written_outcome : (texts : List Bytes) → IsInGrammar words → AreMade texts → shelf.contents' ≡ shelf.contents → shelf.fetches' ≡ one_more shelf.fetches → (shelf.never_fails → shelf.faults' ≡ shelf.faults) → Wrote texts out err answer
       → Outcome words shelf out err answer
-  written_outcome texts g made contents no_fault wrote =
+  written_outcome texts g made contents once no_fault wrote =
       let is_late : IsLate answer = late texts wrote in
       record {
         usage = λ e. absurd (subst IsLate e is_late);
@@ -193,16 +195,17 @@ module _ (words : List Bytes) (shelf : ShelfSeen) (out err : SinkSeen) (answer :
           | inr front ↦ absurd (let d : status.WriteFault ≡ status.Done = sym front.is ∙ e in cc)
         ];
         contents = contents;
+        fetched = inr once;
       }
 
   fault_told : PutOrCutOff err.faults err.faults' err.written err.written' lines.cannot_write → Tells err.faults err.faults' err.written err.written' (file_of words) (lines_of words) status.WriteFault
   fault_told (inl gained) = inl gained
   fault_told (inr cut) = inr (status.WriteFault, lines.cannot_write, lines.of_out, cut)
 
-  pub written_promised : (texts : List Bytes) → IsInGrammar words → AreMade texts → shelf.contents' ≡ shelf.contents → (shelf.never_fails → shelf.faults' ≡ shelf.faults) → Wrote texts out err answer
+  pub written_promised : (texts : List Bytes) → IsInGrammar words → AreMade texts → shelf.contents' ≡ shelf.contents → shelf.fetches' ≡ one_more shelf.fetches → (shelf.never_fails → shelf.faults' ≡ shelf.faults) → Wrote texts out err answer
       → Promises words shelf out err answer
-  written_promised texts g made contents no_fault wrote = record {
-    outcome = written_outcome texts g made contents no_fault wrote;
+  written_promised texts g made contents once no_fault wrote = record {
+    outcome = written_outcome texts g made contents once no_fault wrote;
     tells = elim wrote.ends [
       | inl all ↦ subst (Tells err.faults err.faults' err.written err.written' (file_of words) (lines_of words)) (sym all.is) all.untold
       | inr front ↦ subst (Tells err.faults err.faults' err.written err.written' (file_of words) (lines_of words)) (sym front.is) (fault_told front.told)
@@ -270,10 +273,10 @@ module _ (words : List Bytes) (shelf : ShelfSeen) (out err : SinkSeen) (answer :
   abbrev Reported : Refusal → Type 0
   Reported r = IsReported err.faults err.faults' err.written err.written' (file_of words) r answer
 
-  refused_outcome : (r : Refusal) → IsInGrammar words → Cause r → Reported r → shelf.contents' ≡ shelf.contents → out.stays → out.faults' ≡ out.faults
+  refused_outcome : (r : Refusal) → IsInGrammar words → Cause r → Reported r → shelf.contents' ≡ shelf.contents → shelf.fetches' ≡ one_more shelf.fetches → out.stays → out.faults' ≡ out.faults
       → (shelf.never_fails → shelf.faults' ≡ shelf.faults) → (shelf.never_fails → r ≡ refusal.Unreadable → Lacks shelf.contents (file_of words))
       → (r ≡ refusal.NoMemory → err.takes 14 → (answer ≡ status.NoMemory) × (err.faults' ≡ err.faults)) → Outcome words shelf out err answer
-  refused_outcome r g cause reported contents out_stays out_faults no_fault missing taken =
+  refused_outcome r g cause reported contents once out_stays out_faults no_fault missing taken =
       let ending : EndsAs r = ends (file_of words) (lines_of words) err.faults err.faults' shelf.faults shelf.faults' err.written err.written' r answer reported in
       record {
         usage = no_own r status.Usage ending (λ is. is) (λ d. absurd cc);
@@ -304,6 +307,7 @@ module _ (words : List Bytes) (shelf : ShelfSeen) (out err : SinkSeen) (answer :
         cut = λ e. inl (out_stays, rose_of r ending e);
         silent = no_own r status.Done ending (λ is. is) (λ d. absurd cc);
         contents = contents;
+        fetched = inr once;
       }
     where
       longer : (r : Refusal) → EndsAs r → (status_of r ≡ status.TooLong) ⊎ (status_of r ≡ status.NoMemory) ⊎ ((status_of r ≡ status.ReadFault) × Rose shelf.faults shelf.faults')
@@ -314,27 +318,27 @@ module _ (words : List Bytes) (shelf : ShelfSeen) (out err : SinkSeen) (answer :
       longer r (inr (inl memory)) (inr (inr fault)) = inl (inr (inl memory))
       longer r (inr (inr cut)) (inr (inr fault)) = inl (inr (inr cut))
 
-  pub refused_promised : (r : Refusal) → IsInGrammar words → Cause r → IsAmong (lines_of words) r → Reported r → shelf.contents' ≡ shelf.contents → out.stays → out.faults' ≡ out.faults
+  pub refused_promised : (r : Refusal) → IsInGrammar words → Cause r → IsAmong (lines_of words) r → Reported r → shelf.contents' ≡ shelf.contents → shelf.fetches' ≡ one_more shelf.fetches → out.stays → out.faults' ≡ out.faults
       → (shelf.never_fails → shelf.faults' ≡ shelf.faults) → (shelf.never_fails → r ≡ refusal.Unreadable → Lacks shelf.contents (file_of words))
       → (r ≡ refusal.NoMemory → err.takes 14 → (answer ≡ status.NoMemory) × (err.faults' ≡ err.faults)) → Promises words shelf out err answer
-  refused_promised r g cause among reported contents out_stays out_faults no_fault missing taken = record {
-    outcome = refused_outcome r g cause reported contents out_stays out_faults no_fault missing taken;
+  refused_promised r g cause among reported contents once out_stays out_faults no_fault missing taken = record {
+    outcome = refused_outcome r g cause reported contents once out_stays out_faults no_fault missing taken;
     tells = report_tells err.faults err.faults' err.written err.written' (file_of words) (lines_of words) r answer among reported;
   }
 
 -- ---- a call of the program
 
-pub calls_keep : {F O E : Type 0} (faults long_files : F → ℕ) (contents : F → Told) (never_fails : F → Type 0) (out_faults : O → ℕ) (written : O → Option Bytes) (out_takes : O → ℕ → Type 0)
+pub calls_keep : {F O E : Type 0} (faults long_files fetches : F → ℕ) (contents : F → Told) (never_fails : F → Type 0) (out_faults : O → ℕ) (written : O → Option Bytes) (out_takes : O → ℕ → Type 0)
     (err_faults : E → ℕ) (told : E → Option Bytes) (err_takes : E → ℕ → Type 0)
     (words : List Bytes) (shelf shelf' : F) (out out' : O) (err err' : E) (ended : Option Status)
-    → IfSome ended (Promises words (shelf_seen faults long_files contents never_fails shelf shelf') (sink_seen out_faults written out_takes out out') (sink_seen err_faults told err_takes err err'))
+    → IfSome ended (Promises words (shelf_seen faults long_files fetches contents never_fails shelf shelf') (sink_seen out_faults written out_takes out out') (sink_seen err_faults told err_takes err err'))
     → (ended ≡ None → (shelf' ≡ shelf) × (out' ≡ out) × (err' ≡ err))
-    → Outcome words (shelf_seen faults long_files contents never_fails shelf shelf') (sink_seen out_faults written out_takes out out') (sink_seen err_faults told err_takes err err') (unwrap_or ended status.NoMemory)
-calls_keep faults long_files contents never_fails out_faults written out_takes err_faults told err_takes words shelf shelf' out out' err err' (Some answer) promised untouched = promised.outcome
-calls_keep faults long_files contents never_fails out_faults written out_takes err_faults told err_takes words shelf shelf' out out' err err' None promised untouched =
+    → Outcome words (shelf_seen faults long_files fetches contents never_fails shelf shelf') (sink_seen out_faults written out_takes out out') (sink_seen err_faults told err_takes err err') (unwrap_or ended status.NoMemory)
+calls_keep faults long_files fetches contents never_fails out_faults written out_takes err_faults told err_takes words shelf shelf' out out' err err' (Some answer) promised untouched = promised.outcome
+calls_keep faults long_files fetches contents never_fails out_faults written out_takes err_faults told err_takes words shelf shelf' out out' err err' None promised untouched =
     let same = untouched refl in
     early words _ _ _ status.NoMemory
-    (record { shelf_stays = same.0; shelf_faults = ap faults same.0; contents = ap contents same.0; out_stays = same.1; out_faults = ap out_faults same.1 })
+    (record { shelf_stays = same.0; shelf_faults = ap faults same.0; shelf_fetches = ap fetches same.0; contents = ap contents same.0; out_stays = same.1; out_faults = ap out_faults same.1 })
     tt (λ e. absurd (let d : status.NoMemory ≡ status.Usage = e in cc)) (λ nf. inr (inl refl)) (λ wanted g. inr (inl refl)) (λ g calm. refl) (λ g takes. (refl, ap err_faults same.2))
     (λ e. absurd (let d : status.NoMemory ≡ status.WriteFault = e in cc))
 
@@ -348,21 +352,21 @@ lines_are words a e = sym (ap (λ o. option_map_or lines_in o []) e)
 
 module _ (words : List Bytes) (shelf : ShelfSeen) (out err : SinkSeen) (answer : Status) (file : Bytes) (ls : List ℕ) (g : IsInGrammar words) (is_file : file ≡ file_of words) (are_lines : ls ≡ lines_of words) where
   pub written_for : (made put : List Bytes) → put ≡ made → OfFile shelf.contents file (λ text. (length text ≤ 1048576) × AreSlices text ls made)
-      → shelf.contents' ≡ shelf.contents → (shelf.never_fails → shelf.faults' ≡ shelf.faults) → Wrote put out err answer → Promises words shelf out err answer
-  written_for made put same of contents no_fault wrote =
+      → shelf.contents' ≡ shelf.contents → shelf.fetches' ≡ one_more shelf.fetches → (shelf.never_fails → shelf.faults' ≡ shelf.faults) → Wrote put out err answer → Promises words shelf out err answer
+  written_for made put same of contents once no_fault wrote =
       written_promised words shelf out err answer made g
       (subst (λ n. OfFile shelf.contents n (λ text. (length text ≤ 1048576) × AreSlices text (lines_of words) made)) is_file
       (subst (λ l. OfFile shelf.contents file (λ text. (length text ≤ 1048576) × AreSlices text l made)) are_lines of))
-      contents no_fault (subst (λ ts. Wrote ts out err answer) same wrote)
+      contents once no_fault (subst (λ ts. Wrote ts out err answer) same wrote)
 
   pub refused_for : (r : Refusal) → IsCause shelf.contents file ls shelf.faults shelf.faults' shelf.long_files shelf.long_files' r → IsAmong ls r
-      → IsReported err.faults err.faults' err.written err.written' file r answer → shelf.contents' ≡ shelf.contents → out.stays → out.faults' ≡ out.faults
+      → IsReported err.faults err.faults' err.written err.written' file r answer → shelf.contents' ≡ shelf.contents → shelf.fetches' ≡ one_more shelf.fetches → out.stays → out.faults' ≡ out.faults
       → (shelf.never_fails → shelf.faults' ≡ shelf.faults) → (shelf.never_fails → r ≡ refusal.Unreadable → Lacks shelf.contents file)
       → (r ≡ refusal.NoMemory → err.takes 14 → (answer ≡ status.NoMemory) × (err.faults' ≡ err.faults)) → Promises words shelf out err answer
-  refused_for r cause among reported contents out_stays out_faults no_fault missing taken =
+  refused_for r cause among reported contents once out_stays out_faults no_fault missing taken =
       refused_promised words shelf out err answer r g
       (subst (λ n. IsCause shelf.contents n (lines_of words) shelf.faults shelf.faults' shelf.long_files shelf.long_files' r) is_file
       (subst (λ l. IsCause shelf.contents file l shelf.faults shelf.faults' shelf.long_files shelf.long_files' r) are_lines cause))
       (subst (λ l. IsAmong l r) are_lines among)
       (subst (λ n. IsReported err.faults err.faults' err.written err.written' n r answer) is_file reported)
-      contents out_stays out_faults no_fault (λ never is. subst (Lacks shelf.contents) is_file (missing never is)) taken
+      contents once out_stays out_faults no_fault (λ never is. subst (Lacks shelf.contents) is_file (missing never is)) taken

@@ -1,7 +1,7 @@
 -- What a call of the slicer promises, over its words, what shelf, out and err tell before it and after it, and its status.
 use Rattle.std.specs.Prelude.{◌≡◌, ◌≢◌, ◌⊎◌, ℕ, List, Option, None, IsSome, IfSome, unwrap_or, length, ◌≤◌}
 use Rattle.edge_io.specs.Contents.{Told, Lacks, HoldsMoreThan}
-use Rattle.edge_io.specs.Count.{Rose}
+use Rattle.edge_io.specs.Count.{Rose, one_more}
 use Rattle.edge_io.specs.Written.{Gains}
 use Rattle.c_tree.specs.declared.limits.LimitName.{LimitName}
 use Rattle.c_tree.specs.declared.limits.LimitName.TheVariants.{Nesting}
@@ -60,8 +60,9 @@ pub record Outcome (words : List Bytes) (shelf : ShelfSeen) (out err : SinkSeen)
       × OfFile shelf.contents (file_of words) (λ text. WritesFront text (lines_of words) out.written out.written')
       × PutOrCutOff err.faults err.faults' err.written err.written' cannot_write)
   pub silent : answer ≡ status.Done → err.stays
-  -- the shelf holds what it held
+  -- the shelf holds what it held, and was asked for one file at most, once
   pub contents : shelf.contents' ≡ shelf.contents
+  pub fetched : (shelf.fetches' ≡ shelf.fetches) ⊎ (shelf.fetches' ≡ one_more shelf.fetches)
 
 -- all that a call promises: also that err has gained the line of the status
 pub record Promises (words : List Bytes) (shelf : ShelfSeen) (out err : SinkSeen) (answer : Status) : Type 0 where
@@ -69,9 +70,9 @@ pub record Promises (words : List Bytes) (shelf : ShelfSeen) (out err : SinkSeen
   pub tells : Tells err.faults err.faults' err.written err.written' (file_of words) (lines_of words) answer
 
 -- what holds of a call of the slicer holds but for its line of a call of the program, which may have ended before it, with nothing done; of a shelf and sinks that tell these things
-abbrev pub CallsKeepPromises : {F O E : Type 0} → (F → ℕ) → (F → ℕ) → (F → Told) → (F → Type 0) → (O → ℕ) → (O → Option Bytes) → (O → ℕ → Type 0) → (E → ℕ) → (E → Option Bytes) → (E → ℕ → Type 0) → Type 0
-CallsKeepPromises {F} {O} {E} faults long_files contents never_fails out_faults written out_takes err_faults told err_takes =
+abbrev pub CallsKeepPromises : {F O E : Type 0} → (F → ℕ) → (F → ℕ) → (F → ℕ) → (F → Told) → (F → Type 0) → (O → ℕ) → (O → Option Bytes) → (O → ℕ → Type 0) → (E → ℕ) → (E → Option Bytes) → (E → ℕ → Type 0) → Type 0
+CallsKeepPromises {F} {O} {E} faults long_files fetches contents never_fails out_faults written out_takes err_faults told err_takes =
     (words : List Bytes) (shelf shelf' : F) (out out' : O) (err err' : E) (ended : Option Status)
-    → IfSome ended (Promises words (shelf_seen faults long_files contents never_fails shelf shelf') (sink_seen out_faults written out_takes out out') (sink_seen err_faults told err_takes err err'))
+    → IfSome ended (Promises words (shelf_seen faults long_files fetches contents never_fails shelf shelf') (sink_seen out_faults written out_takes out out') (sink_seen err_faults told err_takes err err'))
     → (ended ≡ None → (shelf' ≡ shelf) × (out' ≡ out) × (err' ≡ err))
-    → Outcome words (shelf_seen faults long_files contents never_fails shelf shelf') (sink_seen out_faults written out_takes out out') (sink_seen err_faults told err_takes err err') (unwrap_or ended status.NoMemory)
+    → Outcome words (shelf_seen faults long_files fetches contents never_fails shelf shelf') (sink_seen out_faults written out_takes out out') (sink_seen err_faults told err_takes err err') (unwrap_or ended status.NoMemory)

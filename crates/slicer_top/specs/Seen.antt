@@ -3,12 +3,14 @@ use Rattle.std.specs.Prelude.{◌≡◌, ℕ, Option}
 use Rattle.edge_io.specs.Contents.{Told}
 use Rattle.c_language.specs.Words.{Bytes}
 
--- a shelf before a call and after it: its counts of faults and of long files, its contents, whether it is as it was, and whether it never fails
+-- a shelf before a call and after it: its counts of faults, of long files and of fetches, its contents, whether it is as it was, and whether it never fails
 pub record ShelfSeen : Type 1 where
   pub faults : ℕ
   pub faults' : ℕ
   pub long_files : ℕ
   pub long_files' : ℕ
+  pub fetches : ℕ
+  pub fetches' : ℕ
   pub contents : Told
   pub contents' : Told
   pub stays : Type 0
@@ -24,12 +26,14 @@ pub record SinkSeen : Type 1 where
   pub takes : ℕ → Type 0
 
 -- what is seen of a shelf and of a sink that tell these things
-abbrev pub shelf_seen : {F : Type 0} → (F → ℕ) → (F → ℕ) → (F → Told) → (F → Type 0) → F → F → ShelfSeen
-shelf_seen faults long_files contents never_fails before after = record {
+abbrev pub shelf_seen : {F : Type 0} → (F → ℕ) → (F → ℕ) → (F → ℕ) → (F → Told) → (F → Type 0) → F → F → ShelfSeen
+shelf_seen faults long_files fetches contents never_fails before after = record {
   faults = faults before;
   faults' = faults after;
   long_files = long_files before;
   long_files' = long_files after;
+  fetches = fetches before;
+  fetches' = fetches after;
   contents = contents before;
   contents' = contents after;
   stays = after ≡ before;

@@ -44,7 +44,7 @@ pub fn run_call<F: Shelf, O: Sink, E: Sink>(
     err: &mut E,
 ) -> Exit
     ensures promises { IfSome (ended_in result) (Promises (words_in arguments)
-        (shelf_seen F.faults F.long_files F.contents F.never_fails shelf.old shelf.new)
+        (shelf_seen F.faults F.long_files F.fetches F.contents F.never_fails shelf.old shelf.new)
         (sink_seen O.faults O.written O.takes out.old out.new) (sink_seen E.faults E.written E.takes err.old err.new)) }
 
     // Where there was no memory for the words, nothing is done, and so it is where the arguments found none.

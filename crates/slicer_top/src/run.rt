@@ -22,7 +22,7 @@ pub fn run_slicer<F: Shelf, O: Sink, E: Sink>(
     out: &mut O,
     err: &mut E,
 ) -> Status
-    ensures { Promises words.now (shelf_seen F.faults F.long_files F.contents F.never_fails shelf.old shelf.new)
+    ensures { Promises words.now (shelf_seen F.faults F.long_files F.fetches F.contents F.never_fails shelf.old shelf.new)
         (sink_seen O.faults O.written O.takes out.old out.new) (sink_seen E.faults E.written E.takes err.old err.new) result }
 {
     let request = match read_words(alloc, words) {

@@ -1,6 +1,7 @@
 //! From the name of a file and lines of it to the texts of the slices.
 ghost use Rattle.std.specs.Prelude.{◌≡◌, ℕ, List, ◌≤◌, IfOk, IfErr, MatchResult, length};
 ghost use Rattle.edge_io.specs.Contents.{Lacks};
+ghost use Rattle.edge_io.specs.Count.{one_more};
 ghost use Rattle.slice_engine.specs.Slice.{HasStart};
 ghost use Rattle.slicer_top.specs.Criteria.{AreCriteria, IsCriteriaFault};
 ghost use Rattle.slicer_top.specs.Files.{OfFile};
@@ -28,6 +29,7 @@ pub(crate) fn slice_file<F: Shelf>(
     shelf: &mut F,
 ) -> Result<Vec<Text>, Refusal>
     ensures contents { F.contents shelf.new ≡ F.contents shelf.old }
+    ensures fetched { F.fetches shelf.new ≡ one_more (F.fetches shelf.old) }
     ensures ok { IfOk result (λ texts. OfFile (F.contents shelf.old) file.now
         (λ text. (length text ≤ 1048576) × AreSlices text lines.now texts.items)) }
     ensures err { IfErr result (IsCause (F.contents shelf.old) file.now lines.now
