@@ -1,5 +1,6 @@
 //! What the vertices of a small main define, use and kill.
 ghost use Rattle.c_reader.specs.Reading.{ReadsProgram};
+ghost use Rattle.dep_model.specs.NumberedMains.{IsNumberedMain};
 
 use bit_rows::Rows;
 use built_forms::not_yet;
@@ -34,13 +35,20 @@ fn read<R: Abort + AllocGlobal>(rt: &R, text: &str) -> Program
     read_program(rt.alloc(), bytes).expect(rt, "a program")
 }
 
-#[tactic(auto, using(crate::proofs::Mains::numbered))]
 fn skeleton<R: Abort + AllocGlobal>(rt: &R, text: &str) -> Skeleton {
     let program = read(rt, text);
-    assert!(rt; not_yet(&program).is_none());
+    match not_yet(&program) {
+        None => made(rt, &program),
+        Some(_) => panic!(rt; "something is outside the built forms"),
+    }
+}
+
+fn made<R: Abort + AllocGlobal>(rt: &R, program: &Program) -> Skeleton
+    requires { IsNumberedMain program.now }
+{
     assert!(rt; program.statements < 100);
     assert!(rt; program.vars.len() < SHORT);
-    skeleton_of(rt.alloc(), &program).expect(rt, "memory")
+    skeleton_of(rt.alloc(), program).expect(rt, "memory")
 }
 
 /// The rows, a word for each: bit 0 is the input, bit 1 `i`, bit 2 `s` and bit 3 the result.
