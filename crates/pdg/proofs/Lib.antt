@@ -1,0 +1,3 @@
+pub mod EdgeLess
+pub mod MergeLemmas
+pub mod UnionLaws
