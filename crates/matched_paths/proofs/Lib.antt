@@ -1,0 +1,4 @@
+pub mod Levels
+pub mod CallShapes
+pub mod FactLaws
+pub mod ReachLaws
