@@ -1,0 +1,2 @@
+pub mod PassRules
+pub mod Ready

@@ -1,0 +1,31 @@
+-- The two passes over a graph as rules (Horwitz, Reps and Binkley 1990): of n vertices, v has the number v in the first pass and n + v in
+-- the second.
+use Rattle.std.specs.Prelude.{◌≡◌, ◌↔◌, ℕ, ◌+◌, ◌<◌, List, Contains}
+use Rattle.rule_closure.specs.declared.closure.Rule.{Rule}
+use Rattle.dep_model.specs.declared.edge.Edge.{Edge}
+use Rattle.dep_model.specs.declared.edge.Label.TheVariants.{Call, In, Out}
+use Rattle.dep_model.specs.Facts.{FactSet, IsInnerEdge}
+use Rattle.dep_model.specs.Graphs.{edge}
+
+-- what is marked with the number j marks the one with the number k: both passes go back along edges inside functions, the first one
+-- also over edges that enter calls and never into a function called, the second one over edges that leave calls and never back to a
+-- caller; it begins at all that the first one marks
+pub data GoesBack (n : ℕ) (edges : List Edge) (K : FactSet) : ℕ → ℕ → Type 0 where
+  first : {u v : ℕ} → IsInnerEdge edges K u v → GoesBack n edges K v u
+  second : {u v : ℕ} → IsInnerEdge edges K u v → GoesBack n edges K (n + v) (n + u)
+  call : {u v : ℕ} (c : ℕ) → Contains edges (edge u v (Call c)) → GoesBack n edges K v u
+  in_ : {u v : ℕ} (c : ℕ) → Contains edges (edge u v (In c)) → GoesBack n edges K v u
+  out : {u v : ℕ} (c : ℕ) → Contains edges (edge u v (Out c)) → GoesBack n edges K (n + v) (n + u)
+  turn : {v : ℕ} → v < n → GoesBack n edges K v (n + v)
+
+-- a rule with one premise
+abbrev pub one_premise : ℕ → ℕ → Rule
+one_premise j k = record { first = j; second = j; gives = k }
+
+pub record IsPassRule (n : ℕ) (edges : List Edge) (K : FactSet) (r : Rule) : Type 0 where
+  pub one : r.second ≡ r.first
+  pub goes : GoesBack n edges K r.first r.gives
+
+-- exactly the rules of the passes
+abbrev pub ArePassRules : ℕ → List Edge → FactSet → List Rule → Type 0
+ArePassRules n edges K rules = (r : Rule) → Contains rules r ↔ IsPassRule n edges K r
