@@ -1,5 +1,6 @@
 -- With exactly the true facts, the rules of both passes derive what reaches a set by a word that rises and then falls.
-use Rattle.std.proofs.Common.{◌≡◌, ◌↔◌, ℕ, ◌+◌, ◌<◌, Bool, List, [], ◌∷◌, length, Contains, refl, sym, ap, ◌∙◌, subst, ◌⊎◌, inl, inr, arith}
+use Rattle.std.proofs.Common.{◌≡◌, ◌↔◌, ℕ, ◌+◌, ◌<◌, Bool, List, [], ◌∷◌, length, Contains, refl, sym, ap, ◌∙◌, subst, ◌⊎◌, inl, inr, arith, All}
+use Rattle.std.proofs.lemmas.List.Elements.{All-contains}
 use Rattle.std.specs.Prelude.{IsTrue}
 use Rattle.bit_rows.specs.Sets.{has}
 use Rattle.rule_closure.specs.declared.closure.Rule.{Rule}
@@ -19,7 +20,7 @@ use Rattle.matched_paths.proofs.FactLaws.{level_of_inner}
 use Rattle.matched_paths.proofs.ReachLaws.{FallsToAny, falls_itself, falls_level, falls_open, reaches_falling, reaches_level, reaches_close, edge_below, inner_below, path_below, back_along_falling, back_along_rising}
 use Rattle.two_pass.specs.PassRules.{GoesBack, one_premise, IsPassRule, ArePassRules}
 use Rattle.two_pass.specs.PassRules as passes
-use Rattle.two_pass.specs.Ready.{FindsReached}
+use Rattle.two_pass.specs.Ready.{PassGraph, HasMembers, FindsReached}
 
 -- ---- edges by their letters
 opened_goes : (n : ℕ) (edges : List Edge) (K : FactSet) (c a b : ℕ) → Spelled edges (Open c ∷ []) a b → GoesBack n edges K b a
@@ -104,4 +105,25 @@ finds_reached g ws c shaped facts are s within v =
     let all : HasEachTrueFact g (HoldsFact g ws) = λ a b. (facts.exact a b).1 in (
       λ r. derived_of_reaches g (HoldsFact g ws) shaped true_ c.rules are s within all v r,
       λ d. from_high (length g.vertices) g.edges s v (marked_of_derived g (HoldsFact g ws) shaped true_ c.rules are s within d.1),
+    )
+
+-- a set with the same members is reached by the same
+reached_by_same : (edges : List Edge) (s t : List Bool) → ((v : ℕ) → IsTrue (has s v) → IsTrue (has t v)) → (v : ℕ) → ReachesAny edges s v → ReachesAny edges t v
+reached_by_same edges s t same v r = record { goal = r.goal; wanted = same r.goal r.wanted; reaches = r.reaches }
+
+-- what the rules leave, read back, is what reaches
+pub reach_is : (graph : PassGraph) (n : ℕ) (edges : List Edge) (c : RuleSystem) (from : List ℕ) (seeds marks into : List Bool) → record { size = n; edges = edges } ≡ graph → FindsReached n edges c → All (λ v. v < graph.size) from → HasMembers from seeds → ((v : ℕ) → IsTrue (has marks v) ↔ Derived c.rules seeds v) → ((v : ℕ) → IsTrue (has into v) ↔ ((v < n) × IsTrue (has marks (n + v)))) → (s : List Bool) → HasMembers from s → (v : ℕ) → IsTrue (has into v) ↔ ReachesAny graph.edges s v
+reach_is graph n edges c from seeds marks into view finds inside seeds_are marks_are into_is s members v =
+    let size_is : graph.size ≡ n = sym (ap (λ (p : PassGraph). p.size) view) in
+    let edges_are : edges ≡ graph.edges = ap (λ (p : PassGraph). p.edges) view in
+    let within : (u : ℕ) → IsTrue (has seeds u) → u < n = λ u h. subst (λ k. u < k) size_is (All-contains (λ k. k < graph.size) from u inside ((seeds_are u).0 h)) in
+    let found = finds seeds within v in (
+      λ h.
+        let i = (into_is v).0 h in
+        let r : ReachesAny edges seeds v = found.1 (i.0, (marks_are (n + v)).0 i.1) in
+        subst (λ es. ReachesAny es s v) edges_are (reached_by_same edges seeds s (λ u k. (members u).1 ((seeds_are u).0 k)) v r),
+      λ r.
+        let r' : ReachesAny edges s v = subst (λ es. ReachesAny es s v) (sym edges_are) r in
+        let d = found.0 (reached_by_same edges s seeds (λ u k. (seeds_are u).1 ((members u).0 k)) v r') in
+        (into_is v).1 (d.0, (marks_are (n + v)).1 d.1),
     )

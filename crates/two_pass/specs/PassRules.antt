@@ -1,9 +1,10 @@
 -- The two passes over a graph as rules (Horwitz, Reps and Binkley 1990): of n vertices, v has the number v in the first pass and n + v in
 -- the second.
-use Rattle.std.specs.Prelude.{◌≡◌, ◌↔◌, ℕ, ◌+◌, ◌<◌, List, Contains}
+use Rattle.std.specs.Prelude.{◌≡◌, ◌↔◌, ℕ, ◌+◌, ◌<◌, Bool, true, false, cond, List, [], ◌∷◌, ◌++◌, Contains}
 use Rattle.rule_closure.specs.declared.closure.Rule.{Rule}
 use Rattle.dep_model.specs.declared.edge.Edge.{Edge}
-use Rattle.dep_model.specs.declared.edge.Label.TheVariants.{Call, In, Out}
+use Rattle.dep_model.specs.declared.edge.Label.{Label}
+use Rattle.dep_model.specs.declared.edge.Label.TheVariants.{Control, Flow, Call, In, Out}
 use Rattle.dep_model.specs.Facts.{FactSet, IsInnerEdge}
 use Rattle.dep_model.specs.Graphs.{edge}
 
@@ -29,3 +30,28 @@ pub record IsPassRule (n : ℕ) (edges : List Edge) (K : FactSet) (r : Rule) : T
 -- exactly the rules of the passes
 abbrev pub ArePassRules : ℕ → List Edge → FactSet → List Rule → Type 0
 ArePassRules n edges K rules = (r : Rule) → Contains rules r ↔ IsPassRule n edges K r
+
+-- ---- the rules of an edge
+-- whether the first pass goes back along an edge of this label
+abbrev pub goes_first : Label → Bool
+goes_first Control = true
+goes_first Flow = true
+goes_first (Call c) = true
+goes_first (In c) = true
+goes_first (Out c) = false
+
+-- and whether the second one does
+abbrev pub goes_second : Label → Bool
+goes_second Control = true
+goes_second Flow = true
+goes_second (Call c) = false
+goes_second (In c) = false
+goes_second (Out c) = true
+
+abbrev pub edge_rules : ℕ → Edge → List Rule
+edge_rules n e =
+    cond (goes_first e.label) (one_premise e.to e.from ∷ []) [] ++ cond (goes_second e.label) (one_premise (n + e.to) (n + e.from) ∷ []) []
+
+-- the rule from a vertex of the first pass to the second
+abbrev pub turn_rule : ℕ → ℕ → Rule
+turn_rule n v = one_premise v (n + v)

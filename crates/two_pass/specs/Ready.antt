@@ -1,5 +1,5 @@
 -- What a value of `Passes` is seen as, and what it keeps.
-use Rattle.std.specs.Prelude.{◌≡◌, ◌↔◌, ℕ, ◌+◌, ◌*◌, ◌<◌, ◌^◌, Bool, List, length, Contains, IsTrue}
+use Rattle.std.specs.Prelude.{◌≡◌, ◌↔◌, ℕ, ◌+◌, ◌<◌, ◌^◌, Bool, List, length, Contains, IsTrue}
 use Rattle.bit_rows.specs.Sets.{has}
 use Rattle.rule_closure.specs.Rules.{Derived, RuleSystem}
 use Rattle.dep_model.specs.declared.edge.Edge.{Edge}
@@ -21,6 +21,7 @@ FindsReached n edges c =
 
 -- the rules find what reaches a set, and there is room for the numbers of both passes
 pub record IsReady (n : ℕ) (edges : List Edge) (c : RuleSystem) (marks : List Bool) : Type 0 where
+  pub few : n + n < 2 ^ 32
   pub twice : c.size ≡ n + n
   pub room : length marks ≡ n + n
   pub finds : FindsReached n edges c

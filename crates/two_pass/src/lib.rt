@@ -3,5 +3,6 @@
 #![tactic(auto)]
 
 mod passes;
+mod rules;
 
 pub use passes::Passes;

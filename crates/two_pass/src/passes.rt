@@ -1,5 +1,5 @@
 //! The memory for the passes, and the passes.
-ghost use Rattle.std.specs.Prelude.{◌≡◌, ℕ, ◌+◌, ◌<◌, ◌↔◌, IsTrue, List, Bool, length, All, Contains, OnOk, IfOk};
+ghost use Rattle.std.specs.Prelude.{◌≡◌, ℕ, ◌+◌, ◌^◌, ◌<◌, ◌↔◌, IsTrue, List, Bool, length, All, Contains, OnOk, IfOk};
 ghost use Rattle.bit_rows.specs.Sets.{has};
 ghost use Rattle.dep_model.specs.Words.{ReachesAny};
 ghost use Rattle.two_pass.specs.Ready.{HasMembers};
@@ -40,6 +40,7 @@ fn seed(from: &[VertexId], marks: &mut VertexSet)
 
 // Makes the set that of the vertices whose second numbers are marked.
 fn collect(marks: &VertexSet, size: u32, into: &mut VertexSet)
+    requires few { size + size < 2 ^ 32 }
     requires twice { length marks.now ≡ size + size }
     requires size { length into.old ≡ size }
     ensures size { length into.new ≡ length into.old }
