@@ -1,10 +1,15 @@
 //! Paths of a dependence graph whose calls and returns match, and the facts of its functions
 //! (summary edges: Horwitz, Reps and Binkley 1990).
 //!
-//! Each function is a law, and holds no code: its contract is the law, over the definitions of `specs/Laws`.
+//! The functions of this file are laws, and hold no code: the contract of each is the law, over the definitions of `specs/Laws`.
+//! [`FactPlaces`] tells where a fact stands.
 #![tactic(auto)]
 
+mod fact_places;
+
 ghost use Rattle.matched_paths.specs.Laws.{StepsKeepTruth, SettledHasAll};
+
+pub use fact_places::FactPlaces;
 
 /// A law: a step from true facts gives only true facts.
 pub fn steps_keep_truth()
