@@ -1,2 +1,3 @@
 pub mod PassRules
 pub mod Ready
+pub mod CallRules

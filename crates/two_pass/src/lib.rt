@@ -2,6 +2,7 @@
 //! (Horwitz, Reps and Binkley 1990), as one closure by rules.
 #![tactic(auto)]
 
+mod calls;
 mod passes;
 mod rules;
 

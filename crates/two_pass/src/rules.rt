@@ -6,8 +6,8 @@ ghost use Rattle.two_pass.specs.PassRules.{one_premise, goes_first, goes_second,
 use dep_model::{Edge, Label, Rule};
 use std::alloc::{AllocError, Global};
 
-// The rule with one premise.
-fn back(to: u32, from: u32) -> Rule
+/// The rule with one premise.
+pub(crate) fn back(to: u32, from: u32) -> Rule
     ensures { result ≡ one_premise to from }
 {
     Rule {

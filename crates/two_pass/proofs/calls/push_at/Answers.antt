@@ -1,0 +1,6 @@
+use Rattle.two_pass.proofs.ExitLemmas.{exit_added}
+use Rattle.two_pass.proofs.calls.push_at.Goals as goal
+
+pub returns : goal.returns
+returns c =
+    exit_added c.args.rows.now.items c.args.at c.index_mut.result.now c.push.new.self c.args.edge c.requires c.index_mut.ensures.value c.in_ok-push.ensures.items

@@ -1,0 +1,44 @@
+-- The rules that go back over a call as a whole, where the function called has the matching fact.
+use Rattle.std.specs.Prelude.{ℕ, ◌+◌, ◌==◌, Bool, if◌then◌else◌, List, [], ◌∷◌, map, flat_map, slice_index_or}
+use Rattle.std.specs.declared.vec.Vec.{Vec}
+use Rattle.std.specs.declared.alloc.Global.{Global}
+use Rattle.rule_closure.specs.declared.closure.Rule.{Rule}
+use Rattle.dep_model.specs.declared.edge.Edge.{Edge}
+use Rattle.dep_model.specs.declared.edge.Label.{Label}
+use Rattle.dep_model.specs.declared.edge.Label.TheVariants.{Control, Flow, Call, In, Out}
+use Rattle.matched_paths.specs.Places.{Places, holds_fact}
+use Rattle.two_pass.specs.PassRules.{one_premise}
+
+abbrev pub if_call : ℕ → ℕ → Edge → List Edge
+if_call d c e = if d == c then e ∷ [] else []
+
+abbrev pub leaves_by : Label → ℕ → Edge → List Edge
+leaves_by Control c e = []
+leaves_by Flow c e = []
+leaves_by (Call d) c e = []
+leaves_by (In d) c e = []
+leaves_by (Out d) c e = if_call d c e
+
+-- the edge, where it leaves call c
+abbrev pub leaving : ℕ → Edge → List Edge
+leaving c e = leaves_by e.label c e
+
+-- the edges in the row of a call, which is empty where there is none
+abbrev pub exits_at : Vec (Vec Edge Global) Global → ℕ → List Edge
+exits_at rows c = slice_index_or (map (λ (r : Vec Edge Global). r.items) rows.items) c []
+
+-- the rules of the call that `enter` enters and `leave` leaves: in both passes, where the words hold the fact between them
+abbrev pub crossing_rules : ℕ → List ℕ → Places → Edge → Edge → List Rule
+crossing_rules n ws t enter leave =
+    if holds_fact t ws enter.to leave.from then one_premise leave.to enter.from ∷ one_premise (n + leave.to) (n + enter.from) ∷ [] else []
+
+abbrev pub rules_by : Label → ℕ → List Edge → List ℕ → Places → Edge → List Rule
+rules_by Control n edges ws t enter = []
+rules_by Flow n edges ws t enter = []
+rules_by (Call c) n edges ws t enter = []
+rules_by (In c) n edges ws t enter = flat_map (crossing_rules n ws t enter) (flat_map (leaving c) edges)
+rules_by (Out c) n edges ws t enter = []
+
+-- the rules of the calls that an edge enters as an argument
+abbrev pub call_rules : ℕ → List Edge → List ℕ → Places → Edge → List Rule
+call_rules n edges ws t enter = rules_by enter.label n edges ws t enter
