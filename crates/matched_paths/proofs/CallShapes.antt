@@ -156,3 +156,28 @@ crossed_edge g K n a b c d fact (by_formals f to i j formals o h) =
 pub crossed_stays : (g : Graph) (f n a b c d : ℕ) → IsIn g.vertices f a → IsCrossed g n a b c d → IsIn g.vertices f d
 crossed_stays g f n a b c d i (by_control k p q m) = subst (λ x. IsIn g.vertices x d) (in_same g.vertices k f a p i) q
 crossed_stays g f n a b c d i (by_formals k to p q formals o h) = subst (λ x. IsIn g.vertices x d) (in_same g.vertices k f a p i) q
+
+-- ---- where arguments and results of one call lead
+record IsEnteredIn (g : Graph) (n b : ℕ) : Type 0 where
+  function : ℕ
+  statement : ℕ
+  callee : ℕ
+  slot : Slot
+  call : IsCallOf g function statement callee n
+  formal : IsVertex g.vertices callee (kind.FormalIn slot) b
+
+entered_in : (g : Graph) (n a b : ℕ) → IsFitting g (edge a b (In n)) → IsEnteredIn g n b
+entered_in g n a b (shapes.inside f j k s p q) = elim s [ inl e ↦ cc | inr e ↦ cc ]
+entered_in g n a b (shapes.call f i to s p q) = cc
+entered_in g n a b (shapes.in_ f i to c slot o s p q) =
+    let e : c ≡ n = cc in
+    record { function = f; statement = i; callee = to; slot = slot; call = subst (IsCallOf g f i to) e o; formal = q }
+entered_in g n a b (shapes.out f i to c slot o s p q) = cc
+
+-- where an In edge ends and an Out edge of the same call begins, there are a formal-in and a formal-out of one function
+pub formals_of_call : (g : Graph) → IsShaped g → (n a b c d : ℕ) → Contains g.edges (edge a b (In n)) → Contains g.edges (edge c d (Out n)) → (to : ℕ) × AreFormals g.vertices to b c
+formals_of_call g shaped n a b c d m h =
+    let o = entered_in g n a b (shaped.fitting (edge a b (In n)) m) in
+    let l = left g (Out n) n c d h refl (shaped.fitting (edge c d (Out n)) h) in
+    let callee = one_callee g shaped l.function l.statement l.callee o.function o.statement o.callee n l.call o.call in
+    (o.callee, record { slot_in = o.slot; slot_out = l.slot; goes_in = o.formal; comes_out = subst (λ k. IsVertex g.vertices k (kind.FormalOut l.slot) c) callee l.formal })

@@ -1,2 +1,4 @@
 pub mod PassLaws
 pub mod ExitLemmas
+pub mod Members
+pub mod RuleLaws

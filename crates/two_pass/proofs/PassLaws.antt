@@ -1,5 +1,5 @@
 -- With exactly the true facts, the rules of both passes derive what reaches a set by a word that rises and then falls.
-use Rattle.std.proofs.Common.{◌≡◌, ◌↔◌, ℕ, ◌+◌, ◌<◌, Bool, List, [], ◌∷◌, length, Contains, refl, sym, ap, ◌∙◌, subst, ◌⊎◌, inl, inr, arith, All}
+use Rattle.std.proofs.Common.{◌≡◌, ◌↔◌, ℕ, ◌+◌, ◌<◌, Bool, List, [], ◌∷◌, length, Contains, refl, sym, ap, subst, arith, All}
 use Rattle.std.proofs.lemmas.List.Elements.{All-contains}
 use Rattle.std.specs.Prelude.{IsTrue}
 use Rattle.bit_rows.specs.Sets.{has}
@@ -10,7 +10,7 @@ use Rattle.dep_model.specs.declared.edge.Edge.{Edge}
 use Rattle.dep_model.specs.declared.edge.Label.{Label}
 use Rattle.dep_model.specs.declared.edge.Label.TheVariants.{Control, Flow, Call, In, Out}
 use Rattle.dep_model.specs.declared.graph.Graph.{Graph}
-use Rattle.dep_model.specs.Facts.{FactSet, HoldsFact, AreTrueFacts, IsInnerEdge}
+use Rattle.dep_model.specs.Facts.{FactSet, HoldsFact, AreTrueFacts}
 use Rattle.dep_model.specs.Graphs.{edge}
 use Rattle.dep_model.specs.Shapes.{IsShaped}
 use Rattle.dep_model.specs.Words.{Open, Close, letters, ReachesAny}
@@ -88,10 +88,9 @@ module _ (g : Graph) (K : FactSet) (shaped : IsShaped g) (true_ : AreTrue g K) w
         let cut = split g.edges q.path a r.goal q.up q.down q.joins q.spells in
         let below : cut.middle < size = path_below g shaped cut.back cut.middle r.goal cut.back_joins (within r.goal r.wanted) in
         let falls : Derived rules s cut.middle =
-            back_along_falling g K (Derived rules s) shaped all (λ u v e. derived_back v u (passes.first e))
-                (λ c u v h. derived_back v u (opened_goes size g.edges K c u v h)) q.falls cut.back cut.middle r.goal cut.back_joins cut.back_spells
-                (rules_.seed r.wanted) in
-        (
+        back_along_falling g K (Derived rules s) shaped all (λ u v e. derived_back v u (passes.first e))
+        (λ c u v h. derived_back v u (opened_goes size g.edges K c u v h)) q.falls cut.back cut.middle r.goal cut.back_joins cut.back_spells
+        (rules_.seed r.wanted) in (
           path_below g shaped cut.front a cut.middle cut.front_joins below,
           back_along_rising g K (λ v. Derived rules s (size + v)) shaped all (λ u v e. derived_back (size + v) (size + u) (passes.second e))
               (λ c u v h. derived_back (size + v) (size + u) (closed_goes size g.edges K c u v h)) q.rises cut.front a cut.middle cut.front_joins
@@ -119,11 +118,11 @@ reach_is graph n edges c from seeds marks into view finds inside seeds_are marks
     let within : (u : ℕ) → IsTrue (has seeds u) → u < n = λ u h. subst (λ k. u < k) size_is (All-contains (λ k. k < graph.size) from u inside ((seeds_are u).0 h)) in
     let found = finds seeds within v in (
       λ h.
-        let i = (into_is v).0 h in
-        let r : ReachesAny edges seeds v = found.1 (i.0, (marks_are (n + v)).0 i.1) in
-        subst (λ es. ReachesAny es s v) edges_are (reached_by_same edges seeds s (λ u k. (members u).1 ((seeds_are u).0 k)) v r),
+          let i = (into_is v).0 h in
+          let r : ReachesAny edges seeds v = found.1 (i.0, (marks_are (n + v)).0 i.1) in
+          subst (λ es. ReachesAny es s v) edges_are (reached_by_same edges seeds s (λ u k. (members u).1 ((seeds_are u).0 k)) v r),
       λ r.
-        let r' : ReachesAny edges s v = subst (λ es. ReachesAny es s v) (sym edges_are) r in
-        let d = found.0 (reached_by_same edges s seeds (λ u k. (seeds_are u).1 ((members u).0 k)) v r') in
-        (into_is v).1 (d.0, (marks_are (n + v)).1 d.1),
+          let r' : ReachesAny edges s v = subst (λ es. ReachesAny es s v) (sym edges_are) r in
+          let d = found.0 (reached_by_same edges s seeds (λ u k. (seeds_are u).1 ((members u).0 k)) v r') in
+          (into_is v).1 (d.0, (marks_are (n + v)).1 d.1),
     )

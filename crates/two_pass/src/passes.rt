@@ -1,10 +1,17 @@
 //! The memory for the passes, and the passes.
 ghost use Rattle.std.specs.Prelude.{◌≡◌, ℕ, ◌+◌, ◌^◌, ◌<◌, ◌↔◌, IsTrue, List, Bool, length, All, Contains, OnOk, IfOk};
 ghost use Rattle.bit_rows.specs.Sets.{has};
+ghost use Rattle.dep_model.specs.Facts.{AreTrueFacts, HoldsFact};
+ghost use Rattle.dep_model.specs.Shapes.{IsShaped};
 ghost use Rattle.dep_model.specs.Words.{ReachesAny};
+ghost use Rattle.two_pass.specs.PassRules.{ArePassRules};
 ghost use Rattle.two_pass.specs.Ready.{HasMembers};
 
-use dep_model::{Closure, Edge, VertexId, VertexSet};
+use crate::calls::over_calls;
+use crate::rules::{along_edges, turns};
+use dep_model::{Closure, Edge, Facts, Graph, Rule, VertexId, VertexSet};
+use matched_paths::FactPlaces;
+use std::alloc::{AllocError, Global};
 use std::marker::Model;
 
 /// A dependence graph with its facts, ready to be followed backward, and the memory that this takes.
@@ -17,6 +24,7 @@ pub struct Passes {
 }
 
 impl Model for Passes {
+    ghost use Rattle.two_pass.specs.PassRules.{ArePassRules};
     ghost use Rattle.two_pass.specs.Ready.{PassGraph, IsReady};
 
     ghost Value = { PassGraph };
@@ -54,7 +62,46 @@ fn collect(marks: &VertexSet, size: u32, into: &mut VertexSet)
     }
 }
 
+// The rules of both passes. Err: no memory was left.
+fn rules_of(alloc: Global, size: u32, g: &Graph, f: &Facts) -> Result<Vec<Rule>, AllocError>
+    requires size { size ≡ length g.now.vertices }
+    requires shaped { IsShaped g.now }
+    ensures { IfOk result (λ rules. ArePassRules (length g.now.vertices) g.now.edges (HoldsFact g.now f.now.words) rules.items) }
+{
+    let places = FactPlaces::find(alloc, g)?;
+    let mut rules = turns(alloc, size)?;
+    along_edges(&mut rules, size, g.edges.as_slice())?;
+    over_calls(
+        alloc,
+        &mut rules,
+        size,
+        g.edges.as_slice(),
+        &places,
+        f.words.as_slice(),
+    )?;
+    Ok(rules)
+}
+
 impl Passes {
+    /// Takes all the memory that following the edges of a graph needs, by its facts. Err: no memory was left.
+    pub fn prepare(alloc: Global, g: &Graph, f: &Facts) -> Result<Passes, AllocError>
+        requires shaped { IsShaped g.now }
+        requires facts { AreTrueFacts g.now f.now.words }
+        ensures { IfOk result (λ p. p ≡ record { size = length g.now.vertices; edges = g.now.edges }) }
+    {
+        let size = g.vertices.len() as u32;
+        let rules = rules_of(alloc, size, g, f)?;
+        let closure = Closure::prepare(alloc, size + size, rules)?;
+        let marks = VertexSet::new(alloc, size + size)?;
+        let edges = Vec::from_slice(alloc, g.edges.as_slice())?;
+        Ok(Passes {
+            size,
+            edges,
+            closure,
+            marks,
+        })
+    }
+
     /// Makes the set that of the vertices from which a path leads to one of `from` whose word is of matched parts and closes, and then of
     /// matched parts and opens, and takes no memory.
     pub fn reach(&mut self, from: &[VertexId], into: &mut VertexSet)
