@@ -1,6 +1,6 @@
 //! Texts and their tokens, worked out by hand from C99's lexical grammar. Texts that have none are cases of slicer_cases.
 use c_language::{Token, TokenKind};
-use c_lex::lex;
+use c_lex::{LexFault, lex};
 use edge_io::Text;
 use std::process::Abort;
 
@@ -156,4 +156,18 @@ fn directives(rt: HostRuntime) {
     has(&rt, b"\n#include < stdio.h>", &row);
     has(&rt, b"\n #include <stdio.h> x", &row);
     has(&rt, b"\n##\\\n", &row);
+}
+
+#[test]
+fn faults_have_their_words(rt: HostRuntime) {
+    let rows = [
+        (LexFault::BadByte(1), "bad byte"),
+        (LexFault::BadNumber(1), "bad number"),
+        (LexFault::OpenComment(1), "open comment"),
+        (LexFault::NoMemory, "out of memory"),
+    ];
+    for (fault, words) in rows {
+        let shown = format!(in rt.alloc(); "{fault}").expect(&rt, "memory");
+        assert_eq!(rt; shown.as_str(), words);
+    }
 }
