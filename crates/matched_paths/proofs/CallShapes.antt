@@ -1,5 +1,5 @@
 -- In a shaped graph a call that is entered and left again is a summary edge, or the control edge from its call vertex.
-use Rattle.std.proofs.Common.{ℕ, ◌≡◌, List, [], ◌∷◌, refl, sym, ap, ◌∙◌, subst, ◌⊎◌, inl, inr, Contains, Some, slice_get}
+use Rattle.std.proofs.Common.{ℕ, ◌≡◌, List, [], ◌∷◌, refl, sym, ap, ◌∙◌, subst, inl, inr, Contains, Some}
 use Rattle.dep_model.specs.declared.edge.Edge.{Edge}
 use Rattle.dep_model.specs.declared.edge.Label.{Label}
 use Rattle.dep_model.specs.declared.edge.Label.TheVariants.{Control, Flow, Call, In, Out}
@@ -8,13 +8,13 @@ use Rattle.dep_model.specs.declared.vertex.Slot.{Slot}
 use Rattle.dep_model.specs.declared.vertex.Vertex.{Vertex}
 use Rattle.dep_model.specs.declared.vertex.VertexKind.{VertexKind}
 use Rattle.dep_model.specs.declared.vertex.VertexKind.TheVariants as kind
-use Rattle.dep_model.specs.Facts.{FactSet, AreFormals, IsIn, IsInnerEdge, IsSummary}
+use Rattle.dep_model.specs.Facts.{FactSet, AreFormals, IsIn, IsInnerEdge}
 use Rattle.dep_model.specs.Graphs.{edge}
 use Rattle.dep_model.specs.Shapes.{IsShaped, IsFitting, IsCallOf, IsActual}
 use Rattle.dep_model.specs.Shapes as shapes
 use Rattle.dep_model.specs.SystemGraph.{IsVertex}
 use Rattle.dep_model.specs.VertexOrder.{in_function}
-use Rattle.dep_model.specs.Words.{Letter, Open, Close, letters}
+use Rattle.dep_model.specs.Words.{Open, Close, letters}
 use Rattle.matched_paths.proofs.Levels.{Spelled}
 
 -- ---- vertices

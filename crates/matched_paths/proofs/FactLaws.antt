@@ -1,13 +1,12 @@
 -- One step from true facts gives only true facts, and facts in which each function is settled are all that are true.
-use Rattle.std.proofs.Common.{ℕ, ◌≡◌, List, [], ◌∷◌, refl, ◌⊎◌, inl, inr}
+use Rattle.std.proofs.Common.{ℕ, refl, inl, inr}
 use Rattle.dep_model.specs.declared.edge.Label.TheVariants.{Control, Flow, In, Out}
 use Rattle.dep_model.specs.declared.graph.Graph.{Graph}
 use Rattle.dep_model.specs.declared.vertex.VertexKind.TheVariants as kind
 use Rattle.dep_model.specs.Facts.{FactSet, AreFormals, IsIn, IsInnerEdge, IsInnerChain, ends, goes_on, IsStep, IsTrueFact}
 use Rattle.dep_model.specs.Shapes.{IsShaped}
-use Rattle.dep_model.specs.Words.{Open, Close}
 use Rattle.matched_paths.specs.Laws.{AreTrue, HasEachTrueFact, IsSettled}
-use Rattle.matched_paths.proofs.Levels.{Spelled, Level, stay, plain, call, level_append, level_of_path, path_of}
+use Rattle.matched_paths.proofs.Levels.{Level, stay, plain, call, level_append, level_of_path, path_of}
 use Rattle.matched_paths.proofs.CallShapes.{inner_of_plain, plain_stays, is_in, crossed, crossed_edge, crossed_stays}
 
 -- ---- facts that are true

@@ -155,10 +155,6 @@ pub word-append : (p q : List Edge) → word (p ++ q) ≡ word p ++ word q
 word-append [] q = refl
 word-append (e ∷ p) q = ap (λ v. letters e.label ++ v) (word-append p q) ∙ sym (append_assoc (letters e.label) (word p) (word q))
 
--- the edge of a letter, as the first of a path
-abbrev pub first_edge : {edges : List Edge} {w : List Letter} {a b : ℕ} → Spelled edges w a b → Edge
-first_edge {a = a} {b = b} h = edge a b h.label
-
 pub word_with : {edges : List Edge} {w : List Letter} {a b : ℕ} (h : Spelled edges w a b) (p : List Edge) → word (edge a b h.label ∷ p) ≡ w ++ word p
 word_with h p = ap (λ v. v ++ word p) h.spells
 

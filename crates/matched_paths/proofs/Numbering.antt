@@ -1,25 +1,17 @@
 -- How many formal-ins of its function stand before a vertex, found by counting from the first vertex of the function on.
 use Rattle.std.proofs.Common.{◌≡◌, ◌≢◌, ℕ, zero, suc, ◌+◌, ◌<◌, ◌≤◌, ◌⊎◌, inl, inr, Bool, true, false, ◌&&◌, List, [], ◌∷◌, ◌++◌, length, get_or, take, Some, slice_get, refl, sym, ap, ◌∙◌, subst, arith}
 use Rattle.std.specs.Prelude.{if◌then◌else◌, ◌==◌}
+use Rattle.std.proofs.Math.ListN.{get_or-append}
+use Rattle.std.proofs.Math.Seq.{get_or-append_seam}
 use Rattle.std.proofs.lemmas.List.{take_more}
+use Rattle.std.proofs.lemmas.Option.{slice_get-get_or}
 use Rattle.std.proofs.lemmas.Bool.{cases_eq, cases_Bool}
 use Rattle.std.proofs.lemmas.Bool.Decides.{nat_tests}
 use Rattle.dep_model.specs.declared.vertex.Vertex.{Vertex}
-use Rattle.dep_model.specs.declared.vertex.VertexKind.{VertexKind}
 use Rattle.dep_model.specs.FunctionVertices.{is_formal_in, passes, numbers, numbers_from}
 use Rattle.dep_model.specs.Shapes.{AreConsecutive}
 
 -- ---- lists
-pub get_below : {X : Type 0} (xs : List X) (k : ℕ) (x : X) → slice_get xs k ≡ Some x → k < length xs
-get_below [] k x h = cc
-get_below (y ∷ ys) zero x h = omega arith
-get_below (y ∷ ys) (suc k) x h = let r = get_below ys k x h in omega (arith, r)
-
-pub get_some : {X : Type 0} (xs : List X) (k : ℕ) (d : X) → k < length xs → slice_get xs k ≡ Some (get_or xs k d)
-get_some [] k d h = absurd (omega arith)
-get_some (x ∷ xs) zero d h = refl
-get_some (x ∷ xs) (suc k) d h = get_some xs k d (omega (arith, h))
-
 taken_is : {X : Type 0} (xs : List X) (i k : ℕ) (x : X) → slice_get (take i xs) k ≡ Some x → (k < i) × (slice_get xs k ≡ Some x)
 taken_is xs zero k x h = cc
 taken_is [] (suc i) k x h = cc
@@ -79,7 +71,7 @@ pub begins : (vs : List Vertex) (i function : ℕ) (x : Vertex) → AreConsecuti
 begins vs zero function x together last low at differs = refl
 begins vs (suc m) function x together last low at differs =
     let before : Vertex = get_or vs m x in
-    let before_at = get_some vs m x (omega (arith, low)) in
+    let before_at = slice_get-get_or vs m x (omega (arith, low)) in
     let of_before = last m before refl before_at in
     ap length (none_pass (passes is_formal_in x.function) 0 (take (suc m) vs) (λ k y h.
     let t = taken_is vs (suc m) k y h in
@@ -88,15 +80,6 @@ begins vs (suc m) function x together last low at differs =
     let up : m ≤ suc m = omega arith in
     let e = together k m (suc m) y before x low_k up t.1 before_at at same in
     differs (sym same ∙ sym e ∙ of_before))))
-
-get_or_grown : (ns : List ℕ) (m v d : ℕ) → v < length ns → get_or (ns ++ m ∷ []) v d ≡ get_or ns v d
-get_or_grown [] m v d h = absurd (omega (arith, h))
-get_or_grown (n ∷ ns) m zero d h = refl
-get_or_grown (n ∷ ns) m (suc v) d h = get_or_grown ns m v d (omega (arith, h))
-
-get_or_end : (ns : List ℕ) (m d : ℕ) → get_or (ns ++ m ∷ []) (length ns) d ≡ m
-get_or_end [] m d = refl
-get_or_end (n ∷ ns) m d = get_or_end ns m d
 
 length_end : (ns : List ℕ) (m : ℕ) → length (ns ++ m ∷ []) ≡ length ns + 1
 length_end [] m = refl
@@ -115,8 +98,8 @@ numbering_goes vs i function number m ns x n low at read is few = record {
     | inl e ↦
         let same : Some y ≡ Some x = sym get ∙ ap (slice_get vs) e ∙ at in
         let one : y ≡ x = cc in
-        ap (λ k. get_or (ns ++ m ∷ []) k 0) (e ∙ sym n.long) ∙ get_or_end ns m 0 ∙ is ∙ ap (λ (z : Vertex). count_before vs z.function i) (sym one) ∙ ap (count_before vs y.function) (sym e)
-    | inr e ↦ let low_v : v < i = omega (arith, below, e) in get_or_grown ns m v 0 (let l = n.long in omega (arith, l, low_v)) ∙ n.known v y low_v get
+        ap (λ k. get_or (ns ++ m ∷ []) k 0) (e ∙ sym n.long) ∙ get_or-append_seam ns m [] 0 ∙ is ∙ ap (λ (z : Vertex). count_before vs z.function i) (sym one) ∙ ap (count_before vs y.function) (sym e)
+    | inr e ↦ let low_v : v < i = omega (arith, below, e) in get_or-append ns (m ∷ []) 0 v (let l = n.long in omega (arith, l, low_v)) ∙ n.known v y low_v get
   ];
   counted = ap (λ k. k + one_if (is_formal_in x.kind)) is ∙ sym (count_more vs x.function i x low read refl);
   last = λ v y next get.

@@ -1,10 +1,9 @@
 -- The place of a fact: where the numbers of vertices and the first words of rows are a graph's, the bit is that of the fact.
-use Rattle.std.proofs.Common.{◌≡◌, ◌↔◌, ℕ, ◌+◌, ◌*◌, Bool, true, List, length, get_or, Some, slice_get, Contains, refl, sym, ap, ◌∙◌, subst, arith}
+use Rattle.std.proofs.Common.{◌≡◌, ℕ, ◌+◌, ◌*◌, true, List, length, get_or, Some, Contains, refl, sym, ap, ◌∙◌, subst, arith}
 use Rattle.std.specs.Prelude.{IsTrue, ◌==◌, ◌&&◌}
 use Rattle.std.proofs.lemmas.Bool.Decides.{nat_tests}
 use Rattle.bit_rows.specs.Words.{word_bit}
 use Rattle.dep_model.specs.declared.graph.Graph.{Graph}
-use Rattle.dep_model.specs.declared.graph.OutRow.{OutRow}
 use Rattle.dep_model.specs.declared.vertex.Vertex.{Vertex}
 use Rattle.dep_model.specs.declared.vertex.VertexKind.TheVariants as kind
 use Rattle.dep_model.specs.Facts.{AreFormals, HoldsFact}

@@ -1,11 +1,11 @@
 -- What reaches a set by a word that rises and then falls: it is found by going back along edges inside functions, over edges that open
 -- a call from what falls to the set, and over edges that close one after that.
-use Rattle.std.proofs.Common.{ℕ, ◌≡◌, ◌<◌, Bool, List, [], ◌∷◌, ◌++◌, length, slice_get, Some, Contains, refl, sym, ap, ◌∙◌, subst, ◌⊎◌, inl, inr, append_assoc, zero, suc, arith}
+use Rattle.std.proofs.Common.{ℕ, ◌≡◌, ◌<◌, Bool, List, [], ◌∷◌, ◌++◌, length, Contains, refl, sym, ap, ◌∙◌, subst, inl, inr, append_assoc}
 use Rattle.std.specs.Prelude.{IsTrue}
+use Rattle.std.proofs.lemmas.Option.{slice_get_within}
 use Rattle.bit_rows.specs.Sets.{has}
 use Rattle.dep_model.specs.declared.edge.Edge.{Edge}
 use Rattle.dep_model.specs.declared.graph.Graph.{Graph}
-use Rattle.dep_model.specs.declared.vertex.Vertex.{Vertex}
 use Rattle.dep_model.specs.declared.vertex.VertexKind.TheVariants as kind
 use Rattle.dep_model.specs.Facts.{FactSet, IsInnerEdge, IsMatchedPath}
 use Rattle.dep_model.specs.Graphs.{edge}
@@ -14,9 +14,9 @@ use Rattle.dep_model.specs.Shapes as shapes
 use Rattle.dep_model.specs.VertexOrder.{in_function}
 use Rattle.dep_model.specs.Words.{Letter, Open, Close, word, IsPath, Rises, Falls, ReachesAny}
 use Rattle.dep_model.specs.Words as words
-use Rattle.matched_paths.specs.Laws.{AreTrue, HasEachTrueFact}
-use Rattle.matched_paths.proofs.Levels.{Spelled, Level, split, first_letter, silent, level_of, path_of, join_paths, word-append, word_with}
-use Rattle.matched_paths.proofs.FactLaws.{level_of_inner, back_along}
+use Rattle.matched_paths.specs.Laws.{HasEachTrueFact}
+use Rattle.matched_paths.proofs.Levels.{Spelled, split, first_letter, silent, level_of, join_paths, word-append, word_with}
+use Rattle.matched_paths.proofs.FactLaws.{back_along}
 
 -- ---- what a path with such a word gives to where it begins
 module _ (g : Graph) (K : FactSet) (P : ℕ → Type 0) (shaped : IsShaped g) (all : HasEachTrueFact g K) (inner : (a b : ℕ) → IsInnerEdge g.edges K a b → P b → P a) where
@@ -113,18 +113,13 @@ module _ (edges : List Edge) (s : List Bool) where
       }
 
 -- ---- the ends of edges are vertices
-get_below : {X : Type 0} (xs : List X) (k : ℕ) (x : X) → slice_get xs k ≡ Some x → k < length xs
-get_below [] k x h = cc
-get_below (y ∷ ys) zero x h = omega arith
-get_below (y ∷ ys) (suc k) x h = let r = get_below ys k x h in omega (arith, r)
-
 fits_below : (g : Graph) (e : Edge) → IsFitting g e → (e.from < length g.vertices) × (e.to < length g.vertices)
-fits_below g e (shapes.inside f j k s p q) = (get_below g.vertices e.from (in_function f j) p, get_below g.vertices e.to (in_function f k) q)
-fits_below g e (shapes.call f i to s p q) = (get_below g.vertices e.from (in_function f (kind.Call i)) p, get_below g.vertices e.to (in_function to kind.Entry) q)
+fits_below g e (shapes.inside f j k s p q) = (slice_get_within g.vertices e.from (in_function f j) p, slice_get_within g.vertices e.to (in_function f k) q)
+fits_below g e (shapes.call f i to s p q) = (slice_get_within g.vertices e.from (in_function f (kind.Call i)) p, slice_get_within g.vertices e.to (in_function to kind.Entry) q)
 fits_below g e (shapes.in_ f i to c slot o s p q) =
-    (get_below g.vertices e.from (in_function f (kind.ActualIn i slot)) p, get_below g.vertices e.to (in_function to (kind.FormalIn slot)) q)
+    (slice_get_within g.vertices e.from (in_function f (kind.ActualIn i slot)) p, slice_get_within g.vertices e.to (in_function to (kind.FormalIn slot)) q)
 fits_below g e (shapes.out f i to c slot o s p q) =
-    (get_below g.vertices e.from (in_function to (kind.FormalOut slot)) p, get_below g.vertices e.to (in_function f (kind.ActualOut i slot)) q)
+    (slice_get_within g.vertices e.from (in_function to (kind.FormalOut slot)) p, slice_get_within g.vertices e.to (in_function f (kind.ActualOut i slot)) q)
 
 pub edge_below : (g : Graph) → IsShaped g → (e : Edge) → Contains g.edges e → (e.from < length g.vertices) × (e.to < length g.vertices)
 edge_below g shaped e m = fits_below g e (shaped.fitting e m)

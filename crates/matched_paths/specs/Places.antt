@@ -1,5 +1,5 @@
 -- Where the facts of a graph stand among its words.
-use Rattle.std.specs.Prelude.{◌≡◌, ◌↔◌, ℕ, ◌+◌, ◌*◌, ◌<◌, Bool, List, length, get_or, take, Some, Contains, IsTrue, slice_get}
+use Rattle.std.specs.Prelude.{◌≡◌, ◌↔◌, ℕ, ◌+◌, ◌*◌, Bool, List, length, get_or, take, Some, Contains, IsTrue, slice_get}
 use Rattle.bit_rows.specs.Words.{word_bit}
 use Rattle.dep_model.specs.declared.graph.Graph.{Graph}
 use Rattle.dep_model.specs.declared.graph.OutRow.{OutRow}

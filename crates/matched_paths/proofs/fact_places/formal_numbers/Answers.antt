@@ -1,10 +1,11 @@
-use Rattle.std.proofs.Common.{◌≡◌, ◌≢◌, ◌<◌, ◌≤◌, ◌+◌, ◌∷◌, ◌++◌, [], ℕ, List, Some, slice_get, get_or, length, refl, sym, ap, ◌∙◌, subst, arith}
+use Rattle.std.proofs.Common.{◌≡◌, ◌≢◌, ◌≤◌, ◌+◌, ℕ, List, Some, slice_get, get_or, sym, ap, ◌∙◌, subst, arith}
 use Rattle.std.proofs.lemmas.List.{get_or_default}
+use Rattle.std.proofs.lemmas.Option.{slice_get_within, slice_get-get_or}
 use Rattle.std.proofs.lemmas.Bool.Decides.{nat_tests}
 use Rattle.dep_model.specs.declared.vertex.Vertex.{Vertex}
 use Rattle.dep_model.specs.declared.vertex.VertexKind.TheVariants.{Entry}
 use Rattle.dep_model.specs.FunctionVertices.{is_formal_in}
-use Rattle.matched_paths.proofs.Numbering.{IsNumbering, get_below, get_some, begins, count_before, one_if, numbering_goes}
+use Rattle.matched_paths.proofs.Numbering.{IsNumbering, begins, count_before, one_if, numbering_goes}
 use Rattle.matched_paths.proofs.fact_places.formal_numbers.Goals as goal
 use Rattle.matched_paths.proofs.fact_places.formal_numbers.Goals.{then-vertex-function, else-vertex-function, then-is_formal_in, else-is_formal_in}
 
@@ -16,7 +17,7 @@ loop-vertex-preserved c =
     let x = get_or vs i d in
     let low = c.loop-vertex-test.true in
     let read : get_or vs i x ≡ x = get_or_default vs i x d low in
-    let at : slice_get vs i ≡ Some x = get_some vs i d low in
+    let at : slice_get vs i ≡ Some x = slice_get-get_or vs i d low in
     let n = c.loop-vertex.invariant in
     let m = c.if-vertex-function.number in
     let begun : (c.if-vertex-function.function ≡ x.function) × (m ≡ count_before vs x.function i) × (m ≤ i) = elim c.if-vertex-function.branch [
@@ -44,5 +45,5 @@ loop-vertex-preserved c =
 pub returns-clause-exact : goal.returns-clause-exact
 returns-clause-exact c = λ v x at.
     let n = c.loop-vertex.invariant in
-    let low = get_below c.args.vertices.now v x at in
+    let low = slice_get_within c.args.vertices.now v x at in
     n.known v x (let f = c.loop-vertex-test.false in omega (arith, f, low)) at

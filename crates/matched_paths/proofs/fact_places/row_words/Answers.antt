@@ -1,4 +1,4 @@
-use Rattle.std.proofs.Common.{◌<◌, ◌∙◌, length, arith}
+use Rattle.std.proofs.Common.{◌∙◌, arith}
 use Rattle.std.proofs.lemmas.List.{length-set}
 use Rattle.dep_model.specs.declared.graph.OutRow.{OutRow}
 use Rattle.matched_paths.proofs.RowLaws.{row_stored}

@@ -1,8 +1,7 @@
-use Rattle.std.proofs.Common.{◌∙◌, sym, ap, subst, length, AllPairs, All}
+use Rattle.std.proofs.Common.{◌∙◌, ap, subst, length}
 use Rattle.matched_paths.specs.Places.{AreRowWords, AreFormalNumbers}
 use Rattle.matched_paths.proofs.RowLaws.{rows_inside, rows_apart}
 use Rattle.matched_paths.proofs.PlaceLaws.{places_are}
-use Rattle.dep_model.specs.declared.graph.OutRow.{OutRow}
 use Rattle.matched_paths.proofs.fact_places.FactPlaces.find.Goals as goal
 
 pub row_words-requires-clause-inside : goal.row_words-requires-clause-inside
