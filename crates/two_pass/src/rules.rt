@@ -1,4 +1,4 @@
-//! The rules of the two passes: vertex `v` of a graph of `size` vertices has the number `v` in the first pass, and `size + v` in the second.
+//! The rules of the two passes: of `size` vertices, `v` has the number `v` in the first pass, and `size + v` in the second.
 ghost use Rattle.std.specs.Prelude.{◌≡◌, ℕ, ◌+◌, ◌^◌, ◌<◌, ◌++◌, All, OnOk, IfOk, map, flat_map};
 ghost use Rattle.std.specs.List.{range_with_len};
 ghost use Rattle.two_pass.specs.PassRules.{one_premise, goes_first, goes_second, edge_rules, turn_rule};
