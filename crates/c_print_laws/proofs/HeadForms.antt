@@ -1,63 +1,48 @@
--- The types in the heads of functions that the grammar reads are plain, and the parameters of a definition have names.
-use Rattle.std.proofs.Common.{ℕ, List, [], ◌∷◌, ◌++◌, Bool, Option}
+-- The types in the heads of functions of a tree that is syntax are plain, and the parameters of a definition have names.
+use Rattle.std.proofs.Common.{◌≡◌, List, [], ◌∷◌, true, not, ◌&&◌, Option, Some, None, refl}
+use Rattle.std.specs.List.{list_all}
+use Rattle.std.specs.Option.{option_map_or}
+use Rattle.std.proofs.lemmas.Bool.{and_parts}
 use Rattle.c_tree.specs.declared.raw.expr.RawType.{RawType}
 use Rattle.c_tree.specs.declared.raw.program.RawParam.{RawParam}
 use Rattle.c_tree.specs.declared.raw.program.RawHead.{RawHead}
 use Rattle.c_tree.specs.declared.raw.program.RawItem.{RawItem}
+use Rattle.c_tree.specs.declared.raw.program.RawItem.TheVariants.{Include, Tag, Struct, Global, Prototype, Define}
 use Rattle.c_tree.specs.declared.raw.program.RawProgram.{RawProgram}
-use Rattle.c_language.specs.TokenForms.{Tokens}
-use Rattle.c_language.specs.StatementGrammar.{IsSeparated}
-use Rattle.c_language.specs.TypeGrammar.{IsParam, IsMoreParams, IsParams}
-use Rattle.c_language.specs.ItemGrammar.{IsGlobal, IsResult, IsHead, IsItem, AreItems, IsProgram}
-use Rattle.c_language.proofs.PlainTypes.{IsPlain, name_plain}
+use Rattle.c_language.specs.ItemGrammar.{are_named}
+use Rattle.c_language.specs.Spellings.{is_own_name}
+use Rattle.c_language.specs.Syntax.{starred, reaches, is_struct, is_body, is_param, is_result, is_head, is_item, is_syntax}
+use Rattle.text_syntax.proofs.Types.{plain_type}
 use Rattle.c_print_laws.proofs.Definitions.{ParamsPlain, ResultPlain, HeadPlain, ItemFormed, HeadsPlain}
 
-param_plain : {ts rest : Tokens} {q : RawParam} → IsParam ts q rest → IsPlain q.shape
-param_plain (IsParam.plain h k s) = name_plain h
-param_plain (IsParam.unsized h k) = IsPlain.pointer (name_plain h)
-param_plain (IsParam.sized h k e) = IsPlain.pointer (name_plain h)
+params_plain : (qs : List RawParam) → list_all is_param qs ≡ true → ParamsPlain qs
+params_plain [] h = tt
+params_plain (q ∷ qs) h =
+    let p = and_parts (is_param q) (list_all is_param qs) h in
+    let r = and_parts (option_map_or is_own_name q.name true) _ (and_parts (option_map_or is_own_name q.name true && (reaches q.shape starred && not (is_struct q.shape))) _ p.0).0 in
+    (plain_type q.shape starred refl (and_parts (reaches q.shape starred) _ r.1).0, params_plain qs p.1)
 
-more_plain : {ts rest : Tokens} {qs : List RawParam} → IsMoreParams ts qs rest → ParamsPlain qs
-more_plain IsMoreParams.closed = tt
-more_plain (IsMoreParams.more h k) = (param_plain h, more_plain k)
+result_plain : (t : Option RawType) → option_map_or is_result t true ≡ true → ResultPlain t
+result_plain None h = tt
+result_plain (Some t) h = plain_type t starred refl (and_parts (reaches t starred) _ h).0
 
-params_plain : {ts rest : Tokens} {qs : List RawParam} → IsParams ts qs rest → ParamsPlain qs
-params_plain IsParams.empty = tt
-params_plain IsParams.nothing = tt
-params_plain (IsParams.some h k) = (param_plain h, more_plain k)
+head_plain : (h : RawHead) → is_head h ≡ true → HeadPlain h
+head_plain h k =
+    let p = and_parts (option_map_or is_result h.result true) (list_all is_param h.params) (and_parts (is_own_name h.name) _ k).1 in
+    record { result = result_plain h.result p.0; params = params_plain h.params p.1 }
 
-result_plain : {ts rest : Tokens} {t : Option RawType} → IsResult ts t rest → ResultPlain t
-result_plain IsResult.nothing = tt
-result_plain (IsResult.some h) = name_plain h
+item_formed : (x : RawItem) → is_item x ≡ true → ItemFormed x
+item_formed (Include is_stdlib) h = tt
+item_formed (Tag l w) h = tt
+item_formed (Struct l w members) h = tt
+item_formed (Global l v i is_static) h = tt
+item_formed (Prototype l head) h = head_plain head h
+item_formed (Define l head body) h = let p = and_parts (is_head head) _ h in (head_plain head p.0, (and_parts (are_named head.params) (is_body body) p.1).0)
 
-pub head_plain : {ts rest : Tokens} {h : RawHead} → IsHead ts h rest → HeadPlain h
-head_plain (IsHead.head s r key k) = record { result = result_plain r; params = params_plain k }
+items_formed : (xs : List RawItem) → list_all is_item xs ≡ true → HeadsPlain xs
+items_formed [] h = tt
+items_formed (x ∷ xs) h = let p = and_parts (is_item x) (list_all is_item xs) h in (item_formed x p.0, items_formed xs p.1)
 
-global_formed : {l : ℕ} {b : Bool} {base : RawType} {ts rest : Tokens} {x : RawItem} → IsGlobal l b base ts x rest → ItemFormed x
-global_formed (IsGlobal.plain h p) = tt
-global_formed (IsGlobal.value h p k) = tt
-global_formed (IsGlobal.list h k) = tt
-
-globals_formed : {l : ℕ} {b : Bool} {base : RawType} {close : List ℕ} {ts rest : Tokens} {all : List RawItem} → IsSeparated (IsGlobal l b base) close ts all rest → HeadsPlain all
-globals_formed (IsSeparated.last h) = (global_formed h, tt)
-globals_formed (IsSeparated.more h k) = (global_formed h, globals_formed k)
-
-item_formed : {ts rest : Tokens} {some : List RawItem} → IsItem ts some rest → HeadsPlain some
-item_formed (IsItem.include is_stdlib) = (tt, tt)
-item_formed (IsItem.tag key) = (tt, tt)
-item_formed (IsItem.structure key h) = (tt, tt)
-item_formed (IsItem.globals s b h) = globals_formed h
-item_formed (IsItem.prototype h) = (head_plain h, tt)
-item_formed (IsItem.definition h named k) = ((head_plain h, named), tt)
-
-formed_append : (xs ys : List RawItem) → HeadsPlain xs → HeadsPlain ys → HeadsPlain (xs ++ ys)
-formed_append [] ys h k = k
-formed_append (x ∷ xs) ys h k = (h.0, formed_append xs ys h.1 k)
-
-items_formed : {ts rest : Tokens} {all : List RawItem} → AreItems ts all rest → HeadsPlain all
-items_formed AreItems.done = tt
-items_formed (AreItems.more {some} {all} h k) = formed_append some all (item_formed h) (items_formed k)
-
--- The heads of a text of the grammar.
-pub heads_formed : {ts : Tokens} (raw : RawProgram) → IsProgram ts raw → HeadsPlain raw.items
-heads_formed raw h = items_formed h
+-- The heads of a tree that is syntax.
+pub heads_formed : (raw : RawProgram) → is_syntax raw ≡ true → HeadsPlain raw.items
+heads_formed raw h = items_formed raw.items h

@@ -16,7 +16,8 @@ use Rattle.c_language.specs.Rules.{KeepsRules}
 use Rattle.c_language.specs.ProgramOf.{program_of}
 use Rattle.c_language.specs.Layout.{layout}
 use Rattle.c_language.specs.Limits.{longest, longest_in_structs, longest_in_variables, array_length, cells, struct_cells, greatest_variable, object_cells}
-use Rattle.c_language.specs.Programs.{IsWithinLimits, IsWellFormed}
+use Rattle.c_language.specs.Programs.{IsWithinLimits, IsWellFormed, IsTreeOf}
+use Rattle.c_language.specs.Syntax.{IsSyntax}
 use Rattle.c_print.specs.Feedless.{feedless}
 use Rattle.c_text_layout.specs.RawLayout.{raw_layout}
 use Rattle.c_text_layout.specs.Settled.{SameInLayout, items_lack_lengths}
@@ -41,8 +42,8 @@ use Rattle.c_print_laws.proofs.ListForms.{is_counted, fine, lists_counted}
 use Rattle.c_language.proofs.FormedTokens.{formed_tokens}
 use Rattle.c_language.specs.Lists.{greatest}
 
--- The layout of the program of a text that keeps all rules is that of the text's tree.
-pub layout_of_text : {ts : Tokens} (raw : RawProgram) (p : Program) → IsProgram ts raw → KeepsRules raw → program_of raw ≡ Some p → layout p ≡ raw_layout raw
+-- The layout of the program of a tree that is syntax and keeps all rules is that of the tree.
+pub layout_of_text : (raw : RawProgram) (p : Program) → IsSyntax raw → KeepsRules raw → program_of raw ≡ Some p → layout p ≡ raw_layout raw
 layout_of_text raw p g keeps is = layout_of_tree raw p is keeps (heads_formed raw g)
 
 -- ---- quantities that have no lines
@@ -69,7 +70,7 @@ cells_same p q same =
 -- ---- reading again
 
 -- A tree that is the same in all that the layout keeps keeps the rules too, and has the same program but for lines.
-pub same_in_layout : {ts next : Tokens} (raw found : RawProgram) (p : Program) → IsProgram ts raw → IsProgram next found → settled_program found ≡ settled_program raw
+pub same_in_layout : (raw found : RawProgram) (p : Program) → IsSyntax raw → IsSyntax found → settled_program found ≡ settled_program raw
     → KeepsRules raw → program_of raw ≡ Some p → KeepsRules found × ((q : Program) × (program_of found ≡ Some q) × SameButLines p q)
 same_in_layout raw found p g next same keeps is =
     let first = lists_counted raw g in
@@ -103,16 +104,19 @@ read_behind front line behind p h =
     let ts = h.tree.tokens in
     let g = h.tree.is.grammar in
     let r = printed_is_read line raw g (formed_written ts h.tree.is.formed) (short_lists raw h.same h.has.program h.has.rules h.within.lengths) in
-    let k = same_in_layout raw r.found h.same g r.is (ap (λ (xs : List RawItem). record { items = xs }) r.same) h.has.rules h.has.program in
-    let laid : layout p ≡ raw_layout raw = layouts_same p h.same h.but_lines ∙ layout_of_text raw h.same g h.has.rules h.has.program in
-    let untold = fitting_untold r.is r.lean (fitting_kept raw r.found r.same (tree_fits raw (text_is_syntax raw h.tree))) in
+    let syntax = text_is_syntax raw h.tree in
+    let untold = fitting_untold r.is r.lean (fitting_kept raw r.found r.same (tree_fits raw syntax)) in
+    let tree : IsTreeOf r.tokens r.found = record { formed = formed_tokens r.lexed; grammar = r.is; whole = none_left_out r.found r.is untold } in
+    let again = text_is_syntax r.found (record { tokens = r.tokens; is = tree }) in
+    let k = same_in_layout raw r.found h.same syntax again (ap (λ (xs : List RawItem). record { items = xs }) r.same) h.has.rules h.has.program in
+    let laid : layout p ≡ raw_layout raw = layouts_same p h.same h.but_lines ∙ layout_of_text raw h.same syntax h.has.rules h.has.program in
     record {
       found = r.found;
       again = k.1.0;
       accepted = record {
         tokens = r.tokens;
         are = subst (λ (text : Bytes). AreTokensOf (front ++ text) r.tokens) (sym laid) (behind (raw_layout raw) r.tokens r.lexed);
-        tree = record { formed = formed_tokens r.lexed; grammar = r.is; whole = none_left_out r.found r.is untold };
+        tree = tree;
         has = record { rules = k.0; program = k.1.1 };
       };
       within = limits_kept raw r.found h.same k.1.0 r.same r.bare k.1.2 h.within;

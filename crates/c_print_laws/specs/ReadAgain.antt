@@ -5,8 +5,7 @@ use Rattle.c_tree.specs.declared.program.Program.{Program}
 use Rattle.c_tree.specs.Unlined.{SameButLines}
 use Rattle.c_tree.specs.declared.raw.program.RawProgram.{RawProgram}
 use Rattle.c_language.specs.Words.{Bytes}
-use Rattle.c_language.specs.TokenForms.{Tokens}
-use Rattle.c_language.specs.ItemGrammar.{IsProgram}
+use Rattle.c_language.specs.Syntax.{IsSyntax}
 use Rattle.c_language.specs.Rules.{KeepsRules}
 use Rattle.c_language.specs.ProgramOf.{program_of}
 use Rattle.c_language.specs.Layout.{layout}
@@ -24,14 +23,14 @@ pub record IsReadAgain (text : Bytes) (p : Program) : Type 0 where
   pub within : IsWithinLimits found again
   pub same : SameButLines p again
 
--- the layout of the program of a text that keeps all rules is that of the text's tree
+-- the layout of the program of a tree that is syntax and keeps all rules is that of the tree
 abbrev pub LayoutIsOfText : Type 0
-LayoutIsOfText = (ts : Tokens) (raw : RawProgram) (p : Program) → IsProgram ts raw → KeepsRules raw → program_of raw ≡ Some p → layout p ≡ raw_layout raw
+LayoutIsOfText = (raw : RawProgram) (p : Program) → IsSyntax raw → KeepsRules raw → program_of raw ≡ Some p → layout p ≡ raw_layout raw
 
--- of two trees that are the same in all that the layout keeps, one keeps the rules where the other does, and they have one program but for lines
+-- of two trees that are syntax and the same in all that the layout keeps, one keeps the rules where the other does, and they have one program but for lines
 abbrev pub LayoutKeepsPrograms : Type 0
 LayoutKeepsPrograms =
-    (ts next : Tokens) (raw found : RawProgram) (p : Program) → IsProgram ts raw → IsProgram next found → SameInLayout found raw → KeepsRules raw → program_of raw ≡ Some p
+    (raw found : RawProgram) (p : Program) → IsSyntax raw → IsSyntax found → SameInLayout found raw → KeepsRules raw → program_of raw ≡ Some p
     → KeepsRules found × ((q : Program) × (program_of found ≡ Some q) × SameButLines p q)
 
 -- the layout of a well-formed program is an accepted text, and is read as the program but for lines

@@ -7,13 +7,13 @@
 ghost use Rattle.c_print_laws.specs.Places.{StatementsStart, TextsAreFeedless};
 ghost use Rattle.c_print_laws.specs.ReadAgain.{LayoutIsOfText, LayoutKeepsPrograms, LayoutIsReadAgain, CommentedIsReadAgain, LayoutHasNoLines, LimitsAreSame};
 
-/// A law: the layout of the program of a text that keeps all rules is that of the text's tree.
+/// A law: the layout of the program of a tree that is syntax and keeps all rules is that of the tree.
 pub fn layout_is_of_text()
     ensures { LayoutIsOfText }
 {}
 
-/// A law: of two trees that are the same in all that the layout keeps, one keeps the rules where
-/// the other does, and they have one program but for lines.
+/// A law: of two trees that are syntax and the same in all that the layout keeps, one keeps the rules
+/// where the other does, and they have one program but for lines.
 pub fn layout_keeps_programs()
     ensures { LayoutKeepsPrograms }
 {}
