@@ -8,6 +8,8 @@ use Rattle.c_tree.specs.declared.program.Init.TheVariants as init
 use Rattle.c_tree.specs.declared.program.Program.{Program}
 use Rattle.c_tree.specs.declared.statement.Amount.{Amount}
 use Rattle.c_tree.specs.declared.statement.Amount.TheVariants as amount
+use Rattle.c_tree.specs.declared.statement.Size.{Size}
+use Rattle.c_tree.specs.declared.statement.Size.TheVariants as size
 use Rattle.c_tree.specs.declared.statement.Target.{Target}
 use Rattle.c_tree.specs.declared.statement.Target.TheVariants as target
 use Rattle.c_tree.specs.declared.types.CType.TheVariants as type
@@ -33,10 +35,15 @@ target_below n target.None = true
 target_below n (target.Place e) = names_below n e
 target_below n (target.Declared x) = nat_lt x n
 
+-- `sizeof *y` names y
+abbrev pub size_below : ℕ → Size → Bool
+size_below n (size.Type t) = true
+size_below n (size.Pointee y in_parentheses) = nat_lt y n
+
 abbrev pub amount_below : ℕ → Amount → Bool
-amount_below n (amount.Size t) = true
-amount_below n (amount.CountSize e t) = names_below n e
-amount_below n (amount.SizeCount t e) = names_below n e
+amount_below n (amount.Size t) = size_below n t
+amount_below n (amount.CountSize e t) = names_below n e && size_below n t
+amount_below n (amount.SizeCount t e) = size_below n t && names_below n e
 amount_below n (amount.Count e) = names_below n e
 
 abbrev pub act_below : ℕ → Act → Bool

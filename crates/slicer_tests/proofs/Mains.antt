@@ -6,7 +6,7 @@ use Rattle.c_language.specs.Programs.{IsWellFormed}
 use Rattle.c_reader.specs.Reading.{ReadsProgram}
 use Rattle.built_forms.specs.BuiltForms.{not_yet}
 use Rattle.dep_model.specs.NumberedMains.{IsNumberedMain}
-use Rattle.integer_texts.proofs.BuiltMains.{built_numbered}
+use Rattle.numbered_texts.proofs.BuiltMains.{built_numbered}
 
 well_formed : {text : Bytes} {p : Program} → ReadsProgram text p → IsWellFormed p
 well_formed {text} {p} reads = record {

@@ -1,5 +1,5 @@
 use Rattle.std.proofs.Common.{length, arith}
-use Rattle.integer_texts.proofs.BuiltMains.{built_numbered}
+use Rattle.numbered_texts.proofs.BuiltMains.{built_numbered}
 use Rattle.slice_engine.proofs.EngineLaws.{few_enough}
 use Rattle.slice_engine.proofs.engine.Engine.new.Goals as goal
 

@@ -1,7 +1,7 @@
 //! The numbers of a text. Each function is a law, and holds no code: its contract is the law.
 #![tactic(auto)]
 
-ghost use Rattle.integer_texts.specs.Laws as law;
+ghost use Rattle.numbered_texts.specs.Laws as law;
 
 /// A law: the statements of a well-formed program, function by function and in each a test before what it
 /// decides, have the numbers 0, 1, and so on up to their count.
@@ -9,9 +9,21 @@ pub fn statements_are_numbered()
     ensures { law.StatementsAreNumbered }
 {}
 
-/// A law: each variable that a statement of a well-formed program names, but in a size, is one of the program.
+/// A law: each variable that a statement of a well-formed program names is one of the program.
 pub fn named_variables_exist()
     ensures { law.NamedVariablesExist }
+{}
+
+/// A law: each location that a vertex of a well-formed program may define and another, or the same, may use is one of
+/// the program's locations, whatever pointers may point to and functions may modify and use.
+pub fn locations_are_listed()
+    ensures { law.LocationsAreListed }
+{}
+
+/// A law: each call in a well-formed program is of a function of the program, and has as many arguments as the
+/// function has parameters.
+pub fn calls_fit()
+    ensures { law.CallsFit }
 {}
 
 /// A law: a well-formed program has a function named main.

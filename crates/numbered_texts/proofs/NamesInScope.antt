@@ -17,12 +17,15 @@ use Rattle.c_tree.specs.declared.raw.statement.RawAmount.TheVariants as amount
 use Rattle.c_tree.specs.declared.raw.statement.RawArg.{RawArg}
 use Rattle.c_tree.specs.declared.raw.statement.RawArg.TheVariants as arg
 use Rattle.c_tree.specs.declared.raw.statement.RawArm.{RawArm, roll-RawArm, map-RawArm, fold-roll-RawArm}
+use Rattle.c_tree.specs.declared.raw.statement.RawSize.{RawSize}
+use Rattle.c_tree.specs.declared.raw.statement.RawSize.TheVariants as sizes
 use Rattle.c_tree.specs.declared.raw.statement.RawStatement.{RawStatement, ind-RawStatement, roll-RawStatement, map-RawStatement, fold-roll-RawStatement}
 use Rattle.c_tree.specs.declared.raw.statement.RawStatement.TheOpen.{RawStatement-F, RawArm-F}
 use Rattle.c_tree.specs.declared.raw.statement.RawTarget.{RawTarget}
 use Rattle.c_tree.specs.declared.raw.statement.RawTarget.TheVariants as target
 use Rattle.c_tree.specs.declared.statement.Amount.TheVariants as quantity
 use Rattle.c_tree.specs.declared.statement.Arm.{Arm}
+use Rattle.c_tree.specs.declared.statement.Size.TheVariants as measure
 use Rattle.c_tree.specs.declared.statement.Statement.{Statement}
 use Rattle.c_tree.specs.declared.statement.Statement.TheVariants as s
 use Rattle.c_tree.specs.declared.statement.Target.{Target}
@@ -32,15 +35,15 @@ use Rattle.c_language.specs.Code.{Tests}
 use Rattle.c_language.specs.CallRules.{format_in, later_args, only_arg}
 use Rattle.c_language.specs.ConstantEvaluation.{both}
 use Rattle.c_language.specs.DeclaredTypes.{function_id}
-use Rattle.c_language.specs.ProgramOf.{collected, optional, ctype_if, expr_of, exprs_of, init_of, declaration_id, target_tree, arg_tree, args_tree, only_tree, size_tree, amount_tree, call_tree, label_tree, arm_tree, ArmTree, arm_tree_step, block_tree, at_type, switch_type, for_tree, treed_step, treed, body_of, treed_arm}
-use Rattle.c_language.specs.Scopes.{Entry, Scope, Meaning, Scoped, opened, closed, numbered, with_variable, with_target, begun, in_order, after_all, after_block}
+use Rattle.c_language.specs.ProgramOf.{variable_number, collected, optional, ctype, ctype_if, expr_of, exprs_of, init_of, declaration_id, target_tree, arg_tree, args_tree, only_tree, size_tree, amount_tree, call_tree, label_tree, arm_tree, ArmTree, arm_tree_step, block_tree, at_type, switch_type, for_tree, treed_step, treed, body_of, treed_arm}
+use Rattle.c_language.specs.Scopes.{Entry, Scope, Meaning, meaning_in, Scoped, opened, closed, numbered, with_variable, with_target, begun, in_order, after_all, after_block}
 use Rattle.c_language.specs.TypeGrammar.{named_type}
 use Rattle.c_language.proofs.Lists.{all_append}
 use Rattle.c_language.proofs.Options.{some_same, optional_there, map_there, then_there, both_there, more_there}
 use Rattle.built_forms.specs.NamesBelow.{names_below}
-use Rattle.built_forms.proofs.Options.{Always, always_if, always_is}
+use Rattle.built_forms.proofs.Options.{Always, always_map, always_if, always_is}
 use Rattle.dep_model.specs.Doings.{Doing, Does, doings, body_doings}
-use Rattle.dep_model.specs.NumberedMains.{value_below, init_below, target_below, amount_below, doing_below}
+use Rattle.dep_model.specs.NumberedMains.{value_below, init_below, target_below, size_below, amount_below, doing_below}
 use Rattle.dep_model.proofs.DoingForms.{arms_doings, part_doings, doings-Declare, doings-Assign, doings-Bump, doings-Invoke, doings-Fetch, doings-Write, doings-Print, doings-Heap, doings-Release, doings-Return, doings-If, doings-While, doings-Do, doings-Switch, doings-Block, doings-For}
 use Rattle.dep_model.proofs.NamesBelow.{names_more}
 use Rattle.built_forms.proofs.Terms.{IsLowMeaning, AreLow, names_low, expr_below}
@@ -115,10 +118,21 @@ module _ (raw : RawProgram) where
     init_low (init.One a) = map_from IsLowExpr (λ n. init_below m n ≡ true) begins.One (expr_of raw scope a) (expr_low a) (λ e h. h)
     init_low (init.Items es) = map_from (λ xs. list_all (names_below m) xs ≡ true) (λ n. init_below m n ≡ true) begins.Items (exprs_of raw scope es) (exprs_low es) (λ xs h. h)
 
+    size_low : (k : RawSize) → Always (λ z. size_below m z ≡ true) (size_tree raw scope k)
+    size_low (sizes.Type t) = always_map (λ z. size_below m z ≡ true) measure.Type (ctype raw (named_type t)) (λ z. refl)
+    size_low (sizes.Pointee name closed) = by_meaning (meaning_in scope name) refl
+      where
+        by_meaning : (o : Option Meaning) → meaning_in scope name ≡ o → Always (λ z. size_below m z ≡ true) (option_map (λ (x : ℕ). measure.Pointee x closed) (variable_number o))
+        by_meaning None is = tt
+        by_meaning (Some Meaning.Function) is = tt
+        by_meaning (Some (Meaning.Variable id t)) is =
+            let h : id < scope.variables = names_low scope.variables scope low name id t is in
+            lt-ltb id m (omega (arith, h, le))
+
     amount_low : (n : RawAmount) → Always (λ k. amount_below m k ≡ true) (amount_tree raw scope n)
-    amount_low (amount.Size k) = map_from (λ z. Unit {0}) (λ z. amount_below m z ≡ true) quantity.Size (size_tree raw scope k) (always_any (size_tree raw scope k)) (λ z h. refl)
-    amount_low (amount.CountSize a k) = then_from IsLowExpr (λ z. amount_below m z ≡ true) _ (expr_of raw scope a) (expr_low a) (λ e h. map_from (λ z. Unit {0}) (λ z. amount_below m z ≡ true) (quantity.CountSize e) (size_tree raw scope k) (always_any (size_tree raw scope k)) (λ z t. h))
-    amount_low (amount.SizeCount k a) = then_from (λ z. Unit {0}) (λ z. amount_below m z ≡ true) _ (size_tree raw scope k) (always_any (size_tree raw scope k)) (λ z t. map_from IsLowExpr (λ y. amount_below m y ≡ true) (quantity.SizeCount z) (expr_of raw scope a) (expr_low a) (λ e h. h))
+    amount_low (amount.Size k) = map_from (λ z. size_below m z ≡ true) (λ z. amount_below m z ≡ true) quantity.Size (size_tree raw scope k) (size_low k) (λ z h. h)
+    amount_low (amount.CountSize a k) = then_from IsLowExpr (λ z. amount_below m z ≡ true) _ (expr_of raw scope a) (expr_low a) (λ e h. map_from (λ z. size_below m z ≡ true) (λ z. amount_below m z ≡ true) (quantity.CountSize e) (size_tree raw scope k) (size_low k) (λ z t. and_from _ _ h t))
+    amount_low (amount.SizeCount k a) = then_from (λ z. size_below m z ≡ true) (λ z. amount_below m z ≡ true) _ (size_tree raw scope k) (size_low k) (λ z t. map_from IsLowExpr (λ y. amount_below m y ≡ true) (quantity.SizeCount z) (expr_of raw scope a) (expr_low a) (λ e h. and_from _ _ t h))
     amount_low (amount.Count a) = map_from IsLowExpr (λ z. amount_below m z ≡ true) quantity.Count (expr_of raw scope a) (expr_low a) (λ e h. h)
 
     value_low : (a : Option RawExpr) → Always (λ v. value_below m v ≡ true) (optional (option_map (expr_of raw scope) a))

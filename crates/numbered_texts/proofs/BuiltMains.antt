@@ -21,8 +21,8 @@ use Rattle.built_forms.proofs.Programs.{built_integer_main}
 use Rattle.projection_laws.proofs.SamePrograms.{main_same}
 use Rattle.c_tree.proofs.Unlining.{zeroed, fold_unlined}
 use Rattle.c_tree.proofs.Trees.{statement_layer, arm_layer, StatementParts, ArmParts}
-use Rattle.integer_texts.specs.Laws.{BuiltAreNumbered}
-use Rattle.integer_texts.proofs.NumbersButLines.{well_formed_numbered}
+use Rattle.numbered_texts.specs.Laws.{BuiltAreNumbered}
+use Rattle.numbered_texts.proofs.NumbersButLines.{well_formed_numbered}
 use Rattle.c_language.specs.Lists.{if_there, all_true}
 use Rattle.c_language.specs.NameRules.{is_main}
 

@@ -1,5 +1,5 @@
 -- The program of a text that is of main alone over integers is numbered in text order.
-use Rattle.std.proofs.Common.{◌≡◌, ◌+◌, List, [], ◌∷◌, map, length, append-nil, Bool, true, false, Some, None, find, bytes_eq, refl, sym, ap, ◌∙◌, arith}
+use Rattle.std.proofs.Common.{◌≡◌, ℕ, ◌+◌, List, [], ◌∷◌, map, length, append-nil, Bool, true, false, Some, None, find, bytes_eq, refl, sym, ap, ◌∙◌, arith}
 use Rattle.std.specs.Prelude.{cond}
 use Rattle.std.specs.List.{list_all}
 use Rattle.std.proofs.lemmas.Slice.Eq.{bytes_eq-Decides}
@@ -17,6 +17,7 @@ use Rattle.c_language.specs.ProgramOf.{collected, functions_from, variables_in}
 use Rattle.c_language.specs.Programs.{HasProgram}
 use Rattle.c_language.specs.Rules.{no_main}
 use Rattle.c_language.specs.Scopes.{outset}
+use Rattle.c_language.specs.Syntax.{IsSyntax}
 use Rattle.built_forms.specs.IntegerForms.{IsIntegerMain}
 use Rattle.built_forms.proofs.Programs.{found_length}
 use Rattle.dep_model.specs.Doings.{body_doings, functions_doings, program_doings, doings_of, doing_number}
@@ -24,8 +25,10 @@ use Rattle.dep_model.specs.MainVertices.{from}
 use Rattle.dep_model.specs.NumberedMains.{doing_below, IsNumberedMain}
 use Rattle.dep_model.proofs.NumberedMain.{main_doings}
 use Rattle.dep_model.proofs.TextNumbers.{Takes}
-use Rattle.integer_texts.specs.Laws.{IntegerTextsAreNumbered}
-use Rattle.integer_texts.proofs.Items.{items_count, items_take, items_below, names_are, give_ints}
+use Rattle.numbered_texts.specs.FittingCalls.{fits, parameter_counts}
+use Rattle.numbered_texts.specs.Laws.{IntegerTextsAreNumbered}
+use Rattle.numbered_texts.proofs.ItemCalls.{counts_are, items_fit}
+use Rattle.numbered_texts.proofs.Items.{items_count, items_take, items_below, names_are, give_ints}
 
 -- the only function of a text that defines main is main
 only_main : (n : Bytes) (hs : List RawHead) → n ∷ [] ≡ map (λ (h : RawHead). h.name) hs → (find (λ (h : RawHead). bytes_eq h.name main_name) hs ≡ None → ⊥) → n ≡ main_name
@@ -60,6 +63,12 @@ module _ (raw : RawProgram) (p : Program) (has : HasProgram raw p) where
 
   pub text_names : list_all (doing_below (length p.vars)) (program_doings p) ≡ true
   text_names = items_below raw raw.items outset p.functions tt parts.functions (length p.vars) (omega (arith, text_variables))
+
+-- the calls of a text fit, where it is syntax
+pub text_calls : (raw : RawProgram) (p : Program) → HasProgram raw p → IsSyntax raw → list_all (fits (parameter_counts p)) (program_doings p) ≡ true
+text_calls raw p has syntax =
+    let parts = made_of raw p has.program in
+    ap (λ (ns : List ℕ). list_all (fits ns) (program_doings p)) (counts_are raw raw.items outset p.functions syntax parts.functions) ∙ items_fit raw raw.items outset p.functions (phrases_kept raw has.rules) parts.functions
 
 -- ---- main alone
 

@@ -17,8 +17,10 @@ use Rattle.dep_model.specs.MainVertices.{from}
 use Rattle.dep_model.specs.NumberedMains.{doing_below, IsNumberedMain}
 use Rattle.c_tree.proofs.Unlining.{zeroed, fold_unlined}
 use Rattle.projection_laws.proofs.SamePrograms.{main_same}
-use Rattle.integer_texts.specs.Laws.{StatementsAreNumbered, NamedVariablesExist, WellFormedAreNumbered}
-use Rattle.integer_texts.proofs.Texts.{text_numbers, text_names, texts_numbered}
+use Rattle.text_syntax.proofs.Items.{text_is_syntax}
+use Rattle.numbered_texts.specs.FittingCalls.{fits, parameter_counts}
+use Rattle.numbered_texts.specs.Laws.{StatementsAreNumbered, NamedVariablesExist, CallsFit, WellFormedAreNumbered}
+use Rattle.numbered_texts.proofs.Texts.{text_numbers, text_names, text_calls, texts_numbered}
 
 doing_free : (x : Statement-F (List Doing) (List Doing)) → doing_step (zeroed x) ≡ doing_step x
 doing_free (Statement-F.Declare id l x i) = refl
@@ -103,6 +105,18 @@ statements_numbered p ok =
 pub named_exist : NamedVariablesExist
 named_exist p ok =
     ap₂ (λ (k : ℕ) (ds : List Doing). list_all (doing_below k) ds) (count_same p ok.same ok.but_lines) (all_same p ok.same ok.but_lines) ∙ text_names ok.raw ok.same ok.has
+
+parameters_unlined : (fs : List Function) → map (λ (f : Function). length f.params) (map unlined_function fs) ≡ map (λ (f : Function). length f.params) fs
+parameters_unlined [] = refl
+parameters_unlined (f ∷ fs) = ap (λ ns. length f.params ∷ ns) (parameters_unlined fs)
+
+parameters_same : (p q : Program) → SameButLines p q → parameter_counts p ≡ parameter_counts q
+parameters_same p q same =
+    sym (parameters_unlined p.functions) ∙ ap (λ (r : Program). parameter_counts r) same ∙ parameters_unlined q.functions
+
+pub calls_fit_well : CallsFit
+calls_fit_well p ok =
+    ap₂ (λ (ns : List ℕ) (ds : List Doing). list_all (fits ns) ds) (parameters_same p ok.same ok.but_lines) (all_same p ok.same ok.but_lines) ∙ text_calls ok.raw ok.same ok.has (text_is_syntax ok.raw ok.tree)
 
 -- ---- main alone
 

@@ -31,7 +31,7 @@ use Rattle.built_forms.proofs.MainHeads.{int_result, int_tree}
 use Rattle.dep_model.specs.Doings.{Doing, body_doings, functions_doings}
 use Rattle.dep_model.specs.NumberedMains.{doing_below}
 use Rattle.dep_model.proofs.TextNumbers.{Takes, takes_none, takes_both, body_takes}
-use Rattle.integer_texts.proofs.NamesInScope.{low_more, low_push, Grows, same_grows, then_grows, variable_grows, body_below, body_grows}
+use Rattle.numbered_texts.proofs.NamesInScope.{low_more, low_push, Grows, same_grows, then_grows, variable_grows, body_below, body_grows}
 
 module _ (raw : RawProgram) where
   -- ---- scopes

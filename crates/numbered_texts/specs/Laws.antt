@@ -8,15 +8,26 @@ use Rattle.c_language.specs.Programs.{HasProgram, IsWellFormed}
 use Rattle.built_forms.specs.BuiltForms.{not_yet}
 use Rattle.built_forms.specs.IntegerForms.{IsIntegerMain}
 use Rattle.dep_model.specs.Doings.{doing_number, program_doings}
+use Rattle.dep_model.specs.ListedLocations.{AreListed}
 use Rattle.dep_model.specs.NumberedMains.{doing_below, IsNumberedMain}
+use Rattle.dep_model.specs.SystemGraph.{Analysis}
+use Rattle.numbered_texts.specs.FittingCalls.{fits, parameter_counts}
 
 -- the statements of a well-formed program, function by function, have the numbers 0, 1, and so on up to their count
 abbrev pub StatementsAreNumbered : Type 0
 StatementsAreNumbered = (p : Program) → IsWellFormed p → map doing_number (program_doings p) ≡ range_with_len 0 p.statements
 
--- each variable that one of them names, but in a size, is one of the program
+-- each variable that one of them names is one of the program
 abbrev pub NamedVariablesExist : Type 0
 NamedVariablesExist = (p : Program) → IsWellFormed p → list_all (doing_below (length p.vars)) (program_doings p) ≡ true
+
+-- each location that a vertex may define and another, or the same, may use is one of the program's, whatever the analysis
+abbrev pub LocationsAreListed : Type 0
+LocationsAreListed = (p : Program) (a : Analysis) → IsWellFormed p → AreListed p a
+
+-- each call in one is of a function of the program, with an argument for each of its parameters
+abbrev pub CallsFit : Type 0
+CallsFit = (p : Program) → IsWellFormed p → list_all (fits (parameter_counts p)) (program_doings p) ≡ true
 
 -- a function named main is among its functions
 abbrev pub ProgramsHaveMain : Type 0

@@ -14,8 +14,8 @@ use Rattle.c_language.specs.Rules.{no_main}
 use Rattle.c_language.specs.Scopes.{outset}
 use Rattle.c_language.proofs.Lists.{position-cons}
 use Rattle.c_language.proofs.ProgramParts.{made_of}
-use Rattle.integer_texts.specs.Laws.{ProgramsHaveMain}
-use Rattle.integer_texts.proofs.Items.{names_are}
+use Rattle.numbered_texts.specs.Laws.{ProgramsHaveMain}
+use Rattle.numbered_texts.proofs.Items.{names_are}
 
 abbrev function_names : List Function → List Bytes
 function_names fs = map (λ (f : Function). f.name) fs

@@ -1,5 +1,0 @@
-use Rattle.integer_texts.proofs.NumbersButLines.{named_exist}
-use Rattle.integer_texts.proofs.named_variables_exist.Goals as goal
-
-pub returns : goal.returns
-returns c = named_exist

@@ -1,5 +1,0 @@
-use Rattle.integer_texts.proofs.NumbersButLines.{statements_numbered}
-use Rattle.integer_texts.proofs.statements_are_numbered.Goals as goal
-
-pub returns : goal.returns
-returns c = statements_numbered

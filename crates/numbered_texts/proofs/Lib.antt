@@ -1,0 +1,9 @@
+pub mod BuiltMains
+pub mod CallsFit
+pub mod HavingMain
+pub mod ItemCalls
+pub mod Items
+pub mod Listed
+pub mod NamesInScope
+pub mod NumbersButLines
+pub mod Texts

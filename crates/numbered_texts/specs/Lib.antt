@@ -1,0 +1,2 @@
+pub mod FittingCalls
+pub mod Laws
