@@ -14,7 +14,7 @@ use Rattle.dep_model.specs.SystemGraph.{Analysis, vertices_of, IsVertex}
 use Rattle.dep_model.specs.VertexOrder.{in_function, arguments_from, slots_of, touched, target_slots, formal_ins, formal_outs, all_vertices, doing_vertices, function_kinds, vertices_from}
 
 -- a place of a list that was joined is one of the first part, or one of the second
-at_joined : {A : Type 0} (xs ys : List A) (v : ℕ) (x : A) → slice_get (xs ++ ys) v ≡ Some x → (slice_get xs v ≡ Some x) ⊎ ((w : ℕ) × (v ≡ length xs + w) × (slice_get ys w ≡ Some x))
+pub at_joined : {A : Type 0} (xs ys : List A) (v : ℕ) (x : A) → slice_get (xs ++ ys) v ≡ Some x → (slice_get xs v ≡ Some x) ⊎ ((w : ℕ) × (v ≡ length xs + w) × (slice_get ys w ≡ Some x))
 at_joined [] ys v x h = inr (v, omega arith, h)
 at_joined (y ∷ xs) ys zero x h = inl h
 at_joined (y ∷ xs) ys (suc v) x h = elim (at_joined xs ys v x h) [
@@ -22,7 +22,7 @@ at_joined (y ∷ xs) ys (suc v) x h = elim (at_joined xs ys v x h) [
   | inr b ↦ let e = b.1 in inr (b.0, omega (arith, e), b.2)
 ]
 
-at_mapped : {A B : Type 0} (f : A → B) (xs : List A) (v : ℕ) (y : B) → slice_get (map f xs) v ≡ Some y → (x : A) × (f x ≡ y)
+pub at_mapped : {A B : Type 0} (f : A → B) (xs : List A) (v : ℕ) (y : B) → slice_get (map f xs) v ≡ Some y → (x : A) × (f x ≡ y)
 at_mapped f [] v y h = cc
 at_mapped f (x ∷ xs) zero y h = (x, same_Some _ _ h)
 at_mapped f (x ∷ xs) (suc v) y h = at_mapped f xs v y h

@@ -27,7 +27,7 @@ after_one test n v vs k w = record {
   found = record { one = w.found.one; at = w.found.at; passing = w.found.passing };
 }
 
-found_from : (test : Vertex → Bool) (n : ℕ) (vs : List Vertex) (k : ℕ) → Contains (numbers_from test n vs) k → PassesFrom test n vs k
+pub found_from : (test : Vertex → Bool) (n : ℕ) (vs : List Vertex) (k : ℕ) → Contains (numbers_from test n vs) k → PassesFrom test n vs k
 found_from test n [] k c = absurd (contains_none k c)
 found_from test n (v ∷ vs) k c = elim (cases_Bool (test v)) [
   | inl t ↦
@@ -41,7 +41,7 @@ found_from test n (v ∷ vs) k c = elim (cases_Bool (test v)) [
       after_one test n v vs k (found_from test (suc n) vs k d)
 ]
 
-numbered_from : (test : Vertex → Bool) (n : ℕ) (vs : List Vertex) (k : ℕ) → Passes test vs k → Contains (numbers_from test n vs) (n + k)
+pub numbered_from : (test : Vertex → Bool) (n : ℕ) (vs : List Vertex) (k : ℕ) → Passes test vs k → Contains (numbers_from test n vs) (n + k)
 numbered_from test n [] k w = none_there w.at
   where
     none_there : {x : Vertex} {A : Type 0} → slice_get {X = Vertex} [] k ≡ Some x → A
