@@ -1,7 +1,6 @@
 pub mod DoingLemmas
 pub mod FactLemmas
 pub mod Layers
-pub mod Listed
 pub mod Rules
 pub mod SkeletonLaw
 pub mod Statements

@@ -3,7 +3,6 @@ use Rattle.std.specs.Prelude.{◌≡◌, ◌↔◌, List}
 use Rattle.c_tree.specs.declared.program.Program.{Program}
 use Rattle.dep_model.specs.declared.edge.Edge.{Edge}
 use Rattle.dep_model.specs.Locations.{locations}
-use Rattle.dep_model.specs.ListedLocations.{AreListed}
 use Rattle.dep_model.specs.MainEdges.{AreMainEdges}
 use Rattle.dep_model.specs.MainLocations.{main_locations}
 use Rattle.dep_model.specs.MainVertices.{vertices}
@@ -25,7 +24,3 @@ LocationsAreOfMain = (p : Program) → IsNumberedMain p → locations p ≡ main
 abbrev pub EdgesAreOfMain : Type 0
 EdgesAreOfMain =
     (p : Program) (a : Analysis) (edges : List Edge) → IsNumberedMain p → IsAnalysis p a → AreSystemEdges p a edges ↔ AreMainEdges p a edges
-
--- each location that one vertex may define and another, or the same, may use is listed
-abbrev pub LocationsAreListed : Type 0
-LocationsAreListed = (p : Program) (a : Analysis) → IsNumberedMain p → IsAnalysis p a → AreListed p a

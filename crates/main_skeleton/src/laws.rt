@@ -21,9 +21,3 @@ pub fn locations_are_of_main()
 pub fn edges_are_of_main()
     ensures { law.EdgesAreOfMain }
 {}
-
-/// A law: each location that a vertex of a numbered main over integers may define and one may use is among
-/// the program's locations.
-pub fn locations_are_listed()
-    ensures { law.LocationsAreListed }
-{}

@@ -18,8 +18,7 @@ use crate::effects::Effects;
 use c_tree::{Function, Items, Program, Statement};
 use dep_model::{Skeleton, Vertex, VertexKind};
 pub use laws::{
-    edges_are_of_main, locations_are_listed, locations_are_of_main, numbered_have_analyses,
-    vertices_are_of_main,
+    edges_are_of_main, locations_are_of_main, numbered_have_analyses, vertices_are_of_main,
 };
 use std::alloc::{AllocError, Global};
 

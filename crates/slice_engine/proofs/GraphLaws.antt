@@ -17,7 +17,7 @@ use Rattle.dep_model.specs.SystemGraph.{Analysis, IsAnalysis, vertices_of, IsFlo
 use Rattle.dep_model.specs.Plain.{IsEdgeWithin}
 use Rattle.dep_model.proofs.NumberedEdges.{numbered_vertices, numbered_edges}
 use Rattle.dep_model.proofs.NumberedMain.{main_analysis, is_main_analysis}
-use Rattle.main_skeleton.proofs.Listed.{defined_listed}
+use Rattle.numbered_texts.proofs.Listed.{main_listed}
 use Rattle.reaching_defs.specs.RowFlow.{IsRowFlow, AreEvenRows}
 use Rattle.reaching_defs.proofs.RowLaws.{row_flow_is_flow}
 use Rattle.slice_engine.specs.Engine.{HasEdges}
@@ -59,7 +59,7 @@ module _ (p : Program) (s : Skeleton) (h : IsNumberedMain p) (is : (a : Analysis
 
     flow_same : (e : Edge) → IsRowFlow s order e ↔ IsFlowIn p main_analysis.points (vertices_of p main_analysis) 0 e
     flow_same =
-        row_flow_is_flow p main_analysis s order 0 skeleton (subst (λ (vs : List Vertex). (x : Pair) → Contains order.pairs x ↔ FollowsIn p vs 0 x.from (Some x.to)) (sym same_vertices) follows) (defined_listed p main_analysis h analysed)
+        row_flow_is_flow p main_analysis s order 0 skeleton (subst (λ (vs : List Vertex). (x : Pair) → Contains order.pairs x ↔ FollowsIn p vs 0 x.from (Some x.to)) (sym same_vertices) follows) (main_listed p h main_analysis)
 
     module _ (controls flows edges : List Edge) (control : (e : Edge) → Contains controls e ↔ IsControlIn p s.vertices 0 e) (flow : (e : Edge) → Contains flows e ↔ IsRowFlow s order e) (joined : edges ≡ controls ++ flows) where
       control_same : (e : Edge) → IsControlIn p s.vertices 0 e ↔ IsControlIn p (vertices_of p main_analysis) 0 e
