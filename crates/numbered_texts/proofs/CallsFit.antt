@@ -1,10 +1,11 @@
--- Each call in a body of a text is of a function that the text defines, with an argument for each of its parameters.
+-- Each call in a body of a text is of a function that the text defines, with an argument for each of its parameters; and where its
+-- result is stored, the function gives one and isn't main.
 use Rattle.std.proofs.Common.{◌≡◌, ℕ, suc, List, [], ◌∷◌, ◌++◌, map, length, Bool, true, false, cond, Option, Some, None, option_map, option_and_then, find, position, bytes_eq, refl, sym, ap, subst, ◌∙◌, ◌||◌, arith}
 use Rattle.std.proofs.lemmas.Bool.Decides.{nat_tests}
-use Rattle.std.proofs.lemmas.Bool.{true≢false, and_from}
+use Rattle.std.proofs.lemmas.Bool.{true≢false, and_from, or_right}
 use Rattle.std.proofs.lemmas.List.{length-map}
 use Rattle.std.proofs.lemmas.Option.{slice_get-map}
-use Rattle.std.specs.Prelude.{◌==◌, codes, slice_get, if◌then◌else◌}
+use Rattle.std.specs.Prelude.{◌==◌, ◌&&◌, ◌≢◌, not, is_some, slice_get}
 use Rattle.std.specs.Option.{option_map_or}
 use Rattle.std.specs.List.{list_all}
 use Rattle.c_arith.specs.declared.int_type.IntType.{IntType}
@@ -18,23 +19,26 @@ use Rattle.c_tree.specs.declared.raw.statement.RawArg.{RawArg}
 use Rattle.c_tree.specs.declared.raw.statement.RawArm.{RawArm, roll-RawArm, map-RawArm, fold-roll-RawArm}
 use Rattle.c_tree.specs.declared.raw.statement.RawStatement.{RawStatement, ind-RawStatement, roll-RawStatement, map-RawStatement, fold-roll-RawStatement}
 use Rattle.c_tree.specs.declared.raw.statement.RawStatement.TheOpen.{RawStatement-F, RawArm-F}
+use Rattle.c_tree.specs.declared.raw.expr.RawType.{RawType}
 use Rattle.c_tree.specs.declared.raw.statement.RawTarget.{RawTarget}
+use Rattle.c_tree.specs.declared.raw.statement.RawTarget.TheVariants as target
 use Rattle.c_tree.specs.declared.statement.Arm.{Arm}
 use Rattle.c_tree.specs.declared.statement.Statement.{Statement}
 use Rattle.c_tree.specs.declared.statement.Statement.TheVariants as s
 use Rattle.c_tree.specs.declared.statement.Target.{Target}
 use Rattle.c_language.specs.Words.{Bytes}
 use Rattle.c_language.specs.Code.{Tests}
-use Rattle.c_language.specs.CallRules.{MisusesArguments, format_in, later_args}
+use Rattle.c_language.specs.CallRules.{MisusesArguments, MisusesResult}
 use Rattle.c_language.specs.ConstantEvaluation.{both}
 use Rattle.c_language.specs.DeclaredTypes.{defined_functions, definition_of, function_id}
+use Rattle.c_language.specs.NameRules.{MisusesMain, main_name, is_main}
 use Rattle.c_language.specs.Phrases.{Stand, InBlock, InArm, InFor, Calls as CallsOf, Tests as TestOf, Phrases, phrase, target_phrases, joined_at, block_phrases, ArmText, phrases_of_arms, scoped_step, scoped_arm, scoped, scoped_of_arm, body_phrases}
 use Rattle.c_language.specs.ProgramOf.{collected, optional, ctype_if, expr_of, init_of, declaration_id, target_tree, arg_tree, args_tree, only_tree, amount_tree, invoke_tree, call_tree, label_tree, arm_tree, ArmTree, arm_tree_step, block_tree, at_type, switch_type, for_tree, treed_step, treed, body_of, treed_arm}
 use Rattle.c_language.specs.Rules.{Breaks, AreKept, KeepsAll}
 use Rattle.c_language.specs.Scopes.{Scope, Scoped, opened, numbered, with_variable, with_target, in_order, after_all, after_block}
 use Rattle.c_language.specs.TypeGrammar.{named_type}
 use Rattle.c_language.specs.Uses.{is_library_function}
-use Rattle.c_language.proofs.Lists.{all_append, position-cons}
+use Rattle.c_language.proofs.Lists.{same_bytes, position-cons}
 use Rattle.c_language.proofs.Options.{none_there, some_same, optional_there, map_there, then_there, both_there, more_there}
 use Rattle.c_language.proofs.PhraseLists.{body_in_order, kept_first, kept_second}
 use Rattle.c_language.proofs.TreeScopes.{after_same, list_after, block_after_same}
@@ -42,7 +46,8 @@ use Rattle.built_forms.proofs.Options.{Always, always_map, always_then, always_i
 use Rattle.dep_model.specs.Doings.{Doing, Does, Calls, doings, body_doings}
 use Rattle.dep_model.proofs.DoingForms.{arms_doings, part_doings, doings-Declare, doings-Assign, doings-Bump, doings-Invoke, doings-Fetch, doings-Write, doings-Print, doings-Heap, doings-Release, doings-Return, doings-If, doings-While, doings-Do, doings-Switch, doings-Block, doings-For}
 use Rattle.dep_model.proofs.TextNumbers.{for_some}
-use Rattle.numbered_texts.specs.FittingCalls.{fits}
+use Rattle.numbered_texts.specs.FittingCalls.{fits, stores, gives}
+use Rattle.numbered_texts.proofs.CallTests.{IsCallTest, body_passes}
 
 -- ---- what stands at the place at which it is found
 
@@ -50,6 +55,7 @@ pub record IsFoundAt {X : Type 0} (p : X → Bool) (xs : List X) (k : ℕ) : Typ
   pub value : X
   pub at : slice_get xs k ≡ Some value
   pub first : find p xs ≡ Some value
+  pub passes : p value ≡ true
 
 pub position_found : {X : Type 0} (p : X → Bool) (xs : List X) (k : ℕ) → position p xs ≡ Some k → IsFoundAt p xs k
 position_found p [] k h = none_there h
@@ -58,300 +64,91 @@ position_found p (x ∷ xs) k h = by_test (p x) refl (position_found p xs)
     by_test : (b : Bool) → p x ≡ b → ((n : ℕ) → position p xs ≡ Some n → IsFoundAt p xs n) → IsFoundAt p (x ∷ xs) k
     by_test true is later =
         let zero_is : 0 ≡ k = some_same (sym (position-cons p x xs ∙ ap (λ b. cond b (Some 0) (option_map suc (position p xs))) is) ∙ h) in
-        subst (IsFoundAt p (x ∷ xs)) zero_is (record { value = x; at = refl; first = ap (λ b. cond b (Some x) (find p xs)) is })
+        subst (IsFoundAt p (x ∷ xs)) zero_is (record { value = x; at = refl; first = ap (λ b. cond b (Some x) (find p xs)) is; passes = is })
     by_test false is later =
         let m = map_there suc (position p xs) k (sym (position-cons p x xs ∙ ap (λ b. cond b (Some 0) (option_map suc (position p xs))) is) ∙ h) in
         let r = later m.value m.there in
-        subst (IsFoundAt p (x ∷ xs)) m.same (record { value = r.value; at = r.at; first = ap (λ b. cond b (Some x) (find p xs)) is ∙ r.first })
+        subst (IsFoundAt p (x ∷ xs)) m.same (record { value = r.value; at = r.at; first = ap (λ b. cond b (Some x) (find p xs)) is ∙ r.first; passes = r.passes })
 
--- ---- a call of the library, or else of a function
-
-always_else : {A : Type 0} (P : A → Type 0) (b : Bool) (o q : Option A) → Always P o → (b ≡ false → Always P q) → Always P (if b then o else q)
-always_else P true o q h k = h
-always_else P false o q h k = k refl
-
-always_there : {A : Type 0} (P : A → Type 0) (o : Option A) → ((x : A) → o ≡ Some x → P x) → Always P o
-always_there P None h = tt
-always_there P (Some x) h = h x refl
+-- ---- arguments
 
 collected_length : {A : Type 0} (os : List (Option A)) (xs : List A) → collected os ≡ Some xs → length xs ≡ length os
 collected_length [] xs e = ap length (sym (some_same e))
 collected_length (o ∷ os) xs e = let m = more_there o os xs e in ap length (sym m.same) ∙ ap suc (collected_length os m.rest m.rest_there)
 
-no_library : (a b c d : Bool) → a ≡ false → b ≡ false → c ≡ false → d ≡ false → (a || (b || (c || (d || false)))) ≡ false
-no_library a b c d ha hb hc hd =
-    ap (λ z. z || (b || (c || (d || false)))) ha ∙ (ap (λ z. z || (c || (d || false))) hb ∙ (ap (λ z. z || (d || false)) hc ∙ ap (λ z. z || false) hd))
+-- whether a function gives a result to its calls
+abbrev pub has_result : RawHead → Bool
+has_result h = is_some h.result && not (is_main h.name)
 
 module _ (raw : RawProgram) where
   -- how many parameters each function has
   abbrev pub counts : List ℕ
   counts = map (λ (h : RawHead). length h.params) (defined_functions raw)
 
-  abbrev AreFit : List Doing → Type 0
-  AreFit ds = list_all (fits counts) ds ≡ true
+  arguments_fit : (l id : ℕ) (stand : Stand) (to : RawTarget) (f : Bytes) (args : List RawArg) (scope : Scope) (t : Target) (g : ℕ) (es : List Expr)
+      → KeepsAll raw (phrase l scope (CallsOf stand to f args)) → is_library_function f ≡ false → function_id raw f ≡ Some g → args_tree raw scope args ≡ Some es → fits counts (Calls id t g es) ≡ true
+  arguments_fit l id stand to f args scope t g es kept own at given =
+      let found = position_found (λ (h : RawHead). bytes_eq h.name f) (defined_functions raw) g at in
+      let many : length es ≡ length args = collected_length (map (arg_tree raw scope) args) es given ∙ length-map args (arg_tree raw scope) in
+      let count : slice_get counts g ≡ Some (length found.value.params) = slice_get-map (λ (h : RawHead). length h.params) (defined_functions raw) g ∙ ap (option_map (λ (h : RawHead). length h.params)) found.at in
+      ap (λ o. option_map_or (λ n. n == length es) o false) count ∙ by_test found.value found.first many (length found.value.params == length es) refl
+    where
+      by_test : (head : RawHead) → definition_of raw f ≡ Some head → length es ≡ length args → (b : Bool) → (length head.params == length es) ≡ b → (length head.params == length es) ≡ true
+      by_test head is many true h = h
+      by_test head is many false h =
+          absurd (kept 16 (Breaks.arguments (MisusesArguments.count own is (λ (e : length args ≡ length head.params). let z : (length head.params == length es) ≡ true = grind (arith, nat_tests, e, many) in true≢false (sym z ∙ h)))))
 
-  abbrev IsFit : Statement → Type 0
-  IsFit x = AreFit (doings x)
+  arguments_test : IsCallTest raw (fits counts)
+  arguments_test = record {
+    act = λ i a. refl;
+    call = λ l id stand to f args scope t g es kept own target_ at given. arguments_fit l id stand to f args (with_target raw to scope) t g es kept own at given;
+  }
 
-  -- ---- one call
+  pub body_fits : (b : List RawStatement) (scope : Scope) (xs : List Statement) → body_of raw b scope ≡ Some xs → AreKept raw (body_phrases raw b scope) → list_all (fits counts) (body_doings xs) ≡ true
+  body_fits = body_passes raw (fits counts) arguments_test
+
+  -- ---- results
+
+  abbrev pub results : List Bool
+  results = map has_result (defined_functions raw)
 
   module _ (l : ℕ) (stand : Stand) (to : RawTarget) (f : Bytes) (args : List RawArg) (scope : Scope) (kept : KeepsAll raw (phrase l scope (CallsOf stand to f args))) (own : is_library_function f ≡ false) where
-    invoked : (id : ℕ) (t : Target) (g : ℕ) (es : List Expr) → function_id raw f ≡ Some g → args_tree raw scope args ≡ Some es → fits counts (Calls id t g es) ≡ true
-    invoked id t g es numbered_ given =
-        let found = position_found (λ (h : RawHead). bytes_eq h.name f) (defined_functions raw) g numbered_ in
-        let many : length es ≡ length args = collected_length (map (arg_tree raw scope) args) es given ∙ length-map args (arg_tree raw scope) in
-        let count : slice_get counts g ≡ Some (length found.value.params) = slice_get-map (λ (h : RawHead). length h.params) (defined_functions raw) g ∙ ap (option_map (λ (h : RawHead). length h.params)) found.at in
-        ap (λ o. option_map_or (λ n. n == length es) o false) count ∙ by_test found.value found.first many (length found.value.params == length es) refl
+    -- no function calls main
+    not_main : (name : Bytes) → bytes_eq name f ≡ true → is_main name ≡ false
+    not_main name same = by_test (is_main name) refl
       where
-        by_test : (head : RawHead) → definition_of raw f ≡ Some head → length es ≡ length args → (b : Bool) → (length head.params == length es) ≡ b → (length head.params == length es) ≡ true
-        by_test head is many true h = h
-        by_test head is many false h =
-            absurd (kept 16 (Breaks.arguments (MisusesArguments.count own is (λ (e : length args ≡ length head.params). let z : (length head.params == length es) ≡ true = grind (arith, nat_tests, e, many) in true≢false (sym z ∙ h)))))
+        by_test : (b : Bool) → is_main name ≡ b → is_main name ≡ false
+        by_test false h = h
+        by_test true h =
+            let e : f ≡ main_name = sym (same_bytes name f same) ∙ same_bytes name main_name h in
+            absurd (kept 5 (Breaks.main (subst (λ (w : Bytes). MisusesMain raw scope (CallsOf stand to w args)) (sym e) MisusesMain.called)))
 
-  -- a statement of one act, or of a test and what it decides
-  acts : (x : Statement) (d : Doing) → doings x ≡ d ∷ [] → fits counts d ≡ true → IsFit x
-  acts x d is h = subst AreFit (sym is) (and_from _ _ h refl)
+    result_given : to ≢ target.None → (g : ℕ) → function_id raw f ≡ Some g → option_map_or (λ (b : Bool). b) (slice_get results g) false ≡ true
+    result_given stored g at =
+        let found = position_found (λ (h : RawHead). bytes_eq h.name f) (defined_functions raw) g at in
+        let there : slice_get results g ≡ Some (has_result found.value) = slice_get-map has_result (defined_functions raw) g ∙ ap (option_map has_result) found.at in
+        ap (λ o. option_map_or (λ (b : Bool). b) o false) there ∙ and_from _ _ (by_result found.value found.first found.value.result refl) (ap not (not_main found.value.name found.passes))
+      where
+        by_result : (head : RawHead) → definition_of raw f ≡ Some head → (r : Option RawType) → head.result ≡ r → is_some head.result ≡ true
+        by_result head is (Some t) e = ap is_some e
+        by_result head is None e = absurd (kept 17 (Breaks.result (MisusesResult.no_result own stored is e)))
 
-  behind : (x : Statement) (d : Doing) (ds : List Doing) → doings x ≡ d ∷ ds → fits counts d ≡ true → AreFit ds → IsFit x
-  behind x d ds is h k = subst AreFit (sym is) (and_from _ _ h k)
+  result_stored : (l id : ℕ) (stand : Stand) (to : RawTarget) (f : Bytes) (args : List RawArg) (scope : Scope) (t : Target) (g : ℕ) (es : List Expr)
+      → KeepsAll raw (phrase l (with_target raw to scope) (CallsOf stand to f args)) → is_library_function f ≡ false
+      → target_tree raw scope to ≡ Some t → function_id raw f ≡ Some g → gives results (Calls id t g es) ≡ true
+  result_stored l id stand target.None f args scope t g es kept own made at = subst (λ z. gives results (Calls id z g es) ≡ true) (some_same made) refl
+  result_stored l id stand (target.Place a) f args scope t g es kept own made at =
+      let h = result_given l stand (target.Place a) f args scope kept own (λ e. cc) g at in
+      or_right (not (stores t)) _ h
+  result_stored l id stand (target.Declared v) f args scope t g es kept own made at =
+      let h = result_given l stand (target.Declared v) f args (with_target raw (target.Declared v) scope) kept own (λ e. cc) g at in
+      or_right (not (stores t)) _ h
 
-  call_fits : (l id : ℕ) (stand : Stand) (to : RawTarget) (f : Bytes) (args : List RawArg) (scope : Scope) (t : Option Target) → KeepsAll raw (phrase l scope (CallsOf stand to f args)) → Always IsFit (call_tree raw scope id l t f args)
-  call_fits l id stand to f args scope t kept =
-      always_else IsFit (bytes_eq f (codes "getchar")) _ _ (always_map IsFit (s.Fetch id l) t (λ z. acts (s.Fetch id l z) _ (doings-Fetch id l z) refl)) (λ n1.
-      always_else IsFit (bytes_eq f (codes "putchar")) _ _ (always_map IsFit (s.Write id l) (only_tree raw scope args) (λ e. acts (s.Write id l e) _ (doings-Write id l e) refl)) (λ n2.
-      always_else IsFit (bytes_eq f (codes "printf")) _ _ (always_then IsFit _ (format_in args) (λ text. always_map IsFit (s.Print id l text) (args_tree raw scope (later_args args)) (λ es. acts (s.Print id l text es) _ (doings-Print id l text es) refl))) (λ n3.
-      always_else IsFit (bytes_eq f (codes "free")) _ _ (always_map IsFit (s.Release id l) (only_tree raw scope args) (λ e. acts (s.Release id l e) _ (doings-Release id l e) refl)) (λ n4.
-      always_there IsFit (invoke_tree raw scope id l t f args) (λ x e.
-        let a = then_there (λ (z : Target). both (s.Invoke id l z) (function_id raw f) (args_tree raw scope args)) t x e in
-        let k = both_there (s.Invoke id l a.value) (function_id raw f) (args_tree raw scope args) x a.same in
-        let own : is_library_function f ≡ false = no_library (bytes_eq f (codes "getchar")) (bytes_eq f (codes "putchar")) (bytes_eq f (codes "printf")) (bytes_eq f (codes "free")) n1 n2 n3 n4 in
-        subst IsFit k.same (acts (s.Invoke id l a.value k.left k.right) _ (doings-Invoke id l a.value k.left k.right) (invoked l stand to f args scope kept own id a.value k.left k.right k.left_there k.right_there)))))))
-
-  heap_fits : (id l : ℕ) (t : Option Target) (c : Option _) (n : Option _) → Always IsFit (option_and_then (λ (z : Target). option_and_then (λ k. option_map (s.Heap id l z k) n) c) t)
-  heap_fits id l t c n = always_then IsFit _ t (λ z. always_then IsFit _ c (λ k. always_map IsFit (s.Heap id l z k) n (λ m. acts (s.Heap id l z k m) _ (doings-Heap id l z k m) refl)))
-
-  declare_fits : (id : Option ℕ) (l x : ℕ) (i : Option _) → Always IsFit (option_map (s.Declare id l x) i)
-  declare_fits None l x i = always_map IsFit (s.Declare None l x) i (λ z. subst AreFit (sym (doings-Declare None l x z)) refl)
-  declare_fits (Some id) l x i = always_map IsFit (s.Declare (Some id) l x) i (λ z. acts (s.Declare (Some id) l x z) _ (doings-Declare (Some id) l x z) refl)
-
-  -- ---- a statement in the tree and as phrases
-
-  record Case (t : Scoped (Option Statement)) (w : Scoped (Stand → Phrases)) : Type 0 where
-    fit : (scope : Scope) (stand : Stand) (x : Statement) → t.gives scope ≡ Some x → AreKept raw (w.gives scope stand) → IsFit x
-
-  record ArmCase (t : Scoped ArmTree) (w : Scoped ArmText) : Type 0 where
-    same : (scope : Scope) → t.after scope ≡ w.after scope
-    fit : (scope : Scope) (k : IntType) (a : Arm) → t.gives scope k ≡ Some a → AreKept raw (w.gives scope).phrases → AreFit (body_doings a.body)
-
-  abbrev Known : Type 0
-  Known = (one : RawStatement) × Case (treed raw one) (scoped raw one)
-
-  abbrev KnownArm : Type 0
-  KnownArm = (a : RawArm) × ArmCase (treed_arm raw a) (scoped_of_arm raw a)
-
-  abbrev layer_of : RawStatement-F Known KnownArm → RawStatement-F RawStatement RawArm
-  layer_of = map-RawStatement Known KnownArm RawStatement RawArm (λ p. p.0) (λ p. p.0)
-
-  abbrev arm_layer_of : RawArm-F Known KnownArm → RawArm-F RawStatement RawArm
-  arm_layer_of = map-RawArm Known KnownArm RawStatement RawArm (λ p. p.0) (λ p. p.0)
-
-  abbrev as_tree : RawStatement-F RawStatement RawArm → Scoped (Option Statement)
-  as_tree y = treed_step raw (map-RawStatement RawStatement RawArm (Scoped (Option Statement)) (Scoped ArmTree) (treed raw) (treed_arm raw) y)
-
-  abbrev as_text : RawStatement-F RawStatement RawArm → Scoped (Stand → Phrases)
-  as_text y = scoped_step raw (map-RawStatement RawStatement RawArm (Scoped (Stand → Phrases)) (Scoped ArmText) (scoped raw) (scoped_of_arm raw) y)
-
-  abbrev as_arm_tree : RawArm-F RawStatement RawArm → Scoped ArmTree
-  as_arm_tree y = arm_tree_step raw (map-RawArm RawStatement RawArm (Scoped (Option Statement)) (Scoped ArmTree) (treed raw) (treed_arm raw) y)
-
-  abbrev as_arm_text : RawArm-F RawStatement RawArm → Scoped ArmText
-  as_arm_text y = scoped_arm (map-RawArm RawStatement RawArm (Scoped (Stand → Phrases)) (Scoped ArmText) (scoped raw) (scoped_of_arm raw) y)
-
-  abbrev rows : List Known → List RawStatement
-  rows ks = map (λ (p : Known). p.0) ks
-
-  abbrev trees : List Known → List (Scoped (Option Statement))
-  trees ks = map (treed raw) (rows ks)
-
-  abbrev texts : List Known → List (Scoped (Stand → Phrases))
-  texts ks = map (scoped raw) (rows ks)
-
-  abbrev arm_trees : List KnownArm → List (Scoped ArmTree)
-  arm_trees ks = map (treed_arm raw) (map (λ (p : KnownArm). p.0) ks)
-
-  abbrev arm_texts : List KnownArm → List (Scoped ArmText)
-  arm_texts ks = map (scoped_of_arm raw) (map (λ (p : KnownArm). p.0) ks)
-
-  -- ---- lists
-
-  abbrev list_phrases : List Known → Scope → Stand → Phrases
-  list_phrases ks scope stand = joined_at stand (in_order (texts ks) scope)
-
-  list_fits : (ks : List Known) (scope : Scope) (stand : Stand) (xs : List Statement) → collected (in_order (trees ks) scope) ≡ Some xs → AreKept raw (list_phrases ks scope stand) → AreFit (body_doings xs)
-  list_fits [] scope stand xs e kept = subst (λ (ys : List Statement). AreFit (body_doings ys)) (some_same e) refl
-  list_fits (k ∷ ks) scope stand xs e kept =
-      let next = (scoped raw k.0).after scope in
-      let z = more_there ((treed raw k.0).gives scope) (in_order (trees ks) ((treed raw k.0).after scope)) xs e in
-      let rest : collected (in_order (trees ks) next) ≡ Some z.rest = ap (λ (y : Scope). collected (in_order (trees ks) y)) (sym (after_same raw k.0 scope)) ∙ z.rest_there in
-      subst (λ (ys : List Statement). AreFit (body_doings ys)) z.same
-      (all_append (fits counts) (doings z.first) (body_doings z.rest) (k.1.fit scope stand z.first z.first_there (kept_first raw ((scoped raw k.0).gives scope stand) (list_phrases ks next stand) kept))
-      (list_fits ks next stand z.rest rest (kept_second raw ((scoped raw k.0).gives scope stand) (list_phrases ks next stand) kept)))
-
-  arms_fit : (ks : List KnownArm) (scope : Scope) (t : IntType) (xs : List Arm) → at_type t (in_order (arm_trees ks) scope) ≡ Some xs → AreKept raw (phrases_of_arms (in_order (arm_texts ks) scope)) → AreFit (arms_doings xs)
-  arms_fit [] scope t xs e kept = subst (λ (ys : List Arm). AreFit (arms_doings ys)) (some_same e) refl
-  arms_fit (k ∷ ks) scope t xs e kept =
-      let next = (scoped_of_arm raw k.0).after scope in
-      let own = ((scoped_of_arm raw k.0).gives scope).phrases in
-      let later = phrases_of_arms (in_order (arm_texts ks) next) in
-      let z = more_there ((treed_arm raw k.0).gives scope t) (map (λ (a : ArmTree). a t) (in_order (arm_trees ks) ((treed_arm raw k.0).after scope))) xs e in
-      let rest : at_type t (in_order (arm_trees ks) next) ≡ Some z.rest = ap (λ (y : Scope). at_type t (in_order (arm_trees ks) y)) (sym (k.1.same scope)) ∙ z.rest_there in
-      subst (λ (ys : List Arm). AreFit (arms_doings ys)) z.same
-      (all_append (fits counts) (body_doings z.first.body) (arms_doings z.rest) (k.1.fit scope t z.first z.first_there (kept_first raw own later kept)) (arms_fit ks next t z.rest rest (kept_second raw own later kept)))
-
-  -- ---- a for
-
-  abbrev part_after : Option Known → Scope → Scope
-  part_after None scope = scope
-  part_after (Some k) scope = (treed raw k.0).after scope
-
-  abbrev part_given : Option Known → Scope → Option (Option Statement)
-  part_given None scope = Some None
-  part_given (Some k) scope = optional (Some ((treed raw k.0).gives scope))
-
-  abbrev text_after : Option Known → Scope → Scope
-  text_after None scope = scope
-  text_after (Some k) scope = (scoped raw k.0).after scope
-
-  abbrev part_phrases : Option Known → Scope → Stand → Phrases
-  part_phrases None scope stand = []
-  part_phrases (Some k) scope stand = (scoped raw k.0).gives scope stand
-
-  part_same : (o : Option Known) (scope : Scope) → part_after o scope ≡ text_after o scope
-  part_same None scope = refl
-  part_same (Some k) scope = after_same raw k.0 scope
-
-  part_fits : (o : Option Known) (scope : Scope) (stand : Stand) (x : Option Statement) → part_given o scope ≡ Some x → AreKept raw (part_phrases o scope stand) → AreFit (part_doings x)
-  part_fits None scope stand x e kept = subst (λ (y : Option Statement). AreFit (part_doings y)) (some_same e) refl
-  part_fits (Some k) scope stand x e kept =
-      let p = optional_there ((treed raw k.0).gives scope) x e in
-      subst (λ (y : Option Statement). AreFit (part_doings y)) p.1.1 (k.1.fit scope stand p.0 p.1.0 kept)
-
-  for_fits : (i : Option Known) (l : ℕ) (test : RawExpr) (step : Option Known) (b : List Known) (scope : Scope) (stand : Stand) (x : Statement)
-      → for_tree scope.statements l (part_given i (opened (numbered scope))) (expr_of raw (part_after i (opened (numbered scope))) test) (part_given step (part_after i (opened (numbered scope)))) (block_tree (trees b) (part_after step (part_after i (opened (numbered scope))))) ≡ Some x
-      → AreKept raw (part_phrases i (opened (numbered scope)) InFor ++ (phrase l (text_after i (opened (numbered scope))) (TestOf test) ∷ (part_phrases step (text_after i (opened (numbered scope))) InBlock ++ block_phrases (texts b) (text_after step (text_after i (opened (numbered scope)))))))
-      → IsFit x
-  for_fits i l test step b scope stand x e kept =
-      let first = opened (numbered scope) in
-      let second = text_after i first in
-      let third = text_after step second in
-      let body = block_phrases (texts b) third in
-      let f = for_some scope.statements l _ _ _ _ x e in
-      let behind_init = part_phrases step second InBlock ++ body in
-      let at_step : part_given step second ≡ Some f.2 = ap (part_given step) (sym (part_same i first)) ∙ f.6 in
-      let at_body : block_tree (trees b) third ≡ Some f.3 = ap (block_tree (trees b)) (sym (ap (part_after step) (part_same i first) ∙ part_same step second)) ∙ f.7 in
-      let later = (kept_second raw (part_phrases i first InFor) (phrase l second (TestOf test) ∷ behind_init) kept).1 in
-      behind x (Does scope.statements (Tests f.1)) (part_doings f.0 ++ (part_doings f.2 ++ body_doings f.3)) (ap doings f.8 ∙ doings-For scope.statements l f.0 f.1 f.2 f.3) refl
-      (all_append (fits counts) (part_doings f.0) (part_doings f.2 ++ body_doings f.3) (part_fits i first InFor f.0 f.4 (kept_first raw (part_phrases i first InFor) (phrase l second (TestOf test) ∷ behind_init) kept))
-      (all_append (fits counts) (part_doings f.2) (body_doings f.3) (part_fits step second InBlock f.2 at_step (kept_first raw (part_phrases step second InBlock) body later))
-      (list_fits b (opened third) InBlock f.3 at_body (kept_second raw (part_phrases step second InBlock) body later))))
-
-  -- ---- each form
-
-  layer_case : (y : RawStatement-F Known KnownArm) → Case (as_tree (layer_of y)) (as_text (layer_of y))
-  layer_case (RawStatement-F.Declare l v i) = record {
-    fit = λ scope stand x e kept. always_is IsFit _ x (declare_fits (declaration_id i scope.statements) l scope.variables (init_of raw (with_variable raw v i scope) i)) e;
-  }
-  layer_case (RawStatement-F.Assign l left op right) = record {
-    fit = λ scope stand x e kept.
-        let k = both_there (λ (a b : Expr). s.Assign scope.statements l a op b) (expr_of raw scope left) (expr_of raw scope right) x e in
-        subst IsFit k.same (acts (s.Assign scope.statements l k.left op k.right) _ (doings-Assign scope.statements l k.left op k.right) refl);
-  }
-  layer_case (RawStatement-F.Bump l left up before) = record {
-    fit = λ scope stand x e kept.
-        let k = map_there (λ (a : Expr). s.Bump scope.statements l a up before) (expr_of raw scope left) x e in
-        subst IsFit k.same (acts (s.Bump scope.statements l k.value up before) _ (doings-Bump scope.statements l k.value up before) refl);
-  }
-  layer_case (RawStatement-F.Call l to f args) = record {
-    fit = λ scope stand x e kept.
-        let inner = with_target raw to scope in
-        always_is IsFit _ x (call_fits l scope.statements stand to f args inner (target_tree raw scope to) (kept_second raw (target_phrases raw l scope stand to) (phrase l inner (CallsOf stand to f args) ∷ []) kept).0) e;
-  }
-  layer_case (RawStatement-F.Heap l to cast n) = record {
-    fit = λ scope stand x e kept.
-        always_is IsFit _ x (heap_fits scope.statements l (target_tree raw scope to) (ctype_if raw (option_map named_type cast)) (amount_tree raw (with_target raw to scope) n)) e;
-  }
-  layer_case (RawStatement-F.If l test a b) = record {
-    fit = λ scope stand x e kept.
-        let n = scope.statements in
-        let middle = after_block (texts a) (numbered scope) in
-        let ps = block_phrases (texts a) (numbered scope) in
-        let qs = block_phrases (texts b) middle in
-        let t = then_there (λ (z : Expr). both (s.If n l z) (block_tree (trees a) (numbered scope)) (block_tree (trees b) (after_block (trees a) (numbered scope)))) (expr_of raw scope test) x e in
-        let k = both_there (s.If n l t.value) (block_tree (trees a) (numbered scope)) (block_tree (trees b) (after_block (trees a) (numbered scope))) x t.same in
-        let other : block_tree (trees b) middle ≡ Some k.right = ap (block_tree (trees b)) (sym (block_after_same raw (rows a) (numbered scope))) ∙ k.right_there in
-        behind x (Does n (Tests t.value)) (body_doings k.left ++ body_doings k.right) (ap doings (sym k.same) ∙ doings-If n l t.value k.left k.right) refl
-        (all_append (fits counts) (body_doings k.left) (body_doings k.right) (list_fits a (opened (numbered scope)) InBlock k.left k.left_there (kept_first raw ps qs kept.1)) (list_fits b (opened middle) InBlock k.right other (kept_second raw ps qs kept.1)));
-  }
-  layer_case (RawStatement-F.While l test b) = record {
-    fit = λ scope stand x e kept.
-        let k = both_there (s.While scope.statements l) (expr_of raw scope test) (block_tree (trees b) (numbered scope)) x e in
-        behind x (Does scope.statements (Tests k.left)) (body_doings k.right) (ap doings (sym k.same) ∙ doings-While scope.statements l k.left k.right) refl (list_fits b (opened (numbered scope)) InBlock k.right k.right_there kept.1);
-  }
-  layer_case (RawStatement-F.Do l test b) = record {
-    fit = λ scope stand x e kept.
-        let k = both_there (s.Do scope.statements l) (expr_of raw scope test) (block_tree (trees b) (numbered scope)) x e in
-        behind x (Does scope.statements (Tests k.left)) (body_doings k.right) (ap doings (sym k.same) ∙ doings-Do scope.statements l k.left k.right) refl (list_fits b (opened (numbered scope)) InBlock k.right k.right_there kept.1);
-  }
-  layer_case (RawStatement-F.For l None test None b) = record { fit = λ scope stand x e kept. for_fits None l test None b scope stand x e kept }
-  layer_case (RawStatement-F.For l None test (Some k) b) = record { fit = λ scope stand x e kept. for_fits None l test (Some k) b scope stand x e kept }
-  layer_case (RawStatement-F.For l (Some i) test None b) = record { fit = λ scope stand x e kept. for_fits (Some i) l test None b scope stand x e kept }
-  layer_case (RawStatement-F.For l (Some i) test (Some k) b) = record { fit = λ scope stand x e kept. for_fits (Some i) l test (Some k) b scope stand x e kept }
-  layer_case (RawStatement-F.Switch l test arms) = record {
-    fit = λ scope stand x e kept.
-        let n = scope.statements in
-        let t = then_there (λ (z : Expr). option_and_then (λ (k : IntType). option_map (s.Switch n l z) (at_type k (in_order (arm_trees arms) (opened (numbered scope))))) (switch_type raw scope test)) (expr_of raw scope test) x e in
-        let u = then_there (λ (k : IntType). option_map (s.Switch n l t.value) (at_type k (in_order (arm_trees arms) (opened (numbered scope))))) (switch_type raw scope test) x t.same in
-        let k = map_there (s.Switch n l t.value) (at_type u.value (in_order (arm_trees arms) (opened (numbered scope)))) x u.same in
-        behind x (Does n (Tests t.value)) (arms_doings k.value) (ap doings (sym k.same) ∙ doings-Switch n l t.value k.value) refl (arms_fit arms (opened (numbered scope)) u.value k.value k.there kept.1);
-  }
-  layer_case (RawStatement-F.Block l b) = record {
-    fit = λ scope stand x e kept.
-        let k = map_there (s.Block l) (block_tree (trees b) scope) x e in
-        subst IsFit k.same (subst AreFit (sym (doings-Block l k.value)) (list_fits b (opened scope) InBlock k.value k.there kept));
-  }
-  layer_case (RawStatement-F.Return l a) = record {
-    fit = λ scope stand x e kept.
-        let k = map_there (s.Return scope.statements l) (optional (option_map (expr_of raw scope) a)) x e in
-        subst IsFit k.same (acts (s.Return scope.statements l k.value) _ (doings-Return scope.statements l k.value) refl);
+  results_test : IsCallTest raw (gives results)
+  results_test = record {
+    act = λ i a. refl;
+    call = λ l id stand to f args scope t g es kept own made at given. result_stored l id stand to f args scope t g es kept own made at;
   }
 
-  arm_case : (y : RawArm-F Known KnownArm) → ArmCase (as_arm_tree (arm_layer_of y)) (as_arm_text (arm_layer_of y))
-  arm_case y = record {
-    same = λ scope. list_after raw (rows y.body) scope;
-    fit = λ scope k a e kept.
-        let z = both_there arm_tree (collected (map (label_tree raw scope k) y.labels)) (collected (in_order (trees y.body) scope)) a e in
-        subst (λ (w : Arm). AreFit (body_doings w.body)) z.same (list_fits y.body scope InArm z.right z.right_there kept);
-  }
-
-  statement_case : (one : RawStatement) → Case (treed raw one) (scoped raw one)
-  statement_case =
-      ind-RawStatement (λ one. Case (treed raw one) (scoped raw one)) (λ a. ArmCase (treed_arm raw a) (scoped_of_arm raw a))
-      (λ z y is. subst (λ w. Case (treed raw (roll-RawStatement w)) (scoped raw (roll-RawStatement w))) is
-      (subst (λ t. Case t (scoped raw (roll-RawStatement (layer_of y)))) (sym (fold-roll-RawStatement (Scoped (Option Statement)) (Scoped ArmTree) (treed_step raw) (arm_tree_step raw) (layer_of y)))
-      (subst (λ w. Case (as_tree (layer_of y)) w) (sym (fold-roll-RawStatement (Scoped (Stand → Phrases)) (Scoped ArmText) (scoped_step raw) scoped_arm (layer_of y))) (layer_case y))))
-      (λ z y is. subst (λ w. ArmCase (treed_arm raw (roll-RawArm w)) (scoped_of_arm raw (roll-RawArm w))) is
-      (subst (λ t. ArmCase t (scoped_of_arm raw (roll-RawArm (arm_layer_of y)))) (sym (fold-roll-RawArm (Scoped (Option Statement)) (Scoped ArmTree) (treed_step raw) (arm_tree_step raw) (arm_layer_of y)))
-      (subst (λ w. ArmCase (as_arm_tree (arm_layer_of y)) w) (sym (fold-roll-RawArm (Scoped (Stand → Phrases)) (Scoped ArmText) (scoped_step raw) scoped_arm (arm_layer_of y))) (arm_case y))))
-
-  abbrev all_known : List RawStatement → List Known
-  all_known b = map (λ (x : RawStatement). let k : Known = (x, statement_case x) in k) b
-
-  same_list : (b : List RawStatement) → rows (all_known b) ≡ b
-  same_list [] = refl
-  same_list (x ∷ b) = ap (λ ys. x ∷ ys) (same_list b)
-
-  -- the calls of a body
-  pub body_fits : (b : List RawStatement) (scope : Scope) (xs : List Statement) → body_of raw b scope ≡ Some xs → AreKept raw (body_phrases raw b scope) → AreFit (body_doings xs)
-  body_fits b scope xs e kept =
-      list_fits (all_known b) scope InBlock xs (ap (λ c. collected (in_order (map (treed raw) c) scope)) (same_list b) ∙ e)
-      (subst (λ c. AreKept raw (joined_at InBlock (in_order (map (scoped raw) c) scope))) (sym (same_list b)) (subst (AreKept raw) (body_in_order raw b scope) kept))
+  pub body_gives : (b : List RawStatement) (scope : Scope) (xs : List Statement) → body_of raw b scope ≡ Some xs → AreKept raw (body_phrases raw b scope) → list_all (gives results) (body_doings xs) ≡ true
+  body_gives = body_passes raw (gives results) results_test

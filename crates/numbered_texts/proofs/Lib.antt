@@ -1,5 +1,7 @@
 pub mod BuiltMains
+pub mod CallTests
 pub mod CallsFit
+pub mod GivenResults
 pub mod HavingMain
 pub mod ItemCalls
 pub mod Items

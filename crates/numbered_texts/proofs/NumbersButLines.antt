@@ -1,6 +1,6 @@
 -- A well-formed program is numbered in text order.
 use Rattle.std.proofs.Common.{◌≡◌, ℕ, zero, suc, ◌+◌, List, [], ◌∷◌, ◌++◌, length, map, Option, None, refl, sym, ap, ap₂, ◌∙◌, arith}
-use Rattle.std.specs.Prelude.{slice_get}
+use Rattle.std.specs.Prelude.{Bool, ◌&&◌, not, is_some, slice_get}
 use Rattle.std.specs.List.{list_all, range_with_len}
 use Rattle.std.specs.Option.{option_map_or}
 use Rattle.std.proofs.lemmas.List.{length-map}
@@ -10,6 +10,7 @@ use Rattle.c_tree.specs.declared.statement.Statement.{Statement}
 use Rattle.c_tree.specs.declared.statement.Statement.TheOpen.{Statement-F}
 use Rattle.c_tree.specs.declared.types.CType.{CType}
 use Rattle.c_tree.specs.Unlined.{unlined, unlined_function, unlined_var, SameButLines}
+use Rattle.c_language.specs.NameRules.{is_main}
 use Rattle.c_language.specs.Words.{Bytes}
 use Rattle.built_forms.specs.IntegerForms.{IsIntegerMain}
 use Rattle.dep_model.specs.Doings.{Doing, doing_step, doing_arm, doings, body_doings, functions_doings, program_doings, doings_of, doing_number}
@@ -18,9 +19,10 @@ use Rattle.dep_model.specs.NumberedMains.{doing_below, IsNumberedMain}
 use Rattle.c_tree.proofs.Unlining.{zeroed, fold_unlined}
 use Rattle.projection_laws.proofs.SamePrograms.{main_same}
 use Rattle.text_syntax.proofs.Items.{text_is_syntax}
-use Rattle.numbered_texts.specs.FittingCalls.{fits, parameter_counts}
-use Rattle.numbered_texts.specs.Laws.{StatementsAreNumbered, NamedVariablesExist, CallsFit, WellFormedAreNumbered}
-use Rattle.numbered_texts.proofs.Texts.{text_numbers, text_names, text_calls, texts_numbered}
+use Rattle.numbered_texts.specs.FittingCalls.{fits, gives, parameter_counts, results_given}
+use Rattle.numbered_texts.specs.Laws.{StatementsAreNumbered, NamedVariablesExist, CallsFit, ResultsAreGiven, WellFormedAreNumbered}
+use Rattle.numbered_texts.proofs.Texts.{text_numbers, text_names, text_calls, text_results, texts_numbered}
+use Rattle.numbered_texts.proofs.GivenResults.{all_taken}
 
 doing_free : (x : Statement-F (List Doing) (List Doing)) → doing_step (zeroed x) ≡ doing_step x
 doing_free (Statement-F.Declare id l x i) = refl
@@ -117,6 +119,17 @@ parameters_same p q same =
 pub calls_fit_well : CallsFit
 calls_fit_well p ok =
     ap₂ (λ (ns : List ℕ) (ds : List Doing). list_all (fits ns) ds) (parameters_same p ok.same ok.but_lines) (all_same p ok.same ok.but_lines) ∙ text_calls ok.raw ok.same ok.has (text_is_syntax ok.raw ok.tree)
+
+results_unlined : (fs : List Function) → map (λ (f : Function). is_some f.result && not (is_main f.name)) (map unlined_function fs) ≡ map (λ (f : Function). is_some f.result && not (is_main f.name)) fs
+results_unlined [] = refl
+results_unlined (f ∷ fs) = ap (λ bs. (is_some f.result && not (is_main f.name)) ∷ bs) (results_unlined fs)
+
+results_same : (p q : Program) → SameButLines p q → results_given p ≡ results_given q
+results_same p q same = sym (results_unlined p.functions) ∙ ap (λ (r : Program). results_given r) same ∙ results_unlined q.functions
+
+pub results_stored : ResultsAreGiven
+results_stored p ok =
+    all_taken p (program_doings p) (ap₂ (λ (rs : List Bool) (ds : List Doing). list_all (gives rs) ds) (results_same p ok.same ok.but_lines) (all_same p ok.same ok.but_lines) ∙ text_results ok.raw ok.same ok.has)
 
 -- ---- main alone
 

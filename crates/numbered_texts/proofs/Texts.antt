@@ -25,9 +25,10 @@ use Rattle.dep_model.specs.MainVertices.{from}
 use Rattle.dep_model.specs.NumberedMains.{doing_below, IsNumberedMain}
 use Rattle.dep_model.proofs.NumberedMain.{main_doings}
 use Rattle.dep_model.proofs.TextNumbers.{Takes}
-use Rattle.numbered_texts.specs.FittingCalls.{fits, parameter_counts}
+use Rattle.numbered_texts.specs.FittingCalls.{fits, gives, parameter_counts, results_given}
 use Rattle.numbered_texts.specs.Laws.{IntegerTextsAreNumbered}
-use Rattle.numbered_texts.proofs.ItemCalls.{counts_are, items_fit}
+use Rattle.numbered_texts.proofs.ItemCalls.{counts_are, results_are, items_pass}
+use Rattle.numbered_texts.proofs.CallsFit.{counts, results, body_fits, body_gives}
 use Rattle.numbered_texts.proofs.Items.{items_count, items_take, items_below, names_are, give_ints}
 
 -- the only function of a text that defines main is main
@@ -68,7 +69,13 @@ module _ (raw : RawProgram) (p : Program) (has : HasProgram raw p) where
 pub text_calls : (raw : RawProgram) (p : Program) → HasProgram raw p → IsSyntax raw → list_all (fits (parameter_counts p)) (program_doings p) ≡ true
 text_calls raw p has syntax =
     let parts = made_of raw p has.program in
-    ap (λ (ns : List ℕ). list_all (fits ns) (program_doings p)) (counts_are raw raw.items outset p.functions syntax parts.functions) ∙ items_fit raw raw.items outset p.functions (phrases_kept raw has.rules) parts.functions
+    ap (λ (ns : List ℕ). list_all (fits ns) (program_doings p)) (counts_are raw raw.items outset p.functions syntax parts.functions) ∙ items_pass raw (fits (counts raw)) (body_fits raw) raw.items outset p.functions (phrases_kept raw has.rules) parts.functions
+
+-- and each stored result is given
+pub text_results : (raw : RawProgram) (p : Program) → HasProgram raw p → list_all (gives (results_given p)) (program_doings p) ≡ true
+text_results raw p has =
+    let parts = made_of raw p has.program in
+    ap (λ (rs : List Bool). list_all (gives rs) (program_doings p)) (results_are raw raw.items outset p.functions parts.functions) ∙ items_pass raw (gives (results raw)) (body_gives raw) raw.items outset p.functions (phrases_kept raw has.rules) parts.functions
 
 -- ---- main alone
 

@@ -11,7 +11,7 @@ use Rattle.dep_model.specs.Doings.{doing_number, program_doings}
 use Rattle.dep_model.specs.ListedLocations.{AreListed}
 use Rattle.dep_model.specs.NumberedMains.{doing_below, IsNumberedMain}
 use Rattle.dep_model.specs.SystemGraph.{Analysis}
-use Rattle.numbered_texts.specs.FittingCalls.{fits, parameter_counts}
+use Rattle.numbered_texts.specs.FittingCalls.{fits, parameter_counts, takes_result}
 
 -- the statements of a well-formed program, function by function, have the numbers 0, 1, and so on up to their count
 abbrev pub StatementsAreNumbered : Type 0
@@ -28,6 +28,10 @@ LocationsAreListed = (p : Program) (a : Analysis) → IsWellFormed p → AreList
 -- each call in one is of a function of the program, with an argument for each of its parameters
 abbrev pub CallsFit : Type 0
 CallsFit = (p : Program) → IsWellFormed p → list_all (fits (parameter_counts p)) (program_doings p) ≡ true
+
+-- each call whose result is stored is of a function that gives one: it isn't void, and it isn't main
+abbrev pub ResultsAreGiven : Type 0
+ResultsAreGiven = (p : Program) → IsWellFormed p → list_all (takes_result p) (program_doings p) ≡ true
 
 -- a function named main is among its functions
 abbrev pub ProgramsHaveMain : Type 0

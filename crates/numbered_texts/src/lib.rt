@@ -26,6 +26,12 @@ pub fn calls_fit()
     ensures { law.CallsFit }
 {}
 
+/// A law: each call in a well-formed program whose result is stored is of a function that gives one: it isn't void, and
+/// it isn't main.
+pub fn results_are_given()
+    ensures { law.ResultsAreGiven }
+{}
+
 /// A law: a well-formed program has a function named main.
 pub fn programs_have_main()
     ensures { law.ProgramsHaveMain }
