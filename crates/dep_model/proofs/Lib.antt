@@ -15,6 +15,7 @@ pub mod LocationLaws
 pub mod LocationParts
 pub mod LocationRules
 pub mod LocationSites
+pub mod LocationsOnce
 pub mod MainVertexLemmas
 pub mod MayPointLaws
 pub mod Membership

@@ -1,5 +1,5 @@
 -- What each form of statement allocates, and the objects of a program one after another.
-use Rattle.std.proofs.Common.{◌≡◌, ℕ, ◌+◌, ◌<◌, suc, drop, length, get_or, arith, List, [], ◌∷◌, ◌++◌, Option, Some, None, refl, sym, ap, ap₂, ◌∙◌, append_assoc, append-nil}
+use Rattle.std.proofs.Common.{◌≡◌, ℕ, ◌+◌, ◌<◌, suc, drop, length, get_or, arith, List, [], ◌∷◌, ◌++◌, Option, Some, None, refl, sym, ap, ap₂, ◌∙◌, append_assoc}
 use Rattle.std.proofs.Math.Seq.{drop-cons}
 use Rattle.c_tree.specs.declared.expr.Expr.{Expr}
 use Rattle.c_tree.specs.declared.program.Function.{Function}
@@ -7,15 +7,14 @@ use Rattle.c_tree.specs.declared.program.Program.{Program}
 use Rattle.c_tree.specs.declared.statement.Arm.{Arm}
 use Rattle.c_tree.specs.declared.statement.Statement.{Statement}
 use Rattle.c_tree.specs.declared.statement.Statement.TheVariants as s
-use Rattle.c_language.specs.Code.{Tests}
-use Rattle.dep_model.specs.Doings.{Doing, Does, doings, body_doings}
+use Rattle.dep_model.specs.Doings.{Doing, doings, body_doings}
 use Rattle.dep_model.specs.Locations.{Heap, doing_heaps, heaps, function_heaps}
 use Rattle.dep_model.specs.LocationObjects.{site_objects, sites, body_sites, arm_sites, part_sites, function_sites}
 use Rattle.dep_model.specs.declared.location.Root.TheVariants.{Site}
 use Rattle.dep_model.specs.declared.locations.objects.Object.{Object}
 use Rattle.dep_model.proofs.DoingForms.{arms_doings, part_doings, doings-If, doings-While, doings-Do, doings-Switch, doings-Block, doings-For}
 
-heaps-append : (p : Program) (ds es : List Doing) → heaps p (ds ++ es) ≡ heaps p ds ++ heaps p es
+pub heaps-append : (p : Program) (ds es : List Doing) → heaps p (ds ++ es) ≡ heaps p ds ++ heaps p es
 heaps-append p [] es = refl
 heaps-append p (d ∷ ds) es = ap (λ (hs : List Heap). doing_heaps p d ++ hs) (heaps-append p ds es) ∙ sym (append_assoc (doing_heaps p d) (heaps p ds) (heaps p es))
 

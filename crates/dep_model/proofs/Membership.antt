@@ -1,6 +1,7 @@
 -- Members of lists, one element after another.
 use Rattle.std.proofs.Common.{◌≡◌, zero, suc, List, [], ◌∷◌, ◌++◌, ◌⊎◌, inl, inr, map, arith, refl, ap, Bool, true, false, sym, subst}
-use Rattle.std.specs.Prelude.{Contains, if◌then◌else◌}
+use Rattle.std.specs.Prelude.{ℕ, Some, Contains, slice_get, if◌then◌else◌}
+use Rattle.c_language.proofs.Options.{some_same, none_there}
 
 abbrev pub IsIn : {A : Type 0} → List A → A → Type 0
 IsIn [] x = ⊥
@@ -15,6 +16,11 @@ pub contains_of_in : {A : Type 0} (xs : List A) (x : A) → IsIn xs x → Contai
 contains_of_in [] x h = absurd h
 contains_of_in (y ∷ ys) x (inl e) = (zero, omega arith, e)
 contains_of_in (y ∷ ys) x (inr h) = let c = contains_of_in ys x h in (suc c.0, omega (arith, c.1), c.2)
+
+pub in_of_get : {A : Type 0} (xs : List A) (k : ℕ) (x : A) → slice_get xs k ≡ Some x → IsIn xs x
+in_of_get [] k x e = none_there e
+in_of_get (y ∷ xs) zero x e = inl (some_same e)
+in_of_get (y ∷ xs) (suc k) x e = inr (in_of_get xs k x e)
 
 pub in_first : {A : Type 0} (xs ys : List A) (x : A) → IsIn xs x → IsIn (xs ++ ys) x
 in_first [] ys x h = absurd h

@@ -3,7 +3,6 @@ use Rattle.std.proofs.Common.{◌≡◌, ℕ, zero, suc, ◌+◌, List, [], ◌�
 use Rattle.std.proofs.lemmas.Option.{slice_get_read}
 use Rattle.std.specs.Option.{option_map_or, option_and_then}
 use Rattle.std.specs.Prelude.{slice_get, Contains}
-use Rattle.c_arith.specs.declared.int_type.IntType.{IntType}
 use Rattle.c_tree.specs.declared.types.CType.{CType}
 use Rattle.c_tree.specs.declared.types.CType.TheVariants as type
 use Rattle.c_tree.specs.declared.program.Member.{Member}
@@ -20,25 +19,25 @@ use Rattle.c_language.specs.Words.{Bytes}
 use Rattle.c_language.specs.ConstantEvaluation.{both}
 use Rattle.c_language.specs.DeclaredTypes.{StructText, struct_texts, defined_structs, struct_id, length_in, type_step, type_with, written_type, with_layer, of_base, pointer_to}
 use Rattle.c_language.specs.ExprRules.{complete_in, is_complete}
-use Rattle.c_language.specs.Phrases.{HasMember, member_phrases, item_phrases, items_phrases, after_item, phrases}
-use Rattle.c_language.specs.ProgramOf.{length_words, ctype_step, ctype_with, ctype, member_tree, struct_tree, structs_of, collected, program_of}
+use Rattle.c_language.specs.Phrases.{HasMember, member_phrases, item_phrases, items_phrases, after_item}
+use Rattle.c_language.specs.ProgramOf.{length_words, ctype_step, ctype_with, ctype, member_tree, struct_tree, collected, program_of}
 use Rattle.c_language.specs.Programs.{IsWellFormed}
 use Rattle.c_language.specs.Rules.{Breaks, AreKept, KeepsRules}
 use Rattle.c_language.specs.Scopes.{Scope, outset}
 use Rattle.c_language.specs.StructRules.{MisusesTag}
-use Rattle.c_language.specs.TreeTypes.{shape_of, members_of}
+use Rattle.c_language.specs.TreeTypes.{shape_of}
 use Rattle.c_language.specs.declared.expr_type.Base.{Base}
 use Rattle.c_language.specs.declared.expr_type.Base.TheVariants as base
 use Rattle.c_language.specs.declared.expr_type.Layer.{Layer}
 use Rattle.c_language.specs.declared.expr_type.Layer.TheVariants as layer
 use Rattle.c_language.specs.declared.expr_type.ExprType.{ExprType}
-use Rattle.c_language.proofs.Options.{map_there, both_there, more_there, some_same, none_there}
+use Rattle.c_language.proofs.Options.{map_there, more_there, some_same, none_there}
 use Rattle.c_language.proofs.PhraseLists.{kept_first, kept_second, phrases_kept}
 use Rattle.c_language.proofs.ProgramParts.{made_of}
 use Rattle.c_types_base.proofs.ListingLaws.{item_structs}
 use Rattle.tree_types.proofs.TypeForms.{shape-Integer, shape-PointerTo, shape-Array, shape-Struct}
-use Rattle.dep_model.specs.LocationLists.{is_base_before, are_layers_before, is_before, AreStructsInOrder}
-use Rattle.dep_model.proofs.Membership.{IsIn, in_of_contains}
+use Rattle.dep_model.specs.LocationLists.{are_layers_before, is_before, AreStructsInOrder}
+use Rattle.dep_model.proofs.Membership.{IsIn, in_of_contains, in_of_get}
 
 -- ---- a written type, and that of the tree
 
@@ -90,11 +89,6 @@ collected_at f (x ∷ xs) ys h zero y e =
 collected_at f (x ∷ xs) ys h (suc s) y e =
     let m = more_there (f x) (map f xs) ys h in
     collected_at f xs m.rest m.rest_there s y (ap (λ l. slice_get l (suc s)) m.same ∙ e)
-
-in_of_get : {A : Type 0} (xs : List A) (k : ℕ) (x : A) → slice_get xs k ≡ Some x → IsIn xs x
-in_of_get [] k x e = none_there e
-in_of_get (y ∷ xs) zero x e = inl (some_same e)
-in_of_get (y ∷ xs) (suc k) x e = inr (in_of_get xs k x e)
 
 -- ---- the phrases of struct types
 

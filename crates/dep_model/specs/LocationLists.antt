@@ -1,5 +1,5 @@
 -- The list of a program's locations, and the order of struct types by which it is finite.
-use Rattle.std.specs.Prelude.{◌≡◌, ℕ, Bool, true, List, [], ◌∷◌, map, nat_lt, Contains}
+use Rattle.std.specs.Prelude.{◌≡◌, ℕ, Bool, true, List, [], ◌∷◌, map, nat_lt, slice_get, Some, Contains}
 use Rattle.c_tree.specs.declared.program.Member.{Member}
 use Rattle.c_tree.specs.declared.program.Program.{Program}
 use Rattle.c_language.specs.declared.expr_type.Base.{Base}
@@ -32,3 +32,7 @@ is_before n t = are_layers_before n t.layers t.base
 -- no struct type has itself or a later one in it (ISO C99 6.7.2.1, paragraph 2)
 abbrev pub AreStructsInOrder : Program → Type 0
 AreStructsInOrder p = (s : ℕ) (m : Member) → Contains (members_of p s) m → is_before s (shape_of m.shape) ≡ true
+
+-- no location of the program stands in its list twice
+pub record AreListedOnce (p : Program) : Type 0 where
+  pub once : (j k : ℕ) (l : Location) → slice_get (location_list p) j ≡ Some l → slice_get (location_list p) k ≡ Some l → j ≡ k

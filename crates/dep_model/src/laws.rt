@@ -6,3 +6,9 @@ ghost use Rattle.dep_model.specs.Laws as law;
 pub fn programs_have_one_analysis()
     ensures { law.ProgramsHaveOneAnalysis }
 {}
+
+/// A law: no location stands twice in the list of a program's locations, so that the place of one tells
+/// it, where the statements of the program, function by function, have the numbers 0, 1, and so on.
+pub fn locations_are_listed_once()
+    ensures { law.LocationsAreListedOnce }
+{}

@@ -23,7 +23,7 @@ pub use facts::{Facts, WordList};
 pub use graph::{EdgeList, FunctionGraph, Graph, OutRow, OutRowList};
 pub use graph_fault::GraphFault;
 pub use groups::{Group, StatementVertices, numbers_of};
-pub use laws::programs_have_one_analysis;
+pub use laws::{locations_are_listed_once, programs_have_one_analysis};
 pub use location::{Location, LocationId, LocationPath, Part, Root};
 pub use locations::Locations;
 pub use pair_order::ascend;
