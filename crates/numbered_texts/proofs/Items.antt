@@ -75,7 +75,7 @@ module _ (raw : RawProgram) where
   -- ---- functions
 
   -- where the items from a scope on have these functions
-  abbrev HasFunctions : List RawItem → Scope → List Function → Type 0
+  abbrev pub HasFunctions : List RawItem → Scope → List Function → Type 0
   HasFunctions xs scope fs = collected (functions_from raw xs scope) ≡ Some fs
 
   same_takes : (ds : List Doing) (i j k : ℕ) → j ≡ i → Takes ds j k → Takes ds i k

@@ -185,10 +185,10 @@ module _ (p : Program) where
     Lists places = (l : Location) → places l ≡ true → IsListed p l
 
     -- all that an expression denotes is listed
-    record Fine (d : Denoted) : Type 0 where
-      places : Lists d.places
-      points : Lists d.points
-      reads : Lists d.reads
+    pub record Fine (d : Denoted) : Type 0 where
+      pub places : Lists d.places
+      pub pointed : Lists d.points
+      pub reads : Lists d.reads
 
     place_listed : (k : ℕ) → Lists (of_location p points (slice_get (locations p) k))
     place_listed k l h = by_place (slice_get (locations p) k) refl h
@@ -224,7 +224,7 @@ module _ (p : Program) where
 
     points_list : (d : Denoted) → Fine d → Lists (value_points p points d)
     points_list d fine l is =
-        if_listed (is_array_place d.form) (part_of p part.Element d.places l) _ l (part_lists part.Element d.places l) (if_listed d.form.is_place (object_points p points d l) (d.points l) l (object_lists d l) (fine.points l)) is
+        if_listed (is_array_place d.form) (part_of p part.Element d.places l) _ l (part_lists part.Element d.places l) (if_listed d.form.is_place (object_points p points d l) (d.points l) l (object_lists d l) (fine.pointed l)) is
 
     two_reads : (d e : Denoted) → Fine d → Fine e → (l : Location) → (value_reads p points d l || value_reads p points e l) ≡ true → IsListed p l
     two_reads d e fine other = either_lists (value_reads p points d) (value_reads p points e) (reads_list d fine) (reads_list e other)
@@ -250,39 +250,39 @@ module _ (p : Program) where
     den k = denoted p points k.0
 
     layer_fine : (f : Designated) (y : Expr-F Known) → names_step (length p.vars) (map-Expr Expr Bool (names_below (length p.vars)) (layer y)) ≡ true → Fine (denoted_as p points f (map-Expr Expr Denoted (denoted p points) (layer y)))
-    layer_fine f (Expr-F.Constant t k v) h = record { places = none_lists; points = none_lists; reads = none_lists }
-    layer_fine f Expr-F.Null h = record { places = none_lists; points = none_lists; reads = none_lists }
-    layer_fine f Expr-F.Eof h = record { places = none_lists; points = none_lists; reads = none_lists }
-    layer_fine f (Expr-F.Variable x) h = record { places = whole_listed x (ltb-true x (length p.vars) h); points = none_lists; reads = none_lists }
-    layer_fine f (Expr-F.Unary op a) h = record { places = none_lists; points = none_lists; reads = reads_list (den a) (a.1 h) }
-    layer_fine f (Expr-F.Deref a) h = record { places = points_list (den a) (a.1 h); points = none_lists; reads = reads_list (den a) (a.1 h) }
-    layer_fine f (Expr-F.AddressOf a) h = record { places = none_lists; points = (a.1 h).places; reads = (a.1 h).reads }
+    layer_fine f (Expr-F.Constant t k v) h = record { places = none_lists; pointed = none_lists; reads = none_lists }
+    layer_fine f Expr-F.Null h = record { places = none_lists; pointed = none_lists; reads = none_lists }
+    layer_fine f Expr-F.Eof h = record { places = none_lists; pointed = none_lists; reads = none_lists }
+    layer_fine f (Expr-F.Variable x) h = record { places = whole_listed x (ltb-true x (length p.vars) h); pointed = none_lists; reads = none_lists }
+    layer_fine f (Expr-F.Unary op a) h = record { places = none_lists; pointed = none_lists; reads = reads_list (den a) (a.1 h) }
+    layer_fine f (Expr-F.Deref a) h = record { places = points_list (den a) (a.1 h); pointed = none_lists; reads = reads_list (den a) (a.1 h) }
+    layer_fine f (Expr-F.AddressOf a) h = record { places = none_lists; pointed = (a.1 h).places; reads = (a.1 h).reads }
     layer_fine f (Expr-F.Binary op a b) h =
         let k = and_parts (names_below (length p.vars) a.0) (names_below (length p.vars) b.0) h in
-        record { places = none_lists; points = two_points _ (den a) (den b) (a.1 k.0) (b.1 k.1); reads = two_reads (den a) (den b) (a.1 k.0) (b.1 k.1) }
+        record { places = none_lists; pointed = two_points _ (den a) (den b) (a.1 k.0) (b.1 k.1); reads = two_reads (den a) (den b) (a.1 k.0) (b.1 k.1) }
     layer_fine f (Expr-F.AndAlso a b) h =
         let k = and_parts (names_below (length p.vars) a.0) (names_below (length p.vars) b.0) h in
-        record { places = none_lists; points = none_lists; reads = two_reads (den a) (den b) (a.1 k.0) (b.1 k.1) }
+        record { places = none_lists; pointed = none_lists; reads = two_reads (den a) (den b) (a.1 k.0) (b.1 k.1) }
     layer_fine f (Expr-F.OrElse a b) h =
         let k = and_parts (names_below (length p.vars) a.0) (names_below (length p.vars) b.0) h in
-        record { places = none_lists; points = none_lists; reads = two_reads (den a) (den b) (a.1 k.0) (b.1 k.1) }
+        record { places = none_lists; pointed = none_lists; reads = two_reads (den a) (den b) (a.1 k.0) (b.1 k.1) }
     layer_fine f (Expr-F.Choose c a b) h =
         let j = and_parts (names_below (length p.vars) c.0) (names_below (length p.vars) a.0 && names_below (length p.vars) b.0) h in
         let k = and_parts (names_below (length p.vars) a.0) (names_below (length p.vars) b.0) j.1 in
         record {
           places = none_lists;
-          points = two_points _ (den a) (den b) (a.1 k.0) (b.1 k.1);
+          pointed = two_points _ (den a) (den b) (a.1 k.0) (b.1 k.1);
           reads = either_lists (value_reads p points (den c)) (λ l. value_reads p points (den a) l || value_reads p points (den b) l) (reads_list (den c) (c.1 j.0)) (two_reads (den a) (den b) (a.1 k.0) (b.1 k.1));
         }
-    layer_fine f (Expr-F.Cast t a) h = record { places = none_lists; points = none_lists; reads = reads_list (den a) (a.1 h) }
+    layer_fine f (Expr-F.Cast t a) h = record { places = none_lists; pointed = none_lists; reads = reads_list (den a) (a.1 h) }
     layer_fine f (Expr-F.Index a i) h =
         let k = and_parts (names_below (length p.vars) a.0) (names_below (length p.vars) i.0) h in
         element_fine (is_array_place (den a).form) _ _
-        (record { places = part_lists part.Element (den a).places; points = none_lists; reads = either_lists (den a).reads (value_reads p points (den i)) (a.1 k.0).reads (reads_list (den i) (i.1 k.1)) })
-        (record { places = points_list (den a) (a.1 k.0); points = none_lists; reads = two_reads (den a) (den i) (a.1 k.0) (i.1 k.1) })
-    layer_fine f (Expr-F.Member a m) h = record { places = part_lists (part.Member m.index) (den a).places; points = none_lists; reads = (a.1 h).reads }
-    layer_fine f (Expr-F.Arrow a m) h = record { places = part_lists (part.Member m.index) (value_points p points (den a)); points = none_lists; reads = reads_list (den a) (a.1 h) }
-    layer_fine f (Expr-F.Paren a) h = record { places = (a.1 h).places; points = (a.1 h).points; reads = (a.1 h).reads }
+        (record { places = part_lists part.Element (den a).places; pointed = none_lists; reads = either_lists (den a).reads (value_reads p points (den i)) (a.1 k.0).reads (reads_list (den i) (i.1 k.1)) })
+        (record { places = points_list (den a) (a.1 k.0); pointed = none_lists; reads = two_reads (den a) (den i) (a.1 k.0) (i.1 k.1) })
+    layer_fine f (Expr-F.Member a m) h = record { places = part_lists (part.Member m.index) (den a).places; pointed = none_lists; reads = (a.1 h).reads }
+    layer_fine f (Expr-F.Arrow a m) h = record { places = part_lists (part.Member m.index) (value_points p points (den a)); pointed = none_lists; reads = reads_list (den a) (a.1 h) }
+    layer_fine f (Expr-F.Paren a) h = record { places = (a.1 h).places; pointed = (a.1 h).pointed; reads = (a.1 h).reads }
 
     rolled_fine : (y : Expr-F Expr)
         → (names_step (length p.vars) (map-Expr Expr Bool (names_below (length p.vars)) y) ≡ true → Fine (denoted_step p points (map-Expr Expr Denoted (denoted p points) y)))
@@ -377,7 +377,7 @@ module _ (p : Program) where
           by_test true t k later = subst (λ y. doing_below n y ≡ true) (same_Some _ _ (sym (ap (λ b. cond b (Some x) (find (has_number i) ds)) t) ∙ is)) k.0
           by_test false t k later = later k.1 (sym (ap (λ b. cond b (Some x) (find (has_number i) ds)) t) ∙ is)
 
-      IsBelowIf : Option Doing → Type 0
+      abbrev IsBelowIf : Option Doing → Type 0
       IsBelowIf None = Unit {0}
       IsBelowIf (Some d) = doing_below n d ≡ true
 
@@ -429,7 +429,7 @@ module _ (p : Program) where
         IsFineKind f (kind.FormalOut s) = GoesOut f s
         IsFineKind f _ = Unit {0}
 
-        AllFine : ℕ → List VertexKind → Type 0
+        abbrev AllFine : ℕ → List VertexKind → Type 0
         AllFine f ks = (k : VertexKind) → IsIn ks k → IsFineKind f k
 
         both_fine : (f : ℕ) (ks js : List VertexKind) → AllFine f ks → AllFine f js → AllFine f (ks ++ js)
@@ -451,7 +451,7 @@ module _ (p : Program) where
             by_test true (inr d) later = later d
             by_test false d later = later d
 
-        result_out : (f : ℕ) (s : Slot) → IsIn (result_slots p f) s → GoesOut f s
+        result_out : (f : ℕ) (s : Slot) → IsIn (result_slots p effects f) s → GoesOut f s
         result_out f s c = let w = if_in (has_result p f && not (is_main_of p f)) (slot.Result ∷ []) s c in by_one w.1 (and_parts (has_result p f) _ w.0).0
           where
             by_one : IsIn (slot.Result ∷ []) s → has_result p f ≡ true → GoesOut f s
@@ -459,7 +459,7 @@ module _ (p : Program) where
             by_one (inr d) h = absurd d
 
         outs_fine : (f : ℕ) → AllFine f (formal_outs p effects f)
-        outs_fine f = mapped_fine f kind.FormalOut (slots_of p effects (effects.modified f) ++ result_slots p f) (λ s c. elim (in_either (slots_of p effects (effects.modified f)) (result_slots p f) s c) [
+        outs_fine f = mapped_fine f kind.FormalOut (slots_of p effects (effects.modified f) ++ result_slots p effects f) (λ s c. elim (in_either (slots_of p effects (effects.modified f)) (result_slots p effects f) s c) [
           | inl t ↦ slots_out f (effects.modified f) 0 (locations p) s t
           | inr t ↦ result_out f s t
         ])
@@ -467,15 +467,21 @@ module _ (p : Program) where
         doing_fine : (f : ℕ) (d : Doing) → AllFine f (doing_vertices p effects d)
         doing_fine f (Does i a) = one_fine f (kind.Statement i) tt
         doing_fine f (Calls i to g args) =
-            both_fine f (kind.Call i ∷ []) _ (one_fine f (kind.Call i) tt) (both_fine f _ _ (mapped_fine f (kind.ActualIn i) _ (λ s c. tt)) (mapped_fine f (kind.ActualOut i) _ (λ s c. tt)))
+            let ins = arguments_from 0 args ++ slots_of p effects (touched p effects g) in
+            let outs = slots_of p effects (effects.modified g) ++ target_slots p effects to in
+            both_fine f (kind.Call i ∷ []) (map (kind.ActualIn i) ins ++ map (kind.ActualOut i) outs) (one_fine f (kind.Call i) tt)
+            (both_fine f (map (kind.ActualIn i) ins) (map (kind.ActualOut i) outs) (mapped_fine f (kind.ActualIn i) ins (λ s c. tt)) (mapped_fine f (kind.ActualOut i) outs (λ s c. tt)))
 
         all_fine : (f : ℕ) (ds : List Doing) → AllFine f (all_vertices p effects ds)
         all_fine f [] k c = absurd c
-        all_fine f (d ∷ ds) = both_fine f (doing_vertices p effects d) (all_vertices p effects ds) (doing_fine f d) (all_fine f ds)
+        all_fine f (d ∷ ds) k c = both_fine f (doing_vertices p effects d) (all_vertices p effects ds) (doing_fine f d) (all_fine f ds) k c
 
         kinds_fine : (f : ℕ) → AllFine f (function_kinds p effects f)
         kinds_fine f =
-            both_fine f (kind.Entry ∷ []) _ (one_fine f kind.Entry tt) (both_fine f (formal_ins p effects f) _ (mapped_fine f kind.FormalIn _ (λ s c. tt)) (both_fine f (all_vertices p effects (doings_of p f)) _ (all_fine f (doings_of p f)) (outs_fine f)))
+            let ins = arguments_from 0 (parameters p f) ++ slots_of p effects (touched p effects f) in
+            let inner = all_vertices p effects (doings_of p f) in
+            both_fine f (kind.Entry ∷ []) (formal_ins p effects f ++ (inner ++ formal_outs p effects f)) (one_fine f kind.Entry tt)
+            (both_fine f (formal_ins p effects f) (inner ++ formal_outs p effects f) (mapped_fine f kind.FormalIn ins (λ s c. tt)) (both_fine f inner (formal_outs p effects f) (all_fine f (doings_of p f)) (outs_fine f)))
 
         vertices_fine : (f : ℕ) (gs : List Function) (v : Vertex) → IsIn (vertices_from p effects f gs) v → IsFineKind v.function v.kind
         vertices_fine f [] v c = absurd c
