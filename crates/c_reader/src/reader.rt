@@ -10,10 +10,10 @@ ghost use Rattle.c_types.specs.declared.rule_fault.RuleFault.{RuleFault};
 
 use crate::refusal::ReadRefusal;
 use c_language::Token;
-use c_lex::{LexFault, lex};
-use c_parse::{ParseFault, parse};
+use c_lex::lex;
+use c_parse::parse;
 use c_tree::{Program, RawProgram};
-use c_types::{RuleFault, check};
+use c_types::check;
 use std::alloc::Global;
 
 /// The tokens of the text.
@@ -21,11 +21,7 @@ fn lexed(alloc: Global, text: &[u8]) -> Result<Vec<Token>, ReadRefusal>
     requires { length text.now < 2 ^ 32 }
     ensures { Lexes text.now result }
 {
-    match lex(alloc, text) {
-        Ok(tokens) => Ok(tokens),
-        Err(LexFault::NoMemory) => Err(ReadRefusal::NoMemory),
-        Err(fault) => Err(ReadRefusal::Lex(fault)),
-    }
+    Ok(lex(alloc, text)?)
 }
 
 /// The tree of the tokens.
@@ -33,11 +29,7 @@ fn parsed(alloc: Global, tokens: &[Token]) -> Result<RawProgram, ReadRefusal>
     requires { All IsFormed tokens.now }
     ensures { Parses tokens.now result }
 {
-    match parse(alloc, tokens) {
-        Ok(raw) => Ok(raw),
-        Err(ParseFault::NoMemory) => Err(ReadRefusal::NoMemory),
-        Err(fault) => Err(ReadRefusal::Parse(fault)),
-    }
+    Ok(parse(alloc, tokens)?)
 }
 
 /// The program of the tree.
@@ -46,11 +38,7 @@ fn checked(alloc: Global, raw: RawProgram) -> Result<Program, ReadRefusal>
     requires nesting { program_nesting raw ≤ 100 }
     ensures { Checks raw result }
 {
-    match check(alloc, raw) {
-        Ok(program) => Ok(program),
-        Err(RuleFault::NoMemory) => Err(ReadRefusal::NoMemory),
-        Err(fault) => Err(ReadRefusal::Check(fault)),
-    }
+    Ok(check(alloc, raw)?)
 }
 
 /// What is answered, with the tokens and the tree that it is answered for.

@@ -1,4 +1,7 @@
 //! The reasons why a text isn't read, from its tokens to the rules that its tree must keep.
+ghost use Rattle.std.specs.Prelude.{◌≡◌};
+ghost use Rattle.c_reader.specs.Faults.{of_lexer, of_parser, of_check};
+
 use c_lex::LexFault;
 use c_parse::ParseFault;
 use c_types::RuleFault;
@@ -19,4 +22,37 @@ pub enum ReadRefusal {
     /// Memory ran out.
     #[error("out of memory")]
     NoMemory,
+}
+
+impl From<LexFault> for ReadRefusal {
+    ghost from_gives = { λ fault refusal. refusal ≡ of_lexer fault };
+
+    fn from(fault: LexFault) -> ReadRefusal {
+        match fault {
+            LexFault::NoMemory => ReadRefusal::NoMemory,
+            fault => ReadRefusal::Lex(fault),
+        }
+    }
+}
+
+impl From<ParseFault> for ReadRefusal {
+    ghost from_gives = { λ fault refusal. refusal ≡ of_parser fault };
+
+    fn from(fault: ParseFault) -> ReadRefusal {
+        match fault {
+            ParseFault::NoMemory => ReadRefusal::NoMemory,
+            fault => ReadRefusal::Parse(fault),
+        }
+    }
+}
+
+impl From<RuleFault> for ReadRefusal {
+    ghost from_gives = { λ fault refusal. refusal ≡ of_check fault };
+
+    fn from(fault: RuleFault) -> ReadRefusal {
+        match fault {
+            RuleFault::NoMemory => ReadRefusal::NoMemory,
+            fault => ReadRefusal::Check(fault),
+        }
+    }
 }

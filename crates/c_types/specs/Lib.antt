@@ -1,2 +1,3 @@
 pub mod Checker
+pub mod Faults
 pub mod Limits

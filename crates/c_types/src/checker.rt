@@ -1,7 +1,8 @@
 //! The check of a text: its rules, then its program, then the limits.
-ghost use Rattle.std.specs.Prelude.{ℕ, ◌≤◌};
+ghost use Rattle.std.specs.Prelude.{◌≡◌, ℕ, ◌<◌, ◌≤◌, MatchResult};
 ghost use Rattle.c_tree.specs.declared.limits.LimitName.{LimitName};
 ghost use Rattle.c_tree.specs.declared.program.Program.{Program};
+ghost use Rattle.c_language.specs.Limits as limits;
 ghost use Rattle.c_language.specs.Programs.{HasProgram, IsTree};
 ghost use Rattle.c_language.specs.Rules.{IsBroken, KeepsRules};
 ghost use Rattle.c_language.specs.StatementNesting.{program_nesting};
@@ -10,8 +11,8 @@ ghost use Rattle.c_types.specs.Checker.{IsAbove, IsWithinNumbers, Answers, Gives
 use crate::limits::{MAX_ARRAY_LENGTH, MAX_OBJECT_CELLS, array_length, object_cells};
 use crate::rule_fault::RuleFault;
 use c_tree::{LimitName, Program, RawProgram};
-use c_types_program::{MakeFault, make_program};
-use c_types_rules::{WalkFault, check_rules};
+use c_types_program::make_program;
+use c_types_rules::check_rules;
 use std::alloc::Global;
 
 /// The rules of the text, one by one.
@@ -19,11 +20,7 @@ fn keep_rules(alloc: Global, raw: &RawProgram) -> Result<(), RuleFault>
     ensures told { Told raw.now result }
     ensures first { TellsFirst raw.now result }
 {
-    match check_rules(alloc, raw) {
-        Ok(()) => Ok(()),
-        Err(WalkFault::Rule(number, line)) => Err(RuleFault::Rule(number, line)),
-        Err(WalkFault::NoMemory) => Err(RuleFault::NoMemory),
-    }
+    Ok(check_rules(alloc, raw)?)
 }
 
 /// The program of the text. Where the tree can't hold a length, it is above its limit.
@@ -34,11 +31,29 @@ fn made(alloc: Global, raw: &RawProgram) -> Result<Program, RuleFault>
     ensures made { Made raw.now result }
     ensures first { TellsFirst raw.now result }
 {
-    match make_program(alloc, raw) {
-        Ok(program) => Ok(program),
-        Err(MakeFault::Length) => Err(RuleFault::Limit(LimitName::ArrayLength)),
-        Err(MakeFault::NoMemory) => Err(RuleFault::NoMemory),
+    Ok(make_program(alloc, raw)?)
+}
+
+/// Err: an array length is above its number. No memory is asked for.
+fn lengths_within(program: &Program) -> Result<(), RuleFault>
+    ensures { MatchResult result (λ _. limits.array_length program.now ≤ 65536)
+        (λ fault. (fault ≡ RuleFault.Limit LimitName.ArrayLength) × (65536 < limits.array_length program.now)) }
+{
+    if array_length(program) > MAX_ARRAY_LENGTH {
+        return Err(RuleFault::Limit(LimitName::ArrayLength));
     }
+    Ok(())
+}
+
+/// Err: so many object cells are above their number. No memory is asked for.
+fn cells_within(cells: u64) -> Result<(), RuleFault>
+    ensures { MatchResult result (λ _. cells ≤ 1048576)
+        (λ fault. (fault ≡ RuleFault.Limit LimitName.ObjectCells) × (1048576 < cells)) }
+{
+    if cells > MAX_OBJECT_CELLS {
+        return Err(RuleFault::Limit(LimitName::ObjectCells));
+    }
+    Ok(())
 }
 
 /// The program, where its quantities are within their numbers.
@@ -48,12 +63,8 @@ fn within(alloc: Global, raw: &RawProgram, program: Program) -> Result<Program, 
     ensures right { Answers raw.now result }
     ensures first { TellsFirst raw.now result }
 {
-    if array_length(&program) > MAX_ARRAY_LENGTH {
-        return Err(RuleFault::Limit(LimitName::ArrayLength));
-    }
-    if object_cells(alloc, &program)? > MAX_OBJECT_CELLS {
-        return Err(RuleFault::Limit(LimitName::ObjectCells));
-    }
+    lengths_within(&program)?;
+    cells_within(object_cells(alloc, &program)?)?;
     Ok(program)
 }
 
