@@ -11,7 +11,7 @@ pub enum ParseFault {
     /// The tokens have no tree. The line is that of a token at which reading stopped.
     #[error("syntax")]
     Syntax(u32),
-    /// The tokens nest deeper than 100. The line is that of a token at which reading stopped.
+    /// The tokens nest deeper than 100. The line is that of one of them.
     #[error("nesting")]
     Nesting(u32),
     /// Memory ran out.

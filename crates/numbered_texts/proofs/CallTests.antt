@@ -1,18 +1,11 @@
 -- A test that acts and calls by which no rule is broken pass is passed by all statements of a body.
-use Rattle.std.proofs.Common.{◌≡◌, ℕ, suc, List, [], ◌∷◌, ◌++◌, map, length, Bool, true, false, cond, Option, Some, None, option_map, option_and_then, find, position, bytes_eq, refl, sym, ap, subst, ◌∙◌, ◌||◌, arith}
-use Rattle.std.proofs.lemmas.Bool.Decides.{nat_tests}
-use Rattle.std.proofs.lemmas.Bool.{true≢false, and_from}
-use Rattle.std.proofs.lemmas.List.{length-map}
-use Rattle.std.proofs.lemmas.Option.{slice_get-map}
-use Rattle.std.specs.Prelude.{◌==◌, codes, slice_get, if◌then◌else◌}
-use Rattle.std.specs.Option.{option_map_or}
+use Rattle.std.proofs.Common.{◌≡◌, ℕ, List, [], ◌∷◌, ◌++◌, map, Bool, true, false, Option, Some, None, option_map, option_and_then, bytes_eq, refl, sym, ap, subst, ◌∙◌, ◌||◌}
+use Rattle.std.proofs.lemmas.Bool.{and_from}
+use Rattle.std.specs.Prelude.{codes, if◌then◌else◌}
 use Rattle.std.specs.List.{list_all}
 use Rattle.c_arith.specs.declared.int_type.IntType.{IntType}
 use Rattle.c_tree.specs.declared.expr.Expr.{Expr}
 use Rattle.c_tree.specs.declared.raw.expr.RawExpr.{RawExpr}
-use Rattle.c_tree.specs.declared.raw.program.RawHead.{RawHead}
-use Rattle.c_tree.specs.declared.raw.program.RawInit.{RawInit}
-use Rattle.c_tree.specs.declared.raw.program.RawInit.TheVariants as init
 use Rattle.c_tree.specs.declared.raw.program.RawProgram.{RawProgram}
 use Rattle.c_tree.specs.declared.raw.statement.RawArg.{RawArg}
 use Rattle.c_tree.specs.declared.raw.statement.RawArm.{RawArm, roll-RawArm, map-RawArm, fold-roll-RawArm}
@@ -27,15 +20,15 @@ use Rattle.c_language.specs.Words.{Bytes}
 use Rattle.c_language.specs.Code.{Act, Tests}
 use Rattle.c_language.specs.CallRules.{format_in, later_args}
 use Rattle.c_language.specs.ConstantEvaluation.{both}
-use Rattle.c_language.specs.DeclaredTypes.{defined_functions, definition_of, function_id}
+use Rattle.c_language.specs.DeclaredTypes.{function_id}
 use Rattle.c_language.specs.Phrases.{Stand, InBlock, InArm, InFor, Calls as CallsOf, Tests as TestOf, Phrases, phrase, target_phrases, joined_at, block_phrases, ArmText, phrases_of_arms, scoped_step, scoped_arm, scoped, scoped_of_arm, body_phrases}
-use Rattle.c_language.specs.ProgramOf.{collected, optional, ctype_if, expr_of, init_of, declaration_id, target_tree, arg_tree, args_tree, only_tree, amount_tree, invoke_tree, call_tree, label_tree, arm_tree, ArmTree, arm_tree_step, block_tree, at_type, switch_type, for_tree, treed_step, treed, body_of, treed_arm}
-use Rattle.c_language.specs.Rules.{Breaks, AreKept, KeepsAll}
-use Rattle.c_language.specs.Scopes.{Scope, Scoped, opened, numbered, with_variable, with_target, in_order, after_all, after_block}
+use Rattle.c_language.specs.ProgramOf.{collected, optional, ctype_if, expr_of, init_of, declaration_id, target_tree, args_tree, only_tree, amount_tree, invoke_tree, call_tree, label_tree, arm_tree, ArmTree, arm_tree_step, block_tree, at_type, switch_type, for_tree, treed_step, treed, body_of, treed_arm}
+use Rattle.c_language.specs.Rules.{AreKept, KeepsAll}
+use Rattle.c_language.specs.Scopes.{Scope, Scoped, opened, numbered, with_variable, with_target, in_order, after_block}
 use Rattle.c_language.specs.TypeGrammar.{named_type}
 use Rattle.c_language.specs.Uses.{is_library_function}
-use Rattle.c_language.proofs.Lists.{all_append, position-cons}
-use Rattle.c_language.proofs.Options.{none_there, some_same, optional_there, map_there, then_there, both_there, more_there}
+use Rattle.c_language.proofs.Lists.{all_append}
+use Rattle.c_language.proofs.Options.{some_same, optional_there, map_there, then_there, both_there, more_there}
 use Rattle.c_language.proofs.PhraseLists.{body_in_order, kept_first, kept_second}
 use Rattle.c_language.proofs.TreeScopes.{after_same, list_after, block_after_same}
 use Rattle.built_forms.proofs.Options.{Always, always_map, always_then, always_is}
@@ -88,10 +81,10 @@ module _ (raw : RawProgram) (ok : Doing → Bool) (passing : IsCallTest raw ok) 
       always_else IsFit (bytes_eq f (codes "printf")) _ _ (always_then IsFit _ (format_in args) (λ text. always_map IsFit (s.Print id l text) (args_tree raw inner (later_args args)) (λ es. acts (s.Print id l text es) _ (doings-Print id l text es) (passing.act id _)))) (λ n3.
       always_else IsFit (bytes_eq f (codes "free")) _ _ (always_map IsFit (s.Release id l) (only_tree raw inner args) (λ e. acts (s.Release id l e) _ (doings-Release id l e) (passing.act id _))) (λ n4.
       always_there IsFit (invoke_tree raw inner id l t f args) (λ x e.
-        let a = then_there (λ (z : Target). both (s.Invoke id l z) (function_id raw f) (args_tree raw inner args)) t x e in
-        let k = both_there (s.Invoke id l a.value) (function_id raw f) (args_tree raw inner args) x a.same in
-        let own : is_library_function f ≡ false = no_library (bytes_eq f (codes "getchar")) (bytes_eq f (codes "putchar")) (bytes_eq f (codes "printf")) (bytes_eq f (codes "free")) n1 n2 n3 n4 in
-        subst IsFit k.same (acts (s.Invoke id l a.value k.left k.right) _ (doings-Invoke id l a.value k.left k.right) (passing.call l id stand to f args scope a.value k.left k.right kept own a.there k.left_there k.right_there)))))))
+      let a = then_there (λ (z : Target). both (s.Invoke id l z) (function_id raw f) (args_tree raw inner args)) t x e in
+      let k = both_there (s.Invoke id l a.value) (function_id raw f) (args_tree raw inner args) x a.same in
+      let own : is_library_function f ≡ false = no_library (bytes_eq f (codes "getchar")) (bytes_eq f (codes "putchar")) (bytes_eq f (codes "printf")) (bytes_eq f (codes "free")) n1 n2 n3 n4 in
+      subst IsFit k.same (acts (s.Invoke id l a.value k.left k.right) _ (doings-Invoke id l a.value k.left k.right) (passing.call l id stand to f args scope a.value k.left k.right kept own a.there k.left_there k.right_there)))))))
 
   heap_fits : (id l : ℕ) (t : Option Target) (c : Option _) (n : Option _) → Always IsFit (option_and_then (λ (z : Target). option_and_then (λ k. option_map (s.Heap id l z k) n) c) t)
   heap_fits id l t c n = always_then IsFit _ t (λ z. always_then IsFit _ c (λ k. always_map IsFit (s.Heap id l z k) n (λ m. acts (s.Heap id l z k m) _ (doings-Heap id l z k m) (passing.act id _))))

@@ -1,6 +1,6 @@
 -- Each call in a body of a text is of a function that the text defines, with an argument for each of its parameters; and where its
 -- result is stored, the function gives one and isn't main.
-use Rattle.std.proofs.Common.{◌≡◌, ℕ, suc, List, [], ◌∷◌, ◌++◌, map, length, Bool, true, false, cond, Option, Some, None, option_map, option_and_then, find, position, bytes_eq, refl, sym, ap, subst, ◌∙◌, ◌||◌, arith}
+use Rattle.std.proofs.Common.{◌≡◌, ℕ, suc, List, [], ◌∷◌, map, length, Bool, true, false, cond, Option, Some, None, option_map, find, position, bytes_eq, refl, sym, ap, subst, ◌∙◌, arith}
 use Rattle.std.proofs.lemmas.Bool.Decides.{nat_tests}
 use Rattle.std.proofs.lemmas.Bool.{true≢false, and_from, or_right}
 use Rattle.std.proofs.lemmas.List.{length-map}
@@ -8,44 +8,28 @@ use Rattle.std.proofs.lemmas.Option.{slice_get-map}
 use Rattle.std.specs.Prelude.{◌==◌, ◌&&◌, ◌≢◌, not, is_some, slice_get}
 use Rattle.std.specs.Option.{option_map_or}
 use Rattle.std.specs.List.{list_all}
-use Rattle.c_arith.specs.declared.int_type.IntType.{IntType}
 use Rattle.c_tree.specs.declared.expr.Expr.{Expr}
-use Rattle.c_tree.specs.declared.raw.expr.RawExpr.{RawExpr}
 use Rattle.c_tree.specs.declared.raw.program.RawHead.{RawHead}
-use Rattle.c_tree.specs.declared.raw.program.RawInit.{RawInit}
-use Rattle.c_tree.specs.declared.raw.program.RawInit.TheVariants as init
 use Rattle.c_tree.specs.declared.raw.program.RawProgram.{RawProgram}
 use Rattle.c_tree.specs.declared.raw.statement.RawArg.{RawArg}
-use Rattle.c_tree.specs.declared.raw.statement.RawArm.{RawArm, roll-RawArm, map-RawArm, fold-roll-RawArm}
-use Rattle.c_tree.specs.declared.raw.statement.RawStatement.{RawStatement, ind-RawStatement, roll-RawStatement, map-RawStatement, fold-roll-RawStatement}
-use Rattle.c_tree.specs.declared.raw.statement.RawStatement.TheOpen.{RawStatement-F, RawArm-F}
+use Rattle.c_tree.specs.declared.raw.statement.RawStatement.{RawStatement}
 use Rattle.c_tree.specs.declared.raw.expr.RawType.{RawType}
 use Rattle.c_tree.specs.declared.raw.statement.RawTarget.{RawTarget}
 use Rattle.c_tree.specs.declared.raw.statement.RawTarget.TheVariants as target
-use Rattle.c_tree.specs.declared.statement.Arm.{Arm}
 use Rattle.c_tree.specs.declared.statement.Statement.{Statement}
-use Rattle.c_tree.specs.declared.statement.Statement.TheVariants as s
 use Rattle.c_tree.specs.declared.statement.Target.{Target}
 use Rattle.c_language.specs.Words.{Bytes}
-use Rattle.c_language.specs.Code.{Tests}
 use Rattle.c_language.specs.CallRules.{MisusesArguments, MisusesResult}
-use Rattle.c_language.specs.ConstantEvaluation.{both}
 use Rattle.c_language.specs.DeclaredTypes.{defined_functions, definition_of, function_id}
 use Rattle.c_language.specs.NameRules.{MisusesMain, main_name, is_main}
-use Rattle.c_language.specs.Phrases.{Stand, InBlock, InArm, InFor, Calls as CallsOf, Tests as TestOf, Phrases, phrase, target_phrases, joined_at, block_phrases, ArmText, phrases_of_arms, scoped_step, scoped_arm, scoped, scoped_of_arm, body_phrases}
-use Rattle.c_language.specs.ProgramOf.{collected, optional, ctype_if, expr_of, init_of, declaration_id, target_tree, arg_tree, args_tree, only_tree, amount_tree, invoke_tree, call_tree, label_tree, arm_tree, ArmTree, arm_tree_step, block_tree, at_type, switch_type, for_tree, treed_step, treed, body_of, treed_arm}
+use Rattle.c_language.specs.Phrases.{Stand, Calls as CallsOf, phrase, body_phrases}
+use Rattle.c_language.specs.ProgramOf.{collected, target_tree, arg_tree, args_tree, body_of}
 use Rattle.c_language.specs.Rules.{Breaks, AreKept, KeepsAll}
-use Rattle.c_language.specs.Scopes.{Scope, Scoped, opened, numbered, with_variable, with_target, in_order, after_all, after_block}
-use Rattle.c_language.specs.TypeGrammar.{named_type}
+use Rattle.c_language.specs.Scopes.{Scope, with_target}
 use Rattle.c_language.specs.Uses.{is_library_function}
 use Rattle.c_language.proofs.Lists.{same_bytes, position-cons}
-use Rattle.c_language.proofs.Options.{none_there, some_same, optional_there, map_there, then_there, both_there, more_there}
-use Rattle.c_language.proofs.PhraseLists.{body_in_order, kept_first, kept_second}
-use Rattle.c_language.proofs.TreeScopes.{after_same, list_after, block_after_same}
-use Rattle.built_forms.proofs.Options.{Always, always_map, always_then, always_is}
-use Rattle.dep_model.specs.Doings.{Doing, Does, Calls, doings, body_doings}
-use Rattle.dep_model.proofs.DoingForms.{arms_doings, part_doings, doings-Declare, doings-Assign, doings-Bump, doings-Invoke, doings-Fetch, doings-Write, doings-Print, doings-Heap, doings-Release, doings-Return, doings-If, doings-While, doings-Do, doings-Switch, doings-Block, doings-For}
-use Rattle.dep_model.proofs.TextNumbers.{for_some}
+use Rattle.c_language.proofs.Options.{none_there, some_same, map_there, more_there}
+use Rattle.dep_model.specs.Doings.{Calls, body_doings}
 use Rattle.numbered_texts.specs.FittingCalls.{fits, stores, gives}
 use Rattle.numbered_texts.proofs.CallTests.{IsCallTest, body_passes}
 

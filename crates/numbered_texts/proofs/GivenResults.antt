@@ -1,5 +1,5 @@
 -- A call whose result is stored is of a function of the program that has one, and isn't main.
-use Rattle.std.proofs.Common.{◌≡◌, ℕ, List, [], ◌∷◌, map, Bool, true, false, ◌==◌, ◌&&◌, ◌||◌, inl, inr, Option, Some, None, option_map, position, refl, sym, ap, subst, ◌∙◌, eqb-true}
+use Rattle.std.proofs.Common.{◌≡◌, ℕ, List, [], ◌∷◌, Bool, true, false, ◌==◌, ◌&&◌, ◌||◌, inl, inr, Option, Some, None, option_map, refl, sym, ap, ◌∙◌, eqb-true}
 use Rattle.std.specs.Prelude.{not, is_some, slice_get}
 use Rattle.std.specs.List.{list_all}
 use Rattle.std.specs.Option.{option_map_or}
@@ -7,7 +7,6 @@ use Rattle.std.proofs.lemmas.Bool.{false≢true, true≢false, and_from, and_par
 use Rattle.std.proofs.lemmas.Option.{same_Some, slice_get-map}
 use Rattle.c_tree.specs.declared.program.Function.{Function}
 use Rattle.c_tree.specs.declared.program.Program.{Program}
-use Rattle.c_tree.specs.declared.statement.Target.{Target}
 use Rattle.c_language.specs.Mains.{main_of, is_main_of}
 use Rattle.c_language.specs.NameRules.{is_main}
 use Rattle.dep_model.specs.Doings.{Doing, Does, Calls}
@@ -33,6 +32,7 @@ module _ (p : Program) where
           let found = position_found (λ (h : Function). is_main h.name) p.functions m is in
           let same : found.value ≡ g = same_Some _ _ (sym found.at ∙ ap (slice_get p.functions) (eqb-true m f h) ∙ at) in
           absurd (true≢false (sym found.passes ∙ ap (λ (h : Function). is_main h.name) same ∙ other))
+
       by_main : (o : Option ℕ) → main_of p ≡ o → is_main_of p f ≡ false
       by_main None is = ap (λ o. option_map_or (λ m. m == f) o false) is
       by_main (Some m) is = ap (λ o. option_map_or (λ m. m == f) o false) is ∙ by_place m is (m == f) refl

@@ -1,5 +1,5 @@
 -- The functions of a text, item by item: the numbers of their statements, the variables that they name, and main.
-use Rattle.std.proofs.Common.{◌≡◌, ℕ, ◌+◌, ◌≤◌, List, [], ◌∷◌, ◌++◌, map, true, Option, Some, None, refl, sym, ap, subst, ◌∙◌, arith}
+use Rattle.std.proofs.Common.{◌≡◌, ℕ, ◌+◌, ◌≤◌, List, [], ◌∷◌, map, true, Option, Some, None, refl, sym, ap, subst, ◌∙◌, arith}
 use Rattle.std.specs.List.{list_all}
 use Rattle.c_language.proofs.ProgramParts.{function_made}
 use Rattle.c_arith.specs.declared.int_type.IntType.TheVariants.{Int}

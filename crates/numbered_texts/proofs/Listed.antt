@@ -1,6 +1,6 @@
 -- What the vertices of a program may use is listed among its locations, where the variables that its statements name are its own.
-use Rattle.std.proofs.Common.{append-nil, find, cond, ◌≡◌, ℕ, zero, suc, ◌+◌, ◌<◌, ◌==◌, List, [], ◌∷◌, ◌++◌, map, length, Bool, true, false, ◌&&◌, ◌||◌, inl, inr, ◌⊎◌, Option, Some, None, refl, sym, ap, ap₂, subst, ◌∙◌, arith, eqb-true, ltb-true}
-use Rattle.std.specs.Prelude.{Contains, slice_get, is_some, not, if◌then◌else◌}
+use Rattle.std.proofs.Common.{append-nil, find, cond, ◌≡◌, ℕ, zero, suc, ◌+◌, ◌<◌, List, [], ◌∷◌, ◌++◌, map, length, Bool, true, false, ◌&&◌, ◌||◌, inl, inr, Option, Some, None, refl, sym, ap, ap₂, subst, ◌∙◌, arith, eqb-true, ltb-true}
+use Rattle.std.specs.Prelude.{slice_get, is_some, not, if◌then◌else◌}
 use Rattle.std.specs.List.{list_all, list_any}
 use Rattle.std.specs.Option.{option_map_or}
 use Rattle.std.proofs.lemmas.Bool.{false≢true, and_parts, or_cases}
@@ -47,7 +47,7 @@ use Rattle.dep_model.specs.MayPoint.{parameters}
 use Rattle.dep_model.specs.ModRef.{FunctionEffects}
 use Rattle.dep_model.specs.NumberedMains.{value_below, init_below, target_below, amount_below, act_below, doing_below, IsNumberedMain}
 use Rattle.dep_model.specs.SystemGraph.{Analysis, vertices_of}
-use Rattle.dep_model.specs.VertexOrder.{slots_from, arguments_from, in_function, has_result, slots_of, result_slots, touched, formal_ins, formal_outs, target_slots, doing_vertices, all_vertices, function_kinds, vertices_from, program_vertices, has_number, doing_at, of_location, slot_places, actual_uses, out_uses, statement_uses, kind_uses}
+use Rattle.dep_model.specs.VertexOrder.{slots_from, arguments_from, in_function, has_result, slots_of, result_slots, touched, formal_ins, formal_outs, target_slots, doing_vertices, all_vertices, function_kinds, vertices_from, has_number, doing_at, of_location, actual_uses, out_uses, statement_uses, kind_uses}
 use Rattle.dep_model.proofs.NumberedMain.{main_doings}
 use Rattle.dep_model.proofs.Membership.{IsIn, contains_of_in, in_either, if_in, of_map}
 
