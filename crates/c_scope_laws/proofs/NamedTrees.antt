@@ -23,7 +23,7 @@ use Rattle.c_scope_laws.specs.Agreement.{NamedIn}
 use Rattle.projection.specs.Kept.{Kept}
 use Rattle.c_scope_laws.specs.Thinning.{name_stays, found, EntryStays}
 use Rattle.c_language.specs.Names.{names_step, names}
-use Rattle.projection.proofs.NameForms.{names-Binary, names-AndAlso, names-OrElse, names-Choose, names-Index}
+use Rattle.named_variables.proofs.NameForms.{names-Binary, names-AndAlso, names-OrElse, names-Choose, names-Index}
 use Rattle.c_scope_laws.proofs.Trees.{in_none, in_one}
 
 -- a name of the text stands for a variable that the tree names

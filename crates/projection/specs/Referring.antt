@@ -1,15 +1,10 @@
--- Sets of variables that a walk over a tree adds to.
-use Rattle.std.specs.Prelude.{◌≡◌, ℕ, List, [], ◌∷◌, Bool, false, ◌||◌, Option, Some, None}
+-- Whether the kept statements of parts of a text refer to a variable.
+use Rattle.std.specs.Prelude.{ℕ, List, [], ◌∷◌, Bool, false, ◌||◌, Option, Some, None}
 use Rattle.std.specs.List.{list_any}
-use Rattle.bit_rows.specs.Sets.{has}
 use Rattle.c_tree.specs.declared.program.Function.{Function}
 use Rattle.c_tree.specs.declared.statement.Arm.{Arm}
 use Rattle.c_tree.specs.declared.statement.Statement.{Statement}
 use Rattle.projection.specs.Names.{refers, body_refers}
-
--- the second set has the members of the first, and what passes the test
-abbrev pub Adds : List Bool → List Bool → (ℕ → Bool) → Type 0
-Adds old new test = (x : ℕ) → has new x ≡ (has old x || test x)
 
 -- whether the kept statements of a part of a for refer to a variable, where it has one
 abbrev pub part_refers : (ℕ → Bool) → Option Statement → ℕ → Bool

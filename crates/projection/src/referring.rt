@@ -1,13 +1,15 @@
 //! The variables that kept text refers to, by one walk down the tree.
-ghost use Rattle.std.specs.Prelude.{◌≡◌, ℕ, ◌==◌, ◌&&◌, ◌||◌, OnOk, IfOk};
+ghost use Rattle.std.specs.Prelude.{◌≡◌, ℕ, ◌&&◌, ◌||◌, OnOk, IfOk};
 ghost use Rattle.bit_rows.specs.Sets.{has};
-ghost use Rattle.projection.specs.Referring.{Adds, part_refers, arms_refer, functions_refer};
+ghost use Rattle.named_variables.specs.Marks.{Adds};
+ghost use Rattle.projection.specs.Referring.{part_refers, arms_refer, functions_refer};
 ghost use Rattle.c_language.specs.Names as words;
 ghost use Rattle.projection.specs.Names as spec;
 
 use crate::ranks::is_kept;
-use c_tree::{
-    Amount, Arm, Boxed, Expr, Function, Init, Size, Statement, StatementId, Target, VarId,
+use c_tree::{Amount, Arm, Boxed, Expr, Function, Init, Statement, StatementId, Target, VarId};
+use named_variables::{
+    mark, mark_all, mark_amount, mark_init, mark_names, mark_target, mark_value,
 };
 use std::alloc::{AllocError, Global};
 
@@ -25,132 +27,6 @@ pub(crate) fn referred_variables(
         mark_statements(&mut used, keeps, function.body.as_slice())?;
     }
     Ok(used)
-}
-
-// Marks a variable.
-fn mark(used: &mut Vec<bool>, var: VarId) -> Result<(), AllocError>
-    ensures { OnOk result (Adds used.old.items used.new.items (λ x. var == x)) }
-{
-    let at = var as usize;
-    if used.len() <= at {
-        used.resize(at + 1, false)?;
-    }
-    used[at] = true;
-    Ok(())
-}
-
-// Marks the variables that an expression names.
-fn mark_names(used: &mut Vec<bool>, e: &Expr) -> Result<(), AllocError>
-    ensures { OnOk result (Adds used.old.items used.new.items (words.names e.now)) }
-{
-    match e {
-        Expr::Constant(_, _, _) => Ok(()),
-        Expr::Null => Ok(()),
-        Expr::Eof => Ok(()),
-        Expr::Variable(x) => {
-            mark(used, *x)?;
-            Ok(())
-        }
-        Expr::Unary(_, a)
-        | Expr::Deref(a)
-        | Expr::AddressOf(a)
-        | Expr::Cast(_, a)
-        | Expr::Member(a, _)
-        | Expr::Arrow(a, _)
-        | Expr::Paren(a) => {
-            mark_names(used, a.get())?;
-            Ok(())
-        }
-        Expr::Binary(_, a, b) | Expr::AndAlso(a, b) | Expr::OrElse(a, b) | Expr::Index(a, b) => {
-            mark_names(used, a.get())?;
-            mark_names(used, b.get())?;
-            Ok(())
-        }
-        Expr::Choose(c, a, b) => {
-            mark_names(used, c.get())?;
-            mark_names(used, a.get())?;
-            mark_names(used, b.get())?;
-            Ok(())
-        }
-    }
-}
-
-fn mark_all(used: &mut Vec<bool>, list: &[Expr]) -> Result<(), AllocError>
-    ensures { OnOk result (Adds used.old.items used.new.items (words.any_names list.now)) }
-{
-    for e in list {
-        mark_names(used, e)?;
-    }
-    Ok(())
-}
-
-fn mark_init(used: &mut Vec<bool>, init: &Init) -> Result<(), AllocError>
-    ensures { OnOk result (Adds used.old.items used.new.items (words.init_names init.now)) }
-{
-    match init {
-        Init::None => Ok(()),
-        Init::One(value) => {
-            mark_names(used, value)?;
-            Ok(())
-        }
-        Init::Items(values) => {
-            mark_all(used, values.as_slice())?;
-            Ok(())
-        }
-    }
-}
-
-fn mark_target(used: &mut Vec<bool>, to: &Target) -> Result<(), AllocError>
-    ensures { OnOk result (Adds used.old.items used.new.items (words.target_names to.now)) }
-{
-    match to {
-        Target::None => Ok(()),
-        Target::Place(place) => {
-            mark_names(used, place)?;
-            Ok(())
-        }
-        Target::Declared(var) => {
-            mark(used, *var)?;
-            Ok(())
-        }
-    }
-}
-
-fn mark_size(used: &mut Vec<bool>, size: &Size) -> Result<(), AllocError>
-    ensures { OnOk result (Adds used.old.items used.new.items (words.size_names size.now)) }
-{
-    match size {
-        Size::Type(_) => Ok(()),
-        Size::Pointee(var, _) => {
-            mark(used, *var)?;
-            Ok(())
-        }
-    }
-}
-
-fn mark_amount(used: &mut Vec<bool>, amount: &Amount) -> Result<(), AllocError>
-    ensures { OnOk result (Adds used.old.items used.new.items (words.amount_names amount.now)) }
-{
-    match amount {
-        Amount::Size(size) => {
-            mark_size(used, size)?;
-            Ok(())
-        }
-        Amount::CountSize(count, size) => {
-            mark_names(used, count)?;
-            mark_size(used, size)?;
-            Ok(())
-        }
-        Amount::SizeCount(size, count) => {
-            mark_size(used, size)?;
-            mark_names(used, count)?;
-            Ok(())
-        }
-        Amount::Count(count) => {
-            mark_names(used, count)?;
-            Ok(())
-        }
-    }
 }
 
 // ---- the words of a statement, where it is kept
@@ -258,13 +134,11 @@ fn mark_allocated(
 fn mark_returned(used: &mut Vec<bool>, keeps: bool, value: &Option<Expr>) -> Result<(), AllocError>
     ensures { OnOk result (Adds used.old.items used.new.items (λ x. keeps && words.value_names value.now x)) }
 {
-    match value {
-        None => Ok(()),
-        Some(e) => {
-            mark_word(used, keeps, e)?;
-            Ok(())
-        }
+    if !keeps {
+        return Ok(());
     }
+    mark_value(used, value)?;
+    Ok(())
 }
 
 // ---- statements

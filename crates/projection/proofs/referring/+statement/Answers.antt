@@ -3,7 +3,7 @@ use Rattle.bit_rows.specs.Sets.{has}
 use Rattle.projection.specs.Referring.{part_refers, arms_refer}
 use Rattle.c_language.specs.Names.{names}
 use Rattle.projection.specs.Names.{refers, body_refers}
-use Rattle.projection.proofs.MarkLemmas.{adds_same, adds_both, adds_three, adds_four}
+use Rattle.named_variables.proofs.MarkLemmas.{adds_same, adds_both, adds_three, adds_four}
 use Rattle.projection.proofs.NameForms.{refers-Block, refers-If, refers-For, refers-Switch, refers_loop}
 use Rattle.projection.proofs.referring.+statement.Goals as goal
 

@@ -2,7 +2,7 @@
 use Rattle.std.proofs.Common.{◌≡◌, ℕ, List, Bool, ◌||◌, refl, sym, ap, ◌∙◌}
 use Rattle.c_language.proofs.Tests.{or_assoc}
 use Rattle.bit_rows.specs.Sets.{has}
-use Rattle.projection.specs.Referring.{Adds}
+use Rattle.named_variables.specs.Marks.{Adds}
 
 -- what passes was added
 pub adds_same : (old new : List Bool) (f h : ℕ → Bool) → Adds old new f → ((x : ℕ) → h x ≡ f x) → Adds old new h

@@ -1,7 +1,7 @@
 use Rattle.std.proofs.Common.{◌≡◌, ℕ, ◌||◌, drop}
 use Rattle.bit_rows.specs.Sets.{has}
 use Rattle.c_language.specs.Names.{any_names}
-use Rattle.projection.proofs.referring.mark_all.Given as goal
+use Rattle.named_variables.proofs.mark_all.Given as goal
 
 abbrev pub invariant-loop-e : goal.invariant-loop-e
 invariant-loop-e l =

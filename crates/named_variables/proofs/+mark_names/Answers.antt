@@ -1,7 +1,7 @@
 use Rattle.c_language.specs.Names.{names}
-use Rattle.projection.proofs.MarkLemmas.{adds_both, adds_three}
-use Rattle.projection.proofs.NameForms.{names-Choose, names_two}
-use Rattle.projection.proofs.referring.+mark_names.Goals as goal
+use Rattle.named_variables.proofs.MarkLemmas.{adds_both, adds_three}
+use Rattle.named_variables.proofs.NameForms.{names-Choose, names_two}
+use Rattle.named_variables.proofs.+mark_names.Goals as goal
 
 pub returns-in_ok-mark_names-in-Choose-3 : goal.returns-in_ok-mark_names-in-Choose-3
 returns-in_ok-mark_names-in-Choose-3 t c =
