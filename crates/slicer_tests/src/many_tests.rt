@@ -1,8 +1,9 @@
 //! Calls with several lines and with options.
 use crate::programs::TWO;
-use crate::running::{NONE_FAILING, ends, file, run, split_words};
+use crate::running::{Ended, NONE_FAILING, ends, file, is_end, run, split_words};
 use edge_io::{MemoryShelf, MemorySink};
 use slicer_top::{Status, Text, run_slicer};
+use std::alloc::{AllocError, Global};
 use std::test::Fail;
 
 const AT_7: &str = r#"/* slice 7: 6 */
@@ -136,8 +137,7 @@ fn a_file_may_be_named_like_a_word_of_a_call(rt: HostRuntime) -> Result<(), Fail
     for (name, line) in rows {
         let words = split_words(alloc, line)?;
         let ended = run(alloc, &words, file(alloc, name, TWO)?, &NONE_FAILING)?;
-        assert_eq!(rt; ended.status, Status::Done, "{line}");
-        assert_eq!(rt; ended.out.bytes(), AT_7.as_bytes(), "{line}");
+        is_end(&rt, &ended, (Status::Done, AT_7, ""), line)?;
     }
     Ok(())
 }
@@ -160,25 +160,34 @@ fn the_first_line_without_a_statement_is_told(rt: HostRuntime) -> Result<(), Fai
     Ok(())
 }
 
+// The words over `t.c`, where out takes so many bytes and fails at these puts.
+fn run_in_room(
+    alloc: Global,
+    line: &str,
+    room: usize,
+    failing: Vec<(u64, usize)>,
+) -> Result<Ended, AllocError> {
+    let words = split_words(alloc, line)?;
+    let mut shelf = MemoryShelf::new(file(alloc, "t.c", TWO)?, Vec::new(alloc));
+    let mut out = MemorySink::new(alloc, room, failing)?;
+    let mut err = MemorySink::new(alloc, 64, Vec::new(alloc))?;
+    let status = run_slicer(alloc, &words, &mut shelf, &mut out, &mut err);
+    Ok(Ended {
+        status,
+        out: Text::from_slice(alloc, out.bytes())?,
+        err: Text::from_slice(alloc, err.bytes())?,
+    })
+}
+
 // These words over `t.c` end so, where out takes 8,192 bytes: the status, and what out and err have gained.
 fn ends_in_room<R: std::process::Abort + AllocGlobal>(
     rt: &R,
     line: &str,
     wanted: (Status, &str, &str),
 ) -> Result<(), Fail> {
-    let (status, written, told) = wanted;
     let alloc = rt.alloc();
-    let words = split_words(alloc, line)?;
-    let mut shelf = MemoryShelf::new(file(alloc, "t.c", TWO)?, Vec::new(alloc));
-    let mut out = MemorySink::new(alloc, 8192, Vec::new(alloc))?;
-    let mut err = MemorySink::new(alloc, 64, Vec::new(alloc))?;
-    assert_eq!(rt;
-        run_slicer(alloc, &words, &mut shelf, &mut out, &mut err),
-        status
-    );
-    assert_eq!(rt; out.bytes(), written.as_bytes());
-    assert_eq!(rt; err.bytes(), told.as_bytes());
-    Ok(())
+    let ended = run_in_room(alloc, line, 8192, Vec::new(alloc))?;
+    is_end(rt, &ended, wanted, line)
 }
 
 #[test]
@@ -204,28 +213,35 @@ fn sixty_four_lines_are_sliced_and_one_more_is_refused(rt: HostRuntime) -> Resul
     Ok(())
 }
 
-// A put of 7 and 4 that fails, by its number and the bytes that it takes before: how many bytes out has gained then.
+// The text of line 7, and twelve bytes of that of line 4.
+const AT_7_AND_TWELVE: &str = r#"/* slice 7: 6 */
+#include <stdio.h>
+int main(void) {
+    int a = 1;
+    a = a + 3;
+    printf("%d\n", a);
+}
+/* slice 4: "#;
+
 #[test]
 fn each_text_is_put_by_itself(rt: HostRuntime) -> Result<(), Fail> {
+    // The put of 7 and 4 that fails, by its number and the bytes that it takes before, and what out has gained then.
     let rows = [
-        ((0, 10), 10),
-        ((0, 0), 0),
-        ((1, 0), AT_7.len()),
-        ((1, 12), AT_7.len() + 12),
+        ((0, 10), "/* slice 7"),
+        ((0, 0), ""),
+        ((1, 0), AT_7),
+        ((1, 12), AT_7_AND_TWELVE),
     ];
     let alloc = rt.alloc();
-    let mut both = String::from_str(alloc, AT_7)?;
-    both.push_str(AT_4)?;
-    for (failing, gained) in rows {
-        let words = split_words(alloc, "slice two.c 7 4")?;
-        let mut shelf = MemoryShelf::new(file(alloc, "two.c", TWO)?, Vec::new(alloc));
-        let mut out = MemorySink::new(alloc, 4096, vec![in alloc; failing]?)?;
-        let mut err = MemorySink::new(alloc, 64, Vec::new(alloc))?;
-        let status = run_slicer(alloc, &words, &mut shelf, &mut out, &mut err);
-        assert_eq!(rt; status, Status::WriteFault);
-        assert_eq!(rt; out.bytes().len(), gained);
-        assert!(rt; both.as_bytes().starts_with(out.bytes()));
-        assert_eq!(rt; err.bytes(), b"cannot write\n".as_slice());
+    for (failing, out) in rows {
+        let failing = vec![in alloc; failing]?;
+        let ended = run_in_room(alloc, "slice t.c 7 4", 4096, failing)?;
+        is_end(
+            &rt,
+            &ended,
+            (Status::WriteFault, out, "cannot write\n"),
+            "slice t.c 7 4",
+        )?;
     }
     Ok(())
 }
@@ -236,7 +252,5 @@ fn a_word_that_is_not_utf8_is_outside_the_grammar(rt: HostRuntime) -> Result<(),
     let mut words = split_words(alloc, "slice two.c 7")?;
     words.push(Text::from_slice(alloc, &[0xff])?)?;
     let ended = run(alloc, &words, file(alloc, "two.c", TWO)?, &NONE_FAILING)?;
-    assert_eq!(rt; ended.status, Status::Usage);
-    assert_eq!(rt; ended.err.bytes(), USAGE.as_bytes());
-    Ok(())
+    is_end(&rt, &ended, (Status::Usage, "", USAGE), "a word of one byte")
 }
