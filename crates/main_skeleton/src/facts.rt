@@ -68,11 +68,3 @@ impl Facts {
         self.rows
     }
 }
-
-#[cfg(test)]
-impl Facts {
-    /// Whether the vertex of a row has the location of a bit.
-    pub(crate) fn has(&self, row: u32, bit: u32) -> bool {
-        row <= self.statements && bit < self.variables + 2 && self.rows.has(row, bit)
-    }
-}
