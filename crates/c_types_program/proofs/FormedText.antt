@@ -1,38 +1,42 @@
--- The phrases of a text of the grammar have the forms that tokens give them; those that keep the rules fit.
-use Rattle.std.proofs.Common.{◌≡◌, ℕ, List, [], ◌∷◌, ◌++◌, map, Bool, true, false, Option, Some, None, sym, subst}
+-- The phrases of a tree that is syntax have the forms that tokens give them; those that keep the rules fit.
+use Rattle.std.proofs.Common.{◌≡◌, ℕ, List, [], ◌∷◌, ◌++◌, map, true, Option, Some, None, refl, sym, subst}
+use Rattle.std.specs.List.{list_all}
+use Rattle.std.proofs.lemmas.Bool.{and_parts}
 use Rattle.c_language.proofs.PhraseLists.{phrases_kept}
 use Rattle.c_tree.specs.declared.raw.expr.RawExpr.{RawExpr}
-use Rattle.c_tree.specs.declared.raw.expr.RawType.{RawType}
 use Rattle.c_tree.specs.declared.raw.expr.RawVar.{RawVar}
 use Rattle.c_tree.specs.declared.raw.program.RawHead.{RawHead}
 use Rattle.c_tree.specs.declared.raw.program.RawInit.{RawInit}
 use Rattle.c_tree.specs.declared.raw.program.RawInit.TheVariants as init
 use Rattle.c_tree.specs.declared.raw.program.RawItem.{RawItem}
-use Rattle.c_tree.specs.declared.raw.program.RawItem.TheVariants.{Prototype, Define}
+use Rattle.c_tree.specs.declared.raw.program.RawItem.TheVariants.{Include, Tag, Struct, Global, Prototype, Define}
 use Rattle.c_tree.specs.declared.raw.program.RawMember.{RawMember}
 use Rattle.c_tree.specs.declared.raw.program.RawParam.{RawParam}
 use Rattle.c_tree.specs.declared.raw.program.RawProgram.{RawProgram}
 use Rattle.c_tree.specs.declared.raw.statement.RawAmount.{RawAmount}
 use Rattle.c_tree.specs.declared.raw.statement.RawArg.{RawArg}
-use Rattle.c_tree.specs.declared.raw.statement.RawArm.{RawArm}
+use Rattle.c_tree.specs.declared.raw.statement.RawArm.{RawArm, roll-RawArm}
 use Rattle.c_tree.specs.declared.raw.statement.RawLabel.{RawLabel}
-use Rattle.c_tree.specs.declared.raw.statement.RawStatement.{RawStatement}
+use Rattle.c_tree.specs.declared.raw.statement.RawStatement.{RawStatement, roll-RawStatement}
+use Rattle.c_tree.specs.declared.raw.statement.RawStatement.TheOpen.{RawStatement-F, RawArm-F}
+use Rattle.text_syntax.proofs.Folds.{standing, standing_arm, AllAre, ArmsAre, PartIs, PartsAre, body_gives}
+use Rattle.text_syntax.proofs.Items.{text_is_syntax}
 use Rattle.c_tree.specs.declared.raw.statement.RawStatement.TheVariants as s
 use Rattle.c_tree.specs.declared.raw.statement.RawTarget.{RawTarget}
 use Rattle.c_tree.specs.declared.raw.statement.RawTarget.TheVariants as target
 use Rattle.c_tree.specs.declared.raw.statement.RawTypeName.{RawTypeName}
-use Rattle.c_language.specs.ItemGrammar.{IsGlobal, AreGlobals, IsItem, AreItems}
+use Rattle.c_language.specs.ItemGrammar.{are_named}
+use Rattle.c_language.specs.Syntax.{Position, stands_step, arm_step, is_body, is_head, is_item}
 use Rattle.c_language.specs.Phrases.{Stand, InFile, InHead, InBlock, InArm, InFor, EndsFunction, Calls, Allocates, Tests, Phrases, phrase, ArmText, begun_phrases, declaration, target_phrases, joined_at, block_phrases, at_stand, phrases_of_arms, scoped, scoped_of_arm, body_phrases, member_phrases, taken_phrases, parameter_phrases, head_phrases, item_phrases, items_phrases, after_item, phrases}
 use Rattle.c_language.specs.Programs.{IsTree}
 use Rattle.c_language.specs.Rules.{KeepsRules, AreKept}
 use Rattle.c_language.specs.Scopes.{Scope, Scoped, opened, numbered, in_order, part_gives, after_block, with_parameter, with_variable, with_target, scope_of_parameters, scope_of_test, scope_of_body, entered, outset, parameter_of}
-use Rattle.c_language.specs.StatementGrammar.{arm, IsSeparated, IsSimple, IsDeclared, AreDeclared, IsDeclaration, IsInit, IsStep, IsStatement, AreStatements, IsBody, IsElse, AreArms}
-use Rattle.c_language.specs.TokenForms.{Tokens, line_of}
+use Rattle.c_language.specs.StatementGrammar.{arm}
 use Rattle.c_language.specs.Words.{Bytes}
 use Rattle.c_language.proofs.ScopedForms.{scoped-Declare, scoped-Assign, scoped-Bump, scoped-Call, scoped-Heap, scoped-If, scoped-While, scoped-Do, scoped-Switch, scoped-Block, scoped-Return}
 use Rattle.c_types_trees.specs.FitPhrases.{IsAllocation, IsFormed, AreFit}
 use Rattle.c_types_trees.specs.KeptPhrases.{HasNoLengthIf}
-use Rattle.c_types_program.proofs.GrammarTrees.{heap_plain, head_plain}
+use Rattle.c_types_program.proofs.SyntaxTrees.{is_allocation, head_plain}
 use Rattle.c_types_program.proofs.StatementForms.{scoped_part, scoped-For, scoped-arm}
 
 abbrev AreFormed : Phrases → Type 0
@@ -104,10 +108,6 @@ module _ (raw : RawProgram) where
   abbrev AllFormed : List RawStatement → Type 0
   AllFormed all = GiveFormed (map (scoped raw) all)
 
-  all_both : (some all : List RawStatement) → AllFormed some → AllFormed all → AllFormed (some ++ all)
-  all_both [] all h k = k
-  all_both (a ∷ some) all h k = (h.0, all_both some all h.1 k)
-
   as_form : (a : RawStatement) (x : Scoped (Stand → Phrases)) → scoped raw a ≡ x → GivesFormed x → Formed a
   as_form a x is h = subst GivesFormed (sym is) h
 
@@ -162,72 +162,42 @@ module _ (raw : RawProgram) where
   formed-Switch l e arms h =
       as_form (s.Switch l e arms) _ (scoped-Switch raw l e arms) (λ scope stand. (tt, arms_formed (map (scoped_of_arm raw) arms) h (opened (numbered scope))))
 
-  -- ---- along the grammar
+  -- ---- along the tree
 
-  formed_simple : {ts rest : Tokens} {a : RawStatement} → IsSimple ts a rest → Formed a
-  formed_simple (IsSimple.assign {ts} {a} {b} op by left place right) = as_form (s.Assign (line_of ts) a op b) _ (scoped-Assign raw (line_of ts) a op b) (λ scope stand. (tt, tt))
-  formed_simple (IsSimple.store_call {ts} {a} {w} {all} left place call) = formed-Call (line_of ts) (target.Place a) w all
-  formed_simple (IsSimple.store_heap {ts} {a} {t} {n} left place heap) =
-      let plain = heap_plain heap in formed-Heap (line_of ts) (target.Place a) t n (record { stored = tt; name = plain.0; amount = plain.1 })
-  formed_simple (IsSimple.bump_after {ts} {a} up left place) = as_form (s.Bump (line_of ts) a up false) _ (scoped-Bump raw (line_of ts) a up false) (λ scope stand. (tt, tt))
-  formed_simple (IsSimple.bump_before {l} {a} up left place) = as_form (s.Bump l a up true) _ (scoped-Bump raw l a up true) (λ scope stand. (tt, tt))
-  formed_simple (IsSimple.call {ts} {w} {all} call) = formed-Call (line_of ts) target.None w all
+  list_of : (xs : List RawStatement) → AllAre Formed xs → AllFormed xs
+  list_of [] h = tt
+  list_of (x ∷ xs) h = (h.0, list_of xs h.1)
 
-  formed_declared : {line : ℕ} {base : RawType} {ts rest : Tokens} {a : RawStatement} → IsDeclared line base ts a rest → Formed a
-  formed_declared {line} (IsDeclared.plain {v} declarator listed) = formed-Declare line v init.None
-  formed_declared {line} (IsDeclared.value {v} {a} declarator listed value) = formed-Declare line v (init.One a)
-  formed_declared {line} (IsDeclared.list {v} {all} declarator items) = formed-Declare line v (init.Items all)
-  formed_declared {line} (IsDeclared.call {v} {w} {all} declarator listed call) = formed-Call line (target.Declared v) w all
-  formed_declared {line} (IsDeclared.heap {v} {t} {n} declarator listed heap) =
-      let plain = heap_plain heap in formed-Heap line (target.Declared v) t n (record { stored = tt; name = plain.0; amount = plain.1 })
+  abbrev FormedArm : RawArm → Type 0
+  FormedArm a = GivesFormedArm (scoped_of_arm raw a)
 
-  formed_separated : {line : ℕ} {base : RawType} {ts rest : Tokens} {all : List RawStatement} → AreDeclared line base ts all rest → AllFormed all
-  formed_separated (IsSeparated.last h) = (formed_declared h, tt)
-  formed_separated (IsSeparated.more h k) = (formed_declared h, formed_separated k)
+  arms_of : (arms : List RawArm) → ArmsAre FormedArm arms → ArmsFormed arms
+  arms_of [] h = tt
+  arms_of (a ∷ arms) h = (h.0, arms_of arms h.1)
 
-  formed_declarations : {ts rest : Tokens} {all : List RawStatement} → IsDeclaration ts all rest → AllFormed all
-  formed_declarations (IsDeclaration.declaration base declared) = formed_separated declared
+  part_of : (x : Option RawStatement) → PartIs Formed x → GivesFormedIf (scoped_part raw x)
+  part_of None h = tt
+  part_of (Some x) h = h
 
-  formed_init : {ts rest : Tokens} {a : Option RawStatement} → IsInit ts a rest → GivesFormedIf (scoped_part raw a)
-  formed_init IsInit.nothing = tt
-  formed_init (IsInit.simple h) = formed_simple h
-  formed_init (IsInit.declared base h) = formed_declared h
+  form_formed : (y : RawStatement-F RawStatement RawArm) (p : Position) → true ≡ true → stands_step (standing y) p ≡ true → PartsAre Formed FormedArm y → Formed (roll-RawStatement y)
+  form_formed (RawStatement-F.Declare l v i) p m h k = subst Formed (sym (s.rolls-Declare l v i)) (formed-Declare l v i)
+  form_formed (RawStatement-F.Assign l a op b) p m h k = subst Formed (sym (s.rolls-Assign l a op b)) (as_form (s.Assign l a op b) _ (scoped-Assign raw l a op b) (λ scope stand. (tt, tt)))
+  form_formed (RawStatement-F.Bump l a up before) p m h k = subst Formed (sym (s.rolls-Bump l a up before)) (as_form (s.Bump l a up before) _ (scoped-Bump raw l a up before) (λ scope stand. (tt, tt)))
+  form_formed (RawStatement-F.Call l to w args) p m h k = subst Formed (sym (s.rolls-Call l to w args)) (formed-Call l to w args)
+  form_formed (RawStatement-F.Heap l to cast n) p m h k = subst Formed (sym (s.rolls-Heap l to cast n)) (formed-Heap l to cast n (is_allocation p to cast n h))
+  form_formed (RawStatement-F.If l a b c) p m h k = subst Formed (sym (s.rolls-If l a b c)) (formed-If l a b c (list_of b k.0) (list_of c k.1))
+  form_formed (RawStatement-F.While l a b) p m h k = subst Formed (sym (s.rolls-While l a b)) (formed-While l a b (list_of b k))
+  form_formed (RawStatement-F.Do l a b) p m h k = subst Formed (sym (s.rolls-Do l a b)) (formed-Do l a b (list_of b k))
+  form_formed (RawStatement-F.For l i a x b) p m h k = subst Formed (sym (s.rolls-For l i a x b)) (formed-For l i a x b (part_of i k.0) (part_of x k.1) (list_of b k.2))
+  form_formed (RawStatement-F.Switch l a arms) p m h k = subst Formed (sym (s.rolls-Switch l a arms)) (formed-Switch l a arms (arms_of arms k))
+  form_formed (RawStatement-F.Block l b) p m h k = subst Formed (sym (s.rolls-Block l b)) (formed-Block l b (list_of b k))
+  form_formed (RawStatement-F.Return l a) p m h k = subst Formed (sym (s.rolls-Return l a)) (as_form (s.Return l a) _ (scoped-Return raw l a) (λ scope stand. (tt, tt)))
 
-  formed_step : {ts rest : Tokens} {a : Option RawStatement} → IsStep ts a rest → GivesFormedIf (scoped_part raw a)
-  formed_step IsStep.nothing = tt
-  formed_step (IsStep.simple h) = formed_simple h
+  arm_form_formed : (y : RawArm-F RawStatement RawArm) → arm_step (standing_arm y) ≡ true → AllAre Formed y.body → FormedArm (roll-RawArm y)
+  arm_form_formed y h k = formed-arm y.labels y.body (list_of y.body k)
 
-  mutual
-    formed_statement : {ts rest : Tokens} {a : RawStatement} → IsStatement ts a rest → Formed a
-    formed_statement (IsStatement.simple h) = formed_simple h
-    formed_statement (IsStatement.returns {l}) = as_form (s.Return l None) _ (scoped-Return raw l None) (λ scope stand. (tt, tt))
-    formed_statement (IsStatement.returns_value {l} {a} h) = as_form (s.Return l (Some a)) _ (scoped-Return raw l (Some a)) (λ scope stand. (tt, tt))
-    formed_statement (IsStatement.block {l} {all} h) = formed-Block l all (formed_statements h)
-    formed_statement (IsStatement.conditional {l} {a} {yes} {other} test h k) = formed-If l a yes other (formed_body h) (formed_else k)
-    formed_statement (IsStatement.while_loop {l} {a} {all} test h) = formed-While l a all (formed_body h)
-    formed_statement (IsStatement.do_loop {l} {a} {all} h test) = formed-Do l a all (formed_body h)
-    formed_statement (IsStatement.for_loop {l} {first} {step} {a} {all} h test k m) = formed-For l first a step all (formed_init h) (formed_step k) (formed_body m)
-    formed_statement (IsStatement.switch {l} {a} {arms} test h) = formed-Switch l a arms (formed_arms h)
-
-    formed_statements : {ts rest : Tokens} {all : List RawStatement} → AreStatements ts all rest → AllFormed all
-    formed_statements AreStatements.done = tt
-    formed_statements (AreStatements.empty h) = formed_statements h
-    formed_statements (AreStatements.declared {some} {all} h k) = all_both some all (formed_declarations h) (formed_statements k)
-    formed_statements (AreStatements.more h k) = (formed_statement h, formed_statements k)
-
-    formed_body : {ts rest : Tokens} {all : List RawStatement} → IsBody ts all rest → AllFormed all
-    formed_body (IsBody.braces h) = formed_statements h
-    formed_body IsBody.nothing = tt
-    formed_body (IsBody.single brace h) = (formed_statement h, tt)
-
-    formed_else : {ts rest : Tokens} {all : List RawStatement} → IsElse ts all rest → AllFormed all
-    formed_else (IsElse.otherwise h) = formed_body h
-    formed_else (IsElse.without h) = tt
-
-    formed_arms : {ts rest : Tokens} {arms : List RawArm} → AreArms ts arms rest → ArmsFormed arms
-    formed_arms AreArms.none = tt
-    formed_arms (AreArms.broken {labels} {body} h k m) = (formed-arm labels body (formed_statements k), formed_arms m)
-    formed_arms (AreArms.unbroken {labels} {body} h lacks k) = (formed-arm labels body (formed_statements k), tt)
+  formed_body : (body : List RawStatement) → is_body body ≡ true → AllFormed body
+  formed_body body h = list_of body (body_gives Formed FormedArm (λ p. true) refl refl refl form_formed arm_form_formed refl body h)
 
   -- ---- items
 
@@ -263,15 +233,6 @@ module _ (raw : RawProgram) where
   items_both [] ys h k = k
   items_both (x ∷ xs) ys h k = (h.0, items_both xs ys h.1 k)
 
-  formed_global : {line : ℕ} {is_static : Bool} {base : RawType} {ts rest : Tokens} {x : RawItem} → IsGlobal line is_static base ts x rest → ItemFormed x
-  formed_global {line} {is_static} (IsGlobal.plain {v} h listed) = λ scope. declaration_formed raw line scope (InFile is_static) v init.None
-  formed_global {line} {is_static} (IsGlobal.value {v} {a} h listed value) = λ scope. declaration_formed raw line scope (InFile is_static) v (init.One a)
-  formed_global {line} {is_static} (IsGlobal.list {v} {all} h items) = λ scope. declaration_formed raw line scope (InFile is_static) v (init.Items all)
-
-  formed_globals : {line : ℕ} {is_static : Bool} {base : RawType} {ts rest : Tokens} {xs : List RawItem} → AreGlobals line is_static base ts xs rest → ItemsFormed xs
-  formed_globals (IsSeparated.last h) = (formed_global h, tt)
-  formed_globals (IsSeparated.more h k) = (formed_global h, formed_globals k)
-
   formed_prototype : (line : ℕ) (head : RawHead) → HasNoLengthIf head.result → ItemFormed (Prototype line head)
   formed_prototype line head plain = λ scope. (plain, taken_formed scope [] head.params)
 
@@ -282,17 +243,19 @@ module _ (raw : RawProgram) where
         (formed_both (body_phrases raw body (entered raw head scope)) (phrase line scope (EndsFunction head body) ∷ []) (body_formed body h (entered raw head scope)) (tt, tt)),
   )
 
-  formed_item : {ts rest : Tokens} {xs : List RawItem} → IsItem ts xs rest → ItemsFormed xs
-  formed_item (IsItem.include is_stdlib) = ((λ scope. tt), tt)
-  formed_item (IsItem.tag keyword) = ((λ scope. (tt, tt)), tt)
-  formed_item (IsItem.structure {all} keyword members) = ((λ scope. (tt, members_formed scope [] all)), tt)
-  formed_item (IsItem.globals is_static base h) = formed_globals h
-  formed_item (IsItem.prototype {ts} {h} head) = (formed_prototype (line_of ts) h (head_plain head), tt)
-  formed_item (IsItem.definition {ts} {h} {body} head named inside) = (formed_definition (line_of ts) h body (head_plain head) (formed_statements inside), tt)
+  formed_item : (x : RawItem) → is_item x ≡ true → ItemFormed x
+  formed_item (Include is_stdlib) h = λ scope. tt
+  formed_item (Tag line tag) h = λ scope. (tt, tt)
+  formed_item (Struct line tag members) h = λ scope. (tt, members_formed scope [] members)
+  formed_item (Global line v i is_static) h = λ scope. declaration_formed raw line scope (InFile is_static) v i
+  formed_item (Prototype line head) h = formed_prototype line head (head_plain head h)
+  formed_item (Define line head body) h =
+      let p = and_parts (is_head head) _ h in
+      formed_definition line head body (head_plain head p.0) (formed_body body (and_parts (are_named head.params) _ p.1).1)
 
-  formed_items : {ts rest : Tokens} {xs : List RawItem} → AreItems ts xs rest → ItemsFormed xs
-  formed_items AreItems.done = tt
-  formed_items (AreItems.more {some} {all} h k) = items_both some all (formed_item h) (formed_items k)
+  formed_items : (xs : List RawItem) → list_all is_item xs ≡ true → ItemsFormed xs
+  formed_items [] h = tt
+  formed_items (x ∷ xs) h = let p = and_parts (is_item x) (list_all is_item xs) h in (formed_item x p.0, formed_items xs p.1)
 
   text_formed : (xs : List RawItem) → ItemsFormed xs → (scope : Scope) → AreFormed (items_phrases raw xs scope)
   text_formed [] h scope = tt
@@ -300,4 +263,4 @@ module _ (raw : RawProgram) where
 
 -- the phrases of the tree of a text that keeps all rules fit
 pub text_fits : (raw : RawProgram) → IsTree raw → KeepsRules raw → AreFit raw (phrases raw)
-text_fits raw tree keeps = fit_from raw (phrases raw) (phrases_kept raw keeps) (text_formed raw raw.items (formed_items raw tree.is.grammar) outset)
+text_fits raw tree keeps = fit_from raw (phrases raw) (phrases_kept raw keeps) (text_formed raw raw.items (formed_items raw raw.items (text_is_syntax raw tree)) outset)

@@ -1,6 +1,6 @@
 pub mod FormedText
 pub mod FunctionSteps
-pub mod GrammarTrees
+pub mod SyntaxTrees
 pub mod Growing
 pub mod ItemForms
 pub mod Passing

@@ -1,10 +1,11 @@
 -- A text that keeps all rules has a program.
-use Rattle.std.proofs.Common.{ℕ, List, [], ◌∷◌, ◌++◌, map, Bool, true, Option, Some, None, subst}
-use Rattle.std.specs.Prelude.{bytes_eq}
+use Rattle.std.proofs.Common.{ℕ, List, [], ◌∷◌, ◌++◌, map, true, Option, Some, None, subst}
+use Rattle.std.specs.Prelude.{bytes_eq, ◌≡◌}
+use Rattle.std.specs.List.{list_all}
+use Rattle.std.proofs.lemmas.Bool.{and_parts}
 use Rattle.c_language.proofs.PhraseLists.{body_in_order, kept_both, phrases_kept}
 use Rattle.c_tree.specs.declared.program.Item.TheVariants as item
 use Rattle.c_tree.specs.declared.program.Program.{Program}
-use Rattle.c_tree.specs.declared.raw.expr.RawType.{RawType}
 use Rattle.c_tree.specs.declared.raw.program.RawInit.TheVariants as init
 use Rattle.c_tree.specs.declared.raw.program.RawMember.{RawMember}
 use Rattle.c_tree.specs.declared.raw.program.RawParam.{RawParam}
@@ -14,11 +15,9 @@ use Rattle.c_tree.specs.declared.raw.program.RawItem.TheVariants.{Include, Tag, 
 use Rattle.c_tree.specs.declared.raw.program.RawProgram.{RawProgram}
 use Rattle.c_tree.specs.declared.raw.statement.RawStatement.{RawStatement}
 use Rattle.c_language.specs.Words.{Bytes}
-use Rattle.c_language.specs.TokenForms.{Tokens}
 use Rattle.c_language.specs.DeclaredTypes.{StructText, defined_structs, defined_functions, definition_of, struct_id, function_id, item_count}
 use Rattle.c_language.specs.DeclaredTypes as declared
-use Rattle.c_language.specs.ItemGrammar.{IsGlobal, AreGlobals, IsItem, AreItems, IsProgram}
-use Rattle.c_language.specs.StatementGrammar.{IsSeparated}
+use Rattle.c_language.specs.ItemGrammar.{are_named}
 use Rattle.c_language.specs.Scopes.{Scope, outset, with_variable, with_named, with_parameters, scope_of_parameters, entered, parameter_of}
 use Rattle.c_language.specs.Phrases.{InFile, InHead, InBlock, Part, NamesStruct, DefinesStruct, HasMember, DeclaresFunction, Takes, EndsFunction, Declares, Begins, Assigns, Bumps, Calls, Allocates, Tests, Switches, Returns, Phrases, phrase, scoped, body_phrases, member_phrases, parameter_phrases, head_phrases, item_phrases, items_phrases, after_item, phrases, scope_at_end}
 use Rattle.c_language.specs.NameRules.{LacksDefinition}
@@ -32,7 +31,9 @@ use Rattle.c_types_trees.proofs.ScopeLemmas.{IsTyped, typed_variable, typed_func
 use Rattle.c_types_trees.specs.KeptPhrases.{HasNoLengthIf}
 use Rattle.c_types_trees.proofs.PhraseTrees.{tag_defined, result_made, variable_made, member_made}
 use Rattle.c_types_program.proofs.TreedStatements.{init_there, list_there}
-use Rattle.c_types_program.proofs.GrammarTrees.{HaveTrees, statements_trees, head_plain}
+use Rattle.c_types_program.proofs.SyntaxTrees.{HaveTrees, body_trees, head_plain}
+use Rattle.text_syntax.proofs.Items.{text_is_syntax}
+use Rattle.c_language.specs.Syntax.{IsSyntax, is_head, is_item}
 use Rattle.c_language.specs.Options.{IsThere}
 
 -- ---- struct types
@@ -124,30 +125,19 @@ module _ (raw : RawProgram) (complete : AreComplete raw (defined_structs raw)) w
   AreFormed [] = Unit {0}
   AreFormed (x ∷ xs) = IsFormed x × AreFormed xs
 
-  formed_both : (xs ys : List RawItem) → AreFormed xs → AreFormed ys → AreFormed (xs ++ ys)
-  formed_both [] ys h k = k
-  formed_both (x ∷ xs) ys h k = (h.0, formed_both xs ys h.1 k)
+  item_formed : (x : RawItem) → is_item x ≡ true → IsFormed x
+  item_formed (Include is_stdlib) h = tt
+  item_formed (Tag line tag) h = tt
+  item_formed (Struct line tag members) h = tt
+  item_formed (Global line var i is_static) h = tt
+  item_formed (Prototype line head) h = tt
+  item_formed (Define line head body) h =
+      let p = and_parts (is_head head) _ h in
+      (head_plain head p.0, body_trees raw complete body (and_parts (are_named head.params) _ p.1).1)
 
-  global_formed : {line : ℕ} {is_static : Bool} {base : RawType} {ts rest : Tokens} {x : RawItem} → IsGlobal line is_static base ts x rest → IsFormed x
-  global_formed (IsGlobal.plain h listed) = tt
-  global_formed (IsGlobal.value h listed a) = tt
-  global_formed (IsGlobal.list h items) = tt
-
-  globals_formed : {line : ℕ} {is_static : Bool} {base : RawType} {ts rest : Tokens} {xs : List RawItem} → AreGlobals line is_static base ts xs rest → AreFormed xs
-  globals_formed (IsSeparated.last h) = (global_formed h, tt)
-  globals_formed (IsSeparated.more h k) = (global_formed h, globals_formed k)
-
-  item_formed : {ts rest : Tokens} {xs : List RawItem} → IsItem ts xs rest → AreFormed xs
-  item_formed (IsItem.include is_stdlib) = (tt, tt)
-  item_formed (IsItem.tag keyword) = (tt, tt)
-  item_formed (IsItem.structure keyword members) = (tt, tt)
-  item_formed (IsItem.globals is_static base h) = globals_formed h
-  item_formed (IsItem.prototype h) = (tt, tt)
-  item_formed (IsItem.definition h named body) = ((head_plain h, statements_trees raw complete body), tt)
-
-  items_formed : {ts rest : Tokens} {xs : List RawItem} → AreItems ts xs rest → AreFormed xs
-  items_formed AreItems.done = tt
-  items_formed (AreItems.more {some} {all} h k) = formed_both some all (item_formed h) (items_formed k)
+  items_formed : (xs : List RawItem) → list_all is_item xs ≡ true → AreFormed xs
+  items_formed [] h = tt
+  items_formed (x ∷ xs) h = let p = and_parts (is_item x) (list_all is_item xs) h in (item_formed x p.0, items_formed xs p.1)
 
   -- ---- items
 
@@ -204,22 +194,22 @@ module _ (raw : RawProgram) (complete : AreComplete raw (defined_structs raw)) w
 
 -- ---- the whole
 
-program_there : (raw : RawProgram) (ts : Tokens) → IsProgram ts raw → AreKept raw (phrases raw) → IsThere (program_of raw)
-program_there raw ts grammar h =
+program_there : (raw : RawProgram) → IsSyntax raw → AreKept raw (phrases raw) → IsThere (program_of raw)
+program_there raw syntax h =
     let complete = complete_structs raw h in
-    let parts = items_there raw complete raw.items outset tt (items_formed raw complete grammar) h in
+    let parts = items_there raw complete raw.items outset tt (items_formed raw complete raw.items syntax) h in
     there_then _ (items_of raw) (there_collected (items_from raw raw.items outset) parts.0) (λ items is.
     there_then _ (variables_of raw) (there_collected (variables_in raw (phrases raw)) (variables_there raw (phrases raw) h)) (λ vars also.
     there_both (program_with (scope_at_end raw).statements items vars) (structs_of raw) (functions_of raw)
     (there_collected (map (struct_tree raw) (defined_structs raw)) (defined_there raw (defined_structs raw) complete))
     (there_collected (functions_from raw raw.items outset) parts.1)))
 
--- a text of the grammar that keeps all rules has a program
-pub kept_has_program : (raw : RawProgram) (ts : Tokens) → IsProgram ts raw → KeepsRules raw → (p : Program) × HasProgram raw p
-kept_has_program raw ts grammar keeps =
-    let found = value_there (program_of raw) (program_there raw ts grammar (phrases_kept raw keeps)) in
+-- a tree that is syntax and keeps all rules has a program
+pub kept_has_program : (raw : RawProgram) → IsSyntax raw → KeepsRules raw → (p : Program) × HasProgram raw p
+kept_has_program raw syntax keeps =
+    let found = value_there (program_of raw) (program_there raw syntax (phrases_kept raw keeps)) in
     (found.0, record { rules = keeps; program = found.1 })
 
 -- and so has the tree of a text
 pub tree_has_program : (raw : RawProgram) → IsTree raw → KeepsRules raw → (p : Program) × HasProgram raw p
-tree_has_program raw tree keeps = kept_has_program raw tree.tokens tree.is.grammar keeps
+tree_has_program raw tree keeps = kept_has_program raw (text_is_syntax raw tree) keeps

@@ -1,14 +1,14 @@
--- The statements that the tokens of a text make have their trees where their phrases keep their rules.
-use Rattle.std.proofs.Common.{◌≡◌, ℕ, Bool, true, false, List, [], ◌∷◌, ◌++◌, map, Option, Some, None, sym, subst}
+-- The statements of a tree that is syntax have their trees where their phrases keep their rules.
+use Rattle.std.proofs.Common.{◌≡◌, ℕ, Bool, true, ◌&&◌, List, [], ◌∷◌, map, Option, Some, None, refl, sym, subst}
+use Rattle.std.specs.Option.{option_map_or}
+use Rattle.std.specs.List.{list_all}
+use Rattle.std.proofs.lemmas.Bool.{and_parts}
 use Rattle.c_tree.specs.declared.raw.program.RawHead.{RawHead}
-use Rattle.c_language.specs.ItemGrammar.{IsResult, IsHead}
 use Rattle.c_arith.specs.declared.operators.BinaryOp.{BinaryOp}
 use Rattle.c_tree.specs.declared.statement.Statement.{Statement}
 use Rattle.c_tree.specs.declared.raw.expr.RawExpr.{RawExpr}
-use Rattle.c_tree.specs.declared.raw.expr.RawType.{RawType}
 use Rattle.c_tree.specs.declared.raw.expr.RawVar.{RawVar}
 use Rattle.c_tree.specs.declared.raw.program.RawInit.{RawInit}
-use Rattle.c_tree.specs.declared.raw.program.RawInit.TheVariants as init
 use Rattle.c_tree.specs.declared.raw.program.RawProgram.{RawProgram}
 use Rattle.c_tree.specs.declared.raw.statement.RawTarget.{RawTarget}
 use Rattle.c_tree.specs.declared.raw.statement.RawTarget.TheVariants as target
@@ -21,53 +21,74 @@ use Rattle.c_tree.specs.declared.raw.statement.RawArm.{RawArm}
 use Rattle.c_tree.specs.declared.raw.statement.RawStatement.{RawStatement}
 use Rattle.c_tree.specs.declared.raw.statement.RawStatement.TheVariants as s
 use Rattle.c_language.specs.Words.{Bytes}
-use Rattle.c_language.specs.TokenForms.{Tokens, line_of}
 use Rattle.c_language.specs.DeclaredTypes.{defined_structs}
 use Rattle.c_language.specs.Scopes.{Scoped}
 use Rattle.c_language.specs.Phrases.{Stand, Phrases, scoped_arm, scoped, scoped_of_arm}
 use Rattle.c_language.specs.ProgramOf.{treed, treed_arm}
-use Rattle.c_language.specs.TypeGrammar.{NamesType}
-use Rattle.c_language.specs.StatementGrammar.{arm, IsSeparated, IsSize, IsAmount, IsMalloc, IsHeap, IsSimple, IsDeclared, AreDeclared, IsDeclaration, IsInit, IsStep, IsStatement, AreStatements, IsBody, IsElse, AreArms}
+use Rattle.c_language.specs.StatementGrammar.{arm}
 use Rattle.c_language.proofs.ScopedForms.{scoped-Declare, scoped-Assign, scoped-Bump, scoped-Call, scoped-Heap, scoped-If, scoped-While, scoped-Do, scoped-Switch, scoped-Block, scoped-Return}
 use Rattle.c_language.proofs.TreedForms.{treed-Declare, treed-Assign, treed-Bump, treed-Call, treed-Heap, treed-If, treed-While, treed-Do, treed-Switch, treed-Block, treed-Return}
-use Rattle.c_language.proofs.PlainTypes.{has_no_length, base_plain, name_plain}
+use Rattle.c_language.proofs.PlainTypes.{has_no_length}
 use Rattle.c_types_trees.proofs.ScopeLemmas.{AreComplete}
 use Rattle.c_types_trees.specs.KeptPhrases.{HasNoLength, IsPlainName, IsPlainSize, IsPlainAmount, HasNoLengthIf}
 use Rattle.c_types_trees.specs.FitPhrases.{IsAllocation}
 use Rattle.c_types_program.proofs.StatementForms.{treed_part, scoped_part, treed-For, treed-arm, scoped-For, scoped-arm}
 use Rattle.c_types_program.proofs.TreedStatements.{IsTreed, AreTreed, IsTreedIf, IsTreedArm, AreTreedArms, is_treed-Declare, is_treed-Assign, is_treed-Bump, is_treed-Call, is_treed-Heap, is_treed-Return, is_treed-If, is_treed-While, is_treed-Do, is_treed-Block, is_treed-For, is_treed-arm, is_treed-Switch}
+use Rattle.c_tree.specs.declared.raw.expr.RawType.{RawType}
+use Rattle.c_tree.specs.declared.raw.statement.RawSize.TheVariants as size
+use Rattle.c_tree.specs.declared.raw.statement.RawAmount.TheVariants as amount
+use Rattle.c_tree.specs.declared.raw.statement.RawArm.{roll-RawArm}
+use Rattle.c_tree.specs.declared.raw.statement.RawStatement.{roll-RawStatement}
+use Rattle.c_tree.specs.declared.raw.statement.RawStatement.TheOpen.{RawStatement-F, RawArm-F}
+use Rattle.c_language.specs.CallRules.{IsStored}
+use Rattle.c_language.specs.ExprGrammar.{multiplicative_level, cast_level}
+use Rattle.c_language.specs.Spellings.{is_own_name}
+use Rattle.c_language.specs.TypeGrammar.{has_star}
+use Rattle.c_language.specs.Syntax.{binds, bare, starred, reaches, is_type_name, is_size, is_amount, is_heap, is_stored, is_target, Position, stands_step, arm_step, is_body, is_param, is_result, is_head}
+use Rattle.text_syntax.proofs.Folds.{standing, standing_arm, AllAre, ArmsAre, PartIs, PartsAre, body_gives}
+use Rattle.text_syntax.proofs.Types.{plain_type}
 
 -- ---- types
 
-result_plain : {ts rest : Tokens} {t : Option RawType} → IsResult ts t rest → HasNoLengthIf t
-result_plain IsResult.nothing = tt
-result_plain (IsResult.some h) = has_no_length (name_plain h)
+result_plain : (t : Option RawType) → option_map_or is_result t true ≡ true → HasNoLengthIf t
+result_plain None h = tt
+result_plain (Some t) h = has_no_length (plain_type t starred refl (and_parts (reaches t starred) _ h).0)
 
-pub head_plain : {ts rest : Tokens} {head : RawHead} → IsHead ts head rest → HasNoLengthIf head.result
-head_plain (IsHead.head is_static result keyword params) = result_plain result
+pub head_plain : (head : RawHead) → is_head head ≡ true → HasNoLengthIf head.result
+head_plain head h = result_plain head.result (and_parts (option_map_or is_result head.result true) (list_all is_param head.params) (and_parts (is_own_name head.name) _ h).1).0
 
-named_plain : {ts rest : Tokens} {t : RawTypeName} → NamesType ts t rest → HasNoLength t.base
-named_plain (NamesType.starred base stars) = has_no_length (base_plain base)
+named_plain : (t : RawTypeName) → is_type_name t ≡ true → HasNoLength t.base
+named_plain t h = has_no_length (plain_type t.base bare refl h)
 
 -- ---- allocations
 
-size_plain : {ts rest : Tokens} {z : RawSize} → IsSize ts z rest → IsPlainSize z
-size_plain (IsSize.of_type h) = named_plain h
-size_plain (IsSize.of_pointee h) = tt
-size_plain (IsSize.of_bare_pointee h) = tt
+size_plain : (z : RawSize) → is_size z ≡ true → IsPlainSize z
+size_plain (size.Type t) h = named_plain t h
+size_plain (size.Pointee name closed) h = tt
 
-amount_plain : {ts rest : Tokens} {n : RawAmount} → IsAmount ts n rest → IsPlainAmount n
-amount_plain (IsAmount.one h) = size_plain h
-amount_plain (IsAmount.counted a h) = size_plain h
-amount_plain (IsAmount.multiplied h a) = size_plain h
-amount_plain (IsAmount.bytes a) = tt
+amount_plain : (n : RawAmount) → is_amount n ≡ true → IsPlainAmount n
+amount_plain (amount.Size z) h = size_plain z h
+amount_plain (amount.CountSize a z) h = size_plain z (and_parts (binds a multiplicative_level) (is_size z) h).1
+amount_plain (amount.SizeCount z a) h = size_plain z (and_parts (is_size z) (binds a cast_level) h).0
+amount_plain (amount.Count a) h = tt
 
-malloc_plain : {ts rest : Tokens} {n : RawAmount} → IsMalloc ts n rest → IsPlainAmount n
-malloc_plain (IsMalloc.malloc h) = amount_plain h
+heap_plain : (cast : Option RawTypeName) (n : RawAmount) → is_heap cast n ≡ true → IsPlainName cast × IsPlainAmount n
+heap_plain None n h = (tt, amount_plain n h)
+heap_plain (Some t) n h =
+    let p = and_parts (is_type_name t && has_star t) (is_amount n) h in
+    (named_plain t (and_parts (is_type_name t) (has_star t) p.0).0, amount_plain n p.1)
 
-pub heap_plain : {ts rest : Tokens} {cast : Option RawTypeName} {n : RawAmount} → IsHeap ts cast n rest → IsPlainName cast × IsPlainAmount n
-heap_plain (IsHeap.uncast h) = (tt, malloc_plain h)
-heap_plain (IsHeap.cast t star h) = (named_plain t, malloc_plain h)
+stored_there : (to : RawTarget) → is_stored to ≡ true → IsStored to
+stored_there target.None h = absurd cc
+stored_there (target.Place a) h = tt
+stored_there (target.Declared v) h = tt
+
+-- what is allocated is stored, and no length stands in the type names
+pub is_allocation : (p : Position) (to : RawTarget) (cast : Option RawTypeName) (n : RawAmount) → (is_target p to && (is_stored to && is_heap cast n)) ≡ true → IsAllocation to cast n
+is_allocation p to cast n h =
+    let q = and_parts (is_stored to) (is_heap cast n) (and_parts (is_target p to) _ h).1 in
+    let r = heap_plain cast n q.1 in
+    record { stored = stored_there to q.0; name = r.0; amount = r.1 }
 
 module _ (raw : RawProgram) (complete : AreComplete raw (defined_structs raw)) where
   -- a statement has its tree where its phrases keep their rules
@@ -76,10 +97,6 @@ module _ (raw : RawProgram) (complete : AreComplete raw (defined_structs raw)) w
 
   abbrev pub HaveTrees : List RawStatement → Type 0
   HaveTrees all = AreTreed raw complete (map (treed raw) all) (map (scoped raw) all)
-
-  have_both : (some all : List RawStatement) → HaveTrees some → HaveTrees all → HaveTrees (some ++ all)
-  have_both [] all h k = k
-  have_both (a ∷ some) all h k = (h.0, have_both some all h.1 k)
 
   matched : {x y : Scoped (Option Statement)} {p q : Scoped (Stand → Phrases)} → x ≡ y → p ≡ q → IsTreed raw complete y q → IsTreed raw complete x p
   matched {x} {q} e f h = subst (IsTreed raw complete x) (sym f) (subst (λ z. IsTreed raw complete z q) (sym e) h)
@@ -163,69 +180,37 @@ module _ (raw : RawProgram) (complete : AreComplete raw (defined_structs raw)) w
       matched (treed-Switch raw l a arms) (scoped-Switch raw l a arms)
       (is_treed-Switch raw complete l a (map (treed_arm raw) arms) (map (scoped_of_arm raw) arms) h)
 
-  -- ---- along the grammar
+  -- ---- along the tree
 
-  simple_tree : {ts rest : Tokens} {a : RawStatement} → IsSimple ts a rest → HasTree a
-  simple_tree (IsSimple.assign {ts} {a} {b} op by left place right) = has-Assign (line_of ts) a op b
-  simple_tree (IsSimple.store_call {ts} {a} {w} {all} left place call) = has-Call (line_of ts) (target.Place a) w all
-  simple_tree (IsSimple.store_heap {ts} {a} {t} {n} left place heap) =
-      let plain = heap_plain heap in has-Heap (line_of ts) (target.Place a) t n (record { stored = tt; name = plain.0; amount = plain.1 })
-  simple_tree (IsSimple.bump_after {ts} {a} up left place) = has-Bump (line_of ts) a up false
-  simple_tree (IsSimple.bump_before {l} {a} up left place) = has-Bump l a up true
-  simple_tree (IsSimple.call {ts} {w} {all} call) = has-Call (line_of ts) target.None w all
+  trees_of : (xs : List RawStatement) → AllAre HasTree xs → HaveTrees xs
+  trees_of [] h = tt
+  trees_of (x ∷ xs) h = (h.0, trees_of xs h.1)
 
-  declared_tree : {line : ℕ} {base : RawType} {ts rest : Tokens} {a : RawStatement} → IsDeclared line base ts a rest → HasTree a
-  declared_tree {line} (IsDeclared.plain {v} declarator listed) = has-Declare line v init.None
-  declared_tree {line} (IsDeclared.value {v} {a} declarator listed value) = has-Declare line v (init.One a)
-  declared_tree {line} (IsDeclared.list {v} {all} declarator items) = has-Declare line v (init.Items all)
-  declared_tree {line} (IsDeclared.call {v} {w} {all} declarator listed call) = has-Call line (target.Declared v) w all
-  declared_tree {line} (IsDeclared.heap {v} {t} {n} declarator listed heap) =
-      let plain = heap_plain heap in has-Heap line (target.Declared v) t n (record { stored = tt; name = plain.0; amount = plain.1 })
+  arm_trees_of : (arms : List RawArm) → ArmsAre HasArmTree arms → HaveArmTrees arms
+  arm_trees_of [] h = tt
+  arm_trees_of (a ∷ arms) h = (h.0, arm_trees_of arms h.1)
 
-  separated_trees : {line : ℕ} {base : RawType} {ts rest : Tokens} {all : List RawStatement} → AreDeclared line base ts all rest → HaveTrees all
-  separated_trees (IsSeparated.last h) = (declared_tree h, tt)
-  separated_trees (IsSeparated.more h k) = (declared_tree h, separated_trees k)
+  tree_if : (x : Option RawStatement) → PartIs HasTree x → HasTreeIf x
+  tree_if None h = tt
+  tree_if (Some x) h = h
 
-  declaration_trees : {ts rest : Tokens} {all : List RawStatement} → IsDeclaration ts all rest → HaveTrees all
-  declaration_trees (IsDeclaration.declaration base declared) = separated_trees declared
+  form_tree : (y : RawStatement-F RawStatement RawArm) (p : Position) → true ≡ true → stands_step (standing y) p ≡ true → PartsAre HasTree HasArmTree y → HasTree (roll-RawStatement y)
+  form_tree (RawStatement-F.Declare l v i) p m h k = subst HasTree (sym (s.rolls-Declare l v i)) (has-Declare l v i)
+  form_tree (RawStatement-F.Assign l a op b) p m h k = subst HasTree (sym (s.rolls-Assign l a op b)) (has-Assign l a op b)
+  form_tree (RawStatement-F.Bump l a up before) p m h k = subst HasTree (sym (s.rolls-Bump l a up before)) (has-Bump l a up before)
+  form_tree (RawStatement-F.Call l to w args) p m h k = subst HasTree (sym (s.rolls-Call l to w args)) (has-Call l to w args)
+  form_tree (RawStatement-F.Heap l to cast n) p m h k = subst HasTree (sym (s.rolls-Heap l to cast n)) (has-Heap l to cast n (is_allocation p to cast n h))
+  form_tree (RawStatement-F.If l a b c) p m h k = subst HasTree (sym (s.rolls-If l a b c)) (has-If l a b c (trees_of b k.0) (trees_of c k.1))
+  form_tree (RawStatement-F.While l a b) p m h k = subst HasTree (sym (s.rolls-While l a b)) (has-While l a b (trees_of b k))
+  form_tree (RawStatement-F.Do l a b) p m h k = subst HasTree (sym (s.rolls-Do l a b)) (has-Do l a b (trees_of b k))
+  form_tree (RawStatement-F.For l i a x b) p m h k = subst HasTree (sym (s.rolls-For l i a x b)) (has-For l i a x b (tree_if i k.0) (tree_if x k.1) (trees_of b k.2))
+  form_tree (RawStatement-F.Switch l a arms) p m h k = subst HasTree (sym (s.rolls-Switch l a arms)) (has-Switch l a arms (arm_trees_of arms k))
+  form_tree (RawStatement-F.Block l b) p m h k = subst HasTree (sym (s.rolls-Block l b)) (has-Block l b (trees_of b k))
+  form_tree (RawStatement-F.Return l a) p m h k = subst HasTree (sym (s.rolls-Return l a)) (has-Return l a)
 
-  init_tree : {ts rest : Tokens} {a : Option RawStatement} → IsInit ts a rest → HasTreeIf a
-  init_tree IsInit.nothing = tt
-  init_tree (IsInit.simple h) = simple_tree h
-  init_tree (IsInit.declared base h) = declared_tree h
+  arm_form_tree : (y : RawArm-F RawStatement RawArm) → arm_step (standing_arm y) ≡ true → AllAre HasTree y.body → HasArmTree (roll-RawArm y)
+  arm_form_tree y h k = has-arm y.labels y.body (trees_of y.body k)
 
-  step_tree : {ts rest : Tokens} {a : Option RawStatement} → IsStep ts a rest → HasTreeIf a
-  step_tree IsStep.nothing = tt
-  step_tree (IsStep.simple h) = simple_tree h
-
-  mutual
-    pub statement_tree : {ts rest : Tokens} {a : RawStatement} → IsStatement ts a rest → HasTree a
-    statement_tree (IsStatement.simple h) = simple_tree h
-    statement_tree (IsStatement.returns {l}) = has-Return l None
-    statement_tree (IsStatement.returns_value {l} {a} h) = has-Return l (Some a)
-    statement_tree (IsStatement.block {l} {all} h) = has-Block l all (statements_trees h)
-    statement_tree (IsStatement.conditional {l} {a} {yes} {other} test h k) = has-If l a yes other (body_trees h) (else_trees k)
-    statement_tree (IsStatement.while_loop {l} {a} {all} test h) = has-While l a all (body_trees h)
-    statement_tree (IsStatement.do_loop {l} {a} {all} h test) = has-Do l a all (body_trees h)
-    statement_tree (IsStatement.for_loop {l} {first} {step} {a} {all} h test k m) = has-For l first a step all (init_tree h) (step_tree k) (body_trees m)
-    statement_tree (IsStatement.switch {l} {a} {arms} test h) = has-Switch l a arms (arms_trees h)
-
-    pub statements_trees : {ts rest : Tokens} {all : List RawStatement} → AreStatements ts all rest → HaveTrees all
-    statements_trees AreStatements.done = tt
-    statements_trees (AreStatements.empty h) = statements_trees h
-    statements_trees (AreStatements.declared {some} {all} h k) = have_both some all (declaration_trees h) (statements_trees k)
-    statements_trees (AreStatements.more h k) = (statement_tree h, statements_trees k)
-
-    body_trees : {ts rest : Tokens} {all : List RawStatement} → IsBody ts all rest → HaveTrees all
-    body_trees (IsBody.braces h) = statements_trees h
-    body_trees IsBody.nothing = tt
-    body_trees (IsBody.single brace h) = (statement_tree h, tt)
-
-    else_trees : {ts rest : Tokens} {all : List RawStatement} → IsElse ts all rest → HaveTrees all
-    else_trees (IsElse.otherwise h) = body_trees h
-    else_trees (IsElse.without h) = tt
-
-    arms_trees : {ts rest : Tokens} {arms : List RawArm} → AreArms ts arms rest → HaveArmTrees arms
-    arms_trees AreArms.none = tt
-    arms_trees (AreArms.broken {labels} {body} h k m) = (has-arm labels body (statements_trees k), arms_trees m)
-    arms_trees (AreArms.unbroken {labels} {body} h lacks k) = (has-arm labels body (statements_trees k), tt)
+  -- the statements of a body
+  pub body_trees : (body : List RawStatement) → is_body body ≡ true → HaveTrees body
+  body_trees body h = trees_of body (body_gives HasTree HasArmTree (λ p. true) refl refl refl form_tree arm_form_tree refl body h)
