@@ -8,3 +8,9 @@ pub mod Folds
 pub mod Types
 pub mod Equations
 pub mod Table
+pub mod TreeTokens
+pub mod TypeTokens
+pub mod Runs
+pub mod CallTokens
+pub mod StatementTokens
+pub mod ItemTokens
