@@ -33,10 +33,12 @@ pub mod Scoping
 pub mod Settling
 pub mod ShortLists
 pub mod SpacedWords
+pub mod SpelledForms
 pub mod StatementLayout
 pub mod StatementStarts
 pub mod SyntaxFeedless
 pub mod SyntaxFits
+pub mod SyntaxLayout
 pub mod Told
 pub mod TypeLayout
 pub mod UntoldItems

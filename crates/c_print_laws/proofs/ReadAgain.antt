@@ -1,5 +1,5 @@
 -- What is printed of the program of a text is read again as the same program but for lines.
-use Rattle.std.proofs.Common.{◌≡◌, true, arith, ℕ, max, List, [], ◌∷◌, ◌++◌, append-nil, reverse, map, Some, refl, sym, ap, subst, ◌∙◌}
+use Rattle.std.proofs.Common.{◌≡◌, ◌≤◌, true, arith, ℕ, max, List, [], ◌∷◌, ◌++◌, map, Some, refl, sym, ap, subst, ◌∙◌}
 use Rattle.c_tree.specs.declared.program.Program.{Program}
 use Rattle.c_tree.specs.declared.program.Var.{Var}
 use Rattle.c_tree.specs.Unlined.{unlined_var, SameButLines}
@@ -9,21 +9,18 @@ use Rattle.c_language.specs.Words.{Bytes}
 use Rattle.c_language.specs.TokenForms.{Tokens}
 use Rattle.c_language.specs.Tokens.{IsTokens, AreTokensOf}
 use Rattle.c_language.specs.declared.token.Before.TheVariants.{Blank}
-use Rattle.c_language.specs.LeftOut.{IsTold, BeginsLeftOut, IsLeftOut}
-use Rattle.c_language.specs.declared.token.Token.{Token}
-use Rattle.c_language.specs.ItemGrammar.{IsProgram}
 use Rattle.c_language.specs.Rules.{KeepsRules}
 use Rattle.c_language.specs.ProgramOf.{program_of}
+use Rattle.c_language.specs.StatementNesting.{program_nesting}
 use Rattle.c_language.specs.Layout.{layout}
 use Rattle.c_language.specs.Limits.{longest, longest_in_structs, longest_in_variables, array_length, cells, struct_cells, greatest_variable, object_cells}
-use Rattle.c_language.specs.Programs.{IsWithinLimits, IsWellFormed, IsTreeOf}
+use Rattle.c_language.specs.Programs.{IsWithinLimits, IsWellFormed}
 use Rattle.c_language.specs.Syntax.{IsSyntax}
 use Rattle.c_print.specs.Feedless.{feedless}
 use Rattle.c_text_layout.specs.RawLayout.{raw_layout}
-use Rattle.c_text_layout.specs.Settled.{SameInLayout, items_lack_lengths}
-use Rattle.c_text_layout.proofs.ItemPrint.{printed_is_read}
-use Rattle.c_text_layout.proofs.TextPrint.{formed_written}
 use Rattle.c_print_laws.specs.ReadAgain.{starless, comment_line, IsReadAgain}
+use Rattle.c_print_laws.specs.SyntaxLayout.{HasSyntax}
+use Rattle.c_print_laws.proofs.SyntaxLayout.{syntax_behind}
 use Rattle.c_print_laws.proofs.Commented.{behind_comment_line}
 use Rattle.c_print_laws.proofs.ItemLayout.{layout_of_tree}
 use Rattle.c_print_laws.proofs.ShortLists.{short_lists}
@@ -32,14 +29,8 @@ use Rattle.c_print_laws.proofs.Settling.{settled_program}
 use Rattle.c_print_laws.proofs.RulesKept.{settled_keeps, kept_by_settled}
 use Rattle.c_print_laws.proofs.SameProgram.{settled_has, has_settled}
 use Rattle.c_print_laws.proofs.LineLess.{layouts_same}
-use Rattle.c_print_laws.proofs.NestingKept.{nesting_kept}
-use Rattle.text_syntax.proofs.CalmTokens.{AreUntold, untold_at}
-use Rattle.c_print_laws.proofs.SyntaxFits.{tree_fits}
 use Rattle.text_syntax.proofs.Items.{text_is_syntax}
-use Rattle.c_print_laws.proofs.UntoldItems.{fitting_untold}
-use Rattle.c_print_laws.proofs.FittingKept.{fitting_kept}
 use Rattle.c_print_laws.proofs.ListForms.{is_counted, fine, lists_counted}
-use Rattle.c_language.proofs.FormedTokens.{formed_tokens}
 use Rattle.c_language.specs.Lists.{greatest}
 
 -- The layout of the program of a tree that is syntax and keeps all rules is that of the tree.
@@ -79,54 +70,55 @@ same_in_layout raw found p g next same keeps is =
     let last = has_settled found is_counted fine second middle.0 (ap program_of same ∙ middle.1) in
     (kept_by_settled found is_counted fine second (subst KeepsRules (sym same) (settled_keeps raw is_counted fine first keeps)), (last.0, last.1, middle.2 ∙ last.2))
 
--- A tree that is the same in all that the layout keeps, and has no lengths of parameters, keeps the limits too.
-limits_kept : (raw found : RawProgram) (p q : Program) → SameInLayout found raw → items_lack_lengths found.items ≡ true → SameButLines p q → IsWithinLimits raw p → IsWithinLimits found q
-limits_kept raw found p q same bare but_lines h =
-    let n = nesting_kept raw found same bare in
+-- A tree that nests no deeper, with the same program but for lines, keeps the limits too.
+limits_kept : (raw found : RawProgram) (p q : Program) → program_nesting found ≤ program_nesting raw → SameButLines p q → IsWithinLimits raw p → IsWithinLimits found q
+limits_kept raw found p q n but_lines h =
     let l = lengths_same p q but_lines in
     let c = cells_same p q but_lines in
     record { nesting = omega (arith, n, h.nesting); lengths = omega (arith, l, h.lengths); cells = omega (arith, c, h.cells) }
 
--- ---- left-out constructs
-
-none_begins : {ts front behind : Tokens} {t : Token} (all : RawProgram) → IsProgram ts all → AreUntold [] (front ++ t ∷ behind) → BeginsLeftOut ts front t behind → ⊥
-none_begins {front = front} {behind} {t} all is h (BeginsLeftOut.told told) = untold_at front [] t behind h (subst (λ (x : Tokens). IsTold x t behind) (sym (append-nil (reverse front))) told)
-none_begins all is h (BeginsLeftOut.without_tree none k) = none all is
-
--- Where none is told at tokens in the grammar, no left-out construct begins among them.
-pub none_left_out : {ts : Tokens} (all : RawProgram) → IsProgram ts all → AreUntold [] ts → (text : Bytes) (line : ℕ) → IsLeftOut ts text line → ⊥
-none_left_out all is h text line x = none_begins all is (subst (AreUntold []) x.split h) x.begins
-
--- The layout of a well-formed program is read again behind what its tokens stand behind.
-read_behind : (front : Bytes) (line : ℕ) → ((text : Bytes) (ts : Tokens) → IsTokens Blank line text ts → AreTokensOf (front ++ text) ts) → (p : Program) → IsWellFormed p → IsReadAgain (front ++ layout p) p
+-- The layout of a program that has syntax is read again behind what its tokens stand behind.
+read_behind : (front : Bytes) (line : ℕ) → ((text : Bytes) (ts : Tokens) → IsTokens Blank line text ts → AreTokensOf (front ++ text) ts) → (p : Program) → HasSyntax p → IsReadAgain (front ++ layout p) p
 read_behind front line behind p h =
     let raw = h.raw in
-    let ts = h.tree.tokens in
-    let g = h.tree.is.grammar in
-    let r = printed_is_read line raw g (formed_written ts h.tree.is.formed) (short_lists raw h.same h.has.program h.has.rules h.within.lengths) in
-    let syntax = text_is_syntax raw h.tree in
-    let untold = fitting_untold r.is r.lean (fitting_kept raw r.found r.same (tree_fits raw syntax)) in
-    let tree : IsTreeOf r.tokens r.found = record { formed = formed_tokens r.lexed; grammar = r.is; whole = none_left_out r.found r.is untold } in
-    let again = text_is_syntax r.found (record { tokens = r.tokens; is = tree }) in
-    let k = same_in_layout raw r.found h.same syntax again (ap (λ (xs : List RawItem). record { items = xs }) r.same) h.has.rules h.has.program in
-    let laid : layout p ≡ raw_layout raw = layouts_same p h.same h.but_lines ∙ layout_of_text raw h.same syntax h.has.rules h.has.program in
+    let r = syntax_behind front line behind raw h.syntax (short_lists raw h.same h.has.program h.has.rules h.within.lengths) in
+    let again = text_is_syntax r.found (record { tokens = r.tokens; is = r.tree }) in
+    let k = same_in_layout raw r.found h.same h.syntax again (ap (λ (xs : List RawItem). record { items = xs }) r.same) h.has.rules h.has.program in
+    let laid : layout p ≡ raw_layout raw = layouts_same p h.same h.but_lines ∙ layout_of_text raw h.same h.syntax h.has.rules h.has.program in
     record {
       found = r.found;
       again = k.1.0;
       accepted = record {
         tokens = r.tokens;
-        are = subst (λ (text : Bytes). AreTokensOf (front ++ text) r.tokens) (sym laid) (behind (raw_layout raw) r.tokens r.lexed);
-        tree = tree;
+        are = subst (λ (text : Bytes). AreTokensOf (front ++ text) r.tokens) (sym laid) r.are;
+        tree = r.tree;
         has = record { rules = k.0; program = k.1.1 };
       };
-      within = limits_kept raw r.found h.same k.1.0 r.same r.bare k.1.2 h.within;
+      within = limits_kept raw r.found h.same k.1.0 r.nesting k.1.2 h.within;
       same = h.but_lines ∙ k.1.2;
+    }
+
+-- The tree of a well-formed program is syntax.
+pub has_syntax : (p : Program) → IsWellFormed p → HasSyntax p
+has_syntax p h = record { raw = h.raw; same = h.same; syntax = text_is_syntax h.raw h.tree; has = h.has; within = h.within; but_lines = h.but_lines }
+
+-- A program that has syntax is well formed: its layout is a text.
+pub syntax_well_formed : (p : Program) → HasSyntax p → IsWellFormed p
+syntax_well_formed p h =
+    let r = read_behind [] 1 (λ text ts lexed. lexed) p h in
+    record {
+      raw = r.found;
+      same = r.again;
+      tree = record { tokens = r.accepted.tokens; is = r.accepted.tree };
+      has = r.accepted.has;
+      within = r.within;
+      but_lines = r.same;
     }
 
 -- The layout of a well-formed program is read again.
 pub layout_is_read_again : (p : Program) → IsWellFormed p → IsReadAgain (layout p) p
-layout_is_read_again p h = read_behind [] 1 (λ text ts lexed. lexed) p h
+layout_is_read_again p h = read_behind [] 1 (λ text ts lexed. lexed) p (has_syntax p h)
 
 -- And so is the layout behind a comment of one line.
 pub commented_is_read_again : (inside : Bytes) (p : Program) → feedless inside ≡ true → starless inside ≡ true → IsWellFormed p → IsReadAgain (comment_line inside ++ layout p) p
-commented_is_read_again inside p plain calm h = read_behind (comment_line inside) 2 (behind_comment_line inside plain calm) p h
+commented_is_read_again inside p plain calm h = read_behind (comment_line inside) 2 (behind_comment_line inside plain calm) p (has_syntax p h)

@@ -5,7 +5,21 @@
 #![tactic(auto)]
 
 ghost use Rattle.c_print_laws.specs.Places.{StatementsStart, TextsAreFeedless};
+ghost use Rattle.c_print_laws.specs.SyntaxLayout.{SyntaxIsReadAgain, WellFormedHasSyntax};
 ghost use Rattle.c_print_laws.specs.ReadAgain.{LayoutIsOfText, LayoutKeepsPrograms, LayoutIsReadAgain, CommentedIsReadAgain, LayoutHasNoLines, LimitsAreSame};
+
+/// A law: the layout of a tree that is syntax, in which each list of initialisers has fewer than 2 to
+/// the 32 items, is a text of the grammar with no left-out construct, and its tree is the same in all
+/// that the layout keeps and nests no deeper.
+pub fn syntax_is_read_again()
+    ensures { SyntaxIsReadAgain }
+{}
+
+/// A law: a program is well formed where it is, but for lines, that of a tree that is syntax and keeps
+/// all rules and limits, and only there.
+pub fn well_formed_has_syntax()
+    ensures { WellFormedHasSyntax }
+{}
 
 /// A law: the layout of the program of a tree that is syntax and keeps all rules is that of the tree.
 pub fn layout_is_of_text()

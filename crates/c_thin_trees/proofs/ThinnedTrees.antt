@@ -15,7 +15,7 @@ use Rattle.text_syntax.proofs.Items.{text_is_syntax}
 use Rattle.c_print_laws.proofs.Fitting.{body_fits, head_fits, item_fits, items_fit, items_append}
 use Rattle.c_print_laws.proofs.SyntaxFits.{tree_fits}
 use Rattle.c_print_laws.proofs.UntoldItems.{fitting_untold}
-use Rattle.c_print_laws.proofs.ReadAgain.{none_left_out}
+use Rattle.c_print_laws.proofs.SyntaxLayout.{none_left_out}
 use Rattle.c_thin_trees.proofs.Pieces.{are_formed, all_formed}
 use Rattle.c_thin_trees.proofs.LessLeft.{body_less}
 use Rattle.c_thin_trees.proofs.ItemLeft.{items_itemed, items_listed}
