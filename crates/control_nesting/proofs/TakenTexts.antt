@@ -31,7 +31,7 @@ use Rattle.c_language.specs.DeclaredTypes.{function_id}
 use Rattle.c_language.specs.ExprTypes.{operand, integer_of, type_of}
 use Rattle.c_language.specs.declared.expr_type.Operand.{Operand}
 use Rattle.c_language.specs.Scopes.{Scope, opened, numbered, entered, outset, Scoped, in_order, part_gives, after_part, scope_of_test, with_target}
-use Rattle.c_language.specs.Phrases.{Stand, InBlock, InArm, InFor, Switches, Phrases, joined_at, at_stand, ArmText, labels_of, phrases_of_arms, block_phrases, phrases_step, scoped_step, scoped_arm, scoped, scoped_of_arm, body_phrases, head_phrases, item_phrases, items_phrases, after_item, phrases}
+use Rattle.c_language.specs.Phrases.{Stand, InBlock, InArm, InFor, Switches, Phrases, joined_at, at_stand, ArmText, labels_of, phrases_of_arms, block_phrases, phrases_step, scoped_step, scoped_arm, scoped, scoped_of_arm, body_phrases, head_phrases, item_phrases, items_phrases, after_item}
 use Rattle.c_language.specs.ProgramOf as trees_of
 use Rattle.c_language.specs.ProgramOf.{collected, expr_of, args_tree, only_tree, call_tree, ctype_if, ArmTree, arm_tree, at_type, part_tree, block_tree, tree_step, treed_step, arm_tree_step, treed, target_tree, switch_type, label_tree, body_of, function_tree, functions_from, amount_tree, treed_arm}
 use Rattle.c_language.specs.TypeGrammar.{named_type}
@@ -43,6 +43,7 @@ use Rattle.c_scope_laws.specs.Thinning.{block_after, part_scope, body_scope}
 use Rattle.control_nesting.specs.Laws.{TextsTakeAll}
 use Rattle.control_nesting.specs.TakenArms.{ArmTakes, arms_taken, takes_all, arm_takes, TakesAll}
 use Rattle.control_nesting.proofs.TakenForms.{takes-Declare, takes-Assign, takes-Bump, takes-Invoke, takes-Fetch, takes-Write, takes-Print, takes-Heap, takes-Release, takes-If, takes-While, takes-Do, takes-For, takes-Switch, takes-Block, takes-Return, takes-arm}
+use Rattle.text_syntax.proofs.Items.{text_is_syntax}
 use Rattle.control_nesting.proofs.TakenLabels.{has_label, labelled_step, labelled_arm, labelled, labelled_of_arm, are_labelled, AreLabelled, program_labelled}
 use Rattle.control_nesting.proofs.TakenCases.{Apart, labels_apart, first_there}
 use Rattle.c_language.specs.ConstantEvaluation as constants
@@ -321,7 +322,7 @@ program_taken raw p tree has =
     let vars = then_there _ (trees_of.variables_of raw) p items.same in
     let rest = both_there _ (trees_of.structs_of raw) (trees_of.functions_of raw) p vars.same in
     subst TakesAll rest.same
-    (items_taken raw raw.items outset rest.right rest.right_there (program_labelled raw tree.is.grammar) (phrases_kept raw has.rules))
+    (items_taken raw raw.items outset rest.right rest.right_there (program_labelled raw (text_is_syntax raw tree)) (phrases_kept raw has.rules))
 
 pub texts_taken : TextsTakeAll
 texts_taken raw p tree has = program_taken raw p tree has
