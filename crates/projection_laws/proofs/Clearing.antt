@@ -28,7 +28,7 @@ use Rattle.built_forms.specs.IntegerForms.{IsIntegerMain}
 use Rattle.c_scope_laws.specs.Thinning.{declares, after_list, part_scope}
 use Rattle.c_scope_laws.specs.ThinnedBodies.{AreMet, Left, ArmLeft, these, all_left, strays, gone, beyond, part_needs, part_gone, arms_needs, arms_gone, left_alone, alone_all, alone_one, block_of, plain, declared, if_left, while_left, do_left, for_left, switch_left, left, left_arm, body_left}
 use Rattle.c_scope_laws.proofs.ThinnedBodies.{both_met, none_strays, left_after}
-use Rattle.c_thin_trees.proofs.LeftForms.{left-Declare, left-Assign, left-Bump, left-Call, left-While, left-Do, left-Switch, left-Block, left-Return, left-arm}
+use Rattle.thinned_syntax.proofs.LeftForms.{left-Declare, left-Assign, left-Bump, left-Call, left-While, left-Do, left-Switch, left-Block, left-Return, left-arm}
 use Rattle.projection_laws.specs.Nested.{governs, IsNested}
 use Rattle.projection_laws.specs.Staying.{Rest, any_stays, all_clear, part_stays, part_clear, rest_step, rest_arm, rest, arm_rest, is_clear, IsClear}
 use Rattle.projection_laws.proofs.IntegerTexts.{Is, Are, IsPart, ArmsAre}

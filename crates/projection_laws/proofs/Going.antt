@@ -24,7 +24,7 @@ use Rattle.projection_laws.specs.Nested.{any_kept, part_kept, nest, arm_nest}
 use Rattle.projection_laws.proofs.IntegerTexts.{Is, Are, IsPart, ArmsAre}
 use Rattle.projection_laws.proofs.StatementForms.{nest-Declare, nest-Assign, nest-Bump, nest-Write, nest-Print, nest-If, nest-While, nest-Do, nest-For, nest-Switch, nest-Block, nest-Return, nest-arm}
 use Rattle.projection_laws.proofs.Reaching.{grows, all_grow, part_grows, arms_grow}
-use Rattle.c_thin_trees.proofs.LeftForms.{left-Declare, left-Assign, left-Bump, left-Call, left-While, left-Do, left-Switch, left-Block, left-Return, left-arm}
+use Rattle.thinned_syntax.proofs.LeftForms.{left-Declare, left-Assign, left-Bump, left-Call, left-While, left-Do, left-Switch, left-Block, left-Return, left-arm}
 use Rattle.c_scope_laws.proofs.ThinnedBodies.{join_met, left_after}
 use Rattle.projection_laws.proofs.LeftScopes.{arm_after, left_of_if, left_of_for}
 use Rattle.c_language.specs.StatementGrammar.{arm}

@@ -11,7 +11,7 @@ use Rattle.projection.specs.Kept.{Kept}
 use Rattle.c_scope_laws.specs.Thinning.{after_list, block_after, part_scope, body_scope}
 use Rattle.c_scope_laws.specs.ThinnedBodies.{Left, ArmLeft, if_left, for_left, block_left, left_step, left_arm_step, left, left_arm, part_given, body_left}
 use Rattle.c_scope_laws.proofs.ThinnedBodies.{left_after_block, left_after_part}
-use Rattle.c_thin_trees.proofs.LeftForms.{left-If, left-arm, left-For}
+use Rattle.thinned_syntax.proofs.LeftForms.{left-If, left-arm, left-For}
 use Rattle.c_language.specs.StatementGrammar.{arm}
 
 module _ (k : Kept) (raw : RawProgram) where

@@ -44,7 +44,7 @@ use Rattle.c_scope_laws.specs.Thinning.{name_stays, found, EntryStays, NamesStay
 use Rattle.c_scope_laws.specs.ThinnedBodies.{AreMet, Left, ArmLeft, all_left, gone, beyond, part_needs, part_gone, arms_labels, arms_needs, left_alone, alone_all, alone_one, plain, declared, counted_var, counted_type, count_needs, if_left, while_left, do_left, for_left, switch_left, left, left_arm, body_left, part_given}
 use Rattle.c_scope_laws.proofs.Trees.{in_one}
 use Rattle.c_scope_laws.proofs.NamedTrees.{kept_by_tree}
-use Rattle.c_thin_trees.proofs.Counted.{counted-Integer}
+use Rattle.thinned_syntax.proofs.Counted.{counted-Integer}
 use Rattle.c_scope_laws.proofs.ThinnedBodies.{both_met, join_met, Met, block_alone, left_after}
 use Rattle.c_scope_laws.proofs.CountedLengths.{of_integer}
 use Rattle.projection_laws.specs.Nested.{any_kept, all_fit, part_kept, part_fits, governs, nest, arm_nest}
@@ -53,7 +53,7 @@ use Rattle.projection_laws.proofs.IntegerTexts.{NoVariable, IsQuiet, NoNames, St
 use Rattle.projection_laws.proofs.Constants.{pick_two}
 use Rattle.projection_laws.proofs.StatementForms.{refers-Declare, refers-Assign, refers-Bump, refers-Write, refers-Print, refers-If, refers-While, refers-Do, refers-For, refers-Switch, refers-Block, refers-Return, refers-arm, nest-If, nest-While, nest-Do, nest-For, nest-Switch, nest-Block, nest-arm}
 use Rattle.projection_laws.proofs.Reaching.{onward, AllHold, holds_change, Spans, spans_later, grows, all_grow, part_grows, arms_grow, spans_after, all_spans, part_spans, expr_spans, reaches, all_reach, part_reaches, arms_reach}
-use Rattle.c_thin_trees.proofs.LeftForms.{left-Declare, left-Assign, left-Bump, left-Call, left-While, left-Do, left-Switch, left-Block, left-Return, left-arm}
+use Rattle.thinned_syntax.proofs.LeftForms.{left-Declare, left-Assign, left-Bump, left-Call, left-While, left-Do, left-Switch, left-Block, left-Return, left-arm}
 use Rattle.projection_laws.proofs.LeftScopes.{arm_after, left_of_if, left_of_for}
 use Rattle.projection_laws.proofs.Going.{kept_of, IsGone, PartGone, Free, gone_needs, part_needs_gone, goes, all_go, part_goes}
 use Rattle.c_language.specs.StatementGrammar.{arm}

@@ -14,7 +14,7 @@ use Rattle.built_forms.specs.IntegerForms.{IsPlainItem, IsIntegerLocal, IsIntege
 use Rattle.c_scope_laws.specs.Following.{kept_functions}
 use Rattle.c_print_laws.proofs.ForParts.{program_tidy}
 use Rattle.text_syntax.proofs.Items.{text_is_syntax}
-use Rattle.c_thin_trees.proofs.WellFormed.{thinned_well_formed}
+use Rattle.thinned_syntax.proofs.WellFormed.{thinned_well_formed}
 use Rattle.projection_laws.specs.Nested.{is_nested, IsNested}
 use Rattle.projection_laws.proofs.Going.{kept_of}
 use Rattle.projection_laws.proofs.ClosedMains.{IsFine, IsMetMain, main_closed, main_met}
@@ -57,7 +57,7 @@ module _ (raw : RawProgram) (q : Program) (keeps : ℕ → Bool) (m : IsIntegerM
       let closed = main_closed raw vars keeps q m.main has (program_tidy raw (text_is_syntax raw tree)) plain locals m.functions_are fine in
       subst IsWellFormed
       (program_same vars keeps (kept_functions (kept_of vars keeps) raw) (first_kept vars keeps raw (λ h. has.rules 5 1 (IsBroken.no_main h))) q m.main plain locals m.functions_are m.statements_are)
-      (thinned_well_formed (kept_of vars keeps) raw q tree has within closed)
+      (thinned_well_formed (kept_of vars keeps) raw q (text_is_syntax raw tree) has within closed)
 
 pub projection_well_formed : (p : Program) (keeps : ℕ → Bool) → IsIntegerMain p → IsNested keeps p → IsWellFormed p → IsWellFormed (projection p keeps)
 projection_well_formed p keeps main nested ok =

@@ -1,10 +1,11 @@
--- What stays of the program of a text is well formed.
+-- What stays of the program of a tree that is syntax is well formed.
 use Rattle.std.proofs.Common.{◌≤◌, ℕ, suc, max, List, [], ◌∷◌, Bool, true, false, refl, arith}
 use Rattle.c_tree.specs.declared.program.Program.{Program}
 use Rattle.c_tree.specs.declared.program.Var.{Var}
 use Rattle.c_tree.specs.declared.raw.program.RawProgram.{RawProgram}
 use Rattle.c_language.specs.Limits.{longest, longest_in_variables, cells, struct_cells, greatest_variable}
-use Rattle.c_language.specs.Programs.{IsTree, HasProgram, IsWithinLimits, IsWellFormed}
+use Rattle.c_language.specs.Programs.{HasProgram, IsWithinLimits, IsWellFormed}
+use Rattle.c_language.specs.Syntax.{IsSyntax}
 use Rattle.projection.specs.Kept.{Kept, rank}
 use Rattle.projection.specs.Projection.{if_so, projected_var, projected_vars, projected_program}
 use Rattle.c_scope_laws.specs.Following.{kept_functions}
@@ -13,7 +14,10 @@ use Rattle.c_scope_laws.proofs.FunctionNumbers.{numbers_kept}
 use Rattle.c_scope_laws.proofs.ItemWalking.{thinner_keeps}
 use Rattle.c_scope_laws.proofs.ProgramThinning.{program_thins}
 use Rattle.c_scope_laws.proofs.ThinnedTexts.{text_left}
-use Rattle.c_thin_trees.proofs.ThinnedTrees.{thinned_tree, thinned_nests}
+use Rattle.c_print_laws.proofs.ReadAgain.{syntax_well_formed}
+use Rattle.thinned_syntax.proofs.LeftSyntax as syntax
+use Rattle.thinned_syntax.proofs.LeftNests as nests
+use Rattle.thinned_syntax.proofs.ThinnedTexts.{text_is_left}
 
 -- ---- limits
 
@@ -39,19 +43,20 @@ module _ (k : Kept) (g : ℕ → ℕ) where
 
 -- ---- programs
 
--- what stays of the program of a text that keeps all limits is well formed, where what is kept is a text
-pub thinned_well_formed : (k : Kept) (raw : RawProgram) (p : Program) → IsTree raw → HasProgram raw p → IsWithinLimits raw p → KeepsText k raw → IsWellFormed (projected_program k (kept_functions k raw) p)
-thinned_well_formed k raw p tree has within closed =
+-- what stays of the program of a tree that is syntax, within the limits, is well formed, where what is kept is a text
+pub thinned_well_formed : (k : Kept) (raw : RawProgram) (p : Program) → IsSyntax raw → HasProgram raw p → IsWithinLimits raw p → KeepsText k raw → IsWellFormed (projected_program k (kept_functions k raw) p)
+thinned_well_formed k raw p h has within closed =
     let other = thinned_text k raw in
     let q = projected_program k (kept_functions k raw) p in
     let thin = text_left k raw has.rules closed in
-    let n = thinned_nests k raw in
+    let left = text_is_left k raw closed in
+    let n = nests.items_nest left in
     let l = variables_longest k (rank (kept_functions k raw)) 0 p.vars in
     let c = variables_greatest k (rank (kept_functions k raw)) (struct_cells p) 0 p.vars in
-    record {
+    syntax_well_formed q (record {
       raw = other;
       same = q;
-      tree = thinned_tree k raw tree closed;
+      syntax = syntax.items_left left h;
       has = record {
         rules = λ number line broken. thinner_keeps k raw other thin has.rules number line broken;
         program = program_thins k (kept_functions k raw) raw other p thin (numbers_kept k raw other thin.items) has.rules has.program;
@@ -62,4 +67,4 @@ thinned_well_formed k raw p tree has within closed =
         cells = omega (arith, c, within.cells);
       };
       but_lines = refl;
-    }
+    })
