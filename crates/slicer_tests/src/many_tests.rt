@@ -252,5 +252,10 @@ fn a_word_that_is_not_utf8_is_outside_the_grammar(rt: HostRuntime) -> Result<(),
     let mut words = split_words(alloc, "slice two.c 7")?;
     words.push(Text::from_slice(alloc, &[0xff])?)?;
     let ended = run(alloc, &words, file(alloc, "two.c", TWO)?, &NONE_FAILING)?;
-    is_end(&rt, &ended, (Status::Usage, "", USAGE), "a word of one byte")
+    is_end(
+        &rt,
+        &ended,
+        (Status::Usage, "", USAGE),
+        "a word of one byte",
+    )
 }

@@ -30,7 +30,6 @@ use Rattle.text_syntax.proofs.Runs.{Front, nothing, join, sign, word, of, of_dec
 
 -- ---- calls
 
-
 arg_tokens : (strings : Bool) (a : RawArg) → is_arg strings a ≡ true → Run (λ ts r. IsArg ts a r)
 arg_tokens strings (Value a) h = let x = expr_tokens a conditional_level 0 h in record { front = of x; is = λ r. IsArg.value (x.is r) }
 arg_tokens strings (Literal text) h =
