@@ -1,8 +1,7 @@
 -- What a tree shows of the left-out constructs that tokens alone tell: returns, strings, and struct types of results and parameters.
-use Rattle.std.proofs.Common.{◌≡◌, ℕ, List, [], ◌∷◌, ◌++◌, map, Bool, true, false, not, ◌&&◌, ◌||◌, codes, Option, Some, None, sym, ap, ◌∙◌}
+use Rattle.std.proofs.Common.{◌≡◌, ℕ, List, [], ◌∷◌, map, Bool, true, false, not, ◌&&◌, ◌||◌, codes, Option, Some, None, sym, ap, ◌∙◌}
 use Rattle.std.specs.Prelude.{bytes_eq}
 use Rattle.std.specs.List.{list_all}
-use Rattle.std.proofs.lemmas.Bool.{and_parts, and_from, or_left}
 use Rattle.c_arith.specs.declared.operators.BinaryOp.{BinaryOp}
 use Rattle.c_tree.specs.declared.raw.expr.RawExpr.{RawExpr}
 use Rattle.c_tree.specs.declared.raw.expr.RawType.{RawType, fold-roll-RawType}
@@ -100,12 +99,6 @@ fits_as y = fold-roll-RawStatement Bool Bool fits_step arm_fits_step y
 pub fits-Declare : (l : ℕ) (v : RawVar) (i : RawInit) → fits (s.Declare l v i) ≡ true
 fits-Declare l v i = ap fits (sym (s.rolls-Declare l v i)) ∙ fits_as (RawStatement-F.Declare l v i)
 
-pub fits-Assign : (l : ℕ) (a : RawExpr) (op : Option BinaryOp) (b : RawExpr) → fits (s.Assign l a op b) ≡ true
-fits-Assign l a op b = ap fits (sym (s.rolls-Assign l a op b)) ∙ fits_as (RawStatement-F.Assign l a op b)
-
-pub fits-Bump : (l : ℕ) (a : RawExpr) (up before : Bool) → fits (s.Bump l a up before) ≡ true
-fits-Bump l a up before = ap fits (sym (s.rolls-Bump l a up before)) ∙ fits_as (RawStatement-F.Bump l a up before)
-
 pub fits-Call : (l : ℕ) (to : RawTarget) (f : Bytes) (args : List RawArg) → fits (s.Call l to f args) ≡ strings_fit f args
 fits-Call l to f args = ap fits (sym (s.rolls-Call l to f args)) ∙ fits_as (RawStatement-F.Call l to f args)
 
@@ -202,21 +195,3 @@ item_fits (item.Define l h body) = head_fits h && body_fits body
 abbrev pub items_fit : List RawItem → Bool
 items_fit [] = true
 items_fit (x ∷ xs) = item_fits x && items_fit xs
-
--- ---- lists one after another
-
-pub fits_append : (xs ys : List RawStatement) → list_fits xs ≡ true → list_fits ys ≡ true → list_fits (xs ++ ys) ≡ true
-fits_append [] ys h k = k
-fits_append (x ∷ xs) ys h k = let p = and_parts (fits x) (list_fits xs) h in and_from _ _ p.0 (fits_append xs ys p.1 k)
-
-body_cons : (x : RawStatement) (xs : List RawStatement) → fits x ≡ true → body_fits xs ≡ true → body_fits (x ∷ xs) ≡ true
-body_cons x [] h k = or_left (fits x) (is_return x) h
-body_cons x (y ∷ ys) h k = and_from _ _ h k
-
-pub body_append : (xs ys : List RawStatement) → list_fits xs ≡ true → body_fits ys ≡ true → body_fits (xs ++ ys) ≡ true
-body_append [] ys h k = k
-body_append (x ∷ xs) ys h k = let p = and_parts (fits x) (list_fits xs) h in body_cons x (xs ++ ys) p.0 (body_append xs ys p.1 k)
-
-pub items_append : (xs ys : List RawItem) → items_fit xs ≡ true → items_fit ys ≡ true → items_fit (xs ++ ys) ≡ true
-items_append [] ys h k = k
-items_append (x ∷ xs) ys h k = let p = and_parts _ (items_fit xs) h in and_from _ _ p.0 (items_append xs ys p.1 k)

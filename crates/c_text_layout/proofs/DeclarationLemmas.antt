@@ -2,21 +2,15 @@
 use Rattle.std.proofs.Common.{◌≡◌, ℕ, ◌&&◌, List, [], ◌∷◌, ◌++◌, map, Bool, true, Option, Some, None, refl, sym, ap, ◌∙◌}
 use Rattle.std.proofs.lemmas.Bool.{and_parts, and_from}
 use Rattle.c_language.specs.Lists.{all_true}
-use Rattle.c_arith.specs.declared.operators.BinaryOp.{BinaryOp}
 use Rattle.c_tree.specs.declared.raw.expr.RawExpr.{RawExpr}
 use Rattle.c_tree.specs.declared.raw.expr.RawVar.{RawVar}
 use Rattle.c_tree.specs.declared.raw.program.RawInit.{RawInit}
 use Rattle.c_tree.specs.declared.raw.program.RawItem.{RawItem}
-use Rattle.c_tree.specs.declared.raw.statement.RawTarget.{RawTarget}
-use Rattle.c_tree.specs.declared.raw.statement.RawArg.{RawArg}
-use Rattle.c_tree.specs.declared.raw.statement.RawTypeName.{RawTypeName}
-use Rattle.c_tree.specs.declared.raw.statement.RawAmount.{RawAmount}
 use Rattle.c_tree.specs.declared.raw.statement.RawLabel.{RawLabel}
 use Rattle.c_tree.specs.declared.raw.statement.RawStatement.{RawStatement, roll-RawStatement, map-RawStatement, fold-roll-RawStatement}
 use Rattle.c_tree.specs.declared.raw.statement.RawStatement.TheOpen.{RawStatement-F}
 use Rattle.c_tree.specs.declared.raw.statement.RawStatement.TheVariants as s
 use Rattle.c_tree.specs.declared.raw.statement.RawArm.{RawArm, fold-RawArm, fold-roll-RawArm}
-use Rattle.c_language.specs.Words.{Bytes}
 use Rattle.c_language.specs.StatementGrammar.{arm}
 use Rattle.c_text_layout.specs.Declarations.{declares_step, arm_declares, declarations_pass, item_passes, items_pass}
 
@@ -32,21 +26,6 @@ module _ (test : RawVar → RawInit → Bool) where
 
   pub pass-Declare : (l : ℕ) (v : RawVar) (i : RawInit) → declarations_pass test (s.Declare l v i) ≡ test v i
   pass-Declare l v i = ap (declarations_pass test) (sym (s.rolls-Declare l v i)) ∙ passes (RawStatement-F.Declare l v i)
-
-  pub pass-Assign : (l : ℕ) (a : RawExpr) (op : Option BinaryOp) (b : RawExpr) → declarations_pass test (s.Assign l a op b) ≡ true
-  pass-Assign l a op b = ap (declarations_pass test) (sym (s.rolls-Assign l a op b)) ∙ passes (RawStatement-F.Assign l a op b)
-
-  pub pass-Bump : (l : ℕ) (a : RawExpr) (up before : Bool) → declarations_pass test (s.Bump l a up before) ≡ true
-  pass-Bump l a up before = ap (declarations_pass test) (sym (s.rolls-Bump l a up before)) ∙ passes (RawStatement-F.Bump l a up before)
-
-  pub pass-Call : (l : ℕ) (to : RawTarget) (f : Bytes) (args : List RawArg) → declarations_pass test (s.Call l to f args) ≡ true
-  pass-Call l to f args = ap (declarations_pass test) (sym (s.rolls-Call l to f args)) ∙ passes (RawStatement-F.Call l to f args)
-
-  pub pass-Heap : (l : ℕ) (to : RawTarget) (t : Option RawTypeName) (n : RawAmount) → declarations_pass test (s.Heap l to t n) ≡ true
-  pass-Heap l to t n = ap (declarations_pass test) (sym (s.rolls-Heap l to t n)) ∙ passes (RawStatement-F.Heap l to t n)
-
-  pub pass-Return : (l : ℕ) (a : Option RawExpr) → declarations_pass test (s.Return l a) ≡ true
-  pass-Return l a = ap (declarations_pass test) (sym (s.rolls-Return l a)) ∙ passes (RawStatement-F.Return l a)
 
   abbrev pub list_passes : List RawStatement → Bool
   list_passes xs = all_true (map (declarations_pass test) xs)
@@ -79,18 +58,10 @@ module _ (test : RawVar → RawInit → Bool) where
   pub pass-arm : (labels : List RawLabel) (body : List RawStatement) → arm_passes test (arm labels body) ≡ list_passes body
   pass-arm labels body = fold-roll-RawArm Bool Bool (declares_step test) arm_declares (record { labels = labels; body = body })
 
-  pub lists_append : (xs ys : List RawStatement) → list_passes xs ≡ true → list_passes ys ≡ true → list_passes (xs ++ ys) ≡ true
-  lists_append [] ys h k = k
-  lists_append (x ∷ xs) ys h k = let p = and_parts (declarations_pass test x) (list_passes xs) h in and_from _ _ p.0 (lists_append xs ys p.1 k)
-
   -- the two parts of a list pass
   pub lists_parts : (xs ys : List RawStatement) → list_passes (xs ++ ys) ≡ true → (list_passes xs ≡ true) × (list_passes ys ≡ true)
   lists_parts [] ys h = (refl, h)
   lists_parts (x ∷ xs) ys h = let p = and_parts (declarations_pass test x) (list_passes (xs ++ ys)) h in let q = lists_parts xs ys p.1 in (and_from _ _ p.0 q.0, q.1)
-
-  pub items_append : (xs ys : List RawItem) → items_pass test xs ≡ true → items_pass test ys ≡ true → items_pass test (xs ++ ys) ≡ true
-  items_append [] ys h k = k
-  items_append (x ∷ xs) ys h k = let p = and_parts (item_passes test x) (items_pass test xs) h in and_from _ _ p.0 (items_append xs ys p.1 k)
 
   pub items_parts : (xs ys : List RawItem) → items_pass test (xs ++ ys) ≡ true → (items_pass test xs ≡ true) × (items_pass test ys ≡ true)
   items_parts [] ys h = (refl, h)

@@ -1,12 +1,9 @@
 -- The tokens of a text can be written: what is printed of the tree of a text is read again.
-use Rattle.std.proofs.Common.{ℕ, [], ◌∷◌, Bool}
-use Rattle.std.specs.List.{All}
-use Rattle.std.proofs.lemmas.List.Elements.{All-head, All-tail}
+use Rattle.std.proofs.Common.{ℕ, Bool}
 use Rattle.c_tree.specs.declared.raw.program.RawProgram.{RawProgram}
 use Rattle.c_language.specs.Words.{Bytes}
 use Rattle.c_language.specs.TokenForms.{Tokens}
 use Rattle.c_language.specs.ItemGrammar.{IsProgram}
-use Rattle.c_language.specs.Programs.{IsFormed}
 use Rattle.c_language.specs.Tokens.{IsRun, IsTokenText, IsToken, IsTokens, AreTokensOf, AreRun}
 use Rattle.c_language.specs.declared.token.TokenKind.{TokenKind}
 use Rattle.c_language.specs.declared.token.Before.{Before}
@@ -39,11 +36,6 @@ pub text_written : {before : Before} {line : ℕ} {bytes : Bytes} {ts : Tokens} 
 text_written IsTokens.done = tt
 text_written (IsTokens.space s h) = text_written h
 text_written (IsTokens.token t h) = (token_form t, text_written h)
-
--- tokens that are tokens of some bytes have the forms of their kinds
-pub formed_written : (ts : Tokens) → All IsFormed ts → AreWritten ts
-formed_written [] h = tt
-formed_written (t ∷ ts) h = let c = All-head IsFormed t ts h in (token_form c.is, formed_written ts (All-tail IsFormed t ts h))
 
 -- What is printed of the tree of a text whose lists of initialisers are short has tokens of that tree again.
 pub text_is_read_again : {text : Bytes} {ts : Tokens} (raw : RawProgram) → AreTokensOf text ts → IsProgram ts raw → HasShortLists raw → HasTreeAgain (raw_layout raw) raw

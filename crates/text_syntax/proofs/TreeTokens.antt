@@ -89,10 +89,6 @@ Expr n l a = Tokened (λ ts r. IsExpr n ts a r) l
 abbrev Given : RawExpr → Type 0
 Given a = (n l : ℕ) → binds a n ≡ true → Expr n l a
 
--- one token alone
-one_token : {n l : ℕ} {a : RawExpr} (t : Tokens → Tokens) → ((r : Tokens) → AreSpelled r → AreSpelled (t r)) → ((r : Tokens) → line_of (t r) ≡ l) → ((r : Tokens) → IsExpr n (t r) a r) → Expr n l a
-one_token t s i k = record { front = t; spelled = s; line = i; is = k }
-
 as_expr : {n l : ℕ} {a b : RawExpr} → a ≡ b → Expr n l b → Expr n l a
 as_expr {n} {l} is x = subst (Expr n l) (sym is) x
 

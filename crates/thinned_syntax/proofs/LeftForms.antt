@@ -6,14 +6,12 @@ use Rattle.c_tree.specs.declared.raw.expr.RawVar.{RawVar}
 use Rattle.c_tree.specs.declared.raw.program.RawInit.{RawInit}
 use Rattle.c_tree.specs.declared.raw.program.RawProgram.{RawProgram}
 use Rattle.c_tree.specs.declared.raw.statement.RawArg.{RawArg}
-use Rattle.c_tree.specs.declared.raw.statement.RawAmount.{RawAmount}
 use Rattle.c_tree.specs.declared.raw.statement.RawArm.{RawArm, fold-roll-RawArm}
 use Rattle.c_tree.specs.declared.raw.statement.RawLabel.{RawLabel}
 use Rattle.c_tree.specs.declared.raw.statement.RawStatement.{RawStatement, roll-RawStatement, map-RawStatement, fold-roll-RawStatement}
 use Rattle.c_tree.specs.declared.raw.statement.RawStatement.TheOpen.{RawStatement-F}
 use Rattle.c_tree.specs.declared.raw.statement.RawStatement.TheVariants as s
 use Rattle.c_tree.specs.declared.raw.statement.RawTarget.{RawTarget}
-use Rattle.c_tree.specs.declared.raw.statement.RawTypeName.{RawTypeName}
 use Rattle.c_language.specs.Words.{Bytes}
 use Rattle.c_language.specs.Scopes.{Scoped}
 use Rattle.c_language.specs.StatementGrammar.{arm}
@@ -39,9 +37,6 @@ module _ (k : Kept) (raw : RawProgram) where
 
   pub left-Call : (l : ℕ) (to : RawTarget) (f : Bytes) (args : List RawArg) → left k raw (s.Call l to f args) ≡ layer_left (RawStatement-F.Call l to f args)
   left-Call l to f args = ap (left k raw) (sym (s.rolls-Call l to f args)) ∙ left_as (RawStatement-F.Call l to f args)
-
-  pub left-Heap : (l : ℕ) (to : RawTarget) (t : Option RawTypeName) (n : RawAmount) → left k raw (s.Heap l to t n) ≡ layer_left (RawStatement-F.Heap l to t n)
-  left-Heap l to t n = ap (left k raw) (sym (s.rolls-Heap l to t n)) ∙ left_as (RawStatement-F.Heap l to t n)
 
   pub left-If : (l : ℕ) (a : RawExpr) (b c : List RawStatement) → left k raw (s.If l a b c) ≡ layer_left (RawStatement-F.If l a b c)
   left-If l a b c = ap (left k raw) (sym (s.rolls-If l a b c)) ∙ left_as (RawStatement-F.If l a b c)
