@@ -1,0 +1,11 @@
+pub mod ActualLaws
+pub mod AddLemmas
+pub mod BuildLaws
+pub mod CallWalkLemmas
+pub mod EdgeSorting
+pub mod InFunction
+pub mod KindTests
+pub mod PlaceLaws
+pub mod RowWords
+pub mod SiteLemmas
+pub mod SiteTurns

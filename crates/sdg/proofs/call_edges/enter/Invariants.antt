@@ -1,0 +1,9 @@
+use Rattle.std.proofs.Common.{take}
+use Rattle.sdg.specs.SiteEdges.{Adds}
+use Rattle.sdg.proofs.ActualLaws.{EntersAt}
+use Rattle.sdg.proofs.AddLemmas.{OneOf}
+use Rattle.sdg.proofs.call_edges.enter.Given as goal
+
+abbrev pub invariant-loop-formal : goal.invariant-loop-formal
+invariant-loop-formal l =
+    Adds l.initial.edges.items l.edges.items (OneOf (EntersAt l.vertices l.slot l.actual l.call) (take l.formal-index l.formals))
