@@ -1,0 +1,9 @@
+mod RowLaws
+mod StatementLaws
+mod Members
+mod NameLaws
+mod Closures
+mod FormalLaws
+mod WordTails
+mod Projectable
+mod EntryLaws
