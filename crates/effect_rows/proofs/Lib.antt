@@ -1,0 +1,5 @@
+pub mod DenotedForms
+pub mod GainLemmas
+pub mod NamedLemmas
+pub mod PlaceLemmas
+pub mod Rules
