@@ -2,6 +2,7 @@
 #![tactic(auto)]
 
 mod expressions;
+mod pointed;
 mod seen_types;
 mod steps;
 mod tables;

@@ -35,7 +35,8 @@ pub enum SeenType<'p> {
 
 /// The type of a variable, int where the program has none of the number.
 pub(crate) fn variable_seen(p: &Program, x: VarId) -> SeenType<'_>
-    ensures { type_seen p.now result ≡ tree.type_of_variable p.now x }
+    ensures seen { type_seen p.now result ≡ tree.type_of_variable p.now x }
+    ensures from { (y : Bor Expr) → result ≢ seen.AddressOf y }
 {
     match p.vars.get(x as usize) {
         Some(var) => SeenType::Declared(&var.shape),
@@ -45,7 +46,8 @@ pub(crate) fn variable_seen(p: &Program, x: VarId) -> SeenType<'_>
 
 /// The type of a member, int where the struct type has none at the place.
 pub(crate) fn member_seen(p: &Program, m: MemberId) -> SeenType<'_>
-    ensures { type_seen p.now result ≡ tree.type_of_member p.now m }
+    ensures seen { type_seen p.now result ≡ tree.type_of_member p.now m }
+    ensures from { (y : Bor Expr) → result ≢ seen.AddressOf y }
 {
     match members(p, m.owner).get(m.index as usize) {
         Some(member) => SeenType::Declared(&member.shape),

@@ -11,6 +11,8 @@ use dep_model::{LocationId, Part};
 /// The places of locations in the list of a program's locations.
 #[derive(Drop)]
 pub(crate) struct Tables {
+    /// How many locations there are.
+    pub(crate) count: u32,
     /// The place of each variable.
     pub(crate) variables: Vec<Option<LocationId>>,
     /// The place of the result of each function.
