@@ -3,3 +3,4 @@ pub mod GainLemmas
 pub mod NamedLemmas
 pub mod PlaceLemmas
 pub mod Rules
+pub mod TypeLemmas

@@ -52,7 +52,7 @@ module _ (p : Program) (points : TargetsOf) where
   element_is_place true d f x y = x
   element_is_place false d f x y = y
 
-  element_keeps : (b : Bool) (f : Designated) (x y r s : Places) → (if b then an_object p points f x r else an_object p points f y s).form ≡ f
+  pub element_keeps : (b : Bool) (f : Designated) (x y r s : Places) → (if b then an_object p points f x r else an_object p points f y s).form ≡ f
   element_keeps true f x y r s = refl
   element_keeps false f x y r s = refl
 

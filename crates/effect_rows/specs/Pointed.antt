@@ -1,7 +1,5 @@
 -- A program, where rows say to what its locations may point.
-use Rattle.std.specs.Prelude.{◌≡◌, ◌≤◌, ℕ, List, [], length, Option, None, slice_get, slice_index_or}
-use Rattle.std.specs.Option.{option_map_or}
-use Rattle.std.specs.Global.{Vec}
+use Rattle.std.specs.Prelude.{◌≡◌, ◌≤◌, length, None, slice_index_or}
 use Rattle.c_tree.specs.declared.program.Program.{Program}
 use Rattle.dep_model.specs.declared.points_to.PointsTo.{PointsTo}
 use Rattle.dep_model.specs.Denoted.{TargetsOf, variable}
@@ -10,7 +8,7 @@ use Rattle.dep_model.specs.LocationRows.{points_of, HasPointsRows}
 use Rattle.dep_model.specs.Locations.{locations}
 use Rattle.effect_rows.specs.declared.tables.Tables.{Tables}
 use Rattle.effect_rows.specs.Gains.{AreListedOnce}
-use Rattle.effect_rows.specs.Tables.{ArePlacesOf, AreElementPlaces, AreMemberPlaces}
+use Rattle.effect_rows.specs.Tables.{ArePlacesOf, AreElementPlaces, AreMemberPlaces, places_at}
 
 pub record PointedProgram : Type 0 where
   pub program : Program
@@ -20,9 +18,6 @@ pub record PointedProgram : Type 0 where
 abbrev pub points_in : PointedProgram → TargetsOf
 points_in g = points_of g.program g.rows
 
-abbrev pub member_place : List (Vec (Option ℕ)) → ℕ → ℕ → Option ℕ
-member_place rows k m = slice_index_or (option_map_or (λ (r : Vec (Option ℕ)). r.items) (slice_get rows k) []) m None
-
 -- the tables are those of a program that lists no location twice
 pub record AreTables (p : Program) (t : Tables) : Type 0 where
   pub once : AreListedOnce p
@@ -31,4 +26,4 @@ pub record AreTables (p : Program) (t : Tables) : Type 0 where
   pub variables_are : ArePlacesOf p variable t.variables.items
   pub results_are : ArePlacesOf p result_of t.results.items
   pub elements_are : AreElementPlaces p t.elements.items
-  pub members_are : AreMemberPlaces p (member_place t.members.items)
+  pub members_are : AreMemberPlaces p (λ k m. slice_index_or (places_at t.members.items k) m None)

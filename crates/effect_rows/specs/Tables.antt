@@ -1,5 +1,7 @@
 -- Tables of the places of a program's locations in their list.
 use Rattle.std.specs.Prelude.{◌≡◌, ℕ, List, [], length, Option, Some, None, Contains, slice_get, slice_index_or}
+use Rattle.std.specs.Global.{Vec}
+use Rattle.std.specs.Option.{option_map_or}
 use Rattle.c_tree.specs.declared.program.Program.{Program}
 use Rattle.dep_model.specs.declared.location.Location.{Location}
 use Rattle.dep_model.specs.declared.location.Part.{Part}
@@ -26,3 +28,7 @@ AreElementPlaces p places =
 abbrev pub AreMemberPlaces : Program → (ℕ → ℕ → Option ℕ) → Type 0
 AreMemberPlaces p place =
     (k m : ℕ) (l : Location) → slice_get (location_list p) k ≡ Some l → IsPlaceOf (location_list p) (inside l (part.Member m)) (place k m)
+
+-- a list of places among such lists, the empty one past their end
+abbrev pub places_at : List (Vec (Option ℕ)) → ℕ → List (Option ℕ)
+places_at rows k = option_map_or (λ (r : Vec (Option ℕ)). r.items) (slice_get rows k) []

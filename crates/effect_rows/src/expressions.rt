@@ -1,13 +1,19 @@
 //! What an expression reads, which locations its object may be, and where its value may point.
-ghost use Rattle.std.specs.Prelude.{◌≡◌, Bool};
+ghost use Rattle.std.specs.Prelude.{◌≡◌, ◌<◌, Bool, length};
+ghost use Rattle.bit_rows.specs.Tables.{IsSized};
 ghost use Rattle.c_tree.specs.declared.program.Program.{Program};
 ghost use Rattle.dep_model.specs.Denoted.{TargetsOf, Denoted, denoted, value_points};
-ghost use Rattle.effect_rows.specs.Named.{named_by};
+ghost use Rattle.dep_model.specs.Locations.{locations};
+ghost use Rattle.effect_rows.specs.Gains.{with_places};
+ghost use Rattle.effect_rows.specs.Named.{named, named_by};
+ghost use Rattle.effect_rows.specs.Pointed.{points_in};
 ghost use Rattle.effect_rows.specs.SeenTypes.{type_seen};
 ghost use Rattle.effect_rows.specs.Steps.{taken};
 
-use crate::seen_types::{SeenType, is_array, is_pointer};
+use crate::pointed::Pointed;
+use crate::seen_types::{SeenType, is_array, is_pointer, type_of};
 use crate::steps::{Step, Steps};
+use bit_rows::Rows;
 use c_tree::Expr;
 use dep_model::Part;
 
@@ -47,5 +53,85 @@ pub(crate) fn value_steps<'a>(is_place: bool, seen: SeenType<'_>, then: &'a Step
         Steps::Then(Step::Targets, then)
     } else {
         Steps::Nowhere
+    }
+}
+
+/// The steps from what an expression names to where its value may point, and then the others.
+pub(crate) fn steps_of_value<'a>(g: &Pointed<'_>, e: &Expr, then: &'a Steps<'a>) -> Steps<'a>
+    ensures { (points : TargetsOf) → taken g.now.program points result (named g.now.program points e.now)
+        ≡ taken g.now.program points then.now (value_points g.now.program points (denoted g.now.program points e.now)) }
+{
+    value_steps(is_place(e), type_of(g.program(), e), then)
+}
+
+/// Adds the locations to which the steps lead from what an expression names.
+pub(crate) fn add_named(
+    g: &Pointed<'_>,
+    e: &Expr,
+    steps: &Steps<'_>,
+    scratch: &mut Rows,
+    rows: &mut Rows,
+    row: u32,
+)
+    requires scratch_sized { IsSized 2 (length (locations g.now.program)) scratch.old }
+    requires sized { IsSized (length rows.old.sets) (length (locations g.now.program)) rows.old }
+    requires row_in { row < length rows.old.sets }
+    ensures gained { rows.new ≡ with_places g.now.program row (taken g.now.program (points_in g.now) steps.now (named g.now.program (points_in g.now) e.now)) rows.old }
+    ensures size { IsSized (length rows.old.sets) (length (locations g.now.program)) rows.new }
+    ensures scratch_size { IsSized 2 (length (locations g.now.program)) scratch.new }
+{
+    match e {
+        Expr::Variable(x) => {
+            g.seed(*x, scratch);
+            g.follow(steps, scratch, 0, rows, row);
+        }
+        Expr::Deref(a) => {
+            let inner = steps_of_value(g, a.get(), steps);
+            add_named(g, a.get(), &inner, scratch, rows, row);
+        }
+        Expr::AddressOf(a) => {
+            if is_place(a.get()) {
+                add_named(g, a.get(), steps, scratch, rows, row);
+            }
+        }
+        Expr::Binary(_, a, b) => {
+            if is_pointer(type_of(g.program(), e)) {
+                let left = steps_of_value(g, a.get(), steps);
+                add_named(g, a.get(), &left, scratch, rows, row);
+                let right = steps_of_value(g, b.get(), steps);
+                add_named(g, b.get(), &right, scratch, rows, row);
+            }
+        }
+        Expr::Choose(_, a, b) => {
+            if is_pointer(type_of(g.program(), e)) {
+                let left = steps_of_value(g, a.get(), steps);
+                add_named(g, a.get(), &left, scratch, rows, row);
+                let right = steps_of_value(g, b.get(), steps);
+                add_named(g, b.get(), &right, scratch, rows, row);
+            }
+        }
+        Expr::Index(a, _) => {
+            let inner = steps_of_value(g, a.get(), steps);
+            add_named(g, a.get(), &inner, scratch, rows, row);
+        }
+        Expr::Member(a, m) => {
+            if is_place(a.get()) {
+                let inner = Steps::Then(Step::Part(Part::Member(m.index)), steps);
+                add_named(g, a.get(), &inner, scratch, rows, row);
+            }
+        }
+        Expr::Arrow(a, m) => {
+            let part = Steps::Then(Step::Part(Part::Member(m.index)), steps);
+            let inner = steps_of_value(g, a.get(), &part);
+            add_named(g, a.get(), &inner, scratch, rows, row);
+        }
+        Expr::Paren(a) => add_named(g, a.get(), steps, scratch, rows, row),
+        Expr::Constant(_, _, _) => {}
+        Expr::Null => {}
+        Expr::Eof => {}
+        Expr::Unary(_, _) => {}
+        Expr::AndAlso(_, _) => {}
+        Expr::OrElse(_, _) => {}
+        Expr::Cast(_, _) => {}
     }
 }

@@ -11,7 +11,7 @@ ghost use Rattle.effect_rows.specs.Steps.{stepped, taken};
 ghost use Rattle.effect_rows.specs.Tables.{IsPlaceOf};
 
 use crate::steps::{Step, Steps};
-use crate::tables::{Tables, place_at};
+use crate::tables::{Tables, place_at, row_at};
 use bit_rows::Rows;
 use c_tree::{Program, VarId};
 use dep_model::{LocationId, Part, PointsTo};
@@ -156,10 +156,7 @@ impl<'a> Pointed<'a> {
     {
         match part {
             Part::Element => place_at(self.tables.elements.as_slice(), k),
-            Part::Member(m) => match self.tables.members.get(k as usize) {
-                Some(places) => place_at(places.as_slice(), m),
-                None => None,
-            },
+            Part::Member(m) => place_at(row_at(self.tables.members.as_slice(), k), m),
         }
     }
 }

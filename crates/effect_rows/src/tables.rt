@@ -4,7 +4,7 @@ ghost use Rattle.c_tree.specs.declared.program.Program.{Program};
 ghost use Rattle.dep_model.specs.declared.location.Location.{Location};
 ghost use Rattle.dep_model.specs.Denoted.{inside};
 ghost use Rattle.dep_model.specs.LocationLists.{location_list};
-ghost use Rattle.effect_rows.specs.Tables.{IsPlaceOf, AreElementPlaces};
+ghost use Rattle.effect_rows.specs.Tables.{IsPlaceOf, AreElementPlaces, places_at};
 
 use dep_model::{LocationId, Part};
 
@@ -28,4 +28,14 @@ pub(crate) fn place_at(places: &[Option<LocationId>], number: u32) -> Option<Loc
     ensures { result ≡ slice_index_or places.now number None }
 {
     places.get(number as usize).copied().unwrap_or(None)
+}
+
+/// A list of places among such lists, the empty one past their end.
+pub(crate) fn row_at(rows: &[Vec<Option<LocationId>>], number: u32) -> &[Option<LocationId>]
+    ensures { result.now ≡ places_at rows.now number }
+{
+    match rows.get(number as usize) {
+        Some(places) => places.as_slice(),
+        None => &[],
+    }
 }
