@@ -2,5 +2,6 @@ pub mod DenotedForms
 pub mod GainLemmas
 pub mod NamedLemmas
 pub mod PlaceLemmas
+pub mod PlaceRows
 pub mod Rules
 pub mod TypeLemmas

@@ -86,7 +86,7 @@ pub(crate) fn add_named(
             g.follow(steps, scratch, 0, rows, row);
         }
         Expr::Deref(a) => {
-            let inner = steps_of_value(g, a.get(), steps);
+            let inner = steps_of_value(g, a.get(), &*steps);
             add_named(g, a.get(), &inner, scratch, rows, row);
         }
         Expr::AddressOf(a) => {
@@ -96,32 +96,32 @@ pub(crate) fn add_named(
         }
         Expr::Binary(_, a, b) => {
             if is_pointer(type_of(g.program(), e)) {
-                let left = steps_of_value(g, a.get(), steps);
+                let left = steps_of_value(g, a.get(), &*steps);
                 add_named(g, a.get(), &left, scratch, rows, row);
-                let right = steps_of_value(g, b.get(), steps);
+                let right = steps_of_value(g, b.get(), &*steps);
                 add_named(g, b.get(), &right, scratch, rows, row);
             }
         }
         Expr::Choose(_, a, b) => {
             if is_pointer(type_of(g.program(), e)) {
-                let left = steps_of_value(g, a.get(), steps);
+                let left = steps_of_value(g, a.get(), &*steps);
                 add_named(g, a.get(), &left, scratch, rows, row);
-                let right = steps_of_value(g, b.get(), steps);
+                let right = steps_of_value(g, b.get(), &*steps);
                 add_named(g, b.get(), &right, scratch, rows, row);
             }
         }
         Expr::Index(a, _) => {
-            let inner = steps_of_value(g, a.get(), steps);
+            let inner = steps_of_value(g, a.get(), &*steps);
             add_named(g, a.get(), &inner, scratch, rows, row);
         }
         Expr::Member(a, m) => {
             if is_place(a.get()) {
-                let inner = Steps::Then(Step::Part(Part::Member(m.index)), steps);
+                let inner = Steps::Then(Step::Part(Part::Member(m.index)), &*steps);
                 add_named(g, a.get(), &inner, scratch, rows, row);
             }
         }
         Expr::Arrow(a, m) => {
-            let part = Steps::Then(Step::Part(Part::Member(m.index)), steps);
+            let part = Steps::Then(Step::Part(Part::Member(m.index)), &*steps);
             let inner = steps_of_value(g, a.get(), &part);
             add_named(g, a.get(), &inner, scratch, rows, row);
         }
