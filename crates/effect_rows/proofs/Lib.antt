@@ -1,5 +1,6 @@
 pub mod DenotedForms
 pub mod GainLemmas
+pub mod NamedForms
 pub mod NamedLemmas
 pub mod PlaceLemmas
 pub mod PlaceRows

@@ -48,7 +48,7 @@ module _ (p : Program) (points : TargetsOf) where
   abbrev layer : Expr-F Known → Expr-F Expr
   layer = map-Expr Known Expr (λ a. a.0)
 
-  element_is_place : (b : Bool) (d f : Designated) → d.is_place ≡ true → f.is_place ≡ true → (if b then d else f).is_place ≡ true
+  pub element_is_place : (b : Bool) (d f : Designated) → d.is_place ≡ true → f.is_place ≡ true → (if b then d else f).is_place ≡ true
   element_is_place true d f x y = x
   element_is_place false d f x y = y
 

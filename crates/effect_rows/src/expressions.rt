@@ -2,6 +2,8 @@
 ghost use Rattle.std.specs.Prelude.{◌≡◌, ◌<◌, Bool, length};
 ghost use Rattle.bit_rows.specs.Tables.{IsSized};
 ghost use Rattle.c_tree.specs.declared.program.Program.{Program};
+ghost use Rattle.c_language.specs.ExprTypes as types;
+ghost use Rattle.c_language.specs.TreeTypes.{tree_type};
 ghost use Rattle.dep_model.specs.Denoted.{TargetsOf, Denoted, denoted, value_points};
 ghost use Rattle.dep_model.specs.Locations.{locations};
 ghost use Rattle.effect_rows.specs.Gains.{with_places};
@@ -64,7 +66,15 @@ pub(crate) fn steps_of_value<'a>(g: &Pointed<'_>, e: &Expr, then: &'a Steps<'a>)
     value_steps(is_place(e), type_of(g.program(), e), then)
 }
 
+/// Whether the value of an expression is a pointer, where no array turns into one.
+fn points(g: &Pointed<'_>, e: &Expr) -> bool
+    ensures { result ≡ types.is_pointer (tree_type g.now.program e.now) }
+{
+    is_pointer(type_of(g.program(), e))
+}
+
 /// Adds the locations to which the steps lead from what an expression names.
+#[cycle(named)]
 pub(crate) fn add_named(
     g: &Pointed<'_>,
     e: &Expr,
@@ -86,8 +96,7 @@ pub(crate) fn add_named(
             g.follow(steps, scratch, 0, rows, row);
         }
         Expr::Deref(a) => {
-            let inner = steps_of_value(g, a.get(), &*steps);
-            add_named(g, a.get(), &inner, scratch, rows, row);
+            add_value(g, a.get(), &*steps, scratch, rows, row);
         }
         Expr::AddressOf(a) => {
             if is_place(a.get()) {
@@ -95,24 +104,19 @@ pub(crate) fn add_named(
             }
         }
         Expr::Binary(_, a, b) => {
-            if is_pointer(type_of(g.program(), e)) {
-                let left = steps_of_value(g, a.get(), &*steps);
-                add_named(g, a.get(), &left, scratch, rows, row);
-                let right = steps_of_value(g, b.get(), &*steps);
-                add_named(g, b.get(), &right, scratch, rows, row);
+            if points(g, e) {
+                add_value(g, a.get(), steps, scratch, rows, row);
+                add_value(g, b.get(), steps, scratch, rows, row);
             }
         }
         Expr::Choose(_, a, b) => {
-            if is_pointer(type_of(g.program(), e)) {
-                let left = steps_of_value(g, a.get(), &*steps);
-                add_named(g, a.get(), &left, scratch, rows, row);
-                let right = steps_of_value(g, b.get(), &*steps);
-                add_named(g, b.get(), &right, scratch, rows, row);
+            if points(g, e) {
+                add_value(g, a.get(), steps, scratch, rows, row);
+                add_value(g, b.get(), steps, scratch, rows, row);
             }
         }
         Expr::Index(a, _) => {
-            let inner = steps_of_value(g, a.get(), &*steps);
-            add_named(g, a.get(), &inner, scratch, rows, row);
+            add_value(g, a.get(), &*steps, scratch, rows, row);
         }
         Expr::Member(a, m) => {
             if is_place(a.get()) {
@@ -122,8 +126,7 @@ pub(crate) fn add_named(
         }
         Expr::Arrow(a, m) => {
             let part = Steps::Then(Step::Part(Part::Member(m.index)), &*steps);
-            let inner = steps_of_value(g, a.get(), &part);
-            add_named(g, a.get(), &inner, scratch, rows, row);
+            add_value(g, a.get(), &part, scratch, rows, row);
         }
         Expr::Paren(a) => add_named(g, a.get(), steps, scratch, rows, row),
         Expr::Constant(_, _, _) => {}
@@ -134,4 +137,25 @@ pub(crate) fn add_named(
         Expr::OrElse(_, _) => {}
         Expr::Cast(_, _) => {}
     }
+}
+
+/// Adds the locations to which the steps lead from where the value of an expression may point.
+#[cycle(named)]
+pub(crate) fn add_value(
+    g: &Pointed<'_>,
+    e: &Expr,
+    steps: &Steps<'_>,
+    scratch: &mut Rows,
+    rows: &mut Rows,
+    row: u32,
+)
+    requires scratch_sized { IsSized 2 (length (locations g.now.program)) scratch.old }
+    requires sized { IsSized (length rows.old.sets) (length (locations g.now.program)) rows.old }
+    requires row_in { row < length rows.old.sets }
+    ensures gained { rows.new ≡ with_places g.now.program row (taken g.now.program (points_in g.now) steps.now (value_points g.now.program (points_in g.now) (denoted g.now.program (points_in g.now) e.now))) rows.old }
+    ensures size { IsSized (length rows.old.sets) (length (locations g.now.program)) rows.new }
+    ensures scratch_size { IsSized 2 (length (locations g.now.program)) scratch.new }
+{
+    let inner = steps_of_value(g, e, &*steps);
+    add_named(g, e, &inner, scratch, rows, row);
 }
