@@ -1,8 +1,10 @@
 pub mod DenotedForms
 pub mod GainLemmas
+pub mod LedRows
 pub mod NamedForms
 pub mod NamedLemmas
 pub mod PlaceLemmas
 pub mod PlaceRows
+pub mod PointRows
 pub mod Rules
 pub mod TypeLemmas

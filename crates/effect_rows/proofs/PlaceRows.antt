@@ -2,6 +2,7 @@
 use Rattle.std.proofs.Common.{◌≡◌, ℕ, zero, suc, ◌==◌, ◌<◌, List, [], ◌∷◌, length, map, replicate, slice_get, slice_set, slice_index_or, Bool, true, false, ◌&&◌, Option, Some, None, inl, inr, refl, sym, ap, ap₂, ◌∙◌, subst, arith, eqb-true, eq-eqb}
 use Rattle.std.specs.Prelude.{Contains}
 use Rattle.std.proofs.lemmas.Bool.{false≢true, and_parts, and_from, cases_Bool}
+use Rattle.std.proofs.lemmas.List.{length-map}
 use Rattle.std.proofs.lemmas.Option.{same_Some}
 use Rattle.c_language.specs.Lists.{same_all}
 use Rattle.c_tree.specs.declared.program.Program.{Program}
@@ -12,7 +13,12 @@ use Rattle.dep_model.specs.declared.location.Root.{Root}
 use Rattle.dep_model.specs.declared.location.Root.TheVariants.{Input, Variable, Site, Result}
 use Rattle.dep_model.specs.Locations.{TypedLocation, locations, same_root, same_part, same_location}
 use Rattle.dep_model.specs.LocationLists.{location_list}
+use Rattle.rule_closure.proofs.ListLemmas.{contains_head, contains_cons}
+use Rattle.bit_rows.specs.Tables.{Table, the_set, with_set, IsSized}
+use Rattle.bit_rows.proofs.TableLemmas.{the_set-with_set}
+use Rattle.dep_model.specs.Denoted.{Places}
 use Rattle.effect_rows.specs.Gains.{row_of, AreListedOnce}
+use Rattle.effect_rows.specs.Tables.{IsPlaceOf}
 
 -- ---- locations that are one
 
@@ -99,3 +105,42 @@ module _ (p : Program) where
   -- that of one that isn't
   pub row_of_unlisted : (l : Location) → ((j : ℕ) → slice_get (location_list p) j ≡ Some l → ⊥) → row_of p (same_location l) ≡ replicate (length (locations p)) false
   row_of_unlisted l none = none_of (locations p) l none
+
+-- ---- places that tables tell
+
+in_list : (ls : List Location) (k : ℕ) (l : Location) → slice_get ls k ≡ Some l → k < length ls
+in_list [] k l at = cc
+in_list (m ∷ ls) zero l at = omega arith
+in_list (m ∷ ls) (suc k) l at = let lt = in_list ls k l at in omega (arith, lt)
+
+contains_at : (ls : List Location) (k : ℕ) (l : Location) → slice_get ls k ≡ Some l → Contains ls l
+contains_at [] k l at = cc
+contains_at (m ∷ ls) zero l at = subst (Contains (m ∷ ls)) (same_Some _ _ at) (contains_head m ls)
+contains_at (m ∷ ls) (suc k) l at = contains_cons m ls l (contains_at ls k l at)
+
+module _ (p : Program) where
+  -- a place in the list is one in the list with types
+  pub place_within : (l : Location) (k : ℕ) → slice_get (location_list p) k ≡ Some l → k < length (locations p)
+  place_within l k at = subst (λ n. k < n) (length-map (locations p) alone) (in_list (location_list p) k l at)
+
+  -- the row of a location by its place
+  pub row_by_place : AreListedOnce p → (l : Location) (place : Option ℕ) → IsPlaceOf (location_list p) l place → (k : ℕ) → place ≡ Some k → row_of p (same_location l) ≡ slice_set (replicate (length (locations p)) false) k true
+  row_by_place once l place is k here = row_of_listed p once l k (is.found k here)
+
+  pub row_without_place : (l : Location) (place : Option ℕ) → IsPlaceOf (location_list p) l place → place ≡ None → row_of p (same_location l) ≡ replicate (length (locations p)) false
+  row_without_place l place is none = row_of_unlisted p l (λ j at. is.missing none (contains_at (location_list p) j l at))
+
+  cleared_row : (s t : Table) → IsSized 2 (length (locations p)) s → t ≡ with_set s 0 (replicate s.bits false) → the_set t 0 ≡ replicate (length (locations p)) false
+  cleared_row s t sized is =
+      ap (λ (u : Table). the_set u 0) is ∙ the_set-with_set s 0 (replicate s.bits false) (let two = sized.rows_are in omega (arith, two)) ∙ ap (λ n. replicate n false) sized.bits_are
+
+  -- a scratch row that was cleared and then has one location
+  pub seeded : (s t u : Table) (a : Places) (k : ℕ) → IsSized 2 (length (locations p)) s → t ≡ with_set s 0 (replicate s.bits false) → IsSized (length s.sets) s.bits t → u ≡ with_set t 0 (slice_set (the_set t 0) k true) → row_of p a ≡ slice_set (replicate (length (locations p)) false) k true → the_set u 0 ≡ row_of p a
+  seeded s t u a k sized cleared again set is =
+      ap (λ (v : Table). the_set v 0) set
+        ∙ the_set-with_set t 0 (slice_set (the_set t 0) k true) (let two = sized.rows_are in let same = again.rows_are in omega (arith, two, same))
+        ∙ ap (λ row. slice_set row k true) (cleared_row s t sized cleared)
+        ∙ sym is
+
+  pub unseeded : (s t : Table) (a : Places) → IsSized 2 (length (locations p)) s → t ≡ with_set s 0 (replicate s.bits false) → row_of p a ≡ replicate (length (locations p)) false → the_set t 0 ≡ row_of p a
+  unseeded s t a sized cleared is = cleared_row s t sized cleared ∙ sym is

@@ -60,8 +60,9 @@ impl<'a> Pointed<'a> {
         ensures size { IsSized 2 (length (locations self.now.program)) scratch.new }
     {
         scratch.clear(0);
-        if let Some(k) = place_at(self.tables.variables.as_slice(), x) {
-            scratch.set(0, k);
+        match place_at(self.tables.variables.as_slice(), x) {
+            Some(k) => scratch.set(0, k),
+            None => {}
         }
     }
 
