@@ -23,7 +23,7 @@ union_twice_mapped [] f g xs = refl
 union_twice_mapped (x ∷ s) f g [] = refl
 union_twice_mapped (x ∷ s) f g (o ∷ xs) = ap (λ b. b ∷ union (union s (map f xs)) (map g xs)) (or_in_turn x (f o) (g o)) ∙ ap (λ bs. (x || (f o || g o)) ∷ bs) (union_twice_mapped s f g xs)
 
-union_none : (s : List Bool) (xs : List TypedLocation) → union s (map (λ o. false) xs) ≡ s
+pub union_none : (s : List Bool) (xs : List TypedLocation) → union s (map (λ o. false) xs) ≡ s
 union_none [] xs = refl
 union_none (x ∷ s) [] = refl
 union_none (x ∷ s) (o ∷ xs) = ap (λ b. b ∷ union s (map (λ q. false) xs)) (or_none x) ∙ ap (λ bs. x ∷ bs) (union_none s xs)

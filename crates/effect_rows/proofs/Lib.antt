@@ -7,4 +7,5 @@ pub mod PlaceLemmas
 pub mod PlaceRows
 pub mod PointRows
 pub mod Rules
+pub mod StepRows
 pub mod TypeLemmas
