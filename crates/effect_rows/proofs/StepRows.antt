@@ -1,5 +1,5 @@
 -- One more location of those whose parts or targets are added.
-use Rattle.std.proofs.Common.{◌≡◌, ◌≢◌, ℕ, zero, suc, ◌+◌, ◌<◌, List, [], ◌∷◌, length, map, replicate, slice_get, Bool, true, false, ◌||◌, ◌&&◌, Option, Some, refl, sym, ap, ap₂, ◌∙◌, subst, arith}
+use Rattle.std.proofs.Common.{◌≡◌, ◌≢◌, ℕ, zero, suc, ◌+◌, ◌<◌, List, [], ◌∷◌, length, map, replicate, slice_get, slice_set, Bool, true, false, ◌||◌, ◌&&◌, Option, Some, refl, sym, ap, ap₂, ◌∙◌, subst, arith}
 use Rattle.std.proofs.lemmas.List.{length-map}
 use Rattle.std.proofs.lemmas.Option.{same_Some}
 use Rattle.bit_rows.specs.Sets.{has, union}
@@ -83,3 +83,23 @@ module _ (p : Program) where
   pub resized : (s v u : Table) → IsSized 2 (length (locations p)) s → IsSized (length s.sets) s.bits v → u ≡ v → IsSized 2 (length (locations p)) u
   resized s v u sized again is =
       subst (IsSized 2 (length (locations p))) (sym is) (subst (λ n. IsSized n (length (locations p)) v) sized.rows_are (subst (λ n. IsSized (length s.sets) n v) sized.bits_are again))
+
+-- ---- one more member
+
+or_true : (x : Bool) → (x || true) ≡ true
+or_true true = refl
+or_true false = refl
+
+or_false : (x : Bool) → (x || false) ≡ x
+or_false true = refl
+or_false false = refl
+
+pub union_empty : (xs : List Bool) (n : ℕ) → union xs (replicate n false) ≡ xs
+union_empty [] n = refl
+union_empty (x ∷ xs) zero = refl
+union_empty (x ∷ xs) (suc n) = ap₂ (λ (b : Bool) (bs : List Bool). b ∷ bs) (or_false x) (union_empty xs n)
+
+pub union_one : (xs : List Bool) (j : ℕ) → union xs (slice_set (replicate (length xs) false) j true) ≡ slice_set xs j true
+union_one [] j = refl
+union_one (x ∷ xs) zero = ap₂ (λ (b : Bool) (bs : List Bool). b ∷ bs) (or_true x) (union_empty xs (length xs))
+union_one (x ∷ xs) (suc j) = ap₂ (λ (b : Bool) (bs : List Bool). b ∷ bs) (or_false x) (union_one xs j)

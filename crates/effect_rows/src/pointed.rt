@@ -126,8 +126,9 @@ impl<'a> Pointed<'a> {
         scratch.clear(to);
         for k in 0..self.tables.count {
             if scratch.has(from, k) {
-                if let Some(j) = self.part_at(k, part) {
-                    scratch.set(to, j);
+                match self.part_at(k, part) {
+                    Some(j) => scratch.set(to, j),
+                    None => {}
                 }
             }
         }
