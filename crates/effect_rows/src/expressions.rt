@@ -1,10 +1,10 @@
 //! What an expression reads, which locations its object may be, and where its value may point.
-ghost use Rattle.std.specs.Prelude.{◌≡◌, ◌<◌, Bool, length};
+ghost use Rattle.std.specs.Prelude.{◌≡◌, ◌<◌, ◌&&◌, length};
 ghost use Rattle.bit_rows.specs.Tables.{IsSized};
 ghost use Rattle.c_tree.specs.declared.program.Program.{Program};
 ghost use Rattle.c_language.specs.ExprTypes as types;
 ghost use Rattle.c_language.specs.TreeTypes.{tree_type};
-ghost use Rattle.dep_model.specs.Denoted.{TargetsOf, Denoted, denoted, value_points};
+ghost use Rattle.dep_model.specs.Denoted.{TargetsOf, Denoted, denoted, value_points, expr_reads, left_reads};
 ghost use Rattle.dep_model.specs.Locations.{locations};
 ghost use Rattle.effect_rows.specs.Gains.{with_places};
 ghost use Rattle.effect_rows.specs.Named.{named, named_by};
@@ -13,7 +13,7 @@ ghost use Rattle.effect_rows.specs.SeenTypes.{type_seen};
 ghost use Rattle.effect_rows.specs.Steps.{taken};
 
 use crate::pointed::Pointed;
-use crate::seen_types::{SeenType, is_array, is_pointer, type_of};
+use crate::seen_types::{SeenType, is_array, is_pointer, is_scalar, type_of};
 use crate::steps::{Step, Steps};
 use bit_rows::Rows;
 use c_tree::Expr;
@@ -158,4 +158,96 @@ pub(crate) fn add_value(
 {
     let inner = steps_of_value(g, e, &*steps);
     add_named(g, e, &inner, scratch, rows, row);
+}
+
+/// Whether the object of an expression is read for its value: an array isn't read, nor is a struct.
+fn reads_object(g: &Pointed<'_>, e: &Expr) -> bool
+    ensures { (points : TargetsOf) → result ≡ ((denoted g.now.program points e.now).form.is_place && types.is_scalar (tree_type g.now.program e.now)) }
+{
+    is_place(e) && is_scalar(type_of(g.program(), e))
+}
+
+/// Whether an expression designates an array.
+fn is_array_place(g: &Pointed<'_>, e: &Expr) -> bool
+    ensures { (points : TargetsOf) → result ≡ ((denoted g.now.program points e.now).form.is_place && types.is_array (tree_type g.now.program e.now)) }
+{
+    is_place(e) && is_array(type_of(g.program(), e))
+}
+
+/// Adds what is read for the value of an expression.
+#[cycle(read)]
+pub(crate) fn add_read(
+    g: &Pointed<'_>,
+    e: &Expr,
+    scratch: &mut Rows,
+    rows: &mut Rows,
+    row: u32,
+)
+    requires scratch_sized { IsSized 2 (length (locations g.now.program)) scratch.old }
+    requires sized { IsSized (length rows.old.sets) (length (locations g.now.program)) rows.old }
+    requires row_in { row < length rows.old.sets }
+    ensures gained { rows.new ≡ with_places g.now.program row (expr_reads g.now.program (points_in g.now) e.now) rows.old }
+    ensures size { IsSized (length rows.old.sets) (length (locations g.now.program)) rows.new }
+    ensures scratch_size { IsSized 2 (length (locations g.now.program)) scratch.new }
+{
+    add_found(g, e, scratch, rows, row);
+    if reads_object(g, e) {
+        add_named(g, e, &Steps::Done, scratch, rows, row);
+    }
+}
+
+/// Adds what is read to find the object of an expression, or else for its value.
+#[cycle(read)]
+pub(crate) fn add_found(
+    g: &Pointed<'_>,
+    e: &Expr,
+    scratch: &mut Rows,
+    rows: &mut Rows,
+    row: u32,
+)
+    requires scratch_sized { IsSized 2 (length (locations g.now.program)) scratch.old }
+    requires sized { IsSized (length rows.old.sets) (length (locations g.now.program)) rows.old }
+    requires row_in { row < length rows.old.sets }
+    ensures gained { rows.new ≡ with_places g.now.program row (left_reads g.now.program (points_in g.now) e.now) rows.old }
+    ensures size { IsSized (length rows.old.sets) (length (locations g.now.program)) rows.new }
+    ensures scratch_size { IsSized 2 (length (locations g.now.program)) scratch.new }
+{
+    match e {
+        Expr::Constant(_, _, _) => {}
+        Expr::Null => {}
+        Expr::Eof => {}
+        Expr::Variable(_) => {}
+        Expr::Unary(_, a) => add_read(g, a.get(), scratch, rows, row),
+        Expr::Deref(a) => add_read(g, a.get(), scratch, rows, row),
+        Expr::AddressOf(a) => add_found(g, a.get(), scratch, rows, row),
+        Expr::Binary(_, a, b) => {
+            add_read(g, a.get(), scratch, rows, row);
+            add_read(g, b.get(), scratch, rows, row);
+        }
+        Expr::AndAlso(a, b) => {
+            add_read(g, a.get(), scratch, rows, row);
+            add_read(g, b.get(), scratch, rows, row);
+        }
+        Expr::OrElse(a, b) => {
+            add_read(g, a.get(), scratch, rows, row);
+            add_read(g, b.get(), scratch, rows, row);
+        }
+        Expr::Choose(c, a, b) => {
+            add_read(g, c.get(), scratch, rows, row);
+            add_read(g, a.get(), scratch, rows, row);
+            add_read(g, b.get(), scratch, rows, row);
+        }
+        Expr::Cast(_, a) => add_read(g, a.get(), scratch, rows, row),
+        Expr::Index(a, i) => {
+            if is_array_place(g, a.get()) {
+                add_found(g, a.get(), scratch, rows, row);
+            } else {
+                add_read(g, a.get(), scratch, rows, row);
+            }
+            add_read(g, i.get(), scratch, rows, row);
+        }
+        Expr::Member(a, _) => add_found(g, a.get(), scratch, rows, row),
+        Expr::Arrow(a, _) => add_read(g, a.get(), scratch, rows, row),
+        Expr::Paren(a) => add_found(g, a.get(), scratch, rows, row),
+    }
 }
