@@ -6,6 +6,7 @@ pub mod NamedLemmas
 pub mod PlaceLemmas
 pub mod PlaceRows
 pub mod PointRows
+pub mod ReadLemmas
 pub mod Rules
 pub mod StepRows
 pub mod TypeLemmas

@@ -58,7 +58,7 @@ module _ (p : Program) (points : TargetsOf) where
       fun_ext (λ l. sym (ap (λ t. if t then part_of p part.Element d.places l else (if d.form.is_place then is_pointer d.form.type && targets p points d.places l else d.points l)) is))
   element_value d false is = refl
 
-  abbrev element_form : Expr → Expr → Designated
+  abbrev pub element_form : Expr → Expr → Designated
   element_form a i = designated_step p (map-Expr Denoted Designated (λ (d : Denoted). d.form) (Expr-F.Index (den a) (den i)))
 
   index_place : (b : Bool) (t : ExprType) (fa fi : Designated) → (if b then a_place t fa.root None (λ x. fa.takes x || value_takes fi x) else a_place t None None (takes_either fa fi)).is_place ≡ true
