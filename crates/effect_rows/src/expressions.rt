@@ -59,7 +59,7 @@ pub(crate) fn value_steps<'a>(is_place: bool, seen: SeenType<'_>, then: &'a Step
 }
 
 /// The steps from what an expression names to where its value may point, and then the others.
-pub(crate) fn steps_of_value<'a>(g: &Pointed<'_>, e: &Expr, then: &'a Steps<'a>) -> Steps<'a>
+pub(crate) fn steps_of_value<'a>(g: &Pointed<'_, '_, '_>, e: &Expr, then: &'a Steps<'a>) -> Steps<'a>
     ensures { (points : TargetsOf) → taken g.now.program points result (named g.now.program points e.now)
         ≡ taken g.now.program points then.now (value_points g.now.program points (denoted g.now.program points e.now)) }
 {
@@ -67,7 +67,7 @@ pub(crate) fn steps_of_value<'a>(g: &Pointed<'_>, e: &Expr, then: &'a Steps<'a>)
 }
 
 /// Whether the value of an expression is a pointer, where no array turns into one.
-fn points(g: &Pointed<'_>, e: &Expr) -> bool
+fn points(g: &Pointed<'_, '_, '_>, e: &Expr) -> bool
     ensures { result ≡ types.is_pointer (tree_type g.now.program e.now) }
 {
     is_pointer(type_of(g.program(), e))
@@ -76,7 +76,7 @@ fn points(g: &Pointed<'_>, e: &Expr) -> bool
 /// Adds the locations to which the steps lead from what an expression names.
 #[cycle(named)]
 pub(crate) fn add_named(
-    g: &Pointed<'_>,
+    g: &Pointed<'_, '_, '_>,
     e: &Expr,
     steps: &Steps<'_>,
     scratch: &mut Rows,
@@ -142,7 +142,7 @@ pub(crate) fn add_named(
 /// Adds the locations to which the steps lead from where the value of an expression may point.
 #[cycle(named)]
 pub(crate) fn add_value(
-    g: &Pointed<'_>,
+    g: &Pointed<'_, '_, '_>,
     e: &Expr,
     steps: &Steps<'_>,
     scratch: &mut Rows,
@@ -161,14 +161,14 @@ pub(crate) fn add_value(
 }
 
 /// Whether the object of an expression is read for its value: an array isn't read, nor is a struct.
-fn reads_object(g: &Pointed<'_>, e: &Expr) -> bool
+fn reads_object(g: &Pointed<'_, '_, '_>, e: &Expr) -> bool
     ensures { (points : TargetsOf) → result ≡ ((denoted g.now.program points e.now).form.is_place && types.is_scalar (tree_type g.now.program e.now)) }
 {
     is_place(e) && is_scalar(type_of(g.program(), e))
 }
 
 /// Whether an expression designates an array.
-fn is_array_place(g: &Pointed<'_>, e: &Expr) -> bool
+fn is_array_place(g: &Pointed<'_, '_, '_>, e: &Expr) -> bool
     ensures { (points : TargetsOf) → result ≡ ((denoted g.now.program points e.now).form.is_place && types.is_array (tree_type g.now.program e.now)) }
 {
     is_place(e) && is_array(type_of(g.program(), e))
@@ -177,7 +177,7 @@ fn is_array_place(g: &Pointed<'_>, e: &Expr) -> bool
 /// Adds what is read for the value of an expression.
 #[cycle(read)]
 pub(crate) fn add_read(
-    g: &Pointed<'_>,
+    g: &Pointed<'_, '_, '_>,
     e: &Expr,
     scratch: &mut Rows,
     rows: &mut Rows,
@@ -199,7 +199,7 @@ pub(crate) fn add_read(
 /// Adds what is read to find the object of an expression, or else for its value.
 #[cycle(read)]
 pub(crate) fn add_found(
-    g: &Pointed<'_>,
+    g: &Pointed<'_, '_, '_>,
     e: &Expr,
     scratch: &mut Rows,
     rows: &mut Rows,

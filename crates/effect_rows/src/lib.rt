@@ -2,10 +2,12 @@
 #![tactic(auto)]
 
 mod expressions;
+mod location_effects;
 mod pointed;
 mod seen_types;
 mod steps;
 mod tables;
 
+pub use location_effects::LocationEffects;
 pub use seen_types::SeenType;
 pub use steps::{Step, Steps};

@@ -6,7 +6,8 @@ ghost use Rattle.dep_model.specs.LocationLists.{location_list};
 ghost use Rattle.dep_model.specs.declared.location.Location.{Location};
 ghost use Rattle.dep_model.specs.Locations.{locations};
 ghost use Rattle.effect_rows.specs.Gains.{row_of, with_places};
-ghost use Rattle.effect_rows.specs.Pointed.{points_in};
+ghost use Rattle.dep_model.specs.LocationRows.{HasPointsRows};
+ghost use Rattle.effect_rows.specs.Pointed.{points_in, AreTables};
 ghost use Rattle.effect_rows.specs.Steps.{stepped, taken};
 ghost use Rattle.effect_rows.specs.Tables.{IsPlaceOf};
 
@@ -18,13 +19,14 @@ use dep_model::{LocationId, Part, PointsTo};
 use std::marker::Model;
 
 /// A program with the places of its locations, and with rows that say to what these may point.
-pub(crate) struct Pointed<'a> {
-    program: &'a Program,
-    tables: &'a Tables,
-    points: &'a PointsTo,
+#[derive(Drop)]
+pub(crate) struct Pointed<'p, 't, 'r> {
+    program: &'p Program,
+    tables: &'t Tables,
+    points: &'r PointsTo,
 }
 
-impl<'a> Model for Pointed<'a> {
+impl<'p, 't, 'r> Model for Pointed<'p, 't, 'r> {
     ghost use Rattle.dep_model.specs.LocationRows.{HasPointsRows};
     ghost use Rattle.effect_rows.specs.Pointed.{PointedProgram, AreTables};
 
@@ -45,9 +47,22 @@ impl<'a> Model for Pointed<'a> {
     } };
 }
 
-impl<'a> Pointed<'a> {
+impl<'p, 't, 'r> Pointed<'p, 't, 'r> {
+    /// A program with its tables and rows.
+    pub(crate) fn of(
+        program: &'p Program,
+        tables: &'t Tables,
+        points: &'r PointsTo,
+    ) -> Pointed<'p, 't, 'r>
+        requires tables_are { AreTables program.now tables.now }
+        requires points_are { HasPointsRows program.now points.now }
+        ensures { result ≡ record { program = program.now; rows = points.now } }
+    {
+        Pointed { program, tables, points }
+    }
+
     /// The program.
-    pub(crate) fn program(&self) -> &'a Program
+    pub(crate) fn program(&self) -> &'p Program
         ensures { result.now ≡ self.now.program }
     {
         self.program
