@@ -1,6 +1,5 @@
 -- Rows that gain locations, one after another.
-use Rattle.std.proofs.Common.{◌≡◌, ℕ, ◌<◌, zero, suc, Bool, true, false, ◌||◌, List, [], ◌∷◌, length, map, set, get_or, refl, sym, ap, ◌∙◌, subst}
-use Rattle.std.proofs.lemmas.List.{length-map}
+use Rattle.std.proofs.Common.{◌≡◌, ℕ, ◌<◌, zero, suc, Bool, true, false, ◌||◌, List, [], ◌∷◌, length, map, set, refl, sym, ap, ◌∙◌, subst}
 use Rattle.bit_rows.specs.Sets.{union}
 use Rattle.bit_rows.specs.Tables.{Table, the_set, with_set, IsSized}
 use Rattle.bit_rows.proofs.SetLemmas.{length-union}
@@ -41,8 +40,8 @@ module _ (p : Program) (r : ℕ) where
   gains_twice a b t has =
       let first = union (the_set t r) (row_of p a) in
       ap (λ s. with_set (with_set t r first) r (union s (row_of p b))) (the_set-with_set t r first has.row_in)
-        ∙ with_set_twice t r first (union first (row_of p b))
-        ∙ ap (with_set t r) (union_twice_mapped (the_set t r) (λ o. a o.location) (λ o. b o.location) (locations p))
+      ∙ with_set_twice t r first (union first (row_of p b))
+      ∙ ap (with_set t r) (union_twice_mapped (the_set t r) (λ o. a o.location) (λ o. b o.location) (locations p))
 
   pub gains_nothing : (t : Table) → with_places p r no_places t ≡ t
   gains_nothing t = ap (with_set t r) (union_none (the_set t r) (locations p)) ∙ with_set_same t r

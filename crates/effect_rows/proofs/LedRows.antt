@@ -1,5 +1,5 @@
 -- The row of the locations to which some lead, location by location.
-use Rattle.std.proofs.Common.{◌≡◌, ℕ, zero, suc, ◌+◌, Bool, true, false, ◌||◌, ◌&&◌, List, [], ◌∷◌, ◌++◌, length, map, take, replicate, slice_get, Option, Some, refl, sym, ap, ap₂, ◌∙◌, subst, append_assoc, arith}
+use Rattle.std.proofs.Common.{◌≡◌, ℕ, zero, suc, ◌+◌, Bool, true, false, ◌||◌, ◌&&◌, List, [], ◌∷◌, ◌++◌, length, map, take, replicate, slice_get, Some, refl, sym, ap, ap₂, ◌∙◌, subst, append_assoc, arith}
 use Rattle.std.specs.List.{list_any}
 use Rattle.std.proofs.lemmas.Bool.{or_left}
 use Rattle.std.proofs.lemmas.Option.{same_Some}
@@ -52,8 +52,8 @@ listed : (f : TypedLocation → Bool) (ys xs all : List TypedLocation) → all �
 listed f ys [] all e = refl
 listed f ys (o ∷ xs) all e =
     ap₂ (λ (b : Bool) (bs : List Bool). b ∷ bs)
-      (sym (ap (λ b. b && f o) (subst (λ zs. list_any (λ (q : TypedLocation). same_location q.location o.location) zs ≡ true) (sym e) (among ys xs o))))
-      (listed f (ys ++ o ∷ []) xs all (e ∙ sym (append_assoc ys (o ∷ []) xs)))
+    (sym (ap (λ b. b && f o) (subst (λ zs. list_any (λ (q : TypedLocation). same_location q.location o.location) zs ≡ true) (sym e) (among ys xs o))))
+    (listed f (ys ++ o ∷ []) xs all (e ∙ sym (append_assoc ys (o ∷ []) xs)))
 
 module _ (p : Program) (to : Location → Places) (a : Places) where
   -- where the first k locations lead, those of `a` alone
@@ -67,11 +67,11 @@ module _ (p : Program) (to : Location → Places) (a : Places) where
   led_more k o at =
       let next : k + 1 ≡ suc k = omega arith in
       ap (λ n. row_of p (first_led n)) next
-        ∙ map_same (λ m. first_led (suc k) m.location) (λ m. first_led k m.location || (a o.location && to o.location m.location)) (locations p) (λ m. any_more (λ (q : TypedLocation). a q.location && to q.location m.location) (locations p) k o at)
-        ∙ sym (union_mapped (λ m. first_led k m.location) (λ m. a o.location && to o.location m.location) (locations p))
+      ∙ map_same (λ m. first_led (suc k) m.location) (λ m. first_led k m.location || (a o.location && to o.location m.location)) (locations p) (λ m. any_more (λ (q : TypedLocation). a q.location && to q.location m.location) (locations p) k o at)
+      ∙ sym (union_mapped (λ m. first_led k m.location) (λ m. a o.location && to o.location m.location) (locations p))
 
   -- where all of them lead
   pub led_ends : row_of p (first_led (length (locations p))) ≡ row_of p (λ l. is_location p l && list_any (λ (o : TypedLocation). a o.location && to o.location l) (locations p))
   led_ends =
       map_same _ _ (locations p) (λ m. ap (list_any (λ (q : TypedLocation). a q.location && to q.location m.location)) (take_whole (locations p)))
-        ∙ listed (λ m. list_any (λ (q : TypedLocation). a q.location && to q.location m.location) (locations p)) [] (locations p) (locations p) refl
+      ∙ listed (λ m. list_any (λ (q : TypedLocation). a q.location && to q.location m.location) (locations p)) [] (locations p) (locations p) refl

@@ -1,6 +1,6 @@
 -- What forms of expression name in a step.
 use mathlib.Core.Path.{fun_ext}
-use Rattle.std.proofs.Common.{◌≡◌, ℕ, Bool, true, false, ◌||◌, ◌&&◌, if◌then◌else◌, None, length, refl, sym, ap, ap₂, ◌∙◌, subst}
+use Rattle.std.proofs.Common.{◌≡◌, ℕ, Bool, true, false, ◌||◌, ◌&&◌, if◌then◌else◌, None, refl, sym, ap, ap₂, ◌∙◌}
 use Rattle.c_arith.specs.declared.operators.BinaryOp.{BinaryOp}
 use Rattle.c_tree.specs.declared.expr.MemberId.{MemberId}
 use Rattle.c_tree.specs.declared.expr.Expr.{Expr, map-Expr}
@@ -10,11 +10,10 @@ use Rattle.c_tree.specs.declared.program.Program.{Program}
 use Rattle.c_language.specs.declared.expr_type.ExprType.{ExprType}
 use Rattle.c_language.specs.ExprTypes.{is_pointer}
 use Rattle.c_language.specs.TreeTypes.{tree_type}
-use Rattle.bit_rows.specs.Tables.{Table, IsSized}
+use Rattle.bit_rows.specs.Tables.{Table}
 use Rattle.dep_model.specs.declared.location.Part.TheVariants as part
 use Rattle.dep_model.specs.Designated.{Designated, is_array_place, a_place, value_takes, takes_either, designated_step}
 use Rattle.dep_model.specs.Denoted.{Places, TargetsOf, Denoted, no_places, either_of, part_of, targets, value_points, value_reads, reads_either, points_either, denoted, denoted_step, an_object}
-use Rattle.dep_model.specs.Locations.{locations}
 use Rattle.effect_rows.specs.declared.steps.Steps.{Steps}
 use Rattle.effect_rows.specs.Gains.{with_places, HasLocationRow}
 use Rattle.effect_rows.specs.Named.{named_by, named}
@@ -40,9 +39,9 @@ module _ (p : Program) (points : TargetsOf) where
   pub both_gained : (r : ℕ) (s : Steps) (t u v : Table) (first second a b all : Places) → HasLocationRow p r t → u ≡ with_places p r first t → first ≡ taken p points s a → v ≡ with_places p r second u → second ≡ taken p points s b → all ≡ either_of a b → v ≡ with_places p r (taken p points s all) t
   both_gained r s t u v first second a b all has to_u is_first to_v is_second is_all =
       to_v
-        ∙ ap (with_places p r second) to_u
-        ∙ gains_twice p r first second t has
-        ∙ ap (λ (c : Places). with_places p r c t) (ap₂ either_of is_first is_second ∙ sym (taken-either p points s a b) ∙ ap (taken p points s) (sym is_all))
+      ∙ ap (with_places p r second) to_u
+      ∙ gains_twice p r first second t has
+      ∙ ap (λ (c : Places). with_places p r c t) (ap₂ either_of is_first is_second ∙ sym (taken-either p points s a b) ∙ ap (taken p points s) (sym is_all))
 
   -- ---- members and elements
 
@@ -68,8 +67,8 @@ module _ (p : Program) (points : TargetsOf) where
   pub named-Index : (a i : Expr) → named p points (e.Index a i) ≡ to_value a
   named-Index a i =
       ap named_by (denotes-Index p points a i)
-        ∙ element_names (is_array_place (den a).form) (element_form a i) (part_of p part.Element (den a).places) (to_value a) (either_of (den a).reads (value_reads p points (den i))) (reads_either p points (den a) (den i)) (index_place (is_array_place (den a).form) _ (den a).form (den i).form)
-        ∙ element_value (den a) (is_array_place (den a).form) refl
+      ∙ element_names (is_array_place (den a).form) (element_form a i) (part_of p part.Element (den a).places) (to_value a) (either_of (den a).reads (value_reads p points (den i))) (reads_either p points (den a) (den i)) (index_place (is_array_place (den a).form) _ (den a).form (den i).form)
+      ∙ element_value (den a) (is_array_place (den a).form) refl
 
   -- ---- sums, differences and choices
 
@@ -91,11 +90,11 @@ module _ (p : Program) (points : TargetsOf) where
   pub binary_points : (x : Expr) (op : BinaryOp) (a b : Expr) (t : Bool) → x ≡ e.Binary op a b → is_pointer (tree_type p x) ≡ t → named p points x ≡ (λ l. t && (to_value a l || to_value b l))
   binary_points x op a b t same is =
       ap (named p points) same
-        ∙ ap named_by (denotes-Binary p points op a b)
-        ∙ pair_points (binary_form op a b).form (den a) (den b) t (binary_type op a b t (sym (ap (λ y. is_pointer (tree_type p y)) same) ∙ is))
+      ∙ ap named_by (denotes-Binary p points op a b)
+      ∙ pair_points (binary_form op a b).form (den a) (den b) t (binary_type op a b t (sym (ap (λ y. is_pointer (tree_type p y)) same) ∙ is))
 
   pub choice_points : (x c a b : Expr) (t : Bool) → x ≡ e.Choose c a b → is_pointer (tree_type p x) ≡ t → named p points x ≡ (λ l. t && (to_value a l || to_value b l))
   choice_points x c a b t same is =
       ap (named p points) same
-        ∙ ap named_by (denotes-Choose p points c a b)
-        ∙ pair_points (choice_form c a b).form (den a) (den b) t (choice_type c a b t (sym (ap (λ y. is_pointer (tree_type p y)) same) ∙ is))
+      ∙ ap named_by (denotes-Choose p points c a b)
+      ∙ pair_points (choice_form c a b).form (den a) (den b) t (choice_type c a b t (sym (ap (λ y. is_pointer (tree_type p y)) same) ∙ is))

@@ -1,22 +1,17 @@
 -- What each form of expression names, and what no object names.
-use mathlib.Core.Path.{fun_ext}
-use Rattle.std.proofs.Common.{◌≡◌, ℕ, Bool, true, false, ◌||◌, ◌&&◌, if◌then◌else◌, refl, sym, ap, ◌∙◌, subst}
+use Rattle.std.proofs.Common.{◌≡◌, ℕ, Bool, true, false, if◌then◌else◌, refl, sym, ap, ◌∙◌, subst}
 use Rattle.std.proofs.lemmas.Bool.{false≢true}
-use Rattle.c_arith.specs.declared.operators.BinaryOp.{BinaryOp}
 use Rattle.c_tree.specs.declared.expr.MemberId.{MemberId}
 use Rattle.c_tree.specs.declared.expr.Expr.{Expr, map-Expr, ind-Expr, roll-Expr, fold-roll-Expr}
 use Rattle.c_tree.specs.declared.expr.Expr.TheOpen.{Expr-F}
 use Rattle.c_tree.specs.declared.expr.Expr.TheVariants as e
 use Rattle.c_tree.specs.declared.program.Program.{Program}
-use Rattle.c_language.specs.declared.expr_type.ExprType.{ExprType}
-use Rattle.c_language.specs.ExprTypes.{is_pointer, is_array}
-use Rattle.c_language.specs.TreeTypes.{tree_type, tree_type_step}
 use Rattle.dep_model.specs.declared.location.Part.TheVariants as part
-use Rattle.dep_model.specs.Designated.{Designated, is_array_place}
-use Rattle.dep_model.specs.Denoted.{Places, TargetsOf, Denoted, no_places, either_of, whole, part_of, value_points, denoted, denoted_step, an_object}
+use Rattle.dep_model.specs.Designated.{Designated}
+use Rattle.dep_model.specs.Denoted.{Places, TargetsOf, Denoted, no_places, whole, part_of, value_points, denoted, denoted_step, an_object}
 use Rattle.effect_rows.specs.Named.{named_by, named}
 use Rattle.effect_rows.proofs.PlaceLemmas.{part_of-none}
-use Rattle.effect_rows.proofs.DenotedForms.{denotes-Variable, denotes-Deref, denotes-AddressOf, denotes-Index, denotes-Member, denotes-Arrow, denotes-Paren}
+use Rattle.effect_rows.proofs.DenotedForms.{denotes-Variable, denotes-Deref, denotes-AddressOf, denotes-Arrow, denotes-Paren}
 
 module _ (p : Program) (points : TargetsOf) where
   abbrev den : Expr → Denoted

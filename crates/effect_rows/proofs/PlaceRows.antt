@@ -1,5 +1,5 @@
 -- The row of one location, and of some more.
-use Rattle.std.proofs.Common.{◌≡◌, ℕ, zero, suc, ◌==◌, ◌<◌, List, [], ◌∷◌, length, map, replicate, slice_get, slice_set, slice_index_or, Bool, true, false, ◌&&◌, Option, Some, None, inl, inr, refl, sym, ap, ap₂, ◌∙◌, subst, arith, eqb-true, eq-eqb}
+use Rattle.std.proofs.Common.{◌≡◌, ℕ, zero, suc, ◌<◌, List, [], ◌∷◌, length, map, replicate, slice_get, slice_set, Bool, true, false, Option, Some, None, inl, inr, refl, sym, ap, ap₂, ◌∙◌, subst, arith, eqb-true, eq-eqb}
 use Rattle.std.specs.Prelude.{Contains}
 use Rattle.std.proofs.lemmas.Bool.{false≢true, and_parts, and_from, cases_Bool}
 use Rattle.std.proofs.lemmas.List.{length-map}
@@ -138,9 +138,9 @@ module _ (p : Program) where
   pub seeded : (s t u : Table) (a : Places) (k : ℕ) → IsSized 2 (length (locations p)) s → t ≡ with_set s 0 (replicate s.bits false) → IsSized (length s.sets) s.bits t → u ≡ with_set t 0 (slice_set (the_set t 0) k true) → row_of p a ≡ slice_set (replicate (length (locations p)) false) k true → the_set u 0 ≡ row_of p a
   seeded s t u a k sized cleared again set is =
       ap (λ (v : Table). the_set v 0) set
-        ∙ the_set-with_set t 0 (slice_set (the_set t 0) k true) (let two = sized.rows_are in let same = again.rows_are in omega (arith, two, same))
-        ∙ ap (λ row. slice_set row k true) (cleared_row s t sized cleared)
-        ∙ sym is
+      ∙ the_set-with_set t 0 (slice_set (the_set t 0) k true) (let two = sized.rows_are in let same = again.rows_are in omega (arith, two, same))
+      ∙ ap (λ row. slice_set row k true) (cleared_row s t sized cleared)
+      ∙ sym is
 
   pub unseeded : (s t : Table) (a : Places) → IsSized 2 (length (locations p)) s → t ≡ with_set s 0 (replicate s.bits false) → row_of p a ≡ replicate (length (locations p)) false → the_set t 0 ≡ row_of p a
   unseeded s t a sized cleared is = cleared_row s t sized cleared ∙ sym is

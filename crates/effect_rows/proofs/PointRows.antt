@@ -1,7 +1,7 @@
 -- What rows say of a location is the row at its place.
-use Rattle.std.proofs.Common.{◌≡◌, ℕ, zero, suc, ◌<◌, cond, List, [], ◌∷◌, length, map, slice_get, position, Bool, true, false, Option, Some, None, option_map, inl, inr, refl, sym, ap, ◌∙◌, subst, arith}
+use Rattle.std.proofs.Common.{◌≡◌, ℕ, zero, suc, cond, List, [], ◌∷◌, map, slice_get, position, Bool, true, false, Some, option_map, inl, inr, ap, ◌∙◌, subst, arith}
 use Rattle.std.specs.Option.{option_map_or}
-use Rattle.std.proofs.lemmas.Bool.{false≢true, cases_Bool}
+use Rattle.std.proofs.lemmas.Bool.{cases_Bool}
 use Rattle.std.proofs.lemmas.Option.{same_Some}
 use Rattle.bit_rows.specs.Sets.{has}
 use Rattle.bit_rows.specs.Tables.{the_set}
@@ -13,7 +13,7 @@ use Rattle.dep_model.specs.Denoted.{no_places}
 use Rattle.dep_model.specs.LocationRows.{place_of, row_places, points_of}
 use Rattle.dep_model.specs.Locations.{TypedLocation, locations, same_location}
 use Rattle.dep_model.specs.LocationLists.{location_list}
-use Rattle.effect_rows.specs.Gains.{row_of, AreListedOnce}
+use Rattle.effect_rows.specs.Gains.{AreListedOnce}
 use Rattle.effect_rows.proofs.PlaceRows.{location_is, location_itself}
 
 abbrev alone : TypedLocation → Location
@@ -31,8 +31,8 @@ position_once (o ∷ xs) (suc k) l at only = elim (cases_Bool (same_location o.l
   | inl same ↦ let e : 0 ≡ suc k = only 0 (ap Some (location_is o.location l same)) in absurd (omega (arith, e))
   | inr other ↦
       position-cons (is_at l) o xs
-        ∙ ap (λ b. cond b (Some 0) (option_map suc (position (is_at l) xs))) other
-        ∙ ap (option_map suc) (position_once xs k l at (λ j h. let e : suc j ≡ suc k = only (suc j) h in omega (arith, e)))
+      ∙ ap (λ b. cond b (Some 0) (option_map suc (position (is_at l) xs))) other
+      ∙ ap (option_map suc) (position_once xs k l at (λ j h. let e : suc j ≡ suc k = only (suc j) h in omega (arith, e)))
 ]
 
 module _ (p : Program) (listed : AreListedOnce p) where

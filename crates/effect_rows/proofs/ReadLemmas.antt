@@ -1,6 +1,6 @@
 -- What is read for an expression is added part by part.
 use mathlib.Core.Path.{fun_ext}
-use Rattle.std.proofs.Common.{◌≡◌, ℕ, Bool, true, false, ◌||◌, ◌&&◌, if◌then◌else◌, length, refl, sym, ap, ap₂, ◌∙◌}
+use Rattle.std.proofs.Common.{◌≡◌, ℕ, Bool, true, false, ◌||◌, ◌&&◌, if◌then◌else◌, length, refl, sym, ap, ◌∙◌}
 use Rattle.c_tree.specs.declared.expr.Expr.{Expr}
 use Rattle.c_tree.specs.declared.program.Program.{Program}
 use Rattle.c_tree.specs.declared.expr.Expr.TheVariants as e
@@ -58,7 +58,7 @@ module _ (p : Program) (points : TargetsOf) where
   pub reads_both : (a : Expr) → ((den a).form.is_place && is_scalar (tree_type p a)) ≡ true → expr_reads p points a ≡ either_of (left_reads p points a) (taken p points steps.Done (named p points a))
   reads_both a is =
       object_reads (den a) true (typed a true is)
-        ∙ ap (either_of (den a).reads) (sym (ap (λ f. f (named p points a)) (taken-Done p points) ∙ ap (λ t. if t then (den a).places else (den a).points) (place_of_both (den a).form.is_place (is_scalar (tree_type p a)) is)))
+      ∙ ap (either_of (den a).reads) (sym (ap (λ f. f (named p points a)) (taken-Done p points) ∙ ap (λ t. if t then (den a).places else (den a).points) (place_of_both (den a).form.is_place (is_scalar (tree_type p a)) is)))
 
   pub element_reads : (b : Bool) (f : Designated) (x y d v i : Places) → (if b then an_object p points f x (either_of d i) else an_object p points f y (either_of v i)).reads ≡ either_of (if b then d else v) i
   element_reads true f x y d v i = refl
@@ -67,8 +67,8 @@ module _ (p : Program) (points : TargetsOf) where
   reads_of_element : (a i : Expr) (b : Bool) → ((den a).form.is_place && is_array (tree_type p a)) ≡ b → left_reads p points (e.Index a i) ≡ either_of (if b then left_reads p points a else expr_reads p points a) (expr_reads p points i)
   reads_of_element a i b is =
       ap (λ (d : Denoted). d.reads) (denotes-Index p points a i)
-        ∙ element_reads (is_array_place (den a).form) (element_form p points a i) (part_of p part.Element (den a).places) (value_points p points (den a)) (den a).reads (value_reads p points (den a)) (value_reads p points (den i))
-        ∙ ap (λ t. either_of (if t then left_reads p points a else expr_reads p points a) (expr_reads p points i)) (ap (λ t. (den a).form.is_place && is_array t) (denoted_type p points a) ∙ is)
+      ∙ element_reads (is_array_place (den a).form) (element_form p points a i) (part_of p part.Element (den a).places) (value_points p points (den a)) (den a).reads (value_reads p points (den a)) (value_reads p points (den i))
+      ∙ ap (λ t. either_of (if t then left_reads p points a else expr_reads p points a) (expr_reads p points i)) (ap (λ t. (den a).form.is_place && is_array t) (denoted_type p points a) ∙ is)
 
   -- an element of an array: the array isn't read
   pub reads_in_array : (x a i : Expr) → x ≡ e.Index a i → ((den a).form.is_place && is_array (tree_type p a)) ≡ true → left_reads p points x ≡ either_of (left_reads p points a) (expr_reads p points i)

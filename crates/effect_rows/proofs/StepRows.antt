@@ -1,5 +1,5 @@
 -- One more location of those whose parts or targets are added.
-use Rattle.std.proofs.Common.{◌≡◌, ◌≢◌, ℕ, zero, suc, ◌+◌, ◌<◌, List, [], ◌∷◌, length, map, replicate, slice_get, slice_set, Bool, true, false, ◌||◌, ◌&&◌, Option, Some, refl, sym, ap, ap₂, ◌∙◌, subst, arith}
+use Rattle.std.proofs.Common.{◌≡◌, ◌≢◌, ℕ, zero, suc, ◌+◌, ◌<◌, List, [], ◌∷◌, length, map, replicate, slice_get, slice_set, Bool, true, false, ◌||◌, ◌&&◌, Some, refl, sym, ap, ap₂, ◌∙◌, subst, arith}
 use Rattle.std.proofs.lemmas.List.{length-map}
 use Rattle.std.proofs.lemmas.Option.{same_Some}
 use Rattle.bit_rows.specs.Sets.{has, union}
@@ -9,10 +9,9 @@ use Rattle.bit_rows.proofs.TableLemmas.{the_set-with_set, other-with_set}
 use Rattle.c_tree.specs.declared.program.Program.{Program}
 use Rattle.dep_model.specs.declared.location.Location.{Location}
 use Rattle.dep_model.specs.declared.points_to.PointsTo.{PointsTo}
-use Rattle.dep_model.specs.Denoted.{Places, no_places}
+use Rattle.dep_model.specs.Denoted.{Places}
 use Rattle.dep_model.specs.LocationRows.{points_of, HasPointsRows}
 use Rattle.dep_model.specs.Locations.{TypedLocation, locations}
-use Rattle.dep_model.specs.LocationLists.{location_list}
 use Rattle.effect_rows.specs.Gains.{row_of, AreListedOnce}
 use Rattle.effect_rows.proofs.GainLemmas.{union_none}
 use Rattle.effect_rows.proofs.LedRows.{first_led, led_begins, led_more}
@@ -45,29 +44,29 @@ module _ (p : Program) where
   points_row listed t rows k o at lt =
       let at_k = alone_at (locations p) k o at in
       same_set (the_set t.rows k) (row_of p (points_of p t o.location))
-        (rows.sized.full k lt ∙ sym (length-map (locations p) (λ (q : TypedLocation). points_of p t o.location q.location)))
-        (λ i below.
-          let inside : i < length (locations p) = subst (λ n. i < n) (rows.sized.full k lt) below in
-          let found = listed_at (locations p) i inside in
-          let m = found.0 in
-          sym (has_row_of (points_of p t o.location) i m found.1
-            ∙ ap (λ (f : Places). f m.location) (points_at_place p listed t k o.location at_k)
-            ∙ row_at_place p listed (the_set t.rows k) i m.location (alone_at (locations p) i m found.1)))
+      (rows.sized.full k lt ∙ sym (length-map (locations p) (λ (q : TypedLocation). points_of p t o.location q.location)))
+      (λ i below.
+      let inside : i < length (locations p) = subst (λ n. i < n) (rows.sized.full k lt) below in
+      let found = listed_at (locations p) i inside in
+      let m = found.0 in
+      sym (has_row_of (points_of p t o.location) i m found.1
+      ∙ ap (λ (f : Places). f m.location) (points_at_place p listed t k o.location at_k)
+      ∙ row_at_place p listed (the_set t.rows k) i m.location (alone_at (locations p) i m found.1)))
 
   module _ (to : Location → Places) (a : Places) where
     pub led_in : (s u : List Bool) (k : ℕ) (o : TypedLocation) → slice_get (locations p) k ≡ Some o → s ≡ row_of p (first_led p to a k) → a o.location ≡ true → u ≡ union s (row_of p (to o.location)) → u ≡ row_of p (first_led p to a (k + 1))
     led_in s u k o at led is joined =
         joined
-          ∙ ap (λ (r : List Bool). union r (row_of p (to o.location))) led
-          ∙ ap (λ (b : Bool). union (row_of p (first_led p to a k)) (row_of p (λ l. b && to o.location l))) (sym is)
-          ∙ sym (led_more p to a k o at)
+        ∙ ap (λ (r : List Bool). union r (row_of p (to o.location))) led
+        ∙ ap (λ (b : Bool). union (row_of p (first_led p to a k)) (row_of p (λ l. b && to o.location l))) (sym is)
+        ∙ sym (led_more p to a k o at)
 
     pub led_out : (s : List Bool) (k : ℕ) (o : TypedLocation) → slice_get (locations p) k ≡ Some o → s ≡ row_of p (first_led p to a k) → a o.location ≡ false → s ≡ row_of p (first_led p to a (k + 1))
     led_out s k o at led is =
         led
-          ∙ sym (union_none (row_of p (first_led p to a k)) (locations p))
-          ∙ ap (λ (b : Bool). union (row_of p (first_led p to a k)) (row_of p (λ l. b && to o.location l))) (sym is)
-          ∙ sym (led_more p to a k o at)
+        ∙ sym (union_none (row_of p (first_led p to a k)) (locations p))
+        ∙ ap (λ (b : Bool). union (row_of p (first_led p to a k)) (row_of p (λ l. b && to o.location l))) (sym is)
+        ∙ sym (led_more p to a k o at)
 
   -- ---- two scratch rows
 

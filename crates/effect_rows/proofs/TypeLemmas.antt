@@ -6,7 +6,7 @@ use Rattle.c_tree.specs.declared.program.Program.{Program}
 use Rattle.c_language.specs.declared.expr_type.ExprType.{ExprType}
 use Rattle.c_language.specs.TreeTypes.{tree_type, tree_type_step}
 use Rattle.dep_model.specs.Designated.{Designated}
-use Rattle.dep_model.specs.Denoted.{Places, TargetsOf, Denoted, denoted, denoted_step, an_object}
+use Rattle.dep_model.specs.Denoted.{TargetsOf, Denoted, denoted, denoted_step}
 use Rattle.effect_rows.proofs.NamedLemmas.{element_keeps}
 
 element_type : (b : Bool) (d f : Designated) (t : ExprType) → d.type ≡ t → f.type ≡ t → (if b then d else f).type ≡ t

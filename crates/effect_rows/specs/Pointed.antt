@@ -4,7 +4,7 @@ use Rattle.c_tree.specs.declared.program.Program.{Program}
 use Rattle.dep_model.specs.declared.points_to.PointsTo.{PointsTo}
 use Rattle.dep_model.specs.Denoted.{TargetsOf, variable}
 use Rattle.dep_model.specs.DoingEffects.{result_of}
-use Rattle.dep_model.specs.LocationRows.{points_of, HasPointsRows}
+use Rattle.dep_model.specs.LocationRows.{points_of}
 use Rattle.dep_model.specs.Locations.{locations}
 use Rattle.effect_rows.specs.declared.tables.Tables.{Tables}
 use Rattle.effect_rows.specs.Gains.{AreListedOnce}

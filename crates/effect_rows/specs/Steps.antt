@@ -1,5 +1,4 @@
 -- Steps from some locations to others, one after another.
-use Rattle.std.specs.Prelude.{ℕ}
 use Rattle.c_tree.specs.declared.program.Program.{Program}
 use Rattle.dep_model.specs.Denoted.{Places, TargetsOf, no_places, part_of, targets}
 use Rattle.effect_rows.specs.declared.steps.Step.{Step}

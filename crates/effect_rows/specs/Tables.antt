@@ -1,13 +1,11 @@
 -- Tables of the places of a program's locations in their list.
-use Rattle.std.specs.Prelude.{◌≡◌, ℕ, List, [], length, Option, Some, None, Contains, slice_get, slice_index_or}
+use Rattle.std.specs.Prelude.{◌≡◌, ℕ, List, [], Option, Some, None, Contains, slice_get, slice_index_or}
 use Rattle.std.specs.Global.{Vec}
 use Rattle.std.specs.Option.{option_map_or}
 use Rattle.c_tree.specs.declared.program.Program.{Program}
 use Rattle.dep_model.specs.declared.location.Location.{Location}
-use Rattle.dep_model.specs.declared.location.Part.{Part}
 use Rattle.dep_model.specs.declared.location.Part.TheVariants as part
-use Rattle.dep_model.specs.Denoted.{variable, inside}
-use Rattle.dep_model.specs.DoingEffects.{result_of}
+use Rattle.dep_model.specs.Denoted.{inside}
 use Rattle.dep_model.specs.LocationLists.{location_list}
 
 -- where a location stands in a list: at the place, or nowhere where there is none

@@ -59,7 +59,11 @@ pub(crate) fn value_steps<'a>(is_place: bool, seen: SeenType<'_>, then: &'a Step
 }
 
 /// The steps from what an expression names to where its value may point, and then the others.
-pub(crate) fn steps_of_value<'a>(g: &Pointed<'_, '_, '_>, e: &Expr, then: &'a Steps<'a>) -> Steps<'a>
+pub(crate) fn steps_of_value<'a>(
+    g: &Pointed<'_, '_, '_>,
+    e: &Expr,
+    then: &'a Steps<'a>,
+) -> Steps<'a>
     ensures { (points : TargetsOf) → taken g.now.program points result (named g.now.program points e.now)
         ≡ taken g.now.program points then.now (value_points g.now.program points (denoted g.now.program points e.now)) }
 {

@@ -43,8 +43,8 @@ impl<'p> Model for LocationEffects<'p> {
     ghost view = { λ e. e.program.now };
 
     ghost invariant = { λ e. record {
-        tables_are : AreTables e.program.now e.tables;
-        scratch_is : IsSized 2 (length (locations e.program.now)) e.scratch;
+      tables_are : AreTables e.program.now e.tables;
+      scratch_is : IsSized 2 (length (locations e.program.now)) e.scratch;
     } };
 }
 

@@ -29,7 +29,6 @@ pub(crate) struct Pointed<'p, 't, 'r> {
 impl<'p, 't, 'r> Model for Pointed<'p, 't, 'r> {
     ghost use Rattle.dep_model.specs.LocationRows.{HasPointsRows};
     ghost use Rattle.effect_rows.specs.Pointed.{PointedProgram, AreTables};
-
     ghost use Rattle.std.specs.Coded.{codes};
     ghost use Rattle.c_tree.specs.contracts.expr.Expr as expr;
     ghost use Rattle.c_tree.specs.contracts.statement.Statement as statement;
@@ -42,8 +41,8 @@ impl<'p, 't, 'r> Model for Pointed<'p, 't, 'r> {
     ghost view = { λ g. record { program = g.program.now; rows = g.points.now } };
 
     ghost invariant = { λ g. record {
-        tables_are : AreTables g.program.now g.tables.now;
-        points_are : HasPointsRows g.program.now g.points.now;
+      tables_are : AreTables g.program.now g.tables.now;
+      points_are : HasPointsRows g.program.now g.points.now;
     } };
 }
 
@@ -58,7 +57,11 @@ impl<'p, 't, 'r> Pointed<'p, 't, 'r> {
         requires points_are { HasPointsRows program.now points.now }
         ensures { result ≡ record { program = program.now; rows = points.now } }
     {
-        Pointed { program, tables, points }
+        Pointed {
+            program,
+            tables,
+            points,
+        }
     }
 
     /// The program.

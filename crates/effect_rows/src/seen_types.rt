@@ -84,7 +84,10 @@ pub(crate) fn is_scalar(t: SeenType<'_>) -> bool
     ensures { (p : Program) → result ≡ spec.is_scalar (type_seen p t.entry) }
 {
     match t {
-        SeenType::Integer(_) | SeenType::VoidPointer | SeenType::PointerTo(_) | SeenType::AddressOf(_) => true,
+        SeenType::Integer(_)
+        | SeenType::VoidPointer
+        | SeenType::PointerTo(_)
+        | SeenType::AddressOf(_) => true,
         SeenType::Declared(CType::PointerTo(_) | CType::Integer(_)) => true,
         _ => false,
     }

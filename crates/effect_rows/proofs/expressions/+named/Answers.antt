@@ -85,11 +85,11 @@ add_named-returns-then-points-clause-gained t c =
     let left = taken p to steps (value_points p to (denoted p to c.in-Binary.a)) in
     let right = taken p to steps (value_points p to (denoted p to c.in-Binary.b)) in
     let first : c.add_value-then-points.new.rows ≡ with_places p row left c.args.rows.now =
-        subst (λ x. c.add_value-then-points.new.rows ≡ with_places p row (taken p to steps (value_points p to (denoted p to x))) c.args.rows.now) c.get-then-points.ensures c.add_value-then-points.ensures.gained in
+    subst (λ x. c.add_value-then-points.new.rows ≡ with_places p row (taken p to steps (value_points p to (denoted p to x))) c.args.rows.now) c.get-then-points.ensures c.add_value-then-points.ensures.gained in
     let second : c.add_value-then-points-2.new.rows ≡ with_places p row right c.add_value-then-points.new.rows =
-        subst (λ x. c.add_value-then-points-2.new.rows ≡ with_places p row (taken p to steps (value_points p to (denoted p to x))) c.add_value-then-points.new.rows) c.get-then-points-2.ensures c.add_value-then-points-2.ensures.gained in
+    subst (λ x. c.add_value-then-points-2.new.rows ≡ with_places p row (taken p to steps (value_points p to (denoted p to x))) c.add_value-then-points.new.rows) c.get-then-points-2.ensures c.add_value-then-points-2.ensures.gained in
     both_gained p to row steps c.args.rows.now c.add_value-then-points.new.rows c.add_value-then-points-2.new.rows left right (value_points p to (denoted p to c.in-Binary.a)) (value_points p to (denoted p to c.in-Binary.b)) (named p to c.args.e.now)
-        (record { sized = c.requires.sized; row_in = c.requires.row_in; }) first refl second refl (binary_points p to c.args.e.now _ _ _ _ c.in-Binary.is (sym c.points.ensures ∙ c.if-points.true))
+    (record { sized = c.requires.sized; row_in = c.requires.row_in }) first refl second refl (binary_points p to c.args.e.now _ _ _ _ c.in-Binary.is (sym c.points.ensures ∙ c.if-points.true))
 
 pub add_named-returns-then-points-2-clause-gained : goal.add_named-returns-then-points-2-clause-gained
 add_named-returns-then-points-2-clause-gained t c =
@@ -100,11 +100,11 @@ add_named-returns-then-points-2-clause-gained t c =
     let left = taken p to steps (value_points p to (denoted p to c.in-Choose.a)) in
     let right = taken p to steps (value_points p to (denoted p to c.in-Choose.b)) in
     let first : c.add_value-then-points-2-2.new.rows ≡ with_places p row left c.args.rows.now =
-        subst (λ x. c.add_value-then-points-2-2.new.rows ≡ with_places p row (taken p to steps (value_points p to (denoted p to x))) c.args.rows.now) c.get-then-points-2-2.ensures c.add_value-then-points-2-2.ensures.gained in
+    subst (λ x. c.add_value-then-points-2-2.new.rows ≡ with_places p row (taken p to steps (value_points p to (denoted p to x))) c.args.rows.now) c.get-then-points-2-2.ensures c.add_value-then-points-2-2.ensures.gained in
     let second : c.add_value-then-points-2-3.new.rows ≡ with_places p row right c.add_value-then-points-2-2.new.rows =
-        subst (λ x. c.add_value-then-points-2-3.new.rows ≡ with_places p row (taken p to steps (value_points p to (denoted p to x))) c.add_value-then-points-2-2.new.rows) c.get-then-points-2-3.ensures c.add_value-then-points-2-3.ensures.gained in
+    subst (λ x. c.add_value-then-points-2-3.new.rows ≡ with_places p row (taken p to steps (value_points p to (denoted p to x))) c.add_value-then-points-2-2.new.rows) c.get-then-points-2-3.ensures c.add_value-then-points-2-3.ensures.gained in
     both_gained p to row steps c.args.rows.now c.add_value-then-points-2-2.new.rows c.add_value-then-points-2-3.new.rows left right (value_points p to (denoted p to c.in-Choose.a)) (value_points p to (denoted p to c.in-Choose.b)) (named p to c.args.e.now)
-        (record { sized = c.requires.sized; row_in = c.requires.row_in; }) first refl second refl (choice_points p to c.args.e.now _ _ _ _ c.in-Choose.is (sym c.points-in-Choose.ensures ∙ c.if-points-2.true))
+    (record { sized = c.requires.sized; row_in = c.requires.row_in }) first refl second refl (choice_points p to c.args.e.now _ _ _ _ c.in-Choose.is (sym c.points-in-Choose.ensures ∙ c.if-points-2.true))
 
 pub add_named-returns-in-Index-clause-gained : goal.add_named-returns-in-Index-clause-gained
 add_named-returns-in-Index-clause-gained t c =
@@ -113,5 +113,5 @@ add_named-returns-in-Index-clause-gained t c =
     let row = c.args.row in
     let steps = c.args.steps.now in
     let gained : c.add_value-in-Index.new.rows ≡ with_places p row (taken p to steps (value_points p to (denoted p to c.in-Index.a))) c.args.rows.now =
-        subst (λ x. c.add_value-in-Index.new.rows ≡ with_places p row (taken p to steps (value_points p to (denoted p to x))) c.args.rows.now) c.get-in-Index.ensures c.add_value-in-Index.ensures.gained in
+    subst (λ x. c.add_value-in-Index.new.rows ≡ with_places p row (taken p to steps (value_points p to (denoted p to x))) c.args.rows.now) c.get-in-Index.ensures c.add_value-in-Index.ensures.gained in
     gained ∙ ap (λ a. with_places p row (taken p to steps a) c.args.rows.now) (sym (ap (named p to) c.in-Index.is ∙ named-Index p to c.in-Index.a _))

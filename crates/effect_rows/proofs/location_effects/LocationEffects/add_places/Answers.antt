@@ -1,5 +1,5 @@
 -- What designates no object has no places.
-use Rattle.std.proofs.Common.{◌≡◌, sym, ◌∙◌}
+use Rattle.std.proofs.Common.{sym, ◌∙◌}
 use Rattle.dep_model.specs.Denoted.{expr_places}
 use Rattle.dep_model.specs.LocationRows.{points_of}
 use Rattle.effect_rows.proofs.NamedLemmas.{no_object}

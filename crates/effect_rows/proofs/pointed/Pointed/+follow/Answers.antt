@@ -1,5 +1,5 @@
 -- A step that leads nowhere adds nothing.
-use Rattle.std.proofs.Common.{◌≡◌, sym, ap, ◌∙◌}
+use Rattle.std.proofs.Common.{sym, ap, ◌∙◌}
 use Rattle.effect_rows.specs.Gains.{with_places}
 use Rattle.effect_rows.specs.Pointed.{points_in}
 use Rattle.effect_rows.specs.Steps.{taken}

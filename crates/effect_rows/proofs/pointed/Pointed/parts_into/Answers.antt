@@ -1,5 +1,5 @@
 -- The row has the parts of the locations, one after another.
-use Rattle.std.proofs.Common.{◌≡◌, ℕ, ◌<◌, ◌+◌, length, replicate, slice_set, List, Bool, None, Some, true, false, sym, ap, ◌∙◌, subst, arith}
+use Rattle.std.proofs.Common.{◌≡◌, ℕ, ◌<◌, length, replicate, slice_set, true, false, sym, ap, ◌∙◌, subst, arith}
 use Rattle.bit_rows.specs.Tables.{IsSized, the_set, with_set}
 use Rattle.c_tree.specs.declared.program.Program.{Program}
 use Rattle.dep_model.specs.Denoted.{Places, inside}
@@ -10,7 +10,6 @@ use Rattle.effect_rows.specs.Tables.{IsPlaceOf}
 use Rattle.effect_rows.proofs.LedRows.{first_led, led_ends}
 use Rattle.bit_rows.specs.Sets.{has, union}
 use Rattle.dep_model.specs.LocationLists.{location_list}
-use Rattle.dep_model.specs.Locations.{TypedLocation}
 use Rattle.effect_rows.proofs.StepRows.{begun, kept_at, made_at, resized, listed_at, alone_at, has_row_of, led_in, led_out, union_empty, union_one}
 use Rattle.effect_rows.proofs.PlaceRows.{place_within, row_by_place, row_without_place}
 use Rattle.effect_rows.proofs.pointed.Pointed.parts_into.Goals.{then-has+in-Some, then-has+in-None, else-has}
@@ -65,31 +64,31 @@ loop-k-preserved c =
           let place : IsPlaceOf (location_list p) part w.part_at.result = w.part_at.ensures found.0.location (alone_at (locations p) k found.0 found.1) in
           let added : c.if-has.scratch ≡ with_set s c.args.to (slice_set (the_set s c.args.to) w.in-Some.j true) = w.scratch-is ∙ w.set.ensures.added in
           let more : slice_set (the_set s c.args.to) w.in-Some.j true ≡ union (the_set s c.args.to) (row_of p (same_location part)) =
-              sym (union_one (the_set s c.args.to) w.in-Some.j)
-                ∙ ap (λ (m : ℕ). union (the_set s c.args.to) (slice_set (replicate m false) w.in-Some.j true)) long
-                ∙ ap (union (the_set s c.args.to)) (sym (row_by_place p tables.once part w.part_at.result place w.in-Some.j w.in-Some.is)) in
+          sym (union_one (the_set s c.args.to) w.in-Some.j)
+          ∙ ap (λ (m : ℕ). union (the_set s c.args.to) (slice_set (replicate m false) w.in-Some.j true)) long
+          ∙ ap (union (the_set s c.args.to)) (sym (row_by_place p tables.once part w.part_at.result place w.in-Some.j w.in-Some.is)) in
           record {
             end = c.loop-k.invariant.end;
             sized = resized p s w.set.new.self c.if-has.scratch c.loop-k.invariant.sized w.set.ensures.size w.scratch-is;
             kept = kept_at p s c.if-has.scratch c.args.from c.args.to _ c.requires.apart added ∙ c.loop-k.invariant.kept;
             led = λ a held. led_in p (λ m. same_location (inside m c.args.part)) a (the_set s c.args.to) (the_set c.if-has.scratch c.args.to) k found.0 found.1 (c.loop-k.invariant.led a held) (sym (at_place a held) ∙ sym c.has.ensures ∙ w.if-has.true)
-              (made_at p s c.if-has.scratch c.args.to _ c.loop-k.invariant.sized c.requires.to_in added ∙ more);
+                (made_at p s c.if-has.scratch c.args.to _ c.loop-k.invariant.sized c.requires.to_in added ∙ more);
           }
       | then-has+in-None w ↦
           let place : IsPlaceOf (location_list p) part w.part_at.result = w.part_at.ensures found.0.location (alone_at (locations p) k found.0 found.1) in
           let more : the_set s c.args.to ≡ union (the_set s c.args.to) (row_of p (same_location part)) =
-              sym (union_empty (the_set s c.args.to) n) ∙ ap (union (the_set s c.args.to)) (sym (row_without_place p part w.part_at.result place w.in-None.is)) in
+          sym (union_empty (the_set s c.args.to) n) ∙ ap (union (the_set s c.args.to)) (sym (row_without_place p part w.part_at.result place w.in-None.is)) in
           record {
             end = c.loop-k.invariant.end;
             sized = subst (IsSized 2 n) (sym w.scratch-is) c.loop-k.invariant.sized;
             kept = ap (λ u. the_set u c.args.from) w.scratch-is ∙ c.loop-k.invariant.kept;
             led = λ a held. led_in p (λ m. same_location (inside m c.args.part)) a (the_set s c.args.to) (the_set c.if-has.scratch c.args.to) k found.0 found.1 (c.loop-k.invariant.led a held) (sym (at_place a held) ∙ sym c.has.ensures ∙ w.if-has.true)
-              (ap (λ u. the_set u c.args.to) w.scratch-is ∙ more);
+                (ap (λ u. the_set u c.args.to) w.scratch-is ∙ more);
           }
       | else-has w ↦ record {
-          end = c.loop-k.invariant.end;
-          sized = subst (IsSized 2 n) (sym w.scratch-is) c.loop-k.invariant.sized;
-          kept = ap (λ u. the_set u c.args.from) w.scratch-is ∙ c.loop-k.invariant.kept;
-          led = λ a held. ap (λ u. the_set u c.args.to) w.scratch-is ∙ led_out p (λ m. same_location (inside m c.args.part)) a (the_set s c.args.to) k found.0 found.1 (c.loop-k.invariant.led a held) (sym (at_place a held) ∙ sym c.has.ensures ∙ w.if-has.false);
-        }
+        end = c.loop-k.invariant.end;
+        sized = subst (IsSized 2 n) (sym w.scratch-is) c.loop-k.invariant.sized;
+        kept = ap (λ u. the_set u c.args.from) w.scratch-is ∙ c.loop-k.invariant.kept;
+        led = λ a held. ap (λ u. the_set u c.args.to) w.scratch-is ∙ led_out p (λ m. same_location (inside m c.args.part)) a (the_set s c.args.to) k found.0 found.1 (c.loop-k.invariant.led a held) (sym (at_place a held) ∙ sym c.has.ensures ∙ w.if-has.false);
+      }
     ]

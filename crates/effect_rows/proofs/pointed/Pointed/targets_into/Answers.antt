@@ -1,8 +1,8 @@
 -- The row has where the locations lead, one after another.
-use Rattle.std.proofs.Common.{◌≡◌, ℕ, ◌<◌, ◌+◌, length, true, false, sym, ap, ◌∙◌, subst, arith}
+use Rattle.std.proofs.Common.{◌≡◌, ◌<◌, length, sym, ap, ◌∙◌, subst, arith}
 use Rattle.bit_rows.specs.Tables.{IsSized, the_set, with_set}
 use Rattle.c_tree.specs.declared.program.Program.{Program}
-use Rattle.dep_model.specs.Denoted.{Places, TargetsOf}
+use Rattle.dep_model.specs.Denoted.{Places}
 use Rattle.dep_model.specs.Locations.{locations}
 use Rattle.effect_rows.specs.Gains.{row_of}
 use Rattle.effect_rows.specs.Pointed.{points_in, AreTables}
@@ -11,7 +11,6 @@ use Rattle.bit_rows.specs.Sets.{has, union}
 use Rattle.bit_rows.specs.Words.{set_of}
 use Rattle.dep_model.specs.declared.points_to.PointsTo.{PointsTo}
 use Rattle.dep_model.specs.LocationRows.{HasPointsRows, points_of}
-use Rattle.dep_model.specs.Locations.{TypedLocation}
 use Rattle.effect_rows.specs.Pointed.{PointedProgram}
 use Rattle.effect_rows.proofs.StepRows.{begun, kept_at, made_at, resized, listed_at, has_row_of, points_row, led_in, led_out}
 use Rattle.effect_rows.proofs.pointed.Pointed.targets_into.Goals.{then-has, else-has}
@@ -49,21 +48,21 @@ loop-k-preserved c =
     elim c.if-has.branch [
       | then-has w ↦
           let words_are : set_of s.bits w.words.result.now ≡ row_of p (points_of p t found.0.location) =
-              ap (λ b. set_of b w.words.result.now) (c.loop-k.invariant.sized.bits_are ∙ sym rows.sized.bits_are)
-                ∙ subst (λ (u : PointsTo). set_of u.rows.bits w.words.result.now ≡ the_set u.rows k) (ap (λ g. g.rows) c.self.view_is) w.words.ensures.holds
-                ∙ points_row p tables.once t rows k found.0 found.1 lt in
+          ap (λ b. set_of b w.words.result.now) (c.loop-k.invariant.sized.bits_are ∙ sym rows.sized.bits_are)
+          ∙ subst (λ (u : PointsTo). set_of u.rows.bits w.words.result.now ≡ the_set u.rows k) (ap (λ g. g.rows) c.self.view_is) w.words.ensures.holds
+          ∙ points_row p tables.once t rows k found.0 found.1 lt in
           let joined : c.if-has.scratch ≡ with_set s c.args.to (union (the_set s c.args.to) (set_of s.bits w.words.result.now)) = w.scratch-is ∙ w.join_words.ensures.joined in
           record {
             end = c.loop-k.invariant.end;
             sized = resized p s w.join_words.new.self c.if-has.scratch c.loop-k.invariant.sized w.join_words.ensures.size w.scratch-is;
             kept = kept_at p s c.if-has.scratch c.args.from c.args.to _ c.requires.apart joined ∙ c.loop-k.invariant.kept;
             led = λ a held. led_in p (points_of p t) a (the_set s c.args.to) (the_set c.if-has.scratch c.args.to) k found.0 found.1 (c.loop-k.invariant.led a held) (sym (at_place a held) ∙ sym c.has.ensures ∙ w.if-has.true)
-              (made_at p s c.if-has.scratch c.args.to _ c.loop-k.invariant.sized c.requires.to_in joined ∙ ap (union (the_set s c.args.to)) words_are);
+                (made_at p s c.if-has.scratch c.args.to _ c.loop-k.invariant.sized c.requires.to_in joined ∙ ap (union (the_set s c.args.to)) words_are);
           }
       | else-has w ↦ record {
-          end = c.loop-k.invariant.end;
-          sized = subst (IsSized 2 n) (sym w.scratch-is) c.loop-k.invariant.sized;
-          kept = ap (λ u. the_set u c.args.from) w.scratch-is ∙ c.loop-k.invariant.kept;
-          led = λ a held. ap (λ u. the_set u c.args.to) w.scratch-is ∙ led_out p (points_of p t) a (the_set s c.args.to) k found.0 found.1 (c.loop-k.invariant.led a held) (sym (at_place a held) ∙ sym c.has.ensures ∙ w.if-has.false);
-        }
+        end = c.loop-k.invariant.end;
+        sized = subst (IsSized 2 n) (sym w.scratch-is) c.loop-k.invariant.sized;
+        kept = ap (λ u. the_set u c.args.from) w.scratch-is ∙ c.loop-k.invariant.kept;
+        led = λ a held. ap (λ u. the_set u c.args.to) w.scratch-is ∙ led_out p (points_of p t) a (the_set s c.args.to) k found.0 found.1 (c.loop-k.invariant.led a held) (sym (at_place a held) ∙ sym c.has.ensures ∙ w.if-has.false);
+      }
     ]
