@@ -1,8 +1,15 @@
 pub mod DenotedForms
+pub mod DesignatedForms
+pub mod DesignatedLaws
+pub mod DoingLemmas
+pub mod GainLaws
 pub mod GainLemmas
 pub mod LedRows
+pub mod MarkLemmas
 pub mod NamedForms
 pub mod NamedLemmas
+pub mod NotedLemmas
+pub mod OwnForms
 pub mod PlaceLemmas
 pub mod PlaceRows
 pub mod PointRows

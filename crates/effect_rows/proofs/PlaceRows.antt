@@ -12,17 +12,17 @@ use Rattle.dep_model.specs.declared.location.Part.TheVariants as part
 use Rattle.dep_model.specs.declared.location.Root.{Root}
 use Rattle.dep_model.specs.declared.location.Root.TheVariants.{Input, Variable, Site, Result}
 use Rattle.dep_model.specs.Locations.{TypedLocation, locations, same_root, same_part, same_location}
-use Rattle.dep_model.specs.LocationLists.{location_list}
+use Rattle.dep_model.specs.LocationLists.{location_list, AreListedOnce}
 use Rattle.rule_closure.proofs.ListLemmas.{contains_head, contains_cons}
 use Rattle.bit_rows.specs.Tables.{Table, the_set, with_set, IsSized}
 use Rattle.bit_rows.proofs.TableLemmas.{the_set-with_set}
 use Rattle.dep_model.specs.Denoted.{Places}
-use Rattle.effect_rows.specs.Gains.{row_of, AreListedOnce}
+use Rattle.effect_rows.specs.Gains.{row_of}
 use Rattle.effect_rows.specs.Tables.{IsPlaceOf}
 
 -- ---- locations that are one
 
-root_is : (r s : Root) → same_root r s ≡ true → r ≡ s
+pub root_is : (r s : Root) → same_root r s ≡ true → r ≡ s
 root_is Input Input h = refl
 root_is Input (Variable y) h = absurd (false≢true h)
 root_is Input (Site j) h = absurd (false≢true h)
@@ -40,19 +40,19 @@ root_is (Result f) (Variable y) h = absurd (false≢true h)
 root_is (Result f) (Site j) h = absurd (false≢true h)
 root_is (Result f) (Result g) h = ap Result (eqb-true f g h)
 
-same_itself : (r : Root) → same_root r r ≡ true
+pub same_itself : (r : Root) → same_root r r ≡ true
 same_itself Input = refl
 same_itself (Variable x) = eq-eqb x x refl
 same_itself (Site i) = eq-eqb i i refl
 same_itself (Result f) = eq-eqb f f refl
 
-part_is : (g h : Part) → same_part g h ≡ true → g ≡ h
+pub part_is : (g h : Part) → same_part g h ≡ true → g ≡ h
 part_is (part.Member i) (part.Member j) h = ap part.Member (eqb-true i j h)
 part_is (part.Member i) part.Element h = absurd (false≢true h)
 part_is part.Element (part.Member j) h = absurd (false≢true h)
 part_is part.Element part.Element h = refl
 
-part_itself : (g : Part) → same_part g g ≡ true
+pub part_itself : (g : Part) → same_part g g ≡ true
 part_itself (part.Member i) = eq-eqb i i refl
 part_itself part.Element = refl
 
@@ -108,12 +108,12 @@ module _ (p : Program) where
 
 -- ---- places that tables tell
 
-in_list : (ls : List Location) (k : ℕ) (l : Location) → slice_get ls k ≡ Some l → k < length ls
+pub in_list : (ls : List Location) (k : ℕ) (l : Location) → slice_get ls k ≡ Some l → k < length ls
 in_list [] k l at = cc
 in_list (m ∷ ls) zero l at = omega arith
 in_list (m ∷ ls) (suc k) l at = let lt = in_list ls k l at in omega (arith, lt)
 
-contains_at : (ls : List Location) (k : ℕ) (l : Location) → slice_get ls k ≡ Some l → Contains ls l
+pub contains_at : (ls : List Location) (k : ℕ) (l : Location) → slice_get ls k ≡ Some l → Contains ls l
 contains_at [] k l at = cc
 contains_at (m ∷ ls) zero l at = subst (Contains (m ∷ ls)) (same_Some _ _ at) (contains_head m ls)
 contains_at (m ∷ ls) (suc k) l at = contains_cons m ls l (contains_at ls k l at)

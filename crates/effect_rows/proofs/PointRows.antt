@@ -12,8 +12,7 @@ use Rattle.dep_model.specs.declared.points_to.PointsTo.{PointsTo}
 use Rattle.dep_model.specs.Denoted.{no_places}
 use Rattle.dep_model.specs.LocationRows.{place_of, row_places, points_of}
 use Rattle.dep_model.specs.Locations.{TypedLocation, locations, same_location}
-use Rattle.dep_model.specs.LocationLists.{location_list}
-use Rattle.effect_rows.specs.Gains.{AreListedOnce}
+use Rattle.dep_model.specs.LocationLists.{location_list, AreListedOnce}
 use Rattle.effect_rows.proofs.PlaceRows.{location_is, location_itself}
 
 abbrev alone : TypedLocation → Location

@@ -12,7 +12,8 @@ use Rattle.dep_model.specs.declared.points_to.PointsTo.{PointsTo}
 use Rattle.dep_model.specs.Denoted.{Places}
 use Rattle.dep_model.specs.LocationRows.{points_of, HasPointsRows}
 use Rattle.dep_model.specs.Locations.{TypedLocation, locations}
-use Rattle.effect_rows.specs.Gains.{row_of, AreListedOnce}
+use Rattle.dep_model.specs.LocationLists.{AreListedOnce}
+use Rattle.effect_rows.specs.Gains.{row_of}
 use Rattle.effect_rows.proofs.GainLemmas.{union_none}
 use Rattle.effect_rows.proofs.LedRows.{first_led, led_begins, led_more}
 use Rattle.effect_rows.proofs.PointRows.{row_at_place, points_at_place}

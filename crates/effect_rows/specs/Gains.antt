@@ -1,11 +1,9 @@
 -- Rows of a program's locations that gain some.
-use Rattle.std.specs.Prelude.{◌≡◌, ℕ, ◌<◌, Bool, List, length, map, Some, slice_get}
+use Rattle.std.specs.Prelude.{ℕ, ◌<◌, Bool, List, length, map}
 use Rattle.bit_rows.specs.Sets.{union}
 use Rattle.bit_rows.specs.Tables.{Table, the_set, with_set, IsSized}
 use Rattle.c_tree.specs.declared.program.Program.{Program}
-use Rattle.dep_model.specs.declared.location.Location.{Location}
 use Rattle.dep_model.specs.Denoted.{Places}
-use Rattle.dep_model.specs.LocationLists.{location_list}
 use Rattle.dep_model.specs.Locations.{TypedLocation, locations}
 
 -- the row of some locations: for each location of the program, in their order, whether it is one of them
@@ -20,7 +18,3 @@ with_places p r places t = with_set t r (union (the_set t r) (row_of p places))
 pub record HasLocationRow (p : Program) (r : ℕ) (t : Table) : Type 0 where
   pub sized : IsSized (length t.sets) (length (locations p)) t
   pub row_in : r < length t.sets
-
--- no location of the program stands in its list twice
-pub record AreListedOnce (p : Program) : Type 0 where
-  pub once : (j k : ℕ) (l : Location) → slice_get (location_list p) j ≡ Some l → slice_get (location_list p) k ≡ Some l → j ≡ k

@@ -1,6 +1,10 @@
 pub mod Gains
+pub mod Laws
 pub mod Named
+pub mod Noted
+pub mod Own
 pub mod Pointed
 pub mod SeenTypes
 pub mod Steps
 pub mod Tables
+pub mod Taken

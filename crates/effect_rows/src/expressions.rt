@@ -4,7 +4,9 @@ ghost use Rattle.bit_rows.specs.Tables.{IsSized};
 ghost use Rattle.c_tree.specs.declared.program.Program.{Program};
 ghost use Rattle.c_language.specs.ExprTypes as types;
 ghost use Rattle.c_language.specs.TreeTypes.{tree_type};
-ghost use Rattle.dep_model.specs.Denoted.{TargetsOf, Denoted, denoted, value_points, expr_reads, left_reads};
+ghost use Rattle.dep_model.specs.Designated as form;
+ghost use Rattle.dep_model.specs.Designated.{designated};
+ghost use Rattle.dep_model.specs.Denoted.{TargetsOf, Denoted, denoted, value_points, expr_reads, expr_places, left_reads};
 ghost use Rattle.dep_model.specs.Locations.{locations};
 ghost use Rattle.effect_rows.specs.Gains.{with_places};
 ghost use Rattle.effect_rows.specs.Named.{named, named_by};
@@ -16,7 +18,7 @@ use crate::pointed::Pointed;
 use crate::seen_types::{SeenType, is_array, is_pointer, is_scalar, type_of};
 use crate::steps::{Step, Steps};
 use bit_rows::Rows;
-use c_tree::Expr;
+use c_tree::{Expr, Program};
 use dep_model::Part;
 
 /// Whether an expression designates an object.
@@ -164,6 +166,26 @@ pub(crate) fn add_value(
     add_named(g, e, &inner, scratch, rows, row);
 }
 
+/// Adds the locations that the object of an expression may be, none where it designates none.
+pub(crate) fn add_places(
+    g: &Pointed<'_, '_, '_>,
+    e: &Expr,
+    scratch: &mut Rows,
+    rows: &mut Rows,
+    row: u32,
+)
+    requires scratch_sized { IsSized 2 (length (locations g.now.program)) scratch.old }
+    requires sized { IsSized (length rows.old.sets) (length (locations g.now.program)) rows.old }
+    requires row_in { row < length rows.old.sets }
+    ensures gained { rows.new ≡ with_places g.now.program row (expr_places g.now.program (points_in g.now) e.now) rows.old }
+    ensures size { IsSized (length rows.old.sets) (length (locations g.now.program)) rows.new }
+    ensures scratch_size { IsSized 2 (length (locations g.now.program)) scratch.new }
+{
+    if is_place(e) {
+        add_named(g, e, &Steps::Done, scratch, rows, row);
+    }
+}
+
 /// Whether the object of an expression is read for its value: an array isn't read, nor is a struct.
 fn reads_object(g: &Pointed<'_, '_, '_>, e: &Expr) -> bool
     ensures { (points : TargetsOf) → result ≡ ((denoted g.now.program points e.now).form.is_place && types.is_scalar (tree_type g.now.program e.now)) }
@@ -172,10 +194,18 @@ fn reads_object(g: &Pointed<'_, '_, '_>, e: &Expr) -> bool
 }
 
 /// Whether an expression designates an array.
+pub(crate) fn is_array_object(p: &Program, e: &Expr) -> bool
+    ensures denoted { (points : TargetsOf) → result ≡ ((denoted p.now points e.now).form.is_place && types.is_array (tree_type p.now e.now)) }
+    ensures designated { result ≡ form.is_array_place (designated p.now e.now) }
+{
+    is_place(e) && is_array(type_of(p, e))
+}
+
+/// Whether an expression of the program designates an array.
 fn is_array_place(g: &Pointed<'_, '_, '_>, e: &Expr) -> bool
     ensures { (points : TargetsOf) → result ≡ ((denoted g.now.program points e.now).form.is_place && types.is_array (tree_type g.now.program e.now)) }
 {
-    is_place(e) && is_array(type_of(g.program(), e))
+    is_array_object(g.program(), e)
 }
 
 /// Adds what is read for the value of an expression.

@@ -2,9 +2,11 @@
 ghost use Rattle.std.specs.Prelude.{◌≡◌, ◌<◌, ◌≢◌, Some, length, slice_get};
 ghost use Rattle.bit_rows.specs.Tables.{IsSized, the_set};
 ghost use Rattle.dep_model.specs.Denoted.{Places, whole, inside, part_of, targets};
+ghost use Rattle.dep_model.specs.DoingEffects as spec;
+ghost use Rattle.dep_model.specs.DoingEffects.{result_of, the_input};
 ghost use Rattle.dep_model.specs.LocationLists.{location_list};
 ghost use Rattle.dep_model.specs.declared.location.Location.{Location};
-ghost use Rattle.dep_model.specs.Locations.{locations};
+ghost use Rattle.dep_model.specs.Locations.{locations, same_location};
 ghost use Rattle.effect_rows.specs.Gains.{row_of, with_places};
 ghost use Rattle.dep_model.specs.LocationRows.{HasPointsRows};
 ghost use Rattle.effect_rows.specs.Pointed.{points_in, AreTables};
@@ -14,7 +16,7 @@ ghost use Rattle.effect_rows.specs.Tables.{IsPlaceOf};
 use crate::steps::{Step, Steps};
 use crate::tables::{Tables, place_at, row_at};
 use bit_rows::Rows;
-use c_tree::{Program, VarId};
+use c_tree::{FunctionId, Program, VarId};
 use dep_model::{LocationId, Part, PointsTo};
 use std::marker::Model;
 
@@ -113,6 +115,73 @@ impl<'p, 't, 'r> Pointed<'p, 't, 'r> {
                 self.follow(rest, scratch, to, rows, row);
             }
         }
+    }
+
+    /// Adds the locations to which the steps lead from a variable.
+    pub(crate) fn add_variable(
+        &self,
+        x: VarId,
+        steps: &Steps<'_>,
+        scratch: &mut Rows,
+        rows: &mut Rows,
+        row: u32,
+    )
+        requires scratch_sized { IsSized 2 (length (locations self.now.program)) scratch.old }
+        requires sized { IsSized (length rows.old.sets) (length (locations self.now.program)) rows.old }
+        requires row_in { row < length rows.old.sets }
+        ensures gained { rows.new ≡ with_places self.now.program row (taken self.now.program (points_in self.now) steps.now (whole x)) rows.old }
+        ensures size { IsSized (length rows.old.sets) (length (locations self.now.program)) rows.new }
+        ensures scratch_size { IsSized 2 (length (locations self.now.program)) scratch.new }
+    {
+        self.seed(x, scratch);
+        self.follow(steps, scratch, 0, rows, row);
+    }
+
+    /// Adds what a function returns.
+    pub(crate) fn add_result(&self, f: FunctionId, rows: &mut Rows, row: u32)
+        requires sized { IsSized (length rows.old.sets) (length (locations self.now.program)) rows.old }
+        requires row_in { row < length rows.old.sets }
+        ensures gained { rows.new ≡ with_places self.now.program row (same_location (result_of f)) rows.old }
+        ensures size { IsSized (length rows.old.sets) (length (locations self.now.program)) rows.new }
+    {
+        match place_at(self.tables.results.as_slice(), f) {
+            Some(k) => rows.set(row, k),
+            None => {}
+        }
+    }
+
+    /// Adds the input, which is the first location.
+    pub(crate) fn add_input(&self, rows: &mut Rows, row: u32)
+        requires sized { IsSized (length rows.old.sets) (length (locations self.now.program)) rows.old }
+        requires row_in { row < length rows.old.sets }
+        ensures gained { rows.new ≡ with_places self.now.program row (same_location the_input) rows.old }
+        ensures size { IsSized (length rows.old.sets) (length (locations self.now.program)) rows.new }
+    {
+        if self.tables.count > 0 {
+            rows.set(row, 0);
+        }
+    }
+
+    /// Whether an assignment to the name of a variable kills.
+    pub(crate) fn is_killable(&self, x: VarId) -> bool
+        ensures { result ≡ spec.is_killable self.now.program x }
+    {
+        self.is_global(x) || !self.is_taken(x)
+    }
+
+    fn is_global(&self, x: VarId) -> bool
+        ensures { result ≡ spec.is_global self.now.program x }
+    {
+        match self.program.vars.get(x as usize) {
+            Some(var) => var.owner.is_none(),
+            None => false,
+        }
+    }
+
+    fn is_taken(&self, x: VarId) -> bool
+        ensures { result ≡ spec.is_taken self.now.program x }
+    {
+        self.tables.taken.get(x as usize).copied().unwrap_or(false)
     }
 
     // Makes a scratch row that to which the step leads from another.

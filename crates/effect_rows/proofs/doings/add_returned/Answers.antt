@@ -1,0 +1,12 @@
+-- `return;` gives no result.
+use Rattle.std.proofs.Common.{ap}
+use Rattle.dep_model.specs.DoingEffects.{returned_places}
+use Rattle.effect_rows.specs.Pointed.{points_in}
+use Rattle.effect_rows.proofs.ReadLemmas.{none_read}
+use Rattle.effect_rows.proofs.doings.add_returned.Goals as goal
+
+pub returns-in-None-clause-gained : goal.returns-in-None-clause-gained
+returns-in-None-clause-gained c =
+    let p = c.args.g.now.program in
+    let to = points_in c.args.g.now in
+    none_read p c.args.row c.args.rows.now (returned_places p to c.args.f c.args.value.now) (ap (returned_places p to c.args.f) c.in-None.is)

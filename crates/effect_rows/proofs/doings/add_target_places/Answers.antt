@@ -1,0 +1,12 @@
+-- A value that isn't stored has no place.
+use Rattle.std.proofs.Common.{ap}
+use Rattle.dep_model.specs.DoingEffects.{target_places}
+use Rattle.effect_rows.specs.Pointed.{points_in}
+use Rattle.effect_rows.proofs.ReadLemmas.{none_read}
+use Rattle.effect_rows.proofs.doings.add_target_places.Goals as goal
+
+pub returns-in-None-clause-gained : goal.returns-in-None-clause-gained
+returns-in-None-clause-gained c =
+    let p = c.args.g.now.program in
+    let to = points_in c.args.g.now in
+    none_read p c.args.row c.args.rows.now (target_places p to c.args.to.now) (ap (target_places p to) c.in-None.is)

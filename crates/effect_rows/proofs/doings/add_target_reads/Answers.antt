@@ -1,0 +1,18 @@
+-- No expression is read to find a variable, or where nothing is stored.
+use Rattle.std.proofs.Common.{ap}
+use Rattle.dep_model.specs.DoingEffects.{target_reads}
+use Rattle.effect_rows.specs.Pointed.{points_in}
+use Rattle.effect_rows.proofs.ReadLemmas.{none_read}
+use Rattle.effect_rows.proofs.doings.add_target_reads.Goals as goal
+
+pub returns-in-None-clause-gained : goal.returns-in-None-clause-gained
+returns-in-None-clause-gained c =
+    let p = c.args.g.now.program in
+    let to = points_in c.args.g.now in
+    none_read p c.args.row c.args.rows.now (target_reads p to c.args.to.now) (ap (target_reads p to) c.in-None.is)
+
+pub returns-in-Declared-clause-gained : goal.returns-in-Declared-clause-gained
+returns-in-Declared-clause-gained c =
+    let p = c.args.g.now.program in
+    let to = points_in c.args.g.now in
+    none_read p c.args.row c.args.rows.now (target_reads p to c.args.to.now) (ap (target_reads p to) c.in-Declared.is)
