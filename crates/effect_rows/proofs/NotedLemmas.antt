@@ -105,7 +105,7 @@ module _ (list : List Location) (n : ℕ) (m : Location) (at : slice_get list n 
     variables_are = λ x. by_test list n m at (variable x) (same_root m.root (Variable x)) _ _ (whole_is (Variable x)) (root_same (Variable x)) (w.variables x) (noted.variables_are x);
     results_are = λ f. by_test list n m at (result_of f) (same_root m.root (Result f)) _ _ (whole_is (Result f)) (root_same (Result f)) (w.results f) (noted.results_are f);
     parts_are = λ k h l there. elsewhere list n m at (inside l h) (part_place new k h) (λ e. not_empty l.path h (sym short ∙ ap (λ (o : Location). o.path) e))
-      (subst (IsPlaceBelow list n (inside l h)) (parts_stay k h) (noted.parts_are k h l there));
+        (subst (IsPlaceBelow list n (inside l h)) (parts_stay k h) (noted.parts_are k h l there));
   }
     where
       whole_is : (r : Root) → same_root m.root r ≡ true → m ≡ record { root = r; path = [] }
@@ -125,9 +125,10 @@ module _ (list : List Location) (n : ℕ) (m : Location) (at : slice_get list n 
   -- where a part is inside a location, that is the location outside of it
   holder_is : (outer : List Part) (last : Part) → m.path ≡ outer ++ last ∷ [] → (l : Location) (h : Part) → m ≡ inside l h → (◌≡◌ {A = Location} l (record { root = m.root; path = outer })) × (last ≡ h)
   holder_is outer last is l h e =
-      let paths = sym (ap (λ (o : Location). o.path) e) ∙ is in
-      (ap₂ {C = Location} (λ (s : Root) (hs : List Part). record { root = s; path = hs }) (sym (ap (λ (o : Location). o.root) e)) (same_outer l.path outer h last paths),
-      sym (same_last l.path outer h last paths))
+      let paths = sym (ap (λ (o : Location). o.path) e) ∙ is in (
+        ap₂ {C = Location} (λ (s : Root) (hs : List Part). record { root = s; path = hs }) (sym (ap (λ (o : Location). o.root) e)) (same_outer l.path outer h last paths),
+        sym (same_last l.path outer h last paths),
+      )
 
   -- a part of a location that isn't listed
   pub alone_noted : (outer : List Part) (last : Part) (holder : Location) → m.path ≡ outer ++ last ∷ [] → holder ≡ record { root = m.root; path = outer } → (Contains list holder → ⊥) → new ≡ old → AreNoted list (n + 1) new
@@ -137,7 +138,7 @@ module _ (list : List Location) (n : ℕ) (m : Location) (at : slice_get list n 
     variables_are = λ x. elsewhere list n m at (variable x) _ (part_apart outer last is (Variable x)) (noted.variables_are x);
     results_are = λ f. elsewhere list n m at (result_of f) _ (part_apart outer last is (Result f)) (noted.results_are f);
     parts_are = λ k h l there. elsewhere list n m at (inside l h) _
-      (λ e. missing (subst (Contains list) ((holder_is outer last is l h e).0 ∙ sym made) (contains_at list k l there))) (noted.parts_are k h l there);
+        (λ e. missing (subst (Contains list) ((holder_is outer last is l h e).0 ∙ sym made) (contains_at list k l there))) (noted.parts_are k h l there);
   })
 
   -- a part of the location at place k
@@ -146,9 +147,9 @@ module _ (list : List Location) (n : ℕ) (m : Location) (at : slice_get list n 
     count_is = w.count_stays ∙ noted.count_is;
     rows = w.rows_stay ∙ noted.rows;
     variables_are = λ x. subst (λ (v : Option ℕ). IsPlaceBelow list (n + 1) (variable x) v) (ap (λ vs. slice_index_or vs.items x None) (sym w.variables_stay))
-      (elsewhere list n m at (variable x) _ (part_apart outer last is (Variable x)) (noted.variables_are x));
+        (elsewhere list n m at (variable x) _ (part_apart outer last is (Variable x)) (noted.variables_are x));
     results_are = λ f. subst (λ (v : Option ℕ). IsPlaceBelow list (n + 1) (result_of f) v) (ap (λ vs. slice_index_or vs.items f None) (sym w.results_stay))
-      (elsewhere list n m at (result_of f) _ (part_apart outer last is (Result f)) (noted.results_are f));
+        (elsewhere list n m at (result_of f) _ (part_apart outer last is (Result f)) (noted.results_are f));
     parts_are = λ j h l here. by_test list n m at (inside l h) ((k == j) && same_part last h) _ _ (is_there j h l here) (test_there j h l here) (w.parts j h) (noted.parts_are j h l here);
   }
     where

@@ -169,7 +169,12 @@ pub(crate) fn add_uses(
             None => {}
             Some(_) => add_init_reads(g, init, scratch, rows, row),
         },
-        Statement::Assign { left, op, right, .. } => {
+        Statement::Assign {
+            left,
+            op,
+            right,
+            ..
+        } => {
             add_found(g, left, scratch, rows, row);
             add_compound_reads(g, op, left, scratch, rows, row);
             add_read(g, right, scratch, rows, row);
@@ -318,13 +323,7 @@ pub(crate) fn add_defines(
 // ---- what is killed
 
 /// Adds what a left side kills: the object of a name with `.` selections alone behind it.
-fn add_left_kills(
-    g: &Pointed<'_, '_, '_>,
-    e: &Expr,
-    scratch: &mut Rows,
-    rows: &mut Rows,
-    row: u32,
-)
+fn add_left_kills(g: &Pointed<'_, '_, '_>, e: &Expr, scratch: &mut Rows, rows: &mut Rows, row: u32)
     requires scratch_sized { IsSized 2 (length (locations g.now.program)) scratch.old }
     requires sized { IsSized (length rows.old.sets) (length (locations g.now.program)) rows.old }
     requires row_in { row < length rows.old.sets }

@@ -75,13 +75,7 @@ impl<'p> LocationEffects<'p> {
 
     /// Adds what is read for the value of an expression to a row of locations, where `points` tells to
     /// what each location may point.
-    pub fn add_reads(
-        &mut self,
-        points: &PointsTo,
-        e: &Expr,
-        rows: &mut Rows,
-        row: u32,
-    )
+    pub fn add_reads(&mut self, points: &PointsTo, e: &Expr, rows: &mut Rows, row: u32)
         requires points_are { HasPointsRows self.old points.now }
         requires sized { IsSized (length rows.old.sets) (length (locations self.old)) rows.old }
         requires row_in { row < length rows.old.sets }
@@ -94,13 +88,7 @@ impl<'p> LocationEffects<'p> {
     }
 
     /// Adds the locations that the object of an expression may be, none where it designates none.
-    pub fn add_places(
-        &mut self,
-        points: &PointsTo,
-        e: &Expr,
-        rows: &mut Rows,
-        row: u32,
-    )
+    pub fn add_places(&mut self, points: &PointsTo, e: &Expr, rows: &mut Rows, row: u32)
         requires points_are { HasPointsRows self.old points.now }
         requires sized { IsSized (length rows.old.sets) (length (locations self.old)) rows.old }
         requires row_in { row < length rows.old.sets }
@@ -113,13 +101,7 @@ impl<'p> LocationEffects<'p> {
     }
 
     /// Adds the locations to which the value of an expression may point.
-    pub fn add_points(
-        &mut self,
-        points: &PointsTo,
-        e: &Expr,
-        rows: &mut Rows,
-        row: u32,
-    )
+    pub fn add_points(&mut self, points: &PointsTo, e: &Expr, rows: &mut Rows, row: u32)
         requires points_are { HasPointsRows self.old points.now }
         requires sized { IsSized (length rows.old.sets) (length (locations self.old)) rows.old }
         requires row_in { row < length rows.old.sets }
@@ -132,13 +114,7 @@ impl<'p> LocationEffects<'p> {
     }
 
     /// Adds what is read to find the object of a left side.
-    pub fn add_left_reads(
-        &mut self,
-        points: &PointsTo,
-        e: &Expr,
-        rows: &mut Rows,
-        row: u32,
-    )
+    pub fn add_left_reads(&mut self, points: &PointsTo, e: &Expr, rows: &mut Rows, row: u32)
         requires points_are { HasPointsRows self.old points.now }
         requires sized { IsSized (length rows.old.sets) (length (locations self.old)) rows.old }
         requires row_in { row < length rows.old.sets }
@@ -152,13 +128,7 @@ impl<'p> LocationEffects<'p> {
 
     /// Adds what a statement itself may use, without the statements in it: what its test reads, or its act, or the
     /// arguments and the target of a call.
-    pub fn add_uses(
-        &mut self,
-        points: &PointsTo,
-        statement: &Statement,
-        rows: &mut Rows,
-        row: u32,
-    )
+    pub fn add_uses(&mut self, points: &PointsTo, statement: &Statement, rows: &mut Rows, row: u32)
         requires points_are { HasPointsRows self.old points.now }
         requires sized { IsSized (length rows.old.sets) (length (locations self.old)) rows.old }
         requires row_in { row < length rows.old.sets }
@@ -211,13 +181,7 @@ impl<'p> LocationEffects<'p> {
     }
 
     /// Adds what is read to find the object in which a call's value is stored.
-    pub fn add_target_reads(
-        &mut self,
-        points: &PointsTo,
-        to: &Target,
-        rows: &mut Rows,
-        row: u32,
-    )
+    pub fn add_target_reads(&mut self, points: &PointsTo, to: &Target, rows: &mut Rows, row: u32)
         requires points_are { HasPointsRows self.old points.now }
         requires sized { IsSized (length rows.old.sets) (length (locations self.old)) rows.old }
         requires row_in { row < length rows.old.sets }

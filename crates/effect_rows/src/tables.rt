@@ -59,12 +59,7 @@ impl Tables {
     }
 
     // Notes the location at a place.
-    fn note(
-        &mut self,
-        alloc: Global,
-        list: &Locations,
-        place: LocationId,
-    ) -> Result<(), AllocError>
+    fn note(&mut self, alloc: Global, list: &Locations, place: LocationId) -> Result<(), AllocError>
         requires place_in { place < length list.now }
         requires once { IsListOnce list.now }
         requires noted { AreNoted list.now place self.old }
@@ -142,7 +137,11 @@ fn empty_rows(alloc: Global, count: u32) -> Result<Vec<Vec<Option<LocationId>>>,
 }
 
 /// Writes a place into a list of places, which gains none up to there.
-fn put(places: &mut Vec<Option<LocationId>>, number: u32, place: LocationId) -> Result<(), AllocError>
+fn put(
+    places: &mut Vec<Option<LocationId>>,
+    number: u32,
+    place: LocationId,
+) -> Result<(), AllocError>
     ensures { OnOk result ((x : ℕ) → slice_index_or places.new.items x None ≡ (if number == x then Some place else slice_index_or places.old.items x None)) }
 {
     let at = number as usize;

@@ -16,7 +16,7 @@ loop-e-init c = record {
 pub loop-e-preserved : goal.loop-e-preserved
 loop-e-preserved c = record {
   gained = reads_more c.args.g.now.program (points_in c.args.g.now) c.args.row c.args.list.now c.loop-e.e-index c.e-item.result c.args.rows.now c.loop-e.rows c.add_read.new.rows
-    (record { sized = c.requires.sized; row_in = c.requires.row_in }) c.loop-e-test.true c.e-item.is c.loop-e.invariant.gained c.add_read.ensures.gained;
+      (record { sized = c.requires.sized; row_in = c.requires.row_in }) c.loop-e-test.true c.e-item.is c.loop-e.invariant.gained c.add_read.ensures.gained;
   size = subst (λ n. IsSized n (length (locations c.args.g.now.program)) c.add_read.new.rows) c.loop-e.invariant.size.rows_are c.add_read.ensures.size;
   scratch_size = c.add_read.ensures.scratch_size;
 }
