@@ -5,3 +5,9 @@ pub mod ReachLaws
 pub mod Numbering
 pub mod RowLaws
 pub mod PlaceLaws
+pub mod GroupLemmas
+pub mod Members
+pub mod GroupLaws
+pub mod BitLemmas
+pub mod RowPlaces
+pub mod SetLaws

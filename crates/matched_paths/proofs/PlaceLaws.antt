@@ -6,7 +6,7 @@ use Rattle.bit_rows.specs.Words.{word_bit}
 use Rattle.dep_model.specs.declared.graph.Graph.{Graph}
 use Rattle.dep_model.specs.declared.vertex.Vertex.{Vertex}
 use Rattle.dep_model.specs.declared.vertex.VertexKind.TheVariants as kind
-use Rattle.dep_model.specs.Facts.{AreFormals, HoldsFact}
+use Rattle.dep_model.specs.Facts.{AreFormals, IsFactBit, HoldsFact}
 use Rattle.dep_model.specs.FunctionVertices.{is_formal_in, passes}
 use Rattle.dep_model.specs.Graphs.{out_rows}
 use Rattle.dep_model.specs.VertexOrder.{in_function}
@@ -34,29 +34,29 @@ module _ (g : Graph) (t : Places) (outs_are : g.outs ≡ out_rows g.vertices) (n
       let bit : h.bit ≡ bit_of t a b = i.bit_is ∙ ap (λ w. 64 * w + i.number) (sym row) ∙ ap (λ k. 64 * get_or t.rows b 0 + k) number in
       subst (λ k. word_bit ws k ≡ true) bit h.set
 
-  held : (f a b : ℕ) (ws : List ℕ) → AreFormals g.vertices f a b → IsTrue (holds_fact t ws a b) → HoldsFact g ws a b
-  held f a b ws r h =
+  fact_bit : (f a b : ℕ) → AreFormals g.vertices f a b → IsFactBit g a b (bit_of t a b)
+  fact_bit f a b r =
       let row = row_of_formal g.vertices b (in_function f (kind.FormalOut r.slot_out)) r.comes_out refl in
       let contained : Contains g.outs (record { vertex = b; word = row.0 }) = subst (λ rows. Contains rows (record { vertex = b; word = row.0 })) (sym outs_are) row.1 in
       let word : get_or t.rows b 0 ≡ row.0 = rows_are (record { vertex = b; word = row.0 }) contained in
       let place = place_of (passes is_formal_in f) 0 g.vertices a (in_function f (kind.FormalIn r.slot_in)) r.goes_in (passing f (in_function f (kind.FormalIn r.slot_in)) refl refl) in
       record {
-        bit = bit_of t a b;
-        is_bit = record {
-          function = f;
-          number = count_before g.vertices f a;
-          first_word = row.0;
-          goes_in = let e : 0 + a ≡ a = omega arith in place ∙ ap Some e;
-          row = contained;
-          comes_out = is_in g.vertices f b (kind.FormalOut r.slot_out) r.comes_out;
-          bit_is = ap (λ w. 64 * w + get_or t.numbers a 0) word ∙ ap (λ k. 64 * row.0 + k) (number_is f a b r);
-        };
-        set = h;
+        function = f;
+        number = count_before g.vertices f a;
+        first_word = row.0;
+        goes_in = let e : 0 + a ≡ a = omega arith in place ∙ ap Some e;
+        row = contained;
+        comes_out = is_in g.vertices f b (kind.FormalOut r.slot_out) r.comes_out;
+        bit_is = ap (λ w. 64 * w + get_or t.numbers a 0) word ∙ ap (λ k. 64 * row.0 + k) (number_is f a b r);
       }
+
+  held : (f a b : ℕ) (ws : List ℕ) → AreFormals g.vertices f a b → IsTrue (holds_fact t ws a b) → HoldsFact g ws a b
+  held f a b ws r h = record { bit = bit_of t a b; is_bit = fact_bit f a b r; set = h }
 
   pub places_are : length t.numbers ≡ length g.vertices → length t.rows ≡ length g.vertices → ArePlaces g t
   places_are numbers_long rows_long = record {
     numbers_long = numbers_long;
     rows_long = rows_long;
+    bits = fact_bit;
     exact = λ f a b ws r. (bit_is f a b ws r, held f a b ws r);
   }

@@ -1,2 +1,4 @@
+pub mod Backward
+pub mod EdgeGroups
 pub mod Laws
 pub mod Places

@@ -1,10 +1,10 @@
 -- Where the facts of a graph stand among its words.
-use Rattle.std.specs.Prelude.{◌≡◌, ◌↔◌, ℕ, ◌+◌, ◌*◌, Bool, List, length, get_or, take, Some, Contains, IsTrue, slice_get}
+use Rattle.std.specs.Prelude.{◌≡◌, ◌↔◌, ℕ, zero, suc, ◌+◌, ◌*◌, ◌||◌, ◌==◌, if◌then◌else◌, Bool, List, length, get_or, take, Some, Contains, IsTrue, slice_get}
 use Rattle.bit_rows.specs.Words.{word_bit}
 use Rattle.dep_model.specs.declared.graph.Graph.{Graph}
 use Rattle.dep_model.specs.declared.graph.OutRow.{OutRow}
 use Rattle.dep_model.specs.declared.vertex.Vertex.{Vertex}
-use Rattle.dep_model.specs.Facts.{AreFormals, HoldsFact}
+use Rattle.dep_model.specs.Facts.{AreFormals, IsFactBit, HoldsFact}
 use Rattle.dep_model.specs.FunctionVertices.{is_formal_in, numbers}
 
 -- for each vertex, how many formal-ins of its function stand before it, and for a formal-out the first word of its row
@@ -20,10 +20,20 @@ bit_of t a b = 64 * get_or t.rows b 0 + get_or t.numbers a 0
 abbrev pub holds_fact : Places → List ℕ → ℕ → ℕ → Bool
 holds_fact t ws a b = word_bit ws (bit_of t a b)
 
+-- bit b is set beside those that were, and no other
+abbrev pub HasOneMore : ℕ → List ℕ → List ℕ → Type 0
+HasOneMore b old new = (i : ℕ) → word_bit new i ≡ (word_bit old i || (i == b))
+
+-- how many of the first n bits are set
+abbrev pub bits_below : ℕ → List ℕ → ℕ
+bits_below zero ws = 0
+bits_below (suc n) ws = bits_below n ws + (if word_bit ws n then 1 else 0)
+
 -- the places are those of a graph: for formals of one function, the bit is that of their fact
 pub record ArePlaces (g : Graph) (t : Places) : Type 0 where
   pub numbers_long : length t.numbers ≡ length g.vertices
   pub rows_long : length t.rows ≡ length g.vertices
+  pub bits : (f a b : ℕ) → AreFormals g.vertices f a b → IsFactBit g a b (bit_of t a b)
   pub exact : (f a b : ℕ) (ws : List ℕ) → AreFormals g.vertices f a b → HoldsFact g ws a b ↔ IsTrue (holds_fact t ws a b)
 
 -- the numbers of a list of vertices: how many formal-ins of its function stand before each

@@ -4,7 +4,7 @@ ghost use Rattle.bit_rows.specs.Words.{word_bit};
 ghost use Rattle.dep_model.specs.FunctionVertices.{is_formal_in};
 ghost use Rattle.dep_model.specs.Shapes.{IsShaped, AreConsecutive};
 ghost use Rattle.dep_model.specs.declared.graph.OutRow.{OutRow};
-ghost use Rattle.matched_paths.specs.Places.{ArePlaces, AreFormalNumbers, AreRowWords, holds_fact};
+ghost use Rattle.matched_paths.specs.Places.{ArePlaces, AreFormalNumbers, AreRowWords, HasOneMore, bit_of, holds_fact};
 
 use dep_model::{Graph, OutRow, Vertex, VertexId, VertexKind};
 use std::alloc::{AllocError, Global};
@@ -46,6 +46,28 @@ impl FactPlaces {
         let number = self.numbers[formal_in as usize] as usize;
         has_bit(words, 64 * first + number)
     }
+
+    /// Sets the bit of a formal-in and a formal-out of one function.
+    pub fn set(&self, words: &mut [u64], formal_in: VertexId, formal_out: VertexId)
+        requires in_range { formal_in < length self.now.numbers }
+        requires out_range { formal_out < length self.now.rows }
+        requires room { bit_of self.now formal_in formal_out < 64 * length words.old }
+        ensures size { length words.new ≡ length words.old }
+        ensures exact { HasOneMore (bit_of self.now formal_in formal_out) words.old words.new }
+    {
+        let first = self.rows[formal_out as usize] as usize;
+        let number = self.numbers[formal_in as usize] as usize;
+        set_bit(words, 64 * first + number);
+    }
+}
+
+// Sets a bit, counted from the first word.
+fn set_bit(words: &mut [u64], bit: usize)
+    requires { bit < 64 * length words.old }
+    ensures size { length words.new ≡ length words.old }
+    ensures exact { HasOneMore bit words.old words.new }
+{
+    words[bit / 64] |= 1u64 << (bit % 64);
 }
 
 // Whether a bit is set, counted from the first word.

@@ -1,4 +1,2 @@
 pub mod PassLaws
-pub mod ExitLemmas
-pub mod Members
 pub mod RuleLaws

@@ -18,7 +18,8 @@ use Rattle.matched_paths.specs.Laws.{AreTrue, HasEachTrueFact}
 use Rattle.matched_paths.proofs.Levels.{Spelled, split, path_of}
 use Rattle.matched_paths.proofs.FactLaws.{level_of_inner}
 use Rattle.matched_paths.proofs.ReachLaws.{FallsToAny, falls_itself, falls_level, falls_open, reaches_falling, reaches_level, reaches_close, edge_below, inner_below, path_below, back_along_falling, back_along_rising}
-use Rattle.two_pass.specs.PassRules.{GoesBack, one_premise, IsPassRule, ArePassRules}
+use Rattle.two_pass.specs.PassRules.{GoesBack, IsPassRule, ArePassRules}
+use Rattle.matched_paths.specs.Backward.{one_premise}
 use Rattle.two_pass.specs.PassRules as passes
 use Rattle.two_pass.specs.Ready.{PassGraph, HasMembers, FindsReached}
 

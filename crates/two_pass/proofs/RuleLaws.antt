@@ -18,40 +18,13 @@ use Rattle.dep_model.specs.Shapes.{IsShaped}
 use Rattle.matched_paths.specs.Places.{Places, ArePlaces, holds_fact}
 use Rattle.matched_paths.proofs.CallShapes.{formals_of_call}
 use Rattle.matched_paths.proofs.ReachLaws.{edge_below, inner_below}
-use Rattle.two_pass.specs.PassRules.{GoesBack, one_premise, IsPassRule, ArePassRules, goes_first, goes_second, edge_rules, turn_rule}
+use Rattle.two_pass.specs.PassRules.{GoesBack, IsPassRule, ArePassRules, goes_first, goes_second, edge_rules, turn_rule}
 use Rattle.two_pass.specs.PassRules as passes
-use Rattle.two_pass.specs.CallRules.{leaves_by, leaving, crossing_rules, rules_by, call_rules}
-use Rattle.two_pass.proofs.Members.{contains_flat, flat_contains, if_contains, contains_if, all_of}
-
--- ---- the edges that leave a call
-same_call : (c d : ℕ) → (c == d) ≡ true → c ≡ d
-same_call c d h = grind (arith, nat_tests)
-
-call_same : (c : ℕ) → (c == c) ≡ true
-call_same c = grind (arith, nat_tests)
-
-leaves_is : (l : Label) (c : ℕ) (e x : Edge) → Contains (leaves_by l c e) x → (e ≡ x) × (l ≡ Out c)
-leaves_is Control c e x h = absurd (contains_none x h)
-leaves_is Flow c e x h = absurd (contains_none x h)
-leaves_is (Call d) c e x h = absurd (contains_none x h)
-leaves_is (In d) c e x h = absurd (contains_none x h)
-leaves_is (Out d) c e x h =
-    let r = if_contains (d == c) (e ∷ []) x h in
-    (elim (contains_cases e [] x r.1) [ inl s ↦ s | inr n ↦ absurd (contains_none x n) ], ap Out (same_call d c r.0))
-
-pub leaving_is : (edges : List Edge) (c : ℕ) (e : Edge) → Contains (flat_map (leaving c) edges) e → Contains edges e × (e.label ≡ Out c)
-leaving_is edges c e h =
-    let w = contains_flat (leaving c) edges e h in
-    let r = leaves_is w.0.label c w.0 e w.2 in
-    (subst (Contains edges) r.0 w.1, sym (ap (λ (x : Edge). x.label) r.0) ∙ r.1)
-
-leaving_has : (edges : List Edge) (c a b : ℕ) → Contains edges (edge a b (Out c)) → Contains (flat_map (leaving c) edges) (edge a b (Out c))
-leaving_has edges c a b m =
-    flat_contains (leaving c) edges (edge a b (Out c)) (edge a b (Out c)) m
-    (contains_if (c == c) (edge a b (Out c) ∷ []) (edge a b (Out c)) (call_same c) (contains_head (edge a b (Out c)) []))
-
-pub leaving_all : (P : Edge → Type 0) (edges : List Edge) (c : ℕ) → All P edges → All P (flat_map (leaving c) edges)
-leaving_all P edges c all = all_of P (flat_map (leaving c) edges) (λ e m. All-contains P edges e all (leaving_is edges c e m).0)
+use Rattle.matched_paths.specs.Backward.{one_premise}
+use Rattle.matched_paths.specs.EdgeGroups.{leaving}
+use Rattle.two_pass.specs.CallRules.{crossing_rules, rules_by, call_rules}
+use Rattle.matched_paths.proofs.Members.{contains_flat, flat_contains, if_contains, contains_if, all_of}
+use Rattle.matched_paths.proofs.GroupLaws.{leaving_is, leaving_has}
 
 -- ---- a rule that a list has is one of its rules
 module _ (n : ℕ) (edges : List Edge) (K : FactSet) where

@@ -7,25 +7,8 @@ use Rattle.dep_model.specs.declared.edge.Edge.{Edge}
 use Rattle.dep_model.specs.declared.edge.Label.{Label}
 use Rattle.dep_model.specs.declared.edge.Label.TheVariants.{Control, Flow, Call, In, Out}
 use Rattle.matched_paths.specs.Places.{Places, holds_fact}
-use Rattle.two_pass.specs.PassRules.{one_premise}
-
-abbrev pub if_call : ℕ → ℕ → Edge → List Edge
-if_call d c e = if d == c then e ∷ [] else []
-
-abbrev pub leaves_by : Label → ℕ → Edge → List Edge
-leaves_by Control c e = []
-leaves_by Flow c e = []
-leaves_by (Call d) c e = []
-leaves_by (In d) c e = []
-leaves_by (Out d) c e = if_call d c e
-
--- the edge, where it leaves call c
-abbrev pub leaving : ℕ → Edge → List Edge
-leaving c e = leaves_by e.label c e
-
--- the edges in the row of a call, which is empty where there is none
-abbrev pub exits_at : Vec (Vec Edge Global) Global → ℕ → List Edge
-exits_at rows c = slice_index_or (map (λ (r : Vec Edge Global). r.items) rows.items) c []
+use Rattle.matched_paths.specs.Backward.{one_premise}
+use Rattle.matched_paths.specs.EdgeGroups.{leaving}
 
 -- the rules of the call that `enter` enters and `leave` leaves: in both passes, where the words hold the fact between them
 abbrev pub crossing_rules : ℕ → List ℕ → Places → Edge → Edge → List Rule

@@ -7,6 +7,7 @@ use Rattle.dep_model.specs.declared.edge.Label.{Label}
 use Rattle.dep_model.specs.declared.edge.Label.TheVariants.{Control, Flow, Call, In, Out}
 use Rattle.dep_model.specs.Facts.{FactSet, IsInnerEdge}
 use Rattle.dep_model.specs.Graphs.{edge}
+use Rattle.matched_paths.specs.Backward.{one_premise}
 
 -- what is marked with the number j marks the one with the number k: both passes go back along edges inside functions, the first one
 -- also over edges that enter calls and never into a function called, the second one over edges that leave calls and never back to a
@@ -18,10 +19,6 @@ pub data GoesBack (n : ℕ) (edges : List Edge) (K : FactSet) : ℕ → ℕ → 
   in_ : {u v : ℕ} (c : ℕ) → Contains edges (edge u v (In c)) → GoesBack n edges K v u
   out : {u v : ℕ} (c : ℕ) → Contains edges (edge u v (Out c)) → GoesBack n edges K (n + v) (n + u)
   turn : {v : ℕ} → v < n → GoesBack n edges K v (n + v)
-
--- a rule with one premise
-abbrev pub one_premise : ℕ → ℕ → Rule
-one_premise j k = record { first = j; second = j; gives = k }
 
 pub record IsPassRule (n : ℕ) (edges : List Edge) (K : FactSet) (r : Rule) : Type 0 where
   pub one : r.second ≡ r.first

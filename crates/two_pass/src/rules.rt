@@ -1,21 +1,11 @@
 //! The rules of the two passes: of `size` vertices, `v` has the number `v` in the first pass, and `size + v` in the second.
 ghost use Rattle.std.specs.Prelude.{◌≡◌, ℕ, ◌+◌, ◌^◌, ◌<◌, ◌++◌, All, OnOk, IfOk, map, flat_map};
 ghost use Rattle.std.specs.List.{range_with_len};
-ghost use Rattle.two_pass.specs.PassRules.{one_premise, goes_first, goes_second, edge_rules, turn_rule};
+ghost use Rattle.two_pass.specs.PassRules.{goes_first, goes_second, edge_rules, turn_rule};
 
 use dep_model::{Edge, Label, Rule};
+use matched_paths::back;
 use std::alloc::{AllocError, Global};
-
-/// The rule with one premise.
-pub(crate) fn back(to: u32, from: u32) -> Rule
-    ensures { result ≡ one_premise to from }
-{
-    Rule {
-        first: to,
-        second: to,
-        gives: from,
-    }
-}
 
 fn goes_first(label: Label) -> bool
     ensures { result ≡ goes_first label }

@@ -1,5 +1,5 @@
-use Rattle.two_pass.proofs.ExitLemmas.{exit_added}
-use Rattle.two_pass.proofs.calls.push_at.Goals as goal
+use Rattle.matched_paths.proofs.GroupLemmas.{exit_added}
+use Rattle.matched_paths.proofs.edge_groups.push_at.Goals as goal
 
 pub returns : goal.returns
 returns c =
