@@ -1,5 +1,5 @@
 -- The rows of a graph's facts don't overlap, and each stands below the count of all words.
-use Rattle.std.proofs.Common.{◌≡◌, ℕ, zero, suc, ◌+◌, ◌*◌, ◌/◌, ◌<◌, ◌≤◌, inl, inr, Bool, true, false, List, [], ◌∷◌, length, get_or, Some, slice_get, Contains, refl, sym, ap, ◌∙◌, subst, arith}
+use Rattle.std.proofs.Common.{◌≡◌, ℕ, zero, suc, ◌+◌, ◌*◌, ◌<◌, ◌≤◌, inl, inr, Bool, true, false, List, [], ◌∷◌, length, get_or, Some, slice_get, Contains, refl, sym, ap, ◌∙◌, subst, arith}
 use Rattle.std.proofs.lemmas.Bool.{cases_lt}
 use Rattle.std.proofs.lemmas.List.{get_or_default}
 use Rattle.matched_paths.proofs.RowLaws.{rows_apart}
@@ -9,7 +9,7 @@ use Rattle.rule_closure.proofs.ListLemmas.{contains_none, contains_cases}
 use Rattle.dep_model.specs.declared.graph.Graph.{Graph}
 use Rattle.dep_model.specs.declared.graph.OutRow.{OutRow}
 use Rattle.dep_model.specs.declared.vertex.Vertex.{Vertex}
-use Rattle.dep_model.specs.Facts.{IsIn, IsFactBit}
+use Rattle.dep_model.specs.Facts.{IsFactBit}
 use Rattle.dep_model.specs.FunctionVertices.{is_formal_in, is_formal_out, numbers}
 use Rattle.dep_model.specs.Graphs.{row_width, out_rows_from, out_rows, words_in, fact_words, HasRows}
 
@@ -63,6 +63,7 @@ module _ (vs : List Vertex) where
       later : (w : ℕ) (k : ℕ) → slice_get (y ∷ ys) k ≡ Some x → r.vertex ≡ v + k → Contains (out_rows_from vs (suc v) w ys) r → Contains (out_rows_from vs (suc v) w ys) s → Goes ys (suc v) r s w → r.word + width_of x ≤ s.word
       later w zero at is c d goes = let h = row_in ys (suc v) w r c in let other = h.vertex_is in absurd (omega (arith, is, other))
       later w (suc k) at is c d goes = goes k x c d at (omega (arith, is)) lt
+
       by_test : (b : Bool) → Contains (if b then record { vertex = v; word = w } ∷ out_rows_from vs (suc v) (w + width_of y) ys else out_rows_from vs (suc v) w ys) r
           → Contains (if b then record { vertex = v; word = w } ∷ out_rows_from vs (suc v) (w + width_of y) ys else out_rows_from vs (suc v) w ys) s → Goes ys (suc v) r s (w + width_of y) → Goes ys (suc v) r s w → r.word + width_of x ≤ s.word
       by_test false c d more less = later w k at is c d less
@@ -172,6 +173,7 @@ module _ (g : Graph) (rows : HasRows g) where
           let far = rows_apart_from g.vertices (record { vertex = b; word = p.word }) (record { vertex = d; word = q.word }) p.vertex p.row q.row p.at lt in
           let inside = p.inside in let one = p.bit_is in let two = q.bit_is in
           omega (arith, far, inside, one, two)
+
       one_row : b ≡ d → a ≡ c
       one_row same =
           let p = placed a b bit h in

@@ -1,10 +1,10 @@
 -- What the bit of one more fact changes of the facts that words hold.
-use Rattle.std.proofs.Common.{◌≡◌, ℕ, ◌+◌, ◌*◌, ◌<◌, ◌≤◌, ◌⊎◌, inl, inr, true, false, ◌||◌, ◌==◌, List, length, refl, sym, ap, ◌∙◌, subst, arith}
+use Rattle.std.proofs.Common.{◌≡◌, ℕ, ◌+◌, ◌*◌, ◌⊎◌, inl, inr, false, ◌||◌, ◌==◌, List, length, sym, ap, ◌∙◌, subst, arith}
 use Rattle.std.proofs.lemmas.Bool.{or_cases, or_left, or_right}
 use Rattle.std.proofs.lemmas.Bool.Decides.{nat_tests}
 use Rattle.bit_rows.specs.Words.{word_bit}
 use Rattle.dep_model.specs.declared.graph.Graph.{Graph}
-use Rattle.dep_model.specs.Facts.{AreFormals, IsFactBit, HoldsFact, AreFactWords}
+use Rattle.dep_model.specs.Facts.{IsFactBit, HoldsFact, AreFactWords}
 use Rattle.dep_model.specs.Graphs.{HasRows}
 use Rattle.matched_paths.specs.Places.{HasOneMore}
 use Rattle.matched_paths.proofs.BitLemmas.{or_none}

@@ -94,12 +94,7 @@ fn add_start(
 }
 
 // Adds an edge to a group.
-fn add(
-    alloc: Global,
-    rows: &mut Vec<Vec<Edge>>,
-    number: u32,
-    edge: Edge,
-) -> Result<(), AllocError>
+fn add(alloc: Global, rows: &mut Vec<Vec<Edge>>, number: u32, edge: Edge) -> Result<(), AllocError>
     ensures { OnOk result ((c : ℕ) → grouped rows.new c ≡ grouped rows.old c ++ if_group number c edge) }
 {
     let at = number as usize;

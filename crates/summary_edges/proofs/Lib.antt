@@ -1,0 +1,4 @@
+pub mod Stretching
+pub mod StepRuleLaws
+pub mod Chains
+pub mod Harvesting

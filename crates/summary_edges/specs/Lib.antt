@@ -1,0 +1,3 @@
+pub mod StepRules
+pub mod Stretches
+pub mod Rounds
