@@ -39,6 +39,7 @@ pub mod StatementStarts
 pub mod SyntaxFeedless
 pub mod SyntaxFits
 pub mod SyntaxLayout
+pub mod SyntaxTrees
 pub mod Told
 pub mod TypeLayout
 pub mod UntoldItems

@@ -21,6 +21,7 @@ use Rattle.c_text_layout.specs.RawLayout.{raw_layout}
 use Rattle.c_print_laws.specs.ReadAgain.{starless, comment_line, IsReadAgain}
 use Rattle.c_print_laws.specs.SyntaxLayout.{HasSyntax}
 use Rattle.c_print_laws.proofs.SyntaxLayout.{syntax_behind}
+use Rattle.c_print_laws.proofs.SyntaxTrees.{has_syntax}
 use Rattle.c_print_laws.proofs.Commented.{behind_comment_line}
 use Rattle.c_print_laws.proofs.ItemLayout.{layout_of_tree}
 use Rattle.c_print_laws.proofs.ShortLists.{short_lists}
@@ -96,23 +97,6 @@ read_behind front line behind p h =
       };
       within = limits_kept raw r.found h.same k.1.0 r.nesting k.1.2 h.within;
       same = h.but_lines ∙ k.1.2;
-    }
-
--- The tree of a well-formed program is syntax.
-pub has_syntax : (p : Program) → IsWellFormed p → HasSyntax p
-has_syntax p h = record { raw = h.raw; same = h.same; syntax = text_is_syntax h.raw h.tree; has = h.has; within = h.within; but_lines = h.but_lines }
-
--- A program that has syntax is well formed: its layout is a text.
-pub syntax_well_formed : (p : Program) → HasSyntax p → IsWellFormed p
-syntax_well_formed p h =
-    let r = read_behind [] 1 (λ text ts lexed. lexed) p h in
-    record {
-      raw = r.found;
-      same = r.again;
-      tree = record { tokens = r.accepted.tokens; is = r.accepted.tree };
-      has = r.accepted.has;
-      within = r.within;
-      but_lines = r.same;
     }
 
 -- The layout of a well-formed program is read again.

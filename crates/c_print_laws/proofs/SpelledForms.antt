@@ -105,7 +105,8 @@ string_form (b ∷ more) h =
 
 -- ---- tokens
 
-spelled_form : (kind : TokenKind) (w : Bytes) → spelled kind w ≡ true → HasForm kind w
+-- one that is spelled as its kind is has the form of its kind
+pub spelled_form : (kind : TokenKind) (w : Bytes) → spelled kind w ≡ true → HasForm kind w
 spelled_form Name w h = name_form w h
 spelled_form Number w h = number_form w h
 spelled_form Character w h = HasForm.character (character_form w h)

@@ -29,7 +29,7 @@ none_begins {front = front} {behind} {t} all is h (BeginsLeftOut.told told) = un
 none_begins all is h (BeginsLeftOut.without_tree none k) = none all is
 
 -- Where none is told at tokens in the grammar, no left-out construct begins among them.
-none_left_out : {ts : Tokens} (all : RawProgram) → IsProgram ts all → AreUntold [] ts → (text : Bytes) (line : ℕ) → IsLeftOut ts text line → ⊥
+pub none_left_out : {ts : Tokens} (all : RawProgram) → IsProgram ts all → AreUntold [] ts → (text : Bytes) (line : ℕ) → IsLeftOut ts text line → ⊥
 none_left_out all is h text line x = none_begins all is (subst (AreUntold []) x.split h) x.begins
 
 -- The layout of a tree that is syntax has tokens of a tree that is like it, behind what its tokens stand behind.

@@ -1,4 +1,4 @@
--- What is printed of a tree that is syntax is read again, and well-formed programs are those that have such trees.
+-- A tree that is syntax is the tree of a text, what is printed of it is read again, and well-formed programs are those that have such trees.
 use Rattle.std.specs.Prelude.{◌≤◌}
 use Rattle.c_tree.specs.declared.program.Program.{Program}
 use Rattle.c_tree.specs.Unlined.{SameButLines}
@@ -8,7 +8,7 @@ use Rattle.c_language.specs.TokenForms.{Tokens}
 use Rattle.c_language.specs.Tokens.{AreTokensOf}
 use Rattle.c_language.specs.StatementNesting.{program_nesting}
 use Rattle.c_language.specs.Syntax.{IsSyntax}
-use Rattle.c_language.specs.Programs.{IsTreeOf, HasProgram, IsWithinLimits, IsWellFormed}
+use Rattle.c_language.specs.Programs.{IsTree, IsTreeOf, HasProgram, IsWithinLimits, IsWellFormed}
 use Rattle.c_text_layout.specs.RawLayout.{raw_layout}
 use Rattle.c_text_layout.specs.Settled.{SameInLayout}
 use Rattle.c_text_layout.specs.Declarations.{HasShortLists}
@@ -21,6 +21,10 @@ pub record HasTreeLike (text : Bytes) (raw : RawProgram) : Type 0 where
   pub tree : IsTreeOf tokens found
   pub same : SameInLayout found raw
   pub nesting : program_nesting found ≤ program_nesting raw
+
+-- a tree that is syntax is the tree of some tokens in the grammar, with no left-out construct
+abbrev pub SyntaxIsTree : Type 0
+SyntaxIsTree = (raw : RawProgram) → IsSyntax raw → IsTree raw
 
 -- the layout of a tree that is syntax is a text with a tree like it, where its lists of initialisers are short
 abbrev pub SyntaxIsReadAgain : Type 0

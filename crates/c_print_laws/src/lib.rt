@@ -5,8 +5,15 @@
 #![tactic(auto)]
 
 ghost use Rattle.c_print_laws.specs.Places.{StatementsStart, TextsAreFeedless};
-ghost use Rattle.c_print_laws.specs.SyntaxLayout.{SyntaxIsReadAgain, WellFormedHasSyntax};
+ghost use Rattle.c_print_laws.specs.SyntaxLayout.{SyntaxIsTree, SyntaxIsReadAgain, WellFormedHasSyntax};
 ghost use Rattle.c_print_laws.specs.ReadAgain.{LayoutIsOfText, LayoutKeepsPrograms, LayoutIsReadAgain, CommentedIsReadAgain, LayoutHasNoLines, LimitsAreSame};
+
+/// A law: a tree that is syntax is the tree of some tokens in the grammar, among which no left-out
+/// construct begins. So what a parser can return is syntax, and each tree that is syntax is returned
+/// for some tokens.
+pub fn syntax_is_tree()
+    ensures { SyntaxIsTree }
+{}
 
 /// A law: the layout of a tree that is syntax, in which each list of initialisers has fewer than 2 to
 /// the 32 items, is a text of the grammar with no left-out construct, and its tree is the same in all

@@ -36,24 +36,24 @@ arg_tokens strings (Literal text) h =
     record { front = record { tokens = λ r. string text 0 ∷ r; spelled = λ r k. ((and_parts strings (is_string text) h).1, k) }; is = λ r. IsArg.literal }
 
 args_tokens : (strings : Bool) (a : RawArg) (all : List RawArg) → is_arg strings a ≡ true → list_all (is_arg false) all ≡ true → Run (λ ts r. IsArgs ts (a ∷ all) r)
-args_tokens strings a [] h k = let x = arg_tokens strings a h in record { front = join x.front (sign (codes ")") 0); is = λ r. IsSeparated.last (x.is (mark (codes ")") 0 ∷ r)) }
+args_tokens strings a [] h k = let x = arg_tokens strings a h in record { front = join x.front (sign (codes ")") 0 refl); is = λ r. IsSeparated.last (x.is (mark (codes ")") 0 ∷ r)) }
 args_tokens strings a (b ∷ all) h k =
     let p = and_parts (is_arg false b) (list_all (is_arg false) all) k in
     let x = arg_tokens strings a h in
     let y = args_tokens false b all p.0 p.1 in
-    record { front = join x.front (join (sign (codes ",") 0) y.front); is = λ r. IsSeparated.more (x.is (mark (codes ",") 0 ∷ y.front.tokens r)) (y.is r) }
+    record { front = join x.front (join (sign (codes ",") 0 refl) y.front); is = λ r. IsSeparated.more (x.is (mark (codes ",") 0 ∷ y.front.tokens r)) (y.is r) }
 
 pub call_tokens : (l : ℕ) (f : Bytes) (args : List RawArg) → is_call f args ≡ true → Tokened (λ ts r. IsCall ts f args r) l
 call_tokens l f [] h =
     let p = and_parts (is_name f) _ h in
     let q = and_parts (is_callee f) true p.1 in
-    on_line l (join (word f l p.0) (join (sign (codes "(") 0) (sign (codes ")") 0))) (λ r. refl) (λ r. IsCall.bare q.0)
+    on_line l (join (word f l p.0) (join (sign (codes "(") 0 refl) (sign (codes ")") 0 refl))) (λ r. refl) (λ r. IsCall.bare q.0)
 call_tokens l f (a ∷ all) h =
     let p = and_parts (is_name f) _ h in
     let q = and_parts (is_callee f) _ p.1 in
     let k = and_parts (is_arg (bytes_eq f (codes "printf")) a) (list_all (is_arg false) all) q.1 in
     let x = args_tokens (bytes_eq f (codes "printf")) a all k.0 k.1 in
-    on_line l (join (word f l p.0) (join (sign (codes "(") 0) x.front)) (λ r. refl) (λ r. IsCall.with_args q.0 (x.is r))
+    on_line l (join (word f l p.0) (join (sign (codes "(") 0 refl) x.front)) (λ r. refl) (λ r. IsCall.with_args q.0 (x.is r))
 
 -- ---- allocations
 
@@ -74,16 +74,16 @@ type_name_tokens t h =
 size_tokens : (z : RawSize) → is_size z ≡ true → Run (λ ts r. IsSize ts z r)
 size_tokens (size.Type t) h =
     let x = type_name_tokens t h in
-    record { front = join (word (codes "sizeof") 0 refl) (join (sign (codes "(") 0) x.front); is = λ r. IsSize.of_type (x.is r) }
+    record { front = join (word (codes "sizeof") 0 refl) (join (sign (codes "(") 0 refl) x.front); is = λ r. IsSize.of_type (x.is r) }
 size_tokens (size.Pointee w true) h =
     let p = own_parts w h in
     record {
-      front = join (word (codes "sizeof") 0 refl) (join (sign (codes "(") 0) (join (sign (codes "*") 0) (join (word w 0 p.0) (sign (codes ")") 0))));
+      front = join (word (codes "sizeof") 0 refl) (join (sign (codes "(") 0 refl) (join (sign (codes "*") 0 refl) (join (word w 0 p.0) (sign (codes ")") 0 refl))));
       is = λ r. IsSize.of_pointee p.1;
     }
 size_tokens (size.Pointee w false) h =
     let p = own_parts w h in
-    record { front = join (word (codes "sizeof") 0 refl) (join (sign (codes "*") 0) (word w 0 p.0)); is = λ r. IsSize.of_bare_pointee p.1 }
+    record { front = join (word (codes "sizeof") 0 refl) (join (sign (codes "*") 0 refl) (word w 0 p.0)); is = λ r. IsSize.of_bare_pointee p.1 }
 
 amount_tokens : (n : RawAmount) → is_amount n ≡ true → Run (λ ts r. IsAmount ts n r)
 amount_tokens (amount.Size z) h = let x = size_tokens z h in record { front = x.front; is = λ r. IsAmount.one (x.is r) }
@@ -91,18 +91,18 @@ amount_tokens (amount.CountSize a z) h =
     let p = and_parts (binds a multiplicative_level) (is_size z) h in
     let x = expr_tokens a multiplicative_level 0 p.0 in
     let y = size_tokens z p.1 in
-    record { front = join (of x) (join (sign (codes "*") 0) y.front); is = λ r. IsAmount.counted (x.is (mark (codes "*") 0 ∷ y.front.tokens r)) (y.is r) }
+    record { front = join (of x) (join (sign (codes "*") 0 refl) y.front); is = λ r. IsAmount.counted (x.is (mark (codes "*") 0 ∷ y.front.tokens r)) (y.is r) }
 amount_tokens (amount.SizeCount z a) h =
     let p = and_parts (is_size z) (binds a cast_level) h in
     let x = expr_tokens a cast_level 0 p.1 in
     let y = size_tokens z p.0 in
-    record { front = join y.front (join (sign (codes "*") 0) (of x)); is = λ r. IsAmount.multiplied (y.is (mark (codes "*") 0 ∷ x.front r)) (x.is r) }
+    record { front = join y.front (join (sign (codes "*") 0 refl) (of x)); is = λ r. IsAmount.multiplied (y.is (mark (codes "*") 0 ∷ x.front r)) (x.is r) }
 amount_tokens (amount.Count a) h = let x = expr_tokens a conditional_level 0 h in record { front = of x; is = λ r. IsAmount.bytes (x.is r) }
 
 malloc_tokens : (n : RawAmount) → is_amount n ≡ true → Run (λ ts r. IsMalloc ts n r)
 malloc_tokens n h =
     let x = amount_tokens n h in
-    record { front = join (word (codes "malloc") 0 refl) (join (sign (codes "(") 0) (join x.front (sign (codes ")") 0))); is = λ r. IsMalloc.malloc (x.is (mark (codes ")") 0 ∷ r)) }
+    record { front = join (word (codes "malloc") 0 refl) (join (sign (codes "(") 0 refl) (join x.front (sign (codes ")") 0 refl))); is = λ r. IsMalloc.malloc (x.is (mark (codes ")") 0 ∷ r)) }
 
 pub heap_tokens : (cast : Option RawTypeName) (n : RawAmount) → is_heap cast n ≡ true → Run (λ ts r. IsHeap ts cast n r)
 heap_tokens None n h = let x = malloc_tokens n h in record { front = x.front; is = λ r. IsHeap.uncast (x.is r) }
@@ -111,7 +111,7 @@ heap_tokens (Some t) n h =
     let q = and_parts (is_type_name t) (has_star t) p.0 in
     let x = type_name_tokens t q.0 in
     let y = malloc_tokens n p.1 in
-    record { front = join (sign (codes "(") 0) (join x.front y.front); is = λ r. IsHeap.cast (x.is (y.front.tokens r)) q.1 (y.is r) }
+    record { front = join (sign (codes "(") 0 refl) (join x.front y.front); is = λ r. IsHeap.cast (x.is (y.front.tokens r)) q.1 (y.is r) }
 
 -- ---- what declares a variable
 
@@ -141,23 +141,23 @@ declare_tokens l v (begins.One a) h =
     let p = and_parts (is_declared v sized) (is_expr a) h in
     let d = sized_declarator l v p.0 in
     let x = expr_tokens a conditional_level 0 p.1 in
-    opened d (join (sign (codes "=") 0) (of x)) (λ r k. IsDeclared.value (d.is (mark (codes "=") 0 ∷ x.front r) (equals_ends (x.front r))) (sized_unlisted v p.0) (x.is r))
+    opened d (join (sign (codes "=") 0 refl) (of x)) (λ r k. IsDeclared.value (d.is (mark (codes "=") 0 ∷ x.front r) (equals_ends (x.front r))) (sized_unlisted v p.0) (x.is r))
 declare_tokens l v (begins.Items []) h = let p = (and_parts (is_declared v listed) _ h).1 in absurd cc
 declare_tokens l v (begins.Items (a ∷ all)) h =
     let p = and_parts (is_declared v listed) _ h in
     let d = listed_declarator l v p.0 in
     let x = list_tokens 0 a all p.1 in
-    opened d (join (sign (codes "=") 0) (join (sign (codes "{") 0) (of x)))
+    opened d (join (sign (codes "=") 0 refl) (join (sign (codes "{") 0 refl) (of x)))
     (λ r k. IsDeclared.list (d.is (mark (codes "=") 0 ∷ mark (codes "{") 0 ∷ x.front r) (equals_ends (mark (codes "{") 0 ∷ x.front r))) (x.is r))
 
 pub declare_call : (l : ℕ) (v : RawVar) (f : Bytes) (args : List RawArg) → is_declared v sized ≡ true → is_call f args ≡ true → Opened (s.Call l (target.Declared v) f args)
 declare_call l v f args h k =
     let d = sized_declarator l v h in
     let x = call_tokens 0 f args k in
-    opened d (join (sign (codes "=") 0) (of x)) (λ r j. IsDeclared.call (d.is (mark (codes "=") 0 ∷ x.front r) (equals_ends (x.front r))) (sized_unlisted v h) (x.is r))
+    opened d (join (sign (codes "=") 0 refl) (of x)) (λ r j. IsDeclared.call (d.is (mark (codes "=") 0 ∷ x.front r) (equals_ends (x.front r))) (sized_unlisted v h) (x.is r))
 
 pub declare_heap : (l : ℕ) (v : RawVar) (cast : Option RawTypeName) (n : RawAmount) → is_declared v sized ≡ true → is_heap cast n ≡ true → Opened (s.Heap l (target.Declared v) cast n)
 declare_heap l v cast n h k =
     let d = sized_declarator l v h in
     let x = heap_tokens cast n k in
-    opened d (join (sign (codes "=") 0) x.front) (λ r j. IsDeclared.heap (d.is (mark (codes "=") 0 ∷ x.front.tokens r) (equals_ends (x.front.tokens r))) (sized_unlisted v h) (x.is r))
+    opened d (join (sign (codes "=") 0 refl) x.front) (λ r j. IsDeclared.heap (d.is (mark (codes "=") 0 ∷ x.front.tokens r) (equals_ends (x.front.tokens r))) (sized_unlisted v h) (x.is r))

@@ -31,7 +31,8 @@ use Rattle.text_syntax.proofs.TreeTokens.{Tokened, expr_tokens}
 use Rattle.text_syntax.proofs.TypeTokens.{Based, NoIntWord, NoBracket, own_parts, pointed_type, star_tokens, stars_are, stars_spelled, points, Declarator, sized_declarator, listed_declarator, list_tokens}
 use Rattle.text_syntax.proofs.Runs.{Front, nothing, join, sign, word, of, of_base, of_declarator, Run, on_line, other_mark, no_mark, mark_no_int, name_no_int, mark_no_name, stars_end, NoStar, EndsParam, ends_param}
 use Rattle.text_syntax.proofs.CallTokens.{equals_ends, sized_unlisted}
-use Rattle.text_syntax.proofs.StatementTokens.{body_tokens}
+use Rattle.text_syntax.proofs.Marks.{header_is}
+use Rattle.text_syntax.proofs.StatementTokens.{NoneEmpty, body_tokens}
 
 -- ---- types without a name
 
@@ -92,7 +93,7 @@ param_of l w a (Some e) h =
     let c = called_tokens w q.0 in
     let n = expr_tokens e conditional_level 0 i.1 in
     record {
-      front = join t.front (join c.front (join (sign (codes "[") 0) (join (of n) (sign (codes "]") 0))));
+      front = join t.front (join c.front (join (sign (codes "[") 0 refl) (join (of n) (sign (codes "]") 0 refl))));
       is = λ r k.
           let next = n.front (mark (codes "]") 0 ∷ r) in
           let mid = c.front.tokens (mark (codes "[") 0 ∷ next) in
@@ -109,19 +110,19 @@ record MoreParams (ps : List RawParam) : Type 0 where
   is : (r : Tokens) → IsMoreParams (front.tokens r) ps r
 
 more_tokens : (ps : List RawParam) → list_all is_param ps ≡ true → MoreParams ps
-more_tokens [] h = record { front = sign (codes ")") 0; ends = λ r. ends_param (codes ")") 0 r refl refl; is = λ r. IsMoreParams.closed }
+more_tokens [] h = record { front = sign (codes ")") 0 refl; ends = λ r. ends_param (codes ")") 0 r refl refl; is = λ r. IsMoreParams.closed }
 more_tokens (p ∷ ps) h =
     let q = and_parts (is_param p) (list_all is_param ps) h in
     let x = param_of p.line p.name p.shape p.length q.0 in
     let y = more_tokens ps q.1 in
     record {
-      front = join (sign (codes ",") 0) (join x.front y.front);
+      front = join (sign (codes ",") 0 refl) (join x.front y.front);
       ends = λ r. ends_param (codes ",") 0 (x.front.tokens (y.front.tokens r)) refl refl;
       is = λ r. IsMoreParams.more (x.is (y.front.tokens r) (y.ends r)) (y.is r);
     }
 
 params_tokens : (ps : List RawParam) → list_all is_param ps ≡ true → Run (λ ts r. IsParams ts ps r)
-params_tokens [] h = record { front = sign (codes ")") 0; is = λ r. IsParams.empty }
+params_tokens [] h = record { front = sign (codes ")") 0 refl; is = λ r. IsParams.empty }
 params_tokens (p ∷ ps) h =
     let q = and_parts (is_param p) (list_all is_param ps) h in
     let x = param_of p.line p.name p.shape p.length q.0 in
@@ -147,14 +148,14 @@ head_of l w t ps true h =
     let q = and_parts (option_map_or is_result t true) (list_all is_param ps) p.1 in
     let x = result_tokens 0 t w q.0 p.0 in
     let y = params_tokens ps q.1 in
-    on_line l (join (word (codes "static") l refl) (join (of x) (join (sign (codes "(") 0) y.front))) (λ r. refl)
+    on_line l (join (word (codes "static") l refl) (join (of x) (join (sign (codes "(") 0 refl) y.front))) (λ r. refl)
     (λ r. IsHead.head IsStatic.static (x.is (mark (codes "(") 0 ∷ y.front.tokens r)) (own_parts w p.0).1 (y.is r))
 head_of l w t ps false h =
     let p = and_parts (is_own_name w) _ h in
     let q = and_parts (option_map_or is_result t true) (list_all is_param ps) p.1 in
     let x = result_tokens l t w q.0 p.0 in
     let y = params_tokens ps q.1 in
-    on_line l (join (of x) (join (sign (codes "(") 0) y.front)) (λ r. x.line (mark (codes "(") 0 ∷ y.front.tokens r))
+    on_line l (join (of x) (join (sign (codes "(") 0 refl) y.front)) (λ r. x.line (mark (codes "(") 0 ∷ y.front.tokens r))
     (λ r. IsHead.head IsStatic.external (x.is (mark (codes "(") 0 ∷ y.front.tokens r)) (own_parts w p.0).1 (y.is r))
 
 -- ---- members
@@ -166,7 +167,7 @@ member_tokens : (m : RawMember) → is_member m ≡ true → Run (λ ts r. IsMem
 member_tokens m h =
     let d = sized_declarator m.line (member_var m) h in
     record {
-      front = join (of_base d.based) (join (of_declarator d) (sign (codes ";") 0));
+      front = join (of_base d.based) (join (of_declarator d) (sign (codes ";") 0 refl));
       is = λ r.
           let mid = d.front (mark (codes ";") 0 ∷ r) in
           IsMember.member (d.based.is mid (d.no_int (mark (codes ";") 0 ∷ r)))
@@ -177,7 +178,7 @@ member_tokens m h =
 members_tokens : (m : RawMember) (all : List RawMember) → list_all is_member (m ∷ all) ≡ true → Run (λ ts r. AreMembers ts (m ∷ all) r)
 members_tokens m [] h =
     let x = member_tokens m (and_parts (is_member m) true h).0 in
-    record { front = join x.front (sign (codes "}") 0); is = λ r. AreMembers.last (x.is (mark (codes "}") 0 ∷ r)) }
+    record { front = join x.front (sign (codes "}") 0 refl); is = λ r. AreMembers.last (x.is (mark (codes "}") 0 ∷ r)) }
 members_tokens m (n ∷ all) h =
     let p = and_parts (is_member m) (list_all is_member (n ∷ all)) h in
     let x = member_tokens m p.0 in
@@ -205,59 +206,78 @@ globe_tokens l v (begins.One a) b h =
     let p = and_parts (is_declared v sized) (is_expr a) h in
     let d = sized_declarator l v p.0 in
     let x = expr_tokens a conditional_level 0 p.1 in
-    globe d (join (sign (codes "=") 0) (of x)) (λ r k. IsGlobal.value (d.is (mark (codes "=") 0 ∷ x.front r) (equals_ends (x.front r))) (sized_unlisted v p.0) (x.is r))
+    globe d (join (sign (codes "=") 0 refl) (of x)) (λ r k. IsGlobal.value (d.is (mark (codes "=") 0 ∷ x.front r) (equals_ends (x.front r))) (sized_unlisted v p.0) (x.is r))
 globe_tokens l v (begins.Items []) b h = false_true (and_parts (is_declared v listed) _ h).1
 globe_tokens l v (begins.Items (a ∷ all)) b h =
     let p = and_parts (is_declared v listed) _ h in
     let d = listed_declarator l v p.0 in
     let x = list_tokens 0 a all p.1 in
-    globe d (join (sign (codes "=") 0) (join (sign (codes "{") 0) (of x)))
+    globe d (join (sign (codes "=") 0 refl) (join (sign (codes "{") 0 refl) (of x)))
     (λ r k. IsGlobal.list (d.is (mark (codes "=") 0 ∷ mark (codes "{") 0 ∷ x.front r) (equals_ends (mark (codes "{") 0 ∷ x.front r))) (x.is r))
 
 -- ---- items
 
+-- no `;` alone stands in the body of a function
+abbrev pub LeanItem : {ts rest : Tokens} {some : List RawItem} → IsItem ts some rest → Type 0
+LeanItem (IsItem.include is_stdlib) = Unit {0}
+LeanItem (IsItem.tag key) = Unit {0}
+LeanItem (IsItem.structure key h) = Unit {0}
+LeanItem (IsItem.globals s b h) = Unit {0}
+LeanItem (IsItem.prototype h) = Unit {0}
+LeanItem (IsItem.definition h p k) = NoneEmpty k
+
+abbrev pub AreLean : {ts rest : Tokens} {all : List RawItem} → AreItems ts all rest → Type 0
+AreLean AreItems.done = Unit {0}
+AreLean (AreItems.more h k) = LeanItem h × AreLean k
+
+abbrev Lean : RawItem → Tokens → Tokens → Type 0
+Lean x ts r = (d : IsItem ts (x ∷ []) r) × LeanItem d
+
 abbrev Item : RawItem → Type 0
-Item x = Run (λ ts r. IsItem ts (x ∷ []) r)
+Item x = Run (Lean x)
 
 global_item : (l : ℕ) (v : RawVar) (i : RawInit) (b : Bool) → is_begun v i ≡ true → Item (item.Global l v i b)
 global_item l v i true h =
     let o = globe_tokens l v i true h in
     record {
-      front = join (word (codes "static") l refl) (join (of_base o.based) (join o.front (sign (codes ";") 0)));
-      is = λ r. IsItem.globals IsStatic.static (o.based.is (o.front.tokens (mark (codes ";") 0 ∷ r)) (o.no_int (mark (codes ";") 0 ∷ r)))
-          (IsSeparated.last (o.is (mark (codes ";") 0 ∷ r) (other_mark (codes ";") (codes "[") 0 r refl)));
+      front = join (word (codes "static") l refl) (join (of_base o.based) (join o.front (sign (codes ";") 0 refl)));
+      is = λ r. (
+        IsItem.globals IsStatic.static (o.based.is (o.front.tokens (mark (codes ";") 0 ∷ r)) (o.no_int (mark (codes ";") 0 ∷ r)))
+            (IsSeparated.last (o.is (mark (codes ";") 0 ∷ r) (other_mark (codes ";") (codes "[") 0 r refl))),
+        tt,
+      );
     }
 global_item l v i false h =
     let o = globe_tokens l v i false h in
     record {
-      front = join (of_base o.based) (join o.front (sign (codes ";") 0));
+      front = join (of_base o.based) (join o.front (sign (codes ";") 0 refl));
       is = λ r.
           let mid = o.front.tokens (mark (codes ";") 0 ∷ r) in
-          IsItem.globals IsStatic.external (o.based.is mid (o.no_int (mark (codes ";") 0 ∷ r)))
-          (subst (λ (n : ℕ). IsSeparated (IsGlobal n false o.base) (codes ";") mid (item.Global l v i false ∷ []) r) (sym (o.based.line mid))
-          (IsSeparated.last (o.is (mark (codes ";") 0 ∷ r) (other_mark (codes ";") (codes "[") 0 r refl))));
+          let all = subst (λ (n : ℕ). IsSeparated (IsGlobal n false o.base) (codes ";") mid (item.Global l v i false ∷ []) r) (sym (o.based.line mid))
+              (IsSeparated.last (o.is (mark (codes ";") 0 ∷ r) (other_mark (codes ";") (codes "[") 0 r refl))) in
+          (IsItem.globals IsStatic.external (o.based.is mid (o.no_int (mark (codes ";") 0 ∷ r))) all, tt);
     }
 
 item_tokens : (x : RawItem) → is_item x ≡ true → Item x
-item_tokens (item.Include is_stdlib) h = record { front = record { tokens = λ r. of_kind Include (header is_stdlib) 0 ∷ r; spelled = λ r k. (refl, k) }; is = λ r. IsItem.include is_stdlib }
+item_tokens (item.Include is_stdlib) h = record { front = record { tokens = λ r. of_kind Include (header is_stdlib) 0 ∷ r; spelled = λ r k. (header_is is_stdlib, k) }; is = λ r. (IsItem.include is_stdlib, tt) }
 item_tokens (item.Tag l w) h =
     let p = own_parts w h in
-    record { front = join (word (codes "struct") l refl) (join (word w 0 p.0) (sign (codes ";") 0)); is = λ r. IsItem.tag p.1 }
+    record { front = join (word (codes "struct") l refl) (join (word w 0 p.0) (sign (codes ";") 0 refl)); is = λ r. (IsItem.tag p.1, tt) }
 item_tokens (item.Struct l w []) h = false_true (and_parts (is_own_name w) _ h).1
 item_tokens (item.Struct l w (m ∷ all)) h =
     let p = and_parts (is_own_name w) _ h in
     let q = own_parts w p.0 in
     let x = members_tokens m all p.1 in
     record {
-      front = join (word (codes "struct") l refl) (join (word w 0 q.0) (join (sign (codes "{") 0) (join x.front (sign (codes ";") 0))));
-      is = λ r. IsItem.structure q.1 (x.is (mark (codes ";") 0 ∷ r));
+      front = join (word (codes "struct") l refl) (join (word w 0 q.0) (join (sign (codes "{") 0 refl) (join x.front (sign (codes ";") 0 refl))));
+      is = λ r. (IsItem.structure q.1 (x.is (mark (codes ";") 0 ∷ r)), tt);
     }
 item_tokens (item.Global l v i b) h = global_item l v i b h
 item_tokens (item.Prototype l f) h =
     let x = head_of l f.name f.result f.params f.is_static h in
     record {
-      front = join (of x) (sign (codes ";") 0);
-      is = λ r. subst (λ (n : ℕ). IsItem (x.front (mark (codes ";") 0 ∷ r)) (item.Prototype n f ∷ []) r) (x.line (mark (codes ";") 0 ∷ r)) (IsItem.prototype (x.is (mark (codes ";") 0 ∷ r)));
+      front = join (of x) (sign (codes ";") 0 refl);
+      is = λ r. subst (λ (n : ℕ). Lean (item.Prototype n f) (x.front (mark (codes ";") 0 ∷ r)) r) (x.line (mark (codes ";") 0 ∷ r)) (IsItem.prototype (x.is (mark (codes ";") 0 ∷ r)), tt);
     }
 item_tokens (item.Define l f body) h =
     let p = and_parts (is_head f) _ h in
@@ -265,28 +285,29 @@ item_tokens (item.Define l f body) h =
     let x = head_of l f.name f.result f.params f.is_static p.0 in
     let y = body_tokens body q.1 in
     record {
-      front = join (of x) (join (sign (codes "{") 0) (join y.front (sign (codes "}") 0)));
+      front = join (of x) (join (sign (codes "{") 0 refl) (join y.front (sign (codes "}") 0 refl)));
       is = λ r.
           let next = mark (codes "{") 0 ∷ y.front.tokens (mark (codes "}") 0 ∷ r) in
-          subst (λ (n : ℕ). IsItem (x.front next) (item.Define n f body ∷ []) r) (x.line next) (IsItem.definition (x.is next) q.0 (y.is (mark (codes "}") 0 ∷ r)));
+          subst (λ (n : ℕ). Lean (item.Define n f body) (x.front next) r) (x.line next) (IsItem.definition (x.is next) q.0 (y.is (mark (codes "}") 0 ∷ r)), y.lean (mark (codes "}") 0 ∷ r));
     }
 
-items_tokens : (xs : List RawItem) → list_all is_item xs ≡ true → Run (λ ts r. AreItems ts xs r)
-items_tokens [] h = record { front = nothing; is = λ r. AreItems.done }
+items_tokens : (xs : List RawItem) → list_all is_item xs ≡ true → Run (λ ts r. (d : AreItems ts xs r) × AreLean d)
+items_tokens [] h = record { front = nothing; is = λ r. (AreItems.done, tt) }
 items_tokens (x ∷ xs) h =
     let p = and_parts (is_item x) (list_all is_item xs) h in
     let y = item_tokens x p.0 in
     let z = items_tokens xs p.1 in
-    record { front = join y.front z.front; is = λ r. AreItems.more (y.is (z.front.tokens r)) (z.is r) }
+    record { front = join y.front z.front; is = λ r. let a = y.is (z.front.tokens r) in let b = z.is r in (AreItems.more a.0 b.0, (a.1, b.1)) }
 
 -- ---- programs
 
--- tokens that are spelled as their kinds are, in the grammar
+-- tokens that are spelled as their kinds are, in the grammar, and no `;` alone stands in the bodies of functions
 pub record HasTokens (raw : RawProgram) : Type 0 where
   pub tokens : Tokens
   pub spelled : AreSpelled tokens
   pub is : IsProgram tokens raw
+  pub lean : AreLean is
 
 -- a tree that is syntax has tokens
 pub syntax_has_tokens : (raw : RawProgram) → IsSyntax raw → HasTokens raw
-syntax_has_tokens raw h = let x = items_tokens raw.items h in record { tokens = x.front.tokens []; spelled = x.front.spelled [] tt; is = x.is [] }
+syntax_has_tokens raw h = let x = items_tokens raw.items h in record { tokens = x.front.tokens []; spelled = x.front.spelled [] tt; is = (x.is []).0; lean = (x.is []).1 }

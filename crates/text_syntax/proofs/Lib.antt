@@ -8,6 +8,7 @@ pub mod Folds
 pub mod Types
 pub mod Equations
 pub mod Table
+pub mod Marks
 pub mod TreeTokens
 pub mod TypeTokens
 pub mod Runs

@@ -5,6 +5,7 @@ use Rattle.c_tree.specs.declared.raw.expr.RawType.{RawType}
 use Rattle.c_tree.specs.declared.raw.expr.RawVar.{RawVar}
 use Rattle.c_language.specs.Words.{Bytes}
 use Rattle.c_language.specs.TokenForms.{Tokens, name, mark, line_of}
+use Rattle.c_language.specs.Tokens.{is_mark}
 use Rattle.c_language.specs.Sees.{sees, sees_name, is_keyword}
 use Rattle.c_language.specs.IntWords.{sees_int_word}
 use Rattle.c_language.specs.Spellings.{is_name}
@@ -26,8 +27,8 @@ nothing = record { tokens = λ r. r; spelled = λ r k. k }
 abbrev pub join : Front → Front → Front
 join a b = record { tokens = λ r. a.tokens (b.tokens r); spelled = λ r k. a.spelled (b.tokens r) (b.spelled r k) }
 
-abbrev pub sign : Bytes → ℕ → Front
-sign w l = record { tokens = λ r. mark w l ∷ r; spelled = λ r k. (refl, k) }
+abbrev pub sign : (w : Bytes) → ℕ → is_mark w ≡ true → Front
+sign w l h = record { tokens = λ r. mark w l ∷ r; spelled = λ r k. (h, k) }
 
 abbrev pub word : (w : Bytes) → ℕ → is_name w ≡ true → Front
 word w l h = record { tokens = λ r. name w l ∷ r; spelled = λ r k. (h, k) }

@@ -1,12 +1,12 @@
 -- The tokens of a text are spelled as their kinds are.
 use Rattle.std.proofs.Common.{◌≡◌, ℕ, [], ◌∷◌, ◌++◌, Bool, true, false, ◌&&◌, not, codes, refl, ap, ◌∙◌, All}
-use Rattle.std.specs.Prelude.{◌==◌, is_some, drop, slice_index}
+use Rattle.std.specs.Prelude.{◌==◌, bytes_eq, is_some, drop, slice_index}
 use Rattle.std.proofs.lemmas.Bool.{and_from, and_parts, or_left, or_right, false_from_ne_true}
 use Rattle.std.proofs.lemmas.Bool.Decides.{Decides-eqb}
 use Rattle.std.proofs.lemmas.List.Elements.{All-head, All-tail}
 use Rattle.c_language.specs.Words.{Bytes}
 use Rattle.c_language.specs.TokenForms.{Tokens}
-use Rattle.c_language.specs.Tokens.{IsRun, IsCharacter, LacksDigit, IsLiteral, LacksTrigraph, IsTokenText, IsToken}
+use Rattle.c_language.specs.Tokens.{is_mark, is_header, IsInclude, IsRun, IsCharacter, LacksDigit, IsLiteral, LacksTrigraph, IsTokenText, IsToken}
 use Rattle.c_language.specs.Programs.{IsFormed}
 use Rattle.c_language.specs.Spellings.{runs_on, is_name, is_number, is_character, begins_with_digit, ends_string, begins_trigraph, has_trigraph, is_string}
 use Rattle.c_language.specs.declared.token.Before.{Before}
@@ -20,9 +20,9 @@ spelled Name w = is_name w
 spelled Number w = is_number w
 spelled Character w = is_character w
 spelled Str w = is_string w
-spelled Mark w = true
-spelled Include w = true
-spelled Directive w = true
+spelled Mark w = is_mark w
+spelled Include w = is_header w
+spelled Directive w = bytes_eq w (codes "#")
 
 -- each token is spelled as its kind is
 abbrev pub AreSpelled : Tokens → Type 0
@@ -77,11 +77,11 @@ text_spelled (IsTokenText.name h r) = and_from _ _ h (run_on r)
 text_spelled (IsTokenText.number h r k) = and_from _ _ h (and_from _ _ (run_on r) (ap is_some k.1))
 text_spelled (IsTokenText.character h) = character_spelled h
 text_spelled (IsTokenText.string {more} h k) = and_from _ _ (literal_ends h) (ap not (none_there more k))
-text_spelled (IsTokenText.mark l h longest) = refl
+text_spelled (IsTokenText.mark l h longest) = h
 
 token_spelled : {before : Before} {kind : TokenKind} {own text rest : Bytes} → IsToken before kind own text rest → spelled kind text ≡ true
 token_spelled (IsToken.plain t) = text_spelled t
-token_spelled (IsToken.include h e) = refl
+token_spelled (IsToken.include (IsInclude.include g n h) e) = h
 token_spelled (IsToken.directive h e l) = refl
 token_spelled (IsToken.directive_behind h e) = refl
 

@@ -28,7 +28,8 @@ use Rattle.text_syntax.proofs.Forms.{are_inner}
 use Rattle.text_syntax.proofs.Folds.{standing}
 use Rattle.text_syntax.proofs.TreeTokens.{expr_tokens}
 use Rattle.text_syntax.proofs.TypeTokens.{NoBracket}
-use Rattle.text_syntax.proofs.Runs.{nothing, join, sign, word, of, of_base, Run, other_mark}
+use Rattle.text_syntax.proofs.Runs.{Front, nothing, join, sign, word, of, of_base, Run, other_mark}
+use Rattle.text_syntax.proofs.Marks.{assign_mark, bump_mark}
 use Rattle.text_syntax.proofs.CallTokens.{call_tokens, heap_tokens, Opened, declare_tokens, declare_call, declare_heap}
 
 -- ---- simple statements
@@ -47,7 +48,7 @@ assign_tokens l a op b h =
     let x = expr_tokens a conditional_level l i.1 in
     let y = expr_tokens b conditional_level 0 q.1 in
     record {
-      front = join (of x) (join (sign (assign_sign op) 0) (of y));
+      front = join (of x) (join (sign (assign_sign op) 0 (assign_mark op q.0)) (of y));
       is = λ r. at_line (λ n. s.Assign n a op b) (x.line (mark (assign_sign op) 0 ∷ y.front r)) (IsSimple.assign op q.0 (x.is (mark (assign_sign op) 0 ∷ y.front r)) i.0 (y.is r));
     }
 
@@ -55,12 +56,12 @@ bump_tokens : (l : ℕ) (a : RawExpr) (up before : Bool) → stands_step (RawSta
 bump_tokens l a up true h =
     let p = and_parts (is_place a) (binds a conditional_level) h in
     let x = expr_tokens a conditional_level 0 p.1 in
-    record { front = join (sign (bump_sign up) l) (of x); is = λ r. IsSimple.bump_before up (x.is r) p.0 }
+    record { front = join (sign (bump_sign up) l (bump_mark up)) (of x); is = λ r. IsSimple.bump_before up (x.is r) p.0 }
 bump_tokens l a up false h =
     let p = and_parts (is_place a) (binds a postfix_level) h in
     let x = expr_tokens a postfix_level l p.1 in
     record {
-      front = join (of x) (sign (bump_sign up) 0);
+      front = join (of x) (sign (bump_sign up) 0 (bump_mark up));
       is = λ r. at_line (λ n. s.Bump n a up false) (x.line (mark (bump_sign up) 0 ∷ r)) (IsSimple.bump_after up (x.is (mark (bump_sign up) 0 ∷ r)) p.0);
     }
 
@@ -75,7 +76,7 @@ store_call l a f args h k =
     let x = expr_tokens a conditional_level l i.1 in
     let y = call_tokens 0 f args k in
     record {
-      front = join (of x) (join (sign (codes "=") 0) (of y));
+      front = join (of x) (join (sign (codes "=") 0 refl) (of y));
       is = λ r. at_line (λ n. s.Call n (target.Place a) f args) (x.line (mark (codes "=") 0 ∷ y.front r)) (IsSimple.store_call (x.is (mark (codes "=") 0 ∷ y.front r)) i.0 (y.is r));
     }
 
@@ -85,7 +86,7 @@ store_heap l a cast n h k =
     let x = expr_tokens a conditional_level l i.1 in
     let y = heap_tokens cast n k in
     record {
-      front = join (of x) (join (sign (codes "=") 0) y.front);
+      front = join (of x) (join (sign (codes "=") 0 refl) y.front);
       is = λ r. at_line (λ m. s.Heap m (target.Place a) cast n) (x.line (mark (codes "=") 0 ∷ y.front.tokens r)) (IsSimple.store_heap (x.is (mark (codes "=") 0 ∷ y.front.tokens r)) i.0 (y.is r));
     }
 
@@ -112,8 +113,18 @@ heap_formed p l (target.Declared v) cast n h j k = let q = and_parts (takes_decl
 
 -- ---- lists of statements
 
-abbrev Listed : List RawStatement → Type 0
-Listed xs = Run (λ ts r. AreStatements ts xs r)
+-- no `;` alone stands among the statements of a list
+abbrev pub NoneEmpty : {ts rest : Tokens} {all : List RawStatement} → AreStatements ts all rest → Type 0
+NoneEmpty AreStatements.done = Unit {0}
+NoneEmpty (AreStatements.empty h) = ⊥
+NoneEmpty (AreStatements.declared h k) = NoneEmpty k
+NoneEmpty (AreStatements.more h k) = NoneEmpty k
+
+-- tokens of statements, one after another
+pub record Listed (xs : List RawStatement) : Type 0 where
+  pub front : Front
+  pub is : (r : Tokens) → AreStatements (front.tokens r) xs r
+  pub lean : (r : Tokens) → NoneEmpty (is r)
 
 end_no_bracket : (r : Tokens) → NoBracket (mark (codes ";") 0 ∷ r)
 end_no_bracket r = other_mark (codes ";") (codes "[") 0 r refl
@@ -126,24 +137,26 @@ one_declared {x} o r =
 
 one_before : {p : Position} {x : RawStatement} {xs : List RawStatement} → Formed p x → Listed xs → Listed (x ∷ xs)
 one_before (simple a) all = record {
-  front = join a.front (join (sign (codes ";") 0) all.front);
+  front = join a.front (join (sign (codes ";") 0 refl) all.front);
   is = λ r. AreStatements.more (IsStatement.simple (a.is (mark (codes ";") 0 ∷ all.front.tokens r))) (all.is r);
+  lean = λ r. all.lean r;
 }
 one_before (declared t o) all = record {
-  front = join (of_base o.based) (join o.front (join (sign (codes ";") 0) all.front));
+  front = join (of_base o.based) (join o.front (join (sign (codes ";") 0 refl) all.front));
   is = λ r. AreStatements.declared
       (IsDeclaration.declaration (o.based.is (o.front.tokens (mark (codes ";") 0 ∷ all.front.tokens r)) (o.no_int (mark (codes ";") 0 ∷ all.front.tokens r)))
       (IsSeparated.last (one_declared o (all.front.tokens r)))) (all.is r);
+  lean = λ r. all.lean r;
 }
-one_before (whole t a) all = record { front = join a.front all.front; is = λ r. AreStatements.more (a.is (all.front.tokens r)) (all.is r) }
+one_before (whole t a) all = record { front = join a.front all.front; is = λ r. AreStatements.more (a.is (all.front.tokens r)) (all.is r); lean = λ r. all.lean r }
 
 no_statements : Listed []
-no_statements = record { front = nothing; is = λ r. AreStatements.done }
+no_statements = record { front = nothing; is = λ r. AreStatements.done; lean = λ r. tt }
 
 -- ---- parts of statements
 
 braces : {xs : List RawStatement} → Listed xs → Run (λ ts r. IsBody ts xs r)
-braces x = record { front = join (sign (codes "{") 0) (join x.front (sign (codes "}") 0)); is = λ r. IsBody.braces (x.is (mark (codes "}") 0 ∷ r)) }
+braces x = record { front = join (sign (codes "{") 0 refl) (join x.front (sign (codes "}") 0 refl)); is = λ r. IsBody.braces (x.is (mark (codes "}") 0 ∷ r)) }
 
 otherwise : {xs : List RawStatement} → Listed xs → Run (λ ts r. IsElse ts xs r)
 otherwise x = let b = braces x in record { front = join (word (codes "else") 0 refl) b.front; is = λ r. IsElse.otherwise (b.is r) }
@@ -151,32 +164,32 @@ otherwise x = let b = braces x in record { front = join (word (codes "else") 0 r
 test : (a : RawExpr) → is_expr a ≡ true → Run (λ ts r. IsTest ts a r)
 test a h =
     let x = expr_tokens a conditional_level 0 h in
-    record { front = join (sign (codes "(") 0) (join (of x) (sign (codes ")") 0)); is = λ r. IsTest.test (x.is (mark (codes ")") 0 ∷ r)) }
+    record { front = join (sign (codes "(") 0 refl) (join (of x) (sign (codes ")") 0 refl)); is = λ r. IsTest.test (x.is (mark (codes ")") 0 ∷ r)) }
 
 init : {x : RawStatement} → Formed first x → Run (λ ts r. IsInit ts (Some x) r)
-init (simple a) = record { front = join a.front (sign (codes ";") 0); is = λ r. IsInit.simple (a.is (mark (codes ";") 0 ∷ r)) }
+init (simple a) = record { front = join a.front (sign (codes ";") 0 refl); is = λ r. IsInit.simple (a.is (mark (codes ";") 0 ∷ r)) }
 init (declared t o) = record {
-  front = join (of_base o.based) (join o.front (sign (codes ";") 0));
+  front = join (of_base o.based) (join o.front (sign (codes ";") 0 refl));
   is = λ r. IsInit.declared (o.based.is (o.front.tokens (mark (codes ";") 0 ∷ r)) (o.no_int (mark (codes ";") 0 ∷ r))) (one_declared o r);
 }
 init (whole t a) = false_true t
 
 no_init : Run (λ ts r. IsInit ts None r)
-no_init = record { front = sign (codes ";") 0; is = λ r. IsInit.nothing }
+no_init = record { front = sign (codes ";") 0 refl; is = λ r. IsInit.nothing }
 
 turn : {x : RawStatement} → Formed step x → Run (λ ts r. IsStep ts (Some x) r)
-turn (simple a) = record { front = join a.front (sign (codes ")") 0); is = λ r. IsStep.simple (a.is (mark (codes ")") 0 ∷ r)) }
+turn (simple a) = record { front = join a.front (sign (codes ")") 0 refl); is = λ r. IsStep.simple (a.is (mark (codes ")") 0 ∷ r)) }
 turn (declared t o) = false_true t
 turn (whole t a) = false_true t
 
 no_turn : Run (λ ts r. IsStep ts None r)
-no_turn = record { front = sign (codes ")") 0; is = λ r. IsStep.nothing }
+no_turn = record { front = sign (codes ")") 0 refl; is = λ r. IsStep.nothing }
 
 label_tokens : (a : RawLabel) → is_label a ≡ true → Run (λ ts r. IsLabel ts a r)
 label_tokens (Case a) h =
     let x = expr_tokens a conditional_level 0 h in
-    record { front = join (word (codes "case") 0 refl) (join (of x) (sign (codes ":") 0)); is = λ r. IsLabel.case (x.is (mark (codes ":") 0 ∷ r)) }
-label_tokens Default h = record { front = join (word (codes "default") 0 refl) (sign (codes ":") 0); is = λ r. IsLabel.default }
+    record { front = join (word (codes "case") 0 refl) (join (of x) (sign (codes ":") 0 refl)); is = λ r. IsLabel.case (x.is (mark (codes ":") 0 ∷ r)) }
+label_tokens Default h = record { front = join (word (codes "default") 0 refl) (sign (codes ":") 0 refl); is = λ r. IsLabel.default }
 
 labels_tokens : (a : RawLabel) (all : List RawLabel) → list_all is_label (a ∷ all) ≡ true → Run (λ ts r. AreLabels ts (a ∷ all) r)
 labels_tokens a [] h = let x = label_tokens a (and_parts (is_label a) true h).0 in record { front = x.front; is = λ r. AreLabels.last (x.is r) }
@@ -190,14 +203,14 @@ abbrev Arms : List RawArm → Type 0
 Arms arms = Run (λ ts r. AreArms ts arms r)
 
 no_arms : Arms []
-no_arms = record { front = sign (codes "}") 0; is = λ r. AreArms.none }
+no_arms = record { front = sign (codes "}") 0 refl; is = λ r. AreArms.none }
 
 arm_before : (labels : List RawLabel) {body : List RawStatement} {arms : List RawArm} → is_there labels ≡ true → list_all is_label labels ≡ true → Listed body → Arms arms → Arms (arm labels body ∷ arms)
 arm_before [] h k x all = false_true h
 arm_before (a ∷ labels) h k x all =
     let y = labels_tokens a labels k in
     record {
-      front = join y.front (join x.front (join (word (codes "break") 0 refl) (join (sign (codes ";") 0) all.front)));
+      front = join y.front (join x.front (join (word (codes "break") 0 refl) (join (sign (codes ";") 0 refl) all.front)));
       is = λ r. AreArms.broken (y.is (x.front.tokens (name (codes "break") 0 ∷ mark (codes ";") 0 ∷ all.front.tokens r))) (x.is (name (codes "break") 0 ∷ mark (codes ";") 0 ∷ all.front.tokens r)) (all.is r);
     }
 
@@ -224,7 +237,7 @@ do_whole l a h b =
     let t = test a h in
     let x = braces b in
     record {
-      front = join (word (codes "do") l refl) (join x.front (join (word (codes "while") 0 refl) (join t.front (sign (codes ";") 0))));
+      front = join (word (codes "do") l refl) (join x.front (join (word (codes "while") 0 refl) (join t.front (sign (codes ";") 0 refl))));
       is = λ r. IsStatement.do_loop (x.is (name (codes "while") 0 ∷ t.front.tokens (mark (codes ";") 0 ∷ r))) (t.is (mark (codes ";") 0 ∷ r));
     }
 
@@ -233,23 +246,23 @@ for_whole l a h i k b =
     let t = expr_tokens a conditional_level 0 h in
     let x = braces b in
     record {
-      front = join (word (codes "for") l refl) (join (sign (codes "(") 0) (join i.front (join (of t) (join (sign (codes ";") 0) (join k.front x.front)))));
+      front = join (word (codes "for") l refl) (join (sign (codes "(") 0 refl) (join i.front (join (of t) (join (sign (codes ";") 0 refl) (join k.front x.front)))));
       is = λ r. IsStatement.for_loop (i.is (t.front (mark (codes ";") 0 ∷ k.front.tokens (x.front.tokens r)))) (t.is (mark (codes ";") 0 ∷ k.front.tokens (x.front.tokens r))) (k.is (x.front.tokens r)) (x.is r);
     }
 
 switch_whole : (l : ℕ) (a : RawExpr) {arms : List RawArm} → is_expr a ≡ true → Arms arms → Whole (s.Switch l a arms)
 switch_whole l a h x =
     let t = test a h in
-    record { front = join (word (codes "switch") l refl) (join t.front (join (sign (codes "{") 0) x.front)); is = λ r. IsStatement.switch (t.is (mark (codes "{") 0 ∷ x.front.tokens r)) (x.is r) }
+    record { front = join (word (codes "switch") l refl) (join t.front (join (sign (codes "{") 0 refl) x.front)); is = λ r. IsStatement.switch (t.is (mark (codes "{") 0 ∷ x.front.tokens r)) (x.is r) }
 
 block_whole : (l : ℕ) {b : List RawStatement} → Listed b → Whole (s.Block l b)
-block_whole l x = record { front = join (sign (codes "{") l) (join x.front (sign (codes "}") 0)); is = λ r. IsStatement.block (x.is (mark (codes "}") 0 ∷ r)) }
+block_whole l x = record { front = join (sign (codes "{") l refl) (join x.front (sign (codes "}") 0 refl)); is = λ r. IsStatement.block (x.is (mark (codes "}") 0 ∷ r)) }
 
 return_whole : (l : ℕ) (a : Option RawExpr) → option_map_or is_expr a true ≡ true → Whole (s.Return l a)
-return_whole l None h = record { front = join (word (codes "return") l refl) (sign (codes ";") 0); is = λ r. IsStatement.returns }
+return_whole l None h = record { front = join (word (codes "return") l refl) (sign (codes ";") 0 refl); is = λ r. IsStatement.returns }
 return_whole l (Some a) h =
     let x = expr_tokens a conditional_level 0 h in
-    record { front = join (word (codes "return") l refl) (join (of x) (sign (codes ";") 0)); is = λ r. IsStatement.returns_value (x.is (mark (codes ";") 0 ∷ r)) }
+    record { front = join (word (codes "return") l refl) (join (of x) (sign (codes ";") 0 refl)); is = λ r. IsStatement.returns_value (x.is (mark (codes ";") 0 ∷ r)) }
 
 -- ---- the fold
 
@@ -351,7 +364,7 @@ statement_tokens = of_every_statement Given ArmGiven
     (λ y p h. of_layer y p (ap (λ (f : Position → Bool). f p) (sym (fold-roll-RawStatement (Position → Bool) Bool stands_step arm_step (shape y))) ∙ h)) of_arm
 
 -- and so has the body of a function
-pub body_tokens : (xs : List RawStatement) → is_body xs ≡ true → Run (λ ts r. AreStatements ts xs r)
+pub body_tokens : (xs : List RawStatement) → is_body xs ≡ true → Listed xs
 body_tokens [] h = no_statements
 body_tokens (x ∷ []) h = one_before (statement_tokens x final h) no_statements
 body_tokens (x ∷ (y ∷ ys)) h = let p = and_parts (stands x inner) (is_body (y ∷ ys)) h in one_before (statement_tokens x inner p.0) (body_tokens (y ∷ ys) p.1)

@@ -11,6 +11,7 @@ use Rattle.c_tree.specs.declared.raw.expr.RawExpr.TheVariants as e
 use Rattle.c_tree.proofs.RawTrees.{ExprParts, expr_layer, of_every_expr}
 use Rattle.c_language.specs.Words.{Bytes, unary_sign, binary_sign}
 use Rattle.c_language.specs.TokenForms.{Tokens, name, number, character, mark, line_of}
+use Rattle.c_language.specs.Tokens.{is_mark}
 use Rattle.c_language.specs.IntWords.{spellings, IsIntWords, sees_int_word, AreWords, IsIntType}
 use Rattle.c_language.specs.ExprGrammar.{IsExpr, binary_level, conditional_level, level, cast_level, unary_level, postfix_level, is_plain_name}
 use Rattle.c_language.specs.Spellings.{is_name, is_number, is_character, is_used_name}
@@ -20,6 +21,7 @@ use Rattle.c_language.specs.declared.operators.Prefix.TheVariants.{Sign, Deref, 
 use Rattle.c_language.specs.declared.operators.Selector.TheVariants.{Dot, Arrow}
 use Rattle.c_language.proofs.Tests.{by_or}
 use Rattle.text_syntax.proofs.Spelled.{AreSpelled}
+use Rattle.text_syntax.proofs.Marks.{unary_mark, binary_mark}
 
 -- tokens in front of any others, the first of them on this line
 pub record Tokened (P : Tokens → Tokens → Type 0) (l : ℕ) : Type 0 where
@@ -104,27 +106,27 @@ character_of : (n l : ℕ) (w : Bytes) → (is_character w ≡ true) → Expr n 
 character_of n l w h = record { front = λ r. character w l ∷ r; spelled = λ r k. (h, k); line = λ r. refl; is = λ r. IsExpr.character_constant }
 
 -- two operands around a mark
-infix_of : {n l i j : ℕ} {a b c : RawExpr} (sign : Bytes) → Expr i l a → Expr j l b
+infix_of : {n l i j : ℕ} {a b c : RawExpr} (sign : Bytes) → is_mark sign ≡ true → Expr i l a → Expr j l b
     → ((r ts mid : Tokens) → IsExpr i ts a (mark sign l ∷ mid) → IsExpr j mid b r → IsExpr n ts c r) → Expr n l c
-infix_of {l = l} sign x y join = record {
+infix_of {l = l} sign m x y join = record {
   front = λ r. x.front (mark sign l ∷ y.front r);
-  spelled = λ r k. x.spelled (mark sign l ∷ y.front r) (refl, y.spelled r k);
+  spelled = λ r k. x.spelled (mark sign l ∷ y.front r) (m, y.spelled r k);
   line = λ r. x.line (mark sign l ∷ y.front r);
   is = λ r. join r (x.front (mark sign l ∷ y.front r)) (y.front r) (x.is (mark sign l ∷ y.front r)) (y.is r);
 }
 
-prefix_of : {n l : ℕ} {a c : RawExpr} (sign : Bytes) → Expr cast_level l a → ((r ts : Tokens) → IsExpr cast_level ts a r → IsExpr n (mark sign l ∷ ts) c r) → Expr n l c
-prefix_of {l = l} sign x join = record {
+prefix_of : {n l : ℕ} {a c : RawExpr} (sign : Bytes) → is_mark sign ≡ true → Expr cast_level l a → ((r ts : Tokens) → IsExpr cast_level ts a r → IsExpr n (mark sign l ∷ ts) c r) → Expr n l c
+prefix_of {l = l} sign m x join = record {
   front = λ r. mark sign l ∷ x.front r;
-  spelled = λ r k. (refl, x.spelled r k);
+  spelled = λ r k. (m, x.spelled r k);
   line = λ r. refl;
   is = λ r. join r (x.front r) (x.is r);
 }
 
-selection_of : {n l : ℕ} {a c : RawExpr} (sign m : Bytes) → Expr postfix_level l a → is_name m ≡ true → ((r ts : Tokens) → IsExpr postfix_level ts a (mark sign l ∷ name m l ∷ r) → IsExpr n ts c r) → Expr n l c
-selection_of {l = l} sign m x h join = record {
+selection_of : {n l : ℕ} {a c : RawExpr} (sign m : Bytes) → is_mark sign ≡ true → Expr postfix_level l a → is_name m ≡ true → ((r ts : Tokens) → IsExpr postfix_level ts a (mark sign l ∷ name m l ∷ r) → IsExpr n ts c r) → Expr n l c
+selection_of {l = l} sign m s x h join = record {
   front = λ r. x.front (mark sign l ∷ name m l ∷ r);
-  spelled = λ r k. x.spelled (mark sign l ∷ name m l ∷ r) (refl, (h, k));
+  spelled = λ r k. x.spelled (mark sign l ∷ name m l ∷ r) (s, (h, k));
   line = λ r. x.line (mark sign l ∷ name m l ∷ r);
   is = λ r. join r (x.front (mark sign l ∷ name m l ∷ r)) (x.is (mark sign l ∷ name m l ∷ r));
 }
@@ -139,25 +141,25 @@ of_layer RawExpr-F.Eof n l h = as_expr e.rolls-Eof (record { front = λ r. name 
 of_layer (RawExpr-F.Variable w) n l h = as_expr (e.rolls-Variable w) (used n l w h)
 of_layer (RawExpr-F.Unary op a) n l h =
     let p = and_parts (nat_le n unary_level) (binds a.0 cast_level) h in
-    as_expr (e.rolls-Unary op a.0) (prefix_of (unary_sign op) (a.1 cast_level l p.1) (λ r ts k. IsExpr.unary (Sign op) (le_from n unary_level p.0) k))
+    as_expr (e.rolls-Unary op a.0) (prefix_of (unary_sign op) (unary_mark op) (a.1 cast_level l p.1) (λ r ts k. IsExpr.unary (Sign op) (le_from n unary_level p.0) k))
 of_layer (RawExpr-F.Deref a) n l h =
     let p = and_parts (nat_le n unary_level) (binds a.0 cast_level) h in
-    as_expr (e.rolls-Deref a.0) (prefix_of (codes "*") (a.1 cast_level l p.1) (λ r ts k. IsExpr.unary Deref (le_from n unary_level p.0) k))
+    as_expr (e.rolls-Deref a.0) (prefix_of (codes "*") refl (a.1 cast_level l p.1) (λ r ts k. IsExpr.unary Deref (le_from n unary_level p.0) k))
 of_layer (RawExpr-F.AddressOf a) n l h =
     let p = and_parts (nat_le n unary_level) (binds a.0 cast_level) h in
-    as_expr (e.rolls-AddressOf a.0) (prefix_of (codes "&") (a.1 cast_level l p.1) (λ r ts k. IsExpr.unary AddressOf (le_from n unary_level p.0) k))
+    as_expr (e.rolls-AddressOf a.0) (prefix_of (codes "&") refl (a.1 cast_level l p.1) (λ r ts k. IsExpr.unary AddressOf (le_from n unary_level p.0) k))
 of_layer (RawExpr-F.Binary op a b) n l h =
     let p = and_parts (nat_le n (binary_level op)) _ h in
     let q = and_parts (binds a.0 (binary_level op)) (binds b.0 (binary_level op + 1)) p.1 in
-    as_expr (e.rolls-Binary op a.0 b.0) (infix_of (binary_sign op) (a.1 (binary_level op) l q.0) (b.1 (binary_level op + 1) l q.1) (λ r ts mid k j. IsExpr.binary (Strict op) (le_from n (binary_level op) p.0) k j))
+    as_expr (e.rolls-Binary op a.0 b.0) (infix_of (binary_sign op) (binary_mark op) (a.1 (binary_level op) l q.0) (b.1 (binary_level op + 1) l q.1) (λ r ts mid k j. IsExpr.binary (Strict op) (le_from n (binary_level op) p.0) k j))
 of_layer (RawExpr-F.AndAlso a b) n l h =
     let p = and_parts (nat_le n (level AndAlso)) _ h in
     let q = and_parts (binds a.0 (level AndAlso)) (binds b.0 (level AndAlso + 1)) p.1 in
-    as_expr (e.rolls-AndAlso a.0 b.0) (infix_of (codes "&&") (a.1 (level AndAlso) l q.0) (b.1 (level AndAlso + 1) l q.1) (λ r ts mid k j. IsExpr.binary AndAlso (le_from n (level AndAlso) p.0) k j))
+    as_expr (e.rolls-AndAlso a.0 b.0) (infix_of (codes "&&") refl (a.1 (level AndAlso) l q.0) (b.1 (level AndAlso + 1) l q.1) (λ r ts mid k j. IsExpr.binary AndAlso (le_from n (level AndAlso) p.0) k j))
 of_layer (RawExpr-F.OrElse a b) n l h =
     let p = and_parts (nat_le n (level OrElse)) _ h in
     let q = and_parts (binds a.0 (level OrElse)) (binds b.0 (level OrElse + 1)) p.1 in
-    as_expr (e.rolls-OrElse a.0 b.0) (infix_of (codes "||") (a.1 (level OrElse) l q.0) (b.1 (level OrElse + 1) l q.1) (λ r ts mid k j. IsExpr.binary OrElse (le_from n (level OrElse) p.0) k j))
+    as_expr (e.rolls-OrElse a.0 b.0) (infix_of (codes "||") refl (a.1 (level OrElse) l q.0) (b.1 (level OrElse + 1) l q.1) (λ r ts mid k j. IsExpr.binary OrElse (le_from n (level OrElse) p.0) k j))
 of_layer (RawExpr-F.Choose c a b) n l h =
     let p = and_parts (nat_le n conditional_level) _ h in
     let q = and_parts (binds c.0 (conditional_level + 1)) _ p.1 in
@@ -195,12 +197,12 @@ of_layer (RawExpr-F.Member a m) n l h =
     let p = and_parts (nat_le n postfix_level) _ h in
     let q = and_parts (binds a.0 postfix_level) (is_used_name m) p.1 in
     let u = and_parts (is_name m) (is_plain_name m) q.1 in
-    as_expr (e.rolls-Member a.0 m) (selection_of (codes ".") m (a.1 postfix_level l q.0) u.0 (λ r ts k. IsExpr.member Dot (le_from n postfix_level p.0) k u.1))
+    as_expr (e.rolls-Member a.0 m) (selection_of (codes ".") m refl (a.1 postfix_level l q.0) u.0 (λ r ts k. IsExpr.member Dot (le_from n postfix_level p.0) k u.1))
 of_layer (RawExpr-F.Arrow a m) n l h =
     let p = and_parts (nat_le n postfix_level) _ h in
     let q = and_parts (binds a.0 postfix_level) (is_used_name m) p.1 in
     let u = and_parts (is_name m) (is_plain_name m) q.1 in
-    as_expr (e.rolls-Arrow a.0 m) (selection_of (codes "->") m (a.1 postfix_level l q.0) u.0 (λ r ts k. IsExpr.member Arrow (le_from n postfix_level p.0) k u.1))
+    as_expr (e.rolls-Arrow a.0 m) (selection_of (codes "->") m refl (a.1 postfix_level l q.0) u.0 (λ r ts k. IsExpr.member Arrow (le_from n postfix_level p.0) k u.1))
 of_layer (RawExpr-F.Paren a) n l h =
     let x = a.1 conditional_level l h in
     as_expr (e.rolls-Paren a.0) (record {

@@ -1,10 +1,10 @@
--- What stays of the program of a tree that is syntax is well formed.
+-- What stays of the tree of a text is a tree of some tokens, and what stays of its program is well formed.
 use Rattle.std.proofs.Common.{◌≤◌, ℕ, suc, max, List, [], ◌∷◌, Bool, true, false, refl, arith}
 use Rattle.c_tree.specs.declared.program.Program.{Program}
 use Rattle.c_tree.specs.declared.program.Var.{Var}
 use Rattle.c_tree.specs.declared.raw.program.RawProgram.{RawProgram}
 use Rattle.c_language.specs.Limits.{longest, longest_in_variables, cells, struct_cells, greatest_variable}
-use Rattle.c_language.specs.Programs.{HasProgram, IsWithinLimits, IsWellFormed}
+use Rattle.c_language.specs.Programs.{IsTree, HasProgram, IsWithinLimits, IsWellFormed}
 use Rattle.c_language.specs.Syntax.{IsSyntax}
 use Rattle.projection.specs.Kept.{Kept, rank}
 use Rattle.projection.specs.Projection.{if_so, projected_var, projected_vars, projected_program}
@@ -14,10 +14,15 @@ use Rattle.c_scope_laws.proofs.FunctionNumbers.{numbers_kept}
 use Rattle.c_scope_laws.proofs.ItemWalking.{thinner_keeps}
 use Rattle.c_scope_laws.proofs.ProgramThinning.{program_thins}
 use Rattle.c_scope_laws.proofs.ThinnedTexts.{text_left}
-use Rattle.c_print_laws.proofs.ReadAgain.{syntax_well_formed}
+use Rattle.c_print_laws.proofs.SyntaxTrees.{syntax_is_tree, syntax_well_formed}
+use Rattle.text_syntax.proofs.Items.{text_is_syntax}
 use Rattle.thinned_syntax.proofs.LeftSyntax as syntax
 use Rattle.thinned_syntax.proofs.LeftNests as nests
 use Rattle.thinned_syntax.proofs.ThinnedTexts.{text_is_left}
+
+-- what stays of the tree of some tokens is the tree of some tokens, where what is kept is a text
+pub thinned_tree : (k : Kept) (raw : RawProgram) → IsTree raw → KeepsText k raw → IsTree (thinned_text k raw)
+thinned_tree k raw tree closed = syntax_is_tree (thinned_text k raw) (syntax.items_left (text_is_left k raw closed) (text_is_syntax raw tree))
 
 -- ---- limits
 

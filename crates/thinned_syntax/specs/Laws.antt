@@ -2,7 +2,7 @@
 use Rattle.std.specs.Prelude.{◌≤◌}
 use Rattle.c_tree.specs.declared.program.Program.{Program}
 use Rattle.c_tree.specs.declared.raw.program.RawProgram.{RawProgram}
-use Rattle.c_language.specs.Programs.{HasProgram, IsWithinLimits, IsWellFormed}
+use Rattle.c_language.specs.Programs.{IsTree, HasProgram, IsWithinLimits, IsWellFormed}
 use Rattle.c_language.specs.StatementNesting.{program_nesting}
 use Rattle.c_language.specs.Syntax.{IsSyntax}
 use Rattle.projection.specs.Kept.{Kept}
@@ -22,6 +22,10 @@ LeftNestsLess = (raw some : RawProgram) → ItemsLeft raw.items some.items → p
 -- what stays of a text is left of its tree, where what is kept is a text
 abbrev pub ThinnedIsLeft : Type 0
 ThinnedIsLeft = (k : Kept) (raw : RawProgram) → KeepsText k raw → ItemsLeft raw.items (thinned_text k raw).items
+
+-- of the tree of some tokens, what stays is the tree of some tokens, where what is kept is a text
+abbrev pub ThinnedIsTree : Type 0
+ThinnedIsTree = (k : Kept) (raw : RawProgram) → IsTree raw → KeepsText k raw → IsTree (thinned_text k raw)
 
 -- what stays of the program of a tree that is syntax, within the limits, is well formed, where what is kept is a text
 abbrev pub ThinnedIsWellFormed : Type 0

@@ -5,7 +5,7 @@
 //! `specs/Left` and `specs/Laws`.
 #![tactic(auto)]
 
-ghost use Rattle.thinned_syntax.specs.Laws.{LeftIsSyntax, LeftNestsLess, ThinnedIsLeft, ThinnedIsWellFormed};
+ghost use Rattle.thinned_syntax.specs.Laws.{LeftIsSyntax, LeftNestsLess, ThinnedIsLeft, ThinnedIsTree, ThinnedIsWellFormed};
 
 /// A law: what is left of a tree that is syntax is syntax, when statements, initialisers, calls, their
 /// results and arguments, arms, results and parameters of functions, and items are taken away.
@@ -21,6 +21,12 @@ pub fn left_nests_less()
 /// A law: what stays of a text is left of its tree, where what is kept is a text.
 pub fn thinned_is_left()
     ensures { ThinnedIsLeft }
+{}
+
+/// A law: of the tree of some tokens, what stays is the tree of some tokens, where what is kept is
+/// a text.
+pub fn thinned_is_tree()
+    ensures { ThinnedIsTree }
 {}
 
 /// A law: what stays of the program of a tree that is syntax, within the limits, is well formed, where

@@ -1,4 +1,4 @@
-use Rattle.c_print_laws.proofs.ReadAgain.{has_syntax, syntax_well_formed}
+use Rattle.c_print_laws.proofs.SyntaxTrees.{has_syntax, syntax_well_formed}
 use Rattle.c_print_laws.proofs.well_formed_has_syntax.Goals as goal
 
 pub returns : goal.returns
