@@ -254,7 +254,7 @@ global_item l v i false h =
       is = λ r.
           let mid = o.front.tokens (mark (codes ";") 0 ∷ r) in
           let all = subst (λ (n : ℕ). IsSeparated (IsGlobal n false o.base) (codes ";") mid (item.Global l v i false ∷ []) r) (sym (o.based.line mid))
-              (IsSeparated.last (o.is (mark (codes ";") 0 ∷ r) (other_mark (codes ";") (codes "[") 0 r refl))) in
+          (IsSeparated.last (o.is (mark (codes ";") 0 ∷ r) (other_mark (codes ";") (codes "[") 0 r refl))) in
           (IsItem.globals IsStatic.external (o.based.is mid (o.no_int (mark (codes ";") 0 ∷ r))) all, tt);
     }
 
