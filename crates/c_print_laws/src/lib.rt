@@ -1,7 +1,8 @@
-//! What is printed of a program is read again: laws over the layout of programs.
+//! What is printed of a program is read again, and so is what is printed of a tree that is syntax: laws
+//! over layouts.
 //!
 //! Each function is a law, and holds no code: its contract is the law, over the definitions of
-//! `specs/ReadAgain` and `specs/Places`.
+//! `specs/ReadAgain`, `specs/SyntaxLayout` and `specs/Places`.
 #![tactic(auto)]
 
 ghost use Rattle.c_print_laws.specs.Places.{StatementsStart, TextsAreFeedless};
@@ -9,8 +10,7 @@ ghost use Rattle.c_print_laws.specs.SyntaxLayout.{SyntaxIsTree, SyntaxIsReadAgai
 ghost use Rattle.c_print_laws.specs.ReadAgain.{LayoutIsOfText, LayoutKeepsPrograms, LayoutIsReadAgain, CommentedIsReadAgain, LayoutHasNoLines, LimitsAreSame};
 
 /// A law: a tree that is syntax is the tree of some tokens in the grammar, among which no left-out
-/// construct begins. So what a parser can return is syntax, and each tree that is syntax is returned
-/// for some tokens.
+/// construct begins. With `text_is_syntax` of text_syntax, the trees that are syntax are just these.
 pub fn syntax_is_tree()
     ensures { SyntaxIsTree }
 {}
