@@ -1,4 +1,6 @@
 -- What a text's program is made of, and when one of its arrays is too long.
+--
+-- Where clauses speak of `tables.defined.raw` and others of `tables.raw`, all is said by `tables.raw`, with one `subst` along `right.text` inside.
 use Rattle.std.proofs.Common.{◌≡◌, ℕ, ◌≤◌, max, List, [], ◌∷◌, map, false, true, Option, Some, None, option_map, option_and_then, Result, Ok, Err, arith, inl, inr, refl, sym, ap, subst, ◌∙◌}
 use Rattle.std.specs.Prelude.{Contains}
 use Rattle.std.proofs.lemmas.Bool.Decides.{nat_tests}

@@ -1,4 +1,6 @@
 -- Each form of statement, as steps of the walk.
+--
+-- A form's equation holds only at a scope: `restated_at` compares phrases and scope at that of the tables.
 use Rattle.std.proofs.Common.{◌≡◌, ℕ, ◌+◌, ◌<◌, List, [], ◌∷◌, ◌++◌, length, take, get_or, Option, None, Result, Ok, Err, sym, ap, subst, ◌∙◌, append_assoc, append-nil}
 use Rattle.std.proofs.lemmas.List.{take_more}
 use Rattle.c_tree.specs.declared.raw.expr.RawExpr.{RawExpr}

@@ -1,4 +1,6 @@
 -- A text has one tree and one program, and what is answered for it is fixed.
+--
+-- A cause that exists for some program or tree is turned into c_reader's `IsAnswer` (`answered`), whose laws tell of a given one.
 use Rattle.std.proofs.Common.{◌≡◌, ℕ, List, length, ◌≤◌, ◌<◌, Err, Option, Some, sym, ap, subst, ◌∙◌, arith}
 use Rattle.c_tree.specs.declared.limits.LimitName.{LimitName}
 use Rattle.c_tree.specs.declared.limits.LimitName.TheVariants as limit
