@@ -2,6 +2,8 @@
 #![tactic(auto)]
 
 #[cfg(test)]
+mod expression_tests;
+#[cfg(test)]
 mod programs;
 #[cfg(test)]
 mod reading;

@@ -1,4 +1,5 @@
 //! The programs of texts, their numbered statements, and rows that say where locations may point.
+ghost use Rattle.std.specs.Prelude.{◌<◌, length};
 ghost use Rattle.bit_rows.specs.Tables.{IsSized};
 ghost use Rattle.c_language.specs.Programs.{IsWellFormed};
 
@@ -44,6 +45,17 @@ pub(crate) fn points_to<R: Abort + AllocGlobal>(rt: &R, count: u32, pairs: &[Poi
         rows.set(row, place);
     }
     PointsTo { rows }
+}
+
+/// Row `row` is this word.
+pub(crate) fn is_word<R: Abort>(rt: &R, rows: &Rows, row: u32, wanted: u64, line: u32)
+    requires { row < length rows.now.sets }
+{
+    assert_eq!(rt;
+        rows.words(row),
+        [wanted].as_slice(),
+        "row {row} of line {line}"
+    );
 }
 
 /// The numbered statements of a program, function by function: a test stands before what it decides, and behind

@@ -1,12 +1,12 @@
 //! What the statements of worked programs use, define and kill, and the variables whose addresses are taken.
-ghost use Rattle.std.specs.Prelude.{◌≡◌, ◌<◌, length};
+ghost use Rattle.std.specs.Prelude.{◌≡◌, length};
 ghost use Rattle.bit_rows.specs.Tables.{IsSized};
 ghost use Rattle.c_language.specs.Programs.{IsWellFormed};
 ghost use Rattle.dep_model.specs.LocationRows.{HasPointsRows};
 ghost use Rattle.dep_model.specs.Locations.{locations};
 
 use crate::programs::{ADD, LIST, OVERWRITTEN, PARTS, READS, UPWARD};
-use crate::reading::{Placed, Pointing, SHORT, points_to, read, statements_of};
+use crate::reading::{Placed, Pointing, SHORT, is_word, points_to, read, statements_of};
 use bit_rows::Rows;
 use c_tree::Program;
 use dep_model::{Locations, PointsTo};
@@ -37,17 +37,6 @@ fn rows_of<'p, R: Abort + AllocGlobal>(
     effects.add_defines(points, placed.function, placed.statement, &mut rows, 1);
     effects.add_kills(points, placed.function, placed.statement, &mut rows, 2);
     rows
-}
-
-/// Row `row` is this word.
-fn is_word<R: Abort>(rt: &R, rows: &Rows, row: u32, wanted: u64, line: u32)
-    requires { row < length rows.now.sets }
-{
-    assert_eq!(rt;
-        rows.words(row),
-        [wanted].as_slice(),
-        "row {row} of line {line}"
-    );
 }
 
 /// The statements of the program do what the table says.
