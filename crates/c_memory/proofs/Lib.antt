@@ -1,0 +1,9 @@
+pub mod CellLemmas
+pub mod CountLemmas
+pub mod NumberLemmas
+pub mod BlockLemmas
+pub mod ShiftLemmas
+pub mod ExprForms
+pub mod Rulesets
+pub mod EvaluationLemmas
+pub mod SceneLaws
