@@ -1,0 +1,7 @@
+mod AddedLemmas
+mod CallLemmas
+mod CalledLaws
+mod ColumnLemmas
+mod InsideForms
+mod OwnLaws
+mod Rules
