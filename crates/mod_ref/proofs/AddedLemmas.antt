@@ -24,7 +24,7 @@ use Rattle.effect_rows.proofs.GainLaws.{gains_by_place}
 use Rattle.rule_closure.specs.declared.closure.Rule.{Rule}
 use Rattle.mod_ref.specs.declared.own.Own.{Own}
 use Rattle.mod_ref.specs.Own.{one_of, own_doings, arms_doings, callee_of, IsCallIn, AreCallsAdded, any_defines, any_uses, points_in, HasOwnRows, IsAdded, IsCalled}
-use Rattle.mod_ref.proofs.CallLemmas.{called_one, one_call, calls_both, calls_none}
+use Rattle.mod_ref.proofs.CallLemmas.{called_one, one_call, calls_both}
 
 or_false : (b : Bool) → (b || false) ≡ b
 or_false true = refl
@@ -39,12 +39,6 @@ module _ (p : Program) (r : ℕ) where
         h.gained k o at ∙ ap (λ x. x || b o.location) (g.gained k o at) ∙ or_assoc (has (the_set t r) k) (a o.location) (b o.location)
         ∙ ap (λ x. has (the_set t r) k || x) (sym (is o.location));
     others = λ s apart. h.others s apart ∙ g.others s apart;
-  }
-
-  gains_none : (c : Places) (t : Table) → ((l : Location) → c l ≡ false) → GainsByPlace p r c t t
-  gains_none c t is = record {
-    gained = λ k o at. sym (ap (λ x. has (the_set t r) k || x) (is o.location) ∙ or_false (has (the_set t r) k));
-    others = λ s apart. refl;
   }
 
   gains_as : (a c : Places) (t u : Table) → HasLocationRow p r t → u ≡ with_places p r a t → ((l : Location) → c l ≡ a l) → GainsByPlace p r c t u
@@ -140,21 +134,6 @@ added_both f ds es all old mid new first second is =
           (λ l. any_both Doing (λ (d : Doing). doing_uses old.effects (points_in old) d l) all ds es is);
       calls = subst (λ xs. AreCallsAdded old.functions f xs old.calls.items new.calls.items) (sym is) (calls_both old.functions f ds es old.calls.items mid.calls.items new.calls.items first.calls calls);
     }
-
-pub added_as : (f : ℕ) (ds es : List Doing) (old new : Own) → IsAdded f ds old new → ds ≡ es → IsAdded f es old new
-added_as f ds es old new added is = subst (λ xs. IsAdded f xs old new) is added
-
-pub added_none : (f : ℕ) (old : Own) → HasOwnRows old → IsAdded f [] old old
-added_none f old rows = record {
-  on = record { rows = rows; program_is = refl; points_is = refl; functions_is = refl };
-  modified = gains_none old.effects f (any_defines old.effects (points_in old) f []) old.modified (λ l. refl);
-  used = gains_none old.effects f (any_uses old.effects (points_in old) []) old.used (λ l. refl);
-  calls = calls_none old.functions f old.calls.items;
-}
-
--- the function is still one of them
-pub still_below : (f : ℕ) (ds : List Doing) (old new : Own) → IsAdded f ds old new → f < old.functions → f < new.functions
-still_below f ds old new added low = subst (λ n. f < n) (sym added.on.functions_is) low
 
 -- ---- turns
 

@@ -69,12 +69,3 @@ module _ (n f : ℕ) where
       ]
     ],
   )
-
-  pub calls_none : (old : List Rule) → AreCallsAdded n f [] old old
-  calls_none old r = (
-    λ m. inl m,
-    λ h. elim h [
-      | inl o ↦ o
-      | inr c ↦ absurd (contains_none _ c.member)
-    ],
-  )

@@ -1,68 +1,20 @@
 -- What stands in each form of statement, as equations; and a statement does what it does itself, and then what those in it do.
-use Rattle.std.proofs.Common.{◌≡◌, ℕ, List, [], ◌∷◌, ◌++◌, map, Bool, Option, Some, None, refl, sym, ap, ap₂, ◌∙◌}
-use Rattle.c_arith.specs.declared.operators.BinaryOp.{BinaryOp}
-use Rattle.c_tree.specs.declared.types.CType.{CType}
+use Rattle.std.proofs.Common.{◌≡◌, ℕ, List, [], ◌∷◌, ◌++◌, map, Option, Some, None, refl, sym, ap, ap₂, ◌∙◌}
 use Rattle.c_tree.specs.declared.expr.Expr.{Expr}
-use Rattle.c_tree.specs.declared.program.Init.{Init}
-use Rattle.c_tree.specs.declared.statement.Amount.{Amount}
-use Rattle.c_tree.specs.declared.statement.Target.{Target}
 use Rattle.c_tree.specs.declared.statement.Statement.{Statement, out-Statement, map-Statement, fold-roll-Statement, out-roll-Statement}
 use Rattle.c_tree.specs.declared.statement.Statement.TheViews.{roll-out-Statement}
 use Rattle.c_tree.specs.declared.statement.Statement.TheOpen.{Statement-F}
 use Rattle.c_tree.specs.declared.statement.Statement.TheVariants as s
 use Rattle.c_tree.specs.declared.statement.Arm.{Arm, fold-Arm, fold-roll-Arm}
-use Rattle.c_language.specs.Words.{Bytes}
 use Rattle.dep_model.specs.Doings.{Doing, joined, doing_step, doing_arm, doings, body_doings}
 use Rattle.effect_rows.specs.Own.{own_step}
 use Rattle.mod_ref.specs.Own.{one_of, own_doings, arms_doings, part_doings, inside_step, inside_doings, last_step, last_doings}
 
-pub inside-Declare : (t : Statement) (id : Option ℕ) (l x : ℕ) (i : Init) → t ≡ s.Declare id l x i → inside_doings t ≡ []
-inside-Declare t id l x i same = ap inside_doings (same ∙ sym (s.rolls-Declare id l x i)) ∙ ap inside_step (out-roll-Statement (Statement-F.Declare id l x i))
-
-pub inside-Assign : (t : Statement) (id l : ℕ) (a : Expr) (op : Option BinaryOp) (b : Expr) → t ≡ s.Assign id l a op b → inside_doings t ≡ []
-inside-Assign t id l a op b same = ap inside_doings (same ∙ sym (s.rolls-Assign id l a op b)) ∙ ap inside_step (out-roll-Statement (Statement-F.Assign id l a op b))
-
-pub inside-Bump : (t : Statement) (id l : ℕ) (a : Expr) (up before : Bool) → t ≡ s.Bump id l a up before → inside_doings t ≡ []
-inside-Bump t id l a up before same = ap inside_doings (same ∙ sym (s.rolls-Bump id l a up before)) ∙ ap inside_step (out-roll-Statement (Statement-F.Bump id l a up before))
-
-pub inside-Invoke : (t : Statement) (id l : ℕ) (to : Target) (f : ℕ) (args : List Expr) → t ≡ s.Invoke id l to f args → inside_doings t ≡ []
-inside-Invoke t id l to f args same = ap inside_doings (same ∙ sym (s.rolls-Invoke id l to f args)) ∙ ap inside_step (out-roll-Statement (Statement-F.Invoke id l to f args))
-
-pub inside-Fetch : (t : Statement) (id l : ℕ) (to : Target) → t ≡ s.Fetch id l to → inside_doings t ≡ []
-inside-Fetch t id l to same = ap inside_doings (same ∙ sym (s.rolls-Fetch id l to)) ∙ ap inside_step (out-roll-Statement (Statement-F.Fetch id l to))
-
-pub inside-Write : (t : Statement) (id l : ℕ) (e : Expr) → t ≡ s.Write id l e → inside_doings t ≡ []
-inside-Write t id l e same = ap inside_doings (same ∙ sym (s.rolls-Write id l e)) ∙ ap inside_step (out-roll-Statement (Statement-F.Write id l e))
-
-pub inside-Print : (t : Statement) (id l : ℕ) (format : Bytes) (args : List Expr) → t ≡ s.Print id l format args → inside_doings t ≡ []
-inside-Print t id l format args same = ap inside_doings (same ∙ sym (s.rolls-Print id l format args)) ∙ ap inside_step (out-roll-Statement (Statement-F.Print id l format args))
-
-pub inside-Heap : (t : Statement) (id l : ℕ) (to : Target) (cast : Option CType) (n : Amount) → t ≡ s.Heap id l to cast n → inside_doings t ≡ []
-inside-Heap t id l to cast n same = ap inside_doings (same ∙ sym (s.rolls-Heap id l to cast n)) ∙ ap inside_step (out-roll-Statement (Statement-F.Heap id l to cast n))
-
-pub inside-Release : (t : Statement) (id l : ℕ) (e : Expr) → t ≡ s.Release id l e → inside_doings t ≡ []
-inside-Release t id l e same = ap inside_doings (same ∙ sym (s.rolls-Release id l e)) ∙ ap inside_step (out-roll-Statement (Statement-F.Release id l e))
-
 pub inside-If : (t : Statement) (id l : ℕ) (e : Expr) (a b : List Statement) → t ≡ s.If id l e a b → inside_doings t ≡ body_doings a ++ body_doings b
 inside-If t id l e a b same = ap inside_doings (same ∙ sym (s.rolls-If id l e a b)) ∙ ap inside_step (out-roll-Statement (Statement-F.If id l e a b))
 
-pub inside-While : (t : Statement) (id l : ℕ) (e : Expr) (b : List Statement) → t ≡ s.While id l e b → inside_doings t ≡ body_doings b
-inside-While t id l e b same = ap inside_doings (same ∙ sym (s.rolls-While id l e b)) ∙ ap inside_step (out-roll-Statement (Statement-F.While id l e b))
-
-pub inside-Do : (t : Statement) (id l : ℕ) (e : Expr) (b : List Statement) → t ≡ s.Do id l e b → inside_doings t ≡ body_doings b
-inside-Do t id l e b same = ap inside_doings (same ∙ sym (s.rolls-Do id l e b)) ∙ ap inside_step (out-roll-Statement (Statement-F.Do id l e b))
-
 pub inside-For : (t : Statement) (id l : ℕ) (i : Option Statement) (e : Expr) (k : Option Statement) (b : List Statement) → t ≡ s.For id l i e k b → inside_doings t ≡ part_doings i ++ (part_doings k ++ body_doings b)
 inside-For t id l i e k b same = ap inside_doings (same ∙ sym (s.rolls-For id l i e k b)) ∙ ap inside_step (out-roll-Statement (Statement-F.For id l i e k b))
-
-pub inside-Switch : (t : Statement) (id l : ℕ) (e : Expr) (b : List Arm) → t ≡ s.Switch id l e b → inside_doings t ≡ arms_doings b
-inside-Switch t id l e b same = ap inside_doings (same ∙ sym (s.rolls-Switch id l e b)) ∙ ap inside_step (out-roll-Statement (Statement-F.Switch id l e b))
-
-pub inside-Block : (t : Statement) (l : ℕ) (b : List Statement) → t ≡ s.Block l b → inside_doings t ≡ body_doings b
-inside-Block t l b same = ap inside_doings (same ∙ sym (s.rolls-Block l b)) ∙ ap inside_step (out-roll-Statement (Statement-F.Block l b))
-
-pub inside-Return : (t : Statement) (id l : ℕ) (e : Option Expr) → t ≡ s.Return id l e → inside_doings t ≡ []
-inside-Return t id l e same = ap inside_doings (same ∙ sym (s.rolls-Return id l e)) ∙ ap inside_step (out-roll-Statement (Statement-F.Return id l e))
 
 pub last-If : (t : Statement) (id l : ℕ) (e : Expr) (a b : List Statement) → t ≡ s.If id l e a b → last_doings t ≡ body_doings b
 last-If t id l e a b same = ap last_doings (same ∙ sym (s.rolls-If id l e a b)) ∙ ap last_step (out-roll-Statement (Statement-F.If id l e a b))
