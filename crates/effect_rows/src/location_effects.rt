@@ -1,11 +1,11 @@
 //! What a program's statements and expressions do to its locations, as rows that gain these.
 ghost use Rattle.std.specs.Prelude.{◌≡◌, ◌<◌, IfOk, length};
 ghost use Rattle.bit_rows.specs.Tables.{IsSized};
-ghost use Rattle.dep_model.specs.Denoted.{expr_reads, expr_places, expr_points, left_reads};
-ghost use Rattle.dep_model.specs.DoingEffects.{is_taken, target_reads};
+ghost use Rattle.dep_model.specs.Denoted.{expr_reads, expr_places, expr_points, left_reads, whole};
+ghost use Rattle.dep_model.specs.DoingEffects.{is_taken, result_of, target_reads};
 ghost use Rattle.dep_model.specs.LocationLists.{location_list, AreListedOnce};
 ghost use Rattle.dep_model.specs.LocationRows.{points_of, HasPointsRows};
-ghost use Rattle.dep_model.specs.Locations.{locations};
+ghost use Rattle.dep_model.specs.Locations.{locations, same_location};
 ghost use Rattle.effect_rows.specs.Gains.{with_places};
 ghost use Rattle.effect_rows.specs.Own.{own_uses, own_defines, own_kills};
 
@@ -191,6 +191,32 @@ impl<'p> LocationEffects<'p> {
     {
         let g = Pointed::of(self.program, &self.tables, points);
         doings::add_target_reads(&g, to, &mut self.scratch, rows, row);
+    }
+
+    /// Adds the whole object of a variable.
+    pub fn add_variable(&mut self, points: &PointsTo, x: VarId, rows: &mut Rows, row: u32)
+        requires points_are { HasPointsRows self.old points.now }
+        requires sized { IsSized (length rows.old.sets) (length (locations self.old)) rows.old }
+        requires row_in { row < length rows.old.sets }
+        ensures gained { rows.new ≡ with_places self.old row (whole x) rows.old }
+        ensures size { IsSized (length rows.old.sets) (length (locations self.old)) rows.new }
+        ensures kept { self.new ≡ self.old }
+    {
+        let g = Pointed::of(self.program, &self.tables, points);
+        g.add_variable(x, &Steps::Done, &mut self.scratch, rows, row);
+    }
+
+    /// Adds what a function returns.
+    pub fn add_result(&mut self, points: &PointsTo, f: FunctionId, rows: &mut Rows, row: u32)
+        requires points_are { HasPointsRows self.old points.now }
+        requires sized { IsSized (length rows.old.sets) (length (locations self.old)) rows.old }
+        requires row_in { row < length rows.old.sets }
+        ensures gained { rows.new ≡ with_places self.old row (same_location (result_of f)) rows.old }
+        ensures size { IsSized (length rows.old.sets) (length (locations self.old)) rows.new }
+        ensures kept { self.new ≡ self.old }
+    {
+        let g = Pointed::of(self.program, &self.tables, points);
+        g.add_result(f, rows, row);
     }
 
     /// Whether the address of a variable is taken somewhere in the program.
