@@ -1,0 +1,5 @@
+pub mod Left
+pub mod ListingTurns
+pub mod OwnForms
+pub mod Rules
+pub mod SeenRows
