@@ -3,3 +3,4 @@ pub mod ListingTurns
 pub mod OwnForms
 pub mod Rules
 pub mod SeenRows
+pub mod WordLemmas

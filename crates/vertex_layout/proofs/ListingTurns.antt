@@ -1,5 +1,5 @@
 -- What is left to list, one more part of it.
-use Rattle.std.proofs.Common.{◌≡◌, ℕ, zero, suc, ◌+◌, ◌-◌, ◌<◌, List, [], ◌∷◌, ◌++◌, map, length, drop, get_or, slice_get, Option, Bool, true, false, Some, None, refl, sym, ap, ap₂, ◌∙◌, subst, arith}
+use Rattle.std.proofs.Common.{◌≡◌, ℕ, zero, suc, ◌+◌, ◌-◌, ◌<◌, List, [], ◌∷◌, ◌++◌, map, length, drop, get_or, slice_get, Option, Bool, true, false, Some, refl, sym, ap, ap₂, ◌∙◌, arith}
 use Rattle.std.specs.Prelude.{if◌then◌else◌}
 use Rattle.std.specs.Borrow.{Bor}
 use Rattle.std.specs.Option.{option_map_or}
@@ -15,8 +15,7 @@ use Rattle.c_tree.specs.declared.statement.Target.TheVariants as target
 use Rattle.dep_model.specs.declared.vertex.Slot.{Slot}
 use Rattle.dep_model.specs.declared.vertex.Slot.TheVariants.{Argument, At}
 use Rattle.dep_model.specs.declared.vertex.Vertex.{Vertex}
-use Rattle.dep_model.specs.declared.vertex.VertexKind.{VertexKind}
-use Rattle.dep_model.specs.declared.vertex.VertexKind.TheVariants.{Entry, FormalIn, FormalOut, Call, ActualIn, ActualOut}
+use Rattle.dep_model.specs.declared.vertex.VertexKind.TheVariants.{Entry, FormalIn, Call, ActualIn, ActualOut}
 use Rattle.dep_model.specs.Denoted.{Places}
 use Rattle.dep_model.specs.Doings.{Doing, doings_of, body_doings}
 use Rattle.dep_model.specs.Locations.{TypedLocation}

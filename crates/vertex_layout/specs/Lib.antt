@@ -1,3 +1,5 @@
+pub mod FactWords
+pub mod Limits
 pub mod Listing
 pub mod OwnStatements
 pub mod Seen

@@ -1,8 +1,7 @@
 -- The vertices of a program as they are listed, function by function and statement by statement.
-use Rattle.std.specs.Prelude.{◌≡◌, ℕ, zero, suc, ◌<◌, List, [], ◌∷◌, ◌++◌, map, length, Bool, true, false, if◌then◌else◌, Option, Some, None}
+use Rattle.std.specs.Prelude.{◌≡◌, ℕ, zero, suc, ◌<◌, List, [], ◌∷◌, ◌++◌, map, Bool, true, false, if◌then◌else◌, Option, Some, None}
 use Rattle.c_tree.specs.declared.limits.LimitName.{LimitName}
 use Rattle.c_tree.specs.declared.limits.LimitName.TheVariants as limit
-use Rattle.c_tree.specs.declared.program.Program.{Program}
 use Rattle.c_tree.specs.declared.statement.Statement.{Statement}
 use Rattle.c_tree.specs.declared.statement.Target.{Target}
 use Rattle.c_tree.specs.declared.statement.Target.TheVariants as target

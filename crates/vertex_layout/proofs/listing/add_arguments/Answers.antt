@@ -5,7 +5,7 @@ use Rattle.dep_model.specs.declared.vertex.Slot.TheVariants.{Argument}
 use Rattle.dep_model.specs.declared.vertex.Vertex.{Vertex}
 use Rattle.dep_model.specs.VertexOrder.{in_function}
 use Rattle.vertex_layout.specs.Listing.{through, vertices_in, argument_slots}
-use Rattle.vertex_layout.proofs.Left.{Left, left_turn, left_done, left_above, told_on}
+use Rattle.vertex_layout.proofs.Left.{left_turn, left_done, left_above, told_on}
 use Rattle.vertex_layout.proofs.ListingTurns.{arguments_left, arguments_begin, arguments_turn, arguments_end}
 use Rattle.vertex_layout.proofs.listing.add_arguments.Goals as goal
 

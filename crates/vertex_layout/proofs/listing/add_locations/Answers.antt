@@ -6,7 +6,7 @@ use Rattle.dep_model.specs.Locations.{locations}
 use Rattle.effect_rows.proofs.StepRows.{listed_at}
 use Rattle.vertex_layout.specs.Listing.{through, vertices_in, touched_slots}
 use Rattle.vertex_layout.specs.Seen.{effects_in, touches}
-use Rattle.vertex_layout.proofs.Left.{Left, left_turn, left_skip, left_above, told_on}
+use Rattle.vertex_layout.proofs.Left.{left_turn, left_skip, left_above, told_on}
 use Rattle.vertex_layout.proofs.ListingTurns.{locations_left, location_in, location_out}
 use Rattle.vertex_layout.proofs.listing.add_locations.Goals as goal
 use Rattle.vertex_layout.proofs.listing.add_locations.Goals.{then-touches+in_ok-add, else-touches}
