@@ -1,0 +1,2 @@
+pub mod LowNumbers
+pub mod Parts
