@@ -8,7 +8,8 @@ use Rattle.std.proofs.lemmas.List.Elements.{All-head, All-tail}
 use Rattle.c_tree.specs.declared.program.Program.{Program}
 use Rattle.c_tree.specs.declared.numbered.Start.{Start}
 use Rattle.c_tree.specs.Numbered.{Starts, program_starts}
-use Rattle.dep_model.specs.declared.edge.Edge.{Edge}
+use Rattle.dep_model.specs.declared.facts.Facts.{Facts}
+use Rattle.dep_model.specs.declared.graph.Graph.{Graph}
 use Rattle.dep_model.proofs.SwitchLaws.{true_not_false}
 use Rattle.slice_engine.specs.Engine.{IsPrepared}
 use Rattle.slice_engine.specs.Slice.{HasStart}
@@ -17,9 +18,9 @@ use Rattle.slice_engine.proofs.StartLemmas.{IsSomeLine}
 use Rattle.slice_engine.proofs.StartNumbers.{numbers_are}
 
 -- whether some statement starts on a line
-pub start_decides : (p : Program) (edges : List Edge) (starts : Starts) → IsPrepared p edges starts → (line : ℕ) (b : Bool) → b ≡ list_any (λ (s : Start). s.line == line) starts → IsTrue b ↔ HasStart p line
-start_decides p edges starts g line b e =
-    let here : b ≡ list_any (λ (s : Start). s.line == line) (program_starts p) = e ∙ ap (list_any (λ (s : Start). s.line == line)) g.starts_are in
+pub start_decides : (p : Program) (g : Graph) (facts : Facts) (starts : Starts) → IsPrepared p g facts starts → (line : ℕ) (b : Bool) → b ≡ list_any (λ (s : Start). s.line == line) starts → IsTrue b ↔ HasStart p line
+start_decides p g facts starts ready line b e =
+    let here : b ≡ list_any (λ (s : Start). s.line == line) (program_starts p) = e ∙ ap (list_any (λ (s : Start). s.line == line)) ready.starts_are in
     (λ t. some_start line (program_starts p) (sym here ∙ t), λ h. here ∙ start_some line (program_starts p) h.0 h.1)
 
 low_starts : (n : ℕ) (starts : Starts) → AreNumbers n starts → All (λ (s : Start). s.id + 1 < n + 1) starts
@@ -28,9 +29,9 @@ low_starts n (s ∷ ss) h zero d lt = omega (arith, h.0)
 low_starts n (s ∷ ss) h (suc k) d lt = low_starts n ss h.1 k d (omega (arith, lt))
 
 -- each statement's vertex is one of the program's
-pub starts_below : (p : Program) (edges : List Edge) (starts : Starts) → IsPrepared p edges starts → All (λ (s : Start). s.id + 1 < p.statements + 1) starts
-starts_below p edges starts g =
-    low_starts p.statements starts (subst (AreNumbers p.statements) (sym g.starts_are) (numbers_are p g.numbered))
+pub starts_below : (p : Program) (g : Graph) (facts : Facts) (starts : Starts) → IsPrepared p g facts starts → All (λ (s : Start). s.id + 1 < p.statements + 1) starts
+starts_below p g facts starts ready =
+    low_starts p.statements starts (subst (AreNumbers p.statements) (sym ready.starts_are) (numbers_are p ready.numbered))
 
 -- ---- what isn't too large
 
@@ -41,19 +42,15 @@ not_above bound n b tells small = elim (leb_tells n bound) [
   | inr above ↦ true_not_false (tells above.1) small
 ]
 
-pub few_enough : (statements vars : ℕ) (b : Bool) → IsTrue b ↔ ((4294967293 < statements) ⊎ (4294967293 < vars)) → b ≡ false → (statements ≤ 4294967293) × (vars ≤ 4294967293)
-few_enough statements vars b tells small =
-    (not_above 4294967293 statements b (λ above. tells.1 (inl above)) small, not_above 4294967293 vars b (λ above. tells.1 (inr above)) small)
-
 pub short_enough : (size : ℕ) (b : Bool) → IsTrue b ↔ (4294967296 < size) → b ≡ false → size ≤ 4294967296
 short_enough size b tells small = not_above 4294967296 size b tells.1 small
 
 -- ---- the last line
 
 -- none of the starts is behind the last line
-pub ends_by : (p : Program) (edges : List Edge) (starts : Starts) → IsPrepared p edges starts → (last : ℕ) → All (λ (s : Start). s.line ≤ last) starts → (line : ℕ) → HasStart p line → line ≤ last
-ends_by p edges starts g last all line h =
-    start_low line last starts all (subst (λ (ss : List Start). list_any (λ (s : Start). s.line == line) ss ≡ true) (sym g.starts_are) (start_some line (program_starts p) h.0 h.1))
+pub ends_by : (p : Program) (g : Graph) (facts : Facts) (starts : Starts) → IsPrepared p g facts starts → (last : ℕ) → All (λ (s : Start). s.line ≤ last) starts → (line : ℕ) → HasStart p line → line ≤ last
+ends_by p g facts starts ready last all line h =
+    start_low line last starts all (subst (λ (ss : List Start). list_any (λ (s : Start). s.line == line) ss ≡ true) (sym ready.starts_are) (start_some line (program_starts p) h.0 h.1))
   where
     start_low : (line last : ℕ) (starts : Starts) → All (λ (s : Start). s.line ≤ last) starts → list_any (λ (s : Start). s.line == line) starts ≡ true → line ≤ last
     start_low line last [] all h = cc
@@ -63,7 +60,7 @@ ends_by p edges starts g last all line h =
     ]
 
 -- a number that is the line of one of the starts, or 0, is a line on which a statement starts, or 0
-pub ends_on : (p : Program) (edges : List Edge) (starts : Starts) → IsPrepared p edges starts → (last : ℕ) → (last ≡ 0) ⊎ IsSomeLine starts last → (last ≡ 0) ⊎ HasStart p last
-ends_on p edges starts g last (inl none) = inl none
-ends_on p edges starts g last (inr some) =
-    inr (some_start last (program_starts p) (ap (list_any (λ (s : Start). s.line == last)) (sym g.starts_are) ∙ some))
+pub ends_on : (p : Program) (g : Graph) (facts : Facts) (starts : Starts) → IsPrepared p g facts starts → (last : ℕ) → (last ≡ 0) ⊎ IsSomeLine starts last → (last ≡ 0) ⊎ HasStart p last
+ends_on p g facts starts ready last (inl none) = inl none
+ends_on p g facts starts ready last (inr some) =
+    inr (some_start last (program_starts p) (ap (list_any (λ (s : Start). s.line == last)) (sym ready.starts_are) ∙ some))

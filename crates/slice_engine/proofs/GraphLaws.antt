@@ -1,99 +1,106 @@
--- The edges that the engine finds are those of the system graph.
-use Rattle.std.proofs.Common.{◌≡◌, ◌↔◌, ◌+◌, List, ◌++◌, length, get_or, Some, ◌⊎◌, inl, inr, sym, ap, ◌∙◌, subst, add-one}
-use Rattle.std.specs.Prelude.{Contains, All}
-use Rattle.std.proofs.lemmas.List.Elements.{Contains-append_left, Contains-append_right, Contains-append_cases, Contains-get_or}
+-- The graph of a main alone: its vertices are counted by its statements, and it has no words of facts.
+use Rattle.std.proofs.Common.{Result, Ok, Err, ◌≡◌, ℕ, suc, ◌+◌, ◌<◌, ◌≤◌, List, [], ◌∷◌, length, map, refl, sym, ap, ◌∙◌, subst, arith}
+use Rattle.std.specs.Result.{IfErr, IsErrAnd}
+use Rattle.std.proofs.lemmas.List.{length-map}
+use Rattle.c_tree.specs.declared.limits.LimitName.{LimitName}
+use Rattle.c_tree.specs.declared.limits.LimitName.TheVariants as limit
 use Rattle.c_tree.specs.declared.program.Program.{Program}
-use Rattle.dep_model.specs.declared.edge.Edge.{Edge}
-use Rattle.dep_model.specs.declared.edge.Label.TheVariants.{Control, Flow}
-use Rattle.dep_model.specs.declared.skeleton.FlowGraph.{FlowGraph}
-use Rattle.dep_model.specs.declared.skeleton.Pair.{Pair}
+use Rattle.dep_model.specs.declared.graph_fault.GraphFault.{GraphFault}
+use Rattle.dep_model.specs.declared.graph_fault.GraphFault.TheVariants.{Limit}
+use Rattle.c_language.specs.Programs.{IsWellFormed}
+use Rattle.dep_model.specs.declared.graph.Graph.{Graph}
 use Rattle.dep_model.specs.declared.skeleton.Skeleton.{Skeleton}
 use Rattle.dep_model.specs.declared.vertex.Vertex.{Vertex}
-use Rattle.dep_model.specs.FunctionVertices.{FollowsIn, IsControlIn, nested, formal, actual}
-use Rattle.dep_model.specs.MainEdges.{IsMainEdge}
+use Rattle.dep_model.specs.Graphs.{fact_words, words_in, IsGraphOf}
+use Rattle.dep_model.specs.LocationLists.{location_list}
+use Rattle.dep_model.specs.Locations.{TypedLocation, locations as all_locations}
+use Rattle.dep_model.specs.MainVertices.{from, statement_vertex, vertices}
 use Rattle.dep_model.specs.NumberedMains.{IsNumberedMain}
 use Rattle.dep_model.specs.Skeletons.{IsSkeleton}
-use Rattle.dep_model.specs.SystemGraph.{Analysis, IsAnalysis, vertices_of, IsFlowIn}
-use Rattle.dep_model.specs.Plain.{IsEdgeWithin}
-use Rattle.dep_model.proofs.NumberedEdges.{numbered_vertices, numbered_edges}
+use Rattle.dep_model.specs.SystemGraph.{Analysis, IsAnalysis, vertices_of}
+use Rattle.dep_model.proofs.NumberedEdges.{numbered_vertices}
 use Rattle.dep_model.proofs.NumberedMain.{main_analysis, is_main_analysis}
-use Rattle.numbered_texts.proofs.Listed.{main_listed}
-use Rattle.reaching_defs.specs.RowFlow.{IsRowFlow, AreEvenRows}
-use Rattle.reaching_defs.proofs.RowLaws.{row_flow_is_flow}
-use Rattle.slice_engine.specs.Engine.{HasEdges}
-use Rattle.slice_engine.proofs.LowNumbers.{follows_in_low, control_low, flow_low}
+use Rattle.dep_model.proofs.NumberedLocations.{numbered_locations, length_main}
+use Rattle.program_graph.specs.Given.{HasSkeleton}
+use Rattle.slice_engine.specs.Engine.{IsWithinLimits}
+use Rattle.slice_engine.specs.GraphLimits.{IsAboveGraphLimit, locations, vertices as many_vertices, words as many_words}
 use Rattle.slice_engine.proofs.Vertices.{length-vertices}
-use Rattle.dep_model.specs.Pairs.{IsPairBelow}
 
--- a fact of each member holds of all
-all_members : {A : Type 0} (P : A → Type 0) (xs : List A) → ((x : A) → Contains xs x → P x) → All P xs
-all_members P xs h = λ i d lt. h (get_or xs i d) (Contains-get_or xs i d lt)
+statements_wordless : (vs : List Vertex) (xs : List ℕ) → words_in vs (map statement_vertex xs) ≡ 0
+statements_wordless vs [] = refl
+statements_wordless vs (x ∷ xs) = statements_wordless vs xs
 
-module _ (p : Program) (s : Skeleton) (h : IsNumberedMain p) (is : (a : Analysis) → IsAnalysis p a → IsSkeleton p a s) where
+wordless : (p : Program) → fact_words (vertices p) ≡ 0
+wordless p = statements_wordless (vertices p) (from 0 p.statements)
+
+-- what is told of locations is told by the answer that passes it on
+pub above_locations : (p : Program) (r : Result Graph GraphFault) (f : GraphFault) → IsErrAnd r (λ e. e ≡ f)
+    → ((n : LimitName) → f ≡ Limit n → (n ≡ limit.Locations) × (4096 < length (location_list p)))
+    → IfErr r (λ e. (n : LimitName) → e ≡ Limit n → IsAboveGraphLimit p n)
+above_locations p (Ok g) f h told = absurd h
+above_locations p (Err e) f h told = λ n is.
+    let own = told n (sym h ∙ is) in
+    subst (IsAboveGraphLimit p) (sym own.0) (locations own.1)
+
+module _ (p : Program) (h : IsNumberedMain p) where
   analysed : IsAnalysis p main_analysis
   analysed = is_main_analysis p h.integer
 
-  skeleton : IsSkeleton p main_analysis s
-  skeleton = is main_analysis analysed
+  pub vertices_counted : (a : Analysis) → IsAnalysis p a → length (vertices_of p a) ≡ suc p.statements
+  vertices_counted a is = ap length (numbered_vertices p a h is) ∙ length-vertices p
 
-  same_vertices : vertices_of p main_analysis ≡ s.vertices
-  same_vertices = sym skeleton.vertices_are
+  pub no_words : (a : Analysis) → IsAnalysis p a → fact_words (vertices_of p a) ≡ 0
+  no_words a is = ap fact_words (numbered_vertices p a h is) ∙ wordless p
 
-  pub vertices_long : length s.vertices ≡ p.statements + 1
-  vertices_long = ap length (skeleton.vertices_are ∙ numbered_vertices p main_analysis h analysed) ∙ length-vertices p ∙ sym (add-one p.statements)
+  pub graph_counted : (g : Graph) → IsGraphOf p g → length g.vertices ≡ p.statements + 1
+  graph_counted g of_program =
+      let count = vertices_counted of_program.analysis of_program.is_analysis in
+      let same = ap length of_program.is_graph.vertices_are in
+      omega (arith, count, same)
 
-  pub even_rows : AreEvenRows s
-  even_rows = record {
-    defined_long = skeleton.defined_are.sized.rows_are ∙ ap length same_vertices;
-    used_long = skeleton.used_are.sized.rows_are ∙ ap length same_vertices;
-    killed_long = skeleton.killed_are.sized.rows_are ∙ ap length same_vertices;
-    used_wide = skeleton.used_are.sized.bits_are ∙ sym skeleton.defined_are.sized.bits_are;
-    killed_wide = skeleton.killed_are.sized.bits_are ∙ sym skeleton.defined_are.sized.bits_are;
-  }
+  -- a main within the limit on locations has few variables
+  pub few_variables : length (location_list p) ≤ 4096 → length p.vars + 2 < 4294967296
+  few_variables few =
+      let same : length (all_locations p) ≡ length p.vars + 2 = ap length (numbered_locations p h) ∙ length_main p in
+      let long : length (location_list p) ≡ length (all_locations p) = length-map (all_locations p) (λ (o : TypedLocation). o.location) in
+      omega (arith, same, long, few)
 
-  module _ (order : FlowGraph) (follows : (x : Pair) → Contains order.pairs x ↔ FollowsIn p s.vertices 0 x.from (Some x.to)) where
-    pub pairs_below : All (IsPairBelow (length s.vertices)) order.pairs
-    pairs_below = all_members (IsPairBelow (length s.vertices)) order.pairs (λ x c.
-        let low = follows_in_low p s.vertices 0 x.from (Some x.to) ((follows x).0 c) in
-        record { from_below = low.0; to_below = low.1 })
-
-    flow_same : (e : Edge) → IsRowFlow s order e ↔ IsFlowIn p main_analysis.points (vertices_of p main_analysis) 0 e
-    flow_same =
-        row_flow_is_flow p main_analysis s order 0 skeleton (subst (λ (vs : List Vertex). (x : Pair) → Contains order.pairs x ↔ FollowsIn p vs 0 x.from (Some x.to)) (sym same_vertices) follows) (main_listed p h main_analysis)
-
-    module _ (controls flows edges : List Edge) (control : (e : Edge) → Contains controls e ↔ IsControlIn p s.vertices 0 e) (flow : (e : Edge) → Contains flows e ↔ IsRowFlow s order e) (joined : edges ≡ controls ++ flows) where
-      control_same : (e : Edge) → IsControlIn p s.vertices 0 e ↔ IsControlIn p (vertices_of p main_analysis) 0 e
-      control_same e =
-          (subst (λ vs. IsControlIn p vs 0 e) (sym same_vertices), subst (λ vs. IsControlIn p vs 0 e) same_vertices)
-
-      found : (e : Edge) → Contains edges e → IsMainEdge p main_analysis e
-      found e c = elim (Contains-append_cases controls flows e (subst (λ es. Contains es e) joined c)) [
-        | inl x ↦ inl ((control_same e).0 ((control e).0 x))
-        | inr x ↦ inr ((flow_same e).0 ((flow e).0 x))
-      ]
-
-      back : (e : Edge) → IsMainEdge p main_analysis e → Contains edges e
-      back e (inl x) = subst (λ es. Contains es e) (sym joined) (Contains-append_left controls flows e ((control e).1 ((control_same e).1 x)))
-      back e (inr x) = subst (λ es. Contains es e) (sym joined) (Contains-append_right controls flows e ((flow e).1 ((flow_same e).1 x)))
-
-      plain_control : (e : Edge) → IsControlIn p (vertices_of p main_analysis) 0 e → e.label ≡ Control
-      plain_control e (nested c i labelled controls from to) = labelled
-      plain_control e (formal labelled from to) = labelled
-      plain_control e (actual i labelled from to) = labelled
-
-      plain_edge : (e : Edge) → IsMainEdge p main_analysis e → (e.label ≡ Control) ⊎ (e.label ≡ Flow)
-      plain_edge e (inl x) = inl (plain_control e x)
-      plain_edge e (inr x) = inr x.labelled
-
-      low_edge : (e : Edge) → IsMainEdge p main_analysis e → IsEdgeWithin (length (vertices_of p main_analysis)) e
-      low_edge e (inl x) = control_low p (vertices_of p main_analysis) 0 e x
-      low_edge e (inr x) = flow_low p (vertices_of p main_analysis) 0 main_analysis.points e x
-
-      pub has_edges : HasEdges p edges
-      has_edges = record {
+  -- what the skeleton of a main within the limits gives
+  pub has_skeleton : (s : Skeleton) → IsWellFormed p → length (location_list p) ≤ 4096 → p.statements ≤ 65535 → ((a : Analysis) → IsAnalysis p a → IsSkeleton p a s) → HasSkeleton p s
+  has_skeleton s well few_locations few is =
+      let same = (is main_analysis analysed).vertices_are in
+      let count : length s.vertices ≡ suc p.statements = ap length same ∙ vertices_counted main_analysis analysed in
+      let words : fact_words s.vertices ≡ 0 = ap fact_words same ∙ no_words main_analysis analysed in
+      record {
+        well_formed = well;
         analysis = main_analysis;
         is_analysis = analysed;
-        are_edges = numbered_edges p main_analysis edges h analysed (λ e. (found e, back e));
-        plain = record { plain = all_members (λ (e : Edge). (e.label ≡ Control) ⊎ (e.label ≡ Flow)) edges (λ e c. plain_edge e (found e c)) };
-        within = subst (λ n. All (IsEdgeWithin n) edges) (ap length same_vertices ∙ vertices_long) (all_members (IsEdgeWithin (length (vertices_of p main_analysis))) edges (λ e c. low_edge e (found e c)));
+        is_skeleton = is main_analysis analysed;
+        few_locations = few_locations;
+        few_vertices = omega (arith, count, few);
+        few_words = omega (arith, words);
       }
+
+  pub is_within : (g : Graph) → length (location_list p) ≤ 4096 → p.statements ≤ 65535 → IsGraphOf p g → IsWithinLimits p g
+  is_within g few_locations few of_program =
+      let same = of_program.is_graph.vertices_are in
+      let count : length g.vertices ≡ suc p.statements = ap length same ∙ vertices_counted of_program.analysis of_program.is_analysis in
+      let words : g.fact_words ≡ 0 = of_program.is_graph.rows_are.words_are ∙ ap fact_words same ∙ no_words of_program.analysis of_program.is_analysis in
+      record { few_locations = few_locations; few_vertices = omega (arith, count, few); few_words = omega (arith, words) }
+
+  -- more statements make more vertices than there may be
+  pub above_vertices : length (location_list p) ≤ 4096 → 65535 < p.statements → (n : LimitName) → n ≡ limit.Vertices → IsAboveGraphLimit p n
+  above_vertices few many n is =
+      let count = vertices_counted main_analysis analysed in
+      subst (IsAboveGraphLimit p) (sym is) (many_vertices few analysed (omega (arith, count, many)))
+
+  -- the graph of a main within the limits is above none
+  pub none_above : (g : Graph) → IsGraphOf p g → IsWithinLimits p g → (n : LimitName) → IsAboveGraphLimit p n → ⊥
+  none_above g of_program within n (locations many) = let few = within.few_locations in absurd (omega (arith, few, many))
+  none_above g of_program within n (many_vertices {a} few is many) =
+      let count = vertices_counted a is in
+      let here = ap length of_program.is_graph.vertices_are ∙ vertices_counted of_program.analysis of_program.is_analysis in
+      let small = within.few_vertices in
+      absurd (omega (arith, count, here, small, many))
+  none_above g of_program within n (many_words {a} few is small many) =
+      let words = no_words a is in absurd (omega (arith, words, many))

@@ -1,5 +1,5 @@
 -- What a slice keeps: the criterion's statements, and a set that can be projected.
-use Rattle.std.proofs.Common.{◌≡◌, ℕ, List, length, map, Bool, true, inl, inr, sym, ap, ◌∙◌, subst}
+use Rattle.std.proofs.Common.{◌≡◌, ℕ, List, Bool, true, inl, inr, sym, ap, ◌∙◌, subst}
 use Rattle.std.specs.Prelude.{Contains}
 use Rattle.std.proofs.lemmas.List.{length-map}
 use Rattle.c_tree.specs.declared.program.Program.{Program}

@@ -8,8 +8,9 @@ pub mod CriterionLaws
 pub mod HeaderLemmas
 pub mod HeaderLines
 pub mod KeptSets
-pub mod LowNumbers
+pub mod FirstMembers
 pub mod GraphLaws
+pub mod GraphQuantities
 pub mod EngineLaws
 pub mod SliceLaws
 pub mod OneSlice

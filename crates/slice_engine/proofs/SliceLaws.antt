@@ -6,7 +6,7 @@ use Rattle.std.proofs.lemmas.List.{get_or_past}
 use mathlib.Core.Path.{fun_ext}
 use Rattle.bit_rows.specs.Sets.{has}
 use Rattle.c_tree.specs.declared.program.Program.{Program}
-use Rattle.c_tree.specs.Numbered.{Starts, program_starts}
+use Rattle.c_tree.specs.Numbered.{Starts}
 use Rattle.c_language.specs.Words.{Bytes}
 use Rattle.std.proofs.lemmas.List.Sums.{count_by-le-length}
 use Rattle.c_language.specs.Tokens.{is_feed}
@@ -23,10 +23,11 @@ use Rattle.dep_model.specs.Criteria.{criterion_of}
 use Rattle.dep_model.specs.MainVertices.{vertices}
 use Rattle.dep_model.specs.NumberedMains.{IsNumberedMain}
 use Rattle.rule_closure.proofs.ListLemmas.{contains_head, contains_cons}
-use Rattle.dep_model.specs.declared.edge.Edge.{Edge}
+use Rattle.dep_model.specs.declared.facts.Facts.{Facts}
+use Rattle.dep_model.specs.declared.graph.Graph.{Graph}
 use Rattle.projection.specs.Kept.{rank}
 use Rattle.projection.specs.Projection.{projection}
-use Rattle.slice_engine.specs.Slice.{starts_on, keeps_statement, keeps, sliced, IsKeptSet, IsStartLine, header, IsSlice, is_criterion, IsAcceptedSlice, IsFaithful}
+use Rattle.slice_engine.specs.Slice.{starts_on, keeps_statement, keeps, sliced, IsStartLine, header, IsSlice, is_criterion, IsAcceptedSlice, IsFaithful}
 use Rattle.slice_engine.specs.Criterion.{with_starts, by_rank}
 use Rattle.slice_engine.specs.Header.{shown_lines}
 use Rattle.slice_engine.specs.Engine.{IsPrepared, KeepsFrom, AreMarks, IsSlicedAt}
@@ -51,20 +52,20 @@ marks_keep p x marks long each i = elim (cases_lt i p.statements) [
   | inr ge ↦ get_or_past marks i false (omega (arith, long, ge)) ∙ sym (kept_past p x i ge)
 ]
 
-pub are_marks : (p : Program) (edges : List Edge) (starts : Starts) (line : ℕ) (criterion kept in_criterion marks : List Bool) → IsPrepared p edges starts → criterion ≡ with_starts line starts (replicate (p.statements + 1) false) → KeepsFrom edges criterion kept → length in_criterion ≡ p.statements → ((k : ℕ) → k < p.statements → get_or in_criterion k false ≡ has criterion (k + 1)) → length marks ≡ p.statements → ((k : ℕ) → k < p.statements → get_or marks k false ≡ has kept (k + 1)) → AreMarks p line in_criterion marks
-are_marks p edges starts line criterion kept in_criterion marks g made keeps_from in_criterion_long in_criterion_are marks_long marks_are =
-    let a = g.has_edges.analysis in
-    let is = g.has_edges.is_analysis in
-    let below = numbers_are p g.numbered in
-    let same : criterion ≡ criterion_of (starts_on p line) (vertices p) = made ∙ ap (λ ss. with_starts line ss (replicate (p.statements + 1) false)) g.starts_are ∙ criterion_is p line below in
+pub are_marks : (p : Program) (g : Graph) (facts : Facts) (starts : Starts) (line : ℕ) (criterion kept in_criterion marks : List Bool) → IsPrepared p g facts starts → criterion ≡ with_starts line starts (replicate (p.statements + 1) false) → KeepsFrom p g criterion kept → length in_criterion ≡ p.statements → ((k : ℕ) → k < p.statements → get_or in_criterion k false ≡ has criterion (k + 1)) → length marks ≡ p.statements → ((k : ℕ) → k < p.statements → get_or marks k false ≡ has kept (k + 1)) → AreMarks p line in_criterion marks
+are_marks p g facts starts line criterion kept in_criterion marks ready made keeps_from in_criterion_long in_criterion_are marks_long marks_are =
+    let a = ready.is_graph.analysis in
+    let is = ready.is_graph.is_analysis in
+    let below = numbers_are p ready.numbered in
+    let same : criterion ≡ criterion_of (starts_on p line) (vertices p) = made ∙ ap (λ ss. with_starts line ss (replicate (p.statements + 1) false)) ready.starts_are ∙ criterion_is p line below in
     record {
       analysis = a;
       kept = kept;
-      is_kept = kept_set p a g.numbered is line edges criterion kept g.has_edges.are_edges same keeps_from;
+      is_kept = kept_set p a ready.numbered is line g criterion kept ready.is_graph.is_graph same keeps_from;
       in_criterion_long = in_criterion_long;
       marks_long = marks_long;
       in_criterion_are = λ i. marks_keep p criterion in_criterion in_criterion_long in_criterion_are i ∙ ap (λ x. keeps_statement (vertices p) x i) same ∙ criterion_members p line below i;
-      marks_are = λ i. marks_keep p kept marks marks_long marks_are i ∙ ap (λ (test : ℕ → Bool). test i) (sym (keeps_main p a kept g.numbered is));
+      marks_are = λ i. marks_keep p kept marks marks_long marks_are i ∙ ap (λ (test : ℕ → Bool). test i) (sym (keeps_main p a kept ready.numbered is));
     }
 
 pub criterion_long : (line v : ℕ) (starts : Starts) (x : List Bool) → x ≡ with_starts line starts (replicate v false) → length x ≡ v

@@ -1,37 +1,43 @@
 -- What an engine holds, and what its marks say of a line.
-use Rattle.std.specs.Prelude.{◌≡◌, ℕ, ◌+◌, ◌^◌, ◌<◌, List, Bool, true, false, length, All, slice_index_or}
+use Rattle.std.specs.Prelude.{◌≡◌, ℕ, ◌≤◌, List, Bool, true, false, length, slice_index_or}
 use Rattle.c_tree.specs.declared.program.Program.{Program}
 use Rattle.c_tree.specs.Numbered.{Starts, program_starts}
 use Rattle.c_language.specs.Programs.{IsWellFormed}
 use Rattle.dep_model.specs.NumberedMains.{IsNumberedMain}
-use Rattle.dep_model.specs.declared.edge.Edge.{Edge}
-use Rattle.dep_model.specs.SystemGraph.{Analysis, IsAnalysis, AreSystemEdges}
-use Rattle.dep_model.specs.Plain.{IsPlain, IsEdgeWithin}
-use Rattle.dep_model.specs.Completion.{IsCompletion, NamesNone}
+use Rattle.dep_model.specs.declared.facts.Facts.{Facts}
+use Rattle.dep_model.specs.declared.graph.Graph.{Graph}
+use Rattle.dep_model.specs.ClosedSets.{IsMainEntry}
+use Rattle.dep_model.specs.Completion.{IsCompletion}
+use Rattle.dep_model.specs.Facts.{AreTrueFacts}
+use Rattle.dep_model.specs.Graphs.{IsGraphOf}
+use Rattle.dep_model.specs.LocationLists.{location_list}
+use Rattle.dep_model.specs.NamedParameters.{NamesParameter}
+use Rattle.dep_model.specs.Shapes.{IsShaped}
+use Rattle.dep_model.specs.SystemGraph.{Analysis}
 use Rattle.projection.specs.Kept.{rank}
 use Rattle.slice_engine.specs.Slice.{starts_on, keeps, sliced, IsReached, IsKeptSet}
 
--- the edges of a program's system graph
-pub record HasEdges (p : Program) (edges : List Edge) : Type 0 where
-  pub analysis : Analysis
-  pub is_analysis : IsAnalysis p analysis
-  pub are_edges : AreSystemEdges p analysis edges
-  pub plain : IsPlain edges
-  pub within : All (IsEdgeWithin (p.statements + 1)) edges
+-- a program's locations and its graph are within the limits
+pub record IsWithinLimits (p : Program) (g : Graph) : Type 0 where
+  pub few_locations : length (location_list p) ≤ 4096
+  pub few_vertices : length g.vertices ≤ 65536
+  pub few_words : g.fact_words ≤ 262144
 
--- a well-formed program of main alone over integers with its edges and its statements' starts, small enough that its vertices have numbers of 32 bits
-pub record IsPrepared (p : Program) (edges : List Edge) (starts : Starts) : Type 0 where
+-- a well-formed program of main alone over integers with its graph, the true facts of this, and its statements' starts
+pub record IsPrepared (p : Program) (g : Graph) (facts : Facts) (starts : Starts) : Type 0 where
   pub well_formed : IsWellFormed p
   pub numbered : IsNumberedMain p
-  pub few : p.statements + 1 < 2 ^ 32
-  pub has_edges : HasEdges p edges
+  pub is_graph : IsGraphOf p g
+  pub within : IsWithinLimits p g
+  pub shaped : IsShaped g
+  pub facts_are : AreTrueFacts g facts.words
   pub starts_are : starts ≡ program_starts p
 
--- a set is the completion of what reaches another one, where no vertex names a parameter and the first one is the entry of main
-pub record KeepsFrom (edges : List Edge) (criterion kept : List Bool) : Type 0 where
+-- a set is the completion of what reaches another one, in the graph of a program
+pub record KeepsFrom (p : Program) (g : Graph) (criterion kept : List Bool) : Type 0 where
   pub reached : List Bool
-  pub is_reached : IsReached edges criterion reached
-  pub completes : IsCompletion edges NamesNone 0 reached kept
+  pub is_reached : IsReached g.edges criterion reached
+  pub completes : (main : ℕ) → IsMainEntry p g.vertices main → IsCompletion g.edges (NamesParameter p g.vertices) main reached kept
 
 -- for each statement whether it starts on the line, and whether the slice keeps it
 pub record AreMarks (p : Program) (line : ℕ) (in_criterion marks : List Bool) : Type 0 where

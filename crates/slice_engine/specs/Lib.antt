@@ -3,3 +3,4 @@ pub mod Header
 pub mod Slice
 pub mod Engine
 pub mod Laws
+pub mod GraphLimits

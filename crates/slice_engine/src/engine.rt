@@ -1,32 +1,30 @@
 //! The engine: a program with its dependence graph, which gives the slice's text at each criterion.
-ghost use Rattle.std.specs.Prelude.{◌≡◌, ◌⊎◌, ◌≤◌, ◌+◌, ◌<◌, ℕ, IfOk, IsTrue, ◌↔◌, MatchOption, None, length};
+ghost use Rattle.std.specs.Prelude.{◌≡◌, ◌⊎◌, ◌≤◌, ◌<◌, ℕ, IfOk, IsTrue, ◌↔◌, MatchOption, None, length};
+ghost use Rattle.std.specs.Result.{IfErr};
 ghost use Rattle.built_forms.specs.BuiltForms.{not_yet};
+ghost use Rattle.c_tree.specs.declared.limits.LimitName.{LimitName};
 ghost use Rattle.c_language.specs.Programs.{IsWellFormed};
 ghost use Rattle.c_language.specs.Layout.{layout};
-ghost use Rattle.slice_engine.specs.Criterion as marks;
+ghost use Rattle.dep_model.specs.declared.graph_fault.GraphFault.TheVariants.{Limit};
+ghost use Rattle.dep_model.specs.Graphs.{IsGraphOf};
+ghost use Rattle.slice_engine.specs.GraphLimits.{IsAboveGraphLimit};
 ghost use Rattle.slice_engine.specs.Slice.{HasStart, IsSlice, IsAcceptedSlice, IsFaithful};
 ghost use Rattle.slice_engine.specs.Engine.{IsPrepared, AreMarks, IsSlicedAt};
 
 use crate::criterion::{any_starts_on, by_rank, criterion_set, marks_of};
-use crate::graph::{edges_of, keep};
+use crate::graph::{graph_of, keep};
 use crate::header::{header, header_lines};
 use crate::starts::{last_line, starts_in};
 use c_print::{lines_of, print};
 use c_tree::numbered::Start;
 use c_tree::{Program, Text};
-use dep_model::Edge;
+use dep_model::{Facts, Graph, GraphFault};
 use projection::project;
 use std::alloc::{AllocError, Global};
 use std::marker::Model;
 
 // The most bytes that the layout of a slice may have, so that its lines have numbers of 32 bits.
 const MAX_LAYOUT_BYTES: usize = 4_294_967_296;
-
-// The most statements and variables that a program may have, so that vertices and locations have numbers of
-// 32 bits.
-const MAX_STATEMENTS: u32 = 4_294_967_293;
-
-const MAX_VARIABLES: usize = 4_294_967_293;
 
 /// What a slice is made for: the statements that start on a line, counted from 1.
 #[derive(Clone, Copy, Debug, PartialEq, Eq)]
@@ -40,7 +38,8 @@ pub struct Criterion {
 #[derive(Drop)]
 pub struct Engine {
     program: Program,
-    edges: Vec<Edge>,
+    graph: Graph,
+    facts: Facts,
     starts: Vec<Start>,
 }
 
@@ -56,37 +55,45 @@ impl Model for Engine {
 
     ghost view = { λ e. e.program };
 
-    ghost invariant = { λ e. IsPrepared e.program e.edges.items e.starts.items };
+    ghost invariant = { λ e. IsPrepared e.program e.graph e.facts e.starts.items };
 }
 
 impl Engine {
     /// The engine of a program of which nothing is outside the built forms, as [`not_yet`](crate::not_yet) tells:
     /// main alone over integers, with any control flow.
     ///
-    /// Err: no memory was left, or the program has more than 4,294,967,293 statements or variables, and so its
-    /// graph more vertices or locations than numbers can tell apart.
-    pub fn new(alloc: Global, p: Program) -> Result<Engine, AllocError>
+    /// Err: the program has more than 4,096 locations, or its graph more than 65,536 vertices or 262,144 words of
+    /// facts, of which the first is told; or no memory was left.
+    pub fn new(alloc: Global, p: Program) -> Result<Engine, GraphFault>
         requires well_formed { IsWellFormed p }
         requires built { not_yet p ≡ None }
-        ensures { IfOk result (λ e. e ≡ p) }
+        ensures program { IfOk result (λ e. e ≡ p) }
+        ensures within { IfOk result (λ e. (n : LimitName) → IsAboveGraphLimit p n → ⊥) }
+        ensures above { IfErr result (λ f. (n : LimitName) → f ≡ Limit n → IsAboveGraphLimit p n) }
     {
-        if is_too_large(&p) {
-            return Err(AllocError);
-        }
-        let edges = edges_of(alloc, &p)?;
+        let graph = graph_of(alloc, &p)?;
+        let facts = summary_edges::find(alloc, &graph)?;
         let starts = starts_in(alloc, &p)?;
         Ok(Engine {
             program: p,
-            edges,
+            graph,
+            facts,
             starts,
         })
+    }
+
+    /// The system dependence graph of the program.
+    pub fn graph(&self) -> &Graph
+        ensures { IsGraphOf self.now result.now }
+    {
+        &self.graph
     }
 
     /// The criterion of a line, or None exactly where no statement starts on it.
     pub fn criterion(&self, line: u32) -> Option<Criterion>
         ensures { MatchOption result (HasStart self.now line → ⊥) (λ c. (c.line ≡ line) × HasStart self.now line) }
     {
-        if has_start(&self.program, &self.edges, &self.starts, line) {
+        if has_start(&self.program, &self.graph, &self.facts, &self.starts, line) {
             Some(Criterion { line })
         } else {
             None
@@ -111,20 +118,20 @@ impl Engine {
         ensures slice { IfOk result (λ t. IsSlice self.now c.line t) }
         ensures faithful { IfOk result (λ t. IsFaithful self.now c.line t) }
     {
-        let text = text_of(alloc, &self.program, &self.edges, &self.starts, c.line)?;
+        let text = text_of(
+            alloc,
+            &self.program,
+            &self.graph,
+            &self.facts,
+            &self.starts,
+            c.line,
+        )?;
         Ok(text)
     }
 }
 
-// Whether a program has more statements or variables than its graph can number.
-fn is_too_large(p: &Program) -> bool
-    ensures { IsTrue result ↔ ((4294967293 < p.now.statements) ⊎ (4294967293 < length p.now.vars)) }
-{
-    p.statements > MAX_STATEMENTS || p.vars.len() > MAX_VARIABLES
-}
-
-fn has_start(p: &Program, edges: &[Edge], starts: &[Start], line: u32) -> bool
-    requires { IsPrepared p.now edges.now starts.now }
+fn has_start(p: &Program, graph: &Graph, facts: &Facts, starts: &[Start], line: u32) -> bool
+    requires { IsPrepared p.now graph.now facts.now starts.now }
     ensures { IsTrue result ↔ HasStart p.now line }
 {
     any_starts_on(starts, line)
@@ -140,17 +147,18 @@ struct Marks {
 fn marks_at(
     alloc: Global,
     p: &Program,
-    edges: &[Edge],
+    graph: &Graph,
+    facts: &Facts,
     starts: &[Start],
     line: u32,
 ) -> Result<Marks, AllocError>
-    requires { IsPrepared p.now edges.now starts.now }
+    requires { IsPrepared p.now graph.now facts.now starts.now }
     ensures { IfOk result (λ m. AreMarks p.now line m.in_criterion.items m.kept.items) }
 {
     let vertices = p.statements + 1;
     let mut set = criterion_set(alloc, starts, line, vertices)?;
     let in_criterion = marks_of(alloc, &set, p.statements)?;
-    keep(alloc, edges, vertices, &mut set)?;
+    keep(alloc, p, graph, facts, &mut set)?;
     let kept = marks_of(alloc, &set, p.statements)?;
     Ok(Marks { in_criterion, kept })
 }
@@ -165,14 +173,15 @@ struct Sliced {
 fn sliced_at(
     alloc: Global,
     p: &Program,
-    edges: &[Edge],
+    graph: &Graph,
+    facts: &Facts,
     starts: &[Start],
     line: u32,
 ) -> Result<Sliced, AllocError>
-    requires { IsPrepared p.now edges.now starts.now }
+    requires { IsPrepared p.now graph.now facts.now starts.now }
     ensures { IfOk result (λ s. IsSlicedAt p.now line s.program s.in_criterion.items) }
 {
-    let marks = marks_at(alloc, p, edges, starts, line)?;
+    let marks = marks_at(alloc, p, graph, facts, starts, line)?;
     let program = project(alloc, p, marks.kept.as_slice())?;
     let in_criterion = by_rank(alloc, marks.kept.as_slice(), marks.in_criterion.as_slice())?;
     Ok(Sliced {
@@ -185,15 +194,16 @@ fn sliced_at(
 fn text_of(
     alloc: Global,
     p: &Program,
-    edges: &[Edge],
+    graph: &Graph,
+    facts: &Facts,
     starts: &[Start],
     line: u32,
 ) -> Result<Text, AllocError>
-    requires { IsPrepared p.now edges.now starts.now }
+    requires { IsPrepared p.now graph.now facts.now starts.now }
     ensures slice { IfOk result (λ t. IsSlice p.now line t) }
     ensures read { IfOk result (λ t. IsAcceptedSlice p.now line t) }
 {
-    let sliced = sliced_at(alloc, p, edges, starts, line)?;
+    let sliced = sliced_at(alloc, p, graph, facts, starts, line)?;
     let layout = print(alloc, &sliced.program)?;
     if is_too_long(layout.bytes()) {
         return Err(AllocError);

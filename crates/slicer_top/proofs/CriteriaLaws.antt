@@ -3,16 +3,22 @@ use Rattle.std.proofs.Common.{◌≡◌, inl, inr, ℕ, ◌+◌, ◌<◌, ◌≤
 use Rattle.std.proofs.lemmas.Bool.{cases_lt}
 use Rattle.std.proofs.lemmas.List.{get_or_append_left, get_or_at, length_push}
 use Rattle.std.specs.Prelude.{All}
+use Rattle.c_tree.specs.declared.limits.LimitName.{LimitName}
 use Rattle.c_tree.specs.declared.program.Program.{Program}
 use Rattle.c_language.specs.Words.{Bytes}
+use Rattle.slice_engine.specs.GraphLimits.{IsAboveGraphLimit}
 use Rattle.slice_engine.specs.Slice.{HasStart, IsSlice, IsFaithful}
 use Rattle.slice_engine.specs.declared.engine.Criterion.{Criterion}
 use Rattle.slice_batch.specs.Batch.{AreTexts}
 use Rattle.slicer_top.specs.Criteria.{AreCriteria, IsCriteriaFault}
-use Rattle.slicer_top.specs.Slices.{AreSlices, HasBuilt, IsFirstWithout, line_at}
+use Rattle.slicer_top.specs.Slices.{AreSlices, HasBuilt, HasGraph, IsFirstWithout, line_at}
 use Rattle.slicer_top.specs.Reports.{IsAmong, IsReason}
 use Rattle.slicer_top.specs.declared.refusal.Refusal.{Refusal}
-use Rattle.slicer_top.specs.declared.refusal.Refusal.TheVariants.{Unreadable, TooLong, Lex, Parse, Check, NotYet, NoStart, TooMany, NoMemory}
+use Rattle.slicer_top.specs.declared.refusal.Refusal.TheVariants.{Unreadable, TooLong, Lex, Parse, Check, NotYet, NoStart, Graph, TooMany, NoMemory}
+
+-- an engine's program has a graph within the limits
+pub has_graph : (text : Bytes) (p e : Program) → e ≡ p → HasBuilt text p → ((name : LimitName) → IsAboveGraphLimit p name → ⊥) → HasGraph text e
+has_graph text p e same built within = subst (HasGraph text) (sym same) (record { reads = built.reads; built = built.built; within = within })
 
 -- the criteria of the first lines
 pub record AreFirst (p : Program) (lines : List ℕ) (many : ℕ) (found : List Criterion) : Type 0 where
@@ -56,7 +62,7 @@ module _ (p : Program) (lines : List ℕ) where
       record { few = few; place = many; within = lt; is_line = is; before = first.starts; none = none }
 
   -- why lines have no criteria, of a text's program
-  pub fault_shows : (text : Bytes) (refusal : Refusal) → HasBuilt text p → IsCriteriaFault p lines refusal → IsReason text lines refusal
+  pub fault_shows : (text : Bytes) (refusal : Refusal) → HasGraph text p → IsCriteriaFault p lines refusal → IsReason text lines refusal
   fault_shows text Unreadable built fault = absurd fault
   fault_shows text TooLong built fault = absurd fault
   fault_shows text (Lex f) built fault = absurd fault
@@ -64,6 +70,7 @@ module _ (p : Program) (lines : List ℕ) where
   fault_shows text (Check f) built fault = absurd fault
   fault_shows text (NotYet first) built fault = absurd fault
   fault_shows text (NoStart line) built fault = (p, built, fault)
+  fault_shows text (Graph name) built fault = absurd fault
   fault_shows text TooMany built fault = (p, built, fault)
   fault_shows text NoMemory built fault = tt
 
@@ -73,7 +80,7 @@ module _ (p : Program) (lines : List ℕ) where
       let within : i < length lines = omega (arith, lt, many) in
       subst (HasStart p) (sym (are.each i c within)) (are.starts i within)
 
-  pub are_slices : (text : Bytes) (found : List Criterion) (texts : List Bytes) → HasBuilt text p → AreCriteria p lines found → AreTexts p found texts → AreSlices text lines texts
+  pub are_slices : (text : Bytes) (found : List Criterion) (texts : List Bytes) → HasGraph text p → AreCriteria p lines found → AreTexts p found texts → AreSlices text lines texts
   are_slices text found texts built are made = record {
     program = p;
     built = built;
@@ -105,5 +112,6 @@ reason_among text lines (NoStart line) (p, built, first) =
     any_default [] k d e lt = absurd (omega (arith, lt))
     any_default (x ∷ xs) zero d e lt = refl
     any_default (x ∷ xs) (suc k) d e lt = any_default xs k d e (omega (arith, lt))
+reason_among text lines (Graph name) reason = tt
 reason_among text lines TooMany reason = tt
 reason_among text lines NoMemory reason = tt

@@ -7,18 +7,23 @@ use Rattle.c_language.specs.Words.{Bytes}
 use Rattle.c_lex.specs.declared.fault.LexFault.TheVariants as lex
 use Rattle.c_parse.specs.declared.parse_fault.ParseFault.TheVariants as parse
 use Rattle.c_types.specs.declared.rule_fault.RuleFault.TheVariants as rule
+use Rattle.c_tree.specs.declared.limits.LimitName.{LimitName}
+use Rattle.c_tree.specs.declared.program.Program.{Program}
+use Rattle.dep_model.specs.declared.graph_fault.GraphFault.{GraphFault}
+use Rattle.dep_model.specs.declared.graph_fault.GraphFault.TheVariants as graph
 use Rattle.c_reader.specs.Refusals.{IsRight}
 use Rattle.c_reader.specs.declared.refusal.ReadRefusal.{ReadRefusal}
 use Rattle.c_reader.specs.declared.refusal.ReadRefusal.TheVariants as read
+use Rattle.slice_engine.specs.GraphLimits.{IsAboveGraphLimit}
 use Rattle.slice_engine.specs.Slice.{HasStart}
 use Rattle.slicer_top.specs.declared.refusal.Refusal.{Refusal}
-use Rattle.slicer_top.specs.declared.refusal.Refusal.TheVariants.{Unreadable, TooLong, Lex, Parse, Check, NotYet, NoStart, TooMany, NoMemory}
+use Rattle.slicer_top.specs.declared.refusal.Refusal.TheVariants.{Unreadable, TooLong, Lex, Parse, Check, NotYet, NoStart, Graph, TooMany, NoMemory}
 use Rattle.slicer_top.specs.declared.status.Status.{Status}
 use Rattle.slicer_top.specs.declared.status.Status.TheVariants as status
 use Rattle.slicer_top.specs.Files.{HoldsText, OfFile}
-use Rattle.slicer_top.specs.Slices.{StartsSome, line_at}
+use Rattle.slicer_top.specs.Slices.{HasBuilt, StartsSome, line_at}
 use Rattle.slicer_top.specs.Statuses.{NoFault}
-use Rattle.slicer_top.specs.Refusals.{of_reading}
+use Rattle.slicer_top.specs.Refusals.{of_reading, of_graph}
 use Rattle.slicer_top.specs.Reports.{IsReason, IsCause, IsReported, status_of}
 use Rattle.slicer_top.proofs.ReaderLaws.{one_program, only_memory}
 
@@ -93,6 +98,7 @@ module _ (told : Told) (file : Bytes) (at : List ℕ) (f f' l l' : ℕ) where
   read_cause (Check rule.NoMemory) is cause = absurd (let e : status.NoMemory ≡ status.ReadFault = is in cc)
   read_cause (NotYet n) is cause = absurd (let e : status.Refused ≡ status.ReadFault = is in cc)
   read_cause (NoStart n) is cause = absurd (let e : status.Refused ≡ status.ReadFault = is in cc)
+  read_cause (Graph n) is cause = absurd (let e : status.Limit ≡ status.ReadFault = is in cc)
   read_cause TooMany is cause = absurd (let e : status.Limit ≡ status.ReadFault = is in cc)
   read_cause NoMemory is cause = absurd (let e : status.NoMemory ≡ status.ReadFault = is in cc)
 
@@ -112,6 +118,7 @@ module _ (told : Told) (file : Bytes) (at : List ℕ) (f f' l l' : ℕ) where
   long_cause (Check rule.NoMemory) is cause = absurd (let e : status.NoMemory ≡ status.TooLong = is in cc)
   long_cause (NotYet n) is cause = absurd (let e : status.Refused ≡ status.TooLong = is in cc)
   long_cause (NoStart n) is cause = absurd (let e : status.Refused ≡ status.TooLong = is in cc)
+  long_cause (Graph n) is cause = absurd (let e : status.Limit ≡ status.TooLong = is in cc)
   long_cause TooMany is cause = absurd (let e : status.Limit ≡ status.TooLong = is in cc)
   long_cause NoMemory is cause = absurd (let e : status.NoMemory ≡ status.TooLong = is in cc)
 
@@ -124,6 +131,7 @@ module _ (told : Told) (file : Bytes) (at : List ℕ) (f f' l l' : ℕ) where
   lacking_is (Check fault) cause lacks = absurd (of_file_lacks told file _ cause lacks)
   lacking_is (NotYet n) cause lacks = absurd (of_file_lacks told file _ cause lacks)
   lacking_is (NoStart n) cause lacks = absurd (of_file_lacks told file _ cause lacks)
+  lacking_is (Graph n) cause lacks = absurd (of_file_lacks told file _ cause lacks)
   lacking_is TooMany cause lacks = absurd (of_file_lacks told file _ cause lacks)
   lacking_is NoMemory cause lacks = inr refl
 
@@ -136,6 +144,7 @@ module _ (told : Told) (file : Bytes) (at : List ℕ) (f f' l l' : ℕ) where
   longer_is (Check fault) cause more = absurd (of_file_longer told file 1048576 _ cause more)
   longer_is (NotYet n) cause more = absurd (of_file_longer told file 1048576 _ cause more)
   longer_is (NoStart n) cause more = absurd (of_file_longer told file 1048576 _ cause more)
+  longer_is (Graph n) cause more = absurd (of_file_longer told file 1048576 _ cause more)
   longer_is TooMany cause more = absurd (of_file_longer told file 1048576 _ cause more)
   longer_is NoMemory cause more = inr (inl refl)
 
@@ -150,6 +159,7 @@ fault_or_reason told file at f f' l l' text (Parse fault) holds le cause = inr (
 fault_or_reason told file at f f' l l' text (Check fault) holds le cause = inr (of_file told file text _ holds cause).1
 fault_or_reason told file at f f' l l' text (NotYet first) holds le cause = inr (of_file told file text _ holds cause).1
 fault_or_reason told file at f f' l l' text (NoStart line) holds le cause = inr (of_file told file text _ holds cause).1
+fault_or_reason told file at f f' l l' text (Graph name) holds le cause = inr (of_file told file text _ holds cause).1
 fault_or_reason told file at f f' l l' text TooMany holds le cause = inr (of_file told file text _ holds cause).1
 fault_or_reason told file at f f' l l' text NoMemory holds le cause = inr tt
 
@@ -168,6 +178,8 @@ no_reason text at (NoStart line) starts (p, built, first) =
     let here = starts.starts first.place first.within in
     absurd (first.none (subst (HasStart p) (sym first.is_line)
     (subst (λ q. HasStart q (line_at at first.place)) (sym (one_program text p starts.program built.reads starts.built.reads)) here)))
+no_reason text at (Graph name) starts (p, built, above) =
+    absurd (starts.built.within name (subst (λ q. IsAboveGraphLimit q name) (one_program text p starts.program built.reads starts.built.reads) above))
 no_reason text at TooMany starts (p, built, many) = let few = starts.few in absurd (omega (arith, many, few))
 no_reason text at NoMemory starts reason = refl
 
@@ -184,6 +196,11 @@ reading_shows text at (read.Lex fault) is = is
 reading_shows text at (read.Parse fault) is = is
 reading_shows text at (read.Check fault) is = is
 reading_shows text at read.NoMemory is = is
+
+-- a fault of the graph of the text's program is one of the text
+pub graph_shows : (text : Bytes) (at : List ℕ) (p : Program) (fault : GraphFault) → HasBuilt text p → ((name : LimitName) → fault ≡ graph.Limit name → IsAboveGraphLimit p name) → IsReason text at (of_graph fault)
+graph_shows text at p (graph.Limit name) built above = (p, built, above name refl)
+graph_shows text at p graph.NoMemory built above = tt
 
 -- a refusal that is passed on
 pub passes_on : {A : Type 0} (P : Refusal → Type 0) (refusal : Refusal) (passed : Result A Refusal) → IsErrAnd passed (λ y. y ≡ refusal) → P refusal → IfErr passed P

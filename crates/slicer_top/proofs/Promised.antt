@@ -1,8 +1,8 @@
 -- What a call has promised, by the way that it went.
-use Rattle.std.proofs.Common.{◌≡◌, ◌≢◌, ◌⊎◌, inl, inr, ℕ, List, length, ◌≤◌, refl, sym, ap, subst, ◌∙◌}
-use Rattle.std.specs.Prelude.{Option, None, Some, IfSome, IsSome, unwrap_or, []}
+use Rattle.std.proofs.Common.{◌≡◌, ◌⊎◌, inl, inr, ℕ, List, length, ◌≤◌, refl, sym, ap, subst, ◌∙◌}
+use Rattle.std.specs.Prelude.{Option, None, Some, IfSome, unwrap_or, []}
 use Rattle.std.specs.Option.{option_map_or}
-use Rattle.edge_io.specs.Contents.{Told, Lacks, HoldsMoreThan}
+use Rattle.edge_io.specs.Contents.{Told, Lacks}
 use Rattle.edge_io.specs.Count.{Rose, one_more}
 use Rattle.edge_io.specs.Written.{Gains}
 use Rattle.c_language.specs.Words.{Bytes}
@@ -164,7 +164,7 @@ module _ (words : List Bytes) (shelf : ShelfSeen) (out err : SinkSeen) (answer :
         limits = λ e. absurd (subst IsLate e is_late);
         above = λ text name named above.
             let are = (of_file shelf.contents (file_of words) text _ named.holds made).1 in
-            absurd (above_lacks text (lines_of words) name above are.program are.built.reads are.few);
+            absurd (above_lacks text (lines_of words) name above are.program are.built are.few);
         names_limit = λ text name named above e. absurd (subst IsLate e is_late);
         done = λ e. elim wrote.ends [
           | inl all ↦ of_file_map shelf.contents (file_of words) _ _ (λ text found. (texts, found.1, all.gained)) made
@@ -229,6 +229,7 @@ module _ (words : List Bytes) (shelf : ShelfSeen) (out err : SinkSeen) (answer :
   own (refusal.Check (rule.Limit n)) = tt
   own (refusal.Check rule.NoMemory) = tt
   own (refusal.NotYet n) = tt
+  own (refusal.Graph n) = tt
   own refusal.TooMany = tt
   own (refusal.NoStart n) = tt
   own refusal.NoMemory = tt

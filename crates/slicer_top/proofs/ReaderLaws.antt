@@ -26,7 +26,9 @@ use Rattle.c_reader.specs.declared.refusal.ReadRefusal.{ReadRefusal}
 use Rattle.c_reader.specs.declared.refusal.ReadRefusal.TheVariants.{Lex, Parse, Check, NoMemory}
 use Rattle.c_reader.proofs.ReadLaws as laws
 use Rattle.c_reader.proofs.ReadLaws.{tree_of_program}
+use Rattle.slice_engine.specs.GraphLimits.{IsAboveGraphLimit, locations, vertices, words}
 use Rattle.slicer_top.specs.Limits.{IsAboveLimit}
+use Rattle.slicer_top.specs.Slices.{HasGraph}
 
 module _ (text : Bytes) where
   -- the tokens of a text are those of its tree
@@ -82,10 +84,19 @@ module _ (text : Bytes) where
     IsOfTree limit.Nesting = Unit {0}
     IsOfTree limit.ArrayLength = Unit {0}
     IsOfTree limit.ObjectCells = Unit {0}
-    IsOfTree limit.Locations = Unit {0}
-    IsOfTree limit.Vertices = Unit {0}
-    IsOfTree limit.FactWords = Unit {0}
+    IsOfTree limit.Locations = ⊥
+    IsOfTree limit.Vertices = ⊥
+    IsOfTree limit.FactWords = ⊥
     IsOfTree limit.Criteria = ⊥
+
+    of_graph_alone : (p : Program) (name : LimitName) → IsAboveGraphLimit p name → IsOfTree name → ⊥
+    of_graph_alone p limit.Nesting above of = elim above [ ]
+    of_graph_alone p limit.ArrayLength above of = elim above [ ]
+    of_graph_alone p limit.ObjectCells above of = elim above [ ]
+    of_graph_alone p limit.Criteria above of = elim above [ ]
+    of_graph_alone p limit.Locations (locations many) of = of
+    of_graph_alone p limit.Vertices (vertices few is many) of = of
+    of_graph_alone p limit.FactWords (words few is small many) of = of
 
     -- where such a one is above its number there is no program
     pub tree_lacks : (name : LimitName) → IsOfTree name → IsAboveLimit text lines name → (p : Program) → ReadsProgram text p → ⊥
@@ -103,12 +114,15 @@ module _ (text : Bytes) where
         let wide = ap object_cells e in
         let narrow = has.within.cells in
         omega (arith, wide, narrow, many)
+    tree_lacks name of (IsAboveLimit.graph {p = q} built many) p has = of_graph_alone q name many of
     tree_lacks name of (IsAboveLimit.criteria many) p has = absurd of
 
-    pub above_lacks : (name : LimitName) → IsAboveLimit text lines name → (p : Program) → ReadsProgram text p → length lines ≤ 64 → ⊥
-    above_lacks name (IsAboveLimit.nesting tree many) p has few = tree_lacks limit.Nesting tt (IsAboveLimit.nesting tree many) p has
-    above_lacks name (IsAboveLimit.length tree low made many) p has few = tree_lacks limit.ArrayLength tt (IsAboveLimit.length tree low made many) p has
-    above_lacks name (IsAboveLimit.cells tree low made short many) p has few = tree_lacks limit.ObjectCells tt (IsAboveLimit.cells tree low made short many) p has
+    pub above_lacks : (name : LimitName) → IsAboveLimit text lines name → (p : Program) → HasGraph text p → length lines ≤ 64 → ⊥
+    above_lacks name (IsAboveLimit.nesting tree many) p has few = tree_lacks limit.Nesting tt (IsAboveLimit.nesting tree many) p has.reads
+    above_lacks name (IsAboveLimit.length tree low made many) p has few = tree_lacks limit.ArrayLength tt (IsAboveLimit.length tree low made many) p has.reads
+    above_lacks name (IsAboveLimit.cells tree low made short many) p has few = tree_lacks limit.ObjectCells tt (IsAboveLimit.cells tree low made short many) p has.reads
+    above_lacks name (IsAboveLimit.graph {p = q} built many) p has few =
+        has.within name (subst (λ r. IsAboveGraphLimit r name) (one_program q p built.reads has.reads) many)
     above_lacks name (IsAboveLimit.criteria (q, built, many)) p has few = absurd (omega (arith, many, few))
 
     above_of : (raw : RawProgram) (name : LimitName) → ReadsTree text raw → program_nesting raw ≤ 100 → IsAbove raw name → IsAboveLimit text lines name

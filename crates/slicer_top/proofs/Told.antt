@@ -18,15 +18,18 @@ use Rattle.c_types.specs.declared.rule_fault.RuleFault.TheVariants as rule
 use Rattle.c_reader.specs.Reading.{ReadsTree}
 use Rattle.c_reader.specs.Refusals.{HasParseFault, IsNesting}
 use Rattle.c_reader.specs.declared.refusal.ReadRefusal.TheVariants as read
+use Rattle.c_tree.specs.declared.program.Program.{Program}
+use Rattle.slice_engine.specs.GraphLimits.{IsAboveGraphLimit}
+use Rattle.slice_engine.proofs.GraphQuantities.{one_graph_limit}
 use Rattle.slicer_top.specs.declared.refusal.Refusal.{Refusal}
-use Rattle.slicer_top.specs.declared.refusal.Refusal.TheVariants.{Unreadable, TooLong, Lex, Parse, Check, NotYet, NoStart, TooMany, NoMemory}
+use Rattle.slicer_top.specs.declared.refusal.Refusal.TheVariants.{Unreadable, TooLong, Lex, Parse, Check, NotYet, NoStart, Graph, TooMany, NoMemory}
 use Rattle.slicer_top.specs.declared.status.Status.{Status}
 use Rattle.slicer_top.specs.declared.status.Status.TheVariants as status
 use Rattle.slicer_top.specs.Files.{OfFile}
 use Rattle.slicer_top.specs.Limits.{IsAboveLimit, IsBelowLimits, IsDeep}
 use Rattle.slicer_top.specs.Lines as lines
 use Rattle.slicer_top.specs.Reports.{IsReason, IsShown, IsCause, IsReported, status_of, words_of}
-use Rattle.slicer_top.specs.Slices.{AsksTooMany}
+use Rattle.slicer_top.specs.Slices.{HasBuilt, AsksTooMany}
 use Rattle.slicer_top.specs.Statuses.{IsOrYieldsToFault}
 use Rattle.slicer_top.specs.Truths.{IsTrueOf, TellsTruth}
 use Rattle.slicer_top.proofs.Files.{of_file_map}
@@ -68,6 +71,7 @@ module _ (file text : Bytes) (at : List ℕ) where
   is_true (Check rule.NoMemory) of reason = absurd of
   is_true (NotYet first) of (p, has, outside) = IsTrueOf.not_yet first has outside
   is_true (NoStart line) of reason = IsTrueOf.no_start line reason
+  is_true (Graph name) of (p, built, above) = IsTrueOf.graph name built above
   is_true TooMany of reason = IsTrueOf.criteria (IsAboveLimit.criteria reason)
   is_true NoMemory of reason = absurd of
 
@@ -81,6 +85,7 @@ module _ (told : Told) (file : Bytes) (at : List ℕ) (f f' l l' : ℕ) where
   shown (Check fault) of cause = cause
   shown (NotYet first) of cause = cause
   shown (NoStart line) of cause = cause
+  shown (Graph name) of cause = cause
   shown TooMany of cause = cause
   shown NoMemory of cause = absurd of
 
@@ -134,6 +139,7 @@ refused_or_deep file text at (Check (rule.Limit name)) below reason = absurd (be
 refused_or_deep file text at (Check rule.NoMemory) below reason = inr (inl refl)
 refused_or_deep file text at (NotYet first) below reason = inl refl
 refused_or_deep file text at (NoStart line) below reason = inl refl
+refused_or_deep file text at (Graph name) below (p, built, above) = absurd (below name (IsAboveLimit.graph built above))
 refused_or_deep file text at TooMany below reason = absurd (below limit.Criteria (IsAboveLimit.criteria reason))
 refused_or_deep file text at NoMemory below reason = inr (inl refl)
 
@@ -156,6 +162,7 @@ module _ (file text : Bytes) (at : List ℕ) where
   nests (Check fault) reason raw tree many = absurd (only_nesting text (read.Check fault) reason raw tree many)
   nests (NotYet first) (p, has, outside) raw tree many = absurd (tree_lacks text at limit.Nesting tt (IsAboveLimit.nesting tree many) p has)
   nests (NoStart line) (p, built, none) raw tree many = absurd (tree_lacks text at limit.Nesting tt (IsAboveLimit.nesting tree many) p built.reads)
+  nests (Graph name) (p, built, above) raw tree many = absurd (tree_lacks text at limit.Nesting tt (IsAboveLimit.nesting tree many) p built.reads)
   nests TooMany (p, built, more) raw tree many = absurd (tree_lacks text at limit.Nesting tt (IsAboveLimit.nesting tree many) p built.reads)
   nests NoMemory reason raw tree many = inr refl
 
@@ -170,6 +177,7 @@ module _ (file text : Bytes) (at : List ℕ) where
   exceeds (Check fault) reason raw name tree few above of exceeded = told_limit name fault (above_is text raw name tree above fault reason)
   exceeds (NotYet first) (p, has, outside) raw name tree few above of exceeded = absurd (tree_lacks text at name of exceeded p has)
   exceeds (NoStart line) (p, built, none) raw name tree few above of exceeded = absurd (tree_lacks text at name of exceeded p built.reads)
+  exceeds (Graph other) (p, built, many) raw name tree few above of exceeded = absurd (tree_lacks text at name of exceeded p built.reads)
   exceeds TooMany (p, built, more) raw name tree few above of exceeded = absurd (tree_lacks text at name of exceeded p built.reads)
   exceeds NoMemory reason raw name tree few above of exceeded = inr refl
 
@@ -185,8 +193,29 @@ module _ (file text : Bytes) (at : List ℕ) where
       let none = built.built in
       absurd cc
   asks_more (NoStart line) (q, has, lacks) (p, built, more) = let few = lacks.few in absurd (omega (arith, more, few))
+  asks_more (Graph name) (q, has, above) (p, built, more) = absurd (built.within name (subst (λ r. IsAboveGraphLimit r name) (one_program text q p has.reads built.reads) above))
   asks_more TooMany reason many = inl (refl, refl)
   asks_more NoMemory reason many = inr refl
+
+  told_quantity : (p : Program) (name other : LimitName) → IsAboveGraphLimit p name → IsAboveGraphLimit p other → LimitOrMemory file name (Graph other)
+  told_quantity p name other above also = inl (refl, ap lines.limit (one_graph_limit p other name also above))
+
+  -- a graph with more than there may be
+  has_more : (refusal : Refusal) → IsReason text at refusal → (p : Program) (name : LimitName) → HasBuilt text p → IsAboveGraphLimit p name → LimitOrMemory file name refusal
+  has_more Unreadable reason p name built above = absurd reason
+  has_more TooLong reason p name built above = absurd reason
+  has_more (Lex fault) reason p name built above = absurd (only_memory text (read.Lex fault) reason p built.reads)
+  has_more (Parse fault) reason p name built above = absurd (only_memory text (read.Parse fault) reason p built.reads)
+  has_more (Check fault) reason p name built above = absurd (only_memory text (read.Check fault) reason p built.reads)
+  has_more (NotYet first) (q, has, outside) p name built above =
+      let same : q ≡ p = one_program text q p has built.reads in
+      let none = built.built in
+      absurd cc
+  has_more (NoStart line) (q, has, lacks) p name built above = absurd (has.within name (subst (λ r. IsAboveGraphLimit r name) (one_program text p q built.reads has.reads) above))
+  has_more (Graph other) (q, has, also) p name built above =
+      told_quantity p name other above (subst (λ r. IsAboveGraphLimit r other) (one_program text q p has.reads built.reads) also)
+  has_more TooMany (q, has, more) p name built above = absurd (has.within name (subst (λ r. IsAboveGraphLimit r name) (one_program text p q built.reads has.reads) above))
+  has_more NoMemory reason p name built above = inr refl
 
   limit_or_memory : (refusal : Refusal) (name : LimitName) → IsAboveLimit text at name → IsReason text at refusal → LimitOrMemory file name refusal
   limit_or_memory refusal name (IsAboveLimit.nesting {raw} tree many) reason = nests refusal reason raw tree many
@@ -194,6 +223,7 @@ module _ (file text : Bytes) (at : List ℕ) where
       exceeds refusal reason raw limit.ArrayLength tree few (IsAbove.lengths made many) tt (IsAboveLimit.length tree few made many)
   limit_or_memory refusal name (IsAboveLimit.cells {raw} tree few made short many) reason =
       exceeds refusal reason raw limit.ObjectCells tree few (IsAbove.cells made short many) tt (IsAboveLimit.cells tree few made short many)
+  limit_or_memory refusal name (IsAboveLimit.graph {p} built above) reason = has_more refusal reason p name built above
   limit_or_memory refusal name (IsAboveLimit.criteria many) reason = asks_more refusal reason many
 
 -- ---- how such a text ends

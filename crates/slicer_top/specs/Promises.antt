@@ -1,5 +1,5 @@
 -- What a call of the slicer promises, over its words, what shelf, out and err tell before it and after it, and its status.
-use Rattle.std.specs.Prelude.{◌≡◌, ◌≢◌, ◌⊎◌, ℕ, List, Option, None, IsSome, IfSome, unwrap_or, length, ◌≤◌}
+use Rattle.std.specs.Prelude.{◌≡◌, ◌≢◌, ◌⊎◌, ℕ, List, Option, None, IsSome, IfSome, unwrap_or, length}
 use Rattle.edge_io.specs.Contents.{Told, Lacks, HoldsMoreThan}
 use Rattle.edge_io.specs.Count.{Rose, one_more}
 use Rattle.edge_io.specs.Written.{Gains}

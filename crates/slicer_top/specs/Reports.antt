@@ -16,11 +16,12 @@ use Rattle.c_reader.specs.Reading.{ReadsProgram}
 use Rattle.c_reader.specs.Refusals.{IsLexFault, HasParseFault, HasRuleFault}
 use Rattle.built_forms.specs.BuiltForms as forms
 use Rattle.slicer_top.specs.declared.refusal.Refusal.{Refusal}
-use Rattle.slicer_top.specs.declared.refusal.Refusal.TheVariants.{Unreadable, TooLong, Lex, Parse, Check, NotYet, NoStart, TooMany, NoMemory}
+use Rattle.slicer_top.specs.declared.refusal.Refusal.TheVariants.{Unreadable, TooLong, Lex, Parse, Check, NotYet, NoStart, Graph, TooMany, NoMemory}
 use Rattle.slicer_top.specs.declared.status.Status.{Status}
 use Rattle.slicer_top.specs.declared.status.Status.TheVariants as status
 use Rattle.slicer_top.specs.Files.{OfFile}
-use Rattle.slicer_top.specs.Slices.{LacksStart, AsksTooMany}
+use Rattle.slice_engine.specs.GraphLimits.{IsAboveGraphLimit}
+use Rattle.slicer_top.specs.Slices.{HasBuilt, LacksStart, AsksTooMany}
 use Rattle.slicer_top.specs.Lines as line
 
 -- the text shows the refusal, where its statements on these lines were asked for
@@ -32,6 +33,7 @@ IsReason text at (Parse fault) = HasParseFault text fault
 IsReason text at (Check fault) = HasRuleFault text fault
 IsReason text at (NotYet first) = (p : Program) × ReadsProgram text p × (forms.not_yet p ≡ Some first)
 IsReason text at (NoStart line) = LacksStart text at line
+IsReason text at (Graph name) = (p : Program) × HasBuilt text p × IsAboveGraphLimit p name
 IsReason text at TooMany = AsksTooMany text at
 IsReason text at NoMemory = Unit {0}
 
@@ -49,6 +51,7 @@ module _ (told : Told) (file : Bytes) (at : List ℕ) (faults faults' long_files
   IsCause (Check fault) = IsShown told file at (Check fault)
   IsCause (NotYet first) = IsShown told file at (NotYet first)
   IsCause (NoStart line) = IsShown told file at (NoStart line)
+  IsCause (Graph name) = IsShown told file at (Graph name)
   IsCause TooMany = IsShown told file at TooMany
   IsCause NoMemory = Unit {0}
 
@@ -61,6 +64,7 @@ IsAmong lines (Lex fault) = Unit {0}
 IsAmong lines (Parse fault) = Unit {0}
 IsAmong lines (Check fault) = Unit {0}
 IsAmong lines (NotYet first) = Unit {0}
+IsAmong lines (Graph name) = Unit {0}
 IsAmong lines TooMany = Unit {0}
 IsAmong lines NoMemory = Unit {0}
 
@@ -90,6 +94,7 @@ status_of (Parse fault) = parse_status fault
 status_of (Check fault) = rule_status fault
 status_of (NotYet first) = status.Refused
 status_of (NoStart line) = status.Refused
+status_of (Graph name) = status.Limit
 status_of TooMany = status.Limit
 status_of NoMemory = status.NoMemory
 
@@ -119,6 +124,7 @@ words_of file (Parse fault) = parse_line fault
 words_of file (Check fault) = rule_line fault
 words_of file (NotYet first) = line.not_yet first
 words_of file (NoStart at) = line.no_start at
+words_of file (Graph name) = line.limit name
 words_of file TooMany = line.limit limit.Criteria
 words_of file NoMemory = line.out_of_memory
 

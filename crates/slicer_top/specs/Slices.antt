@@ -1,16 +1,24 @@
 -- What a text and lines of it have to do with each other, and with the texts that are written for them.
 use Rattle.std.specs.Prelude.{◌≡◌, ℕ, ◌<◌, ◌≤◌, List, [], ◌∷◌, ◌++◌, length, take, Option, None, slice_index_or}
 use Rattle.edge_io.specs.Written.{Gains}
+use Rattle.c_tree.specs.declared.limits.LimitName.{LimitName}
 use Rattle.c_tree.specs.declared.program.Program.{Program}
 use Rattle.c_language.specs.Words.{Bytes}
 use Rattle.built_forms.specs.BuiltForms.{not_yet}
 use Rattle.c_reader.specs.Reading.{ReadsProgram}
+use Rattle.slice_engine.specs.GraphLimits.{IsAboveGraphLimit}
 use Rattle.slice_engine.specs.Slice.{HasStart, IsSlice, IsFaithful}
 
 -- the text is accepted and within the limits, and this is its program, of which nothing is outside the built forms
 pub record HasBuilt (text : Bytes) (p : Program) : Type 0 where
   pub reads : ReadsProgram text p
   pub built : not_yet p ≡ None
+
+-- and its graph is within the limits
+pub record HasGraph (text : Bytes) (p : Program) : Type 0 where
+  pub reads : ReadsProgram text p
+  pub built : not_yet p ≡ None
+  pub within : (name : LimitName) → IsAboveGraphLimit p name → ⊥
 
 abbrev pub line_at : List ℕ → ℕ → ℕ
 line_at lines i = slice_index_or lines i 0
@@ -28,24 +36,24 @@ pub record IsFirstWithout (p : Program) (lines : List ℕ) (line : ℕ) : Type 0
   pub before : (i : ℕ) → i < place → HasStart p (line_at lines i)
   pub none : HasStart p line → ⊥
 
--- the text has such a program, and so it is of a line
+-- the text has a program with a graph within the limits, and so it is of a line
 abbrev pub LacksStart : Bytes → List ℕ → ℕ → Type 0
-LacksStart text lines line = (p : Program) × HasBuilt text p × IsFirstWithout p lines line
+LacksStart text lines line = (p : Program) × HasGraph text p × IsFirstWithout p lines line
 
 -- the text has such a program, and more than 64 lines were asked for
 abbrev pub AsksTooMany : Bytes → List ℕ → Type 0
-AsksTooMany text lines = (p : Program) × HasBuilt text p × (64 < length lines)
+AsksTooMany text lines = (p : Program) × HasGraph text p × (64 < length lines)
 
 -- the text has such a program, and on each of the lines, which are at most 64, starts a statement of it
 pub record StartsSome (text : Bytes) (lines : List ℕ) : Type 0 where
   pub program : Program
-  pub built : HasBuilt text program
+  pub built : HasGraph text program
   pub few : length lines ≤ 64
   pub starts : StartOn program lines
 
 -- the text has no such program, or on one of the lines starts no statement of it
 abbrev pub StartsNone : Bytes → List ℕ → Type 0
-StartsNone text lines = (p : Program) → HasBuilt text p → StartOn p lines → ⊥
+StartsNone text lines = (p : Program) → HasGraph text p → StartOn p lines → ⊥
 
 -- what is written is the slice of a program at a line, on which a statement starts; it is a text again and gives the same values
 pub record IsSliceAt (p : Program) (line : ℕ) (written : Bytes) : Type 0 where
@@ -56,7 +64,7 @@ pub record IsSliceAt (p : Program) (line : ℕ) (written : Bytes) : Type 0 where
 -- it is the slice of the text's program
 pub record IsSliceOf (text : Bytes) (line : ℕ) (written : Bytes) : Type 0 where
   pub program : Program
-  pub built : HasBuilt text program
+  pub built : HasGraph text program
   pub is : IsSliceAt program line written
 
 abbrev pub text_at : List Bytes → ℕ → Bytes
@@ -65,7 +73,7 @@ text_at texts i = slice_index_or texts i []
 -- the texts are the slices of the text's program at the lines, in their order; the lines are at most 64
 pub record AreSlices (text : Bytes) (lines : List ℕ) (texts : List Bytes) : Type 0 where
   pub program : Program
-  pub built : HasBuilt text program
+  pub built : HasGraph text program
   pub few : length lines ≤ 64
   pub as_many : length texts ≡ length lines
   pub each : (i : ℕ) → i < length lines → IsSliceAt program (line_at lines i) (text_at texts i)

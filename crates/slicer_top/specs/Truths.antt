@@ -1,6 +1,7 @@
 -- What the lines of a refusal and of a limit say of the text.
 use Rattle.std.specs.Prelude.{◌≡◌, ℕ, List, Option, Some}
 use Rattle.edge_io.specs.Written.{Gains}
+use Rattle.c_tree.specs.declared.limits.LimitName.{LimitName}
 use Rattle.c_tree.specs.declared.limits.LimitName.TheVariants as limit
 use Rattle.c_tree.specs.declared.program.Program.{Program}
 use Rattle.c_language.specs.Words.{Bytes}
@@ -10,9 +11,10 @@ use Rattle.c_types.specs.declared.rule_fault.RuleFault.TheVariants as fault
 use Rattle.c_reader.specs.Reading.{ReadsProgram}
 use Rattle.c_reader.specs.Refusals.{IsLexFault, HasParseFault, HasRuleFault}
 use Rattle.built_forms.specs.BuiltForms as forms
+use Rattle.slice_engine.specs.GraphLimits.{IsAboveGraphLimit}
 use Rattle.slicer_top.specs.Limits.{CanBeDeep, IsAboveLimit}
 use Rattle.slicer_top.specs.Lines as line
-use Rattle.slicer_top.specs.Slices.{LacksStart}
+use Rattle.slicer_top.specs.Slices.{HasBuilt, LacksStart}
 use Rattle.slicer_top.specs.declared.status.Status.{Status}
 use Rattle.slicer_top.specs.declared.status.Status.TheVariants.{Refused, Limit}
 
@@ -38,6 +40,7 @@ pub data IsTrueOf (text : Bytes) (asked : List ℕ) : Status → Bytes → Type 
   -- the quantity is above its number
   length : IsAboveLimit text asked limit.ArrayLength → IsTrueOf text asked Limit (line.limit limit.ArrayLength)
   cells : IsAboveLimit text asked limit.ObjectCells → IsTrueOf text asked Limit (line.limit limit.ObjectCells)
+  graph : {p : Program} (name : LimitName) → HasBuilt text p → IsAboveGraphLimit p name → IsTrueOf text asked Limit (line.limit name)
   criteria : IsAboveLimit text asked limit.Criteria → IsTrueOf text asked Limit (line.limit limit.Criteria)
 
 -- err has gained a line of the status that is true of the text

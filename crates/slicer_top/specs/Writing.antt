@@ -1,5 +1,5 @@
 -- What comes of putting texts on out.
-use Rattle.std.specs.Prelude.{◌≡◌, ◌⊎◌, ℕ, List, length}
+use Rattle.std.specs.Prelude.{◌≡◌, ◌⊎◌, List, length}
 use Rattle.edge_io.specs.Count.{Rose}
 use Rattle.edge_io.specs.Written.{Gains}
 use Rattle.c_language.specs.Words.{Bytes}

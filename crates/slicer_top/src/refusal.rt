@@ -1,10 +1,10 @@
-//! Why a file gives no slices, with the faults of fetching and reading as causes.
+//! Why a file gives no slices, with the faults of fetching, of reading and of the graph as causes.
 ghost use Rattle.std.specs.Prelude.{◌≡◌};
 ghost use Rattle.slicer_top.specs.declared.refusal.Refusal.TheVariants.{NoMemory};
-ghost use Rattle.slicer_top.specs.Refusals.{of_fetch, of_reading};
+ghost use Rattle.slicer_top.specs.Refusals.{of_fetch, of_graph, of_reading};
 
 use edge_io::FetchFault;
-use slice_engine::{LexFault, ParseFault, ReadRefusal, RuleFault};
+use slice_engine::{GraphFault, LexFault, LimitName, ParseFault, ReadRefusal, RuleFault};
 use std::alloc::AllocError;
 
 /// Why a file gives no slices at lines. No inner fault is `NoMemory`.
@@ -22,6 +22,8 @@ pub(crate) enum Refusal {
     Check(RuleFault),
     /// What stands first outside the built forms stands at this line.
     NotYet(u32),
+    /// This quantity of the program's graph is above its number.
+    Graph(LimitName),
     /// More lines are asked for than 64.
     TooMany,
     /// No statement starts on this line, and one starts on each line that was asked for before it.
@@ -59,6 +61,17 @@ impl From<ReadRefusal> for Refusal {
             ReadRefusal::Parse(fault) => Refusal::Parse(fault),
             ReadRefusal::Check(fault) => Refusal::Check(fault),
             ReadRefusal::NoMemory => Refusal::NoMemory,
+        }
+    }
+}
+
+impl From<GraphFault> for Refusal {
+    ghost from_gives = { λ fault refusal. refusal ≡ of_graph fault };
+
+    fn from(fault: GraphFault) -> Refusal {
+        match fault {
+            GraphFault::Limit(name) => Refusal::Graph(name),
+            GraphFault::NoMemory => Refusal::NoMemory,
         }
     }
 }

@@ -1,6 +1,17 @@
+use Rattle.std.proofs.Common.{sym, ap, ◌∙◌, subst}
+use Rattle.std.proofs.lemmas.List.Elements.{Contains-get_or}
+use Rattle.two_pass.specs.Ready.{PassGraph, HasMembers}
+use Rattle.slice_engine.proofs.FirstMembers.{members_inside}
 use Rattle.slice_engine.proofs.KeptSets.{keeps_from}
 use Rattle.slice_engine.proofs.graph.keep.Goals as goal
 
+pub reach-requires-clause-inside : goal.reach-requires-clause-inside
+reach-requires-clause-inside c = λ k d low.
+    let numbers = c.as_slice.result.now in
+    let members = subst (λ xs. HasMembers xs c.args.set.now) (sym c.as_slice.ensures.value) c.in_ok-from.ensures in
+    members_inside c.args.set.now numbers c.in_ok-passes.passes.size members (c.requires.size ∙ sym (ap (λ (s : PassGraph). s.size) c.in_ok-passes.ensures)) _ (Contains-get_or numbers k d low)
+
 pub returns-clause-kept : goal.returns-clause-kept
 returns-clause-kept c =
-    keeps_from c.args.edges.now c.in_ok-graph.graph c.reach.new.self c.args.vertices c.args.set.now c.reach.new.set c.complete.new.set c.in_ok-graph.ensures c.reach.ensures.kept c.reach.ensures.exact c.reach.ensures.size c.complete.ensures.exact
+    let members = subst (λ xs. HasMembers xs c.args.set.now) (sym c.as_slice.ensures.value) c.in_ok-from.ensures in
+    keeps_from c.args.p.now c.args.g.now c.in_ok-passes.passes c.in_ok-closer.closer c.as_slice.result.now c.args.set.now c.reach.new.into c.close_up.new.set c.in_ok-passes.ensures members c.reach.ensures.exact c.reach.ensures.size c.in_ok-closer.ensures c.close_up.ensures.completes

@@ -1,4 +1,4 @@
-use Rattle.std.proofs.Common.{◌≡◌, refl, sym, ap, subst, ◌∙◌}
+use Rattle.std.proofs.Common.{◌≡◌, refl, ◌∙◌}
 use Rattle.call_words.specs.Requests.{file_of, lines_of}
 use Rattle.slicer_top.proofs.Promised.{file_is, lines_are, memory_promised, refused_for, usage_promised, written_for}
 use Rattle.slicer_top.proofs.run.run_slicer.Goals as goal

@@ -1,7 +1,6 @@
-use Rattle.std.proofs.Common.{◌≡◌, inl, inr, refl, sym, ap, subst, ◌∙◌, arith, length, drop, ◌+◌}
+use Rattle.std.proofs.Common.{inl, inr, refl, ap, subst, ◌∙◌, arith}
 use Rattle.std.proofs.lemmas.Bool.{false≢true}
 use Rattle.slicer_top.specs.Lines.{PutOrCutOff, cannot_write}
-use Rattle.slicer_top.specs.Slices.{joined}
 use Rattle.slicer_top.proofs.Puts.{fault_told, gains_all, gains_front, gains_next, rose_later, takes_next}
 use Rattle.slicer_top.proofs.run.write_texts.Goals as goal
 

@@ -1,16 +1,27 @@
-use Rattle.std.proofs.Common.{length, arith}
 use Rattle.numbered_texts.proofs.BuiltMains.{built_numbered}
-use Rattle.slice_engine.proofs.EngineLaws.{few_enough}
+use Rattle.shaped_graphs.proofs.ShapedGraphs.{graphs_are_shaped}
+use Rattle.slice_engine.proofs.GraphLaws.{none_above}
 use Rattle.slice_engine.proofs.engine.Engine.new.Goals as goal
 
-pub edges_of-requires-clause-numbered : goal.edges_of-requires-clause-numbered
-edges_of-requires-clause-numbered c = built_numbered c.args.p c.requires.well_formed c.requires.built
+pub graph_of-requires-clause-numbered : goal.graph_of-requires-clause-numbered
+graph_of-requires-clause-numbered c = built_numbered c.args.p c.requires.well_formed c.requires.built
+
+pub find-requires : goal.find-requires
+find-requires c = record {
+  shaped = graphs_are_shaped c.args.p c.in_ok-graph.graph c.requires.well_formed c.in_ok-graph.ensures.graph c.in_ok-graph.ensures.within.few_vertices c.in_ok-graph.ensures.within.few_words;
+}
 
 pub invariant_of-result : goal.invariant_of-result
 invariant_of-result c = record {
   well_formed = c.requires.well_formed;
   numbered = built_numbered c.args.p c.requires.well_formed c.requires.built;
-  few = omega (arith, (few_enough c.args.p.statements (length c.args.p.vars) c.is_too_large.result c.is_too_large.ensures c.if-is_too_large.false).0);
-  has_edges = c.in_ok-edges.ensures;
+  is_graph = c.in_ok-graph.ensures.graph;
+  within = c.in_ok-graph.ensures.within;
+  shaped = graphs_are_shaped c.args.p c.in_ok-graph.graph c.requires.well_formed c.in_ok-graph.ensures.graph c.in_ok-graph.ensures.within.few_vertices c.in_ok-graph.ensures.within.few_words;
+  facts_are = c.in_ok-facts.ensures.exact;
   starts_are = c.in_ok-starts.ensures;
 }
+
+pub returns-clause-within : goal.returns-clause-within
+returns-clause-within c =
+    none_above c.args.p (built_numbered c.args.p c.requires.well_formed c.requires.built) c.in_ok-graph.graph c.in_ok-graph.ensures.graph c.in_ok-graph.ensures.within
