@@ -1,7 +1,7 @@
 -- The completion is one, it is what its closures derive, and rules give it.
-use Rattle.std.proofs.Common.{◌≡◌, ℕ, ◌<◌, ◌↔◌, inl, inr, Bool, true, List, [], ◌∷◌, ◌++◌, length, set, map, Contains, All, refl, sym, ap, ◌∙◌, subst}
-use Rattle.std.proofs.lemmas.List.{length-set, append-nil}
-use Rattle.std.proofs.lemmas.List.Elements.{Contains-append_left, Contains-append_right, Contains-append_cases, All-map, All-weaker}
+use Rattle.std.proofs.Common.{◌≡◌, ℕ, ◌<◌, ◌↔◌, inl, inr, Bool, true, List, ◌++◌, length, set, map, Contains, All, refl, sym, ◌∙◌, subst}
+use Rattle.std.proofs.lemmas.List.{length-set}
+use Rattle.std.proofs.lemmas.List.Elements.{Contains-append_left, Contains-append_right, Contains-append_cases}
 use Rattle.std.specs.Prelude.{IsTrue}
 use Rattle.bit_rows.specs.Sets.{has, IsSubset}
 use Rattle.dep_model.specs.declared.edge.Edge.{Edge}
@@ -9,13 +9,11 @@ use Rattle.dep_model.specs.declared.edge.Label.{Label}
 use Rattle.dep_model.specs.declared.edge.Label.TheVariants.{Control, Flow, Call, In, Out}
 use Rattle.rule_closure.specs.declared.closure.Rule.{Rule}
 use Rattle.rule_closure.specs.Rules.{Derived, IsRuleWithin}
-use Rattle.dep_model.specs.Plain.{back, IsPlain, IsEdgeWithin}
 use Rattle.rule_closure.specs.Rules as rules_
-use Rattle.dep_model.specs.Completion.{IsClosed, IsCompletion, Completed, seed, control, flow, formal_out, callee, actual_in, parameter, entry, NamesNone}
-use Rattle.rule_closure.proofs.ListLemmas.{contains_none, contains_head, contains_cons, contains_map, map_contains}
+use Rattle.dep_model.specs.Completion.{IsClosed, IsCompletion, Completed, seed, control, flow, formal_out, callee, actual_in, parameter, entry}
+use Rattle.rule_closure.proofs.ListLemmas.{contains_map, map_contains}
 use Rattle.rule_closure.proofs.SetLemmas.{has_in_range, has_set, has_set_same, has_set_cases, same_members}
 use Rattle.rule_closure.proofs.RuleLemmas.{derived_set}
-use Rattle.dep_model.proofs.WordLemmas.{plain_label}
 
 module _ (edges : List Edge) (Names : ℕ → ℕ → Type 0) (main : ℕ) where
   -- ---- the completion is one
@@ -58,18 +56,6 @@ module _ (edges : List Edge) (Names : ℕ → ℕ → Type 0) (main : ℕ) where
     closed = closed_from_completed x k exact;
     least = λ t l holds closed v h. let e = exact v in completed_least x t holds closed (e.0 h);
   }
-
-closed_by_names : (edges : List Edge) (Names Others : ℕ → ℕ → Type 0) (main : ℕ) (s : List Bool) → ((v u : ℕ) → Others v u → Names v u) → IsClosed edges Names main s → IsClosed edges Others main s
-closed_by_names edges Names Others main s fewer c = record { controls = c.controls; flows = c.flows; formal_outs = c.formal_outs; callees = c.callees; actual_ins = c.actual_ins; parameters = λ v u n. c.parameters v u (fewer v u n); entry = c.entry }
-
--- the names matter only by what they name
-pub completion_by_names : (edges : List Edge) (Names Others : ℕ → ℕ → Type 0) (main : ℕ) (x k : List Bool) → ((v u : ℕ) → Names v u ↔ Others v u) → IsCompletion edges Names main x k → IsCompletion edges Others main x k
-completion_by_names edges Names Others main x k same c = record {
-  size = c.size;
-  holds = c.holds;
-  closed = closed_by_names edges Names Others main k (λ v u n. let e = same v u in e.1 n) c.closed;
-  least = λ t l holds closed. c.least t l holds (closed_by_names edges Others Names main t (λ v u n. let e = same v u in e.0 n) closed);
-}
 
 -- ---- the completion by rules
 
@@ -152,50 +138,3 @@ module _ (edges : List Edge) (Names : ℕ → ℕ → Type 0) (main : ℕ) (name
       let same = completion_unique edges Names main x d.members k own c in
       let e = d.exact v in
       subst (λ m. IsTrue (has m v) ↔ Completed edges Names main x v) same (λ h. completed_from_derived x (e.0 h), λ h. e.1 (derived_from_completed x low h))
-
--- ---- plain graphs
-
--- each rule of a plain graph goes back along an edge
-pub plain_rules : (edges all : List Edge) → ((e : Edge) → Contains edges e → Contains all e) → IsPlain all → map rule_of edges ≡ map back edges
-plain_rules [] all each p = refl
-plain_rules (e ∷ es) all each p =
-    let here : rule_of e ≡ back e = elim (plain_label all e p (each e (contains_head e es))) [
-      | inl q ↦ ap (λ l. rule_at e.from e.to l) q
-      | inr q ↦ ap (λ l. rule_at e.from e.to l) q
-    ] in
-    ap (λ r. r ∷ map rule_of es) here ∙ ap (λ rs. back e ∷ rs) (plain_rules es all (λ x m. each x (contains_cons e es x m)) p)
-
--- where nothing is named, no rule is needed
-pub are_names_none : (Names : ℕ → ℕ → Type 0) → ((v u : ℕ) → Names v u → ⊥) → AreNames Names []
-are_names_none Names none = record { all = λ v u n. absurd (none v u n); only = λ r m. absurd (contains_none r m) }
-
--- rules that go back along edges are within the same bound
-pub back_within : (n : ℕ) (edges : List Edge) → All (IsEdgeWithin n) edges → All (IsRuleWithin n) (map back edges)
-back_within n edges ends = All-map (IsRuleWithin n) back edges (All-weaker (IsEdgeWithin n) (λ e. IsRuleWithin n (back e)) (λ e w. record { first_in = w.to_in; second_in = w.to_in; gives_in = w.from_in }) edges ends)
-
-module _ (edges : List Edge) (plain : IsPlain edges) (Names : ℕ → ℕ → Type 0) (none : (v u : ℕ) → Names v u → ⊥) (main : ℕ) where
-  rules_are : map rule_of edges ++ [] ≡ map back edges
-  rules_are = append-nil (map rule_of edges) ∙ plain_rules edges edges (λ e m. m) plain
-
-  -- in a plain graph without names, what going back along edges derives from the set with main's entry is the completion
-  pub completion_from_plain : (x k : List Bool) → main < length x → length k ≡ length x → ((v : ℕ) → IsTrue (has k v) ↔ Derived (map back edges) (set x main true) v) → IsCompletion edges Names main x k
-  completion_from_plain x k low size exact =
-      completion_from_rules edges Names main [] (are_names_none Names none) x k low size (λ v. subst (λ r. IsTrue (has k v) ↔ Derived r (set x main true) v) (sym rules_are) (exact v))
-
-  -- and the completion is what it derives
-  pub plain_from_completion : (x k : List Bool) → All (IsEdgeWithin (length x)) edges → IsCompletion edges Names main x k → (v : ℕ) → IsTrue (has k v) ↔ Derived (map back edges) (set x main true) v
-  plain_from_completion x k ends c v =
-      let n = length x in
-      let within : All (IsRuleWithin n) (map back edges) = back_within n edges ends in
-      let low : main < length x = subst (λ m. main < m) c.size (has_in_range k main c.closed.entry) in
-      let e = completed_from_completion edges Names main [] (are_names_none Names none) x k (subst (λ rs. All (IsRuleWithin n) rs) (sym rules_are) within) c v in
-      let r = completed_by_rules edges Names main [] (are_names_none Names none) x low v in
-      subst (λ rs. IsTrue (has k v) ↔ Derived rs (set x main true) v) rules_are (λ h. r.0 (e.0 h), λ d. e.1 (r.1 d))
-
--- what a marking by the rules of a plain graph leaves, from a set with main's entry, is the completion
-pub completion_is : (edges own : List Edge) (rules : List Rule) (main : ℕ) (x s k : List Bool) → own ≡ edges → IsPlain own → rules ≡ map back own → main < length x → s ≡ set x main true → length k ≡ length s → ((v : ℕ) → IsTrue (has k v) ↔ Derived rules s v) → IsCompletion edges NamesNone main x k
-completion_is edges own rules main x s k same plain are low added size exact =
-    let long : length k ≡ length x = size ∙ ap length added ∙ length-set x main true in
-    let each : (v : ℕ) → IsTrue (has k v) ↔ Derived (map back own) (set x main true) v = λ v.
-    subst (λ y. IsTrue (has k v) ↔ Derived (map back own) y v) added (subst (λ rs. IsTrue (has k v) ↔ Derived rs s v) are (exact v)) in
-    subst (λ es. IsCompletion es NamesNone main x k) same (completion_from_plain own plain NamesNone (λ v u n. n) main x k low long each)

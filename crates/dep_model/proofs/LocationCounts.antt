@@ -1,5 +1,5 @@
 -- How many parts objects have, one after another, up to one more than the greatest number of locations.
-use Rattle.std.proofs.Common.{◌≡◌, ℕ, zero, suc, ◌+◌, ◌<◌, ◌≤◌, List, [], ◌∷◌, ◌++◌, length, map, drop, get_or, Bool, true, false, refl, sym, ap, subst, ◌∙◌, inl, inr, ◌⊎◌, Option, Some, None, arith, length-append, ltb-true}
+use Rattle.std.proofs.Common.{◌≡◌, ℕ, suc, ◌+◌, ◌<◌, ◌≤◌, List, [], ◌∷◌, ◌++◌, length, map, drop, get_or, Bool, true, false, sym, ap, subst, ◌∙◌, inl, inr, Option, Some, arith, length-append}
 use Rattle.std.proofs.Math.Seq.{drop-cons}
 use Rattle.std.proofs.lemmas.Bool.{cases_lt}
 use Rattle.std.proofs.lemmas.Grind.{common_steps}
@@ -15,13 +15,13 @@ use Rattle.c_language.specs.TreeTypes.{shape_of, members_of}
 use Rattle.c_language.specs.declared.expr_type.Base.{Base}
 use Rattle.c_language.specs.declared.expr_type.Base.TheVariants as base
 use Rattle.c_language.specs.declared.expr_type.Layer.{Layer}
-use Rattle.c_language.specs.declared.expr_type.Layer.TheVariants.{Pointer, Array}
-use Rattle.dep_model.specs.Locations.{Located, below, base_parts, parts_with, member_parts, struct_parts, parts}
-use Rattle.dep_model.specs.LocationLists.{AreStructsInOrder, is_before}
-use Rattle.dep_model.specs.LocationObjects.{all_structs, placed_under, locations_of, object_locations, capped_if, capped, AreSizes}
+use Rattle.c_language.specs.declared.expr_type.Layer.TheVariants.{Array}
+use Rattle.dep_model.specs.Locations.{Located, below, parts_with, member_parts}
+use Rattle.dep_model.specs.LocationLists.{AreStructsInOrder}
+use Rattle.dep_model.specs.LocationObjects.{all_structs, placed_under, locations_of, object_locations, capped, AreSizes}
 use Rattle.dep_model.specs.declared.location.Part.TheVariants as part
 use Rattle.dep_model.specs.declared.locations.objects.Object.{Object}
-use Rattle.dep_model.proofs.Membership.{IsIn, contains_of_in}
+use Rattle.dep_model.proofs.Membership.{contains_of_in}
 use Rattle.dep_model.proofs.LocationParts.{members_agree, struct_unrolled, members_past}
 
 pub capped_small : (n : ℕ) → capped n ≤ 4097

@@ -1,5 +1,5 @@
 -- The list of a program's locations is that of the parts of its objects, behind the input.
-use Rattle.std.proofs.Common.{◌≡◌, ℕ, zero, suc, ◌+◌, ◌<◌, ◌≤◌, List, [], ◌∷◌, ◌++◌, length, map, drop, get_or, Option, Some, None, refl, sym, ap, ap₂, ◌∙◌, arith, length-append, append_assoc, append-nil}
+use Rattle.std.proofs.Common.{◌≡◌, ℕ, suc, ◌+◌, ◌<◌, ◌≤◌, List, [], ◌∷◌, ◌++◌, length, map, drop, get_or, Option, Some, None, refl, sym, ap, ap₂, ◌∙◌, arith, length-append, append_assoc}
 use Rattle.std.proofs.Math.Seq.{drop-cons}
 use Rattle.std.proofs.lemmas.List.{length-map, map-append}
 use Rattle.c_tree.specs.declared.program.Function.{Function}
@@ -9,7 +9,7 @@ use Rattle.c_tree.specs.declared.types.CType.{CType}
 use Rattle.c_language.specs.TreeTypes.{shape_of}
 use Rattle.c_language.specs.declared.expr_type.ExprType.{ExprType}
 use Rattle.dep_model.specs.DoingEffects.{the_input}
-use Rattle.dep_model.specs.Locations.{Located, Heap, TypedLocation, placed, parts, rooted, variable_locations, site_locations, result_parts, result_locations, function_heaps, locations, input}
+use Rattle.dep_model.specs.Locations.{Located, Heap, TypedLocation, placed, parts, rooted, variable_locations, site_locations, result_parts, result_locations, function_heaps}
 use Rattle.dep_model.specs.LocationLists.{location_list}
 use Rattle.dep_model.specs.LocationObjects.{placed_under, variable_objects, site_objects, result_object, result_objects, objects, object_locations, locations_of}
 use Rattle.dep_model.specs.declared.location.Location.{Location}

@@ -1,5 +1,5 @@
 -- The parts of objects, where no struct type has a later one in it: they come to an end, and can be listed from a stack.
-use Rattle.std.proofs.Common.{◌≡◌, ℕ, zero, suc, ◌+◌, ◌<◌, ◌≤◌, List, [], ◌∷◌, ◌++◌, length, map, drop, get_or, Bool, true, false, Option, Some, None, inl, inr, ◌⊎◌, refl, sym, ap, ap₂, subst, ◌∙◌, arith, append_assoc, append-nil, length-append, ltb-true}
+use Rattle.std.proofs.Common.{◌≡◌, ℕ, zero, suc, ◌+◌, ◌<◌, ◌≤◌, List, [], ◌∷◌, ◌++◌, length, map, drop, get_or, true, Option, None, inl, inr, refl, sym, ap, ap₂, ◌∙◌, arith, append_assoc, append-nil, length-append, ltb-true}
 use Rattle.std.proofs.lemmas.Bool.{cases_lt, false≢true}
 use Rattle.std.proofs.lemmas.List.{length-map, map-append}
 use Rattle.std.proofs.lemmas.Option.{slice_get_past}
@@ -16,14 +16,13 @@ use Rattle.c_language.specs.declared.expr_type.Base.TheVariants as base
 use Rattle.c_language.specs.declared.expr_type.ExprType.{ExprType}
 use Rattle.c_language.specs.declared.expr_type.Layer.{Layer}
 use Rattle.c_language.specs.declared.expr_type.Layer.TheVariants.{Pointer, Array}
-use Rattle.dep_model.specs.Locations.{Located, below, type_with, base_parts, parts_with, member_parts, struct_parts}
-use Rattle.dep_model.specs.LocationLists.{is_base_before, are_layers_before, is_before, AreStructsInOrder}
-use Rattle.dep_model.specs.LocationObjects.{all_structs, placed_under, inner_parts, waiting_locations, waiting, locations_of, object_locations}
+use Rattle.dep_model.specs.Locations.{Located, below, type_with, parts_with, member_parts, struct_parts}
+use Rattle.dep_model.specs.LocationLists.{are_layers_before, is_before, AreStructsInOrder}
+use Rattle.dep_model.specs.LocationObjects.{all_structs, placed_under, inner_parts, waiting_locations, waiting}
 use Rattle.dep_model.specs.declared.location.Location.{Location}
 use Rattle.dep_model.specs.declared.location.Part.{Part}
 use Rattle.dep_model.specs.declared.location.Part.TheVariants as part
 use Rattle.dep_model.specs.declared.location.Root.{Root}
-use Rattle.dep_model.specs.declared.locations.objects.Object.{Object}
 use Rattle.dep_model.specs.declared.locations.parts.Waiting.{Waiting}
 use Rattle.dep_model.proofs.Membership.{IsIn, contains_of_in}
 

@@ -39,7 +39,3 @@ pub data Completed (edges : List Edge) (Names : ℕ → ℕ → Type 0) (main : 
   actual_in : (e : Edge) (c : ℕ) → Contains edges e → e.label ≡ In c → Completed edges Names main x c → Completed edges Names main x e.to → Completed edges Names main x e.from
   parameter : {v u : ℕ} → Names v u → Completed edges Names main x v → Completed edges Names main x u
   entry : Completed edges Names main x main
-
--- no vertex names a parameter
-abbrev pub NamesNone : ℕ → ℕ → Type 0
-NamesNone v u = ⊥

@@ -28,7 +28,6 @@ pub mod NamedParameters
 pub mod NumberedMains
 pub mod PairOrder
 pub mod Pairs
-pub mod Plain
 pub mod Shapes
 pub mod Skeletons
 pub mod SwitchArms

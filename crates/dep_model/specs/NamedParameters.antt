@@ -1,11 +1,11 @@
 -- Which parameters the words of a vertex name.
-use Rattle.std.specs.Prelude.{◌≡◌, ℕ, Bool, true, false, List, Option, Some, None, slice_get}
+use Rattle.std.specs.Prelude.{◌≡◌, ℕ, Bool, true, false, List, Option, Some, slice_get}
 use Rattle.std.specs.Option.{option_map_or}
 use Rattle.c_tree.specs.declared.expr.Expr.{Expr}
 use Rattle.c_tree.specs.declared.program.Program.{Program}
 use Rattle.c_language.specs.Names.{names, target_names, act_names}
 use Rattle.dep_model.specs.declared.vertex.Slot.{Slot}
-use Rattle.dep_model.specs.declared.vertex.Slot.TheVariants.{Argument, Result, At}
+use Rattle.dep_model.specs.declared.vertex.Slot.TheVariants.{Argument, Result}
 use Rattle.dep_model.specs.declared.vertex.Vertex.{Vertex}
 use Rattle.dep_model.specs.declared.vertex.VertexKind.{VertexKind}
 use Rattle.dep_model.specs.declared.vertex.VertexKind.TheVariants.{Entry, FormalIn, FormalOut, Statement, Call, ActualIn, ActualOut}

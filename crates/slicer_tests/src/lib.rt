@@ -5,8 +5,6 @@
 #[cfg(test)]
 mod exit_tests;
 #[cfg(test)]
-mod graph_tests;
-#[cfg(test)]
 mod layout_tests;
 #[cfg(test)]
 mod many_tests;

@@ -1,9 +1,8 @@
-use Rattle.std.proofs.Common.{◌≡◌, ◌<◌, ◌≤◌, suc, List, ◌∷◌, length, refl, sym, ap, subst, ◌∙◌, arith}
+use Rattle.std.proofs.Common.{◌≡◌, suc, List, ◌∷◌, length, refl, sym, ap, subst, ◌∙◌, arith}
 use Rattle.c_tree.specs.declared.limits.LimitName.{LimitName}
 use Rattle.c_tree.specs.declared.limits.LimitName.TheVariants as limit
 use Rattle.dep_model.specs.DoingEffects.{the_input}
-use Rattle.dep_model.specs.LocationLists.{location_list}
-use Rattle.dep_model.specs.LocationObjects.{AreSizes, all_structs, objects, locations_of}
+use Rattle.dep_model.specs.LocationObjects.{AreSizes, all_structs, locations_of}
 use Rattle.dep_model.specs.declared.graph_fault.GraphFault.TheVariants.{Limit}
 use Rattle.dep_model.specs.declared.location.Location.{Location}
 use Rattle.dep_model.specs.declared.locations.objects.Object.{Object}

@@ -1,4 +1,4 @@
-use Rattle.std.proofs.Common.{◌^◌, ◌++◌, ◌+◌, arith, sym}
+use Rattle.std.proofs.Common.{◌^◌, ◌++◌, arith}
 use Rattle.dep_model.specs.LocationObjects.{object_locations}
 use Rattle.dep_model.proofs.LocationParts.{list_turn, inner_few}
 use Rattle.dep_model.proofs.locations.parts.add_object.Goals as goal

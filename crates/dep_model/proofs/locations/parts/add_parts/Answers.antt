@@ -1,6 +1,6 @@
-use Rattle.std.proofs.Common.{◌^◌, ◌≡◌, ◌++◌, List, map, ap₂, ap, sym, subst, ◌∙◌, OnOk}
-use Rattle.dep_model.specs.Locations.{Located, member_parts}
-use Rattle.dep_model.specs.LocationObjects.{all_structs, placed_under, inner_parts, waiting}
+use Rattle.std.proofs.Common.{◌^◌, ◌≡◌, ◌++◌, List, map, ap₂, sym, subst, OnOk}
+use Rattle.dep_model.specs.Locations.{Located}
+use Rattle.dep_model.specs.LocationObjects.{placed_under, waiting}
 use Rattle.dep_model.specs.declared.location.Location.{Location}
 use Rattle.dep_model.specs.declared.location.Part.{Part}
 use Rattle.dep_model.proofs.LocationParts.{members_few, struct_inner}
