@@ -8,12 +8,12 @@ pub enum LimitName {
     ArrayLength,
     /// The cells of a variable or of a struct type: at most 1,048,576.
     ObjectCells,
-    /// How many locations a program has. No call tells it yet, and neither those below.
+    /// How many locations a program has: at most 4,096.
     Locations,
-    /// How many vertices its system graph has.
+    /// How many vertices its system graph has: at most 65,536.
     Vertices,
-    /// How many words the facts of its system graph take.
+    /// How many words of 64 bits the facts of its system graph take: at most 262,144.
     FactWords,
-    /// How many criteria one call has.
+    /// How many criteria one call has: at most 64.
     Criteria,
 }

@@ -135,6 +135,13 @@ fn arrow(
     Ok(Expr::Arrow(Boxed::new(alloc, pointer)?, id))
 }
 
+/// A part in a box, where it was made. Err: no memory was left.
+fn boxed(alloc: Global, made: Result<Expr, AllocError>) -> Result<Boxed<Expr>, AllocError>
+    ensures { IfOk result (λ part. made ≡ Ok part) }
+{
+    Boxed::new(alloc, made?)
+}
+
 /// An expression in the tree, which is an operand, or a constant expression. Err: no memory was left.
 #[tactic(auto, using(crate::proofs::Rulesets::trees))]
 fn tree(alloc: Global, tables: &Tables<'_>, expr: &RawExpr) -> Result<Expr, AllocError>
@@ -148,50 +155,46 @@ fn tree(alloc: Global, tables: &Tables<'_>, expr: &RawExpr) -> Result<Expr, Allo
         RawExpr::Eof => Ok(Expr::Eof),
         RawExpr::Variable(name) => Ok(Expr::Variable(variable(tables, name.bytes()))),
         RawExpr::Unary(op, a) => {
-            let operand = tree(alloc, tables, a.get())?;
-            Ok(Expr::Unary(*op, Boxed::new(alloc, operand)?))
+            let operand = boxed(alloc, tree(alloc, tables, a.get()))?;
+            Ok(Expr::Unary(*op, operand))
         }
         RawExpr::Deref(a) => {
-            let operand = tree(alloc, tables, a.get())?;
-            Ok(Expr::Deref(Boxed::new(alloc, operand)?))
+            let operand = boxed(alloc, tree(alloc, tables, a.get()))?;
+            Ok(Expr::Deref(operand))
         }
         RawExpr::AddressOf(a) => {
-            let operand = tree(alloc, tables, a.get())?;
-            Ok(Expr::AddressOf(Boxed::new(alloc, operand)?))
+            let operand = boxed(alloc, tree(alloc, tables, a.get()))?;
+            Ok(Expr::AddressOf(operand))
         }
         RawExpr::Binary(op, a, b) => {
-            let left = tree(alloc, tables, a.get())?;
-            let right = tree(alloc, tables, b.get())?;
-            Ok(Expr::Binary(*op, Boxed::new(alloc, left)?, Boxed::new(alloc, right)?))
+            let left = boxed(alloc, tree(alloc, tables, a.get()))?;
+            let right = boxed(alloc, tree(alloc, tables, b.get()))?;
+            Ok(Expr::Binary(*op, left, right))
         }
         RawExpr::AndAlso(a, b) => {
-            let left = tree(alloc, tables, a.get())?;
-            let right = tree(alloc, tables, b.get())?;
-            Ok(Expr::AndAlso(Boxed::new(alloc, left)?, Boxed::new(alloc, right)?))
+            let left = boxed(alloc, tree(alloc, tables, a.get()))?;
+            let right = boxed(alloc, tree(alloc, tables, b.get()))?;
+            Ok(Expr::AndAlso(left, right))
         }
         RawExpr::OrElse(a, b) => {
-            let left = tree(alloc, tables, a.get())?;
-            let right = tree(alloc, tables, b.get())?;
-            Ok(Expr::OrElse(Boxed::new(alloc, left)?, Boxed::new(alloc, right)?))
+            let left = boxed(alloc, tree(alloc, tables, a.get()))?;
+            let right = boxed(alloc, tree(alloc, tables, b.get()))?;
+            Ok(Expr::OrElse(left, right))
         }
         RawExpr::Choose(c, a, b) => {
-            let test = tree(alloc, tables, c.get())?;
-            let left = tree(alloc, tables, a.get())?;
-            let right = tree(alloc, tables, b.get())?;
-            Ok(Expr::Choose(
-                Boxed::new(alloc, test)?,
-                Boxed::new(alloc, left)?,
-                Boxed::new(alloc, right)?,
-            ))
+            let test = boxed(alloc, tree(alloc, tables, c.get()))?;
+            let left = boxed(alloc, tree(alloc, tables, a.get()))?;
+            let right = boxed(alloc, tree(alloc, tables, b.get()))?;
+            Ok(Expr::Choose(test, left, right))
         }
         RawExpr::Cast(t, a) => {
-            let operand = tree(alloc, tables, a.get())?;
-            Ok(Expr::Cast(*t, Boxed::new(alloc, operand)?))
+            let operand = boxed(alloc, tree(alloc, tables, a.get()))?;
+            Ok(Expr::Cast(*t, operand))
         }
         RawExpr::Index(a, i) => {
-            let array = tree(alloc, tables, a.get())?;
-            let index = tree(alloc, tables, i.get())?;
-            Ok(Expr::Index(Boxed::new(alloc, array)?, Boxed::new(alloc, index)?))
+            let array = boxed(alloc, tree(alloc, tables, a.get()))?;
+            let index = boxed(alloc, tree(alloc, tables, i.get()))?;
+            Ok(Expr::Index(array, index))
         }
         RawExpr::Member(a, name) => {
             let object = tree(alloc, tables, a.get())?;
@@ -202,8 +205,8 @@ fn tree(alloc: Global, tables: &Tables<'_>, expr: &RawExpr) -> Result<Expr, Allo
             arrow(alloc, tables, pointer, a.get(), name.bytes())
         }
         RawExpr::Paren(a) => {
-            let inner = tree(alloc, tables, a.get())?;
-            Ok(Expr::Paren(Boxed::new(alloc, inner)?))
+            let inner = boxed(alloc, tree(alloc, tables, a.get()))?;
+            Ok(Expr::Paren(inner))
         }
     }
 }
