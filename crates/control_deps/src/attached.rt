@@ -1,12 +1,12 @@
 //! The control edges of formals and actuals, as pairs of vertices.
 ghost use Rattle.std.specs.Prelude.{◌≡◌, ◌++◌, ◌<◌, ◌^◌, OnOk, length};
 ghost use Rattle.dep_model.specs.Groups.{row};
+ghost use Rattle.dep_model.specs.Stretches.{AreByFunction};
 ghost use Rattle.control_deps.specs.Attached.{controllers_of, controllers, attached_from};
-ghost use Rattle.control_deps.specs.Walk as spec;
 
 use crate::walk::join_one;
 use c_tree::FunctionId;
-use dep_model::{Pair, StatementVertices, Vertex, VertexId, VertexKind};
+use dep_model::{Pair, StatementVertices, Vertex, VertexId, VertexKind, stretch_of};
 use std::alloc::AllocError;
 
 // The vertices that a vertex hangs on.
@@ -24,23 +24,6 @@ fn controllers_of<'a>(
     }
 }
 
-// Appends the edges to one vertex.
-fn attach_one(
-    out: &mut Vec<Pair>,
-    entry: &[VertexId],
-    own: &StatementVertices,
-    function: FunctionId,
-    number: VertexId,
-    vertex: &Vertex,
-) -> Result<(), AllocError>
-    ensures { OnOk result (out.new.items ≡ out.old.items ++ spec.from_all (controllers entry.now (row own.now) function vertex.now) number) }
-{
-    if vertex.function == function {
-        join_one(out, controllers_of(entry, own, vertex.kind), number)?;
-    }
-    Ok(())
-}
-
 /// Appends the edges to the formals and actuals of a function.
 pub(crate) fn attach(
     out: &mut Vec<Pair>,
@@ -50,12 +33,13 @@ pub(crate) fn attach(
     vertices: &[Vertex],
 ) -> Result<(), AllocError>
     requires few { length vertices.now < 2 ^ 32 }
+    requires by_function { AreByFunction vertices.now }
     ensures { OnOk result (out.new.items ≡ out.old.items ++ attached_from (controllers entry.now (row own.now) function) 0 vertices.now) }
 {
-    let mut number = 0u32;
-    for vertex in vertices {
-        attach_one(out, entry, own, function, number, vertex)?;
-        number += 1;
+    let stretch = stretch_of(vertices, function);
+    for number in stretch.first..stretch.first + stretch.size {
+        let kind = vertices[number as usize].kind;
+        join_one(out, controllers_of(entry, own, kind), number)?;
     }
     Ok(())
 }

@@ -7,6 +7,7 @@ ghost use Rattle.control_deps.specs.ControlEdges.{control_edge};
 ghost use Rattle.dep_model.specs.EdgeOrder.{AreAscendingEdges};
 ghost use Rattle.dep_model.specs.FunctionVertices.{IsControlIn};
 ghost use Rattle.dep_model.specs.PairOrder.{AreAscending};
+ghost use Rattle.dep_model.specs.Stretches.{AreByFunction};
 ghost use Rattle.dep_model.specs.declared.edge.Edge.{Edge};
 ghost use Rattle.dep_model.specs.declared.skeleton.Pair.{Pair};
 
@@ -29,6 +30,7 @@ pub fn edges(
 ) -> Result<Vec<Edge>, AllocError>
     requires function { f < length p.now.functions }
     requires few { length s.now.vertices < 2 ^ 32 }
+    requires by_function { AreByFunction s.now.vertices }
     ensures exact { IfOk result (λ es. (e : Edge) → Contains es.items e ↔ IsControlIn p.now s.now.vertices f e) }
     ensures ascending { IfOk result (λ es. AreAscendingEdges es.items) }
 {
@@ -46,6 +48,7 @@ fn pairs_of(
 ) -> Result<Vec<Pair>, AllocError>
     requires function { function < length p.now.functions }
     requires few { length vertices.now < 2 ^ 32 }
+    requires by_function { AreByFunction vertices.now }
     ensures exact { IfOk result (λ xs. (x : Pair) → Contains xs.items x ↔ IsControlIn p.now vertices.now function (control_edge x)) }
     ensures ascending { IfOk result (λ xs. AreAscending xs.items) }
 {

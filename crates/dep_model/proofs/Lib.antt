@@ -6,6 +6,7 @@ pub mod EdgeOrderLemmas
 pub mod EntryLaws
 pub mod FollowsLemmas
 pub mod FunctionCode
+pub mod FunctionOrder
 pub mod Grown
 pub mod IntegerActs
 pub mod IntegerExprs
@@ -36,6 +37,7 @@ pub mod PlainOrder
 pub mod PlainSteps
 pub mod RowLemmas
 pub mod StartDoings
+pub mod Stretching
 pub mod StructOrder
 pub mod SwitchLaws
 pub mod SwitchLemmas

@@ -1,8 +1,10 @@
 -- Rows of numbers, where one of them grows.
-use Rattle.std.proofs.Common.{◌≡◌, ℕ, zero, suc, ◌<◌, List, [], ◌∷◌, ◌++◌, map, length, set, get_or, Vec, Global, append-nil, arith, refl, sym, ap, ◌∙◌}
+use Rattle.std.proofs.Common.{◌≡◌, ℕ, zero, suc, ◌-◌, ◌<◌, ◌≤◌, List, [], ◌∷◌, ◌++◌, map, length, set, get_or, replicate, Vec, Global, append-nil, inl, inr, arith, refl, sym, ap, ◌∙◌}
+use Rattle.std.proofs.lemmas.Bool.{cases_lt}
 use Rattle.std.proofs.lemmas.Bool.Decides.{nat_tests}
 use Rattle.std.specs.Prelude.{Bool, false, ◌==◌, if◌then◌else◌}
-use Rattle.dep_model.specs.Groups.{if_same}
+use Rattle.std.proofs.lemmas.List.{get_or-replicate, get_or-append_right, get_or_append_left, length-replicate}
+use Rattle.dep_model.specs.Groups.{if_same, row, rows_of, rows_from}
 
 abbrev numbers_in : Vec ℕ Global → List ℕ
 numbers_in r = r.items
@@ -34,3 +36,31 @@ row_added [] new is zero = is
 row_added [] new is (suc i) = refl
 row_added (x ∷ t) new is zero = refl
 row_added (x ∷ t) new is (suc i) = row_added t new is i
+
+-- ---- rows of which the first is that of a statement
+
+pub row_before : (first : ℕ) (t : Vec (Vec ℕ Global) Global) (i : ℕ) → i < first → row (rows_from first t) i ≡ []
+row_before first t i lt =
+    let long : length (replicate {A = List ℕ} first []) ≡ first = length-replicate first [] in
+    get_or_append_left (replicate first []) (rows_of t) [] i (omega (arith, lt, long)) ∙ get_or-replicate first i [] [] lt
+
+pub row_at : (first : ℕ) (t : Vec (Vec ℕ Global) Global) (i : ℕ) → first ≤ i → row (rows_from first t) i ≡ row (rows_of t) (i - first)
+row_at first t i le = get_or-append_right (replicate first []) (rows_of t) first i [] (length-replicate first []) le
+
+pub row_none : (first : ℕ) (t : Vec (Vec ℕ Global) Global) → t.items ≡ [] → (i : ℕ) → row (rows_from first t) i ≡ []
+row_none first t none i = elim (cases_lt i first) [
+  | inl h ↦ row_before first t i h
+  | inr h ↦ row_at first t i h ∙ ap (λ rs. get_or (map numbers_in rs) (i - first) []) none
+]
+
+-- a number is added to the row of statement `id`
+pub statement_grown : (first id n : ℕ) (old new : Vec (Vec ℕ Global) Global) → first ≤ id → ((j : ℕ) → row (rows_of new) j ≡ row (rows_of old) j ++ if_same (id - first) j n)
+    → (i : ℕ) (b : Bool) → b ≡ (id == i) → row (rows_from first new) i ≡ row (rows_from first old) i ++ (if b then n ∷ [] else [])
+statement_grown first id n old new le grown i b is = elim (cases_lt i first) [
+  | inl h ↦
+      let other : (id == i) ≡ false = grind (arith, nat_tests) in
+      row_before first new i h ∙ ap (λ t. [] ++ (if t then n ∷ [] else [])) (sym (is ∙ other)) ∙ ap (λ r. r ++ (if b then n ∷ [] else [])) (sym (row_before first old i h))
+  | inr h ↦
+      let same : (id - first == i - first) ≡ (id == i) = grind (arith, nat_tests) in
+      row_at first new i h ∙ grown (i - first) ∙ ap (λ t. row (rows_of old) (i - first) ++ (if t then n ∷ [] else [])) (same ∙ sym is) ∙ ap (λ r. r ++ (if b then n ∷ [] else [])) (sym (row_at first old i h))
+]

@@ -30,6 +30,7 @@ pub mod PairOrder
 pub mod Pairs
 pub mod Shapes
 pub mod Skeletons
+pub mod Stretches
 pub mod SwitchArms
 pub mod SystemGraph
 pub mod VertexOrder

@@ -1,11 +1,14 @@
-//! The vertices of one function, found in one pass over all vertices.
-ghost use Rattle.std.specs.Prelude.{◌≡◌, ℕ, ◌<◌, ◌^◌, ◌++◌, false, IfOk, OnOk, length};
+//! The vertices of one function by what they belong to, found in one pass over the function's stretch.
+ghost use Rattle.std.specs.Prelude.{◌≡◌, ℕ, ◌+◌, ◌<◌, ◌≤◌, ◌^◌, ◌++◌, true, false, Some, IfOk, OnOk, length, slice_get};
 ghost use Rattle.std.specs.Option.{option_map_or};
 ghost use Rattle.std.specs.Bool.{◌==◌};
 ghost use Rattle.dep_model.specs.FunctionVertices.{numbers};
 ghost use Rattle.dep_model.specs.Groups as spec;
-ghost use Rattle.dep_model.specs.Groups.{is_at, in_group, if_passes, row, rows_of};
+ghost use Rattle.dep_model.specs.Groups.{is_at, in_group, if_is, row, rows_of, rows_from};
+ghost use Rattle.dep_model.specs.Stretches.{AreByFunction, IsWithin};
+ghost use Rattle.dep_model.specs.declared.vertex.Vertex.{Vertex};
 
+use crate::stretch::{Stretch, stretch_of};
 use crate::vertex::{Vertex, VertexId, VertexKind};
 use c_tree::{FunctionId, StatementId};
 use std::alloc::{AllocError, Global};
@@ -45,13 +48,13 @@ pub fn numbers_of(
     group: Group,
 ) -> Result<Vec<VertexId>, AllocError>
     requires few { length vertices.now < 2 ^ 32 }
+    requires by_function { AreByFunction vertices.now }
     ensures { IfOk result (λ found. found.items ≡ numbers (in_group group) function vertices.now) }
 {
+    let stretch = stretch_of(vertices, function);
     let mut found = Vec::new(alloc);
-    let mut number = 0u32;
-    for vertex in vertices {
-        add_of_group(&mut found, number, vertex, function, group)?;
-        number += 1;
+    for number in stretch.first..stretch.first + stretch.size {
+        add_of_group(&mut found, number, vertices[number as usize].kind, group)?;
     }
     Ok(found)
 }
@@ -60,13 +63,12 @@ pub fn numbers_of(
 fn add_of_group(
     found: &mut Vec<VertexId>,
     number: VertexId,
-    vertex: &Vertex,
-    function: FunctionId,
+    kind: VertexKind,
     group: Group,
 ) -> Result<(), AllocError>
-    ensures { OnOk result (found.new.items ≡ found.old.items ++ if_passes (in_group group) function number vertex.now) }
+    ensures { OnOk result (found.new.items ≡ found.old.items ++ if_is (in_group group) number kind) }
 {
-    if vertex.function == function && in_group(group, vertex.kind) {
+    if in_group(group, kind) {
         found.push(number)?;
     }
     Ok(())
@@ -76,16 +78,18 @@ fn add_of_group(
 /// so the actuals of a call too. Contracts see a list of their numbers for each statement.
 #[derive(Drop)]
 pub struct StatementVertices {
+    // The statement whose vertices the first row has.
+    first: StatementId,
     rows: Vec<Vec<VertexId>>,
 }
 
 impl Model for StatementVertices {
     ghost use Rattle.std.specs.Prelude.{List, ℕ};
-    ghost use Rattle.dep_model.specs.Groups.{rows_of};
+    ghost use Rattle.dep_model.specs.Groups.{rows_from};
 
     ghost Value = { List (List ℕ) };
 
-    ghost view = { λ t. rows_of t.rows };
+    ghost view = { λ t. rows_from t.first t.rows };
 }
 
 impl StatementVertices {
@@ -97,23 +101,29 @@ impl StatementVertices {
         actuals: bool,
     ) -> Result<StatementVertices, AllocError>
         requires few { length vertices.now < 2 ^ 32 }
+        requires by_function { AreByFunction vertices.now }
         ensures { IfOk result (λ t. (i : ℕ) → row t i ≡ numbers (is_at actuals i) function vertices.now) }
     {
+        let stretch = stretch_of(vertices, function);
+        let first = least_statement(vertices, stretch, actuals);
         let mut rows = Vec::new(alloc);
-        let mut number = 0u32;
-        for vertex in vertices {
-            add_vertex(alloc, &mut rows, number, vertex, function, actuals)?;
-            number += 1;
+        for number in stretch.first..stretch.first + stretch.size {
+            let kind = vertices[number as usize].kind;
+            add_vertex(alloc, &mut rows, first, number, kind, actuals)?;
         }
-        Ok(StatementVertices { rows })
+        Ok(StatementVertices { first, rows })
     }
 
     /// The vertices of a statement.
     pub fn row(&self, id: StatementId) -> &[VertexId]
         ensures { result.now ≡ row self.now id }
     {
-        if (id as usize) < self.rows.len() {
-            self.rows[id as usize].as_slice()
+        if id < self.first {
+            return &[];
+        }
+        let at = (id - self.first) as usize;
+        if at < self.rows.len() {
+            self.rows[at].as_slice()
         } else {
             &[]
         }
@@ -133,21 +143,35 @@ fn statement_of(kind: VertexKind, actuals: bool) -> Option<StatementId>
     }
 }
 
-// Adds a vertex to the row of its statement.
+// The least statement to which vertices of a stretch belong, or the greatest number where they belong to none.
+fn least_statement(vertices: &[Vertex], stretch: Stretch, actuals: bool) -> StatementId
+    requires few { length vertices.now < 2 ^ 32 }
+    requires inside { stretch.first + stretch.size ≤ length vertices.now }
+    ensures { (v : ℕ) (x : Vertex) (i : ℕ) → IsWithin stretch v → slice_get vertices.now v ≡ Some x → is_at actuals i x.kind ≡ true → result ≤ i }
+{
+    let mut least = u32::MAX;
+    for number in stretch.first..stretch.first + stretch.size {
+        if let Some(id) = statement_of(vertices[number as usize].kind, actuals) {
+            least = least.min(id);
+        }
+    }
+    least
+}
+
+// Adds a vertex to the row of its statement, where the first row is that of statement `first`.
 fn add_vertex(
     alloc: Global,
     rows: &mut Vec<Vec<VertexId>>,
+    first: StatementId,
     number: VertexId,
-    vertex: &Vertex,
-    function: FunctionId,
+    kind: VertexKind,
     actuals: bool,
 ) -> Result<(), AllocError>
-    ensures { OnOk result ((i : ℕ) → row (rows_of rows.new) i ≡ row (rows_of rows.old) i ++ if_passes (is_at actuals i) function number vertex.now) }
+    requires has_row { (i : ℕ) → is_at actuals i kind ≡ true → first ≤ i }
+    ensures { OnOk result ((i : ℕ) → row (rows_from first rows.new) i ≡ row (rows_from first rows.old) i ++ if_is (is_at actuals i) number kind) }
 {
-    if vertex.function == function {
-        if let Some(id) = statement_of(vertex.kind, actuals) {
-            add(alloc, rows, id, number)?;
-        }
+    if let Some(id) = statement_of(kind, actuals) {
+        add(alloc, rows, id - first, number)?;
     }
     Ok(())
 }
@@ -156,12 +180,12 @@ fn add_vertex(
 fn add(
     alloc: Global,
     rows: &mut Vec<Vec<VertexId>>,
-    id: StatementId,
+    place: u32,
     number: VertexId,
 ) -> Result<(), AllocError>
-    ensures { OnOk result ((i : ℕ) → row (rows_of rows.new) i ≡ row (rows_of rows.old) i ++ spec.if_same id i number) }
+    ensures { OnOk result ((i : ℕ) → row (rows_of rows.new) i ≡ row (rows_of rows.old) i ++ spec.if_same place i number) }
 {
-    let at = id as usize;
+    let at = place as usize;
     while rows.len() <= at {
         rows.push(Vec::new(alloc))?;
     }

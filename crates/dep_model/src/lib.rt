@@ -13,6 +13,7 @@ mod locations;
 mod pair_order;
 mod points_to;
 mod skeleton;
+mod stretch;
 mod switch_arms;
 mod vertex;
 
@@ -29,5 +30,6 @@ pub use pair_order::ascend;
 pub use points_to::{Effects, PointsTo};
 pub use rule_closure::{Closure, Rule, VertexSet};
 pub use skeleton::{FlowGraph, Pair, PairList, Skeleton, VertexList};
+pub use stretch::{Stretch, stretch_of};
 pub use switch_arms::taken_arms;
 pub use vertex::{Slot, Vertex, VertexId, VertexKind};

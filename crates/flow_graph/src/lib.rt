@@ -4,6 +4,7 @@
 ghost use Rattle.std.specs.Prelude.{◌≡◌, ◌<◌, ◌^◌, ◌↔◌, IfOk, Contains, Some, length};
 ghost use Rattle.dep_model.specs.FunctionVertices.{heads, FollowsIn};
 ghost use Rattle.dep_model.specs.PairOrder.{AreAscending};
+ghost use Rattle.dep_model.specs.Stretches.{AreByFunction};
 ghost use Rattle.dep_model.specs.declared.skeleton.Pair.{Pair};
 
 mod defaults;
@@ -26,6 +27,7 @@ pub fn follows(
 ) -> Result<FlowGraph, AllocError>
     requires function { f < length p.now.functions }
     requires few { length s.now.vertices < 2 ^ 32 }
+    requires by_function { AreByFunction s.now.vertices }
     ensures exact { IfOk result (λ g. (x : Pair) → Contains g.pairs x ↔ FollowsIn p.now s.now.vertices f x.from (Some x.to)) }
     ensures ascending { IfOk result (λ g. AreAscending g.pairs) }
 {
@@ -43,6 +45,7 @@ fn pairs_of(
 ) -> Result<Vec<Pair>, AllocError>
     requires function { function < length p.now.functions }
     requires few { length vertices.now < 2 ^ 32 }
+    requires by_function { AreByFunction vertices.now }
     ensures exact { IfOk result (λ xs. (x : Pair) → Contains xs.items x ↔ FollowsIn p.now vertices.now function x.from (Some x.to)) }
     ensures ascending { IfOk result (λ xs. AreAscending xs.items) }
 {
@@ -65,6 +68,7 @@ fn heads_of(
     function: FunctionId,
 ) -> Result<Vec<VertexId>, AllocError>
     requires few { length vertices.now < 2 ^ 32 }
+    requires by_function { AreByFunction vertices.now }
     ensures { IfOk result (λ found. found.items ≡ heads vertices.now function) }
 {
     let mut found = numbers_of(alloc, vertices, function, Group::Entry)?;

@@ -1,5 +1,5 @@
 -- The graphs of a program's functions, and the graph that they make.
-use Rattle.std.proofs.Common.{◌≡◌, ◌↔◌, ◌+◌, ◌≤◌, ℕ, zero, suc, List, [], ◌∷◌, ◌++◌, length, get_or, Some, sym, ap, ◌∙◌, subst, arith, inl, inr}
+use Rattle.std.proofs.Common.{◌≡◌, ◌↔◌, ◌+◌, ◌≤◌, ℕ, zero, suc, List, [], ◌∷◌, ◌++◌, length, get_or, Some, refl, sym, ap, ◌∙◌, subst, arith, inl, inr}
 use Rattle.std.specs.Prelude.{Contains, All, slice_get}
 use Rattle.std.proofs.lemmas.List.{length-map, length-append}
 use Rattle.std.proofs.lemmas.List.Elements.{Contains-get_or}
@@ -16,7 +16,11 @@ use Rattle.dep_model.specs.Graphs.{IsFunctionGraph}
 use Rattle.dep_model.specs.EdgeOrder.{AreAscendingEdges}
 use Rattle.dep_model.specs.LocationLists.{location_list}
 use Rattle.dep_model.specs.Locations.{TypedLocation, locations}
-use Rattle.dep_model.specs.Pairs.{IsPairBelow}
+use Rattle.dep_model.specs.Facts.{IsIn}
+use Rattle.dep_model.specs.Pairs.{IsPairIn}
+use Rattle.dep_model.specs.Stretches.{AreByFunction}
+use Rattle.dep_model.specs.VertexOrder.{in_function}
+use Rattle.dep_model.proofs.FunctionOrder.{are_by_function}
 use Rattle.dep_model.specs.Skeletons.{IsSkeleton}
 use Rattle.dep_model.specs.SystemGraph.{Analysis, vertices_of}
 use Rattle.dep_model.proofs.EntryLaws.{at_joined}
@@ -26,10 +30,9 @@ use Rattle.reaching_defs.specs.RowFlow.{IsRowFlow, AreEvenRows}
 use Rattle.reaching_defs.proofs.RowLaws.{row_flow_is_flow}
 use Rattle.pdg.specs.Laws.{IsUnion}
 use Rattle.pdg.proofs.UnionLaws.{union_is_function_graph}
-use Rattle.sdg.proofs.InFunction.{functions_few}
+use Rattle.sdg.proofs.InFunction.{IsIn as HasVertex, functions_few, order_in}
 use Rattle.sdg.specs.Parts.{AreFunctionGraphs}
 use Rattle.program_graph.specs.Given.{HasSkeleton}
-use Rattle.program_graph.proofs.LowNumbers.{follows_in_low}
 
 -- a fact of each member holds of all
 all_members : {A : Type 0} (P : A → Type 0) (xs : List A) → ((x : A) → Contains xs x → P x) → All P xs
@@ -48,10 +51,16 @@ even_rows p a s is =
       killed_wide = is.killed_are.sized.bits_are ∙ sym is.defined_are.sized.bits_are;
     }
 
-pub pairs_below : (p : Program) (s : Skeleton) (f : ℕ) (pairs : List Pair) → ((x : Pair) → Contains pairs x ↔ FollowsIn p s.vertices f x.from (Some x.to)) → All (IsPairBelow (length s.vertices)) pairs
-pairs_below p s f pairs follows = all_members (IsPairBelow (length s.vertices)) pairs (λ x c.
-    let low = follows_in_low p s.vertices f x.from (Some x.to) ((follows x).0 c) in
-    record { from_below = low.0; to_below = low.1 })
+pub by_function : (p : Program) (s : Skeleton) → HasSkeleton p s → AreByFunction s.vertices
+by_function p s h = subst AreByFunction (sym h.is_skeleton.vertices_are) (are_by_function p h.analysis)
+
+pub pairs_in : (p : Program) (s : Skeleton) (f : ℕ) (pairs : List Pair) → ((x : Pair) → Contains pairs x ↔ FollowsIn p s.vertices f x.from (Some x.to)) → All (IsPairIn s.vertices f) pairs
+pairs_in p s f pairs follows = all_members (IsPairIn s.vertices f) pairs (λ x c.
+    let both = order_in p s.vertices f x.from x.to ((follows x).0 c) in
+    record { from_in = in_function_of s.vertices f x.from both.0; to_in = in_function_of s.vertices f x.to both.1 })
+  where
+    in_function_of : (vs : List Vertex) (g v : ℕ) → HasVertex vs g v → IsIn vs g v
+    in_function_of vs g v w = record { vertex = in_function g w.kind; at = w.at; in_function = refl }
 
 -- ---- the graph of a function
 

@@ -54,7 +54,7 @@ fn function_graph(
 {
     let control = control_deps::edges(alloc, p, s, f)?;
     let order = flow_graph::follows(alloc, p, s, f)?;
-    let flow = reaching_defs::edges(alloc, s, &order)?;
+    let flow = reaching_defs::edges(alloc, s, &order, f)?;
     let graph = pdg::assemble(alloc, control, flow)?;
     Ok(graph)
 }

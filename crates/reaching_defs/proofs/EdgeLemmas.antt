@@ -15,7 +15,7 @@ use Rattle.dep_model.specs.EdgeOrder.{IsBefore, AreAscendingEdges}
 use Rattle.rule_closure.proofs.ListLemmas.{contains_none}
 use Rattle.reaching_defs.specs.FlowEdges.{flow_edge, IsTargeted}
 use Rattle.reaching_defs.specs.RowFlow.{row_has, Leads, IsRowFlow}
-use Rattle.reaching_defs.specs.Spans.{IsPairAmong, FlowsAmong}
+use Rattle.reaching_defs.specs.Stretches.{IsPairAmong, FlowsAmong}
 use Rattle.reaching_defs.proofs.SearchLemmas.{leads_among}
 use Rattle.bit_rows.proofs.SetLemmas.{has-empty}
 

@@ -1,6 +1,7 @@
-pub mod SpanLemmas
+pub mod StretchLemmas
 pub mod SuccessorLemmas
 pub mod SearchLemmas
 pub mod TargetLemmas
 pub mod EdgeLemmas
 pub mod RowLaws
+mod SixVertices

@@ -11,10 +11,10 @@ use Rattle.rule_closure.specs.Links.{IsListed}
 use Rattle.rule_closure.proofs.Marking.{listed_more}
 use Rattle.rule_closure.proofs.SetLemmas.{has_set, has_set_cases}
 use Rattle.reaching_defs.specs.RowFlow.{Leads}
-use Rattle.reaching_defs.specs.Spans.{IsPairAmong, IsLastFrom}
+use Rattle.reaching_defs.specs.Stretches.{IsPairAmong, IsLastFrom}
 use Rattle.bit_rows.proofs.SetLemmas.{has-empty}
 
--- one of some pairs is among the numbers of their span
+-- one of some pairs is among the numbers of their stretch
 pub pair_among : (base n : ℕ) (pairs : List Pair) → All (IsPairAmong base n) pairs → (x : Pair) → Contains pairs x → IsPairAmong base n x
 pair_among base n pairs all x m = All-contains (IsPairAmong base n) pairs x all m
 

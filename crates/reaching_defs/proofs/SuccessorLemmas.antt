@@ -3,7 +3,7 @@ use Rattle.std.proofs.Common.{◌≡◌, ◌≢◌, ℕ, ◌+◌, ◌-◌, ◌<�
 use Rattle.std.proofs.lemmas.Bool.{cases_eq}
 use Rattle.std.proofs.lemmas.List.{get_or_default, get_or-set_same, get_or-set_other, length-set}
 use Rattle.dep_model.specs.declared.skeleton.Pair.{Pair}
-use Rattle.reaching_defs.specs.Spans.{IsLastFrom}
+use Rattle.reaching_defs.specs.Stretches.{IsLastFrom}
 
 module _ (pairs : List Pair) (e : ℕ) (one : Pair) (here : e < length pairs) (is : get_or pairs e one ≡ one) where
   same_from : (k : ℕ) (x : Pair) → k ≡ e → get_or pairs k x ≡ x → x.from ≡ one.from

@@ -13,7 +13,7 @@ use Rattle.dep_model.specs.declared.skeleton.Skeleton.{Skeleton}
 use Rattle.dep_model.specs.Follows.{Chain}
 use Rattle.rule_closure.proofs.SetLemmas.{has_set, has_set_cases, has_set_same}
 use Rattle.reaching_defs.specs.RowFlow.{row_has, Leads}
-use Rattle.reaching_defs.specs.Spans.{FlowsBy, FlowsAmong}
+use Rattle.reaching_defs.specs.Stretches.{FlowsBy, FlowsAmong}
 
 -- ---- a row and its words
 -- what is known of the words of a row

@@ -1,4 +1,4 @@
 pub mod FlowEdges
-pub mod RowFlow
-pub mod Spans
 pub mod Laws
+pub mod RowFlow
+pub mod Stretches

@@ -7,7 +7,7 @@ ghost use Rattle.rule_closure.specs.Links.{IsListed};
 ghost use Rattle.dep_model.specs.declared.edge.Edge.{Edge};
 ghost use Rattle.reaching_defs.specs.FlowEdges.{IsTargeted};
 ghost use Rattle.reaching_defs.specs.RowFlow.{AreEvenRows, IsRowFlow, row_has};
-ghost use Rattle.reaching_defs.specs.Spans.{AreSuccessors, DefinesSome, FlowsAmong};
+ghost use Rattle.reaching_defs.specs.Stretches.{AreSuccessors, DefinesSome, FlowsAmong};
 
 use crate::search;
 use crate::successors::Successors;
@@ -66,26 +66,26 @@ fn add_targets(
     requires next { AreSuccessors next.now }
     requires few { length s.now.vertices < 2 ^ 32 }
     requires rows { AreEvenRows s.now }
-    requires span_in { next.now.span.base + next.now.span.size ≤ length s.now.vertices }
-    requires from { next.now.span.base ≤ v }
-    requires to { v < next.now.span.base + next.now.span.size }
-    requires room { length order.old ≡ next.now.span.size }
-    requires wide { length reached.old ≡ next.now.span.size }
-    requires size { length targets.old ≡ next.now.span.size }
+    requires stretch_in { next.now.stretch.first + next.now.stretch.size ≤ length s.now.vertices }
+    requires from { next.now.stretch.first ≤ v }
+    requires to { v < next.now.stretch.first + next.now.stretch.size }
+    requires room { length order.old ≡ next.now.stretch.size }
+    requires wide { length reached.old ≡ next.now.stretch.size }
+    requires size { length targets.old ≡ next.now.stretch.size }
     requires word { (bit : ℕ) → bit < 64 → row_has s.now.defined v (first + bit) ≡ eqb (bit_at word bit) 1 }
     requires in_row { (k : ℕ) → IsTrue (row_has s.now.defined v k) → k < s.now.defined.bits }
     requires few_locations { s.now.defined.bits < 2 ^ 32 }
-    ensures wide { length reached.new ≡ next.now.span.size }
-    ensures size { length targets.new ≡ next.now.span.size }
-    ensures exact { (w : ℕ) → w < next.now.span.size → IsTrue (has targets.new w)
-        ↔ (IsTrue (has targets.old w) ⊎ FlowsAmong first (first + 64) s.now next.now.pairs.items v (next.now.span.base + w)) }
+    ensures wide { length reached.new ≡ next.now.stretch.size }
+    ensures size { length targets.new ≡ next.now.stretch.size }
+    ensures exact { (w : ℕ) → w < next.now.stretch.size → IsTrue (has targets.new w)
+        ↔ (IsTrue (has targets.old w) ⊎ FlowsAmong first (first + 64) s.now next.now.pairs.items v (next.now.stretch.first + w)) }
 {
     for bit in 0..64 {
         if is_set(word, bit) {
             let location = first + bit;
             let filled = search::spread(next, v, location, &s.killed, order, reached);
             collect(
-                next.span.base,
+                next.stretch.first,
                 location,
                 &s.used,
                 order,
@@ -109,19 +109,19 @@ fn find_targets(
     requires next { AreSuccessors next.now }
     requires few { length s.now.vertices < 2 ^ 32 }
     requires rows { AreEvenRows s.now }
-    requires span_in { next.now.span.base + next.now.span.size ≤ length s.now.vertices }
-    requires from { next.now.span.base ≤ v }
-    requires to { v < next.now.span.base + next.now.span.size }
-    requires room { length order.old ≡ next.now.span.size }
-    requires wide { length reached.old ≡ next.now.span.size }
-    requires size { length targets.old ≡ next.now.span.size }
+    requires stretch_in { next.now.stretch.first + next.now.stretch.size ≤ length s.now.vertices }
+    requires from { next.now.stretch.first ≤ v }
+    requires to { v < next.now.stretch.first + next.now.stretch.size }
+    requires room { length order.old ≡ next.now.stretch.size }
+    requires wide { length reached.old ≡ next.now.stretch.size }
+    requires size { length targets.old ≡ next.now.stretch.size }
     requires few_locations { s.now.defined.bits < 2 ^ 32 }
-    ensures wide { length reached.new ≡ next.now.span.size }
-    ensures size { length targets.new ≡ next.now.span.size }
-    ensures exact { (w : ℕ) → w < next.now.span.size → IsTrue (has targets.new w)
-        ↔ FlowsAmong 0 s.now.defined.bits s.now next.now.pairs.items v (next.now.span.base + w) }
+    ensures wide { length reached.new ≡ next.now.stretch.size }
+    ensures size { length targets.new ≡ next.now.stretch.size }
+    ensures exact { (w : ℕ) → w < next.now.stretch.size → IsTrue (has targets.new w)
+        ↔ FlowsAmong 0 s.now.defined.bits s.now next.now.pairs.items v (next.now.stretch.first + w) }
     ensures defines { IsTrue result ↔ DefinesSome s.now v }
-    ensures none { IsFalse result → targets.new ≡ replicate next.now.span.size false }
+    ensures none { IsFalse result → targets.new ≡ replicate next.now.stretch.size false }
 {
     targets.clear();
     let mut any = false;
@@ -174,23 +174,23 @@ pub(crate) fn edges_from(
     requires next { AreSuccessors next.now }
     requires few { length s.now.vertices < 2 ^ 32 }
     requires rows { AreEvenRows s.now }
-    requires span_in { next.now.span.base + next.now.span.size ≤ length s.now.vertices }
-    requires from { next.now.span.base ≤ v }
-    requires to { v < next.now.span.base + next.now.span.size }
-    requires room { length order.old ≡ next.now.span.size }
-    requires wide { length reached.old ≡ next.now.span.size }
-    requires size { length targets.old ≡ next.now.span.size }
+    requires stretch_in { next.now.stretch.first + next.now.stretch.size ≤ length s.now.vertices }
+    requires from { next.now.stretch.first ≤ v }
+    requires to { v < next.now.stretch.first + next.now.stretch.size }
+    requires room { length order.old ≡ next.now.stretch.size }
+    requires wide { length reached.old ≡ next.now.stretch.size }
+    requires size { length targets.old ≡ next.now.stretch.size }
     requires few_locations { s.now.defined.bits < 2 ^ 32 }
     requires before { (e : Edge) → Contains found.old.items e → e.from < v }
     requires ascending { AreAscendingEdges found.old.items }
-    ensures wide { length reached.new ≡ next.now.span.size }
-    ensures size { length targets.new ≡ next.now.span.size }
+    ensures wide { length reached.new ≡ next.now.stretch.size }
+    ensures size { length targets.new ≡ next.now.stretch.size }
     ensures exact { OnOk result ((e : Edge) → Contains found.new.items e
         ↔ (Contains found.old.items e ⊎ ((e.from ≡ v) × IsRowFlow s.now (record { pairs = next.now.pairs.items }) e))) }
     ensures ascending { OnOk result (AreAscendingEdges found.new.items) }
 {
     if find_targets(next, v, s, order, reached, targets) {
-        push_edges(next.span.base, v, targets, found)?;
+        push_edges(next.stretch.first, v, targets, found)?;
     }
     Ok(())
 }

@@ -4,41 +4,48 @@
 
 ghost use Rattle.std.specs.Prelude.{◌<◌, ◌^◌, ◌↔◌, IfOk, All, Contains, length};
 ghost use Rattle.dep_model.specs.EdgeOrder.{AreAscendingEdges};
-ghost use Rattle.dep_model.specs.Pairs.{IsPairBelow};
+ghost use Rattle.dep_model.specs.Pairs.{IsPairIn};
+ghost use Rattle.dep_model.specs.Stretches.{AreByFunction};
 ghost use Rattle.dep_model.specs.declared.edge.Edge.{Edge};
 ghost use Rattle.reaching_defs.specs.RowFlow.{IsRowFlow, AreEvenRows};
 
 mod from_vertex;
 mod laws;
 mod search;
-mod span;
 mod successors;
 
 use crate::successors::Successors;
-use dep_model::{Edge, FlowGraph, Skeleton, VertexSet};
+use c_tree::FunctionId;
+use dep_model::{Edge, FlowGraph, Skeleton, VertexSet, stretch_of};
 pub use laws::row_flow_is_flow;
 use std::alloc::{AllocError, Global};
 
-/// The flow edges between the vertices that pairs join, ascending and each once: from a vertex that
-/// may define a location to one that may use it, where a chain of the pairs leads from the one to the
-/// other and no vertex strictly between kills the location. Err: no memory was left.
-pub fn edges(alloc: Global, s: &Skeleton, g: &FlowGraph) -> Result<Vec<Edge>, AllocError>
+/// The flow edges of a function, whose vertices pairs join, ascending and each once: from a vertex
+/// that may define a location to one that may use it, where a chain of the pairs leads from the one to
+/// the other and no vertex strictly between kills the location. Err: no memory was left.
+pub fn edges(
+    alloc: Global,
+    s: &Skeleton,
+    g: &FlowGraph,
+    f: FunctionId,
+) -> Result<Vec<Edge>, AllocError>
     requires rows { AreEvenRows s.now }
-    requires ends { All (IsPairBelow (length s.now.vertices)) g.now.pairs }
+    requires by_function { AreByFunction s.now.vertices }
+    requires ends { All (IsPairIn s.now.vertices f) g.now.pairs }
     requires few { length s.now.vertices < 2 ^ 32 }
     requires few_locations { s.now.defined.bits < 2 ^ 32 }
     ensures exact { IfOk result (λ es. (e : Edge) → Contains es.items e ↔ IsRowFlow s.now g.now e) }
     ensures ascending { IfOk result (λ es. AreAscendingEdges es.items) }
 {
     let pairs = g.pairs.as_slice();
-    let span = span::span_of(pairs, s.vertices.as_slice().len() as u32);
-    let next = Successors::find(alloc, span, pairs)?;
-    let mut memory = vec![in alloc; 0u32; span.size as usize]?;
+    let stretch = stretch_of(s.vertices.as_slice(), f);
+    let next = Successors::find(alloc, stretch, pairs)?;
+    let mut memory = vec![in alloc; 0u32; stretch.size as usize]?;
     let order = memory.as_mut_slice();
-    let mut reached = VertexSet::new(alloc, span.size)?;
-    let mut targets = VertexSet::new(alloc, span.size)?;
+    let mut reached = VertexSet::new(alloc, stretch.size)?;
+    let mut targets = VertexSet::new(alloc, stretch.size)?;
     let mut found = Vec::new(alloc);
-    for v in span.base..span.base + span.size {
+    for v in stretch.first..stretch.first + stretch.size {
         from_vertex::edges_from(&next, v, s, order, &mut reached, &mut targets, &mut found)?;
     }
     Ok(found)

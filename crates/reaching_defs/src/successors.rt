@@ -1,34 +1,42 @@
 //! Which pairs lead from each vertex.
 ghost use Rattle.std.specs.Prelude.{◌≡◌, ◌+◌, ◌<◌, All, IfOk, length, replicate};
-ghost use Rattle.reaching_defs.specs.Spans.{IsPairAmong, IsIndexed, AreSuccessors};
+ghost use Rattle.reaching_defs.specs.Stretches.{IsPairAmong, IsIndexed, AreSuccessors};
 
-use crate::span::Span;
-use dep_model::{Pair, VertexId};
+use dep_model::{Pair, Stretch, VertexId};
 use std::alloc::{AllocError, Global};
 
-/// The pairs of a span, where those that lead from one vertex are joined from the last to the first:
+/// The pairs of a stretch, where those that lead from one vertex are joined from the last to the first:
 /// the last of each vertex, and the one before each pair, as one more than its place, and 0 for none.
 #[derive(Drop)]
 pub(crate) struct Successors {
-    pub(crate) span: Span,
+    pub(crate) stretch: Stretch,
     pub(crate) pairs: Vec<Pair>,
     pub(crate) heads: Vec<usize>,
     pub(crate) nexts: Vec<usize>,
 }
 
 impl Successors {
-    pub(crate) fn find(alloc: Global, span: Span, pairs: &[Pair]) -> Result<Successors, AllocError>
-        requires inside { All (IsPairAmong span.base span.size) pairs.now }
+    pub(crate) fn find(
+        alloc: Global,
+        stretch: Stretch,
+        pairs: &[Pair],
+    ) -> Result<Successors, AllocError>
+        requires inside { All (IsPairAmong stretch.first stretch.size) pairs.now }
         ensures right { IfOk result (λ s. AreSuccessors s) }
-        ensures span { IfOk result (λ s. s.span ≡ span) }
+        ensures stretch { IfOk result (λ s. s.stretch ≡ stretch) }
         ensures pairs { IfOk result (λ s. s.pairs.items ≡ pairs.now) }
     {
-        let mut heads = vec![in alloc; 0usize; span.size as usize]?;
+        let mut heads = vec![in alloc; 0usize; stretch.size as usize]?;
         let mut nexts = vec![in alloc; 0usize; pairs.len()]?;
-        index(span.base, pairs, heads.as_mut_slice(), nexts.as_mut_slice());
+        index(
+            stretch.first,
+            pairs,
+            heads.as_mut_slice(),
+            nexts.as_mut_slice(),
+        );
         let pairs = Vec::from_slice(alloc, pairs)?;
         Ok(Successors {
-            span,
+            stretch,
             pairs,
             heads,
             nexts,

@@ -21,7 +21,7 @@ use Rattle.dep_model.specs.ModRef.{FunctionEffects}
 use Rattle.dep_model.specs.SystemGraph.{Analysis, vertices_of, IsVertex, IsFlowIn, numbered_effects}
 use Rattle.dep_model.specs.Doings.{doings_of}
 use Rattle.dep_model.specs.VertexOrder.{in_function, formal_ins, formal_outs, all_vertices, function_kinds, vertices_from}
-use Rattle.dep_model.proofs.EntryLaws.{at_joined, at_mapped}
+use Rattle.dep_model.proofs.FunctionOrder.{from_functions}
 use Rattle.dep_model.proofs.VertexNumbers.{numbers_pass}
 
 -- vertex number v belongs to function f
@@ -45,25 +45,9 @@ numbered_as test vs f v m =
 pub numbered_in : (test : VertexKind → Bool) (vs : List Vertex) (f v : ℕ) → Contains (numbers test f vs) v → IsIn vs f v
 numbered_in test vs f v m = let w = numbered_as test vs f v m in record { kind = w.kind; at = w.at }
 
--- ---- the functions of vertices are those of the program
+-- ---- as many vertices as functions, at least
 
 module _ (p : Program) (effects : FunctionEffects) where
-  pub from_functions : (n : ℕ) (gs : List Function) (v : ℕ) (x : Vertex) → slice_get (vertices_from p effects n gs) v ≡ Some x → (n ≤ x.function) × (x.function < n + length gs)
-  from_functions n [] v x h = none_there h
-    where
-      none_there : {A : Type 0} → slice_get {X = Vertex} [] v ≡ Some x → A
-      none_there h = cc
-  from_functions n (g ∷ gs) v x h = elim (at_joined (map (in_function n) (function_kinds p effects n)) (vertices_from p effects (suc n) gs) v x h) [
-    | inl a ↦
-        let of = at_mapped (in_function n) (function_kinds p effects n) v x a in
-        let same : n ≡ x.function = ap (λ (y : Vertex). y.function) of.1 in
-        (omega (arith, same), omega (arith, same))
-    | inr b ↦
-        let up = (from_functions (suc n) gs b.0 x b.2).0 in
-        let down = (from_functions (suc n) gs b.0 x b.2).1 in
-        (omega (arith, up), omega (arith, down))
-  ]
-
   some : (n : ℕ) (ks : List VertexKind) → 1 ≤ length (map (in_function n) (Entry ∷ ks))
   some n ks = omega arith
 
@@ -138,7 +122,7 @@ module _ (P : ℕ → Type 0) where
 -- ---- the edges of a function
 
 module _ (p : Program) (vs : List Vertex) (f : ℕ) where
-  order_in : (v w : ℕ) → FollowsIn p vs f v (Some w) → IsIn vs f v × IsIn vs f w
+  pub order_in : (v w : ℕ) → FollowsIn p vs f v (Some w) → IsIn vs f v × IsIn vs f w
   order_in v w h =
       let P = IsIn vs f in
       let all_tails : (u : ℕ) → Contains (tails vs f) u → P u = numbered_in is_formal_out vs f in

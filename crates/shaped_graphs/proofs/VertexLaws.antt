@@ -11,7 +11,7 @@ use Rattle.dep_model.specs.SystemGraph.{Analysis, vertices_of, IsVertex}
 use Rattle.dep_model.specs.VertexOrder.{in_function, function_kinds, vertices_from}
 use Rattle.dep_model.proofs.EntryLaws.{at_joined, at_mapped}
 use Rattle.dep_model.proofs.Membership.{IsIn}
-use Rattle.sdg.proofs.InFunction.{from_functions}
+use Rattle.dep_model.proofs.FunctionOrder.{from_functions, own_function, in_order}
 
 -- ---- places in lists
 
@@ -76,35 +76,11 @@ module _ (p : Program) (effects : FunctionEffects) where
   abbrev own : ℕ → List Vertex
   own n = map (in_function n) (function_kinds p effects n)
 
-  own_function : (n v : ℕ) (x : Vertex) → slice_get (own n) v ≡ Some x → x.function ≡ n
-  own_function n v x h = let of = at_mapped (in_function n) (function_kinds p effects n) v x h in sym (ap (λ (y : Vertex). y.function) of.1)
-
-  in_order : (n : ℕ) (gs : List Function) (u v : ℕ) (x y : Vertex) → u ≤ v → slice_get (vertices_from p effects n gs) u ≡ Some x → slice_get (vertices_from p effects n gs) v ≡ Some y → x.function ≤ y.function
-  in_order n [] u v x y le a b = nowhere u x a
-  in_order n (g ∷ gs) u v x y le a b =
-      let more = vertices_from p effects (suc n) gs in
-      elim (at_joined (own n) more u x a) [
-        | inl h ↦
-            let here = own_function n u x h in
-            let up = (from_functions p effects n (g ∷ gs) v y b).0 in
-            omega (arith, here, up)
-        | inr h ↦ elim (at_joined (own n) more v y b) [
-          | inl k ↦
-              let past = h.1 in
-              let low = slice_get_within (own n) v y k in
-              absurd (omega (arith, past, low, le))
-          | inr k ↦
-              let one = h.1 in
-              let other = k.1 in
-              in_order (suc n) gs h.0 k.0 x y (omega (arith, one, other, le)) h.2 k.2
-        ]
-      ]
-
   kind_in : (n : ℕ) (gs : List Function) (f : ℕ) (k : VertexKind) (v : ℕ) → slice_get (vertices_from p effects n gs) v ≡ Some (in_function f k) → IsIn (function_kinds p effects f) k
   kind_in n [] f k v h = nowhere v (in_function f k) h
   kind_in n (g ∷ gs) f k v h = elim (at_joined (own n) (vertices_from p effects (suc n) gs) v (in_function f k) h) [
     | inl a ↦
-        let same : n ≡ f = sym (own_function n v (in_function f k) a) in
+        let same : n ≡ f = sym (own_function p effects n v (in_function f k) a) in
         subst (λ m. IsIn (function_kinds p effects m) k) same (kind_back n f k (function_kinds p effects n) v a)
     | inr b ↦ kind_in (suc n) gs f k b.0 b.2
   ]
@@ -137,17 +113,17 @@ module _ (p : Program) (effects : FunctionEffects) where
       elim (at_joined (own n) more v (in_function f k) a) [
         | inl h ↦ elim (at_joined (own n) more w (in_function f k) b) [
           | inl j ↦
-              let here : f ≡ n = own_function n v (in_function f k) h in
+              let here : f ≡ n = own_function p effects n v (in_function f k) h in
               let all : IsOnce (own f) (in_function f k) = once_mapped (in_function f) (function_kinds p effects f) k (λ l e. ap (λ (y : Vertex). y.kind) e) once in
               all v w (subst (λ m. slice_get (own m) v ≡ Some (in_function f k)) (sym here) h) (subst (λ m. slice_get (own m) w ≡ Some (in_function f k)) (sym here) j)
           | inr j ↦
-              let here = own_function n v (in_function f k) h in
+              let here = own_function p effects n v (in_function f k) h in
               let up = (from_functions p effects (suc n) gs j.0 (in_function f k) j.2).0 in
               absurd (omega (arith, here, up))
         ]
         | inr h ↦ elim (at_joined (own n) more w (in_function f k) b) [
           | inl j ↦
-              let here = own_function n w (in_function f k) j in
+              let here = own_function p effects n w (in_function f k) j in
               let up = (from_functions p effects (suc n) gs h.0 (in_function f k) h.2).0 in
               absurd (omega (arith, here, up))
           | inr j ↦

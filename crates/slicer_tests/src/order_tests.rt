@@ -1,4 +1,6 @@
 //! The order of the vertices of worked programs, and their control edges.
+ghost use Rattle.dep_model.specs.Stretches.{AreByFunction};
+
 use crate::programs::{LOOPS, SETTING, SWITCH};
 use bit_rows::Rows;
 use c_reader::read_program;
@@ -46,6 +48,15 @@ fn skeleton_of(alloc: Global, vertices: VertexList) -> Result<Skeleton, AllocErr
     })
 }
 
+/// The vertices stand function by function.
+fn by_function<R: Abort + AllocGlobal>(rt: &R, vertices: &[Vertex])
+    ensures { AreByFunction vertices.now }
+{
+    for i in 1..vertices.len() {
+        assert!(rt; vertices[i - 1].function <= vertices[i].function);
+    }
+}
+
 /// The pairs of a function are these.
 fn follow<R: Abort + AllocGlobal>(
     rt: &R,
@@ -56,6 +67,7 @@ fn follow<R: Abort + AllocGlobal>(
 ) {
     assert!(rt; (function as usize) < p.functions.len());
     assert!(rt; s.vertices.len() < SHORT);
+    by_function(rt, s.vertices.as_slice());
     let found = follows(rt.alloc(), p, s, function).expect(rt, "memory");
     let pairs = found.pairs.as_slice();
     assert_eq!(rt; pairs.len(), wanted.len());
@@ -74,6 +86,7 @@ fn control<R: Abort + AllocGlobal>(
 ) {
     assert!(rt; (function as usize) < p.functions.len());
     assert!(rt; s.vertices.len() < SHORT);
+    by_function(rt, s.vertices.as_slice());
     let found = edges(rt.alloc(), p, s, function).expect(rt, "memory");
     assert_eq!(rt; found.len(), wanted.len());
     for (edge, row) in found.iter().zip(wanted.iter()) {

@@ -2,7 +2,7 @@ use Rattle.std.proofs.Common.{◌↔◌, List, [], Contains, length, false, sym,
 use Rattle.std.proofs.lemmas.List.{length-replicate}
 use Rattle.dep_model.specs.declared.skeleton.Pair.{Pair}
 use Rattle.dep_model.specs.EdgeOrder.{AreAscendingEdges}
-use Rattle.reaching_defs.specs.declared.span.Span.{Span}
+use Rattle.dep_model.specs.declared.stretch.Stretch.{Stretch}
 use Rattle.reaching_defs.specs.RowFlow.{IsRowFlow}
 use Rattle.reaching_defs.proofs.EdgeLemmas.{AreFound, order_of, none_ascend, found_begin, found_more, found_all}
 use Rattle.reaching_defs.proofs.edges.Goals as goal
@@ -10,14 +10,14 @@ use Rattle.reaching_defs.proofs.edges.Goals as goal
 pub loop-v-init : goal.loop-v-init
 loop-v-init c =
     let next = c.in_ok-next.next in
-    let same = ap (λ (x : Span). x.size) c.in_ok-next.ensures.span in
-    let base_is = ap (λ (x : Span). x.base) c.in_ok-next.ensures.span in
-    let n = c.span_of-span.result.size in
+    let same = ap (λ (x : Stretch). x.size) c.in_ok-next.ensures.stretch in
+    let base_is = ap (λ (x : Stretch). x.first) c.in_ok-next.ensures.stretch in
+    let n = c.stretch_of-stretch.result.size in
     let s = c.args.s.now in
     record {
       wide = ap length c.in_ok-reached.ensures ∙ length-replicate n false ∙ sym same;
       size = ap length c.in_ok-targets.ensures ∙ length-replicate n false ∙ sym same;
-      exact = subst (AreFound s next.pairs.items c.span_of-span.result.base) (sym c.new-found.ensures.items) (subst (λ b. AreFound s next.pairs.items b []) base_is (found_begin next.span.base next.span.size s next.pairs.items c.in_ok-next.ensures.right.inside));
+      exact = subst (AreFound s next.pairs.items c.stretch_of-stretch.result.first) (sym c.new-found.ensures.items) (subst (λ b. AreFound s next.pairs.items b []) base_is (found_begin next.stretch.first next.stretch.size s next.pairs.items c.in_ok-next.ensures.right.inside));
       ascending = subst AreAscendingEdges (sym c.new-found.ensures.items) none_ascend;
     }
 
@@ -31,7 +31,7 @@ loop-v-preserved c =
     record {
       wide = e.wide;
       size = e.size;
-      exact = found_more next.span.base next.span.size c.args.s.now next.pairs.items c.in_ok-next.ensures.right.inside c.loop-v.v c.loop-v.found.items c.edges_from.new.found.items c.loop-v.invariant.exact e.exact;
+      exact = found_more next.stretch.first next.stretch.size c.args.s.now next.pairs.items c.in_ok-next.ensures.right.inside c.loop-v.v c.loop-v.found.items c.edges_from.new.found.items c.loop-v.invariant.exact e.exact;
       ascending = e.ascending;
     }
 
@@ -40,7 +40,7 @@ returns-clause-exact c = λ e.
     let next = c.in_ok-next.next in
     let s = c.args.s.now in
     let es = c.loop-v.found.items in
-    let base_is = ap (λ (x : Span). x.base) c.in_ok-next.ensures.span in
-    let same = ap (λ (x : Span). x.size) c.in_ok-next.ensures.span in
+    let base_is = ap (λ (x : Stretch). x.first) c.in_ok-next.ensures.stretch in
+    let same = ap (λ (x : Stretch). x.size) c.in_ok-next.ensures.stretch in
     subst (λ (xs : List Pair). Contains es e ↔ IsRowFlow s (order_of xs) e) (c.in_ok-next.ensures.pairs ∙ c.as_slice-pairs.ensures)
-    (found_all next.span.base next.span.size s next.pairs.items c.in_ok-next.ensures.right.inside c.loop-v.v es (omega (arith, base_is, same)) c.loop-v.invariant.exact e)
+    (found_all next.stretch.first next.stretch.size s next.pairs.items c.in_ok-next.ensures.right.inside c.loop-v.v es (omega (arith, base_is, same)) c.loop-v.invariant.exact e)

@@ -5,8 +5,8 @@ use Rattle.reaching_defs.proofs.edges.Given as goal
 
 abbrev pub invariant-loop-v : goal.invariant-loop-v
 invariant-loop-v l = record {
-  wide : length l.reached ≡ l.next.span.size;
-  size : length l.targets ≡ l.next.span.size;
+  wide : length l.reached ≡ l.next.stretch.size;
+  size : length l.targets ≡ l.next.stretch.size;
   exact : AreFound l.s l.next.pairs.items l.v l.found.items;
   ascending : AreAscendingEdges l.found.items;
 }

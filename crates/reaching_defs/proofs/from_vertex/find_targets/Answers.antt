@@ -29,7 +29,7 @@ loop-at-preserved c =
           rw (w.reached-is, w.targets-is, w.any-is) (record {
             wide = a.wide;
             size = a.size;
-            exact = word_adds c.args.next.now.span.base c.args.next.now.span.size c.args.s.now c.args.next.now.pairs.items c.args.v _ at c.loop-at.targets w.add_targets.new.targets i.exact a.exact;
+            exact = word_adds c.args.next.now.stretch.first c.args.next.now.stretch.size c.args.s.now c.args.next.now.pairs.items c.args.v _ at c.loop-at.targets w.add_targets.new.targets i.exact a.exact;
             some = λ t. some_in bits words row (words_of e.len e.holds e.clean) at (omega (arith, w.if-word-ne0.true)) (c.type_inv.word-items at).fits;
             none_yet = λ f. absurd (false≢true (sym f));
             none = λ f. absurd (false≢true (sym f));
@@ -38,7 +38,7 @@ loop-at-preserved c =
           rw (w.reached-is, w.targets-is, w.any-is) (record {
             wide = i.wide;
             size = i.size;
-            exact = word_passes c.args.next.now.span.base c.args.next.now.span.size c.args.s.now c.args.next.now.pairs.items c.args.v _ at c.loop-at.targets i.exact (λ k. none_in bits words row (words_of e.len e.holds e.clean) at k w.if-word-ne0.false);
+            exact = word_passes c.args.next.now.stretch.first c.args.next.now.stretch.size c.args.s.now c.args.next.now.pairs.items c.args.v _ at c.loop-at.targets i.exact (λ k. none_in bits words row (words_of e.len e.holds e.clean) at k w.if-word-ne0.false);
             some = i.some;
             none_yet = λ f. none_yet bits words row (words_of e.len e.holds e.clean) at w.if-word-ne0.false (i.none_yet f);
             none = i.none;
@@ -52,7 +52,7 @@ returns-clause-exact c =
     let words = c.words-word-items.result.now in
     let row = the_set c.args.s.now.defined c.args.v in
     let end : bits ≤ 64 * c.loop-at.at = omega (arith, e.len) in
-    words_end c.args.next.now.span.base c.args.next.now.span.size c.args.s.now c.args.next.now.pairs.items c.args.v _ bits c.loop-at.at c.loop-at.targets refl c.loop-at.invariant.exact end (member_below bits words row (words_of e.len e.holds e.clean))
+    words_end c.args.next.now.stretch.first c.args.next.now.stretch.size c.args.s.now c.args.next.now.pairs.items c.args.v _ bits c.loop-at.at c.loop-at.targets refl c.loop-at.invariant.exact end (member_below bits words row (words_of e.len e.holds e.clean))
 
 pub returns-clause-defines : goal.returns-clause-defines
 returns-clause-defines c =

@@ -4,7 +4,7 @@ use Rattle.reaching_defs.proofs.SearchLemmas.{IsSpreading}
 use Rattle.reaching_defs.proofs.search.spread.Given as goal
 
 abbrev pub invariant-loop-done : goal.invariant-loop-done
-invariant-loop-done l = IsSpreading l.next.span.base l.next.span.size l.next.pairs.items (row_has l.killed) l.location l.v l.done l.order l.filled l.reached
+invariant-loop-done l = IsSpreading l.next.stretch.first l.next.stretch.size l.next.pairs.items (row_has l.killed) l.location l.v l.done l.order l.filled l.reached
 
 abbrev pub decreases-loop-done : goal.decreases-loop-done
-decreases-loop-done l = l.next.span.size - l.done
+decreases-loop-done l = l.next.stretch.size - l.done

@@ -2,7 +2,7 @@ use Rattle.std.proofs.Common.{◌≡◌, ◌-◌, ◌<◌, ◌∙◌, sym, lengt
 use Rattle.std.proofs.lemmas.List.{get_or-set_same, get_or_read}
 use Rattle.bit_rows.specs.Sets.{has}
 use Rattle.rule_closure.proofs.SetLemmas.{count_room}
-use Rattle.reaching_defs.specs.Spans.{IsLastFrom}
+use Rattle.reaching_defs.specs.Stretches.{IsLastFrom}
 use Rattle.reaching_defs.proofs.SearchLemmas.{pair_among, visit_moves, visit_adds}
 use Rattle.reaching_defs.proofs.search.visit.Goals as goal
 use Rattle.reaching_defs.proofs.search.visit.Goals.{then-not-has, else-not-has}
@@ -14,15 +14,15 @@ bounds-order-filled c =
     let cursor = c.loop-cursor.cursor in
     let x = c.index.result.now in
     let low : 0 < cursor = c.loop-cursor-test.true in
-    let e = pair_among next.span.base next.span.size next.pairs.items c.requires.next.inside x (cursor - 1, omega (arith, i.within, low), sym c.index.ensures) in
-    let none : has c.loop-cursor.reached (x.to - next.span.base) ≡ false = sym c.has.ensures ∙ c.if-not-has.true in
-    omega (arith, i.listed.count, i.size, c.requires.size, c.requires.room, c.loop-cursor.auto.order, count_room c.loop-cursor.reached (x.to - next.span.base) (omega (arith, e.to_low, e.to_high, i.size, c.requires.size)) none)
+    let e = pair_among next.stretch.first next.stretch.size next.pairs.items c.requires.next.inside x (cursor - 1, omega (arith, i.within, low), sym c.index.ensures) in
+    let none : has c.loop-cursor.reached (x.to - next.stretch.first) ≡ false = sym c.has.ensures ∙ c.if-not-has.true in
+    omega (arith, i.listed.count, i.size, c.requires.size, c.requires.room, c.loop-cursor.auto.order, count_room c.loop-cursor.reached (x.to - next.stretch.first) (omega (arith, e.to_low, e.to_high, i.size, c.requires.size)) none)
 
 pub loop-cursor-preserved : goal.loop-cursor-preserved
 loop-cursor-preserved c =
     let i = c.loop-cursor.invariant in
     let next = c.args.next.now in
-    let base = next.span.base in
+    let base = next.stretch.first in
     let pairs = next.pairs.items in
     let indexed = c.requires.next.indexed in
     let cursor = c.loop-cursor.cursor in
@@ -31,7 +31,7 @@ loop-cursor-preserved c =
     let at = sym c.index.ensures in
     let low : 0 < cursor = c.loop-cursor-test.true in
     let place : cursor - 1 < length pairs = omega (arith, i.within, low) in
-    let e = pair_among base next.span.size pairs c.requires.next.inside x (cursor - 1, place, at) in
+    let e = pair_among base next.stretch.size pairs c.requires.next.inside x (cursor - 1, place, at) in
     let in_range : x.to - base < length reached = omega (arith, e.to_low, e.to_high, i.size, c.requires.size) in
     let read = get_or_read next.nexts.items (cursor - 1) _ (omega (arith, place, indexed.long)) c.index-cursor-in-loop-cursor.ensures 0 in
     let before = subst (IsLastFrom pairs x.from (cursor - 1)) (sym read) (indexed.nexts_are (cursor - 1) x place at) in

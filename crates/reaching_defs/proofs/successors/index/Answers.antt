@@ -2,7 +2,7 @@ use Rattle.std.proofs.Common.{◌<◌, ◌-◌, arith, get_or, length}
 use Rattle.std.proofs.lemmas.List.{get_or_default}
 use Rattle.std.proofs.lemmas.List.Elements.{All-get_or}
 use Rattle.dep_model.specs.declared.skeleton.Pair.{Pair}
-use Rattle.reaching_defs.specs.Spans.{IsPairAmong}
+use Rattle.reaching_defs.specs.Stretches.{IsPairAmong}
 use Rattle.reaching_defs.proofs.SuccessorLemmas.{heads_turn, nexts_turn}
 use Rattle.reaching_defs.proofs.successors.index.Goals as goal
 

@@ -1,6 +1,6 @@
 use Rattle.std.proofs.Common.{◌≡◌, ℕ, ◌+◌, ◌<◌, length, get_or}
 use Rattle.dep_model.specs.declared.skeleton.Pair.{Pair}
-use Rattle.reaching_defs.specs.Spans.{IsLastFrom}
+use Rattle.reaching_defs.specs.Stretches.{IsLastFrom}
 use Rattle.reaching_defs.proofs.successors.index.Given as goal
 
 abbrev pub invariant-loop-e : goal.invariant-loop-e

@@ -1,5 +1,5 @@
 -- Vertices by their places in a stretch of numbers, and what flows between them.
-use Rattle.std.specs.Prelude.{◌≡◌, ◌≢◌, ℕ, ◌+◌, ◌-◌, ◌<◌, ◌≤◌, ◌⊎◌, true, IsTrue, List, [], length, get_or, All, Contains}
+use Rattle.std.specs.Prelude.{◌≡◌, ◌≢◌, ℕ, ◌+◌, ◌-◌, ◌<◌, ◌≤◌, true, IsTrue, List, length, get_or, All}
 use Rattle.reaching_defs.specs.declared.successors.Successors.{Successors}
 use Rattle.dep_model.specs.declared.skeleton.Pair.{Pair}
 use Rattle.dep_model.specs.declared.skeleton.Skeleton.{Skeleton}
@@ -12,23 +12,6 @@ pub record IsPairAmong (base n : ℕ) (x : Pair) : Type 0 where
   pub from_high : x.from < base + n
   pub to_low : base ≤ x.to
   pub to_high : x.to < base + n
-
--- v is an end of one of the pairs
-pub record IsEnd (pairs : List Pair) (v : ℕ) : Type 0 where
-  pub pair : Pair
-  pub member : Contains pairs pair
-  pub is : (pair.from ≡ v) ⊎ (pair.to ≡ v)
-
--- the first and the last of the n numbers from `base` on are ends of pairs
-pub record IsBetweenEnds (pairs : List Pair) (base n : ℕ) : Type 0 where
-  pub last : ℕ
-  pub from_end : IsEnd pairs base
-  pub to_end : IsEnd pairs last
-  pub size_is : base + n ≡ last + 1
-
--- the n numbers from `base` on are no more than the pairs need
-abbrev pub IsTight : List Pair → ℕ → ℕ → Type 0
-IsTight pairs base n = ((pairs ≡ []) × (n ≡ 0)) ⊎ IsBetweenEnds pairs base n
 
 -- h - 1 is the last place below `at` of a pair from v, or h is 0 where there is none
 pub record IsLastFrom (pairs : List Pair) (v at h : ℕ) : Type 0 where
@@ -43,10 +26,10 @@ pub record IsIndexed (base n : ℕ) (pairs : List Pair) (heads nexts : List ℕ)
   pub heads_are : (u : ℕ) → u < n → IsLastFrom pairs (base + u) (length pairs) (get_or heads u 0)
   pub nexts_are : (e : ℕ) (x : Pair) → e < length pairs → get_or pairs e x ≡ x → IsLastFrom pairs x.from e (get_or nexts e 0)
 
--- the pairs stay among the vertices of the span and are found from the vertex that they begin at
+-- the pairs stay among the vertices of the stretch and are found from the vertex that they begin at
 pub record AreSuccessors (s : Successors) : Type 0 where
-  pub inside : All (IsPairAmong s.span.base s.span.size) s.pairs.items
-  pub indexed : IsIndexed s.span.base s.span.size s.pairs.items s.heads.items s.nexts.items
+  pub inside : All (IsPairAmong s.stretch.first s.stretch.size) s.pairs.items
+  pub indexed : IsIndexed s.stretch.first s.stretch.size s.pairs.items s.heads.items s.nexts.items
 
 -- v may define a location
 abbrev pub DefinesSome : Skeleton → ℕ → Type 0
