@@ -1,6 +1,10 @@
+pub mod FoundVertices
 pub mod Left
 pub mod ListingTurns
+pub mod MadeLemmas
+pub mod OpenWork
 pub mod OwnForms
 pub mod Rules
 pub mod SeenRows
+pub mod SlotRows
 pub mod WordLemmas

@@ -1,5 +1,5 @@
 //! The list of a program's vertices, function by function, which ends at the largest number of them.
-ghost use Rattle.std.specs.Prelude.{◌≡◌, ◌≤◌, ◌<◌, ◌+◌, ◌++◌, ◌∷◌, [], IfOk, OnOk, Some, length, map, slice_get};
+ghost use Rattle.std.specs.Prelude.{◌≡◌, ◌≤◌, ◌<◌, ◌^◌, ◌+◌, ◌++◌, ◌∷◌, [], IfOk, OnOk, Some, length, map, slice_get};
 ghost use Rattle.std.specs.Borrow.{Bor};
 ghost use Rattle.std.specs.Result.{IfErr};
 ghost use Rattle.c_tree.specs.declared.program.Function.{Function};
@@ -104,7 +104,7 @@ impl Listing {
 
 /// Lists the vertices of a program. Err: there are more than 65,536, or no memory was left.
 pub(crate) fn find(alloc: Global, seen: &Seen<'_, '_>) -> Result<Listing, GraphFault>
-    requires few_functions { length seen.now.program.functions ≤ 65536 }
+    requires few_functions { length seen.now.program.functions < 2 ^ 32 }
     ensures added { IfOk result (λ list. list ≡ program_vertices seen.now.program (effects_in seen.now)) }
     ensures above { IfErr result (IsAbove (length (program_vertices seen.now.program (effects_in seen.now)))) }
 {
@@ -121,7 +121,7 @@ fn add_functions(
     functions: &[Function],
 ) -> Result<(), GraphFault>
     requires functions_are { functions.now ≡ seen.now.program.functions }
-    requires few_functions { length functions.now ≤ 65536 }
+    requires few_functions { length functions.now < 2 ^ 32 }
     ensures added { OnOk result (list.new ≡ list.old ++ vertices_from seen.now.program (effects_in seen.now) 0 functions.now) }
     ensures above { IfErr result (IsAbove (length list.old + length (vertices_from seen.now.program (effects_in seen.now) 0 functions.now))) }
 {
