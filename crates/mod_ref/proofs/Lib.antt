@@ -4,4 +4,5 @@ mod CalledLaws
 mod ColumnLemmas
 mod InsideForms
 mod OwnLaws
+pub mod PlacedEffects
 mod Rules

@@ -1,3 +1,4 @@
 pub mod Columns
 pub mod Effects
+pub mod Laws
 pub mod Own

@@ -11,11 +11,13 @@ ghost use Rattle.dep_model.specs.LocationRows.{points_of, HasPointsRows};
 ghost use Rattle.mod_ref.specs.Effects.{AreEffectsByPlace};
 
 mod columns;
+mod laws;
 mod own;
 mod spread;
 
 use c_tree::Program;
 use dep_model::{Effects, Locations, PointsTo};
+pub use laws::effects_by_place_are_rows;
 use std::alloc::{AllocError, Global};
 
 /// What each function of a program may modify and may use, by the list of the program's locations and by rows that say to

@@ -6,6 +6,7 @@ pub mod HavingMain
 pub mod ItemCalls
 pub mod Items
 pub mod Listed
+pub mod ListedEffects
 pub mod NamesInScope
 pub mod NumbersButLines
 pub mod Texts

@@ -147,10 +147,10 @@ module _ (p : Program) where
       let here : Has (variable_locations p 0 p.vars) (variable x) = subst (λ n. Has (variable_locations p 0 p.vars) (variable n)) e (variables_have 0 p.vars x lt) in
       contains_of_in (map alone (locations p)) (variable x) (inr (has_first (variable_locations p 0 p.vars) behind_variables (variable x) here))
 
-  whole_listed : (x : ℕ) → x < length p.vars → (l : Location) → whole x l ≡ true → IsListed p l
+  pub whole_listed : (x : ℕ) → x < length p.vars → (l : Location) → whole x l ≡ true → IsListed p l
   whole_listed x lt l h = subst (IsListed p) (locations_are (variable x) l h) (variable_listed x lt)
 
-  input_listed : (l : Location) → same_location the_input l ≡ true → IsListed p l
+  pub input_listed : (l : Location) → same_location the_input l ≡ true → IsListed p l
   input_listed l h = contains_of_in (map alone (locations p)) l (inl (locations_are the_input l h))
 
   result_has : (k : ℕ) (t : Option CType) → is_some t ≡ true → Has (result_parts p k t) (result_of k)
@@ -206,7 +206,7 @@ module _ (p : Program) where
     and_listed : (b c : Bool) (l : Location) → (c ≡ true → IsListed p l) → (b && c) ≡ true → IsListed p l
     and_listed b c l h is = h (and_parts b c is).1
 
-    part_lists : (h : Part) (places : Places) → Lists (part_of p h places)
+    pub part_lists : (h : Part) (places : Places) → Lists (part_of p h places)
     part_lists h places l is = location_listed l (and_parts (is_location p l) _ is).0
 
     object_lists : (d : Denoted) → Lists (object_points p points d)
@@ -305,7 +305,7 @@ module _ (p : Program) where
     left_used : (e : Expr) → names_below n e ≡ true → Lists (left_reads p points e)
     left_used e h = (expr_fine e h).reads
 
-    all_used : (es : List Expr) → list_all (names_below n) es ≡ true → Lists (any_reads p points es)
+    pub all_used : (es : List Expr) → list_all (names_below n) es ≡ true → Lists (any_reads p points es)
     all_used [] h l is = absurd (false≢true is)
     all_used (e ∷ es) h l is =
         let k = and_parts (names_below n e) (list_all (names_below n) es) h in
@@ -315,7 +315,7 @@ module _ (p : Program) where
     maybe_used None h l is = absurd (false≢true is)
     maybe_used (Some e) h l is = value_used e h l is
 
-    target_used : (to : Target) → target_below n to ≡ true → Lists (target_reads p points to)
+    pub target_used : (to : Target) → target_below n to ≡ true → Lists (target_reads p points to)
     target_used target.None h l is = absurd (false≢true is)
     target_used (target.Place e) h l is = left_used e h l is
     target_used (target.Declared x) h l is = absurd (false≢true is)
@@ -335,7 +335,7 @@ module _ (p : Program) where
     compound_used None e h l is = absurd (false≢true is)
     compound_used (Some op) e h l is = (expr_fine e h).places l is
 
-    act_used : (a : Act) → act_below n a ≡ true → Lists (act_uses p points a)
+    pub act_used : (a : Act) → act_below n a ≡ true → Lists (act_uses p points a)
     act_used (Begins x i) h l is = init_used i (and_parts _ (init_below n i) h).1 l is
     act_used (Sets left op right) h l is =
         let k = and_parts (names_below n left) (names_below n right) h in
@@ -364,7 +364,7 @@ module _ (p : Program) where
           let r = split_first ds es k.1 in
           (ap₂ (λ (x y : Bool). x && y) k.0 r.0, r.1)
 
-      of_function : (fs : List Function) (f : ℕ) → list_all (doing_below n) (functions_doings fs) ≡ true → list_all (doing_below n) (option_map_or (λ (g : Function). body_doings g.body) (slice_get fs f) []) ≡ true
+      pub of_function : (fs : List Function) (f : ℕ) → list_all (doing_below n) (functions_doings fs) ≡ true → list_all (doing_below n) (option_map_or (λ (g : Function). body_doings g.body) (slice_get fs f) []) ≡ true
       of_function [] f h = refl
       of_function (g ∷ fs) zero h = (split_first (body_doings g.body) (functions_doings fs) h).0
       of_function (g ∷ fs) (suc f) h = of_function fs f (split_first (body_doings g.body) (functions_doings fs) h).1

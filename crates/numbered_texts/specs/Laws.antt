@@ -1,5 +1,5 @@
 -- The programs of texts are numbered in text order.
-use Rattle.std.specs.Prelude.{◌≡◌, ℕ, true, length, map, Some, None}
+use Rattle.std.specs.Prelude.{◌≡◌, ◌⊎◌, ℕ, true, length, map, Some, None}
 use Rattle.std.specs.List.{list_all, range_with_len}
 use Rattle.c_tree.specs.declared.program.Program.{Program}
 use Rattle.c_tree.specs.declared.raw.program.RawProgram.{RawProgram}
@@ -7,8 +7,11 @@ use Rattle.c_language.specs.Mains.{main_of}
 use Rattle.c_language.specs.Programs.{HasProgram, IsWellFormed}
 use Rattle.built_forms.specs.BuiltForms.{not_yet}
 use Rattle.built_forms.specs.IntegerForms.{IsIntegerMain}
+use Rattle.dep_model.specs.declared.location.Location.{Location}
+use Rattle.dep_model.specs.Denoted.{TargetsOf}
 use Rattle.dep_model.specs.Doings.{doing_number, program_doings}
-use Rattle.dep_model.specs.ListedLocations.{AreListed}
+use Rattle.dep_model.specs.ListedLocations.{IsListed, AreListed}
+use Rattle.dep_model.specs.ModRef.{Modifies, MayUse}
 use Rattle.dep_model.specs.NumberedMains.{doing_below, IsNumberedMain}
 use Rattle.dep_model.specs.SystemGraph.{Analysis}
 use Rattle.numbered_texts.specs.FittingCalls.{fits, parameter_counts, takes_result}
@@ -24,6 +27,10 @@ NamedVariablesExist = (p : Program) → IsWellFormed p → list_all (doing_below
 -- each location that a vertex may define and another, or the same, may use is one of the program's, whatever the analysis
 abbrev pub LocationsAreListed : Type 0
 LocationsAreListed = (p : Program) (a : Analysis) → IsWellFormed p → AreListed p a
+
+-- each location that one of its functions modifies or uses is one of the program's, wherever pointers may point
+abbrev pub EffectsAreListed : Type 0
+EffectsAreListed = (p : Program) (points : TargetsOf) (f : ℕ) (l : Location) → IsWellFormed p → Modifies p points f l ⊎ MayUse p points f l → IsListed p l
 
 -- each call in one is of a function of the program, with an argument for each of its parameters
 abbrev pub CallsFit : Type 0

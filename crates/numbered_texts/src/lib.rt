@@ -20,6 +20,12 @@ pub fn locations_are_listed()
     ensures { law.LocationsAreListed }
 {}
 
+/// A law: each location that a function of a well-formed program modifies or uses is one of the program's locations,
+/// whatever pointers may point to.
+pub fn effects_are_listed()
+    ensures { law.EffectsAreListed }
+{}
+
 /// A law: each call in a well-formed program is of a function of the program, and has as many arguments as the
 /// function has parameters.
 pub fn calls_fit()
