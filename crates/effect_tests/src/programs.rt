@@ -124,3 +124,17 @@ int main(void) {
     (q).left++;
 }
 "#;
+
+/// Main alone over integers.
+pub(crate) const INTEGERS: &str = r#"#include <stdio.h>
+int main(void) {
+    int i = 3;
+    int s = i;
+    (s) = i && s ? s : EOF;
+    while (i > 3) {
+        s += i;
+        i++;
+    }
+    return s;
+}
+"#;

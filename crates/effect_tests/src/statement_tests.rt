@@ -5,7 +5,7 @@ ghost use Rattle.c_language.specs.Programs.{IsWellFormed};
 ghost use Rattle.dep_model.specs.LocationRows.{HasPointsRows};
 ghost use Rattle.dep_model.specs.Locations.{locations};
 
-use crate::programs::{ADD, LIST, OVERWRITTEN, PARTS, READS, UPWARD};
+use crate::programs::{ADD, INTEGERS, LIST, OVERWRITTEN, PARTS, READS, UPWARD};
 use crate::reading::{Placed, Pointing, SHORT, is_word, points_to, read, statements_of};
 use bit_rows::Rows;
 use c_tree::Program;
@@ -246,4 +246,21 @@ fn parts_of_objects(rt: HostRuntime) {
     // Of `g`, `b` and `s`.
     let taken = [true, false, false, true, false, false, true, false, false];
     text_does(&rt, PARTS, &[(p, in_b), (t, s), (h, g)], &taken, &table);
+}
+
+// The locations are the input, `i`, `s` and main's result.
+#[test]
+fn integers_alone(rt: HostRuntime) {
+    let (i, s, result) = (1 << 1, 1 << 2, 1 << 3);
+    let table = [
+        (3, 0, i, i),
+        (4, i, s, s),
+        // A name in parentheses kills nothing.
+        (5, i | s, s, 0),
+        (6, i, 0, 0),
+        (7, s | i, s, s),
+        (8, i, i, i),
+        (10, s, result, result),
+    ];
+    text_does(&rt, INTEGERS, &[], &[false, false], &table);
 }

@@ -15,4 +15,6 @@ pub mod EngineLaws
 pub mod SliceLaws
 pub mod OneSlice
 pub mod StartNumbers
+pub mod PointingNowhere
 pub mod Projections
+pub mod StoredIntegers

@@ -6,16 +6,22 @@ use Rattle.c_language.specs.Programs.{IsWellFormed}
 use Rattle.dep_model.specs.NumberedMains.{IsNumberedMain}
 use Rattle.dep_model.specs.declared.facts.Facts.{Facts}
 use Rattle.dep_model.specs.declared.graph.Graph.{Graph}
+use Rattle.dep_model.specs.declared.location.Location.{Location}
 use Rattle.dep_model.specs.ClosedSets.{IsMainEntry}
 use Rattle.dep_model.specs.Completion.{IsCompletion}
 use Rattle.dep_model.specs.Facts.{AreTrueFacts}
 use Rattle.dep_model.specs.Graphs.{IsGraphOf}
 use Rattle.dep_model.specs.LocationLists.{location_list}
+use Rattle.dep_model.specs.MayPoint.{MayPoint}
 use Rattle.dep_model.specs.NamedParameters.{NamesParameter}
 use Rattle.dep_model.specs.Shapes.{IsShaped}
 use Rattle.dep_model.specs.SystemGraph.{Analysis}
 use Rattle.projection.specs.Kept.{rank}
 use Rattle.slice_engine.specs.Slice.{starts_on, keeps, sliced, IsReached, IsKeptSet}
+
+-- no location of the program may point anywhere
+abbrev pub PointsNowhere : Program → Type 0
+PointsNowhere p = (l m : Location) → MayPoint p l m → ⊥
 
 -- a program's locations and its graph are within the limits
 pub record IsWithinLimits (p : Program) (g : Graph) : Type 0 where

@@ -1,6 +1,7 @@
 pub mod Criterion
 pub mod Header
 pub mod Slice
+pub mod StoredIntegers
 pub mod Engine
 pub mod Laws
 pub mod GraphLimits

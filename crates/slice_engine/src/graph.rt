@@ -1,42 +1,50 @@
 //! The system dependence graph of a program, and what a slice keeps of it.
-ghost use Rattle.std.specs.Prelude.{◌≡◌, ◌≤◌, ◌<◌, ℕ, IfOk, OnOk, length};
+ghost use Rattle.std.specs.Prelude.{◌≡◌, ◌≤◌, ◌<◌, ◌^◌, ℕ, IfOk, OnOk, length};
 ghost use Rattle.std.specs.Result.{IfErr};
 ghost use Rattle.c_tree.specs.declared.limits.LimitName.{LimitName};
+ghost use Rattle.c_tree.specs.declared.program.Program.{Program};
 ghost use Rattle.c_language.specs.Programs.{IsWellFormed};
 ghost use Rattle.dep_model.specs.declared.graph_fault.GraphFault.TheVariants.{Limit};
 ghost use Rattle.dep_model.specs.Facts.{AreTrueFacts};
-ghost use Rattle.dep_model.specs.Graphs.{IsGraphOf, fact_words};
-ghost use Rattle.dep_model.specs.NumberedMains.{IsNumberedMain};
+ghost use Rattle.dep_model.specs.Graphs.{IsGraphOf};
+ghost use Rattle.dep_model.specs.LocationLists.{location_list};
+ghost use Rattle.dep_model.specs.LocationRows.{ArePointsRows};
 ghost use Rattle.dep_model.specs.Shapes.{IsShaped};
 ghost use Rattle.two_pass.specs.Ready.{HasMembers};
-ghost use Rattle.slice_engine.specs.Engine.{IsWithinLimits, KeepsFrom};
+ghost use Rattle.slice_engine.specs.Engine.{IsWithinLimits, KeepsFrom, PointsNowhere};
 ghost use Rattle.slice_engine.specs.GraphLimits.{IsAboveGraphLimit};
 
-use c_tree::{LimitName, Program};
+use bit_rows::Rows;
+use c_tree::Program;
 use completion::Closer;
-use dep_model::{Facts, Graph, GraphFault, Locations, VertexId, VertexSet};
-use main_skeleton::skeleton_of;
+use dep_model::{Facts, Graph, GraphFault, Locations, PointsTo, VertexId, VertexSet};
 use std::alloc::{AllocError, Global};
 use two_pass::Passes;
+use vertex_layout::lay_out;
 
-// The most statements that a main alone may have, so that its graph has at most 65,536 vertices.
-const MAX_STATEMENTS: u32 = 65_535;
-
-/// The graph of a program of main alone, or which of its quantities is above its limit.
+/// The graph of a program in which no location points anywhere, or which of its quantities is above its limit.
 pub(crate) fn graph_of(alloc: Global, p: &Program) -> Result<Graph, GraphFault>
     requires well_formed { IsWellFormed p.now }
-    requires numbered { IsNumberedMain p.now }
+    requires few_functions { length p.now.functions < 2 ^ 32 }
+    requires nowhere { PointsNowhere p.now }
     ensures graph { IfOk result (IsGraphOf p.now) }
     ensures within { IfOk result (IsWithinLimits p.now) }
     ensures above { IfErr result (λ f. (n : LimitName) → f ≡ Limit n → IsAboveGraphLimit p.now n) }
 {
-    Locations::of(alloc, p)?;
-    if p.statements > MAX_STATEMENTS {
-        return Err(GraphFault::Limit(LimitName::Vertices));
-    }
-    let skeleton = skeleton_of(alloc, p)?;
+    let locations = Locations::of(alloc, p)?;
+    let points = pointing_nowhere(alloc, &locations)?;
+    let effects = mod_ref::find(alloc, p, &locations, &points)?;
+    let skeleton = lay_out(alloc, p, &locations, &points, &effects)?;
     let graph = program_graph::find(alloc, p, skeleton)?;
     Ok(graph)
+}
+
+// Rows by which none of the locations points anywhere.
+fn pointing_nowhere(alloc: Global, locations: &Locations) -> Result<PointsTo, AllocError>
+    ensures { IfOk result (λ t. (p : Program) → locations.now ≡ location_list p → PointsNowhere p → ArePointsRows p t) }
+{
+    let rows = Rows::new(alloc, locations.len(), locations.len())?;
+    Ok(PointsTo { rows })
 }
 
 /// Makes a set of vertices the completion of what reaches it.

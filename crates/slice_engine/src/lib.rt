@@ -13,4 +13,4 @@ pub use c_reader::{LexFault, ParseFault, ReadRefusal, RuleFault, read_program};
 pub use c_tree::{LimitName, Program, Text};
 pub use dep_model::GraphFault;
 pub use engine::{Criterion, Engine};
-pub use laws::{projection_has_same_values, projection_is_well_formed};
+pub use laws::{integers_point_nowhere, projection_has_same_values, projection_is_well_formed};

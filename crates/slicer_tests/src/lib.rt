@@ -18,5 +18,3 @@ mod projection_tests;
 mod run_tests;
 #[cfg(test)]
 mod running;
-#[cfg(test)]
-mod skeleton_tests;

@@ -1,24 +1,44 @@
-use Rattle.std.proofs.Common.{◌≡◌}
-use Rattle.c_tree.specs.declared.limits.LimitName.TheVariants as limit
-use Rattle.slice_engine.proofs.GraphLaws.{has_skeleton, is_within, above_vertices, few_variables, above_locations}
+use Rattle.dep_model.proofs.StructOrder.{well_formed_in_order}
+use Rattle.dep_model.specs.LocationRows.{ArePointsRows}
+use Rattle.numbered_texts.proofs.NumbersButLines.{statements_numbered}
+use Rattle.slice_engine.proofs.GraphLaws.{well_listed, has_skeleton, above_vertices, above_locations, is_within}
 use Rattle.slice_engine.proofs.graph.graph_of.Goals as goal
 
-pub returns-in_err-of-clause-above : goal.returns-in_err-of-clause-above
-returns-in_err-of-clause-above c = above_locations c.args.p.now c.from_residual.result c.in_err-of.field-0.0 c.from_residual.ensures.1 c.in_err-of.ensures.above
+pub of-requires-clause-ordered : goal.of-requires-clause-ordered
+of-requires-clause-ordered c = well_formed_in_order c.args.p.now c.requires.well_formed
 
-pub returns-then-p-gt-MAX_STATEMENTS-clause-above :
-    goal.returns-then-p-gt-MAX_STATEMENTS-clause-above
-returns-then-p-gt-MAX_STATEMENTS-clause-above c = λ n e.
-    let same : n ≡ limit.Vertices = cc in
-    above_vertices c.args.p.now c.requires.numbered c.in_ok-of.ensures.within c.if-p-gt-MAX_STATEMENTS.true n same
+pub returns-in_err-locations-clause-above : goal.returns-in_err-locations-clause-above
+returns-in_err-locations-clause-above c = above_locations c.args.p.now c.from_residual.result c.in_err-locations.field-0.0 c.from_residual.ensures.1 c.in_err-locations.ensures.above
 
-pub skeleton_of-requires-clause-narrow : goal.skeleton_of-requires-clause-narrow
-skeleton_of-requires-clause-narrow c = few_variables c.args.p.now c.requires.numbered c.in_ok-of.ensures.within
+pub find-requires-clause-once : goal.find-requires-clause-once
+find-requires-clause-once c = well_listed c.args.p.now c.requires.well_formed
 
-pub find-requires : goal.find-requires
-find-requires c =
-    has_skeleton c.args.p.now c.requires.numbered c.in_ok-skeleton.skeleton c.requires.well_formed c.in_ok-of.ensures.within c.if-p-gt-MAX_STATEMENTS.false c.in_ok-skeleton.ensures
+pub find-requires-clause-points_are : goal.find-requires-clause-points_are
+find-requires-clause-points_are c = (c.in_ok-points.ensures c.args.p.now c.in_ok-locations.ensures.list c.requires.nowhere).sized
+
+pub lay_out-requires-clause-once : goal.lay_out-requires-clause-once
+lay_out-requires-clause-once c = well_listed c.args.p.now c.requires.well_formed
+
+pub lay_out-requires-clause-numbered : goal.lay_out-requires-clause-numbered
+lay_out-requires-clause-numbered c = statements_numbered c.args.p.now c.requires.well_formed
+
+pub lay_out-requires-clause-points_are : goal.lay_out-requires-clause-points_are
+lay_out-requires-clause-points_are c = (c.in_ok-points.ensures c.args.p.now c.in_ok-locations.ensures.list c.requires.nowhere).sized
+
+pub lay_out-requires-clause-effects_are : goal.lay_out-requires-clause-effects_are
+lay_out-requires-clause-effects_are c = c.in_ok-effects.ensures.exact.sized
+
+pub returns-in_err-skeleton-clause-above : goal.returns-in_err-skeleton-clause-above
+returns-in_err-skeleton-clause-above c =
+    let rows : ArePointsRows c.args.p.now c.in_ok-points.points = c.in_ok-points.ensures c.args.p.now c.in_ok-locations.ensures.list c.requires.nowhere in
+    above_vertices c.args.p.now c.in_ok-points.points c.in_ok-effects.effects c.requires.well_formed rows c.in_ok-effects.ensures.exact c.from_residual-in_err-skeleton.result c.in_err-skeleton.field-0.0 c.from_residual-in_err-skeleton.ensures.1 c.in_ok-locations.ensures.within c.in_err-skeleton.ensures.above
+
+pub find-requires-2 : goal.find-requires-2
+find-requires-2 c =
+    let rows : ArePointsRows c.args.p.now c.in_ok-points.points = c.in_ok-points.ensures c.args.p.now c.in_ok-locations.ensures.list c.requires.nowhere in
+    has_skeleton c.args.p.now c.in_ok-points.points c.in_ok-effects.effects c.requires.well_formed rows c.in_ok-effects.ensures.exact c.in_ok-skeleton.skeleton c.in_ok-locations.ensures.within c.in_ok-skeleton.ensures.skeleton c.in_ok-skeleton.ensures.within
 
 pub returns-clause-within : goal.returns-clause-within
 returns-clause-within c =
-    is_within c.args.p.now c.requires.numbered c.in_ok-graph.graph c.in_ok-of.ensures.within c.if-p-gt-MAX_STATEMENTS.false c.in_ok-graph.ensures
+    let rows : ArePointsRows c.args.p.now c.in_ok-points.points = c.in_ok-points.ensures c.args.p.now c.in_ok-locations.ensures.list c.requires.nowhere in
+    is_within c.args.p.now c.in_ok-skeleton.skeleton c.in_ok-graph.graph (has_skeleton c.args.p.now c.in_ok-points.points c.in_ok-effects.effects c.requires.well_formed rows c.in_ok-effects.ensures.exact c.in_ok-skeleton.skeleton c.in_ok-locations.ensures.within c.in_ok-skeleton.ensures.skeleton c.in_ok-skeleton.ensures.within) c.in_ok-graph.ensures
