@@ -9,3 +9,6 @@ pub mod Bodies
 pub mod MainHeads
 pub mod MainItems
 pub mod Programs
+pub mod Wider
+pub mod ButLines
+pub mod IntegerItems

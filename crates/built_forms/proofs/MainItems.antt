@@ -27,8 +27,8 @@ not_zero : (n : ℕ) → 0 < n → (n == 0) ≡ false
 not_zero n h = grind (arith, nat_tests, h)
 
 module _ (raw : RawProgram) (p : Program) where
-  outside_here : {A : Type 0} (ys : List Item) (x : Item) (rest : List Item) (l : ℕ) → ys ≡ x ∷ rest → items_outside p (x ∷ rest) ≡ Some l → items_outside p ys ≡ None → A
-  outside_here ys x rest l is out none = none_there (sym none ∙ ap (items_outside p) is ∙ out)
+  outside_here : {A : Type 0} (ys : List Item) (x : Item) (rest : List Item) (l : ℕ) → ys ≡ x ∷ rest → items_outside false p (x ∷ rest) ≡ Some l → items_outside false p ys ≡ None → A
+  outside_here ys x rest l is out none = none_there (sym none ∙ ap (items_outside false p) is ∙ out)
 
   -- behind main, includes alone
   pub record OnlyIncludes (xs : List RawItem) (scope : Scope) (ys : List Item) (fs : List Function) : Type 0 where
@@ -38,7 +38,7 @@ module _ (raw : RawProgram) (p : Program) where
     pub stays : after_items raw xs scope ≡ scope
     pub no_structs : struct_texts xs ≡ []
 
-  pub behind_main : (xs : List RawItem) (scope : Scope) → 0 < scope.functions → (ys : List Item) → collected (items_from raw xs scope) ≡ Some ys → items_outside p ys ≡ None
+  pub behind_main : (xs : List RawItem) (scope : Scope) → 0 < scope.functions → (ys : List Item) → collected (items_from raw xs scope) ≡ Some ys → items_outside false p ys ≡ None
       → (fs : List Function) → collected (functions_from raw xs scope) ≡ Some fs → OnlyIncludes xs scope ys fs
   behind_main [] scope later ys e none fs d = record {
     plain = subst (All IsPlainItem) (some_same e) (All-nil IsPlainItem);
@@ -50,7 +50,7 @@ module _ (raw : RawProgram) (p : Program) where
   behind_main (Include b ∷ xs) scope later ys e none fs d =
       let m = more_there (Some (item.Include b)) (items_from raw xs scope) ys e in
       let is : ys ≡ item.Include b ∷ m.rest = (sym m.same) ∙ ap (λ (x : Item). x ∷ m.rest) (sym (some_same m.first_there)) in
-      let k = behind_main xs scope later m.rest m.rest_there (ap (items_outside p) (sym is) ∙ none) fs d in
+      let k = behind_main xs scope later m.rest m.rest_there (ap (items_outside false p) (sym is) ∙ none) fs d in
       record {
         plain = subst (All IsPlainItem) (sym is) (All-cons IsPlainItem (item.Include b) m.rest include k.plain);
         no_functions = k.no_functions;
@@ -76,8 +76,8 @@ module _ (raw : RawProgram) (p : Program) where
   behind_main (Define line head body ∷ xs) scope later ys e none fs d =
       let m = more_there (Some (item.Define scope.functions)) (items_from raw xs (after_item raw (Define line head body) scope)) ys e in
       let is : ys ≡ item.Define scope.functions ∷ m.rest = (sym m.same) ∙ ap (λ (x : Item). x ∷ m.rest) (sym (some_same m.first_there)) in
-      let free : option_or (defined_outside p scope.functions) (items_outside p m.rest) ≡ None = ap (items_outside p) (sym is) ∙ none in
-      let other : defined_outside p scope.functions ≡ Some (function_line p scope.functions) = ap (λ (b : Bool). if b then option_map_or (function_outside p.vars) (slice_get p.functions 0) None else Some (function_line p scope.functions)) (not_zero scope.functions later) in
+      let free : option_or (defined_outside false p scope.functions) (items_outside false p m.rest) ≡ None = ap (items_outside false p) (sym is) ∙ none in
+      let other : defined_outside false p scope.functions ≡ Some (function_line p scope.functions) = ap (λ (b : Bool). if b then option_map_or (function_outside false p.vars) (slice_get p.functions 0) None else Some (function_line p scope.functions)) (not_zero scope.functions later) in
       none_there (sym (first_none _ _ free).0 ∙ other)
 
   -- where main is defined: behind includes alone
@@ -93,20 +93,20 @@ module _ (raw : RawProgram) (p : Program) where
     pub functions : fs ≡ f ∷ others
     pub later_functions : collected (functions_from raw rest (after_item raw (Define line head body) outset)) ≡ Some others
     pub later_items : collected (items_from raw rest (after_item raw (Define line head body) outset)) ≡ Some behind
-    pub later_inside : items_outside p behind ≡ None
-    pub inside : defined_outside p 0 ≡ None
+    pub later_inside : items_outside false p behind ≡ None
+    pub inside : defined_outside false p 0 ≡ None
     pub plain : All IsPlainItem behind → All IsPlainItem ys
     pub phrases_are : items_phrases raw xs outset ≡ item_phrases raw (Define line head body) outset ++ items_phrases raw rest (after_item raw (Define line head body) outset)
     pub ends : after_items raw xs outset ≡ after_items raw rest (after_item raw (Define line head body) outset)
     pub structs : struct_texts xs ≡ struct_texts rest
 
-  pub main_at : (xs : List RawItem) → (function_texts xs ≡ [] → ⊥) → (ys : List Item) → collected (items_from raw xs outset) ≡ Some ys → items_outside p ys ≡ None
+  pub main_at : (xs : List RawItem) → (function_texts xs ≡ [] → ⊥) → (ys : List Item) → collected (items_from raw xs outset) ≡ Some ys → items_outside false p ys ≡ None
       → (fs : List Function) → collected (functions_from raw xs outset) ≡ Some fs → MainAt xs ys fs
   main_at [] some ys e none fs d = absurd (some refl)
   main_at (Include b ∷ xs) some ys e none fs d =
       let m = more_there (Some (item.Include b)) (items_from raw xs outset) ys e in
       let is : ys ≡ item.Include b ∷ m.rest = (sym m.same) ∙ ap (λ (x : Item). x ∷ m.rest) (sym (some_same m.first_there)) in
-      let k = main_at xs some m.rest m.rest_there (ap (items_outside p) (sym is) ∙ none) fs d in
+      let k = main_at xs some m.rest m.rest_there (ap (items_outside false p) (sym is) ∙ none) fs d in
       record {
         line = k.line;
         head = k.head;
@@ -144,7 +144,7 @@ module _ (raw : RawProgram) (p : Program) where
   main_at (Define line head body ∷ xs) some ys e none fs d =
       let m = more_there (Some (item.Define 0)) (items_from raw xs (after_item raw (Define line head body) outset)) ys e in
       let is : ys ≡ item.Define 0 ∷ m.rest = (sym m.same) ∙ ap (λ (x : Item). x ∷ m.rest) (sym (some_same m.first_there)) in
-      let free = first_none (defined_outside p 0) (items_outside p m.rest) (ap (items_outside p) (sym is) ∙ none) in
+      let free = first_none (defined_outside false p 0) (items_outside false p m.rest) (ap (items_outside false p) (sym is) ∙ none) in
       let g = more_there (function_tree raw line head body outset) (functions_from raw xs (after_item raw (Define line head body) outset)) fs d in
       record {
         line = line;

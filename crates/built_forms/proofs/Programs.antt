@@ -68,7 +68,7 @@ found_length [] vs e = ap length (sym (some_same e))
 found_length (o ∷ found) vs e = let m = more_there o found vs e in let k : length m.rest ≡ length found = found_length found m.rest m.rest_there in ap length (sym m.same) ∙ ap suc k
 
 -- a variable that is there and tested to be of an integer type has one
-integer_variable : (vs : List Var) (k : ℕ) (v : Var) → slice_get vs k ≡ Some v → is_integer_variable vs k ≡ true → (t : IntType) × (v.shape ≡ type.Integer t)
+pub integer_variable : (vs : List Var) (k : ℕ) (v : Var) → slice_get vs k ≡ Some v → is_integer_variable vs k ≡ true → (t : IntType) × (v.shape ≡ type.Integer t)
 integer_variable vs k v is h = has_type v.shape (sym (ap (λ (o : Option Var). option_map_or (λ (w : Var). is_integer_type w.shape) o false) is) ∙ h)
 
 -- ---- the phrases of main
@@ -134,8 +134,8 @@ module _ (raw : RawProgram) (p : Program) (keeps : KeepsRules raw) (made : progr
   kept_main : AreKept raw (item_phrases raw (Define at.line at.head at.body) outset)
   kept_main = kept_first raw (item_phrases raw (Define at.line at.head at.body) outset) (items_phrases raw at.rest (after_item raw (Define at.line at.head at.body) outset)) (subst (AreKept raw) at.phrases_are (phrases_kept raw keeps))
 
-  main_tested : (is_main at.f.name ≡ true) × (body_outside p.vars at.f.body ≡ None)
-  main_tested = main_inside (is_main at.f.name) (body_outside p.vars at.f.body) at.f.line (sym (ap (λ (fs : List Function). option_map_or (function_outside p.vars) (slice_get fs 0) None) at.functions) ∙ at.inside)
+  main_tested : (is_main at.f.name ≡ true) × (body_outside false p.vars at.f.body ≡ None)
+  main_tested = main_inside (is_main at.f.name) (body_outside false p.vars at.f.body) at.f.line (sym (ap (λ (fs : List Function). option_map_or (function_outside false p.vars) (slice_get fs 0) None) at.functions) ∙ at.inside)
 
   abbrev of_main : IsFunctionOf raw at.line at.head at.body outset at.f
   of_main = function_made raw at.line at.head at.body outset at.f at.tree
@@ -152,10 +152,10 @@ module _ (raw : RawProgram) (p : Program) (keeps : KeepsRules raw) (made : progr
   abbrev found : List (Option Var)
   found = variables_in raw (body_phrases raw at.body start)
 
-  all : Declares raw p.vars start (after_body raw at.body start) found
+  all : Declares raw false p.vars start (after_body raw at.body start) found
   all =
-      body_declares raw p.vars at.body start refl xs (body_made raw at.line at.head at.body named kept_main at.f at.tree)
-      (ap (body_outside p.vars) (sym (ap (λ (f : Function). f.body) of_main.is)) ∙ main_tested.1) (kept_body raw at.line at.head at.body named kept_main)
+      body_declares raw false p.vars at.body start xs (body_made raw at.line at.head at.body named kept_main at.f at.tree)
+      (ap (body_outside false p.vars) (sym (ap (λ (f : Function). f.body) of_main.is)) ∙ main_tested.1) (kept_body raw at.line at.head at.body named kept_main)
 
   abbrev after : Scope
   after = after_item raw (Define at.line at.head at.body) outset
@@ -197,6 +197,6 @@ module _ (raw : RawProgram) (p : Program) (keeps : KeepsRules raw) (made : progr
     structs_are = sym (some_same (ap (λ (ds : List StructText). collected (map (struct_tree raw) ds)) (sym (at.structs ∙ alone.no_structs)) ∙ made_parts.structs));
     functions_are = at.functions ∙ ap (λ (fs : List Function). at.f ∷ fs) alone.no_functions;
     no_parameters = takes_nothing raw at.line at.head at.body named kept_main at.f at.tree;
-    locals = locals_of found p.vars found_is all.of_main shaped;
+    locals = locals_of found p.vars found_is (all.of_main refl) shaped;
     statements_are = body_integers p.vars at.f.body main_tested.1;
   }

@@ -1,30 +1,67 @@
-//! Items of the built forms: includes, and main alone.
+//! Items of the built forms: includes and main alone, or globals and functions over integers.
 ghost use Rattle.std.specs.Prelude.{◌≡◌};
+ghost use Rattle.std.specs.List.{list_all};
 ghost use Rattle.built_forms.specs.BuiltForms as forms;
 
-use crate::statements::body_outside;
-use c_tree::{Function, FunctionId, Item, Program, Var, VarId};
+use crate::expressions::{integer_init, is_integer_type};
+use crate::statements::{body_outside, is_integer_variable, unless};
+use c_tree::{CType, Function, FunctionId, Item, Program, Var, VarId};
 
-fn function_outside(vars: &[Var], f: &Function) -> Option<u32>
-    ensures { result ≡ forms.function_outside vars.now f.now }
+fn is_integer_head(vars: &[Var], f: &Function) -> bool
+    ensures { result ≡ forms.is_integer_head (forms.is_integer_variable vars.now) f.now }
 {
-    if f.name.bytes() == b"main".as_slice() {
-        body_outside(f.body.as_slice(), vars)
+    gives_integer(&f.result) && are_integer_variables(vars, f.params.as_slice())
+}
+
+fn gives_integer(result_type: &Option<CType>) -> bool
+    ensures { result ≡ forms.integer_result result_type.now }
+{
+    match result_type {
+        None => true,
+        Some(t) => is_integer_type(t),
+    }
+}
+
+fn are_integer_variables(vars: &[Var], list: &[VarId]) -> bool
+    ensures { result ≡ list_all (forms.is_integer_variable vars.now) list.now }
+{
+    for x in list {
+        if !is_integer_variable(vars, *x) {
+            return false;
+        }
+    }
+    true
+}
+
+fn function_outside(vars: &[Var], f: &Function, calls: bool) -> Option<u32>
+    ensures { result ≡ forms.function_outside calls vars.now f.now }
+{
+    if f.name.bytes() == b"main".as_slice() || calls && is_integer_head(vars, f) {
+        body_outside(f.body.as_slice(), vars, calls)
     } else {
         Some(f.line)
     }
 }
 
-// Main is the first function, and the only one.
-fn defined_outside(p: &Program, f: FunctionId) -> Option<u32>
-    ensures { result ≡ forms.defined_outside p.now f }
+// Without calls main is the first function, and the only one.
+fn defined_outside(p: &Program, f: FunctionId, calls: bool) -> Option<u32>
+    ensures { result ≡ forms.defined_outside calls p.now f }
 {
-    if f != 0 {
+    if !calls && f != 0 {
         return Some(function_line(p, f));
     }
-    match p.functions.as_slice().first() {
-        Some(function) => function_outside(p.vars.as_slice(), function),
+    match p.functions.as_slice().get(f as usize) {
+        Some(function) => function_outside(p.vars.as_slice(), function, calls),
         None => None,
+    }
+}
+
+fn is_prototype_of(p: &Program, f: FunctionId) -> bool
+    ensures { result ≡ forms.is_prototype_of p.now f }
+{
+    match p.functions.as_slice().get(f as usize) {
+        Some(function) => is_integer_head(p.vars.as_slice(), function),
+        None => false,
     }
 }
 
@@ -60,22 +97,32 @@ fn next_line(p: &Program, items: &[Item]) -> u32
     function_line(p, 0)
 }
 
-fn items_outside(p: &Program, items: &[Item]) -> Option<u32>
-    ensures { result ≡ forms.items_outside p.now items.now }
+// The line of an item that is outside, in front of the others.
+fn item_outside(p: &Program, item: &Item, rest: &[Item], calls: bool) -> Option<u32>
+    ensures { result ≡ forms.item_outside calls p.now item.now rest.now }
+{
+    match item {
+        Item::Include { .. } => None,
+        Item::Tag(_) => Some(next_line(p, rest)),
+        Item::Struct(_) => Some(next_line(p, rest)),
+        Item::Global(x, init) => unless(
+            calls && is_integer_variable(p.vars.as_slice(), *x) && integer_init(init),
+            variable_line(p, *x),
+        ),
+        Item::Prototype { function, .. } => {
+            unless(calls && is_prototype_of(p, *function), next_line(p, rest))
+        }
+        Item::Define(f) => defined_outside(p, *f, calls),
+    }
+}
+
+fn items_outside(p: &Program, items: &[Item], calls: bool) -> Option<u32>
+    ensures { result ≡ forms.items_outside calls p.now items.now }
 {
     for (i, item) in items.iter().enumerate() {
-        match item {
-            Item::Include { .. } => {}
-            Item::Define(f) => {
-                let outside = defined_outside(p, *f);
-                if outside.is_some() {
-                    return outside;
-                }
-            }
-            Item::Global(x, _) => return Some(variable_line(p, *x)),
-            Item::Tag(_) | Item::Struct(_) | Item::Prototype { .. } => {
-                return Some(next_line(p, &items[i + 1..]));
-            }
+        let outside = item_outside(p, item, &items[i + 1..], calls);
+        if outside.is_some() {
+            return outside;
         }
     }
     None
@@ -88,5 +135,14 @@ fn items_outside(p: &Program, items: &[Item]) -> Option<u32>
 pub fn not_yet(p: &Program) -> Option<u32>
     ensures { result ≡ forms.not_yet p.now }
 {
-    items_outside(p, p.items.as_slice())
+    items_outside(p, p.items.as_slice(), false)
+}
+
+/// The line of the first item, declaration or statement in text order that isn't over integers: that has a pointer, an
+/// array, a struct or memory that is allocated; `None` where the program has none, and so its graph can be made. Lines are
+/// told as by [`not_yet`].
+pub fn beyond_integers(p: &Program) -> Option<u32>
+    ensures { result ≡ forms.beyond_integers p.now }
+{
+    items_outside(p, p.items.as_slice(), true)
 }

@@ -6,5 +6,5 @@ mod items;
 mod laws;
 mod statements;
 
-pub use items::not_yet;
-pub use laws::built_are_integer_mains;
+pub use items::{beyond_integers, not_yet};
+pub use laws::{built_are_integer_mains, built_are_over_integers};

@@ -1,4 +1,4 @@
-//! Declarations and statements of the built forms.
+//! Declarations and statements of the built forms, with calls among them or not.
 ghost use Rattle.std.specs.Prelude.{◌≡◌, ◌&&◌};
 ghost use Rattle.std.specs.List.{list_all};
 ghost use Rattle.std.specs.Option.{option_or};
@@ -8,14 +8,25 @@ ghost use Rattle.built_forms.specs.IntegerForms as integer;
 use crate::expressions::{
     are_integers, integer_init, integer_labels, integer_value, is_integer, is_integer_type, is_name,
 };
-use c_tree::{Arm, Boxed, Expr, Statement, Var, VarId};
+use c_tree::{Arm, Boxed, Expr, Statement, Target, Var, VarId};
 
-fn is_integer_variable(vars: &[Var], x: VarId) -> bool
+pub(crate) fn is_integer_variable(vars: &[Var], x: VarId) -> bool
     ensures { result ≡ forms.is_integer_variable vars.now x }
 {
     match vars.get(x as usize) {
         Some(var) => is_integer_type(&var.shape),
         None => false,
+    }
+}
+
+// Whether the result of a call is stored nowhere, under a name, or in an integer that is declared.
+fn is_integer_target(vars: &[Var], target: &Target) -> bool
+    ensures { result ≡ forms.is_integer_target (forms.is_integer_variable vars.now) target.now }
+{
+    match target {
+        Target::None => true,
+        Target::Place(place) => is_name(place),
+        Target::Declared(x) => is_integer_variable(vars, *x),
     }
 }
 
@@ -30,8 +41,8 @@ fn are_integer_labels(arms: &[Arm]) -> bool
     true
 }
 
-// The line, where this isn't so.
-fn unless(is_built: bool, line: u32) -> Option<u32>
+/// The line, where this isn't so.
+pub(crate) fn unless(is_built: bool, line: u32) -> Option<u32>
     ensures { result ≡ forms.unless is_built line }
 {
     if is_built { None } else { Some(line) }
@@ -62,13 +73,13 @@ fn switched(test: &Expr, arms: &[Arm], line: u32, inside: Option<u32>) -> Option
     first(unless(is_built, line), inside)
 }
 
-/// The line of the first place of a list of statements that is outside the built forms.
+/// The line of the first place of a list of statements that is outside the built forms, where calls are among them or not.
 #[cycle(statement)]
-pub(crate) fn body_outside(body: &[Statement], vars: &[Var]) -> Option<u32>
-    ensures { result ≡ forms.body_outside vars.now body.now }
+pub(crate) fn body_outside(body: &[Statement], vars: &[Var], calls: bool) -> Option<u32>
+    ensures { result ≡ forms.body_outside calls vars.now body.now }
 {
     for statement in body {
-        let outside = statement_outside(statement, vars);
+        let outside = statement_outside(statement, vars, calls);
         if outside.is_some() {
             return outside;
         }
@@ -77,11 +88,11 @@ pub(crate) fn body_outside(body: &[Statement], vars: &[Var]) -> Option<u32>
 }
 
 #[cycle(statement)]
-fn arms_outside(arms: &[Arm], vars: &[Var]) -> Option<u32>
-    ensures { result ≡ forms.arms_outside vars.now arms.now }
+fn arms_outside(arms: &[Arm], vars: &[Var], calls: bool) -> Option<u32>
+    ensures { result ≡ forms.arms_outside calls vars.now arms.now }
 {
     for arm in arms {
-        let outside = body_outside(arm.body.as_slice(), vars);
+        let outside = body_outside(arm.body.as_slice(), vars, calls);
         if outside.is_some() {
             return outside;
         }
@@ -90,19 +101,19 @@ fn arms_outside(arms: &[Arm], vars: &[Var]) -> Option<u32>
 }
 
 #[cycle(statement)]
-fn part_outside(part: &Option<Boxed<Statement>>, vars: &[Var]) -> Option<u32>
-    ensures { result ≡ forms.part_outside vars.now part.now }
+fn part_outside(part: &Option<Boxed<Statement>>, vars: &[Var], calls: bool) -> Option<u32>
+    ensures { result ≡ forms.part_outside calls vars.now part.now }
 {
     match part {
         None => None,
-        Some(statement) => statement_outside(statement.get(), vars),
+        Some(statement) => statement_outside(statement.get(), vars, calls),
     }
 }
 
 #[cycle(statement)]
 #[tactic(auto, using(crate::proofs::Layers::statements))]
-fn statement_outside(statement: &Statement, vars: &[Var]) -> Option<u32>
-    ensures { result ≡ forms.statement_outside vars.now statement.now }
+fn statement_outside(statement: &Statement, vars: &[Var], calls: bool) -> Option<u32>
+    ensures { result ≡ forms.statement_outside calls vars.now statement.now }
 {
     match statement {
         Statement::Declare {
@@ -128,8 +139,8 @@ fn statement_outside(statement: &Statement, vars: &[Var]) -> Option<u32>
             other,
             ..
         } => {
-            let then = body_outside(then.as_slice(), vars);
-            let other = body_outside(other.as_slice(), vars);
+            let then = body_outside(then.as_slice(), vars, calls);
+            let other = body_outside(other.as_slice(), vars, calls);
             tested(test, *line, first(then, other))
         }
         Statement::While {
@@ -137,13 +148,13 @@ fn statement_outside(statement: &Statement, vars: &[Var]) -> Option<u32>
             test,
             body,
             ..
-        } => tested(test, *line, body_outside(body.as_slice(), vars)),
+        } => tested(test, *line, body_outside(body.as_slice(), vars, calls)),
         Statement::Do {
             line,
             test,
             body,
             ..
-        } => tested(test, *line, body_outside(body.as_slice(), vars)),
+        } => tested(test, *line, body_outside(body.as_slice(), vars, calls)),
         Statement::For {
             line,
             init,
@@ -152,9 +163,9 @@ fn statement_outside(statement: &Statement, vars: &[Var]) -> Option<u32>
             body,
             ..
         } => {
-            let init = part_outside(init, vars);
-            let step = part_outside(step, vars);
-            let body = body_outside(body.as_slice(), vars);
+            let init = part_outside(init, vars, calls);
+            let step = part_outside(step, vars, calls);
+            let body = body_outside(body.as_slice(), vars, calls);
             tested(test, *line, first(init, first(step, body)))
         }
         Statement::Switch {
@@ -163,13 +174,22 @@ fn statement_outside(statement: &Statement, vars: &[Var]) -> Option<u32>
             arms,
             ..
         } => {
-            let inside = arms_outside(arms.as_slice(), vars);
+            let inside = arms_outside(arms.as_slice(), vars, calls);
             switched(test, arms.as_slice(), *line, inside)
         }
-        Statement::Block { body, .. } => body_outside(body.as_slice(), vars),
-        Statement::Invoke { line, .. }
-        | Statement::Fetch { line, .. }
-        | Statement::Heap { line, .. }
-        | Statement::Release { line, .. } => Some(*line),
+        Statement::Block { body, .. } => body_outside(body.as_slice(), vars, calls),
+        Statement::Invoke {
+            line,
+            target,
+            args,
+            ..
+        } => unless(
+            calls && is_integer_target(vars, target) && are_integers(args.as_slice()),
+            *line,
+        ),
+        Statement::Fetch { line, target, .. } => {
+            unless(calls && is_integer_target(vars, target), *line)
+        }
+        Statement::Heap { line, .. } | Statement::Release { line, .. } => Some(*line),
     }
 }

@@ -35,3 +35,4 @@ pub mod SwitchArms
 pub mod SystemGraph
 pub mod VertexOrder
 pub mod Words
+pub mod PointerFree

@@ -10,3 +10,6 @@ pub mod ListedEffects
 pub mod NamesInScope
 pub mod NumbersButLines
 pub mod Texts
+pub mod PointNowhere
+pub mod PointerFreeBodies
+pub mod PointerFreeTexts

@@ -54,7 +54,7 @@ functions_unlined [] = refl
 functions_unlined (f ∷ fs) = ap₂ (λ (a b : List Doing). a ++ b) (body_unlined f.body) (functions_unlined fs)
 
 -- the statements are the same in programs that are the same but for lines
-all_same : (p q : Program) → SameButLines p q → program_doings p ≡ program_doings q
+pub all_same : (p q : Program) → SameButLines p q → program_doings p ≡ program_doings q
 all_same p q same =
     sym (functions_unlined p.functions) ∙ ap (λ (r : Program). functions_doings r.functions) same ∙ functions_unlined q.functions
 

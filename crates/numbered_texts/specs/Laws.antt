@@ -5,7 +5,7 @@ use Rattle.c_tree.specs.declared.program.Program.{Program}
 use Rattle.c_tree.specs.declared.raw.program.RawProgram.{RawProgram}
 use Rattle.c_language.specs.Mains.{main_of}
 use Rattle.c_language.specs.Programs.{HasProgram, IsWellFormed}
-use Rattle.built_forms.specs.BuiltForms.{not_yet}
+use Rattle.built_forms.specs.BuiltForms.{not_yet, beyond_integers}
 use Rattle.built_forms.specs.IntegerForms.{IsIntegerMain}
 use Rattle.dep_model.specs.declared.location.Location.{Location}
 use Rattle.dep_model.specs.Denoted.{TargetsOf}
@@ -13,8 +13,10 @@ use Rattle.dep_model.specs.Doings.{doing_number, program_doings}
 use Rattle.dep_model.specs.ListedLocations.{IsListed, AreListed}
 use Rattle.dep_model.specs.ModRef.{Modifies, MayUse}
 use Rattle.dep_model.specs.NumberedMains.{doing_below, IsNumberedMain}
+use Rattle.dep_model.specs.MayPoint.{MayPoint}
 use Rattle.dep_model.specs.SystemGraph.{Analysis}
 use Rattle.numbered_texts.specs.FittingCalls.{fits, parameter_counts, takes_result}
+use Rattle.dep_model.specs.PointerFree.{IsPointerFree}
 
 -- the statements of a well-formed program, function by function, have the numbers 0, 1, and so on up to their count
 abbrev pub StatementsAreNumbered : Type 0
@@ -43,6 +45,16 @@ ResultsAreGiven = (p : Program) → IsWellFormed p → list_all (takes_result p)
 -- a function named main is among its functions
 abbrev pub ProgramsHaveMain : Type 0
 ProgramsHaveMain = (p : Program) → IsWellFormed p → (f : ℕ) × (main_of p ≡ Some f)
+
+-- ---- programs over integers
+
+-- a well-formed program of which nothing is beyond integers has no pointers, arrays and structs
+abbrev pub IntegersArePointerFree : Type 0
+IntegersArePointerFree = (p : Program) → IsWellFormed p → beyond_integers p ≡ None → IsPointerFree p
+
+-- and no location of such a program points anywhere
+abbrev pub PointerFreePointNowhere : Type 0
+PointerFreePointNowhere = (p : Program) → IsPointerFree p → (l m : Location) → MayPoint p l m → ⊥
 
 -- ---- main alone over integers
 
