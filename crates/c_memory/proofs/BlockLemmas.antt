@@ -10,6 +10,7 @@ use Rattle.c_meaning.specs.declared.value.Value.{Value}
 use Rattle.c_meaning.specs.declared.value.Hop.{Hop}
 use Rattle.c_meaning.specs.declared.value.Place.{Place}
 use Rattle.c_meaning.specs.Cells.{Structs, cells, cell_count, cell_number}
+use Rattle.c_meaning.specs.Activations.{zeros}
 use Rattle.c_meaning.specs.Memory.{Block, Memory, Kind, changed, filled, with_cell, cell_in, is_cell, write, unwritten, gone, leave}
 use Rattle.c_memory.specs.Counts.{saturated}
 use Rattle.c_memory.specs.Whole.{IsWhole, AreWhole}
@@ -31,6 +32,11 @@ unwritten_whole structs t kind count small e =
     let same = exact (cell_count structs t) count e small in
     let size : length (unwritten structs t kind).cells ≡ cell_count structs t = length-map (cells structs t) _ in
     record { cells_are = size; countable = omega (arith, same, size, small) }
+
+pub zeros_whole : (structs : Structs) (t : ExprType) → cell_count structs t < 18446744073709551615 → IsWhole structs (zeros structs t)
+zeros_whole structs t small =
+    let size : length (zeros structs t).cells ≡ cell_count structs t = length-map (cells structs t) _ in
+    record { cells_are = size; countable = omega (arith, size, small) }
 
 -- ---- blocks that go
 

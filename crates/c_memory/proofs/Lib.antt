@@ -1,9 +1,13 @@
 pub mod CellLemmas
 pub mod CountLemmas
 pub mod NumberLemmas
+pub mod BehindLemmas
+pub mod ZeroLemmas
 pub mod BlockLemmas
 pub mod ShiftLemmas
 pub mod ExprForms
 pub mod Rulesets
 pub mod EvaluationLemmas
 pub mod SceneLaws
+pub mod ListLemmas
+pub mod GlobalLemmas

@@ -4,4 +4,7 @@ pub mod Whole
 pub mod Parts
 pub mod Scenes
 pub mod Truths
+pub mod Zeros
+pub mod Lists
+pub mod GlobalStates
 pub mod Laws

@@ -4,6 +4,7 @@ ghost use Rattle.std.specs.Option.{option_copied};
 ghost use Rattle.c_meaning.specs.declared.value.Value.{Value};
 ghost use Rattle.c_meaning.specs.Memory as spec;
 ghost use Rattle.c_meaning.specs.Memory.{held, changed};
+ghost use Rattle.c_meaning.specs.Activations.{zeros};
 ghost use Rattle.c_memory.specs.Kinds.{kind_of};
 ghost use Rattle.c_memory.specs.Whole.{IsWhole};
 
@@ -62,6 +63,24 @@ impl Block {
         })
     }
 
+    /// The block of a global, in which each cell is 0 or a null pointer. Err: no memory was left, or it has more cells
+    /// than can be counted.
+    pub(crate) fn zeros(
+        alloc: Global,
+        layouts: &Layouts,
+        shape: ExprType,
+    ) -> Result<Block, AllocError>
+        ensures begun { IfOk result (λ b. b ≡ zeros layouts.now shape) }
+        ensures whole { IfOk result (λ b. IsWhole layouts.now b) }
+    {
+        let cells = layouts.zeros(alloc, &shape)?;
+        Ok(Block {
+            shape,
+            kind: Kind::Entered,
+            cells: Some(cells),
+        })
+    }
+
     /// The type of the whole.
     pub(crate) fn shape(&self) -> &ExprType
         ensures { result.now ≡ self.now.shape }
@@ -76,6 +95,16 @@ impl Block {
         match self.kind {
             Kind::Entered => false,
             Kind::Allocated => self.cells.is_some(),
+        }
+    }
+
+    /// Whether there is a cell with a number.
+    pub(crate) fn has(&self, number: u64) -> bool
+        ensures { result ≡ is_some (slice_get self.now.cells number) }
+    {
+        match &self.cells {
+            Some(cells) => cells.get(number as usize).is_some(),
+            None => false,
         }
     }
 

@@ -9,6 +9,8 @@ ghost use Rattle.c_meaning.specs.Cells.{layered_cells, member_cells, structs_of}
 ghost use Rattle.c_memory.specs.Counts.{saturated, AreCounts, members_at, element_offset};
 ghost use Rattle.c_memory.specs.Parts.{object_of, placed};
 
+mod zeros;
+
 use c_language::{Base, ExprType, Layer};
 use c_meaning::Hop;
 use c_tree::{Member, Program};

@@ -8,8 +8,10 @@
 mod block;
 mod comparisons;
 mod expressions;
+mod globals;
 mod laws;
 mod layouts;
+mod lists;
 mod memory;
 mod moves;
 mod objects;
@@ -20,7 +22,9 @@ mod values;
 
 pub use comparisons::{are_equal, are_together, at_indices};
 pub use expressions::{address, place, value};
+pub use globals::Globals;
 pub use laws::frame_and_memory_decide;
+pub use lists::listed_values;
 pub use memory::Memory;
 pub use moves::{designated, moved, moved_back};
 pub use operators::binary_value;

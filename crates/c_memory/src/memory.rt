@@ -2,6 +2,7 @@
 ghost use Rattle.std.specs.Prelude.{◌≡◌, [], IfOk, option_map, OnOk, OnErr, IsFalse, IsTrue, length};
 ghost use Rattle.std.specs.Option.{option_copied};
 ghost use Rattle.c_language.specs.TreeTypes.{shape_of};
+ghost use Rattle.c_meaning.specs.Activations.{zeros};
 ghost use Rattle.c_meaning.specs.Cells.{structs_of};
 ghost use Rattle.c_language.specs.ExprTypes as types;
 ghost use Rattle.c_language.specs.Lists.{same_all};
@@ -15,7 +16,7 @@ use crate::layouts::{Layouts, Part};
 use c_language::{Base, ExprType, Layer};
 use c_meaning::{Hop, Place, Pointer, Value};
 use c_tree::{CType, Program};
-use c_types_base::expr_type::array_of;
+use c_types_base::expr_type::{array_of, copy};
 use std::alloc::{AllocError, Global};
 use std::marker::Model;
 use tree_types::declared_type;
@@ -42,7 +43,7 @@ impl Model for Memory {
 
 impl Memory {
     /// The memory of a program in which no block has begun. Err: no memory was left.
-    pub fn blank(alloc: Global, p: &Program) -> Result<Memory, AllocError>
+    pub(crate) fn blank(alloc: Global, p: &Program) -> Result<Memory, AllocError>
         ensures { IfOk result (λ m. m ≡ record { structs = structs_of p.now; blocks = [] }) }
     {
         let layouts = Layouts::of(alloc, p)?;
@@ -73,6 +74,21 @@ impl Memory {
             declared_type(alloc, shape)?,
             Kind::Entered,
         )?;
+        self.begin(block)
+    }
+
+    /// Begins the block of a global, in which each cell is 0 or a null pointer, and answers its number. Err: no memory was
+    /// left, or the block has more cells than can be counted; the memory is as before.
+    pub(crate) fn begin_global(
+        &mut self,
+        alloc: Global,
+        shape: &ExprType,
+    ) -> Result<u64, AllocError>
+        ensures number { IfOk result (λ n. n ≡ length self.old.blocks) }
+        ensures begun { OnOk result (self.new ≡ spec.with_new (zeros self.old.structs shape.now) self.old) }
+        ensures refused { OnErr result (self.new ≡ self.old) }
+    {
+        let block = Block::zeros(alloc, &self.layouts, copy(alloc, shape)?)?;
         self.begin(block)
     }
 
@@ -126,6 +142,22 @@ impl Memory {
                 None => None,
             },
             None => None,
+        }
+    }
+
+    /// Whether a place is a cell of a live block.
+    pub fn has_cell(&self, place: &Place) -> bool
+        ensures { result ≡ spec.is_cell self.now place.now }
+    {
+        match self.blocks.get(place.block as usize) {
+            Some(block) => match self
+                .layouts
+                .cell_number(place.path.as_slice(), block.shape())
+            {
+                Some(number) => block.has(number),
+                None => false,
+            },
+            None => false,
         }
     }
 

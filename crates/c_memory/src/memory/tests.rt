@@ -43,7 +43,7 @@ fn memory(alloc: Global) -> Result<Memory, AllocError> {
         functions: Items::new(alloc),
         statements: 0,
     };
-    Memory::blank(alloc, &program)
+    Memory::new(alloc, &program)
 }
 
 fn place(alloc: Global, block: u64, hops: &[Hop]) -> Result<Place, AllocError> {
