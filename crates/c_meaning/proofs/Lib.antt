@@ -8,3 +8,4 @@ pub mod Small
 mod SmallPrograms
 mod SmallObjects
 mod SmallCalls
+mod SmallRuns

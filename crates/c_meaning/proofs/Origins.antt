@@ -16,12 +16,12 @@ use Rattle.c_meaning.specs.Steps.{Step, Stops, Fails, Acts, Moves, Breaks, Reach
 use Rattle.c_meaning.specs.Laws.{BlocksHaveOrigins}
 
 -- as many origins as blocks
-abbrev IsTracked : State → Type 0
+abbrev pub IsTracked : State → Type 0
 IsTracked s = length s.origins ≡ length s.memory.blocks
 
 -- ---- lists
 
-length-changed : {A : Type 0} (f : A → A) (n : ℕ) (xs : List A) → length (changed f n xs) ≡ length xs
+pub length-changed : {A : Type 0} (f : A → A) (n : ℕ) (xs : List A) → length (changed f n xs) ≡ length xs
 length-changed f n [] = refl
 length-changed f zero (x ∷ xs) = refl
 length-changed f (suc n) (x ∷ xs) = ap suc (length-changed f n xs)
@@ -30,12 +30,12 @@ one_longer : {A : Type 0} (xs : List A) (x : A) → length (xs ++ x ∷ []) ≡ 
 one_longer [] x = refl
 one_longer (y ∷ xs) x = ap suc (one_longer xs x)
 
-both_longer : {A B : Type 0} (xs : List A) (ys : List B) (x : A) (y : B) → length xs ≡ length ys → length (xs ++ x ∷ []) ≡ length (ys ++ y ∷ [])
+pub both_longer : {A B : Type 0} (xs : List A) (ys : List B) (x : A) (y : B) → length xs ≡ length ys → length (xs ++ x ∷ []) ≡ length (ys ++ y ∷ [])
 both_longer xs ys x y e = one_longer xs x ∙ (ap suc e ∙ sym (one_longer ys y))
 
 -- ---- memory
 
-blocks_stored : (ws : List Store) (m : Memory) → length (stored ws m).blocks ≡ length m.blocks
+pub blocks_stored : (ws : List Store) (m : Memory) → length (stored ws m).blocks ≡ length m.blocks
 blocks_stored [] m = refl
 blocks_stored (w ∷ ws) m =
     blocks_stored ws (write w.place w.value m) ∙ length-changed (with_cell m.structs w.place.path w.value) w.place.block m.blocks
@@ -50,14 +50,14 @@ tracked_begun i (Some r) os m e = both_longer os m.blocks _ _ e
 
 -- ---- states
 
-tracked_after : (i : ℕ) (x : Made) (s : State) → IsTracked s → IsTracked (after i x s)
+pub tracked_after : (i : ℕ) (x : Made) (s : State) → IsTracked s → IsTracked (after i x s)
 tracked_after i x s e =
     tracked_begun i x.begun s.origins s.memory e ∙ (sym (blocks_left x.freed (with_begun x.begun s.memory)) ∙ sym (blocks_stored x.stores (leave_block x.freed (with_begun x.begun s.memory))))
 
-tracked_opened : (types : Types) (x : ℕ) (s : State) → IsTracked s → IsTracked (variable_opened types x s)
+pub tracked_opened : (types : Types) (x : ℕ) (s : State) → IsTracked s → IsTracked (variable_opened types x s)
 tracked_opened types x s e = both_longer s.origins s.memory.blocks _ _ e
 
-tracked_closed : (xs : List ℕ) (s : State) → IsTracked s → IsTracked (all_closed xs s)
+pub tracked_closed : (xs : List ℕ) (s : State) → IsTracked s → IsTracked (all_closed xs s)
 tracked_closed [] s e = e
 tracked_closed (x ∷ xs) s e = tracked_closed xs (variable_closed x s) (e ∙ sym (blocks_left (s.frame x) s.memory))
 
@@ -76,7 +76,7 @@ module _ (p : Executable) where
 
   -- ---- calls
 
-  tracked_parameter : (x : ℕ) (s : State) (v : Value) → IsTracked s → IsTracked (parameter_begun p x s v)
+  pub tracked_parameter : (x : ℕ) (s : State) (v : Value) → IsTracked s → IsTracked (parameter_begun p x s v)
   tracked_parameter x s v e =
       let opened = variable_opened (outside p) x s in
       tracked_opened (outside p) x s e ∙ sym (length-changed (with_cell opened.memory.structs [] v) (length s.memory.blocks) opened.memory.blocks)
