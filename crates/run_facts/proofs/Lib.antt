@@ -1,0 +1,24 @@
+pub mod SameMemories
+pub mod SameValues
+pub mod SameActs
+pub mod CodeDoings
+pub mod Blocks
+pub mod Points
+pub mod NamedReads
+pub mod Numbers
+pub mod Wholes
+pub mod NamedStores
+pub mod NamedUses
+pub mod Statements
+pub mod Touched
+pub mod KeptMemories
+pub mod KeptStates
+pub mod WrittenCells
+pub mod DoneStores
+pub mod DoneSteps
+pub mod GlobalVariables
+pub mod OldBlocks
+pub mod InCalls
+pub mod CallTouched
+pub mod CallersCalled
+mod LocationRows

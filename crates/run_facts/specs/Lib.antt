@@ -1,0 +1,9 @@
+pub mod CellLocations
+pub mod ReadCells
+pub mod Effects
+pub mod SameOutcomes
+pub mod Touching
+pub mod KeptCells
+pub mod DoneEffects
+pub mod CallTouching
+pub mod Laws

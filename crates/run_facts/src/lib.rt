@@ -1,0 +1,51 @@
+//! Facts about every run of a program: what its acts touch, and on what they depend.
+//!
+//! Each function is a law, and holds no code: its contract is the law, over the definitions of `specs/`.
+#![tactic(auto)]
+
+ghost use Rattle.run_facts.specs.Laws as law;
+
+/// A law: in two states that differ at most in what cells hold, an act comes to the same where the cells that it
+/// reads hold the same, and the input too where it reads that; so do a call's arguments, and the store after a call.
+pub fn outcomes_depend_on_reads()
+    ensures { law.OutcomesDependOnReads }
+{}
+
+/// A law: each act of a run of a well-formed program reads only cells whose locations the vertices of its statement
+/// may use, and stores only into cells whose locations they may define. At a call each argument reads only where its
+/// own actual-in may use, and goes where the formal-in of its parameter may define; the store after a call, with what
+/// its left side reads, is that of the result's actual-out. Where a statement's vertex, or that actual-out, kills a
+/// location of a variable, the cells stored into are all live cells of it that the activation can name. So far this is
+/// said of programs without pointers, arrays and structs.
+pub fn steps_touch_what_vertices_say()
+    ensures { law.StepsTouchWhatVerticesSay }
+{}
+
+/// A law: from one point of a run to the next, a cell into which nothing is stored holds what it held, where its block
+/// was there before and is live after; and the input stays, where it isn't taken from.
+pub fn steps_keep_the_rest()
+    ensures { law.StepsKeepTheRest }
+{}
+
+/// A law: each step of a run does its effect. After it a cell holds what was stored in it last; where the input is
+/// taken from, it lacks its first byte; and what a return gives is what the function has returned, which no other
+/// step changes. A function that is called begins with nothing returned, and a caller goes on with what it had.
+pub fn steps_do_their_effects()
+    ensures { law.StepsDoTheirEffects }
+{}
+
+/// A law: between a call and its return, cells of blocks that were there before the call are read only at locations
+/// that the function called may use, and stored into only at locations that it modifies; the input likewise. So what
+/// the function doesn't modify is up to the return as it was before the call. What a function modifies and may use is
+/// that of the statements of all functions that it calls, directly or not (Horwitz, Reps and Binkley 1990, on GMOD and
+/// GREF). So far this is said of programs without pointers, arrays and structs.
+pub fn calls_touch_what_functions_say()
+    ensures { law.CallsTouchWhatFunctionsSay }
+{}
+
+/// A law: each caller that waits at a point of a run has made its call at a point of the run, and that call hasn't
+/// returned; the function called is the one that runs, or that of the caller next above. So the law on calls says of
+/// each point of a run what is left as it was for each caller that waits there.
+pub fn callers_have_called()
+    ensures { law.CallersHaveCalled }
+{}
