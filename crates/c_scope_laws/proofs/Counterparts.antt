@@ -3,21 +3,23 @@ use Rattle.std.proofs.Common.{ℕ, zero, suc, [], ◌∷◌, ◌++◌, subst, ar
 use Rattle.std.specs.Prelude.{Contains}
 use Rattle.std.proofs.lemmas.List.Elements.{Contains-append_cases, Contains-append_left, Contains-append_right}
 use Rattle.c_tree.specs.declared.raw.program.RawProgram.{RawProgram}
+use Rattle.c_language.specs.Words.{Bytes}
 use Rattle.c_language.specs.Scopes.{Scope}
 use Rattle.c_language.specs.Phrases.{Part, Phrase, Phrases, phrase}
 use Rattle.c_language.specs.Rules.{Breaks}
 use Rattle.c_language.proofs.Lists.{contains_first}
 use Rattle.c_scope_laws.specs.Agreement.{Names, NamesFunction, DeclaresName, DeclaresHead, PlacesAgree, PartsAgree}
 use Rattle.projection.specs.Kept.{Kept, rank}
+use Rattle.c_scope_laws.specs.Thinning.{heads_of}
 use Rattle.c_scope_laws.proofs.RulesAgreement.{breaks_moves}
 
-module _ (k : Kept) (raw other : RawProgram) where
+module _ (k : Kept Bytes) (raw other : RawProgram) where
   -- the phrase of the text for which one of the thinner text stands, among these
   pub record Counterpart (q : Phrase) (ps : Phrases) : Type 0 where
     pub phrase : Phrase
     pub stands : Contains ps phrase
-    pub parts : PartsAgree raw other phrase.part q.part
-    pub places : PlacesAgree (rank k.variable) (Names q.part) (NamesFunction q.part) (DeclaresName q.part) (DeclaresHead q.part) raw other phrase.scope q.scope
+    pub parts : PartsAgree (heads_of k) raw other phrase.scope phrase.part q.part
+    pub places : PlacesAgree (heads_of k) (rank k.variable) (Names q.part) (NamesFunction q.part) (DeclaresName q.part) (DeclaresHead q.part) raw other phrase.scope q.scope
 
   -- each phrase stands for one of these
   abbrev pub AreCounterparts : Phrases → Phrases → Type 0
@@ -29,8 +31,8 @@ module _ (k : Kept) (raw other : RawProgram) where
   pub none_stand : (ps : Phrases) → AreCounterparts [] ps
   none_stand ps q (i, within, is) = absurd (omega (arith, within))
 
-  pub one_stands : (l m : ℕ) (scope next : Scope) (part changed : Part) → PartsAgree raw other part changed
-      → PlacesAgree (rank k.variable) (Names changed) (NamesFunction changed) (DeclaresName changed) (DeclaresHead changed) raw other scope next
+  pub one_stands : (l m : ℕ) (scope next : Scope) (part changed : Part) → PartsAgree (heads_of k) raw other scope part changed
+      → PlacesAgree (heads_of k) (rank k.variable) (Names changed) (NamesFunction changed) (DeclaresName changed) (DeclaresHead changed) raw other scope next
       → AreCounterparts (phrase m next changed ∷ []) (phrase l scope part ∷ [])
   one_stands l m scope next part changed a fit q (zero, within, is) =
       subst (λ (q : Phrase). Counterpart q (phrase l scope part ∷ [])) is (record { phrase = phrase l scope part; stands = contains_first (phrase l scope part) []; parts = a; places = fit })
@@ -58,4 +60,4 @@ module _ (k : Kept) (raw other : RawProgram) where
   -- a rule that is broken by one of the thinner text's is broken by one of the text's
   pub counterpart_breaks : {q : Phrase} {ps : Phrases} {n : ℕ} (c : Counterpart q ps) → Breaks other q.scope q.part n → Breaks raw c.phrase.scope c.phrase.part n
   counterpart_breaks {q} c h =
-      breaks_moves (rank k.variable) (Names q.part) (NamesFunction q.part) (DeclaresName q.part) (DeclaresHead q.part) raw other c.phrase.scope q.scope c.places c.parts (record { names = λ x k. k; heads = λ x k. k; declares = λ x k. k; declares_head = λ x k. k }) h
+      breaks_moves (heads_of k) (rank k.variable) (Names q.part) (NamesFunction q.part) (DeclaresName q.part) (DeclaresHead q.part) raw other c.phrase.scope q.scope c.places c.parts (record { names = λ x k. k; heads = λ x k. k; declares = λ x k. k; declares_head = λ x k. k }) h

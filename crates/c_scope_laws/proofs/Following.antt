@@ -12,7 +12,7 @@ use Rattle.c_language.specs.Phrases.{Part}
 use Rattle.c_language.specs.declared.expr_type.ExprType.{ExprType}
 use Rattle.c_scope_laws.specs.Agreement.{Names, NamesFunction, DeclaresName, DeclaresHead, moved_meaning, IsVariable, PlacesAgree}
 use Rattle.projection.specs.Kept.{Kept, rank}
-use Rattle.c_scope_laws.specs.Thinning.{found, EntryStays, NamesStay}
+use Rattle.c_scope_laws.specs.Thinning.{found, EntryStays, NamesStay, heads_of}
 use Rattle.c_scope_laws.specs.Following.{kept_more, kept_entries, TextsAgree, ScopesAgree}
 use Rattle.c_scope_laws.proofs.Scopes.{kept-append, kept-drop, found_kept, none_kept, found_variable, found_function}
 
@@ -28,10 +28,10 @@ rank_gone test n h = ap (rank test) (one_more n) ∙ ap (λ (b : Bool). if b the
     one_more : (n : ℕ) → n + 1 ≡ suc n
     one_more n = omega arith
 
-head_kept : {k : Kept} {scope : Scope} {part : Part} → NamesStay k scope part → (x : Bytes) → DeclaresHead part x → k.function x ≡ true
+head_kept : {k : Kept Bytes} {scope : Scope} {part : Part} → NamesStay k scope part → (x : Bytes) → DeclaresHead part x → k.function x ≡ true
 head_kept stay x DeclaresHead.head = stay.functions x NamesFunction.declared
 
-module _ (k : Kept) (raw other : RawProgram) {defined_here defined_there : ℕ} {owner_here owner_there : Option ℕ} where
+module _ (k : Kept Bytes) (raw other : RawProgram) {defined_here defined_there : ℕ} {owner_here owner_there : Option ℕ} where
   -- ---- numbers
 
   pub numbered_kept : {scope next : Scope} → k.statement scope.statements ≡ true → ScopesAgree k raw other defined_here defined_there owner_here owner_there scope next → ScopesAgree k raw other defined_here defined_there owner_here owner_there (numbered scope) (numbered next)
@@ -195,7 +195,7 @@ module _ (k : Kept) (raw other : RawProgram) {defined_here defined_there : ℕ} 
 
   -- at a place of the thinner text that follows one of the text, what the rules ask is the same of a phrase whose names stay
   pub places_agree : {scope next : Scope} {part : Part} → TextsAgree k raw other → ScopesAgree k raw other defined_here defined_there owner_here owner_there scope next → NamesStay k scope part
-      → PlacesAgree (rank k.variable) (Names part) (NamesFunction part) (DeclaresName part) (DeclaresHead part) raw other scope next
+      → PlacesAgree (heads_of k) (rank k.variable) (Names part) (NamesFunction part) (DeclaresName part) (DeclaresHead part) raw other scope next
   places_agree {scope} {next} texts h stay = record {
     outside = texts.outside;
     scopes = record { names = λ x n. meaning_kept x h (stay.names x n); structs = h.structs };
@@ -210,7 +210,7 @@ module _ (k : Kept) (raw other : RawProgram) {defined_here defined_there : ℕ} 
   -- what declares nothing asks the same inside a block that is opened at the first place alone
   pub places_beside : {scope next : Scope} {part : Part} → TextsAgree k raw other → ScopesAgree k raw other defined_here defined_there owner_here owner_there scope next → NamesStay k scope part
       → ((x : Bytes) → DeclaresName part x → ⊥) → ((x : Bytes) → DeclaresHead part x → ⊥)
-      → PlacesAgree (rank k.variable) (Names part) (NamesFunction part) (DeclaresName part) (DeclaresHead part) raw other (opened scope) next
+      → PlacesAgree (heads_of k) (rank k.variable) (Names part) (NamesFunction part) (DeclaresName part) (DeclaresHead part) raw other (opened scope) next
   places_beside {scope} {next} texts h stay none no_head = record {
     outside = texts.outside;
     scopes = record { names = λ x n. meaning_kept x h (stay.names x n); structs = h.structs };

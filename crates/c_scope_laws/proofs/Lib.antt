@@ -6,13 +6,17 @@ pub mod ExprAgreement
 pub mod StatementAgreement
 pub mod Meanings
 pub mod SeenTests
+pub mod ChosenLists
+pub mod LeftHeads
 pub mod RulesAgreement
 pub mod CountedLengths
 pub mod Scopes
 pub mod Following
 pub mod Counterparts
+pub mod KeptForms
 pub mod Walking
 pub mod ItemWalking
+pub mod NumberedKept
 pub mod TreeForms
 pub mod TreeLevels
 pub mod TreeSimple

@@ -157,7 +157,7 @@ module _ (raw : RawProgram) (scope : Scope) where
       record { id = h.id; stands = h.stands; named = p.names_too h.id h.named }
 
 -- what the tree of an expression names is kept, so that what the expression names is
-pub kept_by_tree : (k : Kept) (raw : RawProgram) (scope : Scope) (a : RawExpr) (w : Expr) → expr_of raw scope a ≡ Some w → ((id : ℕ) → names w id ≡ true → k.variable id ≡ true) → (x : Bytes) → NamedIn a x → EntryStays k (found x scope.names)
+pub kept_by_tree : (k : Kept Bytes) (raw : RawProgram) (scope : Scope) (a : RawExpr) (w : Expr) → expr_of raw scope a ≡ Some w → ((id : ℕ) → names w id ≡ true → k.variable id ≡ true) → (x : Bytes) → NamedIn a x → EntryStays k (found x scope.names)
 kept_by_tree k raw scope a w at stay x n =
     let h = named_by raw scope x n w at in by_found (found x scope.names) refl h.id h.stands (stay h.id h.named)
   where

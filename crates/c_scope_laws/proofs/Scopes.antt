@@ -18,7 +18,7 @@ use Rattle.c_scope_laws.proofs.Meanings.{function_variable}
 no_variable : {A : Type 0} {id : ℕ} {t : Option ExprType} → ◌≡◌ {A = Option Meaning} (Some Meaning.Function) (Some (Meaning.Variable id t)) → A
 no_variable h = function_variable (some_same h)
 
-module _ (k : Kept) where
+module _ (k : Kept Bytes) where
   kept_more-append : (b : Bool) (e : Entry) (xs ys : List Entry) → kept_more k b e (xs ++ ys) ≡ kept_more k b e xs ++ ys
   kept_more-append true e xs ys = refl
   kept_more-append false e xs ys = refl

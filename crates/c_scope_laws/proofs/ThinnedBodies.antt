@@ -33,17 +33,20 @@ use Rattle.c_language.specs.Uses.{is_library_function, is_among}
 use Rattle.c_language.proofs.ScopedForms.{scoped_of_arm-arm}
 use Rattle.c_language.proofs.Tests.{false_true}
 use Rattle.c_language.proofs.ScopesAfter.{statement_after, statements_after, block_scope_after, part_scope_after}
-use Rattle.c_scope_laws.specs.Agreement.{SameOutside, IsCount, CountWritten, simple_part}
+use Rattle.c_scope_laws.specs.Agreement.{SameOutside, IsCount, CountWritten, ReturnFits, simple_part}
 use Rattle.projection.specs.Kept.{Kept}
-use Rattle.c_scope_laws.specs.Thinning.{NamesStay, BeginIs, StaysWhole, LabelsStay, GivesResult, target_declares, declares, block_after, part_scope, body_scope, after_list, arm_labels, Thins, ThinAll, ThinsPart, ThinArms, ArmsGo}
-use Rattle.c_scope_laws.specs.ThinnedBodies.{Need, AreMet, Left, ArmLeft, these, strays, gone, counted_type_step, counted_type, counted_var, count_needs, only, beyond, part_left, part_needs, part_gone, alone_one, alone_all, left_alone, arms_left, arms_labels, arms_needs, arms_gone, block_of, plain, declared, call_placed, call_declared, heap_declared, if_left, while_left, do_left, for_left, switch_left, result_kept, declare_left, call_left, heap_left, block_left, left_step, left_scoped, left_arm_step, left, left_arm, body_left, part_given}
+use Rattle.c_scope_laws.specs.Thinning.{heads_of, NamesStay, BeginIs, ResultStays, kept_args, ArgsFit, kept_form, FormFits, LabelsStay, GivesResult, target_declares, declares, block_after, part_scope, body_scope, after_list, arm_labels, Thins, ThinAll, ThinsPart, ThinArms, ArmsGo}
+use Rattle.c_scope_laws.specs.ThinnedBodies.{Need, AreMet, Left, ArmLeft, these, strays, gone, counted_type_step, counted_type, counted_var, count_needs, only, beyond, part_left, part_needs, part_gone, alone_one, alone_all, left_alone, arms_left, arms_labels, arms_needs, arms_gone, block_of, plain, plain_with, passes, gives, return_needs, declared, call_placed, call_declared, heap_declared, if_left, while_left, do_left, for_left, switch_left, result_kept, declare_left, call_left, heap_left, block_left, left_step, left_scoped, left_arm_step, left, left_arm, body_left, part_given}
+use Rattle.c_tree.specs.declared.raw.program.RawHead.{RawHead}
+use Rattle.c_language.specs.CallRules.{head_around}
+use Rattle.c_scope_laws.proofs.KeptForms.{form_declares, fits_before}
 use Rattle.c_scope_laws.proofs.CountedLengths.{initialiser_drops}
 use Rattle.c_language.specs.StatementGrammar.{arm}
 use Rattle.c_language.proofs.PhraseLists.{kept_first, kept_second}
 
 -- ---- lengths
 
-module _ (k : Kept) (items : ℕ) where
+module _ (k : Kept Bytes) (items : ℕ) where
   any_count : (b : Bool) → IsCount items (e.Constant (decimal items)) → AreMet k (count_needs b items)
   any_count true h = tt
   any_count false h = (h, tt)
@@ -72,23 +75,23 @@ module _ (k : Kept) (items : ℕ) where
 
 -- ---- needs
 
-pub both_met : (k : Kept) (a b : List Need) → AreMet k (a ++ b) → AreMet k a × AreMet k b
+pub both_met : (k : Kept Bytes) (a b : List Need) → AreMet k (a ++ b) → AreMet k a × AreMet k b
 both_met k [] b h = (tt, h)
 both_met k (n ∷ a) b h = let r = both_met k a b h.1 in ((h.0, r.0), r.1)
 
-pub join_met : (k : Kept) (a b : List Need) → AreMet k a → AreMet k b → AreMet k (a ++ b)
+pub join_met : (k : Kept Bytes) (a b : List Need) → AreMet k a → AreMet k b → AreMet k (a ++ b)
 join_met k [] b h q = q
 join_met k (n ∷ a) b h q = (h.0, join_met k a b h.1 q)
 
 -- what a statement needs is met, and what stays of it is one statement or none
-abbrev pub Met : Kept → Left → Type 0
+abbrev pub Met : Kept Bytes → Left → Type 0
 Met k l = AreMet k l.needs × AreMet k (beyond l.some)
 
-pub block_alone : (k : Kept) (l : ℕ) (ys : List RawStatement) → AreMet k (beyond (block_of l ys))
+pub block_alone : (k : Kept Bytes) (l : ℕ) (ys : List RawStatement) → AreMet k (beyond (block_of l ys))
 block_alone k l [] = tt
 block_alone k l (y ∷ ys) = tt
 
-pub none_strays : (k : Kept) (xs : List RawStatement) → AreMet k (strays xs) → xs ≡ []
+pub none_strays : (k : Kept Bytes) (xs : List RawStatement) → AreMet k (strays xs) → xs ≡ []
 none_strays k [] h = refl
 none_strays k (x ∷ xs) h = absurd h.0
 
@@ -144,7 +147,7 @@ block_gives l (y ∷ ys) = (gives_at (RawStatement-F.Block l (y ∷ ys)) (s.roll
 
 -- ---- the scope behind what stays
 
-module _ (k : Kept) (raw : RawProgram) where
+module _ (k : Kept Bytes) (raw : RawProgram) where
   pub left_after : (x : RawStatement) (scope : Scope) → (left k raw x).after scope ≡ (scoped raw x).after scope
   left_after = statement_after raw Left ArmLeft (left_step k raw) (λ a. (left_arm_step k raw a).gives)
 
@@ -157,22 +160,30 @@ module _ (k : Kept) (raw : RawProgram) where
   pub left_after_part : (x : Option RawStatement) (scope : Scope) → after_part (option_map (left k raw) x) scope ≡ after_part (option_map (scoped raw) x) scope
   left_after_part = part_scope_after raw Left ArmLeft (left_step k raw) (λ a. (left_arm_step k raw a).gives)
 
-module _ (k : Kept) (raw other : RawProgram) (like : SameOutside raw other) where
-  -- a statement without parts that declares nothing, which stays as it is
+module _ (k : Kept Bytes) (raw other : RawProgram) (like : SameOutside raw other) where
+  -- a statement without parts that declares nothing, which stays with the arguments that it keeps
   record IsPlain (scope : Scope) (x : RawStatement) (some : List RawStatement) : Type 0 where
     pub form : RawStatement-F RawStatement RawArm
     pub part : Part
     pub is : x ≡ roll-RawStatement form
-    pub simple : simple_part form ≡ Some part
+    pub simple : simple_part (kept_form k scope.statements form) ≡ Some part
     pub quiet : declares form ≡ false
     pub kept : k.statement scope.statements ≡ true
-    pub whole : StaysWhole k form scope.statements
+    pub whole : FormFits k raw form scope
     pub names : NamesStay k scope part
-    pub one : some ≡ x ∷ []
+    pub one : some ≡ roll-RawStatement (kept_form k scope.statements form) ∷ []
+
+  -- one that stays where it began a for that goes: with the arguments that it keeps, or without its result too
+  data StaysAlone (scope : Scope) : RawStatement → List RawStatement → Type 0 where
+    with_result : {x : RawStatement} {some : List RawStatement} → IsPlain scope x some → StaysAlone scope x some
+    without_it : {l : ℕ} {a : RawExpr} {f : Bytes} {args : List RawArg}
+        → is_library_function f ≡ false → k.result scope.statements ≡ false
+        → k.statement scope.statements ≡ true → ArgsFit k f args scope.statements → NamesStay k scope (Calls InBlock target.None f (kept_args k f scope.statements args))
+        → StaysAlone scope (s.Call l (target.Place a) f args) (s.Call l target.None f (kept_args k f scope.statements args) ∷ [])
 
   record Stays (scope : Scope) (x : RawStatement) (l : Left) : Type 0 where
     pub thins : Thins k raw other scope x l.some
-    pub as_plain : l.is_plain ≡ true → IsPlain scope x l.some
+    pub as_plain : l.is_plain ≡ true → StaysAlone scope x l.some
     pub gives : AllGive l.some
 
   compound : {scope : Scope} {x : RawStatement} {some : List RawStatement} {needs : List Need} → AllGive some → Thins k raw other scope x some → Stays scope x (these some needs)
@@ -181,14 +192,49 @@ module _ (k : Kept) (raw other : RawProgram) (like : SameOutside raw other) wher
   at_form : {x y : RawStatement} {scope : Scope} {l : Left} → x ≡ y → Stays scope y l → Stays scope x l
   at_form {scope} {l} h t = subst (λ (z : RawStatement). Stays scope z l) (sym h) t
 
-  plain_stays : (y : RawStatement-F RawStatement RawArm) (part : Part) → simple_part y ≡ Some part → declares y ≡ false → (scope : Scope) → StaysWhole k y scope.statements
+  -- a form without arguments, and that returns nothing
+  plain_stays : (y : RawStatement-F RawStatement RawArm) (part : Part) → simple_part y ≡ Some part → declares y ≡ false → (scope : Scope) → kept_form k scope.statements y ≡ y → FormFits k raw y scope
       → (b : Bool) → k.statement scope.statements ≡ b → AreMet k (plain b y scope part).needs → Stays scope (roll-RawStatement y) (plain b y scope part)
-  plain_stays y part simple quiet scope whole true h m = record {
-    thins = Thins.simple y part simple quiet h whole m.0;
-    as_plain = λ q. record { form = y; part = part; is = refl; simple = simple; quiet = quiet; kept = h; whole = whole; names = m.0; one = refl };
+  plain_stays y part simple quiet scope same whole true h m = record {
+    thins = subst (λ (z : RawStatement-F RawStatement RawArm). Thins k raw other scope (roll-RawStatement y) (roll-RawStatement z ∷ [])) same (Thins.simple y part (ap simple_part same ∙ simple) quiet h whole m.0);
+    as_plain = λ q.
+        with_result (record { form = y; part = part; is = refl; simple = ap simple_part same ∙ simple; quiet = quiet; kept = h; whole = whole; names = m.0; one = ap (λ (z : RawStatement-F RawStatement RawArm). roll-RawStatement z ∷ []) (sym same) });
     gives = (gives_at y refl (λ q. false_true (sym quiet ∙ q)), tt);
   }
-  plain_stays y part simple quiet scope whole false h m = compound tt (Thins.simple_goes y part simple quiet h)
+  plain_stays y part simple quiet scope same whole false h m = compound tt (Thins.simple_goes y part simple quiet h)
+
+  -- one that needs more
+  form_stays : (y : RawStatement-F RawStatement RawArm) (before part : Part) → simple_part y ≡ Some before → declares y ≡ false → (scope : Scope) (needs : List Need)
+      → simple_part (kept_form k scope.statements y) ≡ Some part → (AreMet k needs → FormFits k raw y scope)
+      → (b : Bool) → k.statement scope.statements ≡ b → AreMet k (plain_with b needs (kept_form k scope.statements y) scope part).needs
+      → Stays scope (roll-RawStatement y) (plain_with b needs (kept_form k scope.statements y) scope part)
+  form_stays y before part simple quiet scope needs after fits true h m = record {
+    thins = Thins.simple y part after quiet h (fits m.1) m.0;
+    as_plain = λ q. with_result (record { form = y; part = part; is = refl; simple = after; quiet = quiet; kept = h; whole = fits m.1; names = m.0; one = refl });
+    gives = (gives_at (kept_form k scope.statements y) refl (λ q. false_true (sym (form_declares k scope.statements y ∙ quiet) ∙ q)), tt);
+  }
+  form_stays y before part simple quiet scope needs after fits false h m = compound tt (Thins.simple_goes y before simple quiet h)
+
+  -- ---- what calls and returns need
+
+  args_met : (f : Bytes) (args : List RawArg) (n : ℕ) → AreMet k (passes (is_library_function f) f args n) → ArgsFit k f args n
+  args_met f args n = by_library (is_library_function f) refl
+    where
+      by_library : (b : Bool) → is_library_function f ≡ b → AreMet k (passes b f args n) → ArgsFit k f args n
+      by_library true known m strange = false_true (sym strange ∙ known)
+      by_library false other m strange = m.0
+
+  gives_met : (f : Bytes) → AreMet k (gives (is_library_function f) f) → is_library_function f ≡ false → k.gives f ≡ true
+  gives_met f = by_library (is_library_function f) refl
+    where
+      by_library : (b : Bool) → is_library_function f ≡ b → AreMet k (gives b f) → is_library_function f ≡ false → k.gives f ≡ true
+      by_library true known m strange = false_true (sym strange ∙ known)
+      by_library false other m strange = m.0
+
+  return_met : (around : Option RawHead) (a : Option RawExpr) → AreMet k (return_needs around a) → ReturnFits (heads_of k) around a
+  return_met around None m = tt
+  return_met None (Some a) m = tt
+  return_met (Some h) (Some a) m = m.0
 
   declared_stays : (l : ℕ) (v : RawVar) (i : RawInit) (scope : Scope) (a b : Bool) → k.variable scope.variables ≡ a → BeginIs k b i scope.statements
       → AreMet k (declared raw a b l v i scope).needs → Stays scope (s.Declare l v i) (declared raw a b l v i scope)
@@ -203,34 +249,62 @@ module _ (k : Kept) (raw other : RawProgram) (like : SameOutside raw other) wher
   declare_stays l v (init.One a) scope m = declared_stays l v (init.One a) scope (k.variable scope.variables) (k.statement scope.statements) refl refl m
   declare_stays l v (init.Items all) scope m = declared_stays l v (init.Items all) scope (k.variable scope.variables) (k.statement scope.statements) refl refl m
 
-  placed_stays : (l : ℕ) (a : RawExpr) (f : Bytes) (args : List RawArg) (scope : Scope) (r b : Bool) → result_kept (is_library_function f) (k.result scope.statements) ≡ r → k.statement scope.statements ≡ b
-      → AreMet k (call_placed raw r b l a f args scope).needs → Stays scope (roll-RawStatement (RawStatement-F.Call l (target.Place a) f args)) (call_placed raw r b l a f args scope)
-  placed_stays l a f args scope true b h q m =
-      plain_stays (RawStatement-F.Call l (target.Place a) f args) (Calls InBlock (target.Place a) f args) refl refl scope (keeps_result (is_library_function f) (k.result scope.statements) h) b q m
-  placed_stays l a f args scope false true h q m =
-      let g = loses_result (is_library_function f) (k.result scope.statements) h in
-      at_form (s.rolls-Call l (target.Place a) f args) (compound (call_gives l f args, tt) (Thins.result_goes g.0 g.1 q m.0))
-  placed_stays l a f args scope false false h q m = compound tt (Thins.simple_goes (RawStatement-F.Call l (target.Place a) f args) (Calls InBlock (target.Place a) f args) refl refl q)
+  module _ (l : ℕ) (f : Bytes) (args : List RawArg) (scope : Scope) where
+    -- the arguments that the call keeps, what it needs, and what its result needs
+    abbrev some : List RawArg
+    some = kept_args k f scope.statements args
 
-  call_declared_stays : (l : ℕ) (v : RawVar) (f : Bytes) (args : List RawArg) (scope : Scope) → is_among without_result f ≡ false → (a b r : Bool) → k.variable scope.variables ≡ a → k.statement scope.statements ≡ b
-      → result_kept (is_library_function f) (k.result scope.statements) ≡ r
-      → AreMet k (call_declared raw a b r l v f args scope).needs → Stays scope (s.Call l (target.Declared v) f args) (call_declared raw a b r l v f args scope)
-  call_declared_stays l v f args scope given true true true h q w m = compound (gives_at (RawStatement-F.Call l (target.Declared v) f args) (s.rolls-Call l (target.Declared v) f args) (λ z. given), tt) (Thins.call (keeps_result (is_library_function f) (k.result scope.statements) w) h q m.0 m.1.0)
-  call_declared_stays l v f args scope given true true false h q w m =
-      let g = loses_result (is_library_function f) (k.result scope.statements) w in compound (declare_gives l v init.None, (call_gives l f args, tt)) (Thins.call_follows g.0 g.1 h q m.0 m.1.0)
-  call_declared_stays l v f args scope given false true true h q w m = absurd m.0
-  call_declared_stays l v f args scope given false true false h q w m =
-      let g = loses_result (is_library_function f) (k.result scope.statements) w in compound (call_gives l f args, tt) (Thins.call_alone g.0 g.1 h q m.0)
-  call_declared_stays l v f args scope given true false r h q w m = compound (declare_gives l v init.None, tt) (Thins.call_goes given h q m.0)
-  call_declared_stays l v f args scope given false false r h q w m = compound tt (Thins.called_goes h q)
+    abbrev call_needs : List Need
+    call_needs = passes (is_library_function f) f args scope.statements
+
+    abbrev result_needs : List Need
+    result_needs = gives (is_library_function f) f
+
+    fit_args : AreMet k call_needs → ArgsFit k f args scope.statements
+    fit_args = args_met f args scope.statements
+
+    result_stays : result_kept (is_library_function f) (k.result scope.statements) ≡ true → AreMet k result_needs → ResultStays k f scope.statements
+    result_stays h m = record { kept = keeps_result (is_library_function f) (k.result scope.statements) h; gives = gives_met f m }
+
+    placed_stays : (a : RawExpr) (r b : Bool) → result_kept (is_library_function f) (k.result scope.statements) ≡ r → k.statement scope.statements ≡ b
+        → AreMet k (call_placed raw r b call_needs result_needs l a f some scope).needs
+        → Stays scope (roll-RawStatement (RawStatement-F.Call l (target.Place a) f args)) (call_placed raw r b call_needs result_needs l a f some scope)
+    placed_stays a true b h q m =
+        form_stays (RawStatement-F.Call l (target.Place a) f args) (Calls InBlock (target.Place a) f args) (Calls InBlock (target.Place a) f some) refl refl scope (call_needs ++ result_needs) refl
+        (λ n. let p = both_met k call_needs result_needs n in (result_stays h p.1, fit_args p.0)) b q m
+    placed_stays a false true h q m =
+        let g = loses_result (is_library_function f) (k.result scope.statements) h in
+        at_form (s.rolls-Call l (target.Place a) f args) (record {
+          thins = Thins.result_goes g.0 g.1 q (fit_args m.1) m.0;
+          as_plain = λ p. without_it g.0 g.1 q (fit_args m.1) m.0;
+          gives = (call_gives l f some, tt);
+        })
+    placed_stays a false false h q m = compound tt (Thins.simple_goes (RawStatement-F.Call l (target.Place a) f args) (Calls InBlock (target.Place a) f args) refl refl q)
+
+    call_declared_stays : (v : RawVar) → is_among without_result f ≡ false → (a b r : Bool) → k.variable scope.variables ≡ a → k.statement scope.statements ≡ b
+        → result_kept (is_library_function f) (k.result scope.statements) ≡ r
+        → AreMet k (call_declared raw a b r call_needs result_needs l v f some scope).needs → Stays scope (s.Call l (target.Declared v) f args) (call_declared raw a b r call_needs result_needs l v f some scope)
+    call_declared_stays v given true true true h q w m =
+        let p = both_met k call_needs result_needs m.1.1 in
+        compound (gives_at (RawStatement-F.Call l (target.Declared v) f some) (s.rolls-Call l (target.Declared v) f some) (λ z. given), tt) (Thins.call (result_stays w p.1) (fit_args p.0) h q m.0 m.1.0)
+    call_declared_stays v given true true false h q w m =
+        let g = loses_result (is_library_function f) (k.result scope.statements) w in
+        compound (declare_gives l v init.None, (call_gives l f some, tt)) (Thins.call_follows g.0 g.1 h q (fit_args m.1.1) m.0 m.1.0)
+    call_declared_stays v given false true true h q w m = absurd m.0
+    call_declared_stays v given false true false h q w m =
+        let g = loses_result (is_library_function f) (k.result scope.statements) w in compound (call_gives l f some, tt) (Thins.call_alone g.0 g.1 h q (fit_args m.1) m.0)
+    call_declared_stays v given true false r h q w m = compound (declare_gives l v init.None, tt) (Thins.call_goes given h q m.0)
+    call_declared_stays v given false false r h q w m = compound tt (Thins.called_goes h q)
 
   call_stays : (l : ℕ) (to : RawTarget) (f : Bytes) (args : List RawArg) (scope : Scope) (stand : Stand) → AreKept raw (phrases_step raw (RawStatement-F.Call l to f args) scope stand) → AreMet k (call_left k raw l to f args scope).needs
       → Stays scope (roll-RawStatement (RawStatement-F.Call l to f args)) (call_left k raw l to f args scope)
-  call_stays l target.None f args scope stand rules m = plain_stays (RawStatement-F.Call l target.None f args) (Calls InBlock target.None f args) refl refl scope tt (k.statement scope.statements) refl m
-  call_stays l (target.Place a) f args scope stand rules m = placed_stays l a f args scope (result_kept (is_library_function f) (k.result scope.statements)) (k.statement scope.statements) refl refl m
+  call_stays l target.None f args scope stand rules m =
+      form_stays (RawStatement-F.Call l target.None f args) (Calls InBlock target.None f args) (Calls InBlock target.None f (kept_args k f scope.statements args)) refl refl scope (passes (is_library_function f) f args scope.statements) refl
+      (λ n. (tt, args_met f args scope.statements n)) (k.statement scope.statements) refl m
+  call_stays l (target.Place a) f args scope stand rules m = placed_stays l f args scope a (result_kept (is_library_function f) (k.result scope.statements)) (k.statement scope.statements) refl refl m
   call_stays l (target.Declared v) f args scope stand rules m =
       at_form (s.rolls-Call l (target.Declared v) f args)
-      (call_declared_stays l v f args scope
+      (call_declared_stays l f args scope v
       (result_given raw l (with_variable raw v init.None scope) stand v f args (kept_second raw (target_phrases raw l scope stand (target.Declared v)) (phrase l (with_variable raw v init.None scope) (Calls stand (target.Declared v) f args) ∷ []) rules)) (k.variable scope.variables) (k.statement scope.statements) (result_kept (is_library_function f) (k.result scope.statements)) refl refl refl m)
 
   heap_declared_stays : (l : ℕ) (v : RawVar) (cast : Option RawTypeName) (n : RawAmount) (scope : Scope) (a b : Bool) → k.variable scope.variables ≡ a → k.statement scope.statements ≡ b
@@ -242,8 +316,8 @@ module _ (k : Kept) (raw other : RawProgram) (like : SameOutside raw other) wher
 
   heap_stays : (l : ℕ) (to : RawTarget) (cast : Option RawTypeName) (n : RawAmount) (scope : Scope) → AreMet k (heap_left k raw l to cast n scope).needs
       → Stays scope (roll-RawStatement (RawStatement-F.Heap l to cast n)) (heap_left k raw l to cast n scope)
-  heap_stays l target.None cast n scope m = plain_stays (RawStatement-F.Heap l target.None cast n) (Allocates target.None cast n) refl refl scope tt (k.statement scope.statements) refl m
-  heap_stays l (target.Place a) cast n scope m = plain_stays (RawStatement-F.Heap l (target.Place a) cast n) (Allocates (target.Place a) cast n) refl refl scope tt (k.statement scope.statements) refl m
+  heap_stays l target.None cast n scope m = plain_stays (RawStatement-F.Heap l target.None cast n) (Allocates target.None cast n) refl refl scope refl tt (k.statement scope.statements) refl m
+  heap_stays l (target.Place a) cast n scope m = plain_stays (RawStatement-F.Heap l (target.Place a) cast n) (Allocates (target.Place a) cast n) refl refl scope refl tt (k.statement scope.statements) refl m
   heap_stays l (target.Declared v) cast n scope m =
       at_form (s.rolls-Heap l (target.Declared v) cast n) (heap_declared_stays l v cast n scope (k.variable scope.variables) (k.statement scope.statements) refl refl m)
 
@@ -379,21 +453,22 @@ module _ (k : Kept) (raw other : RawProgram) (like : SameOutside raw other) wher
     abbrev RestGoes : RawStatement → Type 0
     RestGoes x = ThinsPart k raw other (part_scope raw (Some x) scope) step None × ThinAll k raw other (opened (body_scope raw (Some x) step scope)) body []
 
-    plain_alone : {x : RawStatement} {some : List RawStatement} → IsPlain (opened (numbered scope)) x some → RestGoes x → Thins k raw other scope (s.For l (Some x) a step body) some
-    plain_alone {x} w r =
+    plain_alone : {x : RawStatement} {some : List RawStatement} → StaysAlone (opened (numbered scope)) x some → RestGoes x → Thins k raw other scope (s.For l (Some x) a step body) some
+    plain_alone (without_it {a = place} {args} strange less kept fits stay) r = Thins.for_result_goes place args goes strange less kept fits (record { names = stay.names; functions = stay.functions }) r.0 r.1
+    plain_alone {x} (with_result w) r =
         subst (Thins k raw other scope (s.For l (Some x) a step body)) (sym w.one)
-        (subst (λ (z : RawStatement). RestGoes z → Thins k raw other scope (s.For l (Some z) a step body) (z ∷ [])) (sym w.is)
-        (λ q. Thins.for_simple w.form w.part goes w.simple w.quiet w.kept w.whole (record { names = w.names.names; functions = w.names.functions }) q.0 q.1) r)
+        (subst (λ (z : RawStatement). RestGoes z → Thins k raw other scope (s.For l (Some z) a step body) (roll-RawStatement (kept_form k (numbered scope).statements w.form) ∷ [])) (sym w.is)
+        (λ q. Thins.for_simple w.form w.part goes w.simple w.quiet w.kept (fits_before k raw (numbered scope) w.form w.whole) (record { names = w.names.names; functions = w.names.functions }) q.0 q.1) r)
 
     one_alone : {x : RawStatement} (y : RawStatement) (declaring is_plain : Bool) → declares (out-RawStatement y) ≡ declaring
-        → Thins k raw other (opened (numbered scope)) x (y ∷ []) → (is_plain ≡ true → IsPlain (opened (numbered scope)) x (y ∷ [])) → Gives y → RestGoes x
+        → Thins k raw other (opened (numbered scope)) x (y ∷ []) → (is_plain ≡ true → StaysAlone (opened (numbered scope)) x (y ∷ [])) → Gives y → RestGoes x
         → AreMet k (alone_one declaring is_plain l y).needs → Thins k raw other scope (s.For l (Some x) a step body) (alone_one declaring is_plain l y).some
     one_alone y true is_plain d t p g r m = Thins.for_block goes d (g d) t r.0 r.1
     one_alone y false true d t p g r m = plain_alone (p refl) r
     one_alone y false false d t p g r m = absurd m.0
 
     all_alone : {x : RawStatement} (is_plain : Bool) (ys : List RawStatement)
-        → Thins k raw other (opened (numbered scope)) x ys → (is_plain ≡ true → IsPlain (opened (numbered scope)) x ys) → AllGive ys → RestGoes x
+        → Thins k raw other (opened (numbered scope)) x ys → (is_plain ≡ true → StaysAlone (opened (numbered scope)) x ys) → AllGive ys → RestGoes x
         → AreMet k (alone_all is_plain l ys).needs → Thins k raw other scope (s.For l (Some x) a step body) (alone_all is_plain l ys).some
     all_alone is_plain [] t p g r m = Thins.for_goes goes (ThinsPart.part_goes t) r.0 r.1
     all_alone is_plain (y ∷ []) t p g r m = one_alone y (declares (out-RawStatement y)) is_plain refl t p g.0 r m
@@ -548,8 +623,8 @@ module _ (k : Kept) (raw other : RawProgram) (like : SameOutside raw other) wher
   of_layer : (y : Layer) (scope : Scope) (stand : Stand) → AreKept raw (phrases_step raw (texts (shape y)) scope stand) → AreMet k (left_step k raw (lefts (shape y)) scope).needs
       → Stays scope (roll-RawStatement (shape y)) (left_step k raw (lefts (shape y)) scope)
   of_layer (RawStatement-F.Declare l v i) scope stand rules m = at_form (s.rolls-Declare l v i) (declare_stays l v i scope m)
-  of_layer (RawStatement-F.Assign l a op b) scope stand rules m = plain_stays (RawStatement-F.Assign l a op b) (Assigns a op b) refl refl scope tt (k.statement scope.statements) refl m
-  of_layer (RawStatement-F.Bump l a up before) scope stand rules m = plain_stays (RawStatement-F.Bump l a up before) (Bumps a) refl refl scope tt (k.statement scope.statements) refl m
+  of_layer (RawStatement-F.Assign l a op b) scope stand rules m = plain_stays (RawStatement-F.Assign l a op b) (Assigns a op b) refl refl scope refl tt (k.statement scope.statements) refl m
+  of_layer (RawStatement-F.Bump l a up before) scope stand rules m = plain_stays (RawStatement-F.Bump l a up before) (Bumps a) refl refl scope refl tt (k.statement scope.statements) refl m
   of_layer (RawStatement-F.Call l to f args) scope stand rules m = call_stays l to f args scope stand rules m
   of_layer (RawStatement-F.Heap l to cast n) scope stand rules m = heap_stays l to cast n scope m
   of_layer (RawStatement-F.If l a b c) scope stand rules m =
@@ -574,7 +649,7 @@ module _ (k : Kept) (raw other : RawProgram) (like : SameOutside raw other) wher
   of_layer (RawStatement-F.Block l b) scope stand rules m =
       let some = (block_left k raw (map (left k raw) (bare b)) scope).some in
       at_form (s.rolls-Block l (bare b)) (compound (block_gives l some) (block_stays l (bare b) some (lists b (opened scope) InBlock rules m)))
-  of_layer (RawStatement-F.Return l a) scope stand rules m = plain_stays (RawStatement-F.Return l a) (Returns a) refl refl scope tt (k.statement scope.statements) refl m
+  of_layer (RawStatement-F.Return l a) scope stand rules m = form_stays (RawStatement-F.Return l a) (Returns a) (Returns a) refl refl scope (return_needs (head_around raw scope) a) refl (return_met (head_around raw scope) a) (k.statement scope.statements) refl m
 
   statement_layer : (y : Layer) → Holds (roll-RawStatement (shape y))
   statement_layer y scope stand rules =

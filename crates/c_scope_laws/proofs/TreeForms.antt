@@ -16,7 +16,7 @@ use Rattle.projection.specs.Renumbering.{renamed_label}
 use Rattle.projection.specs.Kept.{Kept, rank}
 use Rattle.projection.specs.Projection.{flat, declaring_step, declaring_arm, is_declaring, projected_step, projected_arm_step, projected, projected_arm}
 
-module _ (k : Kept) (g : ℕ → ℕ) where
+module _ {F : Type 0} (k : Kept F) (g : ℕ → ℕ) where
   pub projected-Declare : (id : Option ℕ) (l x : ℕ) (i : Init) → projected k g (t.Declare id l x i) ≡ projected_step k g (Statement-F.Declare id l x i)
   projected-Declare id l x i = ap (projected k g) (sym (t.rolls-Declare id l x i)) ∙ fold-roll-Statement (List Statement) Arm (projected_step k g) (projected_arm_step k g) (Statement-F.Declare id l x i)
 

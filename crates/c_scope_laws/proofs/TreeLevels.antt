@@ -34,7 +34,7 @@ one_there (Some w) ws h = record { value = w; there = refl; same = sym (some_sam
 pub collect_one : {o : Option Statement} {w : Statement} → o ≡ Some w → collected (o ∷ []) ≡ Some (w ∷ [])
 collect_one h = ap (λ (o : Option Statement). collected (o ∷ [])) h
 
-module _ (k : Kept) (g : ℕ → ℕ) where
+module _ {F : Type 0} (k : Kept F) (g : ℕ → ℕ) where
   abbrev pub f : ℕ → ℕ
   f = rank k.variable
 

@@ -17,18 +17,19 @@ use Rattle.c_language.specs.DeclaredTypes.{function_id}
 use Rattle.c_language.specs.Scopes.{Scope}
 use Rattle.c_language.specs.CallRules.{format_in, later_args, without_result}
 use Rattle.c_language.specs.Uses.{is_library_function, is_among}
-use Rattle.c_language.specs.ProgramOf.{args_tree, only_tree, print_tree, invoke_tree, call_tree}
+use Rattle.c_language.specs.ProgramOf.{collected, arg_tree, args_tree, only_tree, print_tree, invoke_tree, call_tree}
 use Rattle.c_language.proofs.Options.{none_there, some_same}
 use Rattle.c_language.proofs.Tests.{false_true, none_of}
 use Rattle.projection.specs.Renumbering.{Numbers, renamed, renumbered}
-use Rattle.projection.specs.Kept.{Kept, rank}
-use Rattle.projection.specs.Projection.{bare_target, projected_call, projected}
+use Rattle.projection.specs.Kept.{Kept, rank, chosen as chosen_places}
+use Rattle.projection.specs.Projection.{if_so, bare_target, projected}
+use Rattle.c_scope_laws.proofs.ChosenLists.{chosen_map, chosen_collected}
 use Rattle.c_scope_laws.proofs.RenumberingLemmas.{renumbered-Assign, renumbered-Bump, renumbered-Invoke, renumbered-Fetch, renumbered-Write, renumbered-Print, renumbered-Heap, renumbered-Release, renumbered-Return}
 use Rattle.c_scope_laws.proofs.TreeForms.{projected-Assign, projected-Bump, projected-Invoke, projected-Fetch, projected-Write, projected-Print, projected-Heap, projected-Release, projected-Return}
 use Rattle.c_scope_laws.proofs.TreeLevels.{chosen, unchosen}
 
 -- the numbers of what is kept, where functions have these
-abbrev pub numbers_of : Kept → (ℕ → ℕ) → Numbers
+abbrev pub numbers_of : {F : Type 0} → Kept F → (ℕ → ℕ) → Numbers
 numbers_of k functions = record { variable = rank k.variable; statement = rank k.statement; function = functions }
 
 -- ---- calls, by what is called
@@ -85,7 +86,7 @@ module _ (raw : RawProgram) (place : Scope) (n l : ℕ) (to : Option Target) (f 
   pub invoked : is_library_function f ≡ false → call_tree raw place n l to f args ≡ invoke_tree raw place n l to f args
   invoked h = by_tests (bytes_eq f (codes "getchar")) (bytes_eq f (codes "putchar")) (bytes_eq f (codes "printf")) (bytes_eq f (codes "free")) _ _ _ _ (invoke_tree raw place n l to f args) h
 
-module _ (k : Kept) (g : ℕ → ℕ) where
+module _ {F : Type 0} (k : Kept F) (g : ℕ → ℕ) where
   abbrev ns : Numbers
   ns = numbers_of k g
 
@@ -127,15 +128,21 @@ module _ (k : Kept) (g : ℕ → ℕ) where
     pub return_whole : k.statement n ≡ true → (a : Option Expr) → Whole (s.Return n l a)
     return_whole kept a = projected-Return k g n l a ∙ chosen _ [] kept ∙ one (renumbered-Return ns n l a)
 
-    pub invoke_whole : k.statement n ≡ true → (t : Target) (i : ℕ) (as_ : List Expr) → k.result n ≡ true → Whole (s.Invoke n l t i as_)
-    invoke_whole kept to_place.None i as_ result = projected-Invoke k g n l to_place.None i as_ ∙ chosen _ (bare_target k g l to_place.None) kept ∙ one (renumbered-Invoke ns n l to_place.None i as_)
-    invoke_whole kept (to_place.Place a) i as_ result =
-        projected-Invoke k g n l (to_place.Place a) i as_ ∙ chosen _ (bare_target k g l (to_place.Place a)) kept ∙ chosen _ _ result ∙ one (renumbered-Invoke ns n l (to_place.Place a) i as_)
-    invoke_whole kept (to_place.Declared x) i as_ result =
-        projected-Invoke k g n l (to_place.Declared x) i as_ ∙ chosen _ (bare_target k g l (to_place.Declared x)) kept ∙ chosen _ _ result ∙ one (renumbered-Invoke ns n l (to_place.Declared x) i as_)
+    -- a call with the arguments that it keeps
+    abbrev pub Kept_whole : Target → ℕ → List Expr → Type 0
+    Kept_whole t i as_ = projected k g (s.Invoke n l t i as_) ≡ renumbered ns (s.Invoke n l t i (chosen_places (k.argument n) 0 as_)) ∷ []
 
-    pub invoke_none : k.statement n ≡ true → (i : ℕ) (as_ : List Expr) → Whole (s.Invoke n l to_place.None i as_)
-    invoke_none kept i as_ = projected-Invoke k g n l to_place.None i as_ ∙ chosen _ (bare_target k g l to_place.None) kept ∙ one (renumbered-Invoke ns n l to_place.None i as_)
+    pub invoke_kept : k.statement n ≡ true → (t : Target) (i : ℕ) (as_ : List Expr) → k.result n ≡ true → Kept_whole t i as_
+    invoke_kept kept t i as_ result =
+        projected-Invoke k g n l t i as_ ∙ chosen _ (bare_target k g l t) kept ∙ chosen _ _ result ∙ one (renumbered-Invoke ns n l t i (chosen_places (k.argument n) 0 as_))
+
+    pub invoke_alone : k.statement n ≡ true → (i : ℕ) (as_ : List Expr) → Kept_whole to_place.None i as_
+    invoke_alone kept i as_ =
+        projected-Invoke k g n l to_place.None i as_ ∙ chosen _ (bare_target k g l to_place.None) kept ∙ by_result (k.result n) ∙ one (renumbered-Invoke ns n l to_place.None i (chosen_places (k.argument n) 0 as_))
+      where
+        by_result : {xs : List Statement} (b : Bool) → if_so b xs xs ≡ xs
+        by_result true = refl
+        by_result false = refl
 
     -- ---- what goes, but for what is declared
 
@@ -158,6 +165,41 @@ module _ (k : Kept) (g : ℕ → ℕ) where
     call_whole to kept invoke =
         call_by raw place n l to w args Whole (λ u at h. fetch_whole n l kept u) (λ a h. write_whole n l kept a) (λ text as_ h. print_whole n l kept text as_) (λ a h. release_whole n l kept a) invoke
 
+    -- the trees of the arguments that are kept
+    pub args_chosen : (as_ : List Expr) → args_tree raw place args ≡ Some as_ → args_tree raw place (chosen_places (k.argument n) 0 args) ≡ Some (chosen_places (k.argument n) 0 as_)
+    args_chosen as_ at =
+        ap collected (chosen_map (arg_tree raw place) (k.argument n) 0 args) ∙ chosen_collected (k.argument n) 0 (map (arg_tree raw place) args) as_ at
+
+    -- a call that stays has the tree of the call with the arguments that it keeps
+    pub record CallStays (to : Option Target) (some : List RawArg) (y : Statement) : Type 0 where
+      pub tree : Statement
+      pub there : call_tree raw place n l to w some ≡ Some tree
+      pub stays : projected k g y ≡ renumbered ns tree ∷ []
+
+    pub call_stays : (to : Option Target) (some : List RawArg) → (is_library_function w ≡ true → some ≡ args) → (is_library_function w ≡ false → some ≡ chosen_places (k.argument n) 0 args) → k.statement n ≡ true
+        → ((t : Target) (i : ℕ) (as_ : List Expr) → to ≡ Some t → is_library_function w ≡ false → Kept_whole n l t i as_)
+        → (y : Statement) → call_tree raw place n l to w args ≡ Some y → CallStays to some y
+    call_stays to some all left kept invoke y at = by_library (is_library_function w) refl
+      where
+        by_invoke : is_library_function w ≡ false → (o : Option Target) (i : Option ℕ) (x : Option (List Expr)) → to ≡ o → function_id raw w ≡ i → args_tree raw place args ≡ x → option_and_then (λ (t : Target). both (s.Invoke n l t) i x) o ≡ Some y → CallStays to some y
+        by_invoke strange None i x p q r is = none_there is
+        by_invoke strange (Some t) None x p q r is = none_there is
+        by_invoke strange (Some t) (Some i) None p q r is = none_there is
+        by_invoke strange (Some t) (Some i) (Some as_) p q r is = record {
+          tree = s.Invoke n l t i (chosen_places (k.argument n) 0 as_);
+          there = invoked raw place n l to w some strange ∙ ap₂ (λ (o : Option Target) (x : Option (List Expr)). option_and_then (λ (t : Target). both (s.Invoke n l t) (function_id raw w) x) o) p (ap (args_tree raw place) (left strange) ∙ args_chosen as_ r)
+              ∙ ap (λ (j : Option ℕ). both (s.Invoke n l t) j (Some (chosen_places (k.argument n) 0 as_))) q;
+          stays = ap (projected k g) (sym (some_same is)) ∙ invoke t i as_ p strange;
+        }
+
+        by_library : (b : Bool) → is_library_function w ≡ b → CallStays to some y
+        by_library true known = record {
+          tree = y;
+          there = ap (call_tree raw place n l to w) (all known) ∙ at;
+          stays = call_whole to kept (λ t i as_ p strange. false_true (sym strange ∙ known)) y at;
+        }
+        by_library false strange = by_invoke strange to (function_id raw w) (args_tree raw place args) refl refl refl (sym (invoked raw place n l to w args strange) ∙ at)
+
     -- what stays of a call that goes is what it declares, where it gives a result
     pub call_gone : (to : Option Target) (zs : List Statement) → k.statement n ≡ false → ((t : Target) → to ≡ Some t → bare_target k g l t ≡ zs) → (is_among without_result w ≡ true → zs ≡ [])
         → (y : Statement) → call_tree raw place n l to w args ≡ Some y → projected k g y ≡ zs
@@ -168,18 +210,14 @@ module _ (k : Kept) (g : ℕ → ℕ) where
         (λ u i as_ at h. projected-Invoke k g n l u i as_ ∙ unchosen _ (bare_target k g l u) out ∙ each u at)
 
   -- a call of a function of the text that loses its result
-  pub call_loses : (n m l : ℕ) (t : Target) → m ≡ rank k.statement n → k.statement n ≡ true → k.result n ≡ false → (i i' : Option ℕ) (x x' : Option (List Expr)) → i' ≡ option_map g i → x' ≡ option_map (map (renamed f)) x
+  pub call_loses : (n m l : ℕ) (t : Target) → m ≡ rank k.statement n → k.statement n ≡ true → k.result n ≡ false → (i i' : Option ℕ) (x x' : Option (List Expr)) → i' ≡ option_map g i
+      → ((as_ : List Expr) → x ≡ Some as_ → x' ≡ Some (map (renamed f) (chosen_places (k.argument n) 0 as_)))
       → (y : Statement) → both (s.Invoke n l t) i x ≡ Some y
       → (z : Statement) × (both (s.Invoke m l to_place.None) i' x' ≡ Some z) × (projected k g y ≡ bare_target k g l t ++ (z ∷ []))
   call_loses n m l t num kept lost None i' x x' p q y is = none_there is
   call_loses n m l t num kept lost (Some i) i' None x' p q y is = none_there is
   call_loses n m l t num kept lost (Some i) i' (Some as_) x' p q y is = (
-    s.Invoke (rank k.statement n) l to_place.None (g i) (map (renamed f) as_),
-    ap₂ (both (s.Invoke m l to_place.None)) p q ∙ ap (λ (j : ℕ). Some (s.Invoke j l to_place.None (g i) (map (renamed f) as_))) num,
-    ap (projected k g) (sym (some_same is)) ∙ projected-Invoke k g n l t i as_ ∙ chosen _ (bare_target k g l t) kept ∙ by_target t,
+    s.Invoke (rank k.statement n) l to_place.None (g i) (map (renamed f) (chosen_places (k.argument n) 0 as_)),
+    ap₂ (both (s.Invoke m l to_place.None)) p (q as_ refl) ∙ ap (λ (j : ℕ). Some (s.Invoke j l to_place.None (g i) (map (renamed f) (chosen_places (k.argument n) 0 as_)))) num,
+    ap (projected k g) (sym (some_same is)) ∙ projected-Invoke k g n l t i as_ ∙ chosen _ (bare_target k g l t) kept ∙ unchosen _ _ lost,
   )
-    where
-      by_target : (t : Target) → projected_call k g n l t i as_ ≡ bare_target k g l t ++ (s.Invoke (rank k.statement n) l to_place.None (g i) (map (renamed f) as_) ∷ [])
-      by_target to_place.None = refl
-      by_target (to_place.Place a) = unchosen _ _ lost
-      by_target (to_place.Declared v) = unchosen _ _ lost

@@ -1,6 +1,6 @@
 -- Going along a list of statements and the thinner one: the tree of what stays is what stays of the tree.
 use Rattle.std.proofs.Common.{arith, ◌≡◌, ℕ, List, [], ◌∷◌, ◌++◌, map, true, false, Option, Some, None, option_map, option_and_then, refl, sym, ap, ap₂, subst, ◌∙◌}
-use Rattle.std.specs.Prelude.{Contains}
+use Rattle.std.specs.Prelude.{Contains, if◌then◌else◌, Bool}
 use Rattle.std.proofs.lemmas.List.{map-append}
 use Rattle.c_arith.specs.declared.int_type.IntType.{IntType}
 use Rattle.c_tree.specs.declared.types.CType.{CType}
@@ -27,6 +27,7 @@ use Rattle.c_tree.specs.declared.raw.statement.RawStatement.{RawStatement, roll-
 use Rattle.c_tree.specs.declared.raw.statement.RawStatement.TheViews.{roll-out-RawStatement}
 use Rattle.c_tree.specs.declared.raw.statement.RawLabel.TheVariants as label
 use Rattle.c_tree.specs.declared.raw.statement.RawStatement.TheOpen.{RawStatement-F}
+use Rattle.c_tree.specs.declared.raw.statement.RawStatement.TheVariants as s
 use Rattle.c_tree.specs.declared.raw.statement.RawArm.{RawArm}
 use Rattle.c_language.specs.Words.{Bytes}
 use Rattle.c_language.specs.ConstantEvaluation.{both}
@@ -45,8 +46,8 @@ use Rattle.c_language.proofs.TreeScopes.{after_same, list_after, block_after_sam
 use Rattle.c_language.proofs.OptionMaps.{collected_map}
 use Rattle.c_scope_laws.specs.Agreement.{NamedAmong, Names, NamesFunction, Agree, TreesAgree, SameVariable, there, simple_part}
 use Rattle.projection.specs.Renumbering.{Numbers, renamed, renamed_label, renumbered}
-use Rattle.projection.specs.Kept.{Kept, rank}
-use Rattle.c_scope_laws.specs.Thinning.{LabelsStay, arm_labels, NamesStay, BeginIs, declares, StaysWhole, GivesResult, Thins, ThinAll, ThinsPart, ThinArms}
+use Rattle.projection.specs.Kept.{Kept, rank, chosen as chosen_places}
+use Rattle.c_scope_laws.specs.Thinning.{LabelsStay, arm_labels, NamesStay, BeginIs, declares, kept_args, kept_form, FormFits, GivesResult, Thins, ThinAll, ThinsPart, ThinArms}
 use Rattle.projection.specs.Projection.{declares_target, is_declaring, first_statement, part_of, bare, bare_target, projected, projected_arm, projected_all}
 use Rattle.c_scope_laws.proofs.Trees.{in_one}
 use Rattle.c_scope_laws.proofs.ExprAgreement.{exprs_same}
@@ -59,7 +60,8 @@ use Rattle.c_scope_laws.proofs.VariableLists.{join}
 use Rattle.c_scope_laws.proofs.Walking.{part_walks, at_number, walks, all_walk}
 use Rattle.c_scope_laws.proofs.TreeForms.{projected_arm-arm, declaring-Declare, declaring-Invoke, declaring-Fetch, declaring-Write, declaring-Print, declaring-Heap, declaring-Release, declaring-Assign, declaring-Bump, declaring-Return, projected-Declare}
 use Rattle.c_scope_laws.proofs.TreeLevels.{chosen, unchosen, one_there, collect_one, ListStays, settled, if_stays, while_stays, do_stays, for_stays, switch_stays, if_gone, while_gone, do_gone, switch_gone, for_leaves, block_stays, block_gone}
-use Rattle.c_scope_laws.proofs.TreeSimple.{call_by, invoked, Whole, Gone, assign_whole, bump_whole, heap_whole, return_whole, invoke_whole, invoke_none, assign_gone, bump_gone, return_gone, heap_gone, call_whole, call_gone, call_loses, numbers_of}
+use Rattle.c_scope_laws.proofs.TreeSimple.{call_by, invoked, Whole, Gone, Kept_whole, assign_whole, bump_whole, heap_whole, return_whole, invoke_kept, invoke_alone, assign_gone, bump_gone, return_gone, heap_gone, args_chosen, call_stays, call_gone, call_loses, numbers_of}
+use Rattle.c_scope_laws.proofs.KeptForms.{form_declares, fits_opened}
 use Rattle.c_language.specs.StatementGrammar.{arm}
 
 -- ---- facts about trees that are made of options
@@ -86,7 +88,7 @@ in_order-append : {R : Type 0} (xs ys : List (Scoped R)) (scope : Scope) → in_
 in_order-append [] ys scope = refl
 in_order-append (x ∷ xs) ys scope = ap (λ (all : List _). x.gives scope ∷ all) (in_order-append xs ys (x.after scope))
 
-module _ (k : Kept) (raw other : RawProgram) (texts : TextsAgree k raw other) (g : ℕ → ℕ) (ids : (x : Bytes) → k.function x ≡ true → function_id other x ≡ option_map g (function_id raw x)) (defined_here defined_there : ℕ) (owner_here owner_there : Option ℕ) where
+module _ (k : Kept Bytes) (raw other : RawProgram) (texts : TextsAgree k raw other) (g : ℕ → ℕ) (ids : (x : Bytes) → k.function x ≡ true → function_id other x ≡ option_map g (function_id raw x)) (defined_here defined_there : ℕ) (owner_here owner_there : Option ℕ) where
   abbrev ns : Numbers
   ns = numbers_of k g
 
@@ -117,8 +119,15 @@ module _ (k : Kept) (raw other : RawProgram) (texts : TextsAgree k raw other) (g
   stays_whole : {o q : Option Statement} {y : Statement} → o ≡ option_map (renumbered ns) q → q ≡ Some y → Whole k g y → collected (o ∷ []) ≡ Some (projected k g y)
   stays_whole p is whole = settled k g (p ∙ ap (option_map (renumbered ns)) is) whole refl
 
-  simple_stays : {scope next : Scope} (x : RawStatement-F RawStatement RawArm) (part : Part) → simple_part x ≡ Some part → declares x ≡ false → k.statement scope.statements ≡ true → StaysWhole k x scope.statements
-      → TreesAgree ns (NamesFunction part) raw other scope next → Agree f (Names part) scope next → (y : Statement) → tree_step raw (opened_tree raw x) scope ≡ Some y → collected (tree_step other (opened_tree other x) next ∷ []) ≡ Some (projected k g y)
+  -- the arguments of a call that are kept
+  known_args : (n : ℕ) (w : Bytes) (args : List RawArg) → is_library_function w ≡ true → kept_args k w n args ≡ args
+  known_args n w args known = ap (λ (b : Bool). if b then args else chosen_places (k.argument n) 0 args) known
+
+  strange_args : (n : ℕ) (w : Bytes) (args : List RawArg) → is_library_function w ≡ false → kept_args k w n args ≡ chosen_places (k.argument n) 0 args
+  strange_args n w args strange = ap (λ (b : Bool). if b then args else chosen_places (k.argument n) 0 args) strange
+
+  simple_stays : {scope next : Scope} (x : RawStatement-F RawStatement RawArm) (part : Part) → simple_part (kept_form k scope.statements x) ≡ Some part → declares x ≡ false → k.statement scope.statements ≡ true → FormFits k raw x scope
+      → TreesAgree ns (NamesFunction part) raw other scope next → Agree f (Names part) scope next → (y : Statement) → tree_step raw (opened_tree raw x) scope ≡ Some y → collected (tree_step other (opened_tree other (kept_form k scope.statements x)) next ∷ []) ≡ Some (projected k g y)
   simple_stays (RawStatement-F.Declare l v i) part h none kept whole fit agree y is = false_true (sym none)
   simple_stays {scope} {next} (RawStatement-F.Assign l left op right) part h none kept whole fit agree y is =
       stays_whole (simple_fits ns raw other scope next (RawStatement-F.Assign l left op right) part h fit agree) is
@@ -127,11 +136,15 @@ module _ (k : Kept) (raw other : RawProgram) (texts : TextsAgree k raw other) (g
       stays_whole (simple_fits ns raw other scope next (RawStatement-F.Bump l left up before) part h fit agree) is
       (by_map (Whole k g) _ (λ a. bump_whole k g scope.statements l kept a up before) (expr_of raw scope left) y is)
   simple_stays {scope} {next} (RawStatement-F.Call l target.None w args) part h none kept whole fit agree y is =
-      stays_whole (simple_fits ns raw other scope next (RawStatement-F.Call l target.None w args) part h fit agree) is
-      (call_whole k g raw scope scope.statements l w args (Some to_place.None) kept (λ u i as_ at strange. subst (λ (v : Target). Whole k g (t.Invoke scope.statements l v i as_)) (some_same at) (invoke_none k g scope.statements l kept i as_)) y is)
+      let n = scope.statements in
+      let c = call_stays k g raw scope n l w args (Some to_place.None) (kept_args k w n args) (known_args n w args) (strange_args n w args) kept
+      (λ u i as_ at strange. subst (λ (v : Target). Kept_whole k g n l v i as_) (some_same at) (invoke_alone k g n l kept i as_)) y is in
+      settled k g (simple_fits ns raw other scope next (RawStatement-F.Call l target.None w (kept_args k w n args)) part h fit agree ∙ ap (option_map (renumbered ns)) c.there) c.stays refl
   simple_stays {scope} {next} (RawStatement-F.Call l (target.Place a) w args) part h none kept whole fit agree y is =
-      stays_whole (simple_fits ns raw other scope next (RawStatement-F.Call l (target.Place a) w args) part h fit agree) is
-      (call_whole k g raw scope scope.statements l w args (target_tree raw scope (target.Place a)) kept (λ u i as_ at strange. invoke_whole k g scope.statements l kept u i as_ (whole strange)) y is)
+      let n = scope.statements in
+      let c = call_stays k g raw scope n l w args (target_tree raw scope (target.Place a)) (kept_args k w n args) (known_args n w args) (strange_args n w args) kept
+      (λ u i as_ at strange. invoke_kept k g n l kept u i as_ (whole.0.kept strange)) y is in
+      settled k g (simple_fits ns raw other scope next (RawStatement-F.Call l (target.Place a) w (kept_args k w n args)) part h fit agree ∙ ap (option_map (renumbered ns)) c.there) c.stays refl
   simple_stays (RawStatement-F.Call l (target.Declared v) w args) part h none kept whole fit agree y is = false_true (sym none)
   simple_stays {scope} {next} (RawStatement-F.Heap l target.None cast m) part h none kept whole fit agree y is =
       stays_whole (simple_fits ns raw other scope next (RawStatement-F.Heap l target.None cast m) part h fit agree) is
@@ -181,6 +194,14 @@ module _ (k : Kept) (raw other : RawProgram) (texts : TextsAgree k raw other) (g
   simple_goes scope (RawStatement-F.For l i a step b) part h none out y is = none_there h
   simple_goes scope (RawStatement-F.Switch l a arms) part h none out y is = none_there h
   simple_goes scope (RawStatement-F.Block l b) part h none out y is = none_there h
+
+  -- those of a call that loses its result
+  lost_args : {place later : Scope} (n : ℕ) (w : Bytes) (args : List RawArg) → is_library_function w ≡ false → Agree f (Names (Calls InBlock target.None w (kept_args k w n args))) place later
+      → (as_ : List Expr) → args_tree raw place args ≡ Some as_ → args_tree other later (kept_args k w n args) ≡ Some (map (renamed f) (chosen_places (k.argument n) 0 as_))
+  lost_args {place} {later} n w args strange agree as_ at =
+      args_same f (Names (Calls InBlock target.None w (kept_args k w n args))) raw other place later texts.outside agree (kept_args k w n args) (part_covers (Calls InBlock target.None w (kept_args k w n args)) (λ x n. n))
+      ∙ ap (λ (some : List RawArg). option_map (map (renamed f)) (args_tree raw place some)) (strange_args n w args strange)
+      ∙ ap (option_map (map (renamed f))) (args_chosen k g raw place n 0 w args as_ at)
 
   -- ---- declarations
 
@@ -234,20 +255,27 @@ module _ (k : Kept) (raw other : RawProgram) (texts : TextsAgree k raw other) (g
       abbrev call : Option Statement
       call = call_tree raw within scope.statements l (Some (to_place.Declared scope.variables)) w args
 
-      call_stays : k.variable scope.variables ≡ true → k.statement scope.statements ≡ true → (is_library_function w ≡ false → k.result scope.statements ≡ true) → NamesStay k within (Calls InBlock (target.Declared v) w args)
-          → (y : Statement) → call ≡ Some y → collected (tree_step other (RawStatement-F.Call l (target.Declared v) w args) next ∷ []) ≡ Some (projected k g y)
-      call_stays is kept result stay y at =
-          stays_whole (simple_fits ns raw other scope next (RawStatement-F.Call l (target.Declared v) w args) (Calls InBlock (target.Declared v) w args) refl (within_fits stay) (agrees (inside v v init.None init.None is (same v init.None) c) stay)) at
-          (call_whole k g raw within scope.statements l w args (Some (to_place.Declared scope.variables)) kept (λ u i as_ h strange. invoke_whole k g scope.statements l kept u i as_ (result strange)) y at)
+      -- the arguments that it keeps
+      abbrev some : List RawArg
+      some = kept_args k w scope.statements args
+
+      declared_stays : k.variable scope.variables ≡ true → k.statement scope.statements ≡ true → (is_library_function w ≡ false → k.result scope.statements ≡ true) → NamesStay k within (Calls InBlock (target.Declared v) w some)
+          → (y : Statement) → call ≡ Some y → collected (tree_step other (RawStatement-F.Call l (target.Declared v) w some) next ∷ []) ≡ Some (projected k g y)
+      declared_stays is kept result stay y at =
+          let n = scope.statements in
+          let s = call_stays k g raw within n l w args (Some (to_place.Declared scope.variables)) some (known_args n w args) (strange_args n w args) kept (λ u i as_ h strange. invoke_kept k g n l kept u i as_ (result strange)) y at in
+          settled k g
+          (simple_fits ns raw other scope next (RawStatement-F.Call l (target.Declared v) w some) (Calls InBlock (target.Declared v) w some) refl (within_fits stay) (agrees (inside v v init.None init.None is (same v init.None) c) stay)
+          ∙ ap (option_map (renumbered ns)) s.there) s.stays refl
 
       -- the call without its result, at a place that follows
-      lost : {place : Scope} → Comes within place → is_library_function w ≡ false → k.result scope.statements ≡ false → k.statement scope.statements ≡ true → NamesStay k within (Calls InBlock target.None w args) → (m : ℕ) → m ≡ rank k.statement scope.statements
-          → (y : Statement) → call ≡ Some y → (z : Statement) × (call_tree other place m l (Some to_place.None) w args ≡ Some z) × (projected k g y ≡ bare k g l scope.variables ++ (z ∷ []))
+      lost : {place : Scope} → Comes within place → is_library_function w ≡ false → k.result scope.statements ≡ false → k.statement scope.statements ≡ true → NamesStay k within (Calls InBlock target.None w some) → (m : ℕ) → m ≡ rank k.statement scope.statements
+          → (y : Statement) → call ≡ Some y → (z : Statement) × (call_tree other place m l (Some to_place.None) w some ≡ Some z) × (projected k g y ≡ bare k g l scope.variables ++ (z ∷ []))
       lost {place} d strange result kept stay m num y at =
-          let r = call_loses k g scope.statements m l (to_place.Declared scope.variables) num kept result (function_id raw w) (function_id other w) (args_tree raw within args) (args_tree other place args)
-          (ids w (stay.functions w NamesFunction.called)) (args_same f (Names (Calls InBlock target.None w args)) raw other within place texts.outside (agrees d stay) args (part_covers (Calls InBlock target.None w args) (λ x n. n)))
+          let r = call_loses k g scope.statements m l (to_place.Declared scope.variables) num kept result (function_id raw w) (function_id other w) (args_tree raw within args) (args_tree other place some)
+          (ids w (stay.functions w NamesFunction.called)) (lost_args scope.statements w args strange (agrees d stay))
           y (sym (invoked raw within scope.statements l (Some (to_place.Declared scope.variables)) w args strange) ∙ at) in
-          (r.0, invoked other place m l (Some to_place.None) w args strange ∙ r.1, r.2)
+          (r.0, invoked other place m l (Some to_place.None) w some strange ∙ r.1, r.2)
 
       call_gone_by : k.statement scope.statements ≡ false → (is_among without_result w ≡ true → bare k g l scope.variables ≡ []) → (y : Statement) → call ≡ Some y → projected k g y ≡ bare k g l scope.variables
       call_gone_by out none y at = call_gone k g raw within scope.statements l w args (Some (to_place.Declared scope.variables)) (bare k g l scope.variables) out (λ u h. ap (bare_target k g l) (sym (some_same h))) none y at
@@ -344,14 +372,16 @@ module _ (k : Kept) (raw other : RawProgram) (texts : TextsAgree k raw other) (g
 
   -- a call that loses the place of its result
   place_lost : {scope next : Scope} (l : ℕ) (w : Bytes) (args : List RawArg) (o : Option Expr) → is_library_function w ≡ false → k.result scope.statements ≡ false → k.statement scope.statements ≡ true
-      → NamesStay k scope (Calls InBlock target.None w args) → Comes scope next → (y : Statement) → call_tree raw scope scope.statements l (option_map to_place.Place o) w args ≡ Some y
-      → collected (call_tree other next next.statements l (Some to_place.None) w args ∷ []) ≡ Some (projected k g y)
-  place_lost {scope} {next} l w args None strange result kept stay c y at = none_there (sym (invoked raw scope scope.statements l None w args strange) ∙ at)
-  place_lost {scope} {next} l w args (Some a) strange result kept stay c y at =
-      let r = call_loses k g scope.statements next.statements l (to_place.Place a) c.statements kept result (function_id raw w) (function_id other w) (args_tree raw scope args) (args_tree other next args)
-      (ids w (stay.functions w NamesFunction.called)) (args_same f (Names (Calls InBlock target.None w args)) raw other scope next texts.outside (agrees c stay) args (part_covers (Calls InBlock target.None w args) (λ x n. n)))
+      → TreesAgree ns (NamesFunction (Calls InBlock target.None w (kept_args k w scope.statements args))) raw other scope next → Agree f (Names (Calls InBlock target.None w (kept_args k w scope.statements args))) scope next
+      → (y : Statement) → call_tree raw scope scope.statements l (option_map to_place.Place o) w args ≡ Some y
+      → collected (call_tree other next next.statements l (Some to_place.None) w (kept_args k w scope.statements args) ∷ []) ≡ Some (projected k g y)
+  place_lost {scope} {next} l w args None strange result kept fit agree y at = none_there (sym (invoked raw scope scope.statements l None w args strange) ∙ at)
+  place_lost {scope} {next} l w args (Some a) strange result kept fit agree y at =
+      let some = kept_args k w scope.statements args in
+      let r = call_loses k g scope.statements next.statements l (to_place.Place a) fit.statements kept result (function_id raw w) (function_id other w) (args_tree raw scope args) (args_tree other next some)
+      (fit.heads w NamesFunction.called) (lost_args scope.statements w args strange agree)
       y (sym (invoked raw scope scope.statements l (Some (to_place.Place a)) w args strange) ∙ at) in
-      collect_one (invoked other next next.statements l (Some to_place.None) w args strange ∙ r.1) ∙ ap Some (sym r.2)
+      collect_one (invoked other next next.statements l (Some to_place.None) w some strange ∙ r.1) ∙ ap Some (sym r.2)
 
   -- ---- labels
 
@@ -452,25 +482,25 @@ module _ (k : Kept) (raw other : RawProgram) (texts : TextsAgree k raw other) (g
     pub tree_stays : {scope : Scope} {x : RawStatement} {xs : List RawStatement} → Thins k raw other scope x xs → (next : Scope) → Comes scope next
         → (y : Statement) → (treed raw x).gives scope ≡ Some y → collected (in_order (map (treed other) xs) next) ≡ Some (projected k g y)
     tree_stays {scope} (Thins.simple x part is none kept whole stay) next c y at =
-        one_result next (treed-roll other x) (simple_stays x part is none kept whole (fits c stay) (agrees c stay) y (given (treed-roll raw x) scope at))
+        one_result next (treed-roll other (kept_form k scope.statements x)) (simple_stays x part is none kept whole (fits c stay) (agrees c stay) y (given (treed-roll raw x) scope at))
     tree_stays {scope} (Thins.simple_goes x part is none out) next c y at = ap Some (sym (simple_goes scope x part is none out y (given (treed-roll raw x) scope at)))
-    tree_stays {scope} (Thins.result_goes {l} {a} {f = w} {args} strange result kept stay) next c y at =
-        one_result next (treed-Call other l target.None w args) (place_lost l w args (expr_of raw scope a) strange result kept stay c y (given (treed-Call raw l (target.Place a) w args) scope at))
+    tree_stays {scope} (Thins.result_goes {l} {a} {f = w} {args} strange result kept passes stay) next c y at =
+        one_result next (treed-Call other l target.None w (kept_args k w scope.statements args)) (place_lost l w args (expr_of raw scope a) strange result kept (fits c stay) (agrees c stay) y (given (treed-Call raw l (target.Place a) w args) scope at))
     tree_stays {scope} (Thins.declaration {l} {v} {i} is kept stay stay_begin) next c y at =
         one_result next (treed-Declare other l v i) (declaration_stays l v i is kept stay_begin c y (given (treed-Declare raw l v i) scope at))
     tree_stays {scope} (Thins.initialiser_goes {l} {v} {w} {i} is out like stay) next c y at =
         one_result next (treed-Declare other l w init.None) (ap Some (sym (declared_bare scope l v i out y (given (treed-Declare raw l v i) scope at) ∙ bare_there l is c)))
     tree_stays {scope} (Thins.declaration_goes {l} {v} {i} is out) next c y at =
         ap Some (sym (declared_bare scope l v i out y (given (treed-Declare raw l v i) scope at) ∙ unchosen _ [] is))
-    tree_stays {scope} (Thins.call {l} {v} {f = w} {args} whole is kept stay stay_call) next c y at =
-        one_result next (treed-Call other l (target.Declared v) w args) (call_stays l v c w args is kept whole stay_call y (given (treed-Call raw l (target.Declared v) w args) scope at))
-    tree_stays {scope} (Thins.call_follows {l} {v} {f = w} {args} strange result is kept stay stay_call) next c y at =
+    tree_stays {scope} (Thins.call {l} {v} {f = w} {args} whole passes is kept stay stay_call) next c y at =
+        one_result next (treed-Call other l (target.Declared v) w (kept_args k w scope.statements args)) (declared_stays l v c w args is kept whole.kept stay_call y (given (treed-Call raw l (target.Declared v) w args) scope at))
+    tree_stays {scope} (Thins.call_follows {l} {v} {f = w} {args} strange result is kept passes stay stay_call) next c y at =
         let r = lost l v c w args (inside v v init.None init.None is (same v init.None) c) strange result kept stay_call next.statements c.statements y (given (treed-Call raw l (target.Declared v) w args) scope at) in
-        two_results next (treed-Declare other l v init.None) (treed-Call other l target.None w args)
+        two_results next (treed-Declare other l v init.None) (treed-Call other l target.None w (kept_args k w scope.statements args))
         (ap (λ (o : Option Statement). collected (Some (t.Declare None l next.variables begins.None) ∷ (o ∷ []))) r.1 ∙ ap Some (sym (r.2 ∙ ap (λ (zs : List Statement). zs ++ (r.0 ∷ [])) (bare_there l is c))))
-    tree_stays {scope} (Thins.call_alone {l} {v} {f = w} {args} strange result is kept stay_call) next c y at =
+    tree_stays {scope} (Thins.call_alone {l} {v} {f = w} {args} strange result is kept passes stay_call) next c y at =
         let r = lost l v c w args (variable_gone k raw other v init.None is c) strange result kept stay_call next.statements c.statements y (given (treed-Call raw l (target.Declared v) w args) scope at) in
-        one_result next (treed-Call other l target.None w args) (collect_one r.1 ∙ ap Some (sym (r.2 ∙ ap (λ (zs : List Statement). zs ++ (r.0 ∷ [])) (unchosen _ [] is))))
+        one_result next (treed-Call other l target.None w (kept_args k w scope.statements args)) (collect_one r.1 ∙ ap Some (sym (r.2 ∙ ap (λ (zs : List Statement). zs ++ (r.0 ∷ [])) (unchosen _ [] is))))
     tree_stays {scope} (Thins.call_goes {l} {v} {f = w} {args} gives is out stay) next c y at =
         one_result next (treed-Declare other l v init.None) (ap Some (sym (call_gone_by l v c w args out (λ h. false_true (sym gives ∙ h)) y (given (treed-Call raw l (target.Declared v) w args) scope at) ∙ bare_there l is c)))
     tree_stays {scope} (Thins.called_goes {l} {v} {f = w} {args} is out) next c y at =
@@ -525,6 +555,8 @@ module _ (k : Kept) (raw other : RawProgram) (texts : TextsAgree k raw other) (g
         one_result next (treed-Block other l (begin ∷ []))
         (ap (λ (o : Option Statement). collected (option_map (t.Block l) (collected (o ∷ [])) ∷ [])) r.there ∙ ap Some (sym (leaves ∙ chosen (t.Block l (r.value ∷ []) ∷ []) (r.value ∷ []) declares_it)))
     tree_stays {scope} (Thins.for_simple {l} {a} x part {step} {body} out is none kept whole stay e h) next c y at =
+        let form = kept_form k (numbered scope).statements x in
+        let nothing : declares form ≡ false = form_declares k (numbered scope).statements x ∙ none in
         let tree = given (treed-For raw l (Some (roll-RawStatement x)) a step body) scope at in
         let z = begin_there scope.statements l _ _ _ _ y tree in
         let p = optional_there ((treed raw (roll-RawStatement x)).gives (opened (numbered scope))) z.0 z.1 in
@@ -532,12 +564,29 @@ module _ (k : Kept) (raw other : RawProgram) (texts : TextsAgree k raw other) (g
         let inner = at_number stay in
         let fit = fits n inner in
         let agree = agrees n inner in
-        let stays = simple_stays {scope = opened (numbered scope)} {next = next} x part is none kept whole (record { outside = fit.outside; variables = fit.variables; statements = fit.statements; heads = fit.heads })
+        let stays = simple_stays {scope = opened (numbered scope)} {next = next} x part is none kept (fits_opened k raw (numbered scope) x whole) (record { outside = fit.outside; variables = fit.variables; statements = fit.statements; heads = fit.heads })
         (record { names = agree.names; structs = agree.structs }) p.0 (given (treed-roll raw x) (opened (numbered scope)) p.1.0) in
-        let r = one_there (tree_step other (opened_tree other x) next) (projected k g p.0) stays in
+        let r = one_there (tree_step other (opened_tree other form) next) (projected k g p.0) stays in
         let leaves = for_leaves k g scope.statements next.statements l c.statements _ (expr_of raw (scope_of_test (option_map (treed raw) (Some (roll-RawStatement x))) scope) a) _ _ (Some r.value) out
         (λ u q. ap (λ (o : Option Statement). part_of (option_map (projected k g) o)) (some_same (sym q ∙ z.1) ∙ sym p.1.1) ∙ ap first_statement r.same) y tree in
-        one_result next (treed-roll other x) (collect_one r.there ∙ ap Some (sym (leaves ∙ unchosen (t.Block l (r.value ∷ []) ∷ []) (r.value ∷ []) (simple_declaring other next x part is none r.value r.there))))
+        one_result next (treed-roll other form) (collect_one r.there ∙ ap Some (sym (leaves ∙ unchosen (t.Block l (r.value ∷ []) ∷ []) (r.value ∷ []) (simple_declaring other next form part is nothing r.value r.there))))
+    tree_stays {scope} (Thins.for_result_goes {l} {m} {a} b {f = w} args {step} {body} out strange result kept passes stay e h) next c y at =
+        let begin = s.Call m (target.Place b) w args in
+        let some = kept_args k w (numbered scope).statements args in
+        let tree = given (treed-For raw l (Some begin) a step body) scope at in
+        let z = begin_there scope.statements l _ _ _ _ y tree in
+        let p = optional_there ((treed raw begin).gives (opened (numbered scope))) z.0 z.1 in
+        let n = numbered_gone k raw other out c in
+        let inner = at_number stay in
+        let fit = fits n inner in
+        let agree = agrees n inner in
+        let stays = place_lost {scope = opened (numbered scope)} {next = next} m w args (expr_of raw (opened (numbered scope)) b) strange result kept (record { outside = fit.outside; variables = fit.variables; statements = fit.statements; heads = fit.heads })
+        (record { names = agree.names; structs = agree.structs }) p.0 (given (treed-Call raw m (target.Place b) w args) (opened (numbered scope)) p.1.0) in
+        let r = one_there (call_tree other next next.statements m (Some to_place.None) w some) (projected k g p.0) stays in
+        let leaves = for_leaves k g scope.statements next.statements l c.statements _ (expr_of raw (scope_of_test (option_map (treed raw) (Some begin)) scope) a) _ _ (Some r.value) out
+        (λ u q. ap (λ (o : Option Statement). part_of (option_map (projected k g) o)) (some_same (sym q ∙ z.1) ∙ sym p.1.1) ∙ ap first_statement r.same) y tree in
+        let declares_nothing = simple_declaring other next (RawStatement-F.Call m target.None w some) (Calls InBlock target.None w some) refl refl r.value r.there in
+        one_result next (treed-Call other m target.None w some) (collect_one r.there ∙ ap Some (sym (leaves ∙ unchosen (t.Block l (r.value ∷ []) ∷ []) (r.value ∷ []) declares_nothing)))
     tree_stays {scope} (Thins.switch {l} {a} {arms} {others} is stay d) next c y at =
         one_result next (treed-Switch other l a others) (switch_stays k g scope.statements next.statements l c.statements (expr_of raw scope a) (switch_type raw scope a) _ (expr_of other next a) (switch_type other next a) _ is
         (exprs_same f (Names (Switches a (arm_labels raw arms (opened (numbered scope))))) raw other scope next texts.outside (agrees c stay) a (part_covers _ (λ x n. n) a (contains_first a _)))

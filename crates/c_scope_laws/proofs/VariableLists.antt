@@ -56,7 +56,7 @@ join (Some x ∷ xs) ys as_ bs p q = by_rest (collected xs) refl (λ cs at. join
 abbrev as_var : List ℕ → CType → ℕ → Bool → Option ℕ → Bool → Var
 as_var name t line is_static owner is_parameter = record { name = name; shape = t; line = line; is_static = is_static; owner = owner; is_parameter = is_parameter }
 
-module _ (k : Kept) (g : ℕ → ℕ) where
+module _ {F : Type 0} (k : Kept F) (g : ℕ → ℕ) where
   projected-append : (n : ℕ) (as_ bs : List Var) → projected_vars k g n (as_ ++ bs) ≡ projected_vars k g n as_ ++ projected_vars k g (n + length as_) bs
   projected-append n [] bs = ap (λ (m : ℕ). projected_vars k g m bs) (no_more_than n)
     where
@@ -74,7 +74,7 @@ module _ (k : Kept) (g : ℕ → ℕ) where
       by_test true = refl
       by_test false = refl
 
-module _ (k : Kept) (g : ℕ → ℕ) (raw other : RawProgram) where
+module _ {F : Type 0} (k : Kept F) (g : ℕ → ℕ) (raw other : RawProgram) where
   -- from number m to number n, the variables of the phrases of the thinner text are those that stay of these
   pub record VarsStay (m : ℕ) (qs ps : Phrases) (n : ℕ) : Type 0 where
     pub vars : (vs : List Var) → collected (variables_in raw ps) ≡ Some vs → collected (variables_in other qs) ≡ Some (projected_vars k g m vs)

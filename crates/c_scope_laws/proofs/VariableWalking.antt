@@ -8,7 +8,9 @@ use Rattle.c_tree.specs.declared.raw.statement.RawTarget.TheVariants as target
 use Rattle.c_tree.specs.declared.raw.statement.RawLabel.{RawLabel}
 use Rattle.c_tree.specs.declared.raw.statement.RawStatement.{RawStatement, roll-RawStatement}
 use Rattle.c_tree.specs.declared.raw.statement.RawStatement.TheOpen.{RawStatement-F}
+use Rattle.c_tree.specs.declared.raw.statement.RawStatement.TheVariants as s
 use Rattle.c_tree.specs.declared.raw.statement.RawArm.{RawArm}
+use Rattle.c_language.specs.Words.{Bytes}
 use Rattle.c_language.specs.Scopes.{Scope, Scoped, with_variable, opened, numbered, in_order, after_all, after_block, part_gives, after_part, scope_of_test, scope_of_body}
 use Rattle.c_language.specs.Phrases.{Stand, InBlock, InArm, InFor, Part, Declares, Assigns, Bumps, Calls, Allocates, Tests, Switches, Returns, Phrases, phrase, joined_at, at_stand, ArmText, labels_of, phrases_of_arms, scoped_step, scoped_arm, scoped, scoped_of_arm}
 use Rattle.c_language.specs.ProgramOf.{declared_by}
@@ -18,15 +20,16 @@ use Rattle.c_language.proofs.Options.{none_there}
 use Rattle.c_language.proofs.Tests.{false_true}
 use Rattle.c_scope_laws.specs.Agreement.{SameVariable, StandsFor, there, out_of_for, simple_part}
 use Rattle.projection.specs.Kept.{Kept}
-use Rattle.c_scope_laws.specs.Thinning.{declares, Thins, ThinAll, ThinsPart, ThinArms, ArmsGo}
+use Rattle.c_scope_laws.specs.Thinning.{declares, Thins, ThinAll, ThinsPart, ThinArms, ArmsGo, kept_args, kept_form}
 use Rattle.c_scope_laws.specs.Following.{TextsAgree, ScopesAgree}
 use Rattle.c_scope_laws.proofs.Outside.{variable_same}
 use Rattle.c_scope_laws.proofs.Following.{numbered_kept, numbered_gone, follows_opened, follows_closed, follows_gone}
+use Rattle.c_scope_laws.proofs.KeptForms.{form_part}
 use Rattle.c_scope_laws.proofs.Walking.{walks, all_walk, part_walks, joined-append, scoped-append, scoped-roll, simple_after, Statements, opened_form, one_same, two_same}
 use Rattle.c_scope_laws.proofs.VariableLists.{VarsStay, no_vars, both_vars, more_none, less_none, no_variable, phrase_gone, variable_stays, variable_goes, begun_stays, begun_goes}
 use Rattle.c_language.specs.StatementGrammar.{arm}
 
-module _ (k : Kept) (raw other : RawProgram) (texts : TextsAgree k raw other) (g : ℕ → ℕ) (here there_ : ℕ) (mine yours : Option ℕ) (own : yours ≡ option_map g mine) where
+module _ (k : Kept Bytes) (raw other : RawProgram) (texts : TextsAgree k raw other) (g : ℕ → ℕ) (here there_ : ℕ) (mine yours : Option ℕ) (own : yours ≡ option_map g mine) where
   abbrev Comes : Scope → Scope → Type 0
   Comes scope next = ScopesAgree k raw other here there_ mine yours scope next
 
@@ -65,24 +68,24 @@ module _ (k : Kept) (raw other : RawProgram) (texts : TextsAgree k raw other) (g
 
   -- ---- statements without parts
 
-  simple_vars : (scope next : Scope) (stand place : Stand) (x : RawStatement-F RawStatement RawArm) (part : Part) → simple_part x ≡ Some part → declares x ≡ false
-      → Vars scope.variables ((scoped_step other (opened_form other x)).gives next place) ((scoped_step raw (opened_form raw x)).gives scope stand) ((scoped_step raw (opened_form raw x)).after scope).variables
-  simple_vars scope next stand place (RawStatement-F.Declare l v i) part h none = false_true (sym none)
-  simple_vars scope next stand place (RawStatement-F.Assign l left op right) part h none = plain scope.variables l scope next (Assigns left op right) (Assigns left op right) refl refl
-  simple_vars scope next stand place (RawStatement-F.Bump l left up before) part h none = plain scope.variables l scope next (Bumps left) (Bumps left) refl refl
-  simple_vars scope next stand place (RawStatement-F.Call l target.None w args) part h none = plain scope.variables l scope next (Calls stand target.None w args) (Calls place target.None w args) refl refl
-  simple_vars scope next stand place (RawStatement-F.Call l (target.Place a) w args) part h none = plain scope.variables l scope next (Calls stand (target.Place a) w args) (Calls place (target.Place a) w args) refl refl
-  simple_vars scope next stand place (RawStatement-F.Call l (target.Declared v) w args) part h none = false_true (sym none)
-  simple_vars scope next stand place (RawStatement-F.Heap l target.None cast n) part h none = plain scope.variables l scope next (Allocates target.None cast n) (Allocates target.None cast n) refl refl
-  simple_vars scope next stand place (RawStatement-F.Heap l (target.Place a) cast n) part h none = plain scope.variables l scope next (Allocates (target.Place a) cast n) (Allocates (target.Place a) cast n) refl refl
-  simple_vars scope next stand place (RawStatement-F.Heap l (target.Declared v) cast n) part h none = false_true (sym none)
-  simple_vars scope next stand place (RawStatement-F.Return l value) part h none = plain scope.variables l scope next (Returns value) (Returns value) refl refl
-  simple_vars scope next stand place (RawStatement-F.If l a b c) part h none = none_there h
-  simple_vars scope next stand place (RawStatement-F.While l a b) part h none = none_there h
-  simple_vars scope next stand place (RawStatement-F.Do l a b) part h none = none_there h
-  simple_vars scope next stand place (RawStatement-F.For l i a step b) part h none = none_there h
-  simple_vars scope next stand place (RawStatement-F.Switch l a arms) part h none = none_there h
-  simple_vars scope next stand place (RawStatement-F.Block l b) part h none = none_there h
+  simple_vars : (n : ℕ) (scope next : Scope) (stand place : Stand) (x : RawStatement-F RawStatement RawArm) (part : Part) → simple_part (kept_form k n x) ≡ Some part → declares x ≡ false
+      → Vars scope.variables ((scoped_step other (opened_form other (kept_form k n x))).gives next place) ((scoped_step raw (opened_form raw x)).gives scope stand) ((scoped_step raw (opened_form raw x)).after scope).variables
+  simple_vars n scope next stand place (RawStatement-F.Declare l v i) part h none = false_true (sym none)
+  simple_vars n scope next stand place (RawStatement-F.Assign l left op right) part h none = plain scope.variables l scope next (Assigns left op right) (Assigns left op right) refl refl
+  simple_vars n scope next stand place (RawStatement-F.Bump l left up before) part h none = plain scope.variables l scope next (Bumps left) (Bumps left) refl refl
+  simple_vars n scope next stand place (RawStatement-F.Call l target.None w args) part h none = plain scope.variables l scope next (Calls stand target.None w args) (Calls place target.None w (kept_args k w n args)) refl refl
+  simple_vars n scope next stand place (RawStatement-F.Call l (target.Place a) w args) part h none = plain scope.variables l scope next (Calls stand (target.Place a) w args) (Calls place (target.Place a) w (kept_args k w n args)) refl refl
+  simple_vars n scope next stand place (RawStatement-F.Call l (target.Declared v) w args) part h none = false_true (sym none)
+  simple_vars n scope next stand place (RawStatement-F.Heap l target.None cast m) part h none = plain scope.variables l scope next (Allocates target.None cast m) (Allocates target.None cast m) refl refl
+  simple_vars n scope next stand place (RawStatement-F.Heap l (target.Place a) cast m) part h none = plain scope.variables l scope next (Allocates (target.Place a) cast m) (Allocates (target.Place a) cast m) refl refl
+  simple_vars n scope next stand place (RawStatement-F.Heap l (target.Declared v) cast m) part h none = false_true (sym none)
+  simple_vars n scope next stand place (RawStatement-F.Return l value) part h none = plain scope.variables l scope next (Returns value) (Returns value) refl refl
+  simple_vars n scope next stand place (RawStatement-F.If l a b c) part h none = none_there h
+  simple_vars n scope next stand place (RawStatement-F.While l a b) part h none = none_there h
+  simple_vars n scope next stand place (RawStatement-F.Do l a b) part h none = none_there h
+  simple_vars n scope next stand place (RawStatement-F.For l i a step b) part h none = none_there h
+  simple_vars n scope next stand place (RawStatement-F.Switch l a arms) part h none = none_there h
+  simple_vars n scope next stand place (RawStatement-F.Block l b) part h none = none_there h
 
   simple_lost : (scope : Scope) (stand : Stand) (x : RawStatement-F RawStatement RawArm) (part : Part) → simple_part x ≡ Some part → declares x ≡ false
       → Vars scope.variables [] ((scoped_step raw (opened_form raw x)).gives scope stand) ((scoped_step raw (opened_form raw x)).after scope).variables
@@ -148,12 +151,12 @@ module _ (k : Kept) (raw other : RawProgram) (texts : TextsAgree k raw other) (g
     pub vars_walk : {scope : Scope} {x : RawStatement} {xs : List RawStatement} → Thins k raw other scope x xs → (next : Scope) (stand place : Stand) → StandsFor stand place → Comes scope next
         → One scope next stand place (scoped raw x) (map (scoped other) xs)
     vars_walk {scope} (Thins.simple x part is none kept complete stay) next stand place st c =
-        restated (sym (scoped-roll k raw other texts here there_ mine yours raw x)) (one_same (sym (scoped-roll k raw other texts here there_ mine yours other x))) (record { vars = whole _ _ (simple_vars scope next stand place x part is none) })
+        restated (sym (scoped-roll k raw other texts here there_ mine yours raw x)) (one_same (sym (scoped-roll k raw other texts here there_ mine yours other (kept_form k scope.statements x)))) (record { vars = whole _ _ (simple_vars scope.statements scope next stand place x part is none) })
     vars_walk {scope} (Thins.simple_goes x part is none out) next stand place st c =
         restated (sym (scoped-roll k raw other texts here there_ mine yours raw x)) refl (record { vars = simple_lost scope stand x part is none })
-    vars_walk {scope} (Thins.result_goes {l} {a} {f = w} {args} strange result kept stay) next stand place st c =
-        restated (sym (scoped-Call raw l (target.Place a) w args)) (one_same (sym (scoped-Call other l target.None w args)))
-        (record { vars = plain scope.variables l scope next (Calls stand (target.Place a) w args) (Calls place target.None w args) refl refl })
+    vars_walk {scope} (Thins.result_goes {l} {a} {f = w} {args} strange result kept fits stay) next stand place st c =
+        restated (sym (scoped-Call raw l (target.Place a) w args)) (one_same (sym (scoped-Call other l target.None w (kept_args k w scope.statements args))))
+        (record { vars = plain scope.variables l scope next (Calls stand (target.Place a) w args) (Calls place target.None w (kept_args k w scope.statements args)) refl refl })
     vars_walk {scope} (Thins.declaration {l} {v} {i} is kept stay begin) next stand place st c =
         restated (sym (scoped-Declare raw l v i)) (one_same (sym (scoped-Declare other l v i)))
         (record { vars = ends (sym (begun_variables i (with_variable raw v i scope))) (whole _ _ (both _ _ _ _ (kept_variable l v v i i is st (same v i) c) (begun_stays k g raw other _ l _ _ stand place v i))) })
@@ -163,21 +166,21 @@ module _ (k : Kept) (raw other : RawProgram) (texts : TextsAgree k raw other) (g
     vars_walk {scope} (Thins.declaration_goes {l} {v} {i} is out) next stand place st c =
         restated (sym (scoped-Declare raw l v i)) refl
         (record { vars = ends (sym (begun_variables i (with_variable raw v i scope))) (both [] [] (phrase l scope (Declares stand v i) ∷ []) _ (gone_variable l stand v i is) (begun_goes k g raw other _ l _ stand v i)) })
-    vars_walk {scope} (Thins.call {l} {v} {f = w} {args} complete is kept stay stay_call) next stand place st c =
-        restated (sym (scoped-Call raw l (target.Declared v) w args)) (one_same (sym (scoped-Call other l (target.Declared v) w args)))
+    vars_walk {scope} (Thins.call {l} {v} {f = w} {args} complete fits is kept stay stay_call) next stand place st c =
+        restated (sym (scoped-Call raw l (target.Declared v) w args)) (one_same (sym (scoped-Call other l (target.Declared v) w (kept_args k w scope.statements args))))
         (record {
           vars = whole _ _ (both (phrase l next (Declares place v init.None) ∷ []) _ (phrase l scope (Declares stand v init.None) ∷ []) _ (kept_variable l v v init.None init.None is st (same v init.None) c)
-              (plain _ l _ _ (Calls stand (target.Declared v) w args) (Calls place (target.Declared v) w args) refl refl));
+              (plain _ l _ _ (Calls stand (target.Declared v) w args) (Calls place (target.Declared v) w (kept_args k w scope.statements args)) refl refl));
         })
-    vars_walk {scope} (Thins.call_follows {l} {v} {f = w} {args} strange result is kept stay stay_call) next stand place st c =
-        restated (sym (scoped-Call raw l (target.Declared v) w args)) (two_same (sym (scoped-Declare other l v init.None)) (sym (scoped-Call other l target.None w args)))
+    vars_walk {scope} (Thins.call_follows {l} {v} {f = w} {args} strange result is kept fits stay stay_call) next stand place st c =
+        restated (sym (scoped-Call raw l (target.Declared v) w args)) (two_same (sym (scoped-Declare other l v init.None)) (sym (scoped-Call other l target.None w (kept_args k w scope.statements args))))
         (record {
           vars = both (phrase l next (Declares place v init.None) ∷ []) _ (phrase l scope (Declares stand v init.None) ∷ []) _ (kept_variable l v v init.None init.None is st (same v init.None) c)
-              (plain _ l _ (with_variable other v init.None next) (Calls stand (target.Declared v) w args) (Calls place target.None w args) refl refl);
+              (plain _ l _ (with_variable other v init.None next) (Calls stand (target.Declared v) w args) (Calls place target.None w (kept_args k w scope.statements args)) refl refl);
         })
-    vars_walk {scope} (Thins.call_alone {l} {v} {f = w} {args} strange result is kept stay_call) next stand place st c =
-        restated (sym (scoped-Call raw l (target.Declared v) w args)) (one_same (sym (scoped-Call other l target.None w args)))
-        (record { vars = both [] (phrase l next (Calls place target.None w args) ∷ []) (phrase l scope (Declares stand v init.None) ∷ []) _ (gone_variable l stand v init.None is) (plain _ l _ next (Calls stand (target.Declared v) w args) (Calls place target.None w args) refl refl) })
+    vars_walk {scope} (Thins.call_alone {l} {v} {f = w} {args} strange result is kept fits stay_call) next stand place st c =
+        restated (sym (scoped-Call raw l (target.Declared v) w args)) (one_same (sym (scoped-Call other l target.None w (kept_args k w scope.statements args))))
+        (record { vars = both [] (phrase l next (Calls place target.None w (kept_args k w scope.statements args)) ∷ []) (phrase l scope (Declares stand v init.None) ∷ []) _ (gone_variable l stand v init.None is) (plain _ l _ next (Calls stand (target.Declared v) w args) (Calls place target.None w (kept_args k w scope.statements args)) refl refl) })
     vars_walk {scope} (Thins.call_goes {l} {v} {f = w} {args} gives is out stay) next stand place st c =
         restated (sym (scoped-Call raw l (target.Declared v) w args)) (one_same (sym (scoped-Declare other l v init.None)))
         (record { vars = both (phrase l next (Declares place v init.None) ∷ []) [] (phrase l scope (Declares stand v init.None) ∷ []) _ (kept_variable l v v init.None init.None is st (same v init.None) c) (lost _ l _ (Calls stand (target.Declared v) w args) refl) })
@@ -255,17 +258,34 @@ module _ (k : Kept) (raw other : RawProgram) (texts : TextsAgree k raw other) (g
         (record { vars = both _ [] _ _ u.vars (both [] [] (phrase l (scope_of_test (option_map (scoped raw) (Some first)) scope) (Tests a) ∷ []) _ (lost _ l _ (Tests a) refl) (both [] [] _ _ v w.vars)) })
     vars_walk {scope} (Thins.for_simple {l} {a} x part {step} {body} out is none kept complete stay e h) next stand place st c =
         let n = numbered_gone k raw other out c in
-        let y = sym (ap (λ (u : Statements). u.after (opened (numbered scope))) (scoped-roll k raw other texts here there_ mine yours raw x) ∙ simple_after k raw other texts here there_ mine yours raw x part is none (opened (numbered scope))) in
+        let form = kept_form k (numbered scope).statements x in
+        let raw_part = form_part k (numbered scope).statements x part is in
+        let y = sym (ap (λ (u : Statements). u.after (opened (numbered scope))) (scoped-roll k raw other texts here there_ mine yours raw x) ∙ simple_after k raw other texts here there_ mine yours raw x raw_part.0 raw_part.1 none (opened (numbered scope))) in
         let m = subst (λ (z : Scope). Comes z (numbered (opened next))) y (numbered_kept k raw other kept (follows_opened k raw other n)) in
         let q = part_walks k raw other texts here there_ mine yours e (numbered (opened next)) InBlock InBlock there m in
         let v = vars_part e (numbered (opened next)) InBlock InBlock there m in
         let w = vars_all h (opened (numbered (opened next))) InBlock InBlock there (follows_opened k raw other q.after) in
-        restated (sym (scoped-For raw l (Some (roll-RawStatement x)) a step body)) (one_same (sym (scoped-roll k raw other texts here there_ mine yours other x)))
+        restated (sym (scoped-For raw l (Some (roll-RawStatement x)) a step body)) (one_same (sym (scoped-roll k raw other texts here there_ mine yours other form)))
         (record {
           vars = both _ [] _ _
-              (subst (λ (u : Statements). Vars scope.variables ((scoped_step other (opened_form other x)).gives next place) (u.gives (opened (numbered scope)) InFor) (u.after (opened (numbered scope))).variables) (sym (scoped-roll k raw other texts here there_ mine yours raw x))
-              (simple_vars (opened (numbered scope)) next InFor place x part is none))
+              (subst (λ (u : Statements). Vars scope.variables ((scoped_step other (opened_form other form)).gives next place) (u.gives (opened (numbered scope)) InFor) (u.after (opened (numbered scope))).variables) (sym (scoped-roll k raw other texts here there_ mine yours raw x))
+              (simple_vars (numbered scope).statements (opened (numbered scope)) next InFor place x part is none))
               (both [] [] (phrase l (scope_of_test (option_map (scoped raw) (Some (roll-RawStatement x))) scope) (Tests a) ∷ []) _ (lost _ l _ (Tests a) refl) (both [] [] _ _ v w.vars));
+        })
+    vars_walk {scope} (Thins.for_result_goes {l} {m} {a} b {f = w} args {step} {body} out strange result kept fits stay e h) next stand place st c =
+        let n = numbered_gone k raw other out c in
+        let first = scoped-Call raw m (target.Place b) w args in
+        let later = subst (λ (z : Scope). Comes z (numbered (opened next))) (sym (ap (λ (u : Statements). u.after (opened (numbered scope))) first)) (numbered_kept k raw other kept (follows_opened k raw other n)) in
+        let q = part_walks k raw other texts here there_ mine yours e (numbered (opened next)) InBlock InBlock there later in
+        let v = vars_part e (numbered (opened next)) InBlock InBlock there later in
+        let u = vars_all h (opened (numbered (opened next))) InBlock InBlock there (follows_opened k raw other q.after) in
+        let some = kept_args k w (numbered scope).statements args in
+        restated (sym (scoped-For raw l (Some (s.Call m (target.Place b) w args)) a step body)) (one_same (sym (scoped-Call other m target.None w some)))
+        (record {
+          vars = both _ [] _ _
+              (subst (λ (y : Statements). Vars scope.variables (phrase m next (Calls place target.None w some) ∷ []) (y.gives (opened (numbered scope)) InFor) (y.after (opened (numbered scope))).variables) (sym first)
+              (plain scope.variables m (opened (numbered scope)) next (Calls InFor (target.Place b) w args) (Calls place target.None w some) refl refl))
+              (both [] [] (phrase l (scope_of_test (option_map (scoped raw) (Some (s.Call m (target.Place b) w args))) scope) (Tests a) ∷ []) _ (lost _ l _ (Tests a) refl) (both [] [] _ _ v u.vars));
         })
     vars_walk {scope} (Thins.switch {l} {a} {arms} {others} is stay d) next stand place st c =
         let w = vars_arms d (opened (numbered next)) (follows_opened k raw other (numbered_kept k raw other is c)) in

@@ -13,6 +13,7 @@ use Rattle.c_tree.specs.declared.raw.statement.RawTypeName.{RawTypeName}
 use Rattle.c_tree.specs.declared.raw.statement.RawLabel.{RawLabel}
 use Rattle.c_tree.specs.declared.raw.statement.RawStatement.{RawStatement, roll-RawStatement, map-RawStatement, fold-roll-RawStatement}
 use Rattle.c_tree.specs.declared.raw.statement.RawStatement.TheOpen.{RawStatement-F}
+use Rattle.c_tree.specs.declared.raw.statement.RawStatement.TheVariants as s
 use Rattle.c_tree.specs.declared.raw.statement.RawArm.{RawArm}
 use Rattle.c_language.specs.Words.{Bytes}
 use Rattle.c_language.specs.Scopes.{closed, Scope, Scoped, with_variable, opened, numbered, begun, in_order, after_all, after_block, part_gives, after_part, scope_of_test, scope_of_body}
@@ -21,17 +22,19 @@ use Rattle.c_language.specs.Uses.{holds}
 use Rattle.c_language.proofs.ScopedForms.{scoped-Declare, scoped-Call, scoped-Heap, scoped-If, scoped-While, scoped-Do, scoped-For, scoped-Switch, scoped-Block, scoped_of_arm-arm}
 use Rattle.c_language.proofs.Options.{none_there, some_same}
 use Rattle.c_language.proofs.Tests.{false_true}
-use Rattle.c_scope_laws.specs.Agreement.{Names, in_expression, NamesFunction, SameVariable, StandsFor, there, out_of_for, CallStandsFor, as_it_is, elsewhere, StoresLess, kept, lost, PartsAgree, simple_part}
+use Rattle.c_scope_laws.specs.Agreement.{Names, in_expression, NamesFunction, SameVariable, StandsFor, there, out_of_for, CallStandsFor, as_it_is, elsewhere, StoresLess, kept, lost, ReturnFits, has_no_head, PartsAgree, simple_part}
 use Rattle.projection.specs.Kept.{Kept}
-use Rattle.c_scope_laws.specs.Thinning.{NamesStay, BeginIs, declares, Thins, ThinAll, ThinsPart, ThinArms, ArmsGo}
+use Rattle.c_scope_laws.specs.Thinning.{heads_of, NamesStay, BeginIs, ResultStays, kept_args, ArgsFit, kept_form, FormFits, declares, Thins, ThinAll, ThinsPart, ThinArms, ArmsGo}
 use Rattle.c_scope_laws.proofs.Outside.{variable_same}
 use Rattle.c_scope_laws.specs.Following.{TextsAgree, ScopesAgree}
 use Rattle.c_scope_laws.proofs.Following.{numbered_kept, numbered_gone, follows_opened, follows_closed, follows_gone, variable_kept, variable_gone, follows_numbered, places_agree, places_beside}
+use Rattle.c_language.specs.CallRules.{head_around}
+use Rattle.c_scope_laws.proofs.KeptForms.{args_fit, form_part, form_declares}
 use Rattle.c_scope_laws.proofs.Counterparts.{AreCounterparts, none_stand, one_stands, both_stand, front_gone, rest_gone, no_more}
 use Rattle.c_language.specs.StatementGrammar.{arm}
 
 -- a phrase names the same wherever it stands
-declares_anywhere : {k : Kept} {scope : Scope} {v : RawVar} {i : RawInit} (stand : Stand) → NamesStay k scope (Declares InBlock v i) → NamesStay k scope (Declares stand v i)
+declares_anywhere : {k : Kept Bytes} {scope : Scope} {v : RawVar} {i : RawInit} (stand : Stand) → NamesStay k scope (Declares InBlock v i) → NamesStay k scope (Declares stand v i)
 declares_anywhere {k} {scope} {v} {i} stand h = record { names = λ x n. h.names x (names x n); functions = λ x n. none x n }
   where
     names : (x : Bytes) → Names (Declares stand v i) x → Names (Declares InBlock v i) x
@@ -40,7 +43,7 @@ declares_anywhere {k} {scope} {v} {i} stand h = record { names = λ x n. h.names
     none : {A : Type 0} (x : Bytes) → NamesFunction (Declares stand v i) x → A
     none x n = elim n [ ]
 
-begins_anywhere : {k : Kept} {scope : Scope} {v : RawVar} {i : RawInit} (stand : Stand) → NamesStay k scope (Begins InBlock v i) → NamesStay k scope (Begins stand v i)
+begins_anywhere : {k : Kept Bytes} {scope : Scope} {v : RawVar} {i : RawInit} (stand : Stand) → NamesStay k scope (Begins InBlock v i) → NamesStay k scope (Begins stand v i)
 begins_anywhere {k} {scope} {v} {i} stand h = record { names = λ x n. h.names x (names x n); functions = λ x n. none x n }
   where
     names : (x : Bytes) → Names (Begins stand v i) x → Names (Begins InBlock v i) x
@@ -49,7 +52,7 @@ begins_anywhere {k} {scope} {v} {i} stand h = record { names = λ x n. h.names x
     none : {A : Type 0} (x : Bytes) → NamesFunction (Begins stand v i) x → A
     none x n = elim n [ ]
 
-calls_anywhere : {k : Kept} {scope : Scope} {to : RawTarget} {f : Bytes} {args : List RawArg} (stand : Stand) → NamesStay k scope (Calls InBlock to f args) → NamesStay k scope (Calls stand to f args)
+calls_anywhere : {k : Kept Bytes} {scope : Scope} {to : RawTarget} {f : Bytes} {args : List RawArg} (stand : Stand) → NamesStay k scope (Calls InBlock to f args) → NamesStay k scope (Calls stand to f args)
 calls_anywhere {k} {scope} {to} {f} {args} stand h = record { names = λ x n. h.names x (names x n); functions = λ x n. h.functions x (functions x n) }
   where
     names : (x : Bytes) → Names (Calls stand to f args) x → Names (Calls InBlock to f args) x
@@ -71,7 +74,7 @@ from_for InArm = elsewhere refl
 from_for InFor = as_it_is
 
 -- a number adds no name
-pub at_number : {k : Kept} {scope : Scope} {part : Part} → NamesStay k scope part → NamesStay k (numbered scope) part
+pub at_number : {k : Kept Bytes} {scope : Scope} {part : Part} → NamesStay k scope part → NamesStay k (numbered scope) part
 at_number h = record { names = h.names; functions = h.functions }
 
 abbrev pub Statements : Type 0
@@ -86,7 +89,7 @@ one_same h = ap (λ (z : Statements). z ∷ []) h
 pub two_same : {x y z w : Statements} → x ≡ y → z ≡ w → ◌≡◌ {A = List Statements} (x ∷ (z ∷ [])) (y ∷ (w ∷ []))
 two_same h j = ap₂ (λ (p q : Statements). p ∷ (q ∷ [])) h j
 
-module _ (k : Kept) (raw other : RawProgram) (texts : TextsAgree k raw other) (defined_here defined_there : ℕ) (owner_here owner_there : Option ℕ) where
+module _ (k : Kept Bytes) (raw other : RawProgram) (texts : TextsAgree k raw other) (defined_here defined_there : ℕ) (owner_here owner_there : Option ℕ) where
   -- a statement in a scope, and what stays of it at a place of the other text
   pub record Walks (scope next : Scope) (stand place : Stand) (x : Statements) (ys : List Statements) : Type 0 where
     pub phrases : AreCounterparts k raw other (joined_at place (in_order ys next)) (x.gives scope stand)
@@ -116,41 +119,46 @@ module _ (k : Kept) (raw other : RawProgram) (texts : TextsAgree k raw other) (d
   gone_walks {scope} {next} {stand} {place} x f = record { phrases = none_stand k raw other (x.gives scope stand); after = f }
 
   -- a phrase stands for the same phrase
-  pub same_stands : {scope next : Scope} (l : ℕ) (part : Part) → NamesStay k scope part → ScopesAgree k raw other defined_here defined_there owner_here owner_there scope next → AreCounterparts k raw other (phrase l next part ∷ []) (phrase l scope part ∷ [])
-  same_stands {scope} {next} l part stay f = one_stands k raw other l l scope next part part PartsAgree.same (places_agree k raw other texts f stay)
+  pub same_stands : {scope next : Scope} (l : ℕ) (part : Part) → has_no_head part ≡ true → NamesStay k scope part → ScopesAgree k raw other defined_here defined_there owner_here owner_there scope next → AreCounterparts k raw other (phrase l next part ∷ []) (phrase l scope part ∷ [])
+  same_stands {scope} {next} l part is stay f = one_stands k raw other l l scope next part part (PartsAgree.same is) (places_agree k raw other texts f stay)
 
   -- ---- statements without parts
 
-  call_stands : {scope next : Scope} {stand place : Stand} (l : ℕ) (to less : RawTarget) (f : Bytes) (args : List RawArg) → StandsFor stand place → StoresLess to less
-      → NamesStay k scope (Calls InBlock less f args) → ScopesAgree k raw other defined_here defined_there owner_here owner_there scope next → AreCounterparts k raw other (phrase l next (Calls place less f args) ∷ []) (phrase l scope (Calls stand to f args) ∷ [])
-  call_stands {scope} {next} {stand} {place} l to less f args st stores stay h =
-      one_stands k raw other l l scope next (Calls stand to f args) (Calls place less f args) (PartsAgree.calls (call_stands_for st) stores) (places_agree k raw other texts h (calls_anywhere place stay))
+  call_stands : {scope next : Scope} {stand place : Stand} (l : ℕ) (to less : RawTarget) (f : Bytes) (args : List RawArg) (n : ℕ) → StandsFor stand place → StoresLess (heads_of k) f to less → ArgsFit k f args n
+      → NamesStay k scope (Calls InBlock less f (kept_args k f n args)) → ScopesAgree k raw other defined_here defined_there owner_here owner_there scope next
+      → AreCounterparts k raw other (phrase l next (Calls place less f (kept_args k f n args)) ∷ []) (phrase l scope (Calls stand to f args) ∷ [])
+  call_stands {scope} {next} {stand} {place} l to less f args n st stores fits stay h =
+      one_stands k raw other l l scope next (Calls stand to f args) (Calls place less f (kept_args k f n args)) (PartsAgree.calls (call_stands_for st) stores (args_fit k f args n fits)) (places_agree k raw other texts h (calls_anywhere place stay))
 
-  simple_walks : {scope next : Scope} {stand place : Stand} (x : RawStatement-F RawStatement RawArm) (part : Part) → simple_part x ≡ Some part → declares x ≡ false → k.statement scope.statements ≡ true → NamesStay k scope part
-      → StandsFor stand place → ScopesAgree k raw other defined_here defined_there owner_here owner_there scope next → Walks scope next stand place (scoped_step raw (opened_form raw x)) (scoped_step other (opened_form other x) ∷ [])
-  simple_walks (RawStatement-F.Declare l v i) part h none is stay st f = false_true (sym none)
-  simple_walks {scope} (RawStatement-F.Assign l left op right) part h none is stay st f =
-      one_walks _ _ (same_stands l (Assigns left op right) (subst (NamesStay k scope) (sym (some_same h)) stay) f) (numbered_kept k raw other is f)
-  simple_walks {scope} (RawStatement-F.Bump l left up before) part h none is stay st f =
-      one_walks _ _ (same_stands l (Bumps left) (subst (NamesStay k scope) (sym (some_same h)) stay) f) (numbered_kept k raw other is f)
-  simple_walks {scope} (RawStatement-F.Call l target.None g args) part h none is stay st f =
-      one_walks _ _ (call_stands l target.None target.None g args st kept (subst (NamesStay k scope) (sym (some_same h)) stay) f) (numbered_kept k raw other is f)
-  simple_walks {scope} (RawStatement-F.Call l (target.Place a) g args) part h none is stay st f =
-      one_walks _ _ (call_stands l (target.Place a) (target.Place a) g args st kept (subst (NamesStay k scope) (sym (some_same h)) stay) f) (numbered_kept k raw other is f)
-  simple_walks (RawStatement-F.Call l (target.Declared v) g args) part h none is stay st f = false_true (sym none)
-  simple_walks {scope} (RawStatement-F.Heap l target.None cast n) part h none is stay st f =
-      one_walks _ _ (same_stands l (Allocates target.None cast n) (subst (NamesStay k scope) (sym (some_same h)) stay) f) (numbered_kept k raw other is f)
-  simple_walks {scope} (RawStatement-F.Heap l (target.Place a) cast n) part h none is stay st f =
-      one_walks _ _ (same_stands l (Allocates (target.Place a) cast n) (subst (NamesStay k scope) (sym (some_same h)) stay) f) (numbered_kept k raw other is f)
-  simple_walks (RawStatement-F.Heap l (target.Declared v) cast n) part h none is stay st f = false_true (sym none)
-  simple_walks {scope} (RawStatement-F.Return l value) part h none is stay st f =
-      one_walks _ _ (same_stands l (Returns value) (subst (NamesStay k scope) (sym (some_same h)) stay) f) (numbered_kept k raw other is f)
-  simple_walks (RawStatement-F.If l a b c) part h none is stay st f = none_there h
-  simple_walks (RawStatement-F.While l a b) part h none is stay st f = none_there h
-  simple_walks (RawStatement-F.Do l a b) part h none is stay st f = none_there h
-  simple_walks (RawStatement-F.For l i a step b) part h none is stay st f = none_there h
-  simple_walks (RawStatement-F.Switch l a arms) part h none is stay st f = none_there h
-  simple_walks (RawStatement-F.Block l b) part h none is stay st f = none_there h
+  return_stands : {scope next : Scope} (l : ℕ) (value : Option RawExpr) → ReturnFits (heads_of k) (head_around raw scope) value → NamesStay k scope (Returns value) → ScopesAgree k raw other defined_here defined_there owner_here owner_there scope next
+      → AreCounterparts k raw other (phrase l next (Returns value) ∷ []) (phrase l scope (Returns value) ∷ [])
+  return_stands {scope} {next} l value fits stay h = one_stands k raw other l l scope next (Returns value) (Returns value) (PartsAgree.returns fits) (places_agree k raw other texts h stay)
+
+  simple_walks : {scope next : Scope} {stand place : Stand} (x : RawStatement-F RawStatement RawArm) (part : Part) → simple_part (kept_form k scope.statements x) ≡ Some part → declares x ≡ false → k.statement scope.statements ≡ true → FormFits k raw x scope → NamesStay k scope part
+      → StandsFor stand place → ScopesAgree k raw other defined_here defined_there owner_here owner_there scope next → Walks scope next stand place (scoped_step raw (opened_form raw x)) (scoped_step other (opened_form other (kept_form k scope.statements x)) ∷ [])
+  simple_walks (RawStatement-F.Declare l v i) part h none is fits stay st f = false_true (sym none)
+  simple_walks {scope} (RawStatement-F.Assign l left op right) part h none is fits stay st f =
+      one_walks _ _ (same_stands l (Assigns left op right) refl (subst (NamesStay k scope) (sym (some_same h)) stay) f) (numbered_kept k raw other is f)
+  simple_walks {scope} (RawStatement-F.Bump l left up before) part h none is fits stay st f =
+      one_walks _ _ (same_stands l (Bumps left) refl (subst (NamesStay k scope) (sym (some_same h)) stay) f) (numbered_kept k raw other is f)
+  simple_walks {scope} (RawStatement-F.Call l target.None g args) part h none is fits stay st f =
+      one_walks _ _ (call_stands l target.None target.None g args scope.statements st (kept tt) fits.1 (subst (NamesStay k scope) (sym (some_same h)) stay) f) (numbered_kept k raw other is f)
+  simple_walks {scope} (RawStatement-F.Call l (target.Place a) g args) part h none is fits stay st f =
+      one_walks _ _ (call_stands l (target.Place a) (target.Place a) g args scope.statements st (kept fits.0.gives) fits.1 (subst (NamesStay k scope) (sym (some_same h)) stay) f) (numbered_kept k raw other is f)
+  simple_walks (RawStatement-F.Call l (target.Declared v) g args) part h none is fits stay st f = false_true (sym none)
+  simple_walks {scope} (RawStatement-F.Heap l target.None cast n) part h none is fits stay st f =
+      one_walks _ _ (same_stands l (Allocates target.None cast n) refl (subst (NamesStay k scope) (sym (some_same h)) stay) f) (numbered_kept k raw other is f)
+  simple_walks {scope} (RawStatement-F.Heap l (target.Place a) cast n) part h none is fits stay st f =
+      one_walks _ _ (same_stands l (Allocates (target.Place a) cast n) refl (subst (NamesStay k scope) (sym (some_same h)) stay) f) (numbered_kept k raw other is f)
+  simple_walks (RawStatement-F.Heap l (target.Declared v) cast n) part h none is fits stay st f = false_true (sym none)
+  simple_walks {scope} (RawStatement-F.Return l value) part h none is fits stay st f =
+      one_walks _ _ (return_stands l value fits (subst (NamesStay k scope) (sym (some_same h)) stay) f) (numbered_kept k raw other is f)
+  simple_walks (RawStatement-F.If l a b c) part h none is fits stay st f = none_there h
+  simple_walks (RawStatement-F.While l a b) part h none is fits stay st f = none_there h
+  simple_walks (RawStatement-F.Do l a b) part h none is fits stay st f = none_there h
+  simple_walks (RawStatement-F.For l i a step b) part h none is fits stay st f = none_there h
+  simple_walks (RawStatement-F.Switch l a arms) part h none is fits stay st f = none_there h
+  simple_walks (RawStatement-F.Block l b) part h none is fits stay st f = none_there h
 
   simple_goes_walks : {scope next : Scope} {stand place : Stand} (x : RawStatement-F RawStatement RawArm) (part : Part) → simple_part x ≡ Some part → declares x ≡ false → k.statement scope.statements ≡ false
       → ScopesAgree k raw other defined_here defined_there owner_here owner_there scope next → Walks scope next stand place (scoped_step raw (opened_form raw x)) []
@@ -190,40 +198,46 @@ module _ (k : Kept) (raw other : RawProgram) (texts : TextsAgree k raw other) (d
   simple_after text (RawStatement-F.Switch l a arms) part h none z = none_there h
   simple_after text (RawStatement-F.Block l b) part h none z = none_there h
 
+  -- a call with which a for begins, outside of its block
+  call_begins : {scope next : Scope} (place : Stand) (l : ℕ) (to less : RawTarget) (f : Bytes) (args : List RawArg) → StoresLess (heads_of k) f to less → ArgsFit k f args (numbered scope).statements
+      → NamesStay k scope (Calls InBlock less f (kept_args k f (numbered scope).statements args)) → ScopesAgree k raw other defined_here defined_there owner_here owner_there (numbered scope) next
+      → AreCounterparts k raw other (phrase l next (Calls place less f (kept_args k f (numbered scope).statements args)) ∷ []) (phrase l (opened (numbered scope)) (Calls InFor to f args) ∷ [])
+  call_begins {scope} {next} place l to less f args stores fits stay h =
+      one_stands k raw other l l (opened (numbered scope)) next (Calls InFor to f args) (Calls place less f (kept_args k f (numbered scope).statements args))
+      (PartsAgree.calls (from_for place) stores (args_fit k f args (numbered scope).statements fits)) (places_beside k raw other texts h (calls_anywhere place (at_number stay)) (λ x n. elim n [ ]) (λ x n. elim n [ ]))
+
   -- what a for begins with, outside of its block
-  simple_begins : {scope next : Scope} (place : Stand) (x : RawStatement-F RawStatement RawArm) (part : Part) → simple_part x ≡ Some part → declares x ≡ false → NamesStay k scope part
+  simple_begins : {scope next : Scope} (place : Stand) (x : RawStatement-F RawStatement RawArm) (part : Part) → simple_part (kept_form k (numbered scope).statements x) ≡ Some part → declares x ≡ false → FormFits k raw x (numbered scope) → NamesStay k scope part
       → ScopesAgree k raw other defined_here defined_there owner_here owner_there (numbered scope) next
-      → AreCounterparts k raw other ((scoped_step other (opened_form other x)).gives next place) ((scoped_step raw (opened_form raw x)).gives (opened (numbered scope)) InFor)
-  simple_begins {scope} {next} place (RawStatement-F.Assign l left op right) part h none stay f =
-      one_stands k raw other l l (opened (numbered scope)) next (Assigns left op right) (Assigns left op right) PartsAgree.same
+      → AreCounterparts k raw other ((scoped_step other (opened_form other (kept_form k (numbered scope).statements x))).gives next place) ((scoped_step raw (opened_form raw x)).gives (opened (numbered scope)) InFor)
+  simple_begins {scope} {next} place (RawStatement-F.Assign l left op right) part h none fits stay f =
+      one_stands k raw other l l (opened (numbered scope)) next (Assigns left op right) (Assigns left op right) (PartsAgree.same refl)
       (places_beside k raw other texts f (at_number (subst (NamesStay k scope) (sym (some_same h)) stay)) (λ x n. elim n [ ]) (λ x n. elim n [ ]))
-  simple_begins {scope} {next} place (RawStatement-F.Bump l left up before) part h none stay f =
-      one_stands k raw other l l (opened (numbered scope)) next (Bumps left) (Bumps left) PartsAgree.same
+  simple_begins {scope} {next} place (RawStatement-F.Bump l left up before) part h none fits stay f =
+      one_stands k raw other l l (opened (numbered scope)) next (Bumps left) (Bumps left) (PartsAgree.same refl)
       (places_beside k raw other texts f (at_number (subst (NamesStay k scope) (sym (some_same h)) stay)) (λ x n. elim n [ ]) (λ x n. elim n [ ]))
-  simple_begins {scope} {next} place (RawStatement-F.Call l target.None g args) part h none stay f =
-      one_stands k raw other l l (opened (numbered scope)) next (Calls InFor target.None g args) (Calls place target.None g args) (PartsAgree.calls (from_for place) kept)
-      (places_beside k raw other texts f (calls_anywhere place (at_number (subst (NamesStay k scope) (sym (some_same h)) stay))) (λ x n. elim n [ ]) (λ x n. elim n [ ]))
-  simple_begins {scope} {next} place (RawStatement-F.Call l (target.Place b) g args) part h none stay f =
-      one_stands k raw other l l (opened (numbered scope)) next (Calls InFor (target.Place b) g args) (Calls place (target.Place b) g args) (PartsAgree.calls (from_for place) kept)
-      (places_beside k raw other texts f (calls_anywhere place (at_number (subst (NamesStay k scope) (sym (some_same h)) stay))) (λ x n. elim n [ ]) (λ x n. elim n [ ]))
-  simple_begins {scope} {next} place (RawStatement-F.Heap l target.None cast m) part h none stay f =
-      one_stands k raw other l l (opened (numbered scope)) next (Allocates target.None cast m) (Allocates target.None cast m) PartsAgree.same
+  simple_begins {scope} {next} place (RawStatement-F.Call l target.None g args) part h none fits stay f =
+      call_begins place l target.None target.None g args (kept tt) fits.1 (subst (NamesStay k scope) (sym (some_same h)) stay) f
+  simple_begins {scope} {next} place (RawStatement-F.Call l (target.Place b) g args) part h none fits stay f =
+      call_begins place l (target.Place b) (target.Place b) g args (kept fits.0.gives) fits.1 (subst (NamesStay k scope) (sym (some_same h)) stay) f
+  simple_begins {scope} {next} place (RawStatement-F.Heap l target.None cast m) part h none fits stay f =
+      one_stands k raw other l l (opened (numbered scope)) next (Allocates target.None cast m) (Allocates target.None cast m) (PartsAgree.same refl)
       (places_beside k raw other texts f (at_number (subst (NamesStay k scope) (sym (some_same h)) stay)) (λ x n. elim n [ ]) (λ x n. elim n [ ]))
-  simple_begins {scope} {next} place (RawStatement-F.Heap l (target.Place b) cast m) part h none stay f =
-      one_stands k raw other l l (opened (numbered scope)) next (Allocates (target.Place b) cast m) (Allocates (target.Place b) cast m) PartsAgree.same
+  simple_begins {scope} {next} place (RawStatement-F.Heap l (target.Place b) cast m) part h none fits stay f =
+      one_stands k raw other l l (opened (numbered scope)) next (Allocates (target.Place b) cast m) (Allocates (target.Place b) cast m) (PartsAgree.same refl)
       (places_beside k raw other texts f (at_number (subst (NamesStay k scope) (sym (some_same h)) stay)) (λ x n. elim n [ ]) (λ x n. elim n [ ]))
-  simple_begins {scope} {next} place (RawStatement-F.Return l value) part h none stay f =
-      one_stands k raw other l l (opened (numbered scope)) next (Returns value) (Returns value) PartsAgree.same
+  simple_begins {scope} {next} place (RawStatement-F.Return l value) part h none fits stay f =
+      one_stands k raw other l l (opened (numbered scope)) next (Returns value) (Returns value) (PartsAgree.returns fits)
       (places_beside k raw other texts f (at_number (subst (NamesStay k scope) (sym (some_same h)) stay)) (λ x n. elim n [ ]) (λ x n. elim n [ ]))
-  simple_begins place (RawStatement-F.Declare l v i) part h none stay f = false_true (sym none)
-  simple_begins place (RawStatement-F.Call l (target.Declared v) g args) part h none stay f = false_true (sym none)
-  simple_begins place (RawStatement-F.Heap l (target.Declared v) cast n) part h none stay f = false_true (sym none)
-  simple_begins place (RawStatement-F.If l a b c) part h none stay f = none_there h
-  simple_begins place (RawStatement-F.While l a b) part h none stay f = none_there h
-  simple_begins place (RawStatement-F.Do l a b) part h none stay f = none_there h
-  simple_begins place (RawStatement-F.For l i a step b) part h none stay f = none_there h
-  simple_begins place (RawStatement-F.Switch l a arms) part h none stay f = none_there h
-  simple_begins place (RawStatement-F.Block l b) part h none stay f = none_there h
+  simple_begins place (RawStatement-F.Declare l v i) part h none fits stay f = false_true (sym none)
+  simple_begins place (RawStatement-F.Call l (target.Declared v) g args) part h none fits stay f = false_true (sym none)
+  simple_begins place (RawStatement-F.Heap l (target.Declared v) cast n) part h none fits stay f = false_true (sym none)
+  simple_begins place (RawStatement-F.If l a b c) part h none fits stay f = none_there h
+  simple_begins place (RawStatement-F.While l a b) part h none fits stay f = none_there h
+  simple_begins place (RawStatement-F.Do l a b) part h none fits stay f = none_there h
+  simple_begins place (RawStatement-F.For l i a step b) part h none fits stay f = none_there h
+  simple_begins place (RawStatement-F.Switch l a arms) part h none fits stay f = none_there h
+  simple_begins place (RawStatement-F.Block l b) part h none fits stay f = none_there h
 
   -- ---- declarations
 
@@ -299,30 +313,34 @@ module _ (k : Kept) (raw other : RawProgram) (texts : TextsAgree k raw other) (d
       abbrev call_form : RawStatement-F Statements (Scoped ArmText)
       call_form = RawStatement-F.Call l (target.Declared v) g args
 
-      call_walks : k.variable scope.variables ≡ true → k.statement scope.statements ≡ true → NamesStay k scope (Declares InBlock v init.None)
-          → NamesStay k inside (Calls InBlock (target.Declared v) g args) → Walks scope next stand place (scoped_step raw call_form) (scoped_step other call_form ∷ [])
-      call_walks is kept_too stay stay_call =
-          one_walks _ _ (both_stand k raw other (phrase l next (Declares place v init.None) ∷ []) (phrase l beside (Calls place (target.Declared v) g args) ∷ [])
+      -- the arguments that it keeps
+      abbrev some : List RawArg
+      some = kept_args k g scope.statements args
+
+      call_walks : ResultStays k g scope.statements → ArgsFit k g args scope.statements → k.variable scope.variables ≡ true → k.statement scope.statements ≡ true → NamesStay k scope (Declares InBlock v init.None)
+          → NamesStay k inside (Calls InBlock (target.Declared v) g some) → Walks scope next stand place (scoped_step raw call_form) (scoped_step other (RawStatement-F.Call l (target.Declared v) g some) ∷ [])
+      call_walks result fits is kept_too stay stay_call =
+          one_walks _ _ (both_stand k raw other (phrase l next (Declares place v init.None) ∷ []) (phrase l beside (Calls place (target.Declared v) g some) ∷ [])
           (phrase l scope (Declares stand v init.None) ∷ []) (phrase l inside (Calls stand (target.Declared v) g args) ∷ [])
-          (bare_stands stay) (call_stands l (target.Declared v) (target.Declared v) g args st kept stay_call (inside_follows is)))
+          (bare_stands stay) (call_stands l (target.Declared v) (target.Declared v) g args scope.statements st (kept result.gives) fits stay_call (inside_follows is)))
           (numbered_kept k raw other kept_too (inside_follows is))
 
-      follows_walks : k.variable scope.variables ≡ true → k.statement scope.statements ≡ true → NamesStay k scope (Declares InBlock v init.None)
-          → NamesStay k inside (Calls InBlock target.None g args)
-          → Walks scope next stand place (scoped_step raw call_form) (scoped_step other (RawStatement-F.Declare l v init.None) ∷ (scoped_step other (RawStatement-F.Call l target.None g args) ∷ []))
-      follows_walks is kept_too stay stay_call = record {
-        phrases = both_stand k raw other (phrase l next (Declares place v init.None) ∷ []) (phrase l beside (Calls place target.None g args) ∷ [])
+      follows_walks : k.variable scope.variables ≡ true → k.statement scope.statements ≡ true → ArgsFit k g args scope.statements → NamesStay k scope (Declares InBlock v init.None)
+          → NamesStay k inside (Calls InBlock target.None g some)
+          → Walks scope next stand place (scoped_step raw call_form) (scoped_step other (RawStatement-F.Declare l v init.None) ∷ (scoped_step other (RawStatement-F.Call l target.None g some) ∷ []))
+      follows_walks is kept_too fits stay stay_call = record {
+        phrases = both_stand k raw other (phrase l next (Declares place v init.None) ∷ []) (phrase l beside (Calls place target.None g some) ∷ [])
             (phrase l scope (Declares stand v init.None) ∷ []) (phrase l inside (Calls stand (target.Declared v) g args) ∷ [])
-            (bare_stands stay) (call_stands l (target.Declared v) target.None g args st lost stay_call (inside_follows is));
+            (bare_stands stay) (call_stands l (target.Declared v) target.None g args scope.statements st lost fits stay_call (inside_follows is));
         after = numbered_kept k raw other kept_too (inside_follows is);
       }
 
-      alone_walks : k.variable scope.variables ≡ false → k.statement scope.statements ≡ true → NamesStay k inside (Calls InBlock target.None g args)
-          → Walks scope next stand place (scoped_step raw call_form) (scoped_step other (RawStatement-F.Call l target.None g args) ∷ [])
-      alone_walks is kept_too stay_call =
+      alone_walks : k.variable scope.variables ≡ false → k.statement scope.statements ≡ true → ArgsFit k g args scope.statements → NamesStay k inside (Calls InBlock target.None g some)
+          → Walks scope next stand place (scoped_step raw call_form) (scoped_step other (RawStatement-F.Call l target.None g some) ∷ [])
+      alone_walks is kept_too fits stay_call =
           let h = variable_gone k raw other v init.None is f in
-          one_walks _ _ (front_gone k raw other (phrase l next (Calls place target.None g args) ∷ []) (phrase l scope (Declares stand v init.None) ∷ []) (phrase l inside (Calls stand (target.Declared v) g args) ∷ [])
-          (call_stands l (target.Declared v) target.None g args st lost stay_call h))
+          one_walks _ _ (front_gone k raw other (phrase l next (Calls place target.None g some) ∷ []) (phrase l scope (Declares stand v init.None) ∷ []) (phrase l inside (Calls stand (target.Declared v) g args) ∷ [])
+          (call_stands l (target.Declared v) target.None g args scope.statements st lost fits stay_call h))
           (numbered_kept k raw other kept_too h)
 
       call_goes_walks : k.variable scope.variables ≡ true → k.statement scope.statements ≡ false → NamesStay k scope (Declares InBlock v init.None)
@@ -344,7 +362,7 @@ module _ (k : Kept) (raw other : RawProgram) (texts : TextsAgree k raw other) (d
       heap_walks is kept_too stay stay_heap =
           one_walks _ _ (both_stand k raw other (phrase l next (Declares place v init.None) ∷ []) (phrase l beside (Allocates (target.Declared v) cast n) ∷ [])
           (phrase l scope (Declares stand v init.None) ∷ []) (phrase l inside (Allocates (target.Declared v) cast n) ∷ [])
-          (bare_stands stay) (same_stands l (Allocates (target.Declared v) cast n) stay_heap (inside_follows is)))
+          (bare_stands stay) (same_stands l (Allocates (target.Declared v) cast n) refl stay_heap (inside_follows is)))
           (numbered_kept k raw other kept_too (inside_follows is))
 
       heap_goes_walks : k.variable scope.variables ≡ true → k.statement scope.statements ≡ false → NamesStay k scope (Declares InBlock v init.None)
@@ -361,7 +379,7 @@ module _ (k : Kept) (raw other : RawProgram) (texts : TextsAgree k raw other) (d
 
   -- the test of a statement, and its part
   test_stands : {scope next : Scope} (l : ℕ) (a : RawExpr) → NamesStay k scope (Tests a) → ScopesAgree k raw other defined_here defined_there owner_here owner_there scope next → AreCounterparts k raw other (phrase l next (Tests a) ∷ []) (phrase l scope (Tests a) ∷ [])
-  test_stands l a stay f = same_stands l (Tests a) stay f
+  test_stands l a stay f = same_stands l (Tests a) refl stay f
 
   module _ {scope next : Scope} {stand place : Stand} (l : ℕ) (a : RawExpr) (f : ScopesAgree k raw other defined_here defined_there owner_here owner_there scope next) where
     if_walks : (first second some others : List Statements) → k.statement scope.statements ≡ true → NamesStay k scope (Tests a)
@@ -401,7 +419,7 @@ module _ (k : Kept) (raw other : RawProgram) (texts : TextsAgree k raw other) (d
     switch_walks arms others is stay w =
         one_walks _ _ (both_stand k raw other (phrase l next (Switches a (labels_of (in_order others (opened (numbered next))))) ∷ []) _ (phrase l scope (Switches a (labels_of (in_order arms (opened (numbered scope))))) ∷ []) _
         (subst (λ (labels : List RawLabel). AreCounterparts k raw other (phrase l next (Switches a labels) ∷ []) (phrase l scope (Switches a (labels_of (in_order arms (opened (numbered scope))))) ∷ [])) (sym w.labels)
-        (same_stands l (Switches a (labels_of (in_order arms (opened (numbered scope))))) stay f))
+        (same_stands l (Switches a (labels_of (in_order arms (opened (numbered scope))))) refl stay f))
         w.phrases)
         (follows_closed k raw other (numbered_kept k raw other is f) w.after)
 
@@ -475,26 +493,26 @@ module _ (k : Kept) (raw other : RawProgram) (texts : TextsAgree k raw other) (d
     pub walks : {scope : Scope} {x : RawStatement} {xs : List RawStatement} → Thins k raw other scope x xs → (next : Scope) (stand place : Stand) → StandsFor stand place → ScopesAgree k raw other defined_here defined_there owner_here owner_there scope next
         → Walks scope next stand place (scoped raw x) (map (scoped other) xs)
     walks {scope} (Thins.simple x part is none kept_too whole stay) next stand place st f =
-        subst (λ (y : Statements). Walks scope next stand place y (scoped other (roll-RawStatement x) ∷ [])) (sym (scoped-roll raw x))
-        (subst (λ (y : Statements). Walks scope next stand place (scoped_step raw (opened_form raw x)) (y ∷ [])) (sym (scoped-roll other x)) (simple_walks x part is none kept_too stay st f))
+        subst (λ (y : Statements). Walks scope next stand place y (scoped other (roll-RawStatement (kept_form k scope.statements x)) ∷ [])) (sym (scoped-roll raw x))
+        (subst (λ (y : Statements). Walks scope next stand place (scoped_step raw (opened_form raw x)) (y ∷ [])) (sym (scoped-roll other (kept_form k scope.statements x))) (simple_walks x part is none kept_too whole stay st f))
     walks {scope} (Thins.simple_goes x part is none gone) next stand place st f =
         subst (λ (y : Statements). Walks scope next stand place y []) (sym (scoped-roll raw x)) (simple_goes_walks x part is none gone f)
-    walks {scope} (Thins.result_goes {l} {a} {f = g} {args} strange less kept_too stay) next stand place st f =
-        restated (sym (scoped-Call raw l (target.Place a) g args)) (one_same (sym (scoped-Call other l target.None g args)))
-        (one_walks _ _ (call_stands l (target.Place a) target.None g args st lost stay f) (numbered_kept k raw other kept_too f))
+    walks {scope} (Thins.result_goes {l} {a} {f = g} {args} strange less kept_too fits stay) next stand place st f =
+        restated (sym (scoped-Call raw l (target.Place a) g args)) (one_same (sym (scoped-Call other l target.None g (kept_args k g scope.statements args))))
+        (one_walks _ _ (call_stands l (target.Place a) target.None g args scope.statements st lost fits stay f) (numbered_kept k raw other kept_too f))
     walks (Thins.declaration {l} {v} {i} is begins_too stay stay_begin) next stand place st f =
         restated (sym (scoped-Declare raw l v i)) (one_same (sym (scoped-Declare other l v i))) (declaration_walks l v i is begins_too stay stay_begin st f)
     walks (Thins.initialiser_goes {l} {v} {w} {i} is gone like stay) next stand place st f =
         restated (sym (scoped-Declare raw l v i)) (one_same (sym (scoped-Declare other l w init.None))) (bare_walks l v w i is gone like stay st f)
     walks (Thins.declaration_goes {l} {v} {i} is gone) next stand place st f =
         restated (sym (scoped-Declare raw l v i)) refl (undeclared_walks l v i is gone f)
-    walks (Thins.call {l} {v} {f = g} {args} whole is kept_too stay stay_call) next stand place st f =
-        restated (sym (scoped-Call raw l (target.Declared v) g args)) (one_same (sym (scoped-Call other l (target.Declared v) g args))) (call_walks l v st f g args is kept_too stay stay_call)
-    walks (Thins.call_follows {l} {v} {f = g} {args} strange less is kept_too stay stay_call) next stand place st f =
-        restated (sym (scoped-Call raw l (target.Declared v) g args)) (two_same (sym (scoped-Declare other l v init.None)) (sym (scoped-Call other l target.None g args)))
-        (follows_walks l v st f g args is kept_too stay stay_call)
-    walks (Thins.call_alone {l} {v} {f = g} {args} strange less is kept_too stay_call) next stand place st f =
-        restated (sym (scoped-Call raw l (target.Declared v) g args)) (one_same (sym (scoped-Call other l target.None g args))) (alone_walks l v st f g args is kept_too stay_call)
+    walks {scope} (Thins.call {l} {v} {f = g} {args} whole fits is kept_too stay stay_call) next stand place st f =
+        restated (sym (scoped-Call raw l (target.Declared v) g args)) (one_same (sym (scoped-Call other l (target.Declared v) g (kept_args k g scope.statements args)))) (call_walks l v st f g args whole fits is kept_too stay stay_call)
+    walks {scope} (Thins.call_follows {l} {v} {f = g} {args} strange less is kept_too fits stay stay_call) next stand place st f =
+        restated (sym (scoped-Call raw l (target.Declared v) g args)) (two_same (sym (scoped-Declare other l v init.None)) (sym (scoped-Call other l target.None g (kept_args k g scope.statements args))))
+        (follows_walks l v st f g args is kept_too fits stay stay_call)
+    walks {scope} (Thins.call_alone {l} {v} {f = g} {args} strange less is kept_too fits stay_call) next stand place st f =
+        restated (sym (scoped-Call raw l (target.Declared v) g args)) (one_same (sym (scoped-Call other l target.None g (kept_args k g scope.statements args)))) (alone_walks l v st f g args is kept_too fits stay_call)
     walks (Thins.call_goes {l} {v} {f = g} {args} gives is gone stay) next stand place st f =
         restated (sym (scoped-Call raw l (target.Declared v) g args)) (one_same (sym (scoped-Declare other l v init.None))) (call_goes_walks l v st f g args is gone stay)
     walks (Thins.called_goes {l} {v} {f = g} {args} is gone) next stand place st f =
@@ -560,14 +578,29 @@ module _ (k : Kept) (raw other : RawProgram) (texts : TextsAgree k raw other) (d
         (block_walks l (map (scoped raw) body) (map (scoped other) (x ∷ rest)) f (all_walk d (opened next) InBlock InBlock there (follows_opened k raw other f)))
     walks {scope} (Thins.for_simple {l} {a} x part {step} {body} is simple none kept_too whole stay e h) next stand place st f =
         let n = numbered_gone k raw other is f in
-        let g = subst (λ (z : Scope). ScopesAgree k raw other defined_here defined_there owner_here owner_there z (numbered (opened next))) (sym (ap (λ (y : Statements). y.after (opened (numbered scope))) (scoped-roll raw x) ∙ simple_after raw x part simple none (opened (numbered scope))))
+        let form = kept_form k (numbered scope).statements x in
+        let plain = form_part k (numbered scope).statements x part simple in
+        let nothing : declares form ≡ false = form_declares k (numbered scope).statements x ∙ none in
+        let g = subst (λ (z : Scope). ScopesAgree k raw other defined_here defined_there owner_here owner_there z (numbered (opened next))) (sym (ap (λ (y : Statements). y.after (opened (numbered scope))) (scoped-roll raw x) ∙ simple_after raw x plain.0 plain.1 none (opened (numbered scope))))
         (numbered_kept k raw other kept_too (follows_opened k raw other n)) in
         let q = part_walks e (numbered (opened next)) InBlock InBlock there g in
         let w = all_walk h (opened (numbered (opened next))) InBlock InBlock there (follows_opened k raw other q.after) in
-        restated (sym (scoped-For raw l (Some (roll-RawStatement x)) a step body)) (one_same (sym (scoped-roll other x)))
-        (one_walks _ _ (rest_gone k raw other _ _ _ (subst (λ (y : Statements). AreCounterparts k raw other ((scoped_step other (opened_form other x)).gives next place) (y.gives (opened (numbered scope)) InFor)) (sym (scoped-roll raw x))
-        (simple_begins place x part simple none stay n)))
-        (subst (λ (z : Scope). ScopesAgree k raw other defined_here defined_there owner_here owner_there (closed scope (after_block (map (scoped raw) body) (scope_of_body (Some (scoped raw (roll-RawStatement x))) (option_map (scoped raw) step) scope))) z) (sym (simple_after other x part simple none next)) (follows_numbered k raw other f (follows_gone k raw other q.after w.after))))
+        restated (sym (scoped-For raw l (Some (roll-RawStatement x)) a step body)) (one_same (sym (scoped-roll other form)))
+        (one_walks _ _ (rest_gone k raw other _ _ _ (subst (λ (y : Statements). AreCounterparts k raw other ((scoped_step other (opened_form other form)).gives next place) (y.gives (opened (numbered scope)) InFor)) (sym (scoped-roll raw x))
+        (simple_begins place x part simple none whole stay n)))
+        (subst (λ (z : Scope). ScopesAgree k raw other defined_here defined_there owner_here owner_there (closed scope (after_block (map (scoped raw) body) (scope_of_body (Some (scoped raw (roll-RawStatement x))) (option_map (scoped raw) step) scope))) z) (sym (simple_after other form part simple nothing next)) (follows_numbered k raw other f (follows_gone k raw other q.after w.after))))
+    walks {scope} (Thins.for_result_goes {l} {m} {a} b {f = g} args {step} {body} is strange less kept_too fits stay e h) next stand place st f =
+        let n = numbered_gone k raw other is f in
+        let first = scoped-Call raw m (target.Place b) g args in
+        let later = subst (λ (z : Scope). ScopesAgree k raw other defined_here defined_there owner_here owner_there z (numbered (opened next))) (sym (ap (λ (y : Statements). y.after (opened (numbered scope))) first))
+        (numbered_kept k raw other kept_too (follows_opened k raw other n)) in
+        let q = part_walks e (numbered (opened next)) InBlock InBlock there later in
+        let w = all_walk h (opened (numbered (opened next))) InBlock InBlock there (follows_opened k raw other q.after) in
+        let some = kept_args k g (numbered scope).statements args in
+        let alone = phrase m next (Calls place target.None g some) ∷ [] in
+        restated (sym (scoped-For raw l (Some (s.Call m (target.Place b) g args)) a step body)) (one_same (sym (scoped-Call other m target.None g some)))
+        (one_walks _ _ (rest_gone k raw other alone _ _ (subst (λ (y : Statements). AreCounterparts k raw other alone (y.gives (opened (numbered scope)) InFor)) (sym first)
+        (call_begins place m (target.Place b) target.None g args lost fits stay n))) (follows_numbered k raw other f (follows_gone k raw other q.after w.after)))
     walks (Thins.block_goes {l} {body} d) next stand place st f =
         let w = all_walk d (opened next) InBlock InBlock there (follows_opened k raw other f) in
         restated (sym (scoped-Block raw l body)) refl (gone_walks _ (follows_gone k raw other f w.after))
@@ -604,5 +637,5 @@ module _ (k : Kept) (raw other : RawProgram) (texts : TextsAgree k raw other) (d
   pub begun_stand_as_it_is : {scope next : Scope} (l : ℕ) (stand : Stand) (v : RawVar) (i : RawInit) → NamesStay k scope (Begins stand v i) → ScopesAgree k raw other defined_here defined_there owner_here owner_there scope next
       → AreCounterparts k raw other (begun_phrases l next stand v i) (begun_phrases l scope stand v i)
   begun_stand_as_it_is l stand v init.None stay f = none_stand k raw other []
-  begun_stand_as_it_is l stand v (init.One a) stay f = same_stands l (Begins stand v (init.One a)) stay f
-  begun_stand_as_it_is l stand v (init.Items all) stay f = same_stands l (Begins stand v (init.Items all)) stay f
+  begun_stand_as_it_is l stand v (init.One a) stay f = same_stands l (Begins stand v (init.One a)) refl stay f
+  begun_stand_as_it_is l stand v (init.Items all) stay f = same_stands l (Begins stand v (init.Items all)) refl stay f

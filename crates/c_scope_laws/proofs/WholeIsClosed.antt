@@ -1,5 +1,6 @@
 -- Where all is kept, all that this needs is met.
-use Rattle.std.proofs.Common.{ℕ, List, [], ◌∷◌, ◌++◌, map, Bool, true, false, Some, None, refl, sym, subst}
+use Rattle.std.proofs.Common.{ℕ, List, [], ◌∷◌, ◌++◌, map, Bool, true, false, Option, Some, None, refl, sym, subst}
+use Rattle.c_tree.specs.declared.raw.program.RawHead.{RawHead}
 use Rattle.c_tree.specs.declared.raw.expr.RawExpr.{RawExpr}
 use Rattle.c_tree.specs.declared.raw.expr.RawVar.{RawVar}
 use Rattle.c_tree.specs.declared.raw.program.RawInit.TheVariants as init
@@ -15,9 +16,11 @@ use Rattle.c_language.specs.Words.{Bytes}
 use Rattle.c_language.specs.Scopes.{Scope, Scoped, outset, opened, numbered, in_order, after_block, scope_of_parameters, entered}
 use Rattle.c_language.specs.Phrases.{scoped, after_item}
 use Rattle.c_language.specs.Uses.{is_library_function}
+use Rattle.c_language.specs.CallRules.{head_around}
+use Rattle.c_scope_laws.specs.Thinning.{kept_args}
 use Rattle.c_language.proofs.Tests.{false_true}
 use Rattle.c_scope_laws.specs.ThinTexts.{all_kept}
-use Rattle.c_scope_laws.specs.ThinnedBodies.{AreMet, Left, ArmLeft, beyond, part_needs, arms_needs, result_kept, call_placed, call_declared, block_left, left_step, left_scoped, left_arm_step, left, left_arm, body_left}
+use Rattle.c_scope_laws.specs.ThinnedBodies.{AreMet, Left, ArmLeft, beyond, part_needs, arms_needs, result_kept, passes, gives, return_needs, call_placed, call_declared, block_left, left_step, left_scoped, left_arm_step, left, left_arm, body_left}
 use Rattle.c_scope_laws.specs.ThinnedTexts.{LastStays, ItemsAreClosed, KeepsText}
 use Rattle.c_scope_laws.proofs.ThinnedBodies.{join_met, Met, block_alone}
 use Rattle.c_scope_laws.proofs.WholeTexts.{all_stay, labels_stay, params_whole}
@@ -57,13 +60,30 @@ module _ (raw : RawProgram) where
   part : (x : RawStatement) → Fine x → (scope : Scope) → AreMet all_kept (part_needs (Some ((left all_kept raw x).gives scope)))
   part x h scope = let l = (left all_kept raw x).gives scope in join_met all_kept l.needs (beyond l.some) (h scope).0 (h scope).1
 
-  placed : (library : Bool) (l : ℕ) (a : RawExpr) (f : Bytes) (args : List RawArg) (scope : Scope) → Met all_kept (call_placed raw (result_kept library true) true l a f args scope)
-  placed true l a f args scope = ((all_stay, tt), tt)
-  placed false l a f args scope = ((all_stay, tt), tt)
+  passed : (library : Bool) (f : Bytes) (args : List RawArg) (n : ℕ) → AreMet all_kept (passes library f args n)
+  passed true f args n = tt
+  passed false f args n = ((λ i within. refl), tt)
 
-  with_call : (library : Bool) (l : ℕ) (v : RawVar) (f : Bytes) (args : List RawArg) (scope : Scope) → Met all_kept (call_declared raw true true (result_kept library true) l v f args scope)
-  with_call true l v f args scope = ((all_stay, (all_stay, tt)), tt)
-  with_call false l v f args scope = ((all_stay, (all_stay, tt)), tt)
+  given : (library : Bool) (f : Bytes) → AreMet all_kept (gives library f)
+  given true f = tt
+  given false f = (refl, tt)
+
+  returned : (around : Option RawHead) (a : Option RawExpr) → AreMet all_kept (return_needs around a)
+  returned around None = tt
+  returned None (Some a) = tt
+  returned (Some h) (Some a) = (refl, tt)
+
+  module _ (l : ℕ) (f : Bytes) (args some : List RawArg) (scope : Scope) where
+    all_needs : (library : Bool) → AreMet all_kept (passes library f args scope.statements ++ gives library f)
+    all_needs library = join_met all_kept (passes library f args scope.statements) (gives library f) (passed library f args scope.statements) (given library f)
+
+    placed : (library : Bool) (a : RawExpr) → Met all_kept (call_placed raw (result_kept library true) true (passes library f args scope.statements) (gives library f) l a f some scope)
+    placed true a = ((all_stay, all_needs true), tt)
+    placed false a = ((all_stay, all_needs false), tt)
+
+    with_call : (library : Bool) (v : RawVar) → Met all_kept (call_declared raw true true (result_kept library true) (passes library f args scope.statements) (gives library f) l v f some scope)
+    with_call true v = ((all_stay, (all_stay, all_needs true)), tt)
+    with_call false v = ((all_stay, (all_stay, all_needs false)), tt)
 
   abbrev Layer : Type 0
   Layer = RawStatement-F ((x : RawStatement) × Fine x) ((a : RawArm) × ArmFine a)
@@ -83,9 +103,9 @@ module _ (raw : RawProgram) where
   of_layer (RawStatement-F.Declare l v (init.Items all)) scope = ((all_stay, (all_stay, tt)), tt)
   of_layer (RawStatement-F.Assign l a op b) scope = ((all_stay, tt), tt)
   of_layer (RawStatement-F.Bump l a up before) scope = ((all_stay, tt), tt)
-  of_layer (RawStatement-F.Call l target.None f args) scope = ((all_stay, tt), tt)
-  of_layer (RawStatement-F.Call l (target.Place a) f args) scope = placed (is_library_function f) l a f args scope
-  of_layer (RawStatement-F.Call l (target.Declared v) f args) scope = with_call (is_library_function f) l v f args scope
+  of_layer (RawStatement-F.Call l target.None f args) scope = ((all_stay, passed (is_library_function f) f args scope.statements), tt)
+  of_layer (RawStatement-F.Call l (target.Place a) f args) scope = placed l f args (kept_args all_kept f scope.statements args) scope (is_library_function f) a
+  of_layer (RawStatement-F.Call l (target.Declared v) f args) scope = with_call l f args (kept_args all_kept f scope.statements args) scope (is_library_function f) v
   of_layer (RawStatement-F.Heap l target.None cast n) scope = ((all_stay, tt), tt)
   of_layer (RawStatement-F.Heap l (target.Place a) cast n) scope = ((all_stay, tt), tt)
   of_layer (RawStatement-F.Heap l (target.Declared v) cast n) scope = ((all_stay, (all_stay, tt)), tt)
@@ -117,7 +137,7 @@ module _ (raw : RawProgram) where
       )
   of_layer (RawStatement-F.Switch l a xs) scope = ((all_stay, arms xs (opened (numbered scope))), tt)
   of_layer (RawStatement-F.Block l b) scope = (lists b (opened scope), block_alone all_kept l (block b scope).some)
-  of_layer (RawStatement-F.Return l a) scope = ((all_stay, tt), tt)
+  of_layer (RawStatement-F.Return l a) scope = ((all_stay, returned (head_around raw scope) a), tt)
 
   statement_layer : (y : Layer) → Fine (roll-RawStatement (shape y))
   statement_layer y scope =
@@ -155,9 +175,9 @@ module _ (raw : RawProgram) where
   items_fine (Define l head body ∷ xs) scope = (
     (
       λ h. record {
-        parameters = params_whole raw head.params (scope_of_parameters head scope);
+        parameters = params_whole raw head.name 0 head.params (scope_of_parameters head scope);
         statements = body_fine body (entered raw head scope);
-        result = λ other q. last_stays body (entered raw head scope);
+        result = λ gives other q. last_stays body (entered raw head scope);
       },
       λ h. false_true (sym h),
     ),
@@ -165,4 +185,4 @@ module _ (raw : RawProgram) where
   )
 
   pub whole_closed : KeepsText all_kept raw
-  whole_closed = record { items = items_fine raw.items outset; main = refl }
+  whole_closed = record { items = items_fine raw.items outset; main = refl; result = refl }

@@ -1,5 +1,9 @@
 -- Where all is kept, a text without empty blocks is what stays of it.
-use Rattle.std.proofs.Common.{◌≡◌, ℕ, List, [], ◌∷◌, map, Bool, true, Option, Some, None, refl, sym, subst, ◌∙◌}
+use Rattle.std.proofs.Common.{◌≡◌, ℕ, suc, List, [], ◌∷◌, map, Bool, true, false, Option, Some, None, refl, sym, ap, subst, ◌∙◌}
+use Rattle.std.specs.Prelude.{if◌then◌else◌}
+use Rattle.c_tree.specs.declared.raw.expr.RawExpr.{RawExpr}
+use Rattle.c_tree.specs.declared.raw.program.RawHead.{RawHead}
+use Rattle.c_tree.specs.declared.raw.statement.RawArg.{RawArg}
 use Rattle.std.proofs.lemmas.Bool.{and_parts}
 use Rattle.c_tree.specs.declared.raw.program.RawInit.{RawInit}
 use Rattle.c_tree.specs.declared.raw.program.RawInit.TheVariants as init
@@ -17,8 +21,13 @@ use Rattle.c_language.specs.Words.{Bytes}
 use Rattle.c_language.specs.Scopes.{Scope, Meaning, Entry, outset, with_parameter, opened, numbered}
 use Rattle.c_language.specs.Phrases.{InBlock, Part, Assigns, Bumps, Calls, Allocates, Returns}
 use Rattle.c_language.proofs.Tests.{false_true}
-use Rattle.c_scope_laws.specs.Thinning.{name_stays, found, EntryStays, NamesStay, LabelsStay, BeginIs, block_after, part_scope, body_scope, after_list, Thins, ThinAll, ThinsPart, ThinArms}
-use Rattle.c_scope_laws.specs.ThinTexts.{ParamStays, ParamsStay, ItemsThin, IsThinner, all_kept, is_cons, full_step, full_arm, is_full, full_item}
+use Rattle.c_scope_laws.specs.Thinning.{name_stays, found, EntryStays, NamesStay, LabelsStay, BeginIs, block_after, part_scope, body_scope, after_list, Thins, ThinAll, ThinsPart, ThinArms, heads_of, kept_args, ArgsFit}
+use Rattle.c_scope_laws.specs.Agreement.{head_left, GivesAround, ReturnFits}
+use Rattle.c_scope_laws.proofs.ChosenLists.{chosen_all}
+use Rattle.c_language.specs.CallRules.{head_around}
+use Rattle.c_language.specs.Uses.{is_library_function}
+use Rattle.projection.specs.Kept.{chosen}
+use Rattle.c_scope_laws.specs.ThinTexts.{ParamFits, ParamsFit, ItemsThin, IsThinner, all_kept, is_cons, full_step, full_arm, is_full, full_item}
 use Rattle.c_language.specs.StatementGrammar.{arm}
 use Rattle.c_language.specs.Lists.{all_true}
 
@@ -41,7 +50,32 @@ begin_kept init.None n = tt
 begin_kept (init.One a) n = refl
 begin_kept (init.Items all) n = refl
 
+-- a call keeps all its arguments, and a head all its parts
+pub all_args : (w : Bytes) (n : ℕ) (args : List RawArg) → kept_args all_kept w n args ≡ args
+all_args w n args = by_library (is_library_function w)
+  where
+    by_library : (b : Bool) → (if b then args else chosen (λ m. true) 0 args) ≡ args
+    by_library true = refl
+    by_library false = chosen_all (λ m. true) (λ m. refl) 0 args
+
+all_head : (head : RawHead) → head_left (heads_of all_kept) head ≡ head
+all_head head = ap (λ (ps : List RawParam). record head { params = ps }) (chosen_all (λ n. true) (λ n. refl) 0 head.params)
+
+pub args_stay : (w : Bytes) (args : List RawArg) (n : ℕ) → ArgsFit all_kept w args n
+args_stay w args n strange i within = refl
+
+around_gives : (around : Option RawHead) → GivesAround (heads_of all_kept) around
+around_gives None = tt
+around_gives (Some h) = refl
+
+return_stays : (around : Option RawHead) (a : Option RawExpr) → ReturnFits (heads_of all_kept) around a
+return_stays around None = tt
+return_stays around (Some a) = around_gives around
+
 module _ (raw : RawProgram) where
+  with_args : {scope : Scope} {x : RawStatement} (form : List RawArg → RawStatement) (w : Bytes) (args : List RawArg) → Thins all_kept raw raw scope x (form (kept_args all_kept w scope.statements args) ∷ []) → Thins all_kept raw raw scope x (form args ∷ [])
+  with_args {scope} {x} form w args t = subst (λ (as_ : List RawArg). Thins all_kept raw raw scope x (form as_ ∷ [])) (all_args w scope.statements args) t
+
   abbrev Whole : RawStatement → Type 0
   Whole x = is_full x ≡ true → (scope : Scope) → Thins all_kept raw raw scope x (x ∷ [])
 
@@ -98,9 +132,15 @@ module _ (raw : RawProgram) where
   of_layer (RawStatement-F.Declare l v i) h scope = at_form (s.rolls-Declare l v i) (Thins.declaration refl (begin_kept i scope.statements) all_stay all_stay)
   of_layer (RawStatement-F.Assign l a op b) h scope = Thins.simple (RawStatement-F.Assign l a op b) (Assigns a op b) refl refl refl tt all_stay
   of_layer (RawStatement-F.Bump l a up before) h scope = Thins.simple (RawStatement-F.Bump l a up before) (Bumps a) refl refl refl tt all_stay
-  of_layer (RawStatement-F.Call l target.None w args) h scope = Thins.simple (RawStatement-F.Call l target.None w args) (Calls InBlock target.None w args) refl refl refl tt all_stay
-  of_layer (RawStatement-F.Call l (target.Place a) w args) h scope = Thins.simple (RawStatement-F.Call l (target.Place a) w args) (Calls InBlock (target.Place a) w args) refl refl refl (λ q. refl) all_stay
-  of_layer (RawStatement-F.Call l (target.Declared v) w args) h scope = at_form (s.rolls-Call l (target.Declared v) w args) (Thins.call (λ q. refl) refl refl all_stay all_stay)
+  of_layer (RawStatement-F.Call l target.None w args) h scope =
+      with_args (λ (as_ : List RawArg). roll-RawStatement (RawStatement-F.Call l target.None w as_)) w args
+      (Thins.simple (RawStatement-F.Call l target.None w args) (Calls InBlock target.None w (kept_args all_kept w scope.statements args)) refl refl refl (tt, args_stay w args scope.statements) all_stay)
+  of_layer (RawStatement-F.Call l (target.Place a) w args) h scope =
+      with_args (λ (as_ : List RawArg). roll-RawStatement (RawStatement-F.Call l (target.Place a) w as_)) w args
+      (Thins.simple (RawStatement-F.Call l (target.Place a) w args) (Calls InBlock (target.Place a) w (kept_args all_kept w scope.statements args)) refl refl refl (record { kept = λ q. refl; gives = λ q. refl }, args_stay w args scope.statements) all_stay)
+  of_layer (RawStatement-F.Call l (target.Declared v) w args) h scope =
+      at_form (s.rolls-Call l (target.Declared v) w args)
+      (with_args (λ (as_ : List RawArg). s.Call l (target.Declared v) w as_) w args (Thins.call (record { kept = λ q. refl; gives = λ q. refl }) (args_stay w args scope.statements) refl refl all_stay all_stay))
   of_layer (RawStatement-F.Heap l target.None cast n) h scope = Thins.simple (RawStatement-F.Heap l target.None cast n) (Allocates target.None cast n) refl refl refl tt all_stay
   of_layer (RawStatement-F.Heap l (target.Place a) cast n) h scope = Thins.simple (RawStatement-F.Heap l (target.Place a) cast n) (Allocates (target.Place a) cast n) refl refl refl tt all_stay
   of_layer (RawStatement-F.Heap l (target.Declared v) cast n) h scope = at_form (s.rolls-Heap l (target.Declared v) cast n) (Thins.heap refl refl all_stay all_stay)
@@ -124,7 +164,7 @@ module _ (raw : RawProgram) where
   of_layer (RawStatement-F.Switch l a arms) h scope = at_form (s.rolls-Switch l a (bare_arms arms)) (Thins.switch refl all_stay (arms_stay arms h (opened (numbered scope))))
   of_layer (RawStatement-F.Block l b) h scope =
       let p = and_parts (is_cons (map is_full (bare b))) _ h in at_form (s.rolls-Block l (bare b)) (block_stays l b p.0 p.1 scope)
-  of_layer (RawStatement-F.Return l a) h scope = Thins.simple (RawStatement-F.Return l a) (Returns a) refl refl refl tt all_stay
+  of_layer (RawStatement-F.Return l a) h scope = Thins.simple (RawStatement-F.Return l a) (Returns a) refl refl refl (return_stays (head_around raw scope) a) all_stay
 
   statement_layer : (y : Layer) → Whole (roll-RawStatement (shape y))
   statement_layer y h scope = of_layer y (sym (fold-roll-RawStatement Bool Bool full_step full_arm (shape y)) ∙ h) scope
@@ -142,11 +182,11 @@ module _ (raw : RawProgram) where
   body_whole [] h scope = ThinAll.none
   body_whole (x ∷ xs) h scope = let p = and_parts (is_full x) _ h in ThinAll.more (statement_whole x p.0 scope) (body_whole xs p.1 _)
 
-  pub params_whole : (ps : List RawParam) (scope : Scope) → ParamsStay all_kept raw ps scope
-  params_whole [] scope = tt
-  params_whole (p ∷ ps) scope = (by_name p.name, params_whole ps (with_parameter raw p scope))
+  pub params_whole : (x : Bytes) (n : ℕ) (ps : List RawParam) (scope : Scope) → ParamsFit all_kept raw x n ps scope
+  params_whole x n [] scope = tt
+  params_whole x n (p ∷ ps) scope = (by_name p.name, params_whole x (suc n) ps (with_parameter raw p scope))
     where
-      by_name : (o : Option Bytes) → ParamStays all_kept scope p o
+      by_name : (o : Option Bytes) → ParamFits all_kept true scope p o
       by_name None = tt
       by_name (Some name) = (refl, all_stay)
 
@@ -156,10 +196,12 @@ module _ (raw : RawProgram) where
   items_whole (Tag l w ∷ xs) h scope = ItemsThin.tag (items_whole xs h scope)
   items_whole (Struct l w members ∷ xs) h scope = ItemsThin.structure (λ before m c. all_stay) (items_whole xs h _)
   items_whole (Global l v i is_static ∷ xs) h scope = ItemsThin.global refl all_stay all_stay (items_whole xs h _)
-  items_whole (Prototype l head ∷ xs) h scope = ItemsThin.prototype refl (items_whole xs h _)
+  items_whole (Prototype l head ∷ xs) h scope =
+      subst (λ (g : RawHead). ItemsThin all_kept raw raw scope (Prototype l head ∷ xs) (Prototype l g ∷ xs)) (all_head head) (ItemsThin.prototype refl (items_whole xs h _))
   items_whole (Define l head body ∷ xs) h scope =
       let p = and_parts (all_true (map is_full body)) _ h in
-      ItemsThin.define refl (params_whole head.params _) (body_whole body p.0 _) (λ other q. q) (items_whole xs p.1 _)
+      subst (λ (g : RawHead). ItemsThin all_kept raw raw scope (Define l head body ∷ xs) (Define l g body ∷ xs)) (all_head head)
+      (ItemsThin.define refl (params_whole head.name 0 head.params _) (body_whole body p.0 _) (λ gives other q. q) (items_whole xs p.1 _))
 
 pub whole : (raw : RawProgram) → all_true (map full_item raw.items) ≡ true → IsThinner all_kept raw raw
-whole raw h = record { items = items_whole raw raw.items h outset; main = refl }
+whole raw h = record { items = items_whole raw raw.items h outset; main = refl; result = refl }

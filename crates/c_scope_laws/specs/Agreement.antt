@@ -1,5 +1,5 @@
 -- Places of two texts that agree: of the other text declarations, statements and functions are missing, so that its variables, statements and functions have other numbers; what occurs at its place stands for the same in both.
-use Rattle.std.specs.Prelude.{◌≡◌, ◌≢◌, ℕ, ◌<◌, pos, Bool, true, false, List, Option, Some, None, option_map, Contains, decimal}
+use Rattle.std.specs.Prelude.{◌≡◌, ◌≢◌, ℕ, ◌<◌, pos, Bool, true, false, if◌then◌else◌, List, Option, Some, None, option_map, Contains, decimal}
 use Rattle.c_arith.specs.declared.int_type.IntType.{IntType}
 use Rattle.c_tree.specs.declared.raw.expr.RawExpr.{RawExpr}
 use Rattle.c_tree.specs.declared.raw.expr.RawExpr.TheVariants as e
@@ -9,6 +9,7 @@ use Rattle.c_tree.specs.declared.raw.expr.RawType.TheVariants as type
 use Rattle.c_tree.specs.declared.raw.expr.RawVar.{RawVar}
 use Rattle.c_tree.specs.declared.raw.program.RawInit.{RawInit}
 use Rattle.c_tree.specs.declared.raw.program.RawHead.{RawHead}
+use Rattle.c_tree.specs.declared.raw.program.RawParam.{RawParam}
 use Rattle.c_tree.specs.declared.raw.program.RawProgram.{RawProgram}
 use Rattle.c_tree.specs.declared.raw.statement.RawTarget.{RawTarget}
 use Rattle.c_tree.specs.declared.raw.statement.RawTarget.TheVariants as target
@@ -23,11 +24,12 @@ use Rattle.c_language.specs.ConstantEvaluation.{value_of_constant}
 use Rattle.c_language.specs.CountConstants.{LengthsAmong}
 use Rattle.c_language.specs.DeclaredTypes.{defined_structs, has_stdio, has_stdlib, definition_of, function_id, item_count, variable_type}
 use Rattle.c_language.specs.Scopes.{Scope, Meaning, meaning_in, meaning_here, with_variable, with_target}
-use Rattle.c_language.specs.Phrases.{Stand, InBlock, InFor, Part, DeclaresFunction, EndsFunction, Declares, Begins, Assigns, Bumps, Calls, Allocates, Returns}
-use Rattle.c_language.specs.Uses.{IsWithin, Holds, lengths_in, tags_in, sizes}
+use Rattle.c_language.specs.Phrases.{Stand, InBlock, InFor, Part, DeclaresFunction, Takes, EndsFunction, Declares, Begins, Assigns, Bumps, Calls, Allocates, Returns}
+use Rattle.c_language.specs.Uses.{IsWithin, Holds, lengths_in, tags_in, sizes, is_library_function}
 use Rattle.c_language.specs.NameRules.{main_name, IsDefinedBefore}
 use Rattle.c_language.specs.CallRules.{head_around, EndsWithValue}
 use Rattle.c_language.specs.ProgramOf.{ctype_with}
+use Rattle.projection.specs.Kept.{chosen}
 use Rattle.projection.specs.Renumbering.{Numbers}
 
 -- ---- names that occur
@@ -95,20 +97,33 @@ pub record DeclaresLess (declared heads : Bytes → Type 0) (scope next : Scope)
 
 -- ---- functions
 
--- the functions that are named have the same heads in both texts, those that are defined before the other place are defined before the place, and both places stand in the same function
-pub record FunctionsAgree (named : Bytes → Type 0) (raw other : RawProgram) (scope next : Scope) : Type 0 where
-  pub definitions : (x : Bytes) → named x → definition_of other x ≡ definition_of raw x
+-- which parameters of functions stay, counted from 0, and which functions that give a result do so still
+pub record Heads : Type 0 where
+  pub parameter : Bytes → ℕ → Bool
+  pub gives : Bytes → Bool
+
+-- what stays of the head of a function: its parameters that stay, and its result or none
+abbrev pub head_left : Heads → RawHead → RawHead
+head_left heads h = record h { result = if heads.gives h.name then h.result else None; params = chosen (heads.parameter h.name) 0 h.params }
+
+-- a function that is there, in which the other place stands, has what stays of the head of the function in which the place stands
+abbrev pub StandsInLeft : Heads → Option RawHead → RawHead → Type 0
+StandsInLeft heads around h = (g : RawHead) × (around ≡ Some g) × (h ≡ head_left heads g)
+
+-- the functions that are named have what stays of their heads, those that are defined before the other place are defined before the place, and where the other place stands in a function, the place stands in the same
+pub record FunctionsAgree (heads : Heads) (named : Bytes → Type 0) (raw other : RawProgram) (scope next : Scope) : Type 0 where
+  pub definitions : (x : Bytes) → named x → definition_of other x ≡ option_map (head_left heads) (definition_of raw x)
   pub before : (x : Bytes) → IsDefinedBefore other next x → IsDefinedBefore raw scope x
-  pub around : head_around other next ≡ head_around raw scope
+  pub around : (h : RawHead) → head_around other next ≡ Some h → StandsInLeft heads (head_around raw scope) h
 
 -- ---- places
 
 -- what the rules ask of the place of a phrase that names these, calls or declares these functions, and declares these variables and these functions
-pub record PlacesAgree (f : ℕ → ℕ) (named called declared headed : Bytes → Type 0) (raw other : RawProgram) (scope next : Scope) : Type 0 where
+pub record PlacesAgree (heads : Heads) (f : ℕ → ℕ) (named called declared headed : Bytes → Type 0) (raw other : RawProgram) (scope next : Scope) : Type 0 where
   pub outside : SameOutside raw other
   pub scopes : Agree f named scope next
   pub less : DeclaresLess declared headed scope next
-  pub functions : FunctionsAgree called raw other scope next
+  pub functions : FunctionsAgree heads called raw other scope next
 
 -- what trees ask of the place of a phrase that calls these functions: the next numbers there are those that what comes next gets
 pub record TreesAgree (ns : Numbers) (functions : Bytes → Type 0) (raw other : RawProgram) (scope next : Scope) : Type 0 where
@@ -172,21 +187,54 @@ pub data CallStandsFor : Stand → Stand → Type 0 where
   as_it_is : {stand : Stand} → CallStandsFor stand stand
   elsewhere : {stand place : Stand} → begins_for place ≡ false → CallStandsFor stand place
 
+-- a function whose result is stored gives one still, where it isn't one of the library
+abbrev pub GivesStill : Heads → Bytes → RawTarget → Type 0
+GivesStill heads f target.None = Unit {0}
+GivesStill heads f (target.Place a) = is_library_function f ≡ false → heads.gives f ≡ true
+GivesStill heads f (target.Declared v) = is_library_function f ≡ false → heads.gives f ≡ true
+
 -- a call keeps what its result is stored in, or loses it
-pub data StoresLess : RawTarget → RawTarget → Type 0 where
-  kept : {to : RawTarget} → StoresLess to to
-  lost : {to : RawTarget} → StoresLess to target.None
+pub data StoresLess (heads : Heads) (f : Bytes) : RawTarget → RawTarget → Type 0 where
+  kept : {to : RawTarget} → GivesStill heads f to → StoresLess heads f to to
+  lost : {to : RawTarget} → StoresLess heads f to target.None
 
--- a function other than main that ends with a value does so still
-abbrev pub EndsToo : RawHead → List RawStatement → List RawStatement → Type 0
-EndsToo f body less = f.name ≢ main_name → EndsWithValue body → EndsWithValue less
+-- what stays of the arguments of a call: those of the parameters that stay, and all of a function of the library
+abbrev pub args_left : Heads → Bytes → List RawArg → List RawArg
+args_left heads f args = if is_library_function f then args else chosen (heads.parameter f) 0 args
 
--- what stands at the other place for a phrase
-pub data PartsAgree (raw other : RawProgram) : Part → Part → Type 0 where
-  same : {part : Part} → PartsAgree raw other part part
+-- a function other than main that ends with a value, and gives a result still, ends with a value still
+abbrev pub EndsToo : Heads → RawHead → List RawStatement → List RawStatement → Type 0
+EndsToo heads f body less = heads.gives f.name ≡ true → f.name ≢ main_name → EndsWithValue body → EndsWithValue less
+
+-- the function around gives a result still
+abbrev pub GivesAround : Heads → Option RawHead → Type 0
+GivesAround heads None = Unit {0}
+GivesAround heads (Some h) = heads.gives h.name ≡ true
+
+-- a return of a value stands in a function that gives a result still
+abbrev pub ReturnFits : Heads → Option RawHead → Option RawExpr → Type 0
+ReturnFits heads around None = Unit {0}
+ReturnFits heads around (Some e) = GivesAround heads around
+
+-- a phrase that isn't about the head of a function
+abbrev pub has_no_head : Part → Bool
+has_no_head (DeclaresFunction h is_definition) = false
+has_no_head (Takes before p) = false
+has_no_head (EndsFunction h body) = false
+has_no_head (Calls stand to f args) = false
+has_no_head (Returns value) = false
+has_no_head _ = true
+
+-- what stands at the other place for a phrase in a scope
+pub data PartsAgree (heads : Heads) (raw other : RawProgram) (scope : Scope) : Part → Part → Type 0 where
+  same : {part : Part} → has_no_head part ≡ true → PartsAgree heads raw other scope part part
+  declares_function : {head less : RawHead} {is_definition : Bool} → less ≡ head_left heads head → (head.name ≡ main_name → heads.gives head.name ≡ true)
+      → PartsAgree heads raw other scope (DeclaresFunction head is_definition) (DeclaresFunction less is_definition)
+  takes : {before less : List RawParam} {p : RawParam} → ((q : RawParam) → Contains less q → Contains before q) → PartsAgree heads raw other scope (Takes before p) (Takes less p)
+  returns : {value : Option RawExpr} → ReturnFits heads (head_around raw scope) value → PartsAgree heads raw other scope (Returns value) (Returns value)
   declares : {stand place : Stand} {v w : RawVar} {i j : RawInit}
-      → StandsFor stand place → SameVariable raw other v i w j → PartsAgree raw other (Declares stand v i) (Declares place w j)
-  begins : {stand place : Stand} {v : RawVar} {i : RawInit} → StandsFor stand place → PartsAgree raw other (Begins stand v i) (Begins place v i)
-  ends : {head : RawHead} {body less : List RawStatement} → EndsToo head body less → PartsAgree raw other (EndsFunction head body) (EndsFunction head less)
-  calls : {stand place : Stand} {to less : RawTarget} {f : Bytes} {args : List RawArg}
-      → CallStandsFor stand place → StoresLess to less → PartsAgree raw other (Calls stand to f args) (Calls place less f args)
+      → StandsFor stand place → SameVariable raw other v i w j → PartsAgree heads raw other scope (Declares stand v i) (Declares place w j)
+  begins : {stand place : Stand} {v : RawVar} {i : RawInit} → StandsFor stand place → PartsAgree heads raw other scope (Begins stand v i) (Begins place v i)
+  ends : {head final : RawHead} {body less : List RawStatement} → final ≡ head_left heads head → EndsToo heads head body less → PartsAgree heads raw other scope (EndsFunction head body) (EndsFunction final less)
+  calls : {stand place : Stand} {to less : RawTarget} {f : Bytes} {args some : List RawArg}
+      → CallStandsFor stand place → StoresLess heads f to less → some ≡ args_left heads f args → PartsAgree heads raw other scope (Calls stand to f args) (Calls place less f some)

@@ -26,13 +26,13 @@ use Rattle.c_language.specs.Phrases.{Part, Allocates, body_phrases}
 use Rattle.c_language.specs.Uses.{init_exprs, target_exprs, arg_exprs, cases}
 use Rattle.c_language.specs.Rules.{Breaks, KeepsRules, AreKept}
 use Rattle.c_language.specs.ProgramOf.{expr_of, init_of, target_tree, args_tree, amount_tree, label_tree, switch_type, ArmTree, tree_step, body_of, program_of}
-use Rattle.c_scope_laws.specs.Agreement.{NamedIn, NamedAmong, Names, NamesFunction, DeclaresName, DeclaresHead, SameOutside, Agree, PlacesAgree, SameVariable, CountWritten, PartsAgree, TreesAgree, simple_part, simple_scope}
-use Rattle.c_scope_laws.specs.Following.{TextsAgree, ScopesAgree, kept_functions}
+use Rattle.c_scope_laws.specs.Agreement.{NamedIn, NamedAmong, Names, NamesFunction, DeclaresName, DeclaresHead, SameOutside, Agree, Heads, PlacesAgree, SameVariable, CountWritten, PartsAgree, TreesAgree, simple_part, simple_scope}
+use Rattle.c_scope_laws.specs.Following.{TextsAgree, ScopesAgree, kept_numbers}
 use Rattle.projection.specs.Kept.{Kept}
 use Rattle.c_scope_laws.specs.Thinning.{found, EntryStays, ThinAll}
 use Rattle.c_language.specs.Names.{names}
 use Rattle.projection.specs.Projection.{projected_all, projected_program}
-use Rattle.c_scope_laws.specs.ThinTexts.{IsThinner, all_kept, full_item}
+use Rattle.c_scope_laws.specs.ThinTexts.{IsThinner, NamesParameters, all_kept, full_item}
 use Rattle.c_scope_laws.specs.ThinnedBodies.{AreMet, body_left}
 use Rattle.c_scope_laws.specs.ThinnedTexts.{KeepsText, thinned_text}
 use Rattle.projection.specs.Renumbering.{Numbers, renamed, renamed_init, renamed_target, renamed_amount, renamed_label, renumbered}
@@ -91,8 +91,8 @@ SimpleTreesAgree =
 -- a phrase breaks a rule that is broken by what stands for it at a place of the other text that agrees on its names
 abbrev pub RulesAgree : Type 0
 RulesAgree =
-    (f : ℕ → ℕ) (raw other : RawProgram) (scope next : Scope) (part changed : Part) (n : ℕ) → PartsAgree raw other part changed
-    → PlacesAgree f (Names changed) (NamesFunction changed) (DeclaresName changed) (DeclaresHead changed) raw other scope next → Breaks other next changed n → Breaks raw scope part n
+    (heads : Heads) (f : ℕ → ℕ) (raw other : RawProgram) (scope next : Scope) (part changed : Part) (n : ℕ) → PartsAgree heads raw other scope part changed
+    → PlacesAgree heads f (Names changed) (NamesFunction changed) (DeclaresName changed) (DeclaresHead changed) raw other scope next → Breaks other next changed n → Breaks raw scope part n
 
 -- a declaration keeps its type where its initialiser is dropped, if a length that its list gave is written as a constant
 abbrev pub InitialisersDrop : Type 0
@@ -106,25 +106,25 @@ WrittenStays = (items : ℕ) (a : RawType) → is_written a ≡ true → CountWr
 
 -- what stays of a text that keeps all rules keeps all rules
 abbrev pub ThinnerKeepsRules : Type 0
-ThinnerKeepsRules = (k : Kept) (raw other : RawProgram) → IsThinner k raw other → KeepsRules raw → KeepsRules other
+ThinnerKeepsRules = (k : Kept Bytes) (raw other : RawProgram) → IsThinner k raw other → KeepsRules raw → KeepsRules other
 
 -- at places that follow one another, what stays of a list of statements has the tree that stays of its tree
 abbrev pub BodiesThin : Type 0
 BodiesThin =
-    (k : Kept) (functions : ℕ → ℕ) (raw other : RawProgram) (here there : ℕ) (mine yours : Option ℕ) (scope next : Scope) (xs ys : List RawStatement) (zs : List Statement) → TextsAgree k raw other
+    (k : Kept Bytes) (functions : ℕ → ℕ) (raw other : RawProgram) (here there : ℕ) (mine yours : Option ℕ) (scope next : Scope) (xs ys : List RawStatement) (zs : List Statement) → TextsAgree k raw other
     → ((x : Bytes) → k.function x ≡ true → function_id other x ≡ option_map functions (function_id raw x)) → ScopesAgree k raw other here there mine yours scope next → ThinAll k raw other scope xs ys
     → body_of raw xs scope ≡ Some zs → body_of other ys next ≡ Some (projected_all k functions zs)
 
 -- the program of what stays of a text is what stays of the program of the text
 abbrev pub ProgramsThin : Type 0
 ProgramsThin =
-    (k : Kept) (raw other : RawProgram) (p : Program) → IsThinner k raw other → KeepsRules raw
-    → program_of raw ≡ Some p → program_of other ≡ Some (projected_program k (kept_functions k raw) p)
+    (k : Kept Bytes) (raw other : RawProgram) (p : Program) → NamesParameters raw → IsThinner k raw other → KeepsRules raw
+    → program_of raw ≡ Some p → program_of other ≡ Some (projected_program (kept_numbers k raw) p)
 
 -- where the tree of an expression names kept variables alone, what the expression names is kept
 abbrev pub TreesKeepNames : Type 0
 TreesKeepNames =
-    (k : Kept) (raw : RawProgram) (scope : Scope) (a : RawExpr) (w : Expr) → expr_of raw scope a ≡ Some w → ((id : ℕ) → names w id ≡ true → k.variable id ≡ true)
+    (k : Kept Bytes) (raw : RawProgram) (scope : Scope) (a : RawExpr) (w : Expr) → expr_of raw scope a ≡ Some w → ((id : ℕ) → names w id ≡ true → k.variable id ≡ true)
     → (x : Bytes) → NamedIn a x → EntryStays k (found x scope.names)
 
 -- where all is kept, a text without empty blocks is what stays of it
@@ -134,21 +134,21 @@ WholeStays = (raw : RawProgram) → all_true (map full_item raw.items) ≡ true 
 -- what stays of a list of statements where this is kept is what stays of it, where its needs are met
 abbrev pub BodiesStay : Type 0
 BodiesStay =
-    (k : Kept) (raw other : RawProgram) (scope : Scope) (xs : List RawStatement) → SameOutside raw other → AreKept raw (body_phrases raw xs scope) → AreMet k (body_left k raw xs scope).needs
+    (k : Kept Bytes) (raw other : RawProgram) (scope : Scope) (xs : List RawStatement) → SameOutside raw other → AreKept raw (body_phrases raw xs scope) → AreMet k (body_left k raw xs scope).needs
     → ThinAll k raw other scope xs (body_left k raw xs scope).some
 
 -- the thinner text of a text is what stays of it, where what is kept is a text
 abbrev pub ThinnerText : Type 0
-ThinnerText = (k : Kept) (raw : RawProgram) → KeepsRules raw → KeepsText k raw → IsThinner k raw (thinned_text k raw)
+ThinnerText = (k : Kept Bytes) (raw : RawProgram) → KeepsRules raw → KeepsText k raw → IsThinner k raw (thinned_text k raw)
 
 -- where all is kept, this is a text, whatever the text is
 abbrev pub WholeIsClosed : Type 0
 WholeIsClosed = (raw : RawProgram) → KeepsText all_kept raw
 
 -- it keeps the rules, and its program is what stays of the program of the text
-pub record HasThinnedProgram (k : Kept) (raw : RawProgram) (p : Program) : Type 0 where
+pub record HasThinnedProgram (k : Kept Bytes) (raw : RawProgram) (p : Program) : Type 0 where
   pub rules : KeepsRules (thinned_text k raw)
-  pub program : program_of (thinned_text k raw) ≡ Some (projected_program k (kept_functions k raw) p)
+  pub program : program_of (thinned_text k raw) ≡ Some (projected_program (kept_numbers k raw) p)
 
 abbrev pub ThinnerProgram : Type 0
-ThinnerProgram = (k : Kept) (raw : RawProgram) (p : Program) → KeepsRules raw → KeepsText k raw → program_of raw ≡ Some p → HasThinnedProgram k raw p
+ThinnerProgram = (k : Kept Bytes) (raw : RawProgram) (p : Program) → NamesParameters raw → KeepsRules raw → KeepsText k raw → program_of raw ≡ Some p → HasThinnedProgram k raw p

@@ -1,5 +1,5 @@
 -- A text and a thinner one: what stays of its items.
-use Rattle.std.specs.Prelude.{◌≡◌, ℕ, Bool, true, false, ◌&&◌, List, [], ◌∷◌, map, Option, Some, None, Contains}
+use Rattle.std.specs.Prelude.{◌≡◌, ℕ, suc, Bool, true, false, ◌&&◌, List, [], ◌∷◌, map, Option, Some, None, Contains}
 use Rattle.c_tree.specs.declared.raw.expr.RawVar.{RawVar}
 use Rattle.c_tree.specs.declared.raw.program.RawInit.{RawInit}
 use Rattle.c_tree.specs.declared.raw.program.RawInit.TheVariants as init
@@ -15,36 +15,39 @@ use Rattle.c_language.specs.Words.{Bytes}
 use Rattle.c_language.specs.Scopes.{Scope, outset, with_variable, with_parameter, parameter_of, scope_of_parameters, entered}
 use Rattle.c_language.specs.Phrases.{InFile, InHead, HasMember, Declares, Begins, after_item}
 use Rattle.c_language.specs.NameRules.{main_name}
+use Rattle.c_language.specs.ItemGrammar.{are_named}
 use Rattle.projection.specs.Kept.{Kept}
-use Rattle.c_scope_laws.specs.Agreement.{EndsToo}
-use Rattle.c_scope_laws.specs.Thinning.{NamesStay, ThinAll}
+use Rattle.c_scope_laws.specs.Agreement.{EndsToo, head_left}
+use Rattle.c_scope_laws.specs.Thinning.{NamesStay, ThinAll, heads_of}
 use Rattle.c_language.specs.Lists.{if_there, all_true}
 
-abbrev pub ParamStays : Kept → Scope → RawParam → Option Bytes → Type 0
-ParamStays k scope p None = Unit {0}
-ParamStays k scope p (Some name) = (k.variable scope.variables ≡ true) × NamesStay k scope (Declares InHead (parameter_of p name) init.None)
+-- a named parameter of a definition stays with its variable, or both go
+abbrev pub ParamFits : Kept Bytes → Bool → Scope → RawParam → Option Bytes → Type 0
+ParamFits k stays scope p None = Unit {0}
+ParamFits k true scope p (Some name) = (k.variable scope.variables ≡ true) × NamesStay k scope (Declares InHead (parameter_of p name) init.None)
+ParamFits k false scope p (Some name) = k.variable scope.variables ≡ false
 
--- the named parameters of a definition stay
-abbrev pub ParamsStay : Kept → RawProgram → List RawParam → Scope → Type 0
-ParamsStay k raw [] scope = Unit {0}
-ParamsStay k raw (p ∷ ps) scope = ParamStays k scope p p.name × ParamsStay k raw ps (with_parameter raw p scope)
+-- each of the parameters of the definition of a function, the first of which has this place
+abbrev pub ParamsFit : Kept Bytes → RawProgram → Bytes → ℕ → List RawParam → Scope → Type 0
+ParamsFit k raw f n [] scope = Unit {0}
+ParamsFit k raw f n (p ∷ ps) scope = ParamFits k (k.parameter f n) scope p p.name × ParamsFit k raw f (suc n) ps (with_parameter raw p scope)
 
-abbrev pub ParamGoes : Kept → Scope → Option Bytes → Type 0
+abbrev pub ParamGoes : Kept Bytes → Scope → Option Bytes → Type 0
 ParamGoes k scope None = Unit {0}
 ParamGoes k scope (Some name) = k.variable scope.variables ≡ false
 
 -- none of the named parameters of a definition stays
-abbrev pub ParamsGo : Kept → RawProgram → List RawParam → Scope → Type 0
+abbrev pub ParamsGo : Kept Bytes → RawProgram → List RawParam → Scope → Type 0
 ParamsGo k raw [] scope = Unit {0}
 ParamsGo k raw (p ∷ ps) scope = ParamGoes k scope p.name × ParamsGo k raw ps (with_parameter raw p scope)
 
 -- what the lengths of a struct type's members name stays
-abbrev pub MembersStay : Kept → Scope → List RawMember → Type 0
+abbrev pub MembersStay : Kept Bytes → Scope → List RawMember → Type 0
 MembersStay k scope members = (before : List RawMember) (m : RawMember) → Contains members m → NamesStay k scope (HasMember before m)
 
 -- The items that stay of a list of items in a scope, in the other text. Includes and struct types stay; a function stays with its prototypes,
--- its parameters and its result, so that what ends with a return does so still, but for main.
-pub data ItemsThin (k : Kept) (raw other : RawProgram) : Scope → List RawItem → List RawItem → Type 0 where
+-- and they keep the same parameters and the result or not. A function that gives a result still and ends with a return does so still, but for main.
+pub data ItemsThin (k : Kept Bytes) (raw other : RawProgram) : Scope → List RawItem → List RawItem → Type 0 where
   none : {scope : Scope} → ItemsThin k raw other scope [] []
   include : {scope : Scope} {is_stdlib : Bool} {rest others : List RawItem}
       → ItemsThin k raw other scope rest others → ItemsThin k raw other scope (Include is_stdlib ∷ rest) (Include is_stdlib ∷ others)
@@ -62,28 +65,45 @@ pub data ItemsThin (k : Kept) (raw other : RawProgram) : Scope → List RawItem 
       → ItemsThin k raw other scope (Global l v i is_static ∷ rest) others
   prototype : {scope : Scope} {l : ℕ} {head : RawHead} {rest others : List RawItem}
       → k.function head.name ≡ true → ItemsThin k raw other (after_item raw (Prototype l head) scope) rest others
-      → ItemsThin k raw other scope (Prototype l head ∷ rest) (Prototype l head ∷ others)
+      → ItemsThin k raw other scope (Prototype l head ∷ rest) (Prototype l (head_left (heads_of k) head) ∷ others)
   prototype_goes : {scope : Scope} {l : ℕ} {head : RawHead} {rest others : List RawItem}
       → k.function head.name ≡ false → ItemsThin k raw other (after_item raw (Prototype l head) scope) rest others
       → ItemsThin k raw other scope (Prototype l head ∷ rest) others
   define : {scope : Scope} {l : ℕ} {head : RawHead} {body some : List RawStatement} {rest others : List RawItem}
-      → k.function head.name ≡ true → ParamsStay k raw head.params (scope_of_parameters head scope) → ThinAll k raw other (entered raw head scope) body some
-      → EndsToo head body some → ItemsThin k raw other (after_item raw (Define l head body) scope) rest others
-      → ItemsThin k raw other scope (Define l head body ∷ rest) (Define l head some ∷ others)
+      → k.function head.name ≡ true → ParamsFit k raw head.name 0 head.params (scope_of_parameters head scope) → ThinAll k raw other (entered raw head scope) body some
+      → EndsToo (heads_of k) head body some → ItemsThin k raw other (after_item raw (Define l head body) scope) rest others
+      → ItemsThin k raw other scope (Define l head body ∷ rest) (Define l (head_left (heads_of k) head) some ∷ others)
   define_goes : {scope : Scope} {l : ℕ} {head : RawHead} {body : List RawStatement} {rest others : List RawItem}
-      → k.function head.name ≡ false → ParamsGo k raw head.params (scope_of_parameters head scope) → ThinAll k raw raw (entered raw head scope) body []
+      → k.function head.name ≡ false → ParamsGo k raw head.params (scope_of_parameters head scope) → ThinAll k raw other (entered raw head scope) body []
       → ItemsThin k raw other (after_item raw (Define l head body) scope) rest others
       → ItemsThin k raw other scope (Define l head body ∷ rest) others
 
--- the other text is what stays of the text, and main stays
-pub record IsThinner (k : Kept) (raw other : RawProgram) : Type 0 where
+-- the other text is what stays of the text, and main stays with its result
+pub record IsThinner (k : Kept Bytes) (raw other : RawProgram) : Type 0 where
   pub items : ItemsThin k raw other outset raw.items other.items
   pub main : k.function main_name ≡ true
+  pub result : k.gives main_name ≡ true
+
+-- the parameters of each definition have names
+abbrev pub is_named : RawItem → Bool
+is_named (Define l head body) = are_named head.params
+is_named _ = true
+
+abbrev pub NamesParameters : RawProgram → Type 0
+NamesParameters raw = all_true (map is_named raw.items) ≡ true
 
 -- ---- where all is kept
 
-abbrev pub all_kept : Kept
-all_kept = record { variable = λ n. true; statement = λ n. true; result = λ n. true; function = λ x. true }
+abbrev pub all_kept : Kept Bytes
+all_kept = record {
+  variable = λ n. true;
+  statement = λ n. true;
+  result = λ n. true;
+  argument = λ i n. true;
+  function = λ x. true;
+  parameter = λ x n. true;
+  gives = λ x. true;
+}
 
 abbrev pub is_cons : List Bool → Bool
 is_cons [] = false

@@ -1,5 +1,5 @@
 -- What stays of statements where this is kept, and what it needs.
-use Rattle.std.specs.Prelude.{ℕ, option_map, Bool, true, false, List, [], ◌∷◌, ◌++◌, map, Option, Some, None, decimal}
+use Rattle.std.specs.Prelude.{◌≡◌, ℕ, ◌<◌, length, option_map, Bool, true, false, List, [], ◌∷◌, ◌++◌, map, Option, Some, None, decimal}
 use Rattle.c_language.specs.TypeGrammar.{is_written}
 use Rattle.c_tree.specs.declared.raw.expr.RawExpr.{RawExpr}
 use Rattle.c_tree.specs.declared.raw.expr.RawExpr.TheVariants as e
@@ -27,9 +27,11 @@ use Rattle.c_language.specs.DeclaredTypes.{item_count}
 use Rattle.c_language.specs.Scopes.{Scope, Scoped, with_variable, opened, numbered, in_order, after_block, part_gives, scope_of_test, scope_of_body, after_step, after_arm}
 use Rattle.c_language.specs.Phrases.{InBlock, Part, Declares, Begins, Assigns, Bumps, Calls, Allocates, Tests, Switches, Returns}
 use Rattle.c_language.specs.Uses.{is_library_function}
+use Rattle.c_language.specs.CallRules.{head_around}
+use Rattle.c_tree.specs.declared.raw.program.RawHead.{RawHead}
 use Rattle.c_scope_laws.specs.Agreement.{IsCount}
 use Rattle.projection.specs.Kept.{Kept}
-use Rattle.c_scope_laws.specs.Thinning.{NamesStay, LabelsStay, declares}
+use Rattle.c_scope_laws.specs.Thinning.{NamesStay, LabelsStay, declares, kept_args}
 use Rattle.c_language.specs.StatementGrammar.{arm}
 
 -- ---- what is needed of what is kept
@@ -40,18 +42,24 @@ pub data Need : Type 0 where
   Names : (scope : Scope) → (part : Part) → Need
   -- labels stay
   Labels : (scope : Scope) → (labels : List RawLabel) → Need
+  -- a call stays: the arguments that it keeps are those of the parameters that the function keeps
+  Passes : (function : Bytes) → (args : List RawArg) → (statement : ℕ) → Need
+  -- a call stays with its result, or a return of a value in this function: the function gives a result still
+  Gives : (function : Bytes) → Need
   -- the number of a list's items is written as a length
   Counts : (items : ℕ) → Need
   -- a statement is kept, and what it stands in isn't, or what it declares isn't: never met
   Strays : (x : RawStatement) → Need
 
-abbrev pub IsMet : Kept → Need → Type 0
+abbrev pub IsMet : Kept Bytes → Need → Type 0
 IsMet k (Names scope part) = NamesStay k scope part
 IsMet k (Labels scope labels) = LabelsStay k scope labels
+IsMet k (Passes f args n) = (i : ℕ) → i < length args → k.argument n i ≡ k.parameter f i
+IsMet k (Gives f) = k.gives f ≡ true
 IsMet k (Counts items) = IsCount items (e.Constant (decimal items))
 IsMet k (Strays x) = ⊥
 
-abbrev pub AreMet : Kept → List Need → Type 0
+abbrev pub AreMet : Kept Bytes → List Need → Type 0
 AreMet k [] = Unit {0}
 AreMet k (n ∷ ns) = IsMet k n × AreMet k ns
 
@@ -61,7 +69,7 @@ AreMet k (n ∷ ns) = IsMet k n × AreMet k ns
 pub record Left : Type 0 where
   pub some : List RawStatement
   pub needs : List Need
-  -- it is one statement without parts that declares nothing, and stays as it is
+  -- it is one statement without parts that declares nothing; a call may have lost arguments, and what its result is stored in
   pub is_plain : Bool
 
 -- of an arm
@@ -180,6 +188,27 @@ abbrev pub plain : Bool → RawStatement-F RawStatement RawArm → Scope → Par
 plain true x scope part = record { some = roll-RawStatement x ∷ []; needs = Names scope part ∷ []; is_plain = true }
 plain false x scope part = nothing
 
+-- one that needs more
+abbrev pub plain_with : Bool → List Need → RawStatement-F RawStatement RawArm → Scope → Part → Left
+plain_with true needs x scope part = record { some = roll-RawStatement x ∷ []; needs = Names scope part ∷ needs; is_plain = true }
+plain_with false needs x scope part = nothing
+
+-- what a call of a function needs that isn't of the library, by whether it is
+abbrev pub passes : Bool → Bytes → List RawArg → ℕ → List Need
+passes true f args n = []
+passes false f args n = Passes f args n ∷ []
+
+-- and where it keeps its result
+abbrev pub gives : Bool → Bytes → List Need
+gives true f = []
+gives false f = Gives f ∷ []
+
+-- what a return needs in this function
+abbrev pub return_needs : Option RawHead → Option RawExpr → List Need
+return_needs around None = []
+return_needs None (Some e) = []
+return_needs (Some h) (Some e) = Gives h.name ∷ []
+
 module _ (raw : RawProgram) where
   -- whether the variable is kept, and the initialiser
   abbrev pub declared : Bool → Bool → ℕ → RawVar → RawInit → Scope → Left
@@ -188,22 +217,23 @@ module _ (raw : RawProgram) where
   declared false true l v i scope = these [] (Strays (s.Declare l v i) ∷ [])
   declared false false l v i scope = nothing
 
-  -- whether the result of a call is kept, and the call
-  abbrev pub call_placed : Bool → Bool → ℕ → RawExpr → Bytes → List RawArg → Scope → Left
-  call_placed true kept l a f args scope = plain kept (RawStatement-F.Call l (target.Place a) f args) scope (Calls InBlock (target.Place a) f args)
-  call_placed false true l a f args scope = these (s.Call l target.None f args ∷ []) (Names scope (Calls InBlock target.None f args) ∷ [])
-  call_placed false false l a f args scope = nothing
+  -- whether the result of a call is kept, and the call, with what it needs and with what its result needs
+  abbrev pub call_placed : Bool → Bool → List Need → List Need → ℕ → RawExpr → Bytes → List RawArg → Scope → Left
+  call_placed true kept needs results l a f args scope = plain_with kept (needs ++ results) (RawStatement-F.Call l (target.Place a) f args) scope (Calls InBlock (target.Place a) f args)
+  call_placed false true needs results l a f args scope =
+      record { some = s.Call l target.None f args ∷ []; needs = Names scope (Calls InBlock target.None f args) ∷ needs; is_plain = true }
+  call_placed false false needs results l a f args scope = nothing
 
   -- whether the variable is kept, the call, and its result
-  abbrev pub call_declared : Bool → Bool → Bool → ℕ → RawVar → Bytes → List RawArg → Scope → Left
-  call_declared true true true l v f args scope =
-      these (s.Call l (target.Declared v) f args ∷ []) (Names scope (Declares InBlock v init.None) ∷ (Names (with_variable raw v init.None scope) (Calls InBlock (target.Declared v) f args) ∷ []))
-  call_declared true true false l v f args scope =
-      these (s.Declare l v init.None ∷ (s.Call l target.None f args ∷ [])) (Names scope (Declares InBlock v init.None) ∷ (Names (with_variable raw v init.None scope) (Calls InBlock target.None f args) ∷ []))
-  call_declared false true true l v f args scope = these [] (Strays (s.Call l (target.Declared v) f args) ∷ [])
-  call_declared false true false l v f args scope = these (s.Call l target.None f args ∷ []) (Names (with_variable raw v init.None scope) (Calls InBlock target.None f args) ∷ [])
-  call_declared true false result l v f args scope = these (s.Declare l v init.None ∷ []) (Names scope (Declares InBlock v init.None) ∷ [])
-  call_declared false false result l v f args scope = nothing
+  abbrev pub call_declared : Bool → Bool → Bool → List Need → List Need → ℕ → RawVar → Bytes → List RawArg → Scope → Left
+  call_declared true true true needs results l v f args scope =
+      these (s.Call l (target.Declared v) f args ∷ []) (Names scope (Declares InBlock v init.None) ∷ (Names (with_variable raw v init.None scope) (Calls InBlock (target.Declared v) f args) ∷ (needs ++ results)))
+  call_declared true true false needs results l v f args scope =
+      these (s.Declare l v init.None ∷ (s.Call l target.None f args ∷ [])) (Names scope (Declares InBlock v init.None) ∷ (Names (with_variable raw v init.None scope) (Calls InBlock target.None f args) ∷ needs))
+  call_declared false true true needs results l v f args scope = these [] (Strays (s.Call l (target.Declared v) f args) ∷ [])
+  call_declared false true false needs results l v f args scope = these (s.Call l target.None f args ∷ []) (Names (with_variable raw v init.None scope) (Calls InBlock target.None f args) ∷ needs)
+  call_declared true false result needs results l v f args scope = these (s.Declare l v init.None ∷ []) (Names scope (Declares InBlock v init.None) ∷ [])
+  call_declared false false result needs results l v f args scope = nothing
 
   -- whether the variable is kept, and the allocation
   abbrev pub heap_declared : Bool → Bool → ℕ → RawVar → Option RawTypeName → RawAmount → Scope → Left
@@ -238,17 +268,19 @@ abbrev pub result_kept : Bool → Bool → Bool
 result_kept true result = true
 result_kept false result = result
 
-module _ (k : Kept) (raw : RawProgram) where
+module _ (k : Kept Bytes) (raw : RawProgram) where
   abbrev pub declare_left : ℕ → RawVar → RawInit → Scope → Left
   declare_left l v init.None scope = declared raw (k.variable scope.variables) (k.variable scope.variables) l v init.None scope
   declare_left l v (init.One a) scope = declared raw (k.variable scope.variables) (k.statement scope.statements) l v (init.One a) scope
   declare_left l v (init.Items all) scope = declared raw (k.variable scope.variables) (k.statement scope.statements) l v (init.Items all) scope
 
   abbrev pub call_left : ℕ → RawTarget → Bytes → List RawArg → Scope → Left
-  call_left l target.None f args scope = plain (k.statement scope.statements) (RawStatement-F.Call l target.None f args) scope (Calls InBlock target.None f args)
-  call_left l (target.Place a) f args scope = call_placed raw (result_kept (is_library_function f) (k.result scope.statements)) (k.statement scope.statements) l a f args scope
+  call_left l target.None f args scope =
+      plain_with (k.statement scope.statements) (passes (is_library_function f) f args scope.statements) (RawStatement-F.Call l target.None f (kept_args k f scope.statements args)) scope (Calls InBlock target.None f (kept_args k f scope.statements args))
+  call_left l (target.Place a) f args scope =
+      call_placed raw (result_kept (is_library_function f) (k.result scope.statements)) (k.statement scope.statements) (passes (is_library_function f) f args scope.statements) (gives (is_library_function f) f) l a f (kept_args k f scope.statements args) scope
   call_left l (target.Declared v) f args scope =
-      call_declared raw (k.variable scope.variables) (k.statement scope.statements) (result_kept (is_library_function f) (k.result scope.statements)) l v f args scope
+      call_declared raw (k.variable scope.variables) (k.statement scope.statements) (result_kept (is_library_function f) (k.result scope.statements)) (passes (is_library_function f) f args scope.statements) (gives (is_library_function f) f) l v f (kept_args k f scope.statements args) scope
 
   abbrev pub heap_left : ℕ → RawTarget → Option RawTypeName → RawAmount → Scope → Left
   heap_left l target.None cast n scope = plain (k.statement scope.statements) (RawStatement-F.Heap l target.None cast n) scope (Allocates target.None cast n)
@@ -272,7 +304,7 @@ module _ (k : Kept) (raw : RawProgram) where
       for_left raw (k.statement scope.statements) l (part_gives i (opened (numbered scope))) a (part_gives step (scope_of_test i scope)) (block_left b (scope_of_body i step scope)) (scope_of_test i scope)
   left_step (RawStatement-F.Switch l a arms) scope = switch_left raw (k.statement scope.statements) l a (in_order arms (opened (numbered scope))) scope
   left_step (RawStatement-F.Block l b) scope = these (block_of l (block_left b scope).some) (block_left b scope).needs
-  left_step (RawStatement-F.Return l a) scope = plain (k.statement scope.statements) (RawStatement-F.Return l a) scope (Returns a)
+  left_step (RawStatement-F.Return l a) scope = plain_with (k.statement scope.statements) (return_needs (head_around raw scope) a) (RawStatement-F.Return l a) scope (Returns a)
 
   abbrev pub left_scoped : RawStatement-F (Scoped Left) (Scoped ArmLeft) → Scoped Left
   left_scoped x = record { gives = left_step x; after = after_step raw x }

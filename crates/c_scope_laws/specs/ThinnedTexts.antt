@@ -7,28 +7,30 @@ use Rattle.c_tree.specs.declared.raw.program.RawItem.{RawItem}
 use Rattle.c_tree.specs.declared.raw.program.RawItem.TheVariants.{Include, Tag, Struct, Global, Prototype, Define}
 use Rattle.c_tree.specs.declared.raw.program.RawProgram.{RawProgram}
 use Rattle.c_tree.specs.declared.raw.statement.RawStatement.{RawStatement}
+use Rattle.c_language.specs.Words.{Bytes}
 use Rattle.c_language.specs.Scopes.{Scope, outset, with_variable, scope_of_parameters, entered}
 use Rattle.c_language.specs.Phrases.{InFile, Declares, Begins, scoped, after_item}
 use Rattle.c_language.specs.NameRules.{main_name}
 use Rattle.c_language.specs.CallRules.{EndsWithValue}
 use Rattle.projection.specs.Kept.{Kept}
-use Rattle.c_scope_laws.specs.Thinning.{NamesStay}
-use Rattle.c_scope_laws.specs.ThinTexts.{ParamsStay, ParamsGo, MembersStay}
+use Rattle.c_scope_laws.specs.Agreement.{head_left}
+use Rattle.c_scope_laws.specs.Thinning.{NamesStay, heads_of}
+use Rattle.c_scope_laws.specs.ThinTexts.{ParamsFit, ParamsGo, MembersStay}
 use Rattle.c_scope_laws.specs.ThinnedBodies.{AreMet, gone, body_left}
 
 abbrev pub chosen : Bool → RawItem → List RawItem
 chosen true x = x ∷ []
 chosen false x = []
 
-module _ (k : Kept) (raw : RawProgram) where
+module _ (k : Kept Bytes) (raw : RawProgram) where
   -- what stays of an item in a scope
   abbrev pub item_left : RawItem → Scope → List RawItem
   item_left (Include is_stdlib) scope = Include is_stdlib ∷ []
   item_left (Tag l w) scope = Tag l w ∷ []
   item_left (Struct l w members) scope = Struct l w members ∷ []
   item_left (Global l v i is_static) scope = chosen (k.variable scope.variables) (Global l v i is_static)
-  item_left (Prototype l head) scope = chosen (k.function head.name) (Prototype l head)
-  item_left (Define l head body) scope = chosen (k.function head.name) (Define l head (body_left k raw body (entered raw head scope)).some)
+  item_left (Prototype l head) scope = chosen (k.function head.name) (Prototype l (head_left (heads_of k) head))
+  item_left (Define l head body) scope = chosen (k.function head.name) (Define l (head_left (heads_of k) head) (body_left k raw body (entered raw head scope)).some)
 
   abbrev pub items_left : List RawItem → Scope → List RawItem
   items_left [] scope = []
@@ -47,11 +49,11 @@ module _ (k : Kept) (raw : RawProgram) where
   LastStays (x ∷ []) scope = k.statement scope.statements ≡ true
   LastStays (x ∷ (y ∷ rest)) scope = LastStays (y ∷ rest) ((scoped raw x).after scope)
 
-  -- a function stays with its parameters, and with the return that it ends with, which main may lose
+  -- a function stays with the variables of the parameters that stay and, where it gives a result still, with the return that it ends with, which main may lose
   pub record FunctionStays (head : RawHead) (body : List RawStatement) (scope : Scope) : Type 0 where
-    pub parameters : ParamsStay k raw head.params (scope_of_parameters head scope)
+    pub parameters : ParamsFit k raw head.name 0 head.params (scope_of_parameters head scope)
     pub statements : AreMet k (body_left k raw body (entered raw head scope)).needs
-    pub result : head.name ≢ main_name → EndsWithValue body → LastStays body (entered raw head scope)
+    pub result : k.gives head.name ≡ true → head.name ≢ main_name → EndsWithValue body → LastStays body (entered raw head scope)
 
   -- nothing is kept of a function that goes
   pub record FunctionGoes (head : RawHead) (body : List RawStatement) (scope : Scope) : Type 0 where
@@ -71,10 +73,11 @@ module _ (k : Kept) (raw : RawProgram) where
   ItemsAreClosed (x ∷ xs) scope = ItemIsClosed x scope × ItemsAreClosed xs (after_item raw x scope)
 
 -- the thinner text
-abbrev pub thinned_text : Kept → RawProgram → RawProgram
+abbrev pub thinned_text : Kept Bytes → RawProgram → RawProgram
 thinned_text k raw = record { items = items_left k raw raw.items outset }
 
--- what is kept is a text: all that it names is kept, what stands in something that is kept, and main
-pub record KeepsText (k : Kept) (raw : RawProgram) : Type 0 where
+-- what is kept is a text: all that it names is kept, what stands in something that is kept, and main with its result
+pub record KeepsText (k : Kept Bytes) (raw : RawProgram) : Type 0 where
   pub items : ItemsAreClosed k raw raw.items outset
   pub main : k.function main_name ≡ true
+  pub result : k.gives main_name ≡ true

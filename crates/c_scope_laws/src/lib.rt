@@ -1,9 +1,10 @@
 //! What is said of a phrase depends on its place by the names that occur in it alone.
 //!
-//! A smaller text lacks statements, declarations and functions of another one, so that what it
-//! keeps stands in other scopes and has other numbers. Each function is a law on two such texts,
-//! and holds no code: its contract is the law (`specs/Laws`), over the definitions of `specs/Agreement`
-//! and `specs/Thinning`, and those of projection on other numbers.
+//! A smaller text lacks statements, declarations and functions of another one, arguments of calls,
+//! parameters and results of functions, so that what it keeps stands in other scopes and has other
+//! numbers. Each function is a law on two such texts, and holds no code: its contract is the law
+//! (`specs/Laws`), over the definitions of `specs/Agreement` and `specs/Thinning`, and those of
+//! projection on other numbers.
 #![tactic(auto)]
 
 ghost use Rattle.c_scope_laws.specs.Laws.{AmountsAgree, ArgsAgree, BodiesStay, BodiesThin, ExprsAgree, InitialisersDrop, InitsAgree, LabelsAgree, OperandsAgree, ProgramsThin, RulesAgree, SimpleTreesAgree, SwitchTypesAgree, TargetsAgree, ThinnerKeepsRules, ThinnerProgram, ThinnerText, TreesKeepNames, WholeIsClosed, WholeStays, WrittenStays};
@@ -61,7 +62,8 @@ pub fn simple_trees_agree()
 {}
 
 /// A law: a phrase breaks each rule that is broken by what stands for it at a place of the other
-/// text that agrees on its names.
+/// text that agrees on its names, where heads of functions and calls lose the same parameters, and a
+/// function loses its result only with all that uses it.
 pub fn rules_agree()
     ensures { RulesAgree }
 {}
@@ -78,7 +80,8 @@ pub fn written_stays()
     ensures { WrittenStays }
 {}
 
-/// A law: what stays of a text that keeps all rules keeps all rules, where what it names stays too.
+/// A law: what stays of a text that keeps all rules keeps all rules, where what it names stays too,
+/// calls keep the arguments of the parameters that stay, and functions whose result is used keep it.
 pub fn thinner_keeps_rules()
     ensures { ThinnerKeepsRules }
 {}
@@ -88,7 +91,8 @@ pub fn bodies_thin()
     ensures { BodiesThin }
 {}
 
-/// A law: the program of what stays of a text is what stays of the program of the text.
+/// A law: the program of what stays of a text is what stays of the program of the text, where the
+/// parameters of definitions have names.
 pub fn programs_thin()
     ensures { ProgramsThin }
 {}

@@ -1,29 +1,32 @@
--- What stays of a kept statement, form by form: one statement, with the same line and words.
-use Rattle.std.proofs.Common.{◌≡◌, ◌==◌, ℕ, List, [], ◌∷◌, ◌++◌, map, Option, Some, None, Bool, true, false, ◌&&◌, ◌||◌, codes, refl, sym, ap, ◌∙◌, eq-eqb, ap₂}
+-- What stays of a kept statement, form by form: a statement with the same line, and with the words that are kept.
+use Rattle.std.proofs.Common.{◌≡◌, ◌==◌, ℕ, List, [], ◌∷◌, ◌++◌, map, Option, Some, None, Bool, true, false, ◌&&◌, ◌||◌, codes, refl, sym, ap, ◌∙◌, eq-eqb, ap₂, subst}
 use Rattle.std.specs.Prelude.{option_map}
 use Rattle.std.proofs.lemmas.Bool.{or_left, and_from}
 use Rattle.c_tree.specs.declared.expr.Expr.{Expr}
 use Rattle.c_tree.specs.declared.program.Program.{Program}
 use Rattle.c_tree.specs.declared.statement.Arm.{Arm, fold-Arm}
 use Rattle.c_tree.specs.declared.statement.Statement.{Statement, out-Statement, roll-Statement, map-Statement, fold-Statement, fold-roll-Statement}
-use Rattle.c_tree.specs.declared.statement.Statement.TheViews.{roll-out-Statement}
+use Rattle.c_tree.specs.declared.statement.Statement.TheViews.{roll-out-Statement, out-roll-Statement}
 use Rattle.c_tree.specs.declared.statement.Statement.TheOpen.{Statement-F, Arm-F}
 use Rattle.c_tree.specs.declared.statement.Statement.TheVariants as s
+use Rattle.c_tree.specs.declared.statement.Target.{Target}
 use Rattle.c_tree.specs.declared.statement.Target.TheVariants as target
 use Rattle.c_tree.specs.declared.numbered.Start.{Start}
-use Rattle.c_tree.specs.Numbered.{start, layer_start}
+use Rattle.c_tree.specs.Numbered.{start, layer_start, StandsIn}
+use Rattle.c_tree.specs.Numbered.StandsIn.{here}
+use Rattle.c_tree.proofs.SearchLemmas.{stands_right}
 use Rattle.c_language.specs.Words.{Bytes, assign_sign, name_of_function, expr_words}
 use Rattle.c_language.specs.Layout.{init_words, var_words, target_words, amount_words, cast_words, call_words, bump_words, return_words, Laid, statement_step, arm_step, laid, statement_words, arm_laid}
 use Rattle.c_language.proofs.Options.{none_there, some_same}
-use Rattle.projection.specs.Kept.{rank}
+use Rattle.projection.specs.Kept.{Kept, rank, chosen as chosen_places}
 use Rattle.c_language.specs.Names.{names, any_names, init_names, target_names, amount_names, value_names}
 use Rattle.projection.specs.Names.{refers_step, refers, arm_refers}
 use Rattle.projection.specs.Renumbering.{renamed, renamed_init, renamed_target, renamed_amount}
-use Rattle.projection.specs.Projection.{first_statement, projected_step, projected, projected_arm, projected_all}
+use Rattle.projection.specs.Projection.{if_so, first_statement, bare_target, called, projected_step, projected, projected_arm, projected_all}
 use Rattle.projection.proofs.NamesPass.{NamesPass, left_pass, right_pass}
-use Rattle.own_words.specs.OwnWords.{layer_words, own_words}
+use Rattle.own_words.specs.OwnWords.{layer_words, own_words, left_side, layer_kept, kept_part, words_kept}
 use Rattle.own_words.proofs.Lists.{three}
-use Rattle.own_words.proofs.Words.{same_numbers, kept, staying, ranked, smaller, var_words_same, expr_says, all_say, function_same, cast_same, init_says, target_says, amount_says, return_says}
+use Rattle.own_words.proofs.Words.{staying, ranked, numbers, smaller, var_words_same, expr_says, all_say, function_same, cast_same, init_says, target_says, amount_says, return_says}
 use Rattle.c_scope_laws.proofs.TreeLevels.{chosen}
 
 -- a fold of a statement is one of its layer
@@ -98,20 +101,51 @@ module _ (q : Program) (x : Statement) where
   pub own_text : own_words q x ≡ text q (out-Statement x)
   own_text = layer_text (out-Statement x) refl
 
+-- ---- what is kept
+
+module _ (k : Kept ℕ) where
+  -- the layer of what is kept of a statement
+  abbrev pub kept_layer : Statement-F Statement Arm → Statement-F Statement Arm
+  kept_layer (Statement-F.Invoke id l to f args) = Statement-F.Invoke id l (left_side (k.result id) to) f (chosen_places (k.argument id) 0 args)
+  kept_layer z = z
+
+  out_kept : (x : Statement) (z : Statement-F Statement Arm) → out-Statement x ≡ z → out-Statement (layer_kept k x z) ≡ kept_layer z
+  out_kept x (Statement-F.Declare id l y i) is = is
+  out_kept x (Statement-F.Assign id l a op b) is = is
+  out_kept x (Statement-F.Bump id l a up before) is = is
+  out_kept x (Statement-F.Invoke id l to f args) is =
+      ap out-Statement (sym (s.rolls-Invoke id l (left_side (k.result id) to) f (chosen_places (k.argument id) 0 args))) ∙ out-roll-Statement (Statement-F.Invoke id l (left_side (k.result id) to) f (chosen_places (k.argument id) 0 args))
+  out_kept x (Statement-F.Fetch id l to) is = is
+  out_kept x (Statement-F.Write id l a) is = is
+  out_kept x (Statement-F.Print id l format args) is = is
+  out_kept x (Statement-F.Heap id l to cast n) is = is
+  out_kept x (Statement-F.Release id l a) is = is
+  out_kept x (Statement-F.If id l e a b) is = is
+  out_kept x (Statement-F.While id l e b) is = is
+  out_kept x (Statement-F.Do id l e b) is = is
+  out_kept x (Statement-F.For id l i e step b) is = is
+  out_kept x (Statement-F.Switch id l e arms) is = is
+  out_kept x (Statement-F.Block l b) is = is
+  out_kept x (Statement-F.Return id l a) is = is
+
+  -- the words that are kept of a statement
+  pub kept_text : (q : Program) (x : Statement) → own_words q (kept_part k x) ≡ text q (kept_layer (out-Statement x))
+  kept_text q x = own_text q (kept_part k x) ∙ ap (text q) (out_kept x (out-Statement x) refl)
+
 -- ---- what stays
 
-module _ (p : Program) (keeps : ℕ → Bool) where
+module _ (p : Program) (k : Kept ℕ) where
   abbrev pub left : Statement → List Statement
-  left = projected (kept p keeps) same_numbers
+  left = projected k (numbers p k)
 
   abbrev pub arm_left : Arm → Arm
-  arm_left = projected_arm (kept p keeps) same_numbers
+  arm_left = projected_arm k (numbers p k)
 
   abbrev pub all_left : List Statement → List Statement
-  all_left = projected_all (kept p keeps) same_numbers
+  all_left = projected_all k (numbers p k)
 
   abbrev new : Expr → Expr
-  new = renamed (ranked p keeps)
+  new = renamed (ranked p k)
 
   abbrev pub part_left : Option Statement → Option Statement
   part_left None = None
@@ -119,59 +153,64 @@ module _ (p : Program) (keeps : ℕ → Bool) where
 
   -- the layer of what stays of a kept statement
   abbrev pub left_layer : Statement-F Statement Arm → Statement-F Statement Arm
-  left_layer (Statement-F.Declare id l x i) = Statement-F.Declare (option_map (rank keeps) id) l (ranked p keeps x) (renamed_init (ranked p keeps) i)
-  left_layer (Statement-F.Assign id l a op b) = Statement-F.Assign (rank keeps id) l (new a) op (new b)
-  left_layer (Statement-F.Bump id l a up before) = Statement-F.Bump (rank keeps id) l (new a) up before
-  left_layer (Statement-F.Invoke id l to f args) = Statement-F.Invoke (rank keeps id) l (renamed_target (ranked p keeps) to) (same_numbers f) (map new args)
-  left_layer (Statement-F.Fetch id l to) = Statement-F.Fetch (rank keeps id) l (renamed_target (ranked p keeps) to)
-  left_layer (Statement-F.Write id l a) = Statement-F.Write (rank keeps id) l (new a)
-  left_layer (Statement-F.Print id l format args) = Statement-F.Print (rank keeps id) l format (map new args)
-  left_layer (Statement-F.Heap id l to cast n) = Statement-F.Heap (rank keeps id) l (renamed_target (ranked p keeps) to) cast (renamed_amount (ranked p keeps) n)
-  left_layer (Statement-F.Release id l a) = Statement-F.Release (rank keeps id) l (new a)
-  left_layer (Statement-F.If id l e a b) = Statement-F.If (rank keeps id) l (new e) (all_left a) (all_left b)
-  left_layer (Statement-F.While id l e b) = Statement-F.While (rank keeps id) l (new e) (all_left b)
-  left_layer (Statement-F.Do id l e b) = Statement-F.Do (rank keeps id) l (new e) (all_left b)
-  left_layer (Statement-F.For id l i e step b) = Statement-F.For (rank keeps id) l (part_left i) (new e) (part_left step) (all_left b)
-  left_layer (Statement-F.Switch id l e arms) = Statement-F.Switch (rank keeps id) l (new e) (map arm_left arms)
+  left_layer (Statement-F.Declare id l x i) = Statement-F.Declare (option_map (rank k.statement) id) l (ranked p k x) (renamed_init (ranked p k) i)
+  left_layer (Statement-F.Assign id l a op b) = Statement-F.Assign (rank k.statement id) l (new a) op (new b)
+  left_layer (Statement-F.Bump id l a up before) = Statement-F.Bump (rank k.statement id) l (new a) up before
+  left_layer (Statement-F.Invoke id l to f args) = Statement-F.Invoke (rank k.statement id) l (renamed_target (ranked p k) (left_side (k.result id) to)) (numbers p k f) (map new (chosen_places (k.argument id) 0 args))
+  left_layer (Statement-F.Fetch id l to) = Statement-F.Fetch (rank k.statement id) l (renamed_target (ranked p k) to)
+  left_layer (Statement-F.Write id l a) = Statement-F.Write (rank k.statement id) l (new a)
+  left_layer (Statement-F.Print id l format args) = Statement-F.Print (rank k.statement id) l format (map new args)
+  left_layer (Statement-F.Heap id l to cast n) = Statement-F.Heap (rank k.statement id) l (renamed_target (ranked p k) to) cast (renamed_amount (ranked p k) n)
+  left_layer (Statement-F.Release id l a) = Statement-F.Release (rank k.statement id) l (new a)
+  left_layer (Statement-F.If id l e a b) = Statement-F.If (rank k.statement id) l (new e) (all_left a) (all_left b)
+  left_layer (Statement-F.While id l e b) = Statement-F.While (rank k.statement id) l (new e) (all_left b)
+  left_layer (Statement-F.Do id l e b) = Statement-F.Do (rank k.statement id) l (new e) (all_left b)
+  left_layer (Statement-F.For id l i e step b) = Statement-F.For (rank k.statement id) l (part_left i) (new e) (part_left step) (all_left b)
+  left_layer (Statement-F.Switch id l e arms) = Statement-F.Switch (rank k.statement id) l (new e) (map arm_left arms)
   left_layer (Statement-F.Block l b) = Statement-F.Block l (all_left b)
-  left_layer (Statement-F.Return id l a) = Statement-F.Return (rank keeps id) l (option_map new a)
+  left_layer (Statement-F.Return id l a) = Statement-F.Return (rank k.statement id) l (option_map new a)
 
   abbrev pub step_left : Statement-F Statement Arm → List Statement
-  step_left z = projected_step (kept p keeps) same_numbers (map-Statement Statement Arm (List Statement) Arm left arm_left z)
+  step_left z = projected_step k (numbers p k) (map-Statement Statement Arm (List Statement) Arm left arm_left z)
 
-  pub same_kept : (id l i n : ℕ) → ◌≡◌ {A = Option Start} (Some (start id l)) (Some (start i n)) → keeps i ≡ true → keeps id ≡ true
-  same_kept id l i n is h = ap (λ (t : Start). keeps t.id) (some_same is) ∙ h
+  pub same_kept : (id l i n : ℕ) → ◌≡◌ {A = Option Start} (Some (start id l)) (Some (start i n)) → k.statement i ≡ true → k.statement id ≡ true
+  same_kept id l i n is h = ap (λ (t : Start). k.statement t.id) (some_same is) ∙ h
 
-  only : {x y : Statement} → x ≡ y → x ∷ [] ≡ y ∷ []
-  only e = ap (λ z. z ∷ []) e
+  -- what is left of it is this statement, behind others or not
+  stands_at : {x y : Statement} (xs : List Statement) {ws : List Statement} → ws ≡ xs ++ (x ∷ []) → x ≡ y → StandsIn ws y
+  stands_at {x} {y} xs is same = subst (λ ws. StandsIn ws y) (sym (is ∙ ap (λ z. xs ++ (z ∷ [])) same)) (stands_right xs here)
 
-  -- a kept statement leaves one statement
-  pub left_is : (z : Statement-F Statement Arm) (i n : ℕ) → layer_start z ≡ Some (start i n) → keeps i ≡ true → step_left z ≡ roll-Statement (left_layer z) ∷ []
+  called_is : (r : Bool) (id l : ℕ) (to : Target) (f : ℕ) (args : List Expr)
+      → StandsIn (if_so r (called k (numbers p k) id l (renamed_target (ranked p k) to) f args ∷ []) (bare_target k (numbers p k) l to ++ (called k (numbers p k) id l target.None f args ∷ []))) (roll-Statement (Statement-F.Invoke (rank k.statement id) l (renamed_target (ranked p k) (left_side r to)) (numbers p k f) (map new (chosen_places (k.argument id) 0 args))))
+  called_is true id l to f args = stands_at [] refl (sym (s.rolls-Invoke _ _ _ _ _))
+  called_is false id l to f args = stands_at (bare_target k (numbers p k) l to) refl (sym (s.rolls-Invoke _ _ _ _ _))
+
+  -- what is left of a kept statement holds one with its rank
+  pub left_is : (z : Statement-F Statement Arm) (i n : ℕ) → layer_start z ≡ Some (start i n) → k.statement i ≡ true → StandsIn (step_left z) (roll-Statement (left_layer z))
   left_is (Statement-F.Declare None l x a) i n is h = none_there is
-  left_is (Statement-F.Declare (Some id) l x a) i n is h = chosen _ _ (same_kept id l i n is h) ∙ only (sym (s.rolls-Declare _ _ _ _))
-  left_is (Statement-F.Assign id l a op b) i n is h = chosen _ _ (same_kept id l i n is h) ∙ only (sym (s.rolls-Assign _ _ _ _ _))
-  left_is (Statement-F.Bump id l a up before) i n is h = chosen _ _ (same_kept id l i n is h) ∙ only (sym (s.rolls-Bump _ _ _ _ _))
-  left_is (Statement-F.Invoke id l target.None f args) i n is h = chosen _ _ (same_kept id l i n is h) ∙ only (sym (s.rolls-Invoke _ _ _ _ _))
-  left_is (Statement-F.Invoke id l (target.Place a) f args) i n is h = chosen _ _ (same_kept id l i n is h) ∙ only (sym (s.rolls-Invoke _ _ _ _ _))
-  left_is (Statement-F.Invoke id l (target.Declared x) f args) i n is h = chosen _ _ (same_kept id l i n is h) ∙ only (sym (s.rolls-Invoke _ _ _ _ _))
-  left_is (Statement-F.Fetch id l to) i n is h = chosen _ _ (same_kept id l i n is h) ∙ only (sym (s.rolls-Fetch _ _ _))
-  left_is (Statement-F.Write id l a) i n is h = chosen _ _ (same_kept id l i n is h) ∙ only (sym (s.rolls-Write _ _ _))
-  left_is (Statement-F.Print id l format args) i n is h = chosen _ _ (same_kept id l i n is h) ∙ only (sym (s.rolls-Print _ _ _ _))
-  left_is (Statement-F.Heap id l to cast m) i n is h = chosen _ _ (same_kept id l i n is h) ∙ only (sym (s.rolls-Heap _ _ _ _ _))
-  left_is (Statement-F.Release id l a) i n is h = chosen _ _ (same_kept id l i n is h) ∙ only (sym (s.rolls-Release _ _ _))
-  left_is (Statement-F.If id l e a b) i n is h = chosen _ _ (same_kept id l i n is h) ∙ only (sym (s.rolls-If _ _ _ _ _))
-  left_is (Statement-F.While id l e b) i n is h = chosen _ _ (same_kept id l i n is h) ∙ only (sym (s.rolls-While _ _ _ _))
-  left_is (Statement-F.Do id l e b) i n is h = chosen _ _ (same_kept id l i n is h) ∙ only (sym (s.rolls-Do _ _ _ _))
-  left_is (Statement-F.For id l None e None b) i n is h = chosen _ _ (same_kept id l i n is h) ∙ only (sym (s.rolls-For _ _ _ _ _ _))
-  left_is (Statement-F.For id l None e (Some k) b) i n is h = chosen _ _ (same_kept id l i n is h) ∙ only (sym (s.rolls-For _ _ _ _ _ _))
-  left_is (Statement-F.For id l (Some a) e None b) i n is h = chosen _ _ (same_kept id l i n is h) ∙ only (sym (s.rolls-For _ _ _ _ _ _))
-  left_is (Statement-F.For id l (Some a) e (Some k) b) i n is h = chosen _ _ (same_kept id l i n is h) ∙ only (sym (s.rolls-For _ _ _ _ _ _))
-  left_is (Statement-F.Switch id l e arms) i n is h = chosen _ _ (same_kept id l i n is h) ∙ only (sym (s.rolls-Switch _ _ _ _))
+  left_is (Statement-F.Declare (Some id) l x a) i n is h = stands_at [] (chosen _ _ (same_kept id l i n is h)) (sym (s.rolls-Declare _ _ _ _))
+  left_is (Statement-F.Assign id l a op b) i n is h = stands_at [] (chosen _ _ (same_kept id l i n is h)) (sym (s.rolls-Assign _ _ _ _ _))
+  left_is (Statement-F.Bump id l a up before) i n is h = stands_at [] (chosen _ _ (same_kept id l i n is h)) (sym (s.rolls-Bump _ _ _ _ _))
+  left_is (Statement-F.Invoke id l to f args) i n is h =
+      subst (λ ws. StandsIn ws (roll-Statement (left_layer (Statement-F.Invoke id l to f args)))) (sym (chosen _ _ (same_kept id l i n is h))) (called_is (k.result id) id l to f args)
+  left_is (Statement-F.Fetch id l to) i n is h = stands_at [] (chosen _ _ (same_kept id l i n is h)) (sym (s.rolls-Fetch _ _ _))
+  left_is (Statement-F.Write id l a) i n is h = stands_at [] (chosen _ _ (same_kept id l i n is h)) (sym (s.rolls-Write _ _ _))
+  left_is (Statement-F.Print id l format args) i n is h = stands_at [] (chosen _ _ (same_kept id l i n is h)) (sym (s.rolls-Print _ _ _ _))
+  left_is (Statement-F.Heap id l to cast m) i n is h = stands_at [] (chosen _ _ (same_kept id l i n is h)) (sym (s.rolls-Heap _ _ _ _ _))
+  left_is (Statement-F.Release id l a) i n is h = stands_at [] (chosen _ _ (same_kept id l i n is h)) (sym (s.rolls-Release _ _ _))
+  left_is (Statement-F.If id l e a b) i n is h = stands_at [] (chosen _ _ (same_kept id l i n is h)) (sym (s.rolls-If _ _ _ _ _))
+  left_is (Statement-F.While id l e b) i n is h = stands_at [] (chosen _ _ (same_kept id l i n is h)) (sym (s.rolls-While _ _ _ _))
+  left_is (Statement-F.Do id l e b) i n is h = stands_at [] (chosen _ _ (same_kept id l i n is h)) (sym (s.rolls-Do _ _ _ _))
+  left_is (Statement-F.For id l None e None b) i n is h = stands_at [] (chosen _ _ (same_kept id l i n is h)) (sym (s.rolls-For _ _ _ _ _ _))
+  left_is (Statement-F.For id l None e (Some step) b) i n is h = stands_at [] (chosen _ _ (same_kept id l i n is h)) (sym (s.rolls-For _ _ _ _ _ _))
+  left_is (Statement-F.For id l (Some a) e None b) i n is h = stands_at [] (chosen _ _ (same_kept id l i n is h)) (sym (s.rolls-For _ _ _ _ _ _))
+  left_is (Statement-F.For id l (Some a) e (Some step) b) i n is h = stands_at [] (chosen _ _ (same_kept id l i n is h)) (sym (s.rolls-For _ _ _ _ _ _))
+  left_is (Statement-F.Switch id l e arms) i n is h = stands_at [] (chosen _ _ (same_kept id l i n is h)) (sym (s.rolls-Switch _ _ _ _))
   left_is (Statement-F.Block l b) i n is h = none_there is
-  left_is (Statement-F.Return id l a) i n is h = chosen _ _ (same_kept id l i n is h) ∙ only (sym (s.rolls-Return _ _ _))
+  left_is (Statement-F.Return id l a) i n is h = stands_at [] (chosen _ _ (same_kept id l i n is h)) (sym (s.rolls-Return _ _ _))
 
   abbrev pub ranked_start : Start → Start
-  ranked_start t = start (rank keeps t.id) t.line
+  ranked_start t = start (rank k.statement t.id) t.line
 
   -- its number is the rank, its line the same
   pub left_start : (z : Statement-F Statement Arm) → layer_start (left_layer z) ≡ option_map ranked_start (layer_start z)
@@ -194,50 +233,61 @@ module _ (p : Program) (keeps : ℕ → Bool) where
   left_start (Statement-F.Return id l a) = refl
 
   abbrev Passes : (ℕ → Bool) → Type 0
-  Passes named = NamesPass named (staying p keeps)
+  Passes named = NamesPass named (staying p k)
 
-  -- its words are the same, where all that they name stays
-  pub left_text : (z : Statement-F Statement Arm) → Passes (layer_names z) → text (smaller p keeps) (left_layer z) ≡ text p z
-  left_text (Statement-F.Declare id l x i) h =
-      ap₂ (λ v w. v ++ w) (var_words_same p keeps x (left_pass (λ v. x == v) (init_names i) h x (eq-eqb x x refl))) (init_says p keeps i (right_pass (λ v. x == v) (init_names i) h))
-  left_text (Statement-F.Assign id l a op b) h =
-      ap₂ (λ v w. v ++ (codes " " ++ (assign_sign op ++ (codes " " ++ w)))) (expr_says p keeps a (left_pass (names a) (names b) h)) (expr_says p keeps b (right_pass (names a) (names b) h))
-  left_text (Statement-F.Bump id l a up before) h = ap (λ w. bump_words w up before) (expr_says p keeps a h)
-  left_text (Statement-F.Invoke id l to f args) h =
-      three (λ u v w. u ++ call_words v w) (target_says p keeps to (left_pass (target_names to) (any_names args) h)) (function_same p keeps f) (all_say p keeps args (right_pass (target_names to) (any_names args) h))
-  left_text (Statement-F.Fetch id l to) h = ap (λ w. w ++ codes "getchar()") (target_says p keeps to h)
-  left_text (Statement-F.Write id l a) h = ap (λ w. call_words (codes "putchar") (w ∷ [])) (expr_says p keeps a h)
-  left_text (Statement-F.Print id l format args) h = ap (λ ws. call_words (codes "printf") (format ∷ ws)) (all_say p keeps args h)
-  left_text (Statement-F.Heap id l to cast n) h =
-      three (λ u v w. u ++ (v ++ call_words (codes "malloc") (w ∷ []))) (target_says p keeps to (left_pass (target_names to) (amount_names n) h)) (cast_same p keeps cast) (amount_says p keeps n (right_pass (target_names to) (amount_names n) h))
-  left_text (Statement-F.Release id l a) h = ap (λ w. call_words (codes "free") (w ∷ [])) (expr_says p keeps a h)
-  left_text (Statement-F.If id l e a b) h = ap (λ w. codes "if (" ++ (w ++ codes ")")) (expr_says p keeps e h)
-  left_text (Statement-F.While id l e b) h = ap (λ w. codes "while (" ++ (w ++ codes ")")) (expr_says p keeps e h)
-  left_text (Statement-F.Do id l e b) h = ap (λ w. codes "do while (" ++ (w ++ codes ")")) (expr_says p keeps e h)
-  left_text (Statement-F.For id l i e step b) h = ap (λ w. codes "for (; " ++ (w ++ codes ";)")) (expr_says p keeps e h)
-  left_text (Statement-F.Switch id l e arms) h = ap (λ w. codes "switch (" ++ (w ++ codes ")")) (expr_says p keeps e h)
-  left_text (Statement-F.Block l b) h = refl
-  left_text (Statement-F.Return id l a) h = return_says p keeps a h
+  -- a function stays that a kept call calls
+  abbrev pub CalledStays : Statement-F Statement Arm → Type 0
+  CalledStays (Statement-F.Invoke id l to f args) = k.statement id ≡ true → k.function f ≡ true
+  CalledStays z = Unit {0}
+
+  -- its words are those that are kept, where all that they name stays
+  pub left_text : (z : Statement-F Statement Arm) (i n : ℕ) → layer_start z ≡ Some (start i n) → k.statement i ≡ true → CalledStays z → Passes (layer_names (kept_layer k z)) → text (smaller p k) (left_layer z) ≡ text p (kept_layer k z)
+  left_text (Statement-F.Declare id l x a) i n is t c h =
+      ap₂ (λ v w. v ++ w) (var_words_same p k x (left_pass (λ v. x == v) (init_names a) h x (eq-eqb x x refl))) (init_says p k a (right_pass (λ v. x == v) (init_names a) h))
+  left_text (Statement-F.Assign id l a op b) i n is t c h =
+      ap₂ (λ v w. v ++ (codes " " ++ (assign_sign op ++ (codes " " ++ w)))) (expr_says p k a (left_pass (names a) (names b) h)) (expr_says p k b (right_pass (names a) (names b) h))
+  left_text (Statement-F.Bump id l a up before) i n is t c h = ap (λ w. bump_words w up before) (expr_says p k a h)
+  left_text (Statement-F.Invoke id l to f args) i n is t c h =
+      let side = left_side (k.result id) to in
+      let given = chosen_places (k.argument id) 0 args in
+      three (λ u v w. u ++ call_words v w) (target_says p k side (left_pass (target_names side) (any_names given) h)) (function_same p k f (c (same_kept id l i n is t))) (all_say p k given (right_pass (target_names side) (any_names given) h))
+  left_text (Statement-F.Fetch id l to) i n is t c h = ap (λ w. w ++ codes "getchar()") (target_says p k to h)
+  left_text (Statement-F.Write id l a) i n is t c h = ap (λ w. call_words (codes "putchar") (w ∷ [])) (expr_says p k a h)
+  left_text (Statement-F.Print id l format args) i n is t c h = ap (λ ws. call_words (codes "printf") (format ∷ ws)) (all_say p k args h)
+  left_text (Statement-F.Heap id l to cast m) i n is t c h =
+      three (λ u v w. u ++ (v ++ call_words (codes "malloc") (w ∷ []))) (target_says p k to (left_pass (target_names to) (amount_names m) h)) (cast_same p k cast) (amount_says p k m (right_pass (target_names to) (amount_names m) h))
+  left_text (Statement-F.Release id l a) i n is t c h = ap (λ w. call_words (codes "free") (w ∷ [])) (expr_says p k a h)
+  left_text (Statement-F.If id l e a b) i n is t c h = ap (λ w. codes "if (" ++ (w ++ codes ")")) (expr_says p k e h)
+  left_text (Statement-F.While id l e b) i n is t c h = ap (λ w. codes "while (" ++ (w ++ codes ")")) (expr_says p k e h)
+  left_text (Statement-F.Do id l e b) i n is t c h = ap (λ w. codes "do while (" ++ (w ++ codes ")")) (expr_says p k e h)
+  left_text (Statement-F.For id l first e step b) i n is t c h = ap (λ w. codes "for (; " ++ (w ++ codes ";)")) (expr_says p k e h)
+  left_text (Statement-F.Switch id l e arms) i n is t c h = ap (λ w. codes "switch (" ++ (w ++ codes ")")) (expr_says p k e h)
+  left_text (Statement-F.Block l b) i n is t c h = refl
+  left_text (Statement-F.Return id l a) i n is t c h = return_says p k a h
 
   abbrev pub step_refers : Statement-F Statement Arm → ℕ → Bool
-  step_refers z = refers_step keeps (map-Statement Statement Arm (ℕ → Bool) (ℕ → Bool) (refers keeps) (arm_refers keeps) z)
+  step_refers z = refers_step (words_kept k) (map-Statement Statement Arm (ℕ → Bool) (ℕ → Bool) (refers (words_kept k)) (arm_refers (words_kept k)) z)
 
-  -- a kept statement refers to what its own words name
-  pub own_refers : (z : Statement-F Statement Arm) (i n : ℕ) → layer_start z ≡ Some (start i n) → keeps i ≡ true → (v : ℕ) → layer_names z v ≡ true → step_refers z v ≡ true
+  sided : (r : Bool) (to : Target) (v : ℕ) (rest : Bool) → (target_names (left_side r to) v || rest) ≡ true → ((r && target_names to v) || rest) ≡ true
+  sided true to v rest m = m
+  sided false to v rest m = m
+
+  -- a kept statement refers to what the words that it keeps name
+  pub own_refers : (z : Statement-F Statement Arm) (i n : ℕ) → layer_start z ≡ Some (start i n) → k.statement i ≡ true → (v : ℕ) → layer_names (kept_layer k z) v ≡ true → step_refers z v ≡ true
   own_refers (Statement-F.Declare None l x a) i n is h v m = none_there is
   own_refers (Statement-F.Declare (Some id) l x a) i n is h v m = and_from _ _ (same_kept id l i n is h) m
   own_refers (Statement-F.Assign id l a op b) i n is h v m = and_from _ _ (same_kept id l i n is h) m
   own_refers (Statement-F.Bump id l a up before) i n is h v m = and_from _ _ (same_kept id l i n is h) m
-  own_refers (Statement-F.Invoke id l to f args) i n is h v m = and_from _ _ (same_kept id l i n is h) m
+  own_refers (Statement-F.Invoke id l to f args) i n is h v m = and_from _ _ (same_kept id l i n is h) (sided (k.result id) to v (any_names (chosen_places (k.argument id) 0 args) v) m)
   own_refers (Statement-F.Fetch id l to) i n is h v m = and_from _ _ (same_kept id l i n is h) m
   own_refers (Statement-F.Write id l a) i n is h v m = and_from _ _ (same_kept id l i n is h) m
   own_refers (Statement-F.Print id l format args) i n is h v m = and_from _ _ (same_kept id l i n is h) m
   own_refers (Statement-F.Heap id l to cast count) i n is h v m = and_from _ _ (same_kept id l i n is h) m
   own_refers (Statement-F.Release id l a) i n is h v m = and_from _ _ (same_kept id l i n is h) m
-  own_refers (Statement-F.If id l e a b) i n is h v m = or_left (keeps id && names e v) _ (and_from _ _ (same_kept id l i n is h) m)
-  own_refers (Statement-F.While id l e b) i n is h v m = or_left (keeps id && names e v) _ (and_from _ _ (same_kept id l i n is h) m)
-  own_refers (Statement-F.Do id l e b) i n is h v m = or_left (keeps id && names e v) _ (and_from _ _ (same_kept id l i n is h) m)
-  own_refers (Statement-F.For id l first e step b) i n is h v m = or_left (keeps id && names e v) _ (and_from _ _ (same_kept id l i n is h) m)
-  own_refers (Statement-F.Switch id l e arms) i n is h v m = or_left (keeps id && names e v) _ (and_from _ _ (same_kept id l i n is h) m)
+  own_refers (Statement-F.If id l e a b) i n is h v m = or_left (k.statement id && names e v) _ (and_from _ _ (same_kept id l i n is h) m)
+  own_refers (Statement-F.While id l e b) i n is h v m = or_left (k.statement id && names e v) _ (and_from _ _ (same_kept id l i n is h) m)
+  own_refers (Statement-F.Do id l e b) i n is h v m = or_left (k.statement id && names e v) _ (and_from _ _ (same_kept id l i n is h) m)
+  own_refers (Statement-F.For id l first e step b) i n is h v m = or_left (k.statement id && names e v) _ (and_from _ _ (same_kept id l i n is h) m)
+  own_refers (Statement-F.Switch id l e arms) i n is h v m = or_left (k.statement id && names e v) _ (and_from _ _ (same_kept id l i n is h) m)
   own_refers (Statement-F.Block l b) i n is h v m = none_there is
   own_refers (Statement-F.Return id l a) i n is h v m = and_from _ _ (same_kept id l i n is h) m

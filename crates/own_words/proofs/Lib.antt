@@ -4,4 +4,6 @@ pub mod Names
 pub mod Words
 pub mod Forms
 pub mod Parts
+pub mod WholeWords
 pub mod StandingWords
+pub mod SplitCalls

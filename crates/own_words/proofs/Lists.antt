@@ -1,5 +1,5 @@
 -- What stands in a list, and tests that hold of it.
-use Rattle.std.proofs.Common.{◌≡◌, ℕ, zero, suc, ◌<◌, List, [], ◌∷◌, ◌++◌, length, get_or, Contains, Bool, true, ◌⊎◌, inl, inr, refl, ap, ◌∙◌, subst, arith, ap₂}
+use Rattle.std.proofs.Common.{◌≡◌, ℕ, zero, suc, ◌<◌, List, [], ◌∷◌, ◌++◌, length, get_or, Contains, Bool, true, ◌⊎◌, inl, inr, refl, ap, ◌∙◌, subst, arith, ap₂, slice_get, Some}
 use Rattle.std.specs.List.{list_all, list_any}
 use Rattle.std.proofs.lemmas.Bool.{and_parts, or_left, or_right}
 
@@ -24,6 +24,12 @@ from_contains (y ∷ xs) x (suc k) lt e = next (from_contains xs x k (omega arit
 
 pub contains_among : {A : Type 0} (xs : List A) (x : A) → Contains xs x → Among xs x
 contains_among xs x h = from_contains xs x h.0 h.1 h.2
+
+-- the member at a place
+pub contained_at : {A : Type 0} (xs : List A) (x : A) (k : ℕ) → k < length xs → get_or xs k x ≡ x → slice_get xs k ≡ Some x
+contained_at [] x k lt e = absurd (omega (arith, lt))
+contained_at (y ∷ xs) x zero lt e = ap Some e
+contained_at (y ∷ xs) x (suc k) lt e = contained_at xs x k (omega arith) e
 
 pub among_contains : {A : Type 0} {xs : List A} {x : A} → Among xs x → Contains xs x
 among_contains first = (0, omega arith, refl)

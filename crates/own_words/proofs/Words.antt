@@ -1,5 +1,5 @@
 -- What is written with names that stay is written the same in the projection.
-use Rattle.std.proofs.Common.{◌≡◌, ℕ, zero, suc, List, [], ◌∷◌, ◌++◌, map, Option, Some, None, Bool, true, false, codes, refl, sym, ap, ◌∙◌, subst, eq-eqb, ap₂}
+use Rattle.std.proofs.Common.{◌≡◌, ℕ, List, [], ◌∷◌, ◌++◌, map, Option, Some, None, Bool, true, false, codes, refl, sym, ap, ◌∙◌, subst, eq-eqb, ap₂}
 use Rattle.std.specs.Prelude.{◌||◌, slice_get, option_map}
 use Rattle.std.specs.Option.{option_map_or}
 use Rattle.c_tree.specs.declared.types.CType.{CType}
@@ -7,7 +7,6 @@ use Rattle.c_tree.specs.declared.expr.Expr.{Expr, fold-roll-Expr, roll-Expr, map
 use Rattle.c_tree.specs.declared.expr.Expr.TheOpen.{Expr-F}
 use Rattle.c_tree.specs.declared.program.Program.{Program}
 use Rattle.c_tree.specs.declared.program.Var.{Var}
-use Rattle.c_tree.specs.declared.program.Function.{Function}
 use Rattle.c_tree.specs.declared.program.Init.{Init}
 use Rattle.c_tree.specs.declared.program.Init.TheVariants as init
 use Rattle.c_tree.specs.declared.statement.Target.{Target}
@@ -22,43 +21,39 @@ use Rattle.c_language.specs.Layout.{init_words, var_words, target_words, pointee
 use Rattle.projection.specs.Kept.{Kept, rank}
 use Rattle.c_language.specs.Names.{names_step, names, any_names, init_names, target_names, size_names, amount_names, value_names}
 use Rattle.projection.specs.Renumbering.{renamed, renamed_init, renamed_target, renamed_size, renamed_amount}
-use Rattle.projection.specs.Projection.{projected_var, projected_function, projected_functions, kept_with, projection}
+use Rattle.projection.specs.Projection.{projected_var, projected_program}
 use Rattle.own_words.proofs.Lists.{three}
 use Rattle.own_words.proofs.Exprs.{renamed_layer, fold_renamed}
-use Rattle.own_words.proofs.Names.{get-projected}
-use Rattle.projection.proofs.RankLemmas.{rank_of_each}
+use Rattle.own_words.proofs.Names.{get-projected, named-projected}
 use Rattle.projection.proofs.NamesPass.{NamesPass, left_pass, right_pass}
 
--- each function keeps its number
-abbrev pub same_numbers : ℕ → ℕ
-same_numbers = rank (λ f. true)
-
-module _ (p : Program) (keeps : ℕ → Bool) where
-  abbrev pub kept : Kept
-  kept = kept_with p keeps
-
+module _ (p : Program) (kept : Kept ℕ) where
   abbrev pub staying : ℕ → Bool
   staying = kept.variable
 
   abbrev pub ranked : ℕ → ℕ
   ranked = rank staying
 
+  -- the new numbers of functions
+  abbrev pub numbers : ℕ → ℕ
+  numbers = rank kept.function
+
   abbrev pub smaller : Program
-  smaller = projection p keeps
+  smaller = projected_program kept p
 
   -- ---- names
 
-  of_var : {A : Type 0} (f : Var → A) (none : A) → ((v : Var) → f (projected_var kept same_numbers v) ≡ f v) → (o : Option Var) → option_map_or f (option_map (projected_var kept same_numbers) o) none ≡ option_map_or f o none
+  of_var : {A : Type 0} (f : Var → A) (none : A) → ((v : Var) → f (projected_var kept numbers v) ≡ f v) → (o : Option Var) → option_map_or f (option_map (projected_var kept numbers) o) none ≡ option_map_or f o none
   of_var f none same None = refl
   of_var f none same (Some v) = same v
 
   name_same : (x : ℕ) → staying x ≡ true → name_of_var smaller (ranked x) ≡ name_of_var p x
   name_same x t =
-      ap (λ o. option_map_or (λ (v : Var). v.name) o []) (get-projected kept same_numbers p.vars x t) ∙ of_var (λ (v : Var). v.name) [] (λ v. refl) (slice_get p.vars x)
+      ap (λ o. option_map_or (λ (v : Var). v.name) o []) (get-projected kept numbers p.vars x t) ∙ of_var (λ (v : Var). v.name) [] (λ v. refl) (slice_get p.vars x)
 
   pub var_words_same : (x : ℕ) → staying x ≡ true → var_words smaller (ranked x) ≡ var_words p x
   var_words_same x t =
-      ap (λ o. option_map_or (λ (v : Var). declared p v.shape v.name) o []) (get-projected kept same_numbers p.vars x t) ∙ of_var (λ (v : Var). declared p v.shape v.name) [] (λ v. refl) (slice_get p.vars x)
+      ap (λ o. option_map_or (λ (v : Var). declared p v.shape v.name) o []) (get-projected kept numbers p.vars x t) ∙ of_var (λ (v : Var). declared p v.shape v.name) [] (λ v. refl) (slice_get p.vars x)
 
   -- ---- expressions
 
@@ -112,18 +107,9 @@ module _ (p : Program) (keeps : ℕ → Bool) where
 
   -- ---- functions and types
 
-  function_there : (fs : List Function) (n : ℕ) → slice_get (projected_functions kept same_numbers fs) n ≡ option_map (projected_function kept same_numbers) (slice_get fs n)
-  function_there [] n = refl
-  function_there (f ∷ fs) zero = refl
-  function_there (f ∷ fs) (suc n) = function_there fs n
-
-  function_named : (o : Option Function) → option_map_or (λ (f : Function). f.name) (option_map (projected_function kept same_numbers) o) [] ≡ option_map_or (λ (f : Function). f.name) o []
-  function_named None = refl
-  function_named (Some f) = refl
-
-  pub function_same : (n : ℕ) → name_of_function smaller (same_numbers n) ≡ name_of_function p n
-  function_same n =
-      ap (name_of_function smaller) (rank_of_each n) ∙ ap (λ o. option_map_or (λ (f : Function). f.name) o []) (function_there p.functions n) ∙ function_named (slice_get p.functions n)
+  -- a function that stays has its name
+  pub function_same : (n : ℕ) → kept.function n ≡ true → name_of_function smaller (numbers n) ≡ name_of_function p n
+  function_same n t = named-projected kept p.functions n t
 
   type_same : (t : CType) → type_words smaller t ≡ type_words p t
   type_same t = refl

@@ -4,7 +4,9 @@ use Rattle.std.proofs.lemmas.Bool.{cases_lt}
 use Rattle.std.proofs.lemmas.List.{get_or_past, get_or_default}
 use Rattle.bit_rows.specs.Sets.{has}
 use Rattle.projection.specs.Kept.{rank}
-use Rattle.c_language.proofs.Tests.{by_answer}
+use Rattle.std.proofs.lemmas.Bool.Decides.{nat_tests}
+use Rattle.std.specs.Prelude.{◌==◌, ◌||◌}
+use Rattle.c_language.proofs.Tests.{by_answer, or_none}
 
 module _ (keeps : ℕ → Bool) where
   pub rank_at_most : (n : ℕ) → rank keeps n ≤ n
@@ -36,3 +38,36 @@ ranks_all kept n total ranks le len is inv x = elim (cases_lt x n) [
   | inl lt ↦ get_or_default ranks x total 0 (omega (arith, len, lt)) ∙ inv x lt
   | inr ge ↦ get_or_past ranks x total (omega (arith, len, ge)) ∙ is ∙ sym (rank_past (has kept) n x (λ y past. get_or_past kept y false (omega (arith, le, past))) ge)
 ]
+
+-- the same numbers pass
+pub rank_same : (t u : ℕ → Bool) (n : ℕ) → ((i : ℕ) → u i ≡ t i) → rank u n ≡ rank t n
+rank_same t u zero same = refl
+rank_same t u (suc n) same = rw (same n, rank_same t u n same) refl
+
+-- one more number passes, which didn't
+module _ (t u : ℕ → Bool) (own : ℕ) (adds : (i : ℕ) → u i ≡ (t i || (own == i))) (new : t own ≡ false) where
+  other_same : (i : ℕ) → (own == i) ≡ false → u i ≡ t i
+  other_same i e = adds i ∙ ap (λ b. t i || b) e ∙ or_none (t i)
+
+  pub rank_above : (n : ℕ) → n ≤ own → rank u n ≡ rank t n
+  rank_above zero le = refl
+  rank_above (suc n) le =
+      let e : (own == n) ≡ false = grind (arith, nat_tests, le) in
+      rw (other_same n e, rank_above n (omega (arith, le))) refl
+
+  at_own : (n : ℕ) → own ≡ n → rank u (suc n) ≡ suc (rank t (suc n))
+  at_own n is =
+      let e : (own == n) ≡ true = grind (arith, nat_tests, is) in
+      let gone : t n ≡ false = ap t (sym is) ∙ new in
+      let here : u n ≡ true = adds n ∙ ap (λ b. b || (own == n)) gone ∙ e in
+      let le : n ≤ own = omega (arith, is) in
+      rw (here, gone, rank_above n le) refl
+
+  pub rank_below : (n : ℕ) → own < n → rank u n ≡ suc (rank t n)
+  rank_below zero lt = absurd (omega (arith, lt))
+  rank_below (suc n) lt = elim (cases_lt own n) [
+    | inl less ↦
+        let e : (own == n) ≡ false = grind (arith, nat_tests, less) in
+        by_answer (t n) (λ k. rw (other_same n e, rank_below n less, k) refl) (λ k. rw (other_same n e, rank_below n less, k) refl)
+    | inr ge ↦ at_own n (omega (arith, lt, ge))
+  ]

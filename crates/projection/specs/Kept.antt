@@ -1,16 +1,35 @@
 -- What is kept of a program.
-use Rattle.std.specs.Prelude.{ℕ, zero, suc, Bool, if◌then◌else◌}
-use Rattle.c_language.specs.Words.{Bytes}
+use Rattle.std.specs.Prelude.{ℕ, zero, suc, Bool, if◌then◌else◌, List, [], ◌∷◌}
 
--- what is kept: variables, statements and results by numbers, functions by their names
-pub record Kept : Type 0 where
+-- Which words of a program's statements are kept. A statement, and the call of a function of the program, has its number; a call's arguments
+-- are counted from 0.
+pub record KeptWords : Type 0 where
+  pub statement : ℕ → Bool
+  -- whether what the call of a statement gives is still stored where it was
+  pub result : ℕ → Bool
+  -- whether the call of a statement keeps the argument at a place
+  pub argument : ℕ → ℕ → Bool
+
+-- What is kept, where functions are told by their numbers, or in a text by their names. Parameters are counted from 0.
+pub record Kept (F : Type 0) : Type 0 where
   pub variable : ℕ → Bool
   pub statement : ℕ → Bool
-  -- of the call of a function of the text, by the number of its statement
+  -- whether what the call of a statement gives is still stored where it was
   pub result : ℕ → Bool
-  pub function : Bytes → Bool
+  -- whether the call of a statement keeps the argument at a place
+  pub argument : ℕ → ℕ → Bool
+  pub function : F → Bool
+  -- whether a function keeps the parameter at a place
+  pub parameter : F → ℕ → Bool
+  -- whether a function that gives a result does so still
+  pub gives : F → Bool
 
 -- how many numbers below n pass the test
 abbrev pub rank : (ℕ → Bool) → ℕ → ℕ
 rank test zero = 0
 rank test (suc n) = if test n then suc (rank test n) else rank test n
+
+-- the members of a list whose places pass the test, where the first of the list is at place n
+abbrev pub chosen : {A : Type 0} → (ℕ → Bool) → ℕ → List A → List A
+chosen test n [] = []
+chosen test n (x ∷ xs) = if test n then x ∷ chosen test (suc n) xs else chosen test (suc n) xs

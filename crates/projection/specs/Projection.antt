@@ -1,5 +1,5 @@
 -- The projection of a program to what is kept of it: the smaller program.
-use Rattle.std.specs.Prelude.{ℕ, suc, Bool, true, false, List, [], ◌∷◌, ◌++◌, map, Option, Some, None, option_map}
+use Rattle.std.specs.Prelude.{ℕ, suc, Bool, true, false, List, [], ◌∷◌, ◌++◌, map, if◌then◌else◌, Option, Some, None, option_map}
 use Rattle.c_tree.specs.declared.expr.Expr.{Expr}
 use Rattle.c_tree.specs.declared.program.Init.{Init}
 use Rattle.c_tree.specs.declared.program.Init.TheVariants as init
@@ -15,8 +15,7 @@ use Rattle.c_tree.specs.declared.statement.Statement.{Statement, fold-Statement}
 use Rattle.c_tree.specs.declared.statement.Statement.TheOpen.{Statement-F, Arm-F}
 use Rattle.c_tree.specs.declared.statement.Statement.TheVariants as s
 use Rattle.projection.specs.Renumbering.{renamed, renamed_init, renamed_target, renamed_amount, renamed_label}
-use Rattle.projection.specs.Kept.{Kept, rank}
-use Rattle.projection.specs.Names.{stays}
+use Rattle.projection.specs.Kept.{Kept, rank, chosen}
 
 -- a choice of lists
 abbrev pub if_so : {A : Type 0} → Bool → List A → List A → List A
@@ -65,7 +64,8 @@ abbrev pub block_of : ℕ → List Statement → List Statement
 block_of l [] = []
 block_of l (x ∷ xs) = s.Block l (x ∷ xs) ∷ []
 
-module _ (k : Kept) (g : ℕ → ℕ) where
+-- what stays of statements, where functions have these numbers
+module _ {F : Type 0} (k : Kept F) (g : ℕ → ℕ) where
   -- a declaration without its initialiser, where its variable stays
   abbrev pub bare : ℕ → ℕ → List Statement
   bare l x = if_so (k.variable x) (s.Declare None l (rank k.variable x) init.None ∷ []) []
@@ -80,12 +80,14 @@ module _ (k : Kept) (g : ℕ → ℕ) where
   projected_declaration (Some id) l x i =
       if_so (k.statement id) (s.Declare (Some (rank k.statement id)) l (rank k.variable x) (renamed_init (rank k.variable) i) ∷ []) (bare l x)
 
-  -- a call that is kept, with its result or without it
+  -- a call with the arguments that it keeps
+  abbrev pub called : ℕ → ℕ → Target → ℕ → List Expr → Statement
+  called id l to f args = s.Invoke (rank k.statement id) l to (g f) (map (renamed (rank k.variable)) (chosen (k.argument id) 0 args))
+
+  -- a call that is kept: with its left side, or behind the variable that it declared, where that stays
   abbrev pub projected_call : ℕ → ℕ → Target → ℕ → List Expr → List Statement
-  projected_call id l target.None f args = s.Invoke (rank k.statement id) l target.None (g f) (map (renamed (rank k.variable)) args) ∷ []
   projected_call id l to f args =
-      if_so (k.result id) (s.Invoke (rank k.statement id) l (renamed_target (rank k.variable) to) (g f) (map (renamed (rank k.variable)) args) ∷ [])
-      (bare_target l to ++ (s.Invoke (rank k.statement id) l target.None (g f) (map (renamed (rank k.variable)) args) ∷ []))
+      if_so (k.result id) (called id l (renamed_target (rank k.variable) to) f args ∷ []) (bare_target l to ++ (called id l target.None f args ∷ []))
 
   abbrev pub projected_step : Statement-F (List Statement) Arm → List Statement
   projected_step (Statement-F.Declare id l x i) = projected_declaration id l x i
@@ -122,26 +124,13 @@ module _ (k : Kept) (g : ℕ → ℕ) where
   abbrev pub projected_all : List Statement → List Statement
   projected_all xs = flat (map projected xs)
 
-  -- what stays of an item, where these are the functions that are kept
-  abbrev pub projected_item : (ℕ → Bool) → Item → List Item
-  projected_item test (item.Include is_stdlib) = item.Include is_stdlib ∷ []
-  projected_item test (item.Tag d) = item.Tag d ∷ []
-  projected_item test (item.Struct d) = item.Struct d ∷ []
-  projected_item test (item.Global x i) = if_so (k.variable x) (item.Global (rank k.variable x) (renamed_init (rank k.variable) i) ∷ []) []
-  projected_item test (item.Prototype c names is_static) = if_so (test c) (item.Prototype (g c) names is_static ∷ []) []
-  projected_item test (item.Define c) = if_so (test c) (item.Define (g c) ∷ []) []
-
-  abbrev pub projected_items : (ℕ → Bool) → List Item → List Item
-  projected_items test xs = flat (map (projected_item test) xs)
-
   -- what stays of a function that stays
-  abbrev pub projected_function : Function → Function
-  projected_function c = record c { params = map (rank k.variable) c.params; body = projected_all c.body }
-
-  -- the functions that stay
-  abbrev pub projected_functions : List Function → List Function
-  projected_functions [] = []
-  projected_functions (c ∷ rest) = if_so (k.function c.name) (projected_function c ∷ projected_functions rest) (projected_functions rest)
+  abbrev pub projected_function : F → Function → Function
+  projected_function f c = record c {
+    result = if k.gives f then c.result else None;
+    params = map (rank k.variable) (chosen (k.parameter f) 0 c.params);
+    body = projected_all c.body;
+  }
 
   -- a variable in a function with another number
   abbrev pub projected_var : Var → Var
@@ -152,20 +141,32 @@ module _ (k : Kept) (g : ℕ → ℕ) where
   projected_vars n [] = []
   projected_vars n (v ∷ vs) = if_so (k.variable n) (projected_var v ∷ projected_vars (suc n) vs) (projected_vars (suc n) vs)
 
--- what stays of a program, where these are the functions that are kept
-abbrev pub projected_program : Kept → (ℕ → Bool) → Program → Program
-projected_program k test p = record {
-  items = projected_items k (rank test) test p.items;
-  vars = projected_vars k (rank test) 0 p.vars;
-  structs = p.structs;
-  functions = projected_functions k (rank test) p.functions;
-  statements = rank k.statement p.statements;
-}
+-- what stays of a program, of which each function has its number
+module _ (k : Kept ℕ) where
+  -- what stays of an item: of a prototype, the names of the parameters that stay
+  abbrev pub projected_item : Item → List Item
+  projected_item (item.Include is_stdlib) = item.Include is_stdlib ∷ []
+  projected_item (item.Tag d) = item.Tag d ∷ []
+  projected_item (item.Struct d) = item.Struct d ∷ []
+  projected_item (item.Global x i) = if_so (k.variable x) (item.Global (rank k.variable x) (renamed_init (rank k.variable) i) ∷ []) []
+  projected_item (item.Prototype f names is_static) =
+      if_so (k.function f) (item.Prototype (rank k.function f) (chosen (k.parameter f) 0 names) is_static ∷ []) []
+  projected_item (item.Define f) = if_so (k.function f) (item.Define (rank k.function f) ∷ []) []
 
--- what is kept where these statements are: the variables that they refer to, and so far each function with its parameters, and each result
-abbrev pub kept_with : Program → (ℕ → Bool) → Kept
-kept_with p keeps = record { variable = stays keeps p; statement = keeps; result = λ i. true; function = λ name. true }
+  abbrev pub projected_items : List Item → List Item
+  projected_items xs = flat (map projected_item xs)
 
--- the projection of a program to these statements
-abbrev pub projection : Program → (ℕ → Bool) → Program
-projection p keeps = projected_program (kept_with p keeps) (λ f. true) p
+  -- the functions that stay, the first of which has this number
+  abbrev pub projected_functions : ℕ → List Function → List Function
+  projected_functions n [] = []
+  projected_functions n (c ∷ rest) =
+      if_so (k.function n) (projected_function k (rank k.function) n c ∷ projected_functions (suc n) rest) (projected_functions (suc n) rest)
+
+  abbrev pub projected_program : Program → Program
+  projected_program p = record {
+    items = projected_items p.items;
+    vars = projected_vars k (rank k.function) 0 p.vars;
+    structs = p.structs;
+    functions = projected_functions 0 p.functions;
+    statements = rank k.statement p.statements;
+  }

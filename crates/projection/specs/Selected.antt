@@ -1,5 +1,5 @@
--- What stays by a selection: the statements that it keeps and the variables that stay, with each function and each result.
-use Rattle.std.specs.Prelude.{ℕ, List, [], ◌∷◌, Bool, true, if◌then◌else◌, Option, Some, None, map}
+-- What stays by a selection: the parts that are kept, and the new numbers of statements, variables and functions.
+use Rattle.std.specs.Prelude.{◌≡◌, ℕ, List, [], ◌∷◌, Bool, if◌then◌else◌, Option, Some, None, map}
 use Rattle.bit_rows.specs.Sets.{has}
 use Rattle.c_tree.specs.declared.expr.Expr.{Expr}
 use Rattle.c_tree.specs.declared.program.Function.{Function}
@@ -9,41 +9,60 @@ use Rattle.c_tree.specs.declared.program.Var.{Var}
 use Rattle.c_tree.specs.declared.statement.Arm.{Arm}
 use Rattle.c_tree.specs.declared.statement.Statement.{Statement}
 use Rattle.c_tree.specs.declared.statement.Statement.TheVariants as s
+use Rattle.projection.specs.declared.parts.KeptParts.{KeptParts}
 use Rattle.projection.specs.declared.statements.Selection.{Selection}
-use Rattle.projection.specs.Kept.{Kept, rank}
+use Rattle.projection.specs.Kept.{Kept, rank, chosen}
+use Rattle.projection.specs.Pairs.{marked}
 use Rattle.projection.specs.Renumbering.{renamed}
-use Rattle.projection.specs.Projection.{if_so, first_statement, projected, projected_arm, projected_all, projected_item, projected_items, projected_vars, projected_function, projected_functions, alone}
+use Rattle.projection.specs.Projection.{if_so, first_statement, projected, projected_arm, projected_all, projected_item, projected_items, projected_vars, projected_function, projected_functions, projected_program, alone}
 
 -- the new number of a number that passes the test
 abbrev pub number_of : (ℕ → Bool) → ℕ → Option ℕ
 number_of test n = if test n then Some (rank test n) else None
 
--- functions keep their numbers
-abbrev pub same : ℕ → ℕ
-same n = n
+abbrev pub kept_by : Selection → Kept ℕ
+kept_by c = record {
+  variable = has c.variables;
+  statement = has c.statements;
+  result = has c.parts.now.results.items;
+  argument = marked c.parts.now.arguments;
+  function = has c.functions;
+  parameter = marked c.parts.now.parameters;
+  gives = has c.gives.now;
+}
 
-abbrev pub each : ℕ → Bool
-each n = true
+-- the selection of these parts, variables and functions that still give a result
+pub record AreSelected (parts : KeptParts) (variables gives : List Bool) (c : Selection) : Type 0 where
+  pub parts_are : c.parts.now ≡ parts
+  pub statements : c.statements ≡ parts.statements.items
+  pub variables_are : c.variables ≡ variables
+  pub functions : c.functions ≡ parts.functions.items
+  pub gives_are : c.gives.now ≡ gives
 
-abbrev pub kept_by : Selection → Kept
-kept_by c = record { variable = has c.variables; statement = has c.statements; result = λ i. true; function = λ name. true }
+-- the new numbers of functions
+abbrev pub numbers : Selection → ℕ → ℕ
+numbers c = rank (has c.functions)
 
 -- what stays of a statement, of a list of them, of a part of a for and of the arms of a switch
 abbrev pub left : Selection → Statement → List Statement
-left c = projected (kept_by c) same
+left c = projected (kept_by c) (numbers c)
 
 abbrev pub all_left : Selection → List Statement → List Statement
-all_left c = projected_all (kept_by c) same
+all_left c = projected_all (kept_by c) (numbers c)
 
 abbrev pub part_left : Selection → Option Statement → Option Statement
 part_left c None = None
 part_left c (Some x) = first_statement (left c x)
 
 abbrev pub arm_left : Selection → Arm → Arm
-arm_left c = projected_arm (kept_by c) same
+arm_left c = projected_arm (kept_by c) (numbers c)
 
 abbrev pub arms_left : Selection → List Arm → List Arm
 arms_left c = map (arm_left c)
+
+-- what stays of the arguments of a call
+abbrev pub arguments_left : Selection → ℕ → List Expr → List Expr
+arguments_left c id args = map (renamed (rank (has c.variables))) (chosen (marked c.parts.now.arguments id) 0 args)
 
 -- what stays of statements that hold others, where this stays of these
 module _ (c : Selection) (id l : ℕ) where
@@ -65,25 +84,22 @@ module _ (c : Selection) (id l : ℕ) where
 
 -- what stays of the parts of a program
 abbrev pub item_left : Selection → Item → List Item
-item_left c = projected_item (kept_by c) same each
+item_left c = projected_item (kept_by c)
 
 abbrev pub items_left : Selection → List Item → List Item
-items_left c = projected_items (kept_by c) same each
+items_left c = projected_items (kept_by c)
 
 abbrev pub vars_left : Selection → ℕ → List Var → List Var
-vars_left c = projected_vars (kept_by c) same
+vars_left c = projected_vars (kept_by c) (numbers c)
 
-abbrev pub function_left : Selection → Function → Function
-function_left c = projected_function (kept_by c) same
+abbrev pub params_left : Selection → ℕ → List ℕ → List ℕ
+params_left c f xs = map (rank (has c.variables)) (chosen (marked c.parts.now.parameters f) 0 xs)
 
-abbrev pub functions_left : Selection → List Function → List Function
-functions_left c = projected_functions (kept_by c) same
+abbrev pub function_left : Selection → ℕ → Function → Function
+function_left c = projected_function (kept_by c) (numbers c)
+
+abbrev pub functions_left : Selection → ℕ → List Function → List Function
+functions_left c = projected_functions (kept_by c)
 
 abbrev pub program_left : Selection → Program → Program
-program_left c p = record {
-  items = items_left c p.items;
-  vars = vars_left c 0 p.vars;
-  structs = p.structs;
-  functions = functions_left c p.functions;
-  statements = rank (has c.statements) p.statements;
-}
+program_left c = projected_program (kept_by c)

@@ -80,3 +80,10 @@ pub(crate) fn is_kept(kept: &[bool], number: u32) -> bool
 {
     kept.get(number as usize).copied().unwrap_or(false)
 }
+
+/// Whether the member of a list at a place is kept, where one past the end isn't.
+pub(crate) fn is_at(kept: &[bool], place: usize) -> bool
+    ensures { result ≡ has kept.now place }
+{
+    kept.get(place).copied().unwrap_or(false)
+}

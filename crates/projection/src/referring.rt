@@ -2,11 +2,14 @@
 ghost use Rattle.std.specs.Prelude.{◌≡◌, ℕ, ◌&&◌, ◌||◌, OnOk, IfOk};
 ghost use Rattle.bit_rows.specs.Sets.{has};
 ghost use Rattle.named_variables.specs.Marks.{Adds};
+ghost use Rattle.projection.specs.Kept.{chosen};
+ghost use Rattle.projection.specs.Parts.{words_of};
 ghost use Rattle.projection.specs.Referring.{part_refers, arms_refer, functions_refer};
 ghost use Rattle.c_language.specs.Names as words;
 ghost use Rattle.projection.specs.Names as spec;
 
-use crate::ranks::is_kept;
+use crate::parts::KeptParts;
+use crate::ranks::is_at;
 use c_tree::{Amount, Arm, Boxed, Expr, Function, Init, Statement, StatementId, Target, VarId};
 use named_variables::{
     mark, mark_all, mark_amount, mark_init, mark_names, mark_target, mark_value,
@@ -18,13 +21,13 @@ use std::alloc::{AllocError, Global};
 pub(crate) fn referred_variables(
     alloc: Global,
     list: &[Function],
-    keeps: &[bool],
+    parts: &KeptParts,
 ) -> Result<Vec<bool>, AllocError>
-    ensures { IfOk result (λ used. (x : ℕ) → has used.items x ≡ functions_refer (has keeps.now) list.now x) }
+    ensures { IfOk result (λ used. (x : ℕ) → has used.items x ≡ functions_refer (words_of parts.now) list.now x) }
 {
     let mut used = Vec::new(alloc);
     for function in list {
-        mark_statements(&mut used, keeps, function.body.as_slice())?;
+        mark_statements(&mut used, parts, function.body.as_slice())?;
     }
     Ok(used)
 }
@@ -43,17 +46,17 @@ fn mark_word(used: &mut Vec<bool>, keeps: bool, e: &Expr) -> Result<(), AllocErr
 
 fn mark_begun(
     used: &mut Vec<bool>,
-    keeps: &[bool],
+    parts: &KeptParts,
     id: Option<StatementId>,
     var: VarId,
     init: &Init,
 ) -> Result<(), AllocError>
-    ensures { OnOk result (Adds used.old.items used.new.items (spec.begun_names (has keeps.now) id var init.now)) }
+    ensures { OnOk result (Adds used.old.items used.new.items (spec.begun_names (words_of parts.now) id var init.now)) }
 {
     match id {
         None => Ok(()),
         Some(id) => {
-            if !is_kept(keeps, id) {
+            if !parts.keeps(id) {
                 return Ok(());
             }
             mark(used, var)?;
@@ -79,19 +82,34 @@ fn mark_assigned(
     Ok(())
 }
 
+// The arguments of a call that are kept.
+fn mark_arguments(used: &mut Vec<bool>, kept: &[bool], args: &[Expr]) -> Result<(), AllocError>
+    ensures { OnOk result (Adds used.old.items used.new.items (words.any_names (chosen (has kept.now) 0 args.now))) }
+{
+    for (place, argument) in args.iter().enumerate() {
+        if is_at(kept, place) {
+            mark_names(used, argument)?;
+        }
+    }
+    Ok(())
+}
+
 fn mark_called(
     used: &mut Vec<bool>,
-    keeps: bool,
+    parts: &KeptParts,
+    id: StatementId,
     to: &Target,
     args: &[Expr],
 ) -> Result<(), AllocError>
-    ensures { OnOk result (Adds used.old.items used.new.items (λ x. keeps && (words.target_names to.now x || words.any_names args.now x))) }
+    ensures { OnOk result (Adds used.old.items used.new.items (λ x. has parts.now.statements.items id && spec.call_names (words_of parts.now) id to.now args.now x)) }
 {
-    if !keeps {
+    if !parts.keeps(id) {
         return Ok(());
     }
-    mark_target(used, to)?;
-    mark_all(used, args)?;
+    if parts.keeps_result(id) {
+        mark_target(used, to)?;
+    }
+    mark_arguments(used, parts.arguments.row(id as usize), args)?;
     Ok(())
 }
 
@@ -146,13 +164,13 @@ fn mark_returned(used: &mut Vec<bool>, keeps: bool, value: &Option<Expr>) -> Res
 #[cycle(statement)]
 fn mark_statements(
     used: &mut Vec<bool>,
-    keeps: &[bool],
+    parts: &KeptParts,
     list: &[Statement],
 ) -> Result<(), AllocError>
-    ensures { OnOk result (Adds used.old.items used.new.items (spec.body_refers (has keeps.now) list.now)) }
+    ensures { OnOk result (Adds used.old.items used.new.items (spec.body_refers (words_of parts.now) list.now)) }
 {
     for statement in list {
-        mark_statement(used, keeps, statement)?;
+        mark_statement(used, parts, statement)?;
     }
     Ok(())
 }
@@ -161,26 +179,26 @@ fn mark_statements(
 #[cycle(statement)]
 fn mark_part(
     used: &mut Vec<bool>,
-    keeps: &[bool],
+    parts: &KeptParts,
     part: &Option<Boxed<Statement>>,
 ) -> Result<(), AllocError>
-    ensures { OnOk result (Adds used.old.items used.new.items (part_refers (has keeps.now) part.now)) }
+    ensures { OnOk result (Adds used.old.items used.new.items (part_refers (words_of parts.now) part.now)) }
 {
     match part {
         None => Ok(()),
         Some(statement) => {
-            mark_statement(used, keeps, statement.get())?;
+            mark_statement(used, parts, statement.get())?;
             Ok(())
         }
     }
 }
 
 #[cycle(statement)]
-fn mark_arms(used: &mut Vec<bool>, keeps: &[bool], arms: &[Arm]) -> Result<(), AllocError>
-    ensures { OnOk result (Adds used.old.items used.new.items (arms_refer (has keeps.now) arms.now)) }
+fn mark_arms(used: &mut Vec<bool>, parts: &KeptParts, arms: &[Arm]) -> Result<(), AllocError>
+    ensures { OnOk result (Adds used.old.items used.new.items (arms_refer (words_of parts.now) arms.now)) }
 {
     for arm in arms {
-        mark_statements(used, keeps, arm.body.as_slice())?;
+        mark_statements(used, parts, arm.body.as_slice())?;
     }
     Ok(())
 }
@@ -189,14 +207,14 @@ fn mark_arms(used: &mut Vec<bool>, keeps: &[bool], arms: &[Arm]) -> Result<(), A
 #[cycle(statement)]
 fn mark_statement(
     used: &mut Vec<bool>,
-    keeps: &[bool],
+    parts: &KeptParts,
     statement: &Statement,
 ) -> Result<(), AllocError>
-    ensures { OnOk result (Adds used.old.items used.new.items (spec.refers (has keeps.now) statement.now)) }
+    ensures { OnOk result (Adds used.old.items used.new.items (spec.refers (words_of parts.now) statement.now)) }
 {
     match statement {
         Statement::Declare { id, var, init, .. } => {
-            mark_begun(used, keeps, *id, *var, init)?;
+            mark_begun(used, parts, *id, *var, init)?;
             Ok(())
         }
         Statement::Assign {
@@ -205,7 +223,7 @@ fn mark_statement(
             right,
             ..
         } => {
-            mark_assigned(used, is_kept(keeps, *id), left, right)?;
+            mark_assigned(used, parts.keeps(*id), left, right)?;
             Ok(())
         }
         Statement::Invoke {
@@ -214,15 +232,15 @@ fn mark_statement(
             args,
             ..
         } => {
-            mark_called(used, is_kept(keeps, *id), target, args.as_slice())?;
+            mark_called(used, parts, *id, target, args.as_slice())?;
             Ok(())
         }
         Statement::Fetch { id, target, .. } => {
-            mark_fetched(used, is_kept(keeps, *id), target)?;
+            mark_fetched(used, parts.keeps(*id), target)?;
             Ok(())
         }
         Statement::Print { id, args, .. } => {
-            mark_printed(used, is_kept(keeps, *id), args.as_slice())?;
+            mark_printed(used, parts.keeps(*id), args.as_slice())?;
             Ok(())
         }
         Statement::Heap {
@@ -231,21 +249,21 @@ fn mark_statement(
             amount,
             ..
         } => {
-            mark_allocated(used, is_kept(keeps, *id), target, amount)?;
+            mark_allocated(used, parts.keeps(*id), target, amount)?;
             Ok(())
         }
         Statement::Bump { id, left: e, .. }
         | Statement::Write { id, value: e, .. }
         | Statement::Release { id, value: e, .. } => {
-            mark_word(used, is_kept(keeps, *id), e)?;
+            mark_word(used, parts.keeps(*id), e)?;
             Ok(())
         }
         Statement::Return { id, value, .. } => {
-            mark_returned(used, is_kept(keeps, *id), value)?;
+            mark_returned(used, parts.keeps(*id), value)?;
             Ok(())
         }
         Statement::Block { body, .. } => {
-            mark_statements(used, keeps, body.as_slice())?;
+            mark_statements(used, parts, body.as_slice())?;
             Ok(())
         }
         Statement::If {
@@ -255,14 +273,14 @@ fn mark_statement(
             other,
             ..
         } => {
-            mark_word(used, is_kept(keeps, *id), test)?;
-            mark_statements(used, keeps, then.as_slice())?;
-            mark_statements(used, keeps, other.as_slice())?;
+            mark_word(used, parts.keeps(*id), test)?;
+            mark_statements(used, parts, then.as_slice())?;
+            mark_statements(used, parts, other.as_slice())?;
             Ok(())
         }
         Statement::While { id, test, body, .. } | Statement::Do { id, test, body, .. } => {
-            mark_word(used, is_kept(keeps, *id), test)?;
-            mark_statements(used, keeps, body.as_slice())?;
+            mark_word(used, parts.keeps(*id), test)?;
+            mark_statements(used, parts, body.as_slice())?;
             Ok(())
         }
         Statement::For {
@@ -273,15 +291,15 @@ fn mark_statement(
             body,
             ..
         } => {
-            mark_word(used, is_kept(keeps, *id), test)?;
-            mark_part(used, keeps, init)?;
-            mark_part(used, keeps, step)?;
-            mark_statements(used, keeps, body.as_slice())?;
+            mark_word(used, parts.keeps(*id), test)?;
+            mark_part(used, parts, init)?;
+            mark_part(used, parts, step)?;
+            mark_statements(used, parts, body.as_slice())?;
             Ok(())
         }
         Statement::Switch { id, test, arms, .. } => {
-            mark_word(used, is_kept(keeps, *id), test)?;
-            mark_arms(used, keeps, arms.as_slice())?;
+            mark_word(used, parts.keeps(*id), test)?;
+            mark_arms(used, parts, arms.as_slice())?;
             Ok(())
         }
     }

@@ -1,11 +1,12 @@
 //! What stays of statements, by one walk down the tree.
-ghost use Rattle.std.specs.Prelude.{◌≡◌, IfOk};
+ghost use Rattle.std.specs.Prelude.{◌≡◌, ◌++◌, IfOk, OnOk};
 ghost use Rattle.std.specs.Option.{option_to_list};
-ghost use Rattle.projection.specs.Selected.{same, kept_by, left as left_of, all_left, part_left, arm_left, arms_left, if_left, while_left, do_left, for_left, switch_left};
+ghost use Rattle.projection.specs.Selected.{AreSelected, numbers, kept_by, left as left_of, all_left, part_left, arguments_left, arm_left, arms_left, if_left, while_left, do_left, for_left, switch_left};
 ghost use Rattle.projection.specs.Projection as spec;
 ghost use Rattle.c_tree.specs.declared.statement.Statement.TheVariants as s;
 
-use crate::ranks::Renumbering;
+use crate::parts::KeptParts;
+use crate::ranks::{Renumbering, is_at};
 use crate::renaming::{
     all_renamed, labels_renamed, renamed, renamed_amount, renamed_init, renamed_target,
     renamed_value,
@@ -17,11 +18,38 @@ use c_tree::{
 };
 use std::alloc::{AllocError, Global};
 
-/// What a projection keeps: statements, and the variables whose declarations stay.
+/// What a projection keeps, and the new numbers of statements, variables and functions.
 #[derive(Drop)]
 pub(crate) struct Selection<'a> {
+    /// The parts that are kept.
+    pub(crate) parts: &'a KeptParts,
     pub(crate) statements: Renumbering<'a>,
+    /// The variables whose declarations stay.
     pub(crate) variables: Renumbering<'a>,
+    pub(crate) functions: Renumbering<'a>,
+    /// For each function whether it still gives a result, if it gave one.
+    pub(crate) gives: &'a [bool],
+}
+
+impl<'a> Selection<'a> {
+    /// What these parts keep, with these variables and these functions that still give a result. Err:
+    /// no memory was left.
+    pub(crate) fn new(
+        alloc: Global,
+        parts: &'a KeptParts,
+        variables: &'a [bool],
+        gives: &'a [bool],
+    ) -> Result<Selection<'a>, AllocError>
+        ensures { IfOk result (λ c. AreSelected parts.now variables.now gives.now c) }
+    {
+        Ok(Selection {
+            parts,
+            statements: Renumbering::new(alloc, parts.statements.as_slice())?,
+            variables: Renumbering::new(alloc, variables)?,
+            functions: Renumbering::new(alloc, parts.functions.as_slice())?,
+            gives,
+        })
+    }
 }
 
 impl Selection<'_> {
@@ -36,21 +64,20 @@ impl Selection<'_> {
     {
         let mut all = Items::new(alloc);
         for statement in list {
-            if let Some(left) = self.statement(alloc, statement)? {
-                all.push(left)?;
-            }
+            self.statement(alloc, statement, &mut all)?;
         }
         Ok(all)
     }
 
-    // What stays of a statement.
+    // Adds what stays of a statement.
     #[cycle(statement)]
     fn statement(
         &self,
         alloc: Global,
         statement: &Statement,
-    ) -> Result<Option<Statement>, AllocError>
-        ensures { IfOk result (λ left. option_to_list left ≡ left_of self.now statement.now) }
+        all: &mut Items<Statement>,
+    ) -> Result<(), AllocError>
+        ensures { OnOk result (all.new ≡ all.old ++ left_of self.now statement.now) }
     {
         match statement {
             Statement::Declare {
@@ -58,44 +85,74 @@ impl Selection<'_> {
                 line,
                 var,
                 init,
-            } => self.declaration(alloc, *id, *line, *var, init),
+            } => {
+                put(all, self.declaration(alloc, *id, *line, *var, init)?)?;
+                Ok(())
+            }
             Statement::Assign {
                 id,
                 line,
                 left,
                 op,
                 right,
-            } => self.assignment(alloc, *id, *line, left, *op, right),
+            } => {
+                put(all, self.assignment(alloc, *id, *line, left, *op, right)?)?;
+                Ok(())
+            }
             Statement::Bump {
                 id,
                 line,
                 left,
                 up,
                 before,
-            } => self.bump(alloc, *id, *line, left, *up, *before),
+            } => {
+                put(all, self.bump(alloc, *id, *line, left, *up, *before)?)?;
+                Ok(())
+            }
             Statement::Invoke {
                 id,
                 line,
                 target,
                 function,
                 args,
-            } => self.call(alloc, *id, *line, target, *function, args.as_slice()),
-            Statement::Fetch { id, line, target } => self.fetch(alloc, *id, *line, target),
-            Statement::Write { id, line, value } => self.write(alloc, *id, *line, value),
+            } => {
+                self.call(alloc, all, *id, *line, target, *function, args.as_slice())?;
+                Ok(())
+            }
+            Statement::Fetch { id, line, target } => {
+                put(all, self.fetch(alloc, *id, *line, target)?)?;
+                Ok(())
+            }
+            Statement::Write { id, line, value } => {
+                put(all, self.write(alloc, *id, *line, value)?)?;
+                Ok(())
+            }
             Statement::Print {
                 id,
                 line,
                 format,
                 args,
-            } => self.print(alloc, *id, *line, format, args.as_slice()),
+            } => {
+                put(all, self.print(alloc, *id, *line, format, args.as_slice())?)?;
+                Ok(())
+            }
             Statement::Heap {
                 id,
                 line,
                 target,
                 cast,
                 amount,
-            } => self.allocation(alloc, *id, *line, target, cast, amount),
-            Statement::Release { id, line, value } => self.release(alloc, *id, *line, value),
+            } => {
+                put(
+                    all,
+                    self.allocation(alloc, *id, *line, target, cast, amount)?,
+                )?;
+                Ok(())
+            }
+            Statement::Release { id, line, value } => {
+                put(all, self.release(alloc, *id, *line, value)?)?;
+                Ok(())
+            }
             Statement::If {
                 id,
                 line,
@@ -105,7 +162,8 @@ impl Selection<'_> {
             } => {
                 let then = self.body(alloc, then.as_slice())?;
                 let other = self.body(alloc, other.as_slice())?;
-                self.conditional(alloc, *id, *line, test, then, other)
+                put(all, self.conditional(alloc, *id, *line, test, then, other)?)?;
+                Ok(())
             }
             Statement::While {
                 id,
@@ -114,7 +172,8 @@ impl Selection<'_> {
                 body,
             } => {
                 let body = self.body(alloc, body.as_slice())?;
-                self.while_loop(alloc, *id, *line, test, body)
+                put(all, self.while_loop(alloc, *id, *line, test, body)?)?;
+                Ok(())
             }
             Statement::Do {
                 id,
@@ -123,7 +182,8 @@ impl Selection<'_> {
                 body,
             } => {
                 let body = self.body(alloc, body.as_slice())?;
-                self.do_loop(alloc, *id, *line, test, body)
+                put(all, self.do_loop(alloc, *id, *line, test, body)?)?;
+                Ok(())
             }
             Statement::For {
                 id,
@@ -136,7 +196,11 @@ impl Selection<'_> {
                 let init = self.part(alloc, init)?;
                 let step = self.part(alloc, step)?;
                 let body = self.body(alloc, body.as_slice())?;
-                self.for_loop(alloc, *id, *line, init, test, step, body)
+                put(
+                    all,
+                    self.for_loop(alloc, *id, *line, init, test, step, body)?,
+                )?;
+                Ok(())
             }
             Statement::Switch {
                 id,
@@ -145,20 +209,25 @@ impl Selection<'_> {
                 arms,
             } => {
                 let arms = self.arms(alloc, arms.as_slice())?;
-                self.switch(alloc, *id, *line, test, arms)
+                put(all, self.switch(alloc, *id, *line, test, arms)?)?;
+                Ok(())
             }
             Statement::Block { line, body } => {
                 let body = self.body(alloc, body.as_slice())?;
-                Ok(block_of(*line, body))
+                put(all, block_of(*line, body))?;
+                Ok(())
             }
-            Statement::Return { id, line, value } => self.returned(alloc, *id, *line, value),
+            Statement::Return { id, line, value } => {
+                put(all, self.returned(alloc, *id, *line, value)?)?;
+                Ok(())
+            }
         }
     }
 
     // ---- declarations, and what stays of one without its initialiser
 
     fn bare(&self, line: u32, var: VarId) -> Option<Statement>
-        ensures { option_to_list result ≡ spec.bare (kept_by self.now) same line var }
+        ensures { option_to_list result ≡ spec.bare (kept_by self.now) (numbers self.now) line var }
     {
         match self.variables.number(var) {
             None => None,
@@ -172,7 +241,7 @@ impl Selection<'_> {
     }
 
     fn bare_target(&self, line: u32, to: &Target) -> Option<Statement>
-        ensures { option_to_list result ≡ spec.bare_target (kept_by self.now) same line to.now }
+        ensures { option_to_list result ≡ spec.bare_target (kept_by self.now) (numbers self.now) line to.now }
     {
         match to {
             Target::None => None,
@@ -189,7 +258,7 @@ impl Selection<'_> {
         var: VarId,
         init: &Init,
     ) -> Result<Option<Statement>, AllocError>
-        ensures { IfOk result (λ left. option_to_list left ≡ spec.projected_declaration (kept_by self.now) same id line var init.now) }
+        ensures { IfOk result (λ left. option_to_list left ≡ spec.projected_declaration (kept_by self.now) (numbers self.now) id line var init.now) }
     {
         let id = match id {
             None => return Ok(self.bare(line, var)),
@@ -254,27 +323,74 @@ impl Selection<'_> {
         }
     }
 
+    // Adds what stays of a call: with its left side, or behind the variable that it declared, where that stays.
     fn call(
         &self,
         alloc: Global,
+        all: &mut Items<Statement>,
         id: StatementId,
         line: u32,
         to: &Target,
         function: FunctionId,
         args: &[Expr],
-    ) -> Result<Option<Statement>, AllocError>
-        ensures { IfOk result (λ kept. option_to_list kept ≡ left_of self.now (s.Invoke id line to.now function args.now)) }
+    ) -> Result<(), AllocError>
+        ensures { OnOk result (all.new ≡ all.old ++ left_of self.now (s.Invoke id line to.now function args.now)) }
     {
-        match self.statements.number(id) {
-            None => Ok(self.bare_target(line, to)),
-            Some(id) => Ok(Some(Statement::Invoke {
-                id,
-                line,
-                target: renamed_target(alloc, to, &self.variables)?,
-                function,
-                args: all_renamed(alloc, args, &self.variables)?,
-            })),
+        if !self.statements.keeps(id as usize) {
+            let declared = self.bare_target(line, to);
+            put(all, declared)?;
+            return Ok(());
         }
+        if self.parts.keeps_result(id) {
+            let target = renamed_target(alloc, to, &self.variables)?;
+            let call = self.called(alloc, id, line, target, function, args)?;
+            put(all, Some(call))?;
+            return Ok(());
+        }
+        put(all, self.bare_target(line, to))?;
+        let call = self.called(alloc, id, line, Target::None, function, args)?;
+        put(all, Some(call))?;
+        Ok(())
+    }
+
+    // A call that is kept, with the arguments that it keeps.
+    fn called(
+        &self,
+        alloc: Global,
+        id: StatementId,
+        line: u32,
+        target: Target,
+        function: FunctionId,
+        args: &[Expr],
+    ) -> Result<Statement, AllocError>
+        ensures { IfOk result (λ call. call ≡ spec.called (kept_by self.now) (numbers self.now) id line target function args.now) }
+    {
+        Ok(Statement::Invoke {
+            id: self.statements.rank(id),
+            line,
+            target,
+            function: self.functions.rank(function),
+            args: self.arguments(alloc, id, args)?,
+        })
+    }
+
+    // The arguments of a call that are kept.
+    fn arguments(
+        &self,
+        alloc: Global,
+        id: StatementId,
+        args: &[Expr],
+    ) -> Result<Items<Expr>, AllocError>
+        ensures { IfOk result (λ all. all ≡ arguments_left self.now id args.now) }
+    {
+        let kept = self.parts.arguments.row(id as usize);
+        let mut all = Items::new(alloc);
+        for (place, argument) in args.iter().enumerate() {
+            if is_at(kept, place) {
+                all.push(renamed(alloc, argument, &self.variables)?)?;
+            }
+        }
+        Ok(all)
     }
 
     fn fetch(
@@ -520,8 +636,9 @@ impl Selection<'_> {
         match part {
             None => Ok(None),
             Some(statement) => {
-                let left = self.statement(alloc, statement.get())?;
-                Ok(left)
+                let mut left = Items::new(alloc);
+                self.statement(alloc, statement.get(), &mut left)?;
+                Ok(first_of(left))
             }
         }
     }
@@ -550,6 +667,30 @@ impl Selection<'_> {
 }
 
 // ---- pieces
+
+// Adds a statement, where there is one.
+fn put(all: &mut Items<Statement>, left: Option<Statement>) -> Result<(), AllocError>
+    ensures { OnOk result (all.new ≡ all.old ++ option_to_list left) }
+{
+    match left {
+        None => Ok(()),
+        Some(statement) => {
+            all.push(statement)?;
+            Ok(())
+        }
+    }
+}
+
+// The first of some statements.
+fn first_of(mut list: Items<Statement>) -> Option<Statement>
+    ensures { result ≡ spec.first_statement list }
+{
+    if list.is_empty() {
+        None
+    } else {
+        Some(list.remove(0))
+    }
+}
 
 // A block that isn't empty.
 fn block_of(line: u32, body: Items<Statement>) -> Option<Statement>

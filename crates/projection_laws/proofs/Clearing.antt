@@ -26,7 +26,7 @@ use Rattle.projection.specs.Kept.{Kept}
 use Rattle.projection.specs.Names.{stays}
 use Rattle.built_forms.specs.IntegerForms.{IsIntegerMain}
 use Rattle.c_scope_laws.specs.Thinning.{declares, after_list, part_scope}
-use Rattle.c_scope_laws.specs.ThinnedBodies.{AreMet, Left, ArmLeft, these, all_left, strays, gone, beyond, part_needs, part_gone, arms_needs, arms_gone, left_alone, alone_all, alone_one, block_of, plain, declared, if_left, while_left, do_left, for_left, switch_left, left, left_arm, body_left}
+use Rattle.c_scope_laws.specs.ThinnedBodies.{AreMet, Left, ArmLeft, these, all_left, strays, gone, beyond, part_needs, part_gone, arms_needs, arms_gone, left_alone, alone_all, alone_one, block_of, plain, declared, if_left, while_left, do_left, for_left, switch_left, left, left_arm, body_left, Need, plain_with}
 use Rattle.c_scope_laws.proofs.ThinnedBodies.{both_met, none_strays, left_after}
 use Rattle.thinned_syntax.proofs.LeftForms.{left-Declare, left-Assign, left-Bump, left-Call, left-While, left-Do, left-Switch, left-Block, left-Return, left-arm}
 use Rattle.projection_laws.specs.Nested.{governs, IsNested}
@@ -41,6 +41,8 @@ use Rattle.c_tree.proofs.Unlining.{zeroed, fold_unlined}
 use Rattle.projection_laws.proofs.SamePrograms.{tests_same, main_same, nested_same, stays_same}
 use Rattle.c_language.proofs.Lists.{no_list}
 use Rattle.c_language.specs.StatementGrammar.{arm}
+use Rattle.projection_laws.specs.MainProjection.{main_words}
+use Rattle.c_language.specs.Words.{Bytes}
 
 -- ---- lists and tests
 
@@ -60,7 +62,7 @@ abbrev simple : Bool → Rest
 simple stays = record { stays = stays; clear = true }
 
 module _ (raw : RawProgram) (vars keeps : ℕ → Bool) where
-  abbrev k : Kept
+  abbrev k : Kept Bytes
   k = kept_of vars keeps
 
   -- where what is left has what it needs, all of the tree is clear; where nothing is left, nothing of the tree stays
@@ -93,6 +95,10 @@ module _ (raw : RawProgram) (vars keeps : ℕ → Bool) where
   plain_shows : (b : Bool) (x : RawStatement-F RawStatement RawArm) (scope : Scope) (part : Part) → Shows (plain b x scope part) (simple b)
   plain_shows true x scope part m = (refl, λ h. no_list h)
   plain_shows false x scope part m = (refl, λ h. refl)
+
+  with_shows : (b : Bool) (needs : List Need) (x : RawStatement-F RawStatement RawArm) (scope : Scope) (part : Part) → Shows (plain_with b needs x scope part) (simple b)
+  with_shows true needs x scope part m = (refl, λ h. no_list h)
+  with_shows false needs x scope part m = (refl, λ h. refl)
 
   if_shows : (t : Bool) (l : ℕ) (a : RawExpr) (b c : Left) (scope : Scope) (rs ss : List Rest) → Shows b (together rs) → Shows c (together ss)
       → Shows (if_left raw t l a b c scope) (record { stays = t; clear = governs t (any_stays rs || any_stays ss) && (all_clear rs && all_clear ss) })
@@ -210,9 +216,9 @@ module _ (raw : RawProgram) (vars keeps : ℕ → Bool) where
     shows {scope} (Is.bumped {l} {a} {up} {before} {u} p) =
         shows_by (given scope (left-Bump k raw l a up before)) (rest-Bump keeps vars scope.statements l u up before) (plain_shows (keeps scope.statements) _ scope _)
     shows {scope} (Is.written {l} {f = w} {args} {u} free one p) =
-        shows_by (given scope (left-Call k raw l target.None w args)) (rest-Write keeps vars scope.statements l u) (plain_shows (keeps scope.statements) _ scope _)
+        shows_by (given scope (left-Call k raw l target.None w args)) (rest-Write keeps vars scope.statements l u) (with_shows (keeps scope.statements) _ _ scope _)
     shows {scope} (Is.printed {l} {f = w} {text} {args} {us} free one p) =
-        shows_by (given scope (left-Call k raw l target.None w args)) (rest-Print keeps vars scope.statements l text us) (plain_shows (keeps scope.statements) _ scope _)
+        shows_by (given scope (left-Call k raw l target.None w args)) (rest-Print keeps vars scope.statements l text us) (with_shows (keeps scope.statements) _ _ scope _)
     shows {scope} (Is.branched {l} {a} {u} {b} {c} {zs} {ws} p d g) =
         shows_by (left_of_if k raw l a b c scope) (rest-If keeps vars scope.statements l u zs ws) (if_shows (keeps scope.statements) l a _ _ scope (map rest_of zs) (map rest_of ws) (all_show d) (all_show g))
     shows {scope} (Is.while_loop {l} {a} {u} {b} {zs} p d) =
@@ -227,7 +233,7 @@ module _ (raw : RawProgram) (vars keeps : ℕ → Bool) where
     shows {scope} (Is.blocked {l} {b} {zs} d) =
         shows_by (given scope (left-Block k raw l b)) (rest-Block keeps vars l zs) (block_shows l (body_left k raw b (opened scope)) (map rest_of zs) (all_show d))
     shows {scope} (Is.returned {l} {a} {u} p) =
-        shows_by (given scope (left-Return k raw l a)) (rest-Return keeps vars scope.statements l u) (plain_shows (keeps scope.statements) _ scope _)
+        shows_by (given scope (left-Return k raw l a)) (rest-Return keeps vars scope.statements l u) (with_shows (keeps scope.statements) _ _ scope _)
 
     all_show : {scope : Scope} {xs : List RawStatement} {zs : List Statement} → Are raw scope xs zs → Shows (body_left k raw xs scope) (together (map rest_of zs))
     all_show Are.none = λ m. (refl, λ h. refl)
@@ -285,13 +291,13 @@ clear_same p q keeps vars h c = tests_same (is_clear keeps vars) (clear_unlined 
 
 -- ---- the law
 
-text_clear : (raw : RawProgram) (q : Program) (keeps : ℕ → Bool) → IsIntegerMain q → IsNested keeps q → IsTree raw → HasProgram raw q → IsClear keeps (stays keeps q) q
+text_clear : (raw : RawProgram) (q : Program) (keeps : ℕ → Bool) → IsIntegerMain q → IsNested keeps q → IsTree raw → HasProgram raw q → IsClear keeps (stays (main_words keeps) q) q
 text_clear raw q keeps m n tree has =
-    let vars = stays keeps q in
+    let vars = stays (main_words keeps) q in
     ap (list_all (λ (f : Function). list_all (is_clear keeps vars) f.body)) m.functions_are
     ∙ and_from _ _ (met_clear raw vars keeps m.main.body (text_met raw q keeps m n tree has)) refl
 
-pub nested_clear : (p : Program) (keeps : ℕ → Bool) → IsIntegerMain p → IsNested keeps p → IsWellFormed p → IsClear keeps (stays keeps p) p
+pub nested_clear : (p : Program) (keeps : ℕ → Bool) → IsIntegerMain p → IsNested keeps p → IsWellFormed p → IsClear keeps (stays (main_words keeps) p) p
 nested_clear p keeps main nested ok =
     let q = text_clear ok.raw ok.same keeps (main_same p ok.same ok.but_lines main) (nested_same p ok.same keeps ok.but_lines nested) ok.tree ok.has in
-    clear_same p ok.same keeps (stays keeps p) ok.but_lines (subst (λ (vars : ℕ → Bool). IsClear keeps vars ok.same) (sym (stays_same p ok.same keeps ok.but_lines)) q)
+    clear_same p ok.same keeps (stays (main_words keeps) p) ok.but_lines (subst (λ (vars : ℕ → Bool). IsClear keeps vars ok.same) (sym (stays_same p ok.same keeps ok.but_lines)) q)

@@ -40,7 +40,7 @@ use Rattle.projection.specs.Names.{body_refers}
 use Rattle.projection.proofs.NamesPass.{NamesPass}
 use Rattle.built_forms.specs.BuiltForms.{is_integer_type}
 use Rattle.built_forms.specs.IntegerForms.{IsPlainItem, is_integer_statement, IsIntegerLocal}
-use Rattle.c_scope_laws.specs.ThinTexts.{ParamStays, ParamsStay}
+use Rattle.c_scope_laws.specs.ThinTexts.{ParamFits, ParamsFit}
 use Rattle.c_scope_laws.specs.ThinnedBodies.{AreMet, body_left}
 use Rattle.c_scope_laws.specs.ThinnedTexts.{FunctionStays, ItemsAreClosed, KeepsText}
 use Rattle.c_print_laws.proofs.Definitions.{program_parts}
@@ -53,6 +53,7 @@ use Rattle.projection_laws.proofs.Reaching.{Spans}
 use Rattle.projection_laws.proofs.Going.{kept_of}
 use Rattle.projection_laws.proofs.Meeting.{Any, all_meet}
 use Rattle.c_language.specs.Lists.{all_true}
+use Rattle.projection_laws.specs.MainProjection.{main_words}
 
 -- ---- types that are integers
 
@@ -114,12 +115,17 @@ module _ (raw : RawProgram) where
       by_name None q later = later q
       by_name (Some name) q later = no_list q
 
-  params_stay : (k : Kept) (ps : List RawParam) (scope : Scope) (n : ℕ) → parameter_ids ps n ≡ [] → ParamsStay k raw ps scope
-  params_stay k [] scope n h = tt
-  params_stay k (p ∷ ps) scope n h = by_name p.name h (λ q. params_stay k ps scope n q)
+  params_fit : (k : Kept Bytes) (x : Bytes) (m : ℕ) (ps : List RawParam) (scope : Scope) (n : ℕ) → parameter_ids ps n ≡ [] → ParamsFit k raw x m ps scope
+  params_fit k x m [] scope n h = tt
+  params_fit k x m (p ∷ ps) scope n h = by_name p.name h (λ q. params_fit k x (suc m) ps scope n q)
     where
-      by_name : (o : Option Bytes) → (if is_some o then n ∷ parameter_ids ps (n + 1) else parameter_ids ps n) ≡ [] → (parameter_ids ps n ≡ [] → ParamsStay k raw ps scope) → ParamStays k scope p o × ParamsStay k raw ps (with_named raw p o scope)
-      by_name None q later = (tt, later q)
+      by_name : (o : Option Bytes) → (if is_some o then n ∷ parameter_ids ps (n + 1) else parameter_ids ps n) ≡ [] → (parameter_ids ps n ≡ [] → ParamsFit k raw x (suc m) ps scope)
+          → ParamFits k (k.parameter x m) scope p o × ParamsFit k raw x (suc m) ps (with_named raw p o scope)
+      by_name None q later = (no_name (k.parameter x m), later q)
+        where
+          no_name : (b : Bool) → ParamFits k b scope p None
+          no_name true = tt
+          no_name false = tt
       by_name (Some name) q later = no_list q
 
   -- ---- items
@@ -129,7 +135,7 @@ module _ (raw : RawProgram) where
   list_true f (x ∷ xs) h = let b = and_parts (f x) (list_all f xs) h in ap (λ (c : Bool). c && all_true (map f xs)) b.0 ∙ list_true f xs b.1
 
   module _ (vars keeps : ℕ → Bool) where
-    abbrev k : Kept
+    abbrev k : Kept Bytes
     k = kept_of vars keeps
 
     -- a function over integers in which what is kept stands in what is kept, and refers to all variables that are kept and to no other
@@ -137,8 +143,8 @@ module _ (raw : RawProgram) where
       pub params : f.params ≡ []
       pub integers : list_all is_integer_statement f.body ≡ true
       pub nested : list_all (is_nested keeps) f.body ≡ true
-      pub kept : NamesPass (body_refers keeps f.body) vars
-      pub only : (id : ℕ) → vars id ≡ true → body_refers keeps f.body id ≡ true
+      pub kept : NamesPass (body_refers (main_words keeps) f.body) vars
+      pub only : (id : ℕ) → vars id ≡ true → body_refers (main_words keeps) f.body id ≡ true
 
     fit_all : (xs : List Statement) → list_all (is_nested keeps) xs ≡ true → all_fit (map (nest keeps) xs) ≡ true
     fit_all [] h = refl
@@ -164,12 +170,12 @@ module _ (raw : RawProgram) where
         (subst (AreGood raw) (ap (body_phrases raw body) scope_is ∙ body_in_order raw body start) good) (tt, tt) in
         let spans : Spans Any start = record { names = (tt, tt); fresh = λ id h. tt } in
         let met = all_meet raw vars keeps are spans (fit_all zs (ap (list_all (is_nested keeps)) (sym body_is) ∙ fine.nested))
-        (λ id h. fine.kept id (ap (λ (xs : List Statement). body_refers keeps xs id) body_is ∙ sym (any_of-body keeps zs id) ∙ h))
-        (λ id v p q. any_of-body keeps zs id ∙ sym (ap (λ (xs : List Statement). body_refers keeps xs id) body_is) ∙ fine.only id v) in (
+        (λ id h. fine.kept id (ap (λ (xs : List Statement). body_refers (main_words keeps) xs id) body_is ∙ sym (any_of-body (main_words keeps) zs id) ∙ h))
+        (λ id v p q. any_of-body (main_words keeps) zs id ∙ sym (ap (λ (xs : List Statement). body_refers (main_words keeps) xs id) body_is) ∙ fine.only id v) in (
           record {
-            parameters = params_stay k head.params start outset.variables none;
+            parameters = params_fit k head.name 0 head.params start outset.variables none;
             statements = subst (λ (z : Scope). AreMet k (body_left k raw body z).needs) (sym scope_is) met;
-            result = λ other q. absurd (other name);
+            result = λ gives other q. absurd (other name);
           },
           record { start = start; body = body; are = subst (Are raw start body) (sym body_is) are; met = met },
         )
@@ -264,7 +270,7 @@ module _ (raw : RawProgram) where
         (λ q c. record { rules = λ number b. has.rules number q.line (IsBroken.by_phrase c b); integer = phrases_integer (phrases raw) p.vars parts.vars locals q c }) (λ h. has.rules 5 1 (IsBroken.no_main h))
 
     pub main_closed : (p : Program) (f : Function) → HasProgram raw p → AreTidy raw.items → AllByRecursion IsPlainItem p.items → AllByRecursion IsIntegerLocal p.vars → p.functions ≡ f ∷ [] → IsFine f → KeepsText k raw
-    main_closed p f has tidy plain locals one fine = record { items = (main_closes p f has tidy plain locals one fine).0; main = refl }
+    main_closed p f has tidy plain locals one fine = record { items = (main_closes p f has tidy plain locals one fine).0; main = refl; result = refl }
 
     pub main_met : (p : Program) (f : Function) → HasProgram raw p → AreTidy raw.items → AllByRecursion IsPlainItem p.items → AllByRecursion IsIntegerLocal p.vars → p.functions ≡ f ∷ [] → IsFine f → IsMetMain f.body
     main_met p f has tidy plain locals one fine = (main_closes p f has tidy plain locals one fine).1

@@ -19,7 +19,7 @@ use Rattle.c_language.proofs.ScopedForms.{scoped-Declare, scoped-If, scoped-Whil
 use Rattle.c_language.proofs.Tests.{false_true}
 use Rattle.projection.specs.Kept.{Kept}
 use Rattle.c_scope_laws.specs.Thinning.{after_list, part_scope}
-use Rattle.c_scope_laws.specs.ThinnedBodies.{AreMet, Left, ArmLeft, all_left, strays, gone, part_gone, arms_gone, left_alone, alone_all, block_of, plain, declared, if_left, while_left, do_left, for_left, switch_left, left, left_arm, body_left}
+use Rattle.c_scope_laws.specs.ThinnedBodies.{AreMet, Left, ArmLeft, all_left, strays, gone, part_gone, arms_gone, left_alone, alone_all, block_of, plain, declared, if_left, while_left, do_left, for_left, switch_left, left, left_arm, body_left, Need, plain_with}
 use Rattle.projection_laws.specs.Nested.{any_kept, part_kept, nest, arm_nest}
 use Rattle.projection_laws.proofs.IntegerTexts.{Is, Are, IsPart, ArmsAre}
 use Rattle.projection_laws.proofs.StatementForms.{nest-Declare, nest-Assign, nest-Bump, nest-Write, nest-Print, nest-If, nest-While, nest-Do, nest-For, nest-Switch, nest-Block, nest-Return, nest-arm}
@@ -28,13 +28,22 @@ use Rattle.thinned_syntax.proofs.LeftForms.{left-Declare, left-Assign, left-Bump
 use Rattle.c_scope_laws.proofs.ThinnedBodies.{join_met, left_after}
 use Rattle.projection_laws.proofs.LeftScopes.{arm_after, left_of_if, left_of_for}
 use Rattle.c_language.specs.StatementGrammar.{arm}
+use Rattle.c_language.specs.Words.{Bytes}
 
 -- what is kept where these variables and statements are
-abbrev pub kept_of : (ℕ → Bool) → (ℕ → Bool) → Kept
-kept_of vars keeps = record { variable = vars; statement = keeps; result = λ i. true; function = λ x. true }
+abbrev pub kept_of : (ℕ → Bool) → (ℕ → Bool) → Kept Bytes
+kept_of vars keeps = record {
+  variable = vars;
+  statement = keeps;
+  result = λ i. true;
+  argument = λ i n. true;
+  function = λ x. true;
+  parameter = λ x n. true;
+  gives = λ x. true;
+}
 
 module _ (raw : RawProgram) (vars keeps : ℕ → Bool) where
-  abbrev k : Kept
+  abbrev k : Kept Bytes
   k = kept_of vars keeps
 
   -- nothing stays, and what that needs is met
@@ -58,6 +67,10 @@ module _ (raw : RawProgram) (vars keeps : ℕ → Bool) where
   plain_goes : (b : Bool) (x : RawStatement-F RawStatement RawArm) (scope : Scope) (part : Part) → b ≡ false → IsGone (plain b x scope part)
   plain_goes true x scope part h = false_true (sym h)
   plain_goes false x scope part h = (tt, refl)
+
+  with_goes : (b : Bool) (needs : List Need) (x : RawStatement-F RawStatement RawArm) (scope : Scope) (part : Part) → b ≡ false → IsGone (plain_with b needs x scope part)
+  with_goes true needs x scope part h = false_true (sym h)
+  with_goes false needs x scope part h = (tt, refl)
 
   if_goes : (t : Bool) (l : ℕ) (a : RawExpr) (b c : Left) (scope : Scope) → t ≡ false → IsGone b → IsGone c → IsGone (if_left raw t l a b c scope)
   if_goes true l a b c scope h p q = false_true (sym h)
@@ -130,9 +143,9 @@ module _ (raw : RawProgram) (vars keeps : ℕ → Bool) where
     goes {scope} (Is.bumped {l} {a} {up} {before} {u} p) h f =
         at_form _ (left-Bump k raw l a up before) (plain_goes (keeps scope.statements) _ scope _ (unkept _ (ap (λ z. z.keeps) (nest-Bump keeps scope.statements l u up before)) h))
     goes {scope} (Is.written {l} {f = w} {args} {u} free one p) h f =
-        at_form _ (left-Call k raw l target.None w args) (plain_goes (keeps scope.statements) _ scope _ (unkept _ (ap (λ z. z.keeps) (nest-Write keeps scope.statements l u)) h))
+        at_form _ (left-Call k raw l target.None w args) (with_goes (keeps scope.statements) _ _ scope _ (unkept _ (ap (λ z. z.keeps) (nest-Write keeps scope.statements l u)) h))
     goes {scope} (Is.printed {l} {f = w} {text} {args} {us} free one p) h f =
-        at_form _ (left-Call k raw l target.None w args) (plain_goes (keeps scope.statements) _ scope _ (unkept _ (ap (λ z. z.keeps) (nest-Print keeps scope.statements l text us)) h))
+        at_form _ (left-Call k raw l target.None w args) (with_goes (keeps scope.statements) _ _ scope _ (unkept _ (ap (λ z. z.keeps) (nest-Print keeps scope.statements l text us)) h))
     goes {scope} (Is.branched {l} {a} {u} {b} {c} {zs} {ws} p d g) h f =
         let end = freed _ (scoped-If raw l a b c) f in
         let e = or_parts (keeps scope.statements) _ (unkept _ (ap (λ z. z.keeps) (nest-If keeps scope.statements l u zs ws)) h) in
@@ -162,7 +175,7 @@ module _ (raw : RawProgram) (vars keeps : ℕ → Bool) where
         let g = all_go d (unkept _ (ap (λ z. z.keeps) (nest-Block keeps l zs)) h) (freed _ (scoped-Block raw l b) f) in
         at_form _ (left-Block k raw l b) (g.0, ap (block_of l) g.1)
     goes {scope} (Is.returned {l} {a} {u} p) h f =
-        at_form _ (left-Return k raw l a) (plain_goes (keeps scope.statements) _ scope _ (unkept _ (ap (λ z. z.keeps) (nest-Return keeps scope.statements l u)) h))
+        at_form _ (left-Return k raw l a) (with_goes (keeps scope.statements) _ _ scope _ (unkept _ (ap (λ z. z.keeps) (nest-Return keeps scope.statements l u)) h))
 
     pub all_go : {scope : Scope} {xs : List RawStatement} {zs : List Statement} → Are raw scope xs zs → any_kept (map (nest keeps) zs) ≡ false → Free scope.variables (after_list raw xs scope).variables → IsGone (body_left k raw xs scope)
     all_go Are.none h f = (tt, refl)

@@ -13,8 +13,9 @@ use Rattle.c_scope_laws.specs.ThinnedBodies.{Left, ArmLeft, if_left, for_left, b
 use Rattle.c_scope_laws.proofs.ThinnedBodies.{left_after_block, left_after_part}
 use Rattle.thinned_syntax.proofs.LeftForms.{left-If, left-arm, left-For}
 use Rattle.c_language.specs.StatementGrammar.{arm}
+use Rattle.c_language.specs.Words.{Bytes}
 
-module _ (k : Kept) (raw : RawProgram) where
+module _ (k : Kept Bytes) (raw : RawProgram) where
   pub arm_after : (labels : List RawLabel) (body : List RawStatement) (scope : Scope) → (left_arm k raw (arm labels body)).after scope ≡ after_list raw body scope
   arm_after labels body scope =
       ap (λ (u : Scoped ArmLeft). u.after scope) (left-arm k raw labels body) ∙ statements_after raw Left ArmLeft (left_step k raw) (λ a. (left_arm_step k raw a).gives) body scope

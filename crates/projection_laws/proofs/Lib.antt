@@ -13,3 +13,4 @@ pub mod SamePrograms
 pub mod WellFormedProjections
 pub mod Clearing
 pub mod StandsNested
+pub mod MainProjections

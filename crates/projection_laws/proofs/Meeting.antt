@@ -28,8 +28,8 @@ use Rattle.c_language.specs.Words.{Bytes}
 use Rattle.c_language.specs.DeclaredTypes.{item_count}
 use Rattle.c_language.specs.Scopes.{Scope, Meaning, Entry, with_variable, opened, numbered, Scoped, in_order, after_all, after_part}
 use Rattle.c_language.specs.Phrases.{Stand, InBlock, Part, Declares, Begins, Assigns, Bumps, Calls, Tests, Switches, Returns, Phrases, scoped, scoped_of_arm}
-use Rattle.c_language.specs.Uses.{holds, expressions, lengths_step, lengths_in, cases, arg_exprs, if_given}
-use Rattle.c_language.specs.CallRules.{later_args}
+use Rattle.c_language.specs.Uses.{holds, expressions, lengths_step, lengths_in, cases, arg_exprs, if_given, is_library_function}
+use Rattle.c_language.specs.CallRules.{later_args, head_around}
 use Rattle.c_language.specs.ProgramOf.{optional, expr_of, arg_tree, args_tree, arm_tree}
 use Rattle.c_language.proofs.ScopedForms.{scoped-If, scoped-While, scoped-Do, scoped-For, scoped-Switch, scoped-Block, scoped_of_arm-arm}
 use Rattle.c_language.proofs.Options.{none_there, some_same, more_there}
@@ -40,8 +40,8 @@ use Rattle.c_language.specs.Names.{names, any_names, value_names}
 use Rattle.projection.specs.Names.{any_of, if_any, refers, arm_refers}
 use Rattle.projection.proofs.NamesPass.{NamesPass}
 use Rattle.c_scope_laws.specs.Agreement.{NamedIn, NamedAmong, Names}
-use Rattle.c_scope_laws.specs.Thinning.{name_stays, found, EntryStays, NamesStay, LabelsStay, declares, after_list, block_after, part_scope, body_scope}
-use Rattle.c_scope_laws.specs.ThinnedBodies.{AreMet, Left, ArmLeft, all_left, gone, beyond, part_needs, part_gone, arms_labels, arms_needs, left_alone, alone_all, alone_one, plain, declared, counted_var, counted_type, count_needs, if_left, while_left, do_left, for_left, switch_left, left, left_arm, body_left, part_given}
+use Rattle.c_scope_laws.specs.Thinning.{name_stays, found, EntryStays, NamesStay, LabelsStay, declares, after_list, block_after, part_scope, body_scope, kept_args}
+use Rattle.c_scope_laws.specs.ThinnedBodies.{AreMet, Left, ArmLeft, all_left, gone, beyond, part_needs, part_gone, arms_labels, arms_needs, left_alone, alone_all, alone_one, plain, declared, counted_var, counted_type, count_needs, if_left, while_left, do_left, for_left, switch_left, left, left_arm, body_left, part_given, Need, plain_with, passes, return_needs}
 use Rattle.c_scope_laws.proofs.Trees.{in_one}
 use Rattle.c_scope_laws.proofs.NamedTrees.{kept_by_tree}
 use Rattle.thinned_syntax.proofs.Counted.{counted-Integer}
@@ -57,6 +57,9 @@ use Rattle.thinned_syntax.proofs.LeftForms.{left-Declare, left-Assign, left-Bump
 use Rattle.projection_laws.proofs.LeftScopes.{arm_after, left_of_if, left_of_for}
 use Rattle.projection_laws.proofs.Going.{kept_of, IsGone, PartGone, Free, gone_needs, part_needs_gone, goes, all_go, part_goes}
 use Rattle.c_language.specs.StatementGrammar.{arm}
+use Rattle.projection_laws.specs.MainProjection.{main_words}
+use Rattle.c_scope_laws.proofs.WholeTexts.{all_args}
+use Rattle.c_tree.specs.declared.raw.program.RawHead.{RawHead}
 
 -- ---- numbers that aren't between two others
 
@@ -98,7 +101,7 @@ cases_append (label.Case a ∷ as_) bs = ap (λ (all : List RawExpr). a ∷ all)
 cases_append (label.Default ∷ as_) bs = cases_append as_ bs
 
 module _ (raw : RawProgram) (vars keeps : ℕ → Bool) where
-  abbrev k : Kept
+  abbrev k : Kept Bytes
   k = kept_of vars keeps
 
   abbrev Stays : Scope → RawExpr → Type 0
@@ -194,6 +197,23 @@ module _ (raw : RawProgram) (vars keeps : ℕ → Bool) where
   plain_met true x scope part h = ((h refl, tt), tt)
   plain_met false x scope part h = (tt, tt)
 
+  with_met : (b : Bool) (needs : List Need) (x : RawStatement-F RawStatement RawArm) (scope : Scope) (part : Part) → AreMet k needs → (b ≡ true → NamesStay k scope part) → Met k (plain_with b needs x scope part)
+  with_met true needs x scope part m h = ((h refl, m), tt)
+  with_met false needs x scope part m h = (tt, tt)
+
+  -- calls keep all arguments, and main gives its result
+  passed : (library : Bool) (f : Bytes) (args : List RawArg) (n : ℕ) → AreMet k (passes library f args n)
+  passed true f args n = tt
+  passed false f args n = ((λ i within. refl), tt)
+
+  returned : (around : Option RawHead) (a : Option RawExpr) → AreMet k (return_needs around a)
+  returned around None = tt
+  returned None (Some a) = tt
+  returned (Some h) (Some a) = (refl, tt)
+
+  all_named : (scope : Scope) (f : Bytes) (n : ℕ) (args : List RawArg) → NamesStay k scope (Calls InBlock target.None f args) → NamesStay k scope (Calls InBlock target.None f (kept_args k f n args))
+  all_named scope f n args h = subst (λ (as_ : List RawArg). NamesStay k scope (Calls InBlock target.None f as_)) (sym (all_args f n args)) h
+
   bare_met : (b : Bool) (l : ℕ) (v : RawVar) (scope : Scope) → IsQuiet v → Met k (declared raw b b l v init.None scope)
   bare_met true l v scope q =
       ((declares_stay scope v init.None (no_lengths v q.integer q.is), (begins_stay (with_variable raw v init.None scope) v init.None (λ a c. by_none a c), tt)), tt)
@@ -254,6 +274,10 @@ module _ (raw : RawProgram) (vars keeps : ℕ → Bool) where
   plain_begins true x scope part = plain_left refl refl
   plain_begins false x scope part = nothing_left refl
 
+  with_begins : (b : Bool) (needs : List Need) (x : RawStatement-F RawStatement RawArm) (scope : Scope) (part : Part) → Beginning (plain_with b needs x scope part)
+  with_begins true needs x scope part = plain_left refl refl
+  with_begins false needs x scope part = nothing_left refl
+
   declared_begins : (a b : Bool) (l : ℕ) (v : RawVar) (i : RawInit) (scope : Scope) → Beginning (declared raw a b l v i scope)
   declared_begins true true l v i scope = declaration_left refl (declares_it l v i)
   declared_begins true false l v i scope = declaration_left refl (declares_it l (counted_var v i) init.None)
@@ -268,8 +292,8 @@ module _ (raw : RawProgram) (vars keeps : ℕ → Bool) where
   starts {scope} (Is.begun {l} {v} {a} q at) h = begins_at _ (left-Declare k raw l v (init.One a)) (declared_begins (vars scope.variables) (keeps scope.statements) l v (init.One a) scope)
   starts {scope} (Is.assigned {l} {a} {b} {op} p q) h = begins_at _ (left-Assign k raw l a op b) (plain_begins (keeps scope.statements) _ scope _)
   starts {scope} (Is.bumped {l} {a} {up} {before} p) h = begins_at _ (left-Bump k raw l a up before) (plain_begins (keeps scope.statements) _ scope _)
-  starts {scope} (Is.written {l} {f} {args} free one p) h = begins_at _ (left-Call k raw l target.None f args) (plain_begins (keeps scope.statements) _ scope _)
-  starts {scope} (Is.printed {l} {f} {args} free one p) h = begins_at _ (left-Call k raw l target.None f args) (plain_begins (keeps scope.statements) _ scope _)
+  starts {scope} (Is.written {l} {f} {args} free one p) h = begins_at _ (left-Call k raw l target.None f args) (with_begins (keeps scope.statements) _ _ scope _)
+  starts {scope} (Is.printed {l} {f} {args} free one p) h = begins_at _ (left-Call k raw l target.None f args) (with_begins (keeps scope.statements) _ _ scope _)
   starts {scope} (Is.branched {l} {a} {b} {c} p d g) h =
       false_true (sym (ap (λ (x : Form). x.single) (ap form_of (sym (s.rolls-If l a b c)) ∙ fold-roll-RawStatement Form Form form_step form_arm (RawStatement-F.If l a b c))) ∙ h)
   starts {scope} (Is.while_loop {l} {a} {b} p d) h =
@@ -282,12 +306,12 @@ module _ (raw : RawProgram) (vars keeps : ℕ → Bool) where
       false_true (sym (ap (λ (x : Form). x.single) (ap form_of (sym (s.rolls-Switch l a arms)) ∙ fold-roll-RawStatement Form Form form_step form_arm (RawStatement-F.Switch l a arms))) ∙ h)
   starts {scope} (Is.blocked {l} {b} d) h =
       false_true (sym (ap (λ (x : Form). x.single) (ap form_of (sym (s.rolls-Block l b)) ∙ fold-roll-RawStatement Form Form form_step form_arm (RawStatement-F.Block l b))) ∙ h)
-  starts {scope} (Is.returned {l} {a} p) h = begins_at _ (left-Return k raw l a) (plain_begins (keeps scope.statements) _ scope _)
+  starts {scope} (Is.returned {l} {a} p) h = begins_at _ (left-Return k raw l a) (with_begins (keeps scope.statements) _ _ scope _)
 
   -- ---- along the text
 
   abbrev refs : Statement → ℕ → Bool
-  refs = refers keeps
+  refs = refers (main_words keeps)
 
   abbrev kept_in : Statement → Bool
   kept_in y = (nest keeps y).keeps
@@ -424,33 +448,33 @@ module _ (raw : RawProgram) (vars keeps : ℕ → Bool) where
     pub meets : {scope : Scope} {x : RawStatement} {y : Statement} → Is raw scope x y → Spans Any scope → fits_in y ≡ true → NamesPass (refs y) vars → (Still scope x → OnlyHere scope x y) → Met k ((left k raw x).gives scope)
     meets {scope} (Is.declared {l} {v} q) s fit kept only = met_at scope _ (left-Declare k raw l v init.None) (bare_met (vars scope.variables) l v scope q)
     meets {scope} (Is.begun {l} {v} {a} {w} q at) s fit kept only =
-        let is = refers-Declare keeps (Some scope.statements) l scope.variables (begins.One w) in
+        let is = refers-Declare (main_words keeps) (Some scope.statements) l scope.variables (begins.One w) in
         met_at scope _ (left-Declare k raw l v (init.One a))
         (begun_met (vars scope.variables) (keeps scope.statements) l v a scope q (λ c. kept scope.variables (back scope.variables is (and_from _ _ c (or_left (scope.variables == scope.variables) _ (eq-eqb scope.variables scope.variables refl)))))
         (λ c. expr_stays (with_variable raw v (init.One a) scope) a w at (λ id n. kept id (back id is (and_from _ _ c (or_right (scope.variables == id) (names w id) n))))))
     meets {scope} (Is.assigned {l} {a} {b} {op} {u} {w} p q) s fit kept only =
-        let is = refers-Assign keeps scope.statements l u op w in
+        let is = refers-Assign (main_words keeps) scope.statements l u op w in
         met_at scope _ (left-Assign k raw l a op b)
         (plain_met (keeps scope.statements) _ scope _
         (λ c. assigns_stay scope a b op (expr_stays scope a u p (λ id n. kept id (back id is (and_from _ _ c (or_left (names u id) _ n))))) (expr_stays scope b w q (λ id n. kept id (back id is (and_from _ _ c (or_right (names u id) _ n)))))))
     meets {scope} (Is.bumped {l} {a} {up} {before} {u} p) s fit kept only =
-        let is = refers-Bump keeps scope.statements l u up before in
+        let is = refers-Bump (main_words keeps) scope.statements l u up before in
         met_at scope _ (left-Bump k raw l a up before) (plain_met (keeps scope.statements) _ scope _ (λ c. bumps_stay scope a (expr_stays scope a u p (λ id n. kept id (back id is (and_from _ _ c n))))))
     meets {scope} (Is.written {l} {f} {args} {a} {u} free one p) s fit kept only =
-        let is = refers-Write keeps scope.statements l u in
+        let is = refers-Write (main_words keeps) scope.statements l u in
         met_at scope _ (left-Call k raw l target.None f args)
-        (plain_met (keeps scope.statements) _ scope _
-        (λ c. calls_stay scope f args free (λ e at. subst (Stays scope) (in_one a e (subst (λ (all : List RawExpr). Contains all e) one at)) (expr_stays scope a u p (λ id n. kept id (back id is (and_from _ _ c n)))))))
+        (with_met (keeps scope.statements) _ _ scope _ (passed (is_library_function f) f args scope.statements)
+        (λ c. all_named scope f scope.statements args (calls_stay scope f args free (λ e at. subst (Stays scope) (in_one a e (subst (λ (all : List RawExpr). Contains all e) one at)) (expr_stays scope a u p (λ id n. kept id (back id is (and_from _ _ c n))))))))
     meets {scope} (Is.printed {l} {f} {text} {args} {us} free one p) s fit kept only =
-        let is = refers-Print keeps scope.statements l text us in
+        let is = refers-Print (main_words keeps) scope.statements l text us in
         met_at scope _ (left-Call k raw l target.None f args)
-        (plain_met (keeps scope.statements) _ scope _
-        (λ c. calls_stay scope f args free (λ e at. args_stay scope (later_args args) us p (λ id n. kept id (back id is (and_from _ _ c n))) e (subst (λ (all : List RawExpr). Contains all e) one at))))
+        (with_met (keeps scope.statements) _ _ scope _ (passed (is_library_function f) f args scope.statements)
+        (λ c. all_named scope f scope.statements args (calls_stay scope f args free (λ e at. args_stay scope (later_args args) us p (λ id n. kept id (back id is (and_from _ _ c n))) e (subst (λ (all : List RawExpr). Contains all e) one at)))))
     meets {scope} (Is.returned {l} {a} {u} p) s fit kept only =
-        let is = refers-Return keeps scope.statements l u in
-        met_at scope _ (left-Return k raw l a) (plain_met (keeps scope.statements) _ scope _ (λ c. returns_stay scope a u p (λ id n. kept id (back id is (and_from _ _ c n)))))
+        let is = refers-Return (main_words keeps) scope.statements l u in
+        met_at scope _ (left-Return k raw l a) (with_met (keeps scope.statements) _ _ scope _ (returned (head_around raw scope) a) (λ c. returns_stay scope a u p (λ id n. kept id (back id is (and_from _ _ c n)))))
     meets {scope} (Is.branched {l} {a} {u} {b} {c} {zs} {ws} p d g) s fit kept only =
-        let is = refers-If keeps scope.statements l u zs ws in
+        let is = refers-If (main_words keeps) scope.statements l u zs ws in
         let here = only (ap (λ (u : Text). (u.after scope).names) (scoped-If raw l a b c)) in
         let end = ap (λ (u : Text). (u.after scope).variables) (scoped-If raw l a b c) in
         let start = opened (numbered scope) in
@@ -474,7 +498,7 @@ module _ (raw : RawProgram) (vars keeps : ℕ → Bool) where
         (λ t. subst (Met k) (left_of_if k raw l a b c scope)
         (unkept_met (Is.branched p d g) s (ap (λ z. z.keeps) (nest-If keeps scope.statements l u zs ws) ∙ not_kept (keeps scope.statements) _ _ t (and_from _ _ f.0 f.1)) here)))
     meets {scope} (Is.while_loop {l} {a} {u} {b} {zs} p d) s fit kept only =
-        let is = refers-While keeps scope.statements l u zs in
+        let is = refers-While (main_words keeps) scope.statements l u zs in
         let here = only (ap (λ (u : Text). (u.after scope).names) (scoped-While raw l a b)) in
         let end = ap (λ (u : Text). (u.after scope).variables) (scoped-While raw l a b) in
         let f = and_parts (governs (keeps scope.statements) (any_kept (map (nest keeps) zs))) _ (sym (ap (λ z. z.fits) (nest-While keeps scope.statements l u zs)) ∙ fit) in
@@ -486,7 +510,7 @@ module _ (raw : RawProgram) (vars keeps : ℕ → Bool) where
         (λ t. subst (λ (z : Scoped Left). Met k (z.gives scope)) (left-While k raw l a b)
         (unkept_met (Is.while_loop p d) s (ap (λ z. z.keeps) (nest-While keeps scope.statements l u zs) ∙ not_kept (keeps scope.statements) _ _ t (and_from _ _ f.0 f.1)) here)))
     meets {scope} (Is.do_loop {l} {a} {u} {b} {zs} p d) s fit kept only =
-        let is = refers-Do keeps scope.statements l u zs in
+        let is = refers-Do (main_words keeps) scope.statements l u zs in
         let here = only (ap (λ (u : Text). (u.after scope).names) (scoped-Do raw l a b)) in
         let end = ap (λ (u : Text). (u.after scope).variables) (scoped-Do raw l a b) in
         let f = and_parts (governs (keeps scope.statements) (any_kept (map (nest keeps) zs))) _ (sym (ap (λ z. z.fits) (nest-Do keeps scope.statements l u zs)) ∙ fit) in
@@ -498,7 +522,7 @@ module _ (raw : RawProgram) (vars keeps : ℕ → Bool) where
         (λ t. subst (λ (z : Scoped Left). Met k (z.gives scope)) (left-Do k raw l a b)
         (unkept_met (Is.do_loop p d) s (ap (λ z. z.keeps) (nest-Do keeps scope.statements l u zs) ∙ not_kept (keeps scope.statements) _ _ t (and_from _ _ f.0 f.1)) here)))
     meets {scope} (Is.switched {l} {a} {u} {arms} {zs} p d) s fit kept only =
-        let is = refers-Switch keeps scope.statements l u zs in
+        let is = refers-Switch (main_words keeps) scope.statements l u zs in
         let here = only (ap (λ (u : Text). (u.after scope).names) (scoped-Switch raw l a arms)) in
         let end = ap (λ (u : Text). (u.after scope).variables) (scoped-Switch raw l a arms) in
         let f = and_parts (governs (keeps scope.statements) (any_kept (map (arm_nest keeps) zs))) _ (sym (ap (λ z. z.fits) (nest-Switch keeps scope.statements l u zs)) ∙ fit) in
@@ -510,14 +534,14 @@ module _ (raw : RawProgram) (vars keeps : ℕ → Bool) where
         (λ t. subst (λ (z : Scoped Left). Met k (z.gives scope)) (left-Switch k raw l a arms)
         (unkept_met (Is.switched p d) s (ap (λ z. z.keeps) (nest-Switch keeps scope.statements l u zs) ∙ not_kept (keeps scope.statements) _ _ t (and_from _ _ f.0 f.1)) here)))
     meets {scope} (Is.blocked {l} {b} {zs} d) s fit kept only =
-        let is = refers-Block keeps l zs in
+        let is = refers-Block (main_words keeps) l zs in
         let here = only (ap (λ (u : Text). (u.after scope).names) (scoped-Block raw l b)) in
         let end = ap (λ (u : Text). (u.after scope).variables) (scoped-Block raw l b) in
         let inside = all_meet d (spans_later Any scope (opened scope) refl (le_refl scope.variables) s) (sym (ap (λ z. z.fits) (nest-Block keeps l zs)) ∙ fit) (λ id h. kept id (back id is h))
         (λ id v m n. onward id is (here id v m (subst (λ (j : ℕ). id < j) (sym end) n))) in
         met_at scope _ (left-Block k raw l b) (inside, block_alone k l (body_left k raw b (opened scope)).some)
     meets {scope} (Is.for_loop {l} {a} {u} {i} {step} {b} {first} {next} {zs} start d p g q) s fit kept only =
-        let is = refers-For keeps scope.statements l first u next zs in
+        let is = refers-For (main_words keeps) scope.statements l first u next zs in
         let here = only (ap (λ (u : Text). (u.after scope).names) (scoped-For raw l i a step b)) in
         let end = ap (λ (u : Text). (u.after scope).variables) (scoped-For raw l i a step b) in
         let z0 = opened (numbered scope) in
@@ -582,21 +606,21 @@ module _ (raw : RawProgram) (vars keeps : ℕ → Bool) where
     part_meets {scope} (IsPart.there {x} d) s fit kept only =
         let m = meets d s fit kept only in join_met k ((left k raw x).gives scope).needs (beyond ((left k raw x).gives scope).some) m.0 m.1
 
-    pub arms_meet : {scope : Scope} {xs : List RawArm} {zs : List Arm} → ArmsAre raw scope xs zs → Spans Any scope → all_fit (map (arm_nest keeps) zs) ≡ true → NamesPass (any_of (map (arm_refers keeps) zs)) vars
-        → Only scope.variables (after_all (map (scoped_of_arm raw) xs) scope).variables (any_of (map (arm_refers keeps) zs)) → AreMet k (arms_needs (in_order (map (left_arm k raw) xs) scope))
+    pub arms_meet : {scope : Scope} {xs : List RawArm} {zs : List Arm} → ArmsAre raw scope xs zs → Spans Any scope → all_fit (map (arm_nest keeps) zs) ≡ true → NamesPass (any_of (map (arm_refers (main_words keeps)) zs)) vars
+        → Only scope.variables (after_all (map (scoped_of_arm raw) xs) scope).variables (any_of (map (arm_refers (main_words keeps)) zs)) → AreMet k (arms_needs (in_order (map (left_arm k raw) xs) scope))
     arms_meet ArmsAre.no_arms s fit kept only = tt
     arms_meet {scope} (ArmsAre.more_arms {labels} {body} {rest} {ls} {zs} {arms} free still d g) s fit kept only =
         let next = after_list raw body scope in
-        let is = refers-arm keeps ls zs in
-        let here = arm_refers keeps (arm_tree ls zs) in
+        let is = refers-arm (main_words keeps) ls zs in
+        let here = arm_refers (main_words keeps) (arm_tree ls zs) in
         let end = ap (λ (u : Scoped _). (after_all (map (scoped_of_arm raw) rest) (u.after scope)).variables) (scoped_of_arm-arm raw labels body) in
         let f = and_parts (arm_nest keeps (arm_tree ls zs)).fits (all_fit (map (arm_nest keeps) arms)) fit in
         let whole = λ (id : ℕ) (v : vars id ≡ true) (m : scope.variables ≤ id) (n : id < (after_all (map (scoped_of_arm raw) rest) next).variables). only id v m (subst (λ (j : ℕ). id < j) (sym end) n) in
         let first = all_meet d s (sym (ap (λ z. z.fits) (nest-arm keeps ls zs)) ∙ f.0) (λ id h. kept id (or_left (here id) _ (back id is h)))
-        (λ id v m n. by_or (here id) (any_of (map (arm_refers keeps) arms) id) (whole id v m (lt_of_lt_of_le n (arms_grow raw g))) (λ r. onward id is r)
+        (λ id v m n. by_or (here id) (any_of (map (arm_refers (main_words keeps)) arms) id) (whole id v m (lt_of_lt_of_le n (arms_grow raw g))) (λ r. onward id is r)
         (λ r. not_between scope.variables next.variables id (arms_reach raw keeps (Gap scope.variables next.variables) g (gap_spans scope next s still (all_grow raw d)) id r).place m n)) in
         let later = arms_meet g (all_spans raw Any d s) f.1 (λ id h. kept id (or_right (here id) _ h))
-        (λ id v m n. by_or (here id) (any_of (map (arm_refers keeps) arms) id) (whole id v (le_trans (all_grow raw d) m) n) (λ r. too_low (all_reach raw keeps Any d s id (onward id is r)).below (le_refl next.variables) m) (λ r. r)) in
+        (λ id v m n. by_or (here id) (any_of (map (arm_refers (main_words keeps)) arms) id) (whole id v (le_trans (all_grow raw d) m) n) (λ r. too_low (all_reach raw keeps Any d s id (onward id is r)).below (le_refl next.variables) m) (λ r. r)) in
         subst (λ (z : Scope). AreMet k (arms_needs ((left_arm k raw (arm labels body)).gives scope ∷ in_order (map (left_arm k raw) rest) z))) (sym (arm_after k raw labels body scope))
         (subst (λ (u : Scoped ArmLeft). AreMet k (arms_needs (u.gives scope ∷ in_order (map (left_arm k raw) rest) next))) (sym (left-arm k raw labels body))
         (labels_stay scope labels free, join_met k (body_left k raw body scope).needs _ first later))

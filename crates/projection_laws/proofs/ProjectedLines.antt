@@ -66,7 +66,7 @@ declaring_unlined = fold_unlined declaring_step declaring_arm free
 declaring_same : (x y : Statement) → unlined x ≡ unlined y → is_declaring x ≡ is_declaring y
 declaring_same x y h = sym (declaring_unlined x) ∙ ap is_declaring h ∙ declaring_unlined y
 
-module _ (k : Kept) (g : ℕ → ℕ) where
+module _ {F : Type 0} (k : Kept F) (g : ℕ → ℕ) where
   abbrev Same : Statement → Type 0
   Same x = Alike (projected k g (unlined x)) (projected k g x)
 
@@ -115,10 +115,8 @@ module _ (k : Kept) (g : ℕ → ℕ) where
   invoke_same id l m to f args = one _ _ (unlined-Invoke id l to f args ∙ sym (unlined-Invoke id m to f args))
 
   calls_same : (id l m : ℕ) (to : Target) (f : ℕ) (args : List Expr) → Alike (projected_call k g id l to f args) (projected_call k g id m to f args)
-  calls_same id l m target.None f args = invoke_same _ l m _ _ _
-  calls_same id l m (target.Place a) f args = choice (k.result id) _ _ _ _ (invoke_same _ l m _ _ _) (invoke_same _ l m _ _ _)
-  calls_same id l m (target.Declared x) f args =
-      choice (k.result id) _ _ _ _ (invoke_same _ l m _ _ _) (appended (bare k g l x) _ (bare k g m x) _ (bare_same l m x) (invoke_same _ l m _ _ _))
+  calls_same id l m to f args =
+      choice (k.result id) _ _ _ _ (invoke_same _ l m _ _ _) (appended (bare_target k g l to) _ (bare_target k g m to) _ (targets_same l m to) (invoke_same _ l m _ _ _))
 
   alone_same : (l m : ℕ) (x y : Option Statement) → option_map unlined x ≡ option_map unlined y → Alike (alone l x) (alone m y)
   alone_same l m None None h = refl

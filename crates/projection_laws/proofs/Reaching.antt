@@ -35,6 +35,7 @@ use Rattle.c_scope_laws.proofs.Trees.{by_operands}
 use Rattle.projection_laws.specs.Nested.{any_kept, part_kept, nest, arm_nest}
 use Rattle.projection_laws.proofs.IntegerTexts.{Is, Are, IsPart, ArmsAre}
 use Rattle.projection_laws.proofs.StatementForms.{refers-Declare, refers-Assign, refers-Bump, refers-Write, refers-Print, refers-If, refers-While, refers-Do, refers-For, refers-Switch, refers-Block, refers-Return, refers-arm, nest-Declare, nest-Assign, nest-Bump, nest-Write, nest-Print, nest-If, nest-While, nest-Do, nest-For, nest-Switch, nest-Block, nest-Return, nest-arm}
+use Rattle.projection_laws.specs.MainProjection.{main_words}
 
 pub le_more : (n : ℕ) → n ≤ n + 1
 le_more n = omega arith
@@ -262,7 +263,7 @@ module _ (raw : RawProgram) where
     later r g k = record { place = r.place; below = lt_of_lt_of_le r.below g; kept_too = k r.kept_too }
 
     abbrev refs : Statement → ℕ → Bool
-    refs = refers keeps
+    refs = refers (main_words keeps)
 
     abbrev kept_in : Statement → Bool
     kept_in y = (nest keeps y).keeps
@@ -272,26 +273,26 @@ module _ (raw : RawProgram) where
 
     mutual
       pub reaches : (P : ℕ → Type 0) {scope : Scope} {x : RawStatement} {y : Statement} → Is raw scope x y → Spans P scope → (id : ℕ) → refs y id ≡ true → Reached P ((scoped raw x).after scope).variables (kept_in y) id
-      reaches P {scope} (Is.declared {l} {v} q) s id h = false_true (onward id (refers-Declare keeps None l scope.variables begins.None) h)
+      reaches P {scope} (Is.declared {l} {v} q) s id h = false_true (onward id (refers-Declare (main_words keeps) None l scope.variables begins.None) h)
       reaches P {scope} (Is.begun {l} {v} {a} {w} q at) s id h =
-          let k = and_parts (keeps scope.statements) _ (onward id (refers-Declare keeps (Some scope.statements) l scope.variables (begins.One w)) h) in
+          let k = and_parts (keeps scope.statements) _ (onward id (refers-Declare (main_words keeps) (Some scope.statements) l scope.variables (begins.One w)) h) in
           let inside = spans_more P scope v (init.One a) s in
           let grown = subst (λ (u : Text). scope.variables + 1 ≤ (u.after scope).variables) (sym (scoped-Declare raw l v (init.One a))) (le_refl (scope.variables + 1)) in
           reached (by_or (scope.variables == id) (names w id) k.1
           (λ p. subst (λ (z : ℕ). P z × (z < scope.variables + 1)) (eqb-true scope.variables id p) (s.fresh scope.variables (le_refl scope.variables), omega arith))
           (λ p. expr_spans P (with_variable raw v (init.One a) scope) inside a w at id p)) grown (ap (λ z. z.keeps) (nest-Declare keeps (Some scope.statements) l scope.variables (begins.One w)) ∙ k.0)
       reaches P {scope} (Is.assigned {l} {a} {b} {op} {u} {w} p q) s id h =
-          let k = and_parts (keeps scope.statements) _ (onward id (refers-Assign keeps scope.statements l u op w) h) in
+          let k = and_parts (keeps scope.statements) _ (onward id (refers-Assign (main_words keeps) scope.statements l u op w) h) in
           reached (by_or (names u id) (names w id) k.1 (λ r. expr_spans P scope s a u p id r) (λ r. expr_spans P scope s b w q id r)) (grows (Is.assigned {op = op} p q))
           (ap (λ z. z.keeps) (nest-Assign keeps scope.statements l u op w) ∙ k.0)
       reaches P {scope} (Is.bumped {l} {a} {up} {before} {u} p) s id h =
-          let k = and_parts (keeps scope.statements) _ (onward id (refers-Bump keeps scope.statements l u up before) h) in
+          let k = and_parts (keeps scope.statements) _ (onward id (refers-Bump (main_words keeps) scope.statements l u up before) h) in
           reached (expr_spans P scope s a u p id k.1) (grows (Is.bumped p)) (ap (λ z. z.keeps) (nest-Bump keeps scope.statements l u up before) ∙ k.0)
       reaches P {scope} (Is.written {l} {a} {u} free one p) s id h =
-          let k = and_parts (keeps scope.statements) _ (onward id (refers-Write keeps scope.statements l u) h) in
+          let k = and_parts (keeps scope.statements) _ (onward id (refers-Write (main_words keeps) scope.statements l u) h) in
           reached (expr_spans P scope s a u p id k.1) (grows (Is.written free one p)) (ap (λ z. z.keeps) (nest-Write keeps scope.statements l u) ∙ k.0)
       reaches P {scope} (Is.printed {l} {text} {args} {us} free one p) s id h =
-          let k = and_parts (keeps scope.statements) _ (onward id (refers-Print keeps scope.statements l text us) h) in
+          let k = and_parts (keeps scope.statements) _ (onward id (refers-Print (main_words keeps) scope.statements l text us) h) in
           reached (args_span P scope s _ us p id k.1) (grows (Is.printed {text = text} free one p)) (ap (λ z. z.keeps) (nest-Print keeps scope.statements l text us) ∙ k.0)
       reaches P {scope} (Is.branched {l} {a} {u} {b} {c} {zs} {ws} p d g) s id h =
           let grown = grows (Is.branched p d g) in
@@ -299,7 +300,7 @@ module _ (raw : RawProgram) where
           let kept = ap (λ z. z.keeps) (nest-If keeps scope.statements l u zs ws) in
           let s1 = spans_later P scope (opened (numbered scope)) refl (le_refl scope.variables) s in
           let s2 = spans_later P scope (opened (block_after raw b (numbered scope))) refl (all_grow d) s in
-          by_or (keeps scope.statements && names u id) _ (onward id (refers-If keeps scope.statements l u zs ws) h)
+          by_or (keeps scope.statements && names u id) _ (onward id (refers-If (main_words keeps) scope.statements l u zs ws) h)
           (λ r. let k = and_parts (keeps scope.statements) (names u id) r in reached (expr_spans P scope s a u p id k.1) grown (kept ∙ or_left (keeps scope.statements) _ k.0))
           (λ r. by_or (any_of (map refs zs) id) (any_of (map refs ws) id) r
           (λ r. later (all_reach P d s1 id r) (subst (λ (n : ℕ). (after_list raw b (opened (numbered scope))).variables ≤ n) (sym end) (all_grow g)) (λ k. kept ∙ or_right (keeps scope.statements) _ (or_left (all_kept_in zs) _ k)))
@@ -307,13 +308,13 @@ module _ (raw : RawProgram) where
       reaches P {scope} (Is.while_loop {l} {a} {u} {b} {zs} p d) s id h =
           let kept = ap (λ z. z.keeps) (nest-While keeps scope.statements l u zs) in
           let end = ap (λ (u : Text). (u.after scope).variables) (scoped-While raw l a b) in
-          by_or (keeps scope.statements && names u id) _ (onward id (refers-While keeps scope.statements l u zs) h)
+          by_or (keeps scope.statements && names u id) _ (onward id (refers-While (main_words keeps) scope.statements l u zs) h)
           (λ r. let k = and_parts (keeps scope.statements) (names u id) r in reached (expr_spans P scope s a u p id k.1) (grows (Is.while_loop p d)) (kept ∙ or_left (keeps scope.statements) _ k.0))
           (λ r. later (all_reach P d (spans_later P scope (opened (numbered scope)) refl (le_refl scope.variables) s) id r) (subst (λ (n : ℕ). (after_list raw b (opened (numbered scope))).variables ≤ n) (sym end) (le_refl _)) (λ k. kept ∙ or_right (keeps scope.statements) _ k))
       reaches P {scope} (Is.do_loop {l} {a} {u} {b} {zs} p d) s id h =
           let kept = ap (λ z. z.keeps) (nest-Do keeps scope.statements l u zs) in
           let end = ap (λ (u : Text). (u.after scope).variables) (scoped-Do raw l a b) in
-          by_or (keeps scope.statements && names u id) _ (onward id (refers-Do keeps scope.statements l u zs) h)
+          by_or (keeps scope.statements && names u id) _ (onward id (refers-Do (main_words keeps) scope.statements l u zs) h)
           (λ r. let k = and_parts (keeps scope.statements) (names u id) r in reached (expr_spans P scope s a u p id k.1) (grows (Is.do_loop p d)) (kept ∙ or_left (keeps scope.statements) _ k.0))
           (λ r. later (all_reach P d (spans_later P scope (opened (numbered scope)) refl (le_refl scope.variables) s) id r) (subst (λ (n : ℕ). (after_list raw b (opened (numbered scope))).variables ≤ n) (sym end) (le_refl _)) (λ k. kept ∙ or_right (keeps scope.statements) _ k))
       reaches P {scope} (Is.for_loop {l} {a} {u} {i} {step} {b} {first} {next} {zs} start d p g k) s id h =
@@ -326,7 +327,7 @@ module _ (raw : RawProgram) where
           let from_body = subst (λ (n : ℕ). (after_list raw b (opened (body_scope raw i step scope))).variables ≤ n) (sym end) (le_refl _) in
           let from_step = le_trans (all_grow k) from_body in
           let from_test = le_trans (part_grows g) from_step in
-          by_or (keeps scope.statements && names u id) _ (onward id (refers-For keeps scope.statements l first u next zs) h)
+          by_or (keeps scope.statements && names u id) _ (onward id (refers-For (main_words keeps) scope.statements l first u next zs) h)
           (λ r. let q = and_parts (keeps scope.statements) (names u id) r in reached (expr_spans P (part_scope raw i scope) s1 a u p id q.1) from_test (kept ∙ or_left (keeps scope.statements) _ q.0))
           (λ r. by_or (if_any (option_map refs first) id) _ r
           (λ r. later (part_reaches P d s0 id r) from_test (λ q. kept ∙ or_right (keeps scope.statements) _ (or_left (part_kept (option_map (nest keeps) first)) _ q)))
@@ -336,15 +337,15 @@ module _ (raw : RawProgram) where
       reaches P {scope} (Is.switched {l} {a} {u} {arms} {zs} p d) s id h =
           let kept = ap (λ z. z.keeps) (nest-Switch keeps scope.statements l u zs) in
           let end = ap (λ (u : Text). (u.after scope).variables) (scoped-Switch raw l a arms) in
-          by_or (keeps scope.statements && names u id) _ (onward id (refers-Switch keeps scope.statements l u zs) h)
+          by_or (keeps scope.statements && names u id) _ (onward id (refers-Switch (main_words keeps) scope.statements l u zs) h)
           (λ r. let k = and_parts (keeps scope.statements) (names u id) r in reached (expr_spans P scope s a u p id k.1) (grows (Is.switched p d)) (kept ∙ or_left (keeps scope.statements) _ k.0))
           (λ r. later (arms_reach P d (spans_later P scope (opened (numbered scope)) refl (le_refl scope.variables) s) id r) (subst (λ (n : ℕ). (after_all (map (scoped_of_arm raw) arms) (opened (numbered scope))).variables ≤ n) (sym end) (le_refl _)) (λ k. kept ∙ or_right (keeps scope.statements) _ k))
       reaches P {scope} (Is.blocked {l} {b} {zs} d) s id h =
           let kept = ap (λ z. z.keeps) (nest-Block keeps l zs) in
           let end = ap (λ (u : Text). (u.after scope).variables) (scoped-Block raw l b) in
-          later (all_reach P d (spans_later P scope (opened scope) refl (le_refl scope.variables) s) id (onward id (refers-Block keeps l zs) h)) (subst (λ (n : ℕ). (after_list raw b (opened scope)).variables ≤ n) (sym end) (le_refl _)) (λ k. kept ∙ k)
+          later (all_reach P d (spans_later P scope (opened scope) refl (le_refl scope.variables) s) id (onward id (refers-Block (main_words keeps) l zs) h)) (subst (λ (n : ℕ). (after_list raw b (opened scope)).variables ≤ n) (sym end) (le_refl _)) (λ k. kept ∙ k)
       reaches P {scope} (Is.returned {l} {a} {u} p) s id h =
-          let k = and_parts (keeps scope.statements) _ (onward id (refers-Return keeps scope.statements l u) h) in
+          let k = and_parts (keeps scope.statements) _ (onward id (refers-Return (main_words keeps) scope.statements l u) h) in
           reached (value_span P scope s a u p id k.1) (grows (Is.returned p)) (ap (λ z. z.keeps) (nest-Return keeps scope.statements l u) ∙ k.0)
 
       pub all_reach : (P : ℕ → Type 0) {scope : Scope} {xs : List RawStatement} {zs : List Statement} → Are raw scope xs zs → Spans P scope → (id : ℕ) → any_of (map refs zs) id ≡ true → Reached P (after_list raw xs scope).variables (all_kept_in zs) id
@@ -357,13 +358,13 @@ module _ (raw : RawProgram) where
       part_reaches P IsPart.missing s id h = false_true h
       part_reaches P (IsPart.there d) s id h = reaches P d s id h
 
-      pub arms_reach : (P : ℕ → Type 0) {scope : Scope} {xs : List RawArm} {zs : List Arm} → ArmsAre raw scope xs zs → Spans P scope → (id : ℕ) → any_of (map (arm_refers keeps) zs) id ≡ true
+      pub arms_reach : (P : ℕ → Type 0) {scope : Scope} {xs : List RawArm} {zs : List Arm} → ArmsAre raw scope xs zs → Spans P scope → (id : ℕ) → any_of (map (arm_refers (main_words keeps)) zs) id ≡ true
           → Reached P (after_all (map (scoped_of_arm raw) xs) scope).variables (any_kept (map (arm_nest keeps) zs)) id
       arms_reach P ArmsAre.no_arms s id h = false_true h
       arms_reach P {scope} (ArmsAre.more_arms {labels} {body} {rest} {ls} {zs} {arms} free still d g) s id h =
           let kept = ap (λ z. z.keeps) (nest-arm keeps ls zs) in
           let end = ap (λ (u : Scoped _). (after_all (map (scoped_of_arm raw) rest) (u.after scope)).variables) (scoped_of_arm-arm raw labels body) in
           let inside = arm_nest keeps (arm_tree ls zs) in
-          by_or (arm_refers keeps (arm_tree ls zs) id) (any_of (map (arm_refers keeps) arms) id) h
-          (λ r. later (all_reach P d s id (onward id (refers-arm keeps ls zs) r)) (subst (λ (n : ℕ). (after_list raw body scope).variables ≤ n) (sym end) (arms_grow g)) (λ k. or_left inside.keeps _ (kept ∙ k)))
+          by_or (arm_refers (main_words keeps) (arm_tree ls zs) id) (any_of (map (arm_refers (main_words keeps)) arms) id) h
+          (λ r. later (all_reach P d s id (onward id (refers-arm (main_words keeps) ls zs) r)) (subst (λ (n : ℕ). (after_list raw body scope).variables ≤ n) (sym end) (arms_grow g)) (λ k. or_left inside.keeps _ (kept ∙ k)))
           (λ r. later (arms_reach P g (all_spans P d s) id r) (subst (λ (n : ℕ). (after_all (map (scoped_of_arm raw) rest) (after_list raw body scope)).variables ≤ n) (sym end) (le_refl _)) (λ k. or_right inside.keeps _ k))

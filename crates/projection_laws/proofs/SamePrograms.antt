@@ -1,7 +1,7 @@
 -- The projections of programs that are the same but for lines.
 use Rattle.std.proofs.Common.{◌≡◌, ℕ, suc, List, [], ◌∷◌, map, Bool, true, false, ◌&&◌, ◌||◌, refl, sym, ap, ap₂, subst, ◌∙◌}
 use mathlib.Core.Path.{fun_ext}
-use Rattle.std.specs.Prelude.{All}
+use Rattle.std.specs.Prelude.{All, None, if◌then◌else◌}
 use Rattle.std.specs.List.{AllByRecursion, list_all, list_any}
 use Rattle.std.proofs.lemmas.List.Elements.{All-from_recursion, recursion_from_All}
 use Rattle.c_tree.specs.Unlined.{unlined, unlined_var, unlined_function, unlined_program, SameButLines}
@@ -11,18 +11,19 @@ use Rattle.c_tree.specs.declared.program.Item.{Item}
 use Rattle.c_tree.specs.declared.program.Program.{Program}
 use Rattle.c_tree.specs.declared.statement.Statement.{Statement}
 use Rattle.c_tree.specs.declared.statement.Statement.TheOpen.{Statement-F}
-use Rattle.projection.specs.Kept.{Kept, rank}
+use Rattle.projection.specs.Kept.{Kept, rank, chosen}
 use Rattle.projection.specs.Names.{refers_step, refers_arm, refers, body_refers, stays}
-use Rattle.projection.specs.Projection.{if_so, projected_function, projected_functions, projected_var, projected_vars, projected_program, kept_with, projection}
+use Rattle.projection.specs.Projection.{if_so, projected_function, projected_functions, projected_var, projected_vars, projected_program}
 use Rattle.built_forms.specs.IntegerForms.{IsPlainItem, statement_step, arm_step, is_integer_statement, IsIntegerLocal, IsIntegerMain}
 use Rattle.projection_laws.specs.Nested.{Nest, nest_step, nest_arm, is_nested, IsNested}
 use Rattle.c_tree.proofs.Unlining.{zeroed, fold_unlined}
 use Rattle.projection_laws.proofs.ProjectedLines.{all_projected_unlined}
 use Rattle.c_language.proofs.Lists.{head_is, tail_is, no_list}
+use Rattle.projection_laws.specs.MainProjection.{main_words, main_kept, main_projection}
 
 -- ---- steps that read no line
 
-refers_free : (keeps : ℕ → Bool) (x : Statement-F (ℕ → Bool) (ℕ → Bool)) → refers_step keeps (zeroed x) ≡ refers_step keeps x
+refers_free : (keeps : ℕ → Bool) (x : Statement-F (ℕ → Bool) (ℕ → Bool)) → refers_step (main_words keeps) (zeroed x) ≡ refers_step (main_words keeps) x
 refers_free keeps (Statement-F.Declare id l x i) = refl
 refers_free keeps (Statement-F.Assign id l a op b) = refl
 refers_free keeps (Statement-F.Bump id l a up before) = refl
@@ -76,8 +77,8 @@ nest_free keeps (Statement-F.Switch id l e arms) = refl
 nest_free keeps (Statement-F.Block l b) = refl
 nest_free keeps (Statement-F.Return id l e) = refl
 
-refers_unlined : (keeps : ℕ → Bool) (x : Statement) → refers keeps (unlined x) ≡ refers keeps x
-refers_unlined keeps = fold_unlined (refers_step keeps) (refers_arm keeps) (refers_free keeps)
+refers_unlined : (keeps : ℕ → Bool) (x : Statement) → refers (main_words keeps) (unlined x) ≡ refers (main_words keeps) x
+refers_unlined keeps = fold_unlined (refers_step (main_words keeps)) (refers_arm (main_words keeps)) (refers_free keeps)
 
 integer_unlined : (x : Statement) → is_integer_statement (unlined x) ≡ is_integer_statement x
 integer_unlined = fold_unlined statement_step arm_step integer_free
@@ -91,25 +92,27 @@ list_unlined : (f : Statement → Bool) → ((x : Statement) → f (unlined x) �
 list_unlined f same [] = refl
 list_unlined f same (x ∷ xs) = ap₂ (λ (a b : Bool). a && b) (same x) (list_unlined f same xs)
 
-body_unlined : (keeps : ℕ → Bool) (xs : List Statement) (id : ℕ) → body_refers keeps (map unlined xs) id ≡ body_refers keeps xs id
+body_unlined : (keeps : ℕ → Bool) (xs : List Statement) (id : ℕ) → body_refers (main_words keeps) (map unlined xs) id ≡ body_refers (main_words keeps) xs id
 body_unlined keeps [] id = refl
 body_unlined keeps (x ∷ xs) id = ap₂ (λ (a b : Bool). a || b) (ap (λ (f : ℕ → Bool). f id) (refers_unlined keeps x)) (body_unlined keeps xs id)
 
 -- the variables that stay
-functions_refer : (keeps : ℕ → Bool) (fs : List Function) (id : ℕ) → list_any (λ (f : Function). body_refers keeps f.body id) (map unlined_function fs) ≡ list_any (λ (f : Function). body_refers keeps f.body id) fs
+functions_refer : (keeps : ℕ → Bool) (fs : List Function) (id : ℕ) → list_any (λ (f : Function). body_refers (main_words keeps) f.body id) (map unlined_function fs) ≡ list_any (λ (f : Function). body_refers (main_words keeps) f.body id) fs
 functions_refer keeps [] id = refl
 functions_refer keeps (f ∷ fs) id = ap₂ (λ (a b : Bool). a || b) (body_unlined keeps f.body id) (functions_refer keeps fs id)
 
 -- the same variables stay
-pub stays_same : (p q : Program) (keeps : ℕ → Bool) → SameButLines p q → stays keeps p ≡ stays keeps q
-stays_same p q keeps h = sym (fun_ext (functions_refer keeps p.functions)) ∙ ap (stays keeps) h ∙ fun_ext (functions_refer keeps q.functions)
+pub stays_same : (p q : Program) (keeps : ℕ → Bool) → SameButLines p q → stays (main_words keeps) p ≡ stays (main_words keeps) q
+stays_same p q keeps h = sym (fun_ext (functions_refer keeps p.functions)) ∙ ap (stays (main_words keeps)) h ∙ fun_ext (functions_refer keeps q.functions)
 
-kept_unlined : (p : Program) (keeps : ℕ → Bool) → kept_with (unlined_program p) keeps ≡ kept_with p keeps
-kept_unlined p keeps = ap (λ (vars : ℕ → Bool). record { variable = vars; statement = keeps; result = λ i. true; function = λ name. true }) (fun_ext (functions_refer keeps p.functions))
+kept_unlined : (p : Program) (keeps : ℕ → Bool) → main_kept (unlined_program p) keeps ≡ main_kept p keeps
+kept_unlined p keeps =
+    ap (λ (vars : ℕ → Bool). record { variable = vars; statement = keeps; result = λ i. true; argument = λ i n. true; function = λ f. true; parameter = λ f n. true; gives = λ f. true })
+    (fun_ext (functions_refer keeps p.functions))
 
 -- ---- what stays, without lines
 
-module _ (k : Kept) (g : ℕ → ℕ) where
+module _ (k : Kept ℕ) (g : ℕ → ℕ) where
   vars_unlined : (n : ℕ) (vs : List Var) → map unlined_var (projected_vars k g n (map unlined_var vs)) ≡ map unlined_var (projected_vars k g n vs)
   vars_unlined n [] = refl
   vars_unlined n (v ∷ vs) = by_test (k.variable n) (vars_unlined (suc n) vs)
@@ -120,29 +123,32 @@ module _ (k : Kept) (g : ℕ → ℕ) where
       by_test true later = ap (λ (ws : List Var). unlined_var (projected_var k g v) ∷ ws) later
       by_test false later = later
 
-  function_unlined : (f : Function) → unlined_function (projected_function k g (unlined_function f)) ≡ unlined_function (projected_function k g f)
-  function_unlined f = ap (λ (xs : List Statement). record f { line = 0; params = map (rank k.variable) f.params; body = xs }) (all_projected_unlined k g f.body)
+  function_unlined : (n : ℕ) (f : Function) → unlined_function (projected_function k g n (unlined_function f)) ≡ unlined_function (projected_function k g n f)
+  function_unlined n f =
+      ap (λ (xs : List Statement). record f { line = 0; result = if k.gives n then f.result else None; params = map (rank k.variable) (chosen (k.parameter n) 0 f.params); body = xs })
+      (all_projected_unlined k g f.body)
 
-  functions_unlined : (fs : List Function) → map unlined_function (projected_functions k g (map unlined_function fs)) ≡ map unlined_function (projected_functions k g fs)
-  functions_unlined [] = refl
-  functions_unlined (f ∷ fs) = by_test (k.function f.name) (functions_unlined fs)
+module _ (k : Kept ℕ) where
+  functions_unlined : (n : ℕ) (fs : List Function) → map unlined_function (projected_functions k n (map unlined_function fs)) ≡ map unlined_function (projected_functions k n fs)
+  functions_unlined n [] = refl
+  functions_unlined n (f ∷ fs) = by_test (k.function n) (functions_unlined (suc n) fs)
     where
-      by_test : (b : Bool) → map unlined_function (projected_functions k g (map unlined_function fs)) ≡ map unlined_function (projected_functions k g fs)
-          → map unlined_function (if_so b (projected_function k g (unlined_function f) ∷ projected_functions k g (map unlined_function fs)) (projected_functions k g (map unlined_function fs)))
-          ≡ map unlined_function (if_so b (projected_function k g f ∷ projected_functions k g fs) (projected_functions k g fs))
-      by_test true later = ap₂ (λ (a : Function) (as_ : List Function). a ∷ as_) (function_unlined f) later
+      by_test : (b : Bool) → map unlined_function (projected_functions k (suc n) (map unlined_function fs)) ≡ map unlined_function (projected_functions k (suc n) fs)
+          → map unlined_function (if_so b (projected_function k (rank k.function) n (unlined_function f) ∷ projected_functions k (suc n) (map unlined_function fs)) (projected_functions k (suc n) (map unlined_function fs)))
+          ≡ map unlined_function (if_so b (projected_function k (rank k.function) n f ∷ projected_functions k (suc n) fs) (projected_functions k (suc n) fs))
+      by_test true later = ap₂ (λ (a : Function) (as_ : List Function). a ∷ as_) (function_unlined k (rank k.function) n f) later
       by_test false later = later
 
-program_unlined : (k : Kept) (test : ℕ → Bool) (p : Program) → unlined_program (projected_program k test (unlined_program p)) ≡ unlined_program (projected_program k test p)
-program_unlined k test p =
-    ap₂ (λ (vs : List Var) (fs : List Function). record (projected_program k test p) { vars = vs; functions = fs }) (vars_unlined k (rank test) 0 p.vars) (functions_unlined k (rank test) p.functions)
+  program_unlined : (p : Program) → unlined_program (projected_program k (unlined_program p)) ≡ unlined_program (projected_program k p)
+  program_unlined p =
+      ap₂ (λ (vs : List Var) (fs : List Function). record (projected_program k p) { vars = vs; functions = fs }) (vars_unlined k (rank k.function) 0 p.vars) (functions_unlined 0 p.functions)
 
-projection_unlined : (p : Program) (keeps : ℕ → Bool) → unlined_program (projection (unlined_program p) keeps) ≡ unlined_program (projection p keeps)
+projection_unlined : (p : Program) (keeps : ℕ → Bool) → unlined_program (main_projection (unlined_program p) keeps) ≡ unlined_program (main_projection p keeps)
 projection_unlined p keeps =
-    ap (λ (k : Kept). unlined_program (projected_program k (λ f. true) (unlined_program p))) (kept_unlined p keeps) ∙ program_unlined (kept_with p keeps) (λ f. true) p
+    ap (λ (k : Kept ℕ). unlined_program (projected_program k (unlined_program p))) (kept_unlined p keeps) ∙ program_unlined (main_kept p keeps) p
 
-pub projections_same : (p q : Program) (keeps : ℕ → Bool) → SameButLines p q → SameButLines (projection p keeps) (projection q keeps)
-projections_same p q keeps h = sym (projection_unlined p keeps) ∙ ap (λ (r : Program). unlined_program (projection r keeps)) h ∙ projection_unlined q keeps
+pub projections_same : (p q : Program) (keeps : ℕ → Bool) → SameButLines p q → SameButLines (main_projection p keeps) (main_projection q keeps)
+projections_same p q keeps h = sym (projection_unlined p keeps) ∙ ap (λ (r : Program). unlined_program (main_projection r keeps)) h ∙ projection_unlined q keeps
 
 -- ---- integer mains
 

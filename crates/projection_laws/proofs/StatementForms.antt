@@ -12,6 +12,7 @@ use Rattle.c_tree.specs.declared.statement.Statement.{Statement, fold-roll-State
 use Rattle.c_tree.specs.declared.statement.Statement.TheOpen.{Statement-F}
 use Rattle.c_tree.specs.declared.statement.Statement.TheVariants as t
 use Rattle.c_language.specs.Words.{Bytes}
+use Rattle.projection.specs.Kept.{KeptWords}
 use Rattle.projection.specs.Names.{refers_step, refers_arm, refers, arm_refers}
 use Rattle.built_forms.specs.IntegerForms.{statement_step, arm_step, is_integer_statement, is_integer_arm}
 use Rattle.projection_laws.specs.Nested.{Nest, nest_step, nest_arm, nest, arm_nest}
@@ -56,49 +57,50 @@ integer-Block l b = ap is_integer_statement (sym (t.rolls-Block l b)) ∙ fold-r
 pub integer-arm : (labels : List Label) (b : List Statement) → is_integer_arm (roll-Arm (record { labels = labels; body = b })) ≡ arm_step (record { labels = labels; body = map is_integer_statement b })
 integer-arm labels b = fold-roll-Arm Bool Bool statement_step arm_step (record { labels = labels; body = b })
 
+module _ (words : KeptWords) where
+  pub refers-Declare : (id : Option ℕ) (l : ℕ) (x : ℕ) (i : Init) → refers words (t.Declare id l x i) ≡ (refers_step words) (Statement-F.Declare id l x i)
+  refers-Declare id l x i = ap (refers words) (sym (t.rolls-Declare id l x i)) ∙ fold-roll-Statement (ℕ → Bool) (ℕ → Bool) (refers_step words) (refers_arm words) (Statement-F.Declare id l x i)
+
+  pub refers-Assign : (id : ℕ) (l : ℕ) (a : Expr) (op : Option BinaryOp) (b : Expr) → refers words (t.Assign id l a op b) ≡ (refers_step words) (Statement-F.Assign id l a op b)
+  refers-Assign id l a op b = ap (refers words) (sym (t.rolls-Assign id l a op b)) ∙ fold-roll-Statement (ℕ → Bool) (ℕ → Bool) (refers_step words) (refers_arm words) (Statement-F.Assign id l a op b)
+
+  pub refers-Bump : (id : ℕ) (l : ℕ) (a : Expr) (up : Bool) (before : Bool) → refers words (t.Bump id l a up before) ≡ (refers_step words) (Statement-F.Bump id l a up before)
+  refers-Bump id l a up before = ap (refers words) (sym (t.rolls-Bump id l a up before)) ∙ fold-roll-Statement (ℕ → Bool) (ℕ → Bool) (refers_step words) (refers_arm words) (Statement-F.Bump id l a up before)
+
+  pub refers-Write : (id : ℕ) (l : ℕ) (a : Expr) → refers words (t.Write id l a) ≡ (refers_step words) (Statement-F.Write id l a)
+  refers-Write id l a = ap (refers words) (sym (t.rolls-Write id l a)) ∙ fold-roll-Statement (ℕ → Bool) (ℕ → Bool) (refers_step words) (refers_arm words) (Statement-F.Write id l a)
+
+  pub refers-Print : (id : ℕ) (l : ℕ) (format : Bytes) (args : List Expr) → refers words (t.Print id l format args) ≡ (refers_step words) (Statement-F.Print id l format args)
+  refers-Print id l format args = ap (refers words) (sym (t.rolls-Print id l format args)) ∙ fold-roll-Statement (ℕ → Bool) (ℕ → Bool) (refers_step words) (refers_arm words) (Statement-F.Print id l format args)
+
+  pub refers-If : (id : ℕ) (l : ℕ) (a : Expr) (b : List Statement) (c : List Statement) → refers words (t.If id l a b c) ≡ (refers_step words) (Statement-F.If id l a (map (refers words) b) (map (refers words) c))
+  refers-If id l a b c = ap (refers words) (sym (t.rolls-If id l a b c)) ∙ fold-roll-Statement (ℕ → Bool) (ℕ → Bool) (refers_step words) (refers_arm words) (Statement-F.If id l a b c)
+
+  pub refers-While : (id : ℕ) (l : ℕ) (a : Expr) (b : List Statement) → refers words (t.While id l a b) ≡ (refers_step words) (Statement-F.While id l a (map (refers words) b))
+  refers-While id l a b = ap (refers words) (sym (t.rolls-While id l a b)) ∙ fold-roll-Statement (ℕ → Bool) (ℕ → Bool) (refers_step words) (refers_arm words) (Statement-F.While id l a b)
+
+  pub refers-Do : (id : ℕ) (l : ℕ) (a : Expr) (b : List Statement) → refers words (t.Do id l a b) ≡ (refers_step words) (Statement-F.Do id l a (map (refers words) b))
+  refers-Do id l a b = ap (refers words) (sym (t.rolls-Do id l a b)) ∙ fold-roll-Statement (ℕ → Bool) (ℕ → Bool) (refers_step words) (refers_arm words) (Statement-F.Do id l a b)
+
+  pub refers-For : (id : ℕ) (l : ℕ) (i : Option Statement) (a : Expr) (step : Option Statement) (b : List Statement) → refers words (t.For id l i a step b) ≡ (refers_step words) (Statement-F.For id l (option_map (refers words) i) a (option_map (refers words) step) (map (refers words) b))
+  refers-For id l None a None b = ap (refers words) (sym (t.rolls-For id l None a None b)) ∙ fold-roll-Statement (ℕ → Bool) (ℕ → Bool) (refers_step words) (refers_arm words) (Statement-F.For id l None a None b)
+  refers-For id l None a (Some step) b = ap (refers words) (sym (t.rolls-For id l None a (Some step) b)) ∙ fold-roll-Statement (ℕ → Bool) (ℕ → Bool) (refers_step words) (refers_arm words) (Statement-F.For id l None a (Some step) b)
+  refers-For id l (Some i) a None b = ap (refers words) (sym (t.rolls-For id l (Some i) a None b)) ∙ fold-roll-Statement (ℕ → Bool) (ℕ → Bool) (refers_step words) (refers_arm words) (Statement-F.For id l (Some i) a None b)
+  refers-For id l (Some i) a (Some step) b = ap (refers words) (sym (t.rolls-For id l (Some i) a (Some step) b)) ∙ fold-roll-Statement (ℕ → Bool) (ℕ → Bool) (refers_step words) (refers_arm words) (Statement-F.For id l (Some i) a (Some step) b)
+
+  pub refers-Switch : (id : ℕ) (l : ℕ) (a : Expr) (arms : List Arm) → refers words (t.Switch id l a arms) ≡ (refers_step words) (Statement-F.Switch id l a (map (arm_refers words) arms))
+  refers-Switch id l a arms = ap (refers words) (sym (t.rolls-Switch id l a arms)) ∙ fold-roll-Statement (ℕ → Bool) (ℕ → Bool) (refers_step words) (refers_arm words) (Statement-F.Switch id l a arms)
+
+  pub refers-Block : (l : ℕ) (b : List Statement) → refers words (t.Block l b) ≡ (refers_step words) (Statement-F.Block l (map (refers words) b))
+  refers-Block l b = ap (refers words) (sym (t.rolls-Block l b)) ∙ fold-roll-Statement (ℕ → Bool) (ℕ → Bool) (refers_step words) (refers_arm words) (Statement-F.Block l b)
+
+  pub refers-Return : (id : ℕ) (l : ℕ) (value : Option Expr) → refers words (t.Return id l value) ≡ (refers_step words) (Statement-F.Return id l value)
+  refers-Return id l value = ap (refers words) (sym (t.rolls-Return id l value)) ∙ fold-roll-Statement (ℕ → Bool) (ℕ → Bool) (refers_step words) (refers_arm words) (Statement-F.Return id l value)
+
+  pub refers-arm : (labels : List Label) (b : List Statement) → arm_refers words (roll-Arm (record { labels = labels; body = b })) ≡ refers_arm words (record { labels = labels; body = map (refers words) b })
+  refers-arm labels b = fold-roll-Arm (ℕ → Bool) (ℕ → Bool) (refers_step words) (refers_arm words) (record { labels = labels; body = b })
+
 module _ (keeps : ℕ → Bool) where
-  pub refers-Declare : (id : Option ℕ) (l : ℕ) (x : ℕ) (i : Init) → (refers keeps) (t.Declare id l x i) ≡ (refers_step keeps) (Statement-F.Declare id l x i)
-  refers-Declare id l x i = ap (refers keeps) (sym (t.rolls-Declare id l x i)) ∙ fold-roll-Statement (ℕ → Bool) (ℕ → Bool) (refers_step keeps) (refers_arm keeps) (Statement-F.Declare id l x i)
-
-  pub refers-Assign : (id : ℕ) (l : ℕ) (a : Expr) (op : Option BinaryOp) (b : Expr) → (refers keeps) (t.Assign id l a op b) ≡ (refers_step keeps) (Statement-F.Assign id l a op b)
-  refers-Assign id l a op b = ap (refers keeps) (sym (t.rolls-Assign id l a op b)) ∙ fold-roll-Statement (ℕ → Bool) (ℕ → Bool) (refers_step keeps) (refers_arm keeps) (Statement-F.Assign id l a op b)
-
-  pub refers-Bump : (id : ℕ) (l : ℕ) (a : Expr) (up : Bool) (before : Bool) → (refers keeps) (t.Bump id l a up before) ≡ (refers_step keeps) (Statement-F.Bump id l a up before)
-  refers-Bump id l a up before = ap (refers keeps) (sym (t.rolls-Bump id l a up before)) ∙ fold-roll-Statement (ℕ → Bool) (ℕ → Bool) (refers_step keeps) (refers_arm keeps) (Statement-F.Bump id l a up before)
-
-  pub refers-Write : (id : ℕ) (l : ℕ) (a : Expr) → (refers keeps) (t.Write id l a) ≡ (refers_step keeps) (Statement-F.Write id l a)
-  refers-Write id l a = ap (refers keeps) (sym (t.rolls-Write id l a)) ∙ fold-roll-Statement (ℕ → Bool) (ℕ → Bool) (refers_step keeps) (refers_arm keeps) (Statement-F.Write id l a)
-
-  pub refers-Print : (id : ℕ) (l : ℕ) (format : Bytes) (args : List Expr) → (refers keeps) (t.Print id l format args) ≡ (refers_step keeps) (Statement-F.Print id l format args)
-  refers-Print id l format args = ap (refers keeps) (sym (t.rolls-Print id l format args)) ∙ fold-roll-Statement (ℕ → Bool) (ℕ → Bool) (refers_step keeps) (refers_arm keeps) (Statement-F.Print id l format args)
-
-  pub refers-If : (id : ℕ) (l : ℕ) (a : Expr) (b : List Statement) (c : List Statement) → (refers keeps) (t.If id l a b c) ≡ (refers_step keeps) (Statement-F.If id l a (map (refers keeps) b) (map (refers keeps) c))
-  refers-If id l a b c = ap (refers keeps) (sym (t.rolls-If id l a b c)) ∙ fold-roll-Statement (ℕ → Bool) (ℕ → Bool) (refers_step keeps) (refers_arm keeps) (Statement-F.If id l a b c)
-
-  pub refers-While : (id : ℕ) (l : ℕ) (a : Expr) (b : List Statement) → (refers keeps) (t.While id l a b) ≡ (refers_step keeps) (Statement-F.While id l a (map (refers keeps) b))
-  refers-While id l a b = ap (refers keeps) (sym (t.rolls-While id l a b)) ∙ fold-roll-Statement (ℕ → Bool) (ℕ → Bool) (refers_step keeps) (refers_arm keeps) (Statement-F.While id l a b)
-
-  pub refers-Do : (id : ℕ) (l : ℕ) (a : Expr) (b : List Statement) → (refers keeps) (t.Do id l a b) ≡ (refers_step keeps) (Statement-F.Do id l a (map (refers keeps) b))
-  refers-Do id l a b = ap (refers keeps) (sym (t.rolls-Do id l a b)) ∙ fold-roll-Statement (ℕ → Bool) (ℕ → Bool) (refers_step keeps) (refers_arm keeps) (Statement-F.Do id l a b)
-
-  pub refers-For : (id : ℕ) (l : ℕ) (i : Option Statement) (a : Expr) (step : Option Statement) (b : List Statement) → (refers keeps) (t.For id l i a step b) ≡ (refers_step keeps) (Statement-F.For id l (option_map (refers keeps) i) a (option_map (refers keeps) step) (map (refers keeps) b))
-  refers-For id l None a None b = ap (refers keeps) (sym (t.rolls-For id l None a None b)) ∙ fold-roll-Statement (ℕ → Bool) (ℕ → Bool) (refers_step keeps) (refers_arm keeps) (Statement-F.For id l None a None b)
-  refers-For id l None a (Some step) b = ap (refers keeps) (sym (t.rolls-For id l None a (Some step) b)) ∙ fold-roll-Statement (ℕ → Bool) (ℕ → Bool) (refers_step keeps) (refers_arm keeps) (Statement-F.For id l None a (Some step) b)
-  refers-For id l (Some i) a None b = ap (refers keeps) (sym (t.rolls-For id l (Some i) a None b)) ∙ fold-roll-Statement (ℕ → Bool) (ℕ → Bool) (refers_step keeps) (refers_arm keeps) (Statement-F.For id l (Some i) a None b)
-  refers-For id l (Some i) a (Some step) b = ap (refers keeps) (sym (t.rolls-For id l (Some i) a (Some step) b)) ∙ fold-roll-Statement (ℕ → Bool) (ℕ → Bool) (refers_step keeps) (refers_arm keeps) (Statement-F.For id l (Some i) a (Some step) b)
-
-  pub refers-Switch : (id : ℕ) (l : ℕ) (a : Expr) (arms : List Arm) → (refers keeps) (t.Switch id l a arms) ≡ (refers_step keeps) (Statement-F.Switch id l a (map (arm_refers keeps) arms))
-  refers-Switch id l a arms = ap (refers keeps) (sym (t.rolls-Switch id l a arms)) ∙ fold-roll-Statement (ℕ → Bool) (ℕ → Bool) (refers_step keeps) (refers_arm keeps) (Statement-F.Switch id l a arms)
-
-  pub refers-Block : (l : ℕ) (b : List Statement) → (refers keeps) (t.Block l b) ≡ (refers_step keeps) (Statement-F.Block l (map (refers keeps) b))
-  refers-Block l b = ap (refers keeps) (sym (t.rolls-Block l b)) ∙ fold-roll-Statement (ℕ → Bool) (ℕ → Bool) (refers_step keeps) (refers_arm keeps) (Statement-F.Block l b)
-
-  pub refers-Return : (id : ℕ) (l : ℕ) (value : Option Expr) → (refers keeps) (t.Return id l value) ≡ (refers_step keeps) (Statement-F.Return id l value)
-  refers-Return id l value = ap (refers keeps) (sym (t.rolls-Return id l value)) ∙ fold-roll-Statement (ℕ → Bool) (ℕ → Bool) (refers_step keeps) (refers_arm keeps) (Statement-F.Return id l value)
-
-  pub refers-arm : (labels : List Label) (b : List Statement) → arm_refers keeps (roll-Arm (record { labels = labels; body = b })) ≡ refers_arm keeps (record { labels = labels; body = map (refers keeps) b })
-  refers-arm labels b = fold-roll-Arm (ℕ → Bool) (ℕ → Bool) (refers_step keeps) (refers_arm keeps) (record { labels = labels; body = b })
-
   pub nest-Declare : (id : Option ℕ) (l : ℕ) (x : ℕ) (i : Init) → (nest keeps) (t.Declare id l x i) ≡ (nest_step keeps) (Statement-F.Declare id l x i)
   nest-Declare id l x i = ap (nest keeps) (sym (t.rolls-Declare id l x i)) ∙ fold-roll-Statement Nest Nest (nest_step keeps) (nest_arm keeps) (Statement-F.Declare id l x i)
 

@@ -1,3 +1,4 @@
 pub mod Nested
 pub mod Staying
+pub mod MainProjection
 pub mod Laws

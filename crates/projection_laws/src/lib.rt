@@ -4,7 +4,7 @@
 //! `specs/Nested` and of the crates below.
 #![tactic(auto)]
 
-ghost use Rattle.projection_laws.specs.Laws.{NestedIsClear, NestedIsStanding, ProjectionIsWellFormed, ProjectionsAreSame, StandingIsNested};
+ghost use Rattle.projection_laws.specs.Laws.{NestedIsClear, NestedIsStanding, ProjectionIsWellFormed, ProjectionOfMain, ProjectionsAreSame, StandingIsNested};
 
 /// A law: the projection of a well-formed main over integers is well-formed, where each if, loop
 /// and switch is kept in which something is.
@@ -33,4 +33,10 @@ pub fn nested_is_standing()
 /// kept, also no declaration whose variable kept text refers to, but for what a `for` begins with.
 pub fn nested_is_clear()
     ensures { NestedIsClear }
+{}
+
+/// A law: the projection of an integer main to a set of vertices of a graph that keeps its entry is its
+/// projection to the statements that the set keeps.
+pub fn projection_of_main()
+    ensures { ProjectionOfMain }
 {}

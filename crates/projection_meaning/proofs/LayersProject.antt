@@ -16,7 +16,7 @@ use Rattle.c_tree.proofs.Trees.{StatementParts, statement_layer, ArmParts, arm_l
 use Rattle.c_language.specs.Code as language
 use Rattle.c_language.specs.Code.{Act, Begins, Sets, Bumps, Fetches, Writes, Prints, Allocates, Frees, Returns, Code, End, Plain, Fork, Loop, Call, ◌⨟◌, leave, is_true, StatementPart, doing, declared_in, list_of, given_to, has_case, has_default, ArmPart, default_arm, case_arm, taken_arm, part_step, arm_step, part}
 use Rattle.c_language.proofs.CodeLemmas.{arm_part, part_list, block_of}
-use Rattle.projection.specs.Kept.{rank}
+use Rattle.projection.specs.Kept.{rank, chosen}
 use Rattle.c_language.specs.Names.{names, any_names, init_names, target_names, amount_names}
 use Rattle.projection.specs.Names.{any_of, refers_step, refers_arm, refers, arm_refers, stays}
 use Rattle.projection.specs.Renumbering.{renamed, renamed_init, renamed_target, renamed_amount, renamed_label}
@@ -25,9 +25,7 @@ use Rattle.projection.specs.Projection as Projection
 use Rattle.projection.proofs.NamesPass.{NamesPass, left_pass, right_pass}
 use Rattle.projection_laws.specs.Nested.{governs}
 use Rattle.projection_laws.specs.Staying.{Rest, any_stays, all_clear, rest_step, rest_arm}
-use Rattle.own_words.proofs.Parts.{short}
-use Rattle.own_words.proofs.Words.{kept, same_numbers}
-use Rattle.own_words.proofs.Forms.{left, arm_left, all_left, part_left, step_left, step_refers}
+use Rattle.projection_meaning.proofs.MainParts.{short, kept, same_numbers, left, arm_left, all_left, part_left, step_left, step_refers}
 use Rattle.c_meaning.proofs.Codes.{layer_part, part-roll}
 use Rattle.projection_meaning.proofs.CodeNames.{act_names}
 use Rattle.projection_meaning.proofs.Projecting.{renamed_act}
@@ -35,6 +33,8 @@ use Rattle.projection_meaning.proofs.NothingLeft.{subjects, rested, arm_rested, 
 use Rattle.projection_meaning.proofs.PartsProject.{gathered, part_form, part_list-map}
 use Rattle.projection_meaning.proofs.FormsProject.{Makes, Turns, Puts, makes_none, makes_both, turns_list, turns_block, turns_then, makes_one, makes_begun, makes_bare, makes_given, puts_act, puts_fork, puts_loop, puts_do, makes_for, makes_block}
 use Rattle.projection_meaning.proofs.ArmsProject.{ArmTurns, same_cases, same_default, either_turns, either_ends, ArmsTurn, none, more, taken_turns, if_ends}
+use Rattle.projection_laws.specs.MainProjection.{main_words}
+use Rattle.c_scope_laws.proofs.ChosenLists.{chosen_all}
 
 unkept_none : (b within : Bool) → governs b within ≡ true → b ≡ false → within ≡ false
 unkept_none true within g h = absurd (false≢true (sym h))
@@ -43,27 +43,27 @@ unkept_none false false g h = refl
 
 module _ (p : Program) (keeps : ℕ → Bool) where
   abbrev vars : ℕ → Bool
-  vars = stays keeps p
+  vars = stays (main_words keeps) p
 
   -- ---- facts about statements and arms
 
   abbrev Fits : Statement → Type 0
-  Fits x = (rested p keeps x).clear ≡ true → NamesPass (refers keeps x) vars → Makes p keeps (part x) (left p keeps x)
+  Fits x = (rested p keeps x).clear ≡ true → NamesPass (refers (main_words keeps) x) vars → Makes p keeps (part x) (left p keeps x)
 
   abbrev ArmFits : Arm → Type 0
-  ArmFits a = (arm_rested p keeps a).clear ≡ true → NamesPass (arm_refers keeps a) vars → ArmTurns p keeps (arm_rested p keeps a).stays (arm_part a) (arm_part (arm_left p keeps a))
+  ArmFits a = (arm_rested p keeps a).clear ≡ true → NamesPass (arm_refers (main_words keeps) a) vars → ArmTurns p keeps (arm_rested p keeps a).stays (arm_part a) (arm_part (arm_left p keeps a))
 
   own_named : (id : ℕ) (named : ℕ → Bool) → NamesPass (λ v. keeps id && named v) vars → keeps id ≡ true → NamesPass named vars
   own_named id named h k v n = h v (and_from _ _ k n)
 
-  list_fits : (ys : List ((x : Statement) × Fits x)) → all_clear (map (rested p keeps) (subjects ys)) ≡ true → NamesPass (any_of (map (refers keeps) (subjects ys))) vars → Makes p keeps (gathered (map part (subjects ys))) (all_left p keeps (subjects ys))
+  list_fits : (ys : List ((x : Statement) × Fits x)) → all_clear (map (rested p keeps) (subjects ys)) ≡ true → NamesPass (any_of (map (refers (main_words keeps)) (subjects ys))) vars → Makes p keeps (gathered (map part (subjects ys))) (all_left p keeps (subjects ys))
   list_fits [] c n = makes_none p keeps
   list_fits (y ∷ ys) c n =
       let both = and_parts (rested p keeps y.0).clear (all_clear (map (rested p keeps) (subjects ys))) c in
-      makes_both p keeps (part y.0) (map part (subjects ys)) (left p keeps y.0) (all_left p keeps (subjects ys)) (y.1 both.0 (left_pass (refers keeps y.0) (any_of (map (refers keeps) (subjects ys))) n)) (list_fits ys both.1 (right_pass (refers keeps y.0) (any_of (map (refers keeps) (subjects ys))) n))
+      makes_both p keeps (part y.0) (map part (subjects ys)) (left p keeps y.0) (all_left p keeps (subjects ys)) (y.1 both.0 (left_pass (refers (main_words keeps) y.0) (any_of (map (refers (main_words keeps)) (subjects ys))) n)) (list_fits ys both.1 (right_pass (refers (main_words keeps) y.0) (any_of (map (refers (main_words keeps)) (subjects ys))) n))
 
   -- a block, where this is known of its statements
-  block_fits : (ys : List ((x : Statement) × Fits x)) → all_clear (map (rested p keeps) (subjects ys)) ≡ true → NamesPass (any_of (map (refers keeps) (subjects ys))) vars → Turns p keeps (block_of (subjects ys)) (block_of (all_left p keeps (subjects ys)))
+  block_fits : (ys : List ((x : Statement) × Fits x)) → all_clear (map (rested p keeps) (subjects ys)) ≡ true → NamesPass (any_of (map (refers (main_words keeps)) (subjects ys))) vars → Turns p keeps (block_of (subjects ys)) (block_of (all_left p keeps (subjects ys)))
   block_fits ys c n = turns_block p keeps (map part (subjects ys)) (all_left p keeps (subjects ys)) (list_fits ys c n)
 
   no_block : (xs : List Statement) → any_stays (map (rested p keeps) xs) ≡ false → block_of (all_left p keeps xs) ≡ End
@@ -85,7 +85,7 @@ module _ (p : Program) (keeps : ℕ → Bool) where
 
   abbrev part_refers : Option Statement → ℕ → Bool
   part_refers None v = false
-  part_refers (Some x) v = refers keeps x v
+  part_refers (Some x) v = refers (main_words keeps) x v
 
   part_fits : (o : Option ((x : Statement) × Fits x)) → part_clear (subject o) ≡ true → NamesPass (part_refers (subject o)) vars → Makes p keeps (gathered (part_list (subject o))) (option_to_list (part_left p keeps (subject o)))
   part_fits None c n = makes_none p keeps
@@ -98,7 +98,7 @@ module _ (p : Program) (keeps : ℕ → Bool) where
 
   for_fits : (id l : ℕ) (i : Option ((x : Statement) × Fits x)) (e : Expr) (step : Option ((x : Statement) × Fits x)) (ys : List ((x : Statement) × Fits x))
       → (governs (keeps id) (part_stays (subject step) || any_stays (map (rested p keeps) (subjects ys))) && (part_clear (subject i) && (part_clear (subject step) && all_clear (map (rested p keeps) (subjects ys))))) ≡ true
-      → NamesPass (λ v. (keeps id && names e v) || (part_refers (subject i) v || (part_refers (subject step) v || any_of (map (refers keeps) (subjects ys)) v))) vars
+      → NamesPass (λ v. (keeps id && names e v) || (part_refers (subject i) v || (part_refers (subject step) v || any_of (map (refers (main_words keeps)) (subjects ys)) v))) vars
       → Makes p keeps (doing (λ r. list_of (part_list (subject i)) ⨟ Loop id e (block_of (subjects ys) ⨟ list_of (part_list (subject step))) (leave (declared_in (part_list (subject i))) r)))
       (if_so (keeps id) (s.For (rank keeps id) l (part_left p keeps (subject i)) (renamed (rank vars) e) (part_left p keeps (subject step)) (all_left p keeps (subjects ys)) ∷ []) (Projection.alone l (part_left p keeps (subject i))))
   for_fits id l i e step ys c n =
@@ -107,7 +107,7 @@ module _ (p : Program) (keeps : ℕ → Bool) where
       let split = and_parts (governs (keeps id) (part_stays (subject step) || stay)) (part_clear (subject i) && (part_clear (subject step) && clear)) c in
       let parts = and_parts (part_clear (subject i)) (part_clear (subject step) && clear) split.1 in
       let repeated = and_parts (part_clear (subject step)) clear parts.1 in
-      let inner : ℕ → Bool = any_of (map (refers keeps) (subjects ys)) in
+      let inner : ℕ → Bool = any_of (map (refers (main_words keeps)) (subjects ys)) in
       let inside = right_pass (λ v. keeps id && names e v) (λ v. part_refers (subject i) v || (part_refers (subject step) v || inner v)) n in
       let behind = right_pass (part_refers (subject i)) (λ v. part_refers (subject step) v || inner v) inside in
       let steps = turns_list p keeps (part_list (subject step)) (option_to_list (part_left p keeps (subject step))) (part_fits step repeated.0 (left_pass (part_refers (subject step)) inner behind)) in
@@ -122,25 +122,25 @@ module _ (p : Program) (keeps : ℕ → Bool) where
   abbrev bodies : List Arm → List ArmPart
   bodies as_ = map arm_part (map (arm_left p keeps) as_)
 
-  default_ends : (ys : List ((a : Arm) × ArmFits a)) → all_clear (map (arm_rested p keeps) (subjects ys)) ≡ true → NamesPass (any_of (map (arm_refers keeps) (subjects ys))) vars → any_stays (map (arm_rested p keeps) (subjects ys)) ≡ false → default_arm (bodies (subjects ys)) ≡ End
+  default_ends : (ys : List ((a : Arm) × ArmFits a)) → all_clear (map (arm_rested p keeps) (subjects ys)) ≡ true → NamesPass (any_of (map (arm_refers (main_words keeps)) (subjects ys))) vars → any_stays (map (arm_rested p keeps) (subjects ys)) ≡ false → default_arm (bodies (subjects ys)) ≡ End
   default_ends [] c n h = refl
   default_ends (y ∷ ys) c n h =
       let both = and_parts (arm_rested p keeps y.0).clear (all_clear (map (arm_rested p keeps) (subjects ys))) c in
       let none = or_parts (arm_rested p keeps y.0).stays (any_stays (map (arm_rested p keeps) (subjects ys))) h in
-      if_ends p keeps (has_default (arm_part (arm_left p keeps y.0)).labels) _ _ ((y.1 both.0 (left_pass (arm_refers keeps y.0) (any_of (map (arm_refers keeps) (subjects ys))) n)).nothing none.0) (default_ends ys both.1 (right_pass (arm_refers keeps y.0) (any_of (map (arm_refers keeps) (subjects ys))) n) none.1)
+      if_ends p keeps (has_default (arm_part (arm_left p keeps y.0)).labels) _ _ ((y.1 both.0 (left_pass (arm_refers (main_words keeps) y.0) (any_of (map (arm_refers (main_words keeps)) (subjects ys))) n)).nothing none.0) (default_ends ys both.1 (right_pass (arm_refers (main_words keeps) y.0) (any_of (map (arm_refers (main_words keeps)) (subjects ys))) n) none.1)
 
-  case_ends : (ys : List ((a : Arm) × ArmFits a)) (v : ℤ) (d : Code) → all_clear (map (arm_rested p keeps) (subjects ys)) ≡ true → NamesPass (any_of (map (arm_refers keeps) (subjects ys))) vars → any_stays (map (arm_rested p keeps) (subjects ys)) ≡ false → d ≡ End → case_arm (bodies (subjects ys)) v d ≡ End
+  case_ends : (ys : List ((a : Arm) × ArmFits a)) (v : ℤ) (d : Code) → all_clear (map (arm_rested p keeps) (subjects ys)) ≡ true → NamesPass (any_of (map (arm_refers (main_words keeps)) (subjects ys))) vars → any_stays (map (arm_rested p keeps) (subjects ys)) ≡ false → d ≡ End → case_arm (bodies (subjects ys)) v d ≡ End
   case_ends [] v d c n h e = e
   case_ends (y ∷ ys) v d c n h e =
       let both = and_parts (arm_rested p keeps y.0).clear (all_clear (map (arm_rested p keeps) (subjects ys))) c in
       let none = or_parts (arm_rested p keeps y.0).stays (any_stays (map (arm_rested p keeps) (subjects ys))) h in
-      if_ends p keeps (has_case v (arm_part (arm_left p keeps y.0)).labels) _ _ ((y.1 both.0 (left_pass (arm_refers keeps y.0) (any_of (map (arm_refers keeps) (subjects ys))) n)).nothing none.0) (case_ends ys v d both.1 (right_pass (arm_refers keeps y.0) (any_of (map (arm_refers keeps) (subjects ys))) n) none.1 e)
+      if_ends p keeps (has_case v (arm_part (arm_left p keeps y.0)).labels) _ _ ((y.1 both.0 (left_pass (arm_refers (main_words keeps) y.0) (any_of (map (arm_refers (main_words keeps)) (subjects ys))) n)).nothing none.0) (case_ends ys v d both.1 (right_pass (arm_refers (main_words keeps) y.0) (any_of (map (arm_refers (main_words keeps)) (subjects ys))) n) none.1 e)
 
-  arms_fit : (ys : List ((a : Arm) × ArmFits a)) → all_clear (map (arm_rested p keeps) (subjects ys)) ≡ true → NamesPass (any_of (map (arm_refers keeps) (subjects ys))) vars → ArmsTurn p keeps (map arm_part (subjects ys)) (bodies (subjects ys))
+  arms_fit : (ys : List ((a : Arm) × ArmFits a)) → all_clear (map (arm_rested p keeps) (subjects ys)) ≡ true → NamesPass (any_of (map (arm_refers (main_words keeps)) (subjects ys))) vars → ArmsTurn p keeps (map arm_part (subjects ys)) (bodies (subjects ys))
   arms_fit [] c n = none
   arms_fit (y ∷ ys) c n =
       let both = and_parts (arm_rested p keeps y.0).clear (all_clear (map (arm_rested p keeps) (subjects ys))) c in
-      more (y.1 both.0 (left_pass (arm_refers keeps y.0) (any_of (map (arm_refers keeps) (subjects ys))) n)) (arms_fit ys both.1 (right_pass (arm_refers keeps y.0) (any_of (map (arm_refers keeps) (subjects ys))) n))
+      more (y.1 both.0 (left_pass (arm_refers (main_words keeps) y.0) (any_of (map (arm_refers (main_words keeps)) (subjects ys))) n)) (arms_fit ys both.1 (right_pass (arm_refers (main_words keeps) y.0) (any_of (map (arm_refers (main_words keeps)) (subjects ys))) n))
 
   -- ---- each layer
 
@@ -178,7 +178,7 @@ module _ (p : Program) (keeps : ℕ → Bool) where
   clear_in ys = all_clear (map (rested p keeps) (subjects ys))
 
   abbrev refers_in : List ((x : Statement) × Fits x) → ℕ → Bool
-  refers_in ys = any_of (map (refers keeps) (subjects ys))
+  refers_in ys = any_of (map (refers (main_words keeps)) (subjects ys))
 
   if_fits : (id l : ℕ) (e : Expr) (xs ys : List ((x : Statement) × Fits x)) → (governs (keeps id) (stay_in xs || stay_in ys) && (clear_in xs && clear_in ys)) ≡ true → NamesPass (λ v. (keeps id && names e v) || (refers_in xs v || refers_in ys v)) vars
       → Makes p keeps (doing (Fork id e (λ v. language.either (is_true v) (block_of (subjects xs)) (block_of (subjects ys))))) (if_so (keeps id) (s.If (rank keeps id) l (new e) (all_left p keeps (subjects xs)) (all_left p keeps (subjects ys)) ∷ []) [])
@@ -219,16 +219,16 @@ module _ (p : Program) (keeps : ℕ → Bool) where
       let body = all_left p keeps (subjects ys) in
       makes_one p keeps id (s.Do (rank keeps id) l (new e) body) _ _ (part_form _ (Statement-F.Do (rank keeps id) l (new e) body) (s.rolls-Do (rank keeps id) l (new e) body)) (puts_do p keeps id e (block_of (subjects ys)) (block_of body) t.named t.turns t.ends)
 
-  switch_fits : (id l : ℕ) (e : Expr) (ys : List ((a : Arm) × ArmFits a)) → (governs (keeps id) (any_stays (map (arm_rested p keeps) (subjects ys))) && all_clear (map (arm_rested p keeps) (subjects ys))) ≡ true → NamesPass (λ v. (keeps id && names e v) || any_of (map (arm_refers keeps) (subjects ys)) v) vars
+  switch_fits : (id l : ℕ) (e : Expr) (ys : List ((a : Arm) × ArmFits a)) → (governs (keeps id) (any_stays (map (arm_rested p keeps) (subjects ys))) && all_clear (map (arm_rested p keeps) (subjects ys))) ≡ true → NamesPass (λ v. (keeps id && names e v) || any_of (map (arm_refers (main_words keeps)) (subjects ys)) v) vars
       → Makes p keeps (doing (Fork id e (taken_arm (map arm_part (subjects ys))))) (if_so (keeps id) (s.Switch (rank keeps id) l (new e) (map (arm_left p keeps) (subjects ys)) ∷ []) [])
   switch_fits id l e ys c n =
       let stay = any_stays (map (arm_rested p keeps) (subjects ys)) in
       let split = and_parts (governs (keeps id) stay) (all_clear (map (arm_rested p keeps) (subjects ys))) c in
       let arms = map (arm_left p keeps) (subjects ys) in
-      let inside = right_pass (λ v. keeps id && names e v) (any_of (map (arm_refers keeps) (subjects ys))) n in
+      let inside = right_pass (λ v. keeps id && names e v) (any_of (map (arm_refers (main_words keeps)) (subjects ys))) n in
       makes_one p keeps id (s.Switch (rank keeps id) l (new e) arms) _ _ (part_form _ (Statement-F.Switch (rank keeps id) l (new e) arms) (s.rolls-Switch (rank keeps id) l (new e) arms))
       (puts_fork p keeps id e (taken_arm (map arm_part (subjects ys))) (taken_arm (bodies (subjects ys)))
-      (own_named id (names e) (left_pass (λ v. keeps id && names e v) (any_of (map (arm_refers keeps) (subjects ys))) n))
+      (own_named id (names e) (left_pass (λ v. keeps id && names e v) (any_of (map (arm_refers (main_words keeps)) (subjects ys))) n))
       (taken_turns p keeps (map arm_part (subjects ys)) (bodies (subjects ys)) (arms_fit ys split.1 inside))
       (λ k v. let none = unkept_none (keeps id) stay split.0 k in case_ends ys v (default_arm (bodies (subjects ys))) split.1 inside none (default_ends ys split.1 inside none)))
 
@@ -241,9 +241,10 @@ module _ (p : Program) (keeps : ℕ → Bool) where
       (λ k. n x (and_from _ _ k (or_left (x == x) (init_names i x) (eq-eqb x x refl)))) acts.same acts.nested acts.names
   fits_layer (Statement-F.Assign id l a op b) c n = act_fits id (Sets a op b) _ (part_form _ (Statement-F.Assign (rank keeps id) l (new a) op (new b)) (s.rolls-Assign (rank keeps id) l (new a) op (new b))) n
   fits_layer (Statement-F.Bump id l a up before) c n = act_fits id (Bumps a up) _ (part_form _ (Statement-F.Bump (rank keeps id) l (new a) up before) (s.rolls-Bump (rank keeps id) l (new a) up before)) n
-  fits_layer (Statement-F.Invoke id l target.None f args) c n = call_fits id l target.None f args n
-  fits_layer (Statement-F.Invoke id l (target.Place a) f args) c n = call_fits id l (target.Place a) f args n
-  fits_layer (Statement-F.Invoke id l (target.Declared x) f args) c n = call_fits id l (target.Declared x) f args n
+  fits_layer (Statement-F.Invoke id l to f args) c n =
+      let all : chosen (λ m. true) 0 args ≡ args = chosen_all (λ m. true) (λ m. refl) 0 args in
+      subst (λ (as_ : List Expr). Makes p keeps (given_to to (Call id to f args)) (if_so (keeps id) (s.Invoke (rank keeps id) l (renamed_target (rank vars) to) (same_numbers f) (map (renamed (rank vars)) as_) ∷ []) (Projection.bare_target (kept p keeps) same_numbers l to)))
+      (sym all) (call_fits id l to f args (λ v h. n v (ap (λ (as_ : List Expr). keeps id && (target_names to v || any_names as_ v)) all ∙ h)))
   fits_layer (Statement-F.Fetch id l to) c n =
       given_fits id l to (Fetches to) _ (part_form _ (Statement-F.Fetch (rank keeps id) l (renamed_target (rank vars) to)) (s.rolls-Fetch (rank keeps id) l (renamed_target (rank vars) to))) (own_named id (target_names to) n) n
   fits_layer (Statement-F.Write id l a) c n = act_fits id (Writes a) _ (part_form _ (Statement-F.Write (rank keeps id) l (new a)) (s.rolls-Write (rank keeps id) l (new a))) n
@@ -265,7 +266,7 @@ module _ (p : Program) (keeps : ℕ → Bool) where
 
   fits_roll : (z : Statement-F Statement Arm) → LayerFits z → Fits (roll-Statement z)
   fits_roll z h c n =
-      let made = h (sym (ap (λ (r : Rest). r.clear) (rest-roll p keeps z)) ∙ c) (subst (λ (m : ℕ → Bool). NamesPass m vars) (fold-roll-Statement (ℕ → Bool) (ℕ → Bool) (refers_step keeps) (refers_arm keeps) z) n) in
+      let made = h (sym (ap (λ (r : Rest). r.clear) (rest-roll p keeps z)) ∙ c) (subst (λ (m : ℕ → Bool). NamesPass m vars) (fold-roll-Statement (ℕ → Bool) (ℕ → Bool) (refers_step (main_words keeps)) (refers_arm (main_words keeps)) z) n) in
       subst (λ q. Makes p keeps q (left p keeps (roll-Statement z))) (sym (part-roll z)) (subst (Makes p keeps (layer_part z)) (sym (left-roll p keeps z)) made)
 
   -- ---- each arm
@@ -291,7 +292,7 @@ module _ (p : Program) (keeps : ℕ → Bool) where
   fits_arm y c n =
       let z : Arm-F Statement Arm = arm_layer Fits ArmFits y in
       let rests : arm_rested p keeps (roll-Arm z) ≡ record { stays = stay_in y.body; clear = clear_in y.body } = fold-roll-Arm Rest Rest (rest_step keeps vars) (rest_arm keeps vars) z in
-      let refers_is : arm_refers keeps (roll-Arm z) ≡ refers_in y.body = fold-roll-Arm (ℕ → Bool) (ℕ → Bool) (refers_step keeps) (refers_arm keeps) z in
+      let refers_is : arm_refers (main_words keeps) (roll-Arm z) ≡ refers_in y.body = fold-roll-Arm (ℕ → Bool) (ℕ → Bool) (refers_step (main_words keeps)) (refers_arm (main_words keeps)) z in
       same_turns (arm_rested p keeps (roll-Arm z)).stays (stay_in y.body) (arm_part (roll-Arm z)) (arm_part (arm_left p keeps (roll-Arm z))) _ _ (ap (λ (r : Rest). r.stays) rests) (arm_part_is z) (ap arm_part (arm_left_is z) ∙ arm_part_is _)
       (arm_fits y.labels y.body (sym (ap (λ (r : Rest). r.clear) rests) ∙ c) (subst (λ m. NamesPass m vars) refers_is n))
 

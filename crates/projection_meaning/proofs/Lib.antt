@@ -4,6 +4,7 @@ pub mod CodeNames
 pub mod Ranks
 pub mod Mains
 pub mod Lines
+pub mod MainParts
 pub mod Law
 pub mod Projecting
 pub mod Sequences

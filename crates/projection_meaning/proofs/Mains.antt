@@ -16,9 +16,10 @@ use Rattle.c_meaning.specs.Activations.{Routine, Global, Executable, routine_of,
 use Rattle.c_meaning.specs.Meaning.{code_meaning, main_meaning, meaning}
 use Rattle.built_forms.specs.IntegerForms.{IsPlainItem, include, main}
 use Rattle.dep_model.specs.NumberedMains.{IsNumberedMain}
-use Rattle.own_words.proofs.Words.{same_numbers}
+use Rattle.projection_meaning.proofs.MainParts.{same_numbers}
 use Rattle.projection.specs.Kept.{Kept}
-use Rattle.projection.specs.Projection.{projected_items, projected_function, projected_functions, kept_with, projection}
+use Rattle.projection.specs.Projection.{projected_items, projected_function, projected_functions}
+use Rattle.projection_laws.specs.MainProjection.{main_kept, main_projection}
 
 -- the code of the first function
 abbrev pub main_code : Program → Code
@@ -74,11 +75,11 @@ alone_here p h = record {
 }
 
 module _ (p : Program) (keeps : ℕ → Bool) where
-  abbrev kept : Kept
-  kept = kept_with p keeps
+  abbrev kept : Kept ℕ
+  kept = main_kept p keeps
 
   abbrev items : List Item → List Item
-  items = projected_items kept same_numbers (λ f. true)
+  items = projected_items kept
 
   none_stays : (x : Item) (xs : List Item) → IsPlainItem x → globals_in (items xs) ≡ [] → globals_in (items (x ∷ xs)) ≡ []
   none_stays x xs include h = h
@@ -89,8 +90,8 @@ module _ (p : Program) (keeps : ℕ → Bool) where
   no_globals_there (x ∷ xs) h =
       none_stays x xs (All-head IsPlainItem x xs h) (no_globals_there xs (All-tail IsPlainItem x xs h))
 
-  pub alone_there : IsNumberedMain p → IsAlone (projection p keeps)
+  pub alone_there : IsNumberedMain p → IsAlone (main_projection p keeps)
   alone_there h = record {
     no_globals = no_globals_there p.items h.integer.items_are;
-    main_first = main_is_first (projection p keeps) (projected_function kept same_numbers h.integer.main) [] (ap (projected_functions kept same_numbers) h.integer.functions_are) h.name_is;
+    main_first = main_is_first (main_projection p keeps) (projected_function kept same_numbers 0 h.integer.main) [] (ap (projected_functions kept 0) h.integer.functions_are) h.name_is;
   }

@@ -13,9 +13,9 @@ use Rattle.projection.specs.Projection.{if_so, first_statement, projected_step, 
 use Rattle.projection.specs.Projection as Projection
 use Rattle.projection_laws.specs.Staying as Staying
 use Rattle.projection_laws.specs.Staying.{Rest, any_stays, rest_step, rest_arm, rest, arm_rest}
-use Rattle.own_words.proofs.Words.{kept, same_numbers}
-use Rattle.own_words.proofs.Forms.{left, all_left, step_left}
+use Rattle.projection_meaning.proofs.MainParts.{kept, same_numbers, left, all_left, step_left}
 use Rattle.c_scope_laws.proofs.TreeLevels.{unchosen}
+use Rattle.projection_laws.specs.MainProjection.{main_words}
 
 -- the subjects of facts
 abbrev pub subjects : {A : Type 0} {Q : A → Type 0} → List ((x : A) × Q x) → List A
@@ -23,7 +23,7 @@ subjects ys = map (λ y. y.0) ys
 
 module _ (p : Program) (keeps : ℕ → Bool) where
   abbrev vars : ℕ → Bool
-  vars = stays keeps p
+  vars = stays (main_words keeps) p
 
   abbrev pub rested : Statement → Rest
   rested = rest keeps vars

@@ -106,7 +106,7 @@ pub part_list-map : (o : Option Statement) → map part (option_to_list o) ≡ p
 part_list-map None = refl
 part_list-map (Some x) = refl
 
-module _ (k : Kept) (g : ℕ → ℕ) where
+module _ {F : Type 0} (k : Kept F) (g : ℕ → ℕ) where
   chosen_alone : (l : ℕ) (x : Statement) (b : Bool) (r : Code) → (b ≡ false → (part x).declares ≡ []) → in_turn (map part (if_so b (s.Block l (x ∷ []) ∷ []) (x ∷ []))) r ≡ list_of (part x ∷ []) ⨟ leave (declared_in (part x ∷ [])) r
   chosen_alone l x true r h =
       ap (λ (q : StatementPart). q.before r) (part_form (s.Block l (x ∷ [])) (Statement-F.Block l (x ∷ [])) (s.rolls-Block l (x ∷ [])))

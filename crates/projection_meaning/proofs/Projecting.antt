@@ -7,7 +7,7 @@ use Rattle.c_language.specs.Names.{names, any_names, target_names}
 use Rattle.projection.specs.Renumbering.{renamed, renamed_init, renamed_target, renamed_amount}
 use Rattle.projection.specs.Projection.{if_so}
 use Rattle.projection_meaning.proofs.CodeNames.{act_names}
-use Rattle.own_words.proofs.Words.{same_numbers}
+use Rattle.projection_meaning.proofs.MainParts.{same_numbers}
 
 -- other numbers for the variables of an act
 abbrev pub renamed_act : (ℕ → ℕ) → Act → Act

@@ -31,7 +31,7 @@ use Rattle.dep_model.proofs.PlainFlow.{IsOfMain, steps_of_main, plain_flow}
 use Rattle.own_words.proofs.Names.{get-projected}
 use Rattle.projection.specs.Kept.{Kept, rank}
 use Rattle.projection.specs.Names.{stays}
-use Rattle.projection.specs.Projection.{projected_functions, projected_var, kept_with, projection}
+use Rattle.projection.specs.Projection.{projected_functions, projected_var}
 use Rattle.projection_laws.specs.Nested as laws
 use Rattle.projection_laws.proofs.Clearing.{nested_clear}
 use Rattle.projection_meaning.specs.SameValues.{ranked, StandFor, HasSameValues}
@@ -51,16 +51,17 @@ use Rattle.projection_meaning.proofs.Shape.{shape_last, shape_kind, shape_number
 use Rattle.projection_meaning.proofs.Moves.{move_both_fits, move_both, move_one_fits, move_one}
 use Rattle.projection_meaning.proofs.StatementsProject.{main_projects}
 use Rattle.projection_meaning.proofs.Events.{SameAt, both_tell, one_tells}
-use Rattle.own_words.proofs.Words.{same_numbers}
+use Rattle.projection_meaning.proofs.MainParts.{same_numbers}
+use Rattle.projection_laws.specs.MainProjection.{main_words, main_kept, main_projection}
 
 -- ---- the types of a projection
 
-result_in : (p : Program) (keeps : ℕ → Bool) (fs : List Function) → option_map_or (λ (r : Routine). r.result) (slice_get (map routine_of fs) 0) None ≡ option_map_or (λ (r : Routine). r.result) (slice_get (map routine_of (projected_functions (kept_with p keeps) same_numbers fs)) 0) None
+result_in : (p : Program) (keeps : ℕ → Bool) (fs : List Function) → option_map_or (λ (r : Routine). r.result) (slice_get (map routine_of fs) 0) None ≡ option_map_or (λ (r : Routine). r.result) (slice_get (map routine_of (projected_functions (main_kept p keeps) 0 fs)) 0) None
 result_in p keeps [] = refl
 result_in p keeps (f ∷ fs) = refl
 
 -- a variable in a function with another number has its type
-shape_stays : (k : Kept) (o : Option Var) → option_map_or (λ (v : Var). shape_of v.shape) (option_map (projected_var k same_numbers) o) (integer Int) ≡ option_map_or (λ (v : Var). shape_of v.shape) o (integer Int)
+shape_stays : (k : Kept ℕ) (o : Option Var) → option_map_or (λ (v : Var). shape_of v.shape) (option_map (projected_var k same_numbers) o) (integer Int) ≡ option_map_or (λ (v : Var). shape_of v.shape) o (integer Int)
 shape_stays k None = refl
 shape_stays k (Some v) = refl
 
@@ -70,18 +71,18 @@ module _ (p : Program) (keeps : ℕ → Bool) (closed : (v w : Step) → FlowEdg
   main = main_code p
 
   abbrev staying : ℕ → Bool
-  staying = stays keeps p
+  staying = stays (main_words keeps) p
 
   abbrev here : Types
   here = types_of p
 
   abbrev there : Types
-  there = types_of (projection p keeps)
+  there = types_of (main_projection p keeps)
 
-  -- a variable that stays keeps its type, each member has its own, and so has main's result
+  -- a variable that stays (main_words keeps) its type, each member has its own, and so has main's result
   agree : (x : ℕ) → staying x ≡ true → here.typing.variable x ≡ there.typing.variable (rank staying x)
   agree x sx =
-      let k = kept_with p keeps in
+      let k = main_kept p keeps in
       sym (shape_stays k (slice_get p.vars x)) ∙ ap (λ o. option_map_or (λ (v : Var). shape_of v.shape) o (integer Int)) (sym (get-projected k same_numbers p.vars x sx))
 
   members : (m : MemberId) → here.typing.member m ≡ there.typing.member m
@@ -170,30 +171,30 @@ module _ (p : Program) (keeps : ℕ → Bool) (closed : (v w : Step) → FlowEdg
   none_begun : (q : Program) (input : List ℕ) → IsFramed (opening (alone q) input)
   none_begun q input = record { alive = λ x b e. cc; apart = λ x y b e f. cc }
 
-  related : IsNested keeps staying main → IsInteger main → NamesStay keeps staying main → (input : List ℕ) → Related setting (begins (alone p) 0 main input) (begins (alone (projection p keeps)) 0 (project_code keeps staying main) input)
+  related : IsNested keeps staying main → IsInteger main → NamesStay keeps staying main → (input : List ℕ) → Related setting (begins (alone p) 0 main input) (begins (alone (main_projection p keeps)) 0 (project_code keeps staying main) input)
   related nested integer named input = record {
     world = tt;
     fine = ((nested, integer), (λ v w h. h, named));
     place = refl;
-    fits = record { here = none_begun p input; there = none_begun (projection p keeps) input; begun = λ x b sx e. cc };
+    fits = record { here = none_begun p input; there = none_begun (main_projection p keeps) input; begun = λ x b sx e. cc };
     same = λ l want x isx sx. refl;
     traces = refl;
   }
 
   -- an end of main is an end of its projection, with the same values at the set
-  pub main_follows : IsNested keeps staying main → IsInteger main → NamesStay keeps staying main → (n : ℕ) (input : List ℕ) (t : Trace) → code_meaning (alone p) 0 n main input ≡ Ended t → (u : Trace) × (code_meaning (alone (projection p keeps)) 0 n (project_code keeps staying main) input ≡ Ended u) × (at ranks u.events ≡ map (ranked keeps) (at set t.events))
+  pub main_follows : IsNested keeps staying main → IsInteger main → NamesStay keeps staying main → (n : ℕ) (input : List ℕ) (t : Trace) → code_meaning (alone p) 0 n main input ≡ Ended t → (u : Trace) × (code_meaning (alone (main_projection p keeps)) 0 n (project_code keeps staying main) input ≡ Ended u) × (at ranks u.events ≡ map (ranked keeps) (at set t.events))
   main_follows nested integer named n input t ends =
       let uncalled = no_calls main integer in
       let run = subst (Runs (machine (places here)) n (begins (alone p) 0 main input)) ends (meaning_runs (alone p) 0 n main input uncalled) in
-      let r = slice_follows setting shaped acting moving closing telling n (begins (alone p) 0 main input) (begins (alone (projection p keeps)) 0 (project_code keeps staying main) input) t (related nested integer named input) run in
-      (r.second.trace, runs_meaning (alone (projection p keeps)) 0 n (project_code keeps staying main) input (Ended r.second.trace) (shape_no_calls keeps staying main uncalled) r.runs, r.related.traces ∙ ap (λ (v : Trace). map (ranked keeps) (at set v.events)) r.first_trace)
+      let r = slice_follows setting shaped acting moving closing telling n (begins (alone p) 0 main input) (begins (alone (main_projection p keeps)) 0 (project_code keeps staying main) input) t (related nested integer named input) run in
+      (r.second.trace, runs_meaning (alone (main_projection p keeps)) 0 n (project_code keeps staying main) input (Ended r.second.trace) (shape_no_calls keeps staying main uncalled) r.runs, r.related.traces ∙ ap (λ (v : Trace). map (ranked keeps) (at set v.events)) r.first_trace)
 
 -- a program that is the projection but for lines gives the same values
 pub same_values : (p q : Program) (a : Analysis) (kept : List Bool) (set ranks : ℕ → Bool) → IsWellFormed p → IsNumberedMain p → IsAnalysis p a → laws.IsNested (keeps_of kept) p → IsFlowClosed p a kept
-    → ((i : ℕ) → set i ≡ true → keeps_of kept i ≡ true) → StandFor (keeps_of kept) set ranks → SameButLines q (projection p (keeps_of kept)) → HasSameValues (keeps_of kept) set ranks p q
+    → ((i : ℕ) → set i ≡ true → keeps_of kept i ≡ true) → StandFor (keeps_of kept) set ranks → SameButLines q (main_projection p (keeps_of kept)) → HasSameValues (keeps_of kept) set ranks p q
 same_values p q a kept set ranks well numbered is nested closed held stand same n input t ends =
     let keeps = keeps_of kept in
-    let slice = projection p keeps in
+    let slice = main_projection p keeps in
     let there = main_projects p keeps numbered.integer (nested_clear p keeps numbered.integer nested well) in
     let flow = λ (v w : Step) (f : FlowEdge (main_code p) v w) (kw : keeps w.id ≡ true). closed (record { from = suc v.id; to = suc w.id; label = Flow }) (plain_flow p a numbered is v w f) kw in
     let plainly = each_more (IsOfMain p numbered) Plainly (λ s m. m.integer) (main_code p) (steps_of_main p numbered) in

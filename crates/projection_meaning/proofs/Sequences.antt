@@ -8,7 +8,7 @@ use Rattle.projection.specs.Renumbering.{renamed, renamed_target}
 use Rattle.projection.specs.Projection.{if_so}
 use Rattle.projection_meaning.proofs.Projecting.{renamed_act, renamed_all, project_code, NamesStay, IsNested}
 use Rattle.c_language.proofs.Tests.{by_answer}
-use Rattle.own_words.proofs.Words.{same_numbers}
+use Rattle.projection_meaning.proofs.MainParts.{same_numbers}
 
 pub then_then : (a b c : Code) → (a ⨟ b) ⨟ c ≡ a ⨟ (b ⨟ c)
 then_then End b c = refl

@@ -8,9 +8,9 @@ use Rattle.dep_model.specs.declared.edge.Edge.{Edge}
 use Rattle.dep_model.specs.MainVertices.{vertices}
 use Rattle.dep_model.specs.NumberedMains.{IsNumberedMain}
 use Rattle.dep_model.specs.SystemGraph.{Analysis, IsAnalysis, IsFlowIn}
-use Rattle.projection.specs.Projection.{projection}
 use Rattle.projection_laws.specs.Nested.{IsNested}
 use Rattle.projection_meaning.specs.SameValues.{StandFor, HasSameValues}
+use Rattle.projection_laws.specs.MainProjection.{main_projection}
 
 -- the statements whose vertices are in a set
 abbrev pub keeps_of : List Bool → ℕ → Bool
@@ -24,4 +24,4 @@ IsFlowClosed p a kept = (e : Edge) → IsFlowIn p a.points (vertices p) 0 e → 
 abbrev pub ProjectionHasSameValues : Type 0
 ProjectionHasSameValues =
     (p q : Program) (a : Analysis) (kept : List Bool) (set ranks : ℕ → Bool) → IsWellFormed p → IsNumberedMain p → IsAnalysis p a → IsNested (keeps_of kept) p → IsFlowClosed p a kept
-    → ((i : ℕ) → set i ≡ true → keeps_of kept i ≡ true) → StandFor (keeps_of kept) set ranks → SameButLines q (projection p (keeps_of kept)) → HasSameValues (keeps_of kept) set ranks p q
+    → ((i : ℕ) → set i ≡ true → keeps_of kept i ≡ true) → StandFor (keeps_of kept) set ranks → SameButLines q (main_projection p (keeps_of kept)) → HasSameValues (keeps_of kept) set ranks p q

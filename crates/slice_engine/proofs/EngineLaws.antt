@@ -1,5 +1,5 @@
 -- What the calls of an engine ask of each other.
-use Rattle.std.proofs.Common.{◌≡◌, ◌↔◌, ◌⊎◌, false, ℕ, zero, suc, ◌+◌, ◌<◌, ◌==◌, List, [], ◌∷◌, ◌≤◌, Bool, true, IsTrue, inl, inr, sym, ap, ◌∙◌, subst, arith}
+use Rattle.std.proofs.Common.{◌≡◌, ◌↔◌, ◌⊎◌, false, ℕ, ◌<◌, ◌==◌, List, [], ◌∷◌, ◌≤◌, Bool, true, IsTrue, inl, inr, sym, ap, ◌∙◌, subst, arith}
 use Rattle.std.specs.Prelude.{All}
 use Rattle.std.specs.List.{list_any}
 use Rattle.std.proofs.lemmas.Bool.{eqb-true, or_cases}
@@ -13,25 +13,14 @@ use Rattle.dep_model.specs.declared.graph.Graph.{Graph}
 use Rattle.dep_model.proofs.SwitchLaws.{true_not_false}
 use Rattle.slice_engine.specs.Engine.{IsPrepared}
 use Rattle.slice_engine.specs.Slice.{HasStart}
-use Rattle.slice_engine.proofs.CriterionLaws.{AreNumbers, some_start, start_some}
+use Rattle.slice_engine.proofs.CriterionLaws.{some_start, start_some}
 use Rattle.slice_engine.proofs.StartLemmas.{IsSomeLine}
-use Rattle.slice_engine.proofs.StartNumbers.{numbers_are}
 
 -- whether some statement starts on a line
 pub start_decides : (p : Program) (g : Graph) (facts : Facts) (starts : Starts) → IsPrepared p g facts starts → (line : ℕ) (b : Bool) → b ≡ list_any (λ (s : Start). s.line == line) starts → IsTrue b ↔ HasStart p line
 start_decides p g facts starts ready line b e =
     let here : b ≡ list_any (λ (s : Start). s.line == line) (program_starts p) = e ∙ ap (list_any (λ (s : Start). s.line == line)) ready.starts_are in
     (λ t. some_start line (program_starts p) (sym here ∙ t), λ h. here ∙ start_some line (program_starts p) h.0 h.1)
-
-low_starts : (n : ℕ) (starts : Starts) → AreNumbers n starts → All (λ (s : Start). s.id + 1 < n + 1) starts
-low_starts n [] h k d lt = absurd (omega (arith, lt))
-low_starts n (s ∷ ss) h zero d lt = omega (arith, h.0)
-low_starts n (s ∷ ss) h (suc k) d lt = low_starts n ss h.1 k d (omega (arith, lt))
-
--- each statement's vertex is one of the program's
-pub starts_below : (p : Program) (g : Graph) (facts : Facts) (starts : Starts) → IsPrepared p g facts starts → All (λ (s : Start). s.id + 1 < p.statements + 1) starts
-starts_below p g facts starts ready =
-    low_starts p.statements starts (subst (AreNumbers p.statements) (sym ready.starts_are) (numbers_are p ready.numbered))
 
 -- ---- what isn't too large
 

@@ -14,11 +14,9 @@ use Rattle.dep_model.specs.declared.skeleton.Skeleton.{Skeleton}
 use Rattle.dep_model.specs.Graphs.{fact_words, IsGraphOf}
 use Rattle.dep_model.specs.LocationLists.{location_list, AreListedOnce}
 use Rattle.dep_model.specs.LocationRows.{analysis_of, points_of, ArePointsRows}
-use Rattle.dep_model.specs.NumberedMains.{IsNumberedMain}
 use Rattle.dep_model.specs.Skeletons.{IsSkeleton}
 use Rattle.dep_model.specs.SystemGraph.{IsAnalysis, vertices_of}
 use Rattle.dep_model.proofs.LocationsOnce.{listed_once}
-use Rattle.dep_model.proofs.NumberedEdges.{numbered_vertices}
 use Rattle.dep_model.proofs.OneAnalysis.{one_analysis}
 use Rattle.mod_ref.specs.Effects.{AreEffectsByPlace}
 use Rattle.mod_ref.proofs.PlacedEffects.{are_rows}
@@ -26,10 +24,8 @@ use Rattle.numbered_texts.proofs.ListedEffects.{effects_listed}
 use Rattle.numbered_texts.proofs.NumbersButLines.{named_exist, statements_numbered}
 use Rattle.program_graph.specs.Given.{HasSkeleton}
 use Rattle.vertex_layout.specs.Limits.{IsWithin, IsBeyond, vertices, words}
-use Rattle.slice_engine.specs.Engine.{IsWithinLimits, PointsNowhere}
+use Rattle.slice_engine.specs.Engine.{IsWithinLimits}
 use Rattle.slice_engine.specs.GraphLimits.{IsAboveGraphLimit, locations, vertices as many_vertices, words as many_words}
-use Rattle.slice_engine.proofs.StoredIntegers.{stores_nowhere, main_stores}
-use Rattle.slice_engine.proofs.Vertices.{length-vertices}
 
 -- ---- what it is made from
 
@@ -99,18 +95,3 @@ none_above p g of_program within n (many_words {a} few is low many) =
     let same = of_program.is_graph.rows_are.words_are ∙ ap fact_words (of_program.is_graph.vertices_are ∙ ap (vertices_of p) one) in
     let small = within.few_words in
     absurd (omega (arith, same, small, many))
-
--- ---- a main alone
-
-module _ (p : Program) (h : IsNumberedMain p) where
-  pub main_points_nowhere : PointsNowhere p
-  main_points_nowhere = stores_nowhere p (main_stores p h.integer)
-
-  pub one_function : length p.functions ≡ 1
-  one_function = ap length h.integer.functions_are
-
-  pub graph_counted : (g : Graph) → IsGraphOf p g → length g.vertices ≡ p.statements + 1
-  graph_counted g of_program =
-      let count = ap length (numbered_vertices p of_program.analysis h of_program.is_analysis) ∙ length-vertices p in
-      let same = ap length of_program.is_graph.vertices_are in
-      omega (arith, count, same)

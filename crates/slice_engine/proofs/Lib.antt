@@ -3,7 +3,6 @@ pub mod Vertices
 pub mod Kept
 pub mod CriterionRanks
 pub mod StartLemmas
-pub mod CriterionLemmas
 pub mod CriterionLaws
 pub mod HeaderLemmas
 pub mod HeaderLines
@@ -17,4 +16,3 @@ pub mod OneSlice
 pub mod StartNumbers
 pub mod PointingNowhere
 pub mod Projections
-pub mod StoredIntegers

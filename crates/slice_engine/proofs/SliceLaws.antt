@@ -1,9 +1,8 @@
--- From marks to the slice: its text is the defined one, and is read again with the same values.
-use Rattle.std.proofs.Common.{◌≡◌, ◌↔◌, ℕ, suc, ◌+◌, ◌^◌, ◌<◌, ◌≤◌, List, [], ◌∷◌, ◌++◌, length, get_or, replicate, slice_get, length-append, Bool, true, false, inl, inr, Some, refl, sym, ap, ◌∙◌, subst, arith, add-one}
+-- From what is kept to the slice: its text is the defined one, and is read again with the same values.
+use Rattle.std.proofs.Common.{◌≡◌, ◌↔◌, ℕ, suc, ◌+◌, ◌^◌, ◌<◌, ◌≤◌, List, [], ◌∷◌, ◌++◌, length, get_or, slice_get, length-append, Bool, true, false, inl, inr, Some, refl, sym, ap, ◌∙◌, subst, arith}
 use Rattle.std.specs.Prelude.{Contains, AllPairs}
 use Rattle.std.proofs.lemmas.Bool.{cases_lt}
 use Rattle.std.proofs.lemmas.List.{get_or_past}
-use mathlib.Core.Path.{fun_ext}
 use Rattle.bit_rows.specs.Sets.{has}
 use Rattle.c_tree.specs.declared.program.Program.{Program}
 use Rattle.c_tree.specs.Numbered.{Starts}
@@ -19,79 +18,47 @@ use Rattle.c_print_laws.specs.ReadAgain.{IsReadAgain}
 use Rattle.c_print_laws.proofs.ReadAgain.{commented_is_read_again}
 use Rattle.c_print_laws.proofs.StatementStarts.{statements_start}
 use Rattle.own_words.proofs.StandingWords.{has_own_words}
-use Rattle.dep_model.specs.Criteria.{criterion_of}
-use Rattle.dep_model.specs.MainVertices.{vertices}
 use Rattle.dep_model.specs.NumberedMains.{IsNumberedMain}
 use Rattle.rule_closure.proofs.ListLemmas.{contains_head, contains_cons}
 use Rattle.dep_model.specs.declared.facts.Facts.{Facts}
 use Rattle.dep_model.specs.declared.graph.Graph.{Graph}
 use Rattle.projection.specs.Kept.{rank}
-use Rattle.projection.specs.Projection.{projection}
-use Rattle.slice_engine.specs.Slice.{starts_on, keeps_statement, keeps, sliced, IsStartLine, header, IsSlice, is_criterion, IsAcceptedSlice, IsFaithful}
-use Rattle.slice_engine.specs.Criterion.{with_starts, by_rank}
+use Rattle.projection.specs.KeptVertices.{kept_words, projection}
+use Rattle.slice_engine.specs.Slice.{starts_on, keeps, sliced, IsStartLine, header, IsSlice, is_criterion, IsAcceptedSlice, IsFaithful}
+use Rattle.slice_engine.specs.Criterion.{by_rank}
 use Rattle.slice_engine.specs.Header.{shown_lines}
-use Rattle.slice_engine.specs.Engine.{IsPrepared, KeepsFrom, AreMarks, IsSlicedAt}
-use Rattle.slice_engine.proofs.CriterionLaws.{criterion_is, criterion_members, kept_past, empty_long}
-use Rattle.slice_engine.proofs.CriterionLemmas.{length-with_starts}
+use Rattle.slice_engine.specs.Engine.{IsPrepared, KeepsFrom, IsSlicedAt}
 use Rattle.slice_engine.proofs.KeptSets.{kept_set}
-use Rattle.slice_engine.proofs.Vertices.{kept_vertex, keeps_main}
 use Rattle.slice_engine.proofs.Kept.{criterion_kept, kept_projectable}
 use Rattle.slice_engine.proofs.CriterionRanks.{criterion_rank}
 use Rattle.slice_engine.proofs.RankTests.{at_rank, of_rank, length-by_rank}
 use Rattle.slice_engine.proofs.Projections.{projected_nested, projected_well_formed, projected_values}
-use Rattle.slice_engine.proofs.StartNumbers.{numbers_are}
+use Rattle.slice_engine.proofs.StartNumbers.{start_low}
 use Rattle.slice_engine.proofs.HeaderLines.{shown_at, at_shown}
 use Rattle.slice_engine.proofs.HeaderLemmas.{AreShort, inside, inside_feedless, inside_starless, header_is_comment}
 
--- ---- marks
+-- ---- the program of the slice
 
--- the tests of the vertices of a set, by number, say which statements it keeps
-marks_keep : (p : Program) (x marks : List Bool) → length marks ≡ p.statements → ((k : ℕ) → k < p.statements → get_or marks k false ≡ has x (k + 1)) → (i : ℕ) → get_or marks i false ≡ keeps_statement (vertices p) x i
-marks_keep p x marks long each i = elim (cases_lt i p.statements) [
-  | inl lt ↦ each i lt ∙ ap (has x) (add-one i) ∙ sym (kept_vertex p x i lt)
-  | inr ge ↦ get_or_past marks i false (omega (arith, long, ge)) ∙ sym (kept_past p x i ge)
-]
-
-pub are_marks : (p : Program) (g : Graph) (facts : Facts) (starts : Starts) (line : ℕ) (criterion kept in_criterion marks : List Bool) → IsPrepared p g facts starts → criterion ≡ with_starts line starts (replicate (p.statements + 1) false) → KeepsFrom p g criterion kept → length in_criterion ≡ p.statements → ((k : ℕ) → k < p.statements → get_or in_criterion k false ≡ has criterion (k + 1)) → length marks ≡ p.statements → ((k : ℕ) → k < p.statements → get_or marks k false ≡ has kept (k + 1)) → AreMarks p line in_criterion marks
-are_marks p g facts starts line criterion kept in_criterion marks ready made keeps_from in_criterion_long in_criterion_are marks_long marks_are =
+-- what is kept at a line, its projection, and the tests of its statements by rank
+pub is_sliced : (p : Program) (g : Graph) (facts : Facts) (starts : Starts) (line : ℕ) (kept : List Bool) (q : Program) (ranks : List Bool) → IsPrepared p g facts starts → IsNumberedMain p → KeepsFrom p g line kept → q ≡ projection p g.vertices kept
+    → ranks ≡ by_rank (kept_words kept g.vertices).statement (starts_on p line) p.statements → IsSlicedAt p line q ranks
+is_sliced p g facts starts line kept q ranks ready n keeps_from is ranks_are =
     let a = ready.is_graph.analysis in
-    let is = ready.is_graph.is_analysis in
-    let below = numbers_are p ready.numbered in
-    let same : criterion ≡ criterion_of (starts_on p line) (vertices p) = made ∙ ap (λ ss. with_starts line ss (replicate (p.statements + 1) false)) ready.starts_are ∙ criterion_is p line below in
+    let same = ready.is_graph.is_graph.vertices_are in
+    let test = keeps p a kept in
+    let there : ranks ≡ by_rank (keeps p a kept) (starts_on p line) p.statements = ranks_are ∙ ap (λ vs. by_rank (kept_words kept vs).statement (starts_on p line) p.statements) same in
+    let program : q ≡ sliced p a kept = is ∙ ap (λ vs. projection p vs kept) same in
     record {
       analysis = a;
       kept = kept;
-      is_kept = kept_set p a ready.numbered is line g criterion kept ready.is_graph.is_graph same keeps_from;
-      in_criterion_long = in_criterion_long;
-      marks_long = marks_long;
-      in_criterion_are = λ i. marks_keep p criterion in_criterion in_criterion_long in_criterion_are i ∙ ap (λ x. keeps_statement (vertices p) x i) same ∙ criterion_members p line below i;
-      marks_are = λ i. marks_keep p kept marks marks_long marks_are i ∙ ap (λ (test : ℕ → Bool). test i) (sym (keeps_main p a kept ready.numbered is));
+      is_kept = kept_set p a n ready.is_graph.is_analysis line g kept ready.is_graph.is_graph keeps_from;
+      program_is = program;
+      in_criterion_long = ap length there ∙ length-by_rank test (starts_on p line) p.statements ∙ sym (ap (λ (x : Program). x.statements) program);
+      in_criterion_are = λ i low k. ap (λ xs. has xs (rank test i)) there ∙ at_rank test (starts_on p line) i p.statements low k;
+      in_criterion_only = λ r h.
+          let w = of_rank test (starts_on p line) p.statements r (ap (λ xs. has xs r) (sym there) ∙ h) in
+          (w.number, w.below, w.kept, w.at);
     }
-
-pub criterion_long : (line v : ℕ) (starts : Starts) (x : List Bool) → x ≡ with_starts line starts (replicate v false) → length x ≡ v
-criterion_long line v starts x e = ap length e ∙ length-with_starts line starts (replicate v false) ∙ empty_long v
-
--- ---- the program of the slice
-
-module _ (p : Program) (line : ℕ) (in_criterion marks : List Bool) (m : AreMarks p line in_criterion marks) where
-  keeps_marked : keeps p m.analysis m.kept ≡ has marks
-  keeps_marked = fun_ext (λ i. sym (m.marks_are i))
-
-  long : length in_criterion ≡ length marks
-  long = m.in_criterion_long ∙ sym m.marks_long
-
-  pub is_sliced : (q : Program) (ranks : List Bool) → q ≡ projection p (has marks) → ranks ≡ by_rank marks in_criterion → IsSlicedAt p line q ranks
-  is_sliced q ranks is ranks_are = record {
-    analysis = m.analysis;
-    kept = m.kept;
-    is_kept = m.is_kept;
-    program_is = is ∙ ap (projection p) (sym keeps_marked);
-    in_criterion_long = ap length ranks_are ∙ length-by_rank marks in_criterion long ∙ ap (rank (has marks)) m.marks_long ∙ sym (ap (λ (x : Program). x.statements) is);
-    in_criterion_are = λ i k. ap (λ (f : ℕ → Bool). has ranks (rank f i)) keeps_marked ∙ ap (λ xs. has xs (rank (has marks) i)) ranks_are ∙ at_rank marks in_criterion i long (m.marks_are i ∙ k) ∙ m.in_criterion_are i;
-    in_criterion_only = λ r h.
-        let w = of_rank marks in_criterion r (ap (λ xs. has xs r) (sym ranks_are) ∙ h) in
-        (w.0, sym (m.marks_are w.0) ∙ w.1, ap (λ f. rank f w.0) keeps_marked ∙ w.2);
-  }
 
 -- ---- its text
 
@@ -150,13 +117,13 @@ module _ (p : Program) (line : ℕ) (q : Program) (in_criterion : List Bool) (we
       let f = shown_at in_criterion lines k ((exact k).0 h) in
       let w = s.in_criterion_only f.rank f.is_shown in
       let lt = rank_low f.rank f.is_shown in
-      let on : starts_on p line w.0 ≡ true = sym (s.in_criterion_are w.0 w.1) ∙ ap (λ r. get_or in_criterion r false) w.2 ∙ f.is_shown in
-      let is : k ≡ suc (line_of (sliced p s.analysis s.kept) (at w.0)) = f.behind ∙ ap suc (some_line lines all f.rank f.line lt f.line_is ∙ line_there w.0 f.rank w.2) in
-      (w.0, on, line_is w.0 k (subst (λ r. r < q.statements) (sym w.2) lt) is)
+      let on : starts_on p line w.0 ≡ true = sym (s.in_criterion_are w.0 w.1 w.2) ∙ ap (λ r. get_or in_criterion r false) w.3 ∙ f.is_shown in
+      let is : k ≡ suc (line_of (sliced p s.analysis s.kept) (at w.0)) = f.behind ∙ ap suc (some_line lines all f.rank f.line lt f.line_is ∙ line_there w.0 f.rank w.3) in
+      (w.0, on, line_is w.0 k (subst (λ r. r < q.statements) (sym w.3) lt) is)
 
   found_lines : (lines shown : List ℕ) → AreAll lines → Shown lines shown → (k i : ℕ) → starts_on p line i ≡ true → IsStartLine p s.analysis s.kept i k → Contains shown k
   found_lines lines shown all exact k i on l =
-      let want : get_or in_criterion (at i) false ≡ true = s.in_criterion_are i (criterion_kept p s.analysis line s.kept numbered s.is_kept i on) ∙ on in
+      let want : get_or in_criterion (at i) false ≡ true = s.in_criterion_are i (start_low p well line i on) (criterion_kept p s.analysis line s.kept numbered s.is_kept well i on) ∙ on in
       let lt = rank_low (at i) want in
       (exact k).1 (subst (Contains (shown_lines in_criterion lines)) (sym (l.behind_header ∙ ap suc (sym (line_there i (at i) refl)))) (at_shown in_criterion lines (at i) (line_of q (at i)) want (all (at i) lt)))
 
@@ -204,5 +171,5 @@ is_faithful p line text well numbered r = record {
   accepted = r;
   same_values =
       let there = kept_projectable p r.analysis line r.kept numbered r.is_kept in
-      projected_values p r.analysis r.kept well numbered there r.program (starts_on p line) (is_criterion p r.analysis line r.kept) (criterion_kept p r.analysis line r.kept numbered r.is_kept) (criterion_rank p r.analysis line r.kept numbered r.is_kept) r.same_program;
+      projected_values p r.analysis r.kept well numbered there r.program (starts_on p line) (is_criterion p r.analysis line r.kept) (criterion_kept p r.analysis line r.kept numbered r.is_kept well) (criterion_rank p r.analysis line r.kept well numbered r.is_kept) r.same_program;
 }

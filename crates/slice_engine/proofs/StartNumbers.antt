@@ -1,25 +1,30 @@
--- The numbered statements of a program of main alone over integers have the numbers below their count.
-use Rattle.std.proofs.Common.{◌≡◌, ℕ, zero, suc, ◌+◌, ◌≤◌, List, [], ◌∷◌, map, sym, ap, ◌∙◌, arith}
-use Rattle.std.proofs.lemmas.List.{append-nil}
+-- The numbered statements of a well-formed program have the numbers below their count.
+use Rattle.std.proofs.Common.{◌≡◌, ℕ, zero, suc, ◌+◌, ◌<◌, ◌==◌, ◌&&◌, List, [], ◌∷◌, ◌++◌, map, Bool, true, inl, inr, refl, sym, ap, ap₂, ◌∙◌, arith}
+use Rattle.std.specs.List.{range_with_len}
+use Rattle.std.proofs.lemmas.Bool.{eqb-true, or_cases, and_parts}
+use Rattle.std.proofs.lemmas.List.{map-append}
+use Rattle.c_tree.specs.declared.numbered.Start.{Start}
+use Rattle.c_tree.specs.declared.program.Function.{Function}
 use Rattle.c_tree.specs.declared.program.Program.{Program}
 use Rattle.c_tree.specs.Numbered.{Starts, body_starts, function_starts, program_starts}
-use Rattle.dep_model.specs.MainVertices.{from}
-use Rattle.dep_model.specs.Doings.{doing_number}
-use Rattle.dep_model.specs.NumberedMains.{IsNumberedMain}
-use Rattle.dep_model.proofs.NumberedMain.{main_doings}
+use Rattle.c_language.specs.Programs.{IsWellFormed}
+use Rattle.dep_model.specs.Doings.{body_doings, functions_doings, doing_number}
 use Rattle.dep_model.proofs.StartDoings.{ids, body_agree}
-use Rattle.slice_engine.proofs.CriterionLaws.{AreNumbers}
+use Rattle.numbered_texts.proofs.NumbersButLines.{statements_numbered}
+use Rattle.slice_engine.specs.Criterion.{starts_among}
+use Rattle.slice_engine.specs.Slice.{starts_on}
 
--- numbers from s on that are n are below their end
-below_from : (n s : ℕ) (ss : Starts) (end : ℕ) → ids ss ≡ from s n → s + n ≤ end → AreNumbers end ss
-below_from n s [] end h le = tt
-below_from zero s (x ∷ ss) end h le = absurd (cons_not_nil h)
-  where
-    cons_not_nil : {k : ℕ} {ks : List ℕ} → k ∷ ks ≡ [] → ⊥
-    cons_not_nil e = cc
-below_from (suc n) s (x ∷ ss) end h le =
-    let first : x.id ≡ s = head_same h in
-    (omega (arith, first, le), below_from n (suc s) ss end (tail_same h) (omega (arith, le)))
+-- one that starts on a line is among numbers from s on
+among_range : (line s n : ℕ) (ss : Starts) (i : ℕ) → ids ss ≡ range_with_len s n → starts_among line ss i ≡ true → i < s + n
+among_range line s n [] i h on = cc
+among_range line s zero (x ∷ ss) i h on = cc
+among_range line s (suc n) (x ∷ ss) i h on = elim (or_cases ((x.id == i) && (x.line == line)) (starts_among line ss i) on) [
+  | inl here ↦
+      let same : x.id ≡ i = eqb-true x.id i (and_parts (x.id == i) (x.line == line) here).0 in
+      let first : x.id ≡ s = head_same h in
+      omega (arith, same, first)
+  | inr later ↦ let lt = among_range line (s + 1) n ss i (tail_same h) later in omega (arith, lt)
+]
   where
     head_same : {j k : ℕ} {js ks : List ℕ} → j ∷ js ≡ k ∷ ks → j ≡ k
     head_same e = cc
@@ -27,9 +32,12 @@ below_from (suc n) s (x ∷ ss) end h le =
     tail_same : {j k : ℕ} {js ks : List ℕ} → j ∷ js ≡ k ∷ ks → js ≡ ks
     tail_same e = cc
 
-main_starts : (p : Program) (h : IsNumberedMain p) → program_starts p ≡ body_starts h.integer.main.body
-main_starts p h = ap function_starts h.integer.functions_are ∙ append-nil (body_starts h.integer.main.body)
+functions_agree : (fs : List Function) → ids (function_starts fs) ≡ map doing_number (functions_doings fs)
+functions_agree [] = refl
+functions_agree (f ∷ fs) =
+    map-append (λ (s : Start). s.id) (body_starts f.body) (function_starts fs) ∙ ap₂ (λ (a b : List ℕ). a ++ b) (body_agree f.body) (functions_agree fs) ∙ sym (map-append doing_number (body_doings f.body) (functions_doings fs))
 
-pub numbers_are : (p : Program) → IsNumberedMain p → AreNumbers p.statements (program_starts p)
-numbers_are p h =
-    below_from p.statements 0 (program_starts p) p.statements (ap ids (main_starts p h) ∙ body_agree h.integer.main.body ∙ ap (map doing_number) (sym (main_doings p h.integer)) ∙ h.numbers_are) (omega arith)
+-- a statement that starts on a line is one of the program's
+pub start_low : (p : Program) → IsWellFormed p → (line i : ℕ) → starts_on p line i ≡ true → i < p.statements
+start_low p well line i on =
+    let lt = among_range line 0 p.statements (program_starts p) i (functions_agree p.functions ∙ statements_numbered p well) on in omega (arith, lt)

@@ -1,5 +1,7 @@
--- The numbers of statements as vertices.
-use Rattle.std.proofs.Common.{◌≡◌, ℕ, zero, suc, ◌+◌, ◌<◌, List, [], ◌∷◌, length, map, get_or, Bool, true, false, ◌&&◌, inl, inr, refl, ap, ◌∙◌, subst, eq-eqb, IsTrue, arith}
+-- Which statements a set of vertices keeps.
+use Rattle.std.proofs.Common.{◌≡◌, ℕ, zero, suc, ◌+◌, ◌<◌, ◌≤◌, ◌==◌, List, [], ◌∷◌, length, map, slice_get, Bool, true, false, ◌&&◌, ◌||◌, Some, refl, sym, ap, ◌∙◌, subst, eq-eqb, arith}
+use Rattle.std.proofs.lemmas.Bool.{ne_eqb, or_left, or_right, and_from}
+use Rattle.std.proofs.lemmas.Option.{same_Some}
 use Rattle.bit_rows.specs.Sets.{has}
 use Rattle.c_tree.specs.declared.program.Program.{Program}
 use Rattle.dep_model.specs.declared.vertex.Vertex.{Vertex}
@@ -8,36 +10,65 @@ use Rattle.dep_model.specs.FunctionVertices.{is_own}
 use Rattle.dep_model.specs.NumberedMains.{IsNumberedMain}
 use Rattle.dep_model.specs.SystemGraph.{Analysis, IsAnalysis}
 use Rattle.dep_model.proofs.NumberedEdges.{numbered_vertices}
-use Rattle.slice_engine.specs.Slice.{keeps_statement, keeps}
-use Rattle.std.proofs.lemmas.Bool.{or_left, or_right, or_cases, and_from, and_parts, ne_eqb}
-use Rattle.projection_meaning.proofs.Bools.{or_false}
+use Rattle.projection.specs.KeptVertices.{holds, kept_words}
+use Rattle.slice_engine.specs.Slice.{keeps}
 
--- ---- the vertex of a statement
+-- a vertex of the set passes a test
+pub holds_there : (set : List Bool) (test : Vertex → Bool) (n v : ℕ) (vs : List Vertex) (x : Vertex) → has set (n + v) ≡ true → slice_get vs v ≡ Some x → test x ≡ true → holds set test n vs ≡ true
+holds_there set test n v [] x member at passes = cc
+holds_there set test n zero (y ∷ vs) x member at passes =
+    let e : n + 0 ≡ n = omega arith in
+    or_left _ (holds set test (suc n) vs) (and_from (has set n) (test y) (subst (λ k. has set k ≡ true) e member) (ap test (same_Some _ _ at) ∙ passes))
+holds_there set test n (suc v) (y ∷ vs) x member at passes =
+    let e : n + suc v ≡ suc n + v = omega arith in
+    or_right (has set n && test y) _ (holds_there set test (suc n) v vs x (subst (λ k. has set k ≡ true) e member) at passes)
 
-kept_before : (s n j : ℕ) (bs : List Bool) → j < s → keeps_statement (map statement_vertex (from s n)) bs j ≡ false
-kept_before s zero j bs lt = refl
-kept_before s (suc n) j [] lt = refl
-kept_before s (suc n) j (b ∷ bs) lt =
-    let e = ne_eqb s j (λ p. omega arith) in
-    rw e (kept_before (suc s) n j bs (omega arith))
+-- ---- main alone
 
-kept_from : (s n i : ℕ) (bs : List Bool) → i < n → keeps_statement (map statement_vertex (from s n)) bs (s + i) ≡ get_or bs i false
-kept_from s zero i bs lt = absurd (omega arith)
-kept_from s (suc n) zero [] lt = refl
-kept_from s (suc n) (suc i) [] lt = refl
-kept_from s (suc n) zero (b ∷ bs) lt =
-    let e : s ≡ s + 0 = omega arith in
-    rw (eq-eqb s (s + 0) e) (or_false b _ (kept_before (suc s) n (s + 0) bs (omega arith)))
-kept_from s (suc n) (suc i) (b ∷ bs) lt =
-    let e : suc s + i ≡ s + suc i = omega arith in
-    rw (ne_eqb s (s + suc i) (λ p. omega arith)) (subst (λ j. keeps_statement (map statement_vertex (from (suc s) n)) bs j ≡ get_or bs i false) e (kept_from (suc s) n i bs (omega arith)))
+and_false : (b c : Bool) → ((b && false) || c) ≡ c
+and_false true c = refl
+and_false false c = refl
 
--- a statement is kept where its vertex is in the set
-pub kept_vertex : (p : Program) (bs : List Bool) (i : ℕ) → i < p.statements → keeps_statement (vertices p) bs i ≡ has bs (suc i)
-kept_vertex p [] i lt = refl
-kept_vertex p (b ∷ bs) i lt =
-    let e : 0 + i ≡ i = omega arith in
-    subst (λ j. keeps_statement (map statement_vertex (from 0 p.statements)) bs j ≡ get_or bs i false) e (kept_from 0 p.statements i bs lt)
+and_true : (b c : Bool) → c ≡ false → ((b && true) || c) ≡ b
+and_true true c none = refl
+and_true false c none = none
+
+module _ (set : List Bool) where
+  -- statement j has a kept vertex among those of the statements from s on, the first of which has the number k
+  abbrev held : ℕ → ℕ → ℕ → ℕ → Bool
+  held k s n j = holds set (λ (v : Vertex). is_own j v.kind) k (map statement_vertex (from s n))
+
+  other_first : (k s n j : ℕ) → (s == j) ≡ false → held k s (suc n) j ≡ held (suc k) (suc s) n j
+  other_first k s n j e = ap (λ b. (has set k && b) || held (suc k) (suc s) n j) e ∙ and_false (has set k) (held (suc k) (suc s) n j)
+
+  held_before : (k s n j : ℕ) → j < s → held k s n j ≡ false
+  held_before k s zero j lt = refl
+  held_before k s (suc n) j lt = other_first k s n j (ne_eqb s j (λ p. omega arith)) ∙ held_before (suc k) (suc s) n j (omega arith)
+
+  held_from : (k s n i : ℕ) → i < n → held k s n (s + i) ≡ has set (k + i)
+  held_from k s zero i lt = absurd (omega (arith, lt))
+  held_from k s (suc n) zero lt =
+      let e : s ≡ s + 0 = omega arith in
+      let f : k ≡ k + 0 = omega arith in
+      ap (λ b. (has set k && b) || held (suc k) (suc s) n (s + 0)) (eq-eqb s (s + 0) e) ∙ and_true (has set k) (held (suc k) (suc s) n (s + 0)) (held_before (suc k) (suc s) n (s + 0) (omega arith)) ∙ ap (has set) f
+  held_from k s (suc n) (suc i) lt =
+      let e : suc s + i ≡ s + suc i = omega arith in
+      let f : suc k + i ≡ k + suc i = omega arith in
+      other_first k s n (s + suc i) (ne_eqb s (s + suc i) (λ p. omega arith)) ∙ subst (λ j. held (suc k) (suc s) n j ≡ has set (suc k + i)) e (held_from (suc k) (suc s) n i (omega (arith, lt))) ∙ ap (has set) f
+
+  held_past : (k s n j : ℕ) → s + n ≤ j → held k s n j ≡ false
+  held_past k s zero j le = refl
+  held_past k s (suc n) j le = other_first k s n j (ne_eqb s j (λ p. omega arith)) ∙ held_past (suc k) (suc s) n j (omega (arith, le))
+
+  -- a statement is kept where its vertex is in the set
+  pub kept_vertex : (p : Program) (i : ℕ) → i < p.statements → (kept_words set (vertices p)).statement i ≡ has set (suc i)
+  kept_vertex p i lt =
+      let e : 0 + i ≡ i = omega arith in
+      let f : 1 + i ≡ suc i = omega arith in
+      and_false (has set 0) (held 1 0 p.statements i) ∙ subst (λ j. held 1 0 p.statements j ≡ has set (suc i)) e (held_from 1 0 p.statements i lt ∙ ap (has set) f)
+
+  pub kept_past : (p : Program) (i : ℕ) → p.statements ≤ i → (kept_words set (vertices p)).statement i ≡ false
+  kept_past p i le = and_false (has set 0) (held 1 0 p.statements i) ∙ held_past 1 0 p.statements i (omega (arith, le))
 
 length_from : (i n : ℕ) → length (from i n) ≡ n
 length_from i zero = refl
@@ -50,27 +81,6 @@ length_map (x ∷ xs) = ap suc (length_map xs)
 pub length-vertices : (p : Program) → length (vertices p) ≡ suc p.statements
 length-vertices p = ap suc (length_map (from 0 p.statements) ∙ length_from 0 p.statements)
 
--- ---- sets of vertices
-
 -- the vertices by which a set keeps statements are those of main
-pub keeps_main : (p : Program) (a : Analysis) (kept : List Bool) → IsNumberedMain p → IsAnalysis p a → keeps p a kept ≡ keeps_statement (vertices p) kept
-keeps_main p a kept n is = ap (λ vs. keeps_statement vs kept) (numbered_vertices p a n is)
-
-kept_none : (vs : List Vertex) (i : ℕ) → keeps_statement vs [] i ≡ false
-kept_none [] i = refl
-kept_none (v ∷ vs) i = refl
-
--- a larger set keeps more
-pub kept_grows : (vs : List Vertex) (a b : List Bool) (i : ℕ) → ((v : ℕ) → IsTrue (has a v) → IsTrue (has b v)) → keeps_statement vs a i ≡ true → keeps_statement vs b i ≡ true
-kept_grows [] a b i h k = k
-kept_grows (v ∷ vs) [] b i h k = cc
-kept_grows (v ∷ vs) (x ∷ xs) [] i h k =
-    elim (or_cases (is_own i v.kind && x) (keeps_statement vs xs i) k) [
-      | inl p ↦ h 0 (and_parts (is_own i v.kind) x p).1
-      | inr q ↦ let c = kept_grows vs xs [] i (λ w. h (suc w)) q in let d = kept_none vs i in cc
-    ]
-kept_grows (v ∷ vs) (x ∷ xs) (y ∷ ys) i h k =
-    elim (or_cases (is_own i v.kind && x) (keeps_statement vs xs i) k) [
-      | inl p ↦ or_left (is_own i v.kind && y) (keeps_statement vs ys i) (and_from (is_own i v.kind) y (and_parts (is_own i v.kind) x p).0 (h 0 (and_parts (is_own i v.kind) x p).1))
-      | inr q ↦ or_right (is_own i v.kind && y) (keeps_statement vs ys i) (kept_grows vs xs ys i (λ w. h (suc w)) q)
-    ]
+pub keeps_main : (p : Program) (a : Analysis) (kept : List Bool) → IsNumberedMain p → IsAnalysis p a → keeps p a kept ≡ (kept_words kept (vertices p)).statement
+keeps_main p a kept n is = ap (λ vs. (kept_words kept vs).statement) (numbered_vertices p a n is)

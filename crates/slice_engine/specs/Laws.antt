@@ -1,5 +1,4 @@
--- Laws of programs in which nothing points anywhere, and of sets of vertices that can be projected: what stays of a program by such a set
--- is a program, and means what it meant.
+-- Laws of sets of vertices that can be projected: what stays of a program by such a set is a program, and means what it meant.
 use Rattle.std.specs.Prelude.{◌≡◌, ℕ, List, Bool, true, length}
 use Rattle.c_tree.specs.declared.program.Program.{Program}
 use Rattle.c_tree.specs.Unlined.{SameButLines}
@@ -9,13 +8,7 @@ use Rattle.dep_model.specs.ClosedSets.{IsProjectable}
 use Rattle.dep_model.specs.NumberedMains.{IsNumberedMain}
 use Rattle.dep_model.specs.SystemGraph.{Analysis, IsAnalysis, vertices_of, AreSystemEdges}
 use Rattle.projection_meaning.specs.SameValues.{StandFor, HasSameValues}
-use Rattle.slice_engine.specs.Engine.{PointsNowhere}
 use Rattle.slice_engine.specs.Slice.{keeps, sliced}
-use Rattle.slice_engine.specs.StoredIntegers.{StoresIntegers}
-
--- no location may point anywhere where all that is stored is an integer
-abbrev pub IntegersPointNowhere : Type 0
-IntegersPointNowhere = (p : Program) → StoresIntegers p → PointsNowhere p
 
 -- a set of vertices of the program's system graph is closed under all closures, and can be projected
 pub record CanBeProjected (p : Program) (a : Analysis) (s : List Bool) : Type 0 where

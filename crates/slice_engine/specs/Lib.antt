@@ -1,7 +1,6 @@
 pub mod Criterion
 pub mod Header
 pub mod Slice
-pub mod StoredIntegers
 pub mod Engine
 pub mod Laws
 pub mod GraphLimits

@@ -1,5 +1,5 @@
 -- The slice of a program at a line: the vertices that it keeps, its program and its text.
-use Rattle.std.specs.Prelude.{◌≡◌, ◌↔◌, ℕ, suc, ◌<◌, ◌==◌, ◌&&◌, ◌||◌, List, [], ◌∷◌, ◌++◌, length, Bool, true, false, Contains, AllPairs, IsTrue, codes}
+use Rattle.std.specs.Prelude.{◌≡◌, ◌↔◌, ℕ, suc, ◌<◌, ◌==◌, ◌&&◌, List, [], ◌∷◌, ◌++◌, length, Bool, true, Contains, AllPairs, IsTrue, codes}
 use Rattle.std.specs.List.{list_any}
 use Rattle.std.specs.Fmt.{decimal}
 use Rattle.bit_rows.specs.Sets.{has}
@@ -13,14 +13,12 @@ use Rattle.c_print.specs.Lines.{line_of}
 use Rattle.c_print.specs.StartsOn.{StartsOn}
 use Rattle.c_reader.specs.Reading.{ReadsProgram}
 use Rattle.dep_model.specs.declared.edge.Edge.{Edge}
-use Rattle.dep_model.specs.declared.vertex.Vertex.{Vertex}
-use Rattle.dep_model.specs.FunctionVertices.{is_own}
 use Rattle.dep_model.specs.Words.{ReachesAny}
 use Rattle.dep_model.specs.ClosedSets.{IsCompletionIn}
 use Rattle.dep_model.specs.Criteria.{criterion_of}
 use Rattle.dep_model.specs.SystemGraph.{Analysis, IsAnalysis, vertices_of, AreSystemEdges}
 use Rattle.projection.specs.Kept.{rank}
-use Rattle.projection.specs.Projection.{projection}
+use Rattle.projection.specs.KeptVertices.{kept_words, projection}
 use Rattle.projection_meaning.specs.SameValues.{HasSameValues}
 use Rattle.own_words.specs.OwnWords.{OwnWords}
 
@@ -31,12 +29,6 @@ starts_on p line i = list_any (λ (s : Start). (s.id == i) && (s.line == line)) 
 -- some statement starts on a line
 abbrev pub HasStart : Program → ℕ → Type 0
 HasStart p line = (i : ℕ) × (starts_on p line i ≡ true)
-
--- whether a statement is kept, where the vertices of a set are
-abbrev pub keeps_statement : List Vertex → List Bool → ℕ → Bool
-keeps_statement [] bs i = false
-keeps_statement (v ∷ vs) [] i = false
-keeps_statement (v ∷ vs) (b ∷ bs) i = (is_own i v.kind && b) || keeps_statement vs bs i
 
 -- the vertices of the statements that start on a line
 abbrev pub criterion : Program → Analysis → ℕ → List Bool
@@ -58,11 +50,11 @@ pub record IsKeptSet (p : Program) (a : Analysis) (line : ℕ) (kept : List Bool
 
 -- which statements a set of vertices keeps
 abbrev pub keeps : Program → Analysis → List Bool → ℕ → Bool
-keeps p a kept = keeps_statement (vertices_of p a) kept
+keeps p a kept = (kept_words kept (vertices_of p a)).statement
 
 -- the program of the slice that keeps these vertices
 abbrev pub sliced : Program → Analysis → List Bool → Program
-sliced p a kept = projection p (keeps p a kept)
+sliced p a kept = projection p (vertices_of p a) kept
 
 -- in the slice's text, whose first line is the header, a line is the one on which a statement of the program starts
 pub record IsStartLine (p : Program) (a : Analysis) (kept : List Bool) (i k : ℕ) : Type 0 where

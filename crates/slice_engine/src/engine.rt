@@ -1,24 +1,27 @@
 //! The engine: a program with its dependence graph, which gives the slice's text at each criterion.
 ghost use Rattle.std.specs.Prelude.{◌≡◌, ◌⊎◌, ◌≤◌, ◌<◌, ℕ, IfOk, IsTrue, ◌↔◌, MatchOption, None, length};
 ghost use Rattle.std.specs.Result.{IfErr};
-ghost use Rattle.built_forms.specs.BuiltForms.{not_yet};
+ghost use Rattle.built_forms.specs.BuiltForms.{beyond_integers, not_yet};
 ghost use Rattle.c_tree.specs.declared.limits.LimitName.{LimitName};
+ghost use Rattle.c_tree.specs.Numbered.{program_starts};
 ghost use Rattle.c_language.specs.Programs.{IsWellFormed};
 ghost use Rattle.c_language.specs.Layout.{layout};
 ghost use Rattle.dep_model.specs.declared.graph_fault.GraphFault.TheVariants.{Limit};
 ghost use Rattle.dep_model.specs.Graphs.{IsGraphOf};
+ghost use Rattle.projection.specs.KeptVertices.{kept_words};
+ghost use Rattle.slice_engine.specs.Criterion.{by_rank as by_rank_of};
+ghost use Rattle.slice_engine.specs.Engine.{IsPrepared, AreMembers, AreMembersIn, KeepsFrom, IsSlicedAt};
 ghost use Rattle.slice_engine.specs.GraphLimits.{IsAboveGraphLimit};
-ghost use Rattle.slice_engine.specs.Slice.{HasStart, IsSlice, IsAcceptedSlice, IsFaithful};
-ghost use Rattle.slice_engine.specs.Engine.{IsPrepared, AreMarks, IsSlicedAt};
+ghost use Rattle.slice_engine.specs.Slice.{starts_on, HasStart, IsSlice, IsAcceptedSlice, IsFaithful};
 
-use crate::criterion::{any_starts_on, by_rank, criterion_set, marks_of};
-use crate::graph::{graph_of, keep};
+use crate::criterion::{any_starts_on, by_rank, criterion_set, kept_statements, starting_on};
+use crate::graph::{complete, graph_of, reach};
 use crate::header::{header, header_lines};
 use crate::starts::{last_line, starts_in};
 use c_print::{lines_of, print};
 use c_tree::numbered::Start;
 use c_tree::{Program, Text};
-use dep_model::{Facts, Graph, GraphFault};
+use dep_model::{Facts, Graph, GraphFault, VertexSet};
 use projection::project;
 use std::alloc::{AllocError, Global};
 use std::marker::Model;
@@ -59,14 +62,14 @@ impl Model for Engine {
 }
 
 impl Engine {
-    /// The engine of a program of which nothing is outside the built forms, as [`not_yet`](crate::not_yet) tells:
-    /// main alone over integers, with any control flow.
+    /// The engine of a program over integers, as [`beyond_integers`](crate::beyond_integers) tells: without pointers,
+    /// arrays, structs and memory that is allocated. It may have functions, globals, input and any control flow.
     ///
     /// Err: the program has more than 4,096 locations, or its graph more than 65,536 vertices or 262,144 words of
-    /// facts, of which the first is told; or no memory was left.
+    /// facts, of which the first is told; or no memory was left, which is also told of more than 4,294,967,295 functions.
     pub fn new(alloc: Global, p: Program) -> Result<Engine, GraphFault>
         requires well_formed { IsWellFormed p }
-        requires built { not_yet p ≡ None }
+        requires over_integers { beyond_integers p ≡ None }
         ensures program { IfOk result (λ e. e ≡ p) }
         ensures within { IfOk result (λ e. (n : LimitName) → IsAboveGraphLimit p n → ⊥) }
         ensures above { IfErr result (λ f. (n : LimitName) → f ≡ Limit n → IsAboveGraphLimit p n) }
@@ -108,13 +111,33 @@ impl Engine {
         last_line(&self.starts)
     }
 
-    /// The text of the slice: a header, and the layout of the program that the kept statements
+    /// The vertices that reach those of the criterion's statements by matched calls and returns (Horwitz, Reps and Binkley
+    /// 1990). Of a call these are its call vertex, and the actual-out of its result where that is stored.
+    ///
+    /// Err: no memory was left.
+    pub fn members(&self, alloc: Global, c: Criterion) -> Result<VertexSet, AllocError>
+        ensures { IfOk result (AreMembers self.now c.line) }
+    {
+        let set = members_at(
+            alloc,
+            &self.program,
+            &self.graph,
+            &self.facts,
+            &self.starts,
+            c.line,
+        )?;
+        Ok(set)
+    }
+
+    /// The text of the slice of a program of which nothing is outside the built forms, as
+    /// [`not_yet`](crate::not_yet) tells, so far main alone over integers: a header, and the layout of the program that the kept statements
     /// make (Binkley 1993). Each input on which the program ends gives the same values at the
     /// criterion in both.
     ///
     /// Err: no memory was left, or the layout of the slice has more than 4,294,967,296 bytes.
     pub fn slice_text(&self, alloc: Global, c: Criterion) -> Result<Text, AllocError>
-        requires { HasStart self.now c.line }
+        requires start { HasStart self.now c.line }
+        requires built { not_yet self.now ≡ None }
         ensures slice { IfOk result (λ t. IsSlice self.now c.line t) }
         ensures faithful { IfOk result (λ t. IsFaithful self.now c.line t) }
     {
@@ -137,30 +160,58 @@ fn has_start(p: &Program, graph: &Graph, facts: &Facts, starts: &[Start], line: 
     any_starts_on(starts, line)
 }
 
-/// For each statement whether it starts on the line, and whether the slice keeps it.
-#[derive(Drop)]
-struct Marks {
-    in_criterion: Vec<bool>,
-    kept: Vec<bool>,
-}
-
-fn marks_at(
+// What reaches the criterion of a line.
+fn members_at(
     alloc: Global,
     p: &Program,
     graph: &Graph,
     facts: &Facts,
     starts: &[Start],
     line: u32,
-) -> Result<Marks, AllocError>
+) -> Result<VertexSet, AllocError>
     requires { IsPrepared p.now graph.now facts.now starts.now }
-    ensures { IfOk result (λ m. AreMarks p.now line m.in_criterion.items m.kept.items) }
+    ensures { IfOk result (AreMembersIn p.now graph.now line) }
 {
-    let vertices = p.statements + 1;
-    let mut set = criterion_set(alloc, starts, line, vertices)?;
-    let in_criterion = marks_of(alloc, &set, p.statements)?;
-    keep(alloc, p, graph, facts, &mut set)?;
-    let kept = marks_of(alloc, &set, p.statements)?;
-    Ok(Marks { in_criterion, kept })
+    let tests = starting_on(alloc, starts, line)?;
+    let mut set = criterion_set(alloc, graph.vertices.as_slice(), tests.as_slice())?;
+    reach(alloc, graph, facts, &mut set)?;
+    Ok(set)
+}
+
+// What the slice at a line keeps.
+fn kept_at(
+    alloc: Global,
+    p: &Program,
+    graph: &Graph,
+    facts: &Facts,
+    starts: &[Start],
+    line: u32,
+) -> Result<VertexSet, AllocError>
+    requires { IsPrepared p.now graph.now facts.now starts.now }
+    ensures kept { IfOk result (KeepsFrom p.now graph.now line) }
+    ensures size { IfOk result (λ kept. length kept ≡ length graph.now.vertices) }
+{
+    let mut set = members_at(alloc, p, graph, facts, starts, line)?;
+    complete(alloc, p, graph, &mut set)?;
+    Ok(set)
+}
+
+// Of the statements that a set keeps, in their order, which start on the line.
+fn kept_on(
+    alloc: Global,
+    p: &Program,
+    graph: &Graph,
+    starts: &[Start],
+    line: u32,
+    kept: &VertexSet,
+) -> Result<Vec<bool>, AllocError>
+    requires starts { starts.now ≡ program_starts p.now }
+    requires size { length kept.now ≡ length graph.now.vertices }
+    ensures { IfOk result (λ tests. tests.items ≡ by_rank_of (kept_words kept.now graph.now.vertices).statement (starts_on p.now line) p.now.statements) }
+{
+    let tests = starting_on(alloc, starts, line)?;
+    let statements = kept_statements(alloc, graph.vertices.as_slice(), kept)?;
+    by_rank(alloc, statements.as_slice(), tests.as_slice(), p.statements)
 }
 
 /// The program of a slice, and for each of its statements whether it is one of the criterion.
@@ -178,12 +229,13 @@ fn sliced_at(
     starts: &[Start],
     line: u32,
 ) -> Result<Sliced, AllocError>
-    requires { IsPrepared p.now graph.now facts.now starts.now }
+    requires prepared { IsPrepared p.now graph.now facts.now starts.now }
+    requires built { not_yet p.now ≡ None }
     ensures { IfOk result (λ s. IsSlicedAt p.now line s.program s.in_criterion.items) }
 {
-    let marks = marks_at(alloc, p, graph, facts, starts, line)?;
-    let program = project(alloc, p, marks.kept.as_slice())?;
-    let in_criterion = by_rank(alloc, marks.kept.as_slice(), marks.in_criterion.as_slice())?;
+    let kept = kept_at(alloc, p, graph, facts, starts, line)?;
+    let program = project(alloc, p, graph, &kept)?;
+    let in_criterion = kept_on(alloc, p, graph, starts, line, &kept)?;
     Ok(Sliced {
         program,
         in_criterion,
@@ -199,7 +251,8 @@ fn text_of(
     starts: &[Start],
     line: u32,
 ) -> Result<Text, AllocError>
-    requires { IsPrepared p.now graph.now facts.now starts.now }
+    requires prepared { IsPrepared p.now graph.now facts.now starts.now }
+    requires built { not_yet p.now ≡ None }
     ensures slice { IfOk result (λ t. IsSlice p.now line t) }
     ensures read { IfOk result (λ t. IsAcceptedSlice p.now line t) }
 {

@@ -1,4 +1,4 @@
-//! The system dependence graph of a program, and what a slice keeps of it.
+//! The system dependence graph of a program, what reaches a set of its vertices, and the completion of a set.
 ghost use Rattle.std.specs.Prelude.{◌≡◌, ◌≤◌, ◌<◌, ◌^◌, ℕ, IfOk, OnOk, length};
 ghost use Rattle.std.specs.Result.{IfErr};
 ghost use Rattle.c_tree.specs.declared.limits.LimitName.{LimitName};
@@ -11,8 +11,9 @@ ghost use Rattle.dep_model.specs.LocationLists.{location_list};
 ghost use Rattle.dep_model.specs.LocationRows.{ArePointsRows};
 ghost use Rattle.dep_model.specs.Shapes.{IsShaped};
 ghost use Rattle.two_pass.specs.Ready.{HasMembers};
-ghost use Rattle.slice_engine.specs.Engine.{IsWithinLimits, KeepsFrom, PointsNowhere};
+ghost use Rattle.slice_engine.specs.Engine.{Completes, IsWithinLimits, PointsNowhere};
 ghost use Rattle.slice_engine.specs.GraphLimits.{IsAboveGraphLimit};
+ghost use Rattle.slice_engine.specs.Slice.{IsReached};
 
 use bit_rows::Rows;
 use c_tree::Program;
@@ -22,15 +23,21 @@ use std::alloc::{AllocError, Global};
 use two_pass::Passes;
 use vertex_layout::lay_out;
 
-/// The graph of a program in which no location points anywhere, or which of its quantities is above its limit.
+// The most functions that a program may have, so that they have numbers of 32 bits, and so has their count.
+const MAX_FUNCTIONS: usize = 4_294_967_295;
+
+/// The graph of a program in which no location points anywhere. Err: which of its quantities is above its limit; or no
+/// memory was left, which is also told of more than 4,294,967,295 functions.
 pub(crate) fn graph_of(alloc: Global, p: &Program) -> Result<Graph, GraphFault>
     requires well_formed { IsWellFormed p.now }
-    requires few_functions { length p.now.functions < 2 ^ 32 }
     requires nowhere { PointsNowhere p.now }
     ensures graph { IfOk result (IsGraphOf p.now) }
     ensures within { IfOk result (IsWithinLimits p.now) }
     ensures above { IfErr result (λ f. (n : LimitName) → f ≡ Limit n → IsAboveGraphLimit p.now n) }
 {
+    if p.functions.len() > MAX_FUNCTIONS {
+        return Err(GraphFault::NoMemory);
+    }
     let locations = Locations::of(alloc, p)?;
     let points = pointing_nowhere(alloc, &locations)?;
     let effects = mod_ref::find(alloc, p, &locations, &points)?;
@@ -47,32 +54,44 @@ fn pointing_nowhere(alloc: Global, locations: &Locations) -> Result<PointsTo, Al
     Ok(PointsTo { rows })
 }
 
-/// Makes a set of vertices the completion of what reaches it.
-pub(crate) fn keep(
+/// Makes a set of vertices exactly what reaches it by matched calls and returns.
+pub(crate) fn reach(
     alloc: Global,
-    p: &Program,
     g: &Graph,
     facts: &Facts,
     set: &mut VertexSet,
 ) -> Result<(), AllocError>
-    requires graph { IsGraphOf p.now g.now }
     requires shaped { IsShaped g.now }
     requires facts { AreTrueFacts g.now facts.now.words }
-    requires few { length g.now.vertices ≤ 65536 }
     requires size { length set.old ≡ length g.now.vertices }
-    ensures kept { OnOk result (KeepsFrom p.now g.now set.old set.new) }
-    ensures size { OnOk result (length set.new ≡ length set.old) }
+    ensures { OnOk result (IsReached g.now.edges set.old set.new) }
 {
-    let from = members(alloc, set)?;
+    let from = numbers_in(alloc, set)?;
     let mut passes = Passes::prepare(alloc, g, facts)?;
     passes.reach(from.as_slice(), set);
+    Ok(())
+}
+
+/// Makes a set of vertices its completion.
+pub(crate) fn complete(
+    alloc: Global,
+    p: &Program,
+    g: &Graph,
+    set: &mut VertexSet,
+) -> Result<(), AllocError>
+    requires graph { IsGraphOf p.now g.now }
+    requires few { length g.now.vertices ≤ 65536 }
+    requires size { length set.old ≡ length g.now.vertices }
+    ensures completes { OnOk result (Completes p.now g.now set.old set.new) }
+    ensures size { OnOk result (length set.new ≡ length set.old) }
+{
     let mut closer = Closer::prepare(alloc, p, g)?;
     closer.close_up(set);
     Ok(())
 }
 
 // The numbers in a set, ascending.
-fn members(alloc: Global, set: &VertexSet) -> Result<Vec<VertexId>, AllocError>
+fn numbers_in(alloc: Global, set: &VertexSet) -> Result<Vec<VertexId>, AllocError>
     ensures { IfOk result (λ found. HasMembers found.items set.now) }
 {
     let mut found = Vec::new(alloc);

@@ -1,12 +1,5 @@
-//! Laws of programs that point nowhere, and of sets of vertices that can be projected. Each function is a law, and holds no code:
-//! its contract is the law.
+//! Laws of sets of vertices that can be projected. Each function is a law, and holds no code: its contract is the law.
 ghost use Rattle.slice_engine.specs.Laws as law;
-
-/// A law: no location may point anywhere in a program whose variables are integers, and so is each value that it stores,
-/// passes or returns. It may have functions, globals and any control flow.
-pub fn integers_point_nowhere()
-    ensures { law.IntegersPointNowhere }
-{}
 
 /// A law: the projection of a well-formed program to a set of vertices of its system graph that is closed
 /// under all closures is a well-formed program. So far for main alone over integers.

@@ -8,9 +8,9 @@ mod header;
 mod laws;
 mod starts;
 
-pub use built_forms::not_yet;
+pub use built_forms::{beyond_integers, not_yet};
 pub use c_reader::{LexFault, ParseFault, ReadRefusal, RuleFault, read_program};
 pub use c_tree::{LimitName, Program, Text};
-pub use dep_model::GraphFault;
+pub use dep_model::{Graph, GraphFault, VertexSet};
 pub use engine::{Criterion, Engine};
-pub use laws::{integers_point_nowhere, projection_has_same_values, projection_is_well_formed};
+pub use laws::{projection_has_same_values, projection_is_well_formed};

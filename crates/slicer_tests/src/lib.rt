@@ -3,6 +3,8 @@
 #![tactic(auto)]
 
 #[cfg(test)]
+mod engine_tests;
+#[cfg(test)]
 mod exit_tests;
 #[cfg(test)]
 mod layout_tests;

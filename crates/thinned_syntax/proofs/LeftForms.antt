@@ -18,7 +18,7 @@ use Rattle.c_language.specs.StatementGrammar.{arm}
 use Rattle.projection.specs.Kept.{Kept}
 use Rattle.c_scope_laws.specs.ThinnedBodies.{Left, ArmLeft, left_scoped, left_arm_step, left, left_arm}
 
-module _ (k : Kept) (raw : RawProgram) where
+module _ (k : Kept Bytes) (raw : RawProgram) where
   -- what stays of a layer of a statement
   abbrev pub layer_left : RawStatement-F RawStatement RawArm → Scoped Left
   layer_left y = left_scoped k raw (map-RawStatement RawStatement RawArm (Scoped Left) (Scoped ArmLeft) (left k raw) (left_arm k raw) y)

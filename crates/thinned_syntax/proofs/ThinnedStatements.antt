@@ -1,5 +1,6 @@
 -- What stays of statements is left of them.
-use Rattle.std.proofs.Common.{◌≡◌, ℕ, List, [], ◌∷◌, ◌++◌, map, Bool, true, false, Option, Some, None, option_map, sym, subst, decimal}
+use Rattle.std.proofs.Common.{◌≡◌, ℕ, suc, List, [], ◌∷◌, ◌++◌, map, Bool, true, false, Option, Some, None, option_map, sym, subst, decimal}
+use Rattle.std.specs.Prelude.{if◌then◌else◌}
 use Rattle.c_tree.specs.declared.raw.expr.RawExpr.{RawExpr}
 use Rattle.c_tree.specs.declared.raw.expr.RawVar.{RawVar}
 use Rattle.c_tree.specs.declared.raw.program.RawInit.{RawInit}
@@ -23,10 +24,12 @@ use Rattle.c_language.specs.Spellings.{is_constant}
 use Rattle.c_language.specs.TypeGrammar.{is_written}
 use Rattle.c_language.proofs.Tests.{false_true}
 use Rattle.c_language.specs.Uses.{is_library_function}
-use Rattle.projection.specs.Kept.{Kept}
+use Rattle.projection.specs.Kept.{Kept, chosen}
 use Rattle.c_scope_laws.specs.Thinning.{declares}
-use Rattle.c_scope_laws.specs.ThinnedBodies.{AreMet, Left, ArmLeft, count_needs, only, beyond, part_left, part_needs, part_gone, gone, alone_one, alone_all, left_alone, arms_left, arms_needs, block_of, plain, declared, call_placed, call_declared, heap_declared, if_left, while_left, do_left, for_left, switch_left, result_kept, declare_left, call_left, heap_left, block_left, left_scoped, left_arm_step, left, left_arm, body_left, part_given}
+use Rattle.c_scope_laws.specs.ThinnedBodies.{Need, AreMet, Left, ArmLeft, count_needs, only, beyond, part_left, part_needs, part_gone, gone, alone_one, alone_all, left_alone, arms_left, arms_needs, block_of, plain, plain_with, passes, gives, return_needs, declared, call_placed, call_declared, heap_declared, if_left, while_left, do_left, for_left, switch_left, result_kept, declare_left, call_left, heap_left, block_left, left_scoped, left_arm_step, left, left_arm, body_left, part_given}
 use Rattle.c_scope_laws.proofs.ThinnedBodies.{both_met}
+use Rattle.c_language.specs.CallRules.{head_around}
+use Rattle.c_scope_laws.specs.Thinning.{kept_args}
 use Rattle.thinned_syntax.specs.Left.{AreSome, TargetLeft, IsLeft, AreLeft, PartLeft, ArmsLeft}
 use Rattle.thinned_syntax.proofs.CountConstants.{count_constant}
 use Rattle.thinned_syntax.proofs.LeftForms.{layer_left}
@@ -39,9 +42,36 @@ all_stay (x ∷ xs) = AreSome.stays (all_stay xs)
 at_form : {x y : RawStatement} {some : List RawStatement} → y ≡ x → IsLeft x some → IsLeft y some
 at_form {some = some} h j = subst (λ (z : RawStatement). IsLeft z some) (sym h) j
 
+-- some of a list, by their places
+pub some_stay : {A : Type 0} (test : ℕ → Bool) (n : ℕ) (xs : List A) → AreSome xs (chosen test n xs)
+some_stay test n [] = AreSome.none
+some_stay test n (x ∷ xs) = by_test (test n) (some_stay test (suc n) xs)
+  where
+    by_test : (b : Bool) → AreSome xs (chosen test (suc n) xs) → AreSome (x ∷ xs) (if b then x ∷ chosen test (suc n) xs else chosen test (suc n) xs)
+    by_test true later = AreSome.stays later
+    by_test false later = AreSome.taken later
+
+args_stay : (k : Kept Bytes) (f : Bytes) (n : ℕ) (args : List RawArg) → AreSome args (kept_args k f n args)
+args_stay k f n args = by_library (is_library_function f)
+  where
+    by_library : (b : Bool) → AreSome args (if b then args else chosen (k.argument n) 0 args)
+    by_library true = all_stay args
+    by_library false = some_stay (k.argument n) 0 args
+
 plain_is : (b : Bool) (y : RawStatement-F RawStatement RawArm) (scope : Scope) (part : Part) → IsLeft (roll-RawStatement y) (plain b y scope part).some
 plain_is true y scope part = IsLeft.same
 plain_is false y scope part = IsLeft.gone
+
+-- a call that stays with some of its arguments
+called_with : (b : Bool) (l : ℕ) (to : RawTarget) (f : Bytes) (args some : List RawArg) (needs : List Need) (scope : Scope) (part : Part) → AreSome args some
+    → IsLeft (roll-RawStatement (RawStatement-F.Call l to f args)) (plain_with b needs (RawStatement-F.Call l to f some) scope part).some
+called_with true l to f args some needs scope part h =
+    subst (λ (y : RawStatement). IsLeft (roll-RawStatement (RawStatement-F.Call l to f args)) (y ∷ [])) (sym (s.rolls-Call l to f some)) (at_form (s.rolls-Call l to f args) (IsLeft.call TargetLeft.same h))
+called_with false l to f args some needs scope part h = IsLeft.gone
+
+returned_is : (b : Bool) (needs : List Need) (y : RawStatement-F RawStatement RawArm) (scope : Scope) (part : Part) → IsLeft (roll-RawStatement y) (plain_with b needs y scope part).some
+returned_is true needs y scope part = IsLeft.same
+returned_is false needs y scope part = IsLeft.gone
 
 -- ---- parts of a for
 
@@ -64,7 +94,7 @@ block_is : (l : ℕ) (xs some : List RawStatement) → AreLeft xs some → IsLef
 block_is l xs [] h = IsLeft.gone
 block_is l xs (y ∷ ys) h = IsLeft.block h
 
-module _ (k : Kept) (raw : RawProgram) where
+module _ (k : Kept Bytes) (raw : RawProgram) where
   -- what stays, where what it needs is met
   abbrev Stays : RawStatement → Left → Type 0
   Stays x l = AreMet k l.needs → IsLeft x l.some
@@ -105,18 +135,19 @@ module _ (k : Kept) (raw : RawProgram) where
   declared_is l v i scope false true m = IsLeft.gone
   declared_is l v i scope false false m = IsLeft.gone
 
-  placed_is : (l : ℕ) (a : RawExpr) (f : Bytes) (args : List RawArg) (scope : Scope) (r b : Bool) → IsLeft (roll-RawStatement (RawStatement-F.Call l (target.Place a) f args)) (call_placed raw r b l a f args scope).some
-  placed_is l a f args scope true b = plain_is b (RawStatement-F.Call l (target.Place a) f args) scope (Calls InBlock (target.Place a) f args)
-  placed_is l a f args scope false true = at_form (s.rolls-Call l (target.Place a) f args) (IsLeft.call TargetLeft.dropped (all_stay args))
-  placed_is l a f args scope false false = IsLeft.gone
+  module _ (l : ℕ) (f : Bytes) (args some : List RawArg) (h : AreSome args some) (needs results : List Need) (scope : Scope) where
+    placed_is : (a : RawExpr) (r b : Bool) → IsLeft (roll-RawStatement (RawStatement-F.Call l (target.Place a) f args)) (call_placed raw r b needs results l a f some scope).some
+    placed_is a true b = called_with b l (target.Place a) f args some (needs ++ results) scope (Calls InBlock (target.Place a) f some) h
+    placed_is a false true = at_form (s.rolls-Call l (target.Place a) f args) (IsLeft.call TargetLeft.dropped h)
+    placed_is a false false = IsLeft.gone
 
-  called_is : (l : ℕ) (v : RawVar) (f : Bytes) (args : List RawArg) (scope : Scope) (a b r : Bool) → IsLeft (s.Call l (target.Declared v) f args) (call_declared raw a b r l v f args scope).some
-  called_is l v f args scope true true true = IsLeft.same
-  called_is l v f args scope true true false = IsLeft.apart (all_stay args)
-  called_is l v f args scope false true true = IsLeft.gone
-  called_is l v f args scope false true false = IsLeft.call TargetLeft.dropped (all_stay args)
-  called_is l v f args scope true false r = IsLeft.uncalled
-  called_is l v f args scope false false r = IsLeft.gone
+    called_is : (v : RawVar) (a b r : Bool) → IsLeft (s.Call l (target.Declared v) f args) (call_declared raw a b r needs results l v f some scope).some
+    called_is v true true true = IsLeft.call TargetLeft.same h
+    called_is v true true false = IsLeft.apart h
+    called_is v false true true = IsLeft.gone
+    called_is v false true false = IsLeft.call TargetLeft.dropped h
+    called_is v true false r = IsLeft.uncalled
+    called_is v false false r = IsLeft.gone
 
   allocated_is : (l : ℕ) (v : RawVar) (cast : Option RawTypeName) (n : RawAmount) (scope : Scope) (a b : Bool) → IsLeft (s.Heap l (target.Declared v) cast n) (heap_declared raw a b l v cast n scope).some
   allocated_is l v cast n scope true true = IsLeft.same
@@ -130,11 +161,16 @@ module _ (k : Kept) (raw : RawProgram) where
   declare_is l v (init.Items all) scope = declared_is l v (init.Items all) scope (k.variable scope.variables) (k.statement scope.statements)
 
   call_is : (l : ℕ) (to : RawTarget) (f : Bytes) (args : List RawArg) (scope : Scope) → IsLeft (roll-RawStatement (RawStatement-F.Call l to f args)) (call_left k raw l to f args scope).some
-  call_is l target.None f args scope = plain_is (k.statement scope.statements) (RawStatement-F.Call l target.None f args) scope (Calls InBlock target.None f args)
-  call_is l (target.Place a) f args scope = placed_is l a f args scope (result_kept (is_library_function f) (k.result scope.statements)) (k.statement scope.statements)
+  call_is l target.None f args scope =
+      let some = kept_args k f scope.statements args in
+      called_with (k.statement scope.statements) l target.None f args some (passes (is_library_function f) f args scope.statements) scope (Calls InBlock target.None f some) (args_stay k f scope.statements args)
+  call_is l (target.Place a) f args scope =
+      placed_is l f args (kept_args k f scope.statements args) (args_stay k f scope.statements args) (passes (is_library_function f) f args scope.statements) (gives (is_library_function f) f) scope a
+      (result_kept (is_library_function f) (k.result scope.statements)) (k.statement scope.statements)
   call_is l (target.Declared v) f args scope =
       at_form (s.rolls-Call l (target.Declared v) f args)
-      (called_is l v f args scope (k.variable scope.variables) (k.statement scope.statements) (result_kept (is_library_function f) (k.result scope.statements)))
+      (called_is l f args (kept_args k f scope.statements args) (args_stay k f scope.statements args) (passes (is_library_function f) f args scope.statements) (gives (is_library_function f) f) scope v
+      (k.variable scope.variables) (k.statement scope.statements) (result_kept (is_library_function f) (k.result scope.statements)))
 
   heap_is : (l : ℕ) (to : RawTarget) (cast : Option RawTypeName) (n : RawAmount) (scope : Scope) → IsLeft (roll-RawStatement (RawStatement-F.Heap l to cast n)) (heap_left k raw l to cast n scope).some
   heap_is l target.None cast n scope = plain_is (k.statement scope.statements) (RawStatement-F.Heap l target.None cast n) scope (Allocates target.None cast n)
@@ -229,7 +265,7 @@ module _ (k : Kept) (raw : RawProgram) where
   of_layer (RawStatement-F.Switch l a arms) scope m =
       at_form (s.rolls-Switch l a (bare_arms arms)) (switch_is (k.statement scope.statements) l a (bare_arms arms) (in_order (map (left_arm k raw) (bare_arms arms)) (opened (numbered scope))) scope (arms_lists arms (opened (numbered scope))) m)
   of_layer (RawStatement-F.Block l b) scope m = at_form (s.rolls-Block l (bare b)) (block_is l (bare b) (block_left k raw (map (left k raw) (bare b)) scope).some (lists b (opened scope) m))
-  of_layer (RawStatement-F.Return l a) scope m = plain_is (k.statement scope.statements) (RawStatement-F.Return l a) scope (Returns a)
+  of_layer (RawStatement-F.Return l a) scope m = returned_is (k.statement scope.statements) (return_needs (head_around raw scope) a) (RawStatement-F.Return l a) scope (Returns a)
 
   layer_is : (y : StatementParts IsThinned ArmIsThinned) → IsThinned (roll-RawStatement (shape y))
   layer_is y scope =

@@ -1,5 +1,5 @@
-use Rattle.own_words.proofs.StandingWords.{has_own_words}
+use Rattle.own_words.proofs.StandingWords.{keeps_words}
 use Rattle.own_words.proofs.own_words_stay.Goals as goal
 
 pub returns : goal.returns
-returns c = λ p keeps nested i x numbered kept. has_own_words p keeps nested i x numbered kept
+returns c = λ p k together. keeps_words p k together

@@ -1,9 +1,7 @@
-use Rattle.std.proofs.Common.{◌≡◌, length, drop, replicate, false}
-use Rattle.slice_engine.specs.Criterion as spec
+use Rattle.bit_rows.specs.Sets.{has}
+use Rattle.dep_model.specs.Criteria.{criterion_of}
+use Rattle.slice_engine.proofs.CriterionLaws.{IsBegun}
 use Rattle.slice_engine.proofs.criterion.criterion_set.Given as goal
 
-abbrev pub invariant-loop-start : goal.invariant-loop-start
-invariant-loop-start l = record {
-  set_is : spec.with_starts l.line (drop l.start-index l.starts) l.set ≡ spec.with_starts l.line l.starts (replicate l.vertices false);
-  long : length l.set ≡ l.vertices;
-}
+abbrev pub invariant-loop-v : goal.invariant-loop-v
+invariant-loop-v l = IsBegun (criterion_of (has l.tests) l.vertices) l.v l.set

@@ -1,5 +1,7 @@
-use Rattle.std.proofs.Common.{List, sym, subst}
+use Rattle.std.proofs.Common.{List, sym, ap, subst, ◌∙◌}
 use Rattle.std.specs.Prelude.{All}
+use Rattle.built_forms.specs.BuiltForms.{not_yet}
+use Rattle.built_forms.proofs.Wider.{built_over_integers}
 use Rattle.slice_batch.specs.Batch.{AreTexts}
 use Rattle.slice_engine.specs.Slice.{HasStart}
 use Rattle.slice_engine.specs.declared.engine.Criterion.{Criterion}
@@ -34,3 +36,9 @@ pub slices-requires-clause-starts : goal.slices-requires-clause-starts
 slices-requires-clause-starts c =
     subst (λ (list : List Criterion). All (λ (x : Criterion). HasStart c.in_ok-engine.engine x.line) list) (sym c.as_slice.ensures.value)
     (all_start c.in_ok-engine.engine c.args.lines.now c.in_ok-criteria.criteria.items c.in_ok-criteria.ensures)
+
+pub new-requires-clause-over_integers : goal.new-requires-clause-over_integers
+new-requires-clause-over_integers c = built_over_integers c.in_ok-program.program c.in_ok-program.ensures.ok.built
+
+pub slices-requires-clause-built : goal.slices-requires-clause-built
+slices-requires-clause-built c = ap not_yet c.in_ok-engine.ensures.program ∙ c.in_ok-program.ensures.ok.built

@@ -1,7 +1,8 @@
-use Rattle.std.proofs.Common.{◌≡◌, map, take}
+use Rattle.std.proofs.Common.{◌≡◌, ◌++◌, map, drop}
 use Rattle.bit_rows.specs.Sets.{has}
-use Rattle.projection.specs.Kept.{rank}
+use Rattle.projection.specs.Kept.{rank, chosen}
 use Rattle.projection.proofs.statements.Selection.params.Given as goal
 
-abbrev pub invariant-loop-x : goal.invariant-loop-x
-invariant-loop-x l = l.all ≡ map (rank (has l.self.variables)) (take l.x-index l.list)
+abbrev pub invariant-loop-place : goal.invariant-loop-place
+invariant-loop-place l =
+    l.all ++ map (rank (has l.self.variables)) (chosen (has l.kept) l.place (drop l.place l.list)) ≡ map (rank (has l.self.variables)) (chosen (has l.kept) 0 l.list)

@@ -1,5 +1,0 @@
-use Rattle.slice_engine.proofs.FirstMembers.{AreFirstMembers}
-use Rattle.slice_engine.proofs.graph.members.Given as goal
-
-abbrev pub invariant-loop-v : goal.invariant-loop-v
-invariant-loop-v l = AreFirstMembers l.v l.set l.found.items
