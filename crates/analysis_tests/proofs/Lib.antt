@@ -1,0 +1,3 @@
+pub mod EmptyRows
+pub mod Reading
+pub mod Skeletons

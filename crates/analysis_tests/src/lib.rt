@@ -1,0 +1,20 @@
+//! Tests of what is found of whole texts over integers: what their functions modify and use, their vertices and graphs, the facts of
+//! these, and the sets of vertices that slices keep. All that is wanted is typed by hand from the texts.
+#![tactic(auto)]
+
+#[cfg(test)]
+mod analyses;
+#[cfg(test)]
+mod edge_tests;
+#[cfg(test)]
+mod effects_tests;
+#[cfg(test)]
+mod fact_tests;
+#[cfg(test)]
+mod member_tests;
+#[cfg(test)]
+mod printing;
+#[cfg(test)]
+mod programs;
+#[cfg(test)]
+mod vertex_tests;
