@@ -1,10 +1,10 @@
 -- Flow edges as they are appended: exactly these, and ascending.
-use Rattle.std.proofs.Common.{◌≡◌, ℕ, ◌+◌, ◌-◌, ◌<◌, ◌≤◌, ◌⊎◌, ◌↔◌, inl, inr, Bool, false, List, [], ◌∷◌, ◌++◌, map, get_or, replicate, Contains, All, refl, sym, ap, ◌∙◌, subst, arith}
-use Rattle.std.specs.Prelude.{IsTrue}
-use Rattle.std.proofs.lemmas.Bool.{cases_eq, false≢true}
+use Rattle.std.proofs.Common.{◌≡◌, ℕ, ◌+◌, ◌-◌, ◌<◌, ◌≤◌, ◌⊎◌, ◌↔◌, inl, inr, Bool, List, [], ◌∷◌, ◌++◌, length, get_or, Contains, All, refl, sym, ap, ◌∙◌, subst, arith}
+use Rattle.std.specs.Prelude.{AllPairs}
+use Rattle.std.proofs.lemmas.Bool.{cases_eq}
+use Rattle.std.proofs.lemmas.List.{get_or_default}
 use Rattle.std.proofs.lemmas.List.Elements.{Contains-get_or, Contains-push, Contains-push_cases, Contains-append_left}
 use Rattle.std.proofs.lemmas.List.Quantifiers.{all_pairs_push}
-use Rattle.bit_rows.specs.Sets.{has}
 use Rattle.dep_model.specs.declared.edge.Edge.{Edge}
 use Rattle.dep_model.specs.declared.edge.Label.{Label}
 use Rattle.dep_model.specs.declared.skeleton.Pair.{Pair}
@@ -16,69 +16,56 @@ use Rattle.rule_closure.proofs.ListLemmas.{contains_none}
 use Rattle.reaching_defs.specs.FlowEdges.{flow_edge, IsTargeted}
 use Rattle.reaching_defs.specs.RowFlow.{row_has, Leads, IsRowFlow}
 use Rattle.reaching_defs.specs.Stretches.{IsPairAmong, FlowsAmong}
+use Rattle.reaching_defs.proofs.ListingLemmas.{first_more, first_kept}
 use Rattle.reaching_defs.proofs.SearchLemmas.{leads_among}
-use Rattle.bit_rows.proofs.SetLemmas.{has-empty}
 
 -- ---- the edges to targets, one by one
 pub none_ascend : AreAscendingEdges []
 none_ascend i j d before low = absurd (omega (arith, low))
 
-pub record ArePushed (v base count : ℕ) (targets : List Bool) (old new : List Edge) : Type 0 where
+pub record ArePushed (v base count : ℕ) (targets : List ℕ) (old new : List Edge) : Type 0 where
   pub exact : (e : Edge) → Contains new e ↔ (Contains old e ⊎ IsTargeted v base count targets e)
   pub ascending : AreAscendingEdges new
 
-module _ (v base : ℕ) (targets : List Bool) (old : List Edge) where
+module _ (v base : ℕ) (targets : List ℕ) (old : List Edge) where
   pub pushed_begin : AreAscendingEdges old → ArePushed v base 0 targets old old
-  pushed_begin up = record { exact = λ e. (λ m. inl m, λ g. elim g [ inl m ↦ m | inr t ↦ absurd (omega (arith, t.early)) ]); ascending = up }
+  pushed_begin up = record { exact = λ e. (λ m. inl m, λ g. elim g [ inl m ↦ m | inr t ↦ absurd (omega (arith, t.early.1)) ]); ascending = up }
 
   -- one target more
-  pub pushed_more : (w : ℕ) (new : List Edge) → ArePushed v base w targets old new → ((e : Edge) → Contains old e → e.from < v) → IsTrue (has targets w) → ArePushed v base (w + 1) targets old (new ++ flow_edge v (base + w) ∷ [])
-  pushed_more w new i before here = record {
+  pub pushed_more : (at w : ℕ) (new : List Edge) → ArePushed v base at targets old new → AllPairs (λ a b. a < b) targets → ((e : Edge) → Contains old e → e.from < v) → at < length targets → get_or targets at w ≡ w → ArePushed v base (at + 1) targets old (new ++ flow_edge v (base + w) ∷ [])
+  pushed_more at w new i order before low here = record {
     exact = λ e. (
       λ m. elim (Contains-push_cases new (flow_edge v (base + w)) e m) [
         | inl a ↦ elim ((i.exact e).0 a) [
           | inl b ↦ inl b
-          | inr t ↦ inr (record { target = t.target; early = omega (arith, t.early); member = t.member; is = t.is })
+          | inr t ↦ inr (record { target = t.target; early = first_kept targets at t.target t.early; is = t.is })
         ]
-        | inr q ↦ inr (record { target = w; early = omega arith; member = here; is = sym q })
+        | inr q ↦ inr (record { target = w; early = (at, omega arith, here); is = sym q })
       ],
       λ g. elim g [
         | inl b ↦ Contains-append_left new (flow_edge v (base + w) ∷ []) e ((i.exact e).1 (inl b))
-        | inr t ↦ elim (cases_eq t.target w) [
-          | inl q ↦ subst (λ x. Contains (new ++ flow_edge v (base + w) ∷ []) x) (sym (t.is ∙ ap (λ y. flow_edge v (base + y)) q)) (Contains-push new (flow_edge v (base + w)))
-          | inr q ↦ Contains-append_left new (flow_edge v (base + w) ∷ []) e ((i.exact e).1 (inr (record { target = t.target; early = omega (arith, t.early, q); member = t.member; is = t.is })))
+        | inr t ↦ elim (first_more targets at w t.target low here t.early) [
+          | inl f ↦ Contains-append_left new (flow_edge v (base + w) ∷ []) e ((i.exact e).1 (inr (record { target = t.target; early = f; is = t.is })))
+          | inr q ↦ subst (λ x. Contains (new ++ flow_edge v (base + w) ∷ []) x) (sym (t.is ∙ ap (λ y. flow_edge v (base + y)) (sym q))) (Contains-push new (flow_edge v (base + w)))
         ]
       ],
     );
     ascending =
-        all_pairs_push IsBefore new (flow_edge v (base + w)) i.ascending (λ k d low.
+        all_pairs_push IsBefore new (flow_edge v (base + w)) i.ascending (λ k d place.
         let e : Edge = get_or new k d in
-        elim ((i.exact e).0 (Contains-get_or new k d low)) [
+        elim ((i.exact e).0 (Contains-get_or new k d place)) [
           | inl b ↦ inl (before e b)
-          | inr t ↦ inr (ap (λ (y : Edge). y.from) t.is, inl (let q : e.to ≡ base + t.target = ap (λ (y : Edge). y.to) t.is in omega (arith, q, t.early)))
+          | inr t ↦
+              let p = t.early in
+              let up : get_or targets p.0 w < get_or targets at w = order p.0 at w p.1 low in
+              let there : get_or targets p.0 w ≡ t.target = get_or_default targets p.0 w t.target (omega (arith, p.1, low)) ∙ p.2 in
+              let q : e.to ≡ base + t.target = ap (λ (y : Edge). y.to) t.is in
+              inr (ap (λ (y : Edge). y.from) t.is, inl (omega (arith, q, up, there, here)))
         ]);
   }
 
-  pub pushed_pass : (w : ℕ) (new : List Edge) → ArePushed v base w targets old new → has targets w ≡ false → ArePushed v base (w + 1) targets old new
-  pushed_pass w new i none = record {
-    exact = λ e. (
-      λ m. elim ((i.exact e).0 m) [
-        | inl b ↦ inl b
-        | inr t ↦ inr (record { target = t.target; early = omega (arith, t.early); member = t.member; is = t.is })
-      ],
-      λ g. (i.exact e).1 (elim g [
-        | inl b ↦ inl b
-        | inr t ↦ elim (cases_eq t.target w) [
-          | inl q ↦ absurd (false≢true (sym none ∙ ap (has targets) (sym q) ∙ t.member))
-          | inr q ↦ inr (record { target = t.target; early = omega (arith, t.early, q); member = t.member; is = t.is })
-        ]
-      ]),
-    );
-    ascending = i.ascending;
-  }
-
-  pub pushed_end : (w n : ℕ) (new : List Edge) → ArePushed v base w targets old new → w ≡ n → (e : Edge) → Contains new e ↔ (Contains old e ⊎ IsTargeted v base n targets e)
-  pushed_end w n new i end e = subst (λ k. Contains new e ↔ (Contains old e ⊎ IsTargeted v base k targets e)) end (i.exact e)
+  pub pushed_end : (at n : ℕ) (new : List Edge) → ArePushed v base at targets old new → at ≡ n → (e : Edge) → Contains new e ↔ (Contains old e ⊎ IsTargeted v base n targets e)
+  pushed_end at n new i end e = subst (λ k. Contains new e ↔ (Contains old e ⊎ IsTargeted v base k targets e)) end (i.exact e)
 
 -- ---- the ends of a chain
 module _ (base n : ℕ) (pairs : List Pair) (among : All (IsPairAmong base n) pairs) (kills : ℕ → ℕ → Bool) (l : ℕ) where
@@ -117,40 +104,29 @@ module _ (base n : ℕ) (s : Skeleton) (pairs : List Pair) (among : All (IsPairA
   }
 
   -- the edges to targets are the flow edges from a vertex
-  pub targeted_are : (v : ℕ) (targets : List Bool) → ((w : ℕ) → w < n → IsTrue (has targets w) ↔ FlowsAmong 0 s.defined.bits s pairs v (base + w)) → (e : Edge) → IsTargeted v base n targets e ↔ ((e.from ≡ v) × IsRowFlow s (order_of pairs) e)
+  pub targeted_are : (v : ℕ) (targets : List ℕ) → ((w : ℕ) → Contains targets w ↔ FlowsAmong 0 s.defined.bits s pairs v (base + w)) → (e : Edge) → IsTargeted v base (length targets) targets e ↔ ((e.from ≡ v) × IsRowFlow s (order_of pairs) e)
   targeted_are v targets exact e = (
-    λ t. (ap (λ (y : Edge). y.from) t.is, row_flow_of v (base + t.target) e ((exact t.target t.early).0 t.member) t.is),
+    λ t. (ap (λ (y : Edge). y.from) t.is, row_flow_of v (base + t.target) e ((exact t.target).0 t.early) t.is),
     λ p.
         let r = p.1 in
         let f = among_of e r in
         let to = chain_to base n pairs among (row_has s.killed) f.location f.flows.chain in
         let back : e.to ≡ base + (e.to - base) = omega (arith, to.0) in
-        let low : e.to - base < n = omega (arith, to.0, to.1) in
         let g : FlowsAmong 0 s.defined.bits s pairs v (base + (e.to - base)) = subst (λ y. FlowsAmong 0 s.defined.bits s pairs v y) back (subst (λ y. FlowsAmong 0 s.defined.bits s pairs y e.to) p.0 f) in
         let label_is : e ≡ flow_edge e.from e.to = ap (λ (k : Label). let x : Edge = record { from = e.from; to = e.to; label = k } in x) r.labelled in
         record {
           target = e.to - base;
-          early = low;
-          member = (exact (e.to - base) low).1 g;
+          early = (exact (e.to - base)).1 g;
           is = label_is ∙ ap (λ y. flow_edge y e.to) p.0 ∙ ap (flow_edge v) back;
         },
   )
 
-  -- where there are no targets, no flow edge leads from the vertex
-  pub none_targeted : (v : ℕ) (targets : List Bool) → ((w : ℕ) → w < n → IsTrue (has targets w) ↔ FlowsAmong 0 s.defined.bits s pairs v (base + w)) → targets ≡ replicate n false → (e : Edge) → e.from ≡ v → IsRowFlow s (order_of pairs) e → ⊥
-  none_targeted v targets exact none e from r =
-      let t = (targeted_are v targets exact e).1 (from, r) in
-      false≢true (sym (ap (λ x. has x t.target) none ∙ has-empty n t.target) ∙ t.member)
-
-  pub appended : (v : ℕ) (targets : List Bool) (old new : List Edge) → ((w : ℕ) → w < n → IsTrue (has targets w) ↔ FlowsAmong 0 s.defined.bits s pairs v (base + w)) → ((e : Edge) → Contains new e ↔ (Contains old e ⊎ IsTargeted v base n targets e)) → (e : Edge) → Contains new e ↔ (Contains old e ⊎ ((e.from ≡ v) × IsRowFlow s (order_of pairs) e))
+  pub appended : (v : ℕ) (targets : List ℕ) (old new : List Edge) → ((w : ℕ) → Contains targets w ↔ FlowsAmong 0 s.defined.bits s pairs v (base + w)) → ((e : Edge) → Contains new e ↔ (Contains old e ⊎ IsTargeted v base (length targets) targets e)) → (e : Edge) → Contains new e ↔ (Contains old e ⊎ ((e.from ≡ v) × IsRowFlow s (order_of pairs) e))
   appended v targets old new exact pushed e =
       let t = targeted_are v targets exact e in (
         λ m. elim ((pushed e).0 m) [ inl a ↦ inl a | inr a ↦ inr (t.0 a) ],
         λ g. (pushed e).1 (elim g [ inl a ↦ inl a | inr a ↦ inr (t.1 a) ]),
       )
-
-  pub passed_over : (v : ℕ) (targets : List Bool) (old : List Edge) → ((w : ℕ) → w < n → IsTrue (has targets w) ↔ FlowsAmong 0 s.defined.bits s pairs v (base + w)) → targets ≡ replicate n false → (e : Edge) → Contains old e ↔ (Contains old e ⊎ ((e.from ≡ v) × IsRowFlow s (order_of pairs) e))
-  passed_over v targets old exact none e = (λ m. inl m, λ g. elim g [ inl m ↦ m | inr a ↦ absurd (none_targeted v targets exact none e a.0 a.1) ])
 
   -- ---- vertex by vertex
   pub found_begin : AreFound s pairs base []

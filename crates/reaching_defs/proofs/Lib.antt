@@ -1,4 +1,5 @@
 pub mod StretchLemmas
+pub mod ListingLemmas
 pub mod SuccessorLemmas
 pub mod SearchLemmas
 pub mod TargetLemmas

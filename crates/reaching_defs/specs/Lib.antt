@@ -1,4 +1,5 @@
 pub mod FlowEdges
 pub mod Laws
+pub mod Listings
 pub mod RowFlow
 pub mod Stretches

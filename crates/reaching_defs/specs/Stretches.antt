@@ -1,5 +1,5 @@
 -- Vertices by their places in a stretch of numbers, and what flows between them.
-use Rattle.std.specs.Prelude.{◌≡◌, ◌≢◌, ℕ, ◌+◌, ◌-◌, ◌<◌, ◌≤◌, true, IsTrue, List, length, get_or, All}
+use Rattle.std.specs.Prelude.{◌≡◌, ◌≢◌, ℕ, ◌+◌, ◌-◌, ◌<◌, ◌≤◌, true, List, length, get_or, All}
 use Rattle.reaching_defs.specs.declared.successors.Successors.{Successors}
 use Rattle.dep_model.specs.declared.skeleton.Pair.{Pair}
 use Rattle.dep_model.specs.declared.skeleton.Skeleton.{Skeleton}
@@ -30,10 +30,6 @@ pub record IsIndexed (base n : ℕ) (pairs : List Pair) (heads nexts : List ℕ)
 pub record AreSuccessors (s : Successors) : Type 0 where
   pub inside : All (IsPairAmong s.stretch.first s.stretch.size) s.pairs.items
   pub indexed : IsIndexed s.stretch.first s.stretch.size s.pairs.items s.heads.items s.nexts.items
-
--- v may define a location
-abbrev pub DefinesSome : Skeleton → ℕ → Type 0
-DefinesSome s v = (k : ℕ) × IsTrue (row_has s.defined v k)
 
 -- v may define location k, w may use it, and a chain leads from v to w without a kill
 pub record FlowsBy (s : Skeleton) (pairs : List Pair) (k v w : ℕ) : Type 0 where

@@ -11,12 +11,14 @@ ghost use Rattle.reaching_defs.specs.RowFlow.{IsRowFlow, AreEvenRows};
 
 mod from_vertex;
 mod laws;
+mod listed_set;
 mod search;
 mod successors;
 
+use crate::listed_set::ListedSet;
 use crate::successors::Successors;
 use c_tree::FunctionId;
-use dep_model::{Edge, FlowGraph, Skeleton, VertexSet, stretch_of};
+use dep_model::{Edge, FlowGraph, Skeleton, stretch_of};
 pub use laws::row_flow_is_flow;
 use std::alloc::{AllocError, Global};
 
@@ -40,13 +42,11 @@ pub fn edges(
     let pairs = g.pairs.as_slice();
     let stretch = stretch_of(s.vertices.as_slice(), f);
     let next = Successors::find(alloc, stretch, pairs)?;
-    let mut memory = vec![in alloc; 0u32; stretch.size as usize]?;
-    let order = memory.as_mut_slice();
-    let mut reached = VertexSet::new(alloc, stretch.size)?;
-    let mut targets = VertexSet::new(alloc, stretch.size)?;
+    let mut reached = ListedSet::new(alloc, stretch.size)?;
+    let mut targets = ListedSet::new(alloc, stretch.size)?;
     let mut found = Vec::new(alloc);
     for v in stretch.first..stretch.first + stretch.size {
-        from_vertex::edges_from(&next, v, s, order, &mut reached, &mut targets, &mut found)?;
+        from_vertex::edges_from(&next, v, s, &mut reached, &mut targets, &mut found)?;
     }
     Ok(found)
 }

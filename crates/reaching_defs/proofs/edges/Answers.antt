@@ -1,8 +1,8 @@
-use Rattle.std.proofs.Common.{◌↔◌, List, [], Contains, length, false, sym, ap, ◌∙◌, subst, arith}
-use Rattle.std.proofs.lemmas.List.{length-replicate}
+use Rattle.std.proofs.Common.{◌↔◌, List, [], Contains, sym, ap, ◌∙◌, subst, arith}
 use Rattle.dep_model.specs.declared.skeleton.Pair.{Pair}
 use Rattle.dep_model.specs.EdgeOrder.{AreAscendingEdges}
 use Rattle.dep_model.specs.declared.stretch.Stretch.{Stretch}
+use Rattle.reaching_defs.specs.Listings.{Listing}
 use Rattle.reaching_defs.specs.RowFlow.{IsRowFlow}
 use Rattle.reaching_defs.proofs.EdgeLemmas.{AreFound, order_of, none_ascend, found_begin, found_more, found_all}
 use Rattle.reaching_defs.proofs.edges.Goals as goal
@@ -12,11 +12,10 @@ loop-v-init c =
     let next = c.in_ok-next.next in
     let same = ap (λ (x : Stretch). x.size) c.in_ok-next.ensures.stretch in
     let base_is = ap (λ (x : Stretch). x.first) c.in_ok-next.ensures.stretch in
-    let n = c.stretch_of-stretch.result.size in
     let s = c.args.s.now in
     record {
-      wide = ap length c.in_ok-reached.ensures ∙ length-replicate n false ∙ sym same;
-      size = ap length c.in_ok-targets.ensures ∙ length-replicate n false ∙ sym same;
+      wide = ap (λ (x : Listing). x.bound) c.in_ok-reached.ensures ∙ sym same;
+      size = ap (λ (x : Listing). x.bound) c.in_ok-targets.ensures ∙ sym same;
       exact = subst (AreFound s next.pairs.items c.stretch_of-stretch.result.first) (sym c.new-found.ensures.items) (subst (λ b. AreFound s next.pairs.items b []) base_is (found_begin next.stretch.first next.stretch.size s next.pairs.items c.in_ok-next.ensures.right.inside));
       ascending = subst AreAscendingEdges (sym c.new-found.ensures.items) none_ascend;
     }

@@ -1,11 +1,11 @@
-use Rattle.std.proofs.Common.{◌≡◌, ℕ, ◌+◌, ◌↔◌, ◌⊎◌, IsTrue, length}
-use Rattle.bit_rows.specs.Sets.{has}
+use Rattle.std.proofs.Common.{◌≡◌, ℕ, ◌+◌, ◌↔◌, ◌⊎◌, Contains}
+use Rattle.std.specs.Prelude.{IsTrue}
+use Rattle.reaching_defs.specs.Listings.{IsAmongFirst}
 use Rattle.reaching_defs.specs.RowFlow.{row_has}
-use Rattle.reaching_defs.proofs.TargetLemmas.{IsAmongFirst}
 use Rattle.reaching_defs.proofs.from_vertex.collect.Given as goal
 
-abbrev pub invariant-loop-i : goal.invariant-loop-i
-invariant-loop-i l = record {
-  size : length l.targets ≡ length l.fn.targets;
-  exact : (w : ℕ) → IsTrue (has l.targets w) ↔ (IsTrue (has l.fn.targets w) ⊎ (IsAmongFirst l.order l.i w × IsTrue (row_has l.used (l.base + w) l.location)));
+abbrev pub invariant-loop-w : goal.invariant-loop-w
+invariant-loop-w l = record {
+  size : l.targets.bound ≡ l.fn.targets.bound;
+  exact : (w : ℕ) → Contains l.targets.members w ↔ (Contains l.fn.targets.members w ⊎ (IsAmongFirst l.reached l.w-index w × IsTrue (row_has l.used (l.base + w) l.location)));
 }

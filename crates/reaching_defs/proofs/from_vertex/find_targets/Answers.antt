@@ -1,7 +1,6 @@
-use Rattle.std.proofs.Common.{◌≤◌, ◌*◌, refl, sym, arith}
-use Rattle.std.proofs.lemmas.Bool.{false≢true}
+use Rattle.std.proofs.Common.{◌≤◌, ◌*◌, [], refl, arith}
 use Rattle.bit_rows.specs.Tables.{the_set}
-use Rattle.reaching_defs.proofs.TargetLemmas.{words_of, bit_is, member_below, none_in, some_in, none_yet, flag_is, word_adds, word_passes, words_end}
+use Rattle.reaching_defs.proofs.TargetLemmas.{words_of, bit_is, member_below, none_in, word_adds, word_passes, words_end}
 use Rattle.reaching_defs.proofs.from_vertex.find_targets.Goals as goal
 use Rattle.reaching_defs.proofs.from_vertex.find_targets.Goals.{then-word-ne0, else-word-ne0}
 
@@ -26,22 +25,16 @@ loop-at-preserved c =
     elim c.if-word-ne0.branch [
       | then-word-ne0 w ↦
           let a = w.add_targets.ensures in
-          rw (w.reached-is, w.targets-is, w.any-is) (record {
+          rw (w.reached-is, w.targets-is) (record {
             wide = a.wide;
             size = a.size;
-            exact = word_adds c.args.next.now.stretch.first c.args.next.now.stretch.size c.args.s.now c.args.next.now.pairs.items c.args.v _ at c.loop-at.targets w.add_targets.new.targets i.exact a.exact;
-            some = λ t. some_in bits words row (words_of e.len e.holds e.clean) at (omega (arith, w.if-word-ne0.true)) (c.type_inv.word-items at).fits;
-            none_yet = λ f. absurd (false≢true (sym f));
-            none = λ f. absurd (false≢true (sym f));
+            exact = word_adds c.args.next.now.stretch.first c.args.s.now c.args.next.now.pairs.items c.args.v [] at c.loop-at.targets.members w.add_targets.new.targets.members i.exact a.exact;
           })
       | else-word-ne0 w ↦
-          rw (w.reached-is, w.targets-is, w.any-is) (record {
+          rw (w.reached-is, w.targets-is) (record {
             wide = i.wide;
             size = i.size;
-            exact = word_passes c.args.next.now.stretch.first c.args.next.now.stretch.size c.args.s.now c.args.next.now.pairs.items c.args.v _ at c.loop-at.targets i.exact (λ k. none_in bits words row (words_of e.len e.holds e.clean) at k w.if-word-ne0.false);
-            some = i.some;
-            none_yet = λ f. none_yet bits words row (words_of e.len e.holds e.clean) at w.if-word-ne0.false (i.none_yet f);
-            none = i.none;
+            exact = word_passes c.args.next.now.stretch.first c.args.s.now c.args.next.now.pairs.items c.args.v [] at c.loop-at.targets.members i.exact (λ k. none_in bits words row (words_of e.len e.holds e.clean) at k w.if-word-ne0.false);
           })
     ]
 
@@ -52,12 +45,4 @@ returns-clause-exact c =
     let words = c.words-word-items.result.now in
     let row = the_set c.args.s.now.defined c.args.v in
     let end : bits ≤ 64 * c.loop-at.at = omega (arith, e.len) in
-    words_end c.args.next.now.stretch.first c.args.next.now.stretch.size c.args.s.now c.args.next.now.pairs.items c.args.v _ bits c.loop-at.at c.loop-at.targets refl c.loop-at.invariant.exact end (member_below bits words row (words_of e.len e.holds e.clean))
-
-pub returns-clause-defines : goal.returns-clause-defines
-returns-clause-defines c =
-    let e = c.words-word-items.ensures in
-    let i = c.loop-at.invariant in
-    let bits = c.args.s.now.defined.bits in
-    let end : bits ≤ 64 * c.loop-at.at = omega (arith, e.len) in
-    flag_is bits c.words-word-items.result.now (the_set c.args.s.now.defined c.args.v) (words_of e.len e.holds e.clean) c.loop-at.any c.loop-at.at end i.some i.none_yet
+    words_end c.args.next.now.stretch.first c.args.s.now c.args.next.now.pairs.items c.args.v [] bits c.loop-at.at c.loop-at.targets.members refl c.loop-at.invariant.exact end (member_below bits words row (words_of e.len e.holds e.clean))
