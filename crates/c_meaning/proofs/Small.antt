@@ -1,6 +1,7 @@
 -- Small programs whose meaning can be computed: trees that are written out, and what they come to.
-use Rattle.std.proofs.Common.{◌≡◌, ℕ, zero, suc, ℤ, pos, negsuc, List, [], ◌∷◌, map, Option, Some, None, Bool, false, refl, sym, ap, ◌∙◌, ap₂}
-use Rattle.std.specs.Prelude.{option_map, option_and_then, slice_get}
+use Rattle.std.proofs.Common.{◌≡◌, ℕ, zero, suc, ℤ, pos, negsuc, List, [], ◌∷◌, map, Option, Some, None, Bool, true, false, refl, sym, ap, ◌∙◌, ap₂}
+use Rattle.std.specs.Prelude.{option_map, option_and_then, slice_get, if◌then◌else◌}
+use mathlib.Core.Path.{fun_ext}
 use Rattle.std.specs.Option.{option_map_or}
 use Rattle.c_arith.specs.declared.int_type.IntType.{IntType}
 use Rattle.c_arith.specs.declared.int_type.IntType.TheVariants.{Int, UChar}
@@ -15,6 +16,7 @@ use Rattle.c_tree.specs.declared.program.Init.{Init}
 use Rattle.c_tree.specs.declared.program.Init.TheVariants as init
 use Rattle.c_tree.specs.declared.statement.Amount.{Amount}
 use Rattle.c_tree.specs.declared.statement.Amount.TheVariants as amount
+use Rattle.c_tree.specs.declared.statement.Label.{Label}
 use Rattle.c_tree.specs.declared.statement.Size.TheVariants as size
 use Rattle.c_tree.specs.declared.statement.Target.{Target}
 use Rattle.c_tree.specs.declared.statement.Target.TheVariants as target
@@ -22,7 +24,7 @@ use Rattle.c_language.specs.declared.expr_type.ExprType.{ExprType}
 use Rattle.c_language.specs.Words.{Bytes}
 use Rattle.c_language.specs.DeclaredTypes.{integer}
 use Rattle.c_language.specs.TreeTypes.{Typing}
-use Rattle.c_language.specs.Code.{Act, Begins, Sets, Bumps, Fetches, Writes, Prints, Allocates, Frees, Returns, Tests, Code, End, Opens, Plain, Fork, Loop, Leaves, Call, is_true, either}
+use Rattle.c_language.specs.Code.{Act, Begins, Sets, Bumps, Fetches, Writes, Prints, Allocates, Frees, Returns, Tests, Code, End, Opens, Plain, Fork, Loop, Leaves, Call, is_true, either, ArmPart, has_case, has_default, case_arm, default_arm, taken_arm}
 use Rattle.c_meaning.specs.declared.value.Value.{Value}
 use Rattle.c_meaning.specs.declared.value.Value.TheVariants.{Number}
 use Rattle.c_meaning.specs.declared.event.Event.{Event}
@@ -138,10 +140,11 @@ pub data Into : Type 0 where
   In : Small → Into
   New : ℕ → Into
 
--- what malloc is asked for: the size of what a variable points to, a count and such a size, or bytes
+-- what malloc is asked for: the size of what a variable points to, a count times such a size or a size times a count, or bytes
 pub data Ask : Type 0 where
   One : ℕ → Ask
   Many : Small → ℕ → Ask
+  Times : ℕ → Small → Ask
   Chars : Small → Ask
 
 abbrev pub to_tree : Into → Target
@@ -152,6 +155,7 @@ to_tree (New x) = target.Declared x
 abbrev pub ask_tree : Ask → Amount
 ask_tree (One x) = amount.Size (size.Pointee x false)
 ask_tree (Many a x) = amount.CountSize (tree a) (size.Pointee x false)
+ask_tree (Times x a) = amount.SizeCount (size.Pointee x false) (tree a)
 ask_tree (Chars a) = amount.Count (tree a)
 
 pub data Deed : Type 0 where
@@ -221,6 +225,7 @@ module _ (types : Types) where
   abbrev ask : Ask → State → Option ℤ
   ask (One x) s = Some (pos 1)
   ask (Many a x) s = count_it s (means types a)
+  ask (Times x a) s = count_it s (means types a)
   ask (Chars a) s = count_it s (means types a)
 
   abbrev type_for : Into → Option ExprType
@@ -255,6 +260,7 @@ module _ (types : Types) where
   asked_same : (n : Ask) (s : State) → asked_count types (ask_tree n) s ≡ ask n s
   asked_same (One x) s = refl
   asked_same (Many a x) s = ap (count_it s) (means_tree types a)
+  asked_same (Times x a) s = ap (count_it s) (means_tree types a)
   asked_same (Chars a) s = ap (count_it s) (means_tree types a)
 
   type_same : (to : Into) → target_type types (to_tree to) ≡ type_for to
@@ -297,6 +303,48 @@ list (Choice i a c r) = Fork i (tree a) (λ v. list (c v)) (list r)
 list (Turns i a b r) = Loop i (tree a) (list b) (list r)
 list (Close xs r) = Leaves xs (list r)
 list (Invoke i to g args r) = Call i (to_tree to) g (map tree args) (list r)
+
+-- ---- the arms of a switch
+
+pub record SmallArm : Type 0 where
+  pub labels : List Label
+  pub does : SmallCode
+
+abbrev arm : SmallArm → ArmPart
+arm a = record { labels = a.labels; does = list a.does }
+
+abbrev otherwise : List SmallArm → SmallCode
+otherwise [] = Stop
+otherwise (a ∷ as_) = if has_default a.labels then a.does else otherwise as_
+
+abbrev in_case : List SmallArm → ℤ → SmallCode → SmallCode
+in_case [] v other = other
+in_case (a ∷ as_) v other = if has_case v a.labels then a.does else in_case as_ v other
+
+-- what is done at a value
+abbrev pub arm_at : List SmallArm → ℤ → SmallCode
+arm_at as_ v = in_case as_ v (otherwise as_)
+
+either_list : (b : Bool) (c k : SmallCode) → list (if b then c else k) ≡ (if b then list c else list k)
+either_list true c k = refl
+either_list false c k = refl
+
+otherwise_same : (as_ : List SmallArm) → list (otherwise as_) ≡ default_arm (map arm as_)
+otherwise_same [] = refl
+otherwise_same (a ∷ as_) =
+    either_list (has_default a.labels) a.does (otherwise as_) ∙ ap (λ k. if has_default a.labels then list a.does else k) (otherwise_same as_)
+
+in_case_same : (as_ : List SmallArm) (v : ℤ) (other : SmallCode) → list (in_case as_ v other) ≡ case_arm (map arm as_) v (list other)
+in_case_same [] v other = refl
+in_case_same (a ∷ as_) v other =
+    either_list (has_case v a.labels) a.does (in_case as_ v other) ∙ ap (λ k. if has_case v a.labels then list a.does else k) (in_case_same as_ v other)
+
+arm_same : (as_ : List SmallArm) (v : ℤ) → list (arm_at as_ v) ≡ taken_arm (map arm as_) v
+arm_same as_ v = in_case_same as_ v (otherwise as_) ∙ ap (case_arm (map arm as_) v) (otherwise_same as_)
+
+-- a choice by arms is the list of a switch
+switch_same : (i : ℕ) (a : Small) (as_ : List SmallArm) (r : SmallCode) → list (Choice i a (arm_at as_) r) ≡ Fork i (tree a) (taken_arm (map arm as_)) (list r)
+switch_same i a as_ r = ap (λ c. Fork i (tree a) c (list r)) (fun_ext (arm_same as_))
 
 -- ---- programs
 

@@ -5,7 +5,7 @@ use Rattle.std.specs.Fmt.{digits}
 use Rattle.std.specs.Option.{option_map_or}
 use Rattle.c_arith.specs.declared.int_type.IntType.TheVariants.{Char, Int}
 use Rattle.c_arith.specs.declared.operators.UnaryOp.TheVariants.{Minus, Not}
-use Rattle.c_arith.specs.declared.operators.BinaryOp.TheVariants.{Add, Sub, Less, AtLeast, Equal, Unequal}
+use Rattle.c_arith.specs.declared.operators.BinaryOp.TheVariants.{Add, Sub, Less, Greater, AtLeast, Equal, Unequal}
 use Rattle.c_arith.specs.IntType.{convert}
 use Rattle.c_arith.specs.Operators.{unary, binary}
 use Rattle.c_language.specs.declared.expr_type.Base.TheVariants as base
@@ -17,7 +17,7 @@ use Rattle.c_language.specs.Code.{is_true, either}
 use Rattle.c_language.specs.TreeTypes.{Typing}
 use Rattle.c_tree.specs.declared.expr.MemberId.{MemberId}
 use Rattle.c_meaning.specs.Cells.{Structs}
-use Rattle.c_meaning.proofs.Small.{Small, K, Name, Un, Bin, Both, Pick, Par, NullName, Star, Amp, Item, Dot, Arrow, In, One, Many, Chars, Start, StartAll, Set, SetBy, Bump, Heap, Free, SmallCode, Stop, Open, Do, Choice, Close, SmallProgram, Zero, Tale, Ends, Fails, Tells, tells}
+use Rattle.c_meaning.proofs.Small.{Small, K, Name, Un, Bin, Both, Pick, Par, NullName, Star, Amp, Item, Dot, Arrow, In, New, One, Many, Times, Chars, Start, StartAll, Set, SetBy, Bump, Heap, Free, SmallCode, Stop, Open, Do, Choice, Close, SmallProgram, Zero, Tale, Ends, Fails, Tells, tells}
 
 -- ---- the variables of all these programs
 
@@ -213,6 +213,11 @@ order : Comes (Do 0 (Set (x) (Bin Less (Amp (Item a (num 1))) (Amp (Item a (num 
 unfolding convert unary binary digits unescaped
 order = tells refl
 
+-- x = &a[2] > &a[1]; x = &a[1] > &a[1];
+order_the_other_way : Comes (Do 0 (Set x (Bin Greater (Amp (Item a (num 2))) (Amp (Item a (num 1))))) (Do 1 (Set x (Bin Greater (Amp (Item a (num 1))) (Amp (Item a (num 1))))) Stop)) (Ends ((0, pos 1 ∷ []) ∷ (1, pos 0 ∷ []) ∷ []) [])
+unfolding convert unary binary digits unescaped
+order_the_other_way = tells refl
+
 -- x = &x < &y;
 order_of_two_blocks : Comes (Do 0 (Set (x) (Bin Less (Amp x) (Amp y))) Stop) (Fails 0)
 unfolding convert unary binary digits unescaped
@@ -368,6 +373,21 @@ heap : Comes (Do 0 (Heap (In p) (Many (num 2) 1)) (Do 1 (Set (Item p (num 1)) (n
 unfolding convert unary binary digits unescaped
 heap = tells refl
 
+-- p = malloc(sizeof *p * 2); p[1] = 6; x = p[1];
+heap_of_a_size : Comes (Do 0 (Heap (In p) (Times 1 (num 2))) (Do 1 (Set (Item p (num 1)) (num 6)) (Do 2 (Set x (Item p (num 1))) Stop))) (Ends ((0, pos 0 ∷ []) ∷ (1, pos 6 ∷ []) ∷ (2, pos 6 ∷ []) ∷ []) [])
+unfolding convert unary binary digits unescaped
+heap_of_a_size = tells refl
+
+-- p = malloc(sizeof *p * 2); p[2] = 6;
+heap_ends_there : Comes (Do 0 (Heap (In p) (Times 1 (num 2))) (Do 1 (Set (Item p (num 2)) (num 6)) Stop)) (Fails 1)
+unfolding convert unary binary digits unescaped
+heap_ends_there = tells refl
+
+-- int *q = malloc(sizeof *q); *q = 6; x = *q;
+heap_in_a_declaration : Comes (Do 0 (Heap (New 3) (One 3)) (Do 1 (Set (Star q) (num 6)) (Do 2 (Set x (Star q)) Stop))) (Ends ((0, pos 0 ∷ []) ∷ (1, pos 6 ∷ []) ∷ (2, pos 6 ∷ []) ∷ []) [])
+unfolding convert unary binary digits unescaped
+heap_in_a_declaration = tells refl
+
 -- p = malloc(sizeof *p); x = *p;
 heap_unwritten : Comes (Do 0 (Heap (In p) (One 1)) (Do 1 (Set (x) (Star p)) Stop)) (Fails 1)
 unfolding convert unary binary digits unescaped
@@ -417,6 +437,11 @@ heap_of_none = tells refl
 heap_of_negative : Comes (Do 0 (Heap (In p) (Many (Un Minus (num 1)) 1)) Stop) (Fails 0)
 unfolding convert unary binary digits unescaped
 heap_of_negative = tells refl
+
+-- p = malloc(1048576 * sizeof *p);
+heap_of_the_most : Comes (Do 0 (Heap (In p) (Many (num 1048576) 1)) Stop) (Ends ((0, pos 0 ∷ []) ∷ []) [])
+unfolding convert unary binary digits unescaped
+heap_of_the_most = tells refl
 
 -- p = malloc(1048577 * sizeof *p);
 heap_of_too_many : Comes (Do 0 (Heap (In p) (Many (num 1048577) 1)) Stop) (Fails 0)

@@ -1,18 +1,20 @@
--- Small programs without calls and switches, and what C99 says that they do: the events by statement, and the output.
+-- Small programs without calls, and what C99 says that they do: the events by statement, and the output.
 use Rattle.std.proofs.Common.{ℕ, ℤ, pos, negsuc, List, [], ◌∷◌, Some, true, false, refl}
 use Rattle.std.specs.Prelude.{codes}
 use Rattle.std.specs.Fmt.{digits}
 use Rattle.c_arith.specs.declared.int_type.IntType.{IntType}
 use Rattle.c_arith.specs.declared.int_type.IntType.TheVariants.{Char, UChar, Int, UInt, Long}
-use Rattle.c_arith.specs.declared.operators.UnaryOp.TheVariants.{Minus, Flip}
-use Rattle.c_arith.specs.declared.operators.BinaryOp.TheVariants.{Mul, Div, Rem, Add, Sub, Shl, Shr, Less, AtLeast, Equal, Unequal, And, Xor, Or}
+use Rattle.c_arith.specs.declared.operators.UnaryOp.TheVariants.{Plus, Minus, Flip}
+use Rattle.c_arith.specs.declared.operators.BinaryOp.TheVariants.{Mul, Div, Rem, Add, Sub, Shl, Shr, Less, Greater, AtLeast, Equal, Unequal, And, Xor, Or}
 use Rattle.c_arith.specs.IntType.{convert}
 use Rattle.c_arith.specs.Operators.{unary, binary}
 use Rattle.c_language.specs.Constants.{unescaped}
 use Rattle.c_language.specs.DeclaredTypes.{integer}
 use Rattle.c_language.specs.Code.{is_true, either}
+use Rattle.c_tree.specs.declared.statement.Label.{Label}
+use Rattle.c_tree.specs.declared.statement.Label.TheVariants as label
 use Rattle.c_meaning.specs.Values.{Types}
-use Rattle.c_meaning.proofs.Small.{Small, K, Name, EndOfFile, Un, Bin, Both, Either, Pick, As, Par, Start, Set, SetBy, Bump, Put, Show, Give, SmallCode, Stop, Open, Do, Choice, Turns, Close, Tale, Ends, Fails, NeedsMore, ComesTo, comes}
+use Rattle.c_meaning.proofs.Small.{Small, K, Name, EndOfFile, Un, Bin, Both, Either, Pick, As, Par, Start, Set, SetBy, Bump, Put, Show, Give, SmallCode, Stop, Open, Do, Choice, Turns, Close, SmallArm, arm_at, tree, Tale, Ends, Fails, NeedsMore, ComesTo, comes}
 
 -- each variable and member has one type, and main gives an int
 abbrev of : IntType → Types
@@ -118,6 +120,21 @@ remainder_by_zero = comes refl
 remainder_out_of_range : ComesTo ints 9 (gives (Bin Rem lowest (neg 1))) (Fails 0)
 unfolding convert unary binary digits unescaped
 remainder_out_of_range = comes refl
+
+-- int x = +(char) 200;
+plus : ComesTo ints 9 (gives (Un Plus (As Char (num 200)))) (is (negsuc 55))
+unfolding convert unary binary digits unescaped
+plus = comes refl
+
+-- int x = 3 > 3;
+greater_of_equal : ComesTo ints 9 (gives (Bin Greater (num 3) (num 3))) (is (pos 0))
+unfolding convert unary binary digits unescaped
+greater_of_equal = comes refl
+
+-- int x = -1 > 1u;
+greater_of_unsigned : ComesTo ints 9 (gives (Bin Greater (neg 1) (K UInt 1))) (is (pos 1))
+unfolding convert unary binary digits unescaped
+greater_of_unsigned = comes refl
 
 -- - the least int
 minus_out_of_range : ComesTo ints 9 (gives (Un Minus lowest)) (Fails 0)
@@ -283,6 +300,44 @@ then_branch = comes refl
 else_branch : ComesTo ints 9 (begin (num 0) (Choice 1 x (λ v. either (is_true v) (Do 2 (Set x (num 1)) Stop) (Do 3 (Set x (num 2)) Stop)) (Stop))) (Ends ((0, pos 0 ∷ []) ∷ (1, pos 0 ∷ []) ∷ (3, pos 2 ∷ []) ∷ []) ([]))
 unfolding convert unary binary digits unescaped
 else_branch = comes refl
+
+-- ---- switches
+
+-- case k:
+abbrev case_of : ℕ → Label
+case_of k = label.Case (tree (num k)) (pos k)
+
+-- case 1: case 2: x = 10; break; default: x = 20; break; case 3: x = 30; break;
+abbrev arms : List SmallArm
+arms =
+    (record { labels = case_of 1 ∷ case_of 2 ∷ []; does = Do 2 (Set x (num 10)) Stop }) ∷ (record { labels = label.Default ∷ []; does = Do 3 (Set x (num 20)) Stop })
+    ∷ (record { labels = case_of 3 ∷ []; does = Do 4 (Set x (num 30)) Stop }) ∷ []
+
+-- int x = k; switch (x) { .. } x = x + 1;
+abbrev switches : ℕ → List SmallArm → SmallCode
+switches k as_ = begin (num k) (Choice 1 x (arm_at as_) (Do 5 (Set x (Bin Add x (num 1))) Stop))
+
+-- of 2, the second label of an arm
+second_label : ComesTo ints 9 (switches 2 arms) (Ends ((0, pos 2 ∷ []) ∷ (1, pos 2 ∷ []) ∷ (2, pos 10 ∷ []) ∷ (5, pos 11 ∷ []) ∷ []) [])
+unfolding convert unary binary digits unescaped
+second_label = comes refl
+
+-- of 3, a case behind the default
+case_behind_the_default : ComesTo ints 9 (switches 3 arms) (Ends ((0, pos 3 ∷ []) ∷ (1, pos 3 ∷ []) ∷ (4, pos 30 ∷ []) ∷ (5, pos 31 ∷ []) ∷ []) [])
+unfolding convert unary binary digits unescaped
+case_behind_the_default = comes refl
+
+-- of 9, the default
+default_is_taken : ComesTo ints 9 (switches 9 arms) (Ends ((0, pos 9 ∷ []) ∷ (1, pos 9 ∷ []) ∷ (3, pos 20 ∷ []) ∷ (5, pos 21 ∷ []) ∷ []) [])
+unfolding convert unary binary digits unescaped
+default_is_taken = comes refl
+
+-- of 9, with no default
+no_arm_is_taken : ComesTo ints 9 (switches 9 ((record { labels = case_of 1 ∷ []; does = Do 2 (Set x (num 10)) Stop }) ∷ [])) (Ends ((0, pos 9 ∷ []) ∷ (1, pos 9 ∷ []) ∷ (5, pos 10 ∷ []) ∷ []) [])
+unfolding convert unary binary digits unescaped
+no_arm_is_taken = comes refl
+
+-- ---- loops
 
 -- int x = 0; while (x < 2) x++;
 while_loop : ComesTo ints 9 (begin (num 0) (Turns 1 (Bin Less x (num 2)) (Do 2 (Bump x true) Stop) Stop)) (Ends ((0, pos 0 ∷ []) ∷ (1, pos 1 ∷ []) ∷ (2, pos 1 ∷ []) ∷ (1, pos 1 ∷ []) ∷ (2, pos 2 ∷ []) ∷ (1, pos 0 ∷ []) ∷ []) ([]))
