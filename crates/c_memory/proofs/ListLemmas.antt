@@ -127,6 +127,14 @@ all_fit m block t n count vs at answer size few is e yes_ =
     ap (λ (b : Bool). true && b) (sym yes_ ∙ e ∙ ap (λ (p : Place). are_cells m p.block 0 n) is ∙ sym (cells_of_elements m block t 0 n vs))
     ∙ ap (λ (b : Bool). b && all_cells m (list_stores (whole block) t 0 n vs)) (sym shorter)
 
+-- whether the elements are cells decides, where the list isn't longer
+pub fits : (m : Memory) (block : ℕ) (t : ExprType) (n count : ℕ) (vs : List Value) (at : Place) (answer : Bool) → count ≡ length vs → count ≤ n → at ≡ element_of block 0
+    → answer ≡ are_cells m at.block 0 n → answer ≡ can_store m block t n vs
+fits m block t n count vs at answer size few is e =
+    let shorter : nat_le (length vs) n ≡ true = grind (arith, nat_tests) in
+    e ∙ ap (λ (p : Place). are_cells m p.block 0 n) is ∙ sym (cells_of_elements m block t 0 n vs)
+    ∙ ap (λ (b : Bool). b && all_cells m (list_stores (whole block) t 0 n vs)) (sym shorter)
+
 -- ---- stores
 
 stored-append : (xs ys : List Store) (m : Memory) → stored (xs ++ ys) m ≡ stored ys (stored xs m)

@@ -133,6 +133,3 @@ pub fn address(e: &Expr, s: Scene) -> Result<Option<Value>, AllocError>
         Expr::Cast(_, _) => Ok(None),
     }
 }
-
-#[cfg(test)]
-mod tests;

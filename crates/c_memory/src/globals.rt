@@ -1,12 +1,11 @@
 //! The globals of a program as a run begins with them (ISO C99 5.1.2, 6.7.8).
-ghost use Rattle.std.specs.Prelude.{◌≡◌, ℕ, List, [], ◌∷◌, Some, IfOk, OnOk, option_map};
-ghost use Rattle.c_language.specs.TreeTypes.{type_of_variable};
+ghost use Rattle.std.specs.Prelude.{◌≡◌, ℕ, List, [], ◌∷◌, Some, IfOk, OnOk};
 ghost use Rattle.c_meaning.specs.Acts.{stored};
 ghost use Rattle.c_meaning.specs.Activations.{executable, globals_in, all_begun, opening};
 ghost use Rattle.c_meaning.specs.Values.{State, bound};
 ghost use Rattle.c_memory.specs.GlobalStates as spec;
 ghost use Rattle.c_memory.specs.GlobalStates.{IsAt, array_in};
-ghost use Rattle.c_memory.specs.Scenes.{frame_of, types_of};
+ghost use Rattle.c_memory.specs.Scenes.{frame_of};
 
 use crate::expressions::value;
 use crate::lists::listed_values;
@@ -174,8 +173,8 @@ impl Memory {
     }
 }
 
-// The length of an array, and the type of its elements; None of another type. Err: no memory was left.
-fn elements(alloc: Global, shape: &ExprType) -> Result<Option<(u64, ExprType)>, AllocError>
+/// The length of an array, and the type of its elements; None of another type. Err: no memory was left.
+pub fn elements(alloc: Global, shape: &ExprType) -> Result<Option<(u64, ExprType)>, AllocError>
     ensures { IfOk result (λ o. o ≡ array_in shape.now.layers shape.now.base) }
 {
     match shape.layers.as_slice().split_first() {
@@ -189,8 +188,9 @@ fn elements(alloc: Global, shape: &ExprType) -> Result<Option<(u64, ExprType)>, 
     }
 }
 
-// Lets a variable have a block.
-fn bind(frame: &mut Vec<Option<u64>>, x: VarId, block: u64) -> Result<(), AllocError>
+/// Lets a variable have a block, in a table of the blocks of all variables. Err: no memory was left, and nothing is said of
+/// the table.
+pub fn bind(frame: &mut Vec<Option<u64>>, x: VarId, block: u64) -> Result<(), AllocError>
     ensures { OnOk result (frame_of frame.new.items ≡ bound (frame_of frame.old.items) x (Some block)) }
 {
     let at = x as usize;
@@ -200,6 +200,3 @@ fn bind(frame: &mut Vec<Option<u64>>, x: VarId, block: u64) -> Result<(), AllocE
     frame[at] = Some(block);
     Ok(())
 }
-
-#[cfg(test)]
-mod tests;

@@ -1,5 +1,5 @@
 //! The struct types of a program, and where the parts of an object lie among its cells (ISO C99 6.7.2.1).
-ghost use Rattle.std.specs.Prelude.{◌≡◌, ◌+◌, List, [], Some, None, if◌then◌else◌, IfOk, length, map, option_map};
+ghost use Rattle.std.specs.Prelude.{◌≡◌, List, [], Some, None, if◌then◌else◌, IfOk, length, map, option_map};
 ghost use Rattle.c_tree.specs.declared.program.Member.{Member};
 ghost use Rattle.c_language.specs.declared.expr_type.ExprType.{ExprType};
 ghost use Rattle.c_language.specs.ExprTypes as types;

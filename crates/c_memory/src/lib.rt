@@ -22,11 +22,11 @@ mod values;
 
 pub use comparisons::{are_equal, are_together, at_indices};
 pub use expressions::{address, place, value};
-pub use globals::Globals;
+pub use globals::{Globals, bind, elements};
 pub use laws::frame_and_memory_decide;
 pub use lists::listed_values;
 pub use memory::Memory;
 pub use moves::{designated, moved, moved_back};
 pub use operators::binary_value;
-pub use scene::Scene;
+pub use scene::{Scene, binary_of, converted, object_of};
 pub use values::{as_type, tested, unary_value};

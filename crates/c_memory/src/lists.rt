@@ -64,6 +64,29 @@ fn go_to(element: &mut Place, index: u32)
 }
 
 impl Memory {
+    /// Whether the items of a list can be stored in an array that is a whole block: exactly where the list isn't longer,
+    /// and each element is a cell of a live block. Err: no memory was left, or the length has more than 32 bits.
+    pub fn can_store_list(
+        &self,
+        alloc: Global,
+        block: u64,
+        length: u64,
+        element: &ExprType,
+        items: &[Value],
+    ) -> Result<bool, AllocError>
+        ensures { IfOk result (λ is. is ≡ spec.can_store self.now block element.now length items.now) }
+    {
+        if length > u32::MAX as u64 {
+            return Err(AllocError);
+        }
+        let mut at = first_element(alloc, block)?;
+        let count = items.len() as u64;
+        if count > length {
+            return Ok(false);
+        }
+        Ok(self.has_elements(&mut at, length as u32))
+    }
+
     /// Stores the items of a list in an array that is a whole block, and 0 or null pointers behind them up to its length.
     /// False, and nothing is changed, exactly where the list is longer, or an element is no cell of a live block. Err: no
     /// memory was left, or the length has more than 32 bits; nothing is changed.

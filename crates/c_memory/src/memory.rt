@@ -100,7 +100,22 @@ impl Memory {
         ensures allocated { OnOk result (self.new ≡ spec.allocate (shape_of shape.now) count self.old) }
         ensures refused { OnErr result (self.new ≡ self.old) }
     {
-        let objects = array_of(alloc, declared_type(alloc, shape)?, count as u64)?;
+        let object = declared_type(alloc, shape)?;
+        self.allocate_objects(alloc, object, count)
+    }
+
+    /// The same for objects of a type that an expression has, as of what the left side of a call of malloc points to.
+    pub fn allocate_objects(
+        &mut self,
+        alloc: Global,
+        shape: ExprType,
+        count: u32,
+    ) -> Result<u64, AllocError>
+        ensures number { IfOk result (λ n. n ≡ length self.old.blocks) }
+        ensures allocated { OnOk result (self.new ≡ spec.allocate shape count self.old) }
+        ensures refused { OnErr result (self.new ≡ self.old) }
+    {
+        let objects = array_of(alloc, shape, count as u64)?;
         let block = Block::unwritten(alloc, &self.layouts, objects, Kind::Allocated)?;
         self.begin(block)
     }
@@ -211,8 +226,8 @@ impl Memory {
         }
     }
 
-    // Whether a pointer is the start of a live block that malloc made.
-    fn can_free(&self, at: &Pointer) -> bool
+    /// Whether a pointer is the start of a live block that malloc made, which alone can be freed (7.20.3.2).
+    pub fn can_free(&self, at: &Pointer) -> bool
         ensures { result ≡ spec.can_free self.now at.now }
     {
         match self.blocks.get(at.block as usize) {
@@ -284,6 +299,3 @@ fn same_layers(s: &[Layer], t: &[Layer]) -> bool
     };
     same_layer(*l, *m) && same_layers(ls, ms)
 }
-
-#[cfg(test)]
-mod tests;

@@ -1,5 +1,5 @@
 //! What an expression is evaluated in, and what it gives by the values and objects of its parts.
-ghost use Rattle.std.specs.Prelude.{◌≡◌, IfOk, option_map, option_and_then};
+ghost use Rattle.std.specs.Prelude.{◌≡◌, IfOk, option_and_then};
 ghost use Rattle.c_language.specs.TreeTypes.{tree_type};
 ghost use Rattle.c_language.specs.TreeTypes as tree;
 ghost use Rattle.c_meaning.specs.Pointers as pointers;
@@ -31,7 +31,7 @@ pub struct Scene<'p, 'f, 'm> {
 }
 
 /// The object of a variable.
-pub(crate) fn object_of(s: Scene, x: VarId) -> Option<Place>
+pub fn object_of(s: Scene, x: VarId) -> Option<Place>
     ensures { result ≡ spec.variable_place x (state_in s.entry) }
 {
     variable_place(s.alloc, s.frame, x)
@@ -61,7 +61,7 @@ pub(crate) fn unary_of(
 }
 
 /// A binary operator at the values of operands. Err: no memory was left.
-pub(crate) fn binary_of(
+pub fn binary_of(
     op: BinaryOp,
     s: Scene,
     a: &Expr,
@@ -125,8 +125,8 @@ pub(crate) fn member_behind(
     pointed_member(s.alloc, s.memory, m, &pointer)
 }
 
-/// A value as a type has it. Err: no memory was left.
-pub(crate) fn converted(shape: &ExprType, value: Option<Value>) -> Option<Value>
+/// A value as a type has it; None where there is none, or the type can't have it.
+pub fn converted(shape: &ExprType, value: Option<Value>) -> Option<Value>
     ensures { result ≡ option_and_then (spec.as_type shape.now) value }
 {
     match value {
