@@ -25,7 +25,7 @@ use Rattle.dep_model.specs.FunctionVertices.{IsControlIn, numbers, controller_ve
 use Rattle.dep_model.specs.FunctionVertices as functions
 use Rattle.dep_model.specs.Graphs.{IsGraphOf}
 use Rattle.dep_model.specs.NamedParameters.{NamesParameter}
-use Rattle.dep_model.specs.SystemGraph.{Analysis, vertices_of, places_at, IsFlowIn, IsVertex, IsCallEdge, IsSystemEdge}
+use Rattle.dep_model.specs.SystemGraph.{Analysis, vertices_of, places_at, IsFlowIn, IsVertex, IsCallEdge, IsSystemEdge, AreSystemEdges}
 use Rattle.dep_model.specs.SystemGraph as system
 use Rattle.dep_model.specs.VertexOrder.{in_function, vertex_effects}
 use Rattle.dep_model.proofs.CompletionLemmas.{AreNames, completion_from_rules}
@@ -123,35 +123,38 @@ ends_rule n u v (Call d) a b c = record { first_in = a; second_in = a; gives_in 
 ends_rule n u v (In d) a b c = record { first_in = c d refl; second_in = b; gives_in = a }
 ends_rule n u v (Out d) a b c = record { first_in = b; second_in = b; gives_in = a }
 
-module _ (p : Program) (g : Graph) (graph : IsGraphOf p g) where
-  abbrev n : ℕ
-  n = length g.vertices
+module _ (p : Program) (a : Analysis) (edges : List Edge) (exact : AreSystemEdges p a edges) where
+  abbrev size : ℕ
+  size = length (vertices_of p a)
 
-  edge_rule_within : (e : Edge) → Contains g.edges e → IsRuleWithin n (rule_of e)
-  edge_rule_within e m =
-      let i = graph.is_graph in
-      let b = edge_below p graph.analysis e ((i.edges_are e).0 m) in
-      subst (λ k. IsRuleWithin k (rule_of e)) (sym (ap length i.vertices_are)) (ends_rule _ e.from e.to e.label b.from_in b.to_in b.call_in)
+  edge_rule_within : (e : Edge) → Contains edges e → IsRuleWithin size (rule_of e)
+  edge_rule_within e m = let b = edge_below p a e ((exact e).0 m) in ends_rule size e.from e.to e.label b.from_in b.to_in b.call_in
 
-  name_rule_within : (names : List Rule) → AreNameRules p g.vertices names → ((r : Rule) → Contains names r → r.second ≡ r.first) → (r : Rule) → Contains names r → IsRuleWithin n r
-  name_rule_within names are one r m =
-      let w = are.only r m in
-      let first = slice_get_within g.vertices r.first w.vertex w.at in
-      record { first_in = first; second_in = subst (λ k. k < n) (sym (one r m)) first; gives_in = slice_get_within g.vertices r.gives _ w.formal }
+  name_rule_within : (r : Rule) → Contains (name_rules p (vertices_of p a)) r → IsRuleWithin size r
+  name_rule_within r m =
+      let w = (name_rules_are p (vertices_of p a)).only r m in
+      let first = slice_get_within (vertices_of p a) r.first w.vertex w.at in
+      record { first_in = first; second_in = subst (λ k. k < size) (sym (name_rules_one p (vertices_of p a) r m)) first; gives_in = slice_get_within (vertices_of p a) r.gives _ w.formal }
 
-  one_within : (r : Rule) → Contains (map rule_of g.edges ++ name_rules p g.vertices) r → IsRuleWithin n r
-  one_within r m = elim (Contains-append_cases (map rule_of g.edges) (name_rules p g.vertices) r m) [
-    | inl k ↦ let w = contains_map rule_of g.edges r k in subst (IsRuleWithin n) w.2 (edge_rule_within w.0 w.1)
-    | inr k ↦ name_rule_within (name_rules p g.vertices) (name_rules_are p g.vertices) (name_rules_one p g.vertices) r k
+  one_within : (r : Rule) → Contains (map rule_of edges ++ name_rules p (vertices_of p a)) r → IsRuleWithin size r
+  one_within r m = elim (Contains-append_cases (map rule_of edges) (name_rules p (vertices_of p a)) r m) [
+    | inl k ↦ let w = contains_map rule_of edges r k in subst (IsRuleWithin size) w.2 (edge_rule_within w.0 w.1)
+    | inr k ↦ name_rule_within r k
   ]
 
-  -- all rules are within sets of the graph's size
-  pub rules_within : All (IsRuleWithin n) (map rule_of g.edges ++ name_rules p g.vertices)
-  rules_within = all_of (IsRuleWithin n) (map rule_of g.edges ++ name_rules p g.vertices) one_within
+  -- all rules of the edges of a program, and of its named parameters, are within sets of its vertices
+  system_rules_within : All (IsRuleWithin size) (map rule_of edges ++ name_rules p (vertices_of p a))
+  system_rules_within = all_of (IsRuleWithin size) (map rule_of edges ++ name_rules p (vertices_of p a)) one_within
 
   -- and so are they as rules of the closures
-  pub lemma_rules_within : All (IsRuleWithin n) (map lemmas.rule_of g.edges ++ name_rules p g.vertices)
-  lemma_rules_within = subst (λ rs. All (IsRuleWithin n) (rs ++ name_rules p g.vertices)) (rules_same g.edges) rules_within
+  pub lemma_rules_within : All (IsRuleWithin size) (map lemmas.rule_of edges ++ name_rules p (vertices_of p a))
+  lemma_rules_within = subst (λ rs. All (IsRuleWithin size) (rs ++ name_rules p (vertices_of p a))) (rules_same edges) system_rules_within
+
+-- all rules are within sets of a graph's size
+pub rules_within : (p : Program) (g : Graph) → IsGraphOf p g → All (IsRuleWithin (length g.vertices)) (map rule_of g.edges ++ name_rules p g.vertices)
+rules_within p g graph =
+    subst (λ vs. All (IsRuleWithin (length vs)) (map rule_of g.edges ++ name_rules p vs)) (sym graph.is_graph.vertices_are)
+    (system_rules_within p graph.analysis g.edges graph.is_graph.edges_are)
 
 -- what the rules derive, once main's entry is added, is the completion
 pub completion_is : (p : Program) (edges : List Edge) (vs : List Vertex) (names rules : List Rule) (main : ℕ) (x s k : List Bool) → AreNameRules p vs names → rules ≡ map rule_of edges ++ names → main < length x → s ≡ set x main true → length k ≡ length s → ((v : ℕ) → IsTrue (has k v) ↔ Derived rules s v) → IsCompletion edges (NamesParameter p vs) main x k

@@ -5,5 +5,5 @@ mod NameLaws
 mod Closures
 mod FormalLaws
 mod WordTails
-mod Projectable
+pub mod Projectable
 mod EntryLaws

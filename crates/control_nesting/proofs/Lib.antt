@@ -1,7 +1,12 @@
 pub mod StandsInWalk
+pub mod OwnVertices
 pub mod Controlled
+pub mod HeldVertices
+pub mod ClosedSets
+pub mod Completions
 pub mod TakenForms
 pub mod TakenLabels
 pub mod TakenCases
 pub mod TakenTexts
 pub mod TakenLines
+pub mod WellFormedSets

@@ -1,4 +1,4 @@
--- In a well-formed program of main alone over integers each arm of a switch is taken.
+-- In a well-formed program each arm of a switch is taken.
 use Rattle.std.proofs.Common.{◌≡◌, List, [], ◌∷◌, map, Bool, ◌&&◌, refl, sym, ap, ap₂, ◌∙◌}
 use Rattle.std.specs.List.{list_all}
 use Rattle.c_tree.specs.Unlined.{unlined, unlined_function, SameButLines}

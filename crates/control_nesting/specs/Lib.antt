@@ -1,2 +1,3 @@
 pub mod TakenArms
+pub mod ControlledVertices
 pub mod Laws

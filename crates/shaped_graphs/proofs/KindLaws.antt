@@ -117,7 +117,7 @@ module _ (p : Program) (effects : FunctionEffects) where
   abbrev pub out_slots : ℕ → Target → List Slot
   out_slots g to = slots_of p effects (effects.modified g) ++ target_slots p effects to
 
-  doing_kind : (d : Doing) (k : VertexKind) (n : ℕ) → IsIn (doing_vertices p effects d) k → number_in k n ≡ doing_number d
+  pub doing_kind : (d : Doing) (k : VertexKind) (n : ℕ) → IsIn (doing_vertices p effects d) k → number_in k n ≡ doing_number d
   doing_kind (Does i a) k n (inl e) = ap (λ j. number_in j n) (sym e)
   doing_kind (Does i a) k n (inr h) = absurd h
   doing_kind (Calls i to g args) k n (inl e) = ap (λ j. number_in j n) (sym e)

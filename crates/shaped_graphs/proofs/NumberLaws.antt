@@ -20,7 +20,7 @@ number_at [] v d h = nowhere v d h
 number_at (e ∷ ds) zero d h = ap (λ x. Some (doing_number x)) (same_Some _ _ h)
 number_at (e ∷ ds) (suc v) d h = number_at ds v d h
 
-numbered_apart : (ds : List Doing) (n : ℕ) → map doing_number ds ≡ range_with_len 0 n → AreApart ds
+pub numbered_apart : (ds : List Doing) (n : ℕ) → map doing_number ds ≡ range_with_len 0 n → AreApart ds
 numbered_apart ds n same v w d e at at' equal =
     let one = in_range 0 n v (doing_number d) (subst (λ ks. slice_get ks v ≡ Some (doing_number d)) same (number_at ds v d at)) in
     let other = in_range 0 n w (doing_number e) (subst (λ ks. slice_get ks w ≡ Some (doing_number e)) same (number_at ds w e at')) in
@@ -29,7 +29,7 @@ numbered_apart ds n same v w d e at at' equal =
 first_apart : (ds es : List Doing) → AreApart (ds ++ es) → AreApart ds
 first_apart ds es apart v w d e at at' equal = apart v w d e (at_first ds es v d at) (at_first ds es w e at') equal
 
-second_apart : (ds es : List Doing) → AreApart (ds ++ es) → AreApart es
+pub second_apart : (ds es : List Doing) → AreApart (ds ++ es) → AreApart es
 second_apart ds es apart v w d e at at' equal =
     let same = apart (length ds + v) (length ds + w) d e (at_second ds es v d at) (at_second ds es w e at') equal in
     omega (arith, same)
@@ -40,7 +40,7 @@ function_apart (k ∷ gs) zero g apart h =
     subst (λ (x : Function). AreApart (body_doings x.body)) (same_Some _ _ h) (first_apart (body_doings k.body) (functions_doings gs) apart)
 function_apart (k ∷ gs) (suc f) g apart h = function_apart gs f g (second_apart (body_doings k.body) (functions_doings gs) apart) h
 
-function_among : (gs : List Function) (f : ℕ) (g : Function) (d : Doing) → slice_get gs f ≡ Some g → IsIn (body_doings g.body) d → IsIn (functions_doings gs) d
+pub function_among : (gs : List Function) (f : ℕ) (g : Function) (d : Doing) → slice_get gs f ≡ Some g → IsIn (body_doings g.body) d → IsIn (functions_doings gs) d
 function_among [] f g d h m = nowhere f g h
 function_among (k ∷ gs) zero g d h m =
     in_first (body_doings k.body) (functions_doings gs) d (subst (λ (x : Function). IsIn (body_doings x.body) d) (sym (same_Some _ _ h)) m)
@@ -48,10 +48,10 @@ function_among (k ∷ gs) (suc f) g d h m = in_second (body_doings k.body) (func
 
 -- what a function has, by its number
 module _ (p : Program) (f : ℕ) where
-  of_some : (g : Function) → slice_get p.functions f ≡ Some g → doings_of p f ≡ body_doings g.body
+  pub of_some : (g : Function) → slice_get p.functions f ≡ Some g → doings_of p f ≡ body_doings g.body
   of_some g h = ap (λ o. option_map_or (λ (x : Function). body_doings x.body) o []) h
 
-  of_none : slice_get p.functions f ≡ None → doings_of p f ≡ []
+  pub of_none : slice_get p.functions f ≡ None → doings_of p f ≡ []
   of_none h = ap (λ o. option_map_or (λ (x : Function). body_doings x.body) o []) h
 
   -- a statement of a function has that function, and is one of the program

@@ -18,7 +18,7 @@ given p target.None g h some = absurd (some refl)
 given p (target.Place e) g h some = h
 given p (target.Declared x) g h some = h
 
-fit_of : (p : Program) → IsWellFormed p → CallsFit p
+pub fit_of : (p : Program) → IsWellFormed p → CallsFit p
 fit_of p well =
     calls_fit p p.statements (statements_numbered p well)
     (λ i to g args m. parameters_counted p g (length args) (each_passes (fits (parameter_counts p)) (program_doings p) (Calls i to g args) (calls_fit_well p well) m))
