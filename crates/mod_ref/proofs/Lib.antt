@@ -2,7 +2,7 @@ mod AddedLemmas
 mod CallLemmas
 mod CalledLaws
 mod ColumnLemmas
-mod InsideForms
+pub mod InsideForms
 mod OwnLaws
 pub mod PlacedEffects
 mod Rules

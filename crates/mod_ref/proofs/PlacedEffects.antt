@@ -24,7 +24,7 @@ abbrev is_at : Location → TypedLocation → Bool
 is_at l o = same_location o.location l
 
 -- a location stands among some at its place, or is none of them
-data IsFound (xs : List TypedLocation) (l : Location) : Option ℕ → Type 0 where
+pub data IsFound (xs : List TypedLocation) (l : Location) : Option ℕ → Type 0 where
   there : (k : ℕ) (o : TypedLocation) → slice_get xs k ≡ Some o → o.location ≡ l → IsFound xs l (Some k)
   nowhere : (IsIn (map alone xs) l → ⊥) → IsFound xs l None
 
@@ -37,7 +37,7 @@ found_by o xs l place true t h = there 0 o refl (location_is o.location l t)
 found_by o xs l place false t h =
     found_later o xs l place (λ e. false≢true (sym t ∙ subst (λ m. same_location o.location m ≡ true) e (location_itself o.location))) h
 
-found : (xs : List TypedLocation) (l : Location) → IsFound xs l (position (is_at l) xs)
+pub found : (xs : List TypedLocation) (l : Location) → IsFound xs l (position (is_at l) xs)
 found [] l = nowhere (λ h. h)
 found (o ∷ xs) l = subst (IsFound (o ∷ xs) l) (sym (position-cons (is_at l) o xs)) (found_by o xs l (position (is_at l) xs) (is_at l o) refl (found xs l))
 

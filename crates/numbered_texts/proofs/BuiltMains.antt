@@ -2,7 +2,7 @@
 use Rattle.std.proofs.Common.{sym, false}
 use Rattle.built_forms.proofs.ButLines.{none_too}
 use Rattle.built_forms.proofs.Programs.{built_integer_main}
-use Rattle.projection_laws.proofs.SamePrograms.{main_same}
+use Rattle.numbered_texts.proofs.MainsButLines.{main_same}
 use Rattle.numbered_texts.specs.Laws.{BuiltAreNumbered}
 use Rattle.numbered_texts.proofs.NumbersButLines.{well_formed_numbered}
 

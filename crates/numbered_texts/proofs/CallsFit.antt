@@ -82,14 +82,15 @@ module _ (raw : RawProgram) where
       by_test head is many false h =
           absurd (kept 16 (Breaks.arguments (MisusesArguments.count own is (λ (e : length args ≡ length head.params). let z : (length head.params == length es) ≡ true = grind (arith, nat_tests, e, many) in true≢false (sym z ∙ h)))))
 
-  arguments_test : IsCallTest raw (fits counts)
-  arguments_test = record {
-    act = λ i a. refl;
+  arguments_test : (owner : Option ℕ) → IsCallTest raw owner (fits counts)
+  arguments_test owner = record {
+    act = λ i a none. refl;
+    returned = λ l id a e scope own kept. refl;
     call = λ l id stand to f args scope t g es kept own target_ at given. arguments_fit l id stand to f args (with_target raw to scope) t g es kept own at given;
   }
 
   pub body_fits : (b : List RawStatement) (scope : Scope) (xs : List Statement) → body_of raw b scope ≡ Some xs → AreKept raw (body_phrases raw b scope) → list_all (fits counts) (body_doings xs) ≡ true
-  body_fits = body_passes raw (fits counts) arguments_test
+  body_fits b scope xs e kept = body_passes raw scope.owner (fits counts) (arguments_test scope.owner) b scope xs refl e kept
 
   -- ---- results
 
@@ -128,11 +129,12 @@ module _ (raw : RawProgram) where
       let h = result_given l stand (target.Declared v) f args (with_target raw (target.Declared v) scope) kept own (λ e. cc) g at in
       or_right (not (stores t)) _ h
 
-  results_test : IsCallTest raw (gives results)
-  results_test = record {
-    act = λ i a. refl;
+  results_test : (owner : Option ℕ) → IsCallTest raw owner (gives results)
+  results_test owner = record {
+    act = λ i a none. refl;
+    returned = λ l id a e scope own kept. refl;
     call = λ l id stand to f args scope t g es kept own made at given. result_stored l id stand to f args scope t g es kept own made at;
   }
 
   pub body_gives : (b : List RawStatement) (scope : Scope) (xs : List Statement) → body_of raw b scope ≡ Some xs → AreKept raw (body_phrases raw b scope) → list_all (gives results) (body_doings xs) ≡ true
-  body_gives = body_passes raw (gives results) results_test
+  body_gives b scope xs e kept = body_passes raw scope.owner (gives results) (results_test scope.owner) b scope xs refl e kept

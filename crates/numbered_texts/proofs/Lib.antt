@@ -13,3 +13,4 @@ pub mod Texts
 pub mod PointNowhere
 pub mod PointerFreeBodies
 pub mod PointerFreeTexts
+pub mod MainsButLines

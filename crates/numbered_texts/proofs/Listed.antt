@@ -112,12 +112,12 @@ module _ (p : Program) where
   pub location_listed : (l : Location) → is_location p l ≡ true → IsListed p l
   location_listed l h = contains_of_in (map alone (locations p)) l (found_has (locations p) l h)
 
-  has_first : (os qs : List TypedLocation) (l : Location) → Has os l → Has (os ++ qs) l
+  pub has_first : (os qs : List TypedLocation) (l : Location) → Has os l → Has (os ++ qs) l
   has_first [] qs l h = absurd h
   has_first (o ∷ os) qs l (inl e) = inl e
   has_first (o ∷ os) qs l (inr h) = inr (has_first os qs l h)
 
-  has_second : (os qs : List TypedLocation) (l : Location) → Has qs l → Has (os ++ qs) l
+  pub has_second : (os qs : List TypedLocation) (l : Location) → Has qs l → Has (os ++ qs) l
   has_second [] qs l h = h
   has_second (o ∷ os) qs l h = inr (has_second os qs l h)
 
@@ -126,7 +126,7 @@ module _ (p : Program) where
   whole_first r inside (Pointer ∷ ls) b = inl refl
   whole_first r inside (Array n ∷ ls) b = inl refl
 
-  rooted_has : (r : Root) (t : ExprType) → Has (rooted p r t) (record { root = r; path = [] })
+  pub rooted_has : (r : Root) (t : ExprType) → Has (rooted p r t) (record { root = r; path = [] })
   rooted_has r t = whole_first r _ t.layers t.base
 
   variables_have : (k : ℕ) (vs : List Var) (i : ℕ) → i < length vs → Has (variable_locations p k vs) (variable (k + i))
@@ -166,7 +166,7 @@ module _ (p : Program) where
       let e : suc k + i ≡ k + suc i = omega arith in
       has_second (result_parts p k f.result) (result_locations p (suc k) fs) (result_of (k + suc i)) (subst (λ n. Has (result_locations p (suc k) fs) (result_of n)) e (results_have (suc k) fs i h))
 
-  result_listed : (f : ℕ) → has_result p f ≡ true → (l : Location) → same_location (result_of f) l ≡ true → IsListed p l
+  pub result_listed : (f : ℕ) → has_result p f ≡ true → (l : Location) → same_location (result_of f) l ≡ true → IsListed p l
   result_listed f h l is =
       let e : 0 + f ≡ f = omega arith in
       let here : Has (result_locations p 0 p.functions) (result_of f) = subst (λ n. Has (result_locations p 0 p.functions) (result_of n)) e (results_have 0 p.functions f h) in
@@ -222,7 +222,7 @@ module _ (p : Program) where
     if_listed true x y l h k is = h is
     if_listed false x y l h k is = k is
 
-    points_list : (d : Denoted) → Fine d → Lists (value_points p points d)
+    pub points_list : (d : Denoted) → Fine d → Lists (value_points p points d)
     points_list d fine l is =
         if_listed (is_array_place d.form) (part_of p part.Element d.places l) _ l (part_lists part.Element d.places l) (if_listed d.form.is_place (object_points p points d l) (d.points l) l (object_lists d l) (fine.pointed l)) is
 

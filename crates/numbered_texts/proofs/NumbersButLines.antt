@@ -17,7 +17,7 @@ use Rattle.dep_model.specs.Doings.{Doing, doing_step, doing_arm, doings, body_do
 use Rattle.dep_model.specs.MainVertices.{from}
 use Rattle.dep_model.specs.NumberedMains.{doing_below, IsNumberedMain}
 use Rattle.c_tree.proofs.Unlining.{zeroed, fold_unlined}
-use Rattle.projection_laws.proofs.SamePrograms.{main_same}
+use Rattle.numbered_texts.proofs.MainsButLines.{main_same}
 use Rattle.text_syntax.proofs.Items.{text_is_syntax}
 use Rattle.numbered_texts.specs.FittingCalls.{fits, gives, parameter_counts, results_given}
 use Rattle.numbered_texts.specs.Laws.{StatementsAreNumbered, NamedVariablesExist, CallsFit, ResultsAreGiven, WellFormedAreNumbered}
@@ -45,7 +45,7 @@ doing_free (Statement-F.Return id l e) = refl
 doings_unlined : (x : Statement) → doings (unlined x) ≡ doings x
 doings_unlined = fold_unlined doing_step doing_arm doing_free
 
-body_unlined : (xs : List Statement) → body_doings (map unlined xs) ≡ body_doings xs
+pub body_unlined : (xs : List Statement) → body_doings (map unlined xs) ≡ body_doings xs
 body_unlined [] = refl
 body_unlined (x ∷ xs) = ap₂ (λ (a b : List Doing). a ++ b) (doings_unlined x) (body_unlined xs)
 
@@ -70,7 +70,7 @@ doings_same : (p q : Program) → SameButLines p q → doings_of p 0 ≡ doings_
 doings_same p q same =
     sym (first_unlined p.functions) ∙ ap (λ (r : Program). first_doings r.functions) same ∙ first_unlined q.functions
 
-count_same : (p q : Program) → SameButLines p q → length p.vars ≡ length q.vars
+pub count_same : (p q : Program) → SameButLines p q → length p.vars ≡ length q.vars
 count_same p q same =
     sym (length-map p.vars unlined_var) ∙ ap (λ (r : Program). length r.vars) same ∙ length-map q.vars unlined_var
 

@@ -1,0 +1,11 @@
+pub mod ConstantTargets
+pub mod Forms
+pub mod FunctionSides
+pub mod GlobalSides
+pub mod KnownSides
+pub mod Leastness
+pub mod ListedPairs
+pub mod Monotone
+pub mod Sites
+pub mod TakenTargets
+pub mod Wider

@@ -1,0 +1,11 @@
+pub mod AloneLemmas
+pub mod GrownLemmas
+pub mod InsideParts
+pub mod JoinLemmas
+pub mod PointPlaces
+pub mod ReadyLemmas
+pub mod RoundLemmas
+pub mod RowsOfOne
+pub mod SidesLemmas
+pub mod SweepLemmas
+pub mod WalkLemmas
