@@ -1,0 +1,2 @@
+pub mod HoldingCalls
+pub mod Tellings

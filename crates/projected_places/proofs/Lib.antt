@@ -1,0 +1,3 @@
+pub mod Projecting
+pub mod RunRests
+pub mod Places

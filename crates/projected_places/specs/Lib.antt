@@ -1,0 +1,3 @@
+pub mod ProjectedCode
+pub mod Counterparts
+pub mod Laws

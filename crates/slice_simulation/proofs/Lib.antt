@@ -1,0 +1,10 @@
+pub mod Steps
+pub mod Events
+pub mod Stacks
+pub mod Following
+pub mod SharedSteps
+pub mod SharedCalls
+pub mod SharedReturns
+pub mod AwaySteps
+pub mod Law
+pub mod Rules

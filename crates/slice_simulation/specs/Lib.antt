@@ -1,0 +1,8 @@
+pub mod Places
+pub mod Settings
+pub mod Agreeing
+pub mod Premises
+pub mod Abreast
+pub mod Laws
+pub mod Renaming
+pub mod Slicings

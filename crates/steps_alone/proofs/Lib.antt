@@ -1,0 +1,2 @@
+pub mod KeptOutlines
+pub mod AlikeOn

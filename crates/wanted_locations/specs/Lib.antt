@@ -1,0 +1,4 @@
+pub mod Wanted
+pub mod KeptVertices
+pub mod Chained
+pub mod Laws
