@@ -22,13 +22,11 @@ use Rattle.c_language.specs.Names.{names}
 use Rattle.projection.specs.Names.{any_of, refers_step, refers_arm, refers, arm_refers, body_refers}
 use Rattle.projection.specs.Renumbering.{renamed}
 use Rattle.projection.specs.Projection.{first_statement, alone, projected_step, projected_arm_step, projected_function}
-use Rattle.projection_laws.specs.Nested.{Nest, any_kept, all_fit, nest_step, nest_arm, nest, arm_nest, is_nested, IsNested}
-use Rattle.own_words.specs.OwnWords.{own_words, words_kept, splits, layer_parts, for_parts, kept_part, HangsTogether, KeepsWords, OwnWords}
+use Rattle.projection_laws.specs.Nested.{Nest, any_kept, all_fit, nest_step, nest_arm, nest, arm_nest, is_nested}
+use Rattle.own_words.specs.OwnWords.{own_words, words_kept, splits, layer_parts, for_parts, kept_part, HangsTogether, KeepsWords}
 use Rattle.own_words.proofs.Lists.{Among, among_split, among_contains, contains_among, contained_at, all_hold, any_holds}
 use Rattle.own_words.proofs.Lists.Among.{first, next}
-use Rattle.projection_laws.specs.MainProjection.{main_kept}
 use Rattle.own_words.proofs.Names.{function_stays}
-use Rattle.own_words.proofs.WholeWords.{whole_words, unsplit}
 use Rattle.own_words.proofs.Words.{numbers, ranked, smaller}
 use Rattle.own_words.proofs.Forms.{fold_layer, text, own_text, kept_text, left, arm_left, all_left, left_layer, step_left, same_kept, left_is, ranked_start, left_start, CalledStays, left_text, step_refers, own_refers}
 use Rattle.own_words.proofs.Parts.{among_none, in_alone, in_block, Holds, holds_under, holds_begun, holds_repeated, holds_first, holds_second, in_list, in_arms, in_part, of_part}
@@ -236,22 +234,3 @@ module _ (p : Program) (k : Kept ℕ) where
         line = ap (option_map (λ (t : Start). t.line)) begins ∙ sym (ap (option_map (λ (t : Start). t.line)) starts_it);
         words = stayed_words x i begun.0 starts_it h (called_stays together x numbered.stands (out-Statement x) refl) named;
       }
-
--- ---- where calls and heads keep all their parts
-
-module _ (p : Program) (keeps : ℕ → Bool) where
-  together : IsNested keeps p → HangsTogether p (main_kept p keeps)
-  together nested = record {
-    nested = nested;
-    functions = λ n i f x at s own h. refl;
-    called = λ i l f to args x s out h. refl;
-    variables = λ v r. r;
-    parts = λ x part s m. unsplit (main_kept p keeps) (λ i. refl) part;
-  }
-
-  pub has_own_words : IsNested keeps p → OwnWords p keeps
-  has_own_words nested = keeps_words p (main_kept p keeps) (together nested)
-
-  -- all words of a statement are kept
-  pub words_are_whole : (x : Statement) → kept_part (main_kept p keeps) x ≡ x
-  words_are_whole x = whole_words (main_kept p keeps) x (λ i n own. (refl, refl))

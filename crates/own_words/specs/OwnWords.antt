@@ -18,7 +18,6 @@ use Rattle.projection.specs.Kept.{KeptWords, Kept, rank, chosen}
 use Rattle.projection.specs.Names.{stays}
 use Rattle.projection.specs.Projection.{projected, projected_program}
 use Rattle.projection_laws.specs.Nested.{IsNested}
-use Rattle.projection_laws.specs.MainProjection.{main_kept}
 
 -- ---- the words of a statement
 
@@ -62,10 +61,6 @@ pub record HasOwnWords (p : Program) (k : Kept ℕ) (i : ℕ) (x : Statement) : 
 -- each kept statement has its own words in the projection to what is kept
 abbrev pub KeepsWords : Program → Kept ℕ → Type 0
 KeepsWords p k = (i : ℕ) (x : Statement) → IsNumbered p i x → k.statement i ≡ true → HasOwnWords p k i x
-
--- and in the projection to these statements, where calls and heads keep all their parts
-abbrev pub OwnWords : Program → (ℕ → Bool) → Type 0
-OwnWords p keeps = KeepsWords p (main_kept p keeps)
 
 -- ---- where this holds
 

@@ -1,16 +1,3 @@
 pub mod ProjectedLines
-pub mod IntegerTexts
-pub mod StatementForms
-pub mod Constants
-pub mod Deriving
-pub mod Reaching
-pub mod LeftScopes
-pub mod Going
-pub mod Meeting
-pub mod ClosedMains
-pub mod FirstFunction
 pub mod SamePrograms
-pub mod WellFormedProjections
-pub mod Clearing
 pub mod StandsNested
-pub mod MainProjections

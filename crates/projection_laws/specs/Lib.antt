@@ -1,4 +1,3 @@
 pub mod Nested
 pub mod Staying
-pub mod MainProjection
 pub mod Laws

@@ -25,7 +25,7 @@ use Rattle.projection_meaning.proofs.CodeNames.{act_names}
 use Rattle.projection_meaning.proofs.Projecting.{renamed_act, renamed_all, project_code, NamesStay, IsNested}
 use Rattle.projection_meaning.proofs.Sequences.{in_turn-append, declared-append, renamed_all-append, project_then, project_leave, nested_then, nested_leave, names_then, names_leave}
 use Rattle.projection_meaning.proofs.PartsProject.{gathered, part_form, for_form, part_list-map, alone_is, alone_declares, one_turn, one_declares, begun_turn, begun_declares}
-use Rattle.projection_laws.specs.MainProjection.{main_words}
+use Rattle.projection_meaning.specs.MainProjection.{main_words}
 
 module _ (p : Program) (keeps : ℕ → Bool) where
   abbrev vars : ℕ → Bool

@@ -33,7 +33,7 @@ use Rattle.projection_meaning.proofs.NothingLeft.{subjects, rested, arm_rested, 
 use Rattle.projection_meaning.proofs.PartsProject.{gathered, part_form, part_list-map}
 use Rattle.projection_meaning.proofs.FormsProject.{Makes, Turns, Puts, makes_none, makes_both, turns_list, turns_block, turns_then, makes_one, makes_begun, makes_bare, makes_given, puts_act, puts_fork, puts_loop, puts_do, makes_for, makes_block}
 use Rattle.projection_meaning.proofs.ArmsProject.{ArmTurns, same_cases, same_default, either_turns, either_ends, ArmsTurn, none, more, taken_turns, if_ends}
-use Rattle.projection_laws.specs.MainProjection.{main_words}
+use Rattle.projection_meaning.specs.MainProjection.{main_words}
 use Rattle.c_scope_laws.proofs.ChosenLists.{chosen_all}
 
 unkept_none : (b within : Bool) → governs b within ≡ true → b ≡ false → within ≡ false

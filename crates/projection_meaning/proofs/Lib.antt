@@ -22,3 +22,5 @@ pub mod Moves
 pub mod Shape
 pub mod Events
 pub mod SameValues
+pub mod FirstFunction
+pub mod MainProjections

@@ -7,7 +7,7 @@ use Rattle.c_tree.specs.declared.statement.Statement.{Statement}
 use Rattle.c_tree.specs.declared.statement.Statement.TheOpen.{Statement-F}
 use Rattle.projection.specs.Kept.{Kept, rank}
 use Rattle.projection.specs.Projection.{first_statement}
-use Rattle.projection_laws.specs.MainProjection.{main_kept}
+use Rattle.projection_meaning.specs.MainProjection.{main_kept}
 use Rattle.own_words.proofs.Forms as forms
 use Rattle.own_words.proofs.Parts as parts
 use Rattle.own_words.proofs.WholeWords.{unsplit}

@@ -19,7 +19,7 @@ use Rattle.dep_model.specs.NumberedMains.{IsNumberedMain}
 use Rattle.projection_meaning.proofs.MainParts.{same_numbers}
 use Rattle.projection.specs.Kept.{Kept}
 use Rattle.projection.specs.Projection.{projected_items, projected_function, projected_functions}
-use Rattle.projection_laws.specs.MainProjection.{main_kept, main_projection}
+use Rattle.projection_meaning.specs.MainProjection.{main_kept, main_projection}
 
 -- the code of the first function
 abbrev pub main_code : Program → Code

@@ -15,7 +15,7 @@ use Rattle.projection_laws.specs.Staying as Staying
 use Rattle.projection_laws.specs.Staying.{Rest, any_stays, rest_step, rest_arm, rest, arm_rest}
 use Rattle.projection_meaning.proofs.MainParts.{kept, same_numbers, left, all_left, step_left}
 use Rattle.c_scope_laws.proofs.TreeLevels.{unchosen}
-use Rattle.projection_laws.specs.MainProjection.{main_words}
+use Rattle.projection_meaning.specs.MainProjection.{main_words}
 
 -- the subjects of facts
 abbrev pub subjects : {A : Type 0} {Q : A → Type 0} → List ((x : A) × Q x) → List A

@@ -12,7 +12,6 @@ use Rattle.c_tree.specs.Unlined.{SameButLines}
 use Rattle.c_language.specs.DeclaredTypes.{integer}
 use Rattle.c_language.specs.TreeTypes.{shape_of}
 use Rattle.c_language.specs.Code.{Code}
-use Rattle.c_language.specs.Programs.{IsWellFormed}
 use Rattle.c_meaning.specs.declared.value.Value.{Value}
 use Rattle.c_meaning.specs.declared.event.Event.{Event}
 use Rattle.c_meaning.specs.Values.{Types, State, shown_of}
@@ -32,10 +31,8 @@ use Rattle.own_words.proofs.Names.{get-projected}
 use Rattle.projection.specs.Kept.{Kept, rank}
 use Rattle.projection.specs.Names.{stays}
 use Rattle.projection.specs.Projection.{projected_functions, projected_var}
-use Rattle.projection_laws.specs.Nested as laws
-use Rattle.projection_laws.proofs.Clearing.{nested_clear}
 use Rattle.projection_meaning.specs.SameValues.{ranked, StandFor, HasSameValues}
-use Rattle.projection_meaning.specs.Laws.{keeps_of, IsFlowClosed}
+use Rattle.projection_meaning.specs.Laws.{keeps_of, IsClearMain, IsFlowClosed}
 use Rattle.projection_meaning.proofs.Bools.{fails_too}
 use Rattle.projection_meaning.proofs.Exprs.{AreIntegers}
 use Rattle.projection_meaning.proofs.Lines.{same_executable}
@@ -52,7 +49,7 @@ use Rattle.projection_meaning.proofs.Moves.{move_both_fits, move_both, move_one_
 use Rattle.projection_meaning.proofs.StatementsProject.{main_projects}
 use Rattle.projection_meaning.proofs.Events.{SameAt, both_tell, one_tells}
 use Rattle.projection_meaning.proofs.MainParts.{same_numbers}
-use Rattle.projection_laws.specs.MainProjection.{main_words, main_kept, main_projection}
+use Rattle.projection_meaning.specs.MainProjection.{main_words, main_kept, main_projection}
 
 -- ---- the types of a projection
 
@@ -190,12 +187,12 @@ module _ (p : Program) (keeps : ℕ → Bool) (closed : (v w : Step) → FlowEdg
       (r.second.trace, runs_meaning (alone (main_projection p keeps)) 0 n (project_code keeps staying main) input (Ended r.second.trace) (shape_no_calls keeps staying main uncalled) r.runs, r.related.traces ∙ ap (λ (v : Trace). map (ranked keeps) (at set v.events)) r.first_trace)
 
 -- a program that is the projection but for lines gives the same values
-pub same_values : (p q : Program) (a : Analysis) (kept : List Bool) (set ranks : ℕ → Bool) → IsWellFormed p → IsNumberedMain p → IsAnalysis p a → laws.IsNested (keeps_of kept) p → IsFlowClosed p a kept
+pub same_values : (p q : Program) (a : Analysis) (kept : List Bool) (set ranks : ℕ → Bool) → IsNumberedMain p → IsAnalysis p a → IsClearMain p (keeps_of kept) → IsFlowClosed p a kept
     → ((i : ℕ) → set i ≡ true → keeps_of kept i ≡ true) → StandFor (keeps_of kept) set ranks → SameButLines q (main_projection p (keeps_of kept)) → HasSameValues (keeps_of kept) set ranks p q
-same_values p q a kept set ranks well numbered is nested closed held stand same n input t ends =
+same_values p q a kept set ranks numbered is clear closed held stand same n input t ends =
     let keeps = keeps_of kept in
     let slice = main_projection p keeps in
-    let there = main_projects p keeps numbered.integer (nested_clear p keeps numbered.integer nested well) in
+    let there = main_projects p keeps numbered.integer clear in
     let flow = λ (v w : Step) (f : FlowEdge (main_code p) v w) (kw : keeps w.id ≡ true). closed (record { from = suc v.id; to = suc w.id; label = Flow }) (plain_flow p a numbered is v w f) kw in
     let plainly = each_more (IsOfMain p numbered) Plainly (λ s m. m.integer) (main_code p) (steps_of_main p numbered) in
     let r = main_follows p keeps flow set ranks held stand (main_integers p numbered.integer) there.1.0 plainly there.1.1 n input t (sym (meaning_alone n p input (alone_here p numbered)) ∙ ends) in

@@ -20,7 +20,7 @@ use Rattle.projection_meaning.proofs.Projecting.{project_code, NamesStay, IsNest
 use Rattle.projection_meaning.proofs.PartsProject.{gathered}
 use Rattle.projection_meaning.proofs.FormsProject.{Makes, makes_none, makes_both}
 use Rattle.projection_meaning.proofs.LayersProject.{fits}
-use Rattle.projection_laws.specs.MainProjection.{main_words, main_projection}
+use Rattle.projection_meaning.specs.MainProjection.{main_words, main_projection}
 
 module _ (p : Program) (keeps : ℕ → Bool) where
   abbrev vars : ℕ → Bool

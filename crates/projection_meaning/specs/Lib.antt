@@ -1,2 +1,3 @@
+pub mod MainProjection
 pub mod SameValues
 pub mod Laws

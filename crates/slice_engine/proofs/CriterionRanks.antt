@@ -7,7 +7,6 @@ use Rattle.c_tree.specs.declared.program.Program.{Program}
 use Rattle.c_tree.specs.declared.numbered.Start.{Start}
 use Rattle.c_tree.specs.Numbered.{program_starts}
 use Rattle.c_language.specs.Programs.{IsWellFormed}
-use Rattle.dep_model.specs.NumberedMains.{IsNumberedMain}
 use Rattle.dep_model.specs.SystemGraph.{Analysis}
 use Rattle.projection.specs.Kept.{rank}
 use Rattle.projection_meaning.proofs.Ranks.{rank_injective}
@@ -28,7 +27,7 @@ passes test (x ∷ xs) h =
       | inr b ↦ let r = passes test xs b in record { item = r.item; here = r.here; others = λ other b. or_right (other x) (list_any other xs) (r.others other b) }
     ]
 
-module _ (p : Program) (a : Analysis) (line : ℕ) (kept : List Bool) (well : IsWellFormed p) (n : IsNumberedMain p) (k : IsKeptSet p a line kept) where
+module _ (p : Program) (a : Analysis) (line : ℕ) (kept : List Bool) (well : IsWellFormed p) (k : IsKeptSet p a line kept) where
   to_rank : (i : ℕ) → starts_on p line i ≡ true → is_criterion p a line kept (rank (keeps p a kept) i) ≡ true
   to_rank i h =
       let r = passes (λ (s : Start). (s.id == i) && (s.line == line)) (program_starts p) h in
@@ -41,7 +40,7 @@ module _ (p : Program) (a : Analysis) (line : ℕ) (kept : List Bool) (well : Is
       let r = passes (λ (s : Start). (s.line == line) && (rank (keeps p a kept) s.id == rank (keeps p a kept) i)) (program_starts p) h in
       let both = and_parts (r.item.line == line) (rank (keeps p a kept) r.item.id == rank (keeps p a kept) i) r.here in
       let on : starts_on p line r.item.id ≡ true = r.others (λ (s : Start). (s.id == r.item.id) && (s.line == line)) (and_from (r.item.id == r.item.id) (r.item.line == line) (eq-eqb r.item.id r.item.id refl) both.0) in
-      let same : r.item.id ≡ i = rank_injective (keeps p a kept) r.item.id i (criterion_kept p a line kept n k well r.item.id on) ki (eqb-true _ _ both.1) in
+      let same : r.item.id ≡ i = rank_injective (keeps p a kept) r.item.id i (criterion_kept p a line kept well k r.item.id on) ki (eqb-true _ _ both.1) in
       subst (λ j. starts_on p line j ≡ true) same on
 
   -- a kept statement is one of the criterion where its rank is one of the slice's

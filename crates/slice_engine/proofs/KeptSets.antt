@@ -1,24 +1,27 @@
 -- What a slice keeps: the completion of what reaches the criterion.
-use Rattle.std.proofs.Common.{◌≡◌, ◌↔◌, ℕ, [], List, length, Bool, refl, sym, ap, ◌∙◌, subst, IsTrue}
+use Rattle.std.proofs.Common.{◌≡◌, ◌↔◌, ℕ, zero, suc, ◌<◌, [], ◌∷◌, List, length, slice_get, Bool, Some, sym, ap, ◌∙◌, subst, arith, IsTrue}
 use mathlib.Core.Path.{fun_ext}
 use Rattle.bit_rows.specs.Sets.{has}
 use Rattle.c_tree.specs.Numbered.{Starts}
+use Rattle.c_tree.specs.declared.program.Function.{Function}
 use Rattle.c_tree.specs.declared.program.Program.{Program}
-use Rattle.c_language.proofs.MainLemmas.{main_is_first}
+use Rattle.c_language.specs.NameRules.{is_main}
+use Rattle.c_language.specs.Programs.{IsWellFormed}
 use Rattle.dep_model.specs.declared.facts.Facts.{Facts}
 use Rattle.dep_model.specs.declared.graph.Graph.{Graph}
-use Rattle.dep_model.specs.declared.vertex.Vertex.{Vertex}
 use Rattle.dep_model.specs.declared.vertex.VertexKind.TheVariants.{Entry}
 use Rattle.dep_model.specs.ClosedSets.{IsMainEntry}
 use Rattle.dep_model.specs.Completion.{IsCompletion}
 use Rattle.dep_model.specs.Criteria.{criterion_of}
 use Rattle.dep_model.specs.Graphs.{IsGraph, IsGraphOf}
 use Rattle.dep_model.specs.NamedParameters.{NamesParameter}
-use Rattle.dep_model.specs.NumberedMains.{IsNumberedMain}
-use Rattle.dep_model.specs.SystemGraph.{Analysis, IsAnalysis, IsVertex, vertices_of}
+use Rattle.dep_model.specs.SystemGraph.{Analysis, IsAnalysis, vertices_of}
 use Rattle.dep_model.specs.Words.{ReachesAny}
 use Rattle.two_pass.specs.Ready.{PassGraph, HasMembers}
-use Rattle.dep_model.proofs.NumberedEdges.{numbered_vertices}
+use Rattle.numbered_texts.proofs.CallsFit.{position_found}
+use Rattle.numbered_texts.proofs.HavingMain.{has_main}
+use Rattle.shaped_graphs.proofs.KindLaws.{entry_there}
+use Rattle.shaped_graphs.proofs.VertexLaws.{nowhere, vertex_of}
 use Rattle.slice_engine.specs.Criterion.{starts_among}
 use Rattle.slice_engine.specs.Engine.{IsPrepared, AreMembers, AreMembersIn, KeepsFrom}
 use Rattle.slice_engine.specs.Slice.{starts_on, IsReached, IsKeptSet}
@@ -49,23 +52,27 @@ members_are p g line r of_program members = record {
   is_reached = subst (λ vs. IsReached g.edges (criterion_of (starts_on p line) vs) r) of_program.is_graph.vertices_are members;
 }
 
--- ---- a main without parameters
+-- ---- its main
 
-module _ (p : Program) (a : Analysis) (n : IsNumberedMain p) (is : IsAnalysis p a) where
-  pub entry_vertex : IsVertex (vertices_of p a) 0 Entry 0
-  entry_vertex = subst (λ (vs : List Vertex). IsVertex vs 0 Entry 0) (sym (numbered_vertices p a n is)) refl
+at_low : {A : Type 0} (xs : List A) (i : ℕ) (x : A) → slice_get xs i ≡ Some x → i < length xs
+at_low [] i x at = nowhere i x at
+at_low (y ∷ xs) zero x at = omega arith
+at_low (y ∷ xs) (suc i) x at = let lt = at_low xs i x at in omega (arith, lt)
 
-  pub main_entry : IsMainEntry p (vertices_of p a) 0
-  main_entry = record {
-    function = 0;
-    is_main = main_is_first p n.integer.main [] n.integer.functions_are n.name_is;
-    entry = entry_vertex;
-  }
+module _ (p : Program) (a : Analysis) (well : IsWellFormed p) (is : IsAnalysis p a) where
+  -- main has an entry
+  main_there : (v : ℕ) × IsMainEntry p (vertices_of p a) v
+  main_there =
+      let main = has_main p well in
+      let found = position_found (λ (f : Function). is_main f.name) p.functions main.0 main.1 in
+      let entry = vertex_of p a main.0 Entry (at_low p.functions main.0 found.value found.at) (entry_there p a.effects main.0) in
+      (entry.0, record { function = main.0; is_main = main.1; entry = entry.1 })
 
   -- what is kept from the criterion is what the slice keeps
   pub kept_set : (line : ℕ) (g : Graph) (k : List Bool) → IsGraph p a g → KeepsFrom p g line k → IsKeptSet p a line k
   kept_set line g k of_program keeps =
       let same = of_program.vertices_are in
+      let main = main_there in
       record {
         is_analysis = is;
         edges = g.edges;
@@ -73,8 +80,8 @@ module _ (p : Program) (a : Analysis) (n : IsNumberedMain p) (is : IsAnalysis p 
         reached = keeps.reached;
         is_reached = subst (λ vs. IsReached g.edges (criterion_of (starts_on p line) vs) keeps.reached) same keeps.are_members;
         completes = record {
-          main = 0;
-          is_entry = main_entry;
-          completes = subst (λ vs. IsCompletion g.edges (NamesParameter p vs) 0 keeps.reached k) same (keeps.completes 0 (subst (λ vs. IsMainEntry p vs 0) (sym same) main_entry));
+          main = main.0;
+          is_entry = main.1;
+          completes = subst (λ vs. IsCompletion g.edges (NamesParameter p vs) main.0 keeps.reached k) same (keeps.completes main.0 (subst (λ vs. IsMainEntry p vs main.0) (sym same) main.1));
         };
       }

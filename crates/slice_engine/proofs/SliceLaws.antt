@@ -17,7 +17,6 @@ use Rattle.c_print.specs.StartsOn.{StartsOn}
 use Rattle.c_print_laws.specs.ReadAgain.{IsReadAgain}
 use Rattle.c_print_laws.proofs.ReadAgain.{commented_is_read_again}
 use Rattle.c_print_laws.proofs.StatementStarts.{statements_start}
-use Rattle.own_words.proofs.StandingWords.{has_own_words}
 use Rattle.dep_model.specs.NumberedMains.{IsNumberedMain}
 use Rattle.rule_closure.proofs.ListLemmas.{contains_head, contains_cons}
 use Rattle.dep_model.specs.declared.facts.Facts.{Facts}
@@ -32,7 +31,7 @@ use Rattle.slice_engine.proofs.KeptSets.{kept_set}
 use Rattle.slice_engine.proofs.Kept.{criterion_kept, kept_projectable}
 use Rattle.slice_engine.proofs.CriterionRanks.{criterion_rank}
 use Rattle.slice_engine.proofs.RankTests.{at_rank, of_rank, length-by_rank}
-use Rattle.slice_engine.proofs.Projections.{projected_nested, projected_well_formed, projected_values}
+use Rattle.slice_engine.proofs.Projections.{projected_well_formed, projected_words, projected_values}
 use Rattle.slice_engine.proofs.StartNumbers.{start_low}
 use Rattle.slice_engine.proofs.HeaderLines.{shown_at, at_shown}
 use Rattle.slice_engine.proofs.HeaderLemmas.{AreShort, inside, inside_feedless, inside_starless, header_is_comment}
@@ -40,9 +39,9 @@ use Rattle.slice_engine.proofs.HeaderLemmas.{AreShort, inside, inside_feedless, 
 -- ---- the program of the slice
 
 -- what is kept at a line, its projection, and the tests of its statements by rank
-pub is_sliced : (p : Program) (g : Graph) (facts : Facts) (starts : Starts) (line : ℕ) (kept : List Bool) (q : Program) (ranks : List Bool) → IsPrepared p g facts starts → IsNumberedMain p → KeepsFrom p g line kept → q ≡ projection p g.vertices kept
+pub is_sliced : (p : Program) (g : Graph) (facts : Facts) (starts : Starts) (line : ℕ) (kept : List Bool) (q : Program) (ranks : List Bool) → IsPrepared p g facts starts → KeepsFrom p g line kept → q ≡ projection p g.vertices kept
     → ranks ≡ by_rank (kept_words kept g.vertices).statement (starts_on p line) p.statements → IsSlicedAt p line q ranks
-is_sliced p g facts starts line kept q ranks ready n keeps_from is ranks_are =
+is_sliced p g facts starts line kept q ranks ready keeps_from is ranks_are =
     let a = ready.is_graph.analysis in
     let same = ready.is_graph.is_graph.vertices_are in
     let test = keeps p a kept in
@@ -51,7 +50,7 @@ is_sliced p g facts starts line kept q ranks ready n keeps_from is ranks_are =
     record {
       analysis = a;
       kept = kept;
-      is_kept = kept_set p a n ready.is_graph.is_analysis line g kept ready.is_graph.is_graph keeps_from;
+      is_kept = kept_set p a ready.well_formed ready.is_graph.is_analysis line g kept ready.is_graph.is_graph keeps_from;
       program_is = program;
       in_criterion_long = ap length there ∙ length-by_rank test (starts_on p line) p.statements ∙ sym (ap (λ (x : Program). x.statements) program);
       in_criterion_are = λ i low k. ap (λ xs. has xs (rank test i)) there ∙ at_rank test (starts_on p line) i p.statements low k;
@@ -74,12 +73,12 @@ short_each : (ks : List ℕ) → ((k : ℕ) → Contains ks k → k < 2 ^ 64) �
 short_each [] h = tt
 short_each (k ∷ ks) h = (h k (contains_head k ks), short_each ks (λ x c. h x (contains_cons k ks x c)))
 
-module _ (p : Program) (line : ℕ) (q : Program) (in_criterion : List Bool) (well : IsWellFormed p) (numbered : IsNumberedMain p) (s : IsSlicedAt p line q in_criterion) where
+module _ (p : Program) (line : ℕ) (q : Program) (in_criterion : List Bool) (well : IsWellFormed p) (s : IsSlicedAt p line q in_criterion) where
   abbrev at : ℕ → ℕ
   at i = rank (keeps p s.analysis s.kept) i
 
   well_there : IsWellFormed (sliced p s.analysis s.kept)
-  well_there = projected_well_formed p s.analysis s.kept well numbered (kept_projectable p s.analysis line s.kept numbered s.is_kept)
+  well_there = projected_well_formed p s.analysis s.kept well (kept_projectable p s.analysis line s.kept well s.is_kept)
 
   well_q : IsWellFormed q
   well_q = subst IsWellFormed (sym s.program_is) well_there
@@ -123,7 +122,7 @@ module _ (p : Program) (line : ℕ) (q : Program) (in_criterion : List Bool) (we
 
   found_lines : (lines shown : List ℕ) → AreAll lines → Shown lines shown → (k i : ℕ) → starts_on p line i ≡ true → IsStartLine p s.analysis s.kept i k → Contains shown k
   found_lines lines shown all exact k i on l =
-      let want : get_or in_criterion (at i) false ≡ true = s.in_criterion_are i (start_low p well line i on) (criterion_kept p s.analysis line s.kept numbered s.is_kept well i on) ∙ on in
+      let want : get_or in_criterion (at i) false ≡ true = s.in_criterion_are i (start_low p well line i on) (criterion_kept p s.analysis line s.kept well s.is_kept i on) ∙ on in
       let lt = rank_low (at i) want in
       (exact k).1 (subst (Contains (shown_lines in_criterion lines)) (sym (l.behind_header ∙ ap suc (sym (line_there i (at i) refl)))) (at_shown in_criterion lines (at i) (line_of q (at i)) want (all (at i) lt)))
 
@@ -160,16 +159,16 @@ module _ (p : Program) (line : ℕ) (q : Program) (in_criterion : List Bool) (we
         program = again.again;
         reads = record { raw = again.found; accepted = subst (λ t. IsAccepted t again.found again.again) (sym is) again.accepted; within = again.within };
         same_program = sym again.same ∙ ap unlined_program s.program_is;
-        own_words = has_own_words p (keeps p s.analysis s.kept) (projected_nested p s.analysis s.kept well numbered (kept_projectable p s.analysis line s.kept numbered s.is_kept));
+        own_words = projected_words p s.analysis s.kept well (kept_projectable p s.analysis line s.kept well s.is_kept);
       }
 
 -- ---- the same values
 
--- a program gives the same values as what is read of its slice
+-- main alone over integers gives the same values as what is read of its slice
 pub is_faithful : (p : Program) (line : ℕ) (text : Bytes) → IsWellFormed p → IsNumberedMain p → IsAcceptedSlice p line text → IsFaithful p line text
 is_faithful p line text well numbered r = record {
   accepted = r;
   same_values =
-      let there = kept_projectable p r.analysis line r.kept numbered r.is_kept in
-      projected_values p r.analysis r.kept well numbered there r.program (starts_on p line) (is_criterion p r.analysis line r.kept) (criterion_kept p r.analysis line r.kept numbered r.is_kept well) (criterion_rank p r.analysis line r.kept well numbered r.is_kept) r.same_program;
+      let there = kept_projectable p r.analysis line r.kept well r.is_kept in
+      projected_values p r.analysis r.kept well numbered there r.program (starts_on p line) (is_criterion p r.analysis line r.kept) (criterion_kept p r.analysis line r.kept well r.is_kept) (criterion_rank p r.analysis line r.kept well r.is_kept) r.same_program;
 }

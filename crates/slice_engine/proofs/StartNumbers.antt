@@ -32,7 +32,7 @@ among_range line s (suc n) (x ∷ ss) i h on = elim (or_cases ((x.id == i) && (x
     tail_same : {j k : ℕ} {js ks : List ℕ} → j ∷ js ≡ k ∷ ks → js ≡ ks
     tail_same e = cc
 
-functions_agree : (fs : List Function) → ids (function_starts fs) ≡ map doing_number (functions_doings fs)
+pub functions_agree : (fs : List Function) → ids (function_starts fs) ≡ map doing_number (functions_doings fs)
 functions_agree [] = refl
 functions_agree (f ∷ fs) =
     map-append (λ (s : Start). s.id) (body_starts f.body) (function_starts fs) ∙ ap₂ (λ (a b : List ℕ). a ++ b) (body_agree f.body) (functions_agree fs) ∙ sym (map-append doing_number (body_doings f.body) (functions_doings fs))

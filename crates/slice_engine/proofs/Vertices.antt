@@ -1,7 +1,6 @@
 -- Which statements a set of vertices keeps.
-use Rattle.std.proofs.Common.{◌≡◌, ℕ, zero, suc, ◌+◌, ◌<◌, ◌≤◌, ◌==◌, List, [], ◌∷◌, length, map, slice_get, Bool, true, false, ◌&&◌, ◌||◌, Some, refl, sym, ap, ◌∙◌, subst, eq-eqb, arith}
-use Rattle.std.proofs.lemmas.Bool.{ne_eqb, or_left, or_right, and_from}
-use Rattle.std.proofs.lemmas.Option.{same_Some}
+use Rattle.std.proofs.Common.{◌≡◌, ℕ, zero, suc, ◌+◌, ◌<◌, ◌≤◌, ◌==◌, List, [], ◌∷◌, length, map, Bool, true, false, ◌&&◌, ◌||◌, refl, ap, ◌∙◌, subst, eq-eqb, arith}
+use Rattle.std.proofs.lemmas.Bool.{ne_eqb}
 use Rattle.bit_rows.specs.Sets.{has}
 use Rattle.c_tree.specs.declared.program.Program.{Program}
 use Rattle.dep_model.specs.declared.vertex.Vertex.{Vertex}
@@ -12,16 +11,6 @@ use Rattle.dep_model.specs.SystemGraph.{Analysis, IsAnalysis}
 use Rattle.dep_model.proofs.NumberedEdges.{numbered_vertices}
 use Rattle.projection.specs.KeptVertices.{holds, kept_words}
 use Rattle.slice_engine.specs.Slice.{keeps}
-
--- a vertex of the set passes a test
-pub holds_there : (set : List Bool) (test : Vertex → Bool) (n v : ℕ) (vs : List Vertex) (x : Vertex) → has set (n + v) ≡ true → slice_get vs v ≡ Some x → test x ≡ true → holds set test n vs ≡ true
-holds_there set test n v [] x member at passes = cc
-holds_there set test n zero (y ∷ vs) x member at passes =
-    let e : n + 0 ≡ n = omega arith in
-    or_left _ (holds set test (suc n) vs) (and_from (has set n) (test y) (subst (λ k. has set k ≡ true) e member) (ap test (same_Some _ _ at) ∙ passes))
-holds_there set test n (suc v) (y ∷ vs) x member at passes =
-    let e : n + suc v ≡ suc n + v = omega arith in
-    or_right (has set n && test y) _ (holds_there set test (suc n) v vs x (subst (λ k. has set k ≡ true) e member) at passes)
 
 -- ---- main alone
 

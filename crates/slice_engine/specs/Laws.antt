@@ -18,10 +18,10 @@ pub record CanBeProjected (p : Program) (a : Analysis) (s : List Bool) : Type 0 
   pub long : length s ≡ length (vertices_of p a)
   pub projectable : IsProjectable p (vertices_of p a) edges s
 
--- the projection is a well-formed program; so far of main alone over integers
+-- the projection is a well-formed program, in programs of every form
 abbrev pub ProjectionIsWellFormed : Type 0
 ProjectionIsWellFormed =
-    (p : Program) (a : Analysis) (s : List Bool) → IsWellFormed p → IsNumberedMain p → CanBeProjected p a s → IsWellFormed (sliced p a s)
+    (p : Program) (a : Analysis) (s : List Bool) → IsWellFormed p → CanBeProjected p a s → IsWellFormed (sliced p a s)
 
 -- it gives the values of the program at each set of statements that are kept; so far of main alone over integers
 abbrev pub ProjectionHasSameValues : Type 0

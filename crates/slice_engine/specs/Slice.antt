@@ -18,9 +18,9 @@ use Rattle.dep_model.specs.ClosedSets.{IsCompletionIn}
 use Rattle.dep_model.specs.Criteria.{criterion_of}
 use Rattle.dep_model.specs.SystemGraph.{Analysis, IsAnalysis, vertices_of, AreSystemEdges}
 use Rattle.projection.specs.Kept.{rank}
-use Rattle.projection.specs.KeptVertices.{kept_words, projection}
+use Rattle.projection.specs.KeptVertices.{kept_words, kept_of, projection}
 use Rattle.projection_meaning.specs.SameValues.{HasSameValues}
-use Rattle.own_words.specs.OwnWords.{OwnWords}
+use Rattle.own_words.specs.OwnWords.{KeepsWords}
 
 -- whether a statement starts on a line
 abbrev pub starts_on : Program → ℕ → ℕ → Bool
@@ -92,7 +92,7 @@ is_criterion p a line kept j =
 abbrev pub GivesCriterion : Program → Analysis → ℕ → List Bool → Program → Type 0
 GivesCriterion p a line kept q = HasSameValues (keeps p a kept) (starts_on p line) (is_criterion p a line kept) p q
 
--- a text is accepted: its program is the slice but for line numbers, and each kept statement has its own words in it
+-- a text is accepted: its program is the slice but for line numbers, and each kept statement has its own words in it, but for what a call loses
 pub record IsAcceptedSlice (p : Program) (line : ℕ) (text : Bytes) : Type 0 where
   pub analysis : Analysis
   pub kept : List Bool
@@ -100,7 +100,7 @@ pub record IsAcceptedSlice (p : Program) (line : ℕ) (text : Bytes) : Type 0 wh
   pub program : Program
   pub reads : ReadsProgram text program
   pub same_program : SameButLines program (sliced p analysis kept)
-  pub own_words : OwnWords p (keeps p analysis kept)
+  pub own_words : KeepsWords p (kept_of kept (vertices_of p analysis) p)
 
 -- it is accepted so, and the program that is read gives the same values
 pub record IsFaithful (p : Program) (line : ℕ) (text : Bytes) : Type 0 where

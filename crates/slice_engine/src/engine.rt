@@ -229,8 +229,7 @@ fn sliced_at(
     starts: &[Start],
     line: u32,
 ) -> Result<Sliced, AllocError>
-    requires prepared { IsPrepared p.now graph.now facts.now starts.now }
-    requires built { not_yet p.now ≡ None }
+    requires { IsPrepared p.now graph.now facts.now starts.now }
     ensures { IfOk result (λ s. IsSlicedAt p.now line s.program s.in_criterion.items) }
 {
     let kept = kept_at(alloc, p, graph, facts, starts, line)?;
@@ -251,8 +250,7 @@ fn text_of(
     starts: &[Start],
     line: u32,
 ) -> Result<Text, AllocError>
-    requires prepared { IsPrepared p.now graph.now facts.now starts.now }
-    requires built { not_yet p.now ≡ None }
+    requires { IsPrepared p.now graph.now facts.now starts.now }
     ensures slice { IfOk result (λ t. IsSlice p.now line t) }
     ensures read { IfOk result (λ t. IsAcceptedSlice p.now line t) }
 {

@@ -2,7 +2,7 @@
 ghost use Rattle.slice_engine.specs.Laws as law;
 
 /// A law: the projection of a well-formed program to a set of vertices of its system graph that is closed
-/// under all closures is a well-formed program. So far for main alone over integers.
+/// under all closures is a well-formed program, for programs of every form.
 pub fn projection_is_well_formed()
     ensures { law.ProjectionIsWellFormed }
 {}

@@ -3,6 +3,7 @@
 
 mod criterion;
 mod engine;
+pub mod facts;
 mod graph;
 mod header;
 mod laws;

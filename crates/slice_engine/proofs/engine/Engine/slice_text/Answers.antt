@@ -5,9 +5,6 @@ use Rattle.slice_engine.specs.Slice.{IsFaithful}
 use Rattle.slice_engine.proofs.SliceLaws.{is_faithful}
 use Rattle.slice_engine.proofs.engine.Engine.slice_text.Goals as goal
 
-pub text_of-requires-clause-built : goal.text_of-requires-clause-built
-text_of-requires-clause-built c = ap not_yet c.self.view_is ∙ c.requires.built
-
 pub returns-clause-faithful : goal.returns-clause-faithful
 returns-clause-faithful c =
     let built : not_yet c.self.inside.program ≡ None = ap not_yet c.self.view_is ∙ c.requires.built in

@@ -1,0 +1,4 @@
+pub mod NamedBy
+pub mod Hanging
+pub mod OwnParts
+pub mod Laws
