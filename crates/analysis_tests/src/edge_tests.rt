@@ -2,18 +2,30 @@
 use crate::analyses::{graph_of, read};
 use crate::printing::{count_text, edges_text, rows_text};
 use crate::programs::{ADD, KEPT, MUTUAL, OVERWRITTEN};
+use dep_model::Graph;
 use std::process::Abort;
 
-/// The text's graph has these edges, with a line for those that lead from one vertex, and these rows of formal-outs, each by its
-/// vertex and its first word, which take so many words.
-fn has_graph<R: Abort + AllocGlobal>(rt: &R, text: &str, edges: &str, rows: &str, words: u32) {
-    let p = read(rt, text);
-    let graph = graph_of(rt.alloc(), &p).expect(rt, "a graph");
+/// The graph has these edges, with a line for those that lead from one vertex, and these rows of formal-outs, each by its vertex
+/// and its first word, which take so many words.
+pub(crate) fn is_graph<R: Abort + AllocGlobal>(
+    rt: &R,
+    graph: &Graph,
+    edges: &str,
+    rows: &str,
+    words: u32,
+) {
     let found = edges_text(rt.alloc(), graph.edges.as_slice()).expect(rt, "memory");
     assert_eq!(rt; found.as_str(), edges);
     let outs = rows_text(rt.alloc(), graph.outs.as_slice()).expect(rt, "memory");
     assert_eq!(rt; outs.as_str(), rows);
     assert_eq!(rt; graph.fact_words, words);
+}
+
+/// The text's graph has these edges and rows.
+fn has_graph<R: Abort + AllocGlobal>(rt: &R, text: &str, edges: &str, rows: &str, words: u32) {
+    let p = read(rt, text);
+    let graph = graph_of(rt.alloc(), &p).expect(rt, "a graph");
+    is_graph(rt, &graph, edges, rows, words);
 }
 
 /// The text's graph has so many vertices, and so many edges of each kind.
@@ -243,4 +255,52 @@ const CALLING_EDGES: &str = "
 #[test]
 fn mutual_recursion(rt: HostRuntime) {
     has_graph(&rt, CALLING, CALLING_EDGES, "7 at 0 16 at 1 23 at 2 ", 3);
+}
+
+const AGAIN: &str = "int g;
+int f(int n) {
+    int r = n;
+    if (n > 1) {
+        r = f(n - 1);
+        g = g + r;
+        f(r);
+    }
+    return r;
+}
+int main(void) {
+    f(3);
+}
+";
+
+// Each of the two calls of the function by itself, vertices 5 and 11, has slots of its own, and what the first sets of `g`, vertex 8,
+// comes to the second, vertex 13, by line 6 alone.
+const AGAIN_EDGES: &str = "
+0 -> 1 control, 2 control, 3 control, 4 control, 15 control, 16 control, 17 control
+1 -> 3 flow, 4 flow, 6 flow
+2 -> 7 flow, 16 flow
+3 -> 15 flow
+4 -> 5 control, 10 control, 11 control
+5 -> 0 call 5, 6 control, 7 control, 8 control, 9 control
+6 -> 1 in 5
+7 -> 2 in 5
+8 -> 10 flow
+9 -> 10 flow, 12 flow, 15 flow
+10 -> 13 flow
+11 -> 0 call 11, 12 control, 13 control, 14 control
+12 -> 1 in 11
+13 -> 2 in 11
+14 -> 16 flow
+15 -> 17 flow
+16 -> 8 out 5, 14 out 11, 23 out 20
+17 -> 9 out 5
+18 -> 19 control, 20 control, 24 control
+19 -> 22 flow
+20 -> 0 call 20, 21 control, 22 control, 23 control
+21 -> 1 in 20
+22 -> 2 in 20
+23 -> 24 flow";
+
+#[test]
+fn two_calls_of_itself(rt: HostRuntime) {
+    has_graph(&rt, AGAIN, AGAIN_EDGES, "16 at 0 17 at 1 24 at 2 ", 3);
 }
