@@ -9,8 +9,6 @@ pub mod FeedlessPrograms
 pub mod FeedlessStatements
 pub mod FeedlessTypes
 pub mod FeedlessVariables
-pub mod Fitting
-pub mod FittingKept
 pub mod ForParts
 pub mod HeadForms
 pub mod ItemLayout
@@ -33,14 +31,10 @@ pub mod Scoping
 pub mod Settling
 pub mod ShortLists
 pub mod SpacedWords
-pub mod SpelledForms
 pub mod StatementLayout
 pub mod StatementStarts
 pub mod SyntaxFeedless
-pub mod SyntaxFits
 pub mod SyntaxLayout
 pub mod SyntaxTrees
 pub mod Told
 pub mod TypeLayout
-pub mod UntoldItems
-pub mod UntoldStatements

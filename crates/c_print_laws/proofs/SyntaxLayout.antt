@@ -12,14 +12,9 @@ use Rattle.c_language.specs.Syntax.{IsSyntax}
 use Rattle.c_language.proofs.FormedTokens.{formed_tokens}
 use Rattle.c_text_layout.specs.RawLayout.{raw_layout}
 use Rattle.c_text_layout.specs.Declarations.{HasShortLists}
-use Rattle.c_text_layout.proofs.ItemPrint.{printed_is_read}
+use Rattle.c_text_layout.proofs.ItemTexts.{syntax_is_printed}
 use Rattle.text_syntax.proofs.CalmTokens.{AreUntold, untold_at}
-use Rattle.text_syntax.proofs.ItemTokens.{syntax_has_tokens}
 use Rattle.c_print_laws.specs.SyntaxLayout.{HasTreeLike}
-use Rattle.c_print_laws.proofs.SpelledForms.{spelled_written}
-use Rattle.c_print_laws.proofs.SyntaxFits.{tree_fits}
-use Rattle.c_print_laws.proofs.FittingKept.{fitting_kept}
-use Rattle.c_print_laws.proofs.UntoldItems.{fitting_untold}
 use Rattle.c_print_laws.proofs.NestingKept.{nesting_kept}
 
 -- ---- left-out constructs
@@ -35,14 +30,12 @@ none_left_out all is h text line x = none_begins all is (subst (AreUntold []) x.
 -- The layout of a tree that is syntax has tokens of a tree that is like it, behind what its tokens stand behind.
 pub syntax_behind : (front : Bytes) (line : ℕ) → ((text : Bytes) (ts : Tokens) → IsTokens Blank line text ts → AreTokensOf (front ++ text) ts) → (raw : RawProgram) → IsSyntax raw → HasShortLists raw → HasTreeLike (front ++ raw_layout raw) raw
 syntax_behind front line behind raw h short =
-    let x = syntax_has_tokens raw h in
-    let r = printed_is_read line raw x.is (spelled_written x.tokens x.spelled) short in
-    let untold = fitting_untold r.is r.lean (fitting_kept raw r.found r.same (tree_fits raw h)) in
+    let r = syntax_is_printed line raw h short in
     record {
       tokens = r.tokens;
       found = r.found;
       are = behind (raw_layout raw) r.tokens r.lexed;
-      tree = record { formed = formed_tokens r.lexed; grammar = r.is; whole = none_left_out r.found r.is untold };
+      tree = record { formed = formed_tokens r.lexed; grammar = r.is; whole = none_left_out r.found r.is r.untold };
       same = r.same;
       nesting = nesting_kept raw r.found r.same r.bare;
     }

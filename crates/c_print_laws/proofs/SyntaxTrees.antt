@@ -1,18 +1,14 @@
 -- A tree that is syntax is the tree of some tokens, and well-formed programs are those that have such trees.
-use Rattle.std.proofs.Common.{◌≡◌, ℕ, List, [], ◌∷◌, ◌++◌, length, Bool, true, codes, refl, sym, ap, subst, ◌∙◌, All}
+use Rattle.std.proofs.Common.{◌≡◌, ℕ, [], ◌∷◌, ◌++◌, length, Bool, true, codes, refl, sym, ap, subst, ◌∙◌, All}
 use Rattle.std.specs.Prelude.{bytes_eq}
 use Rattle.std.specs.List.{list_all}
 use Rattle.std.proofs.lemmas.List.Elements.{All-nil, All-cons, All-head}
 use Rattle.std.proofs.lemmas.Slice.Eq.{bytes_eq-Decides}
 use Rattle.c_tree.specs.declared.program.Program.{Program}
-use Rattle.c_tree.specs.declared.raw.program.RawItem.{RawItem}
 use Rattle.c_tree.specs.declared.raw.program.RawProgram.{RawProgram}
-use Rattle.c_tree.specs.declared.raw.statement.RawStatement.{RawStatement}
 use Rattle.c_language.specs.Words.{Bytes}
 use Rattle.c_language.specs.TokenForms.{Tokens, of_kind}
 use Rattle.c_language.specs.Tokens.{marks, is_mark, is_header, IsGap, IsInclude, IsLineTail, IsToken, IsTokens}
-use Rattle.c_language.specs.StatementGrammar.{AreStatements}
-use Rattle.c_language.specs.ItemGrammar.{IsItem, AreItems}
 use Rattle.c_language.specs.Syntax.{IsSyntax}
 use Rattle.c_language.specs.Programs.{IsFormed, IsTree, IsWellFormed}
 use Rattle.c_language.specs.declared.token.Before.TheVariants.{Blank, Comment, Token}
@@ -21,17 +17,12 @@ use Rattle.c_language.specs.declared.token.TokenKind.TheVariants.{Name, Number, 
 use Rattle.c_language.proofs.FormedTokens.{formed_tokens}
 use Rattle.c_language.proofs.Lists.{any_passes}
 use Rattle.c_text_layout.proofs.TokenPrint.{is_sure, print_mark, print_name, print_number, print_character, print_string}
-use Rattle.c_text_layout.proofs.StatementPrint.{IsLean}
-use Rattle.c_text_layout.proofs.ItemPrint.{IsLeanItem, AreLeanItems}
 use Rattle.text_syntax.proofs.Spelled.{spelled, AreSpelled}
-use Rattle.text_syntax.proofs.StatementTokens.{NoneEmpty}
 use Rattle.text_syntax.proofs.Items.{text_is_syntax}
-use Rattle.text_syntax.proofs.ItemTokens.{LeanItem, AreLean, syntax_has_tokens}
+use Rattle.text_syntax.proofs.ItemTokens.{syntax_has_tokens}
 use Rattle.c_print_laws.specs.SyntaxLayout.{HasSyntax}
-use Rattle.c_print_laws.proofs.SpelledForms.{spelled_form}
-use Rattle.c_print_laws.proofs.SyntaxFits.{tree_fits}
+use Rattle.c_text_layout.proofs.SpelledForms.{spelled_form}
 use Rattle.c_print_laws.proofs.SyntaxLayout.{none_left_out}
-use Rattle.c_print_laws.proofs.UntoldItems.{fitting_untold}
 
 -- ---- tokens alone in a text
 
@@ -74,34 +65,15 @@ spelled_formed : (ts : Tokens) → AreSpelled ts → All IsFormed ts
 spelled_formed [] h = All-nil IsFormed
 spelled_formed (t ∷ ts) h = All-cons IsFormed t ts (token_formed t.kind t.text t.line h.0) (spelled_formed ts h.1)
 
--- ---- no `;` alone
-
-lean_statements : {ts rest : Tokens} {all : List RawStatement} (d : AreStatements ts all rest) → NoneEmpty d → IsLean d
-lean_statements AreStatements.done h = tt
-lean_statements (AreStatements.empty d) h = h
-lean_statements (AreStatements.declared d k) h = lean_statements k h
-lean_statements (AreStatements.more d k) h = lean_statements k h
-
-lean_item : {ts rest : Tokens} {some : List RawItem} (d : IsItem ts some rest) → LeanItem d → IsLeanItem d
-lean_item (IsItem.include is_stdlib) h = tt
-lean_item (IsItem.tag key) h = tt
-lean_item (IsItem.structure key k) h = tt
-lean_item (IsItem.globals s b k) h = tt
-lean_item (IsItem.prototype k) h = tt
-lean_item (IsItem.definition k p j) h = lean_statements j h
-
-lean_items : {ts rest : Tokens} {all : List RawItem} (d : AreItems ts all rest) → AreLean d → AreLeanItems d
-lean_items AreItems.done h = tt
-lean_items (AreItems.more d k) h = (lean_item d h.0, lean_items k h.1)
+-- ---- trees
 
 -- a tree that is syntax is the tree of some tokens
 pub syntax_is_tree : (raw : RawProgram) → IsSyntax raw → IsTree raw
 syntax_is_tree raw h =
     let x = syntax_has_tokens raw h in
-    let untold = fitting_untold x.is (lean_items x.is x.lean) (tree_fits raw h) in
     record {
       tokens = x.tokens;
-      is = record { formed = spelled_formed x.tokens x.spelled; grammar = x.is; whole = none_left_out raw x.is untold };
+      is = record { formed = spelled_formed x.tokens x.spelled; grammar = x.is; whole = none_left_out raw x.is x.untold };
     }
 
 -- ---- well-formed programs

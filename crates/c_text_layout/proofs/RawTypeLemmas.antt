@@ -1,12 +1,11 @@
 -- What the layout makes of each form of type of a text, as equations.
-use Rattle.std.proofs.Common.{◌≡◌, ℕ, Bool, [], ◌∷◌, ◌++◌, codes, sym, ap, ◌∙◌}
+use Rattle.std.proofs.Common.{◌≡◌, ℕ, [], ◌∷◌, ◌++◌, codes, sym, ap, ◌∙◌}
 use Rattle.c_arith.specs.declared.int_type.IntType.{IntType}
 use Rattle.c_tree.specs.declared.raw.expr.RawLength.{RawLength}
 use Rattle.c_tree.specs.declared.raw.expr.RawType.{RawType, fold-roll-RawType}
 use Rattle.c_tree.specs.declared.raw.expr.RawType.TheOpen.{RawType-F}
 use Rattle.c_tree.specs.declared.raw.expr.RawType.TheVariants as type
 use Rattle.c_language.specs.Words.{Bytes, int_words}
-use Rattle.c_language.specs.TypeGrammar.{is_empty_length, is_listed, listed_step}
 use Rattle.c_text_layout.specs.RawLayout.{raw_base_step, raw_base, raw_stars_step, raw_stars, raw_length_words, raw_lengths_step, raw_lengths}
 use Rattle.c_text_layout.specs.Settled.{settled_length, settled_type_step, settled_type}
 
@@ -57,6 +56,3 @@ settled_type-Array items a n = ap (settled_type items) (sym (type.rolls-Array a 
 
 pub settled_type-Struct : (items : ℕ) (tag : Bytes) → settled_type items (type.Struct tag) ≡ type.Struct tag
 settled_type-Struct items tag = ap (settled_type items) (sym (type.rolls-Struct tag)) ∙ fold-roll-RawType RawType (settled_type_step items) (RawType-F.Struct tag)
-
-pub is_listed-Array : (a : RawType) (n : RawLength) → is_listed (type.Array a n) ≡ is_empty_length n
-is_listed-Array a n = ap is_listed (sym (type.rolls-Array a n)) ∙ fold-roll-RawType Bool listed_step (RawType-F.Array a n)

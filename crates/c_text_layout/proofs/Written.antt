@@ -1,9 +1,8 @@
 -- Tokens that can be written: each has a text of its kind.
-use Rattle.std.specs.Prelude.{◌≡◌, ℕ, true, [], ◌∷◌, ◌++◌, codes}
+use Rattle.std.specs.Prelude.{◌≡◌, ℕ, true, ◌∷◌, ◌++◌, codes}
 use Rattle.c_language.specs.Words.{Bytes}
 use Rattle.c_language.specs.Characters.{is_digit, is_letter}
 use Rattle.c_language.specs.Constants.{IsConstant}
-use Rattle.c_language.specs.TokenForms.{Tokens}
 use Rattle.c_language.specs.Tokens.{name_goes_on, number_goes_on, IsCharacter, IsLiteral, LacksTrigraph, AreRun}
 use Rattle.c_language.specs.declared.token.TokenKind.{TokenKind}
 use Rattle.c_language.specs.declared.token.TokenKind.TheVariants.{Name, Number, Character, Str, Mark, Include, Directive}
@@ -17,8 +16,3 @@ pub data HasForm : TokenKind → Bytes → Type 0 where
   mark : {text : Bytes} → HasForm Mark text
   include : {text : Bytes} → HasForm Include text
   directive : {text : Bytes} → HasForm Directive text
-
--- each token has the form of its kind
-abbrev pub AreWritten : Tokens → Type 0
-AreWritten [] = Unit {0}
-AreWritten (t ∷ ts) = HasForm t.kind t.text × AreWritten ts

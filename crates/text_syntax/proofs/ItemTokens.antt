@@ -27,12 +27,15 @@ use Rattle.c_language.specs.Syntax.{is_expr, starred, sized, listed, reaches, is
 use Rattle.c_language.specs.declared.token.TokenKind.TheVariants.{Include}
 use Rattle.c_language.proofs.Tests.{false_true}
 use Rattle.text_syntax.proofs.Spelled.{AreSpelled}
+use Rattle.text_syntax.proofs.CalmTokens.{AreUntold}
+use Rattle.text_syntax.proofs.Clear.{Clear, ClearInside, no_paren_end, name_alone, name_valued, name_listed}
+use Rattle.text_syntax.proofs.ClearItems.{params_end, params_first, params_more, ClearHead, head_clear, ClearItems, items_done, items_more, ClearMembers, member_clear, members_last, members_more, include_clear, tag_clear, structure_clear, global_no_function, global_clear, prototype_clear, definition_clear, all_clear}
 use Rattle.text_syntax.proofs.TreeTokens.{Tokened, expr_tokens}
 use Rattle.text_syntax.proofs.TypeTokens.{Based, NoIntWord, NoBracket, own_parts, pointed_type, star_tokens, stars_are, stars_spelled, points, Declarator, sized_declarator, listed_declarator, list_tokens}
 use Rattle.text_syntax.proofs.Runs.{Front, nothing, join, sign, word, of, of_base, of_declarator, Run, on_line, other_mark, no_mark, mark_no_int, name_no_int, mark_no_name, stars_end, NoStar, EndsParam, ends_param}
 use Rattle.text_syntax.proofs.CallTokens.{equals_ends, sized_unlisted}
 use Rattle.text_syntax.proofs.Marks.{header_is}
-use Rattle.text_syntax.proofs.StatementTokens.{NoneEmpty, body_tokens}
+use Rattle.text_syntax.proofs.StatementTokens.{body_tokens}
 
 -- ---- types without a name
 
@@ -103,14 +106,20 @@ param_of l w a (Some e) h =
           (c.is (mark (codes "[") 0 ∷ next) (mark_no_name (codes "[") 0 next)) (n.is (mark (codes "]") 0 ∷ r))));
     }
 
+no_struct : (p : RawParam) → is_param p ≡ true → not (is_struct p.shape) ≡ true
+no_struct p h =
+    let q = and_parts (option_map_or is_own_name p.name true && (reaches p.shape starred && not (is_struct p.shape))) _ h in
+    (and_parts (reaches p.shape starred) (not (is_struct p.shape)) (and_parts (option_map_or is_own_name p.name true) _ q.0).1).1
+
 -- parameters behind commas, which end the one before them
 record MoreParams (ps : List RawParam) : Type 0 where
   front : Front
   ends : (r : Tokens) → EndsParam (front.tokens r)
   is : (r : Tokens) → IsMoreParams (front.tokens r) ps r
+  clear : (r : Tokens) → Clear (front.tokens r) r
 
 more_tokens : (ps : List RawParam) → list_all is_param ps ≡ true → MoreParams ps
-more_tokens [] h = record { front = sign (codes ")") 0 refl; ends = λ r. ends_param (codes ")") 0 r refl refl; is = λ r. IsMoreParams.closed }
+more_tokens [] h = record { front = sign (codes ")") 0 refl; ends = λ r. ends_param (codes ")") 0 r refl refl; is = λ r. IsMoreParams.closed; clear = λ r. params_end 0 r }
 more_tokens (p ∷ ps) h =
     let q = and_parts (is_param p) (list_all is_param ps) h in
     let x = param_of p.line p.name p.shape p.length q.0 in
@@ -119,15 +128,19 @@ more_tokens (p ∷ ps) h =
       front = join (sign (codes ",") 0 refl) (join x.front y.front);
       ends = λ r. ends_param (codes ",") 0 (x.front.tokens (y.front.tokens r)) refl refl;
       is = λ r. IsMoreParams.more (x.is (y.front.tokens r) (y.ends r)) (y.is r);
+      clear = λ r. params_more (x.is (y.front.tokens r) (y.ends r)) (no_struct p q.0) (y.clear r);
     }
 
-params_tokens : (ps : List RawParam) → list_all is_param ps ≡ true → Run (λ ts r. IsParams ts ps r)
-params_tokens [] h = record { front = sign (codes ")") 0 refl; is = λ r. IsParams.empty }
+params_tokens : (ps : List RawParam) → list_all is_param ps ≡ true → Run (λ ts r. IsParams ts ps r × Clear ts r)
+params_tokens [] h = record { front = sign (codes ")") 0 refl; is = λ r. (IsParams.empty, params_end 0 r) }
 params_tokens (p ∷ ps) h =
     let q = and_parts (is_param p) (list_all is_param ps) h in
     let x = param_of p.line p.name p.shape p.length q.0 in
     let y = more_tokens ps q.1 in
-    record { front = join x.front y.front; is = λ r. IsParams.some (x.is (y.front.tokens r) (y.ends r)) (y.is r) }
+    record {
+      front = join x.front y.front;
+      is = λ r. let i = x.is (y.front.tokens r) (y.ends r) in (IsParams.some i (y.is r), params_first i (no_struct p q.0) (y.clear r));
+    }
 
 -- ---- heads
 
@@ -142,48 +155,56 @@ result_tokens l (Some t) w h k =
 abbrev head : Bytes → Option RawType → List RawParam → Bool → RawHead
 head w t ps b = record { name = w; result = t; params = ps; is_static = b }
 
-head_of : (l : ℕ) (w : Bytes) (t : Option RawType) (ps : List RawParam) (b : Bool) → is_head (head w t ps b) ≡ true → Tokened (λ ts r. IsHead ts (head w t ps b) r) l
+head_of : (l : ℕ) (w : Bytes) (t : Option RawType) (ps : List RawParam) (b : Bool) → is_head (head w t ps b) ≡ true → Tokened (λ ts r. IsHead ts (head w t ps b) r × ClearHead ts r) l
 head_of l w t ps true h =
     let p = and_parts (is_own_name w) _ h in
     let q = and_parts (option_map_or is_result t true) (list_all is_param ps) p.1 in
     let x = result_tokens 0 t w q.0 p.0 in
     let y = params_tokens ps q.1 in
     on_line l (join (word (codes "static") l refl) (join (of x) (join (sign (codes "(") 0 refl) y.front))) (λ r. refl)
-    (λ r. IsHead.head IsStatic.static (x.is (mark (codes "(") 0 ∷ y.front.tokens r)) (own_parts w p.0).1 (y.is r))
+    (λ r.
+    let i = x.is (mark (codes "(") 0 ∷ y.front.tokens r) in
+    (IsHead.head IsStatic.static i (own_parts w p.0).1 (y.is r).0, head_clear IsStatic.static i q.0 (own_parts w p.0).1 (y.is r).1))
 head_of l w t ps false h =
     let p = and_parts (is_own_name w) _ h in
     let q = and_parts (option_map_or is_result t true) (list_all is_param ps) p.1 in
     let x = result_tokens l t w q.0 p.0 in
     let y = params_tokens ps q.1 in
     on_line l (join (of x) (join (sign (codes "(") 0 refl) y.front)) (λ r. x.line (mark (codes "(") 0 ∷ y.front.tokens r))
-    (λ r. IsHead.head IsStatic.external (x.is (mark (codes "(") 0 ∷ y.front.tokens r)) (own_parts w p.0).1 (y.is r))
+    (λ r.
+    let i = x.is (mark (codes "(") 0 ∷ y.front.tokens r) in
+    (IsHead.head IsStatic.external i (own_parts w p.0).1 (y.is r).0, head_clear IsStatic.external i q.0 (own_parts w p.0).1 (y.is r).1))
 
 -- ---- members
 
 abbrev member_var : RawMember → RawVar
 member_var m = record { name = m.name; shape = m.shape }
 
-member_tokens : (m : RawMember) → is_member m ≡ true → Run (λ ts r. IsMember ts (m ∷ []) r)
+member_tokens : (m : RawMember) → is_member m ≡ true → Run (λ ts r. IsMember ts (m ∷ []) r × ClearInside ts r)
 member_tokens m h =
     let d = sized_declarator m.line (member_var m) h in
     record {
       front = join (of_base d.based) (join (of_declarator d) (sign (codes ";") 0 refl));
       is = λ r.
           let mid = d.front (mark (codes ";") 0 ∷ r) in
-          IsMember.member (d.based.is mid (d.no_int (mark (codes ";") 0 ∷ r)))
-          (subst (λ (n : ℕ). IsSeparated (IsMemberDeclarator n d.base) (codes ";") mid (m ∷ []) r) (sym (d.based.line mid))
-          (IsSeparated.last (IsMemberDeclarator.named (d.is (mark (codes ";") 0 ∷ r) (other_mark (codes ";") (codes "[") 0 r refl)) (sized_unlisted (member_var m) h))));
+          let b = d.based.is mid (d.no_int (mark (codes ";") 0 ∷ r)) in
+          let i = d.is (mark (codes ";") 0 ∷ r) (other_mark (codes ";") (codes "[") 0 r refl) in (
+            IsMember.member b
+                (subst (λ (n : ℕ). IsSeparated (IsMemberDeclarator n d.base) (codes ";") mid (m ∷ []) r) (sym (d.based.line mid))
+                (IsSeparated.last (IsMemberDeclarator.named i (sized_unlisted (member_var m) h)))),
+            member_clear b i,
+          );
     }
 
-members_tokens : (m : RawMember) (all : List RawMember) → list_all is_member (m ∷ all) ≡ true → Run (λ ts r. AreMembers ts (m ∷ all) r)
+members_tokens : (m : RawMember) (all : List RawMember) → list_all is_member (m ∷ all) ≡ true → Run (λ ts r. AreMembers ts (m ∷ all) r × ClearMembers ts r)
 members_tokens m [] h =
     let x = member_tokens m (and_parts (is_member m) true h).0 in
-    record { front = join x.front (sign (codes "}") 0 refl); is = λ r. AreMembers.last (x.is (mark (codes "}") 0 ∷ r)) }
+    record { front = join x.front (sign (codes "}") 0 refl); is = λ r. let i = x.is (mark (codes "}") 0 ∷ r) in (AreMembers.last i.0, members_last i.1) }
 members_tokens m (n ∷ all) h =
     let p = and_parts (is_member m) (list_all is_member (n ∷ all)) h in
     let x = member_tokens m p.0 in
     let y = members_tokens n all p.1 in
-    record { front = join x.front y.front; is = λ r. AreMembers.more (x.is (y.front.tokens r)) (y.is r) }
+    record { front = join x.front y.front; is = λ r. let i = x.is (y.front.tokens r) in (AreMembers.more i.0 (y.is r).0, members_more i.1 (y.is r).1) }
 
 -- ---- globals
 
@@ -194,58 +215,49 @@ record Globe (l : ℕ) (b : Bool) (x : RawItem) : Type 0 where
   front : Front
   no_int : (r : Tokens) → NoIntWord (front.tokens r)
   is : (r : Tokens) → NoBracket r → IsGlobal l b base (front.tokens r) x r
+  clear : (r : Tokens) → NoBracket r → Clear (front.tokens r) r
 
-globe : {l : ℕ} {b : Bool} {v : RawVar} {x : RawItem} (d : Declarator l v) (tail : Front) → ((r : Tokens) → NoBracket r → IsGlobal l b d.base (d.front (tail.tokens r)) x r) → Globe l b x
-globe d tail is = record { base = d.base; based = d.based; front = join (of_declarator d) tail; no_int = λ r. d.no_int (tail.tokens r); is = is }
+globe : {l : ℕ} {b : Bool} {v : RawVar} {x : RawItem} (d : Declarator l v) (tail : Front) → ((r : Tokens) → NoBracket r → IsGlobal l b d.base (d.front (tail.tokens r)) x r × Clear (d.front (tail.tokens r)) r) → Globe l b x
+globe d tail is = record { base = d.base; based = d.based; front = join (of_declarator d) tail; no_int = λ r. d.no_int (tail.tokens r); is = λ r k. (is r k).0; clear = λ r k. (is r k).1 }
 
 globe_tokens : (l : ℕ) (v : RawVar) (i : RawInit) (b : Bool) → is_begun v i ≡ true → Globe l b (item.Global l v i b)
 globe_tokens l v begins.None b h =
     let d = sized_declarator l v h in
-    globe d nothing (λ r k. IsGlobal.plain (d.is r k) (sized_unlisted v h))
+    globe d nothing (λ r k. (IsGlobal.plain (d.is r k) (sized_unlisted v h), name_alone (d.is r k)))
 globe_tokens l v (begins.One a) b h =
     let p = and_parts (is_declared v sized) (is_expr a) h in
     let d = sized_declarator l v p.0 in
     let x = expr_tokens a conditional_level 0 p.1 in
-    globe d (join (sign (codes "=") 0 refl) (of x)) (λ r k. IsGlobal.value (d.is (mark (codes "=") 0 ∷ x.front r) (equals_ends (x.front r))) (sized_unlisted v p.0) (x.is r))
+    globe d (join (sign (codes "=") 0 refl) (of x)) (λ r k. let i = d.is (mark (codes "=") 0 ∷ x.front r) (equals_ends (x.front r)) in (IsGlobal.value i (sized_unlisted v p.0) (x.is r), name_valued i (x.is r)))
 globe_tokens l v (begins.Items []) b h = false_true (and_parts (is_declared v listed) _ h).1
 globe_tokens l v (begins.Items (a ∷ all)) b h =
     let p = and_parts (is_declared v listed) _ h in
     let d = listed_declarator l v p.0 in
     let x = list_tokens 0 a all p.1 in
     globe d (join (sign (codes "=") 0 refl) (join (sign (codes "{") 0 refl) (of x)))
-    (λ r k. IsGlobal.list (d.is (mark (codes "=") 0 ∷ mark (codes "{") 0 ∷ x.front r) (equals_ends (mark (codes "{") 0 ∷ x.front r))) (x.is r))
+    (λ r k. let i = d.is (mark (codes "=") 0 ∷ mark (codes "{") 0 ∷ x.front r) (equals_ends (mark (codes "{") 0 ∷ x.front r)) in (IsGlobal.list i (x.is r).0, name_listed i (x.is r).1))
 
 -- ---- items
 
--- no `;` alone stands in the body of a function
-abbrev pub LeanItem : {ts rest : Tokens} {some : List RawItem} → IsItem ts some rest → Type 0
-LeanItem (IsItem.include is_stdlib) = Unit {0}
-LeanItem (IsItem.tag key) = Unit {0}
-LeanItem (IsItem.structure key h) = Unit {0}
-LeanItem (IsItem.globals s b h) = Unit {0}
-LeanItem (IsItem.prototype h) = Unit {0}
-LeanItem (IsItem.definition h p k) = NoneEmpty k
-
-abbrev pub AreLean : {ts rest : Tokens} {all : List RawItem} → AreItems ts all rest → Type 0
-AreLean AreItems.done = Unit {0}
-AreLean (AreItems.more h k) = LeanItem h × AreLean k
-
-abbrev Lean : RawItem → Tokens → Tokens → Type 0
-Lean x ts r = (d : IsItem ts (x ∷ []) r) × LeanItem d
+-- tokens of an item, among which no left-out construct is told
+abbrev One : RawItem → Tokens → Tokens → Type 0
+One x ts r = IsItem ts (x ∷ []) r × ClearItems ts r
 
 abbrev Item : RawItem → Type 0
-Item x = Run (Lean x)
+Item x = Run (One x)
 
 global_item : (l : ℕ) (v : RawVar) (i : RawInit) (b : Bool) → is_begun v i ≡ true → Item (item.Global l v i b)
 global_item l v i true h =
     let o = globe_tokens l v i true h in
     record {
       front = join (word (codes "static") l refl) (join (of_base o.based) (join o.front (sign (codes ";") 0 refl)));
-      is = λ r. (
-        IsItem.globals IsStatic.static (o.based.is (o.front.tokens (mark (codes ";") 0 ∷ r)) (o.no_int (mark (codes ";") 0 ∷ r)))
-            (IsSeparated.last (o.is (mark (codes ";") 0 ∷ r) (other_mark (codes ";") (codes "[") 0 r refl))),
-        tt,
-      );
+      is = λ r.
+          let b = o.based.is (o.front.tokens (mark (codes ";") 0 ∷ r)) (o.no_int (mark (codes ";") 0 ∷ r)) in
+          let end = other_mark (codes ";") (codes "[") 0 r refl in
+          let g = o.is (mark (codes ";") 0 ∷ r) end in (
+            IsItem.globals IsStatic.static b (IsSeparated.last g),
+            global_clear IsStatic.static b (global_no_function g (no_paren_end 0 r)) (o.clear (mark (codes ";") 0 ∷ r) end),
+          );
     }
 global_item l v i false h =
     let o = globe_tokens l v i false h in
@@ -253,16 +265,18 @@ global_item l v i false h =
       front = join (of_base o.based) (join o.front (sign (codes ";") 0 refl));
       is = λ r.
           let mid = o.front.tokens (mark (codes ";") 0 ∷ r) in
-          let all = subst (λ (n : ℕ). IsSeparated (IsGlobal n false o.base) (codes ";") mid (item.Global l v i false ∷ []) r) (sym (o.based.line mid))
-          (IsSeparated.last (o.is (mark (codes ";") 0 ∷ r) (other_mark (codes ";") (codes "[") 0 r refl))) in
-          (IsItem.globals IsStatic.external (o.based.is mid (o.no_int (mark (codes ";") 0 ∷ r))) all, tt);
+          let b = o.based.is mid (o.no_int (mark (codes ";") 0 ∷ r)) in
+          let end = other_mark (codes ";") (codes "[") 0 r refl in
+          let g = o.is (mark (codes ";") 0 ∷ r) end in
+          let all = subst (λ (n : ℕ). IsSeparated (IsGlobal n false o.base) (codes ";") mid (item.Global l v i false ∷ []) r) (sym (o.based.line mid)) (IsSeparated.last g) in
+          (IsItem.globals IsStatic.external b all, global_clear IsStatic.external b (global_no_function g (no_paren_end 0 r)) (o.clear (mark (codes ";") 0 ∷ r) end));
     }
 
 item_tokens : (x : RawItem) → is_item x ≡ true → Item x
-item_tokens (item.Include is_stdlib) h = record { front = record { tokens = λ r. of_kind Include (header is_stdlib) 0 ∷ r; spelled = λ r k. (header_is is_stdlib, k) }; is = λ r. (IsItem.include is_stdlib, tt) }
+item_tokens (item.Include is_stdlib) h = record { front = record { tokens = λ r. of_kind Include (header is_stdlib) 0 ∷ r; spelled = λ r k. (header_is is_stdlib, k) }; is = λ r. (IsItem.include is_stdlib, include_clear is_stdlib 0 r) }
 item_tokens (item.Tag l w) h =
     let p = own_parts w h in
-    record { front = join (word (codes "struct") l refl) (join (word w 0 p.0) (sign (codes ";") 0 refl)); is = λ r. (IsItem.tag p.1, tt) }
+    record { front = join (word (codes "struct") l refl) (join (word w 0 p.0) (sign (codes ";") 0 refl)); is = λ r. (IsItem.tag p.1, tag_clear p.1) }
 item_tokens (item.Struct l w []) h = false_true (and_parts (is_own_name w) _ h).1
 item_tokens (item.Struct l w (m ∷ all)) h =
     let p = and_parts (is_own_name w) _ h in
@@ -270,14 +284,16 @@ item_tokens (item.Struct l w (m ∷ all)) h =
     let x = members_tokens m all p.1 in
     record {
       front = join (word (codes "struct") l refl) (join (word w 0 q.0) (join (sign (codes "{") 0 refl) (join x.front (sign (codes ";") 0 refl))));
-      is = λ r. (IsItem.structure q.1 (x.is (mark (codes ";") 0 ∷ r)), tt);
+      is = λ r. let i = x.is (mark (codes ";") 0 ∷ r) in (IsItem.structure q.1 i.0, structure_clear q.1 i.1);
     }
 item_tokens (item.Global l v i b) h = global_item l v i b h
 item_tokens (item.Prototype l f) h =
     let x = head_of l f.name f.result f.params f.is_static h in
     record {
       front = join (of x) (sign (codes ";") 0 refl);
-      is = λ r. subst (λ (n : ℕ). Lean (item.Prototype n f) (x.front (mark (codes ";") 0 ∷ r)) r) (x.line (mark (codes ";") 0 ∷ r)) (IsItem.prototype (x.is (mark (codes ";") 0 ∷ r)), tt);
+      is = λ r.
+          let i = x.is (mark (codes ";") 0 ∷ r) in
+          subst (λ (n : ℕ). One (item.Prototype n f) (x.front (mark (codes ";") 0 ∷ r)) r) (x.line (mark (codes ";") 0 ∷ r)) (IsItem.prototype i.0, prototype_clear i.1);
     }
 item_tokens (item.Define l f body) h =
     let p = and_parts (is_head f) _ h in
@@ -288,26 +304,28 @@ item_tokens (item.Define l f body) h =
       front = join (of x) (join (sign (codes "{") 0 refl) (join y.front (sign (codes "}") 0 refl)));
       is = λ r.
           let next = mark (codes "{") 0 ∷ y.front.tokens (mark (codes "}") 0 ∷ r) in
-          subst (λ (n : ℕ). Lean (item.Define n f body) (x.front next) r) (x.line next) (IsItem.definition (x.is next) q.0 (y.is (mark (codes "}") 0 ∷ r)), y.lean (mark (codes "}") 0 ∷ r));
+          let i = x.is next in
+          subst (λ (n : ℕ). One (item.Define n f body) (x.front next) r) (x.line next)
+          (IsItem.definition i.0 q.0 (y.is (mark (codes "}") 0 ∷ r)), definition_clear i.1 (y.clear (mark (codes "}") 0 ∷ r)));
     }
 
-items_tokens : (xs : List RawItem) → list_all is_item xs ≡ true → Run (λ ts r. (d : AreItems ts xs r) × AreLean d)
-items_tokens [] h = record { front = nothing; is = λ r. (AreItems.done, tt) }
+items_tokens : (xs : List RawItem) → list_all is_item xs ≡ true → Run (λ ts r. AreItems ts xs r × ClearItems ts r)
+items_tokens [] h = record { front = nothing; is = λ r. (AreItems.done, items_done r) }
 items_tokens (x ∷ xs) h =
     let p = and_parts (is_item x) (list_all is_item xs) h in
     let y = item_tokens x p.0 in
     let z = items_tokens xs p.1 in
-    record { front = join y.front z.front; is = λ r. let a = y.is (z.front.tokens r) in let b = z.is r in (AreItems.more a.0 b.0, (a.1, b.1)) }
+    record { front = join y.front z.front; is = λ r. let a = y.is (z.front.tokens r) in let b = z.is r in (AreItems.more a.0 b.0, items_more a.1 b.1) }
 
 -- ---- programs
 
--- tokens that are spelled as their kinds are, in the grammar, and no `;` alone stands in the bodies of functions
+-- tokens that are spelled as their kinds are, in the grammar, among which no left-out construct is told
 pub record HasTokens (raw : RawProgram) : Type 0 where
   pub tokens : Tokens
   pub spelled : AreSpelled tokens
   pub is : IsProgram tokens raw
-  pub lean : AreLean is
+  pub untold : AreUntold [] tokens
 
 -- a tree that is syntax has tokens
 pub syntax_has_tokens : (raw : RawProgram) → IsSyntax raw → HasTokens raw
-syntax_has_tokens raw h = let x = items_tokens raw.items h in record { tokens = x.front.tokens []; spelled = x.front.spelled [] tt; is = (x.is []).0; lean = (x.is []).1 }
+syntax_has_tokens raw h = let x = items_tokens raw.items h in record { tokens = x.front.tokens []; spelled = x.front.spelled [] tt; is = (x.is []).0; untold = all_clear (x.is []).1 }

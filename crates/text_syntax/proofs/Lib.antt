@@ -4,6 +4,8 @@ pub mod Forms
 pub mod Exprs
 pub mod Statements
 pub mod Items
+pub mod Clear
+pub mod ClearItems
 pub mod Folds
 pub mod Types
 pub mod Equations

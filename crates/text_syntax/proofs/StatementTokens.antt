@@ -26,6 +26,8 @@ use Rattle.c_language.specs.Syntax.{is_there, binds, is_expr, is_assigned, sized
 use Rattle.c_language.proofs.Tests.{false_true}
 use Rattle.text_syntax.proofs.Forms.{are_inner}
 use Rattle.text_syntax.proofs.Folds.{standing}
+use Rattle.text_syntax.proofs.Clear as told
+use Rattle.text_syntax.proofs.Clear.{ClearInside, inside, allocation, assigned, stored, bumped, bumps, declaration, ClearStatement, ended, nothing_more, ClearBody, body_done, Joins, in_list, in_body, Same, at_end, braces_clear, ClearElse, if_clear, while_clear, do_clear, turned, for_clear, return_clear, return_value_clear, ClearLabels, labels_last, labels_more, ClearArms, arm_clear, switch_clear}
 use Rattle.text_syntax.proofs.TreeTokens.{expr_tokens}
 use Rattle.text_syntax.proofs.TypeTokens.{NoBracket}
 use Rattle.text_syntax.proofs.Runs.{Front, nothing, join, sign, word, of, of_base, Run, other_mark}
@@ -35,7 +37,7 @@ use Rattle.text_syntax.proofs.CallTokens.{call_tokens, heap_tokens, Opened, decl
 -- ---- simple statements
 
 abbrev Simple : RawStatement → Type 0
-Simple x = Run (λ ts r. IsSimple ts x r)
+Simple x = Run (λ ts r. IsSimple ts x r × ClearInside ts r)
 
 at_line : {n l : ℕ} {ts r : Tokens} (x : ℕ → RawStatement) → n ≡ l → IsSimple ts (x n) r → IsSimple ts (x l) r
 at_line {ts = ts} {r} x is h = subst (λ (n : ℕ). IsSimple ts (x n) r) is h
@@ -49,26 +51,30 @@ assign_tokens l a op b h =
     let y = expr_tokens b conditional_level 0 q.1 in
     record {
       front = join (of x) (join (sign (assign_sign op) 0 (assign_mark op q.0)) (of y));
-      is = λ r. at_line (λ n. s.Assign n a op b) (x.line (mark (assign_sign op) 0 ∷ y.front r)) (IsSimple.assign op q.0 (x.is (mark (assign_sign op) 0 ∷ y.front r)) i.0 (y.is r));
+      is = λ r.
+          let j = x.is (mark (assign_sign op) 0 ∷ y.front r) in
+          (at_line (λ n. s.Assign n a op b) (x.line (mark (assign_sign op) 0 ∷ y.front r)) (IsSimple.assign op q.0 j i.0 (y.is r)), assigned op j (y.is r));
     }
 
 bump_tokens : (l : ℕ) (a : RawExpr) (up before : Bool) → stands_step (RawStatement-F.Bump l a up before) inner ≡ true → Simple (s.Bump l a up before)
 bump_tokens l a up true h =
     let p = and_parts (is_place a) (binds a conditional_level) h in
     let x = expr_tokens a conditional_level 0 p.1 in
-    record { front = join (sign (bump_sign up) l (bump_mark up)) (of x); is = λ r. IsSimple.bump_before up (x.is r) p.0 }
+    record { front = join (sign (bump_sign up) l (bump_mark up)) (of x); is = λ r. (IsSimple.bump_before up (x.is r) p.0, bumps up (x.is r)) }
 bump_tokens l a up false h =
     let p = and_parts (is_place a) (binds a postfix_level) h in
     let x = expr_tokens a postfix_level l p.1 in
     record {
       front = join (of x) (sign (bump_sign up) 0 (bump_mark up));
-      is = λ r. at_line (λ n. s.Bump n a up false) (x.line (mark (bump_sign up) 0 ∷ r)) (IsSimple.bump_after up (x.is (mark (bump_sign up) 0 ∷ r)) p.0);
+      is = λ r.
+          let j = x.is (mark (bump_sign up) 0 ∷ r) in
+          (at_line (λ n. s.Bump n a up false) (x.line (mark (bump_sign up) 0 ∷ r)) (IsSimple.bump_after up j p.0), bumped up j);
     }
 
 call_alone : (l : ℕ) (f : Bytes) (args : List RawArg) → is_call f args ≡ true → Simple (s.Call l target.None f args)
 call_alone l f args h =
     let x = call_tokens l f args h in
-    record { front = of x; is = λ r. at_line (λ n. s.Call n target.None f args) (x.line r) (IsSimple.call (x.is r)) }
+    record { front = of x; is = λ r. (at_line (λ n. s.Call n target.None f args) (x.line r) (IsSimple.call (x.is r).0), inside (x.is r).1) }
 
 store_call : (l : ℕ) (a : RawExpr) (f : Bytes) (args : List RawArg) → is_assigned a ≡ true → is_call f args ≡ true → Simple (s.Call l (target.Place a) f args)
 store_call l a f args h k =
@@ -77,7 +83,9 @@ store_call l a f args h k =
     let y = call_tokens 0 f args k in
     record {
       front = join (of x) (join (sign (codes "=") 0 refl) (of y));
-      is = λ r. at_line (λ n. s.Call n (target.Place a) f args) (x.line (mark (codes "=") 0 ∷ y.front r)) (IsSimple.store_call (x.is (mark (codes "=") 0 ∷ y.front r)) i.0 (y.is r));
+      is = λ r.
+          let j = x.is (mark (codes "=") 0 ∷ y.front r) in
+          (at_line (λ n. s.Call n (target.Place a) f args) (x.line (mark (codes "=") 0 ∷ y.front r)) (IsSimple.store_call j i.0 (y.is r).0), stored j (inside (y.is r).1));
     }
 
 store_heap : (l : ℕ) (a : RawExpr) (cast : Option RawTypeName) (n : RawAmount) → is_assigned a ≡ true → is_heap cast n ≡ true → Simple (s.Heap l (target.Place a) cast n)
@@ -87,7 +95,9 @@ store_heap l a cast n h k =
     let y = heap_tokens cast n k in
     record {
       front = join (of x) (join (sign (codes "=") 0 refl) y.front);
-      is = λ r. at_line (λ m. s.Heap m (target.Place a) cast n) (x.line (mark (codes "=") 0 ∷ y.front.tokens r)) (IsSimple.store_heap (x.is (mark (codes "=") 0 ∷ y.front.tokens r)) i.0 (y.is r));
+      is = λ r.
+          let j = x.is (mark (codes "=") 0 ∷ y.front.tokens r) in
+          (at_line (λ m. s.Heap m (target.Place a) cast n) (x.line (mark (codes "=") 0 ∷ y.front.tokens r)) (IsSimple.store_heap j i.0 (y.is r)), stored j (allocation (y.is r)));
     }
 
 -- ---- the three kinds of statements
@@ -99,7 +109,7 @@ data Formed (p : Position) (x : RawStatement) : Type 0 where
   -- a declarator with its base, without its semicolon
   declared : takes_declaration p ≡ true → Opened x → Formed p x
   -- any other, whole
-  whole : takes_compound p ≡ true → Run (λ ts r. IsStatement ts x r) → Formed p x
+  whole : takes_compound p ≡ true → Run (λ ts r. IsStatement ts x r × ClearStatement p ts r) → Formed p x
 
 call_formed : (p : Position) (l : ℕ) (to : RawTarget) (f : Bytes) (args : List RawArg) → is_target p to ≡ true → is_call f args ≡ true → Formed p (s.Call l to f args)
 call_formed p l target.None f args h k = simple (call_alone l f args k)
@@ -113,18 +123,11 @@ heap_formed p l (target.Declared v) cast n h j k = let q = and_parts (takes_decl
 
 -- ---- lists of statements
 
--- no `;` alone stands among the statements of a list
-abbrev pub NoneEmpty : {ts rest : Tokens} {all : List RawStatement} → AreStatements ts all rest → Type 0
-NoneEmpty AreStatements.done = Unit {0}
-NoneEmpty (AreStatements.empty h) = ⊥
-NoneEmpty (AreStatements.declared h k) = NoneEmpty k
-NoneEmpty (AreStatements.more h k) = NoneEmpty k
-
 -- tokens of statements, one after another
-pub record Listed (xs : List RawStatement) : Type 0 where
+pub record Listed (C : Tokens → Tokens → Type 0) (xs : List RawStatement) : Type 0 where
   pub front : Front
   pub is : (r : Tokens) → AreStatements (front.tokens r) xs r
-  pub lean : (r : Tokens) → NoneEmpty (is r)
+  pub clear : (r : Tokens) → C (front.tokens r) r
 
 end_no_bracket : (r : Tokens) → NoBracket (mark (codes ";") 0 ∷ r)
 end_no_bracket r = other_mark (codes ";") (codes "[") 0 r refl
@@ -135,55 +138,66 @@ one_declared {x} o r =
     let mid = o.front.tokens (mark (codes ";") 0 ∷ r) in
     subst (λ (n : ℕ). IsDeclared n o.base mid x (mark (codes ";") 0 ∷ r)) (sym (o.based.line mid)) (o.is (mark (codes ";") 0 ∷ r) (end_no_bracket r))
 
-one_before : {p : Position} {x : RawStatement} {xs : List RawStatement} → Formed p x → Listed xs → Listed (x ∷ xs)
-one_before (simple a) all = record {
+-- a declaration of one name with its semicolon
+one_declaration : {x : RawStatement} (o : Opened x) (r : Tokens) → ClearInside (o.based.front (o.front.tokens (mark (codes ";") 0 ∷ r))) (mark (codes ";") 0 ∷ r)
+one_declaration o r = declaration (o.based.is (o.front.tokens (mark (codes ";") 0 ∷ r)) (o.no_int (mark (codes ";") 0 ∷ r))) (one_declared o r) (o.clear (mark (codes ";") 0 ∷ r) (end_no_bracket r))
+
+one_before : {p : Position} {C D : Tokens → Tokens → Type 0} {x : RawStatement} {xs : List RawStatement} → Joins p C D → Formed p x → Listed D xs → Listed C (x ∷ xs)
+one_before j (simple a) all = record {
   front = join a.front (join (sign (codes ";") 0 refl) all.front);
-  is = λ r. AreStatements.more (IsStatement.simple (a.is (mark (codes ";") 0 ∷ all.front.tokens r))) (all.is r);
-  lean = λ r. all.lean r;
+  is = λ r. AreStatements.more (IsStatement.simple (a.is (mark (codes ";") 0 ∷ all.front.tokens r)).0) (all.is r);
+  clear = λ r. j.simples (a.is (mark (codes ";") 0 ∷ all.front.tokens r)).1 (all.clear r);
 }
-one_before (declared t o) all = record {
+one_before j (declared t o) all = record {
   front = join (of_base o.based) (join o.front (join (sign (codes ";") 0 refl) all.front));
   is = λ r. AreStatements.declared
       (IsDeclaration.declaration (o.based.is (o.front.tokens (mark (codes ";") 0 ∷ all.front.tokens r)) (o.no_int (mark (codes ";") 0 ∷ all.front.tokens r)))
       (IsSeparated.last (one_declared o (all.front.tokens r)))) (all.is r);
-  lean = λ r. all.lean r;
+  clear = λ r. j.simples (one_declaration o (all.front.tokens r)) (all.clear r);
 }
-one_before (whole t a) all = record { front = join a.front all.front; is = λ r. AreStatements.more (a.is (all.front.tokens r)) (all.is r); lean = λ r. all.lean r }
+one_before j (whole t a) all = record {
+  front = join a.front all.front;
+  is = λ r. AreStatements.more (a.is (all.front.tokens r)).0 (all.is r);
+  clear = λ r. j.wholes (a.is (all.front.tokens r)).1 (all.clear r);
+}
 
-no_statements : Listed []
-no_statements = record { front = nothing; is = λ r. AreStatements.done; lean = λ r. tt }
+no_statements : (C : Tokens → Tokens → Type 0) → ((ts : Tokens) → C ts ts) → Listed C []
+no_statements C here = record { front = nothing; is = λ r. AreStatements.done; clear = here }
 
 -- ---- parts of statements
 
-braces : {xs : List RawStatement} → Listed xs → Run (λ ts r. IsBody ts xs r)
-braces x = record { front = join (sign (codes "{") 0 refl) (join x.front (sign (codes "}") 0 refl)); is = λ r. IsBody.braces (x.is (mark (codes "}") 0 ∷ r)) }
+braces : {xs : List RawStatement} → Listed ClearInside xs → Run (λ ts r. IsBody ts xs r × ClearStatement inner ts r)
+braces x = record {
+  front = join (sign (codes "{") 0 refl) (join x.front (sign (codes "}") 0 refl));
+  is = λ r. (IsBody.braces (x.is (mark (codes "}") 0 ∷ r)), braces_clear (x.clear (mark (codes "}") 0 ∷ r)));
+}
 
-otherwise : {xs : List RawStatement} → Listed xs → Run (λ ts r. IsElse ts xs r)
-otherwise x = let b = braces x in record { front = join (word (codes "else") 0 refl) b.front; is = λ r. IsElse.otherwise (b.is r) }
+otherwise : {xs : List RawStatement} → Listed ClearInside xs → Run (λ ts r. IsElse ts xs r × ClearElse ts r)
+otherwise x = let b = braces x in record { front = join (word (codes "else") 0 refl) b.front; is = λ r. (IsElse.otherwise (b.is r).0, told.otherwise (b.is r).1) }
 
 test : (a : RawExpr) → is_expr a ≡ true → Run (λ ts r. IsTest ts a r)
 test a h =
     let x = expr_tokens a conditional_level 0 h in
     record { front = join (sign (codes "(") 0 refl) (join (of x) (sign (codes ")") 0 refl)); is = λ r. IsTest.test (x.is (mark (codes ")") 0 ∷ r)) }
 
-init : {x : RawStatement} → Formed first x → Run (λ ts r. IsInit ts (Some x) r)
-init (simple a) = record { front = join a.front (sign (codes ";") 0 refl); is = λ r. IsInit.simple (a.is (mark (codes ";") 0 ∷ r)) }
+init : {x : RawStatement} → Formed first x → Run (λ ts r. IsInit ts (Some x) r × ClearInside ts r)
+init (simple a) = record { front = join a.front (sign (codes ";") 0 refl); is = λ r. let i = a.is (mark (codes ";") 0 ∷ r) in (IsInit.simple i.0, ended i.1) }
 init (declared t o) = record {
   front = join (of_base o.based) (join o.front (sign (codes ";") 0 refl));
-  is = λ r. IsInit.declared (o.based.is (o.front.tokens (mark (codes ";") 0 ∷ r)) (o.no_int (mark (codes ";") 0 ∷ r))) (one_declared o r);
+  is = λ r. (IsInit.declared (o.based.is (o.front.tokens (mark (codes ";") 0 ∷ r)) (o.no_int (mark (codes ";") 0 ∷ r))) (one_declared o r), ended (one_declaration o r));
 }
 init (whole t a) = false_true t
 
-no_init : Run (λ ts r. IsInit ts None r)
-no_init = record { front = sign (codes ";") 0 refl; is = λ r. IsInit.nothing }
+no_init : Run (λ ts r. IsInit ts None r × ClearInside ts r)
+no_init = record { front = sign (codes ";") 0 refl; is = λ r. (IsInit.nothing, told.no_init 0 r) }
 
-turn : {x : RawStatement} → Formed step x → Run (λ ts r. IsStep ts (Some x) r)
-turn (simple a) = record { front = join a.front (sign (codes ")") 0 refl); is = λ r. IsStep.simple (a.is (mark (codes ")") 0 ∷ r)) }
+turn : {x : RawStatement} → Formed step x → Run (λ ts r. IsStep ts (Some x) r × ClearInside ts r)
+turn (simple a) = record { front = join a.front (sign (codes ")") 0 refl); is = λ r. let i = a.is (mark (codes ")") 0 ∷ r) in (IsStep.simple i.0, turned i.1) }
 turn (declared t o) = false_true t
 turn (whole t a) = false_true t
 
-no_turn : Run (λ ts r. IsStep ts None r)
-no_turn = record { front = sign (codes ")") 0 refl; is = λ r. IsStep.nothing }
+no_turn : Run (λ ts r. IsStep ts None r × ClearInside ts r)
+no_turn = record { front = sign (codes ")") 0 refl; is = λ r. (IsStep.nothing, told.no_turn 0 r) }
 
 label_tokens : (a : RawLabel) → is_label a ≡ true → Run (λ ts r. IsLabel ts a r)
 label_tokens (Case a) h =
@@ -191,78 +205,95 @@ label_tokens (Case a) h =
     record { front = join (word (codes "case") 0 refl) (join (of x) (sign (codes ":") 0 refl)); is = λ r. IsLabel.case (x.is (mark (codes ":") 0 ∷ r)) }
 label_tokens Default h = record { front = join (word (codes "default") 0 refl) (sign (codes ":") 0 refl); is = λ r. IsLabel.default }
 
-labels_tokens : (a : RawLabel) (all : List RawLabel) → list_all is_label (a ∷ all) ≡ true → Run (λ ts r. AreLabels ts (a ∷ all) r)
-labels_tokens a [] h = let x = label_tokens a (and_parts (is_label a) true h).0 in record { front = x.front; is = λ r. AreLabels.last (x.is r) }
+labels_tokens : (a : RawLabel) (all : List RawLabel) → list_all is_label (a ∷ all) ≡ true → Run (λ ts r. AreLabels ts (a ∷ all) r × ClearLabels ts r)
+labels_tokens a [] h = let x = label_tokens a (and_parts (is_label a) true h).0 in record { front = x.front; is = λ r. (AreLabels.last (x.is r), labels_last (x.is r)) }
 labels_tokens a (b ∷ all) h =
     let p = and_parts (is_label a) (list_all is_label (b ∷ all)) h in
     let x = label_tokens a p.0 in
     let y = labels_tokens b all p.1 in
-    record { front = join x.front y.front; is = λ r. AreLabels.more (x.is (y.front.tokens r)) (y.is r) }
+    record { front = join x.front y.front; is = λ r. let i = x.is (y.front.tokens r) in (AreLabels.more i (y.is r).0, labels_more i (y.is r).1) }
 
 abbrev Arms : List RawArm → Type 0
-Arms arms = Run (λ ts r. AreArms ts arms r)
+Arms arms = Run (λ ts r. AreArms ts arms r × ClearArms ts r)
 
 no_arms : Arms []
-no_arms = record { front = sign (codes "}") 0 refl; is = λ r. AreArms.none }
+no_arms = record { front = sign (codes "}") 0 refl; is = λ r. (AreArms.none, told.no_arms 0 r) }
 
-arm_before : (labels : List RawLabel) {body : List RawStatement} {arms : List RawArm} → is_there labels ≡ true → list_all is_label labels ≡ true → Listed body → Arms arms → Arms (arm labels body ∷ arms)
+arm_before : (labels : List RawLabel) {body : List RawStatement} {arms : List RawArm} → is_there labels ≡ true → list_all is_label labels ≡ true → Listed ClearInside body → Arms arms → Arms (arm labels body ∷ arms)
 arm_before [] h k x all = false_true h
 arm_before (a ∷ labels) h k x all =
     let y = labels_tokens a labels k in
     record {
       front = join y.front (join x.front (join (word (codes "break") 0 refl) (join (sign (codes ";") 0 refl) all.front)));
-      is = λ r. AreArms.broken (y.is (x.front.tokens (name (codes "break") 0 ∷ mark (codes ";") 0 ∷ all.front.tokens r))) (x.is (name (codes "break") 0 ∷ mark (codes ";") 0 ∷ all.front.tokens r)) (all.is r);
+      is = λ r.
+          let end = name (codes "break") 0 ∷ mark (codes ";") 0 ∷ all.front.tokens r in
+          let i = y.is (x.front.tokens end) in
+          (AreArms.broken i.0 (x.is end) (all.is r).0, arm_clear i.1 (x.clear end) (all.is r).1);
     }
 
 -- ---- statements with parts
 
-abbrev Whole : RawStatement → Type 0
-Whole x = Run (λ ts r. IsStatement ts x r)
+abbrev Whole : Position → RawStatement → Type 0
+Whole p x = Run (λ ts r. IsStatement ts x r × ClearStatement p ts r)
 
-if_whole : (l : ℕ) (a : RawExpr) {b c : List RawStatement} → is_expr a ≡ true → Listed b → Listed c → Whole (s.If l a b c)
+if_whole : {p : Position} (l : ℕ) (a : RawExpr) {b c : List RawStatement} → is_expr a ≡ true → Listed ClearInside b → Listed ClearInside c → Whole p (s.If l a b c)
 if_whole l a h b c =
     let t = test a h in
     let x = braces b in
     let y = otherwise c in
-    record { front = join (word (codes "if") l refl) (join t.front (join x.front y.front)); is = λ r. IsStatement.conditional (t.is (x.front.tokens (y.front.tokens r))) (x.is (y.front.tokens r)) (y.is r) }
+    record {
+      front = join (word (codes "if") l refl) (join t.front (join x.front y.front));
+      is = λ r.
+          let i = t.is (x.front.tokens (y.front.tokens r)) in
+          let j = x.is (y.front.tokens r) in
+          (IsStatement.conditional i j.0 (y.is r).0, if_clear i j.1 (y.is r).1);
+    }
 
-while_whole : (l : ℕ) (a : RawExpr) {b : List RawStatement} → is_expr a ≡ true → Listed b → Whole (s.While l a b)
+while_whole : {p : Position} (l : ℕ) (a : RawExpr) {b : List RawStatement} → is_expr a ≡ true → Listed ClearInside b → Whole p (s.While l a b)
 while_whole l a h b =
     let t = test a h in
     let x = braces b in
-    record { front = join (word (codes "while") l refl) (join t.front x.front); is = λ r. IsStatement.while_loop (t.is (x.front.tokens r)) (x.is r) }
+    record { front = join (word (codes "while") l refl) (join t.front x.front); is = λ r. let i = t.is (x.front.tokens r) in (IsStatement.while_loop i (x.is r).0, while_clear i (x.is r).1) }
 
-do_whole : (l : ℕ) (a : RawExpr) {b : List RawStatement} → is_expr a ≡ true → Listed b → Whole (s.Do l a b)
+do_whole : {p : Position} (l : ℕ) (a : RawExpr) {b : List RawStatement} → is_expr a ≡ true → Listed ClearInside b → Whole p (s.Do l a b)
 do_whole l a h b =
     let t = test a h in
     let x = braces b in
     record {
       front = join (word (codes "do") l refl) (join x.front (join (word (codes "while") 0 refl) (join t.front (sign (codes ";") 0 refl))));
-      is = λ r. IsStatement.do_loop (x.is (name (codes "while") 0 ∷ t.front.tokens (mark (codes ";") 0 ∷ r))) (t.is (mark (codes ";") 0 ∷ r));
+      is = λ r.
+          let i = x.is (name (codes "while") 0 ∷ t.front.tokens (mark (codes ";") 0 ∷ r)) in
+          let j = t.is (mark (codes ";") 0 ∷ r) in
+          (IsStatement.do_loop i.0 j, do_clear i.1 j);
     }
 
-for_whole : (l : ℕ) (a : RawExpr) {i k : Option RawStatement} {b : List RawStatement} → is_expr a ≡ true → Run (λ ts r. IsInit ts i r) → Run (λ ts r. IsStep ts k r) → Listed b → Whole (s.For l i a k b)
+for_whole : {p : Position} (l : ℕ) (a : RawExpr) {i k : Option RawStatement} {b : List RawStatement} → is_expr a ≡ true → Run (λ ts r. IsInit ts i r × ClearInside ts r) → Run (λ ts r. IsStep ts k r × ClearInside ts r) → Listed ClearInside b → Whole p (s.For l i a k b)
 for_whole l a h i k b =
     let t = expr_tokens a conditional_level 0 h in
     let x = braces b in
     record {
       front = join (word (codes "for") l refl) (join (sign (codes "(") 0 refl) (join i.front (join (of t) (join (sign (codes ";") 0 refl) (join k.front x.front)))));
-      is = λ r. IsStatement.for_loop (i.is (t.front (mark (codes ";") 0 ∷ k.front.tokens (x.front.tokens r)))) (t.is (mark (codes ";") 0 ∷ k.front.tokens (x.front.tokens r))) (k.is (x.front.tokens r)) (x.is r);
+      is = λ r.
+          let next = k.front.tokens (x.front.tokens r) in
+          let u = i.is (t.front (mark (codes ";") 0 ∷ next)) in
+          let v = t.is (mark (codes ";") 0 ∷ next) in
+          let w = k.is (x.front.tokens r) in
+          (IsStatement.for_loop u.0 v w.0 (x.is r).0, for_clear u.1 v w.1 (x.is r).1);
     }
 
-switch_whole : (l : ℕ) (a : RawExpr) {arms : List RawArm} → is_expr a ≡ true → Arms arms → Whole (s.Switch l a arms)
+switch_whole : {p : Position} (l : ℕ) (a : RawExpr) {arms : List RawArm} → is_expr a ≡ true → Arms arms → Whole p (s.Switch l a arms)
 switch_whole l a h x =
     let t = test a h in
-    record { front = join (word (codes "switch") l refl) (join t.front (join (sign (codes "{") 0 refl) x.front)); is = λ r. IsStatement.switch (t.is (mark (codes "{") 0 ∷ x.front.tokens r)) (x.is r) }
+    record { front = join (word (codes "switch") l refl) (join t.front (join (sign (codes "{") 0 refl) x.front)); is = λ r. let i = t.is (mark (codes "{") 0 ∷ x.front.tokens r) in (IsStatement.switch i (x.is r).0, switch_clear i (x.is r).1) }
 
-block_whole : (l : ℕ) {b : List RawStatement} → Listed b → Whole (s.Block l b)
-block_whole l x = record { front = join (sign (codes "{") l refl) (join x.front (sign (codes "}") 0 refl)); is = λ r. IsStatement.block (x.is (mark (codes "}") 0 ∷ r)) }
+block_whole : {p : Position} (l : ℕ) {b : List RawStatement} → Listed ClearInside b → Whole p (s.Block l b)
+block_whole l x = record { front = join (sign (codes "{") l refl) (join x.front (sign (codes "}") 0 refl)); is = λ r. (IsStatement.block (x.is (mark (codes "}") 0 ∷ r)), braces_clear (x.clear (mark (codes "}") 0 ∷ r))) }
 
-return_whole : (l : ℕ) (a : Option RawExpr) → option_map_or is_expr a true ≡ true → Whole (s.Return l a)
-return_whole l None h = record { front = join (word (codes "return") l refl) (sign (codes ";") 0 refl); is = λ r. IsStatement.returns }
-return_whole l (Some a) h =
+return_whole : {p : Position} (l : ℕ) (a : Option RawExpr) → takes_return p ≡ true → option_map_or is_expr a true ≡ true → Whole p (s.Return l a)
+return_whole l None ends h = record { front = join (word (codes "return") l refl) (sign (codes ";") 0 refl); is = λ r. (IsStatement.returns, return_clear ends) }
+return_whole l (Some a) ends h =
     let x = expr_tokens a conditional_level 0 h in
-    record { front = join (word (codes "return") l refl) (join (of x) (sign (codes ";") 0 refl)); is = λ r. IsStatement.returns_value (x.is (mark (codes ";") 0 ∷ r)) }
+    record { front = join (word (codes "return") l refl) (join (of x) (sign (codes ";") 0 refl)); is = λ r. let i = x.is (mark (codes ";") 0 ∷ r) in (IsStatement.returns_value i, return_value_clear ends i) }
 
 -- ---- the fold
 
@@ -278,9 +309,9 @@ bare = map (λ (x : (y : RawStatement) × Given y). x.0)
 abbrev bare_arms : List ((a : RawArm) × ArmGiven a) → List RawArm
 bare_arms = map (λ (a : (b : RawArm) × ArmGiven b). a.0)
 
-list_given : (xs : List ((x : RawStatement) × Given x)) → are_inner (bare xs) ≡ true → Listed (bare xs)
-list_given [] h = no_statements
-list_given (x ∷ xs) h = let p = and_parts (stands x.0 inner) (are_inner (bare xs)) h in one_before (x.1 inner p.0) (list_given xs p.1)
+list_given : (xs : List ((x : RawStatement) × Given x)) → are_inner (bare xs) ≡ true → Listed ClearInside (bare xs)
+list_given [] h = no_statements ClearInside nothing_more
+list_given (x ∷ xs) h = let p = and_parts (stands x.0 inner) (are_inner (bare xs)) h in one_before in_list (x.1 inner p.0) (list_given xs p.1)
 
 arms_given : (xs : List ((a : RawArm) × ArmGiven a)) → all_true (map is_arm (bare_arms xs)) ≡ true → Arms (bare_arms xs)
 arms_given [] h = no_arms
@@ -349,7 +380,7 @@ of_layer (RawStatement-F.Block l b) p h =
     as_formed (s.rolls-Block l (bare b)) (whole q.0 (block_whole l (list_given b q.1)))
 of_layer (RawStatement-F.Return l a) p h =
     let q = and_parts (takes_return p) _ h in
-    as_formed (s.rolls-Return l a) (whole (return_there p q.0) (return_whole l a q.1))
+    as_formed (s.rolls-Return l a) (whole (return_there p q.0) (return_whole l a q.0 q.1))
 
 of_arm : (y : ArmParts Given ArmGiven) → ArmGiven (roll-RawArm (arm_layer Given ArmGiven y))
 of_arm y h arms all =
@@ -364,7 +395,7 @@ statement_tokens = of_every_statement Given ArmGiven
     (λ y p h. of_layer y p (ap (λ (f : Position → Bool). f p) (sym (fold-roll-RawStatement (Position → Bool) Bool stands_step arm_step (shape y))) ∙ h)) of_arm
 
 -- and so has the body of a function
-pub body_tokens : (xs : List RawStatement) → is_body xs ≡ true → Listed xs
-body_tokens [] h = no_statements
-body_tokens (x ∷ []) h = one_before (statement_tokens x final h) no_statements
-body_tokens (x ∷ (y ∷ ys)) h = let p = and_parts (stands x inner) (is_body (y ∷ ys)) h in one_before (statement_tokens x inner p.0) (body_tokens (y ∷ ys) p.1)
+pub body_tokens : (xs : List RawStatement) → is_body xs ≡ true → Listed ClearBody xs
+body_tokens [] h = no_statements ClearBody body_done
+body_tokens (x ∷ []) h = one_before at_end (statement_tokens x final h) (no_statements Same (λ ts. refl))
+body_tokens (x ∷ (y ∷ ys)) h = let p = and_parts (stands x inner) (is_body (y ∷ ys)) h in one_before in_body (statement_tokens x inner p.0) (body_tokens (y ∷ ys) p.1)

@@ -24,6 +24,7 @@ use Rattle.c_language.specs.declared.token.TokenKind.TheVariants.{Mark}
 use Rattle.c_language.proofs.Keywords.{no_int_word}
 use Rattle.c_language.proofs.Tests.{false_true}
 use Rattle.text_syntax.proofs.Forms.{type_by}
+use Rattle.text_syntax.proofs.Clear.{ClearList, list_last, list_more}
 use Rattle.text_syntax.proofs.Spelled.{AreSpelled}
 use Rattle.text_syntax.proofs.TreeTokens.{Tokened, int_tokens, int_is, int_spelled, expr_tokens}
 
@@ -306,14 +307,14 @@ listed_declarator l v h = let p = and_parts (is_own_name v.name) (reaches v.shap
 
 -- ---- lists of initialisers
 
-pub list_tokens : (l : ℕ) (a : RawExpr) (all : List RawExpr) → list_all is_expr (a ∷ all) ≡ true → Tokened (λ ts r. IsList ts (a ∷ all) r) l
+pub list_tokens : (l : ℕ) (a : RawExpr) (all : List RawExpr) → list_all is_expr (a ∷ all) ≡ true → Tokened (λ ts r. IsList ts (a ∷ all) r × ClearList ts r) l
 list_tokens l a [] h =
     let x = expr_tokens a conditional_level l (and_parts (is_expr a) true h).0 in
     record {
       front = λ r. x.front (mark (codes "}") l ∷ r);
       spelled = λ r w. x.spelled (mark (codes "}") l ∷ r) (refl, w);
       line = λ r. x.line (mark (codes "}") l ∷ r);
-      is = λ r. IsList.last (x.is (mark (codes "}") l ∷ r));
+      is = λ r. let i = x.is (mark (codes "}") l ∷ r) in (IsList.last i, list_last i);
     }
 list_tokens l a (b ∷ all) h =
     let p = and_parts (is_expr a) (list_all is_expr (b ∷ all)) h in
@@ -323,5 +324,8 @@ list_tokens l a (b ∷ all) h =
       front = λ r. x.front (mark (codes ",") l ∷ y.front r);
       spelled = λ r w. x.spelled (mark (codes ",") l ∷ y.front r) (refl, y.spelled r w);
       line = λ r. x.line (mark (codes ",") l ∷ y.front r);
-      is = λ r. IsList.more (x.is (mark (codes ",") l ∷ y.front r)) (y.is r);
+      is = λ r.
+          let i = x.is (mark (codes ",") l ∷ y.front r) in
+          let k = y.is r in
+          (IsList.more i k.0, list_more i k.1);
     }

@@ -5,14 +5,13 @@ use Rattle.std.proofs.lemmas.Bool.{and_parts, or_left, or_right, not-true, eqb-t
 use Rattle.c_language.specs.Words.{Bytes}
 use Rattle.c_language.specs.Characters.{is_digit, is_letter}
 use Rattle.c_language.specs.Constants.{constant_type, is_escape, is_one_of}
-use Rattle.c_language.specs.TokenForms.{Tokens}
 use Rattle.c_language.specs.Tokens.{AreRun, name_goes_on, number_goes_on, is_plain, IsCharacter, LacksDigit, IsLiteral, LacksTrigraph}
 use Rattle.c_language.specs.Spellings.{runs_on, is_name, is_number, ends_character, is_character, is_none_left, begins_with_digit, ends_string, begins_trigraph, has_trigraph, is_string}
 use Rattle.c_language.specs.declared.token.TokenKind.{TokenKind}
 use Rattle.c_language.specs.declared.token.TokenKind.TheVariants.{Name, Number, Character, Str, Mark, Include, Directive}
 use Rattle.c_language.proofs.Tests.{false_true, by_or}
-use Rattle.c_text_layout.proofs.Written.{HasForm, AreWritten}
-use Rattle.text_syntax.proofs.Spelled.{spelled, AreSpelled}
+use Rattle.c_text_layout.proofs.Written.{HasForm}
+use Rattle.text_syntax.proofs.Spelled.{spelled}
 
 -- ---- names and numbers
 
@@ -20,7 +19,7 @@ are_run : (goes_on : ℕ → ℕ → Bool) (b : ℕ) (run : Bytes) → runs_on g
 are_run goes_on b [] h = AreRun.none
 are_run goes_on b (c ∷ run) h = let p = and_parts (goes_on b c) (runs_on goes_on c run) h in AreRun.more p.0 (are_run goes_on c run p.1)
 
-name_form : (w : Bytes) → is_name w ≡ true → HasForm Name w
+pub name_form : (w : Bytes) → is_name w ≡ true → HasForm Name w
 name_form [] h = false_true h
 name_form (b ∷ run) h = let p = and_parts (is_letter b) (runs_on name_goes_on b run) h in HasForm.name p.0 (are_run name_goes_on b run p.1)
 
@@ -28,7 +27,7 @@ some_there : {A : Type 0} (x : Option A) → is_some x ≡ true → (a : A) × (
 some_there None h = false_true h
 some_there (Some a) h = (a, refl)
 
-number_form : (w : Bytes) → is_number w ≡ true → HasForm Number w
+pub number_form : (w : Bytes) → is_number w ≡ true → HasForm Number w
 number_form [] h = false_true h
 number_form (b ∷ run) h =
     let p = and_parts (is_digit b) _ h in
@@ -52,7 +51,7 @@ quoted_form (b ∷ (c ∷ (d ∷ []))) h =
     subst (λ (x : ℕ). IsCharacter (39 ∷ x ∷ c ∷ d ∷ [])) (is_byte b 92 p.0) (subst (λ (x : ℕ). IsCharacter (39 ∷ 92 ∷ c ∷ x ∷ [])) (is_byte d 39 q.1) (IsCharacter.escape q.0))
 quoted_form (b ∷ (c ∷ (d ∷ (e ∷ more)))) h = false_true h
 
-character_form : (w : Bytes) → is_character w ≡ true → IsCharacter w
+pub character_form : (w : Bytes) → is_character w ≡ true → IsCharacter w
 character_form [] h = false_true h
 character_form (b ∷ more) h =
     let p = and_parts (b == 39) (ends_character more) h in
@@ -96,7 +95,7 @@ trigraph_found (c ∷ front) back b h = or_right (begins_trigraph (c ∷ front +
 lacks_trigraph : (bytes : Bytes) → has_trigraph bytes ≡ false → LacksTrigraph bytes
 lacks_trigraph bytes h front back b is e = true≢false (sym (ap has_trigraph e ∙ trigraph_found front back b is) ∙ h)
 
-string_form : (w : Bytes) → is_string w ≡ true → HasForm Str w
+pub string_form : (w : Bytes) → is_string w ≡ true → HasForm Str w
 string_form [] h = false_true h
 string_form (b ∷ more) h =
     let p = and_parts (b == 34) _ h in
@@ -114,8 +113,3 @@ spelled_form Str w h = string_form w h
 spelled_form Mark w h = HasForm.mark
 spelled_form Include w h = HasForm.include
 spelled_form Directive w h = HasForm.directive
-
--- tokens that are spelled as their kinds are can be written
-pub spelled_written : (ts : Tokens) → AreSpelled ts → AreWritten ts
-spelled_written [] h = tt
-spelled_written (t ∷ ts) h = (spelled_form t.kind t.text h.0, spelled_written ts h.1)
