@@ -1,0 +1,16 @@
+mod RestLemmas
+mod SizeLemmas
+mod StateLemmas
+mod Rulesets
+mod AheadLemmas
+mod TraceLemmas
+mod ProgressLemmas
+mod MadeLemmas
+mod CallLemmas
+mod PointLemmas
+mod ValueLemmas
+mod FormatLemmas
+mod RunLemmas
+mod ActLemmas
+mod FormLemmas
+mod MachineLemmas

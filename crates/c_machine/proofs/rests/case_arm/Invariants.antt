@@ -1,0 +1,9 @@
+use Rattle.std.proofs.Common.{◌≡◌, map, drop}
+use Rattle.c_language.specs.Code as codes
+use Rattle.c_language.specs.Code.{Code}
+use Rattle.c_machine.specs.Rests.{arm_part}
+use Rattle.c_machine.proofs.rests.case_arm.Given as goal
+
+abbrev pub invariant-loop-arm : goal.invariant-loop-arm
+invariant-loop-arm l =
+    (other : Code) → codes.case_arm (map arm_part (drop l.arm-index l.arms)) l.value other ≡ codes.case_arm (map arm_part l.arms) l.value other

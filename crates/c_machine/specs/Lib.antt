@@ -1,0 +1,8 @@
+pub mod Rests
+pub mod Makings
+pub mod States
+pub mod Formats
+pub mod Traces
+pub mod Runs
+pub mod Sizes
+pub mod Progress
