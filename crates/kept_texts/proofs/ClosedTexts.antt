@@ -115,7 +115,7 @@ module _ (raw : RawProgram) where
         by_element t there None none = fine.1.0.rules 22 (Breaks.initialiser (MisusesInitialiser.no_array there none))
         by_element t there (Some u) is = constant_names a (λ none null. fine.1.0.rules 10 (Breaks.no_constant (LacksConstant.item there is c (IsNoConstant.other a none null)))) x n
 
-    begin_names : (i : RawInit) → AreFine raw (declaration raw l scope (InFile is_static) v i) → NoNames (init_exprs i)
+    pub begin_names : (i : RawInit) → AreFine raw (declaration raw l scope (InFile is_static) v i) → NoNames (init_exprs i)
     begin_names init.None fine = λ x (a, c, n). no_member a c
     begin_names (init.One e) fine = one_names e fine
     begin_names (init.Items es) fine = items_names es fine

@@ -88,7 +88,7 @@ structs_left (Some n) m = refl
 keeps_not : (s : State) → KeepsOutlines s s
 keeps_not s = record { structs_are = refl; each = kept_not s.memory.blocks; new = []; origins_are = sym (append-nil s.origins) }
 
-keeps_on : (s t u : State) → KeepsOutlines s t → KeepsOutlines t u → KeepsOutlines s u
+pub keeps_on : (s t u : State) → KeepsOutlines s t → KeepsOutlines t u → KeepsOutlines s u
 keeps_on s t u h j = record {
   structs_are = j.structs_are ∙ h.structs_are;
   each = kept_on s.memory.blocks t.memory.blocks u.memory.blocks h.each j.each;
@@ -117,7 +117,7 @@ origins_made : (i : ℕ) (o : Option Request) (os : List Origin) → origins_aft
 origins_made i None os = sym (append-nil os)
 origins_made i (Some r) os = refl
 
-keeps_after : (i : ℕ) (v : Made) (s : State) → KeepsOutlines s (after i v s)
+pub keeps_after : (i : ℕ) (v : Made) (s : State) → KeepsOutlines s (after i v s)
 keeps_after i v s =
     let begun = with_begun v.begun s.memory in
     let left = leave_block v.freed begun in
@@ -129,7 +129,7 @@ keeps_after i v s =
     }
 
 module _ (p : Executable) where
-  keeps_parameter : (x : ℕ) (s : State) (v : Value) → KeepsOutlines s (parameter_begun p x s v)
+  pub keeps_parameter : (x : ℕ) (s : State) (v : Value) → KeepsOutlines s (parameter_begun p x s v)
   keeps_parameter x s v =
       let opened = variable_opened (outside p) x s in
       keeps_on s opened (parameter_begun p x s v) (keeps_opened (outside p) x s) (record { structs_are = refl; each = kept_written (whole (length s.memory.blocks)) v opened.memory; new = []; origins_are = sym (append-nil opened.origins) })

@@ -1,0 +1,14 @@
+pub mod StateRuns
+pub mod WholeBlocks
+pub mod StoredTogether
+pub mod AlikeReads
+pub mod Kills
+pub mod OverwrittenTogether
+pub mod QuietActs
+pub mod GlobalBlocks
+pub mod KeptActs
+pub mod WantedResults
+pub mod UnkeptActs
+pub mod NotTaken
+pub mod CallersStay
+pub mod Premises

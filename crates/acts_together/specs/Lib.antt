@@ -1,0 +1,3 @@
+pub mod Likeness
+pub mod OwnGlobals
+pub mod Laws

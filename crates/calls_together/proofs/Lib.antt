@@ -1,0 +1,10 @@
+pub mod Closing
+pub mod LikeRoutines
+pub mod Resuming
+pub mod Passing
+pub mod Parameters
+pub mod OpeningFrames
+pub mod Arguments
+pub mod Entering
+pub mod Returning
+pub mod Premises

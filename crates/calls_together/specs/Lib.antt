@@ -1,0 +1,2 @@
+pub mod LikeCalls
+pub mod Laws

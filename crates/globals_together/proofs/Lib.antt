@@ -1,0 +1,6 @@
+pub mod NewBlocks
+pub mod Constants
+pub mod NamelessTrees
+pub mod ConstantGlobals
+pub mod Globals
+pub mod Openings

@@ -1,0 +1,2 @@
+pub mod GoneFrames
+pub mod Moves

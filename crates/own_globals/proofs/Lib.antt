@@ -1,0 +1,3 @@
+pub mod BegunParts
+pub mod OwnedVariables
+pub mod TextGlobals

@@ -1,0 +1,12 @@
+pub mod Sequences
+pub mod StatementParts
+pub mod NothingLeft
+pub mod Forms
+pub mod Arms
+pub mod Layers
+pub mod Functions
+pub mod Bodies
+pub mod KeptParts
+pub mod Lines
+pub mod LikePrograms
+pub mod KeptFrames

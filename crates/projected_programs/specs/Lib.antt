@@ -1,0 +1,2 @@
+pub mod LikeParts
+pub mod Laws

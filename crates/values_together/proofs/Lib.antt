@@ -1,0 +1,5 @@
+pub mod StandingObjects
+pub mod Operators
+pub mod Values
+pub mod Makings
+pub mod Acts
