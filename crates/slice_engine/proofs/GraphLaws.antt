@@ -11,7 +11,7 @@ use Rattle.dep_model.specs.declared.graph_fault.GraphFault.TheVariants.{Limit}
 use Rattle.dep_model.specs.declared.points_to.Effects.{Effects}
 use Rattle.dep_model.specs.declared.points_to.PointsTo.{PointsTo}
 use Rattle.dep_model.specs.declared.skeleton.Skeleton.{Skeleton}
-use Rattle.dep_model.specs.Graphs.{fact_words, IsGraphOf}
+use Rattle.dep_model.specs.Graphs.{fact_words, IsGraph, IsGraphOf}
 use Rattle.dep_model.specs.LocationLists.{location_list, AreListedOnce}
 use Rattle.dep_model.specs.LocationRows.{analysis_of, points_of, ArePointsRows}
 use Rattle.dep_model.specs.Skeletons.{IsSkeleton}
@@ -40,6 +40,10 @@ module _ (p : Program) (t : PointsTo) (e : Effects) (well : IsWellFormed p) (poi
     effects_are = (are_rows p (points_of p t) e (λ f l. effects_listed p (points_of p t) (named_exist p well) f l) effects).exact;
   }
 
+  -- so the program's graph is the one by these rows
+  pub graph_by_rows : (g : Graph) → IsGraphOf p g → IsGraph p (analysis_of p t e) g
+  graph_by_rows g of_program = subst (λ a. IsGraph p a g) (one_analysis p of_program.analysis (analysis_of p t e) of_program.is_analysis analysed) of_program.is_graph
+
   pub has_skeleton : (s : Skeleton) → length (location_list p) ≤ 4096 → IsSkeleton p (analysis_of p t e) s → IsWithin s.vertices → HasSkeleton p s
   has_skeleton s few is within = record {
     well_formed = well;
@@ -62,10 +66,10 @@ module _ (p : Program) (t : PointsTo) (e : Effects) (well : IsWellFormed p) (poi
   above_vertices (Err y) f h few told = λ n is. beyond_is_above few n (told n (sym h ∙ is))
 
 -- what is told of locations is told by the answer that passes it on
-pub above_locations : (p : Program) (r : Result Graph GraphFault) (f : GraphFault) → IsErrAnd r (λ e. e ≡ f)
+pub above_locations : {A : Type 0} (p : Program) (r : Result A GraphFault) (f : GraphFault) → IsErrAnd r (λ e. e ≡ f)
     → ((n : LimitName) → f ≡ Limit n → (n ≡ limit.Locations) × (4096 < length (location_list p)))
     → IfErr r (λ e. (n : LimitName) → e ≡ Limit n → IsAboveGraphLimit p n)
-above_locations p (Ok g) f h told = absurd h
+above_locations p (Ok list) f h told = absurd h
 above_locations p (Err e) f h told = λ n is.
     let own = told n (sym h ∙ is) in
     subst (IsAboveGraphLimit p) (sym own.0) (locations own.1)

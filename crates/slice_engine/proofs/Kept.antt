@@ -1,5 +1,6 @@
 -- What a slice keeps: the criterion's statements, and a set that can be projected.
 use Rattle.std.proofs.Common.{◌≡◌, ℕ, zero, suc, ◌==◌, ◌&&◌, List, [], ◌∷◌, map, slice_get, Bool, true, Some, inl, inr, refl, sym, ap, ◌∙◌, subst}
+use Rattle.std.specs.Prelude.{IsTrue}
 use Rattle.std.specs.Option.{option_map_or}
 use Rattle.std.proofs.lemmas.Bool.{eqb-true, or_cases, and_parts}
 use Rattle.std.proofs.lemmas.List.{length-map}
@@ -13,10 +14,12 @@ use Rattle.c_language.proofs.Tests.{false_true}
 use Rattle.control_nesting.proofs.WellFormedSets.{completed_is_projectable}
 use Rattle.dep_model.specs.declared.vertex.Vertex.{Vertex}
 use Rattle.dep_model.specs.declared.vertex.VertexKind.TheVariants.{Statement, Call}
+use Rattle.dep_model.specs.ClosedSets.{IsProjectable}
 use Rattle.dep_model.specs.Criteria.{is_wanted}
 use Rattle.dep_model.specs.Doings.{Doing, Does, Calls, doing_number, body_doings, functions_doings, doings_of}
 use Rattle.dep_model.specs.SystemGraph.{Analysis, IsVertex, vertices_of}
 use Rattle.dep_model.specs.VertexOrder.{in_function}
+use Rattle.dep_model.specs.Words.{ReachesAny}
 use Rattle.dep_model.proofs.Membership.{IsIn, of_map}
 use Rattle.dep_model.proofs.StartDoings.{ids}
 use Rattle.dep_model.proofs.WordLemmas.{reaches_itself}
@@ -32,6 +35,11 @@ use Rattle.slice_engine.specs.Slice.{starts_on, criterion, IsKeptSet, keeps}
 use Rattle.slice_engine.proofs.StartNumbers.{functions_agree}
 
 -- what is kept can be projected
+pub kept_able : (p : Program) (a : Analysis) (line : ℕ) (kept : List Bool) → IsWellFormed p → (k : IsKeptSet p a line kept) → IsProjectable p (vertices_of p a) k.edges kept
+kept_able p a line kept well k =
+    let wanted = length-map (vertices_of p a) (λ (v : Vertex). is_wanted (starts_on p line) v.kind) in
+    completed_is_projectable p a k.edges (starts_on p line) k.reached kept well k.are_edges (k.is_reached.size ∙ wanted) k.is_reached.members k.completes
+
 pub kept_projectable : (p : Program) (a : Analysis) (line : ℕ) (kept : List Bool) → IsWellFormed p → IsKeptSet p a line kept → CanBeProjected p a kept
 kept_projectable p a line kept well k =
     let wanted = length-map (vertices_of p a) (λ (v : Vertex). is_wanted (starts_on p line) v.kind) in
@@ -40,8 +48,12 @@ kept_projectable p a line kept well k =
       edges = k.edges;
       are_edges = k.are_edges;
       long = k.completes.completes.size ∙ k.is_reached.size ∙ wanted;
-      projectable = completed_is_projectable p a k.edges (starts_on p line) k.reached kept well k.are_edges (k.is_reached.size ∙ wanted) k.is_reached.members k.completes;
+      projectable = kept_able p a line kept well k;
     }
+
+-- and has all that reaches the criterion
+pub reaching_kept : (p : Program) (a : Analysis) (line : ℕ) (kept : List Bool) (k : IsKeptSet p a line kept) (v : ℕ) → ReachesAny k.edges (criterion p a line) v → IsTrue (has kept v)
+reaching_kept p a line kept k v reaches = k.completes.completes.holds v ((k.is_reached.members v).1 reaches)
 
 -- ---- the criterion
 

@@ -17,14 +17,16 @@ use Rattle.dep_model.specs.Graphs.{IsGraph, IsGraphOf}
 use Rattle.dep_model.specs.NamedParameters.{NamesParameter}
 use Rattle.dep_model.specs.SystemGraph.{Analysis, IsAnalysis, vertices_of}
 use Rattle.dep_model.specs.Words.{ReachesAny}
+use Rattle.dep_model.proofs.OneAnalysis.{one_analysis}
 use Rattle.two_pass.specs.Ready.{PassGraph, HasMembers}
 use Rattle.numbered_texts.proofs.CallsFit.{position_found}
 use Rattle.numbered_texts.proofs.HavingMain.{has_main}
 use Rattle.shaped_graphs.proofs.KindLaws.{entry_there}
 use Rattle.shaped_graphs.proofs.VertexLaws.{nowhere, vertex_of}
 use Rattle.slice_engine.specs.Criterion.{starts_among}
-use Rattle.slice_engine.specs.Engine.{IsPrepared, AreMembers, AreMembersIn, KeepsFrom}
+use Rattle.slice_engine.specs.Engine.{IsPrepared, AreMembers, AreMembersIn, KeepsFrom, IsKept, HasPlaces}
 use Rattle.slice_engine.specs.Slice.{starts_on, IsReached, IsKeptSet}
+use Rattle.slice_engine.proofs.CriterionLaws.{length-criterion}
 
 pub reaches_from : (g : Graph) (seen : PassGraph) (from : List ℕ) (x r : List Bool)
     → seen ≡ record { size = length g.vertices; edges = g.edges } → HasMembers from x
@@ -51,6 +53,17 @@ members_are p g line r of_program members = record {
   are_edges = of_program.is_graph.edges_are;
   is_reached = subst (λ vs. IsReached g.edges (criterion_of (starts_on p line) vs) r) of_program.is_graph.vertices_are members;
 }
+
+-- ---- sets of its vertices
+
+pub members_size : (p : Program) (g : Graph) (line : ℕ) (r : List Bool) → AreMembersIn p g line r → length r ≡ length g.vertices
+members_size p g line r members = members.size ∙ length-criterion (starts_on p line) g.vertices
+
+-- all graphs of a program have as many vertices
+pub has_places : (p : Program) (g : Graph) (s : List Bool) → IsGraphOf p g → length s ≡ length g.vertices → HasPlaces p s
+has_places p g s of_program size h also =
+    let one = one_analysis p of_program.analysis also.analysis of_program.is_analysis also.is_analysis in
+    size ∙ ap length (of_program.is_graph.vertices_are ∙ ap (vertices_of p) one ∙ sym also.is_graph.vertices_are)
 
 -- ---- its main
 
@@ -85,3 +98,10 @@ module _ (p : Program) (a : Analysis) (well : IsWellFormed p) (is : IsAnalysis p
           completes = subst (λ vs. IsCompletion g.edges (NamesParameter p vs) main.0 keeps.reached k) same (keeps.completes main.0 (subst (λ vs. IsMainEntry p vs main.0) (sym same) main.1));
         };
       }
+
+-- what is kept in the graph of a program is what the slice keeps
+pub kept_is : (p : Program) (g : Graph) (line : ℕ) (k : List Bool) → IsWellFormed p → IsGraphOf p g → KeepsFrom p g line k → IsKept p line k
+kept_is p g line k well of_program keeps = record {
+  analysis = of_program.analysis;
+  is_kept = kept_set p of_program.analysis well of_program.is_analysis line g k of_program.is_graph keeps;
+}

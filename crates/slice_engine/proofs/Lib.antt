@@ -1,5 +1,4 @@
 pub mod RankTests
-pub mod Vertices
 pub mod Kept
 pub mod CriterionRanks
 pub mod StartLemmas
@@ -14,5 +13,4 @@ pub mod EngineLaws
 pub mod SliceLaws
 pub mod OneSlice
 pub mod StartNumbers
-pub mod PointingNowhere
 pub mod Projections

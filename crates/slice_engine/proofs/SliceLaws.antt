@@ -17,7 +17,7 @@ use Rattle.c_print.specs.StartsOn.{StartsOn}
 use Rattle.c_print_laws.specs.ReadAgain.{IsReadAgain}
 use Rattle.c_print_laws.proofs.ReadAgain.{commented_is_read_again}
 use Rattle.c_print_laws.proofs.StatementStarts.{statements_start}
-use Rattle.dep_model.specs.NumberedMains.{IsNumberedMain}
+use Rattle.dep_model.specs.PointerFree.{IsPointerFree}
 use Rattle.rule_closure.proofs.ListLemmas.{contains_head, contains_cons}
 use Rattle.dep_model.specs.declared.facts.Facts.{Facts}
 use Rattle.dep_model.specs.declared.graph.Graph.{Graph}
@@ -26,9 +26,10 @@ use Rattle.projection.specs.KeptVertices.{kept_words, projection}
 use Rattle.slice_engine.specs.Slice.{starts_on, keeps, sliced, IsStartLine, header, IsSlice, is_criterion, IsAcceptedSlice, IsFaithful}
 use Rattle.slice_engine.specs.Criterion.{by_rank}
 use Rattle.slice_engine.specs.Header.{shown_lines}
+use Rattle.slice_engine.specs.Laws.{CanBeProjected}
 use Rattle.slice_engine.specs.Engine.{IsPrepared, KeepsFrom, IsSlicedAt}
 use Rattle.slice_engine.proofs.KeptSets.{kept_set}
-use Rattle.slice_engine.proofs.Kept.{criterion_kept, kept_projectable}
+use Rattle.slice_engine.proofs.Kept.{criterion_kept, kept_able, kept_projectable, reaching_kept}
 use Rattle.slice_engine.proofs.CriterionRanks.{criterion_rank}
 use Rattle.slice_engine.proofs.RankTests.{at_rank, of_rank, length-by_rank}
 use Rattle.slice_engine.proofs.Projections.{projected_well_formed, projected_words, projected_values}
@@ -164,11 +165,17 @@ module _ (p : Program) (line : ℕ) (q : Program) (in_criterion : List Bool) (we
 
 -- ---- the same values
 
--- main alone over integers gives the same values as what is read of its slice
-pub is_faithful : (p : Program) (line : ℕ) (text : Bytes) → IsWellFormed p → IsNumberedMain p → IsAcceptedSlice p line text → IsFaithful p line text
-is_faithful p line text well numbered r = record {
+-- a program over integers gives the same values as what is read of its slice
+pub is_faithful : (p : Program) (line : ℕ) (text : Bytes) → IsWellFormed p → IsPointerFree p → IsAcceptedSlice p line text → IsFaithful p line text
+is_faithful p line text well free r = record {
   accepted = r;
   same_values =
-      let there = kept_projectable p r.analysis line r.kept well r.is_kept in
-      projected_values p r.analysis r.kept well numbered there r.program (starts_on p line) (is_criterion p r.analysis line r.kept) (criterion_kept p r.analysis line r.kept well r.is_kept) (criterion_rank p r.analysis line r.kept well r.is_kept) r.same_program;
+      let able : CanBeProjected p r.analysis r.kept = record {
+        is_analysis = r.is_kept.is_analysis;
+        edges = r.is_kept.edges;
+        are_edges = r.is_kept.are_edges;
+        long = (kept_projectable p r.analysis line r.kept well r.is_kept).long;
+        projectable = kept_able p r.analysis line r.kept well r.is_kept;
+      } in
+      projected_values p r.program r.analysis r.kept (starts_on p line) (is_criterion p r.analysis line r.kept) well free able (reaching_kept p r.analysis line r.kept r.is_kept) (criterion_rank p r.analysis line r.kept well r.is_kept) r.same_program;
 }

@@ -1,6 +1,5 @@
 -- What an engine holds, and what it finds at a line.
-use Rattle.std.specs.Prelude.{◌≡◌, ℕ, ◌≤◌, ◌<◌, List, Bool, true, false, None, length, slice_index_or}
-use Rattle.built_forms.specs.BuiltForms.{beyond_integers}
+use Rattle.std.specs.Prelude.{◌≡◌, ℕ, ◌≤◌, ◌<◌, List, Bool, true, false, length, slice_index_or}
 use Rattle.c_tree.specs.declared.program.Program.{Program}
 use Rattle.c_tree.specs.Numbered.{Starts, program_starts}
 use Rattle.c_language.specs.Programs.{IsWellFormed}
@@ -14,16 +13,11 @@ use Rattle.dep_model.specs.Criteria.{criterion_of}
 use Rattle.dep_model.specs.Facts.{AreTrueFacts}
 use Rattle.dep_model.specs.Graphs.{IsGraphOf}
 use Rattle.dep_model.specs.LocationLists.{location_list}
-use Rattle.dep_model.specs.MayPoint.{MayPoint}
 use Rattle.dep_model.specs.NamedParameters.{NamesParameter}
 use Rattle.dep_model.specs.Shapes.{IsShaped}
 use Rattle.dep_model.specs.SystemGraph.{Analysis, IsAnalysis, AreSystemEdges}
 use Rattle.projection.specs.Kept.{rank}
 use Rattle.slice_engine.specs.Slice.{starts_on, criterion, keeps, sliced, IsReached, IsKeptSet}
-
--- no location of the program may point anywhere
-abbrev pub PointsNowhere : Program → Type 0
-PointsNowhere p = (l m : Location) → MayPoint p l m → ⊥
 
 -- a program's locations and its graph are within the limits
 pub record IsWithinLimits (p : Program) (g : Graph) : Type 0 where
@@ -31,15 +25,25 @@ pub record IsWithinLimits (p : Program) (g : Graph) : Type 0 where
   pub few_vertices : length g.vertices ≤ 65536
   pub few_words : g.fact_words ≤ 262144
 
--- a well-formed program over integers with its graph, the true facts of this, and its statements' starts
+-- a well-formed program with its graph, the true facts of this, and its statements' starts
 pub record IsPrepared (p : Program) (g : Graph) (facts : Facts) (starts : Starts) : Type 0 where
   pub well_formed : IsWellFormed p
-  pub over_integers : beyond_integers p ≡ None
   pub is_graph : IsGraphOf p g
   pub within : IsWithinLimits p g
   pub shaped : IsShaped g
   pub facts_are : AreTrueFacts g facts.words
   pub starts_are : starts ≡ program_starts p
+
+-- what an engine holds: all that is prepared of its program, and the program's locations
+pub record IsReady (p : Program) (list : List Location) (g : Graph) (facts : Facts) (starts : Starts) : Type 0 where
+  pub prepared : IsPrepared p g facts starts
+  pub locations_are : list ≡ location_list p
+
+-- ---- what is found at a line
+
+-- a set has a place for each vertex of the program's graph
+abbrev pub HasPlaces : Program → List Bool → Type 0
+HasPlaces p s = (g : Graph) → IsGraphOf p g → length s ≡ length g.vertices
 
 -- a set is exactly what reaches the criterion of a line, in the system graph of the program
 pub record AreMembers (p : Program) (line : ℕ) (reached : List Bool) : Type 0 where
@@ -62,6 +66,11 @@ pub record KeepsFrom (p : Program) (g : Graph) (line : ℕ) (kept : List Bool) :
   pub reached : List Bool
   pub are_members : AreMembersIn p g line reached
   pub completes : Completes p g reached kept
+
+-- a set is exactly what the slice at a line keeps, in the system graph of the program
+pub record IsKept (p : Program) (line : ℕ) (kept : List Bool) : Type 0 where
+  pub analysis : Analysis
+  pub is_kept : IsKeptSet p analysis line kept
 
 -- a program is that of the slice at a line, and these of its statements are the criterion's
 pub record IsSlicedAt (p : Program) (line : ℕ) (q : Program) (in_criterion : List Bool) : Type 0 where

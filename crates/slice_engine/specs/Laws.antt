@@ -1,14 +1,40 @@
--- Laws of sets of vertices that can be projected: what stays of a program by such a set is a program, and means what it meant.
-use Rattle.std.specs.Prelude.{◌≡◌, ℕ, List, Bool, true, length}
+-- Laws of the graph of a program, and of sets of its vertices that can be projected.
+use Rattle.std.specs.Prelude.{◌≡◌, ℕ, List, Bool, length, IsTrue}
+use Rattle.bit_rows.specs.Sets.{has}
 use Rattle.c_tree.specs.declared.program.Program.{Program}
 use Rattle.c_tree.specs.Unlined.{SameButLines}
 use Rattle.c_language.specs.Programs.{IsWellFormed}
 use Rattle.dep_model.specs.declared.edge.Edge.{Edge}
+use Rattle.dep_model.specs.declared.graph.Graph.{Graph}
+use Rattle.dep_model.specs.declared.points_to.Effects.{Effects}
+use Rattle.dep_model.specs.declared.points_to.PointsTo.{PointsTo}
 use Rattle.dep_model.specs.ClosedSets.{IsProjectable}
-use Rattle.dep_model.specs.NumberedMains.{IsNumberedMain}
+use Rattle.dep_model.specs.Criteria.{criterion_of}
+use Rattle.dep_model.specs.Graphs.{IsGraph, IsGraphOf}
+use Rattle.dep_model.specs.LocationRows.{points_of, analysis_of, ArePointsRows}
+use Rattle.dep_model.specs.PointerFree.{IsPointerFree}
 use Rattle.dep_model.specs.SystemGraph.{Analysis, IsAnalysis, vertices_of, AreSystemEdges}
+use Rattle.dep_model.specs.Words.{ReachesAny}
+use Rattle.mod_ref.specs.Effects.{AreEffectsByPlace}
 use Rattle.projection_meaning.specs.SameValues.{StandFor, HasSameValues}
 use Rattle.slice_engine.specs.Slice.{keeps, sliced}
+
+-- ---- the graph
+
+-- rows of where locations may point, and of what functions modify and use where they point so
+pub record AreRowsOf (p : Program) (t : PointsTo) (e : Effects) : Type 0 where
+  pub points_are : ArePointsRows p t
+  pub effects_are : AreEffectsByPlace p (points_of p t) e
+
+-- such rows say the analysis of a well-formed program
+abbrev pub RowsAreTheAnalysis : Type 0
+RowsAreTheAnalysis = (p : Program) (t : PointsTo) (e : Effects) → IsWellFormed p → AreRowsOf p t e → IsAnalysis p (analysis_of p t e)
+
+-- and the graph of the program is the one by them
+abbrev pub GraphIsByTheRows : Type 0
+GraphIsByTheRows = (p : Program) (t : PointsTo) (e : Effects) (g : Graph) → IsWellFormed p → AreRowsOf p t e → IsGraphOf p g → IsGraph p (analysis_of p t e) g
+
+-- ---- sets of its vertices
 
 -- a set of vertices of the program's system graph is closed under all closures, and can be projected
 pub record CanBeProjected (p : Program) (a : Analysis) (s : List Bool) : Type 0 where
@@ -23,8 +49,10 @@ abbrev pub ProjectionIsWellFormed : Type 0
 ProjectionIsWellFormed =
     (p : Program) (a : Analysis) (s : List Bool) → IsWellFormed p → CanBeProjected p a s → IsWellFormed (sliced p a s)
 
--- it gives the values of the program at each set of statements that are kept; so far of main alone over integers
+-- where the set has all that reaches a criterion, it gives the values of the program there; so far of programs over integers, with
+-- functions, recursion, globals and input
 abbrev pub ProjectionHasSameValues : Type 0
 ProjectionHasSameValues =
-    (p q : Program) (a : Analysis) (s : List Bool) (set ranks : ℕ → Bool) → IsWellFormed p → IsNumberedMain p → CanBeProjected p a s
-    → ((i : ℕ) → set i ≡ true → keeps p a s i ≡ true) → StandFor (keeps p a s) set ranks → SameButLines q (sliced p a s) → HasSameValues (keeps p a s) set ranks p q
+    (p q : Program) (a : Analysis) (s : List Bool) (set ranks : ℕ → Bool) → IsWellFormed p → IsPointerFree p → (k : CanBeProjected p a s)
+    → ((v : ℕ) → ReachesAny k.edges (criterion_of set (vertices_of p a)) v → IsTrue (has s v)) → StandFor (keeps p a s) set ranks
+    → SameButLines q (sliced p a s) → HasSameValues (keeps p a s) set ranks p q

@@ -1,27 +1,28 @@
 //! The engine: a program with its dependence graph, which gives the slice's text at each criterion.
 ghost use Rattle.std.specs.Prelude.{◌≡◌, ◌⊎◌, ◌≤◌, ◌<◌, ℕ, IfOk, IsTrue, ◌↔◌, MatchOption, None, length};
 ghost use Rattle.std.specs.Result.{IfErr};
-ghost use Rattle.built_forms.specs.BuiltForms.{beyond_integers, not_yet};
+ghost use Rattle.built_forms.specs.BuiltForms.{beyond_integers};
 ghost use Rattle.c_tree.specs.declared.limits.LimitName.{LimitName};
 ghost use Rattle.c_tree.specs.Numbered.{program_starts};
 ghost use Rattle.c_language.specs.Programs.{IsWellFormed};
 ghost use Rattle.c_language.specs.Layout.{layout};
 ghost use Rattle.dep_model.specs.declared.graph_fault.GraphFault.TheVariants.{Limit};
 ghost use Rattle.dep_model.specs.Graphs.{IsGraphOf};
+ghost use Rattle.dep_model.specs.LocationLists.{location_list};
 ghost use Rattle.projection.specs.KeptVertices.{kept_words};
 ghost use Rattle.slice_engine.specs.Criterion.{by_rank as by_rank_of};
-ghost use Rattle.slice_engine.specs.Engine.{IsPrepared, AreMembers, AreMembersIn, KeepsFrom, IsSlicedAt};
+ghost use Rattle.slice_engine.specs.Engine.{IsPrepared, IsWithinLimits, AreMembers, AreMembersIn, KeepsFrom, IsKept, HasPlaces, IsSlicedAt};
 ghost use Rattle.slice_engine.specs.GraphLimits.{IsAboveGraphLimit};
 ghost use Rattle.slice_engine.specs.Slice.{starts_on, HasStart, IsSlice, IsAcceptedSlice, IsFaithful};
 
 use crate::criterion::{any_starts_on, by_rank, criterion_set, kept_statements, starting_on};
-use crate::graph::{complete, graph_of, reach};
+use crate::graph::{complete, graph_of, locations_of, reach};
 use crate::header::{header, header_lines};
 use crate::starts::{last_line, starts_in};
 use c_print::{lines_of, print};
 use c_tree::numbered::Start;
 use c_tree::{Program, Text};
-use dep_model::{Facts, Graph, GraphFault, VertexSet};
+use dep_model::{Facts, Graph, GraphFault, Locations, VertexSet};
 use projection::project;
 use std::alloc::{AllocError, Global};
 use std::marker::Model;
@@ -41,6 +42,7 @@ pub struct Criterion {
 #[derive(Drop)]
 pub struct Engine {
     program: Program,
+    locations: Locations,
     graph: Graph,
     facts: Facts,
     starts: Vec<Start>,
@@ -50,7 +52,7 @@ impl Model for Engine {
     ghost use Rattle.c_tree.specs.declared.program.Program.{Program};
     ghost use Rattle.c_tree.specs.contracts.program.Program.{the_row};
     ghost use Rattle.std.specs.Coded.{codes};
-    ghost use Rattle.slice_engine.specs.Engine.{IsPrepared};
+    ghost use Rattle.slice_engine.specs.Engine.{IsReady};
 
     ghost Value = { Program };
 
@@ -58,36 +60,53 @@ impl Model for Engine {
 
     ghost view = { λ e. e.program };
 
-    ghost invariant = { λ e. IsPrepared e.program e.graph e.facts e.starts.items };
+    ghost invariant = { λ e. IsReady e.program e.locations e.graph e.facts e.starts.items };
 }
 
 impl Engine {
-    /// The engine of a program over integers, as [`beyond_integers`](crate::beyond_integers) tells: without pointers,
-    /// arrays, structs and memory that is allocated. It may have functions, globals, input and any control flow.
+    /// The engine of a program of any form. Its graph is that by where each location may point, whatever the order of the
+    /// statements (Andersen 1994).
     ///
     /// Err: the program has more than 4,096 locations, or its graph more than 65,536 vertices or 262,144 words of
     /// facts, of which the first is told; or no memory was left, which is also told of more than 4,294,967,295 functions.
+    /// The program is dropped then.
     pub fn new(alloc: Global, p: Program) -> Result<Engine, GraphFault>
         requires well_formed { IsWellFormed p }
-        requires over_integers { beyond_integers p ≡ None }
         ensures program { IfOk result (λ e. e ≡ p) }
         ensures within { IfOk result (λ e. (n : LimitName) → IsAboveGraphLimit p n → ⊥) }
         ensures above { IfErr result (λ f. (n : LimitName) → f ≡ Limit n → IsAboveGraphLimit p n) }
     {
-        let graph = graph_of(alloc, &p)?;
+        let locations = locations_of(alloc, &p)?;
+        let graph = graph_of(alloc, &p, &locations)?;
         let facts = summary_edges::find(alloc, &graph)?;
         let starts = starts_in(alloc, &p)?;
         Ok(Engine {
             program: p,
+            locations,
             graph,
             facts,
             starts,
         })
     }
 
-    /// The system dependence graph of the program.
+    /// The program.
+    pub fn program(&self) -> &Program
+        ensures { result.now ≡ self.now }
+    {
+        &self.program
+    }
+
+    /// The locations of the program, by their numbers.
+    pub fn locations(&self) -> &Locations
+        ensures { result.now ≡ location_list self.now }
+    {
+        &self.locations
+    }
+
+    /// The system dependence graph of the program, which is within its limits.
     pub fn graph(&self) -> &Graph
-        ensures { IsGraphOf self.now result.now }
+        ensures graph { IsGraphOf self.now result.now }
+        ensures within { IsWithinLimits self.now result.now }
     {
         &self.graph
     }
@@ -116,7 +135,8 @@ impl Engine {
     ///
     /// Err: no memory was left.
     pub fn members(&self, alloc: Global, c: Criterion) -> Result<VertexSet, AllocError>
-        ensures { IfOk result (AreMembers self.now c.line) }
+        ensures members { IfOk result (AreMembers self.now c.line) }
+        ensures size { IfOk result (HasPlaces self.now) }
     {
         let set = members_at(
             alloc,
@@ -129,15 +149,34 @@ impl Engine {
         Ok(set)
     }
 
+    /// The vertices that the slice keeps: the completion of what reaches the criterion, by which its text is a program
+    /// again (Binkley 1993).
+    ///
+    /// Err: no memory was left.
+    pub fn kept(&self, alloc: Global, c: Criterion) -> Result<VertexSet, AllocError>
+        ensures kept { IfOk result (IsKept self.now c.line) }
+        ensures size { IfOk result (HasPlaces self.now) }
+    {
+        let set = kept_at(
+            alloc,
+            &self.program,
+            &self.graph,
+            &self.facts,
+            &self.starts,
+            c.line,
+        )?;
+        Ok(set)
+    }
+
     /// The text of the slice of a program of which nothing is outside the built forms, as
-    /// [`not_yet`](crate::not_yet) tells, so far main alone over integers: a header, and the layout of the program that the kept statements
-    /// make (Binkley 1993). Each input on which the program ends gives the same values at the
+    /// [`beyond_integers`](crate::beyond_integers) tells, so far programs over integers, with functions, recursion, globals and input: a
+    /// header, and the layout of the program that the kept statements make (Binkley 1993). Each input on which the program ends gives the same values at the
     /// criterion in both.
     ///
     /// Err: no memory was left, or the layout of the slice has more than 4,294,967,296 bytes.
     pub fn slice_text(&self, alloc: Global, c: Criterion) -> Result<Text, AllocError>
         requires start { HasStart self.now c.line }
-        requires built { not_yet self.now ≡ None }
+        requires built { beyond_integers self.now ≡ None }
         ensures slice { IfOk result (λ t. IsSlice self.now c.line t) }
         ensures faithful { IfOk result (λ t. IsFaithful self.now c.line t) }
     {

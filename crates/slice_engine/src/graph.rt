@@ -2,23 +2,21 @@
 ghost use Rattle.std.specs.Prelude.{◌≡◌, ◌≤◌, ◌<◌, ◌^◌, ℕ, IfOk, OnOk, length};
 ghost use Rattle.std.specs.Result.{IfErr};
 ghost use Rattle.c_tree.specs.declared.limits.LimitName.{LimitName};
-ghost use Rattle.c_tree.specs.declared.program.Program.{Program};
 ghost use Rattle.c_language.specs.Programs.{IsWellFormed};
 ghost use Rattle.dep_model.specs.declared.graph_fault.GraphFault.TheVariants.{Limit};
 ghost use Rattle.dep_model.specs.Facts.{AreTrueFacts};
 ghost use Rattle.dep_model.specs.Graphs.{IsGraphOf};
 ghost use Rattle.dep_model.specs.LocationLists.{location_list};
-ghost use Rattle.dep_model.specs.LocationRows.{ArePointsRows};
 ghost use Rattle.dep_model.specs.Shapes.{IsShaped};
 ghost use Rattle.two_pass.specs.Ready.{HasMembers};
-ghost use Rattle.slice_engine.specs.Engine.{Completes, IsWithinLimits, PointsNowhere};
+ghost use Rattle.slice_engine.specs.Engine.{Completes, IsWithinLimits};
 ghost use Rattle.slice_engine.specs.GraphLimits.{IsAboveGraphLimit};
 ghost use Rattle.slice_engine.specs.Slice.{IsReached};
 
-use bit_rows::Rows;
 use c_tree::Program;
 use completion::Closer;
-use dep_model::{Facts, Graph, GraphFault, Locations, PointsTo, VertexId, VertexSet};
+use dep_model::{Facts, Graph, GraphFault, Locations, VertexId, VertexSet};
+use points_to::solve;
 use std::alloc::{AllocError, Global};
 use two_pass::Passes;
 use vertex_layout::lay_out;
@@ -26,32 +24,43 @@ use vertex_layout::lay_out;
 // The most functions that a program may have, so that they have numbers of 32 bits, and so has their count.
 const MAX_FUNCTIONS: usize = 4_294_967_295;
 
-/// The graph of a program in which no location points anywhere. Err: which of its quantities is above its limit; or no
-/// memory was left, which is also told of more than 4,294,967,295 functions.
-pub(crate) fn graph_of(alloc: Global, p: &Program) -> Result<Graph, GraphFault>
-    requires well_formed { IsWellFormed p.now }
-    requires nowhere { PointsNowhere p.now }
-    ensures graph { IfOk result (IsGraphOf p.now) }
-    ensures within { IfOk result (IsWithinLimits p.now) }
+/// The locations of a program. Err: there are more than 4,096 of them; or no memory was left, which is also told of more
+/// than 4,294,967,295 functions.
+pub(crate) fn locations_of(alloc: Global, p: &Program) -> Result<Locations, GraphFault>
+    requires { IsWellFormed p.now }
+    ensures list { IfOk result (λ l. l ≡ location_list p.now) }
+    ensures few { IfOk result (λ l. length (location_list p.now) ≤ 4096) }
+    ensures few_functions { IfOk result (λ l. length p.now.functions < 2 ^ 32) }
     ensures above { IfErr result (λ f. (n : LimitName) → f ≡ Limit n → IsAboveGraphLimit p.now n) }
 {
     if p.functions.len() > MAX_FUNCTIONS {
         return Err(GraphFault::NoMemory);
     }
     let locations = Locations::of(alloc, p)?;
-    let points = pointing_nowhere(alloc, &locations)?;
-    let effects = mod_ref::find(alloc, p, &locations, &points)?;
-    let skeleton = lay_out(alloc, p, &locations, &points, &effects)?;
-    let graph = program_graph::find(alloc, p, skeleton)?;
-    Ok(graph)
+    Ok(locations)
 }
 
-// Rows by which none of the locations points anywhere.
-fn pointing_nowhere(alloc: Global, locations: &Locations) -> Result<PointsTo, AllocError>
-    ensures { IfOk result (λ t. (p : Program) → locations.now ≡ location_list p → PointsNowhere p → ArePointsRows p t) }
+/// The graph of a program, by its locations: where these may point, what functions modify and use, the vertices with
+/// what they define, use and kill, and the edges. Err: which quantity of the graph is above its limit; or no memory was
+/// left.
+pub(crate) fn graph_of(
+    alloc: Global,
+    p: &Program,
+    locations: &Locations,
+) -> Result<Graph, GraphFault>
+    requires well_formed { IsWellFormed p.now }
+    requires list_is { locations.now ≡ location_list p.now }
+    requires few { length (location_list p.now) ≤ 4096 }
+    requires few_functions { length p.now.functions < 2 ^ 32 }
+    ensures graph { IfOk result (IsGraphOf p.now) }
+    ensures within { IfOk result (IsWithinLimits p.now) }
+    ensures above { IfErr result (λ f. (n : LimitName) → f ≡ Limit n → IsAboveGraphLimit p.now n) }
 {
-    let rows = Rows::new(alloc, locations.len(), locations.len())?;
-    Ok(PointsTo { rows })
+    let points = solve(alloc, p, locations)?;
+    let effects = mod_ref::find(alloc, p, locations, &points)?;
+    let skeleton = lay_out(alloc, p, locations, &points, &effects)?;
+    let graph = program_graph::find(alloc, p, skeleton)?;
+    Ok(graph)
 }
 
 /// Makes a set of vertices exactly what reaches it by matched calls and returns.

@@ -1,5 +1,16 @@
-//! Laws of sets of vertices that can be projected. Each function is a law, and holds no code: its contract is the law.
+//! Laws of the graph of a program, and of sets of its vertices that can be projected. Each function is a law, and holds no code: its contract is the law.
 ghost use Rattle.slice_engine.specs.Laws as law;
+
+/// A law: the rows of where the locations of a well-formed program may point, with those of what its functions modify and use
+/// then, say the one analysis of the program.
+pub fn rows_are_the_analysis()
+    ensures { law.RowsAreTheAnalysis }
+{}
+
+/// A law: the system graph of the program is the one by these rows.
+pub fn graph_is_by_the_rows()
+    ensures { law.GraphIsByTheRows }
+{}
 
 /// A law: the projection of a well-formed program to a set of vertices of its system graph that is closed
 /// under all closures is a well-formed program, for programs of every form.
@@ -7,8 +18,8 @@ pub fn projection_is_well_formed()
     ensures { law.ProjectionIsWellFormed }
 {}
 
-/// A law: on each input on which a well-formed program ends, its projection to such a set ends, with the same
-/// values at each set of kept statements. So far for main alone over integers.
+/// A law: on each input on which a well-formed program ends, its projection to such a set that has all that reaches a
+/// criterion ends, with the same values there. So far for programs over integers, with functions, recursion, globals and input.
 pub fn projection_has_same_values()
     ensures { law.ProjectionHasSameValues }
 {}

@@ -9,9 +9,12 @@ mod header;
 mod laws;
 mod starts;
 
-pub use built_forms::{beyond_integers, not_yet};
+pub use built_forms::beyond_integers;
 pub use c_reader::{LexFault, ParseFault, ReadRefusal, RuleFault, read_program};
 pub use c_tree::{LimitName, Program, Text};
-pub use dep_model::{Graph, GraphFault, VertexSet};
+pub use dep_model::{Graph, GraphFault, Locations, VertexSet};
 pub use engine::{Criterion, Engine};
-pub use laws::{projection_has_same_values, projection_is_well_formed};
+pub use laws::{
+    graph_is_by_the_rows, projection_has_same_values, projection_is_well_formed,
+    rows_are_the_analysis,
+};

@@ -1,11 +1,6 @@
-use Rattle.numbered_texts.proofs.PointerFreeTexts.{integers_free}
-use Rattle.numbered_texts.proofs.PointNowhere.{points_nowhere}
-use Rattle.shaped_graphs.proofs.ShapedGraphs.{graphs_are_shaped}
 use Rattle.slice_engine.proofs.GraphLaws.{none_above}
+use Rattle.shaped_graphs.proofs.ShapedGraphs.{graphs_are_shaped}
 use Rattle.slice_engine.proofs.engine.Engine.new.Goals as goal
-
-pub graph_of-requires-clause-nowhere : goal.graph_of-requires-clause-nowhere
-graph_of-requires-clause-nowhere c = points_nowhere c.args.p (integers_free c.args.p c.requires.well_formed c.requires.over_integers)
 
 pub find-requires : goal.find-requires
 find-requires c = record {
@@ -14,13 +9,15 @@ find-requires c = record {
 
 pub invariant_of-result : goal.invariant_of-result
 invariant_of-result c = record {
-  well_formed = c.requires.well_formed;
-  over_integers = c.requires.over_integers;
-  is_graph = c.in_ok-graph.ensures.graph;
-  within = c.in_ok-graph.ensures.within;
-  shaped = graphs_are_shaped c.args.p c.in_ok-graph.graph c.requires.well_formed c.in_ok-graph.ensures.graph c.in_ok-graph.ensures.within.few_vertices c.in_ok-graph.ensures.within.few_words;
-  facts_are = c.in_ok-facts.ensures.exact;
-  starts_are = c.in_ok-starts.ensures;
+  prepared = record {
+    well_formed = c.requires.well_formed;
+    is_graph = c.in_ok-graph.ensures.graph;
+    within = c.in_ok-graph.ensures.within;
+    shaped = graphs_are_shaped c.args.p c.in_ok-graph.graph c.requires.well_formed c.in_ok-graph.ensures.graph c.in_ok-graph.ensures.within.few_vertices c.in_ok-graph.ensures.within.few_words;
+    facts_are = c.in_ok-facts.ensures.exact;
+    starts_are = c.in_ok-starts.ensures;
+  };
+  locations_are = c.in_ok-locations.ensures.list;
 }
 
 pub returns-clause-within : goal.returns-clause-within
