@@ -17,9 +17,9 @@ use Rattle.clap.proofs.WalkLemmas.{raw_values-rows, first_value-rows}
 use Rattle.call_words.specs.Sorting.{Bytes, Sorted, and_sorted, none_sorted, sorted}
 use Rattle.call_words.specs.Forms.{texts}
 use Rattle.call_words.specs.declared.grammar.Command.{Command}
-use Rattle.call_words.specs.declared.grammar.Command.TheVariants.{Slice}
+use Rattle.call_words.specs.declared.grammar.Command.TheVariants.{Slice, Graph, Members}
 use Rattle.call_words.specs.Grammar as grammar
-use Rattle.call_words.specs.Grammar.{AreWanted, IsInForm, IsNumber, IsOf, IsSortedInForm, command_of, kind_at, kind_of, word}
+use Rattle.call_words.specs.Grammar.{AreWanted, IsInForm, IsNumber, IsOf, IsSortedInForm, command_of, decimal_from, kind_at, kind_of, word}
 use Rattle.call_words.specs.Requests.{Asked, CanAsk, asks, number_or, numbers_of, value_given}
 use Rattle.call_words.specs.Clap.{HasMatches, app_for, is_apart, option_names, others_found, value_found}
 use Rattle.call_words.specs.declared.grammar.Kind.{Kind}
@@ -152,29 +152,50 @@ slice_lines others wanted = λ k d lt.
     subst IsNumber (sym (tail_at others k d lt))
     (line_number 0 9999999999 (word others (k + 1)) (subst (λ o. IsSomeAnd o (λ kind. IsOf kind (word others (k + 1)))) (slice_line k) is))
 
-abbrev IsSliceOption : Bytes × Bytes → Type 0
-IsSliceOption o = IsSomeAnd (kind_of (grammar.row Slice) o.0) (λ kind. IsOf kind o.1)
+members_line : (others : List Bytes) → AreWanted (grammar.row Members) others → (1 < length others) × IsNumber (word others 1)
+members_line others wanted =
+    let both : 1 < length others = (let enough = wanted.enough in omega (arith, enough)) in
+    (both, line_number 0 9999999999 (word others 1) (wanted.each 1 both))
 
-workers_number : (given : List (Bytes × Bytes)) → Each IsSliceOption given → IfSome (value_given given (codes "workers")) IsNumber
-workers_number [] all = tt
-workers_number (o ∷ os) all = go (bytes_eq o.0 (codes "workers")) refl (workers_number os all.1)
-  where
-    go : (t : Bool) → bytes_eq o.0 (codes "workers") ≡ t → IfSome (value_given os (codes "workers")) IsNumber
-        → IfSome (option_map (λ (p : Bytes × Bytes). p.1) (cond t (Some o) (find (λ (p : Bytes × Bytes). bytes_eq p.0 (codes "workers")) os))) IsNumber
-    go true e rest =
-        line_number 1 16 o.1 (subst (λ n. IsSomeAnd (kind_of (grammar.row Slice) n) (λ kind. IsOf kind o.1)) (is_name o.0 (codes "workers") e) all.0)
-    go false e rest = rest
+-- an option whose values are numbers
+module _ (r : grammar.Row) (name : Bytes) (least greatest : ℕ) (numbers : kind_of r name ≡ Some (Number least greatest)) where
+  abbrev IsOption : Bytes × Bytes → Type 0
+  IsOption o = IsSomeAnd (kind_of r o.0) (λ kind. IsOf kind o.1)
+
+  first_number : (given : List (Bytes × Bytes)) → Each IsOption given → IfSome (value_given given name) IsNumber
+  first_number [] all = tt
+  first_number (o ∷ os) all = go (bytes_eq o.0 name) refl (first_number os all.1)
+    where
+      go : (t : Bool) → bytes_eq o.0 name ≡ t → IfSome (value_given os name) IsNumber
+          → IfSome (option_map (λ (p : Bytes × Bytes). p.1) (cond t (Some o) (find (λ (p : Bytes × Bytes). bytes_eq p.0 name) os))) IsNumber
+      go true e rest =
+          line_number least greatest o.1
+          (subst (λ k. IsSomeAnd k (λ kind. IsOf kind o.1)) numbers (subst (λ n. IsSomeAnd (kind_of r n) (λ kind. IsOf kind o.1)) (is_name o.0 name e) all.0))
+      go false e rest = rest
+
+  option_number : (s : Sorted) → IsSortedInForm r s → IfSome (value_given s.given name) IsNumber
+  option_number s form = first_number s.given (each_of IsOption s.given form.options.known)
 
 pub can_ask : (c : Command) (s : Sorted) → IsSortedInForm (grammar.row c) s → CanAsk c s.others (value_given s.given)
 can_ask Slice s form = (
   (let enough = form.others.enough in omega (arith, enough)),
   slice_lines s.others form.others,
-  workers_number s.given (each_of IsSliceOption s.given form.options.known),
+  option_number (grammar.row Slice) (codes "workers") 1 16 refl s form,
 )
+can_ask Graph s form = (
+  (let enough = form.others.enough in omega (arith, enough)),
+  option_number (grammar.row Graph) (codes "workers") 1 16 refl s form,
+)
+can_ask Members s form =
+    let line = members_line s.others form.others in
+    (line.0, line.1, option_number (grammar.row Members) (codes "workers") 1 16 refl s form)
 
 -- what was found asks for what was sorted
 pub asks_found : (c : Command) (s : Sorted) (m : ArgMatches) → HasMatches (grammar.row c) s m → asks c (others_found m) (value_found m) ≡ asks c s.others (value_given s.given)
 asks_found Slice s m has = ap₂ (λ others value. Asked.slice (word others 0) (numbers_of (drop 1 others)) (number_or 4 value)) has.words (has.values (codes "workers") refl)
+asks_found Graph s m has = ap₂ (λ others value. Asked.graph (word others 0) (number_or 4 value)) has.words (has.values (codes "workers") refl)
+asks_found Members s m has =
+    ap₂ (λ others value. Asked.members (word others 0) (decimal_from 0 (word others 1)) (number_or 4 value)) has.words (has.values (codes "workers") refl)
 
 pub can_ask_found : (c : Command) (s : Sorted) (m : ArgMatches) → HasMatches (grammar.row c) s m → CanAsk c s.others (value_given s.given) → CanAsk c (others_found m) (value_found m)
 can_ask_found Slice s m has can = (
@@ -182,10 +203,21 @@ can_ask_found Slice s m has can = (
   subst (λ others. All IsNumber (drop 1 others)) (sym has.words) can.1,
   subst (λ value. IfSome value IsNumber) (sym (has.values (codes "workers") refl)) can.2,
 )
+can_ask_found Graph s m has can = (
+  subst (λ others. 0 < length others) (sym has.words) can.0,
+  subst (λ value. IfSome value IsNumber) (sym (has.values (codes "workers") refl)) can.1,
+)
+can_ask_found Members s m has can = (
+  subst (λ others. 1 < length others) (sym has.words) can.0,
+  subst (λ others. IsNumber (word others 1)) (sym has.words) can.1,
+  subst (λ value. IfSome value IsNumber) (sym (has.values (codes "workers") refl)) can.2,
+)
 
 -- no option of a row has the name of the argument of all other words
 pub rows_apart : (c : Command) → is_apart (grammar.row c) ≡ true
 rows_apart Slice = refl
+rows_apart Graph = refl
+rows_apart Members = refl
 
 -- the command that the first word names
 pub command_is : (all : List (Bor Bytes)) (name : Bytes) (c : Option Command) → 0 < length all → (d : Bor Bytes) → name ≡ (slice_index_or all 0 d).now → c ≡ command_of (name ∷ []) → c ≡ command_of (texts all)

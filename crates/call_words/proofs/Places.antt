@@ -13,7 +13,6 @@ use Rattle.call_words.specs.Sorting.{Bytes}
 use Rattle.call_words.specs.Grammar.{Row, AreWanted, EachKnown, EachOnce, EachThere, IsNumber, IsOf, kind_at, kind_of}
 use Rattle.call_words.specs.Forms.{texts, pairs, option_view}
 use Rattle.call_words.specs.Requests.{CanAsk}
-use Rattle.call_words.specs.declared.grammar.Command.{Command}
 use Rattle.call_words.specs.declared.grammar.Command.TheVariants.{Slice}
 use Rattle.call_words.specs.declared.grammar.Kind.{Kind}
 use Rattle.call_words.specs.declared.grammar.OptionForm.{OptionForm}
@@ -238,5 +237,5 @@ rest_numbers (o ∷ os) all =
     subst (λ rest. All IsNumber (texts rest)) (sym whole) all
 
 -- behind the file stand numbers of lines
-pub line_numbers : (c : Command) (others : List (Bor Bytes)) (value : Bytes → Option Bytes) → CanAsk c (texts others) value → All IsNumber (texts (take (length others - 1) (drop 1 others)))
-line_numbers Slice others value can = rest_numbers others can.1
+pub line_numbers : (others : List (Bor Bytes)) (value : Bytes → Option Bytes) → CanAsk Slice (texts others) value → All IsNumber (texts (take (length others - 1) (drop 1 others)))
+line_numbers others value can = rest_numbers others can.1

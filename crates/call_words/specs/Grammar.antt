@@ -1,5 +1,5 @@
 -- The commands as a table, and which words are in the form of a row.
-use Rattle.std.specs.Prelude.{◌≡◌, ◌≢◌, ℕ, ◌+◌, ◌-◌, ◌*◌, ◌<◌, ◌≤◌, List, [], ◌∷◌, length, map, min, Bool, true, if◌then◌else◌, Option, None, Contains, IsSomeAnd, All, AllPairs, codes, slice_get, slice_index, slice_index_or}
+use Rattle.std.specs.Prelude.{◌≡◌, ◌≢◌, ℕ, ◌+◌, ◌-◌, ◌*◌, ◌<◌, ◌≤◌, List, [], ◌∷◌, length, map, min, Bool, true, false, if◌then◌else◌, Option, None, Contains, IsSomeAnd, All, AllPairs, codes, slice_get, slice_index, slice_index_or}
 use Rattle.std.specs.List.{find}
 use Rattle.std.specs.Option.{option_map}
 use Rattle.std.specs.Char.{IsAsciiDigit}
@@ -8,7 +8,7 @@ use Rattle.call_words.specs.Sorting.{Bytes, Sorted, sorted}
 use Rattle.call_words.specs.declared.grammar.Kind.{Kind}
 use Rattle.call_words.specs.declared.grammar.Kind.TheVariants.{File, Number}
 use Rattle.call_words.specs.declared.grammar.Command.{Command}
-use Rattle.call_words.specs.declared.grammar.Command.TheVariants.{Slice}
+use Rattle.call_words.specs.declared.grammar.Command.TheVariants.{Slice, Graph, Members}
 
 -- ---- the table
 
@@ -24,17 +24,35 @@ pub record Row : Type 0 where
 abbrev pub line : Kind
 line = Number 0 9999999999
 
+-- the option with a number of workers
+abbrev pub workers : List (Bytes × Kind)
+workers = (codes "workers", Number 1 16) ∷ []
+
 abbrev pub row : Command → Row
 row Slice = record {
   name = codes "slice";
   wanted = File ∷ line ∷ [];
   repeats = true;
-  options = (codes "workers", Number 1 16) ∷ [];
+  options = workers;
+  required = [];
+}
+row Graph = record {
+  name = codes "graph";
+  wanted = File ∷ [];
+  repeats = false;
+  options = workers;
+  required = [];
+}
+row Members = record {
+  name = codes "members";
+  wanted = File ∷ line ∷ [];
+  repeats = false;
+  options = workers;
   required = [];
 }
 
 abbrev pub commands : List Command
-commands = Slice ∷ []
+commands = Slice ∷ Graph ∷ Members ∷ []
 
 -- ---- kinds of words
 

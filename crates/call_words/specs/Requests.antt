@@ -1,13 +1,13 @@
 -- What words in the grammar ask for.
-use Rattle.std.specs.Prelude.{◌≡◌, ℕ, ◌<◌, List, [], map, drop, length, All, Option, Some, IfSome, codes}
+use Rattle.std.specs.Prelude.{◌≡◌, ℕ, ◌<◌, List, [], ◌∷◌, map, drop, length, All, Option, Some, IfSome, codes}
 use Rattle.std.specs.List.{find}
-use Rattle.std.specs.Option.{option_map, option_map_or}
+use Rattle.std.specs.Option.{option_map, option_map_or, unwrap_or}
 use Rattle.std.specs.Str.{bytes_eq}
 use Rattle.std.specs.String.{string_bytes}
 use Rattle.call_words.specs.Sorting.{Bytes, sorted}
 use Rattle.call_words.specs.Grammar.{word, decimal_from, command_of, IsInGrammar, IsNumber}
 use Rattle.call_words.specs.declared.grammar.Command.{Command}
-use Rattle.call_words.specs.declared.grammar.Command.TheVariants.{Slice}
+use Rattle.call_words.specs.declared.grammar.Command.TheVariants.{Slice, Graph, Members}
 use Rattle.call_words.specs.declared.request.Request.{Request}
 use Rattle.call_words.specs.declared.request.Request.TheVariants as request
 
@@ -15,6 +15,10 @@ use Rattle.call_words.specs.declared.request.Request.TheVariants as request
 pub data Asked : Type 0 where
   -- the slices of a file's program at these lines, by so many workers
   slice : (file : Bytes) (lines : List ℕ) (workers : ℕ) → Asked
+  -- the dependence graph of a file's program, by so many workers
+  graph : (file : Bytes) (workers : ℕ) → Asked
+  -- what reaches the statements on a line in that graph, by so many workers
+  members : (file : Bytes) (line workers : ℕ) → Asked
 
 -- the value of an option
 abbrev pub value_given : List (Bytes × Bytes) → Bytes → Option Bytes
@@ -27,9 +31,15 @@ numbers_of = map (decimal_from 0)
 abbrev pub number_or : ℕ → Option Bytes → ℕ
 number_or absent value = option_map_or (decimal_from 0) value absent
 
+-- the number of workers
+abbrev pub workers_in : (Bytes → Option Bytes) → ℕ
+workers_in value = number_or 4 (value (codes "workers"))
+
 -- what a command's other words and the values of its options ask for
 abbrev pub asks : Command → List Bytes → (Bytes → Option Bytes) → Asked
-asks Slice others value = Asked.slice (word others 0) (numbers_of (drop 1 others)) (number_or 4 (value (codes "workers")))
+asks Slice others value = Asked.slice (word others 0) (numbers_of (drop 1 others)) (workers_in value)
+asks Graph others value = Asked.graph (word others 0) (workers_in value)
+asks Members others value = Asked.members (word others 0) (decimal_from 0 (word others 1)) (workers_in value)
 
 -- what the words ask for, where they are in the grammar
 abbrev pub asked : List Bytes → Option Asked
@@ -39,10 +49,14 @@ asked words = option_map (λ c. asks c (sorted words).others (value_given (sorte
 
 abbrev pub asked_by : Request → Asked
 asked_by (request.Slice file lines workers) = Asked.slice (string_bytes file) lines.items workers
+asked_by (request.Graph file workers) = Asked.graph (string_bytes file) workers
+asked_by (request.Members file line workers) = Asked.members (string_bytes file) line workers
 
 -- the other words and the values of the options are such as a command's request can be made of
 abbrev pub CanAsk : Command → List Bytes → (Bytes → Option Bytes) → Type 0
 CanAsk Slice others value = (0 < length others) × All IsNumber (drop 1 others) × IfSome (value (codes "workers")) IsNumber
+CanAsk Graph others value = (0 < length others) × IfSome (value (codes "workers")) IsNumber
+CanAsk Members others value = (1 < length others) × IsNumber (word others 1) × IfSome (value (codes "workers")) IsNumber
 
 -- the words are in the grammar, and this request is what they ask for
 pub record IsRead (words : List Bytes) (r : Request) : Type 0 where
@@ -52,13 +66,21 @@ pub record IsRead (words : List Bytes) (r : Request) : Type 0 where
 -- the file and the lines of what is asked for
 abbrev pub file_in : Asked → Bytes
 file_in (Asked.slice file lines workers) = file
+file_in (Asked.graph file workers) = file
+file_in (Asked.members file line workers) = file
 
 abbrev pub lines_in : Asked → List ℕ
 lines_in (Asked.slice file lines workers) = lines
+lines_in (Asked.graph file workers) = []
+lines_in (Asked.members file line workers) = line ∷ []
 
--- and of the words: of words outside the grammar none
+-- what the words ask for; of words outside the grammar no slices
+abbrev pub asked_of : List Bytes → Asked
+asked_of words = unwrap_or (asked words) (Asked.slice [] [] 0)
+
+-- and the file and the lines that they name
 abbrev pub file_of : List Bytes → Bytes
-file_of words = option_map_or file_in (asked words) []
+file_of words = file_in (asked_of words)
 
 abbrev pub lines_of : List Bytes → List ℕ
-lines_of words = option_map_or lines_in (asked words) []
+lines_of words = lines_in (asked_of words)

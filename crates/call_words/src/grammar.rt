@@ -17,6 +17,10 @@ pub enum Kind {
 pub enum Command {
     /// The slices of a file's program at lines.
     Slice,
+    /// The dependence graph of a file's program.
+    Graph,
+    /// The vertices of that graph that reach the statements on a line.
+    Members,
 }
 
 /// An option, `--name value` or `--name=value`, and what its value may be.
@@ -46,7 +50,9 @@ pub struct Form {
 // The number of a line: any number.
 const LINE: Kind = Kind::Number(0, 9_999_999_999);
 
-static FILE_AND_LINES: [Kind; 2] = [Kind::File, LINE];
+static FILE: [Kind; 1] = [Kind::File];
+
+static FILE_AND_LINE: [Kind; 2] = [Kind::File, LINE];
 
 static WORKERS: [OptionForm; 1] = [OptionForm {
     name: "workers",
@@ -62,8 +68,22 @@ pub fn form_of(command: Command) -> Form
     match command {
         Command::Slice => Form {
             name: "slice",
-            wanted: FILE_AND_LINES.as_slice(),
+            wanted: FILE_AND_LINE.as_slice(),
             repeats: true,
+            options: WORKERS.as_slice(),
+            required: NONE_REQUIRED.as_slice(),
+        },
+        Command::Graph => Form {
+            name: "graph",
+            wanted: FILE.as_slice(),
+            repeats: false,
+            options: WORKERS.as_slice(),
+            required: NONE_REQUIRED.as_slice(),
+        },
+        Command::Members => Form {
+            name: "members",
+            wanted: FILE_AND_LINE.as_slice(),
+            repeats: false,
             options: WORKERS.as_slice(),
             required: NONE_REQUIRED.as_slice(),
         },

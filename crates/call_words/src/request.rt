@@ -29,10 +29,26 @@ pub enum Request {
         /// The number of workers, from 1 to 16.
         workers: u64,
     },
+    /// The dependence graph of the program in a file, by so many workers.
+    Graph {
+        /// The name of the file.
+        file: String,
+        /// The number of workers, from 1 to 16.
+        workers: u64,
+    },
+    /// The vertices of that graph that reach the statements on this line, by so many workers.
+    Members {
+        /// The name of the file.
+        file: String,
+        /// The line, counted from 1. It may be above the range of `u32`.
+        line: u64,
+        /// The number of workers, from 1 to 16.
+        workers: u64,
+    },
 }
 
 impl Request {
-    ghost use Rattle.call_words.specs.Requests.{asked_by, file_in, lines_in};
+    ghost use Rattle.call_words.specs.Requests.{asked_by, file_in};
 
     /// The name of the file.
     pub fn file(&self) -> &str
@@ -40,15 +56,8 @@ impl Request {
     {
         match self {
             Request::Slice { file, .. } => file.as_str(),
-        }
-    }
-
-    /// The lines that are asked for, in their order.
-    pub fn lines(&self) -> &[u64]
-        ensures { result.now ≡ lines_in (asked_by self.now) }
-    {
-        match self {
-            Request::Slice { lines, .. } => lines.as_slice(),
+            Request::Graph { file, .. } => file.as_str(),
+            Request::Members { file, .. } => file.as_str(),
         }
     }
 }
@@ -120,6 +129,10 @@ fn command_named(name: &str) -> Option<Command>
 {
     if name == "slice" {
         Some(Command::Slice)
+    } else if name == "graph" {
+        Some(Command::Graph)
+    } else if name == "members" {
+        Some(Command::Members)
     } else {
         None
     }
@@ -161,14 +174,23 @@ fn made(
     requires { CanAsk command (texts others.now) (value_found matches.now) }
     ensures { IfOk result (λ r. asked_by r ≡ asks command (texts others.now) (value_found matches.now)) }
 {
+    let file = String::from_str(alloc, others[0])?;
+    let workers = number_of(matches, "workers", 4);
     match command {
         Command::Slice => {
-            let file = String::from_str(alloc, others[0])?;
             let lines = numbers(alloc, &others[1..])?;
-            let workers = number_of(matches, "workers", 4);
             Ok(Request::Slice {
                 file,
                 lines,
+                workers,
+            })
+        }
+        Command::Graph => Ok(Request::Graph { file, workers }),
+        Command::Members => {
+            let line = decimal(others[1].as_bytes());
+            Ok(Request::Members {
+                file,
+                line,
                 workers,
             })
         }

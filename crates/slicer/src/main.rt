@@ -1,4 +1,5 @@
-//! The slicer: `slicer slice FILE LINE..` writes the slice of the C program in FILE at each LINE.
+//! The slicer: `slicer slice FILE LINE..` writes the slice of the C program in FILE at each LINE, `slicer graph FILE` its
+//! dependence graph, and `slicer members FILE LINE` what reaches LINE in that.
 #![tactic(auto)]
 
 use slicer_top::{Exit, FileShelf, StreamSink, run_call};

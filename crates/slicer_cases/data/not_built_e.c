@@ -4,4 +4,5 @@ int main(void) {
     c = EOF;
     c = getchar();
     getchar();
+    int *p = &c;
 }

@@ -1,3 +1,4 @@
 int main(void) {
 }
 int g;
+int *h;

@@ -2,4 +2,5 @@ int f(void) {
     return 1;
 }
 int main(void) {
+    int *p;
 }

@@ -1,6 +1,6 @@
-int f(void);
+int f(int *p);
 int main(void) {
 }
-int f(void) {
+int f(int *p) {
     return 1;
 }

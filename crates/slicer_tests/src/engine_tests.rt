@@ -1,7 +1,8 @@
 //! Graphs of programs with functions, and what reaches the statements of a line; the numbers of vertices are typed by hand.
 use crate::programs::{ADD, PICK, SETTING, THREE_READS};
+use built_forms::beyond_integers;
 use dep_model::Label;
-use slice_engine::{Engine, Graph, VertexSet, beyond_integers, read_program};
+use slice_engine::{Engine, Graph, VertexSet, read_program};
 use std::process::Abort;
 
 const SHORT: usize = 4096;

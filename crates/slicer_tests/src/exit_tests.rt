@@ -1,6 +1,6 @@
 //! Calls of the program: their arguments, and the code that they end with.
 use crate::programs::TWO;
-use crate::running::file;
+use crate::running::{USAGE, file};
 use edge_io::{MemoryShelf, MemorySink};
 use slicer_top::{Exit, run_call};
 use std::alloc::Global;
@@ -44,8 +44,8 @@ fn a_call_ends_with_the_code_of_its_status(rt: HostRuntime) -> Result<(), Fail> 
     let rows = [
         ("slicer slice two.c 7", 0, ""),
         ("slicer slice two.c 9", 1, "9: no statement starts here\n"),
-        ("slicer", 2, "usage: slicer slice FILE LINE..\n"),
-        ("slice two.c 7", 2, "usage: slicer slice FILE LINE..\n"),
+        ("slicer", 2, USAGE),
+        ("slice two.c 7", 2, USAGE),
         ("slicer slice no.c 7", 3, "cannot read no.c\n"),
     ];
     for (line, code, told) in rows {
@@ -57,7 +57,7 @@ fn a_call_ends_with_the_code_of_its_status(rt: HostRuntime) -> Result<(), Fail> 
 #[test]
 fn a_call_whose_arguments_are_not_read_writes_no_slice(rt: HostRuntime) -> Result<(), Fail> {
     let not_utf8 = Err(io::Error::from(ErrorKind::InvalidData));
-    ends_with(&rt, not_utf8, 2, "usage: slicer slice FILE LINE..\n")?;
+    ends_with(&rt, not_utf8, 2, USAGE)?;
     let no_memory = Err(io::Error::from(ErrorKind::OutOfMemory));
     ends_with(&rt, no_memory, 5, "")
 }

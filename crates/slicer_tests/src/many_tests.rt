@@ -1,6 +1,6 @@
 //! Calls with several lines and with options.
 use crate::programs::TWO;
-use crate::running::{Ended, NONE_FAILING, ends, file, is_end, run, split_words};
+use crate::running::{Ended, NONE_FAILING, USAGE, ends, file, is_end, run, split_words};
 use edge_io::{MemoryShelf, MemorySink};
 use slicer_top::{Status, Text, run_slicer};
 use std::alloc::{AllocError, Global};
@@ -21,8 +21,6 @@ int main(void) {
     int b = 2;
 }
 "#;
-
-const USAGE: &str = "usage: slicer slice FILE LINE..\n";
 
 const LOOPS: &str = r#"#include <stdio.h>
 int main(void) {

@@ -2,11 +2,11 @@
 ghost use Rattle.std.specs.Prelude.{◌≡◌, ◌⊎◌, ◌≤◌, List, IfOk, length};
 ghost use Rattle.c_language.specs.Words.{Bytes};
 ghost use Rattle.call_words.specs.Grammar.{IsInGrammar};
-ghost use Rattle.call_words.specs.Requests.{file_of, lines_of};
-ghost use Rattle.slicer_top.specs.Slices.{StartsSome, AreSlices, joined};
+ghost use Rattle.call_words.specs.Requests.{asked_of, file_of};
+ghost use Rattle.slicer_top.specs.Slices.{StartsSome, AreWritten, joined};
 
 use crate::programs::TWO;
-use crate::running::{Ended, Failing, NONE_FAILING, file, is_end, run, split_words};
+use crate::running::{Ended, Failing, NONE_FAILING, USAGE, file, is_end, run, split_words};
 use edge_io::{MemoryShelf, MemorySink};
 use slicer_top::{Status, Text, run_slicer};
 use std::alloc::{AllocError, Global};
@@ -38,12 +38,10 @@ int main(void) {
 }
 "#;
 
-const USAGE: &str = "usage: slicer slice FILE LINE..\n";
-
 const MAX_FILE_BYTES: usize = 1_048_576;
 
-// Over one file and sinks in memory without failing numbers, with room for the slices and for `out of memory`:
-// the slices are written, or memory was wanting.
+// Over one file and sinks in memory without failing numbers, with room for what is asked and for `out of memory`:
+// that is written, or memory was wanting.
 fn run_without_failing(
     alloc: Global,
     words: &[Text],
@@ -52,8 +50,8 @@ fn run_without_failing(
     room: usize,
 ) -> Result<Status, AllocError>
     ensures { IfOk result (λ status. IsInGrammar words.now → name ≡ file_of words.now → length text ≤ 1048576
-        → StartsSome text (lines_of words.now)
-        → ((texts : List Bytes) → AreSlices text (lines_of words.now) texts → length (joined texts) ≤ room)
+        → StartsSome text (asked_of words.now)
+        → ((texts : List Bytes) → AreWritten text (asked_of words.now) texts → length (joined texts) ≤ room)
         → (status ≡ Status.Done) ⊎ (status ≡ Status.NoMemory)) }
 {
     let mut files = Vec::new(alloc);
@@ -87,6 +85,8 @@ fn a_file_that_is_not_there_is_told(rt: HostRuntime) -> Result<(), Fail> {
     let rows = [
         ("slice no.c 1", "cannot read no.c\n"),
         ("slice two.c/ 7", "cannot read two.c/\n"),
+        ("graph no.c", "cannot read no.c\n"),
+        ("members no.c 7", "cannot read no.c\n"),
     ];
     for (line, err) in rows {
         ends_on_two(&rt, line, &NONE_FAILING, (Status::ReadFault, "", err))?;
@@ -132,6 +132,16 @@ fn other_words_are_told_the_usage(rt: HostRuntime) -> Result<(), Fail> {
         "Slice two.c 7",
         "slices two.c 7",
         "run two.c",
+        "graph",
+        "graph two.c 7",
+        "graph two.c two.c",
+        "graph two.c --lines 7",
+        "graph two.c --workers 0",
+        "members two.c",
+        "members two.c 7 7",
+        "members two.c x",
+        "members 7 two.c",
+        "graphs two.c",
         "two.c 7",
         "--help",
         "help",

@@ -26,6 +26,9 @@ pub(crate) const NONE_FAILING: Failing<'static> = Failing {
     err: &[],
 };
 
+/// The line on err where the words are outside the grammar.
+pub(crate) const USAGE: &str = "usage: slicer slice FILE LINE.. | graph FILE | members FILE LINE\n";
+
 pub(crate) fn run(
     alloc: Global,
     words: &[Text],

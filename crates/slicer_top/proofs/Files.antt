@@ -1,9 +1,10 @@
 -- What is told of a file, and what its causes rule out.
-use Rattle.std.proofs.Common.{◌≡◌, ◌⊎◌, inl, inr, ℕ, ◌≤◌, ◌<◌, List, length, refl, sym, subst, arith}
+use Rattle.std.proofs.Common.{◌≡◌, ◌⊎◌, inl, inr, ℕ, ◌≤◌, ◌<◌, length, refl, sym, subst, arith}
 use Rattle.std.specs.Prelude.{Option, Some, None, IsSome, IsSomeAnd, Result, Ok, Err, IfErr, IsErrAnd}
 use Rattle.edge_io.specs.Contents.{Told, Lacks, HoldsMoreThan}
 use Rattle.edge_io.specs.Count.{Rose}
 use Rattle.c_language.specs.Words.{Bytes}
+use Rattle.call_words.specs.Requests.{Asked, lines_in}
 use Rattle.c_lex.specs.declared.fault.LexFault.TheVariants as lex
 use Rattle.c_parse.specs.declared.parse_fault.ParseFault.TheVariants as parse
 use Rattle.c_types.specs.declared.rule_fault.RuleFault.TheVariants as rule
@@ -80,7 +81,7 @@ more_some : (told : Told) (name : Bytes) (most : ℕ) → HoldsMoreThan told nam
 more_some None name most more = absurd more
 more_some (Some under) name most more = refl
 
-module _ (told : Told) (file : Bytes) (at : List ℕ) (f f' l l' : ℕ) where
+module _ (told : Told) (file : Bytes) (at : Asked) (f f' l l' : ℕ) where
   -- what a refusal's status says of the fetch
   pub read_cause : (r : Refusal) → status_of r ≡ status.ReadFault → IsCause told file at f f' l l' r → Rose f f' ⊎ Lacks told file
   read_cause Unreadable is cause = cause
@@ -149,7 +150,7 @@ module _ (told : Told) (file : Bytes) (at : List ℕ) (f f' l l' : ℕ) where
   longer_is NoMemory cause more = inr (inl refl)
 
 -- a text that is there and isn't too long couldn't be read for a fault, or shows the refusal
-pub fault_or_reason : (told : Told) (file : Bytes) (at : List ℕ) (f f' l l' : ℕ) (text : Bytes) (refusal : Refusal) → HoldsText told file text → length text ≤ 1048576 → IsCause told file at f f' l l' refusal → ((refusal ≡ Unreadable) × Rose f f') ⊎ IsReason text at refusal
+pub fault_or_reason : (told : Told) (file : Bytes) (at : Asked) (f f' l l' : ℕ) (text : Bytes) (refusal : Refusal) → HoldsText told file text → length text ≤ 1048576 → IsCause told file at f f' l l' refusal → ((refusal ≡ Unreadable) × Rose f f') ⊎ IsReason text at refusal
 fault_or_reason told file at f f' l l' text Unreadable holds le (inl rose) = inl (refl, rose)
 fault_or_reason told file at f f' l l' text Unreadable holds le (inr lacks) = absurd (not_lacking told file text holds lacks)
 fault_or_reason told file at f f' l l' text TooLong holds le cause =
@@ -164,7 +165,7 @@ fault_or_reason told file at f f' l l' text TooMany holds le cause = inr (of_fil
 fault_or_reason told file at f f' l l' text NoMemory holds le cause = inr tt
 
 -- a text with a statement on each line shows that memory was wanting alone
-no_reason : (text : Bytes) (at : List ℕ) (refusal : Refusal) → StartsSome text at → IsReason text at refusal → refusal ≡ NoMemory
+no_reason : (text : Bytes) (at : Asked) (refusal : Refusal) → StartsSome text at → IsReason text at refusal → refusal ≡ NoMemory
 no_reason text at Unreadable starts reason = absurd reason
 no_reason text at TooLong starts reason = absurd reason
 no_reason text at (Lex fault) starts reason = absurd (only_memory text (read.Lex fault) reason starts.program starts.built.reads)
@@ -177,7 +178,7 @@ no_reason text at (NotYet first) starts (p, has, outside) =
 no_reason text at (NoStart line) starts (p, built, first) =
     let here = starts.starts first.place first.within in
     absurd (first.none (subst (HasStart p) (sym first.is_line)
-    (subst (λ q. HasStart q (line_at at first.place)) (sym (one_program text p starts.program built.reads starts.built.reads)) here)))
+    (subst (λ q. HasStart q (line_at (lines_in at) first.place)) (sym (one_program text p starts.program built.reads starts.built.reads)) here)))
 no_reason text at (Graph name) starts (p, built, above) =
     absurd (starts.built.within name (subst (λ q. IsAboveGraphLimit q name) (one_program text p starts.program built.reads starts.built.reads) above))
 no_reason text at TooMany starts (p, built, many) = let few = starts.few in absurd (omega (arith, many, few))
@@ -191,14 +192,14 @@ memory_told faults faults' before after file result calm (inr (inl put)) = put.0
 memory_told faults faults' before after file result calm (inr (inr cut)) = absurd (calm cut.1.0)
 
 -- a refusal of the reader that the text shows is one of the text
-pub reading_shows : (text : Bytes) (at : List ℕ) (r : ReadRefusal) → IsRight text (Err r) → IsReason text at (of_reading r)
+pub reading_shows : (text : Bytes) (at : Asked) (r : ReadRefusal) → IsRight text (Err r) → IsReason text at (of_reading r)
 reading_shows text at (read.Lex fault) is = is
 reading_shows text at (read.Parse fault) is = is
 reading_shows text at (read.Check fault) is = is
 reading_shows text at read.NoMemory is = is
 
 -- a fault of the graph of the text's program is one of the text
-pub graph_shows : (text : Bytes) (at : List ℕ) (p : Program) (fault : GraphFault) → HasBuilt text p → ((name : LimitName) → fault ≡ graph.Limit name → IsAboveGraphLimit p name) → IsReason text at (of_graph fault)
+pub graph_shows : (text : Bytes) (at : Asked) (p : Program) (fault : GraphFault) → HasBuilt text at p → ((name : LimitName) → fault ≡ graph.Limit name → IsAboveGraphLimit p name) → IsReason text at (of_graph fault)
 graph_shows text at p (graph.Limit name) built above = (p, built, above name refl)
 graph_shows text at p graph.NoMemory built above = tt
 
@@ -207,7 +208,7 @@ pub passes_on : {A : Type 0} (P : Refusal → Type 0) (refusal : Refusal) (passe
 passes_on P refusal (Ok x) is holds = absurd is
 passes_on P refusal (Err y) is holds = subst P (sym is) holds
 
-module _ (told : Told) (file text : Bytes) (at : List ℕ) (f f' l l' : ℕ) (refusal : Refusal) where
+module _ (told : Told) (file text : Bytes) (at : Asked) (f f' l l' : ℕ) (refusal : Refusal) where
   -- where a statement starts on each line, and no fault came, memory was wanting
   memory_alone : HoldsText told file text → length text ≤ 1048576 → StartsSome text at → (refusal ≡ Unreadable → Rose f f' → ⊥) → IsCause told file at f f' l l' refusal → refusal ≡ NoMemory
   memory_alone holds le starts calm cause = elim (fault_or_reason told file at f f' l l' text refusal holds le cause) [

@@ -1,13 +1,12 @@
 -- What a call has promised, by the way that it went.
 use Rattle.std.proofs.Common.{◌≡◌, ◌⊎◌, inl, inr, ℕ, List, length, ◌≤◌, refl, sym, ap, subst, ◌∙◌}
 use Rattle.std.specs.Prelude.{Option, None, Some, IfSome, unwrap_or, []}
-use Rattle.std.specs.Option.{option_map_or}
 use Rattle.edge_io.specs.Contents.{Told, Lacks}
 use Rattle.edge_io.specs.Count.{Rose, one_more}
 use Rattle.edge_io.specs.Written.{Gains}
 use Rattle.c_language.specs.Words.{Bytes}
 use Rattle.call_words.specs.Grammar.{IsInGrammar}
-use Rattle.call_words.specs.Requests.{Asked, asked, file_in, file_of, lines_in, lines_of}
+use Rattle.call_words.specs.Requests.{Asked, asked, asked_of, file_in, file_of, lines_in, lines_of}
 use Rattle.c_lex.specs.declared.fault.LexFault.TheVariants as lex
 use Rattle.c_parse.specs.declared.parse_fault.ParseFault.TheVariants as parse
 use Rattle.c_types.specs.declared.rule_fault.RuleFault.TheVariants as rule
@@ -21,7 +20,7 @@ use Rattle.slicer_top.specs.Lines.{PutOrCutOff, Tells}
 use Rattle.slicer_top.specs.Promises.{Outcome, Promises}
 use Rattle.slicer_top.specs.Reports.{IsAmong, IsCause, IsReported, PutsLine, status_of, words_of}
 use Rattle.slicer_top.specs.Seen.{ShelfSeen, SinkSeen, shelf_seen, sink_seen}
-use Rattle.slicer_top.specs.Slices.{AreSlices}
+use Rattle.slicer_top.specs.Slices.{AreWritten}
 use Rattle.slicer_top.specs.Statuses.{IsOrYields}
 use Rattle.slicer_top.specs.Writing.{Wrote}
 use Rattle.slicer_top.proofs.Files.{fault_or_reason, lacking_is, long_cause, longer_is, of_file, of_file_lacks, of_file_longer, of_file_map, read_cause, refused_for_memory, refused_without_fault}
@@ -42,7 +41,7 @@ IsEarly status.NoMemory = Unit {0}
 IsEarly status.Limit = ⊥
 IsEarly status.TooLong = ⊥
 
--- once the slices are made
+-- once what is asked for is made
 abbrev IsLate : Status → Type 0
 IsLate status.Done = Unit {0}
 IsLate status.Refused = ⊥
@@ -132,7 +131,7 @@ module _ (words : List Bytes) (shelf : ShelfSeen) (out err : SinkSeen) (answer :
     tells = told_tells err.faults err.faults' err.written err.written' (file_of words) (lines_of words) _ _ answer lines.of_memory (inr cut);
   }
 
-  -- ---- the slices were made
+  -- ---- what is asked for was made
 
   late : (texts : List Bytes) → Wrote texts out err answer → IsLate answer
   late texts wrote = elim wrote.ends [
@@ -140,9 +139,9 @@ module _ (words : List Bytes) (shelf : ShelfSeen) (out err : SinkSeen) (answer :
     | inr front ↦ subst IsLate (sym front.is) tt
   ]
 
-  -- the slices that were made of the file's text, at the lines that the words name
+  -- the texts that were made of the file's text, as the words ask
   abbrev AreMade : List Bytes → Type 0
-  AreMade texts = OfFile shelf.contents (file_of words) (λ text. (length text ≤ 1048576) × AreSlices text (lines_of words) texts)
+  AreMade texts = OfFile shelf.contents (file_of words) (λ text. (length text ≤ 1048576) × AreWritten text (asked_of words) texts)
 
   written_outcome : (texts : List Bytes) → IsInGrammar words → AreMade texts → shelf.contents' ≡ shelf.contents → shelf.fetches' ≡ one_more shelf.fetches → (shelf.never_fails → shelf.faults' ≡ shelf.faults) → Wrote texts out err answer
       → Outcome words shelf out err answer
@@ -160,11 +159,11 @@ module _ (words : List Bytes) (shelf : ShelfSeen) (out err : SinkSeen) (answer :
         refused = λ e. absurd (subst IsLate e is_late);
         no_slice = λ text named below none.
             let are = (of_file shelf.contents (file_of words) text _ named.holds made).1 in
-            absurd (none are.program are.built (λ i lt. (are.each i lt).starts));
+            absurd (none are.program are.built are.starts);
         limits = λ e. absurd (subst IsLate e is_late);
         above = λ text name named above.
             let are = (of_file shelf.contents (file_of words) text _ named.holds made).1 in
-            absurd (above_lacks text (lines_of words) name above are.program are.built are.few);
+            absurd (above_lacks text (asked_of words) name above are.program are.built are.few);
         names_limit = λ text name named above e. absurd (subst IsLate e is_late);
         done = λ e. elim wrote.ends [
           | inl all ↦ of_file_map shelf.contents (file_of words) _ _ (λ text found. (texts, found.1, all.gained)) made
@@ -212,7 +211,7 @@ module _ (words : List Bytes) (shelf : ShelfSeen) (out err : SinkSeen) (answer :
     ];
   }
 
-  -- ---- the file gives no slices
+  -- ---- the file gives nothing of what is asked
 
   own : (r : Refusal) → IsOwn (status_of r)
   own refusal.Unreadable = tt
@@ -269,7 +268,7 @@ module _ (words : List Bytes) (shelf : ShelfSeen) (out err : SinkSeen) (answer :
   ]
 
   abbrev Cause : Refusal → Type 0
-  Cause r = IsCause shelf.contents (file_of words) (lines_of words) shelf.faults shelf.faults' shelf.long_files shelf.long_files' r
+  Cause r = IsCause shelf.contents (file_of words) (asked_of words) shelf.faults shelf.faults' shelf.long_files shelf.long_files' r
 
   abbrev Reported : Refusal → Type 0
   Reported r = IsReported err.faults err.faults' err.written err.written' (file_of words) r answer
@@ -278,29 +277,29 @@ module _ (words : List Bytes) (shelf : ShelfSeen) (out err : SinkSeen) (answer :
       → (shelf.never_fails → shelf.faults' ≡ shelf.faults) → (shelf.never_fails → r ≡ refusal.Unreadable → Lacks shelf.contents (file_of words))
       → (r ≡ refusal.NoMemory → err.takes 14 → (answer ≡ status.NoMemory) × (err.faults' ≡ err.faults)) → Outcome words shelf out err answer
   refused_outcome r g cause reported contents once out_stays out_faults no_fault missing taken =
-      let ending : EndsAs r = ends (file_of words) (lines_of words) err.faults err.faults' shelf.faults shelf.faults' err.written err.written' r answer reported in
+      let ending : EndsAs r = ends (file_of words) (asked_of words) err.faults err.faults' shelf.faults shelf.faults' err.written err.written' r answer reported in
       record {
         usage = no_own r status.Usage ending (λ is. is) (λ d. absurd cc);
         other_words = λ nf. absurd (nf g);
         unasked = λ nf. absurd (nf g);
-        read_fault = λ e. read_cause shelf.contents (file_of words) (lines_of words) _ _ _ _ r (same_status r status.ReadFault ending (λ d. absurd cc) (λ d. absurd cc) e) cause;
-        lacking = λ _ lacks. yields_for r status.ReadFault ending (lacking_is shelf.contents (file_of words) (lines_of words) _ _ _ _ r cause lacks);
-        too_long = λ e. (long_cause shelf.contents (file_of words) (lines_of words) _ _ _ _ r (same_status r status.TooLong ending (λ d. absurd cc) (λ d. absurd cc) e) cause).0;
-        longer = λ e. (long_cause shelf.contents (file_of words) (lines_of words) _ _ _ _ r (same_status r status.TooLong ending (λ d. absurd cc) (λ d. absurd cc) e) cause).1;
-        longer_file = λ _ more. longer r ending (longer_is shelf.contents (file_of words) (lines_of words) _ _ _ _ r cause more);
-        refused = λ e. refused_true shelf.contents (file_of words) (lines_of words) _ _ _ _ _ _ _ _ r answer cause reported e;
+        read_fault = λ e. read_cause shelf.contents (file_of words) (asked_of words) _ _ _ _ r (same_status r status.ReadFault ending (λ d. absurd cc) (λ d. absurd cc) e) cause;
+        lacking = λ _ lacks. yields_for r status.ReadFault ending (lacking_is shelf.contents (file_of words) (asked_of words) _ _ _ _ r cause lacks);
+        too_long = λ e. (long_cause shelf.contents (file_of words) (asked_of words) _ _ _ _ r (same_status r status.TooLong ending (λ d. absurd cc) (λ d. absurd cc) e) cause).0;
+        longer = λ e. (long_cause shelf.contents (file_of words) (asked_of words) _ _ _ _ r (same_status r status.TooLong ending (λ d. absurd cc) (λ d. absurd cc) e) cause).1;
+        longer_file = λ _ more. longer r ending (longer_is shelf.contents (file_of words) (asked_of words) _ _ _ _ r cause more);
+        refused = λ e. refused_true shelf.contents (file_of words) (asked_of words) _ _ _ _ _ _ _ _ r answer cause reported e;
         no_slice = λ text named below none.
-            is_refused (file_of words) (lines_of words) _ _ _ _ _ _ text r answer below (fault_or_reason shelf.contents (file_of words) (lines_of words) _ _ _ _ text r named.holds named.no_longer cause) reported;
-        limits = λ e. limit_true shelf.contents (file_of words) (lines_of words) _ _ _ _ _ _ _ _ r answer cause reported e;
+            is_refused (file_of words) (asked_of words) _ _ _ _ _ _ text r answer below (fault_or_reason shelf.contents (file_of words) (asked_of words) _ _ _ _ text r named.holds named.no_longer cause) reported;
+        limits = λ e. limit_true shelf.contents (file_of words) (asked_of words) _ _ _ _ _ _ _ _ r answer cause reported e;
         above = λ text name named above.
-            is_above (file_of words) (lines_of words) _ _ _ _ _ _ text name r answer above (fault_or_reason shelf.contents (file_of words) (lines_of words) _ _ _ _ text r named.holds named.no_longer cause) reported;
+            is_above (file_of words) (asked_of words) _ _ _ _ _ _ text name r answer above (fault_or_reason shelf.contents (file_of words) (asked_of words) _ _ _ _ text r named.holds named.no_longer cause) reported;
         names_limit = λ text name named above e.
-            names_it (file_of words) (lines_of words) _ _ shelf.faults shelf.faults' _ _ text name r answer above (fault_or_reason shelf.contents (file_of words) (lines_of words) _ _ _ _ text r named.holds named.no_longer cause) reported e;
+            names_it (file_of words) (asked_of words) _ _ shelf.faults shelf.faults' _ _ text name r answer above (fault_or_reason shelf.contents (file_of words) (asked_of words) _ _ _ _ text r named.holds named.no_longer cause) reported e;
         done = no_own r status.Done ending (λ is. is) (λ d. absurd cc);
         complete = λ text named starts shelf_calm out_calm err_calm.
-            inr (refused_for_memory shelf.contents (file_of words) text (lines_of words) _ _ _ _ r _ _ _ _ answer named.holds named.no_longer starts shelf_calm err_calm cause reported);
+            inr (refused_for_memory shelf.contents (file_of words) text (asked_of words) _ _ _ _ r _ _ _ _ answer named.holds named.no_longer starts shelf_calm err_calm cause reported);
         faultless = λ text named starts never room takes.
-            let memory = refused_without_fault shelf.contents (file_of words) text (lines_of words) _ _ _ _ r named.holds named.no_longer starts (missing never) cause in
+            let memory = refused_without_fault shelf.contents (file_of words) text (asked_of words) _ _ _ _ r named.holds named.no_longer starts (missing never) cause in
             let told = taken memory takes in
             record { ends = inr told.0; shelf_stays = no_fault never; out_stays = out_faults; err_stays = told.1 };
         write_fault = λ e. inr (rose_of r ending e);
@@ -343,31 +342,26 @@ calls_keep faults long_files fetches contents never_fails out_faults written out
     tt (λ e. absurd (let d : status.NoMemory ≡ status.Usage = e in cc)) (λ nf. inr (inl refl)) (λ wanted g. inr (inl refl)) (λ g calm. refl) (λ g takes. (refl, ap err_faults same.2))
     (λ e. absurd (let d : status.NoMemory ≡ status.WriteFault = e in cc))
 
--- ---- a request for slices
+-- ---- what the words ask for
 
-pub file_is : (words : List Bytes) (a : Asked) → asked words ≡ Some a → file_in a ≡ file_of words
-file_is words a e = sym (ap (λ o. option_map_or file_in o []) e)
+pub asked_is : (words : List Bytes) (a : Asked) → asked words ≡ Some a → a ≡ asked_of words
+asked_is words a e = sym (ap (λ o. unwrap_or o (Asked.slice [] [] 0)) e)
 
-pub lines_are : (words : List Bytes) (a : Asked) → asked words ≡ Some a → lines_in a ≡ lines_of words
-lines_are words a e = sym (ap (λ o. option_map_or lines_in o []) e)
-
-module _ (words : List Bytes) (shelf : ShelfSeen) (out err : SinkSeen) (answer : Status) (file : Bytes) (ls : List ℕ) (g : IsInGrammar words) (is_file : file ≡ file_of words) (are_lines : ls ≡ lines_of words) where
-  pub written_for : (made put : List Bytes) → put ≡ made → OfFile shelf.contents file (λ text. (length text ≤ 1048576) × AreSlices text ls made)
+module _ (words : List Bytes) (shelf : ShelfSeen) (out err : SinkSeen) (answer : Status) (a : Asked) (g : IsInGrammar words) (is : a ≡ asked_of words) where
+  pub written_for : (made put : List Bytes) → put ≡ made → OfFile shelf.contents (file_in a) (λ text. (length text ≤ 1048576) × AreWritten text a made)
       → shelf.contents' ≡ shelf.contents → shelf.fetches' ≡ one_more shelf.fetches → (shelf.never_fails → shelf.faults' ≡ shelf.faults) → Wrote put out err answer → Promises words shelf out err answer
   written_for made put same of contents once no_fault wrote =
       written_promised words shelf out err answer made g
-      (subst (λ n. OfFile shelf.contents n (λ text. (length text ≤ 1048576) × AreSlices text (lines_of words) made)) is_file
-      (subst (λ l. OfFile shelf.contents file (λ text. (length text ≤ 1048576) × AreSlices text l made)) are_lines of))
+      (subst (λ b. OfFile shelf.contents (file_in b) (λ text. (length text ≤ 1048576) × AreWritten text b made)) is of)
       contents once no_fault (subst (λ ts. Wrote ts out err answer) same wrote)
 
-  pub refused_for : (r : Refusal) → IsCause shelf.contents file ls shelf.faults shelf.faults' shelf.long_files shelf.long_files' r → IsAmong ls r
+  pub refused_for : (r : Refusal) (file : Bytes) → file ≡ file_in a → IsCause shelf.contents (file_in a) a shelf.faults shelf.faults' shelf.long_files shelf.long_files' r → IsAmong (lines_in a) r
       → IsReported err.faults err.faults' err.written err.written' file r answer → shelf.contents' ≡ shelf.contents → shelf.fetches' ≡ one_more shelf.fetches → out.stays → out.faults' ≡ out.faults
-      → (shelf.never_fails → shelf.faults' ≡ shelf.faults) → (shelf.never_fails → r ≡ refusal.Unreadable → Lacks shelf.contents file)
+      → (shelf.never_fails → shelf.faults' ≡ shelf.faults) → (shelf.never_fails → r ≡ refusal.Unreadable → Lacks shelf.contents (file_in a))
       → (r ≡ refusal.NoMemory → err.takes 14 → (answer ≡ status.NoMemory) × (err.faults' ≡ err.faults)) → Promises words shelf out err answer
-  refused_for r cause among reported contents once out_stays out_faults no_fault missing taken =
+  refused_for r file is_file cause among reported contents once out_stays out_faults no_fault missing taken =
       refused_promised words shelf out err answer r g
-      (subst (λ n. IsCause shelf.contents n (lines_of words) shelf.faults shelf.faults' shelf.long_files shelf.long_files' r) is_file
-      (subst (λ l. IsCause shelf.contents file l shelf.faults shelf.faults' shelf.long_files shelf.long_files' r) are_lines cause))
-      (subst (λ l. IsAmong l r) are_lines among)
-      (subst (λ n. IsReported err.faults err.faults' err.written err.written' n r answer) is_file reported)
-      contents once out_stays out_faults no_fault (λ never is. subst (Lacks shelf.contents) is_file (missing never is)) taken
+      (subst (λ b. IsCause shelf.contents (file_in b) b shelf.faults shelf.faults' shelf.long_files shelf.long_files' r) is cause)
+      (subst (λ b. IsAmong (lines_in b) r) is among)
+      (subst (λ n. IsReported err.faults err.faults' err.written err.written' n r answer) (is_file ∙ ap file_in is) reported)
+      contents once out_stays out_faults no_fault (λ never unreadable. subst (λ b. Lacks shelf.contents (file_in b)) is (missing never unreadable)) taken

@@ -1,7 +1,7 @@
 -- A text has one tree and one program, and what is answered for it is fixed.
 --
 -- A cause that exists for some program or tree is turned into c_reader's `IsAnswer` (`answered`), whose laws tell of a given one.
-use Rattle.std.proofs.Common.{◌≡◌, ℕ, List, length, ◌≤◌, ◌<◌, Err, Option, Some, sym, ap, subst, ◌∙◌, arith}
+use Rattle.std.proofs.Common.{◌≡◌, length, ◌≤◌, ◌<◌, Err, Option, Some, sym, ap, subst, ◌∙◌, arith}
 use Rattle.c_tree.specs.declared.limits.LimitName.{LimitName}
 use Rattle.c_tree.specs.declared.limits.LimitName.TheVariants as limit
 use Rattle.c_tree.specs.declared.program.Program.{Program}
@@ -16,6 +16,7 @@ use Rattle.c_language.specs.Programs as programs
 use Rattle.c_language.specs.Rules.{IsBroken}
 use Rattle.c_lex.proofs.TokenLaws.{tokens_unique}
 use Rattle.c_parse.proofs.ParserLaws.{one_tree}
+use Rattle.call_words.specs.Requests.{Asked, lines_in}
 use Rattle.c_types.specs.Checker.{IsAbove}
 use Rattle.c_types.proofs.CheckerLaws.{rules_hold, one_quantity}
 use Rattle.c_reader.specs.Reading.{ReadsProgram, ReadsTree}
@@ -78,7 +79,7 @@ module _ (text : Bytes) where
   only_check r is raw fault tree few shows = laws.refused text (Err r) (answered r is) raw fault tree few shows
 
   -- a text that is above a limit has no program, or more than 64 lines were asked for
-  module _ (lines : List ℕ) where
+  module _ (asked : Asked) where
     -- a quantity of the tree
     abbrev pub IsOfTree : LimitName → Type 0
     IsOfTree limit.Nesting = Unit {0}
@@ -99,7 +100,7 @@ module _ (text : Bytes) where
     of_graph_alone p limit.FactWords (words few is small many) of = of
 
     -- where such a one is above its number there is no program
-    pub tree_lacks : (name : LimitName) → IsOfTree name → IsAboveLimit text lines name → (p : Program) → ReadsProgram text p → ⊥
+    pub tree_lacks : (name : LimitName) → IsOfTree name → IsAboveLimit text asked name → (p : Program) → ReadsProgram text p → ⊥
     tree_lacks name of (IsAboveLimit.nesting {raw} tree many) p has =
         let e = ap program_nesting (one_text_tree raw has.raw tree (tree_of_program text has)) in
         let few = has.within.nesting in
@@ -117,7 +118,7 @@ module _ (text : Bytes) where
     tree_lacks name of (IsAboveLimit.graph {p = q} built many) p has = of_graph_alone q name many of
     tree_lacks name of (IsAboveLimit.criteria many) p has = absurd of
 
-    pub above_lacks : (name : LimitName) → IsAboveLimit text lines name → (p : Program) → HasGraph text p → length lines ≤ 64 → ⊥
+    pub above_lacks : (name : LimitName) → IsAboveLimit text asked name → (p : Program) → HasGraph text asked p → length (lines_in asked) ≤ 64 → ⊥
     above_lacks name (IsAboveLimit.nesting tree many) p has few = tree_lacks limit.Nesting tt (IsAboveLimit.nesting tree many) p has.reads
     above_lacks name (IsAboveLimit.length tree low made many) p has few = tree_lacks limit.ArrayLength tt (IsAboveLimit.length tree low made many) p has.reads
     above_lacks name (IsAboveLimit.cells tree low made short many) p has few = tree_lacks limit.ObjectCells tt (IsAboveLimit.cells tree low made short many) p has.reads
@@ -125,12 +126,12 @@ module _ (text : Bytes) where
         has.within name (subst (λ r. IsAboveGraphLimit r name) (one_program q p built.reads has.reads) many)
     above_lacks name (IsAboveLimit.criteria (q, built, many)) p has few = absurd (omega (arith, many, few))
 
-    above_of : (raw : RawProgram) (name : LimitName) → ReadsTree text raw → program_nesting raw ≤ 100 → IsAbove raw name → IsAboveLimit text lines name
+    above_of : (raw : RawProgram) (name : LimitName) → ReadsTree text raw → program_nesting raw ≤ 100 → IsAbove raw name → IsAboveLimit text asked name
     above_of raw name tree few (IsAbove.lengths made many) = IsAboveLimit.length tree few made many
     above_of raw name tree few (IsAbove.cells made short many) = IsAboveLimit.cells tree few made short many
 
     -- a limit that the text shows is one that it is above
-    pub limit_is : (name : LimitName) → HasRuleFault text (rule.Limit name) → IsAboveLimit text lines name
+    pub limit_is : (name : LimitName) → HasRuleFault text (rule.Limit name) → IsAboveLimit text asked name
     limit_is name h = above_of h.raw name h.tree h.nesting h.shows
 
   -- where the tree is above a limit, what the text shows of its tree is that limit

@@ -9,5 +9,5 @@ use Rattle.slicer_top.proofs.ReaderLaws.{one_program}
 
 pub slice_of_one : (text : Bytes) (line : ℕ) (t u : Bytes) → IsSliceOf text line t → IsSliceOf text line u → t ≡ u
 slice_of_one text line t u a b =
-    let same : a.program ≡ b.program = one_program text a.program b.program a.built.reads b.built.reads in
+    let same : a.program ≡ b.program = one_program text a.program b.program a.reads b.reads in
     slice_one b.program line t u (subst (λ (p : Program). IsSlice p line t) same a.is.slice) b.is.slice

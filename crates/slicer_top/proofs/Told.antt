@@ -1,5 +1,5 @@
 -- What is told of a text is true of it, and a text that gives no slice is told so.
-use Rattle.std.proofs.Common.{◌≡◌, ◌⊎◌, inl, inr, ℕ, List, arith, ◌<◌, ◌≤◌, refl, sym, ap, subst, ◌∙◌}
+use Rattle.std.proofs.Common.{◌≡◌, ◌⊎◌, inl, inr, ℕ, arith, ◌<◌, ◌≤◌, refl, sym, ap, subst, ◌∙◌}
 use Rattle.std.specs.Prelude.{Option}
 use Rattle.edge_io.specs.Contents.{Told}
 use Rattle.edge_io.specs.Count.{Rose}
@@ -12,6 +12,7 @@ use Rattle.c_language.specs.StatementNesting.{program_nesting}
 use Rattle.c_lex.specs.declared.fault.LexFault.TheVariants as lex
 use Rattle.c_parse.specs.declared.parse_fault.ParseFault.{ParseFault}
 use Rattle.c_parse.specs.declared.parse_fault.ParseFault.TheVariants as parse
+use Rattle.call_words.specs.Requests.{Asked}
 use Rattle.c_types.specs.Checker.{IsAbove}
 use Rattle.c_types.specs.declared.rule_fault.RuleFault.{RuleFault}
 use Rattle.c_types.specs.declared.rule_fault.RuleFault.TheVariants as rule
@@ -48,11 +49,11 @@ IsOfText status.NoMemory = ⊥
 IsOfText status.Limit = Unit {0}
 IsOfText status.TooLong = ⊥
 
-true_limit : (text : Bytes) (asked : List ℕ) (name : LimitName) → IsAboveLimit text asked name → (raw : RawProgram) → IsAbove raw name → IsTrueOf text asked status.Limit (lines.limit name)
+true_limit : (text : Bytes) (asked : Asked) (name : LimitName) → IsAboveLimit text asked name → (raw : RawProgram) → IsAbove raw name → IsTrueOf text asked status.Limit (lines.limit name)
 true_limit text asked name above raw (IsAbove.lengths made many) = IsTrueOf.length above
 true_limit text asked name above raw (IsAbove.cells made short many) = IsTrueOf.cells above
 
-module _ (file text : Bytes) (at : List ℕ) where
+module _ (file text : Bytes) (at : Asked) where
   -- the line of a refusal that the text shows is true of it
   is_true : (refusal : Refusal) → IsOfText (status_of refusal) → IsReason text at refusal → IsTrueOf text at (status_of refusal) (words_of file refusal)
   is_true Unreadable of reason = absurd of
@@ -75,7 +76,7 @@ module _ (file text : Bytes) (at : List ℕ) where
   is_true TooMany of reason = IsTrueOf.criteria (IsAboveLimit.criteria reason)
   is_true NoMemory of reason = absurd of
 
-module _ (told : Told) (file : Bytes) (at : List ℕ) (f f' l l' : ℕ) where
+module _ (told : Told) (file : Bytes) (at : Asked) (f f' l l' : ℕ) where
   -- what speaks of the text has its cause in the text
   shown : (refusal : Refusal) → IsOfText (status_of refusal) → IsCause told file at f f' l l' refusal → IsShown told file at refusal
   shown Unreadable of cause = absurd of
@@ -110,7 +111,7 @@ module _ (told : Told) (file : Bytes) (at : List ℕ) (f f' l l' : ℕ) where
 
 -- ---- a text that gives no slice
 
-deep_fault : (text : Bytes) (at : List ℕ) (line : ℕ) → IsBelowLimits text at → HasParseFault text (parse.Nesting line) → IsDeep text
+deep_fault : (text : Bytes) (at : Asked) (line : ℕ) → IsBelowLimits text at → HasParseFault text (parse.Nesting line) → IsDeep text
 deep_fault text at line below h = record {
   tokens = h.tokens;
   are = h.are;
@@ -123,7 +124,7 @@ abbrev RefusedOrDeep : Bytes → Bytes → Refusal → Type 0
 RefusedOrDeep file text r =
     (status_of r ≡ status.Refused) ⊎ (status_of r ≡ status.NoMemory) ⊎ ((status_of r ≡ status.Limit) × IsDeep text × (words_of file r ≡ lines.limit limit.Nesting))
 
-refused_or_deep : (file text : Bytes) (at : List ℕ) (refusal : Refusal) → IsBelowLimits text at → IsReason text at refusal → RefusedOrDeep file text refusal
+refused_or_deep : (file text : Bytes) (at : Asked) (refusal : Refusal) → IsBelowLimits text at → IsReason text at refusal → RefusedOrDeep file text refusal
 refused_or_deep file text at Unreadable below reason = absurd reason
 refused_or_deep file text at TooLong below reason = absurd reason
 refused_or_deep file text at (Lex (lex.BadByte l)) below reason = inl refl
@@ -147,7 +148,7 @@ refused_or_deep file text at NoMemory below reason = inr (inl refl)
 abbrev LimitOrMemory : Bytes → LimitName → Refusal → Type 0
 LimitOrMemory file name refusal = ((status_of refusal ≡ status.Limit) × (words_of file refusal ≡ lines.limit name)) ⊎ (status_of refusal ≡ status.NoMemory)
 
-module _ (file text : Bytes) (at : List ℕ) where
+module _ (file text : Bytes) (at : Asked) where
   told_nesting : (fault : ParseFault) → IsNesting fault → LimitOrMemory file limit.Nesting (Parse fault)
   told_nesting (parse.LeftOut token l) is = absurd is
   told_nesting (parse.Syntax l) is = absurd is
@@ -201,7 +202,7 @@ module _ (file text : Bytes) (at : List ℕ) where
   told_quantity p name other above also = inl (refl, ap lines.limit (one_graph_limit p other name also above))
 
   -- a graph with more than there may be
-  has_more : (refusal : Refusal) → IsReason text at refusal → (p : Program) (name : LimitName) → HasBuilt text p → IsAboveGraphLimit p name → LimitOrMemory file name refusal
+  has_more : (refusal : Refusal) → IsReason text at refusal → (p : Program) (name : LimitName) → HasBuilt text at p → IsAboveGraphLimit p name → LimitOrMemory file name refusal
   has_more Unreadable reason p name built above = absurd reason
   has_more TooLong reason p name built above = absurd reason
   has_more (Lex fault) reason p name built above = absurd (only_memory text (read.Lex fault) reason p built.reads)
@@ -228,7 +229,7 @@ module _ (file text : Bytes) (at : List ℕ) where
 
 -- ---- how such a text ends
 
-module _ (file : Bytes) (at : List ℕ) (e e' f f' : ℕ) (before after : Option Bytes) where
+module _ (file : Bytes) (at : Asked) (e e' f f' : ℕ) (before after : Option Bytes) where
   -- what is told is the status of the refusal, or one to which each answer yields
   abbrev pub Ends : Refusal → Status → Type 0
   Ends refusal result = ((result ≡ status_of refusal) × Gains before after (words_of file refusal)) ⊎ (result ≡ status.NoMemory) ⊎ ((result ≡ status.WriteFault) × Rose e e')

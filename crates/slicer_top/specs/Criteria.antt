@@ -1,8 +1,10 @@
--- The criteria of lines, and why lines have none.
+-- The criteria of lines, why lines have none, and what is made of an engine for a request.
 use Rattle.std.specs.Prelude.{◌≡◌, ℕ, ◌<◌, ◌≤◌, List, length, slice_index_or}
 use Rattle.c_tree.specs.declared.program.Program.{Program}
+use Rattle.c_language.specs.Words.{Bytes}
+use Rattle.call_words.specs.Requests.{Asked, lines_in}
 use Rattle.slice_engine.specs.declared.engine.Criterion.{Criterion}
-use Rattle.slicer_top.specs.Slices.{IsFirstWithout, StartOn, line_at}
+use Rattle.slicer_top.specs.Slices.{AreTextsFor, IsFirstWithout, StartOn, line_at}
 use Rattle.slicer_top.specs.declared.refusal.Refusal.{Refusal}
 use Rattle.slicer_top.specs.declared.refusal.Refusal.TheVariants.{Unreadable, TooLong, Lex, Parse, Check, NotYet, NoStart, Graph, TooMany, NoMemory}
 
@@ -12,6 +14,16 @@ pub record AreCriteria (p : Program) (lines : List ℕ) (found : List Criterion)
   pub as_many : length found ≡ length lines
   pub each : (i : ℕ) (c : Criterion) → i < length lines → (slice_index_or found i c).line ≡ line_at lines i
   pub starts : StartOn p lines
+
+-- on each of the lines, at most 64, starts a statement
+pub record StartAt (p : Program) (lines : List ℕ) : Type 0 where
+  pub few : length lines ≤ 64
+  pub starts : StartOn p lines
+
+-- and these texts are what is asked of the program
+pub record AreMade (p : Program) (asked : Asked) (texts : List Bytes) : Type 0 where
+  pub start : StartAt p (lines_in asked)
+  pub are : AreTextsFor p asked texts
 
 -- why the lines have no criteria
 abbrev pub IsCriteriaFault : Program → List ℕ → Refusal → Type 0

@@ -1,5 +1,6 @@
 pub mod Criteria
 pub mod Files
+pub mod Graphs
 pub mod Limits
 pub mod Lines
 pub mod Promises

@@ -1,5 +1,5 @@
 -- The quantities of a text that have a greatest number, and the texts that can nest too deep.
-use Rattle.std.specs.Prelude.{ℕ, ◌<◌, ◌≤◌, List}
+use Rattle.std.specs.Prelude.{◌<◌, ◌≤◌}
 use Rattle.c_tree.specs.declared.limits.LimitName.{LimitName}
 use Rattle.c_tree.specs.declared.limits.LimitName.TheVariants as limit
 use Rattle.c_tree.specs.declared.program.Program.{Program}
@@ -12,21 +12,22 @@ use Rattle.c_language.specs.Nesting.{nesting_tokens}
 use Rattle.c_language.specs.StatementNesting.{program_nesting}
 use Rattle.c_language.specs.Limits.{array_length, object_cells}
 use Rattle.c_language.specs.Programs as programs
+use Rattle.call_words.specs.Requests.{Asked}
 use Rattle.c_reader.specs.Reading.{ReadsTree}
 use Rattle.slice_engine.specs.GraphLimits.{IsAboveGraphLimit}
 use Rattle.slicer_top.specs.Slices.{HasBuilt, AsksTooMany}
 
--- the tokens of the text are in the grammar, and this quantity is above its number: nesting before all, then, where all rules hold, the length of an array, then the cells of an object, then, where nothing is outside the built forms, the graph's quantities, and then how many lines were asked for
-pub data IsAboveLimit (text : Bytes) (lines : List ℕ) : LimitName → Type 0 where
-  nesting : {raw : RawProgram} → ReadsTree text raw → 100 < program_nesting raw → IsAboveLimit text lines limit.Nesting
-  length : {raw : RawProgram} {p : Program} → ReadsTree text raw → program_nesting raw ≤ 100 → programs.HasProgram raw p → 65536 < array_length p → IsAboveLimit text lines limit.ArrayLength
-  cells : {raw : RawProgram} {p : Program} → ReadsTree text raw → program_nesting raw ≤ 100 → programs.HasProgram raw p → array_length p ≤ 65536 → 1048576 < object_cells p → IsAboveLimit text lines limit.ObjectCells
-  graph : {p : Program} {name : LimitName} → HasBuilt text p → IsAboveGraphLimit p name → IsAboveLimit text lines name
-  criteria : AsksTooMany text lines → IsAboveLimit text lines limit.Criteria
+-- the tokens of the text are in the grammar, and this quantity is above its number: nesting before all, then, where all rules hold, the length of an array, then the cells of an object, then, where nothing is outside the forms for which what is asked is built, the graph's quantities, and then how many lines were asked for
+pub data IsAboveLimit (text : Bytes) (asked : Asked) : LimitName → Type 0 where
+  nesting : {raw : RawProgram} → ReadsTree text raw → 100 < program_nesting raw → IsAboveLimit text asked limit.Nesting
+  length : {raw : RawProgram} {p : Program} → ReadsTree text raw → program_nesting raw ≤ 100 → programs.HasProgram raw p → 65536 < array_length p → IsAboveLimit text asked limit.ArrayLength
+  cells : {raw : RawProgram} {p : Program} → ReadsTree text raw → program_nesting raw ≤ 100 → programs.HasProgram raw p → array_length p ≤ 65536 → 1048576 < object_cells p → IsAboveLimit text asked limit.ObjectCells
+  graph : {p : Program} {name : LimitName} → HasBuilt text asked p → IsAboveGraphLimit p name → IsAboveLimit text asked name
+  criteria : AsksTooMany text asked → IsAboveLimit text asked limit.Criteria
 
 -- no quantity of the text is above its number
-abbrev pub IsBelowLimits : Bytes → List ℕ → Type 0
-IsBelowLimits text lines = (name : LimitName) → IsAboveLimit text lines name → ⊥
+abbrev pub IsBelowLimits : Bytes → Asked → Type 0
+IsBelowLimits text asked = (name : LimitName) → IsAboveLimit text asked name → ⊥
 
 -- the text holds more than 100 nesting tokens, and each tree of its tokens nests deeper than 100
 pub record CanBeDeep (text : Bytes) : Type 0 where

@@ -11,7 +11,7 @@ use Rattle.slicer_top.specs.declared.status.Status.TheVariants.{Done, Refused, U
 
 -- the words are outside the grammar
 abbrev pub usage : Bytes
-usage = codes "usage: slicer slice FILE LINE..\n"
+usage = codes "usage: slicer slice FILE LINE.. | graph FILE | members FILE LINE\n"
 
 -- the file couldn't be read
 abbrev pub cannot_read : Bytes → Bytes
@@ -67,7 +67,7 @@ limit Vertices = codes "limit: vertices\n"
 limit FactWords = codes "limit: fact words\n"
 limit Criteria = codes "limit: criteria\n"
 
--- the slice couldn't be written
+-- what was asked for couldn't be written
 abbrev pub cannot_write : Bytes
 cannot_write = codes "cannot write\n"
 

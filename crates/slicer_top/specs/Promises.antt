@@ -7,11 +7,11 @@ use Rattle.c_tree.specs.declared.limits.LimitName.{LimitName}
 use Rattle.c_tree.specs.declared.limits.LimitName.TheVariants.{Nesting}
 use Rattle.c_language.specs.Words.{Bytes}
 use Rattle.call_words.specs.Grammar.{IsInGrammar}
-use Rattle.call_words.specs.Requests.{file_of, lines_of}
+use Rattle.call_words.specs.Requests.{asked_of, file_of, lines_of}
 use Rattle.slicer_top.specs.Files.{OfFile, NamesText}
 use Rattle.slicer_top.specs.Limits.{IsAboveLimit, IsBelowLimits, IsDeep}
 use Rattle.slicer_top.specs.Seen.{ShelfSeen, SinkSeen, shelf_seen, sink_seen}
-use Rattle.slicer_top.specs.Slices.{StartsNone, StartsSome, AreSlices, joined, WritesSlices, WritesFront}
+use Rattle.slicer_top.specs.Slices.{StartsNone, StartsSome, AreWritten, joined, WritesAsked, WritesFront}
 use Rattle.slicer_top.specs.Statuses.{IsOrYields, IsOrYieldsToFault, NoFault, IsFaultless}
 use Rattle.slicer_top.specs.Lines.{Tells, PutOrCutOff, cannot_write, limit}
 use Rattle.slicer_top.specs.Truths.{TellsTruth}
@@ -31,25 +31,25 @@ pub record Outcome (words : List Bytes) (shelf : ShelfSeen) (out err : SinkSeen)
   pub longer : answer ≡ status.TooLong → IsSome shelf.contents → HoldsMoreThan shelf.contents (file_of words) 1048576
   pub longer_file : IsInGrammar words → HoldsMoreThan shelf.contents (file_of words) 1048576
       → IsOrYieldsToFault err.faults err.faults' shelf.faults shelf.faults' answer status.TooLong
-  -- the text: Refused comes exactly where it isn't accepted, something of it isn't built or no statement starts on one of the lines, but for deep texts, and what is told is true of it
-  pub refused : answer ≡ status.Refused → OfFile shelf.contents (file_of words) (λ text. TellsTruth status.Refused text (lines_of words) err.written err.written')
-  pub no_slice : (text : Bytes) → NamesText words shelf.contents text → IsBelowLimits text (lines_of words) → StartsNone text (lines_of words)
+  -- the text: Refused comes exactly where it isn't accepted, something of it isn't built for what is asked or no statement starts on one of the lines, but for deep texts, and what is told is true of it
+  pub refused : answer ≡ status.Refused → OfFile shelf.contents (file_of words) (λ text. TellsTruth status.Refused text (asked_of words) err.written err.written')
+  pub no_slice : (text : Bytes) → NamesText words shelf.contents text → IsBelowLimits text (asked_of words) → StartsNone text (asked_of words)
       → IsOrYieldsToFault err.faults err.faults' shelf.faults shelf.faults' answer status.Refused
       ⊎ ((answer ≡ status.Limit) × IsDeep text × Gains err.written err.written' (limit Nesting))
   -- the limits: Limit comes exactly where a quantity of a text in the grammar is above its number, and for deep texts
-  pub limits : answer ≡ status.Limit → OfFile shelf.contents (file_of words) (λ text. TellsTruth status.Limit text (lines_of words) err.written err.written')
-  pub above : (text : Bytes) (name : LimitName) → NamesText words shelf.contents text → IsAboveLimit text (lines_of words) name
+  pub limits : answer ≡ status.Limit → OfFile shelf.contents (file_of words) (λ text. TellsTruth status.Limit text (asked_of words) err.written err.written')
+  pub above : (text : Bytes) (name : LimitName) → NamesText words shelf.contents text → IsAboveLimit text (asked_of words) name
       → IsOrYieldsToFault err.faults err.faults' shelf.faults shelf.faults' answer status.Limit
-  pub names_limit : (text : Bytes) (name : LimitName) → NamesText words shelf.contents text → IsAboveLimit text (lines_of words) name → answer ≡ status.Limit
+  pub names_limit : (text : Bytes) (name : LimitName) → NamesText words shelf.contents text → IsAboveLimit text (asked_of words) name → answer ≡ status.Limit
       → Gains err.written err.written' (limit name)
-  -- the slices: after Done they are written, in the order of the lines, and where no fault came and memory sufficed, Done comes
-  pub done : answer ≡ status.Done → OfFile shelf.contents (file_of words) (λ text. WritesSlices text (lines_of words) out.written out.written')
-  pub complete : (text : Bytes) → NamesText words shelf.contents text → StartsSome text (lines_of words)
+  -- what is asked for: after Done it is written, slices in the order of the lines, and where no fault came and memory sufficed, Done comes
+  pub done : answer ≡ status.Done → OfFile shelf.contents (file_of words) (λ text. WritesAsked text (asked_of words) out.written out.written')
+  pub complete : (text : Bytes) → NamesText words shelf.contents text → StartsSome text (asked_of words)
       → NoFault shelf.faults shelf.faults' → NoFault out.faults out.faults' → NoFault err.faults err.faults'
       → (answer ≡ status.Done) ⊎ (answer ≡ status.NoMemory)
-  -- no fault comes where the shelf never fails, out has room for the slices and err for `out of memory`
-  pub faultless : (text : Bytes) → NamesText words shelf.contents text → StartsSome text (lines_of words) → shelf.never_fails
-      → ((texts : List Bytes) → AreSlices text (lines_of words) texts → out.takes (length (joined texts))) → err.takes 14
+  -- no fault comes where the shelf never fails, out has room for what is written and err for `out of memory`
+  pub faultless : (text : Bytes) → NamesText words shelf.contents text → StartsSome text (asked_of words) → shelf.never_fails
+      → ((texts : List Bytes) → AreWritten text (asked_of words) texts → out.takes (length (joined texts))) → err.takes 14
       → IsFaultless shelf.faults shelf.faults' out.faults out.faults' err.faults err.faults' answer
   -- the sinks: out is as it was but after Done and WriteFault
   pub write_fault : answer ≡ status.WriteFault → Rose out.faults out.faults' ⊎ Rose err.faults err.faults'
@@ -57,7 +57,7 @@ pub record Outcome (words : List Bytes) (shelf : ShelfSeen) (out err : SinkSeen)
   pub cut : answer ≡ status.WriteFault
       → (out.stays × Rose err.faults err.faults')
       ⊎ (Rose out.faults out.faults'
-      × OfFile shelf.contents (file_of words) (λ text. WritesFront text (lines_of words) out.written out.written')
+      × OfFile shelf.contents (file_of words) (λ text. WritesFront text (asked_of words) out.written out.written')
       × PutOrCutOff err.faults err.faults' err.written err.written' cannot_write)
   pub silent : answer ≡ status.Done → err.stays
   -- the shelf holds what it held, and was asked for one file at most, once

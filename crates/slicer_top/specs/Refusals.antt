@@ -1,4 +1,4 @@
--- What a fault of the shelf, of the reader and of the graph is to a slice.
+-- What a fault of the shelf, of the reader and of the graph is to what is asked.
 use Rattle.edge_io.specs.declared.shelf.FetchFault.{FetchFault}
 use Rattle.edge_io.specs.declared.shelf.FetchFault.TheVariants as fetch
 use Rattle.c_reader.specs.declared.refusal.ReadRefusal.{ReadRefusal}

@@ -1,4 +1,4 @@
--- Why a file gives no slice, and how that is told.
+-- Why a file gives nothing of what is asked, and how that is told.
 use Rattle.std.specs.Prelude.{◌≡◌, ◌⊎◌, ℕ, ◌≤◌, List, Contains, length, Option, Some, IsSome}
 use Rattle.edge_io.specs.Contents.{Told, Lacks, HoldsMoreThan}
 use Rattle.edge_io.specs.Count.{Rose}
@@ -14,45 +14,45 @@ use Rattle.c_types.specs.declared.rule_fault.RuleFault.{RuleFault}
 use Rattle.c_types.specs.declared.rule_fault.RuleFault.TheVariants as rule
 use Rattle.c_reader.specs.Reading.{ReadsProgram}
 use Rattle.c_reader.specs.Refusals.{IsLexFault, HasParseFault, HasRuleFault}
-use Rattle.built_forms.specs.BuiltForms as forms
+use Rattle.call_words.specs.Requests.{Asked}
 use Rattle.slicer_top.specs.declared.refusal.Refusal.{Refusal}
 use Rattle.slicer_top.specs.declared.refusal.Refusal.TheVariants.{Unreadable, TooLong, Lex, Parse, Check, NotYet, NoStart, Graph, TooMany, NoMemory}
 use Rattle.slicer_top.specs.declared.status.Status.{Status}
 use Rattle.slicer_top.specs.declared.status.Status.TheVariants as status
 use Rattle.slicer_top.specs.Files.{OfFile}
 use Rattle.slice_engine.specs.GraphLimits.{IsAboveGraphLimit}
-use Rattle.slicer_top.specs.Slices.{HasBuilt, LacksStart, AsksTooMany}
+use Rattle.slicer_top.specs.Slices.{HasBuilt, LacksStart, AsksTooMany, not_built}
 use Rattle.slicer_top.specs.Lines as line
 
--- the text shows the refusal, where its statements on these lines were asked for
-abbrev pub IsReason : Bytes → List ℕ → Refusal → Type 0
-IsReason text at Unreadable = ⊥
-IsReason text at TooLong = ⊥
-IsReason text at (Lex fault) = IsLexFault text fault
-IsReason text at (Parse fault) = HasParseFault text fault
-IsReason text at (Check fault) = HasRuleFault text fault
-IsReason text at (NotYet first) = (p : Program) × ReadsProgram text p × (forms.not_yet p ≡ Some first)
-IsReason text at (NoStart line) = LacksStart text at line
-IsReason text at (Graph name) = (p : Program) × HasBuilt text p × IsAboveGraphLimit p name
-IsReason text at TooMany = AsksTooMany text at
-IsReason text at NoMemory = Unit {0}
+-- the text shows the refusal, where this is asked of it
+abbrev pub IsReason : Bytes → Asked → Refusal → Type 0
+IsReason text asked Unreadable = ⊥
+IsReason text asked TooLong = ⊥
+IsReason text asked (Lex fault) = IsLexFault text fault
+IsReason text asked (Parse fault) = HasParseFault text fault
+IsReason text asked (Check fault) = HasRuleFault text fault
+IsReason text asked (NotYet first) = (p : Program) × ReadsProgram text p × (not_built asked p ≡ Some first)
+IsReason text asked (NoStart line) = LacksStart text asked line
+IsReason text asked (Graph name) = (p : Program) × HasBuilt text asked p × IsAboveGraphLimit p name
+IsReason text asked TooMany = AsksTooMany text asked
+IsReason text asked NoMemory = Unit {0}
 
 -- the file holds a text that shows the refusal
-abbrev pub IsShown : Told → Bytes → List ℕ → Refusal → Type 0
-IsShown told file at refusal = OfFile told file (λ text. (length text ≤ 1048576) × IsReason text at refusal)
+abbrev pub IsShown : Told → Bytes → Asked → Refusal → Type 0
+IsShown told file asked refusal = OfFile told file (λ text. (length text ≤ 1048576) × IsReason text asked refusal)
 
 -- the cause of a refusal: the counts of faults and of long files before and after the fetch, or the bytes of the file
-module _ (told : Told) (file : Bytes) (at : List ℕ) (faults faults' long_files long_files' : ℕ) where
+module _ (told : Told) (file : Bytes) (asked : Asked) (faults faults' long_files long_files' : ℕ) where
   abbrev pub IsCause : Refusal → Type 0
   IsCause Unreadable = Rose faults faults' ⊎ Lacks told file
   IsCause TooLong = Rose long_files long_files' × (IsSome told → HoldsMoreThan told file 1048576)
-  IsCause (Lex fault) = IsShown told file at (Lex fault)
-  IsCause (Parse fault) = IsShown told file at (Parse fault)
-  IsCause (Check fault) = IsShown told file at (Check fault)
-  IsCause (NotYet first) = IsShown told file at (NotYet first)
-  IsCause (NoStart line) = IsShown told file at (NoStart line)
-  IsCause (Graph name) = IsShown told file at (Graph name)
-  IsCause TooMany = IsShown told file at TooMany
+  IsCause (Lex fault) = IsShown told file asked (Lex fault)
+  IsCause (Parse fault) = IsShown told file asked (Parse fault)
+  IsCause (Check fault) = IsShown told file asked (Check fault)
+  IsCause (NotYet first) = IsShown told file asked (NotYet first)
+  IsCause (NoStart line) = IsShown told file asked (NoStart line)
+  IsCause (Graph name) = IsShown told file asked (Graph name)
+  IsCause TooMany = IsShown told file asked TooMany
   IsCause NoMemory = Unit {0}
 
 -- a line without a statement that is told is one of those that were asked for

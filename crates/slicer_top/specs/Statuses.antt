@@ -39,7 +39,7 @@ module _ (err err' : ℕ) where
 abbrev pub NoFault : ℕ → ℕ → Type 0
 NoFault before after = Rose before after → ⊥
 
--- the slice was written or memory was wanting, and the counts of faults of the shelf, of out and of err stayed
+-- what was asked for was written or memory was wanting, and the counts of faults of the shelf, of out and of err stayed
 pub record IsFaultless (shelf shelf' out out' err err' : ℕ) (status : Status) : Type 0 where
   pub ends : (status ≡ Done) ⊎ (status ≡ NoMemory)
   pub shelf_stays : shelf' ≡ shelf

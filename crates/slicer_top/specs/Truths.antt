@@ -1,5 +1,5 @@
 -- What the lines of a refusal and of a limit say of the text.
-use Rattle.std.specs.Prelude.{◌≡◌, ℕ, List, Option, Some}
+use Rattle.std.specs.Prelude.{◌≡◌, ℕ, Option, Some}
 use Rattle.edge_io.specs.Written.{Gains}
 use Rattle.c_tree.specs.declared.limits.LimitName.{LimitName}
 use Rattle.c_tree.specs.declared.limits.LimitName.TheVariants as limit
@@ -10,16 +10,16 @@ use Rattle.c_parse.specs.declared.parse_fault.ParseFault.TheVariants as parse
 use Rattle.c_types.specs.declared.rule_fault.RuleFault.TheVariants as fault
 use Rattle.c_reader.specs.Reading.{ReadsProgram}
 use Rattle.c_reader.specs.Refusals.{IsLexFault, HasParseFault, HasRuleFault}
-use Rattle.built_forms.specs.BuiltForms as forms
+use Rattle.call_words.specs.Requests.{Asked}
 use Rattle.slice_engine.specs.GraphLimits.{IsAboveGraphLimit}
 use Rattle.slicer_top.specs.Limits.{CanBeDeep, IsAboveLimit}
 use Rattle.slicer_top.specs.Lines as line
-use Rattle.slicer_top.specs.Slices.{HasBuilt, LacksStart}
+use Rattle.slicer_top.specs.Slices.{HasBuilt, LacksStart, not_built}
 use Rattle.slicer_top.specs.declared.status.Status.{Status}
 use Rattle.slicer_top.specs.declared.status.Status.TheVariants.{Refused, Limit}
 
--- what the line of the status says is true of the text, whose statements on these lines were asked for
-pub data IsTrueOf (text : Bytes) (asked : List ℕ) : Status → Bytes → Type 0 where
+-- what the line of the status says is true of the text, of which this is asked
+pub data IsTrueOf (text : Bytes) (asked : Asked) : Status → Bytes → Type 0 where
   -- the bytes show the fault at that line
   bad_byte : (at : ℕ) → IsLexFault text (lex.BadByte at) → IsTrueOf text asked Refused (line.bad_byte at)
   bad_number : (at : ℕ) → IsLexFault text (lex.BadNumber at) → IsTrueOf text asked Refused (line.bad_number at)
@@ -31,8 +31,8 @@ pub data IsTrueOf (text : Bytes) (asked : List ℕ) : Status → Bytes → Type 
   syntax : (at : ℕ) → HasParseFault text (parse.Syntax at) → IsTrueOf text asked Refused (line.syntax at)
   -- that rule is broken at that line, by the first phrase that breaks any, or main is missing where no phrase does
   rule : (number at : ℕ) → HasRuleFault text (fault.Rule number at) → IsTrueOf text asked Refused (line.rule at number)
-  -- what stands first outside the built forms stands at that line, or has none in the tree, and what stands for it does
-  not_yet : (at : ℕ) {p : Program} → ReadsProgram text p → forms.not_yet p ≡ Some at → IsTrueOf text asked Refused (line.not_yet at)
+  -- what stands first outside the forms for which this is built stands at that line, or has none in the tree, and what stands for it does
+  not_yet : (at : ℕ) {p : Program} → ReadsProgram text p → not_built asked p ≡ Some at → IsTrueOf text asked Refused (line.not_yet at)
   -- this is the first of the lines on which no statement starts
   no_start : (at : ℕ) → LacksStart text asked at → IsTrueOf text asked Refused (line.no_start at)
   -- the text can be deep
@@ -40,9 +40,9 @@ pub data IsTrueOf (text : Bytes) (asked : List ℕ) : Status → Bytes → Type 
   -- the quantity is above its number
   length : IsAboveLimit text asked limit.ArrayLength → IsTrueOf text asked Limit (line.limit limit.ArrayLength)
   cells : IsAboveLimit text asked limit.ObjectCells → IsTrueOf text asked Limit (line.limit limit.ObjectCells)
-  graph : {p : Program} (name : LimitName) → HasBuilt text p → IsAboveGraphLimit p name → IsTrueOf text asked Limit (line.limit name)
+  graph : {p : Program} (name : LimitName) → HasBuilt text asked p → IsAboveGraphLimit p name → IsTrueOf text asked Limit (line.limit name)
   criteria : IsAboveLimit text asked limit.Criteria → IsTrueOf text asked Limit (line.limit limit.Criteria)
 
 -- err has gained a line of the status that is true of the text
-abbrev pub TellsTruth : Status → Bytes → List ℕ → Option Bytes → Option Bytes → Type 0
+abbrev pub TellsTruth : Status → Bytes → Asked → Option Bytes → Option Bytes → Type 0
 TellsTruth status text asked before after = (words : Bytes) × IsTrueOf text asked status words × Gains before after words

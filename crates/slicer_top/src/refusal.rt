@@ -1,4 +1,4 @@
-//! Why a file gives no slices, with the faults of fetching, of reading and of the graph as causes.
+//! Why a file gives nothing of what is asked, with the faults of fetching, of reading and of the graph as causes.
 ghost use Rattle.std.specs.Prelude.{◌≡◌};
 ghost use Rattle.slicer_top.specs.declared.refusal.Refusal.TheVariants.{NoMemory};
 ghost use Rattle.slicer_top.specs.Refusals.{of_fetch, of_graph, of_reading};
@@ -7,7 +7,7 @@ use edge_io::FetchFault;
 use slice_engine::{GraphFault, LexFault, LimitName, ParseFault, ReadRefusal, RuleFault};
 use std::alloc::AllocError;
 
-/// Why a file gives no slices at lines. No inner fault is `NoMemory`.
+/// Why a file gives nothing of what is asked of it. No inner fault is `NoMemory`.
 #[derive(Debug, Drop)]
 pub(crate) enum Refusal {
     /// The file couldn't be read.
@@ -20,7 +20,7 @@ pub(crate) enum Refusal {
     Parse(ParseFault),
     /// Its tree breaks a rule, or an array or an object is too large.
     Check(RuleFault),
-    /// What stands first outside the built forms stands at this line.
+    /// What stands first outside the forms for which this is built stands at this line.
     NotYet(u32),
     /// This quantity of the program's graph is above its number.
     Graph(LimitName),

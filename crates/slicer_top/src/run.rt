@@ -1,17 +1,18 @@
-//! The top call: from the words to slices on out, or else to a line on err.
+//! The top call: from the words to what they ask for on out, or else to a line on err.
 ghost use Rattle.slicer_top.specs.Promises.{Promises};
 ghost use Rattle.slicer_top.specs.Seen.{shelf_seen, sink_seen};
 ghost use Rattle.slicer_top.specs.Writing.{Wrote};
 
 use crate::report::{report, tell, tell_no_memory};
-use crate::slicing::slice_file;
+use crate::slicing::texts_for;
 use crate::status::Status;
 use call_words::{WordsFault, read_words};
 use edge_io::{PutFailed, Shelf, Sink, Text};
 use std::alloc::Global;
 
 /// Does what the words ask for: `slice FILE LINE..` writes to `out` the slice of the program in FILE at each LINE, in
-/// the order of the words, one put each.
+/// the order of the words, one put each; `graph FILE` its dependence graph, in one put; `members FILE LINE` the
+/// vertices of that graph that reach the statements on LINE, in one put.
 ///
 /// The words are those of the grammar of the crate `call_words`. The file is fetched from `shelf`. Where the status
 /// isn't `Done`, its line is put on `err`; where that fails, the status is `WriteFault`, and `err` gets no more.
@@ -28,16 +29,15 @@ pub fn run_slicer<F: Shelf, O: Sink, E: Sink>(
     let request = match read_words(alloc, words) {
         Ok(request) => request,
         Err(WordsFault::Usage) => return tell(
-            b"usage: slicer slice FILE LINE..\n",
+            b"usage: slicer slice FILE LINE.. | graph FILE | members FILE LINE\n",
             Status::Usage,
             err,
         ),
         Err(WordsFault::NoMemory) => return tell_no_memory(err),
     };
-    let file = request.file();
-    match slice_file(alloc, file, request.lines(), shelf) {
+    match texts_for(alloc, &request, shelf) {
         Ok(texts) => write_texts(texts.as_slice(), out, err),
-        Err(refusal) => report(alloc, &refusal, file, err),
+        Err(refusal) => report(alloc, &refusal, request.file(), err),
     }
 }
 

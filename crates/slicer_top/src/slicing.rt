@@ -1,19 +1,23 @@
-//! From the name of a file and lines of it to the texts of the slices.
-ghost use Rattle.std.specs.Prelude.{◌≡◌, ℕ, List, ◌≤◌, IfOk, IfErr, MatchResult, length};
+//! From what a request asks of a file to the texts that are written for it.
+ghost use Rattle.std.specs.Prelude.{◌≡◌, ◌∷◌, ◌≤◌, [], IfOk, IfErr, MatchResult, None, length};
+ghost use Rattle.built_forms.specs.BuiltForms as forms;
+ghost use Rattle.call_words.specs.Requests.{asked_by, file_in, lines_in};
 ghost use Rattle.edge_io.specs.Contents.{Lacks};
 ghost use Rattle.edge_io.specs.Count.{one_more};
 ghost use Rattle.slice_engine.specs.Slice.{HasStart};
-ghost use Rattle.slicer_top.specs.Criteria.{AreCriteria, IsCriteriaFault};
+ghost use Rattle.slicer_top.specs.Criteria.{AreCriteria, AreMade, IsCriteriaFault, StartAt};
 ghost use Rattle.slicer_top.specs.Files.{OfFile};
-ghost use Rattle.slicer_top.specs.Slices.{HasBuilt, AreSlices};
+ghost use Rattle.slicer_top.specs.Graphs.{IsGraphText, IsMembersText};
+ghost use Rattle.slicer_top.specs.Slices.{AreSlices, AreWritten, HasBuilt, IsOneText, not_built};
 ghost use Rattle.slicer_top.specs.Reports.{IsReason, IsAmong, IsCause};
 
 use crate::refusal::Refusal;
 use c_tree::Program;
+use call_words::Request;
 use edge_io::{Shelf, Text};
 use slice_batch::slices;
-use slice_engine::{Criterion, Engine, not_yet, read_program};
-use std::alloc::Global;
+use slice_engine::{Criterion, Engine, beyond_integers, read_program};
+use std::alloc::{AllocError, Global};
 
 // The most bytes that a file may have.
 const MAX_FILE_BYTES: usize = 1_048_576;
@@ -21,52 +25,87 @@ const MAX_FILE_BYTES: usize = 1_048_576;
 // How many lines may be asked for at most.
 const MAX_CRITERIA: usize = 64;
 
-/// The texts of the slices of a file at these lines.
-pub(crate) fn slice_file<F: Shelf>(
+/// The texts that are to be written for a request, of the file that it names.
+pub(crate) fn texts_for<F: Shelf>(
     alloc: Global,
-    file: &str,
-    lines: &[u64],
+    request: &Request,
     shelf: &mut F,
 ) -> Result<Vec<Text>, Refusal>
     ensures contents { F.contents shelf.new ≡ F.contents shelf.old }
     ensures fetched { F.fetches shelf.new ≡ one_more (F.fetches shelf.old) }
-    ensures ok { IfOk result (λ texts. OfFile (F.contents shelf.old) file.now
-        (λ text. (length text ≤ 1048576) × AreSlices text lines.now texts.items)) }
-    ensures err { IfErr result (IsCause (F.contents shelf.old) file.now lines.now
+    ensures ok { IfOk result (λ texts. OfFile (F.contents shelf.old) (file_in (asked_by request.now))
+        (λ text. (length text ≤ 1048576) × AreWritten text (asked_by request.now) texts.items)) }
+    ensures err { IfErr result (IsCause (F.contents shelf.old) (file_in (asked_by request.now)) (asked_by request.now)
         (F.faults shelf.old) (F.faults shelf.new) (F.long_files shelf.old) (F.long_files shelf.new)) }
-    ensures among { IfErr result (IsAmong lines.now) }
+    ensures among { IfErr result (IsAmong (lines_in (asked_by request.now))) }
     ensures no_fault { F.never_fails shelf.old → F.faults shelf.new ≡ F.faults shelf.old }
     ensures missing { F.never_fails shelf.old → IfErr result (λ refusal. refusal ≡ Refusal.Unreadable
-        → Lacks (F.contents shelf.old) file.now) }
+        → Lacks (F.contents shelf.old) (file_in (asked_by request.now))) }
 {
-    let bytes = shelf.fetch(alloc, file, MAX_FILE_BYTES)?;
-    slices_of(alloc, bytes.as_slice(), lines)
+    let bytes = shelf.fetch(alloc, request.file(), MAX_FILE_BYTES)?;
+    texts_of(alloc, bytes.as_slice(), request)
 }
 
-// The texts of the slices at these lines, or why this text gives none.
-fn slices_of(alloc: Global, text: &[u8], lines: &[u64]) -> Result<Vec<Text>, Refusal>
+// The texts that are to be written for a request, or why this text gives none.
+fn texts_of(alloc: Global, text: &[u8], request: &Request) -> Result<Vec<Text>, Refusal>
     requires { length text.now ≤ 1048576 }
-    ensures ok { IfOk result (λ texts. AreSlices text.now lines.now texts.items) }
-    ensures err { IfErr result (IsReason text.now lines.now) }
+    ensures ok { IfOk result (λ texts. AreWritten text.now (asked_by request.now) texts.items) }
+    ensures err { IfErr result (IsReason text.now (asked_by request.now)) }
 {
-    let program = built(alloc, text)?;
+    let program = built(alloc, text, request)?;
     let engine = Engine::new(alloc, program)?;
-    let criteria = criteria_at(alloc, &engine, lines)?;
-    let texts = slices(alloc, &engine, criteria.as_slice())?;
+    let texts = made(alloc, &engine, request)?;
     Ok(texts)
 }
 
-// The program of a text of which nothing is outside the built forms.
-fn built(alloc: Global, text: &[u8]) -> Result<Program, Refusal>
+// The program of a text of which nothing is outside the forms for which the request is built.
+fn built(alloc: Global, text: &[u8], request: &Request) -> Result<Program, Refusal>
     requires { length text.now ≤ 1048576 }
-    ensures ok { IfOk result (HasBuilt text.now) }
-    ensures err { (lines : List ℕ) → IfErr result (IsReason text.now lines) }
+    ensures ok { IfOk result (HasBuilt text.now (asked_by request.now)) }
+    ensures err { IfErr result (IsReason text.now (asked_by request.now)) }
 {
     let program = read_program(alloc, text)?;
-    match not_yet(&program) {
+    match outside(request, &program) {
         Some(line) => Err(Refusal::NotYet(line)),
         None => Ok(program),
     }
+}
+
+// The line of what stands first outside the forms for which the request is built.
+fn outside(request: &Request, program: &Program) -> Option<u32>
+    ensures { result ≡ not_built (asked_by request.now) program.now }
+{
+    match request {
+        Request::Slice { .. } => beyond_integers(program),
+        Request::Graph { .. } => None,
+        Request::Members { .. } => None,
+    }
+}
+
+// The texts that are to be written for a request, or the first of its lines on which no statement starts.
+fn made(alloc: Global, engine: &Engine, request: &Request) -> Result<Vec<Text>, Refusal>
+    requires { not_built (asked_by request.now) engine.now ≡ None }
+    ensures { MatchResult result (λ texts. AreMade engine.now (asked_by request.now) texts.items)
+        (IsCriteriaFault engine.now (lines_in (asked_by request.now))) }
+{
+    match request {
+        Request::Slice { lines, .. } => slices_at(alloc, engine, lines.as_slice()),
+        Request::Graph { .. } => Ok(graph_text_of(alloc, engine)?),
+        Request::Members { line, .. } => members_text_at(alloc, engine, *line),
+    }
+}
+
+// ---- slices
+
+// The texts of the slices at these lines, at most 64, or the first line on which no statement starts.
+fn slices_at(alloc: Global, engine: &Engine, lines: &[u64]) -> Result<Vec<Text>, Refusal>
+    requires { forms.beyond_integers engine.now ≡ None }
+    ensures { MatchResult result (λ texts. StartAt engine.now lines.now × AreSlices engine.now lines.now texts.items)
+        (IsCriteriaFault engine.now lines.now) }
+{
+    let criteria = criteria_at(alloc, engine, lines)?;
+    let texts = slices(alloc, engine, criteria.as_slice())?;
+    Ok(texts)
 }
 
 // The criteria of these lines, at most 64, or the first line on which no statement starts.
@@ -101,4 +140,52 @@ fn criterion_at(engine: &Engine, line: u64) -> Result<Criterion, Refusal>
         Some(criterion) => Ok(criterion),
         None => Err(Refusal::NoStart(line)),
     }
+}
+
+// ---- graphs
+
+// The text of the program's dependence graph. Err: no memory was left.
+fn graph_text_of(alloc: Global, engine: &Engine) -> Result<Vec<Text>, AllocError>
+    ensures { IfOk result (λ texts. IsOneText (IsGraphText engine.now) texts.items) }
+{
+    let text = graph_text::graph(alloc, engine.program(), engine.locations(), engine.graph())?;
+    alone(alloc, text)
+}
+
+// The text of what reaches the statements on a line, or that none starts there.
+fn members_text_at(alloc: Global, engine: &Engine, line: u64) -> Result<Vec<Text>, Refusal>
+    ensures { MatchResult result (λ texts. StartAt engine.now (line ∷ []) × IsOneText (IsMembersText engine.now line) texts.items)
+        (IsCriteriaFault engine.now (line ∷ [])) }
+{
+    let criterion = criterion_at(engine, line)?;
+    let texts = members_text(alloc, engine, criterion)?;
+    Ok(texts)
+}
+
+// The text of what reaches the statements of a criterion. Err: no memory was left.
+fn members_text(
+    alloc: Global,
+    engine: &Engine,
+    criterion: Criterion,
+) -> Result<Vec<Text>, AllocError>
+    ensures { IfOk result (λ texts. IsOneText (IsMembersText engine.now criterion.line) texts.items) }
+{
+    let set = engine.members(alloc, criterion)?;
+    let text = graph_text::members(
+        alloc,
+        engine.program(),
+        engine.locations(),
+        engine.graph(),
+        &set,
+    )?;
+    alone(alloc, text)
+}
+
+// A list of one text. Err: no memory was left.
+fn alone(alloc: Global, text: Text) -> Result<Vec<Text>, AllocError>
+    ensures { IfOk result (λ texts. texts.items ≡ text ∷ []) }
+{
+    let mut texts = Vec::new(alloc);
+    texts.push(text)?;
+    Ok(texts)
 }

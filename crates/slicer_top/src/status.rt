@@ -9,15 +9,15 @@ use std::process::ExitCode;
 /// takes it.
 #[derive(Clone, Copy, Debug, PartialEq, Eq)]
 pub enum Status {
-    /// The slices are written. Code 0.
+    /// What was asked for is written. Code 0.
     Done,
-    /// The text isn't accepted, something of it isn't built, or no statement starts on one of the lines. Code 1.
+    /// The text isn't accepted, something of it isn't built for what is asked, or no statement starts on one of the lines. Code 1.
     Refused,
     /// The words are outside the grammar. Code 2.
     Usage,
     /// The file couldn't be read. Code 3.
     ReadFault,
-    /// A slice, or the line of another status on err, couldn't be written. Code 4.
+    /// What was asked for, or the line of another status on err, couldn't be written. Code 4.
     WriteFault,
     /// There was no memory for the work. Code 5.
     NoMemory,

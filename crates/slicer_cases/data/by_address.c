@@ -1,0 +1,7 @@
+void set(int *p) {
+    *p = 1;
+}
+int main(void) {
+    int x = 0;
+    set(&x);
+}
