@@ -11,7 +11,6 @@ pub mod ScopedForms
 pub mod ScopeNumbers
 pub mod TreedForms
 pub mod Lists
-pub mod MainLemmas
 pub mod Keywords
 pub mod FormedTokens
 pub mod Options

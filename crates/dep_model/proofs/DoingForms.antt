@@ -1,5 +1,8 @@
 -- What each form of statement does, as equations.
-use Rattle.std.proofs.Common.{◌≡◌, ℕ, List, [], ◌∷◌, ◌++◌, map, Bool, Option, Some, None, refl, sym, ap, ◌∙◌}
+use Rattle.std.proofs.Common.{◌≡◌, ℕ, List, [], ◌∷◌, ◌++◌, map, Bool, true, Option, Some, None, inl, inr, refl, sym, ap, subst, ◌∙◌}
+use Rattle.std.specs.Prelude.{Contains}
+use Rattle.std.specs.List.{list_all}
+use Rattle.std.proofs.lemmas.Bool.{and_parts}
 use Rattle.c_arith.specs.declared.operators.BinaryOp.{BinaryOp}
 use Rattle.c_tree.specs.declared.types.CType.{CType}
 use Rattle.c_tree.specs.declared.expr.Expr.{Expr}
@@ -12,7 +15,18 @@ use Rattle.c_tree.specs.declared.statement.Statement.TheVariants as s
 use Rattle.c_tree.specs.declared.statement.Arm.{Arm, fold-Arm, fold-roll-Arm}
 use Rattle.c_language.specs.Words.{Bytes}
 use Rattle.c_language.specs.Code.{Tests}
+use Rattle.rule_closure.proofs.ListLemmas.{contains_none, contains_cases}
 use Rattle.dep_model.specs.Doings.{Doing, Does, joined, doing_step, doing_arm, doings, body_doings}
+
+-- what is in a list whose members all pass, passes
+pub contained_passes : (test : Doing → Bool) (ds : List Doing) (d : Doing) → list_all test ds ≡ true → Contains ds d → test d ≡ true
+contained_passes test [] d h c = absurd (contains_none d c)
+contained_passes test (e ∷ ds) d h c =
+    let w = and_parts (test e) (list_all test ds) h in
+    elim (contains_cases e ds d c) [
+      | inl same ↦ subst (λ z. test z ≡ true) same w.0
+      | inr more ↦ contained_passes test ds d w.1 more
+    ]
 
 abbrev pub arm_doings : Arm → List Doing
 arm_doings = fold-Arm (List Doing) (List Doing) doing_step doing_arm

@@ -31,7 +31,7 @@ use Rattle.c_language.proofs.Options.{some_same, optional_there, map_there, then
 use Rattle.c_language.proofs.ScopeNumbers.{target_statements, begun_statements}
 use Rattle.built_forms.proofs.Options.{Always, always_map, always_then, always_both, always_if, always_is}
 use Rattle.dep_model.specs.Doings.{Doing, Does, doings, body_doings, doing_number}
-use Rattle.dep_model.specs.MainVertices.{from}
+use Rattle.dep_model.specs.NumbersFrom.{from}
 use Rattle.dep_model.proofs.DoingForms.{arms_doings, part_doings, doings-Declare, doings-Assign, doings-Bump, doings-Invoke, doings-Fetch, doings-Write, doings-Print, doings-Heap, doings-Release, doings-Return, doings-If, doings-While, doings-Do, doings-Switch, doings-Block, doings-For}
 
 -- ---- statements with the numbers from i up to j

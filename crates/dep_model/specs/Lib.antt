@@ -5,6 +5,7 @@ pub mod Criteria
 pub mod Denoted
 pub mod Designated
 pub mod DoingEffects
+pub mod DoingNames
 pub mod Doings
 pub mod EdgeOrder
 pub mod Facts
@@ -19,13 +20,10 @@ pub mod LocationLists
 pub mod LocationObjects
 pub mod LocationRows
 pub mod Locations
-pub mod MainEdges
-pub mod MainLocations
-pub mod MainVertices
 pub mod MayPoint
 pub mod ModRef
 pub mod NamedParameters
-pub mod NumberedMains
+pub mod NumbersFrom
 pub mod PairOrder
 pub mod Pairs
 pub mod Shapes

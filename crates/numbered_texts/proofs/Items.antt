@@ -2,8 +2,6 @@
 use Rattle.std.proofs.Common.{◌≡◌, ℕ, ◌+◌, ◌≤◌, List, [], ◌∷◌, map, true, Option, Some, None, refl, sym, ap, subst, ◌∙◌, arith}
 use Rattle.std.specs.List.{list_all}
 use Rattle.c_language.proofs.ProgramParts.{function_made}
-use Rattle.c_arith.specs.declared.int_type.IntType.TheVariants.{Int}
-use Rattle.c_tree.specs.declared.types.CType.TheVariants as type
 use Rattle.c_tree.specs.declared.program.Function.{Function}
 use Rattle.c_tree.specs.declared.raw.program.RawHead.{RawHead}
 use Rattle.c_tree.specs.declared.raw.program.RawInit.TheVariants as init
@@ -14,22 +12,19 @@ use Rattle.c_tree.specs.declared.raw.program.RawProgram.{RawProgram}
 use Rattle.c_tree.specs.declared.raw.statement.RawStatement.{RawStatement}
 use Rattle.c_language.specs.Words.{Bytes}
 use Rattle.c_language.specs.DeclaredTypes.{function_texts}
-use Rattle.c_language.specs.NameRules.{main_name, no_int}
 use Rattle.c_language.specs.Phrases.{after_body, item_phrases, after_item, items_phrases, after_items}
 use Rattle.c_language.specs.ProgramOf.{collected, treed, function_tree, functions_from}
-use Rattle.c_language.specs.Rules.{main, AreKept}
 use Rattle.c_language.specs.Scopes.{Scope, Meaning, with_function, after_all, parameter_of, with_named, with_parameter, with_parameters, scope_of_parameters, entered}
 use Rattle.c_language.proofs.Lists.{all_append}
 use Rattle.c_language.proofs.Options.{some_same, more_there}
 use Rattle.c_language.proofs.TreeScopes.{list_after}
-use Rattle.c_language.proofs.PhraseLists.{body_after, kept_second}
+use Rattle.c_language.proofs.PhraseLists.{body_after}
 use Rattle.c_language.proofs.ScopeNumbers.{function_declared, through_function, function_variables, entered_statements}
 use Rattle.c_print_laws.proofs.Scoping.{declared_count, count_append}
 use Rattle.c_print_laws.proofs.Numbers.{item_variables}
 use Rattle.built_forms.proofs.Terms.{AreLow}
-use Rattle.built_forms.proofs.MainHeads.{int_result, int_tree}
 use Rattle.dep_model.specs.Doings.{Doing, body_doings, functions_doings}
-use Rattle.dep_model.specs.NumberedMains.{doing_below}
+use Rattle.dep_model.specs.DoingNames.{doing_below}
 use Rattle.dep_model.proofs.TextNumbers.{Takes, takes_none, takes_both, body_takes}
 use Rattle.numbered_texts.proofs.NamesInScope.{low_more, low_push, Grows, same_grows, then_grows, variable_grows, body_below, body_grows}
 
@@ -148,26 +143,3 @@ module _ (raw : RawProgram) where
       let g = more_there (function_tree raw line head body scope) (functions_from raw xs after) fs e in
       let q = function_made raw line head body scope g.first g.first_there in
       ap (map (λ (f : Function). f.name)) (sym g.same) ∙ ap (λ n. n ∷ map (λ (f : Function). f.name) g.rest) (ap (λ (f : Function). f.name) q.is) ∙ ap (λ ns. head.name ∷ ns) (names_are xs after g.rest g.rest_there)
-
-  -- a function that is named main gives an int
-  abbrev pub GiveInts : List Function → Type 0
-  GiveInts [] = Unit {0}
-  GiveInts (f ∷ fs) = (f.name ≡ main_name → f.result ≡ Some (type.Integer Int)) × GiveInts fs
-
-  pub give_ints : (xs : List RawItem) (scope : Scope) (fs : List Function) → AreKept raw (items_phrases raw xs scope) → HasFunctions xs scope fs → GiveInts fs
-  give_ints [] scope fs kept e = subst GiveInts (some_same e) tt
-  give_ints (Include b ∷ xs) scope fs kept e = give_ints xs scope fs kept e
-  give_ints (Tag line tag ∷ xs) scope fs kept e = give_ints xs scope fs kept.1 e
-  give_ints (Struct line tag members ∷ xs) scope fs kept e =
-      give_ints xs (after_item raw (Struct line tag members) scope) fs (kept_second raw (item_phrases raw (Struct line tag members) scope) (items_phrases raw xs (after_item raw (Struct line tag members) scope)) kept) e
-  give_ints (Global line var i is_static ∷ xs) scope fs kept e =
-      give_ints xs (after_item raw (Global line var i is_static) scope) fs (kept_second raw (item_phrases raw (Global line var i is_static) scope) (items_phrases raw xs (after_item raw (Global line var i is_static) scope)) kept) e
-  give_ints (Prototype line head ∷ xs) scope fs kept e =
-      give_ints xs (with_function head.name scope) fs (kept_second raw (item_phrases raw (Prototype line head) scope) (items_phrases raw xs (with_function head.name scope)) kept) e
-  give_ints (Define line head body ∷ xs) scope fs kept e =
-      let after = after_item raw (Define line head body) scope in
-      let g = more_there (function_tree raw line head body scope) (functions_from raw xs after) fs e in
-      let q = function_made raw line head body scope g.first g.first_there in
-      let gives : head.name ≡ main_name → q.result ≡ Some (type.Integer Int) = λ named. some_same (sym q.result_there ∙ int_tree raw head.result (int_result head.result (λ ne. kept.0 5 (main (no_int named ne))))) in
-      subst GiveInts g.same
-      (λ named. ap (λ (f : Function). f.result) q.is ∙ gives (sym (ap (λ (f : Function). f.name) q.is) ∙ named), give_ints xs after g.rest (kept_second raw (item_phrases raw (Define line head body) scope) (items_phrases raw xs after) kept) g.rest_there)

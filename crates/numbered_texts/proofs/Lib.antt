@@ -1,4 +1,3 @@
-pub mod BuiltMains
 pub mod CallTests
 pub mod CallsFit
 pub mod GivenResults
@@ -13,4 +12,3 @@ pub mod Texts
 pub mod PointNowhere
 pub mod PointerFreeBodies
 pub mod PointerFreeTexts
-pub mod MainsButLines

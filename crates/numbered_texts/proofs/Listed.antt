@@ -1,5 +1,5 @@
 -- What the vertices of a program may use is listed among its locations, where the variables that its statements name are its own.
-use Rattle.std.proofs.Common.{append-nil, find, cond, ◌≡◌, ℕ, zero, suc, ◌+◌, ◌<◌, List, [], ◌∷◌, ◌++◌, map, length, Bool, true, false, ◌&&◌, ◌||◌, inl, inr, Option, Some, None, refl, sym, ap, ap₂, subst, ◌∙◌, arith, eqb-true, ltb-true}
+use Rattle.std.proofs.Common.{find, cond, ◌≡◌, ℕ, zero, suc, ◌+◌, ◌<◌, List, [], ◌∷◌, ◌++◌, map, length, Bool, true, false, ◌&&◌, ◌||◌, inl, inr, Option, Some, None, refl, sym, ap, ap₂, subst, ◌∙◌, arith, eqb-true, ltb-true}
 use Rattle.std.specs.Prelude.{slice_get, is_some, not, if◌then◌else◌}
 use Rattle.std.specs.List.{list_all, list_any}
 use Rattle.std.specs.Option.{option_map_or}
@@ -45,10 +45,9 @@ use Rattle.dep_model.specs.ListedLocations.{IsListed, AreListed}
 use Rattle.dep_model.specs.Locations.{Located, TypedLocation, locations, placed, parts_with, rooted, variable_locations, site_locations, function_heaps, result_parts, result_locations, same_root, same_part, same_location}
 use Rattle.dep_model.specs.MayPoint.{parameters}
 use Rattle.dep_model.specs.ModRef.{FunctionEffects}
-use Rattle.dep_model.specs.NumberedMains.{value_below, init_below, target_below, amount_below, act_below, doing_below, IsNumberedMain}
+use Rattle.dep_model.specs.DoingNames.{value_below, init_below, target_below, amount_below, act_below, doing_below}
 use Rattle.dep_model.specs.SystemGraph.{Analysis, vertices_of}
 use Rattle.dep_model.specs.VertexOrder.{slots_from, arguments_from, in_function, has_result, slots_of, result_slots, touched, formal_ins, formal_outs, target_slots, doing_vertices, all_vertices, function_kinds, vertices_from, has_number, doing_at, of_location, actual_uses, out_uses, statement_uses, kind_uses}
-use Rattle.dep_model.proofs.NumberedMain.{main_doings}
 use Rattle.dep_model.proofs.Membership.{IsIn, contains_of_in, in_either, if_in, of_map}
 
 -- ---- locations that are found the same are one
@@ -510,9 +509,3 @@ module _ (p : Program) where
 -- what a vertex uses is listed, whatever the analysis
 pub used_are_listed : (p : Program) → list_all (doing_below (length p.vars)) (program_doings p) ≡ true → (a : Analysis) → AreListed p a
 used_are_listed p below a v w l defined used = used_at p a.points below a.effects (vertices_of p a) w l (vertices_fine p a.points below a.effects 0 p.functions) used
-
--- and so it is in a main alone over integers
-pub main_listed : (p : Program) → IsNumberedMain p → (a : Analysis) → AreListed p a
-main_listed p h a =
-    let same : doings_of p 0 ≡ program_doings p = main_doings p h.integer ∙ sym (append-nil (body_doings h.integer.main.body)) ∙ ap functions_doings (sym h.integer.functions_are) in
-    used_are_listed p (sym (ap (list_all (doing_below (length p.vars))) same) ∙ h.named_are) a

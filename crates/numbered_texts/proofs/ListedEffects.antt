@@ -20,8 +20,8 @@ use Rattle.dep_model.specs.DoingEffects.{the_input, result_of, any_reads, target
 use Rattle.dep_model.specs.ListedLocations.{IsListed}
 use Rattle.dep_model.specs.Locations.{same_location}
 use Rattle.dep_model.specs.ModRef.{is_outside, Modifies, MayUse}
-use Rattle.dep_model.specs.NumberedMains.{init_below, target_below, act_below, doing_below}
-use Rattle.dep_model.proofs.NumberedMain.{contained_passes}
+use Rattle.dep_model.specs.DoingNames.{init_below, target_below, act_below, doing_below}
+use Rattle.dep_model.proofs.DoingForms.{contained_passes}
 use Rattle.numbered_texts.proofs.Listed.{locations_are, whole_listed, input_listed, part_lists, expr_fine, all_used, target_used, act_used, of_function}
 
 module _ (p : Program) (points : TargetsOf) where

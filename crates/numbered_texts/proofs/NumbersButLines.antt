@@ -1,27 +1,22 @@
 -- A well-formed program is numbered in text order.
-use Rattle.std.proofs.Common.{◌≡◌, ℕ, zero, suc, ◌+◌, List, [], ◌∷◌, ◌++◌, length, map, Option, None, refl, sym, ap, ap₂, ◌∙◌, arith}
-use Rattle.std.specs.Prelude.{Bool, ◌&&◌, not, is_some, slice_get}
+use Rattle.std.proofs.Common.{◌≡◌, ℕ, zero, suc, ◌+◌, List, [], ◌∷◌, ◌++◌, length, map, refl, sym, ap, ap₂, ◌∙◌, arith}
+use Rattle.std.specs.Prelude.{Bool, ◌&&◌, not, is_some}
 use Rattle.std.specs.List.{list_all, range_with_len}
-use Rattle.std.specs.Option.{option_map_or}
 use Rattle.std.proofs.lemmas.List.{length-map}
 use Rattle.c_tree.specs.declared.program.Function.{Function}
 use Rattle.c_tree.specs.declared.program.Program.{Program}
 use Rattle.c_tree.specs.declared.statement.Statement.{Statement}
 use Rattle.c_tree.specs.declared.statement.Statement.TheOpen.{Statement-F}
-use Rattle.c_tree.specs.declared.types.CType.{CType}
 use Rattle.c_tree.specs.Unlined.{unlined, unlined_function, unlined_var, SameButLines}
 use Rattle.c_language.specs.NameRules.{is_main}
-use Rattle.c_language.specs.Words.{Bytes}
-use Rattle.built_forms.specs.IntegerForms.{IsIntegerMain}
-use Rattle.dep_model.specs.Doings.{Doing, doing_step, doing_arm, doings, body_doings, functions_doings, program_doings, doings_of, doing_number}
-use Rattle.dep_model.specs.MainVertices.{from}
-use Rattle.dep_model.specs.NumberedMains.{doing_below, IsNumberedMain}
+use Rattle.dep_model.specs.Doings.{Doing, doing_step, doing_arm, doings, body_doings, functions_doings, program_doings, doing_number}
+use Rattle.dep_model.specs.NumbersFrom.{from}
+use Rattle.dep_model.specs.DoingNames.{doing_below}
 use Rattle.c_tree.proofs.Unlining.{zeroed, fold_unlined}
-use Rattle.numbered_texts.proofs.MainsButLines.{main_same}
 use Rattle.text_syntax.proofs.Items.{text_is_syntax}
 use Rattle.numbered_texts.specs.FittingCalls.{fits, gives, parameter_counts, results_given}
-use Rattle.numbered_texts.specs.Laws.{StatementsAreNumbered, NamedVariablesExist, CallsFit, ResultsAreGiven, WellFormedAreNumbered}
-use Rattle.numbered_texts.proofs.Texts.{text_numbers, text_names, text_calls, text_results, texts_numbered}
+use Rattle.numbered_texts.specs.Laws.{StatementsAreNumbered, NamedVariablesExist, CallsFit, ResultsAreGiven}
+use Rattle.numbered_texts.proofs.Texts.{text_numbers, text_names, text_calls, text_results}
 use Rattle.numbered_texts.proofs.GivenResults.{all_taken}
 
 doing_free : (x : Statement-F (List Doing) (List Doing)) → doing_step (zeroed x) ≡ doing_step x
@@ -58,43 +53,9 @@ pub all_same : (p q : Program) → SameButLines p q → program_doings p ≡ pro
 all_same p q same =
     sym (functions_unlined p.functions) ∙ ap (λ (r : Program). functions_doings r.functions) same ∙ functions_unlined q.functions
 
-abbrev first_doings : List Function → List Doing
-first_doings fs = option_map_or (λ (g : Function). body_doings g.body) (slice_get fs 0) []
-
-first_unlined : (fs : List Function) → first_doings (map unlined_function fs) ≡ first_doings fs
-first_unlined [] = refl
-first_unlined (f ∷ fs) = body_unlined f.body
-
--- the statements of main are the same in programs that are the same but for lines
-doings_same : (p q : Program) → SameButLines p q → doings_of p 0 ≡ doings_of q 0
-doings_same p q same =
-    sym (first_unlined p.functions) ∙ ap (λ (r : Program). first_doings r.functions) same ∙ first_unlined q.functions
-
 pub count_same : (p q : Program) → SameButLines p q → length p.vars ≡ length q.vars
 count_same p q same =
     sym (length-map p.vars unlined_var) ∙ ap (λ (r : Program). length r.vars) same ∙ length-map q.vars unlined_var
-
-abbrev first_name : List Function → Bytes
-first_name fs = option_map_or (λ (f : Function). f.name) (slice_get fs 0) []
-
-abbrev first_result : List Function → Option CType
-first_result fs = option_map_or (λ (f : Function). f.result) (slice_get fs 0) None
-
-module _ (p q : Program) (same : SameButLines p q) (h : IsIntegerMain p) (n : IsNumberedMain q) where
-  functions_same : map unlined_function (h.main ∷ []) ≡ map unlined_function (n.integer.main ∷ [])
-  functions_same =
-      ap (map unlined_function) (sym h.functions_are) ∙ ap (λ (r : Program). r.functions) same ∙ ap (map unlined_function) n.integer.functions_are
-
-  numbered_same : IsNumberedMain p
-  numbered_same = record {
-    integer = h;
-    name_is = ap first_name functions_same ∙ n.name_is;
-    result_is = ap first_result functions_same ∙ n.result_is;
-    numbers_are = ap (map doing_number) (doings_same p q same) ∙ n.numbers_are ∙ ap (λ (r : Program). from 0 r.statements) (sym same);
-    named_are = ap₂ (λ (k : ℕ) (ds : List Doing). list_all (doing_below k) ds) (count_same p q same) (doings_same p q same) ∙ n.named_are;
-  }
-
--- ---- every form
 
 from_range : (i n : ℕ) → from i n ≡ range_with_len i n
 from_range i zero = refl
@@ -130,9 +91,3 @@ results_same p q same = sym (results_unlined p.functions) ∙ ap (λ (r : Progra
 pub results_stored : ResultsAreGiven
 results_stored p ok =
     all_taken p (program_doings p) (ap₂ (λ (rs : List Bool) (ds : List Doing). list_all (gives rs) ds) (results_same p ok.same ok.but_lines) (all_same p ok.same ok.but_lines) ∙ text_results ok.raw ok.same ok.has)
-
--- ---- main alone
-
-pub well_formed_numbered : WellFormedAreNumbered
-well_formed_numbered p ok h =
-    numbered_same p ok.same ok.but_lines h (texts_numbered ok.raw ok.same ok.has (main_same p ok.same ok.but_lines h))

@@ -2,17 +2,15 @@
 use Rattle.std.specs.Prelude.{◌≡◌, ◌⊎◌, ℕ, true, length, map, Some, None}
 use Rattle.std.specs.List.{list_all, range_with_len}
 use Rattle.c_tree.specs.declared.program.Program.{Program}
-use Rattle.c_tree.specs.declared.raw.program.RawProgram.{RawProgram}
 use Rattle.c_language.specs.Mains.{main_of}
-use Rattle.c_language.specs.Programs.{HasProgram, IsWellFormed}
-use Rattle.built_forms.specs.BuiltForms.{not_yet, beyond_integers}
-use Rattle.built_forms.specs.IntegerForms.{IsIntegerMain}
+use Rattle.c_language.specs.Programs.{IsWellFormed}
+use Rattle.built_forms.specs.BuiltForms.{beyond_integers}
 use Rattle.dep_model.specs.declared.location.Location.{Location}
 use Rattle.dep_model.specs.Denoted.{TargetsOf}
 use Rattle.dep_model.specs.Doings.{doing_number, program_doings}
 use Rattle.dep_model.specs.ListedLocations.{IsListed, AreListed}
 use Rattle.dep_model.specs.ModRef.{Modifies, MayUse}
-use Rattle.dep_model.specs.NumberedMains.{doing_below, IsNumberedMain}
+use Rattle.dep_model.specs.DoingNames.{doing_below}
 use Rattle.dep_model.specs.MayPoint.{MayPoint}
 use Rattle.dep_model.specs.SystemGraph.{Analysis}
 use Rattle.numbered_texts.specs.FittingCalls.{fits, parameter_counts, takes_result}
@@ -55,16 +53,3 @@ IntegersArePointerFree = (p : Program) → IsWellFormed p → beyond_integers p 
 -- and no location of such a program points anywhere
 abbrev pub PointerFreePointNowhere : Type 0
 PointerFreePointNowhere = (p : Program) → IsPointerFree p → (l m : Location) → MayPoint p l m → ⊥
-
--- ---- main alone over integers
-
-abbrev pub IntegerTextsAreNumbered : Type 0
-IntegerTextsAreNumbered = (raw : RawProgram) (p : Program) → HasProgram raw p → IsIntegerMain p → IsNumberedMain p
-
--- and so are well-formed ones
-abbrev pub WellFormedAreNumbered : Type 0
-WellFormedAreNumbered = (p : Program) → IsWellFormed p → IsIntegerMain p → IsNumberedMain p
-
--- a well-formed program of which nothing is outside the built forms is one
-abbrev pub BuiltAreNumbered : Type 0
-BuiltAreNumbered = (p : Program) → IsWellFormed p → not_yet p ≡ None → IsNumberedMain p

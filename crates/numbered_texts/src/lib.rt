@@ -43,25 +43,6 @@ pub fn programs_have_main()
     ensures { law.ProgramsHaveMain }
 {}
 
-/// A law: where the program of a text that keeps all rules is of main alone over integers, main is named so
-/// and gives an int, its statements have the numbers from 0 on in the order in which they stand, and each
-/// variable that they name is one of the program.
-pub fn integer_texts_are_numbered()
-    ensures { law.IntegerTextsAreNumbered }
-{}
-
-/// A law: of a well-formed program of main alone over integers, main is named so and gives an int, its
-/// statements have the numbers from 0 on in the order in which they stand, and each variable that they name
-/// is one of the program.
-pub fn well_formed_are_numbered()
-    ensures { law.WellFormedAreNumbered }
-{}
-
-/// A law: the same holds of a well-formed program of which nothing is outside the built forms.
-pub fn built_are_numbered()
-    ensures { law.BuiltAreNumbered }
-{}
-
 /// A law: a well-formed program of which nothing is beyond integers has no pointers, arrays and structs: its variables
 /// are integers, and so are the expressions of its statements and what its globals begin with.
 pub fn integers_are_pointer_free()

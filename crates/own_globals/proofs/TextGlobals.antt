@@ -35,7 +35,7 @@ use Rattle.dep_model.specs.MayPoint.{parameters}
 use Rattle.dep_model.proofs.Membership.{IsIn, in_of_contains}
 use Rattle.kept_texts.proofs.OwnVariables.{after_body_is, entered_more, item_more, params_below, params_later}
 use Rattle.acts_together.specs.OwnGlobals.{BeginsNone, globals_of, HasOwnGlobals}
-use Rattle.projection_meaning.proofs.Lines.{same_executable}
+use Rattle.projected_programs.proofs.Lines.{same_executable}
 use Rattle.own_globals.specs.Laws.{GlobalsAreOwn}
 use Rattle.own_globals.proofs.BegunParts.{body_own}
 use Rattle.own_globals.proofs.OwnedVariables.{AllOwned, definition_owned}

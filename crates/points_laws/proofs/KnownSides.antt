@@ -23,7 +23,7 @@ use Rattle.c_language.proofs.ProgramParts.{made_of}
 use Rattle.dep_model.specs.Doings.{Doing, Does, body_doings, doings_of}
 use Rattle.dep_model.specs.MayPoint.{parameters}
 use Rattle.dep_model.specs.VertexOrder.{has_result}
-use Rattle.dep_model.proofs.NumberedMain.{contained_passes}
+use Rattle.dep_model.proofs.DoingForms.{contained_passes}
 use Rattle.numbered_texts.proofs.NumbersButLines.{body_unlined, count_same, named_exist}
 use Rattle.numbered_texts.proofs.Texts.{text_variables}
 use Rattle.points_laws.specs.Known.{AreGlobalsNowhere, HasKnownSides}

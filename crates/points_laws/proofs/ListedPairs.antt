@@ -20,8 +20,8 @@ use Rattle.dep_model.specs.DoingEffects.{result_of, target_places}
 use Rattle.dep_model.specs.ListedLocations.{IsListed}
 use Rattle.dep_model.specs.Locations.{same_location}
 use Rattle.dep_model.specs.MayPoint.{Pointing, pointing, site, parameters, listed, init_pointings, returned, act_pointings, passed, doing_pointings, IsPointing, of_statement, of_global, MayPoint, by}
-use Rattle.dep_model.specs.NumberedMains.{init_below, target_below, act_below, doing_below}
-use Rattle.dep_model.proofs.NumberedMain.{contained_passes}
+use Rattle.dep_model.specs.DoingNames.{init_below, target_below, act_below, doing_below}
+use Rattle.dep_model.proofs.DoingForms.{contained_passes}
 use Rattle.numbered_texts.proofs.Listed.{locations_are, whole_listed, result_listed, part_lists, points_list, expr_fine, of_function}
 use Rattle.points_laws.specs.Known.{HasKnownSides}
 use Rattle.points_laws.proofs.Sites.{site_listed}

@@ -10,7 +10,7 @@ use Rattle.dep_model.specs.declared.location.Location.{Location}
 use Rattle.dep_model.specs.Denoted.{TargetsOf}
 use Rattle.dep_model.specs.Doings.{Does, doings_of, program_doings}
 use Rattle.dep_model.specs.MayPoint.{Pointing, parameters, item_pointings}
-use Rattle.dep_model.specs.NumberedMains.{doing_below}
+use Rattle.dep_model.specs.DoingNames.{doing_below}
 use Rattle.dep_model.specs.VertexOrder.{has_result}
 
 -- what globals begin with points nowhere

@@ -11,7 +11,7 @@ use Rattle.dep_model.specs.PointerFree.{IsPointerFree}
 use Rattle.dep_model.specs.SystemGraph.{Analysis, IsAnalysis, vertices_of, AreSystemEdges}
 use Rattle.dep_model.specs.Words.{ReachesAny}
 use Rattle.projection.specs.KeptVertices.{kept_words, projection}
-use Rattle.projection_meaning.specs.SameValues.{StandFor, HasSameValues}
+use Rattle.sliced_runs.specs.SameValues.{StandFor, HasSameValues}
 use Rattle.acts_together.specs.OwnGlobals.{HasOwnGlobals}
 
 -- what a set has that can be projected, with all that reaches a criterion, gives the values of the program there: of a program without

@@ -9,7 +9,7 @@ use Rattle.c_tree.specs.Numbered.{program_starts}
 use Rattle.c_language.specs.Programs.{IsWellFormed}
 use Rattle.dep_model.specs.SystemGraph.{Analysis}
 use Rattle.projection.specs.Kept.{rank}
-use Rattle.projection_meaning.proofs.Ranks.{rank_injective}
+use Rattle.slice_engine.proofs.Ranks.{rank_injective}
 use Rattle.slice_engine.specs.Slice.{starts_on, IsKeptSet, keeps, is_criterion}
 use Rattle.slice_engine.proofs.Kept.{criterion_kept}
 

@@ -1,3 +1,4 @@
+pub mod Ranks
 pub mod RankTests
 pub mod Kept
 pub mod CriterionRanks

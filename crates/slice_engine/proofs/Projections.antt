@@ -16,7 +16,7 @@ use Rattle.own_words.specs.OwnWords.{KeepsWords}
 use Rattle.projected_values.proofs.Values.{projections_same_values}
 use Rattle.projection.specs.KeptVertices.{kept_of}
 use Rattle.projection_laws.specs.Nested.{IsNested}
-use Rattle.projection_meaning.specs.SameValues.{StandFor, HasSameValues}
+use Rattle.sliced_runs.specs.SameValues.{StandFor, HasSameValues}
 use Rattle.slice_engine.specs.Laws.{CanBeProjected}
 use Rattle.slice_engine.specs.Slice.{keeps, sliced}
 

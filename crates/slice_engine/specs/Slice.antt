@@ -19,7 +19,7 @@ use Rattle.dep_model.specs.Criteria.{criterion_of}
 use Rattle.dep_model.specs.SystemGraph.{Analysis, IsAnalysis, vertices_of, AreSystemEdges}
 use Rattle.projection.specs.Kept.{rank}
 use Rattle.projection.specs.KeptVertices.{kept_words, kept_of, projection}
-use Rattle.projection_meaning.specs.SameValues.{HasSameValues}
+use Rattle.sliced_runs.specs.SameValues.{HasSameValues}
 use Rattle.own_words.specs.OwnWords.{KeepsWords}
 
 -- whether a statement starts on a line

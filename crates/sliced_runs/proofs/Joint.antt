@@ -14,7 +14,7 @@ use Rattle.dep_model.specs.SystemGraph.{Analysis, IsAnalysis, vertices_of, AreSy
 use Rattle.dep_model.specs.Words.{ReachesAny}
 use Rattle.projection.specs.Kept.{Kept}
 use Rattle.projection.specs.KeptVertices.{kept_words, kept_of, projection}
-use Rattle.projection_meaning.specs.SameValues.{StandFor, HasSameValues}
+use Rattle.sliced_runs.specs.SameValues.{StandFor, HasSameValues}
 use Rattle.run_facts.proofs.Blocks.{get_more}
 use Rattle.slice_simulation.specs.Abreast.{SliceFollows}
 use Rattle.slice_simulation.specs.Premises.{Premises}

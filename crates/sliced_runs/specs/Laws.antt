@@ -10,7 +10,7 @@ use Rattle.dep_model.specs.Criteria.{criterion_of}
 use Rattle.dep_model.specs.SystemGraph.{Analysis, IsAnalysis, vertices_of, AreSystemEdges}
 use Rattle.dep_model.specs.Words.{ReachesAny}
 use Rattle.projection.specs.KeptVertices.{kept_words, projection}
-use Rattle.projection_meaning.specs.SameValues.{StandFor, HasSameValues}
+use Rattle.sliced_runs.specs.SameValues.{StandFor, HasSameValues}
 use Rattle.wanted_locations.specs.Chained.{HasSoundCalls}
 use Rattle.sliced_runs.specs.Together.{GoTogether}
 

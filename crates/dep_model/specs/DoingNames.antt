@@ -1,25 +1,18 @@
--- Programs of main alone over integers as texts give them: their statements and variables are numbered in text order.
-use Rattle.std.specs.Prelude.{◌≡◌, ℕ, nat_lt, Bool, true, ◌&&◌, length, map, Option, Some, None, codes}
+-- The variables that a statement names have numbers below n.
+use Rattle.std.specs.Prelude.{ℕ, nat_lt, Bool, true, ◌&&◌, Option, Some, None}
 use Rattle.std.specs.List.{list_all}
-use Rattle.c_arith.specs.declared.int_type.IntType.TheVariants.{Int}
 use Rattle.c_tree.specs.declared.expr.Expr.{Expr}
 use Rattle.c_tree.specs.declared.program.Init.{Init}
 use Rattle.c_tree.specs.declared.program.Init.TheVariants as init
-use Rattle.c_tree.specs.declared.program.Program.{Program}
 use Rattle.c_tree.specs.declared.statement.Amount.{Amount}
 use Rattle.c_tree.specs.declared.statement.Amount.TheVariants as amount
 use Rattle.c_tree.specs.declared.statement.Size.{Size}
 use Rattle.c_tree.specs.declared.statement.Size.TheVariants as size
 use Rattle.c_tree.specs.declared.statement.Target.{Target}
 use Rattle.c_tree.specs.declared.statement.Target.TheVariants as target
-use Rattle.c_tree.specs.declared.types.CType.TheVariants as type
 use Rattle.c_language.specs.Code.{Act, Begins, Sets, Bumps, Fetches, Writes, Prints, Allocates, Frees, Returns, Tests}
-use Rattle.built_forms.specs.IntegerForms.{IsIntegerMain}
 use Rattle.built_forms.specs.NamesBelow.{names_below}
-use Rattle.dep_model.specs.Doings.{Doing, Does, Calls, doing_number, doings_of}
-use Rattle.dep_model.specs.MainVertices.{from}
-
--- ---- the variables that a statement names have numbers below n
+use Rattle.dep_model.specs.Doings.{Doing, Does, Calls}
 
 abbrev pub value_below : ℕ → Option Expr → Bool
 value_below n None = true
@@ -61,12 +54,3 @@ act_below n (Tests e) = names_below n e
 abbrev pub doing_below : ℕ → Doing → Bool
 doing_below n (Does i a) = act_below n a
 doing_below n (Calls i to f args) = target_below n to && list_all (names_below n) args
-
--- main is named so and gives an int; its statements are numbered from 0 on in the order in which they stand, a test before what it
--- decides; and each variable that is named is one of the program
-pub record IsNumberedMain (p : Program) : Type 0 where
-  pub integer : IsIntegerMain p
-  pub name_is : integer.main.name ≡ codes "main"
-  pub result_is : integer.main.result ≡ Some (type.Integer Int)
-  pub numbers_are : map doing_number (doings_of p 0) ≡ from 0 p.statements
-  pub named_are : list_all (doing_below (length p.vars)) (doings_of p 0) ≡ true

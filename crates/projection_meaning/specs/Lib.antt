@@ -1,3 +1,0 @@
-pub mod MainProjection
-pub mod SameValues
-pub mod Laws
