@@ -30,7 +30,7 @@ fn program_of(alloc: Global, bytes: &[u8]) -> anyhow::Result<Program> {
 
 fn engine_of(alloc: Global, bytes: &[u8]) -> anyhow::Result<Engine> {
     let p = program_of(alloc, bytes)?;
-    if built_forms::beyond_integers(&p).is_some() {
+    if built_forms::not_yet(&p).is_some() {
         return Err(anyhow::Error::msg("not yet"));
     }
     Engine::new(alloc, p).map_err(|_| anyhow::Error::msg("a limit"))

@@ -4,7 +4,7 @@ use Rattle.c_tree.specs.declared.program.Program.{Program}
 use Rattle.c_language.specs.Words.{Bytes}
 use Rattle.c_language.specs.Programs.{IsWellFormed}
 use Rattle.c_reader.specs.Reading.{ReadsProgram}
-use Rattle.built_forms.specs.BuiltForms.{beyond_integers}
+use Rattle.built_forms.specs.BuiltForms.{not_yet}
 use Rattle.dep_model.specs.LocationLists.{AreListedOnce}
 use Rattle.dep_model.proofs.LocationsOnce.{listed_once}
 use Rattle.numbered_texts.proofs.NumbersButLines.{statements_numbered}
@@ -22,7 +22,7 @@ well_formed {text} {p} reads = record {
   but_lines = refl;
 }
 
-pub ready : {text : Bytes} (p : Program) → ReadsProgram text p → length p.functions ≤ 1000 → beyond_integers p ≡ None → IsReady p
+pub ready : {text : Bytes} (p : Program) → ReadsProgram text p → length p.functions ≤ 1000 → not_yet p ≡ None → IsReady p
 ready p reads few within = record {
   well_formed = well_formed reads;
   few_functions = omega (arith, few);

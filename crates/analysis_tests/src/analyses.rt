@@ -7,7 +7,7 @@ ghost use Rattle.program_graph.specs.Given.{HasSkeleton};
 ghost use Rattle.analysis_tests.specs.Ready.{IsGraphReady, IsReady, PointsNowhere};
 
 use bit_rows::Rows;
-use built_forms::beyond_integers;
+use built_forms::not_yet;
 use c_reader::read_program;
 use c_tree::Program;
 use dep_model::{Effects, Graph, GraphFault, Locations, PointsTo, Skeleton};
@@ -27,7 +27,7 @@ pub(crate) fn read<R: Abort + AllocGlobal>(rt: &R, text: &str) -> Program
     assert!(rt; bytes.len() < LONG);
     let p = read_program(rt.alloc(), bytes).expect(rt, "a program");
     assert!(rt; p.functions.len() <= MANY);
-    assert_eq!(rt; beyond_integers(&p), None);
+    assert_eq!(rt; not_yet(&p), None);
     p
 }
 

@@ -46,23 +46,23 @@ one_integer vars n m e h k from below = let i : n ≡ k = omega (arith, e, from,
 pub more_integers : (vars : List Var) (n m l : ℕ) → AreIntegers vars n m → AreIntegers vars m l → AreIntegers vars n l
 more_integers vars n m l a b k from below = elim (cases_lt k m) [ inl h ↦ a k from h | inr h ↦ b k h below ]
 
-module _ (raw : RawProgram) (calls : Bool) (vars : List Var) where
+module _ (raw : RawProgram) (vars : List Var) where
   -- a place outside is no place inside
   abbrev IsOutside : ℕ → Statement → Type 0
-  IsOutside l x = statement_outside calls vars x ≡ Some l
+  IsOutside l x = statement_outside vars x ≡ Some l
 
-  not_outside : {A : Type 0} (l : ℕ) (o : Option Statement) (x : Statement) → Always (IsOutside l) o → o ≡ Some x → statement_outside calls vars x ≡ None → A
+  not_outside : {A : Type 0} (l : ℕ) (o : Option Statement) (x : Statement) → Always (IsOutside l) o → o ≡ Some x → statement_outside vars x ≡ None → A
   not_outside l o x h is none = none_there (sym none ∙ always_is (IsOutside l) o x h is)
 
   -- ---- declarations
 
   pub declared : (l : ℕ) (var : RawVar) (i : RawInit) (scope : Scope) (x : Statement)
       → option_map (s.Declare (declaration_id i scope.statements) l scope.variables) (init_of raw (with_variable raw var i scope) i) ≡ Some x
-      → statement_outside calls vars x ≡ None → AreIntegers vars scope.variables (begun i (with_variable raw var i scope)).variables
+      → statement_outside vars x ≡ None → AreIntegers vars scope.variables (begun i (with_variable raw var i scope)).variables
   declared l var i scope x e none =
       let id = declaration_id i scope.statements in
       let m = map_there (s.Declare id l scope.variables) (init_of raw (with_variable raw var i scope) i) x e in
-      let tests : unless (is_integer_variable vars scope.variables && integer_init m.value) l ≡ None = sym (outside-Declare calls vars id l scope.variables m.value) ∙ ap (statement_outside calls vars) m.same ∙ none in
+      let tests : unless (is_integer_variable vars scope.variables && integer_init m.value) l ≡ None = sym (outside-Declare vars id l scope.variables m.value) ∙ ap (statement_outside vars) m.same ∙ none in
       one_integer vars scope.variables _ (begun_variables i (with_variable raw var i scope)) (and_parts (is_integer_variable vars scope.variables) (integer_init m.value) (unless_none _ l tests)).0
 
   -- ---- calls
@@ -83,25 +83,24 @@ module _ (raw : RawProgram) (calls : Bool) (vars : List Var) where
       one_integer vars scope.variables _ (omega arith) (ap (is_integer_target (is_integer_variable vars)) (some_same e) ∙ is)
 
   -- a call that is among the forms has such a target
-  fetched : (l : ℕ) (scope : Scope) (to : RawTarget) (x : Statement) → option_map (s.Fetch scope.statements l) (target_tree raw scope to) ≡ Some x → statement_outside calls vars x ≡ None
+  fetched : (l : ℕ) (scope : Scope) (to : RawTarget) (x : Statement) → option_map (s.Fetch scope.statements l) (target_tree raw scope to) ≡ Some x → statement_outside vars x ≡ None
       → AreIntegers vars scope.variables (with_target raw to scope).variables
   fetched l scope to x e none =
       let m = map_there (s.Fetch scope.statements l) (target_tree raw scope to) x e in
-      let tests : unless (calls && is_integer_target (is_integer_variable vars) m.value) l ≡ None = sym (outside-Fetch calls vars scope.statements l m.value) ∙ ap (statement_outside calls vars) m.same ∙ none in
-      targeted to scope m.value m.there (and_parts calls (is_integer_target (is_integer_variable vars) m.value) (unless_none _ l tests)).1
+      let tests : unless (is_integer_target (is_integer_variable vars) m.value) l ≡ None = sym (outside-Fetch vars scope.statements l m.value) ∙ ap (statement_outside vars) m.same ∙ none in
+      targeted to scope m.value m.there (unless_none _ l tests)
 
   invoked : (l : ℕ) (scope : Scope) (to : RawTarget) (f : Bytes) (args : List RawArg) (x : Statement) → invoke_tree raw (with_target raw to scope) scope.statements l (target_tree raw scope to) f args ≡ Some x
-      → statement_outside calls vars x ≡ None → AreIntegers vars scope.variables (with_target raw to scope).variables
+      → statement_outside vars x ≡ None → AreIntegers vars scope.variables (with_target raw to scope).variables
   invoked l scope to f args x e none =
       let t = then_there (λ (t : Target). both (s.Invoke scope.statements l t) (function_id raw f) (args_tree raw (with_target raw to scope) args)) (target_tree raw scope to) x e in
       let m = both_there (s.Invoke scope.statements l t.value) (function_id raw f) (args_tree raw (with_target raw to scope) args) x t.same in
-      let tests : unless (calls && (is_integer_target (is_integer_variable vars) t.value && are_integers m.right)) l ≡ None = sym (outside-Invoke calls vars scope.statements l t.value m.left m.right) ∙ ap (statement_outside calls vars) m.same ∙ none in
-      let inside = and_parts calls (is_integer_target (is_integer_variable vars) t.value && are_integers m.right) (unless_none _ l tests) in
-      targeted to scope t.value t.there (and_parts (is_integer_target (is_integer_variable vars) t.value) (are_integers m.right) inside.1).0
+      let tests : unless (is_integer_target (is_integer_variable vars) t.value && are_integers m.right) l ≡ None = sym (outside-Invoke vars scope.statements l t.value m.left m.right) ∙ ap (statement_outside vars) m.same ∙ none in
+      targeted to scope t.value t.there (and_parts (is_integer_target (is_integer_variable vars) t.value) (are_integers m.right) (unless_none _ l tests)).0
 
   pub called : (l : ℕ) (scope : Scope) (stand : Stand) (to : RawTarget) (f : Bytes) (args : List RawArg)
       → AreKept raw (target_phrases raw l scope stand to ++ (phrase l (with_target raw to scope) (Calls stand to f args) ∷ []))
-      → (x : Statement) → call_tree raw (with_target raw to scope) scope.statements l (target_tree raw scope to) f args ≡ Some x → statement_outside calls vars x ≡ None
+      → (x : Statement) → call_tree raw (with_target raw to scope) scope.statements l (target_tree raw scope to) f args ≡ Some x → statement_outside vars x ≡ None
       → AreIntegers vars scope.variables (with_target raw to scope).variables
   called l scope stand to f args kept x tree none =
       by_name (bytes_eq f (codes "getchar")) (bytes_eq f (codes "putchar")) (bytes_eq f (codes "printf")) (bytes_eq f (codes "free")) (λ h. (bytes_eq-Decides f (codes "putchar")).0 h) (λ h. (bytes_eq-Decides f (codes "printf")).0 h) tree
@@ -116,7 +115,7 @@ module _ (raw : RawProgram) (calls : Bool) (vars : List Var) where
       by_name true p q r writes prints e = fetched l scope to x e none
       by_name false true q r writes prints e = without l scope stand to f args (ap (is_among without_result) (writes refl)) kept
       by_name false false true r writes prints e = without l scope stand to f args (ap (is_among without_result) (prints refl)) kept
-      by_name false false false true writes prints e = not_outside l _ x (always_map (IsOutside l) (s.Release scope.statements l) _ (outside-Release calls vars scope.statements l)) e none
+      by_name false false false true writes prints e = not_outside l _ x (always_map (IsOutside l) (s.Release scope.statements l) _ (outside-Release vars scope.statements l)) e none
       by_name false false false false writes prints e = invoked l scope to f args x e none
 
   -- no allocation is built
@@ -125,8 +124,8 @@ module _ (raw : RawProgram) (calls : Bool) (vars : List Var) where
   heap_outside id l None c n = tt
   heap_outside id l (Some t) None n = tt
   heap_outside id l (Some t) (Some k) None = tt
-  heap_outside id l (Some t) (Some k) (Some a) = outside-Heap calls vars id l t k a
+  heap_outside id l (Some t) (Some k) (Some a) = outside-Heap vars id l t k a
 
   pub allocated : {A : Type 0} (id l : ℕ) (to : Option Target) (c : Option (Option CType)) (n : Option Amount) (x : Statement)
-      → option_and_then (λ (t : Target). option_and_then (λ (k : Option CType). option_map (s.Heap id l t k) n) c) to ≡ Some x → statement_outside calls vars x ≡ None → A
+      → option_and_then (λ (t : Target). option_and_then (λ (k : Option CType). option_map (s.Heap id l t k) n) c) to ≡ Some x → statement_outside vars x ≡ None → A
   allocated id l to c n x e none = not_outside l _ x (heap_outside id l to c n) e none

@@ -65,10 +65,10 @@ BeginsWithInteger (item.Prototype f names is_static) = Unit {0}
 BeginsWithInteger (item.Define f) = Unit {0}
 
 abbrev pub IsFunctionInside : List Var → Function → Type 0
-IsFunctionInside vars f = body_outside true vars f.body ≡ None
+IsFunctionInside vars f = body_outside vars f.body ≡ None
 
 -- what the tests of a function say
-head_or_main : (m h : Bool) (o : Option ℕ) (l : ℕ) → (if m then o else (if true && h then o else Some l)) ≡ None → (o ≡ None) × ((m ≡ true) ⊎ (h ≡ true))
+head_or_main : (m h : Bool) (o : Option ℕ) (l : ℕ) → (if m then o else (if h then o else Some l)) ≡ None → (o ≡ None) × ((m ≡ true) ⊎ (h ≡ true))
 head_or_main true h o l e = (e, inl refl)
 head_or_main false true o l e = (e, inr refl)
 head_or_main false false o l e = none_there (sym e)
@@ -132,8 +132,8 @@ module _ (raw : RawProgram) where
       pub bodies : All (IsFunctionInside p.vars) fs
       pub begins : All BeginsWithInteger ys
 
-    outside_now : {A : Type 0} (ys : List Item) (x : Item) (rest : List Item) (l : ℕ) → ys ≡ x ∷ rest → items_outside true p (x ∷ rest) ≡ Some l → items_outside true p ys ≡ None → A
-    outside_now ys x rest l is out none = none_there (sym none ∙ ap (items_outside true p) is ∙ out)
+    outside_now : {A : Type 0} (ys : List Item) (x : Item) (rest : List Item) (l : ℕ) → ys ≡ x ∷ rest → items_outside p (x ∷ rest) ≡ Some l → items_outside p ys ≡ None → A
+    outside_now ys x rest l is out none = none_there (sym none ∙ ap (items_outside p) is ∙ out)
 
     -- one more item in front, which has no function
     walked_more : (before middle after : Scope) (x : Item) (rest ys : List Item) (fs : List Function) → x ∷ rest ≡ ys → AreIntegers p.vars before.variables middle.variables → BeginsWithInteger x → Walked middle after rest fs → Walked before after ys fs
@@ -147,7 +147,7 @@ module _ (raw : RawProgram) where
     same_variables n m is = no_integers p.vars n m is
 
     pub walk : (xs : List RawItem) (scope : Scope) (ys : List Item) (fs : List Function) → collected (items_from raw xs scope) ≡ Some ys → collected (functions_from raw xs scope) ≡ Some fs → AreFunctionsAt p.functions scope.functions fs
-        → items_outside true p ys ≡ None → AreKept raw (items_phrases raw xs scope) → Walked scope (after_items raw xs scope) ys fs
+        → items_outside p ys ≡ None → AreKept raw (items_phrases raw xs scope) → Walked scope (after_items raw xs scope) ys fs
     walk [] scope ys fs e d at none kept = record {
       integers = no_integers p.vars scope.variables scope.variables refl;
       bodies = subst (All (IsFunctionInside p.vars)) (some_same d) (All-nil (IsFunctionInside p.vars));
@@ -157,7 +157,7 @@ module _ (raw : RawProgram) where
         let m = more_there (Some (item.Include b)) (items_from raw xs scope) ys e in
         let is : item.Include b ∷ m.rest ≡ ys = ap (λ (x : Item). x ∷ m.rest) (some_same m.first_there) ∙ m.same in
         walked_more scope scope (after_items raw xs scope) (item.Include b) m.rest ys fs is (same_variables scope.variables scope.variables refl) tt
-        (walk xs scope m.rest fs m.rest_there d at (ap (items_outside true p) is ∙ none) kept)
+        (walk xs scope m.rest fs m.rest_there d at (ap (items_outside p) is ∙ none) kept)
     walk (Tag line name ∷ xs) scope ys fs e d at none kept =
         let m = more_there (item_tree raw (Tag line name) scope) (items_from raw xs scope) ys e in
         let k = map_there item.Tag _ m.first m.first_there in
@@ -170,7 +170,7 @@ module _ (raw : RawProgram) where
         let m = more_there (item_tree raw (Global line var i is_static) scope) (items_from raw xs next) ys e in
         let k = map_there (item.Global scope.variables) (init_of raw next i) m.first m.first_there in
         let is : item.Global scope.variables k.value ∷ m.rest ≡ ys = ap (λ (x : Item). x ∷ m.rest) k.same ∙ m.same in
-        let free = first_none (unless (true && (is_integer_variable p.vars scope.variables && integer_init k.value)) _) (items_outside true p m.rest) (ap (items_outside true p) is ∙ none) in
+        let free = first_none (unless (is_integer_variable p.vars scope.variables && integer_init k.value) _) (items_outside p m.rest) (ap (items_outside p) is ∙ none) in
         let tests = and_parts (is_integer_variable p.vars scope.variables) (integer_init k.value) (unless_none _ _ free.0) in
         walked_more scope next (after_items raw xs next) (item.Global scope.variables k.value) m.rest ys fs is (one_integer p.vars scope.variables next.variables refl tests.0) tests.1
         (walk xs next m.rest fs m.rest_there d at free.1 (kept_second raw (item_phrases raw (Global line var i is_static) scope) (items_phrases raw xs next) kept))
@@ -180,7 +180,7 @@ module _ (raw : RawProgram) where
         let k = map_there (λ (f : ℕ). item.Prototype f (map (λ (q : RawParam). q.name) head.params) head.is_static) _ m.first m.first_there in
         let x : Item = item.Prototype k.value (map (λ (q : RawParam). q.name) head.params) head.is_static in
         let is : x ∷ m.rest ≡ ys = ap (λ (y : Item). y ∷ m.rest) k.same ∙ m.same in
-        let free = first_none _ (items_outside true p m.rest) (ap (items_outside true p) is ∙ none) in
+        let free = first_none _ (items_outside p m.rest) (ap (items_outside p) is ∙ none) in
         walked_more scope next (after_items raw xs next) x m.rest ys fs is (same_variables scope.variables next.variables (function_variables head.name scope)) tt
         (walk xs next m.rest fs m.rest_there d (functions_same p.functions scope.functions next.functions fs (through_function (λ (z : Scope). z.functions) head.name scope refl) at) free.1
         (kept_second raw (item_phrases raw (Prototype line head) scope) (items_phrases raw xs next) kept))
@@ -192,11 +192,11 @@ module _ (raw : RawProgram) where
         let q = function_made raw line head body scope g.first g.first_there in
         let m = more_there (Some (item.Define scope.functions)) (items_from raw xs next) ys e in
         let is : item.Define scope.functions ∷ m.rest ≡ ys = ap (λ (x : Item). x ∷ m.rest) (some_same m.first_there) ∙ m.same in
-        let free = first_none (defined_outside true p scope.functions) (items_outside true p m.rest) (ap (items_outside true p) is ∙ none) in
-        let here : function_outside true p.vars g.first ≡ None = ap (λ (o : Option Function). option_map_or (function_outside true p.vars) o None) (sym (function_at p.functions scope.functions g.first g.rest fs at g.same)) ∙ free.0 in
-        let tests = head_or_main (is_main g.first.name) (is_integer_head (is_integer_variable p.vars) g.first) (body_outside true p.vars g.first.body) g.first.line here in
-        let own_body : body_outside true p.vars q.statements ≡ None = ap (λ (f : Function). body_outside true p.vars f.body) (sym q.is) ∙ tests.0 in
-        let declares = body_declares raw true p.vars body inside q.statements q.statements_there own_body (body_kept line head body scope own_kept) in
+        let free = first_none (defined_outside p scope.functions) (items_outside p m.rest) (ap (items_outside p) is ∙ none) in
+        let here : function_outside p.vars g.first ≡ None = ap (λ (o : Option Function). option_map_or (function_outside p.vars) o None) (sym (function_at p.functions scope.functions g.first g.rest fs at g.same)) ∙ free.0 in
+        let tests = head_or_main (is_main g.first.name) (is_integer_head (is_integer_variable p.vars) g.first) (body_outside p.vars g.first.body) g.first.line here in
+        let own_body : body_outside p.vars q.statements ≡ None = ap (λ (f : Function). body_outside p.vars f.body) (sym q.is) ∙ tests.0 in
+        let declares = body_declares raw p.vars body inside q.statements q.statements_there own_body (body_kept line head body scope own_kept) in
         let one_more : next.functions ≡ scope.functions + 1 = declares.functions ∙ parameters_functions head.params (scope_of_parameters head scope) in
         let rest = walk xs next m.rest g.rest m.rest_there g.rest_there (functions_after p.functions scope.functions next.functions g.first g.rest fs at g.same one_more) free.1 (kept_second raw (item_phrases raw (Define line head body) scope) (items_phrases raw xs next) kept) in
         record {

@@ -147,77 +147,77 @@ pub ruleset types = (type-Integer, type-PointerTo, type-Array, type-Struct)
 
 -- ---- statements
 
-module _ (calls : Bool) (vars : List Var) where
+module _ (vars : List Var) where
   -- an arm of a switch
   abbrev pub outside_of_arm : Arm → ArmOutside
-  outside_of_arm = fold-Arm (Option ℕ) ArmOutside (statement_step calls vars) arm_step
+  outside_of_arm = fold-Arm (Option ℕ) ArmOutside (statement_step vars) arm_step
 
-  pub first_mapped : (xs : List Statement) → first_line (map (statement_outside calls vars) xs) ≡ body_outside calls vars xs
+  pub first_mapped : (xs : List Statement) → first_line (map (statement_outside vars) xs) ≡ body_outside vars xs
   first_mapped [] = refl
-  first_mapped (x ∷ xs) = ap (option_or (statement_outside calls vars x)) (first_mapped xs)
+  first_mapped (x ∷ xs) = ap (option_or (statement_outside vars x)) (first_mapped xs)
 
   labels_mapped : (arms : List Arm) → labels_of_arms (map outside_of_arm arms) ≡ list_all integer_labels arms
   labels_mapped [] = refl
-  labels_mapped (a ∷ arms) = ap (λ (o : ArmOutside). o.labels_are && labels_of_arms (map outside_of_arm arms)) (fold_out-Arm (Option ℕ) ArmOutside (statement_step calls vars) arm_step a) ∙ ap (λ b. integer_labels a && b) (labels_mapped arms)
+  labels_mapped (a ∷ arms) = ap (λ (o : ArmOutside). o.labels_are && labels_of_arms (map outside_of_arm arms)) (fold_out-Arm (Option ℕ) ArmOutside (statement_step vars) arm_step a) ∙ ap (λ b. integer_labels a && b) (labels_mapped arms)
 
-  arms_mapped : (arms : List Arm) → first_of_arms (map outside_of_arm arms) ≡ arms_outside calls vars arms
+  arms_mapped : (arms : List Arm) → first_of_arms (map outside_of_arm arms) ≡ arms_outside vars arms
   arms_mapped [] = refl
   arms_mapped (a ∷ arms) =
-      ap (λ (o : ArmOutside). option_or o.first (first_of_arms (map outside_of_arm arms))) (fold_out-Arm (Option ℕ) ArmOutside (statement_step calls vars) arm_step a)
+      ap (λ (o : ArmOutside). option_or o.first (first_of_arms (map outside_of_arm arms))) (fold_out-Arm (Option ℕ) ArmOutside (statement_step vars) arm_step a)
       ∙ ap (λ o. option_or o (first_of_arms (map outside_of_arm arms))) (first_mapped a.body)
-      ∙ ap (option_or (body_outside calls vars a.body)) (arms_mapped arms)
+      ∙ ap (option_or (body_outside vars a.body)) (arms_mapped arms)
 
-  pub outside-Declare : (id : Option ℕ) (l x : ℕ) (i : Init) → statement_outside calls vars (s.Declare id l x i) ≡ unless (is_integer_variable vars x && integer_init i) l
-  outside-Declare id l x i = ap (statement_outside calls vars) (sym (s.rolls-Declare id l x i)) ∙ fold-roll-Statement (Option ℕ) ArmOutside (statement_step calls vars) arm_step (Statement-F.Declare id l x i)
+  pub outside-Declare : (id : Option ℕ) (l x : ℕ) (i : Init) → statement_outside vars (s.Declare id l x i) ≡ unless (is_integer_variable vars x && integer_init i) l
+  outside-Declare id l x i = ap (statement_outside vars) (sym (s.rolls-Declare id l x i)) ∙ fold-roll-Statement (Option ℕ) ArmOutside (statement_step vars) arm_step (Statement-F.Declare id l x i)
 
-  pub outside-Assign : (id l : ℕ) (left : Expr) (op : Option BinaryOp) (right : Expr) → statement_outside calls vars (s.Assign id l left op right) ≡ unless (is_name left && is_integer right) l
-  outside-Assign id l left op right = ap (statement_outside calls vars) (sym (s.rolls-Assign id l left op right)) ∙ fold-roll-Statement (Option ℕ) ArmOutside (statement_step calls vars) arm_step (Statement-F.Assign id l left op right)
+  pub outside-Assign : (id l : ℕ) (left : Expr) (op : Option BinaryOp) (right : Expr) → statement_outside vars (s.Assign id l left op right) ≡ unless (is_name left && is_integer right) l
+  outside-Assign id l left op right = ap (statement_outside vars) (sym (s.rolls-Assign id l left op right)) ∙ fold-roll-Statement (Option ℕ) ArmOutside (statement_step vars) arm_step (Statement-F.Assign id l left op right)
 
-  pub outside-Bump : (id l : ℕ) (a : Expr) (up before : Bool) → statement_outside calls vars (s.Bump id l a up before) ≡ unless (is_name a) l
-  outside-Bump id l a up before = ap (statement_outside calls vars) (sym (s.rolls-Bump id l a up before)) ∙ fold-roll-Statement (Option ℕ) ArmOutside (statement_step calls vars) arm_step (Statement-F.Bump id l a up before)
+  pub outside-Bump : (id l : ℕ) (a : Expr) (up before : Bool) → statement_outside vars (s.Bump id l a up before) ≡ unless (is_name a) l
+  outside-Bump id l a up before = ap (statement_outside vars) (sym (s.rolls-Bump id l a up before)) ∙ fold-roll-Statement (Option ℕ) ArmOutside (statement_step vars) arm_step (Statement-F.Bump id l a up before)
 
-  pub outside-Invoke : (id l : ℕ) (to : Target) (f : ℕ) (args : List Expr) → statement_outside calls vars (s.Invoke id l to f args) ≡ unless (calls && (is_integer_target (is_integer_variable vars) to && are_integers args)) l
-  outside-Invoke id l to f args = ap (statement_outside calls vars) (sym (s.rolls-Invoke id l to f args)) ∙ fold-roll-Statement (Option ℕ) ArmOutside (statement_step calls vars) arm_step (Statement-F.Invoke id l to f args)
+  pub outside-Invoke : (id l : ℕ) (to : Target) (f : ℕ) (args : List Expr) → statement_outside vars (s.Invoke id l to f args) ≡ unless (is_integer_target (is_integer_variable vars) to && are_integers args) l
+  outside-Invoke id l to f args = ap (statement_outside vars) (sym (s.rolls-Invoke id l to f args)) ∙ fold-roll-Statement (Option ℕ) ArmOutside (statement_step vars) arm_step (Statement-F.Invoke id l to f args)
 
-  pub outside-Fetch : (id l : ℕ) (to : Target) → statement_outside calls vars (s.Fetch id l to) ≡ unless (calls && is_integer_target (is_integer_variable vars) to) l
-  outside-Fetch id l to = ap (statement_outside calls vars) (sym (s.rolls-Fetch id l to)) ∙ fold-roll-Statement (Option ℕ) ArmOutside (statement_step calls vars) arm_step (Statement-F.Fetch id l to)
+  pub outside-Fetch : (id l : ℕ) (to : Target) → statement_outside vars (s.Fetch id l to) ≡ unless (is_integer_target (is_integer_variable vars) to) l
+  outside-Fetch id l to = ap (statement_outside vars) (sym (s.rolls-Fetch id l to)) ∙ fold-roll-Statement (Option ℕ) ArmOutside (statement_step vars) arm_step (Statement-F.Fetch id l to)
 
-  pub outside-Write : (id l : ℕ) (a : Expr) → statement_outside calls vars (s.Write id l a) ≡ unless (is_integer a) l
-  outside-Write id l a = ap (statement_outside calls vars) (sym (s.rolls-Write id l a)) ∙ fold-roll-Statement (Option ℕ) ArmOutside (statement_step calls vars) arm_step (Statement-F.Write id l a)
+  pub outside-Write : (id l : ℕ) (a : Expr) → statement_outside vars (s.Write id l a) ≡ unless (is_integer a) l
+  outside-Write id l a = ap (statement_outside vars) (sym (s.rolls-Write id l a)) ∙ fold-roll-Statement (Option ℕ) ArmOutside (statement_step vars) arm_step (Statement-F.Write id l a)
 
-  pub outside-Print : (id l : ℕ) (format : Bytes) (args : List Expr) → statement_outside calls vars (s.Print id l format args) ≡ unless (are_integers args) l
-  outside-Print id l format args = ap (statement_outside calls vars) (sym (s.rolls-Print id l format args)) ∙ fold-roll-Statement (Option ℕ) ArmOutside (statement_step calls vars) arm_step (Statement-F.Print id l format args)
+  pub outside-Print : (id l : ℕ) (format : Bytes) (args : List Expr) → statement_outside vars (s.Print id l format args) ≡ unless (are_integers args) l
+  outside-Print id l format args = ap (statement_outside vars) (sym (s.rolls-Print id l format args)) ∙ fold-roll-Statement (Option ℕ) ArmOutside (statement_step vars) arm_step (Statement-F.Print id l format args)
 
-  pub outside-Heap : (id l : ℕ) (to : Target) (cast : Option CType) (n : Amount) → statement_outside calls vars (s.Heap id l to cast n) ≡ Some l
-  outside-Heap id l to cast n = ap (statement_outside calls vars) (sym (s.rolls-Heap id l to cast n)) ∙ fold-roll-Statement (Option ℕ) ArmOutside (statement_step calls vars) arm_step (Statement-F.Heap id l to cast n)
+  pub outside-Heap : (id l : ℕ) (to : Target) (cast : Option CType) (n : Amount) → statement_outside vars (s.Heap id l to cast n) ≡ Some l
+  outside-Heap id l to cast n = ap (statement_outside vars) (sym (s.rolls-Heap id l to cast n)) ∙ fold-roll-Statement (Option ℕ) ArmOutside (statement_step vars) arm_step (Statement-F.Heap id l to cast n)
 
-  pub outside-Release : (id l : ℕ) (a : Expr) → statement_outside calls vars (s.Release id l a) ≡ Some l
-  outside-Release id l a = ap (statement_outside calls vars) (sym (s.rolls-Release id l a)) ∙ fold-roll-Statement (Option ℕ) ArmOutside (statement_step calls vars) arm_step (Statement-F.Release id l a)
+  pub outside-Release : (id l : ℕ) (a : Expr) → statement_outside vars (s.Release id l a) ≡ Some l
+  outside-Release id l a = ap (statement_outside vars) (sym (s.rolls-Release id l a)) ∙ fold-roll-Statement (Option ℕ) ArmOutside (statement_step vars) arm_step (Statement-F.Release id l a)
 
-  pub outside-If : (id l : ℕ) (t : Expr) (a b : List Statement) → statement_outside calls vars (s.If id l t a b) ≡ option_or (unless (is_integer t) l) (option_or (body_outside calls vars a) (body_outside calls vars b))
-  outside-If id l t a b = ap (statement_outside calls vars) (sym (s.rolls-If id l t a b)) ∙ fold-roll-Statement (Option ℕ) ArmOutside (statement_step calls vars) arm_step (Statement-F.If id l t a b) ∙ ap (λ o. option_or (unless (is_integer t) l) (option_or o (first_line (map (statement_outside calls vars) b)))) (first_mapped a) ∙ ap (λ o. option_or (unless (is_integer t) l) (option_or (body_outside calls vars a) o)) (first_mapped b)
+  pub outside-If : (id l : ℕ) (t : Expr) (a b : List Statement) → statement_outside vars (s.If id l t a b) ≡ option_or (unless (is_integer t) l) (option_or (body_outside vars a) (body_outside vars b))
+  outside-If id l t a b = ap (statement_outside vars) (sym (s.rolls-If id l t a b)) ∙ fold-roll-Statement (Option ℕ) ArmOutside (statement_step vars) arm_step (Statement-F.If id l t a b) ∙ ap (λ o. option_or (unless (is_integer t) l) (option_or o (first_line (map (statement_outside vars) b)))) (first_mapped a) ∙ ap (λ o. option_or (unless (is_integer t) l) (option_or (body_outside vars a) o)) (first_mapped b)
 
-  pub outside-While : (id l : ℕ) (t : Expr) (b : List Statement) → statement_outside calls vars (s.While id l t b) ≡ option_or (unless (is_integer t) l) (body_outside calls vars b)
-  outside-While id l t b = ap (statement_outside calls vars) (sym (s.rolls-While id l t b)) ∙ fold-roll-Statement (Option ℕ) ArmOutside (statement_step calls vars) arm_step (Statement-F.While id l t b) ∙ ap (option_or (unless (is_integer t) l)) (first_mapped b)
+  pub outside-While : (id l : ℕ) (t : Expr) (b : List Statement) → statement_outside vars (s.While id l t b) ≡ option_or (unless (is_integer t) l) (body_outside vars b)
+  outside-While id l t b = ap (statement_outside vars) (sym (s.rolls-While id l t b)) ∙ fold-roll-Statement (Option ℕ) ArmOutside (statement_step vars) arm_step (Statement-F.While id l t b) ∙ ap (option_or (unless (is_integer t) l)) (first_mapped b)
 
-  pub outside-Do : (id l : ℕ) (t : Expr) (b : List Statement) → statement_outside calls vars (s.Do id l t b) ≡ option_or (unless (is_integer t) l) (body_outside calls vars b)
-  outside-Do id l t b = ap (statement_outside calls vars) (sym (s.rolls-Do id l t b)) ∙ fold-roll-Statement (Option ℕ) ArmOutside (statement_step calls vars) arm_step (Statement-F.Do id l t b) ∙ ap (option_or (unless (is_integer t) l)) (first_mapped b)
+  pub outside-Do : (id l : ℕ) (t : Expr) (b : List Statement) → statement_outside vars (s.Do id l t b) ≡ option_or (unless (is_integer t) l) (body_outside vars b)
+  outside-Do id l t b = ap (statement_outside vars) (sym (s.rolls-Do id l t b)) ∙ fold-roll-Statement (Option ℕ) ArmOutside (statement_step vars) arm_step (Statement-F.Do id l t b) ∙ ap (option_or (unless (is_integer t) l)) (first_mapped b)
 
-  pub outside-Switch : (id l : ℕ) (t : Expr) (arms : List Arm) → statement_outside calls vars (s.Switch id l t arms) ≡ option_or (unless (is_integer t && list_all integer_labels arms) l) (arms_outside calls vars arms)
-  outside-Switch id l t arms = ap (statement_outside calls vars) (sym (s.rolls-Switch id l t arms)) ∙ fold-roll-Statement (Option ℕ) ArmOutside (statement_step calls vars) arm_step (Statement-F.Switch id l t arms) ∙ ap (λ b. option_or (unless (is_integer t && b) l) (first_of_arms (map outside_of_arm arms))) (labels_mapped arms) ∙ ap (option_or (unless (is_integer t && list_all integer_labels arms) l)) (arms_mapped arms)
+  pub outside-Switch : (id l : ℕ) (t : Expr) (arms : List Arm) → statement_outside vars (s.Switch id l t arms) ≡ option_or (unless (is_integer t && list_all integer_labels arms) l) (arms_outside vars arms)
+  outside-Switch id l t arms = ap (statement_outside vars) (sym (s.rolls-Switch id l t arms)) ∙ fold-roll-Statement (Option ℕ) ArmOutside (statement_step vars) arm_step (Statement-F.Switch id l t arms) ∙ ap (λ b. option_or (unless (is_integer t && b) l) (first_of_arms (map outside_of_arm arms))) (labels_mapped arms) ∙ ap (option_or (unless (is_integer t && list_all integer_labels arms) l)) (arms_mapped arms)
 
-  pub outside-Block : (l : ℕ) (b : List Statement) → statement_outside calls vars (s.Block l b) ≡ body_outside calls vars b
-  outside-Block l b = ap (statement_outside calls vars) (sym (s.rolls-Block l b)) ∙ fold-roll-Statement (Option ℕ) ArmOutside (statement_step calls vars) arm_step (Statement-F.Block l b) ∙ first_mapped b
+  pub outside-Block : (l : ℕ) (b : List Statement) → statement_outside vars (s.Block l b) ≡ body_outside vars b
+  outside-Block l b = ap (statement_outside vars) (sym (s.rolls-Block l b)) ∙ fold-roll-Statement (Option ℕ) ArmOutside (statement_step vars) arm_step (Statement-F.Block l b) ∙ first_mapped b
 
-  pub outside-Return : (id l : ℕ) (value : Option Expr) → statement_outside calls vars (s.Return id l value) ≡ unless (integer_value value) l
-  outside-Return id l value = ap (statement_outside calls vars) (sym (s.rolls-Return id l value)) ∙ fold-roll-Statement (Option ℕ) ArmOutside (statement_step calls vars) arm_step (Statement-F.Return id l value)
+  pub outside-Return : (id l : ℕ) (value : Option Expr) → statement_outside vars (s.Return id l value) ≡ unless (integer_value value) l
+  outside-Return id l value = ap (statement_outside vars) (sym (s.rolls-Return id l value)) ∙ fold-roll-Statement (Option ℕ) ArmOutside (statement_step vars) arm_step (Statement-F.Return id l value)
 
   pub outside-For : (id l : ℕ) (i : Option Statement) (t : Expr) (step : Option Statement) (b : List Statement)
-      → statement_outside calls vars (s.For id l i t step b) ≡ option_or (unless (is_integer t) l) (option_or (part_outside calls vars i) (option_or (part_outside calls vars step) (body_outside calls vars b)))
-  outside-For id l None t None b = ap (statement_outside calls vars) (sym (s.rolls-For id l None t None b)) ∙ fold-roll-Statement (Option ℕ) ArmOutside (statement_step calls vars) arm_step (Statement-F.For id l None t None b) ∙ ap (λ o. option_or (unless (is_integer t) l) (option_or (part_outside calls vars None) (option_or (part_outside calls vars None) o))) (first_mapped b)
-  outside-For id l None t (Some k) b = ap (statement_outside calls vars) (sym (s.rolls-For id l None t (Some k) b)) ∙ fold-roll-Statement (Option ℕ) ArmOutside (statement_step calls vars) arm_step (Statement-F.For id l None t (Some k) b) ∙ ap (λ o. option_or (unless (is_integer t) l) (option_or (part_outside calls vars None) (option_or (part_outside calls vars (Some k)) o))) (first_mapped b)
-  outside-For id l (Some i) t None b = ap (statement_outside calls vars) (sym (s.rolls-For id l (Some i) t None b)) ∙ fold-roll-Statement (Option ℕ) ArmOutside (statement_step calls vars) arm_step (Statement-F.For id l (Some i) t None b) ∙ ap (λ o. option_or (unless (is_integer t) l) (option_or (part_outside calls vars (Some i)) (option_or (part_outside calls vars None) o))) (first_mapped b)
-  outside-For id l (Some i) t (Some k) b = ap (statement_outside calls vars) (sym (s.rolls-For id l (Some i) t (Some k) b)) ∙ fold-roll-Statement (Option ℕ) ArmOutside (statement_step calls vars) arm_step (Statement-F.For id l (Some i) t (Some k) b) ∙ ap (λ o. option_or (unless (is_integer t) l) (option_or (part_outside calls vars (Some i)) (option_or (part_outside calls vars (Some k)) o))) (first_mapped b)
+      → statement_outside vars (s.For id l i t step b) ≡ option_or (unless (is_integer t) l) (option_or (part_outside vars i) (option_or (part_outside vars step) (body_outside vars b)))
+  outside-For id l None t None b = ap (statement_outside vars) (sym (s.rolls-For id l None t None b)) ∙ fold-roll-Statement (Option ℕ) ArmOutside (statement_step vars) arm_step (Statement-F.For id l None t None b) ∙ ap (λ o. option_or (unless (is_integer t) l) (option_or (part_outside vars None) (option_or (part_outside vars None) o))) (first_mapped b)
+  outside-For id l None t (Some k) b = ap (statement_outside vars) (sym (s.rolls-For id l None t (Some k) b)) ∙ fold-roll-Statement (Option ℕ) ArmOutside (statement_step vars) arm_step (Statement-F.For id l None t (Some k) b) ∙ ap (λ o. option_or (unless (is_integer t) l) (option_or (part_outside vars None) (option_or (part_outside vars (Some k)) o))) (first_mapped b)
+  outside-For id l (Some i) t None b = ap (statement_outside vars) (sym (s.rolls-For id l (Some i) t None b)) ∙ fold-roll-Statement (Option ℕ) ArmOutside (statement_step vars) arm_step (Statement-F.For id l (Some i) t None b) ∙ ap (λ o. option_or (unless (is_integer t) l) (option_or (part_outside vars (Some i)) (option_or (part_outside vars None) o))) (first_mapped b)
+  outside-For id l (Some i) t (Some k) b = ap (statement_outside vars) (sym (s.rolls-For id l (Some i) t (Some k) b)) ∙ fold-roll-Statement (Option ℕ) ArmOutside (statement_step vars) arm_step (Statement-F.For id l (Some i) t (Some k) b) ∙ ap (λ o. option_or (unless (is_integer t) l) (option_or (part_outside vars (Some i)) (option_or (part_outside vars (Some k)) o))) (first_mapped b)
 
 -- the forms without statements in them
 pub ruleset statements = (outside-Declare, outside-Assign, outside-Bump, outside-Invoke, outside-Fetch, outside-Write, outside-Print, outside-Heap, outside-Release, outside-Return)

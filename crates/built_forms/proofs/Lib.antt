@@ -2,13 +2,10 @@ pub mod Options
 pub mod Layers
 pub mod Lines
 pub mod Terms
-pub mod IntegerLemmas
 pub mod Moves
 pub mod Declaring
 pub mod Bodies
 pub mod MainHeads
-pub mod MainItems
 pub mod Programs
-pub mod Wider
 pub mod ButLines
 pub mod IntegerItems

@@ -1,4 +1,3 @@
 pub mod IntegerForms
 pub mod NamesBelow
 pub mod BuiltForms
-pub mod BuiltMains

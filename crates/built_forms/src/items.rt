@@ -1,4 +1,4 @@
-//! Items of the built forms: includes and main alone, or globals and functions over integers.
+//! Items of the built forms: includes, globals, prototypes and functions over integers.
 ghost use Rattle.std.specs.Prelude.{◌≡◌};
 ghost use Rattle.std.specs.List.{list_all};
 ghost use Rattle.built_forms.specs.BuiltForms as forms;
@@ -33,25 +33,21 @@ fn are_integer_variables(vars: &[Var], list: &[VarId]) -> bool
     true
 }
 
-fn function_outside(vars: &[Var], f: &Function, calls: bool) -> Option<u32>
-    ensures { result ≡ forms.function_outside calls vars.now f.now }
+fn function_outside(vars: &[Var], f: &Function) -> Option<u32>
+    ensures { result ≡ forms.function_outside vars.now f.now }
 {
-    if f.name.bytes() == b"main".as_slice() || calls && is_integer_head(vars, f) {
-        body_outside(f.body.as_slice(), vars, calls)
+    if f.name.bytes() == b"main".as_slice() || is_integer_head(vars, f) {
+        body_outside(f.body.as_slice(), vars)
     } else {
         Some(f.line)
     }
 }
 
-// Without calls main is the first function, and the only one.
-fn defined_outside(p: &Program, f: FunctionId, calls: bool) -> Option<u32>
-    ensures { result ≡ forms.defined_outside calls p.now f }
+fn defined_outside(p: &Program, f: FunctionId) -> Option<u32>
+    ensures { result ≡ forms.defined_outside p.now f }
 {
-    if !calls && f != 0 {
-        return Some(function_line(p, f));
-    }
     match p.functions.as_slice().get(f as usize) {
-        Some(function) => function_outside(p.vars.as_slice(), function, calls),
+        Some(function) => function_outside(p.vars.as_slice(), function),
         None => None,
     }
 }
@@ -98,29 +94,29 @@ fn next_line(p: &Program, items: &[Item]) -> u32
 }
 
 // The line of an item that is outside, in front of the others.
-fn item_outside(p: &Program, item: &Item, rest: &[Item], calls: bool) -> Option<u32>
-    ensures { result ≡ forms.item_outside calls p.now item.now rest.now }
+fn item_outside(p: &Program, item: &Item, rest: &[Item]) -> Option<u32>
+    ensures { result ≡ forms.item_outside p.now item.now rest.now }
 {
     match item {
         Item::Include { .. } => None,
         Item::Tag(_) => Some(next_line(p, rest)),
         Item::Struct(_) => Some(next_line(p, rest)),
         Item::Global(x, init) => unless(
-            calls && is_integer_variable(p.vars.as_slice(), *x) && integer_init(init),
+            is_integer_variable(p.vars.as_slice(), *x) && integer_init(init),
             variable_line(p, *x),
         ),
         Item::Prototype { function, .. } => {
-            unless(calls && is_prototype_of(p, *function), next_line(p, rest))
+            unless(is_prototype_of(p, *function), next_line(p, rest))
         }
-        Item::Define(f) => defined_outside(p, *f, calls),
+        Item::Define(f) => defined_outside(p, *f),
     }
 }
 
-fn items_outside(p: &Program, items: &[Item], calls: bool) -> Option<u32>
-    ensures { result ≡ forms.items_outside calls p.now items.now }
+fn items_outside(p: &Program, items: &[Item]) -> Option<u32>
+    ensures { result ≡ forms.items_outside p.now items.now }
 {
     for (i, item) in items.iter().enumerate() {
-        let outside = item_outside(p, item, &items[i + 1..], calls);
+        let outside = item_outside(p, item, &items[i + 1..]);
         if outside.is_some() {
             return outside;
         }
@@ -128,21 +124,13 @@ fn items_outside(p: &Program, items: &[Item], calls: bool) -> Option<u32>
     None
 }
 
-/// The line of the first item, declaration or statement in text order that is outside the built forms, which
-/// are those of main alone over integers with control flow, or `None` where there is none. A statement is told
-/// before what stands in it. An item that has no line in the tree (of
-/// a struct type, or a prototype) is told at the line of the next item that has one, or else of the first function.
+/// The line of the first item, declaration or statement in text order that is outside the built forms: that has a pointer,
+/// an array, a struct or memory that is allocated; `None` where the program has none, and so is over integers. A statement
+/// is told before what stands in it, and a function whose parameters or result are outside at its line. An item that has no
+/// line in the tree (of a struct type, or a prototype) is told at the line of the next item that has one, or else of the
+/// first function.
 pub fn not_yet(p: &Program) -> Option<u32>
     ensures { result ≡ forms.not_yet p.now }
 {
-    items_outside(p, p.items.as_slice(), false)
-}
-
-/// The line of the first item, declaration or statement in text order that isn't over integers: that has a pointer, an
-/// array, a struct or memory that is allocated; `None` where the program has none, and so its graph can be made. Lines are
-/// told as by [`not_yet`].
-pub fn beyond_integers(p: &Program) -> Option<u32>
-    ensures { result ≡ forms.beyond_integers p.now }
-{
-    items_outside(p, p.items.as_slice(), true)
+    items_outside(p, p.items.as_slice())
 }

@@ -3,8 +3,6 @@
 
 mod expressions;
 mod items;
-mod laws;
 mod statements;
 
-pub use items::{beyond_integers, not_yet};
-pub use laws::{built_are_integer_mains, built_are_over_integers};
+pub use items::not_yet;

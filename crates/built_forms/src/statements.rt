@@ -1,4 +1,4 @@
-//! Declarations and statements of the built forms, with calls among them or not.
+//! Declarations and statements of the built forms.
 ghost use Rattle.std.specs.Prelude.{◌≡◌, ◌&&◌};
 ghost use Rattle.std.specs.List.{list_all};
 ghost use Rattle.std.specs.Option.{option_or};
@@ -73,13 +73,13 @@ fn switched(test: &Expr, arms: &[Arm], line: u32, inside: Option<u32>) -> Option
     first(unless(is_built, line), inside)
 }
 
-/// The line of the first place of a list of statements that is outside the built forms, where calls are among them or not.
+/// The line of the first place of a list of statements that is outside the built forms.
 #[cycle(statement)]
-pub(crate) fn body_outside(body: &[Statement], vars: &[Var], calls: bool) -> Option<u32>
-    ensures { result ≡ forms.body_outside calls vars.now body.now }
+pub(crate) fn body_outside(body: &[Statement], vars: &[Var]) -> Option<u32>
+    ensures { result ≡ forms.body_outside vars.now body.now }
 {
     for statement in body {
-        let outside = statement_outside(statement, vars, calls);
+        let outside = statement_outside(statement, vars);
         if outside.is_some() {
             return outside;
         }
@@ -88,11 +88,11 @@ pub(crate) fn body_outside(body: &[Statement], vars: &[Var], calls: bool) -> Opt
 }
 
 #[cycle(statement)]
-fn arms_outside(arms: &[Arm], vars: &[Var], calls: bool) -> Option<u32>
-    ensures { result ≡ forms.arms_outside calls vars.now arms.now }
+fn arms_outside(arms: &[Arm], vars: &[Var]) -> Option<u32>
+    ensures { result ≡ forms.arms_outside vars.now arms.now }
 {
     for arm in arms {
-        let outside = body_outside(arm.body.as_slice(), vars, calls);
+        let outside = body_outside(arm.body.as_slice(), vars);
         if outside.is_some() {
             return outside;
         }
@@ -101,19 +101,19 @@ fn arms_outside(arms: &[Arm], vars: &[Var], calls: bool) -> Option<u32>
 }
 
 #[cycle(statement)]
-fn part_outside(part: &Option<Boxed<Statement>>, vars: &[Var], calls: bool) -> Option<u32>
-    ensures { result ≡ forms.part_outside calls vars.now part.now }
+fn part_outside(part: &Option<Boxed<Statement>>, vars: &[Var]) -> Option<u32>
+    ensures { result ≡ forms.part_outside vars.now part.now }
 {
     match part {
         None => None,
-        Some(statement) => statement_outside(statement.get(), vars, calls),
+        Some(statement) => statement_outside(statement.get(), vars),
     }
 }
 
 #[cycle(statement)]
 #[tactic(auto, using(crate::proofs::Layers::statements))]
-fn statement_outside(statement: &Statement, vars: &[Var], calls: bool) -> Option<u32>
-    ensures { result ≡ forms.statement_outside calls vars.now statement.now }
+fn statement_outside(statement: &Statement, vars: &[Var]) -> Option<u32>
+    ensures { result ≡ forms.statement_outside vars.now statement.now }
 {
     match statement {
         Statement::Declare {
@@ -139,8 +139,8 @@ fn statement_outside(statement: &Statement, vars: &[Var], calls: bool) -> Option
             other,
             ..
         } => {
-            let then = body_outside(then.as_slice(), vars, calls);
-            let other = body_outside(other.as_slice(), vars, calls);
+            let then = body_outside(then.as_slice(), vars);
+            let other = body_outside(other.as_slice(), vars);
             tested(test, *line, first(then, other))
         }
         Statement::While {
@@ -148,13 +148,13 @@ fn statement_outside(statement: &Statement, vars: &[Var], calls: bool) -> Option
             test,
             body,
             ..
-        } => tested(test, *line, body_outside(body.as_slice(), vars, calls)),
+        } => tested(test, *line, body_outside(body.as_slice(), vars)),
         Statement::Do {
             line,
             test,
             body,
             ..
-        } => tested(test, *line, body_outside(body.as_slice(), vars, calls)),
+        } => tested(test, *line, body_outside(body.as_slice(), vars)),
         Statement::For {
             line,
             init,
@@ -163,9 +163,9 @@ fn statement_outside(statement: &Statement, vars: &[Var], calls: bool) -> Option
             body,
             ..
         } => {
-            let init = part_outside(init, vars, calls);
-            let step = part_outside(step, vars, calls);
-            let body = body_outside(body.as_slice(), vars, calls);
+            let init = part_outside(init, vars);
+            let step = part_outside(step, vars);
+            let body = body_outside(body.as_slice(), vars);
             tested(test, *line, first(init, first(step, body)))
         }
         Statement::Switch {
@@ -174,22 +174,20 @@ fn statement_outside(statement: &Statement, vars: &[Var], calls: bool) -> Option
             arms,
             ..
         } => {
-            let inside = arms_outside(arms.as_slice(), vars, calls);
+            let inside = arms_outside(arms.as_slice(), vars);
             switched(test, arms.as_slice(), *line, inside)
         }
-        Statement::Block { body, .. } => body_outside(body.as_slice(), vars, calls),
+        Statement::Block { body, .. } => body_outside(body.as_slice(), vars),
         Statement::Invoke {
             line,
             target,
             args,
             ..
         } => unless(
-            calls && is_integer_target(vars, target) && are_integers(args.as_slice()),
+            is_integer_target(vars, target) && are_integers(args.as_slice()),
             *line,
         ),
-        Statement::Fetch { line, target, .. } => {
-            unless(calls && is_integer_target(vars, target), *line)
-        }
+        Statement::Fetch { line, target, .. } => unless(is_integer_target(vars, target), *line),
         Statement::Heap { line, .. } | Statement::Release { line, .. } => Some(*line),
     }
 }

@@ -1,4 +1,4 @@
--- The statements of a body of which nothing is outside, with calls, have no pointers.
+-- The statements of a body of which nothing is outside have no pointers.
 use Rattle.std.proofs.Common.{◌≡◌, ℕ, List, [], ◌∷◌, ◌++◌, map, Bool, true, false, Option, Some, None, refl, sym, ap, ◌∙◌, subst}
 use Rattle.std.specs.Prelude.{◌&&◌}
 use Rattle.std.specs.List.{list_all}
@@ -26,10 +26,10 @@ are_free = list_all is_pointer_free_doing
 
 module _ (vars : List Var) where
   abbrev IsFree : Statement → Type 0
-  IsFree x = statement_outside true vars x ≡ None → are_free (doings x) ≡ true
+  IsFree x = statement_outside vars x ≡ None → are_free (doings x) ≡ true
 
   abbrev IsFreeArm : Arm → Type 0
-  IsFreeArm a = (outside_of_arm true vars a).first ≡ None → are_free (arm_doings a) ≡ true
+  IsFreeArm a = (outside_of_arm vars a).first ≡ None → are_free (arm_doings a) ≡ true
 
   abbrev Layer : Type 0
   Layer = StatementParts IsFree IsFreeArm
@@ -38,16 +38,16 @@ module _ (vars : List Var) where
   shape = statement_layer IsFree IsFreeArm
 
   abbrev line_of : Layer → Option ℕ
-  line_of y = statement_step true vars (map-Statement Statement Arm (Option ℕ) ArmOutside (statement_outside true vars) (outside_of_arm true vars) (shape y))
+  line_of y = statement_step vars (map-Statement Statement Arm (Option ℕ) ArmOutside (statement_outside vars) (outside_of_arm vars) (shape y))
 
   abbrev doings_in : Layer → List Doing
   doings_in y = doing_step (map-Statement Statement Arm (List Doing) (List Doing) doings arm_doings (shape y))
 
   abbrev lines : List ((x : Statement) × IsFree x) → Option ℕ
-  lines xs = first_line (map (statement_outside true vars) (map (λ x. x.0) xs))
+  lines xs = first_line (map (statement_outside vars) (map (λ x. x.0) xs))
 
   abbrev arm_lines : List ((a : Arm) × IsFreeArm a) → Option ℕ
-  arm_lines xs = first_of_arms (map (outside_of_arm true vars) (map (λ a. a.0) xs))
+  arm_lines xs = first_of_arms (map (outside_of_arm vars) (map (λ a. a.0) xs))
 
   abbrev all_doings : List ((x : Statement) × IsFree x) → List Doing
   all_doings xs = joined (map doings (map (λ x. x.0) xs))
@@ -57,12 +57,12 @@ module _ (vars : List Var) where
 
   each : (xs : List ((x : Statement) × IsFree x)) → lines xs ≡ None → are_free (all_doings xs) ≡ true
   each [] h = refl
-  each (x ∷ xs) h = let w = first_none (statement_outside true vars x.0) (lines xs) h in all_append is_pointer_free_doing (doings x.0) (all_doings xs) (x.1 w.0) (each xs w.1)
+  each (x ∷ xs) h = let w = first_none (statement_outside vars x.0) (lines xs) h in all_append is_pointer_free_doing (doings x.0) (all_doings xs) (x.1 w.0) (each xs w.1)
 
   each_arm : (xs : List ((a : Arm) × IsFreeArm a)) → arm_lines xs ≡ None → are_free (arms_doings xs) ≡ true
   each_arm [] h = refl
   each_arm (a ∷ xs) h =
-      let w = first_none (outside_of_arm true vars a.0).first (arm_lines xs) h in all_append is_pointer_free_doing (arm_doings a.0) (arms_doings xs) (a.1 w.0) (each_arm xs w.1)
+      let w = first_none (outside_of_arm vars a.0).first (arm_lines xs) h in all_append is_pointer_free_doing (arm_doings a.0) (arms_doings xs) (a.1 w.0) (each_arm xs w.1)
 
   -- one statement, whose test passes
   one : (b : Bool) (l : ℕ) → unless b l ≡ None → (b && true) ≡ true
@@ -97,14 +97,14 @@ module _ (vars : List Var) where
   layer_free (Statement-F.While id l e b) h = behind (is_integer e) l _ (all_doings b) h (each b)
   layer_free (Statement-F.Do id l e b) h = behind (is_integer e) l _ (all_doings b) h (each b)
   layer_free (Statement-F.For id l None e None b) h = behind (is_integer e) l _ (all_doings b) h (each b)
-  layer_free (Statement-F.For id l None e (Some k) b) h = behind (is_integer e) l _ (doings k.0 ++ all_doings b) h (two (statement_outside true vars k.0) (lines b) (doings k.0) (all_doings b) k.1 (each b))
-  layer_free (Statement-F.For id l (Some i) e None b) h = behind (is_integer e) l _ (doings i.0 ++ all_doings b) h (two (statement_outside true vars i.0) (lines b) (doings i.0) (all_doings b) i.1 (each b))
+  layer_free (Statement-F.For id l None e (Some k) b) h = behind (is_integer e) l _ (doings k.0 ++ all_doings b) h (two (statement_outside vars k.0) (lines b) (doings k.0) (all_doings b) k.1 (each b))
+  layer_free (Statement-F.For id l (Some i) e None b) h = behind (is_integer e) l _ (doings i.0 ++ all_doings b) h (two (statement_outside vars i.0) (lines b) (doings i.0) (all_doings b) i.1 (each b))
   layer_free (Statement-F.For id l (Some i) e (Some k) b) h =
       behind (is_integer e) l _ (doings i.0 ++ (doings k.0 ++ all_doings b)) h
-      (two (statement_outside true vars i.0) (option_or (statement_outside true vars k.0) (lines b)) (doings i.0) (doings k.0 ++ all_doings b) i.1
-      (two (statement_outside true vars k.0) (lines b) (doings k.0) (all_doings b) k.1 (each b)))
+      (two (statement_outside vars i.0) (option_or (statement_outside vars k.0) (lines b)) (doings i.0) (doings k.0 ++ all_doings b) i.1
+      (two (statement_outside vars k.0) (lines b) (doings k.0) (all_doings b) k.1 (each b)))
   layer_free (Statement-F.Switch id l e arms) h =
-      let w = first_none (unless (is_integer e && labels_of_arms (map (outside_of_arm true vars) (map (λ a. a.0) arms))) l) (arm_lines arms) h in
+      let w = first_none (unless (is_integer e && labels_of_arms (map (outside_of_arm vars) (map (λ a. a.0) arms))) l) (arm_lines arms) h in
       let t = and_parts (is_integer e) _ (unless_none _ l w.0) in
       and_from (is_integer e) (are_free (arms_doings arms)) t.0 (each_arm arms w.1)
   layer_free (Statement-F.Block l b) h = each b h
@@ -112,10 +112,10 @@ module _ (vars : List Var) where
 
   statement_free : (x : Statement) → IsFree x
   statement_free = of_every_statement IsFree IsFreeArm
-      (λ y h. ap are_free (fold-roll-Statement (List Doing) (List Doing) doing_step doing_arm (shape y)) ∙ layer_free y (sym (fold-roll-Statement (Option ℕ) ArmOutside (statement_step true vars) arm_step (shape y)) ∙ h))
-      (λ y h. ap are_free (fold-roll-Arm (List Doing) (List Doing) doing_step doing_arm (arm_layer IsFree IsFreeArm y)) ∙ each y.body (sym (ap (λ (a : ArmOutside). a.first) (fold-roll-Arm (Option ℕ) ArmOutside (statement_step true vars) arm_step (arm_layer IsFree IsFreeArm y))) ∙ h))
+      (λ y h. ap are_free (fold-roll-Statement (List Doing) (List Doing) doing_step doing_arm (shape y)) ∙ layer_free y (sym (fold-roll-Statement (Option ℕ) ArmOutside (statement_step vars) arm_step (shape y)) ∙ h))
+      (λ y h. ap are_free (fold-roll-Arm (List Doing) (List Doing) doing_step doing_arm (arm_layer IsFree IsFreeArm y)) ∙ each y.body (sym (ap (λ (a : ArmOutside). a.first) (fold-roll-Arm (Option ℕ) ArmOutside (statement_step vars) arm_step (arm_layer IsFree IsFreeArm y))) ∙ h))
 
-  pub body_free : (xs : List Statement) → body_outside true vars xs ≡ None → are_free (body_doings xs) ≡ true
+  pub body_free : (xs : List Statement) → body_outside vars xs ≡ None → are_free (body_doings xs) ≡ true
   body_free [] h = refl
   body_free (x ∷ xs) h =
-      let w = first_none (statement_outside true vars x) (body_outside true vars xs) h in all_append is_pointer_free_doing (doings x) (body_doings xs) (statement_free x w.0) (body_free xs w.1)
+      let w = first_none (statement_outside vars x) (body_outside vars xs) h in all_append is_pointer_free_doing (doings x) (body_doings xs) (statement_free x w.0) (body_free xs w.1)

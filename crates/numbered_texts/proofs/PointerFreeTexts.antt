@@ -27,7 +27,7 @@ use Rattle.c_language.specs.TreeTypes.{type_of_variable, shape_of, shape_step}
 use Rattle.c_language.proofs.Lists.{all_append}
 use Rattle.c_language.proofs.PhraseLists.{phrases_kept}
 use Rattle.c_language.proofs.ProgramParts.{made_of}
-use Rattle.built_forms.specs.BuiltForms.{is_integer_variable, beyond_integers}
+use Rattle.built_forms.specs.BuiltForms.{is_integer_variable, not_yet}
 use Rattle.built_forms.proofs.ButLines.{none_too}
 use Rattle.built_forms.proofs.IntegerItems.{BeginsWithInteger, IsFunctionInside, Walked, walk}
 use Rattle.built_forms.proofs.Programs.{integer_variable}
@@ -81,7 +81,7 @@ types_unlined vars x = ap type_in (slice_get-map unlined_var vars x) ∙ type_un
 
 -- ---- texts
 
-module _ (raw : RawProgram) (p : Program) (has : HasProgram raw p) (inside : beyond_integers p ≡ None) where
+module _ (raw : RawProgram) (p : Program) (has : HasProgram raw p) (inside : not_yet p ≡ None) where
   walked : Walked raw p outset (after_items raw raw.items outset) p.items p.functions
   walked =
       let parts = made_of raw p has.program in
@@ -109,4 +109,4 @@ free_too p q same h = record {
 }
 
 pub integers_free : IntegersArePointerFree
-integers_free p well inside = free_too p well.same well.but_lines (text_free well.raw well.same well.has (none_too true p well.same well.but_lines inside))
+integers_free p well inside = free_too p well.same well.but_lines (text_free well.raw well.same well.has (none_too p well.same well.but_lines inside))

@@ -4,7 +4,7 @@ use Rattle.std.specs.List.{list_all, range_with_len}
 use Rattle.c_tree.specs.declared.program.Program.{Program}
 use Rattle.c_language.specs.Mains.{main_of}
 use Rattle.c_language.specs.Programs.{IsWellFormed}
-use Rattle.built_forms.specs.BuiltForms.{beyond_integers}
+use Rattle.built_forms.specs.BuiltForms.{not_yet}
 use Rattle.dep_model.specs.declared.location.Location.{Location}
 use Rattle.dep_model.specs.Denoted.{TargetsOf}
 use Rattle.dep_model.specs.Doings.{doing_number, program_doings}
@@ -46,9 +46,9 @@ ProgramsHaveMain = (p : Program) → IsWellFormed p → (f : ℕ) × (main_of p 
 
 -- ---- programs over integers
 
--- a well-formed program of which nothing is beyond integers has no pointers, arrays and structs
+-- a well-formed program of which nothing is outside the built forms has no pointers, arrays and structs
 abbrev pub IntegersArePointerFree : Type 0
-IntegersArePointerFree = (p : Program) → IsWellFormed p → beyond_integers p ≡ None → IsPointerFree p
+IntegersArePointerFree = (p : Program) → IsWellFormed p → not_yet p ≡ None → IsPointerFree p
 
 -- and no location of such a program points anywhere
 abbrev pub PointerFreePointNowhere : Type 0

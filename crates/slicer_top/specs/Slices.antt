@@ -4,7 +4,7 @@ use Rattle.edge_io.specs.Written.{Gains}
 use Rattle.c_tree.specs.declared.limits.LimitName.{LimitName}
 use Rattle.c_tree.specs.declared.program.Program.{Program}
 use Rattle.c_language.specs.Words.{Bytes}
-use Rattle.built_forms.specs.BuiltForms.{beyond_integers}
+use Rattle.built_forms.specs.BuiltForms.{not_yet}
 use Rattle.c_reader.specs.Reading.{ReadsProgram}
 use Rattle.call_words.specs.Requests.{Asked, lines_in}
 use Rattle.slice_engine.specs.GraphLimits.{IsAboveGraphLimit}
@@ -16,7 +16,7 @@ use Rattle.slicer_top.specs.Graphs.{IsGraphText, IsMembersText}
 -- the line of what stands first outside the forms for which this is built: slices are made of programs over
 -- integers so far, graphs of all
 abbrev pub not_built : Asked → Program → Option ℕ
-not_built (Asked.slice file lines workers) p = beyond_integers p
+not_built (Asked.slice file lines workers) p = not_yet p
 not_built (Asked.graph file workers) p = None
 not_built (Asked.members file line workers) p = None
 

@@ -16,7 +16,7 @@ use c_tree::Program;
 use call_words::Request;
 use edge_io::{Shelf, Text};
 use slice_batch::slices;
-use slice_engine::{Criterion, Engine, beyond_integers, read_program};
+use slice_engine::{Criterion, Engine, not_yet, read_program};
 use std::alloc::{AllocError, Global};
 
 // The most bytes that a file may have.
@@ -76,7 +76,7 @@ fn outside(request: &Request, program: &Program) -> Option<u32>
     ensures { result ≡ not_built (asked_by request.now) program.now }
 {
     match request {
-        Request::Slice { .. } => beyond_integers(program),
+        Request::Slice { .. } => not_yet(program),
         Request::Graph { .. } => None,
         Request::Members { .. } => None,
     }
@@ -99,7 +99,7 @@ fn made(alloc: Global, engine: &Engine, request: &Request) -> Result<Vec<Text>, 
 
 // The texts of the slices at these lines, at most 64, or the first line on which no statement starts.
 fn slices_at(alloc: Global, engine: &Engine, lines: &[u64]) -> Result<Vec<Text>, Refusal>
-    requires { forms.beyond_integers engine.now ≡ None }
+    requires { forms.not_yet engine.now ≡ None }
     ensures { MatchResult result (λ texts. StartAt engine.now lines.now × AreSlices engine.now lines.now texts.items)
         (IsCriteriaFault engine.now lines.now) }
 {

@@ -1,5 +1,5 @@
 use Rattle.std.proofs.Common.{◌≡◌, None, ap, ◌∙◌, subst}
-use Rattle.built_forms.specs.BuiltForms.{beyond_integers}
+use Rattle.built_forms.specs.BuiltForms.{not_yet}
 use Rattle.numbered_texts.proofs.PointerFreeTexts.{integers_free}
 use Rattle.slice_engine.specs.Slice.{IsFaithful}
 use Rattle.slice_engine.proofs.SliceLaws.{is_faithful}
@@ -9,5 +9,5 @@ pub returns-clause-faithful : goal.returns-clause-faithful
 returns-clause-faithful c =
     let p = c.self.inside.program in
     let well = c.self.invariant.prepared.well_formed in
-    let inside : beyond_integers p ≡ None = ap beyond_integers c.self.view_is ∙ c.requires.built in
+    let inside : not_yet p ≡ None = ap not_yet c.self.view_is ∙ c.requires.built in
     subst (λ q. IsFaithful q c.args.c.line c.in_ok-text.text) c.self.view_is (is_faithful p c.args.c.line c.in_ok-text.text well (integers_free p well inside) c.in_ok-text.ensures.read)
