@@ -6,7 +6,7 @@ use Rattle.c_tree.specs.declared.expr.Expr.{Expr}
 use Rattle.c_tree.specs.declared.program.Program.{Program}
 use Rattle.c_tree.specs.declared.statement.Target.{Target}
 use Rattle.c_language.specs.Code.{Act}
-use Rattle.built_forms.specs.IntegerForms.{is_integer}
+use Rattle.dep_model.specs.IntegerForms.{is_integer}
 use Rattle.c_meaning.specs.declared.value.Place.{Place}
 use Rattle.c_meaning.specs.declared.value.Value.{Value}
 use Rattle.c_meaning.specs.Memory.{held, cell, is_cell, read}

@@ -10,7 +10,7 @@ use Rattle.c_tree.specs.declared.program.Program.{Program}
 use Rattle.c_tree.specs.declared.statement.Target.{Target}
 use Rattle.c_tree.specs.declared.statement.Target.TheVariants as target
 use Rattle.c_language.specs.Code.{Act, Begins, Sets, Bumps, Fetches, Writes, Prints, Allocates, Frees, Returns, Tests}
-use Rattle.built_forms.specs.IntegerForms.{is_integer, name_step, is_name}
+use Rattle.dep_model.specs.IntegerForms.{is_integer, name_step, is_name}
 use Rattle.dep_model.specs.declared.location.Location.{Location}
 use Rattle.dep_model.specs.Denoted.{TargetsOf, variable, expr_places}
 use Rattle.dep_model.specs.Denoted as denoted

@@ -8,7 +8,7 @@ use Rattle.c_tree.specs.declared.program.Program.{Program}
 use Rattle.c_tree.specs.declared.statement.Target.{Target}
 use Rattle.c_tree.specs.declared.statement.Target.TheVariants as target
 use Rattle.c_language.specs.Code.{Act, Begins, Sets, Bumps, Fetches, Writes, Prints, Allocates, Frees, Returns, Tests}
-use Rattle.built_forms.specs.IntegerForms.{are_integers}
+use Rattle.dep_model.specs.IntegerForms.{are_integers}
 use Rattle.dep_model.specs.Denoted.{TargetsOf}
 use Rattle.dep_model.specs.Doings.{Doing, Does, Calls, body_doings, functions_doings}
 use Rattle.dep_model.specs.DoingEffects.{any_takes, target_takes, act_takes, doing_takes, function_takes, is_taken}

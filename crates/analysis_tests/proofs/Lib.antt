@@ -1,3 +1,2 @@
-pub mod EmptyRows
 pub mod Reading
 pub mod Skeletons

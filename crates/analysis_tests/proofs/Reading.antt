@@ -1,15 +1,12 @@
--- The program of a text over integers can be analysed with empty rows, and it lists no location twice.
-use Rattle.std.proofs.Common.{◌≡◌, ◌<◌, ◌≤◌, ◌^◌, None, length, refl, arith}
+-- The program of a text can be analysed, and it lists no location twice.
+use Rattle.std.proofs.Common.{◌≤◌, length, refl, arith}
 use Rattle.c_tree.specs.declared.program.Program.{Program}
 use Rattle.c_language.specs.Words.{Bytes}
 use Rattle.c_language.specs.Programs.{IsWellFormed}
 use Rattle.c_reader.specs.Reading.{ReadsProgram}
-use Rattle.built_forms.specs.BuiltForms.{not_yet}
 use Rattle.dep_model.specs.LocationLists.{AreListedOnce}
 use Rattle.dep_model.proofs.LocationsOnce.{listed_once}
 use Rattle.numbered_texts.proofs.NumbersButLines.{statements_numbered}
-use Rattle.numbered_texts.proofs.PointNowhere.{points_nowhere}
-use Rattle.numbered_texts.proofs.PointerFreeTexts.{integers_free}
 use Rattle.analysis_tests.specs.Ready.{IsReady}
 
 pub well_formed : {text : Bytes} {p : Program} → ReadsProgram text p → IsWellFormed p
@@ -22,11 +19,10 @@ well_formed {text} {p} reads = record {
   but_lines = refl;
 }
 
-pub ready : {text : Bytes} (p : Program) → ReadsProgram text p → length p.functions ≤ 1000 → not_yet p ≡ None → IsReady p
-ready p reads few within = record {
+pub ready : {text : Bytes} (p : Program) → ReadsProgram text p → length p.functions ≤ 1000 → IsReady p
+ready p reads few = record {
   well_formed = well_formed reads;
   few_functions = omega (arith, few);
-  nowhere = points_nowhere p (integers_free p (well_formed reads) within);
 }
 
 pub well_listed : (p : Program) → IsWellFormed p → AreListedOnce p

@@ -1,17 +1,14 @@
 //! What is found of a text: its program, what its functions modify and use, its vertices with their rows, and its graph.
-ghost use Rattle.std.specs.Prelude.{◌≡◌, IfOk};
-ghost use Rattle.c_tree.specs.declared.program.Program.{Program};
-ghost use Rattle.dep_model.specs.LocationLists.{location_list};
-ghost use Rattle.dep_model.specs.LocationRows.{ArePointsRows, HasEffectRows};
+ghost use Rattle.std.specs.Prelude.{IfOk};
+ghost use Rattle.dep_model.specs.LocationRows.{HasEffectRows};
 ghost use Rattle.program_graph.specs.Given.{HasSkeleton};
-ghost use Rattle.analysis_tests.specs.Ready.{IsGraphReady, IsReady, PointsNowhere};
+ghost use Rattle.analysis_tests.specs.Ready.{IsGraphReady, IsReady};
 
-use bit_rows::Rows;
-use built_forms::not_yet;
 use c_reader::read_program;
 use c_tree::Program;
-use dep_model::{Effects, Graph, GraphFault, Locations, PointsTo, Skeleton};
-use std::alloc::{AllocError, Global};
+use dep_model::{Effects, Graph, GraphFault, Locations, Skeleton};
+use points_to::solve;
+use std::alloc::Global;
 use std::process::Abort;
 use vertex_layout::lay_out;
 
@@ -19,7 +16,7 @@ const LONG: usize = 1_000_000;
 
 const MANY: usize = 1_000;
 
-/// The program of a text over integers.
+/// The program of a text.
 pub(crate) fn read<R: Abort + AllocGlobal>(rt: &R, text: &str) -> Program
     ensures { IsReady result }
 {
@@ -27,16 +24,7 @@ pub(crate) fn read<R: Abort + AllocGlobal>(rt: &R, text: &str) -> Program
     assert!(rt; bytes.len() < LONG);
     let p = read_program(rt.alloc(), bytes).expect(rt, "a program");
     assert!(rt; p.functions.len() <= MANY);
-    assert_eq!(rt; not_yet(&p), None);
     p
-}
-
-// Rows by which none of the locations points anywhere.
-fn pointing_nowhere(alloc: Global, list: &Locations) -> Result<PointsTo, AllocError>
-    ensures { IfOk result (λ t. (p : Program) → list.now ≡ location_list p → PointsNowhere p → ArePointsRows p t) }
-{
-    let rows = Rows::new(alloc, list.len(), list.len())?;
-    Ok(PointsTo { rows })
 }
 
 /// What the functions of a program modify and use.
@@ -45,7 +33,7 @@ pub(crate) fn effects_of(alloc: Global, p: &Program) -> Result<Effects, GraphFau
     ensures { IfOk result (HasEffectRows p.now) }
 {
     let list = Locations::of(alloc, p)?;
-    let points = pointing_nowhere(alloc, &list)?;
+    let points = solve(alloc, p, &list)?;
     let effects = mod_ref::find(alloc, p, &list, &points)?;
     Ok(effects)
 }
@@ -56,7 +44,7 @@ pub(crate) fn skeleton_of(alloc: Global, p: &Program) -> Result<Skeleton, GraphF
     ensures { IfOk result (HasSkeleton p.now) }
 {
     let list = Locations::of(alloc, p)?;
-    let points = pointing_nowhere(alloc, &list)?;
+    let points = solve(alloc, p, &list)?;
     let effects = mod_ref::find(alloc, p, &list, &points)?;
     let skeleton = lay_out(alloc, p, &list, &points, &effects)?;
     Ok(skeleton)

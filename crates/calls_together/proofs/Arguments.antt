@@ -9,7 +9,7 @@ use Rattle.c_language.specs.Names.{names, any_names}
 use Rattle.c_tree.specs.declared.expr.Expr.{Expr}
 use Rattle.c_tree.specs.declared.program.Program.{Program}
 use Rattle.c_tree.specs.declared.statement.Target.{Target}
-use Rattle.built_forms.specs.IntegerForms.{is_integer, are_integers}
+use Rattle.dep_model.specs.IntegerForms.{is_integer, are_integers}
 use Rattle.bit_rows.specs.Sets.{has}
 use Rattle.c_meaning.specs.declared.value.Place.{Place}
 use Rattle.c_meaning.specs.declared.value.Value.{Value}

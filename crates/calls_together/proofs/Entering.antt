@@ -12,7 +12,7 @@ use Rattle.c_tree.specs.declared.expr.Expr.{Expr}
 use Rattle.c_tree.specs.declared.program.Program.{Program}
 use Rattle.c_tree.specs.declared.statement.Target.{Target}
 use Rattle.c_language.specs.Code.{Code}
-use Rattle.built_forms.specs.IntegerForms.{are_integers}
+use Rattle.dep_model.specs.IntegerForms.{are_integers}
 use Rattle.c_meaning.specs.declared.value.Place.{Place}
 use Rattle.c_meaning.specs.declared.value.Value.{Value}
 use Rattle.c_meaning.specs.Values.{State, eval_all}

@@ -12,7 +12,7 @@ use Rattle.c_language.specs.Names.{any_names, target_names}
 use Rattle.c_language.specs.Programs.{IsWellFormed}
 use Rattle.c_tree.specs.declared.program.Program.{Program}
 use Rattle.c_tree.specs.declared.statement.Target.{Target}
-use Rattle.built_forms.specs.IntegerForms.{are_integers}
+use Rattle.dep_model.specs.IntegerForms.{are_integers}
 use Rattle.c_meaning.specs.declared.value.Hop.{Hop}
 use Rattle.c_meaning.specs.declared.value.Place.{Place}
 use Rattle.c_meaning.specs.declared.value.Value.{Value}

@@ -38,7 +38,7 @@ use Rattle.c_language.specs.TypeGrammar.{named_type}
 use Rattle.c_language.specs.Programs.{IsTree, HasProgram}
 use Rattle.c_language.specs.Rules.{Breaks, AreKept}
 use Rattle.c_language.specs.SwitchRules.{HasTwo, SameCase, MisusesSwitch}
-use Rattle.built_forms.proofs.Options.{Always, always_map, always_then, always_both, always_is, always_if}
+use Rattle.dep_model.proofs.Options.{Always, always_map, always_then, always_both, always_is, always_if}
 use Rattle.c_scope_laws.specs.Thinning.{block_after, part_scope, body_scope}
 use Rattle.control_nesting.specs.Laws.{TextsTakeAll}
 use Rattle.control_nesting.specs.TakenArms.{ArmTakes, arms_taken, takes_all, arm_takes, TakesAll}

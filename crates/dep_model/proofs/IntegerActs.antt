@@ -9,7 +9,7 @@ use Rattle.c_tree.specs.declared.expr.Expr.{Expr}
 use Rattle.c_tree.specs.declared.program.Init.TheVariants as init
 use Rattle.c_tree.specs.declared.program.Program.{Program}
 use Rattle.c_language.specs.Code.{Act, Begins, Sets, Bumps, Fetches, Writes, Prints, Allocates, Frees, Returns, Tests}
-use Rattle.built_forms.specs.IntegerForms.{is_name, is_integer, are_integers, integer_init, integer_value}
+use Rattle.dep_model.specs.IntegerForms.{is_name, is_integer, are_integers, integer_init, integer_value}
 use Rattle.dep_model.specs.declared.location.Location.{Location}
 use Rattle.dep_model.specs.Denoted.{TargetsOf, Places, whole, expr_reads, expr_points, expr_places}
 use Rattle.dep_model.specs.Doings.{Doing, Does, Calls}

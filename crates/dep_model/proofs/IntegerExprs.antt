@@ -17,8 +17,8 @@ use Rattle.c_language.specs.DeclaredTypes.{integer}
 use Rattle.c_language.specs.ExprTypes.{is_scalar, is_array, is_pointer}
 use Rattle.c_language.specs.ConstantEvaluation.{operand_type}
 use Rattle.c_language.specs.TreeTypes.{type_of_variable, int_type, binary_tree_type, chosen_type}
-use Rattle.built_forms.specs.IntegerForms as forms
-use Rattle.built_forms.specs.IntegerForms.{is_name, is_integer, integer_step}
+use Rattle.dep_model.specs.IntegerForms as forms
+use Rattle.dep_model.specs.IntegerForms.{is_name, is_integer, integer_step}
 use Rattle.dep_model.specs.declared.location.Location.{Location}
 use Rattle.dep_model.specs.declared.location.Part.TheVariants as part
 use Rattle.dep_model.specs.Designated.{Designated, designated, designated_step, value_takes}

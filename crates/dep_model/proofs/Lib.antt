@@ -32,3 +32,4 @@ pub mod SwitchLemmas
 pub mod TextNumbers
 pub mod VertexNumbers
 pub mod WordLemmas
+pub mod Options

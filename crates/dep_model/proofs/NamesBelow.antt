@@ -3,7 +3,7 @@ use Rattle.std.proofs.Common.{◌≡◌, ℕ, ◌<◌, ◌≤◌, Bool, true, �
 use Rattle.std.proofs.lemmas.Bool.{and_parts, and_from}
 use Rattle.c_tree.specs.declared.expr.Expr.{Expr, map-Expr, ind-Expr, roll-Expr, fold-roll-Expr}
 use Rattle.c_tree.specs.declared.expr.Expr.TheOpen.{Expr-F}
-use Rattle.built_forms.specs.NamesBelow.{names_below, names_step}
+use Rattle.dep_model.specs.NamesBelow.{names_below, names_step}
 
 module _ (n m : ℕ) (le : n ≤ m) where
   abbrev IsBelowWhere : Expr → Type 0

@@ -11,7 +11,7 @@ use Rattle.c_tree.specs.declared.statement.Size.TheVariants as size
 use Rattle.c_tree.specs.declared.statement.Target.{Target}
 use Rattle.c_tree.specs.declared.statement.Target.TheVariants as target
 use Rattle.c_language.specs.Code.{Act, Begins, Sets, Bumps, Fetches, Writes, Prints, Allocates, Frees, Returns, Tests}
-use Rattle.built_forms.specs.NamesBelow.{names_below}
+use Rattle.dep_model.specs.NamesBelow.{names_below}
 use Rattle.dep_model.specs.Doings.{Doing, Does, Calls}
 
 abbrev pub value_below : ℕ → Option Expr → Bool

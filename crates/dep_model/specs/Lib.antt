@@ -34,3 +34,5 @@ pub mod SystemGraph
 pub mod VertexOrder
 pub mod Words
 pub mod PointerFree
+pub mod NamesBelow
+pub mod IntegerForms

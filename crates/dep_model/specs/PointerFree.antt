@@ -11,7 +11,7 @@ use Rattle.c_tree.specs.declared.statement.Target.TheVariants as target
 use Rattle.c_language.specs.Code.{Act, Begins, Sets, Bumps, Fetches, Writes, Prints, Allocates, Frees, Returns, Tests}
 use Rattle.c_language.specs.DeclaredTypes.{integer}
 use Rattle.c_language.specs.TreeTypes.{type_of_variable}
-use Rattle.built_forms.specs.IntegerForms.{is_integer, are_integers, is_name, integer_init, integer_value}
+use Rattle.dep_model.specs.IntegerForms.{is_integer, are_integers, is_name, integer_init, integer_value}
 use Rattle.dep_model.specs.Doings.{Doing, Does, Calls, program_doings}
 
 -- a left side is a name, in parentheses or not

@@ -19,7 +19,7 @@ use Rattle.c_language.specs.TreeTypes.{int_type, binary_tree_type, chosen_type}
 use Rattle.c_meaning.specs.declared.value.Value.{Value}
 use Rattle.c_meaning.specs.Memory.{Memory}
 use Rattle.c_meaning.specs.Values.{Types, State, Meant, meant_step, meant, as_type, unary_value, binary_value, and_both, or_both, chosen_value}
-use Rattle.built_forms.specs.IntegerForms.{integer_step, is_integer}
+use Rattle.dep_model.specs.IntegerForms.{integer_step, is_integer}
 use Rattle.projection.specs.Renumbering.{renamed}
 use Rattle.own_words.proofs.Exprs.{renamed_layer, fold_renamed}
 

@@ -14,7 +14,7 @@ use Rattle.c_language.proofs.Tests.{by_answer}
 use Rattle.c_meaning.specs.Activations.{Global, Executable, executable, globals_in, outside, blank, global_opened, global_begun, all_begun}
 use Rattle.c_meaning.specs.Memory.{Block}
 use Rattle.c_meaning.specs.Values.{State}
-use Rattle.built_forms.specs.IntegerForms.{integer_init}
+use Rattle.dep_model.specs.IntegerForms.{integer_init}
 use Rattle.dep_model.specs.declared.location.Location.{Location}
 use Rattle.dep_model.specs.ModRef.{is_outside}
 use Rattle.dep_model.specs.PointerFree.{is_pointer_free_item, IsPointerFree}

@@ -39,7 +39,7 @@ use Rattle.c_language.proofs.Options.{some_same, optional_there, map_there, then
 use Rattle.c_language.proofs.PhraseLists.{body_in_order, kept_first, kept_second}
 use Rattle.c_language.proofs.Tests.{false_true, by_or}
 use Rattle.c_language.proofs.TreeScopes.{after_same, list_after, block_after_same}
-use Rattle.built_forms.proofs.Options.{Always, always_map, always_then, always_if, always_is}
+use Rattle.dep_model.proofs.Options.{Always, always_map, always_then, always_if, always_is}
 use Rattle.dep_model.specs.Doings.{Doing, Does, doing_number, doings, body_doings}
 use Rattle.dep_model.proofs.DoingForms.{arms_doings, part_doings, doings-Declare, doings-Assign, doings-Bump, doings-Invoke, doings-Fetch, doings-Write, doings-Print, doings-Heap, doings-Release, doings-Return, doings-If, doings-While, doings-Do, doings-Switch, doings-Block, doings-For}
 use Rattle.dep_model.proofs.Membership.{IsIn, in_first}

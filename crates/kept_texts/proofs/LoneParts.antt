@@ -48,7 +48,7 @@ use Rattle.c_language.proofs.PhraseLists.{kept_first, kept_second}
 use Rattle.c_language.proofs.ProgramParts.{function_made}
 use Rattle.c_language.proofs.Tests.{false_true}
 use Rattle.c_language.proofs.TreeScopes.{after_same, list_after, block_after_same}
-use Rattle.built_forms.proofs.Options.{Always, always_map, always_then, always_if, always_is}
+use Rattle.dep_model.proofs.Options.{Always, always_map, always_then, always_if, always_is}
 use Rattle.dep_model.proofs.TextNumbers.{for_some}
 use Rattle.own_words.specs.OwnWords.{layer_parts, for_parts}
 use Rattle.kept_texts.proofs.DefinedOnce.{no_library}

@@ -43,7 +43,7 @@ use Rattle.c_language.specs.ProgramOf.{variable_number, collected, optional, cty
 use Rattle.c_language.specs.Scopes.{Scope, Meaning, meaning_in, Scoped, opened, closed, numbered, with_variable, with_target, begun, in_order, after_all, after_block}
 use Rattle.c_language.specs.TypeGrammar.{named_type}
 use Rattle.c_language.proofs.Options.{some_same, optional_there, map_there, then_there, both_there, more_there}
-use Rattle.built_forms.proofs.Options.{Always, always_map, always_if, always_is}
+use Rattle.dep_model.proofs.Options.{Always, always_map, always_if, always_is}
 use Rattle.dep_model.specs.Doings.{Doing, Does, doings, body_doings}
 use Rattle.dep_model.proofs.DoingForms.{arms_doings, part_doings, doings-Declare, doings-Assign, doings-Bump, doings-Invoke, doings-Fetch, doings-Write, doings-Print, doings-Heap, doings-Release, doings-Return, doings-If, doings-While, doings-Do, doings-Switch, doings-Block, doings-For}
 

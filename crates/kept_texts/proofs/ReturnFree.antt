@@ -30,7 +30,7 @@ use Rattle.c_language.specs.TypeGrammar.{named_type}
 use Rattle.c_language.proofs.Lists.{all_append}
 use Rattle.c_language.proofs.Options.{some_same, optional_there, map_there, then_there, both_there, more_there}
 use Rattle.c_language.proofs.Tests.{false_true}
-use Rattle.built_forms.proofs.Options.{Always, always_map, always_then, always_both, always_if, always_is}
+use Rattle.dep_model.proofs.Options.{Always, always_map, always_then, always_both, always_if, always_is}
 use Rattle.dep_model.specs.Doings.{Doing, Does, Calls, doing_number, doings, body_doings}
 use Rattle.dep_model.proofs.DoingForms.{arms_doings, part_doings, doings-Declare, doings-Assign, doings-Bump, doings-Invoke, doings-Fetch, doings-Write, doings-Print, doings-Heap, doings-Release, doings-Return, doings-If, doings-While, doings-Do, doings-Switch, doings-Block, doings-For}
 use Rattle.dep_model.proofs.Membership.{IsIn, in_either}

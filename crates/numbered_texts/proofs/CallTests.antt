@@ -34,7 +34,7 @@ use Rattle.c_language.proofs.Lists.{all_append}
 use Rattle.c_language.proofs.Options.{some_same, optional_there, map_there, then_there, both_there, more_there}
 use Rattle.c_language.proofs.PhraseLists.{body_in_order, kept_first, kept_second}
 use Rattle.c_language.proofs.TreeScopes.{after_same, list_after, block_after_same}
-use Rattle.built_forms.proofs.Options.{Always, always_map, always_then, always_is}
+use Rattle.dep_model.proofs.Options.{Always, always_map, always_then, always_is}
 use Rattle.dep_model.specs.Doings.{Doing, Does, Calls, doings, body_doings}
 use Rattle.dep_model.proofs.DoingForms.{arms_doings, part_doings, doings-Declare, doings-Assign, doings-Bump, doings-Invoke, doings-Fetch, doings-Write, doings-Print, doings-Heap, doings-Release, doings-Return, doings-If, doings-While, doings-Do, doings-Switch, doings-Block, doings-For}
 use Rattle.dep_model.proofs.TextNumbers.{for_some}

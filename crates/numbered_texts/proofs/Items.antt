@@ -22,7 +22,7 @@ use Rattle.c_language.proofs.PhraseLists.{body_after}
 use Rattle.c_language.proofs.ScopeNumbers.{function_declared, through_function, function_variables, entered_statements}
 use Rattle.c_print_laws.proofs.Scoping.{declared_count, count_append}
 use Rattle.c_print_laws.proofs.Numbers.{item_variables}
-use Rattle.built_forms.proofs.Terms.{AreLow}
+use Rattle.numbered_texts.proofs.Terms.{AreLow}
 use Rattle.dep_model.specs.Doings.{Doing, body_doings, functions_doings}
 use Rattle.dep_model.specs.DoingNames.{doing_below}
 use Rattle.dep_model.proofs.TextNumbers.{Takes, takes_none, takes_both, body_takes}

@@ -9,6 +9,4 @@ pub mod ListedEffects
 pub mod NamesInScope
 pub mod NumbersButLines
 pub mod Texts
-pub mod PointNowhere
-pub mod PointerFreeBodies
-pub mod PointerFreeTexts
+pub mod Terms

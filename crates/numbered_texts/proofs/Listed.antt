@@ -26,7 +26,7 @@ use Rattle.c_language.specs.declared.expr_type.Base.{Base}
 use Rattle.c_language.specs.declared.expr_type.ExprType.{ExprType}
 use Rattle.c_language.specs.declared.expr_type.Layer.{Layer}
 use Rattle.c_language.specs.declared.expr_type.Layer.TheVariants.{Pointer, Array}
-use Rattle.built_forms.specs.NamesBelow.{names_below, names_step}
+use Rattle.dep_model.specs.NamesBelow.{names_below, names_step}
 use Rattle.dep_model.specs.declared.location.Location.{Location}
 use Rattle.dep_model.specs.declared.location.Part.{Part}
 use Rattle.dep_model.specs.declared.location.Part.TheVariants as part

@@ -40,13 +40,13 @@ use Rattle.c_language.specs.Scopes.{Entry, Scope, Meaning, meaning_in, Scoped, o
 use Rattle.c_language.specs.TypeGrammar.{named_type}
 use Rattle.c_language.proofs.Lists.{all_append}
 use Rattle.c_language.proofs.Options.{some_same, optional_there, map_there, then_there, both_there, more_there}
-use Rattle.built_forms.specs.NamesBelow.{names_below}
-use Rattle.built_forms.proofs.Options.{Always, always_map, always_if, always_is}
+use Rattle.dep_model.specs.NamesBelow.{names_below}
+use Rattle.dep_model.proofs.Options.{Always, always_map, always_if, always_is}
 use Rattle.dep_model.specs.Doings.{Doing, Does, doings, body_doings}
 use Rattle.dep_model.specs.DoingNames.{value_below, init_below, target_below, size_below, amount_below, doing_below}
 use Rattle.dep_model.proofs.DoingForms.{arms_doings, part_doings, doings-Declare, doings-Assign, doings-Bump, doings-Invoke, doings-Fetch, doings-Write, doings-Print, doings-Heap, doings-Release, doings-Return, doings-If, doings-While, doings-Do, doings-Switch, doings-Block, doings-For}
 use Rattle.dep_model.proofs.NamesBelow.{names_more}
-use Rattle.built_forms.proofs.Terms.{IsLowMeaning, AreLow, names_low, expr_below}
+use Rattle.numbered_texts.proofs.Terms.{IsLowMeaning, AreLow, names_low, expr_below}
 
 -- ---- names in scope
 

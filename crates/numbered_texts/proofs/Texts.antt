@@ -1,16 +1,17 @@
 -- The program of a text is numbered in text order, its statements name its own variables, and its calls fit.
-use Rattle.std.proofs.Common.{◌≡◌, ℕ, ◌+◌, List, map, length, Bool, true, ap, ◌∙◌, arith}
+use Rattle.std.proofs.Common.{◌≡◌, ℕ, suc, ◌+◌, List, [], ◌∷◌, map, length, Bool, true, Option, Some, sym, ap, ◌∙◌, arith}
 use Rattle.std.specs.List.{list_all}
+use Rattle.c_language.proofs.Options.{some_same, more_there}
 use Rattle.c_language.proofs.ProgramParts.{IsMadeOf, made_of}
 use Rattle.c_language.proofs.PhraseLists.{phrases_kept}
 use Rattle.c_tree.specs.declared.program.Program.{Program}
+use Rattle.c_tree.specs.declared.program.Var.{Var}
 use Rattle.c_tree.specs.declared.raw.program.RawProgram.{RawProgram}
 use Rattle.c_language.specs.Phrases.{phrases, after_items, items_phrases}
-use Rattle.c_language.specs.ProgramOf.{variables_in}
+use Rattle.c_language.specs.ProgramOf.{collected, variables_in}
 use Rattle.c_language.specs.Programs.{HasProgram}
 use Rattle.c_language.specs.Scopes.{outset}
 use Rattle.c_language.specs.Syntax.{IsSyntax}
-use Rattle.built_forms.proofs.Programs.{found_length}
 use Rattle.dep_model.specs.Doings.{program_doings, doing_number}
 use Rattle.dep_model.specs.NumbersFrom.{from}
 use Rattle.dep_model.specs.DoingNames.{doing_below}
@@ -19,6 +20,11 @@ use Rattle.numbered_texts.specs.FittingCalls.{fits, gives, parameter_counts, res
 use Rattle.numbered_texts.proofs.ItemCalls.{counts_are, results_are, items_pass}
 use Rattle.numbered_texts.proofs.CallsFit.{counts, results, body_fits, body_gives}
 use Rattle.numbered_texts.proofs.Items.{items_count, items_take, items_below}
+
+-- as many are found as are collected
+found_length : (found : List (Option Var)) (vs : List Var) → collected found ≡ Some vs → length vs ≡ length found
+found_length [] vs e = ap length (sym (some_same e))
+found_length (o ∷ found) vs e = let m = more_there o found vs e in let k : length m.rest ≡ length found = found_length found m.rest m.rest_there in ap length (sym m.same) ∙ ap suc k
 
 module _ (raw : RawProgram) (p : Program) (has : HasProgram raw p) where
   abbrev parts : IsMadeOf raw p

@@ -1,20 +1,17 @@
 -- The programs of texts are numbered in text order.
-use Rattle.std.specs.Prelude.{◌≡◌, ◌⊎◌, ℕ, true, length, map, Some, None}
+use Rattle.std.specs.Prelude.{◌≡◌, ◌⊎◌, ℕ, true, length, map, Some}
 use Rattle.std.specs.List.{list_all, range_with_len}
 use Rattle.c_tree.specs.declared.program.Program.{Program}
 use Rattle.c_language.specs.Mains.{main_of}
 use Rattle.c_language.specs.Programs.{IsWellFormed}
-use Rattle.built_forms.specs.BuiltForms.{not_yet}
 use Rattle.dep_model.specs.declared.location.Location.{Location}
 use Rattle.dep_model.specs.Denoted.{TargetsOf}
 use Rattle.dep_model.specs.Doings.{doing_number, program_doings}
 use Rattle.dep_model.specs.ListedLocations.{IsListed, AreListed}
 use Rattle.dep_model.specs.ModRef.{Modifies, MayUse}
 use Rattle.dep_model.specs.DoingNames.{doing_below}
-use Rattle.dep_model.specs.MayPoint.{MayPoint}
 use Rattle.dep_model.specs.SystemGraph.{Analysis}
 use Rattle.numbered_texts.specs.FittingCalls.{fits, parameter_counts, takes_result}
-use Rattle.dep_model.specs.PointerFree.{IsPointerFree}
 
 -- the statements of a well-formed program, function by function, have the numbers 0, 1, and so on up to their count
 abbrev pub StatementsAreNumbered : Type 0
@@ -43,13 +40,3 @@ ResultsAreGiven = (p : Program) → IsWellFormed p → list_all (takes_result p)
 -- a function named main is among its functions
 abbrev pub ProgramsHaveMain : Type 0
 ProgramsHaveMain = (p : Program) → IsWellFormed p → (f : ℕ) × (main_of p ≡ Some f)
-
--- ---- programs over integers
-
--- a well-formed program of which nothing is outside the built forms has no pointers, arrays and structs
-abbrev pub IntegersArePointerFree : Type 0
-IntegersArePointerFree = (p : Program) → IsWellFormed p → not_yet p ≡ None → IsPointerFree p
-
--- and no location of such a program points anywhere
-abbrev pub PointerFreePointNowhere : Type 0
-PointerFreePointNowhere = (p : Program) → IsPointerFree p → (l m : Location) → MayPoint p l m → ⊥

@@ -42,14 +42,3 @@ pub fn results_are_given()
 pub fn programs_have_main()
     ensures { law.ProgramsHaveMain }
 {}
-
-/// A law: a well-formed program of which nothing is beyond integers has no pointers, arrays and structs: its variables
-/// are integers, and so are the expressions of its statements and what its globals begin with.
-pub fn integers_are_pointer_free()
-    ensures { law.IntegersArePointerFree }
-{}
-
-/// A law: no location of a program without pointers, arrays and structs may point anywhere.
-pub fn pointer_free_point_nowhere()
-    ensures { law.PointerFreePointNowhere }
-{}

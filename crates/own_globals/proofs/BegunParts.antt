@@ -34,7 +34,7 @@ use Rattle.c_language.specs.TypeGrammar.{named_type}
 use Rattle.c_language.specs.ProgramOf.{collected, optional as optional_tree, ctype_if, expr_of, init_of, declaration_id, target_tree, only_tree, args_tree, amount_tree, call_tree, heap_tree, label_tree, arm_tree, ArmTree, arm_tree_step, block_tree, at_type, switch_type, for_tree, treed_step, treed, treed_arm}
 use Rattle.c_language.specs.Scopes.{Scope, Scoped, opened, closed, numbered, with_variable, with_target, begun, in_order, after_all, after_block}
 use Rattle.c_language.proofs.Options.{some_same, optional_there, map_there, then_there, both_there, more_there}
-use Rattle.built_forms.proofs.Options.{Always, always_map, always_then, always_both, always_if, always_is}
+use Rattle.dep_model.proofs.Options.{Always, always_map, always_then, always_both, always_if, always_is}
 use Rattle.dep_model.proofs.TextNumbers.{for_some}
 use Rattle.kept_texts.proofs.NamesReach.{body_grows}
 use Rattle.kept_texts.proofs.Spans.{Any}

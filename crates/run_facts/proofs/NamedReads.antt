@@ -7,7 +7,7 @@ use Rattle.c_tree.specs.declared.expr.Expr.TheOpen.{Expr-F}
 use Rattle.c_tree.proofs.Trees.{ExprParts, expr_layer, of_every_expr}
 use Rattle.c_language.specs.declared.expr_type.ExprType.{ExprType}
 use Rattle.c_language.specs.ExprTypes.{is_array}
-use Rattle.built_forms.specs.IntegerForms.{integer_step, is_integer, name_step, is_name}
+use Rattle.dep_model.specs.IntegerForms.{integer_step, is_integer, name_step, is_name}
 use Rattle.c_meaning.specs.declared.value.Place.{Place}
 use Rattle.c_meaning.specs.declared.value.Value.{Value}
 use Rattle.c_meaning.specs.Values.{Types, State, whole, variable_place}

@@ -9,7 +9,7 @@ use Rattle.c_tree.specs.declared.expr.Expr.{Expr}
 use Rattle.c_tree.specs.declared.program.Init.TheVariants as init
 use Rattle.c_tree.specs.declared.program.Program.{Program}
 use Rattle.c_language.specs.Code.{Act, Begins, Sets, Bumps, Fetches, Writes, Prints, Allocates, Frees, Returns, Tests}
-use Rattle.built_forms.specs.IntegerForms.{is_name, is_integer, are_integers}
+use Rattle.dep_model.specs.IntegerForms.{is_name, is_integer, are_integers}
 use Rattle.c_meaning.specs.declared.value.Place.{Place}
 use Rattle.c_meaning.specs.Values.{Types, Origin, State}
 use Rattle.c_meaning.specs.Activations.{Executable, types_in}

@@ -14,7 +14,7 @@ use Rattle.c_tree.specs.declared.program.Program.{Program}
 use Rattle.c_tree.specs.declared.statement.Target.{Target}
 use Rattle.c_tree.specs.declared.statement.Target.TheVariants as target
 use Rattle.c_language.specs.Code.{Act, End}
-use Rattle.built_forms.specs.IntegerForms.{are_integers}
+use Rattle.dep_model.specs.IntegerForms.{are_integers}
 use Rattle.c_meaning.specs.declared.value.Place.{Place}
 use Rattle.c_meaning.specs.declared.value.Value.{Value}
 use Rattle.c_meaning.specs.Values.{Types, Origin, OfVariable, State, whole, eval_all}

@@ -1,6 +1,5 @@
 //! The texts of a list of criteria.
-ghost use Rattle.std.specs.Prelude.{◌≡◌, ◌≤◌, All, IfOk, None, length};
-ghost use Rattle.built_forms.specs.BuiltForms.{not_yet};
+ghost use Rattle.std.specs.Prelude.{◌≤◌, All, IfOk, length};
 ghost use Rattle.slice_engine.specs.Slice.{HasStart};
 ghost use Rattle.slice_batch.specs.Batch.{AreTexts};
 
@@ -14,7 +13,6 @@ use std::alloc::{AllocError, Global};
 pub fn slices(alloc: Global, e: &Engine, list: &[Criterion]) -> Result<Vec<Text>, AllocError>
     requires few { length list.now ≤ 64 }
     requires starts { All (λ c. HasStart e.now c.line) list.now }
-    requires built { not_yet e.now ≡ None }
     ensures { IfOk result (λ texts. AreTexts e.now list.now texts.items) }
 {
     let mut texts = Vec::new(alloc);

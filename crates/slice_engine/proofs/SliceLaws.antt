@@ -17,7 +17,6 @@ use Rattle.c_print.specs.StartsOn.{StartsOn}
 use Rattle.c_print_laws.specs.ReadAgain.{IsReadAgain}
 use Rattle.c_print_laws.proofs.ReadAgain.{commented_is_read_again}
 use Rattle.c_print_laws.proofs.StatementStarts.{statements_start}
-use Rattle.dep_model.specs.PointerFree.{IsPointerFree}
 use Rattle.rule_closure.proofs.ListLemmas.{contains_head, contains_cons}
 use Rattle.dep_model.specs.declared.facts.Facts.{Facts}
 use Rattle.dep_model.specs.declared.graph.Graph.{Graph}
@@ -165,11 +164,11 @@ module _ (p : Program) (line : ℕ) (q : Program) (in_criterion : List Bool) (we
 
 -- ---- the same values
 
--- a program over integers gives the same values as what is read of its slice
-pub is_faithful : (p : Program) (line : ℕ) (text : Bytes) → IsWellFormed p → IsPointerFree p → IsAcceptedSlice p line text → IsFaithful p line text
-is_faithful p line text well free r = record {
+-- what is read of a slice is accepted so, and of a program over integers it gives the same values
+pub is_faithful : (p : Program) (line : ℕ) (text : Bytes) → IsWellFormed p → IsAcceptedSlice p line text → IsFaithful p line text
+is_faithful p line text well r = record {
   accepted = r;
-  same_values =
+  same_values = λ free.
       let able : CanBeProjected p r.analysis r.kept = record {
         is_analysis = r.is_kept.is_analysis;
         edges = r.is_kept.edges;

@@ -1,7 +1,6 @@
 //! The engine: a program with its dependence graph, which gives the slice's text at each criterion.
-ghost use Rattle.std.specs.Prelude.{◌≡◌, ◌⊎◌, ◌≤◌, ◌<◌, ℕ, IfOk, IsTrue, ◌↔◌, MatchOption, None, length};
+ghost use Rattle.std.specs.Prelude.{◌≡◌, ◌⊎◌, ◌≤◌, ◌<◌, ℕ, IfOk, IsTrue, ◌↔◌, MatchOption, length};
 ghost use Rattle.std.specs.Result.{IfErr};
-ghost use Rattle.built_forms.specs.BuiltForms.{not_yet};
 ghost use Rattle.c_tree.specs.declared.limits.LimitName.{LimitName};
 ghost use Rattle.c_tree.specs.Numbered.{program_starts};
 ghost use Rattle.c_language.specs.Programs.{IsWellFormed};
@@ -168,15 +167,13 @@ impl Engine {
         Ok(set)
     }
 
-    /// The text of the slice of a program of which nothing is outside the built forms, as
-    /// [`not_yet`](crate::not_yet) tells, so far programs over integers, with functions, recursion, globals and input: a
-    /// header, and the layout of the program that the kept statements make (Binkley 1993). Each input on which the program
-    /// ends gives the same values at the criterion in both.
+    /// The text of the slice at a criterion: a header, and the layout of the program that the kept statements make
+    /// (Binkley 1993). It is accepted again, as that program. Of a program without pointers, arrays and structs each input on
+    /// which it ends gives the same values at the criterion in both.
     ///
     /// Err: no memory was left, or the layout of the slice has more than 4,294,967,296 bytes.
     pub fn slice_text(&self, alloc: Global, c: Criterion) -> Result<Text, AllocError>
         requires start { HasStart self.now c.line }
-        requires built { not_yet self.now ≡ None }
         ensures slice { IfOk result (λ t. IsSlice self.now c.line t) }
         ensures faithful { IfOk result (λ t. IsFaithful self.now c.line t) }
     {

@@ -9,7 +9,6 @@ mod header;
 mod laws;
 mod starts;
 
-pub use built_forms::not_yet;
 pub use c_reader::{LexFault, ParseFault, ReadRefusal, RuleFault, read_program};
 pub use c_tree::{LimitName, Program, Text};
 pub use dep_model::{Graph, GraphFault, Locations, VertexSet};

@@ -1,6 +1,5 @@
 //! Graphs of programs with functions, and what reaches the statements of a line; the numbers of vertices are typed by hand.
 use crate::programs::{ADD, PICK, SETTING, THREE_READS};
-use built_forms::not_yet;
 use dep_model::Label;
 use slice_engine::{Engine, Graph, VertexSet, read_program};
 use std::process::Abort;
@@ -14,10 +13,7 @@ fn engine_of<R: Abort + AllocGlobal>(rt: &R, text: &str) -> Engine {
     let bytes = text.as_bytes();
     assert!(rt; bytes.len() < SHORT);
     let program = read_program(rt.alloc(), bytes).expect(rt, "a program");
-    match not_yet(&program) {
-        Some(line) => panic!(rt; "line {line} isn't over integers"),
-        None => Engine::new(rt.alloc(), program).expect(rt, "an engine"),
-    }
+    Engine::new(rt.alloc(), program).expect(rt, "an engine")
 }
 
 /// What reaches the statements of a line.

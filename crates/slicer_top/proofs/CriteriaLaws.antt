@@ -6,20 +6,21 @@ use Rattle.std.specs.Prelude.{All}
 use Rattle.c_tree.specs.declared.limits.LimitName.{LimitName}
 use Rattle.c_tree.specs.declared.program.Program.{Program}
 use Rattle.c_language.specs.Words.{Bytes}
+use Rattle.c_reader.specs.Reading.{ReadsProgram}
 use Rattle.call_words.specs.Requests.{Asked, lines_in}
 use Rattle.slice_engine.specs.GraphLimits.{IsAboveGraphLimit}
 use Rattle.slice_engine.specs.Slice.{HasStart, IsSlice, IsFaithful}
 use Rattle.slice_engine.specs.declared.engine.Criterion.{Criterion}
 use Rattle.slice_batch.specs.Batch.{AreTexts}
 use Rattle.slicer_top.specs.Criteria.{AreCriteria, AreMade, IsCriteriaFault, StartAt}
-use Rattle.slicer_top.specs.Slices.{AreSlices, AreWritten, HasBuilt, HasGraph, IsFirstWithout, line_at}
+use Rattle.slicer_top.specs.Slices.{AreSlices, AreWritten, HasGraph, IsFirstWithout, line_at}
 use Rattle.slicer_top.specs.Reports.{IsAmong, IsReason}
 use Rattle.slicer_top.specs.declared.refusal.Refusal.{Refusal}
-use Rattle.slicer_top.specs.declared.refusal.Refusal.TheVariants.{Unreadable, TooLong, Lex, Parse, Check, NotYet, NoStart, Graph, TooMany, NoMemory}
+use Rattle.slicer_top.specs.declared.refusal.Refusal.TheVariants.{Unreadable, TooLong, Lex, Parse, Check, NoStart, Graph, TooMany, NoMemory}
 
 -- an engine's program has a graph within the limits
-pub has_graph : (text : Bytes) (asked : Asked) (p e : Program) → e ≡ p → HasBuilt text asked p → ((name : LimitName) → IsAboveGraphLimit p name → ⊥) → HasGraph text asked e
-has_graph text asked p e same built within = subst (HasGraph text asked) (sym same) (record { reads = built.reads; built = built.built; within = within })
+pub has_graph : (text : Bytes) (p e : Program) → e ≡ p → ReadsProgram text p → ((name : LimitName) → IsAboveGraphLimit p name → ⊥) → HasGraph text e
+has_graph text p e same reads within = subst (HasGraph text) (sym same) (record { reads = reads; within = within })
 
 -- the criteria of the first lines
 pub record AreFirst (p : Program) (lines : List ℕ) (many : ℕ) (found : List Criterion) : Type 0 where
@@ -103,7 +104,7 @@ one_without p line none = record {
   none = none;
 }
 
-module _ (text : Bytes) (asked : Asked) (p : Program) (built : HasGraph text asked p) where
+module _ (text : Bytes) (asked : Asked) (p : Program) (built : HasGraph text p) where
   -- why lines have no criteria, of a text's program
   pub fault_shows : (refusal : Refusal) → IsCriteriaFault p (lines_in asked) refusal → IsReason text asked refusal
   fault_shows Unreadable fault = absurd fault
@@ -111,7 +112,6 @@ module _ (text : Bytes) (asked : Asked) (p : Program) (built : HasGraph text ask
   fault_shows (Lex f) fault = absurd fault
   fault_shows (Parse f) fault = absurd fault
   fault_shows (Check f) fault = absurd fault
-  fault_shows (NotYet first) fault = absurd fault
   fault_shows (NoStart line) fault = (p, built, fault)
   fault_shows (Graph name) fault = absurd fault
   fault_shows TooMany fault = (p, built, fault)
@@ -128,7 +128,6 @@ reason_among text asked TooLong reason = tt
 reason_among text asked (Lex fault) reason = tt
 reason_among text asked (Parse fault) reason = tt
 reason_among text asked (Check fault) reason = tt
-reason_among text asked (NotYet first) reason = tt
 reason_among text asked (NoStart line) (p, built, first) =
     (first.place, first.within, any_default (lines_in asked) first.place line 0 first.within ∙ sym first.is_line)
   where

@@ -1,9 +1,10 @@
 -- What is told of a file, and what its causes rule out.
 use Rattle.std.proofs.Common.{◌≡◌, ◌⊎◌, inl, inr, ℕ, ◌≤◌, ◌<◌, length, refl, sym, subst, arith}
 use Rattle.std.specs.Prelude.{Option, Some, None, IsSome, IsSomeAnd, Result, Ok, Err, IfErr, IsErrAnd}
-use Rattle.edge_io.specs.Contents.{Told, Lacks, HoldsMoreThan}
+use Rattle.edge_io.specs.Contents.{Told, Lacks, IsAsTold, HoldsMoreThan}
 use Rattle.edge_io.specs.Count.{Rose}
 use Rattle.c_language.specs.Words.{Bytes}
+use Rattle.c_reader.specs.Reading.{ReadsProgram}
 use Rattle.call_words.specs.Requests.{Asked, lines_in}
 use Rattle.c_lex.specs.declared.fault.LexFault.TheVariants as lex
 use Rattle.c_parse.specs.declared.parse_fault.ParseFault.TheVariants as parse
@@ -18,14 +19,14 @@ use Rattle.c_reader.specs.declared.refusal.ReadRefusal.TheVariants as read
 use Rattle.slice_engine.specs.GraphLimits.{IsAboveGraphLimit}
 use Rattle.slice_engine.specs.Slice.{HasStart}
 use Rattle.slicer_top.specs.declared.refusal.Refusal.{Refusal}
-use Rattle.slicer_top.specs.declared.refusal.Refusal.TheVariants.{Unreadable, TooLong, Lex, Parse, Check, NotYet, NoStart, Graph, TooMany, NoMemory}
+use Rattle.slicer_top.specs.declared.refusal.Refusal.TheVariants.{Unreadable, TooLong, Lex, Parse, Check, NoStart, Graph, TooMany, NoMemory}
 use Rattle.slicer_top.specs.declared.status.Status.{Status}
 use Rattle.slicer_top.specs.declared.status.Status.TheVariants as status
 use Rattle.slicer_top.specs.Files.{HoldsText, OfFile}
-use Rattle.slicer_top.specs.Slices.{HasBuilt, StartsSome, line_at}
+use Rattle.slicer_top.specs.Slices.{StartsSome, line_at}
 use Rattle.slicer_top.specs.Statuses.{NoFault}
 use Rattle.slicer_top.specs.Refusals.{of_reading, of_graph}
-use Rattle.slicer_top.specs.Reports.{IsReason, IsCause, IsReported, status_of}
+use Rattle.slicer_top.specs.Reports.{IsReason, IsShown, IsCause, IsReported, status_of}
 use Rattle.slicer_top.proofs.ReaderLaws.{one_program, only_memory}
 
 -- what is told under a name is what stands under it
@@ -97,7 +98,6 @@ module _ (told : Told) (file : Bytes) (at : Asked) (f f' l l' : ℕ) where
   read_cause (Check (rule.Rule m n)) is cause = absurd (let e : status.Refused ≡ status.ReadFault = is in cc)
   read_cause (Check (rule.Limit n)) is cause = absurd (let e : status.Limit ≡ status.ReadFault = is in cc)
   read_cause (Check rule.NoMemory) is cause = absurd (let e : status.NoMemory ≡ status.ReadFault = is in cc)
-  read_cause (NotYet n) is cause = absurd (let e : status.Refused ≡ status.ReadFault = is in cc)
   read_cause (NoStart n) is cause = absurd (let e : status.Refused ≡ status.ReadFault = is in cc)
   read_cause (Graph n) is cause = absurd (let e : status.Limit ≡ status.ReadFault = is in cc)
   read_cause TooMany is cause = absurd (let e : status.Limit ≡ status.ReadFault = is in cc)
@@ -117,7 +117,6 @@ module _ (told : Told) (file : Bytes) (at : Asked) (f f' l l' : ℕ) where
   long_cause (Check (rule.Rule m n)) is cause = absurd (let e : status.Refused ≡ status.TooLong = is in cc)
   long_cause (Check (rule.Limit n)) is cause = absurd (let e : status.Limit ≡ status.TooLong = is in cc)
   long_cause (Check rule.NoMemory) is cause = absurd (let e : status.NoMemory ≡ status.TooLong = is in cc)
-  long_cause (NotYet n) is cause = absurd (let e : status.Refused ≡ status.TooLong = is in cc)
   long_cause (NoStart n) is cause = absurd (let e : status.Refused ≡ status.TooLong = is in cc)
   long_cause (Graph n) is cause = absurd (let e : status.Limit ≡ status.TooLong = is in cc)
   long_cause TooMany is cause = absurd (let e : status.Limit ≡ status.TooLong = is in cc)
@@ -130,7 +129,6 @@ module _ (told : Told) (file : Bytes) (at : Asked) (f f' l l' : ℕ) where
   lacking_is (Lex fault) cause lacks = absurd (of_file_lacks told file _ cause lacks)
   lacking_is (Parse fault) cause lacks = absurd (of_file_lacks told file _ cause lacks)
   lacking_is (Check fault) cause lacks = absurd (of_file_lacks told file _ cause lacks)
-  lacking_is (NotYet n) cause lacks = absurd (of_file_lacks told file _ cause lacks)
   lacking_is (NoStart n) cause lacks = absurd (of_file_lacks told file _ cause lacks)
   lacking_is (Graph n) cause lacks = absurd (of_file_lacks told file _ cause lacks)
   lacking_is TooMany cause lacks = absurd (of_file_lacks told file _ cause lacks)
@@ -143,7 +141,6 @@ module _ (told : Told) (file : Bytes) (at : Asked) (f f' l l' : ℕ) where
   longer_is (Lex fault) cause more = absurd (of_file_longer told file 1048576 _ cause more)
   longer_is (Parse fault) cause more = absurd (of_file_longer told file 1048576 _ cause more)
   longer_is (Check fault) cause more = absurd (of_file_longer told file 1048576 _ cause more)
-  longer_is (NotYet n) cause more = absurd (of_file_longer told file 1048576 _ cause more)
   longer_is (NoStart n) cause more = absurd (of_file_longer told file 1048576 _ cause more)
   longer_is (Graph n) cause more = absurd (of_file_longer told file 1048576 _ cause more)
   longer_is TooMany cause more = absurd (of_file_longer told file 1048576 _ cause more)
@@ -158,7 +155,6 @@ fault_or_reason told file at f f' l l' text TooLong holds le cause =
 fault_or_reason told file at f f' l l' text (Lex fault) holds le cause = inr (of_file told file text _ holds cause).1
 fault_or_reason told file at f f' l l' text (Parse fault) holds le cause = inr (of_file told file text _ holds cause).1
 fault_or_reason told file at f f' l l' text (Check fault) holds le cause = inr (of_file told file text _ holds cause).1
-fault_or_reason told file at f f' l l' text (NotYet first) holds le cause = inr (of_file told file text _ holds cause).1
 fault_or_reason told file at f f' l l' text (NoStart line) holds le cause = inr (of_file told file text _ holds cause).1
 fault_or_reason told file at f f' l l' text (Graph name) holds le cause = inr (of_file told file text _ holds cause).1
 fault_or_reason told file at f f' l l' text TooMany holds le cause = inr (of_file told file text _ holds cause).1
@@ -171,16 +167,12 @@ no_reason text at TooLong starts reason = absurd reason
 no_reason text at (Lex fault) starts reason = absurd (only_memory text (read.Lex fault) reason starts.program starts.built.reads)
 no_reason text at (Parse fault) starts reason = absurd (only_memory text (read.Parse fault) reason starts.program starts.built.reads)
 no_reason text at (Check fault) starts reason = absurd (only_memory text (read.Check fault) reason starts.program starts.built.reads)
-no_reason text at (NotYet first) starts (p, has, outside) =
-    let same : p ≡ starts.program = one_program text p starts.program has starts.built.reads in
-    let built = starts.built.built in
-    absurd cc
 no_reason text at (NoStart line) starts (p, built, first) =
     let here = starts.starts first.place first.within in
     absurd (first.none (subst (HasStart p) (sym first.is_line)
     (subst (λ q. HasStart q (line_at (lines_in at) first.place)) (sym (one_program text p starts.program built.reads starts.built.reads)) here)))
 no_reason text at (Graph name) starts (p, built, above) =
-    absurd (starts.built.within name (subst (λ q. IsAboveGraphLimit q name) (one_program text p starts.program built.reads starts.built.reads) above))
+    absurd (starts.built.within name (subst (λ q. IsAboveGraphLimit q name) (one_program text p starts.program built starts.built.reads) above))
 no_reason text at TooMany starts (p, built, many) = let few = starts.few in absurd (omega (arith, many, few))
 no_reason text at NoMemory starts reason = refl
 
@@ -191,6 +183,27 @@ memory_told faults faults' before after file result calm (inl (inr cut)) = absur
 memory_told faults faults' before after file result calm (inr (inl put)) = put.0
 memory_told faults faults' before after file result calm (inr (inr cut)) = absurd (calm cut.1.0)
 
+is_shown : (told : Told) (file : Bytes) (at : Asked) (text : Bytes) (refusal : Refusal) → IsAsTold told file text → length text ≤ 1048576 → IsReason text at refusal → IsShown told file at refusal
+is_shown None file at text refusal is le reason = tt
+is_shown (Some under) file at text refusal is le reason = subst (λ found. IsSomeAnd found (λ t. (length t ≤ 1048576) × IsReason t at refusal)) (sym is) (le, reason)
+
+-- what the text under a name shows is the cause of what is told of it
+module _ (told : Told) (file : Bytes) (at : Asked) (f f' l l' : ℕ) where
+  reason_causes : (text : Bytes) (refusal : Refusal) → IsAsTold told file text → length text ≤ 1048576 → IsReason text at refusal → IsCause told file at f f' l l' refusal
+  reason_causes text Unreadable is le reason = absurd reason
+  reason_causes text TooLong is le reason = absurd reason
+  reason_causes text (Lex fault) is le reason = is_shown told file at text (Lex fault) is le reason
+  reason_causes text (Parse fault) is le reason = is_shown told file at text (Parse fault) is le reason
+  reason_causes text (Check fault) is le reason = is_shown told file at text (Check fault) is le reason
+  reason_causes text (NoStart line) is le reason = is_shown told file at text (NoStart line) is le reason
+  reason_causes text (Graph name) is le reason = is_shown told file at text (Graph name) is le reason
+  reason_causes text TooMany is le reason = is_shown told file at text TooMany is le reason
+  reason_causes text NoMemory is le reason = tt
+
+  pub reasons_cause : {A : Type 0} (text : Bytes) (made : Result A Refusal) → IsAsTold told file text → length text ≤ 1048576 → IfErr made (IsReason text at) → IfErr made (IsCause told file at f f' l l')
+  reasons_cause text (Ok x) is le shows = tt
+  reasons_cause text (Err refusal) is le shows = reason_causes text refusal is le shows
+
 -- a refusal of the reader that the text shows is one of the text
 pub reading_shows : (text : Bytes) (at : Asked) (r : ReadRefusal) → IsRight text (Err r) → IsReason text at (of_reading r)
 reading_shows text at (read.Lex fault) is = is
@@ -199,7 +212,7 @@ reading_shows text at (read.Check fault) is = is
 reading_shows text at read.NoMemory is = is
 
 -- a fault of the graph of the text's program is one of the text
-pub graph_shows : (text : Bytes) (at : Asked) (p : Program) (fault : GraphFault) → HasBuilt text at p → ((name : LimitName) → fault ≡ graph.Limit name → IsAboveGraphLimit p name) → IsReason text at (of_graph fault)
+pub graph_shows : (text : Bytes) (at : Asked) (p : Program) (fault : GraphFault) → ReadsProgram text p → ((name : LimitName) → fault ≡ graph.Limit name → IsAboveGraphLimit p name) → IsReason text at (of_graph fault)
 graph_shows text at p (graph.Limit name) built above = (p, built, above name refl)
 graph_shows text at p graph.NoMemory built above = tt
 

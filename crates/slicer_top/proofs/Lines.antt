@@ -8,9 +8,9 @@ use Rattle.c_lex.specs.declared.fault.LexFault.TheVariants as lex
 use Rattle.c_parse.specs.declared.parse_fault.ParseFault.TheVariants as parse
 use Rattle.c_types.specs.declared.rule_fault.RuleFault.TheVariants as rule
 use Rattle.slicer_top.specs.declared.refusal.Refusal.{Refusal}
-use Rattle.slicer_top.specs.declared.refusal.Refusal.TheVariants.{Unreadable, TooLong, Lex, Parse, Check, NotYet, NoStart, Graph, TooMany, NoMemory}
+use Rattle.slicer_top.specs.declared.refusal.Refusal.TheVariants.{Unreadable, TooLong, Lex, Parse, Check, NoStart, Graph, TooMany, NoMemory}
 use Rattle.slicer_top.specs.declared.status.Status.{Status}
-use Rattle.slicer_top.specs.Lines.{IsToldBy, of_usage, of_file, of_length, of_byte, of_number, of_comment, of_token, of_tokens, of_rule, of_form, of_line, of_limit, of_out, of_memory, Tells}
+use Rattle.slicer_top.specs.Lines.{IsToldBy, of_usage, of_file, of_length, of_byte, of_number, of_comment, of_token, of_tokens, of_rule, of_line, of_limit, of_out, of_memory, Tells}
 use Rattle.slicer_top.specs.Reports.{PutsLine, IsAmong, IsReported, status_of, words_of}
 
 -- all that a sink takes, and nothing more
@@ -29,7 +29,6 @@ module _ (faults faults' : ℕ) (before after : Option Bytes) where
     put_tells answer words (of_token l token) gained = (_, of_token l token, gained)
     put_tells answer words (of_tokens l) gained = (_, of_tokens l, gained)
     put_tells answer words (of_rule l number) gained = (_, of_rule l number, gained)
-    put_tells answer words (of_form l) gained = (_, of_form l, gained)
     put_tells answer words (of_line l among) gained = (_, of_line l among, gained)
     put_tells answer words (of_limit name) gained = (_, of_limit name, gained)
     put_tells answer words (of_out) gained = inl gained
@@ -54,7 +53,6 @@ module _ (faults faults' : ℕ) (before after : Option Bytes) where
     refusal_line (Check (rule.Rule number l)) among = of_rule l number
     refusal_line (Check (rule.Limit name)) among = of_limit name
     refusal_line (Check rule.NoMemory) among = of_memory
-    refusal_line (NotYet first) among = of_form first
     refusal_line (NoStart l) among = of_line l among
     refusal_line (Graph name) among = of_limit name
     refusal_line TooMany among = of_limit limit.Criteria

@@ -227,7 +227,6 @@ module _ (words : List Bytes) (shelf : ShelfSeen) (out err : SinkSeen) (answer :
   own (refusal.Check (rule.Rule m n)) = tt
   own (refusal.Check (rule.Limit n)) = tt
   own (refusal.Check rule.NoMemory) = tt
-  own (refusal.NotYet n) = tt
   own (refusal.Graph n) = tt
   own refusal.TooMany = tt
   own (refusal.NoStart n) = tt

@@ -118,12 +118,12 @@ module _ (text : Bytes) where
     tree_lacks name of (IsAboveLimit.graph {p = q} built many) p has = of_graph_alone q name many of
     tree_lacks name of (IsAboveLimit.criteria many) p has = absurd of
 
-    pub above_lacks : (name : LimitName) → IsAboveLimit text asked name → (p : Program) → HasGraph text asked p → length (lines_in asked) ≤ 64 → ⊥
+    pub above_lacks : (name : LimitName) → IsAboveLimit text asked name → (p : Program) → HasGraph text p → length (lines_in asked) ≤ 64 → ⊥
     above_lacks name (IsAboveLimit.nesting tree many) p has few = tree_lacks limit.Nesting tt (IsAboveLimit.nesting tree many) p has.reads
     above_lacks name (IsAboveLimit.length tree low made many) p has few = tree_lacks limit.ArrayLength tt (IsAboveLimit.length tree low made many) p has.reads
     above_lacks name (IsAboveLimit.cells tree low made short many) p has few = tree_lacks limit.ObjectCells tt (IsAboveLimit.cells tree low made short many) p has.reads
     above_lacks name (IsAboveLimit.graph {p = q} built many) p has few =
-        has.within name (subst (λ r. IsAboveGraphLimit r name) (one_program q p built.reads has.reads) many)
+        has.within name (subst (λ r. IsAboveGraphLimit r name) (one_program q p built has.reads) many)
     above_lacks name (IsAboveLimit.criteria (q, built, many)) p has few = absurd (omega (arith, many, few))
 
     above_of : (raw : RawProgram) (name : LimitName) → ReadsTree text raw → program_nesting raw ≤ 100 → IsAbove raw name → IsAboveLimit text asked name

@@ -16,21 +16,21 @@ use Rattle.call_words.specs.Requests.{Asked}
 use Rattle.c_types.specs.Checker.{IsAbove}
 use Rattle.c_types.specs.declared.rule_fault.RuleFault.{RuleFault}
 use Rattle.c_types.specs.declared.rule_fault.RuleFault.TheVariants as rule
-use Rattle.c_reader.specs.Reading.{ReadsTree}
+use Rattle.c_reader.specs.Reading.{ReadsTree, ReadsProgram}
 use Rattle.c_reader.specs.Refusals.{HasParseFault, IsNesting}
 use Rattle.c_reader.specs.declared.refusal.ReadRefusal.TheVariants as read
 use Rattle.c_tree.specs.declared.program.Program.{Program}
 use Rattle.slice_engine.specs.GraphLimits.{IsAboveGraphLimit}
 use Rattle.slice_engine.proofs.GraphQuantities.{one_graph_limit}
 use Rattle.slicer_top.specs.declared.refusal.Refusal.{Refusal}
-use Rattle.slicer_top.specs.declared.refusal.Refusal.TheVariants.{Unreadable, TooLong, Lex, Parse, Check, NotYet, NoStart, Graph, TooMany, NoMemory}
+use Rattle.slicer_top.specs.declared.refusal.Refusal.TheVariants.{Unreadable, TooLong, Lex, Parse, Check, NoStart, Graph, TooMany, NoMemory}
 use Rattle.slicer_top.specs.declared.status.Status.{Status}
 use Rattle.slicer_top.specs.declared.status.Status.TheVariants as status
 use Rattle.slicer_top.specs.Files.{OfFile}
 use Rattle.slicer_top.specs.Limits.{IsAboveLimit, IsBelowLimits, IsDeep}
 use Rattle.slicer_top.specs.Lines as lines
 use Rattle.slicer_top.specs.Reports.{IsReason, IsShown, IsCause, IsReported, status_of, words_of}
-use Rattle.slicer_top.specs.Slices.{HasBuilt, AsksTooMany}
+use Rattle.slicer_top.specs.Slices.{AsksTooMany}
 use Rattle.slicer_top.specs.Statuses.{IsOrYieldsToFault}
 use Rattle.slicer_top.specs.Truths.{IsTrueOf, TellsTruth}
 use Rattle.slicer_top.proofs.Files.{of_file_map}
@@ -70,7 +70,6 @@ module _ (file text : Bytes) (at : Asked) where
   is_true (Check (rule.Rule number l)) of reason = IsTrueOf.rule number l reason
   is_true (Check (rule.Limit name)) of reason = true_limit text at name (limit_is text at name reason) reason.raw reason.shows
   is_true (Check rule.NoMemory) of reason = absurd of
-  is_true (NotYet first) of (p, has, outside) = IsTrueOf.not_yet first has outside
   is_true (NoStart line) of reason = IsTrueOf.no_start line reason
   is_true (Graph name) of (p, built, above) = IsTrueOf.graph name built above
   is_true TooMany of reason = IsTrueOf.criteria (IsAboveLimit.criteria reason)
@@ -84,7 +83,6 @@ module _ (told : Told) (file : Bytes) (at : Asked) (f f' l l' : ℕ) where
   shown (Lex fault) of cause = cause
   shown (Parse fault) of cause = cause
   shown (Check fault) of cause = cause
-  shown (NotYet first) of cause = cause
   shown (NoStart line) of cause = cause
   shown (Graph name) of cause = cause
   shown TooMany of cause = cause
@@ -138,7 +136,6 @@ refused_or_deep file text at (Parse parse.NoMemory) below reason = inr (inl refl
 refused_or_deep file text at (Check (rule.Rule number l)) below reason = inl refl
 refused_or_deep file text at (Check (rule.Limit name)) below reason = absurd (below name (limit_is text at name reason))
 refused_or_deep file text at (Check rule.NoMemory) below reason = inr (inl refl)
-refused_or_deep file text at (NotYet first) below reason = inl refl
 refused_or_deep file text at (NoStart line) below reason = inl refl
 refused_or_deep file text at (Graph name) below (p, built, above) = absurd (below name (IsAboveLimit.graph built above))
 refused_or_deep file text at TooMany below reason = absurd (below limit.Criteria (IsAboveLimit.criteria reason))
@@ -161,9 +158,8 @@ module _ (file text : Bytes) (at : Asked) where
   nests (Lex fault) reason raw tree many = absurd (only_nesting text (read.Lex fault) reason raw tree many)
   nests (Parse fault) reason raw tree many = told_nesting fault (only_nesting text (read.Parse fault) reason raw tree many)
   nests (Check fault) reason raw tree many = absurd (only_nesting text (read.Check fault) reason raw tree many)
-  nests (NotYet first) (p, has, outside) raw tree many = absurd (tree_lacks text at limit.Nesting tt (IsAboveLimit.nesting tree many) p has)
   nests (NoStart line) (p, built, none) raw tree many = absurd (tree_lacks text at limit.Nesting tt (IsAboveLimit.nesting tree many) p built.reads)
-  nests (Graph name) (p, built, above) raw tree many = absurd (tree_lacks text at limit.Nesting tt (IsAboveLimit.nesting tree many) p built.reads)
+  nests (Graph name) (p, has, above) raw tree many = absurd (tree_lacks text at limit.Nesting tt (IsAboveLimit.nesting tree many) p has)
   nests TooMany (p, built, more) raw tree many = absurd (tree_lacks text at limit.Nesting tt (IsAboveLimit.nesting tree many) p built.reads)
   nests NoMemory reason raw tree many = inr refl
 
@@ -176,25 +172,20 @@ module _ (file text : Bytes) (at : Asked) where
   exceeds (Lex fault) reason raw name tree few above of exceeded = absurd (only_check text (read.Lex fault) reason raw (rule.Limit name) tree few above)
   exceeds (Parse fault) reason raw name tree few above of exceeded = absurd (only_check text (read.Parse fault) reason raw (rule.Limit name) tree few above)
   exceeds (Check fault) reason raw name tree few above of exceeded = told_limit name fault (above_is text raw name tree above fault reason)
-  exceeds (NotYet first) (p, has, outside) raw name tree few above of exceeded = absurd (tree_lacks text at name of exceeded p has)
   exceeds (NoStart line) (p, built, none) raw name tree few above of exceeded = absurd (tree_lacks text at name of exceeded p built.reads)
-  exceeds (Graph other) (p, built, many) raw name tree few above of exceeded = absurd (tree_lacks text at name of exceeded p built.reads)
+  exceeds (Graph other) (p, has, many) raw name tree few above of exceeded = absurd (tree_lacks text at name of exceeded p has)
   exceeds TooMany (p, built, more) raw name tree few above of exceeded = absurd (tree_lacks text at name of exceeded p built.reads)
   exceeds NoMemory reason raw name tree few above of exceeded = inr refl
 
-  -- more than 64 lines of a text with a program of which nothing is outside the built forms
+  -- more than 64 lines of a text with a program and a graph within the limits
   asks_more : (refusal : Refusal) → IsReason text at refusal → AsksTooMany text at → LimitOrMemory file limit.Criteria refusal
   asks_more Unreadable reason many = absurd reason
   asks_more TooLong reason many = absurd reason
   asks_more (Lex fault) reason (p, built, more) = absurd (only_memory text (read.Lex fault) reason p built.reads)
   asks_more (Parse fault) reason (p, built, more) = absurd (only_memory text (read.Parse fault) reason p built.reads)
   asks_more (Check fault) reason (p, built, more) = absurd (only_memory text (read.Check fault) reason p built.reads)
-  asks_more (NotYet first) (q, has, outside) (p, built, more) =
-      let same : q ≡ p = one_program text q p has built.reads in
-      let none = built.built in
-      absurd cc
   asks_more (NoStart line) (q, has, lacks) (p, built, more) = let few = lacks.few in absurd (omega (arith, more, few))
-  asks_more (Graph name) (q, has, above) (p, built, more) = absurd (built.within name (subst (λ r. IsAboveGraphLimit r name) (one_program text q p has.reads built.reads) above))
+  asks_more (Graph name) (q, has, above) (p, built, more) = absurd (built.within name (subst (λ r. IsAboveGraphLimit r name) (one_program text q p has built.reads) above))
   asks_more TooMany reason many = inl (refl, refl)
   asks_more NoMemory reason many = inr refl
 
@@ -202,20 +193,16 @@ module _ (file text : Bytes) (at : Asked) where
   told_quantity p name other above also = inl (refl, ap lines.limit (one_graph_limit p other name also above))
 
   -- a graph with more than there may be
-  has_more : (refusal : Refusal) → IsReason text at refusal → (p : Program) (name : LimitName) → HasBuilt text at p → IsAboveGraphLimit p name → LimitOrMemory file name refusal
+  has_more : (refusal : Refusal) → IsReason text at refusal → (p : Program) (name : LimitName) → ReadsProgram text p → IsAboveGraphLimit p name → LimitOrMemory file name refusal
   has_more Unreadable reason p name built above = absurd reason
   has_more TooLong reason p name built above = absurd reason
-  has_more (Lex fault) reason p name built above = absurd (only_memory text (read.Lex fault) reason p built.reads)
-  has_more (Parse fault) reason p name built above = absurd (only_memory text (read.Parse fault) reason p built.reads)
-  has_more (Check fault) reason p name built above = absurd (only_memory text (read.Check fault) reason p built.reads)
-  has_more (NotYet first) (q, has, outside) p name built above =
-      let same : q ≡ p = one_program text q p has built.reads in
-      let none = built.built in
-      absurd cc
-  has_more (NoStart line) (q, has, lacks) p name built above = absurd (has.within name (subst (λ r. IsAboveGraphLimit r name) (one_program text p q built.reads has.reads) above))
+  has_more (Lex fault) reason p name built above = absurd (only_memory text (read.Lex fault) reason p built)
+  has_more (Parse fault) reason p name built above = absurd (only_memory text (read.Parse fault) reason p built)
+  has_more (Check fault) reason p name built above = absurd (only_memory text (read.Check fault) reason p built)
+  has_more (NoStart line) (q, has, lacks) p name built above = absurd (has.within name (subst (λ r. IsAboveGraphLimit r name) (one_program text p q built has.reads) above))
   has_more (Graph other) (q, has, also) p name built above =
-      told_quantity p name other above (subst (λ r. IsAboveGraphLimit r other) (one_program text q p has.reads built.reads) also)
-  has_more TooMany (q, has, more) p name built above = absurd (has.within name (subst (λ r. IsAboveGraphLimit r name) (one_program text p q built.reads has.reads) above))
+      told_quantity p name other above (subst (λ r. IsAboveGraphLimit r other) (one_program text q p has built) also)
+  has_more TooMany (q, has, more) p name built above = absurd (has.within name (subst (λ r. IsAboveGraphLimit r name) (one_program text p q built has.reads) above))
   has_more NoMemory reason p name built above = inr refl
 
   limit_or_memory : (refusal : Refusal) (name : LimitName) → IsAboveLimit text at name → IsReason text at refusal → LimitOrMemory file name refusal

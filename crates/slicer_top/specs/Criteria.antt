@@ -6,7 +6,7 @@ use Rattle.call_words.specs.Requests.{Asked, lines_in}
 use Rattle.slice_engine.specs.declared.engine.Criterion.{Criterion}
 use Rattle.slicer_top.specs.Slices.{AreTextsFor, IsFirstWithout, StartOn, line_at}
 use Rattle.slicer_top.specs.declared.refusal.Refusal.{Refusal}
-use Rattle.slicer_top.specs.declared.refusal.Refusal.TheVariants.{Unreadable, TooLong, Lex, Parse, Check, NotYet, NoStart, Graph, TooMany, NoMemory}
+use Rattle.slicer_top.specs.declared.refusal.Refusal.TheVariants.{Unreadable, TooLong, Lex, Parse, Check, NoStart, Graph, TooMany, NoMemory}
 
 -- these are the criteria of the lines, in their order, on each of which a statement starts; they are at most 64
 pub record AreCriteria (p : Program) (lines : List ℕ) (found : List Criterion) : Type 0 where
@@ -35,5 +35,4 @@ IsCriteriaFault p lines TooLong = ⊥
 IsCriteriaFault p lines (Lex fault) = ⊥
 IsCriteriaFault p lines (Parse fault) = ⊥
 IsCriteriaFault p lines (Check fault) = ⊥
-IsCriteriaFault p lines (NotYet first) = ⊥
 IsCriteriaFault p lines (Graph name) = ⊥

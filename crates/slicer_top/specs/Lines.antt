@@ -49,10 +49,6 @@ syntax at = numbered at (codes "syntax")
 abbrev pub rule : ℕ → ℕ → Bytes
 rule at number = numbered at (codes "rule " ++ decimal number)
 
--- something stands there that isn't built
-abbrev pub not_yet : ℕ → Bytes
-not_yet at = numbered at (codes "not yet")
-
 -- no statement starts on the line
 abbrev pub no_start : ℕ → Bytes
 no_start line = numbered line (codes "no statement starts here")
@@ -86,7 +82,6 @@ pub data IsToldBy (file : Bytes) (lines : List ℕ) : Status → Bytes → Type 
   of_token : (at : ℕ) (token : Bytes) → IsToldBy file lines Refused (left_out at token)
   of_tokens : (at : ℕ) → IsToldBy file lines Refused (syntax at)
   of_rule : (at number : ℕ) → IsToldBy file lines Refused (rule at number)
-  of_form : (at : ℕ) → IsToldBy file lines Refused (not_yet at)
   of_line : (at : ℕ) → Contains lines at → IsToldBy file lines Refused (no_start at)
   of_limit : (name : LimitName) → IsToldBy file lines Limit (limit name)
   of_out : IsToldBy file lines WriteFault cannot_write

@@ -31,7 +31,7 @@ pub record Outcome (words : List Bytes) (shelf : ShelfSeen) (out err : SinkSeen)
   pub longer : answer ≡ status.TooLong → IsSome shelf.contents → HoldsMoreThan shelf.contents (file_of words) 1048576
   pub longer_file : IsInGrammar words → HoldsMoreThan shelf.contents (file_of words) 1048576
       → IsOrYieldsToFault err.faults err.faults' shelf.faults shelf.faults' answer status.TooLong
-  -- the text: Refused comes exactly where it isn't accepted, something of it isn't built for what is asked or no statement starts on one of the lines, but for deep texts, and what is told is true of it
+  -- the text: Refused comes exactly where it isn't accepted or no statement starts on one of the lines, but for deep texts, and what is told is true of it
   pub refused : answer ≡ status.Refused → OfFile shelf.contents (file_of words) (λ text. TellsTruth status.Refused text (asked_of words) err.written err.written')
   pub no_slice : (text : Bytes) → NamesText words shelf.contents text → IsBelowLimits text (asked_of words) → StartsNone text (asked_of words)
       → IsOrYieldsToFault err.faults err.faults' shelf.faults shelf.faults' answer status.Refused

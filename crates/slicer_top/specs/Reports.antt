@@ -1,5 +1,5 @@
 -- Why a file gives nothing of what is asked, and how that is told.
-use Rattle.std.specs.Prelude.{◌≡◌, ◌⊎◌, ℕ, ◌≤◌, List, Contains, length, Option, Some, IsSome}
+use Rattle.std.specs.Prelude.{◌≡◌, ◌⊎◌, ℕ, ◌≤◌, List, Contains, length, Option, IsSome}
 use Rattle.edge_io.specs.Contents.{Told, Lacks, HoldsMoreThan}
 use Rattle.edge_io.specs.Count.{Rose}
 use Rattle.edge_io.specs.Written.{Gains}
@@ -16,12 +16,12 @@ use Rattle.c_reader.specs.Reading.{ReadsProgram}
 use Rattle.c_reader.specs.Refusals.{IsLexFault, HasParseFault, HasRuleFault}
 use Rattle.call_words.specs.Requests.{Asked}
 use Rattle.slicer_top.specs.declared.refusal.Refusal.{Refusal}
-use Rattle.slicer_top.specs.declared.refusal.Refusal.TheVariants.{Unreadable, TooLong, Lex, Parse, Check, NotYet, NoStart, Graph, TooMany, NoMemory}
+use Rattle.slicer_top.specs.declared.refusal.Refusal.TheVariants.{Unreadable, TooLong, Lex, Parse, Check, NoStart, Graph, TooMany, NoMemory}
 use Rattle.slicer_top.specs.declared.status.Status.{Status}
 use Rattle.slicer_top.specs.declared.status.Status.TheVariants as status
 use Rattle.slicer_top.specs.Files.{OfFile}
 use Rattle.slice_engine.specs.GraphLimits.{IsAboveGraphLimit}
-use Rattle.slicer_top.specs.Slices.{HasBuilt, LacksStart, AsksTooMany, not_built}
+use Rattle.slicer_top.specs.Slices.{LacksStart, AsksTooMany}
 use Rattle.slicer_top.specs.Lines as line
 
 -- the text shows the refusal, where this is asked of it
@@ -31,9 +31,8 @@ IsReason text asked TooLong = ⊥
 IsReason text asked (Lex fault) = IsLexFault text fault
 IsReason text asked (Parse fault) = HasParseFault text fault
 IsReason text asked (Check fault) = HasRuleFault text fault
-IsReason text asked (NotYet first) = (p : Program) × ReadsProgram text p × (not_built asked p ≡ Some first)
 IsReason text asked (NoStart line) = LacksStart text asked line
-IsReason text asked (Graph name) = (p : Program) × HasBuilt text asked p × IsAboveGraphLimit p name
+IsReason text asked (Graph name) = (p : Program) × ReadsProgram text p × IsAboveGraphLimit p name
 IsReason text asked TooMany = AsksTooMany text asked
 IsReason text asked NoMemory = Unit {0}
 
@@ -49,7 +48,6 @@ module _ (told : Told) (file : Bytes) (asked : Asked) (faults faults' long_files
   IsCause (Lex fault) = IsShown told file asked (Lex fault)
   IsCause (Parse fault) = IsShown told file asked (Parse fault)
   IsCause (Check fault) = IsShown told file asked (Check fault)
-  IsCause (NotYet first) = IsShown told file asked (NotYet first)
   IsCause (NoStart line) = IsShown told file asked (NoStart line)
   IsCause (Graph name) = IsShown told file asked (Graph name)
   IsCause TooMany = IsShown told file asked TooMany
@@ -63,7 +61,6 @@ IsAmong lines TooLong = Unit {0}
 IsAmong lines (Lex fault) = Unit {0}
 IsAmong lines (Parse fault) = Unit {0}
 IsAmong lines (Check fault) = Unit {0}
-IsAmong lines (NotYet first) = Unit {0}
 IsAmong lines (Graph name) = Unit {0}
 IsAmong lines TooMany = Unit {0}
 IsAmong lines NoMemory = Unit {0}
@@ -92,7 +89,6 @@ status_of TooLong = status.TooLong
 status_of (Lex fault) = lex_status fault
 status_of (Parse fault) = parse_status fault
 status_of (Check fault) = rule_status fault
-status_of (NotYet first) = status.Refused
 status_of (NoStart line) = status.Refused
 status_of (Graph name) = status.Limit
 status_of TooMany = status.Limit
@@ -122,7 +118,6 @@ words_of file TooLong = line.too_long file
 words_of file (Lex fault) = lex_line fault
 words_of file (Parse fault) = parse_line fault
 words_of file (Check fault) = rule_line fault
-words_of file (NotYet first) = line.not_yet first
 words_of file (NoStart at) = line.no_start at
 words_of file (Graph name) = line.limit name
 words_of file TooMany = line.limit limit.Criteria

@@ -1,10 +1,9 @@
 -- What a text and what is asked of it have to do with each other, and with the texts that are written for it.
-use Rattle.std.specs.Prelude.{◌≡◌, ℕ, ◌<◌, ◌≤◌, List, [], ◌∷◌, ◌++◌, length, take, Option, None, slice_index_or}
+use Rattle.std.specs.Prelude.{◌≡◌, ℕ, ◌<◌, ◌≤◌, List, [], ◌∷◌, ◌++◌, length, take, Option, slice_index_or}
 use Rattle.edge_io.specs.Written.{Gains}
 use Rattle.c_tree.specs.declared.limits.LimitName.{LimitName}
 use Rattle.c_tree.specs.declared.program.Program.{Program}
 use Rattle.c_language.specs.Words.{Bytes}
-use Rattle.built_forms.specs.BuiltForms.{not_yet}
 use Rattle.c_reader.specs.Reading.{ReadsProgram}
 use Rattle.call_words.specs.Requests.{Asked, lines_in}
 use Rattle.slice_engine.specs.GraphLimits.{IsAboveGraphLimit}
@@ -13,22 +12,9 @@ use Rattle.slicer_top.specs.Graphs.{IsGraphText, IsMembersText}
 
 -- ---- the program of a text
 
--- the line of what stands first outside the forms for which this is built: slices are made of programs over
--- integers so far, graphs of all
-abbrev pub not_built : Asked → Program → Option ℕ
-not_built (Asked.slice file lines workers) p = not_yet p
-not_built (Asked.graph file workers) p = None
-not_built (Asked.members file line workers) p = None
-
--- the text is accepted and within the limits, and this is its program, of which nothing is outside the forms for which this is built
-pub record HasBuilt (text : Bytes) (asked : Asked) (p : Program) : Type 0 where
+-- the text is accepted and within the limits, this is its program, and its graph is within the limits
+pub record HasGraph (text : Bytes) (p : Program) : Type 0 where
   pub reads : ReadsProgram text p
-  pub built : not_built asked p ≡ None
-
--- and its graph is within the limits
-pub record HasGraph (text : Bytes) (asked : Asked) (p : Program) : Type 0 where
-  pub reads : ReadsProgram text p
-  pub built : not_built asked p ≡ None
   pub within : (name : LimitName) → IsAboveGraphLimit p name → ⊥
 
 -- ---- the lines that are asked for
@@ -51,26 +37,26 @@ pub record IsFirstWithout (p : Program) (lines : List ℕ) (line : ℕ) : Type 0
 
 -- the text has a program with a graph within the limits, and so it is of a line
 abbrev pub LacksStart : Bytes → Asked → ℕ → Type 0
-LacksStart text asked line = (p : Program) × HasGraph text asked p × IsFirstWithout p (lines_in asked) line
+LacksStart text asked line = (p : Program) × HasGraph text p × IsFirstWithout p (lines_in asked) line
 
 -- the text has such a program, and more than 64 lines were asked for
 abbrev pub AsksTooMany : Bytes → Asked → Type 0
-AsksTooMany text asked = (p : Program) × HasGraph text asked p × (64 < length (lines_in asked))
+AsksTooMany text asked = (p : Program) × HasGraph text p × (64 < length (lines_in asked))
 
 -- the text has such a program, and on each of the lines, which are at most 64, starts a statement of it
 pub record StartsSome (text : Bytes) (asked : Asked) : Type 0 where
   pub program : Program
-  pub built : HasGraph text asked program
+  pub built : HasGraph text program
   pub few : length (lines_in asked) ≤ 64
   pub starts : StartOn program (lines_in asked)
 
 -- the text has no such program, or on one of the lines starts no statement of it
 abbrev pub StartsNone : Bytes → Asked → Type 0
-StartsNone text asked = (p : Program) → HasGraph text asked p → StartOn p (lines_in asked) → ⊥
+StartsNone text asked = (p : Program) → HasGraph text p → StartOn p (lines_in asked) → ⊥
 
 -- ---- slices
 
--- what is written is the slice of a program at a line, on which a statement starts; it is a text again and gives the same values
+-- what is written is the slice of a program at a line, on which a statement starts; it is a text again and, of a program without pointers, arrays and structs, gives the same values
 pub record IsSliceAt (p : Program) (line : ℕ) (written : Bytes) : Type 0 where
   pub starts : HasStart p line
   pub slice : IsSlice p line written
@@ -111,7 +97,7 @@ AreTextsFor p (Asked.members file line workers) texts = IsOneText (IsMembersText
 -- the texts are what is asked of the text's program; the lines are at most 64, and on each of them starts a statement
 pub record AreWritten (text : Bytes) (asked : Asked) (texts : List Bytes) : Type 0 where
   pub program : Program
-  pub built : HasGraph text asked program
+  pub built : HasGraph text program
   pub few : length (lines_in asked) ≤ 64
   pub starts : StartOn program (lines_in asked)
   pub are : AreTextsFor program asked texts

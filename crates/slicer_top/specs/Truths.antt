@@ -1,5 +1,5 @@
 -- What the lines of a refusal and of a limit say of the text.
-use Rattle.std.specs.Prelude.{◌≡◌, ℕ, Option, Some}
+use Rattle.std.specs.Prelude.{ℕ, Option}
 use Rattle.edge_io.specs.Written.{Gains}
 use Rattle.c_tree.specs.declared.limits.LimitName.{LimitName}
 use Rattle.c_tree.specs.declared.limits.LimitName.TheVariants as limit
@@ -14,7 +14,7 @@ use Rattle.call_words.specs.Requests.{Asked}
 use Rattle.slice_engine.specs.GraphLimits.{IsAboveGraphLimit}
 use Rattle.slicer_top.specs.Limits.{CanBeDeep, IsAboveLimit}
 use Rattle.slicer_top.specs.Lines as line
-use Rattle.slicer_top.specs.Slices.{HasBuilt, LacksStart, not_built}
+use Rattle.slicer_top.specs.Slices.{LacksStart}
 use Rattle.slicer_top.specs.declared.status.Status.{Status}
 use Rattle.slicer_top.specs.declared.status.Status.TheVariants.{Refused, Limit}
 
@@ -31,8 +31,6 @@ pub data IsTrueOf (text : Bytes) (asked : Asked) : Status → Bytes → Type 0 w
   syntax : (at : ℕ) → HasParseFault text (parse.Syntax at) → IsTrueOf text asked Refused (line.syntax at)
   -- that rule is broken at that line, by the first phrase that breaks any, or main is missing where no phrase does
   rule : (number at : ℕ) → HasRuleFault text (fault.Rule number at) → IsTrueOf text asked Refused (line.rule at number)
-  -- what stands first outside the forms for which this is built stands at that line, or has none in the tree, and what stands for it does
-  not_yet : (at : ℕ) {p : Program} → ReadsProgram text p → not_built asked p ≡ Some at → IsTrueOf text asked Refused (line.not_yet at)
   -- this is the first of the lines on which no statement starts
   no_start : (at : ℕ) → LacksStart text asked at → IsTrueOf text asked Refused (line.no_start at)
   -- the text can be deep
@@ -40,7 +38,7 @@ pub data IsTrueOf (text : Bytes) (asked : Asked) : Status → Bytes → Type 0 w
   -- the quantity is above its number
   length : IsAboveLimit text asked limit.ArrayLength → IsTrueOf text asked Limit (line.limit limit.ArrayLength)
   cells : IsAboveLimit text asked limit.ObjectCells → IsTrueOf text asked Limit (line.limit limit.ObjectCells)
-  graph : {p : Program} (name : LimitName) → HasBuilt text asked p → IsAboveGraphLimit p name → IsTrueOf text asked Limit (line.limit name)
+  graph : {p : Program} (name : LimitName) → ReadsProgram text p → IsAboveGraphLimit p name → IsTrueOf text asked Limit (line.limit name)
   criteria : IsAboveLimit text asked limit.Criteria → IsTrueOf text asked Limit (line.limit limit.Criteria)
 
 -- err has gained a line of the status that is true of the text

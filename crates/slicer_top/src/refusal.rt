@@ -20,8 +20,6 @@ pub(crate) enum Refusal {
     Parse(ParseFault),
     /// Its tree breaks a rule, or an array or an object is too large.
     Check(RuleFault),
-    /// What stands first outside the forms for which this is built stands at this line.
-    NotYet(u32),
     /// This quantity of the program's graph is above its number.
     Graph(LimitName),
     /// More lines are asked for than 64.

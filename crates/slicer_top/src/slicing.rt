@@ -1,6 +1,5 @@
 //! From what a request asks of a file to the texts that are written for it.
-ghost use Rattle.std.specs.Prelude.{◌≡◌, ◌∷◌, ◌≤◌, [], IfOk, IfErr, MatchResult, None, length};
-ghost use Rattle.built_forms.specs.BuiltForms as forms;
+ghost use Rattle.std.specs.Prelude.{◌≡◌, ◌∷◌, ◌≤◌, [], IfOk, IfErr, MatchResult, length};
 ghost use Rattle.call_words.specs.Requests.{asked_by, file_in, lines_in};
 ghost use Rattle.edge_io.specs.Contents.{Lacks};
 ghost use Rattle.edge_io.specs.Count.{one_more};
@@ -8,15 +7,14 @@ ghost use Rattle.slice_engine.specs.Slice.{HasStart};
 ghost use Rattle.slicer_top.specs.Criteria.{AreCriteria, AreMade, IsCriteriaFault, StartAt};
 ghost use Rattle.slicer_top.specs.Files.{OfFile};
 ghost use Rattle.slicer_top.specs.Graphs.{IsGraphText, IsMembersText};
-ghost use Rattle.slicer_top.specs.Slices.{AreSlices, AreWritten, HasBuilt, IsOneText, not_built};
+ghost use Rattle.slicer_top.specs.Slices.{AreSlices, AreWritten, IsOneText};
 ghost use Rattle.slicer_top.specs.Reports.{IsReason, IsAmong, IsCause};
 
 use crate::refusal::Refusal;
-use c_tree::Program;
 use call_words::Request;
 use edge_io::{Shelf, Text};
 use slice_batch::slices;
-use slice_engine::{Criterion, Engine, not_yet, read_program};
+use slice_engine::{Criterion, Engine, read_program};
 use std::alloc::{AllocError, Global};
 
 // The most bytes that a file may have.
@@ -52,39 +50,14 @@ fn texts_of(alloc: Global, text: &[u8], request: &Request) -> Result<Vec<Text>, 
     ensures ok { IfOk result (λ texts. AreWritten text.now (asked_by request.now) texts.items) }
     ensures err { IfErr result (IsReason text.now (asked_by request.now)) }
 {
-    let program = built(alloc, text, request)?;
+    let program = read_program(alloc, text)?;
     let engine = Engine::new(alloc, program)?;
     let texts = made(alloc, &engine, request)?;
     Ok(texts)
 }
 
-// The program of a text of which nothing is outside the forms for which the request is built.
-fn built(alloc: Global, text: &[u8], request: &Request) -> Result<Program, Refusal>
-    requires { length text.now ≤ 1048576 }
-    ensures ok { IfOk result (HasBuilt text.now (asked_by request.now)) }
-    ensures err { IfErr result (IsReason text.now (asked_by request.now)) }
-{
-    let program = read_program(alloc, text)?;
-    match outside(request, &program) {
-        Some(line) => Err(Refusal::NotYet(line)),
-        None => Ok(program),
-    }
-}
-
-// The line of what stands first outside the forms for which the request is built.
-fn outside(request: &Request, program: &Program) -> Option<u32>
-    ensures { result ≡ not_built (asked_by request.now) program.now }
-{
-    match request {
-        Request::Slice { .. } => not_yet(program),
-        Request::Graph { .. } => None,
-        Request::Members { .. } => None,
-    }
-}
-
 // The texts that are to be written for a request, or the first of its lines on which no statement starts.
 fn made(alloc: Global, engine: &Engine, request: &Request) -> Result<Vec<Text>, Refusal>
-    requires { not_built (asked_by request.now) engine.now ≡ None }
     ensures { MatchResult result (λ texts. AreMade engine.now (asked_by request.now) texts.items)
         (IsCriteriaFault engine.now (lines_in (asked_by request.now))) }
 {
@@ -99,7 +72,6 @@ fn made(alloc: Global, engine: &Engine, request: &Request) -> Result<Vec<Text>, 
 
 // The texts of the slices at these lines, at most 64, or the first line on which no statement starts.
 fn slices_at(alloc: Global, engine: &Engine, lines: &[u64]) -> Result<Vec<Text>, Refusal>
-    requires { forms.not_yet engine.now ≡ None }
     ensures { MatchResult result (λ texts. StartAt engine.now lines.now × AreSlices engine.now lines.now texts.items)
         (IsCriteriaFault engine.now lines.now) }
 {

@@ -11,7 +11,7 @@ use std::process::ExitCode;
 pub enum Status {
     /// What was asked for is written. Code 0.
     Done,
-    /// The text isn't accepted, something of it isn't built for what is asked, or no statement starts on one of the lines. Code 1.
+    /// The text isn't accepted, or no statement starts on one of the lines. Code 1.
     Refused,
     /// The words are outside the grammar. Code 2.
     Usage,
@@ -21,7 +21,8 @@ pub enum Status {
     WriteFault,
     /// There was no memory for the work. Code 5.
     NoMemory,
-    /// The program nests too deep, an array or an object of it is too large, or more than 64 lines are asked for. Code 8.
+    /// The program nests too deep, an array, an object or the graph of it is too large, or more than 64 lines are asked
+    /// for. Code 8.
     Limit,
     /// The file is longer than 1,048,576 bytes. Code 9.
     TooLong,

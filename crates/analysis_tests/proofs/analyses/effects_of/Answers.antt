@@ -16,7 +16,7 @@ pub find-requires-clause-once : goal.find-requires-clause-once
 find-requires-clause-once c = well_listed c.args.p.now c.requires.well_formed
 
 pub find-requires-clause-points_are : goal.find-requires-clause-points_are
-find-requires-clause-points_are c = (c.in_ok-points.ensures c.args.p.now c.in_ok-list.ensures.list c.requires.nowhere).sized
+find-requires-clause-points_are c = c.in_ok-points.ensures.exact.sized
 
 pub returns : goal.returns
 returns c = c.in_ok-effects.ensures.exact.sized

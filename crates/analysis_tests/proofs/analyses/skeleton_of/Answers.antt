@@ -19,7 +19,7 @@ pub find-requires-clause-once : goal.find-requires-clause-once
 find-requires-clause-once c = well_listed c.args.p.now c.requires.well_formed
 
 pub find-requires-clause-points_are : goal.find-requires-clause-points_are
-find-requires-clause-points_are c = (c.in_ok-points.ensures c.args.p.now c.in_ok-list.ensures.list c.requires.nowhere).sized
+find-requires-clause-points_are c = c.in_ok-points.ensures.exact.sized
 
 pub lay_out-requires-clause-once : goal.lay_out-requires-clause-once
 lay_out-requires-clause-once c = well_listed c.args.p.now c.requires.well_formed
@@ -31,12 +31,12 @@ pub lay_out-requires-clause-few_functions : goal.lay_out-requires-clause-few_fun
 lay_out-requires-clause-few_functions c = c.requires.few_functions
 
 pub lay_out-requires-clause-points_are : goal.lay_out-requires-clause-points_are
-lay_out-requires-clause-points_are c = (c.in_ok-points.ensures c.args.p.now c.in_ok-list.ensures.list c.requires.nowhere).sized
+lay_out-requires-clause-points_are c = c.in_ok-points.ensures.exact.sized
 
 pub lay_out-requires-clause-effects_are : goal.lay_out-requires-clause-effects_are
 lay_out-requires-clause-effects_are c = c.in_ok-effects.ensures.exact.sized
 
 pub returns : goal.returns
 returns c =
-    let rows : ArePointsRows c.args.p.now c.in_ok-points.points = c.in_ok-points.ensures c.args.p.now c.in_ok-list.ensures.list c.requires.nowhere in
+    let rows : ArePointsRows c.args.p.now c.in_ok-points.points = c.in_ok-points.ensures.exact in
     has_skeleton c.args.p.now c.in_ok-points.points c.in_ok-effects.effects c.requires.well_formed rows c.in_ok-effects.ensures.exact c.in_ok-skeleton.skeleton c.in_ok-list.ensures.within c.in_ok-skeleton.ensures.skeleton c.in_ok-skeleton.ensures.within

@@ -1,3 +1,0 @@
-pub mod IntegerForms
-pub mod NamesBelow
-pub mod BuiltForms

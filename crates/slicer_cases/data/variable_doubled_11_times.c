@@ -1,0 +1,51 @@
+struct s0 {
+    int *p;
+};
+struct s1 {
+    struct s0 a;
+    struct s0 b;
+};
+struct s2 {
+    struct s1 a;
+    struct s1 b;
+};
+struct s3 {
+    struct s2 a;
+    struct s2 b;
+};
+struct s4 {
+    struct s3 a;
+    struct s3 b;
+};
+struct s5 {
+    struct s4 a;
+    struct s4 b;
+};
+struct s6 {
+    struct s5 a;
+    struct s5 b;
+};
+struct s7 {
+    struct s6 a;
+    struct s6 b;
+};
+struct s8 {
+    struct s7 a;
+    struct s7 b;
+};
+struct s9 {
+    struct s8 a;
+    struct s8 b;
+};
+struct s10 {
+    struct s9 a;
+    struct s9 b;
+};
+struct s11 {
+    struct s10 a;
+    struct s10 b;
+};
+struct s11 v;
+int main(void) {
+    v.a.a.a.a.a.a.a.a.a.a.a.p = 0;
+}
