@@ -1,4 +1,4 @@
-"""A trial slicer, made of the engine's parts, for programs over integers that the slicer doesn't take yet.
+"""A trial slicer, made of the engine's parts.
 
 It is compiled and not proved, by the compiler's trial command. Its words are a file, then graph, or members and a line of the file, or
 slice and lines.
@@ -10,9 +10,9 @@ sys.path.insert(0, os.path.join(os.path.dirname(os.path.realpath(__file__)), "..
 
 from tried import build
 
-OVER = ["c_reader", "c_tree", "built_forms", "dep_model", "slice_engine", "graph_text"]
+OVER = ["c_reader", "c_tree", "dep_model", "slice_engine", "graph_text"]
 
-PROGRAM = r"""//! Slices of a program over integers, what reaches a line, and its graph: the pipe or file, what is asked for, and lines.
+PROGRAM = r"""//! Slices of a program, what reaches a line, and its graph: the pipe or file, what is asked for, and lines.
 #![tactic(auto)]
 
 use anyhow::Context;
@@ -30,9 +30,6 @@ fn program_of(alloc: Global, bytes: &[u8]) -> anyhow::Result<Program> {
 
 fn engine_of(alloc: Global, bytes: &[u8]) -> anyhow::Result<Engine> {
     let p = program_of(alloc, bytes)?;
-    if built_forms::not_yet(&p).is_some() {
-        return Err(anyhow::Error::msg("not yet"));
-    }
     Engine::new(alloc, p).map_err(|_| anyhow::Error::msg("a limit"))
 }
 
