@@ -1,6 +1,5 @@
 -- What the graph of a program is made from, where rows say the program's analysis.
-use Rattle.std.proofs.Common.{◌≡◌, ◌≤◌, length, sym, ap, ◌∙◌, subst, arith}
-use Rattle.std.proofs.lemmas.List.{length-map}
+use Rattle.std.proofs.Common.{◌≡◌, ◌≤◌, length, sym, ap, ◌∙◌, subst}
 use Rattle.c_tree.specs.declared.program.Program.{Program}
 use Rattle.c_language.specs.Programs.{IsWellFormed}
 use Rattle.dep_model.specs.declared.graph.Graph.{Graph}
@@ -10,22 +9,17 @@ use Rattle.dep_model.specs.declared.skeleton.Skeleton.{Skeleton}
 use Rattle.dep_model.specs.Graphs.{fact_words, IsGraphOf}
 use Rattle.dep_model.specs.LocationLists.{location_list}
 use Rattle.dep_model.specs.LocationRows.{analysis_of, points_of, ArePointsRows}
-use Rattle.dep_model.specs.Locations.{TypedLocation, locations}
 use Rattle.dep_model.specs.Skeletons.{IsSkeleton}
 use Rattle.dep_model.specs.SystemGraph.{IsAnalysis, vertices_of}
-use Rattle.dep_model.proofs.FunctionOrder.{are_by_function}
 use Rattle.dep_model.proofs.OneAnalysis.{one_analysis}
-use Rattle.dep_model.specs.Stretches.{AreByFunction}
 use Rattle.mod_ref.specs.Effects.{AreEffectsByPlace}
 use Rattle.mod_ref.proofs.PlacedEffects.{are_rows}
 use Rattle.numbered_texts.proofs.ListedEffects.{effects_listed}
 use Rattle.numbered_texts.proofs.NumbersButLines.{named_exist}
 use Rattle.program_graph.specs.Given.{HasSkeleton}
-use Rattle.program_graph.proofs.Parts.{even_rows}
-use Rattle.reaching_defs.specs.RowFlow.{AreEvenRows}
 use Rattle.shaped_graphs.proofs.ShapedGraphs.{graphs_are_shaped}
 use Rattle.vertex_layout.specs.Limits.{IsWithin}
-use Rattle.analysis_tests.specs.Ready.{IsGraphReady, IsLaidOut}
+use Rattle.analysis_tests.specs.Ready.{IsGraphReady}
 
 module _ (p : Program) (t : PointsTo) (e : Effects) (well : IsWellFormed p) (points : ArePointsRows p t) (effects : AreEffectsByPlace p (points_of p t) e) where
   analysed : IsAnalysis p (analysis_of p t e)
@@ -61,18 +55,3 @@ graph_ready p s g h of_program =
 -- the tables of a skeleton have a row for each vertex
 pub defined_long : (p : Program) (s : Skeleton) → HasSkeleton p s → length s.defined.sets ≡ length s.vertices
 defined_long p s h = h.is_skeleton.defined_are.sized.rows_are ∙ ap length (sym h.is_skeleton.vertices_are)
-
--- ---- what a skeleton gives, whatever its analysis says of pointers
-
-pub by_function : (p : Program) (s : Skeleton) → IsLaidOut p s → AreByFunction s.vertices
-by_function p s h = subst AreByFunction (sym h.is_skeleton.vertices_are) (are_by_function p h.analysis)
-
-pub even_tables : (p : Program) (s : Skeleton) → IsLaidOut p s → AreEvenRows s
-even_tables p s h = even_rows p h.analysis s h.is_skeleton
-
-pub few_bits : (p : Program) (s : Skeleton) → IsLaidOut p s → s.defined.bits ≤ 4096
-few_bits p s h =
-    let bits = h.is_skeleton.defined_are.sized.bits_are in
-    let long : length (location_list p) ≡ length (locations p) = length-map (locations p) (λ (o : TypedLocation). o.location) in
-    let limit = h.few_locations in
-    omega (arith, bits, long, limit)
