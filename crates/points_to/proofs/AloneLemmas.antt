@@ -1,5 +1,5 @@
 -- The pointings of one statement, by what it defines and what it stores there.
-use Rattle.std.proofs.Common.{◌≡◌, ◌||◌, ℕ, List, [], ◌∷◌, ◌++◌, Bool, false, Option, Some, None, refl, sym, ap, ◌∙◌, subst}
+use Rattle.std.proofs.Common.{◌≡◌, ◌||◌, ℕ, List, [], ◌∷◌, Bool, false, Option, Some, None, refl, sym, ap, ◌∙◌}
 use Rattle.c_tree.specs.declared.expr.Expr.{Expr}
 use Rattle.c_tree.specs.declared.program.Init.{Init}
 use Rattle.c_tree.specs.declared.program.Init.TheVariants as init
@@ -13,7 +13,7 @@ use Rattle.dep_model.specs.Denoted.{Places, TargetsOf, whole, part_of, expr_poin
 use Rattle.dep_model.specs.Doings.{Doing, Does, Calls}
 use Rattle.dep_model.specs.DoingEffects.{result_of, target_places, init_places, returned_places, doing_defines}
 use Rattle.dep_model.specs.LocationRows.{points_of}
-use Rattle.dep_model.specs.MayPoint.{Pointing, pointing, parameters, listed, init_pointings, returned, passed, doing_pointings}
+use Rattle.dep_model.specs.MayPoint.{pointing, parameters, listed, init_pointings, returned, passed, doing_pointings}
 use Rattle.effect_rows.specs.Own.{own_doing, own_defines, defines_of}
 use Rattle.mod_ref.specs.Own.{one_of, own_doings}
 use Rattle.points_to.specs.declared.solver.Solver.{Solver}

@@ -1,5 +1,5 @@
 -- What stands in a statement that has one list of statements in it, or arms, as equations.
-use Rattle.std.proofs.Common.{◌≡◌, ◌||◌, ℕ, List, Bool, Option, Some, sym, ap, ◌∙◌}
+use Rattle.std.proofs.Common.{◌≡◌, ℕ, List, Bool, sym, ap, ◌∙◌}
 use Rattle.c_tree.specs.declared.expr.Expr.{Expr}
 use Rattle.c_tree.specs.declared.program.Program.{Program}
 use Rattle.c_tree.specs.declared.statement.Arm.{Arm}

@@ -1,5 +1,5 @@
 -- Where locations may point, by the places of both in the list.
-use Rattle.std.proofs.Common.{◌≡◌, ℕ, zero, suc, List, [], ◌∷◌, map, Bool, true, false, inl, inr, Option, Some, None, refl, sym, ap, ◌∙◌, subst}
+use Rattle.std.proofs.Common.{◌≡◌, ℕ, suc, List, [], ◌∷◌, true, false, inl, inr, Option, Some, refl, ap, ◌∙◌, subst}
 use Rattle.std.specs.Prelude.{slice_get}
 use Rattle.std.specs.List.{list_any}
 use Rattle.std.specs.Option.{option_map_or}
@@ -9,7 +9,7 @@ use Rattle.bit_rows.specs.Tables.{Table, the_set, Holds}
 use Rattle.c_tree.specs.declared.program.Program.{Program}
 use Rattle.dep_model.specs.declared.location.Location.{Location}
 use Rattle.dep_model.specs.declared.points_to.PointsTo.{PointsTo}
-use Rattle.dep_model.specs.Denoted.{TargetsOf, no_places, is_location}
+use Rattle.dep_model.specs.Denoted.{no_places, is_location}
 use Rattle.dep_model.specs.LocationLists.{AreListedOnce}
 use Rattle.dep_model.specs.LocationRows.{place_of, row_places, points_of}
 use Rattle.dep_model.specs.Locations.{TypedLocation, locations, same_location}

@@ -1,10 +1,10 @@
 -- Rounds over a program: each gives derived pairs, and one that changes nothing has found all of them.
-use Rattle.std.proofs.Common.{◌≡◌, ◌||◌, ℕ, zero, suc, ◌+◌, ◌*◌, ◌<◌, ◌≤◌, List, [], ◌∷◌, ◌++◌, length, map, get_or, replicate, sum_by, count_by, Bool, true, false, inl, inr, Option, Some, None, refl, sym, ap, ◌∙◌, subst, arith}
+use Rattle.std.proofs.Common.{◌≡◌, ◌||◌, ℕ, zero, suc, ◌+◌, ◌*◌, ◌<◌, ◌≤◌, List, [], ◌∷◌, ◌++◌, length, map, get_or, replicate, Bool, true, false, inl, inr, Some, refl, sym, ap, ◌∙◌, subst, arith}
 use Rattle.std.specs.Prelude.{Contains, slice_get}
 use Rattle.std.specs.List.{list_any}
 use Rattle.std.specs.Option.{option_map_or}
 use Rattle.std.proofs.lemmas.Bool.{false≢true, cases_lt, or_left, or_right}
-use Rattle.std.proofs.lemmas.List.{get_or_default, get_or_past, get_or-replicate, length-replicate, length-map}
+use Rattle.std.proofs.lemmas.List.{get_or_default, get_or_past, get_or-replicate, length-replicate}
 use Rattle.std.proofs.lemmas.List.Sums.{sum_by-le, count_by-le-length}
 use Rattle.bit_rows.specs.Sets.{has, count_of}
 use Rattle.bit_rows.specs.Tables.{Table, the_set, empty_table, Holds, IsSized, count_all}
@@ -17,7 +17,6 @@ use Rattle.dep_model.specs.declared.points_to.PointsTo.{PointsTo}
 use Rattle.dep_model.specs.Denoted.{TargetsOf, is_location}
 use Rattle.dep_model.specs.Doings.{Doing, body_doings, doings_of}
 use Rattle.dep_model.specs.ListedLocations.{IsListed}
-use Rattle.dep_model.specs.LocationLists.{location_list}
 use Rattle.dep_model.specs.LocationRows.{points_of, HasPointsRows, ArePointsRows}
 use Rattle.dep_model.specs.Locations.{TypedLocation, locations, same_location}
 use Rattle.dep_model.specs.MayPoint.{Pointing, doing_pointings, IsPointing, of_statement, of_global, MayPoint}
@@ -27,9 +26,9 @@ use Rattle.points_laws.specs.Relations.{IsDerived, HasPairs, IsClosedOn}
 use Rattle.points_laws.specs.Known.{AreGlobalsNowhere}
 use Rattle.points_laws.proofs.Leastness.{all_derived}
 use Rattle.points_to.specs.declared.solver.Solver.{Solver}
-use Rattle.points_to.specs.Sweeps.{IsReady, IsSwept, given_by, program_gives}
+use Rattle.points_to.specs.Sweeps.{IsReady, IsSwept, given_by, program_gives, gives_from}
 use Rattle.points_to.proofs.PointPlaces.{are_held}
-use Rattle.points_to.proofs.SweepLemmas.{contains_first, contains_second, contains_either, swept_none, swept_both}
+use Rattle.points_to.proofs.SweepLemmas.{contains_first, contains_second, contains_either, swept_none, swept_both, swept_among}
 
 -- ---- function after function
 
@@ -82,6 +81,70 @@ module _ (p : Program) where
         let same : f ≡ n = omega (arith, low, over) in
         contains_second (program_gives p n points) (given_by p n (doings_of p n) points) a (subst (λ g. Contains (given_by p g (doings_of p g) points) a) same c)
   ]
+
+  -- ---- from the last function on
+
+  -- a function with a number from one on and below another gives a pointing
+  record IsGiven (low high : ℕ) (points : TargetsOf) (a : Pointing) : Type 0 where
+    function : ℕ
+    not_before : low ≤ function
+    below : function < high
+    given : Contains (given_by p function (doings_of p function) points) a
+
+  early_given : (n : ℕ) (points : TargetsOf) (a : Pointing) → Contains (program_gives p n points) a → IsGiven 0 n points a
+  early_given zero points a c = absurd (contains_none a c)
+  early_given (suc n) points a c = elim (contains_either (program_gives p n points) (given_by p n (doings_of p n) points) a c) [
+    | inl early ↦
+        let w = early_given n points a early in
+        let low = w.below in
+        record { function = w.function; not_before = omega arith; below = omega (arith, low); given = w.given }
+    | inr here ↦ record { function = n; not_before = omega arith; below = omega arith; given = here }
+  ]
+
+  late_given : (f n : ℕ) (points : TargetsOf) (a : Pointing) → Contains (gives_from p f n points) a → IsGiven f (f + n) points a
+  late_given f zero points a c = absurd (contains_none a c)
+  late_given f (suc n) points a c = elim (contains_either (given_by p f (doings_of p f) points) (gives_from p (suc f) n points) a c) [
+    | inl here ↦ record { function = f; not_before = omega arith; below = omega arith; given = here }
+    | inr late ↦
+        let w = late_given (suc f) n points a late in
+        let low = w.below in
+        let high = w.not_before in
+        record { function = w.function; not_before = omega (arith, high); below = omega (arith, low); given = w.given }
+  ]
+
+  given_late : (f n : ℕ) (points : TargetsOf) (a : Pointing) (g : ℕ) → f ≤ g → g < f + n → Contains (given_by p g (doings_of p g) points) a → Contains (gives_from p f n points) a
+  given_late f zero points a g high low c = absurd (omega (arith, high, low))
+  given_late f (suc n) points a g high low c = elim (cases_lt f g) [
+    | inl less ↦ contains_second (given_by p f (doings_of p f) points) (gives_from p (suc f) n points) a (given_late (suc f) n points a g (omega (arith, less)) (omega (arith, low)) c)
+    | inr over ↦
+        let same : g ≡ f = omega (arith, high, over) in
+        contains_first (given_by p f (doings_of p f) points) (gives_from p (suc f) n points) a (subst (λ h. Contains (given_by p h (doings_of p h) points) a) same c)
+  ]
+
+  pub back_begins : (w : Solver) (n : ℕ) → IsReady w → w.effects ≡ p → IsSwept p (gives_from p n 0) w.points w false
+  back_begins w n ready program = swept_none p (gives_from p n 0) w.points w ready program refl (λ points. refl)
+
+  pub back_turn : (i k : ℕ) (g : Function) (t : PointsTo) (mid new : Solver) (b c : Bool) → i < length p.functions → g ≡ get_or p.functions i g → IsSwept p (gives_from p (suc i) k) t mid b → IsSwept mid.effects (given_by mid.effects i (body_doings g.body)) mid.points new c → IsSwept p (gives_from p i (suc k)) t new (b || c)
+  back_turn i k g t mid new b c low at later one =
+      let is : doings_of p i ≡ body_doings g.body = ap (λ o. option_map_or (λ (f : Function). body_doings f.body) o []) (place p.functions i g low at) in
+      let here : TargetsOf → List Pointing = λ points. given_by p i (doings_of p i) points in
+      let then : TargetsOf → List Pointing = gives_from p (suc i) k in
+      swept_among p (λ points. then points ++ here points) (gives_from p i (suc k)) t new (b || c)
+      (λ points a m. elim (contains_either (then points) (here points) a m) [
+        | inl x ↦ contains_second (here points) (then points) a x
+        | inr x ↦ contains_first (here points) (then points) a x
+      ])
+      (λ points a m. elim (contains_either (here points) (then points) a m) [
+        | inl x ↦ contains_second (then points) (here points) a x
+        | inr x ↦ contains_first (then points) (here points) a x
+      ])
+      (swept_both p then (λ points. then points ++ here points) (λ q. given_by q i (body_doings g.body)) t mid new b c (λ points. ap (λ ds. then points ++ given_by p i ds points) is) later one)
+
+  -- from the last function on, all are swept
+  pub back_ends : (n : ℕ) (t : PointsTo) (new : Solver) (c : Bool) → IsSwept p (gives_from p 0 n) t new c → IsSwept p (program_gives p n) t new c
+  back_ends n t new c = swept_among p (gives_from p 0 n) (program_gives p n) t new c
+      (λ points a m. let w = late_given 0 n points a m in let low = w.below in all_given n points w.function a (omega (arith, low)) w.given)
+      (λ points a m. let w = early_given n points a m in let low = w.below in given_late 0 n points a w.function (omega arith) (omega (arith, low)) w.given)
 
   -- a function that has a statement is one of the program
   stated : (fs : List Function) (f : ℕ) (d : Doing) → Contains (option_map_or (λ (g : Function). body_doings g.body) (slice_get fs f) []) d → f < length fs

@@ -1,17 +1,17 @@
 -- One pointing is used, and then others.
-use Rattle.std.proofs.Common.{◌≡◌, ◌⊎◌, ◌&&◌, ◌||◌, ℕ, List, [], ◌∷◌, ◌++◌, length, Bool, true, false, inl, inr, refl, sym, ap, ◌∙◌, subst}
+use Rattle.std.proofs.Common.{◌≡◌, ◌⊎◌, ◌&&◌, ◌||◌, List, [], ◌∷◌, ◌++◌, Bool, true, false, inl, inr, refl, sym, ap, ◌∙◌, subst}
 use Rattle.std.specs.Prelude.{Contains}
-use Rattle.std.proofs.lemmas.Bool.{false≢true, and_parts, and_from, or_cases, or_left, or_right}
+use Rattle.std.proofs.lemmas.Bool.{false≢true, and_parts, and_from, or_cases, or_right}
 use Rattle.bit_rows.specs.Sets.{has}
-use Rattle.bit_rows.specs.Tables.{Table, the_set, IsGrown}
-use Rattle.rule_closure.proofs.ListLemmas.{contains_none, contains_head, contains_cons, contains_cases}
+use Rattle.bit_rows.specs.Tables.{the_set, IsGrown}
+use Rattle.rule_closure.proofs.ListLemmas.{contains_none, contains_head, contains_cases}
 use Rattle.c_tree.specs.declared.program.Program.{Program}
 use Rattle.dep_model.specs.declared.location.Location.{Location}
 use Rattle.dep_model.specs.declared.points_to.PointsTo.{PointsTo}
-use Rattle.dep_model.specs.Denoted.{Places, TargetsOf, is_location}
+use Rattle.dep_model.specs.Denoted.{TargetsOf, is_location}
 use Rattle.dep_model.specs.LocationRows.{points_of}
-use Rattle.dep_model.specs.MayPoint.{Pointing, IsPointing, MayPoint, by}
-use Rattle.dep_model.proofs.Membership.{IsIn, in_of_contains, contains_of_in, in_first, in_second, in_either}
+use Rattle.dep_model.specs.MayPoint.{Pointing, IsPointing, by}
+use Rattle.dep_model.proofs.Membership.{in_of_contains, contains_of_in, in_first, in_second, in_either}
 use Rattle.effect_rows.specs.Gains.{row_of}
 use Rattle.effect_rows.proofs.StepRows.{has_row_of}
 use Rattle.points_laws.specs.Relations.{IsDerived, HasPairs}

@@ -100,3 +100,8 @@ given_by p f (d ∷ ds) points = doing_pointings p points f d ++ given_by p f ds
 abbrev pub program_gives : Program → ℕ → TargetsOf → List Pointing
 program_gives p zero points = []
 program_gives p (suc n) points = program_gives p n points ++ given_by p n (doings_of p n) points
+
+-- those of so many functions from a number on
+abbrev pub gives_from : Program → ℕ → ℕ → TargetsOf → List Pointing
+gives_from p f zero points = []
+gives_from p f (suc n) points = given_by p f (doings_of p f) points ++ gives_from p (suc f) n points

@@ -10,9 +10,9 @@ use crate::solver::Solver;
 use c_tree::{FunctionId, Program};
 use std::alloc::Global;
 
-// Uses each pointing of the program's statements once, function by function, and each body from its last statement on where
-// `back` says so. What globals begin with points nowhere. Tells whether a row changed.
-fn round(alloc: Global, p: &Program, solver: &mut Solver, back: bool) -> bool
+// Uses each pointing of the program's statements once, function by function. What globals begin with points nowhere. Tells
+// whether a row changed.
+fn forwards(alloc: Global, p: &Program, solver: &mut Solver) -> bool
     requires few { length p.now.functions < 2 ^ 32 }
     requires ready { IsReady solver.old }
     requires program { solver.old.effects ≡ p.now }
@@ -20,14 +20,50 @@ fn round(alloc: Global, p: &Program, solver: &mut Solver, back: bool) -> bool
 {
     let mut changed = false;
     for (f, function) in p.functions.as_slice().iter().enumerate() {
-        let more = solver.body(alloc, f as FunctionId, function.body.as_slice(), back);
+        let more = solver.statements(alloc, f as FunctionId, function.body.as_slice());
         changed |= more;
     }
     changed
 }
 
-/// Goes on until a round changes nothing. Bodies are taken forwards and backwards by turns, so that a chain of assignments takes
-/// few rounds, in whatever order it is written.
+// The same, from the last statement of the last function on.
+fn backwards(alloc: Global, p: &Program, solver: &mut Solver) -> bool
+    requires few { length p.now.functions < 2 ^ 32 }
+    requires ready { IsReady solver.old }
+    requires program { solver.old.effects ≡ p.now }
+    ensures { IsSwept p.now (program_gives p.now (length p.now.functions)) solver.old.points solver.new result }
+{
+    let functions = p.functions.as_slice();
+    let mut changed = false;
+    let mut left = functions.len();
+    while left > 0 {
+        left -= 1;
+        let more = solver.statements_back(
+            alloc,
+            left as FunctionId,
+            functions[left].body.as_slice(),
+        );
+        changed |= more;
+    }
+    changed
+}
+
+// Uses each pointing of the program's statements once, from the last on where `back` says so. Tells whether a row changed.
+fn round(alloc: Global, p: &Program, solver: &mut Solver, back: bool) -> bool
+    requires few { length p.now.functions < 2 ^ 32 }
+    requires ready { IsReady solver.old }
+    requires program { solver.old.effects ≡ p.now }
+    ensures { IsSwept p.now (program_gives p.now (length p.now.functions)) solver.old.points solver.new result }
+{
+    if back {
+        backwards(alloc, p, solver)
+    } else {
+        forwards(alloc, p, solver)
+    }
+}
+
+/// Goes on until a round changes nothing. Functions, and the statements of their bodies, are taken forwards and backwards by turns,
+/// so that a chain of assignments or of calls takes few rounds, in whatever order it is written.
 pub(crate) fn settle(alloc: Global, p: &Program, solver: &mut Solver)
     requires few { length p.now.functions < 2 ^ 32 }
     requires known { HasKnownSides p.now }

@@ -10,7 +10,7 @@ use std::alloc::Global;
 impl<'p, 'l> Solver<'p, 'l> {
     /// Uses the pointings of statements of function `f`, one after another. Tells whether a row changed.
     #[cycle(statement)]
-    fn statements(&mut self, alloc: Global, f: FunctionId, list: &[Statement]) -> bool
+    pub(crate) fn statements(&mut self, alloc: Global, f: FunctionId, list: &[Statement]) -> bool
         requires ready { IsReady self.old }
         ensures { IsSwept self.old.effects (given_by self.old.effects f (body_doings list.now)) self.old.points self.new result }
     {
@@ -23,7 +23,12 @@ impl<'p, 'l> Solver<'p, 'l> {
     }
 
     /// The same, from the last statement on.
-    fn statements_back(&mut self, alloc: Global, f: FunctionId, list: &[Statement]) -> bool
+    pub(crate) fn statements_back(
+        &mut self,
+        alloc: Global,
+        f: FunctionId,
+        list: &[Statement],
+    ) -> bool
         requires ready { IsReady self.old }
         ensures { IsSwept self.old.effects (given_by self.old.effects f (body_doings list.now)) self.old.points self.new result }
     {
@@ -35,25 +40,6 @@ impl<'p, 'l> Solver<'p, 'l> {
             changed |= more;
         }
         changed
-    }
-
-    /// Uses the pointings of the body of function `f`, from its last statement on where `back` says so. Tells whether a row
-    /// changed.
-    pub(crate) fn body(
-        &mut self,
-        alloc: Global,
-        f: FunctionId,
-        list: &[Statement],
-        back: bool,
-    ) -> bool
-        requires ready { IsReady self.old }
-        ensures { IsSwept self.old.effects (given_by self.old.effects f (body_doings list.now)) self.old.points self.new result }
-    {
-        if back {
-            self.statements_back(alloc, f, list)
-        } else {
-            self.statements(alloc, f, list)
-        }
     }
 
     // Those of the statements of the arms of a switch.

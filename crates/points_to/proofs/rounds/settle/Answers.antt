@@ -1,5 +1,5 @@
-use Rattle.std.proofs.Common.{◌*◌, ◌-◌, ◌<◌, ◌≤◌, ℕ, Bool, false, length, subst, arith}
-use Rattle.bit_rows.specs.Tables.{IsSized, count_all}
+use Rattle.std.proofs.Common.{◌*◌, ◌-◌, ◌<◌, ◌≤◌, Bool, false, length, subst, arith}
+use Rattle.bit_rows.specs.Tables.{count_all}
 use Rattle.c_tree.specs.declared.program.Program.{Program}
 use Rattle.dep_model.specs.LocationLists.{location_list}
 use Rattle.dep_model.specs.LocationRows.{HasPointsRows}

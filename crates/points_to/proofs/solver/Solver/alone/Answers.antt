@@ -1,9 +1,9 @@
 -- The pointings of each form of statement.
-use Rattle.std.proofs.Common.{ℕ, Option, Some, refl, sym, ap, ◌∙◌, subst}
+use Rattle.std.proofs.Common.{ℕ, Option, refl, sym, ap, ◌∙◌, subst}
 use Rattle.c_tree.specs.declared.statement.Statement.TheOpen.{Statement-F}
-use Rattle.c_language.specs.Code.{Begins, Sets, Bumps, Fetches, Writes, Prints, Allocates, Frees, Returns, Tests}
+use Rattle.c_language.specs.Code.{Sets, Bumps, Fetches, Writes, Prints, Allocates, Frees, Tests}
 use Rattle.dep_model.specs.Denoted.{expr_points}
-use Rattle.dep_model.specs.Doings.{Does, Calls}
+use Rattle.dep_model.specs.Doings.{Does}
 use Rattle.dep_model.specs.Locations.{same_location}
 use Rattle.dep_model.specs.MayPoint.{site, parameters, passed}
 use Rattle.dep_model.specs.LocationRows.{points_of}

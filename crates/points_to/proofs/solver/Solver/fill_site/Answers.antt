@@ -1,5 +1,5 @@
 use Rattle.std.proofs.Common.{refl, arith}
-use Rattle.dep_model.specs.Locations.{locations, same_location}
+use Rattle.dep_model.specs.Locations.{locations}
 use Rattle.dep_model.specs.MayPoint.{site}
 use Rattle.std.proofs.Common.{length}
 use Rattle.effect_rows.proofs.PlaceRows.{place_within}

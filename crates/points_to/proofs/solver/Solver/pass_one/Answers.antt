@@ -1,5 +1,5 @@
 -- The left side is the parameter, and the program stays as it was.
-use Rattle.std.proofs.Common.{refl, sym, ap, ◌∙◌, subst, arith}
+use Rattle.std.proofs.Common.{sym, ap, ◌∙◌, subst, arith}
 use Rattle.dep_model.specs.Denoted.{whole, expr_points}
 use Rattle.dep_model.specs.LocationRows.{points_of}
 use Rattle.dep_model.specs.MayPoint.{pointing}
