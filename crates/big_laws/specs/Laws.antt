@@ -1,0 +1,9 @@
+-- What is said of the texts that are generated.
+use Rattle.std.specs.Prelude.{ℕ, ◌<◌, ◌^◌}
+use Rattle.c_tree.specs.declared.program.Program.{Program}
+use Rattle.c_reader.specs.Reading.{ReadsProgram}
+use Rattle.big_programs.specs.Generated.{generated}
+
+-- the text that a seed gives, with one function or more beside main, is accepted, and within the limits on nesting, arrays and objects; its program has a statement
+abbrev pub GeneratedIsAccepted : Type 0
+GeneratedIsAccepted = (seed size : ℕ) → 0 < size → size < 2 ^ 64 → (p : Program) × ReadsProgram (generated seed size) p × (0 < p.statements)

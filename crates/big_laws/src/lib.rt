@@ -1,0 +1,13 @@
+//! The text of a generated program is accepted: a law on the texts that `big_programs` writes.
+//!
+//! The function is a law, and holds no code: its contract is the law, over the definitions of `specs/Laws`.
+#![tactic(auto)]
+
+ghost use Rattle.big_laws.specs.Laws.{GeneratedIsAccepted};
+
+/// A law: for every seed, and every number of functions from 1 on that has 64 bits, the text of the
+/// generated program is in the grammar, keeps all rules, and is within the limits on nesting, on the
+/// lengths of arrays and on the cells of objects. So it has a program, and that has a statement.
+pub fn generated_is_accepted()
+    ensures { GeneratedIsAccepted }
+{}
