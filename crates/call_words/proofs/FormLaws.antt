@@ -3,7 +3,7 @@ use Rattle.std.proofs.Common.{◌≡◌, ◌≢◌, ◌||◌, ℕ, ◌+◌, ◌<
 use Rattle.std.specs.Prelude.{IsSomeAnd, IfSome, fold, slice_index_or}
 use Rattle.std.specs.Borrow.{Bor}
 use Rattle.std.specs.List.{find, All}
-use Rattle.std.specs.Option.{option_map, option_map_or}
+use Rattle.std.specs.Option.{option_map, option_map_or, unwrap_or}
 use Rattle.std.specs.Str.{IsUtf8, bytes_eq}
 use Rattle.std.proofs.lemmas.Bool.Decides.{nat_tests}
 use Rattle.std.specs.Prelude.{option_and_then, slice_get}
@@ -17,10 +17,10 @@ use Rattle.clap.proofs.WalkLemmas.{raw_values-rows, first_value-rows}
 use Rattle.call_words.specs.Sorting.{Bytes, Sorted, and_sorted, none_sorted, sorted}
 use Rattle.call_words.specs.Forms.{texts}
 use Rattle.call_words.specs.declared.grammar.Command.{Command}
-use Rattle.call_words.specs.declared.grammar.Command.TheVariants.{Slice, Graph, Members}
+use Rattle.call_words.specs.declared.grammar.Command.TheVariants.{Slice, Trace, Run, Graph, Members}
 use Rattle.call_words.specs.Grammar as grammar
 use Rattle.call_words.specs.Grammar.{AreWanted, IsInForm, IsNumber, IsOf, IsSortedInForm, command_of, decimal_from, kind_at, kind_of, word}
-use Rattle.call_words.specs.Requests.{Asked, CanAsk, asks, number_or, numbers_of, value_given}
+use Rattle.call_words.specs.Requests.{Asked, CanAsk, asks, input_in, number_or, numbers_of, steps_in, value_given}
 use Rattle.call_words.specs.Clap.{HasMatches, app_for, is_apart, option_names, others_found, value_found}
 use Rattle.call_words.specs.declared.grammar.Kind.{Kind}
 use Rattle.call_words.specs.declared.grammar.Kind.TheVariants.{File, Number}
@@ -134,9 +134,9 @@ line_number : (least greatest : ℕ) (w : Bytes) → IsOf (Number least greatest
 line_number least greatest w is = is.number
 
 -- the kinds behind the file, and of the one option, are numbers
-slice_line : (i : ℕ) → kind_at (grammar.row Slice) (i + 1) ≡ Some grammar.line
-slice_line zero = refl
-slice_line (suc i) = let last : min (suc i + 1) 1 ≡ 1 = omega arith in ap (λ n. slice_get (File ∷ grammar.line ∷ []) n) last
+line_kind : (i : ℕ) → slice_get (File ∷ grammar.line ∷ []) (min (i + 1) 1) ≡ Some grammar.line
+line_kind zero = refl
+line_kind (suc i) = let last : min (suc i + 1) 1 ≡ 1 = omega arith in ap (λ n. slice_get (File ∷ grammar.line ∷ []) n) last
 
 tail_at : (others : List Bytes) (k : ℕ) (d : Bytes) → k < length (drop 1 others) → slice_index_or (drop 1 others) k d ≡ word others (k + 1)
 tail_at [] k d lt = absurd (omega (arith, lt))
@@ -146,11 +146,11 @@ tail_long : (others : List Bytes) (k : ℕ) → k < length (drop 1 others) → k
 tail_long [] k lt = absurd (omega (arith, lt))
 tail_long (x ∷ xs) k lt = omega (arith, lt)
 
-slice_lines : (others : List Bytes) → AreWanted (grammar.row Slice) others → All IsNumber (drop 1 others)
-slice_lines others wanted = λ k d lt.
+lines_numbers : (r : grammar.Row) → ((i : ℕ) → kind_at r (i + 1) ≡ Some grammar.line) → (others : List Bytes) → AreWanted r others → All IsNumber (drop 1 others)
+lines_numbers r kinds others wanted = λ k d lt.
     let is = wanted.each (k + 1) (tail_long others k lt) in
     subst IsNumber (sym (tail_at others k d lt))
-    (line_number 0 9999999999 (word others (k + 1)) (subst (λ o. IsSomeAnd o (λ kind. IsOf kind (word others (k + 1)))) (slice_line k) is))
+    (line_number 0 9999999999 (word others (k + 1)) (subst (λ o. IsSomeAnd o (λ kind. IsOf kind (word others (k + 1)))) (kinds k) is))
 
 members_line : (others : List Bytes) → AreWanted (grammar.row Members) others → (1 < length others) × IsNumber (word others 1)
 members_line others wanted =
@@ -179,8 +179,17 @@ module _ (r : grammar.Row) (name : Bytes) (least greatest : ℕ) (numbers : kind
 pub can_ask : (c : Command) (s : Sorted) → IsSortedInForm (grammar.row c) s → CanAsk c s.others (value_given s.given)
 can_ask Slice s form = (
   (let enough = form.others.enough in omega (arith, enough)),
-  slice_lines s.others form.others,
+  lines_numbers (grammar.row Slice) line_kind s.others form.others,
   option_number (grammar.row Slice) (codes "workers") 1 16 refl s form,
+)
+can_ask Trace s form = (
+  (let enough = form.others.enough in omega (arith, enough)),
+  lines_numbers (grammar.row Trace) line_kind s.others form.others,
+  option_number (grammar.row Trace) (codes "steps") 1 1000000000 refl s form,
+)
+can_ask Run s form = (
+  (let enough = form.others.enough in omega (arith, enough)),
+  option_number (grammar.row Run) (codes "steps") 1 1000000000 refl s form,
 )
 can_ask Graph s form = (
   (let enough = form.others.enough in omega (arith, enough)),
@@ -193,6 +202,12 @@ can_ask Members s form =
 -- what was found asks for what was sorted
 pub asks_found : (c : Command) (s : Sorted) (m : ArgMatches) → HasMatches (grammar.row c) s m → asks c (others_found m) (value_found m) ≡ asks c s.others (value_given s.given)
 asks_found Slice s m has = ap₂ (λ others value. Asked.slice (word others 0) (numbers_of (drop 1 others)) (number_or 4 value)) has.words (has.values (codes "workers") refl)
+asks_found Trace s m has =
+    ap₂ (λ others value. Asked.trace (word others 0) (numbers_of (drop 1 others)) (input_in (value_found m)) (number_or 10000000 value)) has.words (has.values (codes "steps") refl)
+    ∙ ap (λ value. Asked.trace (word s.others 0) (numbers_of (drop 1 s.others)) (unwrap_or value []) (steps_in (value_given s.given))) (has.values (codes "input") refl)
+asks_found Run s m has =
+    ap₂ (λ others value. Asked.run (word others 0) (input_in (value_found m)) (number_or 10000000 value)) has.words (has.values (codes "steps") refl)
+    ∙ ap (λ value. Asked.run (word s.others 0) (unwrap_or value []) (steps_in (value_given s.given))) (has.values (codes "input") refl)
 asks_found Graph s m has = ap₂ (λ others value. Asked.graph (word others 0) (number_or 4 value)) has.words (has.values (codes "workers") refl)
 asks_found Members s m has =
     ap₂ (λ others value. Asked.members (word others 0) (decimal_from 0 (word others 1)) (number_or 4 value)) has.words (has.values (codes "workers") refl)
@@ -202,6 +217,15 @@ can_ask_found Slice s m has can = (
   subst (λ others. 0 < length others) (sym has.words) can.0,
   subst (λ others. All IsNumber (drop 1 others)) (sym has.words) can.1,
   subst (λ value. IfSome value IsNumber) (sym (has.values (codes "workers") refl)) can.2,
+)
+can_ask_found Trace s m has can = (
+  subst (λ others. 0 < length others) (sym has.words) can.0,
+  subst (λ others. All IsNumber (drop 1 others)) (sym has.words) can.1,
+  subst (λ value. IfSome value IsNumber) (sym (has.values (codes "steps") refl)) can.2,
+)
+can_ask_found Run s m has can = (
+  subst (λ others. 0 < length others) (sym has.words) can.0,
+  subst (λ value. IfSome value IsNumber) (sym (has.values (codes "steps") refl)) can.1,
 )
 can_ask_found Graph s m has can = (
   subst (λ others. 0 < length others) (sym has.words) can.0,
@@ -216,6 +240,8 @@ can_ask_found Members s m has can = (
 -- no option of a row has the name of the argument of all other words
 pub rows_apart : (c : Command) → is_apart (grammar.row c) ≡ true
 rows_apart Slice = refl
+rows_apart Trace = refl
+rows_apart Run = refl
 rows_apart Graph = refl
 rows_apart Members = refl
 

@@ -230,7 +230,7 @@ utf8_pushed words i d lt here before k e below = elim (cases_lt k i) [
       subst (λ n. IsUtf8 (slice_index_or words n e)) same (subst IsUtf8 (any_default words i d e lt) here)
 ]
 
-rest_numbers : (others : List (Bor Bytes)) → All IsNumber (drop 1 (texts others)) → All IsNumber (texts (take (length others - 1) (drop 1 others)))
+pub rest_numbers : (others : List (Bor Bytes)) → All IsNumber (drop 1 (texts others)) → All IsNumber (texts (take (length others - 1) (drop 1 others)))
 rest_numbers [] all = λ k d lt. absurd (omega (arith, lt))
 rest_numbers (o ∷ os) all =
     let whole : take (length (o ∷ os) - 1) os ≡ os = take_all (length (o ∷ os) - 1) os (omega arith) in

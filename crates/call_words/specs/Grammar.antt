@@ -8,7 +8,7 @@ use Rattle.call_words.specs.Sorting.{Bytes, Sorted, sorted}
 use Rattle.call_words.specs.declared.grammar.Kind.{Kind}
 use Rattle.call_words.specs.declared.grammar.Kind.TheVariants.{File, Number}
 use Rattle.call_words.specs.declared.grammar.Command.{Command}
-use Rattle.call_words.specs.declared.grammar.Command.TheVariants.{Slice, Graph, Members}
+use Rattle.call_words.specs.declared.grammar.Command.TheVariants.{Slice, Trace, Run, Graph, Members}
 
 -- ---- the table
 
@@ -28,6 +28,10 @@ line = Number 0 9999999999
 abbrev pub workers : List (Bytes × Kind)
 workers = (codes "workers", Number 1 16) ∷ []
 
+-- the options of a run: the file with its input, and how many acts it may have
+abbrev pub of_runs : List (Bytes × Kind)
+of_runs = (codes "input", File) ∷ (codes "steps", Number 1 1000000000) ∷ []
+
 abbrev pub row : Command → Row
 row Slice = record {
   name = codes "slice";
@@ -35,6 +39,20 @@ row Slice = record {
   repeats = true;
   options = workers;
   required = [];
+}
+row Trace = record {
+  name = codes "trace";
+  wanted = File ∷ line ∷ [];
+  repeats = true;
+  options = of_runs;
+  required = codes "input" ∷ [];
+}
+row Run = record {
+  name = codes "run";
+  wanted = File ∷ [];
+  repeats = false;
+  options = of_runs;
+  required = codes "input" ∷ [];
 }
 row Graph = record {
   name = codes "graph";
@@ -52,7 +70,7 @@ row Members = record {
 }
 
 abbrev pub commands : List Command
-commands = Slice ∷ Graph ∷ Members ∷ []
+commands = Slice ∷ Trace ∷ Run ∷ Graph ∷ Members ∷ []
 
 -- ---- kinds of words
 

@@ -1,13 +1,13 @@
 -- What words in the grammar ask for.
-use Rattle.std.specs.Prelude.{◌≡◌, ℕ, ◌<◌, List, [], ◌∷◌, map, drop, length, All, Option, Some, IfSome, codes}
+use Rattle.std.specs.Prelude.{◌≡◌, ℕ, ◌<◌, List, [], ◌∷◌, map, drop, length, All, Option, None, Some, IfSome, codes}
 use Rattle.std.specs.List.{find}
-use Rattle.std.specs.Option.{option_map, option_map_or, unwrap_or}
+use Rattle.std.specs.Option.{option_map, option_map_or, option_to_list, unwrap_or}
 use Rattle.std.specs.Str.{bytes_eq}
 use Rattle.std.specs.String.{string_bytes}
 use Rattle.call_words.specs.Sorting.{Bytes, sorted}
 use Rattle.call_words.specs.Grammar.{word, decimal_from, command_of, IsInGrammar, IsNumber}
 use Rattle.call_words.specs.declared.grammar.Command.{Command}
-use Rattle.call_words.specs.declared.grammar.Command.TheVariants.{Slice, Graph, Members}
+use Rattle.call_words.specs.declared.grammar.Command.TheVariants.{Slice, Trace, Run, Graph, Members}
 use Rattle.call_words.specs.declared.request.Request.{Request}
 use Rattle.call_words.specs.declared.request.Request.TheVariants as request
 
@@ -15,6 +15,10 @@ use Rattle.call_words.specs.declared.request.Request.TheVariants as request
 pub data Asked : Type 0 where
   -- the slices of a file's program at these lines, by so many workers
   slice : (file : Bytes) (lines : List ℕ) (workers : ℕ) → Asked
+  -- the values at these lines in a run of a file's program on the bytes of another file, of at most so many acts
+  trace : (file : Bytes) (lines : List ℕ) (input : Bytes) (steps : ℕ) → Asked
+  -- what such a run writes
+  run : (file input : Bytes) (steps : ℕ) → Asked
   -- the dependence graph of a file's program, by so many workers
   graph : (file : Bytes) (workers : ℕ) → Asked
   -- what reaches the statements on a line in that graph, by so many workers
@@ -35,9 +39,18 @@ number_or absent value = option_map_or (decimal_from 0) value absent
 abbrev pub workers_in : (Bytes → Option Bytes) → ℕ
 workers_in value = number_or 4 (value (codes "workers"))
 
+-- the file with the input of a run, and how many acts this may have
+abbrev pub input_in : (Bytes → Option Bytes) → Bytes
+input_in value = unwrap_or (value (codes "input")) []
+
+abbrev pub steps_in : (Bytes → Option Bytes) → ℕ
+steps_in value = number_or 10000000 (value (codes "steps"))
+
 -- what a command's other words and the values of its options ask for
 abbrev pub asks : Command → List Bytes → (Bytes → Option Bytes) → Asked
 asks Slice others value = Asked.slice (word others 0) (numbers_of (drop 1 others)) (workers_in value)
+asks Trace others value = Asked.trace (word others 0) (numbers_of (drop 1 others)) (input_in value) (steps_in value)
+asks Run others value = Asked.run (word others 0) (input_in value) (steps_in value)
 asks Graph others value = Asked.graph (word others 0) (workers_in value)
 asks Members others value = Asked.members (word others 0) (decimal_from 0 (word others 1)) (workers_in value)
 
@@ -49,12 +62,16 @@ asked words = option_map (λ c. asks c (sorted words).others (value_given (sorte
 
 abbrev pub asked_by : Request → Asked
 asked_by (request.Slice file lines workers) = Asked.slice (string_bytes file) lines.items workers
+asked_by (request.Trace file lines input steps) = Asked.trace (string_bytes file) lines.items (string_bytes input) steps
+asked_by (request.Run file input steps) = Asked.run (string_bytes file) (string_bytes input) steps
 asked_by (request.Graph file workers) = Asked.graph (string_bytes file) workers
 asked_by (request.Members file line workers) = Asked.members (string_bytes file) line workers
 
 -- the other words and the values of the options are such as a command's request can be made of
 abbrev pub CanAsk : Command → List Bytes → (Bytes → Option Bytes) → Type 0
 CanAsk Slice others value = (0 < length others) × All IsNumber (drop 1 others) × IfSome (value (codes "workers")) IsNumber
+CanAsk Trace others value = (0 < length others) × All IsNumber (drop 1 others) × IfSome (value (codes "steps")) IsNumber
+CanAsk Run others value = (0 < length others) × IfSome (value (codes "steps")) IsNumber
 CanAsk Graph others value = (0 < length others) × IfSome (value (codes "workers")) IsNumber
 CanAsk Members others value = (1 < length others) × IsNumber (word others 1) × IfSome (value (codes "workers")) IsNumber
 
@@ -66,13 +83,37 @@ pub record IsRead (words : List Bytes) (r : Request) : Type 0 where
 -- the file and the lines of what is asked for
 abbrev pub file_in : Asked → Bytes
 file_in (Asked.slice file lines workers) = file
+file_in (Asked.trace file lines input steps) = file
+file_in (Asked.run file input steps) = file
 file_in (Asked.graph file workers) = file
 file_in (Asked.members file line workers) = file
 
+-- the file with the input, where one is asked for
+abbrev pub input_of : Asked → Option Bytes
+input_of (Asked.slice file lines workers) = None
+input_of (Asked.trace file lines input steps) = Some input
+input_of (Asked.run file input steps) = Some input
+input_of (Asked.graph file workers) = None
+input_of (Asked.members file line workers) = None
+
+-- both, in the order in which they are fetched
+abbrev pub files_in : Asked → List Bytes
+files_in asked = file_in asked ∷ option_to_list (input_of asked)
+
 abbrev pub lines_in : Asked → List ℕ
 lines_in (Asked.slice file lines workers) = lines
+lines_in (Asked.trace file lines input steps) = lines
+lines_in (Asked.run file input steps) = []
 lines_in (Asked.graph file workers) = []
 lines_in (Asked.members file line workers) = line ∷ []
+
+-- how many acts a run may have that is asked for
+abbrev pub steps_of : Asked → ℕ
+steps_of (Asked.slice file lines workers) = 0
+steps_of (Asked.trace file lines input steps) = steps
+steps_of (Asked.run file input steps) = steps
+steps_of (Asked.graph file workers) = 0
+steps_of (Asked.members file line workers) = 0
 
 -- what the words ask for; of words outside the grammar no slices
 abbrev pub asked_of : List Bytes → Asked

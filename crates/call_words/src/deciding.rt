@@ -108,7 +108,8 @@ fn kind_of(form: &Form, name: &str) -> Option<Kind>
     None
 }
 
-fn is_same(name: &str, other: &str) -> bool
+/// Whether two names are the same.
+pub(crate) fn is_same(name: &str, other: &str) -> bool
     ensures test { result ≡ bytes_eq name.now other.now }
     ensures same { IsTrue result ↔ (name.now ≡ other.now) }
 {

@@ -17,6 +17,10 @@ pub enum Kind {
 pub enum Command {
     /// The slices of a file's program at lines.
     Slice,
+    /// The values at lines in a run of a file's program.
+    Trace,
+    /// What a run of a file's program writes.
+    Run,
     /// The dependence graph of a file's program.
     Graph,
     /// The vertices of that graph that reach the statements on a line.
@@ -59,7 +63,20 @@ static WORKERS: [OptionForm; 1] = [OptionForm {
     kind: Kind::Number(1, 16),
 }];
 
+static OF_RUNS: [OptionForm; 2] = [
+    OptionForm {
+        name: "input",
+        kind: Kind::File,
+    },
+    OptionForm {
+        name: "steps",
+        kind: Kind::Number(1, 1_000_000_000),
+    },
+];
+
 static NONE_REQUIRED: [&str; 0] = [];
+
+static INPUT_REQUIRED: [&str; 1] = ["input"];
 
 /// The row of a command.
 pub fn form_of(command: Command) -> Form
@@ -72,6 +89,20 @@ pub fn form_of(command: Command) -> Form
             repeats: true,
             options: WORKERS.as_slice(),
             required: NONE_REQUIRED.as_slice(),
+        },
+        Command::Trace => Form {
+            name: "trace",
+            wanted: FILE_AND_LINE.as_slice(),
+            repeats: true,
+            options: OF_RUNS.as_slice(),
+            required: INPUT_REQUIRED.as_slice(),
+        },
+        Command::Run => Form {
+            name: "run",
+            wanted: FILE.as_slice(),
+            repeats: false,
+            options: OF_RUNS.as_slice(),
+            required: INPUT_REQUIRED.as_slice(),
         },
         Command::Graph => Form {
             name: "graph",

@@ -1,13 +1,15 @@
 //! What a call asks for, as plain data, and how its words are read.
-ghost use Rattle.std.specs.Prelude.{◌≡◌, ◌∷◌, [], IfOk, IfSome, MatchOption, MatchResult, All};
+ghost use Rattle.std.specs.Option.{unwrap_or};
+ghost use Rattle.std.specs.String.{string_bytes};
+ghost use Rattle.std.specs.Prelude.{◌≡◌, ◌∷◌, [], drop, IfOk, IfSome, MatchOption, MatchResult, All};
 ghost use Rattle.std.specs.Str.{IsUtf8};
 ghost use Rattle.clap.specs.Values.{kind_of};
 ghost use Rattle.call_words.specs.Grammar.{IsInGrammar, IsNumber, command_of};
-ghost use Rattle.call_words.specs.Requests.{CanAsk, IsRead, asked_by, asks, number_or, numbers_of};
+ghost use Rattle.call_words.specs.Requests.{Asked, CanAsk, IsRead, asked_by, asks, input_in, number_or, numbers_of, steps_in};
 ghost use Rattle.call_words.specs.Clap.{others_found, value_found};
 ghost use Rattle.call_words.specs.Forms.{texts};
 
-use crate::deciding::{decimal, is_in_form};
+use crate::deciding::{decimal, is_in_form, is_same};
 use crate::grammar::{Command, form_of};
 use crate::reading::read;
 use crate::sorting::sort;
@@ -16,6 +18,9 @@ use clap::{ArgMatches, Error};
 use edge_io::Text;
 use std::alloc::{AllocError, Global};
 use thiserror::Error as ErrorText;
+
+// How many acts a run may have where that isn't said.
+const MAX_ACTS: u64 = 10_000_000;
 
 /// What a call asks for.
 #[derive(Debug, Drop)]
@@ -28,6 +33,26 @@ pub enum Request {
         lines: Vec<u64>,
         /// The number of workers, from 1 to 16.
         workers: u64,
+    },
+    /// The values at these lines, in a run of the program in a file on the bytes of another one.
+    Trace {
+        /// The name of the file.
+        file: String,
+        /// The lines, counted from 1. A line may be above the range of `u32`.
+        lines: Vec<u64>,
+        /// The name of the file with the input.
+        input: String,
+        /// How many acts the run may have, from 1 to 1,000,000,000.
+        steps: u64,
+    },
+    /// What a run of the program in a file writes on the bytes of another one.
+    Run {
+        /// The name of the file.
+        file: String,
+        /// The name of the file with the input.
+        input: String,
+        /// How many acts the run may have, from 1 to 1,000,000,000.
+        steps: u64,
     },
     /// The dependence graph of the program in a file, by so many workers.
     Graph {
@@ -48,7 +73,8 @@ pub enum Request {
 }
 
 impl Request {
-    ghost use Rattle.call_words.specs.Requests.{asked_by, file_in};
+    ghost use Rattle.std.specs.Prelude.{option_map};
+    ghost use Rattle.call_words.specs.Requests.{asked_by, file_in, input_of, steps_of};
 
     /// The name of the file.
     pub fn file(&self) -> &str
@@ -56,8 +82,36 @@ impl Request {
     {
         match self {
             Request::Slice { file, .. } => file.as_str(),
+            Request::Trace { file, .. } => file.as_str(),
+            Request::Run { file, .. } => file.as_str(),
             Request::Graph { file, .. } => file.as_str(),
             Request::Members { file, .. } => file.as_str(),
+        }
+    }
+
+    /// The name of the file with the input, where one is asked for.
+    pub fn input(&self) -> Option<&str>
+        ensures { option_map (λ s. s.now) result ≡ input_of (asked_by self.now) }
+    {
+        match self {
+            Request::Trace { input, .. } => Some(input.as_str()),
+            Request::Run { input, .. } => Some(input.as_str()),
+            Request::Slice { .. } => None,
+            Request::Graph { .. } => None,
+            Request::Members { .. } => None,
+        }
+    }
+
+    /// How many acts a run may have, 0 where none is asked for.
+    pub fn steps(&self) -> u64
+        ensures { result ≡ steps_of (asked_by self.now) }
+    {
+        match self {
+            Request::Trace { steps, .. } => *steps,
+            Request::Run { steps, .. } => *steps,
+            Request::Slice { .. } => 0,
+            Request::Graph { .. } => 0,
+            Request::Members { .. } => 0,
         }
     }
 }
@@ -127,11 +181,15 @@ fn texts_of(alloc: Global, words: &[Text]) -> Result<Option<Vec<&str>>, AllocErr
 fn command_named(name: &str) -> Option<Command>
     ensures { result ≡ command_of (name.now ∷ []) }
 {
-    if name == "slice" {
+    if is_same("slice", name) {
         Some(Command::Slice)
-    } else if name == "graph" {
+    } else if is_same("trace", name) {
+        Some(Command::Trace)
+    } else if is_same("run", name) {
+        Some(Command::Run)
+    } else if is_same("graph", name) {
         Some(Command::Graph)
-    } else if name == "members" {
+    } else if is_same("members", name) {
         Some(Command::Members)
     } else {
         None
@@ -175,25 +233,66 @@ fn made(
     ensures { IfOk result (λ r. asked_by r ≡ asks command (texts others.now) (value_found matches.now)) }
 {
     let file = String::from_str(alloc, others[0])?;
-    let workers = number_of(matches, "workers", 4);
     match command {
         Command::Slice => {
             let lines = numbers(alloc, &others[1..])?;
+            let workers = number_of(matches, "workers", 4);
             Ok(Request::Slice {
                 file,
                 lines,
                 workers,
             })
         }
-        Command::Graph => Ok(Request::Graph { file, workers }),
+        Command::Trace => traced(alloc, file, others, matches),
+        Command::Run => {
+            let input = value_of(alloc, matches, "input")?;
+            let steps = number_of(matches, "steps", MAX_ACTS);
+            Ok(Request::Run { file, input, steps })
+        }
+        Command::Graph => {
+            let workers = number_of(matches, "workers", 4);
+            Ok(Request::Graph { file, workers })
+        }
         Command::Members => {
             let line = decimal(others[1].as_bytes());
+            let workers = number_of(matches, "workers", 4);
             Ok(Request::Members {
                 file,
                 line,
                 workers,
             })
         }
+    }
+}
+
+// The request of a trace of this file.
+fn traced(
+    alloc: Global,
+    file: String,
+    others: &[&str],
+    matches: &ArgMatches<'_>,
+) -> Result<Request, AllocError>
+    requires { CanAsk Command.Trace (texts others.now) (value_found matches.now) }
+    ensures { IfOk result (λ r. asked_by r ≡ Asked.trace (string_bytes file) (numbers_of (drop 1 (texts others.now))) (input_in (value_found matches.now)) (steps_in (value_found matches.now))) }
+{
+    let lines = numbers(alloc, &others[1..])?;
+    let input = value_of(alloc, matches, "input")?;
+    let steps = number_of(matches, "steps", MAX_ACTS);
+    Ok(Request::Trace {
+        file,
+        lines,
+        input,
+        steps,
+    })
+}
+
+// The value that an option has, or an empty one where it is absent. Err: no memory was left.
+fn value_of(alloc: Global, matches: &ArgMatches<'_>, name: &str) -> Result<String, AllocError>
+    ensures { IfOk result (λ value. string_bytes value ≡ unwrap_or (value_found matches.now name.now) []) }
+{
+    match matches.get_str(name) {
+        Some(value) => String::from_str(alloc, value),
+        None => Ok(String::new(alloc)),
     }
 }
 

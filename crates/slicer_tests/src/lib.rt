@@ -7,6 +7,8 @@ mod engine_tests;
 #[cfg(test)]
 mod exit_tests;
 #[cfg(test)]
+mod input_tests;
+#[cfg(test)]
 mod layout_tests;
 #[cfg(test)]
 mod many_tests;

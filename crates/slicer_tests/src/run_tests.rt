@@ -1,8 +1,8 @@
 //! Runs of the top call over files and sinks in memory.
-ghost use Rattle.std.specs.Prelude.{◌≡◌, ◌⊎◌, ◌≤◌, List, IfOk, length};
+ghost use Rattle.std.specs.Prelude.{◌≡◌, ◌⊎◌, ◌≤◌, List, [], IfOk, None, length};
 ghost use Rattle.c_language.specs.Words.{Bytes};
 ghost use Rattle.call_words.specs.Grammar.{IsInGrammar};
-ghost use Rattle.call_words.specs.Requests.{asked_of, file_of};
+ghost use Rattle.call_words.specs.Requests.{asked_of, file_of, input_of};
 ghost use Rattle.slicer_top.specs.Slices.{StartsSome, AreWritten, joined};
 
 use crate::programs::TWO;
@@ -40,7 +40,7 @@ int main(void) {
 
 const MAX_FILE_BYTES: usize = 1_048_576;
 
-// Over one file and sinks in memory without failing numbers, with room for what is asked and for `out of memory`:
+// Over one file, no input and sinks in memory without failing numbers, with room for what is asked and for `out of memory`:
 // that is written, or memory was wanting.
 fn run_without_failing(
     alloc: Global,
@@ -49,9 +49,9 @@ fn run_without_failing(
     text: Text,
     room: usize,
 ) -> Result<Status, AllocError>
-    ensures { IfOk result (λ status. IsInGrammar words.now → name ≡ file_of words.now → length text ≤ 1048576
-        → StartsSome text (asked_of words.now)
-        → ((texts : List Bytes) → AreWritten text (asked_of words.now) texts → length (joined texts) ≤ room)
+    ensures { IfOk result (λ status. IsInGrammar words.now → name ≡ file_of words.now → input_of (asked_of words.now) ≡ None
+        → length text ≤ 1048576 → StartsSome text (asked_of words.now) []
+        → ((texts : List Bytes) → AreWritten text (asked_of words.now) [] texts → length (joined texts) ≤ room)
         → (status ≡ Status.Done) ⊎ (status ≡ Status.NoMemory)) }
 {
     let mut files = Vec::new(alloc);
@@ -132,6 +132,10 @@ fn other_words_are_told_the_usage(rt: HostRuntime) -> Result<(), Fail> {
         "Slice two.c 7",
         "slices two.c 7",
         "run two.c",
+        "run two.c --input",
+        "run two.c 7 --input two.c",
+        "trace two.c --input two.c",
+        "trace two.c 7",
         "graph",
         "graph two.c 7",
         "graph two.c two.c",
@@ -305,6 +309,8 @@ fn each_status_has_its_code(rt: HostRuntime) {
         (Status::ReadFault, 3),
         (Status::WriteFault, 4),
         (Status::NoMemory, 5),
+        (Status::Undefined, 6),
+        (Status::Steps, 7),
         (Status::Limit, 8),
         (Status::TooLong, 9),
     ];

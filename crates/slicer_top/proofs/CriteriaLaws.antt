@@ -1,26 +1,31 @@
 -- The criteria of lines, one after another, and what their texts are.
-use Rattle.std.proofs.Common.{◌≡◌, inl, inr, ℕ, ◌+◌, ◌<◌, ◌≤◌, List, [], ◌∷◌, ◌++◌, length, zero, suc, refl, sym, ap, ◌∙◌, subst, arith, slice_index_or}
+use Rattle.std.proofs.Common.{◌≡◌, inl, inr, ℕ, ◌+◌, ◌<◌, ◌≤◌, List, [], ◌∷◌, ◌++◌, length, take, zero, suc, refl, sym, ap, ap₂, ◌∙◌, subst, arith, add-one, slice_index_or}
 use Rattle.std.proofs.lemmas.Bool.{cases_lt}
-use Rattle.std.proofs.lemmas.List.{get_or_append_left, get_or_at, length_push}
+use Rattle.std.proofs.lemmas.List.{get_or_append_left, get_or_at, length_push, take_all}
+use Rattle.std.proofs.Math.Seq.{take-suc}
 use Rattle.std.specs.Prelude.{All}
 use Rattle.c_tree.specs.declared.limits.LimitName.{LimitName}
 use Rattle.c_tree.specs.declared.program.Program.{Program}
 use Rattle.c_language.specs.Words.{Bytes}
 use Rattle.c_reader.specs.Reading.{ReadsProgram}
+use Rattle.edge_io.specs.Contents.{Told}
 use Rattle.call_words.specs.Requests.{Asked, lines_in}
 use Rattle.slice_engine.specs.GraphLimits.{IsAboveGraphLimit}
 use Rattle.slice_engine.specs.Slice.{HasStart, IsSlice, IsFaithful}
 use Rattle.slice_engine.specs.declared.engine.Criterion.{Criterion}
 use Rattle.slice_batch.specs.Batch.{AreTexts}
-use Rattle.slicer_top.specs.Criteria.{AreCriteria, AreMade, IsCriteriaFault, StartAt}
-use Rattle.slicer_top.specs.Slices.{AreSlices, AreWritten, HasGraph, IsFirstWithout, line_at}
-use Rattle.slicer_top.specs.Reports.{IsAmong, IsReason}
+use Rattle.slicer_top.specs.Criteria.{AreCriteria, AreFound, IsCriteriaFault, StartAt}
+use Rattle.slicer_top.specs.Files.{AreShort, OfFiles}
+use Rattle.slicer_top.specs.Slices.{AreSlices, AreTextsFor, AreWritten, HasGraph, HasStarts, IsFirstWithout, line_at}
+use Rattle.slicer_top.specs.Reports.{IsAmong, IsCause, IsMissing, IsReason}
 use Rattle.slicer_top.specs.declared.refusal.Refusal.{Refusal}
-use Rattle.slicer_top.specs.declared.refusal.Refusal.TheVariants.{Unreadable, TooLong, Lex, Parse, Check, NoStart, Graph, TooMany, NoMemory}
+use Rattle.slicer_top.specs.declared.refusal.Refusal.TheVariants.{Unreadable, TooLong, NoInput, LongInput, Lex, Parse, Check, NoStart, Graph, TooMany, UndefinedAct, MoreSteps, NoMemory}
+use Rattle.slicer_top.proofs.Files.{Came, as_files}
+use Rattle.slicer_top.proofs.ReaderLaws.{above_graph}
 
--- an engine's program has a graph within the limits
-pub has_graph : (text : Bytes) (p e : Program) → e ≡ p → ReadsProgram text p → ((name : LimitName) → IsAboveGraphLimit p name → ⊥) → HasGraph text e
-has_graph text p e same reads within = subst (HasGraph text) (sym same) (record { reads = reads; within = within })
+-- the graph of the program is within the limits
+pub has_graph : (text : Bytes) (asked : Asked) (p : Program) → ReadsProgram text p → ((name : LimitName) → IsAboveGraphLimit p name → ⊥) → HasGraph text asked p
+has_graph text asked p reads within = record { reads = reads; within = λ name above. within name (above_graph asked p name above) }
 
 -- the criteria of the first lines
 pub record AreFirst (p : Program) (lines : List ℕ) (many : ℕ) (found : List Criterion) : Type 0 where
@@ -87,6 +92,32 @@ module _ (p : Program) (lines : List ℕ) where
     },
   )
 
+-- the first lines themselves, on each of which a statement starts
+pub record ArePassed (p : Program) (lines : List ℕ) (many : ℕ) (found : List ℕ) : Type 0 where
+  pub same : found ≡ take many lines
+  pub starts : (i : ℕ) → i < many → HasStart p (line_at lines i)
+
+module _ (p : Program) (lines : List ℕ) where
+  pub none_passed : ArePassed p lines 0 []
+  none_passed = record { same = refl; starts = λ i lt. absurd (omega (arith, lt)) }
+
+  pub one_more_passed : (many : ℕ) (found after : List ℕ) (x : ℕ) → ArePassed p lines many found → many < length lines → after ≡ found ++ x ∷ [] → x ≡ line_at lines many → HasStart p (line_at lines many)
+      → ArePassed p lines (many + 1) after
+  one_more_passed many found after x first lt is line here = record {
+    same = is ∙ ap₂ (λ (xs : List ℕ) (y : ℕ). xs ++ y ∷ []) first.same line ∙ sym (ap (λ n. take n lines) (add-one many) ∙ take-suc lines many 0 lt);
+    starts = λ i low. elim (cases_lt i many) [
+      | inl less ↦ first.starts i less
+      | inr not_less ↦ let same : many ≡ i = omega (arith, low, not_less) in subst (λ n. HasStart p (line_at lines n)) same here
+    ];
+  }
+
+  pub all_passed : (many : ℕ) (found : List ℕ) → ArePassed p lines many found → length lines ≤ 64 → length lines ≤ many → AreFound p lines found
+  all_passed many found first few end =
+      record { same = first.same ∙ take_all many lines end; start = record { few = few; starts = λ i lt. first.starts i (omega (arith, lt, end)) } }
+
+  pub passed_without : (many : ℕ) (found : List ℕ) (line : ℕ) → ArePassed p lines many found → length lines ≤ 64 → many < length lines → line ≡ line_at lines many → (HasStart p line → ⊥) → IsFirstWithout p lines line
+  passed_without many found line first few lt is none = record { few = few; place = many; within = lt; is_line = is; before = first.starts; none = none }
+
 -- one line, on which a statement starts or none does
 pub one_starts : (p : Program) (line : ℕ) → HasStart p line → StartAt p (line ∷ [])
 one_starts p line here = record {
@@ -104,37 +135,88 @@ one_without p line none = record {
   none = none;
 }
 
-module _ (text : Bytes) (asked : Asked) (p : Program) (built : HasGraph text p) where
+module _ (text input : Bytes) (asked : Asked) (p : Program) (built : HasGraph text asked p) where
   -- why lines have no criteria, of a text's program
-  pub fault_shows : (refusal : Refusal) → IsCriteriaFault p (lines_in asked) refusal → IsReason text asked refusal
+  pub fault_shows : (refusal : Refusal) → IsCriteriaFault p (lines_in asked) refusal → IsReason text asked input refusal
+  fault_shows (NoStart line) fault = (p, built, fault)
+  fault_shows TooMany fault = (p, built, fault)
+  fault_shows NoMemory fault = tt
   fault_shows Unreadable fault = absurd fault
   fault_shows TooLong fault = absurd fault
+  fault_shows NoInput fault = absurd fault
+  fault_shows LongInput fault = absurd fault
   fault_shows (Lex f) fault = absurd fault
   fault_shows (Parse f) fault = absurd fault
   fault_shows (Check f) fault = absurd fault
-  fault_shows (NoStart line) fault = (p, built, fault)
   fault_shows (Graph name) fault = absurd fault
-  fault_shows TooMany fault = (p, built, fault)
-  fault_shows NoMemory fault = tt
+  fault_shows (UndefinedAct at statement) fault = absurd fault
+  fault_shows MoreSteps fault = absurd fault
+
+  -- a statement starts on each of the lines
+  pub has_starts : StartAt p (lines_in asked) → HasStarts text asked p
+  has_starts start = record { built = built; few = start.few; starts = start.starts }
 
   -- what is made of it is what is asked of the text
-  pub made_written : (texts : List Bytes) → AreMade p asked texts → AreWritten text asked texts
-  made_written texts made = record { program = p; built = built; few = made.start.few; starts = made.start.starts; are = made.are }
+  pub made_written : (texts : List Bytes) → StartAt p (lines_in asked) → AreTextsFor p asked input texts → AreWritten text asked input texts
+  made_written texts start are = record { program = p; built = built; few = start.few; starts = start.starts; are = are }
 
 -- a line that the text shows to have no statement is one of those that were asked for
-pub reason_among : (text : Bytes) (asked : Asked) (refusal : Refusal) → IsReason text asked refusal → IsAmong (lines_in asked) refusal
-reason_among text asked Unreadable reason = tt
-reason_among text asked TooLong reason = tt
-reason_among text asked (Lex fault) reason = tt
-reason_among text asked (Parse fault) reason = tt
-reason_among text asked (Check fault) reason = tt
-reason_among text asked (NoStart line) (p, built, first) =
+pub reason_among : (text input : Bytes) (asked : Asked) (refusal : Refusal) → IsReason text asked input refusal → IsAmong asked refusal
+reason_among text input asked (NoStart line) (p, built, first) =
     (first.place, first.within, any_default (lines_in asked) first.place line 0 first.within ∙ sym first.is_line)
   where
     any_default : (xs : List ℕ) (k : ℕ) (d e : ℕ) → k < length xs → slice_index_or xs k d ≡ slice_index_or xs k e
     any_default [] k d e lt = absurd (omega (arith, lt))
     any_default (x ∷ xs) zero d e lt = refl
     any_default (x ∷ xs) (suc k) d e lt = any_default xs k d e (omega (arith, lt))
-reason_among text asked (Graph name) reason = tt
-reason_among text asked TooMany reason = tt
-reason_among text asked NoMemory reason = tt
+reason_among text input asked Unreadable reason = tt
+reason_among text input asked TooLong reason = tt
+reason_among text input asked NoInput reason = absurd reason
+reason_among text input asked LongInput reason = absurd reason
+reason_among text input asked (Lex fault) reason = tt
+reason_among text input asked (Parse fault) reason = tt
+reason_among text input asked (Check fault) reason = tt
+reason_among text input asked (Graph name) reason = tt
+reason_among text input asked TooMany reason = tt
+reason_among text input asked (UndefinedAct at statement) reason = tt
+reason_among text input asked MoreSteps reason = tt
+reason_among text input asked NoMemory reason = tt
+
+-- and it isn't about a file that couldn't be read
+pub reason_missing : (told : Told) (text input : Bytes) (asked : Asked) (refusal : Refusal) → IsReason text asked input refusal → IsMissing told asked refusal
+reason_missing told text input asked Unreadable reason = absurd reason
+reason_missing told text input asked TooLong reason = tt
+reason_missing told text input asked NoInput reason = absurd reason
+reason_missing told text input asked LongInput reason = tt
+reason_missing told text input asked (Lex fault) reason = tt
+reason_missing told text input asked (Parse fault) reason = tt
+reason_missing told text input asked (Check fault) reason = tt
+reason_missing told text input asked (NoStart line) reason = tt
+reason_missing told text input asked (Graph name) reason = tt
+reason_missing told text input asked TooMany reason = tt
+reason_missing told text input asked (UndefinedAct at statement) reason = tt
+reason_missing told text input asked MoreSteps reason = tt
+reason_missing told text input asked NoMemory reason = tt
+
+-- a reason in files that aren't too long is a cause
+module _ (told : Told) (asked : Asked) (f f' l l' : ℕ) (text input : Bytes) (came : Came told asked text input) where
+  in_files : (P : Bytes → Bytes → Type 0) → P text input → OfFiles told asked (λ t i. AreShort t i × P t i)
+  in_files P h = as_files told asked text input (λ t i. AreShort t i × P t i) came.text_is came.input_is (came.short, h)
+
+  pub reason_cause : (refusal : Refusal) → IsReason text asked input refusal → IsCause told asked f f' l l' refusal
+  reason_cause Unreadable reason = absurd reason
+  reason_cause TooLong reason = absurd reason
+  reason_cause NoInput reason = absurd reason
+  reason_cause LongInput reason = absurd reason
+  reason_cause (Lex fault) reason = in_files (λ t i. IsReason t asked i (Lex fault)) reason
+  reason_cause (Parse fault) reason = in_files (λ t i. IsReason t asked i (Parse fault)) reason
+  reason_cause (Check fault) reason = in_files (λ t i. IsReason t asked i (Check fault)) reason
+  reason_cause (NoStart line) reason = in_files (λ t i. IsReason t asked i (NoStart line)) reason
+  reason_cause (Graph name) reason = in_files (λ t i. IsReason t asked i (Graph name)) reason
+  reason_cause TooMany reason = in_files (λ t i. IsReason t asked i TooMany) reason
+  reason_cause (UndefinedAct at statement) reason = in_files (λ t i. IsReason t asked i (UndefinedAct at statement)) reason
+  reason_cause MoreSteps reason = in_files (λ t i. IsReason t asked i MoreSteps) reason
+  reason_cause NoMemory reason = tt
+
+  pub written_in_files : (texts : List Bytes) → AreWritten text asked input texts → OfFiles told asked (λ t i. AreShort t i × AreWritten t asked i texts)
+  written_in_files texts are = in_files (λ t i. AreWritten t asked i texts) are

@@ -1,8 +1,11 @@
 pub mod CriteriaLaws
 pub mod Files
 pub mod Lines
+pub mod Making
 pub mod Promised
 pub mod Puts
 pub mod ReaderLaws
+pub mod Reasons
 pub mod Slices
 pub mod Told
+pub mod UndefinedStarts

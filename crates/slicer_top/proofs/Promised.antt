@@ -1,12 +1,13 @@
 -- What a call has promised, by the way that it went.
-use Rattle.std.proofs.Common.{◌≡◌, ◌⊎◌, inl, inr, ℕ, List, length, ◌≤◌, refl, sym, ap, subst, ◌∙◌}
-use Rattle.std.specs.Prelude.{Option, None, Some, IfSome, unwrap_or, []}
-use Rattle.edge_io.specs.Contents.{Told, Lacks}
-use Rattle.edge_io.specs.Count.{Rose, one_more}
+use Rattle.std.proofs.Common.{◌≡◌, ◌⊎◌, inl, inr, ℕ, List, refl, sym, ap, subst, ◌∙◌}
+use Rattle.std.specs.Prelude.{Option, None, Some, IsSome, IfSome, unwrap_or, []}
+use Rattle.edge_io.specs.Contents.{Told, Lacks, HoldsMoreThan}
+use Rattle.edge_io.specs.Count.{Rose}
 use Rattle.edge_io.specs.Written.{Gains}
 use Rattle.c_language.specs.Words.{Bytes}
+use Rattle.c_tree.specs.declared.program.Program.{Program}
 use Rattle.call_words.specs.Grammar.{IsInGrammar}
-use Rattle.call_words.specs.Requests.{Asked, asked, asked_of, file_in, file_of, lines_in, lines_of}
+use Rattle.call_words.specs.Requests.{Asked, asked, asked_of}
 use Rattle.c_lex.specs.declared.fault.LexFault.TheVariants as lex
 use Rattle.c_parse.specs.declared.parse_fault.ParseFault.TheVariants as parse
 use Rattle.c_types.specs.declared.rule_fault.RuleFault.TheVariants as rule
@@ -14,23 +15,25 @@ use Rattle.slicer_top.specs.declared.refusal.Refusal.{Refusal}
 use Rattle.slicer_top.specs.declared.refusal.Refusal.TheVariants as refusal
 use Rattle.slicer_top.specs.declared.status.Status.{Status}
 use Rattle.slicer_top.specs.declared.status.Status.TheVariants as status
-use Rattle.slicer_top.specs.Files.{OfFile}
+use Rattle.slicer_top.specs.Files.{AreFetches, AreShort, IsNameOf, NamesText, OfFiles}
 use Rattle.slicer_top.specs.Lines as lines
 use Rattle.slicer_top.specs.Lines.{PutOrCutOff, Tells}
 use Rattle.slicer_top.specs.Promises.{Outcome, Promises}
-use Rattle.slicer_top.specs.Reports.{IsAmong, IsCause, IsReported, PutsLine, status_of, words_of}
+use Rattle.slicer_top.specs.Reports.{IsAmong, IsCause, IsMissing, IsReason, IsReported, PutsLine, status_of, words_of}
+use Rattle.slicer_top.specs.Runs.{RunEnds}
 use Rattle.slicer_top.specs.Seen.{ShelfSeen, SinkSeen, shelf_seen, sink_seen}
-use Rattle.slicer_top.specs.Slices.{AreWritten}
+use Rattle.slicer_top.specs.Slices.{AreWritten, HasStarts}
 use Rattle.slicer_top.specs.Statuses.{IsOrYields}
 use Rattle.slicer_top.specs.Writing.{Wrote}
-use Rattle.slicer_top.proofs.Files.{fault_or_reason, lacking_is, long_cause, longer_is, of_file, of_file_lacks, of_file_longer, of_file_map, read_cause, refused_for_memory, refused_without_fault}
+use Rattle.slicer_top.proofs.Files.{fault_or_reason, lacking_input_is, lacking_is, long_cause, long_rose, longer_input_is, longer_is, of_files, of_files_lacks, of_files_lacks_input, of_files_longer, of_files_longer_input, of_files_map, read_cause}
 use Rattle.slicer_top.proofs.Lines.{report_tells, told_tells}
-use Rattle.slicer_top.proofs.ReaderLaws.{above_lacks}
-use Rattle.slicer_top.proofs.Told.{ends, is_above, is_refused, limit_true, names_it, refused_true}
+use Rattle.slicer_top.proofs.ReaderLaws.{above_lacks, one_program}
+use Rattle.slicer_top.proofs.Reasons.{ended_more, ended_undefined, made_ends, more_status, refused_for_memory, refused_without_fault, run_reason, undefined_status}
+use Rattle.slicer_top.proofs.Told.{ends, ends_with, is_above, is_refused, limit_true, names_it, refused_true, steps_true, undefined_true}
 
 -- ---- kinds of statuses
 
--- before the file is fetched
+-- before a file is fetched
 abbrev IsEarly : Status → Type 0
 IsEarly status.Done = ⊥
 IsEarly status.Refused = ⊥
@@ -38,6 +41,8 @@ IsEarly status.Usage = Unit {0}
 IsEarly status.ReadFault = ⊥
 IsEarly status.WriteFault = Unit {0}
 IsEarly status.NoMemory = Unit {0}
+IsEarly status.Undefined = ⊥
+IsEarly status.Steps = ⊥
 IsEarly status.Limit = ⊥
 IsEarly status.TooLong = ⊥
 
@@ -49,6 +54,8 @@ IsLate status.Usage = ⊥
 IsLate status.ReadFault = ⊥
 IsLate status.WriteFault = Unit {0}
 IsLate status.NoMemory = ⊥
+IsLate status.Undefined = ⊥
+IsLate status.Steps = ⊥
 IsLate status.Limit = ⊥
 IsLate status.TooLong = ⊥
 
@@ -60,6 +67,8 @@ IsOwn status.Usage = ⊥
 IsOwn status.ReadFault = Unit {0}
 IsOwn status.WriteFault = ⊥
 IsOwn status.NoMemory = Unit {0}
+IsOwn status.Undefined = Unit {0}
+IsOwn status.Steps = Unit {0}
 IsOwn status.Limit = Unit {0}
 IsOwn status.TooLong = Unit {0}
 
@@ -86,17 +95,23 @@ module _ (words : List Bytes) (shelf : ShelfSeen) (out err : SinkSeen) (answer :
     unasked = λ nf. undone.shelf_stays;
     read_fault = λ e. absurd (subst IsEarly e is_early);
     lacking = λ g lacks. yields status.ReadFault g;
+    lacking_input = λ name g there is lacks. yields status.ReadFault g;
     too_long = λ e. absurd (subst IsEarly e is_early);
-    longer = λ e some. absurd (subst IsEarly e is_early);
+    longer = λ e. absurd (subst IsEarly e is_early);
     longer_file = λ g more. inl (yields status.TooLong g);
+    longer_input = λ name g there is more. inl (yields status.TooLong g);
     refused = λ e. absurd (subst IsEarly e is_early);
-    no_slice = λ text named below none. inl (inl (yields status.Refused named.in_grammar));
+    no_slice = λ text input named below none. inl (inl (yields status.Refused named.in_grammar));
     limits = λ e. absurd (subst IsEarly e is_early);
-    above = λ text name named above. inl (yields status.Limit named.in_grammar);
-    names_limit = λ text name named above e. absurd (subst IsEarly e is_early);
+    above = λ text input name named above. inl (yields status.Limit named.in_grammar);
+    names_limit = λ text input name named above e. absurd (subst IsEarly e is_early);
+    undefined = λ e. absurd (subst IsEarly e is_early);
+    undefined_act = λ text input p statement named starts act. inl (yields status.Undefined named.in_grammar);
+    steps = λ e. absurd (subst IsEarly e is_early);
+    more_steps = λ text input p named starts more. inl (yields status.Steps named.in_grammar);
     done = λ e. absurd (subst IsEarly e is_early);
-    complete = λ text named starts shelf_calm out_calm err_calm. inr (calm named.in_grammar err_calm);
-    faultless = λ text named starts never room takes.
+    complete = λ text input named starts shelf_calm out_calm err_calm. inr (calm named.in_grammar err_calm);
+    faultless = λ text input named starts never room takes.
         let free = taken named.in_grammar takes in
         record { ends = inr free.0; shelf_stays = undone.shelf_faults; out_stays = undone.out_faults; err_stays = free.1 };
     write_fault = λ e. inr (failed e);
@@ -111,11 +126,11 @@ module _ (words : List Bytes) (shelf : ShelfSeen) (out err : SinkSeen) (answer :
   usage_promised undone nf (inl put) = record {
     outcome = early undone (subst IsEarly (sym put.0) tt) (λ e. nf) (λ n. inl put.0) (λ wanted g. absurd (nf g)) (λ g. absurd (nf g)) (λ g. absurd (nf g))
         (λ e. absurd (let d : status.Usage ≡ status.WriteFault = sym put.0 ∙ e in cc));
-    tells = told_tells err.faults err.faults' err.written err.written' (file_of words) (lines_of words) _ _ answer lines.of_usage (inl put);
+    tells = told_tells err.faults err.faults' err.written err.written' (asked_of words) _ _ answer lines.of_usage (inl put);
   }
   usage_promised undone nf (inr cut) = record {
     outcome = early undone (subst IsEarly (sym cut.0) tt) (λ e. nf) (λ n. inr (inr (cut.0, cut.1.0))) (λ wanted g. absurd (nf g)) (λ g. absurd (nf g)) (λ g. absurd (nf g)) (λ e. cut.1.0);
-    tells = told_tells err.faults err.faults' err.written err.written' (file_of words) (lines_of words) _ _ answer lines.of_usage (inr cut);
+    tells = told_tells err.faults err.faults' err.written err.written' (asked_of words) _ _ answer lines.of_usage (inr cut);
   }
 
   pub memory_promised : IsUndone → PutsLine err.faults err.faults' err.written err.written' status.NoMemory lines.out_of_memory answer
@@ -123,12 +138,12 @@ module _ (words : List Bytes) (shelf : ShelfSeen) (out err : SinkSeen) (answer :
   memory_promised undone (inl put) taken = record {
     outcome = early undone (subst IsEarly (sym put.0) tt) (λ e. absurd (let d : status.NoMemory ≡ status.Usage = sym put.0 ∙ e in cc)) (λ n. inr (inl put.0)) (λ wanted g. inr (inl put.0))
         (λ g calm. put.0) (λ g. taken) (λ e. absurd (let d : status.NoMemory ≡ status.WriteFault = sym put.0 ∙ e in cc));
-    tells = told_tells err.faults err.faults' err.written err.written' (file_of words) (lines_of words) _ _ answer lines.of_memory (inl put);
+    tells = told_tells err.faults err.faults' err.written err.written' (asked_of words) _ _ answer lines.of_memory (inl put);
   }
   memory_promised undone (inr cut) taken = record {
     outcome = early undone (subst IsEarly (sym cut.0) tt) (λ e. absurd (let d : status.WriteFault ≡ status.Usage = sym cut.0 ∙ e in cc)) (λ n. inr (inr (cut.0, cut.1.0))) (λ wanted g. inr (inr (cut.0, cut.1.0)))
         (λ g calm. absurd (calm cut.1.0)) (λ g. taken) (λ e. cut.1.0);
-    tells = told_tells err.faults err.faults' err.written err.written' (file_of words) (lines_of words) _ _ answer lines.of_memory (inr cut);
+    tells = told_tells err.faults err.faults' err.written err.written' (asked_of words) _ _ answer lines.of_memory (inr cut);
   }
 
   -- ---- what is asked for was made
@@ -139,11 +154,19 @@ module _ (words : List Bytes) (shelf : ShelfSeen) (out err : SinkSeen) (answer :
     | inr front ↦ subst IsLate (sym front.is) tt
   ]
 
-  -- the texts that were made of the file's text, as the words ask
+  -- the texts that were made of the files, as the words ask
   abbrev AreMade : List Bytes → Type 0
-  AreMade texts = OfFile shelf.contents (file_of words) (λ text. (length text ≤ 1048576) × AreWritten text (asked_of words) texts)
+  AreMade texts = OfFiles shelf.contents (asked_of words) (λ text input. AreShort text input × AreWritten text (asked_of words) input texts)
 
-  written_outcome : (texts : List Bytes) → IsInGrammar words → AreMade texts → shelf.contents' ≡ shelf.contents → shelf.fetches' ≡ one_more shelf.fetches → (shelf.never_fails → shelf.faults' ≡ shelf.faults) → Wrote texts out err answer
+  written : (texts : List Bytes) (text input : Bytes) → AreMade texts → NamesText words shelf.contents text input → AreWritten text (asked_of words) input texts
+  written texts text input made named = (of_files shelf.contents (asked_of words) text input _ named.holds named.holds_input made).1
+
+  ended : (texts : List Bytes) (text input : Bytes) (p : Program) → AreMade texts → NamesText words shelf.contents text input → HasStarts text (asked_of words) p → RunEnds (asked_of words) p input
+  ended texts text input p made named starts =
+      let are = written texts text input made named in
+      subst (λ q. RunEnds (asked_of words) q input) (one_program text are.program p are.built.reads starts.built.reads) (made_ends (asked_of words) are.program input texts are.are)
+
+  written_outcome : (texts : List Bytes) → IsInGrammar words → AreMade texts → shelf.contents' ≡ shelf.contents → AreFetches (asked_of words) shelf.fetches shelf.fetches' → (shelf.never_fails → shelf.faults' ≡ shelf.faults) → Wrote texts out err answer
       → Outcome words shelf out err answer
   written_outcome texts g made contents once no_fault wrote =
       let is_late : IsLate answer = late texts wrote in
@@ -152,30 +175,32 @@ module _ (words : List Bytes) (shelf : ShelfSeen) (out err : SinkSeen) (answer :
         other_words = λ nf. absurd (nf g);
         unasked = λ nf. absurd (nf g);
         read_fault = λ e. absurd (subst IsLate e is_late);
-        lacking = λ _ lacks. absurd (of_file_lacks shelf.contents (file_of words) _ made lacks);
+        lacking = λ _ lacks. absurd (of_files_lacks shelf.contents (asked_of words) _ made lacks);
+        lacking_input = λ name _ there is lacks. absurd (of_files_lacks_input shelf.contents (asked_of words) name _ is made lacks);
         too_long = λ e. absurd (subst IsLate e is_late);
-        longer = λ e some. absurd (subst IsLate e is_late);
-        longer_file = λ _ more. absurd (of_file_longer shelf.contents (file_of words) 1048576 _ made more);
+        longer = λ e. absurd (subst IsLate e is_late);
+        longer_file = λ _ more. absurd (of_files_longer shelf.contents (asked_of words) _ made more);
+        longer_input = λ name _ there is more. absurd (of_files_longer_input shelf.contents (asked_of words) name _ is made more);
         refused = λ e. absurd (subst IsLate e is_late);
-        no_slice = λ text named below none.
-            let are = (of_file shelf.contents (file_of words) text _ named.holds made).1 in
-            absurd (none are.program are.built are.starts);
+        no_slice = λ text input named below none. let are = written texts text input made named in absurd (none are.program are.built are.starts);
         limits = λ e. absurd (subst IsLate e is_late);
-        above = λ text name named above.
-            let are = (of_file shelf.contents (file_of words) text _ named.holds made).1 in
-            absurd (above_lacks text (asked_of words) name above are.program are.built are.few);
-        names_limit = λ text name named above e. absurd (subst IsLate e is_late);
+        above = λ text input name named above.
+            let are = written texts text input made named in absurd (above_lacks text (asked_of words) name above are.program are.built are.few);
+        names_limit = λ text input name named above e. absurd (subst IsLate e is_late);
+        undefined = λ e. absurd (subst IsLate e is_late);
+        undefined_act = λ text input p statement named starts act. absurd (ended_undefined (asked_of words) p input statement (ended texts text input p made named starts) act);
+        steps = λ e. absurd (subst IsLate e is_late);
+        more_steps = λ text input p named starts more. absurd (ended_more (asked_of words) p input (ended texts text input p made named starts) more);
         done = λ e. elim wrote.ends [
-          | inl all ↦ of_file_map shelf.contents (file_of words) _ _ (λ text found. (texts, found.1, all.gained)) made
+          | inl all ↦ of_files_map shelf.contents (asked_of words) _ _ (λ text input found. (texts, found.1, all.gained)) made
           | inr front ↦ absurd (let d : status.WriteFault ≡ status.Done = sym front.is ∙ e in cc)
         ];
-        complete = λ text named starts shelf_calm out_calm err_calm. elim wrote.ends [
+        complete = λ text input named starts shelf_calm out_calm err_calm. elim wrote.ends [
           | inl all ↦ inl all.is
           | inr front ↦ absurd (out_calm front.rose)
         ];
-        faultless = λ text named starts never room takes.
-            let are = (of_file shelf.contents (file_of words) text _ named.holds made).1 in
-            let calm = wrote.taken (room texts are) in
+        faultless = λ text input named starts never room takes.
+            let calm = wrote.taken (room texts (written texts text input made named)) in
             record { ends = inl calm.is; shelf_stays = no_fault never; out_stays = calm.out_stays; err_stays = calm.err_stays };
         write_fault = λ e. elim wrote.ends [
           | inl all ↦ absurd (let d : status.Done ≡ status.WriteFault = sym all.is ∙ e in cc)
@@ -187,7 +212,7 @@ module _ (words : List Bytes) (shelf : ShelfSeen) (out err : SinkSeen) (answer :
         ];
         cut = λ e. elim wrote.ends [
           | inl all ↦ absurd (let d : status.Done ≡ status.WriteFault = sym all.is ∙ e in cc)
-          | inr front ↦ inr (front.rose, of_file_map shelf.contents (file_of words) _ _ (λ text found. (texts, found.1, front.front)) made, front.told)
+          | inr front ↦ inr (front.rose, of_files_map shelf.contents (asked_of words) _ _ (λ text input found. (texts, found.1, front.front)) made, front.told)
         ];
         silent = λ e. elim wrote.ends [
           | inl all ↦ all.silent
@@ -197,17 +222,17 @@ module _ (words : List Bytes) (shelf : ShelfSeen) (out err : SinkSeen) (answer :
         fetched = inr once;
       }
 
-  fault_told : PutOrCutOff err.faults err.faults' err.written err.written' lines.cannot_write → Tells err.faults err.faults' err.written err.written' (file_of words) (lines_of words) status.WriteFault
+  fault_told : PutOrCutOff err.faults err.faults' err.written err.written' lines.cannot_write → Tells err.faults err.faults' err.written err.written' (asked_of words) status.WriteFault
   fault_told (inl gained) = inl gained
   fault_told (inr cut) = inr (status.WriteFault, lines.cannot_write, lines.of_out, cut)
 
-  pub written_promised : (texts : List Bytes) → IsInGrammar words → AreMade texts → shelf.contents' ≡ shelf.contents → shelf.fetches' ≡ one_more shelf.fetches → (shelf.never_fails → shelf.faults' ≡ shelf.faults) → Wrote texts out err answer
+  pub written_promised : (texts : List Bytes) → IsInGrammar words → AreMade texts → shelf.contents' ≡ shelf.contents → AreFetches (asked_of words) shelf.fetches shelf.fetches' → (shelf.never_fails → shelf.faults' ≡ shelf.faults) → Wrote texts out err answer
       → Promises words shelf out err answer
   written_promised texts g made contents once no_fault wrote = record {
     outcome = written_outcome texts g made contents once no_fault wrote;
     tells = elim wrote.ends [
-      | inl all ↦ subst (Tells err.faults err.faults' err.written err.written' (file_of words) (lines_of words)) (sym all.is) all.untold
-      | inr front ↦ subst (Tells err.faults err.faults' err.written err.written' (file_of words) (lines_of words)) (sym front.is) (fault_told front.told)
+      | inl all ↦ subst (Tells err.faults err.faults' err.written err.written' (asked_of words)) (sym all.is) all.untold
+      | inr front ↦ subst (Tells err.faults err.faults' err.written err.written' (asked_of words)) (sym front.is) (fault_told front.told)
     ];
   }
 
@@ -216,6 +241,8 @@ module _ (words : List Bytes) (shelf : ShelfSeen) (out err : SinkSeen) (answer :
   own : (r : Refusal) → IsOwn (status_of r)
   own refusal.Unreadable = tt
   own refusal.TooLong = tt
+  own refusal.NoInput = tt
+  own refusal.LongInput = tt
   own (refusal.Lex (lex.BadByte n)) = tt
   own (refusal.Lex (lex.BadNumber n)) = tt
   own (refusal.Lex (lex.OpenComment n)) = tt
@@ -230,11 +257,13 @@ module _ (words : List Bytes) (shelf : ShelfSeen) (out err : SinkSeen) (answer :
   own (refusal.Graph n) = tt
   own refusal.TooMany = tt
   own (refusal.NoStart n) = tt
+  own (refusal.UndefinedAct n m) = tt
+  own refusal.MoreSteps = tt
   own refusal.NoMemory = tt
 
   -- the status is the refusal's, or one to which each answer yields
   abbrev EndsAs : Refusal → Type 0
-  EndsAs r = ((answer ≡ status_of r) × Gains err.written err.written' (words_of (file_of words) r)) ⊎ (answer ≡ status.NoMemory) ⊎ ((answer ≡ status.WriteFault) × Rose err.faults err.faults')
+  EndsAs r = ((answer ≡ status_of r) × Gains err.written err.written' (words_of (asked_of words) r)) ⊎ (answer ≡ status.NoMemory) ⊎ ((answer ≡ status.WriteFault) × Rose err.faults err.faults')
 
   -- an answer that no refusal has, but for want of memory and a failed put
   not_own : (r : Refusal) → EndsAs r → IsOwn answer ⊎ ((answer ≡ status.WriteFault) × Rose err.faults err.faults')
@@ -254,9 +283,12 @@ module _ (words : List Bytes) (shelf : ShelfSeen) (out err : SinkSeen) (answer :
     | inr cut ↦ absurd (no_fault (sym e ∙ cut.0))
   ]
 
-  -- where the answer is a status of a refusal, it is that of this one
-  same_status : (r : Refusal) (wanted : Status) → EndsAs r → (wanted ≡ status.NoMemory → ⊥) → (wanted ≡ status.WriteFault → ⊥) → answer ≡ wanted → status_of r ≡ wanted
-  same_status r wanted (inl put) no_memory no_fault e = sym put.0 ∙ e
+  abbrev Line : Refusal → Type 0
+  Line r = Gains err.written err.written' (words_of (asked_of words) r)
+
+  -- where the answer is a status of a refusal, it is that of this one, and its line is
+  same_status : (r : Refusal) (wanted : Status) → EndsAs r → (wanted ≡ status.NoMemory → ⊥) → (wanted ≡ status.WriteFault → ⊥) → answer ≡ wanted → (status_of r ≡ wanted) × Line r
+  same_status r wanted (inl put) no_memory no_fault e = (sym put.0 ∙ e, put.1)
   same_status r wanted (inr (inl memory)) no_memory no_fault e = absurd (no_memory (sym e ∙ memory))
   same_status r wanted (inr (inr cut)) no_memory no_fault e = absurd (no_fault (sym e ∙ cut.0))
 
@@ -267,38 +299,70 @@ module _ (words : List Bytes) (shelf : ShelfSeen) (out err : SinkSeen) (answer :
   ]
 
   abbrev Cause : Refusal → Type 0
-  Cause r = IsCause shelf.contents (file_of words) (asked_of words) shelf.faults shelf.faults' shelf.long_files shelf.long_files' r
+  Cause r = IsCause shelf.contents (asked_of words) shelf.faults shelf.faults' shelf.long_files shelf.long_files' r
 
   abbrev Reported : Refusal → Type 0
-  Reported r = IsReported err.faults err.faults' err.written err.written' (file_of words) r answer
+  Reported r = IsReported err.faults err.faults' err.written err.written' (asked_of words) r answer
 
-  refused_outcome : (r : Refusal) → IsInGrammar words → Cause r → Reported r → shelf.contents' ≡ shelf.contents → shelf.fetches' ≡ one_more shelf.fetches → out.stays → out.faults' ≡ out.faults
-      → (shelf.never_fails → shelf.faults' ≡ shelf.faults) → (shelf.never_fails → r ≡ refusal.Unreadable → Lacks shelf.contents (file_of words))
+  -- the line names the file
+  read : (r : Refusal) → (status_of r ≡ status.ReadFault) × Line r → Cause r
+      → (name : Bytes) × IsNameOf shelf.contents (asked_of words) name × (Rose shelf.faults shelf.faults' ⊎ Lacks shelf.contents name) × Gains err.written err.written' (lines.cannot_read name)
+  read r told cause =
+      let named = read_cause shelf.contents (asked_of words) _ _ _ _ r told.0 cause in
+      (named.0, named.1, named.2, subst (Gains err.written err.written') named.3 told.1)
+
+  long : (r : Refusal) → (status_of r ≡ status.TooLong) × Line r → Cause r
+      → (name : Bytes) × IsNameOf shelf.contents (asked_of words) name × (IsSome shelf.contents → HoldsMoreThan shelf.contents name 1048576) × Gains err.written err.written' (lines.too_long name)
+  long r told cause =
+      let named = long_cause shelf.contents (asked_of words) _ _ _ _ r told.0 cause in
+      (named.0, named.1, named.2, subst (Gains err.written err.written') named.3 told.1)
+
+  -- a fault of the shelf, or a reason in the text
+  abbrev FaultOr : Refusal → Type 0 → Type 0
+  FaultOr r A = ((status_of r ≡ status.ReadFault) × Rose shelf.faults shelf.faults') ⊎ A
+
+  shows : (text input : Bytes) (r : Refusal) → Cause r → NamesText words shelf.contents text input → FaultOr r (IsReason text (asked_of words) input r)
+  shows text input r cause named = fault_or_reason shelf.contents (asked_of words) _ _ _ _ text input named.holds named.no_longer named.holds_input r cause
+
+  with_reason : {A B : Type 0} (r : Refusal) → (A → B) → FaultOr r A → FaultOr r B
+  with_reason r f (inl fault) = inl fault
+  with_reason r f (inr reason) = inr (f reason)
+
+  refused_outcome : (r : Refusal) → IsInGrammar words → Cause r → Reported r → shelf.contents' ≡ shelf.contents → AreFetches (asked_of words) shelf.fetches shelf.fetches' → out.stays → out.faults' ≡ out.faults
+      → (shelf.never_fails → shelf.faults' ≡ shelf.faults) → (shelf.never_fails → IsMissing shelf.contents (asked_of words) r)
       → (r ≡ refusal.NoMemory → err.takes 14 → (answer ≡ status.NoMemory) × (err.faults' ≡ err.faults)) → Outcome words shelf out err answer
   refused_outcome r g cause reported contents once out_stays out_faults no_fault missing taken =
-      let ending : EndsAs r = ends (file_of words) (asked_of words) err.faults err.faults' shelf.faults shelf.faults' err.written err.written' r answer reported in
+      let a = asked_of words in
+      let ending : EndsAs r = ends (asked_of words) err.faults err.faults' shelf.faults shelf.faults' err.written err.written' r answer reported in
       record {
         usage = no_own r status.Usage ending (λ is. is) (λ d. absurd cc);
         other_words = λ nf. absurd (nf g);
         unasked = λ nf. absurd (nf g);
-        read_fault = λ e. read_cause shelf.contents (file_of words) (asked_of words) _ _ _ _ r (same_status r status.ReadFault ending (λ d. absurd cc) (λ d. absurd cc) e) cause;
-        lacking = λ _ lacks. yields_for r status.ReadFault ending (lacking_is shelf.contents (file_of words) (asked_of words) _ _ _ _ r cause lacks);
-        too_long = λ e. (long_cause shelf.contents (file_of words) (asked_of words) _ _ _ _ r (same_status r status.TooLong ending (λ d. absurd cc) (λ d. absurd cc) e) cause).0;
-        longer = λ e. (long_cause shelf.contents (file_of words) (asked_of words) _ _ _ _ r (same_status r status.TooLong ending (λ d. absurd cc) (λ d. absurd cc) e) cause).1;
-        longer_file = λ _ more. longer r ending (longer_is shelf.contents (file_of words) (asked_of words) _ _ _ _ r cause more);
-        refused = λ e. refused_true shelf.contents (file_of words) (asked_of words) _ _ _ _ _ _ _ _ r answer cause reported e;
-        no_slice = λ text named below none.
-            is_refused (file_of words) (asked_of words) _ _ _ _ _ _ text r answer below (fault_or_reason shelf.contents (file_of words) (asked_of words) _ _ _ _ text r named.holds named.no_longer cause) reported;
-        limits = λ e. limit_true shelf.contents (file_of words) (asked_of words) _ _ _ _ _ _ _ _ r answer cause reported e;
-        above = λ text name named above.
-            is_above (file_of words) (asked_of words) _ _ _ _ _ _ text name r answer above (fault_or_reason shelf.contents (file_of words) (asked_of words) _ _ _ _ text r named.holds named.no_longer cause) reported;
-        names_limit = λ text name named above e.
-            names_it (file_of words) (asked_of words) _ _ shelf.faults shelf.faults' _ _ text name r answer above (fault_or_reason shelf.contents (file_of words) (asked_of words) _ _ _ _ text r named.holds named.no_longer cause) reported e;
+        read_fault = λ e. read r (same_status r status.ReadFault ending (λ d. absurd cc) (λ d. absurd cc) e) cause;
+        lacking = λ _ lacks. yields_for r status.ReadFault ending (lacking_is shelf.contents a _ _ _ _ r cause lacks);
+        lacking_input = λ name _ there is lacks. yields_for r status.ReadFault ending (lacking_input_is shelf.contents a _ _ _ _ name is there r cause lacks);
+        too_long = λ e. long_rose shelf.contents a _ _ _ _ r (same_status r status.TooLong ending (λ d. absurd cc) (λ d. absurd cc) e).0 cause;
+        longer = λ e. long r (same_status r status.TooLong ending (λ d. absurd cc) (λ d. absurd cc) e) cause;
+        longer_file = λ _ more. longer r ending (longer_is shelf.contents a _ _ _ _ r cause more);
+        longer_input = λ name _ there is more. longer r ending (longer_input_is shelf.contents a _ _ _ _ name is there r cause more);
+        refused = λ e. refused_true shelf.contents a _ _ _ _ _ _ _ _ r answer cause reported e;
+        no_slice = λ text input named below none. is_refused a _ _ _ _ _ _ text input r answer below none (shows text input r cause named) reported;
+        limits = λ e. limit_true shelf.contents a _ _ _ _ _ _ _ _ r answer cause reported e;
+        above = λ text input name named above. is_above a _ _ _ _ _ _ text input name r answer above (shows text input r cause named) reported;
+        names_limit = λ text input name named above e. names_it a _ _ shelf.faults shelf.faults' _ _ text input name r answer above (shows text input r cause named) reported e;
+        undefined = λ e. undefined_true shelf.contents a _ _ _ _ _ _ _ _ r answer cause reported e;
+        undefined_act = λ text input p statement named starts act.
+            ends_with a _ _ _ _ _ _ status.Undefined answer r
+            (with_reason r (λ reason. undefined_status a p input statement act r (run_reason text input a p r starts reason)) (shows text input r cause named)) reported;
+        steps = λ e. steps_true shelf.contents a _ _ _ _ _ _ _ _ r answer cause reported e;
+        more_steps = λ text input p named starts more.
+            ends_with a _ _ _ _ _ _ status.Steps answer r
+            (with_reason r (λ reason. more_status a p input more r (run_reason text input a p r starts reason)) (shows text input r cause named)) reported;
         done = no_own r status.Done ending (λ is. is) (λ d. absurd cc);
-        complete = λ text named starts shelf_calm out_calm err_calm.
-            inr (refused_for_memory shelf.contents (file_of words) text (asked_of words) _ _ _ _ r _ _ _ _ answer named.holds named.no_longer starts shelf_calm err_calm cause reported);
-        faultless = λ text named starts never room takes.
-            let memory = refused_without_fault shelf.contents (file_of words) text (asked_of words) _ _ _ _ r named.holds named.no_longer starts (missing never) cause in
+        complete = λ text input named starts shelf_calm out_calm err_calm.
+            inr (refused_for_memory shelf.contents a text input _ _ _ _ r named.holds named.no_longer named.holds_input starts cause _ _ _ _ answer shelf_calm err_calm reported);
+        faultless = λ text input named starts never room takes.
+            let memory = refused_without_fault shelf.contents a text input _ _ _ _ r named.holds named.no_longer named.holds_input starts cause (missing never) in
             let told = taken memory takes in
             record { ends = inr told.0; shelf_stays = no_fault never; out_stays = out_faults; err_stays = told.1 };
         write_fault = λ e. inr (rose_of r ending e);
@@ -317,12 +381,12 @@ module _ (words : List Bytes) (shelf : ShelfSeen) (out err : SinkSeen) (answer :
       longer r (inr (inl memory)) (inr (inr fault)) = inl (inr (inl memory))
       longer r (inr (inr cut)) (inr (inr fault)) = inl (inr (inr cut))
 
-  pub refused_promised : (r : Refusal) → IsInGrammar words → Cause r → IsAmong (lines_of words) r → Reported r → shelf.contents' ≡ shelf.contents → shelf.fetches' ≡ one_more shelf.fetches → out.stays → out.faults' ≡ out.faults
-      → (shelf.never_fails → shelf.faults' ≡ shelf.faults) → (shelf.never_fails → r ≡ refusal.Unreadable → Lacks shelf.contents (file_of words))
+  pub refused_promised : (r : Refusal) → IsInGrammar words → Cause r → IsAmong (asked_of words) r → Reported r → shelf.contents' ≡ shelf.contents → AreFetches (asked_of words) shelf.fetches shelf.fetches' → out.stays → out.faults' ≡ out.faults
+      → (shelf.never_fails → shelf.faults' ≡ shelf.faults) → (shelf.never_fails → IsMissing shelf.contents (asked_of words) r)
       → (r ≡ refusal.NoMemory → err.takes 14 → (answer ≡ status.NoMemory) × (err.faults' ≡ err.faults)) → Promises words shelf out err answer
   refused_promised r g cause among reported contents once out_stays out_faults no_fault missing taken = record {
     outcome = refused_outcome r g cause reported contents once out_stays out_faults no_fault missing taken;
-    tells = report_tells err.faults err.faults' err.written err.written' (file_of words) (lines_of words) r answer among reported;
+    tells = report_tells err.faults err.faults' err.written err.written' (asked_of words) r answer among reported;
   }
 
 -- ---- a call of the program
@@ -347,20 +411,20 @@ pub asked_is : (words : List Bytes) (a : Asked) → asked words ≡ Some a → a
 asked_is words a e = sym (ap (λ o. unwrap_or o (Asked.slice [] [] 0)) e)
 
 module _ (words : List Bytes) (shelf : ShelfSeen) (out err : SinkSeen) (answer : Status) (a : Asked) (g : IsInGrammar words) (is : a ≡ asked_of words) where
-  pub written_for : (made put : List Bytes) → put ≡ made → OfFile shelf.contents (file_in a) (λ text. (length text ≤ 1048576) × AreWritten text a made)
-      → shelf.contents' ≡ shelf.contents → shelf.fetches' ≡ one_more shelf.fetches → (shelf.never_fails → shelf.faults' ≡ shelf.faults) → Wrote put out err answer → Promises words shelf out err answer
+  pub written_for : (made put : List Bytes) → put ≡ made → OfFiles shelf.contents a (λ text input. AreShort text input × AreWritten text a input made)
+      → shelf.contents' ≡ shelf.contents → AreFetches a shelf.fetches shelf.fetches' → (shelf.never_fails → shelf.faults' ≡ shelf.faults) → Wrote put out err answer → Promises words shelf out err answer
   written_for made put same of contents once no_fault wrote =
       written_promised words shelf out err answer made g
-      (subst (λ b. OfFile shelf.contents (file_in b) (λ text. (length text ≤ 1048576) × AreWritten text b made)) is of)
-      contents once no_fault (subst (λ ts. Wrote ts out err answer) same wrote)
+      (subst (λ b. OfFiles shelf.contents b (λ text input. AreShort text input × AreWritten text b input made)) is of)
+      contents (subst (λ b. AreFetches b shelf.fetches shelf.fetches') is once) no_fault (subst (λ ts. Wrote ts out err answer) same wrote)
 
-  pub refused_for : (r : Refusal) (file : Bytes) → file ≡ file_in a → IsCause shelf.contents (file_in a) a shelf.faults shelf.faults' shelf.long_files shelf.long_files' r → IsAmong (lines_in a) r
-      → IsReported err.faults err.faults' err.written err.written' file r answer → shelf.contents' ≡ shelf.contents → shelf.fetches' ≡ one_more shelf.fetches → out.stays → out.faults' ≡ out.faults
-      → (shelf.never_fails → shelf.faults' ≡ shelf.faults) → (shelf.never_fails → r ≡ refusal.Unreadable → Lacks shelf.contents (file_in a))
+  pub refused_for : (r : Refusal) → IsCause shelf.contents a shelf.faults shelf.faults' shelf.long_files shelf.long_files' r → IsAmong a r
+      → IsReported err.faults err.faults' err.written err.written' a r answer → shelf.contents' ≡ shelf.contents → AreFetches a shelf.fetches shelf.fetches' → out.stays → out.faults' ≡ out.faults
+      → (shelf.never_fails → shelf.faults' ≡ shelf.faults) → (shelf.never_fails → IsMissing shelf.contents a r)
       → (r ≡ refusal.NoMemory → err.takes 14 → (answer ≡ status.NoMemory) × (err.faults' ≡ err.faults)) → Promises words shelf out err answer
-  refused_for r file is_file cause among reported contents once out_stays out_faults no_fault missing taken =
+  refused_for r cause among reported contents once out_stays out_faults no_fault missing taken =
       refused_promised words shelf out err answer r g
-      (subst (λ b. IsCause shelf.contents (file_in b) b shelf.faults shelf.faults' shelf.long_files shelf.long_files' r) is cause)
-      (subst (λ b. IsAmong (lines_in b) r) is among)
-      (subst (λ n. IsReported err.faults err.faults' err.written err.written' n r answer) (is_file ∙ ap file_in is) reported)
-      contents once out_stays out_faults no_fault (λ never unreadable. subst (λ b. Lacks shelf.contents (file_in b)) is (missing never unreadable)) taken
+      (subst (λ b. IsCause shelf.contents b shelf.faults shelf.faults' shelf.long_files shelf.long_files' r) is cause)
+      (subst (λ b. IsAmong b r) is among)
+      (subst (λ b. IsReported err.faults err.faults' err.written err.written' b r answer) is reported)
+      contents (subst (λ b. AreFetches b shelf.fetches shelf.fetches') is once) out_stays out_faults no_fault (λ never. subst (λ b. IsMissing shelf.contents b r) is (missing never)) taken

@@ -1,7 +1,7 @@
 -- A text has one tree and one program, and what is answered for it is fixed.
 --
 -- A cause that exists for some program or tree is turned into c_reader's `IsAnswer` (`answered`), whose laws tell of a given one.
-use Rattle.std.proofs.Common.{◌≡◌, length, ◌≤◌, ◌<◌, Err, Option, Some, sym, ap, subst, ◌∙◌, arith}
+use Rattle.std.proofs.Common.{◌≡◌, length, ◌≤◌, ◌<◌, Err, Option, Some, refl, sym, ap, subst, ◌∙◌, arith}
 use Rattle.c_tree.specs.declared.limits.LimitName.{LimitName}
 use Rattle.c_tree.specs.declared.limits.LimitName.TheVariants as limit
 use Rattle.c_tree.specs.declared.program.Program.{Program}
@@ -29,7 +29,15 @@ use Rattle.c_reader.proofs.ReadLaws as laws
 use Rattle.c_reader.proofs.ReadLaws.{tree_of_program}
 use Rattle.slice_engine.specs.GraphLimits.{IsAboveGraphLimit, locations, vertices, words}
 use Rattle.slicer_top.specs.Limits.{IsAboveLimit}
-use Rattle.slicer_top.specs.Slices.{HasGraph}
+use Rattle.slicer_top.specs.Slices.{HasGraph, IsAboveFor}
+
+-- what is above for something that is asked is above in the graph
+pub above_graph : (asked : Asked) (p : Program) (name : LimitName) → IsAboveFor asked p name → IsAboveGraphLimit p name
+above_graph (Asked.slice file lines workers) p name above = above
+above_graph (Asked.trace file lines input steps) p name above = absurd above
+above_graph (Asked.run file input steps) p name above = absurd above
+above_graph (Asked.graph file workers) p name above = above
+above_graph (Asked.members file line workers) p name above = above
 
 module _ (text : Bytes) where
   -- the tokens of a text are those of its tree
@@ -47,6 +55,11 @@ module _ (text : Bytes) where
   pub one_program : (p q : Program) → ReadsProgram text p → ReadsProgram text q → p ≡ q
   one_program p q h k =
       same_program k.raw p q (subst (λ raw. programs.HasProgram raw p) (one_text_tree h.raw k.raw (tree_of_program text h) (tree_of_program text k)) h.accepted.has) k.accepted.has
+
+  -- and that is well formed
+  pub well_formed : (p : Program) → ReadsProgram text p → programs.IsWellFormed p
+  well_formed p has =
+      record { raw = has.raw; same = p; tree = record { tokens = has.accepted.tokens; is = has.accepted.tree }; has = has.accepted.has; within = has.within; but_lines = refl }
 
   -- a refusal that the text shows is one that is answered for its tokens and its tree
   answered : (r : ReadRefusal) → IsRight text (Err r) → IsAnswer text (Err r)
@@ -115,15 +128,15 @@ module _ (text : Bytes) where
         let wide = ap object_cells e in
         let narrow = has.within.cells in
         omega (arith, wide, narrow, many)
-    tree_lacks name of (IsAboveLimit.graph {p = q} built many) p has = of_graph_alone q name many of
+    tree_lacks name of (IsAboveLimit.graph {p = q} built many) p has = of_graph_alone q name (above_graph asked q name many) of
     tree_lacks name of (IsAboveLimit.criteria many) p has = absurd of
 
-    pub above_lacks : (name : LimitName) → IsAboveLimit text asked name → (p : Program) → HasGraph text p → length (lines_in asked) ≤ 64 → ⊥
+    pub above_lacks : (name : LimitName) → IsAboveLimit text asked name → (p : Program) → HasGraph text asked p → length (lines_in asked) ≤ 64 → ⊥
     above_lacks name (IsAboveLimit.nesting tree many) p has few = tree_lacks limit.Nesting tt (IsAboveLimit.nesting tree many) p has.reads
     above_lacks name (IsAboveLimit.length tree low made many) p has few = tree_lacks limit.ArrayLength tt (IsAboveLimit.length tree low made many) p has.reads
     above_lacks name (IsAboveLimit.cells tree low made short many) p has few = tree_lacks limit.ObjectCells tt (IsAboveLimit.cells tree low made short many) p has.reads
     above_lacks name (IsAboveLimit.graph {p = q} built many) p has few =
-        has.within name (subst (λ r. IsAboveGraphLimit r name) (one_program q p built has.reads) many)
+        has.within name (subst (λ r. IsAboveFor asked r name) (one_program q p built has.reads) many)
     above_lacks name (IsAboveLimit.criteria (q, built, many)) p has few = absurd (omega (arith, many, few))
 
     above_of : (raw : RawProgram) (name : LimitName) → ReadsTree text raw → program_nesting raw ≤ 100 → IsAbove raw name → IsAboveLimit text asked name

@@ -20,21 +20,20 @@ use Rattle.c_reader.specs.Reading.{ReadsTree, ReadsProgram}
 use Rattle.c_reader.specs.Refusals.{HasParseFault, IsNesting}
 use Rattle.c_reader.specs.declared.refusal.ReadRefusal.TheVariants as read
 use Rattle.c_tree.specs.declared.program.Program.{Program}
-use Rattle.slice_engine.specs.GraphLimits.{IsAboveGraphLimit}
 use Rattle.slice_engine.proofs.GraphQuantities.{one_graph_limit}
 use Rattle.slicer_top.specs.declared.refusal.Refusal.{Refusal}
-use Rattle.slicer_top.specs.declared.refusal.Refusal.TheVariants.{Unreadable, TooLong, Lex, Parse, Check, NoStart, Graph, TooMany, NoMemory}
+use Rattle.slicer_top.specs.declared.refusal.Refusal.TheVariants.{Unreadable, TooLong, NoInput, LongInput, Lex, Parse, Check, NoStart, Graph, TooMany, UndefinedAct, MoreSteps, NoMemory}
 use Rattle.slicer_top.specs.declared.status.Status.{Status}
 use Rattle.slicer_top.specs.declared.status.Status.TheVariants as status
-use Rattle.slicer_top.specs.Files.{OfFile}
+use Rattle.slicer_top.specs.Files.{OfFiles}
 use Rattle.slicer_top.specs.Limits.{IsAboveLimit, IsBelowLimits, IsDeep}
 use Rattle.slicer_top.specs.Lines as lines
 use Rattle.slicer_top.specs.Reports.{IsReason, IsShown, IsCause, IsReported, status_of, words_of}
-use Rattle.slicer_top.specs.Slices.{AsksTooMany}
+use Rattle.slicer_top.specs.Slices.{AsksTooMany, IsAboveFor, StartsNone}
 use Rattle.slicer_top.specs.Statuses.{IsOrYieldsToFault}
 use Rattle.slicer_top.specs.Truths.{IsTrueOf, TellsTruth}
-use Rattle.slicer_top.proofs.Files.{of_file_map}
-use Rattle.slicer_top.proofs.ReaderLaws.{IsOfTree, grammar_of, one_program, only_memory, only_nesting, only_check, tree_lacks, above_is, limit_is}
+use Rattle.slicer_top.proofs.Files.{of_files_map}
+use Rattle.slicer_top.proofs.ReaderLaws.{IsOfTree, above_graph, grammar_of, one_program, only_memory, only_nesting, only_check, tree_lacks, above_is, limit_is}
 
 -- ---- what is told is true
 
@@ -46,18 +45,22 @@ IsOfText status.Usage = ⊥
 IsOfText status.ReadFault = ⊥
 IsOfText status.WriteFault = ⊥
 IsOfText status.NoMemory = ⊥
+IsOfText status.Undefined = Unit {0}
+IsOfText status.Steps = Unit {0}
 IsOfText status.Limit = Unit {0}
 IsOfText status.TooLong = ⊥
 
-true_limit : (text : Bytes) (asked : Asked) (name : LimitName) → IsAboveLimit text asked name → (raw : RawProgram) → IsAbove raw name → IsTrueOf text asked status.Limit (lines.limit name)
-true_limit text asked name above raw (IsAbove.lengths made many) = IsTrueOf.length above
-true_limit text asked name above raw (IsAbove.cells made short many) = IsTrueOf.cells above
+true_limit : (text : Bytes) (asked : Asked) (input : Bytes) (name : LimitName) → IsAboveLimit text asked name → (raw : RawProgram) → IsAbove raw name → IsTrueOf text asked input status.Limit (lines.limit name)
+true_limit text asked input name above raw (IsAbove.lengths made many) = IsTrueOf.length above
+true_limit text asked input name above raw (IsAbove.cells made short many) = IsTrueOf.cells above
 
-module _ (file text : Bytes) (at : Asked) where
+module _ (text input : Bytes) (at : Asked) where
   -- the line of a refusal that the text shows is true of it
-  is_true : (refusal : Refusal) → IsOfText (status_of refusal) → IsReason text at refusal → IsTrueOf text at (status_of refusal) (words_of file refusal)
+  is_true : (refusal : Refusal) → IsOfText (status_of refusal) → IsReason text at input refusal → IsTrueOf text at input (status_of refusal) (words_of at refusal)
   is_true Unreadable of reason = absurd of
   is_true TooLong of reason = absurd of
+  is_true NoInput of reason = absurd of
+  is_true LongInput of reason = absurd of
   is_true (Lex (lex.BadByte l)) of reason = IsTrueOf.bad_byte l reason
   is_true (Lex (lex.BadNumber l)) of reason = IsTrueOf.bad_number l reason
   is_true (Lex (lex.OpenComment l)) of reason = IsTrueOf.open_comment l reason
@@ -68,44 +71,62 @@ module _ (file text : Bytes) (at : Asked) where
       IsTrueOf.deep (record { tokens = reason.tokens; are = reason.are; many = reason.shows.0; above = reason.shows.1 })
   is_true (Parse parse.NoMemory) of reason = absurd of
   is_true (Check (rule.Rule number l)) of reason = IsTrueOf.rule number l reason
-  is_true (Check (rule.Limit name)) of reason = true_limit text at name (limit_is text at name reason) reason.raw reason.shows
+  is_true (Check (rule.Limit name)) of reason = true_limit text at input name (limit_is text at name reason) reason.raw reason.shows
   is_true (Check rule.NoMemory) of reason = absurd of
   is_true (NoStart line) of reason = IsTrueOf.no_start line reason
   is_true (Graph name) of (p, built, above) = IsTrueOf.graph name built above
   is_true TooMany of reason = IsTrueOf.criteria (IsAboveLimit.criteria reason)
+  is_true (UndefinedAct line statement) of (p, starts, undefined) = IsTrueOf.undefined line statement starts undefined
+  is_true MoreSteps of (p, starts, more) = IsTrueOf.steps starts more
   is_true NoMemory of reason = absurd of
 
-module _ (told : Told) (file : Bytes) (at : Asked) (f f' l l' : ℕ) where
+module _ (told : Told) (at : Asked) (f f' l l' : ℕ) where
   -- what speaks of the text has its cause in the text
-  shown : (refusal : Refusal) → IsOfText (status_of refusal) → IsCause told file at f f' l l' refusal → IsShown told file at refusal
+  shown : (refusal : Refusal) → IsOfText (status_of refusal) → IsCause told at f f' l l' refusal → IsShown told at refusal
   shown Unreadable of cause = absurd of
   shown TooLong of cause = absurd of
+  shown NoInput of cause = absurd of
+  shown LongInput of cause = absurd of
   shown (Lex fault) of cause = cause
   shown (Parse fault) of cause = cause
   shown (Check fault) of cause = cause
   shown (NoStart line) of cause = cause
   shown (Graph name) of cause = cause
   shown TooMany of cause = cause
+  shown (UndefinedAct line statement) of cause = cause
+  shown MoreSteps of cause = cause
   shown NoMemory of cause = absurd of
 
-  -- what is told of the file's text is true
-  told_true : (refusal : Refusal) (wanted : Status) (before after : Option Bytes) → IsOfText wanted → status_of refusal ≡ wanted → IsCause told file at f f' l l' refusal → Gains before after (words_of file refusal) → OfFile told file (λ text. TellsTruth wanted text at before after)
-  told_true refusal wanted before after of same cause gained =
-      let here : IsOfText (status_of refusal) = subst IsOfText (sym same) of in
-      of_file_map told file _ _ (λ text found. (words_of file refusal, subst (λ s. IsTrueOf text at s (words_of file refusal)) same (is_true file text at refusal here found.1), gained)) (shown refusal here cause)
+  module _ (before after : Option Bytes) where
+    -- what is told of the files is true
+    abbrev pub TellsTrue : Status → Type 0
+    TellsTrue wanted = OfFiles told at (λ text input. TellsTruth wanted text at input before after)
 
-  module _ (e e' : ℕ) (before after : Option Bytes) where
-    report_true : (refusal : Refusal) (wanted result : Status) → IsOfText wanted → result ≡ wanted → IsCause told file at f f' l l' refusal → IsReported e e' before after file refusal result → OfFile told file (λ text. TellsTruth wanted text at before after)
-    report_true refusal wanted result of is cause (inl (inl put)) = told_true refusal wanted before after of (sym put.0 ∙ is) cause put.1
-    report_true refusal wanted result of is cause (inl (inr cut)) = absurd (subst IsOfText (sym is ∙ cut.0) of)
-    report_true refusal wanted result of is cause (inr (inl put)) = absurd (subst IsOfText (sym is ∙ put.0) of)
-    report_true refusal wanted result of is cause (inr (inr cut)) = absurd (subst IsOfText (sym is ∙ cut.0) of)
+    told_true : (refusal : Refusal) (wanted : Status) → IsOfText wanted → status_of refusal ≡ wanted → IsCause told at f f' l l' refusal → Gains before after (words_of at refusal) → TellsTrue wanted
+    told_true refusal wanted of same cause gained =
+        let here : IsOfText (status_of refusal) = subst IsOfText (sym same) of in
+        of_files_map told at _ _
+        (λ text input found. (words_of at refusal, subst (λ s. IsTrueOf text at input s (words_of at refusal)) same (is_true text input at refusal here found.1), gained))
+        (shown refusal here cause)
 
-    pub refused_true : (refusal : Refusal) (result : Status) → IsCause told file at f f' l l' refusal → IsReported e e' before after file refusal result → result ≡ status.Refused → OfFile told file (λ text. TellsTruth status.Refused text at before after)
-    refused_true refusal result cause reported is = report_true refusal status.Refused result tt is cause reported
+    module _ (e e' : ℕ) where
+      report_true : (refusal : Refusal) (wanted result : Status) → IsOfText wanted → result ≡ wanted → IsCause told at f f' l l' refusal → IsReported e e' before after at refusal result → TellsTrue wanted
+      report_true refusal wanted result of is cause (inl (inl put)) = told_true refusal wanted of (sym put.0 ∙ is) cause put.1
+      report_true refusal wanted result of is cause (inl (inr cut)) = absurd (subst IsOfText (sym is ∙ cut.0) of)
+      report_true refusal wanted result of is cause (inr (inl put)) = absurd (subst IsOfText (sym is ∙ put.0) of)
+      report_true refusal wanted result of is cause (inr (inr cut)) = absurd (subst IsOfText (sym is ∙ cut.0) of)
 
-    pub limit_true : (refusal : Refusal) (result : Status) → IsCause told file at f f' l l' refusal → IsReported e e' before after file refusal result → result ≡ status.Limit → OfFile told file (λ text. TellsTruth status.Limit text at before after)
-    limit_true refusal result cause reported is = report_true refusal status.Limit result tt is cause reported
+      pub refused_true : (refusal : Refusal) (result : Status) → IsCause told at f f' l l' refusal → IsReported e e' before after at refusal result → result ≡ status.Refused → TellsTrue status.Refused
+      refused_true refusal result cause reported is = report_true refusal status.Refused result tt is cause reported
+
+      pub limit_true : (refusal : Refusal) (result : Status) → IsCause told at f f' l l' refusal → IsReported e e' before after at refusal result → result ≡ status.Limit → TellsTrue status.Limit
+      limit_true refusal result cause reported is = report_true refusal status.Limit result tt is cause reported
+
+      pub undefined_true : (refusal : Refusal) (result : Status) → IsCause told at f f' l l' refusal → IsReported e e' before after at refusal result → result ≡ status.Undefined → TellsTrue status.Undefined
+      undefined_true refusal result cause reported is = report_true refusal status.Undefined result tt is cause reported
+
+      pub steps_true : (refusal : Refusal) (result : Status) → IsCause told at f f' l l' refusal → IsReported e e' before after at refusal result → result ≡ status.Steps → TellsTrue status.Steps
+      steps_true refusal result cause reported is = report_true refusal status.Steps result tt is cause reported
 
 -- ---- a text that gives no slice
 
@@ -117,95 +138,115 @@ deep_fault text at line below h = record {
   no_tree = λ raw tree. below limit.Nesting (IsAboveLimit.nesting tree (h.shows.1 raw (grammar_of text h.tokens raw h.are tree)));
 }
 
--- the status of a text of which no quantity is above its number: it is refused, or memory was wanting, or it is deep
-abbrev RefusedOrDeep : Bytes → Bytes → Refusal → Type 0
-RefusedOrDeep file text r =
-    (status_of r ≡ status.Refused) ⊎ (status_of r ≡ status.NoMemory) ⊎ ((status_of r ≡ status.Limit) × IsDeep text × (words_of file r ≡ lines.limit limit.Nesting))
+-- the status of a text of which no quantity is above its number: where no statement starts on one of the lines, it is refused, or memory was wanting, or it is deep
+abbrev RefusedOrDeep : Bytes → Asked → Refusal → Type 0
+RefusedOrDeep text at r =
+    (status_of r ≡ status.Refused) ⊎ (status_of r ≡ status.NoMemory) ⊎ ((status_of r ≡ status.Limit) × IsDeep text × (words_of at r ≡ lines.limit limit.Nesting))
 
-refused_or_deep : (file text : Bytes) (at : Asked) (refusal : Refusal) → IsBelowLimits text at → IsReason text at refusal → RefusedOrDeep file text refusal
-refused_or_deep file text at Unreadable below reason = absurd reason
-refused_or_deep file text at TooLong below reason = absurd reason
-refused_or_deep file text at (Lex (lex.BadByte l)) below reason = inl refl
-refused_or_deep file text at (Lex (lex.BadNumber l)) below reason = inl refl
-refused_or_deep file text at (Lex (lex.OpenComment l)) below reason = inl refl
-refused_or_deep file text at (Lex lex.NoMemory) below reason = inr (inl refl)
-refused_or_deep file text at (Parse (parse.LeftOut token l)) below reason = inl refl
-refused_or_deep file text at (Parse (parse.Syntax l)) below reason = inl refl
-refused_or_deep file text at (Parse (parse.Nesting l)) below reason = inr (inr (refl, deep_fault text at l below reason, refl))
-refused_or_deep file text at (Parse parse.NoMemory) below reason = inr (inl refl)
-refused_or_deep file text at (Check (rule.Rule number l)) below reason = inl refl
-refused_or_deep file text at (Check (rule.Limit name)) below reason = absurd (below name (limit_is text at name reason))
-refused_or_deep file text at (Check rule.NoMemory) below reason = inr (inl refl)
-refused_or_deep file text at (NoStart line) below reason = inl refl
-refused_or_deep file text at (Graph name) below (p, built, above) = absurd (below name (IsAboveLimit.graph built above))
-refused_or_deep file text at TooMany below reason = absurd (below limit.Criteria (IsAboveLimit.criteria reason))
-refused_or_deep file text at NoMemory below reason = inr (inl refl)
+refused_or_deep : (text input : Bytes) (at : Asked) (refusal : Refusal) → IsBelowLimits text at → StartsNone text at → IsReason text at input refusal → RefusedOrDeep text at refusal
+refused_or_deep text input at Unreadable below none reason = absurd reason
+refused_or_deep text input at TooLong below none reason = absurd reason
+refused_or_deep text input at NoInput below none reason = absurd reason
+refused_or_deep text input at LongInput below none reason = absurd reason
+refused_or_deep text input at (Lex (lex.BadByte l)) below none reason = inl refl
+refused_or_deep text input at (Lex (lex.BadNumber l)) below none reason = inl refl
+refused_or_deep text input at (Lex (lex.OpenComment l)) below none reason = inl refl
+refused_or_deep text input at (Lex lex.NoMemory) below none reason = inr (inl refl)
+refused_or_deep text input at (Parse (parse.LeftOut token l)) below none reason = inl refl
+refused_or_deep text input at (Parse (parse.Syntax l)) below none reason = inl refl
+refused_or_deep text input at (Parse (parse.Nesting l)) below none reason = inr (inr (refl, deep_fault text at l below reason, refl))
+refused_or_deep text input at (Parse parse.NoMemory) below none reason = inr (inl refl)
+refused_or_deep text input at (Check (rule.Rule number l)) below none reason = inl refl
+refused_or_deep text input at (Check (rule.Limit name)) below none reason = absurd (below name (limit_is text at name reason))
+refused_or_deep text input at (Check rule.NoMemory) below none reason = inr (inl refl)
+refused_or_deep text input at (NoStart line) below none reason = inl refl
+refused_or_deep text input at (Graph name) below none (p, built, above) = absurd (below name (IsAboveLimit.graph built above))
+refused_or_deep text input at TooMany below none reason = absurd (below limit.Criteria (IsAboveLimit.criteria reason))
+refused_or_deep text input at (UndefinedAct line statement) below none (p, starts, undefined) = absurd (none p starts.built starts.starts)
+refused_or_deep text input at MoreSteps below none (p, starts, more) = absurd (none p starts.built starts.starts)
+refused_or_deep text input at NoMemory below none reason = inr (inl refl)
 
 -- the status of a text that is above a limit: the limit is told, or memory was wanting
-abbrev LimitOrMemory : Bytes → LimitName → Refusal → Type 0
-LimitOrMemory file name refusal = ((status_of refusal ≡ status.Limit) × (words_of file refusal ≡ lines.limit name)) ⊎ (status_of refusal ≡ status.NoMemory)
+abbrev LimitOrMemory : Asked → LimitName → Refusal → Type 0
+LimitOrMemory at name refusal = ((status_of refusal ≡ status.Limit) × (words_of at refusal ≡ lines.limit name)) ⊎ (status_of refusal ≡ status.NoMemory)
 
-module _ (file text : Bytes) (at : Asked) where
-  told_nesting : (fault : ParseFault) → IsNesting fault → LimitOrMemory file limit.Nesting (Parse fault)
+module _ (text input : Bytes) (at : Asked) where
+  told_nesting : (fault : ParseFault) → IsNesting fault → LimitOrMemory at limit.Nesting (Parse fault)
   told_nesting (parse.LeftOut token l) is = absurd is
   told_nesting (parse.Syntax l) is = absurd is
   told_nesting (parse.Nesting l) is = inl (refl, refl)
   told_nesting parse.NoMemory is = absurd is
 
-  nests : (refusal : Refusal) → IsReason text at refusal → (raw : RawProgram) → ReadsTree text raw → 100 < program_nesting raw → LimitOrMemory file limit.Nesting refusal
+  nests : (refusal : Refusal) → IsReason text at input refusal → (raw : RawProgram) → ReadsTree text raw → 100 < program_nesting raw → LimitOrMemory at limit.Nesting refusal
   nests Unreadable reason raw tree many = absurd reason
   nests TooLong reason raw tree many = absurd reason
+  nests NoInput reason raw tree many = absurd reason
+  nests LongInput reason raw tree many = absurd reason
   nests (Lex fault) reason raw tree many = absurd (only_nesting text (read.Lex fault) reason raw tree many)
   nests (Parse fault) reason raw tree many = told_nesting fault (only_nesting text (read.Parse fault) reason raw tree many)
   nests (Check fault) reason raw tree many = absurd (only_nesting text (read.Check fault) reason raw tree many)
   nests (NoStart line) (p, built, none) raw tree many = absurd (tree_lacks text at limit.Nesting tt (IsAboveLimit.nesting tree many) p built.reads)
   nests (Graph name) (p, has, above) raw tree many = absurd (tree_lacks text at limit.Nesting tt (IsAboveLimit.nesting tree many) p has)
   nests TooMany (p, built, more) raw tree many = absurd (tree_lacks text at limit.Nesting tt (IsAboveLimit.nesting tree many) p built.reads)
+  nests (UndefinedAct line statement) (p, starts, undefined) raw tree many = absurd (tree_lacks text at limit.Nesting tt (IsAboveLimit.nesting tree many) p starts.built.reads)
+  nests MoreSteps (p, starts, more) raw tree many = absurd (tree_lacks text at limit.Nesting tt (IsAboveLimit.nesting tree many) p starts.built.reads)
   nests NoMemory reason raw tree many = inr refl
 
-  told_limit : (name : LimitName) (fault : RuleFault) → fault ≡ rule.Limit name → LimitOrMemory file name (Check fault)
-  told_limit name fault is = subst (λ x. LimitOrMemory file name (Check x)) (sym is) (inl (refl, refl))
+  told_limit : (name : LimitName) (fault : RuleFault) → fault ≡ rule.Limit name → LimitOrMemory at name (Check fault)
+  told_limit name fault is = subst (λ x. LimitOrMemory at name (Check x)) (sym is) (inl (refl, refl))
 
-  exceeds : (refusal : Refusal) → IsReason text at refusal → (raw : RawProgram) (name : LimitName) → ReadsTree text raw → program_nesting raw ≤ 100 → IsAbove raw name → IsOfTree text at name → IsAboveLimit text at name → LimitOrMemory file name refusal
+  exceeds : (refusal : Refusal) → IsReason text at input refusal → (raw : RawProgram) (name : LimitName) → ReadsTree text raw → program_nesting raw ≤ 100 → IsAbove raw name → IsOfTree text at name → IsAboveLimit text at name → LimitOrMemory at name refusal
   exceeds Unreadable reason raw name tree few above of exceeded = absurd reason
   exceeds TooLong reason raw name tree few above of exceeded = absurd reason
+  exceeds NoInput reason raw name tree few above of exceeded = absurd reason
+  exceeds LongInput reason raw name tree few above of exceeded = absurd reason
   exceeds (Lex fault) reason raw name tree few above of exceeded = absurd (only_check text (read.Lex fault) reason raw (rule.Limit name) tree few above)
   exceeds (Parse fault) reason raw name tree few above of exceeded = absurd (only_check text (read.Parse fault) reason raw (rule.Limit name) tree few above)
   exceeds (Check fault) reason raw name tree few above of exceeded = told_limit name fault (above_is text raw name tree above fault reason)
   exceeds (NoStart line) (p, built, none) raw name tree few above of exceeded = absurd (tree_lacks text at name of exceeded p built.reads)
   exceeds (Graph other) (p, has, many) raw name tree few above of exceeded = absurd (tree_lacks text at name of exceeded p has)
   exceeds TooMany (p, built, more) raw name tree few above of exceeded = absurd (tree_lacks text at name of exceeded p built.reads)
+  exceeds (UndefinedAct line statement) (p, starts, undefined) raw name tree few above of exceeded = absurd (tree_lacks text at name of exceeded p starts.built.reads)
+  exceeds MoreSteps (p, starts, more) raw name tree few above of exceeded = absurd (tree_lacks text at name of exceeded p starts.built.reads)
   exceeds NoMemory reason raw name tree few above of exceeded = inr refl
 
   -- more than 64 lines of a text with a program and a graph within the limits
-  asks_more : (refusal : Refusal) → IsReason text at refusal → AsksTooMany text at → LimitOrMemory file limit.Criteria refusal
+  asks_more : (refusal : Refusal) → IsReason text at input refusal → AsksTooMany text at → LimitOrMemory at limit.Criteria refusal
   asks_more Unreadable reason many = absurd reason
   asks_more TooLong reason many = absurd reason
+  asks_more NoInput reason many = absurd reason
+  asks_more LongInput reason many = absurd reason
   asks_more (Lex fault) reason (p, built, more) = absurd (only_memory text (read.Lex fault) reason p built.reads)
   asks_more (Parse fault) reason (p, built, more) = absurd (only_memory text (read.Parse fault) reason p built.reads)
   asks_more (Check fault) reason (p, built, more) = absurd (only_memory text (read.Check fault) reason p built.reads)
   asks_more (NoStart line) (q, has, lacks) (p, built, more) = let few = lacks.few in absurd (omega (arith, more, few))
-  asks_more (Graph name) (q, has, above) (p, built, more) = absurd (built.within name (subst (λ r. IsAboveGraphLimit r name) (one_program text q p has built.reads) above))
+  asks_more (Graph name) (q, has, above) (p, built, more) = absurd (built.within name (subst (λ r. IsAboveFor at r name) (one_program text q p has built.reads) above))
   asks_more TooMany reason many = inl (refl, refl)
+  asks_more (UndefinedAct line statement) (q, starts, undefined) (p, built, more) = let few = starts.few in absurd (omega (arith, more, few))
+  asks_more MoreSteps (q, starts, further) (p, built, more) = let few = starts.few in absurd (omega (arith, more, few))
   asks_more NoMemory reason many = inr refl
 
-  told_quantity : (p : Program) (name other : LimitName) → IsAboveGraphLimit p name → IsAboveGraphLimit p other → LimitOrMemory file name (Graph other)
-  told_quantity p name other above also = inl (refl, ap lines.limit (one_graph_limit p other name also above))
+  told_quantity : (p : Program) (name other : LimitName) → IsAboveFor at p name → IsAboveFor at p other → LimitOrMemory at name (Graph other)
+  told_quantity p name other above also = inl (refl, ap lines.limit (one_graph_limit p other name (above_graph at p other also) (above_graph at p name above)))
 
   -- a graph with more than there may be
-  has_more : (refusal : Refusal) → IsReason text at refusal → (p : Program) (name : LimitName) → ReadsProgram text p → IsAboveGraphLimit p name → LimitOrMemory file name refusal
+  has_more : (refusal : Refusal) → IsReason text at input refusal → (p : Program) (name : LimitName) → ReadsProgram text p → IsAboveFor at p name → LimitOrMemory at name refusal
   has_more Unreadable reason p name built above = absurd reason
   has_more TooLong reason p name built above = absurd reason
+  has_more NoInput reason p name built above = absurd reason
+  has_more LongInput reason p name built above = absurd reason
   has_more (Lex fault) reason p name built above = absurd (only_memory text (read.Lex fault) reason p built)
   has_more (Parse fault) reason p name built above = absurd (only_memory text (read.Parse fault) reason p built)
   has_more (Check fault) reason p name built above = absurd (only_memory text (read.Check fault) reason p built)
-  has_more (NoStart line) (q, has, lacks) p name built above = absurd (has.within name (subst (λ r. IsAboveGraphLimit r name) (one_program text p q built has.reads) above))
+  has_more (NoStart line) (q, has, lacks) p name built above = absurd (has.within name (subst (λ r. IsAboveFor at r name) (one_program text p q built has.reads) above))
   has_more (Graph other) (q, has, also) p name built above =
-      told_quantity p name other above (subst (λ r. IsAboveGraphLimit r other) (one_program text q p has built) also)
-  has_more TooMany (q, has, more) p name built above = absurd (has.within name (subst (λ r. IsAboveGraphLimit r name) (one_program text p q built has.reads) above))
+      told_quantity p name other above (subst (λ r. IsAboveFor at r other) (one_program text q p has built) also)
+  has_more TooMany (q, has, more) p name built above = absurd (has.within name (subst (λ r. IsAboveFor at r name) (one_program text p q built has.reads) above))
+  has_more (UndefinedAct line statement) (q, starts, undefined) p name built above = absurd (starts.built.within name (subst (λ r. IsAboveFor at r name) (one_program text p q built starts.built.reads) above))
+  has_more MoreSteps (q, starts, more) p name built above = absurd (starts.built.within name (subst (λ r. IsAboveFor at r name) (one_program text p q built starts.built.reads) above))
   has_more NoMemory reason p name built above = inr refl
 
-  limit_or_memory : (refusal : Refusal) (name : LimitName) → IsAboveLimit text at name → IsReason text at refusal → LimitOrMemory file name refusal
+  limit_or_memory : (refusal : Refusal) (name : LimitName) → IsAboveLimit text at name → IsReason text at input refusal → LimitOrMemory at name refusal
   limit_or_memory refusal name (IsAboveLimit.nesting {raw} tree many) reason = nests refusal reason raw tree many
   limit_or_memory refusal name (IsAboveLimit.length {raw} tree few made many) reason =
       exceeds refusal reason raw limit.ArrayLength tree few (IsAbove.lengths made many) tt (IsAboveLimit.length tree few made many)
@@ -216,12 +257,12 @@ module _ (file text : Bytes) (at : Asked) where
 
 -- ---- how such a text ends
 
-module _ (file : Bytes) (at : Asked) (e e' f f' : ℕ) (before after : Option Bytes) where
+module _ (at : Asked) (e e' f f' : ℕ) (before after : Option Bytes) where
   -- what is told is the status of the refusal, or one to which each answer yields
   abbrev pub Ends : Refusal → Status → Type 0
-  Ends refusal result = ((result ≡ status_of refusal) × Gains before after (words_of file refusal)) ⊎ (result ≡ status.NoMemory) ⊎ ((result ≡ status.WriteFault) × Rose e e')
+  Ends refusal result = ((result ≡ status_of refusal) × Gains before after (words_of at refusal)) ⊎ (result ≡ status.NoMemory) ⊎ ((result ≡ status.WriteFault) × Rose e e')
 
-  pub ends : (refusal : Refusal) (result : Status) → IsReported e e' before after file refusal result → Ends refusal result
+  pub ends : (refusal : Refusal) (result : Status) → IsReported e e' before after at refusal result → Ends refusal result
   ends refusal result (inl (inl put)) = inl put
   ends refusal result (inl (inr cut)) = inr (inr (cut.0, cut.1.0))
   ends refusal result (inr (inl put)) = inr (inl put.0)
@@ -231,15 +272,30 @@ module _ (file : Bytes) (at : Asked) (e e' f f' : ℕ) (before after : Option By
   yields wanted result (inl memory) = inl (inr (inl memory))
   yields wanted result (inr cut) = inl (inr (inr cut))
 
-  unreadable : (wanted result : Status) (refusal : Refusal) → refusal ≡ Unreadable → Rose f f' → Ends refusal result → IsOrYieldsToFault e e' f f' result wanted
-  unreadable wanted result refusal is rose (inl put) = inr (put.0 ∙ ap status_of is, rose)
+  unreadable : (wanted result : Status) (refusal : Refusal) → status_of refusal ≡ status.ReadFault → Rose f f' → Ends refusal result → IsOrYieldsToFault e e' f f' result wanted
+  unreadable wanted result refusal is rose (inl put) = inr (put.0 ∙ is, rose)
   unreadable wanted result refusal is rose (inr other) = yields wanted result other
 
+  -- the files couldn't be read for a fault, or this holds
+  abbrev pub FaultOr : Type 0 → Refusal → Type 0
+  FaultOr P refusal = ((status_of refusal ≡ status.ReadFault) × Rose f f') ⊎ P
+
+  -- the refusal has this status, or memory was wanting
+  pub ends_with : (wanted result : Status) (refusal : Refusal) → FaultOr ((status_of refusal ≡ wanted) ⊎ (status_of refusal ≡ status.NoMemory)) refusal → IsReported e e' before after at refusal result → IsOrYieldsToFault e e' f f' result wanted
+  ends_with wanted result refusal (inl fault) told = unreadable wanted result refusal fault.0 fault.1 (ends refusal result told)
+  ends_with wanted result refusal (inr is) told = elim (ends refusal result told) [
+    | inl put ↦ elim is [
+      | inl same ↦ inl (inl (put.0 ∙ same))
+      | inr memory ↦ inl (inr (inl (put.0 ∙ memory)))
+    ]
+    | inr other ↦ yields wanted result other
+  ]
+
   -- a text of which no quantity is above its number, and on whose line no statement starts
-  pub is_refused : (text : Bytes) (refusal : Refusal) (result : Status) → IsBelowLimits text at → ((refusal ≡ Unreadable) × Rose f f') ⊎ IsReason text at refusal → IsReported e e' before after file refusal result → IsOrYieldsToFault e e' f f' result status.Refused ⊎ ((result ≡ status.Limit) × IsDeep text × Gains before after (lines.limit limit.Nesting))
-  is_refused text refusal result below (inl fault) told = inl (unreadable status.Refused result refusal fault.0 fault.1 (ends refusal result told))
-  is_refused text refusal result below (inr reason) told = elim (ends refusal result told) [
-    | inl put ↦ elim (refused_or_deep file text at refusal below reason) [
+  pub is_refused : (text input : Bytes) (refusal : Refusal) (result : Status) → IsBelowLimits text at → StartsNone text at → FaultOr (IsReason text at input refusal) refusal → IsReported e e' before after at refusal result → IsOrYieldsToFault e e' f f' result status.Refused ⊎ ((result ≡ status.Limit) × IsDeep text × Gains before after (lines.limit limit.Nesting))
+  is_refused text input refusal result below none (inl fault) told = inl (unreadable status.Refused result refusal fault.0 fault.1 (ends refusal result told))
+  is_refused text input refusal result below none (inr reason) told = elim (ends refusal result told) [
+    | inl put ↦ elim (refused_or_deep text input at refusal below none reason) [
       | inl refused ↦ inl (inl (inl (put.0 ∙ refused)))
       | inr (inl memory) ↦ inl (inl (inr (inl (put.0 ∙ memory))))
       | inr (inr deep) ↦ inr (put.0 ∙ deep.0, deep.1, subst (Gains before after) deep.2 put.1)
@@ -248,10 +304,10 @@ module _ (file : Bytes) (at : Asked) (e e' f f' : ℕ) (before after : Option By
   ]
 
   -- a text that is above a limit
-  pub is_above : (text : Bytes) (name : LimitName) (refusal : Refusal) (result : Status) → IsAboveLimit text at name → ((refusal ≡ Unreadable) × Rose f f') ⊎ IsReason text at refusal → IsReported e e' before after file refusal result → IsOrYieldsToFault e e' f f' result status.Limit
-  is_above text name refusal result above (inl fault) told = unreadable status.Limit result refusal fault.0 fault.1 (ends refusal result told)
-  is_above text name refusal result above (inr reason) told = elim (ends refusal result told) [
-    | inl put ↦ elim (limit_or_memory file text at refusal name above reason) [
+  pub is_above : (text input : Bytes) (name : LimitName) (refusal : Refusal) (result : Status) → IsAboveLimit text at name → FaultOr (IsReason text at input refusal) refusal → IsReported e e' before after at refusal result → IsOrYieldsToFault e e' f f' result status.Limit
+  is_above text input name refusal result above (inl fault) told = unreadable status.Limit result refusal fault.0 fault.1 (ends refusal result told)
+  is_above text input name refusal result above (inr reason) told = elim (ends refusal result told) [
+    | inl put ↦ elim (limit_or_memory text input at refusal name above reason) [
       | inl told ↦ inl (inl (put.0 ∙ told.0))
       | inr memory ↦ inl (inr (inl (put.0 ∙ memory)))
     ]
@@ -261,14 +317,14 @@ module _ (file : Bytes) (at : Asked) (e e' f f' : ℕ) (before after : Option By
   no_limit : (s : Status) {A : Type 0} → s ≡ status.Limit → s ≡ status.NoMemory → A
   no_limit s is memory = absurd (let e : status.Limit ≡ status.NoMemory = sym is ∙ memory in cc)
 
-  pub names_it : (text : Bytes) (name : LimitName) (refusal : Refusal) (result : Status) → IsAboveLimit text at name → ((refusal ≡ Unreadable) × Rose f f') ⊎ IsReason text at refusal → IsReported e e' before after file refusal result → result ≡ status.Limit → Gains before after (lines.limit name)
-  names_it text name refusal result above (inl fault) told is = elim (ends refusal result told) [
-    | inl put ↦ absurd (let e : status.Limit ≡ status.ReadFault = sym is ∙ put.0 ∙ ap status_of fault.0 in cc)
+  pub names_it : (text input : Bytes) (name : LimitName) (refusal : Refusal) (result : Status) → IsAboveLimit text at name → FaultOr (IsReason text at input refusal) refusal → IsReported e e' before after at refusal result → result ≡ status.Limit → Gains before after (lines.limit name)
+  names_it text input name refusal result above (inl fault) told is = elim (ends refusal result told) [
+    | inl put ↦ absurd (let e : status.Limit ≡ status.ReadFault = sym is ∙ put.0 ∙ fault.0 in cc)
     | inr (inl memory) ↦ no_limit result is memory
     | inr (inr cut) ↦ absurd (let e : status.Limit ≡ status.WriteFault = sym is ∙ cut.0 in cc)
   ]
-  names_it text name refusal result above (inr reason) told is = elim (ends refusal result told) [
-    | inl put ↦ elim (limit_or_memory file text at refusal name above reason) [
+  names_it text input name refusal result above (inr reason) told is = elim (ends refusal result told) [
+    | inl put ↦ elim (limit_or_memory text input at refusal name above reason) [
       | inl told ↦ subst (Gains before after) told.1 put.1
       | inr memory ↦ no_limit result is (put.0 ∙ memory)
     ]

@@ -1,12 +1,10 @@
--- The criteria of lines, why lines have none, and what is made of an engine for a request.
+-- The criteria of lines, and why lines have none.
 use Rattle.std.specs.Prelude.{◌≡◌, ℕ, ◌<◌, ◌≤◌, List, length, slice_index_or}
 use Rattle.c_tree.specs.declared.program.Program.{Program}
-use Rattle.c_language.specs.Words.{Bytes}
-use Rattle.call_words.specs.Requests.{Asked, lines_in}
 use Rattle.slice_engine.specs.declared.engine.Criterion.{Criterion}
-use Rattle.slicer_top.specs.Slices.{AreTextsFor, IsFirstWithout, StartOn, line_at}
+use Rattle.slicer_top.specs.Slices.{IsFirstWithout, StartOn, line_at}
 use Rattle.slicer_top.specs.declared.refusal.Refusal.{Refusal}
-use Rattle.slicer_top.specs.declared.refusal.Refusal.TheVariants.{Unreadable, TooLong, Lex, Parse, Check, NoStart, Graph, TooMany, NoMemory}
+use Rattle.slicer_top.specs.declared.refusal.Refusal.TheVariants.{Unreadable, TooLong, NoInput, LongInput, Lex, Parse, Check, NoStart, Graph, TooMany, UndefinedAct, MoreSteps, NoMemory}
 
 -- these are the criteria of the lines, in their order, on each of which a statement starts; they are at most 64
 pub record AreCriteria (p : Program) (lines : List ℕ) (found : List Criterion) : Type 0 where
@@ -20,10 +18,10 @@ pub record StartAt (p : Program) (lines : List ℕ) : Type 0 where
   pub few : length lines ≤ 64
   pub starts : StartOn p lines
 
--- and these texts are what is asked of the program
-pub record AreMade (p : Program) (asked : Asked) (texts : List Bytes) : Type 0 where
-  pub start : StartAt p (lines_in asked)
-  pub are : AreTextsFor p asked texts
+-- these are the lines, and so it is of them
+pub record AreFound (p : Program) (lines found : List ℕ) : Type 0 where
+  pub same : found ≡ lines
+  pub start : StartAt p lines
 
 -- why the lines have no criteria
 abbrev pub IsCriteriaFault : Program → List ℕ → Refusal → Type 0
@@ -36,3 +34,7 @@ IsCriteriaFault p lines (Lex fault) = ⊥
 IsCriteriaFault p lines (Parse fault) = ⊥
 IsCriteriaFault p lines (Check fault) = ⊥
 IsCriteriaFault p lines (Graph name) = ⊥
+IsCriteriaFault p lines NoInput = ⊥
+IsCriteriaFault p lines LongInput = ⊥
+IsCriteriaFault p lines (UndefinedAct at statement) = ⊥
+IsCriteriaFault p lines MoreSteps = ⊥

@@ -6,6 +6,7 @@ pub mod Lines
 pub mod Promises
 pub mod Refusals
 pub mod Reports
+pub mod Runs
 pub mod Seen
 pub mod Slices
 pub mod Statuses

@@ -14,15 +14,14 @@ use Rattle.c_language.specs.Limits.{array_length, object_cells}
 use Rattle.c_language.specs.Programs as programs
 use Rattle.call_words.specs.Requests.{Asked}
 use Rattle.c_reader.specs.Reading.{ReadsTree, ReadsProgram}
-use Rattle.slice_engine.specs.GraphLimits.{IsAboveGraphLimit}
-use Rattle.slicer_top.specs.Slices.{AsksTooMany}
+use Rattle.slicer_top.specs.Slices.{AsksTooMany, IsAboveFor}
 
--- the tokens of the text are in the grammar, and this quantity is above its number: nesting before all, then, where all rules hold, the length of an array, then the cells of an object, then the graph's quantities, and then how many lines were asked for
+-- the tokens of the text are in the grammar, and this quantity is above its number: nesting before all, then, where all rules hold, the length of an array, then the cells of an object, then the graph's quantities, where the graph is made, and then how many lines were asked for
 pub data IsAboveLimit (text : Bytes) (asked : Asked) : LimitName → Type 0 where
   nesting : {raw : RawProgram} → ReadsTree text raw → 100 < program_nesting raw → IsAboveLimit text asked limit.Nesting
   length : {raw : RawProgram} {p : Program} → ReadsTree text raw → program_nesting raw ≤ 100 → programs.HasProgram raw p → 65536 < array_length p → IsAboveLimit text asked limit.ArrayLength
   cells : {raw : RawProgram} {p : Program} → ReadsTree text raw → program_nesting raw ≤ 100 → programs.HasProgram raw p → array_length p ≤ 65536 → 1048576 < object_cells p → IsAboveLimit text asked limit.ObjectCells
-  graph : {p : Program} {name : LimitName} → ReadsProgram text p → IsAboveGraphLimit p name → IsAboveLimit text asked name
+  graph : {p : Program} {name : LimitName} → ReadsProgram text p → IsAboveFor asked p name → IsAboveLimit text asked name
   criteria : AsksTooMany text asked → IsAboveLimit text asked limit.Criteria
 
 -- no quantity of the text is above its number

@@ -1,17 +1,18 @@
 -- The lines that a call puts on err.
-use Rattle.std.specs.Prelude.{◌≡◌, ◌⊎◌, ℕ, ◌++◌, List, Contains, Option, codes}
+use Rattle.std.specs.Prelude.{◌≡◌, ◌⊎◌, ℕ, ◌++◌, Contains, Option, codes}
 use Rattle.std.specs.Fmt.{decimal}
 use Rattle.edge_io.specs.Count.{Rose}
 use Rattle.edge_io.specs.Written.{Gains, GainsFront}
 use Rattle.c_tree.specs.declared.limits.LimitName.{LimitName}
 use Rattle.c_tree.specs.declared.limits.LimitName.TheVariants.{Nesting, ArrayLength, ObjectCells, Locations, Vertices, FactWords, Criteria}
 use Rattle.c_language.specs.Words.{Bytes}
+use Rattle.call_words.specs.Requests.{Asked, files_in, lines_in, steps_of}
 use Rattle.slicer_top.specs.declared.status.Status.{Status}
-use Rattle.slicer_top.specs.declared.status.Status.TheVariants.{Done, Refused, Usage, ReadFault, WriteFault, NoMemory, Limit, TooLong}
+use Rattle.slicer_top.specs.declared.status.Status.TheVariants.{Done, Refused, Usage, ReadFault, WriteFault, NoMemory, Undefined, Steps, Limit, TooLong}
 
 -- the words are outside the grammar
 abbrev pub usage : Bytes
-usage = codes "usage: slicer slice FILE LINE.. | graph FILE | members FILE LINE\n"
+usage = codes "usage: slicer slice FILE LINE.. | trace FILE LINE.. --input FILE | run FILE --input FILE | graph FILE | members FILE LINE\n"
 
 -- the file couldn't be read
 abbrev pub cannot_read : Bytes → Bytes
@@ -63,6 +64,14 @@ limit Vertices = codes "limit: vertices\n"
 limit FactWords = codes "limit: fact words\n"
 limit Criteria = codes "limit: criteria\n"
 
+-- an act of a run is undefined, of a statement that starts on a line
+abbrev pub undefined_act : ℕ → ℕ → Bytes
+undefined_act at statement = numbered at (codes "undefined act in statement " ++ decimal statement)
+
+-- a run needs more acts than it may have
+abbrev pub more_steps : ℕ → Bytes
+more_steps steps = codes "more than " ++ (decimal steps ++ codes " steps\n")
+
 -- what was asked for couldn't be written
 abbrev pub cannot_write : Bytes
 cannot_write = codes "cannot write\n"
@@ -71,25 +80,27 @@ cannot_write = codes "cannot write\n"
 abbrev pub out_of_memory : Bytes
 out_of_memory = codes "out of memory\n"
 
--- the line of a status, for this file and these lines of it
-pub data IsToldBy (file : Bytes) (lines : List ℕ) : Status → Bytes → Type 0 where
-  of_usage : IsToldBy file lines Usage usage
-  of_file : IsToldBy file lines ReadFault (cannot_read file)
-  of_length : IsToldBy file lines TooLong (too_long file)
-  of_byte : (at : ℕ) → IsToldBy file lines Refused (bad_byte at)
-  of_number : (at : ℕ) → IsToldBy file lines Refused (bad_number at)
-  of_comment : (at : ℕ) → IsToldBy file lines Refused (open_comment at)
-  of_token : (at : ℕ) (token : Bytes) → IsToldBy file lines Refused (left_out at token)
-  of_tokens : (at : ℕ) → IsToldBy file lines Refused (syntax at)
-  of_rule : (at number : ℕ) → IsToldBy file lines Refused (rule at number)
-  of_line : (at : ℕ) → Contains lines at → IsToldBy file lines Refused (no_start at)
-  of_limit : (name : LimitName) → IsToldBy file lines Limit (limit name)
-  of_out : IsToldBy file lines WriteFault cannot_write
-  of_memory : IsToldBy file lines NoMemory out_of_memory
+-- the line of a status, for what is asked: of its files, of its lines, and of the acts that its run may have
+pub data IsToldBy (asked : Asked) : Status → Bytes → Type 0 where
+  of_usage : IsToldBy asked Usage usage
+  of_file : (name : Bytes) → Contains (files_in asked) name → IsToldBy asked ReadFault (cannot_read name)
+  of_length : (name : Bytes) → Contains (files_in asked) name → IsToldBy asked TooLong (too_long name)
+  of_byte : (at : ℕ) → IsToldBy asked Refused (bad_byte at)
+  of_number : (at : ℕ) → IsToldBy asked Refused (bad_number at)
+  of_comment : (at : ℕ) → IsToldBy asked Refused (open_comment at)
+  of_token : (at : ℕ) (token : Bytes) → IsToldBy asked Refused (left_out at token)
+  of_tokens : (at : ℕ) → IsToldBy asked Refused (syntax at)
+  of_rule : (at number : ℕ) → IsToldBy asked Refused (rule at number)
+  of_line : (at : ℕ) → Contains (lines_in asked) at → IsToldBy asked Refused (no_start at)
+  of_limit : (name : LimitName) → IsToldBy asked Limit (limit name)
+  of_act : (at statement : ℕ) → IsToldBy asked Undefined (undefined_act at statement)
+  of_steps : IsToldBy asked Steps (more_steps (steps_of asked))
+  of_out : IsToldBy asked WriteFault cannot_write
+  of_memory : IsToldBy asked NoMemory out_of_memory
 
 -- the line of this status was put
-abbrev pub Puts : Bytes → List ℕ → Status → Option Bytes → Option Bytes → Type 0
-Puts file lines status before after = (words : Bytes) × IsToldBy file lines status words × Gains before after words
+abbrev pub Puts : Asked → Status → Option Bytes → Option Bytes → Type 0
+Puts asked status before after = (words : Bytes) × IsToldBy asked status words × Gains before after words
 
 -- err has these counts of faults and tells these bytes, before and after
 module _ (faults faults' : ℕ) (before after : Option Bytes) where
@@ -102,16 +113,18 @@ module _ (faults faults' : ℕ) (before after : Option Bytes) where
   PutOrCutOff words = Gains before after words ⊎ CutOff words
 
   -- `cannot write` was put, or the put of the line of one status failed
-  abbrev pub TellsFault : Bytes → List ℕ → Type 0
-  TellsFault file lines = Gains before after cannot_write ⊎ ((status : Status) × (words : Bytes) × IsToldBy file lines status words × CutOff words)
+  abbrev pub TellsFault : Asked → Type 0
+  TellsFault asked = Gains before after cannot_write ⊎ ((status : Status) × (words : Bytes) × IsToldBy asked status words × CutOff words)
 
   -- what err has gained when a call ends: nothing after Done, the line of the status after others, and after WriteFault that or a front of a line
-  abbrev pub Tells : Bytes → List ℕ → Status → Type 0
-  Tells file lines Done = after ≡ before
-  Tells file lines Refused = Puts file lines Refused before after
-  Tells file lines Usage = Puts file lines Usage before after
-  Tells file lines ReadFault = Puts file lines ReadFault before after
-  Tells file lines WriteFault = TellsFault file lines
-  Tells file lines NoMemory = Puts file lines NoMemory before after
-  Tells file lines Limit = Puts file lines Limit before after
-  Tells file lines TooLong = Puts file lines TooLong before after
+  abbrev pub Tells : Asked → Status → Type 0
+  Tells asked Done = after ≡ before
+  Tells asked Refused = Puts asked Refused before after
+  Tells asked Usage = Puts asked Usage before after
+  Tells asked ReadFault = Puts asked ReadFault before after
+  Tells asked WriteFault = TellsFault asked
+  Tells asked NoMemory = Puts asked NoMemory before after
+  Tells asked Undefined = Puts asked Undefined before after
+  Tells asked Steps = Puts asked Steps before after
+  Tells asked Limit = Puts asked Limit before after
+  Tells asked TooLong = Puts asked TooLong before after

@@ -1,19 +1,22 @@
 -- What a call of the slicer promises, over its words, what shelf, out and err tell before it and after it, and its status.
-use Rattle.std.specs.Prelude.{◌≡◌, ◌≢◌, ◌⊎◌, ℕ, List, Option, None, IsSome, IfSome, unwrap_or, length}
+use Rattle.std.specs.Prelude.{◌≡◌, ◌≢◌, ◌⊎◌, ℕ, List, Option, None, Some, IsSome, IfSome, unwrap_or, length}
 use Rattle.edge_io.specs.Contents.{Told, Lacks, HoldsMoreThan}
-use Rattle.edge_io.specs.Count.{Rose, one_more}
+use Rattle.edge_io.specs.Count.{Rose}
 use Rattle.edge_io.specs.Written.{Gains}
 use Rattle.c_tree.specs.declared.limits.LimitName.{LimitName}
 use Rattle.c_tree.specs.declared.limits.LimitName.TheVariants.{Nesting}
+use Rattle.c_tree.specs.declared.program.Program.{Program}
 use Rattle.c_language.specs.Words.{Bytes}
 use Rattle.call_words.specs.Grammar.{IsInGrammar}
-use Rattle.call_words.specs.Requests.{asked_of, file_of, lines_of}
-use Rattle.slicer_top.specs.Files.{OfFile, NamesText}
+use Rattle.call_words.specs.Requests.{asked_of, file_of, input_of}
+use Rattle.slicer_top.specs.Files.{AreFetches, IsNameOf, IsThere, OfFiles, NamesText}
 use Rattle.slicer_top.specs.Limits.{IsAboveLimit, IsBelowLimits, IsDeep}
+use Rattle.slicer_top.specs.Runs.{IsUndefined, NeedsMore}
 use Rattle.slicer_top.specs.Seen.{ShelfSeen, SinkSeen, shelf_seen, sink_seen}
-use Rattle.slicer_top.specs.Slices.{StartsNone, StartsSome, AreWritten, joined, WritesAsked, WritesFront}
+use Rattle.slicer_top.specs.Slices.{HasStarts, StartsNone, StartsSome, AreWritten, joined, WritesAsked, WritesFront}
 use Rattle.slicer_top.specs.Statuses.{IsOrYields, IsOrYieldsToFault, NoFault, IsFaultless}
-use Rattle.slicer_top.specs.Lines.{Tells, PutOrCutOff, cannot_write, limit}
+use Rattle.slicer_top.specs.Lines as line
+use Rattle.slicer_top.specs.Lines.{Tells, PutOrCutOff, cannot_read, cannot_write, limit}
 use Rattle.slicer_top.specs.Truths.{TellsTruth}
 use Rattle.slicer_top.specs.declared.status.Status.{Status}
 use Rattle.slicer_top.specs.declared.status.Status.TheVariants as status
@@ -24,32 +27,45 @@ pub record Outcome (words : List Bytes) (shelf : ShelfSeen) (out err : SinkSeen)
   pub usage : answer ≡ status.Usage → IsInGrammar words → ⊥
   pub other_words : (IsInGrammar words → ⊥) → IsOrYields err.faults err.faults' answer status.Usage
   pub unasked : (IsInGrammar words → ⊥) → shelf.stays
-  -- the file: it is read, or the shelf had a fault, lacks it or found it too long
-  pub read_fault : answer ≡ status.ReadFault → Rose shelf.faults shelf.faults' ⊎ Lacks shelf.contents (file_of words)
+  -- the files, that with the text first: each is read, or the shelf had a fault, lacks it or found it too long, and that one is named
+  pub read_fault : answer ≡ status.ReadFault
+      → (name : Bytes) × IsNameOf shelf.contents (asked_of words) name × (Rose shelf.faults shelf.faults' ⊎ Lacks shelf.contents name) × Gains err.written err.written' (cannot_read name)
   pub lacking : IsInGrammar words → Lacks shelf.contents (file_of words) → IsOrYields err.faults err.faults' answer status.ReadFault
+  pub lacking_input : (name : Bytes) → IsInGrammar words → IsThere shelf.contents (file_of words) → input_of (asked_of words) ≡ Some name → Lacks shelf.contents name
+      → IsOrYields err.faults err.faults' answer status.ReadFault
   pub too_long : answer ≡ status.TooLong → Rose shelf.long_files shelf.long_files'
-  pub longer : answer ≡ status.TooLong → IsSome shelf.contents → HoldsMoreThan shelf.contents (file_of words) 1048576
+  pub longer : answer ≡ status.TooLong
+      → (name : Bytes) × IsNameOf shelf.contents (asked_of words) name × (IsSome shelf.contents → HoldsMoreThan shelf.contents name 1048576) × Gains err.written err.written' (line.too_long name)
   pub longer_file : IsInGrammar words → HoldsMoreThan shelf.contents (file_of words) 1048576
       → IsOrYieldsToFault err.faults err.faults' shelf.faults shelf.faults' answer status.TooLong
+  pub longer_input : (name : Bytes) → IsInGrammar words → IsThere shelf.contents (file_of words) → input_of (asked_of words) ≡ Some name → HoldsMoreThan shelf.contents name 1048576
+      → IsOrYieldsToFault err.faults err.faults' shelf.faults shelf.faults' answer status.TooLong
   -- the text: Refused comes exactly where it isn't accepted or no statement starts on one of the lines, but for deep texts, and what is told is true of it
-  pub refused : answer ≡ status.Refused → OfFile shelf.contents (file_of words) (λ text. TellsTruth status.Refused text (asked_of words) err.written err.written')
-  pub no_slice : (text : Bytes) → NamesText words shelf.contents text → IsBelowLimits text (asked_of words) → StartsNone text (asked_of words)
+  pub refused : answer ≡ status.Refused → OfFiles shelf.contents (asked_of words) (λ text input. TellsTruth status.Refused text (asked_of words) input err.written err.written')
+  pub no_slice : (text input : Bytes) → NamesText words shelf.contents text input → IsBelowLimits text (asked_of words) → StartsNone text (asked_of words)
       → IsOrYieldsToFault err.faults err.faults' shelf.faults shelf.faults' answer status.Refused
       ⊎ ((answer ≡ status.Limit) × IsDeep text × Gains err.written err.written' (limit Nesting))
   -- the limits: Limit comes exactly where a quantity of a text in the grammar is above its number, and for deep texts
-  pub limits : answer ≡ status.Limit → OfFile shelf.contents (file_of words) (λ text. TellsTruth status.Limit text (asked_of words) err.written err.written')
-  pub above : (text : Bytes) (name : LimitName) → NamesText words shelf.contents text → IsAboveLimit text (asked_of words) name
+  pub limits : answer ≡ status.Limit → OfFiles shelf.contents (asked_of words) (λ text input. TellsTruth status.Limit text (asked_of words) input err.written err.written')
+  pub above : (text input : Bytes) (name : LimitName) → NamesText words shelf.contents text input → IsAboveLimit text (asked_of words) name
       → IsOrYieldsToFault err.faults err.faults' shelf.faults shelf.faults' answer status.Limit
-  pub names_limit : (text : Bytes) (name : LimitName) → NamesText words shelf.contents text → IsAboveLimit text (asked_of words) name → answer ≡ status.Limit
+  pub names_limit : (text input : Bytes) (name : LimitName) → NamesText words shelf.contents text input → IsAboveLimit text (asked_of words) name → answer ≡ status.Limit
       → Gains err.written err.written' (limit name)
+  -- the run: Undefined comes exactly where an act of it is undefined, and Steps exactly where it needs a further act, and what is told is true of it
+  pub undefined : answer ≡ status.Undefined → OfFiles shelf.contents (asked_of words) (λ text input. TellsTruth status.Undefined text (asked_of words) input err.written err.written')
+  pub undefined_act : (text input : Bytes) (p : Program) (statement : ℕ) → NamesText words shelf.contents text input → HasStarts text (asked_of words) p → IsUndefined (asked_of words) p input statement
+      → IsOrYieldsToFault err.faults err.faults' shelf.faults shelf.faults' answer status.Undefined
+  pub steps : answer ≡ status.Steps → OfFiles shelf.contents (asked_of words) (λ text input. TellsTruth status.Steps text (asked_of words) input err.written err.written')
+  pub more_steps : (text input : Bytes) (p : Program) → NamesText words shelf.contents text input → HasStarts text (asked_of words) p → NeedsMore (asked_of words) p input
+      → IsOrYieldsToFault err.faults err.faults' shelf.faults shelf.faults' answer status.Steps
   -- what is asked for: after Done it is written, slices in the order of the lines, and where no fault came and memory sufficed, Done comes
-  pub done : answer ≡ status.Done → OfFile shelf.contents (file_of words) (λ text. WritesAsked text (asked_of words) out.written out.written')
-  pub complete : (text : Bytes) → NamesText words shelf.contents text → StartsSome text (asked_of words)
+  pub done : answer ≡ status.Done → OfFiles shelf.contents (asked_of words) (λ text input. WritesAsked text (asked_of words) input out.written out.written')
+  pub complete : (text input : Bytes) → NamesText words shelf.contents text input → StartsSome text (asked_of words) input
       → NoFault shelf.faults shelf.faults' → NoFault out.faults out.faults' → NoFault err.faults err.faults'
       → (answer ≡ status.Done) ⊎ (answer ≡ status.NoMemory)
   -- no fault comes where the shelf never fails, out has room for what is written and err for `out of memory`
-  pub faultless : (text : Bytes) → NamesText words shelf.contents text → StartsSome text (asked_of words) → shelf.never_fails
-      → ((texts : List Bytes) → AreWritten text (asked_of words) texts → out.takes (length (joined texts))) → err.takes 14
+  pub faultless : (text input : Bytes) → NamesText words shelf.contents text input → StartsSome text (asked_of words) input → shelf.never_fails
+      → ((texts : List Bytes) → AreWritten text (asked_of words) input texts → out.takes (length (joined texts))) → err.takes 14
       → IsFaultless shelf.faults shelf.faults' out.faults out.faults' err.faults err.faults' answer
   -- the sinks: out is as it was but after Done and WriteFault
   pub write_fault : answer ≡ status.WriteFault → Rose out.faults out.faults' ⊎ Rose err.faults err.faults'
@@ -57,17 +73,17 @@ pub record Outcome (words : List Bytes) (shelf : ShelfSeen) (out err : SinkSeen)
   pub cut : answer ≡ status.WriteFault
       → (out.stays × Rose err.faults err.faults')
       ⊎ (Rose out.faults out.faults'
-      × OfFile shelf.contents (file_of words) (λ text. WritesFront text (asked_of words) out.written out.written')
+      × OfFiles shelf.contents (asked_of words) (λ text input. WritesFront text (asked_of words) input out.written out.written')
       × PutOrCutOff err.faults err.faults' err.written err.written' cannot_write)
   pub silent : answer ≡ status.Done → err.stays
-  -- the shelf holds what it held, and was asked for one file at most, once
+  -- the shelf holds what it held, and was asked for each file at most once
   pub contents : shelf.contents' ≡ shelf.contents
-  pub fetched : (shelf.fetches' ≡ shelf.fetches) ⊎ (shelf.fetches' ≡ one_more shelf.fetches)
+  pub fetched : (shelf.fetches' ≡ shelf.fetches) ⊎ AreFetches (asked_of words) shelf.fetches shelf.fetches'
 
 -- all that a call promises: also that err has gained the line of the status
 pub record Promises (words : List Bytes) (shelf : ShelfSeen) (out err : SinkSeen) (answer : Status) : Type 0 where
   pub outcome : Outcome words shelf out err answer
-  pub tells : Tells err.faults err.faults' err.written err.written' (file_of words) (lines_of words) answer
+  pub tells : Tells err.faults err.faults' err.written err.written' (asked_of words) answer
 
 -- what holds of a call of the slicer holds but for its line of a call of the program, which may have ended before it, with nothing done; of a shelf and sinks that tell these things
 abbrev pub CallsKeepPromises : {F O E : Type 0} → (F → ℕ) → (F → ℕ) → (F → ℕ) → (F → Told) → (F → Type 0) → (O → ℕ) → (O → Option Bytes) → (O → ℕ → Type 0) → (E → ℕ) → (E → Option Bytes) → (E → ℕ → Type 0) → Type 0

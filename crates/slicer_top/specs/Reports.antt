@@ -1,5 +1,5 @@
 -- Why a file gives nothing of what is asked, and how that is told.
-use Rattle.std.specs.Prelude.{◌≡◌, ◌⊎◌, ℕ, ◌≤◌, List, Contains, length, Option, IsSome}
+use Rattle.std.specs.Prelude.{◌≡◌, ◌⊎◌, ℕ, [], Contains, Option, IsSome, IsSomeAnd, unwrap_or}
 use Rattle.edge_io.specs.Contents.{Told, Lacks, HoldsMoreThan}
 use Rattle.edge_io.specs.Count.{Rose}
 use Rattle.edge_io.specs.Written.{Gains}
@@ -14,56 +14,119 @@ use Rattle.c_types.specs.declared.rule_fault.RuleFault.{RuleFault}
 use Rattle.c_types.specs.declared.rule_fault.RuleFault.TheVariants as rule
 use Rattle.c_reader.specs.Reading.{ReadsProgram}
 use Rattle.c_reader.specs.Refusals.{IsLexFault, HasParseFault, HasRuleFault}
-use Rattle.call_words.specs.Requests.{Asked}
+use Rattle.call_words.specs.Requests.{Asked, file_in, input_of, lines_in, steps_of}
 use Rattle.slicer_top.specs.declared.refusal.Refusal.{Refusal}
-use Rattle.slicer_top.specs.declared.refusal.Refusal.TheVariants.{Unreadable, TooLong, Lex, Parse, Check, NoStart, Graph, TooMany, NoMemory}
+use Rattle.slicer_top.specs.declared.refusal.Refusal.TheVariants.{Unreadable, TooLong, NoInput, LongInput, Lex, Parse, Check, NoStart, Graph, TooMany, UndefinedAct, MoreSteps, NoMemory}
 use Rattle.slicer_top.specs.declared.status.Status.{Status}
 use Rattle.slicer_top.specs.declared.status.Status.TheVariants as status
-use Rattle.slicer_top.specs.Files.{OfFile}
-use Rattle.slice_engine.specs.GraphLimits.{IsAboveGraphLimit}
-use Rattle.slicer_top.specs.Slices.{LacksStart, AsksTooMany}
+use Rattle.slicer_top.specs.Files.{AreShort, IsThere, OfFiles}
+use Rattle.slicer_top.specs.Slices.{HasStarts, IsAboveFor, LacksStart, AsksTooMany}
 use Rattle.slicer_top.specs.Lines as line
+use Rattle.slicer_top.specs.Runs.{IsUndefinedAt, NeedsMore}
 
--- the text shows the refusal, where this is asked of it
-abbrev pub IsReason : Bytes → Asked → Refusal → Type 0
-IsReason text asked Unreadable = ⊥
-IsReason text asked TooLong = ⊥
-IsReason text asked (Lex fault) = IsLexFault text fault
-IsReason text asked (Parse fault) = HasParseFault text fault
-IsReason text asked (Check fault) = HasRuleFault text fault
-IsReason text asked (NoStart line) = LacksStart text asked line
-IsReason text asked (Graph name) = (p : Program) × ReadsProgram text p × IsAboveGraphLimit p name
-IsReason text asked TooMany = AsksTooMany text asked
-IsReason text asked NoMemory = Unit {0}
+-- the text shows the refusal, where this is asked of it, with this input
+abbrev pub IsReason : Bytes → Asked → Bytes → Refusal → Type 0
+IsReason text asked input Unreadable = ⊥
+IsReason text asked input TooLong = ⊥
+IsReason text asked input NoInput = ⊥
+IsReason text asked input LongInput = ⊥
+IsReason text asked input (Lex fault) = IsLexFault text fault
+IsReason text asked input (Parse fault) = HasParseFault text fault
+IsReason text asked input (Check fault) = HasRuleFault text fault
+IsReason text asked input (NoStart line) = LacksStart text asked line
+IsReason text asked input (Graph name) = (p : Program) × ReadsProgram text p × IsAboveFor asked p name
+IsReason text asked input TooMany = AsksTooMany text asked
+IsReason text asked input (UndefinedAct at statement) = (p : Program) × HasStarts text asked p × IsUndefinedAt asked p input at statement
+IsReason text asked input MoreSteps = (p : Program) × HasStarts text asked p × NeedsMore asked p input
+IsReason text asked input NoMemory = Unit {0}
 
--- the file holds a text that shows the refusal
-abbrev pub IsShown : Told → Bytes → Asked → Refusal → Type 0
-IsShown told file asked refusal = OfFile told file (λ text. (length text ≤ 1048576) × IsReason text asked refusal)
+-- each text with this program shows the refusal
+abbrev pub IsReasonOf : Program → Asked → Bytes → Refusal → Type 0
+IsReasonOf p asked input refusal = (text : Bytes) → ReadsProgram text p → IsReason text asked input refusal
 
--- the cause of a refusal: the counts of faults and of long files before and after the fetch, or the bytes of the file
-module _ (told : Told) (file : Bytes) (asked : Asked) (faults faults' long_files long_files' : ℕ) where
+-- the files hold a text and an input that show the refusal
+abbrev pub IsShown : Told → Asked → Refusal → Type 0
+IsShown told asked refusal = OfFiles told asked (λ text input. AreShort text input × IsReason text asked input refusal)
+
+-- the counts of faults and of long files before and after fetches
+module _ (told : Told) (faults faults' long_files long_files' : ℕ) where
+  -- a file couldn't be read, or it is too long
+  abbrev pub IsUnread : Bytes → Type 0
+  IsUnread name = Rose faults faults' ⊎ Lacks told name
+
+  abbrev pub IsLong : Bytes → Type 0
+  IsLong name = Rose long_files long_files' × (IsSome told → HoldsMoreThan told name 1048576)
+
+  -- the cause of a refusal for the file with the input
+  abbrev pub IsInputFault : Option Bytes → Refusal → Type 0
+  IsInputFault name NoInput = IsSomeAnd name IsUnread
+  IsInputFault name LongInput = IsSomeAnd name IsLong
+  IsInputFault name NoMemory = Unit {0}
+  IsInputFault name Unreadable = ⊥
+  IsInputFault name TooLong = ⊥
+  IsInputFault name (Lex fault) = ⊥
+  IsInputFault name (Parse fault) = ⊥
+  IsInputFault name (Check fault) = ⊥
+  IsInputFault name (NoStart line) = ⊥
+  IsInputFault name (Graph name') = ⊥
+  IsInputFault name TooMany = ⊥
+  IsInputFault name (UndefinedAct at statement) = ⊥
+  IsInputFault name MoreSteps = ⊥
+
+-- the cause of a refusal: these counts, or the bytes of the files; of the input, where the file with the text is there
+module _ (told : Told) (asked : Asked) (faults faults' long_files long_files' : ℕ) where
+  abbrev Unread : Bytes → Type 0
+  Unread = IsUnread told faults faults' long_files long_files'
+
+  abbrev Long : Bytes → Type 0
+  Long = IsLong told faults faults' long_files long_files'
+
   abbrev pub IsCause : Refusal → Type 0
-  IsCause Unreadable = Rose faults faults' ⊎ Lacks told file
-  IsCause TooLong = Rose long_files long_files' × (IsSome told → HoldsMoreThan told file 1048576)
-  IsCause (Lex fault) = IsShown told file asked (Lex fault)
-  IsCause (Parse fault) = IsShown told file asked (Parse fault)
-  IsCause (Check fault) = IsShown told file asked (Check fault)
-  IsCause (NoStart line) = IsShown told file asked (NoStart line)
-  IsCause (Graph name) = IsShown told file asked (Graph name)
-  IsCause TooMany = IsShown told file asked TooMany
+  IsCause Unreadable = Unread (file_in asked)
+  IsCause TooLong = Long (file_in asked)
+  IsCause NoInput = IsThere told (file_in asked) × IsSomeAnd (input_of asked) Unread
+  IsCause LongInput = IsThere told (file_in asked) × IsSomeAnd (input_of asked) Long
+  IsCause (Lex fault) = IsShown told asked (Lex fault)
+  IsCause (Parse fault) = IsShown told asked (Parse fault)
+  IsCause (Check fault) = IsShown told asked (Check fault)
+  IsCause (NoStart line) = IsShown told asked (NoStart line)
+  IsCause (Graph name) = IsShown told asked (Graph name)
+  IsCause TooMany = IsShown told asked TooMany
+  IsCause (UndefinedAct at statement) = IsShown told asked (UndefinedAct at statement)
+  IsCause MoreSteps = IsShown told asked MoreSteps
   IsCause NoMemory = Unit {0}
 
--- a line without a statement that is told is one of those that were asked for
-abbrev pub IsAmong : List ℕ → Refusal → Type 0
-IsAmong lines (NoStart l) = Contains lines l
-IsAmong lines Unreadable = Unit {0}
-IsAmong lines TooLong = Unit {0}
-IsAmong lines (Lex fault) = Unit {0}
-IsAmong lines (Parse fault) = Unit {0}
-IsAmong lines (Check fault) = Unit {0}
-IsAmong lines (Graph name) = Unit {0}
-IsAmong lines TooMany = Unit {0}
-IsAmong lines NoMemory = Unit {0}
+-- a refusal for a file that couldn't be read means that it is lacking
+abbrev pub IsMissing : Told → Asked → Refusal → Type 0
+IsMissing told asked Unreadable = Lacks told (file_in asked)
+IsMissing told asked NoInput = IsSomeAnd (input_of asked) (Lacks told)
+IsMissing told asked TooLong = Unit {0}
+IsMissing told asked LongInput = Unit {0}
+IsMissing told asked (Lex fault) = Unit {0}
+IsMissing told asked (Parse fault) = Unit {0}
+IsMissing told asked (Check fault) = Unit {0}
+IsMissing told asked (NoStart l) = Unit {0}
+IsMissing told asked (Graph name) = Unit {0}
+IsMissing told asked TooMany = Unit {0}
+IsMissing told asked (UndefinedAct at statement) = Unit {0}
+IsMissing told asked MoreSteps = Unit {0}
+IsMissing told asked NoMemory = Unit {0}
+
+-- what is told is among what is asked for: a line without a statement is one of the lines, and the input is asked for where that is told
+abbrev pub IsAmong : Asked → Refusal → Type 0
+IsAmong asked (NoStart l) = Contains (lines_in asked) l
+IsAmong asked Unreadable = Unit {0}
+IsAmong asked TooLong = Unit {0}
+IsAmong asked NoInput = IsSome (input_of asked)
+IsAmong asked LongInput = IsSome (input_of asked)
+IsAmong asked (Lex fault) = Unit {0}
+IsAmong asked (Parse fault) = Unit {0}
+IsAmong asked (Check fault) = Unit {0}
+IsAmong asked (Graph name) = Unit {0}
+IsAmong asked TooMany = Unit {0}
+IsAmong asked (UndefinedAct at statement) = Unit {0}
+IsAmong asked MoreSteps = Unit {0}
+IsAmong asked NoMemory = Unit {0}
 
 -- the status of a refusal
 abbrev pub lex_status : LexFault → Status
@@ -86,12 +149,16 @@ rule_status rule.NoMemory = status.NoMemory
 abbrev pub status_of : Refusal → Status
 status_of Unreadable = status.ReadFault
 status_of TooLong = status.TooLong
+status_of NoInput = status.ReadFault
+status_of LongInput = status.TooLong
 status_of (Lex fault) = lex_status fault
 status_of (Parse fault) = parse_status fault
 status_of (Check fault) = rule_status fault
 status_of (NoStart line) = status.Refused
 status_of (Graph name) = status.Limit
 status_of TooMany = status.Limit
+status_of (UndefinedAct at statement) = status.Undefined
+status_of MoreSteps = status.Steps
 status_of NoMemory = status.NoMemory
 
 -- its line on err
@@ -112,16 +179,23 @@ rule_line (rule.Rule number at) = line.rule at number
 rule_line (rule.Limit name) = line.limit name
 rule_line rule.NoMemory = line.out_of_memory
 
-abbrev pub words_of : Bytes → Refusal → Bytes
-words_of file Unreadable = line.cannot_read file
-words_of file TooLong = line.too_long file
-words_of file (Lex fault) = lex_line fault
-words_of file (Parse fault) = parse_line fault
-words_of file (Check fault) = rule_line fault
-words_of file (NoStart at) = line.no_start at
-words_of file (Graph name) = line.limit name
-words_of file TooMany = line.limit limit.Criteria
-words_of file NoMemory = line.out_of_memory
+abbrev pub input_name : Asked → Bytes
+input_name asked = unwrap_or (input_of asked) []
+
+abbrev pub words_of : Asked → Refusal → Bytes
+words_of asked Unreadable = line.cannot_read (file_in asked)
+words_of asked TooLong = line.too_long (file_in asked)
+words_of asked NoInput = line.cannot_read (input_name asked)
+words_of asked LongInput = line.too_long (input_name asked)
+words_of asked (Lex fault) = lex_line fault
+words_of asked (Parse fault) = parse_line fault
+words_of asked (Check fault) = rule_line fault
+words_of asked (NoStart at) = line.no_start at
+words_of asked (Graph name) = line.limit name
+words_of asked TooMany = line.limit limit.Criteria
+words_of asked (UndefinedAct at statement) = line.undefined_act at statement
+words_of asked MoreSteps = line.more_steps (steps_of asked)
+words_of asked NoMemory = line.out_of_memory
 
 -- the line was put and the status is this one, or the put failed
 module _ (faults faults' : ℕ) (before after : Option Bytes) where
@@ -129,6 +203,6 @@ module _ (faults faults' : ℕ) (before after : Option Bytes) where
   PutsLine answer words result = ((result ≡ answer) × Gains before after words) ⊎ ((result ≡ status.WriteFault) × line.CutOff faults faults' before after words)
 
   -- the refusal was told, or that memory was wanting for its line
-  abbrev pub IsReported : Bytes → Refusal → Status → Type 0
-  IsReported file refusal result =
-      PutsLine (status_of refusal) (words_of file refusal) result ⊎ PutsLine status.NoMemory line.out_of_memory result
+  abbrev pub IsReported : Asked → Refusal → Status → Type 0
+  IsReported asked refusal result =
+      PutsLine (status_of refusal) (words_of asked refusal) result ⊎ PutsLine status.NoMemory line.out_of_memory result

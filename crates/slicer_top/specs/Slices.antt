@@ -5,17 +5,29 @@ use Rattle.c_tree.specs.declared.limits.LimitName.{LimitName}
 use Rattle.c_tree.specs.declared.program.Program.{Program}
 use Rattle.c_language.specs.Words.{Bytes}
 use Rattle.c_reader.specs.Reading.{ReadsProgram}
+use Rattle.c_meaning.specs.Meaning.{Trace, meaning}
 use Rattle.call_words.specs.Requests.{Asked, lines_in}
+use Rattle.run_text.specs.Answers.{EndsWith}
+use Rattle.run_text.specs.Lines.{trace_words}
 use Rattle.slice_engine.specs.GraphLimits.{IsAboveGraphLimit}
 use Rattle.slice_engine.specs.Slice.{HasStart, IsSlice, IsFaithful}
 use Rattle.slicer_top.specs.Graphs.{IsGraphText, IsMembersText}
+use Rattle.slicer_top.specs.Runs.{RunEnds}
 
 -- ---- the program of a text
 
--- the text is accepted and within the limits, this is its program, and its graph is within the limits
-pub record HasGraph (text : Bytes) (p : Program) : Type 0 where
+-- a quantity of the program's graph is above its number, where the graph is made for this
+abbrev pub IsAboveFor : Asked → Program → LimitName → Type 0
+IsAboveFor (Asked.slice file lines workers) p name = IsAboveGraphLimit p name
+IsAboveFor (Asked.trace file lines input steps) p name = ⊥
+IsAboveFor (Asked.run file input steps) p name = ⊥
+IsAboveFor (Asked.graph file workers) p name = IsAboveGraphLimit p name
+IsAboveFor (Asked.members file line workers) p name = IsAboveGraphLimit p name
+
+-- the text is accepted and within the limits, this is its program, and its graph is within the limits, where it is made
+pub record HasGraph (text : Bytes) (asked : Asked) (p : Program) : Type 0 where
   pub reads : ReadsProgram text p
-  pub within : (name : LimitName) → IsAboveGraphLimit p name → ⊥
+  pub within : (name : LimitName) → IsAboveFor asked p name → ⊥
 
 -- ---- the lines that are asked for
 
@@ -37,22 +49,29 @@ pub record IsFirstWithout (p : Program) (lines : List ℕ) (line : ℕ) : Type 0
 
 -- the text has a program with a graph within the limits, and so it is of a line
 abbrev pub LacksStart : Bytes → Asked → ℕ → Type 0
-LacksStart text asked line = (p : Program) × HasGraph text p × IsFirstWithout p (lines_in asked) line
+LacksStart text asked line = (p : Program) × HasGraph text asked p × IsFirstWithout p (lines_in asked) line
 
 -- the text has such a program, and more than 64 lines were asked for
 abbrev pub AsksTooMany : Bytes → Asked → Type 0
-AsksTooMany text asked = (p : Program) × HasGraph text p × (64 < length (lines_in asked))
+AsksTooMany text asked = (p : Program) × HasGraph text asked p × (64 < length (lines_in asked))
 
 -- the text has such a program, and on each of the lines, which are at most 64, starts a statement of it
-pub record StartsSome (text : Bytes) (asked : Asked) : Type 0 where
+pub record HasStarts (text : Bytes) (asked : Asked) (p : Program) : Type 0 where
+  pub built : HasGraph text asked p
+  pub few : length (lines_in asked) ≤ 64
+  pub starts : StartOn p (lines_in asked)
+
+-- so it is of some program; a run of it on this input ends, where one is asked for
+pub record StartsSome (text : Bytes) (asked : Asked) (input : Bytes) : Type 0 where
   pub program : Program
-  pub built : HasGraph text program
+  pub built : HasGraph text asked program
   pub few : length (lines_in asked) ≤ 64
   pub starts : StartOn program (lines_in asked)
+  pub ends : RunEnds asked program input
 
 -- the text has no such program, or on one of the lines starts no statement of it
 abbrev pub StartsNone : Bytes → Asked → Type 0
-StartsNone text asked = (p : Program) → HasGraph text p → StartOn p (lines_in asked) → ⊥
+StartsNone text asked = (p : Program) → HasGraph text asked p → StartOn p (lines_in asked) → ⊥
 
 -- ---- slices
 
@@ -88,19 +107,25 @@ IsOneText P [] = ⊥
 IsOneText P (t ∷ []) = P t
 IsOneText P (t ∷ u ∷ us) = ⊥
 
--- the texts are what is asked of the program: its slices at the lines, its graph, or what reaches the line in its graph
-abbrev pub AreTextsFor : Program → Asked → List Bytes → Type 0
-AreTextsFor p (Asked.slice file lines workers) texts = AreSlices p lines texts
-AreTextsFor p (Asked.graph file workers) texts = IsOneText (IsGraphText p) texts
-AreTextsFor p (Asked.members file line workers) texts = IsOneText (IsMembersText p line) texts
+-- the texts are what is asked of the program: its slices at the lines, the values at the lines in a run on this input, what the run writes, its graph, or what reaches the line in its graph
+abbrev pub AreTextsFor : Program → Asked → Bytes → List Bytes → Type 0
+AreTextsFor p (Asked.slice file lines workers) input texts = AreSlices p lines texts
+AreTextsFor p (Asked.trace file lines name steps) input texts = IsOneText (EndsWith (trace_words p lines) (meaning steps p input)) texts
+AreTextsFor p (Asked.run file name steps) input texts = IsOneText (EndsWith (λ (t : Trace). t.output) (meaning steps p input)) texts
+AreTextsFor p (Asked.graph file workers) input texts = IsOneText (IsGraphText p) texts
+AreTextsFor p (Asked.members file line workers) input texts = IsOneText (IsMembersText p line) texts
 
 -- the texts are what is asked of the text's program; the lines are at most 64, and on each of them starts a statement
-pub record AreWritten (text : Bytes) (asked : Asked) (texts : List Bytes) : Type 0 where
+pub record AreWritten (text : Bytes) (asked : Asked) (input : Bytes) (texts : List Bytes) : Type 0 where
   pub program : Program
-  pub built : HasGraph text program
+  pub built : HasGraph text asked program
   pub few : length (lines_in asked) ≤ 64
   pub starts : StartOn program (lines_in asked)
-  pub are : AreTextsFor program asked texts
+  pub are : AreTextsFor program asked input texts
+
+-- so it is of each text with this program
+abbrev pub AreWrittenOf : Program → Asked → Bytes → List Bytes → Type 0
+AreWrittenOf p asked input texts = (text : Bytes) → ReadsProgram text p → AreWritten text asked input texts
 
 -- texts one behind the other
 abbrev pub joined : List Bytes → Bytes
@@ -108,8 +133,8 @@ joined [] = []
 joined (t ∷ ts) = t ++ joined ts
 
 -- what is asked for was written behind what was there, whole, and nothing else
-abbrev pub WritesAsked : Bytes → Asked → Option Bytes → Option Bytes → Type 0
-WritesAsked text asked before after = (texts : List Bytes) × AreWritten text asked texts × Gains before after (joined texts)
+abbrev pub WritesAsked : Bytes → Asked → Bytes → Option Bytes → Option Bytes → Type 0
+WritesAsked text asked input before after = (texts : List Bytes) × AreWritten text asked input texts × Gains before after (joined texts)
 
 -- the texts before one of them were written, and a front of that one
 pub record GainsUpTo (before after : Option Bytes) (texts : List Bytes) : Type 0 where
@@ -119,5 +144,5 @@ pub record GainsUpTo (before after : Option Bytes) (texts : List Bytes) : Type 0
   pub front : Gains before after (joined (take place texts) ++ take count (text_at texts place))
 
 -- so it is of what is asked for
-abbrev pub WritesFront : Bytes → Asked → Option Bytes → Option Bytes → Type 0
-WritesFront text asked before after = (texts : List Bytes) × AreWritten text asked texts × GainsUpTo before after texts
+abbrev pub WritesFront : Bytes → Asked → Bytes → Option Bytes → Option Bytes → Type 0
+WritesFront text asked input before after = (texts : List Bytes) × AreWritten text asked input texts × GainsUpTo before after texts

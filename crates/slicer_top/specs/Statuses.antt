@@ -4,7 +4,7 @@ use Rattle.std.specs.Option.{unwrap_or}
 use Rattle.edge_io.specs.Count.{Rose}
 use Rattle.slicer_top.specs.declared.exit.Exit.{Exit}
 use Rattle.slicer_top.specs.declared.status.Status.{Status}
-use Rattle.slicer_top.specs.declared.status.Status.TheVariants.{Done, Refused, Usage, ReadFault, WriteFault, NoMemory, Limit, TooLong}
+use Rattle.slicer_top.specs.declared.status.Status.TheVariants.{Done, Refused, Usage, ReadFault, WriteFault, NoMemory, Undefined, Steps, Limit, TooLong}
 
 -- the exit code of a status
 abbrev pub code_of : Status → ℕ
@@ -14,6 +14,8 @@ code_of Usage = 2
 code_of ReadFault = 3
 code_of WriteFault = 4
 code_of NoMemory = 5
+code_of Undefined = 6
+code_of Steps = 7
 code_of Limit = 8
 code_of TooLong = 9
 

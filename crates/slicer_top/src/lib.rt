@@ -5,11 +5,13 @@
 //! words of the program's arguments, and its answer, an [`Exit`], has the code of the status.
 #![tactic(auto)]
 
+mod criteria;
 mod exit;
 mod laws;
 mod refusal;
 mod report;
 mod run;
+mod running;
 mod slicing;
 mod status;
 

@@ -1,8 +1,10 @@
 //! Why a file gives nothing of what is asked, with the faults of fetching, of reading and of the graph as causes.
 ghost use Rattle.std.specs.Prelude.{◌≡◌};
 ghost use Rattle.slicer_top.specs.declared.refusal.Refusal.TheVariants.{NoMemory};
+ghost use Rattle.slicer_top.specs.Refusals as spec;
 ghost use Rattle.slicer_top.specs.Refusals.{of_fetch, of_graph, of_reading};
 
+use c_tree::StatementId;
 use edge_io::FetchFault;
 use slice_engine::{GraphFault, LexFault, LimitName, ParseFault, ReadRefusal, RuleFault};
 use std::alloc::AllocError;
@@ -14,6 +16,10 @@ pub(crate) enum Refusal {
     Unreadable,
     /// The file is longer than 1,048,576 bytes.
     TooLong,
+    /// The file with the input couldn't be read.
+    NoInput,
+    /// The file with the input is longer than 1,048,576 bytes.
+    LongInput,
     /// The text has no tokens.
     Lex(LexFault),
     /// Its tokens aren't in the grammar, or nest deeper than 100.
@@ -26,6 +32,10 @@ pub(crate) enum Refusal {
     TooMany,
     /// No statement starts on this line, and one starts on each line that was asked for before it.
     NoStart(u64),
+    /// An act of the run is undefined: it is of a statement that starts on this line, and has this number.
+    UndefinedAct(u32, StatementId),
+    /// The run needs more acts than it may have.
+    MoreSteps,
     /// There was no memory for the work.
     NoMemory,
 }
@@ -47,6 +57,17 @@ impl From<FetchFault> for Refusal {
             FetchFault::TooLong => Refusal::TooLong,
             FetchFault::NoMemory => Refusal::NoMemory,
         }
+    }
+}
+
+/// What a fault of the file with the input is.
+pub(crate) fn of_input(fault: FetchFault) -> Refusal
+    ensures { result ≡ spec.of_input fault }
+{
+    match fault {
+        FetchFault::Failed => Refusal::NoInput,
+        FetchFault::TooLong => Refusal::LongInput,
+        FetchFault::NoMemory => Refusal::NoMemory,
     }
 }
 

@@ -1,23 +1,35 @@
 //! The lines on err: the line and the status of each refusal.
 ghost use Rattle.std.specs.Prelude.{◌≡◌, IfOk, IsErr, MatchResult, length};
+ghost use Rattle.call_words.specs.Requests.{asked_by};
 ghost use Rattle.slicer_top.specs.Lines as lines;
 ghost use Rattle.slicer_top.specs.Reports as spec;
 ghost use Rattle.slicer_top.specs.Reports.{PutsLine, IsReported};
 
 use crate::refusal::Refusal;
 use crate::status::Status;
+use c_tree::StatementId;
+use call_words::Request;
 use edge_io::{PutFailed, Sink, Text};
 use slice_engine::{LexFault, LimitName, ParseFault, RuleFault};
 use std::alloc::{AllocError, Global};
 
 /// Puts the line of a refusal, and answers its status. Where there is no memory for the line, that is told instead.
-pub(crate) fn report<E: Sink>(alloc: Global, refusal: &Refusal, file: &str, err: &mut E) -> Status
+pub(crate) fn report<E: Sink>(
+    alloc: Global,
+    refusal: &Refusal,
+    request: &Request,
+    err: &mut E,
+) -> Status
     ensures told { IsReported (E.faults err.old) (E.faults err.new) (E.written err.old) (E.written err.new)
-        file.now refusal.now result }
+        (asked_by request.now) refusal.now result }
     ensures taken { refusal.now ≡ Refusal.NoMemory → E.takes err.old 14
         → (result ≡ Status.NoMemory) × (E.faults err.new ≡ E.faults err.old) }
 {
-    tell_made(line_of(alloc, refusal, file), status_of(refusal), err)
+    tell_made(
+        line_of(alloc, refusal, request),
+        status_of(refusal),
+        err,
+    )
 }
 
 // Puts a line that was made, or where there was no memory for it, tells that.
@@ -62,12 +74,16 @@ fn status_of(refusal: &Refusal) -> Status
     match refusal {
         Refusal::Unreadable => Status::ReadFault,
         Refusal::TooLong => Status::TooLong,
+        Refusal::NoInput => Status::ReadFault,
+        Refusal::LongInput => Status::TooLong,
         Refusal::Lex(fault) => lex_status(fault),
         Refusal::Parse(fault) => parse_status(fault),
         Refusal::Check(fault) => rule_status(fault),
         Refusal::Graph(_) => Status::Limit,
         Refusal::TooMany => Status::Limit,
         Refusal::NoStart(_) => Status::Refused,
+        Refusal::UndefinedAct(_, _) => Status::Undefined,
+        Refusal::MoreSteps => Status::Steps,
         Refusal::NoMemory => Status::NoMemory,
     }
 }
@@ -107,21 +123,32 @@ fn rule_status(fault: &RuleFault) -> Status
 // ---- lines
 
 // The line of a refusal; for one that says that there was no memory none is made.
-fn line_of(alloc: Global, refusal: &Refusal, file: &str) -> Result<Text, AllocError>
-    ensures made { IfOk result (λ made. made ≡ spec.words_of file.now refusal.now) }
+fn line_of(alloc: Global, refusal: &Refusal, request: &Request) -> Result<Text, AllocError>
+    ensures made { IfOk result (λ made. made ≡ spec.words_of (asked_by request.now) refusal.now) }
     ensures none { refusal.now ≡ Refusal.NoMemory → IsErr result }
 {
     match refusal {
-        Refusal::Unreadable => unreadable_line(alloc, file),
-        Refusal::TooLong => too_long_line(alloc, file),
+        Refusal::Unreadable => unreadable_line(alloc, request.file()),
+        Refusal::TooLong => too_long_line(alloc, request.file()),
+        Refusal::NoInput => unreadable_line(alloc, input_of(request)),
+        Refusal::LongInput => too_long_line(alloc, input_of(request)),
         Refusal::Lex(fault) => lex_line(alloc, fault),
         Refusal::Parse(fault) => parse_line(alloc, fault),
         Refusal::Check(fault) => rule_line(alloc, fault),
         Refusal::Graph(name) => limit_line(alloc, *name),
         Refusal::TooMany => limit_line(alloc, LimitName::Criteria),
         Refusal::NoStart(line) => numbered(alloc, *line, b"no statement starts here"),
+        Refusal::UndefinedAct(at, statement) => undefined_line(alloc, *at, *statement),
+        Refusal::MoreSteps => steps_line(alloc, request.steps()),
         Refusal::NoMemory => Err(AllocError),
     }
+}
+
+// The name of the file with the input; an empty one where none is asked for.
+fn input_of(request: &Request) -> &str
+    ensures { result.now ≡ spec.input_name (asked_by request.now) }
+{
+    request.input().unwrap_or("")
 }
 
 fn unreadable_line(alloc: Global, file: &str) -> Result<Text, AllocError>
@@ -188,6 +215,25 @@ fn broken_line(alloc: Global, number: u32, at: u32) -> Result<Text, AllocError>
     let mut told = Text::from_slice(alloc, b"rule ")?;
     told.append(digits.as_bytes())?;
     numbered(alloc, u64::from(at), told.bytes())
+}
+
+fn undefined_line(alloc: Global, at: u32, statement: StatementId) -> Result<Text, AllocError>
+    ensures { IfOk result (λ made. made ≡ lines.undefined_act at statement) }
+{
+    let digits = statement.to_string(alloc)?;
+    let mut told = Text::from_slice(alloc, b"undefined act in statement ")?;
+    told.append(digits.as_bytes())?;
+    numbered(alloc, u64::from(at), told.bytes())
+}
+
+fn steps_line(alloc: Global, steps: u64) -> Result<Text, AllocError>
+    ensures { IfOk result (λ made. made ≡ lines.more_steps steps) }
+{
+    let digits = steps.to_string(alloc)?;
+    let mut line = Text::from_slice(alloc, b"more than ")?;
+    line.append(digits.as_bytes())?;
+    line.append(b" steps\n")?;
+    Ok(line)
 }
 
 fn limit_line(alloc: Global, name: LimitName) -> Result<Text, AllocError>

@@ -11,10 +11,12 @@ use edge_io::{PutFailed, Shelf, Sink, Text};
 use std::alloc::Global;
 
 /// Does what the words ask for: `slice FILE LINE..` writes to `out` the slice of the program in FILE at each LINE, in
-/// the order of the words, one put each; `graph FILE` its dependence graph, in one put; `members FILE LINE` the
-/// vertices of that graph that reach the statements on LINE, in one put.
+/// the order of the words, one put each; `trace FILE LINE.. --input INPUT` the values at these lines in a run of the
+/// program on the bytes of INPUT, in one put; `run FILE --input INPUT` what that run writes, in one put; `graph FILE`
+/// the dependence graph, in one put; `members FILE LINE` the vertices of that graph that reach the statements on LINE,
+/// in one put.
 ///
-/// The words are those of the grammar of the crate `call_words`. The file is fetched from `shelf`. Where the status
+/// The words are those of the grammar of the crate `call_words`. The files are fetched from `shelf`, FILE first. Where the status
 /// isn't `Done`, its line is put on `err`; where that fails, the status is `WriteFault`, and `err` gets no more.
 pub fn run_slicer<F: Shelf, O: Sink, E: Sink>(
     alloc: Global,
@@ -29,7 +31,7 @@ pub fn run_slicer<F: Shelf, O: Sink, E: Sink>(
     let request = match read_words(alloc, words) {
         Ok(request) => request,
         Err(WordsFault::Usage) => return tell(
-            b"usage: slicer slice FILE LINE.. | graph FILE | members FILE LINE\n",
+            b"usage: slicer slice FILE LINE.. | trace FILE LINE.. --input FILE | run FILE --input FILE | graph FILE | members FILE LINE\n",
             Status::Usage,
             err,
         ),
@@ -37,7 +39,7 @@ pub fn run_slicer<F: Shelf, O: Sink, E: Sink>(
     };
     match texts_for(alloc, &request, shelf) {
         Ok(texts) => write_texts(texts.as_slice(), out, err),
-        Err(refusal) => report(alloc, &refusal, request.file(), err),
+        Err(refusal) => report(alloc, &refusal, &request, err),
     }
 }
 

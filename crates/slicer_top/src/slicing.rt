@@ -1,16 +1,19 @@
 //! From what a request asks of a file to the texts that are written for it.
-ghost use Rattle.std.specs.Prelude.{◌≡◌, ◌∷◌, ◌≤◌, [], IfOk, IfErr, MatchResult, length};
-ghost use Rattle.call_words.specs.Requests.{asked_by, file_in, lines_in};
+ghost use Rattle.std.specs.Prelude.{◌≡◌, ◌∷◌, ◌≤◌, ℕ, List, [], IfOk, IfErr, IsSomeAnd, MatchResult, length};
+ghost use Rattle.c_language.specs.Programs.{IsWellFormed};
+ghost use Rattle.call_words.specs.Requests.{Asked, asked_by};
 ghost use Rattle.edge_io.specs.Contents.{Lacks};
-ghost use Rattle.edge_io.specs.Count.{one_more};
-ghost use Rattle.slice_engine.specs.Slice.{HasStart};
-ghost use Rattle.slicer_top.specs.Criteria.{AreCriteria, AreMade, IsCriteriaFault, StartAt};
-ghost use Rattle.slicer_top.specs.Files.{OfFile};
+ghost use Rattle.edge_io.specs.Count.{NeverFalls};
+ghost use Rattle.slicer_top.specs.Criteria.{IsCriteriaFault, StartAt};
+ghost use Rattle.slicer_top.specs.Files.{AreFetches, AreInputFetches, AreShort, IsInput, OfFiles, name_of};
 ghost use Rattle.slicer_top.specs.Graphs.{IsGraphText, IsMembersText};
-ghost use Rattle.slicer_top.specs.Slices.{AreSlices, AreWritten, IsOneText};
-ghost use Rattle.slicer_top.specs.Reports.{IsReason, IsAmong, IsCause};
+ghost use Rattle.slicer_top.specs.Slices.{AreSlices, AreWritten, AreWrittenOf, IsOneText};
+ghost use Rattle.slicer_top.specs.Reports.{IsReason, IsReasonOf, IsAmong, IsCause, IsInputFault, IsMissing};
 
-use crate::refusal::Refusal;
+use crate::criteria::{criteria_at, criterion_at};
+use crate::refusal::{Refusal, of_input};
+use crate::running::{alone, ran, trace_texts};
+use c_tree::Program;
 use call_words::Request;
 use edge_io::{Shelf, Text};
 use slice_batch::slices;
@@ -20,55 +23,103 @@ use std::alloc::{AllocError, Global};
 // The most bytes that a file may have.
 const MAX_FILE_BYTES: usize = 1_048_576;
 
-// How many lines may be asked for at most.
-const MAX_CRITERIA: usize = 64;
-
-/// The texts that are to be written for a request, of the file that it names.
+/// The texts that are to be written for a request, of the files that it names.
 pub(crate) fn texts_for<F: Shelf>(
     alloc: Global,
     request: &Request,
     shelf: &mut F,
 ) -> Result<Vec<Text>, Refusal>
     ensures contents { F.contents shelf.new ≡ F.contents shelf.old }
-    ensures fetched { F.fetches shelf.new ≡ one_more (F.fetches shelf.old) }
-    ensures ok { IfOk result (λ texts. OfFile (F.contents shelf.old) (file_in (asked_by request.now))
-        (λ text. (length text ≤ 1048576) × AreWritten text (asked_by request.now) texts.items)) }
-    ensures err { IfErr result (IsCause (F.contents shelf.old) (file_in (asked_by request.now)) (asked_by request.now)
+    ensures fetched { AreFetches (asked_by request.now) (F.fetches shelf.old) (F.fetches shelf.new) }
+    ensures ok { IfOk result (λ texts. OfFiles (F.contents shelf.old) (asked_by request.now)
+        (λ text input. AreShort text input × AreWritten text (asked_by request.now) input texts.items)) }
+    ensures err { IfErr result (IsCause (F.contents shelf.old) (asked_by request.now)
         (F.faults shelf.old) (F.faults shelf.new) (F.long_files shelf.old) (F.long_files shelf.new)) }
-    ensures among { IfErr result (IsAmong (lines_in (asked_by request.now))) }
+    ensures among { IfErr result (IsAmong (asked_by request.now)) }
     ensures no_fault { F.never_fails shelf.old → F.faults shelf.new ≡ F.faults shelf.old }
-    ensures missing { F.never_fails shelf.old → IfErr result (λ refusal. refusal ≡ Refusal.Unreadable
-        → Lacks (F.contents shelf.old) (file_in (asked_by request.now))) }
+    ensures missing { F.never_fails shelf.old → IfErr result (IsMissing (F.contents shelf.old) (asked_by request.now)) }
 {
-    let bytes = shelf.fetch(alloc, request.file(), MAX_FILE_BYTES)?;
-    texts_of(alloc, bytes.as_slice(), request)
+    let text = shelf.fetch(alloc, request.file(), MAX_FILE_BYTES)?;
+    let input = input_for(alloc, request.input(), shelf)?;
+    texts_of(alloc, text.as_slice(), input.as_slice(), request)
 }
 
-// The texts that are to be written for a request, or why this text gives none.
-fn texts_of(alloc: Global, text: &[u8], request: &Request) -> Result<Vec<Text>, Refusal>
+// The bytes of the file with the input, where one is asked for; otherwise none.
+fn input_for<F: Shelf>(
+    alloc: Global,
+    name: Option<&str>,
+    shelf: &mut F,
+) -> Result<Vec<u8>, Refusal>
+    ensures contents { F.contents shelf.new ≡ F.contents shelf.old }
+    ensures faults { NeverFalls (F.faults shelf.old) (F.faults shelf.new) }
+    ensures long_files { NeverFalls (F.long_files shelf.old) (F.long_files shelf.new) }
+    ensures fetched { AreInputFetches (name_of name.entry) (F.fetches shelf.old) (F.fetches shelf.new) }
+    ensures short { IfOk result (λ input. length input.items ≤ 1048576) }
+    ensures ok { IfOk result (λ input. IsInput (F.contents shelf.old) (name_of name.entry) input.items) }
+    ensures err { IfErr result (IsInputFault (F.contents shelf.old) (F.faults shelf.old) (F.faults shelf.new)
+        (F.long_files shelf.old) (F.long_files shelf.new) (name_of name.entry)) }
+    ensures no_fault { F.never_fails shelf.old → F.faults shelf.new ≡ F.faults shelf.old }
+    ensures missing { F.never_fails shelf.old → IfErr result (λ refusal. refusal ≡ Refusal.NoInput
+        → IsSomeAnd (name_of name.entry) (Lacks (F.contents shelf.old))) }
+{
+    match name {
+        None => Ok(Vec::new(alloc)),
+        Some(name) => match shelf.fetch(alloc, name, MAX_FILE_BYTES) {
+            Ok(input) => Ok(input),
+            Err(fault) => Err(of_input(fault)),
+        },
+    }
+}
+
+// The texts that are to be written for a request, or why this text and this input give none.
+fn texts_of(
+    alloc: Global,
+    text: &[u8],
+    input: &[u8],
+    request: &Request,
+) -> Result<Vec<Text>, Refusal>
     requires { length text.now ≤ 1048576 }
-    ensures ok { IfOk result (λ texts. AreWritten text.now (asked_by request.now) texts.items) }
-    ensures err { IfErr result (IsReason text.now (asked_by request.now)) }
+    ensures ok { IfOk result (λ texts. AreWritten text.now (asked_by request.now) input.now texts.items) }
+    ensures err { IfErr result (IsReason text.now (asked_by request.now) input.now) }
 {
     let program = read_program(alloc, text)?;
-    let engine = Engine::new(alloc, program)?;
-    let texts = made(alloc, &engine, request)?;
-    Ok(texts)
+    made(alloc, program, input, request)
 }
 
-// The texts that are to be written for a request, or the first of its lines on which no statement starts.
-fn made(alloc: Global, engine: &Engine, request: &Request) -> Result<Vec<Text>, Refusal>
-    ensures { MatchResult result (λ texts. AreMade engine.now (asked_by request.now) texts.items)
-        (IsCriteriaFault engine.now (lines_in (asked_by request.now))) }
+// The texts that are to be written for a request of this program, with this input, or why there are none.
+fn made(
+    alloc: Global,
+    program: Program,
+    input: &[u8],
+    request: &Request,
+) -> Result<Vec<Text>, Refusal>
+    requires { IsWellFormed program }
+    ensures { MatchResult result (λ texts. AreWrittenOf program (asked_by request.now) input.now texts.items)
+        (IsReasonOf program (asked_by request.now) input.now) }
 {
     match request {
-        Request::Slice { lines, .. } => slices_at(alloc, engine, lines.as_slice()),
-        Request::Graph { .. } => Ok(graph_text_of(alloc, engine)?),
-        Request::Members { line, .. } => members_text_at(alloc, engine, *line),
+        Request::Slice { lines, .. } => slice_texts(alloc, program, lines.as_slice()),
+        Request::Trace { lines, steps, .. } => {
+            trace_texts(alloc, &program, lines.as_slice(), input, *steps)
+        }
+        Request::Run { steps, .. } => ran(alloc, &program, input, *steps),
+        Request::Graph { .. } => graph_texts(alloc, program),
+        Request::Members { line, .. } => members_texts(alloc, program, *line),
     }
 }
 
 // ---- slices
+
+// The texts of the slices of a program at these lines, or why there are none.
+fn slice_texts(alloc: Global, program: Program, lines: &[u64]) -> Result<Vec<Text>, Refusal>
+    requires { IsWellFormed program }
+    ensures { (file input : List ℕ) (workers : ℕ) → MatchResult result
+        (λ texts. AreWrittenOf program (Asked.slice file lines.now workers) input texts.items)
+        (IsReasonOf program (Asked.slice file lines.now workers) input) }
+{
+    let engine = Engine::new(alloc, program)?;
+    slices_at(alloc, &engine, lines)
+}
 
 // The texts of the slices at these lines, at most 64, or the first line on which no statement starts.
 fn slices_at(alloc: Global, engine: &Engine, lines: &[u64]) -> Result<Vec<Text>, Refusal>
@@ -80,41 +131,30 @@ fn slices_at(alloc: Global, engine: &Engine, lines: &[u64]) -> Result<Vec<Text>,
     Ok(texts)
 }
 
-// The criteria of these lines, at most 64, or the first line on which no statement starts.
-fn criteria_at(alloc: Global, engine: &Engine, lines: &[u64]) -> Result<Vec<Criterion>, Refusal>
-    ensures { MatchResult result (λ found. AreCriteria engine.now lines.now found.items) (IsCriteriaFault engine.now lines.now) }
-{
-    if lines.len() > MAX_CRITERIA {
-        return Err(Refusal::TooMany);
-    }
-    let mut found = Vec::new(alloc);
-    for line in lines {
-        let criterion = criterion_at(engine, *line)?;
-        if found.push(criterion).is_err() {
-            return Err(Refusal::NoMemory);
-        }
-    }
-    Ok(found)
-}
-
-// The criterion of a line. Err: no statement starts there.
-fn criterion_at(engine: &Engine, line: u64) -> Result<Criterion, Refusal>
-    ensures { MatchResult result (λ c. (c.line ≡ line) × HasStart engine.now line)
-        (λ refusal. (refusal ≡ Refusal.NoStart line) × (HasStart engine.now line → ⊥)) }
-{
-    if line > u64::from(engine.last_line()) {
-        return Err(Refusal::NoStart(line));
-    }
-    let Ok(number) = u32::try_from(line) else {
-        return Err(Refusal::NoStart(line));
-    };
-    match engine.criterion(number) {
-        Some(criterion) => Ok(criterion),
-        None => Err(Refusal::NoStart(line)),
-    }
-}
-
 // ---- graphs
+
+// The text of a program's dependence graph, or why there is none.
+fn graph_texts(alloc: Global, program: Program) -> Result<Vec<Text>, Refusal>
+    requires { IsWellFormed program }
+    ensures { (file input : List ℕ) (workers : ℕ) → MatchResult result
+        (λ texts. AreWrittenOf program (Asked.graph file workers) input texts.items)
+        (IsReasonOf program (Asked.graph file workers) input) }
+{
+    let engine = Engine::new(alloc, program)?;
+    let texts = graph_text_of(alloc, &engine)?;
+    Ok(texts)
+}
+
+// The text of what reaches the statements on a line of a program, or why there is none.
+fn members_texts(alloc: Global, program: Program, line: u64) -> Result<Vec<Text>, Refusal>
+    requires { IsWellFormed program }
+    ensures { (file input : List ℕ) (workers : ℕ) → MatchResult result
+        (λ texts. AreWrittenOf program (Asked.members file line workers) input texts.items)
+        (IsReasonOf program (Asked.members file line workers) input) }
+{
+    let engine = Engine::new(alloc, program)?;
+    members_text_at(alloc, &engine, line)
+}
 
 // The text of the program's dependence graph. Err: no memory was left.
 fn graph_text_of(alloc: Global, engine: &Engine) -> Result<Vec<Text>, AllocError>
@@ -151,13 +191,4 @@ fn members_text(
         &set,
     )?;
     alone(alloc, text)
-}
-
-// A list of one text. Err: no memory was left.
-fn alone(alloc: Global, text: Text) -> Result<Vec<Text>, AllocError>
-    ensures { IfOk result (λ texts. texts.items ≡ text ∷ []) }
-{
-    let mut texts = Vec::new(alloc);
-    texts.push(text)?;
-    Ok(texts)
 }

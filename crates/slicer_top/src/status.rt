@@ -21,6 +21,10 @@ pub enum Status {
     WriteFault,
     /// There was no memory for the work. Code 5.
     NoMemory,
+    /// An act of the run is undefined. Code 6.
+    Undefined,
+    /// The run needs more acts than it may have. Code 7.
+    Steps,
     /// The program nests too deep, an array, an object or the graph of it is too large, or more than 64 lines are asked
     /// for. Code 8.
     Limit,
@@ -42,6 +46,8 @@ impl Status {
             Status::ReadFault => 3,
             Status::WriteFault => 4,
             Status::NoMemory => 5,
+            Status::Undefined => 6,
+            Status::Steps => 7,
             Status::Limit => 8,
             Status::TooLong => 9,
         }

@@ -1,5 +1,0 @@
-use Rattle.slicer_top.proofs.CriteriaLaws.{AreFirst}
-use Rattle.slicer_top.proofs.slicing.criteria_at.Given as goal
-
-abbrev pub invariant-loop-line : goal.invariant-loop-line
-invariant-loop-line l = AreFirst l.engine l.lines l.line-index l.found.items

@@ -1,0 +1,32 @@
+use Rattle.std.proofs.Common.{ap, subst, sym}
+use Rattle.std.specs.String.{string_bytes}
+use Rattle.call_words.specs.Requests.{Asked, asked_by}
+use Rattle.slicer_top.proofs.Making.{IsMade, run_made}
+use Rattle.slicer_top.proofs.slicing.made.Goals as goal
+
+pub returns-in-Slice : goal.returns-in-Slice
+returns-in-Slice c =
+    subst (λ a. IsMade c.args.program c.args.input.now (λ t. t.items) a c.slice_texts.result) (ap asked_by (sym c.in-Slice.is))
+    (subst (λ lines. IsMade c.args.program c.args.input.now (λ t. t.items) (Asked.slice (string_bytes c.in-Slice.file) lines c.in-Slice.workers) c.slice_texts.result) c.as_slice.ensures.value
+    (c.slice_texts.ensures (string_bytes c.in-Slice.file) c.args.input.now c.in-Slice.workers))
+
+pub returns-in-Trace : goal.returns-in-Trace
+returns-in-Trace c =
+    subst (λ a. IsMade c.args.program c.args.input.now (λ t. t.items) a c.trace_texts.result) (ap asked_by (sym c.in-Trace.is))
+    (subst (λ lines. IsMade c.args.program c.args.input.now (λ t. t.items) (Asked.trace (string_bytes c.in-Trace.file) lines (string_bytes c.in-Trace.input) c.in-Trace.steps) c.trace_texts.result)
+    c.as_slice-in-Trace.ensures.value (c.trace_texts.ensures (string_bytes c.in-Trace.file) (string_bytes c.in-Trace.input)))
+
+pub returns-in-Run : goal.returns-in-Run
+returns-in-Run c =
+    run_made c.args.program c.args.input.now (λ t. t.items) (asked_by c.args.request.now) (string_bytes c.in-Run.file) (string_bytes c.in-Run.input) c.in-Run.steps c.ran.result
+    (ap asked_by c.in-Run.is) c.ran.ensures
+
+pub returns-in-Graph : goal.returns-in-Graph
+returns-in-Graph c =
+    subst (λ a. IsMade c.args.program c.args.input.now (λ t. t.items) a c.graph_texts.result) (ap asked_by (sym c.in-Graph.is))
+    (c.graph_texts.ensures (string_bytes c.in-Graph.file) c.args.input.now c.in-Graph.workers)
+
+pub returns-in-Members : goal.returns-in-Members
+returns-in-Members c =
+    subst (λ a. IsMade c.args.program c.args.input.now (λ t. t.items) a c.members_texts.result) (ap asked_by (sym c.in-Members.is))
+    (c.members_texts.ensures (string_bytes c.in-Members.file) c.args.input.now c.in-Members.workers)
