@@ -5,7 +5,7 @@
 //! until one changes nothing.
 #![tactic(auto)]
 
-ghost use Rattle.std.specs.Prelude.{◌≡◌, IfOk};
+ghost use Rattle.std.specs.Prelude.{◌≡◌, ◌↔◌, ◌<◌, IsTrue, IfOk, length};
 ghost use Rattle.c_language.specs.Programs.{IsWellFormed};
 ghost use Rattle.dep_model.specs.LocationLists.{location_list};
 ghost use Rattle.dep_model.specs.LocationRows.{ArePointsRows};
@@ -28,10 +28,17 @@ pub fn solve(alloc: Global, p: &Program, l: &Locations) -> Result<PointsTo, Allo
     requires list_is { l.now ≡ location_list p.now }
     ensures exact { IfOk result (λ t. ArePointsRows p.now t) }
 {
-    if p.functions.len() > u32::MAX as usize {
+    if has_too_many_functions(p) {
         return Err(AllocError);
     }
     let mut solver = Solver::new(alloc, p, l)?;
     settle(alloc, p, &mut solver);
     Ok(solver.points)
+}
+
+// Whether a program has more functions than numbers of 32 bits can count.
+fn has_too_many_functions(p: &Program) -> bool
+    ensures { IsTrue result ↔ (4294967295 < length p.now.functions) }
+{
+    p.functions.len() > u32::MAX as usize
 }

@@ -1,5 +1,5 @@
 //! The system dependence graph of a program, what reaches a set of its vertices, and the completion of a set.
-ghost use Rattle.std.specs.Prelude.{◌≡◌, ◌≤◌, ◌<◌, ◌^◌, ℕ, IfOk, OnOk, length};
+ghost use Rattle.std.specs.Prelude.{◌≡◌, ◌≤◌, ◌<◌, ◌^◌, ◌↔◌, ℕ, IsTrue, IfOk, OnOk, length};
 ghost use Rattle.std.specs.Result.{IfErr};
 ghost use Rattle.c_tree.specs.declared.limits.LimitName.{LimitName};
 ghost use Rattle.c_language.specs.Programs.{IsWellFormed};
@@ -33,11 +33,18 @@ pub(crate) fn locations_of(alloc: Global, p: &Program) -> Result<Locations, Grap
     ensures few_functions { IfOk result (λ l. length p.now.functions < 2 ^ 32) }
     ensures above { IfErr result (λ f. (n : LimitName) → f ≡ Limit n → IsAboveGraphLimit p.now n) }
 {
-    if p.functions.len() > MAX_FUNCTIONS {
+    if has_too_many_functions(p) {
         return Err(GraphFault::NoMemory);
     }
     let locations = Locations::of(alloc, p)?;
     Ok(locations)
+}
+
+// Whether a program has more functions than numbers of 32 bits can count.
+fn has_too_many_functions(p: &Program) -> bool
+    ensures { IsTrue result ↔ (4294967295 < length p.now.functions) }
+{
+    p.functions.len() > MAX_FUNCTIONS
 }
 
 /// The graph of a program, by its locations: where these may point, what functions modify and use, the vertices with
