@@ -1,7 +1,8 @@
 //! What printf writes (ISO C99 7.19.6.1).
 ghost use Rattle.std.specs.Prelude.{◌≡◌, ◌∷◌, [], map, option_map, false, unsigned_abs, IfOk};
 ghost use Rattle.std.specs.Fmt.{signed_decimal, digits};
-ghost use Rattle.c_arith.specs.IntType.{convert as convert_to};
+ghost use Rattle.c_arith.specs.IntType.{convert as convert_to, LiesIn};
+ghost use Rattle.c_arith.specs.declared.int_type.IntType.TheVariants.{UChar, ULong};
 ghost use Rattle.c_language.specs.Constants as constants;
 ghost use Rattle.c_language.specs.Formats as language;
 ghost use Rattle.c_language.specs.Words.{Bytes};
@@ -208,6 +209,14 @@ fn conversion_type(conversion: Conversion) -> IntType
 fn as_converted(conversion: Conversion, given: i128) -> i128
     ensures { result ≡ convert_to given (spec.conversion_type (conversion_of conversion)) }
 {
+    in_type(conversion, given)
+}
+
+// The same, a value of that type.
+fn in_type(conversion: Conversion, given: i128) -> i128
+    ensures value { result ≡ convert_to given (spec.conversion_type (conversion_of conversion)) }
+    ensures in_type { LiesIn (spec.conversion_type (conversion_of conversion)) result }
+{
     convert(given, conversion_type(conversion))
 }
 
@@ -247,7 +256,7 @@ fn shown(alloc: Global, numbers: &[i128]) -> Result<ShownList, AllocError>
 fn styled(alloc: Global, conversion: Conversion, given: i128) -> Result<Vec<u8>, AllocError>
     ensures { IfOk result (λ bytes. bytes.items ≡ spec.styled (conversion_of conversion) (convert_to given (spec.conversion_type (conversion_of conversion)))) }
 {
-    let number = as_converted(conversion, given);
+    let number = in_type(conversion, given);
     match conversion {
         Conversion::SignedDecimal(_) => in_decimal(alloc, number),
         Conversion::UnsignedDecimal(_) => in_decimal(alloc, number),
@@ -262,24 +271,21 @@ fn in_decimal(alloc: Global, number: i128) -> Result<Vec<u8>, AllocError>
     Ok(format!(in alloc; "{number}")?.into_bytes())
 }
 
-// A number of at most 64 bits that isn't negative in the digits of base 16. Err: no memory was left, or it isn't one.
+// A number of type unsigned long in the digits of base 16.
 fn in_hexadecimal(alloc: Global, number: i128) -> Result<Vec<u8>, AllocError>
+    requires { LiesIn ULong number }
     ensures { IfOk result (λ bytes. bytes.items ≡ digits 16 false (unsigned_abs number)) }
 {
-    match u64::try_from(number) {
-        Ok(magnitude) => Ok(format!(in alloc; "{magnitude:x}")?.into_bytes()),
-        Err(_) => Err(AllocError),
-    }
+    let magnitude = number as u64;
+    Ok(format!(in alloc; "{magnitude:x}")?.into_bytes())
 }
 
-/// A number below 256 as a byte. Err: no memory was left, or it isn't one.
+/// A number of type unsigned char as a byte. Err: no memory was left.
 pub(crate) fn as_byte(alloc: Global, number: i128) -> Result<Vec<u8>, AllocError>
+    requires { LiesIn UChar number }
     ensures { IfOk result (λ bytes. bytes.items ≡ unsigned_abs number ∷ []) }
 {
-    match u8::try_from(number) {
-        Ok(byte) => Vec::from_slice(alloc, &[byte]),
-        Err(_) => Err(AllocError),
-    }
+    Vec::from_slice(alloc, &[number as u8])
 }
 
 // What a format writes with its arguments.
