@@ -1,4 +1,4 @@
-mod Accepted
+pub mod Accepted
 mod Bounds
 mod Checks
 mod Counted
@@ -12,6 +12,7 @@ mod Names
 mod Nesting
 mod Places
 mod Rules
+pub mod Short
 mod Spelled
 mod Syntax
 mod Texts

@@ -1,6 +1,6 @@
 -- Words in the form of a row are such as `clap` takes, and what it finds in them is what was sorted.
 use Rattle.std.proofs.Common.{◌≡◌, ◌≢◌, ◌||◌, ℕ, ◌+◌, ◌<◌, min, Bool, true, false, cond, not, zero, suc, List, [], ◌∷◌, map, drop, length, refl, sym, ap, ap₂, add-one, ◌∙◌, subst, arith, Option, Some, None, true≢false, codes}
-use Rattle.std.specs.Prelude.{IsSomeAnd, IfSome, fold, slice_index_or}
+use Rattle.std.specs.Prelude.{IsSomeAnd, IfSome, MatchOption, fold, slice_index_or}
 use Rattle.std.specs.Borrow.{Bor}
 use Rattle.std.specs.List.{find, All}
 use Rattle.std.specs.Option.{option_map, option_map_or, unwrap_or}
@@ -17,10 +17,10 @@ use Rattle.clap.proofs.WalkLemmas.{raw_values-rows, first_value-rows}
 use Rattle.call_words.specs.Sorting.{Bytes, Sorted, and_sorted, none_sorted, sorted}
 use Rattle.call_words.specs.Forms.{texts}
 use Rattle.call_words.specs.declared.grammar.Command.{Command}
-use Rattle.call_words.specs.declared.grammar.Command.TheVariants.{Slice, Trace, Run, Graph, Members}
+use Rattle.call_words.specs.declared.grammar.Command.TheVariants.{Slice, Trace, Run, Graph, Members, Big}
 use Rattle.call_words.specs.Grammar as grammar
-use Rattle.call_words.specs.Grammar.{AreWanted, IsInForm, IsNumber, IsOf, IsSortedInForm, command_of, decimal_from, kind_at, kind_of, word}
-use Rattle.call_words.specs.Requests.{Asked, CanAsk, asks, input_in, number_or, numbers_of, steps_in, value_given}
+use Rattle.call_words.specs.Grammar.{AreWanted, IsInForm, IsInGrammar, IsNumber, IsNumberWithin, IsOf, IsSortedInForm, command_of, decimal_from, kind_at, kind_of, word}
+use Rattle.call_words.specs.Requests.{Asked, CanAsk, IsBounded, asked_of, asks, input_in, number_or, numbers_of, steps_in, value_given}
 use Rattle.call_words.specs.Clap.{HasMatches, app_for, is_apart, option_names, others_found, value_found}
 use Rattle.call_words.specs.declared.grammar.Kind.{Kind}
 use Rattle.call_words.specs.declared.grammar.Kind.TheVariants.{File, Number}
@@ -157,6 +157,11 @@ members_line others wanted =
     let both : 1 < length others = (let enough = wanted.enough in omega (arith, enough)) in
     (both, line_number 0 9999999999 (word others 1) (wanted.each 1 both))
 
+seed_and_size : (others : List Bytes) → AreWanted (grammar.row Big) others → (1 < length others) × IsNumberWithin 0 2147483647 (word others 0) × IsNumberWithin 1 1000 (word others 1)
+seed_and_size others wanted =
+    let both : 1 < length others = (let enough = wanted.enough in omega (arith, enough)) in
+    (both, wanted.each 0 (omega (arith, both)), wanted.each 1 both)
+
 -- an option whose values are numbers
 module _ (r : grammar.Row) (name : Bytes) (least greatest : ℕ) (numbers : kind_of r name ≡ Some (Number least greatest)) where
   abbrev IsOption : Bytes × Bytes → Type 0
@@ -198,6 +203,41 @@ can_ask Graph s form = (
 can_ask Members s form =
     let line = members_line s.others form.others in
     (line.0, line.1, option_number (grammar.row Members) (codes "workers") 1 16 refl s form)
+can_ask Big s form =
+    let both = seed_and_size s.others form.others in
+    (both.0, both.1, both.2, option_number (grammar.row Big) (codes "workers") 1 16 refl s form)
+
+-- and its numbers are those that the row lets through
+asks_bounded : (c : Command) (s : Sorted) → IsSortedInForm (grammar.row c) s → IsBounded (asks c s.others (value_given s.given))
+asks_bounded Slice s form = tt
+asks_bounded Trace s form = tt
+asks_bounded Run s form = tt
+asks_bounded Graph s form = tt
+asks_bounded Members s form = tt
+asks_bounded Big s form =
+    let both = seed_and_size s.others form.others in
+    (both.1.at_most, both.2.at_least, both.2.at_most)
+
+pub words_bounded : (words : List Bytes) → IsInGrammar words → IsBounded (asked_of words)
+words_bounded words g = go (command_of words) g
+  where
+    go : (c : Option Command) → IsSomeAnd c (λ c. IsInForm (grammar.row c) words)
+        → IsBounded (unwrap_or (option_map (λ c. asks c (sorted words).others (value_given (sorted words).given)) c) (Asked.slice [] [] 0))
+    go None is = absurd is
+    go (Some c) is = asks_bounded c (sorted words) is.sorted
+
+-- words in the grammar are UTF-8
+pub words_utf8 : (words : List Bytes) → IsInGrammar words → All IsUtf8 words
+words_utf8 words g = go (command_of words) g
+  where
+    go : (c : Option Command) → IsSomeAnd c (λ c. IsInForm (grammar.row c) words) → All IsUtf8 words
+    go None is = absurd is
+    go (Some c) is = is.utf8
+
+-- what rules itself out where there is nothing
+pub nothing_rules_out : {A : Type 0} (o : Option A) (P : A → Type 0) (U : Type 0) → ((x : A) → o ≡ Some x → ⊥) → MatchOption o (U → ⊥) P → U → ⊥
+nothing_rules_out None P U none is = is
+nothing_rules_out (Some x) P U none is = λ u. none x refl
 
 -- what was found asks for what was sorted
 pub asks_found : (c : Command) (s : Sorted) (m : ArgMatches) → HasMatches (grammar.row c) s m → asks c (others_found m) (value_found m) ≡ asks c s.others (value_given s.given)
@@ -211,6 +251,8 @@ asks_found Run s m has =
 asks_found Graph s m has = ap₂ (λ others value. Asked.graph (word others 0) (number_or 4 value)) has.words (has.values (codes "workers") refl)
 asks_found Members s m has =
     ap₂ (λ others value. Asked.members (word others 0) (decimal_from 0 (word others 1)) (number_or 4 value)) has.words (has.values (codes "workers") refl)
+asks_found Big s m has =
+    ap₂ (λ others value. Asked.big (decimal_from 0 (word others 0)) (decimal_from 0 (word others 1)) (number_or 4 value)) has.words (has.values (codes "workers") refl)
 
 pub can_ask_found : (c : Command) (s : Sorted) (m : ArgMatches) → HasMatches (grammar.row c) s m → CanAsk c s.others (value_given s.given) → CanAsk c (others_found m) (value_found m)
 can_ask_found Slice s m has can = (
@@ -236,6 +278,12 @@ can_ask_found Members s m has can = (
   subst (λ others. IsNumber (word others 1)) (sym has.words) can.1,
   subst (λ value. IfSome value IsNumber) (sym (has.values (codes "workers") refl)) can.2,
 )
+can_ask_found Big s m has can = (
+  subst (λ others. 1 < length others) (sym has.words) can.0,
+  subst (λ others. IsNumberWithin 0 2147483647 (word others 0)) (sym has.words) can.1,
+  subst (λ others. IsNumberWithin 1 1000 (word others 1)) (sym has.words) can.2,
+  subst (λ value. IfSome value IsNumber) (sym (has.values (codes "workers") refl)) can.3,
+)
 
 -- no option of a row has the name of the argument of all other words
 pub rows_apart : (c : Command) → is_apart (grammar.row c) ≡ true
@@ -244,6 +292,7 @@ rows_apart Trace = refl
 rows_apart Run = refl
 rows_apart Graph = refl
 rows_apart Members = refl
+rows_apart Big = refl
 
 -- the command that the first word names
 pub command_is : (all : List (Bor Bytes)) (name : Bytes) (c : Option Command) → 0 < length all → (d : Bor Bytes) → name ≡ (slice_index_or all 0 d).now → c ≡ command_of (name ∷ []) → c ≡ command_of (texts all)

@@ -8,7 +8,7 @@ use Rattle.call_words.specs.Sorting.{Bytes, Sorted, sorted}
 use Rattle.call_words.specs.declared.grammar.Kind.{Kind}
 use Rattle.call_words.specs.declared.grammar.Kind.TheVariants.{File, Number}
 use Rattle.call_words.specs.declared.grammar.Command.{Command}
-use Rattle.call_words.specs.declared.grammar.Command.TheVariants.{Slice, Trace, Run, Graph, Members}
+use Rattle.call_words.specs.declared.grammar.Command.TheVariants.{Slice, Trace, Run, Graph, Members, Big}
 
 -- ---- the table
 
@@ -68,9 +68,16 @@ row Members = record {
   options = workers;
   required = [];
 }
+row Big = record {
+  name = codes "big";
+  wanted = Number 0 2147483647 ∷ Number 1 1000 ∷ [];
+  repeats = false;
+  options = workers;
+  required = [];
+}
 
 abbrev pub commands : List Command
-commands = Slice ∷ Trace ∷ Run ∷ Graph ∷ Members ∷ []
+commands = Slice ∷ Trace ∷ Run ∷ Graph ∷ Members ∷ Big ∷ []
 
 -- ---- kinds of words
 

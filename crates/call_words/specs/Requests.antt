@@ -1,13 +1,13 @@
 -- What words in the grammar ask for.
-use Rattle.std.specs.Prelude.{◌≡◌, ℕ, ◌<◌, List, [], ◌∷◌, map, drop, length, All, Option, None, Some, IfSome, codes}
+use Rattle.std.specs.Prelude.{◌≡◌, ℕ, ◌<◌, ◌≤◌, List, [], ◌∷◌, ◌++◌, map, drop, length, All, Option, None, Some, IfSome, codes}
 use Rattle.std.specs.List.{find}
 use Rattle.std.specs.Option.{option_map, option_map_or, option_to_list, unwrap_or}
 use Rattle.std.specs.Str.{bytes_eq}
 use Rattle.std.specs.String.{string_bytes}
 use Rattle.call_words.specs.Sorting.{Bytes, sorted}
-use Rattle.call_words.specs.Grammar.{word, decimal_from, command_of, IsInGrammar, IsNumber}
+use Rattle.call_words.specs.Grammar.{word, decimal_from, command_of, IsInGrammar, IsNumber, IsNumberWithin}
 use Rattle.call_words.specs.declared.grammar.Command.{Command}
-use Rattle.call_words.specs.declared.grammar.Command.TheVariants.{Slice, Trace, Run, Graph, Members}
+use Rattle.call_words.specs.declared.grammar.Command.TheVariants.{Slice, Trace, Run, Graph, Members, Big}
 use Rattle.call_words.specs.declared.request.Request.{Request}
 use Rattle.call_words.specs.declared.request.Request.TheVariants as request
 
@@ -23,6 +23,8 @@ pub data Asked : Type 0 where
   graph : (file : Bytes) (workers : ℕ) → Asked
   -- what reaches the statements on a line in that graph, by so many workers
   members : (file : Bytes) (line workers : ℕ) → Asked
+  -- the numbers of the slice of the program that a seed gives, with so many functions beside main, by so many workers
+  big : (seed size workers : ℕ) → Asked
 
 -- the value of an option
 abbrev pub value_given : List (Bytes × Bytes) → Bytes → Option Bytes
@@ -53,6 +55,7 @@ asks Trace others value = Asked.trace (word others 0) (numbers_of (drop 1 others
 asks Run others value = Asked.run (word others 0) (input_in value) (steps_in value)
 asks Graph others value = Asked.graph (word others 0) (workers_in value)
 asks Members others value = Asked.members (word others 0) (decimal_from 0 (word others 1)) (workers_in value)
+asks Big others value = Asked.big (decimal_from 0 (word others 0)) (decimal_from 0 (word others 1)) (workers_in value)
 
 -- what the words ask for, where they are in the grammar
 abbrev pub asked : List Bytes → Option Asked
@@ -66,6 +69,7 @@ asked_by (request.Trace file lines input steps) = Asked.trace (string_bytes file
 asked_by (request.Run file input steps) = Asked.run (string_bytes file) (string_bytes input) steps
 asked_by (request.Graph file workers) = Asked.graph (string_bytes file) workers
 asked_by (request.Members file line workers) = Asked.members (string_bytes file) line workers
+asked_by (request.Big seed size workers) = Asked.big seed size workers
 
 -- the other words and the values of the options are such as a command's request can be made of
 abbrev pub CanAsk : Command → List Bytes → (Bytes → Option Bytes) → Type 0
@@ -74,19 +78,30 @@ CanAsk Trace others value = (0 < length others) × All IsNumber (drop 1 others) 
 CanAsk Run others value = (0 < length others) × IfSome (value (codes "steps")) IsNumber
 CanAsk Graph others value = (0 < length others) × IfSome (value (codes "workers")) IsNumber
 CanAsk Members others value = (1 < length others) × IsNumber (word others 1) × IfSome (value (codes "workers")) IsNumber
+CanAsk Big others value = (1 < length others) × IsNumberWithin 0 2147483647 (word others 0) × IsNumberWithin 1 1000 (word others 1) × IfSome (value (codes "workers")) IsNumber
 
 -- the words are in the grammar, and this request is what they ask for
 pub record IsRead (words : List Bytes) (r : Request) : Type 0 where
   pub in_grammar : IsInGrammar words
   pub asks_for : asked words ≡ Some (asked_by r)
 
--- the file and the lines of what is asked for
-abbrev pub file_in : Asked → Bytes
-file_in (Asked.slice file lines workers) = file
-file_in (Asked.trace file lines input steps) = file
-file_in (Asked.run file input steps) = file
-file_in (Asked.graph file workers) = file
-file_in (Asked.members file line workers) = file
+-- the numbers of what is asked for are those that a row lets through
+abbrev pub IsBounded : Asked → Type 0
+IsBounded (Asked.slice file lines workers) = Unit {0}
+IsBounded (Asked.trace file lines input steps) = Unit {0}
+IsBounded (Asked.run file input steps) = Unit {0}
+IsBounded (Asked.graph file workers) = Unit {0}
+IsBounded (Asked.members file line workers) = Unit {0}
+IsBounded (Asked.big seed size workers) = (seed ≤ 2147483647) × (0 < size) × (size ≤ 1000)
+
+-- the file with the program and the lines of what is asked for, where there are such
+abbrev pub file_in : Asked → Option Bytes
+file_in (Asked.slice file lines workers) = Some file
+file_in (Asked.trace file lines input steps) = Some file
+file_in (Asked.run file input steps) = Some file
+file_in (Asked.graph file workers) = Some file
+file_in (Asked.members file line workers) = Some file
+file_in (Asked.big seed size workers) = None
 
 -- the file with the input, where one is asked for
 abbrev pub input_of : Asked → Option Bytes
@@ -95,10 +110,11 @@ input_of (Asked.trace file lines input steps) = Some input
 input_of (Asked.run file input steps) = Some input
 input_of (Asked.graph file workers) = None
 input_of (Asked.members file line workers) = None
+input_of (Asked.big seed size workers) = None
 
 -- both, in the order in which they are fetched
 abbrev pub files_in : Asked → List Bytes
-files_in asked = file_in asked ∷ option_to_list (input_of asked)
+files_in asked = option_to_list (file_in asked) ++ option_to_list (input_of asked)
 
 abbrev pub lines_in : Asked → List ℕ
 lines_in (Asked.slice file lines workers) = lines
@@ -106,6 +122,7 @@ lines_in (Asked.trace file lines input steps) = lines
 lines_in (Asked.run file input steps) = []
 lines_in (Asked.graph file workers) = []
 lines_in (Asked.members file line workers) = line ∷ []
+lines_in (Asked.big seed size workers) = []
 
 -- how many acts a run may have that is asked for
 abbrev pub steps_of : Asked → ℕ
@@ -114,13 +131,14 @@ steps_of (Asked.trace file lines input steps) = steps
 steps_of (Asked.run file input steps) = steps
 steps_of (Asked.graph file workers) = 0
 steps_of (Asked.members file line workers) = 0
+steps_of (Asked.big seed size workers) = 0
 
 -- what the words ask for; of words outside the grammar no slices
 abbrev pub asked_of : List Bytes → Asked
 asked_of words = unwrap_or (asked words) (Asked.slice [] [] 0)
 
 -- and the file and the lines that they name
-abbrev pub file_of : List Bytes → Bytes
+abbrev pub file_of : List Bytes → Option Bytes
 file_of words = file_in (asked_of words)
 
 abbrev pub lines_of : List Bytes → List ℕ

@@ -25,6 +25,8 @@ pub enum Command {
     Graph,
     /// The vertices of that graph that reach the statements on a line.
     Members,
+    /// The numbers of the slice of a large program that is made from a seed.
+    Big,
 }
 
 /// An option, `--name value` or `--name=value`, and what its value may be.
@@ -57,6 +59,8 @@ const LINE: Kind = Kind::Number(0, 9_999_999_999);
 static FILE: [Kind; 1] = [Kind::File];
 
 static FILE_AND_LINE: [Kind; 2] = [Kind::File, LINE];
+
+static SEED_AND_SIZE: [Kind; 2] = [Kind::Number(0, 2_147_483_647), Kind::Number(1, 1_000)];
 
 static WORKERS: [OptionForm; 1] = [OptionForm {
     name: "workers",
@@ -114,6 +118,13 @@ pub fn form_of(command: Command) -> Form
         Command::Members => Form {
             name: "members",
             wanted: FILE_AND_LINE.as_slice(),
+            repeats: false,
+            options: WORKERS.as_slice(),
+            required: NONE_REQUIRED.as_slice(),
+        },
+        Command::Big => Form {
+            name: "big",
+            wanted: SEED_AND_SIZE.as_slice(),
             repeats: false,
             options: WORKERS.as_slice(),
             required: NONE_REQUIRED.as_slice(),

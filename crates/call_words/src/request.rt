@@ -1,10 +1,10 @@
 //! What a call asks for, as plain data, and how its words are read.
 ghost use Rattle.std.specs.Option.{unwrap_or};
 ghost use Rattle.std.specs.String.{string_bytes};
-ghost use Rattle.std.specs.Prelude.{◌≡◌, ◌∷◌, [], drop, IfOk, IfSome, MatchOption, MatchResult, All};
+ghost use Rattle.std.specs.Prelude.{◌≡◌, ◌<◌, ◌^◌, ◌∷◌, [], drop, IfOk, IfSome, MatchOption, MatchResult, All};
 ghost use Rattle.std.specs.Str.{IsUtf8};
 ghost use Rattle.clap.specs.Values.{kind_of};
-ghost use Rattle.call_words.specs.Grammar.{IsInGrammar, IsNumber, command_of};
+ghost use Rattle.call_words.specs.Grammar.{IsInGrammar, IsNumber, command_of, decimal_from};
 ghost use Rattle.call_words.specs.Requests.{Asked, CanAsk, IsRead, asked_by, asks, input_in, number_or, numbers_of, steps_in};
 ghost use Rattle.call_words.specs.Clap.{others_found, value_found};
 ghost use Rattle.call_words.specs.Forms.{texts};
@@ -70,22 +70,32 @@ pub enum Request {
         /// The number of workers, from 1 to 16.
         workers: u64,
     },
+    /// The numbers of the slice of a large program that is made from a seed, by so many workers.
+    Big {
+        /// The seed, from 0 to 2,147,483,647.
+        seed: u32,
+        /// How many functions the program has beside `main`, from 1 to 1,000.
+        size: u32,
+        /// The number of workers, from 1 to 16.
+        workers: u64,
+    },
 }
 
 impl Request {
     ghost use Rattle.std.specs.Prelude.{option_map};
     ghost use Rattle.call_words.specs.Requests.{asked_by, file_in, input_of, steps_of};
 
-    /// The name of the file.
-    pub fn file(&self) -> &str
-        ensures { result.now ≡ file_in (asked_by self.now) }
+    /// The name of the file with the program; None where the program is made from a seed.
+    pub fn file(&self) -> Option<&str>
+        ensures { option_map (λ s. s.now) result ≡ file_in (asked_by self.now) }
     {
         match self {
-            Request::Slice { file, .. } => file.as_str(),
-            Request::Trace { file, .. } => file.as_str(),
-            Request::Run { file, .. } => file.as_str(),
-            Request::Graph { file, .. } => file.as_str(),
-            Request::Members { file, .. } => file.as_str(),
+            Request::Slice { file, .. } => Some(file.as_str()),
+            Request::Trace { file, .. } => Some(file.as_str()),
+            Request::Run { file, .. } => Some(file.as_str()),
+            Request::Graph { file, .. } => Some(file.as_str()),
+            Request::Members { file, .. } => Some(file.as_str()),
+            Request::Big { .. } => None,
         }
     }
 
@@ -99,6 +109,7 @@ impl Request {
             Request::Slice { .. } => None,
             Request::Graph { .. } => None,
             Request::Members { .. } => None,
+            Request::Big { .. } => None,
         }
     }
 
@@ -112,6 +123,7 @@ impl Request {
             Request::Slice { .. } => 0,
             Request::Graph { .. } => 0,
             Request::Members { .. } => 0,
+            Request::Big { .. } => 0,
         }
     }
 }
@@ -191,6 +203,8 @@ fn command_named(name: &str) -> Option<Command>
         Some(Command::Graph)
     } else if is_same("members", name) {
         Some(Command::Members)
+    } else if is_same("big", name) {
+        Some(Command::Big)
     } else {
         None
     }
@@ -232,9 +246,9 @@ fn made(
     requires { CanAsk command (texts others.now) (value_found matches.now) }
     ensures { IfOk result (λ r. asked_by r ≡ asks command (texts others.now) (value_found matches.now)) }
 {
-    let file = String::from_str(alloc, others[0])?;
     match command {
         Command::Slice => {
+            let file = String::from_str(alloc, others[0])?;
             let lines = numbers(alloc, &others[1..])?;
             let workers = number_of(matches, "workers", 4);
             Ok(Request::Slice {
@@ -243,17 +257,23 @@ fn made(
                 workers,
             })
         }
-        Command::Trace => traced(alloc, file, others, matches),
+        Command::Trace => {
+            let file = String::from_str(alloc, others[0])?;
+            traced(alloc, file, others, matches)
+        }
         Command::Run => {
+            let file = String::from_str(alloc, others[0])?;
             let input = value_of(alloc, matches, "input")?;
             let steps = number_of(matches, "steps", MAX_ACTS);
             Ok(Request::Run { file, input, steps })
         }
         Command::Graph => {
+            let file = String::from_str(alloc, others[0])?;
             let workers = number_of(matches, "workers", 4);
             Ok(Request::Graph { file, workers })
         }
         Command::Members => {
+            let file = String::from_str(alloc, others[0])?;
             let line = decimal(others[1].as_bytes());
             let workers = number_of(matches, "workers", 4);
             Ok(Request::Members {
@@ -262,7 +282,26 @@ fn made(
                 workers,
             })
         }
+        Command::Big => {
+            let seed = small(others[0]);
+            let size = small(others[1]);
+            let workers = number_of(matches, "workers", 4);
+            Ok(Request::Big {
+                seed,
+                size,
+                workers,
+            })
+        }
     }
+}
+
+// The value of a number of 32 bits.
+fn small(word: &str) -> u32
+    requires number { IsNumber word.now }
+    requires below { decimal_from 0 word.now < 2 ^ 32 }
+    ensures { result ≡ decimal_from 0 word.now }
+{
+    decimal(word.as_bytes()) as u32
 }
 
 // The request of a trace of this file.

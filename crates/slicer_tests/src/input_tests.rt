@@ -110,7 +110,12 @@ fn the_put_of_a_run_that_fails_is_told(rt: HostRuntime) -> Result<(), Fail> {
             err: &[],
         };
         let ended = run_with_input(rt.alloc(), line, 0, &failing)?;
-        is_end(&rt, &ended, (Status::WriteFault, out, "cannot write\n"), line)?;
+        is_end(
+            &rt,
+            &ended,
+            (Status::WriteFault, out, "cannot write\n"),
+            line,
+        )?;
     }
     Ok(())
 }

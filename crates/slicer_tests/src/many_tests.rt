@@ -114,7 +114,8 @@ fn words_outside_the_grammar_get_the_usage(rt: HostRuntime) -> Result<(), Fail> 
         "slice 7",
         "slice t.c 7 x",
         "slice t.c 7 -4",
-        "run t.c --input t.c",
+        "print t.c",
+        "big 1 0",
     ];
     for line in rows {
         ends(&rt, TWO, line, (Status::Usage, "", USAGE))?;

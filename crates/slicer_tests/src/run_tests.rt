@@ -1,5 +1,5 @@
 //! Runs of the top call over files and sinks in memory.
-ghost use Rattle.std.specs.Prelude.{◌≡◌, ◌⊎◌, ◌≤◌, List, [], IfOk, None, length};
+ghost use Rattle.std.specs.Prelude.{◌≡◌, ◌⊎◌, ◌≤◌, List, [], IfOk, None, Some, length};
 ghost use Rattle.c_language.specs.Words.{Bytes};
 ghost use Rattle.call_words.specs.Grammar.{IsInGrammar};
 ghost use Rattle.call_words.specs.Requests.{asked_of, file_of, input_of};
@@ -49,7 +49,7 @@ fn run_without_failing(
     text: Text,
     room: usize,
 ) -> Result<Status, AllocError>
-    ensures { IfOk result (λ status. IsInGrammar words.now → name ≡ file_of words.now → input_of (asked_of words.now) ≡ None
+    ensures { IfOk result (λ status. IsInGrammar words.now → file_of words.now ≡ Some name → input_of (asked_of words.now) ≡ None
         → length text ≤ 1048576 → StartsSome text (asked_of words.now) []
         → ((texts : List Bytes) → AreWritten text (asked_of words.now) [] texts → length (joined texts) ≤ room)
         → (status ≡ Status.Done) ⊎ (status ≡ Status.NoMemory)) }

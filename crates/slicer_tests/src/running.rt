@@ -27,7 +27,8 @@ pub(crate) const NONE_FAILING: Failing<'static> = Failing {
 };
 
 /// The line on err where the words are outside the grammar.
-pub(crate) const USAGE: &str = "usage: slicer slice FILE LINE.. | trace FILE LINE.. --input FILE | run FILE --input FILE | graph FILE | members FILE LINE\n";
+pub(crate) const USAGE: &str =
+    "usage: slicer slice FILE LINE.. | trace FILE LINE.. --input FILE | run FILE --input FILE | graph FILE | members FILE LINE | big SEED SIZE\n";
 
 pub(crate) fn run(
     alloc: Global,

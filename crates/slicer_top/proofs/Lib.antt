@@ -1,3 +1,4 @@
+pub mod Big
 pub mod CriteriaLaws
 pub mod Files
 pub mod Lines

@@ -1,5 +1,5 @@
 -- What err gains by a line that is put whole, or in part.
-use Rattle.std.proofs.Common.{◌≡◌, inl, inr, ℕ, ◌+◌, [], ◌∷◌, refl, sym, subst, arith}
+use Rattle.std.proofs.Common.{◌≡◌, inl, inr, ℕ, ◌+◌, [], ◌∷◌, ◌++◌, refl, sym, subst, arith}
 use Rattle.std.specs.Prelude.{Contains, Option, None, Some, IsSome, unwrap_or}
 use Rattle.std.specs.Option.{option_to_list}
 use Rattle.std.proofs.lemmas.Bool.{false≢true}
@@ -14,19 +14,21 @@ use Rattle.slicer_top.specs.declared.refusal.Refusal.{Refusal}
 use Rattle.slicer_top.specs.declared.refusal.Refusal.TheVariants.{Unreadable, TooLong, NoInput, LongInput, Lex, Parse, Check, NoStart, Graph, TooMany, UndefinedAct, MoreSteps, NoMemory}
 use Rattle.slicer_top.specs.declared.status.Status.{Status}
 use Rattle.slicer_top.specs.Lines.{IsToldBy, of_usage, of_file, of_length, of_byte, of_number, of_comment, of_token, of_tokens, of_rule, of_line, of_limit, of_act, of_steps, of_out, of_memory, Tells}
-use Rattle.slicer_top.specs.Reports.{PutsLine, IsAmong, IsReported, input_name, status_of, words_of}
+use Rattle.slicer_top.specs.Reports.{PutsLine, IsAmong, IsReported, file_name, input_name, status_of, words_of}
 
 -- all that a sink takes, and nothing more
 pub and_no_more : (T : ℕ → Type 0) (n : ℕ) → T n → T (n + 0)
 and_no_more T n h = let same : n ≡ n + 0 = omega arith in subst T same h
 
 -- the files that are asked for are among them
-text_among : (asked : Asked) → Contains (files_in asked) (file_in asked)
-text_among asked = (0, omega arith, refl)
+text_among : (o p : Option Bytes) → IsSome o → Contains (option_to_list o ++ option_to_list p) (unwrap_or o [])
+text_among None p some = absurd (false≢true some)
+text_among (Some name) p some = (0, omega arith, refl)
 
-input_among : (file : Bytes) (o : Option Bytes) → IsSome o → Contains (file ∷ option_to_list o) (unwrap_or o [])
-input_among file None some = absurd (false≢true some)
-input_among file (Some name) some = (1, omega arith, refl)
+input_among : (o p : Option Bytes) → IsSome p → Contains (option_to_list o ++ option_to_list p) (unwrap_or p [])
+input_among o None some = absurd (false≢true some)
+input_among None (Some name) some = (0, omega arith, refl)
+input_among (Some file) (Some name) some = (1, omega arith, refl)
 
 module _ (faults faults' : ℕ) (before after : Option Bytes) where
   module _ (asked : Asked) where
@@ -53,8 +55,8 @@ module _ (faults faults' : ℕ) (before after : Option Bytes) where
     told_tells answer words result line (inr cut) = subst (Tells faults faults' before after asked) (sym cut.0) (inr (answer, words, line, cut.1))
 
     refusal_line : (refusal : Refusal) → IsAmong asked refusal → IsToldBy asked (status_of refusal) (words_of asked refusal)
-    refusal_line Unreadable among = of_file (file_in asked) (text_among asked)
-    refusal_line TooLong among = of_length (file_in asked) (text_among asked)
+    refusal_line Unreadable among = of_file (file_name asked) (text_among (file_in asked) (input_of asked) among)
+    refusal_line TooLong among = of_length (file_name asked) (text_among (file_in asked) (input_of asked) among)
     refusal_line NoInput among = of_file (input_name asked) (input_among (file_in asked) (input_of asked) among)
     refusal_line LongInput among = of_length (input_name asked) (input_among (file_in asked) (input_of asked) among)
     refusal_line (Lex (lex.BadByte l)) among = of_byte l

@@ -14,6 +14,7 @@ use Rattle.run_text.specs.Lines.{trace_words}
 use Rattle.slice_engine.specs.GraphLimits.{IsAboveGraphLimit}
 use Rattle.slicer_top.specs.Criteria.{AreFound, IsCriteriaFault, StartAt}
 use Rattle.slicer_top.specs.Graphs.{IsGraphText, IsMembersText}
+use Rattle.slicer_top.specs.SliceNumbers.{IsNumbersText}
 use Rattle.slicer_top.specs.Refusals.{of_graph}
 use Rattle.slicer_top.specs.Reports.{IsReason, IsReasonOf}
 use Rattle.slicer_top.specs.Runs.{IsRunFault}
@@ -60,6 +61,7 @@ module _ (p : Program) (input : Bytes) where
   IsOfGraph (Asked.run file name steps) = ⊥
   IsOfGraph (Asked.graph file workers) = Unit {0}
   IsOfGraph (Asked.members file line workers) = Unit {0}
+  IsOfGraph (Asked.big seed size workers) = Unit {0}
 
   graph_above : (asked : Asked) → IsOfGraph asked → (name : LimitName) → IsAboveGraphLimit p name → IsAboveFor asked p name
   graph_above (Asked.slice file lines workers) of name above = above
@@ -67,6 +69,7 @@ module _ (p : Program) (input : Bytes) where
   graph_above (Asked.run file other steps) of name above = absurd of
   graph_above (Asked.graph file workers) of name above = above
   graph_above (Asked.members file line workers) of name above = above
+  graph_above (Asked.big seed size workers) of name above = above
 
   pub graph_refused : {A : Type 0} (items : A → List Bytes) (asked a : Asked) (fault : GraphFault) (r : Result A Refusal) → asked ≡ a → IsOfGraph a → ((name : LimitName) → fault ≡ graph.Limit name → IsAboveGraphLimit p name)
       → IsErrAnd r (λ y. y ≡ of_graph fault) → IsMade items asked r
@@ -115,6 +118,11 @@ module _ (p : Program) (input : Bytes) where
     graph_made asked file workers texts is made =
         subst (λ b. AreWrittenOf p b input texts) (sym is)
         (λ text reads. made_written text input (Asked.graph file workers) p (has_graph text (Asked.graph file workers) p reads within) texts no_lines (subst (λ q. IsOneText (IsGraphText q) texts) same made))
+
+    pub big_made : (seed size workers : ℕ) (texts : List Bytes) → IsOneText (IsNumbersText e) texts → AreWrittenOf p (Asked.big seed size workers) input texts
+    big_made seed size workers texts made =
+        let asked = Asked.big seed size workers in
+        λ text reads. made_written text input asked p (has_graph text asked p reads within) texts no_lines (subst (λ q. IsOneText (IsNumbersText q) texts) same made)
 
   -- ---- runs
 

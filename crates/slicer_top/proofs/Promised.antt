@@ -4,6 +4,7 @@ use Rattle.std.specs.Prelude.{Option, None, Some, IsSome, IfSome, unwrap_or, []}
 use Rattle.edge_io.specs.Contents.{Told, Lacks, HoldsMoreThan}
 use Rattle.edge_io.specs.Count.{Rose}
 use Rattle.edge_io.specs.Written.{Gains}
+use Rattle.big_programs.specs.Generated.{generated}
 use Rattle.c_language.specs.Words.{Bytes}
 use Rattle.c_tree.specs.declared.program.Program.{Program}
 use Rattle.call_words.specs.Grammar.{IsInGrammar}
@@ -25,6 +26,7 @@ use Rattle.slicer_top.specs.Seen.{ShelfSeen, SinkSeen, shelf_seen, sink_seen}
 use Rattle.slicer_top.specs.Slices.{AreWritten, HasStarts}
 use Rattle.slicer_top.specs.Statuses.{IsOrYields}
 use Rattle.slicer_top.specs.Writing.{Wrote}
+use Rattle.slicer_top.proofs.Big.{big_named, big_starts}
 use Rattle.slicer_top.proofs.Files.{fault_or_reason, lacking_input_is, lacking_is, long_cause, long_rose, longer_input_is, longer_is, of_files, of_files_lacks, of_files_lacks_input, of_files_longer, of_files_longer_input, of_files_map, read_cause}
 use Rattle.slicer_top.proofs.Lines.{report_tells, told_tells}
 use Rattle.slicer_top.proofs.ReaderLaws.{above_lacks, one_program}
@@ -94,11 +96,11 @@ module _ (words : List Bytes) (shelf : ShelfSeen) (out err : SinkSeen) (answer :
     other_words = others;
     unasked = λ nf. undone.shelf_stays;
     read_fault = λ e. absurd (subst IsEarly e is_early);
-    lacking = λ g lacks. yields status.ReadFault g;
+    lacking = λ name g named lacks. yields status.ReadFault g;
     lacking_input = λ name g there is lacks. yields status.ReadFault g;
     too_long = λ e. absurd (subst IsEarly e is_early);
     longer = λ e. absurd (subst IsEarly e is_early);
-    longer_file = λ g more. inl (yields status.TooLong g);
+    longer_file = λ name g named more. inl (yields status.TooLong g);
     longer_input = λ name g there is more. inl (yields status.TooLong g);
     refused = λ e. absurd (subst IsEarly e is_early);
     no_slice = λ text input named below none. inl (inl (yields status.Refused named.in_grammar));
@@ -111,6 +113,7 @@ module _ (words : List Bytes) (shelf : ShelfSeen) (out err : SinkSeen) (answer :
     more_steps = λ text input p named starts more. inl (yields status.Steps named.in_grammar);
     done = λ e. absurd (subst IsEarly e is_early);
     complete = λ text input named starts shelf_calm out_calm err_calm. inr (calm named.in_grammar err_calm);
+    complete_big = λ seed size workers g is small shelf_calm out_calm err_calm. inr (calm g err_calm);
     faultless = λ text input named starts never room takes.
         let free = taken named.in_grammar takes in
         record { ends = inr free.0; shelf_stays = undone.shelf_faults; out_stays = undone.out_faults; err_stays = free.1 };
@@ -175,11 +178,11 @@ module _ (words : List Bytes) (shelf : ShelfSeen) (out err : SinkSeen) (answer :
         other_words = λ nf. absurd (nf g);
         unasked = λ nf. absurd (nf g);
         read_fault = λ e. absurd (subst IsLate e is_late);
-        lacking = λ _ lacks. absurd (of_files_lacks shelf.contents (asked_of words) _ made lacks);
+        lacking = λ name _ named lacks. absurd (of_files_lacks shelf.contents (asked_of words) name _ named made lacks);
         lacking_input = λ name _ there is lacks. absurd (of_files_lacks_input shelf.contents (asked_of words) name _ is made lacks);
         too_long = λ e. absurd (subst IsLate e is_late);
         longer = λ e. absurd (subst IsLate e is_late);
-        longer_file = λ _ more. absurd (of_files_longer shelf.contents (asked_of words) _ made more);
+        longer_file = λ name _ named more. absurd (of_files_longer shelf.contents (asked_of words) name _ named made more);
         longer_input = λ name _ there is more. absurd (of_files_longer_input shelf.contents (asked_of words) name _ is made more);
         refused = λ e. absurd (subst IsLate e is_late);
         no_slice = λ text input named below none. let are = written texts text input made named in absurd (none are.program are.built are.starts);
@@ -196,6 +199,10 @@ module _ (words : List Bytes) (shelf : ShelfSeen) (out err : SinkSeen) (answer :
           | inr front ↦ absurd (let d : status.WriteFault ≡ status.Done = sym front.is ∙ e in cc)
         ];
         complete = λ text input named starts shelf_calm out_calm err_calm. elim wrote.ends [
+          | inl all ↦ inl all.is
+          | inr front ↦ absurd (out_calm front.rose)
+        ];
+        complete_big = λ seed size workers _ is small shelf_calm out_calm err_calm. elim wrote.ends [
           | inl all ↦ inl all.is
           | inr front ↦ absurd (out_calm front.rose)
         ];
@@ -322,7 +329,7 @@ module _ (words : List Bytes) (shelf : ShelfSeen) (out err : SinkSeen) (answer :
   FaultOr r A = ((status_of r ≡ status.ReadFault) × Rose shelf.faults shelf.faults') ⊎ A
 
   shows : (text input : Bytes) (r : Refusal) → Cause r → NamesText words shelf.contents text input → FaultOr r (IsReason text (asked_of words) input r)
-  shows text input r cause named = fault_or_reason shelf.contents (asked_of words) _ _ _ _ text input named.holds named.no_longer named.holds_input r cause
+  shows text input r cause named = fault_or_reason shelf.contents (asked_of words) _ _ _ _ text input named.holds named.holds_input r cause
 
   with_reason : {A B : Type 0} (r : Refusal) → (A → B) → FaultOr r A → FaultOr r B
   with_reason r f (inl fault) = inl fault
@@ -339,11 +346,11 @@ module _ (words : List Bytes) (shelf : ShelfSeen) (out err : SinkSeen) (answer :
         other_words = λ nf. absurd (nf g);
         unasked = λ nf. absurd (nf g);
         read_fault = λ e. read r (same_status r status.ReadFault ending (λ d. absurd cc) (λ d. absurd cc) e) cause;
-        lacking = λ _ lacks. yields_for r status.ReadFault ending (lacking_is shelf.contents a _ _ _ _ r cause lacks);
+        lacking = λ name _ named lacks. yields_for r status.ReadFault ending (lacking_is shelf.contents a _ _ _ _ name named r cause lacks);
         lacking_input = λ name _ there is lacks. yields_for r status.ReadFault ending (lacking_input_is shelf.contents a _ _ _ _ name is there r cause lacks);
         too_long = λ e. long_rose shelf.contents a _ _ _ _ r (same_status r status.TooLong ending (λ d. absurd cc) (λ d. absurd cc) e).0 cause;
         longer = λ e. long r (same_status r status.TooLong ending (λ d. absurd cc) (λ d. absurd cc) e) cause;
-        longer_file = λ _ more. longer r ending (longer_is shelf.contents a _ _ _ _ r cause more);
+        longer_file = λ name _ named more. longer r ending (longer_is shelf.contents a _ _ _ _ name named r cause more);
         longer_input = λ name _ there is more. longer r ending (longer_input_is shelf.contents a _ _ _ _ name is there r cause more);
         refused = λ e. refused_true shelf.contents a _ _ _ _ _ _ _ _ r answer cause reported e;
         no_slice = λ text input named below none. is_refused a _ _ _ _ _ _ text input r answer below none (shows text input r cause named) reported;
@@ -360,9 +367,12 @@ module _ (words : List Bytes) (shelf : ShelfSeen) (out err : SinkSeen) (answer :
             (with_reason r (λ reason. more_status a p input more r (run_reason text input a p r starts reason)) (shows text input r cause named)) reported;
         done = no_own r status.Done ending (λ is. is) (λ d. absurd cc);
         complete = λ text input named starts shelf_calm out_calm err_calm.
-            inr (refused_for_memory shelf.contents a text input _ _ _ _ r named.holds named.no_longer named.holds_input starts cause _ _ _ _ answer shelf_calm err_calm reported);
+            inr (refused_for_memory shelf.contents a text input _ _ _ _ r named.holds named.holds_input starts cause _ _ _ _ answer shelf_calm err_calm reported);
+        complete_big = λ seed size workers _ is small shelf_calm out_calm err_calm.
+            let named = big_named words shelf.contents seed size workers g is in
+            inr (refused_for_memory shelf.contents a (generated seed size) [] _ _ _ _ r named.holds named.holds_input (big_starts words seed size workers g is small) cause _ _ _ _ answer shelf_calm err_calm reported);
         faultless = λ text input named starts never room takes.
-            let memory = refused_without_fault shelf.contents a text input _ _ _ _ r named.holds named.no_longer named.holds_input starts cause (missing never) in
+            let memory = refused_without_fault shelf.contents a text input _ _ _ _ r named.holds named.holds_input starts cause (missing never) in
             let told = taken memory takes in
             record { ends = inr told.0; shelf_stays = no_fault never; out_stays = out_faults; err_stays = told.1 };
         write_fault = λ e. inr (rose_of r ending e);

@@ -38,6 +38,7 @@ above_graph (Asked.trace file lines input steps) p name above = absurd above
 above_graph (Asked.run file input steps) p name above = absurd above
 above_graph (Asked.graph file workers) p name above = above
 above_graph (Asked.members file line workers) p name above = above
+above_graph (Asked.big seed size workers) p name above = above
 
 module _ (text : Bytes) where
   -- the tokens of a text are those of its tree

@@ -20,7 +20,7 @@ use Rattle.slicer_top.specs.declared.refusal.Refusal.{Refusal}
 use Rattle.slicer_top.specs.declared.refusal.Refusal.TheVariants.{Unreadable, TooLong, NoInput, LongInput, Lex, Parse, Check, NoStart, Graph, TooMany, UndefinedAct, MoreSteps, NoMemory}
 use Rattle.slicer_top.specs.declared.status.Status.{Status}
 use Rattle.slicer_top.specs.declared.status.Status.TheVariants as status
-use Rattle.slicer_top.specs.Files.{HoldsInput, HoldsText}
+use Rattle.slicer_top.specs.Files.{HoldsGiven, text_made}
 use Rattle.slicer_top.specs.Runs.{IsRunFault, IsUndefined, IsUndefinedAt, NeedsMore, RunEnds, run_of}
 use Rattle.slicer_top.specs.Slices.{AreTextsFor, HasStarts, IsAboveFor, IsOneText, StartsSome, line_at}
 use Rattle.slicer_top.specs.Statuses.{NoFault}
@@ -124,6 +124,7 @@ made_ends (Asked.trace file lines name steps) p input texts are = one_ended _ _ 
 made_ends (Asked.run file name steps) p input texts are = one_ended _ _ texts are
 made_ends (Asked.graph file workers) p input texts are = tt
 made_ends (Asked.members file line workers) p input texts are = tt
+made_ends (Asked.big seed size workers) p input texts are = tt
 
 -- ---- texts with a program
 
@@ -199,10 +200,10 @@ memory_told faults faults' before after asked result calm (inr (inl put)) = put.
 memory_told faults faults' before after asked result calm (inr (inr cut)) = absurd (calm cut.1.0)
 
 module _ (told : Told) (asked : Asked) (text input : Bytes) (f f' l l' : ℕ) (r : Refusal)
-    (holds : HoldsText told (file_in asked) text) (le : length text ≤ 1048576) (holds_input : HoldsInput told (input_of asked) input) (starts : StartsSome text asked input) (cause : IsCause told asked f f' l l' r) where
+    (holds : HoldsGiven told (text_made asked) (file_in asked) text) (holds_input : HoldsGiven told [] (input_of asked) input) (starts : StartsSome text asked input) (cause : IsCause told asked f f' l l' r) where
   -- where a statement starts on each line, the run ends and no fault came, memory was wanting
   memory_alone : NoFault f f' → r ≡ NoMemory
-  memory_alone calm = elim (fault_or_reason told asked f f' l l' text input holds le holds_input r cause) [
+  memory_alone calm = elim (fault_or_reason told asked f f' l l' text input holds holds_input r cause) [
     | inl fault ↦ absurd (calm fault.1)
     | inr reason ↦ no_reason text input asked r starts reason
   ]
@@ -213,4 +214,4 @@ module _ (told : Told) (asked : Asked) (text input : Bytes) (f f' l l' : ℕ) (r
 
   -- likewise of a shelf that says `Failed` only of a name that it lacks
   pub refused_without_fault : IsMissing told asked r → r ≡ NoMemory
-  refused_without_fault missing = no_reason text input asked r starts (reason_alone told asked f f' l l' text input holds le holds_input r missing cause)
+  refused_without_fault missing = no_reason text input asked r starts (reason_alone told asked f f' l l' text input holds holds_input r missing cause)

@@ -8,6 +8,7 @@ pub mod Refusals
 pub mod Reports
 pub mod Runs
 pub mod Seen
+pub mod SliceNumbers
 pub mod Slices
 pub mod Statuses
 pub mod Truths

@@ -12,7 +12,7 @@ use Rattle.slicer_top.specs.declared.status.Status.TheVariants.{Done, Refused, U
 
 -- the words are outside the grammar
 abbrev pub usage : Bytes
-usage = codes "usage: slicer slice FILE LINE.. | trace FILE LINE.. --input FILE | run FILE --input FILE | graph FILE | members FILE LINE\n"
+usage = codes "usage: slicer slice FILE LINE.. | trace FILE LINE.. --input FILE | run FILE --input FILE | graph FILE | members FILE LINE | big SEED SIZE\n"
 
 -- the file couldn't be read
 abbrev pub cannot_read : Bytes → Bytes

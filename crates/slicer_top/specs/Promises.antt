@@ -8,12 +8,13 @@ use Rattle.c_tree.specs.declared.limits.LimitName.TheVariants.{Nesting}
 use Rattle.c_tree.specs.declared.program.Program.{Program}
 use Rattle.c_language.specs.Words.{Bytes}
 use Rattle.call_words.specs.Grammar.{IsInGrammar}
-use Rattle.call_words.specs.Requests.{asked_of, file_of, input_of}
+use Rattle.big_programs.specs.Generated.{generated}
+use Rattle.call_words.specs.Requests.{Asked, asked_of, file_of, input_of}
 use Rattle.slicer_top.specs.Files.{AreFetches, IsNameOf, IsThere, OfFiles, NamesText}
 use Rattle.slicer_top.specs.Limits.{IsAboveLimit, IsBelowLimits, IsDeep}
 use Rattle.slicer_top.specs.Runs.{IsUndefined, NeedsMore}
 use Rattle.slicer_top.specs.Seen.{ShelfSeen, SinkSeen, shelf_seen, sink_seen}
-use Rattle.slicer_top.specs.Slices.{HasStarts, StartsNone, StartsSome, AreWritten, joined, WritesAsked, WritesFront}
+use Rattle.slicer_top.specs.Slices.{HasSmallGraph, HasStarts, StartsNone, StartsSome, AreWritten, joined, WritesAsked, WritesFront}
 use Rattle.slicer_top.specs.Statuses.{IsOrYields, IsOrYieldsToFault, NoFault, IsFaultless}
 use Rattle.slicer_top.specs.Lines as line
 use Rattle.slicer_top.specs.Lines.{Tells, PutOrCutOff, cannot_read, cannot_write, limit}
@@ -30,15 +31,15 @@ pub record Outcome (words : List Bytes) (shelf : ShelfSeen) (out err : SinkSeen)
   -- the files, that with the text first: each is read, or the shelf had a fault, lacks it or found it too long, and that one is named
   pub read_fault : answer ≡ status.ReadFault
       → (name : Bytes) × IsNameOf shelf.contents (asked_of words) name × (Rose shelf.faults shelf.faults' ⊎ Lacks shelf.contents name) × Gains err.written err.written' (cannot_read name)
-  pub lacking : IsInGrammar words → Lacks shelf.contents (file_of words) → IsOrYields err.faults err.faults' answer status.ReadFault
-  pub lacking_input : (name : Bytes) → IsInGrammar words → IsThere shelf.contents (file_of words) → input_of (asked_of words) ≡ Some name → Lacks shelf.contents name
+  pub lacking : (name : Bytes) → IsInGrammar words → file_of words ≡ Some name → Lacks shelf.contents name → IsOrYields err.faults err.faults' answer status.ReadFault
+  pub lacking_input : (name : Bytes) → IsInGrammar words → IsThere shelf.contents (asked_of words) → input_of (asked_of words) ≡ Some name → Lacks shelf.contents name
       → IsOrYields err.faults err.faults' answer status.ReadFault
   pub too_long : answer ≡ status.TooLong → Rose shelf.long_files shelf.long_files'
   pub longer : answer ≡ status.TooLong
       → (name : Bytes) × IsNameOf shelf.contents (asked_of words) name × (IsSome shelf.contents → HoldsMoreThan shelf.contents name 1048576) × Gains err.written err.written' (line.too_long name)
-  pub longer_file : IsInGrammar words → HoldsMoreThan shelf.contents (file_of words) 1048576
+  pub longer_file : (name : Bytes) → IsInGrammar words → file_of words ≡ Some name → HoldsMoreThan shelf.contents name 1048576
       → IsOrYieldsToFault err.faults err.faults' shelf.faults shelf.faults' answer status.TooLong
-  pub longer_input : (name : Bytes) → IsInGrammar words → IsThere shelf.contents (file_of words) → input_of (asked_of words) ≡ Some name → HoldsMoreThan shelf.contents name 1048576
+  pub longer_input : (name : Bytes) → IsInGrammar words → IsThere shelf.contents (asked_of words) → input_of (asked_of words) ≡ Some name → HoldsMoreThan shelf.contents name 1048576
       → IsOrYieldsToFault err.faults err.faults' shelf.faults shelf.faults' answer status.TooLong
   -- the text: Refused comes exactly where it isn't accepted or no statement starts on one of the lines, but for deep texts, and what is told is true of it
   pub refused : answer ≡ status.Refused → OfFiles shelf.contents (asked_of words) (λ text input. TellsTruth status.Refused text (asked_of words) input err.written err.written')
@@ -61,6 +62,10 @@ pub record Outcome (words : List Bytes) (shelf : ShelfSeen) (out err : SinkSeen)
   -- what is asked for: after Done it is written, slices in the order of the lines, and where no fault came and memory sufficed, Done comes
   pub done : answer ≡ status.Done → OfFiles shelf.contents (asked_of words) (λ text input. WritesAsked text (asked_of words) input out.written out.written')
   pub complete : (text input : Bytes) → NamesText words shelf.contents text input → StartsSome text (asked_of words) input
+      → NoFault shelf.faults shelf.faults' → NoFault out.faults out.faults' → NoFault err.faults err.faults'
+      → (answer ≡ status.Done) ⊎ (answer ≡ status.NoMemory)
+  -- the program that a seed gives is always accepted
+  pub complete_big : (seed size workers : ℕ) → IsInGrammar words → asked_of words ≡ Asked.big seed size workers → HasSmallGraph (generated seed size)
       → NoFault shelf.faults shelf.faults' → NoFault out.faults out.faults' → NoFault err.faults err.faults'
       → (answer ≡ status.Done) ⊎ (answer ≡ status.NoMemory)
   -- no fault comes where the shelf never fails, out has room for what is written and err for `out of memory`

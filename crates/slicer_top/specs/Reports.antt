@@ -57,6 +57,22 @@ module _ (told : Told) (faults faults' long_files long_files' : ℕ) where
   abbrev pub IsLong : Bytes → Type 0
   IsLong name = Rose long_files long_files' × (IsSome told → HoldsMoreThan told name 1048576)
 
+  -- the cause of a refusal for the file with the text
+  abbrev pub IsTextFault : Option Bytes → Refusal → Type 0
+  IsTextFault name Unreadable = IsSomeAnd name IsUnread
+  IsTextFault name TooLong = IsSomeAnd name IsLong
+  IsTextFault name NoMemory = Unit {0}
+  IsTextFault name NoInput = ⊥
+  IsTextFault name LongInput = ⊥
+  IsTextFault name (Lex fault) = ⊥
+  IsTextFault name (Parse fault) = ⊥
+  IsTextFault name (Check fault) = ⊥
+  IsTextFault name (NoStart line) = ⊥
+  IsTextFault name (Graph name') = ⊥
+  IsTextFault name TooMany = ⊥
+  IsTextFault name (UndefinedAct at statement) = ⊥
+  IsTextFault name MoreSteps = ⊥
+
   -- the cause of a refusal for the file with the input
   abbrev pub IsInputFault : Option Bytes → Refusal → Type 0
   IsInputFault name NoInput = IsSomeAnd name IsUnread
@@ -73,7 +89,7 @@ module _ (told : Told) (faults faults' long_files long_files' : ℕ) where
   IsInputFault name (UndefinedAct at statement) = ⊥
   IsInputFault name MoreSteps = ⊥
 
--- the cause of a refusal: these counts, or the bytes of the files; of the input, where the file with the text is there
+-- the cause of a refusal: these counts, or the bytes of the files; of the input, where the text is there
 module _ (told : Told) (asked : Asked) (faults faults' long_files long_files' : ℕ) where
   abbrev Unread : Bytes → Type 0
   Unread = IsUnread told faults faults' long_files long_files'
@@ -82,10 +98,10 @@ module _ (told : Told) (asked : Asked) (faults faults' long_files long_files' : 
   Long = IsLong told faults faults' long_files long_files'
 
   abbrev pub IsCause : Refusal → Type 0
-  IsCause Unreadable = Unread (file_in asked)
-  IsCause TooLong = Long (file_in asked)
-  IsCause NoInput = IsThere told (file_in asked) × IsSomeAnd (input_of asked) Unread
-  IsCause LongInput = IsThere told (file_in asked) × IsSomeAnd (input_of asked) Long
+  IsCause Unreadable = IsSomeAnd (file_in asked) Unread
+  IsCause TooLong = IsSomeAnd (file_in asked) Long
+  IsCause NoInput = IsThere told asked × IsSomeAnd (input_of asked) Unread
+  IsCause LongInput = IsThere told asked × IsSomeAnd (input_of asked) Long
   IsCause (Lex fault) = IsShown told asked (Lex fault)
   IsCause (Parse fault) = IsShown told asked (Parse fault)
   IsCause (Check fault) = IsShown told asked (Check fault)
@@ -98,7 +114,7 @@ module _ (told : Told) (asked : Asked) (faults faults' long_files long_files' : 
 
 -- a refusal for a file that couldn't be read means that it is lacking
 abbrev pub IsMissing : Told → Asked → Refusal → Type 0
-IsMissing told asked Unreadable = Lacks told (file_in asked)
+IsMissing told asked Unreadable = IsSomeAnd (file_in asked) (Lacks told)
 IsMissing told asked NoInput = IsSomeAnd (input_of asked) (Lacks told)
 IsMissing told asked TooLong = Unit {0}
 IsMissing told asked LongInput = Unit {0}
@@ -112,11 +128,11 @@ IsMissing told asked (UndefinedAct at statement) = Unit {0}
 IsMissing told asked MoreSteps = Unit {0}
 IsMissing told asked NoMemory = Unit {0}
 
--- what is told is among what is asked for: a line without a statement is one of the lines, and the input is asked for where that is told
+-- what is told is among what is asked for: a line without a statement is one of the lines, and a file is asked for where that is told
 abbrev pub IsAmong : Asked → Refusal → Type 0
 IsAmong asked (NoStart l) = Contains (lines_in asked) l
-IsAmong asked Unreadable = Unit {0}
-IsAmong asked TooLong = Unit {0}
+IsAmong asked Unreadable = IsSome (file_in asked)
+IsAmong asked TooLong = IsSome (file_in asked)
 IsAmong asked NoInput = IsSome (input_of asked)
 IsAmong asked LongInput = IsSome (input_of asked)
 IsAmong asked (Lex fault) = Unit {0}
@@ -179,12 +195,16 @@ rule_line (rule.Rule number at) = line.rule at number
 rule_line (rule.Limit name) = line.limit name
 rule_line rule.NoMemory = line.out_of_memory
 
+-- the names of its files
+abbrev pub file_name : Asked → Bytes
+file_name asked = unwrap_or (file_in asked) []
+
 abbrev pub input_name : Asked → Bytes
 input_name asked = unwrap_or (input_of asked) []
 
 abbrev pub words_of : Asked → Refusal → Bytes
-words_of asked Unreadable = line.cannot_read (file_in asked)
-words_of asked TooLong = line.too_long (file_in asked)
+words_of asked Unreadable = line.cannot_read (file_name asked)
+words_of asked TooLong = line.too_long (file_name asked)
 words_of asked NoInput = line.cannot_read (input_name asked)
 words_of asked LongInput = line.too_long (input_name asked)
 words_of asked (Lex fault) = lex_line fault

@@ -16,6 +16,7 @@ run_of (Asked.trace file lines name steps) p input = Some (meaning steps p input
 run_of (Asked.run file name steps) p input = Some (meaning steps p input)
 run_of (Asked.graph file workers) p input = None
 run_of (Asked.members file line workers) p input = None
+run_of (Asked.big seed size workers) p input = None
 
 -- the run that is asked for ends
 abbrev pub RunEnds : Asked → Program → Bytes → Type 0

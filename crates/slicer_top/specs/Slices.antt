@@ -12,6 +12,7 @@ use Rattle.run_text.specs.Lines.{trace_words}
 use Rattle.slice_engine.specs.GraphLimits.{IsAboveGraphLimit}
 use Rattle.slice_engine.specs.Slice.{HasStart, IsSlice, IsFaithful}
 use Rattle.slicer_top.specs.Graphs.{IsGraphText, IsMembersText}
+use Rattle.slicer_top.specs.SliceNumbers.{IsNumbersText}
 use Rattle.slicer_top.specs.Runs.{RunEnds}
 
 -- ---- the program of a text
@@ -23,11 +24,28 @@ IsAboveFor (Asked.trace file lines input steps) p name = ⊥
 IsAboveFor (Asked.run file input steps) p name = ⊥
 IsAboveFor (Asked.graph file workers) p name = IsAboveGraphLimit p name
 IsAboveFor (Asked.members file line workers) p name = IsAboveGraphLimit p name
+IsAboveFor (Asked.big seed size workers) p name = IsAboveGraphLimit p name
 
 -- the text is accepted and within the limits, this is its program, and its graph is within the limits, where it is made
 pub record HasGraph (text : Bytes) (asked : Asked) (p : Program) : Type 0 where
   pub reads : ReadsProgram text p
   pub within : (name : LimitName) → IsAboveFor asked p name → ⊥
+
+-- the graph of the text's program is within the limits
+abbrev pub HasSmallGraph : Bytes → Type 0
+HasSmallGraph text = (p : Program) (name : LimitName) → ReadsProgram text p → IsAboveGraphLimit p name → ⊥
+
+-- a program has a statement, where the last one is asked for
+abbrev pub HasLast : Asked → Program → Type 0
+HasLast (Asked.slice file lines workers) p = Unit {0}
+HasLast (Asked.trace file lines input steps) p = Unit {0}
+HasLast (Asked.run file input steps) p = Unit {0}
+HasLast (Asked.graph file workers) p = Unit {0}
+HasLast (Asked.members file line workers) p = Unit {0}
+HasLast (Asked.big seed size workers) p = 0 < p.statements
+
+abbrev pub HasLastOf : Bytes → Asked → Type 0
+HasLastOf text asked = (p : Program) → ReadsProgram text p → HasLast asked p
 
 -- ---- the lines that are asked for
 
@@ -107,13 +125,14 @@ IsOneText P [] = ⊥
 IsOneText P (t ∷ []) = P t
 IsOneText P (t ∷ u ∷ us) = ⊥
 
--- the texts are what is asked of the program: its slices at the lines, the values at the lines in a run on this input, what the run writes, its graph, or what reaches the line in its graph
+-- the texts are what is asked of the program: its slices at the lines, the values at the lines in a run on this input, what the run writes, its graph, what reaches the line in its graph, or the numbers of its slice at its last line
 abbrev pub AreTextsFor : Program → Asked → Bytes → List Bytes → Type 0
 AreTextsFor p (Asked.slice file lines workers) input texts = AreSlices p lines texts
 AreTextsFor p (Asked.trace file lines name steps) input texts = IsOneText (EndsWith (trace_words p lines) (meaning steps p input)) texts
 AreTextsFor p (Asked.run file name steps) input texts = IsOneText (EndsWith (λ (t : Trace). t.output) (meaning steps p input)) texts
 AreTextsFor p (Asked.graph file workers) input texts = IsOneText (IsGraphText p) texts
 AreTextsFor p (Asked.members file line workers) input texts = IsOneText (IsMembersText p line) texts
+AreTextsFor p (Asked.big seed size workers) input texts = IsOneText (IsNumbersText p) texts
 
 -- the texts are what is asked of the text's program; the lines are at most 64, and on each of them starts a statement
 pub record AreWritten (text : Bytes) (asked : Asked) (input : Bytes) (texts : List Bytes) : Type 0 where

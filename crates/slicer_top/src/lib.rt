@@ -8,6 +8,7 @@
 mod criteria;
 mod exit;
 mod laws;
+mod numbers;
 mod refusal;
 mod report;
 mod run;

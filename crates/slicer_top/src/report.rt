@@ -25,11 +25,7 @@ pub(crate) fn report<E: Sink>(
     ensures taken { refusal.now ≡ Refusal.NoMemory → E.takes err.old 14
         → (result ≡ Status.NoMemory) × (E.faults err.new ≡ E.faults err.old) }
 {
-    tell_made(
-        line_of(alloc, refusal, request),
-        status_of(refusal),
-        err,
-    )
+    tell_made(line_of(alloc, refusal, request), status_of(refusal), err)
 }
 
 // Puts a line that was made, or where there was no memory for it, tells that.
@@ -128,8 +124,8 @@ fn line_of(alloc: Global, refusal: &Refusal, request: &Request) -> Result<Text, 
     ensures none { refusal.now ≡ Refusal.NoMemory → IsErr result }
 {
     match refusal {
-        Refusal::Unreadable => unreadable_line(alloc, request.file()),
-        Refusal::TooLong => too_long_line(alloc, request.file()),
+        Refusal::Unreadable => unreadable_line(alloc, file_of(request)),
+        Refusal::TooLong => too_long_line(alloc, file_of(request)),
         Refusal::NoInput => unreadable_line(alloc, input_of(request)),
         Refusal::LongInput => too_long_line(alloc, input_of(request)),
         Refusal::Lex(fault) => lex_line(alloc, fault),
@@ -142,6 +138,13 @@ fn line_of(alloc: Global, refusal: &Refusal, request: &Request) -> Result<Text, 
         Refusal::MoreSteps => steps_line(alloc, request.steps()),
         Refusal::NoMemory => Err(AllocError),
     }
+}
+
+// The name of the file with the text; an empty one where no file has it.
+fn file_of(request: &Request) -> &str
+    ensures { result.now ≡ spec.file_name (asked_by request.now) }
+{
+    request.file().unwrap_or("")
 }
 
 // The name of the file with the input; an empty one where none is asked for.

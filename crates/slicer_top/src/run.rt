@@ -14,7 +14,7 @@ use std::alloc::Global;
 /// the order of the words, one put each; `trace FILE LINE.. --input INPUT` the values at these lines in a run of the
 /// program on the bytes of INPUT, in one put; `run FILE --input INPUT` what that run writes, in one put; `graph FILE`
 /// the dependence graph, in one put; `members FILE LINE` the vertices of that graph that reach the statements on LINE,
-/// in one put.
+/// in one put; `big SEED SIZE` the numbers of the slice of a large program that is made from a seed, in one put.
 ///
 /// The words are those of the grammar of the crate `call_words`. The files are fetched from `shelf`, FILE first. Where the status
 /// isn't `Done`, its line is put on `err`; where that fails, the status is `WriteFault`, and `err` gets no more.
@@ -31,7 +31,7 @@ pub fn run_slicer<F: Shelf, O: Sink, E: Sink>(
     let request = match read_words(alloc, words) {
         Ok(request) => request,
         Err(WordsFault::Usage) => return tell(
-            b"usage: slicer slice FILE LINE.. | trace FILE LINE.. --input FILE | run FILE --input FILE | graph FILE | members FILE LINE\n",
+            b"usage: slicer slice FILE LINE.. | trace FILE LINE.. --input FILE | run FILE --input FILE | graph FILE | members FILE LINE | big SEED SIZE\n",
             Status::Usage,
             err,
         ),

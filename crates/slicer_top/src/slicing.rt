@@ -1,18 +1,21 @@
 //! From what a request asks of a file to the texts that are written for it.
-ghost use Rattle.std.specs.Prelude.{◌≡◌, ◌∷◌, ◌≤◌, ℕ, List, [], IfOk, IfErr, IsSomeAnd, MatchResult, length};
+ghost use Rattle.std.specs.Prelude.{◌≡◌, ◌∷◌, ◌≤◌, ◌<◌, ℕ, List, [], IfOk, IfErr, IsSomeAnd, MatchResult, Some, length};
+ghost use Rattle.big_programs.specs.Generated.{generated};
 ghost use Rattle.c_language.specs.Programs.{IsWellFormed};
-ghost use Rattle.call_words.specs.Requests.{Asked, asked_by};
+ghost use Rattle.call_words.specs.Requests.{Asked, IsBounded, asked_by, file_in};
 ghost use Rattle.edge_io.specs.Contents.{Lacks};
 ghost use Rattle.edge_io.specs.Count.{NeverFalls};
 ghost use Rattle.slicer_top.specs.Criteria.{IsCriteriaFault, StartAt};
-ghost use Rattle.slicer_top.specs.Files.{AreFetches, AreInputFetches, AreShort, IsInput, OfFiles, name_of};
+ghost use Rattle.slicer_top.specs.Files.{AreFetches, AreFetchesOf, AreShort, IsGiven, OfFiles, name_of, text_made};
 ghost use Rattle.slicer_top.specs.Graphs.{IsGraphText, IsMembersText};
-ghost use Rattle.slicer_top.specs.Slices.{AreSlices, AreWritten, AreWrittenOf, IsOneText};
-ghost use Rattle.slicer_top.specs.Reports.{IsReason, IsReasonOf, IsAmong, IsCause, IsInputFault, IsMissing};
+ghost use Rattle.slicer_top.specs.Slices.{AreSlices, AreWritten, AreWrittenOf, HasLast, HasLastOf, IsOneText};
+ghost use Rattle.slicer_top.specs.Reports.{IsReason, IsReasonOf, IsAmong, IsCause, IsInputFault, IsMissing, IsTextFault};
 
 use crate::criteria::{criteria_at, criterion_at};
+use crate::numbers::numbers_text;
 use crate::refusal::{Refusal, of_input};
 use crate::running::{alone, ran, trace_texts};
+use big_programs::generate;
 use c_tree::Program;
 use call_words::Request;
 use edge_io::{Shelf, Text};
@@ -23,12 +26,13 @@ use std::alloc::{AllocError, Global};
 // The most bytes that a file may have.
 const MAX_FILE_BYTES: usize = 1_048_576;
 
-/// The texts that are to be written for a request, of the files that it names.
+/// The texts that are to be written for a request, of the files that it names or of the text that is made for it.
 pub(crate) fn texts_for<F: Shelf>(
     alloc: Global,
     request: &Request,
     shelf: &mut F,
 ) -> Result<Vec<Text>, Refusal>
+    requires { IsBounded (asked_by request.now) }
     ensures contents { F.contents shelf.new ≡ F.contents shelf.old }
     ensures fetched { AreFetches (asked_by request.now) (F.fetches shelf.old) (F.fetches shelf.new) }
     ensures ok { IfOk result (λ texts. OfFiles (F.contents shelf.old) (asked_by request.now)
@@ -39,23 +43,88 @@ pub(crate) fn texts_for<F: Shelf>(
     ensures no_fault { F.never_fails shelf.old → F.faults shelf.new ≡ F.faults shelf.old }
     ensures missing { F.never_fails shelf.old → IfErr result (IsMissing (F.contents shelf.old) (asked_by request.now)) }
 {
-    let text = shelf.fetch(alloc, request.file(), MAX_FILE_BYTES)?;
+    let text = text_for(alloc, request, shelf)?;
     let input = input_for(alloc, request.input(), shelf)?;
     texts_of(alloc, text.as_slice(), input.as_slice(), request)
 }
 
-// The bytes of the file with the input, where one is asked for; otherwise none.
-fn input_for<F: Shelf>(
-    alloc: Global,
-    name: Option<&str>,
-    shelf: &mut F,
-) -> Result<Vec<u8>, Refusal>
+// The bytes of the file with the text; where no file has it, the text that is made.
+fn text_for<F: Shelf>(alloc: Global, request: &Request, shelf: &mut F) -> Result<Vec<u8>, Refusal>
+    requires { IsBounded (asked_by request.now) }
     ensures contents { F.contents shelf.new ≡ F.contents shelf.old }
     ensures faults { NeverFalls (F.faults shelf.old) (F.faults shelf.new) }
     ensures long_files { NeverFalls (F.long_files shelf.old) (F.long_files shelf.new) }
-    ensures fetched { AreInputFetches (name_of name.entry) (F.fetches shelf.old) (F.fetches shelf.new) }
+    ensures fetched { AreFetchesOf (file_in (asked_by request.now)) (F.fetches shelf.old) (F.fetches shelf.new) }
+    ensures short { IfOk result (λ text. length text.items ≤ 1048576) }
+    ensures ok { IfOk result (λ text. IsGiven (F.contents shelf.old) (text_made (asked_by request.now)) (file_in (asked_by request.now)) text.items) }
+    ensures err { IfErr result (IsTextFault (F.contents shelf.old) (F.faults shelf.old) (F.faults shelf.new)
+        (F.long_files shelf.old) (F.long_files shelf.new) (file_in (asked_by request.now))) }
+    ensures no_fault { F.never_fails shelf.old → F.faults shelf.new ≡ F.faults shelf.old }
+    ensures never_fails { F.never_fails shelf.old → F.never_fails shelf.new }
+    ensures missing { F.never_fails shelf.old → IfErr result (λ refusal. refusal ≡ Refusal.Unreadable
+        → IsSomeAnd (file_in (asked_by request.now)) (Lacks (F.contents shelf.old))) }
+{
+    match request.file() {
+        Some(name) => text_in(alloc, name, shelf),
+        None => made_text(alloc, request),
+    }
+}
+
+// The bytes of the file with the text.
+fn text_in<F: Shelf>(alloc: Global, name: &str, shelf: &mut F) -> Result<Vec<u8>, Refusal>
+    ensures contents { F.contents shelf.new ≡ F.contents shelf.old }
+    ensures faults { NeverFalls (F.faults shelf.old) (F.faults shelf.new) }
+    ensures long_files { NeverFalls (F.long_files shelf.old) (F.long_files shelf.new) }
+    ensures fetched { AreFetchesOf (Some name.now) (F.fetches shelf.old) (F.fetches shelf.new) }
+    ensures short { IfOk result (λ text. length text.items ≤ 1048576) }
+    ensures ok { IfOk result (λ text. IsGiven (F.contents shelf.old) [] (Some name.now) text.items) }
+    ensures err { IfErr result (IsTextFault (F.contents shelf.old) (F.faults shelf.old) (F.faults shelf.new)
+        (F.long_files shelf.old) (F.long_files shelf.new) (Some name.now)) }
+    ensures no_fault { F.never_fails shelf.old → F.faults shelf.new ≡ F.faults shelf.old }
+    ensures never_fails { F.never_fails shelf.old → F.never_fails shelf.new }
+    ensures missing { F.never_fails shelf.old → IfErr result (λ refusal. refusal ≡ Refusal.Unreadable → Lacks (F.contents shelf.old) name.now) }
+{
+    match shelf.fetch(alloc, name, MAX_FILE_BYTES) {
+        Ok(text) => Ok(text),
+        Err(fault) => Err(Refusal::from(fault)),
+    }
+}
+
+// The text that is made for a request that names no file: that of the program that a seed gives.
+fn made_text(alloc: Global, request: &Request) -> Result<Vec<u8>, Refusal>
+    requires { IsBounded (asked_by request.now) }
+    ensures short { IfOk result (λ text. length text.items ≤ 1048576) }
+    ensures ok { IfOk result (λ text. text.items ≡ text_made (asked_by request.now)) }
+    ensures err { IfErr result (λ refusal. refusal ≡ Refusal.NoMemory) }
+{
+    match request {
+        Request::Big { seed, size, .. } => bytes_of(alloc, *seed, *size),
+        Request::Slice { .. } => Ok(Vec::new(alloc)),
+        Request::Trace { .. } => Ok(Vec::new(alloc)),
+        Request::Run { .. } => Ok(Vec::new(alloc)),
+        Request::Graph { .. } => Ok(Vec::new(alloc)),
+        Request::Members { .. } => Ok(Vec::new(alloc)),
+    }
+}
+
+// The bytes of the text that a seed gives, with so many functions beside `main`.
+fn bytes_of(alloc: Global, seed: u32, size: u32) -> Result<Vec<u8>, Refusal>
+    ensures ok { IfOk result (λ bytes. bytes.items ≡ generated seed size) }
+    ensures err { IfErr result (λ refusal. refusal ≡ Refusal.NoMemory) }
+{
+    let text = generate(alloc, seed, size)?;
+    let bytes = Vec::from_slice(alloc, text.bytes())?;
+    Ok(bytes)
+}
+
+// The bytes of the file with the input, where one is asked for; otherwise none.
+fn input_for<F: Shelf>(alloc: Global, name: Option<&str>, shelf: &mut F) -> Result<Vec<u8>, Refusal>
+    ensures contents { F.contents shelf.new ≡ F.contents shelf.old }
+    ensures faults { NeverFalls (F.faults shelf.old) (F.faults shelf.new) }
+    ensures long_files { NeverFalls (F.long_files shelf.old) (F.long_files shelf.new) }
+    ensures fetched { AreFetchesOf (name_of name.entry) (F.fetches shelf.old) (F.fetches shelf.new) }
     ensures short { IfOk result (λ input. length input.items ≤ 1048576) }
-    ensures ok { IfOk result (λ input. IsInput (F.contents shelf.old) (name_of name.entry) input.items) }
+    ensures ok { IfOk result (λ input. IsGiven (F.contents shelf.old) [] (name_of name.entry) input.items) }
     ensures err { IfErr result (IsInputFault (F.contents shelf.old) (F.faults shelf.old) (F.faults shelf.new)
         (F.long_files shelf.old) (F.long_files shelf.new) (name_of name.entry)) }
     ensures no_fault { F.never_fails shelf.old → F.faults shelf.new ≡ F.faults shelf.old }
@@ -78,7 +147,8 @@ fn texts_of(
     input: &[u8],
     request: &Request,
 ) -> Result<Vec<Text>, Refusal>
-    requires { length text.now ≤ 1048576 }
+    requires short { length text.now ≤ 1048576 }
+    requires last { HasLastOf text.now (asked_by request.now) }
     ensures ok { IfOk result (λ texts. AreWritten text.now (asked_by request.now) input.now texts.items) }
     ensures err { IfErr result (IsReason text.now (asked_by request.now) input.now) }
 {
@@ -93,7 +163,8 @@ fn made(
     input: &[u8],
     request: &Request,
 ) -> Result<Vec<Text>, Refusal>
-    requires { IsWellFormed program }
+    requires well_formed { IsWellFormed program }
+    requires last { HasLast (asked_by request.now) program }
     ensures { MatchResult result (λ texts. AreWrittenOf program (asked_by request.now) input.now texts.items)
         (IsReasonOf program (asked_by request.now) input.now) }
 {
@@ -105,6 +176,7 @@ fn made(
         Request::Run { steps, .. } => ran(alloc, &program, input, *steps),
         Request::Graph { .. } => graph_texts(alloc, program),
         Request::Members { line, .. } => members_texts(alloc, program, *line),
+        Request::Big { .. } => numbers_texts(alloc, program),
     }
 }
 
@@ -191,4 +263,19 @@ fn members_text(
         &set,
     )?;
     alone(alloc, text)
+}
+
+// ---- numbers
+
+// The numbers of the slice of a program at its last line, or why there are none.
+fn numbers_texts(alloc: Global, program: Program) -> Result<Vec<Text>, Refusal>
+    requires well_formed { IsWellFormed program }
+    requires some { 0 < program.statements }
+    ensures { (seed size workers : ℕ) (input : List ℕ) → MatchResult result
+        (λ texts. AreWrittenOf program (Asked.big seed size workers) input texts.items)
+        (IsReasonOf program (Asked.big seed size workers) input) }
+{
+    let engine = Engine::new(alloc, program)?;
+    let texts = numbers_text(alloc, &engine)?;
+    Ok(texts)
 }

@@ -5,8 +5,11 @@ use Rattle.call_words.specs.Sorting.{sorted}
 use Rattle.call_words.specs.Grammar.{Row, IsSortedInForm}
 use Rattle.call_words.specs.Clap.{HasMatches}
 use Rattle.call_words.specs.Forms.{texts, sorted_view, view}
-use Rattle.call_words.proofs.FormLaws.{is_in_form, can_ask, can_ask_found}
+use Rattle.call_words.proofs.FormLaws.{is_in_form, can_ask, can_ask_found, nothing_rules_out, words_utf8}
 use Rattle.call_words.proofs.request.read_words.Goals as goal
+
+pub returns-in_default : goal.returns-in_default
+returns-in_default c = record { read = λ _ g. nothing_rules_out _ _ _ c.in_default.not-Some c.in_ok-texts.ensures (words_utf8 c.args.words.now g) }
 
 pub read-requires-clause-form : goal.read-requires-clause-form
 read-requires-clause-form c =

@@ -1,5 +1,6 @@
-use Rattle.std.proofs.Common.{refl}
-use Rattle.call_words.specs.Requests.{asked_by}
+use Rattle.std.proofs.Common.{refl, sym, subst}
+use Rattle.call_words.specs.Requests.{IsBounded, asked_by}
+use Rattle.call_words.proofs.FormLaws.{words_bounded}
 use Rattle.slicer_top.proofs.Promised.{asked_is, memory_promised, refused_for, usage_promised, written_for}
 use Rattle.slicer_top.proofs.run.run_slicer.Goals as goal
 
@@ -12,6 +13,11 @@ pub returns-in-Err-NoMemory : goal.returns-in-Err-NoMemory
 returns-in-Err-NoMemory g c =
     memory_promised c.args.words.now _ _ _ c.tell_no_memory.result (record { shelf_stays = refl; shelf_faults = refl; shelf_fetches = refl; contents = refl; out_stays = refl; out_faults = refl })
     c.tell_no_memory.ensures.told c.tell_no_memory.ensures.taken
+
+pub texts_for-requires : goal.texts_for-requires
+texts_for-requires g c =
+    let read = c.in-Ok.ensures.read in
+    subst IsBounded (sym (asked_is c.args.words.now _ read.asks_for)) (words_bounded c.args.words.now read.in_grammar)
 
 pub returns-in-Ok-texts_for : goal.returns-in-Ok-texts_for
 returns-in-Ok-texts_for g c =

@@ -1,6 +1,7 @@
 use Rattle.std.proofs.Common.{ap, subst, sym}
 use Rattle.std.specs.String.{string_bytes}
 use Rattle.call_words.specs.Requests.{Asked, asked_by}
+use Rattle.slicer_top.specs.Slices.{HasLast}
 use Rattle.slicer_top.proofs.Making.{IsMade, run_made}
 use Rattle.slicer_top.proofs.slicing.made.Goals as goal
 
@@ -30,3 +31,11 @@ pub returns-in-Members : goal.returns-in-Members
 returns-in-Members c =
     subst (λ a. IsMade c.args.program c.args.input.now (λ t. t.items) a c.members_texts.result) (ap asked_by (sym c.in-Members.is))
     (c.members_texts.ensures (string_bytes c.in-Members.file) c.args.input.now c.in-Members.workers)
+
+pub numbers_texts-requires-clause-some : goal.numbers_texts-requires-clause-some
+numbers_texts-requires-clause-some c = subst (λ r. HasLast (asked_by r) c.args.program) c.in-Big.is c.requires.last
+
+pub returns-in-Big : goal.returns-in-Big
+returns-in-Big c =
+    subst (λ a. IsMade c.args.program c.args.input.now (λ t. t.items) a c.numbers_texts.result) (ap asked_by (sym c.in-Big.is))
+    (c.numbers_texts.ensures c.in-Big.seed c.in-Big.size c.in-Big.workers c.args.input.now)

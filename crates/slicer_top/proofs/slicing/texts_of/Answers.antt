@@ -5,8 +5,11 @@ use Rattle.slicer_top.proofs.ReaderLaws.{well_formed}
 use Rattle.slicer_top.proofs.Reasons.{passes_on, reading_shows}
 use Rattle.slicer_top.proofs.slicing.texts_of.Goals as goal
 
-pub made-requires : goal.made-requires
-made-requires c = well_formed c.args.text.now c.in_ok-program.program c.in_ok-program.ensures.right
+pub made-requires-clause-well_formed : goal.made-requires-clause-well_formed
+made-requires-clause-well_formed c = well_formed c.args.text.now c.in_ok-program.program c.in_ok-program.ensures.right
+
+pub made-requires-clause-last : goal.made-requires-clause-last
+made-requires-clause-last c = c.requires.last c.in_ok-program.program c.in_ok-program.ensures.right
 
 pub returns-in_err-program-clause-err : goal.returns-in_err-program-clause-err
 returns-in_err-program-clause-err c =
