@@ -1,5 +1,6 @@
-//! The slicer: `slicer slice FILE LINE..` writes the slice of the C program in FILE at each LINE, `slicer graph FILE` its
-//! dependence graph, and `slicer members FILE LINE` what reaches LINE in that.
+//! The slicer: `slicer slice FILE LINE..` writes the slice of the C program in FILE at each LINE, `slicer trace` and
+//! `slicer run` what a run of it gives, `slicer graph FILE` its dependence graph, `slicer members FILE LINE` what reaches
+//! LINE in that, and `slicer big SEED SIZE` the numbers of the slice of a large program.
 #![tactic(auto)]
 
 use slicer_top::{Exit, FileShelf, StreamSink, run_call};

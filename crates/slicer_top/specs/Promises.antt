@@ -81,7 +81,7 @@ pub record Outcome (words : List Bytes) (shelf : ShelfSeen) (out err : SinkSeen)
       × OfFiles shelf.contents (asked_of words) (λ text input. WritesFront text (asked_of words) input out.written out.written')
       × PutOrCutOff err.faults err.faults' err.written err.written' cannot_write)
   pub silent : answer ≡ status.Done → err.stays
-  -- the shelf holds what it held, and was asked for each file at most once
+  -- the shelf holds what it held, and was asked at most once for the text, and then for the input where one is asked for
   pub contents : shelf.contents' ≡ shelf.contents
   pub fetched : (shelf.fetches' ≡ shelf.fetches) ⊎ AreFetches (asked_of words) shelf.fetches shelf.fetches'
 

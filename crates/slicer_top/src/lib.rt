@@ -1,4 +1,4 @@
-//! The top call of the slicer: from the words of a command line to the bytes of slices.
+//! The top call of the slicer: from the words of a command line to the bytes that they ask for.
 //!
 //! [`run_slicer`] works over any shelf and any sinks. The program gives it [`FileShelf`] and
 //! [`StreamSink`], tests give it files in memory and sinks that fail. [`run_call`] is what `main` calls: it makes the
