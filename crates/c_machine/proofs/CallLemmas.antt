@@ -21,8 +21,8 @@ use Rattle.c_language.specs.declared.expr_type.ExprType.{ExprType}
 use Rattle.c_machine.specs.declared.runs.Caller.{Caller}
 use Rattle.c_machine.specs.Runs.{waiting_of, callers_before}
 use Rattle.c_machine.specs.States.{as_parameters, all_passed}
-use Rattle.c_machine.proofs.ActLemmas.{values_typed}
-use Rattle.c_machine.proofs.MadeLemmas.{values_at}
+use Rattle.c_acts.proofs.ActLemmas.{values_typed}
+use Rattle.c_acts.proofs.MadeLemmas.{values_at}
 
 -- ---- callers
 

@@ -15,7 +15,8 @@ use Rattle.c_tree.specs.declared.numbered.Start.{Start}
 use Rattle.c_tree.specs.Numbered.{layer_start, own_id}
 use Rattle.c_tree.proofs.LayerLemmas.{out-Declare, out-Assign, out-Bump, out-Invoke, out-Fetch, out-Write, out-Print, out-Heap, out-Release, out-If, out-While, out-Do, out-For, out-Switch, out-Return}
 use Rattle.c_language.specs.Code.{Act, Begins, Sets, Bumps, Fetches, Writes, Prints, Allocates, Frees, Returns, Code, Plain, Fork, Loop, Call, ◌⨟◌, is_true, either, taken_arm}
-use Rattle.c_machine.specs.Rests.{list_before, block_before, block_in, arm_part, own_act, turn_of, act_of, act_code}
+use Rattle.c_acts.specs.Makings.{own_act}
+use Rattle.c_machine.specs.Rests.{list_before, block_before, block_in, arm_part, turn_of, act_of, act_code}
 use Rattle.c_machine.proofs.RestLemmas.{block_then, turn_then}
 
 numbered : (x : Statement) (z : Statement-F Statement Arm) (i : ℕ) → out-Statement x ≡ z → own_id x ≡ Some i → option_map (λ (t : Start). t.id) (layer_start z) ≡ Some i

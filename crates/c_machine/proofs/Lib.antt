@@ -5,12 +5,8 @@ mod Rulesets
 mod AheadLemmas
 mod TraceLemmas
 mod ProgressLemmas
-mod MadeLemmas
 mod CallLemmas
 mod PointLemmas
-mod ValueLemmas
-mod FormatLemmas
 mod RunLemmas
-mod ActLemmas
 mod FormLemmas
 mod MachineLemmas

@@ -28,21 +28,21 @@ use Rattle.c_memory.specs.Scenes.{frame_of, types_of, state_in, scene}
 use Rattle.c_memory.specs.Scenes as scenes
 use Rattle.c_machine.specs.declared.rests.Rest.{Rest}
 use Rattle.c_machine.specs.declared.runs.Caller.{Caller}
-use Rattle.c_machine.specs.declared.makings.Made.{Made as Making}
+use Rattle.c_acts.specs.declared.makings.Made.{Made as Making}
 use Rattle.c_machine.specs.declared.runs.Run.{Run}
 use Rattle.c_machine.specs.declared.runs.Turn.{Turn}
 use Rattle.c_machine.specs.declared.runs.Turn.TheVariants as turn
 use Rattle.c_machine.specs.declared.states.State.{State as Standing}
 use Rattle.c_machine.specs.declared.traces.Trace.{Trace as Told}
-use Rattle.c_machine.specs.Makings.{seen, made_in, made_from, made_by, types_for}
+use Rattle.c_acts.specs.Makings.{seen, made_in, made_from, made_by, types_for}
 use Rattle.c_machine.specs.Rests.{left_code, block_before, list_before}
 use Rattle.c_machine.specs.Runs.{waiting_of, callers_before, IsAt, IsHeard, Acted, Tested, Stored, Received}
 use Rattle.c_machine.specs.Sizes.{rest_size, left_size, callers_size, run_size}
 use Rattle.c_machine.specs.States.{IsState, as_parameters}
 use Rattle.c_machine.specs.Traces.{Before, nothing_before, watches, IsTold}
-use Rattle.c_machine.proofs.ActLemmas.{given_typed}
+use Rattle.c_acts.proofs.ActLemmas.{given_typed}
 use Rattle.c_machine.proofs.CallLemmas.{callers-push, go, called_is, variables_found, variables_missing}
-use Rattle.c_machine.proofs.MadeLemmas.{value_at, given_at, made_at, made_some, made_none}
+use Rattle.c_acts.proofs.MadeLemmas.{value_at, given_at, made_at, made_some, made_none}
 use Rattle.c_machine.proofs.PointLemmas.{back_at, acted_done, acted_not, looped}
 use Rattle.c_machine.proofs.SizeLemmas.{left_size-push, callers_size-push}
 use Rattle.c_machine.proofs.StateLemmas.{closed-append}

@@ -17,9 +17,9 @@ use Rattle.c_meaning.specs.Activations.{executable, parameter_begun}
 use Rattle.c_meaning.specs.Memory.{Memory, enter, write}
 use Rattle.c_meaning.specs.Values.{State, whole, bound, leave_block, variable_closed, all_closed}
 use Rattle.c_memory.specs.Scenes.{frame_of}
-use Rattle.c_machine.specs.declared.makings.Change.{Change}
+use Rattle.c_acts.specs.declared.makings.Change.{Change}
 use Rattle.c_machine.specs.declared.states.State.{State as Standing}
-use Rattle.c_machine.specs.Makings.{IsChange, stores_in, begun_in}
+use Rattle.c_acts.specs.Makings.{IsChange, stores_in, begun_in}
 use Rattle.c_machine.specs.Rests.{parts}
 use Rattle.c_machine.specs.States.{IsState, opened_in}
 

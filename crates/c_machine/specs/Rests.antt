@@ -7,7 +7,7 @@ use Rattle.c_tree.specs.declared.statement.Statement.{Statement, out-Statement}
 use Rattle.c_tree.specs.declared.statement.Statement.TheOpen.{Statement-F}
 use Rattle.c_tree.specs.declared.statement.Target.{Target}
 use Rattle.c_tree.specs.declared.statement.Target.TheVariants as target
-use Rattle.c_language.specs.Code.{Act, Begins, Sets, Bumps, Fetches, Writes, Prints, Allocates, Frees, Returns, Code, End, Opens, Plain, Fork, Loop, Leaves, Call, ◌⨟◌, is_true, either, leave, StatementPart, ArmPart, declared_in, in_turn, list_of, block, taken_arm, begun_code, part_step, arm_step, part}
+use Rattle.c_language.specs.Code.{Sets, Bumps, Fetches, Writes, Prints, Allocates, Frees, Returns, Code, End, Opens, Plain, Fork, Loop, Leaves, Call, ◌⨟◌, is_true, either, leave, StatementPart, ArmPart, declared_in, in_turn, list_of, block, taken_arm, begun_code, part_step, arm_step, part}
 use Rattle.c_machine.specs.declared.rests.Rest.{Rest}
 use Rattle.c_machine.specs.declared.rests.Rest.TheVariants as rest
 
@@ -34,25 +34,6 @@ abbrev pub arm_part : Arm → ArmPart
 arm_part = fold-Arm StatementPart ArmPart part_step arm_step
 
 -- ---- acts
-
--- what the act of a statement is, where it is neither a test nor a call of a function
-abbrev pub own_act : Statement-F Statement Arm → Option Act
-own_act (Statement-F.Declare id l x init) = Some (Begins x init)
-own_act (Statement-F.Assign id l left op right) = Some (Sets left op right)
-own_act (Statement-F.Bump id l a up before) = Some (Bumps a up)
-own_act (Statement-F.Fetch id l to) = Some (Fetches to)
-own_act (Statement-F.Write id l e) = Some (Writes e)
-own_act (Statement-F.Print id l format args) = Some (Prints format args)
-own_act (Statement-F.Heap id l to cast n) = Some (Allocates to n)
-own_act (Statement-F.Release id l e) = Some (Frees e)
-own_act (Statement-F.Return id l e) = Some (Returns e)
-own_act (Statement-F.Invoke id l to f args) = None
-own_act (Statement-F.If id l e a b) = None
-own_act (Statement-F.While id l e b) = None
-own_act (Statement-F.Do id l e b) = None
-own_act (Statement-F.For id l i e s b) = None
-own_act (Statement-F.Switch id l e arms) = None
-own_act (Statement-F.Block l b) = None
 
 -- what a turn of a for does: its body, and its step
 abbrev pub turn_of : List Statement → Option Statement → Code

@@ -1,10 +1,7 @@
 //! The interpreter: programs run one act at a time, and what a machine answers after each act is what the program means.
 #![tactic(auto)]
 
-mod acts;
-mod formats;
 mod machine;
-mod makings;
 mod rests;
 mod runs;
 mod states;

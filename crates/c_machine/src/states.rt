@@ -9,12 +9,12 @@ ghost use Rattle.c_meaning.specs.Activations.{executable, parameter_begun};
 ghost use Rattle.c_meaning.specs.Memory as memory;
 ghost use Rattle.c_meaning.specs.Values as spec;
 ghost use Rattle.c_memory.specs.Scenes.{frame_of};
-ghost use Rattle.c_machine.specs.Makings.{IsChange, stores_in, begun_in};
+ghost use Rattle.c_acts.specs.Makings.{IsChange, stores_in, begun_in};
 ghost use Rattle.c_machine.specs.Rests.{parts};
 ghost use Rattle.c_machine.specs.States.{IsState, opened_in, Keeps};
 
-use crate::makings::{Change, Request, Stores};
 use crate::rests::declared;
+use c_acts::{Change, Request, Stores};
 use c_language::ExprType;
 use c_meaning::{Place, Value};
 use c_memory::{Memory, Scene, bind};

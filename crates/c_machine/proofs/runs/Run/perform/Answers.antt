@@ -1,8 +1,8 @@
 use Rattle.std.proofs.Common.{ap, ◌∙◌}
 use Rattle.c_meaning.specs.Acts.{after}
 use Rattle.c_meaning.specs.Meaning.{told}
-use Rattle.c_machine.specs.Makings.{Seen}
-use Rattle.c_machine.proofs.MadeLemmas.{change_of}
+use Rattle.c_acts.specs.Makings.{Seen}
+use Rattle.c_acts.proofs.MadeLemmas.{change_of}
 use Rattle.c_machine.proofs.RunLemmas.{at_with}
 use Rattle.c_machine.proofs.TraceLemmas.{told_more}
 use Rattle.c_machine.proofs.runs.Run.perform.Goals as goal

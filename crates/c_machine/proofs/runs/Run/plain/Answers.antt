@@ -1,7 +1,7 @@
 use Rattle.std.proofs.Common.{refl, sym, ap, ◌∙◌, option_map}
 use Rattle.c_machine.proofs.RunLemmas.{plain_made, plain_done, plain_not, heard_at}
 use Rattle.c_meaning.specs.Steps.{Point}
-use Rattle.c_machine.specs.Makings.{made_in}
+use Rattle.c_acts.specs.Makings.{made_in}
 use Rattle.c_machine.specs.Rests.{left_code}
 use Rattle.c_machine.proofs.runs.Run.plain.Goals as goal
 

@@ -1,5 +1,5 @@
 use Rattle.std.proofs.Common.{option_map, sym, ap, ◌∙◌}
-use Rattle.c_machine.specs.Makings.{made_in}
+use Rattle.c_acts.specs.Makings.{made_in}
 use Rattle.c_machine.proofs.RunLemmas.{given_here, stored_so, stored_not, heard_at}
 use Rattle.c_machine.proofs.runs.Run.store_value.Goals as goal
 

@@ -4,7 +4,7 @@ use Rattle.c_meaning.specs.Acts.{stored}
 use Rattle.c_meaning.specs.Memory.{Memory}
 use Rattle.c_meaning.specs.Values.{leave_block}
 use Rattle.std.specs.Option.{option_or}
-use Rattle.c_machine.specs.Makings.{stores_in}
+use Rattle.c_acts.specs.Makings.{stores_in}
 use Rattle.c_machine.proofs.StateLemmas.{applied_at}
 use Rattle.c_machine.proofs.states.State.apply.Goals as goal
 

@@ -1,0 +1,4 @@
+pub mod MadeLemmas
+mod ValueLemmas
+mod FormatLemmas
+pub mod ActLemmas

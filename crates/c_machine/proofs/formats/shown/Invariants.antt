@@ -1,6 +1,0 @@
-use Rattle.std.proofs.Common.{◌≡◌, take}
-use Rattle.c_machine.specs.Formats.{shown_numbers}
-use Rattle.c_machine.proofs.formats.shown.Given as goal
-
-abbrev pub invariant-loop-number : goal.invariant-loop-number
-invariant-loop-number l = l.all ≡ shown_numbers (take l.number-index l.numbers)
