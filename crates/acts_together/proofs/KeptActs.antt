@@ -21,7 +21,8 @@ use Rattle.dep_model.specs.PointerFree.{IsPointerFree, is_pointer_free_act}
 use Rattle.dep_model.specs.SystemGraph.{Analysis}
 use Rattle.dep_model.specs.VertexOrder.{doing_at, statement_uses, statement_kills}
 use Rattle.dep_model.proofs.Membership.{IsIn, contains_of_in}
-use Rattle.projection.specs.Kept.{Kept, rank}
+use Rattle.kept_numbers.specs.Ranks.{rank}
+use Rattle.projection.specs.Kept.{Kept}
 use Rattle.projected_places.specs.Counterparts.{counterpart_of, AreProjected}
 use Rattle.projected_places.specs.ProjectedCode.{renamed_act}
 use Rattle.projected_places.proofs.Projecting.{projects_as}

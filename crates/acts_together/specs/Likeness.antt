@@ -7,7 +7,8 @@ use Rattle.c_language.specs.Code.{Act, Returns}
 use Rattle.c_language.specs.Names.{act_names}
 use Rattle.c_meaning.specs.Activations.{executable, result_at}
 use Rattle.dep_model.specs.Doings.{Does, doings_of}
-use Rattle.projection.specs.Kept.{Kept, rank}
+use Rattle.kept_numbers.specs.Ranks.{rank}
+use Rattle.projection.specs.Kept.{Kept}
 
 -- q keeps the types of variables that stay, of members, and of the results of functions with a kept return; what kept acts of p name stays
 pub record HasLikeActs (p q : Program) (k : Kept ℕ) : Type 0 where

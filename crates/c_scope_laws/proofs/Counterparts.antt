@@ -9,7 +9,8 @@ use Rattle.c_language.specs.Phrases.{Part, Phrase, Phrases, phrase}
 use Rattle.c_language.specs.Rules.{Breaks}
 use Rattle.c_language.proofs.Lists.{contains_first}
 use Rattle.c_scope_laws.specs.Agreement.{Names, NamesFunction, DeclaresName, DeclaresHead, PlacesAgree, PartsAgree}
-use Rattle.projection.specs.Kept.{Kept, rank}
+use Rattle.kept_numbers.specs.Ranks.{rank}
+use Rattle.projection.specs.Kept.{Kept}
 use Rattle.c_scope_laws.specs.Thinning.{heads_of}
 use Rattle.c_scope_laws.proofs.RulesAgreement.{breaks_moves}
 

@@ -11,7 +11,8 @@ use Rattle.c_language.specs.Scopes.{Scope, Meaning, Entry, found_in, meaning_in,
 use Rattle.c_language.specs.Phrases.{Part}
 use Rattle.c_language.specs.declared.expr_type.ExprType.{ExprType}
 use Rattle.c_scope_laws.specs.Agreement.{Names, NamesFunction, DeclaresName, DeclaresHead, moved_meaning, IsVariable, PlacesAgree}
-use Rattle.projection.specs.Kept.{Kept, rank}
+use Rattle.kept_numbers.specs.Ranks.{rank}
+use Rattle.projection.specs.Kept.{Kept}
 use Rattle.c_scope_laws.specs.Thinning.{found, EntryStays, NamesStay, heads_of}
 use Rattle.c_scope_laws.specs.Following.{kept_more, kept_entries, TextsAgree, ScopesAgree}
 use Rattle.c_scope_laws.proofs.Scopes.{kept-append, kept-drop, found_kept, none_kept, found_variable, found_function}

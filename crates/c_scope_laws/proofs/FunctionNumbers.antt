@@ -10,7 +10,8 @@ use Rattle.c_language.specs.Scopes.{Scope, outset}
 use Rattle.c_language.proofs.Options.{none_there, some_same}
 use Rattle.c_language.proofs.Tests.{false_true}
 use Rattle.c_language.proofs.Lists.{position-cons, same_bytes}
-use Rattle.projection.specs.Kept.{Kept, rank}
+use Rattle.kept_numbers.specs.Ranks.{rank}
+use Rattle.projection.specs.Kept.{Kept}
 use Rattle.c_scope_laws.specs.Agreement.{head_left}
 use Rattle.c_scope_laws.specs.Thinning.{heads_of}
 use Rattle.c_scope_laws.specs.Following.{kept_head, kept_functions}

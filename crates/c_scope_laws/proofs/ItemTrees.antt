@@ -36,7 +36,8 @@ use Rattle.c_language.proofs.ScopeNumbers.{function_variables}
 use Rattle.c_language.specs.Rules.{AreKept}
 use Rattle.c_scope_laws.specs.Agreement.{Names, IsVariable, head_left}
 use Rattle.c_scope_laws.specs.Agreement.StandsFor.{there as as_it_is}
-use Rattle.projection.specs.Kept.{Kept, rank, chosen as chosen_places}
+use Rattle.kept_numbers.specs.Ranks.{rank}
+use Rattle.projection.specs.Kept.{Kept, chosen as chosen_places}
 use Rattle.c_scope_laws.specs.Thinning.{heads_of, NamesStay, ThinAll}
 use Rattle.c_scope_laws.specs.Following.{TextsAgree, ScopesAgree, kept_functions, head_passes, kept_numbers}
 use Rattle.c_scope_laws.specs.ThinTexts.{ParamFits, ParamsFit, ParamGoes, ParamsGo, ItemsThin, is_named}

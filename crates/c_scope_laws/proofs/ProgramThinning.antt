@@ -20,7 +20,8 @@ use Rattle.c_language.proofs.Options.{none_there, some_same}
 use Rattle.c_language.proofs.Lists.{maps_same}
 use Rattle.c_language.proofs.PhraseLists.{kept_from}
 use Rattle.c_scope_laws.specs.Agreement.{SameOutside}
-use Rattle.projection.specs.Kept.{Kept, rank}
+use Rattle.kept_numbers.specs.Ranks.{rank}
+use Rattle.projection.specs.Kept.{Kept}
 use Rattle.c_scope_laws.specs.Following.{kept_functions, kept_numbers}
 use Rattle.c_scope_laws.specs.ThinTexts.{IsThinner, NamesParameters}
 use Rattle.projection.specs.Projection.{projected_items, projected_vars, projected_functions, projected_program}

@@ -10,7 +10,8 @@ use Rattle.c_language.proofs.Options.{none_there, some_same}
 use Rattle.c_language.proofs.Tests.{false_true}
 use Rattle.c_language.proofs.Lists.{same_bytes}
 use Rattle.c_scope_laws.specs.Agreement.{moved_meaning, IsVariable}
-use Rattle.projection.specs.Kept.{Kept, rank}
+use Rattle.kept_numbers.specs.Ranks.{rank}
+use Rattle.projection.specs.Kept.{Kept}
 use Rattle.c_scope_laws.specs.Thinning.{name_stays, found, EntryStays}
 use Rattle.c_scope_laws.specs.Following.{moved_entry, kept_more, kept_entries}
 use Rattle.c_scope_laws.proofs.Meanings.{function_variable}

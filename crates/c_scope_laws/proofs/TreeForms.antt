@@ -13,7 +13,8 @@ use Rattle.c_tree.specs.declared.statement.Statement.TheOpen.{Statement-F}
 use Rattle.c_tree.specs.declared.statement.Statement.TheVariants as t
 use Rattle.c_language.specs.Words.{Bytes}
 use Rattle.projection.specs.Renumbering.{renamed_label}
-use Rattle.projection.specs.Kept.{Kept, rank}
+use Rattle.kept_numbers.specs.Ranks.{rank}
+use Rattle.projection.specs.Kept.{Kept}
 use Rattle.projection.specs.Projection.{flat, declaring_step, declaring_arm, is_declaring, projected_step, projected_arm_step, projected, projected_arm}
 
 module _ {F : Type 0} (k : Kept F) (g : ℕ → ℕ) where

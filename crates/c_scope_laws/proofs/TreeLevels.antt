@@ -10,7 +10,8 @@ use Rattle.c_language.specs.ConstantEvaluation.{both}
 use Rattle.c_language.specs.ProgramOf.{collected, for_tree}
 use Rattle.c_language.proofs.Options.{none_there, some_same}
 use Rattle.projection.specs.Renumbering.{renamed}
-use Rattle.projection.specs.Kept.{Kept, rank}
+use Rattle.kept_numbers.specs.Ranks.{rank}
+use Rattle.projection.specs.Kept.{Kept}
 use Rattle.projection.specs.Projection.{if_so, part_of, alone, block_of, projected, projected_arm, projected_all}
 use Rattle.c_scope_laws.proofs.TreeForms.{projected-If, projected-While, projected-Do, projected-For, projected-Switch, projected-Block}
 

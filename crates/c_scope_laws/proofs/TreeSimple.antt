@@ -21,7 +21,8 @@ use Rattle.c_language.specs.ProgramOf.{collected, arg_tree, args_tree, only_tree
 use Rattle.c_language.proofs.Options.{none_there, some_same}
 use Rattle.c_language.proofs.Tests.{false_true, none_of}
 use Rattle.projection.specs.Renumbering.{Numbers, renamed, renumbered}
-use Rattle.projection.specs.Kept.{Kept, rank, chosen as chosen_places}
+use Rattle.kept_numbers.specs.Ranks.{rank}
+use Rattle.projection.specs.Kept.{Kept, chosen as chosen_places}
 use Rattle.projection.specs.Projection.{if_so, bare_target, projected}
 use Rattle.c_scope_laws.proofs.ChosenLists.{chosen_map, chosen_collected}
 use Rattle.c_scope_laws.proofs.RenumberingLemmas.{renumbered-Assign, renumbered-Bump, renumbered-Invoke, renumbered-Fetch, renumbered-Write, renumbered-Print, renumbered-Heap, renumbered-Release, renumbered-Return}

@@ -46,7 +46,8 @@ use Rattle.c_language.proofs.TreeScopes.{after_same, list_after, block_after_sam
 use Rattle.c_language.proofs.OptionMaps.{collected_map}
 use Rattle.c_scope_laws.specs.Agreement.{NamedAmong, Names, NamesFunction, Agree, TreesAgree, SameVariable, there, simple_part}
 use Rattle.projection.specs.Renumbering.{Numbers, renamed, renamed_label, renumbered}
-use Rattle.projection.specs.Kept.{Kept, rank, chosen as chosen_places}
+use Rattle.kept_numbers.specs.Ranks.{rank}
+use Rattle.projection.specs.Kept.{Kept, chosen as chosen_places}
 use Rattle.c_scope_laws.specs.Thinning.{LabelsStay, arm_labels, NamesStay, BeginIs, declares, kept_args, kept_form, FormFits, GivesResult, Thins, ThinAll, ThinsPart, ThinArms}
 use Rattle.projection.specs.Projection.{declares_target, is_declaring, first_statement, part_of, bare, bare_target, projected, projected_arm, projected_all}
 use Rattle.c_scope_laws.proofs.Trees.{in_one}

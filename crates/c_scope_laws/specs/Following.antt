@@ -8,7 +8,8 @@ use Rattle.c_language.specs.Scopes.{Scope, Entry}
 use Rattle.c_language.specs.NameRules.{IsDefinedBefore}
 use Rattle.c_language.specs.CallRules.{head_around}
 use Rattle.c_scope_laws.specs.Agreement.{SameOutside, moved_meaning, head_left, StandsInLeft}
-use Rattle.projection.specs.Kept.{Kept, rank}
+use Rattle.kept_numbers.specs.Ranks.{rank}
+use Rattle.projection.specs.Kept.{Kept}
 use Rattle.c_scope_laws.specs.Thinning.{name_stays, heads_of}
 
 module _ (k : Kept Bytes) where

@@ -29,7 +29,8 @@ use Rattle.dep_model.specs.ModRef.{is_outside_root, is_outside}
 use Rattle.dep_model.specs.PointerFree.{is_name_target, IsPointerFree}
 use Rattle.dep_model.specs.SystemGraph.{Analysis}
 use Rattle.dep_model.proofs.Membership.{IsIn, contains_of_in}
-use Rattle.projection.specs.Kept.{Kept, rank, chosen}
+use Rattle.kept_numbers.specs.Ranks.{rank}
+use Rattle.projection.specs.Kept.{Kept, chosen}
 use Rattle.projection.specs.Renumbering.{renamed}
 use Rattle.run_facts.specs.ReadCells.{all_read}
 use Rattle.run_facts.proofs.Blocks.{grows_not}

@@ -6,7 +6,8 @@ use Rattle.c_tree.specs.declared.program.Program.{Program}
 use Rattle.c_meaning.specs.Activations.{Routine, executable, variables_at}
 use Rattle.dep_model.specs.SystemGraph.{Analysis}
 use Rattle.dep_model.proofs.Membership.{IsIn, in_of_get, in_first, in_second, in_either, of_map}
-use Rattle.projection.specs.Kept.{Kept, rank, chosen}
+use Rattle.kept_numbers.specs.Ranks.{rank}
+use Rattle.projection.specs.Kept.{Kept, chosen}
 use Rattle.projection.specs.Projection.{if_so}
 use Rattle.run_facts.specs.Effects.{parameters_at}
 use Rattle.slice_simulation.specs.Renaming.{Names}

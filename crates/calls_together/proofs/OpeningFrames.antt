@@ -10,7 +10,8 @@ use Rattle.c_meaning.proofs.Origins.{IsTracked}
 use Rattle.dep_model.specs.DoingEffects.{is_global}
 use Rattle.dep_model.specs.SystemGraph.{Analysis}
 use Rattle.dep_model.proofs.Membership.{IsIn}
-use Rattle.projection.specs.Kept.{Kept, rank}
+use Rattle.kept_numbers.specs.Ranks.{rank}
+use Rattle.projection.specs.Kept.{Kept}
 use Rattle.run_facts.proofs.Blocks.{AreNamed}
 use Rattle.run_facts.proofs.GlobalVariables.{variables_of}
 use Rattle.run_facts.proofs.OldBlocks.{opening_names}

@@ -35,7 +35,8 @@ use Rattle.dep_model.specs.PointerFree.{is_name_target, IsPointerFree}
 use Rattle.dep_model.specs.SystemGraph.{Analysis, IsAnalysis}
 use Rattle.dep_model.specs.VertexOrder.{doing_at, out_defines, out_kills}
 use Rattle.dep_model.proofs.Membership.{IsIn, contains_of_in}
-use Rattle.projection.specs.Kept.{Kept, rank, chosen}
+use Rattle.kept_numbers.specs.Ranks.{rank}
+use Rattle.projection.specs.Kept.{Kept, chosen}
 use Rattle.projection.specs.Renumbering.{renamed_target}
 use Rattle.run_facts.specs.CellLocations.{location_of}
 use Rattle.run_facts.specs.KeptCells.{IsSameCell, Leads}

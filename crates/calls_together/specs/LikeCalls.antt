@@ -7,7 +7,8 @@ use Rattle.c_meaning.specs.Activations.{Routine, Global, executable}
 use Rattle.dep_model.specs.Doings.{Calls, doings_of}
 use Rattle.dep_model.specs.FunctionVertices.{numbers}
 use Rattle.dep_model.specs.SystemGraph.{Analysis, vertices_of}
-use Rattle.projection.specs.Kept.{KeptWords, Kept, rank, chosen}
+use Rattle.kept_numbers.specs.Ranks.{rank}
+use Rattle.projection.specs.Kept.{KeptWords, Kept, chosen}
 use Rattle.projection.specs.KeptVertices.{is_argument}
 use Rattle.projection.specs.Names.{call_names}
 use Rattle.run_facts.specs.Effects.{parameters_at}

@@ -24,7 +24,8 @@ use Rattle.dep_model.specs.SystemGraph.{Analysis, vertices_of, AreSystemEdges, I
 use Rattle.dep_model.specs.VertexOrder.{arguments_from, slots_of, touched, target_slots, doing_vertices}
 use Rattle.dep_model.specs.Words.{ReachesAny}
 use Rattle.dep_model.proofs.Membership.{IsIn, contains_of_in, in_second, in_map}
-use Rattle.projection.specs.Kept.{Kept, rank}
+use Rattle.kept_numbers.specs.Ranks.{rank}
+use Rattle.projection.specs.Kept.{Kept}
 use Rattle.slice_simulation.specs.Places.{Does, Calls, next_of, stores}
 use Rattle.slice_simulation.specs.Premises.{Telling}
 use Rattle.slice_simulation.specs.Settings.{Statement, Calling, ResultOut, Setting, Reached}

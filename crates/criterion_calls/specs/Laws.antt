@@ -12,7 +12,8 @@ use Rattle.dep_model.specs.Criteria.{is_wanted, criterion_of}
 use Rattle.dep_model.specs.Doings.{Calls, doings_of}
 use Rattle.dep_model.specs.SystemGraph.{Analysis, vertices_of, AreSystemEdges, IsVertex}
 use Rattle.dep_model.specs.Words.{ReachesAny}
-use Rattle.projection.specs.Kept.{Kept, rank}
+use Rattle.kept_numbers.specs.Ranks.{rank}
+use Rattle.projection.specs.Kept.{Kept}
 use Rattle.slice_simulation.specs.Premises.{Telling}
 use Rattle.wanted_locations.specs.Chained.{chained}
 use Rattle.projected_places.specs.Counterparts.{counterpart_of, AreProjected}

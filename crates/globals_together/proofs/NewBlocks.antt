@@ -10,7 +10,8 @@ use Rattle.c_meaning.specs.Cells.{Structs}
 use Rattle.c_meaning.specs.Memory.{Block, held, cell_in, is_cell, read, with_new}
 use Rattle.c_meaning.specs.Values.{OfVariable, State, bound}
 use Rattle.c_meaning.proofs.Frames.{get_last}
-use Rattle.projection.specs.Kept.{Kept, rank}
+use Rattle.kept_numbers.specs.Ranks.{rank}
+use Rattle.projection.specs.Kept.{Kept}
 use Rattle.run_facts.proofs.Blocks.{get_more}
 use Rattle.run_facts.proofs.KeptMemories.{new_keeps}
 use Rattle.slice_simulation.specs.Renaming.{World, Stands, AlikeValue, number, null, pointer, AlikeCell, empty, held as both_hold, cell_at, of_variable, StandsForOne, BlocksStand, BothStand, neither, both, FramesStand}

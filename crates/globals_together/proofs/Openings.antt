@@ -20,7 +20,8 @@ use Rattle.dep_model.specs.ModRef.{is_outside}
 use Rattle.dep_model.specs.PointerFree.{is_pointer_free_item, IsPointerFree}
 use Rattle.dep_model.specs.SystemGraph.{Analysis}
 use Rattle.dep_model.proofs.Membership.{IsIn, contains_of_in}
-use Rattle.projection.specs.Kept.{Kept, rank}
+use Rattle.kept_numbers.specs.Ranks.{rank}
+use Rattle.projection.specs.Kept.{Kept}
 use Rattle.projection.specs.Projection.{if_so}
 use Rattle.projection.specs.Renumbering.{renamed_init}
 use Rattle.slice_simulation.specs.Premises.{Beginning}

@@ -5,7 +5,8 @@ use Rattle.c_language.proofs.Tests.{by_answer, false_true}
 use Rattle.c_language.specs.Code.{Code, Leaves, leave}
 use Rattle.c_meaning.specs.Values.{State, bound, variable_closed, all_closed}
 use Rattle.dep_model.proofs.Membership.{IsIn}
-use Rattle.projection.specs.Kept.{Kept, rank}
+use Rattle.kept_numbers.specs.Ranks.{rank}
+use Rattle.projection.specs.Kept.{Kept}
 use Rattle.projection.specs.Projection.{if_so}
 use Rattle.slice_simulation.specs.Renaming.{World, BothStand, neither, FramesStand}
 use Rattle.projected_places.specs.ProjectedCode.{renamed_all}

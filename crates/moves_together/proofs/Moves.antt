@@ -11,7 +11,8 @@ use Rattle.c_meaning.proofs.Origins.{blocks_have_origins}
 use Rattle.dep_model.specs.declared.location.Location.{Location}
 use Rattle.dep_model.specs.ModRef.{is_outside}
 use Rattle.dep_model.specs.SystemGraph.{Analysis}
-use Rattle.projection.specs.Kept.{Kept, rank}
+use Rattle.kept_numbers.specs.Ranks.{rank}
+use Rattle.projection.specs.Kept.{Kept}
 use Rattle.slice_simulation.specs.Agreeing.{Agree, Together}
 use Rattle.slice_simulation.specs.Places.{Next, Ends, Passes, Does, Calls, next_of}
 use Rattle.slice_simulation.specs.Premises.{Moving}

@@ -3,7 +3,8 @@ use Rattle.std.specs.Prelude.{◌≡◌, ℕ, List, Bool, true}
 use Rattle.c_tree.specs.declared.program.Program.{Program}
 use Rattle.c_meaning.specs.Activations.{executable}
 use Rattle.dep_model.specs.SystemGraph.{Analysis}
-use Rattle.projection.specs.Kept.{Kept, rank}
+use Rattle.kept_numbers.specs.Ranks.{rank}
+use Rattle.projection.specs.Kept.{Kept}
 use Rattle.slice_simulation.specs.Premises.{Moving}
 use Rattle.wanted_locations.specs.Chained.{chained}
 use Rattle.projected_places.specs.Counterparts.{counterpart_of}

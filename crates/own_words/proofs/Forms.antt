@@ -18,7 +18,8 @@ use Rattle.c_tree.proofs.SearchLemmas.{stands_right}
 use Rattle.c_language.specs.Words.{Bytes, assign_sign, name_of_function, expr_words}
 use Rattle.c_language.specs.Layout.{init_words, var_words, target_words, amount_words, cast_words, call_words, bump_words, return_words, Laid, statement_step, arm_step, laid, statement_words, arm_laid}
 use Rattle.c_language.proofs.Options.{none_there, some_same}
-use Rattle.projection.specs.Kept.{Kept, rank, chosen as chosen_places}
+use Rattle.kept_numbers.specs.Ranks.{rank}
+use Rattle.projection.specs.Kept.{Kept, chosen as chosen_places}
 use Rattle.c_language.specs.Names.{names, any_names, init_names, target_names, amount_names, value_names}
 use Rattle.projection.specs.Names.{refers_step, refers, arm_refers}
 use Rattle.projection.specs.Renumbering.{renamed, renamed_init, renamed_target, renamed_amount}

@@ -5,7 +5,8 @@ use Rattle.std.proofs.lemmas.Bool.{cases_lt}
 use Rattle.std.specs.Option.{option_map_or}
 use Rattle.c_tree.specs.declared.program.Function.{Function}
 use Rattle.c_tree.specs.declared.program.Var.{Var}
-use Rattle.projection.specs.Kept.{Kept, rank}
+use Rattle.kept_numbers.specs.Ranks.{rank}
+use Rattle.projection.specs.Kept.{Kept}
 use Rattle.projection.specs.Projection.{projected_var, projected_vars, projected_function, projected_functions}
 use Rattle.c_language.specs.Words.{Bytes}
 use Rattle.c_language.proofs.Options.{none_there, some_same}

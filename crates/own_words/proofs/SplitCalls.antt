@@ -13,7 +13,8 @@ use Rattle.c_tree.specs.declared.statement.Statement.TheViews.{out-roll-Statemen
 use Rattle.c_tree.specs.declared.statement.Target.TheVariants as target
 use Rattle.c_tree.specs.Numbered.{layer_start, own_id}
 use Rattle.c_language.specs.Layout.{var_words}
-use Rattle.projection.specs.Kept.{Kept, rank, chosen as chosen_places}
+use Rattle.kept_numbers.specs.Ranks.{rank}
+use Rattle.projection.specs.Kept.{Kept, chosen as chosen_places}
 use Rattle.projection.specs.Renumbering.{renamed}
 use Rattle.projection.specs.Projection.{called, projected_step, projected_arm_step}
 use Rattle.c_scope_laws.proofs.TreeLevels.{chosen, unchosen}

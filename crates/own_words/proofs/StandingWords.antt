@@ -17,7 +17,8 @@ use Rattle.c_tree.specs.Numbered.StandsIn.{here, inside, later}
 use Rattle.c_tree.proofs.SearchLemmas.{stands_left, stands_right, own_of}
 use Rattle.c_tree.proofs.LayerLemmas.{inner-If, inner-While, inner-Do, inner-For, inner-Switch}
 use Rattle.c_language.proofs.Options.{none_there}
-use Rattle.projection.specs.Kept.{Kept, rank}
+use Rattle.kept_numbers.specs.Ranks.{rank}
+use Rattle.projection.specs.Kept.{Kept}
 use Rattle.c_language.specs.Names.{names}
 use Rattle.projection.specs.Names.{any_of, refers_step, refers_arm, refers, arm_refers, body_refers}
 use Rattle.projection.specs.Renumbering.{renamed}

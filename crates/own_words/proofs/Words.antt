@@ -18,7 +18,8 @@ use Rattle.c_tree.specs.declared.statement.Amount.TheVariants as amount
 use Rattle.c_tree.proofs.Trees.{ExprParts, expr_layer, of_every_expr}
 use Rattle.c_language.specs.Words.{Bytes, joined, binary_sign, int_words, signed, name_of_var, name_of_function, name_of_member, declared, type_words, expr_step, expr_words}
 use Rattle.c_language.specs.Layout.{init_words, var_words, target_words, pointee_words, size_words, amount_words, cast_words, return_words}
-use Rattle.projection.specs.Kept.{Kept, rank}
+use Rattle.kept_numbers.specs.Ranks.{rank}
+use Rattle.projection.specs.Kept.{Kept}
 use Rattle.c_language.specs.Names.{names_step, names, any_names, init_names, target_names, size_names, amount_names, value_names}
 use Rattle.projection.specs.Renumbering.{renamed, renamed_init, renamed_target, renamed_size, renamed_amount}
 use Rattle.projection.specs.Projection.{projected_var, projected_program}

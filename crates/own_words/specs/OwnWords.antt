@@ -14,7 +14,8 @@ use Rattle.c_tree.specs.declared.numbered.Start.{Start}
 use Rattle.c_tree.specs.Numbered.{own_start, own_id, StandsIn, StandsInProgram, IsNumbered}
 use Rattle.c_language.specs.Words.{Bytes, expr_words}
 use Rattle.c_language.specs.Layout.{statement_words, var_words}
-use Rattle.projection.specs.Kept.{KeptWords, Kept, rank, chosen}
+use Rattle.kept_numbers.specs.Ranks.{rank}
+use Rattle.projection.specs.Kept.{KeptWords, Kept, chosen}
 use Rattle.projection.specs.Names.{stays}
 use Rattle.projection.specs.Projection.{projected, projected_program}
 use Rattle.projection_laws.specs.Nested.{IsNested}

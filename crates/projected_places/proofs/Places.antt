@@ -13,7 +13,8 @@ use Rattle.dep_model.specs.Doings as doing
 use Rattle.dep_model.specs.Doings.{doings_of}
 use Rattle.dep_model.specs.SystemGraph.{Analysis}
 use Rattle.dep_model.proofs.Membership.{contains_of_in}
-use Rattle.projection.specs.Kept.{Kept, rank, chosen}
+use Rattle.kept_numbers.specs.Ranks.{rank}
+use Rattle.projection.specs.Kept.{Kept, chosen}
 use Rattle.projection.specs.Renumbering.{renamed, renamed_target}
 use Rattle.slice_simulation.specs.Places.{Next, Ends, Passes, Does, Calls, next_of, stores, kept_target}
 use Rattle.slice_simulation.specs.Premises.{Projected}

@@ -12,7 +12,8 @@ use Rattle.c_meaning.specs.declared.event.Shown.{Shown}
 use Rattle.c_meaning.specs.declared.event.Shown.TheVariants as shown
 use Rattle.c_meaning.specs.Values.{Types, State, tested, shown_of, all_closed, variable_opened}
 use Rattle.c_meaning.specs.Acts.{Made, first_number, picked}
-use Rattle.projection.specs.Kept.{Kept, rank, chosen}
+use Rattle.kept_numbers.specs.Ranks.{rank}
+use Rattle.projection.specs.Kept.{Kept, chosen}
 use Rattle.projection.specs.Projection.{if_so}
 use Rattle.projection.specs.Renumbering.{renamed, renamed_target}
 use Rattle.slice_simulation.specs.Places.{Next, Ends, Passes, Does, Calls, next_of, kept_target}

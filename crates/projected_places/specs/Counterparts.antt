@@ -7,7 +7,8 @@ use Rattle.c_language.specs.Code.{Act}
 use Rattle.c_meaning.specs.Activations.{executable, code_at}
 use Rattle.dep_model.specs.Doings.{Does, Calls, doings_of}
 use Rattle.dep_model.specs.SystemGraph.{Analysis}
-use Rattle.projection.specs.Kept.{Kept, rank}
+use Rattle.kept_numbers.specs.Ranks.{rank}
+use Rattle.projection.specs.Kept.{Kept}
 use Rattle.projection.specs.Renumbering.{renamed_target}
 use Rattle.slice_simulation.specs.Settings.{Statement, Calling, ResultOut}
 use Rattle.wanted_locations.specs.KeptVertices.{keeps_vertex}

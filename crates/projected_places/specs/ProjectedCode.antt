@@ -3,7 +3,8 @@ use Rattle.std.specs.Prelude.{◌≡◌, ℕ, ℤ, List, [], ◌∷◌, map, Boo
 use Rattle.std.specs.List.{list_any}
 use Rattle.c_tree.specs.declared.statement.Target.{Target}
 use Rattle.c_language.specs.Code.{Act, Begins, Sets, Bumps, Fetches, Writes, Prints, Allocates, Frees, Returns, Tests, Code, End, Opens, Plain, Fork, Loop, Leaves, Call, leave, either}
-use Rattle.projection.specs.Kept.{Kept, rank, chosen}
+use Rattle.kept_numbers.specs.Ranks.{rank}
+use Rattle.projection.specs.Kept.{Kept, chosen}
 use Rattle.projection.specs.Projection.{if_so}
 use Rattle.projection.specs.Renumbering.{renamed, renamed_init, renamed_target, renamed_amount}
 use Rattle.slice_simulation.specs.Places.{kept_target}

@@ -14,7 +14,8 @@ use Rattle.c_language.specs.declared.expr_type.ExprType.{ExprType}
 use Rattle.c_language.proofs.CodeLemmas.{list_of-code}
 use Rattle.c_language.proofs.Options.{none_there, some_same}
 use Rattle.c_meaning.specs.Activations.{Routine, routine_of}
-use Rattle.projection.specs.Kept.{KeptWords, Kept, rank}
+use Rattle.kept_numbers.specs.Ranks.{rank}
+use Rattle.projection.specs.Kept.{KeptWords, Kept}
 use Rattle.projection.specs.Names.{any_of, refers, body_refers}
 use Rattle.projection.specs.Projection.{projected_function}
 use Rattle.projection_laws.specs.Staying.{all_clear, is_clear, rest, IsClear}

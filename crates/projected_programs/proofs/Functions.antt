@@ -7,7 +7,8 @@ use Rattle.c_language.specs.NameRules.{is_main}
 use Rattle.c_language.proofs.Lists.{position-cons}
 use Rattle.c_language.proofs.Options.{none_there, some_same}
 use Rattle.c_language.proofs.Tests.{by_answer}
-use Rattle.projection.specs.Kept.{Kept, rank}
+use Rattle.kept_numbers.specs.Ranks.{rank}
+use Rattle.projection.specs.Kept.{Kept}
 use Rattle.projection.specs.Projection.{projected_function, projected_functions}
 use Rattle.own_words.proofs.Names.{rank_grows}
 

@@ -3,7 +3,8 @@ use Rattle.std.proofs.Common.{◌≡◌, ℕ, suc, ◌<◌, ◌==◌, Option, Bo
 use Rattle.std.proofs.lemmas.Bool.{cases_lt}
 use Rattle.c_language.proofs.Tests.{false_true}
 use Rattle.c_meaning.specs.Values.{bound}
-use Rattle.projection.specs.Kept.{Kept, rank}
+use Rattle.kept_numbers.specs.Ranks.{rank}
+use Rattle.projection.specs.Kept.{Kept}
 use Rattle.own_words.proofs.Names.{rank_grows}
 use Rattle.slice_simulation.specs.Renaming.{World, Names, BothStand, FramesStand}
 

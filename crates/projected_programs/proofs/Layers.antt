@@ -20,7 +20,8 @@ use Rattle.c_language.specs.Code as language
 use Rattle.c_language.specs.Code.{Act, Begins, Sets, Bumps, Fetches, Writes, Prints, Allocates, Frees, Returns, Code, End, Plain, Fork, Loop, Call, ◌⨟◌, leave, is_true, StatementPart, doing, declared_in, list_of, given_to, has_case, has_default, ArmPart, default_arm, case_arm, taken_arm, part_step, arm_step, part}
 use Rattle.c_language.proofs.CodeLemmas.{arm_part, part_list, block_of}
 use Rattle.c_language.specs.Names.{names, any_names, init_names, target_names, amount_names}
-use Rattle.projection.specs.Kept.{KeptWords, Kept, rank, chosen}
+use Rattle.kept_numbers.specs.Ranks.{rank}
+use Rattle.projection.specs.Kept.{KeptWords, Kept, chosen}
 use Rattle.projection.specs.Names.{any_of, call_names, refers_step, refers_arm, refers, arm_refers}
 use Rattle.projection.specs.Renumbering.{renamed, renamed_init, renamed_target, renamed_amount, renamed_label}
 use Rattle.projection.specs.Projection.{if_so, first_statement, called, projected_step, projected_arm_step}

@@ -20,7 +20,8 @@ use Rattle.dep_model.specs.Doings.{program_doings, doings_of}
 use Rattle.dep_model.specs.ClosedSets.{IsProjectable}
 use Rattle.dep_model.specs.SystemGraph.{Analysis, vertices_of, AreSystemEdges}
 use Rattle.dep_model.proofs.Membership.{in_of_contains}
-use Rattle.projection.specs.Kept.{Kept, rank}
+use Rattle.kept_numbers.specs.Ranks.{rank}
+use Rattle.projection.specs.Kept.{Kept}
 use Rattle.projection.specs.KeptVertices.{kept_of, projection}
 use Rattle.projection.specs.Renumbering.{renamed_init}
 use Rattle.projection.specs.Projection.{if_so, projected_var, projected_items, projected_program}

@@ -2,7 +2,8 @@
 use Rattle.std.proofs.Common.{◌≡◌, ℕ, List, [], ◌∷◌, ◌++◌, append_assoc, map, Bool, true, false, refl, sym, ap, ◌∙◌}
 use Rattle.c_tree.specs.declared.statement.Statement.{Statement}
 use Rattle.c_language.specs.Code.{Code, End, Opens, Plain, Fork, Loop, Leaves, Call, ◌⨟◌, leave, declared_in, in_turn, part}
-use Rattle.projection.specs.Kept.{Kept, rank}
+use Rattle.kept_numbers.specs.Ranks.{rank}
+use Rattle.projection.specs.Kept.{Kept}
 use Rattle.projection.specs.Projection.{if_so}
 use Rattle.projected_places.specs.ProjectedCode.{renamed_all, project_code, IsNested}
 

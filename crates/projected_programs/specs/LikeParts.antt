@@ -2,7 +2,8 @@
 use Rattle.std.specs.Prelude.{◌≡◌, ℕ, List, [], ◌∷◌, map, true, if◌then◌else◌, None, option_map, slice_get}
 use Rattle.c_tree.specs.declared.program.Program.{Program}
 use Rattle.c_meaning.specs.Activations.{Routine, Global, executable}
-use Rattle.projection.specs.Kept.{Kept, rank, chosen}
+use Rattle.kept_numbers.specs.Ranks.{rank}
+use Rattle.projection.specs.Kept.{Kept, chosen}
 use Rattle.projection.specs.Projection.{if_so}
 use Rattle.projection.specs.Renumbering.{renamed_init}
 use Rattle.projected_places.specs.ProjectedCode.{renamed_all, project_code}

@@ -23,7 +23,8 @@ use Rattle.dep_model.specs.FunctionVertices.{numbers}
 use Rattle.dep_model.specs.MayPoint.{parameters}
 use Rattle.dep_model.specs.SystemGraph.{Analysis, vertices_of}
 use Rattle.dep_model.proofs.Membership.{IsIn, in_of_contains}
-use Rattle.projection.specs.Kept.{Kept, rank}
+use Rattle.kept_numbers.specs.Ranks.{rank}
+use Rattle.projection.specs.Kept.{Kept}
 use Rattle.projection.specs.KeptVertices.{kept_words, kept_of, is_argument}
 use Rattle.projection.specs.Renumbering.{renamed_init}
 use Rattle.projection.specs.Projection.{if_so}

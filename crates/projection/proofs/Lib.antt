@@ -1,9 +1,7 @@
-pub mod RankLemmas
 pub mod NameForms
 pub mod NamesPass
 pub mod WholeLemmas
 pub mod HeldLemmas
-pub mod PairLemmas
 pub mod ChosenLemmas
 pub mod OrderLemmas
 pub mod ProjectedForms

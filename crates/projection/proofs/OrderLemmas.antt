@@ -7,10 +7,10 @@ use Rattle.bit_rows.specs.Sets.{has}
 use Rattle.c_language.proofs.Tests.{by_answer, by_or, or_none, false_true}
 use Rattle.dep_model.specs.declared.vertex.Vertex.{Vertex}
 use Rattle.dep_model.specs.FunctionVertices.{is_own}
-use Rattle.projection.specs.Kept.{rank}
+use Rattle.kept_numbers.specs.Ranks.{rank}
 use Rattle.projection.specs.KeptVertices.{holds}
 use Rattle.projection.proofs.HeldLemmas.{holds_more}
-use Rattle.projection.proofs.RankLemmas.{rank_same, rank_above, rank_below}
+use Rattle.kept_numbers.proofs.RankLemmas.{rank_same, rank_above, rank_below}
 
 -- a statement is this one
 abbrev pub is_this : Option ℕ → ℕ → Bool

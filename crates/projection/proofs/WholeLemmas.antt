@@ -11,7 +11,7 @@ use Rattle.projection.specs.declared.statements.Selection.{Selection}
 use Rattle.projection.specs.Kept.{KeptWords, Kept}
 use Rattle.projection.specs.KeptVertices.{still_gives, is_taken, is_taken_still, kept_words, keeps_function, keeps_parameter, kept_of, projection}
 use Rattle.projection.specs.Names.{stays}
-use Rattle.projection.specs.Pairs.{marked}
+use Rattle.kept_numbers.specs.Pairs.{marked}
 use Rattle.projection.specs.Parts.{words_of, AreKept}
 use Rattle.projection.specs.Projection.{projected_program}
 use Rattle.projection.specs.Referring.{functions_refer}

@@ -24,11 +24,6 @@ pub record Kept (F : Type 0) : Type 0 where
   -- whether a function that gives a result does so still
   pub gives : F → Bool
 
--- how many numbers below n pass the test
-abbrev pub rank : (ℕ → Bool) → ℕ → ℕ
-rank test zero = 0
-rank test (suc n) = if test n then suc (rank test n) else rank test n
-
 -- the members of a list whose places pass the test, where the first of the list is at place n
 abbrev pub chosen : {A : Type 0} → (ℕ → Bool) → ℕ → List A → List A
 chosen test n [] = []

@@ -3,7 +3,6 @@ pub mod Names
 pub mod Renumbering
 pub mod Projection
 pub mod KeptVertices
-pub mod Pairs
 pub mod Parts
 pub mod Referring
 pub mod Selected

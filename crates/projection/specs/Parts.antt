@@ -7,7 +7,7 @@ use Rattle.dep_model.specs.declared.vertex.Vertex.{Vertex}
 use Rattle.dep_model.specs.FunctionVertices.{is_own, is_entry, passes}
 use Rattle.projection.specs.declared.parts.KeptParts.{KeptParts}
 use Rattle.projection.specs.Kept.{KeptWords}
-use Rattle.projection.specs.Pairs.{marked, AddsPairs}
+use Rattle.kept_numbers.specs.Pairs.{marked, AddsPairs}
 use Rattle.projection.specs.KeptVertices.{is_result, is_argument, is_parameter, holds}
 
 -- the words that are kept

@@ -15,7 +15,8 @@ use Rattle.c_tree.specs.declared.statement.Statement.{Statement, fold-Statement}
 use Rattle.c_tree.specs.declared.statement.Statement.TheOpen.{Statement-F, Arm-F}
 use Rattle.c_tree.specs.declared.statement.Statement.TheVariants as s
 use Rattle.projection.specs.Renumbering.{renamed, renamed_init, renamed_target, renamed_amount, renamed_label}
-use Rattle.projection.specs.Kept.{Kept, rank, chosen}
+use Rattle.kept_numbers.specs.Ranks.{rank}
+use Rattle.projection.specs.Kept.{Kept, chosen}
 
 -- a choice of lists
 abbrev pub if_so : {A : Type 0} → Bool → List A → List A → List A

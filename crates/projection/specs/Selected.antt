@@ -11,14 +11,11 @@ use Rattle.c_tree.specs.declared.statement.Statement.{Statement}
 use Rattle.c_tree.specs.declared.statement.Statement.TheVariants as s
 use Rattle.projection.specs.declared.parts.KeptParts.{KeptParts}
 use Rattle.projection.specs.declared.statements.Selection.{Selection}
-use Rattle.projection.specs.Kept.{Kept, rank, chosen}
-use Rattle.projection.specs.Pairs.{marked}
+use Rattle.kept_numbers.specs.Ranks.{rank}
+use Rattle.projection.specs.Kept.{Kept, chosen}
+use Rattle.kept_numbers.specs.Pairs.{marked}
 use Rattle.projection.specs.Renumbering.{renamed}
 use Rattle.projection.specs.Projection.{if_so, first_statement, projected, projected_arm, projected_all, projected_item, projected_items, projected_vars, projected_function, projected_functions, projected_program, alone}
-
--- the new number of a number that passes the test
-abbrev pub number_of : (ℕ → Bool) → ℕ → Option ℕ
-number_of test n = if test n then Some (rank test n) else None
 
 abbrev pub kept_by : Selection → Kept ℕ
 kept_by c = record {

@@ -3,14 +3,14 @@ ghost use Rattle.std.specs.Prelude.{◌≡◌, None, option_map, if◌then◌els
 ghost use Rattle.std.specs.Option.{option_to_list};
 ghost use Rattle.bit_rows.specs.Sets.{has};
 ghost use Rattle.projection.specs.Kept.{chosen};
-ghost use Rattle.projection.specs.Pairs.{marked};
+ghost use Rattle.kept_numbers.specs.Pairs.{marked};
 ghost use Rattle.projection.specs.Projection as spec;
 ghost use Rattle.projection.specs.Selected.{kept_by, numbers, item_left, items_left, vars_left, params_left, function_left, functions_left, program_left};
 
-use crate::ranks::is_at;
 use crate::renaming::renamed_init;
 use crate::statements::{Selection, type_copy};
 use c_tree::{CType, Function, FunctionId, Item, Items, Program, StructDef, Text, Var, VarId};
+use kept_numbers::is_at;
 use std::alloc::{AllocError, Global};
 
 impl Selection<'_> {

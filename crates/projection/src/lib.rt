@@ -3,14 +3,12 @@
 #![tactic(auto)]
 
 ghost use Rattle.std.specs.Prelude.{◌≡◌, IfOk, MatchOption, length, true, false};
-ghost use Rattle.projection.specs.Kept.{rank as rank_of};
+ghost use Rattle.kept_numbers.specs.Ranks.{rank as rank_of};
 ghost use Rattle.projection.specs.KeptVertices.{kept_words, projection};
 
 mod items;
 mod numbering;
-mod pairs;
 mod parts;
-mod ranks;
 mod referring;
 mod renaming;
 mod results;

@@ -5,7 +5,7 @@ ghost use Rattle.std.specs.Bool.{◌==◌};
 ghost use Rattle.bit_rows.specs.Sets.{has};
 ghost use Rattle.dep_model.specs.declared.vertex.Vertex.{Vertex};
 ghost use Rattle.dep_model.specs.FunctionVertices.{is_own};
-ghost use Rattle.projection.specs.Kept.{rank as rank_of};
+ghost use Rattle.kept_numbers.specs.Ranks.{rank as rank_of};
 ghost use Rattle.projection.specs.KeptVertices.{kept_words};
 
 use c_tree::StatementId;

@@ -3,10 +3,9 @@ ghost use Rattle.std.specs.Prelude.{◌≡◌, ◌<◌, length, OnOk, IfOk};
 ghost use Rattle.bit_rows.specs.Sets.{has};
 ghost use Rattle.projection.specs.Parts.{AddsAt, AddsVertex, AreKept};
 
-use crate::pairs::Pairs;
-use crate::ranks::is_kept;
 use c_tree::StatementId;
 use dep_model::{Slot, Vertex, VertexId, VertexKind, VertexSet};
+use kept_numbers::{Pairs, is_kept};
 use named_variables::mark;
 use std::alloc::{AllocError, Global};
 

@@ -9,8 +9,8 @@ ghost use Rattle.c_language.specs.Names as words;
 ghost use Rattle.projection.specs.Names as spec;
 
 use crate::parts::KeptParts;
-use crate::ranks::is_at;
 use c_tree::{Amount, Arm, Boxed, Expr, Function, Init, Statement, StatementId, Target, VarId};
+use kept_numbers::is_at;
 use named_variables::{
     mark, mark_all, mark_amount, mark_init, mark_names, mark_target, mark_value,
 };

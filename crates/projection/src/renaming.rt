@@ -1,11 +1,11 @@
 //! Copies of what statements are made of, with the new numbers of their variables.
 ghost use Rattle.std.specs.Prelude.{◌≡◌, IfOk, map, option_map};
 ghost use Rattle.bit_rows.specs.Sets.{has};
-ghost use Rattle.projection.specs.Kept.{rank};
+ghost use Rattle.kept_numbers.specs.Ranks.{rank};
 ghost use Rattle.projection.specs.Renumbering as spec;
 
-use crate::ranks::Renumbering;
 use c_tree::{Amount, Boxed, Expr, Init, Items, Label, Size, Target};
+use kept_numbers::Renumbering;
 use std::alloc::{AllocError, Global};
 
 /// An expression with the new numbers of its variables. Err: no memory was left.

@@ -6,7 +6,6 @@ ghost use Rattle.projection.specs.Projection as spec;
 ghost use Rattle.c_tree.specs.declared.statement.Statement.TheVariants as s;
 
 use crate::parts::KeptParts;
-use crate::ranks::{Renumbering, is_at};
 use crate::renaming::{
     all_renamed, labels_renamed, renamed, renamed_amount, renamed_init, renamed_target,
     renamed_value,
@@ -16,6 +15,7 @@ use c_tree::{
     Amount, Arm, Boxed, CType, Expr, FunctionId, Init, Items, Statement, StatementId, Target, Text,
     VarId,
 };
+use kept_numbers::{Renumbering, is_at};
 use std::alloc::{AllocError, Global};
 
 /// What a projection keeps, and the new numbers of statements, variables and functions.

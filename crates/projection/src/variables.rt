@@ -4,14 +4,14 @@ ghost use Rattle.bit_rows.specs.Sets.{has};
 ghost use Rattle.named_variables.specs.Marks.{Adds};
 ghost use Rattle.projection.specs.Kept.{chosen};
 ghost use Rattle.projection.specs.KeptVertices.{is_among, is_taken, is_taken_still};
-ghost use Rattle.projection.specs.Pairs.{marked};
+ghost use Rattle.kept_numbers.specs.Pairs.{marked};
 ghost use Rattle.projection.specs.Parts.{words_of};
 ghost use Rattle.projection.specs.Referring.{functions_refer};
 
 use crate::parts::KeptParts;
-use crate::ranks::is_at;
 use crate::referring::referred_variables;
 use c_tree::{Function, VarId};
+use kept_numbers::is_at;
 use named_variables::mark;
 use std::alloc::{AllocError, Global};
 

@@ -14,7 +14,8 @@ use Rattle.c_tree.specs.declared.statement.Statement.TheOpen.{Statement-F, Arm-F
 use Rattle.c_tree.specs.declared.statement.Statement.TheVariants as s
 use Rattle.c_tree.specs.declared.statement.Arm.{Arm, roll-Arm, map-Arm, fold-roll-Arm}
 use Rattle.projection.specs.Renumbering.{renamed, renamed_label, renamed_init}
-use Rattle.projection.specs.Kept.{Kept, rank}
+use Rattle.kept_numbers.specs.Ranks.{rank}
+use Rattle.projection.specs.Kept.{Kept}
 use Rattle.projection.specs.Projection.{if_so, flat, declaring_step, declaring_arm, is_declaring, first_statement, part_of, bare, bare_target, projected_declaration, projected_call, alone, block_of, projected_step, projected_arm_step, projected, projected_arm, projected_all}
 use Rattle.c_tree.proofs.Unlining.{zeroed, unlined_roll, unlined_roll_of_arm, fold_unlined}
 use Rattle.c_tree.proofs.Trees.{statement_layer, arm_layer, StatementParts, ArmParts}

@@ -8,7 +8,8 @@ use Rattle.c_tree.specs.declared.program.Function.{Function}
 use Rattle.c_tree.specs.declared.program.Program.{Program}
 use Rattle.c_tree.specs.declared.statement.Statement.{Statement}
 use Rattle.c_tree.specs.declared.statement.Statement.TheOpen.{Statement-F}
-use Rattle.projection.specs.Kept.{Kept, rank, chosen}
+use Rattle.kept_numbers.specs.Ranks.{rank}
+use Rattle.projection.specs.Kept.{Kept, chosen}
 use Rattle.projection.specs.Projection.{if_so, projected_function, projected_functions, projected_var, projected_vars, projected_program}
 use Rattle.projection_laws.specs.Nested.{Nest, nest_step, nest_arm, is_nested, IsNested}
 use Rattle.c_tree.proofs.Unlining.{zeroed, fold_unlined}

@@ -8,7 +8,7 @@ use Rattle.c_tree.specs.declared.numbered.Start.{Start}
 use Rattle.c_tree.specs.Numbered.{program_starts}
 use Rattle.c_language.specs.Programs.{IsWellFormed}
 use Rattle.dep_model.specs.SystemGraph.{Analysis}
-use Rattle.projection.specs.Kept.{rank}
+use Rattle.kept_numbers.specs.Ranks.{rank}
 use Rattle.slice_engine.proofs.Ranks.{rank_injective}
 use Rattle.slice_engine.specs.Slice.{starts_on, IsKeptSet, keeps, is_criterion}
 use Rattle.slice_engine.proofs.Kept.{criterion_kept}

@@ -4,7 +4,7 @@ use Rattle.std.proofs.lemmas.Bool.{cases_lt, false≢true}
 use Rattle.std.proofs.lemmas.List.{get_or_past}
 use Rattle.bit_rows.specs.Sets.{has}
 use Rattle.c_language.proofs.Tests.{by_answer}
-use Rattle.projection.specs.Kept.{rank}
+use Rattle.kept_numbers.specs.Ranks.{rank}
 use Rattle.slice_engine.specs.Criterion.{put_if, by_rank}
 
 -- a list with one more at its end

@@ -1,7 +1,7 @@
 -- Ranks: below each number, how many pass a test. Numbers that pass have ranks of their own.
 use Rattle.std.proofs.Common.{◌≡◌, ℕ, suc, ◌<◌, Bool, true, inl, inr, refl, arith}
 use Rattle.std.proofs.lemmas.Bool.{cases_lt}
-use Rattle.projection.specs.Kept.{rank}
+use Rattle.kept_numbers.specs.Ranks.{rank}
 use Rattle.own_words.proofs.Names.{rank_grows}
 
 module _ (keeps : ℕ → Bool) where

@@ -20,7 +20,7 @@ use Rattle.c_print_laws.proofs.StatementStarts.{statements_start}
 use Rattle.rule_closure.proofs.ListLemmas.{contains_head, contains_cons}
 use Rattle.dep_model.specs.declared.facts.Facts.{Facts}
 use Rattle.dep_model.specs.declared.graph.Graph.{Graph}
-use Rattle.projection.specs.Kept.{rank}
+use Rattle.kept_numbers.specs.Ranks.{rank}
 use Rattle.projection.specs.KeptVertices.{kept_words, projection}
 use Rattle.slice_engine.specs.Slice.{starts_on, keeps, sliced, IsStartLine, header, IsSlice, is_criterion, IsAcceptedSlice, IsFaithful}
 use Rattle.slice_engine.specs.Criterion.{by_rank}

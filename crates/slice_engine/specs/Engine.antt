@@ -16,7 +16,7 @@ use Rattle.dep_model.specs.LocationLists.{location_list}
 use Rattle.dep_model.specs.NamedParameters.{NamesParameter}
 use Rattle.dep_model.specs.Shapes.{IsShaped}
 use Rattle.dep_model.specs.SystemGraph.{Analysis, IsAnalysis, AreSystemEdges}
-use Rattle.projection.specs.Kept.{rank}
+use Rattle.kept_numbers.specs.Ranks.{rank}
 use Rattle.slice_engine.specs.Slice.{starts_on, criterion, keeps, sliced, IsReached, IsKeptSet}
 
 -- a program's locations and its graph are within the limits

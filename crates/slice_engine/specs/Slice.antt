@@ -18,7 +18,7 @@ use Rattle.dep_model.specs.ClosedSets.{IsCompletionIn}
 use Rattle.dep_model.specs.Criteria.{criterion_of}
 use Rattle.dep_model.specs.PointerFree.{IsPointerFree}
 use Rattle.dep_model.specs.SystemGraph.{Analysis, IsAnalysis, vertices_of, AreSystemEdges}
-use Rattle.projection.specs.Kept.{rank}
+use Rattle.kept_numbers.specs.Ranks.{rank}
 use Rattle.projection.specs.KeptVertices.{kept_words, kept_of, projection}
 use Rattle.sliced_runs.specs.SameValues.{HasSameValues}
 use Rattle.own_words.specs.OwnWords.{KeepsWords}

@@ -3,7 +3,7 @@ use Rattle.std.specs.Prelude.{◌≡◌, ℕ, List, Bool, true, map}
 use Rattle.c_tree.specs.declared.program.Program.{Program}
 use Rattle.c_meaning.specs.declared.event.Event.{Event}
 use Rattle.c_meaning.specs.Meaning.{Trace, Ended, meaning, at}
-use Rattle.projection.specs.Kept.{rank}
+use Rattle.kept_numbers.specs.Ranks.{rank}
 
 -- an event with the rank of its statement
 abbrev pub ranked : (ℕ → Bool) → Event → Event

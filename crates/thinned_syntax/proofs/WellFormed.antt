@@ -13,7 +13,8 @@ use Rattle.c_tree.specs.declared.raw.program.RawProgram.{RawProgram}
 use Rattle.c_language.specs.Limits.{longest, longest_in_variables, cells, struct_cells, greatest_variable}
 use Rattle.c_language.specs.Programs.{IsTree, HasProgram, IsWithinLimits, IsWellFormed}
 use Rattle.c_language.specs.Syntax.{is_head, is_item, IsSyntax}
-use Rattle.projection.specs.Kept.{Kept, rank}
+use Rattle.kept_numbers.specs.Ranks.{rank}
+use Rattle.projection.specs.Kept.{Kept}
 use Rattle.projection.specs.Projection.{if_so, projected_var, projected_vars, projected_program}
 use Rattle.c_scope_laws.specs.Following.{kept_numbers}
 use Rattle.c_scope_laws.specs.ThinnedTexts.{KeepsText, thinned_text}

@@ -2,7 +2,7 @@ use Rattle.std.proofs.Common.{◌≡◌, ℕ, map, ◌&&◌, ◌||◌, not, ap, 
 use Rattle.std.specs.Prelude.{IfOk}
 use Rattle.bit_rows.specs.Sets.{has}
 use Rattle.projection.specs.KeptVertices.{still_gives, is_taken, is_taken_still}
-use Rattle.projection.specs.Pairs.{marked}
+use Rattle.kept_numbers.specs.Pairs.{marked}
 use Rattle.projection.specs.Parts.{words_of, AreKept}
 use Rattle.projection.specs.Referring.{functions_refer}
 use Rattle.projection.proofs.WholeLemmas.{left_is_projection}

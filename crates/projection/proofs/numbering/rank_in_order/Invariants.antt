@@ -1,7 +1,7 @@
 use Rattle.std.proofs.Common.{◌≡◌, ℕ, ◌≤◌, ◌<◌, true, take}
 use Rattle.dep_model.specs.declared.vertex.Vertex.{Vertex}
 use Rattle.dep_model.specs.FunctionVertices.{is_own}
-use Rattle.projection.specs.Kept.{rank}
+use Rattle.kept_numbers.specs.Ranks.{rank}
 use Rattle.projection.specs.KeptVertices.{holds}
 use Rattle.projection.proofs.numbering.rank_in_order.Given as goal
 

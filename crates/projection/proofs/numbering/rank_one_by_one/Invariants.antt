@@ -1,5 +1,5 @@
 use Rattle.std.proofs.Common.{◌≡◌, ◌≤◌}
-use Rattle.projection.specs.Kept.{rank}
+use Rattle.kept_numbers.specs.Ranks.{rank}
 use Rattle.projection.specs.KeptVertices.{kept_words}
 use Rattle.projection.proofs.numbering.rank_one_by_one.Given as goal
 

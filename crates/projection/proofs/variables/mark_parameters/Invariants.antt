@@ -1,7 +1,7 @@
 use Rattle.std.proofs.Common.{◌≡◌, ℕ, ◌||◌, drop}
 use Rattle.bit_rows.specs.Sets.{has}
 use Rattle.projection.specs.KeptVertices.{is_taken_still}
-use Rattle.projection.specs.Pairs.{marked}
+use Rattle.kept_numbers.specs.Pairs.{marked}
 use Rattle.projection.proofs.variables.mark_parameters.Given as goal
 
 abbrev pub invariant-loop-number : goal.invariant-loop-number

@@ -3,7 +3,7 @@ use Rattle.bit_rows.specs.Sets.{has}
 use Rattle.dep_model.specs.declared.vertex.Vertex.{Vertex}
 use Rattle.dep_model.specs.FunctionVertices.{is_own, is_entry, passes}
 use Rattle.projection.specs.KeptVertices.{is_result, is_argument, is_parameter, holds}
-use Rattle.projection.specs.Pairs.{marked}
+use Rattle.kept_numbers.specs.Pairs.{marked}
 use Rattle.projection.proofs.HeldLemmas.{held_turn}
 use Rattle.projection.proofs.parts.KeptParts.of.Goals as goal
 

@@ -1,6 +1,7 @@
 use Rattle.std.proofs.Common.{◌≡◌, ◌++◌, map, drop}
 use Rattle.bit_rows.specs.Sets.{has}
-use Rattle.projection.specs.Kept.{rank, chosen}
+use Rattle.kept_numbers.specs.Ranks.{rank}
+use Rattle.projection.specs.Kept.{chosen}
 use Rattle.projection.specs.Renumbering.{renamed}
 use Rattle.projection.proofs.statements.Selection.arguments.Given as goal
 

@@ -1,7 +1,8 @@
 use Rattle.std.proofs.Common.{◌≡◌, ◌+◌, ◌<◌, ◌++◌, map, length, get_or, drop, sym, ◌∙◌, subst}
 use Rattle.std.proofs.lemmas.List.{get_or_default}
 use Rattle.bit_rows.specs.Sets.{has}
-use Rattle.projection.specs.Kept.{rank, chosen}
+use Rattle.kept_numbers.specs.Ranks.{rank}
+use Rattle.projection.specs.Kept.{chosen}
 use Rattle.projection.proofs.ChosenLemmas.{chosen_turn, chosen_skip}
 use Rattle.projection.proofs.statements.Selection.params.Goals as goal
 use Rattle.projection.proofs.statements.Selection.params.Goals.{then-is_at+in_ok-push, else-is_at}

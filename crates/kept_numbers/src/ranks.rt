@@ -1,8 +1,7 @@
 //! Numbers of which some are kept, and the new numbers of these.
 ghost use Rattle.std.specs.Prelude.{◌≡◌, IfOk};
 ghost use Rattle.bit_rows.specs.Sets.{has};
-ghost use Rattle.projection.specs.Kept.{rank as rank_of};
-ghost use Rattle.projection.specs.Selected.{number_of};
+ghost use Rattle.kept_numbers.specs.Ranks.{number_of, rank as rank_of};
 
 use std::alloc::{AllocError, Global};
 use std::marker::Model;
@@ -10,7 +9,7 @@ use std::marker::Model;
 /// Numbers of which some are kept. The rank of a number, how many kept ones are below it, is the
 /// new number of a kept one. Contracts see the list of the tests.
 #[derive(Drop)]
-pub(crate) struct Renumbering<'a> {
+pub struct Renumbering<'a> {
     kept: &'a [bool],
     ranks: Vec<usize>,
     // The rank of each number past the end.
@@ -20,7 +19,7 @@ pub(crate) struct Renumbering<'a> {
 impl<'a> Model for Renumbering<'a> {
     ghost use Rattle.std.specs.Prelude.{◌≡◌, ℕ, List, Bool, slice_index_or};
     ghost use Rattle.bit_rows.specs.Sets.{has};
-    ghost use Rattle.projection.specs.Kept.{rank};
+    ghost use Rattle.kept_numbers.specs.Ranks.{rank};
 
     ghost Value = { List Bool };
 
@@ -31,7 +30,7 @@ impl<'a> Model for Renumbering<'a> {
 
 impl<'a> Renumbering<'a> {
     /// Keeps the numbers whose place holds `true`. Err: no memory was left.
-    pub(crate) fn new(alloc: Global, kept: &'a [bool]) -> Result<Renumbering<'a>, AllocError>
+    pub fn new(alloc: Global, kept: &'a [bool]) -> Result<Renumbering<'a>, AllocError>
         ensures { IfOk result (λ r. r ≡ kept.now) }
     {
         let mut ranks = Vec::new(alloc);
@@ -46,14 +45,14 @@ impl<'a> Renumbering<'a> {
     }
 
     /// Whether a number is kept.
-    pub(crate) fn keeps(&self, number: usize) -> bool
+    pub fn keeps(&self, number: usize) -> bool
         ensures { result ≡ has self.now number }
     {
         self.kept.get(number).copied().unwrap_or(false)
     }
 
     /// How many kept numbers are below this one.
-    pub(crate) fn rank(&self, number: u32) -> u32
+    pub fn rank(&self, number: u32) -> u32
         ensures { result ≡ rank_of (has self.now) number }
     {
         self.ranks
@@ -63,7 +62,7 @@ impl<'a> Renumbering<'a> {
     }
 
     /// The new number of a kept number. None: it isn't kept.
-    pub(crate) fn number(&self, number: u32) -> Option<u32>
+    pub fn number(&self, number: u32) -> Option<u32>
         ensures { result ≡ number_of (has self.now) number }
     {
         if is_kept(self.kept, number) {
@@ -75,14 +74,14 @@ impl<'a> Renumbering<'a> {
 }
 
 /// Whether a number is kept, where a number past the end isn't.
-pub(crate) fn is_kept(kept: &[bool], number: u32) -> bool
+pub fn is_kept(kept: &[bool], number: u32) -> bool
     ensures { result ≡ has kept.now number }
 {
     kept.get(number as usize).copied().unwrap_or(false)
 }
 
 /// Whether the member of a list at a place is kept, where one past the end isn't.
-pub(crate) fn is_at(kept: &[bool], place: usize) -> bool
+pub fn is_at(kept: &[bool], place: usize) -> bool
     ensures { result ≡ has kept.now place }
 {
     kept.get(place).copied().unwrap_or(false)

@@ -3,7 +3,7 @@ use Rattle.std.proofs.Common.{◌≡◌, ℕ, zero, suc, ◌<◌, ◌≤◌, Lis
 use Rattle.std.proofs.lemmas.Bool.{cases_lt}
 use Rattle.std.proofs.lemmas.List.{get_or_past, get_or_default}
 use Rattle.bit_rows.specs.Sets.{has}
-use Rattle.projection.specs.Kept.{rank}
+use Rattle.kept_numbers.specs.Ranks.{rank}
 use Rattle.std.proofs.lemmas.Bool.Decides.{nat_tests}
 use Rattle.std.specs.Prelude.{◌==◌, ◌||◌}
 use Rattle.c_language.proofs.Tests.{by_answer, or_none}

@@ -1,5 +1,5 @@
-use Rattle.projection.proofs.PairLemmas.{row_marked}
-use Rattle.projection.proofs.pairs.mark_at.Goals as goal
+use Rattle.kept_numbers.proofs.PairLemmas.{row_marked}
+use Rattle.kept_numbers.proofs.pairs.mark_at.Goals as goal
 
 pub returns : goal.returns
 returns c =

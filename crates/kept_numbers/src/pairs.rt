@@ -1,6 +1,6 @@
 //! Pairs of numbers of which some are marked.
 ghost use Rattle.std.specs.Prelude.{◌≡◌, ℕ, ◌==◌, ◌&&◌, ◌<◌, [], OnOk, length, slice_index_or};
-ghost use Rattle.projection.specs.Pairs.{AddsPairs, rows_of};
+ghost use Rattle.kept_numbers.specs.Pairs.{AddsPairs, rows_of};
 
 use named_variables::mark;
 use std::alloc::{AllocError, Global};
@@ -9,13 +9,13 @@ use std::marker::Model;
 /// Pairs of numbers of which some are marked, as a row of tests for each first number. Contracts see
 /// the list of the rows.
 #[derive(Drop)]
-pub(crate) struct Pairs {
+pub struct Pairs {
     rows: Vec<Vec<bool>>,
 }
 
 impl Model for Pairs {
     ghost use Rattle.std.specs.Prelude.{List, Bool};
-    ghost use Rattle.projection.specs.Pairs.{rows_of};
+    ghost use Rattle.kept_numbers.specs.Pairs.{rows_of};
 
     ghost Value = { List (List Bool) };
 
@@ -24,7 +24,7 @@ impl Model for Pairs {
 
 impl Pairs {
     /// No pair is marked.
-    pub(crate) fn new(alloc: Global) -> Pairs
+    pub fn new(alloc: Global) -> Pairs
         ensures { result ≡ [] }
     {
         Pairs {
@@ -33,7 +33,7 @@ impl Pairs {
     }
 
     /// Marks a pair. Err: no memory was left, and nothing is marked.
-    pub(crate) fn mark(&mut self, alloc: Global, first: u32, second: u32) -> Result<(), AllocError>
+    pub fn mark(&mut self, alloc: Global, first: u32, second: u32) -> Result<(), AllocError>
         ensures { OnOk result (AddsPairs self.old self.new (λ i n. (first == i) && (second == n))) }
     {
         let at = first as usize;
@@ -45,7 +45,7 @@ impl Pairs {
     }
 
     /// The tests of the pairs that begin with a number; past its end none is marked.
-    pub(crate) fn row(&self, first: usize) -> &[bool]
+    pub fn row(&self, first: usize) -> &[bool]
         ensures { result.now ≡ slice_index_or self.now first [] }
     {
         if first < self.rows.len() {

@@ -1,8 +1,8 @@
 use Rattle.std.proofs.Common.{◌≡◌, ◌≤◌, length}
 use Rattle.bit_rows.specs.Sets.{has}
-use Rattle.projection.specs.Kept.{rank}
-use Rattle.projection.proofs.RankLemmas.{AreRanks}
-use Rattle.projection.proofs.ranks.Renumbering.new.Given as goal
+use Rattle.kept_numbers.specs.Ranks.{rank}
+use Rattle.kept_numbers.proofs.RankLemmas.{AreRanks}
+use Rattle.kept_numbers.proofs.ranks.Renumbering.new.Given as goal
 
 abbrev pub invariant-loop-is_kept : goal.invariant-loop-is_kept
 invariant-loop-is_kept l = record {

@@ -5,7 +5,7 @@ use Rattle.std.specs.Prelude.{◌==◌}
 use Rattle.bit_rows.specs.Sets.{has}
 use Rattle.c_language.proofs.Tests.{or_none}
 use Rattle.named_variables.specs.Marks.{Adds}
-use Rattle.projection.specs.Pairs.{marked}
+use Rattle.kept_numbers.specs.Pairs.{marked}
 
 abbrev tests_in : Vec Bool Global → List Bool
 tests_in r = r.items

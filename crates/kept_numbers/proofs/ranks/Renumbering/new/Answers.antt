@@ -1,6 +1,6 @@
 use Rattle.std.proofs.Common.{arith}
-use Rattle.projection.proofs.RankLemmas.{ranks_all}
-use Rattle.projection.proofs.ranks.Renumbering.new.Goals as goal
+use Rattle.kept_numbers.proofs.RankLemmas.{ranks_all}
+use Rattle.kept_numbers.proofs.ranks.Renumbering.new.Goals as goal
 
 pub invariant_of-result : goal.invariant_of-result
 invariant_of-result c =

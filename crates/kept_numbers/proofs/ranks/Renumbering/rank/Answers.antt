@@ -1,8 +1,8 @@
 use Rattle.std.proofs.Common.{rules, ◌≡◌, arith}
 use Rattle.bit_rows.specs.Sets.{has}
-use Rattle.projection.specs.Kept.{rank}
-use Rattle.projection.proofs.RankLemmas.{rank_at_most}
-use Rattle.projection.proofs.ranks.Renumbering.rank.Goals as goal
+use Rattle.kept_numbers.specs.Ranks.{rank}
+use Rattle.kept_numbers.proofs.RankLemmas.{rank_at_most}
+use Rattle.kept_numbers.proofs.ranks.Renumbering.rank.Goals as goal
 
 pub overflow_cast-result : goal.overflow_cast-result
 overflow_cast-result c =
