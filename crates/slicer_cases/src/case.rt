@@ -1,7 +1,7 @@
-//! A case: a call of the slicer, by its words, and the status that it must end with.
-use anyhow::Context;
+//! A case: a call of the slicer, by its words, the status that it must end with, and the line that it must write to err.
+use anyhow::{Context, ensure};
 use slicer_top::Text;
-use std::alloc::Global;
+use std::alloc::{AllocError, Global};
 
 /// A line of the index.
 #[derive(Drop)]
@@ -9,25 +9,40 @@ pub struct Case {
     name: String,
     code: u8,
     words: Vec<Text>,
+    err: Text,
+}
+
+// A line of text with its end.
+fn ended_line(alloc: Global, line: &str) -> Result<Text, AllocError> {
+    let line = format!(in alloc; "{line}\n")?;
+    Text::from_slice(alloc, line.as_bytes())
 }
 
 impl Case {
-    /// The case of this line: a name, the code of a status and the words of the call. An error where the line has no
-    /// code, and where no memory was left.
+    /// The case of this line: a name, the code of a status and the words of the call, and behind ` => ` what must stand on
+    /// err. An error where the line has no name or no code, where a status other than 0 has no line for err, and where no
+    /// memory was left.
     pub fn read(alloc: Global, line: &str) -> anyhow::Result<Case> {
-        let mut parts = line.split(' ');
-        let name = parts.next().context("a line of the index has no name")?;
+        let (call, err) = match line.split_once(" => ") {
+            Some((call, err)) => (call, Some(ended_line(alloc, err)?)),
+            None => (line, None),
+        };
+        let mut parts = call.split(' ');
+        let name = parts.next().context("it has no name")?;
+        ensure!(!name.is_empty(), "it has no name");
         let name = String::from_str(alloc, name)?;
-        let code = parts.next().context("a line of the index has no status")?;
-        let code = code.parse::<u8>()?;
+        let code = parts.next().context("it has no status")?;
+        let code = code.parse::<u8>().context("its status is no number")?;
+        ensure!(code == 0 || err.is_some(), "it has a status other than 0, and no line for err");
         let mut words = Vec::new(alloc);
         for word in parts {
             words.push(Text::from_slice(alloc, word.as_bytes())?)?;
         }
-        Ok(Case { name, code, words })
+        let err = err.unwrap_or(Text::new(alloc));
+        Ok(Case { name, code, words, err })
     }
 
-    /// Its name, which begins the names of the files with the texts that it must write.
+    /// Its name, which begins the name of the file with the text that it must write to out.
     pub fn name(&self) -> &str {
         self.name.as_str()
     }
@@ -40,5 +55,10 @@ impl Case {
     /// The words of the call.
     pub fn words(&self) -> &[Text] {
         self.words.as_slice()
+    }
+
+    /// What it must write to err: a line with its end, or nothing.
+    pub fn err(&self) -> &Text {
+        &self.err
     }
 }

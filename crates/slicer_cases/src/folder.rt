@@ -1,4 +1,4 @@
-//! The files of a case: those that its words name, and those with the texts that it must write.
+//! The files of a case: those that its words name, and the one with the text that it must write.
 use crate::case::Case;
 use crate::ended::Ended;
 use slicer_top::Text;
@@ -14,19 +14,13 @@ fn read_if_there<R: Files + AllocGlobal>(rt: &R, name: &str) -> io::Result<Optio
     Ok(Some(Text::from_slice(rt.alloc(), bytes.as_slice())?))
 }
 
-/// The bytes of the file of this case that ends so, or none at all where there is no such file.
-fn text_of<R: Files + AllocGlobal>(rt: &R, case: &Case, ending: &str) -> io::Result<Text> {
-    let name = case.name();
-    let name = format!(in rt.alloc(); "{name}.{ending}")?;
-    Ok(read_if_there(rt, name.as_str())?.unwrap_or(Text::new(rt.alloc())))
-}
-
-/// How the case must end.
+/// How the case must end: what must stand on out is its file, and nothing where there is no such file.
 pub fn expected<R: Files + AllocGlobal>(rt: &R, case: &Case) -> io::Result<Ended> {
-    let code = case.code();
-    let out = text_of(rt, case, "out")?;
-    let err = text_of(rt, case, "err")?;
-    Ok(Ended { code, out, err })
+    let name = case.name();
+    let name = format!(in rt.alloc(); "{name}.out")?;
+    let out = read_if_there(rt, name.as_str())?.unwrap_or(Text::new(rt.alloc()));
+    let err = case.err().copy(rt.alloc())?;
+    Ok(Ended { code: case.code(), out, err })
 }
 
 /// The files of this folder whose names are among the words of the case.

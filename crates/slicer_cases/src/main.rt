@@ -1,15 +1,16 @@
 //! Runs the slicer over cases that stand in files, and says of each whether it ended as expected.
 //!
 //! The index is standard input, with a line for each case: its name, the status that it must end with, and the words of
-//! the call, one blank between each two. The files are those of the folder in which this program is started. What must
-//! stand on out and on err is in the files `NAME.out` and `NAME.err`; where one of them isn't there, nothing must.
+//! the call, one blank between each two; where the status isn't 0, ` => ` and the line that must stand on err follow. The
+//! files are those of the folder in which this program is started. What must stand on out is in the file `NAME.out`; where
+//! it isn't there, nothing must.
 #![tactic(auto)]
 
 mod case;
 mod ended;
 mod folder;
 
-use anyhow::ensure;
+use anyhow::{Context, ensure};
 use case::Case;
 use std::fs::Files;
 use std::io::Eprint;
@@ -35,8 +36,11 @@ fn is_as_expected<R: Files + Print + Eprint + AllocGlobal>(
 
 fn main(rt: HostRuntime) -> anyhow::Result<()> {
     let mut others = 0u64;
+    let mut number = 0u64;
     for line in rt.lines(rt.alloc()) {
-        let case = Case::read(rt.alloc(), line?.as_str())?;
+        number = number.saturating_add(1);
+        let case = Case::read(rt.alloc(), line?.as_str())
+            .context(format_args!("line {number} of the index"))?;
         if !is_as_expected(&rt, &case)? {
             others = others.saturating_add(1);
         }
