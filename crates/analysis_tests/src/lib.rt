@@ -1,6 +1,5 @@
 //! Tests of what is found of whole texts over integers: what their functions modify and use, their vertices and graphs, also as they
-//! are printed, the facts of these, the sets of vertices that slices keep, and what texts are projected to by them. All that is wanted is
-//! typed by hand from the texts.
+//! are printed, the facts of these, and the sets of vertices that slices keep. All that is wanted is typed by hand from the texts.
 #![tactic(auto)]
 
 #[cfg(test)]
@@ -19,7 +18,5 @@ mod printed_tests;
 mod printing;
 #[cfg(test)]
 mod programs;
-#[cfg(test)]
-mod projection_tests;
 #[cfg(test)]
 mod vertex_tests;

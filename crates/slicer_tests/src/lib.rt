@@ -3,8 +3,6 @@
 #![tactic(auto)]
 
 #[cfg(test)]
-mod engine_tests;
-#[cfg(test)]
 mod exit_tests;
 #[cfg(test)]
 mod input_tests;

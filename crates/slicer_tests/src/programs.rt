@@ -196,14 +196,3 @@ int main(void) {
     printf("%d\n", k);
 }
 "#;
-
-/// Three reads, of which the second is dropped.
-pub(crate) const THREE_READS: &str = r#"#include <stdio.h>
-int main(void) {
-    int a = getchar();
-    int b = getchar();
-    int c = getchar();
-    putchar(a);
-    putchar(c);
-}
-"#;
