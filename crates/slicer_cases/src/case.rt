@@ -33,13 +33,21 @@ impl Case {
         let name = String::from_str(alloc, name)?;
         let code = parts.next().context("it has no status")?;
         let code = code.parse::<u8>().context("its status is no number")?;
-        ensure!(code == 0 || err.is_some(), "it has a status other than 0, and no line for err");
+        ensure!(
+            code == 0 || err.is_some(),
+            "it has a status other than 0, and no line for err"
+        );
         let mut words = Vec::new(alloc);
         for word in parts {
             words.push(Text::from_slice(alloc, word.as_bytes())?)?;
         }
         let err = err.unwrap_or(Text::new(alloc));
-        Ok(Case { name, code, words, err })
+        Ok(Case {
+            name,
+            code,
+            words,
+            err,
+        })
     }
 
     /// Its name, which begins the name of the file with the text that it must write to out.

@@ -20,7 +20,11 @@ pub fn expected<R: Files + AllocGlobal>(rt: &R, case: &Case) -> io::Result<Ended
     let name = format!(in rt.alloc(); "{name}.out")?;
     let out = read_if_there(rt, name.as_str())?.unwrap_or(Text::new(rt.alloc()));
     let err = case.err().copy(rt.alloc())?;
-    Ok(Ended { code: case.code(), out, err })
+    Ok(Ended {
+        code: case.code(),
+        out,
+        err,
+    })
 }
 
 /// The files of this folder whose names are among the words of the case.

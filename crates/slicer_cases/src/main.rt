@@ -39,8 +39,9 @@ fn main(rt: HostRuntime) -> anyhow::Result<()> {
     let mut number = 0u64;
     for line in rt.lines(rt.alloc()) {
         number = number.saturating_add(1);
-        let case = Case::read(rt.alloc(), line?.as_str())
-            .context(format_args!("line {number} of the index"))?;
+        let case = Case::read(rt.alloc(), line?.as_str()).context(format_args!(
+            "line {number} of the index"
+        ))?;
         if !is_as_expected(&rt, &case)? {
             others = others.saturating_add(1);
         }
