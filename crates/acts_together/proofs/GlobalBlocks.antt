@@ -7,15 +7,12 @@ use Rattle.std.proofs.lemmas.Option.{same_Some}
 use Rattle.c_language.proofs.Options.{none_there, some_same, then_there}
 use Rattle.c_tree.specs.declared.expr.Expr.{Expr}
 use Rattle.c_tree.specs.declared.program.Program.{Program}
-use Rattle.c_tree.specs.declared.statement.Target.{Target}
-use Rattle.c_tree.specs.declared.statement.Target.TheVariants as target
-use Rattle.c_language.specs.Code.{Act, Tests, Code, End, Opens, Plain, Fork, Loop, Leaves, Call, ◌⨟◌, is_true, either}
+use Rattle.c_language.specs.Code.{Code, End, Opens, Plain, Fork, Loop, Leaves, Call, ◌⨟◌, is_true, either}
 use Rattle.c_meaning.specs.declared.value.Value.{Value}
-use Rattle.c_meaning.specs.Values.{Origin, OfVariable, OfStatement, State, bound, variable_closed, all_closed, as_type, eval_all}
-use Rattle.c_meaning.specs.Acts.{Made, Request, origins_after, begun_with, given, made, picked}
-use Rattle.c_meaning.specs.Activations.{Global, Routine, Executable, executable, code_at, types_in, outside, stores_of, blank, global_opened, global_begun, all_begun, opening, parameter_begun, passed, fresh, passed_to, called, resumed, received, variables_at}
-use Rattle.c_meaning.specs.Meaning.{Trace}
-use Rattle.c_meaning.specs.Steps.{Step, Stops, Fails, Acts, Moves, Breaks, Reaches, here, by_act, by_move, Waiting, Point, waiting, acted, entered, stored_back, went_back, returned_to, step_at, machine, beginning}
+use Rattle.c_meaning.specs.Values.{Types, Origin, OfVariable, OfStatement, State, bound, variable_closed, all_closed, as_type, eval_all}
+use Rattle.c_meaning.specs.Acts.{Request, origins_after, begun_with, given, picked}
+use Rattle.c_meaning.specs.Activations.{Global, Routine, Executable, executable, types_in, outside, stores_of, blank, global_opened, global_begun, all_begun, opening, parameter_begun, passed, fresh, passed_to, called, variables_at}
+use Rattle.c_meaning.specs.Steps.{Reaches, Waiting, Point, machine, beginning}
 use Rattle.c_meaning.proofs.Origins.{IsTracked, both_longer, blocks_stored}
 use Rattle.dep_model.specs.Doings as doing
 use Rattle.dep_model.specs.Doings.{Doing, doings_of}
@@ -24,13 +21,15 @@ use Rattle.dep_model.specs.MayPoint.{parameters}
 use Rattle.dep_model.specs.PointerFree.{IsPointerFree}
 use Rattle.dep_model.proofs.Membership.{IsIn, contains_of_in}
 use Rattle.projected_places.proofs.RunRests.{HoldsAfter, holds_run}
-use Rattle.run_facts.proofs.CodeDoings.{Each}
-use Rattle.run_facts.proofs.Points.{sound_run}
+use Rattle.run_facts.specs.Effects.{back_in}
+use Rattle.run_facts.specs.NextSteps.{Next, next_of}
+use Rattle.run_facts.specs.StepKinds.{Change, Opened, Closed, changed, change_first, DoesAct, ReturnsStoring, acted_to, returned_storing}
+use Rattle.run_facts.proofs.CodeDoings.{each_next}
+use Rattle.run_facts.proofs.Points.{IsSound, sound_run}
+use Rattle.run_facts.proofs.StepKinds.{IsKept, kept_run}
 use Rattle.run_facts.proofs.Statements.{bodies, parameters_are, free_in}
-use Rattle.slice_simulation.specs.Places.{Next, next_of}
-use Rattle.slice_simulation.proofs.Steps.{reach_act, reach_move}
 use Rattle.acts_together.specs.OwnGlobals.{BeginsNone, globals_of, HasOwnGlobals}
-use Rattle.acts_together.proofs.QuietActs.{IsQuiet, act_quiet, given_quiet}
+use Rattle.acts_together.proofs.QuietActs.{act_quiet, given_quiet}
 use Rattle.acts_together.proofs.WholeBlocks.{new_or_old}
 
 -- ---- what is left to do begins no global
@@ -185,62 +184,46 @@ module _ (p : Program) (free : IsPointerFree p) (own : HasOwnGlobals p) where
 
   -- ---- steps
 
-  abbrev EachAfter : Step Point → Type 0
-  EachAfter Stops = Unit {0}
-  EachAfter (Fails i) = Unit {0}
-  EachAfter (Acts y) = OneEach y.state.origins
-  EachAfter (Moves y) = OneEach y.state.origins
-  EachAfter (Breaks i) = Unit {0}
+  -- what is known of each point of a run
+  abbrev Known : Point → Type 0
+  Known x = BeginsNone (is_global p) x.rest × IsSound e Mine x
 
-  each_act : (f i : ℕ) (go : Made → Code) (s : State) (ws : List Waiting) (t : Trace) (o : Option Made) → ((v : Made) → o ≡ Some v → IsQuiet v) → OneEach s.origins → EachAfter (acted f i go s ws t o)
-  each_act f i go s ws t None quiet h = tt
-  each_act f i go s ws t (Some v) quiet h = each_begun i v.begun s.origins (quiet v refl).none_begun h
+  abbrev HoldsThere : Point → Type 0
+  HoldsThere x = OneEach x.state.origins
 
-  quiet_acts : (f i : ℕ) (act : Act) (s : State) → Mine f (doing.Does i act) → (v : Made) → made (types_in e f) act s ≡ Some v → IsQuiet v
-  quiet_acts f i act s mine v is = act_quiet (types_in e f) s act v (free_in p free f (doing.Does i act) mine) is
+  each_changed : (c : Change) (r : Code) (types : Types) (s : State) → BeginsNone (is_global p) (change_first c r) → OneEach s.origins → OneEach (changed c types s).origins
+  each_changed (Opened x) r types s none h = each_more s.origins x none.0 h
+  each_changed (Closed xs) r types s none h = each_closed xs s h
 
-  each_call : (f i : ℕ) (to : Target) (g : ℕ) (args : List Expr) (c : Code) (w : Waiting) (s : State) (ws : List Waiting) (t : Trace) (o : Option State) → OneEach s.origins → called e f g args s ≡ o → EachAfter (entered i to g c w ws t o)
-  each_call f i to g args c w s ws t None h q = tt
-  each_call f i to g args c w s ws t (Some u) h q = each_called f g args s u h q
+  each_act : (x : Point) (k : DoesAct e x) → Known x → HoldsThere x → HoldsThere (acted_to e x k)
+  each_act x k known h =
+      let mine = (each_next (Mine x.function) x.rest _ k.next_is known.1.inside).0 in
+      let quiet = act_quiet (types_in e x.function) x.state k.act k.value (free_in p free x.function (doing.Does k.statement k.act) mine) k.made_is in
+      each_begun k.statement k.value.begun x.state.origins quiet.none_begun h
 
-  each_store : (w : Waiting) (b : State) (ws : List Waiting) (t : Trace) (to : Target) (o : Option Value) → OneEach b.origins → EachAfter (stored_back w b ws t (received (types_in e w.function) to o b))
-  each_store w b ws t to None h = tt
-  each_store w b ws t to (Some z) h = by_made (given (types_in e w.function) to z b) refl
-    where
-      by_made : (o : Option Made) → given (types_in e w.function) to z b ≡ o → EachAfter (stored_back w b ws t o)
-      by_made None is = tt
-      by_made (Some v) is = each_begun w.call v.begun b.origins (given_quiet (types_in e w.function) b to z v is).none_begun h
+  each_back : (x : Point) (w : Waiting) → HoldsThere x → OneEach (back_in e x.function w x.state).origins
+  each_back x w h = each_closed (variables_at e x.function) x.state h
 
-  each_back : (to : Target) (w : Waiting) (v : Option Value) (b : State) (ws : List Waiting) (t : Trace) → OneEach b.origins → EachAfter (went_back e to w v b ws t)
-  each_back target.None w v b ws t h = h
-  each_back (target.Place a) w v b ws t h = each_store w b ws t (target.Place a) v h
-  each_back (target.Declared x) w v b ws t h = each_store w b ws t (target.Declared x) v h
+  each_store : (x : Point) (k : ReturnsStoring e x) → Known x → HoldsThere x → HoldsThere (returned_storing e x k)
+  each_store x k known h =
+      let types = types_in e k.caller.function in
+      let back = back_in e x.function k.caller x.state in
+      let z = then_there (λ (v : Value). given types k.caller.target v back) x.state.returned k.value k.received_is in
+      each_begun k.caller.call k.value.begun back.origins (given_quiet types back k.caller.target z.value k.value z.same).none_begun (each_back x k.caller h)
 
-  each_return : (g : ℕ) (s : State) (ws : List Waiting) (t : Trace) → OneEach s.origins → EachAfter (returned_to e g s ws t)
-  each_return g s [] t h = tt
-  each_return g s (w ∷ ws) t h =
-      each_back w.target w s.returned (resumed e g w.frame w.returned s) ws t (each_closed (variables_at e g) s h)
+  each_kept : IsKept e Known HoldsThere
+  each_kept = record {
+    moves = λ x k known h. each_changed k.change k.rest (types_in e x.function) x.state (subst (BeginsNone (is_global p)) k.rest_is known.0) h;
+    acts = each_act;
+    begins = λ x k known h. each_called x.function k.function k.args x.state k.begun h k.called_is;
+    returns = λ x k known h. each_back x k.caller h;
+    stores_result = each_store;
+  }
 
-  each_at : (f : ℕ) (c : Code) (s : State) (ws : List Waiting) (t : Trace) → BeginsNone (is_global p) c → Each (Mine f) c → OneEach s.origins → EachAfter (step_at e f c s ws t)
-  each_at f End s ws t none inside h = each_return f s ws t h
-  each_at f (Opens x r) s ws t none inside h = each_more s.origins x none.0 h
-  each_at f (Plain i a r) s ws t none inside h = each_act f i (λ x. r) s ws t (made (types_in e f) a s) (quiet_acts f i a s inside.0) h
-  each_at f (Fork i a c r) s ws t none inside h = each_act f i (λ x. c (picked x) ⨟ r) s ws t (made (types_in e f) (Tests a) s) (quiet_acts f i (Tests a) s inside.0) h
-  each_at f (Loop i a b r) s ws t none inside h = each_act f i (λ x. either (is_true (picked x)) (b ⨟ Loop i a b r) r) s ws t (made (types_in e f) (Tests a) s) (quiet_acts f i (Tests a) s inside.0) h
-  each_at f (Leaves xs r) s ws t none inside h = each_closed xs s h
-  each_at f (Call i to g args r) s ws t none inside h = each_call f i to g args (code_at e g) (waiting i to f r s) s ws t (called e f g args s) h refl
-
-  each_on : (input : List ℕ) (x y : Point) → Reaches (machine e) (beginning e input) x → OneEach x.state.origins → Reaches (machine e) x y → OneEach y.state.origins
-  each_on input x y before h here = h
-  each_on input x y before h (by_act {t = z} is r) =
-      let none = (holds_run e (λ f c. BeginsNone (is_global p) c) own.bodies_not (begins_after (is_global p)) input x before).rest in
-      let inside = (sound_run e Mine (bodies p) input x before).inside in
-      each_on input z y (reach_act (machine e) (beginning e input) x z before is) (subst EachAfter is (each_at x.function x.rest x.state x.callers x.trace none inside h)) r
-  each_on input x y before h (by_move {t = z} is r) =
-      let none = (holds_run e (λ f c. BeginsNone (is_global p) c) own.bodies_not (begins_after (is_global p)) input x before).rest in
-      let inside = (sound_run e Mine (bodies p) input x before).inside in
-      each_on input z y (reach_move (machine e) (beginning e input) x z before is) (subst EachAfter is (each_at x.function x.rest x.state x.callers x.trace none inside h)) r
+  known_run : (input : List ℕ) (x : Point) → Reaches (machine e) (beginning e input) x → Known x
+  known_run input x r =
+      ((holds_run e (λ f c. BeginsNone (is_global p) c) own.bodies_not (begins_after (is_global p)) input x r).rest, sound_run e Mine (bodies p) input x r)
 
   -- at each point of a run
   pub one_each : (input : List ℕ) (x : Point) → Reaches (machine e) (beginning e input) x → OneEach x.state.origins
-  one_each input x r = each_on input (beginning e input) x here (begun_each input) r
+  one_each input x r = kept_run e Known HoldsThere each_kept (beginning e input) (known_run input) x r (begun_each input)

@@ -33,7 +33,7 @@ use Rattle.run_facts.proofs.NamedUses.{reading_touches}
 use Rattle.run_facts.proofs.Numbers.{at_number}
 use Rattle.run_facts.proofs.Points.{IsSound, sound_run}
 use Rattle.run_facts.proofs.Statements.{bodies, free_in, next_member}
-use Rattle.slice_simulation.specs.Places.{Does, next_of}
+use Rattle.run_facts.specs.NextSteps.{Does, next_of}
 use Rattle.slice_simulation.specs.Agreeing.{Agree}
 use Rattle.slice_simulation.specs.Premises.{Performed}
 use Rattle.slice_simulation.specs.Renaming.{World, AlikeValue, number, null, pointer, AlikeAt}

@@ -37,7 +37,8 @@ use Rattle.run_facts.proofs.KeptMemories.{stored_live, stored_keeps}
 use Rattle.run_facts.proofs.NamedStores.{StoresTo, IsMade, act_made}
 use Rattle.run_facts.proofs.NamedUses.{reading_touches}
 use Rattle.run_facts.proofs.Wholes.{location_named}
-use Rattle.slice_simulation.specs.Places.{Does, next_of, At}
+use Rattle.run_facts.specs.NextSteps.{Does, next_of}
+use Rattle.slice_simulation.specs.Places.{At}
 use Rattle.slice_simulation.specs.Renaming.{World, AlikeCell, cell_at, AlikeAt}
 use Rattle.slice_simulation.specs.Settings.{Reached}
 use Rattle.wanted_locations.specs.Wanted.{IsWanted}

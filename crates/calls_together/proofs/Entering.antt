@@ -39,7 +39,7 @@ use Rattle.run_facts.proofs.NamedUses.{all_from, argument_used}
 use Rattle.run_facts.proofs.OldBlocks.{opening_names}
 use Rattle.run_facts.proofs.Points.{IsSound, sound_run}
 use Rattle.run_facts.proofs.Statements.{bodies, free_in}
-use Rattle.slice_simulation.specs.Places.{Next, Ends, Passes, Does, Calls, next_of}
+use Rattle.run_facts.specs.NextSteps.{Next, Ends, Passes, Does, Calls, next_of}
 use Rattle.slice_simulation.specs.Renaming.{World, AlikeValue, Names, AlikeAt}
 use Rattle.slice_simulation.specs.Settings.{Calling, Setting}
 use Rattle.slice_simulation.specs.Agreeing.{Agree}

@@ -14,7 +14,7 @@ use Rattle.dep_model.specs.ModRef.{is_outside}
 use Rattle.dep_model.specs.SystemGraph.{Analysis}
 use Rattle.dep_model.proofs.Membership.{contains_of_in}
 use Rattle.projection.specs.Kept.{Kept}
-use Rattle.slice_simulation.specs.Places.{Ends, next_of}
+use Rattle.run_facts.specs.NextSteps.{Ends, next_of}
 use Rattle.slice_simulation.specs.Renaming.{World, Names, StandsForOne, BlocksStand, AlikeAt}
 use Rattle.slice_simulation.specs.Settings.{Setting}
 use Rattle.slice_simulation.specs.Agreeing.{Agree}

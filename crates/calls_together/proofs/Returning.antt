@@ -47,13 +47,14 @@ use Rattle.run_facts.proofs.Numbers.{at_number}
 use Rattle.run_facts.proofs.Points.{Waits}
 use Rattle.run_facts.proofs.Statements.{free_in}
 use Rattle.run_facts.proofs.Wholes.{location_named}
-use Rattle.slice_simulation.specs.Places.{Ends, next_of, stores, kept_target}
+use Rattle.run_facts.specs.NextSteps.{Ends, next_of, stores}
+use Rattle.slice_simulation.specs.Places.{kept_target}
 use Rattle.slice_simulation.specs.Renaming.{World, Stands, AlikeCell, cell_at, Names, BlocksStand, Counts, AlikeAt}
 use Rattle.slice_simulation.specs.Settings.{ResultOut, Setting, Reached, seen}
 use Rattle.slice_simulation.specs.Agreeing.{Agree, CallersAgree}
 use Rattle.slice_simulation.specs.Premises.{back, back_there, Stored, Dropped, Returning}
 use Rattle.slice_simulation.proofs.Stacks.{Headed, head_of}
-use Rattle.slice_simulation.proofs.Steps.{step_stored}
+use Rattle.run_facts.proofs.NextSteps.{step_stored}
 use Rattle.steps_alone.proofs.AlikeOn.{returns_leave_callers}
 use Rattle.steps_alone.proofs.KeptOutlines.{keeps_after, blocks_on}
 use Rattle.wanted_locations.specs.Chained.{Counterpart, slicing_over, chained}

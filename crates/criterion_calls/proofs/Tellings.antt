@@ -26,7 +26,7 @@ use Rattle.dep_model.specs.Words.{ReachesAny}
 use Rattle.dep_model.proofs.Membership.{IsIn, contains_of_in, in_second, in_map}
 use Rattle.kept_numbers.specs.Ranks.{rank}
 use Rattle.projection.specs.Kept.{Kept}
-use Rattle.slice_simulation.specs.Places.{Does, Calls, next_of, stores}
+use Rattle.run_facts.specs.NextSteps.{Does, Calls, next_of, stores}
 use Rattle.slice_simulation.specs.Premises.{Telling}
 use Rattle.slice_simulation.specs.Settings.{Statement, Calling, ResultOut, Setting, Reached}
 use Rattle.wanted_locations.specs.Chained.{Counterpart, chained}

@@ -14,7 +14,7 @@ use Rattle.dep_model.specs.SystemGraph.{Analysis}
 use Rattle.kept_numbers.specs.Ranks.{rank}
 use Rattle.projection.specs.Kept.{Kept}
 use Rattle.slice_simulation.specs.Agreeing.{Agree, Together}
-use Rattle.slice_simulation.specs.Places.{Next, Ends, Passes, Does, Calls, next_of}
+use Rattle.run_facts.specs.NextSteps.{Next, Ends, Passes, Does, Calls, next_of}
 use Rattle.slice_simulation.specs.Premises.{Moving}
 use Rattle.slice_simulation.specs.Renaming.{World, FramesStand, AlikeAt, Counts}
 use Rattle.slice_simulation.specs.Settings.{Setting}

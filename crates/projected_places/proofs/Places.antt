@@ -16,7 +16,8 @@ use Rattle.dep_model.proofs.Membership.{contains_of_in}
 use Rattle.kept_numbers.specs.Ranks.{rank}
 use Rattle.projection.specs.Kept.{Kept, chosen}
 use Rattle.projection.specs.Renumbering.{renamed, renamed_target}
-use Rattle.slice_simulation.specs.Places.{Next, Ends, Passes, Does, Calls, next_of, stores, kept_target}
+use Rattle.run_facts.specs.NextSteps.{Next, Ends, Passes, Does, Calls, next_of, stores}
+use Rattle.slice_simulation.specs.Places.{kept_target}
 use Rattle.slice_simulation.specs.Premises.{Projected}
 use Rattle.slice_simulation.specs.Settings.{Statement, Calling, ResultOut, Setting, Reached}
 use Rattle.wanted_locations.specs.Chained.{Counterpart, chained}

@@ -16,7 +16,8 @@ use Rattle.kept_numbers.specs.Ranks.{rank}
 use Rattle.projection.specs.Kept.{Kept, chosen}
 use Rattle.projection.specs.Projection.{if_so}
 use Rattle.projection.specs.Renumbering.{renamed, renamed_target}
-use Rattle.slice_simulation.specs.Places.{Next, Ends, Passes, Does, Calls, next_of, kept_target}
+use Rattle.run_facts.specs.NextSteps.{Next, Ends, Passes, Does, Calls, next_of}
+use Rattle.slice_simulation.specs.Places.{kept_target}
 use Rattle.slice_simulation.specs.Settings.{ShowSame}
 use Rattle.projected_places.specs.ProjectedCode.{renamed_act, renamed_all, project_code, keeps_move, IsNested}
 

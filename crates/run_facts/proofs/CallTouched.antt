@@ -1,5 +1,5 @@
 -- A call touches what its function uses and modifies, and leaves the rest as it was.
-use Rattle.std.proofs.Common.{◌≡◌, ℕ, ◌<◌, ◌≤◌, List, [], ◌∷◌, length, Option, Some, None, Bool, true, false, inl, inr, refl, sym, ap, ap₂, ◌∙◌, subst, arith}
+use Rattle.std.proofs.Common.{◌≡◌, ℕ, ◌<◌, ◌≤◌, List, [], ◌∷◌, length, Option, Some, None, Bool, true, false, inl, refl, sym, ap, ap₂, ◌∙◌, subst, arith}
 use Rattle.std.specs.Prelude.{Contains, option_and_then, is_some, if◌then◌else◌, slice_get}
 use Rattle.std.proofs.lemmas.Bool.{false≢true}
 use Rattle.c_language.proofs.Options.{some_same, none_there}
@@ -38,7 +38,7 @@ use Rattle.run_facts.proofs.GlobalVariables.{variables_of, globals_global}
 use Rattle.run_facts.proofs.InCalls.{grown_length, IsSaid, IsInCall, in_step}
 use Rattle.run_facts.proofs.KeptStates.{called_keeps, steps_keep_the_rest}
 use Rattle.run_facts.proofs.NamedUses.{all_from}
-use Rattle.run_facts.proofs.Points.{IsSound, IsSoundStep, called_passed, sound_step, sound_run}
+use Rattle.run_facts.proofs.Points.{IsSound, called_passed, sound_step, sound_run}
 use Rattle.run_facts.proofs.OldBlocks.{old_called, opening_names}
 use Rattle.run_facts.proofs.Statements.{bodies}
 use Rattle.run_facts.proofs.Wholes.{at_path}
@@ -83,9 +83,7 @@ abbrev Mine : Program → ℕ → Doing → Type 0
 Mine p f d = IsIn (doings_of p f) d
 
 sound_next : (p : Program) (x y : Point) → IsSound (executable p) (Mine p) x → Leads (executable p) x y → IsSound (executable p) (Mine p) y
-sound_next p x y h leads =
-    let k = sound_step (executable p) (Mine p) (bodies p) x h in
-    elim leads [ inl is ↦ subst (IsSoundStep (executable p) (Mine p)) is k | inr is ↦ subst (IsSoundStep (executable p) (Mine p)) is k ]
+sound_next p x y h leads = sound_step (executable p) (Mine p) (bodies p) x y leads h
 
 module _ (p : Program) (a : Analysis) (free : IsPointerFree p) (global : (x : ℕ) → IsIn (variables_of (executable p).globals) x → is_global p x ≡ true) (g : ℕ) (os : List Origin) (w0 : Waiting) (ws : List Waiting) where
   abbrev IsHere : Point → Type 0
@@ -168,7 +166,7 @@ module _ (p : Program) (a : Analysis) (free : IsPointerFree p) (global : (x : �
         callers_are = at.callers_are;
         called_from = subst (IsCalledFrom p g) at.function_is itself;
         names = old_called (λ v. is_global p v ≡ true) (length os) (executable p) x.function g args x.state y.state most (λ v b q lt. global v (opening_names (executable p) v b q)) at.called_is;
-        grows = (called_passed (executable p) (Mine p) x.function x.state [] x.trace sound.placed sound.globals tt g args y.state at.called_is).grows;
+        grows = (called_passed (executable p) x.function x.state sound.placed sound.globals g args y.state at.called_is).grows;
         waiting_ = tt;
       }
 

@@ -14,6 +14,7 @@ use Rattle.c_meaning.specs.Steps.{Step, Stops, Fails, Acts, Moves, Breaks, Reach
 use Rattle.run_facts.specs.CallTouching.{WaitAt, Enters, Within, stays, goes_on, called_below, HasCalled}
 use Rattle.run_facts.specs.KeptCells.{Leads}
 use Rattle.run_facts.specs.Laws.{CallersHaveCalled}
+use Rattle.run_facts.proofs.NextSteps.{reach_act, reach_move}
 
 -- ---- what a step does to the callers that wait
 
@@ -82,16 +83,6 @@ module _ (p : Executable) where
   still_within ws y z u (stays w) leads wait = goes_on w leads (stays wait)
   still_within ws y z u (goes_on {y = v} w first rest) leads wait = goes_on w first (still_within ws v z u rest leads wait)
 
-  act_reached : (s z u : Point) → Reaches (machine p) s z → step p z ≡ Acts u → Reaches (machine p) s u
-  act_reached s z u here is = by_act is here
-  act_reached s z u (by_act {t = v} first r) is = by_act first (act_reached v z u r is)
-  act_reached s z u (by_move {t = v} first r) is = by_move first (act_reached v z u r is)
-
-  move_reached : (s z u : Point) → Reaches (machine p) s z → step p z ≡ Moves u → Reaches (machine p) s u
-  move_reached s z u here is = by_move is here
-  move_reached s z u (by_act {t = v} first r) is = by_act first (move_reached v z u r is)
-  move_reached s z u (by_move {t = v} first r) is = by_move first (move_reached v z u r is)
-
   module _ (start : Point) where
     abbrev AllCalled : Point → Type 0
     AllCalled z = (above ws : List Waiting) (w : Waiting) → z.callers ≡ above ++ (w ∷ ws) → HasCalled p start above ws w z
@@ -145,8 +136,8 @@ module _ (p : Executable) where
 
     all_called : (s z : Point) → Reaches (machine p) s z → Reaches (machine p) start s → AllCalled s → AllCalled z
     all_called s z here reached k = k
-    all_called s z (by_act {t = v} is r) reached k = all_called v z r (act_reached start s v reached is) (acts_called s v reached k is)
-    all_called s z (by_move {t = v} is r) reached k = all_called v z r (move_reached start s v reached is) (moves_called s v k is)
+    all_called s z (by_act {t = v} is r) reached k = all_called v z r (reach_act (machine p) start s v reached is) (acts_called s v reached k is)
+    all_called s z (by_move {t = v} is r) reached k = all_called v z r (reach_move (machine p) start s v reached is) (moves_called s v k is)
 
 none_wait : {A : Type 0} (above ws : List Waiting) (w : Waiting) → ◌≡◌ {A = List Waiting} [] (above ++ (w ∷ ws)) → A
 none_wait [] ws w e = no_list (sym e)

@@ -1,5 +1,5 @@
 -- Each act and call of the code of some statements is among their doings: in each list of a test's values, and in both copies of a do's body.
-use Rattle.std.proofs.Common.{ℕ, ℤ, List, [], ◌∷◌, ◌++◌, map, Bool, true, false, Some, None, sym, subst}
+use Rattle.std.proofs.Common.{◌≡◌, ℕ, ℤ, List, [], ◌∷◌, ◌++◌, map, Bool, true, false, Some, None, sym, subst}
 use Rattle.std.specs.Prelude.{if◌then◌else◌}
 use Rattle.c_tree.specs.declared.statement.Statement.{Statement, ind-Statement, roll-Statement, map-Statement, fold-roll-Statement}
 use Rattle.c_tree.specs.declared.statement.Statement.TheOpen.{Statement-F, Arm-F}
@@ -8,8 +8,11 @@ use Rattle.c_tree.specs.declared.statement.Target.{Target}
 use Rattle.c_tree.specs.declared.statement.Target.TheVariants as target
 use Rattle.c_language.specs.Code.{Tests, Code, End, Opens, Plain, Fork, Loop, Leaves, Call, ◌⨟◌, is_true, either, leave, StatementPart, declared_in, in_turn, block, ArmPart, has_case, has_default, default_arm, case_arm, given_to, part_step, arm_step, part, code}
 use Rattle.c_language.proofs.CodeLemmas.{arm_part}
+use Rattle.c_meaning.specs.Acts.{Made, picked}
 use Rattle.dep_model.specs.Doings.{Doing, Does, Calls, joined, doing_step, doing_arm, doings, body_doings}
 use Rattle.dep_model.proofs.DoingForms.{arm_doings}
+use Rattle.run_facts.specs.NextSteps as next
+use Rattle.run_facts.specs.NextSteps.{Next, next_of}
 
 module _ (P : Doing → Type 0) where
   -- P holds of each of them
@@ -49,6 +52,25 @@ module _ (P : Doing → Type 0) where
   each_if : (t : Bool) (a b : Code) → Each a → Each b → Each (if t then a else b)
   each_if true a b h k = h
   each_if false a b h k = k
+
+  -- P holds of what comes next, and of what is left after it
+  abbrev pub EachNext : Next → Type 0
+  EachNext next.Ends = Unit {0}
+  EachNext (next.Passes change r) = Each r
+  EachNext (next.Does i a go) = P (Does i a) × ((v : Made) → Each (go v))
+  EachNext (next.Calls i to g args r) = P (Calls i to g args) × Each r
+
+  each_of : (c : Code) → Each c → EachNext (next_of c)
+  each_of End h = tt
+  each_of (Opens x r) h = h
+  each_of (Plain i a r) h = (h.0, λ v. h.1)
+  each_of (Fork i e c r) h = (h.0, λ v. each_seq (c (picked v)) r (h.1.0 (picked v)) h.1.1)
+  each_of (Loop i e b r) h = (h.0, λ v. each_either (is_true (picked v)) (b ⨟ Loop i e b r) r (each_seq b (Loop i e b r) h.1.0 h) h.1.1)
+  each_of (Leaves xs r) h = h
+  each_of (Call i to f args r) h = h
+
+  pub each_next : (c : Code) (k : Next) → next_of c ≡ k → Each c → EachNext k
+  each_next c k e h = subst EachNext e (each_of c h)
 
   did_both : (ds es : List Doing) → Did (ds ++ es) → Did ds × Did es
   did_both [] es h = (tt, h)

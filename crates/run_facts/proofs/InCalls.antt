@@ -232,7 +232,7 @@ module _ (p : Program) (a : Analysis) (free : IsPointerFree p) (global : (x : â„
     goes_call i to h args r (Some c) mine is =
         let into : IsCalledFrom p g h = call k.called_from (contains_of_in (doings_of p f) (Calls i to h args) mine) in
         let names : NamesGlobals c.frame = old_called IsGlobal (length os) e f h args s c most (Î» x b q lt. global x (opening_names e x b q)) is in
-        let more = (called_passed e Mine f s [] t placed globals tt h args c is).grows in
+        let more = (called_passed e f s placed globals h args c is).grows in
         Î» wait. (point_in h (code_at e h) c (waiting i to f r s âˆ· above) _ into names (grows_on os s.origins c.origins k.grows more) (record { called_from = k.called_from; names = k.names }, run), (call_effect e f h args s, (refl, call_said f s k i to h args mine most)))
 
   -- the end of h, which b called and where it goes on in state s
@@ -263,7 +263,7 @@ module _ (p : Program) (a : Analysis) (free : IsPointerFree p) (global : (x : â„
       let back = back_in e f b s in
       let inside : Inside b.function back = record {
         called_from = run.0.called_from;
-        named = (placed_resumed e Mine f b s placed waits.0.named).named;
+        named = (placed_resumed e f b s placed waits.0.named).named;
         names = run.0.names;
         grows = grows_on os s.origins back.origins k.grows (grows_closed (variables_at e f) s);
       } in

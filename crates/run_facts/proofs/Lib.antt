@@ -1,3 +1,5 @@
+pub mod NextSteps
+pub mod StepKinds
 pub mod SameMemories
 pub mod SameValues
 pub mod SameActs

@@ -1,23 +1,62 @@
 -- Wherever a run stands, what is done next and what waits is of its functions, and names blocks of its variables.
-use Rattle.std.proofs.Common.{◌≡◌, ℕ, List, [], ◌∷◌, Option, Some, None, Bool, true, false, refl, sym, subst}
+use Rattle.std.proofs.Common.{◌≡◌, ℕ, List, [], ◌∷◌, Option, Some, None, refl, sym, subst}
 use Rattle.std.specs.Prelude.{option_and_then, slice_get}
 use Rattle.std.specs.Option.{option_map_or}
 use Rattle.c_language.proofs.Options.{none_there}
 use Rattle.c_tree.specs.declared.expr.Expr.{Expr}
-use Rattle.c_tree.specs.declared.statement.Target.{Target}
-use Rattle.c_tree.specs.declared.statement.Target.TheVariants as target
-use Rattle.c_language.specs.Code.{Tests, Code, End, Opens, Plain, Fork, Loop, Leaves, Call, ◌⨟◌, is_true, either}
+use Rattle.c_language.specs.Code.{Code}
 use Rattle.c_meaning.specs.declared.value.Value.{Value}
-use Rattle.c_meaning.specs.Values.{Origin, State, eval_all}
-use Rattle.c_meaning.specs.Acts.{Made, made, after, picked}
-use Rattle.c_meaning.specs.Activations.{Routine, Executable, code_at, variables_at, types_in, opening, passed, fresh, passed_to, called, resumed}
+use Rattle.c_meaning.specs.Values.{Types, Origin, OfVariable, State, eval_all}
+use Rattle.c_meaning.specs.Acts.{Made, after}
+use Rattle.c_meaning.specs.Activations.{Routine, Executable, code_at, variables_at, types_in, opening, passed, fresh, passed_to, called}
 use Rattle.c_meaning.specs.Meaning.{Trace}
-use Rattle.c_meaning.specs.Steps.{Step, Stops, Fails, Acts, Moves, Breaks, Reaches, here, by_act, by_move, Waiting, Point, point, waiting, acted, entered, stored_back, went_back, returned_to, step_at, step, machine, beginning}
+use Rattle.c_meaning.specs.Steps.{Reaches, Waiting, Point, point, machine, beginning}
 use Rattle.c_meaning.proofs.Origins.{tracked_after}
 use Rattle.dep_model.specs.Doings.{Doing, Calls}
-use Rattle.run_facts.proofs.Blocks.{Grows, grows_after, AreNamed, named_grown, IsPlaced, placed_opened, grows_closed, placed_closed, placed_opening, ArePassed, passed_placed}
-use Rattle.run_facts.proofs.CodeDoings.{Each, each_seq}
-use Rattle.run_facts.specs.Effects.{parameters_at}
+use Rattle.run_facts.specs.Effects.{parameters_at, back_in}
+use Rattle.run_facts.specs.KeptCells.{Leads}
+use Rattle.run_facts.specs.StepKinds.{Change, Opened, Closed, changed, MovesOn, DoesAct, BeginsCall, ReturnsStoring, moved_to, acted_to, called_to, returned_storing}
+use Rattle.run_facts.proofs.Blocks.{Grows, grows_by, grows_after, AreNamed, named_grown, IsPlaced, placed_opened, grows_closed, placed_closed, placed_opening, ArePassed, passed_placed}
+use Rattle.run_facts.proofs.CodeDoings.{Each, each_next}
+use Rattle.run_facts.proofs.StepKinds.{IsKept, kept_step, kept_run}
+
+-- ---- states
+
+pub placed_changed : (c : Change) (types : Types) (s : State) → IsPlaced s → IsPlaced (changed c types s)
+placed_changed (Opened x) types s h = placed_opened types x s h
+placed_changed (Closed xs) types s h = placed_closed xs s h
+
+pub grows_changed : (c : Change) (types : Types) (s : State) → Grows s.origins (changed c types s).origins
+grows_changed (Opened x) types s = grows_by s.origins (OfVariable x ∷ [])
+grows_changed (Closed xs) types s = grows_closed xs s
+
+placed_after : (i : ℕ) (m : Made) (s : State) → IsPlaced s → IsPlaced (after i m s)
+placed_after i m s h = record { tracked = tracked_after i m s h.tracked; named = named_grown s.frame s.origins (after i m s).origins (grows_after i m.begun s.origins) h.named }
+
+-- a caller's state once its call is done
+pub placed_resumed : (p : Executable) (g : ℕ) (w : Waiting) (s : State) → IsPlaced s → AreNamed w.frame s.origins → IsPlaced (back_in p g w s)
+placed_resumed p g w s placed named =
+    let closed = placed_closed (variables_at p g) s placed in
+    record { tracked = closed.tracked; named = named_grown w.frame s.origins (back_in p g w s).origins (grows_closed (variables_at p g) s) named }
+
+module _ (p : Executable) (f : ℕ) (s : State) (placed : IsPlaced s) (globals : AreNamed (opening p []).frame s.origins) where
+  fresh_placed : IsPlaced (fresh p s)
+  fresh_placed = record { tracked = placed.tracked; named = globals }
+
+  -- where a call of g begins, its parameters have their blocks
+  pub called_passed : (g : ℕ) (args : List Expr) (c : State) → called p f g args s ≡ Some c → ArePassed p (parameters_at p g) (fresh p s) c
+  called_passed g args c q = by_routine (slice_get p.functions g) refl q
+    where
+      by_values : (r : Routine) (o : Option (List Value)) → option_and_then (λ (vs : List Value). passed p r.params vs (fresh p s)) o ≡ Some c → ArePassed p r.params (fresh p s) c
+      by_values r None q = none_there q
+      by_values r (Some vs) q = passed_placed p r.params vs (fresh p s) c fresh_placed q
+
+      by_routine : (o : Option Routine) → slice_get p.functions g ≡ o → option_and_then (passed_to p f args s) o ≡ Some c → ArePassed p (parameters_at p g) (fresh p s) c
+      by_routine None is q = none_there q
+      by_routine (Some r) is q =
+          subst (λ u. ArePassed p (option_map_or (λ (k : Routine). k.params) u []) (fresh p s) c) (sym is) (by_values r (eval_all (types_in p f) args s) q)
+
+-- ---- points
 
 -- P holds of the acts and calls of each function
 module _ (p : Executable) (P : ℕ → Doing → Type 0) where
@@ -50,102 +89,61 @@ module _ (p : Executable) (P : ℕ → Doing → Type 0) where
 
   -- ---- steps
 
-  abbrev pub IsSoundStep : Step Point → Type 0
-  IsSoundStep Stops = Unit {0}
-  IsSoundStep (Fails i) = Unit {0}
-  IsSoundStep (Acts x) = IsSound x
-  IsSoundStep (Moves x) = IsSound x
-  IsSoundStep (Breaks i) = Unit {0}
+  module _ (bodies : (g : ℕ) → Each (P g) (code_at p g)) where
+    abbrev NothingMore : Point → Type 0
+    NothingMore x = Unit {0}
 
-  placed_after : (i : ℕ) (m : Made) (s : State) → IsPlaced s → IsPlaced (after i m s)
-  placed_after i m s h = record { tracked = tracked_after i m s h.tracked; named = named_grown s.frame s.origins (after i m s).origins (grows_after i m.begun s.origins) h.named }
+    move_sound : (x : Point) (k : MovesOn p x) → NothingMore x → IsSound x → IsSound (moved_to p x k)
+    move_sound x k more h =
+        sound_grown x.function k.rest x.state _ x.callers x.trace (each_next (P x.function) x.rest _ k.next_is h.inside) (placed_changed k.change (types_in p x.function) x.state h.placed) (grows_changed k.change (types_in p x.function) x.state) h.globals h.callers
 
-  -- what a point is made of, before it is known to be next
-  module _ (f : ℕ) (s : State) (ws : List Waiting) (a : Trace) (placed : IsPlaced s) (globals : AreNamed (opening p []).frame s.origins) (callers : AreWaiting s.origins f ws) where
-    sound_act : (i : ℕ) (next : Made → Code) (o : Option Made) → ((m : Made) → Each (P f) (next m)) → IsSoundStep (acted f i next s ws a o)
-    sound_act i next None inside = tt
-    sound_act i next (Some m) inside =
-        sound_grown f (next m) s (after i m s) ws _ (inside m) (placed_after i m s placed) (grows_after i m.begun s.origins) globals callers
+    act_sound : (x : Point) (k : DoesAct p x) → NothingMore x → IsSound x → IsSound (acted_to p x k)
+    act_sound x k more h =
+        let next = each_next (P x.function) x.rest _ k.next_is h.inside in
+        sound_grown x.function (k.go k.value) x.state (after k.statement k.value x.state) x.callers _ (next.1 k.value) (placed_after k.statement k.value x.state h.placed) (grows_after k.statement k.value.begun x.state.origins) h.globals h.callers
 
-    each_either : (b : Bool) (c d : Code) → Each (P f) c → Each (P f) d → Each (P f) (either b c d)
-    each_either true c d h k = h
-    each_either false c d h k = k
-
-    sound_entry : (bodies : (g : ℕ) → Each (P g) (code_at p g)) (i : ℕ) (to : Target) (g : ℕ) (args : List Expr) (r : Code) (o : Option State) → Each (P f) (Call i to g args r) → ((c : State) → o ≡ Some c → ArePassed p (parameters_at p g) (fresh p s) c) → IsSoundStep (entered i to g (code_at p g) (waiting i to f r s) ws a o)
-    sound_entry bodies i to g args r None inside h = tt
-    sound_entry bodies i to g args r (Some c) inside h =
-        let k = h c refl in
+    call_sound : (x : Point) (k : BeginsCall p x) → NothingMore x → IsSound x → IsSound (called_to p x k)
+    call_sound x k more h =
+        let next = each_next (P x.function) x.rest _ k.next_is h.inside in
+        let c = called_passed p x.function x.state h.placed h.globals k.function k.args k.begun k.called_is in
         record {
-          inside = bodies g;
-          placed = k.placed;
-          globals = named_grown (opening p []).frame s.origins c.origins k.grows globals;
-          callers = (record { inside = inside.1; named = named_grown s.frame s.origins c.origins k.grows placed.named; args = args; calls = inside.0 }, waiting_grown s.origins c.origins f ws k.grows callers);
+          inside = bodies k.function;
+          placed = c.placed;
+          globals = named_grown (opening p []).frame x.state.origins k.begun.origins c.grows h.globals;
+          callers = (record { inside = next.1; named = named_grown x.state.frame x.state.origins k.begun.origins c.grows h.placed.named; args = k.args; calls = next.0 }, waiting_grown x.state.origins k.begun.origins x.function x.callers c.grows h.callers);
         }
 
-    pub fresh_placed : IsPlaced (fresh p s)
-    fresh_placed = record { tracked = placed.tracked; named = globals }
+    -- a caller goes on in its state
+    back_sound : (x : Point) (w : Waiting) (ws : List Waiting) → x.callers ≡ w ∷ ws → IsSound x → IsSound (point w.function w.rest (back_in p x.function w x.state) ws x.trace)
+    back_sound x w ws are h =
+        let back = back_in p x.function w x.state in
+        let more = grows_closed (variables_at p x.function) x.state in
+        let waits = subst (AreWaiting x.state.origins x.function) are h.callers in
+        record {
+          inside = waits.0.inside;
+          placed = placed_resumed p x.function w x.state h.placed waits.0.named;
+          globals = named_grown (opening p []).frame x.state.origins back.origins more h.globals;
+          callers = waiting_grown x.state.origins back.origins w.function ws more waits.1;
+        }
 
-    -- where a call of g begins, its parameters have their blocks
-    pub called_passed : (g : ℕ) (args : List Expr) (c : State) → called p f g args s ≡ Some c → ArePassed p (parameters_at p g) (fresh p s) c
-    called_passed g args c q = by_routine (slice_get p.functions g) refl q
-      where
-        by_values : (r : Routine) (o : Option (List Value)) → option_and_then (λ (vs : List Value). passed p r.params vs (fresh p s)) o ≡ Some c → ArePassed p r.params (fresh p s) c
-        by_values r None q = none_there q
-        by_values r (Some vs) q = passed_placed p r.params vs (fresh p s) c fresh_placed q
+    store_sound : (x : Point) (k : ReturnsStoring p x) → NothingMore x → IsSound x → IsSound (returned_storing p x k)
+    store_sound x k more h =
+        let back = back_in p x.function k.caller x.state in
+        let went = back_sound x k.caller k.others k.callers_are h in
+        sound_grown k.caller.function k.caller.rest back (after k.caller.call k.value back) k.others _ went.inside (placed_after k.caller.call k.value back went.placed) (grows_after k.caller.call k.value.begun back.origins) went.globals went.callers
 
-        by_routine : (o : Option Routine) → slice_get p.functions g ≡ o → option_and_then (passed_to p f args s) o ≡ Some c → ArePassed p (parameters_at p g) (fresh p s) c
-        by_routine None is q = none_there q
-        by_routine (Some r) is q =
-            subst (λ u. ArePassed p (option_map_or (λ (k : Routine). k.params) u []) (fresh p s) c) (sym is) (by_values r (eval_all (types_in p f) args s) q)
+    sound_kept : IsKept p NothingMore IsSound
+    sound_kept = record {
+      moves = move_sound;
+      acts = act_sound;
+      begins = call_sound;
+      returns = λ x k more h. back_sound x k.caller k.others k.callers_are h;
+      stores_result = store_sound;
+    }
 
-  sound_store : (w : Waiting) (s : State) (ws : List Waiting) (a : Trace) (o : Option Made) → Each (P w.function) w.rest → IsPlaced s → AreNamed (opening p []).frame s.origins → AreWaiting s.origins w.function ws → IsSoundStep (stored_back w s ws a o)
-  sound_store w s ws a None inside placed globals callers = tt
-  sound_store w s ws a (Some m) inside placed globals callers =
-      sound_grown w.function w.rest s (after w.call m s) ws _ inside (placed_after w.call m s placed) (grows_after w.call m.begun s.origins) globals callers
-
-  sound_back : (to : Target) (w : Waiting) (v : Option Value) (s : State) (ws : List Waiting) (a : Trace) → Each (P w.function) w.rest → IsPlaced s → AreNamed (opening p []).frame s.origins → AreWaiting s.origins w.function ws → IsSoundStep (went_back p to w v s ws a)
-  sound_back target.None w v s ws a inside placed globals callers = record { inside = inside; placed = placed; globals = globals; callers = callers }
-  sound_back (target.Place e) w v s ws a inside placed globals callers = sound_store w s ws a _ inside placed globals callers
-  sound_back (target.Declared y) w v s ws a inside placed globals callers = sound_store w s ws a _ inside placed globals callers
-
-  -- a caller's state once its call is done
-  pub placed_resumed : (g : ℕ) (w : Waiting) (s : State) → IsPlaced s → AreNamed w.frame s.origins → IsPlaced (resumed p g w.frame w.returned s)
-  placed_resumed g w s placed named =
-      let closed = placed_closed (variables_at p g) s placed in
-      record { tracked = closed.tracked; named = named_grown w.frame s.origins (resumed p g w.frame w.returned s).origins (grows_closed (variables_at p g) s) named }
-
-  sound_return : (g : ℕ) (s : State) (ws : List Waiting) (a : Trace) → IsPlaced s → AreNamed (opening p []).frame s.origins → AreWaiting s.origins g ws → IsSoundStep (returned_to p g s ws a)
-  sound_return g s [] a placed globals callers = tt
-  sound_return g s (w ∷ ws) a placed globals callers =
-      let more = grows_closed (variables_at p g) s in
-      let back = resumed p g w.frame w.returned s in
-      sound_back w.target w s.returned back ws a callers.0.inside (placed_resumed g w s placed callers.0.named) (named_grown (opening p []).frame s.origins back.origins more globals) (waiting_grown s.origins back.origins w.function ws more callers.1)
-
-  module _ (bodies : (g : ℕ) → Each (P g) (code_at p g)) where
-    sound_at : (f : ℕ) (c : Code) (s : State) (ws : List Waiting) (a : Trace) → Each (P f) c → IsPlaced s → AreNamed (opening p []).frame s.origins → AreWaiting s.origins f ws → IsSoundStep (step_at p f c s ws a)
-    sound_at f End s ws a inside placed globals callers = sound_return f s ws a placed globals callers
-    sound_at f (Opens x r) s ws a inside placed globals callers =
-        sound_grown f r s _ ws a inside (placed_opened (types_in p f) x s placed) (record { new = _; are = refl }) globals callers
-    sound_at f (Plain i act r) s ws a inside placed globals callers =
-        sound_act f s ws a placed globals callers i (λ m. r) (made (types_in p f) act s) (λ m. inside.1)
-    sound_at f (Fork i e c r) s ws a inside placed globals callers =
-        sound_act f s ws a placed globals callers i (λ m. c (picked m) ⨟ r) (made (types_in p f) (Tests e) s) (λ m. each_seq (P f) (c (picked m)) r (inside.1.0 (picked m)) inside.1.1)
-    sound_at f (Loop i e b r) s ws a inside placed globals callers =
-        sound_act f s ws a placed globals callers i (λ m. either (is_true (picked m)) (b ⨟ Loop i e b r) r) (made (types_in p f) (Tests e) s) (λ m. each_either f s ws a placed globals callers (is_true (picked m)) (b ⨟ Loop i e b r) r (each_seq (P f) b (Loop i e b r) inside.1.0 inside) inside.1.1)
-    sound_at f (Leaves xs r) s ws a inside placed globals callers =
-        sound_grown f r s _ ws a inside (placed_closed xs s placed) (grows_closed xs s) globals callers
-    sound_at f (Call i to g args r) s ws a inside placed globals callers =
-        sound_entry f s ws a placed globals callers bodies i to g args r (called p f g args s) inside (called_passed f s ws a placed globals callers g args)
-
-    pub sound_step : (x : Point) → IsSound x → IsSoundStep (step p x)
-    sound_step x h = sound_at x.function x.rest x.state x.callers x.trace h.inside h.placed h.globals h.callers
-
-    sound_reach : (x y : Point) → Reaches (machine p) x y → IsSound x → IsSound y
-    sound_reach x y here h = h
-    sound_reach x y (by_act {t = z} is r) h = sound_reach z y r (rw is at (sound_step x h))
-    sound_reach x y (by_move {t = z} is r) h = sound_reach z y r (rw is at (sound_step x h))
+    pub sound_step : (x y : Point) → Leads p x y → IsSound x → IsSound y
+    sound_step x y leads h = kept_step p NothingMore IsSound sound_kept x y leads tt h
 
     pub sound_run : (input : List ℕ) (x : Point) → Reaches (machine p) (beginning p input) x → IsSound x
     sound_run input x r =
-        let opened = placed_opening p input in
-        sound_reach (beginning p input) x r (record { inside = bodies p.main; placed = opened; globals = (placed_opening p []).named; callers = tt })
+        kept_run p NothingMore IsSound sound_kept (beginning p input) (λ y before. tt) x r (record { inside = bodies p.main; placed = placed_opening p input; globals = (placed_opening p []).named; callers = tt })

@@ -249,7 +249,7 @@ module _ (p : Program) (a : Analysis) (numbered : map doing_number (program_doin
       let s = x.state in
       let e = executable p in
       let fine = and_parts (is_name_target to) (are_integers args) (free_in p free f (Calls i to g args) mine) in
-      let passed = called_passed e Mine f s x.callers x.trace sound.placed sound.globals sound.callers g args y.state is in
+      let passed = called_passed e f s sound.placed sound.globals g args y.state is in
       let d : Doing = Calls i to g args in
       let stores = passed_at g (fresh e s) y.state e.typing sound.placed.tracked passed (eval_all (types_in e f) args s) in
       record {
@@ -353,7 +353,7 @@ module _ (p : Program) (a : Analysis) (numbered : map doing_number (program_doin
   receipts_touch x sound y w ws rest callers e =
       let waits = subst (AreWaiting (executable p) Mine x.state.origins x.function) callers sound.callers in
       let moves : step_at (executable p) x.function End x.state (w ∷ ws) x.trace ≡ Moves y = sym (ap₂ (λ c us. step_at (executable p) x.function c x.state us x.trace) rest callers) ∙ e in
-      receipt_of x w waits.0.args waits.0.calls waits.0.named (placed_resumed (executable p) Mine x.function w x.state sound.placed waits.0.named).named w.target refl ws x.trace y moves
+      receipt_of x w waits.0.args waits.0.calls waits.0.named (placed_resumed (executable p) x.function w x.state sound.placed waits.0.named).named w.target refl ws x.trace y moves
 
 pub steps_touch : StepsTouchWhatVerticesSay
 steps_touch p a well numbered is free input x r =

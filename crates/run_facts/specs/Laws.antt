@@ -11,6 +11,8 @@ use Rattle.dep_model.specs.SystemGraph.{Analysis, IsAnalysis}
 use Rattle.c_meaning.specs.Activations.{Executable, executable}
 use Rattle.run_facts.specs.Effects.{Effect, next_doing}
 use Rattle.run_facts.specs.KeptCells.{KeepsRest, step_effect, Leads}
+use Rattle.run_facts.specs.NextSteps.{next_of, step_by}
+use Rattle.run_facts.specs.StepKinds.{StepKind}
 use Rattle.run_facts.specs.DoneEffects.{DoesEffect, returned_before}
 use Rattle.run_facts.specs.SameOutcomes.{SameButCells, SameOutcomes}
 use Rattle.dep_model.specs.PointerFree.{IsPointerFree}
@@ -37,6 +39,14 @@ StepsTouchWhatVerticesSay =
     (p : Program) (a : Analysis) → IsWellFormed p → map doing_number (program_doings p) ≡ range_with_len 0 p.statements → IsAnalysis p a
     → IsPointerFree p → (input : List ℕ) (x : Point) → Reaches (machine (executable p)) (beginning (executable p) input) x
     → DoingsTouch p a x × ReceiptsTouch p a x
+
+-- what a program does from a point is what its list does next
+abbrev pub StepsAreNext : Type 0
+StepsAreNext = (p : Executable) (x : Point) → step p x ≡ step_by p x.function (next_of x.rest) x.state x.callers x.trace
+
+-- a step that leads to a point is of one of the kinds
+abbrev pub StepsHaveKinds : Type 0
+StepsHaveKinds = (p : Executable) (x y : Point) → Leads p x y → StepKind p x y
 
 -- a step changes no cell but those into which its effect stores
 abbrev pub StepsKeepTheRest : Type 0

@@ -1,6 +1,8 @@
 pub mod CellLocations
 pub mod ReadCells
 pub mod Effects
+pub mod NextSteps
+pub mod StepKinds
 pub mod SameOutcomes
 pub mod Touching
 pub mod KeptCells

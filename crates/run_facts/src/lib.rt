@@ -21,6 +21,18 @@ pub fn steps_touch_what_vertices_say()
     ensures { law.StepsTouchWhatVerticesSay }
 {}
 
+/// A law: what a program does from a point is what its list does next: it ends, moves on without an act, does an act
+/// of a statement, or calls a function.
+pub fn steps_are_next()
+    ensures { law.StepsAreNext }
+{}
+
+/// A law: a step that leads to a point is a move without an act, an act of a statement, a call that begins, a return
+/// to a caller that stores no result, or one to a caller whose store is done; the point is by that.
+pub fn steps_have_kinds()
+    ensures { law.StepsHaveKinds }
+{}
+
 /// A law: from one point of a run to the next, a cell into which nothing is stored holds what it held, where its block
 /// was there before and is live after; and the input stays, where it isn't taken from.
 pub fn steps_keep_the_rest()

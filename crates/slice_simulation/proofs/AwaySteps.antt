@@ -11,7 +11,8 @@ use Rattle.c_meaning.specs.Meaning.{Trace, told, announced}
 use Rattle.c_meaning.specs.Steps.{Acts, Moves, Waiting, Point, point, waiting, acted, entered, stored_back, step}
 use Rattle.run_facts.specs.KeptCells.{Leads}
 use Rattle.run_facts.specs.CallTouching.{called_below}
-use Rattle.slice_simulation.specs.Places.{Ends, Passes, Does, Calls, next_of, stores, At, Behind, Storing}
+use Rattle.run_facts.specs.NextSteps.{Ends, Passes, Does, Calls, next_of, stores}
+use Rattle.slice_simulation.specs.Places.{At, Behind, Storing}
 use Rattle.slice_simulation.specs.Settings.{Calling, ResultOut, Setting, Reached, seen}
 use Rattle.slice_simulation.specs.Agreeing.{Stack, CallersAgree}
 use Rattle.slice_simulation.specs.Premises.{back, Premises}
@@ -22,7 +23,8 @@ use Rattle.slice_simulation.proofs.SharedCalls.{told_as}
 use Rattle.slice_simulation.proofs.SharedReturns.{want_below}
 use Rattle.slice_simulation.proofs.SharedSteps.{not_so, fails_too, reached_act, reached_move}
 use Rattle.slice_simulation.proofs.Stacks.{WantUnmodified, stack_on, called_through, kept_through}
-use Rattle.slice_simulation.proofs.Steps.{step_of, step_plain, step_stored, announced_plain, announced_stored}
+use Rattle.run_facts.proofs.NextSteps.{step_of, step_plain, step_stored}
+use Rattle.slice_simulation.proofs.Targets.{announced_plain, announced_stored}
 
 module _ (s : Setting) (h : Premises s) where
   -- ---- the first caller at which the slice stands goes on waiting

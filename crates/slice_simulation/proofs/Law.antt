@@ -6,7 +6,7 @@ use Rattle.c_meaning.specs.Activations.{types_in, called, received}
 use Rattle.c_meaning.specs.Acts.{made}
 use Rattle.c_meaning.specs.Meaning.{Trace, Answer, Ended}
 use Rattle.c_meaning.specs.Steps.{Step, Stops, Acts, Moves, Runs, stop, fail, fail_none, act_none, act, move, broken, Reaches, here, by_act, by_move, Waiting, Point, step, machine, beginning}
-use Rattle.slice_simulation.specs.Places.{Next, Ends, Passes, Does, Calls, next_of, next_id, stores}
+use Rattle.run_facts.specs.NextSteps.{Next, Ends, Passes, Does, Calls, next_of, next_id, stores}
 use Rattle.slice_simulation.specs.Settings.{Setting, Reached, kept_next}
 use Rattle.slice_simulation.specs.Agreeing.{Agree, Agreeing}
 use Rattle.slice_simulation.specs.Premises.{back, Premises}
@@ -17,7 +17,7 @@ use Rattle.slice_simulation.proofs.Following.{Away, Related, Replied}
 use Rattle.slice_simulation.proofs.SharedCalls.{call_shared}
 use Rattle.slice_simulation.proofs.SharedReturns.{main_ends, return_plain, return_stored}
 use Rattle.slice_simulation.proofs.SharedSteps.{act_shared, move_shared}
-use Rattle.slice_simulation.proofs.Steps.{step_of, step_back, step_plain, step_stored}
+use Rattle.run_facts.proofs.NextSteps.{step_of, step_back, step_plain, step_stored}
 
 module _ (s : Setting) (h : Premises s) where
   -- the reply to what the original's step is equal to

@@ -1,4 +1,4 @@
-pub mod Steps
+pub mod Targets
 pub mod Events
 pub mod Stacks
 pub mod Following

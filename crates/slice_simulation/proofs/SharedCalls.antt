@@ -10,7 +10,8 @@ use Rattle.c_meaning.specs.Acts.{shows}
 use Rattle.c_meaning.specs.Activations.{code_at, called}
 use Rattle.c_meaning.specs.Meaning.{Trace, told, announced}
 use Rattle.c_meaning.specs.Steps.{Acts, Waiting, Point, point, waiting, entered, step}
-use Rattle.slice_simulation.specs.Places.{Next, Calls, next_of, next_id, stores, kept_target, At}
+use Rattle.run_facts.specs.NextSteps.{Next, Calls, next_of, next_id, stores}
+use Rattle.slice_simulation.specs.Places.{kept_target, At}
 use Rattle.slice_simulation.specs.Settings.{Calling, ResultOut, Setting, kept_next}
 use Rattle.slice_simulation.specs.Agreeing.{Agree}
 use Rattle.slice_simulation.specs.Premises.{Entered, Premises}
@@ -19,7 +20,8 @@ use Rattle.slice_simulation.proofs.Events.{both_tell, one_tells, other_tells}
 use Rattle.slice_simulation.proofs.Following.{Replied}
 use Rattle.slice_simulation.proofs.SharedSteps.{fails_too, reached_act, there_act, not_shared, want_unmodified, stack_alone}
 use Rattle.slice_simulation.proofs.Stacks.{stack_on, kept_calls}
-use Rattle.slice_simulation.proofs.Steps.{step_of, announced_plain, announced_stored, kept_stores, dropped_stores, plain_stores}
+use Rattle.run_facts.proofs.NextSteps.{step_of}
+use Rattle.slice_simulation.proofs.Targets.{announced_plain, announced_stored, kept_stores, dropped_stores, plain_stores}
 
 -- traces that are equal to others
 pub told_as : (s : Setting) (t t1 u u1 : Trace) → t ≡ t1 → u ≡ u1 → SameAt s t1.events u1.events → SameAt s t.events u.events

@@ -6,7 +6,8 @@ use Rattle.c_meaning.specs.Acts.{Made, after}
 use Rattle.c_meaning.specs.Activations.{types_in, received}
 use Rattle.c_meaning.specs.Meaning.{told}
 use Rattle.c_meaning.specs.Steps.{Stops, Moves, Waiting, Point, point, stored_back, step}
-use Rattle.slice_simulation.specs.Places.{Ends, next_of, stores, Storing}
+use Rattle.run_facts.specs.NextSteps.{Ends, next_of, stores}
+use Rattle.slice_simulation.specs.Places.{Storing}
 use Rattle.slice_simulation.specs.Settings.{ResultOut, Setting, Reached}
 use Rattle.slice_simulation.specs.Agreeing.{Stack, Agree}
 use Rattle.slice_simulation.specs.Premises.{back, back_there, Premises}
@@ -15,7 +16,8 @@ use Rattle.slice_simulation.proofs.Events.{both_tell, one_tells}
 use Rattle.slice_simulation.proofs.Following.{Replied}
 use Rattle.slice_simulation.proofs.SharedSteps.{fails_too, reached_move, there_move, stack_together}
 use Rattle.slice_simulation.proofs.Stacks.{WantUnmodified, stack_on, Headed, head_of, none_waits}
-use Rattle.slice_simulation.proofs.Steps.{step_back, step_plain, step_stored, kept_stores, dropped_stores, plain_stores}
+use Rattle.run_facts.proofs.NextSteps.{step_back, step_plain, step_stored}
+use Rattle.slice_simulation.proofs.Targets.{kept_stores, dropped_stores, plain_stores}
 
 module _ (s : Setting) (h : Premises s) where
   -- of the callers that wait below the first

@@ -9,7 +9,7 @@ use Rattle.c_meaning.specs.Activations.{types_in}
 use Rattle.c_meaning.specs.Meaning.{told}
 use Rattle.c_meaning.specs.Steps.{Acts, Moves, Waiting, Point, point, acted, step, machine, beginning}
 use Rattle.run_facts.specs.KeptCells.{Leads}
-use Rattle.slice_simulation.specs.Places.{Next, Passes, Does, next_of, next_id}
+use Rattle.run_facts.specs.NextSteps.{Next, Passes, Does, next_of, next_id}
 use Rattle.slice_simulation.specs.Settings.{Statement, Setting, Reached, ReachedThere, seen, kept_next}
 use Rattle.slice_simulation.specs.Agreeing.{Stack, Agree, Together}
 use Rattle.slice_simulation.specs.Premises.{Premises}
@@ -17,7 +17,7 @@ use Rattle.slice_simulation.specs.Abreast.{IsShared, SameAt}
 use Rattle.slice_simulation.proofs.Events.{both_tell, one_tells}
 use Rattle.slice_simulation.proofs.Following.{Replied}
 use Rattle.slice_simulation.proofs.Stacks.{WantUnmodified, stack_on, kept_calls}
-use Rattle.slice_simulation.proofs.Steps.{step_of, reach_act, reach_move}
+use Rattle.run_facts.proofs.NextSteps.{step_of, reach_act, reach_move}
 
 pub not_so : (b : Bool) → (b ≡ true → ⊥) → b ≡ false
 not_so true f = absurd (f refl)

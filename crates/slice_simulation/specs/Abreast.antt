@@ -4,7 +4,7 @@ use Rattle.std.specs.Prelude.{◌≡◌, ℕ, List, [], ◌∷◌, map, true, op
 use Rattle.c_meaning.specs.declared.event.Event.{Event}
 use Rattle.c_meaning.specs.Meaning.{Trace, Ended, at}
 use Rattle.c_meaning.specs.Steps.{Stops, Acts, Moves, Runs, Waiting, Point, step, machine, beginning}
-use Rattle.slice_simulation.specs.Places.{next_of, next_id}
+use Rattle.run_facts.specs.NextSteps.{next_of, next_id}
 use Rattle.slice_simulation.specs.Settings.{Calling, Setting, Reached, kept_next}
 use Rattle.slice_simulation.specs.Agreeing.{Agreeing}
 

@@ -1,14 +1,7 @@
--- The laws: steps by what a list does next, and a slice follows its original.
-use Rattle.std.specs.Prelude.{◌≡◌, ℕ, Bool}
-use Rattle.c_meaning.specs.Activations.{Executable}
-use Rattle.c_meaning.specs.Steps.{Point, step}
+-- The law: a slice follows its original.
+use Rattle.std.specs.Prelude.{ℕ, Bool}
 use Rattle.slice_simulation.specs.Abreast.{SliceFollows}
-use Rattle.slice_simulation.specs.Places.{next_of, step_by}
 use Rattle.slice_simulation.specs.Slicings.{Slicing, by_rules, Sliced}
-
--- what a program does from a point is what its list does next
-abbrev pub StepsAreNext : Type 0
-StepsAreNext = (p : Executable) (x : Point) → step p x ≡ step_by p x.function (next_of x.rest) x.state x.callers x.trace
 
 -- where the premises hold, the slice does the shared acts of its original in their order, up to each point of a run, and ends within as
 -- many acts, with the same values at the criterion; before each shared act and at the end blocks stand for blocks, and what is wanted is alike

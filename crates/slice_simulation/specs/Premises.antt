@@ -9,7 +9,8 @@ use Rattle.c_meaning.specs.Activations.{code_at, types_in, opening, called, resu
 use Rattle.c_meaning.specs.Steps.{Waiting, Point}
 use Rattle.run_facts.specs.KeptCells.{Leads}
 use Rattle.run_facts.specs.CallTouching.{called_below}
-use Rattle.slice_simulation.specs.Places.{Ends, Passes, Does, Calls, next_of, stores, kept_target, At, Behind, Storing}
+use Rattle.run_facts.specs.NextSteps.{Ends, Passes, Does, Calls, next_of, stores}
+use Rattle.slice_simulation.specs.Places.{kept_target, At, Behind, Storing}
 use Rattle.slice_simulation.specs.Settings.{Statement, FormalIn, FormalOut, Calling, ActualIn, ActualOut, ResultOut, Setting, Reached, ReachedThere, seen, seen_from, ShowSame}
 use Rattle.slice_simulation.specs.Agreeing.{Agree, CallersAgree, Together}
 

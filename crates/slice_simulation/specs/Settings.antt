@@ -7,7 +7,8 @@ use Rattle.c_meaning.specs.Values.{State, shown_of}
 use Rattle.c_meaning.specs.Acts.{Made}
 use Rattle.c_meaning.specs.Activations.{Executable}
 use Rattle.c_meaning.specs.Steps.{Reaches, Waiting, Point, machine, beginning}
-use Rattle.slice_simulation.specs.Places.{Next, Ends, Passes, Does, Calls, Position}
+use Rattle.run_facts.specs.NextSteps.{Next, Ends, Passes, Does, Calls}
+use Rattle.slice_simulation.specs.Places.{Position}
 
 -- the vertices of which the law speaks, over locations L: of a statement that isn't a call; the formal-in and the formal-out of a
 -- location of a function, which for its result is that of what it returns; and of a call of a callee by a statement of a function its

@@ -8,7 +8,8 @@ use Rattle.c_meaning.specs.Acts.{Made}
 use Rattle.c_meaning.specs.Activations.{Executable}
 use Rattle.dep_model.specs.declared.location.Location.{Location}
 use Rattle.dep_model.specs.DoingEffects.{result_of}
-use Rattle.slice_simulation.specs.Places.{Ends, Passes, Does, Calls, next_of, stores, Position, At, Behind, Storing}
+use Rattle.run_facts.specs.NextSteps.{Ends, Passes, Does, Calls, next_of, stores}
+use Rattle.slice_simulation.specs.Places.{Position, At, Behind, Storing}
 use Rattle.slice_simulation.specs.Premises.{Projected, Closing, Staying, Acting, Moving, Entering, Returning, Telling, Beginning}
 use Rattle.slice_simulation.specs.Renaming.{World, Grows, Names, BlocksStand, FramesStand, AlikeAt}
 use Rattle.slice_simulation.specs.Settings.{Vertex, Statement, FormalOut, Calling, ActualIn, ResultOut, Setting}

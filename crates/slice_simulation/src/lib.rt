@@ -1,17 +1,11 @@
 //! A slice follows its original through calls: a law over what acts may use, define and kill, which looks at no form of
 //! statement (Horwitz, Reps and Binkley 1990; Binkley 1993).
 //!
-//! The functions are laws, and hold no code: their contracts are the laws, over the definitions of `specs/`. The law in
-//! its general form, for any locations, worlds and relation of what is wanted, is `slice_follows` of `proofs/Law.antt`.
+//! The function is a law, and holds no code: its contract is the law, over the definitions of `specs/`. The law in its
+//! general form, for any locations, worlds and relation of what is wanted, is `slice_follows` of `proofs/Law.antt`.
 #![tactic(auto)]
 
 ghost use Rattle.slice_simulation.specs.Laws as law;
-
-/// A law: what a program does from a point is what its list does next: it ends, moves on without an act, does an act
-/// of a statement, or calls a function.
-pub fn steps_are_next()
-    ensures { law.StepsAreNext }
-{}
 
 /// A law: where the premises hold, the slice does the acts that it shares with its original, in the same order, on each
 /// run up to each of its points; and where that ends it ends, in no more acts, with the same values at the criterion.

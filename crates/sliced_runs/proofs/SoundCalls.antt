@@ -15,7 +15,7 @@ use Rattle.dep_model.proofs.Membership.{IsIn, contains_of_in, in_of_contains}
 use Rattle.numbered_texts.proofs.ListedEffects.{effects_listed}
 use Rattle.numbered_texts.proofs.NumbersButLines.{statements_numbered, named_exist}
 use Rattle.shaped_graphs.proofs.ShapedGraphs.{fit_of}
-use Rattle.slice_simulation.specs.Places.{stores}
+use Rattle.run_facts.specs.NextSteps.{stores}
 use Rattle.wanted_locations.specs.Chained.{HasSoundCalls}
 
 stored_somewhere : (to : Target) → stores to ≡ true → to ≢ target.None

@@ -102,8 +102,8 @@ module _ (p : Program) where
   ends_well n x a (fail is) sound = rw is at (step_well x sound)
   ends_well n x a (fail_none is) sound = tt
   ends_well n x a (act_none is) sound = tt
-  ends_well n x a (act {n = m} {t = y} is r) sound = ends_well m y a r (rw is at (sound_step e Done (bodies p) x sound))
-  ends_well n x a (move {t = y} is r) sound = ends_well n y a r (rw is at (sound_step e Done (bodies p) x sound))
+  ends_well n x a (act {n = m} {t = y} is r) sound = ends_well m y a r (sound_step e Done (bodies p) x y (inl is) sound)
+  ends_well n x a (move {t = y} is r) sound = ends_well n y a r (sound_step e Done (bodies p) x y (inr is) sound)
   ends_well n x a (broken is) sound = rw is at (step_well x sound)
 
   undefined_number : (n : ℕ) (input : List ℕ) (i : ℕ) (t : Trace) → meaning n p input ≡ Undefined i t → IsNumber i

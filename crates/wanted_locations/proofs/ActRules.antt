@@ -18,7 +18,7 @@ use Rattle.dep_model.specs.Follows.{InTurn}
 use Rattle.dep_model.specs.FunctionVertices.{is_own, is_actual, numbers, vertices_at}
 use Rattle.dep_model.specs.SystemGraph.{Analysis, vertices_of}
 use Rattle.dep_model.proofs.Membership.{IsIn}
-use Rattle.slice_simulation.specs.Places.{Passes, Does, next_of}
+use Rattle.run_facts.specs.NextSteps.{Passes, Does, next_of}
 use Rattle.slice_simulation.specs.Settings.{Statement}
 use Rattle.wanted_locations.specs.Wanted as wanted
 use Rattle.wanted_locations.specs.Wanted.{WantedAt, used, before, IsFlowClosed, IsPlaceOf, last_of, entered_at}

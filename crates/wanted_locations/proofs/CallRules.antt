@@ -23,7 +23,8 @@ use Rattle.dep_model.specs.Locations.{TypedLocation, locations, same_location}
 use Rattle.dep_model.specs.SystemGraph.{Analysis, vertices_of, IsVertex}
 use Rattle.dep_model.specs.VertexOrder.{slots_of, target_slots, doing_at, of_location, slot_places, out_defines, out_kills, kind_uses, kind_defines, kind_kills}
 use Rattle.dep_model.proofs.Membership.{IsIn, in_of_contains, in_map, of_map}
-use Rattle.slice_simulation.specs.Places.{stores, Behind, Storing}
+use Rattle.run_facts.specs.NextSteps.{stores}
+use Rattle.slice_simulation.specs.Places.{Behind, Storing}
 use Rattle.slice_simulation.specs.Settings.{ActualIn, ActualOut, ResultOut}
 use Rattle.wanted_locations.specs.Wanted.{Next, WantedAt, used, before, IsFlowClosed, IsWanted, entered_at, outs_of, results_of, comes_out, defines_at, uses_at, kills_at}
 use Rattle.wanted_locations.specs.KeptVertices.{passes_in, gives_in, keeps_vertex, arguments_use, vertex_uses, vertex_defines, vertex_kills}

@@ -21,7 +21,7 @@ use Rattle.dep_model.specs.ModRef.{FunctionEffects, is_outside}
 use Rattle.dep_model.specs.SystemGraph.{Analysis, IsAnalysis, vertices_of, AreSystemEdges, IsVertex}
 use Rattle.dep_model.specs.VertexOrder.{in_function, target_slots, function_kinds, vertices_from, doing_at, kind_defines}
 use Rattle.dep_model.proofs.Membership.{IsIn, in_of_get, contains_of_in, in_either, of_map}
-use Rattle.slice_simulation.specs.Places.{stores}
+use Rattle.run_facts.specs.NextSteps.{stores}
 use Rattle.slice_simulation.specs.Premises.{Closing}
 use Rattle.slice_simulation.specs.Settings.{ActualOut, ResultOut, Setting}
 use Rattle.wanted_locations.specs.Chained.{Counterpart, chained, HasSoundCalls}

@@ -17,7 +17,7 @@ use Rattle.run_facts.specs.CallTouching.{called_below}
 use Rattle.run_facts.specs.Effects.{next_doing}
 use Rattle.run_facts.proofs.Points.{Waits, AreWaiting, IsSound, sound_run}
 use Rattle.run_facts.proofs.Statements.{bodies, next_member}
-use Rattle.slice_simulation.specs.Places.{Next, Ends, Passes, Does, Calls, next_of}
+use Rattle.run_facts.specs.NextSteps.{Next, Ends, Passes, Does, Calls, next_of}
 use Rattle.slice_simulation.specs.Premises.{Wanting}
 use Rattle.slice_simulation.specs.Settings.{Setting, Reached}
 use Rattle.wanted_locations.specs.Chained.{Counterpart, chained, HasSoundCalls}

@@ -12,7 +12,7 @@ use Rattle.dep_model.specs.ModRef.{is_outside}
 use Rattle.dep_model.specs.SystemGraph.{Analysis, vertices_of}
 use Rattle.dep_model.specs.VertexOrder.{kind_uses, kind_defines, kind_kills}
 use Rattle.dep_model.proofs.Membership.{IsIn, in_second, in_either}
-use Rattle.slice_simulation.specs.Places.{Ends, next_of}
+use Rattle.run_facts.specs.NextSteps.{Ends, next_of}
 use Rattle.slice_simulation.specs.Settings.{FormalIn, FormalOut}
 use Rattle.wanted_locations.specs.Wanted.{WantedAt, IsFlowClosed, last_of, entered_at}
 use Rattle.wanted_locations.specs.KeptVertices.{takes_location, takes_argument, takes_in, keeps_vertex, takes}

@@ -4,7 +4,7 @@ use Rattle.c_language.specs.Code.{Tests, Code, End, Opens, Plain, Fork, Loop, Le
 use Rattle.c_meaning.specs.Acts.{Made, picked}
 use Rattle.dep_model.specs.Follows.{enters, InTurn, VerticesAt, start, Follows}
 use Rattle.dep_model.proofs.FollowsLemmas.{start-seq, Follows-seq}
-use Rattle.slice_simulation.specs.Places.{Next, Ends, Passes, Does, Calls, next_of}
+use Rattle.run_facts.specs.NextSteps.{Next, Ends, Passes, Does, Calls, next_of}
 
 module _ (at : VerticesAt ℕ) (k : Option ℕ) where
   -- the pairs of one list are pairs of another

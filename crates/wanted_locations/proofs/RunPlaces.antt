@@ -5,23 +5,18 @@ use Rattle.std.specs.Option.{option_map_or}
 use Rattle.std.proofs.lemmas.Option.{slice_get-map}
 use Rattle.c_tree.specs.declared.program.Function.{Function}
 use Rattle.c_tree.specs.declared.program.Program.{Program}
-use Rattle.c_tree.specs.declared.statement.Target.{Target}
-use Rattle.c_tree.specs.declared.statement.Target.TheVariants as target
 use Rattle.c_language.specs.Code.{Code, End, code}
-use Rattle.c_meaning.specs.declared.value.Value.{Value}
-use Rattle.c_meaning.specs.Values.{State}
-use Rattle.c_meaning.specs.Acts.{Made, made}
-use Rattle.c_meaning.specs.Activations.{Routine, executable, routine_of, code_at, types_in, called, resumed, received}
-use Rattle.c_meaning.specs.Meaning.{Trace}
-use Rattle.c_meaning.specs.Steps.{Step, Stops, Fails, Acts, Moves, Breaks, Reaches, here, by_act, by_move, Waiting, Point, waiting, acted, entered, stored_back, went_back, returned_to, step, machine, beginning}
+use Rattle.c_meaning.specs.Activations.{Routine, executable, routine_of, code_at}
+use Rattle.c_meaning.specs.Steps.{Reaches, Waiting, Point, machine, beginning}
 use Rattle.dep_model.specs.Follows.{InTurn, Follows}
 use Rattle.dep_model.specs.FunctionVertices.{vertices_at, code_in}
 use Rattle.dep_model.specs.SystemGraph.{Analysis, vertices_of}
-use Rattle.slice_simulation.specs.Places.{Next, Ends, Passes, Does, Calls, next_of, step_by}
-use Rattle.slice_simulation.proofs.Steps.{steps_are_next}
+use Rattle.run_facts.specs.NextSteps.{Next, next_of}
+use Rattle.run_facts.specs.StepKinds.{BeginsCall, called_to}
+use Rattle.run_facts.proofs.StepKinds.{IsKept, kept_run}
 use Rattle.wanted_locations.specs.Wanted as wanted
 use Rattle.wanted_locations.specs.Wanted.{IsPlaceOf, last_of, entered_at}
-use Rattle.wanted_locations.proofs.NextPlaces.{next_there}
+use Rattle.wanted_locations.proofs.NextPlaces.{IsThere, next_there}
 
 module _ (p : Program) (a : Analysis) where
   -- a caller waits where the pairs of its call, and of what it does after it, are pairs of its function
@@ -56,61 +51,36 @@ module _ (p : Program) (a : Analysis) where
 
   -- ---- steps
 
-  abbrev StandsAfter : Step Point → Type 0
-  StandsAfter Stops = Unit {0}
-  StandsAfter (Fails i) = Unit {0}
-  StandsAfter (Acts x) = Stands x
-  StandsAfter (Moves x) = Stands x
-  StandsAfter (Breaks i) = Unit {0}
+  abbrev NothingMore : Point → Type 0
+  NothingMore x = Unit {0}
 
-  act_stands : (f i : ℕ) (go : Made → Code) (s : State) (ws : List Waiting) (t : Trace) (o : Option Made) → ((m : Made) → IsPlaceOf p a f (go m)) → AllWait ws → StandsAfter (acted f i go s ws t o)
-  act_stands f i go s ws t None places all = tt
-  act_stands f i go s ws t (Some m) places all = record { place = places m; callers = all }
+  there : (x : Point) (n : Next) → next_of x.rest ≡ n → IsThere (vertices_at (vertices_of p a) x.function) (last_of p a x.function) x.rest n
+  there x n e = next_there (vertices_at (vertices_of p a) x.function) (last_of p a x.function) x.rest n e
 
-  call_stands : (i : ℕ) (to : Target) (g : ℕ) (w : Waiting) (ws : List Waiting) (t : Trace) (o : Option State) → WaitsThere w → AllWait ws → StandsAfter (entered i to g (code_at (executable p) g) w ws t o)
-  call_stands i to g w ws t None waits all = tt
-  call_stands i to g w ws t (Some c) waits all = record { place = body_place g; callers = (waits, all) }
+  back : (x : Point) (w : Waiting) (ws : List Waiting) → x.callers ≡ w ∷ ws → Stands x → WaitsThere w × AllWait ws
+  back x w ws are h = subst AllWait are h.callers
 
-  store_stands : (w : Waiting) (s : State) (ws : List Waiting) (t : Trace) (o : Option Made) → WaitsThere w → AllWait ws → StandsAfter (stored_back w s ws t o)
-  store_stands w s ws t None waits all = tt
-  store_stands w s ws t (Some m) waits all = record { place = waits.pairs; callers = all }
+  call_stands : (x : Point) (k : BeginsCall (executable p) x) → NothingMore x → Stands x → Stands (called_to (executable p) x k)
+  call_stands x k more h =
+      let next = there x _ k.next_is in
+      record {
+        place = body_place k.function;
+        callers = (record { turns = λ v w q. h.place v w (next.turns v w q); pairs = λ v w q. h.place v w (next.pairs v w q) }, h.callers);
+      }
 
-  back_stands : (to : Target) (w : Waiting) (v : Option Value) (s : State) (ws : List Waiting) (t : Trace) → WaitsThere w → AllWait ws → StandsAfter (went_back (executable p) to w v s ws t)
-  back_stands target.None w v s ws t waits all = record { place = waits.pairs; callers = all }
-  back_stands (target.Place e) w v s ws t waits all = store_stands w s ws t (received (types_in (executable p) w.function) (target.Place e) v s) waits all
-  back_stands (target.Declared x) w v s ws t waits all = store_stands w s ws t (received (types_in (executable p) w.function) (target.Declared x) v s) waits all
-
-  return_stands : (g : ℕ) (s : State) (ws : List Waiting) (t : Trace) → AllWait ws → StandsAfter (returned_to (executable p) g s ws t)
-  return_stands g s [] t all = tt
-  return_stands g s (w ∷ ws) t all = back_stands w.target w s.returned (resumed (executable p) g w.frame w.returned s) ws t all.0 all.1
-
-  by_next : (x : Point) → Stands x → (k : Next) → next_of x.rest ≡ k → StandsAfter (step_by (executable p) x.function k x.state x.callers x.trace)
-  by_next x h Ends e = return_stands x.function x.state x.callers x.trace h.callers
-  by_next x h (Passes change r) e =
-      let there = next_there (vertices_at (vertices_of p a) x.function) (last_of p a x.function) x.rest (Passes change r) e in
-      record { place = λ v w q. h.place v w (there.pairs v w q); callers = h.callers }
-  by_next x h (Does i act go) e =
-      let there = next_there (vertices_at (vertices_of p a) x.function) (last_of p a x.function) x.rest (Does i act go) e in
-      act_stands x.function i go x.state x.callers x.trace (made (types_in (executable p) x.function) act x.state) (λ m v w q. h.place v w (there.pairs m v w q)) h.callers
-  by_next x h (Calls i to g args r) e =
-      let there = next_there (vertices_at (vertices_of p a) x.function) (last_of p a x.function) x.rest (Calls i to g args r) e in
-      call_stands i to g (waiting i to x.function r x.state) x.callers x.trace (called (executable p) x.function g args x.state) (record {
-        turns = λ v w q. h.place v w (there.turns v w q);
-        pairs = λ v w q. h.place v w (there.pairs v w q);
-      }) h.callers
-
-  stands_step : (x : Point) → Stands x → StandsAfter (step (executable p) x)
-  stands_step x h = subst StandsAfter (sym (steps_are_next (executable p) x)) (by_next x h (next_of x.rest) refl)
-
-  stands_on : (x y : Point) → Reaches (machine (executable p)) x y → Stands x → Stands y
-  stands_on x y here h = h
-  stands_on x y (by_act {t = z} is r) h = stands_on z y r (subst StandsAfter is (stands_step x h))
-  stands_on x y (by_move {t = z} is r) h = stands_on z y r (subst StandsAfter is (stands_step x h))
+  stands_kept : IsKept (executable p) NothingMore Stands
+  stands_kept = record {
+    moves = λ x k more h. record { place = λ v w q. h.place v w ((there x _ k.next_is).pairs v w q); callers = h.callers };
+    acts = λ x k more h. record { place = λ v w q. h.place v w ((there x _ k.next_is).pairs k.value v w q); callers = h.callers };
+    begins = call_stands;
+    returns = λ x k more h. let b = back x k.caller k.others k.callers_are h in record { place = b.0.pairs; callers = b.1 };
+    stores_result = λ x k more h. let b = back x k.caller k.others k.callers_are h in record { place = b.0.pairs; callers = b.1 };
+  }
 
   -- so it is at each point of a run
   pub stands_run : (input : List ℕ) (x : Point) → Reaches (machine (executable p)) (beginning (executable p) input) x → Stands x
   stands_run input x r =
-      stands_on (beginning (executable p) input) x r (record { place = body_place (executable p).main; callers = tt })
+      kept_run (executable p) NothingMore Stands stands_kept (beginning (executable p) input) (λ y before. tt) x r (record { place = body_place (executable p).main; callers = tt })
 
   -- ---- of the callers that wait
 

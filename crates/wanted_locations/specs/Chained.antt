@@ -13,7 +13,7 @@ use Rattle.dep_model.specs.ListedLocations.{IsListed}
 use Rattle.dep_model.specs.ModRef.{is_outside}
 use Rattle.dep_model.specs.SystemGraph.{Analysis}
 use Rattle.dep_model.specs.VertexOrder.{result_slots}
-use Rattle.slice_simulation.specs.Places.{stores}
+use Rattle.run_facts.specs.NextSteps.{stores}
 use Rattle.slice_simulation.specs.Renaming.{Names}
 use Rattle.slice_simulation.specs.Settings.{Setting}
 use Rattle.slice_simulation.specs.Slicings.{Slicing, setting_of}

@@ -13,7 +13,8 @@ use Rattle.dep_model.specs.DoingEffects.{result_of}
 use Rattle.dep_model.specs.FunctionVertices.{code_in}
 use Rattle.dep_model.specs.ModRef.{is_outside}
 use Rattle.dep_model.specs.SystemGraph.{Analysis, IsAnalysis, vertices_of, AreSystemEdges}
-use Rattle.slice_simulation.specs.Places.{stores, Behind}
+use Rattle.run_facts.specs.NextSteps.{stores}
+use Rattle.slice_simulation.specs.Places.{Behind}
 use Rattle.slice_simulation.specs.Premises.{Wanting, Closing}
 use Rattle.slice_simulation.specs.Settings.{FormalIn, FormalOut, Calling, ActualIn, ActualOut, ResultOut}
 use Rattle.wanted_locations.specs.Wanted.{defines_at, Next, WantedAt, IsFlowClosed, entered_at, IsWanted}

@@ -1,16 +1,15 @@
--- A step by what a list does next; points that more steps reach.
-use Rattle.std.proofs.Common.{◌≡◌, ℕ, List, [], ◌∷◌, Option, Bool, true, false, refl, ap, ◌∙◌}
+-- A step by what a list does next; points that one more step reaches.
+use Rattle.std.proofs.Common.{◌≡◌, ℕ, List, ◌∷◌, Option, true, false, refl, ap, ◌∙◌}
 use Rattle.c_tree.specs.declared.statement.Target.{Target}
 use Rattle.c_tree.specs.declared.statement.Target.TheVariants as target
 use Rattle.c_language.specs.Code.{Code, End, Opens, Plain, Fork, Loop, Leaves, Call}
 use Rattle.c_meaning.specs.declared.value.Value.{Value}
 use Rattle.c_meaning.specs.Values.{State}
-use Rattle.c_meaning.specs.Acts.{shows}
 use Rattle.c_meaning.specs.Activations.{Executable, types_in, resumed, received}
-use Rattle.c_meaning.specs.Meaning.{Trace, told, announced}
+use Rattle.c_meaning.specs.Meaning.{Trace}
 use Rattle.c_meaning.specs.Steps.{Acts, Moves, Machine, Reaches, here, by_act, by_move, Waiting, Point, point, stored_back, went_back, returned_to, step_at, step}
-use Rattle.slice_simulation.specs.Places.{Next, Ends, next_of, step_by, stores, kept_target}
-use Rattle.slice_simulation.specs.Laws.{StepsAreNext}
+use Rattle.run_facts.specs.Laws.{StepsAreNext}
+use Rattle.run_facts.specs.NextSteps.{Next, Ends, next_of, step_by, stores}
 
 -- ---- a step
 
@@ -54,32 +53,6 @@ step_plain p x a ws e c h =
 pub step_stored : (p : Executable) (x : Point) (a : Waiting) (ws : List Waiting) → next_of x.rest ≡ Ends → x.callers ≡ a ∷ ws → stores a.target ≡ true → step p x ≡ stored_back a (resumed p x.function a.frame a.returned x.state) ws x.trace (received (types_in p a.function) a.target x.state.returned (resumed p x.function a.frame a.returned x.state))
 step_stored p x a ws e c h =
     step_back p x (a ∷ ws) e c ∙ back_stored p a.target a x.state.returned (resumed p x.function a.frame a.returned x.state) ws x.trace h
-
--- ---- what a call tells when it begins
-
-pub announced_plain : (i : ℕ) (to : Target) (t : Trace) → stores to ≡ false → announced i to t ≡ told i (shows [] []) t
-announced_plain i target.None t e = refl
-announced_plain i (target.Place l) t e = cc
-announced_plain i (target.Declared x) t e = cc
-
-pub announced_stored : (i : ℕ) (to : Target) (t : Trace) → stores to ≡ true → announced i to t ≡ t
-announced_stored i target.None t e = cc
-announced_stored i (target.Place l) t e = refl
-announced_stored i (target.Declared x) t e = refl
-
--- ---- targets
-
-pub kept_stores : (b : Bool) (to : Target) → b ≡ true → stores (kept_target b to) ≡ stores to
-kept_stores true to e = refl
-kept_stores false to e = cc
-
-pub dropped_stores : (b : Bool) (to : Target) → b ≡ false → stores (kept_target b to) ≡ false
-dropped_stores true to e = cc
-dropped_stores false to e = refl
-
-pub plain_stores : (b : Bool) (to : Target) → stores to ≡ false → stores (kept_target b to) ≡ false
-plain_stores true to e = e
-plain_stores false to e = refl
 
 -- ---- one step more
 
