@@ -1,5 +1,5 @@
 -- The criteria of lines, one after another, and what their texts are.
-use Rattle.std.proofs.Common.{◌≡◌, inl, inr, ℕ, ◌+◌, ◌<◌, ◌≤◌, List, [], ◌∷◌, ◌++◌, length, take, zero, suc, refl, sym, ap, ap₂, ◌∙◌, subst, arith, add-one, slice_index_or}
+use Rattle.std.proofs.Common.{◌≡◌, inl, inr, ℕ, ◌+◌, ◌<◌, ◌≤◌, List, [], ◌∷◌, ◌++◌, length, take, refl, sym, ap, ap₂, ◌∙◌, subst, arith, add-one, slice_index_or}
 use Rattle.std.proofs.lemmas.Bool.{cases_lt}
 use Rattle.std.proofs.lemmas.List.{get_or_append_left, get_or_at, length_push, take_all}
 use Rattle.std.proofs.Math.Seq.{take-suc}
@@ -17,7 +17,7 @@ use Rattle.slice_batch.specs.Batch.{AreTexts}
 use Rattle.slicer_top.specs.Criteria.{AreCriteria, AreFound, IsCriteriaFault, StartAt}
 use Rattle.slicer_top.specs.Files.{AreShort, OfFiles}
 use Rattle.slicer_top.specs.Slices.{AreSlices, AreTextsFor, AreWritten, HasGraph, HasStarts, IsFirstWithout, line_at}
-use Rattle.slicer_top.specs.Reports.{IsAmong, IsCause, IsMissing, IsReason}
+use Rattle.slicer_top.specs.Reports.{IsCause, IsMissing, IsReason}
 use Rattle.slicer_top.specs.declared.refusal.Refusal.{Refusal}
 use Rattle.slicer_top.specs.declared.refusal.Refusal.TheVariants.{Unreadable, TooLong, NoInput, LongInput, Lex, Parse, Check, NoStart, Graph, TooMany, UndefinedAct, MoreSteps, NoMemory}
 use Rattle.slicer_top.proofs.Files.{Came, as_files}
@@ -160,29 +160,7 @@ module _ (text input : Bytes) (asked : Asked) (p : Program) (built : HasGraph te
   pub made_written : (texts : List Bytes) → StartAt p (lines_in asked) → AreTextsFor p asked input texts → AreWritten text asked input texts
   made_written texts start are = record { program = p; built = built; few = start.few; starts = start.starts; are = are }
 
--- a line that the text shows to have no statement is one of those that were asked for
-pub reason_among : (text input : Bytes) (asked : Asked) (refusal : Refusal) → IsReason text asked input refusal → IsAmong asked refusal
-reason_among text input asked (NoStart line) (p, built, first) =
-    (first.place, first.within, any_default (lines_in asked) first.place line 0 first.within ∙ sym first.is_line)
-  where
-    any_default : (xs : List ℕ) (k : ℕ) (d e : ℕ) → k < length xs → slice_index_or xs k d ≡ slice_index_or xs k e
-    any_default [] k d e lt = absurd (omega (arith, lt))
-    any_default (x ∷ xs) zero d e lt = refl
-    any_default (x ∷ xs) (suc k) d e lt = any_default xs k d e (omega (arith, lt))
-reason_among text input asked Unreadable reason = absurd reason
-reason_among text input asked TooLong reason = absurd reason
-reason_among text input asked NoInput reason = absurd reason
-reason_among text input asked LongInput reason = absurd reason
-reason_among text input asked (Lex fault) reason = tt
-reason_among text input asked (Parse fault) reason = tt
-reason_among text input asked (Check fault) reason = tt
-reason_among text input asked (Graph name) reason = tt
-reason_among text input asked TooMany reason = tt
-reason_among text input asked (UndefinedAct at statement) reason = tt
-reason_among text input asked MoreSteps reason = tt
-reason_among text input asked NoMemory reason = tt
-
--- and it isn't about a file that couldn't be read
+-- what the text shows isn't about a file that couldn't be read
 pub reason_missing : (told : Told) (text input : Bytes) (asked : Asked) (refusal : Refusal) → IsReason text asked input refusal → IsMissing told asked refusal
 reason_missing told text input asked Unreadable reason = absurd reason
 reason_missing told text input asked TooLong reason = tt

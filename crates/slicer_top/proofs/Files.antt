@@ -5,31 +5,13 @@ use Rattle.edge_io.specs.Contents.{Told, IsAsTold, Lacks, HoldsMoreThan}
 use Rattle.edge_io.specs.Count.{NeverFalls, Rose}
 use Rattle.c_language.specs.Words.{Bytes}
 use Rattle.call_words.specs.Requests.{Asked, file_in, input_of}
-use Rattle.c_lex.specs.declared.fault.LexFault.TheVariants as lex
-use Rattle.c_parse.specs.declared.parse_fault.ParseFault.TheVariants as parse
-use Rattle.c_types.specs.declared.rule_fault.RuleFault.TheVariants as rule
 use Rattle.slicer_top.specs.declared.refusal.Refusal.{Refusal}
 use Rattle.slicer_top.specs.declared.refusal.Refusal.TheVariants.{Unreadable, TooLong, NoInput, LongInput, Lex, Parse, Check, NoStart, Graph, TooMany, UndefinedAct, MoreSteps, NoMemory}
-use Rattle.slicer_top.specs.declared.status.Status.{Status}
 use Rattle.slicer_top.specs.declared.status.Status.TheVariants as status
-use Rattle.slicer_top.specs.Files.{AreFetches, AreFetchesOf, AreShort, HoldsGiven, HoldsText, IsGiven, IsNameOf, IsThere, OfFile, OfFiles, OfGiven, text_made}
+use Rattle.slicer_top.specs.Files.{AreFetches, AreFetchesOf, AreShort, HoldsGiven, HoldsText, IsGiven, IsNameOf, IsThere, OfFiles, OfGiven, text_made}
 use Rattle.slicer_top.specs.Lines.{cannot_read, too_long}
-use Rattle.slicer_top.specs.Reports.{IsReason, IsAmong, IsCause, IsInputFault, IsLong, IsMissing, IsTextFault, IsUnread, status_of, words_of}
+use Rattle.slicer_top.specs.Reports.{IsReason, IsCause, IsInputFault, IsLong, IsMissing, IsTextFault, IsUnread, status_of, words_of}
 use Rattle.slicer_top.proofs.Puts.{rose_later}
-
--- what is told under a name is what stands under it
-pub of_file : (told : Told) (name text : Bytes) (P : Bytes → Type 0) → HoldsText told name text → OfFile told name P → P text
-of_file None name text P holds of = absurd holds
-of_file (Some under) name text P holds of = let of_text : IsSomeAnd (Some text) P = subst (λ found. IsSomeAnd found P) holds of in of_text
-
-some_map : (found : Option Bytes) (P Q : Bytes → Type 0) → ((text : Bytes) → P text → Q text) → IsSomeAnd found P → IsSomeAnd found Q
-some_map None P Q f holds = absurd holds
-some_map (Some text) P Q f holds = f text holds
-
--- what follows from what holds of the file's text holds of it
-pub of_file_map : (told : Told) (name : Bytes) (P Q : Bytes → Type 0) → ((text : Bytes) → P text → Q text) → OfFile told name P → OfFile told name Q
-of_file_map None name P Q f of = tt
-of_file_map (Some under) name P Q f of = some_map (under name) P Q f of
 
 told_some : (told : Told) (name text : Bytes) → HoldsText told name text → IsSome told
 told_some None name text holds = absurd holds
@@ -45,18 +27,19 @@ not_longer (Some under) name text most holds le more =
     let longer : IsSomeAnd (Some text) (λ bytes. most < length bytes) = subst (λ found. IsSomeAnd found (λ bytes. most < length bytes)) holds more in
     absurd (omega (arith, le, longer))
 
--- what stands under a name isn't lacking, and isn't longer than it may be
-pub of_file_lacks : (told : Told) (name : Bytes) (P : Bytes → Type 0) → OfFile told name P → Lacks told name → ⊥
-of_file_lacks None name P of lacks = absurd lacks
-of_file_lacks (Some under) name P of lacks = let none : IsSomeAnd None P = subst (λ found. IsSomeAnd found P) lacks of in absurd none
+-- one text stands under a name
+told_once : (told : Told) (name text other : Bytes) → HoldsText told name text → IsAsTold told name other → other ≡ text
+told_once None name text other holds is = absurd holds
+told_once (Some under) name text other holds is = let e : ◌≡◌ {A = Option Bytes} (Some other) (Some text) = sym is ∙ holds in cc
 
-some_longer : (found : Option Bytes) (most : ℕ) (Q : Bytes → Type 0) → IsSomeAnd found (λ text. (length text ≤ most) × Q text) → IsSomeAnd found (λ text. most < length text) → ⊥
-some_longer None most Q of more = absurd of
-some_longer (Some text) most Q of more = let le = of.0 in absurd (omega (arith, le, more))
+-- what is as it is told isn't lacking, and isn't longer than it may be
+told_lacks : (told : Told) (name text : Bytes) → IsAsTold told name text → Lacks told name → ⊥
+told_lacks None name text is lacks = lacks
+told_lacks (Some under) name text is lacks = not_lacking (Some under) name text is lacks
 
-pub of_file_longer : (told : Told) (name : Bytes) (most : ℕ) (Q : Bytes → Type 0) → OfFile told name (λ text. (length text ≤ most) × Q text) → HoldsMoreThan told name most → ⊥
-of_file_longer None name most Q of more = absurd more
-of_file_longer (Some under) name most Q of more = some_longer (under name) most Q of more
+told_longer : (told : Told) (name text : Bytes) (most : ℕ) → IsAsTold told name text → length text ≤ most → HoldsMoreThan told name most → ⊥
+told_longer None name text most is le more = more
+told_longer (Some under) name text most is le more = not_longer (Some under) name text most is le more
 
 lacks_longer : (told : Told) (name : Bytes) (most : ℕ) → Lacks told name → HoldsMoreThan told name most → ⊥
 lacks_longer None name most lacks more = absurd lacks
@@ -68,30 +51,15 @@ lacks_some (Some under) name lacks = refl
 
 -- ---- a file that may be asked for
 
--- a text that stands under a name is told there
-as_file : (told : Told) (name text : Bytes) (P : Bytes → Type 0) → IsAsTold told name text → P text → OfFile told name P
-as_file None name text P is h = tt
-as_file (Some under) name text P is h = let of_text : IsSomeAnd (Some text) P = h in subst (λ found. IsSomeAnd found P) (sym is) of_text
-
 as_given : (told : Told) (made : Bytes) (name : Option Bytes) (bytes : Bytes) (P : Bytes → Type 0) → IsGiven told made name bytes → P bytes → OfGiven told made name P
-as_given told made None bytes P is h = subst P is h
-as_given told made (Some name) bytes P is h = as_file told name bytes P is h
+as_given told made name bytes P is h = (bytes, is, h)
 
 of_given : (told : Told) (made : Bytes) (name : Option Bytes) (bytes : Bytes) (P : Bytes → Type 0) → HoldsGiven told made name bytes → OfGiven told made name P → P bytes
-of_given told made None bytes P is of = subst P (sym is) of
-of_given told made (Some name) bytes P holds of = of_file told name bytes P holds.0 of
+of_given told made None bytes P holds (other, is, h) = subst P (is ∙ sym holds) h
+of_given told made (Some name) bytes P holds (other, is, h) = subst P (told_once told name bytes other holds.0 is) h
 
 of_given_map : (told : Told) (made : Bytes) (name : Option Bytes) (P Q : Bytes → Type 0) → ((bytes : Bytes) → P bytes → Q bytes) → OfGiven told made name P → OfGiven told made name Q
-of_given_map told made None P Q f of = f made of
-of_given_map told made (Some name) P Q f of = of_file_map told name P Q f of
-
-some_at : (found : Option Bytes) (P : Bytes → Type 0) → IsSomeAnd found P → (text : Bytes) × P text
-some_at None P of = absurd of
-some_at (Some text) P of = (text, of)
-
-given_at : (under : Bytes → Option Bytes) (made : Bytes) (name : Option Bytes) (P : Bytes → Type 0) → OfGiven (Some under) made name P → (bytes : Bytes) × P bytes
-given_at under made None P of = (made, of)
-given_at under made (Some name) P of = some_at (under name) P of
+of_given_map told made name P Q f (bytes, is, h) = (bytes, is, f bytes h)
 
 -- ---- both files
 
@@ -112,56 +80,34 @@ of_files_map told asked P Q f of =
     of_given_map told (text_made asked) (file_in asked) (WithInput told asked P) (WithInput told asked Q) (λ text. of_given_map told [] (input_of asked) (P text) (Q text) (f text)) of
 
 -- the text by its name
-of_name : (told : Told) (asked : Asked) (name : Bytes) (P : Bytes → Bytes → Type 0) → file_in asked ≡ Some name → OfFiles told asked P → OfFile told name (WithInput told asked P)
-of_name told asked name P named of = subst (λ o. OfGiven told (text_made asked) o (WithInput told asked P)) named of
+-- what stands under a name that is asked for
+as_named : (told : Told) (made : Bytes) (asked : Option Bytes) (name bytes : Bytes) → asked ≡ Some name → IsGiven told made asked bytes → IsAsTold told name bytes
+as_named told made asked name bytes named is = subst (λ o. IsGiven told made o bytes) named is
 
 -- what stands under the names isn't lacking, and isn't longer than it may be
 pub of_files_lacks : (told : Told) (asked : Asked) (name : Bytes) (P : Bytes → Bytes → Type 0) → file_in asked ≡ Some name → OfFiles told asked P → Lacks told name → ⊥
-of_files_lacks told asked name P named of lacks = of_file_lacks told name (WithInput told asked P) (of_name told asked name P named of) lacks
+of_files_lacks told asked name P named (text, is, rest) lacks = told_lacks told name text (as_named told (text_made asked) (file_in asked) name text named is) lacks
 
 pub of_files_longer : (told : Told) (asked : Asked) (name : Bytes) (Q : Bytes → Bytes → Type 0) → file_in asked ≡ Some name → OfFiles told asked (λ text input. AreShort text input × Q text input) → HoldsMoreThan told name 1048576 → ⊥
-of_files_longer None asked name Q named of more = absurd more
-of_files_longer (Some under) asked name Q named of more =
-    some_longer (under name) 1048576 (λ text. Unit {0})
-    (some_map (under name) (WithInput (Some under) asked (λ text input. AreShort text input × Q text input)) (λ text. (length text ≤ 1048576) × Unit {0})
-    (λ text with_input. ((given_at under [] (input_of asked) (λ input. AreShort text input × Q text input) with_input).1.0.0, tt))
-    (of_name (Some under) asked name (λ text input. AreShort text input × Q text input) named of))
-    more
-
--- the file with the input is told too
-of_named : (under : Bytes → Option Bytes) (asked : Asked) (name : Bytes) (P : Bytes → Bytes → Type 0) → input_of asked ≡ Some name → OfFiles (Some under) asked P → (text : Bytes) × OfFile (Some under) name (P text)
-of_named under asked name P is of =
-    let here = given_at under (text_made asked) (file_in asked) (WithInput (Some under) asked P) of in
-    (here.0, subst (λ o. OfGiven (Some under) [] o (P here.0)) is here.1)
+of_files_longer told asked name Q named (text, is, (input, input_is, (short, h))) more =
+    told_longer told name text 1048576 (as_named told (text_made asked) (file_in asked) name text named is) short.0 more
 
 pub of_files_lacks_input : (told : Told) (asked : Asked) (name : Bytes) (P : Bytes → Bytes → Type 0) → input_of asked ≡ Some name → OfFiles told asked P → Lacks told name → ⊥
-of_files_lacks_input None asked name P is of lacks = absurd lacks
-of_files_lacks_input (Some under) asked name P is of lacks =
-    let here = of_named under asked name P is of in of_file_lacks (Some under) name (P here.0) here.1 lacks
+of_files_lacks_input told asked name P named (text, text_is, (input, is, h)) lacks = told_lacks told name input (as_named told [] (input_of asked) name input named is) lacks
 
 pub of_files_longer_input : (told : Told) (asked : Asked) (name : Bytes) (Q : Bytes → Bytes → Type 0) → input_of asked ≡ Some name → OfFiles told asked (λ text input. AreShort text input × Q text input) → HoldsMoreThan told name 1048576 → ⊥
-of_files_longer_input None asked name Q is of more = absurd more
-of_files_longer_input (Some under) asked name Q is of more =
-    let here = of_named under asked name (λ text input. AreShort text input × Q text input) is of in
-    some_longer (under name) 1048576 (λ input. Unit {0})
-    (some_map (under name) (λ input. AreShort here.0 input × Q here.0 input) (λ input. (length input ≤ 1048576) × Unit {0}) (λ input h. (h.0.1, tt)) here.1) more
+of_files_longer_input told asked name Q named (text, text_is, (input, is, (short, h))) more =
+    told_longer told name input 1048576 (as_named told [] (input_of asked) name input named is) short.1 more
 
 -- a text that is there
-abbrev IsShort : Bytes → Type 0
-IsShort text = length text ≤ 1048576
-
 pub is_there : (told : Told) (asked : Asked) (text : Bytes) → IsGiven told (text_made asked) (file_in asked) text → length text ≤ 1048576 → IsThere told asked
-is_there told asked text is le = as_given told (text_made asked) (file_in asked) text IsShort is le
-
-there_named : (told : Told) (asked : Asked) (name : Bytes) → file_in asked ≡ Some name → IsThere told asked → OfFile told name IsShort
-there_named told asked name named there = subst (λ o. OfGiven told (text_made asked) o IsShort) named there
+is_there told asked text is le = (text, is, le)
 
 there_lacks : (told : Told) (asked : Asked) (name : Bytes) → file_in asked ≡ Some name → IsThere told asked → Lacks told name → ⊥
-there_lacks told asked name named there lacks = of_file_lacks told name IsShort (there_named told asked name named there) lacks
+there_lacks told asked name named (text, is, le) lacks = told_lacks told name text (as_named told (text_made asked) (file_in asked) name text named is) lacks
 
 there_longer : (told : Told) (asked : Asked) (name : Bytes) → file_in asked ≡ Some name → IsThere told asked → HoldsMoreThan told name 1048576 → ⊥
-there_longer told asked name named there more =
-    of_file_longer told name 1048576 (λ t. Unit {0}) (of_file_map told name IsShort (λ t. (length t ≤ 1048576) × Unit {0}) (λ t le. (le, tt)) (there_named told asked name named there)) more
+there_longer told asked name named (text, is, le) more = told_longer told name text 1048576 (as_named told (text_made asked) (file_in asked) name text named is) le more
 
 -- ---- fetches
 
@@ -203,12 +149,8 @@ module _ (told : Told) (f m f' l n l' : ℕ) (faults : NeverFalls f m) (long_fil
   input_caused asked (UndefinedAct at statement) there fault = absurd fault
   input_caused asked MoreSteps there fault = absurd fault
 
--- a fault of the text is its cause; it is told where a file has the text, and it is lacking, of a shelf that never fails
+-- a fault of the text is its cause, and it is lacking, of a shelf that never fails
 module _ (told : Told) (f f' l l' : ℕ) where
-  some_named : (P : Bytes → Type 0) (o : Option Bytes) → IsSomeAnd o P → IsSome o
-  some_named P None of = absurd of
-  some_named P (Some name) of = refl
-
   pub text_caused : (asked : Asked) (r : Refusal) → IsTextFault told f f' l l' (file_in asked) r → IsCause told asked f f' l l' r
   text_caused asked Unreadable fault = fault
   text_caused asked TooLong fault = fault
@@ -223,21 +165,6 @@ module _ (told : Told) (f f' l l' : ℕ) where
   text_caused asked TooMany fault = absurd fault
   text_caused asked (UndefinedAct at statement) fault = absurd fault
   text_caused asked MoreSteps fault = absurd fault
-
-  pub text_told : (asked : Asked) (r : Refusal) → IsTextFault told f f' l l' (file_in asked) r → IsAmong asked r
-  text_told asked Unreadable fault = some_named (IsUnread told f f' l l') (file_in asked) fault
-  text_told asked TooLong fault = some_named (IsLong told f f' l l') (file_in asked) fault
-  text_told asked NoMemory fault = tt
-  text_told asked NoInput fault = absurd fault
-  text_told asked LongInput fault = absurd fault
-  text_told asked (Lex x) fault = absurd fault
-  text_told asked (Parse x) fault = absurd fault
-  text_told asked (Check x) fault = absurd fault
-  text_told asked (NoStart line) fault = absurd fault
-  text_told asked (Graph name) fault = absurd fault
-  text_told asked TooMany fault = absurd fault
-  text_told asked (UndefinedAct at statement) fault = absurd fault
-  text_told asked MoreSteps fault = absurd fault
 
   pub text_missing : (asked : Asked) (r : Refusal) → IsTextFault told f f' l l' (file_in asked) r → (r ≡ Unreadable → IsSomeAnd (file_in asked) (Lacks told)) → IsMissing told asked r
   text_missing asked Unreadable fault missing = missing refl
@@ -255,21 +182,6 @@ module _ (told : Told) (f f' l l' : ℕ) where
   text_missing asked MoreSteps fault missing = absurd fault
 
   -- likewise of the input
-  pub input_among : (asked : Asked) (r : Refusal) → IsInputFault told f f' l l' (input_of asked) r → IsAmong asked r
-  input_among asked NoInput fault = some_named (IsUnread told f f' l l') (input_of asked) fault
-  input_among asked LongInput fault = some_named (IsLong told f f' l l') (input_of asked) fault
-  input_among asked NoMemory fault = tt
-  input_among asked Unreadable fault = absurd fault
-  input_among asked TooLong fault = absurd fault
-  input_among asked (Lex x) fault = absurd fault
-  input_among asked (Parse x) fault = absurd fault
-  input_among asked (Check x) fault = absurd fault
-  input_among asked (NoStart line) fault = absurd fault
-  input_among asked (Graph name) fault = absurd fault
-  input_among asked TooMany fault = absurd fault
-  input_among asked (UndefinedAct at statement) fault = absurd fault
-  input_among asked MoreSteps fault = absurd fault
-
   pub input_missing : (asked : Asked) (r : Refusal) → IsInputFault told f f' l l' (input_of asked) r → (r ≡ NoInput → IsSomeAnd (input_of asked) (Lacks told)) → IsMissing told asked r
   input_missing asked NoInput fault missing = missing refl
   input_missing asked LongInput fault missing = tt
@@ -308,9 +220,6 @@ module _ (told told' : Told) (same : told' ≡ told) (asked : Asked) (o : Option
   input_refused f m f' l n l' faults long_files text given le r fault =
       input_caused told f m f' l n l' faults long_files asked r (is_there told asked text given le) (fault_as m f' n l' r fault)
 
-  pub refused_among : (f f' l l' : ℕ) (r : Refusal) → IsInputFault told' f f' l l' o r → IsAmong asked r
-  refused_among f f' l l' r fault = input_among told f f' l l' asked r (fault_as f f' l l' r fault)
-
   pub refused_missing : (f f' l l' : ℕ) (r : Refusal) → IsInputFault told' f f' l l' o r → (r ≡ NoInput → IsSomeAnd o (Lacks told')) → IsMissing told asked r
   refused_missing f f' l l' r fault missing =
       input_missing told f f' l l' asked r (fault_as f f' l l' r fault) (λ e. subst (λ t. IsSomeAnd (input_of asked) (Lacks t)) same (subst (λ n. IsSomeAnd n (Lacks told')) is (missing e)))
@@ -340,96 +249,23 @@ module _ (told : Told) (asked : Asked) (f f' l l' : ℕ) where
 
   -- one of them is too long
   abbrev pub NamesLong : Refusal → Type 0
-  NamesLong r = (name : Bytes) × IsNameOf told asked name × (IsSome told → HoldsMoreThan told name 1048576) × (words_of asked r ≡ too_long name)
+  NamesLong r = (name : Bytes) × IsNameOf told asked name × Rose l l' × (IsSome told → HoldsMoreThan told name 1048576) × (words_of asked r ≡ too_long name)
 
-  text_unread : (o : Option Bytes) → file_in asked ≡ o → IsSomeAnd o Unread → NamesUnread Unreadable
+  pub text_unread : (o : Option Bytes) → file_in asked ≡ o → IsSomeAnd o Unread → NamesUnread Unreadable
   text_unread None is of = absurd of
   text_unread (Some name) is of = (name, inl is, of, ap (λ p. cannot_read (unwrap_or p [])) is)
 
-  text_long : (o : Option Bytes) → file_in asked ≡ o → IsSomeAnd o Long → NamesLong TooLong
+  pub text_long : (o : Option Bytes) → file_in asked ≡ o → IsSomeAnd o Long → NamesLong TooLong
   text_long None is of = absurd of
-  text_long (Some name) is of = (name, inl is, of.1, ap (λ p. too_long (unwrap_or p [])) is)
+  text_long (Some name) is of = (name, inl is, of.0, of.1, ap (λ p. too_long (unwrap_or p [])) is)
 
-  named_unread : (o : Option Bytes) → input_of asked ≡ o → IsThere told asked → IsSomeAnd o Unread → NamesUnread NoInput
+  pub named_unread : (o : Option Bytes) → input_of asked ≡ o → IsThere told asked → IsSomeAnd o Unread → NamesUnread NoInput
   named_unread None is there of = absurd of
   named_unread (Some name) is there of = (name, inr (is, there), of, ap (λ p. cannot_read (unwrap_or p [])) is)
 
-  named_long : (o : Option Bytes) → input_of asked ≡ o → IsThere told asked → IsSomeAnd o Long → NamesLong LongInput
+  pub named_long : (o : Option Bytes) → input_of asked ≡ o → IsThere told asked → IsSomeAnd o Long → NamesLong LongInput
   named_long None is there of = absurd of
-  named_long (Some name) is there of = (name, inr (is, there), of.1, ap (λ p. too_long (unwrap_or p [])) is)
-
-  pub read_cause : (r : Refusal) → status_of r ≡ status.ReadFault → IsCause told asked f f' l l' r → NamesUnread r
-  read_cause Unreadable is cause = text_unread (file_in asked) refl cause
-  read_cause TooLong is cause = absurd (let e : status.TooLong ≡ status.ReadFault = is in cc)
-  read_cause NoInput is cause = named_unread (input_of asked) refl cause.0 cause.1
-  read_cause LongInput is cause = absurd (let e : status.TooLong ≡ status.ReadFault = is in cc)
-  read_cause (Lex (lex.BadByte n)) is cause = absurd (let e : status.Refused ≡ status.ReadFault = is in cc)
-  read_cause (Lex (lex.BadNumber n)) is cause = absurd (let e : status.Refused ≡ status.ReadFault = is in cc)
-  read_cause (Lex (lex.OpenComment n)) is cause = absurd (let e : status.Refused ≡ status.ReadFault = is in cc)
-  read_cause (Lex lex.NoMemory) is cause = absurd (let e : status.NoMemory ≡ status.ReadFault = is in cc)
-  read_cause (Parse (parse.LeftOut t n)) is cause = absurd (let e : status.Refused ≡ status.ReadFault = is in cc)
-  read_cause (Parse (parse.Syntax n)) is cause = absurd (let e : status.Refused ≡ status.ReadFault = is in cc)
-  read_cause (Parse (parse.Nesting n)) is cause = absurd (let e : status.Limit ≡ status.ReadFault = is in cc)
-  read_cause (Parse parse.NoMemory) is cause = absurd (let e : status.NoMemory ≡ status.ReadFault = is in cc)
-  read_cause (Check (rule.Rule m n)) is cause = absurd (let e : status.Refused ≡ status.ReadFault = is in cc)
-  read_cause (Check (rule.Limit n)) is cause = absurd (let e : status.Limit ≡ status.ReadFault = is in cc)
-  read_cause (Check rule.NoMemory) is cause = absurd (let e : status.NoMemory ≡ status.ReadFault = is in cc)
-  read_cause (NoStart n) is cause = absurd (let e : status.Refused ≡ status.ReadFault = is in cc)
-  read_cause (Graph n) is cause = absurd (let e : status.Limit ≡ status.ReadFault = is in cc)
-  read_cause TooMany is cause = absurd (let e : status.Limit ≡ status.ReadFault = is in cc)
-  read_cause (UndefinedAct n m) is cause = absurd (let e : status.Undefined ≡ status.ReadFault = is in cc)
-  read_cause MoreSteps is cause = absurd (let e : status.Steps ≡ status.ReadFault = is in cc)
-  read_cause NoMemory is cause = absurd (let e : status.NoMemory ≡ status.ReadFault = is in cc)
-
-  pub long_cause : (r : Refusal) → status_of r ≡ status.TooLong → IsCause told asked f f' l l' r → NamesLong r
-  long_cause Unreadable is cause = absurd (let e : status.ReadFault ≡ status.TooLong = is in cc)
-  long_cause TooLong is cause = text_long (file_in asked) refl cause
-  long_cause NoInput is cause = absurd (let e : status.ReadFault ≡ status.TooLong = is in cc)
-  long_cause LongInput is cause = named_long (input_of asked) refl cause.0 cause.1
-  long_cause (Lex (lex.BadByte n)) is cause = absurd (let e : status.Refused ≡ status.TooLong = is in cc)
-  long_cause (Lex (lex.BadNumber n)) is cause = absurd (let e : status.Refused ≡ status.TooLong = is in cc)
-  long_cause (Lex (lex.OpenComment n)) is cause = absurd (let e : status.Refused ≡ status.TooLong = is in cc)
-  long_cause (Lex lex.NoMemory) is cause = absurd (let e : status.NoMemory ≡ status.TooLong = is in cc)
-  long_cause (Parse (parse.LeftOut t n)) is cause = absurd (let e : status.Refused ≡ status.TooLong = is in cc)
-  long_cause (Parse (parse.Syntax n)) is cause = absurd (let e : status.Refused ≡ status.TooLong = is in cc)
-  long_cause (Parse (parse.Nesting n)) is cause = absurd (let e : status.Limit ≡ status.TooLong = is in cc)
-  long_cause (Parse parse.NoMemory) is cause = absurd (let e : status.NoMemory ≡ status.TooLong = is in cc)
-  long_cause (Check (rule.Rule m n)) is cause = absurd (let e : status.Refused ≡ status.TooLong = is in cc)
-  long_cause (Check (rule.Limit n)) is cause = absurd (let e : status.Limit ≡ status.TooLong = is in cc)
-  long_cause (Check rule.NoMemory) is cause = absurd (let e : status.NoMemory ≡ status.TooLong = is in cc)
-  long_cause (NoStart n) is cause = absurd (let e : status.Refused ≡ status.TooLong = is in cc)
-  long_cause (Graph n) is cause = absurd (let e : status.Limit ≡ status.TooLong = is in cc)
-  long_cause TooMany is cause = absurd (let e : status.Limit ≡ status.TooLong = is in cc)
-  long_cause (UndefinedAct n m) is cause = absurd (let e : status.Undefined ≡ status.TooLong = is in cc)
-  long_cause MoreSteps is cause = absurd (let e : status.Steps ≡ status.TooLong = is in cc)
-  long_cause NoMemory is cause = absurd (let e : status.NoMemory ≡ status.TooLong = is in cc)
-
-  some_rose : (o : Option Bytes) → IsSomeAnd o Long → Rose l l'
-  some_rose None of = absurd of
-  some_rose (Some name) of = of.0
-
-  pub long_rose : (r : Refusal) → status_of r ≡ status.TooLong → IsCause told asked f f' l l' r → Rose l l'
-  long_rose Unreadable is cause = absurd (let e : status.ReadFault ≡ status.TooLong = is in cc)
-  long_rose TooLong is cause = some_rose (file_in asked) cause
-  long_rose NoInput is cause = absurd (let e : status.ReadFault ≡ status.TooLong = is in cc)
-  long_rose LongInput is cause = some_rose (input_of asked) cause.1
-  long_rose (Lex (lex.BadByte n)) is cause = absurd (let e : status.Refused ≡ status.TooLong = is in cc)
-  long_rose (Lex (lex.BadNumber n)) is cause = absurd (let e : status.Refused ≡ status.TooLong = is in cc)
-  long_rose (Lex (lex.OpenComment n)) is cause = absurd (let e : status.Refused ≡ status.TooLong = is in cc)
-  long_rose (Lex lex.NoMemory) is cause = absurd (let e : status.NoMemory ≡ status.TooLong = is in cc)
-  long_rose (Parse (parse.LeftOut t n)) is cause = absurd (let e : status.Refused ≡ status.TooLong = is in cc)
-  long_rose (Parse (parse.Syntax n)) is cause = absurd (let e : status.Refused ≡ status.TooLong = is in cc)
-  long_rose (Parse (parse.Nesting n)) is cause = absurd (let e : status.Limit ≡ status.TooLong = is in cc)
-  long_rose (Parse parse.NoMemory) is cause = absurd (let e : status.NoMemory ≡ status.TooLong = is in cc)
-  long_rose (Check (rule.Rule m n)) is cause = absurd (let e : status.Refused ≡ status.TooLong = is in cc)
-  long_rose (Check (rule.Limit n)) is cause = absurd (let e : status.Limit ≡ status.TooLong = is in cc)
-  long_rose (Check rule.NoMemory) is cause = absurd (let e : status.NoMemory ≡ status.TooLong = is in cc)
-  long_rose (NoStart n) is cause = absurd (let e : status.Refused ≡ status.TooLong = is in cc)
-  long_rose (Graph n) is cause = absurd (let e : status.Limit ≡ status.TooLong = is in cc)
-  long_rose TooMany is cause = absurd (let e : status.Limit ≡ status.TooLong = is in cc)
-  long_rose (UndefinedAct n m) is cause = absurd (let e : status.Undefined ≡ status.TooLong = is in cc)
-  long_rose MoreSteps is cause = absurd (let e : status.Steps ≡ status.TooLong = is in cc)
-  long_rose NoMemory is cause = absurd (let e : status.NoMemory ≡ status.TooLong = is in cc)
+  named_long (Some name) is there of = (name, inr (is, there), of.0, of.1, ap (λ p. too_long (unwrap_or p [])) is)
 
   -- a file that is too long couldn't be read for a fault
   faulty : (name : Bytes) → Unread name → HoldsMoreThan told name 1048576 → Rose f f'

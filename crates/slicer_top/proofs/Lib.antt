@@ -1,7 +1,7 @@
 pub mod Big
 pub mod CriteriaLaws
+pub mod Due
 pub mod Files
-pub mod Lines
 pub mod Making
 pub mod Promised
 pub mod Puts

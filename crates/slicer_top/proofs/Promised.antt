@@ -1,7 +1,7 @@
 -- What a call has promised, by the way that it went.
 use Rattle.std.proofs.Common.{◌≡◌, ◌⊎◌, inl, inr, ℕ, List, refl, sym, ap, subst, ◌∙◌}
-use Rattle.std.specs.Prelude.{Option, None, Some, IsSome, IfSome, unwrap_or, []}
-use Rattle.edge_io.specs.Contents.{Told, Lacks, HoldsMoreThan}
+use Rattle.std.specs.Prelude.{Option, None, Some, IfSome, unwrap_or, []}
+use Rattle.edge_io.specs.Contents.{Told}
 use Rattle.edge_io.specs.Count.{Rose}
 use Rattle.edge_io.specs.Written.{Gains}
 use Rattle.big_programs.specs.Generated.{generated}
@@ -16,22 +16,22 @@ use Rattle.slicer_top.specs.declared.refusal.Refusal.{Refusal}
 use Rattle.slicer_top.specs.declared.refusal.Refusal.TheVariants as refusal
 use Rattle.slicer_top.specs.declared.status.Status.{Status}
 use Rattle.slicer_top.specs.declared.status.Status.TheVariants as status
-use Rattle.slicer_top.specs.Files.{AreFetches, AreShort, IsNameOf, NamesText, OfFiles}
+use Rattle.slicer_top.specs.Due.{IsDue}
+use Rattle.slicer_top.specs.Files.{AreFetches, AreShort, NamesText, OfFiles}
 use Rattle.slicer_top.specs.Lines as lines
-use Rattle.slicer_top.specs.Lines.{PutOrCutOff, Tells}
-use Rattle.slicer_top.specs.Promises.{Outcome, Promises}
-use Rattle.slicer_top.specs.Reports.{IsAmong, IsCause, IsMissing, IsReason, IsReported, PutsLine, status_of, words_of}
+use Rattle.slicer_top.specs.Promises.{CallPromises, Outcome, Promises}
+use Rattle.slicer_top.specs.Reports.{IsCause, IsMissing, IsReason, IsReported, PutsLine, status_of, words_of}
 use Rattle.slicer_top.specs.Runs.{RunEnds}
 use Rattle.slicer_top.specs.Seen.{ShelfSeen, SinkSeen, shelf_seen, sink_seen}
 use Rattle.slicer_top.specs.Slices.{AreWritten, HasStarts}
 use Rattle.slicer_top.specs.Statuses.{IsOrYields}
 use Rattle.slicer_top.specs.Writing.{Wrote}
 use Rattle.slicer_top.proofs.Big.{big_named, big_starts}
-use Rattle.slicer_top.proofs.Files.{fault_or_reason, lacking_input_is, lacking_is, long_cause, long_rose, longer_input_is, longer_is, of_files, of_files_lacks, of_files_lacks_input, of_files_longer, of_files_longer_input, of_files_map, read_cause}
-use Rattle.slicer_top.proofs.Lines.{report_tells, told_tells}
+use Rattle.slicer_top.proofs.Due.{Cause, line_tells, report_tells, tells_long, written_tells}
+use Rattle.slicer_top.proofs.Files.{fault_or_reason, lacking_input_is, lacking_is, longer_input_is, longer_is, of_files, of_files_lacks, of_files_lacks_input, of_files_longer, of_files_longer_input, of_files_map}
 use Rattle.slicer_top.proofs.ReaderLaws.{above_lacks, one_program}
 use Rattle.slicer_top.proofs.Reasons.{ended_more, ended_undefined, made_ends, more_status, refused_for_memory, refused_without_fault, run_reason, undefined_status}
-use Rattle.slicer_top.proofs.Told.{ends, ends_with, is_above, is_refused, limit_true, names_it, refused_true, steps_true, undefined_true}
+use Rattle.slicer_top.proofs.Told.{ends, ends_with, is_above, is_refused, names_it}
 
 -- ---- kinds of statuses
 
@@ -95,21 +95,15 @@ module _ (words : List Bytes) (shelf : ShelfSeen) (out err : SinkSeen) (answer :
     usage = usage;
     other_words = others;
     unasked = λ nf. undone.shelf_stays;
-    read_fault = λ e. absurd (subst IsEarly e is_early);
     lacking = λ name g named lacks. yields status.ReadFault g;
     lacking_input = λ name g there is lacks. yields status.ReadFault g;
     too_long = λ e. absurd (subst IsEarly e is_early);
-    longer = λ e. absurd (subst IsEarly e is_early);
     longer_file = λ name g named more. inl (yields status.TooLong g);
     longer_input = λ name g there is more. inl (yields status.TooLong g);
-    refused = λ e. absurd (subst IsEarly e is_early);
     no_slice = λ text input named below none. inl (inl (yields status.Refused named.in_grammar));
-    limits = λ e. absurd (subst IsEarly e is_early);
     above = λ text input name named above. inl (yields status.Limit named.in_grammar);
     names_limit = λ text input name named above e. absurd (subst IsEarly e is_early);
-    undefined = λ e. absurd (subst IsEarly e is_early);
     undefined_act = λ text input p statement named starts act. inl (yields status.Undefined named.in_grammar);
-    steps = λ e. absurd (subst IsEarly e is_early);
     more_steps = λ text input p named starts more. inl (yields status.Steps named.in_grammar);
     done = λ e. absurd (subst IsEarly e is_early);
     complete = λ text input named starts shelf_calm out_calm err_calm. inr (calm named.in_grammar err_calm);
@@ -129,11 +123,11 @@ module _ (words : List Bytes) (shelf : ShelfSeen) (out err : SinkSeen) (answer :
   usage_promised undone nf (inl put) = record {
     outcome = early undone (subst IsEarly (sym put.0) tt) (λ e. nf) (λ n. inl put.0) (λ wanted g. absurd (nf g)) (λ g. absurd (nf g)) (λ g. absurd (nf g))
         (λ e. absurd (let d : status.Usage ≡ status.WriteFault = sym put.0 ∙ e in cc));
-    tells = told_tells err.faults err.faults' err.written err.written' (asked_of words) _ _ answer lines.of_usage (inl put);
+    tells = line_tells words shelf out err answer status.Usage lines.usage (IsDue.usage nf) (inl put);
   }
   usage_promised undone nf (inr cut) = record {
     outcome = early undone (subst IsEarly (sym cut.0) tt) (λ e. nf) (λ n. inr (inr (cut.0, cut.1.0))) (λ wanted g. absurd (nf g)) (λ g. absurd (nf g)) (λ g. absurd (nf g)) (λ e. cut.1.0);
-    tells = told_tells err.faults err.faults' err.written err.written' (asked_of words) _ _ answer lines.of_usage (inr cut);
+    tells = line_tells words shelf out err answer status.Usage lines.usage (IsDue.usage nf) (inr cut);
   }
 
   pub memory_promised : IsUndone → PutsLine err.faults err.faults' err.written err.written' status.NoMemory lines.out_of_memory answer
@@ -141,12 +135,12 @@ module _ (words : List Bytes) (shelf : ShelfSeen) (out err : SinkSeen) (answer :
   memory_promised undone (inl put) taken = record {
     outcome = early undone (subst IsEarly (sym put.0) tt) (λ e. absurd (let d : status.NoMemory ≡ status.Usage = sym put.0 ∙ e in cc)) (λ n. inr (inl put.0)) (λ wanted g. inr (inl put.0))
         (λ g calm. put.0) (λ g. taken) (λ e. absurd (let d : status.NoMemory ≡ status.WriteFault = sym put.0 ∙ e in cc));
-    tells = told_tells err.faults err.faults' err.written err.written' (asked_of words) _ _ answer lines.of_memory (inl put);
+    tells = line_tells words shelf out err answer status.NoMemory lines.out_of_memory IsDue.no_memory (inl put);
   }
   memory_promised undone (inr cut) taken = record {
     outcome = early undone (subst IsEarly (sym cut.0) tt) (λ e. absurd (let d : status.WriteFault ≡ status.Usage = sym cut.0 ∙ e in cc)) (λ n. inr (inr (cut.0, cut.1.0))) (λ wanted g. inr (inr (cut.0, cut.1.0)))
         (λ g calm. absurd (calm cut.1.0)) (λ g. taken) (λ e. cut.1.0);
-    tells = told_tells err.faults err.faults' err.written err.written' (asked_of words) _ _ answer lines.of_memory (inr cut);
+    tells = line_tells words shelf out err answer status.NoMemory lines.out_of_memory IsDue.no_memory (inr cut);
   }
 
   -- ---- what is asked for was made
@@ -177,22 +171,16 @@ module _ (words : List Bytes) (shelf : ShelfSeen) (out err : SinkSeen) (answer :
         usage = λ e. absurd (subst IsLate e is_late);
         other_words = λ nf. absurd (nf g);
         unasked = λ nf. absurd (nf g);
-        read_fault = λ e. absurd (subst IsLate e is_late);
         lacking = λ name _ named lacks. absurd (of_files_lacks shelf.contents (asked_of words) name _ named made lacks);
         lacking_input = λ name _ there is lacks. absurd (of_files_lacks_input shelf.contents (asked_of words) name _ is made lacks);
         too_long = λ e. absurd (subst IsLate e is_late);
-        longer = λ e. absurd (subst IsLate e is_late);
         longer_file = λ name _ named more. absurd (of_files_longer shelf.contents (asked_of words) name _ named made more);
         longer_input = λ name _ there is more. absurd (of_files_longer_input shelf.contents (asked_of words) name _ is made more);
-        refused = λ e. absurd (subst IsLate e is_late);
         no_slice = λ text input named below none. let are = written texts text input made named in absurd (none are.program are.built are.starts);
-        limits = λ e. absurd (subst IsLate e is_late);
         above = λ text input name named above.
             let are = written texts text input made named in absurd (above_lacks text (asked_of words) name above are.program are.built are.few);
         names_limit = λ text input name named above e. absurd (subst IsLate e is_late);
-        undefined = λ e. absurd (subst IsLate e is_late);
         undefined_act = λ text input p statement named starts act. absurd (ended_undefined (asked_of words) p input statement (ended texts text input p made named starts) act);
-        steps = λ e. absurd (subst IsLate e is_late);
         more_steps = λ text input p named starts more. absurd (ended_more (asked_of words) p input (ended texts text input p made named starts) more);
         done = λ e. elim wrote.ends [
           | inl all ↦ of_files_map shelf.contents (asked_of words) _ _ (λ text input found. (texts, found.1, all.gained)) made
@@ -229,18 +217,11 @@ module _ (words : List Bytes) (shelf : ShelfSeen) (out err : SinkSeen) (answer :
         fetched = inr once;
       }
 
-  fault_told : PutOrCutOff err.faults err.faults' err.written err.written' lines.cannot_write → Tells err.faults err.faults' err.written err.written' (asked_of words) status.WriteFault
-  fault_told (inl gained) = inl gained
-  fault_told (inr cut) = inr (status.WriteFault, lines.cannot_write, lines.of_out, cut)
-
   pub written_promised : (texts : List Bytes) → IsInGrammar words → AreMade texts → shelf.contents' ≡ shelf.contents → AreFetches (asked_of words) shelf.fetches shelf.fetches' → (shelf.never_fails → shelf.faults' ≡ shelf.faults) → Wrote texts out err answer
       → Promises words shelf out err answer
   written_promised texts g made contents once no_fault wrote = record {
     outcome = written_outcome texts g made contents once no_fault wrote;
-    tells = elim wrote.ends [
-      | inl all ↦ subst (Tells err.faults err.faults' err.written err.written' (asked_of words)) (sym all.is) all.untold
-      | inr front ↦ subst (Tells err.faults err.faults' err.written err.written' (asked_of words)) (sym front.is) (fault_told front.told)
-    ];
+    tells = written_tells words shelf out err answer g texts wrote;
   }
 
   -- ---- the file gives nothing of what is asked
@@ -290,52 +271,27 @@ module _ (words : List Bytes) (shelf : ShelfSeen) (out err : SinkSeen) (answer :
     | inr cut ↦ absurd (no_fault (sym e ∙ cut.0))
   ]
 
-  abbrev Line : Refusal → Type 0
-  Line r = Gains err.written err.written' (words_of (asked_of words) r)
-
-  -- where the answer is a status of a refusal, it is that of this one, and its line is
-  same_status : (r : Refusal) (wanted : Status) → EndsAs r → (wanted ≡ status.NoMemory → ⊥) → (wanted ≡ status.WriteFault → ⊥) → answer ≡ wanted → (status_of r ≡ wanted) × Line r
-  same_status r wanted (inl put) no_memory no_fault e = (sym put.0 ∙ e, put.1)
-  same_status r wanted (inr (inl memory)) no_memory no_fault e = absurd (no_memory (sym e ∙ memory))
-  same_status r wanted (inr (inr cut)) no_memory no_fault e = absurd (no_fault (sym e ∙ cut.0))
-
   rose_of : (r : Refusal) → EndsAs r → answer ≡ status.WriteFault → Rose err.faults err.faults'
   rose_of r ending e = elim (not_own r ending) [
     | inl is_own ↦ absurd (subst IsOwn e is_own)
     | inr cut ↦ cut.1
   ]
 
-  abbrev Cause : Refusal → Type 0
-  Cause r = IsCause shelf.contents (asked_of words) shelf.faults shelf.faults' shelf.long_files shelf.long_files' r
-
   abbrev Reported : Refusal → Type 0
   Reported r = IsReported err.faults err.faults' err.written err.written' (asked_of words) r answer
-
-  -- the line names the file
-  read : (r : Refusal) → (status_of r ≡ status.ReadFault) × Line r → Cause r
-      → (name : Bytes) × IsNameOf shelf.contents (asked_of words) name × (Rose shelf.faults shelf.faults' ⊎ Lacks shelf.contents name) × Gains err.written err.written' (lines.cannot_read name)
-  read r told cause =
-      let named = read_cause shelf.contents (asked_of words) _ _ _ _ r told.0 cause in
-      (named.0, named.1, named.2, subst (Gains err.written err.written') named.3 told.1)
-
-  long : (r : Refusal) → (status_of r ≡ status.TooLong) × Line r → Cause r
-      → (name : Bytes) × IsNameOf shelf.contents (asked_of words) name × (IsSome shelf.contents → HoldsMoreThan shelf.contents name 1048576) × Gains err.written err.written' (lines.too_long name)
-  long r told cause =
-      let named = long_cause shelf.contents (asked_of words) _ _ _ _ r told.0 cause in
-      (named.0, named.1, named.2, subst (Gains err.written err.written') named.3 told.1)
 
   -- a fault of the shelf, or a reason in the text
   abbrev FaultOr : Refusal → Type 0 → Type 0
   FaultOr r A = ((status_of r ≡ status.ReadFault) × Rose shelf.faults shelf.faults') ⊎ A
 
-  shows : (text input : Bytes) (r : Refusal) → Cause r → NamesText words shelf.contents text input → FaultOr r (IsReason text (asked_of words) input r)
+  shows : (text input : Bytes) (r : Refusal) → Cause words shelf out r → NamesText words shelf.contents text input → FaultOr r (IsReason text (asked_of words) input r)
   shows text input r cause named = fault_or_reason shelf.contents (asked_of words) _ _ _ _ text input named.holds named.holds_input r cause
 
   with_reason : {A B : Type 0} (r : Refusal) → (A → B) → FaultOr r A → FaultOr r B
   with_reason r f (inl fault) = inl fault
   with_reason r f (inr reason) = inr (f reason)
 
-  refused_outcome : (r : Refusal) → IsInGrammar words → Cause r → Reported r → shelf.contents' ≡ shelf.contents → AreFetches (asked_of words) shelf.fetches shelf.fetches' → out.stays → out.faults' ≡ out.faults
+  refused_outcome : (r : Refusal) → IsInGrammar words → Cause words shelf out r → Reported r → shelf.contents' ≡ shelf.contents → AreFetches (asked_of words) shelf.fetches shelf.fetches' → out.stays → out.faults' ≡ out.faults
       → (shelf.never_fails → shelf.faults' ≡ shelf.faults) → (shelf.never_fails → IsMissing shelf.contents (asked_of words) r)
       → (r ≡ refusal.NoMemory → err.takes 14 → (answer ≡ status.NoMemory) × (err.faults' ≡ err.faults)) → Outcome words shelf out err answer
   refused_outcome r g cause reported contents once out_stays out_faults no_fault missing taken =
@@ -345,23 +301,17 @@ module _ (words : List Bytes) (shelf : ShelfSeen) (out err : SinkSeen) (answer :
         usage = no_own r status.Usage ending (λ is. is) (λ d. absurd cc);
         other_words = λ nf. absurd (nf g);
         unasked = λ nf. absurd (nf g);
-        read_fault = λ e. read r (same_status r status.ReadFault ending (λ d. absurd cc) (λ d. absurd cc) e) cause;
         lacking = λ name _ named lacks. yields_for r status.ReadFault ending (lacking_is shelf.contents a _ _ _ _ name named r cause lacks);
         lacking_input = λ name _ there is lacks. yields_for r status.ReadFault ending (lacking_input_is shelf.contents a _ _ _ _ name is there r cause lacks);
-        too_long = λ e. long_rose shelf.contents a _ _ _ _ r (same_status r status.TooLong ending (λ d. absurd cc) (λ d. absurd cc) e).0 cause;
-        longer = λ e. long r (same_status r status.TooLong ending (λ d. absurd cc) (λ d. absurd cc) e) cause;
+        too_long = λ e. tells_long words shelf out err answer (report_tells words shelf out err answer g r cause reported) e;
         longer_file = λ name _ named more. longer r ending (longer_is shelf.contents a _ _ _ _ name named r cause more);
         longer_input = λ name _ there is more. longer r ending (longer_input_is shelf.contents a _ _ _ _ name is there r cause more);
-        refused = λ e. refused_true shelf.contents a _ _ _ _ _ _ _ _ r answer cause reported e;
         no_slice = λ text input named below none. is_refused a _ _ _ _ _ _ text input r answer below none (shows text input r cause named) reported;
-        limits = λ e. limit_true shelf.contents a _ _ _ _ _ _ _ _ r answer cause reported e;
         above = λ text input name named above. is_above a _ _ _ _ _ _ text input name r answer above (shows text input r cause named) reported;
         names_limit = λ text input name named above e. names_it a _ _ shelf.faults shelf.faults' _ _ text input name r answer above (shows text input r cause named) reported e;
-        undefined = λ e. undefined_true shelf.contents a _ _ _ _ _ _ _ _ r answer cause reported e;
         undefined_act = λ text input p statement named starts act.
             ends_with a _ _ _ _ _ _ status.Undefined answer r
             (with_reason r (λ reason. undefined_status a p input statement act r (run_reason text input a p r starts reason)) (shows text input r cause named)) reported;
-        steps = λ e. steps_true shelf.contents a _ _ _ _ _ _ _ _ r answer cause reported e;
         more_steps = λ text input p named starts more.
             ends_with a _ _ _ _ _ _ status.Steps answer r
             (with_reason r (λ reason. more_status a p input more r (run_reason text input a p r starts reason)) (shows text input r cause named)) reported;
@@ -391,12 +341,12 @@ module _ (words : List Bytes) (shelf : ShelfSeen) (out err : SinkSeen) (answer :
       longer r (inr (inl memory)) (inr (inr fault)) = inl (inr (inl memory))
       longer r (inr (inr cut)) (inr (inr fault)) = inl (inr (inr cut))
 
-  pub refused_promised : (r : Refusal) → IsInGrammar words → Cause r → IsAmong (asked_of words) r → Reported r → shelf.contents' ≡ shelf.contents → AreFetches (asked_of words) shelf.fetches shelf.fetches' → out.stays → out.faults' ≡ out.faults
+  pub refused_promised : (r : Refusal) → IsInGrammar words → Cause words shelf out r → Reported r → shelf.contents' ≡ shelf.contents → AreFetches (asked_of words) shelf.fetches shelf.fetches' → out.stays → out.faults' ≡ out.faults
       → (shelf.never_fails → shelf.faults' ≡ shelf.faults) → (shelf.never_fails → IsMissing shelf.contents (asked_of words) r)
       → (r ≡ refusal.NoMemory → err.takes 14 → (answer ≡ status.NoMemory) × (err.faults' ≡ err.faults)) → Promises words shelf out err answer
-  refused_promised r g cause among reported contents once out_stays out_faults no_fault missing taken = record {
+  refused_promised r g cause reported contents once out_stays out_faults no_fault missing taken = record {
     outcome = refused_outcome r g cause reported contents once out_stays out_faults no_fault missing taken;
-    tells = report_tells err.faults err.faults' err.written err.written' (asked_of words) r answer among reported;
+    tells = report_tells words shelf out err answer g r cause reported;
   }
 
 -- ---- a call of the program
@@ -406,14 +356,18 @@ pub calls_keep : {F O E : Type 0} (faults long_files fetches : F → ℕ) (conte
     (words : List Bytes) (shelf shelf' : F) (out out' : O) (err err' : E) (ended : Option Status)
     → IfSome ended (Promises words (shelf_seen faults long_files fetches contents never_fails shelf shelf') (sink_seen out_faults written out_takes out out') (sink_seen err_faults told err_takes err err'))
     → (ended ≡ None → (shelf' ≡ shelf) × (out' ≡ out) × (err' ≡ err))
-    → Outcome words (shelf_seen faults long_files fetches contents never_fails shelf shelf') (sink_seen out_faults written out_takes out out') (sink_seen err_faults told err_takes err err') (unwrap_or ended status.NoMemory)
-calls_keep faults long_files fetches contents never_fails out_faults written out_takes err_faults told err_takes words shelf shelf' out out' err err' (Some answer) promised untouched = promised.outcome
+    → CallPromises words (shelf_seen faults long_files fetches contents never_fails shelf shelf') (sink_seen out_faults written out_takes out out') (sink_seen err_faults told err_takes err err') (unwrap_or ended status.NoMemory)
+calls_keep faults long_files fetches contents never_fails out_faults written out_takes err_faults told err_takes words shelf shelf' out out' err err' (Some answer) promised untouched =
+    record { outcome = promised.outcome; tells = inl promised.tells }
 calls_keep faults long_files fetches contents never_fails out_faults written out_takes err_faults told err_takes words shelf shelf' out out' err err' None promised untouched =
     let same = untouched refl in
-    early words _ _ _ status.NoMemory
-    (record { shelf_stays = same.0; shelf_faults = ap faults same.0; shelf_fetches = ap fetches same.0; contents = ap contents same.0; out_stays = same.1; out_faults = ap out_faults same.1 })
-    tt (λ e. absurd (let d : status.NoMemory ≡ status.Usage = e in cc)) (λ nf. inr (inl refl)) (λ wanted g. inr (inl refl)) (λ g calm. refl) (λ g takes. (refl, ap err_faults same.2))
-    (λ e. absurd (let d : status.NoMemory ≡ status.WriteFault = e in cc))
+    record {
+      outcome = early words _ _ _ status.NoMemory
+          (record { shelf_stays = same.0; shelf_faults = ap faults same.0; shelf_fetches = ap fetches same.0; contents = ap contents same.0; out_stays = same.1; out_faults = ap out_faults same.1 })
+          tt (λ e. absurd (let d : status.NoMemory ≡ status.Usage = e in cc)) (λ nf. inr (inl refl)) (λ wanted g. inr (inl refl)) (λ g calm. refl) (λ g takes. (refl, ap err_faults same.2))
+          (λ e. absurd (let d : status.NoMemory ≡ status.WriteFault = e in cc));
+      tells = inr (refl, same.2);
+    }
 
 -- ---- what the words ask for
 
@@ -428,13 +382,12 @@ module _ (words : List Bytes) (shelf : ShelfSeen) (out err : SinkSeen) (answer :
       (subst (λ b. OfFiles shelf.contents b (λ text input. AreShort text input × AreWritten text b input made)) is of)
       contents (subst (λ b. AreFetches b shelf.fetches shelf.fetches') is once) no_fault (subst (λ ts. Wrote ts out err answer) same wrote)
 
-  pub refused_for : (r : Refusal) → IsCause shelf.contents a shelf.faults shelf.faults' shelf.long_files shelf.long_files' r → IsAmong a r
+  pub refused_for : (r : Refusal) → IsCause shelf.contents a shelf.faults shelf.faults' shelf.long_files shelf.long_files' r
       → IsReported err.faults err.faults' err.written err.written' a r answer → shelf.contents' ≡ shelf.contents → AreFetches a shelf.fetches shelf.fetches' → out.stays → out.faults' ≡ out.faults
       → (shelf.never_fails → shelf.faults' ≡ shelf.faults) → (shelf.never_fails → IsMissing shelf.contents a r)
       → (r ≡ refusal.NoMemory → err.takes 14 → (answer ≡ status.NoMemory) × (err.faults' ≡ err.faults)) → Promises words shelf out err answer
-  refused_for r cause among reported contents once out_stays out_faults no_fault missing taken =
+  refused_for r cause reported contents once out_stays out_faults no_fault missing taken =
       refused_promised words shelf out err answer r g
       (subst (λ b. IsCause shelf.contents b shelf.faults shelf.faults' shelf.long_files shelf.long_files' r) is cause)
-      (subst (λ b. IsAmong b r) is among)
       (subst (λ b. IsReported err.faults err.faults' err.written err.written' b r answer) is reported)
       contents (subst (λ b. AreFetches b shelf.fetches shelf.fetches') is once) out_stays out_faults no_fault (λ never. subst (λ b. IsMissing shelf.contents b r) is (missing never)) taken

@@ -57,6 +57,10 @@ pub rose_later : (a b c : ℕ) → NeverFalls a b → Rose b c → Rose a c
 rose_later a b c le (inl lt) = inl (omega (arith, le, lt))
 rose_later a b c le (inr most) = inr most
 
+-- all that a sink takes, and nothing more
+pub and_no_more : (T : ℕ → Type 0) (n : ℕ) → T n → T (n + 0)
+and_no_more T n h = let same : n ≡ n + 0 = omega arith in subst T same h
+
 -- what a sink takes of the texts that are left
 left_next : (texts : List Bytes) (i : ℕ) → i < length texts → length (joined (drop i texts)) ≡ length (text_at texts i) + length (joined (drop (i + 1) texts))
 left_next [] i lt = absurd (omega (arith, lt))

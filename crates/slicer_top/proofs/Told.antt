@@ -25,20 +25,18 @@ use Rattle.slicer_top.specs.declared.refusal.Refusal.{Refusal}
 use Rattle.slicer_top.specs.declared.refusal.Refusal.TheVariants.{Unreadable, TooLong, NoInput, LongInput, Lex, Parse, Check, NoStart, Graph, TooMany, UndefinedAct, MoreSteps, NoMemory}
 use Rattle.slicer_top.specs.declared.status.Status.{Status}
 use Rattle.slicer_top.specs.declared.status.Status.TheVariants as status
-use Rattle.slicer_top.specs.Files.{OfFiles}
 use Rattle.slicer_top.specs.Limits.{IsAboveLimit, IsBelowLimits, IsDeep}
 use Rattle.slicer_top.specs.Lines as lines
 use Rattle.slicer_top.specs.Reports.{IsReason, IsShown, IsCause, IsReported, status_of, words_of}
 use Rattle.slicer_top.specs.Slices.{AsksTooMany, IsAboveFor, StartsNone}
 use Rattle.slicer_top.specs.Statuses.{IsOrYieldsToFault}
-use Rattle.slicer_top.specs.Truths.{IsTrueOf, TellsTruth}
-use Rattle.slicer_top.proofs.Files.{of_files_map}
+use Rattle.slicer_top.specs.Truths.{IsTrueOf}
 use Rattle.slicer_top.proofs.ReaderLaws.{IsOfTree, above_graph, grammar_of, one_program, only_memory, only_nesting, only_check, tree_lacks, above_is, limit_is}
 
 -- ---- what is told is true
 
 -- a status whose line speaks of the text
-abbrev IsOfText : Status → Type 0
+abbrev pub IsOfText : Status → Type 0
 IsOfText status.Done = ⊥
 IsOfText status.Refused = Unit {0}
 IsOfText status.Usage = ⊥
@@ -56,7 +54,7 @@ true_limit text asked input name above raw (IsAbove.cells made short many) = IsT
 
 module _ (text input : Bytes) (at : Asked) where
   -- the line of a refusal that the text shows is true of it
-  is_true : (refusal : Refusal) → IsOfText (status_of refusal) → IsReason text at input refusal → IsTrueOf text at input (status_of refusal) (words_of at refusal)
+  pub is_true : (refusal : Refusal) → IsOfText (status_of refusal) → IsReason text at input refusal → IsTrueOf text at input (status_of refusal) (words_of at refusal)
   is_true Unreadable of reason = absurd of
   is_true TooLong of reason = absurd of
   is_true NoInput of reason = absurd of
@@ -82,7 +80,7 @@ module _ (text input : Bytes) (at : Asked) where
 
 module _ (told : Told) (at : Asked) (f f' l l' : ℕ) where
   -- what speaks of the text has its cause in the text
-  shown : (refusal : Refusal) → IsOfText (status_of refusal) → IsCause told at f f' l l' refusal → IsShown told at refusal
+  pub shown : (refusal : Refusal) → IsOfText (status_of refusal) → IsCause told at f f' l l' refusal → IsShown told at refusal
   shown Unreadable of cause = absurd of
   shown TooLong of cause = absurd of
   shown NoInput of cause = absurd of
@@ -96,37 +94,6 @@ module _ (told : Told) (at : Asked) (f f' l l' : ℕ) where
   shown (UndefinedAct line statement) of cause = cause
   shown MoreSteps of cause = cause
   shown NoMemory of cause = absurd of
-
-  module _ (before after : Option Bytes) where
-    -- what is told of the files is true
-    abbrev pub TellsTrue : Status → Type 0
-    TellsTrue wanted = OfFiles told at (λ text input. TellsTruth wanted text at input before after)
-
-    told_true : (refusal : Refusal) (wanted : Status) → IsOfText wanted → status_of refusal ≡ wanted → IsCause told at f f' l l' refusal → Gains before after (words_of at refusal) → TellsTrue wanted
-    told_true refusal wanted of same cause gained =
-        let here : IsOfText (status_of refusal) = subst IsOfText (sym same) of in
-        of_files_map told at _ _
-        (λ text input found. (words_of at refusal, subst (λ s. IsTrueOf text at input s (words_of at refusal)) same (is_true text input at refusal here found.1), gained))
-        (shown refusal here cause)
-
-    module _ (e e' : ℕ) where
-      report_true : (refusal : Refusal) (wanted result : Status) → IsOfText wanted → result ≡ wanted → IsCause told at f f' l l' refusal → IsReported e e' before after at refusal result → TellsTrue wanted
-      report_true refusal wanted result of is cause (inl (inl put)) = told_true refusal wanted of (sym put.0 ∙ is) cause put.1
-      report_true refusal wanted result of is cause (inl (inr cut)) = absurd (subst IsOfText (sym is ∙ cut.0) of)
-      report_true refusal wanted result of is cause (inr (inl put)) = absurd (subst IsOfText (sym is ∙ put.0) of)
-      report_true refusal wanted result of is cause (inr (inr cut)) = absurd (subst IsOfText (sym is ∙ cut.0) of)
-
-      pub refused_true : (refusal : Refusal) (result : Status) → IsCause told at f f' l l' refusal → IsReported e e' before after at refusal result → result ≡ status.Refused → TellsTrue status.Refused
-      refused_true refusal result cause reported is = report_true refusal status.Refused result tt is cause reported
-
-      pub limit_true : (refusal : Refusal) (result : Status) → IsCause told at f f' l l' refusal → IsReported e e' before after at refusal result → result ≡ status.Limit → TellsTrue status.Limit
-      limit_true refusal result cause reported is = report_true refusal status.Limit result tt is cause reported
-
-      pub undefined_true : (refusal : Refusal) (result : Status) → IsCause told at f f' l l' refusal → IsReported e e' before after at refusal result → result ≡ status.Undefined → TellsTrue status.Undefined
-      undefined_true refusal result cause reported is = report_true refusal status.Undefined result tt is cause reported
-
-      pub steps_true : (refusal : Refusal) (result : Status) → IsCause told at f f' l l' refusal → IsReported e e' before after at refusal result → result ≡ status.Steps → TellsTrue status.Steps
-      steps_true refusal result cause reported is = report_true refusal status.Steps result tt is cause reported
 
 -- ---- a text that gives no slice
 

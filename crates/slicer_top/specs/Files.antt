@@ -1,5 +1,5 @@
 -- What a shelf tells of the files that are asked for, and the text that is made where no file has it.
-use Rattle.std.specs.Prelude.{◌≡◌, ◌⊎◌, ℕ, ◌≤◌, List, [], length, Option, None, Some, IfSome, IsSomeAnd}
+use Rattle.std.specs.Prelude.{◌≡◌, ◌⊎◌, ℕ, ◌≤◌, List, [], length, Option, None, Some, IsSomeAnd}
 use Rattle.std.specs.Borrow.{Bor}
 use Rattle.std.specs.Option.{option_map}
 use Rattle.edge_io.specs.Contents.{Told, IsAsTold}
@@ -17,10 +17,6 @@ HoldsText told name text = IsSomeAnd told (λ under. under name ≡ Some text)
 abbrev pub name_of : Option (Bor Bytes) → Option Bytes
 name_of = option_map (λ name. name.now)
 
--- where contents are told, a text stands under the name, and this holds of it
-abbrev pub OfFile : Told → Bytes → (Bytes → Type 0) → Type 0
-OfFile told name P = IfSome told (λ under. IsSomeAnd (under name) P)
-
 -- ---- a file that may be asked for; where none is, these bytes are made
 
 -- where contents are told, these bytes stand under the name
@@ -28,10 +24,9 @@ abbrev pub IsGiven : Told → Bytes → Option Bytes → Bytes → Type 0
 IsGiven told made None bytes = bytes ≡ made
 IsGiven told made (Some name) bytes = IsAsTold told name bytes
 
--- so it holds of what stands there
+-- so it holds of the bytes that are given: where contents are told of those that stand there, and of some where they aren't
 abbrev pub OfGiven : Told → Bytes → Option Bytes → (Bytes → Type 0) → Type 0
-OfGiven told made None P = P made
-OfGiven told made (Some name) P = OfFile told name P
+OfGiven told made name P = (bytes : Bytes) × IsGiven told made name bytes × P bytes
 
 -- the file is told to hold these bytes, at most 1,048,576
 abbrev pub HoldsGiven : Told → Bytes → Option Bytes → Bytes → Type 0
@@ -62,7 +57,7 @@ OfFiles told asked P = OfGiven told (text_made asked) (file_in asked) (λ text. 
 abbrev pub AreShort : Bytes → Bytes → Type 0
 AreShort text input = (length text ≤ 1048576) × (length input ≤ 1048576)
 
--- where contents are told, the text is there, and isn't longer
+-- the text is there, and isn't longer
 abbrev pub IsThere : Told → Asked → Type 0
 IsThere told asked = OfGiven told (text_made asked) (file_in asked) (λ text. length text ≤ 1048576)
 

@@ -1,4 +1,5 @@
 pub mod Criteria
+pub mod Due
 pub mod Files
 pub mod Graphs
 pub mod Limits

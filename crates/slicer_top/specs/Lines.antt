@@ -1,14 +1,11 @@
 -- The lines that a call puts on err.
-use Rattle.std.specs.Prelude.{◌≡◌, ◌⊎◌, ℕ, ◌++◌, Contains, Option, codes}
+use Rattle.std.specs.Prelude.{◌⊎◌, ℕ, ◌++◌, Option, codes}
 use Rattle.std.specs.Fmt.{decimal}
 use Rattle.edge_io.specs.Count.{Rose}
 use Rattle.edge_io.specs.Written.{Gains, GainsFront}
 use Rattle.c_tree.specs.declared.limits.LimitName.{LimitName}
 use Rattle.c_tree.specs.declared.limits.LimitName.TheVariants.{Nesting, ArrayLength, ObjectCells, Locations, Vertices, FactWords, Criteria}
 use Rattle.c_language.specs.Words.{Bytes}
-use Rattle.call_words.specs.Requests.{Asked, files_in, lines_in, steps_of}
-use Rattle.slicer_top.specs.declared.status.Status.{Status}
-use Rattle.slicer_top.specs.declared.status.Status.TheVariants.{Done, Refused, Usage, ReadFault, WriteFault, NoMemory, Undefined, Steps, Limit, TooLong}
 
 -- the words are outside the grammar
 abbrev pub usage : Bytes
@@ -80,28 +77,6 @@ cannot_write = codes "cannot write\n"
 abbrev pub out_of_memory : Bytes
 out_of_memory = codes "out of memory\n"
 
--- the line of a status, for what is asked: of its files, of its lines, and of the acts that its run may have
-pub data IsToldBy (asked : Asked) : Status → Bytes → Type 0 where
-  of_usage : IsToldBy asked Usage usage
-  of_file : (name : Bytes) → Contains (files_in asked) name → IsToldBy asked ReadFault (cannot_read name)
-  of_length : (name : Bytes) → Contains (files_in asked) name → IsToldBy asked TooLong (too_long name)
-  of_byte : (at : ℕ) → IsToldBy asked Refused (bad_byte at)
-  of_number : (at : ℕ) → IsToldBy asked Refused (bad_number at)
-  of_comment : (at : ℕ) → IsToldBy asked Refused (open_comment at)
-  of_token : (at : ℕ) (token : Bytes) → IsToldBy asked Refused (left_out at token)
-  of_tokens : (at : ℕ) → IsToldBy asked Refused (syntax at)
-  of_rule : (at number : ℕ) → IsToldBy asked Refused (rule at number)
-  of_line : (at : ℕ) → Contains (lines_in asked) at → IsToldBy asked Refused (no_start at)
-  of_limit : (name : LimitName) → IsToldBy asked Limit (limit name)
-  of_act : (at statement : ℕ) → IsToldBy asked Undefined (undefined_act at statement)
-  of_steps : IsToldBy asked Steps (more_steps (steps_of asked))
-  of_out : IsToldBy asked WriteFault cannot_write
-  of_memory : IsToldBy asked NoMemory out_of_memory
-
--- the line of this status was put
-abbrev pub Puts : Asked → Status → Option Bytes → Option Bytes → Type 0
-Puts asked status before after = (words : Bytes) × IsToldBy asked status words × Gains before after words
-
 -- err has these counts of faults and tells these bytes, before and after
 module _ (faults faults' : ℕ) (before after : Option Bytes) where
   -- a put on err failed, which has gained a front of this line
@@ -111,20 +86,3 @@ module _ (faults faults' : ℕ) (before after : Option Bytes) where
   -- the line was put, or the put of it failed
   abbrev pub PutOrCutOff : Bytes → Type 0
   PutOrCutOff words = Gains before after words ⊎ CutOff words
-
-  -- `cannot write` was put, or the put of the line of one status failed
-  abbrev pub TellsFault : Asked → Type 0
-  TellsFault asked = Gains before after cannot_write ⊎ ((status : Status) × (words : Bytes) × IsToldBy asked status words × CutOff words)
-
-  -- what err has gained when a call ends: nothing after Done, the line of the status after others, and after WriteFault that or a front of a line
-  abbrev pub Tells : Asked → Status → Type 0
-  Tells asked Done = after ≡ before
-  Tells asked Refused = Puts asked Refused before after
-  Tells asked Usage = Puts asked Usage before after
-  Tells asked ReadFault = Puts asked ReadFault before after
-  Tells asked WriteFault = TellsFault asked
-  Tells asked NoMemory = Puts asked NoMemory before after
-  Tells asked Undefined = Puts asked Undefined before after
-  Tells asked Steps = Puts asked Steps before after
-  Tells asked Limit = Puts asked Limit before after
-  Tells asked TooLong = Puts asked TooLong before after

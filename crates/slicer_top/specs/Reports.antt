@@ -1,5 +1,5 @@
 -- Why a file gives nothing of what is asked, and how that is told.
-use Rattle.std.specs.Prelude.{◌≡◌, ◌⊎◌, ℕ, [], Contains, Option, IsSome, IsSomeAnd, unwrap_or}
+use Rattle.std.specs.Prelude.{◌≡◌, ◌⊎◌, ℕ, [], Option, IsSome, IsSomeAnd, unwrap_or}
 use Rattle.edge_io.specs.Contents.{Told, Lacks, HoldsMoreThan}
 use Rattle.edge_io.specs.Count.{Rose}
 use Rattle.edge_io.specs.Written.{Gains}
@@ -14,7 +14,7 @@ use Rattle.c_types.specs.declared.rule_fault.RuleFault.{RuleFault}
 use Rattle.c_types.specs.declared.rule_fault.RuleFault.TheVariants as rule
 use Rattle.c_reader.specs.Reading.{ReadsProgram}
 use Rattle.c_reader.specs.Refusals.{IsLexFault, HasParseFault, HasRuleFault}
-use Rattle.call_words.specs.Requests.{Asked, file_in, input_of, lines_in, steps_of}
+use Rattle.call_words.specs.Requests.{Asked, file_in, input_of, steps_of}
 use Rattle.slicer_top.specs.declared.refusal.Refusal.{Refusal}
 use Rattle.slicer_top.specs.declared.refusal.Refusal.TheVariants.{Unreadable, TooLong, NoInput, LongInput, Lex, Parse, Check, NoStart, Graph, TooMany, UndefinedAct, MoreSteps, NoMemory}
 use Rattle.slicer_top.specs.declared.status.Status.{Status}
@@ -127,22 +127,6 @@ IsMissing told asked TooMany = Unit {0}
 IsMissing told asked (UndefinedAct at statement) = Unit {0}
 IsMissing told asked MoreSteps = Unit {0}
 IsMissing told asked NoMemory = Unit {0}
-
--- what is told is among what is asked for: a line without a statement is one of the lines, and a file is asked for where that is told
-abbrev pub IsAmong : Asked → Refusal → Type 0
-IsAmong asked (NoStart l) = Contains (lines_in asked) l
-IsAmong asked Unreadable = IsSome (file_in asked)
-IsAmong asked TooLong = IsSome (file_in asked)
-IsAmong asked NoInput = IsSome (input_of asked)
-IsAmong asked LongInput = IsSome (input_of asked)
-IsAmong asked (Lex fault) = Unit {0}
-IsAmong asked (Parse fault) = Unit {0}
-IsAmong asked (Check fault) = Unit {0}
-IsAmong asked (Graph name) = Unit {0}
-IsAmong asked TooMany = Unit {0}
-IsAmong asked (UndefinedAct at statement) = Unit {0}
-IsAmong asked MoreSteps = Unit {0}
-IsAmong asked NoMemory = Unit {0}
 
 -- the status of a refusal
 abbrev pub lex_status : LexFault → Status

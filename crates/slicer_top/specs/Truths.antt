@@ -1,6 +1,5 @@
 -- What the lines of a refusal and of a limit say of the text.
-use Rattle.std.specs.Prelude.{ℕ, Option}
-use Rattle.edge_io.specs.Written.{Gains}
+use Rattle.std.specs.Prelude.{ℕ}
 use Rattle.c_tree.specs.declared.limits.LimitName.{LimitName}
 use Rattle.c_tree.specs.declared.limits.LimitName.TheVariants as limit
 use Rattle.c_tree.specs.declared.program.Program.{Program}
@@ -44,7 +43,3 @@ pub data IsTrueOf (text : Bytes) (asked : Asked) (input : Bytes) : Status → By
   undefined : (at statement : ℕ) {p : Program} → HasStarts text asked p → IsUndefinedAt asked p input at statement → IsTrueOf text asked input Undefined (line.undefined_act at statement)
   -- this run needs a further act
   steps : {p : Program} → HasStarts text asked p → NeedsMore asked p input → IsTrueOf text asked input Steps (line.more_steps (steps_of asked))
-
--- err has gained a line of the status that is true of the text and of the input
-abbrev pub TellsTruth : Status → Bytes → Asked → Bytes → Option Bytes → Option Bytes → Type 0
-TellsTruth status text asked input before after = (words : Bytes) × IsTrueOf text asked input status words × Gains before after words

@@ -14,7 +14,6 @@ pub record WroteAll (texts : List Bytes) (out err : SinkSeen) (answer : Status) 
   pub is : answer ≡ Done
   pub gained : Gains out.written out.written' (joined texts)
   pub silent : err.stays
-  pub untold : err.written' ≡ err.written
 
 -- a put failed: out has gained the texts before it and a front of that one
 pub record WroteFront (texts : List Bytes) (out err : SinkSeen) (answer : Status) : Type 0 where

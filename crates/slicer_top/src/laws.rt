@@ -10,7 +10,7 @@ pub fn slices_are_one()
 {}
 
 /// A law: what a call of the program promises of the status of `run_slicer`, and that it does nothing where that isn't
-/// called, gives each promise but the line on err for the status of the call.
+/// called, gives each promise for the status of the call. Where it isn't called, nothing is told.
 pub fn calls_keep_promises<F: Shelf, O: Sink, E: Sink>()
     ensures { CallsKeepPromises F.faults F.long_files F.fetches F.contents F.never_fails O.faults O.written O.takes E.faults E.written E.takes }
 {}

@@ -9,7 +9,7 @@ ghost use Rattle.slicer_top.specs.Criteria.{IsCriteriaFault, StartAt};
 ghost use Rattle.slicer_top.specs.Files.{AreFetches, AreFetchesOf, AreShort, IsGiven, OfFiles, name_of, text_made};
 ghost use Rattle.slicer_top.specs.Graphs.{IsGraphText, IsMembersText};
 ghost use Rattle.slicer_top.specs.Slices.{AreSlices, AreWritten, AreWrittenOf, HasLast, HasLastOf, IsOneText};
-ghost use Rattle.slicer_top.specs.Reports.{IsReason, IsReasonOf, IsAmong, IsCause, IsInputFault, IsMissing, IsTextFault};
+ghost use Rattle.slicer_top.specs.Reports.{IsReason, IsReasonOf, IsCause, IsInputFault, IsMissing, IsTextFault};
 
 use crate::criteria::{criteria_at, criterion_at};
 use crate::numbers::numbers_text;
@@ -39,7 +39,6 @@ pub(crate) fn texts_for<F: Shelf>(
         (λ text input. AreShort text input × AreWritten text (asked_by request.now) input texts.items)) }
     ensures err { IfErr result (IsCause (F.contents shelf.old) (asked_by request.now)
         (F.faults shelf.old) (F.faults shelf.new) (F.long_files shelf.old) (F.long_files shelf.new)) }
-    ensures among { IfErr result (IsAmong (asked_by request.now)) }
     ensures no_fault { F.never_fails shelf.old → F.faults shelf.new ≡ F.faults shelf.old }
     ensures missing { F.never_fails shelf.old → IfErr result (IsMissing (F.contents shelf.old) (asked_by request.now)) }
 {

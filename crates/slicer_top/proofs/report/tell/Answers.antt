@@ -1,6 +1,6 @@
 use Rattle.std.proofs.Common.{refl}
 use Rattle.std.proofs.lemmas.Bool.{false≢true}
-use Rattle.slicer_top.proofs.Lines.{and_no_more}
+use Rattle.slicer_top.proofs.Puts.{and_no_more}
 use Rattle.slicer_top.proofs.report.tell.Goals as goal
 
 pub returns-in-Ok-clause-taken : goal.returns-in-Ok-clause-taken

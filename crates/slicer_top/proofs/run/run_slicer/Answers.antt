@@ -30,5 +30,5 @@ pub returns : goal.returns
 returns g c =
     let read = c.in-Ok.ensures.read in
     refused_for c.args.words.now _ _ _ c.report.result (asked_by c.in-Ok.request) read.in_grammar (asked_is c.args.words.now _ read.asks_for)
-    c.in-Err.refusal c.in-Err.ensures.err c.in-Err.ensures.among c.report.ensures.told c.texts_for.ensures.contents c.texts_for.ensures.fetched refl refl
+    c.in-Err.refusal c.in-Err.ensures.err c.report.ensures.told c.texts_for.ensures.contents c.texts_for.ensures.fetched refl refl
     c.texts_for.ensures.no_fault c.in-Err.ensures.missing c.report.ensures.taken

@@ -43,7 +43,6 @@ returns g c = record {
     is = refl;
     gained = gains_all _ _ c.args.texts.now c.loop-text.text-index c.loop-text-test.false c.loop-text.invariant.gained;
     silent = c.loop-text.invariant.err;
-    untold = ap g.E.Sink.written c.loop-text.invariant.err;
   });
   taken = λ takes. record { is = refl; out_stays = (c.loop-text.invariant.taken takes).1; err_stays = ap g.E.Sink.faults c.loop-text.invariant.err };
 }

@@ -2,11 +2,11 @@ use Rattle.std.proofs.Common.{subst, sym}
 use Rattle.std.proofs.lemmas.Result.{IfErr-weaker, IfOk-weaker}
 use Rattle.call_words.specs.Requests.{asked_by}
 use Rattle.slicer_top.specs.Files.{name_of}
-use Rattle.slicer_top.specs.Reports.{IsAmong, IsCause, IsMissing}
-use Rattle.slicer_top.proofs.CriteriaLaws.{reason_among, reason_cause, reason_missing, written_in_files}
+use Rattle.slicer_top.specs.Reports.{IsCause, IsMissing}
+use Rattle.slicer_top.proofs.CriteriaLaws.{reason_cause, reason_missing, written_in_files}
 use Rattle.slicer_top.specs.Slices.{HasLastOf}
 use Rattle.slicer_top.proofs.Big.{generated_last}
-use Rattle.slicer_top.proofs.Files.{Came, both_came, fetched_all, fetched_first, input_refused, refused_among, refused_missing, text_caused, text_missing, text_told}
+use Rattle.slicer_top.proofs.Files.{Came, both_came, fetched_all, fetched_first, input_refused, refused_missing, text_caused, text_missing}
 use Rattle.slicer_top.proofs.Reasons.{passes_on}
 use Rattle.slicer_top.proofs.slicing.texts_for.Goals as goal
 
@@ -21,12 +21,6 @@ returns-in_err-text-clause-err g c =
     let asked = asked_by c.args.request.now in
     passes_on (IsCause told asked _ _ _ _) c.in_err-text.field-0.0 c.from_residual.result c.from_residual.ensures.1
     (text_caused told _ _ _ _ asked c.in_err-text.field-0.0 c.in_err-text.ensures.err)
-
-pub returns-in_err-text-clause-among : goal.returns-in_err-text-clause-among
-returns-in_err-text-clause-among g c =
-    let asked = asked_by c.args.request.now in
-    passes_on (IsAmong asked) c.in_err-text.field-0.0 c.from_residual.result c.from_residual.ensures.1
-    (text_told (g.F.Shelf.contents c.args.shelf.now) _ _ _ _ asked c.in_err-text.field-0.0 c.in_err-text.ensures.err)
 
 pub returns-in_err-text-clause-missing : goal.returns-in_err-text-clause-missing
 returns-in_err-text-clause-missing g c = λ never.
@@ -55,13 +49,6 @@ returns-in_err-input-clause-err g c =
     passes_on (IsCause told asked f f' l l') c.in_err-input.field-0.0 c.from_residual-in_err-input.result c.from_residual-in_err-input.ensures.1
     (input_refused told (g.F.Shelf.contents c.text_for.new.shelf) c.text_for.ensures.contents asked (name_of c.input.result) c.input.ensures f m f' l n l' c.text_for.ensures.faults c.text_for.ensures.long_files
     c.in_ok-text.text.items c.in_ok-text.ensures.ok c.in_ok-text.ensures.short c.in_err-input.field-0.0 c.in_err-input.ensures.err)
-
-pub returns-in_err-input-clause-among : goal.returns-in_err-input-clause-among
-returns-in_err-input-clause-among g c =
-    let asked = asked_by c.args.request.now in
-    passes_on (IsAmong asked) c.in_err-input.field-0.0 c.from_residual-in_err-input.result c.from_residual-in_err-input.ensures.1
-    (refused_among (g.F.Shelf.contents c.args.shelf.now) (g.F.Shelf.contents c.text_for.new.shelf) c.text_for.ensures.contents asked (name_of c.input.result) c.input.ensures
-    (g.F.Shelf.faults c.text_for.new.shelf) (g.F.Shelf.faults c.input_for.new.shelf) (g.F.Shelf.long_files c.text_for.new.shelf) (g.F.Shelf.long_files c.input_for.new.shelf) c.in_err-input.field-0.0 c.in_err-input.ensures.err)
 
 pub returns-in_err-input-clause-missing : goal.returns-in_err-input-clause-missing
 returns-in_err-input-clause-missing g c = λ never.
@@ -106,10 +93,6 @@ returns-clause-err g c =
     reason_cause told asked (g.F.Shelf.faults c.args.shelf.now) (g.F.Shelf.faults c.input_for.new.shelf) (g.F.Shelf.long_files c.args.shelf.now) (g.F.Shelf.long_files c.input_for.new.shelf)
     c.as_slice.result.now c.as_slice-2.result.now came refusal reason)
     c.texts_of.ensures.err
-
-pub returns-clause-among : goal.returns-clause-among
-returns-clause-among g c =
-    IfErr-weaker c.texts_of.result _ _ (λ refusal reason. reason_among c.as_slice.result.now c.as_slice-2.result.now (asked_by c.args.request.now) refusal reason) c.texts_of.ensures.err
 
 pub returns-clause-missing : goal.returns-clause-missing
 returns-clause-missing g c = λ never.
