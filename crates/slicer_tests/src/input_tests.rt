@@ -25,45 +25,6 @@ fn run_with_input(
 }
 
 #[test]
-fn a_fault_of_either_file_is_told(rt: HostRuntime) -> Result<(), Fail> {
-    // The words, the number of the fetch that fails, the status, and what out and err have gained.
-    let rows = [
-        (
-            "run two.c --input in",
-            [0],
-            Status::ReadFault,
-            "",
-            "cannot read two.c\n",
-        ),
-        (
-            "run two.c --input in",
-            [1],
-            Status::ReadFault,
-            "",
-            "cannot read in\n",
-        ),
-        ("run --input=in two.c", [2], Status::Done, "4\n6\n", ""),
-        (
-            "trace two.c 7 --input=in",
-            [1],
-            Status::ReadFault,
-            "",
-            "cannot read in\n",
-        ),
-    ];
-    for (line, fails, status, out, err) in rows {
-        let failing = Failing {
-            fetches: &fails,
-            out: &[],
-            err: &[],
-        };
-        let ended = run_with_input(rt.alloc(), line, 3, &failing)?;
-        is_end(&rt, &ended, (status, out, err), line)?;
-    }
-    Ok(())
-}
-
-#[test]
 fn a_long_input_is_told(rt: HostRuntime) -> Result<(), Fail> {
     // The words, the length of the input, the status, and what out and err have gained.
     let rows = [
@@ -105,9 +66,8 @@ fn the_put_of_a_run_that_fails_is_told(rt: HostRuntime) -> Result<(), Fail> {
     ];
     for (line, fails, out) in rows {
         let failing = Failing {
-            fetches: &[],
             out: &fails,
-            err: &[],
+            ..NONE_FAILING
         };
         let ended = run_with_input(rt.alloc(), line, 0, &failing)?;
         is_end(

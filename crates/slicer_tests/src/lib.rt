@@ -5,6 +5,8 @@
 #[cfg(test)]
 mod exit_tests;
 #[cfg(test)]
+mod fault_tests;
+#[cfg(test)]
 mod input_tests;
 #[cfg(test)]
 mod layout_tests;

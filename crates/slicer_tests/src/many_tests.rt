@@ -1,9 +1,7 @@
 //! Calls with several lines and with options.
 use crate::programs::TWO;
-use crate::running::{Ended, NONE_FAILING, USAGE, ends, file, is_end, run, split_words};
-use edge_io::{MemoryShelf, MemorySink};
-use slicer_top::{Status, Text, run_slicer};
-use std::alloc::{AllocError, Global};
+use crate::running::{Failing, NONE_FAILING, USAGE, ends, file, is_end, run, split_words};
+use slicer_top::{Status, Text};
 use std::test::Fail;
 
 const AT_7: &str = r#"/* slice 7: 6 */
@@ -159,25 +157,6 @@ fn the_first_line_without_a_statement_is_told(rt: HostRuntime) -> Result<(), Fai
     Ok(())
 }
 
-// The words over `t.c`, where out takes so many bytes and fails at these puts.
-fn run_in_room(
-    alloc: Global,
-    line: &str,
-    room: usize,
-    failing: Vec<(u64, usize)>,
-) -> Result<Ended, AllocError> {
-    let words = split_words(alloc, line)?;
-    let mut shelf = MemoryShelf::new(file(alloc, "t.c", TWO)?, Vec::new(alloc));
-    let mut out = MemorySink::new(alloc, room, failing)?;
-    let mut err = MemorySink::new(alloc, 64, Vec::new(alloc))?;
-    let status = run_slicer(alloc, &words, &mut shelf, &mut out, &mut err);
-    Ok(Ended {
-        status,
-        out: Text::from_slice(alloc, out.bytes())?,
-        err: Text::from_slice(alloc, err.bytes())?,
-    })
-}
-
 // These words over `t.c` end so, where out takes 8,192 bytes: the status, and what out and err have gained.
 fn ends_in_room<R: std::process::Abort + AllocGlobal>(
     rt: &R,
@@ -185,7 +164,12 @@ fn ends_in_room<R: std::process::Abort + AllocGlobal>(
     wanted: (Status, &str, &str),
 ) -> Result<(), Fail> {
     let alloc = rt.alloc();
-    let ended = run_in_room(alloc, line, 8192, Vec::new(alloc))?;
+    let roomy = Failing {
+        room: 8192,
+        ..NONE_FAILING
+    };
+    let words = split_words(alloc, line)?;
+    let ended = run(alloc, &words, file(alloc, "t.c", TWO)?, &roomy)?;
     is_end(rt, &ended, wanted, line)
 }
 
@@ -207,39 +191,6 @@ fn sixty_four_lines_are_sliced_and_one_more_is_refused(rt: HostRuntime) -> Resul
             &rt,
             words.as_str(),
             (Status::Limit, "", "limit: criteria\n"),
-        )?;
-    }
-    Ok(())
-}
-
-// The text of line 7, and twelve bytes of that of line 4.
-const AT_7_AND_TWELVE: &str = r#"/* slice 7: 6 */
-#include <stdio.h>
-int main(void) {
-    int a = 1;
-    a = a + 3;
-    printf("%d\n", a);
-}
-/* slice 4: "#;
-
-#[test]
-fn each_text_is_put_by_itself(rt: HostRuntime) -> Result<(), Fail> {
-    // The put of 7 and 4 that fails, by its number and the bytes that it takes before, and what out has gained then.
-    let rows = [
-        ((0, 10), "/* slice 7"),
-        ((0, 0), ""),
-        ((1, 0), AT_7),
-        ((1, 12), AT_7_AND_TWELVE),
-    ];
-    let alloc = rt.alloc();
-    for (failing, out) in rows {
-        let failing = vec![in alloc; failing]?;
-        let ended = run_in_room(alloc, "slice t.c 7 4", 4096, failing)?;
-        is_end(
-            &rt,
-            &ended,
-            (Status::WriteFault, out, "cannot write\n"),
-            "slice t.c 7 4",
         )?;
     }
     Ok(())

@@ -6,7 +6,7 @@ ghost use Rattle.call_words.specs.Requests.{asked_of, file_of, input_of};
 ghost use Rattle.slicer_top.specs.Slices.{StartsSome, AreWritten, joined};
 
 use crate::programs::TWO;
-use crate::running::{Ended, Failing, NONE_FAILING, USAGE, file, is_end, run, split_words};
+use crate::running::{NONE_FAILING, USAGE, file, is_end, run, split_words};
 use edge_io::{MemoryShelf, MemorySink};
 use slicer_top::{Status, Text, run_slicer};
 use std::alloc::{AllocError, Global};
@@ -25,16 +25,6 @@ const TWO_AT_4: &str = r#"/* slice 4: 4 */
 #include <stdio.h>
 int main(void) {
     int b = 2;
-}
-"#;
-
-// The slice of that text again, at its own line.
-const TWO_AT_7_AT_6: &str = r#"/* slice 6: 6 */
-#include <stdio.h>
-int main(void) {
-    int a = 1;
-    a = a + 3;
-    printf("%d\n", a);
 }
 "#;
 
@@ -63,19 +53,15 @@ fn run_without_failing(
     Ok(status)
 }
 
-fn run_on_two(alloc: Global, line: &str, failing: &Failing<'_>) -> Result<Ended, AllocError> {
-    let words = split_words(alloc, line)?;
-    run(alloc, &words, file(alloc, "two.c", TWO)?, failing)
-}
-
 // These words over `two.c` end so: the status, and what out and err have gained.
 fn ends_on_two<R: std::process::Abort + AllocGlobal>(
     rt: &R,
     line: &str,
-    failing: &Failing<'_>,
     wanted: (Status, &str, &str),
 ) -> Result<(), Fail> {
-    let ended = run_on_two(rt.alloc(), line, failing)?;
+    let alloc = rt.alloc();
+    let words = split_words(alloc, line)?;
+    let ended = run(alloc, &words, file(alloc, "two.c", TWO)?, &NONE_FAILING)?;
     is_end(rt, &ended, wanted, line)
 }
 
@@ -89,7 +75,7 @@ fn a_file_that_is_not_there_is_told(rt: HostRuntime) -> Result<(), Fail> {
         ("members no.c 7", "cannot read no.c\n"),
     ];
     for (line, err) in rows {
-        ends_on_two(&rt, line, &NONE_FAILING, (Status::ReadFault, "", err))?;
+        ends_on_two(&rt, line, (Status::ReadFault, "", err))?;
     }
     Ok(())
 }
@@ -151,7 +137,7 @@ fn other_words_are_told_the_usage(rt: HostRuntime) -> Result<(), Fail> {
         "help",
     ];
     for line in rows {
-        ends_on_two(&rt, line, &NONE_FAILING, (Status::Usage, "", USAGE))?;
+        ends_on_two(&rt, line, (Status::Usage, "", USAGE))?;
     }
     Ok(())
 }
@@ -177,98 +163,6 @@ fn a_name_is_utf8(rt: HostRuntime) -> Result<(), Fail> {
             Status::Usage
         };
         assert_eq!(rt; ended.status, status, "{name:?}");
-    }
-    Ok(())
-}
-
-#[test]
-fn a_fault_of_the_files_is_told(rt: HostRuntime) -> Result<(), Fail> {
-    // The words, what fails, the status, and what out and err have gained.
-    let rows = [
-        (
-            "slice two.c 7",
-            Failing {
-                fetches: &[0],
-                out: &[],
-                err: &[],
-            },
-            Status::ReadFault,
-            "",
-            "cannot read two.c\n",
-        ),
-        (
-            "slice two.c 7",
-            Failing {
-                fetches: &[1],
-                out: &[],
-                err: &[],
-            },
-            Status::Done,
-            TWO_AT_7,
-            "",
-        ),
-    ];
-    for (line, failing, status, out, err) in rows {
-        ends_on_two(&rt, line, &failing, (status, out, err))?;
-    }
-    Ok(())
-}
-
-#[test]
-fn a_fault_of_out_is_told(rt: HostRuntime) -> Result<(), Fail> {
-    // The words, what fails, the status, and what out and err have gained.
-    let rows = [
-        (
-            "slice two.c 7",
-            Failing {
-                fetches: &[],
-                out: &[(0, 10)],
-                err: &[],
-            },
-            Status::WriteFault,
-            "/* slice 7",
-            "cannot write\n",
-        ),
-        (
-            "slice two.c 7",
-            Failing {
-                fetches: &[],
-                out: &[(0, 0)],
-                err: &[(0, 3)],
-            },
-            Status::WriteFault,
-            "",
-            "can",
-        ),
-    ];
-    for (line, failing, status, out, err) in rows {
-        ends_on_two(&rt, line, &failing, (status, out, err))?;
-    }
-    Ok(())
-}
-
-#[test]
-fn a_fault_of_err_is_told(rt: HostRuntime) -> Result<(), Fail> {
-    // The words, the put on err that fails and how much it takes before, the status, and what out and err have gained.
-    let rows = [
-        ("slice two.c 7", [(0, 0)], Status::Done, TWO_AT_7, ""),
-        ("slice two.c 2", [(0, 4)], Status::WriteFault, "", "2: n"),
-        ("slice two.c", [(0, 0)], Status::WriteFault, "", ""),
-        (
-            "slice no.c 7",
-            [(0, 99)],
-            Status::WriteFault,
-            "",
-            "cannot read no.c\n",
-        ),
-    ];
-    for (line, fails, status, out, err) in rows {
-        let failing = Failing {
-            fetches: &[],
-            out: &[],
-            err: &fails,
-        };
-        ends_on_two(&rt, line, &failing, (status, out, err))?;
     }
     Ok(())
 }

@@ -12,18 +12,20 @@ pub(crate) struct Ended {
     pub(crate) err: Text,
 }
 
-/// Which calls fail: the numbers of fetches, and of puts with the bytes that each takes before.
+/// What fails: the numbers of fetches, and of puts with the bytes that each takes before; and how many bytes out takes.
 #[derive(Clone, Copy)]
 pub(crate) struct Failing<'a> {
     pub(crate) fetches: &'a [u64],
     pub(crate) out: &'a [(u64, usize)],
     pub(crate) err: &'a [(u64, usize)],
+    pub(crate) room: usize,
 }
 
 pub(crate) const NONE_FAILING: Failing<'static> = Failing {
     fetches: &[],
     out: &[],
     err: &[],
+    room: 4096,
 };
 
 /// The line on err where the words are outside the grammar.
@@ -37,7 +39,7 @@ pub(crate) fn run(
     failing: &Failing<'_>,
 ) -> Result<Ended, AllocError> {
     let mut shelf = MemoryShelf::new(files, failing.fetches.to_vec(alloc)?);
-    let mut out = MemorySink::new(alloc, 4096, failing.out.to_vec(alloc)?)?;
+    let mut out = MemorySink::new(alloc, failing.room, failing.out.to_vec(alloc)?)?;
     let mut err = MemorySink::new(alloc, 4096, failing.err.to_vec(alloc)?)?;
     let status = run_slicer(alloc, words, &mut shelf, &mut out, &mut err);
     Ok(Ended {
