@@ -129,3 +129,24 @@ within_union xs ys l = (
   within_bits xs (union xs ys) (λ k i. let u = bit_union xs ys k i l in omega arith),
   within_bits ys (union xs ys) (λ k i. let u = bit_union xs ys k i l in omega arith),
 )
+
+-- a bit that is put into a word is new to it, or was there
+pub bit_put_le : (ws : List ℕ) (w x bits k i : ℕ) → x ≡ slice_index ws w → bit ws k i ≤ bit (set ws w (bit_or x bits)) k i
+bit_put_le ws w x bits k i is = le_bit_set ws w (bit_or x bits) k i (bit ws k i) (omega arith)
+    (λ e. subst (λ j. bit ws j i ≤ bit_at (bit_or x bits) i) (sym e)
+    (let o = bit_at_or x bits i in let b : bit_at x i ≡ bit ws w i = ap (λ y. bit_at y i) is in omega arith))
+
+-- a fact that is held after a put was held before, or is one of its bits
+pub put_facts : (P : ℕ → Type 0) (ws : List ℕ) (w x bits : ℕ) → w < length ws → x ≡ slice_index ws w
+    → ((n : ℕ) → Holds ws n → P n) → ((i : ℕ) → bit_at bits i ≡ 1 → P (64 * w + i)) → (n : ℕ) → Holds (set ws w (bit_or x bits)) n → P n
+put_facts P ws w x bits inside is old new n h = ⊎_elim
+    (λ e.
+    let b = holds_bit (set ws w (bit_or x bits)) n h in
+    let there : bit_at (bit_or x bits) (n % 64) ≡ 1 = sym (bit_here ws w (bit_or x bits) (n % 64) inside) ∙ subst (λ j. bit (set ws w (bit_or x bits)) j (n % 64) ≡ 1) e b in
+    let n_is : 64 * w + n % 64 ≡ n = ap (λ j. 64 * j + n % 64) (sym e) ∙ number_of n in
+    ⊎_elim
+    (λ was. old n (bit_holds ws n (ap (λ j. bit ws j (n % 64)) e ∙ sym (ap (λ y. bit_at y (n % 64)) is) ∙ was)))
+    (λ put. subst P n_is (new (n % 64) put))
+    (or_true x bits (n % 64) there))
+    (λ ne. old n (bit_holds ws n (sym (bit_else ws w (bit_or x bits) (n / 64) (n % 64) ne) ∙ holds_bit (set ws w (bit_or x bits)) n h)))
+    (cases_eq (n / 64) w)

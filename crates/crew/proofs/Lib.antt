@@ -5,3 +5,4 @@ pub mod Changes
 pub mod Steps
 pub mod Draws
 pub mod Seating
+pub mod Teams

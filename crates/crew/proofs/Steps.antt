@@ -1,5 +1,5 @@
 -- A look and a put keep the rule of the board.
-use Rattle.std.proofs.Common.{◌≡◌, ℕ, suc, ◌+◌, ◌*◌, ◌/◌, ◌%◌, ◌^◌, ◌<◌, ◌≤◌, true, List, length, get_or, set, sym, refl, ap, ◌∙◌, subst, arith, ⊎_elim, Some}
+use Rattle.std.proofs.Common.{◌≡◌, ℕ, suc, ◌+◌, ◌*◌, ◌^◌, ◌<◌, ◌≤◌, true, List, length, get_or, set, sym, refl, ap, ◌∙◌, subst, arith, ⊎_elim, Some}
 use Rattle.std.specs.Prelude.{bit_or, slice_index}
 use Rattle.std.specs.Int.{bit_at}
 use Rattle.std.proofs.lemmas.List.{length-set}
@@ -17,7 +17,7 @@ use Rattle.crew.specs.Shows.{shown}
 use Rattle.crew.specs.Steps.{IsFound, Looked, Put}
 use Rattle.crew.specs.Rule.{IsBoard}
 use Rattle.crew.proofs.CountLemmas.{total_has}
-use Rattle.crew.proofs.BitLemmas.{bit_here, bit_else, bit_set_le, set_get, new_bit, or_true, holds_bit, bit_holds, number_of, bit_is_fact, low_place, within_bit, within_bits}
+use Rattle.crew.proofs.BitLemmas.{bit_here, bit_else, bit_set_le, set_get, new_bit, bit_put_le, put_facts, bit_is_fact, low_place, within_bit, within_bits}
 use Rattle.crew.proofs.Changes.{Fit, changed, same_room}
 use Rattle.crew.proofs.Shown.{read_worker, is_worker, shows_look, shows_put, reached_more}
 
@@ -123,24 +123,9 @@ module _ {S T : Type 0} (True? : T → ℕ → Type 0) (May : T → Putting) (t 
       let in_set : w < length v.set = let l = named.set_long in omega arith in
       let n_bit = λ (i : ℕ). ap (λ x. bit_at x i) n_is in
       let here = λ (i : ℕ). bit_here k.facts w (bit_or n bits) i in_facts in
-      let more : (q i : ℕ) → bit k.facts q i ≤ bit facts' q i = λ q i. ⊎_elim
-      (λ e. subst (λ (x : ℕ). bit k.facts x i ≤ bit facts' x i) (sym e) (let h = here i in let o = bit_at_or n bits i in let b = n_bit i in omega arith))
-      (λ ne. let h = bit_else k.facts w (bit_or n bits) q i ne in omega arith)
-      (cases_eq q w) in
+      let more : (q i : ℕ) → bit k.facts q i ≤ bit facts' q i = λ q i. bit_put_le k.facts w n bits q i n_is in
       let knows : (m : ℕ) → Holds v.seen m → True? t m = λ m h. k.only_true m (within_bits v.seen k.facts fits.seen m h) in
-      let true_in : (q i m : ℕ) → q ≡ w → 64 * q + i ≡ m → (bit k.facts q i ≡ 1 → True? t m) → bit facts' q i ≡ 1 → True? t m = λ q i m e m_is was b.
-      let b' : bit facts' w i ≡ 1 = subst (λ (x : ℕ). bit facts' x i ≡ 1) e b in
-      let m' : 64 * w + i ≡ m = ap (λ x. 64 * x + i) (sym e) ∙ m_is in
-      ⊎_elim
-      (λ old. was (ap (λ x. bit k.facts x i) e ∙ sym (n_bit i) ∙ old))
-      (λ new. subst (λ x. True? t x) m' (sound v.drawn v.seen (64 * w + i) knows (may i new named.truth)))
-      (or_true n bits i (sym (here i) ∙ b')) in
-      let true_after : (m : ℕ) → Holds facts' m → True? t m = λ m h.
-      let was : bit k.facts (m / 64) (m % 64) ≡ 1 → True? t m = λ b. k.only_true m (bit_holds k.facts m b) in
-      ⊎_elim
-      (λ e. true_in (m / 64) (m % 64) m e (number_of m) was (holds_bit facts' m h))
-      (λ ne. was (sym (bit_else k.facts w (bit_or n bits) (m / 64) (m % 64) ne) ∙ holds_bit facts' m h))
-      (cases_eq (m / 64) w) in
+      let may_be : (i : ℕ) → bit_at bits i ≡ 1 → True? t (64 * w + i) = λ i new. sound v.drawn v.seen (64 * w + i) knows (may i new named.truth) in
       let seen_after : (i : ℕ) → bit_at (bit_or (slice_index v.seen w) bits) i ≤ bit facts' w i = λ i.
       let a = fits.seen w i in
       let h = here i in
@@ -186,7 +171,7 @@ module _ {S T : Type 0} (True? : T → ℕ → Type 0) (May : T → Putting) (t 
       ∙ ap (λ x. shown k.draws (set k.facts w (bit_or x bits)) (set s.views id (put_view v w bits n))) (sym n_is) in
       let fit : Fit True? May t start end_ s k id v v' k.draws facts' = record {
         long = length-set k.facts w _ ∙ k.long;
-        only_true = true_after;
+        only_true = put_facts (True? t) k.facts w n bits in_facts n_is k.only_true may_be;
         more = more;
         gained = gained;
         later = omega arith;

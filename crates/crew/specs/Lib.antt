@@ -6,3 +6,4 @@ pub mod Shows
 pub mod Rule
 pub mod Steps
 pub mod Seats
+pub mod Team

@@ -7,12 +7,16 @@
 
 mod board;
 mod draw_only;
+mod job;
 mod rule;
+mod team;
 mod truth;
 mod view;
 
 pub use board::{Board, BoardSeat};
 pub use draw_only::numbers;
+pub use job::{Job, run_all};
 pub use rule::BoardRule;
+pub use team::{Gate, OpenGate, team_map};
 pub use truth::{Numbers, Truth};
 pub use view::{Charge, View};
