@@ -5,4 +5,8 @@ pub mod Changes
 pub mod Steps
 pub mod Draws
 pub mod Seating
+pub mod Machines
+pub mod Sharing
+pub mod BoardLaws
+pub mod RoundLaws
 pub mod Teams

@@ -7,3 +7,5 @@ pub mod Rule
 pub mod Steps
 pub mod Seats
 pub mod Team
+pub mod Rounds
+pub mod Laws

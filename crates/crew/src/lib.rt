@@ -8,6 +8,7 @@
 mod board;
 mod draw_only;
 mod job;
+mod laws;
 mod rule;
 mod team;
 mod truth;
@@ -16,6 +17,7 @@ mod view;
 pub use board::{Board, BoardSeat};
 pub use draw_only::numbers;
 pub use job::{Job, run_all};
+pub use laws::{boards_share_out, boards_show_moments, events_keep_truth, words_never_shrink};
 pub use rule::BoardRule;
 pub use team::{Gate, OpenGate, team_map};
 pub use truth::{Numbers, Truth};
