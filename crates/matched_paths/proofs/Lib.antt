@@ -11,3 +11,6 @@ pub mod GroupLaws
 pub mod BitLemmas
 pub mod RowPlaces
 pub mod SetLaws
+pub mod RangeLaws
+pub mod StepRuleLaws
+pub mod ChainLaws

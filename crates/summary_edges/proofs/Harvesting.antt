@@ -31,12 +31,12 @@ use Rattle.matched_paths.proofs.Members.{all_of}
 use Rattle.matched_paths.proofs.ReachLaws.{edge_below}
 use Rattle.matched_paths.proofs.RowPlaces.{bit_below}
 use Rattle.matched_paths.proofs.SetLaws.{fact_only, words_kept}
-use Rattle.summary_edges.specs.declared.stretch.Stretch.{Stretch}
+use Rattle.matched_paths.specs.declared.vertex_range.VertexRange.{VertexRange}
 use Rattle.summary_edges.specs.Rounds.{AreSound, HaveGrown, IsSettledAt, AreSettledIn, AreSettledBefore}
-use Rattle.summary_edges.specs.StepRules.{IsBack, IsReady, AreMarked, AreStepRules, step_rules, sees}
-use Rattle.summary_edges.specs.Stretches.{AreApartAt, IsWholeFunction}
-use Rattle.summary_edges.proofs.Chains.{chains_are}
-use Rattle.summary_edges.proofs.StepRuleLaws.{rules_are, rules_within}
+use Rattle.matched_paths.specs.StepRules.{IsBack, IsReady, AreMarked, AreStepRules, step_rules, sees}
+use Rattle.matched_paths.specs.VertexRanges.{AreApartAt, IsWholeFunction}
+use Rattle.matched_paths.proofs.ChainLaws.{chains_are}
+use Rattle.matched_paths.proofs.StepRuleLaws.{rules_are, rules_within}
 
 -- ---- words without a fact
 no_bits : (n i : ℕ) → word_bit (replicate n 0) i ≡ false
@@ -184,7 +184,7 @@ out_vertex vs f v i h =
     (s.0, subst (λ kind. IsVertex vs f kind v) s.1 k.at)
 
 -- ---- marks of a function
-module _ (g : Graph) (K : FactSet) (s : Stretch) (marks : List Bool) (b : ℕ) (marked : AreMarked g K s marks b) where
+module _ (g : Graph) (K : FactSet) (s : VertexRange) (marks : List Bool) (b : ℕ) (marked : AreMarked g K s marks b) where
   seen_steps : (v : ℕ) → s.first ≤ v → v < s.last → sees g.vertices s marks v ≡ true → IsStep g marked.whole.function K v b
   seen_steps v low high h =
       let i = (marked.whole.all v).1 (low, high) in
@@ -205,13 +205,13 @@ module _ (g : Graph) (K : FactSet) (s : Stretch) (marks : List Bool) (b : ℕ) (
       let kind : kind_passes g.vertices is_formal_in a ≡ true = ap (λ o. option_map_or (λ (x : Vertex). is_formal_in x.kind) o false) step.formals.goes_in in
       (place.0, (place.1, and_from _ _ kind ((marked.chains a i).1 chain)))
 
-pub seen_true : (g : Graph) (ws : List ℕ) (s : Stretch) (marks : List Bool) (b : ℕ) → AreSound g ws → AreMarked g (HoldsFact g ws) s marks b
+pub seen_true : (g : Graph) (ws : List ℕ) (s : VertexRange) (marks : List Bool) (b : ℕ) → AreSound g ws → AreMarked g (HoldsFact g ws) s marks b
     → (v : ℕ) → s.first ≤ v → v < s.last → sees g.vertices s marks v ≡ true → IsTrueFact g v b
 seen_true g ws s marks b sound marked v low high h =
     step_keeps_truth g marked.whole.function (HoldsFact g ws) sound.true_ v b (seen_steps g (HoldsFact g ws) s marks b marked v low high h)
 
 -- where the function's rules mark what they go back to, the marks are those of the chains
-pub marks_are : (g : Graph) (K : FactSet) (s : Stretch) (rules : List Rule) (marks : List Bool) (b : ℕ) → IsReady g K s rules → s.first ≤ b → b < s.last → kind_passes g.vertices is_formal_out b ≡ true
+pub marks_are : (g : Graph) (K : FactSet) (s : VertexRange) (rules : List Rule) (marks : List Bool) (b : ℕ) → IsReady g K s rules → s.first ≤ b → b < s.last → kind_passes g.vertices is_formal_out b ≡ true
     → length marks ≡ s.last - s.first → ((v : ℕ) → IsTrue (has marks v) ↔ IsBack rules (b - s.first) v) → AreMarked g K s marks b
 marks_are g K s rules marks b ready low high out size back =
     let i = (ready.whole.all b).1 (low, high) in
@@ -229,12 +229,12 @@ marks_are g K s rules marks b ready low high out size back =
     }
 
 -- ---- the marked formal-ins of one formal-out, one after another
-pub record IsHarvested (g : Graph) (s : Stretch) (marks : List Bool) (b : ℕ) (start : List ℕ) (at : ℕ) (ws : List ℕ) (grows : Bool) : Type 0 where
+pub record IsHarvested (g : Graph) (s : VertexRange) (marks : List Bool) (b : ℕ) (start : List ℕ) (at : ℕ) (ws : List ℕ) (grows : Bool) : Type 0 where
   pub sound : AreSound g ws
   pub grown : HaveGrown start ws grows
   pub held : grows ≡ false → (v : ℕ) → s.first ≤ v → v < at → sees g.vertices s marks v ≡ true → HoldsFact g start v b
 
-pub harvest_goes : (g : Graph) (s : Stretch) (marks : List Bool) (b : ℕ) (start : List ℕ) (at : ℕ) (ws new : List ℕ) (grows more : Bool) → IsHarvested g s marks b start at ws grows
+pub harvest_goes : (g : Graph) (s : VertexRange) (marks : List Bool) (b : ℕ) (start : List ℕ) (at : ℕ) (ws new : List ℕ) (grows more : Bool) → IsHarvested g s marks b start at ws grows
     → AreSound g new → HaveGrown ws new more → (more ≡ false → sees g.vertices s marks at ≡ true → HoldsFact g ws at b) → IsHarvested g s marks b start (at + 1) new (grows || more)
 harvest_goes g s marks b start at ws new grows more h sound grown held = record {
   sound = sound;
@@ -247,7 +247,7 @@ harvest_goes g s marks b start at ws new grows more h sound grown held = record 
       ];
 }
 
-pub harvest_settles : (g : Graph) (s : Stretch) (marks : List Bool) (b : ℕ) (start ws : List ℕ) (at : ℕ) (grows : Bool) → s.last ≤ at → IsHarvested g s marks b start at ws grows
+pub harvest_settles : (g : Graph) (s : VertexRange) (marks : List Bool) (b : ℕ) (start ws : List ℕ) (at : ℕ) (grows : Bool) → s.last ≤ at → IsHarvested g s marks b start at ws grows
     → AreMarked g (HoldsFact g start) s marks b → grows ≡ false → IsSettledAt g start b
 harvest_settles g s marks b start ws at grows all h marked none f a step =
     let q = step_seen g (HoldsFact g start) s marks b marked f a step in
@@ -260,12 +260,12 @@ other_settles g ws b none f a step =
     absurd (false≢true (sym none ∙ ap (λ o. option_map_or (λ (x : Vertex). is_formal_out x.kind) o false) step.formals.comes_out))
 
 -- ---- the formal-outs of a function, one after another
-pub record IsGathered (g : Graph) (s : Stretch) (start : List ℕ) (at : ℕ) (ws : List ℕ) (grows : Bool) : Type 0 where
+pub record IsGathered (g : Graph) (s : VertexRange) (start : List ℕ) (at : ℕ) (ws : List ℕ) (grows : Bool) : Type 0 where
   pub sound : AreSound g ws
   pub grown : HaveGrown start ws grows
   pub settled : grows ≡ false → (b : ℕ) → s.first ≤ b → b < at → IsSettledAt g start b
 
-pub gather_goes : (g : Graph) (s : Stretch) (rules : List Rule) (start : List ℕ) (at : ℕ) (ws new : List ℕ) (grows more : Bool) → IsReady g (HoldsFact g start) s rules → IsGathered g s start at ws grows
+pub gather_goes : (g : Graph) (s : VertexRange) (rules : List Rule) (start : List ℕ) (at : ℕ) (ws new : List ℕ) (grows more : Bool) → IsReady g (HoldsFact g start) s rules → IsGathered g s start at ws grows
     → AreSound g new → HaveGrown ws new more → (IsReady g (HoldsFact g ws) s rules → more ≡ false → IsSettledAt g ws at) → IsGathered g s start (at + 1) new (grows || more)
 gather_goes g s rules start at ws new grows more ready h sound grown settled = record {
   sound = sound;
@@ -283,7 +283,7 @@ gather_goes g s rules start at ws new grows more ready h sound grown settled = r
 pub ends_below : (g : Graph) → IsShaped g → All (λ (e : Edge). (e.from < length g.vertices) × (e.to < length g.vertices)) g.edges
 ends_below g shaped = all_of (λ (e : Edge). (e.from < length g.vertices) × (e.to < length g.vertices)) g.edges (λ e m. edge_below g shaped e m)
 
-module _ (g : Graph) (s : Stretch) (shaped : IsShaped g) (whole : IsWholeFunction g.vertices s) (order : s.first < s.last) where
+module _ (g : Graph) (s : VertexRange) (shaped : IsShaped g) (whole : IsWholeFunction g.vertices s) (order : s.first < s.last) where
   pub first_in : IsIn g.vertices whole.function s.first
   first_in = (whole.all s.first).1 (omega arith, order)
 
@@ -321,7 +321,7 @@ pub record IsRounded (g : Graph) (start : List ℕ) (first : ℕ) (ws : List ℕ
   pub inside : first ≤ length g.vertices
   pub settled : grows ≡ false → AreSettledBefore g start first
 
-pub round_goes : (g : Graph) (start : List ℕ) (first : ℕ) (ws new : List ℕ) (grows more : Bool) (s : Stretch) → IsRounded g start first ws grows → s.first ≡ first → s.last ≤ length g.vertices → AreApartAt g.vertices s.last
+pub round_goes : (g : Graph) (start : List ℕ) (first : ℕ) (ws new : List ℕ) (grows more : Bool) (s : VertexRange) → IsRounded g start first ws grows → s.first ≡ first → s.last ≤ length g.vertices → AreApartAt g.vertices s.last
     → AreSound g new → HaveGrown ws new more → (more ≡ false → AreSettledIn g ws s) → IsRounded g start s.last new (grows || more)
 round_goes g start first ws new grows more s h begins inside apart sound grown settled = record {
   sound = sound;

@@ -1,4 +1,1 @@
-pub mod Stretching
-pub mod StepRuleLaws
-pub mod Chains
 pub mod Harvesting

@@ -1,3 +1,1 @@
-pub mod StepRules
-pub mod Stretches
 pub mod Rounds

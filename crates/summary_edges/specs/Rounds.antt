@@ -5,16 +5,16 @@ use Rattle.dep_model.specs.Facts.{HoldsFact, AreFactWords, IsStep}
 use Rattle.matched_paths.specs.Laws.{AreTrue}
 use Rattle.matched_paths.specs.Places.{bits_below}
 use Rattle.rule_closure.specs.declared.closure.Rule.{Rule}
-use Rattle.summary_edges.specs.declared.stretch.Stretch.{Stretch}
-use Rattle.summary_edges.specs.StepRules.{IsReady}
+use Rattle.matched_paths.specs.declared.vertex_range.VertexRange.{VertexRange}
+use Rattle.matched_paths.specs.StepRules.{IsReady}
 
 -- the words are those of facts, and these are true
 pub record AreSound (g : Graph) (ws : List ℕ) : Type 0 where
   pub words : AreFactWords g ws
   pub true_ : AreTrue g (HoldsFact g ws)
 
--- the rules are those of a stretch's function, by facts that are true
-pub record IsReadyBySome (g : Graph) (s : Stretch) (rules : List Rule) : Type 0 where
+-- the rules are those of a range's function, by facts that are true
+pub record IsReadyBySome (g : Graph) (s : VertexRange) (rules : List Rule) : Type 0 where
   pub by_words : List ℕ
   pub sound : AreSound g by_words
   pub ready : IsReady g (HoldsFact g by_words) s rules
@@ -30,7 +30,7 @@ abbrev pub IsSettledAt : Graph → List ℕ → ℕ → Type 0
 IsSettledAt g ws b = (f a : ℕ) → IsStep g f (HoldsFact g ws) a b → HoldsFact g ws a b
 
 -- nor of any of these vertices
-abbrev pub AreSettledIn : Graph → List ℕ → Stretch → Type 0
+abbrev pub AreSettledIn : Graph → List ℕ → VertexRange → Type 0
 AreSettledIn g ws s = (b : ℕ) → s.first ≤ b → b < s.last → IsSettledAt g ws b
 
 -- nor of any vertex before the place

@@ -6,8 +6,6 @@
 #![tactic(auto)]
 
 mod rounds;
-mod rules;
 mod steps;
-mod stretch;
 
 pub use rounds::find;

@@ -7,9 +7,8 @@ ghost use Rattle.matched_paths.specs.Places.{ArePlaces};
 ghost use Rattle.summary_edges.specs.Rounds.{AreSound, HaveGrown, AreSettledBefore};
 
 use crate::steps::step;
-use crate::stretch::stretch_at;
 use dep_model::{Facts, Graph};
-use matched_paths::{EdgeGroups, FactPlaces};
+use matched_paths::{EdgeGroups, FactPlaces, range_at};
 use sqlite_items::Items;
 use std::alloc::{AllocError, Global};
 
@@ -34,11 +33,11 @@ fn round(
     let mut grows = false;
     let mut first = 0u32;
     while (first as usize) < g.vertices.len() {
-        let stretch = stretch_at(g.vertices.as_slice(), first);
+        let range = range_at(g.vertices.as_slice(), first);
         let edges = starts.of(g.vertices.as_slice()[first as usize].function);
-        let new = step(alloc, g, stretch, edges, exits, places, words)?;
+        let new = step(alloc, g, range, edges, exits, places, words)?;
         grows = grows | new;
-        first = stretch.last;
+        first = range.last;
     }
     Ok(grows)
 }

@@ -7,13 +7,11 @@ ghost use Rattle.dep_model.specs.Shapes.{IsShaped};
 ghost use Rattle.matched_paths.specs.EdgeGroups.{group_at, leaving, starting};
 ghost use Rattle.matched_paths.specs.Places.{ArePlaces};
 ghost use Rattle.summary_edges.specs.Rounds.{AreSound, HaveGrown, IsReadyBySome, IsSettledAt, AreSettledIn};
-ghost use Rattle.summary_edges.specs.StepRules.{IsBack, IsReady, AreMarked, sees};
-ghost use Rattle.summary_edges.specs.Stretches.{IsWholeFunction};
+ghost use Rattle.matched_paths.specs.StepRules.{IsBack, IsReady, AreMarked, sees};
+ghost use Rattle.matched_paths.specs.VertexRanges.{IsWholeFunction};
 
-use crate::rules::rules_of;
-use crate::stretch::Stretch;
 use dep_model::{Closure, Edge, Graph, VertexId, VertexKind, VertexSet};
-use matched_paths::{EdgeGroups, FactPlaces};
+use matched_paths::{EdgeGroups, FactPlaces, VertexRange, function_rules};
 use std::alloc::{AllocError, Global};
 
 fn is_formal_in(kind: VertexKind) -> bool
@@ -42,13 +40,13 @@ fn mark_back(closure: &mut Closure, marks: &mut VertexSet, number: u32)
 }
 
 // Whether the vertex is a formal-in whose number is marked.
-fn sees(g: &Graph, stretch: Stretch, marks: &VertexSet, vertex: VertexId) -> bool
-    requires from { stretch.first ≤ vertex }
+fn sees(g: &Graph, range: VertexRange, marks: &VertexSet, vertex: VertexId) -> bool
+    requires from { range.first ≤ vertex }
     requires inside { vertex < length g.now.vertices }
-    requires marks { vertex - stretch.first < length marks.now }
-    ensures { result ≡ sees g.now.vertices stretch marks.now vertex }
+    requires marks { vertex - range.first < length marks.now }
+    ensures { result ≡ sees g.now.vertices range marks.now vertex }
 {
-    is_formal_in(g.vertices.as_slice()[vertex as usize].kind) && marks.has(vertex - stretch.first)
+    is_formal_in(g.vertices.as_slice()[vertex as usize].kind) && marks.has(vertex - range.first)
 }
 
 // Makes a fact of a formal-in and a formal-out, where the words don't hold it, and tells whether it is new.
@@ -77,7 +75,7 @@ fn add_fact(
 // Makes a fact of a vertex and a formal-out, where the vertex is a marked formal-in, and tells whether it is new.
 fn add_seen(
     g: &Graph,
-    stretch: Stretch,
+    range: VertexRange,
     marks: &VertexSet,
     vertex: VertexId,
     formal_out: VertexId,
@@ -87,21 +85,21 @@ fn add_seen(
     requires shaped { IsShaped g.now }
     requires places { ArePlaces g.now places.now }
     requires sound { AreSound g.now words.old }
-    requires from { stretch.first ≤ vertex }
+    requires from { range.first ≤ vertex }
     requires inside { vertex < length g.now.vertices }
-    requires marks { vertex - stretch.first < length marks.now }
-    requires true_ { sees g.now.vertices stretch marks.now vertex ≡ true → IsTrueFact g.now vertex formal_out }
+    requires marks { vertex - range.first < length marks.now }
+    requires true_ { sees g.now.vertices range marks.now vertex ≡ true → IsTrueFact g.now vertex formal_out }
     ensures sound { AreSound g.now words.new }
     ensures grown { HaveGrown words.old words.new result }
-    ensures held { result ≡ false → sees g.now.vertices stretch marks.now vertex ≡ true → HoldsFact g.now words.old vertex formal_out }
+    ensures held { result ≡ false → sees g.now.vertices range marks.now vertex ≡ true → HoldsFact g.now words.old vertex formal_out }
 {
-    sees(g, stretch, marks, vertex) && add_fact(g, vertex, formal_out, places, words)
+    sees(g, range, marks, vertex) && add_fact(g, vertex, formal_out, places, words)
 }
 
 // Makes a fact of each marked formal-in of a function and one formal-out, and tells whether one is new.
 fn harvest(
     g: &Graph,
-    stretch: Stretch,
+    range: VertexRange,
     marks: &VertexSet,
     formal_out: VertexId,
     places: &FactPlaces,
@@ -110,16 +108,16 @@ fn harvest(
     requires shaped { IsShaped g.now }
     requires places { ArePlaces g.now places.now }
     requires sound { AreSound g.now words.old }
-    requires inside { stretch.last ≤ length g.now.vertices }
-    requires size { length marks.now ≡ stretch.last - stretch.first }
-    requires true_ { (v : ℕ) → stretch.first ≤ v → v < stretch.last → sees g.now.vertices stretch marks.now v ≡ true → IsTrueFact g.now v formal_out }
+    requires inside { range.last ≤ length g.now.vertices }
+    requires size { length marks.now ≡ range.last - range.first }
+    requires true_ { (v : ℕ) → range.first ≤ v → v < range.last → sees g.now.vertices range marks.now v ≡ true → IsTrueFact g.now v formal_out }
     ensures sound { AreSound g.now words.new }
     ensures grown { HaveGrown words.old words.new result }
-    ensures settled { AreMarked g.now (HoldsFact g.now words.old) stretch marks.now formal_out → result ≡ false → IsSettledAt g.now words.old formal_out }
+    ensures settled { AreMarked g.now (HoldsFact g.now words.old) range marks.now formal_out → result ≡ false → IsSettledAt g.now words.old formal_out }
 {
     let mut grows = false;
-    for vertex in stretch.first..stretch.last {
-        let new = add_seen(g, stretch, marks, vertex, formal_out, places, words);
+    for vertex in range.first..range.last {
+        let new = add_seen(g, range, marks, vertex, formal_out, places, words);
         grows = grows | new;
     }
     grows
@@ -128,7 +126,7 @@ fn harvest(
 // Makes the facts of one vertex, where it is a formal-out, and tells whether one is new.
 fn gather_at(
     g: &Graph,
-    stretch: Stretch,
+    range: VertexRange,
     closure: &mut Closure,
     marks: &mut VertexSet,
     vertex: VertexId,
@@ -138,28 +136,28 @@ fn gather_at(
     requires shaped { IsShaped g.now }
     requires places { ArePlaces g.now places.now }
     requires sound { AreSound g.now words.old }
-    requires ready { IsReadyBySome g.now stretch closure.old.rules }
-    requires size { closure.old.size ≡ stretch.last - stretch.first }
-    requires room { length marks.old ≡ stretch.last - stretch.first }
-    requires from { stretch.first ≤ vertex }
-    requires inside { vertex < stretch.last }
+    requires ready { IsReadyBySome g.now range closure.old.rules }
+    requires size { closure.old.size ≡ range.last - range.first }
+    requires room { length marks.old ≡ range.last - range.first }
+    requires from { range.first ≤ vertex }
+    requires inside { vertex < range.last }
     ensures sound { AreSound g.now words.new }
     ensures grown { HaveGrown words.old words.new result }
-    ensures settled { IsReady g.now (HoldsFact g.now words.old) stretch closure.old.rules → result ≡ false → IsSettledAt g.now words.old vertex }
+    ensures settled { IsReady g.now (HoldsFact g.now words.old) range closure.old.rules → result ≡ false → IsSettledAt g.now words.old vertex }
     ensures room { length marks.new ≡ length marks.old }
     ensures kept { closure.new ≡ closure.old }
 {
     if !is_formal_out(g.vertices.as_slice()[vertex as usize].kind) {
         return false;
     }
-    mark_back(closure, marks, vertex - stretch.first);
-    harvest(g, stretch, marks, vertex, places, words)
+    mark_back(closure, marks, vertex - range.first);
+    harvest(g, range, marks, vertex, places, words)
 }
 
 // Makes the facts that the rules of a function say of each of its formal-outs, and tells whether one is new.
 fn gather(
     g: &Graph,
-    stretch: Stretch,
+    range: VertexRange,
     closure: &mut Closure,
     marks: &mut VertexSet,
     places: &FactPlaces,
@@ -168,16 +166,16 @@ fn gather(
     requires shaped { IsShaped g.now }
     requires places { ArePlaces g.now places.now }
     requires sound { AreSound g.now words.old }
-    requires ready { IsReady g.now (HoldsFact g.now words.old) stretch closure.old.rules }
-    requires size { closure.old.size ≡ stretch.last - stretch.first }
-    requires room { length marks.old ≡ stretch.last - stretch.first }
+    requires ready { IsReady g.now (HoldsFact g.now words.old) range closure.old.rules }
+    requires size { closure.old.size ≡ range.last - range.first }
+    requires room { length marks.old ≡ range.last - range.first }
     ensures sound { AreSound g.now words.new }
     ensures grown { HaveGrown words.old words.new result }
-    ensures settled { result ≡ false → AreSettledIn g.now words.old stretch }
+    ensures settled { result ≡ false → AreSettledIn g.now words.old range }
 {
     let mut grows = false;
-    for vertex in stretch.first..stretch.last {
-        let new = gather_at(g, stretch, closure, marks, vertex, places, words);
+    for vertex in range.first..range.last {
+        let new = gather_at(g, range, closure, marks, vertex, places, words);
         grows = grows | new;
     }
     grows
@@ -188,7 +186,7 @@ fn gather(
 pub(crate) fn step(
     alloc: Global,
     g: &Graph,
-    stretch: Stretch,
+    range: VertexRange,
     edges: &[Edge],
     exits: &EdgeGroups,
     places: &FactPlaces,
@@ -197,18 +195,18 @@ pub(crate) fn step(
     requires shaped { IsShaped g.now }
     requires places { ArePlaces g.now places.now }
     requires sound { AreSound g.now words.old }
-    requires whole { IsWholeFunction g.now.vertices stretch }
-    requires order { stretch.first < stretch.last }
-    requires inside { stretch.last ≤ length g.now.vertices }
-    requires edges { (f : ℕ) → IsIn g.now.vertices f stretch.first → edges.now ≡ flat_map (starting g.now.vertices f) g.now.edges }
+    requires whole { IsWholeFunction g.now.vertices range }
+    requires order { range.first < range.last }
+    requires inside { range.last ≤ length g.now.vertices }
+    requires edges { (f : ℕ) → IsIn g.now.vertices f range.first → edges.now ≡ flat_map (starting g.now.vertices f) g.now.edges }
     requires exits { (c : ℕ) → group_at exits.now c ≡ flat_map (leaving c) g.now.edges }
     ensures sound { IfOk result (λ _. AreSound g.now words.new) }
     ensures grown { IfOk result (HaveGrown words.old words.new) }
-    ensures settled { IfOk result (λ grows. grows ≡ false → AreSettledIn g.now words.old stretch) }
+    ensures settled { IfOk result (λ grows. grows ≡ false → AreSettledIn g.now words.old range) }
 {
-    let rules = rules_of(alloc, stretch, edges, exits, places, words)?;
-    let size = stretch.last - stretch.first;
+    let rules = function_rules(alloc, range, edges, exits, places, words)?;
+    let size = range.last - range.first;
     let mut closure = Closure::prepare(alloc, size, rules)?;
     let mut marks = VertexSet::new(alloc, size)?;
-    Ok(gather(g, stretch, &mut closure, &mut marks, places, words))
+    Ok(gather(g, range, &mut closure, &mut marks, places, words))
 }

@@ -1,7 +1,7 @@
 use Rattle.std.proofs.Common.{◌≡◌, false, true, set, replicate, length, sym, ap, ◌∙◌, subst}
 use Rattle.std.specs.Prelude.{IsTrue}
 use Rattle.bit_rows.specs.Sets.{has}
-use Rattle.summary_edges.proofs.Chains.{back_of_derived, derived_of_back}
+use Rattle.matched_paths.proofs.ChainLaws.{back_of_derived, derived_of_back}
 use Rattle.summary_edges.proofs.Harvesting.{only_one, the_one}
 use Rattle.summary_edges.proofs.steps.mark_back.Goals as goal
 use Rattle.summary_edges.proofs.steps.mark_back.Goals.{After-close}

@@ -1,20 +1,22 @@
 //! The vertices of one function, which stand one after another.
 ghost use Rattle.std.specs.Prelude.{◌≡◌, ℕ, ◌^◌, ◌<◌, ◌≤◌, length};
 ghost use Rattle.dep_model.specs.Shapes.{AreConsecutive};
-ghost use Rattle.summary_edges.specs.Stretches.{AreApartAt, IsWholeFunction, is_of, within};
+ghost use Rattle.matched_paths.specs.VertexRanges.{AreApartAt, IsWholeFunction, is_of, within};
 
 use dep_model::{Vertex, VertexId};
 
 /// Vertices one after another: those from `first` on that stand before `last`.
-#[derive(Clone, Copy, Debug)]
-pub(crate) struct Stretch {
-    pub(crate) first: VertexId,
-    pub(crate) last: VertexId,
+#[derive(Clone, Copy, Debug, PartialEq, Eq)]
+pub struct VertexRange {
+    /// The number of the first.
+    pub first: VertexId,
+    /// The number behind the last.
+    pub last: VertexId,
 }
 
-impl Stretch {
+impl VertexRange {
     /// Whether the vertex is one of them.
-    pub(crate) fn has(self, vertex: VertexId) -> bool
+    pub fn has(self, vertex: VertexId) -> bool
         ensures { result ≡ within self vertex }
     {
         self.first <= vertex && vertex < self.last
@@ -22,7 +24,7 @@ impl Stretch {
 }
 
 /// The vertices of the function whose first vertex is this one.
-pub(crate) fn stretch_at(vertices: &[Vertex], first: VertexId) -> Stretch
+pub fn range_at(vertices: &[Vertex], first: VertexId) -> VertexRange
     requires few { length vertices.now < 2 ^ 32 }
     requires inside { first < length vertices.now }
     requires consecutive { AreConsecutive vertices.now }
@@ -38,7 +40,7 @@ pub(crate) fn stretch_at(vertices: &[Vertex], first: VertexId) -> Stretch
     while is_of(vertices, last, function) {
         last += 1;
     }
-    Stretch { first, last }
+    VertexRange { first, last }
 }
 
 // Whether there is such a vertex, of the function.

@@ -19,24 +19,24 @@ use Rattle.matched_paths.specs.Places.{Places, ArePlaces, holds_fact}
 use Rattle.matched_paths.proofs.CallShapes.{formals_of_call}
 use Rattle.matched_paths.proofs.GroupLaws.{leaving_is, leaving_has, starting_is, starting_has}
 use Rattle.matched_paths.proofs.Members.{contains_flat, flat_contains, if_contains, contains_if, all_of}
-use Rattle.summary_edges.specs.declared.stretch.Stretch.{Stretch}
-use Rattle.summary_edges.specs.StepRules.{inner_rules, crossing_rules, rules_by, step_rules, IsStepRule, AreStepRules}
-use Rattle.summary_edges.specs.Stretches.{within, IsWholeFunction}
+use Rattle.matched_paths.specs.declared.vertex_range.VertexRange.{VertexRange}
+use Rattle.matched_paths.specs.StepRules.{inner_rules, crossing_rules, rules_by, step_rules, IsStepRule, AreStepRules}
+use Rattle.matched_paths.specs.VertexRanges.{within, IsWholeFunction}
 
-pub within_is : (s : Stretch) (v : ℕ) → within s v ≡ true → (s.first ≤ v) × (v < s.last)
+pub within_is : (s : VertexRange) (v : ℕ) → within s v ≡ true → (s.first ≤ v) × (v < s.last)
 within_is s v h =
     let k = and_parts (not (nat_lt v s.first)) (nat_lt v s.last) h in
     let a = k.0 in
     let b = k.1 in
     (grind (arith, nat_tests, a), grind (arith, nat_tests, b))
 
-pub is_within : (s : Stretch) (v : ℕ) → s.first ≤ v → v < s.last → within s v ≡ true
+pub is_within : (s : VertexRange) (v : ℕ) → s.first ≤ v → v < s.last → within s v ≡ true
 is_within s v low high =
     let a : nat_lt v s.first ≡ false = grind (arith, nat_tests, low) in
     let b : nat_lt v s.last ≡ true = grind (arith, nat_tests, high) in
     and_from _ _ (ap not a) b
 
-module _ (g : Graph) (ws : List ℕ) (t : Places) (s : Stretch) (shaped : IsShaped g) (places : ArePlaces g t) (whole : IsWholeFunction g.vertices s) where
+module _ (g : Graph) (ws : List ℕ) (t : Places) (s : VertexRange) (shaped : IsShaped g) (places : ArePlaces g t) (whole : IsWholeFunction g.vertices s) where
   abbrev f : ℕ
   f = whole.function
 
@@ -127,7 +127,7 @@ module _ (g : Graph) (ws : List ℕ) (t : Places) (s : Stretch) (shaped : IsShap
     )
 
 -- the numbers of the rules are below the count of the function's vertices
-pub rules_within : (g : Graph) (K : FactSet) (s : Stretch) (whole : IsWholeFunction g.vertices s) (rules : List Rule) → AreStepRules g K whole.function s.first rules → All (IsRuleWithin (s.last - s.first)) rules
+pub rules_within : (g : Graph) (K : FactSet) (s : VertexRange) (whole : IsWholeFunction g.vertices s) (rules : List Rule) → AreStepRules g K whole.function s.first rules → All (IsRuleWithin (s.last - s.first)) rules
 rules_within g K s whole rules are = all_of (IsRuleWithin (s.last - s.first)) rules (λ r m.
     let p = (are r).0 m in
     let b = p.goes in

@@ -1,6 +1,6 @@
 use Rattle.std.proofs.Common.{sym, ◌∙◌, arith}
-use Rattle.summary_edges.proofs.Stretching.{run_begins, run_goes, run_whole, run_apart}
-use Rattle.summary_edges.proofs.stretch.stretch_at.Goals as goal
+use Rattle.matched_paths.proofs.RangeLaws.{run_begins, run_goes, run_whole, run_apart}
+use Rattle.matched_paths.proofs.vertex_range.range_at.Goals as goal
 
 pub loop-last-init : goal.loop-last-init
 loop-last-init c = run_begins c.args.vertices.now c.args.first _ c.requires.inside

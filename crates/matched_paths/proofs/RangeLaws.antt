@@ -8,7 +8,7 @@ use Rattle.dep_model.specs.declared.vertex.Vertex.{Vertex}
 use Rattle.dep_model.specs.declared.vertex.VertexKind.TheVariants.{Entry}
 use Rattle.dep_model.specs.Facts.{IsIn}
 use Rattle.dep_model.specs.Shapes.{AreConsecutive}
-use Rattle.summary_edges.specs.Stretches.{is_of, AreApartAt, IsWholeFunction}
+use Rattle.matched_paths.specs.VertexRanges.{is_of, AreApartAt, IsWholeFunction}
 
 -- the vertices from `first` on below `last` are of the function
 pub record IsRun (vs : List Vertex) (first last f : ℕ) : Type 0 where

@@ -1,6 +1,6 @@
 use Rattle.std.proofs.Common.{length, ◌-◌}
-use Rattle.summary_edges.proofs.Stretching.{IsRun}
-use Rattle.summary_edges.proofs.stretch.stretch_at.Given as goal
+use Rattle.matched_paths.proofs.RangeLaws.{IsRun}
+use Rattle.matched_paths.proofs.vertex_range.range_at.Given as goal
 
 abbrev pub invariant-loop-last : goal.invariant-loop-last
 invariant-loop-last l = IsRun l.vertices l.first l.last l.function

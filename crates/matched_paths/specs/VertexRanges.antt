@@ -3,10 +3,10 @@ use Rattle.std.specs.Prelude.{◌≡◌, ◌≢◌, ◌↔◌, ℕ, ◌<◌, ◌
 use Rattle.std.specs.Option.{option_map_or}
 use Rattle.dep_model.specs.declared.vertex.Vertex.{Vertex}
 use Rattle.dep_model.specs.Facts.{IsIn}
-use Rattle.summary_edges.specs.declared.stretch.Stretch.{Stretch}
+use Rattle.matched_paths.specs.declared.vertex_range.VertexRange.{VertexRange}
 
--- whether a vertex is one of a stretch
-abbrev pub within : Stretch → ℕ → Bool
+-- whether a vertex is one of a range
+abbrev pub within : VertexRange → ℕ → Bool
 within s v = not (nat_lt v s.first) && nat_lt v s.last
 
 -- whether there is such a vertex, of the function
@@ -17,7 +17,7 @@ is_of vs v f = option_map_or (λ (x : Vertex). x.function == f) (slice_get vs v)
 abbrev pub AreApartAt : List Vertex → ℕ → Type 0
 AreApartAt vs k = (u v : ℕ) (x y : Vertex) → u < k → k ≤ v → slice_get vs u ≡ Some x → slice_get vs v ≡ Some y → x.function ≢ y.function
 
--- the stretch has all vertices of one function, and no others
-pub record IsWholeFunction (vs : List Vertex) (s : Stretch) : Type 0 where
+-- the range has all vertices of one function, and no others
+pub record IsWholeFunction (vs : List Vertex) (s : VertexRange) : Type 0 where
   pub function : ℕ
   pub all : (v : ℕ) → IsIn vs function v ↔ ((s.first ≤ v) × (v < s.last))

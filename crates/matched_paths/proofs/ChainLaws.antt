@@ -9,10 +9,10 @@ use Rattle.dep_model.specs.declared.graph.Graph.{Graph}
 use Rattle.dep_model.specs.Facts.{FactSet, IsIn, IsInnerEdge, IsInnerChain}
 use Rattle.dep_model.specs.Facts as facts
 use Rattle.matched_paths.specs.Backward.{one_premise}
-use Rattle.summary_edges.specs.declared.stretch.Stretch.{Stretch}
-use Rattle.summary_edges.specs.StepRules.{IsBack, AreStepRules}
-use Rattle.summary_edges.specs.StepRules as rules_
-use Rattle.summary_edges.specs.Stretches.{IsWholeFunction}
+use Rattle.matched_paths.specs.declared.vertex_range.VertexRange.{VertexRange}
+use Rattle.matched_paths.specs.StepRules.{IsBack, AreStepRules}
+use Rattle.matched_paths.specs.StepRules as rules_
+use Rattle.matched_paths.specs.VertexRanges.{IsWholeFunction}
 
 -- ---- what rules derive from one number
 pub back_of_derived : {rules : List Rule} {s : List Bool} {n : ℕ} → ((v : ℕ) → IsTrue (has s v) → v ≡ n) → {v : ℕ} → Derived rules s v → IsBack rules n v
@@ -28,7 +28,7 @@ pub chain_begins : {g : Graph} {K : FactSet} {f a b : ℕ} → IsInnerChain g K 
 chain_begins (facts.ends i) = i
 chain_begins (facts.goes_on i e rest) = i
 
-module _ (g : Graph) (K : FactSet) (s : Stretch) (whole : IsWholeFunction g.vertices s) (rules : List Rule) (are : AreStepRules g K whole.function s.first rules) (b : ℕ) (b_in : IsIn g.vertices whole.function b) where
+module _ (g : Graph) (K : FactSet) (s : VertexRange) (whole : IsWholeFunction g.vertices s) (rules : List Rule) (are : AreStepRules g K whole.function s.first rules) (b : ℕ) (b_in : IsIn g.vertices whole.function b) where
   abbrev f : ℕ
   f = whole.function
 

@@ -1,24 +1,26 @@
 //! The rules by which one function is gone through backward: along its edges, and over its calls by facts.
 ghost use Rattle.std.specs.Prelude.{◌≡◌, ℕ, ◌<◌, ◌++◌, All, OnOk, IfOk, length, flat_map};
 ghost use Rattle.matched_paths.specs.EdgeGroups.{group_at};
-ghost use Rattle.summary_edges.specs.StepRules.{inner_rules, crossing_rules, step_rules};
+ghost use Rattle.matched_paths.specs.StepRules.{inner_rules, crossing_rules, step_rules};
 
-use crate::stretch::Stretch;
+use crate::backward::back;
+use crate::edge_groups::EdgeGroups;
+use crate::fact_places::FactPlaces;
+use crate::vertex_range::VertexRange;
 use dep_model::{Edge, Label, Rule, VertexId};
-use matched_paths::{EdgeGroups, FactPlaces, back};
 use std::alloc::{AllocError, Global};
 
 // Adds the rule that goes back from one vertex of the function to another.
 fn add_inner(
     rules: &mut Vec<Rule>,
-    stretch: Stretch,
+    range: VertexRange,
     from: VertexId,
     to: VertexId,
 ) -> Result<(), AllocError>
-    ensures { OnOk result (rules.new.items ≡ rules.old.items ++ inner_rules stretch from to) }
+    ensures { OnOk result (rules.new.items ≡ rules.old.items ++ inner_rules range from to) }
 {
-    if stretch.has(from) && stretch.has(to) {
-        rules.push(back(to - stretch.first, from - stretch.first))?;
+    if range.has(from) && range.has(to) {
+        rules.push(back(to - range.first, from - range.first))?;
     }
     Ok(())
 }
@@ -26,7 +28,7 @@ fn add_inner(
 // Adds the rules that go back over one call, from where `leaves` lead to where `enter` begins.
 fn add_crossings(
     rules: &mut Vec<Rule>,
-    stretch: Stretch,
+    range: VertexRange,
     enter: Edge,
     leaves: &[Edge],
     places: &FactPlaces,
@@ -34,11 +36,11 @@ fn add_crossings(
 ) -> Result<(), AllocError>
     requires enters { enter.to < length places.now.numbers }
     requires leaves { All (λ e. e.from < length places.now.rows) leaves.now }
-    ensures { OnOk result (rules.new.items ≡ rules.old.items ++ flat_map (crossing_rules stretch words.now places.now enter) leaves.now) }
+    ensures { OnOk result (rules.new.items ≡ rules.old.items ++ flat_map (crossing_rules range words.now places.now enter) leaves.now) }
 {
     for leave in leaves {
         if places.holds(words, enter.to, leave.from) {
-            add_inner(rules, stretch, enter.from, leave.to)?;
+            add_inner(rules, range, enter.from, leave.to)?;
         }
     }
     Ok(())
@@ -47,7 +49,7 @@ fn add_crossings(
 // Adds the rules of one edge that leads from the function.
 fn add_rules(
     rules: &mut Vec<Rule>,
-    stretch: Stretch,
+    range: VertexRange,
     edge: Edge,
     exits: &EdgeGroups,
     places: &FactPlaces,
@@ -55,19 +57,19 @@ fn add_rules(
 ) -> Result<(), AllocError>
     requires enters { edge.to < length places.now.numbers }
     requires leaves { (c : ℕ) → All (λ e. e.from < length places.now.rows) (group_at exits.now c) }
-    ensures { OnOk result (rules.new.items ≡ rules.old.items ++ step_rules stretch exits.now words.now places.now edge) }
+    ensures { OnOk result (rules.new.items ≡ rules.old.items ++ step_rules range exits.now words.now places.now edge) }
 {
     match edge.label {
-        Label::Control | Label::Flow => add_inner(rules, stretch, edge.from, edge.to),
-        Label::In(call) => add_crossings(rules, stretch, edge, exits.of(call), places, words),
+        Label::Control | Label::Flow => add_inner(rules, range, edge.from, edge.to),
+        Label::In(call) => add_crossings(rules, range, edge, exits.of(call), places, words),
         Label::Call(_) | Label::Out(_) => Ok(()),
     }
 }
 
 /// The rules of a function from whose vertices the edges lead. Err: no memory was left.
-pub(crate) fn rules_of(
+pub fn function_rules(
     alloc: Global,
-    stretch: Stretch,
+    range: VertexRange,
     edges: &[Edge],
     exits: &EdgeGroups,
     places: &FactPlaces,
@@ -75,11 +77,11 @@ pub(crate) fn rules_of(
 ) -> Result<Vec<Rule>, AllocError>
     requires enters { All (λ e. e.to < length places.now.numbers) edges.now }
     requires leaves { (c : ℕ) → All (λ e. e.from < length places.now.rows) (group_at exits.now c) }
-    ensures { IfOk result (λ rules. rules.items ≡ flat_map (step_rules stretch exits.now words.now places.now) edges.now) }
+    ensures { IfOk result (λ rules. rules.items ≡ flat_map (step_rules range exits.now words.now places.now) edges.now) }
 {
     let mut rules = Vec::new(alloc);
     for edge in edges {
-        add_rules(&mut rules, stretch, *edge, exits, places, words)?;
+        add_rules(&mut rules, range, *edge, exits, places, words)?;
     }
     Ok(rules)
 }

@@ -16,20 +16,20 @@ use Rattle.dep_model.specs.SystemGraph.{IsVertex}
 use Rattle.matched_paths.specs.Backward.{one_premise}
 use Rattle.matched_paths.specs.EdgeGroups.{group_at}
 use Rattle.matched_paths.specs.Places.{Places, holds_fact}
-use Rattle.summary_edges.specs.declared.stretch.Stretch.{Stretch}
-use Rattle.summary_edges.specs.Stretches.{within, IsWholeFunction}
+use Rattle.matched_paths.specs.declared.vertex_range.VertexRange.{VertexRange}
+use Rattle.matched_paths.specs.VertexRanges.{within, IsWholeFunction}
 
 -- ---- as they are made
 
 -- the rule from v back to u, where both are of the function
-abbrev pub inner_rules : Stretch → ℕ → ℕ → List Rule
+abbrev pub inner_rules : VertexRange → ℕ → ℕ → List Rule
 inner_rules s u v = if within s u && within s v then one_premise (v - s.first) (u - s.first) ∷ [] else []
 
 -- the rules of the call that `enter` enters and `leave` leaves, where the words hold the fact between them
-abbrev pub crossing_rules : Stretch → List ℕ → Places → Edge → Edge → List Rule
+abbrev pub crossing_rules : VertexRange → List ℕ → Places → Edge → Edge → List Rule
 crossing_rules s ws t enter leave = if holds_fact t ws enter.to leave.from then inner_rules s enter.from leave.to else []
 
-abbrev pub rules_by : Label → Stretch → List (List Edge) → List ℕ → Places → Edge → List Rule
+abbrev pub rules_by : Label → VertexRange → List (List Edge) → List ℕ → Places → Edge → List Rule
 rules_by Control s exits ws t e = inner_rules s e.from e.to
 rules_by Flow s exits ws t e = inner_rules s e.from e.to
 rules_by (Call c) s exits ws t e = []
@@ -37,7 +37,7 @@ rules_by (In c) s exits ws t e = flat_map (crossing_rules s ws t e) (group_at ex
 rules_by (Out c) s exits ws t e = []
 
 -- the rules of an edge
-abbrev pub step_rules : Stretch → List (List Edge) → List ℕ → Places → Edge → List Rule
+abbrev pub step_rules : VertexRange → List (List Edge) → List ℕ → Places → Edge → List Rule
 step_rules s exits ws t e = rules_by e.label s exits ws t e
 
 -- ---- what they say
@@ -65,15 +65,15 @@ pub data IsBack (rules : List Rule) (n : ℕ) : ℕ → Type 0 where
   itself : IsBack rules n n
   by : {r : Rule} → Contains rules r → IsBack rules n r.first → IsBack rules n r.second → IsBack rules n r.gives
 
--- the rules are those of the function of a stretch
-pub record IsReady (g : Graph) (K : FactSet) (s : Stretch) (rules : List Rule) : Type 0 where
+-- the rules are those of the function of a range
+pub record IsReady (g : Graph) (K : FactSet) (s : VertexRange) (rules : List Rule) : Type 0 where
   pub whole : IsWholeFunction g.vertices s
   pub order : s.first ≤ s.last
   pub inside : s.last ≤ length g.vertices
   pub rules_are : AreStepRules g K whole.function s.first rules
 
--- the marks are those of the vertices of the stretch's function from which inner chains lead to b, a formal-out
-pub record AreMarked (g : Graph) (K : FactSet) (s : Stretch) (marks : List Bool) (b : ℕ) : Type 0 where
+-- the marks are those of the vertices of the range's function from which inner chains lead to b, a formal-out
+pub record AreMarked (g : Graph) (K : FactSet) (s : VertexRange) (marks : List Bool) (b : ℕ) : Type 0 where
   pub whole : IsWholeFunction g.vertices s
   pub order : s.first ≤ s.last
   pub inside : s.last ≤ length g.vertices
@@ -83,5 +83,5 @@ pub record AreMarked (g : Graph) (K : FactSet) (s : Stretch) (marks : List Bool)
   pub chains : (v : ℕ) → IsIn g.vertices whole.function v → IsTrue (has marks (v - s.first)) ↔ IsInnerChain g K whole.function v b
 
 -- whether a vertex is a formal-in whose number is marked
-abbrev pub sees : List Vertex → Stretch → List Bool → ℕ → Bool
+abbrev pub sees : List Vertex → VertexRange → List Bool → ℕ → Bool
 sees vs s marks v = option_map_or (λ (x : Vertex). is_formal_in x.kind) (slice_get vs v) false && has marks (v - s.first)

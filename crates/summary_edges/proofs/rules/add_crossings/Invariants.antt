@@ -1,6 +1,0 @@
-use Rattle.std.proofs.Common.{◌≡◌, ◌++◌, take, flat_map}
-use Rattle.summary_edges.specs.StepRules.{crossing_rules}
-use Rattle.summary_edges.proofs.rules.add_crossings.Given as goal
-
-abbrev pub invariant-loop-leave : goal.invariant-loop-leave
-invariant-loop-leave l = l.rules.items ≡ l.fn.rules.items ++ flat_map (crossing_rules l.stretch l.words l.places l.enter) (take l.leave-index l.leaves)
