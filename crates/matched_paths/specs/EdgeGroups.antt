@@ -39,3 +39,29 @@ starts_at (Some x) f e = if_group x.function f e
 -- the edge, where it leads from a vertex of function f
 abbrev pub starting : List Vertex → ℕ → Edge → List Edge
 starting vs f e = starts_at (slice_get vs e.from) f e
+
+-- the edge, where it leads to vertex v
+abbrev pub ending : ℕ → Edge → List Edge
+ending v e = if_group e.to v e
+
+abbrev pub enters_by : Label → ℕ → Edge → List Edge
+enters_by Control c e = []
+enters_by Flow c e = []
+enters_by (Call d) c e = []
+enters_by (In d) c e = if_group d c e
+enters_by (Out d) c e = []
+
+-- the edge, where it leads from an actual-in of call c to its formal-in
+abbrev pub entering : ℕ → Edge → List Edge
+entering c e = enters_by e.label c e
+
+abbrev pub calls_by : Label → List Vertex → ℕ → Edge → List Edge
+calls_by Control vs h e = []
+calls_by Flow vs h e = []
+calls_by (Call c) vs h e = starts_at (slice_get vs e.to) h e
+calls_by (In c) vs h e = []
+calls_by (Out c) vs h e = []
+
+-- the edge, where it leads from a call vertex to the entry of function h
+abbrev pub calling : List Vertex → ℕ → Edge → List Edge
+calling vs h e = calls_by e.label vs h e

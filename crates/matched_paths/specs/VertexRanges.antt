@@ -21,3 +21,7 @@ AreApartAt vs k = (u v : ℕ) (x y : Vertex) → u < k → k ≤ v → slice_get
 pub record IsWholeFunction (vs : List Vertex) (s : VertexRange) : Type 0 where
   pub function : ℕ
   pub all : (v : ℕ) → IsIn vs function v ↔ ((s.first ≤ v) × (v < s.last))
+
+-- a vertex is one of a range
+abbrev pub IsInRange : VertexRange → ℕ → Type 0
+IsInRange s v = (s.first ≤ v) × (v < s.last)

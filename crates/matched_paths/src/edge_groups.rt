@@ -1,8 +1,8 @@
-//! Edges in groups by a number: those that leave a call, and those inside a function.
-ghost use Rattle.std.specs.Prelude.{◌≡◌, ℕ, ◌<◌, ◌++◌, OnOk, IfOk, length, flat_map};
-ghost use Rattle.matched_paths.specs.EdgeGroups.{group_at, grouped, if_group, leaving, starting};
+//! Edges in groups by a number: those that enter or leave a call, those inside a function, and those that lead to a vertex.
+ghost use Rattle.std.specs.Prelude.{◌≡◌, ℕ, ◌<◌, ◌++◌, OnOk, IfOk, length, flat_map, slice_get};
+ghost use Rattle.matched_paths.specs.EdgeGroups.{group_at, grouped, if_group, starts_at, leaving, starting, ending, entering, calling};
 
-use dep_model::{Edge, Label, Vertex};
+use dep_model::{Edge, Label, Vertex, VertexId};
 use std::alloc::{AllocError, Global};
 use std::marker::Model;
 
@@ -44,7 +44,44 @@ impl EdgeGroups {
     {
         let mut rows = Vec::new(alloc);
         for edge in edges {
-            add_start(alloc, &mut rows, vertices, *edge)?;
+            add_by_function(alloc, &mut rows, vertices, edge.from, *edge)?;
+        }
+        Ok(EdgeGroups { rows })
+    }
+
+    /// The edges that lead to each vertex, by the vertex. Err: no memory was left.
+    pub fn by_end(alloc: Global, edges: &[Edge]) -> Result<EdgeGroups, AllocError>
+        ensures { IfOk result (λ g. (v : ℕ) → group_at g v ≡ flat_map (ending v) edges.now) }
+    {
+        let mut rows = Vec::new(alloc);
+        for edge in edges {
+            add(alloc, &mut rows, edge.to, *edge)?;
+        }
+        Ok(EdgeGroups { rows })
+    }
+
+    /// The edges that lead from the actual-ins of each call to formal-ins, by the call's vertex. Err: no memory was left.
+    pub fn by_call_entered(alloc: Global, edges: &[Edge]) -> Result<EdgeGroups, AllocError>
+        ensures { IfOk result (λ g. (c : ℕ) → group_at g c ≡ flat_map (entering c) edges.now) }
+    {
+        let mut rows = Vec::new(alloc);
+        for edge in edges {
+            add_entry(alloc, &mut rows, *edge)?;
+        }
+        Ok(EdgeGroups { rows })
+    }
+
+    /// The edges from call vertices to the entry of each function, by the function. Err: no memory was left.
+    pub fn by_callee(
+        alloc: Global,
+        vertices: &[Vertex],
+        edges: &[Edge],
+    ) -> Result<EdgeGroups, AllocError>
+        ensures { IfOk result (λ g. (h : ℕ) → group_at g h ≡ flat_map (calling vertices.now h) edges.now) }
+    {
+        let mut rows = Vec::new(alloc);
+        for edge in edges {
+            add_call(alloc, &mut rows, vertices, *edge)?;
         }
         Ok(EdgeGroups { rows })
     }
@@ -78,16 +115,42 @@ fn add_exit(alloc: Global, rows: &mut Vec<Vec<Edge>>, edge: Edge) -> Result<(), 
     Ok(())
 }
 
-// Adds an edge to those of the function from which it leads.
-fn add_start(
+// Adds an edge to those that enter its call.
+fn add_entry(alloc: Global, rows: &mut Vec<Vec<Edge>>, edge: Edge) -> Result<(), AllocError>
+    ensures { OnOk result ((c : ℕ) → grouped rows.new c ≡ grouped rows.old c ++ entering c edge) }
+{
+    if let Label::In(call) = edge.label {
+        add(alloc, rows, call, edge)?;
+    }
+    Ok(())
+}
+
+// Adds an edge to the calls of the function to whose entry it leads.
+fn add_call(
     alloc: Global,
     rows: &mut Vec<Vec<Edge>>,
     vertices: &[Vertex],
     edge: Edge,
 ) -> Result<(), AllocError>
-    ensures { OnOk result ((f : ℕ) → grouped rows.new f ≡ grouped rows.old f ++ starting vertices.now f edge) }
+    ensures { OnOk result ((h : ℕ) → grouped rows.new h ≡ grouped rows.old h ++ calling vertices.now h edge) }
 {
-    match vertices.get(edge.from as usize) {
+    match edge.label {
+        Label::Call(_) => add_by_function(alloc, rows, vertices, edge.to, edge),
+        Label::Control | Label::Flow | Label::In(_) | Label::Out(_) => Ok(()),
+    }
+}
+
+// Adds an edge to those of the function of a vertex.
+fn add_by_function(
+    alloc: Global,
+    rows: &mut Vec<Vec<Edge>>,
+    vertices: &[Vertex],
+    vertex: VertexId,
+    edge: Edge,
+) -> Result<(), AllocError>
+    ensures { OnOk result ((f : ℕ) → grouped rows.new f ≡ grouped rows.old f ++ starts_at (slice_get vertices.now vertex) f edge) }
+{
+    match vertices.get(vertex as usize) {
         Some(vertex) => add(alloc, rows, vertex.function, edge),
         None => Ok(()),
     }

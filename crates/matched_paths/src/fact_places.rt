@@ -1,5 +1,5 @@
 //! Where the facts of a graph stand among its words.
-ghost use Rattle.std.specs.Prelude.{◌≡◌, ℕ, ◌+◌, ◌*◌, ◌^◌, ◌<◌, IfOk, length, All, AllPairs};
+ghost use Rattle.std.specs.Prelude.{◌≡◌, ◌≢◌, ℕ, ◌+◌, ◌*◌, ◌/◌, ◌^◌, ◌<◌, IfOk, length, get_or, All, AllPairs};
 ghost use Rattle.bit_rows.specs.Words.{word_bit};
 ghost use Rattle.dep_model.specs.FunctionVertices.{is_formal_in};
 ghost use Rattle.dep_model.specs.Shapes.{IsShaped, AreConsecutive};
@@ -54,6 +54,7 @@ impl FactPlaces {
         requires room { bit_of self.now formal_in formal_out < 64 * length words.old }
         ensures size { length words.new ≡ length words.old }
         ensures exact { HasOneMore (bit_of self.now formal_in formal_out) words.old words.new }
+        ensures others { (w : ℕ) → w ≢ bit_of self.now formal_in formal_out / 64 → get_or words.new w 0 ≡ get_or words.old w 0 }
     {
         let first = self.rows[formal_out as usize] as usize;
         let number = self.numbers[formal_in as usize] as usize;
@@ -66,6 +67,7 @@ fn set_bit(words: &mut [u64], bit: usize)
     requires { bit < 64 * length words.old }
     ensures size { length words.new ≡ length words.old }
     ensures exact { HasOneMore bit words.old words.new }
+    ensures others { (w : ℕ) → w ≢ bit / 64 → get_or words.new w 0 ≡ get_or words.old w 0 }
 {
     words[bit / 64] |= 1u64 << (bit % 64);
 }
