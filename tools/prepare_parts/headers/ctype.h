@@ -1,0 +1,1 @@
+/* Its functions are written as functions of the text. */
