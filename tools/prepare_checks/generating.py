@@ -399,7 +399,7 @@ class Generator:
             self.functions.append((name, count, is_pure))
 
     def body(self, params, count):
-        self.vars, self.counters, self.left = list(params), [], 18
+        self.vars, self.counters, self.left = list(params), [], 12
         self.depth = 1
         for _ in range(count):
             self.statement()

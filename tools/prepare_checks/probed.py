@@ -1,8 +1,9 @@
 #!/usr/bin/env python3
 """A text of the language as C that tells values on its error output: probed.py FILE [LINE..]
 
-Each statement that starts on one of the lines (or on any, with none) tells, each time, its line, its number among those of its line from 1
-on, and its values; a pointer tells whether it is null. `probed.py --lines FILE` writes the lines on which statements start.
+Each statement that starts on one of the lines tells, each time, 0, its number among those of all these lines from 1 on, and its values; a
+pointer tells whether it is null. With no line each statement tells its line, and its number among those of its line. `probed.py --lines FILE`
+writes the lines on which statements start.
 """
 import os
 import sys
@@ -98,12 +99,13 @@ class Probed(Page):
 
 
 def ranks_of(program, lines):
-    """The line and the rank among those of its line of each statement on the lines, by number."""
+    """By the number of each statement on the lines what it tells in front of its values."""
     found, counts = {}, {}
     for s, _ in program.statements:
         if not lines or s.line in lines:
-            counts[s.line] = counts.get(s.line, 0) + 1
-            found[s.number] = (s.line, counts[s.line])
+            line = 0 if lines else s.line
+            counts[line] = counts.get(line, 0) + 1
+            found[s.number] = (line, counts[line])
     return found
 
 

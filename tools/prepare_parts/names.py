@@ -46,6 +46,7 @@ class Names:
         self.front = []
         self.used = set()
         self.types = {}
+        self.outermost = None
 
     # scopes
 
@@ -161,9 +162,11 @@ class Names:
         self.types[id(node)] = struct
         if node.name:
             self.tags[-1][node.name] = struct
+        self.outermost = self.outermost or node
         self.add_members(struct, node)
         struct.is_defined = True
-        self.add_item("struct", struct, node)
+        self.add_item("struct", struct, self.outermost)
+        self.outermost = None if self.outermost is node else self.outermost
         return struct
 
     def tagged(self, node):
