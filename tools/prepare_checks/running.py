@@ -4,7 +4,7 @@ import subprocess
 
 HERE = os.path.dirname(os.path.realpath(__file__))
 TOP = os.path.join(HERE, "..", "..")
-PREPARE = os.path.join(TOP, "tools", "prepare")
+TOOL = {"prepare": os.path.join(TOP, "tools", "prepare")}
 FLAGS = ["-std=c99", "-w", "-O0", "-fno-builtin", "-fsanitize=address,undefined", "-fno-sanitize-recover=all"]
 ENVIRONMENT = {**os.environ, "ASAN_OPTIONS": "detect_leaks=0"}
 
@@ -35,7 +35,7 @@ def ran(program, text, seconds=20):
 
 def prepare(path, out, *options):
     """The status of tools/prepare, and what it told."""
-    done = subprocess.run([PREPARE, path, "-o", out, *options], stdout=subprocess.PIPE, stderr=subprocess.PIPE)
+    done = subprocess.run([TOOL["prepare"], path, "-o", out, *options], stdout=subprocess.PIPE, stderr=subprocess.PIPE)
     return done.returncode, done.stderr.decode(errors="replace")
 
 

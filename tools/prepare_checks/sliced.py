@@ -51,6 +51,10 @@ def check_example(path):
         first, second = ran(compiled(original, FLAGS), text), ran(compiled(out, FLAGS), text)
         if first[0] != wanted or second != first:
             raise Differs(f"{path}: {first}, {second}, and {wanted} is wanted")
+        words = [SLICER, "run", out, "--input", path + ".in"]
+        done = subprocess.run(words, stdout=subprocess.PIPE, stderr=subprocess.PIPE)
+        if done.stdout != wanted or done.returncode:
+            raise Differs(f"{path}: the slicer's run gives {done.returncode}, {done.stderr}, {done.stdout[-300:]}")
         return check_lines_of(path, out, folder, text)
 
 

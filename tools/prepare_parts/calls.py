@@ -44,7 +44,7 @@ class Calls:
         if isinstance(found, Entry):
             return self.call_of(node, found, args)
         if found is not None:
-            raise Refused(node, f"a call of {called}, which is no function")
+            raise Refused(node, found and f"a call of {called}, which is no function")
         own = getattr(self, "call_" + called, None)
         if own is not None:
             return own(node, args, is_effect)

@@ -95,6 +95,8 @@ class Control:
             front.append(flag)
         else:
             body = self.without_flag(body)
+        if not is_void:
+            body = self.without_last_flag(body)
         made.body = front + body + ([] if is_void else [Return(name(self.result), made.end)])
 
     def without_flag(self, statements):
@@ -109,6 +111,22 @@ class Control:
             elif isinstance(s, (Loop, Block)):
                 s.body = self.without_flag(s.body)
         return kept
+
+    def without_last_flag(self, statements):
+        """The statements without a flag for the return that is set where the function ends."""
+        if not statements:
+            return statements
+        last = statements[-1]
+        if isinstance(last, Assign) and last.place.word is self.done:
+            return self.without_last_flag(statements[:-1])
+        if isinstance(last, If):
+            last.then, last.other = self.without_last_flag(last.then), self.without_last_flag(last.other)
+        elif isinstance(last, Block):
+            last.body = self.without_last_flag(last.body)
+        elif isinstance(last, Switch):
+            for arm in last.arms:
+                arm.body = self.without_last_flag(arm.body)
+        return statements
 
     # flags
 

@@ -50,16 +50,13 @@ class Declarations:
 
     def named_type(self, node):
         t = self.type_of(node.type)
-        inner = node.type
-        while isinstance(inner, (c_ast.TypeDecl, c_ast.PtrDecl, c_ast.ArrayDecl)):
-            inner = inner.type
-        if isinstance(t, Struct) and not t.tag:
-            t.tag = self.free_tag(node.name)
-        self.name_structs(inner, node.name)
+        self.name_structs(node.type, node.name)
         self.scopes[-1][node.name] = Named(t)
 
     def name_structs(self, inner, stem):
-        """Gives a tag to a struct without one."""
+        """Gives a tag to the struct that a declarator defines without one."""
+        while isinstance(inner, (c_ast.TypeDecl, c_ast.PtrDecl, c_ast.ArrayDecl)):
+            inner = inner.type
         found = self.types.get(id(inner))
         if isinstance(found, Struct) and not found.tag:
             found.tag = self.free_tag(stem)
@@ -97,7 +94,6 @@ class Declarations:
             return
         t = self.type_of(node.type)
         self.name_structs(node.type, node.name or "struct")
-        self.name_structs(getattr(node.type, "type", None), node.name or "struct")
         if node.name is None:
             return
         if isinstance(t, Function):
@@ -152,10 +148,6 @@ class Declarations:
     def file_declaration(self, node):
         t = self.type_of(node.type)
         self.name_structs(node.type, node.name or "struct")
-        inner = node.type
-        while hasattr(inner, "type") and not isinstance(inner, c_ast.FuncDecl):
-            inner = inner.type
-            self.name_structs(inner, (node.name or "struct"))
         if node.name is None:
             return
         if isinstance(t, Function):

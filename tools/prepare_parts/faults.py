@@ -2,7 +2,7 @@
 
 
 class Refused(Exception):
-    """A construct that the step doesn't take."""
+    """A construct that the step doesn't take; without words where it is another's consequence, which isn't told again."""
 
     def __init__(self, node, words):
         super().__init__(words)
@@ -25,10 +25,13 @@ class Faults:
     def __init__(self, source):
         self.source = source
         self.found = {}
+        self.count = 0
         self.warnings = {}
 
     def add(self, node, words):
-        self.found.setdefault((self.place(node), words), None)
+        self.count += 1
+        if words:
+            self.found.setdefault((self.place(node), words), None)
 
     def warn(self, node, words):
         self.warnings.setdefault((self.place(node), words), None)

@@ -101,6 +101,8 @@ class Names:
         found = self.find(node.names[0]) if len(node.names) == 1 else None
         if isinstance(found, Named):
             return found.type
+        if found == "":
+            raise Refused(node, "")
         if node.names == ["void"]:
             return VOID
         words = " ".join(sorted(node.names))
@@ -184,6 +186,7 @@ class Names:
             if decl.bitsize is not None:
                 raise Refused(decl, "a bit-field: a whole member")
             t = self.type_of(decl.type)
+            self.name_structs(decl.type, decl.name)
             if decl.name is None:
                 raise Refused(decl, "a member without a name: a member with one")
             if isinstance(t, Function) or t == VOID or (isinstance(t, Array) and t.length is None):

@@ -60,7 +60,7 @@ def prepared(path, defines=(), folders=(), is_loose=False):
         faults, builder = built(source, tree, options, False)
     except NeedsRows:
         faults, builder = built(source, tree, options, True)
-    if faults.found or source.faults:
+    if faults.count or source.faults:
         raise Unable(source.faults + faults.lines(), 1)
     page = laid_out(builder, source)
     if page.late:

@@ -57,6 +57,7 @@ class Printer:
         self.fresh = fresh
         self.is_flat = builder.is_flat
         self.taken = set(LIBRARY) | KEYWORDS
+        self.in_scope = set(self.taken)
         self.scopes = []
         self.tags = {}
 
@@ -75,7 +76,7 @@ class Printer:
 
     def declare(self, var):
         """Names a local variable: its own name, where no other one in scope has it."""
-        is_free = var.name not in self.taken and not any(var.name in scope for scope in self.scopes)
+        is_free = var.name not in self.in_scope and not any(var.name in scope for scope in self.scopes)
         var.final = var.name if is_free else self.fresh(var.name)
         self.scopes[-1].add(var.final)
 
@@ -274,6 +275,10 @@ class Printer:
     # items
 
     def item(self, item):
+        what = item.what
+        names = {"global": lambda: what.final, "prototype": lambda: what.name, "text": lambda: what.name, "function": lambda: what.entry.name}
+        if item.kind in names:
+            self.in_scope.add(names[item.kind]())
         getattr(self, "item_" + item.kind)(item)
 
     def item_include(self, item):

@@ -57,9 +57,26 @@ class Builder(Names, Declarations, Initialisers, Expressions, Calls):
                 self.file_level(node)
             except Refused as fault:
                 self.faults.add(fault.node or node, fault.words)
+                self.give_up(node)
         if "main" not in self.defined_functions:
             self.faults.add(None, "there is no main: int main(void)")
         return self.items
+
+    def give_up(self, node):
+        """A name whose declaration is refused stands for nothing, and what uses it isn't told again."""
+        name = node.decl.name if isinstance(node, c_ast.FuncDef) else getattr(node, "name", None)
+        if name and name not in self.scopes[-1]:
+            self.scopes[-1][name] = ""
+
+    def tried(self, node, act, other):
+        """What an act gives, or something else where it is refused, so that what stands behind is looked at too."""
+        before = len(self.out)
+        try:
+            return act()
+        except Refused as fault:
+            del self.out[before:]
+            self.faults.add(fault.node or node, fault.words)
+            return other
 
     # functions
 
@@ -153,6 +170,8 @@ class Builder(Names, Declarations, Initialisers, Expressions, Calls):
         except Refused as fault:
             del self.out[before:]
             self.faults.add(fault.node or node, fault.words)
+            if isinstance(node, (c_ast.Decl, c_ast.Typedef)):
+                self.give_up(node)
 
     def do_Decl(self, node):
         self.local(node)
@@ -176,7 +195,7 @@ class Builder(Names, Declarations, Initialisers, Expressions, Calls):
 
     def do_If(self, node):
         line = self.line
-        test = self.test(node.cond)
+        test = self.tried(node.cond, lambda: self.test(node.cond), const(0))
         then = self.body(node.iftrue)
         other = self.body(node.iffalse)
         self.emit(If(test, then, other, line, self.end_of(node.iftrue), self.end_of(node.iffalse)))
@@ -184,7 +203,7 @@ class Builder(Names, Declarations, Initialisers, Expressions, Calls):
     def loop_test(self, node):
         """A test, and what has to be done in front of it each time; none where it is always true."""
         with self.capture() as before:
-            test = self.test(node)
+            test = self.tried(node, lambda: self.test(node), const(0))
         value = fold(test) if not before else None
         return before, None if value else test
 
@@ -254,7 +273,7 @@ class Builder(Names, Declarations, Initialisers, Expressions, Calls):
 
     def do_Switch(self, node):
         line = self.line
-        value = self.wants_int(self.value(node.cond), node.cond)
+        value = self.tried(node.cond, lambda: self.wants_int(self.value(node.cond), node.cond), const(0))
         self.open()
         self.arm_vars = []
         arms, nodes = [], (node.stmt.block_items or []) if isinstance(node.stmt, c_ast.Compound) else [node.stmt]
