@@ -1,2 +1,3 @@
-
-È
+int main(void) {
+    int x = È;
+}

@@ -1,2 +1,4 @@
-// a\
-x
+int main(void) {
+    // a\
+    int x = 1;
+}

@@ -1,1 +1,3 @@
-"a??!b"
+int main(void) {
+    "a??!b";
+}

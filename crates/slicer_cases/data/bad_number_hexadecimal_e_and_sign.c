@@ -1,1 +1,3 @@
-0xE+1
+int main(void) {
+    int x = 0xE+1;
+}

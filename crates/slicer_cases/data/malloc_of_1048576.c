@@ -1,0 +1,4 @@
+#include <stdlib.h>
+int main(void) {
+    char *p = malloc(1048576);
+}
