@@ -11,12 +11,12 @@ use Rattle.dep_model.specs.PointerFree.{IsPointerFree}
 use Rattle.dep_model.specs.SystemGraph.{Analysis, vertices_of}
 use Rattle.dep_model.specs.Words.{ReachesAny}
 use Rattle.kept_texts.proofs.WellFormedProjections.{projection_well_formed, projection_words}
-use Rattle.own_globals.proofs.TextGlobals.{globals_are_own}
+use Rattle.simulation_values.proofs.TextGlobals.{globals_are_own}
 use Rattle.own_words.specs.OwnWords.{KeepsWords}
-use Rattle.projected_values.proofs.Values.{projections_same_values}
+use Rattle.simulation_values.proofs.Values.{projections_same_values}
 use Rattle.projection.specs.KeptVertices.{kept_of}
 use Rattle.projection_laws.specs.Nested.{IsNested}
-use Rattle.sliced_runs.specs.SameValues.{StandFor, HasSameValues}
+use Rattle.simulation_values.specs.SameValues.{StandFor, HasSameValues}
 use Rattle.slice_engine.specs.Laws.{CanBeProjected}
 use Rattle.slice_engine.specs.Slice.{keeps, sliced}
 

@@ -16,7 +16,7 @@ use Rattle.dep_model.specs.PointerFree.{IsPointerFree}
 use Rattle.dep_model.specs.SystemGraph.{Analysis, IsAnalysis, vertices_of, AreSystemEdges}
 use Rattle.dep_model.specs.Words.{ReachesAny}
 use Rattle.mod_ref.specs.Effects.{AreEffectsByPlace}
-use Rattle.sliced_runs.specs.SameValues.{StandFor, HasSameValues}
+use Rattle.simulation_values.specs.SameValues.{StandFor, HasSameValues}
 use Rattle.slice_engine.specs.Slice.{keeps, sliced}
 
 -- ---- the graph

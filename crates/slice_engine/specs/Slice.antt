@@ -20,7 +20,7 @@ use Rattle.dep_model.specs.PointerFree.{IsPointerFree}
 use Rattle.dep_model.specs.SystemGraph.{Analysis, IsAnalysis, vertices_of, AreSystemEdges}
 use Rattle.kept_numbers.specs.Ranks.{rank}
 use Rattle.projection.specs.KeptVertices.{kept_words, kept_of, projection}
-use Rattle.sliced_runs.specs.SameValues.{HasSameValues}
+use Rattle.simulation_values.specs.SameValues.{HasSameValues}
 use Rattle.own_words.specs.OwnWords.{KeepsWords}
 
 -- whether a statement starts on a line

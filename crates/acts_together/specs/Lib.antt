@@ -1,3 +1,0 @@
-pub mod Likeness
-pub mod OwnGlobals
-pub mod Laws

@@ -1,2 +1,0 @@
-pub mod LikeCalls
-pub mod Laws

@@ -1,2 +1,0 @@
-pub mod HoldingCalls
-pub mod Tellings

@@ -1,6 +1,0 @@
-pub mod NewBlocks
-pub mod Constants
-pub mod NamelessTrees
-pub mod ConstantGlobals
-pub mod Globals
-pub mod Openings

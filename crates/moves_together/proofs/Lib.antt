@@ -1,2 +1,0 @@
-pub mod GoneFrames
-pub mod Moves

@@ -1,3 +1,0 @@
-pub mod BegunParts
-pub mod OwnedVariables
-pub mod TextGlobals

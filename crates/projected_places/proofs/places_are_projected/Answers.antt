@@ -1,5 +1,0 @@
-use Rattle.projected_places.proofs.Places as lemmas
-use Rattle.projected_places.proofs.places_are_projected.Goals as goal
-
-pub returns : goal.returns
-returns c = lemmas.places_are_projected

@@ -1,0 +1,4 @@
+pub mod Likeness
+pub mod OwnGlobals
+pub mod Laws
+pub mod LikeCalls

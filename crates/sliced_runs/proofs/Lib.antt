@@ -1,2 +1,0 @@
-pub mod SoundCalls
-pub mod Joint

@@ -1,2 +1,0 @@
-pub mod KeptOutlines
-pub mod AlikeOn

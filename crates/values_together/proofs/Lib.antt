@@ -1,5 +1,0 @@
-pub mod StandingObjects
-pub mod Operators
-pub mod Values
-pub mod Makings
-pub mod Acts

@@ -1,5 +1,0 @@
-use Rattle.wanted_locations.proofs.closed_sets_keep_calls.Goals as goal
-use Rattle.wanted_locations.proofs.KeptCalls.{keeps_call}
-
-pub returns : goal.returns
-returns c = λ p a edges kept f i g to args sound are closed m. keeps_call p a edges kept f i g to args sound are closed m

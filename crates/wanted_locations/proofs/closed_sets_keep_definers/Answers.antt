@@ -1,6 +1,0 @@
-use Rattle.std.proofs.Common.{◌≡◌, true}
-use Rattle.wanted_locations.proofs.ChainedClosing.{closing}
-use Rattle.wanted_locations.proofs.closed_sets_keep_definers.Goals as goal
-
-pub returns : goal.returns
-returns c = λ p a edges kept q holds sound is_analysis are closed. closing p a edges kept q (λ f. holds f ≡ true) sound is_analysis are closed
