@@ -1,0 +1,12 @@
+pub mod Members
+pub mod OperandForms
+pub mod Options
+pub mod PickForms
+pub mod Seeing
+pub mod TextOperands
+pub mod Treed
+pub mod TreeTypes
+pub mod TypedItems
+pub mod TypedPhrases
+pub mod TypedPrograms
+pub mod TypedTexts

@@ -1,0 +1,4 @@
+pub mod TreeOperands
+pub mod Picks
+pub mod TypedStatements
+pub mod Laws
