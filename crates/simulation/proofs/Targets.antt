@@ -1,5 +1,5 @@
 -- What a call tells when it begins, and targets that a slice keeps or drops.
-use Rattle.std.proofs.Common.{◌≡◌, ℕ, Bool, true, false, refl}
+use Rattle.std.proofs.Common.{◌≡◌, ℕ, [], Bool, true, false, refl}
 use Rattle.c_tree.specs.declared.statement.Target.{Target}
 use Rattle.c_tree.specs.declared.statement.Target.TheVariants as target
 use Rattle.c_meaning.specs.Acts.{shows}
