@@ -6,6 +6,7 @@ import shutil
 import subprocess
 import sys
 import tempfile
+from concurrent.futures import ThreadPoolExecutor
 
 from running import HERE, TOP, Differs, prepare, ran, same, compiled
 
@@ -32,19 +33,35 @@ def check_lines(path, out):
         raise Differs(f"{path}: no statement of the prepared text on the lines {sorted(missing)}")
 
 
-def check_program(path, inputs, seconds=20):
+def check_program(path, inputs, seconds=20, tool=None):
     """Prepares a program, and compares the runs and the lines; tells on how many inputs it ended."""
     out = path[:-2] + "_prepared.c"
-    status, told = prepare(path, out)
+    status, told = prepare(path, out, tool)
     if status:
         raise Differs(f"{path} is refused with {status}: {told}")
     check_lines(path, out)
     return same(path, out, inputs, seconds)
 
 
-def told(kind, count, wrong):
-    print(f"check_prepare: {kind}: {count} done, {wrong} wrong", flush=True)
-    return wrong
+def all_of(check, parts):
+    """Does a check for each part, several at a time; gives what each returned, or what is wrong of it."""
+    def tried(part):
+        try:
+            return check(part)
+        except Differs as fault:
+            return fault
+
+    with ThreadPoolExecutor(os.cpu_count()) as pool:
+        return list(pool.map(tried, parts))
+
+
+def told(kind, found):
+    """Tells what is wrong, and counts it."""
+    faults = [fault for fault in found if isinstance(fault, Differs)]
+    for fault in faults:
+        print(f"check_prepare: {kind}: {fault}")
+    print(f"check_prepare: {kind}: {len(found)} done, {len(faults)} wrong", flush=True)
+    return len(faults)
 
 
 def row_texts():
@@ -56,12 +73,13 @@ def row_texts():
             yield name, text, refused.split("\n")[:-1]
 
 
-def check_row(path, refused):
+def check_row(path, refused, tool=None):
+    """Checks a small text by the tool, or by a copy of it."""
     if not refused:
-        if not check_program(path, INPUTS):
+        if not check_program(path, INPUTS, 20, tool):
             raise Differs(f"{path} has an undefined act or doesn't end")
         return
-    status, words = prepare(path, path + ".out")
+    status, words = prepare(path, path + ".out", tool)
     if status != 1 or os.path.exists(path + ".out"):
         raise Differs(f"{path} has to be refused: {status}, {words}")
     for line in refused:
@@ -69,37 +87,33 @@ def check_row(path, refused):
             raise Differs(f"{path}: {line!r} isn't told, but: {words}")
 
 
-def rows():
-    count = wrong = 0
+def in_folder(name, text, check):
+    """Does a check with a file of its own."""
     with tempfile.TemporaryDirectory() as folder:
-        for count, (name, text, refused) in enumerate(row_texts(), 1):
-            path = os.path.join(folder, f"row{count}.c")
-            with open(path, "w") as file:
-                file.write(text)
-            try:
-                check_row(path, refused)
-            except Differs as fault:
-                wrong += 1
-                print(f"check_prepare: {name}: {fault}", flush=True)
-    return told("rows", count, wrong)
+        path = os.path.join(folder, name + ".c")
+        with open(path, "w") as file:
+            file.write(text)
+        return check(path)
+
+
+def rows():
+    def check(row):
+        try:
+            in_folder("row", row[1], lambda path: check_row(path, row[2]))
+        except Differs as fault:
+            raise Differs(f"{row[0]}: {fault}") from None
+
+    return told("rows", all_of(check, list(row_texts())))
 
 
 def random_programs(most=500, first=1):
     """Programs of the generator, each on two inputs."""
-    wrong = undefined = 0
-    for seed in range(first, first + most):
-        with tempfile.TemporaryDirectory() as folder:
-            path = os.path.join(folder, f"random{seed}.c")
-            with open(path, "w") as file:
-                file.write(ordinary_program(random.Random(seed)))
-            try:
-                undefined += not check_program(path, INPUTS[1:], 5)
-            except Differs as fault:
-                wrong += 1
-                print(f"check_prepare: random {seed}: {fault}", flush=True)
-    if undefined:
-        print(f"check_prepare: random: {undefined} without an end")
-    return told("random", most, wrong)
+    def check(seed):
+        return in_folder(f"random{seed}", ordinary_program(random.Random(seed)), lambda path: check_program(path, INPUTS[1:], 10))
+
+    found = all_of(check, range(first, first + most))
+    print(f"check_prepare: random: {found.count(0)} with an undefined act or without an end in time")
+    return told("random", found)
 
 
 def csmith(most=200, first=1):
@@ -107,23 +121,25 @@ def csmith(most=200, first=1):
     if not shutil.which("csmith") or not os.path.exists(SAFE_MATH):
         print("check_prepare: csmith isn't there: apt install csmith libcsmith-dev")
         return 0
-    wrong, refused, endless = 0, {}, 0
-    for seed in range(first, first + most):
+    refused = {}
+
+    def check(seed):
         with tempfile.TemporaryDirectory() as folder:
             path = csmith_program(folder, seed)
             try:
-                endless += not check_program(path, [b""], 5)
+                return check_program(path, [b""], 10)
             except Differs as fault:
                 place = re.search(r"is refused with 1: \S+:\d+:\d+: error: ([^:\n]*)", str(fault))
-                if place:
-                    refused[place.group(1)] = refused.get(place.group(1), 0) + 1
-                else:
-                    wrong += 1
-                    print(f"check_prepare: csmith {seed}: {fault}", flush=True)
-    print(f"check_prepare: csmith: {sum(refused.values())} refused with a place, {endless} without an end in time")
+                if not place:
+                    raise
+                refused[place.group(1)] = refused.get(place.group(1), 0) + 1
+                return 1
+
+    found = all_of(check, range(first, first + most))
+    print(f"check_prepare: csmith: {sum(refused.values())} refused with a place, {found.count(0)} without an end in time")
     for words, count in sorted(refused.items(), key=lambda part: -part[1]):
         print(f"    {count} {words}")
-    return told("csmith", most, wrong)
+    return told("csmith", found)
 
 
 def csmith_program(folder, seed):
@@ -143,20 +159,20 @@ def examples():
     from sliced import check_example
     folder = os.path.join(TOP, "examples", "ordinary")
     names = sorted(name[:-2] for name in os.listdir(folder) if name.endswith(".c"))
-    wrong = slices = 0
-    for name in names:
-        try:
-            slices += check_example(os.path.join(folder, name))
-        except Differs as fault:
-            wrong += 1
-            print(f"check_prepare: {name}: {fault}", flush=True)
-    print(f"check_prepare: examples: {slices} slices")
-    return told("examples", len(names), wrong)
+    found = all_of(lambda name: check_example(os.path.join(folder, name)), names)
+    print(f"check_prepare: examples: {sum(count for count in found if isinstance(count, int))} slices")
+    return told("examples", found)
 
 
 def planted():
-    from planting import find_all
-    return find_all()
+    from planting import PLANTS, is_found
+    texts = list(row_texts())
+
+    def check(plant):
+        if not is_found(plant, texts):
+            raise Differs(f"nothing finds the planted mistake: {plant[0]}")
+
+    return told("planted", all_of(check, PLANTS))
 
 
 KINDS = {"rows": rows, "examples": examples, "random": random_programs, "csmith": csmith, "planted": planted}

@@ -12,8 +12,15 @@ class Lines:
         self.source = source
         self.found = set()
 
+    def first_line(self, node):
+        """A declaration starts with its type, and each of its declarators on the line of the whole."""
+        lines = [node.coord.line] if node.coord and node.coord.line > 0 else []
+        if not isinstance(node, (c_ast.Struct, c_ast.Enum)):
+            lines += [self.first_line(child) for _, child in node.children()]
+        return min(lines or [10 ** 9])
+
     def add(self, node):
-        file, line = self.source.origin(node.coord.line)
+        file, line = self.source.origin(self.first_line(node) if isinstance(node, c_ast.Decl) else node.coord.line)
         if file == self.source.main:
             self.found.add(line)
 

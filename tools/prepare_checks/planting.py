@@ -3,8 +3,7 @@ import os
 import shutil
 import tempfile
 
-import running
-from running import HERE, TOP, Differs
+from running import TOP, Differs
 
 # What is wrong, the file, its text, the text in its place, and the beginning of the name of the small text that finds it.
 PLANTS = [
@@ -73,7 +72,6 @@ def is_found(plant, texts):
             raise SystemExit(f"check_prepare: the text of a planted mistake stands {text.count(old)} times in {file}: {old!r}")
         with open(path, "w") as source:
             source.write(text.replace(old, new))
-        running.TOOL["prepare"] = os.path.join(tool, "prepare")
         for number, (name, words, refused) in enumerate(texts):
             if not name.startswith(row):
                 continue
@@ -81,22 +79,7 @@ def is_found(plant, texts):
             with open(small, "w") as target:
                 target.write(words)
             try:
-                check_row(small, refused)
+                check_row(small, refused, os.path.join(tool, "prepare"))
             except Differs:
                 return True
     return False
-
-
-def find_all():
-    from kinds import row_texts
-    texts, wrong, kept = list(row_texts()), 0, dict(running.TOOL)
-    for plant in PLANTS:
-        if not is_found(plant, texts):
-            wrong += 1
-            print(f"check_prepare: nothing finds the planted mistake: {plant[0]}", flush=True)
-    running.TOOL.update(kept)
-    print(f"check_prepare: planted: {len(PLANTS)} done, {wrong} wrong", flush=True)
-    return wrong
-
-
-__all__ = ["find_all", "HERE"]

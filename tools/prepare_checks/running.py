@@ -4,7 +4,7 @@ import subprocess
 
 HERE = os.path.dirname(os.path.realpath(__file__))
 TOP = os.path.join(HERE, "..", "..")
-TOOL = {"prepare": os.path.join(TOP, "tools", "prepare")}
+PREPARE = os.path.join(TOP, "tools", "prepare")
 FLAGS = ["-std=c99", "-w", "-O0", "-fno-builtin", "-fsanitize=address,undefined", "-fno-sanitize-recover=all"]
 ENVIRONMENT = {**os.environ, "ASAN_OPTIONS": "detect_leaks=0"}
 
@@ -33,9 +33,9 @@ def ran(program, text, seconds=20):
     return done.stdout, done.returncode
 
 
-def prepare(path, out, *options):
-    """The status of tools/prepare, and what it told."""
-    done = subprocess.run([TOOL["prepare"], path, "-o", out, *options], stdout=subprocess.PIPE, stderr=subprocess.PIPE)
+def prepare(path, out, tool=None):
+    """The status of tools/prepare, or of a copy of it, and what it told."""
+    done = subprocess.run([tool or PREPARE, path, "-o", out], stdout=subprocess.PIPE, stderr=subprocess.PIPE)
     return done.returncode, done.stderr.decode(errors="replace")
 
 

@@ -53,6 +53,14 @@ def without_last_break(body):
     return body
 
 
+def without_lines(statements):
+    """Lets statements stand where the page stands: a test that is asked behind a step may have to stand behind that one's line."""
+    for s in statements:
+        s.line = None
+        for part in inner_lists(s):
+            without_lines(part)
+
+
 class Control:
     def __init__(self, fresh):
         self.fresh = fresh
@@ -276,7 +284,9 @@ class Control:
         if frame.go is None:
             frame.go = Var(self.fresh("go"), INT)
         go = frame.go
-        ask = s.before + ([Assign(name(go), "=", truth(s.test), s.before[0].line if s.before else s.line)] if s.test is not None else [])
+        ask = s.before + ([Assign(name(go), "=", truth(s.test))] if s.test is not None else [])
+        if s.kind == "for":
+            without_lines(ask)
         front = s.init + [self.begin(go, 1)]
         if s.kind == "do":
             guard = self.runs(stops)

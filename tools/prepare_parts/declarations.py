@@ -31,9 +31,9 @@ class Declarations:
 
     def first_line(self, node):
         coord = getattr(node, "coord", None)
-        lines = [coord.line] if coord else []
+        lines = [coord.line] if coord and coord.line > 0 else []
         if isinstance(node, (c_ast.Struct, c_ast.Enum)):
-            return lines[0] if lines else 1
+            return lines[0] if lines else 10 ** 9
         for _, child in node.children():
             if not isinstance(child, c_ast.Compound):
                 lines.append(self.first_line(child))
