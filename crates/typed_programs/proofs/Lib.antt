@@ -3,6 +3,7 @@ pub mod OperandForms
 pub mod Options
 pub mod PickForms
 pub mod Seeing
+mod SmallPrograms
 pub mod TextOperands
 pub mod Treed
 pub mod TreeTypes
