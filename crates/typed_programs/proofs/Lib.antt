@@ -11,3 +11,4 @@ pub mod TypedItems
 pub mod TypedPhrases
 pub mod TypedPrograms
 pub mod TypedTexts
+pub mod TypedUses
