@@ -183,10 +183,10 @@ class Generator:
 
     def block(self, count):
         self.depth += 1
-        known = len(self.vars)
+        known, counters = len(self.vars), len(self.counters)
         for _ in range(count):
             self.statement()
-        del self.vars[known:]
+        del self.vars[known:], self.counters[counters:]
         self.depth -= 1
 
     def statement(self):

@@ -8,7 +8,7 @@ import sys
 import tempfile
 from concurrent.futures import ThreadPoolExecutor
 
-from running import HERE, TOP, Differs, prepare, ran, same, compiled
+from running import HERE, LINES, TOP, Differs, prepare, same
 
 sys.path.insert(0, os.path.join(TOP, "tools", "prepare_parts"))
 
@@ -21,14 +21,8 @@ CSMITH = ("csmith --no-unions --no-bitfields --no-volatiles --no-packed-struct -
           "--max-pointer-depth 2").split()
 
 
-def plain_lines(path):
-    """The lines on which statements of a text of the language start."""
-    done = subprocess.run([sys.executable, os.path.join(HERE, "probed.py"), "--lines", path], stdout=subprocess.PIPE, check=True)
-    return {int(word) for word in done.stdout.split()}
-
-
 def check_lines(path, out):
-    missing = lines_with_statements(path) - plain_lines(out)
+    missing = lines_with_statements(path) - set(LINES.of(out))
     if missing:
         raise Differs(f"{path}: no statement of the prepared text on the lines {sorted(missing)}")
 
@@ -176,4 +170,3 @@ def planted():
 
 
 KINDS = {"rows": rows, "examples": examples, "random": random_programs, "csmith": csmith, "planted": planted}
-__all__ = ["KINDS", "ran", "compiled"]

@@ -2,8 +2,8 @@
 """A text of the language as C that tells values on its error output: probed.py FILE [LINE..]
 
 Each statement that starts on one of the lines tells, each time, 0, its number among those of all these lines from 1 on, and its values; a
-pointer tells whether it is null. With no line each statement tells its line, and its number among those of its line. `probed.py --lines FILE`
-writes the lines on which statements start.
+pointer tells whether it is null. With no line each statement tells its line, and its number among those of its line. `probed.py --lines`
+reads names of files from its input, a line each, and writes for each the lines on which statements start, or why the text isn't accepted.
 """
 import os
 import sys
@@ -11,6 +11,7 @@ import sys
 sys.path.insert(0, os.path.join(os.path.dirname(os.path.realpath(__file__)), "..", "..", "bench", "plain"))
 
 from layout import Page, simple_words, words_of
+from lexer import NotAccepted
 from names import read_program
 from tree import Pointer, decayed
 
@@ -117,19 +118,25 @@ def probed(text, lines):
     return "\n".join(HEAD + page.lines) + "\n"
 
 
-def lines_of(text):
-    return sorted({s.line for s, _ in read_program(text).statements})
+def lines_of(path):
+    try:
+        return " ".join(str(line) for line in sorted({s.line for s, _ in read_program(bytes_of(path)).statements}))
+    except NotAccepted as fault:
+        return f"! {fault}"
+
+
+def bytes_of(path):
+    with open(path, "rb") as file:
+        return file.read()
 
 
 def main():
     words = sys.argv[1:]
-    is_lines = words and words[0] == "--lines"
-    with open(words[is_lines], "rb") as file:
-        text = file.read()
-    if is_lines:
-        print(*lines_of(text))
+    if words == ["--lines"]:
+        for path in sys.stdin:
+            print(lines_of(path.rstrip("\n")), flush=True)
     else:
-        sys.stdout.write(probed(text, {int(word) for word in words[1:]}))
+        sys.stdout.write(probed(bytes_of(words[0]), {int(word) for word in words[1:]}))
 
 
 if __name__ == "__main__":

@@ -1,6 +1,8 @@
 """Compiles and runs programs, and prepares them: what all checks of tools/prepare share."""
 import os
 import subprocess
+import sys
+import threading
 
 HERE = os.path.dirname(os.path.realpath(__file__))
 TOP = os.path.join(HERE, "..", "..")
@@ -11,6 +13,29 @@ ENVIRONMENT = {**os.environ, "ASAN_OPTIONS": "detect_leaks=0"}
 
 class Differs(Exception):
     """What is wrong of a program."""
+
+
+class Lines:
+    """A process that tells on which lines of a text statements start."""
+
+    def __init__(self):
+        self.lock = threading.Lock()
+        self.process = None
+
+    def of(self, path):
+        with self.lock:
+            if self.process is None:
+                words = [sys.executable, os.path.join(HERE, "probed.py"), "--lines"]
+                self.process = subprocess.Popen(words, stdin=subprocess.PIPE, stdout=subprocess.PIPE, universal_newlines=True)
+            self.process.stdin.write(path + "\n")
+            self.process.stdin.flush()
+            told = self.process.stdout.readline()
+        if told.startswith("!"):
+            raise Differs(f"{path} isn't accepted by the second implementation: {told[2:]}")
+        return [int(word) for word in told.split()]
+
+
+LINES = Lines()
 
 
 def compiled(path, flags=FLAGS):

@@ -5,7 +5,7 @@ import subprocess
 import sys
 import tempfile
 
-from running import FLAGS, HERE, TOP, Differs, compiled, prepare, ran
+from running import FLAGS, HERE, LINES, TOP, Differs, compiled, prepare, ran
 
 SLICER = os.environ.get("SLICER") or os.path.join(TOP, ".built", "slicer")
 QUICK = ["-std=c99", "-w", "-O0"]
@@ -59,9 +59,8 @@ def check_example(path):
 
 
 def check_lines_of(path, out, folder, text):
-    lines = subprocess.run([sys.executable, os.path.join(HERE, "probed.py"), "--lines", out], stdout=subprocess.PIPE, check=True)
+    numbers = LINES.of(out)
     all_values = values(probed(out), text)
-    numbers = [int(word) for word in lines.stdout.split()]
     for line in numbers:
         check_slice(path, out, folder, text, line, all_values.get(line, []))
     return len(numbers)

@@ -50,6 +50,8 @@ class Calls:
             return own(node, args, is_effect)
         if called in library.FUNCTIONS:
             return self.call_of_text(node, called, args)
+        if called in self.defined_functions:
+            raise Refused(node, f"a call of {called} in front of its declaration: a prototype above")
         raise Refused(node, f"a call of {called}, which the file doesn't define: " + INSTEAD.get(called, "a function of your own"))
 
     def call_of(self, node, entry, args):

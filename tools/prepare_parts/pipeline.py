@@ -1,5 +1,6 @@
 """The passes one after another: from a file of ordinary C to a text of the language."""
 import re
+import subprocess
 import sys
 
 from faults import Faults, Unable
@@ -45,9 +46,15 @@ def parsed(source):
     except Exception as fault:
         told = re.match(r":?(\d+):(?:(\d+):)? ?(.*)", str(fault), re.S)
         if not told:
-            raise Unable([f"{source.main}:1:1: error: no C99: {fault}"], 1) from None
+            raise Unable(compiler_faults(source.main) or [f"{source.main}:1:1: error: no C99{fault}"], 1) from None
         file, line = source.origin(int(told.group(1)))
         raise Unable([f"{file}:{line}:{told.group(2) or 1}: error: no C99: {told.group(3)}"], 1) from None
+
+
+def compiler_faults(path):
+    """What the compiler tells of a file, where the parser tells no place."""
+    done = subprocess.run(["cc", "-std=c99", "-fsyntax-only", path], stdout=subprocess.DEVNULL, stderr=subprocess.PIPE)
+    return [line for line in done.stderr.decode("latin-1").split("\n") if ": error: " in line]
 
 
 def prepared(path, defines=(), folders=(), is_loose=False):
