@@ -4,6 +4,8 @@ Values stay small: an expression comes with a bound on how large its value can b
 one full expression no variable is changed twice, or read where it is changed; what touches globals stands in it once. Loops count on
 variables of their own, and functions call those above them.
 """
+import re
+
 VALUES = 100000
 LARGEST = 200000000
 HEAD = """#include <stdio.h>
@@ -27,7 +29,11 @@ static const char text[] = "some text";
 static int length(const char *s) { int n = 0; while (*s++) n++; return n; }
 static point moved(point p, int d) { p.x += d % 100; p.v[1] = d; return p; }
 static int weight(point p) { return p.x % 1000 + p.y % 1000 * 2 + p.v[SMALL(p.x) % 3] % 1000; }
-static int sum_of(int m[][4], int rows) { int s = 0; for (int i = 0; i < rows; i++) for (int j = 0; j < 4; j++) s += m[i][j]; return s % 1000; }
+static int sum_of(int m[][4], int rows) {
+    int s = 0;
+    for (int i = 0; i < rows; i++) for (int j = 0; j < 4; j++) s += m[i][j];
+    return s % 1000;
+}
 static int ticks(void) { static int n = 5; static unsigned char c; c += 100; return n++ % 50 + c; }
 """
 
@@ -42,6 +48,8 @@ class Scope:
 
 
 class Generator:
+    """Makes one program; the names that it may use stand in `vars`, and those that it may only read in `counters`."""
+
     def __init__(self, r):
         self.r = r
         self.lines = []
@@ -127,8 +135,7 @@ class Generator:
     @staticmethod
     def changes(words):
         """Whether a text, which a macro may repeat, does something."""
-        return "++" in words or "--" in words or "= " in words.replace("== ", "").replace("!= ", "").replace("<= ", "").replace(">= ", "") or \
-            "f" in words and "(" in words
+        return "++" in words or "--" in words or re.search(r"[^=!<>]= ", words) or ("f" in words and "(" in words)
 
     def effect(self, s, depth):
         free = [v for v in self.vars if v not in s.changed and v not in s.read]
@@ -147,7 +154,7 @@ class Generator:
         if kind == 4 and not s.is_global:
             s.is_global = True
             return self.r.choice([("ticks()", 400), ("g0++ % 100", 100), ("(gp = moved(gp, 3)).x % 100", 100), ("moved(gp, 2).v[1]", 10),
-                                  ("*(at + 1)++ % 9" if False else "(*at)++ % 9", 9), ("weight(moved(gp, 1))", 5000), ("sum_of(grid, 2)", 1000)])
+                                  ("(*at)++ % 9", 9), ("weight(moved(gp, 1))", 5000), ("sum_of(grid, 2)", 1000)])
         if kind == 5:
             return self.r.choice([("length(\"literal\")", 7), ("\"hex\"[1]", 127), ("length(words[1])", 9), ("(int)strlen(text)", 20),
                                   ("abs(-4)", 4), ("toupper('x')", 127), ("(isdigit('7') != 0)", 1)])

@@ -8,7 +8,7 @@ import sys
 import tempfile
 from concurrent.futures import ThreadPoolExecutor
 
-from running import HERE, LINES, TOP, Differs, prepare, same
+from running import HERE, LINES, TOP, Differs, compiled, prepare, ran, same
 
 sys.path.insert(0, os.path.join(TOP, "tools", "prepare_parts"))
 
@@ -19,6 +19,9 @@ INPUTS = [b"", b"hello world 123\nfoo x bar\n", b"9\n\t.;a Q 42 7\nx"]
 SAFE_MATH = "/usr/include/csmith/safe_math.h"
 CSMITH = ("csmith --no-unions --no-bitfields --no-volatiles --no-packed-struct --no-argc --concise --max-funcs 5 --max-block-depth 4 "
           "--max-pointer-depth 2").split()
+
+# csmith jumps by goto, and takes pointers to int for pointers to unsigned int; both are refused.
+LESS = [[], ["--no-jumps"], ["--no-jumps", "--no-pointers"], ["--no-jumps", "--no-pointers", "--no-structs"]]
 
 
 def check_lines(path, out):
@@ -59,16 +62,20 @@ def told(kind, found):
 
 
 def row_texts():
-    """The small texts: their names, and for a refused one what has to be told."""
+    """The small texts: their names, for a refused one what has to be told, and for one whose order C leaves open its output."""
     with open(os.path.join(HERE, "rows.txt")) as file:
         for part in file.read().split("=== ")[1:]:
             name, text = part.split("\n", 1)
             text, _, refused = text.partition("--- refused\n")
-            yield name, text, refused.split("\n")[:-1]
+            text, _, output = text.partition("--- output\n")
+            yield name, text, refused.split("\n")[:-1], output
 
 
-def check_row(path, refused, tool=None):
+def check_row(path, refused, output, tool=None):
     """Checks a small text by the tool, or by a copy of it."""
+    if output:
+        check_output(path, output, tool)
+        return
     if not refused:
         if not check_program(path, INPUTS, 20, tool):
             raise Differs(f"{path} has an undefined act or doesn't end")
@@ -79,6 +86,15 @@ def check_row(path, refused, tool=None):
     for line in refused:
         if line not in words:
             raise Differs(f"{path}: {line!r} isn't told, but: {words}")
+
+
+def check_output(path, output, tool):
+    """The prepared text has an output that was typed by hand."""
+    out = path + "_prepared.c"
+    status, words = prepare(path, out, tool)
+    found = ran(compiled(out), b"")[0].decode() if status == 0 else words
+    if found != output:
+        raise Differs(f"{path}: {found!r} instead of {output!r}")
 
 
 def in_folder(name, text, check):
@@ -93,7 +109,7 @@ def in_folder(name, text, check):
 def rows():
     def check(row):
         try:
-            in_folder("row", row[1], lambda path: check_row(path, row[2]))
+            in_folder("row", row[1], lambda path: check_row(path, row[2], row[3]))
         except Differs as fault:
             raise Differs(f"{row[0]}: {fault}") from None
 
@@ -142,7 +158,7 @@ def csmith_program(folder, seed):
     with open(os.path.join(folder, "safe_math_integers.h"), "w") as file:
         file.write(safe[:safe.index("STATIC float")] + "\n#endif\n#endif\n")
     shutil.copy(os.path.join(HERE, "csmith.h"), folder)
-    made = subprocess.run([*CSMITH, "--seed", str(seed)], stdout=subprocess.PIPE, check=True, cwd=folder)
+    made = subprocess.run([*CSMITH, "--seed", str(seed), *LESS[seed % len(LESS)]], stdout=subprocess.PIPE, check=True, cwd=folder)
     path = os.path.join(folder, f"csmith{seed}.c")
     with open(path, "wb") as file:
         file.write(b"#include <stdio.h>\n" + made.stdout)

@@ -6,7 +6,7 @@ from pycparser import c_ast
 import library
 from c_types import INT, UCHAR, Array, Int, Pointer, Struct, VOID, cells, decayed, innermost, promote, size
 from faults import Refused
-from formats import conversions, with_strings
+from formats import conversions
 from names import Entry
 from tree import Call, Declare, Heap, Invoke, Return, Var, X, const, fold, literal_bytes, name
 
@@ -22,10 +22,12 @@ INSTEAD = {
 
 
 def called_name(node):
+    """The name of the function that a call names, or None."""
     return node.name.name if isinstance(node, c_ast.FuncCall) and isinstance(node.name, c_ast.ID) else None
 
 
 def without_cast(node):
+    """What is cast, however often."""
     while isinstance(node, c_ast.Cast):
         node = node.expr
     return node
@@ -255,6 +257,3 @@ class Calls:
             self.text_functions[called, t] = self.fresh(called)
             self.front.append(("text", library.Text(form, t, self.text_functions[called, t], needed)))
         return self.text_functions[called, t]
-
-
-__all__ = ["Calls", "with_strings", "Entry"]

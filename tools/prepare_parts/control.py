@@ -24,6 +24,7 @@ def leaves(statements):
 
 
 def leaves_one(s):
+    """Whether what stands behind a statement is never reached from it."""
     if isinstance(s, (Break, Continue, Return)):
         return True
     if isinstance(s, If):
@@ -40,6 +41,7 @@ def breaks(statements):
 
 
 def returns_in(statements):
+    """How many returns stand in statements."""
     return sum(isinstance(s, Return) + sum(returns_in(part) for part in inner_lists(s)) for s in statements)
 
 
@@ -62,6 +64,8 @@ def without_lines(statements):
 
 
 class Control:
+    """Takes the jumps out of functions."""
+
     def __init__(self, fresh):
         self.fresh = fresh
         self.frames = []

@@ -7,8 +7,8 @@ from contextlib import contextmanager
 
 from pycparser import c_ast
 
-from c_types import (BOOL, CHAR, INT, LONG, UCHAR, ULONG, Array, Int, Pointer, Struct, VOID, cells, common, constant_type, decayed, is_scalar,
-                     number, promote, size)
+from c_types import (BOOL, INT, LONG, ULONG, Array, Int, Pointer, Struct, VOID, cells, common, constant_type, decayed, is_scalar, number,
+                     promote, size)
 from faults import Refused
 from names import Entry, Enumerated
 from tree import (Assign, Bump, Call, Declare, Effects, If, Invoke, Loop, Var, X, const, effects_of, fold, is_zero, literal_bytes, name,
@@ -140,7 +140,8 @@ class Expressions:
         if len(values) != 1:
             raise Refused(node, "a constant of several characters: one character")
         simple = node.value[1:-1]
-        is_plain = (len(simple) == 1 and 32 <= ord(simple) < 127) or (len(simple) == 2 and simple[0] == "\\" and simple[1] in "ntrabfv0\\'\"?")
+        is_escape = len(simple) == 2 and simple[0] == "\\" and simple[1] in "ntrabfv0\\'\"?"
+        is_plain = is_escape or (len(simple) == 1 and 32 <= ord(simple) < 127)
         return X("const", [], INT, node.value) if is_plain else const(values[0] - 256 if values[0] > 127 else values[0])
 
     def value_UnaryOp(self, node):
@@ -522,6 +523,3 @@ class Expressions:
         with self.capture() as found:
             self.effect(node)
         return found
-
-
-__all__ = ["Expressions", "NeedsRows", "CHAR", "UCHAR"]

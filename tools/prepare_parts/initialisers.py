@@ -1,13 +1,14 @@
 """Initialisers: lists where the language has them, else assignments in order behind the declaration; the rest is 0."""
 from pycparser import c_ast
 
-from c_types import CHAR, UCHAR, Array, Int, Pointer, Struct, cells, is_scalar
+from c_types import CHAR, INT, UCHAR, Array, Struct, cells, is_scalar
 from expressions import UNROLLED
 from faults import Refused
 from tree import Assign, Declare, Loop, Bump, Var, X, const, fold, literal_bytes, name
 
 
 def is_string(node):
+    """Whether a node is a string literal."""
     return isinstance(node, c_ast.Constant) and node.type == "string"
 
 
@@ -158,7 +159,9 @@ class Initialisers:
             self.store(name(var), value, init)
 
     def leaf(self, value, t):
-        return const(value - 256 if value > 127 and t == CHAR else value) if isinstance(value, int) else self.fitted(value, self.leaf_value(value, t), t)
+        if isinstance(value, int):
+            return const(value - 256 if value > 127 and t == CHAR else value)
+        return self.fitted(value, self.leaf_value(value, t), t)
 
     def leaf_value(self, node, t):
         return self.temp(self.heap(node, t), t) if self.is_malloc(node) else self.value(node)
@@ -211,10 +214,10 @@ class Initialisers:
             for at in range(first, length):
                 self.zero(self.element(None, place, const(at)))
             return
-        var = Var(self.fresh("t"), Int("int"))
+        var = Var(self.fresh("t"), INT)
         with self.capture() as body:
             self.zero(self.element(None, place, name(var)))
-        test = X("binary", [name(var), const(length)], Int("int"), "<")
+        test = X("binary", [name(var), const(length)], INT, "<")
         step = [Bump(name(var), "++", self.line)]
         self.emit(Loop("for", [Declare(var, const(first), None, self.line)], [], test, step, body, self.line))
 
@@ -278,6 +281,3 @@ class Initialisers:
 
     def main_begin(self, s):
         self.main_start.append(s)
-
-
-__all__ = ["Initialisers", "Pointer"]

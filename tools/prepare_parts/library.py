@@ -14,6 +14,7 @@ BYTES = (CHAR, UCHAR)
 
 @dataclass
 class Form:
+    """A function: its header, the words of its types (T* for a pointer to the type), its text, and the functions that it needs."""
     header: str
     result: str
     params: Tuple
@@ -40,6 +41,7 @@ def param_type(words, t):
 
 
 def is_class(condition):
+    """A function of <ctype.h>, by what it returns."""
     return Form("ctype.h", "int", ("int",), f"int $f(int $c) {{ return {condition}; }}")
 
 
@@ -79,7 +81,8 @@ FUNCTIONS = {
     "strncpy": Form("string.h", "T*", ("T*", "T*", "unsigned long"),
                     "$T *$f($T *$s, $T *$r, unsigned long $n) { unsigned long $k = 0; "
                     "while ($k < $n && $r[$k]) { $s[$k] = $r[$k]; $k++; } while ($k < $n) { $s[$k] = 0; $k++; } return $s; }"),
-    "strcat": Form("string.h", "T*", ("T*", "T*"), "$T *$f($T *$s, $T *$r) { unsigned long $n; $n = $strlen($s); $strcpy($s + $n, $r); return $s; }",
+    "strcat": Form("string.h", "T*", ("T*", "T*"),
+                   "$T *$f($T *$s, $T *$r) { unsigned long $n; $n = $strlen($s); $strcpy($s + $n, $r); return $s; }",
                    ("strlen", "strcpy")),
     "strncat": Form("string.h", "T*", ("T*", "T*", "unsigned long"),
                     "$T *$f($T *$s, $T *$r, unsigned long $n) { unsigned long $k; unsigned long $i = 0; $k = $strlen($s); "

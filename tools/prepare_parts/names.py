@@ -8,7 +8,7 @@ from typing import Any
 
 from pycparser import c_ast
 
-from c_types import (BOOL, INT, UINT, WORDS, Array, Function, Int, Pointer, Struct, VOID, is_scalar)
+from c_types import INT, UINT, WORDS, Array, Function, Int, Pointer, Struct, VOID, decayed, is_scalar
 from faults import Refused
 from tree import fold
 
@@ -33,10 +33,13 @@ class Named:
 
 @dataclass(eq=False)
 class Enumerated:
+    """A constant of an enumeration."""
     value: int
 
 
 class Names:
+    """The part of the builder that knows names, and reads types."""
+
     def __init__(self, faults):
         self.faults = faults
         self.scopes = [{}]
@@ -113,7 +116,7 @@ class Names:
 
     def array_of(self, node):
         of = self.type_of(node.type)
-        if isinstance(of, (Struct,)) and not of.is_defined:
+        if isinstance(of, Struct) and not of.is_defined:
             raise Refused(node, f"an array of struct {of.tag}, which isn't defined here")
         if node.dim is None:
             return Array(of, None)
@@ -219,7 +222,6 @@ class Names:
     # what is asked of types
 
     def wants_scalar(self, x, node):
-        from c_types import decayed
         if not is_scalar(decayed(x.type)):
             raise Refused(node, "no integer and no pointer where one is wanted")
         return x
@@ -228,6 +230,3 @@ class Names:
         if not isinstance(x.type, Int):
             raise Refused(node, "no integer where one is wanted")
         return x
-
-
-__all__ = ["Entry", "Enumerated", "Named", "Names", "BOOL"]

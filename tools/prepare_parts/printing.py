@@ -4,10 +4,10 @@
 statement whose line lies behind is a fault of this step, and is told.
 """
 import library
-from c_types import Array, Int, Pointer, Struct, VOID, cells, innermost
+from c_types import Array, Pointer, Struct, VOID, cells, innermost
 from declarations import KEYWORDS, LIBRARY
 from formats import with_strings
-from tree import (Assign, Block, Bump, Call, Declare, Heap, If, Invoke, Loop, Return, Switch, X, const, fold, is_zero, negated)
+from tree import Assign, Bump, Call, Declare, Heap, X, fold, is_zero, negated
 
 LEVELS = {"||": 2, "&&": 3, "|": 4, "^": 5, "&": 6, "==": 7, "!=": 7, "<": 8, ">": 8, "<=": 8, ">=": 8, "<<": 9, ">>": 9, "+": 10,
           "-": 10, "*": 11, "/": 11, "%": 11}
@@ -52,6 +52,8 @@ class Page:
 
 
 class Printer:
+    """Writes items on a page; `in_scope` has the names of the file that are in scope there, `scopes` those of the blocks around."""
+
     def __init__(self, builder, fresh):
         self.page = Page()
         self.fresh = fresh
@@ -222,13 +224,10 @@ class Printer:
         self.page.put("return;" if s.value is None else f"return {self.right(s.value)};", s.line)
 
     def put_Block(self, s):
-        self.page.open("", s.line) if False else self.open_block(s.line)
+        self.page.put("{", s.line)
+        self.page.depth += 1
         self.statements(s.body)
         self.page.close(s.end)
-
-    def open_block(self, line):
-        self.page.put("{", line)
-        self.page.depth += 1
 
     def put_If(self, s):
         test, then, other, end = s.test, s.then, s.other, s.then_end
@@ -263,7 +262,7 @@ class Printer:
 
     def put_Switch(self, s):
         self.page.open(f"switch ({self.expr(s.value)})", s.line)
-        for at, arm in enumerate(s.arms):
+        for arm in s.arms:
             labels = ["default:" if label is None else f"case {self.expr(label)}:" for label in arm.labels]
             self.page.put(" ".join(labels), arm.line)
             self.page.depth += 1
@@ -275,10 +274,12 @@ class Printer:
     # items
 
     def item(self, item):
-        what = item.what
-        names = {"global": lambda: what.final, "prototype": lambda: what.name, "text": lambda: what.name, "function": lambda: what.entry.name}
-        if item.kind in names:
-            self.in_scope.add(names[item.kind]())
+        if item.kind == "global":
+            self.in_scope.add(item.what.final)
+        elif item.kind == "function":
+            self.in_scope.add(item.what.entry.name)
+        elif item.kind in ("prototype", "text"):
+            self.in_scope.add(item.what.name)
         getattr(self, "item_" + item.kind)(item)
 
     def item_include(self, item):
@@ -334,6 +335,3 @@ class Printer:
         self.statements(made.body)
         self.scopes.pop()
         self.page.close(made.end)
-
-
-__all__ = ["Printer", "Page", "Int", "Invoke", "Return", "Switch", "If", "Loop", "Block", "const"]

@@ -1,14 +1,14 @@
 """Functions and statements: the tree of the parser as statements that still jump; each has its line."""
 from pycparser import c_ast
 
-from c_types import INT, UINT, Array, Int, Pointer, Struct, VOID, convert, promote
+from c_types import INT, Int, Pointer, Struct, VOID, convert, promote
 from calls import Calls
 from declarations import Declarations, Item
 from expressions import Expressions
 from faults import Refused
 from initialisers import Initialisers
 from names import Names
-from tree import const, Arm, Assign, Block, Break, Continue, If, Invoke, Loop, Return, Switch, Var, X, fold, name
+from tree import Arm, Assign, Block, Break, Continue, Declare, If, Loop, Return, Switch, Var, X, const, fold, inner_lists, name
 
 
 class Function:
@@ -275,7 +275,6 @@ class Builder(Names, Declarations, Initialisers, Expressions, Calls):
         line = self.line
         value = self.tried(node.cond, lambda: self.wants_int(self.value(node.cond), node.cond), const(0))
         self.open()
-        self.arm_vars = []
         arms, nodes = [], (node.stmt.block_items or []) if isinstance(node.stmt, c_ast.Compound) else [node.stmt]
         with self.capture() as found:
             for part in nodes:
@@ -316,7 +315,6 @@ class Builder(Names, Declarations, Initialisers, Expressions, Calls):
 def hoisted(arms, front):
     """The arms of a switch, and the declarations that have to stand in front of it: those before its first label and those of one arm
     whose variable another one names too."""
-    from tree import Declare
     declared = [s for s in front if isinstance(s, Declare)]
     for s in declared:
         s.value, s.items = None, None
@@ -348,11 +346,11 @@ def names(s, var):
     parts += getattr(s, "items", None) or []
     if any(isinstance(part, X) and named_in(part, var) for part in parts):
         return True
-    from tree import inner_lists
     return any(names(inner, var) for part in inner_lists(s) for inner in part)
 
 
 def named_in(x, var):
+    """Whether an expression names a variable."""
     return (x.kind == "name" and x.word is var) or any(named_in(part, var) for part in x.parts)
 
 
@@ -380,6 +378,3 @@ def tags_of(node):
     for _, child in node.children():
         found |= tags_of(child)
     return found
-
-
-__all__ = ["Builder", "Function", "Invoke", "UINT", "Array"]

@@ -12,7 +12,7 @@ A `row` is a row of an array of arrays that is laid out as one array: its root, 
 from dataclasses import dataclass, field
 from typing import Any, List, Optional
 
-from c_types import BOOL, INT, LONG, Array, Int, Pointer, Struct, VOID, binary, constant_type, convert, decayed, number, promote, unary
+from c_types import BOOL, INT, LONG, Array, Int, Pointer, VOID, binary, common, constant_type, convert, decayed, number, promote, unary
 
 
 @dataclass(eq=False)
@@ -29,6 +29,8 @@ class Var:
 
 
 class X:
+    """An expression: see above."""
+
     def __init__(self, kind, parts, t, word=None):
         self.kind = kind
         self.parts = parts
@@ -210,7 +212,6 @@ def both(a, b):
 
 def operator_type(op, a, b):
     """The type of a binary operator on integers."""
-    from c_types import common
     if op in ("<<", ">>"):
         return promote(a)
     return INT if op in OPPOSITES or op in ("&&", "||") else common(a, b)
