@@ -6,6 +6,10 @@ use std::process::Abort;
 
 const SHORT: usize = 4096;
 
+/// A program that reads bytes into a list.
+pub(crate) const LIST: &[u8] =
+    b"#include <stdio.h>\n#include <stdlib.h>\nstruct node {\n    int val;\n    struct node *next;\n};\nint main(void) {\n    struct node *head = NULL;\n    struct node *n;\n    int c = getchar();\n    while (c != EOF) {\n        n = malloc(sizeof(struct node));\n        n->val = c;\n        n->next = head;\n        head = n;\n        c = getchar();\n    }\n    int sum = 0;\n    int len = 0;\n    for (n = head; n != NULL; n = n->next) {\n        sum = sum + n->val;\n        len = len + 1;\n    }\n    printf(\"%d\\n\", sum);\n    printf(\"%d\\n\", len);\n    return 0;\n}\n";
+
 /// The program of the text.
 fn read<R: Abort + AllocGlobal>(rt: &R, text: &[u8]) -> Program {
     assert!(rt; text.len() < SHORT);
@@ -78,10 +82,7 @@ fn a_call_and_a_global(rt: HostRuntime) {
 
 #[test]
 fn a_list(rt: HostRuntime) {
-    let program = read(
-        &rt,
-        b"#include <stdio.h>\n#include <stdlib.h>\nstruct node {\n    int val;\n    struct node *next;\n};\nint main(void) {\n    struct node *head = NULL;\n    struct node *n;\n    int c = getchar();\n    while (c != EOF) {\n        n = malloc(sizeof(struct node));\n        n->val = c;\n        n->next = head;\n        head = n;\n        c = getchar();\n    }\n    int sum = 0;\n    int len = 0;\n    for (n = head; n != NULL; n = n->next) {\n        sum = sum + n->val;\n        len = len + 1;\n    }\n    printf(\"%d\\n\", sum);\n    printf(\"%d\\n\", len);\n    return 0;\n}\n",
-    );
+    let program = read(&rt, LIST);
     assert_eq!(&rt; program.statements, 18);
     are(
         &rt,

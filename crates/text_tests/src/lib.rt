@@ -8,6 +8,8 @@ mod answer_tests;
 #[cfg(test)]
 mod building;
 #[cfg(test)]
+mod front_tests;
+#[cfg(test)]
 mod layout_tests;
 #[cfg(test)]
 mod token_tests;
