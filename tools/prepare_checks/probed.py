@@ -8,7 +8,7 @@ reads names of files from its input, a line each, and writes for each the lines 
 import os
 import sys
 
-sys.path.insert(0, os.path.join(os.path.dirname(os.path.realpath(__file__)), "..", "..", "bench", "plain"))
+sys.path.insert(0, os.path.join(os.path.dirname(os.path.realpath(__file__)), "..", "..", "reference"))
 
 from layout import Page, simple_words, words_of
 from lexer import NotAccepted
