@@ -11,6 +11,8 @@ mod job;
 mod laws;
 mod rule;
 mod team;
+#[cfg(test)]
+mod tests;
 mod truth;
 mod view;
 
