@@ -7,8 +7,9 @@ use crate::calls::is_interrupted;
 use crate::{FetchFault, Opener, Shelf, Source};
 use std::alloc::Global;
 
-// How many bytes are read at once, at most.
-const CHUNK: usize = 8192;
+// How many bytes are read at once, at most. They stand on the stack, which never gets smaller: as much of it as the deepest walk needs
+// has then been touched before any memory is taken, so that where memory ends a walk is told so and meets no signal.
+const CHUNK: usize = 786432;
 
 /// The files of the system. It tells no contents, and a file that isn't there is a fault to it.
 #[derive(Drop)]
