@@ -23,4 +23,14 @@ pub mod OldBlocks
 pub mod InCalls
 pub mod CallTouched
 pub mod CallersCalled
+pub mod TypeTests
+pub mod Subobjects
+pub mod ListedObjects
+pub mod PointedObjects
+pub mod ObjectValues
+pub mod ObjectForms
+pub mod IndexForms
+pub mod MemberForms
+pub mod ValueForms
+pub mod BinaryForms
 mod LocationRows

@@ -8,4 +8,7 @@ pub mod Touching
 pub mod KeptCells
 pub mod DoneEffects
 pub mod CallTouching
+pub mod PointerLocations
+pub mod TypedStates
+pub mod DenotedCells
 pub mod Laws
