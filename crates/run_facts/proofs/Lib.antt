@@ -33,4 +33,5 @@ pub mod IndexForms
 pub mod MemberForms
 pub mod ValueForms
 pub mod BinaryForms
+pub mod ChooseForms
 mod LocationRows
