@@ -29,13 +29,13 @@ use Rattle.run_facts.specs.CellLocations.{location_in}
 use Rattle.run_facts.specs.DenotedCells.{LiesBy, IsObject, IsReadOf, AreTaken, IsDenoted}
 use Rattle.run_facts.specs.PointerLocations.{item_type, is_object}
 use Rattle.run_facts.specs.ReadCells.{Watched, both_read, watched_step, an_object as an_object_read}
-use Rattle.run_facts.specs.TypedStates.{IsValue, IsTyped}
+use Rattle.run_facts.specs.TypedStates.{IsValue, IsTypedState}
 use Rattle.run_facts.proofs.ListedObjects.{location_more, part_among, object_listed}
 use Rattle.run_facts.proofs.PointedObjects.{item_block, pointed_item, typed_same, item_listed, pointer_moved, moved_value, value_else}
 use Rattle.run_facts.proofs.ObjectValues.{array_target, array_item, points_of_array, ObjectParts, object_denoted}
 use Rattle.run_facts.proofs.ObjectForms.{pointee_is, both_there, by_number, item_place, reached_object, as_address}
 
-module _ (p : Program) (order : AreStructsInOrder p) (points : TargetsOf) (s : State) (typed : IsTyped p points s) (da di : Denoted) (wa wi : Watched) (na ni : Bool) (h : IsDenoted p s points na da wa) (k : IsDenoted p s points ni di wi) where
+module _ (p : Program) (order : AreStructsInOrder p) (points : TargetsOf) (s : State) (typed : IsTypedState p points s) (da di : Denoted) (wa wi : Watched) (na ni : Bool) (h : IsDenoted p s points na da wa) (k : IsDenoted p s points ni di wi) where
   abbrev Taken : (ℕ → Bool) → Type 0
   Taken = AreTaken p s
 

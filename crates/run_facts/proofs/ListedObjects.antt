@@ -37,7 +37,7 @@ use Rattle.dep_model.specs.Locations.{Located, TypedLocation, Heap, placed, part
 use Rattle.dep_model.proofs.Membership.{IsIn, in_of_contains, in_first, in_second, in_map}
 use Rattle.run_facts.specs.CellLocations.{merged, location_in}
 use Rattle.run_facts.specs.PointerLocations.{item_type, item_of, is_object}
-use Rattle.run_facts.specs.TypedStates.{IsBlockOf, IsTyped}
+use Rattle.run_facts.specs.TypedStates.{IsBlockOf, IsTypedState}
 use Rattle.run_facts.proofs.Subobjects.{path_type, part_type, at_place, path_listed, itself_in, elements_in}
 
 -- ---- one location
@@ -178,7 +178,7 @@ module _ (p : Program) where
         let here = path_listed p order path h.heap.elements u k (subst (λ t. path_type structs path t ≡ Some u) same m.same) i in
         subst (λ n. IsIn (locations p) (under (location_in (OfStatement n) (g ∷ path)) k)) h.id_is (site_listed h.heap (behind path k) (in_of_contains (function_heaps p p.functions) h.heap h.member) here)
 
-    module _ (points : TargetsOf) (s : State) (typed : IsTyped p points s) where
+    module _ (points : TargetsOf) (s : State) (typed : IsTypedState p points s) where
       -- the parts of an object in a state are listed
       pub object_parts : (q : Place) (o : Origin) (u : ExprType) (k : Located) → slice_get s.origins q.block ≡ Some o → is_object o q.path ≡ true → type_at s.memory q ≡ Some u → IsIn (parts p u) k → IsIn (locations p) (under (location_in o q.path) k)
       object_parts q o u k made is e i =

@@ -17,12 +17,12 @@ use Rattle.dep_model.specs.Designated.{is_root}
 use Rattle.dep_model.specs.LocationLists.{AreStructsInOrder}
 use Rattle.run_facts.specs.DenotedCells.{IsObject, AreTaken, IsDenoted}
 use Rattle.run_facts.specs.ReadCells.{Watched, watched_step}
-use Rattle.run_facts.specs.TypedStates.{IsTyped}
+use Rattle.run_facts.specs.TypedStates.{IsTypedState}
 use Rattle.run_facts.proofs.PointedObjects.{typed_same}
 use Rattle.run_facts.proofs.ObjectValues.{ObjectParts, object_denoted}
 use Rattle.run_facts.proofs.ObjectForms.{part_address, member_place, member_object}
 
-module _ (p : Program) (order : AreStructsInOrder p) (points : TargetsOf) (s : State) (typed : IsTyped p points s) (da : Denoted) (wa : Watched) (na : Bool) (h : IsDenoted p s points na da wa) where
+module _ (p : Program) (order : AreStructsInOrder p) (points : TargetsOf) (s : State) (typed : IsTypedState p points s) (da : Denoted) (wa : Watched) (na : Bool) (h : IsDenoted p s points na da wa) where
   abbrev Taken : (ℕ → Bool) → Type 0
   Taken = AreTaken p s
 

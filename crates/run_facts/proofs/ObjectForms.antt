@@ -41,7 +41,7 @@ use Rattle.run_facts.specs.CellLocations.{location_in}
 use Rattle.run_facts.specs.DenotedCells.{LiesBy, IsObject, IsReadOf, AreTaken, IsDenoted}
 use Rattle.run_facts.specs.PointerLocations.{item_type, item_of, is_object}
 use Rattle.run_facts.specs.ReadCells.{Reads, Watched, both_read, nothing_read, watched_step, an_object as an_object_read}
-use Rattle.run_facts.specs.TypedStates.{IsValue, IsTyped}
+use Rattle.run_facts.specs.TypedStates.{IsValue, IsTypedState}
 use Rattle.run_facts.proofs.Subobjects.{part_type, type_at_is, part_at, member_types}
 use Rattle.run_facts.proofs.ListedObjects.{location_itself, location_more, object_more, part_among, object_listed}
 use Rattle.run_facts.proofs.PointedObjects.{item_block, pointed_item, typed_same, item_listed, designated_reached, pointer_moved, moved_value, value_else}
@@ -93,7 +93,7 @@ by_number m x (To q) v e = none_there e
 abbrev pub item_place : ExprType → (State → Option Value) → State → Option Place
 item_place t pointer u = option_and_then (designated u.memory t) (pointer u)
 
-module _ (p : Program) (order : AreStructsInOrder p) (points : TargetsOf) (s : State) (typed : IsTyped p points s) where
+module _ (p : Program) (order : AreStructsInOrder p) (points : TargetsOf) (s : State) (typed : IsTypedState p points s) where
   abbrev Taken : (ℕ → Bool) → Type 0
   Taken = AreTaken p s
 

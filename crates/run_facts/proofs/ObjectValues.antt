@@ -32,7 +32,7 @@ use Rattle.run_facts.specs.CellLocations.{location_in}
 use Rattle.run_facts.specs.DenotedCells.{LiesBy, IsObject, IsReadOf, AreTaken, IsDenoted}
 use Rattle.run_facts.specs.PointerLocations.{item_layers, item_type, item_of}
 use Rattle.run_facts.specs.ReadCells.{Reads, Watched, object_read, an_object as an_object_read}
-use Rattle.run_facts.specs.TypedStates.{is_seen, Leads, IsValue, IsTyped}
+use Rattle.run_facts.specs.TypedStates.{is_seen, Leads, IsValue, IsTypedState}
 use Rattle.run_facts.proofs.ListedObjects.{location_more, part_among, target_among, object_listed, elements_listed}
 use Rattle.run_facts.proofs.PointedObjects.{item_listed, leads_else}
 
@@ -108,7 +108,7 @@ module _ (p : Program) (points : TargetsOf) (d : Denoted) where
   points_of_value l h =
       ap (λ (b : Bool). if b && is_array d.form.type then part_of p part.Element d.places l else (if b then object_points p points d l else d.points l)) h
 
-module _ (p : Program) (order : AreStructsInOrder p) (points : TargetsOf) (s : State) (typed : IsTyped p points s) where
+module _ (p : Program) (order : AreStructsInOrder p) (points : TargetsOf) (s : State) (typed : IsTypedState p points s) where
   abbrev Taken : (ℕ → Bool) → Type 0
   Taken = AreTaken p s
 

@@ -28,7 +28,7 @@ use Rattle.dep_model.specs.MayPoint.{site}
 use Rattle.dep_model.proofs.Membership.{IsIn, in_of_contains}
 use Rattle.run_facts.specs.CellLocations.{location_in}
 use Rattle.run_facts.specs.PointerLocations.{item_layers, item_type, item_of, is_object}
-use Rattle.run_facts.specs.TypedStates.{is_seen, IsSiteBlock, Leads, IsValue, IsTyped}
+use Rattle.run_facts.specs.TypedStates.{is_seen, IsSiteBlock, Leads, IsValue, IsTypedState}
 use Rattle.run_facts.proofs.Subobjects.{part_type, path_type, at_place, part_at, itself_in}
 use Rattle.run_facts.proofs.ListedObjects.{same_item, location_more, object_more, typed_location, site_listed, object_listed, elements_listed}
 
@@ -85,7 +85,7 @@ by_bool : (b : Bool) (A : Type 0) → (b ≡ true → A) → (b ≡ false → A)
 by_bool true A x y = x refl
 by_bool false A x y = y refl
 
-module _ (p : Program) (order : AreStructsInOrder p) (points : TargetsOf) (s : State) (typed : IsTyped p points s) where
+module _ (p : Program) (order : AreStructsInOrder p) (points : TargetsOf) (s : State) (typed : IsTypedState p points s) where
   -- a pointer into a block of malloc's is in an array of what the statement's target points to
   site_type : (q : Place) (i : ℕ) (u : ExprType) → slice_get s.origins q.block ≡ Some (OfStatement i) → q.path ≡ [] → type_at s.memory q ≡ Some u → IsSiteBlock p i u
   site_type q i u made none e =

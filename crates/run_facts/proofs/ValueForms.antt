@@ -33,7 +33,7 @@ use Rattle.dep_model.specs.LocationLists.{AreStructsInOrder}
 use Rattle.run_facts.specs.CellLocations.{location_in}
 use Rattle.run_facts.specs.DenotedCells.{IsReadOf, AreTaken, IsDenoted}
 use Rattle.run_facts.specs.ReadCells.{Reads, Watched, nothing_read, chosen_read, watched_step, a_value as a_value_read}
-use Rattle.run_facts.specs.TypedStates.{IsValue, IsTyped}
+use Rattle.run_facts.specs.TypedStates.{IsValue, IsTypedState}
 
 -- ---- options
 

@@ -61,7 +61,7 @@ module _ (p : Program) where
   module _ (points : TargetsOf) where
     -- each block has the type of what made it, a variable that is named has a block that it made, and what a cell holds is of the cell's
     -- type and leads to where the cell's location may point
-    pub record IsTyped (s : State) : Type 0 where
+    pub record IsTypedState (s : State) : Type 0 where
       pub structs_are : s.memory.structs ≡ structs_of p
       pub tracked : length s.origins ≡ length s.memory.blocks
       pub named : (x b : ℕ) → s.frame x ≡ Some b → slice_get s.origins b ≡ Some (OfVariable x)
