@@ -34,4 +34,6 @@ pub mod MemberForms
 pub mod ValueForms
 pub mod BinaryForms
 pub mod ChooseForms
+pub mod SeenCells
+pub mod LaterStates
 mod LocationRows
