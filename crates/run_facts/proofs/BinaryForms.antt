@@ -247,10 +247,10 @@ module _ (p : Program) (points : TargetsOf) (s : State) (da db : Denoted) (wa wb
       let u = db.form.type in
       let result = binary_tree_type op t u in
       let here = value_denoted p points s result (takes_either da.form db.form) (either_at result) (reads_either p points da db) (binary_at op t u) (both_read wa.read wb.read) false
-        (record {
-          null_is = λ e. absurd (false≢true e);
-          value_is = λ taken v e. let b = both_there (of_both op t u) (wa.meant.value s) (wb.meant.value s) v e in operator_value b.0 b.1.0 v (h.value (first_taken taken) b.0 b.1.1.0) (k.value (second_taken taken) b.1.0 b.1.1.1.0) op b.1.1.1.1;
-          reads_are = λ taken v e. let b = both_there (of_both op t u) (wa.meant.value s) (wb.meant.value s) v e in both_are p points s (value_reads p points da) (value_reads p points db) (wa.read s) (wb.read s) (h.read (first_taken taken) b.0 b.1.1.0) (k.read (second_taken taken) b.1.0 b.1.1.1.0);
-        }) in
+      (record {
+        null_is = λ e. absurd (false≢true e);
+        value_is = λ taken v e. let b = both_there (of_both op t u) (wa.meant.value s) (wb.meant.value s) v e in operator_value b.0 b.1.0 v (h.value (first_taken taken) b.0 b.1.1.0) (k.value (second_taken taken) b.1.0 b.1.1.1.0) op b.1.1.1.1;
+        reads_are = λ taken v e. let b = both_there (of_both op t u) (wa.meant.value s) (wb.meant.value s) v e in both_are p points s (value_reads p points da) (value_reads p points db) (wa.read s) (wb.read s) (h.read (first_taken taken) b.0 b.1.1.0) (k.read (second_taken taken) b.1.0 b.1.1.1.0);
+      }) in
       let first = subst (λ (c : ExprType). IsDenoted p s points false (denoted_step p points (Expr-F.Binary op da db)) (a_value_read (gives (binary_tree_type op c u) (binary_at op c u)) (both_read wa.read wb.read))) (sym h.type_is) here in
       subst (λ (c : ExprType). IsDenoted p s points false (denoted_step p points (Expr-F.Binary op da db)) (a_value_read (gives (binary_tree_type op wa.meant.type c) (binary_at op wa.meant.type c)) (both_read wa.read wb.read))) (sym k.type_is) first

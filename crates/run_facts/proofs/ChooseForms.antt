@@ -140,11 +140,11 @@ module _ (p : Program) (points : TargetsOf) (s : State) where
     pub choose_denoted : (types : Types) → IsChosen → IsDenoted p s points false (denoted_step p points (Expr-F.Choose dc da db)) (watched_step types (Expr-F.Choose wc wa wb))
     choose_denoted types is =
         let here = value_denoted p points s t takes either_at (either_of (value_reads p points dc) (reads_either p points da db)) (chosen_at t) chosen_reads false
-          (record {
-            null_is = λ e. absurd (false≢true e);
-            value_is = λ taken v e. let q = picked_there v e in subst (λ (r : ExprType). IsValue p s r either_at v) (sym (scalar_value t is.scalar)) (picked_value is taken (is_zero (tested q.test)) q.picked v q.picked_is q.converted);
-            reads_are = λ taken v e. all_read taken v (picked_there v e);
-          }) in
+        (record {
+          null_is = λ e. absurd (false≢true e);
+          value_is = λ taken v e. let q = picked_there v e in subst (λ (r : ExprType). IsValue p s r either_at v) (sym (scalar_value t is.scalar)) (picked_value is taken (is_zero (tested q.test)) q.picked v q.picked_is q.converted);
+          reads_are = λ taken v e. all_read taken v (picked_there v e);
+        }) in
         let first = subst (λ (c : ExprType). IsDenoted p s points false (denoted_step p points (Expr-F.Choose dc da db)) (a_value_read (gives (chosen_type c db.form.type) (chosen_at (chosen_type c db.form.type))) chosen_reads)) (sym h.type_is) here in
         subst (λ (c : ExprType). IsDenoted p s points false (denoted_step p points (Expr-F.Choose dc da db)) (a_value_read (gives (chosen_type wa.meant.type c) (chosen_at (chosen_type wa.meant.type c))) chosen_reads)) (sym k.type_is) first
 

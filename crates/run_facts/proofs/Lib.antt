@@ -36,4 +36,5 @@ pub mod BinaryForms
 pub mod ChooseForms
 pub mod SeenCells
 pub mod LaterStates
+pub mod BegunBlocks
 mod LocationRows

@@ -86,7 +86,7 @@ read_scalar m q v t r e =
     let n = then_there (slice_get b.value.cells) (cell_number m.structs q.path b.value.shape) c.value b.same in
     let o = then_there scalar_number (subobject m.structs q.path b.value.shape) n.value n.there in
     let at_ : type_at m q ≡ Some o.value.type =
-        ap (option_and_then (λ (k : Block). option_map (λ (u : Subobject). u.type) (subobject m.structs q.path k.shape))) b.there ∙ ap (option_map (λ (u : Subobject). u.type)) o.there in
+    ap (option_and_then (λ (k : Block). option_map (λ (u : Subobject). u.type) (subobject m.structs q.path k.shape))) b.there ∙ ap (option_map (λ (u : Subobject). u.type)) o.there in
     subst (λ (u : ExprType). is_scalar u ≡ true) (some_same (sym at_ ∙ e)) (by_test (is_scalar o.value.type) o.same (λ is same. is) (λ is none. none_there none))
 
 one_read : (P : Place → Type 0) (q : Place) → P q → All P (q ∷ [])
@@ -135,7 +135,7 @@ module _ (p : Program) (order : AreStructsInOrder p) (points : TargetsOf) (s : S
         let roots : Taken (is_root d.form.root) = λ x e. taken x (or_right (d.form.takes x) (is_array_place d.form && is_root d.form.root x) (and_from (is_array_place d.form) (is_root d.form.root x) is e)) in
         let l = location_in h.origin q.path in
         let there : location_in h.origin (item_in t.layers 0 q).path ≡ inside l part.Element =
-            ap (location_in h.origin) (array_item t.layers 0 q array) ∙ location_more h.origin q.path (hop.Element 0) h.object_is in
+        ap (location_in h.origin) (array_item t.layers 0 q array) ∙ location_more h.origin q.path (hop.Element 0) h.object_is in
         let among = part_among p part.Element d.places l (inside l part.Element) t (item_type t) (object_listed p order points s typed q h.origin t h.origin_is h.object_is h.type_is) (elements_listed p order points s typed q h.origin t h.origin_is h.object_is h.type_is array) refl h.among in
         start_leads d q (value_type t) (value_points p points d) h (seen_by d.form.root q.block h.origin h.lies h.origin_is roots) (array_target t.layers t.base array)
         (points_of_array p points d _ is ∙ subst (λ (m : Location). part_of p part.Element d.places m ≡ true) (sym there) among)
