@@ -1,6 +1,6 @@
 -- A state in which a block begins is typed, whatever made the block and whatever it holds, where what it holds is of its types.
 use Rattle.std.proofs.Common.{◌≡◌, ℕ, zero, suc, ◌<◌, List, [], ◌∷◌, ◌++◌, length, map, Option, Some, None, ◌⊎◌, inl, inr, refl, sym, ap, ◌∙◌, subst, arith}
-use Rattle.std.specs.Prelude.{option_map, option_and_then, slice_get}
+use Rattle.std.specs.Prelude.{option_and_then, slice_get}
 use Rattle.c_language.proofs.Options.{none_there, some_same, then_there}
 use Rattle.c_tree.specs.declared.program.Program.{Program}
 use Rattle.c_language.specs.declared.expr_type.ExprType.{ExprType}
@@ -8,7 +8,7 @@ use Rattle.c_meaning.specs.declared.value.Hop.{Hop}
 use Rattle.c_meaning.specs.declared.value.Place.{Place}
 use Rattle.c_meaning.specs.declared.value.Value.{Value}
 use Rattle.c_meaning.specs.Cells.{Structs, cells, cell_number}
-use Rattle.c_meaning.specs.Memory.{Kind, Block, Memory, held, cell_in, cell, read, unwritten, with_new}
+use Rattle.c_meaning.specs.Memory.{Kind, Block, held, cell_in, cell, read, unwritten, with_new}
 use Rattle.c_meaning.specs.Pointers.{type_at}
 use Rattle.c_meaning.specs.Values.{Origin, OfVariable, State}
 use Rattle.c_meaning.proofs.Origins.{both_longer}

@@ -1,13 +1,13 @@
 -- Binary operators: a pointer that is moved leads where it led, and every other operator gives a number.
-use Rattle.std.proofs.Common.{◌≡◌, ℕ, ℤ, List, [], ◌∷◌, ◌++◌, Option, Some, None, Bool, true, false, ◌&&◌, ◌||◌, refl, sym, ap, ◌∙◌, subst}
-use Rattle.std.specs.Prelude.{not, neg_ℤ, option_map, option_and_then, if◌then◌else◌, All}
+use Rattle.std.proofs.Common.{◌≡◌, ℕ, ℤ, List, [], ◌∷◌, Option, Some, Bool, true, false, ◌&&◌, ◌||◌, refl, sym, ap, subst}
+use Rattle.std.specs.Prelude.{not, neg_ℤ, option_and_then, if◌then◌else◌}
 use Rattle.std.proofs.lemmas.Bool.{false≢true, and_from, or_left, or_right}
 use Rattle.c_arith.specs.declared.int_type.IntType.{IntType}
 use Rattle.c_arith.specs.declared.int_type.IntType.TheVariants.{Long}
 use Rattle.c_arith.specs.declared.operators.BinaryOp.{BinaryOp}
 use Rattle.c_arith.specs.declared.operators.BinaryOp.TheVariants.{Mul, Div, Rem, Add, Sub, Shl, Shr, Less, Greater, AtMost, AtLeast, Equal, Unequal, And, Xor, Or}
-use Rattle.c_arith.specs.Operators.{truth, binary, binary_type}
-use Rattle.c_language.proofs.Options.{none_there, some_same, map_there, then_there}
+use Rattle.c_arith.specs.Operators.{truth, binary_type}
+use Rattle.c_language.proofs.Options.{none_there, map_there}
 use Rattle.c_language.proofs.Tests.{by_test}
 use Rattle.c_tree.specs.declared.expr.Expr.TheOpen.{Expr-F}
 use Rattle.c_tree.specs.declared.program.Program.{Program}
@@ -19,16 +19,13 @@ use Rattle.c_language.specs.declared.expr_type.Layer.TheVariants.{Pointer as AnA
 use Rattle.c_language.specs.declared.expr_type.ExprType.{ExprType}
 use Rattle.c_language.specs.ExprTypes.{is_pointer, value_layers, value_type}
 use Rattle.c_language.specs.TreeTypes.{int_type, combined, binary_tree_type}
-use Rattle.c_meaning.specs.declared.value.Pointer.{Pointer}
 use Rattle.c_meaning.specs.declared.value.Value.{Value}
 use Rattle.c_meaning.specs.declared.value.Value.TheVariants.{Number, Null, To}
 use Rattle.c_meaning.specs.Memory.{Memory}
-use Rattle.c_meaning.specs.Pointers.{are_together, are_equal, at_indices, equality, as_it_is, moved, moved_by, moved_back, at_pointers, at_pointer_left, at_pointer_right}
-use Rattle.c_meaning.specs.Values.{Types, State, at_number, at_numbers, number_in, converted_binary, at_operands, both_values, binary_value, gives}
-use Rattle.dep_model.specs.declared.location.Location.{Location}
+use Rattle.c_meaning.specs.Pointers.{are_together, are_equal, at_indices, equality, as_it_is, moved, moved_back, at_pointers, at_pointer_left, at_pointer_right}
+use Rattle.c_meaning.specs.Values.{Types, State, at_numbers, number_in, converted_binary, at_operands, binary_value, gives}
 use Rattle.dep_model.specs.Denoted.{Places, TargetsOf, Denoted, value_points, value_reads, reads_either, denoted_step}
 use Rattle.dep_model.specs.Designated.{value_takes, takes_either}
-use Rattle.dep_model.specs.LocationLists.{AreStructsInOrder}
 use Rattle.run_facts.specs.DenotedCells.{AreTaken, IsDenoted}
 use Rattle.run_facts.specs.ReadCells.{Watched, both_read, watched_step, a_value as a_value_read}
 use Rattle.run_facts.specs.TypedStates.{IsValue}

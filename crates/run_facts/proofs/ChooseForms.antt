@@ -1,14 +1,12 @@
 -- One of two operands is evaluated, and converted to the type of the whole; and `||`.
 use Rattle.std.proofs.Common.{◌≡◌, ℕ, ℤ, pos, List, [], ◌∷◌, ◌++◌, Option, Some, None, Bool, true, false, ◌&&◌, ◌||◌, ◌⊎◌, inl, inr, refl, sym, ap, ◌∙◌, subst}
-use Rattle.std.specs.Prelude.{not, option_map, option_and_then, is_some, if◌then◌else◌, All}
+use Rattle.std.specs.Prelude.{not, option_map, option_and_then, is_some, if◌then◌else◌}
 use Rattle.std.proofs.lemmas.Bool.{false≢true, and_from, or_left, or_right}
 use Rattle.std.proofs.lemmas.List.Elements.{All-nil}
 use Rattle.c_arith.specs.declared.int_type.IntType.{IntType}
 use Rattle.c_arith.specs.declared.int_type.IntType.TheVariants.{Int}
-use Rattle.c_arith.specs.IntType.{convert}
 use Rattle.c_arith.specs.Operators.{truth}
 use Rattle.c_language.proofs.Options.{none_there, some_same, map_there, then_there}
-use Rattle.c_language.proofs.Tests.{by_answer}
 use Rattle.c_tree.specs.declared.expr.Expr.TheOpen.{Expr-F}
 use Rattle.c_tree.specs.declared.program.Program.{Program}
 use Rattle.c_language.specs.ConstantEvaluation.{is_zero, or_value}

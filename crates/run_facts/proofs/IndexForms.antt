@@ -1,14 +1,13 @@
 -- An element: of an array it lies where the array does, and behind a pointer it is what that points to.
 use Rattle.std.proofs.Common.{◌≡◌, ℕ, ℤ, List, [], ◌∷◌, ◌++◌, Option, Some, None, Bool, true, false, ◌&&◌, ◌||◌, inl, inr, refl, sym, ap, ◌∙◌, subst}
-use Rattle.std.specs.Prelude.{option_map, option_and_then, slice_get, if◌then◌else◌, All}
-use Rattle.std.proofs.lemmas.Bool.{false≢true, and_parts, or_cases, or_left, or_right}
+use Rattle.std.specs.Prelude.{slice_get, if◌then◌else◌, All}
+use Rattle.std.proofs.lemmas.Bool.{and_parts, or_cases, or_left, or_right}
 use Rattle.std.proofs.lemmas.List.Elements.{All-append}
 use Rattle.c_arith.specs.declared.operators.BinaryOp.TheVariants.{Add}
-use Rattle.c_language.proofs.Options.{none_there, some_same, map_there, then_there}
+use Rattle.c_language.proofs.Options.{map_there, then_there}
 use Rattle.c_tree.specs.declared.expr.Expr.TheOpen.{Expr-F}
 use Rattle.c_tree.specs.declared.program.Program.{Program}
 use Rattle.c_language.specs.ConstantEvaluation.{operand_type}
-use Rattle.c_language.specs.DeclaredTypes.{pointer_to}
 use Rattle.c_language.specs.declared.expr_type.ExprType.{ExprType}
 use Rattle.c_language.specs.ExprTypes.{is_pointer, is_array, value_type}
 use Rattle.c_language.specs.TreeTypes.{int_type, pointee}
@@ -16,9 +15,9 @@ use Rattle.c_meaning.specs.declared.value.Hop.TheVariants as hop
 use Rattle.c_meaning.specs.declared.value.Place.{Place}
 use Rattle.c_meaning.specs.declared.value.Pointer.{Pointer}
 use Rattle.c_meaning.specs.declared.value.Value.{Value}
-use Rattle.c_meaning.specs.declared.value.Value.TheVariants.{Number, To}
-use Rattle.c_meaning.specs.Pointers.{whole_of, pointed, if_typed, designated, moved, start}
-use Rattle.c_meaning.specs.Values.{Types, Meant, State, at_operands, indexed, an_object}
+use Rattle.c_meaning.specs.declared.value.Value.TheVariants.{Number}
+use Rattle.c_meaning.specs.Pointers.{pointed, if_typed, designated, moved, start}
+use Rattle.c_meaning.specs.Values.{Types, State, at_operands, indexed, an_object}
 use Rattle.dep_model.specs.declared.location.Location.{Location}
 use Rattle.dep_model.specs.declared.location.Part.TheVariants as part
 use Rattle.dep_model.specs.Denoted.{Places, TargetsOf, Denoted, inside, part_of, either_of, value_points, value_reads, reads_either, denoted_step}
@@ -29,7 +28,7 @@ use Rattle.run_facts.specs.CellLocations.{location_in}
 use Rattle.run_facts.specs.DenotedCells.{LiesBy, IsObject, IsReadOf, AreTaken, IsDenoted}
 use Rattle.run_facts.specs.PointerLocations.{item_type, is_object}
 use Rattle.run_facts.specs.ReadCells.{Watched, both_read, watched_step, an_object as an_object_read}
-use Rattle.run_facts.specs.TypedStates.{IsValue, IsTypedState}
+use Rattle.run_facts.specs.TypedStates.{IsTypedState}
 use Rattle.run_facts.proofs.ListedObjects.{location_more, part_among, object_listed}
 use Rattle.run_facts.proofs.PointedObjects.{item_block, pointed_item, typed_same, item_listed, pointer_moved, moved_value, value_else}
 use Rattle.run_facts.proofs.ObjectValues.{array_target, array_item, points_of_array, ObjectParts, object_denoted}

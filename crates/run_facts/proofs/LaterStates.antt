@@ -1,23 +1,20 @@
 -- What is said of a value stays true where a state goes on: blocks keep their types and what made them, and others may begin.
-use Rattle.std.proofs.Common.{◌≡◌, ℕ, zero, suc, List, [], ◌∷◌, ◌++◌, length, Option, Some, None, inl, inr, refl, sym, ap, ◌∙◌, subst}
-use Rattle.std.specs.Prelude.{option_map, option_and_then, slice_get}
-use Rattle.std.proofs.lemmas.Bool.Decides.{eqb_tells}
-use Rattle.c_language.proofs.Options.{none_there, some_same, map_there}
+use Rattle.std.proofs.Common.{◌≡◌, ℕ, zero, suc, List, [], ◌∷◌, ◌++◌, Option, Some, None, refl, ap, ◌∙◌}
+use Rattle.std.specs.Prelude.{option_and_then, slice_get}
+use Rattle.c_language.proofs.Options.{none_there, some_same}
 use Rattle.c_tree.specs.declared.program.Program.{Program}
 use Rattle.c_language.specs.declared.expr_type.ExprType.{ExprType}
 use Rattle.c_meaning.specs.declared.value.Place.{Place}
-use Rattle.c_meaning.specs.declared.value.Pointer.{Pointer}
 use Rattle.c_meaning.specs.declared.value.Value.{Value}
 use Rattle.c_meaning.specs.declared.value.Value.TheVariants.{Number, Null, To}
 use Rattle.c_meaning.specs.Cells.{Structs}
-use Rattle.c_meaning.specs.Memory.{Block, Memory, changed, with_cell, write, gone, leave}
+use Rattle.c_meaning.specs.Memory.{Block, Memory, changed, with_cell, write, gone}
 use Rattle.c_meaning.specs.Pointers.{type_at, whole_of}
-use Rattle.c_meaning.specs.Values.{Origin, State, leave_block, variable_closed, all_closed}
+use Rattle.c_meaning.specs.Values.{Origin, State, leave_block}
 use Rattle.c_meaning.specs.Acts.{Store, stored}
-use Rattle.c_meaning.proofs.Frames.{get_changed, get_other}
 use Rattle.dep_model.specs.Denoted.{Places, TargetsOf}
 use Rattle.dep_model.specs.DoingEffects.{result_of}
-use Rattle.run_facts.specs.TypedStates.{Leads, IsValue, IsResult}
+use Rattle.run_facts.specs.TypedStates.{IsValue, IsResult}
 use Rattle.run_facts.proofs.Subobjects.{path_type, type_at_is, at_place}
 
 -- each block keeps its type

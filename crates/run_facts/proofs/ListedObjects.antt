@@ -1,30 +1,27 @@
 -- The objects of a state's blocks are locations of the program, and so is what pointers lead to.
-use Rattle.std.proofs.Common.{◌≡◌, ℕ, zero, suc, ◌+◌, ◌*◌, ◌<◌, ◌==◌, List, [], ◌∷◌, ◌++◌, length, map, Option, Some, None, Bool, true, false, ◌&&◌, ◌||◌, inl, inr, refl, sym, ap, ◌∙◌, subst, arith, eq-eqb, append-nil}
-use Rattle.std.specs.Prelude.{option_map, option_and_then, slice_get, nat_lt, if◌then◌else◌}
+use Rattle.std.proofs.Common.{◌≡◌, ℕ, zero, suc, ◌+◌, ◌*◌, ◌<◌, List, [], ◌∷◌, ◌++◌, length, map, Option, Some, None, Bool, true, false, ◌&&◌, inl, inr, refl, sym, ap, ◌∙◌, subst, arith, eq-eqb, append-nil}
+use Rattle.std.specs.Prelude.{option_map, slice_get, nat_lt, if◌then◌else◌}
 use Rattle.std.specs.List.{list_any}
 use Rattle.std.specs.Option.{option_map_or}
 use Rattle.std.proofs.lemmas.Bool.{false≢true, and_from, or_left, or_right}
 use Rattle.std.proofs.lemmas.List.{map-append}
 use Rattle.c_language.proofs.Lists.{no_list, tail_is}
 use Rattle.c_language.proofs.Options.{none_there, some_same, then_there}
-use Rattle.c_language.proofs.Tests.{by_test}
 use Rattle.c_tree.specs.declared.program.Program.{Program}
 use Rattle.c_tree.specs.declared.program.Var.{Var}
 use Rattle.c_arith.specs.declared.int_type.IntType.TheVariants.{Int}
 use Rattle.c_language.specs.DeclaredTypes.{integer}
 use Rattle.c_language.specs.Lists.{same_all}
-use Rattle.c_language.specs.declared.expr_type.Base.{Base}
 use Rattle.c_language.specs.declared.expr_type.Layer.{Layer}
 use Rattle.c_language.specs.declared.expr_type.Layer.TheVariants.{Pointer, Array}
 use Rattle.c_language.specs.declared.expr_type.ExprType.{ExprType}
-use Rattle.c_language.specs.ExprTypes.{is_array_in, is_array}
+use Rattle.c_language.specs.ExprTypes.{is_array}
 use Rattle.c_language.specs.TreeTypes.{shape_of, type_of_variable}
 use Rattle.c_meaning.specs.declared.value.Hop.{Hop}
 use Rattle.c_meaning.specs.declared.value.Hop.TheVariants as hop
 use Rattle.c_meaning.specs.declared.value.Place.{Place}
 use Rattle.c_meaning.specs.Cells.{Structs, Subobject, structs_of, cell_count}
-use Rattle.c_meaning.specs.Memory.{Block}
-use Rattle.c_meaning.specs.Pointers.{type_at, whole_of, item_in}
+use Rattle.c_meaning.specs.Pointers.{type_at, item_in}
 use Rattle.c_meaning.specs.Values.{Origin, OfVariable, OfStatement, State}
 use Rattle.dep_model.specs.declared.location.Location.{Location}
 use Rattle.dep_model.specs.declared.location.Part.{Part}
@@ -36,7 +33,7 @@ use Rattle.dep_model.specs.LocationLists.{AreStructsInOrder}
 use Rattle.dep_model.specs.Locations.{Located, TypedLocation, Heap, placed, parts, rooted, variable_locations, site_locations, result_locations, function_heaps, locations, same_root, same_part, same_location}
 use Rattle.dep_model.proofs.Membership.{IsIn, in_of_contains, in_first, in_second, in_map}
 use Rattle.run_facts.specs.CellLocations.{merged, location_in}
-use Rattle.run_facts.specs.PointerLocations.{item_type, item_of, is_object}
+use Rattle.run_facts.specs.PointerLocations.{item_type, is_object}
 use Rattle.run_facts.specs.TypedStates.{IsBlockOf, IsTypedState}
 use Rattle.run_facts.proofs.Subobjects.{path_type, part_type, at_place, path_listed, itself_in, elements_in}
 

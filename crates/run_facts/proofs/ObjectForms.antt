@@ -1,51 +1,45 @@
 -- The forms of expressions that designate objects: a name, what a pointer points to, an element, and a member.
-use Rattle.std.proofs.Common.{◌≡◌, ℕ, zero, suc, ℤ, List, [], ◌∷◌, ◌++◌, length, map, Option, Some, None, Bool, true, false, ◌&&◌, ◌||◌, inl, inr, refl, sym, ap, ◌∙◌, subst, arith}
-use Rattle.std.specs.Prelude.{option_map, option_and_then, slice_get, slice_index_or, unwrap_or, if◌then◌else◌, All}
+use Rattle.std.proofs.Common.{◌≡◌, ℕ, zero, suc, ℤ, List, [], ◌∷◌, length, map, Option, Some, None, Bool, true, false, refl, sym, ap, ◌∙◌, subst, arith}
+use Rattle.std.specs.Prelude.{option_map, option_and_then, slice_get, unwrap_or}
 use Rattle.std.specs.Option.{option_map_or}
-use Rattle.std.proofs.lemmas.Bool.{false≢true, and_parts, or_cases, or_left, or_right}
-use Rattle.std.proofs.lemmas.List.Elements.{All-append, All-nil}
-use Rattle.c_arith.specs.declared.int_type.IntType.{IntType}
+use Rattle.std.proofs.lemmas.Bool.{false≢true, or_left}
+use Rattle.std.proofs.lemmas.List.Elements.{All-nil}
 use Rattle.c_arith.specs.declared.int_type.IntType.TheVariants.{Int}
-use Rattle.c_arith.specs.declared.operators.BinaryOp.TheVariants.{Add}
 use Rattle.c_language.proofs.Options.{none_there, some_same, map_there, then_there}
 use Rattle.c_tree.specs.declared.expr.Expr.TheOpen.{Expr-F}
 use Rattle.c_tree.specs.declared.expr.MemberId.{MemberId}
 use Rattle.c_tree.specs.declared.program.Member.{Member}
 use Rattle.c_tree.specs.declared.program.Program.{Program}
-use Rattle.c_language.specs.ConstantEvaluation.{operand_type}
 use Rattle.c_language.specs.DeclaredTypes.{integer, pointer_to, void}
 use Rattle.c_language.specs.declared.expr_type.Base.{Base}
 use Rattle.c_language.specs.declared.expr_type.Layer.{Layer}
 use Rattle.c_language.specs.declared.expr_type.Layer.TheVariants.{Pointer as AnAddress, Array}
 use Rattle.c_language.specs.declared.expr_type.ExprType.{ExprType}
 use Rattle.c_language.specs.ExprTypes.{target_of, is_pointer, is_array, value_type}
-use Rattle.c_language.specs.TreeTypes.{shape_of, members_of, type_of_variable, type_of_member, typing_of, int_type, pointee}
+use Rattle.c_language.specs.TreeTypes.{shape_of, members_of, type_of_member, typing_of, pointee}
 use Rattle.c_meaning.specs.declared.value.Hop.{Hop}
 use Rattle.c_meaning.specs.declared.value.Hop.TheVariants as hop
 use Rattle.c_meaning.specs.declared.value.Place.{Place}
-use Rattle.c_meaning.specs.declared.value.Pointer.{Pointer}
 use Rattle.c_meaning.specs.declared.value.Value.{Value}
 use Rattle.c_meaning.specs.declared.value.Value.TheVariants.{Number, Null, To}
 use Rattle.c_meaning.specs.Cells.{Structs, Subobject, structs_of, cell_count, behind, member_in}
 use Rattle.c_meaning.specs.Memory.{Block, Memory}
 use Rattle.c_meaning.specs.Pointers.{type_at, whole_of, pointed, if_typed, designated, moved, moved_by, start}
 use Rattle.c_meaning.specs.Pointers as pointing
-use Rattle.c_meaning.specs.Values.{Types, Meant, Origin, OfVariable, State, whole, variable_place, at_operands, both_values, indexed, owner_of, member_of, pointed_member, an_object}
-use Rattle.dep_model.specs.declared.location.Location.{Location}
+use Rattle.c_meaning.specs.Values.{Types, Origin, OfVariable, State, whole, variable_place, both_values, owner_of, pointed_member, an_object}
 use Rattle.dep_model.specs.declared.location.Part.TheVariants as part
-use Rattle.dep_model.specs.Denoted.{Places, TargetsOf, Denoted, inside, part_of, either_of, variable, value_points, value_reads, denoted_step}
-use Rattle.dep_model.specs.Denoted as denote
-use Rattle.dep_model.specs.Designated.{Designated, is_root, is_array_place, value_takes, takes_either, a_place}
+use Rattle.dep_model.specs.Denoted.{Places, TargetsOf, Denoted, part_of, variable, value_points, denoted_step}
+use Rattle.dep_model.specs.Designated.{is_root, value_takes}
 use Rattle.dep_model.specs.LocationLists.{AreStructsInOrder}
 use Rattle.run_facts.specs.CellLocations.{location_in}
 use Rattle.run_facts.specs.DenotedCells.{LiesBy, IsObject, IsReadOf, AreTaken, IsDenoted}
-use Rattle.run_facts.specs.PointerLocations.{item_type, item_of, is_object}
-use Rattle.run_facts.specs.ReadCells.{Reads, Watched, both_read, nothing_read, watched_step, an_object as an_object_read}
+use Rattle.run_facts.specs.PointerLocations.{is_object}
+use Rattle.run_facts.specs.ReadCells.{Reads, Watched, nothing_read, watched_step, an_object as an_object_read}
 use Rattle.run_facts.specs.TypedStates.{IsValue, IsTypedState}
-use Rattle.run_facts.proofs.Subobjects.{part_type, type_at_is, part_at, member_types}
+use Rattle.run_facts.proofs.Subobjects.{part_type, part_at, member_types}
 use Rattle.run_facts.proofs.ListedObjects.{location_itself, location_more, object_more, part_among, object_listed}
-use Rattle.run_facts.proofs.PointedObjects.{item_block, pointed_item, typed_same, item_listed, designated_reached, pointer_moved, moved_value, value_else}
-use Rattle.run_facts.proofs.ObjectValues.{array_target, array_item, points_of_array, object_address, ObjectParts, object_denoted}
+use Rattle.run_facts.proofs.PointedObjects.{designated_reached}
+use Rattle.run_facts.proofs.ObjectValues.{object_address, ObjectParts, object_denoted}
 
 -- ---- pointers and members
 

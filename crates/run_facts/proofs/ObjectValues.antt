@@ -1,5 +1,5 @@
 -- What an object that an expression designates gives: its value, its address, and what is read for it.
-use Rattle.std.proofs.Common.{◌≡◌, ℕ, zero, suc, ◌<◌, ◌==◌, List, [], ◌∷◌, ◌++◌, length, Option, Some, None, Bool, true, false, ◌&&◌, ◌||◌, ◌⊎◌, inl, inr, refl, sym, ap, ◌∙◌, subst, arith, eq-eqb, append-nil}
+use Rattle.std.proofs.Common.{◌≡◌, ℕ, zero, suc, List, [], ◌∷◌, ◌++◌, Option, Some, None, Bool, true, false, ◌&&◌, ◌||◌, ◌⊎◌, inl, inr, refl, sym, ap, ◌∙◌, subst, arith, eq-eqb, append-nil}
 use Rattle.std.specs.Prelude.{option_map, option_and_then, slice_get, is_some, if◌then◌else◌, All}
 use Rattle.std.proofs.lemmas.Bool.{false≢true, and_parts, and_from, or_left, or_right}
 use Rattle.std.proofs.lemmas.List.Elements.{All-append, All-nil}
@@ -11,17 +11,16 @@ use Rattle.c_language.specs.declared.expr_type.Base.{Base}
 use Rattle.c_language.specs.declared.expr_type.Layer.{Layer}
 use Rattle.c_language.specs.declared.expr_type.Layer.TheVariants.{Pointer as AnAddress, Array}
 use Rattle.c_language.specs.declared.expr_type.ExprType.{ExprType}
-use Rattle.c_language.specs.ExprTypes.{target_of, is_pointer, is_integer, is_scalar, is_array_in, is_array, value_layers, value_type}
+use Rattle.c_language.specs.ExprTypes.{target_of, is_pointer, is_scalar, is_array_in, is_array, value_layers, value_type}
 use Rattle.c_meaning.specs.declared.value.Hop.{Hop}
 use Rattle.c_meaning.specs.declared.value.Hop.TheVariants as hop
 use Rattle.c_meaning.specs.declared.value.Place.{Place}
-use Rattle.c_meaning.specs.declared.value.Pointer.{Pointer}
 use Rattle.c_meaning.specs.declared.value.Value.{Value}
 use Rattle.c_meaning.specs.declared.value.Value.TheVariants.{Number, Null, To}
 use Rattle.c_meaning.specs.Cells.{Subobject, subobject, scalar_number, cell_number}
 use Rattle.c_meaning.specs.Memory.{Block, Memory, held, cell_in, cell, read}
-use Rattle.c_meaning.specs.Pointers.{type_at, whole_of, item_in, start}
-use Rattle.c_meaning.specs.Values.{Meant, Origin, OfVariable, State, object_value, an_object}
+use Rattle.c_meaning.specs.Pointers.{type_at, item_in, start}
+use Rattle.c_meaning.specs.Values.{Origin, OfVariable, State, object_value, an_object}
 use Rattle.dep_model.specs.declared.location.Location.{Location}
 use Rattle.dep_model.specs.declared.location.Part.TheVariants as part
 use Rattle.dep_model.specs.Denoted.{Places, TargetsOf, Denoted, inside, part_of, targets, object_points, value_points, value_reads}
@@ -32,7 +31,7 @@ use Rattle.run_facts.specs.CellLocations.{location_in}
 use Rattle.run_facts.specs.DenotedCells.{LiesBy, IsObject, IsReadOf, AreTaken, IsDenoted}
 use Rattle.run_facts.specs.PointerLocations.{item_layers, item_type, item_of}
 use Rattle.run_facts.specs.ReadCells.{Reads, Watched, object_read, an_object as an_object_read}
-use Rattle.run_facts.specs.TypedStates.{is_seen, Leads, IsValue, IsTypedState}
+use Rattle.run_facts.specs.TypedStates.{is_seen, IsValue, IsTypedState}
 use Rattle.run_facts.proofs.ListedObjects.{location_more, part_among, target_among, object_listed, elements_listed}
 use Rattle.run_facts.proofs.PointedObjects.{item_listed, leads_else}
 

@@ -1,6 +1,6 @@
 -- Locations of what a state holds: a pointer has that of the object that it designates, and a cell that is read counts for the activation.
 use Rattle.std.proofs.Common.{◌≡◌, ℕ, List, [], ◌∷◌, Option, Some, true, ◌⊎◌, inl, inr, refl, sym, ap, ◌∙◌, subst}
-use Rattle.std.specs.Prelude.{option_map, option_and_then, slice_get}
+use Rattle.std.specs.Prelude.{option_map, option_and_then}
 use Rattle.c_language.proofs.Options.{some_same, then_there}
 use Rattle.c_tree.specs.declared.program.Program.{Program}
 use Rattle.c_language.specs.declared.expr_type.ExprType.{ExprType}
@@ -10,14 +10,13 @@ use Rattle.c_meaning.specs.declared.value.Pointer.{Pointer}
 use Rattle.c_meaning.specs.Pointers.{type_at, whole_of, item_at, pointed}
 use Rattle.c_meaning.specs.Values.{Origin, OfVariable, OfStatement, State}
 use Rattle.dep_model.specs.declared.location.Location.{Location}
-use Rattle.dep_model.specs.declared.location.Root.{Root}
 use Rattle.dep_model.specs.declared.location.Root.TheVariants.{Variable}
 use Rattle.dep_model.specs.Denoted.{Places, TargetsOf}
 use Rattle.dep_model.specs.ModRef.{is_outside}
 use Rattle.run_facts.specs.CellLocations.{location_in, location_of}
 use Rattle.run_facts.specs.DenotedCells.{IsReadOf}
 use Rattle.run_facts.specs.PointerLocations.{item_of, pointer_location}
-use Rattle.run_facts.specs.TypedStates.{is_seen, Leads, IsTypedState}
+use Rattle.run_facts.specs.TypedStates.{is_seen, IsTypedState}
 use Rattle.run_facts.proofs.PointedObjects.{pointed_item}
 
 -- the place that a pointer designates has the pointer's location

@@ -1,7 +1,7 @@
 -- The types of objects in an object, one step after another, and the locations of these.
-use Rattle.std.proofs.Common.{◌≡◌, ℕ, zero, suc, ◌+◌, ◌<◌, List, [], ◌∷◌, ◌++◌, length, map, Option, Some, None, true, inl, inr, refl, sym, ap, ◌∙◌, subst, arith, ltb-true}
+use Rattle.std.proofs.Common.{◌≡◌, ℕ, zero, suc, ◌+◌, List, [], ◌∷◌, ◌++◌, map, Option, Some, None, true, inl, inr, refl, sym, ap, ◌∙◌, subst, arith}
 use Rattle.std.proofs.lemmas.Bool.{false≢true}
-use Rattle.std.specs.Prelude.{option_map, option_and_then, slice_get, slice_index_or, nat_lt, if◌then◌else◌}
+use Rattle.std.specs.Prelude.{option_map, option_and_then, slice_get, slice_index_or, nat_lt}
 use Rattle.std.specs.Option.{option_map_or}
 use Rattle.c_language.proofs.Options.{none_there, some_same, map_there, then_there}
 use Rattle.c_language.proofs.Tests.{by_test}
@@ -25,7 +25,7 @@ use Rattle.dep_model.specs.declared.location.Part.{Part}
 use Rattle.dep_model.specs.declared.location.Part.TheVariants as part
 use Rattle.dep_model.specs.LocationLists.{AreStructsInOrder}
 use Rattle.dep_model.specs.LocationObjects.{all_structs}
-use Rattle.dep_model.specs.Locations.{Located, below, type_with, base_parts, parts_with, member_parts, parts}
+use Rattle.dep_model.specs.Locations.{Located, below, type_with, parts_with, member_parts, parts}
 use Rattle.dep_model.proofs.LocationParts.{struct_unrolled}
 use Rattle.dep_model.proofs.Membership.{IsIn, in_first, in_second, in_map}
 use Rattle.run_facts.specs.CellLocations.{merged}

@@ -1,20 +1,18 @@
 -- The forms of expressions that give a value and designate nothing.
-use Rattle.std.proofs.Common.{◌≡◌, ℕ, ℤ, pos, negsuc, ◌<◌, List, [], ◌∷◌, ◌++◌, length, Option, Some, None, Bool, true, false, ◌&&◌, ◌||◌, refl, sym, ap, ◌∙◌, subst}
+use Rattle.std.proofs.Common.{◌≡◌, ℕ, ℤ, pos, negsuc, List, [], ◌++◌, Option, Some, None, Bool, true, false, ◌||◌, refl, sym, ap, subst}
 use Rattle.std.specs.Prelude.{not, option_map, option_and_then, if◌then◌else◌, All}
-use Rattle.std.proofs.lemmas.Bool.{false≢true, and_parts, and_from, or_cases, or_left, or_right}
+use Rattle.std.proofs.lemmas.Bool.{false≢true, or_left, or_right}
 use Rattle.std.proofs.lemmas.List.Elements.{All-append, All-nil}
 use Rattle.c_arith.specs.declared.int_type.IntType.{IntType}
-use Rattle.c_arith.specs.declared.int_type.IntType.TheVariants.{Int, Long}
+use Rattle.c_arith.specs.declared.int_type.IntType.TheVariants.{Int}
 use Rattle.c_arith.specs.declared.operators.UnaryOp.{UnaryOp}
-use Rattle.c_arith.specs.declared.operators.BinaryOp.{BinaryOp}
 use Rattle.c_arith.specs.IntType.{promote, convert}
 use Rattle.c_arith.specs.Operators.{unary_type, truth}
 use Rattle.c_language.proofs.Options.{none_there, some_same, map_there, then_there}
-use Rattle.c_language.proofs.Tests.{by_test}
 use Rattle.c_language.specs.Words.{Bytes}
 use Rattle.c_tree.specs.declared.expr.Expr.TheOpen.{Expr-F}
 use Rattle.c_tree.specs.declared.program.Program.{Program}
-use Rattle.c_language.specs.ConstantEvaluation.{promoted_unary, is_zero, and_value, or_value}
+use Rattle.c_language.specs.ConstantEvaluation.{promoted_unary, is_zero, and_value}
 use Rattle.c_language.specs.DeclaredTypes.{integer, pointer_to, void}
 use Rattle.c_language.specs.declared.expr_type.ExprType.{ExprType}
 use Rattle.c_language.specs.ExprTypes.{is_array, value_type}
@@ -23,17 +21,16 @@ use Rattle.c_meaning.specs.declared.value.Place.{Place}
 use Rattle.c_meaning.specs.declared.value.Pointer.{Pointer}
 use Rattle.c_meaning.specs.declared.value.Value.{Value}
 use Rattle.c_meaning.specs.declared.value.Value.TheVariants.{Number, Null, To}
-use Rattle.c_meaning.specs.Values.{Types, State, tested, as_type, operand_in, unary_value, and_both, or_both, gives}
+use Rattle.c_meaning.specs.Values.{Types, State, tested, as_type, operand_in, unary_value, and_both, gives}
 use Rattle.dep_model.specs.declared.location.Location.{Location}
 use Rattle.dep_model.specs.Denoted.{Places, TargetsOf, Denoted, no_places, either_of, value_points, value_reads, reads_either, denoted_step}
 use Rattle.dep_model.specs.Denoted as denote
 use Rattle.dep_model.specs.Designated.{is_root, takes_none, value_takes, takes_either}
 use Rattle.dep_model.specs.Designated as designate
-use Rattle.dep_model.specs.LocationLists.{AreStructsInOrder}
 use Rattle.run_facts.specs.CellLocations.{location_in}
 use Rattle.run_facts.specs.DenotedCells.{IsReadOf, AreTaken, IsDenoted}
 use Rattle.run_facts.specs.ReadCells.{Reads, Watched, nothing_read, chosen_read, watched_step, a_value as a_value_read}
-use Rattle.run_facts.specs.TypedStates.{IsValue, IsTypedState}
+use Rattle.run_facts.specs.TypedStates.{IsValue}
 
 -- ---- options
 

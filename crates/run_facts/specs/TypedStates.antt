@@ -1,5 +1,5 @@
 -- What a state of a run holds: types of blocks and values, and where pointers lead.
-use Rattle.std.specs.Prelude.{◌≡◌, ◌<◌, ℕ, List, length, Bool, true, ◌||◌, Option, Some, Contains, slice_get}
+use Rattle.std.specs.Prelude.{◌≡◌, ◌<◌, ℕ, length, Bool, true, ◌||◌, Option, Some, Contains, slice_get}
 use Rattle.c_tree.specs.declared.program.Program.{Program}
 use Rattle.c_language.specs.declared.expr_type.ExprType.{ExprType}
 use Rattle.c_language.specs.ExprTypes.{target_of, is_integer, is_pointer}
