@@ -80,6 +80,7 @@ module _ (p : Program) (order : AreStructsInOrder p) (points : TargetsOf) (s : S
     object = λ taken q e. same_object q (h.object taken q e);
     starts = h.starts;
     array_read = h.array_read;
+    cell_is = h.cell_is;
     value = h.value;
     address = h.address;
     addressed = h.addressed;

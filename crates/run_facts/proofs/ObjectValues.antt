@@ -197,6 +197,11 @@ module _ (p : Program) (order : AreStructsInOrder p) (points : TargetsOf) (s : S
   started true (Some q) h = refl
   started false o h = absurd (false≢true h)
 
+  celled : (array : Bool) (o : Option Place) → array ≡ false → option_and_then (λ (q : Place). if array then Some (start q) else read s.memory q) o ≡ option_and_then (read s.memory) o
+  celled true o h = true_false h
+  celled false None h = refl
+  celled false (Some q) h = refl
+
   unread : (t : ExprType) (o : Option Place) → is_array t ≡ true → object_read t o ≡ []
   unread t None h = refl
   unread t (Some q) h = ap (λ (b : Bool). if b then [] else q ∷ []) h
@@ -238,6 +243,7 @@ module _ (p : Program) (order : AreStructsInOrder p) (points : TargetsOf) (s : S
         object = h.object;
         starts = λ e. started (is_array d.form.type) (place s) (array_of_place d e);
         array_read = λ e. ap (λ (qs : List Place). found s ++ qs) (unread d.form.type (place s) (array_of_place d e)) ∙ append-nil (found s);
+        cell_is = λ is array. celled (is_array d.form.type) (place s) array;
         value = λ taken v e. let k = then_there (object_value d.form.type s.memory) (place s) v e in object_gives d k.value (h.object (less taken) k.value k.there) v taken k.same;
         address = h.address_is;
         addressed = h.addressed;

@@ -75,6 +75,7 @@ module _ (p : Program) (points : TargetsOf) (s : State) where
       object = λ taken q e. none_there e;
       starts = λ e. absurd (false≢true e);
       array_read = λ e. absurd (false≢true e);
+      cell_is = λ e. absurd (false≢true e);
       value = λ taken v e. h.value_is (λ x u. taken x (or_left (takes x) false u)) v e;
       address = λ taken array v e. none_there e;
       addressed = λ q e. none_there e;

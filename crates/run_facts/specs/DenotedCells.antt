@@ -1,5 +1,5 @@
 -- What an expression gives in a state is what is said of it: its object, its value and its address, and the cells that are read.
-use Rattle.std.specs.Prelude.{◌≡◌, ◌⊎◌, ℕ, Bool, true, false, ◌||◌, Option, Some, None, option_map, All, slice_get}
+use Rattle.std.specs.Prelude.{◌≡◌, ◌⊎◌, ℕ, Bool, true, false, ◌||◌, Option, Some, None, option_map, option_and_then, All, slice_get}
 use Rattle.c_tree.specs.declared.program.Program.{Program}
 use Rattle.c_language.specs.DeclaredTypes.{pointer_to}
 use Rattle.c_language.specs.ExprTypes.{is_array, value_type}
@@ -7,6 +7,7 @@ use Rattle.c_meaning.specs.declared.value.Place.{Place}
 use Rattle.c_meaning.specs.declared.value.Pointer.{Pointer}
 use Rattle.c_meaning.specs.declared.value.Value.{Value}
 use Rattle.c_meaning.specs.declared.value.Value.TheVariants.{To}
+use Rattle.c_meaning.specs.Memory.{read}
 use Rattle.c_meaning.specs.Pointers.{type_at, start}
 use Rattle.c_meaning.specs.Values.{Origin, State}
 use Rattle.dep_model.specs.Denoted.{Places, TargetsOf, Denoted, value_reads, value_points}
@@ -52,6 +53,8 @@ module _ (p : Program) (s : State) where
     -- an array turns into a pointer to its first element, and isn't read
     pub starts : is_array_place d.form ≡ true → w.meant.value s ≡ option_map start (w.meant.place s)
     pub array_read : is_array_place d.form ≡ true → w.read s ≡ w.found s
+    -- an object that is no array gives what its cell holds
+    pub cell_is : d.form.is_place ≡ true → is_array d.form.type ≡ false → w.meant.value s ≡ option_and_then (read s.memory) (w.meant.place s)
     pub value : AreTaken (value_takes d.form) → (v : Value) → w.meant.value s ≡ Some v → IsValue p s (value_type d.form.type) (value_points p points d) v
     pub address :
         AreTaken (λ (x : ℕ). d.form.takes x || is_root d.form.root x) → is_array d.form.type ≡ false → (v : Value) → w.meant.address s ≡ Some v
