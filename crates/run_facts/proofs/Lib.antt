@@ -37,4 +37,5 @@ pub mod ChooseForms
 pub mod SeenCells
 pub mod LaterStates
 pub mod BegunBlocks
+pub mod ExprsDenoted
 mod LocationRows
