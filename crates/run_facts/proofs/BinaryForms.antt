@@ -35,7 +35,7 @@ use Rattle.run_facts.proofs.ValueForms.{both_are, value_denoted}
 
 -- ---- what operators give
 
-abbrev Numbered : Value → Type 0
+abbrev pub Numbered : Value → Type 0
 Numbered v = (z : ℤ) × (Number z ≡ v)
 
 indices_number : (op : BinaryOp) (x y v : Value) → at_indices op x y ≡ Some v → Numbered v
@@ -50,7 +50,7 @@ equality_number : (f : Bool → Bool) (o : Option Bool) (v : Value) → equality
 equality_number f o v e = let k = map_there (λ (same : Bool). Number (truth (f same))) o v e in (truth (f k.value), k.same)
 
 -- two pointers give a number
-pointers_number : (op : BinaryOp) (m : Memory) (x y v : Value) → at_pointers op m x y ≡ Some v → Numbered v
+pub pointers_number : (op : BinaryOp) (m : Memory) (x y v : Value) → at_pointers op m x y ≡ Some v → Numbered v
 pointers_number Sub m x y v e = indices_number Sub x y v e
 pointers_number Less m x y v e = indices_number Less x y v e
 pointers_number Greater m x y v e = indices_number Greater x y v e

@@ -38,4 +38,11 @@ pub mod SeenCells
 pub mod LaterStates
 pub mod BegunBlocks
 pub mod ExprsDenoted
+pub mod DenotedForms
+pub mod TypedStores
+pub mod AssignedValues
+pub mod TypedActs
+pub mod TypedParts
+pub mod TypedCalls
+pub mod TypedRuns
 mod LocationRows

@@ -56,7 +56,7 @@ path_itself (h ∷ hs) = and_from (same_part h h) (same_all same_part hs hs) (pa
 pub location_itself : (l : Location) → same_location l l ≡ true
 location_itself l = and_from (same_root l.root l.root) (same_all same_part l.path l.path) (root_itself l.root) (path_itself l.path)
 
-any_in : {A : Type 0} (test : A → Bool) (xs : List A) (x : A) → IsIn xs x → test x ≡ true → list_any test xs ≡ true
+pub any_in : {A : Type 0} (test : A → Bool) (xs : List A) (x : A) → IsIn xs x → test x ≡ true → list_any test xs ≡ true
 any_in test [] x h e = absurd h
 any_in test (y ∷ ys) x (inl is) e = or_left (test y) (list_any test ys) (subst (λ z. test z ≡ true) (sym is) e)
 any_in test (y ∷ ys) x (inr h) e = or_right (test y) (list_any test ys) (any_in test ys x h e)

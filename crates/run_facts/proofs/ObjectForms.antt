@@ -117,7 +117,7 @@ module _ (p : Program) (order : AreStructsInOrder p) (points : TargetsOf) (s : S
         lies = e;
       }
 
-  name_object : (x : ℕ) (q : Place) → variable_place x s ≡ Some q → IsObject p s (a_name x) q
+  pub name_object : (x : ℕ) (q : Place) → variable_place x s ≡ Some q → IsObject p s (a_name x) q
   name_object x q e = let k = map_there whole (s.frame x) q e in subst (IsObject p s (a_name x)) k.same (named_object x k.value k.there)
 
   -- the address of an object that is no element, and lies where it is found
