@@ -1,7 +1,8 @@
+pub mod FixedTrees
 pub mod Members
 pub mod OperandForms
 pub mod Options
-pub mod PickForms
+pub mod NeedForms
 pub mod Seeing
 mod SmallPrograms
 pub mod TextOperands

@@ -5,6 +5,7 @@ use Rattle.std.specs.List.{list_all}
 use Rattle.std.proofs.lemmas.Bool.{and_from, and_parts}
 use Rattle.c_tree.specs.declared.program.Function.{Function}
 use Rattle.c_tree.specs.declared.program.Init.{Init}
+use Rattle.c_tree.specs.declared.program.Init.TheVariants as begun
 use Rattle.c_tree.specs.declared.program.Item.{Item}
 use Rattle.c_tree.specs.declared.program.Item.TheVariants as item
 use Rattle.c_tree.specs.declared.program.Program.{Program}
@@ -19,26 +20,31 @@ use Rattle.c_tree.specs.declared.raw.program.RawItem.TheVariants.{Include, Tag, 
 use Rattle.c_tree.specs.declared.raw.program.RawParam.{RawParam}
 use Rattle.c_tree.specs.declared.raw.program.RawProgram.{RawProgram}
 use Rattle.c_tree.specs.declared.raw.statement.RawStatement.{RawStatement}
+use Rattle.c_language.specs.ArrayRules.{IsNoConstant, LacksConstant, MisusesInitialiser, element_of}
 use Rattle.c_language.specs.Words.{Bytes}
 use Rattle.c_language.specs.DeclaredTypes.{function_texts, defined_functions, written_type, variable_type, parameter_types, type_or_void}
 use Rattle.c_language.specs.ItemGrammar.{are_named}
 use Rattle.c_language.specs.ItemGrammar as grammar
 use Rattle.c_language.specs.Options.{IsThere}
 use Rattle.c_language.specs.Phrases.{InFile, InHead, Phrases, DeclaresFunction, EndsFunction, phrase, begun_phrases, declaration, parameter_phrases, head_phrases, body_phrases, item_phrases, after_item, items_phrases}
-use Rattle.c_language.specs.ProgramOf.{collected, ctype, ctype_if, init_of, parameter_ids, function_tree, functions_from, item_tree, items_from}
-use Rattle.c_language.specs.Rules.{AreKept}
+use Rattle.c_language.specs.ProgramOf.{collected, ctype, ctype_if, expr_of, exprs_of, init_of, parameter_ids, function_tree, functions_from, item_tree, items_from}
+use Rattle.c_language.specs.Rules.{Breaks, AreKept}
 use Rattle.c_language.specs.Scopes.{Scope, Meaning, with_function, with_variable, with_named, with_parameters, parameter_of, scope_of_parameters, entered}
 use Rattle.c_language.specs.Syntax.{is_head, is_body, is_item}
 use Rattle.c_language.specs.TreeTypes.{shape_of}
+use Rattle.c_language.specs.declared.expr_type.ExprType.{ExprType}
 use Rattle.c_language.proofs.Options.{none_there, some_same, value_there, map_there, more_there, optional_there}
 use Rattle.c_language.proofs.ProgramParts.{function_made}
 use Rattle.c_language.proofs.ScopeNumbers.{function_declared, function_variables}
 use Rattle.c_print_laws.proofs.Numbers.{head_count, item_variables, define_functions, prototype_functions}
 use Rattle.c_print_laws.proofs.Told.{AreTold, told_first, told_rest, told_later}
+use Rattle.dep_model.proofs.Membership.{contains_of_in}
 use Rattle.dep_model.proofs.StructOrder.{tree_typed}
 use Rattle.numbered_texts.proofs.Items.{HasFunctions}
+use Rattle.typed_programs.specs.FixedValues.{begins_fixed}
 use Rattle.typed_programs.specs.TreeOperands.{Signature, Declarations, signature_of, declarations, variable_shape}
-use Rattle.typed_programs.specs.TypedStatements.{begins, function_fits, function_picks, item_fits}
+use Rattle.typed_programs.specs.TypedStatements.{begins, function_fits, function_needs, item_fits}
+use Rattle.typed_programs.proofs.FixedTrees.{tree_fixed, trees_fixed}
 use Rattle.typed_programs.proofs.Seeing.{NamesStand, names_more, Known}
 use Rattle.typed_programs.proofs.Treed.{body_treed}
 use Rattle.typed_programs.proofs.TypedPhrases.{holds_at, ResultStands, AllTyped, FunctionStands, FunctionsStand, begins_fit}
@@ -161,12 +167,12 @@ module _ (raw : RawProgram) (p : Program) where
         }
 
     pub define_fits : Known raw d → FunctionsStand raw d → slice_get (defined_functions raw) scope.functions ≡ Some head → (f : Function) → function_tree raw line head body scope ≡ Some f
-        → (function_fits d f ≡ true) × (function_picks d f ≡ true)
+        → (function_fits d f ≡ true) × (function_needs d f ≡ true)
     define_fits known functions around f e =
         let q = function_made raw line head body scope f e in
         let all = all_typed raw p known functions (Some scope.functions) head q.result around (result_stands head q.result q.result_there) (body_treed raw body inside q.statements q.statements_there)
         (record { names = params_here.names; owner_is = params_here.owner }) told_body in
-        (ap (function_fits d) q.is ∙ all.fit, ap (function_picks d) q.is ∙ all.numbers)
+        (ap (function_fits d) q.is ∙ all.fit, ap (function_needs d) q.is ∙ all.met)
 
   item_names : (x : RawItem) (scope : Scope) → NamesStand d scope.names → AreTold raw p scope.variables (item_phrases raw x scope) → NamesStand d (after_item raw x scope).names
   item_names (Include b) scope h told = h
@@ -228,13 +234,38 @@ module _ (raw : RawProgram) (p : Program) where
       by_init (init.One a) m here names kept e = begins_fit raw d known (with_variable raw var (init.One a) scope) names (InFile is_static) var (init.One a) scope.variables m kept.0 here.0 here.1 e
       by_init (init.Items es) m here names kept e = begins_fit raw d known (with_variable raw var (init.Items es) scope) names (InFile is_static) var (init.Items es) scope.variables m kept.0 here.0 here.1 e
 
+  -- what it begins with is constant, or NULL
+  global_fixed : (line : ℕ) (var : RawVar) (i : RawInit) (is_static : Bool) (scope : Scope) (n : Init) → AreTold raw p scope.variables (declaration raw line scope (InFile is_static) var i)
+      → init_of raw (with_variable raw var i scope) i ≡ Some n → begins_fixed n ≡ true
+  global_fixed line var i is_static scope n told e = by_init i n (variable_stands raw p line scope.owner (InFile is_static) scope.variables var i told.stand.0).1 told.kept.1 e
+    where
+      by_init : (j : RawInit) (m : Init) → IsThere (variable_type raw var j) → AreKept raw (begun_phrases line (with_variable raw var j scope) (InFile is_static) var j) → init_of raw (with_variable raw var j scope) j ≡ Some m → begins_fixed m ≡ true
+      by_init init.None m here kept e = subst (λ z. begins_fixed z ≡ true) (some_same e) refl
+      by_init (init.One a) m here kept e =
+          let t = value_there (variable_type raw var (init.One a)) here in
+          let next = with_variable raw var (init.One a) scope in
+          let x = map_there begun.One (expr_of raw next a) m e in
+          subst (λ z. begins_fixed z ≡ true) x.same
+          (tree_fixed raw next a (λ none null. kept.0 10 (Breaks.no_constant (LacksConstant.global t.1 (IsNoConstant.other a none null)))) x.value x.there)
+      by_init (init.Items es) m here kept e =
+          let t = value_there (variable_type raw var (init.Items es)) here in
+          let next = with_variable raw var (init.Items es) scope in
+          let u = elements (element_of t.0) refl (λ none. kept.0 22 (Breaks.initialiser (MisusesInitialiser.no_array t.1 none))) in
+          let xs = map_there begun.Items (exprs_of raw next es) m e in
+          subst (λ z. begins_fixed z ≡ true) xs.same
+          (trees_fixed raw next es xs.value (λ a i none null. kept.0 10 (Breaks.no_constant (LacksConstant.item t.1 u.1 (contains_of_in es a i) (IsNoConstant.other a none null)))) xs.there)
+        where
+          elements : (o : Option ExprType) → {q : Option ExprType} → q ≡ o → (q ≡ None → ⊥) → (v : ExprType) × (q ≡ Some v)
+          elements None is broken = absurd (broken is)
+          elements (Some v) is broken = (v, is)
+
   item_fit : Known raw d → (x : RawItem) (scope : Scope) (y : Item) → NamesStand d scope.names → AreTold raw p scope.variables (item_phrases raw x scope) → item_tree raw x scope ≡ Some y → item_fits d y ≡ true
   item_fit known (Include b) scope y names told e = subst (λ z. item_fits d z ≡ true) (some_same e) refl
   item_fit known (Tag line tag) scope y names told e = let m = map_there item.Tag _ y e in subst (λ z. item_fits d z ≡ true) m.same refl
   item_fit known (Struct line tag members) scope y names told e = subst (λ z. item_fits d z ≡ true) (some_same e) refl
   item_fit known (Global line var i is_static) scope y names told e =
       let m = map_there (item.Global scope.variables) (init_of raw (with_variable raw var i scope) i) y e in
-      subst (λ z. item_fits d z ≡ true) m.same (global_fits known line var i is_static scope m.value names told m.there)
+      subst (λ z. item_fits d z ≡ true) m.same (and_from (begins d scope.variables m.value) (begins_fixed m.value) (global_fits known line var i is_static scope m.value names told m.there) (global_fixed line var i is_static scope m.value told m.there))
   item_fit known (Prototype line head) scope y names told e = let m = map_there _ _ y e in subst (λ z. item_fits d z ≡ true) m.same refl
   item_fit known (Define line head body) scope y names told e = subst (λ z. item_fits d z ≡ true) (some_same e) refl
 
@@ -255,7 +286,7 @@ module _ (raw : RawProgram) (p : Program) where
       AreAround xs scope = (k : ℕ) → slice_get (defined_functions raw) (scope.functions + k) ≡ slice_get (function_texts xs) k
 
       abbrev Fit : List Function → Type 0
-      Fit fs = (list_all (function_fits d) fs ≡ true) × (list_all (function_picks d) fs ≡ true)
+      Fit fs = (list_all (function_fits d) fs ≡ true) × (list_all (function_needs d) fs ≡ true)
 
       pub functions_fit : (xs : List RawItem) (scope : Scope) (fs : List Function) → list_all is_item xs ≡ true → NamesStand d scope.names → AreTold raw p scope.variables (items_phrases raw xs scope)
           → AreAround xs scope → HasFunctions raw xs scope fs → Fit fs

@@ -26,9 +26,9 @@ use Rattle.c_print_laws.proofs.Told.{AllStand, stand_all, AreTold}
 use Rattle.numbered_texts.proofs.NumbersButLines.{body_unlined}
 use Rattle.text_syntax.proofs.Items.{text_is_syntax}
 use Rattle.typed_programs.specs.Laws.{ProgramsAreTyped}
-use Rattle.typed_programs.specs.Picks.{picks_step, picks_arm, body_picks}
+use Rattle.typed_programs.specs.Needs.{Need, needs_step, needs_arm, body_needs}
 use Rattle.typed_programs.specs.TreeOperands.{Signature, Declarations, signature_of, declarations}
-use Rattle.typed_programs.specs.TypedStatements.{is_number, doing_fits, function_fits, function_picks, item_fits, IsTyped}
+use Rattle.typed_programs.specs.TypedStatements.{need_fits, doing_fits, function_fits, function_needs, item_fits, IsTyped}
 use Rattle.typed_programs.proofs.Members.{members_typed, members_stand}
 use Rattle.typed_programs.proofs.Seeing.{Known}
 use Rattle.typed_programs.proofs.TypedItems.{head_at, heads_stand, globals_fit, functions_fit}
@@ -62,31 +62,31 @@ module _ (raw : RawProgram) (p : Program) (has : HasProgram raw p) (syntax : IsS
   pub text_typed : IsTyped p
   text_typed =
       let fit = functions_fit raw p known functions raw.items outset p.functions syntax tt told (λ k. let z : 0 + k ≡ k = omega arith in ap (slice_get (defined_functions raw)) z) parts.functions in
-      record { functions = fit.0; switches = fit.1; globals = globals_fit raw p known raw.items outset p.items tt told parts.items }
+      record { functions = fit.0; needs = fit.1; globals = globals_fit raw p known raw.items outset p.items tt told parts.items }
 
 -- ---- lines decide nothing of that
 
-picks_free : (x : Statement-F (List Expr) (List Expr)) → picks_step (zeroed x) ≡ picks_step x
-picks_free (Statement-F.Declare id l x i) = refl
-picks_free (Statement-F.Assign id l a op b) = refl
-picks_free (Statement-F.Bump id l a up before) = refl
-picks_free (Statement-F.Invoke id l to f args) = refl
-picks_free (Statement-F.Fetch id l to) = refl
-picks_free (Statement-F.Write id l a) = refl
-picks_free (Statement-F.Print id l format args) = refl
-picks_free (Statement-F.Heap id l to cast n) = refl
-picks_free (Statement-F.Release id l a) = refl
-picks_free (Statement-F.If id l e a b) = refl
-picks_free (Statement-F.While id l e b) = refl
-picks_free (Statement-F.Do id l e b) = refl
-picks_free (Statement-F.For id l i e step b) = refl
-picks_free (Statement-F.Switch id l e arms) = refl
-picks_free (Statement-F.Block l b) = refl
-picks_free (Statement-F.Return id l e) = refl
+needs_free : (x : Statement-F (List Need) (List Need)) → needs_step (zeroed x) ≡ needs_step x
+needs_free (Statement-F.Declare id l x i) = refl
+needs_free (Statement-F.Assign id l a op b) = refl
+needs_free (Statement-F.Bump id l a up before) = refl
+needs_free (Statement-F.Invoke id l to f args) = refl
+needs_free (Statement-F.Fetch id l to) = refl
+needs_free (Statement-F.Write id l a) = refl
+needs_free (Statement-F.Print id l format args) = refl
+needs_free (Statement-F.Heap id l to cast n) = refl
+needs_free (Statement-F.Release id l a) = refl
+needs_free (Statement-F.If id l e a b) = refl
+needs_free (Statement-F.While id l e b) = refl
+needs_free (Statement-F.Do id l e b) = refl
+needs_free (Statement-F.For id l i e step b) = refl
+needs_free (Statement-F.Switch id l e arms) = refl
+needs_free (Statement-F.Block l b) = refl
+needs_free (Statement-F.Return id l e) = refl
 
-picks_unlined : (xs : List Statement) → body_picks (map unlined xs) ≡ body_picks xs
-picks_unlined [] = refl
-picks_unlined (x ∷ xs) = ap₂ (λ (a b : List Expr). a ++ b) (fold_unlined picks_step picks_arm picks_free x) (picks_unlined xs)
+needs_unlined : (xs : List Statement) → body_needs (map unlined xs) ≡ body_needs xs
+needs_unlined [] = refl
+needs_unlined (x ∷ xs) = ap₂ (λ (a b : List Need). a ++ b) (fold_unlined needs_step needs_arm needs_free x) (needs_unlined xs)
 
 shapes_unlined : (vs : List Var) → map (λ (v : Var). shape_of v.shape) (map unlined_var vs) ≡ map (λ (v : Var). shape_of v.shape) vs
 shapes_unlined [] = refl
@@ -100,9 +100,9 @@ functions_unlined : (d : Declarations) (fs : List Function) → list_all (functi
 functions_unlined d [] = refl
 functions_unlined d (f ∷ fs) = ap₂ (λ (a b : Bool). a && b) (ap (list_all (doing_fits d f.result)) (body_unlined f.body)) (functions_unlined d fs)
 
-switches_unlined : (d : Declarations) (fs : List Function) → list_all (function_picks d) (map unlined_function fs) ≡ list_all (function_picks d) fs
-switches_unlined d [] = refl
-switches_unlined d (f ∷ fs) = ap₂ (λ (a b : Bool). a && b) (ap (list_all (is_number d)) (picks_unlined f.body)) (switches_unlined d fs)
+all_needs_unlined : (d : Declarations) (fs : List Function) → list_all (function_needs d) (map unlined_function fs) ≡ list_all (function_needs d) fs
+all_needs_unlined d [] = refl
+all_needs_unlined d (f ∷ fs) = ap₂ (λ (a b : Bool). a && b) (ap (list_all (need_fits d)) (needs_unlined f.body)) (all_needs_unlined d fs)
 
 abbrev declared_from : List ExprType → Program → List Signature → Declarations
 declared_from ts p gs = record { variables = ts; structs = p.structs; functions = gs }
@@ -118,12 +118,12 @@ module _ (p q : Program) (same : SameButLines p q) where
   typed_same h =
       let functions : list_all (function_fits (declarations q)) p.functions ≡ true =
       sym (functions_unlined (declarations q) p.functions) ∙ ap (λ (r : Program). list_all (function_fits (declarations q)) r.functions) same ∙ functions_unlined (declarations q) q.functions ∙ h.functions in
-      let switches : list_all (function_picks (declarations q)) p.functions ≡ true =
-      sym (switches_unlined (declarations q) p.functions) ∙ ap (λ (r : Program). list_all (function_picks (declarations q)) r.functions) same ∙ switches_unlined (declarations q) q.functions ∙ h.switches in
+      let needs : list_all (function_needs (declarations q)) p.functions ≡ true =
+      sym (all_needs_unlined (declarations q) p.functions) ∙ ap (λ (r : Program). list_all (function_needs (declarations q)) r.functions) same ∙ all_needs_unlined (declarations q) q.functions ∙ h.needs in
       let globals : list_all (item_fits (declarations q)) p.items ≡ true = ap (λ (r : Program). list_all (item_fits (declarations q)) r.items) same ∙ h.globals in
       record {
         functions = ap (λ d. list_all (function_fits d) p.functions) declarations_same ∙ functions;
-        switches = ap (λ d. list_all (function_picks d) p.functions) declarations_same ∙ switches;
+        needs = ap (λ d. list_all (function_needs d) p.functions) declarations_same ∙ needs;
         globals = ap (λ d. list_all (item_fits d) p.items) declarations_same ∙ globals;
       }
 

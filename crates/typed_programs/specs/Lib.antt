@@ -1,4 +1,5 @@
 pub mod TreeOperands
-pub mod Picks
+pub mod FixedValues
+pub mod Needs
 pub mod TypedStatements
 pub mod Laws

@@ -32,7 +32,8 @@ use Rattle.c_language.specs.Words.{Bytes}
 use Rattle.c_language.specs.declared.expr_type.ExprType.{ExprType}
 use Rattle.c_language.specs.declared.expr_type.Operand.{Operand}
 use Rattle.dep_model.specs.Doings.{Doing, Does, Calls, body_doings}
-use Rattle.typed_programs.specs.Picks.{body_picks}
+use Rattle.typed_programs.specs.FixedValues.{begins_fixed}
+use Rattle.typed_programs.specs.Needs.{Need, Picks, Starts, body_needs}
 use Rattle.typed_programs.specs.TreeOperands.{Signature, Declarations, declarations, variable_shape, operand_of}
 
 -- an expression is an operand that passes a test
@@ -172,21 +173,26 @@ doing_fits d result (Calls i to f args) = holds_of (calls d to args) (slice_get 
 abbrev pub function_fits : Declarations → Function → Bool
 function_fits d f = list_all (doing_fits d f.result) (body_doings f.body)
 
--- types fit in what a global begins with
+-- types fit in what a global begins with, and that names no variable
 abbrev pub item_fits : Declarations → Item → Bool
 item_fits d (item.Include is_stdlib) = true
 item_fits d (item.Tag s) = true
 item_fits d (item.Struct s) = true
-item_fits d (item.Global x i) = begins d x i
+item_fits d (item.Global x i) = begins d x i && begins_fixed i
 item_fits d (item.Prototype f names is_static) = true
 item_fits d (item.Define f) = true
 
--- what the switches of a function are over are integers (6.8.4.2)
-abbrev pub function_picks : Declarations → Function → Bool
-function_picks d f = list_all (is_number d) (body_picks f.body)
+-- what a switch is over is an integer (6.8.4.2), and a variable that begins has a type (6.7)
+abbrev pub need_fits : Declarations → Need → Bool
+need_fits d (Picks e) = is_number d e
+need_fits d (Starts x) = is_some (variable_shape d x)
 
--- types fit in a program: in its statements, and in what its globals begin with
+abbrev pub function_needs : Declarations → Function → Bool
+function_needs d f = list_all (need_fits d) (body_needs f.body)
+
+-- types fit in a program: in its statements, in what its switches are over and which variables begin there, and in what its globals begin
+-- with
 pub record IsTyped (p : Program) : Type 0 where
   pub functions : list_all (function_fits (declarations p)) p.functions ≡ true
-  pub switches : list_all (function_picks (declarations p)) p.functions ≡ true
+  pub needs : list_all (function_needs (declarations p)) p.functions ≡ true
   pub globals : list_all (item_fits (declarations p)) p.items ≡ true

@@ -12,7 +12,8 @@ pub fn operands_have_types()
 
 /// A law: in a well-formed program each expression of a statement, and of what a global begins with, is an operand;
 /// left sides are places of integer or pointer type; what is assigned, passed, returned, listed, or given by a call or
-/// by malloc is assignable; and what is tested, switched over, counted, written and freed has a type for that.
+/// by malloc is assignable; what is tested, switched over, counted, written and freed has a type for that; and each
+/// variable that begins has a type.
 pub fn programs_are_typed()
     ensures { law.ProgramsAreTyped }
 {}
