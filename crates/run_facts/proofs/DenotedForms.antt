@@ -1,7 +1,7 @@
 -- What an expression denotes has the form that it designates, wherever pointers point.
 use Rattle.std.proofs.Common.{◌≡◌, Bool, true, false, refl, sym, ap, ap₂, ◌∙◌}
 use Rattle.std.specs.Prelude.{if◌then◌else◌}
-use Rattle.c_tree.specs.declared.expr.Expr.{Expr, map-Expr, roll-Expr, fold-roll-Expr}
+use Rattle.c_tree.specs.declared.expr.Expr.{Expr, map-Expr, fold-roll-Expr}
 use Rattle.c_tree.specs.declared.expr.Expr.TheOpen.{Expr-F}
 use Rattle.c_tree.specs.declared.program.Program.{Program}
 use Rattle.c_tree.proofs.Trees.{ExprParts, expr_layer, of_every_expr}

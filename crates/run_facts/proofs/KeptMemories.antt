@@ -59,7 +59,7 @@ block_live : (structs : Structs) (here there : List Hop) (v : Value) (o : Option
 block_live structs here there v None h = h
 block_live structs here there v (Some b) h = filled_live v (cell_number structs here b.shape) (cell_number structs there b.shape) b.cells h
 
-write_live : (m : Memory) (p q : Place) (v : Value) → is_cell (write p v m) q ≡ true → is_cell m q ≡ true
+pub write_live : (m : Memory) (p q : Place) (v : Value) → is_cell (write p v m) q ≡ true → is_cell m q ≡ true
 write_live m p q v h =
     elim (eqb_tells p.block q.block) [
       | inl w ↦ block_live m.structs p.path q.path v (slice_get m.blocks q.block) (sym (ap (λ o. is_some (option_and_then (cell_in m.structs q.path) o)) (ap (λ n. slice_get (changed (with_cell m.structs p.path v) n m.blocks) q.block) w.1 ∙ get_changed (with_cell m.structs p.path v) q.block m.blocks)) ∙ h)

@@ -25,6 +25,11 @@ pub mod CallTouched
 pub mod CallersCalled
 pub mod TypeTests
 pub mod Subobjects
+pub mod StandingCells
+pub mod CellPaths
+pub mod CellPlaces
+pub mod WrittenStates
+pub mod DenotedForms
 pub mod ListedObjects
 pub mod PointedObjects
 pub mod ObjectValues
@@ -38,7 +43,6 @@ pub mod SeenCells
 pub mod LaterStates
 pub mod BegunBlocks
 pub mod ExprsDenoted
-pub mod DenotedForms
 pub mod TypedStores
 pub mod AssignedValues
 pub mod TypedActs

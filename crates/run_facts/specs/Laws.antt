@@ -9,6 +9,9 @@ use Rattle.c_meaning.specs.Steps.{Acts, Moves, Reaches, Waiting, Point, step, ma
 use Rattle.dep_model.specs.Doings.{Doing, doing_number, program_doings}
 use Rattle.dep_model.specs.SystemGraph.{Analysis, IsAnalysis}
 use Rattle.c_meaning.specs.Activations.{Executable, executable}
+use Rattle.c_meaning.specs.Cells.{structs_of}
+use Rattle.dep_model.specs.LocationLists.{AreStructsInOrder}
+use Rattle.run_facts.specs.CellPaths.{HaveOnePath}
 use Rattle.run_facts.specs.Effects.{Effect, next_doing}
 use Rattle.run_facts.specs.KeptCells.{KeepsRest, step_effect, Leads}
 use Rattle.run_facts.specs.NextSteps.{next_of, step_by}
@@ -47,6 +50,10 @@ StepsAreNext = (p : Executable) (x : Point) → step p x ≡ step_by p x.functio
 -- a step that leads to a point is of one of the kinds
 abbrev pub StepsHaveKinds : Type 0
 StepsHaveKinds = (p : Executable) (x y : Point) → Leads p x y → StepKind p x y
+
+-- where no struct type has itself or a later one in it, each cell has one path
+abbrev pub CellsHaveOnePath : Type 0
+CellsHaveOnePath = (p : Program) → AreStructsInOrder p → HaveOnePath (structs_of p)
 
 -- a step changes no cell but those into which its effect stores
 abbrev pub StepsKeepTheRest : Type 0

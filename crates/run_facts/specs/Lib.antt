@@ -6,6 +6,7 @@ pub mod StepKinds
 pub mod SameOutcomes
 pub mod Touching
 pub mod KeptCells
+pub mod CellPaths
 pub mod DoneEffects
 pub mod CallTouching
 pub mod PointerLocations

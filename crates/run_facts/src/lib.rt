@@ -33,6 +33,13 @@ pub fn steps_have_kinds()
     ensures { law.StepsHaveKinds }
 {}
 
+/// A law: two paths that lead to cells of one type with the same number are one path, in every program of which no
+/// struct type has itself or a later one in it (C99 6.7.2.1, paragraph 2). So two live cells are one exactly where
+/// they are at one place, and each cell has one location.
+pub fn cells_have_one_path()
+    ensures { law.CellsHaveOnePath }
+{}
+
 /// A law: from one point of a run to the next, a cell into which nothing is stored holds what it held, where its block
 /// was there before and is live after; and the input stays, where it isn't taken from.
 pub fn steps_keep_the_rest()
