@@ -48,5 +48,9 @@ pub mod AssignedValues
 pub mod TypedActs
 pub mod TypedParts
 pub mod TypedCalls
+pub mod OpenedVariables
+pub mod FixedValues
+pub mod ZeroBlocks
+pub mod TypedGlobals
 pub mod TypedRuns
 mod LocationRows

@@ -142,6 +142,10 @@ beside_there None os vs e = none_there e
 beside_there (Some v) None vs e = none_there e
 beside_there (Some v) (Some us) vs e = (v, (us, (refl, (refl, some_same e))))
 
+-- what a list for an array makes
+pub stored_all_there : (mem : Memory) (n : ℕ) (vs : List Value) (ws : List Store) (m : Made) → storing_all mem n vs ws ≡ Some m → record (shows vs []) { stores = ws } ≡ m
+stored_all_there mem n vs ws m e = by_test (nat_le (length vs) n && all_cells mem ws) e (λ is same. some_same same) (λ is none. none_there none)
+
 -- ---- variables
 
 shape_there : (vs : List Var) (x : ℕ) (t : ExprType) (o : ExprType) → slice_get (map (λ (v : Var). shape_of v.shape) vs) x ≡ Some t → option_map_or (λ (v : Var). shape_of v.shape) (slice_get vs x) o ≡ t
@@ -388,9 +392,6 @@ module _ (p : Program) (order : AreStructsInOrder p) (shapes : AreShapes p) (poi
       subst (ItemsAt t into) w.1.1.1.1
       (here, list_items t x into es v.1.0 w.1.0 (λ a c. pairs a (inr c)) k.1 (λ z u. taken z (or_right (expr_takes p e z) (any_takes p es z) u)) v.1.1.1.0 w.1.1.1.0)
 
-  stored_all_there : (mem : Memory) (n : ℕ) (vs : List Value) (ws : List Store) (m : Made) → storing_all mem n vs ws ≡ Some m → record (shows vs []) { stores = ws } ≡ m
-  stored_all_there mem n vs ws m e = by_test (nat_le (length vs) n && all_cells mem ws) e (λ is same. some_same same) (λ is none. none_there none)
-
   module _ (i x : ℕ) (es : List Expr) (pairs : (a : Pointing) → IsIn (listed_pointings p points x es) a → Pairs a.into a.from) (taken : Taken (any_takes p es)) where
     -- a list for an array
     array_fit : (n : ℕ) (ls : List Layer) (b : Base) (m : Made) → type_of_variable p x ≡ record { layers = layer.Array n ∷ ls; base = b } → lists d es (record { layers = ls; base = b }) n ≡ true
@@ -426,7 +427,7 @@ module _ (p : Program) (order : AreStructsInOrder p) (shapes : AreShapes p) (poi
     items_made (layer.Pointer ∷ ls) b m type h is = absurd (false≢true h)
     items_made (layer.Array n ∷ ls) b m type h is = array_fit n ls b m type h is
 
-  begun_fit : (i x : ℕ) (z : Init) → ((a : Pointing) → IsIn (init_pointings p points x z) a → Pairs a.into a.from) → begins d x z ≡ true → Taken (init_takes p z) → (m : Made) → begun_with types x z s ≡ Some m → IsFitMade p points i s MayReturn m
+  pub begun_fit : (i x : ℕ) (z : Init) → ((a : Pointing) → IsIn (init_pointings p points x z) a → Pairs a.into a.from) → begins d x z ≡ true → Taken (init_takes p z) → (m : Made) → begun_with types x z s ≡ Some m → IsFitMade p points i s MayReturn m
   begun_fit i x init.None pairs h taken m is = none_there is
   begun_fit i x (init.One e) pairs h taken m is =
       let t = holds_there (begins_with d (init.One e)) (variable_shape d x) h in

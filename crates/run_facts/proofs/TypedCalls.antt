@@ -40,7 +40,7 @@ use Rattle.run_facts.proofs.LaterStates.{IsLater, later_on, value_later}
 use Rattle.run_facts.proofs.ListedObjects.{location_itself}
 use Rattle.run_facts.proofs.TypedActs.{beside_there, pointer_value, variable_type, value_at, null_at}
 use Rattle.run_facts.proofs.TypedParts.{variable_below}
-use Rattle.run_facts.proofs.TypedStores.{recast_later, recast_typed, opened_typed, opened_later, IsFitStore, written_state, written_later, WritesKeep}
+use Rattle.run_facts.proofs.TypedStores.{recast_later, recast_typed, opened_typed, opened_later, IsFitStore, written_later, written_typed}
 use Rattle.typed_programs.specs.TreeOperands.{Declarations, declarations, variable_shape, operand_of}
 use Rattle.typed_programs.specs.TypedStatements.{takes}
 use Rattle.typed_programs.specs.TypedStatements as fits
@@ -58,7 +58,7 @@ value_as_value p s t into (Number z) h = integer_value t.layers t.base h
 value_as_value p s t into Null h = ap is_pointer (pointer_value t h) ∙ h
 value_as_value p s t into (To q) h = subst (λ (u : ExprType). IsValue p s u into (To q)) (sym (pointer_value t (ap is_some h.target_is))) h
 
-module _ (p : Program) (order : AreStructsInOrder p) (shapes : AreShapes p) (points : TargetsOf) (writes : WritesKeep p points) where
+module _ (p : Program) (order : AreStructsInOrder p) (shapes : AreShapes p) (points : TargetsOf) where
   abbrev d : Declarations
   d = declarations p
 
@@ -87,7 +87,7 @@ module _ (p : Program) (order : AreStructsInOrder p) (shapes : AreShapes p) (poi
     }
 
     pub parameter_typed : IsTypedState p points (parameter_begun (executable p) x s w)
-    parameter_typed = writes begun (store (whole (length s.memory.blocks)) w) begun_typed parameter_fit
+    parameter_typed = written_typed p points order begun (store (whole (length s.memory.blocks)) w) begun_typed parameter_fit
 
     pub parameter_later : IsLater s (parameter_begun (executable p) x s w)
     parameter_later = later_on s begun (parameter_begun (executable p) x s w) begun_after (written_later p points begun (store (whole (length s.memory.blocks)) w))

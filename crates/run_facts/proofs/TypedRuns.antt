@@ -13,6 +13,7 @@ use Rattle.c_tree.specs.declared.statement.Target.TheVariants as target
 use Rattle.c_tree.specs.declared.types.CType.{CType}
 use Rattle.c_language.specs.Code.{Code, Opens}
 use Rattle.c_language.specs.ExprRules.{holds_of}
+use Rattle.c_language.specs.Programs.{IsWellFormed}
 use Rattle.c_language.specs.ExprTypes.{a_value, value_type}
 use Rattle.c_language.specs.TreeTypes.{shape_of}
 use Rattle.c_language.specs.declared.expr_type.ExprType.{ExprType}
@@ -29,6 +30,7 @@ use Rattle.dep_model.specs.DoingEffects.{is_taken, target_takes, any_takes, targ
 use Rattle.dep_model.specs.LocationLists.{AreStructsInOrder}
 use Rattle.dep_model.specs.MayPoint.{Pointing, pointing, parameters, passed, IsPointsTo}
 use Rattle.dep_model.proofs.Membership.{IsIn}
+use Rattle.dep_model.proofs.StructOrder.{well_formed_in_order}
 use Rattle.run_facts.specs.Effects.{back_in}
 use Rattle.run_facts.specs.StepKinds.{Change, Opened, Closed, changed, change_first, MovesOn, DoesAct, BeginsCall, ReturnsOnly, ReturnsStoring, moved_to, acted_to, called_to, returned_only, returned_storing}
 use Rattle.run_facts.specs.TypedStates.{IsValue, IsTypedState, IsResult}
@@ -36,16 +38,20 @@ use Rattle.run_facts.proofs.Blocks.{AreNamed}
 use Rattle.run_facts.proofs.CodeDoings.{each_next}
 use Rattle.run_facts.proofs.ExprsDenoted.{AreShapes}
 use Rattle.run_facts.proofs.LaterStates.{IsLater, later_on, value_later, result_later}
+use Rattle.run_facts.proofs.OpenedVariables.{opened_below}
 use Rattle.run_facts.proofs.Points.{AreWaiting, IsSound, sound_run, placed_resumed}
 use Rattle.run_facts.proofs.Statements.{bodies}
 use Rattle.run_facts.proofs.StepKinds.{IsKept, kept_run}
 use Rattle.run_facts.proofs.TypedActs.{act_fit, given_fit}
 use Rattle.run_facts.proofs.TypedCalls.{value_as_value, HasPassed, called_typed}
+use Rattle.run_facts.proofs.TypedGlobals.{opening_typed, opening_silent}
 use Rattle.run_facts.proofs.TypedParts.{StandsIn, stands_in, result_is, doing_taken, doing_heap, doing_fit, doing_pairs}
-use Rattle.run_facts.proofs.TypedStores.{WritesKeep, IsFitMade, act_later, act_typed, opened_typed, opened_later, closed_typed, closed_later, recast_typed, recast_later}
+use Rattle.run_facts.proofs.TypedStores.{IsFitMade, act_later, act_typed, opened_typed, opened_later, closed_typed, closed_later, recast_typed, recast_later}
 use Rattle.typed_programs.specs.TreeOperands.{Declarations, Signature, declarations, signature_of}
 use Rattle.typed_programs.specs.TypedStatements.{IsTyped}
 use Rattle.typed_programs.specs.TypedStatements as fits
+use Rattle.typed_programs.proofs.TreeTypes.{type_is}
+use Rattle.typed_programs.proofs.TypedPrograms.{programs_typed}
 use Rattle.typed_programs.proofs.TypedUses.{holds_there}
 
 closed_returned : (xs : List ℕ) (s : State) → (all_closed xs s).returned ≡ s.returned
@@ -94,7 +100,7 @@ module _ (p : Program) (points : TargetsOf) where
   results_later s t more [] h = tt
   results_later s t more (w ∷ ws) h = (result_same s t more w.function w.returned h.0, results_later s t more ws h.1)
 
-  module _ (order : AreStructsInOrder p) (shapes : AreShapes p) (typed : IsTyped p) (exact : IsPointsTo p points) (writes : WritesKeep p points) where
+  module _ (order : AreStructsInOrder p) (shapes : AreShapes p) (typed : IsTyped p) (exact : IsPointsTo p points) where
     -- ---- moves
 
     -- a variable that begins, and those that go
@@ -136,9 +142,9 @@ module _ (p : Program) (points : TargetsOf) where
         let g = stands_in p f a next.0 in
         let result = result_is p f g.function g.function_is in
         let fit = act_fit p order shapes points s h.state (result_at e f) (MayReturn f s) f k.statement g.function.result result (λ v u is value. (u, (result ∙ is, value))) k.act (λ z i. doing_pairs p points exact f a next.0 z i) (λ z r. doing_taken p f a g z r) (λ z i. doing_heap p f a g z i) (doing_fit p typed f a g) k.value k.made_is in
-        let more = act_later p points writes (MayReturn f s) k.statement s k.value fit h.state in
+        let more = act_later p points order (MayReturn f s) k.statement s k.value fit h.state in
         record {
-          state = act_typed p points writes (MayReturn f s) k.statement s k.value fit h.state;
+          state = act_typed p points order (MayReturn f s) k.statement s k.value fit h.state;
           returned = result_same s t more f (option_or k.value.returned s.returned) (either_there k.value.returned s.returned fit.returns h.returned);
           callers = results_later s t more x.callers h.callers;
         }
@@ -169,7 +175,7 @@ module _ (p : Program) (points : TargetsOf) where
         let g = stands_in p f a next.0 in
         let c = called_function k.target k.function k.args (doing_fit p typed f a g) in
         let params : parameters p k.function ≡ c.function.params = ap (λ (o : Option Function). option_map_or (λ (z : Function). z.params) o []) c.function_is in
-        let passed_ = called_typed p order shapes points writes s h.state (result_at e f) f k.function c.function k.args k.begun refl c.function_is known.sound.globals (λ z i. doing_pairs p points exact f a next.0 z (inr (subst (λ xs. IsIn (passed p points xs k.args) z) (sym params) i))) (λ z r. doing_taken p f a g z (or_right (target_takes p k.target z) (any_takes p k.args z) r)) c.passes k.called_is in
+        let passed_ = called_typed p order shapes points s h.state (result_at e f) f k.function c.function k.args k.begun refl c.function_is known.sound.globals (λ z i. doing_pairs p points exact f a next.0 z (inr (subst (λ xs. IsIn (passed p points xs k.args) z) (sym params) i))) (λ z r. doing_taken p f a g z (or_right (target_takes p k.target z) (any_takes p k.args z) r)) c.passes k.called_is in
         let more = later_on s (fresh e s) k.begun (recast_later s (fresh e s).frame None s.unread) passed_.later in
         record {
           state = passed_.typed_so;
@@ -237,11 +243,11 @@ module _ (p : Program) (points : TargetsOf) where
         stored = after w.call m back
 
         stored_later : IsLater back stored
-        stored_later = act_later p points writes Never w.call back m stored_fit back_typed
+        stored_later = act_later p points order Never w.call back m stored_fit back_typed
 
         stored_kept : (t : Trace) → IsTypedPoint (record { function = w.function; rest = w.rest; state = stored; callers = ws; trace = t })
         stored_kept t = record {
-          state = act_typed p points writes Never w.call back m stored_fit back_typed;
+          state = act_typed p points order Never w.call back m stored_fit back_typed;
           returned = result_same back stored stored_later w.function (option_or m.returned w.returned) (either_there m.returned w.returned (λ v r. absurd (stored_fit.returns v r)) back_kept.returned);
           callers = results_later back stored stored_later ws back_kept.callers;
         }
@@ -257,9 +263,16 @@ module _ (p : Program) (points : TargetsOf) where
       stores_result = λ x k known h. stored_kept x k.caller k.others k.callers_are known h k.value k.received_is _;
     }
 
-    module _ (input : List ℕ) (opens : (x : Point) → Reaches (machine e) (beginning e input) x → (v : ℕ) (r : Code) → x.rest ≡ Opens v r → v < length p.vars) (begun : IsTypedState p points (opening e input)) (silent : (opening e input).returned ≡ None) where
-      pub typed_run : (x : Point) → Reaches (machine e) (beginning e input) x → IsTypedPoint x
-      typed_run x r =
-          kept_run e IsKnown IsTypedPoint typed_kept (beginning e input)
-          (λ y before. record { sound = sound_run e Own (bodies p) input y before; opens = opens y before }) x r
-          (record { state = begun; returned = λ v is. none_there (sym silent ∙ is); callers = tt })
+    pub typed_on : (input : List ℕ) (x : Point) → Reaches (machine e) (beginning e input) x → IsTypedPoint x
+    typed_on input x r =
+        kept_run e IsKnown IsTypedPoint typed_kept (beginning e input)
+        (λ y before. record { sound = sound_run e Own (bodies p) input y before; opens = opened_below p typed input y before }) x r
+        (record {
+          state = opening_typed p order shapes points exact typed input;
+          returned = λ v is. none_there (sym (opening_silent p order shapes points exact typed input) ∙ is);
+          callers = tt;
+        })
+
+-- wherever a run of a well-formed program comes
+pub typed_run : (p : Program) (points : TargetsOf) → IsWellFormed p → IsPointsTo p points → (input : List ℕ) (x : Point) → Reaches (machine (executable p)) (beginning (executable p) input) x → IsTypedPoint p points x
+typed_run p points ok exact = typed_on p points (well_formed_in_order p ok) (type_is p) (programs_typed p ok) exact

@@ -13,6 +13,7 @@ use Rattle.c_meaning.specs.Values.{Types, Origin, OfVariable, OfStatement, State
 use Rattle.c_meaning.specs.Acts.{Store, Request, Made, stored, with_begun, origins_after, after}
 use Rattle.c_meaning.proofs.Origins.{length-changed}
 use Rattle.dep_model.specs.Denoted.{TargetsOf}
+use Rattle.dep_model.specs.LocationLists.{AreStructsInOrder}
 use Rattle.run_facts.specs.CellLocations.{location_in}
 use Rattle.run_facts.specs.TypedStates.{IsBlockOf, IsSiteBlock, IsVariableBlock, IsValue, IsTypedState}
 use Rattle.run_facts.proofs.Blocks.{AreNamed, IsPlaced, placed_closed, placed_opened, named_grown, grows_after}
@@ -20,6 +21,7 @@ use Rattle.run_facts.proofs.BegunBlocks.{HoldsTyped, typed_begun, unwritten_hold
 use Rattle.run_facts.proofs.KeptMemories.{leave_keeps}
 use Rattle.run_facts.proofs.LaterStates.{IsLater, KeepShapes, shapes_same, shapes_left, shapes_written, later_on, type_later, value_later}
 use Rattle.run_facts.proofs.Subobjects.{path_type, type_at_is, at_place}
+use Rattle.run_facts.proofs.WrittenStates.{write_typed}
 
 -- ---- states that hold no more
 
@@ -197,10 +199,6 @@ module _ (p : Program) (points : TargetsOf) where
   stored_later [] s = recast_later s s.frame s.returned s.unread
   stored_later (w ∷ ws) s = later_on s (written_state s w) (stored_state (written_state s w) ws) (written_later s w) (stored_later ws (written_state s w))
 
-  -- a write of such a value keeps states typed
-  abbrev pub WritesKeep : Type 0
-  WritesKeep = (s : State) (w : Store) → IsTypedState p points s → IsFitStore s w → IsTypedState p points (written_state s w)
-
   -- ---- an act
 
   module _ (i : ℕ) (s : State) where
@@ -232,11 +230,17 @@ module _ (p : Program) (points : TargetsOf) where
       pub stores : AreFit (begun_state x.begun) x.stores
       pub returns : (v : Value) → x.returned ≡ Some v → MayReturn v
 
-  module _ (writes : WritesKeep) where
+  module _ (order : AreStructsInOrder p) where
+    -- a write of such a value keeps a state typed
+    pub written_typed : (s : State) (w : Store) → IsTypedState p points s → IsFitStore s w → IsTypedState p points (written_state s w)
+    written_typed s w typed fit =
+        write_typed p order points s w.place w.value typed
+        (record { type = fit.type; type_is = fit.type_is; origin = fit.origin; origin_is = fit.origin_is; value_is = fit.value_is })
+
     pub stored_typed : (ws : List Store) (s : State) → IsTypedState p points s → AreFit s ws → IsTypedState p points (stored_state s ws)
     stored_typed [] s typed h = typed
     stored_typed (w ∷ ws) s typed h =
-        stored_typed ws (written_state s w) (writes s w typed h.0) (all_fit_later s (written_state s w) (written_later s w) ws h.1)
+        stored_typed ws (written_state s w) (written_typed s w typed h.0) (all_fit_later s (written_state s w) (written_later s w) ws h.1)
 
     module _ (MayReturn : Value → Type 0) (i : ℕ) (s : State) (x : Made) (fit : IsFitMade i s MayReturn x) (typed : IsTypedState p points s) where
       abbrev begun : State

@@ -23,7 +23,7 @@ holds_there test (Some x) h = (x, refl, h)
 pub operand_there : (d : Declarations) (test : Operand → Bool) (e : Expr) → passes d test e ≡ true → (x : Operand) × (operand_of d e ≡ Some x) × (test x ≡ true)
 operand_there d test e h = holds_there test (operand_of d e) h
 
-all_at : {A : Type 0} (test : A → Bool) (xs : List A) (k : ℕ) (x : A) → list_all test xs ≡ true → slice_get xs k ≡ Some x → test x ≡ true
+pub all_at : {A : Type 0} (test : A → Bool) (xs : List A) (k : ℕ) (x : A) → list_all test xs ≡ true → slice_get xs k ≡ Some x → test x ≡ true
 all_at test [] k x h e = none_there e
 all_at test (y ∷ xs) zero x h e = subst (λ z. test z ≡ true) (some_same e) (and_parts (test y) (list_all test xs) h).0
 all_at test (y ∷ xs) (suc k) x h e = all_at test xs k x (and_parts (test y) (list_all test xs) h).1 e
