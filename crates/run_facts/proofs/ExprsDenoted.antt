@@ -48,7 +48,7 @@ pub record OfOne (g : Operand → Option ExprType) (f : ExprType → Operand) (o
   pub type_is : g first ≡ Some type
   pub same : f type ≡ x
 
-of_one : (g : Operand → Option ExprType) (f : ExprType → Operand) (o : Option Operand) (x : Operand) → option_map f (option_and_then g o) ≡ Some x → OfOne g f o x
+pub of_one : (g : Operand → Option ExprType) (f : ExprType → Operand) (o : Option Operand) (x : Operand) → option_map f (option_and_then g o) ≡ Some x → OfOne g f o x
 of_one g f o x e =
     let k = map_there f (option_and_then g o) x e in
     let m = then_there g o k.value k.there in
@@ -63,7 +63,7 @@ pub record OfTwo (g : Operand → Operand → Option ExprType) (f : ExprType →
   pub type_is : g first second ≡ Some type
   pub same : f type ≡ x
 
-of_two : (g : Operand → Operand → Option ExprType) (f : ExprType → Operand) (o q : Option Operand) (x : Operand) → option_map f (option_and_then (λ (y : Operand). option_and_then (g y) q) o) ≡ Some x → OfTwo g f o q x
+pub of_two : (g : Operand → Operand → Option ExprType) (f : ExprType → Operand) (o q : Option Operand) (x : Operand) → option_map f (option_and_then (λ (y : Operand). option_and_then (g y) q) o) ≡ Some x → OfTwo g f o q x
 of_two g f o q x e =
     let k = of_one (λ (y : Operand). option_and_then (g y) q) f o x e in
     let m = then_there (g k.first) q k.type k.type_is in
@@ -71,7 +71,7 @@ of_two g f o q x e =
 
 -- ---- what the rules say of types
 
-given_true : (b : Bool) (t u : ExprType) → given b t ≡ Some u → (b ≡ true) × (t ≡ u)
+pub given_true : (b : Bool) (t u : ExprType) → given b t ≡ Some u → (b ≡ true) × (t ≡ u)
 given_true true t u e = (refl, some_same e)
 given_true false t u e = none_there e
 
@@ -80,12 +80,12 @@ not_false true h = absurd (false≢true h)
 not_false false h = refl
 
 -- a pointer to an object is a pointer, to that object
-object_target : (t u : ExprType) → object_of t ≡ Some u → target_of t ≡ Some u
+pub object_target : (t u : ExprType) → object_of t ≡ Some u → target_of t ≡ Some u
 object_target t u e =
     let k = then_there (λ (o : ExprType). if is_void o then None else Some o) (target_of t) u e in
     k.there ∙ by_test (is_void k.value) k.same (λ is none. none_there none) (λ is same. same)
 
-pointer_of : (t u : ExprType) → target_of t ≡ Some u → is_pointer t ≡ true
+pub pointer_of : (t u : ExprType) → target_of t ≡ Some u → is_pointer t ≡ true
 pointer_of t u e = ap is_some e
 
 object_pointer : (t : ExprType) (o : Option ExprType) → object_of t ≡ o → is_some o ≡ true → is_pointer t ≡ true
@@ -115,7 +115,7 @@ pub record IsSelected (p : Program) (m : MemberId) (t : ExprType) : Type 0 where
   pub member : Member
   pub member_is : slice_get (members_of p m.owner) m.index ≡ Some member
 
-selected_member : (p : Program) (m : MemberId) (t u : ExprType) → selected (declarations p) m t ≡ Some u → IsSelected p m t
+pub selected_member : (p : Program) (m : MemberId) (t u : ExprType) → selected (declarations p) m t ≡ Some u → IsSelected p m t
 selected_member p m t u e =
     let s = then_there (member_within (declarations p) m) (struct_of t) u e in
     by_test (s.value == m.owner) s.same

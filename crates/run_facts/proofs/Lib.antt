@@ -53,4 +53,8 @@ pub mod FixedValues
 pub mod ZeroBlocks
 pub mod TypedGlobals
 pub mod TypedRuns
+pub mod UsedExprs
+pub mod CoveredRuns
+pub mod UntestedForms
+pub mod FittingRuns
 mod LocationRows

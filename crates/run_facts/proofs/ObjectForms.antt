@@ -67,7 +67,7 @@ member_there structs [] i k e = none_there e
 member_there structs (m ∷ ms) zero k e = ap (λ (x : Member). Some (shape_of x.shape)) (some_same e)
 member_there structs (m ∷ ms) (suc i) k e = behind_type (cell_count structs (shape_of m.shape)) (member_in structs i (types_of ms)) ∙ member_there structs ms i k e
 
-block_there : {A B : Type 0} (xs : List A) (ys : List B) (n : ℕ) (x : A) → length xs ≡ length ys → slice_get xs n ≡ Some x → (y : B) × (slice_get ys n ≡ Some y)
+pub block_there : {A B : Type 0} (xs : List A) (ys : List B) (n : ℕ) (x : A) → length xs ≡ length ys → slice_get xs n ≡ Some x → (y : B) × (slice_get ys n ≡ Some y)
 block_there [] ys n x same e = none_there e
 block_there (a ∷ xs) [] n x same e = absurd (omega (arith, same))
 block_there (a ∷ xs) (y ∷ ys) zero x same e = (y, refl)

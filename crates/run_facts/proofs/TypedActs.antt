@@ -82,7 +82,7 @@ number_no_pointer : {A : Type 0} (z : ℤ) (q : Pointer) → Number z ≡ To q �
 number_no_pointer z q e = cc
 
 -- a pointer that an operator gives is its left operand, moved
-abbrev Moves : Memory → Value → Pointer → Type 0
+abbrev pub Moves : Memory → Value → Pointer → Type 0
 Moves m x q = (z : ℤ) × (moved m z x ≡ Some (To q))
 
 sum_moves : (m : Memory) (x y : Value) (q : Pointer) → moved_by m x y ≡ Some (To q) → Moves m x q
@@ -117,7 +117,7 @@ left_moves And m x y q e = none_there e
 left_moves Xor m x y q e = none_there e
 left_moves Or m x y q e = none_there e
 
-operands_move : (op : BinaryOp) (a b : Bool) (i : IntType) (m : Memory) (x y : Value) (q : Pointer) → a ≡ true → at_operands a b op i m x y ≡ Some (To q) → Moves m x q
+pub operands_move : (op : BinaryOp) (a b : Bool) (i : IntType) (m : Memory) (x y : Value) (q : Pointer) → a ≡ true → at_operands a b op i m x y ≡ Some (To q) → Moves m x q
 operands_move op true true i m x y q is e = let n = pointers_number op m x y (To q) e in number_no_pointer n.0 q n.1
 operands_move op true false i m x y q is e = left_moves op m x y q e
 operands_move op false b i m x y q is e = absurd (false≢true is)
@@ -131,7 +131,7 @@ pointer_target (layer.Array n ∷ ls) b h = absurd (false≢true h)
 pub pointer_value : (t : ExprType) → is_pointer t ≡ true → value_type t ≡ t
 pointer_value t h = pointer_target t.layers t.base h
 
-scalar_no_array : (ls : List Layer) (b : Base) → is_scalar (record { layers = ls; base = b }) ≡ true → is_array (record { layers = ls; base = b }) ≡ false
+pub scalar_no_array : (ls : List Layer) (b : Base) → is_scalar (record { layers = ls; base = b }) ≡ true → is_array (record { layers = ls; base = b }) ≡ false
 scalar_no_array [] b h = refl
 scalar_no_array (layer.Pointer ∷ ls) b h = refl
 scalar_no_array (layer.Array n ∷ ls) b h = absurd (false≢true h)
@@ -168,13 +168,13 @@ module _ (p : Program) (order : AreStructsInOrder p) (shapes : AreShapes p) (poi
 
   -- ---- expressions
 
-  denoted_at : (e : Expr) (x : Operand) → operand_of d e ≡ Some x → IsDenoted p s points x.is_null (denoted p points e) (watched types e)
+  pub denoted_at : (e : Expr) (x : Operand) → operand_of d e ≡ Some x → IsDenoted p s points x.is_null (denoted p points e) (watched types e)
   denoted_at e x h = expr_denoted p order points s typed result shapes e x h
 
-  shape_at : (e : Expr) (x : Operand) → operand_of d e ≡ Some x → (denoted p points e).form.type ≡ x.shape
+  pub shape_at : (e : Expr) (x : Operand) → operand_of d e ≡ Some x → (denoted p points e).form.type ≡ x.shape
   shape_at e x h = has_type p points e ∙ shapes e x h
 
-  type_at_operand : (e : Expr) (x : Operand) → operand_of d e ≡ Some x → type_of types e ≡ x.shape
+  pub type_at_operand : (e : Expr) (x : Operand) → operand_of d e ≡ Some x → type_of types e ≡ x.shape
   type_at_operand e x h = sym (ap (λ (m : Meant). m.type) (means_it types e)) ∙ ((denoted_at e x h).type_is ∙ shape_at e x h)
 
   watched_value : (e : Expr) (v : Value) → eval types e s ≡ Some v → (watched types e).meant.value s ≡ Some v
@@ -198,7 +198,7 @@ module _ (p : Program) (order : AreStructsInOrder p) (shapes : AreShapes p) (poi
     pub origin_is : slice_get s.origins q.block ≡ Some origin
     pub among : places (location_in origin q.path) ≡ true
 
-  left_object : (e : Expr) (x : Operand) (q : Place) → operand_of d e ≡ Some x → Taken (left_takes p e) → place types e s ≡ Some q → IsObject p s (denoted p points e) q
+  pub left_object : (e : Expr) (x : Operand) (q : Place) → operand_of d e ≡ Some x → Taken (left_takes p e) → place types e s ≡ Some q → IsObject p s (denoted p points e) q
   left_object e x q h taken at_ =
       (denoted_at e x h).object (subst (λ (k : Designated). Taken k.takes) (sym (form_is p points e)) taken) q (ap (λ (m : Meant). m.place s) (means_it types e) ∙ at_)
 

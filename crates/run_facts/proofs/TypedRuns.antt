@@ -93,12 +93,30 @@ module _ (p : Program) (points : TargetsOf) where
     pub sound : IsSound e Own x
     pub opens : (v : ℕ) (r : Code) → x.rest ≡ Opens v r → v < length p.vars
 
+  pub known_run : IsTyped p → (input : List ℕ) (x : Point) → Reaches (machine e) (beginning e input) x → IsKnown x
+  known_run typed input x r = record { sound = sound_run e Own (bodies p) input x r; opens = opened_below p typed input x r }
+
   result_same : (s t : State) → IsLater s t → (f : ℕ) (o : Option Value) → HasResult s f o → HasResult t f o
   result_same s t more f o h = result_later s t more p points f (result_at e f) o h
 
   results_later : (s t : State) → IsLater s t → (ws : List Waiting) → HaveResults s ws → HaveResults t ws
   results_later s t more [] h = tt
   results_later s t more (w ∷ ws) h = (result_same s t more w.function w.returned h.0, results_later s t more ws h.1)
+
+  -- the function that is called, and what the rules say of its call
+  pub record CallsFunction (to : Target) (g : ℕ) (args : List Expr) : Type 0 where
+    pub function : Function
+    pub function_is : slice_get p.functions g ≡ Some function
+    pub passes : fits.passed d function.params args ≡ true
+    pub gives : fits.gives d to function.result ≡ true
+
+  pub called_function : (to : Target) (g : ℕ) (args : List Expr) → holds_of (fits.calls d to args) (slice_get d.functions g) ≡ true → CallsFunction to g args
+  called_function to g args h =
+      let k = holds_there (fits.calls d to args) (slice_get d.functions g) h in
+      let m = map_there signature_of (slice_get p.functions g) k.0 (sym (slice_get-map signature_of p.functions g) ∙ k.1) in
+      let fit : fits.calls d to args (signature_of m.value) ≡ true = ap (fits.calls d to args) m.same ∙ k.2 in
+      let both = and_parts (fits.passed d m.value.params args) (fits.gives d to m.value.result) fit in
+      record { function = m.value; function_is = m.there; passes = both.0; gives = both.1 }
 
   module _ (order : AreStructsInOrder p) (shapes : AreShapes p) (typed : IsTyped p) (exact : IsPointsTo p points) where
     -- ---- moves
@@ -151,21 +169,6 @@ module _ (p : Program) (points : TargetsOf) where
 
     -- ---- calls
 
-    -- the function that is called, and what the rules say of its call
-    pub record CallsFunction (to : Target) (g : ℕ) (args : List Expr) : Type 0 where
-      pub function : Function
-      pub function_is : slice_get p.functions g ≡ Some function
-      pub passes : fits.passed d function.params args ≡ true
-      pub gives : fits.gives d to function.result ≡ true
-
-    called_function : (to : Target) (g : ℕ) (args : List Expr) → holds_of (fits.calls d to args) (slice_get d.functions g) ≡ true → CallsFunction to g args
-    called_function to g args h =
-        let k = holds_there (fits.calls d to args) (slice_get d.functions g) h in
-        let m = map_there signature_of (slice_get p.functions g) k.0 (sym (slice_get-map signature_of p.functions g) ∙ k.1) in
-        let fit : fits.calls d to args (signature_of m.value) ≡ true = ap (fits.calls d to args) m.same ∙ k.2 in
-        let both = and_parts (fits.passed d m.value.params args) (fits.gives d to m.value.result) fit in
-        record { function = m.value; function_is = m.there; passes = both.0; gives = both.1 }
-
     call_kept : (x : Point) (k : BeginsCall e x) → IsKnown x → IsTypedPoint x → IsTypedPoint (called_to e x k)
     call_kept x k known h =
         let f = x.function in
@@ -202,7 +205,7 @@ module _ (p : Program) (points : TargetsOf) where
       back_later =
           later_on x.state closed back (closed_later (variables_at e x.function) x.state) (recast_later closed w.frame w.returned closed.unread)
 
-      back_typed : IsTypedState p points back
+      pub back_typed : IsTypedState p points back
       back_typed =
           recast_typed closed w.frame w.returned closed.unread p points (closed_typed p points (variables_at e x.function) x.state h.state)
           (placed_resumed e x.function w x.state known.sound.placed waits.0.named).named
@@ -265,8 +268,7 @@ module _ (p : Program) (points : TargetsOf) where
 
     pub typed_on : (input : List ℕ) (x : Point) → Reaches (machine e) (beginning e input) x → IsTypedPoint x
     typed_on input x r =
-        kept_run e IsKnown IsTypedPoint typed_kept (beginning e input)
-        (λ y before. record { sound = sound_run e Own (bodies p) input y before; opens = opened_below p typed input y before }) x r
+        kept_run e IsKnown IsTypedPoint typed_kept (beginning e input) (known_run typed input) x r
         (record {
           state = opening_typed p order shapes points exact typed input;
           returned = λ v is. none_there (sym (opening_silent p order shapes points exact typed input) ∙ is);

@@ -19,7 +19,9 @@ use Rattle.run_facts.specs.StepKinds.{StepKind}
 use Rattle.run_facts.specs.DoneEffects.{DoesEffect, returned_before}
 use Rattle.run_facts.specs.SameOutcomes.{SameButCells, SameOutcomes}
 use Rattle.dep_model.specs.PointerFree.{IsPointerFree}
+use Rattle.run_facts.specs.UntestedMeanings.{TypesFit}
 use Rattle.run_facts.specs.Touching.{DoingTouches, ReceiptTouches}
+use Rattle.run_facts.specs.CoveredPoints.{IsCovered}
 use Rattle.run_facts.specs.CallTouching.{Enters, Within, HasCalled, InCall}
 
 -- what an act comes to depends on no cells but those that it reads, and so do arguments and the store after a call
@@ -78,3 +80,15 @@ abbrev pub CallersHaveCalled : Type 0
 CallersHaveCalled =
     (p : Executable) (input : List ℕ) (z : Point) → Reaches (machine p) (beginning p input) z → (above ws : List Waiting) (w : Waiting)
     → z.callers ≡ above ++ (w ∷ ws) → HasCalled p (beginning p input) above ws w z
+
+-- wherever a run of a well-formed program stands, its pointers lead where points-to says
+abbrev pub PointsToCoversRuns : Type 0
+PointsToCoversRuns =
+    (p : Program) (a : Analysis) → IsWellFormed p → IsAnalysis p a → (input : List ℕ) (x : Point)
+    → Reaches (machine (executable p)) (beginning (executable p) input) x → IsCovered p a.points x
+
+-- and the tests of types let each expression through
+abbrev pub TypesAlwaysFit : Type 0
+TypesAlwaysFit =
+    (p : Program) (a : Analysis) → IsWellFormed p → IsAnalysis p a → (input : List ℕ) (x : Point)
+    → Reaches (machine (executable p)) (beginning (executable p) input) x → TypesFit p x

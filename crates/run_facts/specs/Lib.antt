@@ -12,4 +12,7 @@ pub mod CallTouching
 pub mod PointerLocations
 pub mod TypedStates
 pub mod DenotedCells
+pub mod NextExprs
+pub mod CoveredPoints
+pub mod UntestedMeanings
 pub mod Laws

@@ -68,3 +68,17 @@ pub fn calls_touch_what_functions_say()
 pub fn callers_have_called()
     ensures { law.CallersHaveCalled }
 {}
+
+/// A law: wherever a run of a well-formed program stands, each pointer that a cell holds, and each that an expression
+/// of what is done next gives, has a location among those to which the cell's location, or the expression, may point
+/// (Andersen 1994); and each object that is stored to lies where the left side may. So it is for programs of every form.
+pub fn points_to_covers_runs()
+    ensures { law.PointsToCoversRuns }
+{}
+
+/// A law: wherever a run of a well-formed program stands, each expression of what is done next, and each left side to
+/// which a waiting caller stores, has the same object, value and address as without the tests of types, which are asked
+/// where an object is designated. So effective types (ISO C99 6.5, paragraph 7) are never broken in a run.
+pub fn types_always_fit()
+    ensures { law.TypesAlwaysFit }
+{}
