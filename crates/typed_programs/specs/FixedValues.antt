@@ -1,4 +1,4 @@
--- Expressions of which no name of a variable, and no operator on places, is a part; what globals begin with is such a one (ISO C99 6.7.8, paragraph 4).
+-- Expressions of which no name of a variable, and no operator on places, is a part: what globals begin with (ISO C99 6.7.8, paragraph 4).
 use Rattle.std.specs.Prelude.{Bool, true, false, ◌&&◌}
 use Rattle.std.specs.List.{list_all}
 use Rattle.c_tree.specs.declared.expr.Expr.{Expr, fold-Expr}
