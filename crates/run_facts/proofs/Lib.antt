@@ -30,6 +30,9 @@ pub mod CellPaths
 pub mod CellPlaces
 pub mod WrittenStates
 pub mod DenotedForms
+pub mod SelectedPlaces
+pub mod ActCells
+pub mod ActKills
 pub mod ListedObjects
 pub mod PointedObjects
 pub mod ObjectValues

@@ -1,6 +1,6 @@
 -- A block of zeros and null pointers, as that of a global begins, holds what is of its cells' types.
-use Rattle.std.proofs.Common.{◌≡◌, ℕ, pos, zero, suc, List, [], ◌∷◌, ◌++◌, length, map, Option, Some, None, Bool, true, false, ◌||◌, refl, sym, ap, ◌∙◌, subst}
-use Rattle.std.specs.Prelude.{option_map, option_and_then, slice_get, if◌then◌else◌}
+use Rattle.std.proofs.Common.{◌≡◌, ℕ, pos, zero, suc, List, [], ◌∷◌, length, map, Option, Some, Bool, true, false, ◌||◌, refl, sym, ap, ◌∙◌, subst}
+use Rattle.std.specs.Prelude.{option_map, slice_get, if◌then◌else◌}
 use Rattle.c_language.proofs.Options.{some_same, then_there}
 use Rattle.c_tree.specs.declared.program.Program.{Program}
 use Rattle.c_language.specs.declared.expr_type.ExprType.{ExprType}
@@ -8,9 +8,9 @@ use Rattle.c_language.specs.ExprTypes.{is_integer, is_pointer, is_scalar}
 use Rattle.c_meaning.specs.declared.value.Hop.{Hop}
 use Rattle.c_meaning.specs.declared.value.Value.{Value}
 use Rattle.c_meaning.specs.declared.value.Value.TheVariants.{Number, Null}
-use Rattle.c_meaning.specs.Cells.{Structs, Subobject, structs_of, cells, subobject, cell_number}
+use Rattle.c_meaning.specs.Cells.{Structs, Subobject, structs_of, cells, cell_number}
 use Rattle.c_meaning.specs.Memory.{cell_in}
-use Rattle.c_meaning.specs.Values.{Types, OfVariable, State, bound}
+use Rattle.c_meaning.specs.Values.{OfVariable, State, bound}
 use Rattle.c_meaning.specs.Acts.{zero_of}
 use Rattle.c_meaning.specs.Activations.{Executable, outside, zeros, global_opened}
 use Rattle.dep_model.specs.LocationLists.{AreStructsInOrder}
