@@ -1,5 +1,12 @@
-//! Laws of the graph of a program, and of sets of its vertices that can be projected. Each function is a law, and holds no code: its contract is the law.
+//! Laws of every run of a program, of its graph, and of sets of its vertices that can be projected. Each function is a
+//! law, and holds no code: its contract is the law.
 ghost use Rattle.slice_engine.specs.Laws as law;
+
+pub use run_facts::{
+    callers_have_called, calls_touch_what_functions_say, outcomes_depend_on_reads,
+    points_to_covers_runs, steps_do_their_effects, steps_keep_the_rest,
+    steps_touch_what_vertices_say, types_always_fit,
+};
 
 /// A law: the rows of where the locations of a well-formed program may point, with those of what its functions modify and use
 /// then, say the one analysis of the program.
