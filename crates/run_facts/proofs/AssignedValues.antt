@@ -1,6 +1,6 @@
 -- What is assigned is of its type and leads where the assigned expression does, whatever is converted on the way.
-use Rattle.std.proofs.Common.{◌≡◌, ℕ, ℤ, List, [], ◌∷◌, Option, Some, None, Bool, true, false, ◌&&◌, ◌||◌, ◌⊎◌, inl, inr, refl, sym, ap, ◌∙◌, subst}
-use Rattle.std.specs.Prelude.{option_map, option_and_then, is_some, if◌then◌else◌}
+use Rattle.std.proofs.Common.{◌≡◌, ℤ, List, [], ◌∷◌, Option, Some, None, Bool, true, false, ◌&&◌, ◌||◌, ◌⊎◌, inl, inr, refl, sym, ap, ◌∙◌, subst}
+use Rattle.std.specs.Prelude.{option_map, option_and_then, is_some}
 use Rattle.std.proofs.lemmas.Bool.{false≢true, and_parts, or_cases}
 use Rattle.c_arith.specs.declared.int_type.IntType.{IntType}
 use Rattle.c_language.proofs.Options.{none_there, some_same, map_there, then_there}
@@ -10,7 +10,7 @@ use Rattle.c_language.specs.declared.expr_type.Base.{Base}
 use Rattle.c_language.specs.declared.expr_type.Layer.{Layer}
 use Rattle.c_language.specs.declared.expr_type.ExprType.{ExprType}
 use Rattle.c_language.specs.declared.expr_type.Operand.{Operand}
-use Rattle.c_language.specs.ExprTypes.{integer_in, integer_of, target_in, is_integer, is_pointer, is_scalar, same_type, value_type, is_assignable}
+use Rattle.c_language.specs.ExprTypes.{integer_in, integer_of, target_in, is_integer, is_pointer, same_type, value_type, is_assignable}
 use Rattle.c_meaning.specs.declared.value.Place.{Place}
 use Rattle.c_meaning.specs.declared.value.Pointer.{Pointer}
 use Rattle.c_meaning.specs.declared.value.Value.{Value}

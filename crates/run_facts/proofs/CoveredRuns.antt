@@ -1,16 +1,14 @@
 -- Wherever a run of a well-formed program stands, its pointers lead where points-to says.
-use Rattle.std.proofs.Common.{◌≡◌, ℕ, List, [], ◌∷◌, Option, Some, None, true, ◌||◌, inl, inr, refl, sym, ap, ◌∙◌, subst}
+use Rattle.std.proofs.Common.{◌≡◌, ℕ, List, ◌∷◌, Option, Some, true, sym, ap, ◌∙◌, subst}
 use Rattle.std.specs.Prelude.{Contains, option_map, option_and_then, slice_get}
 use Rattle.std.proofs.lemmas.Bool.{or_left, or_right}
 use Rattle.c_language.proofs.Options.{then_there}
 use Rattle.c_tree.specs.declared.expr.Expr.{Expr}
-use Rattle.c_tree.specs.declared.program.Function.{Function}
 use Rattle.c_tree.specs.declared.program.Program.{Program}
 use Rattle.c_tree.specs.declared.statement.Target.{Target}
 use Rattle.c_tree.specs.declared.statement.Target.TheVariants as target
 use Rattle.c_tree.specs.declared.types.CType.{CType}
 use Rattle.c_language.specs.ExprTypes.{a_value}
-use Rattle.c_language.specs.Programs.{IsWellFormed}
 use Rattle.c_language.specs.TreeTypes.{shape_of}
 use Rattle.c_language.specs.declared.expr_type.ExprType.{ExprType}
 use Rattle.c_meaning.specs.declared.value.Place.{Place}
@@ -20,9 +18,9 @@ use Rattle.c_meaning.specs.declared.value.Value.TheVariants.{To}
 use Rattle.c_meaning.specs.Cells.{Subobject, subobject, cell_number}
 use Rattle.c_meaning.specs.Memory.{Block, Memory, held, cell_in, cell, read}
 use Rattle.c_meaning.specs.Pointers.{type_at, whole_of}
-use Rattle.c_meaning.specs.Values.{Origin, State, place, eval}
+use Rattle.c_meaning.specs.Values.{Origin, State, eval}
 use Rattle.c_meaning.specs.Activations.{executable, types_in, result_at}
-use Rattle.c_meaning.specs.Steps.{Reaches, Waiting, Point, machine, beginning}
+use Rattle.c_meaning.specs.Steps.{Waiting, Point}
 use Rattle.dep_model.specs.Denoted.{Places, TargetsOf, expr_points}
 use Rattle.dep_model.specs.Doings.{Doing, Does, Calls}
 use Rattle.dep_model.specs.DoingEffects.{doing_takes, target_takes, any_takes}
@@ -35,18 +33,18 @@ use Rattle.run_facts.specs.CoveredPoints.{LeadsAmong, HoldsCovered, PlacesCovere
 use Rattle.run_facts.specs.Effects.{next_doing, back_in}
 use Rattle.run_facts.specs.Laws.{PointsToCoversRuns}
 use Rattle.run_facts.specs.NextExprs.{target_exprs, doing_values, doing_places}
-use Rattle.run_facts.specs.PointerLocations.{item_of, pointer_location}
+use Rattle.run_facts.specs.PointerLocations.{item_of}
 use Rattle.run_facts.specs.TypedStates.{Leads, IsTypedState}
 use Rattle.run_facts.proofs.CellPaths.{cell_at}
 use Rattle.run_facts.proofs.ExprsDenoted.{AreShapes}
 use Rattle.run_facts.proofs.ObjectForms.{block_there}
 use Rattle.run_facts.proofs.PointedObjects.{item_block}
-use Rattle.run_facts.proofs.Points.{AreWaiting, IsSound, sound_run}
-use Rattle.run_facts.proofs.Statements.{bodies, next_member}
+use Rattle.run_facts.proofs.Points.{AreWaiting}
+use Rattle.run_facts.proofs.Statements.{next_member}
 use Rattle.run_facts.proofs.TypedActs.{value_at, left_object}
 use Rattle.run_facts.proofs.TypedParts.{StandsIn, stands_in, doing_taken, doing_fit}
-use Rattle.run_facts.proofs.TypedRuns.{Own, IsKnown, IsTypedPoint, CallsFunction, called_function, back_typed, typed_run, known_run}
-use Rattle.run_facts.proofs.UsedExprs.{IsUsed, IsValueOf, IsPlaceOf, as_place, argument_values, stored_place, value_used, place_used}
+use Rattle.run_facts.proofs.TypedRuns.{Own, IsKnown, IsTypedPoint, called_function, back_typed, typed_run, known_run}
+use Rattle.run_facts.proofs.UsedExprs.{IsValueOf, IsPlaceOf, as_place, argument_values, stored_place, value_used, place_used}
 use Rattle.typed_programs.specs.TypedStatements.{IsTyped}
 use Rattle.typed_programs.specs.TypedStatements as fits
 use Rattle.typed_programs.specs.TreeOperands.{declarations}

@@ -23,9 +23,7 @@ use Rattle.c_language.specs.ExprTypes.{a_place, a_value, given, value_type, inte
 use Rattle.c_language.specs.TreeTypes.{shape_of, members_of, typing_of, tree_type_step, tree_type}
 use Rattle.c_meaning.specs.Values.{Types, State, owner_of}
 use Rattle.dep_model.specs.Denoted.{TargetsOf, Denoted, denoted_step, denoted}
-use Rattle.dep_model.specs.Denoted as denote
 use Rattle.dep_model.specs.Designated.{Designated, is_array_place}
-use Rattle.dep_model.specs.Designated as designate
 use Rattle.dep_model.specs.LocationLists.{AreStructsInOrder}
 use Rattle.run_facts.specs.DenotedCells.{IsDenoted}
 use Rattle.run_facts.specs.ReadCells.{Watched, watched_step, watched}
@@ -37,7 +35,7 @@ use Rattle.run_facts.proofs.MemberForms.{member_denoted, parentheses_denoted}
 use Rattle.run_facts.proofs.ValueForms.{constant_denoted, null_denoted, eof_denoted, address_denoted, unary_denoted, cast_denoted, and_denoted}
 use Rattle.run_facts.proofs.BinaryForms.{binary_denoted}
 use Rattle.run_facts.proofs.ChooseForms.{IsChosen, choose_denoted, or_denoted}
-use Rattle.typed_programs.specs.TreeOperands.{Declarations, declarations, variable_shape, member_shape, member_within, selected, tree_operand_step, operand_of, tree_operand}
+use Rattle.typed_programs.specs.TreeOperands.{Declarations, declarations, variable_shape, member_within, selected, tree_operand_step, operand_of, tree_operand}
 
 -- ---- what is made of operands
 
@@ -88,7 +86,7 @@ object_target t u e =
 pub pointer_of : (t u : ExprType) → target_of t ≡ Some u → is_pointer t ≡ true
 pointer_of t u e = ap is_some e
 
-object_pointer : (t : ExprType) (o : Option ExprType) → object_of t ≡ o → is_some o ≡ true → is_pointer t ≡ true
+pub object_pointer : (t : ExprType) (o : Option ExprType) → object_of t ≡ o → is_some o ≡ true → is_pointer t ≡ true
 object_pointer t None e h = absurd (false≢true h)
 object_pointer t (Some u) e h = pointer_of t u (object_target t u e)
 
@@ -96,7 +94,7 @@ no_pointer_in : (ls : List Layer) (b : Base) → is_integer (record { layers = l
 no_pointer_in [] b h = refl
 no_pointer_in (l ∷ ls) b h = absurd (false≢true h)
 
-no_pointer : (t : ExprType) → is_integer t ≡ true → is_pointer (value_type t) ≡ false
+pub no_pointer : (t : ExprType) → is_integer t ≡ true → is_pointer (value_type t) ≡ false
 no_pointer t h = no_pointer_in t.layers t.base h
 
 struct_base : (ls : List Layer) (b : Base) (s : ℕ) → struct_in ls b ≡ Some s → ◌≡◌ {A = ExprType} (record { layers = ls; base = b }) (of_base (base.Struct s))
@@ -105,7 +103,7 @@ struct_base [] (base.Integer t) s e = none_there e
 struct_base [] base.Void s e = none_there e
 struct_base (l ∷ ls) b s e = none_there e
 
-or_there : (a b : Option ExprType) (t : ExprType) → option_or a b ≡ Some t → (a ≡ Some t) ⊎ (b ≡ Some t)
+pub or_there : (a b : Option ExprType) (t : ExprType) → option_or a b ≡ Some t → (a ≡ Some t) ⊎ (b ≡ Some t)
 or_there None b t e = inr e
 or_there (Some u) b t e = inl e
 
@@ -164,7 +162,7 @@ module _ (y z : Operand) (t : ExprType) where
       let b = and_parts (is_object_pointer vz) y.is_null k.0 in
       record { scalar = inr (subst (λ (u : ExprType). is_pointer u ≡ true) k.1 (object_pointer vz (object_of vz) refl b.0)); first = inl b.1; second = inr (λ is. k.1) }
 
-  choice : chosen_result y z ≡ Some t → IsChoice y z t
+  pub choice : chosen_result y z ≡ Some t → IsChoice y z t
   choice e =
       elim (or_there (common_result y.shape z.shape) (option_or (given (are_alike vy vz || (is_object_pointer vy && z.is_null)) vy) (given (is_object_pointer vz && y.is_null) vz)) t e) [
         | inl h ↦ of_integers h

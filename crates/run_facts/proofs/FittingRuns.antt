@@ -1,5 +1,5 @@
 -- Wherever a run of a well-formed program stands, the tests of types let each expression through.
-use Rattle.std.proofs.Common.{◌≡◌, ℕ, List, ◌∷◌, Some, true, ◌||◌}
+use Rattle.std.proofs.Common.{◌≡◌, ℕ, List, ◌∷◌}
 use Rattle.std.specs.Prelude.{Contains}
 use Rattle.std.proofs.lemmas.Bool.{or_left}
 use Rattle.c_tree.specs.declared.expr.Expr.{Expr}
@@ -14,7 +14,7 @@ use Rattle.dep_model.specs.LocationLists.{AreStructsInOrder}
 use Rattle.dep_model.specs.MayPoint.{IsPointsTo}
 use Rattle.dep_model.proofs.Membership.{in_of_contains}
 use Rattle.dep_model.proofs.StructOrder.{well_formed_in_order}
-use Rattle.run_facts.specs.Effects.{next_doing, back_in}
+use Rattle.run_facts.specs.Effects.{back_in}
 use Rattle.run_facts.specs.Laws.{TypesAlwaysFit}
 use Rattle.run_facts.specs.NextExprs.{target_exprs, doing_values, doing_places}
 use Rattle.run_facts.specs.TypedStates.{IsTypedState}

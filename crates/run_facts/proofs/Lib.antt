@@ -60,4 +60,7 @@ pub mod UsedExprs
 pub mod CoveredRuns
 pub mod UntestedForms
 pub mod FittingRuns
+pub mod PartsOfParts
+pub mod PointedTypes
+pub mod TypedPairs
 mod LocationRows

@@ -133,7 +133,7 @@ module _ (p : Program) where
   there_below (v ∷ vs) zero low = (v, refl)
   there_below (v ∷ vs) (suc x) low = there_below vs x (omega (arith, low))
 
-  variable_listed : (x : ℕ) (k : Located) → x < length p.vars → IsIn (parts p (type_of_variable p x)) k → IsIn (locations p) (placed (Variable x) k)
+  pub variable_listed : (x : ℕ) (k : Located) → x < length p.vars → IsIn (parts p (type_of_variable p x)) k → IsIn (locations p) (placed (Variable x) k)
   variable_listed x k low h =
       let v = there_below p.vars x low in
       let t = ap (λ (o : Option Var). option_map_or (λ (u : Var). shape_of u.shape) o (integer Int)) v.1 in

@@ -1,5 +1,5 @@
 -- Each variable that begins in a run is one of the program's.
-use Rattle.std.proofs.Common.{◌≡◌, ℕ, ◌<◌, List, [], ◌∷◌, length, map, Option, Some, None, Bool, true, ◌&&◌, refl, sym, ap, ◌∙◌, subst}
+use Rattle.std.proofs.Common.{◌≡◌, ℕ, ◌<◌, List, [], ◌∷◌, length, Option, Some, None, true, refl, sym, subst}
 use Rattle.std.specs.Prelude.{option_map, is_some, slice_get}
 use Rattle.std.specs.List.{list_all}
 use Rattle.std.specs.Option.{option_map_or}
@@ -12,7 +12,6 @@ use Rattle.c_language.specs.declared.expr_type.ExprType.{ExprType}
 use Rattle.c_meaning.specs.Activations.{Routine, Executable, routine_of, executable, code_at}
 use Rattle.c_meaning.specs.Steps.{Reaches, Waiting, Point, machine, beginning}
 use Rattle.dep_model.specs.Doings.{Doing, body_doings}
-use Rattle.run_facts.specs.StepKinds.{MovesOn, DoesAct, BeginsCall, ReturnsOnly, ReturnsStoring, moved_to, acted_to, called_to, returned_only, returned_storing}
 use Rattle.run_facts.proofs.CodeDoings.{Did, AreMet, Every, every_next, every_code}
 use Rattle.run_facts.proofs.StepKinds.{IsKept, kept_run}
 use Rattle.run_facts.proofs.TypedParts.{variable_below}

@@ -1,10 +1,9 @@
 -- What an act makes in a typed state fits: each value that it stores is of its place's type and leads to where the place may point.
-use Rattle.std.proofs.Common.{◌≡◌, ℕ, zero, suc, ◌+◌, ◌*◌, ◌<◌, ℤ, pos, List, [], ◌∷◌, ◌++◌, length, map, Option, Some, None, Bool, true, false, ◌&&◌, ◌||◌, ◌⊎◌, inl, inr, refl, sym, ap, ap₂, ◌∙◌, subst, arith}
+use Rattle.std.proofs.Common.{◌≡◌, ℕ, zero, suc, ◌+◌, ◌*◌, ◌<◌, ℤ, pos, List, [], ◌∷◌, ◌++◌, length, map, Option, Some, None, Bool, true, false, ◌&&◌, ◌⊎◌, inl, inr, refl, sym, ap, ap₂, ◌∙◌, subst, arith}
 use Rattle.std.specs.Prelude.{not, neg_ℤ, nat_lt, nat_le, option_map, option_and_then, unwrap_or, is_some, slice_get, if◌then◌else◌}
-use Rattle.std.specs.List.{list_all, list_any}
+use Rattle.std.specs.List.{list_all}
 use Rattle.std.specs.Option.{option_map_or}
-use Rattle.std.proofs.lemmas.Bool.{false≢true, and_parts, and_from, or_left, or_right, or_cases, lt-ltb}
-use Rattle.std.proofs.lemmas.Option.{slice_get-map}
+use Rattle.std.proofs.lemmas.Bool.{false≢true, and_parts, or_left, or_right, or_cases, lt-ltb}
 use Rattle.c_arith.specs.declared.int_type.IntType.{IntType}
 use Rattle.c_arith.specs.declared.int_type.IntType.TheVariants.{Int, UChar}
 use Rattle.c_arith.specs.declared.operators.BinaryOp.{BinaryOp}
@@ -21,18 +20,16 @@ use Rattle.c_tree.specs.declared.statement.Amount.{Amount}
 use Rattle.c_tree.specs.declared.statement.Target.{Target}
 use Rattle.c_tree.specs.declared.statement.Target.TheVariants as target
 use Rattle.c_tree.specs.declared.types.CType.{CType}
-use Rattle.c_language.specs.ArrayRules.{element_of, count_of}
 use Rattle.c_language.specs.Code.{Act, Begins, Sets, Bumps, Fetches, Writes, Prints, Allocates, Frees, Returns, Tests}
 use Rattle.c_language.specs.ConstantEvaluation.{operand_type}
 use Rattle.c_language.specs.DeclaredTypes.{integer, void}
-use Rattle.c_language.specs.ExprRules.{holds_of}
 use Rattle.c_language.specs.declared.expr_type.Base.{Base}
 use Rattle.c_language.specs.declared.expr_type.Layer.{Layer}
 use Rattle.c_language.specs.declared.expr_type.Layer.TheVariants as layer
 use Rattle.c_language.specs.declared.expr_type.ExprType.{ExprType}
 use Rattle.c_language.specs.declared.expr_type.Operand.{Operand}
-use Rattle.c_language.specs.ExprTypes.{a_value, value_type, target_in, target_of, is_integer, is_pointer, is_scalar, is_array, is_assignable, binary_result}
-use Rattle.c_language.specs.TreeTypes.{Typing, shape_of, typing_of, type_of_variable, int_type, pointee}
+use Rattle.c_language.specs.ExprTypes.{a_value, value_type, target_in, target_of, is_integer, is_pointer, is_scalar, is_array, is_assignable}
+use Rattle.c_language.specs.TreeTypes.{shape_of, typing_of, type_of_variable, int_type, pointee}
 use Rattle.c_meaning.specs.declared.value.Hop.{Hop}
 use Rattle.c_meaning.specs.declared.value.Hop.TheVariants as hop
 use Rattle.c_meaning.specs.declared.value.Place.{Place}
@@ -41,17 +38,16 @@ use Rattle.c_meaning.specs.declared.value.Value.{Value}
 use Rattle.c_meaning.specs.declared.value.Value.TheVariants.{Number, Null, To}
 use Rattle.c_meaning.specs.Cells.{Subobject, cell_count}
 use Rattle.c_meaning.specs.Memory.{Allocated, Block, Memory, read, can_free, unwritten, array_of}
-use Rattle.c_meaning.specs.Pointers.{type_at, inside, are_equal, equality, as_it_is, moved, moved_by, moved_back, at_pointers, at_pointer_left}
-use Rattle.c_meaning.specs.Values.{Types, Origin, OfVariable, OfStatement, State, Meant, whole, variable_place, tested, pointer_as, as_type, at_operands, binary_value, meant, type_of, place, eval, beside, eval_all}
+use Rattle.c_meaning.specs.Pointers.{type_at, inside, are_equal, equality, as_it_is, moved, moved_by, moved_back, at_pointer_left}
+use Rattle.c_meaning.specs.Values.{Types, Origin, OfVariable, OfStatement, State, Meant, whole, variable_place, tested, pointer_as, as_type, at_operands, binary_value, type_of, place, eval, beside, eval_all}
 use Rattle.c_meaning.specs.Acts.{Store, Made, Request, target_type, shows, store, storing, writable, assigned, right_of, bump, bumped, zero_of, list_stores, all_as, all_cells, storing_all, listed_in, listed, given, next_byte, taking, put_out, printed_all, asked_count, granted, beginning, next_block, begun_for, freed_at, as_result, returning, shown_result, begun_with, made}
 use Rattle.c_meaning.proofs.Frames.{get_last}
 use Rattle.dep_model.specs.declared.location.Location.{Location}
 use Rattle.dep_model.specs.declared.location.Part.TheVariants as part
 use Rattle.dep_model.specs.declared.location.Root.TheVariants.{Variable}
-use Rattle.dep_model.specs.Denoted.{Places, TargetsOf, Denoted, no_places, whole as whole_places, part_of, denoted, expr_points, expr_places, variable, inside as inside_location}
-use Rattle.dep_model.specs.Designated.{Designated, designated, value_takes}
-use Rattle.dep_model.specs.Doings.{Doing, Does, Calls}
-use Rattle.dep_model.specs.DoingEffects.{is_taken, expr_takes, left_takes, any_takes, maybe_takes, init_takes, target_takes, amount_takes, act_takes, target_places, result_of}
+use Rattle.dep_model.specs.Denoted.{Places, TargetsOf, no_places, whole as whole_places, part_of, denoted, expr_points, expr_places, variable, inside as inside_location}
+use Rattle.dep_model.specs.Designated.{Designated, value_takes}
+use Rattle.dep_model.specs.DoingEffects.{expr_takes, left_takes, any_takes, maybe_takes, init_takes, target_takes, amount_takes, act_takes, target_places, result_of}
 use Rattle.dep_model.specs.LocationLists.{AreStructsInOrder}
 use Rattle.dep_model.specs.Locations.{Heap, target_type as target_shape, act_heaps, function_heaps, locations, same_location}
 use Rattle.dep_model.specs.MayPoint.{Pointing, pointing, site, listed as listed_pointings, init_pointings, returned as returned_pointings, act_pointings}
@@ -62,16 +58,16 @@ use Rattle.run_facts.specs.DenotedCells.{AreTaken, IsObject, IsDenoted}
 use Rattle.run_facts.specs.PointerLocations.{is_object}
 use Rattle.run_facts.specs.ReadCells.{watched}
 use Rattle.run_facts.specs.TypedStates.{IsSiteBlock, IsValue, IsTypedState}
-use Rattle.run_facts.proofs.AssignedValues.{IsAssigned, assigned_there, writable_there, converted_value, assigned_value, not_both}
+use Rattle.run_facts.proofs.AssignedValues.{assigned_there, writable_there, converted_value, assigned_value}
 use Rattle.run_facts.proofs.BinaryForms.{pointers_number}
 use Rattle.run_facts.proofs.ExprsDenoted.{AreShapes, has_type, expr_denoted}
 use Rattle.run_facts.proofs.LaterStates.{IsLater, type_later}
 use Rattle.run_facts.proofs.ListedObjects.{typed_location, part_among, location_itself, object_listed, elements_listed}
 use Rattle.run_facts.proofs.ObjectForms.{both_there, name_object}
-use Rattle.run_facts.proofs.PointedObjects.{moved_value, value_else}
+use Rattle.run_facts.proofs.PointedObjects.{moved_value}
 use Rattle.run_facts.proofs.SameValues.{means_it}
 use Rattle.run_facts.proofs.Subobjects.{part_at}
-use Rattle.run_facts.proofs.TypedStores.{IsFitStore, AreFit, IsFitMade, IsSiteFor, begun_state, request_later}
+use Rattle.run_facts.proofs.TypedStores.{IsFitStore, AreFit, IsFitMade, begun_state, request_later}
 use Rattle.typed_programs.specs.TreeOperands.{Declarations, declarations, variable_shape, operand_of}
 use Rattle.typed_programs.specs.TypedStatements.{passes, is_left_side, takes, assigns, sets, bumps, lists, begins_with, begins, stores, holds_objects, allocates, returns, act_fits}
 use Rattle.typed_programs.proofs.TypedUses.{holds_there, operand_there}

@@ -1,30 +1,25 @@
 -- A state in which a called function begins is typed, and so is the caller's where its call is done.
-use Rattle.std.proofs.Common.{◌≡◌, ℕ, zero, suc, ◌<◌, List, [], ◌∷◌, ◌++◌, length, map, Option, Some, None, Bool, true, false, ◌&&◌, ◌||◌, ◌⊎◌, inl, inr, refl, sym, ap, ◌∙◌, subst}
+use Rattle.std.proofs.Common.{◌≡◌, ℕ, ◌<◌, List, [], ◌∷◌, ◌++◌, length, Option, Some, None, true, inl, inr, refl, sym, ap, ◌∙◌, subst}
 use Rattle.std.specs.Prelude.{option_map, option_and_then, is_some, slice_get}
 use Rattle.std.proofs.lemmas.Bool.{false≢true, and_parts, or_left, or_right}
 use Rattle.std.proofs.lemmas.Option.{slice_get-map}
-use Rattle.c_language.proofs.Options.{none_there, some_same, map_there, then_there}
+use Rattle.c_language.proofs.Options.{some_same, then_there}
 use Rattle.c_tree.specs.declared.expr.Expr.{Expr}
 use Rattle.c_tree.specs.declared.program.Function.{Function}
 use Rattle.c_tree.specs.declared.program.Program.{Program}
-use Rattle.c_tree.specs.declared.statement.Target.{Target}
 use Rattle.c_language.specs.declared.expr_type.Base.{Base}
 use Rattle.c_language.specs.declared.expr_type.Layer.{Layer}
-use Rattle.c_language.specs.declared.expr_type.Layer.TheVariants as layer
 use Rattle.c_language.specs.declared.expr_type.ExprType.{ExprType}
-use Rattle.c_language.specs.declared.expr_type.Operand.{Operand}
 use Rattle.c_language.specs.ExprRules.{holds_of}
-use Rattle.c_language.specs.ExprTypes.{is_integer, is_pointer, target_of, value_type, is_assignable}
+use Rattle.c_language.specs.ExprTypes.{is_integer, is_pointer, value_type, is_assignable}
 use Rattle.c_language.specs.TreeTypes.{type_of_variable}
-use Rattle.c_meaning.specs.declared.value.Place.{Place}
 use Rattle.c_meaning.specs.declared.value.Value.{Value}
 use Rattle.c_meaning.specs.declared.value.Value.TheVariants.{Number, Null, To}
 use Rattle.c_meaning.specs.Cells.{Subobject}
 use Rattle.c_meaning.specs.Memory.{Entered, Block, unwritten}
-use Rattle.c_meaning.specs.Pointers.{type_at}
-use Rattle.c_meaning.specs.Values.{Types, Origin, OfVariable, State, whole, variable_opened, as_type, eval, eval_all}
-use Rattle.c_meaning.specs.Acts.{Store, store}
-use Rattle.c_meaning.specs.Activations.{Routine, executable, routine_of, outside, types_in, result_at, opening, parameter_begun, passed, fresh, passed_to, called}
+use Rattle.c_meaning.specs.Values.{Types, OfVariable, State, whole, variable_opened, as_type, eval, eval_all}
+use Rattle.c_meaning.specs.Acts.{store}
+use Rattle.c_meaning.specs.Activations.{executable, routine_of, outside, types_in, result_at, opening, parameter_begun, passed, fresh, passed_to, called}
 use Rattle.c_meaning.proofs.Frames.{get_last}
 use Rattle.dep_model.specs.declared.location.Location.{Location}
 use Rattle.dep_model.specs.Denoted.{Places, TargetsOf, expr_points, variable, whole as whole_places}
@@ -41,7 +36,7 @@ use Rattle.run_facts.proofs.ListedObjects.{location_itself}
 use Rattle.run_facts.proofs.TypedActs.{beside_there, pointer_value, variable_type, value_at, null_at}
 use Rattle.run_facts.proofs.TypedParts.{variable_below}
 use Rattle.run_facts.proofs.TypedStores.{recast_later, recast_typed, opened_typed, opened_later, IsFitStore, written_later, written_typed}
-use Rattle.typed_programs.specs.TreeOperands.{Declarations, declarations, variable_shape, operand_of}
+use Rattle.typed_programs.specs.TreeOperands.{Declarations, declarations, variable_shape}
 use Rattle.typed_programs.specs.TypedStatements.{takes}
 use Rattle.typed_programs.specs.TypedStatements as fits
 use Rattle.typed_programs.proofs.TypedUses.{holds_there, operand_there}

@@ -1,6 +1,6 @@
 -- The state in which a run begins is typed: globals hold zeros and null pointers, and what they begin with.
-use Rattle.std.proofs.Common.{◌≡◌, ℕ, ◌<◌, List, [], ◌∷◌, ◌++◌, length, Option, Some, None, Bool, true, false, ◌&&◌, inl, inr, refl, sym, ap, ◌∙◌, subst}
-use Rattle.std.specs.Prelude.{option_map, option_and_then, slice_get}
+use Rattle.std.proofs.Common.{◌≡◌, ℕ, List, [], ◌∷◌, Option, Some, None, true, inl, inr, refl, sym, ap, ◌∙◌, subst}
+use Rattle.std.specs.Prelude.{option_and_then}
 use Rattle.std.specs.List.{list_all}
 use Rattle.std.proofs.lemmas.Bool.{false≢true, and_parts}
 use Rattle.c_language.proofs.Options.{none_there, then_there}
@@ -18,7 +18,7 @@ use Rattle.c_meaning.specs.declared.value.Value.{Value}
 use Rattle.c_meaning.specs.Memory.{Memory}
 use Rattle.c_meaning.specs.Values.{Types, State, variable_place, eval, eval_all}
 use Rattle.c_meaning.specs.Acts.{Made, Request, writable, list_stores, all_as, storing_all, listed_in, begun_with}
-use Rattle.c_meaning.specs.Activations.{Global, Executable, globals_in, executable, outside, blank, global_opened, global_begun, stores_of, initialised, all_begun, opening}
+use Rattle.c_meaning.specs.Activations.{Global, Executable, globals_in, executable, outside, blank, global_opened, global_begun, initialised, all_begun, opening}
 use Rattle.dep_model.specs.declared.location.Location.{Location}
 use Rattle.dep_model.specs.Denoted.{TargetsOf}
 use Rattle.dep_model.specs.LocationLists.{AreStructsInOrder}

@@ -1,5 +1,5 @@
 -- What a statement of a function is known by: its types fit, its pairs hold of points-to, and the addresses that it takes are taken.
-use Rattle.std.proofs.Common.{◌≡◌, ℕ, zero, suc, ◌<◌, List, [], ◌∷◌, ◌++◌, length, map, Option, Some, None, Bool, true, false, ◌||◌, ◌⊎◌, inl, inr, refl, sym, ap, ◌∙◌, subst, arith}
+use Rattle.std.proofs.Common.{◌≡◌, ℕ, zero, suc, ◌<◌, List, [], ◌∷◌, length, map, Option, Some, None, true, inl, inr, refl, sym, ap, ◌∙◌, subst, arith}
 use Rattle.std.specs.Prelude.{option_map, slice_get}
 use Rattle.std.specs.List.{list_any}
 use Rattle.std.specs.Option.{option_map_or}
@@ -17,7 +17,7 @@ use Rattle.dep_model.specs.Denoted.{TargetsOf}
 use Rattle.dep_model.specs.Doings.{Doing, body_doings, doings_of}
 use Rattle.dep_model.specs.DoingEffects.{doing_takes, function_takes, is_taken}
 use Rattle.dep_model.specs.Locations.{Heap, doing_heaps, heaps, function_heaps}
-use Rattle.dep_model.specs.MayPoint.{Pointing, doing_pointings, of_statement, MayPoint, by, IsPointsTo}
+use Rattle.dep_model.specs.MayPoint.{Pointing, doing_pointings, of_statement, by, IsPointsTo}
 use Rattle.dep_model.proofs.Membership.{IsIn, in_first, in_second, contains_of_in}
 use Rattle.typed_programs.specs.TreeOperands.{declarations, variable_shape}
 use Rattle.typed_programs.specs.TypedStatements.{doing_fits, IsTyped}

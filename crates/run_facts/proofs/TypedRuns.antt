@@ -1,10 +1,10 @@
 -- What a state of a run holds is typed, and leads where the analysis says; and so is what functions have returned.
-use Rattle.std.proofs.Common.{◌≡◌, ℕ, ◌<◌, List, [], ◌∷◌, length, Option, Some, None, true, ◌||◌, inl, inr, refl, sym, ap, ◌∙◌, subst}
+use Rattle.std.proofs.Common.{◌≡◌, ℕ, ◌<◌, List, [], ◌∷◌, length, Option, Some, None, true, inl, inr, refl, sym, ap, ◌∙◌, subst}
 use Rattle.std.specs.Prelude.{option_map, slice_get}
 use Rattle.std.specs.Option.{option_or, option_map_or}
 use Rattle.std.proofs.lemmas.Bool.{false≢true, and_parts, or_left, or_right}
 use Rattle.std.proofs.lemmas.Option.{slice_get-map}
-use Rattle.c_language.proofs.Options.{none_there, some_same, map_there, then_there}
+use Rattle.c_language.proofs.Options.{none_there, map_there, then_there}
 use Rattle.c_tree.specs.declared.expr.Expr.{Expr}
 use Rattle.c_tree.specs.declared.program.Function.{Function}
 use Rattle.c_tree.specs.declared.program.Program.{Program}
@@ -14,27 +14,25 @@ use Rattle.c_tree.specs.declared.types.CType.{CType}
 use Rattle.c_language.specs.Code.{Code, Opens}
 use Rattle.c_language.specs.ExprRules.{holds_of}
 use Rattle.c_language.specs.Programs.{IsWellFormed}
-use Rattle.c_language.specs.ExprTypes.{a_value, value_type}
+use Rattle.c_language.specs.ExprTypes.{a_value}
 use Rattle.c_language.specs.TreeTypes.{shape_of}
 use Rattle.c_language.specs.declared.expr_type.ExprType.{ExprType}
 use Rattle.c_meaning.specs.declared.value.Value.{Value}
-use Rattle.c_meaning.specs.Values.{State, variable_opened, variable_closed, all_closed}
+use Rattle.c_meaning.specs.Values.{State, variable_closed, all_closed}
 use Rattle.c_meaning.specs.Acts.{Made, given, after}
-use Rattle.c_meaning.specs.Activations.{Executable, executable, types_in, result_at, variables_at, opening, fresh, received}
+use Rattle.c_meaning.specs.Activations.{Executable, executable, types_in, result_at, variables_at, fresh, received}
 use Rattle.c_meaning.specs.Meaning.{Trace}
 use Rattle.c_meaning.specs.Steps.{Reaches, Waiting, Point, machine, beginning}
-use Rattle.dep_model.specs.declared.location.Location.{Location}
-use Rattle.dep_model.specs.Denoted.{Places, TargetsOf}
+use Rattle.dep_model.specs.Denoted.{TargetsOf}
 use Rattle.dep_model.specs.Doings.{Doing, Does, Calls, doings_of}
-use Rattle.dep_model.specs.DoingEffects.{is_taken, target_takes, any_takes, target_places, result_of}
+use Rattle.dep_model.specs.DoingEffects.{target_takes, any_takes, target_places, result_of}
 use Rattle.dep_model.specs.LocationLists.{AreStructsInOrder}
-use Rattle.dep_model.specs.MayPoint.{Pointing, pointing, parameters, passed, IsPointsTo}
+use Rattle.dep_model.specs.MayPoint.{pointing, parameters, passed, IsPointsTo}
 use Rattle.dep_model.proofs.Membership.{IsIn}
 use Rattle.dep_model.proofs.StructOrder.{well_formed_in_order}
 use Rattle.run_facts.specs.Effects.{back_in}
-use Rattle.run_facts.specs.StepKinds.{Change, Opened, Closed, changed, change_first, MovesOn, DoesAct, BeginsCall, ReturnsOnly, ReturnsStoring, moved_to, acted_to, called_to, returned_only, returned_storing}
+use Rattle.run_facts.specs.StepKinds.{Change, Opened, Closed, changed, change_first, MovesOn, DoesAct, BeginsCall, moved_to, acted_to, called_to}
 use Rattle.run_facts.specs.TypedStates.{IsValue, IsTypedState, IsResult}
-use Rattle.run_facts.proofs.Blocks.{AreNamed}
 use Rattle.run_facts.proofs.CodeDoings.{each_next}
 use Rattle.run_facts.proofs.ExprsDenoted.{AreShapes}
 use Rattle.run_facts.proofs.LaterStates.{IsLater, later_on, value_later, result_later}
@@ -43,11 +41,11 @@ use Rattle.run_facts.proofs.Points.{AreWaiting, IsSound, sound_run, placed_resum
 use Rattle.run_facts.proofs.Statements.{bodies}
 use Rattle.run_facts.proofs.StepKinds.{IsKept, kept_run}
 use Rattle.run_facts.proofs.TypedActs.{act_fit, given_fit}
-use Rattle.run_facts.proofs.TypedCalls.{value_as_value, HasPassed, called_typed}
+use Rattle.run_facts.proofs.TypedCalls.{value_as_value, called_typed}
 use Rattle.run_facts.proofs.TypedGlobals.{opening_typed, opening_silent}
-use Rattle.run_facts.proofs.TypedParts.{StandsIn, stands_in, result_is, doing_taken, doing_heap, doing_fit, doing_pairs}
+use Rattle.run_facts.proofs.TypedParts.{stands_in, result_is, doing_taken, doing_heap, doing_fit, doing_pairs}
 use Rattle.run_facts.proofs.TypedStores.{IsFitMade, act_later, act_typed, opened_typed, opened_later, closed_typed, closed_later, recast_typed, recast_later}
-use Rattle.typed_programs.specs.TreeOperands.{Declarations, Signature, declarations, signature_of}
+use Rattle.typed_programs.specs.TreeOperands.{Declarations, declarations, signature_of}
 use Rattle.typed_programs.specs.TypedStatements.{IsTyped}
 use Rattle.typed_programs.specs.TypedStatements as fits
 use Rattle.typed_programs.proofs.TreeTypes.{type_is}

@@ -1,5 +1,5 @@
 -- A typed state stays typed where blocks begin and go, and where values are stored that are of their places' types.
-use Rattle.std.proofs.Common.{◌≡◌, ℕ, zero, suc, List, [], ◌∷◌, ◌++◌, length, Option, Some, None, true, refl, sym, ap, ◌∙◌, subst}
+use Rattle.std.proofs.Common.{◌≡◌, ℕ, zero, suc, List, [], ◌∷◌, length, Option, Some, None, refl, sym, ap, ◌∙◌, subst}
 use Rattle.std.specs.Prelude.{option_and_then, is_some, slice_get}
 use Rattle.std.specs.Option.{option_or}
 use Rattle.c_language.proofs.Options.{none_there, some_same, then_there}
@@ -17,9 +17,9 @@ use Rattle.dep_model.specs.LocationLists.{AreStructsInOrder}
 use Rattle.run_facts.specs.CellLocations.{location_in}
 use Rattle.run_facts.specs.TypedStates.{IsBlockOf, IsSiteBlock, IsVariableBlock, IsValue, IsTypedState}
 use Rattle.run_facts.proofs.Blocks.{AreNamed, IsPlaced, placed_closed, placed_opened, named_grown, grows_after}
-use Rattle.run_facts.proofs.BegunBlocks.{HoldsTyped, typed_begun, unwritten_holds, begun_later}
+use Rattle.run_facts.proofs.BegunBlocks.{typed_begun, unwritten_holds, begun_later}
 use Rattle.run_facts.proofs.KeptMemories.{leave_keeps}
-use Rattle.run_facts.proofs.LaterStates.{IsLater, KeepShapes, shapes_same, shapes_left, shapes_written, later_on, type_later, value_later}
+use Rattle.run_facts.proofs.LaterStates.{IsLater, shapes_same, shapes_left, shapes_written, later_on, type_later, value_later}
 use Rattle.run_facts.proofs.Subobjects.{path_type, type_at_is, at_place}
 use Rattle.run_facts.proofs.WrittenStates.{write_typed}
 

@@ -1,13 +1,12 @@
 -- In a typed state the tests of types let each object through, form by form.
-use Rattle.std.proofs.Common.{◌≡◌, ℕ, ℤ, List, [], ◌∷◌, Option, Some, None, Bool, true, false, ◌&&◌, ◌||◌, refl, sym, ap, ap₂, ◌∙◌, subst}
-use Rattle.std.specs.Prelude.{not, option_map, option_and_then, unwrap_or, is_some, if◌then◌else◌}
+use Rattle.std.proofs.Common.{◌≡◌, ℕ, ℤ, List, [], ◌∷◌, Option, Some, None, Bool, true, false, ◌||◌, refl, sym, ap, ap₂, ◌∙◌, subst}
+use Rattle.std.specs.Prelude.{option_map, option_and_then, unwrap_or, if◌then◌else◌}
 use Rattle.std.specs.Option.{option_map_or}
 use Rattle.std.proofs.lemmas.Bool.{false≢true, and_parts, or_left, or_right}
 use Rattle.c_arith.specs.declared.operators.BinaryOp.TheVariants.{Add}
 use Rattle.c_language.proofs.Options.{none_there, some_same, map_there, then_there}
 use Rattle.c_tree.specs.declared.expr.Expr.{Expr, map-Expr, roll-Expr, fold-roll-Expr}
 use Rattle.c_tree.specs.declared.expr.Expr.TheOpen.{Expr-F}
-use Rattle.c_tree.specs.declared.expr.MemberId.{MemberId}
 use Rattle.c_tree.specs.declared.program.Program.{Program}
 use Rattle.c_tree.proofs.Trees.{ExprParts, expr_layer, of_every_expr}
 use Rattle.c_language.specs.ConstantEvaluation.{operand_type}
@@ -17,8 +16,8 @@ use Rattle.c_language.specs.declared.expr_type.Layer.{Layer}
 use Rattle.c_language.specs.declared.expr_type.Layer.TheVariants as layer
 use Rattle.c_language.specs.declared.expr_type.ExprType.{ExprType}
 use Rattle.c_language.specs.declared.expr_type.Operand.{Operand}
-use Rattle.c_language.specs.ExprTypes.{a_place, a_value, given, value_type, is_integer, is_pointer, is_scalar, is_array, target_of, same_type, unary_result, binary_result, logical_result, choose_result, cast_result, pointed, indexed, address_result}
-use Rattle.c_language.specs.TreeTypes.{Typing, typing_of, int_type, pointee, typed_step}
+use Rattle.c_language.specs.ExprTypes.{a_place, a_value, given, value_type, is_integer, is_pointer, is_array, target_of, same_type, unary_result, binary_result, logical_result, choose_result, cast_result, pointed, indexed, address_result}
+use Rattle.c_language.specs.TreeTypes.{typing_of, int_type, pointee, typed_step}
 use Rattle.c_meaning.specs.declared.value.Place.{Place}
 use Rattle.c_meaning.specs.declared.value.Pointer.{Pointer}
 use Rattle.c_meaning.specs.declared.value.Value.{Value}
@@ -28,24 +27,23 @@ use Rattle.c_meaning.specs.Pointers.{type_at, has_type, if_typed, whole_of, star
 use Rattle.c_meaning.specs.Pointers as pointers
 use Rattle.c_meaning.specs.Values.{Types, State, Meant, owner_of, at_operands, unary_value, binary_value, and_both, or_both, chosen_value, as_type, object_value, gives, an_object, a_part, meant_step, meant}
 use Rattle.c_meaning.specs.Values as values
-use Rattle.dep_model.specs.Denoted.{Places, TargetsOf, denoted}
+use Rattle.dep_model.specs.Denoted.{TargetsOf, denoted}
 use Rattle.dep_model.specs.Designated.{Designated, is_array_place, value_takes, takes_either, an_element, designated_step}
 use Rattle.dep_model.specs.Designated as designate
-use Rattle.dep_model.specs.DoingEffects.{expr_takes, left_takes}
 use Rattle.dep_model.specs.LocationLists.{AreStructsInOrder}
 use Rattle.run_facts.specs.DenotedCells.{AreTaken}
 use Rattle.run_facts.specs.PointerLocations.{item_type}
 use Rattle.run_facts.specs.ReadCells.{watched}
-use Rattle.run_facts.specs.TypedStates.{IsValue, IsTypedState}
+use Rattle.run_facts.specs.TypedStates.{IsTypedState}
 use Rattle.run_facts.specs.UntestedMeanings.{pointed_by, member_in, untested_step, untested, AreSame}
 use Rattle.run_facts.proofs.DenotedForms.{form_is}
-use Rattle.run_facts.proofs.ExprsDenoted.{AreShapes, of_one, of_two, given_true, object_target, pointer_of, selected_member}
+use Rattle.run_facts.proofs.ExprsDenoted.{AreShapes, of_one, of_two, object_target, pointer_of, selected_member}
 use Rattle.run_facts.proofs.ObjectForms.{both_there}
 use Rattle.run_facts.proofs.PointedObjects.{pointed_item, pointer_moved}
 use Rattle.run_facts.proofs.SameValues.{means_it}
 use Rattle.run_facts.proofs.TypedActs.{operands_move, denoted_at, shape_at, type_at_operand, value_at, left_object}
 use Rattle.run_facts.proofs.TypeTests.{type_itself}
-use Rattle.typed_programs.specs.TreeOperands.{Declarations, declarations, variable_shape, selected, tree_operand_step, operand_of, tree_operand}
+use Rattle.typed_programs.specs.TreeOperands.{Declarations, declarations, selected, tree_operand_step, operand_of}
 
 -- ---- pointers
 

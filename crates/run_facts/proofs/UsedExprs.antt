@@ -1,8 +1,8 @@
 -- The expressions of a statement in which types fit are operands, and what they take the statement takes.
-use Rattle.std.proofs.Common.{◌≡◌, ℕ, List, [], ◌∷◌, ◌++◌, Option, Some, None, Bool, true, false, ◌&&◌, ◌||◌, ◌⊎◌, inl, inr, refl, sym, ap, ◌∙◌, subst}
+use Rattle.std.proofs.Common.{◌≡◌, ℕ, List, [], ◌∷◌, Option, Some, None, Bool, true, false, ◌&&◌, ◌||◌, inl, inr, refl, sym, ap, ◌∙◌, subst}
 use Rattle.std.specs.Prelude.{not, nat_lt, length}
 use Rattle.std.specs.List.{list_all}
-use Rattle.std.proofs.lemmas.Bool.{false≢true, and_parts, or_left, or_right, or_cases}
+use Rattle.std.proofs.lemmas.Bool.{false≢true, and_parts, or_left, or_right}
 use Rattle.c_arith.specs.declared.int_type.IntType.TheVariants.{Int}
 use Rattle.c_arith.specs.declared.operators.BinaryOp.{BinaryOp}
 use Rattle.c_tree.specs.declared.expr.Expr.{Expr}
@@ -22,14 +22,14 @@ use Rattle.c_language.specs.DeclaredTypes.{integer}
 use Rattle.c_language.specs.ExprRules.{holds_of}
 use Rattle.c_language.specs.ExprTypes.{a_value, integer_of, is_array, is_scalar, is_assignable, target_of}
 use Rattle.c_language.specs.Formats.{Conversion, Piece, format_pieces, conversions, conversion_width}
-use Rattle.c_language.specs.TreeTypes.{shape_of, tree_type}
+use Rattle.c_language.specs.TreeTypes.{shape_of}
 use Rattle.c_language.specs.declared.expr_type.ExprType.{ExprType}
 use Rattle.c_language.specs.declared.expr_type.Operand.{Operand}
-use Rattle.dep_model.specs.Denoted.{TargetsOf, denoted}
-use Rattle.dep_model.specs.Designated.{Designated, is_root, value_takes, designated}
-use Rattle.dep_model.specs.DoingEffects.{expr_takes, left_takes, any_takes, maybe_takes, init_takes, target_takes, amount_takes, act_takes}
+use Rattle.dep_model.specs.Denoted.{TargetsOf}
+use Rattle.dep_model.specs.Designated.{Designated, is_root, designated}
+use Rattle.dep_model.specs.DoingEffects.{expr_takes, left_takes, any_takes, init_takes, target_takes, amount_takes, act_takes}
 use Rattle.dep_model.proofs.Membership.{IsIn}
-use Rattle.run_facts.specs.NextExprs.{init_exprs, amount_exprs, maybe_expr, compound_expr, malloc_exprs, act_values, target_exprs, act_places}
+use Rattle.run_facts.specs.NextExprs.{init_exprs, amount_exprs, compound_expr, malloc_exprs, act_values, target_exprs, act_places}
 use Rattle.run_facts.proofs.DenotedForms.{form_is}
 use Rattle.run_facts.proofs.ExprsDenoted.{AreShapes, has_type}
 use Rattle.run_facts.proofs.TypedActs.{scalar_no_array}

@@ -7,6 +7,8 @@ use Rattle.c_language.specs.Programs.{IsWellFormed}
 use Rattle.c_meaning.specs.Values.{Types, State}
 use Rattle.c_meaning.specs.Steps.{Acts, Moves, Reaches, Waiting, Point, step, machine, beginning}
 use Rattle.dep_model.specs.Doings.{Doing, doing_number, program_doings}
+use Rattle.dep_model.specs.declared.location.Location.{Location}
+use Rattle.dep_model.specs.MayPoint.{MayPoint}
 use Rattle.dep_model.specs.SystemGraph.{Analysis, IsAnalysis}
 use Rattle.c_meaning.specs.Activations.{Executable, executable}
 use Rattle.c_meaning.specs.Cells.{structs_of}
@@ -19,6 +21,7 @@ use Rattle.run_facts.specs.StepKinds.{StepKind}
 use Rattle.run_facts.specs.DoneEffects.{DoesEffect, returned_before}
 use Rattle.run_facts.specs.SameOutcomes.{SameButCells, SameOutcomes}
 use Rattle.dep_model.specs.PointerFree.{IsPointerFree}
+use Rattle.run_facts.specs.TypedTargets.{HasTargetType}
 use Rattle.run_facts.specs.UntestedMeanings.{TypesFit}
 use Rattle.run_facts.specs.Touching.{DoingTouches, ReceiptTouches}
 use Rattle.run_facts.specs.CoveredPoints.{IsCovered}
@@ -92,3 +95,7 @@ abbrev pub TypesAlwaysFit : Type 0
 TypesAlwaysFit =
     (p : Program) (a : Analysis) → IsWellFormed p → IsAnalysis p a → (input : List ℕ) (x : Point)
     → Reaches (machine (executable p)) (beginning (executable p) input) x → TypesFit p x
+
+-- each pair of points-to ends in a location of what its pointer's type points to
+abbrev pub TargetsHaveTheType : Type 0
+TargetsHaveTheType = (p : Program) → IsWellFormed p → (l m : Location) → MayPoint p l m → HasTargetType p l m

@@ -15,4 +15,5 @@ pub mod DenotedCells
 pub mod NextExprs
 pub mod CoveredPoints
 pub mod UntestedMeanings
+pub mod TypedTargets
 pub mod Laws

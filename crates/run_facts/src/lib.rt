@@ -82,3 +82,9 @@ pub fn points_to_covers_runs()
 pub fn types_always_fit()
     ensures { law.TypesAlwaysFit }
 {}
+
+/// A law: each pair of points-to, in a well-formed program, leads from a location of a pointer to one of the type to
+/// which that points.
+pub fn targets_have_the_type()
+    ensures { law.TargetsHaveTheType }
+{}
