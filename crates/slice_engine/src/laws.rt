@@ -5,7 +5,7 @@ ghost use Rattle.slice_engine.specs.Laws as law;
 pub use run_facts::{
     callers_have_called, calls_touch_what_functions_say, outcomes_depend_on_reads,
     points_to_covers_runs, steps_do_their_effects, steps_keep_the_rest,
-    steps_touch_what_vertices_say, types_always_fit,
+    steps_touch_what_vertices_say, targets_have_the_type, types_always_fit,
 };
 
 /// A law: the rows of where the locations of a well-formed program may point, with those of what its functions modify and use
