@@ -1,7 +1,7 @@
 -- In a typed state an act reads only cells whose locations its statement may use, and stores only into cells whose locations it may define;
 -- and each of these cells counts: other activations may see its block, or this one names it.
 use Rattle.std.proofs.Common.{◌≡◌, ℕ, ℤ, pos, zero, suc, List, [], ◌∷◌, ◌++◌, length, Option, Some, None, Bool, true, false, ◌&&◌, ◌||◌, ◌⊎◌, inl, inr, refl, sym, ap, ◌∙◌, subst}
-use Rattle.std.specs.Prelude.{not, nat_lt, nat_le, option_map, option_and_then, is_some, All}
+use Rattle.std.specs.Prelude.{not, nat_lt, nat_le, option_map, option_and_then, is_some, slice_get, All}
 use Rattle.std.specs.List.{list_all}
 use Rattle.std.proofs.lemmas.Bool.{false≢true, and_parts, or_left, or_right, or_cases}
 use Rattle.std.proofs.lemmas.List.Elements.{All-append, All-nil}
@@ -53,7 +53,7 @@ use Rattle.dep_model.specs.LocationLists.{AreStructsInOrder}
 use Rattle.dep_model.specs.Locations.{same_location}
 use Rattle.dep_model.proofs.Membership.{IsIn}
 use Rattle.typed_programs.specs.TreeOperands.{Declarations, declarations, variable_shape, operand_of}
-use Rattle.typed_programs.specs.TypedStatements.{is_left_side, takes, assigns, sets, bumps, lists, begins_with, converts, stores, asks, holds_objects, allocates, returns, act_fits, is_number, passes, begins, measures}
+use Rattle.typed_programs.specs.TypedStatements.{is_left_side, takes, assigns, sets, bumps, lists, begins_with, converts, stores, asks, holds_objects, allocates, returns, act_fits, is_number, passes, begins, measures, passed, gives}
 use Rattle.typed_programs.proofs.TypedUses.{holds_there, operand_there}
 use Rattle.run_facts.specs.CellLocations.{location_in}
 use Rattle.run_facts.specs.DenotedCells.{LiesBy, IsReadOf, AreTaken, IsDenoted}
@@ -246,6 +246,26 @@ module _ (p : Program) (order : AreStructsInOrder p) (shapes : AreShapes p) (poi
       let k = and_parts (passes d test e) (converts d cs es) h in
       let x = operand_there d test e k.0 in
       ((x.0, x.1), converted_operands cs es k.1)
+
+  pub passed_operands : (xs : List ℕ) (es : List Expr) → passed d xs es ≡ true → AreOperands es
+  passed_operands [] [] h = tt
+  passed_operands [] (e ∷ es) h = absurd (false≢true h)
+  passed_operands (x ∷ xs) [] h = absurd (false≢true h)
+  passed_operands (x ∷ xs) (e ∷ es) h =
+      let k = and_parts (holds_of (takes d e) (variable_shape d x)) (passed d xs es) h in
+      let t = holds_there (takes d e) (variable_shape d x) k.0 in
+      let y = operand_there d (is_assignable t.0) e t.2 in
+      ((y.0, y.1), passed_operands xs es k.1)
+
+  -- what the expression at a place reads
+  pub argument_cells : (es : List Expr) (vs : List Value) (k : ℕ) (arg : Expr) → AreOperands es → Taken (any_takes p es) → eval_all types es s ≡ Some vs → slice_get es k ≡ Some arg → AllAt (expr_reads p points arg) (value_read types arg s)
+  argument_cells [] vs k arg are taken e is = none_there is
+  argument_cells (a ∷ es) vs zero arg are taken e is =
+      let b = beside_there (eval types a s) (eval_all types es s) vs e in
+      subst (λ (z : Expr). AllAt (expr_reads p points z) (value_read types z s)) (some_same is) (value_cells a are.0.0 b.0 are.0.1 (λ x u. taken x (or_left (expr_takes p a x) (any_takes p es x) u)) b.1.1.0)
+  argument_cells (a ∷ es) vs (suc k) arg are taken e is =
+      let b = beside_there (eval types a s) (eval_all types es s) vs e in
+      argument_cells es b.1.0 k arg are.1 (λ x u. taken x (or_right (expr_takes p a x) (any_takes p es x) u)) b.1.1.1.0 is
 
   -- ---- what is stored
 
@@ -460,6 +480,14 @@ module _ (p : Program) (order : AreStructsInOrder p) (shapes : AreShapes p) (poi
   stored_target (target.Place e) y h =
       let x = operand_there d is_left_side e (and_parts (passes d is_left_side e) (passes d (λ (z : Operand). is_assignable z.shape y) e) h).0 in (x.0, x.1)
   stored_target (target.Declared x) y h = tt
+
+  -- where a result is stored, the target is a left side
+  pub given_target : (to : Target) (o : Option CType) → gives d to o ≡ true → IsTarget to
+  given_target target.None o h = tt
+  given_target (target.Place e) o h =
+      let k = holds_there (λ (z : CType). stores d (target.Place e) (a_value (shape_of z))) o h in
+      stored_target (target.Place e) (a_value (shape_of k.0)) k.2
+  given_target (target.Declared x) o h = tt
 
   returned_touches : (f : ℕ) (c : Option CType) (e : Option Expr) (m : Made) → returns d c e ≡ true → Taken (maybe_takes p e) → shown_result types e s ≡ Some m → IsTouch (maybe_reads p points e) (act_defines p points f (Returns e)) (maybe_read types e s) m
   returned_touches f c None m h taken is =

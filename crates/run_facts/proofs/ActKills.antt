@@ -1,5 +1,5 @@
--- What a statement kills its act overwrites: where it kills a location of a variable, the act stores into all live cells of this location that
--- the activation can name.
+-- What a statement kills its act overwrites: where that is a location of a variable, the act stores into all live cells of it that the
+-- activation can name.
 use Rattle.std.proofs.Common.{◌≡◌, ◌↔◌, ℕ, zero, suc, ◌+◌, ◌*◌, ◌<◌, List, [], ◌∷◌, ◌++◌, map, Option, Some, None, Bool, true, false, ◌&&◌, inl, inr, refl, sym, ap, ap₂, ◌∙◌, subst, arith, eq-eqb, ltb-true}
 use Rattle.std.specs.Prelude.{Contains, nat_lt, option_map, option_and_then, is_some, if◌then◌else◌}
 use Rattle.std.specs.List.{list_any}

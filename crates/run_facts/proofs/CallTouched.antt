@@ -1,83 +1,45 @@
 -- A call touches what its function uses and modifies, and leaves the rest as it was.
-use Rattle.std.proofs.Common.{◌≡◌, ℕ, ◌<◌, ◌≤◌, List, [], ◌∷◌, length, Option, Some, None, Bool, true, false, inl, refl, sym, ap, ap₂, ◌∙◌, subst, arith}
-use Rattle.std.specs.Prelude.{Contains, option_and_then, is_some, if◌then◌else◌, slice_get}
-use Rattle.std.proofs.lemmas.Bool.{false≢true}
-use Rattle.c_language.proofs.Options.{some_same, none_there}
+use Rattle.std.proofs.Common.{◌≡◌, ℕ, ◌<◌, ◌≤◌, List, [], ◌∷◌, length, Option, Some, None, Bool, true, false, inl, inr, refl, sym, ap, ◌∙◌, subst, arith}
+use Rattle.std.specs.Prelude.{Contains, option_and_then, is_some}
+use Rattle.c_language.proofs.Options.{some_same}
 use Rattle.c_tree.specs.declared.expr.Expr.{Expr}
 use Rattle.c_tree.specs.declared.program.Program.{Program}
 use Rattle.c_tree.specs.declared.statement.Target.{Target}
 use Rattle.c_language.specs.Code.{Code}
-use Rattle.c_language.specs.ExprTypes.{is_scalar}
-use Rattle.c_language.specs.declared.expr_type.Base.{Base}
-use Rattle.c_language.specs.declared.expr_type.Base.TheVariants as base
-use Rattle.c_language.specs.declared.expr_type.ExprType.{ExprType}
-use Rattle.c_language.specs.declared.expr_type.Layer.{Layer}
-use Rattle.c_language.specs.declared.expr_type.Layer.TheVariants as layer
-use Rattle.c_meaning.specs.declared.value.Hop.{Hop}
-use Rattle.c_meaning.specs.declared.value.Hop.TheVariants as hop
 use Rattle.c_meaning.specs.declared.value.Place.{Place}
-use Rattle.c_meaning.specs.Cells.{Structs, cell_number}
-use Rattle.c_meaning.specs.Memory.{Block, Memory, held, cell_in, read, is_cell}
+use Rattle.c_meaning.specs.Memory.{held, read, is_cell}
 use Rattle.c_meaning.specs.Values.{Origin, State}
 use Rattle.c_meaning.specs.Activations.{Executable, executable, code_at, called}
 use Rattle.c_meaning.specs.Meaning.{announced}
-use Rattle.c_meaning.specs.Steps.{Acts, Waiting, Point, point, waiting, entered, step_at}
+use Rattle.c_meaning.specs.Steps.{Acts, Reaches, Waiting, Point, point, waiting, entered, step_at, machine, beginning}
 use Rattle.dep_model.specs.declared.location.Location.{Location}
 use Rattle.dep_model.specs.Doings.{Doing, doings_of}
 use Rattle.dep_model.specs.DoingEffects.{the_input, is_global}
+use Rattle.dep_model.specs.LocationLists.{AreStructsInOrder}
 use Rattle.dep_model.specs.ModRef.{IsCalledFrom, itself, Modifies, MayUse}
 use Rattle.dep_model.specs.SystemGraph.{Analysis}
 use Rattle.dep_model.proofs.Membership.{IsIn, in_of_contains}
+use Rattle.dep_model.proofs.StructOrder.{well_formed_in_order}
+use Rattle.typed_programs.specs.TypedStatements.{IsTyped}
+use Rattle.typed_programs.proofs.TreeTypes.{type_is}
+use Rattle.typed_programs.proofs.TypedPrograms.{programs_typed}
 use Rattle.run_facts.specs.CallTouching.{WaitAt, Within, stays, goes_on, IsOldAt, TouchesInCall, InCall}
 use Rattle.run_facts.specs.CellLocations.{location_of}
 use Rattle.run_facts.specs.Effects.{Touch, Effect}
 use Rattle.run_facts.specs.KeptCells.{IsSameCell, KeepsRest, Leads}
 use Rattle.run_facts.specs.Laws.{CallsTouchWhatFunctionsSay}
-use Rattle.dep_model.specs.PointerFree.{IsPointerFree}
+use Rattle.run_facts.specs.TypedStates.{IsTypedState}
+use Rattle.run_facts.proofs.CellPlaces.{same_back, one_place}
+use Rattle.run_facts.proofs.ExprsDenoted.{AreShapes}
 use Rattle.run_facts.proofs.GlobalVariables.{variables_of, globals_global}
 use Rattle.run_facts.proofs.InCalls.{grown_length, IsSaid, IsInCall, in_step}
 use Rattle.run_facts.proofs.KeptStates.{called_keeps, steps_keep_the_rest}
 use Rattle.run_facts.proofs.NamedUses.{all_from}
+use Rattle.run_facts.proofs.NextSteps.{reach_act, reach_move}
 use Rattle.run_facts.proofs.Points.{IsSound, called_passed, sound_step, sound_run}
 use Rattle.run_facts.proofs.OldBlocks.{old_called, opening_names}
 use Rattle.run_facts.proofs.Statements.{bodies}
-use Rattle.run_facts.proofs.Wholes.{at_path}
-
--- ---- a block that is one cell has no other
-
-scalar_path : (structs : Structs) (ls : List Layer) (b : Base) (path : List Hop) (m : ℕ) → is_scalar (record { layers = ls; base = b }) ≡ true → cell_number structs path (record { layers = ls; base = b }) ≡ Some m → path ≡ []
-scalar_path structs ls b [] m scalar e = refl
-scalar_path structs [] (base.Integer t) (hop.Member i ∷ hs) m scalar e = none_there e
-scalar_path structs [] (base.Integer t) (hop.Element i ∷ hs) m scalar e = none_there e
-scalar_path structs [] (base.Struct k) (h ∷ hs) m scalar e = absurd (false≢true scalar)
-scalar_path structs [] base.Void (h ∷ hs) m scalar e = absurd (false≢true scalar)
-scalar_path structs (layer.Pointer ∷ ls) b (hop.Member i ∷ hs) m scalar e = none_there e
-scalar_path structs (layer.Pointer ∷ ls) b (hop.Element i ∷ hs) m scalar e = none_there e
-scalar_path structs (layer.Array n ∷ ls) b (h ∷ hs) m scalar e = absurd (false≢true scalar)
-
-whole_scalar : (structs : Structs) (t : ExprType) (m : ℕ) → cell_number structs [] t ≡ Some m → is_scalar t ≡ true
-whole_scalar structs t m e = by_test (is_scalar t) e
-  where
-    by_test : (b : Bool) → (if b then Some 0 else None) ≡ Some m → b ≡ true
-    by_test true k = refl
-    by_test false k = none_there k
-
--- a cell that is one with a whole block is the whole block
-whole_alone : (m : Memory) (w q : Place) → w.path ≡ [] → IsSameCell m w q → is_cell m q ≡ true → q ≡ w
-whole_alone m w q path same live = by_block (slice_get m.blocks q.block) refl
-  where
-    numbered : (b : Block) → (k : Option ℕ) → cell_number m.structs q.path b.shape ≡ k → is_some (option_and_then (slice_get b.cells) k) ≡ true → (n : ℕ) × (cell_number m.structs q.path b.shape ≡ Some n)
-    numbered b None is h = absurd (false≢true h)
-    numbered b (Some n) is h = (n, is)
-
-    by_block : (o : Option Block) → slice_get m.blocks q.block ≡ o → q ≡ w
-    by_block None is = absurd (false≢true (sym (ap (λ o. is_some (option_and_then (cell_in m.structs q.path) o)) is) ∙ live))
-    by_block (Some b) is =
-        let own = numbered b (cell_number m.structs q.path b.shape) refl (sym (ap (λ o. is_some (option_and_then (cell_in m.structs q.path) o)) is) ∙ live) in
-        let at : slice_get m.blocks w.block ≡ Some b = ap (slice_get m.blocks) same.block_is ∙ is in
-        let whole : cell_number m.structs [] b.shape ≡ Some own.0 = ap (λ hops. cell_number m.structs hops b.shape) (sym path) ∙ (same.numbers_are b at ∙ own.1) in
-        let none : q.path ≡ [] = scalar_path m.structs b.shape.layers b.shape.base q.path own.0 (whole_scalar m.structs b.shape own.0 whole) own.1 in
-        ap₂ (λ (n : ℕ) (hops : List Hop). at_path n hops) (sym same.block_is) (none ∙ sym path)
+use Rattle.run_facts.proofs.TypedRuns.{typed_run}
 
 abbrev Mine : Program → ℕ → Doing → Type 0
 Mine p f d = IsIn (doings_of p f) d
@@ -85,9 +47,20 @@ Mine p f d = IsIn (doings_of p f) d
 sound_next : (p : Program) (x y : Point) → IsSound (executable p) (Mine p) x → Leads (executable p) x y → IsSound (executable p) (Mine p) y
 sound_next p x y h leads = sound_step (executable p) (Mine p) (bodies p) x y leads h
 
-module _ (p : Program) (a : Analysis) (free : IsPointerFree p) (global : (x : ℕ) → IsIn (variables_of (executable p).globals) x → is_global p x ≡ true) (g : ℕ) (os : List Origin) (w0 : Waiting) (ws : List Waiting) where
+-- the states of a run are typed
+abbrev AreTyped : Program → Analysis → Point → Type 0
+AreTyped p a start = (z : Point) → Reaches (machine (executable p)) start z → IsTypedState p a.points z.state
+
+reach_next : (p : Executable) (start x y : Point) → Reaches (machine p) start x → Leads p x y → Reaches (machine p) start y
+reach_next p start x y r (inl acts) = reach_act (machine p) start x y r acts
+reach_next p start x y r (inr moves) = reach_move (machine p) start x y r moves
+
+module _ (p : Program) (a : Analysis) (order : AreStructsInOrder p) (shapes : AreShapes p) (fit : IsTyped p) (start : Point) (typed : AreTyped p a start) (global : (x : ℕ) → IsIn (variables_of (executable p).globals) x → is_global p x ≡ true) (g : ℕ) (os : List Origin) (w0 : Waiting) (ws : List Waiting) where
   abbrev IsHere : Point → Type 0
-  IsHere x = IsInCall p a free global g os w0 ws x
+  IsHere x = IsInCall p a order shapes fit global g os w0 ws x
+
+  abbrev FromStart : Point → Type 0
+  FromStart x = Reaches (machine (executable p)) start x
 
   -- ---- a step
 
@@ -96,13 +69,13 @@ module _ (p : Program) (a : Analysis) (free : IsPointerFree p) (global : (x : �
   first_waits x z (goes_on w leads rest) = w
 
   -- what is stored in the call is stored apart from what the function doesn't modify
-  apart : (x : Point) (ef : Effect) → IsSaid p a free global g os w0 ws ef → (q : Place) (l : Location) → q.block < length os → is_cell x.state.memory q ≡ true → location_of os q ≡ Some l → (Modifies p a.points g l → ⊥) → (w : Touch) → Contains ef.stores w → IsSameCell x.state.memory w.cell q → ⊥
-  apart x ef said q l lt live at none w c same =
+  apart : (x : Point) (ef : Effect) → IsTypedState p a.points x.state → IsSaid p a order shapes fit global g os w0 ws x.state.origins ef → (q : Place) (l : Location) → q.block < length os → is_cell x.state.memory q ≡ true → location_of os q ≡ Some l → (Modifies p a.points g l → ⊥) → (w : Touch) → Contains ef.stores w → IsSameCell x.state.memory w.cell q → ⊥
+  apart x ef holds said q l lt live at none w c same =
       let lower : w.cell.block < length os = subst (λ n. n < length os) (sym same.block_is) lt in
       let stored = said.stores w (in_of_contains ef.stores w c) lower in
-      let here : q ≡ w.cell = whole_alone x.state.memory w.cell q stored.1 same live in
-      let its : stored.0.location ≡ l = some_same (sym stored.0.location_is ∙ (ap (location_of os) (sym here) ∙ at)) in
-      none (subst (Modifies p a.points g) its stored.0.among)
+      let here : q ≡ w.cell = one_place p order x.state.memory q w.cell holds.structs_are live (same_back x.state.memory w.cell q same) in
+      let its : stored.location ≡ l = some_same (sym stored.location_is ∙ (ap (location_of os) (sym here) ∙ at)) in
+      none (subst (Modifies p a.points g) its stored.among)
 
   untaken : (s t : State) (ef : Effect) → KeepsRest s t ef → (ef.takes ≡ true → Modifies p a.points g the_input) → (Modifies p a.points g the_input → ⊥) → (b : Bool) → ef.takes ≡ b → t.unread ≡ s.unread
   untaken s t ef keeps takes none true is = absurd (none (takes is))
@@ -111,29 +84,33 @@ module _ (p : Program) (a : Analysis) (free : IsPointerFree p) (global : (x : �
   -- ---- from a point of the call to a later one
 
   pub record Comes (x z : Point) : Type 0 where
+    pub reached : FromStart z
     pub sound : IsSound (executable p) (Mine p) z
     pub in_call : IsHere z
     pub live : (q : Place) → q.block < length os → is_cell z.state.memory q ≡ true → is_cell x.state.memory q ≡ true
     pub cells : (q : Place) (l : Location) → q.block < length os → is_cell z.state.memory q ≡ true → location_of os q ≡ Some l → (Modifies p a.points g l → ⊥) → read z.state.memory q ≡ read x.state.memory q
     pub input : (Modifies p a.points g the_input → ⊥) → z.state.unread ≡ x.state.unread
 
-  pub comes : (x z : Point) → Within (executable p) (w0 ∷ ws) x z → IsSound (executable p) (Mine p) x → IsHere x → Comes x z
-  comes x z (stays w) sound k = record { sound = sound; in_call = k; live = λ q lt live. live; cells = λ q l lt live at none. refl; input = λ none. refl }
-  comes x z (goes_on {y = y} w leads rest) sound k =
-      let next = in_step p a free global g os w0 ws x y sound k leads (first_waits y z rest) in
+  pub comes : (x z : Point) → Within (executable p) (w0 ∷ ws) x z → FromStart x → IsSound (executable p) (Mine p) x → IsHere x → Comes x z
+  comes x z (stays w) reached sound k =
+      record { reached = reached; sound = sound; in_call = k; live = λ q lt live. live; cells = λ q l lt live at none. refl; input = λ none. refl }
+  comes x z (goes_on {y = y} w leads rest) reached sound k =
+      let holds = typed x reached in
+      let next = in_step p a order shapes fit global g os w0 ws x y sound holds k leads (first_waits y z rest) in
       let said = next.1.1.1 in
       let keeps = steps_keep_the_rest (executable p) x y next.1.0 leads next.1.1.0 in
-      let more = comes y z rest (sound_next p x y sound leads) next.0 in
+      let more = comes y z rest (reach_next (executable p) start x y reached leads) (sound_next p x y sound leads) next.0 in
       let long = grown_length os x.state.origins k.grows in
       let tracked = sound.placed.tracked in
       record {
+        reached = more.reached;
         sound = more.sound;
         in_call = more.in_call;
         live = λ q lt live. keeps.live q (omega (arith, lt, long, tracked)) (more.live q lt live);
         cells = λ q l lt live at none.
             let there = more.live q lt live in
             let old : q.block < length x.state.memory.blocks = omega (arith, lt, long, tracked) in
-            more.cells q l lt live at none ∙ keeps.cells q old there (apart x next.1.0 said q l lt (keeps.live q old there) at none);
+            more.cells q l lt live at none ∙ keeps.cells q old there (apart x next.1.0 holds said q l lt (keeps.live q old there) at none);
         input = λ none. more.input none ∙ untaken x.state y.state next.1.0 keeps (λ h. (said.input h).1) none next.1.0.takes refl;
       }
 
@@ -150,14 +127,14 @@ entered_at p x y i to g args r (Some s) is e =
     let same : point g (code_at p g) s (waiting i to x.function r x.state ∷ x.callers) (announced i to x.trace) ≡ y = cc in
     record { called_is = is ∙ ap (λ (z : Point). Some z.state) same; function_is = ap (λ (z : Point). z.function) same; callers_are = ap (λ (z : Point). z.callers) (sym same) }
 
-module _ (p : Program) (a : Analysis) (free : IsPointerFree p) (global : (x : ℕ) → IsIn (variables_of (executable p).globals) x → is_global p x ≡ true) (x y : Point) (i : ℕ) (to : Target) (g : ℕ) (args : List Expr) (r : Code) (at : HasEntered (executable p) x y i to g args r) (sound : IsSound (executable p) (Mine p) x) where
+module _ (p : Program) (a : Analysis) (order : AreStructsInOrder p) (shapes : AreShapes p) (fit : IsTyped p) (start : Point) (typed : AreTyped p a start) (global : (x : ℕ) → IsIn (variables_of (executable p).globals) x → is_global p x ≡ true) (x y : Point) (i : ℕ) (to : Target) (g : ℕ) (args : List Expr) (r : Code) (at : HasEntered (executable p) x y i to g args r) (sound : IsSound (executable p) (Mine p) x) where
   abbrev os : List Origin
   os = x.state.origins
 
   abbrev w0 : Waiting
   w0 = waiting i to x.function r x.state
 
-  entered_in : IsInCall p a free global g os w0 x.callers y
+  entered_in : IsInCall p a order shapes fit global g os w0 x.callers y
   entered_in =
       let tracked = sound.placed.tracked in
       let most : length os ≤ length x.state.memory.blocks = omega (arith, tracked) in
@@ -173,22 +150,27 @@ module _ (p : Program) (a : Analysis) (free : IsPointerFree p) (global : (x : �
   lower : (n : ℕ) → n < length x.state.memory.blocks → n < length os
   lower n lt = let tracked = sound.placed.tracked in omega (arith, tracked, lt)
 
-  said_touches : (ef : Effect) → IsSaid p a free global g os w0 x.callers ef → TouchesInCall p a g (length x.state.memory.blocks) os ef
-  said_touches ef said = record {
+  said_touches : (here : List Origin) (ef : Effect) → IsSaid p a order shapes fit global g os w0 x.callers here ef → TouchesInCall p a g (length x.state.memory.blocks) os ef
+  said_touches here ef said = record {
     reads_are = all_from (IsOldAt (length x.state.memory.blocks) os (MayUse p a.points g)) ef.reads (λ w j lt. said.reads w j (lower w.cell.block lt));
-    stores_are = all_from (IsOldAt (length x.state.memory.blocks) os (Modifies p a.points g)) ef.stores (λ w j lt. (said.stores w j (lower w.cell.block lt)).0);
+    stores_are = all_from (IsOldAt (length x.state.memory.blocks) os (Modifies p a.points g)) ef.stores (λ w j lt. said.stores w j (lower w.cell.block lt));
     input_is = said.input;
   }
 
-  in_call : (z : Point) → Within (executable p) (w0 ∷ x.callers) y z → IsSound (executable p) (Mine p) y → InCall p a g x y z
-  in_call z within sound_y =
-      let more = comes p a free global g os w0 x.callers y z within sound_y entered_in in
+  in_call : (z : Point) → Within (executable p) (w0 ∷ x.callers) y z → Reaches (machine (executable p)) start y → IsSound (executable p) (Mine p) y → InCall p a g x y z
+  in_call z within reached sound_y =
+      let more = comes p a order shapes fit start typed global g os w0 x.callers y z within reached sound_y entered_in in
       let old = called_keeps (executable p) x.function g args x.state y.state at.called_is in
       record {
         runs = more.in_call.called_from;
         steps_touch = λ u leads wait.
-            let next = in_step p a free global g os w0 x.callers z u more.sound more.in_call leads (subst (λ cs. WaitAt cs u) at.callers_are wait) in
-            record { effect = next.1.0; effect_is = next.1.1.0; touches = said_touches next.1.0 next.1.1.1 };
+            let next = in_step p a order shapes fit global g os w0 x.callers z u more.sound (typed z more.reached) more.in_call leads (subst (λ cs. WaitAt cs u) at.callers_are wait) in
+            record {
+              effect = next.1.0;
+              effect_is = next.1.1.0;
+              touches = said_touches z.state.origins next.1.0 next.1.1.1;
+              outside = λ w c l at out. next.1.1.1.outside w (in_of_contains next.1.0.stores w c) l at out;
+            };
         keeps = record {
           live = λ q lt live. sym (ap is_some (old.cells q lt)) ∙ more.live q (lower q.block lt) live;
           cells = λ q l lt live located none. more.cells q l (lower q.block lt) live located none ∙ ap (option_and_then held) (old.cells q lt);
@@ -197,8 +179,10 @@ module _ (p : Program) (a : Analysis) (free : IsPointerFree p) (global : (x : �
       }
 
 pub calls_touch : CallsTouchWhatFunctionsSay
-calls_touch p a well analysed free input x y z g reach enters within =
+calls_touch p a well analysed input x y z g reach enters within =
+    let start = beginning (executable p) input in
+    let typed : AreTyped p a start = λ u r. (typed_run p a.points well analysed.points_are input u r).state in
     let sound = sound_run (executable p) (Mine p) (bodies p) input x reach in
     let begins = sym (ap (λ c. step_at (executable p) x.function c x.state x.callers x.trace) enters.rest_is) ∙ enters.begins in
     let at = entered_at (executable p) x y enters.call enters.target g enters.args enters.rest (called (executable p) x.function g enters.args x.state) refl begins in
-    in_call p a free (globals_global p well) x y enters.call enters.target g enters.args enters.rest at sound z (subst (λ cs. Within (executable p) cs y z) at.callers_are within) (sound_next p x y sound (inl enters.begins))
+    in_call p a (well_formed_in_order p well) (type_is p) (programs_typed p well) start typed (globals_global p well) x y enters.call enters.target g enters.args enters.rest at sound z (subst (λ cs. Within (executable p) cs y z) at.callers_are within) (reach_next (executable p) start x y reach (inl enters.begins)) (sound_next p x y sound (inl enters.begins))

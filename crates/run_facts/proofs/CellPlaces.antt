@@ -71,6 +71,12 @@ same_cell m q r =
           | inr other ↦ inr (λ h. other (h.numbers_are b is))
         ]
 
+pub same_back : (m : Memory) (q r : Place) → IsSameCell m q r → IsSameCell m r q
+same_back m q r same = record {
+  block_is = sym same.block_is;
+  numbers_are = λ b is. sym (same.numbers_are b (ap (slice_get m.blocks) same.block_is ∙ is));
+}
+
 abbrev placed : ℕ → List Hop → Place
 placed b path = record { block = b; path = path }
 

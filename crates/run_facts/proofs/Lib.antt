@@ -31,6 +31,7 @@ pub mod CellPlaces
 pub mod WrittenStates
 pub mod DenotedForms
 pub mod SelectedPlaces
+pub mod BackStates
 pub mod ActCells
 pub mod ActKills
 pub mod ListedObjects

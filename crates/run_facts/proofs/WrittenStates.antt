@@ -14,7 +14,7 @@ use Rattle.dep_model.specs.LocationLists.{AreStructsInOrder}
 use Rattle.dep_model.specs.Denoted.{TargetsOf}
 use Rattle.run_facts.specs.CellLocations.{location_in}
 use Rattle.run_facts.specs.TypedStates.{IsBlockOf, IsValue, IsTypedState}
-use Rattle.run_facts.proofs.CellPlaces.{same_cell, one_place}
+use Rattle.run_facts.proofs.CellPlaces.{same_cell, same_back, one_place}
 use Rattle.run_facts.proofs.KeptMemories.{write_keeps, write_live}
 use Rattle.run_facts.proofs.LaterStates.{IsLater, shapes_written, value_later}
 use Rattle.run_facts.proofs.Subobjects.{path_type, type_at_is}
@@ -87,7 +87,7 @@ module _ (p : Program) (order : AreStructsInOrder p) (points : TargetsOf) (s : S
               let live : is_cell s.memory q ≡ true = write_live s.memory r q w (ap is_some c.there) in
               value_there q v t o (sym (one_place p order s.memory q r typed.structs_are live same)) live there type made
           | inr other ↦
-              let kept = write_keeps s.memory r q w (λ same. other (record { block_is = sym same.block_is; numbers_are = λ b is. sym (same.numbers_are b (ap (slice_get s.memory.blocks) same.block_is ∙ is)) })) in
+              let kept = write_keeps s.memory r q w (λ same. other (same_back s.memory r q same)) in
               value_later s write_state write_later p t (points (location_in o q.path)) v (typed.cells q v t o (ap (option_and_then held) (sym kept) ∙ there) type made)
         ]
 

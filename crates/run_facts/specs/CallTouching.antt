@@ -1,5 +1,5 @@
 -- What a call touches of the blocks that were there before it, and what it leaves as it was.
-use Rattle.std.specs.Prelude.{◌≡◌, ℕ, ◌<◌, List, [], ◌∷◌, ◌++◌, length, true, Some, All}
+use Rattle.std.specs.Prelude.{◌≡◌, ℕ, ◌<◌, List, [], ◌∷◌, ◌++◌, length, true, Some, All, Contains}
 use Rattle.c_tree.specs.declared.expr.Expr.{Expr}
 use Rattle.c_tree.specs.declared.program.Program.{Program}
 use Rattle.c_tree.specs.declared.statement.Target.{Target}
@@ -11,7 +11,7 @@ use Rattle.c_meaning.specs.Activations.{Executable, executable}
 use Rattle.c_meaning.specs.Steps.{Acts, Reaches, Waiting, Point, step, machine}
 use Rattle.dep_model.specs.declared.location.Location.{Location}
 use Rattle.dep_model.specs.DoingEffects.{the_input}
-use Rattle.dep_model.specs.ModRef.{IsCalledFrom, Modifies, MayUse}
+use Rattle.dep_model.specs.ModRef.{IsCalledFrom, is_outside, Modifies, MayUse}
 use Rattle.dep_model.specs.SystemGraph.{Analysis}
 use Rattle.run_facts.specs.CellLocations.{location_of}
 use Rattle.run_facts.specs.Effects.{Touch, Effect}
@@ -64,11 +64,15 @@ module _ (p : Program) (a : Analysis) (g : ℕ) where
     pub stores_are : All (IsOldAt before origins (Modifies p a.points g)) e.stores
     pub input_is : e.takes ≡ true → MayUse p a.points g the_input × Modifies p a.points g the_input
 
-  -- so does the step from z, in a call of g that was made in this state
+  -- so does the step from z, in a call of g that was made in this state. Where a location is seen outside the age of a block doesn't
+  -- matter: into a block that is there before the step, this one stores only where g modifies the location
   pub record StepInCall (s : State) (z : Point) : Type 0 where
     pub effect : Effect
     pub effect_is : step_effect (executable p) z ≡ Some effect
     pub touches : TouchesInCall (length s.memory.blocks) s.origins effect
+    pub outside :
+        (w : Touch) → Contains effect.stores w → (l : Location) → location_of z.state.origins w.cell ≡ Some l → is_outside p l ≡ true
+        → Modifies p a.points g l
 
   -- a cell of a block that was there in the first state, and that is live in the second, was live, and holds what it held where g
   -- doesn't modify its location; likewise the input

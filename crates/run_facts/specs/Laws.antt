@@ -20,7 +20,6 @@ use Rattle.run_facts.specs.NextSteps.{next_of, step_by}
 use Rattle.run_facts.specs.StepKinds.{StepKind}
 use Rattle.run_facts.specs.DoneEffects.{DoesEffect, returned_before}
 use Rattle.run_facts.specs.SameOutcomes.{SameButCells, SameOutcomes}
-use Rattle.dep_model.specs.PointerFree.{IsPointerFree}
 use Rattle.run_facts.specs.TypedTargets.{HasTargetType}
 use Rattle.run_facts.specs.UntestedMeanings.{TypesFit}
 use Rattle.run_facts.specs.Touching.{DoingTouches, ReceiptTouches}
@@ -41,11 +40,11 @@ ReceiptsTouch p a x =
     (y : Point) (w : Waiting) (ws : List Waiting) → x.rest ≡ End → x.callers ≡ w ∷ ws → step (executable p) x ≡ Moves y → ReceiptTouches p a x w
 
 -- the steps of a run of a well-formed program touch what the vertices of its statements say, where those have the numbers 0, 1, and so
--- on, function by function; so far without pointers, arrays and structs
+-- on, function by function
 abbrev pub StepsTouchWhatVerticesSay : Type 0
 StepsTouchWhatVerticesSay =
     (p : Program) (a : Analysis) → IsWellFormed p → map doing_number (program_doings p) ≡ range_with_len 0 p.statements → IsAnalysis p a
-    → IsPointerFree p → (input : List ℕ) (x : Point) → Reaches (machine (executable p)) (beginning (executable p) input) x
+    → (input : List ℕ) (x : Point) → Reaches (machine (executable p)) (beginning (executable p) input) x
     → DoingsTouch p a x × ReceiptsTouch p a x
 
 -- what a program does from a point is what its list does next
@@ -70,11 +69,11 @@ StepsDoTheirEffects =
     (p : Executable) (x y : Point) (e : Effect) → Leads p x y → step_effect p x ≡ Some e → DoesEffect x.state y.state (returned_before x) e
 
 -- between a call and its return, cells of blocks that were there before the call are read only at locations that the function uses, and
--- stored into only at locations that it modifies, and the input likewise; so what it doesn't modify is as it was before the call. So far
--- without pointers, arrays and structs
+-- stored into only at locations that it modifies, and the input likewise; so what it doesn't modify is as it was before the call. At
+-- locations that are seen outside the second holds of blocks of any age
 abbrev pub CallsTouchWhatFunctionsSay : Type 0
 CallsTouchWhatFunctionsSay =
-    (p : Program) (a : Analysis) → IsWellFormed p → IsAnalysis p a → IsPointerFree p → (input : List ℕ) (x y z : Point) (g : ℕ)
+    (p : Program) (a : Analysis) → IsWellFormed p → IsAnalysis p a → (input : List ℕ) (x y z : Point) (g : ℕ)
     → Reaches (machine (executable p)) (beginning (executable p) input) x → Enters (executable p) x y g
     → Within (executable p) y.callers y z → InCall p a g x y z
 

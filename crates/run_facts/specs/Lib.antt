@@ -4,6 +4,7 @@ pub mod Effects
 pub mod NextSteps
 pub mod StepKinds
 pub mod SameOutcomes
+pub mod Counting
 pub mod Touching
 pub mod KeptCells
 pub mod CellPaths

@@ -1,5 +1,5 @@
 -- What the vertices of statements say of the cells that a run touches.
-use Rattle.std.specs.Prelude.{◌≡◌, ◌↔◌, ℕ, List, map, true, Some, All, Contains, is_some, slice_get}
+use Rattle.std.specs.Prelude.{◌≡◌, ◌↔◌, ℕ, ◌<◌, List, length, map, true, Some, All, Contains, is_some, slice_get}
 use Rattle.c_tree.specs.declared.expr.Expr.{Expr}
 use Rattle.c_tree.specs.declared.program.Program.{Program}
 use Rattle.c_tree.specs.declared.statement.Target.{Target}
@@ -17,9 +17,11 @@ use Rattle.dep_model.specs.declared.vertex.VertexKind.{VertexKind}
 use Rattle.dep_model.specs.declared.vertex.VertexKind.TheVariants.{FormalIn, Statement, ActualIn, ActualOut}
 use Rattle.dep_model.specs.Doings.{Doing, Does, Calls, doings_of}
 use Rattle.dep_model.specs.DoingEffects.{the_input, result_of}
+use Rattle.dep_model.specs.ModRef.{is_outside}
 use Rattle.dep_model.specs.SystemGraph.{Analysis}
 use Rattle.dep_model.specs.VertexOrder.{formal_ins, doing_vertices, kind_uses, kind_defines, kind_kills}
 use Rattle.run_facts.specs.CellLocations.{location_of}
+use Rattle.run_facts.specs.Counting.{Counts}
 use Rattle.run_facts.specs.Effects.{Touch, Effect, argument_reads, doing_effect, back_in, receipt_effect}
 
 -- a cell has a location, which is one of these
@@ -75,10 +77,17 @@ module _ (p : Program) (a : Analysis) where
 
   -- ---- what an effect touches
 
+  -- a cell that is touched in a state has a location, which is one of these; and it counts, where its block was there before
+  pub record IsTouched (s : State) (origins : List Origin) (these : Location → Type 0) (w : Touch) : Type 0 where
+    pub location : Location
+    pub location_is : location_of origins w.cell ≡ Some location
+    pub among : these location
+    pub counts : w.cell.block < length s.memory.blocks → Counts (is_outside p) location s w.cell.block
+
   -- an effect in function f reads and stores only where this is allowed; who takes from the input uses and defines it
-  pub record Touches (f : ℕ) (origins : List Origin) (use_ define : Location → Type 0) (e : Effect) : Type 0 where
-    pub reads_are : All (IsAt origins use_) e.reads
-    pub stores_are : All (IsAt origins define) e.stores
+  pub record Touches (f : ℕ) (s : State) (origins : List Origin) (use_ define : Location → Type 0) (e : Effect) : Type 0 where
+    pub reads_are : All (IsTouched s origins use_) e.reads
+    pub stores_are : All (IsTouched s origins define) e.stores
     pub input_is : e.takes ≡ true → use_ the_input × define the_input
     pub result_is : (v : Value) → e.returned ≡ Some v → define (result_of f)
 
@@ -98,15 +107,16 @@ module _ (p : Program) (a : Analysis) where
   pub record ArgumentsTouch (x y : Point) (i : ℕ) (to : Target) (g : ℕ) (args : List Expr) (e : Effect) : Type 0 where
     pub reads_are :
         (k : ℕ) (arg : Expr) → slice_get args k ≡ Some arg
-        → All (IsAt y.state.origins (IsUsedBy x.function (Calls i to g args) (ActualIn i (Argument k)))) (argument_reads (executable p) x.function arg x.state)
-    pub stores_are : (k : ℕ) (w : Touch) → slice_get e.stores k ≡ Some w → IsAt y.state.origins (IsPassedBy g k) w
+        → All (IsTouched x.state y.state.origins (IsUsedBy x.function (Calls i to g args) (ActualIn i (Argument k))))
+        (argument_reads (executable p) x.function arg x.state)
+    pub stores_are : (k : ℕ) (w : Touch) → slice_get e.stores k ≡ Some w → IsTouched x.state y.state.origins (IsPassedBy g k) w
 
   -- the act or the call of a statement
   pub record DoingTouches (x y : Point) (d : Doing) : Type 0 where
     pub effect : Effect
     pub effect_is : doing_effect (executable p) x.function d x.state ≡ Some effect
     pub of_function : Contains (doings_of p x.function) d
-    pub touches : Touches x.function y.state.origins (MayUse x.function d) (MayStore x.function d) effect
+    pub touches : Touches x.function x.state y.state.origins (MayUse x.function d) (MayStore x.function d) effect
     pub arguments : (i : ℕ) (to : Target) (g : ℕ) (args : List Expr) → d ≡ Calls i to g args → ArgumentsTouch x y i to g args effect
     pub overwrites : (i : ℕ) (act : Act) → d ≡ Does i act → Overwrites x.function (Statement i) x.state effect
 
@@ -117,6 +127,7 @@ module _ (p : Program) (a : Analysis) where
     pub effect_is : receipt_effect (executable p) x.function w x.state ≡ Some effect
     pub of_function : Contains (doings_of p w.function) (Calls w.call w.target x.function args)
     pub touches :
-        Touches w.function x.state.origins (IsUsedBy w.function (Calls w.call w.target x.function args) (ActualOut w.call Result))
+        Touches w.function (back_in (executable p) x.function w x.state) x.state.origins
+        (IsUsedBy w.function (Calls w.call w.target x.function args) (ActualOut w.call Result))
         (IsDefinedBy w.function (Calls w.call w.target x.function args) (ActualOut w.call Result)) effect
     pub overwrites : Overwrites w.function (ActualOut w.call Result) (back_in (executable p) x.function w x.state) effect

@@ -15,8 +15,9 @@ pub fn outcomes_depend_on_reads()
 /// may use, and stores only into cells whose locations they may define. At a call each argument reads only where its
 /// own actual-in may use, and goes where the formal-in of its parameter may define; the store after a call, with what
 /// its left side reads, is that of the result's actual-out. Where a statement's vertex, or that actual-out, kills a
-/// location of a variable, the cells stored into are all live cells of it that the activation can name. So far this is
-/// said of programs without pointers, arrays and structs.
+/// location of a variable, the cells stored into are all live cells of it that the activation can name. Each cell that
+/// is touched counts, but for those of parameters, which begin there: its location is seen outside of the activation,
+/// or its block is the one that this names by the location's variable.
 pub fn steps_touch_what_vertices_say()
     ensures { law.StepsTouchWhatVerticesSay }
 {}
@@ -57,7 +58,7 @@ pub fn steps_do_their_effects()
 /// that the function called may use, and stored into only at locations that it modifies; the input likewise. So what
 /// the function doesn't modify is up to the return as it was before the call. What a function modifies and may use is
 /// that of the statements of all functions that it calls, directly or not (Horwitz, Reps and Binkley 1990, on GMOD and
-/// GREF). So far this is said of programs without pointers, arrays and structs.
+/// GREF). At locations that are seen outside of an activation, what is said of stores holds of blocks of any age.
 pub fn calls_touch_what_functions_say()
     ensures { law.CallsTouchWhatFunctionsSay }
 {}

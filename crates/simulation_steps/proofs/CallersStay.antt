@@ -90,14 +90,14 @@ module _ (p : Program) (a : Analysis) (well : IsWellFormed p) (analysed : IsAnal
     begun = has_called.begun
 
     at_x : InCall p a g from begun x
-    at_x = calls_touch p a well analysed free input from begun x g has_called.reached has_called.enters has_called.within
+    at_x = calls_touch p a well analysed input from begun x g has_called.reached has_called.enters has_called.within
 
     wait : WaitAt begun.callers x1
     wait = record { above = after_; callers_are = callers1 ∙ ap (λ ws. after_ ++ ws) (sym has_called.callers_are) }
 
     at_x1 : InCall p a g from begun x1
     at_x1 =
-        calls_touch p a well analysed free input from begun x1 g has_called.reached has_called.enters (within_more e begun.callers begun x x1 has_called.within leads wait)
+        calls_touch p a well analysed input from begun x1 g has_called.reached has_called.enters (within_more e begun.callers begun x x1 has_called.within leads wait)
 
     not_modified : Modifies p a.points g l → ⊥
     not_modified h = false≢true (sym unmodified ∙ (analysed.effects_are.modified_are g l).1 h)
