@@ -1,7 +1,7 @@
 -- What a statement kills its act overwrites: where that is a location of a variable, the act stores into all live cells of it that the
 -- activation can name.
 use Rattle.std.proofs.Common.{◌≡◌, ◌↔◌, ℕ, zero, suc, ◌+◌, ◌*◌, ◌<◌, List, [], ◌∷◌, ◌++◌, map, Option, Some, None, Bool, true, false, ◌&&◌, inl, inr, refl, sym, ap, ap₂, ◌∙◌, subst, arith, eq-eqb, ltb-true}
-use Rattle.std.specs.Prelude.{Contains, nat_lt, option_map, option_and_then, is_some, if◌then◌else◌}
+use Rattle.std.specs.Prelude.{not, ◌||◌, Contains, nat_lt, option_map, option_and_then, is_some, if◌then◌else◌}
 use Rattle.std.specs.List.{list_any}
 use Rattle.std.proofs.lemmas.Bool.{false≢true, and_parts, or_cases}
 use Rattle.c_arith.specs.declared.int_type.IntType.TheVariants.{UChar}
@@ -36,11 +36,13 @@ use Rattle.c_meaning.specs.Acts.{Store, Made, shows, storing, if_cell, writable,
 use Rattle.dep_model.specs.declared.location.Location.{Location}
 use Rattle.dep_model.specs.declared.location.Part.{Part}
 use Rattle.dep_model.specs.declared.location.Part.TheVariants as part
+use Rattle.dep_model.specs.declared.location.Root.{Root}
 use Rattle.dep_model.specs.declared.location.Root.TheVariants.{Input, Variable, Result}
 use Rattle.dep_model.specs.Denoted as denoted
 use Rattle.dep_model.specs.Denoted.{Places, TargetsOf, part_of, is_location, expr_places}
 use Rattle.dep_model.specs.Designated.{designated}
-use Rattle.dep_model.specs.DoingEffects.{the_input, result_of, is_killable, named_kills, left_kills, target_kills, act_defines, act_kills}
+use Rattle.dep_model.specs.DoingEffects.{the_input, result_of, is_taken, is_global, is_killable, named_kills, left_kills, target_kills, act_defines, act_kills}
+use Rattle.dep_model.specs.ModRef.{is_outside_root, is_outside}
 use Rattle.dep_model.specs.Locations.{TypedLocation, locations, same_root, same_location}
 use Rattle.dep_model.proofs.Membership.{IsIn, in_of_contains, contains_of_in}
 use Rattle.run_facts.specs.CellLocations.{merged, location_in, location_of}
@@ -110,6 +112,9 @@ no_input l x root h = absurd (false≢true (subst (λ z. same_root Input z ≡ t
 no_result : {A : Type 0} (f : ℕ) (l : Location) (x : ℕ) → l.root ≡ Variable x → same_location (result_of f) l ≡ true → A
 no_result f l x root h = absurd (false≢true (subst (λ z. same_root (Result f) z ≡ true) root (and_parts (same_root (Result f) l.root) _ h).0))
 
+same_variable : (x y : ℕ) → ◌≡◌ {A = Root} (Variable x) (Variable y) → x ≡ y
+same_variable x y e = cc
+
 abbrev placed : ℕ → List Hop → Place
 placed b path = record { block = b; path = path }
 
@@ -123,9 +128,9 @@ module _ (p : Program) (points : TargetsOf) (s : State) (typed : IsTypedState p 
       (l : Location) (x : ℕ) → l.root ≡ Variable x → kills l ≡ true
       → (q : Place) → CanName s x l q ↔ (Contains (cells_of m.stores) q × (location_of s.origins q ≡ Some l))
 
-  -- locations of variables alone are among these
+  -- locations of variables alone are among these, each of one that a name kills
   abbrev pub OfVariables : Places → Type 0
-  OfVariables kills = (l : Location) → kills l ≡ true → (x : ℕ) × (l.root ≡ Variable x)
+  OfVariables kills = (l : Location) → kills l ≡ true → (x : ℕ) × (l.root ≡ Variable x) × (is_killable p x ≡ true)
 
   named_location : (x : ℕ) (q : Place) (l : Location) → s.frame x ≡ Some q.block → location_of s.origins q ≡ Some l → location_in (OfVariable x) q.path ≡ l
   named_location x q l named at_ = some_same (sym (ap (option_map (λ (o : Origin). location_in o q.path)) (typed.named x q.block named)) ∙ at_)
@@ -199,11 +204,12 @@ module _ (p : Program) (points : TargetsOf) (s : State) (typed : IsTypedState p 
   left_variables : (e : Expr) → OfVariables (left_kills p points e)
   left_variables e l = by_name (designated p e).name refl
     where
-      by_name : (o : Option ℕ) → (designated p e).name ≡ o → named_kills p points o (expr_places p points e) l ≡ true → (x : ℕ) × (l.root ≡ Variable x)
+      by_name : (o : Option ℕ) → (designated p e).name ≡ o → named_kills p points o (expr_places p points e) l ≡ true → (x : ℕ) × (l.root ≡ Variable x) × (is_killable p x ≡ true)
       by_name None is kl = absurd (false≢true kl)
       by_name (Some y) is kl =
           let k = selected_from p points result e y is in
-          (y, ap (λ (z : Location). z.root) (k.location_is l (and_parts (is_killable p y) (expr_places p points e l) kl).1))
+          let h = and_parts (is_killable p y) (expr_places p points e l) kl in
+          (y, ap (λ (z : Location). z.root) (k.location_is l h.1), h.0)
 
   -- ---- variables
 
@@ -218,7 +224,8 @@ module _ (p : Program) (points : TargetsOf) (s : State) (typed : IsTypedState p 
       one_overwritten y [] m (record { to = a.place; value = a.stored; same = a.same; live = w.live; block_is = b.there ∙ ap (λ (z : Place). Some z.block) b.same; path_is = ap (λ (z : Place). z.path) (sym b.same) }) l x root (location_is y [] l (and_parts (is_killable p y) (denoted.whole y l) kl).1)
 
   whole_variables : (y : ℕ) → OfVariables (whole_kills y)
-  whole_variables y l kl = (y, ap (λ (z : Location). z.root) (location_is y [] l (and_parts (is_killable p y) (denoted.whole y l) kl).1))
+  whole_variables y l kl =
+      let h = and_parts (is_killable p y) (denoted.whole y l) kl in (y, ap (λ (z : Location). z.root) (location_is y [] l h.1), h.0)
 
   -- ---- targets
 
@@ -288,13 +295,15 @@ module _ (p : Program) (points : TargetsOf) (s : State) (typed : IsTypedState p 
           }
 
   element_variables : (y : ℕ) → OfVariables (element_kills y)
-  element_variables y l kl = (y, ap (λ (z : Location). z.root) (element_location y l kl))
+  element_variables y l kl =
+      (y, ap (λ (z : Location). z.root) (element_location y l kl), (and_parts (is_killable p y) (part_of p part.Element (denoted.whole y) l) kl).0)
 
   -- ---- acts
 
   -- what an act of function f kills it overwrites, the input and the result too; and what it returns it defines
   pub record IsKill (f : ℕ) (a : Act) (m : Made) : Type 0 where
     pub cells : Overwritten (act_kills p points f a) m
+    pub killable : (l : Location) (x : ℕ) → l.root ≡ Variable x → act_kills p points f a l ≡ true → is_killable p x ≡ true
     pub input : act_kills p points f a the_input ≡ true → reads_input a ≡ true
     pub result_is : act_kills p points f a (result_of f) ≡ true → is_some m.returned ≡ true
     pub returned : (v : Value) → m.returned ≡ Some v → act_defines p points f a (result_of f) ≡ true
@@ -305,10 +314,24 @@ module _ (p : Program) (points : TargetsOf) (s : State) (typed : IsTypedState p 
   result_apart : {A : Type 0} (f x : ℕ) → (result_of f).root ≡ Variable x → A
   result_apart f x e = cc
 
+  pub one_variable : (kills : Places) → OfVariables kills → (l : Location) (x : ℕ) → l.root ≡ Variable x → kills l ≡ true → is_killable p x ≡ true
+  one_variable kills variables l x root kl =
+      let k = variables l kl in let same : k.0 ≡ x = same_variable k.0 x (sym k.1 ∙ root) in subst (λ (z : ℕ). is_killable p z ≡ true) same k.2
+
+  -- a location that is seen outside, and that is killed, is a global's
+  pub killed_global : (l : Location) (x : ℕ) → l.root ≡ Variable x → is_killable p x ≡ true → is_outside p l ≡ true → is_global p x ≡ true
+  killed_global l x root killable out = by_kind (is_global p x) (is_taken p x) killable (subst (λ (r : Root). is_outside_root p r ≡ true) root out)
+    where
+      by_kind : (b c : Bool) → (b || not c) ≡ true → (b || c) ≡ true → b ≡ true
+      by_kind true c h k = refl
+      by_kind false true h k = absurd (false≢true h)
+      by_kind false false h k = absurd (false≢true k)
+
   -- an act that kills locations of variables alone, and returns nothing
   storing_kill : (f : ℕ) (a : Act) (m : Made) → Overwritten (act_kills p points f a) m → OfVariables (act_kills p points f a) → m.returned ≡ None → IsKill f a m
   storing_kill f a m cells variables silent = record {
     cells = cells;
+    killable = one_variable (act_kills p points f a) variables;
     input = λ kl. let k = variables the_input kl in input_apart k.0 k.1;
     result_is = λ kl. let k = variables (result_of f) kl in result_apart f k.0 k.1;
     returned = λ v e. none_there (sym silent ∙ e);
@@ -355,6 +378,10 @@ module _ (p : Program) (points : TargetsOf) (s : State) (typed : IsTypedState p 
           | inl i ↦ no_input l x root i
           | inr t ↦ subst (λ (z : Made). (q : Place) → CanName s x l q ↔ (Contains (cells_of z.stores) q × (location_of s.origins q ≡ Some l))) k.same (cells l x root t)
         ];
+        killable = λ l x root kl. elim (or_cases (same_location the_input l) (target_kills p points to l) kl) [
+          | inl i ↦ no_input l x root i
+          | inr t ↦ one_variable (target_kills p points to) (target_variables to) l x root t
+        ];
         input = λ kl. refl;
         result_is = λ kl. let t = target_variables to (result_of f) kl in result_apart f t.0 t.1;
         returned = λ v is. none_there (sym (ap (λ (z : Made). z.returned) (sym k.same) ∙ given_silent to (Number (next_byte s.unread)) k.value k.there) ∙ is);
@@ -374,6 +401,7 @@ module _ (p : Program) (points : TargetsOf) (s : State) (typed : IsTypedState p 
       let k = map_there returning (option_and_then (as_result types.result) (eval types a s)) m e in
       record {
         cells = λ l x root kl. no_result f l x root kl;
+        killable = λ l x root kl. no_result f l x root kl;
         input = λ kl. absurd (false≢true kl);
         result_is = λ kl. ap (λ (z : Made). is_some z.returned) (sym k.same);
         returned = λ v is. its_result f;

@@ -45,7 +45,7 @@ use Rattle.run_facts.specs.Touching.{IsTouched, IsUsedBy, IsDefinedBy, MayUse, M
 use Rattle.run_facts.specs.Laws.{DoingsTouch, ReceiptsTouch, StepsTouchWhatVerticesSay}
 use Rattle.run_facts.proofs.ActCells as cells
 use Rattle.run_facts.proofs.ActCells.{given_target, passed_operands, argument_cells, target_touches}
-use Rattle.run_facts.proofs.ActKills.{IsKill, act_kill, target_overwritten, target_variables}
+use Rattle.run_facts.proofs.ActKills.{IsKill, killed_global, one_variable, act_kill, target_overwritten, target_variables}
 use Rattle.run_facts.proofs.BackStates.{closed_origins, back_typed}
 use Rattle.run_facts.proofs.Blocks.{Grows, grows_not, get_grown, ArePassed}
 use Rattle.run_facts.proofs.ExprsDenoted.{AreShapes}
@@ -166,6 +166,7 @@ module _ (p : Program) (a : Analysis) (numbered : map doing_number (program_doin
   act_overwrites f i act s m typed mine k =
       record {
         cells_are = λ l y root kl. k.cells l y root (killed_too l kl);
+        alone = λ l y root kl. killed_global p a.points s typed (result_at (executable p) f) l y root (k.killable l y root (killed_too l kl));
         input_is = λ kl. k.input (killed_too the_input kl);
         result_is = λ kl. k.result_is (killed_too (result_of f) kl);
       }
@@ -310,6 +311,7 @@ module _ (p : Program) (a : Analysis) (numbered : map doing_number (program_doin
           touches = record { reads_are = All-nil _; stores_are = All-nil _; input_is = λ h. absurd (false≢true h); result_is = λ v h. none_there h };
           overwrites = record {
             cells_are = λ l y root kl. absurd (none_killed l kl);
+            alone = λ l y root kl. absurd (none_killed l kl);
             input_is = λ kl. absurd (none_killed the_input kl);
             result_is = λ kl. absurd (none_killed (result_of w.function) kl);
           };
@@ -345,6 +347,7 @@ module _ (p : Program) (a : Analysis) (numbered : map doing_number (program_doin
           };
           overwrites = record {
             cells_are = λ l y root kl. target_overwritten p a.points t typed r w.target v.value m v.same l y root (killed_too l kl);
+            alone = λ l y root kl. killed_global p a.points t typed r l y root (one_variable p a.points t typed r (target_kills p a.points w.target) variables l y root (killed_too l kl));
             input_is = λ kl. let z = variables the_input (killed_too the_input kl) in absurd (input_apart z.0 z.1);
             result_is = λ kl. let z = variables (result_of w.function) (killed_too (result_of w.function) kl) in absurd (result_apart w.function z.0 z.1);
           };

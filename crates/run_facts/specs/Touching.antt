@@ -16,7 +16,7 @@ use Rattle.dep_model.specs.declared.vertex.Slot.TheVariants.{Argument, Result}
 use Rattle.dep_model.specs.declared.vertex.VertexKind.{VertexKind}
 use Rattle.dep_model.specs.declared.vertex.VertexKind.TheVariants.{FormalIn, Statement, ActualIn, ActualOut}
 use Rattle.dep_model.specs.Doings.{Doing, Does, Calls, doings_of}
-use Rattle.dep_model.specs.DoingEffects.{the_input, result_of}
+use Rattle.dep_model.specs.DoingEffects.{the_input, result_of, is_global}
 use Rattle.dep_model.specs.ModRef.{is_outside}
 use Rattle.dep_model.specs.SystemGraph.{Analysis}
 use Rattle.dep_model.specs.VertexOrder.{formal_ins, doing_vertices, kind_uses, kind_defines, kind_kills}
@@ -97,6 +97,9 @@ module _ (p : Program) (a : Analysis) where
     pub cells_are :
         (l : Location) (x : ℕ) → l.root ≡ Variable x → kind_kills p a.points f vertex l ≡ true
         → (q : Place) → CanName s x l q ↔ (StoresInto e q × (location_of s.origins q ≡ Some l))
+    -- no other activation sees such a cell, but for a global's, which has one block
+    pub alone :
+        (l : Location) (x : ℕ) → l.root ≡ Variable x → kind_kills p a.points f vertex l ≡ true → is_outside p l ≡ true → is_global p x ≡ true
     pub input_is : kind_kills p a.points f vertex the_input ≡ true → e.takes ≡ true
     pub result_is : kind_kills p a.points f vertex (result_of f) ≡ true → is_some e.returned ≡ true
 

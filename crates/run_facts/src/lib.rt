@@ -15,9 +15,10 @@ pub fn outcomes_depend_on_reads()
 /// may use, and stores only into cells whose locations they may define. At a call each argument reads only where its
 /// own actual-in may use, and goes where the formal-in of its parameter may define; the store after a call, with what
 /// its left side reads, is that of the result's actual-out. Where a statement's vertex, or that actual-out, kills a
-/// location of a variable, the cells stored into are all live cells of it that the activation can name. Each cell that
-/// is touched counts, but for those of parameters, which begin there: its location is seen outside of the activation,
-/// or its block is the one that this names by the location's variable.
+/// location of a variable, the cells stored into are all live cells of it that the activation can name, and no other
+/// activation sees such a cell, but for a global's. Each cell that is touched counts, but for those of parameters, which
+/// begin there: its location is seen outside of the activation, or its block is the one that this names by the
+/// location's variable.
 pub fn steps_touch_what_vertices_say()
     ensures { law.StepsTouchWhatVerticesSay }
 {}
