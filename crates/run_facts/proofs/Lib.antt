@@ -65,3 +65,4 @@ pub mod PartsOfParts
 pub mod PointedTypes
 pub mod TypedPairs
 mod LocationRows
+mod SmallPointers
