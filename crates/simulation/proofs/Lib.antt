@@ -1,3 +1,4 @@
+pub mod GrownWorlds
 pub mod Targets
 pub mod Events
 pub mod Stacks

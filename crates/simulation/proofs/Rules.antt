@@ -7,6 +7,7 @@ use Rattle.simulation.specs.Places.{Position, At, Behind, Storing}
 use Rattle.simulation.specs.Premises.{Wanting, Growing}
 use Rattle.simulation.specs.Renaming.{World, Stands, Grows, BothStand, neither, both}
 use Rattle.simulation.specs.Slicings.{Slicing, Wanted, used, before_act, before_move, argument_used, passed_in, before_call, before_outs, result_used, before_store, without_store, passed_out, by_rules, Sliced}
+use Rattle.simulation.proofs.GrownWorlds.{grown_both}
 use Rattle.simulation.proofs.Law.{slice_follows}
 
 module _ (k : Slicing) (holds : ℕ → Bool) where
@@ -48,15 +49,8 @@ module _ (k : Slicing) (holds : ℕ → Bool) where
 
   -- ---- worlds
 
-  stands_on : (w u : World) (b c : ℕ) → Grows w u → Stands w b c → Stands u b c
-  stands_on w u b c g h = subst (λ (v : World). Stands v b c) (sym g.world_is) (get_more w g.more c b h)
-
-  both_on : (w u : World) (o q : Option ℕ) → Grows w u → BothStand k.names w o q → BothStand k.names u o q
-  both_on w u o q g neither = neither
-  both_on w u o q g (both {b = b} {c = c} h) = both (stands_on w u b c g h)
-
   growing : Growing (by_rules k holds)
-  growing = record { frames = λ w u here there g h x stays. both_on w u (here x) (there (k.names.variable x)) g (h x stays) }
+  growing = record { frames = λ w u here there g h x stays. grown_both w u g k.names (here x) (there (k.names.variable x)) (h x stays) }
 
   -- ---- the law there
 

@@ -19,21 +19,12 @@ use Rattle.run_facts.proofs.KeptMemories.{leave_keeps, new_keeps}
 use Rattle.run_facts.proofs.KeptStates.{called_keeps}
 use Rattle.simulation.specs.Renaming.{World, Stands, cell_at, AlikeCell, Names, StandsForOne, BlocksStand, Counts, AlikeAt}
 use Rattle.simulation.specs.Settings.{seen, seen_from}
+use Rattle.simulation_steps.proofs.GrownLists.{within, there_at}
 use Rattle.simulation_steps.proofs.LeftAlone.{CallsLeaveCallers, ReturnsLeaveCallers, MovesLeaveAlike}
 use Rattle.simulation_steps.proofs.Outlines.{KeepsOutlines}
 use Rattle.simulation_steps.proofs.KeptOutlines.{keeps_opened, keeps_closed, keeps_called, keeps_resumed}
 
 -- ---- blocks of the original for which blocks stand
-
-within : {A : Type 0} (xs : List A) (n : ℕ) (x : A) → slice_get xs n ≡ Some x → n < length xs
-within [] n x e = none_there e
-within (y ∷ xs) zero x e = omega arith
-within (y ∷ xs) (suc n) x e = let lt = within xs n x e in omega (arith, lt)
-
-there_at : {A : Type 0} (xs : List A) (n : ℕ) → n < length xs → (x : A) × (slice_get xs n ≡ Some x)
-there_at [] n lt = absurd (omega (arith, lt))
-there_at (y ∷ xs) zero lt = (y, refl)
-there_at (y ∷ xs) (suc n) lt = there_at xs n (omega (arith, lt))
 
 module _ (names : Names) (outside : Location → Bool) (w : World) where
   -- a block for which one stands was there, with what made it

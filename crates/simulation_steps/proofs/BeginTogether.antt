@@ -20,30 +20,9 @@ use Rattle.run_facts.proofs.Blocks.{get_more}
 use Rattle.run_facts.proofs.KeptMemories.{new_keeps}
 use Rattle.simulation.specs.Renaming.{World, Stands, Grows, AlikeValue, number, null, pointer, AlikeCell, empty, held as both_hold, cell_at, Names, of_variable, StandsForOne, BlocksStand, BothStand, neither, both, FramesStand, Counts, AlikeAt}
 use Rattle.simulation.specs.Settings.{seen}
+use Rattle.simulation.proofs.GrownWorlds.{world_more, grown_stands, grown_cell, grown_both}
+use Rattle.simulation_steps.proofs.GrownLists.{within, there_at, FrontOrLast, front, last, front_or_last}
 use Rattle.simulation_steps.proofs.Begun.{AreApart, IsTracked, BothAt, BothBegun, VariablesBeginTogether}
-
--- ---- lists that grow by one
-
-within : {A : Type 0} (xs : List A) (n : ℕ) (x : A) → slice_get xs n ≡ Some x → n < length xs
-within [] n x e = none_there e
-within (y ∷ xs) zero x e = omega arith
-within (y ∷ xs) (suc n) x e = let lt = within xs n x e in omega (arith, lt)
-
-there_at : {A : Type 0} (xs : List A) (n : ℕ) → n < length xs → (x : A) × (slice_get xs n ≡ Some x)
-there_at [] n lt = absurd (omega (arith, lt))
-there_at (y ∷ xs) zero lt = (y, refl)
-there_at (y ∷ xs) (suc n) lt = there_at xs n (omega (arith, lt))
-
--- an item is one of those before, or the new one
-pub data FrontOrLast {A : Type 0} (xs : List A) (y : A) (n : ℕ) (x : A) : Type 0 where
-  front : slice_get xs n ≡ Some x → FrontOrLast xs y n x
-  last : n ≡ length xs → y ≡ x → FrontOrLast xs y n x
-
-front_or_last : {A : Type 0} (xs : List A) (y : A) (n : ℕ) (x : A) → slice_get (xs ++ y ∷ []) n ≡ Some x → FrontOrLast xs y n x
-front_or_last [] y zero x e = last refl (some_same e)
-front_or_last [] y (suc n) x e = none_there e
-front_or_last (z ∷ xs) y zero x e = front e
-front_or_last (z ∷ xs) y (suc n) x e = elim (front_or_last xs y n x e) [ front h ↦ front h | last p q ↦ last (ap suc p) q ]
 
 -- ---- a block in which nothing is written holds nothing
 
@@ -65,20 +44,6 @@ empty_cell structs t path = by_number (cell_number structs path t)
 new_empty : (m : Memory) (t : ExprType) (path : List Hop) → read (enter t m) (cell_at (length m.blocks) path) ≡ None
 new_empty m t path =
     ap (λ (o : Option Block). option_and_then held (option_and_then (cell_in m.structs path) o)) (get_last m.blocks (unwritten m.structs t Entered)) ∙ empty_cell m.structs t path
-
--- ---- worlds that grow
-
-stands_more : (w : World) (k b c : ℕ) → Stands w b c → Stands (w ++ k ∷ []) b c
-stands_more w k b c e = get_more w (k ∷ []) c b e
-
-value_more : (w : World) (k : ℕ) (u v : Value) → AlikeValue w u v → AlikeValue (w ++ k ∷ []) u v
-value_more w k u v number = number
-value_more w k u v null = null
-value_more w k u v (pointer {b = b} {c = c} e) = pointer (stands_more w k b c e)
-
-cell_more : (w : World) (k : ℕ) (u v : Option Value) → AlikeCell w u v → AlikeCell (w ++ k ∷ []) u v
-cell_more w k u v empty = empty
-cell_more w k u v (both_hold {u = a} {v = b} h) = both_hold (value_more w k a b h)
 
 module _ (names : Names) (outside : Location → Bool) (w : World) (m n : State) (stand : BlocksStand names w m n) where
   abbrev here : ℕ
@@ -123,7 +88,7 @@ module _ (names : Names) (outside : Location → Bool) (w : World) (m n : State)
     alike_new l h = record {
       cells = λ b c path e counts live at. by_world b c path (front_or_last w here c b e) counts live at;
       input = h.input;
-      result = λ f e. cell_more w here m.returned n.returned (h.result f e);
+      result = λ f e. grown_cell w (w ++ here ∷ []) (world_more w here) m.returned n.returned (h.result f e);
     }
       where
         counts_before : (b : ℕ) → b < here → Counts outside l m1 b → Counts outside l m b
@@ -139,7 +104,7 @@ module _ (names : Names) (outside : Location → Bool) (w : World) (m n : State)
             let same1 : cell n1.memory (cell_at c path) ≡ cell n.memory (cell_at c path) = new_keeps (unwritten n.memory.structs t Entered) n.memory (cell_at c path) low1 in
             let at_before : location_of m.origins (cell_at b path) ≡ Some l = ap (option_map (λ (z : Origin). location_in z path)) (origin.1 ∙ sym (get_more m.origins (o ∷ []) b origin.0 origin.1)) ∙ at in
             let live_before : is_cell m.memory (cell_at b path) ≡ true = sym (ap is_some same) ∙ live in
-            let before_ = cell_more w here (read m.memory (cell_at b path)) (read n.memory (cell_at c path)) (h.cells b c path e (counts_before b low counts) live_before at_before) in
+            let before_ = grown_cell w (w ++ here ∷ []) (world_more w here) (read m.memory (cell_at b path)) (read n.memory (cell_at c path)) (h.cells b c path e (counts_before b low counts) live_before at_before) in
             subst (λ z. AlikeCell u z (read n1.memory (cell_at c path))) (sym (ap (option_and_then held) same)) (subst (λ z. AlikeCell u (read m.memory (cell_at b path)) z) (sym (ap (option_and_then held) same1)) before_)
         by_world b c path (last p q) counts live at =
             let count = stand.count_is in
@@ -163,7 +128,7 @@ module _ (names : Names) (outside : Location → Bool) (w : World) (m n : State)
     old_one : (c : ℕ) (b : Block) → StandsForOne names w m n c b → StandsForOne names u ma na c b
     old_one c b h = record {
       number = h.number;
-      stands = stands_more w here h.number c h.stands;
+      stands = grown_stands w (w ++ here ∷ []) (world_more w here) h.number c h.stands;
       block = h.block;
       block_is = get_more m.memory.blocks (unwritten m.memory.structs t Entered ∷ []) h.number h.block h.block_is;
       shape_is = h.shape_is;
@@ -212,10 +177,6 @@ module _ (names : Names) (outside : Location → Bool) (w : World) (m n : State)
 
 -- ---- a variable begins in both
 
-both_more : (names : Names) (w : World) (k : ℕ) (o q : Option ℕ) → BothStand names w o q → BothStand names (w ++ k ∷ []) o q
-both_more names w k o q neither = neither
-both_more names w k o q (both {b = b} {c = c} e) = both (stands_more w k b c e)
-
 module _ (names : Names) (outside : Location → Bool) (w : World) (types there_types : Types) (x : ℕ) (m n : State) (h : BothAt names w types there_types x m n) where
   abbrev block : ℕ
   block = length m.memory.blocks
@@ -250,7 +211,7 @@ module _ (names : Names) (outside : Location → Bool) (w : World) (types there_
       by_name true e true j = both (new_stands names outside w m n h.blocks shape x h.stays h.tracked h.tracked_there opened.frame opened_there.frame)
       by_name true e false j = false_true (sym j ∙ eq-eqb (names.variable x) (names.variable y) (ap names.variable (eqb-true x y e)))
       by_name false e true j = false_true (sym e ∙ eq-eqb x y (h.apart x y h.stays stays (eqb-true (names.variable x) (names.variable y) j)))
-      by_name false e false j = both_more names w block (m.frame y) (n.frame (names.variable y)) (h.frames y stays)
+      by_name false e false j = grown_both w (w ++ block ∷ []) (world_more w block) names (m.frame y) (n.frame (names.variable y)) (h.frames y stays)
 
   old_named : (y b : ℕ) → opened.frame y ≡ Some b → b < block → m.frame y ≡ Some b
   old_named y b e low = by_name (x == y) e

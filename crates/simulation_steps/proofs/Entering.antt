@@ -44,6 +44,7 @@ use Rattle.simulation.specs.Renaming.{World, AlikeValue, Names, AlikeAt}
 use Rattle.simulation.specs.Settings.{Calling, Setting}
 use Rattle.simulation.specs.Agreeing.{Agree}
 use Rattle.simulation.specs.Premises.{Entered, Entering}
+use Rattle.simulation.proofs.GrownWorlds.{world_same}
 use Rattle.simulation_locations.specs.Chained.{Counterpart, chained}
 use Rattle.simulation_locations.specs.KeptVertices.{any_kept, arguments_use}
 use Rattle.simulation_locations.proofs.ChainedRules.{calls_member}
@@ -63,7 +64,6 @@ use Rattle.simulation_steps.proofs.Closing.{viewed}
 use Rattle.simulation_steps.proofs.LikeRoutines.{names_of, chosen_member, parameter_stays}
 use Rattle.simulation_steps.proofs.OpeningFrames.{ranks_apart, opening_frames}
 use Rattle.simulation_steps.proofs.Parameters.{IsPassing, ArePassed, pass_all, alike_seen, alike_inside}
-use Rattle.simulation_steps.proofs.Passing.{world_same}
 use Rattle.simulation_steps.proofs.Resuming.{viewed_blocks, alike_outside}
 
 -- the arguments with which a list calls

@@ -29,6 +29,7 @@ use Rattle.run_facts.proofs.Points.{IsSound, sound_run}
 use Rattle.run_facts.proofs.StepKinds.{IsKept, kept_run}
 use Rattle.run_facts.proofs.Statements.{bodies, parameters_are, free_in}
 use Rattle.simulation_steps.specs.OwnGlobals.{BeginsNone, globals_of, HasOwnGlobals}
+use Rattle.simulation_steps.proofs.GrownLists.{front, last, front_or_last}
 use Rattle.simulation_steps.proofs.QuietActs.{act_quiet, given_quiet}
 use Rattle.simulation_steps.proofs.WholeBlocks.{new_or_old}
 
@@ -83,12 +84,6 @@ variables gs = map (λ (g : Global). g.variable) gs
 abbrev AllNamed : List ℕ → State → Type 0
 AllNamed xs s = (b y : ℕ) → slice_get s.origins b ≡ Some (OfVariable y) → (IsIn xs y → ⊥) × (s.frame y ≡ Some b)
 
-new_last : {A : Type 0} (xs : List A) (y : A) (n : ℕ) (x : A) → slice_get (xs ++ y ∷ []) n ≡ Some x → (slice_get xs n ≡ Some x) ⊎ ((n ≡ length xs) × (y ≡ x))
-new_last [] y zero x e = inr (refl, some_same e)
-new_last [] y (suc n) x e = none_there e
-new_last (z ∷ xs) y zero x e = inl e
-new_last (z ∷ xs) y (suc n) x e = elim (new_last xs y n x e) [ inl h ↦ inl h | inr h ↦ inr (ap suc h.0, h.1) ]
-
 variable_same : (x y : ℕ) → OfVariable x ≡ OfVariable y → x ≡ y
 variable_same x y e = cc
 
@@ -101,9 +96,9 @@ module _ (p : Executable) where
 
   begun_named : (g : Global) (xs : List ℕ) (s : State) → IsTracked s → (IsIn xs g.variable → ⊥) → AllNamed (g.variable ∷ xs) s → AllNamed xs (global_begun p g s)
   begun_named g xs s tracked apart h b y e =
-      elim (new_last s.origins (OfVariable g.variable) b (OfVariable y) e) [
-        | inl old ↦ (let k = h b y old in ((λ i. k.0 (inr i)), other (g.variable == y) refl k.0 k.1))
-        | inr new ↦ (let same = variable_same g.variable y new.1 in ((λ i. apart (subst (IsIn xs) (sym same) i)), subst (λ z. bound s.frame g.variable (Some (length s.memory.blocks)) z ≡ Some b) same (bound_one g.variable b s (Some (length s.memory.blocks)) (eq-eqb g.variable g.variable refl) ∙ ap Some (sym tracked ∙ sym new.0))))
+      elim (front_or_last s.origins (OfVariable g.variable) b (OfVariable y) e) [
+        | front old ↦ (let k = h b y old in ((λ i. k.0 (inr i)), other (g.variable == y) refl k.0 k.1))
+        | last at is ↦ (let same = variable_same g.variable y is in ((λ i. apart (subst (IsIn xs) (sym same) i)), subst (λ z. bound s.frame g.variable (Some (length s.memory.blocks)) z ≡ Some b) same (bound_one g.variable b s (Some (length s.memory.blocks)) (eq-eqb g.variable g.variable refl) ∙ ap Some (sym tracked ∙ sym at))))
       ]
     where
       other : (same : Bool) → (g.variable == y) ≡ same → (IsIn (g.variable ∷ xs) y → ⊥) → s.frame y ≡ Some b → (if g.variable == y then Some (length s.memory.blocks) else s.frame y) ≡ Some b

@@ -1,3 +1,4 @@
+pub mod GrownLists
 pub mod Outcomes
 pub mod ValuesTogether
 pub mod StandingObjects

@@ -19,7 +19,7 @@ use Rattle.simulation.specs.Renaming.{World, Stands, Names, SameOrigin, of_varia
 use Rattle.simulation_steps.specs.LikeCalls.{HasLikeCalls}
 use Rattle.simulation_steps.proofs.Begun.{AreApart}
 use Rattle.simulation_steps.proofs.LikeRoutines.{names_of, renamed_member, member_renamed}
-use Rattle.simulation_steps.proofs.Passing.{within, there_at}
+use Rattle.simulation_steps.proofs.GrownLists.{within, there_at}
 
 -- ---- ranks
 

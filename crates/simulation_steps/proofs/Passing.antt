@@ -20,49 +20,6 @@ use Rattle.run_facts.proofs.Blocks.{get_more}
 use Rattle.run_facts.proofs.KeptMemories.{write_keeps, new_keeps}
 use Rattle.simulation.specs.Renaming.{World, Stands, Grows, AlikeValue, number, null, pointer, AlikeCell, empty, held as both_hold, cell_at}
 
--- ---- lists
-
-pub within : {A : Type 0} (xs : List A) (n : ℕ) (x : A) → slice_get xs n ≡ Some x → n < length xs
-within [] n x e = none_there e
-within (y ∷ xs) zero x e = omega arith
-within (y ∷ xs) (suc n) x e = let lt = within xs n x e in omega (arith, lt)
-
-pub there_at : {A : Type 0} (xs : List A) (n : ℕ) → n < length xs → (x : A) × (slice_get xs n ≡ Some x)
-there_at [] n lt = absurd (omega (arith, lt))
-there_at (y ∷ xs) zero lt = (y, refl)
-there_at (y ∷ xs) (suc n) lt = there_at xs n (omega (arith, lt))
-
--- an item is one of those before, or the new one
-pub data FrontOrLast {A : Type 0} (xs : List A) (y : A) (n : ℕ) (x : A) : Type 0 where
-  front : slice_get xs n ≡ Some x → FrontOrLast xs y n x
-  last : n ≡ length xs → y ≡ x → FrontOrLast xs y n x
-
-pub front_or_last : {A : Type 0} (xs : List A) (y : A) (n : ℕ) (x : A) → slice_get (xs ++ y ∷ []) n ≡ Some x → FrontOrLast xs y n x
-front_or_last [] y zero x e = last refl (some_same e)
-front_or_last [] y (suc n) x e = none_there e
-front_or_last (z ∷ xs) y zero x e = front e
-front_or_last (z ∷ xs) y (suc n) x e = elim (front_or_last xs y n x e) [ front h ↦ front h | last p q ↦ last (ap suc p) q ]
-
--- ---- worlds that grow
-
-pub grown_stands : (w u : World) → Grows w u → (b c : ℕ) → Stands w b c → Stands u b c
-grown_stands w u g b c e = subst (λ v. Stands v b c) (sym g.world_is) (get_more w g.more c b e)
-
-pub grown_value : (w u : World) → Grows w u → (v z : Value) → AlikeValue w v z → AlikeValue u v z
-grown_value w u g v z number = number
-grown_value w u g v z null = null
-grown_value w u g v z (pointer {b = b} {c = c} e) = pointer (grown_stands w u g b c e)
-
-pub grown_cell : (w u : World) → Grows w u → (v z : Option Value) → AlikeCell w v z → AlikeCell u v z
-grown_cell w u g v z empty = empty
-grown_cell w u g v z (both_hold {u = a} {v = b} h) = both_hold (grown_value w u g a b h)
-
-pub world_same : (w : World) → Grows w w
-world_same w = record { more = []; world_is = sym (append-nil w) }
-
-pub world_on : (w u v : World) → Grows w u → Grows u v → Grows w v
-world_on w u v g h = record { more = g.more ++ h.more; world_is = h.world_is ∙ (ap (λ z. z ++ h.more) g.world_is ∙ append_assoc w g.more h.more) }
-
 -- ---- values converted to a type
 
 -- where the first is there, so is the second, and they are alike

@@ -19,6 +19,7 @@ use Rattle.simulation.specs.Abreast.{SliceFollows}
 use Rattle.simulation.specs.Premises.{Premises}
 use Rattle.simulation.specs.Renaming.{World, Stands, Grows, Names, BothStand, neither, both}
 use Rattle.simulation.specs.Settings.{Setting}
+use Rattle.simulation.proofs.GrownWorlds.{grown_both}
 use Rattle.simulation.proofs.Law.{slice_follows}
 use Rattle.simulation_locations.specs.Chained.{Counterpart, HasSoundCalls}
 use Rattle.simulation_locations.proofs.ChainedClosing.{closing}
@@ -32,15 +33,6 @@ use Rattle.simulation_values.proofs.HoldingCalls.{calls_reached}
 use Rattle.simulation_values.proofs.Tellings.{telling}
 use Rattle.simulation_values.proofs.Together.{setting_at, GoTogether}
 use Rattle.simulation_values.proofs.SoundCalls.{sound_calls}
-
--- ---- worlds that grow
-
-stands_on : (w u : World) (b c : ℕ) → Grows w u → Stands w b c → Stands u b c
-stands_on w u b c g h = subst (λ (v : World). Stands v b c) (sym g.world_is) (get_more w g.more c b h)
-
-both_on : (names : Names) (w u : World) (o q : Option ℕ) → Grows w u → BothStand names w o q → BothStand names u o q
-both_on names w u o q g neither = neither
-both_on names w u o q g (both {b = b} {c = c} h) = both (stands_on w u b c g h)
 
 module _ (p q : Program) (a : Analysis) (edges : List Edge) (kept : List Bool) (set ranks : ℕ → Bool) (ok : IsWellFormed p) (is_analysis : IsAnalysis p a) (are : AreSystemEdges p a edges) (able : IsProjectable p (vertices_of p a) edges kept) (reach : (v : ℕ) → ReachesAny edges (criterion_of set (vertices_of p a)) v → IsTrue (has kept v)) (stand : StandFor (kept_words kept (vertices_of p a)).statement set ranks) (same : SameButLines q (projection p (vertices_of p a) kept)) where
   abbrev k : Kept ℕ
@@ -68,7 +60,7 @@ module _ (p q : Program) (a : Analysis) (edges : List Edge) (kept : List Bool) (
       wanting = wanting p a kept c holds sound;
       closing = closing p a edges kept c holds sound is_analysis are able.closed;
       staying = h.staying;
-      growing = record { frames = λ w u here there g f x stays. both_on c.names w u (here x) (there (c.names.variable x)) g (f x stays) };
+      growing = record { frames = λ w u here there g f x stays. grown_both w u g c.names (here x) (there (c.names.variable x)) (f x stays) };
       acting = h.acting;
       moving = h.moving;
       entering = h.entering;

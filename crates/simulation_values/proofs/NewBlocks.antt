@@ -15,50 +15,11 @@ use Rattle.projection.specs.Kept.{Kept}
 use Rattle.run_facts.proofs.Blocks.{get_more}
 use Rattle.run_facts.proofs.KeptMemories.{new_keeps}
 use Rattle.simulation.specs.Renaming.{World, Stands, AlikeValue, number, null, pointer, AlikeCell, empty, held as both_hold, cell_at, of_variable, StandsForOne, BlocksStand, BothStand, neither, both, FramesStand}
+use Rattle.simulation.proofs.GrownWorlds.{world_more, grown_stands, grown_cell, grown_both}
+use Rattle.simulation_steps.proofs.GrownLists.{within, there_at, FrontOrLast, front, last, front_or_last}
 use Rattle.simulation_steps.proofs.Outlines.{KeepsOutlines}
 use Rattle.simulation_steps.proofs.KeptOutlines.{blocks_on}
 use Rattle.simulation_programs.proofs.KeptFrames.{names, ranks_apart, frames_alone}
-
--- ---- lists that grow by one
-
-within : {A : Type 0} (xs : List A) (n : ℕ) (x : A) → slice_get xs n ≡ Some x → n < length xs
-within [] n x e = none_there e
-within (y ∷ xs) zero x e = omega arith
-within (y ∷ xs) (suc n) x e = let lt = within xs n x e in omega (arith, lt)
-
-there_at : {A : Type 0} (xs : List A) (n : ℕ) → n < length xs → (x : A) × (slice_get xs n ≡ Some x)
-there_at [] n lt = absurd (omega (arith, lt))
-there_at (y ∷ xs) zero lt = (y, refl)
-there_at (y ∷ xs) (suc n) lt = there_at xs n (omega (arith, lt))
-
--- an item is one of those before, or the new one
-data FrontOrLast {A : Type 0} (xs : List A) (y : A) (n : ℕ) (x : A) : Type 0 where
-  front : slice_get xs n ≡ Some x → FrontOrLast xs y n x
-  last : n ≡ length xs → y ≡ x → FrontOrLast xs y n x
-
-front_or_last : {A : Type 0} (xs : List A) (y : A) (n : ℕ) (x : A) → slice_get (xs ++ y ∷ []) n ≡ Some x → FrontOrLast xs y n x
-front_or_last [] y zero x e = last refl (some_same e)
-front_or_last [] y (suc n) x e = none_there e
-front_or_last (z ∷ xs) y zero x e = front e
-front_or_last (z ∷ xs) y (suc n) x e = elim (front_or_last xs y n x e) [ front h ↦ front h | last p q ↦ last (ap suc p) q ]
-
--- ---- worlds that grow
-
-stands_more : (w : World) (b c d : ℕ) → Stands w b c → Stands (w ++ d ∷ []) b c
-stands_more w b c d e = get_more w (d ∷ []) c b e
-
-value_more : (w : World) (d : ℕ) (u v : Value) → AlikeValue w u v → AlikeValue (w ++ d ∷ []) u v
-value_more w d u v number = number
-value_more w d u v null = null
-value_more w d u v (pointer {b = b} {c = c} e) = pointer (stands_more w b c d e)
-
-cell_more : (w : World) (d : ℕ) (u v : Option Value) → AlikeCell w u v → AlikeCell (w ++ d ∷ []) u v
-cell_more w d u v empty = empty
-cell_more w d u v (both_hold {u = a} {v = b} h) = both_hold (value_more w d a b h)
-
-both_more : (k : Kept ℕ) (w : World) (d : ℕ) (o q : Option ℕ) → BothStand (names k) w o q → BothStand (names k) (w ++ d ∷ []) o q
-both_more k w d o q neither = neither
-both_more k w d o q (both {b = b} {c = c} e) = both (stands_more w b c d e)
 
 -- ---- states with one more block
 
@@ -164,7 +125,7 @@ module _ (k : Kept ℕ) where
       old_alike b c path e is =
           let same = new_keeps block m.memory (cell_at b path) (low b c e) in
           let same_there = new_keeps block n.memory (cell_at c path) (low_there b c e) in
-          let before_ = cell_more w here (read m.memory (cell_at b path)) (read n.memory (cell_at c path)) (h.cells b c path e (sym (ap is_some same) ∙ is)) in
+          let before_ = grown_cell w (w ++ here ∷ []) (world_more w here) (read m.memory (cell_at b path)) (read n.memory (cell_at c path)) (h.cells b c path e (sym (ap is_some same) ∙ is)) in
           subst (λ z. AlikeCell u z (read n_both.memory (cell_at c path))) (sym (ap (option_and_then held) same)) (subst (λ z. AlikeCell u (read m.memory (cell_at b path)) z) (sym (ap (option_and_then held) same_there)) before_)
 
       cells_by : (b c : ℕ) (path : List Hop) → FrontOrLast w here c b → is_cell m_both.memory (cell_at b path) ≡ true → AlikeCell u (read m_both.memory (cell_at b path)) (read n_both.memory (cell_at c path))
@@ -179,7 +140,7 @@ module _ (k : Kept ℕ) where
       old_one : (c : ℕ) (b : Block) → StandsForOne (names k) w m n c b → StandsForOne (names k) u m_both n_both c b
       old_one c b o = record {
         number = o.number;
-        stands = stands_more w o.number c here o.stands;
+        stands = grown_stands w (w ++ here ∷ []) (world_more w here) o.number c o.stands;
         block = o.block;
         block_is = get_more m.memory.blocks (block ∷ []) o.number o.block o.block_is;
         shape_is = o.shape_is;
@@ -235,7 +196,7 @@ module _ (k : Kept ℕ) where
           by_name true e true j = both new_stands
           by_name true e false j = false_true (sym j ∙ eq-eqb (rank k.variable x) (rank k.variable y) (ap (rank k.variable) (eqb-true x y e)))
           by_name false e true j = false_true (sym e ∙ eq-eqb x y (ranks_apart k.variable x y stays kept (eqb-true (rank k.variable x) (rank k.variable y) j)))
-          by_name false e false j = both_more k w here (m.frame y) (n.frame (rank k.variable y)) (h.frames y kept)
+          by_name false e false j = grown_both w (w ++ here ∷ []) (world_more w here) (names k) (m.frame y) (n.frame (rank k.variable y)) (h.frames y kept)
 
       pub begun_both : Begun u m_both n_both
       begun_both = record {
