@@ -1,5 +1,5 @@
 -- What holds at a world holds at a world that has grown from it.
-use Rattle.std.proofs.Common.{ℕ, List, [], ◌∷◌, ◌++◌, append_assoc, append-nil, Option, refl, sym, ap, ◌∙◌, subst}
+use Rattle.std.proofs.Common.{ℕ, [], ◌∷◌, ◌++◌, append_assoc, append-nil, Option, refl, sym, ap, ◌∙◌, subst}
 use Rattle.c_meaning.specs.declared.value.Value.{Value}
 use Rattle.run_facts.proofs.Blocks.{get_more}
 use Rattle.simulation.specs.Renaming.{World, Stands, Grows, AlikeValue, number, null, pointer, AlikeCell, empty, held, Names, BothStand, neither, both}

@@ -1,11 +1,9 @@
 -- What is wanted by the rules is wanted by them, callers that wait want nothing that is modified, and worlds grow.
-use Rattle.std.proofs.Common.{◌≡◌, ℕ, Option, Bool, false, sym, subst}
+use Rattle.std.proofs.Common.{◌≡◌, ℕ, Bool, false}
 use Rattle.dep_model.specs.declared.location.Location.{Location}
-use Rattle.run_facts.proofs.Blocks.{get_more}
 use Rattle.simulation.specs.Abreast.{SliceFollows}
 use Rattle.simulation.specs.Places.{Position, At, Behind, Storing}
 use Rattle.simulation.specs.Premises.{Wanting, Growing}
-use Rattle.simulation.specs.Renaming.{World, Stands, Grows, BothStand, neither, both}
 use Rattle.simulation.specs.Slicings.{Slicing, Wanted, used, before_act, before_move, argument_used, passed_in, before_call, before_outs, result_used, before_store, without_store, passed_out, by_rules, Sliced}
 use Rattle.simulation.proofs.GrownWorlds.{grown_both}
 use Rattle.simulation.proofs.Law.{slice_follows}

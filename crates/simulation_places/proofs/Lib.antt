@@ -1,3 +1,4 @@
+pub mod Ranks
 pub mod Projecting
 pub mod RunRests
 pub mod Places

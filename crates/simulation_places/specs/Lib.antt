@@ -1,3 +1,4 @@
 pub mod ProjectedCode
 pub mod Counterparts
+pub mod LikeParts
 pub mod Laws

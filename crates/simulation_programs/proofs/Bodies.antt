@@ -25,7 +25,8 @@ use Rattle.own_words.proofs.Forms.{all_left}
 use Rattle.own_words.proofs.Lists.{Among, among_contains}
 use Rattle.own_words.proofs.Lists.Among.{first, next}
 use Rattle.simulation_places.specs.ProjectedCode.{renamed_all, project_code, IsNested}
-use Rattle.simulation_programs.specs.LikeParts.{projected_routine}
+use Rattle.simulation_places.specs.LikeParts.{projected_routine}
+use Rattle.simulation_places.specs.Counterparts.{ranks_of}
 use Rattle.simulation_programs.proofs.Layers.{MetAll, all_fit}
 
 any_refers : (w : KeptWords) (xs : List Statement) (v : ℕ) → any_of (map (refers w) xs) v ≡ body_refers w xs v
@@ -66,33 +67,33 @@ module _ (p : Program) (k : Kept ℕ) (clear : IsClear k.statement k.variable p)
 
   -- the code of a body, and what its outermost block declares
   pub record BodyProjects (xs : List Statement) : Type 0 where
-    pub code_is : code (all_left p k xs) ≡ project_code k (code xs)
-    pub nested : IsNested k (code xs)
-    pub locals_are : declared_in (map part (all_left p k xs)) ≡ renamed_all k (declared_in (map part xs))
+    pub code_is : code (all_left p k xs) ≡ project_code k (ranks_of k) (code xs)
+    pub nested : IsNested k (ranks_of k) (code xs)
+    pub locals_are : declared_in (map part (all_left p k xs)) ≡ renamed_all k (ranks_of k) (declared_in (map part xs))
 
   body_projects : (c : Function) → Among p.functions c → BodyProjects c.body
   body_projects c m =
       let made = all_fit p k c.body (body_met c m) in
       let same = list_of-code c.body in
       record {
-        code_is = sym (list_of-code (all_left p k c.body)) ∙ (made.before End ∙ ap (project_code k) same);
-        nested = subst (IsNested k) same (made.nested End tt);
+        code_is = sym (list_of-code (all_left p k c.body)) ∙ (made.before End ∙ ap (project_code k (ranks_of k)) same);
+        nested = subst (IsNested k (ranks_of k)) same (made.nested End tt);
         locals_are = made.declares;
       }
 
   -- what is left of a function, in the form that runs need
-  routine_projects : (f : ℕ) (c : Function) → Among p.functions c → routine_of (projected_function k (rank k.function) f c) ≡ projected_routine k f (routine_of c)
+  routine_projects : (f : ℕ) (c : Function) → Among p.functions c → routine_of (projected_function k (rank k.function) f c) ≡ projected_routine k (ranks_of k) f (routine_of c)
   routine_projects f c m =
       let body = body_projects c m in
       ap (λ (xs : List ℕ). record (routine_of (projected_function k (rank k.function) f c)) { locals = xs }) body.locals_are
-      ∙ ap (λ (r : Option ExprType). record (routine_of (projected_function k (rank k.function) f c)) { locals = renamed_all k (declared_in (map part c.body)); result = r }) (given_or_none (k.gives f) c.result)
-      ∙ ap (λ (d : Code). record (projected_routine k f (routine_of c)) { code = d }) body.code_is
+      ∙ ap (λ (r : Option ExprType). record (routine_of (projected_function k (rank k.function) f c)) { locals = renamed_all k (ranks_of k) (declared_in (map part c.body)); result = r }) (given_or_none (k.gives f) c.result)
+      ∙ ap (λ (d : Code). record (projected_routine k (ranks_of k) f (routine_of c)) { code = d }) body.code_is
 
   -- of any function number
-  pub routine_at : (f : ℕ) (o : Option Function) → slice_get p.functions f ≡ o → option_map routine_of (option_map (projected_function k (rank k.function) f) o) ≡ option_map (projected_routine k f) (option_map routine_of o)
+  pub routine_at : (f : ℕ) (o : Option Function) → slice_get p.functions f ≡ o → option_map routine_of (option_map (projected_function k (rank k.function) f) o) ≡ option_map (projected_routine k (ranks_of k) f) (option_map routine_of o)
   routine_at f None at = refl
   routine_at f (Some c) at = ap Some (routine_projects f c (function_among p.functions f c at))
 
-  pub nested_at : (f : ℕ) (o : Option Function) → slice_get p.functions f ≡ o → IsNested k (option_map_or (λ (r : Routine). r.code) (option_map routine_of o) End)
+  pub nested_at : (f : ℕ) (o : Option Function) → slice_get p.functions f ≡ o → IsNested k (ranks_of k) (option_map_or (λ (r : Routine). r.code) (option_map routine_of o) End)
   nested_at f None at = tt
   nested_at f (Some c) at = (body_projects c (function_among p.functions f c at)).nested

@@ -24,6 +24,7 @@ use Rattle.own_words.proofs.Words.{numbers}
 use Rattle.simulation.specs.Places.{kept_target}
 use Rattle.simulation_places.specs.ProjectedCode.{renamed_act, renamed_all, project_code, IsNested}
 use Rattle.simulation_places.proofs.Projecting.{project_then}
+use Rattle.simulation_places.specs.Counterparts.{ranks_of}
 use Rattle.simulation_programs.proofs.Sequences.{in_turn-append, declared-append, renamed_all-append, project_leave, nested_then, nested_leave}
 use Rattle.simulation_programs.proofs.StatementParts.{gathered, part_form, for_form, part_list-map, alone_is, alone_declares, one_turn, one_declares, begun_turn, begun_declares, split_turn, split_declares}
 
@@ -35,23 +36,23 @@ module _ (p : Program) (k : Kept ℕ) where
   vars = k.variable
 
   abbrev project : Code → Code
-  project = project_code k
+  project = project_code k (ranks_of k)
 
   -- these statements make the projection of what a statement does, or a list
   pub record Makes (q : StatementPart) (xs : List Statement) : Type 0 where
-    pub declares : declared_in (map part xs) ≡ renamed_all k q.declares
+    pub declares : declared_in (map part xs) ≡ renamed_all k (ranks_of k) q.declares
     pub before : (r : Code) → in_turn (map part xs) (project r) ≡ project (q.before r)
-    pub nested : (r : Code) → IsNested k r → IsNested k (q.before r)
+    pub nested : (r : Code) → IsNested k (ranks_of k) r → IsNested k (ranks_of k) (q.before r)
 
   -- a code's projection is another
   pub record Turns (c d : Code) : Type 0 where
     pub same : project c ≡ d
-    pub nested : IsNested k c
+    pub nested : IsNested k (ranks_of k) c
 
   -- what a statement puts before a list
   pub record Puts (id : ℕ) (f g : Code → Code) : Type 0 where
     pub same : (r : Code) → project (f r) ≡ either (keeps id) (g (project r)) (project r)
-    pub nested : (r : Code) → IsNested k r → IsNested k (f r)
+    pub nested : (r : Code) → IsNested k (ranks_of k) r → IsNested k (ranks_of k) (f r)
 
   -- ---- lists
 
@@ -76,7 +77,7 @@ module _ (p : Program) (k : Kept ℕ) where
 
   pub turns_then : (a b c d : Code) → Turns a c → Turns b d → Turns (a ⨟ b) (c ⨟ d)
   turns_then a b c d h g = record {
-    same = project_then k a b ∙ ap₂ (λ x y. x ⨟ y) h.same g.same;
+    same = project_then k (ranks_of k) a b ∙ ap₂ (λ x y. x ⨟ y) h.same g.same;
     nested = nested_then k a b h.nested g.nested;
   }
 
@@ -93,7 +94,7 @@ module _ (p : Program) (k : Kept ℕ) where
   bare_form l y = part_form (s.Declare None l y init.None) (Statement-F.Declare None l y init.None) (s.rolls-Declare None l y init.None)
 
   pub makes_begun : (b : Bool) (l y : ℕ) (x : Statement) (f g : Code → Code) → part x ≡ declaring (rank vars y) (λ r. Opens (rank vars y) (g r)) → (b ≡ true → vars y ≡ true)
-      → ((r : Code) → project (f r) ≡ either b (g (project r)) (project r)) → ((r : Code) → IsNested k r → IsNested k (f r))
+      → ((r : Code) → project (f r) ≡ either b (g (project r)) (project r)) → ((r : Code) → IsNested k (ranks_of k) r → IsNested k (ranks_of k) (f r))
       → Makes (declaring y (λ r. Opens y (f r))) (if_so b (x ∷ []) (bare k (numbers p k) l y))
   makes_begun b l y x f g is stay same nested = record {
     declares = begun_declares b (vars y) x (s.Declare None l (rank vars y) init.None) (rank vars y) (λ r. Opens (rank vars y) (g r)) is (bare_form l (rank vars y)) stay;
@@ -156,7 +157,7 @@ module _ (p : Program) (k : Kept ℕ) where
   puts_do id e c d h ends =
       let turn = puts_loop id e c d h ends in
       record {
-        same = λ r. project_then k c (Loop id e c r) ∙ ap₂ (λ x y. x ⨟ y) h.same (turn.same r) ∙ chosen_then (keeps id) d (Loop (rank keeps id) (renamed (rank vars) e) d (project r)) (project r) ends;
+        same = λ r. project_then k (ranks_of k) c (Loop id e c r) ∙ ap₂ (λ x y. x ⨟ y) h.same (turn.same r) ∙ chosen_then (keeps id) d (Loop (rank keeps id) (renamed (rank vars) e) d (project r)) (project r) ends;
         nested = λ r n. nested_then k c (Loop id e c r) h.nested (turn.nested r n);
       }
 
@@ -184,7 +185,7 @@ module _ (p : Program) (k : Kept ℕ) where
         before = λ r. for_turn (keeps id) l (s.For (rank keeps id) l i (renamed (rank vars) e) step b) i (Loop (rank keeps id) (renamed (rank vars) e) d) (project r) form
             ∙ ap₂ (λ x y. x ⨟ either (keeps id) (Loop (rank keeps id) (renamed (rank vars) e) d y) y) (ap list_of (sym lists) ∙ sym begins.same) (ap (λ ps. leave (declared_in ps) (project r)) (sym lists) ∙ ap (λ ns. leave ns (project r)) first.declares ∙ sym (project_leave k (declared_in ss) r))
             ∙ ap (λ y. project (list_of ss) ⨟ y) (sym (turn.same (leave (declared_in ss) r)))
-            ∙ sym (project_then k (list_of ss) (Loop id e c (leave (declared_in ss) r)));
+            ∙ sym (project_then k (ranks_of k) (list_of ss) (Loop id e c (leave (declared_in ss) r)));
         nested = λ r n. nested_then k (list_of ss) (Loop id e c (leave (declared_in ss) r)) begins.nested (turn.nested (leave (declared_in ss) r) (nested_leave k (declared_in ss) r n));
       }
 
@@ -203,6 +204,6 @@ module _ (p : Program) (k : Kept ℕ) where
       let inside = turns_block ss xs h in
       record {
         declares = block_declares l xs;
-        before = λ r. block_turn l xs (project r) ∙ ap (λ c. c ⨟ project r) (sym inside.same) ∙ sym (project_then k (block ss) r);
+        before = λ r. block_turn l xs (project r) ∙ ap (λ c. c ⨟ project r) (sym inside.same) ∙ sym (project_then k (ranks_of k) (block ss) r);
         nested = λ r n. nested_then k (block ss) r inside.nested n;
       }

@@ -9,4 +9,3 @@ pub mod Bodies
 pub mod KeptParts
 pub mod Lines
 pub mod LikePrograms
-pub mod KeptFrames

@@ -33,9 +33,9 @@ use Rattle.hanging_sets.specs.Hanging.{HangsTogether}
 use Rattle.kept_texts.proofs.HangingWords.{words_hang}
 use Rattle.kept_texts.proofs.WellFormedClear.{hanging_clear}
 use Rattle.kept_texts.proofs.WellFormedProjections.{projectable_hangs}
-use Rattle.simulation_places.specs.Counterparts.{AreProjected}
+use Rattle.simulation_places.specs.Counterparts.{AreProjected, ranks_of}
 use Rattle.simulation_places.specs.ProjectedCode.{project_code, IsNested}
-use Rattle.simulation_programs.specs.LikeParts.{projected_routine, projected_globals, HasLikeParts}
+use Rattle.simulation_places.specs.LikeParts.{projected_routine, projected_globals, HasLikeParts}
 use Rattle.simulation_programs.proofs.Bodies.{routine_at, nested_at}
 use Rattle.simulation_programs.proofs.Functions.{function_at, main_there}
 use Rattle.simulation_programs.proofs.KeptParts.{act_as_vertex, call_as_vertex, result_as_vertex}
@@ -52,12 +52,12 @@ module _ (k : Kept ℕ) where
   begun_global true x i ys gs e = ap (λ (hs : List Global). record { variable = x; init = i } ∷ hs) e
   begun_global false x i ys gs e = e
 
-  globals_project : (xs : List Item) → globals_in (projected_items k xs) ≡ projected_globals k (globals_in xs)
+  globals_project : (xs : List Item) → globals_in (projected_items k xs) ≡ projected_globals k (ranks_of k) (globals_in xs)
   globals_project [] = refl
   globals_project (item.Include is_stdlib ∷ xs) = globals_project xs
   globals_project (item.Tag d ∷ xs) = globals_project xs
   globals_project (item.Struct d ∷ xs) = globals_project xs
-  globals_project (item.Global x i ∷ xs) = begun_global (k.variable x) (rank k.variable x) (renamed_init (rank k.variable) i) (projected_items k xs) (projected_globals k (globals_in xs)) (globals_project xs)
+  globals_project (item.Global x i ∷ xs) = begun_global (k.variable x) (rank k.variable x) (renamed_init (rank k.variable) i) (projected_items k xs) (projected_globals k (ranks_of k) (globals_in xs)) (globals_project xs)
   globals_project (item.Prototype f names is_static ∷ xs) = one_global (k.function f) (item.Prototype (rank k.function f) _ is_static) xs (projected_items k xs) refl refl ∙ globals_project xs
   globals_project (item.Define f ∷ xs) = one_global (k.function f) (item.Define (rank k.function f)) xs (projected_items k xs) refl refl ∙ globals_project xs
 
@@ -78,14 +78,14 @@ module _ (p : Program) (k : Kept ℕ) where
   -- ---- functions
 
   module _ (ok : IsWellFormed p) (h : HangsTogether p k) where
-    routine_projects : (f : ℕ) → k.function f ≡ true → slice_get (executable there).functions (rank k.function f) ≡ option_map (projected_routine k f) (slice_get (executable p).functions f)
+    routine_projects : (f : ℕ) → k.function f ≡ true → slice_get (executable there).functions (rank k.function f) ≡ option_map (projected_routine k (ranks_of k) f) (slice_get (executable p).functions f)
     routine_projects f kept =
         slice_get-map routine_of there.functions (rank k.function f)
         ∙ ap (option_map routine_of) (function_at k p.functions f kept)
         ∙ routine_at p k (hanging_clear p k ok h) (words_hang p k h ok) f (slice_get p.functions f) refl
-        ∙ ap (option_map (projected_routine k f)) (sym (slice_get-map routine_of p.functions f))
+        ∙ ap (option_map (projected_routine k (ranks_of k) f)) (sym (slice_get-map routine_of p.functions f))
 
-    pub parts_there : HasLikeParts p there k
+    pub parts_there : HasLikeParts p there k (ranks_of k)
     parts_there = record {
       structs_are = refl;
       members_are = refl;
@@ -95,7 +95,7 @@ module _ (p : Program) (k : Kept ℕ) where
     }
 
     -- of a projection but for lines
-    pub like_parts : (q : Program) → SameButLines q there → HasLikeParts p q k
+    pub like_parts : (q : Program) → SameButLines q there → HasLikeParts p q k (ranks_of k)
     like_parts q same =
         let is : executable q ≡ executable there = same_executable q there same in
         let parts = parts_there in
@@ -107,17 +107,17 @@ module _ (p : Program) (k : Kept ℕ) where
           routines_are = λ f kept. ap (λ (e : Executable). slice_get e.functions (rank k.function f)) is ∙ parts.routines_are f kept;
         }
 
-    body_projects : (f : ℕ) → k.function f ≡ true → code_at (executable there) (rank k.function f) ≡ project_code k (code_at (executable p) f)
+    body_projects : (f : ℕ) → k.function f ≡ true → code_at (executable there) (rank k.function f) ≡ project_code k (ranks_of k) (code_at (executable p) f)
     body_projects f kept =
         ap (λ (o : Option Routine). option_map_or (λ (r : Routine). r.code) o End) (routine_projects f kept) ∙ of_routine (slice_get (executable p).functions f)
       where
-        of_routine : (o : Option Routine) → option_map_or (λ (r : Routine). r.code) (option_map (projected_routine k f) o) End ≡ project_code k (option_map_or (λ (r : Routine). r.code) o End)
+        of_routine : (o : Option Routine) → option_map_or (λ (r : Routine). r.code) (option_map (projected_routine k (ranks_of k) f) o) End ≡ project_code k (ranks_of k) (option_map_or (λ (r : Routine). r.code) o End)
         of_routine None = refl
         of_routine (Some r) = refl
 
-    body_nested : (f : ℕ) → IsNested k (code_at (executable p) f)
+    body_nested : (f : ℕ) → IsNested k (ranks_of k) (code_at (executable p) f)
     body_nested f =
-        subst (λ (o : Option Routine). IsNested k (option_map_or (λ (r : Routine). r.code) o End)) (sym (slice_get-map routine_of p.functions f))
+        subst (λ (o : Option Routine). IsNested k (ranks_of k) (option_map_or (λ (r : Routine). r.code) o End)) (sym (slice_get-map routine_of p.functions f))
         (nested_at p k (hanging_clear p k ok h) (words_hang p k h ok) f (slice_get p.functions f) refl)
 
     -- ---- main
@@ -146,7 +146,7 @@ module _ (p q : Program) (a : Analysis) (edges : List Edge) (set : List Bool) (o
   abbrev k : Kept ℕ
   k = kept_of set (vertices_of p a) p
 
-  pub projected : AreProjected p q a k set
+  pub projected : AreProjected p q a k (ranks_of k) set
   projected =
       let hangs = projectable_hangs p a edges set ok are able in
       let apart = numbered_apart (program_doings p) p.statements (statements_numbered p ok) in

@@ -6,6 +6,7 @@ use Rattle.kept_numbers.specs.Ranks.{rank}
 use Rattle.projection.specs.Kept.{Kept}
 use Rattle.projection.specs.Projection.{if_so}
 use Rattle.simulation_places.specs.ProjectedCode.{renamed_all, project_code, IsNested}
+use Rattle.simulation_places.specs.Counterparts.{ranks_of}
 
 pub then_then : (a b c : Code) → (a ⨟ b) ⨟ c ≡ a ⨟ (b ⨟ c)
 then_then End b c = refl
@@ -31,20 +32,20 @@ declared-append (x ∷ xs) ys =
     ap (λ zs. (part x).declares ++ zs) (declared-append xs ys) ∙ sym (append_assoc (part x).declares (declared_in (map part xs)) (declared_in (map part ys)))
 
 module _ (k : Kept ℕ) where
-  pub renamed_all-append : (xs ys : List ℕ) → renamed_all k (xs ++ ys) ≡ renamed_all k xs ++ renamed_all k ys
+  pub renamed_all-append : (xs ys : List ℕ) → renamed_all k (ranks_of k) (xs ++ ys) ≡ renamed_all k (ranks_of k) xs ++ renamed_all k (ranks_of k) ys
   renamed_all-append [] ys = refl
   renamed_all-append (x ∷ xs) ys =
-      ap (λ zs. if_so (k.variable x) (rank k.variable x ∷ zs) zs) (renamed_all-append xs ys) ∙ by_test (k.variable x) (rank k.variable x) (renamed_all k xs) (renamed_all k ys)
+      ap (λ zs. if_so (k.variable x) (rank k.variable x ∷ zs) zs) (renamed_all-append xs ys) ∙ by_test (k.variable x) (rank k.variable x) (renamed_all k (ranks_of k) xs) (renamed_all k (ranks_of k) ys)
     where
       by_test : (b : Bool) (n : ℕ) (ms ns : List ℕ) → if_so b (n ∷ (ms ++ ns)) (ms ++ ns) ≡ if_so b (n ∷ ms) ms ++ ns
       by_test true n ms ns = refl
       by_test false n ms ns = refl
 
-  pub project_leave : (xs : List ℕ) (r : Code) → project_code k (leave xs r) ≡ leave (renamed_all k xs) (project_code k r)
+  pub project_leave : (xs : List ℕ) (r : Code) → project_code k (ranks_of k) (leave xs r) ≡ leave (renamed_all k (ranks_of k) xs) (project_code k (ranks_of k) r)
   project_leave [] r = refl
   project_leave (x ∷ xs) r = refl
 
-  pub nested_then : (a b : Code) → IsNested k a → IsNested k b → IsNested k (a ⨟ b)
+  pub nested_then : (a b : Code) → IsNested k (ranks_of k) a → IsNested k (ranks_of k) b → IsNested k (ranks_of k) (a ⨟ b)
   nested_then End b h n = n
   nested_then (Opens x r) b h n = nested_then r b h n
   nested_then (Plain i a r) b h n = nested_then r b h n
@@ -53,6 +54,6 @@ module _ (k : Kept ℕ) where
   nested_then (Leaves xs r) b h n = nested_then r b h n
   nested_then (Call i to f args r) b h n = nested_then r b h n
 
-  pub nested_leave : (xs : List ℕ) (r : Code) → IsNested k r → IsNested k (leave xs r)
+  pub nested_leave : (xs : List ℕ) (r : Code) → IsNested k (ranks_of k) r → IsNested k (ranks_of k) (leave xs r)
   nested_leave [] r h = h
   nested_leave (x ∷ xs) r h = h

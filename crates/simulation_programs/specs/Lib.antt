@@ -1,2 +1,1 @@
-pub mod LikeParts
 pub mod Laws

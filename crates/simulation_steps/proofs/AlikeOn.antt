@@ -1,13 +1,12 @@
 -- What is alike at a location goes on so where a program alone changes nothing of it: where blocks begin or go, where a call begins, and
 -- where its callee's blocks are gone.
-use Rattle.std.proofs.Common.{◌≡◌, ℕ, zero, suc, ◌<◌, ◌==◌, List, [], ◌∷◌, ◌++◌, length, Option, Some, None, Bool, true, false, if◌then◌else◌, ◌⊎◌, inl, inr, refl, sym, ap, ◌∙◌, subst, arith}
+use Rattle.std.proofs.Common.{◌≡◌, ℕ, ◌<◌, ◌==◌, List, [], ◌∷◌, length, Some, None, Bool, true, false, if◌then◌else◌, inl, inr, refl, sym, ap, ◌∙◌, subst, arith}
 use Rattle.std.specs.Prelude.{option_map, option_and_then, is_some, slice_get}
 use Rattle.c_language.proofs.Options.{none_there, some_same}
 use Rattle.c_tree.specs.declared.expr.Expr.{Expr}
-use Rattle.c_meaning.specs.declared.value.Hop.{Hop}
 use Rattle.c_meaning.specs.declared.value.Place.{Place}
-use Rattle.c_meaning.specs.Memory.{Block, Memory, held, cell, is_cell, read, unwritten, Entered}
-use Rattle.c_meaning.specs.Values.{Types, Origin, OfVariable, State, leave_block, variable_opened, variable_closed, all_closed, bound}
+use Rattle.c_meaning.specs.Memory.{Block, held, cell, is_cell, read, unwritten, Entered}
+use Rattle.c_meaning.specs.Values.{Types, Origin, State, variable_opened, variable_closed, all_closed}
 use Rattle.c_meaning.specs.Activations.{Executable, variables_at, called, resumed}
 use Rattle.c_meaning.specs.Steps.{Waiting}
 use Rattle.dep_model.specs.declared.location.Location.{Location}

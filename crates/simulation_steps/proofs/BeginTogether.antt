@@ -1,10 +1,9 @@
 -- A variable that stays begins in a program and in its slice: its block there stands for its block here, and both are empty.
-use Rattle.std.proofs.Common.{◌≡◌, ℕ, zero, suc, ◌<◌, ◌≤◌, ◌==◌, List, [], ◌∷◌, ◌++◌, length, map, Option, Some, None, Bool, true, false, if◌then◌else◌, ◌⊎◌, inl, inr, refl, sym, ap, ◌∙◌, subst, arith, eqb-true, eq-eqb}
+use Rattle.std.proofs.Common.{◌≡◌, ℕ, zero, suc, ◌<◌, ◌==◌, List, [], ◌∷◌, ◌++◌, length, map, Option, Some, None, Bool, true, false, if◌then◌else◌, inl, inr, refl, sym, ap, ◌∙◌, subst, arith, eqb-true, eq-eqb}
 use Rattle.std.specs.Prelude.{option_map, option_and_then, is_some, slice_get}
-use Rattle.std.proofs.lemmas.Bool.{cases_lt}
 use Rattle.std.proofs.lemmas.List.{length-append}
-use Rattle.c_language.proofs.Options.{none_there, some_same}
-use Rattle.c_language.proofs.Tests.{by_answer, false_true}
+use Rattle.c_language.proofs.Options.{some_same}
+use Rattle.c_language.proofs.Tests.{false_true}
 use Rattle.c_language.specs.declared.expr_type.ExprType.{ExprType}
 use Rattle.c_meaning.specs.declared.value.Hop.{Hop}
 use Rattle.c_meaning.specs.declared.value.Value.{Value}
@@ -12,17 +11,16 @@ use Rattle.c_meaning.specs.Cells.{Structs, cells, cell_number}
 use Rattle.c_meaning.specs.Memory.{Block, Memory, held, cell_in, cell, is_cell, read, unwritten, Entered, enter}
 use Rattle.c_meaning.specs.Values.{Types, Origin, OfVariable, State, variable_opened}
 use Rattle.c_meaning.specs.Steps.{Waiting}
-use Rattle.c_meaning.proofs.Frames.{get_front, get_last}
+use Rattle.c_meaning.proofs.Frames.{get_last}
 use Rattle.dep_model.specs.declared.location.Location.{Location}
-use Rattle.dep_model.specs.declared.location.Root.TheVariants.{Variable}
 use Rattle.run_facts.specs.CellLocations.{location_in, location_of}
 use Rattle.run_facts.proofs.Blocks.{get_more}
 use Rattle.run_facts.proofs.KeptMemories.{new_keeps}
-use Rattle.simulation.specs.Renaming.{World, Stands, Grows, AlikeValue, number, null, pointer, AlikeCell, empty, held as both_hold, cell_at, Names, of_variable, StandsForOne, BlocksStand, BothStand, neither, both, FramesStand, Counts, AlikeAt}
+use Rattle.simulation.specs.Renaming.{World, Stands, AlikeCell, empty, cell_at, Names, of_variable, StandsForOne, BlocksStand, BothStand, both, FramesStand, Counts, AlikeAt}
 use Rattle.simulation.specs.Settings.{seen}
 use Rattle.simulation.proofs.GrownWorlds.{world_more, grown_stands, grown_cell, grown_both}
 use Rattle.simulation_steps.proofs.GrownLists.{within, there_at, FrontOrLast, front, last, front_or_last}
-use Rattle.simulation_steps.proofs.Begun.{AreApart, IsTracked, BothAt, BothBegun, VariablesBeginTogether}
+use Rattle.simulation_steps.proofs.Begun.{IsTracked, BothAt, BothBegun, VariablesBeginTogether}
 
 -- ---- a block in which nothing is written holds nothing
 

@@ -1,14 +1,11 @@
 -- A variable begins in a program and in its slice.
-use Rattle.std.specs.Prelude.{◌≡◌, ℕ, List, [], ◌∷◌, ◌++◌, length, Bool, true}
+use Rattle.std.specs.Prelude.{◌≡◌, ℕ, [], ◌∷◌, ◌++◌, length, Bool, true}
 use Rattle.c_meaning.specs.Values.{Types, State, variable_opened}
 use Rattle.c_meaning.specs.Steps.{Waiting}
 use Rattle.dep_model.specs.declared.location.Location.{Location}
 use Rattle.simulation.specs.Renaming.{World, Grows, Names, BlocksStand, FramesStand, AlikeAt}
 use Rattle.simulation.specs.Settings.{seen}
-
--- variables that stay have names of their own in the slice
-abbrev pub AreApart : Names → Type 0
-AreApart names = (x y : ℕ) → names.stays x ≡ true → names.stays y ≡ true → names.variable x ≡ names.variable y → x ≡ y
+use Rattle.simulation_places.specs.Counterparts.{AreApart}
 
 -- there are as many origins as blocks
 abbrev pub IsTracked : State → Type 0

@@ -1,13 +1,11 @@
 -- A kept call and its callee begin together; so far without pointers, arrays and structs.
-use Rattle.std.proofs.Common.{◌≡◌, ℕ, ◌+◌, List, [], map, Option, Some, None, Bool, true, false, ◌&&◌, inl, refl, sym, ap, ◌∙◌, subst, arith}
+use Rattle.std.proofs.Common.{◌≡◌, ℕ, ◌+◌, List, [], map, Option, Some, None, true, false, ◌&&◌, inl, refl, sym, ap, ◌∙◌, subst, arith}
 use Rattle.std.specs.Prelude.{All, Contains, option_and_then, slice_get}
-use Rattle.std.specs.List.{range_with_len}
 use Rattle.std.specs.Option.{option_map_or}
 use Rattle.std.proofs.lemmas.Bool.{and_parts, or_left, or_right}
 use Rattle.c_language.proofs.Options.{none_there, some_same, then_there}
 use Rattle.c_language.proofs.Tests.{false_true}
 use Rattle.c_language.specs.Names.{any_names, target_names}
-use Rattle.c_language.specs.Programs.{IsWellFormed}
 use Rattle.c_tree.specs.declared.expr.Expr.{Expr}
 use Rattle.c_tree.specs.declared.program.Program.{Program}
 use Rattle.c_tree.specs.declared.statement.Target.{Target}
@@ -23,13 +21,11 @@ use Rattle.dep_model.specs.declared.location.Root.{Root}
 use Rattle.dep_model.specs.declared.location.Root.TheVariants.{Variable}
 use Rattle.dep_model.specs.Denoted.{expr_reads}
 use Rattle.dep_model.specs.Doings as doing
-use Rattle.dep_model.specs.Doings.{Doing, doing_number, program_doings, doings_of}
+use Rattle.dep_model.specs.Doings.{Doing, doings_of}
 use Rattle.dep_model.specs.DoingEffects.{is_global, is_taken}
 use Rattle.dep_model.specs.ModRef.{is_outside_root, is_outside}
 use Rattle.dep_model.specs.PointerFree.{is_name_target, IsPointerFree}
-use Rattle.dep_model.specs.SystemGraph.{Analysis}
 use Rattle.dep_model.proofs.Membership.{IsIn, contains_of_in}
-use Rattle.kept_numbers.specs.Ranks.{rank}
 use Rattle.projection.specs.Kept.{Kept, chosen}
 use Rattle.projection.specs.Renumbering.{renamed}
 use Rattle.run_facts.specs.ReadCells.{all_read}
@@ -45,14 +41,12 @@ use Rattle.simulation.specs.Settings.{Calling, Setting}
 use Rattle.simulation.specs.Agreeing.{Agree}
 use Rattle.simulation.specs.Premises.{Entered, Entering}
 use Rattle.simulation.proofs.GrownWorlds.{world_same}
-use Rattle.simulation_locations.specs.Chained.{Counterpart, chained}
 use Rattle.simulation_locations.specs.KeptVertices.{any_kept, arguments_use}
 use Rattle.simulation_locations.proofs.ChainedRules.{calls_member}
-use Rattle.simulation_places.specs.Counterparts.{counterpart_of, AreProjected}
+use Rattle.simulation_places.specs.Counterparts.{names_of}
 use Rattle.simulation_places.proofs.Projecting.{projects_as}
-use Rattle.simulation_steps.specs.Likeness.{HasLikeActs}
-use Rattle.simulation_steps.specs.OwnGlobals.{HasOwnGlobals}
-use Rattle.simulation_steps.specs.LikeCalls.{IsLikeRoutine, AreLikeRoutines, none, routine, HasLikeCalls}
+use Rattle.simulation_places.specs.ProjectedCode.{Numbering}
+use Rattle.simulation_steps.specs.LikeCalls.{IsLikeRoutine, AreLikeRoutines, none, routine}
 use Rattle.simulation_steps.proofs.AlikeOn.{calls_leave_callers}
 use Rattle.simulation_steps.proofs.Outcomes.{AlikeList, HoldsAlike, HoldAlike, Staying, StatesStand}
 use Rattle.simulation_steps.proofs.StandingObjects.{Comes, came}
@@ -61,10 +55,11 @@ use Rattle.simulation_steps.proofs.AlikeReads.{used_alike}
 use Rattle.simulation_steps.proofs.GlobalBlocks.{one_each}
 use Rattle.simulation_steps.proofs.Arguments.{chosen_same, chosen_values, ReadBy, read_by, named_in, kept_uses}
 use Rattle.simulation_steps.proofs.Closing.{viewed}
-use Rattle.simulation_steps.proofs.LikeRoutines.{names_of, chosen_member, parameter_stays}
-use Rattle.simulation_steps.proofs.OpeningFrames.{ranks_apart, opening_frames}
+use Rattle.simulation_steps.proofs.LikeRoutines.{chosen_member, parameter_stays}
+use Rattle.simulation_steps.proofs.OpeningFrames.{opening_frames}
 use Rattle.simulation_steps.proofs.Parameters.{IsPassing, ArePassed, pass_all, alike_seen, alike_inside}
 use Rattle.simulation_steps.proofs.Resuming.{viewed_blocks, alike_outside}
+use Rattle.simulation_steps.specs.SlicePairs.{SlicePair, twin_of, setting_over}
 
 -- the arguments with which a list calls
 abbrev args_in : Next → List Expr
@@ -74,33 +69,30 @@ args_in (Does i act go) = []
 args_in (Calls i to g args r) = args
 
 -- the slice's routine of one that is kept
-record RoutineThere (k : Kept ℕ) (g : ℕ) (r : Routine) (o : Option Routine) : Type 0 where
+record RoutineThere (k : Kept ℕ) (new : Numbering) (g : ℕ) (r : Routine) (o : Option Routine) : Type 0 where
   value : Routine
   value_is : o ≡ Some value
-  likeness : IsLikeRoutine k g r value
+  likeness : IsLikeRoutine k new g r value
 
-routine_there : (k : Kept ℕ) (g : ℕ) (r : Routine) (o u : Option Routine) → AreLikeRoutines k g o u → o ≡ Some r → RoutineThere k g r u
-routine_there k g r o u none e = none_there e
-routine_there k g r o u (routine {here = z} {there = t} h) e = record { value = t; value_is = refl; likeness = subst (λ v. IsLikeRoutine k g v t) (some_same e) h }
+routine_there : (k : Kept ℕ) (new : Numbering) (g : ℕ) (r : Routine) (o u : Option Routine) → AreLikeRoutines k new g o u → o ≡ Some r → RoutineThere k new g r u
+routine_there k new g r o u none e = none_there e
+routine_there k new g r o u (routine {here = z} {there = t} h) e = record { value = t; value_is = refl; likeness = subst (λ v. IsLikeRoutine k new g v t) (some_same e) h }
 
 is_outside_global : (p : Program) (x : ℕ) (root : Root) → root ≡ Variable x → is_global p x ≡ true → is_outside_root p root ≡ true
 is_outside_global p x root e h = ap (is_outside_root p) e ∙ or_left (is_global p x) (is_taken p x) h
 
-module _ (p q : Program) (a : Analysis) (k : Kept ℕ) (kept : List Bool) (input : List ℕ) (criterion ranks : ℕ → Bool) (holds : ℕ → Type 0) (well : IsWellFormed p) (numbered : map doing_number (program_doings p) ≡ range_with_len 0 p.statements) (free : IsPointerFree p) (own : HasOwnGlobals p) (proj : AreProjected p q a k kept) (acts : HasLikeActs p q k) (like : HasLikeCalls p q a k kept) where
-  abbrev pub c : Counterpart
-  c = counterpart_of q k input criterion ranks
-
-  abbrev pub s : Setting
-  s = chained p a kept c holds
+module _ (pair : SlicePair) (holds : ℕ → Type 0) (free : IsPointerFree pair.original) where
+  abbrev s : Setting
+  s = setting_over pair holds
 
   abbrev n : Names
-  n = names_of k
+  n = names_of pair.kept pair.new
 
   abbrev here : Executable
-  here = executable p
+  here = executable pair.original
 
   abbrev there : Executable
-  there = executable q
+  there = executable pair.slice
 
   abbrev Mine : Program → ℕ → Doing → Type 0
   Mine r f d = IsIn (doings_of r f) d
@@ -109,65 +101,65 @@ module _ (p q : Program) (a : Analysis) (k : Kept ℕ) (kept : List Bool) (input
     abbrev f : ℕ
     f = x.function
 
-    member : IsIn (doings_of p f) (doing.Calls i to g args)
-    member = calls_member p a kept c holds x i to g args r agree.reached next
+    member : IsIn (doings_of pair.original f) (doing.Calls i to g args)
+    member = calls_member pair.original pair.analysis pair.vertices (twin_of pair) holds x i to g args r agree.reached next
 
-    contained : Contains (doings_of p f) (doing.Calls i to g args)
-    contained = contains_of_in (doings_of p f) (doing.Calls i to g args) member
+    contained : Contains (doings_of pair.original f) (doing.Calls i to g args)
+    contained = contains_of_in (doings_of pair.original f) (doing.Calls i to g args) member
 
-    keeps_statement : k.statement i ≡ true
-    keeps_statement = proj.calls f i g to args contained ∙ keeps
+    keeps_statement : pair.kept.statement i ≡ true
+    keeps_statement = pair.projected.calls f i g to args contained ∙ keeps
 
-    callee : k.function g ≡ true
-    callee = proj.callees f i g to args contained keeps_statement
+    callee : pair.kept.function g ≡ true
+    callee = pair.projected.callees f i g to args contained keeps_statement
 
-    sound : IsSound here (Mine p) x
-    sound = sound_run here (Mine p) (bodies p) input x agree.reached
+    sound : IsSound here (Mine pair.original) x
+    sound = sound_run here (Mine pair.original) (bodies pair.original) pair.input x agree.reached
 
-    sound_there : IsSound there (Mine q) y
-    sound_there = sound_run there (Mine q) (bodies q) input y agree.reached_there
+    sound_there : IsSound there (Mine pair.slice) y
+    sound_there = sound_run there (Mine pair.slice) (bodies pair.slice) pair.input y agree.reached_there
 
     -- ---- the arguments that are kept
 
     abbrev es : List Expr
-    es = chosen (k.argument i) 0 args
+    es = chosen (pair.kept.argument i) 0 args
 
-    args_there : (t : Target) (h : ℕ) (bs : List Expr) (d : Code) → next_of y.rest ≡ Calls (rank k.statement i) t h bs d → bs ≡ map (renamed (rank k.variable)) es
+    args_there : (t : Target) (h : ℕ) (bs : List Expr) (d : Code) → next_of y.rest ≡ Calls (pair.new.statement i) t h bs d → bs ≡ map (renamed pair.new.variable) es
     args_there t h bs d e =
-        let calls = (projects_as k x.rest (Calls i to g args r) next).kept keeps_statement in
+        let calls = (projects_as pair.kept pair.new x.rest (Calls i to g args r) next).kept keeps_statement in
         ap args_in (sym e ∙ (ap next_of agree.rest_is ∙ calls))
 
     stand : StatesStand n w (types_in here f) (types_in there y.function) x.state y.state
-    stand = record { blocks = agree.blocks; frames = agree.frames; types_are = record { variables = λ z h. acts.types_are z h; members = acts.members_are } }
+    stand = record { blocks = agree.blocks; frames = agree.frames; types_are = record { variables = λ z h. pair.acts.types_are z h; members = pair.acts.members_are } }
 
     are_free : are_integers args ≡ true
-    are_free = (and_parts (is_name_target to) (are_integers args) (free_in p free f (doing.Calls i to g args) member)).1
+    are_free = (and_parts (is_name_target to) (are_integers args) (free_in pair.original free f (doing.Calls i to g args) member)).1
 
     staying : All (Staying n) es
-    staying = all_from (Staying n) es (λ e j z h. like.names_kept f i g z to args contained keeps_statement (or_right (k.result i && target_names to z) (any_names es z) (named_in es e z j h)))
+    staying = all_from (Staying n) es (λ e j z h. pair.calls.names_kept f i g z to args contained keeps_statement (or_right (pair.kept.result i && target_names to z) (any_names es z) (named_in es e z j h)))
 
-    module _ (uses : (l : Location) → arguments_use p a kept f i g l ≡ true → s.Same w l x.state y.state) where
+    module _ (uses : (l : Location) → arguments_use pair.original pair.analysis pair.vertices f i g l ≡ true → s.Same w l x.state y.state) where
       holds_one : (z : Place) → ReadBy (types_in here f) x.state es z → HoldsAlike w x.state y.state z
       holds_one z h =
-          let at = chosen_member (k.argument i) 0 args h.one h.member in
+          let at = chosen_member (pair.kept.argument i) 0 args h.one h.member in
           let zero_on : 0 + at.place ≡ at.place = omega arith in
-          let vertex : any_kept p a kept _ ≡ true = sym (like.argument_vertices f i g to args contained at.place) ∙ (ap (k.argument i) (sym zero_on) ∙ at.passes) in
-          used_alike (is_outside p) w x.state y.state (expr_reads p a.points h.one) z sound.placed.named (λ l u. uses l (kept_uses p a numbered kept f i g to args member at.place l h.one at.stands u vertex)) (argument_used (types_in here f) x.state p a.points free.integers args are_free at.place h.one at.stands z h.reads)
+          let vertex : any_kept pair.original pair.analysis pair.vertices _ ≡ true = sym (pair.calls.argument_vertices f i g to args contained at.place) ∙ (ap (pair.kept.argument i) (sym zero_on) ∙ at.passes) in
+          used_alike (is_outside pair.original) w x.state y.state (expr_reads pair.original pair.analysis.points h.one) z sound.placed.named (λ l u. uses l (kept_uses pair.original pair.analysis pair.numbered pair.vertices f i g to args member at.place l h.one at.stands u vertex)) (argument_used (types_in here f) x.state pair.original pair.analysis.points free.integers args are_free at.place h.one at.stands z h.reads)
 
       reads : HoldAlike w x.state y.state (all_read (types_in here f) es x.state)
       reads = all_from (HoldsAlike w x.state y.state) (all_read (types_in here f) es x.state) (λ z j. holds_one z (read_by (types_in here f) x.state es z j))
 
       module _ (vs : List Value) (evaluated : eval_all (types_in here f) args x.state ≡ Some vs) where
-        same_test : chosen (k.argument i) 0 args ≡ chosen (k.parameter g) 0 args
-        same_test = chosen_same (k.argument i) (k.parameter g) 0 args (λ j lt. let zero_on : 0 + j ≡ j = omega arith in ap (k.argument i) zero_on ∙ (like.arguments f i g to args contained keeps_statement j lt ∙ ap (k.parameter g) (sym zero_on)))
+        same_test : chosen (pair.kept.argument i) 0 args ≡ chosen (pair.kept.parameter g) 0 args
+        same_test = chosen_same (pair.kept.argument i) (pair.kept.parameter g) 0 args (λ j lt. let zero_on : 0 + j ≡ j = omega arith in ap (pair.kept.argument i) zero_on ∙ (pair.calls.arguments f i g to args contained keeps_statement j lt ∙ ap (pair.kept.parameter g) (sym zero_on)))
 
-        chosen_evaluated : eval_all (types_in here f) es x.state ≡ Some (chosen (k.parameter g) 0 vs)
+        chosen_evaluated : eval_all (types_in here f) es x.state ≡ Some (chosen (pair.kept.parameter g) 0 vs)
         chosen_evaluated =
-            ap (λ bs. eval_all (types_in here f) bs x.state) same_test ∙ chosen_values (types_in here f) x.state (k.parameter g) 0 args vs evaluated
+            ap (λ bs. eval_all (types_in here f) bs x.state) same_test ∙ chosen_values (types_in here f) x.state (pair.kept.parameter g) 0 args vs evaluated
 
-        evaluated_there : Comes (AlikeList (AlikeValue w)) (chosen (k.parameter g) 0 vs) (eval_all (types_in there y.function) (map (renamed (rank k.variable)) es) y.state)
+        evaluated_there : Comes (AlikeList (AlikeValue w)) (chosen (pair.kept.parameter g) 0 vs) (eval_all (types_in there y.function) (map (renamed pair.new.variable) es) y.state)
         evaluated_there =
-            came (AlikeList (AlikeValue w)) (eval_all (types_in here f) es x.state) (eval_all (types_in there y.function) (map (renamed (rank k.variable)) es) y.state) (chosen (k.parameter g) 0 vs) ((values_come_together n w (types_in here f) (types_in there y.function) x.state y.state stand).arguments es staying reads) chosen_evaluated
+            came (AlikeList (AlikeValue w)) (eval_all (types_in here f) es x.state) (eval_all (types_in there y.function) (map (renamed pair.new.variable) es) y.state) (chosen (pair.kept.parameter g) 0 vs) ((values_come_together n w (types_in here f) (types_in there y.function) x.state y.state stand).arguments es staying reads) chosen_evaluated
 
         -- ---- they are passed
 
@@ -177,11 +169,11 @@ module _ (p q : Program) (a : Analysis) (k : Kept ℕ) (kept : List Bool) (input
         abbrev n0 : State
         n0 = fresh there y.state
 
-        begins : IsPassing n here there (ranks_apart k) acts.types_are m0 n0 w m0 n0 w
+        begins : IsPassing n here there pair.apart pair.acts.types_are m0 n0 w m0 n0 w
         begins = record {
           grows = world_same w;
           blocks = viewed_blocks n w x.state y.state m0.frame n0.frame None None agree.blocks;
-          frames = opening_frames p q a k kept like w x.state y.state agree.blocks sound_there.placed.tracked sound_there.globals ((one_each p free own input x agree.reached).globals) (globals_global p well);
+          frames = opening_frames pair.original pair.slice pair.analysis pair.kept pair.new pair.vertices pair.calls pair.apart w x.state y.state agree.blocks sound_there.placed.tracked sound_there.globals ((one_each pair.original free pair.own pair.input x agree.reached).globals) (globals_global pair.original pair.well);
           tracked = sound.placed.tracked;
           tracked_there = sound_there.placed.tracked;
           longer = omega arith;
@@ -197,22 +189,22 @@ module _ (p q : Program) (a : Analysis) (k : Kept ℕ) (kept : List Bool) (input
       -- ---- the callee's routine
 
       module _ (d : State) (o : Routine) (routine_is : slice_get here.functions g ≡ Some o) (vs : List Value) (evaluated : eval_all (types_in here f) args x.state ≡ Some vs) (passed_is : passed here o.params vs (fresh here x.state) ≡ Some d) where
-        zs : Comes (AlikeList (AlikeValue w)) (chosen (k.parameter g) 0 vs) (eval_all (types_in there y.function) (map (renamed (rank k.variable)) es) y.state)
+        zs : Comes (AlikeList (AlikeValue w)) (chosen (pair.kept.parameter g) 0 vs) (eval_all (types_in there y.function) (map (renamed pair.new.variable) es) y.state)
         zs = evaluated_there vs evaluated
 
-        stay : (j z : ℕ) → slice_get o.params j ≡ Some z → k.variable z ≡ k.parameter g (0 + j)
+        stay : (j z : ℕ) → slice_get o.params j ≡ Some z → pair.kept.variable z ≡ pair.kept.parameter g (0 + j)
         stay j z e =
             let zero_on : 0 + j ≡ j = omega arith in
-            parameter_stays p q a k kept like g j z callee (ap (λ u. slice_get (option_map_or (λ (v : Routine). v.params) u []) j) routine_is ∙ e) ∙ ap (k.parameter g) (sym zero_on)
+            parameter_stays pair.original pair.slice pair.analysis pair.kept pair.new pair.vertices pair.calls g j z callee (ap (λ u. slice_get (option_map_or (λ (v : Routine). v.params) u []) j) routine_is ∙ e) ∙ ap (pair.kept.parameter g) (sym zero_on)
 
-        passed_too : ArePassed n here there (ranks_apart k) acts.types_are (fresh here x.state) (fresh there y.state) w d (passed there (map (rank k.variable) (chosen (k.parameter g) 0 o.params)) zs.value (fresh there y.state))
+        passed_too : ArePassed n here there pair.apart pair.acts.types_are (fresh here x.state) (fresh there y.state) w d (passed there (map pair.new.variable (chosen (pair.kept.parameter g) 0 o.params)) zs.value (fresh there y.state))
         passed_too =
-            pass_all n here there (ranks_apart k) acts.types_are (fresh here x.state) (fresh there y.state) w (k.parameter g) 0 o.params vs zs.value stay zs.alike (fresh here x.state) (fresh there y.state) d w (begins vs evaluated) passed_is
+            pass_all n here there pair.apart pair.acts.types_are (fresh here x.state) (fresh there y.state) w (pair.kept.parameter g) 0 o.params vs zs.value stay zs.alike (fresh here x.state) (fresh there y.state) d w (begins vs evaluated) passed_is
 
-        like_there : RoutineThere k g o (slice_get there.functions (rank k.function g))
-        like_there = routine_there k g o (slice_get here.functions g) (slice_get there.functions (rank k.function g)) (like.routines g callee) routine_is
+        like_there : RoutineThere pair.kept pair.new g o (slice_get there.functions (pair.new.function g))
+        like_there = routine_there pair.kept pair.new g o (slice_get here.functions g) (slice_get there.functions (pair.new.function g)) (pair.calls.routines g callee) routine_is
 
-        called_there : (bs : List Expr) → bs ≡ map (renamed (rank k.variable)) es → called there y.function (rank k.function g) bs y.state ≡ Some passed_too.state
+        called_there : (bs : List Expr) → bs ≡ map (renamed pair.new.variable) es → called there y.function (pair.new.function g) bs y.state ≡ Some passed_too.state
         called_there bs is =
             ap (option_and_then (passed_to there y.function bs y.state)) like_there.value_is
             ∙ (ap (λ cs. option_and_then (λ (us : List Value). passed there like_there.value.params us (fresh there y.state)) (eval_all (types_in there y.function) cs y.state)) is
@@ -223,15 +215,15 @@ module _ (p q : Program) (a : Analysis) (k : Kept ℕ) (kept : List Bool) (input
         e1 = passed_too.state
 
         -- what an activation saw before, it sees so still
-        still : (l : Location) (h j : ℕ → Option ℕ) (u v : Option Value) → AlikeAt (is_outside p) w l (viewed h u x.state) (viewed j v y.state) → AlikeAt (is_outside p) passed_too.world l (viewed h u d) (viewed j v e1)
+        still : (l : Location) (h j : ℕ → Option ℕ) (u v : Option Value) → AlikeAt (is_outside pair.original) w l (viewed h u x.state) (viewed j v y.state) → AlikeAt (is_outside pair.original) passed_too.world l (viewed h u d) (viewed j v e1)
         still l h j u v same =
-            alike_seen n here there (ranks_apart k) acts.types_are (fresh here x.state) (fresh there y.state) w (is_outside p) d e1 passed_too.world (begins vs evaluated).blocks passed_too.passing l h j u v same
+            alike_seen n here there pair.apart pair.acts.types_are (fresh here x.state) (fresh there y.state) w (is_outside pair.original) d e1 passed_too.world (begins vs evaluated).blocks passed_too.passing l h j u v same
 
-        unnamed : (l : Location) → is_outside p l ≡ false → (z b : ℕ) → l.root ≡ Variable z → (opening here []).frame z ≡ Some b → ⊥
+        unnamed : (l : Location) → is_outside pair.original l ≡ false → (z b : ℕ) → l.root ≡ Variable z → (opening here []).frame z ≡ Some b → ⊥
         unnamed l inside z b root e =
-            false_true (sym inside ∙ is_outside_global p z l.root root (globals_global p well z (opening_names here z b e)))
+            false_true (sym inside ∙ is_outside_global pair.original z l.root root (globals_global pair.original pair.well z (opening_names here z b e)))
 
-        entered_both : (bs : List Expr) → bs ≡ map (renamed (rank k.variable)) es → Entered s w x y g bs d
+        entered_both : (bs : List Expr) → bs ≡ map (renamed pair.new.variable) es → Entered s w x y g bs d
         entered_both bs is = record {
           world = passed_too.world;
           state = e1;
@@ -239,13 +231,13 @@ module _ (p q : Program) (a : Analysis) (k : Kept ℕ) (kept : List Bool) (input
           grows = passed_too.passing.grows;
           blocks = passed_too.passing.blocks;
           frames = passed_too.passing.frames;
-          outside = λ l out same. still l d.frame e1.frame d.returned e1.returned (alike_outside (is_outside p) w l x.state y.state d.frame e1.frame d.returned e1.returned out (λ h. refl) same);
-          inside = λ l inside taken. alike_inside n here there (ranks_apart k) acts.types_are (fresh here x.state) (fresh there y.state) w (is_outside p) d e1 passed_too.world (begins vs evaluated).blocks passed_too.passing l inside (λ e. false_true (sym inside ∙ ap (is_outside p) e)) refl refl (λ z b root e. unnamed l inside z b root e);
+          outside = λ l out same. still l d.frame e1.frame d.returned e1.returned (alike_outside (is_outside pair.original) w l x.state y.state d.frame e1.frame d.returned e1.returned out (λ h. refl) same);
+          inside = λ l inside taken. alike_inside n here there pair.apart pair.acts.types_are (fresh here x.state) (fresh there y.state) w (is_outside pair.original) d e1 passed_too.world (begins vs evaluated).blocks passed_too.passing l inside (λ e. false_true (sym inside ∙ ap (is_outside pair.original) e)) refl refl (λ z b root e. unnamed l inside z b root e);
           caller = λ l same. still l x.state.frame y.state.frame x.state.returned y.state.returned same;
           waiting = λ above u v below l e frames unmodified same. still l u.frame v.frame u.returned v.returned same;
         }
 
-      called_both : (d : State) (bs : List Expr) → bs ≡ map (renamed (rank k.variable)) es → called here f g args x.state ≡ Some d → Entered s w x y g bs d
+      called_both : (d : State) (bs : List Expr) → bs ≡ map (renamed pair.new.variable) es → called here f g args x.state ≡ Some d → Entered s w x y g bs d
       called_both d bs is e =
           let o = then_there (passed_to here f args x.state) (slice_get here.functions g) d e in
           let vs = then_there (λ (us : List Value). passed here o.value.params us (fresh here x.state)) (eval_all (types_in here f) args x.state) d o.same in
@@ -254,6 +246,6 @@ module _ (p q : Program) (a : Analysis) (k : Kept ℕ) (kept : List Bool) (input
   pub entering : Entering s
   entering = record {
     both = λ w x y i to g args r to_there bs d e agree next keeps next_there uses is.
-        called_both w x y i to g args r agree next keeps uses e bs (args_there w x y i to g args r agree next keeps to_there (rank k.function g) bs d next_there) is;
-    alone = λ w x y i to g args r d l agree next keeps is same. calls_leave_callers n (is_outside p) w here x.function g args x.state d y.state l is agree.blocks same;
+        called_both w x y i to g args r agree next keeps uses e bs (args_there w x y i to g args r agree next keeps to_there (pair.new.function g) bs d next_there) is;
+    alone = λ w x y i to g args r d l agree next keeps is same. calls_leave_callers n (is_outside pair.original) w here x.function g args x.state d y.state l is agree.blocks same;
   }

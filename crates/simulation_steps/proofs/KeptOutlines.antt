@@ -1,23 +1,22 @@
 -- Each step keeps what blocks are; so blocks go on standing for those of a program that takes a step alone.
-use Rattle.std.proofs.Common.{◌≡◌, ℕ, suc, List, [], ◌∷◌, ◌++◌, append_assoc, append-nil, length, Option, Some, None, Bool, true, false, inl, inr, refl, sym, ap, ◌∙◌, subst}
-use Rattle.std.specs.Prelude.{option_map, option_and_then, slice_get}
+use Rattle.std.proofs.Common.{◌≡◌, ℕ, List, [], ◌∷◌, ◌++◌, append_assoc, append-nil, length, Option, Some, None, inl, inr, refl, sym, ap, ◌∙◌, subst}
+use Rattle.std.specs.Prelude.{option_map, slice_get}
 use Rattle.std.proofs.lemmas.Bool.Decides.{eqb_tells}
 use Rattle.std.proofs.lemmas.Option.{same_Some}
-use Rattle.c_language.proofs.Options.{none_there, some_same, then_there}
+use Rattle.c_language.proofs.Options.{none_there, then_there}
 use Rattle.c_tree.specs.declared.expr.Expr.{Expr}
 use Rattle.c_tree.specs.declared.statement.Target.{Target}
 use Rattle.c_tree.specs.declared.statement.Target.TheVariants as target
 use Rattle.c_meaning.specs.declared.value.Place.{Place}
 use Rattle.c_meaning.specs.declared.value.Value.{Value}
-use Rattle.c_meaning.specs.Memory.{Block, Memory, changed, with_cell, write, with_new, gone, unwritten, Entered, Allocated, array_of, enter}
+use Rattle.c_meaning.specs.Memory.{Block, Memory, changed, with_cell, write, gone, unwritten, Entered, Allocated, array_of}
 use Rattle.c_meaning.specs.Values.{Types, Origin, OfVariable, OfStatement, State, leave_block, variable_opened, variable_closed, all_closed, as_type, eval_all, whole}
 use Rattle.c_meaning.specs.Acts.{Store, Made, Request, made, stored, with_begun, origins_after, after, picked}
-use Rattle.c_meaning.specs.Activations.{Routine, Executable, code_at, variables_at, types_in, outside, parameter_begun, passed, fresh, passed_to, called, resumed, received}
+use Rattle.c_meaning.specs.Activations.{Executable, code_at, variables_at, types_in, outside, parameter_begun, passed, fresh, passed_to, called, resumed, received}
 use Rattle.c_meaning.specs.Meaning.{Trace}
-use Rattle.c_meaning.specs.Steps.{Step, Stops, Fails, Acts, Moves, Breaks, Waiting, Point, acted, entered, waiting, stored_back, went_back, returned_to, step_at, step}
+use Rattle.c_meaning.specs.Steps.{Step, Stops, Fails, Acts, Moves, Breaks, Waiting, Point, acted, entered, waiting, stored_back, went_back, returned_to, step_at}
 use Rattle.c_language.specs.Code.{Code, Tests, End, Opens, Plain, Fork, Loop, Leaves, Call, ◌⨟◌, is_true, either}
 use Rattle.c_meaning.proofs.Frames.{get_changed, get_other}
-use Rattle.run_facts.specs.KeptCells.{Leads}
 use Rattle.run_facts.proofs.Blocks.{get_more}
 use Rattle.simulation.specs.Renaming.{World, Names, StandsForOne, BlocksStand}
 use Rattle.simulation_steps.proofs.LeftAlone.{StepsKeepOutlines, BlocksGoOnStanding}

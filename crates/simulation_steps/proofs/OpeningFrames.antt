@@ -1,5 +1,5 @@
 -- Where the blocks of a slice stand for blocks, the globals with which its run began stand for those of the original.
-use Rattle.std.proofs.Common.{◌≡◌, ℕ, zero, suc, ◌+◌, ◌<◌, ◌≤◌, ◌==◌, List, [], ◌∷◌, length, Option, Some, None, Bool, true, false, if◌then◌else◌, inl, inr, refl, sym, ap, ◌∙◌, subst, arith, eq-eqb}
+use Rattle.std.proofs.Common.{◌≡◌, ℕ, ◌<◌, ◌==◌, List, [], ◌∷◌, length, Option, Some, None, Bool, true, false, if◌then◌else◌, inl, inr, refl, sym, ap, ◌∙◌, subst, arith, eq-eqb}
 use Rattle.std.specs.Prelude.{slice_get}
 use Rattle.c_language.proofs.Options.{none_there, some_same}
 use Rattle.c_tree.specs.declared.program.Program.{Program}
@@ -10,63 +10,16 @@ use Rattle.c_meaning.proofs.Origins.{IsTracked}
 use Rattle.dep_model.specs.DoingEffects.{is_global}
 use Rattle.dep_model.specs.SystemGraph.{Analysis}
 use Rattle.dep_model.proofs.Membership.{IsIn}
-use Rattle.kept_numbers.specs.Ranks.{rank}
 use Rattle.projection.specs.Kept.{Kept}
 use Rattle.run_facts.proofs.Blocks.{AreNamed}
 use Rattle.run_facts.proofs.GlobalVariables.{variables_of}
 use Rattle.run_facts.proofs.OldBlocks.{opening_names}
 use Rattle.simulation.specs.Renaming.{World, Stands, Names, SameOrigin, of_variable, of_statement, StandsForOne, BlocksStand, BothStand, neither, both, FramesStand}
+use Rattle.simulation_places.specs.ProjectedCode.{Numbering}
+use Rattle.simulation_places.specs.Counterparts.{names_of, AreApart}
 use Rattle.simulation_steps.specs.LikeCalls.{HasLikeCalls}
-use Rattle.simulation_steps.proofs.Begun.{AreApart}
-use Rattle.simulation_steps.proofs.LikeRoutines.{names_of, renamed_member, member_renamed}
+use Rattle.simulation_steps.proofs.LikeRoutines.{renamed_member, member_renamed}
 use Rattle.simulation_steps.proofs.GrownLists.{within, there_at}
-
--- ---- ranks
-
-rank_step : (t : ℕ → Bool) (x y : ℕ) → rank t x ≤ rank t y → rank t x ≤ rank t (suc y)
-rank_step t x y h = by_test (t y)
-  where
-    by_test : (b : Bool) → rank t x ≤ (if b then suc (rank t y) else rank t y)
-    by_test true = omega (arith, h)
-    by_test false = h
-
-rank_more : (t : ℕ → Bool) (x : ℕ) → t x ≡ true → rank t x < rank t (suc x)
-rank_more t x h = rw h (omega arith)
-
-rank_after : (t : ℕ → Bool) (x d : ℕ) → t x ≡ true → rank t x < rank t (suc x + d)
-rank_after t x zero h = let same : suc x + 0 ≡ suc x = omega arith in subst (λ y. rank t x < rank t y) (sym same) (rank_more t x h)
-rank_after t x (suc d) h =
-    let same : suc x + suc d ≡ suc (suc x + d) = omega arith in
-    let less = rank_after t x d h in
-    let more = rank_step t (suc x + d) (suc x + d) (omega arith) in
-    subst (λ y. rank t x < rank t y) (sym same) (omega (arith, less, more))
-
-behind : (x y : ℕ) → x < y → (d : ℕ) × (suc x + d ≡ y)
-behind x zero lt = absurd (omega (arith, lt))
-behind zero (suc y) lt = (y, omega arith)
-behind (suc x) (suc y) lt = let r = behind x y (omega (arith, lt)) in let e = r.1 in (r.0, omega (arith, e))
-
-rank_less : (t : ℕ → Bool) (x y : ℕ) → t x ≡ true → x < y → rank t x < rank t y
-rank_less t x y h lt = let r = behind x y lt in subst (λ z. rank t x < rank t z) r.1 (rank_after t x r.0 h)
-
-data Order (x y : ℕ) : Type 0 where
-  less : x < y → Order x y
-  equal : x ≡ y → Order x y
-  more : y < x → Order x y
-
-order : (x y : ℕ) → Order x y
-order zero zero = equal refl
-order zero (suc y) = less (omega arith)
-order (suc x) zero = more (omega arith)
-order (suc x) (suc y) = elim (order x y) [ less h ↦ less (omega (arith, h)) | equal h ↦ equal (ap suc h) | more h ↦ more (omega (arith, h)) ]
-
--- variables that stay have names of their own in the slice
-pub ranks_apart : (k : Kept ℕ) → AreApart (names_of k)
-ranks_apart k x y h j e = elim (order x y) [
-  | less lt ↦ let r = rank_less k.variable x y h lt in absurd (omega (arith, r, e))
-  | equal is ↦ is
-  | more lt ↦ let r = rank_less k.variable y x j lt in absurd (omega (arith, r, e))
-]
 
 -- ---- the globals have begun
 
@@ -101,45 +54,45 @@ origin_of : (names : Names) (o u : Origin) (y : ℕ) → SameOrigin names o u �
 origin_of names o u y (of_variable {x = x} h) e = let same : names.variable x ≡ y = cc in record { variable_ = x; stays = h; name_is = same; origin_is = refl }
 origin_of names o u y of_statement e = cc
 
-module _ (p q : Program) (a : Analysis) (k : Kept ℕ) (kept : List Bool) (like : HasLikeCalls p q a k kept) (w : World) (m n : State) where
+module _ (p q : Program) (a : Analysis) (k : Kept ℕ) (new : Numbering) (kept : List Bool) (like : HasLikeCalls p q a k new kept) (apart : AreApart (names_of k new)) (w : World) (m n : State) where
   abbrev here : ℕ → Option ℕ
   here = (opening (executable p) []).frame
 
   abbrev there : ℕ → Option ℕ
   there = (opening (executable q) []).frame
 
-  module _ (stand : BlocksStand (names_of k) w m n) (tracked_there : IsTracked n) (named_there : AreNamed there n.origins) (first : (b x : ℕ) → slice_get m.origins b ≡ Some (OfVariable x) → is_global p x ≡ true → here x ≡ Some b) (global : (x : ℕ) → IsIn (variables_of (executable p).globals) x → is_global p x ≡ true) where
+  module _ (stand : BlocksStand (names_of k new) w m n) (tracked_there : IsTracked n) (named_there : AreNamed there n.origins) (first : (b x : ℕ) → slice_get m.origins b ≡ Some (OfVariable x) → is_global p x ≡ true → here x ≡ Some b) (global : (x : ℕ) → IsIn (variables_of (executable p).globals) x → is_global p x ≡ true) where
     -- a variable that begins in the slice's opening does so in the original's
-    begins_here : (x c : ℕ) → k.variable x ≡ true → there (rank k.variable x) ≡ Some c → IsIn (variables_of (executable p).globals) x
+    begins_here : (x c : ℕ) → k.variable x ≡ true → there (new.variable x) ≡ Some c → IsIn (variables_of (executable p).globals) x
     begins_here x c stays e =
-        let i = subst (λ xs. IsIn xs (rank k.variable x)) like.globals (opening_names (executable q) (rank k.variable x) c e) in
-        let v = renamed_member k (variables_of (executable p).globals) (rank k.variable x) i in
-        subst (IsIn (variables_of (executable p).globals)) (ranks_apart k v.0 x v.1 stays v.2) v.3
+        let i = subst (λ xs. IsIn xs (new.variable x)) like.globals (opening_names (executable q) (new.variable x) c e) in
+        let v = renamed_member k new (variables_of (executable p).globals) (new.variable x) i in
+        subst (IsIn (variables_of (executable p).globals)) (apart v.0 x v.1 stays v.2) v.3
 
-    begins_there : (x b : ℕ) → k.variable x ≡ true → here x ≡ Some b → (c : ℕ) × (there (rank k.variable x) ≡ Some c)
+    begins_there : (x b : ℕ) → k.variable x ≡ true → here x ≡ Some b → (c : ℕ) × (there (new.variable x) ≡ Some c)
     begins_there x b stays e =
-        opening_named (executable q) (rank k.variable x) (subst (λ xs. IsIn xs (rank k.variable x)) (sym like.globals) (member_renamed k (variables_of (executable p).globals) x (opening_names (executable p) x b e) stays))
+        opening_named (executable q) (new.variable x) (subst (λ xs. IsIn xs (new.variable x)) (sym like.globals) (member_renamed k new (variables_of (executable p).globals) x (opening_names (executable p) x b e) stays))
 
     -- the one block that the global made in the original
-    own_block : (x b c : ℕ) (block : Block) → StandsForOne (names_of k) w m n c block → k.variable x ≡ true → here x ≡ Some b → slice_get n.origins c ≡ Some (OfVariable (rank k.variable x)) → Stands w b c
+    own_block : (x b c : ℕ) (block : Block) → StandsForOne (names_of k new) w m n c block → k.variable x ≡ true → here x ≡ Some b → slice_get n.origins c ≡ Some (OfVariable (new.variable x)) → Stands w b c
     own_block x b c block one stays e made =
-        let v = origin_of (names_of k) one.origin one.origin_there (rank k.variable x) one.origins_are (some_same (sym one.origin_there_is ∙ made)) in
-        let origin : one.origin ≡ OfVariable x = v.origin_is ∙ ap OfVariable (ranks_apart k v.variable_ x v.stays stays v.name_is) in
+        let v = origin_of (names_of k new) one.origin one.origin_there (new.variable x) one.origins_are (some_same (sym one.origin_there_is ∙ made)) in
+        let origin : one.origin ≡ OfVariable x = v.origin_is ∙ ap OfVariable (apart v.variable_ x v.stays stays v.name_is) in
         let own = first one.number x (one.origin_is ∙ ap Some origin) (global x (opening_names (executable p) x b e)) in
         subst (λ i. Stands w i c) (some_same (sym own ∙ e)) one.stands
 
-    one_stands : (x b c : ℕ) → k.variable x ≡ true → here x ≡ Some b → there (rank k.variable x) ≡ Some c → Stands w b c
+    one_stands : (x b c : ℕ) → k.variable x ≡ true → here x ≡ Some b → there (new.variable x) ≡ Some c → Stands w b c
     one_stands x b c stays e j =
-        let made = named_there (rank k.variable x) c j in
-        let low : c < length n.memory.blocks = (let lt = within n.origins c (OfVariable (rank k.variable x)) made in omega (arith, lt, tracked_there)) in
+        let made = named_there (new.variable x) c j in
+        let low : c < length n.memory.blocks = (let lt = within n.origins c (OfVariable (new.variable x)) made in omega (arith, lt, tracked_there)) in
         let t = there_at n.memory.blocks c low in
         own_block x b c t.0 (stand.each c t.0 t.1) stays e made
 
-    frame_at : (x : ℕ) → k.variable x ≡ true → (o u : Option ℕ) → here x ≡ o → there (rank k.variable x) ≡ u → BothStand (names_of k) w o u
+    frame_at : (x : ℕ) → k.variable x ≡ true → (o u : Option ℕ) → here x ≡ o → there (new.variable x) ≡ u → BothStand (names_of k new) w o u
     frame_at x stays None None e j = neither
     frame_at x stays None (Some c) e j = let t = opening_named (executable p) x (begins_here x c stays j) in none_there (sym e ∙ t.1)
     frame_at x stays (Some b) None e j = let t = begins_there x b stays e in none_there (sym j ∙ t.1)
     frame_at x stays (Some b) (Some c) e j = both (one_stands x b c stays e j)
 
-    pub opening_frames : FramesStand (names_of k) w here there
-    opening_frames x stays = frame_at x stays (here x) (there (rank k.variable x)) refl refl
+    pub opening_frames : FramesStand (names_of k new) w here there
+    opening_frames x stays = frame_at x stays (here x) (there (new.variable x)) refl refl

@@ -22,9 +22,10 @@ use Rattle.run_facts.specs.CellLocations.{location_in, location_of}
 use Rattle.run_facts.proofs.Blocks.{Grows as OriginsGrow, grows_on, grows_by, get_grown}
 use Rattle.simulation.specs.Renaming.{World, Stands, Grows, AlikeValue, AlikeCell, empty, cell_at, Names, StandsForOne, BlocksStand, BothStand, FramesStand, Counts, AlikeAt}
 use Rattle.simulation.proofs.GrownWorlds.{world_on, grown_value, grown_cell}
+use Rattle.simulation_places.specs.Counterparts.{AreApart}
 use Rattle.simulation_steps.proofs.GrownLists.{within, there_at, FrontOrLast, front, last, front_or_last}
 use Rattle.simulation_steps.proofs.KeptOutlines.{keeps_parameter, blocks_on}
-use Rattle.simulation_steps.proofs.Begun.{AreApart, IsTracked}
+use Rattle.simulation_steps.proofs.Begun.{IsTracked}
 use Rattle.simulation_steps.proofs.BeginTogether.{variables_begin_together}
 use Rattle.simulation_steps.proofs.Outcomes.{AlikeList, nil, cons}
 use Rattle.simulation_steps.proofs.Closing.{viewed}

@@ -1,5 +1,5 @@
 -- Arguments are passed to parameters in a program and in its slice: the blocks of those that stay begin in both, and hold alike values.
-use Rattle.std.proofs.Common.{◌≡◌, ℕ, ℤ, zero, suc, ◌<◌, List, [], ◌∷◌, ◌++◌, append_assoc, append-nil, length, map, Option, Some, None, Bool, true, false, inl, inr, refl, sym, ap, ◌∙◌, subst, arith}
+use Rattle.std.proofs.Common.{◌≡◌, ℕ, ℤ, zero, suc, ◌<◌, List, [], ◌∷◌, length, map, Option, Some, None, Bool, true, false, inl, inr, refl, sym, ap, ◌∙◌, subst, arith}
 use Rattle.std.specs.Prelude.{option_map, option_and_then, slice_get}
 use Rattle.std.proofs.lemmas.Bool.Decides.{eqb_tells}
 use Rattle.std.proofs.lemmas.List.{length-append}
@@ -16,9 +16,8 @@ use Rattle.c_meaning.specs.Memory.{Memory, held, cell_in, cell, filled, with_cel
 use Rattle.c_meaning.specs.Values.{whole, number_as, as_type, pointer_as}
 use Rattle.c_meaning.proofs.Frames.{get_changed, get_other, get_last}
 use Rattle.c_meaning.proofs.Origins.{length-changed}
-use Rattle.run_facts.proofs.Blocks.{get_more}
 use Rattle.run_facts.proofs.KeptMemories.{write_keeps, new_keeps}
-use Rattle.simulation.specs.Renaming.{World, Stands, Grows, AlikeValue, number, null, pointer, AlikeCell, empty, held as both_hold, cell_at}
+use Rattle.simulation.specs.Renaming.{World, AlikeValue, number, null, pointer, AlikeCell, empty, held as both_hold, cell_at}
 
 -- ---- values converted to a type
 

@@ -1,7 +1,6 @@
 -- Where a kept call is done, the callee's blocks go in both, and the caller's variables are named again.
 use Rattle.std.proofs.Common.{◌≡◌, ℕ, List, [], ◌∷◌, Option, Bool, true, false, inl, refl, sym, ap, ◌∙◌, subst}
 use Rattle.c_language.proofs.Tests.{false_true}
-use Rattle.c_tree.specs.declared.program.Program.{Program}
 use Rattle.c_meaning.specs.declared.value.Value.{Value}
 use Rattle.c_meaning.specs.Memory.{Block}
 use Rattle.c_meaning.specs.Values.{State, all_closed}
@@ -11,21 +10,18 @@ use Rattle.dep_model.specs.declared.location.Location.{Location}
 use Rattle.dep_model.specs.Doings.{Calls, doings_of}
 use Rattle.dep_model.specs.DoingEffects.{result_of}
 use Rattle.dep_model.specs.ModRef.{is_outside}
-use Rattle.dep_model.specs.SystemGraph.{Analysis}
 use Rattle.dep_model.proofs.Membership.{contains_of_in}
-use Rattle.projection.specs.Kept.{Kept}
 use Rattle.run_facts.specs.NextSteps.{Ends, next_of}
 use Rattle.simulation.specs.Renaming.{World, Names, StandsForOne, BlocksStand, AlikeAt}
 use Rattle.simulation.specs.Settings.{Setting}
 use Rattle.simulation.specs.Agreeing.{Agree}
 use Rattle.simulation.specs.Premises.{Resumed}
 use Rattle.simulation.proofs.Stacks.{head_of}
-use Rattle.simulation_locations.specs.Chained.{Counterpart, chained}
 use Rattle.simulation_locations.proofs.ChainedRules.{waiting_calls}
-use Rattle.simulation_places.specs.Counterparts.{counterpart_of, AreProjected}
-use Rattle.simulation_steps.specs.LikeCalls.{HasLikeCalls}
+use Rattle.simulation_places.specs.Counterparts.{names_of}
 use Rattle.simulation_steps.proofs.Closing.{viewed, AreAmong, blocks_closed, alike_closed}
-use Rattle.simulation_steps.proofs.LikeRoutines.{names_of, among_variables}
+use Rattle.simulation_steps.proofs.LikeRoutines.{among_variables}
+use Rattle.simulation_steps.specs.SlicePairs.{SlicePair, twin_of, setting_over}
 
 -- ---- what doesn't ask which activation runs
 
@@ -62,32 +58,29 @@ alike_outside outside w l m n f g r u out inside h = record {
   result = λ k e. false_true (sym (inside k) ∙ (ap outside (sym e) ∙ out));
 }
 
-module _ (p q : Program) (a : Analysis) (k : Kept ℕ) (kept : List Bool) (input : List ℕ) (criterion ranks : ℕ → Bool) (holds : ℕ → Type 0) (h : AreProjected p q a k kept) (like : HasLikeCalls p q a k kept) where
-  abbrev pub c : Counterpart
-  c = counterpart_of q k input criterion ranks
-
-  abbrev pub s : Setting
-  s = chained p a kept c holds
+module _ (pair : SlicePair) (holds : ℕ → Type 0) where
+  abbrev s : Setting
+  s = setting_over pair holds
 
   -- the function of a kept call that runs is kept
-  pub callee_kept : (w : World) (x y : Point) (b : Waiting) (ws : List Waiting) → Agree s w x y → x.callers ≡ b ∷ ws → k.function x.function ≡ true
+  pub callee_kept : (w : World) (x y : Point) (b : Waiting) (ws : List Waiting) → Agree s w x y → x.callers ≡ b ∷ ws → pair.kept.function x.function ≡ true
   callee_kept w x y b ws agree e =
       let head = head_of s w x.function x.callers b ws y.callers x.state y.state e agree.stack in
-      let calls = waiting_calls p a kept c holds x [] b ws agree.reached e in
-      let member = contains_of_in (doings_of p b.function) (Calls b.call b.target x.function calls.args) calls.calls in
-      h.callees b.function b.call x.function b.target calls.args member (h.calls b.function b.call x.function b.target calls.args member ∙ head.waits.kept_call)
+      let calls = waiting_calls pair.original pair.analysis pair.vertices (twin_of pair) holds x [] b ws agree.reached e in
+      let member = contains_of_in (doings_of pair.original b.function) (Calls b.call b.target x.function calls.args) calls.calls in
+      pair.projected.callees b.function b.call x.function b.target calls.args member (pair.projected.calls b.function b.call x.function b.target calls.args member ∙ head.waits.kept_call)
 
   pub resumed_both : (w : World) (x y : Point) (b d : Waiting) (ws us : List Waiting) → Agree s w x y → next_of x.rest ≡ Ends → x.callers ≡ b ∷ ws → y.callers ≡ d ∷ us → Resumed s w x y b d ws
   resumed_both w x y b d ws us agree ends e j =
-      let names = names_of k in
-      let xs = variables_at (executable p) x.function in
-      let ys = variables_at (executable q) y.function in
-      let kept_there = among_variables p q a k kept like x.function (callee_kept w x y b ws agree e) in
-      let among : AreAmong names xs ys = subst (λ g. AreAmong names xs (variables_at (executable q) g)) (sym agree.function_is) kept_there in
-      let closed = alike_closed names w x.state y.state xs ys among agree.frames (is_outside p) in
+      let names = names_of pair.kept pair.new in
+      let xs = variables_at (executable pair.original) x.function in
+      let ys = variables_at (executable pair.slice) y.function in
+      let kept_there = among_variables pair.original pair.slice pair.analysis pair.kept pair.new pair.vertices pair.calls x.function (callee_kept w x y b ws agree e) in
+      let among : AreAmong names xs ys = subst (λ g. AreAmong names xs (variables_at (executable pair.slice) g)) (sym agree.function_is) kept_there in
+      let closed = alike_closed names w x.state y.state xs ys among agree.frames (is_outside pair.original) in
       record {
         blocks = viewed_blocks names w (all_closed xs x.state) (all_closed ys y.state) b.frame d.frame b.returned d.returned (blocks_closed names w x.state y.state xs ys among agree.frames agree.blocks);
-        outside = λ l out same. closed b.frame d.frame b.returned d.returned l (alike_outside (is_outside p) w l x.state y.state b.frame d.frame b.returned d.returned out (λ f. refl) same);
+        outside = λ l out same. closed b.frame d.frame b.returned d.returned l (alike_outside (is_outside pair.original) w l x.state y.state b.frame d.frame b.returned d.returned out (λ f. refl) same);
         caller = λ l same. closed b.frame d.frame b.returned d.returned l same;
         waiting = λ above u v below l is frames none same. closed u.frame v.frame u.returned v.returned l same;
       }

@@ -1,25 +1,17 @@
--- What the law on slices asks of acts and of calls, of a program without pointers, arrays and structs and of its projection.
-use Rattle.std.specs.Prelude.{◌≡◌, ℕ, List, map, Bool, true}
-use Rattle.std.specs.List.{range_with_len}
+-- What the law on slices asks of acts and of calls, of a program without pointers, arrays and structs and of its slice.
+use Rattle.std.specs.Prelude.{◌≡◌, ℕ, List, Bool, true}
 use Rattle.c_tree.specs.declared.program.Program.{Program}
 use Rattle.c_language.specs.Programs.{IsWellFormed}
-use Rattle.dep_model.specs.Doings.{doing_number, program_doings}
 use Rattle.dep_model.specs.PointerFree.{IsPointerFree}
 use Rattle.dep_model.specs.SystemGraph.{Analysis, IsAnalysis}
-use Rattle.projection.specs.Kept.{Kept}
-use Rattle.simulation_places.specs.Counterparts.{counterpart_of, AreProjected}
 use Rattle.simulation.specs.Premises.{Acting, Staying, Entering, Returning}
 use Rattle.simulation_locations.specs.Chained.{Counterpart, chained}
-use Rattle.simulation_steps.specs.Likeness.{HasLikeActs}
 use Rattle.simulation_steps.specs.OwnGlobals.{HasOwnGlobals}
-use Rattle.simulation_steps.specs.LikeCalls.{HasLikeCalls}
+use Rattle.simulation_steps.specs.SlicePairs.{SlicePair, setting_over}
 
 -- kept acts come to the same, and others leave what is wanted; so far without pointers, arrays and structs
 abbrev pub ActsAreAlike : Type 0
-ActsAreAlike =
-    (p q : Program) (a : Analysis) (k : Kept ℕ) (kept : List Bool) (input : List ℕ) (criterion ranks holds : ℕ → Bool)
-    → map doing_number (program_doings p) ≡ range_with_len 0 p.statements → IsAnalysis p a → IsPointerFree p → HasOwnGlobals p
-    → AreProjected p q a k kept → HasLikeActs p q k → Acting (chained p a kept (counterpart_of q k input criterion ranks) (λ f. holds f ≡ true))
+ActsAreAlike = (pair : SlicePair) (holds : ℕ → Bool) → IsPointerFree pair.original → Acting (setting_over pair (λ f. holds f ≡ true))
 
 -- what the original does alone leaves blocks that stand for blocks, and to callers that wait what their callees don't modify, whatever
 -- the slice is; so far without pointers, arrays and structs
@@ -31,16 +23,9 @@ CallersAreLeft =
 -- a kept call and its callee begin together, and one that isn't kept leaves what its caller sees; so far without pointers, arrays and
 -- structs
 abbrev pub CallsBeginTogether : Type 0
-CallsBeginTogether =
-    (p q : Program) (a : Analysis) (k : Kept ℕ) (kept : List Bool) (input : List ℕ) (criterion ranks holds : ℕ → Bool) → IsWellFormed p
-    → map doing_number (program_doings p) ≡ range_with_len 0 p.statements → IsPointerFree p → HasOwnGlobals p → AreProjected p q a k kept
-    → HasLikeActs p q k → HasLikeCalls p q a k kept → Entering (chained p a kept (counterpart_of q k input criterion ranks) (λ f. holds f ≡ true))
+CallsBeginTogether = (pair : SlicePair) (holds : ℕ → Bool) → IsPointerFree pair.original → Entering (setting_over pair (λ f. holds f ≡ true))
 
 -- they end together: the callee's blocks go, the caller's variables are named again, and the result is stored in both, or dropped by the
 -- slice; what returns from a call that the slice hasn't leaves what the caller sees. So far without pointers, arrays and structs
 abbrev pub CallsEndTogether : Type 0
-CallsEndTogether =
-    (p q : Program) (a : Analysis) (k : Kept ℕ) (kept : List Bool) (input : List ℕ) (criterion ranks holds : ℕ → Bool) → IsWellFormed p
-    → map doing_number (program_doings p) ≡ range_with_len 0 p.statements → IsAnalysis p a → IsPointerFree p → HasOwnGlobals p
-    → AreProjected p q a k kept → HasLikeActs p q k → HasLikeCalls p q a k kept
-    → Returning (chained p a kept (counterpart_of q k input criterion ranks) (λ f. holds f ≡ true))
+CallsEndTogether = (pair : SlicePair) (holds : ℕ → Bool) → IsPointerFree pair.original → Returning (setting_over pair (λ f. holds f ≡ true))

@@ -1,4 +1,5 @@
 pub mod Likeness
 pub mod OwnGlobals
-pub mod Laws
 pub mod LikeCalls
+pub mod SlicePairs
+pub mod Laws

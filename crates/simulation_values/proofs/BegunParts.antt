@@ -1,5 +1,5 @@
 -- Where no number that a part of a text gives to a variable is one of some, its tree begins none of these.
-use Rattle.std.proofs.Common.{◌≡◌, ℕ, suc, ◌+◌, ◌≤◌, ◌<◌, ℤ, List, [], ◌∷◌, ◌++◌, map, Bool, true, false, Option, Some, None, option_map, option_and_then, refl, sym, ap, ◌∙◌, subst, arith, le_refl}
+use Rattle.std.proofs.Common.{◌≡◌, ℕ, ◌≤◌, ◌<◌, ℤ, List, [], ◌∷◌, map, Bool, true, false, Option, Some, None, option_map, option_and_then, refl, sym, ap, ◌∙◌, subst, arith, le_refl}
 use Rattle.std.specs.Prelude.{if◌then◌else◌, bytes_eq, codes}
 use Rattle.c_arith.specs.declared.int_type.IntType.{IntType}
 use Rattle.c_arith.specs.declared.operators.BinaryOp.{BinaryOp}
@@ -25,14 +25,14 @@ use Rattle.c_tree.specs.declared.statement.Statement.TheOpen.{Statement-F}
 use Rattle.c_tree.specs.declared.statement.Statement.TheVariants as s
 use Rattle.c_tree.specs.declared.statement.Target.{Target}
 use Rattle.c_tree.specs.declared.statement.Target.TheVariants as target
-use Rattle.c_language.specs.Code.{Act, Begins, Sets, Bumps, Fetches, Writes, Prints, Allocates, Frees, Returns, Code, End, Opens, Plain, Fork, Loop, Leaves, Call, ◌⨟◌, is_true, either, leave, StatementPart, doing, declaring, declared_in, in_turn, list_of, block, ArmPart, has_case, has_default, default_arm, case_arm, taken_arm, begun_code, optional, given_to, part_step, arm_step, part, code_of, code}
+use Rattle.c_language.specs.Code.{Sets, Bumps, Fetches, Writes, Prints, Allocates, Frees, Returns, Code, End, Opens, Plain, Fork, Loop, Leaves, Call, ◌⨟◌, is_true, either, leave, StatementPart, doing, declaring, declared_in, in_turn, list_of, block, ArmPart, has_case, has_default, default_arm, case_arm, taken_arm, begun_code, optional, given_to, part_step, arm_step, part, code}
 use Rattle.c_language.specs.CallRules.{format_in, later_args}
 use Rattle.c_language.specs.ConstantEvaluation.{both}
 use Rattle.c_language.specs.DeclaredTypes.{function_id}
 use Rattle.c_language.specs.Words.{Bytes}
 use Rattle.c_language.specs.TypeGrammar.{named_type}
 use Rattle.c_language.specs.ProgramOf.{collected, optional as optional_tree, ctype_if, expr_of, init_of, declaration_id, target_tree, only_tree, args_tree, amount_tree, call_tree, heap_tree, label_tree, arm_tree, ArmTree, arm_tree_step, block_tree, at_type, switch_type, for_tree, treed_step, treed, treed_arm}
-use Rattle.c_language.specs.Scopes.{Scope, Scoped, opened, closed, numbered, with_variable, with_target, begun, in_order, after_all, after_block}
+use Rattle.c_language.specs.Scopes.{Scope, Scoped, opened, numbered, with_variable, with_target, begun, in_order, after_all, after_block}
 use Rattle.c_language.proofs.Options.{some_same, optional_there, map_there, then_there, both_there, more_there}
 use Rattle.dep_model.proofs.Options.{Always, always_map, always_then, always_both, always_if, always_is}
 use Rattle.dep_model.proofs.TextNumbers.{for_some}

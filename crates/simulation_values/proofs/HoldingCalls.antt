@@ -1,5 +1,5 @@
 -- Paths that go down through calls, from calls of functions that hold a criterion to the criterion.
-use Rattle.std.proofs.Common.{◌≡◌, ℕ, zero, suc, ◌<◌, List, [], ◌∷◌, ◌++◌, length, map, get_or, Bool, true, false, Option, Some, None, inl, inr, refl, sym, ap, ◌∙◌, subst, arith}
+use Rattle.std.proofs.Common.{◌≡◌, ℕ, zero, suc, ◌<◌, List, [], ◌∷◌, length, map, get_or, Bool, true, false, Some, inl, refl, ap, ◌∙◌, subst, arith}
 use Rattle.std.specs.Prelude.{Contains, IsTrue, slice_get}
 use Rattle.std.specs.Option.{option_map_or}
 use Rattle.bit_rows.specs.Sets.{has}
@@ -24,10 +24,10 @@ use Rattle.dep_model.specs.VertexOrder.{in_function, doing_vertices}
 use Rattle.dep_model.specs.Words as words
 use Rattle.dep_model.specs.Words.{word, IsPath, Falls, ReachesAny}
 use Rattle.dep_model.proofs.EntryLaws.{entry_one}
-use Rattle.dep_model.proofs.Membership.{IsIn, in_of_contains, contains_of_in}
+use Rattle.dep_model.proofs.Membership.{IsIn, in_of_contains}
 use Rattle.shaped_graphs.proofs.KindLaws.{entry_there, statement_there}
 use Rattle.shaped_graphs.proofs.VertexLaws.{vertex_of}
-use Rattle.control_nesting.specs.ControlledVertices.{IsControlChain, begins, goes_on, IsFromEntry}
+use Rattle.control_nesting.specs.ControlledVertices.{IsControlChain, begins, goes_on}
 use Rattle.control_nesting.specs.Laws.{EntriesReachAll}
 use Rattle.control_nesting.proofs.WellFormedSets.{entries_reach}
 use Rattle.simulation_values.specs.Holding.{Holds, own, by_call}

@@ -23,7 +23,6 @@ use Rattle.dep_model.specs.FunctionVertices.{numbers}
 use Rattle.dep_model.specs.MayPoint.{parameters}
 use Rattle.dep_model.specs.SystemGraph.{Analysis, vertices_of}
 use Rattle.dep_model.proofs.Membership.{IsIn, in_of_contains}
-use Rattle.kept_numbers.specs.Ranks.{rank}
 use Rattle.projection.specs.Kept.{Kept}
 use Rattle.projection.specs.KeptVertices.{kept_words, kept_of, is_argument}
 use Rattle.projection.specs.Renumbering.{renamed_init}
@@ -34,23 +33,24 @@ use Rattle.hanging_sets.proofs.HeldVertices.{same_number, argument_kept}
 use Rattle.hanging_sets.proofs.KeptDoings.{argument_owned}
 use Rattle.run_facts.specs.Effects.{parameters_at}
 use Rattle.simulation_locations.specs.KeptVertices.{any_kept}
-use Rattle.simulation_places.specs.ProjectedCode.{renamed_all}
-use Rattle.simulation_programs.specs.LikeParts.{projected_routine, projected_globals, HasLikeParts}
+use Rattle.simulation_places.specs.ProjectedCode.{Numbering, renamed_all}
+use Rattle.simulation_places.specs.LikeParts.{projected_routine, projected_globals, HasLikeParts}
+use Rattle.simulation_places.specs.Counterparts.{ranks_of}
 use Rattle.simulation_programs.proofs.KeptParts.{both_ways, any_there, one_there}
 use Rattle.simulation_steps.specs.Likeness.{HasLikeActs}
 use Rattle.simulation_steps.specs.LikeCalls.{AreLikeRoutines, none, routine, HasLikeCalls}
 
-module _ (p q : Program) (k : Kept ℕ) (hangs : HangsTogether p k) (like : HasLikeParts p q k) where
+module _ (p q : Program) (k : Kept ℕ) (new : Numbering) (hangs : HangsTogether p k) (like : HasLikeParts p q k new) where
   -- a function that still gives its result has its type
-  result_of_routine : (f : ℕ) (o : Option Routine) → k.gives f ≡ true → option_map_or (λ (r : Routine). r.result) (option_map (projected_routine k f) o) None ≡ option_map_or (λ (r : Routine). r.result) o None
+  result_of_routine : (f : ℕ) (o : Option Routine) → k.gives f ≡ true → option_map_or (λ (r : Routine). r.result) (option_map (projected_routine k new f) o) None ≡ option_map_or (λ (r : Routine). r.result) o None
   result_of_routine f None gives = refl
   result_of_routine f (Some r) gives = ap (λ (b : Bool). if b then r.result else None) gives
 
-  results_are : (f : ℕ) → k.function f ≡ true → k.gives f ≡ true → result_at (executable q) (rank k.function f) ≡ result_at (executable p) f
+  results_are : (f : ℕ) → k.function f ≡ true → k.gives f ≡ true → result_at (executable q) (new.function f) ≡ result_at (executable p) f
   results_are f kept gives =
       ap (λ (o : Option Routine). option_map_or (λ (r : Routine). r.result) o None) (like.routines_are f kept) ∙ result_of_routine f (slice_get (executable p).functions f) gives
 
-  pub like_acts : HasLikeActs p q k
+  pub like_acts : HasLikeActs p q k new
   like_acts = record {
     names_kept = λ f i x act m kept named. hangs.acts f i x act m kept named;
     types_are = like.types_are;
@@ -60,9 +60,9 @@ module _ (p q : Program) (k : Kept ℕ) (hangs : HangsTogether p k) (like : HasL
 
   -- ---- routines and globals
 
-  like_routine : (g : ℕ) (o u : Option Routine) → u ≡ option_map (projected_routine k g) o → AreLikeRoutines k g o u
-  like_routine g None u e = subst (AreLikeRoutines k g None) (sym e) none
-  like_routine g (Some r) u e = subst (AreLikeRoutines k g (Some r)) (sym e) (routine (record { params_are = refl; locals_are = refl }))
+  like_routine : (g : ℕ) (o u : Option Routine) → u ≡ option_map (projected_routine k new g) o → AreLikeRoutines k new g o u
+  like_routine g None u e = subst (AreLikeRoutines k new g None) (sym e) none
+  like_routine g (Some r) u e = subst (AreLikeRoutines k new g (Some r)) (sym e) (routine (record { params_are = refl; locals_are = refl }))
 
   abbrev variables_of : List Global → List ℕ
   variables_of gs = map (λ (g : Global). g.variable) gs
@@ -71,10 +71,10 @@ module _ (p q : Program) (k : Kept ℕ) (hangs : HangsTogether p k) (like : HasL
   one_more true h hs xs e = ap (λ ys. h.variable ∷ ys) e
   one_more false h hs xs e = e
 
-  global_variables : (gs : List Global) → variables_of (projected_globals k gs) ≡ renamed_all k (variables_of gs)
+  global_variables : (gs : List Global) → variables_of (projected_globals k new gs) ≡ renamed_all k new (variables_of gs)
   global_variables [] = refl
   global_variables (g ∷ gs) =
-      one_more (k.variable g.variable) (record { variable = rank k.variable g.variable; init = renamed_init (rank k.variable) g.init }) (projected_globals k gs) (renamed_all k (variables_of gs)) (global_variables gs)
+      one_more (k.variable g.variable) (record { variable = new.variable g.variable; init = renamed_init new.variable g.init }) (projected_globals k new gs) (renamed_all k new (variables_of gs)) (global_variables gs)
 
   parameters_same : (g : ℕ) → parameters_at (executable p) g ≡ parameters p g
   parameters_same g = ap (λ (o : Option Routine). option_map_or (λ (r : Routine). r.params) o []) (slice_get-map routine_of p.functions g) ∙ of_function (slice_get p.functions g)
@@ -110,13 +110,14 @@ module _ (p : Program) (a : Analysis) (set : List Bool) (apart : AreApart (progr
       own_argument : (j n : ℕ) → is_argument j n (kind.ActualIn j (slot.Argument n)) ≡ true
       own_argument j n = and_from (j == j) (n == n) (eq-eqb j j refl) (eq-eqb n n refl)
 
-  pub like_calls : (q : Program) → HangsTogether p (kept_of set vs p) → HasLikeParts p q (kept_of set vs p) → HasLikeCalls p q a (kept_of set vs p) set
+  pub like_calls : (q : Program) → HangsTogether p (kept_of set vs p) → HasLikeParts p q (kept_of set vs p) (ranks_of (kept_of set vs p)) → HasLikeCalls p q a (kept_of set vs p) (ranks_of (kept_of set vs p)) set
   like_calls q hangs like =
       let k : Kept ℕ = kept_of set vs p in
+      let new : Numbering = ranks_of k in
       record {
-        routines = λ g kept. like_routine p q k hangs like g (slice_get (executable p).functions g) (slice_get (executable q).functions (rank k.function g)) (like.routines_are g kept);
-        globals = ap (map (λ (g : Global). g.variable)) like.globals_are ∙ global_variables p q k hangs like (executable p).globals;
-        parameters = λ g n x at. hangs.parameters_too g n x (subst (λ xs. slice_get xs n ≡ Some x) (parameters_same p q k hangs like g) at);
+        routines = λ g kept. like_routine p q k new hangs like g (slice_get (executable p).functions g) (slice_get (executable q).functions (new.function g)) (like.routines_are g kept);
+        globals = ap (map (λ (g : Global). g.variable)) like.globals_are ∙ global_variables p q k new hangs like (executable p).globals;
+        parameters = λ g n x at. hangs.parameters_too g n x (subst (λ xs. slice_get xs n ≡ Some x) (parameters_same p q k new hangs like g) at);
         arguments = hangs.arguments;
         names_kept = λ f i g x to args m kept named. hangs.calls f i g x to args m kept named;
         argument_vertices = λ f i g to args m n. argument_as_vertex f i g n to args (in_of_contains (doings_of p f) _ m);

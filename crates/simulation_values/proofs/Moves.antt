@@ -2,7 +2,6 @@
 use Rattle.std.proofs.Common.{◌≡◌, ℕ, ◌==◌, List, [], ◌∷◌, ◌++◌, append-nil, length, Option, Some, None, Bool, true, false, if◌then◌else◌, inl, inr, refl, sym, ap, ◌∙◌, subst}
 use Rattle.std.proofs.lemmas.Bool.{false≢true}
 use Rattle.c_language.proofs.Options.{none_there}
-use Rattle.c_tree.specs.declared.program.Program.{Program}
 use Rattle.c_language.specs.Code.{Code, End, Opens, Plain, Fork, Loop, Leaves, Call, either}
 use Rattle.c_meaning.specs.Activations.{executable, types_in}
 use Rattle.c_meaning.specs.Steps.{Point}
@@ -10,23 +9,20 @@ use Rattle.c_meaning.specs.Values.{Types, State, variable_opened, variable_close
 use Rattle.c_meaning.proofs.Origins.{blocks_have_origins}
 use Rattle.dep_model.specs.declared.location.Location.{Location}
 use Rattle.dep_model.specs.ModRef.{is_outside}
-use Rattle.dep_model.specs.SystemGraph.{Analysis}
-use Rattle.kept_numbers.specs.Ranks.{rank}
-use Rattle.projection.specs.Kept.{Kept}
 use Rattle.simulation.specs.Agreeing.{Agree, Together}
 use Rattle.run_facts.specs.NextSteps.{Next, Ends, Passes, Does, Calls, next_of}
 use Rattle.simulation.specs.Premises.{Moving}
 use Rattle.simulation.specs.Renaming.{World, FramesStand, AlikeAt, Counts}
 use Rattle.simulation.specs.Settings.{Setting}
-use Rattle.simulation_locations.specs.Chained.{Counterpart, chained}
-use Rattle.simulation_places.specs.Counterparts.{counterpart_of}
+use Rattle.simulation_places.specs.Counterparts.{names_of}
 use Rattle.simulation_places.specs.ProjectedCode.{renamed_all, project_code, keeps_move}
+use Rattle.simulation_places.proofs.Projecting.{leaves_kept}
 use Rattle.simulation_steps.proofs.AlikeOn.{moves_leave_alike}
 use Rattle.simulation_steps.proofs.BeginTogether.{variables_begin_together}
 use Rattle.simulation_steps.proofs.Closing.{viewed, blocks_closed, alike_closed}
-use Rattle.simulation_programs.proofs.KeptFrames.{names, frames_alone}
-use Rattle.simulation_values.specs.Laws.{KeepsTypes}
-use Rattle.simulation_values.proofs.GoneFrames.{apart, leaves_kept, are_among, frames_close, frames_close_alone}
+use Rattle.simulation_steps.proofs.LikeRoutines.{are_among}
+use Rattle.simulation_steps.specs.SlicePairs.{SlicePair, setting_over}
+use Rattle.simulation_values.proofs.GoneFrames.{frames_alone, frames_close, frames_close_alone}
 
 abbrev Change : Type 0
 Change = Types → State → State
@@ -51,35 +47,32 @@ closed_returned : (xs : List ℕ) (s : State) → (all_closed xs s).returned ≡
 closed_returned [] s = refl
 closed_returned (x ∷ xs) s = closed_returned xs (variable_closed x s)
 
-module _ (p q : Program) (a : Analysis) (k : Kept ℕ) (kept : List Bool) (input : List ℕ) (criterion ranks : ℕ → Bool) (holds : ℕ → Type 0) (types_are : KeepsTypes p q k) where
-  abbrev c : Counterpart
-  c = counterpart_of q k input criterion ranks
-
+module _ (pair : SlicePair) (holds : ℕ → Type 0) where
   abbrev s : Setting
-  s = chained p a kept c holds
+  s = setting_over pair holds
 
   abbrev outside : Location → Bool
-  outside = is_outside p
+  outside = is_outside pair.original
 
   -- what both do, where the original does this and the slice that
   abbrev GoTogether : World → Point → Point → Change → Change → Type 0
   GoTogether w x y change there =
-      Together s w x.function x.callers (λ l. false) x.state y.state (change (types_in (executable p) x.function) x.state) (there (types_in (executable q) y.function) y.state)
+      Together s w x.function x.callers (λ l. false) x.state y.state (change (types_in (executable pair.original) x.function) x.state) (there (types_in (executable pair.slice) y.function) y.state)
 
   -- ---- a variable begins
 
-  begin : (w : World) (x y : Point) (z : ℕ) → Agree s w x y → k.variable z ≡ true → GoTogether w x y (λ types m. variable_opened types z m) (λ types m. variable_opened types (rank k.variable z) m)
+  begin : (w : World) (x y : Point) (z : ℕ) → Agree s w x y → pair.kept.variable z ≡ true → GoTogether w x y (λ types m. variable_opened types z m) (λ types m. variable_opened types (pair.new.variable z) m)
   begin w x y z h stays =
-      let types = types_in (executable p) x.function in
-      let there = types_in (executable q) y.function in
-      let begun = variables_begin_together (names k) outside w types there z x.state y.state (record {
-        tracked = blocks_have_origins p input x h.reached;
-        tracked_there = blocks_have_origins q input y h.reached_there;
+      let types = types_in (executable pair.original) x.function in
+      let there = types_in (executable pair.slice) y.function in
+      let begun = variables_begin_together (names_of pair.kept pair.new) outside w types there z x.state y.state (record {
+        tracked = blocks_have_origins pair.original pair.input x h.reached;
+        tracked_there = blocks_have_origins pair.slice pair.input y h.reached_there;
         blocks = h.blocks;
         frames = h.frames;
         stays = stays;
-        apart = apart k;
-        type_is = types_are z stays;
+        apart = pair.apart;
+        type_is = pair.acts.types_are z stays;
       }) in
       record {
         world = w ++ length x.state.memory.blocks ∷ [];
@@ -103,70 +96,70 @@ module _ (p q : Program) (a : Analysis) (k : Kept ℕ) (kept : List Bool) (input
       before_ b (inl out) = inl out
       before_ b (inr n) = inr (n.0, n.1, fewer n.0 b n.2)
 
-  gone_alike : (w : World) (xs : List ℕ) (m n : State) (l : Location) → FramesStand (names k) w m.frame n.frame → AlikeAt outside w l m n → AlikeAt outside w l (all_closed xs m) (all_closed (renamed_all k xs) n)
+  gone_alike : (w : World) (xs : List ℕ) (m n : State) (l : Location) → FramesStand (names_of pair.kept pair.new) w m.frame n.frame → AlikeAt outside w l m n → AlikeAt outside w l (all_closed xs m) (all_closed (renamed_all pair.kept pair.new xs) n)
   gone_alike w xs m n l frames h =
-      let ys = renamed_all k xs in
+      let ys = renamed_all pair.kept pair.new xs in
       let here = all_closed xs m in
       let there = all_closed ys n in
-      let g = alike_closed (names k) w m n xs ys (are_among k xs) frames outside here.frame there.frame m.returned n.returned l (fewer_named w l m n here.frame there.frame (closed_frame xs m) h) in
+      let g = alike_closed (names_of pair.kept pair.new) w m n xs ys (are_among pair.kept pair.new xs) frames outside here.frame there.frame m.returned n.returned l (fewer_named w l m n here.frame there.frame (closed_frame xs m) h) in
       subst (λ r. AlikeAt outside w l (viewed here.frame r here) there) (sym (closed_returned xs m)) (subst (λ r. AlikeAt outside w l (viewed here.frame m.returned here) (viewed there.frame r there)) (sym (closed_returned ys n)) g)
 
-  go : (w : World) (x y : Point) (xs : List ℕ) → Agree s w x y → GoTogether w x y (λ types m. all_closed xs m) (λ types m. all_closed (renamed_all k xs) m)
+  go : (w : World) (x y : Point) (xs : List ℕ) → Agree s w x y → GoTogether w x y (λ types m. all_closed xs m) (λ types m. all_closed (renamed_all pair.kept pair.new xs) m)
   go w x y xs h =
       let m = x.state in
       let n = y.state in
-      let ys = renamed_all k xs in
+      let ys = renamed_all pair.kept pair.new xs in
       record {
         world = w;
         grows = record { more = []; world_is = sym (append-nil w) };
-        blocks = blocks_closed (names k) w m n xs ys (are_among k xs) h.frames h.blocks;
-        frames = frames_close k w xs m n h.frames;
+        blocks = blocks_closed (names_of pair.kept pair.new) w m n xs ys (are_among pair.kept pair.new xs) h.frames h.blocks;
+        frames = frames_close pair.kept pair.new pair.apart w xs m n h.frames;
         same = λ l e. elim e [ inl killed ↦ absurd (false≢true killed) | inr same ↦ gone_alike w xs m n l h.frames same ];
-        waiting = λ above b d below l e frames other same. alike_closed (names k) w m n xs ys (are_among k xs) h.frames outside b.frame d.frame b.returned d.returned l same;
+        waiting = λ above b d below l e frames other same. alike_closed (names_of pair.kept pair.new) w m n xs ys (are_among pair.kept pair.new xs) h.frames outside b.frame d.frame b.returned d.returned l same;
       }
 
   -- ---- a move, by what comes next
 
-  by_code : (w : World) (x y : Point) (e : Code) (change there : Change) (r d : Code) → Agree s w x y → next_of e ≡ Passes change r → keeps_move k e ≡ true → next_of (project_code k e) ≡ Passes there d → GoTogether w x y change there
+  by_code : (w : World) (x y : Point) (e : Code) (change there : Change) (r d : Code) → Agree s w x y → next_of e ≡ Passes change r → keeps_move pair.kept e ≡ true → next_of (project_code pair.kept pair.new e) ≡ Passes there d → GoTogether w x y change there
   by_code w x y End change there r d h is moves is_there = absurd (false≢true moves)
   by_code w x y (Opens z f) change there r d h is moves is_there =
       subst (λ (g : Change). GoTogether w x y g there) (ap change_of is)
-      (subst (λ (g : Change). GoTogether w x y (λ types m. variable_opened types z m) g) (ap change_of (sym (ap (λ b. next_of (either b (Opens (rank k.variable z) (project_code k f)) (project_code k f))) moves) ∙ is_there)) (begin w x y z h moves))
+      (subst (λ (g : Change). GoTogether w x y (λ types m. variable_opened types z m) g) (ap change_of (sym (ap (λ b. next_of (either b (Opens (pair.new.variable z) (project_code pair.kept pair.new f)) (project_code pair.kept pair.new f))) moves) ∙ is_there)) (begin w x y z h moves))
   by_code w x y (Plain i act f) change there r d h is moves is_there = absurd (false≢true moves)
   by_code w x y (Fork i e f g) change there r d h is moves is_there = absurd (false≢true moves)
   by_code w x y (Loop i e f g) change there r d h is moves is_there = absurd (false≢true moves)
   by_code w x y (Leaves xs f) change there r d h is moves is_there =
       subst (λ (g : Change). GoTogether w x y g there) (ap change_of is)
-      (subst (λ (g : Change). GoTogether w x y (λ types m. all_closed xs m) g) (ap change_of (sym (ap next_of (leaves_kept k xs (project_code k f) moves)) ∙ is_there)) (go w x y xs h))
+      (subst (λ (g : Change). GoTogether w x y (λ types m. all_closed xs m) g) (ap change_of (sym (ap next_of (leaves_kept pair.kept pair.new xs (project_code pair.kept pair.new f) moves)) ∙ is_there)) (go w x y xs h))
   by_code w x y (Call i to g args f) change there r d h is moves is_there = absurd (false≢true moves)
 
   -- ---- a move of the original alone
 
   abbrev AloneFrames : World → Point → Point → Change → Type 0
-  AloneFrames w x y change = FramesStand (names k) w (change (types_in (executable p) x.function) x.state).frame y.state.frame
+  AloneFrames w x y change = FramesStand (names_of pair.kept pair.new) w (change (types_in (executable pair.original) x.function) x.state).frame y.state.frame
 
   abbrev AloneAlike : World → Point → Point → Location → Change → Type 0
-  AloneAlike w x y l change = AlikeAt outside w l (change (types_in (executable p) x.function) x.state) y.state
+  AloneAlike w x y l change = AlikeAt outside w l (change (types_in (executable pair.original) x.function) x.state) y.state
 
-  frames_by_code : (w : World) (x y : Point) (e : Code) (change : Change) (r : Code) → Agree s w x y → next_of e ≡ Passes change r → keeps_move k e ≡ false → AloneFrames w x y change
+  frames_by_code : (w : World) (x y : Point) (e : Code) (change : Change) (r : Code) → Agree s w x y → next_of e ≡ Passes change r → keeps_move pair.kept e ≡ false → AloneFrames w x y change
   frames_by_code w x y End change r h is stays = cc
   frames_by_code w x y (Opens z f) change r h is stays =
-      subst (λ (g : Change). AloneFrames w x y g) (ap change_of is) (frames_alone k w z (Some (length x.state.memory.blocks)) x.state.frame y.state.frame stays h.frames)
+      subst (λ (g : Change). AloneFrames w x y g) (ap change_of is) (frames_alone (names_of pair.kept pair.new) w z (Some (length x.state.memory.blocks)) x.state.frame y.state.frame stays h.frames)
   frames_by_code w x y (Plain i act f) change r h is stays = cc
   frames_by_code w x y (Fork i e f g) change r h is stays = cc
   frames_by_code w x y (Loop i e f g) change r h is stays = cc
-  frames_by_code w x y (Leaves xs f) change r h is stays = subst (λ (g : Change). AloneFrames w x y g) (ap change_of is) (frames_close_alone k w xs x.state y.state stays h.frames)
+  frames_by_code w x y (Leaves xs f) change r h is stays = subst (λ (g : Change). AloneFrames w x y g) (ap change_of is) (frames_close_alone pair.kept pair.new pair.apart w xs x.state y.state stays h.frames)
   frames_by_code w x y (Call i to g args f) change r h is stays = cc
 
   alike_by_code : (w : World) (x y : Point) (l : Location) (e : Code) (change : Change) (r : Code) → Agree s w x y → next_of e ≡ Passes change r → AlikeAt outside w l x.state y.state → AloneAlike w x y l change
   alike_by_code w x y l End change r h is same = cc
   alike_by_code w x y l (Opens z f) change r h is same =
-      subst (λ (g : Change). AloneAlike w x y l g) (ap change_of is) ((moves_leave_alike (names k) outside w (types_in (executable p) x.function) x.state y.state l h.blocks same).0 z)
+      subst (λ (g : Change). AloneAlike w x y l g) (ap change_of is) ((moves_leave_alike (names_of pair.kept pair.new) outside w (types_in (executable pair.original) x.function) x.state y.state l h.blocks same).0 z)
   alike_by_code w x y l (Plain i act f) change r h is same = cc
   alike_by_code w x y l (Fork i e f g) change r h is same = cc
   alike_by_code w x y l (Loop i e f g) change r h is same = cc
   alike_by_code w x y l (Leaves xs f) change r h is same =
-      subst (λ (g : Change). AloneAlike w x y l g) (ap change_of is) ((moves_leave_alike (names k) outside w (types_in (executable p) x.function) x.state y.state l h.blocks same).1 xs)
+      subst (λ (g : Change). AloneAlike w x y l g) (ap change_of is) ((moves_leave_alike (names_of pair.kept pair.new) outside w (types_in (executable pair.original) x.function) x.state y.state l h.blocks same).1 xs)
   alike_by_code w x y l (Call i to g args f) change r h is same = cc
 
   pub moving : Moving s

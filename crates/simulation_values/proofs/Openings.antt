@@ -1,5 +1,5 @@
 -- The globals have begun in a program and in its slice.
-use Rattle.std.proofs.Common.{◌≡◌, ℕ, List, [], ◌∷◌, ◌++◌, length, Option, None, Bool, true, false, inl, inr, refl, sym, ap, ap₂, ◌∙◌, subst}
+use Rattle.std.proofs.Common.{◌≡◌, ℕ, List, [], ◌∷◌, ◌++◌, length, Option, None, true, false, inl, inr, refl, sym, ap, ap₂, ◌∙◌, subst}
 use Rattle.std.specs.List.{list_all}
 use Rattle.std.proofs.lemmas.Bool.{and_parts, false≢true}
 use Rattle.c_tree.specs.declared.expr.Expr.{Expr}
@@ -7,7 +7,6 @@ use Rattle.c_tree.specs.declared.program.Init.{Init}
 use Rattle.c_tree.specs.declared.program.Init.TheVariants as init
 use Rattle.c_tree.specs.declared.program.Item.{Item}
 use Rattle.c_tree.specs.declared.program.Item.TheVariants as item
-use Rattle.c_tree.specs.declared.program.Program.{Program}
 use Rattle.c_language.specs.declared.expr_type.ExprType.{ExprType}
 use Rattle.c_language.specs.Names.{init_names}
 use Rattle.c_language.proofs.Tests.{by_answer}
@@ -18,18 +17,14 @@ use Rattle.dep_model.specs.IntegerForms.{integer_init}
 use Rattle.dep_model.specs.declared.location.Location.{Location}
 use Rattle.dep_model.specs.ModRef.{is_outside}
 use Rattle.dep_model.specs.PointerFree.{is_pointer_free_item, IsPointerFree}
-use Rattle.dep_model.specs.SystemGraph.{Analysis}
 use Rattle.dep_model.proofs.Membership.{IsIn, contains_of_in}
-use Rattle.kept_numbers.specs.Ranks.{rank}
-use Rattle.projection.specs.Kept.{Kept}
 use Rattle.projection.specs.Projection.{if_so}
 use Rattle.projection.specs.Renumbering.{renamed_init}
 use Rattle.simulation.specs.Premises.{Beginning}
 use Rattle.simulation.specs.Renaming.{World, AlikeCell, empty, AlikeAt, neither}
 use Rattle.simulation.specs.Settings.{Setting}
-use Rattle.simulation_locations.specs.Chained.{chained}
-use Rattle.simulation_places.specs.Counterparts.{counterpart_of}
-use Rattle.simulation_programs.specs.LikeParts.{projected_globals, HasLikeParts}
+use Rattle.simulation_places.specs.LikeParts.{projected_globals}
+use Rattle.simulation_steps.specs.SlicePairs.{SlicePair, setting_over}
 use Rattle.simulation_values.specs.Laws.{BeginsWithConstants}
 use Rattle.simulation_values.proofs.NewBlocks.{IsPlain, with_block_of, Begun, begun_alone, begun_both}
 use Rattle.simulation_values.proofs.Constants.{constant_value}
@@ -54,31 +49,31 @@ renamed_items f init.None free es e = cc
 renamed_items f (init.One x) free es e = cc
 renamed_items f (init.Items xs) free es e = false≢true free
 
-module _ (p q : Program) (k : Kept ℕ) (free : IsPointerFree p) (constant : BeginsWithConstants p) (like : HasLikeParts p q k) where
+module _ (pair : SlicePair) (free : IsPointerFree pair.original) (constant : BeginsWithConstants pair.original) where
   abbrev here : Executable
-  here = executable p
+  here = executable pair.original
 
   abbrev there : Executable
-  there = executable q
+  there = executable pair.slice
 
   -- what a global begins with comes to the same in both
-  same_value : (g : Global) → IsIn here.globals g → (s t : State) → (i : Init) → g.init ≡ i → init_value (outside there) (renamed_init (rank k.variable) i) t ≡ init_value (outside here) i s
+  same_value : (g : Global) → IsIn here.globals g → (s t : State) → (i : Init) → g.init ≡ i → init_value (outside there) (renamed_init pair.new.variable i) t ≡ init_value (outside here) i s
   same_value g m s t init.None e = refl
   same_value g m s t (init.One x) e =
-      constant_value (outside here) (outside there) (rank k.variable) s t x (ap integer_init (sym e) ∙ integer_globals p.items free.items_are g m) (λ y. ap (λ (i : Init). init_names i y) (sym e) ∙ constant g y (contains_of_in here.globals g m))
+      constant_value (outside here) (outside there) pair.new.variable s t x (ap integer_init (sym e) ∙ integer_globals pair.original.items free.items_are g m) (λ y. ap (λ (i : Init). init_names i y) (sym e) ∙ constant g y (contains_of_in here.globals g m))
   same_value g m s t (init.Items xs) e = refl
 
   -- a global begins in both, or in the original alone
   pub record Next (w : World) (m n : State) : Type 0 where
     pub world : World
-    pub begun : Begun k world m n
+    pub begun : Begun pair.kept pair.new world m n
 
-  module _ (g : Global) (member : IsIn here.globals g) (w : World) (m n : State) (h : Begun k w m n) where
+  module _ (g : Global) (member : IsIn here.globals g) (w : World) (m n : State) (h : Begun pair.kept pair.new w m n) where
     abbrev x : ℕ
     x = g.variable
 
     integers : integer_init g.init ≡ true
-    integers = integer_globals p.items free.items_are g member
+    integers = integer_globals pair.original.items free.items_are g member
 
     abbrev block : Block
     block = begun_block m.memory.structs (here.typing.variable x) (init_value (outside here) g.init (global_opened here x m))
@@ -86,46 +81,46 @@ module _ (p q : Program) (k : Kept ℕ) (free : IsPointerFree p) (constant : Beg
     here_is : global_begun here g m ≡ with_block_of x block m
     here_is = global_is here g m (no_items g.init integers)
 
-    begins_alone : k.variable x ≡ false → Begun k w (global_begun here g m) n
-    begins_alone goes = subst (λ (s : State). Begun k w s n) (sym here_is) (begun_alone k w m n h x block goes)
+    begins_alone : pair.kept.variable x ≡ false → Begun pair.kept pair.new w (global_begun here g m) n
+    begins_alone goes = subst (λ (s : State). Begun pair.kept pair.new w s n) (sym here_is) (begun_alone pair.kept pair.new pair.apart w m n h x block goes)
 
     abbrev twin : Global
-    twin = record { variable = rank k.variable x; init = renamed_init (rank k.variable) g.init }
+    twin = record { variable = pair.new.variable x; init = renamed_init pair.new.variable g.init }
 
-    there_is : k.variable x ≡ true → global_begun there twin n ≡ with_block_of (rank k.variable x) block n
+    there_is : pair.kept.variable x ≡ true → global_begun there twin n ≡ with_block_of (pair.new.variable x) block n
     there_is stays =
-        global_is there twin n (renamed_items (rank k.variable) g.init integers)
-        ∙ ap (λ (b : Block). with_block_of (rank k.variable x) b n)
-        (ap (λ ss. begun_block ss (there.typing.variable (rank k.variable x)) (init_value (outside there) twin.init (global_opened there (rank k.variable x) n))) (sym h.blocks.structs_are)
-        ∙ ap₂ (λ (t : ExprType) v. begun_block m.memory.structs t v) (like.types_are x stays) (same_value g member (global_opened here x m) (global_opened there (rank k.variable x) n) g.init refl))
+        global_is there twin n (renamed_items pair.new.variable g.init integers)
+        ∙ ap (λ (b : Block). with_block_of (pair.new.variable x) b n)
+        (ap (λ ss. begun_block ss (there.typing.variable (pair.new.variable x)) (init_value (outside there) twin.init (global_opened there (pair.new.variable x) n))) (sym h.blocks.structs_are)
+        ∙ ap₂ (λ (t : ExprType) v. begun_block m.memory.structs t v) (pair.parts.types_are x stays) (same_value g member (global_opened here x m) (global_opened there (pair.new.variable x) n) g.init refl))
 
-    begins_both : k.variable x ≡ true → Next w (global_begun here g m) (global_begun there twin n)
+    begins_both : pair.kept.variable x ≡ true → Next w (global_begun here g m) (global_begun there twin n)
     begins_both stays =
         let i = free.integers x in
         let plain = subst (λ (t : ExprType). (v : _) → IsPlain m.memory.structs (begun_block m.memory.structs t v)) (sym i.1) (block_plain m.memory.structs i.0) in
-        let both = begun_both k w m n h x block stays (block_live m.memory.structs (here.typing.variable x) _) (plain _) in
+        let both = begun_both pair.kept pair.new pair.apart w m n h x block stays (block_live m.memory.structs (here.typing.variable x) _) (plain _) in
         record {
           world = w ++ length m.memory.blocks ∷ [];
-          begun = subst (λ (s : State). Begun k (w ++ length m.memory.blocks ∷ []) s (global_begun there twin n)) (sym here_is) (subst (λ (s : State). Begun k (w ++ length m.memory.blocks ∷ []) (with_block_of x block m) s) (sym (there_is stays)) both);
+          begun = subst (λ (s : State). Begun pair.kept pair.new (w ++ length m.memory.blocks ∷ []) s (global_begun there twin n)) (sym here_is) (subst (λ (s : State). Begun pair.kept pair.new (w ++ length m.memory.blocks ∷ []) (with_block_of x block m) s) (sym (there_is stays)) both);
         }
 
-  all_begin : (gs : List Global) → ((g : Global) → IsIn gs g → IsIn here.globals g) → (w : World) (m n : State) → Begun k w m n → Next w (all_begun here gs m) (all_begun there (projected_globals k gs) n)
+  all_begin : (gs : List Global) → ((g : Global) → IsIn gs g → IsIn here.globals g) → (w : World) (m n : State) → Begun pair.kept pair.new w m n → Next w (all_begun here gs m) (all_begun there (projected_globals pair.kept pair.new gs) n)
   all_begin [] among w m n h = record { world = w; begun = h }
   all_begin (g ∷ gs) among w m n h =
-      by_answer (k.variable g.variable)
+      by_answer (pair.kept.variable g.variable)
       (λ stays.
       let one = begins_both g (among g (inl refl)) w m n h stays in
       let rest = all_begin gs (λ x i. among x (inr i)) one.world (global_begun here g m) _ one.begun in
-      record { world = rest.world; begun = subst (λ ys. Begun k rest.world (all_begun here (g ∷ gs) m) (all_begun there ys n)) (sym (ap (λ b. if_so b (record { variable = rank k.variable g.variable; init = renamed_init (rank k.variable) g.init } ∷ projected_globals k gs) (projected_globals k gs)) stays)) rest.begun })
+      record { world = rest.world; begun = subst (λ ys. Begun pair.kept pair.new rest.world (all_begun here (g ∷ gs) m) (all_begun there ys n)) (sym (ap (λ b. if_so b (record { variable = pair.new.variable g.variable; init = renamed_init pair.new.variable g.init } ∷ projected_globals pair.kept pair.new gs) (projected_globals pair.kept pair.new gs)) stays)) rest.begun })
       (λ goes.
       let rest = all_begin gs (λ x i. among x (inr i)) w (global_begun here g m) n (begins_alone g (among g (inl refl)) w m n h goes) in
-      record { world = rest.world; begun = subst (λ ys. Begun k rest.world (all_begun here (g ∷ gs) m) (all_begun there ys n)) (sym (ap (λ b. if_so b (record { variable = rank k.variable g.variable; init = renamed_init (rank k.variable) g.init } ∷ projected_globals k gs) (projected_globals k gs)) goes)) rest.begun })
+      record { world = rest.world; begun = subst (λ ys. Begun pair.kept pair.new rest.world (all_begun here (g ∷ gs) m) (all_begun there ys n)) (sym (ap (λ b. if_so b (record { variable = pair.new.variable g.variable; init = renamed_init pair.new.variable g.init } ∷ projected_globals pair.kept pair.new gs) (projected_globals pair.kept pair.new gs)) goes)) rest.begun })
 
   -- before the first global
-  blank_begun : Begun k [] (blank here) (blank there)
+  blank_begun : Begun pair.kept pair.new [] (blank here) (blank there)
   blank_begun = record {
     blocks = record {
-      structs_are = sym like.structs_are;
+      structs_are = sym pair.parts.structs_are;
       count_is = refl;
       each = λ c b e. cc;
       one_to_one = λ b c d e j. cc;
@@ -140,16 +135,16 @@ module _ (p q : Program) (k : Kept ℕ) (free : IsPointerFree p) (constant : Beg
 
   globals_begin : Next [] (all_begun here here.globals (blank here)) (all_begun there there.globals (blank there))
   globals_begin =
-      subst (λ gs. Next [] (all_begun here here.globals (blank here)) (all_begun there gs (blank there))) (sym like.globals_are) (all_begin here.globals (λ g m. m) [] (blank here) (blank there) blank_begun)
+      subst (λ gs. Next [] (all_begun here here.globals (blank here)) (all_begun there gs (blank there))) (sym pair.parts.globals_are) (all_begin here.globals (λ g m. m) [] (blank here) (blank there) blank_begun)
 
-module _ (p q : Program) (a : Analysis) (k : Kept ℕ) (kept : List Bool) (input : List ℕ) (criterion ranks : ℕ → Bool) (holds : ℕ → Type 0) (free : IsPointerFree p) (constant : BeginsWithConstants p) (like : HasLikeParts p q k) where
+module _ (pair : SlicePair) (holds : ℕ → Type 0) (free : IsPointerFree pair.original) (constant : BeginsWithConstants pair.original) where
   abbrev s : Setting
-  s = chained p a kept (counterpart_of q k input criterion ranks) holds
+  s = setting_over pair holds
 
   nothing_returned : (w : World) (o u : Option _) → o ≡ None → u ≡ None → AlikeCell w o u
   nothing_returned w o u e j = subst (λ z. AlikeCell w z u) (sym e) (subst (λ z. AlikeCell w None z) (sym j) empty)
 
-  opening_alike : (w : World) (m n : State) → Begun k w m n → (l : Location) → AlikeAt (is_outside p) w l (record m { unread = input }) (record n { unread = input })
+  opening_alike : (w : World) (m n : State) → Begun pair.kept pair.new w m n → (l : Location) → AlikeAt (is_outside pair.original) w l (record m { unread = pair.input }) (record n { unread = pair.input })
   opening_alike w m n h l = record {
     cells = λ b c path e counts live at. h.cells b c path e live;
     input = λ e. refl;
@@ -158,7 +153,7 @@ module _ (p q : Program) (a : Analysis) (k : Kept ℕ) (kept : List Bool) (input
 
   pub beginning_together : Beginning s
   beginning_together =
-      let all = globals_begin p q k free constant like in
+      let all = globals_begin pair free constant in
       let h = all.begun in
       record {
         world = all.world;

@@ -1,12 +1,11 @@
 -- The variables that a function declares, with its parameters, are owned by a function.
-use Rattle.std.proofs.Common.{◌≡◌, ℕ, List, [], ◌∷◌, ◌++◌, map, Bool, true, false, Option, Some, None, refl, sym, ap, ◌∙◌, subst}
+use Rattle.std.proofs.Common.{◌≡◌, ℕ, List, [], ◌∷◌, ◌++◌, map, false, Option, Some, None, refl, sym, ap, ◌∙◌, subst}
 use Rattle.std.specs.Prelude.{is_none}
 use Rattle.c_language.proofs.Options.{map_there}
 use Rattle.c_language.proofs.PhraseLists.{variables-append}
-use Rattle.c_language.proofs.ScopeNumbers.{through_function}
-use Rattle.c_language.specs.Phrases.{Stand, InHead, InBlock, InArm, InFor, Part, Declares, Tests, Phrases, phrase, begun_phrases, declaration, target_phrases, joined_at, at_stand, block_phrases, ArmText, phrases_of_arms, phrases_step, scoped_step, scoped_arm, scoped, scoped_of_arm, body_phrases, after_body, parameter_phrases, head_phrases, item_phrases}
-use Rattle.c_language.specs.ProgramOf.{variable_of, declared_by, variables_in}
-use Rattle.c_language.specs.Scopes.{Scope, Scoped, opened, closed, numbered, with_variable, with_function, with_target, with_named, with_parameter, with_parameters, parameter_of, scope_of_parameters, entered, begun, in_order, after_all, after_block}
+use Rattle.c_language.specs.Phrases.{Stand, InHead, InBlock, InArm, InFor, Tests, Phrases, phrase, begun_phrases, declaration, target_phrases, joined_at, block_phrases, ArmText, phrases_of_arms, scoped_step, scoped_arm, scoped, scoped_of_arm, body_phrases, parameter_phrases, head_phrases, item_phrases}
+use Rattle.c_language.specs.ProgramOf.{variable_of, variables_in}
+use Rattle.c_language.specs.Scopes.{Scope, Scoped, opened, numbered, with_variable, with_target, with_named, with_parameter, with_parameters, parameter_of, scope_of_parameters, entered, begun, in_order, after_all, after_block}
 use Rattle.c_language.specs.Words.{Bytes}
 use Rattle.c_tree.specs.declared.program.Var.{Var}
 use Rattle.c_tree.specs.declared.raw.expr.RawExpr.{RawExpr}

@@ -1,9 +1,9 @@
 -- Each well-formed program has its own globals: each begins once, where a run begins, and none is a variable of a function.
-use Rattle.std.proofs.Common.{◌≡◌, ◌≢◌, ℕ, zero, suc, ◌+◌, ◌≤◌, ◌<◌, List, [], ◌∷◌, ◌++◌, length, map, Bool, true, false, Option, Some, None, inl, inr, refl, sym, ap, ap₂, ◌∙◌, subst, arith, le_refl}
+use Rattle.std.proofs.Common.{◌≡◌, ◌≢◌, ℕ, zero, suc, ◌+◌, ◌≤◌, ◌<◌, List, [], ◌∷◌, ◌++◌, length, map, Bool, false, Option, Some, None, inl, inr, refl, sym, ap, ◌∙◌, subst, arith, le_refl}
 use Rattle.std.specs.Prelude.{Contains, option_map, slice_get, is_none}
 use Rattle.std.specs.Option.{option_map_or}
 use Rattle.std.proofs.lemmas.Bool.Decides.{eqb_tells}
-use Rattle.std.proofs.lemmas.Option.{slice_get-map, same_Some}
+use Rattle.std.proofs.lemmas.Option.{slice_get-map}
 use Rattle.c_language.proofs.Lists.{no_list, head_is, tail_is}
 use Rattle.c_language.proofs.Options.{none_there, some_same, map_there, more_there}
 use Rattle.c_language.proofs.PhraseLists.{variables-append}
@@ -13,7 +13,7 @@ use Rattle.c_language.specs.DeclaredTypes.{struct_id, function_id}
 use Rattle.c_language.specs.Phrases.{item_phrases, items_phrases, after_item}
 use Rattle.c_language.specs.ProgramOf.{collected, init_of, function_tree, functions_from, treed, variables_in, items_from}
 use Rattle.c_language.specs.Programs.{IsWellFormed}
-use Rattle.c_language.specs.Scopes.{Scope, outset, with_variable, with_function, entered, after_all}
+use Rattle.c_language.specs.Scopes.{Scope, outset, with_variable, entered, after_all}
 use Rattle.c_tree.specs.Unlined.{SameButLines, unlined_var}
 use Rattle.c_tree.specs.declared.program.Function.{Function}
 use Rattle.c_tree.specs.declared.program.Item.{Item}
@@ -29,13 +29,13 @@ use Rattle.c_tree.specs.declared.raw.statement.RawStatement.{RawStatement}
 use Rattle.c_meaning.specs.Activations.{Routine, Global as Begun, executable, globals_in, routine_of, code_at}
 use Rattle.c_print_laws.proofs.Definitions.{program_parts}
 use Rattle.c_print_laws.proofs.Numbers.{item_variables}
-use Rattle.c_print_laws.proofs.Told.{Stands, AllStand, stand_first, stand_rest, stand_all}
+use Rattle.c_print_laws.proofs.Told.{AllStand, stand_first, stand_rest, stand_all}
 use Rattle.dep_model.specs.DoingEffects.{is_global}
 use Rattle.dep_model.specs.MayPoint.{parameters}
 use Rattle.dep_model.proofs.Membership.{IsIn, in_of_contains}
 use Rattle.kept_texts.proofs.OwnVariables.{after_body_is, entered_more, item_more, params_below, params_later}
-use Rattle.simulation_steps.specs.OwnGlobals.{BeginsNone, globals_of, HasOwnGlobals}
 use Rattle.simulation_programs.proofs.Lines.{same_executable}
+use Rattle.simulation_steps.specs.OwnGlobals.{BeginsNone, globals_of, HasOwnGlobals}
 use Rattle.simulation_values.specs.Laws.{GlobalsAreOwn}
 use Rattle.simulation_values.proofs.BegunParts.{body_own}
 use Rattle.simulation_values.proofs.OwnedVariables.{AllOwned, definition_owned}

@@ -18,55 +18,68 @@ use Rattle.numbered_texts.proofs.NumbersButLines.{statements_numbered}
 use Rattle.shaped_graphs.proofs.NumberLaws.{numbered_apart}
 use Rattle.hanging_sets.specs.Hanging.{HangsTogether}
 use Rattle.kept_texts.proofs.WellFormedProjections.{projectable_hangs}
-use Rattle.simulation_places.specs.Counterparts.{counterpart_of, AreProjected}
-use Rattle.simulation_programs.specs.LikeParts.{HasLikeParts}
+use Rattle.simulation_places.specs.Counterparts.{ranks_of}
+use Rattle.simulation_places.proofs.Ranks.{ranks_apart}
+use Rattle.simulation_places.specs.LikeParts.{HasLikeParts}
 use Rattle.simulation_programs.proofs.LikePrograms.{like_parts, projected}
-use Rattle.simulation_steps.specs.Likeness.{HasLikeActs}
 use Rattle.simulation_steps.specs.OwnGlobals.{HasOwnGlobals}
 use Rattle.simulation_steps.proofs.ActPremises.{acting, staying}
-use Rattle.simulation_steps.specs.LikeCalls.{HasLikeCalls}
 use Rattle.simulation_steps.proofs.Entering.{entering}
 use Rattle.simulation_steps.proofs.Returning.{returning}
+use Rattle.simulation_steps.specs.SlicePairs.{SlicePair, twin_of}
 use Rattle.simulation_values.specs.SameValues.{StandFor, HasSameValues}
 use Rattle.simulation_values.specs.Holding.{Holds}
 use Rattle.simulation_values.proofs.Moves.{moving}
 use Rattle.simulation_values.proofs.ConstantGlobals.{globals_constant}
 use Rattle.simulation_values.proofs.Openings.{beginning_together}
 use Rattle.simulation_values.proofs.Together.{GoTogether}
-use Rattle.simulation_values.proofs.Joint.{slices_same_values}
+use Rattle.simulation_values.proofs.Joint.{same_trace}
 use Rattle.simulation_values.proofs.Likeness.{like_acts, like_calls}
 
 module _ (p q : Program) (a : Analysis) (edges : List Edge) (kept : List Bool) (set ranks : ℕ → Bool) (ok : IsWellFormed p) (free : IsPointerFree p) (own : HasOwnGlobals p) (is_analysis : IsAnalysis p a) (are : AreSystemEdges p a edges) (able : IsProjectable p (vertices_of p a) edges kept) (same : SameButLines q (projection p (vertices_of p a) kept)) where
   abbrev k : Kept ℕ
   k = kept_of kept (vertices_of p a) p
 
-  abbrev holds : ℕ → Type 0
-  holds f = Holds p set f
-
   hangs : HangsTogether p k
   hangs = projectable_hangs p a edges kept ok are able
 
-  like : HasLikeParts p q k
+  like : HasLikeParts p q k (ranks_of k)
   like = like_parts p k ok hangs q same
 
-  proj : AreProjected p q a k kept
-  proj = projected p q a edges kept ok are able same
-
-  acts : HasLikeActs p q k
-  acts = like_acts p q k hangs like
-
-  calls : HasLikeCalls p q a k kept
-  calls = like_calls p a kept (numbered_apart (program_doings p) p.statements (statements_numbered p ok)) q hangs like
-
-  pub go_together : (input : List ℕ) → GoTogether p q a kept input set ranks
-  go_together input = record {
-    staying = staying p a kept (counterpart_of q k input set ranks) holds ok is_analysis free own;
-    acting = acting p q a k kept input set ranks holds (statements_numbered p ok) is_analysis free own proj acts;
-    moving = moving p q a k kept input set ranks holds like.types_are;
-    entering = entering p q a k kept input set ranks holds ok (statements_numbered p ok) free own proj acts calls;
-    returning = returning p q a k kept input set ranks holds ok (statements_numbered p ok) is_analysis free own proj acts calls;
-    beginning = beginning_together p q a k kept input set ranks holds free (globals_constant p ok) like;
+  -- the program and its projection
+  abbrev pair : List ℕ → SlicePair
+  pair input = record {
+    original = p;
+    analysis = a;
+    vertices = kept;
+    kept = k;
+    slice = q;
+    new = ranks_of k;
+    input = input;
+    criterion = set;
+    ranks = ranks;
+    well = ok;
+    numbered = statements_numbered p ok;
+    own = own;
+    analysed = is_analysis;
+    apart = ranks_apart k;
+    projected = projected p q a edges kept ok are able same;
+    parts = like;
+    acts = like_acts p q k (ranks_of k) hangs like;
+    calls = like_calls p a kept (numbered_apart (program_doings p) p.statements (statements_numbered p ok)) q hangs like;
   }
 
+  go_together : (input : List ℕ) → GoTogether (pair input)
+  go_together input =
+      let holds : ℕ → Type 0 = λ f. Holds p set f in
+      record {
+        staying = staying p a kept (twin_of (pair input)) holds ok is_analysis free own;
+        acting = acting (pair input) holds free;
+        moving = moving (pair input) holds;
+        entering = entering (pair input) holds free;
+        returning = returning (pair input) holds free;
+        beginning = beginning_together (pair input) holds free (globals_constant p ok);
+      }
+
   pub projections_same_values : ((v : ℕ) → ReachesAny edges (criterion_of set (vertices_of p a)) v → IsTrue (has kept v)) → StandFor (kept_words kept (vertices_of p a)).statement set ranks → HasSameValues (kept_words kept (vertices_of p a)).statement set ranks p q
-  projections_same_values reach stand = slices_same_values p q a edges kept set ranks ok is_analysis are able reach stand same go_together
+  projections_same_values reach stand n input t e = same_trace (pair input) edges are able reach stand (go_together input) n t e

@@ -3,16 +3,12 @@ use Rattle.std.specs.Prelude.{◌≡◌, ℕ, List, Bool, true, false, Contains,
 use Rattle.c_tree.specs.declared.program.Program.{Program}
 use Rattle.c_meaning.specs.Activations.{executable, Global}
 use Rattle.dep_model.specs.SystemGraph.{Analysis, vertices_of, AreSystemEdges, IsAnalysis}
-use Rattle.kept_numbers.specs.Ranks.{rank}
-use Rattle.projection.specs.Kept.{Kept}
 use Rattle.simulation.specs.Premises.{Moving, Beginning, Telling}
-use Rattle.simulation_locations.specs.Chained.{chained}
-use Rattle.simulation_places.specs.Counterparts.{counterpart_of, AreProjected}
 use Rattle.c_language.specs.Names.{init_names}
 use Rattle.c_language.specs.Programs.{IsWellFormed}
 use Rattle.dep_model.specs.PointerFree.{IsPointerFree}
-use Rattle.simulation_programs.specs.LikeParts.{HasLikeParts}
 use Rattle.simulation_steps.specs.OwnGlobals.{HasOwnGlobals}
+use Rattle.simulation_steps.specs.SlicePairs.{SlicePair, setting_over}
 use Rattle.bit_rows.specs.Sets.{has}
 use Rattle.dep_model.specs.declared.edge.Edge.{Edge}
 use Rattle.dep_model.specs.Criteria.{criterion_of}
@@ -20,20 +16,13 @@ use Rattle.dep_model.specs.Words.{ReachesAny}
 use Rattle.c_tree.specs.Unlined.{SameButLines}
 use Rattle.dep_model.specs.ClosedSets.{IsProjectable}
 use Rattle.projection.specs.KeptVertices.{kept_words, projection}
-use Rattle.simulation_values.specs.Holding.{Holds}
+use Rattle.simulation_values.specs.Holding.{Holds, HasReaching, IsRanked}
 use Rattle.simulation_values.specs.SameValues.{StandFor, HasSameValues}
-
--- variables that stay have their types in q
-abbrev pub KeepsTypes : Program → Program → Kept ℕ → Type 0
-KeepsTypes p q k =
-    (x : ℕ) → k.variable x ≡ true → (executable q).typing.variable (rank k.variable x) ≡ (executable p).typing.variable x
 
 -- where a variable that stays begins, or some are gone of which one stays, the slice does the same of those that stay, and all that is
 -- alike stays so; at another move of the original alone it stays so too
 abbrev pub MovesGoTogether : Type 0
-MovesGoTogether =
-    (p q : Program) (a : Analysis) (k : Kept ℕ) (kept : List Bool) (input : List ℕ) (criterion ranks holds : ℕ → Bool) → KeepsTypes p q k
-    → Moving (chained p a kept (counterpart_of q k input criterion ranks) (λ f. holds f ≡ true))
+MovesGoTogether = (pair : SlicePair) (holds : ℕ → Bool) → Moving (setting_over pair (λ f. holds f ≡ true))
 
 -- what globals begin with names no variable: it is constant (ISO C99 6.7.8, paragraph 4)
 abbrev pub BeginsWithConstants : Program → Type 0
@@ -43,23 +32,19 @@ BeginsWithConstants p = (g : Global) (x : ℕ) → Contains (executable p).globa
 -- stay, and all is alike
 abbrev pub RunsBeginTogether : Type 0
 RunsBeginTogether =
-    (p q : Program) (a : Analysis) (k : Kept ℕ) (kept : List Bool) (input : List ℕ) (criterion ranks holds : ℕ → Bool) → IsPointerFree p
-    → BeginsWithConstants p → HasLikeParts p q k
-    → Beginning (chained p a kept (counterpart_of q k input criterion ranks) (λ f. holds f ≡ true))
+    (pair : SlicePair) (holds : ℕ → Bool) → IsPointerFree pair.original → BeginsWithConstants pair.original
+    → Beginning (setting_over pair (λ f. holds f ≡ true))
 
 -- each global begins once, where a run begins, and none is a variable of a function
 abbrev pub GlobalsAreOwn : Type 0
 GlobalsAreOwn = (p : Program) → IsWellFormed p → HasOwnGlobals p
 
 -- where a set has all that reaches a criterion, the acts of that are kept, in activations that kept calls alone have reached, and told
--- under their ranks
+-- under the numbers that they have in the slice
 abbrev pub CriteriaAreTold : Type 0
 CriteriaAreTold =
-    (p q : Program) (a : Analysis) (edges : List Edge) (k : Kept ℕ) (kept : List Bool) (input : List ℕ) (set ranks : ℕ → Bool) → IsWellFormed p
-    → AreSystemEdges p a edges → AreProjected p q a k kept
-    → ((v : ℕ) → ReachesAny edges (criterion_of set (vertices_of p a)) v → IsTrue (has kept v))
-    → ((i : ℕ) → k.statement i ≡ true → ranks (rank k.statement i) ≡ set i)
-    → Telling (chained p a kept (counterpart_of q k input set ranks) (λ f. Holds p set f))
+    (pair : SlicePair) (edges : List Edge) → AreSystemEdges pair.original pair.analysis edges → HasReaching pair edges → IsRanked pair
+    → Telling (setting_over pair (λ f. Holds pair.original pair.criterion f))
 
 -- what a set has that can be projected, with all that reaches a criterion, gives the values of the program there: of a program without
 -- pointers, arrays and structs, with functions, recursion, globals and input

@@ -26,7 +26,7 @@ pub fn globals_are_own()
 {}
 
 /// A law: where a set of vertices has all that reaches a criterion, the acts of the criterion are kept, in activations
-/// that kept calls alone have reached, and a projection to it tells them under their ranks.
+/// that kept calls alone have reached, and a slice tells them under the numbers that they have there.
 pub fn criteria_are_told()
     ensures { law.CriteriaAreTold }
 {}

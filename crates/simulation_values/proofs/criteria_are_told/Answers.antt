@@ -3,4 +3,4 @@ use Rattle.simulation_values.proofs.Tellings.{telling}
 use Rattle.simulation_values.proofs.criteria_are_told.Goals as goal
 
 pub returns : goal.returns
-returns c = λ p q a edges k kept input set ranks well are projected reached stand. telling calls_reached p q a edges k kept input set ranks well are projected reached stand
+returns c = λ pair edges are reached stand. telling calls_reached pair edges are reached stand
