@@ -57,7 +57,7 @@ use Rattle.typed_programs.specs.TypedStatements.{is_left_side, takes, assigns, s
 use Rattle.typed_programs.proofs.TypedUses.{holds_there, operand_there}
 use Rattle.run_facts.specs.CellLocations.{location_in}
 use Rattle.run_facts.specs.DenotedCells.{LiesBy, IsReadOf, AreTaken, IsDenoted}
-use Rattle.run_facts.specs.ReadCells.{watched, value_read, left_read, all_read, maybe_read, init_read, target_read, amount_read, compound_read, act_read}
+use Rattle.run_facts.specs.ReadCells.{reads_input, watched, value_read, left_read, all_read, maybe_read, init_read, target_read, amount_read, compound_read, act_read}
 use Rattle.run_facts.specs.TypedStates.{is_seen, IsTypedState}
 use Rattle.run_facts.proofs.AssignedValues.{assigned_there, writable_there}
 use Rattle.run_facts.proofs.DenotedForms.{form_is}
@@ -112,6 +112,19 @@ scalar_no_array : (ls : List Layer) (b : Base) → is_scalar (record { layers = 
 scalar_no_array [] b h = refl
 scalar_no_array (layer.Pointer ∷ ls) b h = refl
 scalar_no_array (layer.Array n ∷ ls) b h = absurd (false≢true h)
+
+-- who reads from the input uses and defines it
+pub reading_touches : (p : Program) (points : TargetsOf) (f : ℕ) (act : Act) → reads_input act ≡ true → (act_uses p points act the_input ≡ true) × (act_defines p points f act the_input ≡ true)
+reading_touches p points f (Begins x i) e = absurd (false≢true e)
+reading_touches p points f (Sets left op right) e = absurd (false≢true e)
+reading_touches p points f (Bumps left up) e = absurd (false≢true e)
+reading_touches p points f (Fetches to) e = (refl, refl)
+reading_touches p points f (Writes b) e = absurd (false≢true e)
+reading_touches p points f (Prints format args) e = absurd (false≢true e)
+reading_touches p points f (Allocates to n) e = absurd (false≢true e)
+reading_touches p points f (Frees b) e = absurd (false≢true e)
+reading_touches p points f (Returns b) e = absurd (false≢true e)
+reading_touches p points f (Tests b) e = absurd (false≢true e)
 
 module _ (p : Program) (order : AreStructsInOrder p) (shapes : AreShapes p) (points : TargetsOf) (s : State) (typed : IsTypedState p points s) (result : Option ExprType) where
   abbrev types : Types

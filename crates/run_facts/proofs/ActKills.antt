@@ -106,10 +106,10 @@ index_below structs j n ls inner b o is e =
 
 -- ---- roots
 
-no_input : {A : Type 0} (l : Location) (x : ℕ) → l.root ≡ Variable x → same_location the_input l ≡ true → A
+pub no_input : {A : Type 0} (l : Location) (x : ℕ) → l.root ≡ Variable x → same_location the_input l ≡ true → A
 no_input l x root h = absurd (false≢true (subst (λ z. same_root Input z ≡ true) root (and_parts (same_root Input l.root) _ h).0))
 
-no_result : {A : Type 0} (f : ℕ) (l : Location) (x : ℕ) → l.root ≡ Variable x → same_location (result_of f) l ≡ true → A
+pub no_result : {A : Type 0} (f : ℕ) (l : Location) (x : ℕ) → l.root ≡ Variable x → same_location (result_of f) l ≡ true → A
 no_result f l x root h = absurd (false≢true (subst (λ z. same_root (Result f) z ≡ true) root (and_parts (same_root (Result f) l.root) _ h).0))
 
 same_variable : (x y : ℕ) → ◌≡◌ {A = Root} (Variable x) (Variable y) → x ≡ y
@@ -213,7 +213,7 @@ module _ (p : Program) (points : TargetsOf) (s : State) (typed : IsTypedState p 
 
   -- ---- variables
 
-  abbrev whole_kills : ℕ → Places
+  abbrev pub whole_kills : ℕ → Places
   whole_kills y l = is_killable p y && denoted.whole y l
 
   whole_overwritten : (y : ℕ) (t : ExprType) (v : Option Value) (m : Made) → assigned t (writable s (variable_place y s)) v ≡ Some m → Overwritten (whole_kills y) m
@@ -222,6 +222,9 @@ module _ (p : Program) (points : TargetsOf) (s : State) (typed : IsTypedState p 
       let w = written_there (variable_place y s) a.place a.place_is in
       let b = map_there whole (s.frame y) a.place w.there in
       one_overwritten y [] m (record { to = a.place; value = a.stored; same = a.same; live = w.live; block_is = b.there ∙ ap (λ (z : Place). Some z.block) b.same; path_is = ap (λ (z : Place). z.path) (sym b.same) }) l x root (location_is y [] l (and_parts (is_killable p y) (denoted.whole y l) kl).1)
+
+  pub whole_root : (y : ℕ) (l : Location) → whole_kills y l ≡ true → l.root ≡ Variable y
+  whole_root y l kl = ap (λ (z : Location). z.root) (location_is y [] l (and_parts (is_killable p y) (denoted.whole y l) kl).1)
 
   whole_variables : (y : ℕ) → OfVariables (whole_kills y)
   whole_variables y l kl =
@@ -241,7 +244,7 @@ module _ (p : Program) (points : TargetsOf) (s : State) (typed : IsTypedState p 
 
   -- ---- lists
 
-  abbrev element_kills : ℕ → Places
+  abbrev pub element_kills : ℕ → Places
   element_kills y l = is_killable p y && part_of p part.Element (denoted.whole y) l
 
   element_location : (y : ℕ) (l : Location) → element_kills y l ≡ true → l ≡ at_path y (part.Element ∷ [])
@@ -293,6 +296,9 @@ module _ (p : Program) (points : TargetsOf) (s : State) (typed : IsTypedState p 
             is_live = subst (λ (z : Place). is_cell s.memory z ≡ true) w.2 (live_store s.memory m.stores w.0 listed.live w.1);
             location_is = h.1;
           }
+
+  pub element_root : (y : ℕ) (l : Location) → element_kills y l ≡ true → l.root ≡ Variable y
+  element_root y l kl = ap (λ (z : Location). z.root) (element_location y l kl)
 
   element_variables : (y : ℕ) → OfVariables (element_kills y)
   element_variables y l kl =

@@ -34,7 +34,7 @@ use Rattle.run_facts.proofs.ExprsDenoted.{AreShapes}
 use Rattle.run_facts.proofs.GlobalVariables.{variables_of, globals_global}
 use Rattle.run_facts.proofs.InCalls.{grown_length, IsSaid, IsInCall, in_step}
 use Rattle.run_facts.proofs.KeptStates.{called_keeps, steps_keep_the_rest}
-use Rattle.run_facts.proofs.NamedUses.{all_from}
+use Rattle.run_facts.proofs.Members.{all_from}
 use Rattle.run_facts.proofs.NextSteps.{reach_act, reach_move}
 use Rattle.run_facts.proofs.Points.{IsSound, called_passed, sound_step, sound_run}
 use Rattle.run_facts.proofs.OldBlocks.{old_called, opening_names}

@@ -30,18 +30,17 @@ use Rattle.typed_programs.specs.TypedStatements.{IsTyped}
 use Rattle.run_facts.specs.CallTouching.{WaitAt}
 use Rattle.run_facts.specs.CellLocations.{location_in, location_of}
 use Rattle.run_facts.specs.DenotedCells.{IsReadOf}
-use Rattle.run_facts.specs.Effects.{Touch, Effect, holding, storing, act_effect, passed_into, store_effect, no_effect, parameters_at, call_effect, store_received, back_in}
+use Rattle.run_facts.specs.Effects.{Touch, Effect, holding, storing, act_effect, passed_into, store_effect, no_effect, parameters_at, arguments_read, call_effect, store_received, back_in}
 use Rattle.run_facts.specs.KeptCells.{effect_at, step_effect, Leads}
-use Rattle.run_facts.specs.ReadCells.{all_read, target_read, act_read}
+use Rattle.run_facts.specs.ReadCells.{value_read, all_read, target_read, act_read}
 use Rattle.run_facts.specs.Touching.{IsAt}
 use Rattle.run_facts.specs.TypedStates.{is_seen, IsTypedState}
-use Rattle.run_facts.proofs.ActCells.{passed_operands, all_cells_read, target_touches, given_target, act_touches}
+use Rattle.run_facts.proofs.ActCells.{passed_operands, all_cells_read, target_touches, given_target, reading_touches, act_touches}
 use Rattle.run_facts.proofs.BackStates.{closed_origins, back_typed}
 use Rattle.run_facts.proofs.Blocks.{Grows, grows_on, grows_by, grows_after, grows_closed, AreNamed, IsPlaced}
 use Rattle.run_facts.proofs.CodeDoings.{Each}
 use Rattle.run_facts.proofs.ExprsDenoted.{AreShapes}
 use Rattle.run_facts.proofs.GlobalVariables.{variables_of}
-use Rattle.run_facts.proofs.NamedUses.{arguments_all, reading_touches}
 use Rattle.run_facts.proofs.OldBlocks.{NamesOld, old_opened, old_closed, old_called, opening_names}
 use Rattle.run_facts.proofs.Points.{AreWaiting, IsSound, called_passed}
 use Rattle.run_facts.proofs.SeenCells.{seen_outside}
@@ -51,7 +50,7 @@ use Rattle.run_facts.proofs.TypedRuns.{called_function}
 -- ---- lists
 
 -- what stands in the longer list at a place of the shorter one stands there in that
-get_less : {A : Type 0} (xs ys : List A) (n : ℕ) → n < length xs → slice_get (xs ++ ys) n ≡ slice_get xs n
+pub get_less : {A : Type 0} (xs ys : List A) (n : ℕ) → n < length xs → slice_get (xs ++ ys) n ≡ slice_get xs n
 get_less [] ys n lt = absurd (omega (arith, lt))
 get_less (x ∷ xs) ys zero lt = refl
 get_less (x ∷ xs) ys (suc n) lt = get_less xs ys n (omega (arith, lt))
@@ -70,6 +69,16 @@ all_in : {A : Type 0} (P : A → Type 0) (xs : List A) (x : A) → All P xs → 
 all_in P [] x h i = absurd i
 all_in P (y ∷ xs) x h (inl e) = subst P e (h 0 y (omega arith))
 all_in P (y ∷ xs) x h (inr i) = all_in P xs x (λ k d low. h (suc k) d (omega (arith, low))) i
+
+map_joined : {A B : Type 0} (f : A → B) (xs ys : List A) → map f xs ++ map f ys ≡ map f (xs ++ ys)
+map_joined f [] ys = refl
+map_joined f (x ∷ xs) ys = ap (λ zs. f x ∷ zs) (map_joined f xs ys)
+
+-- what is read for all arguments, one after another, is what all of them read
+arguments_all : (p : Executable) (f : ℕ) (es : List Expr) (s : State) → arguments_read p f es s ≡ map (holding s.memory) (all_read (types_in p f) es s)
+arguments_all p f [] s = refl
+arguments_all p f (e ∷ es) s =
+    ap (λ ws. map (holding s.memory) (value_read (types_in p f) e s) ++ ws) (arguments_all p f es s) ∙ map_joined (holding s.memory) (value_read (types_in p f) e s) (all_read (types_in p f) es s)
 
 too_few : {A : Type 0} (above ws : List A) (w : A) → ws ≡ above ++ (w ∷ ws) → ⊥
 too_few above ws w e = let long = ap length e ∙ length-append above (w ∷ ws) in absurd (omega (arith, long))

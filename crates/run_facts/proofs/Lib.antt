@@ -6,11 +6,8 @@ pub mod SameActs
 pub mod CodeDoings
 pub mod Blocks
 pub mod Points
-pub mod NamedReads
 pub mod Numbers
-pub mod Wholes
-pub mod NamedStores
-pub mod NamedUses
+pub mod Members
 pub mod Statements
 pub mod Touched
 pub mod KeptMemories
@@ -34,6 +31,7 @@ pub mod SelectedPlaces
 pub mod BackStates
 pub mod ActCells
 pub mod ActKills
+pub mod KilledNames
 pub mod ListedObjects
 pub mod PointedObjects
 pub mod ObjectValues

@@ -1,9 +1,7 @@
 -- The statements of a program, as its runs and its vertices see them.
-use Rattle.std.proofs.Common.{◌≡◌, ℕ, zero, suc, ◌+◌, List, [], ◌∷◌, Option, Some, None, Bool, true, inl, inr, refl, sym, ap, ◌∙◌, subst, arith}
+use Rattle.std.proofs.Common.{◌≡◌, ℕ, zero, suc, ◌+◌, List, [], ◌∷◌, Option, Some, None, inl, inr, refl, sym, ap, ◌∙◌, subst, arith}
 use Rattle.std.specs.Prelude.{option_map, slice_get}
-use Rattle.std.specs.List.{list_all}
 use Rattle.std.specs.Option.{option_map_or}
-use Rattle.std.proofs.lemmas.Bool.{and_parts}
 use Rattle.std.proofs.lemmas.Option.{slice_get-map}
 use Rattle.c_language.proofs.Options.{some_same, none_there}
 use Rattle.c_tree.specs.declared.program.Function.{Function}
@@ -15,13 +13,12 @@ use Rattle.c_meaning.specs.Acts.{Made, made, after, picked}
 use Rattle.c_meaning.specs.Activations.{Routine, Executable, routine_of, executable, code_at, types_in, called}
 use Rattle.c_meaning.specs.Meaning.{Trace, told, announced}
 use Rattle.c_meaning.specs.Steps.{Acts, Waiting, Point, point, waiting, acted, entered, step_at}
-use Rattle.dep_model.specs.Doings.{Doing, Does, Calls, body_doings, functions_doings, program_doings, doings_of}
+use Rattle.dep_model.specs.Doings.{Doing, Does, Calls, body_doings, doings_of}
 use Rattle.dep_model.specs.MayPoint.{parameters}
 use Rattle.dep_model.specs.declared.vertex.Slot.TheVariants.{Argument}
 use Rattle.dep_model.specs.VertexOrder.{arguments_from}
-use Rattle.dep_model.proofs.Membership.{IsIn, in_first, in_second}
+use Rattle.dep_model.proofs.Membership.{IsIn}
 use Rattle.run_facts.specs.Effects.{parameters_at, next_doing}
-use Rattle.dep_model.specs.PointerFree.{is_pointer_free_doing, IsPointerFree}
 use Rattle.run_facts.proofs.Blocks.{Grows, grows_after}
 use Rattle.run_facts.proofs.CodeDoings.{Did, Each, each_code}
 
@@ -54,19 +51,6 @@ params_mapped (Some g) = refl
 
 pub parameters_are : (p : Program) (f : ℕ) → parameters_at (executable p) f ≡ parameters p f
 parameters_are p f = ap params_of (slice_get-map routine_of p.functions f) ∙ params_mapped (slice_get p.functions f)
-
-in_functions : (fs : List Function) (f : ℕ) (d : Doing) → IsIn (body_of (slice_get fs f)) d → IsIn (functions_doings fs) d
-in_functions [] f d i = absurd i
-in_functions (g ∷ fs) zero d i = in_first (body_doings g.body) (functions_doings fs) d i
-in_functions (g ∷ fs) (suc f) d i = in_second (body_doings g.body) (functions_doings fs) d (in_functions fs f d i)
-
-passes_in : (test : Doing → Bool) (ds : List Doing) (d : Doing) → list_all test ds ≡ true → IsIn ds d → test d ≡ true
-passes_in test [] d h i = absurd i
-passes_in test (e ∷ ds) d h (inl is) = subst (λ z. test z ≡ true) is (and_parts (test e) (list_all test ds) h).0
-passes_in test (e ∷ ds) d h (inr i) = passes_in test ds d (and_parts (test e) (list_all test ds) h).1 i
-
-pub free_in : (p : Program) → IsPointerFree p → (f : ℕ) (d : Doing) → IsIn (doings_of p f) d → is_pointer_free_doing d ≡ true
-free_in p free f d i = passes_in is_pointer_free_doing (program_doings p) d free.doings_are (in_functions p.functions f d i)
 
 -- ---- vertices
 

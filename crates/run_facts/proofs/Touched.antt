@@ -1,5 +1,5 @@
 -- The steps of a run touch what the vertices of its statements say.
-use Rattle.std.proofs.Common.{◌≡◌, ℕ, ◌+◌, zero, suc, List, [], ◌∷◌, ◌++◌, map, length, Option, Some, None, true, inl, inr, refl, sym, ap, ap₂, ◌∙◌, subst, arith}
+use Rattle.std.proofs.Common.{◌≡◌, ℕ, ◌+◌, zero, suc, List, [], ◌∷◌, ◌++◌, map, length, Option, Some, None, true, inl, inr, refl, sym, ap, ap₂, ◌∙◌, subst, arith, eq-eqb}
 use Rattle.std.specs.Prelude.{All, Contains, option_map, slice_get}
 use Rattle.std.specs.List.{range_with_len}
 use Rattle.std.specs.Option.{option_map_or}
@@ -25,6 +25,7 @@ use Rattle.dep_model.specs.declared.vertex.Slot.{Slot}
 use Rattle.dep_model.specs.declared.vertex.Slot.TheVariants.{Argument, Result}
 use Rattle.dep_model.specs.declared.vertex.VertexKind.TheVariants.{FormalIn, Statement, ActualIn, ActualOut}
 use Rattle.dep_model.specs.Denoted.{Places, variable, expr_reads}
+use Rattle.dep_model.specs.Denoted as denoted
 use Rattle.dep_model.specs.Doings.{Doing, Does, Calls, doing_number, program_doings, doings_of}
 use Rattle.dep_model.specs.DoingEffects.{the_input, result_of, is_taken, any_takes, target_takes, maybe_reads, target_reads, target_places, target_kills, act_uses, act_defines, act_kills}
 use Rattle.dep_model.specs.LocationLists.{AreStructsInOrder}
@@ -36,7 +37,7 @@ use Rattle.dep_model.proofs.StructOrder.{well_formed_in_order}
 use Rattle.typed_programs.specs.TypedStatements.{IsTyped}
 use Rattle.typed_programs.proofs.TreeTypes.{type_is}
 use Rattle.typed_programs.proofs.TypedPrograms.{programs_typed}
-use Rattle.run_facts.specs.CellLocations.{location_in}
+use Rattle.run_facts.specs.CellLocations.{location_in, location_of}
 use Rattle.run_facts.specs.DenotedCells.{IsReadOf}
 use Rattle.run_facts.specs.Effects.{Touch, Effect, holding, storing, act_effect, passed_into, store_effect, no_effect, parameters_at, argument_reads, arguments_read, call_effect, store_received, back_in, receipt_effect}
 use Rattle.run_facts.specs.ReadCells.{value_read, target_read, act_read}
@@ -44,25 +45,32 @@ use Rattle.run_facts.specs.TypedStates.{IsTypedState}
 use Rattle.run_facts.specs.Touching.{IsTouched, IsUsedBy, IsDefinedBy, MayUse, MayDefine, IsPassedBy, MayPass, Overwrites, ArgumentsTouch, DoingTouches, ReceiptTouches}
 use Rattle.run_facts.specs.Laws.{DoingsTouch, ReceiptsTouch, StepsTouchWhatVerticesSay}
 use Rattle.run_facts.proofs.ActCells as cells
-use Rattle.run_facts.proofs.ActCells.{given_target, passed_operands, argument_cells, target_touches}
+use Rattle.run_facts.proofs.ActCells.{given_target, passed_operands, argument_cells, target_touches, reading_touches}
 use Rattle.run_facts.proofs.ActKills.{IsKill, killed_global, one_variable, act_kill, target_overwritten, target_variables}
 use Rattle.run_facts.proofs.BackStates.{closed_origins, back_typed}
 use Rattle.run_facts.proofs.Blocks.{Grows, grows_not, get_grown, ArePassed}
 use Rattle.run_facts.proofs.ExprsDenoted.{AreShapes}
-use Rattle.run_facts.proofs.NamedUses.{reading_touches, all_from}
+use Rattle.run_facts.proofs.Members.{all_from}
 use Rattle.run_facts.proofs.Numbers.{at_number}
 use Rattle.run_facts.proofs.Points.{AreWaiting, IsSound, called_passed, sound_run}
 use Rattle.run_facts.proofs.SeenCells.{seen_outside}
 use Rattle.run_facts.proofs.Statements.{bodies, parameters_are, argument_in, next_member, IsActed, Happened, next_happened}
 use Rattle.run_facts.proofs.TypedParts.{stands_in, doing_taken, doing_fit}
 use Rattle.run_facts.proofs.TypedRuns.{called_function, typed_run}
-use Rattle.run_facts.proofs.Wholes.{its_location, location_named}
 
 -- in a list each item that is there has a number
 get_of_in : {A : Type 0} (xs : List A) (x : A) → IsIn xs x → (k : ℕ) × (slice_get xs k ≡ Some x)
 get_of_in [] x j = absurd j
 get_of_in (y ∷ xs) x (inl e) = (0, ap Some e)
 get_of_in (y ∷ xs) x (inr j) = let n = get_of_in xs x j in (suc n.0, n.1)
+
+its_location : (x : ℕ) → denoted.whole x (variable x) ≡ true
+its_location x = rw (eq-eqb x x refl) refl
+
+-- the cell of a block of one cell that a variable made
+location_named : (os : List Origin) (x : ℕ) (q : Place) → slice_get os q.block ≡ Some (OfVariable x) → q.path ≡ [] → location_of os q ≡ Some (variable x)
+location_named os x q made path =
+    ap (option_map (λ (o : Origin). location_in o q.path)) made ∙ ap (λ hops. Some (location_in (OfVariable x) hops)) path
 
 module _ (p : Program) (a : Analysis) (numbered : map doing_number (program_doings p) ≡ range_with_len 0 p.statements) (order : AreStructsInOrder p) (shapes : AreShapes p) (fit : IsTyped p) where
   abbrev Mine : ℕ → Doing → Type 0

@@ -1,15 +1,12 @@
--- The arguments that a kept call keeps come to alike values; so far without pointers, arrays and structs.
-use Rattle.std.proofs.Common.{◌≡◌, ℕ, suc, ◌+◌, ◌<◌, ◌==◌, List, [], ◌∷◌, ◌++◌, length, map, Option, Some, None, Bool, true, false, ◌&&◌, ◌||◌, if◌then◌else◌, inl, inr, refl, sym, ap, ◌∙◌, subst, arith, eqb-true}
-use Rattle.std.specs.Prelude.{slice_get}
-use Rattle.std.specs.List.{list_any, range_with_len}
+-- The arguments that a kept call keeps, what they read, and the vertices that may use it.
+use Rattle.std.proofs.Common.{◌≡◌, ℕ, suc, ◌+◌, ◌<◌, ◌==◌, List, [], ◌∷◌, ◌++◌, length, Option, Some, None, Bool, true, false, ◌&&◌, ◌||◌, if◌then◌else◌, inl, inr, refl, sym, ap, ◌∙◌, subst, arith, eqb-true}
+use Rattle.std.specs.List.{list_any}
 use Rattle.std.proofs.lemmas.Bool.{false≢true, and_parts, or_left, or_right}
 use Rattle.c_language.proofs.Options.{none_there, some_same}
 use Rattle.c_language.proofs.Tests.{by_answer, false_true}
 use Rattle.c_language.specs.Names.{names, any_names}
 use Rattle.c_tree.specs.declared.expr.Expr.{Expr}
 use Rattle.c_tree.specs.declared.program.Program.{Program}
-use Rattle.c_tree.specs.declared.statement.Target.{Target}
-use Rattle.dep_model.specs.IntegerForms.{is_integer, are_integers}
 use Rattle.bit_rows.specs.Sets.{has}
 use Rattle.c_meaning.specs.declared.value.Place.{Place}
 use Rattle.c_meaning.specs.declared.value.Value.{Value}
@@ -19,17 +16,13 @@ use Rattle.dep_model.specs.declared.vertex.Slot.TheVariants as slot
 use Rattle.dep_model.specs.declared.vertex.Vertex.{Vertex}
 use Rattle.dep_model.specs.declared.vertex.VertexKind.{VertexKind}
 use Rattle.dep_model.specs.declared.vertex.VertexKind.TheVariants as kind
-use Rattle.dep_model.specs.Denoted.{expr_reads}
-use Rattle.dep_model.specs.Doings.{Calls, doing_number, program_doings, doings_of}
-use Rattle.dep_model.specs.DoingEffects.{maybe_reads}
 use Rattle.dep_model.specs.FunctionVertices.{passes, numbers_from, numbers}
 use Rattle.dep_model.specs.SystemGraph.{Analysis, vertices_of}
-use Rattle.dep_model.specs.VertexOrder.{actual_uses, kind_uses}
+use Rattle.dep_model.specs.VertexOrder.{kind_uses}
 use Rattle.dep_model.proofs.Membership.{IsIn}
 use Rattle.projection.specs.Kept.{chosen}
 use Rattle.projection.specs.KeptVertices.{is_argument}
 use Rattle.run_facts.specs.ReadCells.{all_read, value_read}
-use Rattle.run_facts.proofs.Numbers.{at_number}
 use Rattle.simulation_locations.specs.KeptVertices.{gives_in, any_kept, arguments_use}
 
 -- ---- lists of which members are chosen
@@ -80,11 +73,6 @@ module _ (types : Types) (s : State) where
   read_by (e ∷ es) q i =
       all_append (ReadBy types s (e ∷ es)) (value_read types e s) (all_read types es s) (λ r j. record { one = e; member = inl refl; reads = j }) (λ r j. let h = read_by es r j in record { one = h.one; member = inr h.member; reads = h.reads }) q i
 
-pub integer_in : (es : List Expr) (e : Expr) → are_integers es ≡ true → IsIn es e → is_integer e ≡ true
-integer_in [] e h i = absurd i
-integer_in (x ∷ es) e h (inl is) = subst (λ z. is_integer z ≡ true) is (and_parts (is_integer x) (are_integers es) h).0
-integer_in (x ∷ es) e h (inr i) = integer_in es e (and_parts (is_integer x) (are_integers es) h).1 i
-
 pub named_in : (es : List Expr) (e : Expr) (x : ℕ) → IsIn es e → names e x ≡ true → any_names es x ≡ true
 named_in [] e x i h = absurd i
 named_in (y ∷ es) e x (inl is) h = or_left (names y x) (any_names es x) (subst (λ z. names z x ≡ true) (sym is) h)
@@ -115,12 +103,7 @@ pub weaker_numbers : (test : ℕ → Bool) (t u : VertexKind → Bool) (f : ℕ)
 weaker_numbers test t u f vs h e =
     weaker_from test (passes t f) (passes u f) 0 vs (λ v p. let k = and_parts (v.function == f) (t v.kind) p in both_pass (v.function == f) (u v.kind) k.0 (h v.kind k.1)) e
 
-module _ (p : Program) (a : Analysis) (numbered : map doing_number (program_doings p) ≡ range_with_len 0 p.statements) (kept : List Bool) (f i g : ℕ) (to : Target) (args : List Expr) (mine : IsIn (doings_of p f) (Calls i to g args)) where
-  argument_uses : (n : ℕ) (l : Location) (arg : Expr) → slice_get args n ≡ Some arg → expr_reads p a.points arg l ≡ true → kind_uses p a.points f (kind.ActualIn i (slot.Argument n)) l ≡ true
-  argument_uses n l arg is r =
-      ap (λ o. actual_uses p a.points f o (slot.Argument n) l) (at_number p numbered f (Calls i to g args) mine)
-      ∙ (ap (λ o. maybe_reads p a.points o l) is ∙ r)
-
+module _ (p : Program) (a : Analysis) (kept : List Bool) (f i g : ℕ) where
   -- the vertex of an argument is that of its slot, which gives it in and may use what it reads
   its_vertex : (n : ℕ) (l : Location) → kind_uses p a.points f (kind.ActualIn i (slot.Argument n)) l ≡ true → (k : VertexKind) → is_argument i n k ≡ true → (gives_in i k && kind_uses p a.points f k l) ≡ true
   its_vertex n l u (kind.ActualIn j (slot.Argument m)) h =
@@ -137,7 +120,7 @@ module _ (p : Program) (a : Analysis) (numbered : map doing_number (program_doin
   its_vertex n l u (kind.Call j) h = absurd (false≢true h)
   its_vertex n l u (kind.ActualOut j s) h = absurd (false≢true h)
 
-  -- what a kept argument reads, the actual-ins of the call's kept arguments may use
-  pub kept_uses : (n : ℕ) (l : Location) (arg : Expr) → slice_get args n ≡ Some arg → expr_reads p a.points arg l ≡ true → any_kept p a kept (numbers (is_argument i n) f (vertices_of p a)) ≡ true → arguments_use p a kept f i g l ≡ true
-  kept_uses n l arg is r keeps =
-      weaker_numbers (λ (m : ℕ). has kept m) (is_argument i n) (λ k. gives_in i k && kind_uses p a.points f k l) f (vertices_of p a) (its_vertex n l (argument_uses n l arg is r)) keeps
+  -- what the actual-in of a kept argument may use, the actual-ins of the call's kept arguments may use
+  pub kept_uses : (n : ℕ) (l : Location) → kind_uses p a.points f (kind.ActualIn i (slot.Argument n)) l ≡ true → any_kept p a kept (numbers (is_argument i n) f (vertices_of p a)) ≡ true → arguments_use p a kept f i g l ≡ true
+  kept_uses n l used keeps =
+      weaker_numbers (λ (m : ℕ). has kept m) (is_argument i n) (λ k. gives_in i k && kind_uses p a.points f k l) f (vertices_of p a) (its_vertex n l used) keeps

@@ -5,7 +5,7 @@ use Rattle.simulation_steps.proofs.Entering.{entering}
 use Rattle.simulation_steps.proofs.Returning.{returning}
 
 pub calls_begin_together : CallsBeginTogether
-calls_begin_together pair holds free = entering pair (λ f. holds f ≡ true) free
+calls_begin_together pair holds = entering pair (λ f. holds f ≡ true)
 
 pub calls_end_together : CallsEndTogether
-calls_end_together pair holds free = returning pair (λ f. holds f ≡ true) free
+calls_end_together pair holds = returning pair (λ f. holds f ≡ true)

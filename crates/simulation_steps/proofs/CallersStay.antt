@@ -1,6 +1,7 @@
--- A step of the original alone leaves to each caller that waits what its callee doesn't modify; so far without pointers, arrays and structs.
-use Rattle.std.proofs.Common.{◌≡◌, ℕ, zero, suc, ◌<◌, List, [], ◌∷◌, ◌++◌, length, Option, Some, None, Bool, true, false, ◌||◌, inl, inr, refl, sym, ap, ◌∙◌, subst, arith, append_assoc, append-nil}
-use Rattle.std.specs.Prelude.{option_map, slice_get}
+-- A step of the original alone leaves to each caller that waits what its callee doesn't modify: where a location is seen outside in blocks
+-- of any age, and else in those that the caller names.
+use Rattle.std.proofs.Common.{◌≡◌, ℕ, ◌<◌, List, [], ◌∷◌, ◌++◌, length, Option, Some, None, true, false, inl, inr, sym, ap, ◌∙◌, subst, arith, append_assoc, append-nil}
+use Rattle.std.specs.Prelude.{Contains, option_map, slice_get}
 use Rattle.std.proofs.lemmas.Bool.{false≢true}
 use Rattle.std.proofs.lemmas.Option.{slice_get_within}
 use Rattle.c_language.proofs.Options.{some_same}
@@ -12,33 +13,34 @@ use Rattle.c_language.specs.Programs.{IsWellFormed}
 use Rattle.c_meaning.specs.declared.value.Hop.{Hop}
 use Rattle.c_meaning.specs.declared.value.Place.{Place}
 use Rattle.c_meaning.specs.Memory.{is_cell, read}
-use Rattle.c_meaning.specs.Values.{Origin, OfVariable, OfStatement, State}
+use Rattle.c_meaning.specs.Values.{Origin, OfVariable, State}
 use Rattle.c_meaning.specs.Activations.{Executable, executable, code_at, called}
 use Rattle.c_meaning.specs.Meaning.{announced}
 use Rattle.c_meaning.specs.Steps.{Acts, Waiting, Point, point, waiting, entered, step_at, Reaches, machine, beginning}
 use Rattle.dep_model.specs.declared.location.Location.{Location}
 use Rattle.dep_model.specs.Doings.{doings_of}
-use Rattle.dep_model.specs.DoingEffects.{the_input, is_global, is_taken}
-use Rattle.dep_model.specs.ModRef.{is_outside, is_outside_root, Modifies}
-use Rattle.dep_model.specs.PointerFree.{IsPointerFree}
+use Rattle.dep_model.specs.DoingEffects.{the_input}
+use Rattle.dep_model.specs.ModRef.{is_outside, Modifies}
 use Rattle.dep_model.specs.SystemGraph.{Analysis, IsAnalysis}
 use Rattle.dep_model.proofs.Membership.{IsIn}
-use Rattle.run_facts.specs.CallTouching.{WaitAt, Enters, Within, stays, goes_on, called_below, HasCalled, InCall}
+use Rattle.dep_model.proofs.StructOrder.{well_formed_in_order}
+use Rattle.run_facts.specs.CallTouching.{WaitAt, Enters, Within, stays, goes_on, called_below, HasCalled, StepInCall, InCall}
 use Rattle.run_facts.specs.CellLocations.{location_in, location_of}
-use Rattle.run_facts.specs.KeptCells.{Leads}
+use Rattle.run_facts.specs.Effects.{Touch}
+use Rattle.run_facts.specs.KeptCells.{IsSameCell, KeepsRest, Leads}
 use Rattle.run_facts.proofs.Blocks.{get_more}
 use Rattle.run_facts.proofs.CallersCalled.{callers_have_called}
 use Rattle.run_facts.proofs.CallTouched.{calls_touch}
+use Rattle.run_facts.proofs.CellPlaces.{same_back, one_place}
+use Rattle.run_facts.proofs.InCalls.{get_less}
 use Rattle.run_facts.proofs.KeptStates.{steps_keep_the_rest}
 use Rattle.run_facts.proofs.Points.{sound_run}
 use Rattle.run_facts.proofs.Statements.{bodies}
+use Rattle.run_facts.proofs.TypedRuns.{typed_run}
 use Rattle.simulation.specs.Renaming.{World, Stands, AlikeCell, cell_at, Names, BlocksStand, Counts, AlikeAt}
 use Rattle.simulation.specs.Settings.{seen}
-use Rattle.simulation_steps.specs.OwnGlobals.{HasOwnGlobals}
 use Rattle.simulation_steps.proofs.AlikeOn.{old_block}
 use Rattle.simulation_steps.proofs.KeptOutlines.{steps_keep_outlines}
-use Rattle.simulation_steps.proofs.GlobalBlocks.{one_each}
-use Rattle.simulation_steps.proofs.NotTaken.{not_taken}
 
 within_more : (p : Executable) (ws : List Waiting) (x y z : Point) → Within p ws x y → Leads p y z → WaitAt ws z → Within p ws x z
 within_more p ws x y z (stays w) leads wait = goes_on w leads (stays wait)
@@ -50,11 +52,6 @@ within_grows p ws x y (goes_on {y = u} w leads rest) =
     let first = steps_keep_outlines p x u leads in
     let more = within_grows p ws u y rest in
     (first.new ++ more.0, more.1 ∙ (ap (λ os. os ++ more.0) first.origins_are ∙ append_assoc x.state.origins first.new more.0))
-
-get_less : {A : Type 0} (xs ys : List A) (n : ℕ) → n < length xs → slice_get (xs ++ ys) n ≡ slice_get xs n
-get_less [] ys n lt = absurd (omega (arith, lt))
-get_less (x ∷ xs) ys zero lt = refl
-get_less (x ∷ xs) ys (suc n) lt = get_less xs ys n (omega (arith, lt))
 
 -- who has called waits with the frame in which it made the call
 entered_frame : (p : Executable) (x y : Point) (i : ℕ) (to : Target) (g : ℕ) (args : List Expr) (r : Code) (o : Option State) (b : Waiting) (bs : List Waiting) → entered i to g (code_at p g) (waiting i to x.function r x.state) x.callers x.trace o ≡ Acts y → y.callers ≡ b ∷ bs → b.frame ≡ x.state.frame
@@ -69,7 +66,7 @@ called_frame : (p : Executable) (x y : Point) (g : ℕ) (b : Waiting) (bs : List
 called_frame p x y g b bs h is =
     entered_frame p x y h.call h.target g h.args h.rest (called p x.function g h.args x.state) b bs (sym (ap (λ c. step_at p x.function c x.state x.callers x.trace) h.rest_is) ∙ h.begins) is
 
-module _ (p : Program) (a : Analysis) (well : IsWellFormed p) (analysed : IsAnalysis p a) (free : IsPointerFree p) (own : HasOwnGlobals p) (input : List ℕ) (names : Names) (w : World) where
+module _ (p : Program) (a : Analysis) (well : IsWellFormed p) (analysed : IsAnalysis p a) (input : List ℕ) (names : Names) (w : World) where
   abbrev e : Executable
   e = executable p
 
@@ -108,10 +105,14 @@ module _ (p : Program) (a : Analysis) (well : IsWellFormed p) (analysed : IsAnal
         let rest = within_grows e begun.callers begun x has_called.within in
         (first.new ++ rest.0, rest.1 ∙ (ap (λ os. os ++ rest.0) first.origins_are ∙ append_assoc from.state.origins first.new rest.0))
 
+    step : StepInCall p a g from.state x
+    step = at_x.steps_touch x1 leads wait
+
+    keeps : KeepsRest x.state x1.state step.effect
+    keeps = steps_keep_the_rest e x x1 step.effect leads step.effect_is
+
     live_before : (q : Place) → q.block < length x.state.memory.blocks → is_cell x1.state.memory q ≡ true → is_cell x.state.memory q ≡ true
-    live_before q low live =
-        let k = at_x.steps_touch x1 leads wait in
-        (steps_keep_the_rest e x x1 k.effect leads k.effect_is).live q low live
+    live_before q low live = keeps.live q low live
 
     -- ---- blocks that were there before the call
 
@@ -124,30 +125,11 @@ module _ (p : Program) (a : Analysis) (well : IsWellFormed p) (analysed : IsAnal
         let tracked = (sound_run e (λ f d. IsIn (doings_of p f) d) (bodies p) input from has_called.reached).placed.tracked in
         omega (arith, low, tracked)
 
-    -- that of a global
-    low_global : (b y : ℕ) → Made b (OfVariable y) → is_global p y ≡ true → b < length from.state.memory.blocks
-    low_global b y is global =
-        let first = (one_each p free own input x reached).globals b y is global in
-        low_in b (OfVariable y) ((sound_run e (λ f d. IsIn (doings_of p f) d) (bodies p) input from has_called.reached).globals y b first)
-
     -- that of a variable of the caller
     low_named : (z b : ℕ) → b0.frame z ≡ Some b → b < length from.state.memory.blocks
     low_named z b is =
         let frame = called_frame e from begun g b0 below has_called.enters has_called.callers_are in
         low_in b (OfVariable z) ((sound_run e (λ f d. IsIn (doings_of p f) d) (bodies p) input from has_called.reached).placed.named z b (sym (ap (λ (fr : ℕ → Option ℕ). fr z) frame) ∙ is))
-
-    global_of : (g1 t : Bool) → (g1 || t) ≡ true → t ≡ false → g1 ≡ true
-    global_of true t h k = refl
-    global_of false t h k = absurd (false≢true (sym k ∙ h))
-
-    low_outside : (b : ℕ) (path : List Hop) (o : Origin) → Made b o → location_in o path ≡ l → is_outside p l ≡ true → b < length from.state.memory.blocks
-    low_outside b path (OfVariable y) is at out =
-        low_global b y is (global_of (is_global p y) (is_taken p y) (ap (λ (z : Location). is_outside_root p z.root) at ∙ out) (not_taken p a.points free y))
-    low_outside b path (OfStatement i) is at out = absurd ((one_each p free own input x reached).no_sites b i is)
-
-    low_counted : (b : ℕ) (path : List Hop) (o : Origin) → Made b o → location_in o path ≡ l → Counts (is_outside p) l (seen b0 x1.state) b → b < length from.state.memory.blocks
-    low_counted b path o is at (inl out) = low_outside b path o is at out
-    low_counted b path o is at (inr k) = low_named k.0 b k.2
 
     -- ---- cells that are alike
 
@@ -169,17 +151,35 @@ module _ (p : Program) (a : Analysis) (well : IsWellFormed p) (analysed : IsAnal
         let tracked = (sound_run e (λ f d. IsIn (doings_of p f) d) (bodies p) input from has_called.reached).placed.tracked in
         sym (get_less from.state.origins more.0 b (omega (arith, low, tracked))) ∙ (ap (λ os. slice_get os b) (sym more.1) ∙ is)
 
+    -- where the location is seen outside, the step stores into no cell at it, since the callee doesn't modify it
+    stored_apart : (q : Place) → is_cell x.state.memory q ≡ true → location_of x.state.origins q ≡ Some l → is_outside p l ≡ true → (v : Touch) → Contains step.effect.stores v → IsSameCell x.state.memory v.cell q → ⊥
+    stored_apart q live at out v stores same =
+        let typed = (typed_run p a.points well analysed.points_are input x reached).state in
+        let place : q ≡ v.cell = one_place p (well_formed_in_order p well) x.state.memory q v.cell typed.structs_are live (same_back x.state.memory v.cell q same) in
+        not_modified (step.outside v stores l (ap (location_of x.state.origins) (sym place) ∙ at) out)
+
+    -- so a cell of a block that was there before the step holds what it held
+    seen_stays : (q : Place) → q.block < length x.state.memory.blocks → is_cell x1.state.memory q ≡ true → location_of x.state.origins q ≡ Some l → is_outside p l ≡ true → read x1.state.memory q ≡ read x.state.memory q
+    seen_stays q low live at out = keeps.cells q low live (stored_apart q (live_before q low live) at out)
+
+    -- and so does one that was there before the call
+    old_stays : (q : Place) → q.block < length from.state.memory.blocks → q.block < length x.state.memory.blocks → is_cell x1.state.memory q ≡ true → location_of from.state.origins q ≡ Some l → read x1.state.memory q ≡ read x.state.memory q
+    old_stays q low here live at =
+        at_x1.keeps.cells q l low live at not_modified ∙ sym (at_x.keeps.cells q l low (live_before q here live) at not_modified)
+
     -- a cell that the caller sees at the location holds what it held
     pub cell_stays : (b c : ℕ) (path : List Hop) → Stands w b c → Counts (is_outside p) l (seen b0 x1.state) b → is_cell x1.state.memory (cell_at b path) ≡ true → location_of x1.state.origins (cell_at b path) ≡ Some l → read x1.state.memory (cell_at b path) ≡ read x.state.memory (cell_at b path)
     cell_stays b c path stands counts live at =
         let old = old_block names (is_outside p) w x.state m b c blocks stands in
         let its : location_in old.origin path ≡ l = some_same (sym (ap (option_map (λ (z : Origin). location_in z path)) (origins_more b old.origin old.origin_is)) ∙ at) in
-        let low = low_counted b path old.origin old.origin_is its counts in
-        let before = from_origin b old.origin low old.origin_is in
-        let here : location_of from.state.origins (cell_at b path) ≡ Some l = ap (option_map (λ (z : Origin). location_in z path)) before ∙ ap Some its in
-        let live_from = at_x1.keeps.live (cell_at b path) low live in
-        let live_x = live_before (cell_at b path) old.low live in
-        at_x1.keeps.cells (cell_at b path) l low live here not_modified ∙ sym (at_x.keeps.cells (cell_at b path) l low live_x here not_modified)
+        let at_x_now : location_of x.state.origins (cell_at b path) ≡ Some l = ap (option_map (λ (z : Origin). location_in z path)) old.origin_is ∙ ap Some its in
+        elim counts [
+          | inl out ↦ seen_stays (cell_at b path) old.low live at_x_now out
+          | inr k ↦
+              let low = low_named k.0 b k.2 in
+              let before = from_origin b old.origin low old.origin_is in
+              old_stays (cell_at b path) low old.low live (ap (option_map (λ (z : Origin). location_in z path)) before ∙ ap Some its)
+        ]
 
     module _ (n : State) (same : AlikeAt (is_outside p) w l (seen b0 x.state) n) where
       cells_stay : (b c : ℕ) (path : List Hop) → Stands w b c → Counts (is_outside p) l (seen b0 x1.state) b → is_cell x1.state.memory (cell_at b path) ≡ true → location_of x1.state.origins (cell_at b path) ≡ Some l → AlikeCell w (read x1.state.memory (cell_at b path)) (read n.memory (cell_at c path))

@@ -10,27 +10,21 @@ use Rattle.c_tree.specs.declared.program.Program.{Program}
 use Rattle.c_language.specs.Code.{Code, End, Opens, Plain, Fork, Loop, Leaves, Call, ◌⨟◌, is_true, either}
 use Rattle.c_meaning.specs.declared.value.Value.{Value}
 use Rattle.c_meaning.specs.Values.{Types, Origin, OfVariable, OfStatement, State, bound, variable_closed, all_closed, as_type, eval_all}
-use Rattle.c_meaning.specs.Acts.{Request, origins_after, begun_with, given, picked}
+use Rattle.c_meaning.specs.Acts.{Request, origins_after, begun_with, picked}
 use Rattle.c_meaning.specs.Activations.{Global, Routine, Executable, executable, types_in, outside, stores_of, blank, global_opened, global_begun, all_begun, opening, parameter_begun, passed, fresh, passed_to, called, variables_at}
 use Rattle.c_meaning.specs.Steps.{Reaches, Waiting, Point, machine, beginning}
 use Rattle.c_meaning.proofs.Origins.{IsTracked, both_longer, blocks_stored}
-use Rattle.dep_model.specs.Doings as doing
-use Rattle.dep_model.specs.Doings.{Doing, doings_of}
 use Rattle.dep_model.specs.DoingEffects.{is_global}
 use Rattle.dep_model.specs.MayPoint.{parameters}
-use Rattle.dep_model.specs.PointerFree.{IsPointerFree}
 use Rattle.dep_model.proofs.Membership.{IsIn, contains_of_in}
 use Rattle.simulation_places.proofs.RunRests.{HoldsAfter, holds_run}
 use Rattle.run_facts.specs.Effects.{back_in}
 use Rattle.run_facts.specs.NextSteps.{Next, next_of}
 use Rattle.run_facts.specs.StepKinds.{Change, Opened, Closed, changed, change_first, DoesAct, ReturnsStoring, acted_to, returned_storing}
-use Rattle.run_facts.proofs.CodeDoings.{each_next}
-use Rattle.run_facts.proofs.Points.{IsSound, sound_run}
 use Rattle.run_facts.proofs.StepKinds.{IsKept, kept_run}
-use Rattle.run_facts.proofs.Statements.{bodies, parameters_are, free_in}
+use Rattle.run_facts.proofs.Statements.{parameters_are}
 use Rattle.simulation_steps.specs.OwnGlobals.{BeginsNone, globals_of, HasOwnGlobals}
 use Rattle.simulation_steps.proofs.GrownLists.{front, last, front_or_last}
-use Rattle.simulation_steps.proofs.QuietActs.{act_quiet, given_quiet}
 use Rattle.simulation_steps.proofs.WholeBlocks.{new_or_old}
 
 -- ---- what is left to do begins no global
@@ -112,27 +106,17 @@ module _ (p : Executable) where
       let stores = stores_of (begun_with (outside p) g.variable g.init opened) in
       all_named gs (global_begun p g s) (both_longer s.origins s.memory.blocks _ _ tracked ∙ sym (blocks_stored stores opened.memory)) once.1 (begun_named g (variables gs) s tracked once.0 h)
 
-  no_sites_begun : (gs : List Global) (s : State) → ((b i : ℕ) → slice_get s.origins b ≡ Some (OfStatement i) → ⊥) → (b i : ℕ) → slice_get (all_begun p gs s).origins b ≡ Some (OfStatement i) → ⊥
-  no_sites_begun [] s h b i is = h b i is
-  no_sites_begun (g ∷ gs) s h b i is =
-      no_sites_begun gs (global_begun p g s) (λ c j q. elim (new_or_old (OfVariable g.variable) (OfStatement j) s.origins c q) [ inl old ↦ h c j old | inr same ↦ no_site g.variable j same ]) b i is
-
-module _ (p : Program) (free : IsPointerFree p) (own : HasOwnGlobals p) where
+module _ (p : Program) (own : HasOwnGlobals p) where
   abbrev e : Executable
   e = executable p
 
-  abbrev Mine : ℕ → Doing → Type 0
-  Mine f d = IsIn (doings_of p f) d
-
-  -- the block of a global is the one that it had when the run began, and malloc has made none
+  -- the block of a global is the one that it had when the run began
   pub record OneEach (os : List Origin) : Type 0 where
     pub globals : (b y : ℕ) → slice_get os b ≡ Some (OfVariable y) → is_global p y ≡ true → (opening e []).frame y ≡ Some b
-    pub no_sites : (b i : ℕ) → slice_get os b ≡ Some (OfStatement i) → ⊥
 
   begun_each : (input : List ℕ) → OneEach (opening e input).origins
   begun_each input = record {
     globals = λ b y is global. (all_named e e.globals (blank e) refl (are_once (globals_of p) own.once) (λ c x q. none_there q) b y is).1;
-    no_sites = λ b i is. no_sites_begun e e.globals (blank e) (λ c j q. none_there q) b i is;
   }
 
   -- ---- blocks of other variables, and of malloc
@@ -143,11 +127,13 @@ module _ (p : Program) (free : IsPointerFree p) (own : HasOwnGlobals p) where
       | inl old ↦ h.globals b y old global
       | inr same ↦ absurd (false≢true (sym not_ ∙ (ap (is_global p) (variable_same x y same) ∙ global)))
     ];
-    no_sites = λ b i is. elim (new_or_old (OfVariable x) (OfStatement i) os b is) [ inl old ↦ h.no_sites b i old | inr same ↦ no_site x i same ];
   }
 
-  each_begun : (i : ℕ) (o : Option Request) (os : List Origin) → o ≡ None → OneEach os → OneEach (origins_after i o os)
-  each_begun i o os none h = subst (λ q. OneEach (origins_after i q os)) (sym none) h
+  each_begun : (i : ℕ) (o : Option Request) (os : List Origin) → OneEach os → OneEach (origins_after i o os)
+  each_begun i None os h = h
+  each_begun i (Some r) os h = record {
+    globals = λ b y is global. elim (new_or_old (OfStatement i) (OfVariable y) os b is) [ inl old ↦ h.globals b y old global | inr same ↦ absurd (no_site y i (sym same)) ];
+  }
 
   closed_origins : (xs : List ℕ) (s : State) → (all_closed xs s).origins ≡ s.origins
   closed_origins [] s = refl
@@ -179,9 +165,9 @@ module _ (p : Program) (free : IsPointerFree p) (own : HasOwnGlobals p) where
 
   -- ---- steps
 
-  -- what is known of each point of a run
+  -- what is left to do at each point of a run begins no global
   abbrev Known : Point → Type 0
-  Known x = BeginsNone (is_global p) x.rest × IsSound e Mine x
+  Known x = BeginsNone (is_global p) x.rest
 
   abbrev HoldsThere : Point → Type 0
   HoldsThere x = OneEach x.state.origins
@@ -191,24 +177,18 @@ module _ (p : Program) (free : IsPointerFree p) (own : HasOwnGlobals p) where
   each_changed (Closed xs) r types s none h = each_closed xs s h
 
   each_act : (x : Point) (k : DoesAct e x) → Known x → HoldsThere x → HoldsThere (acted_to e x k)
-  each_act x k known h =
-      let mine = (each_next (Mine x.function) x.rest _ k.next_is known.1.inside).0 in
-      let quiet = act_quiet (types_in e x.function) x.state k.act k.value (free_in p free x.function (doing.Does k.statement k.act) mine) k.made_is in
-      each_begun k.statement k.value.begun x.state.origins quiet.none_begun h
+  each_act x k known h = each_begun k.statement k.value.begun x.state.origins h
 
   each_back : (x : Point) (w : Waiting) → HoldsThere x → OneEach (back_in e x.function w x.state).origins
   each_back x w h = each_closed (variables_at e x.function) x.state h
 
   each_store : (x : Point) (k : ReturnsStoring e x) → Known x → HoldsThere x → HoldsThere (returned_storing e x k)
   each_store x k known h =
-      let types = types_in e k.caller.function in
-      let back = back_in e x.function k.caller x.state in
-      let z = then_there (λ (v : Value). given types k.caller.target v back) x.state.returned k.value k.received_is in
-      each_begun k.caller.call k.value.begun back.origins (given_quiet types back k.caller.target z.value k.value z.same).none_begun (each_back x k.caller h)
+      each_begun k.caller.call k.value.begun (back_in e x.function k.caller x.state).origins (each_back x k.caller h)
 
   each_kept : IsKept e Known HoldsThere
   each_kept = record {
-    moves = λ x k known h. each_changed k.change k.rest (types_in e x.function) x.state (subst (BeginsNone (is_global p)) k.rest_is known.0) h;
+    moves = λ x k known h. each_changed k.change k.rest (types_in e x.function) x.state (subst (BeginsNone (is_global p)) k.rest_is known) h;
     acts = each_act;
     begins = λ x k known h. each_called x.function k.function k.args x.state k.begun h k.called_is;
     returns = λ x k known h. each_back x k.caller h;
@@ -216,8 +196,7 @@ module _ (p : Program) (free : IsPointerFree p) (own : HasOwnGlobals p) where
   }
 
   known_run : (input : List ℕ) (x : Point) → Reaches (machine e) (beginning e input) x → Known x
-  known_run input x r =
-      ((holds_run e (λ f c. BeginsNone (is_global p) c) own.bodies_not (begins_after (is_global p)) input x r).rest, sound_run e Mine (bodies p) input x r)
+  known_run input x r = (holds_run e (λ f c. BeginsNone (is_global p) c) own.bodies_not (begins_after (is_global p)) input x r).rest
 
   -- at each point of a run
   pub one_each : (input : List ℕ) (x : Point) → Reaches (machine e) (beginning e input) x → OneEach x.state.origins

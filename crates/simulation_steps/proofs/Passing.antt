@@ -2,7 +2,6 @@
 use Rattle.std.proofs.Common.{◌≡◌, ℕ, ℤ, zero, suc, ◌<◌, List, [], ◌∷◌, length, map, Option, Some, None, Bool, true, false, inl, inr, refl, sym, ap, ◌∙◌, subst, arith}
 use Rattle.std.specs.Prelude.{option_map, option_and_then, slice_get}
 use Rattle.std.proofs.lemmas.Bool.Decides.{eqb_tells}
-use Rattle.std.proofs.lemmas.List.{length-append}
 use Rattle.c_language.proofs.Options.{none_there, some_same}
 use Rattle.c_language.specs.declared.expr_type.ExprType.{ExprType}
 use Rattle.c_arith.specs.declared.int_type.IntType.{IntType}
@@ -12,12 +11,11 @@ use Rattle.c_meaning.specs.declared.value.Place.{Place}
 use Rattle.c_meaning.specs.declared.value.Value.{Value}
 use Rattle.c_meaning.specs.declared.value.Value.TheVariants.{Null, To}
 use Rattle.c_meaning.specs.Cells.{Structs, cells, cell_number}
-use Rattle.c_meaning.specs.Memory.{Memory, held, cell_in, cell, filled, with_cell, write, unwritten, Entered, enter}
+use Rattle.c_meaning.specs.Memory.{Block, Memory, held, cell_in, cell, filled, with_cell, write, unwritten, Entered, enter}
 use Rattle.c_meaning.specs.Values.{whole, number_as, as_type, pointer_as}
-use Rattle.c_meaning.proofs.Frames.{get_changed, get_other, get_last}
-use Rattle.c_meaning.proofs.Origins.{length-changed}
+use Rattle.c_meaning.proofs.Frames.{get_changed, get_other}
 use Rattle.run_facts.proofs.KeptMemories.{write_keeps, new_keeps}
-use Rattle.simulation.specs.Renaming.{World, AlikeValue, number, null, pointer, AlikeCell, empty, held as both_hold, cell_at}
+use Rattle.simulation.specs.Renaming.{World, AlikeValue, number, null, pointer, AlikeCell, empty, held as both_hold}
 
 -- ---- values converted to a type
 
@@ -69,26 +67,18 @@ cells_alike w v z h ts (Some a) (Some n) =
       | inr e ↦ both_none w _ _ (ap (option_and_then held) (get_other (λ (o : Option Value). Some v) a n (map Nothing ts) e.1) ∙ none_held ts n) (ap (option_and_then held) (get_other (λ (o : Option Value). Some z) a n (map Nothing ts) e.1) ∙ none_held ts n)
     ]
 
-abbrev pub begun_cell : Structs → ExprType → List Hop → Value → Option (Option Value)
-begun_cell structs t path v = cell_in structs path (with_cell structs [] v (unwritten structs t Entered))
+-- a block of a type in which a value is written
+abbrev pub given_block : Structs → ExprType → Value → Block
+given_block structs t v = with_cell structs [] v (unwritten structs t Entered)
 
-pub begun_alike : (w : World) (structs : Structs) (t : ExprType) (path : List Hop) (v z : Value) → AlikeValue w v z → AlikeCell w (option_and_then held (begun_cell structs t path v)) (option_and_then held (begun_cell structs t path z))
+pub begun_alike : (w : World) (structs : Structs) (t : ExprType) (path : List Hop) (v z : Value) → AlikeValue w v z → AlikeCell w (option_and_then held (cell_in structs path (given_block structs t v))) (option_and_then held (cell_in structs path (given_block structs t z)))
 begun_alike w structs t path v z h = cells_alike w v z h (cells structs t) (cell_number structs [] t) (cell_number structs path t)
 
 -- a memory with a new block in which a value is written
 abbrev pub begun_memory : ExprType → Value → Memory → Memory
 begun_memory t v m = write (whole (length m.blocks)) v (enter t m)
 
-pub new_cell : (t : ExprType) (v : Value) (m : Memory) (path : List Hop) → cell (begun_memory t v m) (cell_at (length m.blocks) path) ≡ begun_cell m.structs t path v
-new_cell t v m path =
-    ap (option_and_then (cell_in m.structs path)) (get_changed (with_cell m.structs [] v) (length m.blocks) (enter t m).blocks ∙ ap (option_map (with_cell m.structs [] v)) (get_last m.blocks (unwritten m.structs t Entered)))
-
 pub old_cell : (t : ExprType) (v : Value) (m : Memory) (q : Place) → q.block < length m.blocks → cell (begun_memory t v m) q ≡ cell m q
 old_cell t v m q lt =
     write_keeps (enter t m) (whole (length m.blocks)) q v (λ same. let e = same.block_is in absurd (omega (arith, e, lt)))
     ∙ new_keeps (unwritten m.structs t Entered) m q lt
-
-pub begun_length : (t : ExprType) (v : Value) (m : Memory) → length (begun_memory t v m).blocks ≡ suc (length m.blocks)
-begun_length t v m =
-    let one = length-append m.blocks (unwritten m.structs t Entered ∷ []) in
-    length-changed (with_cell m.structs [] v) (length m.blocks) (enter t m).blocks ∙ omega (arith, one)

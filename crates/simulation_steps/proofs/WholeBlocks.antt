@@ -71,11 +71,11 @@ stored_whole : (ws : List Store) (m : Memory) → AreWhole m → AreWhole (store
 stored_whole [] m h = h
 stored_whole (w ∷ ws) m h = stored_whole ws (write w.place w.value m) (write_whole w.place w.value m h)
 
-left_whole : (o : Option ℕ) (m : Memory) → AreWhole m → AreWhole (leave_block o m)
+pub left_whole : (o : Option ℕ) (m : Memory) → AreWhole m → AreWhole (leave_block o m)
 left_whole None m h = h
 left_whole (Some n) m h = changed_all gone (IsWhole m.structs) (λ b k. gone_whole m.structs b) n m.blocks h
 
-begun_whole : (o : Option Request) (m : Memory) → AreWhole m → AreWhole (with_begun o m)
+pub begun_whole : (o : Option Request) (m : Memory) → AreWhole m → AreWhole (with_begun o m)
 begun_whole None m h = h
 begun_whole (Some r) m h = new_whole _ m h (unwritten_whole m.structs (array_of r.count r.shape) Allocated)
 

@@ -2,8 +2,6 @@ pub mod GoneFrames
 pub mod Moves
 pub mod NewBlocks
 pub mod Constants
-pub mod NamelessTrees
-pub mod ConstantGlobals
 pub mod Globals
 pub mod Openings
 pub mod BegunParts

@@ -80,7 +80,7 @@ module _ (pair : SlicePair) (holds : ℕ → Type 0) where
         blocks = begun.blocks;
         frames = begun.frames;
         same = λ l e. elim e [ inl killed ↦ absurd (false≢true killed) | inr same ↦ begun.same l same ];
-        waiting = λ above b d below l e frames other same. begun.callers b d l same;
+        waiting = λ above b d below l e frames other same. begun.others b.frame d.frame b.returned d.returned l same;
       }
 
   -- ---- variables are gone

@@ -1,67 +1,54 @@
 -- The globals have begun in a program and in its slice.
 use Rattle.std.proofs.Common.{◌≡◌, ℕ, List, [], ◌∷◌, ◌++◌, length, Option, None, true, false, inl, inr, refl, sym, ap, ap₂, ◌∙◌, subst}
 use Rattle.std.specs.List.{list_all}
-use Rattle.std.proofs.lemmas.Bool.{and_parts, false≢true}
-use Rattle.c_tree.specs.declared.expr.Expr.{Expr}
-use Rattle.c_tree.specs.declared.program.Init.{Init}
-use Rattle.c_tree.specs.declared.program.Init.TheVariants as init
+use Rattle.std.proofs.lemmas.Bool.{and_parts}
 use Rattle.c_tree.specs.declared.program.Item.{Item}
 use Rattle.c_tree.specs.declared.program.Item.TheVariants as item
+use Rattle.c_tree.specs.declared.program.Program.{Program}
 use Rattle.c_language.specs.declared.expr_type.ExprType.{ExprType}
-use Rattle.c_language.specs.Names.{init_names}
 use Rattle.c_language.proofs.Tests.{by_answer}
-use Rattle.c_meaning.specs.Activations.{Global, Executable, executable, globals_in, outside, blank, global_opened, global_begun, all_begun}
+use Rattle.c_meaning.specs.Activations.{Global, Executable, executable, globals_in, outside, zeros, blank, global_opened, global_begun, all_begun}
 use Rattle.c_meaning.specs.Memory.{Block}
 use Rattle.c_meaning.specs.Values.{State}
-use Rattle.dep_model.specs.IntegerForms.{integer_init}
 use Rattle.dep_model.specs.declared.location.Location.{Location}
 use Rattle.dep_model.specs.ModRef.{is_outside}
-use Rattle.dep_model.specs.PointerFree.{is_pointer_free_item, IsPointerFree}
-use Rattle.dep_model.proofs.Membership.{IsIn, contains_of_in}
+use Rattle.dep_model.proofs.Membership.{IsIn}
 use Rattle.projection.specs.Projection.{if_so}
 use Rattle.projection.specs.Renumbering.{renamed_init}
+use Rattle.typed_programs.specs.FixedValues.{begins_fixed}
+use Rattle.typed_programs.specs.TreeOperands.{declarations}
+use Rattle.typed_programs.specs.TypedStatements.{begins, item_fits}
+use Rattle.typed_programs.proofs.TypedPrograms.{programs_typed}
 use Rattle.simulation.specs.Premises.{Beginning}
 use Rattle.simulation.specs.Renaming.{World, AlikeCell, empty, AlikeAt, neither}
 use Rattle.simulation.specs.Settings.{Setting}
 use Rattle.simulation_places.specs.LikeParts.{projected_globals}
 use Rattle.simulation_steps.specs.SlicePairs.{SlicePair, setting_over}
-use Rattle.simulation_values.specs.Laws.{BeginsWithConstants}
 use Rattle.simulation_values.proofs.NewBlocks.{IsPlain, with_block_of, Begun, begun_alone, begun_both}
-use Rattle.simulation_values.proofs.Constants.{constant_value}
-use Rattle.simulation_values.proofs.Globals.{begun_block, init_value, global_is, block_plain, block_live}
+use Rattle.simulation_values.proofs.Globals.{Write, writes_of, block_after, init_made, begun_block, begun_is, block_live, made_plain, made_same, block_plain}
 
--- what globals of a program over integers begin with
-integer_globals : (xs : List Item) → list_all is_pointer_free_item xs ≡ true → (g : Global) → IsIn (globals_in xs) g → integer_init g.init ≡ true
-integer_globals [] free g m = absurd m
-integer_globals (item.Include b ∷ xs) free g m = integer_globals xs free g m
-integer_globals (item.Tag d ∷ xs) free g m = integer_globals xs free g m
-integer_globals (item.Struct d ∷ xs) free g m = integer_globals xs free g m
-integer_globals (item.Global x i ∷ xs) free g (inl e) = subst (λ (h : Global). integer_init h.init ≡ true) e (and_parts (integer_init i) (list_all is_pointer_free_item xs) free).0
-integer_globals (item.Global x i ∷ xs) free g (inr m) = integer_globals xs (and_parts (integer_init i) (list_all is_pointer_free_item xs) free).1 g m
-integer_globals (item.Prototype f ns is_static ∷ xs) free g m = integer_globals xs free g m
-integer_globals (item.Define f ∷ xs) free g m = integer_globals xs free g m
+-- what globals begin with names no variable
+fixed_globals : (p : Program) (xs : List Item) → list_all (item_fits (declarations p)) xs ≡ true → (g : Global) → IsIn (globals_in xs) g → begins_fixed g.init ≡ true
+fixed_globals p [] fits g m = absurd m
+fixed_globals p (item.Include b ∷ xs) fits g m = fixed_globals p xs fits g m
+fixed_globals p (item.Tag d ∷ xs) fits g m = fixed_globals p xs fits g m
+fixed_globals p (item.Struct d ∷ xs) fits g m = fixed_globals p xs fits g m
+fixed_globals p (item.Global x i ∷ xs) fits g (inl e) =
+    subst (λ (h : Global). begins_fixed h.init ≡ true) e (and_parts (begins (declarations p) x i) (begins_fixed i) (and_parts (item_fits (declarations p) (item.Global x i)) (list_all (item_fits (declarations p)) xs) fits).0).1
+fixed_globals p (item.Global x i ∷ xs) fits g (inr m) =
+    fixed_globals p xs (and_parts (item_fits (declarations p) (item.Global x i)) (list_all (item_fits (declarations p)) xs) fits).1 g m
+fixed_globals p (item.Prototype f ns is_static ∷ xs) fits g m = fixed_globals p xs fits g m
+fixed_globals p (item.Define f ∷ xs) fits g m = fixed_globals p xs fits g m
 
-no_items : (i : Init) → integer_init i ≡ true → (es : List Expr) → i ≡ init.Items es → ⊥
-no_items i free es e = false≢true (ap integer_init (sym e) ∙ free)
-
-renamed_items : (f : ℕ → ℕ) (i : Init) → integer_init i ≡ true → (es : List Expr) → renamed_init f i ≡ init.Items es → ⊥
-renamed_items f init.None free es e = cc
-renamed_items f (init.One x) free es e = cc
-renamed_items f (init.Items xs) free es e = false≢true free
-
-module _ (pair : SlicePair) (free : IsPointerFree pair.original) (constant : BeginsWithConstants pair.original) where
+module _ (pair : SlicePair) where
   abbrev here : Executable
   here = executable pair.original
 
   abbrev there : Executable
   there = executable pair.slice
 
-  -- what a global begins with comes to the same in both
-  same_value : (g : Global) → IsIn here.globals g → (s t : State) → (i : Init) → g.init ≡ i → init_value (outside there) (renamed_init pair.new.variable i) t ≡ init_value (outside here) i s
-  same_value g m s t init.None e = refl
-  same_value g m s t (init.One x) e =
-      constant_value (outside here) (outside there) pair.new.variable s t x (ap integer_init (sym e) ∙ integer_globals pair.original.items free.items_are g m) (λ y. ap (λ (i : Init). init_names i y) (sym e) ∙ constant g y (contains_of_in here.globals g m))
-  same_value g m s t (init.Items xs) e = refl
+  fixed : (g : Global) → IsIn here.globals g → begins_fixed g.init ≡ true
+  fixed = fixed_globals pair.original pair.original.items (programs_typed pair.original pair.well).globals
 
   -- a global begins in both, or in the original alone
   pub record Next (w : World) (m n : State) : Type 0 where
@@ -72,14 +59,11 @@ module _ (pair : SlicePair) (free : IsPointerFree pair.original) (constant : Beg
     abbrev x : ℕ
     x = g.variable
 
-    integers : integer_init g.init ≡ true
-    integers = integer_globals pair.original.items free.items_are g member
-
     abbrev block : Block
-    block = begun_block m.memory.structs (here.typing.variable x) (init_value (outside here) g.init (global_opened here x m))
+    block = begun_block here x m g.init
 
     here_is : global_begun here g m ≡ with_block_of x block m
-    here_is = global_is here g m (no_items g.init integers)
+    here_is = begun_is here x m g.init
 
     begins_alone : pair.kept.variable x ≡ false → Begun pair.kept pair.new w (global_begun here g m) n
     begins_alone goes = subst (λ (s : State). Begun pair.kept pair.new w s n) (sym here_is) (begun_alone pair.kept pair.new pair.apart w m n h x block goes)
@@ -87,18 +71,22 @@ module _ (pair : SlicePair) (free : IsPointerFree pair.original) (constant : Beg
     abbrev twin : Global
     twin = record { variable = pair.new.variable x; init = renamed_init pair.new.variable g.init }
 
+    abbrev writes : List Write
+    writes = writes_of (init_made m.memory.structs (here.typing.variable x) (length m.memory.blocks) (outside here) (global_opened here x m) g.init)
+
+    -- what the global begins with comes to the same in both
+    same_block : pair.kept.variable x ≡ true → begun_block there (pair.new.variable x) n twin.init ≡ block
+    same_block stays =
+        ap₂ (λ ss (t : ExprType). block_after ss (writes_of (init_made ss t (length n.memory.blocks) (outside there) (global_opened there (pair.new.variable x) n) twin.init)) (zeros ss t)) (sym h.blocks.structs_are) (pair.parts.types_are x stays)
+        ∙ ap (λ ws. block_after m.memory.structs ws (zeros m.memory.structs (here.typing.variable x))) (made_same (outside here) (outside there) pair.new.variable (global_opened here x m) (global_opened there (pair.new.variable x) n) m.memory.structs (here.typing.variable x) (length n.memory.blocks) (length m.memory.blocks) g.init (fixed g member))
+
     there_is : pair.kept.variable x ≡ true → global_begun there twin n ≡ with_block_of (pair.new.variable x) block n
-    there_is stays =
-        global_is there twin n (renamed_items pair.new.variable g.init integers)
-        ∙ ap (λ (b : Block). with_block_of (pair.new.variable x) b n)
-        (ap (λ ss. begun_block ss (there.typing.variable (pair.new.variable x)) (init_value (outside there) twin.init (global_opened there (pair.new.variable x) n))) (sym h.blocks.structs_are)
-        ∙ ap₂ (λ (t : ExprType) v. begun_block m.memory.structs t v) (pair.parts.types_are x stays) (same_value g member (global_opened here x m) (global_opened there (pair.new.variable x) n) g.init refl))
+    there_is stays = begun_is there (pair.new.variable x) n twin.init ∙ ap (λ (b : Block). with_block_of (pair.new.variable x) b n) (same_block stays)
 
     begins_both : pair.kept.variable x ≡ true → Next w (global_begun here g m) (global_begun there twin n)
     begins_both stays =
-        let i = free.integers x in
-        let plain = subst (λ (t : ExprType). (v : _) → IsPlain m.memory.structs (begun_block m.memory.structs t v)) (sym i.1) (block_plain m.memory.structs i.0) in
-        let both = begun_both pair.kept pair.new pair.apart w m n h x block stays (block_live m.memory.structs (here.typing.variable x) _) (plain _) in
+        let plain = block_plain m.memory.structs (here.typing.variable x) writes (made_plain (outside here) (outside here) (λ z. z) (global_opened here x m) (global_opened here x m) m.memory.structs (here.typing.variable x) (length m.memory.blocks) g.init (fixed g member)) in
+        let both = begun_both pair.kept pair.new pair.apart w m n h x block stays (block_live here x m g.init) plain in
         record {
           world = w ++ length m.memory.blocks ∷ [];
           begun = subst (λ (s : State). Begun pair.kept pair.new (w ++ length m.memory.blocks ∷ []) s (global_begun there twin n)) (sym here_is) (subst (λ (s : State). Begun pair.kept pair.new (w ++ length m.memory.blocks ∷ []) (with_block_of x block m) s) (sym (there_is stays)) both);
@@ -137,7 +125,7 @@ module _ (pair : SlicePair) (free : IsPointerFree pair.original) (constant : Beg
   globals_begin =
       subst (λ gs. Next [] (all_begun here here.globals (blank here)) (all_begun there gs (blank there))) (sym pair.parts.globals_are) (all_begin here.globals (λ g m. m) [] (blank here) (blank there) blank_begun)
 
-module _ (pair : SlicePair) (holds : ℕ → Type 0) (free : IsPointerFree pair.original) (constant : BeginsWithConstants pair.original) where
+module _ (pair : SlicePair) (holds : ℕ → Type 0) where
   abbrev s : Setting
   s = setting_over pair holds
 
@@ -153,7 +141,7 @@ module _ (pair : SlicePair) (holds : ℕ → Type 0) (free : IsPointerFree pair.
 
   pub beginning_together : Beginning s
   beginning_together =
-      let all = globals_begin pair free constant in
+      let all = globals_begin pair in
       let h = all.begun in
       record {
         world = all.world;

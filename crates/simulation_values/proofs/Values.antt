@@ -1,4 +1,4 @@
--- A program without pointers, arrays and structs and its projection go together step by step, and so have the same values.
+-- A program of any form and its projection go together step by step, and so have the same values.
 use Rattle.std.proofs.Common.{ℕ, List, Bool}
 use Rattle.std.specs.Prelude.{IsTrue}
 use Rattle.bit_rows.specs.Sets.{has}
@@ -9,7 +9,6 @@ use Rattle.dep_model.specs.declared.edge.Edge.{Edge}
 use Rattle.dep_model.specs.ClosedSets.{IsProjectable}
 use Rattle.dep_model.specs.Criteria.{criterion_of}
 use Rattle.dep_model.specs.Doings.{program_doings}
-use Rattle.dep_model.specs.PointerFree.{IsPointerFree}
 use Rattle.dep_model.specs.SystemGraph.{Analysis, IsAnalysis, vertices_of, AreSystemEdges}
 use Rattle.dep_model.specs.Words.{ReachesAny}
 use Rattle.projection.specs.Kept.{Kept}
@@ -30,13 +29,12 @@ use Rattle.simulation_steps.specs.SlicePairs.{SlicePair, twin_of}
 use Rattle.simulation_values.specs.SameValues.{StandFor, HasSameValues}
 use Rattle.simulation_values.specs.Holding.{Holds}
 use Rattle.simulation_values.proofs.Moves.{moving}
-use Rattle.simulation_values.proofs.ConstantGlobals.{globals_constant}
 use Rattle.simulation_values.proofs.Openings.{beginning_together}
 use Rattle.simulation_values.proofs.Together.{GoTogether}
 use Rattle.simulation_values.proofs.Joint.{same_trace}
 use Rattle.simulation_values.proofs.Likeness.{like_acts, like_calls}
 
-module _ (p q : Program) (a : Analysis) (edges : List Edge) (kept : List Bool) (set ranks : ℕ → Bool) (ok : IsWellFormed p) (free : IsPointerFree p) (own : HasOwnGlobals p) (is_analysis : IsAnalysis p a) (are : AreSystemEdges p a edges) (able : IsProjectable p (vertices_of p a) edges kept) (same : SameButLines q (projection p (vertices_of p a) kept)) where
+module _ (p q : Program) (a : Analysis) (edges : List Edge) (kept : List Bool) (set ranks : ℕ → Bool) (ok : IsWellFormed p) (own : HasOwnGlobals p) (is_analysis : IsAnalysis p a) (are : AreSystemEdges p a edges) (able : IsProjectable p (vertices_of p a) edges kept) (same : SameButLines q (projection p (vertices_of p a) kept)) where
   abbrev k : Kept ℕ
   k = kept_of kept (vertices_of p a) p
 
@@ -73,12 +71,12 @@ module _ (p q : Program) (a : Analysis) (edges : List Edge) (kept : List Bool) (
   go_together input =
       let holds : ℕ → Type 0 = λ f. Holds p set f in
       record {
-        staying = staying p a kept (twin_of (pair input)) holds ok is_analysis free own;
-        acting = acting (pair input) holds free;
+        staying = staying p a kept (twin_of (pair input)) holds ok is_analysis;
+        acting = acting (pair input) holds;
         moving = moving (pair input) holds;
-        entering = entering (pair input) holds free;
-        returning = returning (pair input) holds free;
-        beginning = beginning_together (pair input) holds free (globals_constant p ok);
+        entering = entering (pair input) holds;
+        returning = returning (pair input) holds;
+        beginning = beginning_together (pair input) holds;
       }
 
   pub projections_same_values : ((v : ℕ) → ReachesAny edges (criterion_of set (vertices_of p a)) v → IsTrue (has kept v)) → StandFor (kept_words kept (vertices_of p a)).statement set ranks → HasSameValues (kept_words kept (vertices_of p a)).statement set ranks p q

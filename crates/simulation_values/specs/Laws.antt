@@ -1,12 +1,9 @@
 -- How a program and its projection begin and move on, how their criteria are told, and that both give the same values there.
 use Rattle.std.specs.Prelude.{◌≡◌, ℕ, List, Bool, true, false, Contains, IsTrue}
 use Rattle.c_tree.specs.declared.program.Program.{Program}
-use Rattle.c_meaning.specs.Activations.{executable, Global}
 use Rattle.dep_model.specs.SystemGraph.{Analysis, vertices_of, AreSystemEdges, IsAnalysis}
 use Rattle.simulation.specs.Premises.{Moving, Beginning, Telling}
-use Rattle.c_language.specs.Names.{init_names}
 use Rattle.c_language.specs.Programs.{IsWellFormed}
-use Rattle.dep_model.specs.PointerFree.{IsPointerFree}
 use Rattle.simulation_steps.specs.OwnGlobals.{HasOwnGlobals}
 use Rattle.simulation_steps.specs.SlicePairs.{SlicePair, setting_over}
 use Rattle.bit_rows.specs.Sets.{has}
@@ -24,16 +21,9 @@ use Rattle.simulation_values.specs.SameValues.{StandFor, HasSameValues}
 abbrev pub MovesGoTogether : Type 0
 MovesGoTogether = (pair : SlicePair) (holds : ℕ → Bool) → Moving (setting_over pair (λ f. holds f ≡ true))
 
--- what globals begin with names no variable: it is constant (ISO C99 6.7.8, paragraph 4)
-abbrev pub BeginsWithConstants : Program → Type 0
-BeginsWithConstants p = (g : Global) (x : ℕ) → Contains (executable p).globals g → init_names g.init x ≡ false
-
--- in a program over integers, where globals have begun in it and in its slice, the slice's blocks stand for those of the globals that
--- stay, and all is alike
+-- where globals have begun in a program and in its slice, the slice's blocks stand for those of the globals that stay, and all is alike
 abbrev pub RunsBeginTogether : Type 0
-RunsBeginTogether =
-    (pair : SlicePair) (holds : ℕ → Bool) → IsPointerFree pair.original → BeginsWithConstants pair.original
-    → Beginning (setting_over pair (λ f. holds f ≡ true))
+RunsBeginTogether = (pair : SlicePair) (holds : ℕ → Bool) → Beginning (setting_over pair (λ f. holds f ≡ true))
 
 -- each global begins once, where a run begins, and none is a variable of a function
 abbrev pub GlobalsAreOwn : Type 0
@@ -46,11 +36,10 @@ CriteriaAreTold =
     (pair : SlicePair) (edges : List Edge) → AreSystemEdges pair.original pair.analysis edges → HasReaching pair edges → IsRanked pair
     → Telling (setting_over pair (λ f. Holds pair.original pair.criterion f))
 
--- what a set has that can be projected, with all that reaches a criterion, gives the values of the program there: of a program without
--- pointers, arrays and structs, with functions, recursion, globals and input
+-- what a set has that can be projected, with all that reaches a criterion, gives the values of the program there, whatever its form
 abbrev pub ProjectionsHaveSameValues : Type 0
 ProjectionsHaveSameValues =
-    (p q : Program) (a : Analysis) (edges : List Edge) (kept : List Bool) (set ranks : ℕ → Bool) → IsWellFormed p → IsPointerFree p
+    (p q : Program) (a : Analysis) (edges : List Edge) (kept : List Bool) (set ranks : ℕ → Bool) → IsWellFormed p
     → HasOwnGlobals p → IsAnalysis p a → AreSystemEdges p a edges → IsProjectable p (vertices_of p a) edges kept
     → ((v : ℕ) → ReachesAny edges (criterion_of set (vertices_of p a)) v → IsTrue (has kept v))
     → StandFor (kept_words kept (vertices_of p a)).statement set ranks → SameButLines q (projection p (vertices_of p a) kept)

@@ -13,8 +13,8 @@ pub fn moves_go_together()
     ensures { law.MovesGoTogether }
 {}
 
-/// A law: where the globals have begun in a program over integers, whose globals begin with constants, and those that stay
-/// in its slice, each block of the slice stands for that of the same global, and all that they hold is alike.
+/// A law: where the globals have begun in a program and those that stay in its slice, with constants, lists of constants or
+/// zeros, each block of the slice stands for that of the same global, and all that they hold is alike.
 pub fn runs_begin_together()
     ensures { law.RunsBeginTogether }
 {}
@@ -31,9 +31,9 @@ pub fn criteria_are_told()
     ensures { law.CriteriaAreTold }
 {}
 
-/// A law: where a set of vertices of a well-formed program without pointers, arrays and structs can be projected and has
-/// all that reaches a criterion, the projection to it ends on each input on which the program ends, in no more acts, and
-/// gives the same values at the criterion: with functions, recursion, globals and input.
+/// A law: where a set of vertices of a well-formed program can be projected and has all that reaches a criterion, the
+/// projection to it ends on each input on which the program ends, in no more acts, and gives the same values at the
+/// criterion: with functions, recursion, pointers, memory from malloc, globals and input.
 pub fn projections_have_same_values()
     ensures { law.ProjectionsHaveSameValues }
 {}

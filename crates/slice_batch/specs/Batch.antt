@@ -7,7 +7,7 @@ use Rattle.slice_engine.specs.declared.engine.Criterion.{Criterion}
 abbrev pub Bytes : Type 0
 Bytes = List ℕ
 
--- a text is the slice of a program at a criterion; it is a text again and, of a program without pointers, arrays and structs, gives the same values
+-- a text is the slice of a program at a criterion; it is a text again, and gives the same values
 pub record IsTextOf (p : Program) (c : Criterion) (text : Bytes) : Type 0 where
   pub slice : IsSlice p c.line text
   pub faithful : IsFaithful p c.line text

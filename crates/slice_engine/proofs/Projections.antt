@@ -7,7 +7,6 @@ use Rattle.c_tree.specs.Unlined.{SameButLines}
 use Rattle.c_language.specs.Programs.{IsWellFormed}
 use Rattle.control_nesting.proofs.WellFormedSets.{closed_has_controllers, closed_is_nested}
 use Rattle.dep_model.specs.Criteria.{criterion_of}
-use Rattle.dep_model.specs.PointerFree.{IsPointerFree}
 use Rattle.dep_model.specs.SystemGraph.{Analysis, vertices_of}
 use Rattle.dep_model.specs.Words.{ReachesAny}
 use Rattle.kept_texts.proofs.WellFormedProjections.{projection_well_formed, projection_words}
@@ -32,12 +31,11 @@ module _ (p : Program) (a : Analysis) (s : List Bool) (well : IsWellFormed p) (k
   pub projected_words : KeepsWords p (kept_of s (vertices_of p a) p)
   projected_words = projection_words p a k.edges s well k.are_edges k.projectable
 
--- ---- programs over integers
+-- ---- values
 
--- with functions, recursion, globals and input
 pub projected_values :
-    (p q : Program) (a : Analysis) (s : List Bool) (set ranks : ℕ → Bool) → IsWellFormed p → IsPointerFree p → (k : CanBeProjected p a s)
+    (p q : Program) (a : Analysis) (s : List Bool) (set ranks : ℕ → Bool) → IsWellFormed p → (k : CanBeProjected p a s)
     → ((v : ℕ) → ReachesAny k.edges (criterion_of set (vertices_of p a)) v → IsTrue (has s v)) → StandFor (keeps p a s) set ranks → SameButLines q (sliced p a s)
     → HasSameValues (keeps p a s) set ranks p q
-projected_values p q a s set ranks well free k reach stand same =
-    projections_same_values p q a k.edges s set ranks well free (globals_are_own p well) k.is_analysis k.are_edges k.projectable same reach stand
+projected_values p q a s set ranks well k reach stand same =
+    projections_same_values p q a k.edges s set ranks well (globals_are_own p well) k.is_analysis k.are_edges k.projectable same reach stand

@@ -164,11 +164,11 @@ module _ (p : Program) (line : ℕ) (q : Program) (in_criterion : List Bool) (we
 
 -- ---- the same values
 
--- what is read of a slice is accepted so, and of a program over integers it gives the same values
+-- what is read of a slice is accepted so, and gives the same values at the criterion
 pub is_faithful : (p : Program) (line : ℕ) (text : Bytes) → IsWellFormed p → IsAcceptedSlice p line text → IsFaithful p line text
 is_faithful p line text well r = record {
   accepted = r;
-  same_values = λ free.
+  same_values =
       let able : CanBeProjected p r.analysis r.kept = record {
         is_analysis = r.is_kept.is_analysis;
         edges = r.is_kept.edges;
@@ -176,5 +176,5 @@ is_faithful p line text well r = record {
         long = (kept_projectable p r.analysis line r.kept well r.is_kept).long;
         projectable = kept_able p r.analysis line r.kept well r.is_kept;
       } in
-      projected_values p r.program r.analysis r.kept (starts_on p line) (is_criterion p r.analysis line r.kept) well free able (reaching_kept p r.analysis line r.kept r.is_kept) (criterion_rank p r.analysis line r.kept well r.is_kept) r.same_program;
+      projected_values p r.program r.analysis r.kept (starts_on p line) (is_criterion p r.analysis line r.kept) well able (reaching_kept p r.analysis line r.kept r.is_kept) (criterion_rank p r.analysis line r.kept well r.is_kept) r.same_program;
 }

@@ -12,7 +12,6 @@ use Rattle.dep_model.specs.ClosedSets.{IsProjectable}
 use Rattle.dep_model.specs.Criteria.{criterion_of}
 use Rattle.dep_model.specs.Graphs.{IsGraph, IsGraphOf}
 use Rattle.dep_model.specs.LocationRows.{points_of, analysis_of, ArePointsRows}
-use Rattle.dep_model.specs.PointerFree.{IsPointerFree}
 use Rattle.dep_model.specs.SystemGraph.{Analysis, IsAnalysis, vertices_of, AreSystemEdges}
 use Rattle.dep_model.specs.Words.{ReachesAny}
 use Rattle.mod_ref.specs.Effects.{AreEffectsByPlace}
@@ -49,10 +48,9 @@ abbrev pub ProjectionIsWellFormed : Type 0
 ProjectionIsWellFormed =
     (p : Program) (a : Analysis) (s : List Bool) → IsWellFormed p → CanBeProjected p a s → IsWellFormed (sliced p a s)
 
--- where the set has all that reaches a criterion, it gives the values of the program there; so far of programs over integers, with
--- functions, recursion, globals and input
+-- where the set has all that reaches a criterion, it gives the values of the program there, whatever its form
 abbrev pub ProjectionHasSameValues : Type 0
 ProjectionHasSameValues =
-    (p q : Program) (a : Analysis) (s : List Bool) (set ranks : ℕ → Bool) → IsWellFormed p → IsPointerFree p → (k : CanBeProjected p a s)
+    (p q : Program) (a : Analysis) (s : List Bool) (set ranks : ℕ → Bool) → IsWellFormed p → (k : CanBeProjected p a s)
     → ((v : ℕ) → ReachesAny k.edges (criterion_of set (vertices_of p a)) v → IsTrue (has s v)) → StandFor (keeps p a s) set ranks
     → SameButLines q (sliced p a s) → HasSameValues (keeps p a s) set ranks p q

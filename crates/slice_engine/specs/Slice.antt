@@ -16,7 +16,6 @@ use Rattle.dep_model.specs.declared.edge.Edge.{Edge}
 use Rattle.dep_model.specs.Words.{ReachesAny}
 use Rattle.dep_model.specs.ClosedSets.{IsCompletionIn}
 use Rattle.dep_model.specs.Criteria.{criterion_of}
-use Rattle.dep_model.specs.PointerFree.{IsPointerFree}
 use Rattle.dep_model.specs.SystemGraph.{Analysis, IsAnalysis, vertices_of, AreSystemEdges}
 use Rattle.kept_numbers.specs.Ranks.{rank}
 use Rattle.projection.specs.KeptVertices.{kept_words, kept_of, projection}
@@ -103,7 +102,7 @@ pub record IsAcceptedSlice (p : Program) (line : ℕ) (text : Bytes) : Type 0 wh
   pub same_program : SameButLines program (sliced p analysis kept)
   pub own_words : KeepsWords p (kept_of kept (vertices_of p analysis) p)
 
--- it is accepted so, and of a program without pointers, arrays and structs the program that is read gives the same values
+-- it is accepted so, and the program that is read gives the same values at the criterion
 pub record IsFaithful (p : Program) (line : ℕ) (text : Bytes) : Type 0 where
   pub accepted : IsAcceptedSlice p line text
-  pub same_values : IsPointerFree p → GivesCriterion p accepted.analysis line accepted.kept accepted.program
+  pub same_values : GivesCriterion p accepted.analysis line accepted.kept accepted.program

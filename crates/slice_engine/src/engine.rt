@@ -168,8 +168,8 @@ impl Engine {
     }
 
     /// The text of the slice at a criterion: a header, and the layout of the program that the kept statements make
-    /// (Binkley 1993). It is accepted again, as that program. Of a program without pointers, arrays and structs each input on
-    /// which it ends gives the same values at the criterion in both.
+    /// (Binkley 1993). It is accepted again, as that program. On each input on which the program ends without an undefined
+    /// act the text's program ends without one, in no more acts, with the same values at the criterion.
     ///
     /// Err: no memory was left, or the layout of the slice has more than 4,294,967,296 bytes.
     pub fn slice_text(&self, alloc: Global, c: Criterion) -> Result<Text, AllocError>

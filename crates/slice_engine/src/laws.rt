@@ -26,7 +26,7 @@ pub fn projection_is_well_formed()
 {}
 
 /// A law: on each input on which a well-formed program ends, its projection to such a set that has all that reaches a
-/// criterion ends, with the same values there. So far for programs over integers, with functions, recursion, globals and input.
+/// criterion ends, in no more acts, with the same values there: for programs of every form.
 pub fn projection_has_same_values()
     ensures { law.ProjectionHasSameValues }
 {}

@@ -93,7 +93,7 @@ StartsNone text asked = (p : Program) → HasGraph text asked p → StartOn p (l
 
 -- ---- slices
 
--- what is written is the slice of a program at a line, on which a statement starts; it is a text again and, of a program without pointers, arrays and structs, gives the same values
+-- what is written is the slice of a program at a line, on which a statement starts; it is a text again, and gives the same values
 pub record IsSliceAt (p : Program) (line : ℕ) (written : Bytes) : Type 0 where
   pub starts : HasStart p line
   pub slice : IsSlice p line written
