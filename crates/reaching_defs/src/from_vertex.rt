@@ -1,15 +1,19 @@
 //! The flow edges from one vertex.
-ghost use Rattle.std.specs.Prelude.{◌≡◌, ℕ, ◌+◌, ◌<◌, ◌≤◌, ◌^◌, ◌↔◌, ◌⊎◌, IsTrue, AllPairs, eqb, length, OnOk, Contains};
+ghost use Rattle.std.specs.Prelude.{◌≡◌, ℕ, ◌+◌, ◌*◌, ◌/◌, ◌<◌, ◌≤◌, ◌^◌, ◌↔◌, ◌⊎◌, [], IsTrue, AllPairs, eqb, length, get_or, OnOk, Contains};
 ghost use Rattle.std.specs.Int.{bit_at};
 ghost use Rattle.dep_model.specs.EdgeOrder.{AreAscendingEdges};
 ghost use Rattle.dep_model.specs.declared.edge.Edge.{Edge};
+ghost use Rattle.reaching_defs.specs.Arrivals.{IsAtRest, IsBare, IsMet, IsOfRow, IsRoomy};
 ghost use Rattle.reaching_defs.specs.FlowEdges.{IsTargeted};
 ghost use Rattle.reaching_defs.specs.RowFlow.{AreEvenRows, IsRowFlow, row_has};
 ghost use Rattle.reaching_defs.specs.Stretches.{AreSuccessors, FlowsAmong};
 
+use crate::arrivals::Arrivals;
+use crate::definition::{Definition, has_many, meet};
 use crate::listed_set::ListedSet;
-use crate::search;
+use crate::scratch::{MOST_WORDS, Scratch};
 use crate::successors::Successors;
+use crate::{row_search, search};
 use bit_rows::Rows;
 use dep_model::{Edge, Label, LocationId, Skeleton, VertexId};
 use std::alloc::AllocError;
@@ -118,6 +122,106 @@ fn find_targets(
     }
 }
 
+// Adds to the targets those of the reached vertices that may use a location that has come to them; all are counted from `base` on.
+fn collect_met(
+    base: VertexId,
+    d: &Definition,
+    arrivals: &Arrivals,
+    used: &Rows,
+    targets: &mut ListedSet,
+)
+    requires few { base + targets.old.bound < 2 ^ 32 }
+    requires rows { base + targets.old.bound ≤ length used.now.sets }
+    requires held { (j : ℕ) → j < length d.now.held.items → get_or d.now.held.items j 0 < (used.now.bits + 63) / 64 }
+    requires roomy { IsRoomy arrivals.now }
+    requires size { arrivals.now.reached.bound ≡ targets.old.bound }
+    requires fits { 64 * length d.now.held.items ≤ arrivals.now.rows.bits }
+    ensures size { targets.new.bound ≡ targets.old.bound }
+    ensures exact { (w : ℕ) → Contains targets.new.members w
+        ↔ (Contains targets.old.members w ⊎ (Contains arrivals.now.reached.members w × IsMet base d.now arrivals.now.rows used.now w)) }
+{
+    let reached = arrivals.reached.members();
+    for w in reached {
+        let come = arrivals.rows.words(*w);
+        let uses = used.words(base + *w);
+        if meet(d.held.as_slice(), come, uses) {
+            targets.add(*w);
+        }
+    }
+}
+
+// Makes the targets those to which a location of a definition flows, by one search for all its locations.
+fn find_by_rows(
+    next: &Successors,
+    d: &Definition,
+    s: &Skeleton,
+    turn: &mut ListedSet,
+    arrivals: &mut Arrivals,
+    targets: &mut ListedSet,
+)
+    requires next { AreSuccessors next.now }
+    requires few { length s.now.vertices < 2 ^ 32 }
+    requires rows { AreEvenRows s.now }
+    requires stretch_in { next.now.stretch.first + next.now.stretch.size ≤ length s.now.vertices }
+    requires from { next.now.stretch.first ≤ d.now.vertex }
+    requires to { d.now.vertex < next.now.stretch.first + next.now.stretch.size }
+    requires row { IsOfRow s.now.defined d.now }
+    requires few_words { length d.now.held.items ≤ 64 }
+    requires turn { turn.old ≡ record { bound = next.now.stretch.size; members = [] } }
+    requires roomy { IsRoomy arrivals.old }
+    requires wide { arrivals.old.reached.bound ≡ next.now.stretch.size }
+    requires fits { 64 * length d.now.held.items ≤ arrivals.old.rows.bits }
+    requires bare { IsBare arrivals.old }
+    requires size { targets.old.bound ≡ next.now.stretch.size }
+    ensures turn { turn.new ≡ record { bound = next.now.stretch.size; members = [] } }
+    ensures roomy { IsRoomy arrivals.new }
+    ensures wide { arrivals.new.reached.bound ≡ next.now.stretch.size }
+    ensures bits { arrivals.new.rows.bits ≡ arrivals.old.rows.bits }
+    ensures bare { IsBare arrivals.new }
+    ensures size { targets.new.bound ≡ next.now.stretch.size }
+    ensures exact { (w : ℕ) → Contains targets.new.members w
+        ↔ FlowsAmong 0 s.now.defined.bits s.now next.now.pairs.items d.now.vertex (next.now.stretch.first + w) }
+{
+    targets.clear();
+    let mut passed = [0u64; MOST_WORDS];
+    let count = d.held.len();
+    row_search::spread(next, d, &s.killed, &mut passed[..count], turn, arrivals);
+    collect_met(next.stretch.first, d, arrivals, &s.used, targets);
+    arrivals.clear();
+}
+
+// Makes the targets those to which a location flows from `v`: by rows where it has many, as far as rows are wide enough, and else by a
+// search for each. Err: no memory was left.
+fn find_all(next: &Successors, v: VertexId, s: &Skeleton, x: &mut Scratch) -> Result<(), AllocError>
+    requires next { AreSuccessors next.now }
+    requires few { length s.now.vertices < 2 ^ 32 }
+    requires rows { AreEvenRows s.now }
+    requires stretch_in { next.now.stretch.first + next.now.stretch.size ≤ length s.now.vertices }
+    requires from { next.now.stretch.first ≤ v }
+    requires to { v < next.now.stretch.first + next.now.stretch.size }
+    requires few_locations { s.now.defined.bits < 2 ^ 32 }
+    requires rest { IsAtRest next.now.stretch.size x.old }
+    ensures rest { OnOk result (IsAtRest next.now.stretch.size x.new) }
+    ensures exact { OnOk result ((w : ℕ) → Contains x.new.targets.members w
+        ↔ FlowsAmong 0 s.now.defined.bits s.now next.now.pairs.items v (next.now.stretch.first + w)) }
+{
+    x.definition.take(v, s.defined.words(v))?;
+    let count = x.definition.held.len();
+    if has_many(x.definition.words.as_slice()) && count <= x.width {
+        find_by_rows(
+            next,
+            &x.definition,
+            s,
+            &mut x.turn,
+            &mut x.arrivals,
+            &mut x.targets,
+        );
+    } else {
+        find_targets(next, v, s, &mut x.reached, &mut x.targets);
+    }
+    Ok(())
+}
+
 // Appends the flow edges from `v` to the targets, which ascend and are counted from `base` on.
 fn push_edges(
     base: VertexId,
@@ -143,13 +247,12 @@ fn push_edges(
     Ok(())
 }
 
-/// Appends the flow edges from `v`, where those that were found begin at vertices before it.
+/// Appends the flow edges from `v`, where those that were found begin at vertices before it. Err: no memory was left.
 pub(crate) fn edges_from(
     next: &Successors,
     v: VertexId,
     s: &Skeleton,
-    reached: &mut ListedSet,
-    targets: &mut ListedSet,
+    x: &mut Scratch,
     found: &mut Vec<Edge>,
 ) -> Result<(), AllocError>
     requires next { AreSuccessors next.now }
@@ -158,18 +261,16 @@ pub(crate) fn edges_from(
     requires stretch_in { next.now.stretch.first + next.now.stretch.size ≤ length s.now.vertices }
     requires from { next.now.stretch.first ≤ v }
     requires to { v < next.now.stretch.first + next.now.stretch.size }
-    requires wide { reached.old.bound ≡ next.now.stretch.size }
-    requires size { targets.old.bound ≡ next.now.stretch.size }
     requires few_locations { s.now.defined.bits < 2 ^ 32 }
+    requires rest { IsAtRest next.now.stretch.size x.old }
     requires before { (e : Edge) → Contains found.old.items e → e.from < v }
     requires ascending { AreAscendingEdges found.old.items }
-    ensures wide { reached.new.bound ≡ next.now.stretch.size }
-    ensures size { targets.new.bound ≡ next.now.stretch.size }
+    ensures rest { OnOk result (IsAtRest next.now.stretch.size x.new) }
     ensures exact { OnOk result ((e : Edge) → Contains found.new.items e
         ↔ (Contains found.old.items e ⊎ ((e.from ≡ v) × IsRowFlow s.now (record { pairs = next.now.pairs.items }) e))) }
     ensures ascending { OnOk result (AreAscendingEdges found.new.items) }
 {
-    find_targets(next, v, s, reached, targets);
-    targets.sort();
-    push_edges(next.stretch.first, v, targets.members(), found)
+    find_all(next, v, s, x)?;
+    x.targets.sort();
+    push_edges(next.stretch.first, v, x.targets.members(), found)
 }

@@ -9,13 +9,17 @@ ghost use Rattle.dep_model.specs.Stretches.{AreByFunction};
 ghost use Rattle.dep_model.specs.declared.edge.Edge.{Edge};
 ghost use Rattle.reaching_defs.specs.RowFlow.{IsRowFlow, AreEvenRows};
 
+mod arrivals;
+mod definition;
 mod from_vertex;
 mod laws;
 mod listed_set;
+mod row_search;
+mod scratch;
 mod search;
 mod successors;
 
-use crate::listed_set::ListedSet;
+use crate::scratch::Scratch;
 use crate::successors::Successors;
 use c_tree::FunctionId;
 use dep_model::{Edge, FlowGraph, Skeleton, stretch_of};
@@ -42,11 +46,10 @@ pub fn edges(
     let pairs = g.pairs.as_slice();
     let stretch = stretch_of(s.vertices.as_slice(), f);
     let next = Successors::find(alloc, stretch, pairs)?;
-    let mut reached = ListedSet::new(alloc, stretch.size)?;
-    let mut targets = ListedSet::new(alloc, stretch.size)?;
+    let mut scratch = Scratch::new(alloc, s, stretch)?;
     let mut found = Vec::new(alloc);
     for v in stretch.first..stretch.first + stretch.size {
-        from_vertex::edges_from(&next, v, s, &mut reached, &mut targets, &mut found)?;
+        from_vertex::edges_from(&next, v, s, &mut scratch, &mut found)?;
     }
     Ok(found)
 }

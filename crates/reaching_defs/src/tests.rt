@@ -171,6 +171,10 @@ fn definitions_reach_uses(rt: HostRuntime) -> Result<(), Fail> {
             b"...*.*",
             "0>3 2>3 2>5 4>5 ",
         ),
+        // What comes by a longer way comes on, also where something else came before.
+        (
+            false, b"13453.", b"2.....", b"*a....", b".....a", "0>5 1>5 ",
+        ),
         // No pairs, no edges.
         (false, b"......", b"......", b"******", b"******", ""),
         // Vertices behind those of another function.

@@ -2,7 +2,7 @@ use Rattle.std.proofs.Common.{◌↔◌, List, [], Contains, sym, ap, ◌∙◌,
 use Rattle.dep_model.specs.declared.skeleton.Pair.{Pair}
 use Rattle.dep_model.specs.EdgeOrder.{AreAscendingEdges}
 use Rattle.dep_model.specs.declared.stretch.Stretch.{Stretch}
-use Rattle.reaching_defs.specs.Listings.{Listing}
+use Rattle.reaching_defs.specs.Arrivals.{IsAtRest}
 use Rattle.reaching_defs.specs.RowFlow.{IsRowFlow}
 use Rattle.reaching_defs.proofs.EdgeLemmas.{AreFound, order_of, none_ascend, found_begin, found_more, found_all}
 use Rattle.reaching_defs.proofs.edges.Goals as goal
@@ -14,8 +14,7 @@ loop-v-init c =
     let base_is = ap (λ (x : Stretch). x.first) c.in_ok-next.ensures.stretch in
     let s = c.args.s.now in
     record {
-      wide = ap (λ (x : Listing). x.bound) c.in_ok-reached.ensures ∙ sym same;
-      size = ap (λ (x : Listing). x.bound) c.in_ok-targets.ensures ∙ sym same;
+      rest = subst (λ n. IsAtRest n c.in_ok-scratch.scratch) (sym same) c.in_ok-scratch.ensures;
       exact = subst (AreFound s next.pairs.items c.stretch_of-stretch.result.first) (sym c.new-found.ensures.items) (subst (λ b. AreFound s next.pairs.items b []) base_is (found_begin next.stretch.first next.stretch.size s next.pairs.items c.in_ok-next.ensures.right.inside));
       ascending = subst AreAscendingEdges (sym c.new-found.ensures.items) none_ascend;
     }
@@ -28,8 +27,7 @@ loop-v-preserved c =
     let e = c.in_ok-edges_from.ensures in
     let next = c.in_ok-next.next in
     record {
-      wide = e.wide;
-      size = e.size;
+      rest = e.rest;
       exact = found_more next.stretch.first next.stretch.size c.args.s.now next.pairs.items c.in_ok-next.ensures.right.inside c.loop-v.v c.loop-v.found.items c.edges_from.new.found.items c.loop-v.invariant.exact e.exact;
       ascending = e.ascending;
     }
