@@ -1,6 +1,13 @@
 //! Which formal-outs depend on which formal-ins, by paths whose calls and returns match.
+ghost use Rattle.std.specs.Prelude.{IfOk};
+ghost use Rattle.dep_model.specs.Facts.{AreFactWords};
+ghost use Rattle.dep_model.specs.Shapes.{IsShaped};
+
 use crate::analyses::{graph_of, read};
 use crate::programs::{ADD, KEPT, MUTUAL, OVERWRITTEN, PICK, READS};
+use dep_model::{Facts, Graph};
+use sqlite_items::Items;
+use std::alloc::{AllocError, Global};
 use std::process::Abort;
 
 /// The formal-outs of the text's graph, in their order, depend on these formal-ins of their functions: of each its word, with
@@ -126,4 +133,109 @@ int main(void) {
 #[test]
 fn functions_apart(rt: HostRuntime) {
     has_facts(&rt, APART, &[0b10, 0b11]);
+}
+
+const TWICE: &str = "int both(int n, int a, int b, int c) {
+    int r = a;
+    if (n > 0) {
+        r = both(n - 1, b, 0, 0);
+        r = both(n - 1, r, 0, 0);
+    }
+    return r;
+}
+int main(void) {
+    int r = both(1, 2, 3, 4);
+}
+";
+
+// `n` and `a` to the result, and `b` by the first call and then the second; `c` comes to nothing.
+#[test]
+fn a_function_that_calls_itself_twice(rt: HostRuntime) {
+    has_facts(&rt, TWICE, &[0b111]);
+}
+
+/// A function that assigns one of its two parameters to each of so many globals, by turns.
+fn wide<R: Abort + AllocGlobal>(rt: &R, globals: u32) -> String {
+    let alloc = rt.alloc();
+    let mut text = String::new(alloc);
+    for g in 0..globals {
+        let line = format!(in alloc; "int g{g};\n").expect(rt, "memory");
+        text.push_str(line.as_str()).expect(rt, "memory");
+    }
+    text.push_str("void f(int a, int b) {\n").expect(rt, "memory");
+    for g in 0..globals {
+        let from = if g % 2 == 0 { "a" } else { "b" };
+        let line = format!(in alloc; "    g{g} = {from};\n").expect(rt, "memory");
+        text.push_str(line.as_str()).expect(rt, "memory");
+    }
+    text.push_str("}\nint main(void) {\n    f(1, 2);\n}\n")
+        .expect(rt, "memory");
+    text
+}
+
+/// The words of a row of `f` hold the parameter that goes to its global alone, and those of a row of main nothing.
+fn has_turns<R: Abort + AllocGlobal>(rt: &R, globals: u32, width: usize) {
+    let text = wide(rt, globals);
+    let p = read(rt, text.as_str());
+    let graph = graph_of(rt.alloc(), &p).expect(rt, "a graph");
+    let facts = summary_edges::find(rt.alloc(), &graph).expect(rt, "memory");
+    let words = facts.words.as_slice();
+    assert_eq!(rt; graph.outs.len(), 2 * globals as usize);
+    for (number, row) in graph.outs.as_slice().iter().enumerate() {
+        let first = row.word as usize;
+        let wanted = if number < globals as usize {
+            1 + number as u64 % 2
+        } else {
+            0
+        };
+        assert_eq!(rt; words.get(first).copied(), Some(wanted), "row {number}");
+        for word in 1..width {
+            assert_eq!(rt; words.get(first.saturating_add(word)).copied(), Some(0), "row {number}");
+        }
+    }
+}
+
+// Bits of 65 and of 129 formal-outs stand in two and in three words.
+#[test]
+fn many_formal_outs(rt: HostRuntime) {
+    has_turns(&rt, 65, 2);
+    has_turns(&rt, 129, 3);
+}
+
+const NOTHING_OUT: &str = "int g;
+void look(int a) {
+    int x = a + g;
+}
+int main(void) {
+    look(1);
+}
+";
+
+// No function has a formal-out.
+#[test]
+fn no_formal_outs(rt: HostRuntime) {
+    has_facts(&rt, NOTHING_OUT, &[]);
+}
+
+/// Facts of a graph that hold nothing.
+fn no_facts(alloc: Global, g: &Graph) -> Result<Facts, AllocError>
+    ensures { IfOk result (λ f. AreFactWords g.now f.words) }
+{
+    let words = vec![in alloc; 0u64; g.fact_words as usize]?;
+    Ok(Facts {
+        words: Items::from_vec(words),
+    })
+}
+
+// Main calls the one function that gives facts.
+#[test]
+fn callers_are_due(rt: HostRuntime) {
+    let p = read(&rt, KEPT);
+    let graph = graph_of(rt.alloc(), &p).expect(&rt, "a graph");
+    let before = no_facts(rt.alloc(), &graph).expect(&rt, "memory");
+    let after = summary_edges::find(rt.alloc(), &graph).expect(&rt, "memory");
+    let due = summary_edges::next_agenda(rt.alloc(), &graph, &before, &after).expect(&rt, "memory");
+    assert_eq!(rt; due.as_slice(), [1].as_slice());
+    let none = summary_edges::next_agenda(rt.alloc(), &graph, &after, &after).expect(&rt, "memory");
+    assert!(rt; none.is_empty());
 }

@@ -1,1 +1,11 @@
-pub mod Harvesting
+pub mod Bits
+pub mod PartLaws
+pub mod SpreadLaws
+pub mod TableRoom
+pub mod FillLaws
+pub mod StepLaws
+pub mod StepGrowth
+pub mod SeriesLaws
+pub mod RoundLaws
+pub mod AgendaLaws
+pub mod Numbers

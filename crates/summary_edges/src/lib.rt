@@ -1,11 +1,19 @@
 //! The summary facts of a dependence graph (Horwitz, Reps and Binkley 1990): which formal-outs of functions depend on which of
 //! their formal-ins, by paths whose calls and returns match.
 //!
-//! They are found by rounds: each function gives the facts that its edges and the facts so far of the functions that it calls
-//! say, until no function gives a new one.
+//! They are found by rounds. A step of a function gives the facts that its edges and the facts so far of the functions that it
+//! calls say, for all its formal-outs at once. A round takes a step of each function of an agenda; the next agenda has the
+//! functions that call one whose facts grew.
 #![tactic(auto)]
 
+mod agenda;
+mod exit_rows;
+mod fact_index;
+mod function_parts;
+mod laws;
 mod rounds;
-mod steps;
+mod step;
 
+pub use agenda::next_agenda;
+pub use laws::{only_true_where_none_is_due, others_are_settled, rounds_are_few};
 pub use rounds::find;
