@@ -1,15 +1,16 @@
 -- The rows of a function's formal-outs, and the words that they take.
-use Rattle.std.proofs.Common.{◌≡◌, ◌↔◌, ltb, ℕ, zero, suc, ◌+◌, ◌-◌, ◌<◌, ◌≤◌, ◌⊎◌, ◌++◌, inl, inr, Bool, true, false, List, [], ◌∷◌, length, get_or, Some, slice_get, Contains, refl, sym, ap, ◌∙◌, subst, arith}
+use Rattle.std.proofs.Common.{◌≡◌, ◌≢◌, ◌↔◌, ltb, ℕ, zero, suc, ◌+◌, ◌-◌, ◌<◌, ◌≤◌, ◌⊎◌, ◌++◌, inl, inr, Bool, true, false, List, [], ◌∷◌, length, get_or, Some, None, slice_get, Contains, refl, sym, ap, ◌∙◌, subst, arith}
 use Rattle.std.specs.Prelude.{if◌then◌else◌}
-use Rattle.std.specs.Option.{option_map_or}
+use Rattle.std.specs.Option.{is_some, option_map_or}
 use Rattle.std.specs.List.Sorted.{IsNonDecreasingBy, IsPartitionPoint}
-use Rattle.std.proofs.lemmas.Bool.{cases_eq, cases_lt, ltb-true, ltb-false}
-use Rattle.std.proofs.lemmas.List.{get_or_append_left, get_or_push, length-append}
+use Rattle.std.proofs.lemmas.Bool.{cases_eq, cases_lt, false≢true, ltb-true, ltb-false}
+use Rattle.std.proofs.lemmas.List.{get_or_append_left, get_or_past, get_or_push, length-append}
 use Rattle.std.proofs.lemmas.Option.{same_Some, slice_get_within, slice_get-get_or, get_or_from_slice_get, slice_get_past}
 use Rattle.dep_model.specs.declared.graph.Graph.{Graph}
 use Rattle.dep_model.specs.declared.graph.OutRow.{OutRow}
 use Rattle.dep_model.specs.declared.vertex.Vertex.{Vertex}
 use Rattle.dep_model.specs.declared.vertex.VertexKind.TheVariants.{Entry}
+use Rattle.dep_model.specs.Facts.{IsIn}
 use Rattle.dep_model.specs.FunctionVertices.{is_formal_out}
 use Rattle.dep_model.specs.Graphs.{row_width, out_rows_from, out_rows, words_in, HasRows}
 use Rattle.matched_paths.specs.VertexRanges.{IsInRange}
@@ -309,6 +310,18 @@ pub first_inside : (g : Graph) (p : FunctionPart) → IsPart g p → IsInRange p
 first_inside g p is = (omega arith, is.order)
 
 -- ---- one part after another
+-- what stands behind the end, one by one
+pub past_none : {X : Type 0} (xs : List X) (d : X) (k : ℕ) → get_or (xs ++ d ∷ []) k d ≡ get_or xs k d
+past_none xs d k =
+    let long = length-append xs (d ∷ []) in
+    elim (cases_lt k (length xs)) [
+      | inl lt ↦ get_or_append_left xs (d ∷ []) d k lt
+      | inr ge ↦ elim (cases_eq k (length xs)) [
+        | inl same ↦ get_or_push xs d d k (sym same) ∙ sym (get_or_past xs k d (omega (arith, ge)))
+        | inr other ↦ get_or_past (xs ++ d ∷ []) k d (omega (arith, ge, other, long)) ∙ sym (get_or_past xs k d (omega (arith, ge)))
+      ]
+    ]
+
 pub last_pushed : {X : Type 0} (xs : List X) (x : X) → slice_get (xs ++ x ∷ []) (length xs) ≡ Some x
 last_pushed xs x =
     let long = length-append xs (x ∷ []) in
@@ -331,12 +344,34 @@ pushed_cases xs x y k at =
           inl (slice_get-get_or xs k y before ∙ ap Some (sym (get_or_append_left xs (x ∷ []) y k before) ∙ get_or_from_slice_get (xs ++ x ∷ []) k y y at))
     ]
 
+-- before the first function
+pub no_parts : (g : Graph) (parts : FunctionParts) → parts.list.items ≡ [] → parts.of_vertex.items ≡ [] → parts.of_number.items ≡ [] → AreFirstParts g parts 0
+no_parts g parts list vertices numbers = record {
+  long = ap length vertices;
+  few = (let none = ap length list in omega (arith, none));
+  each = λ k p at. absurd (empty k p at);
+  own = λ k p at. absurd (empty k p at);
+  found = λ v low. absurd (omega (arith, low));
+  numbered = λ f k. (
+    λ is. absurd (none_some (sym (ap (λ ns. get_or ns f None) numbers ∙ get_or_past [] f None (omega arith)) ∙ is)),
+    λ h. absurd (empty k h.part h.at),
+  );
+}
+  where
+    empty : (k : ℕ) (p : FunctionPart) → slice_get parts.list.items k ≡ Some p → ⊥
+    empty k p at = let low = slice_get_within parts.list.items k p at in let none = ap length list in omega (arith, low, none)
+
+    none_some : {k : ℕ} → None ≡ Some k → ⊥
+    none_some h = false≢true (ap is_some h)
+
 -- a further function is added to the first ones
 pub part_added : (g : Graph) (old new : FunctionParts) (p : FunctionPart) → AreFirstParts g old p.range.first → IsPart g p
     → new.list.items ≡ old.list.items ++ p ∷ [] → length new.of_vertex.items ≡ p.range.last
     → ((v : ℕ) → v < p.range.first → get_or new.of_vertex.items v 0 ≡ get_or old.of_vertex.items v 0)
-    → ((v : ℕ) → p.range.first ≤ v → v < p.range.last → get_or new.of_vertex.items v 0 ≡ length old.list.items) → AreFirstParts g new p.range.last
-part_added g old new p before is list long kept filled = record {
+    → ((v : ℕ) → p.range.first ≤ v → v < p.range.last → get_or new.of_vertex.items v 0 ≡ length old.list.items)
+    → (h : ℕ) → IsIn g.vertices h p.range.first → get_or new.of_number.items h None ≡ Some (length old.list.items)
+    → ((f : ℕ) → f ≢ h → get_or new.of_number.items f None ≡ get_or old.of_number.items f None) → AreFirstParts g new p.range.last
+part_added g old new p before is list long kept filled h own_number noted others = record {
   long = long;
   few = (
       let many : length new.list.items ≡ length old.list.items + 1 = ap length list ∙ length-append old.list.items (p ∷ []) in
@@ -369,8 +404,40 @@ part_added g old new p before is list long kept filled = record {
       to = low;
     }
   ];
+  numbered = λ f k. (
+    λ at. elim (cases_eq f h) [
+      | inl same ↦
+          let here : length old.list.items ≡ k = same_Some _ _ (sym noted ∙ ap (λ n. get_or new.of_number.items n None) (sym same) ∙ at) in
+          record {
+            part = p;
+            at = subst (λ n. slice_get new.list.items n ≡ Some p) here (subst (λ ps. slice_get ps (length old.list.items) ≡ Some p) (sym list) (last_pushed old.list.items p));
+            first = subst (λ n. IsIn g.vertices n p.range.first) (sym same) own_number;
+          }
+      | inr other ↦
+          let q = (before.numbered f k).0 (sym (others f other) ∙ at) in
+          record { part = q.part; at = there k q.part q.at; first = q.first }
+    ],
+    λ q. elim (cases k q.part q.at) [
+      | inl old_at ↦
+          others f (λ same. apart (before.own k q.part old_at).0 (subst (λ n. IsIn g.vertices n q.part.range.first) same q.first))
+          ∙ (before.numbered f k).1 (record { part = q.part; at = old_at; first = q.first })
+      | inr last ↦
+          let first : IsIn g.vertices f p.range.first = subst (λ (r : FunctionPart). IsIn g.vertices f r.range.first) (sym last.1) q.first in
+          ap (λ n. get_or new.of_number.items n None) (one_number first own_number) ∙ noted ∙ ap Some (sym last.0)
+    ],
+  );
 }
   where
+    one_number : {a b v : ℕ} → IsIn g.vertices a v → IsIn g.vertices b v → a ≡ b
+    one_number x y = sym x.in_function ∙ ap (λ (z : Vertex). z.function) (same_Some _ _ (sym x.at ∙ y.at)) ∙ y.in_function
+
+    -- a vertex before the function's first one isn't one of the function
+    apart : {v : ℕ} → v < p.range.first → IsIn g.vertices h v → ⊥
+    apart {v} low inside =
+        let own = one_number own_number ((is.whole.all p.range.first).1 (omega arith, is.order)) in
+        let from = ((is.whole.all v).0 (subst (λ n. IsIn g.vertices n v) own inside)).0 in
+        omega (arith, low, from)
+
     cases : (k : ℕ) (q : FunctionPart) → slice_get new.list.items k ≡ Some q → (slice_get old.list.items k ≡ Some q) ⊎ ((k ≡ length old.list.items) × (p ≡ q))
     cases k q at = pushed_cases old.list.items p q k (subst (λ ps. slice_get ps k ≡ Some q) list at)
 

@@ -1,8 +1,9 @@
 -- The functions of a graph: the vertices of each, and the rows of its facts.
-use Rattle.std.specs.Prelude.{◌≡◌, ◌↔◌, ℕ, ◌<◌, ◌≤◌, length, get_or, Some, slice_get}
+use Rattle.std.specs.Prelude.{◌≡◌, ◌↔◌, ℕ, ◌<◌, ◌≤◌, length, get_or, Some, None, slice_get}
 use Rattle.std.specs.Option.{option_map_or}
 use Rattle.dep_model.specs.declared.graph.Graph.{Graph}
 use Rattle.dep_model.specs.declared.graph.OutRow.{OutRow}
+use Rattle.dep_model.specs.Facts.{IsIn}
 use Rattle.matched_paths.specs.VertexRanges.{IsWholeFunction}
 use Rattle.summary_edges.specs.declared.function_parts.FunctionPart.{FunctionPart}
 use Rattle.summary_edges.specs.declared.function_parts.FunctionParts.{FunctionParts}
@@ -30,6 +31,12 @@ pub record IsFound (parts : FunctionParts) (v : ℕ) : Type 0 where
   pub from : part.range.first ≤ v
   pub to : v < part.range.last
 
+-- function f stands at a place of the list
+pub record HasNumber (g : Graph) (parts : FunctionParts) (f k : ℕ) : Type 0 where
+  pub part : FunctionPart
+  pub at : slice_get parts.list.items k ≡ Some part
+  pub first : IsIn g.vertices f part.range.first
+
 -- the parts are the functions of the vertices before the place, each once
 pub record AreFirstParts (g : Graph) (parts : FunctionParts) (n : ℕ) : Type 0 where
   pub long : length parts.of_vertex.items ≡ n
@@ -37,6 +44,7 @@ pub record AreFirstParts (g : Graph) (parts : FunctionParts) (n : ℕ) : Type 0 
   pub each : (k : ℕ) (p : FunctionPart) → slice_get parts.list.items k ≡ Some p → IsPart g p
   pub own : (k : ℕ) (p : FunctionPart) → slice_get parts.list.items k ≡ Some p → (p.range.first < n) × (get_or parts.of_vertex.items p.range.first 0 ≡ k)
   pub found : (v : ℕ) → v < n → IsFound parts v
+  pub numbered : (f k : ℕ) → (get_or parts.of_number.items f None ≡ Some k) ↔ HasNumber g parts f k
 
 -- the parts are all functions of the graph, each once
 abbrev pub AreParts : Graph → FunctionParts → Type 0

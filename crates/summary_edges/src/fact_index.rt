@@ -15,7 +15,7 @@ pub(crate) struct FactIndex {
     pub(crate) places: FactPlaces,
     /// The functions.
     pub(crate) parts: FunctionParts,
-    /// The edges that lead to each vertex.
+    /// The edges that lead to each vertex. Those that leave calls lead from the formal-outs whose rows a step of its function reads.
     pub(crate) ends: EdgeGroups,
     /// The edges from the actual-ins of each call.
     pub(crate) entries: EdgeGroups,

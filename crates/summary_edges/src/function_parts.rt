@@ -1,5 +1,5 @@
 //! The functions of a graph: the vertices of each, and the rows of its facts.
-ghost use Rattle.std.specs.Prelude.{◌≡◌, ◌↔◌, ℕ, ◌^◌, ◌<◌, ◌≤◌, OnOk, IfOk, Some, length, slice_get};
+ghost use Rattle.std.specs.Prelude.{◌≡◌, ◌≢◌, ◌↔◌, ℕ, ◌^◌, ◌<◌, ◌≤◌, OnOk, IfOk, Some, None, length, get_or, slice_get};
 ghost use Rattle.std.specs.List.Sorted.{IsNonDecreasingBy};
 ghost use Rattle.dep_model.specs.Shapes.{IsShaped};
 ghost use Rattle.dep_model.specs.declared.graph.OutRow.{OutRow};
@@ -32,6 +32,8 @@ pub(crate) struct FunctionParts {
     pub(crate) list: Vec<FunctionPart>,
     /// For each vertex the place of its function in the list.
     pub(crate) of_vertex: Vec<u32>,
+    /// For each number the place in the list of the function that has it, none where there is no such function.
+    pub(crate) of_number: Vec<Option<u32>>,
 }
 
 // How many rows stand before those of the vertices from this one on.
@@ -77,6 +79,19 @@ fn part_at(g: &Graph, first: VertexId) -> FunctionPart
     }
 }
 
+// Notes the place of the function that has a number.
+fn note_place(places: &mut Vec<Option<u32>>, number: u32, place: u32) -> Result<(), AllocError>
+    ensures here { OnOk result (get_or places.new.items number None ≡ Some place) }
+    ensures others { OnOk result ((f : ℕ) → f ≢ number → get_or places.new.items f None ≡ get_or places.old.items f None) }
+{
+    let at = number as usize;
+    while places.len() <= at {
+        places.push(None)?;
+    }
+    places[at] = Some(place);
+    Ok(())
+}
+
 // Adds a function to those that stand before it.
 fn add_part(parts: &mut FunctionParts, g: &Graph, part: FunctionPart) -> Result<(), AllocError>
     requires few { length g.now.vertices < 2 ^ 32 }
@@ -88,6 +103,8 @@ fn add_part(parts: &mut FunctionParts, g: &Graph, part: FunctionPart) -> Result<
     while parts.of_vertex.len() < part.range.last as usize {
         parts.of_vertex.push(place)?;
     }
+    let number = g.vertices.as_slice()[part.range.first as usize].function;
+    note_place(&mut parts.of_number, number, place)?;
     parts.list.push(part)?;
     Ok(())
 }
@@ -101,6 +118,7 @@ impl FunctionParts {
         let mut parts = FunctionParts {
             list: Vec::new(alloc),
             of_vertex: Vec::new(alloc),
+            of_number: Vec::new(alloc),
         };
         let mut first = 0u32;
         while (first as usize) < g.vertices.len() {

@@ -1,8 +1,14 @@
-use Rattle.std.proofs.Common.{◌≡◌, ◌<◌, ◌≤◌, List, length, sym, ap, ◌∙◌, subst, arith}
-use Rattle.dep_model.specs.declared.vertex.Vertex.{Vertex}
-use Rattle.matched_paths.proofs.RangeLaws.{apart_first}
+use Rattle.std.proofs.Common.{sym, subst, arith}
 use Rattle.summary_edges.specs.FunctionParts.{AreFirstParts}
+use Rattle.summary_edges.proofs.PartLaws.{no_parts}
 use Rattle.summary_edges.proofs.function_parts.FunctionParts.find.Goals as goal
+
+pub loop-first-init : goal.loop-first-init
+loop-first-init c = record {
+  parts = no_parts c.args.g.now (record { list = c.new.result; of_vertex = c.new-2.result; of_number = c.new-3.result }) c.new.ensures.items c.new-2.ensures.items c.new-3.ensures.items;
+  apart = λ u v x y low. absurd (omega (arith, low));
+  inside = omega arith;
+}
 
 pub part_at-part-requires-clause-apart : goal.part_at-part-requires-clause-apart
 part_at-part-requires-clause-apart c = c.loop-first.invariant.apart
