@@ -1,4 +1,4 @@
-use Rattle.std.proofs.Common.{length, sym, ◌∙◌, subst, arith}
+use Rattle.std.proofs.Common.{sym, ◌∙◌, arith}
 use Rattle.std.proofs.lemmas.Option.{slice_get_within}
 use Rattle.summary_edges.proofs.StepLaws.{fact_room, fact_adds, fact_there}
 use Rattle.summary_edges.proofs.step.add_fact.Goals as goal

@@ -1,5 +1,5 @@
-use Rattle.std.proofs.Common.{◌≡◌, ◌<◌, ◌≤◌, ◌⊎◌, ◌+◌, arith}
-use Rattle.summary_edges.specs.Steps.{HasAdded, IsReadOff}
+use Rattle.std.proofs.Common.{◌≡◌, ◌⊎◌, ◌+◌, arith}
+use Rattle.summary_edges.specs.Steps.{IsReadOff}
 use Rattle.summary_edges.proofs.StepLaws.{ReadBefore, added_none, added_as, added_both, before_none, before_more, before_all}
 use Rattle.summary_edges.proofs.step.read_off.Goals as goal
 

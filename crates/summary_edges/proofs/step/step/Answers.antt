@@ -1,4 +1,3 @@
-use Rattle.dep_model.specs.Facts.{HoldsFact}
 use Rattle.summary_edges.proofs.StepLaws.{step_taken}
 use Rattle.summary_edges.proofs.step.step.Goals as goal
 

@@ -1,8 +1,7 @@
-use Rattle.std.proofs.Common.{◌≡◌, ◌+◌, ◌<◌, ◌||◌, Bool, List, length, get_or, take, Contains, refl, sym, ap, ◌∙◌, subst, arith}
+use Rattle.std.proofs.Common.{◌≡◌, ◌+◌, ◌<◌, ◌||◌, Bool, List, length, get_or, take, Contains, sym, ◌∙◌, subst, arith}
 use Rattle.std.proofs.lemmas.List.{get_or_default, take_more, take_all}
 use Rattle.dep_model.specs.declared.edge.Edge.{Edge}
 use Rattle.dep_model.specs.declared.edge.Label.TheVariants.{Control}
-use Rattle.dep_model.specs.declared.graph.Graph.{Graph}
 use Rattle.matched_paths.specs.EdgeGroups.{group_at}
 use Rattle.matched_paths.proofs.GroupLaws.{entering_is}
 use Rattle.matched_paths.proofs.ReachLaws.{edge_below}

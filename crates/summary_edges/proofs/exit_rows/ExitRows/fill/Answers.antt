@@ -1,5 +1,4 @@
-use Rattle.std.proofs.Common.{◌*◌, ◌-◌, ◌<◌, ◌≤◌, length, arith}
-use Rattle.bit_rows.specs.Tables.{count_all}
+use Rattle.std.proofs.Common.{arith}
 use Rattle.dep_model.specs.Facts.{HoldsFact}
 use Rattle.summary_edges.proofs.FillLaws.{filled_exits}
 use Rattle.summary_edges.proofs.SpreadLaws.{one_shape, shapes_follow, count_bounded}

@@ -1,6 +1,4 @@
-use Rattle.std.proofs.Common.{ℕ, inl, inr}
-use Rattle.dep_model.specs.Facts.{HoldsFact}
-use Rattle.summary_edges.proofs.FillLaws.{GainsAt, inner_follows, inner_above, out_above, none_above}
+use Rattle.summary_edges.proofs.FillLaws.{GainsAt, inner_follows, inner_above, out_above}
 use Rattle.summary_edges.proofs.SpreadLaws.{spread_none}
 use Rattle.summary_edges.proofs.exit_rows.ExitRows.follow.Goals as goal
 

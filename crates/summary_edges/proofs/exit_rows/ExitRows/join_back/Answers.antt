@@ -1,9 +1,7 @@
-use Rattle.std.proofs.Common.{◌≡◌, ◌-◌, ◌<◌, ◌≤◌, length, refl, sym, ◌∙◌, arith}
+use Rattle.std.proofs.Common.{◌≡◌, ◌-◌, sym, ◌∙◌}
 use Rattle.std.proofs.lemmas.Bool.{false≢true}
 use Rattle.matched_paths.specs.VertexRanges.{IsInRange}
 use Rattle.matched_paths.proofs.StepRuleLaws.{within_is, is_within}
-use Rattle.summary_edges.specs.declared.exit_rows.ExitRows.{ExitRows}
-use Rattle.matched_paths.specs.declared.vertex_range.VertexRange.{VertexRange}
 use Rattle.summary_edges.proofs.SpreadLaws.{join_spreads, join_above, spread_none, spread_weaker}
 use Rattle.summary_edges.proofs.FillLaws.{number_below}
 use Rattle.summary_edges.proofs.exit_rows.ExitRows.join_back.Goals as goal

@@ -1,4 +1,4 @@
-use Rattle.std.proofs.Common.{◌-◌, ◌+◌, ◌<◌, ◌≤◌, get_or, sym, ap, ◌∙◌, arith}
+use Rattle.std.proofs.Common.{◌-◌, get_or, sym, ap, ◌∙◌, arith}
 use Rattle.dep_model.specs.Facts.{HoldsFact}
 use Rattle.summary_edges.proofs.FillLaws.{sweep_begins, sweep_skips, sweep_takes}
 use Rattle.summary_edges.proofs.exit_rows.ExitRows.sweep.Goals as goal

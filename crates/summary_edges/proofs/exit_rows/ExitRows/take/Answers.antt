@@ -1,7 +1,7 @@
-use Rattle.std.proofs.Common.{◌≡◌, ◌-◌, ◌<◌, ◌≤◌, length, refl, ◌∙◌, arith}
+use Rattle.std.proofs.Common.{refl, ◌∙◌}
 use Rattle.std.proofs.lemmas.List.{length-set}
 use Rattle.dep_model.specs.Facts.{HoldsFact}
-use Rattle.summary_edges.proofs.FillLaws.{number_below, taken_fills, taken_shape, taken_grown, taken_flags}
+use Rattle.summary_edges.proofs.FillLaws.{taken_fills, taken_shape}
 use Rattle.summary_edges.proofs.exit_rows.ExitRows.take.Goals as goal
 
 pub spread-requires-clause-table : goal.spread-requires-clause-table
