@@ -162,7 +162,8 @@ fn wide<R: Abort + AllocGlobal>(rt: &R, globals: u32) -> String {
         let line = format!(in alloc; "int g{g};\n").expect(rt, "memory");
         text.push_str(line.as_str()).expect(rt, "memory");
     }
-    text.push_str("void f(int a, int b) {\n").expect(rt, "memory");
+    text.push_str("void f(int a, int b) {\n")
+        .expect(rt, "memory");
     for g in 0..globals {
         let from = if g % 2 == 0 { "a" } else { "b" };
         let line = format!(in alloc; "    g{g} = {from};\n").expect(rt, "memory");
@@ -190,7 +191,11 @@ fn has_turns<R: Abort + AllocGlobal>(rt: &R, globals: u32, width: usize) {
         };
         assert_eq!(rt; words.get(first).copied(), Some(wanted), "row {number}");
         for word in 1..width {
-            assert_eq!(rt; words.get(first.saturating_add(word)).copied(), Some(0), "row {number}");
+            assert_eq!(rt;
+                words.get(first.saturating_add(word)).copied(),
+                Some(0),
+                "row {number}"
+            );
         }
     }
 }
