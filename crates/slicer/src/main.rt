@@ -3,11 +3,14 @@
 //! LINE in that, and `slicer big SEED SIZE` the numbers of the slice of a large program.
 #![tactic(auto)]
 
+use edge_io::Shelf;
 use slicer_top::{Exit, FileShelf, StreamSink, run_call};
 use std::env;
 
 fn main(rt: HostRuntime) -> Exit {
     let mut shelf = FileShelf::new(rt);
+    // What a shelf reads into stands on the stack: as much of that as the deepest walk needs is used here, before memory is taken.
+    let _ = shelf.fetch(rt.alloc(), "/dev/null", 0);
     let mut out = StreamSink::out(rt.stdout());
     let mut err = StreamSink::err(rt.stderr());
     run_call(rt.alloc(), env::args(&rt), &mut shelf, &mut out, &mut err)
