@@ -162,10 +162,10 @@ module _ (names : Names) (outside : Location → Bool) (w : World) (m n : State)
 
 -- ---- a block in which nothing is written
 
-abbrev Nothing : ExprType → Option Value
+abbrev pub Nothing : ExprType → Option Value
 Nothing t = None
 
-none_held : (ts : List ExprType) (n : ℕ) → option_and_then held (slice_get (map Nothing ts) n) ≡ None
+pub none_held : (ts : List ExprType) (n : ℕ) → option_and_then held (slice_get (map Nothing ts) n) ≡ None
 none_held [] n = refl
 none_held (t ∷ ts) zero = refl
 none_held (t ∷ ts) (suc n) = none_held ts n
@@ -216,7 +216,7 @@ old_named m x y c e low = by_name (x == y) e
 
 -- ---- a value written in the new block
 
-changed_last : {A : Type 0} (f : A → A) (xs : List A) (x : A) → changed f (length xs) (xs ++ x ∷ []) ≡ xs ++ f x ∷ []
+pub changed_last : {A : Type 0} (f : A → A) (xs : List A) (x : A) → changed f (length xs) (xs ++ x ∷ []) ≡ xs ++ f x ∷ []
 changed_last f [] x = refl
 changed_last f (y ∷ xs) x = ap (λ zs. y ∷ zs) (changed_last f xs x)
 

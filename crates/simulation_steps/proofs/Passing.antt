@@ -1,5 +1,5 @@
 -- Arguments are passed to parameters in a program and in its slice: the blocks of those that stay begin in both, and hold alike values.
-use Rattle.std.proofs.Common.{◌≡◌, ℕ, ℤ, zero, suc, ◌<◌, List, [], ◌∷◌, length, map, Option, Some, None, Bool, true, false, inl, inr, refl, sym, ap, ◌∙◌, subst, arith}
+use Rattle.std.proofs.Common.{◌≡◌, ℕ, ℤ, ◌<◌, List, [], length, map, Option, Some, None, Bool, true, false, inl, inr, refl, sym, ap, ◌∙◌, subst, arith}
 use Rattle.std.specs.Prelude.{option_map, option_and_then, slice_get}
 use Rattle.std.proofs.lemmas.Bool.Decides.{eqb_tells}
 use Rattle.c_language.proofs.Options.{none_there, some_same}
@@ -16,6 +16,7 @@ use Rattle.c_meaning.specs.Values.{whole, number_as, as_type, pointer_as}
 use Rattle.c_meaning.proofs.Frames.{get_changed, get_other}
 use Rattle.run_facts.proofs.KeptMemories.{write_keeps, new_keeps}
 use Rattle.simulation.specs.Renaming.{World, AlikeValue, number, null, pointer, AlikeCell, empty, held as both_hold}
+use Rattle.simulation_steps.proofs.NewBlocks.{Nothing, none_held}
 
 -- ---- values converted to a type
 
@@ -42,14 +43,6 @@ converts w t v z u (pointer {b = b} {c = c} {path = path} {index = i} s) e =
     record { value = k.0; value_is = k.1; alike = k.2 }
 
 -- ---- the cells of a new block in which a value is written
-
-abbrev pub Nothing : ExprType → Option Value
-Nothing t = None
-
-none_held : (ts : List ExprType) (n : ℕ) → option_and_then held (slice_get (map Nothing ts) n) ≡ None
-none_held [] n = refl
-none_held (t ∷ ts) zero = refl
-none_held (t ∷ ts) (suc n) = none_held ts n
 
 filled_alike : (w : World) (v z : Value) → AlikeValue w v z → (o : Option (Option Value)) → AlikeCell w (option_and_then held (option_map (λ (k : Option Value). Some v) o)) (option_and_then held (option_map (λ (k : Option Value). Some z) o))
 filled_alike w v z h None = empty

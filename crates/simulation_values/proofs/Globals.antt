@@ -1,5 +1,5 @@
 -- A global begins in a block of its own: it depends on its type and on what it begins with alone, and what it holds leads nowhere.
-use Rattle.std.proofs.Common.{◌≡◌, ℕ, zero, suc, List, [], ◌∷◌, ◌++◌, length, map, Option, Some, None, Bool, true, false, ◌&&◌, if◌then◌else◌, refl, sym, ap, ap₂, ◌∙◌, subst, eq-eqb}
+use Rattle.std.proofs.Common.{◌≡◌, ℕ, zero, suc, List, [], ◌∷◌, length, map, Option, Some, None, Bool, true, false, ◌&&◌, if◌then◌else◌, refl, ap, ap₂, ◌∙◌, eq-eqb}
 use Rattle.std.specs.Prelude.{pos, nat_le, option_map, option_and_then, is_some, slice_get}
 use Rattle.std.specs.List.{list_all}
 use Rattle.std.proofs.lemmas.Bool.{and_parts}
@@ -16,7 +16,7 @@ use Rattle.c_meaning.specs.declared.value.Hop.TheVariants as hop
 use Rattle.c_meaning.specs.declared.value.Value.{Value}
 use Rattle.c_meaning.specs.declared.value.Value.TheVariants.{Number, Null}
 use Rattle.c_meaning.specs.Acts.{Store, Made, shows, storing, zero_of, begun_with, begun_by, assigned, writable, list_stores, all_as, all_cells, storing_all, listed_in, listed, stored}
-use Rattle.c_meaning.specs.Activations.{Global, Executable, zeros, stores_of, initialised, outside, global_opened, global_begun}
+use Rattle.c_meaning.specs.Activations.{Executable, zeros, stores_of, initialised, outside, global_opened}
 use Rattle.c_meaning.specs.Cells.{Structs, cells, cell_number}
 use Rattle.c_meaning.specs.Memory.{Block, Memory, held, cell_in, is_cell, changed, filled, with_cell, with_block, with_new}
 use Rattle.c_meaning.specs.Values.{Types, State, whole, variable_place, as_type, eval, beside, eval_all}
@@ -25,7 +25,8 @@ use Rattle.projection.specs.Renumbering.{renamed, renamed_init}
 use Rattle.simulation.specs.Renaming.{World, number, null, AlikeCell, empty, held as both_hold}
 use Rattle.typed_programs.specs.FixedValues.{is_fixed, begins_fixed}
 use Rattle.simulation_values.proofs.Constants.{IsPlainValue, nothing, a_number, a_null, plain_as, steady}
-use Rattle.simulation_values.proofs.NewBlocks.{IsPlain, with_block_of}
+use Rattle.simulation_steps.proofs.NewBlocks.{changed_last}
+use Rattle.simulation_values.proofs.BegunGlobals.{IsPlain, with_block_of}
 
 -- ---- what is written in a new block
 
@@ -44,10 +45,6 @@ block_after structs (w ∷ ws) b = block_after structs ws (with_cell structs w.0
 abbrev pub Into : ℕ → List Store → Type 0
 Into n [] = Unit {0}
 Into n (w ∷ ws) = (w.place.block ≡ n) × Into n ws
-
-changed_last : {A : Type 0} (f : A → A) (xs : List A) (x : A) → changed f (length xs) (xs ++ x ∷ []) ≡ xs ++ f x ∷ []
-changed_last f [] x = refl
-changed_last f (y ∷ xs) x = ap (λ zs. y ∷ zs) (changed_last f xs x)
 
 pub stored_last : (ws : List Store) (b : Block) (m : Memory) → Into (length m.blocks) ws → stored ws (with_new b m) ≡ with_new (block_after m.structs (writes_of ws) b) m
 stored_last [] b m h = refl

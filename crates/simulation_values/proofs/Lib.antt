@@ -1,6 +1,6 @@
 pub mod GoneFrames
 pub mod Moves
-pub mod NewBlocks
+pub mod BegunGlobals
 pub mod Constants
 pub mod Globals
 pub mod Openings

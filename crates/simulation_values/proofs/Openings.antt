@@ -1,5 +1,5 @@
 -- The globals have begun in a program and in its slice.
-use Rattle.std.proofs.Common.{◌≡◌, ℕ, List, [], ◌∷◌, ◌++◌, length, Option, None, true, false, inl, inr, refl, sym, ap, ap₂, ◌∙◌, subst}
+use Rattle.std.proofs.Common.{◌≡◌, ℕ, List, [], ◌∷◌, ◌++◌, length, true, false, inl, inr, refl, sym, ap, ap₂, ◌∙◌, subst}
 use Rattle.std.specs.List.{list_all}
 use Rattle.std.proofs.lemmas.Bool.{and_parts}
 use Rattle.c_tree.specs.declared.program.Item.{Item}
@@ -20,11 +20,12 @@ use Rattle.typed_programs.specs.TreeOperands.{declarations}
 use Rattle.typed_programs.specs.TypedStatements.{begins, item_fits}
 use Rattle.typed_programs.proofs.TypedPrograms.{programs_typed}
 use Rattle.simulation.specs.Premises.{Beginning}
-use Rattle.simulation.specs.Renaming.{World, AlikeCell, empty, AlikeAt, neither}
+use Rattle.simulation.specs.Renaming.{World, empty, AlikeAt, neither}
 use Rattle.simulation.specs.Settings.{Setting}
 use Rattle.simulation_places.specs.LikeParts.{projected_globals}
+use Rattle.simulation_places.specs.Counterparts.{names_of}
 use Rattle.simulation_steps.specs.SlicePairs.{SlicePair, setting_over}
-use Rattle.simulation_values.proofs.NewBlocks.{IsPlain, with_block_of, Begun, begun_alone, begun_both}
+use Rattle.simulation_values.proofs.BegunGlobals.{with_block_of, Begun, begun_alone, begun_both}
 use Rattle.simulation_values.proofs.Globals.{Write, writes_of, block_after, init_made, begun_block, begun_is, block_live, made_plain, made_same, block_plain}
 
 -- what globals begin with names no variable
@@ -53,9 +54,9 @@ module _ (pair : SlicePair) where
   -- a global begins in both, or in the original alone
   pub record Next (w : World) (m n : State) : Type 0 where
     pub world : World
-    pub begun : Begun pair.kept pair.new world m n
+    pub begun : Begun (names_of pair.kept pair.new) (is_outside pair.original) world m n
 
-  module _ (g : Global) (member : IsIn here.globals g) (w : World) (m n : State) (h : Begun pair.kept pair.new w m n) where
+  module _ (g : Global) (member : IsIn here.globals g) (w : World) (m n : State) (h : Begun (names_of pair.kept pair.new) (is_outside pair.original) w m n) where
     abbrev x : ℕ
     x = g.variable
 
@@ -65,8 +66,8 @@ module _ (pair : SlicePair) where
     here_is : global_begun here g m ≡ with_block_of x block m
     here_is = begun_is here x m g.init
 
-    begins_alone : pair.kept.variable x ≡ false → Begun pair.kept pair.new w (global_begun here g m) n
-    begins_alone goes = subst (λ (s : State). Begun pair.kept pair.new w s n) (sym here_is) (begun_alone pair.kept pair.new pair.apart w m n h x block goes)
+    begins_alone : pair.kept.variable x ≡ false → Begun (names_of pair.kept pair.new) (is_outside pair.original) w (global_begun here g m) n
+    begins_alone goes = subst (λ (s : State). Begun (names_of pair.kept pair.new) (is_outside pair.original) w s n) (sym here_is) (begun_alone (names_of pair.kept pair.new) (is_outside pair.original) pair.apart w m n h x block goes)
 
     abbrev twin : Global
     twin = record { variable = pair.new.variable x; init = renamed_init pair.new.variable g.init }
@@ -86,26 +87,26 @@ module _ (pair : SlicePair) where
     begins_both : pair.kept.variable x ≡ true → Next w (global_begun here g m) (global_begun there twin n)
     begins_both stays =
         let plain = block_plain m.memory.structs (here.typing.variable x) writes (made_plain (outside here) (outside here) (λ z. z) (global_opened here x m) (global_opened here x m) m.memory.structs (here.typing.variable x) (length m.memory.blocks) g.init (fixed g member)) in
-        let both = begun_both pair.kept pair.new pair.apart w m n h x block stays (block_live here x m g.init) plain in
+        let both = begun_both (names_of pair.kept pair.new) (is_outside pair.original) pair.apart w m n h x block stays (block_live here x m g.init) plain in
         record {
           world = w ++ length m.memory.blocks ∷ [];
-          begun = subst (λ (s : State). Begun pair.kept pair.new (w ++ length m.memory.blocks ∷ []) s (global_begun there twin n)) (sym here_is) (subst (λ (s : State). Begun pair.kept pair.new (w ++ length m.memory.blocks ∷ []) (with_block_of x block m) s) (sym (there_is stays)) both);
+          begun = subst (λ (s : State). Begun (names_of pair.kept pair.new) (is_outside pair.original) (w ++ length m.memory.blocks ∷ []) s (global_begun there twin n)) (sym here_is) (subst (λ (s : State). Begun (names_of pair.kept pair.new) (is_outside pair.original) (w ++ length m.memory.blocks ∷ []) (with_block_of x block m) s) (sym (there_is stays)) both);
         }
 
-  all_begin : (gs : List Global) → ((g : Global) → IsIn gs g → IsIn here.globals g) → (w : World) (m n : State) → Begun pair.kept pair.new w m n → Next w (all_begun here gs m) (all_begun there (projected_globals pair.kept pair.new gs) n)
+  all_begin : (gs : List Global) → ((g : Global) → IsIn gs g → IsIn here.globals g) → (w : World) (m n : State) → Begun (names_of pair.kept pair.new) (is_outside pair.original) w m n → Next w (all_begun here gs m) (all_begun there (projected_globals pair.kept pair.new gs) n)
   all_begin [] among w m n h = record { world = w; begun = h }
   all_begin (g ∷ gs) among w m n h =
       by_answer (pair.kept.variable g.variable)
       (λ stays.
       let one = begins_both g (among g (inl refl)) w m n h stays in
       let rest = all_begin gs (λ x i. among x (inr i)) one.world (global_begun here g m) _ one.begun in
-      record { world = rest.world; begun = subst (λ ys. Begun pair.kept pair.new rest.world (all_begun here (g ∷ gs) m) (all_begun there ys n)) (sym (ap (λ b. if_so b (record { variable = pair.new.variable g.variable; init = renamed_init pair.new.variable g.init } ∷ projected_globals pair.kept pair.new gs) (projected_globals pair.kept pair.new gs)) stays)) rest.begun })
+      record { world = rest.world; begun = subst (λ ys. Begun (names_of pair.kept pair.new) (is_outside pair.original) rest.world (all_begun here (g ∷ gs) m) (all_begun there ys n)) (sym (ap (λ b. if_so b (record { variable = pair.new.variable g.variable; init = renamed_init pair.new.variable g.init } ∷ projected_globals pair.kept pair.new gs) (projected_globals pair.kept pair.new gs)) stays)) rest.begun })
       (λ goes.
       let rest = all_begin gs (λ x i. among x (inr i)) w (global_begun here g m) n (begins_alone g (among g (inl refl)) w m n h goes) in
-      record { world = rest.world; begun = subst (λ ys. Begun pair.kept pair.new rest.world (all_begun here (g ∷ gs) m) (all_begun there ys n)) (sym (ap (λ b. if_so b (record { variable = pair.new.variable g.variable; init = renamed_init pair.new.variable g.init } ∷ projected_globals pair.kept pair.new gs) (projected_globals pair.kept pair.new gs)) goes)) rest.begun })
+      record { world = rest.world; begun = subst (λ ys. Begun (names_of pair.kept pair.new) (is_outside pair.original) rest.world (all_begun here (g ∷ gs) m) (all_begun there ys n)) (sym (ap (λ b. if_so b (record { variable = pair.new.variable g.variable; init = renamed_init pair.new.variable g.init } ∷ projected_globals pair.kept pair.new gs) (projected_globals pair.kept pair.new gs)) goes)) rest.begun })
 
   -- before the first global
-  blank_begun : Begun pair.kept pair.new [] (blank here) (blank there)
+  blank_begun : Begun (names_of pair.kept pair.new) (is_outside pair.original) [] (blank here) (blank there)
   blank_begun = record {
     blocks = record {
       structs_are = sym pair.parts.structs_are;
@@ -114,11 +115,9 @@ module _ (pair : SlicePair) where
       one_to_one = λ b c d e j. cc;
     };
     frames = λ x stays. neither;
-    cells = λ b c path e live. cc;
+    same = λ l. record { cells = λ b c path e counts live at. cc; input = λ e. refl; result = λ f e. empty };
     tracked = refl;
     tracked_there = refl;
-    returned = refl;
-    returned_there = refl;
   }
 
   globals_begin : Next [] (all_begun here here.globals (blank here)) (all_begun there there.globals (blank there))
@@ -129,15 +128,9 @@ module _ (pair : SlicePair) (holds : ℕ → Type 0) where
   abbrev s : Setting
   s = setting_over pair holds
 
-  nothing_returned : (w : World) (o u : Option _) → o ≡ None → u ≡ None → AlikeCell w o u
-  nothing_returned w o u e j = subst (λ z. AlikeCell w z u) (sym e) (subst (λ z. AlikeCell w None z) (sym j) empty)
-
-  opening_alike : (w : World) (m n : State) → Begun pair.kept pair.new w m n → (l : Location) → AlikeAt (is_outside pair.original) w l (record m { unread = pair.input }) (record n { unread = pair.input })
-  opening_alike w m n h l = record {
-    cells = λ b c path e counts live at. h.cells b c path e live;
-    input = λ e. refl;
-    result = λ f e. nothing_returned w m.returned n.returned h.returned h.returned_there;
-  }
+  opening_alike : (w : World) (m n : State) → Begun (names_of pair.kept pair.new) (is_outside pair.original) w m n → (l : Location) → AlikeAt (is_outside pair.original) w l (record m { unread = pair.input }) (record n { unread = pair.input })
+  opening_alike w m n h l =
+      let same = h.same l in record { cells = λ b c path e counts live at. same.cells b c path e counts live at; input = λ e. refl; result = same.result }
 
   pub beginning_together : Beginning s
   beginning_together =

@@ -1,5 +1,5 @@
 -- How a program and its projection begin and move on, how their criteria are told, and that both give the same values there.
-use Rattle.std.specs.Prelude.{◌≡◌, ℕ, List, Bool, true, false, Contains, IsTrue}
+use Rattle.std.specs.Prelude.{◌≡◌, ℕ, List, Bool, true, IsTrue}
 use Rattle.c_tree.specs.declared.program.Program.{Program}
 use Rattle.dep_model.specs.SystemGraph.{Analysis, vertices_of, AreSystemEdges, IsAnalysis}
 use Rattle.simulation.specs.Premises.{Moving, Beginning, Telling}
