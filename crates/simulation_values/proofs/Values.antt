@@ -1,5 +1,5 @@
 -- A program of any form and its projection go together step by step, and so have the same values.
-use Rattle.std.proofs.Common.{ℕ, List, Bool}
+use Rattle.std.proofs.Common.{ℕ, List, Bool, refl}
 use Rattle.std.specs.Prelude.{IsTrue}
 use Rattle.bit_rows.specs.Sets.{has}
 use Rattle.c_tree.specs.Unlined.{SameButLines}
@@ -27,11 +27,12 @@ use Rattle.simulation_steps.proofs.Entering.{entering}
 use Rattle.simulation_steps.proofs.Returning.{returning}
 use Rattle.simulation_steps.specs.SlicePairs.{SlicePair, twin_of}
 use Rattle.simulation_values.specs.SameValues.{StandFor, HasSameValues}
+use Rattle.simulation_values.specs.Following.{none_of, Follows}
 use Rattle.simulation_values.specs.Holding.{Holds}
 use Rattle.simulation_values.proofs.Moves.{moving}
 use Rattle.simulation_values.proofs.Openings.{beginning_together}
 use Rattle.simulation_values.proofs.Together.{GoTogether}
-use Rattle.simulation_values.proofs.Joint.{same_trace}
+use Rattle.simulation_values.proofs.Joint.{follows, silent, same_trace}
 use Rattle.simulation_values.proofs.Likeness.{like_acts, like_calls}
 
 module _ (p q : Program) (a : Analysis) (edges : List Edge) (kept : List Bool) (set ranks : ℕ → Bool) (ok : IsWellFormed p) (own : HasOwnGlobals p) (is_analysis : IsAnalysis p a) (are : AreSystemEdges p a edges) (able : IsProjectable p (vertices_of p a) edges kept) (same : SameButLines q (projection p (vertices_of p a) kept)) where
@@ -67,17 +68,21 @@ module _ (p q : Program) (a : Analysis) (edges : List Edge) (kept : List Bool) (
     calls = like_calls p a kept (numbered_apart (program_doings p) p.statements (statements_numbered p ok)) q hangs like;
   }
 
-  go_together : (input : List ℕ) → GoTogether (pair input)
-  go_together input =
-      let holds : ℕ → Type 0 = λ f. Holds p set f in
-      record {
-        staying = staying p a kept (twin_of (pair input)) holds ok is_analysis;
-        acting = acting (pair input) holds;
-        moving = moving (pair input) holds;
-        entering = entering (pair input) holds;
-        returning = returning (pair input) holds;
-        beginning = beginning_together (pair input) holds;
-      }
+  go_together : (input : List ℕ) (holds : ℕ → Type 0) → GoTogether (pair input) holds
+  go_together input holds = record {
+    staying = staying p a kept (twin_of (pair input)) holds ok is_analysis;
+    acting = acting (pair input) holds;
+    moving = moving (pair input) holds;
+    entering = entering (pair input) holds;
+    returning = returning (pair input) holds;
+    beginning = beginning_together (pair input) holds;
+  }
 
   pub projections_same_values : ((v : ℕ) → ReachesAny edges (criterion_of set (vertices_of p a)) v → IsTrue (has kept v)) → StandFor (kept_words kept (vertices_of p a)).statement set ranks → HasSameValues (kept_words kept (vertices_of p a)).statement set ranks p q
-  projections_same_values reach stand n input t e = same_trace (pair input) edges are able reach stand (go_together input) n t e
+  projections_same_values reach stand n input t e = same_trace (pair input) edges are able reach stand (go_together input (λ f. Holds p set f)) n t e
+
+-- the projection follows its original, where no criterion is told
+pub projection_follows : (p q : Program) (a : Analysis) (edges : List Edge) (kept : List Bool) → IsWellFormed p → HasOwnGlobals p → IsAnalysis p a → AreSystemEdges p a edges → IsProjectable p (vertices_of p a) edges kept → SameButLines q (projection p (vertices_of p a) kept) → (input : List ℕ) → Follows p q a kept input
+projection_follows p q a edges kept ok own is_analysis are able same input =
+    let both = pair p q a edges kept none_of none_of ok own is_analysis are able same input in
+    follows both edges are able (λ f. ⊥) (silent both (λ i. refl) (λ i. refl)) (go_together p q a edges kept none_of none_of ok own is_analysis are able same input (λ f. ⊥))

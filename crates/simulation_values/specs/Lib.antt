@@ -1,3 +1,4 @@
+pub mod Following
 pub mod Laws
 pub mod Holding
 pub mod SameValues
