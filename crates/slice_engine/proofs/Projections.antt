@@ -1,5 +1,5 @@
--- Projections to sets that can be projected: they are well formed, with the own words of each kept statement. Those of programs over
--- integers, with all that reaches a criterion, give the same values there.
+-- Projections to sets that can be projected: they are well formed, with the own words of each kept statement, and follow the program. With
+-- all that reaches a criterion they give the same values there.
 use Rattle.std.specs.Prelude.{ℕ, List, Bool, IsTrue}
 use Rattle.bit_rows.specs.Sets.{has}
 use Rattle.c_tree.specs.declared.program.Program.{Program}
@@ -12,11 +12,11 @@ use Rattle.dep_model.specs.Words.{ReachesAny}
 use Rattle.kept_texts.proofs.WellFormedProjections.{projection_well_formed, projection_words}
 use Rattle.simulation_values.proofs.TextGlobals.{globals_are_own}
 use Rattle.own_words.specs.OwnWords.{KeepsWords}
-use Rattle.simulation_values.proofs.Values.{projections_same_values}
+use Rattle.simulation_values.proofs.Values.{projections_same_values, projection_follows}
 use Rattle.projection.specs.KeptVertices.{kept_of}
 use Rattle.projection_laws.specs.Nested.{IsNested}
 use Rattle.simulation_values.specs.SameValues.{StandFor, HasSameValues}
-use Rattle.slice_engine.specs.Laws.{CanBeProjected}
+use Rattle.slice_engine.specs.Laws.{CanBeProjected, SlicesFollowOriginals}
 use Rattle.slice_engine.specs.Slice.{keeps, sliced}
 
 -- ---- programs of every form
@@ -39,3 +39,9 @@ pub projected_values :
     → HasSameValues (keeps p a s) set ranks p q
 projected_values p q a s set ranks well k reach stand same =
     projections_same_values p q a k.edges s set ranks well (globals_are_own p well) k.is_analysis k.are_edges k.projectable same reach stand
+
+-- ---- what both do
+
+pub projected_follows : SlicesFollowOriginals
+projected_follows p q a s input well k same =
+    projection_follows p q a k.edges s well (globals_are_own p well) k.is_analysis k.are_edges k.projectable same input

@@ -15,6 +15,7 @@ use Rattle.dep_model.specs.LocationRows.{points_of, analysis_of, ArePointsRows}
 use Rattle.dep_model.specs.SystemGraph.{Analysis, IsAnalysis, vertices_of, AreSystemEdges}
 use Rattle.dep_model.specs.Words.{ReachesAny}
 use Rattle.mod_ref.specs.Effects.{AreEffectsByPlace}
+use Rattle.simulation_values.specs.Following.{Follows}
 use Rattle.simulation_values.specs.SameValues.{StandFor, HasSameValues}
 use Rattle.slice_engine.specs.Slice.{keeps, sliced}
 
@@ -54,3 +55,11 @@ ProjectionHasSameValues =
     (p q : Program) (a : Analysis) (s : List Bool) (set ranks : ℕ → Bool) → IsWellFormed p → (k : CanBeProjected p a s)
     → ((v : ℕ) → ReachesAny k.edges (criterion_of set (vertices_of p a)) v → IsTrue (has s v)) → StandFor (keeps p a s) set ranks
     → SameButLines q (sliced p a s) → HasSameValues (keeps p a s) set ranks p q
+
+-- on each input it follows the program: up to each point to which that comes, and to its end, it does the acts that both share, and no
+-- other, in their order; and before each of them, and at the end, blocks stand for blocks, and what is wanted agrees up to that. No
+-- criterion is told
+abbrev pub SlicesFollowOriginals : Type 0
+SlicesFollowOriginals =
+    (p q : Program) (a : Analysis) (s : List Bool) (input : List ℕ) → IsWellFormed p → CanBeProjected p a s
+    → SameButLines q (sliced p a s) → Follows p q a s input

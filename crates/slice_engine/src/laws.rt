@@ -3,10 +3,15 @@
 ghost use Rattle.slice_engine.specs.Laws as law;
 
 pub use run_facts::{
-    callers_have_called, calls_touch_what_functions_say, outcomes_depend_on_reads,
-    points_to_covers_runs, steps_do_their_effects, steps_keep_the_rest,
-    steps_touch_what_vertices_say, targets_have_the_type, types_always_fit,
+    callers_have_called, outcomes_depend_on_reads, points_to_covers_runs, steps_do_their_effects,
+    steps_keep_the_rest, targets_have_the_type, types_always_fit,
 };
+
+/// A law: acts touch only what the vertices of their statements say.
+pub use run_facts::steps_touch_what_vertices_say as vertices_cover_acts;
+
+/// A law: calls touch only what their functions modify and use.
+pub use run_facts::calls_touch_what_functions_say as functions_cover_calls;
 
 /// A law: the rows of where the locations of a well-formed program may point, with those of what its functions modify and use
 /// then, say the one analysis of the program.
@@ -29,4 +34,14 @@ pub fn projection_is_well_formed()
 /// criterion ends, in no more acts, with the same values there: for programs of every form.
 pub fn projection_has_same_values()
     ensures { law.ProjectionHasSameValues }
+{}
+
+/// A law: on each input the projection of a well-formed program to such a set follows the program, up to each point to
+/// which that comes without an undefined act, and to its end. It does the acts of kept statements in activations that
+/// kept calls alone have reached, and no other, in their order. At the beginning of each, and at the end, its blocks stand
+/// one to one for blocks of the program, of the same type and made by the same variable or malloc, and what is gone there
+/// is gone in the program; cells at locations that are wanted, in live blocks that their activation can name or that are
+/// seen outside, hold equal values up to that, or nothing in both; and so does the unread input where it is wanted.
+pub fn slices_follow_originals()
+    ensures { law.SlicesFollowOriginals }
 {}
