@@ -8,4 +8,3 @@ pub mod SharedCalls
 pub mod SharedReturns
 pub mod AwaySteps
 pub mod Law
-pub mod Rules

@@ -3,6 +3,5 @@ pub mod Settings
 pub mod Agreeing
 pub mod Premises
 pub mod Abreast
-pub mod Laws
 pub mod Renaming
 pub mod Slicings
