@@ -14,3 +14,4 @@ pub mod SoundCalls
 pub mod Joint
 pub mod Likeness
 pub mod Values
+mod SmallSlices
