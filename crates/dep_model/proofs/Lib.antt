@@ -8,8 +8,6 @@ pub mod FollowsLemmas
 pub mod FunctionCode
 pub mod FunctionOrder
 pub mod Grown
-pub mod IntegerActs
-pub mod IntegerExprs
 pub mod LocationCounts
 pub mod LocationLaws
 pub mod LocationParts

@@ -13,7 +13,6 @@ pub mod Follows
 pub mod FunctionVertices
 pub mod Graphs
 pub mod Groups
-pub mod IntegerEffects
 pub mod Laws
 pub mod ListedLocations
 pub mod LocationLists
@@ -33,6 +32,4 @@ pub mod SwitchArms
 pub mod SystemGraph
 pub mod VertexOrder
 pub mod Words
-pub mod PointerFree
 pub mod NamesBelow
-pub mod IntegerForms
