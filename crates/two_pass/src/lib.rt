@@ -6,4 +6,4 @@ mod calls;
 mod passes;
 mod rules;
 
-pub use passes::Passes;
+pub use passes::{Passes, rules_of};

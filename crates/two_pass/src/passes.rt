@@ -62,8 +62,8 @@ fn collect(marks: &VertexSet, size: u32, into: &mut VertexSet)
     }
 }
 
-// The rules of both passes. Err: no memory was left.
-fn rules_of(alloc: Global, size: u32, g: &Graph, f: &Facts) -> Result<Vec<Rule>, AllocError>
+/// The rules of both passes. Err: no memory was left.
+pub fn rules_of(alloc: Global, size: u32, g: &Graph, f: &Facts) -> Result<Vec<Rule>, AllocError>
     requires size { size ≡ length g.now.vertices }
     requires shaped { IsShaped g.now }
     ensures { IfOk result (λ rules. ArePassRules (length g.now.vertices) g.now.edges (HoldsFact g.now f.now.words) rules.items) }
