@@ -153,8 +153,9 @@ impl Nested {
         ensures { IfOk result (λ n. n ≡ RawExpr.Index self at) }
     {
         let height = self.height.max(at.height) + 1;
+        let (array, place) = boxed_pair(alloc, self, at)?;
         Ok(Nested {
-            expr: RawExpr::Index(Boxed::new(alloc, self.expr)?, Boxed::new(alloc, at.expr)?),
+            expr: RawExpr::Index(array, place),
             height,
         })
     }
@@ -165,8 +166,7 @@ impl Nested {
         ensures { IfOk result (λ n. n ≡ grammar.joint op self right) }
     {
         let height = self.height.max(right.height) + 1;
-        let left = Boxed::new(alloc, self.expr)?;
-        let right = Boxed::new(alloc, right.expr)?;
+        let (left, right) = boxed_pair(alloc, self, right)?;
         let expr = match op {
             Infix::Strict(op) => RawExpr::Binary(op, left, right),
             Infix::AndAlso => RawExpr::AndAlso(left, right),
@@ -181,13 +181,24 @@ impl Nested {
         ensures { IfOk result (λ n. n ≡ RawExpr.Choose self yes no) }
     {
         let height = self.height.max(yes.height.max(no.height)) + 1;
+        let (yes, no) = boxed_pair(alloc, yes, no)?;
+        let test = Boxed::new(alloc, self.expr)?;
         Ok(Nested {
-            expr: RawExpr::Choose(
-                Boxed::new(alloc, self.expr)?,
-                Boxed::new(alloc, yes.expr)?,
-                Boxed::new(alloc, no.expr)?,
-            ),
+            expr: RawExpr::Choose(test, yes, no),
             height,
         })
     }
+}
+
+/// The trees of two expressions, each in a box of its own.
+fn boxed_pair(
+    alloc: Global,
+    first: Nested,
+    second: Nested,
+) -> Result<(Boxed<RawExpr>, Boxed<RawExpr>), AllocError>
+    ensures { IfOk result (λ pair. pair ≡ (first, second)) }
+{
+    let first = Boxed::new(alloc, first.expr)?;
+    let second = Boxed::new(alloc, second.expr)?;
+    Ok((first, second))
 }
