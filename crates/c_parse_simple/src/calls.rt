@@ -5,6 +5,7 @@ ghost use Rattle.c_language.specs.StatementGrammar as grammar;
 ghost use Rattle.c_parse_expr.specs.Outcome.{Reads};
 ghost use Rattle.c_parse_simple.specs.SimpleReading as spec;
 
+use crate::letting_go::let_go;
 use c_language::{Text, TokenKind};
 use c_parse_expr::cursor::Cursor;
 use c_parse_expr::expr::{expression, nested};
@@ -157,13 +158,18 @@ pub fn call(
 ) -> Result<RawStatement, Stop>
     ensures { Reads (spec.call depth line target tokens.old) result tokens.new }
 {
-    let (function, args) = call_parts(alloc, tokens, depth)?;
-    Ok(RawStatement::Call {
-        line,
-        target,
-        function,
-        args,
-    })
+    match call_parts(alloc, tokens, depth) {
+        Ok((function, args)) => Ok(RawStatement::Call {
+            line,
+            target,
+            function,
+            args,
+        }),
+        Err(stop) => {
+            let_go(target);
+            Err(stop)
+        }
+    }
 }
 
 #[tactic(auto, unfolding(crate::specs::SimpleReading::pointee))]
@@ -193,8 +199,13 @@ fn size_in_parens(alloc: Global, tokens: &mut Cursor<'_>) -> Result<RawSize, Sto
     ensures { Reads (spec.size_in_parens tokens.old) result tokens.new }
 {
     let size = size_inside(alloc, tokens)?;
-    tokens.expect(b")")?;
-    Ok(size)
+    match tokens.expect(b")") {
+        Ok(()) => Ok(size),
+        Err(stop) => {
+            let_go(size);
+            Err(stop)
+        }
+    }
 }
 
 /// A size behind the word `sizeof`.
@@ -222,13 +233,20 @@ fn sized(
 {
     if tokens.sees(TokenKind::Mark, b"*") {
         if depth <= 1 {
+            let_go(size);
             return Err(tokens.too_deep());
         }
         tokens.skip();
-        let count = nested(alloc, tokens, depth, CAST_LEVEL)?;
-        return Ok(RawAmount::SizeCount(size, count.into_expr()));
+        return match nested(alloc, tokens, depth, CAST_LEVEL) {
+            Ok(count) => Ok(RawAmount::SizeCount(size, count.into_expr())),
+            Err(stop) => {
+                let_go(size);
+                Err(stop)
+            }
+        };
     }
     if depth == 0 {
+        let_go(size);
         return Err(tokens.too_deep());
     }
     Ok(RawAmount::Size(size))
@@ -250,12 +268,21 @@ fn counted(
     let height = count.height().max(1);
     let count = count.into_expr();
     if tightness(&count) < MULTIPLICATIVE_LEVEL {
+        let_go(count);
         return Err(tokens.refuse());
     }
     tokens.skip();
     tokens.skip();
-    let size = size_of(alloc, tokens)?;
+    let size = match size_of(alloc, tokens) {
+        Ok(size) => size,
+        Err(stop) => {
+            let_go(count);
+            return Err(stop);
+        }
+    };
     if height >= depth {
+        let_go(count);
+        let_go(size);
         return Err(tokens.too_deep());
     }
     Ok(RawAmount::CountSize(count, size))
@@ -285,8 +312,13 @@ fn amount_behind(alloc: Global, tokens: &mut Cursor<'_>, depth: u32) -> Result<R
         return Err(tokens.too_deep());
     }
     let amount = amount(alloc, tokens, depth - 1)?;
-    tokens.expect(b")")?;
-    Ok(amount)
+    match tokens.expect(b")") {
+        Ok(()) => Ok(amount),
+        Err(stop) => {
+            let_go(amount);
+            Err(stop)
+        }
+    }
 }
 
 /// A call of `malloc`, with its amount.
@@ -336,9 +368,17 @@ fn heap_parts(
     }
     tokens.skip();
     let to = type_name(alloc, tokens)?;
-    tokens.expect(b")")?;
-    let amount = cast_amount(alloc, tokens, depth, &to)?;
-    Ok((Some(to), amount))
+    if let Err(stop) = tokens.expect(b")") {
+        let_go(to);
+        return Err(stop);
+    }
+    match cast_amount(alloc, tokens, depth, &to) {
+        Ok(amount) => Ok((Some(to), amount)),
+        Err(stop) => {
+            let_go(to);
+            Err(stop)
+        }
+    }
 }
 
 /// An allocation whose result is stored there.
@@ -353,13 +393,18 @@ fn heap(
     requires { depth ≤ 101 }
     ensures { Reads (spec.heap depth line target tokens.old) result tokens.new }
 {
-    let (cast, amount) = heap_parts(alloc, tokens, depth)?;
-    Ok(RawStatement::Heap {
-        line,
-        target,
-        cast,
-        amount,
-    })
+    match heap_parts(alloc, tokens, depth) {
+        Ok((cast, amount)) => Ok(RawStatement::Heap {
+            line,
+            target,
+            cast,
+            amount,
+        }),
+        Err(stop) => {
+            let_go(target);
+            Err(stop)
+        }
+    }
 }
 
 /// Whether a cast to a pointer stands here.

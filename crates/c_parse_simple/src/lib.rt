@@ -3,4 +3,5 @@
 #![tactic(auto)]
 
 pub mod calls;
+mod letting_go;
 pub mod simple;
