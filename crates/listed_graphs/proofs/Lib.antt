@@ -1,0 +1,12 @@
+pub mod Growth
+pub mod Listings
+pub mod Ascending
+pub mod PointsTo
+pub mod Chains
+pub mod FunctionEdges
+pub mod CallEdges
+pub mod SystemEdges
+pub mod Graphs
+pub mod Reached
+pub mod Completions
+pub mod SetsThere
