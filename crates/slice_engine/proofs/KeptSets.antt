@@ -1,15 +1,12 @@
 -- What a slice keeps: the completion of what reaches the criterion.
-use Rattle.std.proofs.Common.{◌≡◌, ◌↔◌, ℕ, zero, suc, ◌<◌, [], ◌∷◌, List, length, slice_get, Bool, Some, sym, ap, ◌∙◌, subst, arith, IsTrue}
+use Rattle.std.proofs.Common.{◌≡◌, ◌↔◌, ℕ, List, length, Bool, sym, ap, ◌∙◌, subst, IsTrue}
 use mathlib.Core.Path.{fun_ext}
 use Rattle.bit_rows.specs.Sets.{has}
 use Rattle.c_tree.specs.Numbered.{Starts}
-use Rattle.c_tree.specs.declared.program.Function.{Function}
 use Rattle.c_tree.specs.declared.program.Program.{Program}
-use Rattle.c_language.specs.NameRules.{is_main}
 use Rattle.c_language.specs.Programs.{IsWellFormed}
 use Rattle.dep_model.specs.declared.facts.Facts.{Facts}
 use Rattle.dep_model.specs.declared.graph.Graph.{Graph}
-use Rattle.dep_model.specs.declared.vertex.VertexKind.TheVariants.{Entry}
 use Rattle.dep_model.specs.ClosedSets.{IsMainEntry}
 use Rattle.dep_model.specs.Completion.{IsCompletion}
 use Rattle.dep_model.specs.Criteria.{criterion_of}
@@ -19,10 +16,7 @@ use Rattle.dep_model.specs.SystemGraph.{Analysis, IsAnalysis, vertices_of}
 use Rattle.dep_model.specs.Words.{ReachesAny}
 use Rattle.dep_model.proofs.OneAnalysis.{one_analysis}
 use Rattle.two_pass.specs.Ready.{PassGraph, HasMembers}
-use Rattle.numbered_texts.proofs.CallsFit.{position_found}
-use Rattle.numbered_texts.proofs.HavingMain.{has_main}
-use Rattle.shaped_graphs.proofs.KindLaws.{entry_there}
-use Rattle.shaped_graphs.proofs.VertexLaws.{nowhere, vertex_of}
+use Rattle.listed_graphs.proofs.Completions.{main_there}
 use Rattle.slice_engine.specs.Criterion.{starts_among}
 use Rattle.slice_engine.specs.Engine.{IsPrepared, AreMembers, AreMembersIn, KeepsFrom, IsKept, HasPlaces}
 use Rattle.slice_engine.specs.Slice.{starts_on, IsReached, IsKeptSet}
@@ -65,27 +59,12 @@ has_places p g s of_program size h also =
     let one = one_analysis p of_program.analysis also.analysis of_program.is_analysis also.is_analysis in
     size ∙ ap length (of_program.is_graph.vertices_are ∙ ap (vertices_of p) one ∙ sym also.is_graph.vertices_are)
 
--- ---- its main
-
-at_low : {A : Type 0} (xs : List A) (i : ℕ) (x : A) → slice_get xs i ≡ Some x → i < length xs
-at_low [] i x at = nowhere i x at
-at_low (y ∷ xs) zero x at = omega arith
-at_low (y ∷ xs) (suc i) x at = let lt = at_low xs i x at in omega (arith, lt)
-
 module _ (p : Program) (a : Analysis) (well : IsWellFormed p) (is : IsAnalysis p a) where
-  -- main has an entry
-  main_there : (v : ℕ) × IsMainEntry p (vertices_of p a) v
-  main_there =
-      let main = has_main p well in
-      let found = position_found (λ (f : Function). is_main f.name) p.functions main.0 main.1 in
-      let entry = vertex_of p a main.0 Entry (at_low p.functions main.0 found.value found.at) (entry_there p a.effects main.0) in
-      (entry.0, record { function = main.0; is_main = main.1; entry = entry.1 })
-
   -- what is kept from the criterion is what the slice keeps
   pub kept_set : (line : ℕ) (g : Graph) (k : List Bool) → IsGraph p a g → KeepsFrom p g line k → IsKeptSet p a line k
   kept_set line g k of_program keeps =
       let same = of_program.vertices_are in
-      let main = main_there in
+      let main = main_there p a well in
       record {
         is_analysis = is;
         edges = g.edges;

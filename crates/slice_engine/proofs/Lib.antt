@@ -13,5 +13,6 @@ pub mod GraphQuantities
 pub mod EngineLaws
 pub mod SliceLaws
 pub mod OneSlice
+pub mod SlicesThere
 pub mod StartNumbers
 pub mod Projections

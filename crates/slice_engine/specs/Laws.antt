@@ -4,6 +4,7 @@ use Rattle.bit_rows.specs.Sets.{has}
 use Rattle.c_tree.specs.declared.program.Program.{Program}
 use Rattle.c_tree.specs.Unlined.{SameButLines}
 use Rattle.c_language.specs.Programs.{IsWellFormed}
+use Rattle.c_language.specs.Words.{Bytes}
 use Rattle.dep_model.specs.declared.edge.Edge.{Edge}
 use Rattle.dep_model.specs.declared.graph.Graph.{Graph}
 use Rattle.dep_model.specs.declared.points_to.Effects.{Effects}
@@ -17,7 +18,7 @@ use Rattle.dep_model.specs.Words.{ReachesAny}
 use Rattle.mod_ref.specs.Effects.{AreEffectsByPlace}
 use Rattle.simulation_values.specs.Following.{Follows}
 use Rattle.simulation_values.specs.SameValues.{StandFor, HasSameValues}
-use Rattle.slice_engine.specs.Slice.{keeps, sliced}
+use Rattle.slice_engine.specs.Slice.{keeps, sliced, IsSlice}
 
 -- ---- the graph
 
@@ -63,3 +64,14 @@ abbrev pub SlicesFollowOriginals : Type 0
 SlicesFollowOriginals =
     (p q : Program) (a : Analysis) (s : List Bool) (input : List ℕ) → IsWellFormed p → CanBeProjected p a s
     → SameButLines q (sliced p a s) → Follows p q a s input
+
+-- ---- slices
+
+-- a text is the one slice of a program at a line
+pub record IsOneSlice (p : Program) (line : ℕ) (text : Bytes) : Type 0 where
+  pub is_slice : IsSlice p line text
+  pub one : (other : Bytes) → IsSlice p line other → other ≡ text
+
+-- each line has one in a well-formed program
+abbrev pub LinesHaveOneSlice : Type 0
+LinesHaveOneSlice = (p : Program) (line : ℕ) → IsWellFormed p → (text : Bytes) × IsOneSlice p line text

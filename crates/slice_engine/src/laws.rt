@@ -2,6 +2,9 @@
 //! law, and holds no code: its contract is the law.
 ghost use Rattle.slice_engine.specs.Laws as law;
 
+pub use listed_graphs::{
+    programs_have_a_graph, programs_have_an_analysis, programs_have_points_to,
+};
 pub use run_facts::{
     callers_have_called, outcomes_depend_on_reads, points_to_covers_runs, steps_do_their_effects,
     steps_keep_the_rest, targets_have_the_type, types_always_fit,
@@ -44,4 +47,11 @@ pub fn projection_has_same_values()
 /// seen outside, hold equal values up to that, or nothing in both; and so does the unread input where it is wanted.
 pub fn slices_follow_originals()
     ensures { law.SlicesFollowOriginals }
+{}
+
+/// A law: each line of a well-formed program has exactly one slice, and so has each on which a statement starts. That one is
+/// found, where memory suffices and the program is within the limits, is what an engine promises; that there is one needs
+/// neither.
+pub fn lines_have_one_slice()
+    ensures { law.LinesHaveOneSlice }
 {}
