@@ -1,28 +1,27 @@
 #include <stdio.h>
 #include <stdlib.h>
 struct node {
-    int value;
-    int weight;
+    int val;
     struct node *next;
 };
 int main(void) {
     struct node *head = NULL;
-    int i = 0;
-    int values = 0;
-    int weights = 0;
-    while (i < 3) {
-        struct node *n = malloc(sizeof(struct node));
-        n->value = i * i;
-        n->weight = i + 10;
+    struct node *n;
+    int c = getchar();
+    while (c != EOF) {
+        n = malloc(sizeof(struct node));
+        n->val = c;
         n->next = head;
         head = n;
-        i = i + 1;
+        c = getchar();
     }
-    while (head) {
-        values = values + head->value;
-        weights = weights + head->weight;
-        head = head->next;
+    int sum = 0;
+    int len = 0;
+    for (n = head; n != NULL; n = n->next) {
+        sum = sum + n->val;
+        len = len + 1;
     }
-    printf("%d\n", values);
-    printf("%d\n", weights);
+    printf("%d\n", sum);
+    printf("%d\n", len);
+    return 0;
 }
