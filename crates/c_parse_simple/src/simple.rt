@@ -4,6 +4,7 @@ ghost use Rattle.c_parse_expr.specs.Outcome.{Reads};
 ghost use Rattle.c_parse_simple.specs.SimpleReading as spec;
 
 use crate::calls::{call, effect, sees_call, sees_effect};
+use crate::letting_go::let_go;
 use c_language::TokenKind;
 use c_parse_expr::cursor::Cursor;
 use c_parse_expr::expr::{expression, nested};
@@ -29,6 +30,7 @@ fn bumped(
 {
     let left = nested(alloc, tokens, depth, CONDITIONAL_LEVEL)?.into_expr();
     if !is_place(&left) {
+        let_go(left);
         return Err(tokens.refuse());
     }
     Ok(RawStatement::Bump {
@@ -53,9 +55,11 @@ fn bump(
     let height = place.height();
     let left = place.into_expr();
     if tightness(&left) < POSTFIX_LEVEL {
+        let_go(left);
         return Err(tokens.refuse());
     }
     if height >= depth {
+        let_go(left);
         return Err(tokens.too_deep());
     }
     Ok(RawStatement::Bump {
@@ -125,16 +129,26 @@ fn stored(
     requires { depth ≤ 101 }
     ensures { Reads (spec.stored depth line left tokens.old) result tokens.new }
 {
-    if sees_effect(alloc, tokens)? {
-        return effect(alloc, tokens, depth, line, RawTarget::Place(left));
+    match sees_effect(alloc, tokens) {
+        Ok(true) => return effect(alloc, tokens, depth, line, RawTarget::Place(left)),
+        Ok(false) => {}
+        Err(error) => {
+            let_go(left);
+            return Err(Stop::from(error));
+        }
     }
-    let right = expression(alloc, tokens, depth, CONDITIONAL_LEVEL)?.into_expr();
-    Ok(RawStatement::Assign {
-        line,
-        left,
-        op: None,
-        right,
-    })
+    match expression(alloc, tokens, depth, CONDITIONAL_LEVEL) {
+        Ok(right) => Ok(RawStatement::Assign {
+            line,
+            left,
+            op: None,
+            right: right.into_expr(),
+        }),
+        Err(stop) => {
+            let_go(left);
+            Err(stop)
+        }
+    }
 }
 
 /// `=` behind a place.
@@ -150,6 +164,7 @@ fn assigned(
     ensures { Reads (spec.assigned depth line place tokens.old) result tokens.new }
 {
     if place.height() >= depth {
+        let_go(place);
         return Err(tokens.too_deep());
     }
     stored(alloc, tokens, depth - 1, line, place.into_expr())
@@ -168,16 +183,21 @@ fn changed(
     ensures { Reads (spec.changed depth line place op tokens.old) result tokens.new }
 {
     if place.height() >= depth {
+        let_go(place);
         return Err(tokens.too_deep());
     }
-    let left = place.into_expr();
-    let right = nested(alloc, tokens, depth, CONDITIONAL_LEVEL)?.into_expr();
-    Ok(RawStatement::Assign {
-        line,
-        left,
-        op: Some(op),
-        right,
-    })
+    match nested(alloc, tokens, depth, CONDITIONAL_LEVEL) {
+        Ok(right) => Ok(RawStatement::Assign {
+            line,
+            left: place.into_expr(),
+            op: Some(op),
+            right: right.into_expr(),
+        }),
+        Err(stop) => {
+            let_go(place);
+            Err(stop)
+        }
+    }
 }
 
 /// What is done with a place in front.
@@ -209,7 +229,10 @@ fn acted(
             tokens.skip();
             changed(alloc, tokens, depth, line, place, op)
         }
-        None => Err(tokens.refuse()),
+        None => {
+            let_go(place);
+            Err(tokens.refuse())
+        }
     }
 }
 
@@ -226,6 +249,7 @@ fn placed(
 {
     let place = expression(alloc, tokens, depth, CONDITIONAL_LEVEL)?;
     if !is_place(place.expr()) {
+        let_go(place);
         return Err(tokens.refuse());
     }
     acted(alloc, tokens, depth, line, place)
@@ -305,17 +329,41 @@ fn initialised(
 {
     if tokens.sees(TokenKind::Mark, b"{") {
         tokens.skip();
-        let init = RawInit::Items(list(alloc, tokens, depth)?);
-        return Ok(RawStatement::Declare { line, var, init });
+        return match list(alloc, tokens, depth) {
+            Ok(items) => Ok(RawStatement::Declare {
+                line,
+                var,
+                init: RawInit::Items(items),
+            }),
+            Err(stop) => {
+                let_go(var);
+                Err(stop)
+            }
+        };
     }
     if is_listed(&var.shape) {
+        let_go(var);
         return Err(tokens.refuse());
     }
-    if sees_effect(alloc, tokens)? {
-        return effect(alloc, tokens, depth, line, RawTarget::Declared(var));
+    match sees_effect(alloc, tokens) {
+        Ok(true) => return effect(alloc, tokens, depth, line, RawTarget::Declared(var)),
+        Ok(false) => {}
+        Err(error) => {
+            let_go(var);
+            return Err(Stop::from(error));
+        }
     }
-    let init = RawInit::One(expression(alloc, tokens, depth, CONDITIONAL_LEVEL)?.into_expr());
-    Ok(RawStatement::Declare { line, var, init })
+    match expression(alloc, tokens, depth, CONDITIONAL_LEVEL) {
+        Ok(value) => Ok(RawStatement::Declare {
+            line,
+            var,
+            init: RawInit::One(value.into_expr()),
+        }),
+        Err(stop) => {
+            let_go(var);
+            Err(stop)
+        }
+    }
 }
 
 /// A declarator with its initialiser.
@@ -336,6 +384,7 @@ fn declared(
         return initialised(alloc, tokens, depth, line, var);
     }
     if is_listed(&var.shape) {
+        let_go(var);
         return Err(tokens.refuse());
     }
     Ok(RawStatement::Declare {
