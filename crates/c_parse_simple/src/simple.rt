@@ -1,6 +1,6 @@
 //! Reads assignments and other simple statements, and declarations of variables with what they begin with.
-ghost use Rattle.std.specs.Prelude.{◌≡◌, ◌≤◌, length, [], codes};
-ghost use Rattle.c_parse_expr.specs.Outcome.{Reads};
+ghost use Rattle.std.specs.Prelude.{◌≡◌, ◌≤◌, length, [], codes, Ok};
+ghost use Rattle.c_parse_expr.specs.Outcome.{Reads, and_then};
 ghost use Rattle.c_parse_simple.specs.SimpleReading as spec;
 
 use crate::calls::{call, effect, sees_call, sees_effect};
@@ -315,6 +315,30 @@ pub fn list(alloc: Global, tokens: &mut Cursor<'_>, depth: u32) -> Result<Items<
     Err(tokens.refuse())
 }
 
+/// A variable with the items of a list, behind the brace.
+fn with_items(
+    alloc: Global,
+    tokens: &mut Cursor<'_>,
+    depth: u32,
+    line: u32,
+    var: RawVar,
+) -> Result<RawStatement, Stop>
+    requires { depth ≤ 101 }
+    ensures { Reads (and_then (spec.list depth tokens.old) (λ all ts. Ok (RawStatement.Declare line var (RawInit.Items all), ts))) result tokens.new }
+{
+    match list(alloc, tokens, depth) {
+        Ok(items) => Ok(RawStatement::Declare {
+            line,
+            var,
+            init: RawInit::Items(items),
+        }),
+        Err(stop) => {
+            let_go(var);
+            Err(stop)
+        }
+    }
+}
+
 /// What a variable is declared with, behind `=`.
 #[tactic(auto, unfolding(crate::specs::SimpleReading::initialised))]
 fn initialised(
@@ -329,17 +353,7 @@ fn initialised(
 {
     if tokens.sees(TokenKind::Mark, b"{") {
         tokens.skip();
-        return match list(alloc, tokens, depth) {
-            Ok(items) => Ok(RawStatement::Declare {
-                line,
-                var,
-                init: RawInit::Items(items),
-            }),
-            Err(stop) => {
-                let_go(var);
-                Err(stop)
-            }
-        };
+        return with_items(alloc, tokens, depth, line, var);
     }
     if is_listed(&var.shape) {
         let_go(var);
