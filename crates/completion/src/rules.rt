@@ -58,18 +58,6 @@ fn parameters(p: &Program, function: FunctionId) -> &[VarId]
     }
 }
 
-// Takes the marks from these variables.
-fn unmark(used: &mut Vec<bool>, vars: &[VarId])
-    ensures { (x : ℕ) → Contains vars.now x → has used.new.items x ≡ false }
-{
-    for var in vars {
-        let at = *var as usize;
-        if at < used.len() {
-            used[at] = false;
-        }
-    }
-}
-
 // Adds the rules from a vertex to the formal-ins of the parameters that are marked.
 fn add_marked(
     rules: &mut Vec<Rule>,
@@ -112,7 +100,7 @@ fn add_named(
     ensures { OnOk result (rules.new.items ≡ rules.old.items ++ flat_map (named_rule (parameters p.now vertex.function) (kind_names p.now vertex.function vertex.kind) number) formals.now) }
 {
     let parameters = parameters(p, vertex.function);
-    unmark(used, parameters);
+    used.clear();
     mark_vertex(used, statements, vertex)?;
     add_marked(rules, number, parameters, used.as_slice(), formals)?;
     Ok(())
