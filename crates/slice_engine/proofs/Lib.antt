@@ -14,5 +14,6 @@ pub mod EngineLaws
 pub mod SliceLaws
 pub mod OneSlice
 pub mod SlicesThere
+pub mod Conversions
 pub mod StartNumbers
 pub mod Projections

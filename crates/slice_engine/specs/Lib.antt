@@ -3,4 +3,5 @@ pub mod Header
 pub mod Slice
 pub mod Engine
 pub mod Laws
+pub mod Conversions
 pub mod GraphLimits

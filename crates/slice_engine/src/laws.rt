@@ -1,5 +1,6 @@
 //! Laws of every run of a program, of its graph, and of sets of its vertices that can be projected. Each function is a
 //! law, and holds no code: its contract is the law.
+ghost use Rattle.slice_engine.specs.Conversions as conversions;
 ghost use Rattle.slice_engine.specs.Laws as law;
 
 pub use listed_graphs::{
@@ -15,6 +16,13 @@ pub use run_facts::steps_touch_what_vertices_say as vertices_cover_acts;
 
 /// A law: calls touch only what their functions modify and use.
 pub use run_facts::calls_touch_what_functions_say as functions_cover_calls;
+
+/// A law: a pointer is converted to pointer types alone. Wherever a run of a well-formed program stands, each value that is
+/// converted by what is done next has a value in the type: what is assigned, listed, passed or returned, what malloc gives, what a
+/// waiting caller gets, and what a cast or a `?:` converts in any part of these expressions.
+pub fn conversions_always_fit()
+    ensures { conversions.ConversionsAlwaysFit }
+{}
 
 /// A law: the rows of where the locations of a well-formed program may point, with those of what its functions modify and use
 /// then, say the one analysis of the program.
