@@ -5,7 +5,7 @@ use Rattle.bit_rows.specs.Sets.{has}
 use Rattle.c_tree.specs.Numbered.{Starts}
 use Rattle.c_tree.specs.declared.program.Program.{Program}
 use Rattle.c_language.specs.Programs.{IsWellFormed}
-use Rattle.dep_model.specs.declared.facts.Facts.{Facts}
+use Rattle.dep_model.specs.declared.edge.Edge.{Edge}
 use Rattle.dep_model.specs.declared.graph.Graph.{Graph}
 use Rattle.dep_model.specs.ClosedSets.{IsMainEntry}
 use Rattle.dep_model.specs.Completion.{IsCompletion}
@@ -18,25 +18,26 @@ use Rattle.dep_model.proofs.OneAnalysis.{one_analysis}
 use Rattle.two_pass.specs.Ready.{PassGraph, HasMembers}
 use Rattle.listed_graphs.proofs.Completions.{main_there}
 use Rattle.slice_engine.specs.Criterion.{starts_among}
-use Rattle.slice_engine.specs.Engine.{IsPrepared, AreMembers, AreMembersIn, KeepsFrom, IsKept, HasPlaces}
+use Rattle.slice_engine.specs.Engine.{AreMembers, AreMembersIn, KeepsFrom, IsKept, HasPlaces}
 use Rattle.slice_engine.specs.Slice.{starts_on, IsReached, IsKeptSet}
+use Rattle.slice_engine.specs.Slicing.{IsPassing}
 use Rattle.slice_engine.proofs.CriterionLaws.{length-criterion}
 
-pub reaches_from : (g : Graph) (seen : PassGraph) (from : List ℕ) (x r : List Bool)
-    → seen ≡ record { size = length g.vertices; edges = g.edges } → HasMembers from x
-    → ((s : List Bool) → HasMembers from s → (v : ℕ) → IsTrue (has r v) ↔ ReachesAny seen.edges s v) → length r ≡ length x
-    → IsReached g.edges x r
-reaches_from g seen from x r is members reaches long = record {
-  size = long;
-  members = subst (λ es. (v : ℕ) → IsTrue (has r v) ↔ ReachesAny es x v) (ap (λ (h : PassGraph). h.edges) is) (reaches x members);
-}
+pub reaches_from : (edges : List Edge) (from : List ℕ) (x r : List Bool) → HasMembers from x
+    → ((s : List Bool) → HasMembers from s → (v : ℕ) → IsTrue (has r v) ↔ ReachesAny edges s v) → length r ≡ length x → IsReached edges x r
+reaches_from edges from x r members reaches long = record { size = long; members = reaches x members }
 
 -- from tests of the statements that start on the line
-pub members_from : (p : Program) (g : Graph) (facts : Facts) (starts : Starts) (line : ℕ) (tests x r : List Bool) → IsPrepared p g facts starts → ((i : ℕ) → has tests i ≡ starts_among line starts i)
-    → x ≡ criterion_of (has tests) g.vertices → IsReached g.edges x r → AreMembersIn p g line r
-members_from p g facts starts line tests x r ready each is reached =
-    let same : has tests ≡ starts_on p line = fun_ext (λ i. each i ∙ ap (λ ss. starts_among line ss i) ready.starts_are) in
-    subst (λ y. IsReached g.edges y r) (is ∙ ap (λ (f : ℕ → Bool). criterion_of f g.vertices) same) reached
+pub members_from : (p : Program) (g : Graph) (starts : Starts) (passes : PassGraph) (line : ℕ) (tests x r : List Bool) → IsPassing p g starts passes → ((i : ℕ) → has tests i ≡ starts_among line starts i)
+    → x ≡ criterion_of (has tests) g.vertices → IsReached passes.edges x r → AreMembersIn p g line r
+members_from p g starts passes line tests x r ready each is reached =
+    let same : has tests ≡ starts_on p line = fun_ext (λ i. each i ∙ ap (λ ss. starts_among line ss i) ready.prepared.starts_are) in
+    let along = subst (λ (h : PassGraph). IsReached h.edges x r) ready.passes_are reached in
+    subst (λ y. IsReached g.edges y r) (is ∙ ap (λ (f : ℕ → Bool). criterion_of f g.vertices) same) along
+
+-- a criterion has the size of the passes
+pub criterion_size : (p : Program) (g : Graph) (starts : Starts) (passes : PassGraph) (tests : ℕ → Bool) (x : List Bool) → IsPassing p g starts passes → x ≡ criterion_of tests g.vertices → length x ≡ passes.size
+criterion_size p g starts passes tests x ready is = ap length is ∙ length-criterion tests g.vertices ∙ sym (ap (λ (h : PassGraph). h.size) ready.passes_are)
 
 -- what reaches the criterion in the graph of a program
 pub members_are : (p : Program) (g : Graph) (line : ℕ) (r : List Bool) → IsGraphOf p g → AreMembersIn p g line r → AreMembers p line r

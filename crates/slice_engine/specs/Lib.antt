@@ -5,3 +5,4 @@ pub mod Engine
 pub mod Laws
 pub mod Conversions
 pub mod GraphLimits
+pub mod Slicing

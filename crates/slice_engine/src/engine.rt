@@ -1,33 +1,25 @@
 //! The engine: a program with its dependence graph, which gives the slice's text at each criterion.
-ghost use Rattle.std.specs.Prelude.{◌≡◌, ◌⊎◌, ◌≤◌, ◌<◌, ℕ, IfOk, IsTrue, ◌↔◌, MatchOption, length};
+ghost use Rattle.std.specs.Prelude.{◌≡◌, ◌⊎◌, ◌≤◌, ℕ, IfOk, IsTrue, ◌↔◌, MatchOption};
 ghost use Rattle.std.specs.Result.{IfErr};
 ghost use Rattle.c_tree.specs.declared.limits.LimitName.{LimitName};
-ghost use Rattle.c_tree.specs.Numbered.{program_starts};
 ghost use Rattle.c_language.specs.Programs.{IsWellFormed};
-ghost use Rattle.c_language.specs.Layout.{layout};
 ghost use Rattle.dep_model.specs.declared.graph_fault.GraphFault.TheVariants.{Limit};
 ghost use Rattle.dep_model.specs.Graphs.{IsGraphOf};
 ghost use Rattle.dep_model.specs.LocationLists.{location_list};
-ghost use Rattle.projection.specs.KeptVertices.{kept_words};
-ghost use Rattle.slice_engine.specs.Criterion.{by_rank as by_rank_of};
-ghost use Rattle.slice_engine.specs.Engine.{IsPrepared, IsWithinLimits, AreMembers, AreMembersIn, KeepsFrom, IsKept, HasPlaces, IsSlicedAt};
+ghost use Rattle.slice_engine.specs.Engine.{IsPrepared, IsWithinLimits, AreMembers, IsKept, HasPlaces};
 ghost use Rattle.slice_engine.specs.GraphLimits.{IsAboveGraphLimit};
-ghost use Rattle.slice_engine.specs.Slice.{starts_on, HasStart, IsSlice, IsAcceptedSlice, IsFaithful};
+ghost use Rattle.slice_engine.specs.Slice.{HasStart, IsSlice, IsFaithful};
 
-use crate::criterion::{any_starts_on, by_rank, criterion_set, kept_statements, starting_on};
-use crate::graph::{complete, graph_of, locations_of, reach};
-use crate::header::{header, header_lines};
+use crate::criterion::any_starts_on;
+use crate::graph::{graph_of, locations_of};
+use crate::slicing::{Slicing, members_at};
 use crate::starts::{last_line, starts_in};
-use c_print::{lines_of, print};
 use c_tree::numbered::Start;
 use c_tree::{Program, Text};
 use dep_model::{Facts, Graph, GraphFault, Locations, VertexSet};
-use projection::project;
 use std::alloc::{AllocError, Global};
 use std::marker::Model;
-
-// The most bytes that the layout of a slice may have, so that its lines have numbers of 32 bits.
-const MAX_LAYOUT_BYTES: usize = 4_294_967_296;
+use two_pass::Passes;
 
 /// What a slice is made for: the statements that start on a line, counted from 1.
 #[derive(Clone, Copy, Debug, PartialEq, Eq)]
@@ -137,15 +129,26 @@ impl Engine {
         ensures members { IfOk result (AreMembers self.now c.line) }
         ensures size { IfOk result (HasPlaces self.now) }
     {
+        let mut passes = Passes::prepare(alloc, &self.graph, &self.facts)?;
         let set = members_at(
             alloc,
             &self.program,
             &self.graph,
-            &self.facts,
             &self.starts,
+            &mut passes,
             c.line,
         )?;
         Ok(set)
+    }
+
+    /// What makes slices of the program, one after another, without preparing anew what each of them needs.
+    ///
+    /// Err: no memory was left.
+    pub fn slicing(&self, alloc: Global) -> Result<Slicing<'_>, AllocError>
+        ensures { IfOk result (λ s. s ≡ self.now) }
+    {
+        let slicing = Slicing::new(alloc, &self.program, &self.graph, &self.facts, &self.starts)?;
+        Ok(slicing)
     }
 
     /// The vertices that the slice keeps: the completion of what reaches the criterion, by which its text is a program
@@ -156,14 +159,8 @@ impl Engine {
         ensures kept { IfOk result (IsKept self.now c.line) }
         ensures size { IfOk result (HasPlaces self.now) }
     {
-        let set = kept_at(
-            alloc,
-            &self.program,
-            &self.graph,
-            &self.facts,
-            &self.starts,
-            c.line,
-        )?;
+        let mut slicing = self.slicing(alloc)?;
+        let set = slicing.kept(alloc, c)?;
         Ok(set)
     }
 
@@ -177,14 +174,8 @@ impl Engine {
         ensures slice { IfOk result (λ t. IsSlice self.now c.line t) }
         ensures faithful { IfOk result (λ t. IsFaithful self.now c.line t) }
     {
-        let text = text_of(
-            alloc,
-            &self.program,
-            &self.graph,
-            &self.facts,
-            &self.starts,
-            c.line,
-        )?;
+        let mut slicing = self.slicing(alloc)?;
+        let text = slicing.slice_text(alloc, c)?;
         Ok(text)
     }
 }
@@ -194,117 +185,4 @@ fn has_start(p: &Program, graph: &Graph, facts: &Facts, starts: &[Start], line: 
     ensures { IsTrue result ↔ HasStart p.now line }
 {
     any_starts_on(starts, line)
-}
-
-// What reaches the criterion of a line.
-fn members_at(
-    alloc: Global,
-    p: &Program,
-    graph: &Graph,
-    facts: &Facts,
-    starts: &[Start],
-    line: u32,
-) -> Result<VertexSet, AllocError>
-    requires { IsPrepared p.now graph.now facts.now starts.now }
-    ensures { IfOk result (AreMembersIn p.now graph.now line) }
-{
-    let tests = starting_on(alloc, starts, line)?;
-    let mut set = criterion_set(alloc, graph.vertices.as_slice(), tests.as_slice())?;
-    reach(alloc, graph, facts, &mut set)?;
-    Ok(set)
-}
-
-// What the slice at a line keeps.
-fn kept_at(
-    alloc: Global,
-    p: &Program,
-    graph: &Graph,
-    facts: &Facts,
-    starts: &[Start],
-    line: u32,
-) -> Result<VertexSet, AllocError>
-    requires { IsPrepared p.now graph.now facts.now starts.now }
-    ensures kept { IfOk result (KeepsFrom p.now graph.now line) }
-    ensures size { IfOk result (λ kept. length kept ≡ length graph.now.vertices) }
-{
-    let mut set = members_at(alloc, p, graph, facts, starts, line)?;
-    complete(alloc, p, graph, &mut set)?;
-    Ok(set)
-}
-
-// Of the statements that a set keeps, in their order, which start on the line.
-fn kept_on(
-    alloc: Global,
-    p: &Program,
-    graph: &Graph,
-    starts: &[Start],
-    line: u32,
-    kept: &VertexSet,
-) -> Result<Vec<bool>, AllocError>
-    requires starts { starts.now ≡ program_starts p.now }
-    requires size { length kept.now ≡ length graph.now.vertices }
-    ensures { IfOk result (λ tests. tests.items ≡ by_rank_of (kept_words kept.now graph.now.vertices).statement (starts_on p.now line) p.now.statements) }
-{
-    let tests = starting_on(alloc, starts, line)?;
-    let statements = kept_statements(alloc, graph.vertices.as_slice(), kept)?;
-    by_rank(alloc, statements.as_slice(), tests.as_slice(), p.statements)
-}
-
-/// The program of a slice, and for each of its statements whether it is one of the criterion.
-#[derive(Drop)]
-struct Sliced {
-    program: Program,
-    in_criterion: Vec<bool>,
-}
-
-fn sliced_at(
-    alloc: Global,
-    p: &Program,
-    graph: &Graph,
-    facts: &Facts,
-    starts: &[Start],
-    line: u32,
-) -> Result<Sliced, AllocError>
-    requires { IsPrepared p.now graph.now facts.now starts.now }
-    ensures { IfOk result (λ s. IsSlicedAt p.now line s.program s.in_criterion.items) }
-{
-    let kept = kept_at(alloc, p, graph, facts, starts, line)?;
-    let program = project(alloc, p, graph, &kept)?;
-    let in_criterion = kept_on(alloc, p, graph, starts, line, &kept)?;
-    Ok(Sliced {
-        program,
-        in_criterion,
-    })
-}
-
-// The text of the slice at a line, which is accepted again.
-fn text_of(
-    alloc: Global,
-    p: &Program,
-    graph: &Graph,
-    facts: &Facts,
-    starts: &[Start],
-    line: u32,
-) -> Result<Text, AllocError>
-    requires { IsPrepared p.now graph.now facts.now starts.now }
-    ensures slice { IfOk result (λ t. IsSlice p.now line t) }
-    ensures read { IfOk result (λ t. IsAcceptedSlice p.now line t) }
-{
-    let sliced = sliced_at(alloc, p, graph, facts, starts, line)?;
-    let layout = print(alloc, &sliced.program)?;
-    if is_too_long(layout.bytes()) {
-        return Err(AllocError);
-    }
-    let lines = lines_of(alloc, &sliced.program)?;
-    let shown = header_lines(alloc, sliced.in_criterion.as_slice(), lines.as_slice())?;
-    let mut text = header(alloc, line, shown.as_slice())?;
-    text.append(layout.bytes())?;
-    Ok(text)
-}
-
-// Whether a layout has more bytes than its lines can number.
-fn is_too_long(layout: &[u8]) -> bool
-    ensures { IsTrue result ↔ (4294967296 < length layout.now) }
-{
-    layout.len() > MAX_LAYOUT_BYTES
 }

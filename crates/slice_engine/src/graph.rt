@@ -1,21 +1,18 @@
-//! The system dependence graph of a program, what reaches a set of its vertices, and the completion of a set.
+//! The system dependence graph of a program, and what reaches a set of its vertices.
 ghost use Rattle.std.specs.Prelude.{◌≡◌, ◌≤◌, ◌<◌, ◌^◌, ◌↔◌, ℕ, IsTrue, IfOk, OnOk, length};
 ghost use Rattle.std.specs.Result.{IfErr};
 ghost use Rattle.c_tree.specs.declared.limits.LimitName.{LimitName};
 ghost use Rattle.c_language.specs.Programs.{IsWellFormed};
 ghost use Rattle.dep_model.specs.declared.graph_fault.GraphFault.TheVariants.{Limit};
-ghost use Rattle.dep_model.specs.Facts.{AreTrueFacts};
 ghost use Rattle.dep_model.specs.Graphs.{IsGraphOf};
 ghost use Rattle.dep_model.specs.LocationLists.{location_list};
-ghost use Rattle.dep_model.specs.Shapes.{IsShaped};
 ghost use Rattle.two_pass.specs.Ready.{HasMembers};
-ghost use Rattle.slice_engine.specs.Engine.{Completes, IsWithinLimits};
+ghost use Rattle.slice_engine.specs.Engine.{IsWithinLimits};
 ghost use Rattle.slice_engine.specs.GraphLimits.{IsAboveGraphLimit};
 ghost use Rattle.slice_engine.specs.Slice.{IsReached};
 
 use c_tree::Program;
-use completion::Closer;
-use dep_model::{Facts, Graph, GraphFault, Locations, VertexId, VertexSet};
+use dep_model::{Graph, GraphFault, Locations, VertexId, VertexSet};
 use points_to::solve;
 use std::alloc::{AllocError, Global};
 use two_pass::Passes;
@@ -70,39 +67,18 @@ pub(crate) fn graph_of(
     Ok(graph)
 }
 
-/// Makes a set of vertices exactly what reaches it by matched calls and returns.
+/// Makes a set of vertices exactly what reaches it by matched calls and returns. Err: no memory was left.
 pub(crate) fn reach(
     alloc: Global,
-    g: &Graph,
-    facts: &Facts,
+    passes: &mut Passes,
     set: &mut VertexSet,
 ) -> Result<(), AllocError>
-    requires shaped { IsShaped g.now }
-    requires facts { AreTrueFacts g.now facts.now.words }
-    requires size { length set.old ≡ length g.now.vertices }
-    ensures { OnOk result (IsReached g.now.edges set.old set.new) }
+    requires { length set.old ≡ passes.old.size }
+    ensures reached { OnOk result (IsReached passes.old.edges set.old set.new) }
+    ensures same { passes.new ≡ passes.old }
 {
     let from = numbers_in(alloc, set)?;
-    let mut passes = Passes::prepare(alloc, g, facts)?;
     passes.reach(from.as_slice(), set);
-    Ok(())
-}
-
-/// Makes a set of vertices its completion.
-pub(crate) fn complete(
-    alloc: Global,
-    p: &Program,
-    g: &Graph,
-    set: &mut VertexSet,
-) -> Result<(), AllocError>
-    requires graph { IsGraphOf p.now g.now }
-    requires few { length g.now.vertices ≤ 65536 }
-    requires size { length set.old ≡ length g.now.vertices }
-    ensures completes { OnOk result (Completes p.now g.now set.old set.new) }
-    ensures size { OnOk result (length set.new ≡ length set.old) }
-{
-    let mut closer = Closer::prepare(alloc, p, g)?;
-    closer.close_up(set);
     Ok(())
 }
 
