@@ -1,0 +1,4 @@
+pub mod Chops
+pub mod Contexts
+pub mod Laws
+pub mod Turned
