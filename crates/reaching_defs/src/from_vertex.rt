@@ -190,9 +190,14 @@ fn find_by_rows(
     arrivals.clear();
 }
 
-// Makes the targets those to which a location flows from `v`: by rows where it has many, as far as rows are wide enough, and else by a
-// search for each. Err: no memory was left.
-fn find_all(next: &Successors, v: VertexId, s: &Skeleton, x: &mut Scratch) -> Result<(), AllocError>
+// Makes the targets those to which a location flows from `v`: by rows, as far as these are wide enough, and else by a search for each. Err:
+// no memory was left.
+fn find_many(
+    next: &Successors,
+    v: VertexId,
+    s: &Skeleton,
+    x: &mut Scratch,
+) -> Result<(), AllocError>
     requires next { AreSuccessors next.now }
     requires few { length s.now.vertices < 2 ^ 32 }
     requires rows { AreEvenRows s.now }
@@ -207,7 +212,7 @@ fn find_all(next: &Successors, v: VertexId, s: &Skeleton, x: &mut Scratch) -> Re
 {
     x.definition.take(v, s.defined.words(v))?;
     let count = x.definition.held.len();
-    if has_many(x.definition.words.as_slice()) && count <= x.width {
+    if count <= x.width {
         find_by_rows(
             next,
             &x.definition,
@@ -216,6 +221,29 @@ fn find_all(next: &Successors, v: VertexId, s: &Skeleton, x: &mut Scratch) -> Re
             &mut x.arrivals,
             &mut x.targets,
         );
+    } else {
+        find_targets(next, v, s, &mut x.reached, &mut x.targets);
+    }
+    Ok(())
+}
+
+// Makes the targets those to which a location flows from `v`: by rows where it has many, and else by a search for the one that it has. Where
+// no vertex of the stretch has many, rows have no width. Err: no memory was left.
+fn find_all(next: &Successors, v: VertexId, s: &Skeleton, x: &mut Scratch) -> Result<(), AllocError>
+    requires next { AreSuccessors next.now }
+    requires few { length s.now.vertices < 2 ^ 32 }
+    requires rows { AreEvenRows s.now }
+    requires stretch_in { next.now.stretch.first + next.now.stretch.size ≤ length s.now.vertices }
+    requires from { next.now.stretch.first ≤ v }
+    requires to { v < next.now.stretch.first + next.now.stretch.size }
+    requires few_locations { s.now.defined.bits < 2 ^ 32 }
+    requires rest { IsAtRest next.now.stretch.size x.old }
+    ensures rest { OnOk result (IsAtRest next.now.stretch.size x.new) }
+    ensures exact { OnOk result ((w : ℕ) → Contains x.new.targets.members w
+        ↔ FlowsAmong 0 s.now.defined.bits s.now next.now.pairs.items v (next.now.stretch.first + w)) }
+{
+    if x.width > 0 && has_many(s.defined.words(v)) {
+        find_many(next, v, s, x)?;
     } else {
         find_targets(next, v, s, &mut x.reached, &mut x.targets);
     }

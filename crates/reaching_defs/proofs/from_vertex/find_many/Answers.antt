@@ -4,7 +4,7 @@ use Rattle.reaching_defs.specs.declared.definition.Definition.{Definition}
 use Rattle.reaching_defs.specs.Stretches.{FlowsAmong}
 use Rattle.reaching_defs.proofs.MetLemmas.{of_row}
 use Rattle.reaching_defs.proofs.TargetLemmas.{AreWordsOf, words_of}
-use Rattle.reaching_defs.proofs.from_vertex.find_all.Goals as goal
+use Rattle.reaching_defs.proofs.from_vertex.find_many.Goals as goal
 
 pub find_by_rows-requires-clause-row : goal.find_by_rows-requires-clause-row
 find_by_rows-requires-clause-row c =
