@@ -15,9 +15,10 @@ pub fn slices(alloc: Global, e: &Engine, list: &[Criterion]) -> Result<Vec<Text>
     requires starts { All (λ c. HasStart e.now c.line) list.now }
     ensures { IfOk result (λ texts. AreTexts e.now list.now texts.items) }
 {
+    let mut slicing = e.slicing(alloc)?;
     let mut texts = Vec::new(alloc);
     for criterion in list {
-        let text = e.slice_text(alloc, *criterion)?;
+        let text = slicing.slice_text(alloc, *criterion)?;
         texts.push(text)?;
     }
     Ok(texts)
