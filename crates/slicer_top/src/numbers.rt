@@ -18,8 +18,9 @@ pub(crate) fn numbers_text(alloc: Global, engine: &Engine) -> Result<Vec<Text>, 
     ensures { IfOk result (λ texts. IsOneText (IsNumbersText engine.now) texts.items) }
 {
     let criterion = last_criterion(engine);
-    let kept = engine.kept(alloc, criterion)?;
-    let slice = engine.slice_text(alloc, criterion)?;
+    let mut slicing = engine.slicing(alloc)?;
+    let kept = slicing.kept(alloc, criterion)?;
+    let slice = slicing.slice_text(alloc, criterion)?;
     let program = engine.program();
     let line = numbers_line(
         alloc,
