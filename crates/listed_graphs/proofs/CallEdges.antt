@@ -85,7 +85,7 @@ module _ (vs : List Vertex) where
   Or P = P ⊎ (P → ⊥)
 
   -- a vertex is of a kind that a test tells, or it isn't
-  is_or_not : (f : ℕ) (kind : VertexKind) (test : VertexKind → Bool) → ((k : VertexKind) → Decides (test k) (k ≡ kind)) → (v : ℕ) → Or (IsVertex vs f kind v)
+  pub is_or_not : (f : ℕ) (kind : VertexKind) (test : VertexKind → Bool) → ((k : VertexKind) → Decides (test k) (k ≡ kind)) → (v : ℕ) → Or (IsVertex vs f kind v)
   is_or_not f kind test decides v = by_place (slice_get vs v) refl
     where
       by_place : (o : Option Vertex) → slice_get vs v ≡ o → Or (IsVertex vs f kind v)

@@ -10,23 +10,21 @@ use Rattle.c_language.specs.Programs.{IsWellFormed}
 use Rattle.rule_closure.specs.declared.closure.Rule.{Rule}
 use Rattle.rule_closure.specs.Rules.{IsRuleWithin}
 use Rattle.rule_closure.proofs.ListLemmas.{contains_map}
-use Rattle.completion.specs.NameRules.{name_rules}
-use Rattle.completion.proofs.NameLaws.{name_rules_one, name_rules_are}
 use Rattle.dep_model.specs.declared.edge.Edge.{Edge}
 use Rattle.dep_model.specs.declared.edge.Label.{Label}
 use Rattle.dep_model.specs.declared.edge.Label.TheVariants.{Control, Flow, Call, In, Out}
-use Rattle.dep_model.specs.declared.vertex.Slot.TheVariants.{Argument}
 use Rattle.dep_model.specs.declared.vertex.Vertex.{Vertex}
-use Rattle.dep_model.specs.declared.vertex.VertexKind.TheVariants.{Entry, FormalIn}
+use Rattle.dep_model.specs.declared.vertex.VertexKind.TheVariants.{Entry}
 use Rattle.dep_model.specs.ClosedSets.{IsMainEntry, IsCompletionIn}
 use Rattle.dep_model.specs.NamedParameters.{NamesParameter}
 use Rattle.dep_model.specs.SystemGraph.{Analysis, vertices_of, AreSystemEdges}
 use Rattle.dep_model.specs.VertexOrder.{in_function}
-use Rattle.dep_model.proofs.CompletionLemmas.{rule_at, rule_of, AreNames, completion_exists}
+use Rattle.dep_model.proofs.CompletionLemmas.{rule_at, rule_of, completion_exists}
 use Rattle.numbered_texts.proofs.CallsFit.{position_found}
 use Rattle.numbered_texts.proofs.HavingMain.{has_main}
 use Rattle.shaped_graphs.proofs.KindLaws.{entry_there}
 use Rattle.shaped_graphs.proofs.VertexLaws.{vertex_of}
+use Rattle.listed_graphs.proofs.NamedParameters.{names, names_are, name_within}
 use Rattle.listed_graphs.proofs.SystemEdges.{IsWithin, edge_within}
 
 all_of : {A : Type 0} (P : A → Type 0) (xs : List A) → ((x : A) → Contains xs x → P x) → All P xs
@@ -54,23 +52,10 @@ module _ (p : Program) (a : Analysis) (well : IsWellFormed p) where
   abbrev Names : ℕ → ℕ → Type 0
   Names = NamesParameter p vs
 
-  names_are : AreNames Names (name_rules p vs)
-  names_are = record { all = (name_rules_are p vs).all; only = (name_rules_are p vs).only }
-
-  name_within : (r : Rule) → Contains (name_rules p vs) r → IsRuleWithin (length vs) r
-  name_within r c =
-      let w = (name_rules_are p vs).only r c in
-      let first : r.first < length vs = slice_get_within vs r.first w.vertex w.at in
-      record {
-        first_in = first;
-        second_in = subst (λ k. k < length vs) (sym (name_rules_one p vs r c)) first;
-        gives_in = slice_get_within vs r.gives (in_function w.vertex.function (FormalIn (Argument w.number))) w.formal;
-      }
-
   module _ (edges : List Edge) (are : AreSystemEdges p a edges) where
-    each_within : (r : Rule) → Contains (map rule_of edges ++ name_rules p vs) r → IsRuleWithin (length vs) r
-    each_within r c = elim (Contains-append_cases (map rule_of edges) (name_rules p vs) r c) [
-      | inr name ↦ name_within r name
+    each_within : (r : Rule) → Contains (map rule_of edges ++ names p vs) r → IsRuleWithin (length vs) r
+    each_within r c = elim (Contains-append_cases (map rule_of edges) (names p vs) r c) [
+      | inr name ↦ name_within p vs r name
       | inl at ↦
           let w = contains_map rule_of edges r at in
           let e = edge_within p a w.0 ((are w.0).0 w.1) in
@@ -81,7 +66,7 @@ module _ (p : Program) (a : Analysis) (well : IsWellFormed p) where
     completion_there x long =
         let main = main_there in
         let low : main.0 < length x = subst (λ m. main.0 < m) (sym long) (slice_get_within vs main.0 (in_function main.1.function Entry) main.1.entry) in
-        let within : All (IsRuleWithin (length x)) (map rule_of edges ++ name_rules p vs) =
-        subst (λ m. All (IsRuleWithin m) (map rule_of edges ++ name_rules p vs)) (sym long) (all_of (IsRuleWithin (length vs)) (map rule_of edges ++ name_rules p vs) each_within) in
-        let found = completion_exists edges Names main.0 (name_rules p vs) names_are x low within in
+        let within : All (IsRuleWithin (length x)) (map rule_of edges ++ names p vs) =
+        subst (λ m. All (IsRuleWithin m) (map rule_of edges ++ names p vs)) (sym long) (all_of (IsRuleWithin (length vs)) (map rule_of edges ++ names p vs) each_within) in
+        let found = completion_exists edges Names main.0 (names p vs) (names_are p vs) x low within in
         (found.0, record { main = main.0; is_entry = main.1; completes = found.1 })

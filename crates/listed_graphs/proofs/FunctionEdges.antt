@@ -26,12 +26,7 @@ use Rattle.numbered_texts.proofs.Listed.{used_are_listed}
 use Rattle.numbered_texts.proofs.NumbersButLines.{named_exist}
 use Rattle.sdg.proofs.InFunction.{IsIn as IsOf, flow_in}
 use Rattle.listed_graphs.proofs.Chains.{chain_or_none}
-use Rattle.listed_graphs.proofs.Listings.{Listing, below, among, where_so, only, as_same}
-
-item_at : {A : Type 0} (xs : List A) (k : ℕ) → k < length xs → (x : A) × (slice_get xs k ≡ Some x)
-item_at [] k lt = absurd (omega (arith, lt))
-item_at (x ∷ xs) zero lt = (x, refl)
-item_at (x ∷ xs) (suc k) lt = item_at xs k (omega (arith, lt))
+use Rattle.listed_graphs.proofs.Listings.{Listing, item_at, below, among, where_so, only, as_same}
 
 -- a condition of three parts holds, or it doesn't
 three_or_not : (a b : Bool) (C : Type 0) → C ⊎ (C → ⊥) → ((a ≡ true) × ((b ≡ true) × C)) ⊎ (((a ≡ true) × ((b ≡ true) × C)) → ⊥)

@@ -8,5 +8,6 @@ pub mod CallEdges
 pub mod SystemEdges
 pub mod Graphs
 pub mod Reached
+pub mod NamedParameters
 pub mod Completions
 pub mod SetsThere

@@ -1,6 +1,8 @@
 -- Lists of exactly the things that have a property, put together from smaller ones.
-use Rattle.std.proofs.Common.{◌≡◌, ◌↔◌, ℕ, zero, suc, ◌<◌, ◌⊎◌, inl, inr, List, [], ◌∷◌, ◌++◌, map, refl, sym, subst, arith}
+use Rattle.std.proofs.Common.{◌≡◌, ◌↔◌, ℕ, zero, suc, ◌<◌, ◌⊎◌, inl, inr, List, [], ◌∷◌, ◌++◌, map, length, Some, refl, sym, ◌∙◌, subst, arith}
+use Rattle.std.specs.Prelude.{slice_get}
 use Rattle.std.proofs.lemmas.Bool.{cases_eq, cases_lt}
+use Rattle.std.proofs.lemmas.Option.{same_Some}
 use Rattle.dep_model.proofs.Membership.{IsIn, in_first, in_second, in_either, in_map, of_map}
 
 -- a list of exactly the things with a property
@@ -115,3 +117,22 @@ where_so C P (inl holds) l =
     let m = l holds in
     record { items = m.items; exact = λ x. (λ h. (holds, (m.exact x).0 h), λ h. (m.exact x).1 h.1) }
 where_so C P (inr fails) l = nothing _ (λ x h. fails h.0)
+
+-- ---- items by their places
+
+pub item_at : {A : Type 0} (xs : List A) (k : ℕ) → k < length xs → (x : A) × (slice_get xs k ≡ Some x)
+item_at [] k lt = absurd (omega (arith, lt))
+item_at (x ∷ xs) zero lt = (x, refl)
+item_at (x ∷ xs) (suc k) lt = item_at xs k (omega (arith, lt))
+
+-- what has the property for the item at a place
+abbrev pub At : {A B : Type 0} → (B → A → Type 0) → List B → ℕ → A → Type 0
+At {A} {B} P ys k x = (y : B) × (slice_get ys k ≡ Some y) × P y x
+
+pub at_place : {A B : Type 0} (P : B → A → Type 0) (ys : List B) (k : ℕ) → k < length ys → ((y : B) → Listing (P y)) → Listing (At P ys k)
+at_place P ys k lt each =
+    let w = item_at ys k lt in
+    as_same (P w.0) (At P ys k) (λ x. (
+      λ h. (w.0, w.1, h),
+      λ h. subst (λ y. P y x) (same_Some _ _ (sym h.1 ∙ w.1)) h.2,
+    )) (each w.0)
