@@ -1,5 +1,5 @@
 -- How the memory of a slice agrees with that of its original: blocks stand for blocks, one to one, and cells hold equal values up to that.
-use Rattle.std.specs.Prelude.{◌≡◌, ◌⊎◌, ℕ, ℤ, List, ◌++◌, length, Bool, true, false, Option, Some, None, slice_get}
+use Rattle.std.specs.Prelude.{◌≡◌, ℕ, ℤ, List, ◌++◌, length, Bool, true, false, Option, Some, None, slice_get}
 use Rattle.c_meaning.specs.declared.value.Hop.{Hop}
 use Rattle.c_meaning.specs.declared.value.Place.{Place}
 use Rattle.c_meaning.specs.declared.value.Value.{Value}
@@ -7,9 +7,9 @@ use Rattle.c_meaning.specs.declared.value.Value.TheVariants.{Number, Null, To}
 use Rattle.c_meaning.specs.Memory.{Block, read, is_cell}
 use Rattle.c_meaning.specs.Values.{Origin, OfVariable, OfStatement, State}
 use Rattle.dep_model.specs.declared.location.Location.{Location}
-use Rattle.dep_model.specs.declared.location.Root.TheVariants.{Variable}
 use Rattle.dep_model.specs.DoingEffects.{the_input, result_of}
 use Rattle.run_facts.specs.CellLocations.{location_of}
+use Rattle.run_facts.specs.Counting.{Counts}
 
 -- ---- worlds
 
@@ -91,15 +91,10 @@ module _ (names : Names) where
 -- ---- what is at a location
 
 module _ (outside : Location → Bool) where
-  -- which blocks count at a location that lies in them: all, where it is seen outside of its activation; and else that of the variable
-  -- which the activation that runs can name
-  abbrev pub Counts : Location → State → ℕ → Type 0
-  Counts l m b = (outside l ≡ true) ⊎ ((x : ℕ) × (l.root ≡ Variable x) × (m.frame x ≡ Some b))
-
   -- the cells at a location in live blocks of the original, the unread input, and what the function that runs has returned are alike
   pub record AlikeAt (w : World) (l : Location) (m n : State) : Type 0 where
     pub cells :
-        (b c : ℕ) (path : List Hop) → Stands w b c → Counts l m b → is_cell m.memory (cell_at b path) ≡ true
+        (b c : ℕ) (path : List Hop) → Stands w b c → Counts outside l m b → is_cell m.memory (cell_at b path) ≡ true
         → location_of m.origins (cell_at b path) ≡ Some l → AlikeCell w (read m.memory (cell_at b path)) (read n.memory (cell_at c path))
     pub input : l ≡ the_input → m.unread ≡ n.unread
     pub result : (f : ℕ) → l ≡ result_of f → AlikeCell w m.returned n.returned

@@ -13,10 +13,11 @@ use Rattle.dep_model.specs.declared.location.Location.{Location}
 use Rattle.dep_model.specs.declared.location.Root.TheVariants.{Variable}
 use Rattle.dep_model.specs.DoingEffects.{the_input, result_of}
 use Rattle.run_facts.specs.CellLocations.{location_in, location_of}
+use Rattle.run_facts.specs.Counting.{Counts}
 use Rattle.run_facts.proofs.Blocks.{get_more}
 use Rattle.run_facts.proofs.KeptMemories.{leave_keeps, new_keeps}
 use Rattle.run_facts.proofs.KeptStates.{called_keeps}
-use Rattle.simulation.specs.Renaming.{World, Stands, cell_at, AlikeCell, Names, StandsForOne, BlocksStand, Counts, AlikeAt}
+use Rattle.simulation.specs.Renaming.{World, Stands, cell_at, AlikeCell, Names, StandsForOne, BlocksStand, AlikeAt}
 use Rattle.simulation.specs.Settings.{seen, seen_from}
 use Rattle.simulation_steps.proofs.GrownLists.{within, there_at}
 use Rattle.simulation_steps.proofs.LeftAlone.{CallsLeaveCallers, ReturnsLeaveCallers, MovesLeaveAlike}

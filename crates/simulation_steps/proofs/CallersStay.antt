@@ -26,6 +26,7 @@ use Rattle.dep_model.proofs.Membership.{IsIn}
 use Rattle.dep_model.proofs.StructOrder.{well_formed_in_order}
 use Rattle.run_facts.specs.CallTouching.{WaitAt, Enters, Within, stays, goes_on, called_below, HasCalled, StepInCall, InCall}
 use Rattle.run_facts.specs.CellLocations.{location_in, location_of}
+use Rattle.run_facts.specs.Counting.{Counts}
 use Rattle.run_facts.specs.Effects.{Touch}
 use Rattle.run_facts.specs.KeptCells.{IsSameCell, KeepsRest, Leads}
 use Rattle.run_facts.proofs.Blocks.{get_more}
@@ -37,7 +38,7 @@ use Rattle.run_facts.proofs.KeptStates.{steps_keep_the_rest}
 use Rattle.run_facts.proofs.Points.{sound_run}
 use Rattle.run_facts.proofs.Statements.{bodies}
 use Rattle.run_facts.proofs.TypedRuns.{typed_run}
-use Rattle.simulation.specs.Renaming.{World, Stands, AlikeCell, cell_at, Names, BlocksStand, Counts, AlikeAt}
+use Rattle.simulation.specs.Renaming.{World, Stands, AlikeCell, cell_at, Names, BlocksStand, AlikeAt}
 use Rattle.simulation.specs.Settings.{seen}
 use Rattle.simulation_steps.proofs.AlikeOn.{old_block}
 use Rattle.simulation_steps.proofs.KeptOutlines.{steps_keep_outlines}

@@ -21,8 +21,9 @@ use Rattle.dep_model.specs.VertexOrder.{statement_kills, kind_uses}
 use Rattle.dep_model.proofs.Membership.{IsIn, in_of_contains, contains_of_in}
 use Rattle.simulation.specs.Agreeing.{Agree}
 use Rattle.simulation.specs.Premises.{Performed}
-use Rattle.simulation.specs.Renaming.{World, AlikeValue, number, null, pointer, cell_at, Names, Counts, AlikeAt}
+use Rattle.simulation.specs.Renaming.{World, AlikeValue, number, null, pointer, cell_at, Names, AlikeAt}
 use Rattle.run_facts.specs.CellLocations.{location_in, location_of}
+use Rattle.run_facts.specs.Counting.{Counts}
 use Rattle.run_facts.specs.Effects.{Touch}
 use Rattle.run_facts.specs.Effects as effects
 use Rattle.run_facts.specs.ReadCells.{act_read, reads_input}

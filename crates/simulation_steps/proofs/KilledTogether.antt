@@ -19,11 +19,12 @@ use Rattle.dep_model.specs.DoingEffects.{the_input, result_of, is_global, is_tak
 use Rattle.dep_model.specs.ModRef.{is_outside, is_outside_root}
 use Rattle.dep_model.proofs.Membership.{IsIn}
 use Rattle.run_facts.specs.CellLocations.{location_in, location_of}
+use Rattle.run_facts.specs.Counting.{Counts}
 use Rattle.run_facts.specs.Effects.{Touch, storing}
 use Rattle.run_facts.proofs.Blocks.{AreNamed}
 use Rattle.run_facts.proofs.KeptMemories.{stored_live}
 use Rattle.run_facts.proofs.KilledNames.{same_variable}
-use Rattle.simulation.specs.Renaming.{World, cell_at, Names, BlocksStand, Counts, AlikeAt}
+use Rattle.simulation.specs.Renaming.{World, cell_at, Names, BlocksStand, AlikeAt}
 use Rattle.simulation_steps.specs.OwnGlobals.{HasOwnGlobals}
 use Rattle.simulation_steps.proofs.GlobalBlocks.{one_each}
 use Rattle.simulation_steps.proofs.Outcomes.{AlikeMade, CellsStand}

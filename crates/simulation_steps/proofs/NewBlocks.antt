@@ -14,9 +14,10 @@ use Rattle.c_meaning.specs.Values.{Origin, State, whole, bound}
 use Rattle.c_meaning.proofs.Frames.{get_last}
 use Rattle.dep_model.specs.declared.location.Location.{Location}
 use Rattle.run_facts.specs.CellLocations.{location_in, location_of}
+use Rattle.run_facts.specs.Counting.{Counts}
 use Rattle.run_facts.proofs.Blocks.{get_more}
 use Rattle.run_facts.proofs.KeptMemories.{new_keeps}
-use Rattle.simulation.specs.Renaming.{World, Stands, AlikeCell, empty, cell_at, Names, SameOrigin, StandsForOne, BlocksStand, BothStand, both, FramesStand, Counts, AlikeAt}
+use Rattle.simulation.specs.Renaming.{World, Stands, AlikeCell, empty, cell_at, Names, SameOrigin, StandsForOne, BlocksStand, BothStand, both, FramesStand, AlikeAt}
 use Rattle.simulation.proofs.GrownWorlds.{world_same, world_on, world_more, grown_stands, grown_cell, grown_both}
 use Rattle.simulation_places.specs.Counterparts.{AreApart}
 use Rattle.simulation_steps.proofs.AlikeOn.{old_block}

@@ -14,7 +14,8 @@ use Rattle.dep_model.specs.declared.location.Location.{Location}
 use Rattle.dep_model.specs.declared.location.Root.TheVariants.{Variable}
 use Rattle.dep_model.specs.DoingEffects.{the_input}
 use Rattle.projection.specs.Kept.{chosen}
-use Rattle.simulation.specs.Renaming.{World, AlikeValue, AlikeCell, empty, Names, of_variable, BothStand, Counts, AlikeAt}
+use Rattle.run_facts.specs.Counting.{Counts}
+use Rattle.simulation.specs.Renaming.{World, AlikeValue, AlikeCell, empty, Names, of_variable, BothStand, AlikeAt}
 use Rattle.simulation.proofs.GrownWorlds.{world_same, world_more, grown_value}
 use Rattle.simulation_places.specs.Counterparts.{AreApart}
 use Rattle.simulation_steps.proofs.AlikeOn.{Leaves, alike_on}

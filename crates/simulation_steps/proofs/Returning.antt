@@ -30,6 +30,7 @@ use Rattle.dep_model.proofs.StructOrder.{well_formed_in_order}
 use Rattle.projection.specs.Kept.{chosen}
 use Rattle.projection.specs.Renumbering.{renamed_target}
 use Rattle.run_facts.specs.CellLocations.{location_of}
+use Rattle.run_facts.specs.Counting.{Counts}
 use Rattle.run_facts.specs.Effects.{Touch, storing}
 use Rattle.run_facts.specs.KeptCells.{IsSameCell, Leads}
 use Rattle.run_facts.specs.NextSteps.{Ends, next_of, stores}
@@ -46,7 +47,7 @@ use Rattle.run_facts.proofs.Points.{Waits, IsSound, sound_run}
 use Rattle.run_facts.proofs.Statements.{bodies}
 use Rattle.run_facts.proofs.TypedRuns.{typed_run}
 use Rattle.simulation.specs.Places.{kept_target}
-use Rattle.simulation.specs.Renaming.{World, Stands, AlikeCell, cell_at, Names, BlocksStand, Counts, AlikeAt}
+use Rattle.simulation.specs.Renaming.{World, Stands, AlikeCell, cell_at, Names, BlocksStand, AlikeAt}
 use Rattle.simulation.specs.Settings.{ResultOut, Setting, Reached, seen}
 use Rattle.simulation.specs.Agreeing.{Agree, CallersAgree}
 use Rattle.simulation.specs.Premises.{back, back_there, Stored, Dropped, Returning}

@@ -12,11 +12,12 @@ use Rattle.dep_model.specs.SystemGraph.{Analysis}
 use Rattle.dep_model.specs.ModRef.{is_outside}
 use Rattle.dep_model.proofs.Membership.{contains_of_in, in_map}
 use Rattle.run_facts.specs.CellLocations.{location_in, location_of}
+use Rattle.run_facts.specs.Counting.{Counts}
 use Rattle.run_facts.specs.Effects.{holding}
 use Rattle.run_facts.specs.Touching.{IsTouched}
 use Rattle.run_facts.proofs.Blocks.{Grows, get_grown}
 use Rattle.run_facts.proofs.Members.{all_from}
-use Rattle.simulation.specs.Renaming.{World, Stands, AlikeValue, cell_at, Names, BlocksStand, Counts, AlikeAt}
+use Rattle.simulation.specs.Renaming.{World, Stands, AlikeValue, cell_at, Names, BlocksStand, AlikeAt}
 use Rattle.simulation_steps.proofs.AlikeOn.{old_block}
 use Rattle.simulation_steps.proofs.Outcomes.{ComesToo, undefined, HoldsAlike, HoldAlike}
 use Rattle.simulation_steps.proofs.StandingObjects.{of_cell}

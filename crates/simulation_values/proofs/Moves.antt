@@ -10,9 +10,10 @@ use Rattle.c_meaning.proofs.Origins.{blocks_have_origins}
 use Rattle.dep_model.specs.declared.location.Location.{Location}
 use Rattle.dep_model.specs.ModRef.{is_outside}
 use Rattle.simulation.specs.Agreeing.{Agree, Together}
+use Rattle.run_facts.specs.Counting.{Counts}
 use Rattle.run_facts.specs.NextSteps.{Next, Ends, Passes, Does, Calls, next_of}
 use Rattle.simulation.specs.Premises.{Moving}
-use Rattle.simulation.specs.Renaming.{World, FramesStand, AlikeAt, Counts}
+use Rattle.simulation.specs.Renaming.{World, FramesStand, AlikeAt}
 use Rattle.simulation.specs.Settings.{Setting}
 use Rattle.simulation_places.specs.Counterparts.{names_of}
 use Rattle.simulation_places.specs.ProjectedCode.{renamed_all, project_code, keeps_move}
