@@ -5,7 +5,7 @@ use Rattle.dep_model.specs.declared.skeleton.Pair.{Pair}
 use Rattle.dep_model.specs.Follows.{Chain, last, more}
 use Rattle.dep_model.specs.Pairs.{pair}
 use Rattle.dep_model.proofs.Membership.{IsIn, in_map}
-use Rattle.listed_graphs.proofs.Growth.{search, IsNew, Grown, grow}
+use Rattle.listed_graphs.proofs.Growth.{search, IsNew, grow}
 
 abbrev pub same : ℕ → ℕ → Bool
 same a b = a == b

@@ -1,6 +1,6 @@
 -- A set of the vertices of a well-formed program's graph has its completion.
-use Rattle.std.proofs.Common.{◌≡◌, ◌↔◌, ℕ, ◌<◌, inl, inr, List, ◌++◌, map, length, get_or, Bool, Some, refl, sym, subst}
-use Rattle.std.specs.Prelude.{Contains, All, slice_get}
+use Rattle.std.proofs.Common.{◌≡◌, ℕ, ◌<◌, inl, inr, List, ◌++◌, map, length, get_or, Bool, refl, sym, subst}
+use Rattle.std.specs.Prelude.{Contains, All}
 use Rattle.std.proofs.lemmas.List.Elements.{Contains-append_cases, Contains-get_or}
 use Rattle.std.proofs.lemmas.Option.{slice_get_within}
 use Rattle.c_tree.specs.declared.program.Function.{Function}
@@ -25,7 +25,7 @@ use Rattle.numbered_texts.proofs.HavingMain.{has_main}
 use Rattle.shaped_graphs.proofs.KindLaws.{entry_there}
 use Rattle.shaped_graphs.proofs.VertexLaws.{vertex_of}
 use Rattle.listed_graphs.proofs.NamedParameters.{names, names_are, name_within}
-use Rattle.listed_graphs.proofs.SystemEdges.{IsWithin, edge_within}
+use Rattle.listed_graphs.proofs.SystemEdges.{edge_within}
 
 all_of : {A : Type 0} (P : A → Type 0) (xs : List A) → ((x : A) → Contains xs x → P x) → All P xs
 all_of P xs h = λ i d lt. h (get_or xs i d) (Contains-get_or xs i d lt)

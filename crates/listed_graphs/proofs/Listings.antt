@@ -1,9 +1,9 @@
 -- Lists of exactly the things that have a property, put together from smaller ones.
 use Rattle.std.proofs.Common.{◌≡◌, ◌↔◌, ℕ, zero, suc, ◌<◌, ◌⊎◌, inl, inr, List, [], ◌∷◌, ◌++◌, map, length, Some, refl, sym, ◌∙◌, subst, arith}
 use Rattle.std.specs.Prelude.{slice_get}
-use Rattle.std.proofs.lemmas.Bool.{cases_eq, cases_lt}
+use Rattle.std.proofs.lemmas.Bool.{cases_eq}
 use Rattle.std.proofs.lemmas.Option.{same_Some}
-use Rattle.dep_model.proofs.Membership.{IsIn, in_first, in_second, in_either, in_map, of_map}
+use Rattle.dep_model.proofs.Membership.{IsIn, in_first, in_second, in_either, in_map}
 
 -- a list of exactly the things with a property
 pub record Listing {A : Type 0} (P : A → Type 0) : Type 0 where

@@ -1,6 +1,6 @@
 -- Which vertex names which parameter can be listed, as rules of a closure.
-use Rattle.std.proofs.Common.{◌≡◌, ◌↔◌, ℕ, ◌<◌, ◌⊎◌, inl, inr, List, length, Bool, true, false, Some, refl, sym, ap, ◌∙◌, subst}
-use Rattle.std.specs.Prelude.{Contains, slice_get}
+use Rattle.std.proofs.Common.{◌≡◌, ℕ, ◌<◌, ◌⊎◌, inl, inr, List, length, Bool, true, refl, sym, ◌∙◌, subst}
+use Rattle.std.specs.Prelude.{Contains}
 use Rattle.std.proofs.lemmas.Bool.{cases_Bool, false≢true}
 use Rattle.std.proofs.lemmas.Option.{slice_get_within}
 use Rattle.c_tree.specs.declared.program.Program.{Program}
@@ -14,7 +14,7 @@ use Rattle.dep_model.specs.NamedParameters.{NamesParameter, kind_names}
 use Rattle.dep_model.specs.SystemGraph.{IsVertex}
 use Rattle.dep_model.specs.VertexOrder.{in_function}
 use Rattle.dep_model.proofs.CompletionLemmas.{AreNames}
-use Rattle.dep_model.proofs.Membership.{IsIn, in_of_contains, contains_of_in}
+use Rattle.dep_model.proofs.Membership.{in_of_contains, contains_of_in}
 use Rattle.sdg.proofs.KindTests.{same_kind, is_formal_in_of}
 use Rattle.listed_graphs.proofs.CallEdges.{is_or_not}
 use Rattle.listed_graphs.proofs.Listings.{Listing, At, at_place, below, where_so, only}

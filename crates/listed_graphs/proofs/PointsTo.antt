@@ -1,19 +1,18 @@
 -- A well-formed program has a points-to relation: pairs of its locations are added as pointings give them, until none gives another.
-use Rattle.std.proofs.Common.{◌≡◌, ℕ, zero, suc, ◌<◌, ◌⊎◌, inl, inr, List, [], ◌∷◌, map, Bool, true, false, ◌&&◌, length, Some, sym, ap, ◌∙◌, subst, arith}
-use Rattle.std.specs.Prelude.{Contains, slice_get}
+use Rattle.std.proofs.Common.{◌≡◌, ℕ, zero, suc, ◌<◌, ◌⊎◌, inl, inr, List, [], ◌∷◌, map, Bool, true, false, ◌&&◌, length, ap, ◌∙◌, subst, arith}
+use Rattle.std.specs.Prelude.{slice_get}
 use Rattle.std.specs.List.{list_any}
 use Rattle.std.specs.Option.{option_map_or}
 use Rattle.std.proofs.lemmas.Bool.{cases_Bool, and_from, and_parts, or_left, or_right}
 use Rattle.c_tree.specs.declared.program.Function.{Function}
 use Rattle.c_tree.specs.declared.program.Item.{Item}
 use Rattle.c_tree.specs.declared.program.Program.{Program}
-use Rattle.c_language.specs.Programs.{IsWellFormed}
 use Rattle.dep_model.specs.declared.location.Location.{Location}
 use Rattle.dep_model.specs.Denoted.{TargetsOf, is_location}
 use Rattle.dep_model.specs.Doings.{Doing, body_doings, doings_of}
 use Rattle.dep_model.specs.ListedLocations.{IsListed}
 use Rattle.dep_model.specs.Locations.{TypedLocation, locations, same_location}
-use Rattle.dep_model.specs.MayPoint.{Pointing, doing_pointings, item_pointings, IsPointing, of_statement, of_global, MayPoint, IsPointsTo}
+use Rattle.dep_model.specs.MayPoint.{Pointing, doing_pointings, item_pointings, IsPointing, of_statement, of_global, MayPoint}
 use Rattle.dep_model.proofs.Membership.{IsIn, in_of_contains, contains_of_in}
 use Rattle.effect_rows.proofs.PlaceRows.{location_is, location_itself}
 use Rattle.numbered_texts.proofs.Listed.{location_listed}

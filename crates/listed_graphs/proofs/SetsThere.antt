@@ -1,5 +1,5 @@
 -- What reaches a set of a program's vertices is a set, and each set has its completion.
-use Rattle.std.proofs.Common.{ℕ, ◌<◌, List}
+use Rattle.std.proofs.Common.{◌<◌, List}
 use Rattle.std.specs.Prelude.{length}
 use Rattle.c_tree.specs.declared.program.Program.{Program}
 use Rattle.dep_model.specs.declared.edge.Edge.{Edge}
