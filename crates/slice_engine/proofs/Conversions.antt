@@ -1,12 +1,12 @@
 -- What is converted in a run fits: a value of integer type is a number, which each type takes, and a pointer is converted to a pointer type.
-use Rattle.std.proofs.Common.{◌≡◌, ℕ, ℤ, pos, zero, suc, ◌⊎◌, inl, inr, List, [], ◌∷◌, ◌++◌, map, Bool, true, false, ◌&&◌, ◌||◌, Option, Some, None, refl, sym, ap, ◌∙◌, subst}
-use Rattle.std.specs.Prelude.{if◌then◌else◌, is_some, option_map, option_and_then, slice_get, Contains, not, nat_lt, length}
+use Rattle.std.proofs.Common.{◌≡◌, ℕ, ℤ, pos, ◌⊎◌, inl, inr, List, [], ◌∷◌, ◌++◌, map, Bool, true, false, ◌&&◌, ◌||◌, Option, Some, None, refl, sym, ap, ◌∙◌, subst}
+use Rattle.std.specs.Prelude.{if◌then◌else◌, is_some, option_map, option_and_then, Contains, not, nat_lt, length}
 use Rattle.std.specs.List.{list_all}
 use Rattle.std.specs.Option.{option_map_or, option_or}
-use Rattle.std.proofs.lemmas.Bool.{cases_Bool, false≢true, and_parts, or_left, or_right, or_cases}
+use Rattle.std.proofs.lemmas.Bool.{false≢true, and_parts, or_left, or_right, or_cases}
 use Rattle.c_tree.specs.declared.expr.Expr.{Expr, map-Expr, roll-Expr, out-Expr, fold-roll-Expr}
 use Rattle.c_tree.specs.declared.expr.Expr.TheOpen.{Expr-F}
-use Rattle.c_tree.specs.declared.expr.Expr.TheViews.{out-roll-Expr, roll-out-Expr}
+use Rattle.c_tree.specs.declared.expr.Expr.TheViews.{roll-out-Expr}
 use Rattle.c_tree.specs.declared.program.Function.{Function}
 use Rattle.c_tree.specs.declared.program.Init.{Init}
 use Rattle.c_tree.specs.declared.program.Init.TheVariants as init
@@ -25,7 +25,6 @@ use Rattle.c_language.specs.ConstantEvaluation.{operand_type}
 use Rattle.c_language.specs.DeclaredTypes.{integer}
 use Rattle.c_language.specs.ExprRules.{holds_of}
 use Rattle.c_language.specs.ExprTypes.{a_value, a_place, given, value_type, integer_of, is_integer, is_pointer, is_scalar, target_of, is_object_pointer, object_of, same_type, are_alike, is_assignable, common_result, chosen_result, choose_result, cast_result, unary_result, binary_result, logical_result, pointed, indexed, address_result}
-use Rattle.c_language.specs.Programs.{IsWellFormed}
 use Rattle.c_language.specs.TreeTypes.{shape_of, typing_of, type_of_variable, int_type, tree_type_step}
 use Rattle.c_language.specs.declared.expr_type.ExprType.{ExprType}
 use Rattle.c_language.specs.declared.expr_type.Layer.{Layer}
@@ -38,15 +37,15 @@ use Rattle.c_meaning.specs.declared.value.Value.{Value}
 use Rattle.c_meaning.specs.declared.value.Value.TheVariants.{Number, Null, To}
 use Rattle.c_meaning.specs.Activations.{executable, types_in, result_at}
 use Rattle.c_meaning.specs.Acts.{right_of, bumped, bump, next_byte, next_block}
-use Rattle.c_meaning.specs.Steps.{Point, Reaches, Waiting, machine, beginning}
-use Rattle.c_meaning.specs.Values.{Types, State, Meant, meant, meant_step, as_type, pointer_as, number_in, at_numbers, at_operands, converted_binary, binary_value, type_of, eval}
+use Rattle.c_meaning.specs.Steps.{Point, Waiting}
+use Rattle.c_meaning.specs.Values.{Types, State, Meant, meant_step, as_type, pointer_as, number_in, at_numbers, at_operands, converted_binary, type_of, eval}
 use Rattle.dep_model.specs.Denoted.{Places, TargetsOf, expr_points}
 use Rattle.dep_model.specs.Designated.{Designated, designated, designated_step, is_array_place, value_takes, takes_either, an_element, a_place as seen_place}
-use Rattle.dep_model.specs.Doings.{Doing, Does, Calls, doings_of}
-use Rattle.dep_model.specs.DoingEffects.{expr_takes, left_takes, act_takes, result_of, any_takes, doing_takes, is_taken, target_takes, amount_takes}
+use Rattle.dep_model.specs.Doings.{Doing, Does, Calls}
+use Rattle.dep_model.specs.DoingEffects.{expr_takes, left_takes, act_takes, result_of, any_takes, doing_takes, is_taken, target_takes}
 use Rattle.dep_model.specs.LocationLists.{AreStructsInOrder}
 use Rattle.dep_model.specs.MayPoint.{IsPointsTo, parameters}
-use Rattle.dep_model.proofs.Membership.{IsIn, in_of_contains, contains_of_in, in_either, of_map}
+use Rattle.dep_model.proofs.Membership.{IsIn, in_of_contains, contains_of_in, in_either}
 use Rattle.dep_model.proofs.StructOrder.{well_formed_in_order}
 use Rattle.listed_graphs.proofs.PointsTo.{has_points_to}
 use Rattle.run_facts.specs.DenotedCells.{AreTaken}
