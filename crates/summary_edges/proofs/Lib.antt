@@ -9,3 +9,5 @@ pub mod SeriesLaws
 pub mod RoundLaws
 pub mod AgendaLaws
 pub mod Numbers
+pub mod FactBits
+pub mod FactMachineLaws

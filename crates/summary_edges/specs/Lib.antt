@@ -5,3 +5,6 @@ pub mod FunctionParts
 pub mod Laws
 pub mod Rounds
 pub mod Steps
+pub mod FactMachine
+pub mod FactMachineLaws
+pub mod StepTruth

@@ -9,11 +9,16 @@
 mod agenda;
 mod exit_rows;
 mod fact_index;
+mod fact_truth;
 mod function_parts;
 mod laws;
 mod rounds;
 mod step;
 
 pub use agenda::next_agenda;
-pub use laws::{only_true_where_none_is_due, others_are_settled, rounds_are_few};
+pub use fact_truth::FactTruth;
+pub use laws::{
+    boards_show_facts, facts_never_shrink, facts_stay_true, only_true_where_none_is_due,
+    others_are_settled, rounds_are_few, series_are_few, whole_rounds_are_exact,
+};
 pub use rounds::find;
