@@ -13,7 +13,7 @@ use Rattle.dep_model.specs.ModRef.{is_outside}
 use Rattle.dep_model.proofs.Membership.{contains_of_in}
 use Rattle.run_facts.specs.NextSteps.{Ends, next_of}
 use Rattle.simulation.specs.Renaming.{World, Names, StandsForOne, BlocksStand, AlikeAt}
-use Rattle.simulation.specs.Settings.{Setting}
+use Rattle.simulation.specs.Settings.{Calling, Setting, Reached}
 use Rattle.simulation.specs.Agreeing.{Agree}
 use Rattle.simulation.specs.Premises.{Resumed}
 use Rattle.simulation.proofs.Stacks.{head_of}
@@ -63,19 +63,18 @@ module _ (pair : SlicePair) (holds : ℕ → Type 0) where
   s = setting_over pair holds
 
   -- the function of a kept call that runs is kept
-  pub callee_kept : (w : World) (x y : Point) (b : Waiting) (ws : List Waiting) → Agree s w x y → x.callers ≡ b ∷ ws → pair.kept.function x.function ≡ true
-  callee_kept w x y b ws agree e =
-      let head = head_of s w x.function x.callers b ws y.callers x.state y.state e agree.stack in
-      let calls = waiting_calls pair.original pair.analysis pair.vertices (twin_of pair) holds x [] b ws agree.reached e in
+  pub callee_kept : (x : Point) (b : Waiting) (ws : List Waiting) → Reached s x → x.callers ≡ b ∷ ws → s.kept (Calling b.function b.call x.function) ≡ true → pair.kept.function x.function ≡ true
+  callee_kept x b ws reached e kept_call =
+      let calls = waiting_calls pair.original pair.analysis pair.vertices (twin_of pair) holds x [] b ws reached e in
       let member = contains_of_in (doings_of pair.original b.function) (Calls b.call b.target x.function calls.args) calls.calls in
-      pair.projected.callees b.function b.call x.function b.target calls.args member (pair.projected.calls b.function b.call x.function b.target calls.args member ∙ head.waits.kept_call)
+      pair.projected.callees b.function b.call x.function b.target calls.args member (pair.projected.calls b.function b.call x.function b.target calls.args member ∙ kept_call)
 
   pub resumed_both : (w : World) (x y : Point) (b d : Waiting) (ws us : List Waiting) → Agree s w x y → next_of x.rest ≡ Ends → x.callers ≡ b ∷ ws → y.callers ≡ d ∷ us → Resumed s w x y b d ws
   resumed_both w x y b d ws us agree ends e j =
       let names = names_of pair.kept pair.new in
       let xs = variables_at (executable pair.original) x.function in
       let ys = variables_at (executable pair.slice) y.function in
-      let kept_there = among_variables pair.original pair.slice pair.analysis pair.kept pair.new pair.vertices pair.calls x.function (callee_kept w x y b ws agree e) in
+      let kept_there = among_variables pair.original pair.slice pair.analysis pair.kept pair.new pair.vertices pair.calls x.function (callee_kept x b ws agree.reached e (head_of s w x.function x.callers b ws y.callers x.state y.state e agree.stack).waits.kept_call) in
       let among : AreAmong names xs ys = subst (λ g. AreAmong names xs (variables_at (executable pair.slice) g)) (sym agree.function_is) kept_there in
       let closed = alike_closed names w x.state y.state xs ys among agree.frames (is_outside pair.original) in
       record {

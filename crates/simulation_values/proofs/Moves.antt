@@ -9,12 +9,12 @@ use Rattle.c_meaning.specs.Values.{Types, State, variable_opened, variable_close
 use Rattle.c_meaning.proofs.Origins.{blocks_have_origins}
 use Rattle.dep_model.specs.declared.location.Location.{Location}
 use Rattle.dep_model.specs.ModRef.{is_outside}
-use Rattle.simulation.specs.Agreeing.{Agree, Together}
+use Rattle.simulation.specs.Agreeing.{Together}
 use Rattle.run_facts.specs.Counting.{Counts}
 use Rattle.run_facts.specs.NextSteps.{Next, Ends, Passes, Does, Calls, next_of}
 use Rattle.simulation.specs.Premises.{Moving}
-use Rattle.simulation.specs.Renaming.{World, FramesStand, AlikeAt}
-use Rattle.simulation.specs.Settings.{Setting}
+use Rattle.simulation.specs.Renaming.{World, BlocksStand, FramesStand, AlikeAt}
+use Rattle.simulation.specs.Settings.{Setting, Reached, ReachedThere}
 use Rattle.simulation_places.specs.Counterparts.{names_of}
 use Rattle.simulation_places.specs.ProjectedCode.{renamed_all, project_code, keeps_move}
 use Rattle.simulation_places.proofs.Projecting.{leaves_kept}
@@ -60,15 +60,20 @@ module _ (pair : SlicePair) (holds : ℕ → Type 0) where
   GoTogether w x y change there =
       Together s w x.function x.callers (λ l. false) x.state y.state (change (types_in (executable pair.original) x.function) x.state) (there (types_in (executable pair.slice) y.function) y.state)
 
+  -- blocks stand for blocks, and those of variables for those of the same variables
+  record Stand (w : World) (x y : Point) : Type 0 where
+    blocks : BlocksStand (names_of pair.kept pair.new) w x.state y.state
+    frames : FramesStand (names_of pair.kept pair.new) w x.state.frame y.state.frame
+
   -- ---- a variable begins
 
-  begin : (w : World) (x y : Point) (z : ℕ) → Agree s w x y → pair.kept.variable z ≡ true → GoTogether w x y (λ types m. variable_opened types z m) (λ types m. variable_opened types (pair.new.variable z) m)
-  begin w x y z h stays =
+  begin : (w : World) (x y : Point) (z : ℕ) → Reached s x → ReachedThere s y → Stand w x y → pair.kept.variable z ≡ true → GoTogether w x y (λ types m. variable_opened types z m) (λ types m. variable_opened types (pair.new.variable z) m)
+  begin w x y z reached reached_there h stays =
       let types = types_in (executable pair.original) x.function in
       let there = types_in (executable pair.slice) y.function in
       let begun = variables_begin_together (names_of pair.kept pair.new) outside w types there z x.state y.state (record {
-        tracked = blocks_have_origins pair.original pair.input x h.reached;
-        tracked_there = blocks_have_origins pair.slice pair.input y h.reached_there;
+        tracked = blocks_have_origins pair.original pair.input x reached;
+        tracked_there = blocks_have_origins pair.slice pair.input y reached_there;
         blocks = h.blocks;
         frames = h.frames;
         stays = stays;
@@ -105,7 +110,7 @@ module _ (pair : SlicePair) (holds : ℕ → Type 0) where
       let g = alike_closed (names_of pair.kept pair.new) w m n xs ys (are_among pair.kept pair.new xs) frames outside here.frame there.frame m.returned n.returned l (fewer_named w l m n here.frame there.frame (closed_frame xs m) h) in
       subst (λ r. AlikeAt outside w l (viewed here.frame r here) there) (sym (closed_returned xs m)) (subst (λ r. AlikeAt outside w l (viewed here.frame m.returned here) (viewed there.frame r there)) (sym (closed_returned ys n)) g)
 
-  go : (w : World) (x y : Point) (xs : List ℕ) → Agree s w x y → GoTogether w x y (λ types m. all_closed xs m) (λ types m. all_closed (renamed_all pair.kept pair.new xs) m)
+  go : (w : World) (x y : Point) (xs : List ℕ) → Stand w x y → GoTogether w x y (λ types m. all_closed xs m) (λ types m. all_closed (renamed_all pair.kept pair.new xs) m)
   go w x y xs h =
       let m = x.state in
       let n = y.state in
@@ -121,18 +126,18 @@ module _ (pair : SlicePair) (holds : ℕ → Type 0) where
 
   -- ---- a move, by what comes next
 
-  by_code : (w : World) (x y : Point) (e : Code) (change there : Change) (r d : Code) → Agree s w x y → next_of e ≡ Passes change r → keeps_move pair.kept e ≡ true → next_of (project_code pair.kept pair.new e) ≡ Passes there d → GoTogether w x y change there
-  by_code w x y End change there r d h is moves is_there = absurd (false≢true moves)
-  by_code w x y (Opens z f) change there r d h is moves is_there =
+  by_code : (w : World) (x y : Point) (e : Code) (change there : Change) (r d : Code) → Reached s x → ReachedThere s y → Stand w x y → next_of e ≡ Passes change r → keeps_move pair.kept e ≡ true → next_of (project_code pair.kept pair.new e) ≡ Passes there d → GoTogether w x y change there
+  by_code w x y End change there r d reached reached_there h is moves is_there = absurd (false≢true moves)
+  by_code w x y (Opens z f) change there r d reached reached_there h is moves is_there =
       subst (λ (g : Change). GoTogether w x y g there) (ap change_of is)
-      (subst (λ (g : Change). GoTogether w x y (λ types m. variable_opened types z m) g) (ap change_of (sym (ap (λ b. next_of (either b (Opens (pair.new.variable z) (project_code pair.kept pair.new f)) (project_code pair.kept pair.new f))) moves) ∙ is_there)) (begin w x y z h moves))
-  by_code w x y (Plain i act f) change there r d h is moves is_there = absurd (false≢true moves)
-  by_code w x y (Fork i e f g) change there r d h is moves is_there = absurd (false≢true moves)
-  by_code w x y (Loop i e f g) change there r d h is moves is_there = absurd (false≢true moves)
-  by_code w x y (Leaves xs f) change there r d h is moves is_there =
+      (subst (λ (g : Change). GoTogether w x y (λ types m. variable_opened types z m) g) (ap change_of (sym (ap (λ b. next_of (either b (Opens (pair.new.variable z) (project_code pair.kept pair.new f)) (project_code pair.kept pair.new f))) moves) ∙ is_there)) (begin w x y z reached reached_there h moves))
+  by_code w x y (Plain i act f) change there r d reached reached_there h is moves is_there = absurd (false≢true moves)
+  by_code w x y (Fork i e f g) change there r d reached reached_there h is moves is_there = absurd (false≢true moves)
+  by_code w x y (Loop i e f g) change there r d reached reached_there h is moves is_there = absurd (false≢true moves)
+  by_code w x y (Leaves xs f) change there r d reached reached_there h is moves is_there =
       subst (λ (g : Change). GoTogether w x y g there) (ap change_of is)
       (subst (λ (g : Change). GoTogether w x y (λ types m. all_closed xs m) g) (ap change_of (sym (ap next_of (leaves_kept pair.kept pair.new xs (project_code pair.kept pair.new f) moves)) ∙ is_there)) (go w x y xs h))
-  by_code w x y (Call i to g args f) change there r d h is moves is_there = absurd (false≢true moves)
+  by_code w x y (Call i to g args f) change there r d reached reached_there h is moves is_there = absurd (false≢true moves)
 
   -- ---- a move of the original alone
 
@@ -142,30 +147,30 @@ module _ (pair : SlicePair) (holds : ℕ → Type 0) where
   abbrev AloneAlike : World → Point → Point → Location → Change → Type 0
   AloneAlike w x y l change = AlikeAt outside w l (change (types_in (executable pair.original) x.function) x.state) y.state
 
-  frames_by_code : (w : World) (x y : Point) (e : Code) (change : Change) (r : Code) → Agree s w x y → next_of e ≡ Passes change r → keeps_move pair.kept e ≡ false → AloneFrames w x y change
+  frames_by_code : (w : World) (x y : Point) (e : Code) (change : Change) (r : Code) → FramesStand (names_of pair.kept pair.new) w x.state.frame y.state.frame → next_of e ≡ Passes change r → keeps_move pair.kept e ≡ false → AloneFrames w x y change
   frames_by_code w x y End change r h is stays = cc
   frames_by_code w x y (Opens z f) change r h is stays =
-      subst (λ (g : Change). AloneFrames w x y g) (ap change_of is) (frames_alone (names_of pair.kept pair.new) w z (Some (length x.state.memory.blocks)) x.state.frame y.state.frame stays h.frames)
+      subst (λ (g : Change). AloneFrames w x y g) (ap change_of is) (frames_alone (names_of pair.kept pair.new) w z (Some (length x.state.memory.blocks)) x.state.frame y.state.frame stays h)
   frames_by_code w x y (Plain i act f) change r h is stays = cc
   frames_by_code w x y (Fork i e f g) change r h is stays = cc
   frames_by_code w x y (Loop i e f g) change r h is stays = cc
-  frames_by_code w x y (Leaves xs f) change r h is stays = subst (λ (g : Change). AloneFrames w x y g) (ap change_of is) (frames_close_alone pair.kept pair.new pair.apart w xs x.state y.state stays h.frames)
+  frames_by_code w x y (Leaves xs f) change r h is stays = subst (λ (g : Change). AloneFrames w x y g) (ap change_of is) (frames_close_alone pair.kept pair.new pair.apart w xs x.state y.state stays h)
   frames_by_code w x y (Call i to g args f) change r h is stays = cc
 
-  alike_by_code : (w : World) (x y : Point) (l : Location) (e : Code) (change : Change) (r : Code) → Agree s w x y → next_of e ≡ Passes change r → AlikeAt outside w l x.state y.state → AloneAlike w x y l change
+  alike_by_code : (w : World) (x y : Point) (l : Location) (e : Code) (change : Change) (r : Code) → BlocksStand (names_of pair.kept pair.new) w x.state y.state → next_of e ≡ Passes change r → AlikeAt outside w l x.state y.state → AloneAlike w x y l change
   alike_by_code w x y l End change r h is same = cc
   alike_by_code w x y l (Opens z f) change r h is same =
-      subst (λ (g : Change). AloneAlike w x y l g) (ap change_of is) ((moves_leave_alike (names_of pair.kept pair.new) outside w (types_in (executable pair.original) x.function) x.state y.state l h.blocks same).0 z)
+      subst (λ (g : Change). AloneAlike w x y l g) (ap change_of is) ((moves_leave_alike (names_of pair.kept pair.new) outside w (types_in (executable pair.original) x.function) x.state y.state l h same).0 z)
   alike_by_code w x y l (Plain i act f) change r h is same = cc
   alike_by_code w x y l (Fork i e f g) change r h is same = cc
   alike_by_code w x y l (Loop i e f g) change r h is same = cc
   alike_by_code w x y l (Leaves xs f) change r h is same =
-      subst (λ (g : Change). AloneAlike w x y l g) (ap change_of is) ((moves_leave_alike (names_of pair.kept pair.new) outside w (types_in (executable pair.original) x.function) x.state y.state l h.blocks same).1 xs)
+      subst (λ (g : Change). AloneAlike w x y l g) (ap change_of is) ((moves_leave_alike (names_of pair.kept pair.new) outside w (types_in (executable pair.original) x.function) x.state y.state l h same).1 xs)
   alike_by_code w x y l (Call i to g args f) change r h is same = cc
 
   pub moving : Moving s
   moving = record {
-    both = λ w x y change there r d h is moves is_there. by_code w x y x.rest change there r d h is moves (sym (ap next_of h.rest_is) ∙ is_there);
-    alone_frames = λ w x y change r h is stays. frames_by_code w x y x.rest change r h is stays;
-    alone = λ w x y change r l h is stays wanted same. alike_by_code w x y l x.rest change r h is same;
+    both = λ w x y change there r d h is moves is_there. by_code w x y x.rest change there r d h.reached h.reached_there (record { blocks = h.blocks; frames = h.frames }) is moves (sym (ap next_of h.rest_is) ∙ is_there);
+    alone_frames = λ w x y change r h is stays. frames_by_code w x y x.rest change r h.frames is stays;
+    alone = λ w x y change r l h is stays wanted same. alike_by_code w x y l x.rest change r h.blocks is same;
   }
