@@ -64,3 +64,8 @@ pub mod PointedTypes
 pub mod TypedPairs
 mod LocationRows
 mod SmallPointers
+mod SmallTrees
+mod SmallEffects
+mod SmallTouches
+mod SmallVertices
+mod SmallPairs

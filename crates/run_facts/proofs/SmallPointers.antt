@@ -1,6 +1,9 @@
--- Small states, with the locations of pointers in them; and objects that the tests of types would keep out, which no text designates.
-use Rattle.std.proofs.Common.{◌≡◌, ℕ, List, [], ◌∷◌, Option, Some, None, true, false, refl}
+-- A small state with the locations of pointers in it (their pairs: `SmallPairs`); and what the tests of types keep out: objects, and three trees
+-- that no text has.
+use Rattle.std.proofs.Common.{◌≡◌, ℕ, List, [], ◌∷◌, ◌++◌, Option, Some, None, true, refl, ap, ap₂}
+use Rattle.std.specs.Prelude.{◌==◌, if◌then◌else◌, is_some}
 use Rattle.c_arith.specs.declared.int_type.IntType.TheVariants.{Char, Int}
+use Rattle.c_language.specs.Code.{Act, Sets}
 use Rattle.c_language.specs.DeclaredTypes.{integer, pointer_to, with_layer, of_base}
 use Rattle.c_language.specs.declared.expr_type.Base.TheVariants as base
 use Rattle.c_language.specs.declared.expr_type.Layer.TheVariants as layer
@@ -9,17 +12,19 @@ use Rattle.c_meaning.specs.declared.value.Hop.{Hop}
 use Rattle.c_meaning.specs.declared.value.Hop.TheVariants as hop
 use Rattle.c_meaning.specs.declared.value.Place.{Place}
 use Rattle.c_meaning.specs.declared.value.Pointer.{Pointer}
-use Rattle.c_meaning.specs.declared.value.Value.{Value}
 use Rattle.c_meaning.specs.declared.value.Value.TheVariants.{To}
-use Rattle.c_meaning.specs.Memory.{Entered, Allocated, Block, Memory, unwritten, array_of, gone}
+use Rattle.c_meaning.specs.Memory.{Entered, Allocated, Memory, unwritten, array_of, gone}
 use Rattle.c_meaning.specs.Pointers.{if_typed, designated}
-use Rattle.c_meaning.specs.Values.{OfVariable, OfStatement, State, owner_of, as_type}
+use Rattle.c_meaning.specs.Values.{Types, OfVariable, OfStatement, State, Meant, bound, owner_of, as_type, meant, meant_step}
+use Rattle.c_meaning.specs.Acts.{Made, assigned, writable, made}
+use Rattle.c_meaning.proofs.Small.{Small, Name, Star, Dot, tree}
 use Rattle.dep_model.specs.declared.location.Location.{Location}
 use Rattle.dep_model.specs.declared.location.Part.{Part}
 use Rattle.dep_model.specs.declared.location.Part.TheVariants as part
 use Rattle.dep_model.specs.declared.location.Root.TheVariants.{Variable, Site}
 use Rattle.run_facts.specs.PointerLocations.{pointer_location}
-use Rattle.run_facts.specs.UntestedMeanings.{pointed_by}
+use Rattle.run_facts.specs.UntestedMeanings.{pointed_by, untested, untested_step}
+use Rattle.run_facts.proofs.SmallTrees.{small, fold_tree}
 
 abbrev int : ExprType
 int = integer Int
@@ -46,7 +51,7 @@ state = record {
   frame = λ x. None;
   returned = None;
   memory = memory;
-  origins = OfVariable 0 ∷ OfVariable 1 ∷ OfVariable 2 ∷ OfVariable 3 ∷ OfStatement 7 ∷ OfVariable 9 ∷ [];
+  origins = OfVariable 0 ∷ OfVariable 1 ∷ OfVariable 2 ∷ OfVariable 3 ∷ OfStatement 7 ∷ OfVariable 7 ∷ [];
   unread = [];
 }
 
@@ -85,7 +90,7 @@ element_of_a_row = refl
 behind_the_last_of_malloc : pointer_location state (at 4 [] 2) ≡ Some (record { root = Site 7; path = [] })
 behind_the_last_of_malloc = refl
 
-block_that_is_gone : pointer_location state (at 5 [] 0) ≡ of_variable 9 []
+block_that_is_gone : pointer_location state (at 5 [] 0) ≡ of_variable 7 []
 block_that_is_gone = refl
 
 no_block : pointer_location state (at 6 [] 0) ≡ None
@@ -119,3 +124,66 @@ pointer_to_int = refl
 
 pointer_to_pointer : as_type (pointer_to int) (To (at 0 [] 0)) ≡ Some (To (at 0 [] 0))
 pointer_to_pointer = refl
+
+-- ---- three trees that no text has
+
+-- struct s t, as above, which is variable 2; int x, variable 0; and here char *c, variable 8, which a pointer to x is assigned to
+abbrev types : Types
+types = record {
+  typing = record {
+    variable = λ x. if x == 2 then of_base (base.Struct 0) else (if x == 8 then pointer_to (integer Char) else int);
+    member = λ m. int;
+  };
+  result = None;
+}
+
+abbrev with_c : State
+with_c = record state {
+  frame = bound (bound (bound (λ x. None) 0 (Some 0)) 2 (Some 2)) 8 (Some 6);
+  memory = record memory { blocks = memory.blocks ++ (record (unwritten structs (pointer_to (integer Char)) Entered) { cells = Some (To (at 0 [] 0)) ∷ [] }) ∷ [] };
+  origins = state.origins ++ OfVariable 8 ∷ [];
+}
+
+abbrev tested : Small → Meant
+tested = small (meant_step types)
+
+-- without the tests
+abbrev free : Small → Meant
+free = small (untested_step types)
+
+place_is : (a : Small) → (meant types (tree a)).place with_c ≡ (tested a).place with_c
+place_is a = ap (λ (m : Meant). m.place with_c) (fold_tree (meant_step types) a)
+
+free_place_is : (a : Small) → (untested types (tree a)).place with_c ≡ (free a).place with_c
+free_place_is a = ap (λ (m : Meant). m.place with_c) (fold_tree (untested_step types) a)
+
+-- *c, which would read x as a char
+pointer_at_another_type : (meant types (tree (Star (Name 8)))).place with_c ≡ None
+pointer_at_another_type = place_is (Star (Name 8))
+
+pointer_untested : (untested types (tree (Star (Name 8)))).place with_c ≡ Some (place 0 [])
+pointer_untested = free_place_is (Star (Name 8))
+
+-- t.n, where n is the member of struct o
+abbrev other_n : Small
+other_n = Dot (Name 2) (record { owner = 1; index = 0 })
+
+member_of_another_struct : (meant types (tree other_n)).place with_c ≡ None
+member_of_another_struct = place_is other_n
+
+member_untested : (untested types (tree other_n)).place with_c ≡ Some (place 2 (hop.Member 0 ∷ []))
+member_untested = free_place_is other_n
+
+-- x = c;
+abbrev given_pointer : Act
+given_pointer = Sets (tree (Name 0)) None (tree (Name 8))
+
+abbrev set_to : Meant → Meant → Option Made
+set_to l r = assigned l.type (writable with_c (l.place with_c)) (r.value with_c)
+
+pointer_given_to_an_int : made types given_pointer with_c ≡ None
+pointer_given_to_an_int = ap₂ set_to (fold_tree (meant_step types) (Name 0)) (fold_tree (meant_step types) (Name 8))
+
+-- c = c;
+pointer_given_to_a_pointer : is_some (made types (Sets (tree (Name 8)) None (tree (Name 8))) with_c) ≡ true
+pointer_given_to_a_pointer = ap₂ (λ (l r : Meant). is_some (set_to l r)) (fold_tree (meant_step types) (Name 8)) (fold_tree (meant_step types) (Name 8))
