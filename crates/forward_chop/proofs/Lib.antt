@@ -1,3 +1,11 @@
-pub mod Cuts
+pub mod BackLaws
+pub mod BegunLaws
 pub mod ContextLaws
+pub mod Cuts
+pub mod FieldLaws
+pub mod OutLaws
+pub mod PairLaws
+pub mod PartLaws
+pub mod RoundLaws
 pub mod TurnedLaws
+pub mod WholeLaws

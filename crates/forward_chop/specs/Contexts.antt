@@ -43,6 +43,13 @@ pub data IsAround (edges : List Edge) (from to : List ℕ) : ℕ → ℕ → Typ
   rising : {a b : ℕ} → IsRisenTo edges from a → ReachesOne edges to b → IsAround edges from to a b
   falling : {a b : ℕ} → IsForward edges from a → FallsToOne edges to b → IsAround edges from to a b
 
+-- a pair whose call stands on such a part
+pub record IsFirstPair (edges : List Edge) (from to : List ℕ) (x o : ℕ) : Type 0 where
+  pub before : ℕ
+  pub behind : ℕ
+  pub call : IsCall edges before x o behind
+  pub here : IsAround edges from to before behind
+
 -- a call that is entered from x and left to o, by matched paths
 pub record IsInside (edges : List Edge) (x o y p : ℕ) : Type 0 where
   pub before : ℕ

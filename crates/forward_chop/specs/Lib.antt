@@ -1,4 +1,11 @@
+pub mod Begun
 pub mod Chops
 pub mod Contexts
+pub mod Fields
 pub mod Laws
+pub mod Outs
+pub mod Pairs
+pub mod Parts
+pub mod Rounds
 pub mod Turned
+pub mod Whole

@@ -2,9 +2,16 @@
 //! Precise interprocedural chopping, 1995).
 #![tactic(auto)]
 
+mod begin;
 mod chopper;
+mod field;
 mod laws;
+mod outs;
+mod parts;
+mod ready;
+mod rounds;
 mod turned;
+mod wanted;
 
 pub use chopper::Chopper;
 pub use laws::{chops_are_by_contexts, chops_lie_in_both};

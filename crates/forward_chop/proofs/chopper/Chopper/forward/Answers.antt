@@ -1,31 +1,38 @@
-use Rattle.std.proofs.Common.{◌≡◌, ◌<◌, ◌↔◌, List, All, sym, ap, ◌∙◌, subst}
+use Rattle.std.proofs.Common.{◌<◌, ◌↔◌, ℕ, All, length, sym, subst}
 use Rattle.std.specs.Prelude.{IsTrue}
 use Rattle.bit_rows.specs.Sets.{has}
-use Rattle.rule_closure.specs.Rules.{RuleSystem}
-use Rattle.dep_model.specs.declared.edge.Edge.{Edge}
-use Rattle.two_pass.specs.Ready.{PassGraph}
+use Rattle.dep_model.specs.declared.graph.Graph.{Graph}
+use Rattle.forward_chop.specs.Begun.{IsMarkedAhead}
 use Rattle.forward_chop.specs.Chops.{IsForward}
-use Rattle.forward_chop.specs.Turned.{FindsForward}
-use Rattle.forward_chop.proofs.TurnedLaws.{forward_read}
+use Rattle.forward_chop.proofs.BegunLaws.{forward_read, whole_stays}
 use Rattle.forward_chop.proofs.chopper.Chopper.forward.Goals as goal
 
 pub invariant_of-self : goal.invariant_of-self
 invariant_of-self c =
-    let kept = c.close.ensures.kept in
     let i = c.self.invariant in
     record {
-      few = i.few;
-      twice = ap (λ (r : RuleSystem). r.size) kept ∙ i.twice;
-      room = c.close.ensures.size ∙ c.begin.ensures.size ∙ i.room;
-      finds = subst (FindsForward c.self.inside.size c.self.inside.edges.items) (sym kept) i.finds;
+      index = i.index;
+      whole = whole_stays c.self.inside.graph c.self.inside.whole c.mark_ahead.new.self c.mark_ahead.ensures.changed i.whole;
+      parts = i.parts;
+      laid = i.laid;
+      all = i.all;
+      covered = i.covered;
     }
 
 pub returns-clause-exact : goal.returns-clause-exact
 returns-clause-exact c = λ v.
-    let i = c.self.inside in
-    let view = c.self.view_is in
-    let size_is : i.size ≡ c.args.self.now.size = ap (λ (p : PassGraph). p.size) view in
-    let edges_are : i.edges.items ≡ c.args.self.now.edges = ap (λ (p : PassGraph). p.edges) view in
-    let inside = subst (λ k. All (λ u. u < k) c.args.from.now) (sym size_is) c.requires.inside in
-    subst (λ (es : List Edge). IsTrue (has c.collect.new.into v) ↔ IsForward es c.args.from.now v) edges_are
-    (forward_read i.size i.edges.items i.ahead c.args.from.now c.begin.new.marks c.close.new.set c.collect.new.into c.self.invariant.finds inside c.begin.ensures.exact c.close.ensures.exact c.collect.ensures.exact v)
+    let g = c.self.inside.graph in
+    let n = length g.vertices in
+    let i = c.self.invariant in
+    let from = c.args.from.now in
+    let into = c.collect_first.new.into in
+    let f = c.mark_ahead.new.self in
+    let same = c.self.view_is in
+    let size = c.len-size.ensures in
+    let whole = whole_stays g c.self.inside.whole f c.mark_ahead.ensures.changed i.whole in
+    let inside = subst (λ (h : Graph). All (λ u. u < length h.vertices) from) (sym same) c.requires.inside in
+    let marked = subst (λ (k : ℕ). IsMarkedAhead k from f) size c.mark_ahead.ensures.exact in
+    let found = forward_read g i.index.shaped f whole from inside marked v in
+    let read = subst (λ (k : ℕ). IsTrue (has into v) ↔ ((v < k) × IsTrue (has f.reached v))) size (c.collect_first.ensures.exact v) in
+    let is : IsTrue (has into v) ↔ IsForward g.edges from v = (λ h. found.0 (read.0 h), λ r. read.1 (found.1 r)) in
+    subst (λ (h : Graph). IsTrue (has into v) ↔ IsForward h.edges from v) same is

@@ -1,6 +1,6 @@
 use Rattle.std.proofs.Common.{◌≡◌, ℕ, ◌<◌, ◌↔◌, IsTrue, length}
 use Rattle.bit_rows.specs.Sets.{has}
-use Rattle.forward_chop.proofs.chopper.collect.Given as goal
+use Rattle.forward_chop.proofs.begin.collect_first.Given as goal
 
 abbrev pub invariant-loop-v : goal.invariant-loop-v
 invariant-loop-v l = record {
