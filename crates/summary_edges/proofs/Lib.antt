@@ -11,3 +11,5 @@ pub mod AgendaLaws
 pub mod Numbers
 pub mod FactBits
 pub mod FactMachineLaws
+pub mod WorkerLaws
+pub mod WorkLaws

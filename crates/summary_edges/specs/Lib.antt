@@ -7,4 +7,5 @@ pub mod Rounds
 pub mod Steps
 pub mod FactMachine
 pub mod FactMachineLaws
+pub mod Workers
 pub mod StepTruth

@@ -6,17 +6,21 @@ ghost use Rattle.dep_model.specs.Shapes.{IsShaped};
 ghost use Rattle.summary_edges.specs.FactMachine.{BitsAreApart, IsFunction, IsStepBit, IsTrueBit};
 ghost use Rattle.summary_edges.specs.StepTruth.{sound_bits};
 
+use crate::fact_index::FactIndex;
 use crew::Truth;
 use dep_model::Graph;
 
 /// The true facts of a graph, on a board whose workers draw the functions of an agenda: true are the bits of the true facts, and who
 /// drew a function's number may put what one step of it gives from what he knows.
 ///
-/// The bits of its facts are apart, as in each shaped graph, and the agenda names functions of it, each at most once.
+/// No bit is that of two facts, and the agenda names functions of it, each at most once. That the graph is shaped is a
+/// condition of what is done with it (`IsReadyTruth` of `specs/Workers`).
 #[derive(Clone, Copy)]
 pub struct FactTruth<'a> {
-    graph: &'a Graph,
-    agenda: &'a [u32],
+    pub(crate) graph: &'a Graph,
+    pub(crate) agenda: &'a [u32],
+    // What steps look up, where it is lent.
+    pub(crate) index: Option<&'a FactIndex>,
     ghost apart: { BitsAreApart graph.now },
     ghost functions: { All (IsFunction graph.now) agenda.now },
     ghost once: { AllPairs (λ f h. f ≢ h) agenda.now },
@@ -31,6 +35,8 @@ impl<'a> Truth for FactTruth<'a> {
 }
 
 impl<'a> FactTruth<'a> {
+    ghost use Rattle.summary_edges.specs.Workers.{IsReadyTruth};
+
     /// The true facts of a graph, where the functions of an agenda are shared out. It takes no memory.
     pub fn new(graph: &'a Graph, agenda: &'a [u32]) -> FactTruth<'a>
         requires shaped { IsShaped graph.now }
@@ -38,7 +44,12 @@ impl<'a> FactTruth<'a> {
         requires once { AllPairs (λ f h. f ≢ h) agenda.now }
         ensures graph { result.graph.now ≡ graph.now }
         ensures agenda { result.agenda.now ≡ agenda.now }
+        ensures ready { IsReadyTruth result }
     {
-        FactTruth { graph, agenda }
+        FactTruth {
+            graph,
+            agenda,
+            index: None,
+        }
     }
 }

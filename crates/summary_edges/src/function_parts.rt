@@ -36,8 +36,8 @@ pub(crate) struct FunctionParts {
     pub(crate) of_number: Vec<Option<u32>>,
 }
 
-// How many rows stand before those of the vertices from this one on.
-fn rows_before(outs: &[OutRow], vertex: VertexId) -> u32
+/// How many rows stand before those of the vertices from this one on.
+pub(crate) fn rows_before(outs: &[OutRow], vertex: VertexId) -> u32
     requires few { length outs.now < 2 ^ 32 }
     requires ascending { IsNonDecreasingBy (λ (r : OutRow). r.vertex) outs.now }
     ensures inside { result ≤ length outs.now }
@@ -46,8 +46,8 @@ fn rows_before(outs: &[OutRow], vertex: VertexId) -> u32
     outs.partition_point(|row| row.vertex < vertex) as u32
 }
 
-// The word with which a row begins, or with which it would where there is no such row.
-fn word_of(g: &Graph, row: u32) -> u32
+/// The word with which a row begins, or with which it would where there is no such row.
+pub(crate) fn word_of(g: &Graph, row: u32) -> u32
     ensures { result ≡ row_start g.now row }
 {
     match g.outs.as_slice().get(row as usize) {

@@ -14,11 +14,15 @@ mod function_parts;
 mod laws;
 mod rounds;
 mod step;
+mod worker;
+mod working;
 
 pub use agenda::next_agenda;
+pub use crew::{Board, BoardSeat, Gate};
 pub use fact_truth::FactTruth;
 pub use laws::{
     boards_show_facts, facts_never_shrink, facts_stay_true, only_true_where_none_is_due,
     others_are_settled, rounds_are_few, series_are_few, whole_rounds_are_exact,
 };
 pub use rounds::find;
+pub use working::work;

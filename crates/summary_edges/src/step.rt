@@ -139,3 +139,22 @@ pub(crate) fn step(
     table.fill(g, index, known, part);
     read_off(g, index, part, table, words)
 }
+
+/// The same in place: the facts of the step are added to those that are known.
+pub(crate) fn step_in_place(
+    g: &Graph,
+    index: &FactIndex,
+    part: FunctionPart,
+    table: &mut ExitRows,
+    words: &mut [u64],
+) -> bool
+    requires index { IsIndex g.now index.now }
+    requires part { IsPart g.now part }
+    requires room { HasRoom part table.old }
+    requires long { length words.old ≡ g.now.fact_words }
+    ensures exact { IsStepTaken g.now part words.old words.old words.new result }
+    ensures room { HaveOneShape table.old table.new }
+{
+    table.fill(g, index, words, part);
+    read_off(g, index, part, table, words)
+}
