@@ -20,7 +20,7 @@ use Rattle.call_words.specs.declared.grammar.Command.{Command}
 use Rattle.call_words.specs.declared.grammar.Command.TheVariants.{Slice, Trace, Run, Graph, Members, Big}
 use Rattle.call_words.specs.Grammar as grammar
 use Rattle.call_words.specs.Grammar.{AreWanted, IsInForm, IsInGrammar, IsNumber, IsNumberWithin, IsOf, IsSortedInForm, command_of, decimal_from, kind_at, kind_of, word}
-use Rattle.call_words.specs.Requests.{Asked, CanAsk, IsBounded, asked_of, asks, input_in, number_or, numbers_of, steps_in, value_given}
+use Rattle.call_words.specs.Requests.{AreWorkers, Asked, CanAsk, IsBounded, asked_of, asks, input_in, number_or, numbers_of, steps_in, value_given}
 use Rattle.call_words.specs.Clap.{HasMatches, app_for, is_apart, option_names, others_found, value_found}
 use Rattle.call_words.specs.declared.grammar.Kind.{Kind}
 use Rattle.call_words.specs.declared.grammar.Kind.TheVariants.{File, Number}
@@ -167,19 +167,25 @@ module _ (r : grammar.Row) (name : Bytes) (least greatest : ℕ) (numbers : kind
   abbrev IsOption : Bytes × Bytes → Type 0
   IsOption o = IsSomeAnd (kind_of r o.0) (λ kind. IsOf kind o.1)
 
-  first_number : (given : List (Bytes × Bytes)) → Each IsOption given → IfSome (value_given given name) IsNumber
+  first_number : (given : List (Bytes × Bytes)) → Each IsOption given → IfSome (value_given given name) (IsNumberWithin least greatest)
   first_number [] all = tt
   first_number (o ∷ os) all = go (bytes_eq o.0 name) refl (first_number os all.1)
     where
-      go : (t : Bool) → bytes_eq o.0 name ≡ t → IfSome (value_given os name) IsNumber
-          → IfSome (option_map (λ (p : Bytes × Bytes). p.1) (cond t (Some o) (find (λ (p : Bytes × Bytes). bytes_eq p.0 name) os))) IsNumber
+      go : (t : Bool) → bytes_eq o.0 name ≡ t → IfSome (value_given os name) (IsNumberWithin least greatest)
+          → IfSome (option_map (λ (p : Bytes × Bytes). p.1) (cond t (Some o) (find (λ (p : Bytes × Bytes). bytes_eq p.0 name) os))) (IsNumberWithin least greatest)
       go true e rest =
-          line_number least greatest o.1
-          (subst (λ k. IsSomeAnd k (λ kind. IsOf kind o.1)) numbers (subst (λ n. IsSomeAnd (kind_of r n) (λ kind. IsOf kind o.1)) (is_name o.0 name e) all.0))
+          subst (λ k. IsSomeAnd k (λ kind. IsOf kind o.1)) numbers (subst (λ n. IsSomeAnd (kind_of r n) (λ kind. IsOf kind o.1)) (is_name o.0 name e) all.0)
       go false e rest = rest
 
+  option_within : (s : Sorted) → IsSortedInForm r s → IfSome (value_given s.given name) (IsNumberWithin least greatest)
+  option_within s form = first_number s.given (each_of IsOption s.given form.options.known)
+
   option_number : (s : Sorted) → IsSortedInForm r s → IfSome (value_given s.given name) IsNumber
-  option_number s form = first_number s.given (each_of IsOption s.given form.options.known)
+  option_number s form = is_number (value_given s.given name) (option_within s form)
+    where
+      is_number : (value : Option Bytes) → IfSome value (IsNumberWithin least greatest) → IfSome value IsNumber
+      is_number None h = tt
+      is_number (Some digits) h = h.number
 
 pub can_ask : (c : Command) (s : Sorted) → IsSortedInForm (grammar.row c) s → CanAsk c s.others (value_given s.given)
 can_ask Slice s form = (
@@ -207,16 +213,25 @@ can_ask Big s form =
     let both = seed_and_size s.others form.others in
     (both.0, both.1, both.2, option_number (grammar.row Big) (codes "workers") 1 16 refl s form)
 
+-- 4 workers where no number of them is given, and else at least 1 and at most 16
+workers_bounded : (value : Option Bytes) → IfSome value (IsNumberWithin 1 16) → AreWorkers (number_or 4 value)
+workers_bounded None h = (omega arith, omega arith)
+workers_bounded (Some digits) h = (h.at_least, h.at_most)
+
+of_row : (c : Command) (s : Sorted) → kind_of (grammar.row c) (codes "workers") ≡ Some (Number 1 16) → IsSortedInForm (grammar.row c) s → AreWorkers (number_or 4 (value_given s.given (codes "workers")))
+of_row c s numbers form =
+    workers_bounded (value_given s.given (codes "workers")) (option_within (grammar.row c) (codes "workers") 1 16 numbers s form)
+
 -- and its numbers are those that the row lets through
 asks_bounded : (c : Command) (s : Sorted) → IsSortedInForm (grammar.row c) s → IsBounded (asks c s.others (value_given s.given))
-asks_bounded Slice s form = tt
+asks_bounded Slice s form = of_row Slice s refl form
 asks_bounded Trace s form = tt
 asks_bounded Run s form = tt
-asks_bounded Graph s form = tt
-asks_bounded Members s form = tt
+asks_bounded Graph s form = of_row Graph s refl form
+asks_bounded Members s form = of_row Members s refl form
 asks_bounded Big s form =
     let both = seed_and_size s.others form.others in
-    (both.1.at_most, both.2.at_least, both.2.at_most)
+    (both.1.at_most, both.2.at_least, both.2.at_most, of_row Big s refl form)
 
 pub words_bounded : (words : List Bytes) → IsInGrammar words → IsBounded (asked_of words)
 words_bounded words g = go (command_of words) g

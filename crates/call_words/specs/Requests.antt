@@ -85,14 +85,17 @@ pub record IsRead (words : List Bytes) (r : Request) : Type 0 where
   pub in_grammar : IsInGrammar words
   pub asks_for : asked words ≡ Some (asked_by r)
 
+abbrev pub AreWorkers : ℕ → Type 0
+AreWorkers workers = (1 ≤ workers) × (workers ≤ 16)
+
 -- the numbers of what is asked for are those that a row lets through
 abbrev pub IsBounded : Asked → Type 0
-IsBounded (Asked.slice file lines workers) = Unit {0}
+IsBounded (Asked.slice file lines workers) = AreWorkers workers
 IsBounded (Asked.trace file lines input steps) = Unit {0}
 IsBounded (Asked.run file input steps) = Unit {0}
-IsBounded (Asked.graph file workers) = Unit {0}
-IsBounded (Asked.members file line workers) = Unit {0}
-IsBounded (Asked.big seed size workers) = (seed ≤ 2147483647) × (0 < size) × (size ≤ 1000)
+IsBounded (Asked.graph file workers) = AreWorkers workers
+IsBounded (Asked.members file line workers) = AreWorkers workers
+IsBounded (Asked.big seed size workers) = (seed ≤ 2147483647) × (0 < size) × (size ≤ 1000) × AreWorkers workers
 
 -- the file with the program and the lines of what is asked for, where there are such
 abbrev pub file_in : Asked → Option Bytes

@@ -4,7 +4,7 @@
 #![tactic(auto)]
 
 use edge_io::Shelf;
-use slicer_top::{Exit, FileShelf, StreamSink, run_call};
+use slicer_top::{Exit, FileShelf, OpenGate, StreamSink, run_call};
 use std::env;
 
 fn main(rt: HostRuntime) -> Exit {
@@ -13,5 +13,13 @@ fn main(rt: HostRuntime) -> Exit {
     let _ = shelf.fetch(rt.alloc(), "/dev/null", 0);
     let mut out = StreamSink::out(rt.stdout());
     let mut err = StreamSink::err(rt.stderr());
-    run_call(rt.alloc(), env::args(&rt), &mut shelf, &mut out, &mut err)
+    run_call(
+        &rt,
+        rt.alloc(),
+        env::args(&rt),
+        &mut shelf,
+        &mut out,
+        &mut err,
+        &OpenGate,
+    )
 }

@@ -1,8 +1,9 @@
 //! The end of a call of the slicer over files and sinks in memory.
 use crate::case::Case;
 use edge_io::{MemoryShelf, MemorySink};
-use slicer_top::{Text, run_slicer};
+use slicer_top::{OpenGate, Text, run_slicer};
 use std::alloc::{AllocError, Global};
+use std::thread::Threads;
 
 // What each of the sinks has room for.
 const ROOM: usize = 1_048_576;
@@ -26,11 +27,24 @@ impl Ended {
 }
 
 /// Calls the slicer with the words of the case over these files.
-pub fn run(alloc: Global, case: &Case, files: Vec<(Text, Text)>) -> Result<Ended, AllocError> {
+pub fn run<R: AllocGlobal + Threads + Sync>(
+    rt: &R,
+    case: &Case,
+    files: Vec<(Text, Text)>,
+) -> Result<Ended, AllocError> {
+    let alloc = rt.alloc();
     let mut shelf = MemoryShelf::new(files, Vec::new(alloc));
     let mut out = MemorySink::new(alloc, ROOM, Vec::new(alloc))?;
     let mut err = MemorySink::new(alloc, ROOM, Vec::new(alloc))?;
-    let status = run_slicer(alloc, case.words(), &mut shelf, &mut out, &mut err);
+    let status = run_slicer(
+        rt,
+        alloc,
+        case.words(),
+        &mut shelf,
+        &mut out,
+        &mut err,
+        &OpenGate,
+    );
     Ok(Ended {
         code: status.code(),
         out: Text::from_slice(alloc, out.bytes())?,

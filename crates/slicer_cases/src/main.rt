@@ -14,15 +14,16 @@ use anyhow::{Context, ensure};
 use case::Case;
 use std::fs::Files;
 use std::io::Eprint;
+use std::thread::Threads;
 
 /// Whether the case ended as expected. If not, both ends are shown on standard error.
-fn is_as_expected<R: Files + Print + Eprint + AllocGlobal>(
+fn is_as_expected<R: Files + Print + Eprint + AllocGlobal + Threads + Sync>(
     rt: &R,
     case: &Case,
 ) -> anyhow::Result<bool> {
     let name = case.name();
     let expected = folder::expected(rt, case)?;
-    let found = ended::run(rt.alloc(), case, folder::files_named(rt, case)?)?;
+    let found = ended::run(rt, case, folder::files_named(rt, case)?)?;
     let is_right = found == expected;
     if is_right {
         println!(rt; "{name} as expected")?;

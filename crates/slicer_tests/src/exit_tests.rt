@@ -2,13 +2,14 @@
 use crate::programs::TWO;
 use crate::running::{USAGE, file};
 use edge_io::{MemoryShelf, MemorySink};
-use slicer_top::{Exit, run_call};
+use slicer_top::{Exit, OpenGate, run_call};
 use std::alloc::Global;
 use std::env::Args;
 use std::io;
 use std::io::ErrorKind;
-use std::process::{ExitCode, Termination};
+use std::process::{Abort, ExitCode, Termination};
 use std::test::Fail;
+use std::thread::Threads;
 
 // The arguments of a line, one blank between each two; the first is the program's name.
 fn arguments_of(alloc: Global, line: &str) -> io::Result<Args> {
@@ -20,7 +21,7 @@ fn arguments_of(alloc: Global, line: &str) -> io::Result<Args> {
 }
 
 // A call with these arguments, over one file, ends with this code, and err has gained this.
-fn ends_with<R: std::process::Abort + AllocGlobal + io::Eprint>(
+fn ends_with<R: Abort + AllocGlobal + io::Eprint + Threads + Sync>(
     rt: &R,
     arguments: io::Result<Args>,
     code: u8,
@@ -30,7 +31,9 @@ fn ends_with<R: std::process::Abort + AllocGlobal + io::Eprint>(
     let mut shelf = MemoryShelf::new(file(alloc, "two.c", TWO)?, Vec::new(alloc));
     let mut out = MemorySink::new(alloc, 4096, Vec::new(alloc))?;
     let mut err = MemorySink::new(alloc, 4096, Vec::new(alloc))?;
-    let exit: Exit = run_call(alloc, arguments, &mut shelf, &mut out, &mut err);
+    let exit: Exit = run_call(
+        rt, alloc, arguments, &mut shelf, &mut out, &mut err, &OpenGate,
+    );
     let written = String::from_utf8_lossy(alloc, err.bytes())?;
     assert_eq!(rt; written.as_str(), told);
     assert_eq!(rt; out.bytes().is_empty(), code != 0);

@@ -2,7 +2,9 @@
 use crate::programs::TWO;
 use crate::running::{Failing, NONE_FAILING, USAGE, file, is_end, run, split_words};
 use slicer_top::{Status, Text};
+use std::process::Abort;
 use std::test::Fail;
+use std::thread::Threads;
 
 const TWO_AT_7: &str = r#"/* slice 7: 6 */
 #include <stdio.h>
@@ -24,7 +26,7 @@ int main(void) {
 /* slice 4: "#;
 
 // These words over `two.c` and an empty file `none` end so: the status, and what out and err have gained.
-fn ends_where<R: std::process::Abort + AllocGlobal>(
+fn ends_where<R: Abort + AllocGlobal + Threads + Sync>(
     rt: &R,
     line: &str,
     failing: &Failing<'_>,
@@ -34,7 +36,7 @@ fn ends_where<R: std::process::Abort + AllocGlobal>(
     let mut files = file(alloc, "two.c", TWO)?;
     files.push((Text::from_slice(alloc, b"none")?, Text::new(alloc)))?;
     let words = split_words(alloc, line)?;
-    let ended = run(alloc, &words, files, failing)?;
+    let ended = run(rt, &words, files, failing)?;
     is_end(rt, &ended, wanted, line)
 }
 

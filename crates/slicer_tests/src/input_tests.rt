@@ -2,18 +2,20 @@
 use crate::programs::TWO;
 use crate::running::{Ended, Failing, NONE_FAILING, file, is_end, run, split_words};
 use slicer_top::{Status, Text};
-use std::alloc::{AllocError, Global};
+use std::alloc::AllocError;
 use std::test::Fail;
+use std::thread::Threads;
 
 const MAX_FILE_BYTES: usize = 1_048_576;
 
 // The words of this line over `two.c` and so many bytes in the file `in`.
-fn run_with_input(
-    alloc: Global,
+fn run_with_input<R: AllocGlobal + Threads + Sync>(
+    rt: &R,
     line: &str,
     length: usize,
     failing: &Failing<'_>,
 ) -> Result<Ended, AllocError> {
+    let alloc = rt.alloc();
     let input = vec![in alloc; b'x'; length]?;
     let mut files = file(alloc, "two.c", TWO)?;
     files.push((
@@ -21,7 +23,7 @@ fn run_with_input(
         Text::from_slice(alloc, input.as_slice())?,
     ))?;
     let words = split_words(alloc, line)?;
-    run(alloc, &words, files, failing)
+    run(rt, &words, files, failing)
 }
 
 #[test]
@@ -51,7 +53,7 @@ fn a_long_input_is_told(rt: HostRuntime) -> Result<(), Fail> {
         ),
     ];
     for (line, length, status, out, err) in rows {
-        let ended = run_with_input(rt.alloc(), line, length, &NONE_FAILING)?;
+        let ended = run_with_input(&rt, line, length, &NONE_FAILING)?;
         is_end(&rt, &ended, (status, out, err), line)?;
     }
     Ok(())
@@ -69,7 +71,7 @@ fn the_put_of_a_run_that_fails_is_told(rt: HostRuntime) -> Result<(), Fail> {
             out: &fails,
             ..NONE_FAILING
         };
-        let ended = run_with_input(rt.alloc(), line, 0, &failing)?;
+        let ended = run_with_input(&rt, line, 0, &failing)?;
         is_end(
             &rt,
             &ended,

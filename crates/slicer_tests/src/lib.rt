@@ -22,3 +22,5 @@ mod projection_tests;
 mod run_tests;
 #[cfg(test)]
 mod running;
+#[cfg(test)]
+mod team_tests;

@@ -2,9 +2,11 @@
 use crate::programs::TWO;
 use crate::running::{Failing, NONE_FAILING, USAGE, ends, file, is_end, run, split_words};
 use slicer_top::{Status, Text};
+use std::process::Abort;
 use std::test::Fail;
+use std::thread::Threads;
 
-const AT_7: &str = r#"/* slice 7: 6 */
+pub(crate) const AT_7: &str = r#"/* slice 7: 6 */
 #include <stdio.h>
 int main(void) {
     int a = 1;
@@ -13,7 +15,7 @@ int main(void) {
 }
 "#;
 
-const AT_4: &str = r#"/* slice 4: 4 */
+pub(crate) const AT_4: &str = r#"/* slice 4: 4 */
 #include <stdio.h>
 int main(void) {
     int b = 2;
@@ -35,7 +37,7 @@ int main(void) {
 }
 "#;
 
-const LOOPS_AT_5_9_12: &str = r#"/* slice 5: 4 */
+pub(crate) const LOOPS_AT_5_9_12: &str = r#"/* slice 5: 4 */
 #include <stdio.h>
 int main(void) {
     do {
@@ -133,7 +135,7 @@ fn a_file_may_be_named_like_a_word_of_a_call(rt: HostRuntime) -> Result<(), Fail
     let alloc = rt.alloc();
     for (name, line) in rows {
         let words = split_words(alloc, line)?;
-        let ended = run(alloc, &words, file(alloc, name, TWO)?, &NONE_FAILING)?;
+        let ended = run(&rt, &words, file(alloc, name, TWO)?, &NONE_FAILING)?;
         is_end(&rt, &ended, (Status::Done, AT_7, ""), line)?;
     }
     Ok(())
@@ -158,7 +160,7 @@ fn the_first_line_without_a_statement_is_told(rt: HostRuntime) -> Result<(), Fai
 }
 
 // These words over `t.c` end so, where out takes 8,192 bytes: the status, and what out and err have gained.
-fn ends_in_room<R: std::process::Abort + AllocGlobal>(
+fn ends_in_room<R: Abort + AllocGlobal + Threads + Sync>(
     rt: &R,
     line: &str,
     wanted: (Status, &str, &str),
@@ -169,7 +171,7 @@ fn ends_in_room<R: std::process::Abort + AllocGlobal>(
         ..NONE_FAILING
     };
     let words = split_words(alloc, line)?;
-    let ended = run(alloc, &words, file(alloc, "t.c", TWO)?, &roomy)?;
+    let ended = run(rt, &words, file(alloc, "t.c", TWO)?, &roomy)?;
     is_end(rt, &ended, wanted, line)
 }
 
@@ -183,6 +185,9 @@ fn sixty_four_lines_are_sliced_and_one_more_is_refused(rt: HostRuntime) -> Resul
         out.push_str(AT_4)?;
     }
     ends_in_room(&rt, line.as_str(), (Status::Done, out.as_str(), ""))?;
+    let mut by_sixteen = String::from_str(alloc, line.as_str())?;
+    by_sixteen.push_str(" --workers 16")?;
+    ends_in_room(&rt, by_sixteen.as_str(), (Status::Done, out.as_str(), ""))?;
     // The limit is asked before the lines.
     for more in [" 4", " 2"] {
         let mut words = String::from_str(alloc, line.as_str())?;
@@ -201,7 +206,7 @@ fn a_word_that_is_not_utf8_is_outside_the_grammar(rt: HostRuntime) -> Result<(),
     let alloc = rt.alloc();
     let mut words = split_words(alloc, "slice two.c 7")?;
     words.push(Text::from_slice(alloc, &[0xff])?)?;
-    let ended = run(alloc, &words, file(alloc, "two.c", TWO)?, &NONE_FAILING)?;
+    let ended = run(&rt, &words, file(alloc, "two.c", TWO)?, &NONE_FAILING)?;
     is_end(
         &rt,
         &ended,

@@ -8,9 +8,11 @@ ghost use Rattle.slicer_top.specs.Slices.{StartsSome, AreWritten, joined};
 use crate::programs::TWO;
 use crate::running::{NONE_FAILING, USAGE, file, is_end, run, split_words};
 use edge_io::{MemoryShelf, MemorySink};
-use slicer_top::{Status, Text, run_slicer};
+use slicer_top::{OpenGate, Status, Text, run_slicer};
 use std::alloc::{AllocError, Global};
+use std::process::Abort;
 use std::test::Fail;
+use std::thread::Threads;
 
 const TWO_AT_7: &str = r#"/* slice 7: 6 */
 #include <stdio.h>
@@ -32,7 +34,8 @@ const MAX_FILE_BYTES: usize = 1_048_576;
 
 // Over one file, no input and sinks in memory without failing numbers, with room for what is asked and for `out of memory`:
 // that is written, or memory was wanting.
-fn run_without_failing(
+fn run_without_failing<R: Threads + Sync>(
+    rt: &R,
     alloc: Global,
     words: &[Text],
     name: Text,
@@ -49,19 +52,21 @@ fn run_without_failing(
     let mut shelf = MemoryShelf::new(files, Vec::new(alloc));
     let mut out = MemorySink::new(alloc, room, Vec::new(alloc))?;
     let mut err = MemorySink::new(alloc, 14, Vec::new(alloc))?;
-    let status = run_slicer(alloc, words, &mut shelf, &mut out, &mut err);
+    let status = run_slicer(
+        rt, alloc, words, &mut shelf, &mut out, &mut err, &OpenGate,
+    );
     Ok(status)
 }
 
 // These words over `two.c` end so: the status, and what out and err have gained.
-fn ends_on_two<R: std::process::Abort + AllocGlobal>(
+fn ends_on_two<R: Abort + AllocGlobal + Threads + Sync>(
     rt: &R,
     line: &str,
     wanted: (Status, &str, &str),
 ) -> Result<(), Fail> {
     let alloc = rt.alloc();
     let words = split_words(alloc, line)?;
-    let ended = run(alloc, &words, file(alloc, "two.c", TWO)?, &NONE_FAILING)?;
+    let ended = run(rt, &words, file(alloc, "two.c", TWO)?, &NONE_FAILING)?;
     is_end(rt, &ended, wanted, line)
 }
 
@@ -94,7 +99,7 @@ fn without_failing_numbers_no_fault_comes(rt: HostRuntime) -> Result<(), Fail> {
         let words = split_words(alloc, line)?;
         let name = Text::from_slice(alloc, b"two.c")?;
         let text = Text::from_slice(alloc, TWO.as_bytes())?;
-        let ended = run_without_failing(alloc, &words, name, text, room)?;
+        let ended = run_without_failing(&rt, alloc, &words, name, text, room)?;
         assert_eq!(rt; ended, status, "{line}");
     }
     Ok(())
@@ -156,7 +161,7 @@ fn a_name_is_utf8(rt: HostRuntime) -> Result<(), Fail> {
         let mut words = split_words(alloc, "slice")?;
         words.push(Text::from_slice(alloc, name)?)?;
         words.push(Text::from_slice(alloc, b"7")?)?;
-        let ended = run(alloc, &words, file(alloc, "two.c", TWO)?, &NONE_FAILING)?;
+        let ended = run(&rt, &words, file(alloc, "two.c", TWO)?, &NONE_FAILING)?;
         let status = if is_name {
             Status::ReadFault
         } else {
@@ -188,7 +193,7 @@ fn a_long_file_is_told(rt: HostRuntime) -> Result<(), Fail> {
             Text::from_slice(alloc, bytes.as_slice())?,
         ))?;
         let words = split_words(alloc, "slice a.c 7")?;
-        let ended = run(alloc, &words, files, &NONE_FAILING)?;
+        let ended = run(&rt, &words, files, &NONE_FAILING)?;
         is_end(&rt, &ended, (status, "", err), "slice a.c 7")?;
     }
     Ok(())

@@ -1,8 +1,10 @@
 //! Calls of the top call over files and sinks in memory.
 use edge_io::{MemoryShelf, MemorySink};
-use slicer_top::{Status, Text, run_slicer};
+use slicer_top::{Gate, OpenGate, Status, Text, run_slicer};
 use std::alloc::{AllocError, Global};
+use std::process::Abort;
 use std::test::Fail;
+use std::thread::Threads;
 
 // How a call ended, and what the sinks have gained.
 #[derive(Drop)]
@@ -32,16 +34,29 @@ pub(crate) const NONE_FAILING: Failing<'static> = Failing {
 pub(crate) const USAGE: &str =
     "usage: slicer slice FILE LINE.. | trace FILE LINE.. --input FILE | run FILE --input FILE | graph FILE | members FILE LINE | big SEED SIZE\n";
 
-pub(crate) fn run(
-    alloc: Global,
+/// Calls the slicer with these words over these files.
+pub(crate) fn run<R: AllocGlobal + Threads + Sync>(
+    rt: &R,
     words: &[Text],
     files: Vec<(Text, Text)>,
     failing: &Failing<'_>,
 ) -> Result<Ended, AllocError> {
+    run_past(rt, &OpenGate, words, files, failing)
+}
+
+/// The same, where workers pass a gate.
+pub(crate) fn run_past<R: AllocGlobal + Threads + Sync, G: Gate + Sync>(
+    rt: &R,
+    gate: &G,
+    words: &[Text],
+    files: Vec<(Text, Text)>,
+    failing: &Failing<'_>,
+) -> Result<Ended, AllocError> {
+    let alloc = rt.alloc();
     let mut shelf = MemoryShelf::new(files, failing.fetches.to_vec(alloc)?);
     let mut out = MemorySink::new(alloc, failing.room, failing.out.to_vec(alloc)?)?;
     let mut err = MemorySink::new(alloc, 4096, failing.err.to_vec(alloc)?)?;
-    let status = run_slicer(alloc, words, &mut shelf, &mut out, &mut err);
+    let status = run_slicer(rt, alloc, words, &mut shelf, &mut out, &mut err, gate);
     Ok(Ended {
         status,
         out: Text::from_slice(alloc, out.bytes())?,
@@ -75,7 +90,7 @@ pub(crate) fn file(
 }
 
 /// A call ended with this status, and out and err have gained these texts.
-pub(crate) fn is_end<R: std::process::Abort + AllocGlobal>(
+pub(crate) fn is_end<R: Abort + AllocGlobal>(
     rt: &R,
     ended: &Ended,
     wanted: (Status, &str, &str),
@@ -91,7 +106,7 @@ pub(crate) fn is_end<R: std::process::Abort + AllocGlobal>(
 }
 
 /// The words of this line over this text, the file `t.c`, end with this status, and out and err have gained this.
-pub(crate) fn ends<R: std::process::Abort + AllocGlobal>(
+pub(crate) fn ends<R: Abort + AllocGlobal + Threads + Sync>(
     rt: &R,
     text: &str,
     line: &str,
@@ -99,6 +114,6 @@ pub(crate) fn ends<R: std::process::Abort + AllocGlobal>(
 ) -> Result<(), Fail> {
     let alloc = rt.alloc();
     let words = split_words(alloc, line)?;
-    let ended = run(alloc, &words, file(alloc, "t.c", text)?, &NONE_FAILING)?;
+    let ended = run(rt, &words, file(alloc, "t.c", text)?, &NONE_FAILING)?;
     is_end(rt, &ended, wanted, line)
 }

@@ -11,11 +11,13 @@ use crate::run::run_slicer;
 use crate::status::Status;
 use call_words::words_of;
 use edge_io::{Shelf, Sink};
+use slice_engine::Gate;
 use std::alloc::{AllocError, Global};
 use std::env::Args;
 use std::io;
 use std::io::{Eprint, ErrorKind};
 use std::process::{ExitCode, Termination};
+use std::thread::Threads;
 
 /// How a call of the program ended. Only [`run_call`] makes one, so that a `main` that answers an `Exit` ends with the
 /// code of that call's status, and with no other.
@@ -36,12 +38,14 @@ impl Termination for Exit {
 /// Does what the arguments of a call ask for: [`run_slicer`] with the words of these arguments ([`words_of`]), so that
 /// each of its promises holds of them. Where there is no memory for the words, `run_slicer` isn't called: the status is
 /// `NoMemory`, and nothing is read or written.
-pub fn run_call<F: Shelf, O: Sink, E: Sink>(
+pub fn run_call<R: Threads + Sync, F: Shelf, O: Sink, E: Sink, G: Gate + Sync>(
+    rt: &R,
     alloc: Global,
     arguments: io::Result<Args>,
     shelf: &mut F,
     out: &mut O,
     err: &mut E,
+    gate: &G,
 ) -> Exit
     ensures promises { IfSome (ended_in result) (Promises (words_in arguments)
         (shelf_seen F.faults F.long_files F.fetches F.contents F.never_fails shelf.old shelf.new)
@@ -53,7 +57,7 @@ pub fn run_call<F: Shelf, O: Sink, E: Sink>(
 {
     match words_of(alloc, arguments) {
         Ok(words) => {
-            let status = run_slicer(alloc, &words, shelf, out, err);
+            let status = run_slicer(rt, alloc, &words, shelf, out, err, gate);
             Exit {
                 ended: Some(status),
             }

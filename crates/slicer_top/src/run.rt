@@ -8,7 +8,9 @@ use crate::slicing::texts_for;
 use crate::status::Status;
 use call_words::{WordsFault, read_words};
 use edge_io::{PutFailed, Shelf, Sink, Text};
+use slice_engine::Gate;
 use std::alloc::Global;
+use std::thread::Threads;
 
 /// Does what the words ask for: `slice FILE LINE..` writes to `out` the slice of the program in FILE at each LINE, in
 /// the order of the words, one put each; `trace FILE LINE.. --input INPUT` the values at these lines in a run of the
@@ -18,12 +20,17 @@ use std::alloc::Global;
 ///
 /// The words are those of the grammar of the crate `call_words`. The files are fetched from `shelf`, FILE first. Where the status
 /// isn't `Done`, its line is put on `err`; where that fails, the status is `WriteFault`, and `err` gets no more.
-pub fn run_slicer<F: Shelf, O: Sink, E: Sink>(
+///
+/// The slices of several lines are made by the number of workers that the words give, on threads of `rt`; each worker passes `gate`
+/// after each number that it draws.
+pub fn run_slicer<R: Threads + Sync, F: Shelf, O: Sink, E: Sink, G: Gate + Sync>(
+    rt: &R,
     alloc: Global,
     words: &[Text],
     shelf: &mut F,
     out: &mut O,
     err: &mut E,
+    gate: &G,
 ) -> Status
     ensures { Promises words.now (shelf_seen F.faults F.long_files F.fetches F.contents F.never_fails shelf.old shelf.new)
         (sink_seen O.faults O.written O.takes out.old out.new) (sink_seen E.faults E.written E.takes err.old err.new) result }
@@ -37,7 +44,7 @@ pub fn run_slicer<F: Shelf, O: Sink, E: Sink>(
         ),
         Err(WordsFault::NoMemory) => return tell_no_memory(err),
     };
-    match texts_for(alloc, &request, shelf) {
+    match texts_for(rt, alloc, &request, shelf, gate) {
         Ok(texts) => write_texts(texts.as_slice(), out, err),
         Err(refusal) => report(alloc, &refusal, &request, err),
     }

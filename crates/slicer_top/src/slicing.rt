@@ -2,7 +2,7 @@
 ghost use Rattle.std.specs.Prelude.{◌≡◌, ◌∷◌, ◌≤◌, ◌<◌, ℕ, List, [], IfOk, IfErr, IsSomeAnd, MatchResult, Some, length};
 ghost use Rattle.big_programs.specs.Generated.{generated};
 ghost use Rattle.c_language.specs.Programs.{IsWellFormed};
-ghost use Rattle.call_words.specs.Requests.{Asked, IsBounded, asked_by, file_in};
+ghost use Rattle.call_words.specs.Requests.{AreWorkers, Asked, IsBounded, asked_by, file_in};
 ghost use Rattle.edge_io.specs.Contents.{Lacks};
 ghost use Rattle.edge_io.specs.Count.{NeverFalls};
 ghost use Rattle.slicer_top.specs.Criteria.{IsCriteriaFault, StartAt};
@@ -20,17 +20,20 @@ use c_tree::Program;
 use call_words::Request;
 use edge_io::{Shelf, Text};
 use slice_batch::slices;
-use slice_engine::{Criterion, Engine, read_program};
+use slice_engine::{Criterion, Engine, Gate, read_program};
 use std::alloc::{AllocError, Global};
+use std::thread::Threads;
 
 // The most bytes that a file may have.
 const MAX_FILE_BYTES: usize = 1_048_576;
 
 /// The texts that are to be written for a request, of the files that it names or of the text that is made for it.
-pub(crate) fn texts_for<F: Shelf>(
+pub(crate) fn texts_for<R: Threads + Sync, F: Shelf, G: Gate + Sync>(
+    rt: &R,
     alloc: Global,
     request: &Request,
     shelf: &mut F,
+    gate: &G,
 ) -> Result<Vec<Text>, Refusal>
     requires { IsBounded (asked_by request.now) }
     ensures contents { F.contents shelf.new ≡ F.contents shelf.old }
@@ -44,7 +47,14 @@ pub(crate) fn texts_for<F: Shelf>(
 {
     let text = text_for(alloc, request, shelf)?;
     let input = input_for(alloc, request.input(), shelf)?;
-    texts_of(alloc, text.as_slice(), input.as_slice(), request)
+    texts_of(
+        rt,
+        alloc,
+        text.as_slice(),
+        input.as_slice(),
+        request,
+        gate,
+    )
 }
 
 // The bytes of the file with the text; where no file has it, the text that is made.
@@ -140,35 +150,50 @@ fn input_for<F: Shelf>(alloc: Global, name: Option<&str>, shelf: &mut F) -> Resu
 }
 
 // The texts that are to be written for a request, or why this text and this input give none.
-fn texts_of(
+fn texts_of<R: Threads + Sync, G: Gate + Sync>(
+    rt: &R,
     alloc: Global,
     text: &[u8],
     input: &[u8],
     request: &Request,
+    gate: &G,
 ) -> Result<Vec<Text>, Refusal>
+    requires bounded { IsBounded (asked_by request.now) }
     requires short { length text.now ≤ 1048576 }
     requires last { HasLastOf text.now (asked_by request.now) }
     ensures ok { IfOk result (λ texts. AreWritten text.now (asked_by request.now) input.now texts.items) }
     ensures err { IfErr result (IsReason text.now (asked_by request.now) input.now) }
 {
     let program = read_program(alloc, text)?;
-    made(alloc, program, input, request)
+    made(rt, alloc, program, input, request, gate)
 }
 
 // The texts that are to be written for a request of this program, with this input, or why there are none.
-fn made(
+fn made<R: Threads + Sync, G: Gate + Sync>(
+    rt: &R,
     alloc: Global,
     program: Program,
     input: &[u8],
     request: &Request,
+    gate: &G,
 ) -> Result<Vec<Text>, Refusal>
+    requires bounded { IsBounded (asked_by request.now) }
     requires well_formed { IsWellFormed program }
     requires last { HasLast (asked_by request.now) program }
     ensures { MatchResult result (λ texts. AreWrittenOf program (asked_by request.now) input.now texts.items)
         (IsReasonOf program (asked_by request.now) input.now) }
 {
     match request {
-        Request::Slice { lines, .. } => slice_texts(alloc, program, lines.as_slice()),
+        Request::Slice { lines, workers, .. } => {
+            slice_texts(
+                rt,
+                alloc,
+                program,
+                lines.as_slice(),
+                *workers as u32,
+                gate,
+            )
+        }
         Request::Trace { lines, steps, .. } => {
             trace_texts(alloc, &program, lines.as_slice(), input, *steps)
         }
@@ -182,23 +207,39 @@ fn made(
 // ---- slices
 
 // The texts of the slices of a program at these lines, or why there are none.
-fn slice_texts(alloc: Global, program: Program, lines: &[u64]) -> Result<Vec<Text>, Refusal>
-    requires { IsWellFormed program }
-    ensures { (file input : List ℕ) (workers : ℕ) → MatchResult result
+fn slice_texts<R: Threads + Sync, G: Gate + Sync>(
+    rt: &R,
+    alloc: Global,
+    program: Program,
+    lines: &[u64],
+    workers: u32,
+    gate: &G,
+) -> Result<Vec<Text>, Refusal>
+    requires well_formed { IsWellFormed program }
+    requires workers { AreWorkers workers }
+    ensures { (file input : List ℕ) → MatchResult result
         (λ texts. AreWrittenOf program (Asked.slice file lines.now workers) input texts.items)
         (IsReasonOf program (Asked.slice file lines.now workers) input) }
 {
     let engine = Engine::new(alloc, program)?;
-    slices_at(alloc, &engine, lines)
+    slices_at(rt, alloc, &engine, lines, workers, gate)
 }
 
 // The texts of the slices at these lines, at most 64, or the first line on which no statement starts.
-fn slices_at(alloc: Global, engine: &Engine, lines: &[u64]) -> Result<Vec<Text>, Refusal>
+fn slices_at<R: Threads + Sync, G: Gate + Sync>(
+    rt: &R,
+    alloc: Global,
+    engine: &Engine,
+    lines: &[u64],
+    workers: u32,
+    gate: &G,
+) -> Result<Vec<Text>, Refusal>
+    requires { AreWorkers workers }
     ensures { MatchResult result (λ texts. StartAt engine.now lines.now × AreSlices engine.now lines.now texts.items)
         (IsCriteriaFault engine.now lines.now) }
 {
     let criteria = criteria_at(alloc, engine, lines)?;
-    let texts = slices(alloc, engine, criteria.as_slice())?;
+    let texts = slices(rt, alloc, engine, criteria.as_slice(), workers, gate)?;
     Ok(texts)
 }
 

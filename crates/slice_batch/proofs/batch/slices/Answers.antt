@@ -1,22 +1,20 @@
-use Rattle.std.proofs.Common.{◌∙◌, slice_index_or, subst, sym}
-use Rattle.std.proofs.lemmas.List.Elements.{All-get_or}
-use Rattle.slice_engine.specs.Slice.{HasStart}
-use Rattle.slice_batch.proofs.Pushes.{text_added, text_made}
+use Rattle.std.proofs.Common.{◌≡◌, ℕ, ◌<◌, ◌≤◌, length, ap, ◌∙◌, subst, arith}
+use Rattle.crew.specs.declared.truth.Numbers.{Numbers}
+use Rattle.crew.specs.declared.view.View.{View}
+use Rattle.crew.specs.Counts.{Has, once_below}
+use Rattle.crew.specs.Seats.{view}
+use Rattle.slice_batch.proofs.Places.{all_placed}
+use Rattle.slice_batch.proofs.Seats.{once_inside}
 use Rattle.slice_batch.proofs.batch.slices.Goals as goal
 
--- src/batch.rt:21:20
-pub slice_text-requires : goal.slice_text-requires
-slice_text-requires c =
-    record {
-      start = subst (λ p. HasStart p (slice_index_or c.args.list.now c.loop-criterion.criterion-index (record { line = 0 })).line) (sym c.loop-criterion.invariant.same)
-          (All-get_or (λ k. HasStart c.args.e.now k.line) c.args.list.now c.loop-criterion.criterion-index (record { line = 0 }) c.loop-criterion-test.true c.requires.starts);
-    }
-
-pub loop-criterion-preserved : goal.loop-criterion-preserved
-loop-criterion-preserved c =
-    let inv = c.loop-criterion.invariant in
-    record {
-      texts = text_added c.args.e.now c.args.list.now c.loop-criterion.criterion-index _ c.loop-criterion.texts.items c.push.new.self.items c.in_ok-text.text
-          c.loop-criterion-test.true inv.texts c.in_ok-push.ensures.items (text_made _ _ _ _ inv.same c.in_ok-text.ensures.slice c.in_ok-text.ensures.faithful);
-      same = c.in_ok-text.ensures.same ∙ inv.same;
-    }
+pub returns : goal.returns
+returns g c =
+    let s = c.in_ok-seat.seat in
+    let end_is : (view s).end ≡ length c.args.list.now = c.in_ok-seat.ensures.seat.is_seat.end_is in
+    let drawn = c.in_ok-_words.ensures.drawn c.in_ok-seat.ensures.seat.done in
+    let every : (k : ℕ) → k < length c.args.list.now → Has (view s).drawn k = λ k low.
+    let all = drawn k in
+    let here = ap (once_below k) end_is in
+    let once = once_inside k (length c.args.list.now) low in
+    omega (arith, all, here, once) in
+    all_placed c.args.e.now c.args.list.now (view s).drawn c.join_all.new.texts.items c.in_ok-seat.ensures.places every c.in_ok-seat.ensures.placed

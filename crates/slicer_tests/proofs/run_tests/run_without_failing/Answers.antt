@@ -6,7 +6,7 @@ use Rattle.slicer_tests.proofs.OneFile.{named_text, no_input, under_name}
 use Rattle.slicer_tests.proofs.run_tests.run_without_failing.Goals as goal
 
 pub returns : goal.returns
-returns c = λ form named unasked short starts fits.
+returns g c = λ form named unasked short starts fits.
     let told = contents_of c.new-shelf.result in
     let asked = asked_of c.args.words.now in
     let files = c.new-shelf.ensures.files ∙ c.in_ok-push.ensures.items ∙ ap (λ fs. fs ++ ((c.args.name, c.args.text) ∷ [])) c.new-files.ensures.items in

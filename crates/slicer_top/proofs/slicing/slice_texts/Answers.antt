@@ -4,11 +4,11 @@ use Rattle.slicer_top.proofs.Making.{graph_refused, slices_made}
 use Rattle.slicer_top.proofs.slicing.slice_texts.Goals as goal
 
 pub returns-in_err-engine : goal.returns-in_err-engine
-returns-in_err-engine c = λ file input workers.
-    graph_refused c.args.program input (λ t. t.items) (Asked.slice file c.args.lines.now workers) (Asked.slice file c.args.lines.now workers) c.in_err-engine.field-0.0 c.from_residual.result refl tt
+returns-in_err-engine g c = λ file input.
+    graph_refused c.args.program input (λ t. t.items) (Asked.slice file c.args.lines.now c.args.workers) (Asked.slice file c.args.lines.now c.args.workers) c.in_err-engine.field-0.0 c.from_residual.result refl tt
     c.in_err-engine.ensures.above c.from_residual.ensures.1
 
 pub returns : goal.returns
-returns c = λ file input workers.
-    slices_made c.args.program input c.in_ok-engine.engine c.in_ok-engine.ensures.program c.in_ok-engine.ensures.within (λ t. t.items) (Asked.slice file c.args.lines.now workers)
-    file c.args.lines.now workers c.slices_at.result refl c.slices_at.ensures
+returns g c = λ file input.
+    slices_made c.args.program input c.in_ok-engine.engine c.in_ok-engine.ensures.program c.in_ok-engine.ensures.within (λ t. t.items) (Asked.slice file c.args.lines.now c.args.workers)
+    file c.args.lines.now c.args.workers c.slices_at.result refl c.slices_at.ensures

@@ -7,11 +7,11 @@ use Rattle.slicer_top.proofs.CriteriaLaws.{all_start, are_slices}
 use Rattle.slicer_top.proofs.slicing.slices_at.Goals as goal
 
 pub slices-requires-clause-starts : goal.slices-requires-clause-starts
-slices-requires-clause-starts c =
+slices-requires-clause-starts g c =
     subst (λ (list : List Criterion). All (λ (x : Criterion). HasStart c.args.engine.now x.line) list) (sym c.as_slice.ensures.value)
     (all_start c.args.engine.now c.args.lines.now c.in_ok-criteria.criteria.items c.in_ok-criteria.ensures)
 
 pub returns : goal.returns
-returns c =
+returns g c =
     are_slices c.args.engine.now c.args.lines.now c.in_ok-criteria.criteria.items c.in_ok-texts.texts.items c.in_ok-criteria.ensures
     (subst (λ list. AreTexts c.args.engine.now list c.in_ok-texts.texts.items) c.as_slice.ensures.value c.in_ok-texts.ensures)
