@@ -7,4 +7,4 @@ mod team;
 mod worker;
 
 pub use batch::slices;
-pub use crew::Gate;
+pub use crew::{Gate, OpenGate};

@@ -11,7 +11,7 @@ use crate::run::run_slicer;
 use crate::status::Status;
 use call_words::words_of;
 use edge_io::{Shelf, Sink};
-use slice_engine::Gate;
+use slice_batch::Gate;
 use std::alloc::{AllocError, Global};
 use std::env::Args;
 use std::io;

@@ -20,5 +20,5 @@ pub use edge_io::{FileShelf, StreamSink, Text};
 pub use exit::{Exit, run_call};
 pub use laws::{calls_keep_promises, slices_are_one};
 pub use run::run_slicer;
-pub use slice_engine::{Gate, OpenGate};
+pub use slice_batch::{Gate, OpenGate};
 pub use status::Status;

@@ -8,7 +8,7 @@ use crate::slicing::texts_for;
 use crate::status::Status;
 use call_words::{WordsFault, read_words};
 use edge_io::{PutFailed, Shelf, Sink, Text};
-use slice_engine::Gate;
+use slice_batch::Gate;
 use std::alloc::Global;
 use std::thread::Threads;
 

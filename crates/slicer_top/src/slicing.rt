@@ -19,8 +19,8 @@ use big_programs::generate;
 use c_tree::Program;
 use call_words::Request;
 use edge_io::{Shelf, Text};
-use slice_batch::slices;
-use slice_engine::{Criterion, Engine, Gate, read_program};
+use slice_batch::{Gate, slices};
+use slice_engine::{Criterion, Engine, read_program};
 use std::alloc::{AllocError, Global};
 use std::thread::Threads;
 

@@ -1,5 +1,5 @@
-use Rattle.std.proofs.Common.{◌≡◌, ◌∷◌, [], ◌++◌, All, length, set, sym, ap, ◌∙◌, append_assoc, subst, arith}
-use Rattle.std.proofs.lemmas.List.{map-append}
+use Rattle.std.proofs.Common.{◌≡◌, ◌∷◌, [], ◌++◌, List, All, length, set, sym, ap, ◌∙◌, append_assoc, append-nil, subst, arith}
+use Rattle.std.proofs.lemmas.List.{map-append, nil_from_length}
 use Rattle.std.proofs.lemmas.List.Elements.{All-head, All-tail}
 use Rattle.std.proofs.Math.ListN.{length-set}
 use Rattle.std.specs.Vec.Iter.{into_iter_items}
@@ -27,3 +27,11 @@ loop-one-preserved c =
           (placed_more p list (numbers at.yielded) x at.texts.items made inv.places inv.placed);
       kept = λ k there. still_there p list x at.texts.items k made inv.places (inv.kept k there);
     }
+
+pub returns-clause-placed : goal.returns-clause-placed
+returns-clause-placed c =
+    let at = c.loop-one in
+    let inv = at.invariant in
+    let empty : into_iter_items at.one-iterator ≡ [] = nil_from_length _ (sym inv.long ∙ c.in-None.ensures.steps.0) in
+    let all = sym (append-nil at.yielded) ∙ rw empty at inv.all ∙ c.into_iter-one-iterator.ensures.into_iter_gives.0 in
+    subst (λ (made : List Made). ArePlaced c.args.e.now c.args.list.now (numbers made) at.texts.items) all inv.placed

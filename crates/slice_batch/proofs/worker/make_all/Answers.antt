@@ -1,18 +1,30 @@
-use Rattle.std.proofs.Common.{◌≡◌, ◌+◌, ◌-◌, ◌<◌, ◌≤◌, List, [], ◌∷◌, ◌++◌, All, length, sym, ap, ◌∙◌, subst, arith}
+use Rattle.std.proofs.Common.{◌≡◌, ◌+◌, ◌-◌, ◌<◌, ◌≤◌, List, [], ◌∷◌, ◌++◌, All, length, slice_index_or, sym, ap, ◌∙◌, subst, arith}
 use Rattle.std.proofs.lemmas.List.{get_or_default, map-append}
-use Rattle.std.proofs.lemmas.List.Elements.{All-push}
+use Rattle.std.proofs.lemmas.List.Elements.{All-get_or, All-push}
 use Rattle.crew.specs.declared.truth.Numbers.{Numbers}
 use Rattle.crew.specs.declared.view.View.{View}
 use Rattle.crew.specs.Counts.{times}
 use Rattle.crew.specs.Seats.{view, id_of}
 use Rattle.crew.proofs.CountLemmas.{times_last}
 use Rattle.slice_engine.specs.declared.engine.Criterion.{Criterion}
+use Rattle.slice_engine.specs.Slice.{HasStart}
 use Rattle.slice_batch.specs.declared.worker.Made.{Made}
 use Rattle.slice_batch.specs.Batch.{IsTextOf}
 use Rattle.slice_batch.specs.Team.{IsMade, numbers}
 use Rattle.slice_batch.proofs.Places.{text_made}
 use Rattle.slice_batch.proofs.Seats.{seat_kept}
 use Rattle.slice_batch.proofs.worker.make_all.Goals as goal
+
+pub slice_text-requires : goal.slice_text-requires
+slice_text-requires g c =
+    let list = c.args.list.now in
+    let n = c.in-Some.number in
+    let inv = c.loop-number.invariant in
+    let d : Criterion = record { line = 0 } in
+    let inside : n < length list = omega (arith, c.in-Some.ensures.some.1, inv.is_seat.end_is) in
+    record {
+      start = subst (λ p. HasStart p (slice_index_or list n d).line) (sym inv.same) (All-get_or (λ k. HasStart c.args.e.now k.line) list n d inside c.requires.starts);
+    }
 
 pub loop-number-preserved : goal.loop-number-preserved
 loop-number-preserved g c =
