@@ -169,9 +169,10 @@ fn a_fault_of_out_is_told(rt: HostRuntime) -> Result<(), Fail> {
     // The words, the put that fails by its number, with the bytes that it takes before, and what out has gained.
     let rows = [
         ("slice two.c 7", [(0, 10)], "/* slice 7"),
-        ("slice two.c 7 4", [(0, 10)], "/* slice 7"),
-        ("slice two.c 7 4", [(0, 0)], ""),
-        ("slice two.c 7 4", [(1, 0)], TWO_AT_7),
+        ("slice two.c 7 4 --workers 4", [(0, 10)], "/* slice 7"),
+        ("slice two.c 7 4 --workers 4", [(0, 0)], ""),
+        ("slice two.c 7 4 --workers 4", [(1, 0)], TWO_AT_7),
+        ("slice two.c 7 4 --workers 4", [(1, 12)], AT_7_AND_TWELVE),
     ];
     for (line, fails, out) in rows {
         let failing = Failing {
