@@ -1,5 +1,5 @@
 -- Seats of a board from which numbers are drawn, and what workers hand back with them.
-use Rattle.std.proofs.Common.{◌≡◌, ℕ, zero, suc, ◌+◌, ◌<◌, ◌≤◌, ◌⊎◌, ◌++◌, ◌||◌, List, [], ◌∷◌, length, get_or, eqb, true, inl, inr, refl, sym, ap, ◌∙◌, subst, arith}
+use Rattle.std.proofs.Common.{◌≡◌, ℕ, zero, suc, ◌+◌, ◌<◌, ◌≤◌, ◌⊎◌, ◌++◌, List, [], ◌∷◌, length, get_or, eqb, inl, inr, refl, ap, ◌∙◌, arith}
 use Rattle.std.proofs.lemmas.Bool.{cases_eq, eq-eqb, ne_eqb}
 use Rattle.atomic_table.specs.Seated.{TableId}
 use Rattle.crew.specs.declared.board.BoardSeat.{BoardSeat}
@@ -7,7 +7,7 @@ use Rattle.crew.specs.declared.truth.Numbers.{Numbers}
 use Rattle.crew.specs.declared.view.View.{View}
 use Rattle.crew.specs.Counts.{Has, times, once_below, one_if}
 use Rattle.crew.specs.Seats.{view, board_of}
-use Rattle.crew.specs.Views.{giver_view, split_view, joined_view}
+use Rattle.crew.specs.Views.{giver_view, split_view}
 use Rattle.crew.proofs.CountLemmas.{once_past, times_append, total_snoc}
 use Rattle.slice_batch.specs.declared.worker.Worked.{Worked}
 use Rattle.slice_batch.specs.Team.{IsFresh, IsSeatOf, part, parts, worked_parts}

@@ -1,6 +1,4 @@
-use Rattle.std.proofs.Common.{◌≡◌, ℕ, ◌<◌, ◌≤◌, length, ap, ◌∙◌, subst, arith}
-use Rattle.crew.specs.declared.truth.Numbers.{Numbers}
-use Rattle.crew.specs.declared.view.View.{View}
+use Rattle.std.proofs.Common.{◌≡◌, ℕ, ◌<◌, length, ap, arith}
 use Rattle.crew.specs.Counts.{Has, once_below}
 use Rattle.crew.specs.Seats.{view}
 use Rattle.slice_batch.proofs.Places.{all_placed}

@@ -1,8 +1,18 @@
-use Rattle.std.proofs.Common.{◌≡◌, ◌<◌, length, sym, ap, subst, arith}
-use Rattle.crew.specs.Seats.{view, id_of}
+use Rattle.std.proofs.Common.{◌<◌, [], length, sym, subst, arith}
+use Rattle.crew.specs.Seats.{id_of}
 use Rattle.slice_batch.specs.Team.{IsFresh}
 use Rattle.slice_batch.proofs.Seats.{parts_same}
+use mir.Syntax.{named}
+use denote.Param.{param}
+use Rattle.slice_batch.proofs.Shared.{captured_sync}
 use Rattle.slice_batch.proofs.team.run_team.Goals as goal
+
+pub team_map-requires-sync-F : goal.team_map-requires-sync-F
+team_map-requires-sync-F g c κs within = record {
+  shared = λ x b o κ. (captured_sync [] (named 6) (named 7) (named 8) (named 9) (named 10)
+      κs.1.1.1.1.1.1.0 κs.1.1.1.1.1.1.1.0 κs.1.1.1.1.1.1.1.1.0 κs.1.1.1.1.1.1.1.1.1.0 κs.1.1.1.1.1.1.1.1.1.1.0
+      (param 1 g.row.G) c.type_bounds.sync-G).shared x b o κ;
+}
 
 pub team_map-requires-clause-accepts : goal.team_map-requires-clause-accepts
 team_map-requires-clause-accepts g c κs within = λ i s low is.

@@ -1,10 +1,10 @@
-use Rattle.std.proofs.Common.{◌≡◌, ◌+◌, ◌-◌, List, [], ◌∷◌, All, length, length-append, sym, ap, subst, arith}
+use Rattle.std.proofs.Common.{◌≡◌, ◌-◌, List, [], ◌∷◌, All, length, length-append, sym, ap, subst, arith}
 use Rattle.std.proofs.lemmas.List.Elements.{All-push}
 use Rattle.crew.specs.declared.board.BoardSeat.{BoardSeat}
 use Rattle.crew.specs.declared.truth.Numbers.{Numbers}
 use Rattle.crew.specs.declared.view.View.{View}
 use Rattle.crew.specs.Seats.{view, id_of}
-use Rattle.slice_batch.specs.Team.{IsFresh, part, parts}
+use Rattle.slice_batch.specs.Team.{IsFresh}
 use Rattle.slice_batch.proofs.Seats.{fresh_giver, fresh_split, parts_more}
 use Rattle.slice_batch.proofs.team.seats_of.Goals as goal
 
