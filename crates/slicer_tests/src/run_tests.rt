@@ -52,9 +52,7 @@ fn run_without_failing<R: Threads + Sync>(
     let mut shelf = MemoryShelf::new(files, Vec::new(alloc));
     let mut out = MemorySink::new(alloc, room, Vec::new(alloc))?;
     let mut err = MemorySink::new(alloc, 14, Vec::new(alloc))?;
-    let status = run_slicer(
-        rt, alloc, words, &mut shelf, &mut out, &mut err, &OpenGate,
-    );
+    let status = run_slicer(rt, alloc, words, &mut shelf, &mut out, &mut err, &OpenGate);
     Ok(status)
 }
 

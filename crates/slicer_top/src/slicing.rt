@@ -47,14 +47,7 @@ pub(crate) fn texts_for<R: Threads + Sync, F: Shelf, G: Gate + Sync>(
 {
     let text = text_for(alloc, request, shelf)?;
     let input = input_for(alloc, request.input(), shelf)?;
-    texts_of(
-        rt,
-        alloc,
-        text.as_slice(),
-        input.as_slice(),
-        request,
-        gate,
-    )
+    texts_of(rt, alloc, text.as_slice(), input.as_slice(), request, gate)
 }
 
 // The bytes of the file with the text; where no file has it, the text that is made.
@@ -185,14 +178,7 @@ fn made<R: Threads + Sync, G: Gate + Sync>(
 {
     match request {
         Request::Slice { lines, workers, .. } => {
-            slice_texts(
-                rt,
-                alloc,
-                program,
-                lines.as_slice(),
-                *workers as u32,
-                gate,
-            )
+            slice_texts(rt, alloc, program, lines.as_slice(), *workers as u32, gate)
         }
         Request::Trace { lines, steps, .. } => {
             trace_texts(alloc, &program, lines.as_slice(), input, *steps)
