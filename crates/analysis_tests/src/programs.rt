@@ -105,3 +105,79 @@ int main(void) {
     x = x + 1;
 }
 ";
+
+/// A function that is called twice.
+pub(crate) const ID: &str = r#"int id(int a) {
+return a;
+}
+int main(void) {
+int x = 1;
+int y = id(x);
+int z = id(2);
+}
+"#;
+
+/// A function without parameters.
+pub(crate) const SET: &str = r#"int g;
+void set(void) {
+g = 1;
+}
+int main(void) {
+set();
+int y = g;
+}
+"#;
+
+/// A function that two calls enter by different parameters.
+pub(crate) const TWO_WAYS: &str = r#"int g;
+int h;
+void f(int a, int b) {
+int t = a;
+g = a;
+h = t + b;
+}
+int main(void) {
+int x = 1;
+f(x, 0);
+int y = g;
+f(0, x);
+int z = h;
+y = y + z;
+}
+"#;
+
+/// Calls three deep.
+pub(crate) const THREE_DEEP: &str = r#"int g;
+int h;
+void one(int a) {
+    g = g + a;
+}
+void two(int b) {
+    one(b);
+    h = b;
+}
+void three(int c) {
+    two(c);
+}
+int main(void) {
+    int x = 1;
+    three(x);
+    int y = g;
+    int z = h;
+}
+"#;
+
+/// A function that calls itself.
+pub(crate) const TURNS: &str = r#"int g;
+void down(int n) {
+    if (n > 0) {
+        down(n - 1);
+        g = g + n;
+    }
+}
+int main(void) {
+    int x = 3;
+    down(x);
+    int y = g;
+}
+"#;
