@@ -1,8 +1,9 @@
 -- What a slice keeps: the completion of what reaches the criterion.
-use Rattle.std.proofs.Common.{◌≡◌, ◌↔◌, ℕ, List, length, Bool, sym, ap, ◌∙◌, subst, IsTrue}
+use Rattle.std.proofs.Common.{◌≡◌, ◌↔◌, ◌<◌, ℕ, List, length, Bool, sym, ap, ◌∙◌, subst, IsTrue}
+use Rattle.std.specs.Prelude.{AllPairs}
 use mathlib.Core.Path.{fun_ext}
 use Rattle.bit_rows.specs.Sets.{has}
-use Rattle.c_tree.specs.Numbered.{Starts}
+use Rattle.c_tree.specs.Numbered.{Starts, program_starts}
 use Rattle.c_tree.specs.declared.program.Program.{Program}
 use Rattle.c_language.specs.Programs.{IsWellFormed}
 use Rattle.dep_model.specs.declared.edge.Edge.{Edge}
@@ -18,7 +19,7 @@ use Rattle.dep_model.proofs.OneAnalysis.{one_analysis}
 use Rattle.two_pass.specs.Ready.{PassGraph, HasMembers}
 use Rattle.listed_graphs.proofs.Completions.{main_there}
 use Rattle.slice_engine.specs.Criterion.{starts_among}
-use Rattle.slice_engine.specs.Engine.{AreMembers, AreMembersIn, KeepsFrom, IsKept, HasPlaces}
+use Rattle.slice_engine.specs.Engine.{AreVerticesIn, AreMembers, AreMembersIn, KeepsFrom, IsKept, HasPlaces}
 use Rattle.slice_engine.specs.Slice.{starts_on, IsReached, IsKeptSet}
 use Rattle.slice_engine.specs.Slicing.{IsPassing}
 use Rattle.slice_engine.proofs.CriterionLaws.{length-criterion}
@@ -26,6 +27,13 @@ use Rattle.slice_engine.proofs.CriterionLaws.{length-criterion}
 pub reaches_from : (edges : List Edge) (from : List ℕ) (x r : List Bool) → HasMembers from x
     → ((s : List Bool) → HasMembers from s → (v : ℕ) → IsTrue (has r v) ↔ ReachesAny edges s v) → length r ≡ length x → IsReached edges x r
 reaches_from edges from x r members reaches long = record { size = long; members = reaches x members }
+
+-- the numbers of the criterion, from tests of the statements that start on the line
+pub vertices_from : (p : Program) (g : Graph) (starts : Starts) (line : ℕ) (tests x : List Bool) (found : List ℕ) → starts ≡ program_starts p → ((i : ℕ) → has tests i ≡ starts_among line starts i)
+    → x ≡ criterion_of (has tests) g.vertices → HasMembers found x → AllPairs (λ u v. u < v) found → AreVerticesIn p g line found
+vertices_from p g starts line tests x found all each is members ascending =
+    let same : has tests ≡ starts_on p line = fun_ext (λ i. each i ∙ ap (λ ss. starts_among line ss i) all) in
+    record { members = subst (HasMembers found) (is ∙ ap (λ (f : ℕ → Bool). criterion_of f g.vertices) same) members; ascending = ascending }
 
 -- from tests of the statements that start on the line
 pub members_from : (p : Program) (g : Graph) (starts : Starts) (passes : PassGraph) (line : ℕ) (tests x r : List Bool) → IsPassing p g starts passes → ((i : ℕ) → has tests i ≡ starts_among line starts i)

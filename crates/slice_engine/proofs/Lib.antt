@@ -7,6 +7,7 @@ pub mod CriterionLaws
 pub mod HeaderLemmas
 pub mod HeaderLines
 pub mod KeptSets
+pub mod ProgramGraphs
 pub mod FirstMembers
 pub mod GraphLaws
 pub mod GraphQuantities

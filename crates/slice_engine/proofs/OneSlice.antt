@@ -62,7 +62,7 @@ ascending_one (x ∷ xs) (y ∷ ys) a b same =
 -- ---- lists with the same edges
 
 module _ (es fs : List Edge) (each : (e : Edge) → Contains es e → Contains fs e) where
-  path_among : (path : List Edge) (a b : ℕ) → IsPath es a path b → IsPath fs a path b
+  pub path_among : (path : List Edge) (a b : ℕ) → IsPath es a path b → IsPath fs a path b
   path_among [] a b joins = joins
   path_among (e ∷ path) a b joins = (each e joins.0, joins.1, path_among path e.to b joins.2)
 

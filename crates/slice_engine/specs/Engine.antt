@@ -1,5 +1,6 @@
 -- What an engine holds, and what it finds at a line.
-use Rattle.std.specs.Prelude.{◌≡◌, ℕ, ◌≤◌, ◌<◌, List, Bool, true, false, length, slice_index_or}
+use Rattle.std.specs.Prelude.{◌≡◌, ◌↔◌, ℕ, ◌≤◌, ◌<◌, List, Bool, true, false, length, slice_index_or, AllPairs, Contains, IsTrue}
+use Rattle.bit_rows.specs.Sets.{has}
 use Rattle.c_tree.specs.declared.program.Program.{Program}
 use Rattle.c_tree.specs.Numbered.{Starts, program_starts}
 use Rattle.c_language.specs.Programs.{IsWellFormed}
@@ -39,7 +40,20 @@ pub record IsReady (p : Program) (list : List Location) (g : Graph) (facts : Fac
   pub prepared : IsPrepared p g facts starts
   pub locations_are : list ≡ location_list p
 
+-- the facts are the true ones of each graph of the program
+abbrev pub AreFactsOf : Program → Facts → Type 0
+AreFactsOf p facts = (g : Graph) → IsGraphOf p g → AreTrueFacts g facts.words
+
 -- ---- what is found at a line
+
+-- the numbers of exactly the vertices of the statements that start on a line, in a graph, ascending
+pub record AreVerticesIn (p : Program) (g : Graph) (line : ℕ) (numbers : List ℕ) : Type 0 where
+  pub members : (v : ℕ) → IsTrue (has (criterion_of (starts_on p line) g.vertices) v) ↔ Contains numbers v
+  pub ascending : AllPairs (λ u v. u < v) numbers
+
+-- in each graph of the program
+abbrev pub AreVerticesOf : Program → ℕ → List ℕ → Type 0
+AreVerticesOf p line numbers = (g : Graph) → IsGraphOf p g → AreVerticesIn p g line numbers
 
 -- a set has a place for each vertex of the program's graph
 abbrev pub HasPlaces : Program → List Bool → Type 0

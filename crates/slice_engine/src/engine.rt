@@ -6,17 +6,18 @@ ghost use Rattle.c_language.specs.Programs.{IsWellFormed};
 ghost use Rattle.dep_model.specs.declared.graph_fault.GraphFault.TheVariants.{Limit};
 ghost use Rattle.dep_model.specs.Graphs.{IsGraphOf};
 ghost use Rattle.dep_model.specs.LocationLists.{location_list};
-ghost use Rattle.slice_engine.specs.Engine.{IsPrepared, IsWithinLimits, AreMembers, IsKept, HasPlaces};
+ghost use Rattle.dep_model.specs.Shapes.{IsShaped};
+ghost use Rattle.slice_engine.specs.Engine.{IsPrepared, IsWithinLimits, AreFactsOf, AreVerticesOf, AreMembers, IsKept, HasPlaces};
 ghost use Rattle.slice_engine.specs.GraphLimits.{IsAboveGraphLimit};
 ghost use Rattle.slice_engine.specs.Slice.{HasStart, IsSlice, IsFaithful};
 
 use crate::criterion::any_starts_on;
 use crate::graph::{graph_of, locations_of};
-use crate::slicing::{Slicing, members_at};
+use crate::slicing::{Slicing, members_at, vertices_at};
 use crate::starts::{last_line, starts_in};
 use c_tree::numbered::Start;
 use c_tree::{Program, Text};
-use dep_model::{Facts, Graph, GraphFault, Locations, VertexSet};
+use dep_model::{Facts, Graph, GraphFault, Locations, VertexId, VertexSet};
 use std::alloc::{AllocError, Global};
 use std::marker::Model;
 use two_pass::Passes;
@@ -94,12 +95,21 @@ impl Engine {
         &self.locations
     }
 
-    /// The system dependence graph of the program, which is within its limits.
+    /// The system dependence graph of the program, which is within its limits, and in which calls and functions fit one another.
     pub fn graph(&self) -> &Graph
         ensures graph { IsGraphOf self.now result.now }
         ensures within { IsWithinLimits self.now result.now }
+        ensures shaped { IsShaped result.now }
     {
         &self.graph
+    }
+
+    /// The true facts of each graph of the program: which results of its functions depend on which of their parameters. That there
+    /// is such a graph is a law (`programs_have_a_graph`).
+    pub fn facts(&self) -> &Facts
+        ensures { AreFactsOf self.now result.now }
+    {
+        &self.facts
     }
 
     /// The criterion of a line, or None exactly where no statement starts on it.
@@ -119,6 +129,17 @@ impl Engine {
         ensures is_one { (result ≡ 0) ⊎ HasStart self.now result }
     {
         last_line(&self.starts)
+    }
+
+    /// The numbers of the vertices of the criterion's statements, ascending, the same in each graph of the program. Of a call these are
+    /// its call vertex, and the actual-out of its result where that is stored.
+    ///
+    /// Err: no memory was left.
+    pub fn vertices(&self, alloc: Global, c: Criterion) -> Result<Vec<VertexId>, AllocError>
+        ensures { IfOk result (λ found. AreVerticesOf self.now c.line found.items) }
+    {
+        let found = vertices_at(alloc, &self.program, &self.graph, &self.starts, c.line)?;
+        Ok(found)
     }
 
     /// The vertices that reach those of the criterion's statements by matched calls and returns (Horwitz, Reps and Binkley

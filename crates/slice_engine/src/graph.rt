@@ -1,5 +1,5 @@
 //! The system dependence graph of a program, and what reaches a set of its vertices.
-ghost use Rattle.std.specs.Prelude.{◌≡◌, ◌≤◌, ◌<◌, ◌^◌, ◌↔◌, ℕ, IsTrue, IfOk, OnOk, length};
+ghost use Rattle.std.specs.Prelude.{◌≡◌, ◌≤◌, ◌<◌, ◌^◌, ◌↔◌, ℕ, AllPairs, IsTrue, IfOk, OnOk, length};
 ghost use Rattle.std.specs.Result.{IfErr};
 ghost use Rattle.c_tree.specs.declared.limits.LimitName.{LimitName};
 ghost use Rattle.c_language.specs.Programs.{IsWellFormed};
@@ -82,9 +82,10 @@ pub(crate) fn reach(
     Ok(())
 }
 
-// The numbers in a set, ascending.
-fn numbers_in(alloc: Global, set: &VertexSet) -> Result<Vec<VertexId>, AllocError>
-    ensures { IfOk result (λ found. HasMembers found.items set.now) }
+/// The numbers in a set, ascending. Err: no memory was left.
+pub(crate) fn numbers_in(alloc: Global, set: &VertexSet) -> Result<Vec<VertexId>, AllocError>
+    ensures members { IfOk result (λ found. HasMembers found.items set.now) }
+    ensures ascending { IfOk result (λ found. AllPairs (λ u v. u < v) found.items) }
 {
     let mut found = Vec::new(alloc);
     for v in 0..set.len() {

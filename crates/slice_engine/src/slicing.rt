@@ -1,21 +1,21 @@
 //! What makes slices of one program, one after another.
-ghost use Rattle.std.specs.Prelude.{◌≡◌, ◌<◌, IfOk, IsTrue, ◌↔◌, length};
+ghost use Rattle.std.specs.Prelude.{◌≡◌, ◌≤◌, ◌<◌, IfOk, IsTrue, ◌↔◌, length};
 ghost use Rattle.c_tree.specs.Numbered.{program_starts};
 ghost use Rattle.projection.specs.KeptVertices.{kept_words};
 ghost use Rattle.slice_engine.specs.Criterion.{by_rank as by_rank_of};
-ghost use Rattle.slice_engine.specs.Engine.{IsPrepared, AreMembersIn, KeepsFrom, IsKept, HasPlaces, IsSlicedAt};
+ghost use Rattle.slice_engine.specs.Engine.{IsPrepared, AreVerticesIn, AreMembersIn, KeepsFrom, IsKept, HasPlaces, IsSlicedAt};
 ghost use Rattle.slice_engine.specs.Slice.{starts_on, HasStart, IsSlice, IsAcceptedSlice, IsFaithful};
 ghost use Rattle.slice_engine.specs.Slicing.{IsPassing, IsSlicing};
 
 use crate::criterion::{by_rank, criterion_set, kept_statements, starting_on};
 use crate::engine::Criterion;
-use crate::graph::reach;
+use crate::graph::{numbers_in, reach};
 use crate::header::{header, header_lines};
 use c_print::{lines_of, print};
 use c_tree::numbered::Start;
 use c_tree::{Program, Text};
 use completion::Closer;
-use dep_model::{Facts, Graph, VertexSet};
+use dep_model::{Facts, Graph, VertexId, VertexSet};
 use projection::project;
 use std::alloc::{AllocError, Global};
 use std::marker::Model;
@@ -113,6 +113,24 @@ impl<'e> Slicing<'e> {
         )?;
         Ok(text)
     }
+}
+
+// The numbers of the vertices of the statements that start on a line, ascending.
+pub(crate) fn vertices_at(
+    alloc: Global,
+    p: &Program,
+    graph: &Graph,
+    starts: &[Start],
+    line: u32,
+) -> Result<Vec<VertexId>, AllocError>
+    requires starts { starts.now ≡ program_starts p.now }
+    requires few { length graph.now.vertices ≤ 65536 }
+    ensures { IfOk result (λ found. AreVerticesIn p.now graph.now line found.items) }
+{
+    let tests = starting_on(alloc, starts, line)?;
+    let set = criterion_set(alloc, graph.vertices.as_slice(), tests.as_slice())?;
+    let found = numbers_in(alloc, &set)?;
+    Ok(found)
 }
 
 // What reaches the criterion of a line.
