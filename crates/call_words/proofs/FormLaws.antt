@@ -17,7 +17,7 @@ use Rattle.clap.proofs.WalkLemmas.{raw_values-rows, first_value-rows}
 use Rattle.call_words.specs.Sorting.{Bytes, Sorted, and_sorted, none_sorted, sorted}
 use Rattle.call_words.specs.Forms.{texts}
 use Rattle.call_words.specs.declared.grammar.Command.{Command}
-use Rattle.call_words.specs.declared.grammar.Command.TheVariants.{Slice, Trace, Run, Graph, Members, Big}
+use Rattle.call_words.specs.declared.grammar.Command.TheVariants.{Slice, Trace, Run, Graph, Members, Big, Forward, Chop}
 use Rattle.call_words.specs.Grammar as grammar
 use Rattle.call_words.specs.Grammar.{AreWanted, IsInForm, IsInGrammar, IsNumber, IsNumberWithin, IsOf, IsSortedInForm, command_of, decimal_from, kind_at, kind_of, word}
 use Rattle.call_words.specs.Requests.{AreWorkers, Asked, CanAsk, IsBounded, asked_of, asks, input_in, number_or, numbers_of, steps_in, value_given}
@@ -157,6 +157,11 @@ members_line others wanted =
     let both : 1 < length others = (let enough = wanted.enough in omega (arith, enough)) in
     (both, line_number 0 9999999999 (word others 1) (wanted.each 1 both))
 
+two_lines : (others : List Bytes) → AreWanted (grammar.row Chop) others → (2 < length others) × IsNumber (word others 1) × IsNumber (word others 2)
+two_lines others wanted =
+    let all : 2 < length others = (let enough = wanted.enough in omega (arith, enough)) in
+    (all, line_number 0 9999999999 (word others 1) (wanted.each 1 (omega (arith, all))), line_number 0 9999999999 (word others 2) (wanted.each 2 all))
+
 seed_and_size : (others : List Bytes) → AreWanted (grammar.row Big) others → (1 < length others) × IsNumberWithin 0 2147483647 (word others 0) × IsNumberWithin 1 1000 (word others 1)
 seed_and_size others wanted =
     let both : 1 < length others = (let enough = wanted.enough in omega (arith, enough)) in
@@ -212,6 +217,12 @@ can_ask Members s form =
 can_ask Big s form =
     let both = seed_and_size s.others form.others in
     (both.0, both.1, both.2, option_number (grammar.row Big) (codes "workers") 1 16 refl s form)
+can_ask Forward s form =
+    let line = members_line s.others form.others in
+    (line.0, line.1, option_number (grammar.row Forward) (codes "workers") 1 16 refl s form)
+can_ask Chop s form =
+    let lines = two_lines s.others form.others in
+    (lines.0, lines.1, lines.2, option_number (grammar.row Chop) (codes "workers") 1 16 refl s form)
 
 -- 4 workers where no number of them is given, and else at least 1 and at most 16
 workers_bounded : (value : Option Bytes) → IfSome value (IsNumberWithin 1 16) → AreWorkers (number_or 4 value)
@@ -232,6 +243,8 @@ asks_bounded Members s form = of_row Members s refl form
 asks_bounded Big s form =
     let both = seed_and_size s.others form.others in
     (both.1.at_most, both.2.at_least, both.2.at_most, of_row Big s refl form)
+asks_bounded Forward s form = of_row Forward s refl form
+asks_bounded Chop s form = of_row Chop s refl form
 
 pub words_bounded : (words : List Bytes) → IsInGrammar words → IsBounded (asked_of words)
 words_bounded words g = go (command_of words) g
@@ -268,6 +281,10 @@ asks_found Members s m has =
     ap₂ (λ others value. Asked.members (word others 0) (decimal_from 0 (word others 1)) (number_or 4 value)) has.words (has.values (codes "workers") refl)
 asks_found Big s m has =
     ap₂ (λ others value. Asked.big (decimal_from 0 (word others 0)) (decimal_from 0 (word others 1)) (number_or 4 value)) has.words (has.values (codes "workers") refl)
+asks_found Forward s m has =
+    ap₂ (λ others value. Asked.forward (word others 0) (decimal_from 0 (word others 1)) (number_or 4 value)) has.words (has.values (codes "workers") refl)
+asks_found Chop s m has =
+    ap₂ (λ others value. Asked.chop (word others 0) (decimal_from 0 (word others 1)) (decimal_from 0 (word others 2)) (number_or 4 value)) has.words (has.values (codes "workers") refl)
 
 pub can_ask_found : (c : Command) (s : Sorted) (m : ArgMatches) → HasMatches (grammar.row c) s m → CanAsk c s.others (value_given s.given) → CanAsk c (others_found m) (value_found m)
 can_ask_found Slice s m has can = (
@@ -299,6 +316,17 @@ can_ask_found Big s m has can = (
   subst (λ others. IsNumberWithin 1 1000 (word others 1)) (sym has.words) can.2,
   subst (λ value. IfSome value IsNumber) (sym (has.values (codes "workers") refl)) can.3,
 )
+can_ask_found Forward s m has can = (
+  subst (λ others. 1 < length others) (sym has.words) can.0,
+  subst (λ others. IsNumber (word others 1)) (sym has.words) can.1,
+  subst (λ value. IfSome value IsNumber) (sym (has.values (codes "workers") refl)) can.2,
+)
+can_ask_found Chop s m has can = (
+  subst (λ others. 2 < length others) (sym has.words) can.0,
+  subst (λ others. IsNumber (word others 1)) (sym has.words) can.1,
+  subst (λ others. IsNumber (word others 2)) (sym has.words) can.2,
+  subst (λ value. IfSome value IsNumber) (sym (has.values (codes "workers") refl)) can.3,
+)
 
 -- no option of a row has the name of the argument of all other words
 pub rows_apart : (c : Command) → is_apart (grammar.row c) ≡ true
@@ -308,6 +336,8 @@ rows_apart Run = refl
 rows_apart Graph = refl
 rows_apart Members = refl
 rows_apart Big = refl
+rows_apart Forward = refl
+rows_apart Chop = refl
 
 -- the command that the first word names
 pub command_is : (all : List (Bor Bytes)) (name : Bytes) (c : Option Command) → 0 < length all → (d : Bor Bytes) → name ≡ (slice_index_or all 0 d).now → c ≡ command_of (name ∷ []) → c ≡ command_of (texts all)

@@ -8,7 +8,7 @@ use Rattle.call_words.specs.Sorting.{Bytes, Sorted, sorted}
 use Rattle.call_words.specs.declared.grammar.Kind.{Kind}
 use Rattle.call_words.specs.declared.grammar.Kind.TheVariants.{File, Number}
 use Rattle.call_words.specs.declared.grammar.Command.{Command}
-use Rattle.call_words.specs.declared.grammar.Command.TheVariants.{Slice, Trace, Run, Graph, Members, Big}
+use Rattle.call_words.specs.declared.grammar.Command.TheVariants.{Slice, Trace, Run, Graph, Members, Big, Forward, Chop}
 
 -- ---- the table
 
@@ -75,9 +75,23 @@ row Big = record {
   options = workers;
   required = [];
 }
+row Forward = record {
+  name = codes "forward";
+  wanted = File ∷ line ∷ [];
+  repeats = false;
+  options = workers;
+  required = [];
+}
+row Chop = record {
+  name = codes "chop";
+  wanted = File ∷ line ∷ line ∷ [];
+  repeats = false;
+  options = workers;
+  required = [];
+}
 
 abbrev pub commands : List Command
-commands = Slice ∷ Trace ∷ Run ∷ Graph ∷ Members ∷ Big ∷ []
+commands = Slice ∷ Trace ∷ Run ∷ Graph ∷ Members ∷ Big ∷ Forward ∷ Chop ∷ []
 
 -- ---- kinds of words
 

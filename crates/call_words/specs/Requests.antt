@@ -7,7 +7,7 @@ use Rattle.std.specs.String.{string_bytes}
 use Rattle.call_words.specs.Sorting.{Bytes, sorted}
 use Rattle.call_words.specs.Grammar.{word, decimal_from, command_of, IsInGrammar, IsNumber, IsNumberWithin}
 use Rattle.call_words.specs.declared.grammar.Command.{Command}
-use Rattle.call_words.specs.declared.grammar.Command.TheVariants.{Slice, Trace, Run, Graph, Members, Big}
+use Rattle.call_words.specs.declared.grammar.Command.TheVariants.{Slice, Trace, Run, Graph, Members, Big, Forward, Chop}
 use Rattle.call_words.specs.declared.request.Request.{Request}
 use Rattle.call_words.specs.declared.request.Request.TheVariants as request
 
@@ -25,6 +25,10 @@ pub data Asked : Type 0 where
   members : (file : Bytes) (line workers : ℕ) → Asked
   -- the numbers of the slice of the program that a seed gives, with so many functions beside main, by so many workers
   big : (seed size workers : ℕ) → Asked
+  -- what the statements on a line reach in the graph of a file's program, by so many workers
+  forward : (file : Bytes) (line workers : ℕ) → Asked
+  -- through what in that graph the statements on the first line reach those on the second, by so many workers
+  chop : (file : Bytes) (from to workers : ℕ) → Asked
 
 -- the value of an option
 abbrev pub value_given : List (Bytes × Bytes) → Bytes → Option Bytes
@@ -56,6 +60,8 @@ asks Run others value = Asked.run (word others 0) (input_in value) (steps_in val
 asks Graph others value = Asked.graph (word others 0) (workers_in value)
 asks Members others value = Asked.members (word others 0) (decimal_from 0 (word others 1)) (workers_in value)
 asks Big others value = Asked.big (decimal_from 0 (word others 0)) (decimal_from 0 (word others 1)) (workers_in value)
+asks Forward others value = Asked.forward (word others 0) (decimal_from 0 (word others 1)) (workers_in value)
+asks Chop others value = Asked.chop (word others 0) (decimal_from 0 (word others 1)) (decimal_from 0 (word others 2)) (workers_in value)
 
 -- what the words ask for, where they are in the grammar
 abbrev pub asked : List Bytes → Option Asked
@@ -70,6 +76,8 @@ asked_by (request.Run file input steps) = Asked.run (string_bytes file) (string_
 asked_by (request.Graph file workers) = Asked.graph (string_bytes file) workers
 asked_by (request.Members file line workers) = Asked.members (string_bytes file) line workers
 asked_by (request.Big seed size workers) = Asked.big seed size workers
+asked_by (request.Forward file line workers) = Asked.forward (string_bytes file) line workers
+asked_by (request.Chop file from to workers) = Asked.chop (string_bytes file) from to workers
 
 -- the other words and the values of the options are such as a command's request can be made of
 abbrev pub CanAsk : Command → List Bytes → (Bytes → Option Bytes) → Type 0
@@ -79,6 +87,8 @@ CanAsk Run others value = (0 < length others) × IfSome (value (codes "steps")) 
 CanAsk Graph others value = (0 < length others) × IfSome (value (codes "workers")) IsNumber
 CanAsk Members others value = (1 < length others) × IsNumber (word others 1) × IfSome (value (codes "workers")) IsNumber
 CanAsk Big others value = (1 < length others) × IsNumberWithin 0 2147483647 (word others 0) × IsNumberWithin 1 1000 (word others 1) × IfSome (value (codes "workers")) IsNumber
+CanAsk Forward others value = (1 < length others) × IsNumber (word others 1) × IfSome (value (codes "workers")) IsNumber
+CanAsk Chop others value = (2 < length others) × IsNumber (word others 1) × IsNumber (word others 2) × IfSome (value (codes "workers")) IsNumber
 
 -- the words are in the grammar, and this request is what they ask for
 pub record IsRead (words : List Bytes) (r : Request) : Type 0 where
@@ -96,6 +106,8 @@ IsBounded (Asked.run file input steps) = Unit {0}
 IsBounded (Asked.graph file workers) = AreWorkers workers
 IsBounded (Asked.members file line workers) = AreWorkers workers
 IsBounded (Asked.big seed size workers) = (seed ≤ 2147483647) × (0 < size) × (size ≤ 1000) × AreWorkers workers
+IsBounded (Asked.forward file line workers) = AreWorkers workers
+IsBounded (Asked.chop file from to workers) = AreWorkers workers
 
 -- the file with the program and the lines of what is asked for, where there are such
 abbrev pub file_in : Asked → Option Bytes
@@ -105,6 +117,8 @@ file_in (Asked.run file input steps) = Some file
 file_in (Asked.graph file workers) = Some file
 file_in (Asked.members file line workers) = Some file
 file_in (Asked.big seed size workers) = None
+file_in (Asked.forward file line workers) = Some file
+file_in (Asked.chop file from to workers) = Some file
 
 -- the file with the input, where one is asked for
 abbrev pub input_of : Asked → Option Bytes
@@ -114,6 +128,8 @@ input_of (Asked.run file input steps) = Some input
 input_of (Asked.graph file workers) = None
 input_of (Asked.members file line workers) = None
 input_of (Asked.big seed size workers) = None
+input_of (Asked.forward file line workers) = None
+input_of (Asked.chop file from to workers) = None
 
 -- both, in the order in which they are fetched
 abbrev pub files_in : Asked → List Bytes
@@ -126,6 +142,8 @@ lines_in (Asked.run file input steps) = []
 lines_in (Asked.graph file workers) = []
 lines_in (Asked.members file line workers) = line ∷ []
 lines_in (Asked.big seed size workers) = []
+lines_in (Asked.forward file line workers) = line ∷ []
+lines_in (Asked.chop file from to workers) = from ∷ to ∷ []
 
 -- how many acts a run may have that is asked for
 abbrev pub steps_of : Asked → ℕ
@@ -135,6 +153,8 @@ steps_of (Asked.run file input steps) = steps
 steps_of (Asked.graph file workers) = 0
 steps_of (Asked.members file line workers) = 0
 steps_of (Asked.big seed size workers) = 0
+steps_of (Asked.forward file line workers) = 0
+steps_of (Asked.chop file from to workers) = 0
 
 -- what the words ask for; of words outside the grammar no slices
 abbrev pub asked_of : List Bytes → Asked

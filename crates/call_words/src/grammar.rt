@@ -27,6 +27,10 @@ pub enum Command {
     Members,
     /// The numbers of the slice of a large program that is made from a seed.
     Big,
+    /// The vertices of the graph of a file's program that the statements on a line reach.
+    Forward,
+    /// Those through which the statements on one line reach those on another.
+    Chop,
 }
 
 /// An option, `--name value` or `--name=value`, and what its value may be.
@@ -59,6 +63,8 @@ const LINE: Kind = Kind::Number(0, 9_999_999_999);
 static FILE: [Kind; 1] = [Kind::File];
 
 static FILE_AND_LINE: [Kind; 2] = [Kind::File, LINE];
+
+static FILE_AND_TWO_LINES: [Kind; 3] = [Kind::File, LINE, LINE];
 
 static SEED_AND_SIZE: [Kind; 2] = [Kind::Number(0, 2_147_483_647), Kind::Number(1, 1_000)];
 
@@ -125,6 +131,20 @@ pub fn form_of(command: Command) -> Form
         Command::Big => Form {
             name: "big",
             wanted: SEED_AND_SIZE.as_slice(),
+            repeats: false,
+            options: WORKERS.as_slice(),
+            required: NONE_REQUIRED.as_slice(),
+        },
+        Command::Forward => Form {
+            name: "forward",
+            wanted: FILE_AND_LINE.as_slice(),
+            repeats: false,
+            options: WORKERS.as_slice(),
+            required: NONE_REQUIRED.as_slice(),
+        },
+        Command::Chop => Form {
+            name: "chop",
+            wanted: FILE_AND_TWO_LINES.as_slice(),
             repeats: false,
             options: WORKERS.as_slice(),
             required: NONE_REQUIRED.as_slice(),

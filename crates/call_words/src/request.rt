@@ -79,6 +79,26 @@ pub enum Request {
         /// The number of workers, from 1 to 16.
         workers: u64,
     },
+    /// The vertices of the dependence graph of the program in a file that the statements on this line reach, by so many workers.
+    Forward {
+        /// The name of the file.
+        file: String,
+        /// The line, counted from 1. It may be above the range of `u32`.
+        line: u64,
+        /// The number of workers, from 1 to 16.
+        workers: u64,
+    },
+    /// The vertices of that graph through which the statements on the first line reach those on the second, by so many workers.
+    Chop {
+        /// The name of the file.
+        file: String,
+        /// The line where what is looked for begins, counted from 1. It may be above the range of `u32`.
+        from: u64,
+        /// The line where it ends, likewise.
+        to: u64,
+        /// The number of workers, from 1 to 16.
+        workers: u64,
+    },
 }
 
 impl Request {
@@ -96,6 +116,8 @@ impl Request {
             Request::Graph { file, .. } => Some(file.as_str()),
             Request::Members { file, .. } => Some(file.as_str()),
             Request::Big { .. } => None,
+            Request::Forward { file, .. } => Some(file.as_str()),
+            Request::Chop { file, .. } => Some(file.as_str()),
         }
     }
 
@@ -110,6 +132,8 @@ impl Request {
             Request::Graph { .. } => None,
             Request::Members { .. } => None,
             Request::Big { .. } => None,
+            Request::Forward { .. } => None,
+            Request::Chop { .. } => None,
         }
     }
 
@@ -124,6 +148,8 @@ impl Request {
             Request::Graph { .. } => 0,
             Request::Members { .. } => 0,
             Request::Big { .. } => 0,
+            Request::Forward { .. } => 0,
+            Request::Chop { .. } => 0,
         }
     }
 }
@@ -205,6 +231,10 @@ fn command_named(name: &str) -> Option<Command>
         Some(Command::Members)
     } else if is_same("big", name) {
         Some(Command::Big)
+    } else if is_same("forward", name) {
+        Some(Command::Forward)
+    } else if is_same("chop", name) {
+        Some(Command::Chop)
     } else {
         None
     }
@@ -289,6 +319,28 @@ fn made(
             Ok(Request::Big {
                 seed,
                 size,
+                workers,
+            })
+        }
+        Command::Forward => {
+            let file = String::from_str(alloc, others[0])?;
+            let line = decimal(others[1].as_bytes());
+            let workers = number_of(matches, "workers", 4);
+            Ok(Request::Forward {
+                file,
+                line,
+                workers,
+            })
+        }
+        Command::Chop => {
+            let file = String::from_str(alloc, others[0])?;
+            let from = decimal(others[1].as_bytes());
+            let to = decimal(others[2].as_bytes());
+            let workers = number_of(matches, "workers", 4);
+            Ok(Request::Chop {
+                file,
+                from,
+                to,
                 workers,
             })
         }

@@ -116,6 +116,16 @@ fn a_fault_leaves_the_line_that_was_due(rt: HostRuntime) -> Result<(), Fail> {
             (Status::WriteFault, "0 mai", "cannot write\n"),
         ),
         (
+            "forward two.c 3",
+            out_at_5,
+            (Status::WriteFault, "1 mai", "cannot write\n"),
+        ),
+        (
+            "chop two.c 3 7",
+            out_at_5,
+            (Status::WriteFault, "1 mai", "cannot write\n"),
+        ),
+        (
             "big 1 1",
             out_at_5,
             (Status::WriteFault, "funct", "cannot write\n"),

@@ -32,7 +32,7 @@ pub(crate) const NONE_FAILING: Failing<'static> = Failing {
 
 /// The line on err where the words are outside the grammar.
 pub(crate) const USAGE: &str =
-    "usage: slicer slice FILE LINE.. | trace FILE LINE.. --input FILE | run FILE --input FILE | graph FILE | members FILE LINE | big SEED SIZE\n";
+    "usage: slicer slice FILE LINE.. | trace FILE LINE.. --input FILE | run FILE --input FILE | graph FILE | members FILE LINE | big SEED SIZE | forward FILE LINE | chop FILE LINE LINE\n";
 
 /// Calls the slicer with these words over these files.
 pub(crate) fn run<R: AllocGlobal + Threads + Sync>(

@@ -82,6 +82,8 @@ generated_last told (Asked.big seed size workers) text bounds given = λ p reads
     let accepted = generated_accepted seed size some (omega (arith, few)) in
     let same : accepted.0 ≡ p = one_program (generated seed size) accepted.0 p accepted.1 (subst (λ t. ReadsProgram t p) given reads) in
     subst (λ (q : Program). 0 < q.statements) same accepted.2
+generated_last told (Asked.forward file line workers) text bounds given = λ p reads. tt
+generated_last told (Asked.chop file from to workers) text bounds given = λ p reads. tt
 
 -- and isn't long
 pub made_short : (asked : Asked) → IsBounded asked → length (text_made asked) ≤ 1048576
@@ -91,6 +93,8 @@ made_short (Asked.run file input steps) bounds = omega arith
 made_short (Asked.graph file workers) bounds = omega arith
 made_short (Asked.members file line workers) bounds = omega arith
 made_short (Asked.big seed size workers) bounds = generated_short seed size bounds.2
+made_short (Asked.forward file line workers) bounds = omega arith
+made_short (Asked.chop file from to workers) bounds = omega arith
 
 -- ---- words that ask for it
 

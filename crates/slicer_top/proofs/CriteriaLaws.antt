@@ -135,6 +135,36 @@ one_without p line none = record {
   none = none;
 }
 
+-- two lines likewise, of which the first is tested first
+pub two_start : (p : Program) (first second : ℕ) → HasStart p first → HasStart p second → StartAt p (first ∷ second ∷ [])
+two_start p first second here there = record {
+  few = omega arith;
+  starts = λ i lt. elim (cases_lt i 1) [
+    | inl none ↦ let at : 0 ≡ i = omega (arith, none) in subst (λ n. HasStart p (line_at (first ∷ second ∷ []) n)) at here
+    | inr some ↦ let at : 1 ≡ i = omega (arith, lt, some) in subst (λ n. HasStart p (line_at (first ∷ second ∷ []) n)) at there
+  ];
+}
+
+pub first_of_two_without : (p : Program) (first second : ℕ) → (HasStart p first → ⊥) → IsFirstWithout p (first ∷ second ∷ []) first
+first_of_two_without p first second none = record {
+  few = omega arith;
+  place = 0;
+  within = omega arith;
+  is_line = refl;
+  before = λ i lt. absurd (omega (arith, lt));
+  none = none;
+}
+
+pub second_of_two_without : (p : Program) (first second : ℕ) → HasStart p first → (HasStart p second → ⊥) → IsFirstWithout p (first ∷ second ∷ []) second
+second_of_two_without p first second here none = record {
+  few = omega arith;
+  place = 1;
+  within = omega arith;
+  is_line = refl;
+  before = λ i lt. let at : 0 ≡ i = omega (arith, lt) in subst (λ n. HasStart p (line_at (first ∷ second ∷ []) n)) at here;
+  none = none;
+}
+
 module _ (text input : Bytes) (asked : Asked) (p : Program) (built : HasGraph text asked p) where
   -- why lines have no criteria, of a text's program
   pub fault_shows : (refusal : Refusal) → IsCriteriaFault p (lines_in asked) refusal → IsReason text asked input refusal

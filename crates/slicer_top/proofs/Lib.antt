@@ -1,4 +1,5 @@
 pub mod Big
+pub mod ChopLaws
 pub mod CriteriaLaws
 pub mod Due
 pub mod Files

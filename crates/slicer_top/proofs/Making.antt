@@ -13,6 +13,7 @@ use Rattle.run_text.specs.Answers.{EndsWith}
 use Rattle.run_text.specs.Lines.{trace_words}
 use Rattle.slice_engine.specs.GraphLimits.{IsAboveGraphLimit}
 use Rattle.slicer_top.specs.Criteria.{AreFound, IsCriteriaFault, StartAt}
+use Rattle.slicer_top.specs.Chops.{IsForwardText, IsChopText}
 use Rattle.slicer_top.specs.Graphs.{IsGraphText, IsMembersText}
 use Rattle.slicer_top.specs.SliceNumbers.{IsNumbersText}
 use Rattle.slicer_top.specs.Refusals.{of_graph}
@@ -62,6 +63,8 @@ module _ (p : Program) (input : Bytes) where
   IsOfGraph (Asked.graph file workers) = Unit {0}
   IsOfGraph (Asked.members file line workers) = Unit {0}
   IsOfGraph (Asked.big seed size workers) = Unit {0}
+  IsOfGraph (Asked.forward file line workers) = Unit {0}
+  IsOfGraph (Asked.chop file from to workers) = Unit {0}
 
   graph_above : (asked : Asked) → IsOfGraph asked → (name : LimitName) → IsAboveGraphLimit p name → IsAboveFor asked p name
   graph_above (Asked.slice file lines workers) of name above = above
@@ -70,6 +73,8 @@ module _ (p : Program) (input : Bytes) where
   graph_above (Asked.graph file workers) of name above = above
   graph_above (Asked.members file line workers) of name above = above
   graph_above (Asked.big seed size workers) of name above = above
+  graph_above (Asked.forward file line workers) of name above = above
+  graph_above (Asked.chop file from to workers) of name above = above
 
   pub graph_refused : {A : Type 0} (items : A → List Bytes) (asked a : Asked) (fault : GraphFault) (r : Result A Refusal) → asked ≡ a → IsOfGraph a → ((name : LimitName) → fault ≡ graph.Limit name → IsAboveGraphLimit p name)
       → IsErrAnd r (λ y. y ≡ of_graph fault) → IsMade items asked r
@@ -110,6 +115,20 @@ module _ (p : Program) (input : Bytes) where
     pub members_made : {A : Type 0} (items : A → List Bytes) (asked : Asked) (file : Bytes) (line workers : ℕ) (r : Result A Refusal) → asked ≡ Asked.members file line workers
         → MatchResult r (λ t. StartAt e (line ∷ []) × IsOneText (IsMembersText e line) (items t)) (IsCriteriaFault e (line ∷ [])) → IsMade items asked r
     members_made items asked file line workers r is made = subst (λ a. IsMade items a r) (sym is) (members_for items file line workers r made)
+
+    pub forward_made : {A : Type 0} (items : A → List Bytes) (file : Bytes) (line workers : ℕ) (r : Result A Refusal)
+        → MatchResult r (λ t. StartAt e (line ∷ []) × IsOneText (IsForwardText e line) (items t)) (IsCriteriaFault e (line ∷ [])) → IsMade items (Asked.forward file line workers) r
+    forward_made items file line workers r made =
+        let asked = Asked.forward file line workers in
+        made_for items asked r (line ∷ []) (λ q texts. IsOneText (IsForwardText q line) texts) (λ _ texts _ start are text reads. made_written text input asked p (has_graph text asked p reads within) texts start are)
+        (λ _ refusal _ fault text reads. fault_shows text input asked p (has_graph text asked p reads within) refusal fault) made
+
+    pub chop_made : {A : Type 0} (items : A → List Bytes) (file : Bytes) (from to workers : ℕ) (r : Result A Refusal)
+        → MatchResult r (λ t. StartAt e (from ∷ to ∷ []) × IsOneText (IsChopText e from to) (items t)) (IsCriteriaFault e (from ∷ to ∷ [])) → IsMade items (Asked.chop file from to workers) r
+    chop_made items file from to workers r made =
+        let asked = Asked.chop file from to workers in
+        made_for items asked r (from ∷ to ∷ []) (λ q texts. IsOneText (IsChopText q from to) texts) (λ _ texts _ start are text reads. made_written text input asked p (has_graph text asked p reads within) texts start are)
+        (λ _ refusal _ fault text reads. fault_shows text input asked p (has_graph text asked p reads within) refusal fault) made
 
     no_lines : StartAt p []
     no_lines = record { few = omega arith; starts = λ i lt. absurd (omega (arith, lt)) }

@@ -39,6 +39,8 @@ above_graph (Asked.run file input steps) p name above = absurd above
 above_graph (Asked.graph file workers) p name above = above
 above_graph (Asked.members file line workers) p name above = above
 above_graph (Asked.big seed size workers) p name above = above
+above_graph (Asked.forward file line workers) p name above = above
+above_graph (Asked.chop file from to workers) p name above = above
 
 module _ (text : Bytes) where
   -- the tokens of a text are those of its tree

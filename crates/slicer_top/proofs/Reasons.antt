@@ -125,6 +125,8 @@ made_ends (Asked.run file name steps) p input texts are = one_ended _ _ texts ar
 made_ends (Asked.graph file workers) p input texts are = tt
 made_ends (Asked.members file line workers) p input texts are = tt
 made_ends (Asked.big seed size workers) p input texts are = tt
+made_ends (Asked.forward file line workers) p input texts are = tt
+made_ends (Asked.chop file from to workers) p input texts are = tt
 
 -- ---- texts with a program
 

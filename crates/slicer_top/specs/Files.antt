@@ -48,6 +48,8 @@ text_made (Asked.run file input steps) = []
 text_made (Asked.graph file workers) = []
 text_made (Asked.members file line workers) = []
 text_made (Asked.big seed size workers) = generated seed size
+text_made (Asked.forward file line workers) = []
+text_made (Asked.chop file from to workers) = []
 
 -- both hold of the files of what is asked: of the text, and of the input, which is empty where none is asked for
 abbrev pub OfFiles : Told → Asked → (Bytes → Bytes → Type 0) → Type 0

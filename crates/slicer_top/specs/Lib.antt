@@ -1,3 +1,4 @@
+pub mod Chops
 pub mod Criteria
 pub mod Due
 pub mod Files

@@ -9,7 +9,7 @@ use Rattle.c_language.specs.Words.{Bytes}
 
 -- the words are outside the grammar
 abbrev pub usage : Bytes
-usage = codes "usage: slicer slice FILE LINE.. | trace FILE LINE.. --input FILE | run FILE --input FILE | graph FILE | members FILE LINE | big SEED SIZE\n"
+usage = codes "usage: slicer slice FILE LINE.. | trace FILE LINE.. --input FILE | run FILE --input FILE | graph FILE | members FILE LINE | big SEED SIZE | forward FILE LINE | chop FILE LINE LINE\n"
 
 -- the file couldn't be read
 abbrev pub cannot_read : Bytes → Bytes

@@ -17,6 +17,8 @@ run_of (Asked.run file name steps) p input = Some (meaning steps p input)
 run_of (Asked.graph file workers) p input = None
 run_of (Asked.members file line workers) p input = None
 run_of (Asked.big seed size workers) p input = None
+run_of (Asked.forward file line workers) p input = None
+run_of (Asked.chop file from to workers) p input = None
 
 -- the run that is asked for ends
 abbrev pub RunEnds : Asked → Program → Bytes → Type 0

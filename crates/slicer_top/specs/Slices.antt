@@ -11,6 +11,7 @@ use Rattle.run_text.specs.Answers.{EndsWith}
 use Rattle.run_text.specs.Lines.{trace_words}
 use Rattle.slice_engine.specs.GraphLimits.{IsAboveGraphLimit}
 use Rattle.slice_engine.specs.Slice.{HasStart, IsSlice, IsFaithful}
+use Rattle.slicer_top.specs.Chops.{IsForwardText, IsChopText}
 use Rattle.slicer_top.specs.Graphs.{IsGraphText, IsMembersText}
 use Rattle.slicer_top.specs.SliceNumbers.{IsNumbersText}
 use Rattle.slicer_top.specs.Runs.{RunEnds}
@@ -25,6 +26,8 @@ IsAboveFor (Asked.run file input steps) p name = ⊥
 IsAboveFor (Asked.graph file workers) p name = IsAboveGraphLimit p name
 IsAboveFor (Asked.members file line workers) p name = IsAboveGraphLimit p name
 IsAboveFor (Asked.big seed size workers) p name = IsAboveGraphLimit p name
+IsAboveFor (Asked.forward file line workers) p name = IsAboveGraphLimit p name
+IsAboveFor (Asked.chop file from to workers) p name = IsAboveGraphLimit p name
 
 -- the text is accepted and within the limits, this is its program, and its graph is within the limits, where it is made
 pub record HasGraph (text : Bytes) (asked : Asked) (p : Program) : Type 0 where
@@ -43,6 +46,8 @@ HasLast (Asked.run file input steps) p = Unit {0}
 HasLast (Asked.graph file workers) p = Unit {0}
 HasLast (Asked.members file line workers) p = Unit {0}
 HasLast (Asked.big seed size workers) p = 0 < p.statements
+HasLast (Asked.forward file line workers) p = Unit {0}
+HasLast (Asked.chop file from to workers) p = Unit {0}
 
 abbrev pub HasLastOf : Bytes → Asked → Type 0
 HasLastOf text asked = (p : Program) → ReadsProgram text p → HasLast asked p
@@ -125,7 +130,7 @@ IsOneText P [] = ⊥
 IsOneText P (t ∷ []) = P t
 IsOneText P (t ∷ u ∷ us) = ⊥
 
--- the texts are what is asked of the program: its slices at the lines, the values at the lines in a run on this input, what the run writes, its graph, what reaches the line in its graph, or the numbers of its slice at its last line
+-- the texts are what is asked of the program: its slices at the lines, the values at the lines in a run on this input, what the run writes, its graph, what reaches the line in its graph, the numbers of its slice at its last line, what the line reaches in its graph, or through what there the first line reaches the second
 abbrev pub AreTextsFor : Program → Asked → Bytes → List Bytes → Type 0
 AreTextsFor p (Asked.slice file lines workers) input texts = AreSlices p lines texts
 AreTextsFor p (Asked.trace file lines name steps) input texts = IsOneText (EndsWith (trace_words p lines) (meaning steps p input)) texts
@@ -133,6 +138,8 @@ AreTextsFor p (Asked.run file name steps) input texts = IsOneText (EndsWith (λ 
 AreTextsFor p (Asked.graph file workers) input texts = IsOneText (IsGraphText p) texts
 AreTextsFor p (Asked.members file line workers) input texts = IsOneText (IsMembersText p line) texts
 AreTextsFor p (Asked.big seed size workers) input texts = IsOneText (IsNumbersText p) texts
+AreTextsFor p (Asked.forward file line workers) input texts = IsOneText (IsForwardText p line) texts
+AreTextsFor p (Asked.chop file from to workers) input texts = IsOneText (IsChopText p from to) texts
 
 -- the texts are what is asked of the text's program; the lines are at most 64, and on each of them starts a statement
 pub record AreWritten (text : Bytes) (asked : Asked) (input : Bytes) (texts : List Bytes) : Type 0 where

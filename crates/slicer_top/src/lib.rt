@@ -5,6 +5,7 @@
 //! words of the program's arguments, and its answer, an [`Exit`], has the code of the status.
 #![tactic(auto)]
 
+mod chops;
 mod criteria;
 mod exit;
 mod laws;

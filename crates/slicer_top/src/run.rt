@@ -16,7 +16,9 @@ use std::thread::Threads;
 /// the order of the words, one put each; `trace FILE LINE.. --input INPUT` the values at these lines in a run of the
 /// program on the bytes of INPUT, in one put; `run FILE --input INPUT` what that run writes, in one put; `graph FILE`
 /// the dependence graph, in one put; `members FILE LINE` the vertices of that graph that reach the statements on LINE,
-/// in one put; `big SEED SIZE` the numbers of the slice of a large program that is made from a seed, in one put.
+/// in one put; `big SEED SIZE` the numbers of the slice of a large program that is made from a seed, in one put; `forward FILE LINE`
+/// the vertices of the graph that the statements on LINE reach, in one put; `chop FILE LINE LINE` those through which the statements on
+/// the first LINE reach those on the second, in one put.
 ///
 /// The words are those of the grammar of the crate `call_words`. The files are fetched from `shelf`, FILE first. Where the status
 /// isn't `Done`, its line is put on `err`; where that fails, the status is `WriteFault`, and `err` gets no more.
@@ -38,7 +40,7 @@ pub fn run_slicer<R: Threads + Sync, F: Shelf, O: Sink, E: Sink, G: Gate + Sync>
     let request = match read_words(alloc, words) {
         Ok(request) => request,
         Err(WordsFault::Usage) => return tell(
-            b"usage: slicer slice FILE LINE.. | trace FILE LINE.. --input FILE | run FILE --input FILE | graph FILE | members FILE LINE | big SEED SIZE\n",
+            b"usage: slicer slice FILE LINE.. | trace FILE LINE.. --input FILE | run FILE --input FILE | graph FILE | members FILE LINE | big SEED SIZE | forward FILE LINE | chop FILE LINE LINE\n",
             Status::Usage,
             err,
         ),

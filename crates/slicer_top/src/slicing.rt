@@ -11,6 +11,7 @@ ghost use Rattle.slicer_top.specs.Graphs.{IsGraphText, IsMembersText};
 ghost use Rattle.slicer_top.specs.Slices.{AreSlices, AreWritten, AreWrittenOf, HasLast, HasLastOf, IsOneText};
 ghost use Rattle.slicer_top.specs.Reports.{IsReason, IsReasonOf, IsCause, IsInputFault, IsMissing, IsTextFault};
 
+use crate::chops::{chop_texts, forward_texts};
 use crate::criteria::{criteria_at, criterion_at};
 use crate::numbers::numbers_text;
 use crate::refusal::{Refusal, of_input};
@@ -106,6 +107,8 @@ fn made_text(alloc: Global, request: &Request) -> Result<Vec<u8>, Refusal>
         Request::Run { .. } => Ok(Vec::new(alloc)),
         Request::Graph { .. } => Ok(Vec::new(alloc)),
         Request::Members { .. } => Ok(Vec::new(alloc)),
+        Request::Forward { .. } => Ok(Vec::new(alloc)),
+        Request::Chop { .. } => Ok(Vec::new(alloc)),
     }
 }
 
@@ -187,6 +190,8 @@ fn made<R: Threads + Sync, G: Gate + Sync>(
         Request::Graph { .. } => graph_texts(alloc, program),
         Request::Members { line, .. } => members_texts(alloc, program, *line),
         Request::Big { .. } => numbers_texts(alloc, program),
+        Request::Forward { line, .. } => forward_texts(alloc, program, *line),
+        Request::Chop { from, to, .. } => chop_texts(alloc, program, *from, *to),
     }
 }
 

@@ -35,6 +35,16 @@ returns-in-Members g c =
     subst (λ a. IsMade c.args.program c.args.input.now (λ t. t.items) a c.members_texts.result) (ap asked_by (sym c.in-Members.is))
     (c.members_texts.ensures (string_bytes c.in-Members.file) c.args.input.now c.in-Members.workers)
 
+pub returns-in-Forward : goal.returns-in-Forward
+returns-in-Forward g c =
+    subst (λ a. IsMade c.args.program c.args.input.now (λ t. t.items) a c.forward_texts.result) (ap asked_by (sym c.in-Forward.is))
+    (c.forward_texts.ensures (string_bytes c.in-Forward.file) c.args.input.now c.in-Forward.workers)
+
+pub returns-in-Chop : goal.returns-in-Chop
+returns-in-Chop g c =
+    subst (λ a. IsMade c.args.program c.args.input.now (λ t. t.items) a c.chop_texts.result) (ap asked_by (sym c.in-Chop.is))
+    (c.chop_texts.ensures (string_bytes c.in-Chop.file) c.args.input.now c.in-Chop.workers)
+
 pub numbers_texts-requires-clause-some : goal.numbers_texts-requires-clause-some
 numbers_texts-requires-clause-some g c = subst (λ r. HasLast (asked_by r) c.args.program) c.in-Big.is c.requires.last
 
