@@ -1,4 +1,4 @@
-"""What each command writes: slice, trace, run, graph, members, points, facts, effects and big."""
+"""What each command writes: slice, trace, run, graph, members, forward, chop, points, facts, effects and big."""
 from graph import at, fact_words
 from layout import layout
 from machine import run, trace
@@ -40,6 +40,16 @@ def graph_(program):
 def members_(program, line):
     slicer = Slicer(program)
     return printed_vertices(slicer.graph, slicer.members(int(line)))
+
+
+def forward_(program, line):
+    slicer = Slicer(program)
+    return printed_vertices(slicer.graph, slicer.forward(int(line)))
+
+
+def chop_(program, first, second):
+    slicer = Slicer(program)
+    return printed_vertices(slicer.graph, slicer.chop(int(first), int(second)))
 
 
 def kept_(program, line):
@@ -117,8 +127,9 @@ def answer(words, texts):
         return run_(program, text, most)
     if command == "trace":
         return trace_(program, others, text, most)
-    if command in ("members", "kept"):
-        return (members_ if command == "members" else kept_)(program, *others)
+    with_lines = {"members": members_, "kept": kept_, "forward": forward_, "chop": chop_}
+    if command in with_lines:
+        return with_lines[command](program, *others)
     if command == "layout":
         return layout(program)
     simple = {"graph": graph_, "points": points_, "facts": facts_, "effects": effects_, "counts": counts_}

@@ -1,7 +1,7 @@
 """A trial slicer, made of the engine's parts.
 
-It is compiled and not proved, by the compiler's trial command. Its words are a file, then graph, or members and a line of the file, or
-slice and lines.
+It is compiled and not proved, by the compiler's trial command. Its words are a file, then graph, or members or forward and a line of the
+file, or chop and two lines, or slice and lines.
 """
 import os
 import sys
@@ -10,15 +10,16 @@ sys.path.insert(0, os.path.join(os.path.dirname(os.path.realpath(__file__)), "..
 
 from tried import build
 
-OVER = ["c_reader", "c_tree", "dep_model", "slice_engine", "graph_text"]
+OVER = ["c_reader", "c_tree", "dep_model", "slice_engine", "forward_chop", "graph_text"]
 
-PROGRAM = r"""//! Slices of a program, what reaches a line, and its graph: the pipe or file, what is asked for, and lines.
+PROGRAM = r"""//! Slices of a program, what reaches a line, what that reaches, and its graph: the pipe or file, what is asked for, and lines.
 #![tactic(auto)]
 
 use anyhow::Context;
 use c_reader::read_program;
 use c_tree::{Program, Text};
-use dep_model::Locations;
+use dep_model::{Locations, VertexSet};
+use forward_chop::Chopper;
 use slice_engine::{Criterion, Engine};
 use std::alloc::Global;
 use std::fs::Files;
@@ -48,15 +49,48 @@ fn slice<R: Print + AllocGlobal>(rt: &R, engine: &Engine, line: &str) -> anyhow:
     show(rt, &text)
 }
 
-// The graph, or what of it reaches a line.
-fn printed<R: Print + AllocGlobal>(rt: &R, bytes: &[u8], engine: &Engine, line: Option<&str>) -> anyhow::Result<()> {
+// The vertices of a line.
+fn vertices(alloc: Global, engine: &Engine, line: &str) -> anyhow::Result<Vec<u32>> {
+    let found = engine.vertices(alloc, criterion(engine, line)?)?;
+    Ok(found)
+}
+
+// What reaches a line, what a line reaches, or what stands between two lines.
+fn set_of(alloc: Global, engine: &Engine, command: &str, lines: &[String]) -> anyhow::Result<VertexSet> {
+    let first = lines.first().context("no line")?;
+    if command == "members" {
+        let set = engine.members(alloc, criterion(engine, first.as_str())?)?;
+        return Ok(set);
+    }
+    let graph = engine.graph();
+    let from = vertices(alloc, engine, first.as_str())?;
+    let mut chopper = Chopper::prepare(alloc, graph, engine.facts())?;
+    let mut set = VertexSet::new(alloc, graph.vertices.len() as u32)?;
+    match lines.get(1) {
+        None => chopper.forward(from.as_slice(), &mut set),
+        Some(second) => {
+            let to = vertices(alloc, engine, second.as_str())?;
+            chopper.chop(from.as_slice(), to.as_slice(), &mut set);
+        }
+    }
+    Ok(set)
+}
+
+// The graph, or a set of its vertices.
+fn printed<R: Print + AllocGlobal>(
+    rt: &R,
+    bytes: &[u8],
+    engine: &Engine,
+    command: &str,
+    lines: &[String],
+) -> anyhow::Result<()> {
     let p = program_of(rt.alloc(), bytes)?;
     let list = Locations::of(rt.alloc(), &p).map_err(|_| anyhow::Error::msg("locations"))?;
-    let Some(line) = line else {
+    if command == "graph" {
         let text = graph_text::graph(rt.alloc(), &p, &list, engine.graph())?;
         return show(rt, &text);
-    };
-    let set = engine.members(rt.alloc(), criterion(engine, line)?)?;
+    }
+    let set = set_of(rt.alloc(), engine, command, lines)?;
     let text = graph_text::members(rt.alloc(), &p, &list, engine.graph(), &set)?;
     show(rt, &text)
 }
@@ -67,15 +101,15 @@ fn main(rt: HostRuntime) -> anyhow::Result<()> {
     let bytes = fs::read(&rt, name.as_str())?;
     let command = words.next().context("no command")?;
     let engine = engine_of(rt.alloc(), bytes.as_slice())?;
-    if command.as_str() == "graph" {
-        return printed(&rt, bytes.as_slice(), &engine, None);
-    }
+    let mut lines = Vec::new(rt.alloc());
     for word in words {
-        if command.as_str() == "members" {
-            printed(&rt, bytes.as_slice(), &engine, Some(word.as_str()))?;
-        } else {
-            slice(&rt, &engine, word.as_str())?;
-        }
+        lines.push(word)?;
+    }
+    if command.as_str() != "slice" {
+        return printed(&rt, bytes.as_slice(), &engine, command.as_str(), lines.as_slice());
+    }
+    for line in &lines {
+        slice(&rt, &engine, line.as_str())?;
     }
     Ok(())
 }

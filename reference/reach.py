@@ -1,4 +1,4 @@
-"""Reach along paths whose words match, true facts, and the completion of a set of vertices.
+"""Reach along paths whose words match, what stands on such paths, true facts, and the completion of a set of vertices.
 
 Sets of vertices are numbers whose bits are the members.
 """
@@ -55,6 +55,22 @@ class Words:
             rows = closed_along(steps)
         return rows
 
+    def onward(self, found, edges):
+        """What a set leads to by matches and these edges, in any order."""
+        before = None
+        while found != before:
+            before = found
+            for v, w, _ in edges:
+                if found >> v & 1:
+                    found |= 1 << w
+            for v in members(found):
+                found |= self.matched[v]
+        return found
+
+    def forward(self, numbers):
+        """The vertices to which matches and closes, and then matches and opens, lead from one of these."""
+        return self.onward(self.onward(bits(numbers), self.closes), self.opens)
+
     def backward(self, found, edges):
         """What leads into a set by matches and these edges, in any order."""
         before = None
@@ -75,6 +91,60 @@ class Words:
         graph = self.graph
         return [(v, w) for f in graph.program.functions for v in graph.formal_ins[f] for w in graph.formal_outs[f]
                 if self.matched[v.number] >> w.number & 1]
+
+
+def on_paths(steps):
+    """For each two vertices that paths of steps join, the vertices on these, by those on each step (Kleene 1956)."""
+    rows = [{**row, v: row.get(v, 0) | 1 << v} for v, row in enumerate(steps)]
+    for middle, row in enumerate(rows):
+        behind = list(row.items())
+        for other in rows:
+            if middle in other:
+                before = other[middle] | row[middle]
+                for w, after in behind:
+                    other[w] = other.get(w, 0) | before | after
+    return rows
+
+
+class Between:
+    """What stands between two lists of vertices: `on[a]` has, for each b to which a match leads from a, what stands on these matches."""
+
+    def __init__(self, words):
+        self.words = words
+        self.on = self.matches()
+        self.rising = self.with_edges(self.words.closes)
+        self.falling = self.with_edges(self.words.opens)
+
+    def matches(self):
+        """The least sets: those on an edge without a letter, on an open, a match and its close, on one match after another."""
+        plain = [{w: 1 << v | 1 << w for w in members(row)} for v, row in enumerate(self.words.plain)]
+        rows, before = on_paths(plain), None
+        while rows != before:
+            before = rows
+            steps = [dict(row) for row in plain]
+            for v, inside, call in self.words.opens:
+                for last, w, closed in self.words.closes:
+                    if call == closed and last in rows[inside]:
+                        steps[v][w] = steps[v].get(w, 0) | 1 << v | 1 << w | rows[inside][last]
+            rows = on_paths(steps)
+        return rows
+
+    def with_edges(self, edges):
+        """The least sets of paths of matches and these edges."""
+        steps = [dict(row) for row in self.on]
+        for v, w, _ in edges:
+            steps[v][w] = steps[v].get(w, 0) | 1 << v | 1 << w
+        return on_paths(steps)
+
+    def chop(self, numbers, others):
+        """The vertices on paths of matches and closes, and then of matches and opens, from one of the first to one of the second."""
+        found = 0
+        for start in numbers:
+            for middle, rise in self.rising[start].items():
+                for goal in others:
+                    if goal in self.falling[middle]:
+                        found |= rise | self.falling[middle][goal]
+        return found
 
 
 def completion(graph, found):

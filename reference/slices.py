@@ -4,7 +4,7 @@ from copy import copy
 from graph import RESULT, Graph, argument
 from layout import page_of
 from locations import named_in
-from reach import Words, completion, members
+from reach import Between, Words, completion, members
 from tree import Arm, Program, Statement, each_statement, expressions
 
 
@@ -126,6 +126,7 @@ class Slicer:
         self.program = program
         self.graph = Graph(program)
         self.words = Words(self.graph)
+        self.between = None
 
     def lines(self):
         """The lines on which statements start."""
@@ -133,6 +134,16 @@ class Slicer:
 
     def members(self, line):
         return members(self.words.reach(self.graph.criterion(line)))
+
+    def forward(self, line):
+        """What the statements of a line reach."""
+        return members(self.words.forward(self.graph.criterion(line)))
+
+    def chop(self, first, second):
+        """What stands on the ways from the statements of one line to those of another."""
+        if self.between is None:
+            self.between = Between(self.words)
+        return members(self.between.chop(self.graph.criterion(first), self.graph.criterion(second)))
 
     def kept(self, line):
         return completion(self.graph, self.words.reach(self.graph.criterion(line)))
