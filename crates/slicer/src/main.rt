@@ -1,6 +1,7 @@
 //! The slicer: `slicer slice FILE LINE..` writes the slice of the C program in FILE at each LINE, `slicer trace` and
 //! `slicer run` what a run of it gives, `slicer graph FILE` its dependence graph, `slicer members FILE LINE` what reaches
-//! LINE in that, and `slicer big SEED SIZE` the numbers of the slice of a large program.
+//! LINE in that, `slicer forward FILE LINE` what LINE reaches, `slicer chop FILE LINE LINE` through what the first LINE reaches
+//! the second, and `slicer big SEED SIZE` the numbers of the slice of a large program.
 #![tactic(auto)]
 
 use edge_io::Shelf;
