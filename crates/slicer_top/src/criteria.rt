@@ -35,7 +35,7 @@ pub(crate) fn criteria_at(
 }
 
 /// The criterion of a line. Err: no statement starts there.
-pub(crate) fn criterion_at(engine: &Engine, line: u64) -> Result<Criterion, Refusal>
+pub fn criterion_at(engine: &Engine, line: u64) -> Result<Criterion, Refusal>
     ensures { MatchResult result (λ c. (c.line ≡ line) × HasStart engine.now line)
         (λ refusal. (refusal ≡ Refusal.NoStart line) × (HasStart engine.now line → ⊥)) }
 {

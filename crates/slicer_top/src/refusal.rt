@@ -11,7 +11,7 @@ use std::alloc::AllocError;
 
 /// Why a file gives nothing of what is asked of it. No inner fault is `NoMemory`.
 #[derive(Debug, Drop)]
-pub(crate) enum Refusal {
+pub enum Refusal {
     /// The file couldn't be read.
     Unreadable,
     /// The file is longer than 1,048,576 bytes.

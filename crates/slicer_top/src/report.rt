@@ -14,7 +14,7 @@ use slice_engine::{LexFault, LimitName, ParseFault, RuleFault};
 use std::alloc::{AllocError, Global};
 
 /// Puts the line of a refusal, and answers its status. Where there is no memory for the line, that is told instead.
-pub(crate) fn report<E: Sink>(
+pub fn report<E: Sink>(
     alloc: Global,
     refusal: &Refusal,
     request: &Request,
@@ -43,7 +43,7 @@ fn tell_made<E: Sink>(made: Result<Text, AllocError>, status: Status, err: &mut 
 }
 
 /// Puts on `err` that there was no memory, and answers that, or `WriteFault` where the put fails.
-pub(crate) fn tell_no_memory<E: Sink>(err: &mut E) -> Status
+pub fn tell_no_memory<E: Sink>(err: &mut E) -> Status
     ensures told { PutsLine (E.faults err.old) (E.faults err.new) (E.written err.old) (E.written err.new)
         Status.NoMemory lines.out_of_memory result }
     ensures taken { E.takes err.old 14 → (result ≡ Status.NoMemory) × (E.faults err.new ≡ E.faults err.old) }
@@ -52,7 +52,7 @@ pub(crate) fn tell_no_memory<E: Sink>(err: &mut E) -> Status
 }
 
 /// Puts one line, and answers this status, or `WriteFault` where the put fails.
-pub(crate) fn tell<E: Sink>(line: &[u8], status: Status, err: &mut E) -> Status
+pub fn tell<E: Sink>(line: &[u8], status: Status, err: &mut E) -> Status
     ensures told { PutsLine (E.faults err.old) (E.faults err.new) (E.written err.old) (E.written err.new) status line.now result }
     ensures taken { E.takes err.old (length line.now) → (result ≡ status) × (E.faults err.new ≡ E.faults err.old) }
 {

@@ -73,8 +73,9 @@ fn text_for<F: Shelf>(alloc: Global, request: &Request, shelf: &mut F) -> Result
     }
 }
 
-// The bytes of the file with the text.
-fn text_in<F: Shelf>(alloc: Global, name: &str, shelf: &mut F) -> Result<Vec<u8>, Refusal>
+/// The bytes of the file with the text, at most 1,048,576. `Unreadable` where it couldn't be read, `TooLong` where it has more,
+/// `NoMemory` where there was no memory for them.
+pub fn text_in<F: Shelf>(alloc: Global, name: &str, shelf: &mut F) -> Result<Vec<u8>, Refusal>
     ensures contents { F.contents shelf.new ≡ F.contents shelf.old }
     ensures faults { NeverFalls (F.faults shelf.old) (F.faults shelf.new) }
     ensures long_files { NeverFalls (F.long_files shelf.old) (F.long_files shelf.new) }
