@@ -1,4 +1,4 @@
-"""What each command writes: slice, trace, run, graph, members, forward, chop, points, facts, effects and big."""
+"""What each command writes: slice, lines, trace, run, graph, members, forward, chop, points, facts, effects and big."""
 from graph import at, fact_words
 from layout import layout
 from machine import run, trace
@@ -56,6 +56,12 @@ def kept_(program, line):
     """The vertices of the completion, which the slice keeps."""
     slicer = Slicer(program)
     return printed_vertices(slicer.graph, slicer.kept(int(line)))
+
+
+def lines_(program, lines):
+    """The lines that the slice at each line keeps, a row each."""
+    slicer = Slicer(program)
+    return "".join(slicer.row(int(line)) for line in lines)
 
 
 def points_(program):
@@ -121,8 +127,8 @@ def answer(words, texts):
         options[others[-2]] = others[-1]
         others = others[:-2]
     text, most = texts.get(options.get("--input", ""), b""), int(options.get("--steps", MOST))
-    if command == "slice":
-        return slice_(program, others)
+    if command in ("slice", "lines"):
+        return (slice_ if command == "slice" else lines_)(program, others)
     if command == "run":
         return run_(program, text, most)
     if command == "trace":

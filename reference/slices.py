@@ -148,6 +148,15 @@ class Slicer:
     def kept(self, line):
         return completion(self.graph, self.words.reach(self.graph.criterion(line)))
 
+    def kept_lines(self, line):
+        """The lines on which the statements start that the slice at a line keeps."""
+        kept = self.kept(line)
+        return sorted({s.line for s, _ in self.program.statements if self.graph.by_statement[s.number][0].number in kept})
+
+    def row(self, line):
+        """The row that tells them."""
+        return f"{line}:" + "".join(f" {kept}" for kept in self.kept_lines(line)) + "\n"
+
     def statements_on(self, line):
         return [s.number for s, _ in self.program.statements if s.line == line]
 
