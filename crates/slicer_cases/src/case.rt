@@ -1,4 +1,4 @@
-//! A case: a call of the slicer, by its words, the status that it must end with, and the line that it must write to err.
+//! A case: a call of the slicer or of slice_lines, by its words, the status that it must end with, and the line that it must write to err.
 use anyhow::{Context, ensure};
 use slicer_top::Text;
 use std::alloc::{AllocError, Global};
@@ -63,6 +63,14 @@ impl Case {
     /// The words of the call.
     pub fn words(&self) -> &[Text] {
         self.words.as_slice()
+    }
+
+    /// The words of a call of slice_lines, where the first word names that program; otherwise it is one of the slicer.
+    pub fn words_for_lines(&self) -> Option<&[Text]> {
+        match self.words().split_first() {
+            Some((first, rest)) if first.bytes() == b"slice_lines".as_slice() => Some(rest),
+            _ => None,
+        }
     }
 
     /// What it must write to err: a line with its end, or nothing.

@@ -1,6 +1,7 @@
 //! The end of a call of the slicer over files and sinks in memory.
 use crate::case::Case;
 use edge_io::{MemoryShelf, MemorySink};
+use lines_top::run_lines;
 use slicer_top::{OpenGate, Text, run_slicer};
 use std::alloc::{AllocError, Global};
 use std::thread::Threads;
@@ -26,7 +27,7 @@ impl Ended {
     }
 }
 
-/// Calls the slicer with the words of the case over these files.
+/// Calls the program of the case with its words over these files.
 pub fn run<R: AllocGlobal + Threads + Sync>(
     rt: &R,
     case: &Case,
@@ -36,15 +37,18 @@ pub fn run<R: AllocGlobal + Threads + Sync>(
     let mut shelf = MemoryShelf::new(files, Vec::new(alloc));
     let mut out = MemorySink::new(alloc, ROOM, Vec::new(alloc))?;
     let mut err = MemorySink::new(alloc, ROOM, Vec::new(alloc))?;
-    let status = run_slicer(
-        rt,
-        alloc,
-        case.words(),
-        &mut shelf,
-        &mut out,
-        &mut err,
-        &OpenGate,
-    );
+    let status = match case.words_for_lines() {
+        Some(words) => run_lines(alloc, words, &mut shelf, &mut out, &mut err),
+        None => run_slicer(
+            rt,
+            alloc,
+            case.words(),
+            &mut shelf,
+            &mut out,
+            &mut err,
+            &OpenGate,
+        ),
+    };
     Ok(Ended {
         code: status.code(),
         out: Text::from_slice(alloc, out.bytes())?,

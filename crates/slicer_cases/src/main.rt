@@ -1,9 +1,9 @@
-//! Runs the slicer over cases that stand in files, and says of each whether it ended as expected.
+//! Runs the slicer and slice_lines over cases that stand in files, and says of each whether it ended as expected.
 //!
 //! The index is standard input, with a line for each case: its name, the status that it must end with, and the words of
 //! the call, one blank between each two; where the status isn't 0, ` => ` and the line that must stand on err follow. The
-//! files are those of the folder in which this program is started. What must stand on out is in the file `NAME.out`; where
-//! it isn't there, nothing must.
+//! first word names the program slice_lines, or else a command of the slicer. The files are those of the folder in which
+//! this program is started. What must stand on out is in the file `NAME.out`; where it isn't there, nothing must.
 #![tactic(auto)]
 
 mod case;
