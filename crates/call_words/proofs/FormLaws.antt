@@ -20,7 +20,8 @@ use Rattle.call_words.specs.declared.grammar.Command.{Command}
 use Rattle.call_words.specs.declared.grammar.Command.TheVariants.{Slice, Trace, Run, Graph, Members, Big, Forward, Chop}
 use Rattle.call_words.specs.Grammar as grammar
 use Rattle.call_words.specs.Grammar.{AreWanted, IsInForm, IsInGrammar, IsNumber, IsNumberWithin, IsOf, IsSortedInForm, command_of, decimal_from, kind_at, kind_of, word}
-use Rattle.call_words.specs.Requests.{AreWorkers, Asked, CanAsk, IsBounded, asked_of, asks, input_in, number_or, numbers_of, steps_in, value_given}
+use Rattle.call_words.specs.declared.request.Request.{Request}
+use Rattle.call_words.specs.Requests.{AreWorkers, Asked, CanAsk, IsBounded, IsRead, asked_by, asked_of, asks, input_in, number_or, numbers_of, steps_in, value_given}
 use Rattle.call_words.specs.Clap.{HasMatches, app_for, is_apart, option_names, others_found, value_found}
 use Rattle.call_words.specs.declared.grammar.Kind.{Kind}
 use Rattle.call_words.specs.declared.grammar.Kind.TheVariants.{File, Number}
@@ -152,10 +153,11 @@ lines_numbers r kinds others wanted = λ k d lt.
     subst IsNumber (sym (tail_at others k d lt))
     (line_number 0 9999999999 (word others (k + 1)) (subst (λ o. IsSomeAnd o (λ kind. IsOf kind (word others (k + 1)))) (kinds k) is))
 
-members_line : (others : List Bytes) → AreWanted (grammar.row Members) others → (1 < length others) × IsNumber (word others 1)
-members_line others wanted =
-    let both : 1 < length others = (let enough = wanted.enough in omega (arith, enough)) in
-    (both, line_number 0 9999999999 (word others 1) (wanted.each 1 both))
+-- where a row takes two words, the second of which is a line
+one_line : (r : grammar.Row) → length r.wanted ≡ 2 → kind_at r 1 ≡ Some grammar.line → (others : List Bytes) → AreWanted r others → (1 < length others) × IsNumber (word others 1)
+one_line r two second others wanted =
+    let both : 1 < length others = (let enough = wanted.enough in omega (arith, enough, two)) in
+    (both, line_number 0 9999999999 (word others 1) (subst (λ k. IsSomeAnd k (λ kind. IsOf kind (word others 1))) second (wanted.each 1 both)))
 
 two_lines : (others : List Bytes) → AreWanted (grammar.row Chop) others → (2 < length others) × IsNumber (word others 1) × IsNumber (word others 2)
 two_lines others wanted =
@@ -212,13 +214,13 @@ can_ask Graph s form = (
   option_number (grammar.row Graph) (codes "workers") 1 16 refl s form,
 )
 can_ask Members s form =
-    let line = members_line s.others form.others in
+    let line = one_line (grammar.row Members) refl refl s.others form.others in
     (line.0, line.1, option_number (grammar.row Members) (codes "workers") 1 16 refl s form)
 can_ask Big s form =
     let both = seed_and_size s.others form.others in
     (both.0, both.1, both.2, option_number (grammar.row Big) (codes "workers") 1 16 refl s form)
 can_ask Forward s form =
-    let line = members_line s.others form.others in
+    let line = one_line (grammar.row Forward) refl refl s.others form.others in
     (line.0, line.1, option_number (grammar.row Forward) (codes "workers") 1 16 refl s form)
 can_ask Chop s form =
     let lines = two_lines s.others form.others in
@@ -343,3 +345,13 @@ rows_apart Chop = refl
 pub command_is : (all : List (Bor Bytes)) (name : Bytes) (c : Option Command) → 0 < length all → (d : Bor Bytes) → name ≡ (slice_index_or all 0 d).now → c ≡ command_of (name ∷ []) → c ≡ command_of (texts all)
 command_is [] name c some d is found = absurd (omega (arith, some))
 command_is (x ∷ xs) name c some d is found = found ∙ ap (λ n. command_of (n ∷ [])) is
+
+-- words in the form of the command that they name, whose matches make this request
+pub is_read : (all : List Bytes) (command : Command) (m : ArgMatches) (r : Request) → Some command ≡ command_of all → IsInForm (grammar.row command) all
+    → HasMatches (grammar.row command) (sorted all) m → asked_by r ≡ asks command (others_found m) (value_found m) → IsRead all r
+is_read all command m r named form has made = record {
+  in_grammar = subst (λ (o : Option Command). IsSomeAnd o (λ c. IsInForm (grammar.row c) all)) named form;
+  asks_for =
+      ap (option_map (λ (c : Command). asks c (sorted all).others (value_given (sorted all).given))) (sym named)
+      ∙ ap (λ (a : Asked). Some a) (sym (made ∙ asks_found command (sorted all) m has));
+}
