@@ -52,7 +52,14 @@ fn parameter_that_is_overwritten(rt: HostRuntime) {
 // From line 4 to line 10, out of the function and up to main; and from line 4 to itself.
 #[test]
 fn from_a_callee_to_main(rt: HostRuntime) {
-    leads(&rt, OVERWRITTEN, &[3], &[13], "3 4 5 12 13 14 ", "3 4 5 12 13 ");
+    leads(
+        &rt,
+        OVERWRITTEN,
+        &[3],
+        &[13],
+        "3 4 5 12 13 14 ",
+        "3 4 5 12 13 ",
+    );
     leads(&rt, OVERWRITTEN, &[3], &[3], "3 4 5 12 13 14 ", "3 ");
 }
 
@@ -66,7 +73,14 @@ fn calls_of_one_function(rt: HostRuntime) {
 // Line 6 is a call: what it calls is decided by its entry.
 #[test]
 fn way_in_by_the_entry(rt: HostRuntime) {
-    leads(&rt, SET, &[6, 7, 8], &[9], "0 1 2 3 6 7 8 9 10 ", "0 2 3 6 8 9 ");
+    leads(
+        &rt,
+        SET,
+        &[6, 7, 8],
+        &[9],
+        "0 1 2 3 6 7 8 9 10 ",
+        "0 2 3 6 8 9 ",
+    );
 }
 
 // Line 9 reaches line 14 by line 5, from the first call, and by line 6, from the second one. Line 4 uses the first call's argument for

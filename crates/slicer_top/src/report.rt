@@ -14,12 +14,7 @@ use slice_engine::{LexFault, LimitName, ParseFault, RuleFault};
 use std::alloc::{AllocError, Global};
 
 /// Puts the line of a refusal, and answers its status. Where there is no memory for the line, that is told instead.
-pub fn report<E: Sink>(
-    alloc: Global,
-    refusal: &Refusal,
-    request: &Request,
-    err: &mut E,
-) -> Status
+pub fn report<E: Sink>(alloc: Global, refusal: &Refusal, request: &Request, err: &mut E) -> Status
     ensures told { IsReported (E.faults err.old) (E.faults err.new) (E.written err.old) (E.written err.new)
         (asked_by request.now) refusal.now result }
     ensures taken { refusal.now ≡ Refusal.NoMemory → E.takes err.old 14
