@@ -107,4 +107,5 @@ big_named words told seed size workers g is = record {
 
 pub big_starts : (words : List Bytes) (seed size workers : ℕ) → IsInGrammar words → asked_of words ≡ Asked.big seed size workers → HasSmallGraph (generated seed size) → StartsSome (generated seed size) (asked_of words) []
 big_starts words seed size workers g is small =
-    subst (λ a. StartsSome (generated seed size) a []) (sym is) (generated_starts seed size workers (subst IsBounded is (words_bounded words g)) small)
+    let bounds : IsBounded (Asked.big seed size workers) = subst IsBounded is (words_bounded words g) in
+    subst (λ a. StartsSome (generated seed size) a []) (sym is) (generated_starts seed size workers (bounds.0, bounds.1, bounds.2) small)

@@ -36,7 +36,7 @@ pub(crate) fn texts_for<R: Threads + Sync, F: Shelf, G: Gate + Sync>(
     shelf: &mut F,
     gate: &G,
 ) -> Result<Vec<Text>, Refusal>
-    requires { IsBounded (asked_by request.now) }
+    requires bounded { IsBounded (asked_by request.now) }
     ensures contents { F.contents shelf.new ≡ F.contents shelf.old }
     ensures fetched { AreFetches (asked_by request.now) (F.fetches shelf.old) (F.fetches shelf.new) }
     ensures ok { IfOk result (λ texts. OfFiles (F.contents shelf.old) (asked_by request.now)

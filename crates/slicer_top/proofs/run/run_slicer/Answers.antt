@@ -14,8 +14,8 @@ returns-in-Err-NoMemory g c =
     memory_promised c.args.words.now _ _ _ c.tell_no_memory.result (record { shelf_stays = refl; shelf_faults = refl; shelf_fetches = refl; contents = refl; out_stays = refl; out_faults = refl })
     c.tell_no_memory.ensures.told c.tell_no_memory.ensures.taken
 
-pub texts_for-requires : goal.texts_for-requires
-texts_for-requires g c =
+pub texts_for-requires-clause-bounded : goal.texts_for-requires-clause-bounded
+texts_for-requires-clause-bounded g c κs within =
     let read = c.in-Ok.ensures.read in
     subst IsBounded (sym (asked_is c.args.words.now _ read.asks_for)) (words_bounded c.args.words.now read.in_grammar)
 

@@ -6,7 +6,7 @@ use Rattle.slicer_top.proofs.Making.{IsMade, run_made}
 use Rattle.slicer_top.proofs.slicing.made.Goals as goal
 
 pub slice_texts-requires-clause-workers : goal.slice_texts-requires-clause-workers
-slice_texts-requires-clause-workers g c = subst (λ r. IsBounded (asked_by r)) c.in-Slice.is c.requires.bounded
+slice_texts-requires-clause-workers g c κs within = subst (λ r. IsBounded (asked_by r)) c.in-Slice.is c.requires.bounded
 
 pub returns-in-Slice : goal.returns-in-Slice
 returns-in-Slice g c =

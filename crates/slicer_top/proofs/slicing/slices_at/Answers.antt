@@ -7,7 +7,7 @@ use Rattle.slicer_top.proofs.CriteriaLaws.{all_start, are_slices}
 use Rattle.slicer_top.proofs.slicing.slices_at.Goals as goal
 
 pub slices-requires-clause-starts : goal.slices-requires-clause-starts
-slices-requires-clause-starts g c =
+slices-requires-clause-starts g c κs within =
     subst (λ (list : List Criterion). All (λ (x : Criterion). HasStart c.args.engine.now x.line) list) (sym c.as_slice.ensures.value)
     (all_start c.args.engine.now c.args.lines.now c.in_ok-criteria.criteria.items c.in_ok-criteria.ensures)
 

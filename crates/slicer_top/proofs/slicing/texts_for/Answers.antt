@@ -62,10 +62,10 @@ returns-in_err-input-clause-missing g c = λ never.
 -- ---- both files came
 
 pub texts_of-requires-clause-last : goal.texts_of-requires-clause-last
-texts_of-requires-clause-last g c =
+texts_of-requires-clause-last g c κs within =
     let asked = asked_by c.args.request.now in
     subst (λ t. HasLastOf t asked) (sym c.as_slice.ensures.value)
-    (generated_last (g.F.Shelf.contents c.args.shelf.now) asked c.in_ok-text.text.items c.requires c.in_ok-text.ensures.ok)
+    (generated_last (g.F.Shelf.contents c.args.shelf.now) asked c.in_ok-text.text.items c.requires.bounded c.in_ok-text.ensures.ok)
 
 pub returns-clause-fetched : goal.returns-clause-fetched
 returns-clause-fetched g c =

@@ -6,10 +6,10 @@ use Rattle.slicer_top.proofs.Reasons.{passes_on, reading_shows}
 use Rattle.slicer_top.proofs.slicing.texts_of.Goals as goal
 
 pub made-requires-clause-well_formed : goal.made-requires-clause-well_formed
-made-requires-clause-well_formed g c = well_formed c.args.text.now c.in_ok-program.program c.in_ok-program.ensures.right
+made-requires-clause-well_formed g c κs within = well_formed c.args.text.now c.in_ok-program.program c.in_ok-program.ensures.right
 
 pub made-requires-clause-last : goal.made-requires-clause-last
-made-requires-clause-last g c = c.requires.last c.in_ok-program.program c.in_ok-program.ensures.right
+made-requires-clause-last g c κs within = c.requires.last c.in_ok-program.program c.in_ok-program.ensures.right
 
 pub returns-in_err-program-clause-err : goal.returns-in_err-program-clause-err
 returns-in_err-program-clause-err g c =
