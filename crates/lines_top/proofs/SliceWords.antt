@@ -1,6 +1,6 @@
 -- Words in the grammar ask for slices.
-use Rattle.std.proofs.Common.{◌≡◌, ℕ, List, sym, subst}
-use Rattle.std.specs.Prelude.{Option, Some, drop}
+use Rattle.std.proofs.Common.{◌≡◌, List, subst}
+use Rattle.std.specs.Prelude.{Some, drop}
 use Rattle.call_words.specs.Grammar.{word}
 use Rattle.call_words.specs.Requests.{Asked, asked, numbers_of, value_given, workers_in}
 use Rattle.call_words.specs.Sorting.{Bytes, sorted}
