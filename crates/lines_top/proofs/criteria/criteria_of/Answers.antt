@@ -1,4 +1,4 @@
-use Rattle.std.proofs.Common.{rules, sym, subst}
+use Rattle.std.proofs.Common.{◌≡◌, rules, sym, subst}
 use Rattle.kept_lines.specs.Lines.{lines_of}
 use Rattle.slicer_top.proofs.Making.{passed}
 use Rattle.lines_top.specs.Texts.{CanBeAsked, IsLinesFault}

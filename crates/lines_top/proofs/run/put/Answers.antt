@@ -10,8 +10,8 @@ returns-in-Ok g c = inl (record {
   silent = refl;
 })
 
-pub returns : goal.returns
-returns g c =
+pub returns-in-Err : goal.returns-in-Err
+returns-in-Err g c =
     let told = fault_told _ _ _ _ c.tell.result c.tell.ensures.told in
     inr (record {
       is = told.0;

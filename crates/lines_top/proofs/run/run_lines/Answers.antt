@@ -27,6 +27,6 @@ returns-in-Ok-text_for g c =
 
 pub returns : goal.returns
 returns g c =
-    refused_promised c.args.words.now _ _ _ c.tell_refusal.result (asked_by c.in-Ok.request) c.in-Err.refusal c.in-Ok.ensures.asks_for c.in-Ok.ensures.in_grammar c.in-Err.ensures.err
+    refused_promised c.args.words.now _ _ _ c.report.result (asked_by c.in-Ok.request) c.in-Err.refusal c.in-Ok.ensures.asks_for c.in-Ok.ensures.in_grammar c.in-Err.ensures.err
     (record { out_stays = refl; contents = c.text_for.ensures.contents; fetched = inr c.text_for.ensures.fetched; unasked = λ others. absurd (others c.in-Ok.ensures.in_grammar) })
-    c.tell_refusal.ensures.told
+    c.report.ensures.told
