@@ -67,7 +67,11 @@ class Source:
 
     def members(self, line):
         """The vertices on which a line depends, a line each."""
-        return self.called(SLICER, ["members", self.text, line], [line]).splitlines()
+        return self.vertices("members", [line])
+
+    def vertices(self, command, lines):
+        """The vertices that a command writes for the lines, a line each."""
+        return self.called(SLICER, [command, self.text, *lines], lines).splitlines()
 
     def kept(self, lines):
         """For each of the lines, in their order, the lines whose statements its slice keeps."""
