@@ -220,7 +220,7 @@ module _ (g : Graph) (shaped : IsShaped g) (parts : FunctionParts) (are : ArePar
       let low = words.0 in let high = words.1 in let from = h.from in let to = h.to in
       record { word = h.word; from = omega (arith, low, from); to = omega (arith, high, to, width); differs = h.differs }
 
-  number_is : (p : ℕ) (q : FunctionPart) (is : IsPart g q) → slice_get parts.list.items p ≡ Some q → number_at g parts p ≡ is.whole.function
+  pub number_is : (p : ℕ) (q : FunctionPart) (is : IsPart g q) → slice_get parts.list.items p ≡ Some q → number_at g parts p ≡ is.whole.function
   number_is p q is at =
       let i = (is.whole.all q.range.first).1 (first_inside g q is) in
       ap (λ o. option_map_or (λ (r : FunctionPart). option_map_or (λ (x : Vertex). x.function) (slice_get g.vertices r.range.first) 0) o 0) at

@@ -1,12 +1,12 @@
 -- The bits of facts: each fact has one, those of a step from true facts are of true facts, and words in which each function is
 -- settled hold all of these.
-use Rattle.std.proofs.Common.{◌≡◌, ℕ, zero, suc, ◌+◌, ◌*◌, ◌<◌, ◌≤◌, ◌⊎◌, inl, inr, Bool, true, false, eqb, List, [], ◌∷◌, length, get_or, take, Contains, Some, slice_get, refl, sym, ap, ◌∙◌, subst, arith}
+use Rattle.std.proofs.Common.{◌≡◌, ℕ, zero, suc, ◌+◌, ◌*◌, ◌<◌, inl, inr, Bool, true, false, eqb, List, [], ◌∷◌, length, get_or, Contains, Some, slice_get, refl, sym, ap, ◌∙◌, subst, arith}
 use Rattle.std.specs.Prelude.{◌==◌, ◌&&◌, if◌then◌else◌}
 use Rattle.std.proofs.lemmas.Bool.{cases_eq, cases_lt, eq-eqb, false≢true}
 use Rattle.std.proofs.lemmas.Bool.Decides.{nat_tests}
 use Rattle.std.proofs.lemmas.Option.{same_Some, slice_get_within, get_or_from_slice_get}
 use Rattle.bit_rows.specs.Words.{word_bit}
-use Rattle.crew.specs.Counts.{Has, one_if, times}
+use Rattle.crew.specs.Counts.{Has, one_if}
 use Rattle.crew.specs.SharedWords.{Holds}
 use Rattle.crew.specs.Rounds.{IsCompleteStep}
 use Rattle.dep_model.specs.declared.graph.Graph.{Graph}

@@ -1,5 +1,5 @@
 -- The laws of the facts on a board.
-use Rattle.std.proofs.Common.{ℕ, ◌*◌, List, length, arith}
+use Rattle.std.proofs.Common.{◌*◌, length, arith}
 use Rattle.std.specs.Prelude.{slice_index}
 use Rattle.crew.specs.Rounds.{MayPut}
 use Rattle.crew.proofs.BoardLaws as boards

@@ -13,3 +13,6 @@ pub mod FactBits
 pub mod FactMachineLaws
 pub mod WorkerLaws
 pub mod WorkLaws
+pub mod GainLaws
+pub mod FunctionLaws
+pub mod TeamLaws

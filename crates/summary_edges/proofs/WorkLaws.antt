@@ -1,5 +1,5 @@
 -- What a worker has done, number after number.
-use Rattle.std.proofs.Common.{◌≡◌, ◌≢◌, ℕ, ◌+◌, ◌-◌, ◌<◌, ◌⊎◌, inl, inr, eqb, true, false, suc, ◌==◌, List, [], ◌∷◌, ◌++◌, length, get_or, replicate, Some, None, Option, slice_get, refl, sym, ap, ◌∙◌, subst, arith}
+use Rattle.std.proofs.Common.{◌≡◌, ℕ, ◌+◌, ◌-◌, ◌<◌, ◌⊎◌, inl, inr, eqb, true, suc, ◌==◌, List, [], ◌∷◌, ◌++◌, length, get_or, replicate, Some, None, Option, slice_get, refl, sym, ap, ◌∙◌, subst, arith}
 use Rattle.std.specs.Prelude.{slice_index}
 use Rattle.std.proofs.lemmas.Bool.{cases_eq, cases_lt, ne_eqb, false≢true, or_cases}
 use Rattle.std.proofs.lemmas.Bool.Decides.{nat_tests}
@@ -25,7 +25,7 @@ use Rattle.summary_edges.proofs.WorkerLaws.{kept_both}
 
 -- ---- functions by their numbers
 -- the vertex of a function that has one
-vertex_of : (vs : List Vertex) (f : ℕ) → has_function vs f ≡ true → (v : ℕ) × (x : Vertex) × (slice_get vs v ≡ Some x) × (x.function ≡ f)
+pub vertex_of : (vs : List Vertex) (f : ℕ) → has_function vs f ≡ true → (v : ℕ) × (x : Vertex) × (slice_get vs v ≡ Some x) × (x.function ≡ f)
 vertex_of [] f h = absurd (false≢true h)
 vertex_of (x ∷ xs) f h = elim (or_cases (x.function == f) (has_function xs f) h) [
   | inl here ↦ (0, x, refl, grind (arith, nat_tests, here))

@@ -2,6 +2,7 @@
 use Rattle.std.specs.Prelude.{◌≡◌, ◌≢◌, ◌↔◌, ℕ, ◌+◌, ◌<◌, ◌≤◌, true, List, length, get_or, Some, Contains, slice_get}
 use Rattle.std.specs.Option.{option_map_or}
 use Rattle.bit_rows.specs.Sets.{has}
+use Rattle.crew.specs.SharedWords.{Holds}
 use Rattle.dep_model.specs.declared.graph.Graph.{Graph}
 use Rattle.dep_model.specs.declared.graph.OutRow.{OutRow}
 use Rattle.dep_model.specs.declared.vertex.Vertex.{Vertex}
@@ -34,6 +35,12 @@ pub record IsDue (g : Graph) (before after : List ℕ) (f : ℕ) : Type 0 where
   pub callee : ℕ
   pub calls : HoldsCall g f callee
   pub changed : HasRowChanged g before after callee
+
+-- the second words hold a bit that the first lack
+pub record HasGainedBit (before after : List ℕ) : Type 0 where
+  pub bit : ℕ
+  pub now : Holds after bit
+  pub not_before : Holds before bit → ⊥
 
 -- ---- as they are found
 

@@ -9,3 +9,4 @@ pub mod FactMachine
 pub mod FactMachineLaws
 pub mod Workers
 pub mod StepTruth
+pub mod Teams

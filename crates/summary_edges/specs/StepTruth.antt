@@ -1,6 +1,5 @@
 -- What one step gives from true facts is true, bit by bit: the truth of a board asks for it.
-use Rattle.std.proofs.Common.{◌≡◌, ℕ, List, subst}
-use Rattle.crew.specs.SharedWords.{Holds}
+use Rattle.std.proofs.Common.{ℕ, List, subst}
 use Rattle.dep_model.specs.declared.graph.Graph.{Graph}
 use Rattle.dep_model.specs.Facts.{HoldsFact, IsTrueFact}
 use Rattle.matched_paths.specs.Laws.{AreTrue}

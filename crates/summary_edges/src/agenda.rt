@@ -1,11 +1,13 @@
 //! The functions that a round takes: those that call one whose facts grew.
-ghost use Rattle.std.specs.Prelude.{◌≡◌, ◌↔◌, ℕ, ◌<◌, ◌≤◌, ◌⊎◌, All, true, false, OnOk, IfOk, Contains, length, map, flat_map};
+ghost use Rattle.std.specs.Prelude.{◌≡◌, ◌↔◌, ℕ, ◌^◌, ◌<◌, ◌≤◌, ◌⊎◌, All, true, false, OnOk, IfOk, Contains, length, map, flat_map};
 ghost use Rattle.std.specs.List.{AllPairs};
 ghost use Rattle.bit_rows.specs.Sets.{has};
+ghost use Rattle.crew.specs.SharedWords.{AreWithin};
 ghost use Rattle.dep_model.specs.Facts.{AreFactWords};
 ghost use Rattle.dep_model.specs.Shapes.{IsShaped};
 ghost use Rattle.matched_paths.specs.EdgeGroups.{group_at, calling};
-ghost use Rattle.summary_edges.specs.Agendas.{IsAgenda, IsCaller, IsCallerOfChanged, IsDue, HaveWordsChanged, number_at};
+ghost use Rattle.summary_edges.specs.Agendas.{IsAgenda, IsCaller, IsCallerOfChanged, IsDue, HaveWordsChanged, HasGainedBit, number_at};
+ghost use Rattle.summary_edges.specs.FactMachine.{IsFirstAgenda, IsLaterAgenda};
 ghost use Rattle.summary_edges.specs.FunctionParts.{IsPart, AreParts};
 
 use crate::function_parts::{FunctionPart, FunctionParts};
@@ -138,6 +140,59 @@ fn ascend(numbers: &mut Vec<u32>)
     numbers.dedup();
 }
 
+// All places of a list so long. Err: no memory was left.
+fn all_places(alloc: Global, functions: usize) -> Result<Vec<u32>, AllocError>
+    requires few { functions < 2 ^ 32 }
+    ensures inside { IfOk result (λ ps. All (λ p. p < functions) ps.items) }
+    ensures all { IfOk result (λ ps. (p : ℕ) → p < functions → Contains ps.items p) }
+{
+    let mut places = Vec::new(alloc);
+    for place in 0..functions {
+        places.push(place as u32)?;
+    }
+    Ok(places)
+}
+
+/// The functions that the first round takes: all, by their numbers, ascending and each once. Err: no memory was left.
+pub(crate) fn first_agenda(
+    alloc: Global,
+    g: &Graph,
+    parts: &FunctionParts,
+) -> Result<Vec<u32>, AllocError>
+    requires shaped { IsShaped g.now }
+    requires parts { AreParts g.now parts.now }
+    ensures { IfOk result (λ agenda. IsFirstAgenda g.now agenda.items) }
+{
+    let places = all_places(alloc, parts.list.len())?;
+    let mut numbers = numbers_of(alloc, g, parts, places.as_slice())?;
+    ascend(&mut numbers);
+    Ok(numbers)
+}
+
+/// The functions that a further round takes where words of facts grew: those that hold a call of a function one of whose rows differs, by
+/// their numbers, ascending and each once. Err: no memory was left.
+pub(crate) fn later_agenda(
+    alloc: Global,
+    g: &Graph,
+    parts: &FunctionParts,
+    calls: &EdgeGroups,
+    before: &[u64],
+    after: &[u64],
+) -> Result<Vec<u32>, AllocError>
+    requires shaped { IsShaped g.now }
+    requires parts { AreParts g.now parts.now }
+    requires calls { (h : ℕ) → group_at calls.now h ≡ flat_map (calling g.now.vertices h) g.now.edges }
+    requires before { AreFactWords g.now before.now }
+    requires after { AreFactWords g.now after.now }
+    ensures agenda { IfOk result (λ agenda. IsLaterAgenda g.now before.now after.now agenda.items) }
+    ensures gained { IfOk result (λ agenda. (f : ℕ) → Contains agenda.items f → AreWithin before.now after.now → HasGainedBit before.now after.now) }
+{
+    let agenda = callers_of_changed(alloc, g, parts, calls, before, after)?;
+    let mut numbers = numbers_of(alloc, g, parts, agenda.places.as_slice())?;
+    ascend(&mut numbers);
+    Ok(numbers)
+}
+
 /// The functions that a further round has to take where facts grew from `before` to `after`: those that hold a call of a function
 /// one of whose rows differs, by their numbers, ascending and each once. Err: no memory was left.
 pub fn next_agenda(
@@ -154,7 +209,7 @@ pub fn next_agenda(
 {
     let parts = FunctionParts::find(alloc, g)?;
     let calls = EdgeGroups::by_callee(alloc, g.vertices.as_slice(), g.edges.as_slice())?;
-    let agenda = callers_of_changed(
+    let agenda = later_agenda(
         alloc,
         g,
         &parts,
@@ -162,7 +217,5 @@ pub fn next_agenda(
         before.words.as_slice(),
         after.words.as_slice(),
     )?;
-    let mut numbers = numbers_of(alloc, g, &parts, agenda.places.as_slice())?;
-    ascend(&mut numbers);
-    Ok(numbers)
+    Ok(agenda)
 }

@@ -35,6 +35,7 @@ impl<'a> Truth for FactTruth<'a> {
 }
 
 impl<'a> FactTruth<'a> {
+    ghost use Rattle.summary_edges.specs.FactIndexes.{IsIndex};
     ghost use Rattle.summary_edges.specs.Workers.{IsReadyTruth};
 
     /// The true facts of a graph, where the functions of an agenda are shared out. It takes no memory.
@@ -50,6 +51,26 @@ impl<'a> FactTruth<'a> {
             graph,
             agenda,
             index: None,
+        }
+    }
+
+    /// The same, with what steps look up.
+    pub(crate) fn with_index(
+        graph: &'a Graph,
+        agenda: &'a [u32],
+        index: &'a FactIndex,
+    ) -> FactTruth<'a>
+        requires index { IsIndex graph.now index.now }
+        requires functions { All (IsFunction graph.now) agenda.now }
+        requires once { AllPairs (λ f h. f ≢ h) agenda.now }
+        ensures graph { result.graph.now ≡ graph.now }
+        ensures agenda { result.agenda.now ≡ agenda.now }
+        ensures ready { IsReadyTruth result }
+    {
+        FactTruth {
+            graph,
+            agenda,
+            index: Some(index),
         }
     }
 }

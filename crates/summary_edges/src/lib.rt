@@ -14,6 +14,7 @@ mod function_parts;
 mod laws;
 mod rounds;
 mod step;
+mod team;
 mod worker;
 mod working;
 

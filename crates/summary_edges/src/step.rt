@@ -119,29 +119,9 @@ fn read_off(
     grows
 }
 
-/// Adds to the words exactly the facts of a function that one step gives from the facts that are known, and tells whether one of
+/// Adds to the words exactly the facts of a function that one step gives from the facts that they hold, and tells whether one of
 /// them is new. Only words of the function's own rows change.
 pub(crate) fn step(
-    g: &Graph,
-    index: &FactIndex,
-    part: FunctionPart,
-    known: &[u64],
-    table: &mut ExitRows,
-    words: &mut [u64],
-) -> bool
-    requires index { IsIndex g.now index.now }
-    requires part { IsPart g.now part }
-    requires room { HasRoom part table.old }
-    requires long { length words.old ≡ g.now.fact_words }
-    ensures exact { IsStepTaken g.now part known.now words.old words.new result }
-    ensures room { HaveOneShape table.old table.new }
-{
-    table.fill(g, index, known, part);
-    read_off(g, index, part, table, words)
-}
-
-/// The same in place: the facts of the step are added to those that are known.
-pub(crate) fn step_in_place(
     g: &Graph,
     index: &FactIndex,
     part: FunctionPart,

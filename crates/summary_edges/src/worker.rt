@@ -18,7 +18,7 @@ use crate::exit_rows::ExitRows;
 use crate::fact_index::FactIndex;
 use crate::fact_truth::FactTruth;
 use crate::function_parts::{FunctionPart, rows_before, word_of};
-use crate::step::step_in_place;
+use crate::step::step;
 use crew::{Board, BoardSeat};
 use dep_model::{Edge, Label, VertexId};
 use std::alloc::{AllocError, Global};
@@ -202,7 +202,7 @@ pub(crate) fn take<'a>(
 {
     look_for(t, index, board, seat, part, known);
     let before = own_words(alloc, part, known)?;
-    step_in_place(t.graph, index, part, table, known);
+    step(t.graph, index, part, table, known);
     publish_gain(t, board, seat, part, before.as_slice(), known);
     Ok(())
 }

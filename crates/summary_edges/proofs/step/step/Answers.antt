@@ -6,7 +6,7 @@ read_off-requires-clause-room c = c.fill.ensures.exact.room
 
 pub returns-clause-exact : goal.returns-clause-exact
 returns-clause-exact c =
-    step_taken c.args.g.now c.args.known.now c.args.part c.fill.new.self c.args.words.now c.read_off.new.words c.read_off.result c.requires.index.shaped.rows_are c.fill.ensures.exact c.read_off.ensures
+    step_taken c.args.g.now c.args.words.now c.args.part c.fill.new.self c.args.words.now c.read_off.new.words c.read_off.result c.requires.index.shaped.rows_are c.fill.ensures.exact c.read_off.ensures
 
 pub returns-clause-room : goal.returns-clause-room
 returns-clause-room c = c.fill.ensures.shape

@@ -2,7 +2,7 @@ use Rattle.std.proofs.Common.{◌+◌, ◌<◌, ◌++◌, [], ◌∷◌, ℕ, Li
 use Rattle.std.proofs.lemmas.Bool.{cases_eq}
 use Rattle.std.proofs.lemmas.List.Elements.{All-push, Contains-append_left, Contains-append_right}
 use Rattle.rule_closure.proofs.ListLemmas.{contains_head}
-use Rattle.summary_edges.proofs.rounds.all_places.Goals as goal
+use Rattle.summary_edges.proofs.agenda.all_places.Goals as goal
 
 pub overflow_cast-place : goal.overflow_cast-place
 overflow_cast-place c =
