@@ -4,9 +4,11 @@ ghost use Rattle.std.specs.Prelude.{◌<◌, All, IsTrue};
 use crate::analyses::{graph_of, read};
 use crate::printing::set_text;
 use crate::programs::{ID, OVERWRITTEN, SET, THREE_DEEP, TURNS, TWO_WAYS};
+use crew::OpenGate;
 use dep_model::VertexSet;
 use forward_chop::Chopper;
 use std::process::Abort;
+use std::thread::Threads;
 
 fn all_below(numbers: &[u32], size: u32) -> bool
     ensures { IsTrue result → All (λ v. v < size) numbers.now }
@@ -16,7 +18,7 @@ fn all_below(numbers: &[u32], size: u32) -> bool
 
 /// The first set is the forward slice of `from` in the text's graph, the second the chop of `from` and `to`, and the forward slice is the
 /// same once more after the chop.
-fn leads<R: Abort + AllocGlobal>(
+fn leads<R: Abort + AllocGlobal + Threads + Sync>(
     rt: &R,
     text: &str,
     from: &[u32],
@@ -26,7 +28,7 @@ fn leads<R: Abort + AllocGlobal>(
 ) {
     let p = read(rt, text);
     let graph = graph_of(rt.alloc(), &p).expect(rt, "a graph");
-    let facts = summary_edges::find(rt.alloc(), &graph).expect(rt, "memory");
+    let facts = summary_edges::find(rt, rt.alloc(), &graph, 1, &OpenGate).expect(rt, "memory");
     let size = graph.vertices.len() as u32;
     assert!(rt; all_below(from, size));
     assert!(rt; all_below(to, size));

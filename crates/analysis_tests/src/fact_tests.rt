@@ -1,22 +1,43 @@
 //! Which formal-outs depend on which formal-ins, by paths whose calls and returns match.
-ghost use Rattle.std.specs.Prelude.{IfOk};
+ghost use Rattle.std.specs.Prelude.{◌≤◌, IfOk};
 ghost use Rattle.dep_model.specs.Facts.{AreFactWords};
 ghost use Rattle.dep_model.specs.Shapes.{IsShaped};
 
 use crate::analyses::{graph_of, read};
 use crate::programs::{ADD, KEPT, MUTUAL, OVERWRITTEN, PICK, READS};
+use crew::{Gate, OpenGate};
 use dep_model::{Facts, Graph};
 use sqlite_items::Items;
 use std::alloc::{AllocError, Global};
 use std::process::Abort;
+use std::thread::Threads;
+use test_gates::{CountGate, HoldGate};
 
-/// The formal-outs of the text's graph, in their order, depend on these formal-ins of their functions: of each its word, with
-/// bit `i` for formal-in `i`.
-fn has_facts<R: Abort + AllocGlobal>(rt: &R, text: &str, words: &[u64]) {
+/// The facts of a graph, by so many workers, who pass the gate.
+fn facts_by<R: Abort + AllocGlobal + Threads + Sync, G: Gate + Sync>(
+    rt: &R,
+    graph: &Graph,
+    workers: u32,
+    gate: &G,
+) -> Facts
+    requires shaped { IsShaped graph.now }
+    requires workers { (1 ≤ workers) × (workers ≤ 16) }
+    ensures { AreFactWords graph.now result.words }
+{
+    summary_edges::find(rt, rt.alloc(), graph, workers, gate).expect(rt, "memory")
+}
+
+/// The formal-outs of the text's graph, in their order, depend on these formal-ins of their functions, by one, two and sixteen
+/// workers: of each its word, with bit `i` for formal-in `i`.
+fn has_facts<R: Abort + AllocGlobal + Threads + Sync>(rt: &R, text: &str, words: &[u64]) {
     let p = read(rt, text);
     let graph = graph_of(rt.alloc(), &p).expect(rt, "a graph");
-    let facts = summary_edges::find(rt.alloc(), &graph).expect(rt, "memory");
-    assert_eq!(rt; facts.words.as_slice(), words);
+    let one = facts_by(rt, &graph, 1, &OpenGate);
+    assert_eq!(rt; one.words.as_slice(), words);
+    let two = facts_by(rt, &graph, 2, &OpenGate);
+    assert_eq!(rt; two.words.as_slice(), words);
+    let sixteen = facts_by(rt, &graph, 16, &OpenGate);
+    assert_eq!(rt; sixteen.words.as_slice(), words);
 }
 
 // Both parameters to the result in `even` and in `odd`, and the input to the input in main.
@@ -175,11 +196,11 @@ fn wide<R: Abort + AllocGlobal>(rt: &R, globals: u32) -> String {
 }
 
 /// The words of a row of `f` hold the parameter that goes to its global alone, and those of a row of main nothing.
-fn has_turns<R: Abort + AllocGlobal>(rt: &R, globals: u32, width: usize) {
+fn has_turns<R: Abort + AllocGlobal + Threads + Sync>(rt: &R, globals: u32, width: usize) {
     let text = wide(rt, globals);
     let p = read(rt, text.as_str());
     let graph = graph_of(rt.alloc(), &p).expect(rt, "a graph");
-    let facts = summary_edges::find(rt.alloc(), &graph).expect(rt, "memory");
+    let facts = facts_by(rt, &graph, 2, &OpenGate);
     let words = facts.words.as_slice();
     assert_eq!(rt; graph.outs.len(), 2 * globals as usize);
     for (number, row) in graph.outs.as_slice().iter().enumerate() {
@@ -238,9 +259,36 @@ fn callers_are_due(rt: HostRuntime) {
     let p = read(&rt, KEPT);
     let graph = graph_of(rt.alloc(), &p).expect(&rt, "a graph");
     let before = no_facts(rt.alloc(), &graph).expect(&rt, "memory");
-    let after = summary_edges::find(rt.alloc(), &graph).expect(&rt, "memory");
+    let after = facts_by(&rt, &graph, 1, &OpenGate);
     let due = summary_edges::next_agenda(rt.alloc(), &graph, &before, &after).expect(&rt, "memory");
     assert_eq!(rt; due.as_slice(), [1].as_slice());
     let none = summary_edges::next_agenda(rt.alloc(), &graph, &after, &after).expect(&rt, "memory");
     assert!(rt; none.is_empty());
+}
+
+/// How many functions one worker takes in all rounds over the text's graph.
+fn taken<R: Abort + AllocGlobal + Threads + Sync>(rt: &R, text: &str) -> u64 {
+    let p = read(rt, text);
+    let graph = graph_of(rt.alloc(), &p).expect(rt, "a graph");
+    let gate = CountGate::new();
+    let _facts = facts_by(rt, &graph, 1, &gate);
+    gate.passes()
+}
+
+// The first round takes both functions. Then main alone is due where the other gave facts, and none where it gave none.
+#[test]
+fn later_rounds_take_what_is_due(rt: HostRuntime) {
+    assert_eq!(rt; taken(&rt, KEPT), 3);
+    assert_eq!(rt; taken(&rt, OVERWRITTEN), 2);
+}
+
+// The first worker that draws is held until another has drawn too: so two run at the same time.
+#[test]
+fn workers_run_side_by_side(rt: HostRuntime) {
+    let p = read(&rt, MUTUAL);
+    let graph = graph_of(rt.alloc(), &p).expect(&rt, "a graph");
+    let gate = HoldGate::new(2);
+    let facts = facts_by(&rt, &graph, 2, &gate);
+    assert!(rt; gate.met());
+    assert_eq!(rt; facts.words.as_slice(), [0b11, 0b11, 0b1].as_slice());
 }

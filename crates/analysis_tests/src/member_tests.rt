@@ -5,8 +5,10 @@ use crate::analyses::{graph_of, read};
 use crate::printing::set_text;
 use crate::programs::{ADD, KEPT, OVERWRITTEN, PICK, READS};
 use completion::Closer;
+use crew::OpenGate;
 use dep_model::VertexSet;
 use std::process::Abort;
+use std::thread::Threads;
 use two_pass::Passes;
 
 fn all_below(numbers: &[u32], size: u32) -> bool
@@ -16,7 +18,7 @@ fn all_below(numbers: &[u32], size: u32) -> bool
 }
 
 /// From these vertices of the text's graph on, backward, the first set is reached, and the second is its completion.
-fn keeps<R: Abort + AllocGlobal>(
+fn keeps<R: Abort + AllocGlobal + Threads + Sync>(
     rt: &R,
     text: &str,
     criterion: &[u32],
@@ -25,7 +27,7 @@ fn keeps<R: Abort + AllocGlobal>(
 ) {
     let p = read(rt, text);
     let graph = graph_of(rt.alloc(), &p).expect(rt, "a graph");
-    let facts = summary_edges::find(rt.alloc(), &graph).expect(rt, "memory");
+    let facts = summary_edges::find(rt, rt.alloc(), &graph, 1, &OpenGate).expect(rt, "memory");
     let size = graph.vertices.len() as u32;
     assert!(rt; all_below(criterion, size));
     let mut passes = Passes::prepare(rt.alloc(), &graph, &facts).expect(rt, "memory");
