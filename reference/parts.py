@@ -20,18 +20,19 @@ use c_reader::read_program;
 use c_tree::{Program, Text};
 use dep_model::{Locations, VertexSet};
 use forward_chop::Chopper;
-use slice_engine::{Criterion, Engine};
+use slice_engine::{Criterion, Engine, OpenGate};
 use std::alloc::Global;
 use std::fs::Files;
+use std::thread::Threads;
 use std::{env, fs};
 
 fn program_of(alloc: Global, bytes: &[u8]) -> anyhow::Result<Program> {
     read_program(alloc, bytes).map_err(|_| anyhow::Error::msg("not read"))
 }
 
-fn engine_of(alloc: Global, bytes: &[u8]) -> anyhow::Result<Engine> {
-    let p = program_of(alloc, bytes)?;
-    Engine::new(alloc, p).map_err(|_| anyhow::Error::msg("a limit"))
+fn engine_of<R: AllocGlobal + Threads + Sync>(rt: &R, bytes: &[u8]) -> anyhow::Result<Engine> {
+    let p = program_of(rt.alloc(), bytes)?;
+    Engine::new(rt, rt.alloc(), p, 1, &OpenGate).map_err(|_| anyhow::Error::msg("a limit"))
 }
 
 fn show<R: Print + AllocGlobal>(rt: &R, text: &Text) -> anyhow::Result<()> {
@@ -100,7 +101,7 @@ fn main(rt: HostRuntime) -> anyhow::Result<()> {
     let name = words.next().context("no file")?;
     let bytes = fs::read(&rt, name.as_str())?;
     let command = words.next().context("no command")?;
-    let engine = engine_of(rt.alloc(), bytes.as_slice())?;
+    let engine = engine_of(&rt, bytes.as_slice())?;
     let mut lines = Vec::new(rt.alloc());
     for word in words {
         lines.push(word)?;

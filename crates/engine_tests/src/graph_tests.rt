@@ -4,6 +4,7 @@ use crate::reading::engine_of;
 use dep_model::Label;
 use slice_engine::Graph;
 use std::process::Abort;
+use std::thread::Threads;
 
 /// How many edges there are of each label.
 #[derive(Clone, Copy, Debug, PartialEq, Eq)]
@@ -44,7 +45,7 @@ fn counts_of(g: &Graph) -> Counts {
 }
 
 /// The graph of a text has so many locations, vertices, and edges of each label.
-fn has_counts<R: Abort + AllocGlobal>(
+fn has_counts<R: Abort + AllocGlobal + Threads + Sync>(
     rt: &R,
     text: &str,
     locations: u32,

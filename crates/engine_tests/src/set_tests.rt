@@ -3,6 +3,7 @@ use crate::programs::{FREED, LIST, OUTWARD, UPWARD};
 use crate::reading::{criterion_at, engine_of};
 use slice_engine::VertexSet;
 use std::process::Abort;
+use std::thread::Threads;
 
 /// A line of a text, and the vertices of a set, which ascend.
 #[derive(Drop)]
@@ -13,14 +14,14 @@ struct Row<'t> {
 }
 
 /// What reaches the statements of a line.
-fn members_at<R: Abort + AllocGlobal>(rt: &R, text: &str, line: u32) -> VertexSet {
+fn members_at<R: Abort + AllocGlobal + Threads + Sync>(rt: &R, text: &str, line: u32) -> VertexSet {
     let engine = engine_of(rt, text);
     let criterion = criterion_at(rt, &engine, line);
     engine.members(rt.alloc(), criterion).expect(rt, "memory")
 }
 
 /// What the slice at a line keeps.
-fn kept_at<R: Abort + AllocGlobal>(rt: &R, text: &str, line: u32) -> VertexSet {
+fn kept_at<R: Abort + AllocGlobal + Threads + Sync>(rt: &R, text: &str, line: u32) -> VertexSet {
     let engine = engine_of(rt, text);
     let criterion = criterion_at(rt, &engine, line);
     engine.kept(rt.alloc(), criterion).expect(rt, "memory")

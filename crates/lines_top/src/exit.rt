@@ -11,12 +11,13 @@ ghost use Rattle.slicer_top.specs.Statuses.{code_of};
 use crate::run::run_lines;
 use call_words::words_of;
 use edge_io::{Shelf, Sink};
-use slicer_top::Status;
+use slicer_top::{Gate, Status};
 use std::alloc::{AllocError, Global};
 use std::env::Args;
 use std::io;
 use std::io::{Eprint, ErrorKind};
 use std::process::{ExitCode, Termination};
+use std::thread::Threads;
 
 /// How a call of the program ended. Only [`lines_call`] makes one, so that a `main` that answers an `Exit` ends with the
 /// code of that call's status, and with no other.
@@ -36,12 +37,14 @@ impl Termination for Exit {
 
 /// Does what the arguments of a call ask for: [`run_lines`] with the words of these arguments, so that each of its promises holds of
 /// them. Where there is no memory for the words, `run_lines` isn't called: the status is `NoMemory`, and nothing is read or written.
-pub fn lines_call<F: Shelf, O: Sink, E: Sink>(
+pub fn lines_call<R: Threads + Sync, F: Shelf, O: Sink, E: Sink, G: Gate + Sync>(
+    rt: &R,
     alloc: Global,
     arguments: io::Result<Args>,
     shelf: &mut F,
     out: &mut O,
     err: &mut E,
+    gate: &G,
 ) -> Exit
     ensures promises { IfSome (ended_in result) (LinesPromises (words_in arguments)
         (shelf_seen F.faults F.long_files F.fetches F.contents F.never_fails shelf.old shelf.new)
@@ -53,7 +56,7 @@ pub fn lines_call<F: Shelf, O: Sink, E: Sink>(
 {
     match words_of(alloc, arguments) {
         Ok(words) => {
-            let status = run_lines(alloc, &words, shelf, out, err);
+            let status = run_lines(rt, alloc, &words, shelf, out, err, gate);
             Exit {
                 ended: Some(status),
             }

@@ -13,4 +13,4 @@ mod words;
 
 pub use exit::{Exit, lines_call};
 pub use run::run_lines;
-pub use slicer_top::{FileShelf, Status, StreamSink, Text};
+pub use slicer_top::{FileShelf, Gate, OpenGate, Status, StreamSink, Text};

@@ -7,8 +7,9 @@ use crate::making::text_for;
 use crate::words::request_of;
 use call_words::WordsFault;
 use edge_io::{PutFailed, Shelf, Sink};
-use slicer_top::{Status, Text, tell, tell_no_memory, tell_refusal};
+use slicer_top::{Gate, Status, Text, tell, tell_no_memory, tell_refusal};
 use std::alloc::Global;
+use std::thread::Threads;
 
 /// Writes to `out`, in one put, the kept lines of the program in FILE at each LINE: a row for each LINE in the order of the words,
 /// with LINE, a colon, and each line behind a space on which a statement starts that the slice at LINE keeps. At most 4,096 lines may
@@ -16,12 +17,17 @@ use std::alloc::Global;
 ///
 /// The words are those of the command `slice` without its name (the crate `call_words`). FILE is fetched from `shelf`. Where the status
 /// isn't `Done`, its line is put on `err`; where that fails, the status is `WriteFault`, and `err` gets no more.
-pub fn run_lines<F: Shelf, O: Sink, E: Sink>(
+///
+/// The facts of the program's functions are found by the number of workers that the words give, on threads of `rt`; each worker passes
+/// `gate` after each number that it draws.
+pub fn run_lines<R: Threads + Sync, F: Shelf, O: Sink, E: Sink, G: Gate + Sync>(
+    rt: &R,
     alloc: Global,
     words: &[Text],
     shelf: &mut F,
     out: &mut O,
     err: &mut E,
+    gate: &G,
 ) -> Status
     ensures { LinesPromises words.now (shelf_seen F.faults F.long_files F.fetches F.contents F.never_fails shelf.old shelf.new)
         (sink_seen O.faults O.written O.takes out.old out.new) (sink_seen E.faults E.written E.takes err.old err.new) result }
@@ -33,7 +39,7 @@ pub fn run_lines<F: Shelf, O: Sink, E: Sink>(
         }
         Err(WordsFault::NoMemory) => return tell_no_memory(err),
     };
-    match text_for(alloc, &request, shelf) {
+    match text_for(rt, alloc, &request, shelf, gate) {
         Ok(text) => put(&text, out, err),
         Err(refusal) => tell_refusal(alloc, &refusal, &request, err),
     }

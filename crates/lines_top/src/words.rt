@@ -1,6 +1,6 @@
 //! What the words of a call ask for.
 ghost use Rattle.std.specs.Prelude.{◌≡◌, IfOk, MatchResult, Some};
-ghost use Rattle.call_words.specs.Requests.{IsRead, asked_by, file_in, lines_in};
+ghost use Rattle.call_words.specs.Requests.{AreWorkers, IsBounded, IsRead, asked_by, file_in, lines_in};
 ghost use Rattle.lines_top.specs.Words.{AskForLines, IsForSlices, as_slice};
 
 use call_words::{Request, WordsFault, read_words};
@@ -29,14 +29,20 @@ fn behind_slice(alloc: Global, words: &[Text]) -> Result<Vec<Text>, AllocError>
     Ok(whole)
 }
 
-/// The file and the lines of a request for slices.
-pub(crate) fn named(request: &Request) -> (&str, &[u64])
-    requires { IsForSlices (asked_by request.now) }
+/// The file, the lines and the number of workers of a request for slices.
+pub(crate) fn named(request: &Request) -> (&str, &[u64], u32)
+    requires slices { IsForSlices (asked_by request.now) }
+    requires bounded { IsBounded (asked_by request.now) }
     ensures file { Some result.0.now ≡ file_in (asked_by request.now) }
     ensures lines { result.1.now ≡ lines_in (asked_by request.now) }
+    ensures workers { AreWorkers result.2 }
 {
     match request {
-        Request::Slice { file, lines, .. } => (file.as_str(), lines.as_slice()),
+        Request::Slice {
+            file,
+            lines,
+            workers,
+        } => (file.as_str(), lines.as_slice(), *workers as u32),
         _ => unreachable!(),
     }
 }

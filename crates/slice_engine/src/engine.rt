@@ -17,9 +17,11 @@ use crate::slicing::{Slicing, members_at, vertices_at};
 use crate::starts::{last_line, starts_in};
 use c_tree::numbered::Start;
 use c_tree::{Program, Text};
+use crew::Gate;
 use dep_model::{Facts, Graph, GraphFault, Locations, VertexId, VertexSet};
 use std::alloc::{AllocError, Global};
 use std::marker::Model;
+use std::thread::Threads;
 use two_pass::Passes;
 
 /// What a slice is made for: the statements that start on a line, counted from 1.
@@ -57,20 +59,28 @@ impl Model for Engine {
 
 impl Engine {
     /// The engine of a program of any form. Its graph is that by where each location may point, whatever the order of the
-    /// statements (Andersen 1994).
+    /// statements (Andersen 1994). The facts of its functions are found by so many workers, on threads of `rt`, each of which
+    /// passes the gate after each number that it draws.
     ///
     /// Err: the program has more than 4,096 locations, or its graph more than 65,536 vertices or 262,144 words of
-    /// facts, of which the first is told; or no memory was left, which is also told of more than 4,294,967,295 functions.
-    /// The program is dropped then.
-    pub fn new(alloc: Global, p: Program) -> Result<Engine, GraphFault>
+    /// facts, of which the first is told; or no memory was left, for a worker or besides, which is also told of more than
+    /// 4,294,967,295 functions. The program is dropped then.
+    pub fn new<R: Threads + Sync, G: Gate + Sync>(
+        rt: &R,
+        alloc: Global,
+        p: Program,
+        workers: u32,
+        gate: &G,
+    ) -> Result<Engine, GraphFault>
         requires well_formed { IsWellFormed p }
+        requires workers { (1 ≤ workers) × (workers ≤ 16) }
         ensures program { IfOk result (λ e. e ≡ p) }
         ensures within { IfOk result (λ e. (n : LimitName) → IsAboveGraphLimit p n → ⊥) }
         ensures above { IfErr result (λ f. (n : LimitName) → f ≡ Limit n → IsAboveGraphLimit p n) }
     {
         let locations = locations_of(alloc, &p)?;
         let graph = graph_of(alloc, &p, &locations)?;
-        let facts = summary_edges::find(alloc, &graph)?;
+        let facts = summary_edges::find(rt, alloc, &graph, workers, gate)?;
         let starts = starts_in(alloc, &p)?;
         Ok(Engine {
             program: p,

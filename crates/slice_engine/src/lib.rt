@@ -11,6 +11,7 @@ mod starts;
 
 pub use c_reader::{LexFault, ParseFault, ReadRefusal, RuleFault, read_program};
 pub use c_tree::{LimitName, Program, Text};
+pub use crew::{Gate, OpenGate};
 pub use dep_model::{Graph, GraphFault, Locations, VertexSet};
 pub use engine::{Criterion, Engine};
 pub use slicing::Slicing;

@@ -3,7 +3,7 @@
 #![tactic(auto)]
 
 use edge_io::Shelf;
-use lines_top::{Exit, FileShelf, StreamSink, lines_call};
+use lines_top::{Exit, FileShelf, OpenGate, StreamSink, lines_call};
 use std::env;
 
 fn main(rt: HostRuntime) -> Exit {
@@ -12,5 +12,13 @@ fn main(rt: HostRuntime) -> Exit {
     let _ = shelf.fetch(rt.alloc(), "/dev/null", 0);
     let mut out = StreamSink::out(rt.stdout());
     let mut err = StreamSink::err(rt.stderr());
-    lines_call(rt.alloc(), env::args(&rt), &mut shelf, &mut out, &mut err)
+    lines_call(
+        &rt,
+        rt.alloc(),
+        env::args(&rt),
+        &mut shelf,
+        &mut out,
+        &mut err,
+        &OpenGate,
+    )
 }

@@ -38,7 +38,7 @@ pub fn run<R: AllocGlobal + Threads + Sync>(
     let mut out = MemorySink::new(alloc, ROOM, Vec::new(alloc))?;
     let mut err = MemorySink::new(alloc, ROOM, Vec::new(alloc))?;
     let status = match case.words_for_lines() {
-        Some(words) => run_lines(alloc, words, &mut shelf, &mut out, &mut err),
+        Some(words) => run_lines(rt, alloc, words, &mut shelf, &mut out, &mut err, &OpenGate),
         None => run_slicer(
             rt,
             alloc,

@@ -3,10 +3,10 @@ ghost use Rattle.std.specs.Prelude.{◌≤◌, length};
 
 use crate::many_tests::{AT_4, AT_7, LOOPS_AT_5_9_12};
 use crate::programs::{LOOPS, MUTUAL, TWO};
-use crate::running::{NONE_FAILING, ends, file, run_past, split_words};
+use crate::running::{NONE_FAILING, ends, file, is_end, run_past, split_words};
 use slice_batch::slices;
 use slice_engine::{Criterion, Engine, read_program};
-use slicer_top::{Gate, Status, Text};
+use slicer_top::{Gate, OpenGate, Status, Text};
 use std::process::Abort;
 use std::test::Fail;
 use std::thread::Threads;
@@ -98,7 +98,7 @@ fn texts_at<R: Abort + AllocGlobal + Threads + Sync, G: Gate + Sync>(
     let bytes = TWO.as_bytes();
     assert!(rt; bytes.len() < SHORT);
     let program = read_program(rt.alloc(), bytes).expect(rt, "a program");
-    let engine = Engine::new(rt.alloc(), program).expect(rt, "an engine");
+    let engine = Engine::new(rt, rt.alloc(), program, 1, &OpenGate).expect(rt, "an engine");
     let (first, second) = lines;
     let (Some(first), Some(second)) = (engine.criterion(first), engine.criterion(second)) else {
         panic!(rt; "no statement starts there");
@@ -126,5 +126,53 @@ fn each_line_is_drawn_once(rt: HostRuntime) -> Result<(), Fail> {
         texts_at(&rt, (4, 4), workers, &gate)?;
         assert_eq!(rt; gate.passes(), 2);
     }
+    Ok(())
+}
+
+/// What is assigned to `g` and answered by `f` comes from `a`, so that the facts have a second round.
+const KEEP: &str = "int g;
+int f(int a) {
+    g = a;
+    return a + 1;
+}
+int main(void) {
+    int x = f(3);
+    x = g;
+    x = x + 1;
+}
+";
+
+/// One worker takes both functions in the first round of the facts, and in the second main alone.
+#[test]
+fn facts_of_an_engine_have_two_rounds(rt: HostRuntime) -> Result<(), Fail> {
+    let bytes = KEEP.as_bytes();
+    assert!(rt; bytes.len() < SHORT);
+    let program = read_program(rt.alloc(), bytes).expect(&rt, "a program");
+    let gate = CountGate::new();
+    let _engine = Engine::new(&rt, rt.alloc(), program, 1, &gate).expect(&rt, "an engine");
+    assert_eq!(rt; gate.passes(), 3);
+    Ok(())
+}
+
+/// One slice is made by one worker; so the other that draws while one is held helps to find the facts.
+#[test]
+fn a_call_finds_facts_side_by_side(rt: HostRuntime) -> Result<(), Fail> {
+    let alloc = rt.alloc();
+    let gate = HoldGate::new(2);
+    let words = split_words(alloc, "slice t.c 21 --workers 2")?;
+    let ended = run_past(
+        &rt,
+        &gate,
+        &words,
+        file(alloc, "t.c", MUTUAL)?,
+        &NONE_FAILING,
+    )?;
+    assert!(rt; gate.met());
+    is_end(
+        &rt,
+        &ended,
+        (Status::Done, MUTUAL_AT_21, ""),
+        "slice t.c 21",
+    )?;
     Ok(())
 }

@@ -2,7 +2,7 @@
 ghost use Rattle.std.specs.Prelude.{◌≡◌, ◌∷◌, ◌↔◌, ◌<◌, ℕ, List, [], All, IfOk, IsTrue, MatchResult, length};
 ghost use Rattle.bit_rows.specs.Sets.{has};
 ghost use Rattle.c_language.specs.Programs.{IsWellFormed};
-ghost use Rattle.call_words.specs.Requests.{Asked};
+ghost use Rattle.call_words.specs.Requests.{AreWorkers, Asked};
 ghost use Rattle.dep_model.specs.Facts.{AreTrueFacts};
 ghost use Rattle.dep_model.specs.Shapes.{IsShaped};
 ghost use Rattle.forward_chop.specs.Chops.{IsForward, IsInChop};
@@ -18,23 +18,28 @@ use c_tree::Program;
 use dep_model::{Facts, Graph, VertexId, VertexSet};
 use edge_io::Text;
 use forward_chop::Chopper;
-use slice_engine::{Criterion, Engine};
+use slice_engine::{Criterion, Engine, Gate};
 use std::alloc::{AllocError, Global};
+use std::thread::Threads;
 
 // ---- forward slices
 
 /// The text of what the statements on a line reach in a program's graph, or why there is none.
-pub(crate) fn forward_texts(
+pub(crate) fn forward_texts<R: Threads + Sync, G: Gate + Sync>(
+    rt: &R,
     alloc: Global,
     program: Program,
     line: u64,
+    workers: u32,
+    gate: &G,
 ) -> Result<Vec<Text>, Refusal>
-    requires { IsWellFormed program }
-    ensures { (file input : List ℕ) (workers : ℕ) → MatchResult result
+    requires well_formed { IsWellFormed program }
+    requires workers { AreWorkers workers }
+    ensures { (file input : List ℕ) → MatchResult result
         (λ texts. AreWrittenOf program (Asked.forward file line workers) input texts.items)
         (IsReasonOf program (Asked.forward file line workers) input) }
 {
-    let engine = Engine::new(alloc, program)?;
+    let engine = Engine::new(rt, alloc, program, workers, gate)?;
     forward_text_at(alloc, &engine, line)
 }
 
@@ -85,18 +90,22 @@ fn forward_set(
 // ---- chops
 
 /// The text of that in a program's graph through which the statements on the first line reach those on the second, or why there is none.
-pub(crate) fn chop_texts(
+pub(crate) fn chop_texts<R: Threads + Sync, G: Gate + Sync>(
+    rt: &R,
     alloc: Global,
     program: Program,
     from: u64,
     to: u64,
+    workers: u32,
+    gate: &G,
 ) -> Result<Vec<Text>, Refusal>
-    requires { IsWellFormed program }
-    ensures { (file input : List ℕ) (workers : ℕ) → MatchResult result
+    requires well_formed { IsWellFormed program }
+    requires workers { AreWorkers workers }
+    ensures { (file input : List ℕ) → MatchResult result
         (λ texts. AreWrittenOf program (Asked.chop file from to workers) input texts.items)
         (IsReasonOf program (Asked.chop file from to workers) input) }
 {
-    let engine = Engine::new(alloc, program)?;
+    let engine = Engine::new(rt, alloc, program, workers, gate)?;
     chop_text_at(alloc, &engine, from, to)
 }
 

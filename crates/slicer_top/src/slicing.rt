@@ -188,11 +188,20 @@ fn made<R: Threads + Sync, G: Gate + Sync>(
             trace_texts(alloc, &program, lines.as_slice(), input, *steps)
         }
         Request::Run { steps, .. } => ran(alloc, &program, input, *steps),
-        Request::Graph { .. } => graph_texts(alloc, program),
-        Request::Members { line, .. } => members_texts(alloc, program, *line),
-        Request::Big { .. } => numbers_texts(alloc, program),
-        Request::Forward { line, .. } => forward_texts(alloc, program, *line),
-        Request::Chop { from, to, .. } => chop_texts(alloc, program, *from, *to),
+        Request::Graph { workers, .. } => graph_texts(rt, alloc, program, *workers as u32, gate),
+        Request::Members { line, workers, .. } => {
+            members_texts(rt, alloc, program, *line, *workers as u32, gate)
+        }
+        Request::Big { workers, .. } => numbers_texts(rt, alloc, program, *workers as u32, gate),
+        Request::Forward { line, workers, .. } => {
+            forward_texts(rt, alloc, program, *line, *workers as u32, gate)
+        }
+        Request::Chop {
+            from,
+            to,
+            workers,
+            ..
+        } => chop_texts(rt, alloc, program, *from, *to, *workers as u32, gate),
     }
 }
 
@@ -213,7 +222,7 @@ fn slice_texts<R: Threads + Sync, G: Gate + Sync>(
         (λ texts. AreWrittenOf program (Asked.slice file lines.now workers) input texts.items)
         (IsReasonOf program (Asked.slice file lines.now workers) input) }
 {
-    let engine = Engine::new(alloc, program)?;
+    let engine = Engine::new(rt, alloc, program, workers, gate)?;
     slices_at(rt, alloc, &engine, lines, workers, gate)
 }
 
@@ -238,25 +247,40 @@ fn slices_at<R: Threads + Sync, G: Gate + Sync>(
 // ---- graphs
 
 // The text of a program's dependence graph, or why there is none.
-fn graph_texts(alloc: Global, program: Program) -> Result<Vec<Text>, Refusal>
-    requires { IsWellFormed program }
-    ensures { (file input : List ℕ) (workers : ℕ) → MatchResult result
+fn graph_texts<R: Threads + Sync, G: Gate + Sync>(
+    rt: &R,
+    alloc: Global,
+    program: Program,
+    workers: u32,
+    gate: &G,
+) -> Result<Vec<Text>, Refusal>
+    requires well_formed { IsWellFormed program }
+    requires workers { AreWorkers workers }
+    ensures { (file input : List ℕ) → MatchResult result
         (λ texts. AreWrittenOf program (Asked.graph file workers) input texts.items)
         (IsReasonOf program (Asked.graph file workers) input) }
 {
-    let engine = Engine::new(alloc, program)?;
+    let engine = Engine::new(rt, alloc, program, workers, gate)?;
     let texts = graph_text_of(alloc, &engine)?;
     Ok(texts)
 }
 
 // The text of what reaches the statements on a line of a program, or why there is none.
-fn members_texts(alloc: Global, program: Program, line: u64) -> Result<Vec<Text>, Refusal>
-    requires { IsWellFormed program }
-    ensures { (file input : List ℕ) (workers : ℕ) → MatchResult result
+fn members_texts<R: Threads + Sync, G: Gate + Sync>(
+    rt: &R,
+    alloc: Global,
+    program: Program,
+    line: u64,
+    workers: u32,
+    gate: &G,
+) -> Result<Vec<Text>, Refusal>
+    requires well_formed { IsWellFormed program }
+    requires workers { AreWorkers workers }
+    ensures { (file input : List ℕ) → MatchResult result
         (λ texts. AreWrittenOf program (Asked.members file line workers) input texts.items)
         (IsReasonOf program (Asked.members file line workers) input) }
 {
-    let engine = Engine::new(alloc, program)?;
+    let engine = Engine::new(rt, alloc, program, workers, gate)?;
     members_text_at(alloc, &engine, line)
 }
 
@@ -300,14 +324,21 @@ fn members_text(
 // ---- numbers
 
 // The numbers of the slice of a program at its last line, or why there are none.
-fn numbers_texts(alloc: Global, program: Program) -> Result<Vec<Text>, Refusal>
+fn numbers_texts<R: Threads + Sync, G: Gate + Sync>(
+    rt: &R,
+    alloc: Global,
+    program: Program,
+    workers: u32,
+    gate: &G,
+) -> Result<Vec<Text>, Refusal>
     requires well_formed { IsWellFormed program }
     requires some { 0 < program.statements }
-    ensures { (seed size workers : ℕ) (input : List ℕ) → MatchResult result
+    requires workers { AreWorkers workers }
+    ensures { (seed size : ℕ) (input : List ℕ) → MatchResult result
         (λ texts. AreWrittenOf program (Asked.big seed size workers) input texts.items)
         (IsReasonOf program (Asked.big seed size workers) input) }
 {
-    let engine = Engine::new(alloc, program)?;
+    let engine = Engine::new(rt, alloc, program, workers, gate)?;
     let texts = numbers_text(alloc, &engine)?;
     Ok(texts)
 }

@@ -4,11 +4,11 @@ use Rattle.slicer_top.proofs.Making.{graph_refused, forward_made}
 use Rattle.slicer_top.proofs.chops.forward_texts.Goals as goal
 
 pub returns-in_err-engine : goal.returns-in_err-engine
-returns-in_err-engine c = λ file input workers.
-    graph_refused c.args.program input (λ t. t.items) (Asked.forward file c.args.line workers) (Asked.forward file c.args.line workers) c.in_err-engine.field-0.0 c.from_residual.result refl tt
+returns-in_err-engine g c = λ file input.
+    graph_refused c.args.program input (λ t. t.items) (Asked.forward file c.args.line c.args.workers) (Asked.forward file c.args.line c.args.workers) c.in_err-engine.field-0.0 c.from_residual.result refl tt
     c.in_err-engine.ensures.above c.from_residual.ensures.1
 
 pub returns : goal.returns
-returns c = λ file input workers.
+returns g c = λ file input.
     forward_made c.args.program input c.in_ok-engine.engine c.in_ok-engine.ensures.program c.in_ok-engine.ensures.within (λ t. t.items)
-    file c.args.line workers c.forward_text_at.result c.forward_text_at.ensures
+    file c.args.line c.args.workers c.forward_text_at.result c.forward_text_at.ensures

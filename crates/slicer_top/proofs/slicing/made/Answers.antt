@@ -8,6 +8,21 @@ use Rattle.slicer_top.proofs.slicing.made.Goals as goal
 pub slice_texts-requires-clause-workers : goal.slice_texts-requires-clause-workers
 slice_texts-requires-clause-workers g c κs within = subst (λ r. IsBounded (asked_by r)) c.in-Slice.is c.requires.bounded
 
+pub graph_texts-requires-clause-workers : goal.graph_texts-requires-clause-workers
+graph_texts-requires-clause-workers g c κs within = subst (λ r. IsBounded (asked_by r)) c.in-Graph.is c.requires.bounded
+
+pub members_texts-requires-clause-workers : goal.members_texts-requires-clause-workers
+members_texts-requires-clause-workers g c κs within = subst (λ r. IsBounded (asked_by r)) c.in-Members.is c.requires.bounded
+
+pub numbers_texts-requires-clause-workers : goal.numbers_texts-requires-clause-workers
+numbers_texts-requires-clause-workers g c κs within = (subst (λ r. IsBounded (asked_by r)) c.in-Big.is c.requires.bounded).3
+
+pub forward_texts-requires-clause-workers : goal.forward_texts-requires-clause-workers
+forward_texts-requires-clause-workers g c κs within = subst (λ r. IsBounded (asked_by r)) c.in-Forward.is c.requires.bounded
+
+pub chop_texts-requires-clause-workers : goal.chop_texts-requires-clause-workers
+chop_texts-requires-clause-workers g c κs within = subst (λ r. IsBounded (asked_by r)) c.in-Chop.is c.requires.bounded
+
 pub returns-in-Slice : goal.returns-in-Slice
 returns-in-Slice g c =
     subst (λ a. IsMade c.args.program c.args.input.now (λ t. t.items) a c.slice_texts.result) (ap asked_by (sym c.in-Slice.is))
@@ -28,27 +43,27 @@ returns-in-Run g c =
 pub returns-in-Graph : goal.returns-in-Graph
 returns-in-Graph g c =
     subst (λ a. IsMade c.args.program c.args.input.now (λ t. t.items) a c.graph_texts.result) (ap asked_by (sym c.in-Graph.is))
-    (c.graph_texts.ensures (string_bytes c.in-Graph.file) c.args.input.now c.in-Graph.workers)
+    (c.graph_texts.ensures (string_bytes c.in-Graph.file) c.args.input.now)
 
 pub returns-in-Members : goal.returns-in-Members
 returns-in-Members g c =
     subst (λ a. IsMade c.args.program c.args.input.now (λ t. t.items) a c.members_texts.result) (ap asked_by (sym c.in-Members.is))
-    (c.members_texts.ensures (string_bytes c.in-Members.file) c.args.input.now c.in-Members.workers)
+    (c.members_texts.ensures (string_bytes c.in-Members.file) c.args.input.now)
 
 pub returns-in-Forward : goal.returns-in-Forward
 returns-in-Forward g c =
     subst (λ a. IsMade c.args.program c.args.input.now (λ t. t.items) a c.forward_texts.result) (ap asked_by (sym c.in-Forward.is))
-    (c.forward_texts.ensures (string_bytes c.in-Forward.file) c.args.input.now c.in-Forward.workers)
+    (c.forward_texts.ensures (string_bytes c.in-Forward.file) c.args.input.now)
 
 pub returns-in-Chop : goal.returns-in-Chop
 returns-in-Chop g c =
     subst (λ a. IsMade c.args.program c.args.input.now (λ t. t.items) a c.chop_texts.result) (ap asked_by (sym c.in-Chop.is))
-    (c.chop_texts.ensures (string_bytes c.in-Chop.file) c.args.input.now c.in-Chop.workers)
+    (c.chop_texts.ensures (string_bytes c.in-Chop.file) c.args.input.now)
 
 pub numbers_texts-requires-clause-some : goal.numbers_texts-requires-clause-some
-numbers_texts-requires-clause-some g c = subst (λ r. HasLast (asked_by r) c.args.program) c.in-Big.is c.requires.last
+numbers_texts-requires-clause-some g c κs within = subst (λ r. HasLast (asked_by r) c.args.program) c.in-Big.is c.requires.last
 
 pub returns-in-Big : goal.returns-in-Big
 returns-in-Big g c =
     subst (λ a. IsMade c.args.program c.args.input.now (λ t. t.items) a c.numbers_texts.result) (ap asked_by (sym c.in-Big.is))
-    (c.numbers_texts.ensures c.in-Big.seed c.in-Big.size c.in-Big.workers c.args.input.now)
+    (c.numbers_texts.ensures c.in-Big.seed c.in-Big.size c.args.input.now)
