@@ -68,20 +68,24 @@ fn every_team_writes_the_same_bytes(rt: HostRuntime) -> Result<(), Fail> {
     Ok(())
 }
 
-/// How many numbers are drawn for the words of this line over LOOPS.
-fn drawn_for<R: Abort + AllocGlobal + Threads + Sync>(rt: &R, line: &str) -> Result<u64, Fail> {
+/// How many numbers are drawn for the words of this line over a text.
+fn drawn_for<R: Abort + AllocGlobal + Threads + Sync>(
+    rt: &R,
+    text: &str,
+    line: &str,
+) -> Result<u64, Fail> {
     let alloc = rt.alloc();
     let gate = CountGate::new();
     let words = split_words(alloc, line)?;
-    let ended = run_past(rt, &gate, &words, file(alloc, "t.c", LOOPS)?, &NONE_FAILING)?;
+    let ended = run_past(rt, &gate, &words, file(alloc, "t.c", text)?, &NONE_FAILING)?;
     assert_eq!(rt; ended.status, Status::Done, "{line}");
     Ok(gate.passes())
 }
 
 #[test]
 fn a_team_draws_no_more_than_one_worker(rt: HostRuntime) -> Result<(), Fail> {
-    let one = drawn_for(&rt, "slice t.c 5 9 12 --workers 1")?;
-    let three = drawn_for(&rt, "slice t.c 5 9 12 --workers 3")?;
+    let one = drawn_for(&rt, LOOPS, "slice t.c 5 9 12 --workers 1")?;
+    let three = drawn_for(&rt, LOOPS, "slice t.c 5 9 12 --workers 3")?;
     assert_eq!(rt; three, one);
     Ok(())
 }
@@ -174,5 +178,13 @@ fn a_call_finds_facts_side_by_side(rt: HostRuntime) -> Result<(), Fail> {
         (Status::Done, MUTUAL_AT_21, ""),
         "slice t.c 21",
     )?;
+    Ok(())
+}
+
+/// Three numbers are drawn for the facts, and one for the line.
+#[test]
+fn a_line_is_drawn_behind_the_facts(rt: HostRuntime) -> Result<(), Fail> {
+    let drawn = drawn_for(&rt, KEEP, "slice t.c 9 --workers 1")?;
+    assert_eq!(rt; drawn, 4);
     Ok(())
 }
