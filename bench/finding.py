@@ -1,10 +1,9 @@
 """What finding the facts of a graph by several workers costs, which is a part of bench/workers.
 
-A line has the kind of program, the workers, the seconds by the clock in which the facts are found in a trial program (made of the crates,
-compiled and not proved), and, where there is a built program, the seconds by the clock of a whole call of it, a slice of the last
-statement, with the share of the facts in percent. The latter is of the trial program, where everything takes longer, so it is the
-share there: of reading, graph and facts. All seconds are the least of five calls, which are made by turns, so that what else the machine
-does meets all numbers of workers alike.
+A line has the kind of program, the workers, the seconds by the clock in which the facts are found once in a trial program (made of the
+crates, compiled and not proved; it checks each access to memory, so that everything takes a hundred times as long), and those of a whole
+call of the built program, a slice of the last statement. Where the facts are nearly all of a call, no trial program is asked. All seconds
+are the least of five calls, which are made by turns, so that what else the machine does meets all numbers of workers alike.
 """
 import os
 import subprocess
@@ -15,7 +14,8 @@ from texts import circle, web
 from tried import CHECKS, build
 
 OVER = ["c_reader", "c_tree", "bit_rows", "dep_model", "mod_ref", "vertex_layout", "program_graph", "summary_edges", "crew"]
-KINDS = {"web": web, "circle": circle}
+# Each kind with how often the trial program finds its facts in a call.
+KINDS = {"web": (web, 20), "circle": (circle, 0)}
 SEVERAL = [1, 2, 4]
 
 PROGRAM = r"""//! What the facts of a program's graph cost: the pipe or file, the workers and how often they are found.
@@ -89,13 +89,23 @@ def whole_calls(name, text):
     return least([[SLICER, "slice", name, str(line), "--workers", str(workers)] for workers in SEVERAL])
 
 
+def trials(program, name, turns):
+    """The least seconds in which the trial program finds the facts once, for each number of workers; none where it doesn't."""
+    if not turns:
+        return [None for _ in SEVERAL]
+    before, *found = least([[program, name, "1", "0"]] + [[program, name, str(workers), str(turns)] for workers in SEVERAL])
+    return [max(seconds - before, 0) / turns for seconds in found]
+
+
+def told(seconds):
+    return f"{'-':>9}" if seconds is None else f"{seconds:9.4f}"
+
+
 def try_kind(program, kind, folder):
-    name, text = os.path.join(folder, "input.c"), KINDS[kind]()
+    make, turns = KINDS[kind]
+    name, text = os.path.join(folder, "input.c"), make()
     with open(name, "w") as file:
         file.write(text)
     print(f"{kind}: {seconds_of([program, name, '1', '0'])[1].strip()}", flush=True)
-    before, *found = least([[program, name, "1", "0"]] + [[program, name, str(workers), "1"] for workers in SEVERAL])
-    for workers, seconds, whole in zip(SEVERAL, found, whole_calls(name, text)):
-        facts = max(seconds - before, 0)
-        told = "" if whole is None else f" {whole:9.4f}"
-        print(f"{kind:6} {workers:8} {facts:9.4f} {100 * facts / seconds:8.0f} %{told}", flush=True)
+    for workers, facts, call in zip(SEVERAL, trials(program, name, turns), whole_calls(name, text)):
+        print(f"{kind:6} {workers:8} {told(facts)} {told(call)}", flush=True)
