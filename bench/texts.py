@@ -19,6 +19,17 @@ def shift(size):
     return declaring(size) + f"void f(void) {{\n    if (g0 > 0) {{\n        f();\n    }}\n{moves}}}\n" + MAIN
 
 
+def ladder(size):
+    """So many functions of three parameters, each of which updates four globals from them and calls the one before it twice."""
+    lines = ["#include <stdio.h>"] + [f"int g{k};" for k in range(4)]
+    for k in range(1, size + 1):
+        lines += [f"void f{k}(int a, int b, int c) {{", "    g0 = g0 + a;", "    g1 = g1 + b;", "    g2 = g2 + c;", "    g3 = g3 + g0;"]
+        lines += [f"    f{k - 1}(b, c, a);", f"    f{k - 1}(c, a, b);"] if k > 1 else []
+        lines.append("}")
+    lines += ["int main(void) {", "    int x = 1;", f"    f{size}(x, 2, 3);", '    printf("%d\\n", g3);', "}"]
+    return "".join(line + "\n" for line in lines)
+
+
 def web(functions=150, globals_=64):
     """Functions without parameters in one circle of calls: each has eight assignments of a sum of two globals and two calls, one of
     them under an if."""
