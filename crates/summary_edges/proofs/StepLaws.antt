@@ -1,9 +1,13 @@
 -- Facts that are added to words, and those that one step of a function gives.
-use Rattle.std.proofs.Common.{◌≡◌, ◌≢◌, ◌↔◌, ℕ, ◌+◌, ◌-◌, ◌*◌, ◌/◌, ◌<◌, ◌≤◌, ◌⊎◌, ◌||◌, inl, inr, Bool, true, false, List, length, get_or, Contains, Some, slice_get, refl, sym, ap, ◌∙◌, subst, arith}
+use Rattle.std.proofs.Common.{◌≡◌, ◌≢◌, ◌↔◌, ℕ, ◌+◌, ◌-◌, ◌*◌, ◌/◌, ◌%◌, ◌<◌, ◌≤◌, ◌⊎◌, ◌||◌, inl, inr, min, Bool, true, false, eqb, List, length, get_or, Contains, Some, slice_get, refl, sym, ap, ◌∙◌, subst, arith}
+use Rattle.std.specs.Int.{bit_at}
 use Rattle.std.specs.Option.{option_map_or}
 use Rattle.std.proofs.lemmas.Bool.{cases_eq, false≢true}
 use Rattle.std.proofs.lemmas.Option.{same_Some}
-use Rattle.bit_rows.specs.Tables.{Holds}
+use Rattle.bit_rows.specs.Sets.{has}
+use Rattle.bit_rows.specs.Tables.{Holds, the_set}
+use Rattle.bit_rows.specs.Words.{set_of}
+use Rattle.bit_rows.proofs.WordLemmas.{has-set_of, no_bit}
 use Rattle.dep_model.specs.declared.graph.Graph.{Graph}
 use Rattle.dep_model.specs.declared.graph.OutRow.{OutRow}
 use Rattle.dep_model.specs.declared.vertex.Slot.{Slot}
@@ -24,9 +28,9 @@ use Rattle.matched_paths.proofs.RowPlaces.{placed, bit_below}
 use Rattle.matched_paths.proofs.SetLaws.{fact_kept, fact_set, fact_only, words_kept}
 use Rattle.summary_edges.specs.declared.exit_rows.ExitRows.{ExitRows}
 use Rattle.summary_edges.specs.declared.function_parts.FunctionPart.{FunctionPart}
-use Rattle.summary_edges.specs.ExitRows.{AreExits, exit_at}
+use Rattle.summary_edges.specs.ExitRows.{HasRoom, AreExits, exit_at}
 use Rattle.summary_edges.specs.FunctionParts.{IsPart}
-use Rattle.summary_edges.specs.Steps.{HaveGrown, HasAdded, IsFormalInAt, IsReadAt, IsReadOff, IsStepTaken}
+use Rattle.summary_edges.specs.Steps.{HaveGrown, HasAdded, IsFormalInAt, IsReadAt, IsReadIn, IsReadOff, IsStepTaken}
 use Rattle.summary_edges.proofs.PartLaws.{contains_at, own_row, row_own, row_there, row_formal, words_inside}
 
 -- ---- growth
@@ -183,9 +187,13 @@ pub no_formal : (vs : List Vertex) (a : ℕ) (x : Vertex) → slice_get vs a ≡
 no_formal vs a x at none h =
     false≢true (sym none ∙ ap (λ (y : Vertex). is_formal_in y.kind) (same_Some _ _ (sym at ∙ h.at)))
 
--- what is read of one formal-in, up to a formal-out
-abbrev pub ReadBelow : Graph → FunctionPart → ExitRows → ℕ → ℕ → FactSet
-ReadBelow g p x v n a b = (e : ℕ) × (e < n) × IsReadAt g p x v e a b
+-- what is read of one formal-in, from a formal-out on up to another
+abbrev pub ReadFrom : Graph → FunctionPart → ExitRows → ℕ → ℕ → ℕ → FactSet
+ReadFrom g p x v first n a b = (e : ℕ) × (first ≤ e) × (e < n) × IsReadAt g p x v e a b
+
+-- what is read of one formal-in, up to a word of its row
+abbrev pub ReadWords : Graph → FunctionPart → ExitRows → ℕ → ℕ → FactSet
+ReadWords g p x v n a b = (w : ℕ) × (w < n) × IsReadIn g p x v w a b
 
 -- what is read of the formal-ins before a vertex
 abbrev pub ReadBefore : Graph → FunctionPart → ExitRows → ℕ → FactSet
@@ -213,36 +221,81 @@ module _ (g : Graph) (rows : HasRows g) (p : FunctionPart) (is : IsPart g p) whe
   exit_is k r at = ap (λ o. option_map_or (λ (q : OutRow). q.vertex) o 0) at
 
   module _ (x : ExitRows) where
-    -- ---- the formal-outs of one formal-in, one after another
-    pub below_none : (v a b : ℕ) → ReadBelow g p x v 0 a b → ⊥
-    below_none v a b h = let low = h.1 in omega (arith, low)
+    -- ---- the formal-outs of one word of a formal-in's row, one after another
+    pub from_none : (v first a b : ℕ) → ReadFrom g p x v first first a b → ⊥
+    from_none v first a b h = let low = h.1 in let high = h.2 in omega (arith, low, high)
 
-    pub below_more : (v n a b : ℕ) → (ReadBelow g p x v n a b ⊎ IsReadAt g p x v n a b) ↔ ReadBelow g p x v (n + 1) a b
-    below_more v n a b = (
+    pub from_more : (v first n a b : ℕ) → first ≤ n → (ReadFrom g p x v first n a b ⊎ IsReadAt g p x v n a b) ↔ ReadFrom g p x v first (n + 1) a b
+    from_more v first n a b le = (
+      λ h. elim h [
+        | inl k ↦ (k.0, k.1, (let high = k.2 in omega (arith, high)), k.3)
+        | inr k ↦ (n, le, omega arith, k)
+      ],
+      λ k. elim (cases_eq k.0 n) [
+        | inl same ↦ inr (subst (λ m. IsReadAt g p x v m a b) same k.3)
+        | inr other ↦ inl (k.0, k.1, (let high = k.2 in omega (arith, high, other)), k.3)
+      ],
+    )
+
+    pub from_all : (v w n count : ℕ) → count ≡ min (p.last_row - p.first_row - 64 * w) 64 → 64 * w < p.last_row - p.first_row → n ≡ 64 * w + count → (a b : ℕ) → ReadFrom g p x v (64 * w) n a b ↔ IsReadIn g p x v w a b
+    from_all v w n count least inside whole a b = (
+      λ h. let high = h.2 in record { exit = h.0; from = h.1; to = omega (arith, high, least, whole); few = omega (arith, high, least, inside, whole); read = h.3 },
+      λ r. let to = r.to in let few = r.few in (r.exit, r.from, omega (arith, to, few, least, whole), r.read),
+    )
+
+    -- a word without a bit says nothing
+    pub word_none : (v w : ℕ) (row : List ℕ) → HasRoom p x → set_of x.rows.bits row ≡ the_set x.rows (v - p.range.first) → get_or row w 0 ≡ 0 → (a b : ℕ) → IsReadIn g p x v w a b → ⊥
+    word_none v w row room held zero_ a b r =
+        let e = r.exit in
+        let from = r.from in let to = r.to in let few = r.few in let exits = room.exits in
+        let place : e / 64 ≡ w = omega (arith, from, to) in
+        let none : has (the_set x.rows (v - p.range.first)) e ≡ false =
+        ap (λ s. has s e) (sym held) ∙ has-set_of x.rows.bits row e (omega (arith, few, exits)) ∙ ap (λ k. eqb (bit_at (get_or row k 0) (e % 64)) 1) place ∙ no_bit (get_or row w 0) (e % 64) zero_ in
+        false≢true (sym none ∙ r.read.reached)
+
+    -- ---- the words of a formal-in's row, one after another
+    pub words_none : (v a b : ℕ) → ReadWords g p x v 0 a b → ⊥
+    words_none v a b h = let low = h.1 in omega (arith, low)
+
+    pub words_more : (v n a b : ℕ) → (ReadWords g p x v n a b ⊎ IsReadIn g p x v n a b) ↔ ReadWords g p x v (n + 1) a b
+    words_more v n a b = (
       λ h. elim h [
         | inl k ↦ (k.0, (let low = k.1 in omega (arith, low)), k.2)
         | inr k ↦ (n, omega arith, k)
       ],
       λ k. elim (cases_eq k.0 n) [
-        | inl same ↦ inr (subst (λ m. IsReadAt g p x v m a b) same k.2)
+        | inl same ↦ inr (subst (λ m. IsReadIn g p x v m a b) same k.2)
         | inr other ↦ inl (k.0, (let low = k.1 in omega (arith, low, other)), k.2)
       ],
     )
 
-    pub below_all : (v : ℕ) → IsInRange p.range v → IsFormalInAt g.vertices v → (a b : ℕ) → ReadBelow g p x v (p.last_row - p.first_row) a b ↔ ((a ≡ v) × IsReadOff g p x a b)
-    below_all v i formal a b = (
+    pub words_all : (v n : ℕ) → IsInRange p.range v → IsFormalInAt g.vertices v → p.last_row - p.first_row ≤ 64 * n → (a b : ℕ) → ReadWords g p x v n a b ↔ ((a ≡ v) × IsReadOff g p x a b)
+    words_all v n i formal whole a b = (
       λ h.
-          let r = h.2 in (
-            r.from,
+          let r = h.2 in
+          let from = r.read.from in (
+            from,
             record {
-              inside = subst (IsInRange p.range) (sym r.from) i;
-              formal = subst (IsFormalInAt g.vertices) (sym r.from) formal;
-              exit = h.0;
-              few = h.1;
-              read = record { from = refl; to = r.to; reached = subst (λ u. Holds x.rows (u - p.range.first) h.0) (sym r.from) r.reached };
+              inside = subst (IsInRange p.range) (sym from) i;
+              formal = subst (IsFormalInAt g.vertices) (sym from) formal;
+              exit = r.exit;
+              few = r.few;
+              read = record { from = refl; to = r.read.to; reached = subst (λ u. Holds x.rows (u - p.range.first) r.exit) (sym from) r.read.reached };
             },
           ),
-      λ h. let q = h.1 in (q.exit, q.few, record { from = h.0; to = q.read.to; reached = subst (λ u. Holds x.rows (u - p.range.first) q.exit) h.0 q.read.reached }),
+      λ h.
+          let q = h.1 in
+          let few = q.few in (
+            q.exit / 64,
+            omega (arith, few, whole),
+            record {
+              exit = q.exit;
+              from = omega arith;
+              to = omega arith;
+              few = few;
+              read = record { from = h.0; to = q.read.to; reached = subst (λ u. Holds x.rows (u - p.range.first) q.exit) h.0 q.read.reached };
+            },
+          ),
     )
 
     -- ---- the vertices, one after another

@@ -1,5 +1,5 @@
 -- One step of one function: what it adds to the words of a graph's facts.
-use Rattle.std.specs.Prelude.{◌≡◌, ◌↔◌, ℕ, ◌-◌, ◌*◌, ◌<◌, ◌≤◌, ◌⊎◌, Bool, true, false, List, length, get_or}
+use Rattle.std.specs.Prelude.{◌≡◌, ◌↔◌, ℕ, ◌+◌, ◌-◌, ◌*◌, ◌<◌, ◌≤◌, ◌⊎◌, Bool, true, false, List, length, get_or}
 use Rattle.bit_rows.specs.Tables.{Holds}
 use Rattle.dep_model.specs.declared.graph.Graph.{Graph}
 use Rattle.dep_model.specs.declared.vertex.Slot.{Slot}
@@ -38,6 +38,14 @@ pub record IsReadAt (g : Graph) (p : FunctionPart) (x : ExitRows) (v k a b : ℕ
   pub from : a ≡ v
   pub to : b ≡ exit_at g p k
   pub reached : Holds x.rows (v - p.range.first) k
+
+-- they say so of a formal-out whose bit stands in word w of the row
+pub record IsReadIn (g : Graph) (p : FunctionPart) (x : ExitRows) (v w a b : ℕ) : Type 0 where
+  pub exit : ℕ
+  pub from : 64 * w ≤ exit
+  pub to : exit < 64 * w + 64
+  pub few : exit < p.last_row - p.first_row
+  pub read : IsReadAt g p x v exit a b
 
 -- the rows of a function say that its formal-out b is reached from its formal-in a
 pub record IsReadOff (g : Graph) (p : FunctionPart) (x : ExitRows) (a b : ℕ) : Type 0 where

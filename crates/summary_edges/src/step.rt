@@ -1,12 +1,12 @@
 //! One step of one function: which of its formal-outs depend on which of its formal-ins, by the facts that are known.
-ghost use Rattle.std.specs.Prelude.{◌≡◌, ℕ, ◌-◌, ◌<◌, length};
+ghost use Rattle.std.specs.Prelude.{◌≡◌, ℕ, ◌-◌, ◌*◌, ◌<◌, length};
 ghost use Rattle.dep_model.specs.Facts.{AreFormals};
 ghost use Rattle.dep_model.specs.FunctionVertices.{is_formal_in};
 ghost use Rattle.matched_paths.specs.VertexRanges.{IsInRange};
 ghost use Rattle.summary_edges.specs.ExitRows.{HasRoom, HaveOneShape};
 ghost use Rattle.summary_edges.specs.FactIndexes.{IsIndex};
 ghost use Rattle.summary_edges.specs.FunctionParts.{IsPart};
-ghost use Rattle.summary_edges.specs.Steps.{HasAdded, IsFormalInAt, IsReadOff, IsReadAt, IsStepTaken};
+ghost use Rattle.summary_edges.specs.Steps.{HasAdded, IsFormalInAt, IsReadOff, IsReadAt, IsReadIn, IsStepTaken};
 
 use crate::exit_rows::ExitRows;
 use crate::fact_index::FactIndex;
@@ -70,6 +70,41 @@ fn read_exit(
     }
 }
 
+// Makes the facts of a formal-in and the formal-outs of one word of its row, and tells whether one is new. A word without a bit costs
+// nothing.
+fn read_word(
+    g: &Graph,
+    index: &FactIndex,
+    part: FunctionPart,
+    table: &ExitRows,
+    formal_in: VertexId,
+    word: u32,
+    words: &mut [u64],
+) -> bool
+    requires index { IsIndex g.now index.now }
+    requires part { IsPart g.now part }
+    requires room { HasRoom part table.now }
+    requires in_in { IsInRange part.range formal_in }
+    requires kind { IsFormalInAt g.now.vertices formal_in }
+    requires inside { 64 * word < part.last_row - part.first_row }
+    requires long { length words.old ≡ g.now.fact_words }
+    ensures { HasAdded g.now part (IsReadIn g.now part table.now formal_in word) words.old words.new result }
+{
+    let row = table.rows.words(formal_in - part.range.first);
+    let bits = row[word as usize];
+    if bits == 0 {
+        return false;
+    }
+    let first = 64 * word;
+    let count = (part.last_row - part.first_row - first).min(64);
+    let mut grows = false;
+    for exit in first..first + count {
+        let more = read_exit(g, index, part, table, formal_in, exit, words);
+        grows = grows | more;
+    }
+    grows
+}
+
 // Makes the facts of one vertex of a function, where it is a formal-in, and tells whether one is new.
 fn read_vertex(
     g: &Graph,
@@ -89,9 +124,10 @@ fn read_vertex(
     if !is_formal_in(g.vertices.as_slice()[vertex as usize].kind) {
         return false;
     }
+    let count = (part.last_row - part.first_row).div_ceil(64);
     let mut grows = false;
-    for exit in 0..part.last_row - part.first_row {
-        let more = read_exit(g, index, part, table, vertex, exit, words);
+    for word in 0..count {
+        let more = read_word(g, index, part, table, vertex, word, words);
         grows = grows | more;
     }
     grows
