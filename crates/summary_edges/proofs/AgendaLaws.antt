@@ -121,7 +121,7 @@ ChangedBelow g parts before after n p = (k : ℕ) × (q : FunctionPart) × (k < 
 
 -- ---- the callers of a function
 
-call_at : (g : Graph) (a b c : ℕ) → IsFitting g (edge a b (Call c)) → (f : ℕ) × (i : ℕ) × (h : ℕ) × IsVertex g.vertices f (kind.Call i) a × IsVertex g.vertices h kind.Entry b × (c ≡ a)
+pub call_at : (g : Graph) (a b c : ℕ) → IsFitting g (edge a b (Call c)) → (f : ℕ) × (i : ℕ) × (h : ℕ) × IsVertex g.vertices f (kind.Call i) a × IsVertex g.vertices h kind.Entry b × (c ≡ a)
 call_at g a b c (shapes.inside f j k s p q) = elim s [ inl e ↦ cc | inr e ↦ cc ]
 call_at g a b c (shapes.call f i to s p q) = let e : c ≡ a = cc in (f, i, to, p, q, e)
 call_at g a b c (shapes.in_ f i to d slot o s p q) = cc

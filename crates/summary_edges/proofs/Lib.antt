@@ -3,6 +3,7 @@ pub mod PartLaws
 pub mod SpreadLaws
 pub mod TableRoom
 pub mod FillLaws
+pub mod RenewLaws
 pub mod StepLaws
 pub mod StepGrowth
 pub mod SeriesLaws
@@ -13,6 +14,7 @@ pub mod FactBits
 pub mod FactMachineLaws
 pub mod WorkerLaws
 pub mod WorkLaws
+pub mod GoingOnLaws
 pub mod GainLaws
 pub mod FunctionLaws
 pub mod TeamLaws

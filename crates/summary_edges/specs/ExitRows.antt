@@ -8,7 +8,7 @@ use Rattle.dep_model.specs.declared.edge.Label.{Label}
 use Rattle.dep_model.specs.declared.edge.Label.TheVariants.{Control, Flow, Call, In, Out}
 use Rattle.dep_model.specs.declared.graph.Graph.{Graph}
 use Rattle.dep_model.specs.declared.graph.OutRow.{OutRow}
-use Rattle.dep_model.specs.Facts.{FactSet, IsInnerEdge, IsInnerChain}
+use Rattle.dep_model.specs.Facts.{FactSet, HoldsFact, IsInnerEdge, IsInnerChain}
 use Rattle.dep_model.specs.Graphs.{edge}
 use Rattle.matched_paths.specs.VertexRanges.{IsInRange}
 use Rattle.summary_edges.specs.declared.exit_rows.ExitRows.{ExitRows}
@@ -74,6 +74,17 @@ pub record IsFilling (g : Graph) (K : FactSet) (p : FunctionPart) (x : ExitRows)
   pub sound : (v k : ℕ) → IsInRange p.range v → Holds x.rows (v - p.range.first) k → (k < p.last_row - p.first_row) × IsInnerChain g K part.whole.function v (exit_at g p k)
   pub seeded : (k : ℕ) → k < p.last_row - p.first_row → Holds x.rows (exit_at g p k - p.range.first) k
   pub closed : (u v : ℕ) → IsInRange p.range u → IsInRange p.range v → IsInnerEdge g.edges K u v → has x.fresh.items (v - p.range.first) ≡ false → IsAbove x (u - p.range.first) (v - p.range.first)
+
+-- the same, and no vertex of the function is to be taken again
+pub record IsFilled (g : Graph) (K : FactSet) (p : FunctionPart) (x : ExitRows) : Type 0 where
+  pub filling : IsFilling g K p x
+  pub down : (v : ℕ) → IsInRange p.range v → has x.fresh.items (v - p.range.first) ≡ false
+
+-- the rows are filled by the facts that some words hold, but for news: by those of words from which they differ in the news
+pub record LacksNews (g : Graph) (p : FunctionPart) (news known : List ℕ) (x : ExitRows) : Type 0 where
+  pub before : List ℕ
+  pub filled : IsFilled g (HoldsFact g before) p x
+  pub news_are : (a b : ℕ) → HoldsFact g known a b ↔ (HoldsFact g before a b ⊎ HoldsFact g news a b)
 
 -- each vertex of a function has exactly the formal-outs to which chains of inner edges lead from it
 pub record AreExits (g : Graph) (K : FactSet) (p : FunctionPart) (x : ExitRows) : Type 0 where

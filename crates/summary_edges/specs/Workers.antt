@@ -1,17 +1,19 @@
 -- What one worker has seen, set and drawn, while it works on a board of facts.
-use Rattle.std.specs.Prelude.{◌≡◌, ℕ, ◌+◌, ◌<◌, ◌≤◌, List, length, slice_index, Some, Contains}
+use Rattle.std.specs.Prelude.{◌≡◌, ◌≢◌, ◌↔◌, ℕ, ◌+◌, ◌-◌, ◌<◌, ◌≤◌, ◌⊎◌, List, length, get_or, slice_index, Some, Contains}
 use Rattle.crew.specs.declared.view.View.{View}
 use Rattle.crew.specs.Counts.{Has}
-use Rattle.crew.specs.SharedWords.{Holds, AreWithin, IsWithin}
+use Rattle.crew.specs.SharedWords.{Holds, AreWithin, IsWithin, bit}
 use Rattle.dep_model.specs.declared.edge.Edge.{Edge}
 use Rattle.dep_model.specs.declared.edge.Label.TheVariants.{Out}
 use Rattle.dep_model.specs.declared.graph.Graph.{Graph}
 use Rattle.dep_model.specs.declared.graph.OutRow.{OutRow}
-use Rattle.dep_model.specs.Facts.{IsIn}
+use Rattle.dep_model.specs.Facts.{IsIn, HoldsFact}
 use Rattle.dep_model.specs.Graphs.{row_width}
 use Rattle.dep_model.specs.Shapes.{IsShaped}
+use Rattle.summary_edges.specs.declared.exit_rows.ExitRows.{ExitRows}
 use Rattle.summary_edges.specs.declared.fact_truth.FactTruth.{FactTruth}
 use Rattle.summary_edges.specs.declared.function_parts.FunctionPart.{FunctionPart}
+use Rattle.summary_edges.specs.ExitRows.{IsFilled}
 use Rattle.summary_edges.specs.FactIndexes.{IsIndex}
 use Rattle.summary_edges.specs.FactMachine.{IsStepBit, HoldTrueBits}
 use Rattle.summary_edges.specs.FunctionParts.{IsPart}
@@ -109,3 +111,28 @@ pub record IsReadBefore (g : Graph) (first last w : ℕ) : Type 0 where
 pub record IsPartOf (g : Graph) (f : ℕ) (p : FunctionPart) : Type 0 where
   pub part : IsPart g p
   pub function_is : part.whole.function ≡ f
+
+-- ---- a function that calls itself
+
+-- of a function's own words, of which `own` is a copy, those bits are noted that the known words have gained
+pub record HasNoted (p : FunctionPart) (own known old new : List ℕ) : Type 0 where
+  pub long : length new ≡ length old
+  pub gained : (w i : ℕ) → p.first_word ≤ w → w < p.last_word → i < 64 → (bit new w i ≡ 1) ↔ ((bit known w i ≡ 1) × (bit own (w - p.first_word) i ≢ 1))
+  pub others : (w : ℕ) → w < p.first_word → get_or new w 0 ≡ get_or old w 0
+
+-- the rows are filled by the facts of words from which the known ones differ among the function's own words alone, of which there is a copy
+pub record IsBehind (g : Graph) (p : FunctionPart) (x : ExitRows) (own known : List ℕ) : Type 0 where
+  pub before : List ℕ
+  pub filled : IsFilled g (HoldsFact g before) p x
+  pub copied : (k : ℕ) → p.first_word + k < p.last_word → get_or own k 0 ≡ get_or before (p.first_word + k) 0
+  pub others : (w : ℕ) → (w < p.first_word) ⊎ (p.last_word ≤ w) → get_or known w 0 ≡ get_or before w 0
+  pub kept : (a b : ℕ) → HoldsFact g before a b → HoldsFact g known a b
+
+-- what a worker has while it goes on with a function: words that the seat has seen, rows that are behind, a copy of the function's own
+-- words, and room for news of them
+pub record IsGoingOn (g : Graph) (p : FunctionPart) (x : ExitRows) (own news known : List ℕ) (v : View FactTruth) : Type 0 where
+  pub copy : IsCopy g known v
+  pub behind : IsBehind g p x own known
+  pub own_long : length own ≡ p.last_word - p.first_word
+  pub news_long : length news ≡ p.last_word
+  pub no_others : (w : ℕ) → w < p.first_word → get_or news w 0 ≡ 0

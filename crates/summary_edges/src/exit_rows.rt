@@ -8,7 +8,7 @@ ghost use Rattle.dep_model.specs.Graphs.{edge};
 ghost use Rattle.dep_model.specs.Shapes.{IsShaped};
 ghost use Rattle.dep_model.specs.declared.edge.Label.TheVariants as label;
 ghost use Rattle.matched_paths.specs.VertexRanges.{IsInRange};
-ghost use Rattle.summary_edges.specs.ExitRows.{IsTable, HasRoom, HaveOneShape, IsJoined, HasSpread, IsAbove, IsFilling, AreExits, gives};
+ghost use Rattle.summary_edges.specs.ExitRows.{IsTable, HasRoom, HaveOneShape, IsJoined, HasSpread, IsAbove, IsFilling, IsFilled, AreExits, LacksNews, gives};
 ghost use Rattle.summary_edges.specs.FactIndexes.{IsIndex};
 ghost use Rattle.summary_edges.specs.FunctionParts.{IsPart};
 
@@ -234,15 +234,64 @@ impl ExitRows {
         }
     }
 
+    // Takes each vertex whose row has grown, until there is none.
+    fn close(&mut self, g: &Graph, index: &FactIndex, known: &[u64], part: FunctionPart)
+        requires index { IsIndex g.now index.now }
+        requires filling { IsFilling g.now (HoldsFact g.now known.now) part self.old }
+        ensures filled { IsFilled g.now (HoldsFact g.now known.now) part self.new }
+        ensures shape { HaveOneShape self.old self.new }
+    {
+        while self.sweep(g, index, known, part) {}
+    }
+
     /// Makes the rows of a function exactly those of the formal-outs that its vertices reach inside, by the facts that are known.
     pub(crate) fn fill(&mut self, g: &Graph, index: &FactIndex, known: &[u64], part: FunctionPart)
         requires index { IsIndex g.now index.now }
         requires part { IsPart g.now part }
         requires room { HasRoom part self.old }
+        ensures filled { IsFilled g.now (HoldsFact g.now known.now) part self.new }
         ensures exact { AreExits g.now (HoldsFact g.now known.now) part self.new }
         ensures shape { HaveOneShape self.old self.new }
     {
         self.begin(g, known, part);
-        while self.sweep(g, index, known, part) {}
+        self.close(g, index, known, part);
+    }
+
+    // Joins the row of each vertex into those of all from which inner edges lead to it that news give.
+    fn renew(
+        &mut self,
+        g: &Graph,
+        index: &FactIndex,
+        news: &[u64],
+        known: &[u64],
+        part: FunctionPart,
+    )
+        requires index { IsIndex g.now index.now }
+        requires lacks { LacksNews g.now part news.now known.now self.old }
+        ensures filling { IsFilling g.now (HoldsFact g.now known.now) part self.new }
+        ensures shape { HaveOneShape self.old self.new }
+    {
+        for vertex in part.range.first..part.range.last {
+            self.spread(g, index, news, part.range, vertex);
+        }
+    }
+
+    /// Makes the rows of a function, which are filled by the facts that are known but for news, those by all. It costs a join for each
+    /// edge of the function, and what the news change.
+    pub(crate) fn refill(
+        &mut self,
+        g: &Graph,
+        index: &FactIndex,
+        news: &[u64],
+        known: &[u64],
+        part: FunctionPart,
+    )
+        requires index { IsIndex g.now index.now }
+        requires lacks { LacksNews g.now part news.now known.now self.old }
+        ensures filled { IsFilled g.now (HoldsFact g.now known.now) part self.new }
+        ensures shape { HaveOneShape self.old self.new }
+    {
+        self.renew(g, index, news, known, part);
+        self.close(g, index, known, part);
     }
 }

@@ -1,9 +1,9 @@
 //! One step of one function: which of its formal-outs depend on which of its formal-ins, by the facts that are known.
 ghost use Rattle.std.specs.Prelude.{◌≡◌, ℕ, ◌-◌, ◌*◌, ◌<◌, length};
-ghost use Rattle.dep_model.specs.Facts.{AreFormals};
+ghost use Rattle.dep_model.specs.Facts.{AreFormals, HoldsFact};
 ghost use Rattle.dep_model.specs.FunctionVertices.{is_formal_in};
 ghost use Rattle.matched_paths.specs.VertexRanges.{IsInRange};
-ghost use Rattle.summary_edges.specs.ExitRows.{HasRoom, HaveOneShape};
+ghost use Rattle.summary_edges.specs.ExitRows.{HasRoom, HaveOneShape, IsFilled, LacksNews};
 ghost use Rattle.summary_edges.specs.FactIndexes.{IsIndex};
 ghost use Rattle.summary_edges.specs.FunctionParts.{IsPart};
 ghost use Rattle.summary_edges.specs.Steps.{HasAdded, IsFormalInAt, IsReadOff, IsReadAt, IsReadIn, IsStepTaken};
@@ -170,7 +170,28 @@ pub(crate) fn step(
     requires long { length words.old ≡ g.now.fact_words }
     ensures exact { IsStepTaken g.now part words.old words.old words.new result }
     ensures room { HaveOneShape table.old table.new }
+    ensures filled { IsFilled g.now (HoldsFact g.now words.old) part table.new }
 {
     table.fill(g, index, words, part);
+    read_off(g, index, part, table, words)
+}
+
+/// The same of a function whose rows are filled already, but for news of the facts: those that the words have gained since.
+pub(crate) fn step_again(
+    g: &Graph,
+    index: &FactIndex,
+    part: FunctionPart,
+    table: &mut ExitRows,
+    news: &[u64],
+    words: &mut [u64],
+) -> bool
+    requires index { IsIndex g.now index.now }
+    requires lacks { LacksNews g.now part news.now words.old table.old }
+    requires long { length words.old ≡ g.now.fact_words }
+    ensures exact { IsStepTaken g.now part words.old words.old words.new result }
+    ensures room { HaveOneShape table.old table.new }
+    ensures filled { IsFilled g.now (HoldsFact g.now words.old) part table.new }
+{
+    table.refill(g, index, news, words, part);
     read_off(g, index, part, table, words)
 }

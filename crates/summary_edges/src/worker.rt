@@ -1,6 +1,6 @@
 //! What one worker does with a function that it drew: it looks at the facts of the functions called, takes a step, and publishes what
 //! is new.
-ghost use Rattle.std.specs.Prelude.{◌≡◌, ◌≢◌, ℕ, ◌+◌, ◌-◌, ◌*◌, ◌<◌, ◌≤◌, IfOk, OnOk, Contains, length, slice_index};
+ghost use Rattle.std.specs.Prelude.{◌≡◌, ◌≢◌, ◌↔◌, ℕ, ◌+◌, ◌-◌, ◌*◌, ◌<◌, ◌≤◌, true, IfOk, OnOk, Contains, length, slice_index};
 ghost use Rattle.std.specs.Int.{bit_at};
 ghost use Rattle.std.specs.List.{between};
 ghost use Rattle.crew.specs.Counts.{Has};
@@ -9,18 +9,21 @@ ghost use Rattle.crew.specs.Seats.{view, board_of, id_of};
 ghost use Rattle.crew.specs.SharedWords.{Holds, bit};
 ghost use Rattle.dep_model.specs.Shapes.{IsShaped};
 ghost use Rattle.matched_paths.specs.EdgeGroups.{group_at};
+ghost use Rattle.summary_edges.specs.Agendas.{HoldsCall};
 ghost use Rattle.summary_edges.specs.ExitRows.{HasRoom, HaveOneShape};
 ghost use Rattle.summary_edges.specs.FactIndexes.{IsIndex};
 ghost use Rattle.summary_edges.specs.FactMachine.{IsStepBit};
-ghost use Rattle.summary_edges.specs.Workers.{HasLearned, HasLooked, IsCopy, IsOpened, IsPartOf, IsReadAlong, IsReadAmong, IsReadBefore, KnowsStep};
+ghost use Rattle.summary_edges.specs.FunctionParts.{IsPart};
+ghost use Rattle.summary_edges.specs.Steps.{HaveGrown};
+ghost use Rattle.summary_edges.specs.Workers.{HasLearned, HasLooked, HasNoted, IsBehind, IsCopy, IsGoingOn, IsOpened, IsPartOf, IsReadAlong, IsReadAmong, IsReadBefore, KnowsStep};
 
 use crate::exit_rows::ExitRows;
 use crate::fact_index::FactIndex;
 use crate::fact_truth::FactTruth;
 use crate::function_parts::{FunctionPart, rows_before, word_of};
-use crate::step::step;
+use crate::step::{step, step_again};
 use crew::{Board, BoardSeat};
-use dep_model::{Edge, Label, VertexId};
+use dep_model::{Edge, Graph, Label, VertexId};
 use std::alloc::{AllocError, Global};
 
 // Looks at some words.
@@ -177,7 +180,145 @@ fn own_words(alloc: Global, part: FunctionPart, words: &[u64]) -> Result<Vec<u64
     Ok(own)
 }
 
-/// Takes a function that was drawn: looks at what its step reads, takes the step, and publishes what is new. Err: no memory was left.
+// Whether a function calls itself.
+fn calls_itself(g: &Graph, index: &FactIndex, part: FunctionPart) -> bool
+    requires index { IsIndex g.now index.now }
+    requires part { IsPart g.now part }
+    ensures { (f : ℕ) → IsPartOf g.now f part → (result ≡ true) ↔ HoldsCall g.now f f }
+{
+    let function = g.vertices.as_slice()[part.range.first as usize].function;
+    let calls = index.calls.of(function);
+    let mut found = false;
+    for call in calls {
+        let more = part.range.has(call.from);
+        found = found | more;
+    }
+    found
+}
+
+// Notes which bits of a function's own words are new beside a copy of them.
+fn note_news(part: FunctionPart, own: &[u64], known: &[u64], news: &mut [u64])
+    requires order { part.first_word ≤ part.last_word }
+    requires own { length own.now ≡ part.last_word - part.first_word }
+    requires known { part.last_word ≤ length known.now }
+    requires news { length news.old ≡ part.last_word }
+    ensures { HasNoted part own.now known.now news.old news.new }
+{
+    for word in part.first_word..part.last_word {
+        news[word as usize] = known[word as usize] & !own[(word - part.first_word) as usize];
+    }
+}
+
+// Copies a function's own words.
+fn copy_own(part: FunctionPart, known: &[u64], own: &mut [u64])
+    requires order { part.first_word ≤ part.last_word }
+    requires own { length own.old ≡ part.last_word - part.first_word }
+    requires known { part.last_word ≤ length known.now }
+    ensures { own.new ≡ between part.first_word part.last_word known.now }
+{
+    own.copy_from_slice(&known[part.first_word as usize..part.last_word as usize]);
+}
+
+// Takes a step of a function again, whose own facts have grown since, and publishes what is new. Tells whether something is.
+fn go_once<'a>(
+    t: &FactTruth<'a>,
+    index: &FactIndex,
+    board: &Board<FactTruth<'a>>,
+    seat: &mut BoardSeat<FactTruth<'a>>,
+    part: FunctionPart,
+    table: &mut ExitRows,
+    own: &mut [u64],
+    news: &mut [u64],
+    known: &mut [u64],
+) -> bool
+    requires index { IsIndex t.now.graph.now index.now }
+    requires board { board_of seat.old ≡ id_of board.now }
+    requires opened { IsOpened t.now (view seat.old) }
+    requires drawn { (k : ℕ) × (k < length t.now.agenda.now) × Has (view seat.old).drawn k × IsPartOf t.now.graph.now (slice_index t.now.agenda.now k) part }
+    requires going { IsGoingOn t.now.graph.now part table.old own.old news.old known.old (view seat.old) }
+    ensures board { board_of seat.new ≡ board_of seat.old }
+    ensures learned { HasLearned (view seat.old) (view seat.new) }
+    ensures room { HaveOneShape table.old table.new }
+    ensures going { IsGoingOn t.now.graph.now part table.new own.new news.new known.new (view seat.new) }
+    ensures grown { HaveGrown known.old known.new result }
+{
+    note_news(part, own, known, news);
+    copy_own(part, known, own);
+    let grows = step_again(t.graph, index, part, table, news, known);
+    publish_gain(t, board, seat, part, own, known);
+    grows
+}
+
+// Takes steps of a function until one gives nothing new.
+fn go_to_end<'a>(
+    t: &FactTruth<'a>,
+    index: &FactIndex,
+    board: &Board<FactTruth<'a>>,
+    seat: &mut BoardSeat<FactTruth<'a>>,
+    part: FunctionPart,
+    table: &mut ExitRows,
+    own: &mut [u64],
+    news: &mut [u64],
+    known: &mut [u64],
+)
+    requires index { IsIndex t.now.graph.now index.now }
+    requires board { board_of seat.old ≡ id_of board.now }
+    requires opened { IsOpened t.now (view seat.old) }
+    requires drawn { (k : ℕ) × (k < length t.now.agenda.now) × Has (view seat.old).drawn k × IsPartOf t.now.graph.now (slice_index t.now.agenda.now k) part }
+    requires going { IsGoingOn t.now.graph.now part table.old own.old news.old known.old (view seat.old) }
+    ensures board { board_of seat.new ≡ board_of seat.old }
+    ensures learned { HasLearned (view seat.old) (view seat.new) }
+    ensures room { HaveOneShape table.old table.new }
+    ensures copy { IsCopy t.now.graph.now known.new (view seat.new) }
+{
+    while go_once(t, index, board, seat, part, table, own, news, known) {}
+}
+
+// Goes on with a function that calls itself, after a step of it: takes steps until one gives nothing new, since its own facts are
+// among those from which they come. Err: no memory was left.
+fn go_on<'a>(
+    alloc: Global,
+    t: &FactTruth<'a>,
+    index: &FactIndex,
+    board: &Board<FactTruth<'a>>,
+    seat: &mut BoardSeat<FactTruth<'a>>,
+    part: FunctionPart,
+    table: &mut ExitRows,
+    own: &mut [u64],
+    known: &mut [u64],
+) -> Result<(), AllocError>
+    requires index { IsIndex t.now.graph.now index.now }
+    requires board { board_of seat.old ≡ id_of board.now }
+    requires opened { IsOpened t.now (view seat.old) }
+    requires drawn { (k : ℕ) × (k < length t.now.agenda.now) × Has (view seat.old).drawn k × IsPartOf t.now.graph.now (slice_index t.now.agenda.now k) part }
+    requires copy { IsCopy t.now.graph.now known.old (view seat.old) }
+    requires behind { IsBehind t.now.graph.now part table.old own.old known.old }
+    requires own { length own.old ≡ part.last_word - part.first_word }
+    ensures board { board_of seat.new ≡ board_of seat.old }
+    ensures learned { HasLearned (view seat.old) (view seat.new) }
+    ensures room { HaveOneShape table.old table.new }
+    ensures copy { IsCopy t.now.graph.now known.new (view seat.new) }
+{
+    if !calls_itself(t.graph, index, part) {
+        return Ok(());
+    }
+    let mut news = vec![in alloc; 0u64; part.last_word as usize]?;
+    go_to_end(
+        t,
+        index,
+        board,
+        seat,
+        part,
+        table,
+        own,
+        news.as_mut_slice(),
+        known,
+    );
+    Ok(())
+}
+
+/// Takes a function that was drawn: looks at what its step reads, takes the step, and publishes what is new. Where the
+/// function calls itself, this goes on until a step gives nothing new. Err: no memory was left.
 pub(crate) fn take<'a>(
     alloc: Global,
     t: &FactTruth<'a>,
@@ -201,8 +342,22 @@ pub(crate) fn take<'a>(
     ensures knows { OnOk result ((f : ℕ) → IsPartOf t.now.graph.now f part → KnowsStep t.now.graph.now f (view seat.new)) }
 {
     look_for(t, index, board, seat, part, known);
-    let before = own_words(alloc, part, known)?;
-    step(t.graph, index, part, table, known);
+    let mut before = own_words(alloc, part, known)?;
+    let grows = step(t.graph, index, part, table, known);
     publish_gain(t, board, seat, part, before.as_slice(), known);
+    if !grows {
+        return Ok(());
+    }
+    go_on(
+        alloc,
+        t,
+        index,
+        board,
+        seat,
+        part,
+        table,
+        before.as_mut_slice(),
+        known,
+    )?;
     Ok(())
 }

@@ -10,3 +10,6 @@ returns-clause-exact c =
 
 pub returns-clause-room : goal.returns-clause-room
 returns-clause-room c = c.fill.ensures.shape
+
+pub returns-clause-filled : goal.returns-clause-filled
+returns-clause-filled c = c.fill.ensures.filled

@@ -1,31 +1,12 @@
-use Rattle.std.proofs.Common.{arith}
 use Rattle.dep_model.specs.Facts.{HoldsFact}
 use Rattle.summary_edges.proofs.FillLaws.{filled_exits}
-use Rattle.summary_edges.proofs.SpreadLaws.{one_shape, shapes_follow, count_bounded}
+use Rattle.summary_edges.proofs.SpreadLaws.{shapes_follow}
 use Rattle.summary_edges.proofs.exit_rows.ExitRows.fill.Goals as goal
-
-pub loop-part-init : goal.loop-part-init
-loop-part-init c = (c.begin.ensures.filling, one_shape c.begin.new.self c.begin.ensures.shape.table)
-
-pub sweep-requires-clause-filling : goal.sweep-requires-clause-filling
-sweep-requires-clause-filling c = c.loop-part.invariant.0
-
-pub loop-part-smaller : goal.loop-part-smaller
-loop-part-smaller c =
-    let e = c.sweep.ensures in
-    let start = c.begin.new.self in
-    let bound = count_bounded start c.sweep.new.self (shapes_follow start c.loop-part.self c.sweep.new.self c.loop-part.invariant.1 e.shape) in
-    let more = e.grown.more c.loop-part-test.true in
-    omega (arith, bound, more)
-
-pub loop-part-preserved : goal.loop-part-preserved
-loop-part-preserved c = (c.sweep.ensures.filling, shapes_follow c.begin.new.self c.loop-part.self c.sweep.new.self c.loop-part.invariant.1 c.sweep.ensures.shape)
 
 pub returns-clause-exact : goal.returns-clause-exact
 returns-clause-exact c =
-    filled_exits c.args.g.now (HoldsFact c.args.g.now c.args.known.now) c.args.part c.sweep.new.self c.sweep.ensures.filling (c.sweep.ensures.done c.loop-part-test.false)
+    let filled = c.close.ensures.filled in
+    filled_exits c.args.g.now (HoldsFact c.args.g.now c.args.known.now) c.args.part c.close.new.self filled.filling filled.down
 
 pub returns-clause-shape : goal.returns-clause-shape
-returns-clause-shape c =
-    let start = c.begin.new.self in
-    shapes_follow c.args.self.now start c.sweep.new.self c.begin.ensures.shape (shapes_follow start c.loop-part.self c.sweep.new.self c.loop-part.invariant.1 c.sweep.ensures.shape)
+returns-clause-shape c = shapes_follow c.args.self.now c.begin.new.self c.close.new.self c.begin.ensures.shape c.close.ensures.shape

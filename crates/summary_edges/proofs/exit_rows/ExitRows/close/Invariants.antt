@@ -2,7 +2,7 @@ use Rattle.std.proofs.Common.{◌*◌, ◌-◌, length}
 use Rattle.bit_rows.specs.Tables.{count_all}
 use Rattle.dep_model.specs.Facts.{HoldsFact}
 use Rattle.summary_edges.specs.ExitRows.{HaveOneShape, IsFilling}
-use Rattle.summary_edges.proofs.exit_rows.ExitRows.fill.Given as goal
+use Rattle.summary_edges.proofs.exit_rows.ExitRows.close.Given as goal
 
 abbrev pub invariant-loop-part : goal.invariant-loop-part
 invariant-loop-part l = IsFilling l.g (HoldsFact l.g l.known) l.part l.self × HaveOneShape l.initial.self l.self
