@@ -69,9 +69,9 @@ int main(void) {
 }
 ";
 
-// `n` and `a` are told by the first round, `b` by the second and `c` by the third; `d` comes to nothing.
+// `n` and `a` are told by the first step, `b` by the second and `c` by the third; `d` comes to nothing.
 #[test]
-fn three_rounds(rt: HostRuntime) {
+fn three_steps(rt: HostRuntime) {
     has_facts(&rt, TURNED, &[0b1111]);
 }
 
@@ -280,6 +280,13 @@ fn taken<R: Abort + AllocGlobal + Threads + Sync>(rt: &R, text: &str) -> u64 {
 fn later_rounds_take_what_is_due(rt: HostRuntime) {
     assert_eq!(rt; taken(&rt, KEPT), 3);
     assert_eq!(rt; taken(&rt, OVERWRITTEN), 2);
+}
+
+// Both functions call the one that calls itself. The first round takes both, and goes on with that one until it is settled; so the second,
+// which takes both again, is the last.
+#[test]
+fn one_round_settles_a_function_that_calls_itself(rt: HostRuntime) {
+    assert_eq!(rt; taken(&rt, TURNED), 4);
 }
 
 // The first worker that draws is held until another has drawn too: so two run at the same time.
