@@ -14,7 +14,7 @@ def declaring(globals_):
 
 
 def shift(size):
-    """A function that calls itself and moves so many globals by one: each round of the facts gives one more step of the move."""
+    """A function that calls itself and moves so many globals by one: each step of it gives facts of one more move."""
     moves = "".join(f"    g{k} = g{k + 1};\n" for k in range(size - 1))
     return declaring(size) + f"void f(void) {{\n    if (g0 > 0) {{\n        f();\n    }}\n{moves}}}\n" + MAIN
 
