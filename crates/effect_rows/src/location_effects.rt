@@ -1,6 +1,8 @@
 //! What a program's statements and expressions do to its locations, as rows that gain these.
-ghost use Rattle.std.specs.Prelude.{◌≡◌, ◌<◌, IfOk, length};
+ghost use Rattle.std.specs.Prelude.{◌≡◌, ◌<◌, ◌||◌, IfOk, length};
 ghost use Rattle.bit_rows.specs.Tables.{IsSized};
+ghost use Rattle.c_language.specs.ExprTypes.{is_array, is_pointer};
+ghost use Rattle.c_language.specs.TreeTypes.{tree_type};
 ghost use Rattle.dep_model.specs.Denoted.{expr_reads, expr_places, expr_points, left_reads, whole};
 ghost use Rattle.dep_model.specs.DoingEffects.{is_taken, result_of, target_reads};
 ghost use Rattle.dep_model.specs.LocationLists.{location_list, AreListedOnce};
@@ -12,6 +14,7 @@ ghost use Rattle.effect_rows.specs.Own.{own_uses, own_defines, own_kills};
 use crate::doings;
 use crate::expressions::{add_found, add_places, add_read, add_value};
 use crate::pointed::Pointed;
+use crate::seen_types::{is_array, is_pointer, type_of};
 use crate::steps::Steps;
 use crate::tables::Tables;
 use bit_rows::Rows;
@@ -224,5 +227,13 @@ impl<'p> LocationEffects<'p> {
         ensures { result ≡ is_taken self.now x }
     {
         self.tables.taken.get(x as usize).copied().unwrap_or(false)
+    }
+
+    /// Whether the value of an expression is a pointer by its type, or an array, which turns into one.
+    pub fn is_pointer(&self, e: &Expr) -> bool
+        ensures { result ≡ (is_pointer (tree_type self.now e.now) || is_array (tree_type self.now e.now)) }
+    {
+        let seen = type_of(self.program, e);
+        is_pointer(seen) || is_array(seen)
     }
 }
