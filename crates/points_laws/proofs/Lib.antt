@@ -6,6 +6,7 @@ pub mod KnownSides
 pub mod Leastness
 pub mod ListedPairs
 pub mod Monotone
+pub mod ReadLemmas
 pub mod Sites
 pub mod TakenTargets
 pub mod Wider

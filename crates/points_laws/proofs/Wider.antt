@@ -1,5 +1,5 @@
 -- The pointings of a program give more where more pairs are known.
-use Rattle.std.proofs.Common.{◌≡◌, ℕ, List, [], ◌∷◌, Bool, true, inl, inr, Option, Some, None, refl, subst}
+use Rattle.std.proofs.Common.{ℕ, List, [], ◌∷◌, inl, inr, Option, Some, None, subst}
 use Rattle.std.specs.Prelude.{Contains}
 use Rattle.rule_closure.proofs.ListLemmas.{contains_none, contains_head, contains_cons, contains_cases}
 use Rattle.c_tree.specs.declared.expr.Expr.{Expr}
@@ -11,7 +11,6 @@ use Rattle.c_tree.specs.declared.program.Program.{Program}
 use Rattle.c_tree.specs.declared.statement.Target.{Target}
 use Rattle.c_tree.specs.declared.statement.Target.TheVariants as target
 use Rattle.c_language.specs.Code.{Act, Begins, Sets, Bumps, Fetches, Writes, Prints, Allocates, Frees, Returns, Tests}
-use Rattle.dep_model.specs.declared.location.Location.{Location}
 use Rattle.dep_model.specs.declared.location.Part.TheVariants as part
 use Rattle.dep_model.specs.Denoted.{TargetsOf, whole, part_of, expr_points}
 use Rattle.dep_model.specs.Doings.{Doing, Does, Calls}
@@ -32,16 +31,16 @@ pub record IsGivenBy (bs : List Pointing) (a : Pointing) : Type 0 where
 abbrev pub AreGivenBy : List Pointing → List Pointing → Type 0
 AreGivenBy as_ bs = (a : Pointing) → Contains as_ a → IsGivenBy bs a
 
-none_given : (bs : List Pointing) → AreGivenBy [] bs
+pub none_given : (bs : List Pointing) → AreGivenBy [] bs
 none_given bs a c = absurd (contains_none a c)
 
-more_given : (x y : Pointing) (as_ bs : List Pointing) → AreAmong x.into y.into → AreAmong x.from y.from → AreGivenBy as_ bs → AreGivenBy (x ∷ as_) (y ∷ bs)
+pub more_given : (x y : Pointing) (as_ bs : List Pointing) → AreAmong x.into y.into → AreAmong x.from y.from → AreGivenBy as_ bs → AreGivenBy (x ∷ as_) (y ∷ bs)
 more_given x y as_ bs into from rest a c = elim (contains_cases x as_ a c) [
   | inl same ↦ subst (IsGivenBy (y ∷ bs)) same (record { wider = y; member = contains_head y bs; into = into; from = from })
   | inr later ↦ let w = rest a later in record { wider = w.wider; member = contains_cons y bs w.wider w.member; into = w.into; from = w.from }
 ]
 
-one_given : (x y : Pointing) → AreAmong x.into y.into → AreAmong x.from y.from → AreGivenBy (x ∷ []) (y ∷ [])
+pub one_given : (x y : Pointing) → AreAmong x.into y.into → AreAmong x.from y.from → AreGivenBy (x ∷ []) (y ∷ [])
 one_given x y into from = more_given x y [] [] into from (none_given [])
 
 -- a pointing of the program at a relation gives all that another does
@@ -52,7 +51,7 @@ pub record IsWider (p : Program) (points : TargetsOf) (a : Pointing) : Type 0 wh
   pub from : AreAmong a.from wider.from
 
 module _ (p : Program) (first second : TargetsOf) (lies : LiesIn first second) where
-  value_wider : (e : Expr) → AreAmong (expr_points p first e) (expr_points p second e)
+  pub value_wider : (e : Expr) → AreAmong (expr_points p first e) (expr_points p second e)
   value_wider e = (expression_monotone p first second lies e).points
 
   target_wider : (to : Target) → AreAmong (target_places p first to) (target_places p second to)
@@ -87,13 +86,13 @@ module _ (p : Program) (first second : TargetsOf) (lies : LiesIn first second) w
   act_wider f i (Returns e) = returned_wider f e
   act_wider f i (Tests e) = none_given []
 
-  passed_wider : (xs : List ℕ) (es : List Expr) → AreGivenBy (passed p first xs es) (passed p second xs es)
+  pub passed_wider : (xs : List ℕ) (es : List Expr) → AreGivenBy (passed p first xs es) (passed p second xs es)
   passed_wider [] es = none_given []
   passed_wider (x ∷ xs) [] = none_given []
   passed_wider (x ∷ xs) (e ∷ es) =
       more_given (pointing (whole x) (expr_points p first e)) (pointing (whole x) (expr_points p second e)) (passed p first xs es) (passed p second xs es) (λ l h. h) (value_wider e) (passed_wider xs es)
 
-  doing_wider : (f : ℕ) (d : Doing) → AreGivenBy (doing_pointings p first f d) (doing_pointings p second f d)
+  pub doing_wider : (f : ℕ) (d : Doing) → AreGivenBy (doing_pointings p first f d) (doing_pointings p second f d)
   doing_wider f (Does i a) = act_wider f i a
   doing_wider f (Calls i to g args) =
       more_given (pointing (target_places p first to) (first (result_of g))) (pointing (target_places p second to) (second (result_of g))) (passed p first (parameters p g) args) (passed p second (parameters p g) args) (target_wider to) (lies (result_of g)) (passed_wider (parameters p g) args)

@@ -10,6 +10,11 @@ pub fn expressions_are_monotone()
     ensures { law.ExpressionsAreMonotone }
 {}
 
+/// A law: what an expression denotes depends on where the locations that it reads may point, and on no others.
+pub fn reads_decide()
+    ensures { law.ReadsDecide }
+{}
+
 /// A law: one use of a pointing of the program, evaluated at derived pairs, gives derived pairs.
 pub fn uses_are_derived()
     ensures { law.UsesAreDerived }
