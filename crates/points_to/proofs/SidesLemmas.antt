@@ -14,8 +14,9 @@ use Rattle.effect_rows.specs.Gains.{row_of, with_places}
 use Rattle.effect_rows.specs.Tables.{IsPlaceOf}
 use Rattle.effect_rows.proofs.PlaceRows.{row_by_place, row_without_place}
 use Rattle.points_to.specs.declared.solver.Solver.{Solver}
-use Rattle.points_to.specs.Sweeps.{IsFilled, IsJoined, IsUsed}
+use Rattle.points_to.specs.Sweeps.{Standing, standing, IsFilled, IsJoined, IsUsed}
 use Rattle.points_to.proofs.SweepLemmas.{joined_used}
+use Rattle.points_to.proofs.TellLemmas.{same_standing}
 
 -- ---- rows that were cleared
 
@@ -26,17 +27,17 @@ union_blank (x ∷ xs) = ap (λ bs. x ∷ bs) (union_blank xs)
 blank_row : (p : Program) (a : Places) → union (replicate (length (locations p)) false) (row_of p a) ≡ row_of p a
 blank_row p a = subst (λ n. union (replicate n false) (row_of p a) ≡ row_of p a) (length-map (locations p) (λ (o : TypedLocation). a o.location)) (union_blank (row_of p a))
 
-module _ (p : Program) (r : ℕ) (s t : Table) (size : IsSized 2 (length (locations p)) s) (low : r < 2) (cleared : t ≡ with_set s r (replicate s.bits false)) where
-  -- it is one of two still
-  still_two : length t.sets ≡ 2
-  still_two = ap (λ (v : Table). length v.sets) cleared ∙ length-set s.sets r (replicate s.bits false) ∙ size.rows_are
+module _ (p : Program) (r : ℕ) (s t : Table) (size : IsSized 3 (length (locations p)) s) (low : r < 3) (cleared : t ≡ with_set s r (replicate s.bits false)) where
+  -- it is one of three still
+  still_three : length t.sets ≡ 3
+  still_three = ap (λ (v : Table). length v.sets) cleared ∙ length-set s.sets r (replicate s.bits false) ∙ size.rows_are
 
   place : r < length t.sets
-  place = let two = still_two in omega (arith, two, low)
+  place = let three = still_three in omega (arith, three, low)
 
   pub cleared_row : the_set t r ≡ replicate (length (locations p)) false
   cleared_row =
-      ap (λ (v : Table). the_set v r) cleared ∙ the_set-with_set s r (replicate s.bits false) (let two = size.rows_are in omega (arith, two, low)) ∙ ap (λ n. replicate n false) size.bits_are
+      ap (λ (v : Table). the_set v r) cleared ∙ the_set-with_set s r (replicate s.bits false) (let three = size.rows_are in omega (arith, three, low)) ∙ ap (λ n. replicate n false) size.bits_are
 
   -- it has gained some locations
   pub filled_row : (a : Places) (u : Table) → u ≡ with_places p r a t → the_set u r ≡ row_of p a
@@ -66,7 +67,8 @@ module _ (p : Program) (r : ℕ) (s t : Table) (size : IsSized 2 (length (locati
 
 -- ---- sides that are used
 
-pub filled_used : (old mid new : Solver) (changed : Bool) (into from : Places) → the_set old.sides 0 ≡ row_of old.effects into → IsFilled from old mid → IsJoined mid new changed → IsUsed old.effects (pointing into from) old.points new changed
+pub filled_used : (old mid new : Solver) (changed : Bool) (into from : Places) → the_set old.sides 0 ≡ row_of old.effects into → IsFilled from old mid → IsJoined mid new changed → IsUsed old.effects (pointing into from) (standing old) new changed
 filled_used old mid new changed into from left filled joined =
     let used = joined_used (pointing into from) mid new changed filled.ready (filled.left_stays ∙ left ∙ ap (λ q. row_of q into) (sym filled.program_stays)) (filled.right ∙ ap (λ q. row_of q from) (sym filled.program_stays)) joined in
-    subst (λ t. IsUsed old.effects (pointing into from) t new changed) filled.rows_stay (subst (λ q. IsUsed q (pointing into from) mid.points new changed) filled.program_stays used)
+    let same : standing mid ≡ standing old = same_standing old mid filled.rows_stay filled.agenda_stays in
+    subst (λ (t : Standing). IsUsed old.effects (pointing into from) t new changed) same (subst (λ q. IsUsed q (pointing into from) (standing mid) new changed) filled.program_stays used)

@@ -1,24 +1,27 @@
 -- One pointing is used, and then others.
-use Rattle.std.proofs.Common.{◌≡◌, ◌⊎◌, ◌&&◌, ◌||◌, List, [], ◌∷◌, ◌++◌, Bool, true, false, inl, inr, refl, sym, ap, ◌∙◌, subst}
+use Rattle.std.proofs.Common.{◌≡◌, ◌⊎◌, ◌&&◌, ◌||◌, ℕ, List, [], ◌∷◌, ◌++◌, Bool, true, false, inl, inr, refl, sym, ap, ◌∙◌, subst}
 use Rattle.std.specs.Prelude.{Contains}
-use Rattle.std.proofs.lemmas.Bool.{false≢true, and_parts, and_from, or_cases, or_right}
+use Rattle.std.proofs.lemmas.Bool.{and_parts, and_from, or_cases, or_right}
 use Rattle.bit_rows.specs.Sets.{has}
-use Rattle.bit_rows.specs.Tables.{the_set, IsGrown}
+use Rattle.bit_rows.specs.Tables.{the_set, Holds, IsGrown}
 use Rattle.rule_closure.proofs.ListLemmas.{contains_none, contains_head, contains_cases}
 use Rattle.c_tree.specs.declared.program.Program.{Program}
 use Rattle.dep_model.specs.declared.location.Location.{Location}
 use Rattle.dep_model.specs.declared.points_to.PointsTo.{PointsTo}
-use Rattle.dep_model.specs.Denoted.{TargetsOf, is_location}
+use Rattle.dep_model.specs.Denoted.{Places, TargetsOf, is_location}
+use Rattle.dep_model.specs.LocationLists.{AreListedOnce}
 use Rattle.dep_model.specs.LocationRows.{points_of}
 use Rattle.dep_model.specs.MayPoint.{Pointing, IsPointing, by}
 use Rattle.dep_model.proofs.Membership.{in_of_contains, contains_of_in, in_first, in_second, in_either}
 use Rattle.effect_rows.specs.Gains.{row_of}
 use Rattle.effect_rows.proofs.StepRows.{has_row_of}
-use Rattle.points_laws.specs.Relations.{IsDerived, HasPairs}
+use Rattle.points_laws.specs.Relations.{LiesIn, IsDerived, HasPairs}
+use Rattle.points_laws.proofs.Wider.{IsGivenBy, AreGivenBy}
 use Rattle.points_to.specs.declared.solver.Solver.{Solver}
-use Rattle.points_to.specs.Sweeps.{IsReady, IsJoined, IsUsed, IsSwept}
+use Rattle.points_to.specs.Sweeps.{Standing, standing, IsReady, IsJoined, IsUsed, IsSwept}
 use Rattle.points_to.proofs.GrownLemmas.{grown_none, grown_both}
-use Rattle.points_to.proofs.PointPlaces.{listed_at, are_held, held_points, same_points}
+use Rattle.points_to.proofs.PointPlaces.{listed_at, are_held, held_points, more_points}
+use Rattle.points_to.proofs.TellLemmas.{told_none, told_both}
 
 -- ---- what lists contain
 
@@ -34,11 +37,12 @@ contains_either xs ys x c = elim (in_either xs ys x (in_of_contains (xs ++ ys) x
 -- ---- a pointing whose sides are rows
 
 -- rows that have gained those of the right side in those of the left have gained what the pointing gives
-pub joined_used : (a : Pointing) (old new : Solver) (changed : Bool) → IsReady old → the_set old.sides 0 ≡ row_of old.effects a.into → the_set old.sides 1 ≡ row_of old.effects a.from → IsJoined old new changed → IsUsed old.effects a old.points new changed
+pub joined_used : (a : Pointing) (old new : Solver) (changed : Bool) → IsReady old → the_set old.sides 0 ≡ row_of old.effects a.into → the_set old.sides 1 ≡ row_of old.effects a.from → IsJoined old new changed → IsUsed old.effects a (standing old) new changed
 joined_used a old new changed ready left right joined = record {
   ready = joined.ready;
   program_stays = joined.program_stays;
   grown = joined.grown;
+  told = joined.told;
   from_old = from_old;
   gained = gained;
 }
@@ -70,97 +74,96 @@ joined_used a old new changed ready left right joined = record {
         (joined.gained j k ∙ or_right (has (the_set old.points.rows j) k) (has (the_set old.sides 0) j && has (the_set old.sides 1) k) (and_from (has (the_set old.sides 0) j) (has (the_set old.sides 1) k) here there))
 
 -- the same where the rows, and the program, are told of by others that are equal to them
-pub used_moved : (p : Program) (t : PointsTo) (a : Program → PointsTo → Pointing) (mid new : Solver) (changed : Bool) → mid.effects ≡ p → mid.points ≡ t → IsUsed mid.effects (a mid.effects mid.points) mid.points new changed → IsUsed p (a p t) t new changed
+pub used_moved : (p : Program) (t : Standing) (a : Program → PointsTo → Pointing) (mid new : Solver) (changed : Bool) → mid.effects ≡ p → standing mid ≡ t → IsUsed mid.effects (a mid.effects mid.points) (standing mid) new changed → IsUsed p (a p t.points) t new changed
 used_moved p t a mid new changed program points used =
-    subst (λ u. IsUsed p (a p u) u new changed) points (subst (λ q. IsUsed q (a q mid.points) mid.points new changed) program used)
+    subst (λ (u : Standing). IsUsed p (a p u.points) u new changed) points (subst (λ q. IsUsed q (a q mid.points) (standing mid) new changed) program used)
 
-pub swept_moved : (p : Program) (t : PointsTo) (give : Program → TargetsOf → List Pointing) (mid new : Solver) (changed : Bool) → mid.effects ≡ p → mid.points ≡ t → IsSwept mid.effects (give mid.effects) mid.points new changed → IsSwept p (give p) t new changed
+pub swept_moved : (p : Program) (t : Standing) (give : Program → TargetsOf → List Pointing) (mid new : Solver) (changed : Bool) → mid.effects ≡ p → standing mid ≡ t → IsSwept mid.effects (give mid.effects) (standing mid) new changed → IsSwept p (give p) t new changed
 swept_moved p t give mid new changed program points swept =
-    subst (λ u. IsSwept p (give p) u new changed) points (subst (λ q. IsSwept q (give q) mid.points new changed) program swept)
+    subst (λ (u : Standing). IsSwept p (give p) u new changed) points (subst (λ q. IsSwept q (give q) (standing mid) new changed) program swept)
+
+-- ---- pairs that are held
+
+-- they are held still where rows grow
+pub pairs_stay : (p : Program) → AreListedOnce p → (t u : PointsTo) (a : Pointing) → ((r i : ℕ) → Holds t.rows r i → Holds u.rows r i) → HasPairs (is_location p) (points_of p t) a → HasPairs (is_location p) (points_of p u) a
+pairs_stay p once t u a kept held l m known_l known_m into from = more_points p once t u kept l m (held l m known_l known_m into from)
+
+-- and so are those of a pointing that is given by others
+pub pairs_given : (known : Places) (points : TargetsOf) (bs : List Pointing) (a : Pointing) → IsGivenBy bs a → ((b : Pointing) → Contains bs b → HasPairs known points b) → HasPairs known points a
+pairs_given known points bs a w each l m known_l known_m into from = each w.wider w.member l m known_l known_m (w.into l into) (w.from m from)
 
 -- ---- sweeps
 
+-- by more pairs each of some pointings gives no less
+abbrev pub AreWidening : (TargetsOf → List Pointing) → Type 0
+AreWidening give = (first second : TargetsOf) → LiesIn first second → AreGivenBy (give first) (give second)
+
 module _ (p : Program) where
   -- no pointing
-  pub swept_none : (give : TargetsOf → List Pointing) (t : PointsTo) (new : Solver) → IsReady new → new.effects ≡ p → new.points ≡ t → ((points : TargetsOf) → give points ≡ []) → IsSwept p give t new false
-  swept_none give t new ready program points none = record {
+  pub swept_none : (give : TargetsOf → List Pointing) (t : Standing) (new : Solver) → IsReady new → new.effects ≡ p → standing new ≡ t → ((points : TargetsOf) → give points ≡ []) → IsSwept p give t new false
+  swept_none give t new ready program same none = record {
     ready = ready;
     program_stays = program;
-    grown = subst (λ (u : PointsTo). IsGrown t.rows u.rows false) (sym points) (grown_none t.rows);
-    sound = λ are derived. subst (λ (u : PointsTo). IsDerived p (points_of p u)) (sym points) derived;
-    closed = λ same a c. absurd (contains_none a (subst (λ as_. Contains as_ a) (none (points_of p new.points)) c));
+    grown = subst (λ (u : Standing). IsGrown u.points.rows new.points.rows false) same (grown_none new.points.rows);
+    told = told_none t new same;
+    sound = λ are derived. subst (λ (u : Standing). IsDerived p (points_of p u.points)) (sym same) derived;
+    gained = λ a c. absurd (contains_none a (subst (λ as_. Contains as_ a) (none (points_of p t.points)) c));
   }
 
   -- one pointing
-  pub swept_one : (give : TargetsOf → List Pointing) (a : Pointing) (t : PointsTo) (new : Solver) (changed : Bool) → give (points_of p t) ≡ a ∷ [] → IsUsed p a t new changed → IsSwept p give t new changed
+  pub swept_one : (give : TargetsOf → List Pointing) (a : Pointing) (t : Standing) (new : Solver) (changed : Bool) → give (points_of p t.points) ≡ a ∷ [] → IsUsed p a t new changed → IsSwept p give t new changed
   swept_one give a t new changed is used = record {
     ready = used.ready;
     program_stays = used.program_stays;
     grown = used.grown;
+    told = used.told;
     sound = sound;
-    closed = closed;
+    gained = gained;
   }
     where
-      sound : ((points : TargetsOf) (b : Pointing) → Contains (give points) b → IsPointing p points b) → IsDerived p (points_of p t) → IsDerived p (points_of p new.points)
+      sound : ((points : TargetsOf) (b : Pointing) → Contains (give points) b → IsPointing p points b) → IsDerived p (points_of p t.points) → IsDerived p (points_of p new.points)
       sound are derived l m h = elim (used.from_old l m h) [
         | inl before ↦ derived l m before
         | inr both ↦
-            by (points_of p t) a derived (are (points_of p t) a (subst (λ as_. Contains as_ a) (sym is) (contains_head a []))) both.0 both.1
+            by (points_of p t.points) a derived (are (points_of p t.points) a (subst (λ as_. Contains as_ a) (sym is) (contains_head a []))) both.0 both.1
       ]
 
-      closed : changed ≡ false → (b : Pointing) → Contains (give (points_of p new.points)) b → HasPairs (is_location p) (points_of p new.points) b
-      closed none b c =
-          let same : points_of p new.points ≡ points_of p t = same_points p t new.points (used.grown.same none) in
-          let here : Contains (a ∷ []) b = subst (λ as_. Contains as_ b) (ap give same ∙ is) c in
-          elim (contains_cases a [] b here) [
-            | inl one ↦ subst (HasPairs (is_location p) (points_of p new.points)) one used.gained
-            | inr none_left ↦ absurd (contains_none b none_left)
-          ]
+      gained : (b : Pointing) → Contains (give (points_of p t.points)) b → HasPairs (is_location p) (points_of p new.points) b
+      gained b c = elim (contains_cases a [] b (subst (λ as_. Contains as_ b) is c)) [
+        | inl one ↦ subst (HasPairs (is_location p) (points_of p new.points)) one used.gained
+        | inr none_left ↦ absurd (contains_none b none_left)
+      ]
 
   -- some pointings, and then others
-  pub swept_then : (first second all : TargetsOf → List Pointing) (t : PointsTo) (mid new : Solver) (b c : Bool) → ((points : TargetsOf) → all points ≡ first points ++ second points) → IsSwept p first t mid b → IsSwept p second mid.points new c → IsSwept p all t new (b || c)
-  swept_then first second all t mid new b c is one two = record {
+  pub swept_then : (first second all : TargetsOf → List Pointing) (t : Standing) (mid new : Solver) (b c : Bool) → ((points : TargetsOf) → all points ≡ first points ++ second points) → AreWidening second → IsSwept p first t mid b → IsSwept p second (standing mid) new c → IsSwept p all t new (b || c)
+  swept_then first second all t mid new b c is wide one two = record {
     ready = two.ready;
     program_stays = two.program_stays;
-    grown = grown_both t.rows mid.points.rows new.points.rows b c one.grown two.grown;
+    grown = grown_both t.points.rows mid.points.rows new.points.rows b c one.grown two.grown;
+    told = told_both t mid new one.told two.told;
     sound = λ are derived. two.sound (λ points a k. are points a (subst (λ as_. Contains as_ a) (sym (is points)) (contains_second (first points) (second points) a k)))
         (one.sound (λ points a k. are points a (subst (λ as_. Contains as_ a) (sym (is points)) (contains_first (first points) (second points) a k))) derived);
-    closed = closed b c one two;
+    gained = λ a k. elim (contains_either (first (points_of p t.points)) (second (points_of p t.points)) a (subst (λ as_. Contains as_ a) (is (points_of p t.points)) k)) [
+      | inl early ↦ pairs_stay p once mid.points new.points a two.grown.kept (one.gained a early)
+      | inr late ↦ pairs_given (is_location p) (points_of p new.points) (second (points_of p mid.points)) a (wide (points_of p t.points) (points_of p mid.points) (more_points p once t.points mid.points one.grown.kept) a late) two.gained
+    ];
   }
     where
-      closed : (b c : Bool) → IsSwept p first t mid b → IsSwept p second mid.points new c → (b || c) ≡ false → (a : Pointing) → Contains (all (points_of p new.points)) a → HasPairs (is_location p) (points_of p new.points) a
-      closed true c one two none a k = absurd (false≢true (sym none))
-      closed false true one two none a k = absurd (false≢true (sym none))
-      closed false false one two none a k =
-          let same : points_of p new.points ≡ points_of p mid.points = same_points p mid.points new.points (two.grown.same refl) in
-          elim (contains_either (first (points_of p new.points)) (second (points_of p new.points)) a (subst (λ as_. Contains as_ a) (is (points_of p new.points)) k)) [
-            | inl early ↦
-                subst (λ points. HasPairs (is_location p) points a) (sym same) (one.closed refl a (subst (λ points. Contains (first points) a) same early))
-            | inr late ↦ two.closed refl a late
-          ]
+      once : AreListedOnce p
+      once = subst AreListedOnce two.program_stays two.ready.once
 
   -- the same for calls, of which the second tells of the program that it finds
-  pub swept_both : (first all : TargetsOf → List Pointing) (second : Program → TargetsOf → List Pointing) (t : PointsTo) (mid new : Solver) (b c : Bool) → ((points : TargetsOf) → all points ≡ first points ++ second p points) → IsSwept p first t mid b → IsSwept mid.effects (second mid.effects) mid.points new c → IsSwept p all t new (b || c)
-  swept_both first all second t mid new b c is one two =
-      swept_then first (second p) all t mid new b c is one (swept_moved p mid.points second mid new c one.program_stays refl two)
-
-  -- told by lists of the same pointings
-  pub swept_among : (give other : TargetsOf → List Pointing) (t : PointsTo) (new : Solver) (changed : Bool) → ((points : TargetsOf) (a : Pointing) → Contains (give points) a → Contains (other points) a) → ((points : TargetsOf) (a : Pointing) → Contains (other points) a → Contains (give points) a)
-      → IsSwept p give t new changed → IsSwept p other t new changed
-  swept_among give other t new changed into from swept = record {
-    ready = swept.ready;
-    program_stays = swept.program_stays;
-    grown = swept.grown;
-    sound = λ are derived. swept.sound (λ points a k. are points a (into points a k)) derived;
-    closed = λ none a k. swept.closed none a (from (points_of p new.points) a k);
-  }
+  pub swept_both : (first all : TargetsOf → List Pointing) (second : Program → TargetsOf → List Pointing) (t : Standing) (mid new : Solver) (b c : Bool) → ((points : TargetsOf) → all points ≡ first points ++ second p points) → AreWidening (second p) → IsSwept p first t mid b → IsSwept mid.effects (second mid.effects) (standing mid) new c → IsSwept p all t new (b || c)
+  swept_both first all second t mid new b c is wide one two =
+      swept_then first (second p) all t mid new b c is wide one (swept_moved p (standing mid) second mid new c one.program_stays refl two)
 
   -- told by equal lists of pointings
-  pub swept_same : (give other : TargetsOf → List Pointing) (t : PointsTo) (new : Solver) (changed : Bool) → ((points : TargetsOf) → other points ≡ give points) → IsSwept p give t new changed → IsSwept p other t new changed
+  pub swept_same : (give other : TargetsOf → List Pointing) (t : Standing) (new : Solver) (changed : Bool) → ((points : TargetsOf) → other points ≡ give points) → IsSwept p give t new changed → IsSwept p other t new changed
   swept_same give other t new changed is swept = record {
     ready = swept.ready;
     program_stays = swept.program_stays;
     grown = swept.grown;
+    told = swept.told;
     sound = λ are derived. swept.sound (λ points a k. are points a (subst (λ as_. Contains as_ a) (sym (is points)) k)) derived;
-    closed = λ none a k. swept.closed none a (subst (λ as_. Contains as_ a) (is (points_of p new.points)) k);
+    gained = λ a k. swept.gained a (subst (λ as_. Contains as_ a) (is (points_of p t.points)) k);
   }

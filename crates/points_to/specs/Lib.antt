@@ -1,1 +1,4 @@
+pub mod Agendas
+pub mod Moves
+pub mod Rounds
 pub mod Sweeps

@@ -1,28 +1,27 @@
-use Rattle.std.proofs.Common.{◌≡◌, ◌<◌, List, length, get_or, ap, ◌∙◌, subst, arith}
-use Rattle.c_tree.specs.declared.program.Function.{Function}
-use Rattle.points_to.specs.Sweeps.{IsSwept, given_by, program_gives}
-use Rattle.dep_model.specs.Doings.{body_doings}
-use Rattle.points_to.proofs.RoundLemmas.{round_begins, round_turn}
+use Rattle.std.proofs.Common.{◌≡◌, ◌+◌, ◌∙◌, length, refl, subst, arith}
+use Rattle.points_to.specs.Rounds.{IsRound}
+use Rattle.points_to.proofs.HeldLemmas.{round_none, round_then}
 use Rattle.points_to.proofs.rounds.forwards.Goals as goal
 
-pub loop-f-init : goal.loop-f-init
-loop-f-init c = round_begins c.args.p.now c.args.solver.now c.requires.ready c.requires.program
+pub loop-k-init : goal.loop-k-init
+loop-k-init c = round_none c.args.solver.now.effects c.args.moves.now 0 0 c.args.solver.now (omega arith) c.requires.ready refl
 
-pub loop-f-preserved : goal.loop-f-preserved
-loop-f-preserved c =
-    let p = c.args.p.now in
-    let i = c.loop-f.f in
-    let g = c.function-item.result in
-    let list : c.as_slice-function-items.result.now ≡ p.functions = c.as_slice-function-items.ensures in
-    let low : i < length p.functions = subst (λ (fs : List Function). i < length fs) list c.loop-f-test.true in
-    round_turn p i g c.args.solver.now.points c.loop-f.solver c.statements-more.new.self c.loop-f.changed c.statements-more.result low (c.function-item.is ∙ ap (λ (fs : List Function). get_or fs i g) list) c.loop-f.invariant
-    (subst (λ b. IsSwept c.loop-f.solver.effects (given_by c.loop-f.solver.effects i (body_doings b)) c.loop-f.solver.points c.statements-more.new.self c.statements-more.result) c.as_slice.ensures c.statements-more.ensures)
+pub turn-more-requires-clause-ready : goal.turn-more-requires-clause-ready
+turn-more-requires-clause-ready c = c.loop-k.invariant.ready
+
+pub turn-more-requires-clause-statements : goal.turn-more-requires-clause-statements
+turn-more-requires-clause-statements c = c.loop-k.invariant.statements_stay ∙ c.requires.statements
+
+pub loop-k-preserved : goal.loop-k-preserved
+loop-k-preserved c =
+    let l = c.loop-k in
+    round_then c.args.solver.now.effects c.args.moves.now 0 l.k (l.k + 1) c.args.solver.now l.solver c.turn-more.new.solver l.changed c.turn-more.result l.invariant c.turn-more.ensures
 
 pub returns : goal.returns
 returns c =
-    let p = c.args.p.now in
-    let list = ap (λ (fs : List Function). length fs) c.as_slice-function-items.ensures in
-    let most = c.loop-f.auto.f-end in
-    let done = c.loop-f-test.false in
-    let end : c.loop-f.f ≡ length p.functions = omega (arith, list, most, done) in
-    subst (λ n. IsSwept p (program_gives p n) c.args.solver.now.points c.loop-f.solver c.loop-f.changed) end c.loop-f.invariant
+    let l = c.loop-k in
+    let most = l.auto.k-end in
+    let done = c.loop-k-test.false in
+    let few = c.requires.few in
+    let end : l.k ≡ length c.args.moves.now = omega (arith, most, done, few) in
+    subst (λ n. IsRound c.args.solver.now.effects c.args.moves.now 0 n c.args.solver.now l.solver l.changed) end l.invariant

@@ -1,5 +1,5 @@
-use Rattle.points_to.specs.Sweeps.{IsSwept, program_gives}
+use Rattle.points_to.specs.Rounds.{IsRound}
 use Rattle.points_to.proofs.rounds.forwards.Given as goal
 
-abbrev pub invariant-loop-f : goal.invariant-loop-f
-invariant-loop-f l = IsSwept l.p (program_gives l.p l.f) l.initial.solver.points l.solver l.changed
+abbrev pub invariant-loop-k : goal.invariant-loop-k
+invariant-loop-k l = IsRound l.initial.solver.effects l.moves 0 l.k l.initial.solver l.solver l.changed
