@@ -1,5 +1,5 @@
 -- Rules that are turned round derive what the rules derive, the other way round.
-use Rattle.std.proofs.Common.{◌≡◌, ℕ, ◌+◌, ◌<◌, ◌↔◌, true, false, List, [], ◌∷◌, length, get_or, set, replicate, map, refl, sym, ap, ◌∙◌, subst, arith}
+use Rattle.std.proofs.Common.{◌≡◌, ℕ, ◌+◌, ◌<◌, ◌^◌, ◌↔◌, Bool, true, false, List, [], ◌∷◌, length, get_or, set, replicate, map, refl, sym, ap, ◌∙◌, subst, arith}
 use Rattle.std.proofs.lemmas.List.{get_or_default}
 use Rattle.std.proofs.lemmas.List.Elements.{All-contains, All-get_or}
 use Rattle.std.specs.Prelude.{IsTrue}
@@ -22,7 +22,7 @@ use Rattle.two_pass.proofs.PassLaws.{finds_reached}
 use Rattle.forward_chop.specs.Chops.{IsForward}
 use Rattle.forward_chop.specs.Fields.{HaveOnePremise}
 use Rattle.forward_chop.proofs.BackLaws.{back_along, back_by, from_one, only_has, only_is}
-use Rattle.forward_chop.specs.Turned.{turn, AreForwardRules, FindsForward}
+use Rattle.forward_chop.specs.Turned.{turn, AreForwardPasses, AreForwardRules, FindsForward}
 
 -- ---- turned round
 pub turned_one : (rules : List Rule) → HaveOnePremise (map turn rules)
@@ -106,3 +106,17 @@ pub finds_forward : (g : Graph) (ws : List ℕ) (c : RuleSystem) → IsShaped g 
 finds_forward g ws c shaped facts are from s inside begins v =
     let e = forward_is g ws are.rules shaped facts are.are from s inside begins v in
     subst (λ rs. IsForward g.edges from v ↔ ((v < length g.vertices) × Derived rs s v)) (sym are.turned_are) e
+
+-- ---- the forward passes alone
+pub passes_are : (g : Graph) (ws : List ℕ) (rules turned : List Rule) (n : ℕ) (edges : List Edge) (c : RuleSystem) (marks : List Bool) → IsShaped g → AreTrueFacts g ws → ArePassRules (length g.vertices) g.edges (HoldsFact g ws) rules → turned ≡ map turn rules → n ≡ length g.vertices → edges ≡ g.edges → c ≡ record { size = n + n; rules = turned } → length marks ≡ n + n → AreForwardPasses n edges c marks
+passes_are g ws rules turned n edges c marks shaped facts are turned_are n_is edges_are c_is room =
+    let whole : RuleSystem = record { size = n + n; rules = turned } in
+    let found : FindsForward (length g.vertices) g.edges whole = finds_forward g ws whole shaped facts (record { rules = rules; are = are; turned_are = turned_are }) in
+    let sized : FindsForward n g.edges whole = subst (λ (m : ℕ). FindsForward m g.edges whole) (sym n_is) found in
+    let here : FindsForward n edges whole = subst (λ (es : List Edge). FindsForward n es whole) (sym edges_are) sized in
+    record {
+      few = (let few = shaped.few_vertices in omega (arith, n_is, few));
+      twice = ap (λ (r : RuleSystem). r.size) c_is;
+      room = room;
+      finds = subst (λ (r : RuleSystem). FindsForward n edges r) (sym c_is) here;
+    }

@@ -1,5 +1,5 @@
 -- Rules turned round, and the forward passes: those of a graph, each of its rules turned round (Horwitz, Reps and Binkley 1990).
-use Rattle.std.specs.Prelude.{◌≡◌, ◌↔◌, ℕ, ◌+◌, ◌<◌, Bool, List, All, length, map, get_or, IsTrue}
+use Rattle.std.specs.Prelude.{◌≡◌, ◌↔◌, ℕ, ◌+◌, ◌<◌, ◌^◌, Bool, List, All, length, map, get_or, IsTrue}
 use Rattle.bit_rows.specs.Sets.{has}
 use Rattle.rule_closure.specs.declared.closure.Rule.{Rule}
 use Rattle.rule_closure.specs.Rules.{Derived, RuleSystem}
@@ -27,3 +27,10 @@ IsSecond n list k = (i : ℕ) × (i < length list) × (k ≡ n + get_or list i 0
 abbrev pub FindsForward : ℕ → List Edge → RuleSystem → Type 0
 FindsForward n edges c =
     (from : List ℕ) (s : List Bool) → All (λ v. v < n) from → ((k : ℕ) → IsTrue (has s k) ↔ IsSecond n from k) → (v : ℕ) → IsForward edges from v ↔ ((v < n) × Derived c.rules s v)
+
+-- the rules find forward slices, and there is room for the numbers of both passes: what a value of `ForwardPasses` keeps
+pub record AreForwardPasses (n : ℕ) (edges : List Edge) (c : RuleSystem) (marks : List Bool) : Type 0 where
+  pub few : n + n < 2 ^ 32
+  pub twice : c.size ≡ n + n
+  pub room : length marks ≡ n + n
+  pub finds : FindsForward n edges c

@@ -13,8 +13,8 @@ use crate::rounds::CallIndex;
 use crate::wanted::Wanted;
 use dep_model::{Graph, VertexId, VertexSet};
 
-// Makes the set that of the numbers of the vertices, of which the first has the number `base`.
-fn begin(list: &[VertexId], base: u32, marks: &mut VertexSet)
+/// Makes the set that of the numbers of the vertices, of which the first has the number `base`.
+pub(crate) fn begin(list: &[VertexId], base: u32, marks: &mut VertexSet)
     requires few { length marks.old < 2 ^ 32 }
     requires inside { All (λ v. base + v < length marks.old) list.now }
     ensures size { length marks.new ≡ length marks.old }

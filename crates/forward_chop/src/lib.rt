@@ -8,6 +8,7 @@ mod field;
 mod laws;
 mod outs;
 mod parts;
+mod passes;
 mod ready;
 mod rounds;
 mod turned;
@@ -15,3 +16,4 @@ mod wanted;
 
 pub use chopper::Chopper;
 pub use laws::{chops_are_by_contexts, chops_lie_in_both};
+pub use passes::ForwardPasses;

@@ -17,7 +17,7 @@ use crate::running::alone;
 use c_tree::Program;
 use dep_model::{Facts, Graph, VertexId, VertexSet};
 use edge_io::Text;
-use forward_chop::Chopper;
+use forward_chop::{Chopper, ForwardPasses};
 use slice_engine::{Criterion, Engine, Gate};
 use std::alloc::{AllocError, Global};
 use std::thread::Threads;
@@ -81,9 +81,9 @@ fn forward_set(
     ensures size { IfOk result (λ set. length set ≡ length graph.now.vertices) }
     ensures exact { IfOk result (λ set. (v : ℕ) → IsTrue (has set v) ↔ IsForward graph.now.edges from.now v) }
 {
-    let mut chopper = Chopper::prepare(alloc, graph, facts)?;
+    let mut passes = ForwardPasses::prepare(alloc, graph, facts)?;
     let mut set = VertexSet::new(alloc, graph.vertices.len() as u32)?;
-    chopper.forward(from, &mut set);
+    passes.forward(from, &mut set);
     Ok(set)
 }
 
